@@ -1,0 +1,10 @@
+pub mod Permutations
+pub mod Terms
+pub mod Alpha
+pub mod Freshness
+pub mod Substitution
+pub mod Unification
+pub mod Groundings
+pub mod SameTerm
+pub mod Canonical
+pub mod PathOrder
