@@ -17,3 +17,5 @@ pub mod Derivations
 pub mod Resolution
 pub mod Paths
 pub mod Answers
+pub mod Printing
+pub mod Lines
