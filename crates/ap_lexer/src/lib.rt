@@ -8,6 +8,7 @@ mod pieces;
 mod scan;
 mod token;
 
+pub use pieces::takes_longest;
 pub use scan::{TEXT_LIMIT, lex};
 pub use token::{CHARACTER, LexError, LexFault, NOT_UTF8, Token, TokenKind};
 

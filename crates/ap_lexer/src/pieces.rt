@@ -2,6 +2,7 @@
 ghost use Rattle.std.specs.Prelude.{◌≡◌, ◌<◌, ◌≤◌, [], ◌∷◌, take, None, IfSome, MatchOption};
 ghost use Rattle.std.specs.Str.{IsCharBoundary};
 ghost use Rattle.std.specs.Str.Lossy.{utf8_valid_len};
+ghost use Rattle.ap_lexer.specs.Laws.{TakesLongest};
 ghost use Rattle.ap_lexer.specs.Pieces as spec;
 
 use crate::token::TokenKind;
@@ -142,3 +143,9 @@ pub fn piece_at(text: &str) -> Option<Piece>
         Start::Other => mark_at(text),
     }
 }
+
+/// The law of the longest token, for any text: what is taken at its front is the longest front
+/// that is a token, and nothing or what is no token only where no front is one. It does nothing.
+pub fn takes_longest(_text: &str)
+    ensures { TakesLongest _text.now (spec.piece_at _text.now) }
+{}
