@@ -6,7 +6,7 @@ use Rattle.std.proofs.lemmas.List.{length-take, length-take-le}
 use Rattle.std.proofs.Math.Bool.{or-true}
 use Rattle.std.proofs.lemmas.List.Sums.{take_while-cons}
 use Rattle.std.proofs.lemmas.Slice.Eq.{bytes_eq-Decides}
-use Rattle.std.proofs.lemmas.Str.{cons_from_encodes, encodes-append, encodes-chars, chars_from_encodes, drop_past_char, IsUtf8-past_char, char_from_byte, length-encode}
+use Rattle.std.proofs.lemmas.Str.{cons_from_encodes, encodes-append, encodes-chars, chars_from_encodes, chars-nil, drop_past_char, IsUtf8-past_char, char_from_byte, length-encode}
 use Rattle.std.proofs.Math.Seq.{take-append_seam, take-nil}
 use Rattle.std.specs.Prelude.{encode_utf8, encode_utf8_all, ◌&&◌, if◌then◌else◌}
 use Rattle.std.specs.List.{AllPass, list_any, take_while, prefix_len}
@@ -30,7 +30,7 @@ front_chars es (d ∷ ds) rest e =
     let more = front_chars one.0 ds rest one.2 in
     (more.0, one.1 ∙ ap (λ t. d ∷ t) more.1, more.2)
 
-take_while-passed : (p : ℕ → Bool) (ds fs : List ℕ) → AllPass p ds → take_while p (ds ++ fs) ≡ ds ++ take_while p fs
+pub take_while-passed : (p : ℕ → Bool) (ds fs : List ℕ) → AllPass p ds → take_while p (ds ++ fs) ≡ ds ++ take_while p fs
 take_while-passed p [] fs all = refl
 take_while-passed p (d ∷ ds) fs all =
     let here : p d ≡ true = all 0 d (omega arith) in
@@ -50,7 +50,7 @@ take_while-passes p [] = λ k d lt. absurd (omega arith)
 take_while-passes p (c ∷ cs) = rw (take_while-cons p c cs) (passes_if p c (take_while p cs) (p c) refl (take_while-passes p cs))
 
 -- A text that isn't empty is its first character and the bytes of the others.
-record Begins (bs : List ℕ) (c : ℕ) (cs : List ℕ) : Type 0 where
+pub record Begins (bs : List ℕ) (c : ℕ) (cs : List ℕ) : Type 0 where
   pub text : IsUtf8 bs
   pub all : chars bs ≡ c ∷ cs
   pub spelled : bs ≡ encode_utf8 c ++ encode_utf8_all cs
@@ -72,7 +72,7 @@ chars_after_first bs cs c first =
     let text : IsUtf8 (drop (len_utf8 c) bs) = rw rest (IsUtf8-past_char bs (encode_utf8_all cs) c first.text first.spelled) in
     sym (chars_from_encodes cs (drop (len_utf8 c) bs) text (sym rest))
 
-word_at_is : (bs cs : List ℕ) (c : ℕ) → Begins bs c cs → word_at c bs ≡ length (encode_utf8_all (c ∷ take_while is_xid_continue cs))
+pub word_at_is : (bs cs : List ℕ) (c : ℕ) → Begins bs c cs → word_at c bs ≡ length (encode_utf8_all (c ∷ take_while is_xid_continue cs))
 unfolding word_len
 word_at_is bs cs c first =
     rw (chars_after_first bs cs c first, length-append (encode_utf8 c) (encode_utf8_all (take_while is_xid_continue cs)), length-encode c) refl
@@ -119,16 +119,16 @@ each_marked P w (m ∷ ms) e all =
     ⊎_elim (λ here. subst P (sym ((bytes_eq-Decides w m).0 here)) all.0) (λ there. each_marked P w ms there all.1) (or_cases (bytes_eq w m) (list_any (bytes_eq w) ms) e)
 
 -- a mark begins with an ASCII character that begins no other piece
-abbrev StartsMark : List ℕ → Type 0
+abbrev pub StartsMark : List ℕ → Type 0
 StartsMark w = (start_of (get_or w 0 0) ≡ Other) × (get_or w 0 0 < 128) × (0 < get_or w 0 0)
 
-long_starts : (w : List ℕ) → is_long_mark w ≡ true → StartsMark w × (length w ≡ 2)
+pub long_starts : (w : List ℕ) → is_long_mark w ≡ true → StartsMark w × (length w ≡ 2)
 unfolding unicode_ident
 long_starts w e =
     each_marked (λ m. StartsMark m × (length m ≡ 2)) w long_marks e
     (((refl, omega arith, omega arith), refl), (((refl, omega arith, omega arith), refl), (((refl, omega arith, omega arith), refl), tt)))
 
-short_starts : (w : List ℕ) → is_short_mark w ≡ true → StartsMark w × (length w ≡ 1)
+pub short_starts : (w : List ℕ) → is_short_mark w ≡ true → StartsMark w × (length w ≡ 1)
 unfolding unicode_ident
 short_starts w e =
     let one : (m : ℕ) → start_of m ≡ Other → m < 128 → 0 < m → StartsMark (m ∷ []) × (length (m ∷ []) ≡ 1) = λ m s l u. ((s, l, u), refl) in
@@ -147,10 +147,10 @@ mark_start bs cs c n first mark =
     ap start_of (same ∙ front.0) ∙ mark.0
 
 -- what a character begins, where the answer of `is_xid_start` is known
-abbrev start_with : Bool → ℕ → Start
+abbrev pub start_with : Bool → ℕ → Start
 start_with xid c = if is_blank c then Blank else (if c == 37 then Comment else (if starts_variable c then Variable else (if xid then Word else Other)))
 
-variable_start : (xid : Bool) (c : ℕ) → starts_variable c ≡ true → start_with xid c ≡ Variable
+pub variable_start : (xid : Bool) (c : ℕ) → starts_variable c ≡ true → start_with xid c ≡ Variable
 variable_start xid c e = grind (arith, nat_tests)
 
 word_start_with : (c : ℕ) → c ≢ 32 → c ≢ 9 → c ≢ 13 → c ≢ 10 → c ≢ 37 → c ≢ 95 → is_upper c ≡ false → start_with true c ≡ Word
@@ -168,7 +168,7 @@ starts_none : (is_xid_start 32 ≡ false) × (is_xid_start 9 ≡ false) × (is_x
 unfolding unicode_ident
 starts_none = (refl, refl, refl, refl, refl, refl)
 
-word_start : (c : ℕ) → starts_identifier c ≡ true → start_of c ≡ Word
+pub word_start : (c : ℕ) → starts_identifier c ≡ true → start_of c ≡ Word
 word_start c e =
     let parts = and_not (is_xid_start c) (is_upper c) e in
     let no = starts_none in
@@ -270,7 +270,7 @@ identifier_begins c e =
     let parts = chosen_word (is_blank c) (c == 37) (starts_variable c) (is_xid_start c) e in
     rw (parts.1, neither (is_upper c) (c == 95) parts.0) refl
 
-abbrev mark_size : Bool → Bool → ℕ
+abbrev pub mark_size : Bool → Bool → ℕ
 mark_size a b = if a then 2 else (if b then 1 else 0)
 
 -- the mark that is taken is one
@@ -296,10 +296,17 @@ takes_from Word bs cs c first e =
     record { inside = word.0; token = kind_of_word (take (word_at c bs) bs) (is_reserved (take (word_at c bs) bs)) refl word.1; longest = longest_word bs cs c first (λ f. cc) }
 takes_from Other bs cs c first e = takes_mark bs (mark_len bs == 0) refl (longest_mark bs cs c first e)
 
+-- a text begins with what its first character says
+pub piece_at-first : (bs cs : List ℕ) (c : ℕ) → Begins bs c cs → piece_at bs ≡ piece_from (start_of c) c bs
+unfolding piece_at
+piece_at-first [] cs c first = let none : [] ≡ c ∷ cs = sym chars-nil ∙ first.all in absurd (cc)
+piece_at-first (b ∷ bs) cs c first =
+    let head : get_or (chars (b ∷ bs)) 0 0 ≡ c = ap (λ (ds : List ℕ). get_or ds 0 0) first.all in
+    ap (λ d. piece_from (start_of d) d (b ∷ bs)) head
+
 pub takes_longest : (bs : List ℕ) → IsUtf8 bs → TakesLongest bs (piece_at bs)
 unfolding piece_at
 takes_longest [] text = λ kind n more inside token. absurd (omega arith)
 takes_longest (b ∷ bs) text =
     let f = begins b bs text in
-    let head : f.0 ≡ get_or (chars (b ∷ bs)) 0 0 = sym (ap (λ (cs : List ℕ). get_or cs 0 0) f.2.all) in
-    subst (λ d. TakesLongest (b ∷ bs) (piece_from (start_of d) d (b ∷ bs))) head (takes_from (start_of f.0) (b ∷ bs) f.1 f.0 f.2 refl)
+    rw (piece_at-first (b ∷ bs) f.1 f.0 f.2) (takes_from (start_of f.0) (b ∷ bs) f.1 f.0 f.2 refl)
