@@ -144,8 +144,8 @@ pub fn piece_at(text: &str) -> Option<Piece>
     }
 }
 
-/// The law of the longest token, for any text: what is taken at its front is the longest front
-/// that is a token, and nothing or what is no token only where no front is one. It does nothing.
+/// The longest token is taken, at the front of any text: where a token is taken, no longer front
+/// is a token, and where none is taken, no front is one. The call itself does nothing.
 pub fn takes_longest(_text: &str)
     ensures { TakesLongest _text.now (spec.piece_at _text.now) }
 {}
