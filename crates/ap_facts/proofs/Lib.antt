@@ -1,0 +1,2 @@
+pub mod ClosedTerms
+pub mod FactUnification
