@@ -1,2 +1,4 @@
 pub mod ClosedTerms
 pub mod FactUnification
+pub mod FactSearch
+pub mod FactReport
