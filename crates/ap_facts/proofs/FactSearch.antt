@@ -54,9 +54,11 @@ by_fact : (program : Clauses) (d p k : ℕ) (q : FactQuery) (args : List Term) �
     → (os : List Output) (facts : List (List Term)) → AreFound (map (out_in (map local_of q.vars)) os) facts
     → AreFound (map (out_in (map local_of q.vars)) (by_clause (outputs (calls program d)) (args_from 0 q.vars) (first_state (query_of q)) k (clause_of p args) ++ os)) (args ∷ facts)
 by_fact program d p k q args e h os facts rest =
-    rw (renames_plain (next_number (first_state (query_of q))) (map term_of args) h, unify_all q.vars (map term_of args) e h)
-    (is_answer q.vars (map term_of args) (record { bindings = bound_from 0 (map term_of args) []; conditions = []; kinds = (first_state (query_of q)).kinds ++ kinds_of (clause_of p args).locals })
-    (clause_node k (next_number (first_state (query_of q))) (clause_of p args).locals nodes.succeed) e h refl refl, rest)
+    rw (renames_plain (next_number (first_state (query_of q))) (map term_of args) h, unify_all q.vars (map term_of args) e h) (
+      is_answer q.vars (map term_of args) (record { bindings = bound_from 0 (map term_of args) []; conditions = []; kinds = (first_state (query_of q)).kinds ++ kinds_of (clause_of p args).locals })
+          (clause_node k (next_number (first_state (query_of q))) (clause_of p args).locals nodes.succeed) e h refl refl,
+      rest,
+    )
 
 by_facts : (cs : List FactConstructor) (program : Clauses) (d p k n : ℕ) (q : FactQuery) (facts : List (List Term)) → length q.vars ≡ n → AreFacts cs n facts
     → AreFound (map (out_in (map local_of q.vars)) (by_clauses (outputs (calls program d)) (args_from 0 q.vars) (first_state (query_of q)) k (map (clause_of p) facts))) facts

@@ -1,5 +1,5 @@
 -- What the report of a program of facts is made of: texts of closed terms, and a line for each fact.
-use Rattle.std.specs.Prelude.{◌≡◌, ℕ, List, [], ◌∷◌, ◌++◌, map, codes, decimal}
+use Rattle.std.specs.Prelude.{◌≡◌, ℕ, Bool, true, false, List, [], ◌∷◌, ◌++◌, map, codes, decimal}
 use Rattle.ap_defs.specs.declared.terms.Term.{Term}
 use Rattle.ap_defs.specs.Terms.{NominalTerm, term_of}
 use Rattle.ap_defs.specs.Printing.{Spelling, arguments, term_at}
@@ -18,6 +18,11 @@ arguments_text cs n t = term_at (plain_spelling cs) t (arguments n)
 -- the text of the answer that a fact gives, for variables with these spellings
 abbrev pub fact_text : List FactConstructor → List (List ℕ) → List NominalTerm → List ℕ
 fact_text cs vars ts = shown_text (plain_spelling cs) (shown_binds vars ts) []
+
+-- what stands before a binding, where one stands before it and where none does
+abbrev pub comma_if : Bool → List ℕ
+comma_if true = codes ", "
+comma_if false = []
 
 -- a line for each fact
 abbrev pub fact_lines : List FactConstructor → List (List ℕ) → List (List Term) → List ℕ

@@ -2,3 +2,5 @@
 #![tactic(auto)]
 
 pub mod program;
+pub mod report;
+mod text;
