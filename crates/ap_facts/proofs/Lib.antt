@@ -1,4 +1,5 @@
 pub mod ClosedTerms
+pub mod ClosedTexts
 pub mod FactUnification
 pub mod FactSearch
 pub mod FactReport
