@@ -8,6 +8,7 @@ use Rattle.ap_defs.specs.Printing.{Place, whole, arguments, application_text, co
 use Rattle.ap_facts.specs.declared.program.FactConstructor.{FactConstructor}
 use Rattle.ap_facts.specs.Facts.{AreClosed, IsClosed, same_types, constructor_of}
 use Rattle.ap_facts.specs.FactLines.{plain_spelling, arguments_text}
+use Rattle.ap_facts.proofs.Lookups.{got_at}
 
 length_types : (n : ℕ) → length (same_types n) ≡ n
 length_types zero = refl
@@ -18,11 +19,6 @@ constructor_at : (cs : List FactConstructor) (f : ℕ) (c : FactConstructor) →
 constructor_at [] f c e = cc
 constructor_at (d ∷ cs) zero c e = let same : d ≡ c = cc in ap (λ k. Some (constructor_of k)) same
 constructor_at (d ∷ cs) (suc f) c e = constructor_at cs f c e
-
-got_at : (cs : List FactConstructor) (f : ℕ) (c k : FactConstructor) → slice_get cs f ≡ Some c → k ≡ get_or cs f k → c ≡ k
-got_at [] f c k e i = cc
-got_at (d ∷ cs) zero c k e i = cc
-got_at (d ∷ cs) (suc f) c k e i = got_at cs f c k e i
 
 -- by itself a closed term has the text that it has as a sole argument
 pub text_whole : (cs : List FactConstructor) (t : NominalTerm) → IsClosed cs t → term_at (plain_spelling cs) t whole ≡ arguments_text cs 1 t

@@ -1,5 +1,5 @@
 -- The report of a program of facts: a line for each fact, and the totals.
-use Rattle.std.proofs.Common.{◌≡◌, ℕ, zero, suc, ◌+◌, Bool, true, false, List, [], ◌∷◌, ◌++◌, map, length, refl, sym, ap, ap₂, ◌∙◌, subst, arith, append_assoc}
+use Rattle.std.proofs.Common.{◌≡◌, ◌≢◌, ℕ, zero, suc, ◌+◌, get_or, Bool, true, false, List, [], ◌∷◌, ◌++◌, map, length, refl, sym, ap, ap₂, ◌∙◌, subst, arith, append_assoc}
 use Rattle.std.specs.Prelude.{slice_get, Option, Some, None, codes, decimal, filter, if◌then◌else◌}
 use Rattle.std.specs.Str.{bytes_eq}
 use Rattle.std.proofs.lemmas.List.{append-nil}
@@ -17,6 +17,7 @@ use Rattle.ap_facts.specs.declared.program.FactPredicate.{FactPredicate}
 use Rattle.ap_facts.specs.declared.program.FactProgram.{FactProgram}
 use Rattle.ap_facts.specs.Facts.{constructor_of, local_of, query_of, clauses_from, program_of, AreFacts, IsFactProgram}
 use Rattle.ap_facts.specs.FactLines.{plain_spelling, fact_text, fact_lines, totals_line}
+use Rattle.ap_facts.proofs.Lookups.{got_at}
 use Rattle.ap_facts.proofs.ClosedTerms.{IsPlain, ArePlain, plain_each}
 use Rattle.ap_facts.proofs.FactSearch.{IsAnswer, AreFound, query_found, facts_at}
 
@@ -129,3 +130,22 @@ report_facts p words d q h at e =
     append-nil (query_lines (program_of p words) 1 (map local_of p.query.vars) os)
     ∙ lines_same p words p.query.vars q.arity os q.facts (totals_text 1 os) are (facts_at p.constructors p.query.pred p.predicates q at h.predicates)
     ∙ ap (λ totals. fact_lines p.constructors p.query.vars q.facts ++ totals) (totals_same os (length q.facts) 0 (count_found os q.facts are) (count_cut os q.facts are) (count_stuck os q.facts are))
+
+-- the report that is written in two steps, at depth 0
+pub cut_written : (p : FactProgram) (words : List (List ℕ)) (d : ℕ) (o o1 o2 : List ℕ) → d ≡ 0 → o ≡ [] → o1 ≡ o ++ codes "% cut 1\n" → o2 ≡ o1 ++ totals_line 0 1
+    → o2 ≡ program_report (program_of p words) d
+cut_written p words d o o1 o2 z e f g = rw (g, f, e, z) (sym (report_cut p words))
+
+-- and at a depth above 0
+pub facts_written : (p : FactProgram) (words : List (List ℕ)) (d : ℕ) (q : FactPredicate) (o o1 o2 : List ℕ) → d ≢ 0 → IsFactProgram p → q ≡ get_or p.predicates p.query.pred q
+    → o ≡ [] → o1 ≡ o ++ fact_lines p.constructors p.query.vars q.facts → o2 ≡ o1 ++ totals_line (length q.facts) 0 → o2 ≡ program_report (program_of p words) d
+facts_written p words zero q o o1 o2 z h at e f g = absurd (z refl)
+facts_written p words (suc d) q o o1 o2 z h at e f g =
+    let same : h.query.0 ≡ q = got_at p.predicates p.query.pred h.query.0 q h.query.1 at in
+    rw (g, f, e) (sym (report_facts p words d q h (h.query.1 ∙ ap Some same) (h.query.2 ∙ ap (λ (r : FactPredicate). r.arity) same)))
+
+-- the facts of the query's predicate are as many arguments as the query has
+pub query_facts : (p : FactProgram) (q : FactPredicate) → IsFactProgram p → q ≡ get_or p.predicates p.query.pred q → AreFacts p.constructors (length p.query.vars) q.facts
+query_facts p q h at =
+    let same : h.query.0 ≡ q = got_at p.predicates p.query.pred h.query.0 q h.query.1 at in
+    rw (h.query.2, ap (λ (r : FactPredicate). r.arity) same) (facts_at p.constructors p.query.pred p.predicates q (h.query.1 ∙ ap Some same) h.predicates)
