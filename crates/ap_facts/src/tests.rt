@@ -45,7 +45,7 @@ fn query(alloc: Global, pred: u32, spellings: &[&str]) -> Result<FactQuery, Memo
     })
 }
 
-// nat : type. z : nat. s : nat -> nat. g : (nat, nat) -> nat.
+// The constructors z, s of one argument and g of two, and the facts
 // p(z). p(s(z)). q(z, g(s(z), z)).
 fn program(alloc: Global, query: FactQuery) -> Result<FactProgram, Memory> {
     let mut constructors = Vec::new(alloc);

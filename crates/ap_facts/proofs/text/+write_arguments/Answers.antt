@@ -17,16 +17,16 @@ write_arguments-requires-in-Pair-2 t c =
 pub returns-else-constructor-gt0 : goal.returns-else-constructor-gt0
 returns-else-constructor-gt0 t c =
     let text = text_bare c.args.constructors.now c.args.count c.in-App.f (term_of c.args.t.now) (term_of c.in-App.inner.value) c.index-constructors-f.result (ap term_of c.in-App.is) c.requires c.index-constructors-f.is c.if-constructor-gt0.false in
-    c.in_ok-extend_from_slice-in-App.ensures.items ∙ ap (λ x. c.args.out.now.items ++ x) (c.as_bytes.ensures.value ∙ c.as_str.ensures ∙ sym text)
+    rw text (rw (c.as_bytes.ensures.value, c.as_str.ensures) at c.in_ok-extend_from_slice-in-App.ensures.items)
 
 pub returns-in_ok-push-in-App-2 : goal.returns-in_ok-push-in-App-2
 returns-in_ok-push-in-App-2 t c =
     let k = c.index-constructors-f.result in
     full_joined c.args.out.now.items c.extend_from_slice.new.self.items c.push.new.self.items c.write_arguments.new.out.items c.push-then-constructor-gt0.new.self.items
     k.text (arguments_text c.args.constructors.now k.arity (term_of c.in-App.inner.value)) (arguments_text c.args.constructors.now c.args.count (term_of c.args.t.now))
-    (c.in_ok-extend_from_slice-in-App.ensures.items ∙ ap (λ x. c.args.out.now.items ++ x) (c.as_bytes.ensures.value ∙ c.as_str.ensures))
+    (rw (c.as_bytes.ensures.value, c.as_str.ensures) at c.in_ok-extend_from_slice-in-App.ensures.items)
     c.in_ok-push-in-App.ensures.items
-    (c.in_ok-write_arguments-in-App.ensures ∙ ap (λ x. c.push.new.self.items ++ arguments_text c.args.constructors.now k.arity (term_of x)) c.deref.ensures)
+    (rw c.deref.ensures at c.in_ok-write_arguments-in-App.ensures)
     c.in_ok-push-in-App-2.ensures.items
     (text_full c.args.constructors.now c.args.count c.in-App.f (term_of c.args.t.now) (term_of c.in-App.inner.value) k (ap term_of c.in-App.is) c.requires c.index-constructors-f.is c.if-constructor-gt0.true)
 
@@ -36,7 +36,7 @@ returns-in_ok-push-in-Pair t c =
     let others = term_of c.in-Pair.others.value in
     pair_joined c.write_arguments-in-Pair-2.result c.args.out.now.items c.write_arguments-in-Pair.new.out.items c.push-in-Pair.new.self.items c.write_arguments-in-Pair-2.new.out.items
     (arguments_text c.args.constructors.now 1 first) (arguments_text c.args.constructors.now (c.args.count - 1) others) (arguments_text c.args.constructors.now c.args.count (term_of c.args.t.now))
-    (c.in_ok-write_arguments-in-Pair.ensures ∙ ap (λ x. c.args.out.now.items ++ arguments_text c.args.constructors.now 1 (term_of x)) c.deref-in-Pair.ensures)
+    (rw c.deref-in-Pair.ensures at c.in_ok-write_arguments-in-Pair.ensures)
     c.in_ok-push-in-Pair.ensures.items
     (rw c.deref-in-Pair-2.ensures at c.write_arguments-in-Pair-2.ensures)
     (text_pair c.args.constructors.now c.args.count (term_of c.args.t.now) first others (ap term_of c.in-Pair.is) c.requires)
