@@ -1,0 +1,157 @@
+-- The names on which two permutations differ, as the ascending list of them.
+use Rattle.std.proofs.Common.{subst, ◌≡◌, ◌≢◌, Bool, true, false, ◌&&◌, ◌||◌, not, List, [], ◌∷◌, ◌++◌, refl, sym, ap, ap₂, ◌∙◌, inl, inr, arith, true≢false}
+use Rattle.std.specs.Prelude.{if◌then◌else◌}
+use Rattle.std.proofs.lemmas.Bool.Decides.{nat_tests}
+use Rattle.ap_defs.specs.Permutations.{IsSamePerm, act_name, add_name, differing, disagreement, has_name, left_name, name_before, name_eq, names_of, right_name, swap_name}
+use Rattle.ap_defs.specs.declared.terms.Name.{Name}
+use Rattle.ap_defs.specs.declared.terms.Swap.{Swap}
+use Rattle.ap_theory.proofs.BooleanLemmas.{and_false, or_and_absorb, or_and_distribute, or_cases, or_false, or_swap, or_twice, same_test}
+use Rattle.ap_theory.proofs.PermutationLemmas.{name_decided, name_eq_itself, name_eq_same, name_tells, not_name, swap_name_fixes}
+
+-- a permutation fixes what it doesn't mention
+act_unnamed : (p : List Swap) (c : Name) → has_name c (names_of p) ≡ false → act_name p c ≡ c
+act_unnamed [] c h = refl
+act_unnamed (s ∷ p) c h =
+    let k = or_false (name_eq c (left_name s)) (name_eq c (right_name s) || has_name c (names_of p)) h in
+    let l = or_false (name_eq c (right_name s)) (has_name c (names_of p)) k.1 in
+    ap (swap_name s) (act_unnamed p c l.1) ∙ swap_name_fixes s c k.0 l.0
+
+has_name-append : (c : Name) (as' bs : List Name) → has_name c (as' ++ bs) ≡ (has_name c as' || has_name c bs)
+has_name-append c [] bs = refl
+has_name-append c (a ∷ as') bs = elim (name_eq c a) as (λ v. (v || has_name c (as' ++ bs)) ≡ ((v || has_name c as') || has_name c bs)) [ true ↦ refl | false ↦ has_name-append c as' bs ]
+
+pub differing_named : (p q : List Swap) (c : Name) → act_name p c ≢ act_name q c → has_name c (names_of p ++ names_of q) ≡ true
+differing_named p q c n =
+    elim (has_name c (names_of p ++ names_of q)) as (λ v. has_name c (names_of p ++ names_of q) ≡ v → v ≡ true) [
+      | true ↦ λ e. refl
+      | false ↦ λ e. let k = or_false (has_name c (names_of p)) (has_name c (names_of q)) (sym (has_name-append c (names_of p) (names_of q)) ∙ e) in absurd (n (act_unnamed p c k.0 ∙ sym (act_unnamed q c k.1)))
+    ] refl
+
+-- Ascending lists with the same members are equal.
+abbrev Above : Name → List Name → Type 0
+Above a bs = (c : Name) → has_name c bs ≡ true → name_before a c ≡ true
+
+abbrev IsAscending : List Name → Type 0
+IsAscending [] = Unit {0}
+IsAscending (a ∷ as') = Above a as' × IsAscending as'
+
+before_trans : (a b c : Name) → name_before a b ≡ true → name_before b c ≡ true → name_before a c ≡ true
+unfolding name_before
+before_trans a b c h k = grind (arith, nat_tests)
+
+before_irrefl : (a : Name) → name_before a a ≡ true → ⊥
+unfolding name_before
+before_irrefl a h = grind (arith, nat_tests)
+
+before_total : (a b : Name) → name_eq a b ≡ false → name_before a b ≡ false → name_before b a ≡ true
+unfolding name_before name_eq
+before_total a b h k = grind (arith, nat_tests)
+
+pub has_add : (c a : Name) (bs : List Name) → has_name c (add_name a bs) ≡ (name_eq c a || has_name c bs)
+has_add c a [] = refl
+has_add c a (b ∷ bs) =
+    elim (name_eq a b) as (λ v. name_eq a b ≡ v → has_name c (if v then (b ∷ bs) else (if name_before a b then (a ∷ b ∷ bs) else (b ∷ add_name a bs))) ≡ (name_eq c a || (name_eq c b || has_name c bs))) [
+      | true ↦ λ e. or_twice (name_eq c b) (has_name c bs) ∙ ap (λ x. name_eq c x || (name_eq c b || has_name c bs)) (sym (name_eq_same a b e))
+      | false ↦ λ e. elim (name_before a b) as (λ v. has_name c (if v then (a ∷ b ∷ bs) else (b ∷ add_name a bs)) ≡ (name_eq c a || (name_eq c b || has_name c bs))) [
+        | true ↦ refl
+        | false ↦ ap (λ x. name_eq c b || x) (has_add c a bs) ∙ or_swap (name_eq c b) (name_eq c a) (has_name c bs)
+      ]
+    ] refl
+
+ascending_add : (a : Name) (bs : List Name) → IsAscending bs → IsAscending (add_name a bs)
+ascending_add a [] h = (λ c k. cc, tt)
+ascending_add a (b ∷ bs) h =
+    elim (name_eq a b) as (λ v. name_eq a b ≡ v → IsAscending (if v then (b ∷ bs) else (if name_before a b then (a ∷ b ∷ bs) else (b ∷ add_name a bs)))) [
+      | true ↦ λ e. h
+      | false ↦ λ e. elim (name_before a b) as (λ v. name_before a b ≡ v → IsAscending (if v then (a ∷ b ∷ bs) else (b ∷ add_name a bs))) [
+        | true ↦ λ k. (λ c m. elim (or_cases (name_eq c b) (has_name c bs) m) [ inl i ↦ ap (name_before a) (name_eq_same c b i) ∙ k | inr i ↦ before_trans a b c k (h.0 c i) ], h)
+        | false ↦ λ k. (λ c m. elim (or_cases (name_eq c a) (has_name c bs) (sym (has_add c a bs) ∙ m)) [ inl i ↦ ap (name_before b) (name_eq_same c a i) ∙ before_total a b e k | inr i ↦ h.0 c i ], ascending_add a bs h.1)
+      ] refl
+    ] refl
+
+abbrev SameMembers : List Name → List Name → Type 0
+SameMembers as' bs = (c : Name) → has_name c as' ≡ has_name c bs
+
+pub has_front : (a : Name) (bs : List Name) → has_name a (a ∷ bs) ≡ true
+has_front a bs = ap (λ x. x || has_name a bs) (name_eq_itself a)
+
+-- two first members are equal
+same_front : (a : Name) (as' : List Name) (b : Name) (bs : List Name) → Above a as' → Above b bs → SameMembers (a ∷ as') (b ∷ bs) → a ≡ b
+same_front a as' b bs h k m =
+    elim (or_cases (name_eq a b) (has_name a bs) (sym (m a) ∙ has_front a as')) [
+      | inl e ↦ name_eq_same a b e
+      | inr e ↦ elim (or_cases (name_eq b a) (has_name b as') (m b ∙ has_front b bs)) [
+        | inl f ↦ sym (name_eq_same b a f)
+        | inr f ↦ absurd (before_irrefl a (before_trans a b a (h b f) (k a e)))
+      ]
+    ]
+
+same_later : (a : Name) (as' bs : List Name) → Above a as' → Above a bs → SameMembers (a ∷ as') (a ∷ bs) → SameMembers as' bs
+same_later a as' bs h k m c =
+    elim (name_tells c a) [
+      | inl w ↦ same_test _ _
+          (λ i. absurd (before_irrefl a (ap (name_before a) (sym w.1) ∙ h c i)))
+          (λ i. absurd (before_irrefl a (ap (name_before a) (sym w.1) ∙ k c i)))
+      | inr w ↦ sym (ap (λ x. x || has_name c as') w.0) ∙ m c ∙ ap (λ x. x || has_name c bs) w.0
+    ]
+
+pub same_ascending : (as' bs : List Name) → IsAscending as' → IsAscending bs → SameMembers as' bs → as' ≡ bs
+same_ascending [] [] h k m = refl
+same_ascending [] (b ∷ bs) h k m = absurd (true≢false (sym (m b ∙ has_front b bs)))
+same_ascending (a ∷ as') [] h k m = absurd (true≢false (sym (has_front a as') ∙ m a))
+same_ascending (a ∷ as') (b ∷ bs) h k m =
+    let e = same_front a as' b bs h.0 k.0 m in
+    let f : SameMembers (a ∷ as') (a ∷ bs) = subst (λ (x : Name). SameMembers (a ∷ as') (x ∷ bs)) (sym e) m in
+    let g : Above a bs = subst (λ (x : Name). Above x bs) (sym e) k.0 in
+    ap₂ ◌∷◌ e (same_ascending as' bs h.1 k.1 (same_later a as' bs h.0 g f))
+
+ascending_differing : (p q : List Swap) (cs : List Name) → IsAscending (differing p q cs)
+ascending_differing p q [] = tt
+ascending_differing p q (c ∷ cs) =
+    elim (name_eq (act_name p c) (act_name q c)) as (λ v. IsAscending (if v then differing p q cs else add_name c (differing p q cs))) [
+      | true ↦ ascending_differing p q cs
+      | false ↦ ascending_add c (differing p q cs) (ascending_differing p q cs)
+    ]
+
+abbrev differs : List Swap → List Swap → Name → Bool
+differs p q c = not (name_eq (act_name p c) (act_name q c))
+
+-- the members are the names on which the two differ
+has_differing : (p q : List Swap) (c : Name) (cs : List Name) → has_name c (differing p q cs) ≡ (has_name c cs && differs p q c)
+has_differing p q c [] = refl
+has_differing p q c (d ∷ ds) =
+    elim (name_tells (act_name p d) (act_name q d)) [
+      | inl w ↦ rw w.0 (has_differing p q c ds ∙ or_and_absorb (name_eq c d) (has_name c ds) (differs p q c) (λ e.
+          let k = name_eq_same c d e in
+          ap not (ap (name_eq (act_name p c)) (ap (act_name q) k ∙ sym w.1 ∙ sym (ap (act_name p) k)) ∙ name_eq_itself (act_name p c))))
+      | inr w ↦ rw w.0 (has_add c d (differing p q ds) ∙ ap (λ x. name_eq c d || x) (has_differing p q c ds) ∙ or_and_distribute (name_eq c d) (has_name c ds) (differs p q c) (λ e.
+          ap (λ x. differs p q x) (name_eq_same c d e) ∙ ap not w.0))
+    ]
+
+pub has_disagreement : (p q : List Swap) (c : Name) → has_name c (disagreement p q) ≡ differs p q c
+has_disagreement p q c =
+    has_differing p q c (names_of p ++ names_of q)
+    ∙ elim (name_tells (act_name p c) (act_name q c)) [
+      | inl w ↦ rw w.0 (and_false (has_name c (names_of p ++ names_of q)))
+      | inr w ↦ ap (λ x. x && differs p q c) (differing_named p q c w.1)
+    ]
+
+-- equal permutations differ on the same names, in one order
+pub disagreement_same : (p q r s : List Swap) → IsSamePerm p r → IsSamePerm q s → disagreement p q ≡ disagreement r s
+disagreement_same p q r s h k =
+    same_ascending (disagreement p q) (disagreement r s)
+    (ascending_differing p q (names_of p ++ names_of q)) (ascending_differing r s (names_of r ++ names_of s))
+    (λ c. has_disagreement p q c ∙ ap₂ (λ x y. not (name_eq x y)) (h c) (k c) ∙ sym (has_disagreement r s c))
+
+-- equal permutations differ on no name, and those that differ on none are equal
+pub disagreement_none : (p q : List Swap) → IsSamePerm p q → disagreement p q ≡ []
+disagreement_none p q h =
+    same_ascending (disagreement p q) [] (ascending_differing p q (names_of p ++ names_of q)) tt
+    (λ c. has_disagreement p q c ∙ ap not (ap (λ x. name_eq x (act_name q c)) (h c) ∙ name_eq_itself (act_name q c)))
+
+pub disagreement_empty : (p q : List Swap) → disagreement p q ≡ [] → IsSamePerm p q
+disagreement_empty p q h c =
+    elim (name_decided (act_name p c) (act_name q c)) [
+      | inl e ↦ e
+      | inr n ↦ absurd (true≢false (sym (has_disagreement p q c ∙ ap not (not_name (act_name p c) (act_name q c) n)) ∙ ap (has_name c) h))
+    ]

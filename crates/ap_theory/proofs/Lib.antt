@@ -1,0 +1,11 @@
+pub mod BooleanLemmas
+pub mod PermutationLemmas
+pub mod DisagreementLemmas
+pub mod TermLemmas
+pub mod GroundLemmas
+pub mod SolutionLemmas
+pub mod TerminationLemmas
+pub mod UnificationLemmas
+pub mod SameTermLemmas
+pub mod ConditionLemmas
+pub mod CanonicalLemmas

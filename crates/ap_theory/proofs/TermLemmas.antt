@@ -1,0 +1,39 @@
+-- Laws of nominal terms: action, variables, size.
+use Rattle.std.proofs.Common.{◌≡◌, ◌+◌, ◌≤◌, true, ◌||◌, List, refl, ap, ap₂, arith}
+use Rattle.std.proofs.lemmas.Bool.Decides.{nat_tests}
+use Rattle.ap_defs.specs.Freshness.{var_eq}
+use Rattle.ap_defs.specs.Substitution.{occurs}
+use Rattle.ap_defs.specs.Terms.{NominalTerm, abs, act_term, app, name, pair, susp, unit}
+use Rattle.ap_defs.specs.Unification.{size}
+use Rattle.ap_defs.specs.declared.terms.Swap.{Swap}
+use Rattle.ap_defs.specs.declared.terms.Var.{Var}
+
+pub var_same : (x y : Var) → var_eq x y ≡ true → x ≡ y
+var_same x y h = grind (arith, nat_tests)
+
+pub occurs_act : (x : Var) (p : List Swap) (t : NominalTerm) → occurs x (act_term p t) ≡ occurs x t
+occurs_act x p unit = refl
+occurs_act x p (name a) = refl
+occurs_act x p (pair t u) = ap₂ ◌||◌ (occurs_act x p t) (occurs_act x p u)
+occurs_act x p (app f t) = occurs_act x p t
+occurs_act x p (abs a t) = occurs_act x p t
+occurs_act x p (susp q y) = refl
+
+pub size_act_term : (p : List Swap) (t : NominalTerm) → size (act_term p t) ≡ size t
+size_act_term p unit = refl
+size_act_term p (name a) = refl
+size_act_term p (pair t u) = ap₂ (λ m n. 1 + m + n) (size_act_term p t) (size_act_term p u)
+size_act_term p (app f t) = ap (λ n. 1 + n) (size_act_term p t)
+size_act_term p (abs a t) = ap (λ n. 1 + n) (size_act_term p t)
+size_act_term p (susp q x) = refl
+
+pub size_pos : (t : NominalTerm) → 1 ≤ size t
+size_pos unit = omega arith
+size_pos (name a) = omega arith
+size_pos (pair t u) = omega arith
+size_pos (app f t) = omega arith
+size_pos (abs a t) = omega arith
+size_pos (susp p x) = omega arith
+
+pub var_eq_flip : (x y : Var) → var_eq x y ≡ var_eq y x
+var_eq_flip x y = grind (arith, nat_tests)

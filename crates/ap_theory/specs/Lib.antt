@@ -1,0 +1,4 @@
+pub mod Contexts
+pub mod StatementsOnPermutations
+pub mod StatementsOnGroundTerms
+pub mod StatementsOnUnification

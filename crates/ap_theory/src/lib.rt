@@ -1,0 +1,9 @@
+//! The theory of names and of unification over the definitions of `ap_defs`.
+//!
+//! Each law is the contract of a call that does nothing. Its statement stands in `specs/`, and the
+//! lemmas that prove it in `proofs/`, where the crates above can cite them.
+#![tactic(auto)]
+
+pub mod ground_terms;
+pub mod permutations;
+pub mod unification;
