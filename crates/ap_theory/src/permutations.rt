@@ -4,7 +4,7 @@ ghost use Rattle.ap_theory.specs.StatementsOnPermutations.{ActionComposes, Actio
 
 /// Two lists in a row act one after the other.
 pub fn composition()
-    ensures composes { ActionComposes }
+    ensures { ActionComposes }
 {}
 
 /// A permutation is a bijection that keeps sorts, and its inverse undoes it on either side.
@@ -18,7 +18,7 @@ pub fn bijection()
 
 /// A permutation carries a swapping over to the images of its names.
 pub fn conjugation()
-    ensures conjugates { SwappingIsConjugated }
+    ensures { SwappingIsConjugated }
 {}
 
 /// Two permutations are equal as functions just where no name is in their disagreement set, which

@@ -18,11 +18,11 @@ pub fn unification_unrolls()
 
 /// What unification gives has as its groundings just those that solve the equations.
 pub fn unification_is_most_general()
-    ensures instances { UnificationHasTheInstances }
+    ensures { UnificationHasTheInstances }
 {}
 
 /// Inputs whose lists of swappings are equal as permutations give such results, and the same
 /// conditions.
 pub fn unification_respects_equal_permutations()
-    ensures same { UnificationRespectsEqualPermutations }
+    ensures { UnificationRespectsEqualPermutations }
 {}
