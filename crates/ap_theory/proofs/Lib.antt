@@ -9,3 +9,4 @@ pub mod UnificationLemmas
 pub mod SameTermLemmas
 pub mod ConditionLemmas
 pub mod CanonicalLemmas
+pub mod EqualityLemmas

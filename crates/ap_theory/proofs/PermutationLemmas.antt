@@ -1,5 +1,5 @@
 -- Laws of permutations.
-use Rattle.std.proofs.Common.{◌≡◌, ◌≢◌, ◌⊎◌, ◌<◌, ◌≤◌, suc, true, false, ◌||◌, List, [], ◌∷◌, ◌++◌, length, refl, sym, ap, ◌∙◌, inl, inr, arith, true≢false}
+use Rattle.std.proofs.Common.{◌≡◌, ◌≢◌, ◌⊎◌, ◌<◌, ◌≤◌, suc, true, false, ◌||◌, List, [], ◌∷◌, ◌++◌, length, refl, sym, ap, ◌∙◌, inl, inr, arith, true≢false, append_assoc, append-nil}
 use Rattle.std.specs.Prelude.{if◌then◌else◌}
 use Rattle.std.proofs.lemmas.Bool.Decides.{nat_tests}
 use Rattle.ap_defs.specs.Permutations.{IsSamePerm, act_name, has_name, inverse, left_name, name_eq, right_name, swap_name, swap_of}
@@ -134,3 +134,25 @@ has_without a c (b ∷ bs) n h =
       | true ↦ λ e. has_without a c bs n (or_right (name_eq c b) (has_name c bs) (not_name c b (λ f. n (f ∙ sym (name_eq_same a b e)))) h)
       | false ↦ λ e. elim (name_eq c b) as (λ v. (v || has_name c bs) ≡ true → (v || has_name c (without a bs)) ≡ true) [ true ↦ λ l. refl | false ↦ λ l. has_without a c bs n l ] h
     ] refl
+
+pub act_sorts : (p q : List Swap) (a b : Name) → a.sort ≡ b.sort → (act_name p a).sort ≡ (act_name q b).sort
+act_sorts p q a b h = act_sort p a ∙ h ∙ sym (act_sort q b)
+
+-- what a swapping does to a name that is one of its two
+pub swap_name_left : (a b c : Name) → a.sort ≡ b.sort → c ≡ a → swap_name (swap_of a b) c ≡ b
+swap_name_left a b c h e = ap (swap_name (swap_of a b)) e ∙ swap_left a b h
+
+pub swap_name_right : (a b c : Name) → a.sort ≡ b.sort → c ≡ b → swap_name (swap_of a b) c ≡ a
+swap_name_right a b c h e = ap (swap_name (swap_of a b)) e ∙ swap_right a b h
+
+-- (a b)(b c) is (a c) on every name but a and b
+pub swaps_other : (a b c n : Name) → a.sort ≡ b.sort → b.sort ≡ c.sort → n ≢ a → n ≢ b → swap_name (swap_of a b) (swap_name (swap_of b c) n) ≡ swap_name (swap_of a c) n
+swaps_other a b c n e f k l =
+    elim (name_decided n c) [
+      | inl h ↦ ap (swap_name (swap_of a b)) (swap_name_right b c n f h) ∙ swap_right a b e ∙ sym (swap_name_right a c n (e ∙ f) h)
+      | inr m ↦ ap (swap_name (swap_of a b)) (swap_other b c n f l m) ∙ swap_other a b n e k l ∙ sym (swap_other a c n (e ∙ f) k m)
+    ]
+
+pub inverse-append : (p q : List Swap) → inverse (p ++ q) ≡ inverse q ++ inverse p
+inverse-append [] q = sym (append-nil (inverse q))
+inverse-append (s ∷ p) q = ap (λ r. r ++ s ∷ []) (inverse-append p q) ∙ append_assoc (inverse q) (inverse p) (s ∷ [])

@@ -1,18 +1,19 @@
 -- What unification does with terms that count as equal counts as equal.
-use Rattle.std.proofs.Common.{subst, ◌≡◌, ◌+◌, ℕ, zero, suc, true, false, ◌||◌, List, [], ◌∷◌, ◌++◌, map, refl, ap, ap₂, arith}
+use Rattle.std.proofs.Common.{subst, ◌≡◌, ◌+◌, ℕ, zero, suc, true, false, ◌||◌, List, [], ◌∷◌, ◌++◌, map, refl, sym, ap, ap₂, ◌∙◌, arith}
 use Rattle.std.specs.Prelude.{if◌then◌else◌, nat_lt, ◌==◌, Option, Some, None}
 use Rattle.ap_defs.specs.Freshness.{Conds, both, reduce, var_eq}
 use Rattle.ap_defs.specs.Permutations.{IsSamePerm, act_name, disagreement, inverse, name_eq, swap_of}
 use Rattle.ap_defs.specs.SameTerm.{SameBindings, SameEnding, SameEquations, SameProblems, SameRule, SameStage, SameTerm, SameTerms, SameUnified, next_binding, next_equation, next_problem, next_term, no_bindings, no_equations, no_problems, no_terms, same_abs, same_app, same_bind, same_clash, same_name, same_pair, same_replace, same_susp, same_unit}
 use Rattle.ap_defs.specs.Substitution.{Binding, Equation, Problem, bound_term, moved, occurs, put, put_binding, put_equation, put_problem, under, ◌#◌, ◌≐◌}
-use Rattle.ap_defs.specs.Terms.{NominalTerm, abs, act_term, name, susp}
+use Rattle.ap_defs.specs.Terms.{NominalTerm, abs, act_term, app, name, pair, susp, unit}
 use Rattle.ap_defs.specs.Unification.{Ending, Progress, Rule, Stage, after, apply_rule, bind, clash, done, ending, equations_of, failed, finish, first_stage, fresh_for, next, problem_of, reduce_all, replace, rule, run, solved, step, step_of, steps_for, unfinished, unify, unless_occurs, unsolvable, with_conditions}
 use Rattle.ap_defs.specs.declared.terms.Cond.{Cond}
 use Rattle.ap_defs.specs.declared.terms.Name.{Name}
 use Rattle.ap_defs.specs.declared.terms.Swap.{Swap}
 use Rattle.ap_defs.specs.declared.terms.Var.{Var}
 use Rattle.ap_theory.proofs.DisagreementLemmas.{disagreement_same}
-use Rattle.ap_theory.proofs.PermutationLemmas.{append_same, inverse_same}
+use Rattle.ap_theory.proofs.PermutationLemmas.{act-append, act_inverse, act_swap, append_same, inverse_act, inverse_same}
+use Rattle.ap_theory.proofs.TermLemmas.{act_term-append, act_term_none}
 use Rattle.ap_theory.proofs.TerminationLemmas.{ending_ends, run_more}
 
 pub act_same : (p q : List Swap) → IsSamePerm p q → {t u : NominalTerm} → SameTerm t u → SameTerm (act_term p t) (act_term q u)
@@ -196,3 +197,41 @@ unfolding unify
 unify_same {r} {s} b ds {ts} {us} {vs} {ws} h k =
     finish_same ds (ending (first_stage r ts us)) (ending (first_stage s vs ws))
     (ending_same (first_stage r ts us) (first_stage s vs ws) (record { equations = equations_same b h k; problems = no_problems; bindings = b }))
+
+-- terms that count as equal
+pub same_itself : (t : NominalTerm) → SameTerm t t
+same_itself unit = same_unit
+same_itself (name a) = same_name
+same_itself (pair t u) = same_pair (same_itself t) (same_itself u)
+same_itself (app f t) = same_app (same_itself t)
+same_itself (abs a t) = same_abs (same_itself t)
+same_itself (susp p x) = same_susp (λ a. refl)
+
+pub same_sym : {t u : NominalTerm} → SameTerm t u → SameTerm u t
+same_sym same_unit = same_unit
+same_sym same_name = same_name
+same_sym (same_pair h i) = same_pair (same_sym h) (same_sym i)
+same_sym (same_app h) = same_app (same_sym h)
+same_sym (same_abs h) = same_abs (same_sym h)
+same_sym (same_susp h) = same_susp (λ a. sym (h a))
+
+-- two permutations that are equal to two others, in a row
+pub act_act_same : (p q r s : List Swap) (t : NominalTerm) → IsSamePerm (p ++ q) (r ++ s) → SameTerm (act_term p (act_term q t)) (act_term r (act_term s t))
+act_act_same p q r s t h =
+    subst (λ (z : NominalTerm). SameTerm z (act_term r (act_term s t))) (act_term-append p q t)
+    (subst (λ (z : NominalTerm). SameTerm (act_term (p ++ q) t) z) (act_term-append r s t) (act_same (p ++ q) (r ++ s) h (same_itself t)))
+
+pub act_act_none : (p q : List Swap) (t : NominalTerm) → IsSamePerm (p ++ q) [] → SameTerm (act_term p (act_term q t)) t
+act_act_none p q t h =
+    subst (λ (z : NominalTerm). SameTerm z t) (act_term-append p q t)
+    (subst (λ (z : NominalTerm). SameTerm (act_term (p ++ q) t) z) (act_term_none t) (act_same (p ++ q) [] h (same_itself t)))
+
+pub inverse_act_same : (p : List Swap) (t : NominalTerm) → SameTerm (act_term (inverse p) (act_term p t)) t
+inverse_act_same p t = act_act_none (inverse p) p t (λ a. act-append (inverse p) p a ∙ inverse_act p a)
+
+pub act_inverse_same : (p : List Swap) (t : NominalTerm) → SameTerm (act_term p (act_term (inverse p) t)) t
+act_inverse_same p t = act_act_none p (inverse p) t (λ a. act-append p (inverse p) a ∙ act_inverse p a)
+
+pub act_swap_same : (p : List Swap) (a b : Name) (t : NominalTerm) → a.sort ≡ b.sort
+    → SameTerm (act_term p (act_term (swap_of a b ∷ []) t)) (act_term (swap_of (act_name p a) (act_name p b) ∷ []) (act_term p t))
+act_swap_same p a b t e = act_act_same p (swap_of a b ∷ []) (swap_of (act_name p a) (act_name p b) ∷ []) p t (λ c. act-append p (swap_of a b ∷ []) c ∙ act_swap p a b c e)

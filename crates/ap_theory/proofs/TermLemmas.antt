@@ -1,5 +1,5 @@
 -- Laws of nominal terms: action, variables, size.
-use Rattle.std.proofs.Common.{◌≡◌, ◌+◌, ◌≤◌, true, ◌||◌, List, refl, ap, ap₂, arith}
+use Rattle.std.proofs.Common.{◌≡◌, ◌+◌, ◌≤◌, true, ◌||◌, List, [], ◌++◌, refl, ap, ap₂, arith, append_assoc}
 use Rattle.std.proofs.lemmas.Bool.Decides.{nat_tests}
 use Rattle.ap_defs.specs.Freshness.{var_eq}
 use Rattle.ap_defs.specs.Substitution.{occurs}
@@ -7,6 +7,7 @@ use Rattle.ap_defs.specs.Terms.{NominalTerm, abs, act_term, app, name, pair, sus
 use Rattle.ap_defs.specs.Unification.{size}
 use Rattle.ap_defs.specs.declared.terms.Swap.{Swap}
 use Rattle.ap_defs.specs.declared.terms.Var.{Var}
+use Rattle.ap_theory.proofs.PermutationLemmas.{act-append}
 
 pub var_same : (x y : Var) → var_eq x y ≡ true → x ≡ y
 var_same x y h = grind (arith, nat_tests)
@@ -37,3 +38,19 @@ size_pos (susp p x) = omega arith
 
 pub var_eq_flip : (x y : Var) → var_eq x y ≡ var_eq y x
 var_eq_flip x y = grind (arith, nat_tests)
+
+pub act_term-append : (p q : List Swap) (t : NominalTerm) → act_term (p ++ q) t ≡ act_term p (act_term q t)
+act_term-append p q unit = refl
+act_term-append p q (name a) = ap name (act-append p q a)
+act_term-append p q (pair t u) = ap₂ pair (act_term-append p q t) (act_term-append p q u)
+act_term-append p q (app f t) = ap (app f) (act_term-append p q t)
+act_term-append p q (abs a t) = ap₂ abs (act-append p q a) (act_term-append p q t)
+act_term-append p q (susp r x) = ap (λ l. susp l x) (append_assoc p q r)
+
+pub act_term_none : (t : NominalTerm) → act_term [] t ≡ t
+act_term_none unit = refl
+act_term_none (name a) = refl
+act_term_none (pair t u) = ap₂ pair (act_term_none t) (act_term_none u)
+act_term_none (app f t) = ap (app f) (act_term_none t)
+act_term_none (abs a t) = ap (abs a) (act_term_none t)
+act_term_none (susp p x) = refl

@@ -1,8 +1,10 @@
 -- Freshness and equality of nominal terms under any set of conditions.
-use Rattle.std.specs.Prelude.{◌≡◌, ◌≢◌, ◌⊎◌, [], ◌∷◌}
+use Rattle.std.specs.Prelude.{◌≡◌, ◌≢◌, ◌⊎◌, true, List, [], ◌∷◌}
+use Rattle.ap_defs.specs.Freshness.{Conds, has_cond}
 use Rattle.ap_defs.specs.Permutations.{act_name, inverse, swap_of}
 use Rattle.ap_defs.specs.Terms.{NominalTerm, abs, act_term, app, name, pair, susp, unit}
 use Rattle.ap_defs.specs.declared.terms.Name.{Name}
+use Rattle.ap_defs.specs.declared.terms.Swap.{Swap}
 use Rattle.ap_defs.specs.declared.terms.Var.{Var}
 
 -- a set of conditions, as what it says of a name and a variable
@@ -27,3 +29,11 @@ Equal d (app f t) (app g u) = (f ≡ g) × Equal d t u
 Equal d (abs a t) (abs b u) = ((a ≡ b) × Equal d t u) ⊎ ((a ≢ b) × (a.sort ≡ b.sort) × Equal d t (act_term (swap_of a b ∷ []) u) × Fresh d a u)
 Equal d (susp p x) (susp q y) = (x ≡ y) × ((c : Name) → act_name p c ≢ act_name q c → d c x)
 Equal d _ _ = ⊥
+
+-- each name on which the two permutations differ is fresh for the term
+abbrev pub FreshWhereTheyDiffer : Context → List Swap → List Swap → NominalTerm → Type 0
+FreshWhereTheyDiffer d p q t = (c : Name) → act_name p c ≢ act_name q c → Fresh d c t
+
+-- a list of conditions says what stands in it
+abbrev pub listed : Conds → Context
+listed ds a x = has_cond (record { name = a; var = x }) ds ≡ true
