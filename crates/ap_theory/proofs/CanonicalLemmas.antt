@@ -1,13 +1,13 @@
 -- The canonical list: equal permutations have one, and it is equal to them.
-use Rattle.std.proofs.Common.{subst, ◌≡◌, ◌≢◌, ◌<◌, ◌≤◌, ℕ, zero, suc, true, false, ◌||◌, not, List, [], ◌∷◌, length, refl, sym, ap, ap₂, ◌∙◌, inl, inr, arith, true≢false}
+use Rattle.std.proofs.Common.{subst, ◌≡◌, ◌≢◌, ◌<◌, ◌≤◌, ℕ, zero, suc, true, false, ◌||◌, List, [], ◌∷◌, length, refl, sym, ap, ap₂, ◌∙◌, inl, inr, arith, true≢false}
 use Rattle.std.specs.Prelude.{if◌then◌else◌}
 use Rattle.ap_defs.specs.Canonical.{canonical, canonical_within, least, moved_names, num_before, swap_first}
 use Rattle.ap_defs.specs.Permutations.{IsSamePerm, act_name, has_name, name_eq, names_of, right_name, swap_name, swap_of}
 use Rattle.ap_defs.specs.declared.terms.Name.{Name}
 use Rattle.ap_defs.specs.declared.terms.Swap.{Swap}
 use Rattle.ap_theory.proofs.BooleanLemmas.{or_cases, or_if_left, or_if_right}
-use Rattle.ap_theory.proofs.DisagreementLemmas.{disagreement_same, has_disagreement, has_front}
-use Rattle.ap_theory.proofs.PermutationLemmas.{act_injective, act_sort, has_without, length_without, name_decided, name_eq_itself, name_eq_same, not_name, same_name_parts, swap_other, swap_right, swap_swap, without}
+use Rattle.ap_theory.proofs.DisagreementLemmas.{differing_disagree, disagree_differing, disagreement_same, has_front}
+use Rattle.ap_theory.proofs.PermutationLemmas.{act_injective, act_sort, has_without, length_without, name_decided, name_eq_same, same_name_parts, swap_other, swap_right, swap_swap, without}
 
 moved_same : (p q : List Swap) → IsSamePerm p q → moved_names p ≡ moved_names q
 moved_same p q h = disagreement_same p [] q [] h (λ a. refl)
@@ -32,10 +32,10 @@ abbrev Moves : List Swap → Name → Type 0
 Moves p c = act_name p c ≢ c
 
 moved_named : (p : List Swap) (c : Name) → Moves p c → has_name c (moved_names p) ≡ true
-moved_named p c n = has_disagreement p [] c ∙ ap not (not_name (act_name p c) c n)
+moved_named p c n = differing_disagree p [] c n
 
 named_moved : (p : List Swap) (c : Name) → has_name c (moved_names p) ≡ true → Moves p c
-named_moved p c h e = true≢false (sym h ∙ has_disagreement p [] c ∙ ap not (ap (λ x. name_eq x c) e ∙ name_eq_itself c))
+named_moved p c h = disagree_differing p [] c h
 
 -- a permutation that mentions no name as moved leaves every name
 none_moved : (p : List Swap) → ((c : Name) → Moves p c → ⊥) → IsSamePerm [] p

@@ -143,6 +143,12 @@ disagreement_same p q r s h k =
     (ascending_differing p q (names_of p ++ names_of q)) (ascending_differing r s (names_of r ++ names_of s))
     (λ c. has_disagreement p q c ∙ ap₂ (λ x y. not (name_eq x y)) (h c) (k c) ∙ sym (has_disagreement r s c))
 
+pub differing_disagree : (p q : List Swap) (c : Name) → act_name p c ≢ act_name q c → has_name c (disagreement p q) ≡ true
+differing_disagree p q c n = has_disagreement p q c ∙ ap not (not_name (act_name p c) (act_name q c) n)
+
+pub disagree_differing : (p q : List Swap) (c : Name) → has_name c (disagreement p q) ≡ true → act_name p c ≢ act_name q c
+disagree_differing p q c h e = true≢false (sym h ∙ has_disagreement p q c ∙ ap not (ap (λ x. name_eq x (act_name q c)) e ∙ name_eq_itself (act_name q c)))
+
 -- equal permutations differ on no name, and those that differ on none are equal
 pub disagreement_none : (p q : List Swap) → IsSamePerm p q → disagreement p q ≡ []
 disagreement_none p q h =
@@ -153,5 +159,5 @@ pub disagreement_empty : (p q : List Swap) → disagreement p q ≡ [] → IsSam
 disagreement_empty p q h c =
     elim (name_decided (act_name p c) (act_name q c)) [
       | inl e ↦ e
-      | inr n ↦ absurd (true≢false (sym (has_disagreement p q c ∙ ap not (not_name (act_name p c) (act_name q c) n)) ∙ ap (has_name c) h))
+      | inr n ↦ absurd (true≢false (sym (differing_disagree p q c n) ∙ ap (has_name c) h))
     ]

@@ -10,3 +10,4 @@ pub mod SameTermLemmas
 pub mod ConditionLemmas
 pub mod CanonicalLemmas
 pub mod EqualityLemmas
+pub mod TestLemmas

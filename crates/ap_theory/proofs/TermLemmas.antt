@@ -1,5 +1,5 @@
 -- Laws of nominal terms: action, variables, size.
-use Rattle.std.proofs.Common.{◌≡◌, ◌+◌, ◌≤◌, true, ◌||◌, List, [], ◌++◌, refl, ap, ap₂, arith, append_assoc}
+use Rattle.std.proofs.Common.{◌≡◌, ◌+◌, ◌≤◌, ℕ, true, ◌||◌, List, [], ◌++◌, refl, ap, ap₂, arith, eqb, append_assoc}
 use Rattle.std.proofs.lemmas.Bool.Decides.{nat_tests}
 use Rattle.ap_defs.specs.Freshness.{var_eq}
 use Rattle.ap_defs.specs.Substitution.{occurs}
@@ -54,3 +54,12 @@ act_term_none (pair t u) = ap₂ pair (act_term_none t) (act_term_none u)
 act_term_none (app f t) = ap (app f) (act_term_none t)
 act_term_none (abs a t) = ap (abs a) (act_term_none t)
 act_term_none (susp p x) = refl
+
+pub same_var : (x y : Var) → x ≡ y → var_eq x y ≡ true
+same_var x y h = grind (arith, nat_tests)
+
+pub number_same : (m n : ℕ) → eqb m n ≡ true → m ≡ n
+number_same m n h = grind (arith, nat_tests)
+
+pub same_number : (m n : ℕ) → m ≡ n → eqb m n ≡ true
+same_number m n h = grind (arith, nat_tests)
