@@ -11,3 +11,4 @@ pub mod ConditionLemmas
 pub mod CanonicalLemmas
 pub mod EqualityLemmas
 pub mod TestLemmas
+pub mod SubstitutionLemmas

@@ -2,3 +2,4 @@ pub mod Contexts
 pub mod StatementsOnPermutations
 pub mod StatementsOnGroundTerms
 pub mod StatementsOnUnification
+pub mod Substitutions
