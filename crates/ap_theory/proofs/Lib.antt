@@ -12,3 +12,5 @@ pub mod CanonicalLemmas
 pub mod EqualityLemmas
 pub mod TestLemmas
 pub mod SubstitutionLemmas
+pub mod LogicLemmas
+pub mod ReductionLemmas

@@ -151,8 +151,14 @@ pub applied_put : (s : Substitution) (x : Var) (v t : NominalTerm) → applied s
 applied_put s x v t = ap (applied s) (put_applied x v t) ∙ applied_applied s (single x v) t
 
 -- bindings keep freshness and equality, if their terms meet what was said of the variables
-pub under_Fresh : (d e : Context) (bs : List Binding) → ((c : Name) (x : Var) → d c x → Fresh e c (under bs (susp [] x))) → (a : Name) (t : NominalTerm) → Fresh d a t → Fresh e a (under bs t)
-under_Fresh d e bs m a t h = subst (λ (z : NominalTerm). Fresh e a z) (sym (under_applied bs t)) (applied_Fresh d e (substitution_of bs) (met_by d e bs m) a t h)
-  where
-    met_by : (d e : Context) (bs : List Binding) → ((c : Name) (x : Var) → d c x → Fresh e c (under bs (susp [] x))) → (c : Name) (x : Var) → d c x → Fresh e c (substitution_of bs x)
-    met_by d e bs m c x k = subst (λ (z : NominalTerm). Fresh e c z) (under_applied bs (susp [] x) ∙ act_term_none (substitution_of bs x)) (m c x k)
+module _ (d e : Context) (bs : List Binding) (m : (c : Name) (x : Var) → d c x → Fresh e c (under bs (susp [] x))) where
+  bound_meets : (c : Name) (x : Var) → d c x → Fresh e c (substitution_of bs x)
+  bound_meets c x k = subst (λ (z : NominalTerm). Fresh e c z) (under_applied bs (susp [] x) ∙ act_term_none (substitution_of bs x)) (m c x k)
+
+  pub under_Fresh : (a : Name) (t : NominalTerm) → Fresh d a t → Fresh e a (under bs t)
+  under_Fresh a t h = subst (λ (z : NominalTerm). Fresh e a z) (sym (under_applied bs t)) (applied_Fresh d e (substitution_of bs) bound_meets a t h)
+
+  pub under_Equal : (t u : NominalTerm) → Equal d t u → Equal e (under bs t) (under bs u)
+  under_Equal t u h =
+      subst (λ (z : NominalTerm). Equal e z (under bs u)) (sym (under_applied bs t))
+      (subst (λ (z : NominalTerm). Equal e (applied (substitution_of bs) t) z) (sym (under_applied bs u)) (applied_Equal d e (substitution_of bs) bound_meets t u h))
