@@ -14,3 +14,4 @@ pub mod TestLemmas
 pub mod SubstitutionLemmas
 pub mod LogicLemmas
 pub mod ReductionLemmas
+pub mod SolvingLemmas

@@ -21,7 +21,7 @@ use Rattle.ap_theory.proofs.TermLemmas.{var_same}
 use Rattle.ap_theory.proofs.TerminationLemmas.{HasEnded, ending_ends}
 
 -- Phase 2.
-abbrev pub met : Grounding → Option (List Cond) → Bool
+abbrev met : Grounding → Option (List Cond) → Bool
 met g None = false
 met g (Some cs) = meets g cs
 
