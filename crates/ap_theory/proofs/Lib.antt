@@ -15,3 +15,4 @@ pub mod SubstitutionLemmas
 pub mod LogicLemmas
 pub mod ReductionLemmas
 pub mod SolvingLemmas
+pub mod MostGeneralLemmas

@@ -138,12 +138,12 @@ module _ (d : Context) (s : Substitution) where
   rule_Holds _ _ = iff_itself
 
   -- equal terms may stand for each other
-  Equal_both : (t v u w : NominalTerm) → Equal d t v → Equal d u w → Equal d t u ↔ Equal d v w
+  pub Equal_both : (t v u w : NominalTerm) → Equal d t v → Equal d u w → Equal d t u ↔ Equal d v w
   Equal_both t v u w h k =
       ((λ e. Equal_trans d v t w (Equal_sym d t v h) (Equal_trans d t u w e k)),
        (λ e. Equal_trans d t v u h (Equal_trans d v w u e (Equal_sym d u w k))))
 
-  Fresh_both : (a : Name) (t u : NominalTerm) → Equal d t u → Fresh d a t ↔ Fresh d a u
+  pub Fresh_both : (a : Name) (t u : NominalTerm) → Equal d t u → Fresh d a t ↔ Fresh d a u
   Fresh_both a t u h = (Fresh_Equal d a t u h, Fresh_Equal d a u t (Equal_sym d t u h))
 
   Equal_put_or_itself : (x : Var) (v : NominalTerm) → Equal d (s x) (applied s v) → (y : Var) → Equal d (s y) (applied s (single x v y))
@@ -154,7 +154,7 @@ module _ (d : Context) (s : Substitution) where
       ] refl
 
   -- A binding that holds may be carried out.
-  put_Equal : (x : Var) (v : NominalTerm) → Equal d (s x) (applied s v) → (t : NominalTerm) → Equal d (applied s t) (applied s (put x v t))
+  pub put_Equal : (x : Var) (v : NominalTerm) → Equal d (s x) (applied s v) → (t : NominalTerm) → Equal d (applied s t) (applied s (put x v t))
   put_Equal x v e t =
       subst (Equal d (applied s t)) (sym (applied_put s x v t)) (applied_congruent d s (λ y. applied s (single x v y)) t (λ y o. Equal_put_or_itself x v e y))
 

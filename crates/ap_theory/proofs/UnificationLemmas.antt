@@ -99,7 +99,7 @@ phase2 : (g : Grounding) (b : List Binding) (ps : List Problem) → is_instance 
 phase2 g b ps = instance_by g b (reduce_all b ps) ∙ and_when (agrees g b) _ _ (λ h. sym (reduce_all_met g b h ps))
 
 -- A run that ends with a solution has no equation left.
-abbrev IsSpent : Ending → Type 0
+abbrev pub IsSpent : Ending → Type 0
 IsSpent unfinished = Unit {0}
 IsSpent unsolvable = Unit {0}
 IsSpent (solved s) = s.equations ≡ []
