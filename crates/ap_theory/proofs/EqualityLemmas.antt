@@ -1,5 +1,5 @@
 -- Freshness and equality under any set of conditions.
-use Rattle.std.proofs.Common.{subst, ◌≡◌, ◌≢◌, ◌⊎◌, ◌+◌, List, [], ◌∷◌, refl, sym, ap, ap₂, ◌∙◌, inl, inr}
+use Rattle.std.proofs.Common.{subst, ◌≡◌, ◌≢◌, ◌⊎◌, ◌+◌, List, [], ◌∷◌, refl, sym, ap, ap₂, ◌∙◌, inl, inr, ◌↔◌}
 use Rattle.ap_defs.specs.Permutations.{act_name, inverse, swap_name, swap_of}
 use Rattle.ap_defs.specs.SameTerm.{SameTerm, same_abs, same_app, same_name, same_pair, same_susp, same_unit}
 use Rattle.ap_defs.specs.Terms.{NominalTerm, abs, act_term, app, name, pair, susp, unit}
@@ -248,3 +248,49 @@ module _ (d : Context) where
   size_Equal (abs a t) (abs b u) (inr h) = ap (λ m. 1 + m) (size_Equal t (act_term (swap_of a b ∷ []) u) h.2 ∙ size_act_term (swap_of a b ∷ []) u)
   size_Equal (susp p x) (susp q y) h = refl
   size_Equal _ _ h = absurd h
+
+  -- both directions at once
+  pub Fresh_moved : (p : List Swap) (a : Name) (t : NominalTerm) → Fresh d a (act_term p t) ↔ Fresh d (act_name (inverse p) a) t
+  Fresh_moved p a t = (Fresh_act p a t, act_Fresh p a t)
+
+  pub Fresh_equivariant : (p : List Swap) (a : Name) (t : NominalTerm) → Fresh d (act_name p a) (act_term p t) ↔ Fresh d a t
+  Fresh_equivariant p a t = (Fresh_act_at p (act_name p a) a t (inverse_act p a), act_Fresh_at p (act_name p a) a t (inverse_act p a))
+
+  pub Fresh_same_both : (a : Name) (t u : NominalTerm) → SameTerm t u → Fresh d a t ↔ Fresh d a u
+  Fresh_same_both a t u h = (Fresh_same a h, Fresh_same a (same_sym h))
+
+  pub Equal_same_both : (t u v w : NominalTerm) → SameTerm t v → SameTerm u w → Equal d t u → Equal d v w
+  Equal_same_both t u v w h k e = same_Equal t v w h (Equal_same t k e)
+
+  pub Equal_equivariant : (p : List Swap) (t u : NominalTerm) → Equal d (act_term p t) (act_term p u) ↔ Equal d t u
+  Equal_equivariant p t u = ((λ h. Equal_same t (inverse_act_same p u) (Equal_move_right p t (act_term p u) h)), Equal_act t u p)
+
+  pub Equal_move : (p : List Swap) (t u : NominalTerm) → Equal d (act_term p t) u ↔ Equal d t (act_term (inverse p) u)
+  Equal_move p t u = (Equal_move_right p t u, Equal_move_left p t u)
+
+  pub Fresh_both : (a : Name) (t u : NominalTerm) → Equal d t u → Fresh d a t ↔ Fresh d a u
+  Fresh_both a t u h = (Fresh_Equal a t u h, Fresh_Equal a u t (Equal_sym t u h))
+
+  pub Equal_act_act : (p q : List Swap) (t : NominalTerm) → Equal d (act_term p t) (act_term q t) ↔ FreshWhereTheyDiffer d p q t
+  Equal_act_act p q t = (Equal_differ t p q, differ_Equal t p q)
+
+-- more conditions
+module _ (d e : Context) (m : (a : Name) (x : Var) → d a x → e a x) where
+  pub Fresh_weaken : (a : Name) (t : NominalTerm) → Fresh d a t → Fresh e a t
+  Fresh_weaken a unit h = tt
+  Fresh_weaken a (name b) h = h
+  Fresh_weaken a (pair t u) h = (Fresh_weaken a t h.0, Fresh_weaken a u h.1)
+  Fresh_weaken a (app f t) h = Fresh_weaken a t h
+  Fresh_weaken a (abs b t) (inl k) = inl k
+  Fresh_weaken a (abs b t) (inr h) = inr (Fresh_weaken a t h)
+  Fresh_weaken a (susp p x) h = m (act_name (inverse p) a) x h
+
+  pub Equal_weaken : (t u : NominalTerm) → Equal d t u → Equal e t u
+  Equal_weaken unit unit h = tt
+  Equal_weaken (name a) (name b) h = h
+  Equal_weaken (pair t u) (pair v w) h = (Equal_weaken t v h.0, Equal_weaken u w h.1)
+  Equal_weaken (app f t) (app g u) h = (h.0, Equal_weaken t u h.1)
+  Equal_weaken (abs a t) (abs b u) (inl h) = inl (h.0, Equal_weaken t u h.1)
+  Equal_weaken (abs a t) (abs b u) (inr h) = inr (h.0, h.1, Equal_weaken t (act_term (swap_of a b ∷ []) u) h.2, Fresh_weaken a u h.3)
+  Equal_weaken (susp p x) (susp q y) h = (h.0, λ c n. m c x (h.1 c n))
+  Equal_weaken _ _ h = absurd h

@@ -11,11 +11,11 @@ use Rattle.ap_defs.specs.declared.terms.Var.{Var}
 use Rattle.ap_theory.specs.Contexts.{Context, Equal, Fresh}
 use Rattle.ap_theory.specs.Substitutions.{Agrees, Equates, EquatesAll, Freshens, IsInstance, Meets, MeetsSome, Substitution, applied, bound_or_itself, substitution_of}
 use Rattle.ap_theory.proofs.BooleanLemmas.{and_left, and_right}
-use Rattle.ap_theory.proofs.EqualityLemmas.{Equal_itself}
+use Rattle.ap_theory.proofs.EqualityLemmas.{Equal_itself, Fresh_both}
 use Rattle.ap_theory.proofs.LogicLemmas.{iff_both, iff_itself, iff_nothing, iff_same, iff_sym, iff_trans, iff_when}
 use Rattle.ap_theory.proofs.PermutationLemmas.{name_eq_same}
 use Rattle.ap_theory.proofs.ReductionLemmas.{Fresh_reduce, MeetsSome_both}
-use Rattle.ap_theory.proofs.SolvingLemmas.{Equal_both, Fresh_both, Freshens-append, Solves, SolvesEnding, run_Solves}
+use Rattle.ap_theory.proofs.SolvingLemmas.{Equal_both, Freshens-append, Solves, SolvesEnding, run_Solves}
 use Rattle.ap_theory.proofs.SubstitutionLemmas.{applied_congruent, applied_under}
 use Rattle.ap_theory.proofs.TermLemmas.{act_term_none, var_same}
 use Rattle.ap_theory.proofs.TerminationLemmas.{ending_ends}
@@ -39,7 +39,7 @@ module _ (d : Context) (s : Substitution) where
   Freshens_reduce bs h [] = iff_itself
   Freshens_reduce bs h ((a # t) ∷ ps) =
       iff_trans
-      (iff_both (iff_trans (Fresh_both d s a (applied s t) (applied s (under bs t)) (under_Agrees bs h t)) (Fresh_reduce d s a (under bs t))) (Freshens_reduce bs h ps))
+      (iff_both (iff_trans (Fresh_both d a (applied s t) (applied s (under bs t)) (under_Agrees bs h t)) (Fresh_reduce d s a (under bs t))) (Freshens_reduce bs h ps))
       (iff_sym (MeetsSome_both d s (reduce a (under bs t)) (reduce_all bs ps)))
 
   cond_eq_same : (b c : Cond) → cond_eq b c ≡ true → Fresh d b.name (s b.var) ↔ Fresh d c.name (s c.var)

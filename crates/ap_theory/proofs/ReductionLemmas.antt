@@ -1,15 +1,16 @@
 -- The conditions to which a freshness problem reduces are the least under which the name is fresh.
-use Rattle.std.proofs.Common.{◌≡◌, ◌≢◌, ◌⊎◌, List, [], ◌∷◌, ◌++◌, inl, inr, ◌↔◌}
+use Rattle.std.proofs.Common.{◌≡◌, ◌≢◌, ◌⊎◌, List, [], ◌∷◌, ◌++◌, sym, inl, inr, ◌↔◌}
 use Rattle.std.specs.Prelude.{Option, Some, None}
 use Rattle.ap_defs.specs.Freshness.{both, reduce}
 use Rattle.ap_defs.specs.Terms.{NominalTerm, abs, app, name, pair, susp, unit}
 use Rattle.ap_defs.specs.declared.terms.Cond.{Cond}
 use Rattle.ap_defs.specs.declared.terms.Name.{Name}
 use Rattle.ap_theory.specs.Contexts.{Context, Fresh}
-use Rattle.ap_theory.specs.Substitutions.{Meets, MeetsSome, Substitution, applied}
+use Rattle.ap_theory.specs.Substitutions.{Meets, MeetsSome, Substitution, applied, variables}
 use Rattle.ap_theory.proofs.EqualityLemmas.{Fresh_act, act_Fresh}
-use Rattle.ap_theory.proofs.LogicLemmas.{iff_both, iff_itself, iff_nothing, iff_sym, iff_trans}
+use Rattle.ap_theory.proofs.LogicLemmas.{iff_both, iff_itself, iff_nothing, iff_same, iff_sym, iff_trans}
 use Rattle.ap_theory.proofs.PermutationLemmas.{name_tells}
+use Rattle.ap_theory.proofs.SubstitutionLemmas.{applied_variables}
 
 module _ (d : Context) (s : Substitution) where
   pub Meets-append : (cs ds : List Cond) → Meets d s (cs ++ ds) ↔ (Meets d s cs × Meets d s ds)
@@ -43,3 +44,6 @@ module _ (d : Context) (s : Substitution) where
       or_else A n (inl e) = absurd (n e)
       or_else A n (inr h) = h
   Fresh_reduce a (susp p x) = ((λ h. (Fresh_act d p a (s x) h, tt)), (λ h. act_Fresh d p a (s x) h.0))
+
+pub Fresh_reduce_variables : (d : Context) (a : Name) (t : NominalTerm) → Fresh d a t ↔ MeetsSome d variables (reduce a t)
+Fresh_reduce_variables d a t = iff_trans (iff_same (Fresh d a) (sym (applied_variables t))) (Fresh_reduce d variables a t)

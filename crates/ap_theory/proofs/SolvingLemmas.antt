@@ -14,7 +14,7 @@ use Rattle.ap_theory.specs.Contexts.{Context, Equal, Fresh}
 use Rattle.ap_theory.specs.Substitutions.{Agrees, Equates, Freshens, Substitution, applied}
 use Rattle.ap_theory.proofs.BooleanLemmas.{or_cases, or_if_right}
 use Rattle.ap_theory.proofs.DisagreementLemmas.{differing_disagree, disagree_differing, has_front}
-use Rattle.ap_theory.proofs.EqualityLemmas.{Equal_differ, Equal_itself, Equal_move_left, Equal_move_right, Equal_sym, Equal_trans, Fresh_Equal, differ_Equal, size_Equal}
+use Rattle.ap_theory.proofs.EqualityLemmas.{Equal_differ, Equal_itself, Equal_move, Equal_sym, Equal_trans, Fresh_both, differ_Equal, size_Equal}
 use Rattle.ap_theory.proofs.LogicLemmas.{iff_both, iff_itself, iff_nothing, iff_same, iff_trans}
 use Rattle.ap_theory.proofs.PermutationLemmas.{name_eq_same, name_tells}
 use Rattle.ap_theory.proofs.SubstitutionLemmas.{applied_act, applied_congruent, applied_put, single, size_occurs_most}
@@ -45,9 +45,6 @@ module _ (d : Context) (s : Substitution) where
   Equal_flip : (t u : NominalTerm) → Equal d t u ↔ Equal d u t
   Equal_flip t u = (Equal_sym d t u, Equal_sym d u t)
 
-  Equal_move : (p : List Swap) (t u : NominalTerm) → Equal d (act_term p t) u ↔ Equal d t (act_term (inverse p) u)
-  Equal_move p t u = (Equal_move_right d p t u, Equal_move_left d p t u)
-
   -- a suspension and another term
   bind_Holds : (p : List Swap) (x : Var) (u : NominalTerm) → (occurs x u ≡ true → size (s x) < size (applied s u)) → Equal d (act_term p (s x)) (applied s u) ↔ RuleHolds d s (unless_occurs x u (act_term (inverse p) u))
   bind_Holds p x u lt =
@@ -57,7 +54,7 @@ module _ (d : Context) (s : Substitution) where
             let b : size (act_term p (s x)) ≡ size (s x) = size_act_term p (s x) in
             let c : size (s x) < size (applied s u) = lt e in
             omega arith)
-        | false ↦ λ e. iff_trans (Equal_move p (s x) (applied s u)) (iff_same (Equal d (s x)) (sym (applied_act s (inverse p) u)))
+        | false ↦ λ e. iff_trans (Equal_move d p (s x) (applied s u)) (iff_same (Equal d (s x)) (sym (applied_act s (inverse p) u)))
       ] refl
 
   flipped_bind_Holds : (q : List Swap) (y : Var) (t : NominalTerm) → (occurs y t ≡ true → size (s y) < size (applied s t)) → Equal d (applied s t) (act_term q (s y)) ↔ RuleHolds d s (unless_occurs y t (act_term (inverse q) t))
@@ -67,8 +64,8 @@ module _ (d : Context) (s : Substitution) where
   bind_either_Holds : (p : List Swap) (x : Var) (q : List Swap) (y : Var) (b : Bool) → Equal d (act_term p (s x)) (act_term q (s y)) ↔ RuleHolds d s (if b then bind y (susp (inverse q ++ p) x) else bind x (susp (inverse p ++ q) y))
   bind_either_Holds p x q y true =
       iff_trans (Equal_flip (act_term p (s x)) (act_term q (s y)))
-      (iff_trans (Equal_move q (s y) (act_term p (s x))) (iff_same (Equal d (s y)) (sym (act_term-append (inverse q) p (s x)))))
-  bind_either_Holds p x q y false = iff_trans (Equal_move p (s x) (act_term q (s y))) (iff_same (Equal d (s x)) (sym (act_term-append (inverse p) q (s y))))
+      (iff_trans (Equal_move d q (s y) (act_term p (s x))) (iff_same (Equal d (s y)) (sym (act_term-append (inverse q) p (s x)))))
+  bind_either_Holds p x q y false = iff_trans (Equal_move d p (s x) (act_term q (s y))) (iff_same (Equal d (s x)) (sym (act_term-append (inverse p) q (s y))))
 
   Freshens_for : (x : Var) (cs : List Name) → Freshens d s (map (fresh_for x) cs) ↔ ((c : Name) → has_name c cs ≡ true → Fresh d c (s x))
   Freshens_for x [] = ((λ h c m. cc), (λ h. tt))
@@ -143,9 +140,6 @@ module _ (d : Context) (s : Substitution) where
       ((λ e. Equal_trans d v t w (Equal_sym d t v h) (Equal_trans d t u w e k)),
        (λ e. Equal_trans d t v u h (Equal_trans d v w u e (Equal_sym d u w k))))
 
-  pub Fresh_both : (a : Name) (t u : NominalTerm) → Equal d t u → Fresh d a t ↔ Fresh d a u
-  Fresh_both a t u h = (Fresh_Equal d a t u h, Fresh_Equal d a u t (Equal_sym d t u h))
-
   Equal_put_or_itself : (x : Var) (v : NominalTerm) → Equal d (s x) (applied s v) → (y : Var) → Equal d (s y) (applied s (single x v y))
   Equal_put_or_itself x v e y =
       elim (var_eq x y) as (λ b. var_eq x y ≡ b → Equal d (s y) (applied s (if b then v else susp [] y))) [
@@ -165,7 +159,7 @@ module _ (d : Context) (s : Substitution) where
 
   put_Freshens : (x : Var) (v : NominalTerm) → Equal d (s x) (applied s v) → (ps : List Problem) → Freshens d s ps ↔ Freshens d s (map (put_problem x v) ps)
   put_Freshens x v e [] = iff_itself
-  put_Freshens x v e ((a # t) ∷ ps) = iff_both (Fresh_both a (applied s t) (applied s (put x v t)) (put_Equal x v e t)) (put_Freshens x v e ps)
+  put_Freshens x v e ((a # t) ∷ ps) = iff_both (Fresh_both d a (applied s t) (applied s (put x v t)) (put_Equal x v e t)) (put_Freshens x v e ps)
 
   put_Agrees : (x : Var) (v : NominalTerm) → Equal d (s x) (applied s v) → (bs : List Binding) → Agrees d s bs ↔ Agrees d s (map (put_binding x v) bs)
   put_Agrees x v e [] = iff_itself

@@ -3,7 +3,7 @@ use Rattle.std.proofs.Common.{subst, ◌≡◌, ◌≤◌, true, false, List, []
 use Rattle.std.specs.Prelude.{if◌then◌else◌, Option, Some, None}
 use Rattle.ap_defs.specs.Freshness.{var_eq}
 use Rattle.ap_defs.specs.Permutations.{act_name, inverse, swap_of}
-use Rattle.ap_defs.specs.Substitution.{Binding, bound_term, moved, occurs, put, under}
+use Rattle.ap_defs.specs.Substitution.{Binding, bound_term, moved, occurs, put, under, ◌:=◌}
 use Rattle.ap_defs.specs.Terms.{NominalTerm, abs, act_term, app, name, pair, susp, unit}
 use Rattle.ap_defs.specs.Unification.{size}
 use Rattle.ap_defs.specs.declared.terms.Name.{Name}
@@ -13,7 +13,7 @@ use Rattle.ap_theory.specs.Contexts.{Context, Equal, Fresh}
 use Rattle.ap_theory.specs.Substitutions.{Substitution, applied, bound_or_itself, substitution_of, variables}
 use Rattle.ap_theory.proofs.BooleanLemmas.{or_cases, or_if_left, or_if_right}
 use Rattle.ap_theory.proofs.EqualityLemmas.{Equal_act, act_Fresh, differ_Equal}
-use Rattle.ap_theory.proofs.TermLemmas.{act_term-append, act_term_none, same_var, size_act_term, var_same}
+use Rattle.ap_theory.proofs.TermLemmas.{act_term-append, act_term_none, same_var, size_act_term, var_eq_flip, var_same}
 
 -- the action commutes with a substitution
 pub applied_act : (s : Substitution) (p : List Swap) (t : NominalTerm) → applied s (act_term p t) ≡ act_term p (applied s t)
@@ -114,6 +114,13 @@ put_applied x v (app f t) = ap (app f) (put_applied x v t)
 put_applied x v (abs a t) = ap (abs a) (put_applied x v t)
 put_applied x v (susp p y) =
     elim (var_eq x y) as (λ b. (if b then act_term p v else susp p y) ≡ act_term p (if b then v else susp [] y)) [ true ↦ refl | false ↦ ap (λ q. susp q y) (sym (append-nil p)) ]
+
+pub put_substitution : (x : Var) (v t : NominalTerm) → put x v t ≡ applied (substitution_of ((x := v) ∷ [])) t
+put_substitution x v t = put_applied x v t ∙ applied_local (single x v) (substitution_of ((x := v) ∷ [])) t (λ y o.
+    elim (var_eq x y) as (λ b. var_eq x y ≡ b → (if b then v else susp [] y) ≡ substitution_of ((x := v) ∷ []) y) [
+      | true ↦ λ e. sym (ap (λ b. bound_or_itself y (if b then Some v else None)) (var_eq_flip y x ∙ e))
+      | false ↦ λ e. sym (ap (λ b. bound_or_itself y (if b then Some v else None)) (var_eq_flip y x ∙ e))
+    ] refl)
 
 moved_applied : (p : List Swap) (x : Var) (o : Option NominalTerm) → moved p x o ≡ act_term p (bound_or_itself x o)
 moved_applied p x None = ap (λ q. susp q x) (sym (append-nil p))

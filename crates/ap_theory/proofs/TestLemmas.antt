@@ -1,5 +1,5 @@
 -- The tests of freshness and equality under a list of conditions hold just where what they test does.
-use Rattle.std.proofs.Common.{subst, ◌≡◌, true, ◌&&◌, not, List, [], ◌∷◌, refl, sym, ap, ◌∙◌, inl, inr, true≢false, eqb}
+use Rattle.std.proofs.Common.{subst, ◌≡◌, true, ◌&&◌, not, List, [], ◌∷◌, refl, sym, ap, ◌∙◌, inl, inr, true≢false, eqb, ◌↔◌}
 use Rattle.ap_defs.specs.Freshness.{Conds, all_fresh, alpha_under, fresh_under, has_cond, var_eq}
 use Rattle.ap_defs.specs.Permutations.{disagreement, has_name, name_eq, swap_of}
 use Rattle.ap_defs.specs.Terms.{NominalTerm, abs, act_term, app, name, pair, susp, unit}
@@ -76,3 +76,9 @@ Equal_alpha_under ds (abs a t) (abs b u) (inr h) =
 Equal_alpha_under ds (susp p x) (susp q y) h =
     and_both _ _ (same_var x y h.0) (each_all_fresh ds (disagreement p q) x (λ c m. h.1 c (disagree_differing p q c m)))
 Equal_alpha_under ds _ _ h = absurd h
+
+pub fresh_under_iff : (ds : Conds) (a : Name) (t : NominalTerm) → fresh_under ds a t ≡ true ↔ Fresh (listed ds) a t
+fresh_under_iff ds a t = (fresh_under_Fresh ds a t, Fresh_fresh_under ds a t)
+
+pub alpha_under_iff : (ds : Conds) (t u : NominalTerm) → alpha_under ds t u ≡ true ↔ Equal (listed ds) t u
+alpha_under_iff ds t u = (alpha_under_Equal ds t u, Equal_alpha_under ds t u)

@@ -3,3 +3,5 @@ pub mod StatementsOnPermutations
 pub mod StatementsOnGroundTerms
 pub mod StatementsOnUnification
 pub mod Substitutions
+pub mod StatementsOnEquality
+pub mod StatementsOnSubstitution

@@ -4,6 +4,9 @@
 //! lemmas that prove it in `proofs/`, where the crates above can cite them.
 #![tactic(auto)]
 
+pub mod contexts;
+pub mod equality;
 pub mod ground_terms;
 pub mod permutations;
+pub mod substitution;
 pub mod unification;

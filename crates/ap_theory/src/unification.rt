@@ -1,6 +1,9 @@
 //! Laws of nominal unification (Urban, Pitts and Gabbay, "Nominal unification").
 
+ghost use Rattle.ap_theory.specs.StatementsOnSubstitution.{UnificationIsMostGeneral};
 ghost use Rattle.ap_theory.specs.StatementsOnUnification.{EndingAfterAStep, EndingByAnyBound, EndingOfAFailure, EndingOfTheDone, MoreStepsChangeNothing, UnificationEnds, UnificationHasTheInstances, UnificationRespectsEqualPermutations};
+
+use crate::contexts::Conditions;
 
 /// Unification ends: the steps that it allows itself suffice, and more give the same.
 pub fn unification_ends()
@@ -25,4 +28,10 @@ pub fn unification_is_most_general()
 /// conditions.
 pub fn unification_respects_equal_permutations()
     ensures { UnificationRespectsEqualPermutations }
+{}
+
+/// What unification gives has as its instances just the substitutions that solve the equations,
+/// under any set of conditions and into terms with variables.
+pub fn unification_is_most_general_on_terms<D: Conditions>()
+    ensures { UnificationIsMostGeneral D.holds }
 {}
