@@ -1,5 +1,8 @@
 pub mod Permutations
 pub mod Terms
+pub mod RawTerms
+pub mod Types
+pub mod Goals
 pub mod Alpha
 pub mod Freshness
 pub mod Substitution
@@ -8,3 +11,13 @@ pub mod Groundings
 pub mod SameTerm
 pub mod Canonical
 pub mod PathOrder
+pub mod Occurrences
+pub mod Renaming
+pub mod Derivations
+pub mod Resolution
+pub mod Paths
+pub mod Answers
+pub mod Printing
+pub mod Lines
+pub mod Typing
+pub mod GroundProofs

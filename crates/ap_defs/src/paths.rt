@@ -87,10 +87,12 @@ impl Path {
 fn begins_with(front: &[u32], whole: &[u32]) -> bool
     ensures { result ≡ has_prefix front.now whole.now }
 {
-    match (front, whole) {
-        ([], _) => true,
-        ([_, ..], []) => false,
-        ([k, rest @ ..], [j, others @ ..]) => k == j && begins_with(rest, others),
+    match front {
+        [] => true,
+        [k, rest @ ..] => match whole {
+            [] => false,
+            [j, others @ ..] => k == j && begins_with(rest, others),
+        },
     }
 }
 

@@ -77,8 +77,8 @@ within_act_name zero p (v ∷ vs) h l = absurd (omega arith)
 within_act_name (suc n) p vs h l =
     first_act n p (moved_names p) (named_moved p) (moved_named p)
     (λ b m. within_act_name n (swap_of b (act_name p b) ∷ p) (without b vs)
-        (λ c k. has_without b c vs (exchanged_apart p b c k) (h c (exchanged_moves p b c m k)))
-        (let fewer : length (without b vs) < length vs = length_without b vs (h b m) in omega arith))
+    (λ c k. has_without b c vs (exchanged_apart p b c k) (h c (exchanged_moves p b c m k)))
+    (let fewer : length (without b vs) < length vs = length_without b vs (h b m) in omega arith))
 
 pub canonical_act : (p : List Swap) → IsSamePerm (canonical p) p
 unfolding canonical

@@ -21,7 +21,6 @@ equal_unless a b (inl p) h = p
 equal_unless a b (inr n) h = absurd (h n)
 
 module _ (d : Context) where
-
   -- freshness is equivariant
   pub Fresh_act : (π : List Swap) (a : Name) (t : NominalTerm) → Fresh d a (act_term π t) → Fresh d (act_name (inverse π) a) t
   Fresh_act π a unit h = tt
@@ -79,9 +78,9 @@ module _ (d : Context) where
   differ_abs a t π ρ h ih (inr ne) =
       let s = swap_of (act_name π a) (act_name ρ a) in
       let first : Equal d (act_term π t) (act_term (s ∷ ρ) t) =
-          ih π (s ∷ ρ) (λ c n.
-            let ca : c ≢ a = λ p. n (ap (act_name π) p ∙ sym (swap_name_right (act_name π a) (act_name ρ a) (act_name ρ c) (act_sorts π ρ a a refl) (ap (act_name ρ) p))) in
-            not_left ca (h c (differ_step π ρ a c ca ne n (name_decided (act_name π c) (act_name ρ c))))) in
+      ih π (s ∷ ρ) (λ c n.
+      let ca : c ≢ a = λ p. n (ap (act_name π) p ∙ sym (swap_name_right (act_name π a) (act_name ρ a) (act_name ρ c) (act_sorts π ρ a a refl) (ap (act_name ρ) p))) in
+      not_left ca (h c (differ_step π ρ a c ca ne n (name_decided (act_name π c) (act_name ρ c))))) in
       let c0 = act_name (inverse ρ) (act_name π a) in
       let r0 : act_name ρ c0 ≡ act_name π a = act_inverse ρ (act_name π a) in
       let n0 : c0 ≢ a = λ p. ne (sym r0 ∙ ap (act_name ρ) p) in
@@ -108,9 +107,12 @@ module _ (d : Context) where
   Equal_act (app f t) (app g u) π h = (h.0, Equal_act t u π h.1)
   Equal_act (abs a t) (abs b u) π (inl h) = inl (ap (act_name π) h.0, Equal_act t u π h.1)
   Equal_act (abs a t) (abs b u) π (inr h) =
-      inr ((λ p. h.0 (act_injective π a b p)), act_sorts π π a b h.1,
+      inr (
+        (λ p. h.0 (act_injective π a b p)),
+        act_sorts π π a b h.1,
         Equal_same (act_term π t) (act_swap_same π a b u h.1) (Equal_act t (act_term (swap_of a b ∷ []) u) π h.2),
-        act_Fresh_at π (act_name π a) a u (inverse_act π a) h.3)
+        act_Fresh_at π (act_name π a) a u (inverse_act π a) h.3,
+      )
   Equal_act (susp τ x) (susp υ y) π h = (h.0, λ c n. h.1 c (λ p. n (act-append π τ c ∙ ap (act_name π) p ∙ sym (act-append π υ c))))
   Equal_act _ _ π h = absurd h
 
@@ -151,8 +153,11 @@ module _ (d : Context) where
   Equal_trans_abs a b c t u v ih (inr p) (inl q) k =
       inr ((λ r. p.0 (r ∙ sym q.0)), p.1 ∙ ap (λ n. n.sort) q.0, ih (act_term (swap_of a b ∷ []) u) (act_term (swap_of a c ∷ []) v) p.2 (subst (λ z. Equal d (act_term (swap_of a b ∷ []) u) (act_term (swap_of a z ∷ []) v)) q.0 (Equal_act u v (swap_of a b ∷ []) q.1)), Fresh_Equal a u v q.1 p.3)
   Equal_trans_abs a b c t u v ih (inr p) (inr q) (inl r) =
-      inl (r, Equal_same t (act_act_none (swap_of a b ∷ []) (swap_of b c ∷ []) v (λ n. ap (λ z. swap_name (swap_of a b) (swap_name (swap_of b z) n)) (sym r) ∙ ap (swap_name (swap_of a b)) (sym (swap_flip a b n p.1)) ∙ swap_swap (swap_of a b) n))
-        (ih (act_term (swap_of a b ∷ []) u) (act_term (swap_of a b ∷ []) (act_term (swap_of b c ∷ []) v)) p.2 (Equal_act u (act_term (swap_of b c ∷ []) v) (swap_of a b ∷ []) q.2)))
+      inl (
+        r,
+        Equal_same t (act_act_none (swap_of a b ∷ []) (swap_of b c ∷ []) v (λ n. ap (λ z. swap_name (swap_of a b) (swap_name (swap_of b z) n)) (sym r) ∙ ap (swap_name (swap_of a b)) (sym (swap_flip a b n p.1)) ∙ swap_swap (swap_of a b) n))
+            (ih (act_term (swap_of a b ∷ []) u) (act_term (swap_of a b ∷ []) (act_term (swap_of b c ∷ []) v)) p.2 (Equal_act u (act_term (swap_of b c ∷ []) v) (swap_of a b ∷ []) q.2)),
+      )
   Equal_trans_abs a b c t u v ih (inr p) (inr q) (inr n) =
       let fa : Fresh d a v = Fresh_act_at (swap_of b c ∷ []) a a v (swap_other b c a q.1 p.0 n) (Fresh_Equal a u (act_term (swap_of b c ∷ []) v) q.2 p.3) in
       let e2 : Equal d t (act_term (swap_of a b ∷ []) (act_term (swap_of b c ∷ []) v)) = ih (act_term (swap_of a b ∷ []) u) (act_term (swap_of a b ∷ []) (act_term (swap_of b c ∷ []) v)) p.2 (Equal_act u (act_term (swap_of b c ∷ []) v) (swap_of a b ∷ []) q.2) in
@@ -192,10 +197,13 @@ module _ (d : Context) where
       let back : Equal d (act_term (swap_of a b ∷ []) u) t = Equal_sym t (act_term (swap_of a b ∷ []) u) h.2 in
       let far : Equal d (act_term (swap_of a b ∷ []) (act_term (swap_of a b ∷ []) u)) (act_term (swap_of a b ∷ []) t) = Equal_act (act_term (swap_of a b ∷ []) u) t (swap_of a b ∷ []) back in
       let near : Equal d u (act_term (swap_of a b ∷ []) (act_term (swap_of a b ∷ []) u)) = same_are_Equal u (act_term (swap_of a b ∷ []) (act_term (swap_of a b ∷ []) u)) (same_sym (inverse_act_same (swap_of a b ∷ []) u)) in
-      inr ((λ p. h.0 (sym p)), sym h.1,
+      inr (
+        (λ p. h.0 (sym p)),
+        sym h.1,
         Equal_same u (act_same (swap_of a b ∷ []) (swap_of b a ∷ []) (λ n. swap_flip a b n h.1) (same_itself t))
-          (Equal_trans u (act_term (swap_of a b ∷ []) (act_term (swap_of a b ∷ []) u)) (act_term (swap_of a b ∷ []) t) near far),
-        Fresh_Equal b (act_term (swap_of a b ∷ []) u) t back (act_Fresh_at (swap_of a b ∷ []) b a u (swap_name_right a b b h.1 refl) h.3))
+            (Equal_trans u (act_term (swap_of a b ∷ []) (act_term (swap_of a b ∷ []) u)) (act_term (swap_of a b ∷ []) t) near far),
+        Fresh_Equal b (act_term (swap_of a b ∷ []) u) t back (act_Fresh_at (swap_of a b ∷ []) b a u (swap_name_right a b b h.1 refl) h.3),
+      )
   Equal_sym (susp π x) (susp ρ y) h = (sym h.0, λ c n. subst (λ w. d c w) h.0 (h.1 c (λ p. n (sym p))))
   Equal_sym _ _ h = absurd h
 

@@ -93,14 +93,15 @@ module _ (d : Context) (s : Substitution) where
   finish_Solves ds unsolvable k = iff_nothing (λ h. h.1)
   finish_Solves ds (solved r) k =
       let all : IsInstance d s (with_conditions r.bindings (reduce_all r.bindings (map problem_of ds ++ r.problems))) ↔ (Agrees d s r.bindings × Freshens d s (map problem_of ds ++ r.problems)) =
-          IsInstance_reduce r.bindings (map problem_of ds ++ r.problems) in
+      IsInstance_reduce r.bindings (map problem_of ds ++ r.problems) in
       let parts = Freshens-append d s (map problem_of ds) r.problems in
-      let conds = Freshens_conds ds in
-      ((λ h. all.1 (h.1.2, parts.1 (conds.1 h.0, h.1.1))),
-       (λ h.
-         let a = all.0 h in
-         let b = parts.0 a.1 in
-         (conds.0 b.0, (subst (Equates d s) (sym k) tt, b.1, a.0))))
+      let conds = Freshens_conds ds in (
+        (λ h. all.1 (h.1.2, parts.1 (conds.1 h.0, h.1.1))),
+        (λ h.
+            let a = all.0 h in
+            let b = parts.0 a.1 in
+            (conds.0 b.0, (subst (Equates d s) (sym k) tt, b.1, a.0))),
+      )
 
   -- A substitution that meets the conditions, agrees with the bindings and makes each two sides equal is an instance of what
   -- unification gives, and the other way round. Where it gives none, there is no such substitution.

@@ -70,19 +70,21 @@ module _ (d : Context) (s : Substitution) where
   Freshens_for : (x : Var) (cs : List Name) → Freshens d s (map (fresh_for x) cs) ↔ ((c : Name) → has_name c cs ≡ true → Fresh d c (s x))
   Freshens_for x [] = ((λ h c m. cc), (λ h. tt))
   Freshens_for x (b ∷ bs) =
-      let k : Freshens d s (map (fresh_for x) bs) ↔ ((c : Name) → has_name c bs ≡ true → Fresh d c (s x)) = Freshens_for x bs in
-      ((λ h c m. elim (or_cases (name_eq c b) (has_name c bs) m) [
-        | inl e ↦ subst (λ (n : Name). Fresh d n (s x)) (sym (name_eq_same c b e)) (subst (Fresh d b) (act_term_none (s x)) h.0)
-        | inr l ↦ k.0 h.1 c l
-      ]),
-       (λ h. (subst (Fresh d b) (sym (act_term_none (s x))) (h b (has_front b bs)), k.1 (λ c m. h c (or_if_right (name_eq c b) (has_name c bs) m)))))
+      let k : Freshens d s (map (fresh_for x) bs) ↔ ((c : Name) → has_name c bs ≡ true → Fresh d c (s x)) = Freshens_for x bs in (
+        (λ h c m. elim (or_cases (name_eq c b) (has_name c bs) m) [
+          | inl e ↦ subst (λ (n : Name). Fresh d n (s x)) (sym (name_eq_same c b e)) (subst (Fresh d b) (act_term_none (s x)) h.0)
+          | inr l ↦ k.0 h.1 c l
+        ]),
+        (λ h. (subst (Fresh d b) (sym (act_term_none (s x))) (h b (has_front b bs)), k.1 (λ c m. h c (or_if_right (name_eq c b) (has_name c bs) m)))),
+      )
 
   -- two suspensions of one variable
   Equal_disagreement : (p q : List Swap) (x : Var) → Equal d (act_term p (s x)) (act_term q (s x)) ↔ Freshens d s (map (fresh_for x) (disagreement p q))
   Equal_disagreement p q x =
-      let each = Freshens_for x (disagreement p q) in
-      ((λ h. each.1 (λ c m. Equal_differ d (s x) p q h c (disagree_differing p q c m))),
-       (λ h. differ_Equal d (s x) p q (λ c n. each.0 h c (differing_disagree p q c n))))
+      let each = Freshens_for x (disagreement p q) in (
+        (λ h. each.1 (λ c m. Equal_differ d (s x) p q h c (disagree_differing p q c m))),
+        (λ h. differ_Equal d (s x) p q (λ c n. each.0 h c (differing_disagree p q c n))),
+      )
 
   susps_Hold : (p : List Swap) (x : Var) (q : List Swap) (y : Var) → Equal d (act_term p (s x)) (act_term q (s y)) ↔ RuleHolds d s (rule (susp p x) (susp q y))
   susps_Hold p x q y =
@@ -97,9 +99,10 @@ module _ (d : Context) (s : Substitution) where
       elim (name_tells a b) [
         | inl w ↦ rw w.0 ((λ h. elim h [ inl k ↦ ((k.1, tt), tt) | inr k ↦ absurd (k.0 w.1) ]), (λ h. inl (w.1, h.0.0)))
         | inr w ↦ elim (eqb_tells a.sort b.sort) [
-          | inl v ↦ rw (w.0, v.0)
-              ((λ h. elim h [ inl k ↦ absurd (w.1 k.0) | inr k ↦ ((subst (Equal d (applied s t)) (sym (applied_act s (swap_of a b ∷ []) u)) k.2, tt), (k.3, tt)) ]),
-               (λ h. inr (w.1, v.1, subst (Equal d (applied s t)) (applied_act s (swap_of a b ∷ []) u) h.0.0, h.1.0)))
+          | inl v ↦ rw (w.0, v.0) (
+            (λ h. elim h [ inl k ↦ absurd (w.1 k.0) | inr k ↦ ((subst (Equal d (applied s t)) (sym (applied_act s (swap_of a b ∷ []) u)) k.2, tt), (k.3, tt)) ]),
+            (λ h. inr (w.1, v.1, subst (Equal d (applied s t)) (applied_act s (swap_of a b ∷ []) u) h.0.0, h.1.0)),
+          )
           | inr v ↦ rw (w.0, v.0) (iff_nothing (λ h. elim h [ inl k ↦ w.1 k.0 | inr k ↦ v.1 k.1 ]))
         ]
       ]
@@ -136,9 +139,10 @@ module _ (d : Context) (s : Substitution) where
 
   -- equal terms may stand for each other
   pub Equal_both : (t v u w : NominalTerm) → Equal d t v → Equal d u w → Equal d t u ↔ Equal d v w
-  Equal_both t v u w h k =
-      ((λ e. Equal_trans d v t w (Equal_sym d t v h) (Equal_trans d t u w e k)),
-       (λ e. Equal_trans d t v u h (Equal_trans d v w u e (Equal_sym d u w k))))
+  Equal_both t v u w h k = (
+    (λ e. Equal_trans d v t w (Equal_sym d t v h) (Equal_trans d t u w e k)),
+    (λ e. Equal_trans d t v u h (Equal_trans d v w u e (Equal_sym d u w k))),
+  )
 
   Equal_put_or_itself : (x : Var) (v : NominalTerm) → Equal d (s x) (applied s v) → (y : Var) → Equal d (s y) (applied s (single x v y))
   Equal_put_or_itself x v e y =
@@ -181,12 +185,14 @@ module _ (d : Context) (s : Substitution) where
   apply_rule_Solves : (r : Rule) (es : List Equation) (ps : List Problem) (bs : List Binding) (whole : Stage) → (RuleHolds d s r × Equates d s es × Freshens d s ps × Agrees d s bs) ↔ SolvesNext d s whole (apply_rule r es ps bs)
   apply_rule_Solves (replace new qs) es ps bs whole =
       let k = Equates-append new es in
-      let l = Freshens-append ps qs in
-      ((λ h. (k.1 (h.0.0, h.1), l.1 (h.2, h.0.1), h.3)),
-       (λ h. (((k.0 h.0).0, (l.0 h.1).1), (k.0 h.0).1, (l.0 h.1).0, h.2)))
-  apply_rule_Solves (bind x v) es ps bs whole =
-      ((λ h. ((put_Equates x v h.0 es).0 h.1, (put_Freshens x v h.0 ps).0 h.2, (h.0, (put_Agrees x v h.0 bs).0 h.3))),
-       (λ h. (h.2.0, (put_Equates x v h.2.0 es).1 h.0, (put_Freshens x v h.2.0 ps).1 h.1, (put_Agrees x v h.2.0 bs).1 h.2.1)))
+      let l = Freshens-append ps qs in (
+        (λ h. (k.1 (h.0.0, h.1), l.1 (h.2, h.0.1), h.3)),
+        (λ h. (((k.0 h.0).0, (l.0 h.1).1), (k.0 h.0).1, (l.0 h.1).0, h.2)),
+      )
+  apply_rule_Solves (bind x v) es ps bs whole = (
+    (λ h. ((put_Equates x v h.0 es).0 h.1, (put_Freshens x v h.0 ps).0 h.2, (h.0, (put_Agrees x v h.0 bs).0 h.3))),
+    (λ h. (h.2.0, (put_Equates x v h.2.0 es).1 h.0, (put_Freshens x v h.2.0 ps).1 h.1, (put_Agrees x v h.2.0 bs).1 h.2.1)),
+  )
   apply_rule_Solves clash es ps bs whole = iff_nothing (λ h. h.0)
 
   step_Solves : (es : List Equation) (ps : List Problem) (bs : List Binding) → Solves d s (record { equations = es; problems = ps; bindings = bs }) ↔ SolvesNext d s (record { equations = es; problems = ps; bindings = bs }) (step_of es ps bs)

@@ -79,9 +79,10 @@ module _ (d e : Context) (s : Substitution) (m : (c : Name) (x : Var) → d c x 
 pub applied_congruent : (d : Context) (r s : Substitution) (t : NominalTerm) → ((x : Var) → occurs x t ≡ true → Equal d (r x) (s x)) → Equal d (applied r t) (applied s t)
 applied_congruent d r s unit h = tt
 applied_congruent d r s (name a) h = refl
-applied_congruent d r s (pair t u) h =
-    (applied_congruent d r s t (λ x o. h x (or_if_left (occurs x t) (occurs x u) o)),
-     applied_congruent d r s u (λ x o. h x (or_if_right (occurs x t) (occurs x u) o)))
+applied_congruent d r s (pair t u) h = (
+  applied_congruent d r s t (λ x o. h x (or_if_left (occurs x t) (occurs x u) o)),
+  applied_congruent d r s u (λ x o. h x (or_if_right (occurs x t) (occurs x u) o)),
+)
 applied_congruent d r s (app f t) h = (refl, applied_congruent d r s t h)
 applied_congruent d r s (abs a t) h = inl (refl, applied_congruent d r s t h)
 applied_congruent d r s (susp p x) h = Equal_act d (r x) (s x) p (h x (same_var x x refl))

@@ -59,9 +59,10 @@ alpha_under_Equal ds (abs a t) (abs b u) h =
           let m : (fresh_under ds a u && alpha_under ds t moved_u) ≡ true = and_right (eqb a.sort b.sort) _ k in
           inr (w.1, number_same a.sort b.sort (and_left _ (fresh_under ds a u && alpha_under ds t moved_u) k), alpha_under_Equal ds t moved_u (and_right (fresh_under ds a u) _ m), fresh_under_Fresh ds a u (and_left _ (alpha_under ds t moved_u) m))
     ]
-alpha_under_Equal ds (susp p x) (susp q y) h =
-    (var_same x y (and_left _ (all_fresh ds (disagreement p q) x) h),
-     λ c n. all_fresh_each ds (disagreement p q) x (and_right (var_eq x y) _ h) c (differing_disagree p q c n))
+alpha_under_Equal ds (susp p x) (susp q y) h = (
+  var_same x y (and_left _ (all_fresh ds (disagreement p q) x) h),
+  λ c n. all_fresh_each ds (disagreement p q) x (and_right (var_eq x y) _ h) c (differing_disagree p q c n),
+)
 alpha_under_Equal ds _ _ h = absurd (true≢false (sym h))
 
 pub Equal_alpha_under : (ds : Conds) (t u : NominalTerm) → Equal (listed ds) t u → alpha_under ds t u ≡ true
