@@ -2,12 +2,13 @@
 use Rattle.std.proofs.Common.{subst, ◌≡◌, ◌≢◌, ◌<◌, ◌≤◌, ℕ, zero, suc, true, false, ◌||◌, List, [], ◌∷◌, length, refl, sym, ap, ap₂, ◌∙◌, inl, inr, arith, true≢false}
 use Rattle.std.specs.Prelude.{if◌then◌else◌}
 use Rattle.ap_defs.specs.Canonical.{canonical, canonical_within, least, moved_names, num_before, swap_first}
+use Rattle.ap_defs.specs.Occurrences.{without_name}
 use Rattle.ap_defs.specs.Permutations.{IsSamePerm, act_name, has_name, name_eq, names_of, right_name, swap_name, swap_of}
 use Rattle.ap_defs.specs.declared.terms.Name.{Name}
 use Rattle.ap_defs.specs.declared.terms.Swap.{Swap}
 use Rattle.ap_theory.proofs.BooleanLemmas.{or_cases, or_if_left, or_if_right}
 use Rattle.ap_theory.proofs.DisagreementLemmas.{differing_disagree, disagree_differing, disagreement_same, has_front}
-use Rattle.ap_theory.proofs.PermutationLemmas.{act_injective, act_sort, has_without, length_without, name_decided, name_eq_same, same_name_parts, swap_other, swap_right, swap_swap, without}
+use Rattle.ap_theory.proofs.PermutationLemmas.{act_injective, act_sort, has_without_name, length_without_name, name_decided, name_eq_same, same_name_parts, swap_other, swap_right, swap_swap}
 
 moved_same : (p q : List Swap) → IsSamePerm p q → moved_names p ≡ moved_names q
 moved_same p q h = disagreement_same p [] q [] h (λ a. refl)
@@ -76,9 +77,9 @@ within_act_name zero p [] h l = none_moved p (λ c m. true≢false (sym (h c m))
 within_act_name zero p (v ∷ vs) h l = absurd (omega arith)
 within_act_name (suc n) p vs h l =
     first_act n p (moved_names p) (named_moved p) (moved_named p)
-    (λ b m. within_act_name n (swap_of b (act_name p b) ∷ p) (without b vs)
-    (λ c k. has_without b c vs (exchanged_apart p b c k) (h c (exchanged_moves p b c m k)))
-    (let fewer : length (without b vs) < length vs = length_without b vs (h b m) in omega arith))
+    (λ b m. within_act_name n (swap_of b (act_name p b) ∷ p) (without_name b vs)
+    (λ c k. has_without_name b c vs (exchanged_apart p b c k) (h c (exchanged_moves p b c m k)))
+    (let fewer : length (without_name b vs) < length vs = length_without_name b vs (h b m) in omega arith))
 
 pub canonical_act : (p : List Swap) → IsSamePerm (canonical p) p
 unfolding canonical

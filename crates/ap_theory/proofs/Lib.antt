@@ -2,6 +2,7 @@ pub mod BooleanLemmas
 pub mod PermutationLemmas
 pub mod DisagreementLemmas
 pub mod TermLemmas
+pub mod VariableLemmas
 pub mod GroundLemmas
 pub mod SolutionLemmas
 pub mod TerminationLemmas

@@ -2,6 +2,7 @@
 use Rattle.std.proofs.Common.{◌≡◌, ◌≢◌, ◌⊎◌, ◌<◌, ◌≤◌, suc, true, false, ◌||◌, List, [], ◌∷◌, ◌++◌, length, refl, sym, ap, ◌∙◌, inl, inr, arith, true≢false, append_assoc, append-nil}
 use Rattle.std.specs.Prelude.{if◌then◌else◌}
 use Rattle.std.proofs.lemmas.Bool.Decides.{nat_tests}
+use Rattle.ap_defs.specs.Occurrences.{without_name}
 use Rattle.ap_defs.specs.Permutations.{IsSamePerm, act_name, has_name, inverse, left_name, name_eq, right_name, swap_name, swap_of}
 use Rattle.ap_defs.specs.declared.terms.Name.{Name}
 use Rattle.ap_defs.specs.declared.terms.Swap.{Swap}
@@ -109,30 +110,26 @@ pub name_decided : (a b : Name) → (a ≡ b) ⊎ (a ≢ b)
 name_decided a b = elim (name_tells a b) [ inl w ↦ inl w.1 | inr w ↦ inr w.1 ]
 
 -- a list of names without one of them
-abbrev pub without : Name → List Name → List Name
-without a [] = []
-without a (b ∷ bs) = if name_eq a b then without a bs else (b ∷ without a bs)
+length_without_name_most : (a : Name) (bs : List Name) → length (without_name a bs) ≤ length bs
+length_without_name_most a [] = omega arith
+length_without_name_most a (b ∷ bs) =
+    let h = length_without_name_most a bs in
+    elim (name_eq a b) as (λ v. length (if v then without_name a bs else (b ∷ without_name a bs)) ≤ suc (length bs)) [ true ↦ omega arith | false ↦ omega arith ]
 
-length_without_most : (a : Name) (bs : List Name) → length (without a bs) ≤ length bs
-length_without_most a [] = omega arith
-length_without_most a (b ∷ bs) =
-    let h = length_without_most a bs in
-    elim (name_eq a b) as (λ v. length (if v then without a bs else (b ∷ without a bs)) ≤ suc (length bs)) [ true ↦ omega arith | false ↦ omega arith ]
-
-pub length_without : (a : Name) (bs : List Name) → has_name a bs ≡ true → length (without a bs) < length bs
-length_without a [] h = cc
-length_without a (b ∷ bs) h =
-    elim (name_eq a b) as (λ v. (v || has_name a bs) ≡ true → length (if v then without a bs else (b ∷ without a bs)) < suc (length bs)) [
-      | true ↦ λ k. let l = length_without_most a bs in omega arith
-      | false ↦ λ k. let l = length_without a bs k in omega arith
+pub length_without_name : (a : Name) (bs : List Name) → has_name a bs ≡ true → length (without_name a bs) < length bs
+length_without_name a [] h = cc
+length_without_name a (b ∷ bs) h =
+    elim (name_eq a b) as (λ v. (v || has_name a bs) ≡ true → length (if v then without_name a bs else (b ∷ without_name a bs)) < suc (length bs)) [
+      | true ↦ λ k. let l = length_without_name_most a bs in omega arith
+      | false ↦ λ k. let l = length_without_name a bs k in omega arith
     ] h
 
-pub has_without : (a c : Name) (bs : List Name) → c ≢ a → has_name c bs ≡ true → has_name c (without a bs) ≡ true
-has_without a c [] n h = h
-has_without a c (b ∷ bs) n h =
-    elim (name_eq a b) as (λ v. name_eq a b ≡ v → has_name c (if v then without a bs else (b ∷ without a bs)) ≡ true) [
-      | true ↦ λ e. has_without a c bs n (or_right (name_eq c b) (has_name c bs) (not_name c b (λ f. n (f ∙ sym (name_eq_same a b e)))) h)
-      | false ↦ λ e. elim (name_eq c b) as (λ v. (v || has_name c bs) ≡ true → (v || has_name c (without a bs)) ≡ true) [ true ↦ λ l. refl | false ↦ λ l. has_without a c bs n l ] h
+pub has_without_name : (a c : Name) (bs : List Name) → c ≢ a → has_name c bs ≡ true → has_name c (without_name a bs) ≡ true
+has_without_name a c [] n h = h
+has_without_name a c (b ∷ bs) n h =
+    elim (name_eq a b) as (λ v. name_eq a b ≡ v → has_name c (if v then without_name a bs else (b ∷ without_name a bs)) ≡ true) [
+      | true ↦ λ e. has_without_name a c bs n (or_right (name_eq c b) (has_name c bs) (not_name c b (λ f. n (f ∙ sym (name_eq_same a b e)))) h)
+      | false ↦ λ e. elim (name_eq c b) as (λ v. (v || has_name c bs) ≡ true → (v || has_name c (without_name a bs)) ≡ true) [ true ↦ λ l. refl | false ↦ λ l. has_without_name a c bs n l ] h
     ] refl
 
 pub act_sorts : (p q : List Swap) (a b : Name) → a.sort ≡ b.sort → (act_name p a).sort ≡ (act_name q b).sort
