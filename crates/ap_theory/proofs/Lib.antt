@@ -17,3 +17,4 @@ pub mod LogicLemmas
 pub mod ReductionLemmas
 pub mod SolvingLemmas
 pub mod MostGeneralLemmas
+pub mod IdempotenceLemmas
