@@ -22,7 +22,7 @@ is_bound_put : (x : Var) (v : NominalTerm) (y : Var) (bs : List Binding) → is_
 is_bound_put x v y [] = refl
 is_bound_put x v y ((z := t) ∷ bs) = ap (λ b. var_eq y z || b) (is_bound_put x v y bs)
 
-bound_term_unbound : (bs : List Binding) (x : Var) → IsUnbound bs x → bound_term bs x ≡ None
+pub bound_term_unbound : (bs : List Binding) (x : Var) → IsUnbound bs x → bound_term bs x ≡ None
 bound_term_unbound [] x h = refl
 bound_term_unbound ((y := t) ∷ bs) x h =
     let k = or_false (var_eq x y) (is_bound x bs) h in
@@ -141,7 +141,7 @@ equations_unbound bs h (t ∷ ts) [] = tt
 equations_unbound bs h (t ∷ ts) (u ∷ us) = ((under_each bs h t, under_each bs h u), equations_unbound bs h ts us)
 
 -- The conditions of a result.
-abbrev EachSome : (Var → Type 0) → Option (List Cond) → Type 0
+abbrev pub EachSome : (Var → Type 0) → Option (List Cond) → Type 0
 EachSome P None = Unit {0}
 EachSome P (Some cs) = EachCond P cs
 
@@ -163,7 +163,7 @@ module _ (P : Var → Type 0) where
   each_reduce a (abs b t) h = elim (name_eq a b) as (λ v. EachSome P (if v then Some [] else reduce a t)) [ true ↦ tt | false ↦ each_reduce a t h ]
   each_reduce a (susp p x) h = (susp_each P p x h, tt)
 
-  each_reduce_all : (bs : List Binding) (ps : List Problem) → ((t : NominalTerm) → EachVar P t → EachVar P (under bs t)) → EachProblem P ps → EachSome P (reduce_all bs ps)
+  pub each_reduce_all : (bs : List Binding) (ps : List Problem) → ((t : NominalTerm) → EachVar P t → EachVar P (under bs t)) → EachProblem P ps → EachSome P (reduce_all bs ps)
   each_reduce_all bs [] m h = tt
   each_reduce_all bs ((a # t) ∷ ps) m h = each_both (reduce a (under bs t)) (reduce_all bs ps) (each_reduce a (under bs t) (m t h.0)) (each_reduce_all bs ps m h.1)
 
@@ -175,7 +175,7 @@ module _ (P : Var → Type 0) where
         | false ↦ elim (cond_before c b) as (λ v. EachCond P (if v then (c ∷ b ∷ bs) else (b ∷ add_cond c bs))) [ true ↦ (h, k) | false ↦ (k.0, each_add c bs h k.1) ]
       ]
 
-  each_add_all : (cs : List Cond) (ds : Conds) → EachCond P cs → EachCond P ds → EachCond P (add_conds cs ds)
+  pub each_add_all : (cs : List Cond) (ds : Conds) → EachCond P cs → EachCond P ds → EachCond P (add_conds cs ds)
   each_add_all [] ds h k = k
   each_add_all (c ∷ cs) ds h k = each_add c (add_conds cs ds) h.0 (each_add_all cs ds h.1 k)
 

@@ -18,3 +18,4 @@ pub mod ReductionLemmas
 pub mod SolvingLemmas
 pub mod MostGeneralLemmas
 pub mod IdempotenceLemmas
+pub mod OpenSoundnessLemmas

@@ -6,3 +6,4 @@ pub mod Substitutions
 pub mod Variables
 pub mod StatementsOnEquality
 pub mod StatementsOnSubstitution
+pub mod StatementsOnResults

@@ -8,5 +8,6 @@ pub mod contexts;
 pub mod equality;
 pub mod ground_terms;
 pub mod permutations;
+pub mod results;
 pub mod substitution;
 pub mod unification;
