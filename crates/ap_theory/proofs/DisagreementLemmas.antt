@@ -16,7 +16,7 @@ act_unnamed (s ∷ p) c h =
     let l = or_false (name_eq c (right_name s)) (has_name c (names_of p)) k.1 in
     ap (swap_name s) (act_unnamed p c l.1) ∙ swap_name_fixes s c k.0 l.0
 
-has_name-append : (c : Name) (as' bs : List Name) → has_name c (as' ++ bs) ≡ (has_name c as' || has_name c bs)
+pub has_name-append : (c : Name) (as' bs : List Name) → has_name c (as' ++ bs) ≡ (has_name c as' || has_name c bs)
 has_name-append c [] bs = refl
 has_name-append c (a ∷ as') bs = elim (name_eq c a) as (λ v. (v || has_name c (as' ++ bs)) ≡ ((v || has_name c as') || has_name c bs)) [ true ↦ refl | false ↦ has_name-append c as' bs ]
 

@@ -111,10 +111,11 @@ ExtendsIn first (solved r) = Extends first r.bindings
 
 module _ (first : List Binding) where
   extends_bind : (x : Var) (v : NominalTerm) (bs : List Binding) → IsUnbound bs x → EachVar (IsUnbound bs) v → occurs x v ≡ false → Extends first bs → Extends first (bound_in x v bs)
-  extends_bind x v bs u k e h =
-      (idempotent_bind x v bs u k e h.0,
-       (λ t. under_bind x v bs u (under first t) ∙ ap (put x v) (h.1 t) ∙ sym (under_bind x v bs u t)),
-       (λ y b. or_if_right (var_eq y x) (is_bound y (map (put_binding x v) bs)) (is_bound_put x v y bs ∙ h.2 y b)))
+  extends_bind x v bs u k e h = (
+    idempotent_bind x v bs u k e h.0,
+    (λ t. under_bind x v bs u (under first t) ∙ ap (put x v) (h.1 t) ∙ sym (under_bind x v bs u t)),
+    (λ y b. or_if_right (var_eq y x) (is_bound y (map (put_binding x v) bs)) (is_bound_put x v y bs ∙ h.2 y b)),
+  )
 
   after_extends : (k m : ℕ) → ((r : Stage) → EachEquation (IsUnbound r.bindings) r.equations → Extends first r.bindings → ExtendsIn first (run k r))
       → (r : Rule) (es : List Equation) (ps : List Problem) (bs : List Binding) (whole : Stage) → Shrinks (IsUnbound bs) m r → EachEquation (IsUnbound bs) es → Extends first bs → ExtendsIn first (after (run k) whole (apply_rule r es ps bs))

@@ -19,3 +19,4 @@ pub mod SolvingLemmas
 pub mod MostGeneralLemmas
 pub mod IdempotenceLemmas
 pub mod OpenSoundnessLemmas
+pub mod ExchangeLemmas

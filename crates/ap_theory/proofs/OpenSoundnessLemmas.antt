@@ -32,24 +32,27 @@ agrees_itself : (d : Context) (bs cs : List Binding) → ((y : Var) → is_bound
 agrees_itself d bs [] m h o = tt
 agrees_itself d bs ((x := t) ∷ cs) m h o =
     let here : substitution_of bs x ≡ t = m x (or_if_left (var_eq x x) (is_bound x cs) (same_var x x refl)) ∙ ap (λ (b : Bool). bound_or_itself x (if b then Some t else bound_term cs x)) (same_var x x refl) in
-    let same : applied (substitution_of bs) t ≡ t = sym (under_applied bs t) ∙ under_unbound bs t h.0 in
-    (subst (λ (z : NominalTerm). Equal d z (applied (substitution_of bs) t)) (sym here) (subst (λ (z : NominalTerm). Equal d t z) (sym same) (Equal_itself d t)),
-     agrees_itself d bs cs
-     (λ y b. m y (or_if_right (var_eq y x) (is_bound y cs) b)
-         ∙ ap (λ (c : Bool). bound_or_itself y (if c then Some t else bound_term cs y)) (not_var y x (λ e. true≢false (sym b ∙ ap (λ z. is_bound z cs) e ∙ o.0))))
-     h.1 o.1)
+    let same : applied (substitution_of bs) t ≡ t = sym (under_applied bs t) ∙ under_unbound bs t h.0 in (
+      subst (λ (z : NominalTerm). Equal d z (applied (substitution_of bs) t)) (sym here) (subst (λ (z : NominalTerm). Equal d t z) (sym same) (Equal_itself d t)),
+      agrees_itself d bs cs
+          (λ y b. m y (or_if_right (var_eq y x) (is_bound y cs) b)
+          ∙ ap (λ (c : Bool). bound_or_itself y (if c then Some t else bound_term cs y)) (not_var y x (λ e. true≢false (sym b ∙ ap (λ z. is_bound z cs) e ∙ o.0))))
+          h.1 o.1,
+    )
 
 meets_itself : (bs : List Binding) (ds cs : Conds) → ((c : Cond) → has_cond c cs ≡ true → has_cond c ds ≡ true) → EachCond (IsUnbound bs) cs → Meets (listed ds) (substitution_of bs) cs
 meets_itself bs ds [] m h = tt
-meets_itself bs ds (c ∷ cs) m h =
-    (subst (λ (z : NominalTerm). Fresh (listed ds) c.name z) (sym (ap (bound_or_itself c.var) (bound_term_unbound bs c.var h.0))) (m c (or_if_left (cond_eq c c) (has_cond c cs) (cond_eq_itself c))),
-     meets_itself bs ds cs (λ b k. m b (or_if_right (cond_eq b c) (has_cond b cs) k)) h.1)
+meets_itself bs ds (c ∷ cs) m h = (
+  subst (λ (z : NominalTerm). Fresh (listed ds) c.name z) (sym (ap (bound_or_itself c.var) (bound_term_unbound bs c.var h.0))) (m c (or_if_left (cond_eq c c) (has_cond c cs) (cond_eq_itself c))),
+  meets_itself bs ds cs (λ b k. m b (or_if_right (cond_eq b c) (has_cond b cs) k)) h.1,
+)
 
 -- a result that is idempotent and has conditions on unbound variables is its own instance
 pub result_itself : (r : Unified) → IsIdempotent r.bindings → EachCond (IsUnbound r.bindings) r.conditions → IsInstance (listed r.conditions) (substitution_of r.bindings) (Some r)
-result_itself r h k =
-    (agrees_itself (listed r.conditions) r.bindings r.bindings (λ y b. refl) h.0 h.1,
-     meets_itself r.bindings r.conditions r.conditions (λ c m. m) k)
+result_itself r h k = (
+  agrees_itself (listed r.conditions) r.bindings r.bindings (λ y b. refl) h.0 h.1,
+  meets_itself r.bindings r.conditions r.conditions (λ c m. m) k,
+)
 
 abbrev SolvesItself : List Binding → Conds → List NominalTerm → List NominalTerm → Option Unified → Type 0
 SolvesItself bs ds ts us None = Unit {0}

@@ -7,3 +7,5 @@ pub mod Variables
 pub mod StatementsOnEquality
 pub mod StatementsOnSubstitution
 pub mod StatementsOnResults
+pub mod Exchanges
+pub mod StatementsOnExchanges

@@ -6,6 +6,7 @@
 
 pub mod contexts;
 pub mod equality;
+pub mod exchanges;
 pub mod ground_terms;
 pub mod permutations;
 pub mod results;
