@@ -2,10 +2,11 @@
 use Rattle.std.proofs.Common.{subst, ◌≡◌, ◌≢◌, Bool, true, false, ◌&&◌, ◌||◌, not, List, [], ◌∷◌, ◌++◌, refl, sym, ap, ap₂, ◌∙◌, inl, inr, arith, true≢false}
 use Rattle.std.specs.Prelude.{if◌then◌else◌}
 use Rattle.std.proofs.lemmas.Bool.Decides.{nat_tests}
+use Rattle.std.specs.List.{list_all}
 use Rattle.ap_defs.specs.Permutations.{IsSamePerm, act_name, add_name, differing, disagreement, has_name, left_name, name_before, name_eq, names_of, right_name, swap_name}
 use Rattle.ap_defs.specs.declared.terms.Name.{Name}
 use Rattle.ap_defs.specs.declared.terms.Swap.{Swap}
-use Rattle.ap_theory.proofs.BooleanLemmas.{and_false, or_and_absorb, or_and_distribute, or_cases, or_false, or_swap, or_twice, same_test}
+use Rattle.ap_theory.proofs.BooleanLemmas.{and_both, and_false, and_left, and_right, or_and_absorb, or_and_distribute, or_cases, or_false, or_if_right, or_swap, or_twice, same_test}
 use Rattle.ap_theory.proofs.PermutationLemmas.{name_decided, name_eq_itself, name_eq_same, name_tells, not_name, swap_name_fixes}
 
 -- a permutation fixes what it doesn't mention
@@ -161,3 +162,16 @@ disagreement_empty p q h c =
       | inl e ↦ e
       | inr n ↦ absurd (true≢false (sym (differing_disagree p q c n) ∙ ap (has_name c) h))
     ]
+
+-- a test of each member of a list
+pub list_all_each : (f : Name → Bool) (cs : List Name) → list_all f cs ≡ true → (c : Name) → has_name c cs ≡ true → f c ≡ true
+list_all_each f [] h c m = cc
+list_all_each f (b ∷ bs) h c m =
+    elim (or_cases (name_eq c b) (has_name c bs) m) [
+      | inl e ↦ ap f (name_eq_same c b e) ∙ and_left (f b) (list_all f bs) h
+      | inr k ↦ list_all_each f bs (and_right (f b) (list_all f bs) h) c k
+    ]
+
+pub each_list_all : (f : Name → Bool) (cs : List Name) → ((c : Name) → has_name c cs ≡ true → f c ≡ true) → list_all f cs ≡ true
+each_list_all f [] h = refl
+each_list_all f (b ∷ bs) h = and_both (f b) (list_all f bs) (h b (has_front b bs)) (each_list_all f bs (λ c m. h c (or_if_right (name_eq c b) (has_name c bs) m)))

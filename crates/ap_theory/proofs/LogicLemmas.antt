@@ -1,5 +1,6 @@
 -- Facts that follow from each other.
-use Rattle.std.proofs.Common.{subst, ◌≡◌, sym, ◌↔◌}
+use Rattle.std.proofs.Common.{subst, ◌≡◌, Bool, true, ◌&&◌, sym, ◌↔◌}
+use Rattle.ap_theory.proofs.BooleanLemmas.{and_both, and_left, and_right, same_test}
 
 pub iff_itself : {A : Type 0} → A ↔ A
 iff_itself = ((λ a. a), (λ a. a))
@@ -22,3 +23,10 @@ iff_nothing h = (h, (λ e. absurd e))
 
 pub iff_same : {A : Type 0} (P : A → Type 0) {a b : A} → a ≡ b → P a ↔ P b
 iff_same P e = (subst P e, subst P (sym e))
+
+-- tests that are true of the same are equal
+pub same_if : {x y : Bool} → (x ≡ true ↔ y ≡ true) → x ≡ y
+same_if {x} {y} h = same_test x y h.0 h.1
+
+pub and_iff : (x y : Bool) → (x && y) ≡ true ↔ ((x ≡ true) × (y ≡ true))
+and_iff x y = ((λ h. (and_left x y h, and_right x y h)), (λ h. and_both x y h.0 h.1))

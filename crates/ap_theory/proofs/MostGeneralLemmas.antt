@@ -4,7 +4,7 @@ use Rattle.std.specs.Prelude.{if◌then◌else◌, Option, Some, None}
 use Rattle.ap_defs.specs.Freshness.{Conds, add_cond, add_conds, cond_before, cond_eq, reduce, var_eq}
 use Rattle.ap_defs.specs.Permutations.{name_eq}
 use Rattle.ap_defs.specs.Substitution.{Binding, Problem, bound_term, under, ◌#◌, ◌:=◌}
-use Rattle.ap_defs.specs.Terms.{NominalTerm}
+use Rattle.ap_defs.specs.Terms.{NominalTerm, name}
 use Rattle.ap_defs.specs.Unification.{Ending, ending, equations_of, finish, first_stage, problem_of, reduce_all, solved, steps_for, unfinished, unify, unsolvable, with_conditions}
 use Rattle.ap_defs.specs.declared.terms.Cond.{Cond}
 use Rattle.ap_defs.specs.declared.terms.Var.{Var}
@@ -18,8 +18,7 @@ use Rattle.ap_theory.proofs.ReductionLemmas.{Fresh_reduce, MeetsSome_both}
 use Rattle.ap_theory.proofs.SolvingLemmas.{Equal_both, Freshens-append, Solves, SolvesEnding, run_Solves}
 use Rattle.ap_theory.proofs.SubstitutionLemmas.{applied_congruent, applied_under}
 use Rattle.ap_theory.proofs.TermLemmas.{act_term_none, var_same}
-use Rattle.ap_theory.proofs.TerminationLemmas.{ending_ends}
-use Rattle.ap_theory.proofs.UnificationLemmas.{IsSpent, run_spent}
+use Rattle.ap_theory.proofs.TerminationLemmas.{IsSpent, ending_ends, run_spent}
 
 module _ (d : Context) (s : Substitution) where
   bound_Equal : (bs : List Binding) → Agrees d s bs → (x : Var) → Equal d (s x) (applied s (substitution_of bs x))

@@ -279,3 +279,22 @@ ending_bound s k l = run_more (steps_for s) k s l (ending_ends s)
 
 pub ending_any : (s : Stage) (k : ℕ) → run k s ≢ unfinished → run k s ≡ ending s
 ending_any s k n = sym (ending_by k s (finished_ended (run k s) n))
+
+-- A run that ends with a solution has no equation left.
+abbrev pub IsSpent : Ending → Type 0
+IsSpent unfinished = Unit {0}
+IsSpent unsolvable = Unit {0}
+IsSpent (solved s) = s.equations ≡ []
+
+spent_rule : (k : ℕ) (r : Rule) (es : List Equation) (ps : List Problem) (s : List Binding) (whole : Stage) → ((s' : Stage) → IsSpent (run k s')) → IsSpent (after (run k) whole (apply_rule r es ps s))
+spent_rule k (replace new qs) es ps s whole go = go _
+spent_rule k (bind x v) es ps s whole go = go _
+spent_rule k clash es ps s whole go = tt
+
+spent_step : (k : ℕ) (es : List Equation) (ps : List Problem) (s : List Binding) → ((s' : Stage) → IsSpent (run k s')) → IsSpent (run (suc k) (record { equations = es; problems = ps; bindings = s }))
+spent_step k [] ps s go = refl
+spent_step k ((t ≐ u) ∷ es) ps s go = spent_rule k (rule t u) es ps s (record { equations = (t ≐ u) ∷ es; problems = ps; bindings = s }) go
+
+pub run_spent : (k : ℕ) (s : Stage) → IsSpent (run k s)
+run_spent zero s = tt
+run_spent (suc k) s = spent_step k s.equations s.problems s.bindings (run_spent k)

@@ -1,4 +1,4 @@
-use Rattle.ap_theory.proofs.ConditionLemmas.{alpha_under_sound, fresh_under_sound}
+use Rattle.ap_theory.proofs.GroundingLemmas.{alpha_under_sound, fresh_under_sound}
 use Rattle.ap_theory.proofs.TestLemmas.{alpha_under_iff, fresh_under_iff}
 use Rattle.ap_theory.proofs.equality.tests_under_conditions.Goals as goal
 

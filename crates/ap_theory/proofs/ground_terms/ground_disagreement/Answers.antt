@@ -1,4 +1,4 @@
-use Rattle.ap_theory.proofs.SolutionLemmas.{alpha_act_act, alpha_swap_fresh}
+use Rattle.ap_theory.proofs.GroundLemmas.{alpha_act_act, alpha_swap_fresh}
 use Rattle.ap_theory.proofs.ground_terms.ground_disagreement.Goals as goal
 
 pub returns-clause-differ : goal.returns-clause-differ

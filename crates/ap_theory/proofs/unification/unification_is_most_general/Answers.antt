@@ -1,4 +1,4 @@
-use Rattle.ap_theory.proofs.UnificationLemmas.{unify_instances}
+use Rattle.ap_theory.proofs.GroundingLemmas.{unify_instances}
 use Rattle.ap_theory.proofs.unification.unification_is_most_general.Goals as goal
 
 pub returns : goal.returns
