@@ -30,10 +30,6 @@ pub and_false : (x : Bool) → (x && false) ≡ false
 and_false true = refl
 and_false false = refl
 
-pub and_assoc : (x y z : Bool) → ((x && y) && z) ≡ (x && (y && z))
-and_assoc true y z = refl
-and_assoc false y z = refl
-
 pub or_cases : (x y : Bool) → (x || y) ≡ true → (x ≡ true) ⊎ (y ≡ true)
 or_cases true y h = inl refl
 or_cases false y h = inr h
@@ -45,15 +41,6 @@ or_false false y h = (refl, h)
 pub false_if_not : (x : Bool) → (x ≡ true → ⊥) → x ≡ false
 false_if_not true h = absurd (h refl)
 false_if_not false h = refl
-
-pub and_twice : (x y : Bool) → (x && y) ≡ (x && (x && y))
-and_twice true y = refl
-and_twice false y = refl
-
-pub and_exchange : (x y z : Bool) → (x && (y && z)) ≡ (y && (x && z))
-and_exchange true y z = refl
-and_exchange false true z = refl
-and_exchange false false z = refl
 
 pub or_swap : (a b c : Bool) → (a || (b || c)) ≡ (b || (a || c))
 or_swap true true c = refl
@@ -71,14 +58,6 @@ or_and_distribute false y z h = refl
 pub or_and_absorb : (x y z : Bool) → (x ≡ true → z ≡ false) → (y && z) ≡ ((x || y) && z)
 or_and_absorb true y z h = ap (λ v. y && v) (h refl) ∙ and_false y ∙ sym (h refl)
 or_and_absorb false y z h = refl
-
-pub and_when : (x y z : Bool) → (x ≡ true → y ≡ z) → (x && y) ≡ (x && z)
-and_when true y z h = h refl
-and_when false y z h = refl
-
-pub and_rotate : (m f a : Bool) → (m && (f && a)) ≡ (a && (m && f))
-and_rotate m f true = ap (λ x. m && x) (and_true f)
-and_rotate m f false = ap (λ x. m && x) (and_false f) ∙ and_false m
 
 pub or_if_left : (x y : Bool) → x ≡ true → (x || y) ≡ true
 or_if_left x y h = ap (λ v. v || y) h

@@ -6,7 +6,8 @@ use Rattle.std.specs.List.{list_all}
 use Rattle.ap_defs.specs.Permutations.{IsSamePerm, act_name, add_name, differing, disagreement, has_name, left_name, name_before, name_eq, names_of, right_name, swap_name}
 use Rattle.ap_defs.specs.declared.terms.Name.{Name}
 use Rattle.ap_defs.specs.declared.terms.Swap.{Swap}
-use Rattle.ap_theory.proofs.BooleanLemmas.{and_both, and_false, and_left, and_right, or_and_absorb, or_and_distribute, or_cases, or_false, or_if_right, or_swap, or_twice, same_test}
+use Rattle.ap_theory.proofs.BooleanLemmas.{and_both, and_false, and_left, and_right, or_and_absorb, or_and_distribute, or_cases, or_false, or_if_right}
+use Rattle.ap_theory.proofs.OrderedLemmas.{IsAscending, IsOrder, add, ascending_add, has, member_add, same_ascending}
 use Rattle.ap_theory.proofs.PermutationLemmas.{name_decided, name_eq_itself, name_eq_same, name_tells, not_name, swap_name_fixes}
 
 -- a permutation fixes what it doesn't mention
@@ -28,90 +29,49 @@ differing_named p q c n =
       | false ↦ λ e. let k = or_false (has_name c (names_of p)) (has_name c (names_of q)) (sym (has_name-append c (names_of p) (names_of q)) ∙ e) in absurd (n (act_unnamed p c k.0 ∙ sym (act_unnamed q c k.1)))
     ] refl
 
--- Ascending lists with the same members are equal.
-abbrev Above : Name → List Name → Type 0
-Above a bs = (c : Name) → has_name c bs ≡ true → name_before a c ≡ true
-
-abbrev IsAscending : List Name → Type 0
-IsAscending [] = Unit {0}
-IsAscending (a ∷ as') = Above a as' × IsAscending as'
-
-before_trans : (a b c : Name) → name_before a b ≡ true → name_before b c ≡ true → name_before a c ≡ true
-unfolding name_before
-before_trans a b c h k = grind (arith, nat_tests)
-
-before_irrefl : (a : Name) → name_before a a ≡ true → ⊥
-unfolding name_before
-before_irrefl a h = grind (arith, nat_tests)
-
-before_total : (a b : Name) → name_eq a b ≡ false → name_before a b ≡ false → name_before b a ≡ true
+-- Names by sort and number.
+names_ordered : IsOrder name_eq name_before
 unfolding name_before name_eq
-before_total a b h k = grind (arith, nat_tests)
+names_ordered = record {
+  tells = name_eq_same;
+  itself = name_eq_itself;
+  trans = λ a b c h k. grind (arith, nat_tests);
+  irreflexive = λ a h. grind (arith, nat_tests);
+  total = λ a b h k. grind (arith, nat_tests);
+}
+
+pub has_name_has : (c : Name) (bs : List Name) → has_name c bs ≡ has name_eq name_before c bs
+has_name_has c [] = refl
+has_name_has c (b ∷ bs) = ap (λ x. name_eq c b || x) (has_name_has c bs)
+
+add_name_add : (a : Name) (bs : List Name) → add_name a bs ≡ add name_eq name_before a bs
+add_name_add a [] = refl
+add_name_add a (b ∷ bs) = ap (λ cs. if name_eq a b then (b ∷ bs) else (if name_before a b then (a ∷ b ∷ bs) else (b ∷ cs))) (add_name_add a bs)
+
+abbrev AreAscending : List Name → Type 0
+AreAscending as' = IsAscending name_eq name_before as'
 
 pub has_add : (c a : Name) (bs : List Name) → has_name c (add_name a bs) ≡ (name_eq c a || has_name c bs)
-has_add c a [] = refl
-has_add c a (b ∷ bs) =
-    elim (name_eq a b) as (λ v. name_eq a b ≡ v → has_name c (if v then (b ∷ bs) else (if name_before a b then (a ∷ b ∷ bs) else (b ∷ add_name a bs))) ≡ (name_eq c a || (name_eq c b || has_name c bs))) [
-      | true ↦ λ e. or_twice (name_eq c b) (has_name c bs) ∙ ap (λ x. name_eq c x || (name_eq c b || has_name c bs)) (sym (name_eq_same a b e))
-      | false ↦ λ e. elim (name_before a b) as (λ v. has_name c (if v then (a ∷ b ∷ bs) else (b ∷ add_name a bs)) ≡ (name_eq c a || (name_eq c b || has_name c bs))) [
-        | true ↦ refl
-        | false ↦ ap (λ x. name_eq c b || x) (has_add c a bs) ∙ or_swap (name_eq c b) (name_eq c a) (has_name c bs)
-      ]
-    ] refl
+has_add c a bs =
+    has_name_has c (add_name a bs) ∙ ap (has name_eq name_before c) (add_name_add a bs) ∙ member_add name_eq name_before names_ordered c a bs
+    ∙ ap (λ x. name_eq c a || x) (sym (has_name_has c bs))
 
-ascending_add : (a : Name) (bs : List Name) → IsAscending bs → IsAscending (add_name a bs)
-ascending_add a [] h = (λ c k. cc, tt)
-ascending_add a (b ∷ bs) h =
-    elim (name_eq a b) as (λ v. name_eq a b ≡ v → IsAscending (if v then (b ∷ bs) else (if name_before a b then (a ∷ b ∷ bs) else (b ∷ add_name a bs)))) [
-      | true ↦ λ e. h
-      | false ↦ λ e. elim (name_before a b) as (λ v. name_before a b ≡ v → IsAscending (if v then (a ∷ b ∷ bs) else (b ∷ add_name a bs))) [
-        | true ↦ λ k. (λ c m. elim (or_cases (name_eq c b) (has_name c bs) m) [ inl i ↦ ap (name_before a) (name_eq_same c b i) ∙ k | inr i ↦ before_trans a b c k (h.0 c i) ], h)
-        | false ↦ λ k. (λ c m. elim (or_cases (name_eq c a) (has_name c bs) (sym (has_add c a bs) ∙ m)) [ inl i ↦ ap (name_before b) (name_eq_same c a i) ∙ before_total a b e k | inr i ↦ h.0 c i ], ascending_add a bs h.1)
-      ] refl
-    ] refl
-
-abbrev SameMembers : List Name → List Name → Type 0
-SameMembers as' bs = (c : Name) → has_name c as' ≡ has_name c bs
+ascending_add_name : (a : Name) (bs : List Name) → AreAscending bs → AreAscending (add_name a bs)
+ascending_add_name a bs h = subst AreAscending (sym (add_name_add a bs)) (ascending_add name_eq name_before names_ordered a bs h)
 
 pub has_front : (a : Name) (bs : List Name) → has_name a (a ∷ bs) ≡ true
 has_front a bs = ap (λ x. x || has_name a bs) (name_eq_itself a)
 
--- two first members are equal
-same_front : (a : Name) (as' : List Name) (b : Name) (bs : List Name) → Above a as' → Above b bs → SameMembers (a ∷ as') (b ∷ bs) → a ≡ b
-same_front a as' b bs h k m =
-    elim (or_cases (name_eq a b) (has_name a bs) (sym (m a) ∙ has_front a as')) [
-      | inl e ↦ name_eq_same a b e
-      | inr e ↦ elim (or_cases (name_eq b a) (has_name b as') (m b ∙ has_front b bs)) [
-        | inl f ↦ sym (name_eq_same b a f)
-        | inr f ↦ absurd (before_irrefl a (before_trans a b a (h b f) (k a e)))
-      ]
-    ]
+-- ascending lists of names with the same members are equal
+pub same_names : (as' bs : List Name) → AreAscending as' → AreAscending bs → ((c : Name) → has_name c as' ≡ has_name c bs) → as' ≡ bs
+same_names as' bs h k m = same_ascending name_eq name_before names_ordered as' bs h k (λ c. sym (has_name_has c as') ∙ m c ∙ has_name_has c bs)
 
-same_later : (a : Name) (as' bs : List Name) → Above a as' → Above a bs → SameMembers (a ∷ as') (a ∷ bs) → SameMembers as' bs
-same_later a as' bs h k m c =
-    elim (name_tells c a) [
-      | inl w ↦ same_test _ _
-          (λ i. absurd (before_irrefl a (ap (name_before a) (sym w.1) ∙ h c i)))
-          (λ i. absurd (before_irrefl a (ap (name_before a) (sym w.1) ∙ k c i)))
-      | inr w ↦ sym (ap (λ x. x || has_name c as') w.0) ∙ m c ∙ ap (λ x. x || has_name c bs) w.0
-    ]
-
-pub same_ascending : (as' bs : List Name) → IsAscending as' → IsAscending bs → SameMembers as' bs → as' ≡ bs
-same_ascending [] [] h k m = refl
-same_ascending [] (b ∷ bs) h k m = absurd (true≢false (sym (m b ∙ has_front b bs)))
-same_ascending (a ∷ as') [] h k m = absurd (true≢false (sym (has_front a as') ∙ m a))
-same_ascending (a ∷ as') (b ∷ bs) h k m =
-    let e = same_front a as' b bs h.0 k.0 m in
-    let f : SameMembers (a ∷ as') (a ∷ bs) = subst (λ (x : Name). SameMembers (a ∷ as') (x ∷ bs)) (sym e) m in
-    let g : Above a bs = subst (λ (x : Name). Above x bs) (sym e) k.0 in
-    ap₂ ◌∷◌ e (same_ascending as' bs h.1 k.1 (same_later a as' bs h.0 g f))
-
-ascending_differing : (p q : List Swap) (cs : List Name) → IsAscending (differing p q cs)
+ascending_differing : (p q : List Swap) (cs : List Name) → AreAscending (differing p q cs)
 ascending_differing p q [] = tt
 ascending_differing p q (c ∷ cs) =
-    elim (name_eq (act_name p c) (act_name q c)) as (λ v. IsAscending (if v then differing p q cs else add_name c (differing p q cs))) [
+    elim (name_eq (act_name p c) (act_name q c)) as (λ v. AreAscending (if v then differing p q cs else add_name c (differing p q cs))) [
       | true ↦ ascending_differing p q cs
-      | false ↦ ascending_add c (differing p q cs) (ascending_differing p q cs)
+      | false ↦ ascending_add_name c (differing p q cs) (ascending_differing p q cs)
     ]
 
 abbrev differs : List Swap → List Swap → Name → Bool
@@ -140,7 +100,7 @@ has_disagreement p q c =
 -- equal permutations differ on the same names, in one order
 pub disagreement_same : (p q r s : List Swap) → IsSamePerm p r → IsSamePerm q s → disagreement p q ≡ disagreement r s
 disagreement_same p q r s h k =
-    same_ascending (disagreement p q) (disagreement r s)
+    same_names (disagreement p q) (disagreement r s)
     (ascending_differing p q (names_of p ++ names_of q)) (ascending_differing r s (names_of r ++ names_of s))
     (λ c. has_disagreement p q c ∙ ap₂ (λ x y. not (name_eq x y)) (h c) (k c) ∙ sym (has_disagreement r s c))
 
@@ -153,7 +113,7 @@ disagree_differing p q c h e = true≢false (sym h ∙ has_disagreement p q c �
 -- equal permutations differ on no name, and those that differ on none are equal
 pub disagreement_none : (p q : List Swap) → IsSamePerm p q → disagreement p q ≡ []
 disagreement_none p q h =
-    same_ascending (disagreement p q) [] (ascending_differing p q (names_of p ++ names_of q)) tt
+    same_names (disagreement p q) [] (ascending_differing p q (names_of p ++ names_of q)) tt
     (λ c. has_disagreement p q c ∙ ap not (ap (λ x. name_eq x (act_name q c)) (h c) ∙ name_eq_itself (act_name q c)))
 
 pub disagreement_empty : (p q : List Swap) → disagreement p q ≡ [] → IsSamePerm p q

@@ -1,5 +1,6 @@
 pub mod LogicLemmas
 pub mod BooleanLemmas
+pub mod OrderedLemmas
 pub mod PermutationLemmas
 pub mod DisagreementLemmas
 pub mod CanonicalLemmas
