@@ -65,3 +65,11 @@ or_if_left x y h = ap (λ v. v || y) h
 pub or_if_right : (x y : Bool) → y ≡ true → (x || y) ≡ true
 or_if_right true y h = refl
 or_if_right false y h = h
+
+pub or_assoc : (x y z : Bool) → ((x || y) || z) ≡ (x || (y || z))
+or_assoc true y z = refl
+or_assoc false y z = refl
+
+pub or_nothing : (x : Bool) → (x || false) ≡ x
+or_nothing true = refl
+or_nothing false = refl

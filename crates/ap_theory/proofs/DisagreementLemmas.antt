@@ -11,7 +11,7 @@ use Rattle.ap_theory.proofs.OrderedLemmas.{IsAscending, IsOrder, add, ascending_
 use Rattle.ap_theory.proofs.PermutationLemmas.{name_decided, name_eq_itself, name_eq_same, name_tells, not_name, swap_name_fixes}
 
 -- a permutation fixes what it doesn't mention
-act_unnamed : (p : List Swap) (c : Name) → has_name c (names_of p) ≡ false → act_name p c ≡ c
+pub act_unnamed : (p : List Swap) (c : Name) → has_name c (names_of p) ≡ false → act_name p c ≡ c
 act_unnamed [] c h = refl
 act_unnamed (s ∷ p) c h =
     let k = or_false (name_eq c (left_name s)) (name_eq c (right_name s) || has_name c (names_of p)) h in

@@ -132,9 +132,10 @@ alpha_differ_iff p q t =
 
 pub alpha_act_act : (p q : List Swap) (t : GroundTerm) → alpha (act_ground p t) (act_ground q t) ≡ list_all (λ c. fresh c t) (disagreement p q)
 alpha_act_act p q t =
-    same_if (iff_trans (alpha_differ_iff p q t)
-    ((λ h. each_list_all (λ c. fresh c t) (disagreement p q) (λ c m. h c (disagree_differing p q c m))),
-     (λ h c n. list_all_each (λ c. fresh c t) (disagreement p q) h c (differing_disagree p q c n))))
+    same_if (iff_trans (alpha_differ_iff p q t) (
+      (λ h. each_list_all (λ c. fresh c t) (disagreement p q) (λ c m. h c (disagree_differing p q c m))),
+      (λ h c n. list_all_each (λ c. fresh c t) (disagreement p q) h c (differing_disagree p q c n)),
+    ))
 
 -- swapping two fresh names changes nothing up to equality
 pub alpha_swap_fresh : (a b : Name) (t : GroundTerm) → a.sort ≡ b.sort → fresh a t ≡ true → fresh b t ≡ true → alpha (act_ground (swap_of a b ∷ []) t) t ≡ true

@@ -1,5 +1,5 @@
 -- A grounding is a substitution of ground terms, so that what is proved of substitutions holds of groundings.
-use Rattle.std.proofs.Common.{◌≡◌, Bool, true, false, ◌&&◌, List, [], ◌∷◌, refl, sym, ap, ap₂, ◌∙◌, inl, inr, true≢false, ◌↔◌}
+use Rattle.std.proofs.Common.{◌≡◌, true, ◌&&◌, List, [], ◌∷◌, refl, sym, ap, ap₂, ◌∙◌, inl, inr, true≢false, ◌↔◌}
 use Rattle.std.specs.Prelude.{Option, Some, None}
 use Rattle.ap_defs.specs.Alpha.{alpha, fresh}
 use Rattle.ap_defs.specs.Freshness.{Conds, add_cond, add_conds, alpha_under, cond_eq, fresh_under, has_cond, reduce, var_eq}
@@ -13,6 +13,7 @@ use Rattle.ap_defs.specs.declared.terms.Name.{Name}
 use Rattle.ap_defs.specs.declared.terms.Swap.{Swap}
 use Rattle.ap_defs.specs.declared.terms.Var.{Var}
 use Rattle.ap_theory.specs.Contexts.{Equal, Fresh, listed}
+use Rattle.ap_theory.specs.StatementsOnGroundings.{meets_some}
 use Rattle.ap_theory.specs.Substitutions.{Agrees, EquatesAll, IsInstance, Meets, MeetsSome, Substitution, applied}
 use Rattle.ap_theory.proofs.BooleanLemmas.{and_left, and_right, or_cases}
 use Rattle.ap_theory.proofs.GroundLemmas.{act_ground-append, alpha_iff, embed, embed_act, fresh_iff, none}
@@ -44,11 +45,6 @@ embed_grounded g (pair t u) = ap₂ pair (embed_grounded g t) (embed_grounded g 
 embed_grounded g (app f t) = ap (app f) (embed_grounded g t)
 embed_grounded g (abs a t) = ap (abs a) (embed_grounded g t)
 embed_grounded g (susp p x) = embed_act p (g x)
-
--- the grounding meets the conditions, where there are some
-abbrev pub met : Grounding → Option (List Cond) → Bool
-met g None = false
-met g (Some cs) = meets g cs
 
 module _ (g : Grounding) where
   pub fresh_grounded : (a : Name) (t : NominalTerm) → fresh a (grounded g t) ≡ true ↔ Fresh none a (applied (embedded g) t)
@@ -93,12 +89,12 @@ module _ (g : Grounding) where
   under_alpha bs h t = (alpha_grounded t (under bs t)).1 (under_Agrees none (embedded g) bs ((agrees_iff bs).0 h) t)
 
   -- a problem holds just where the conditions are met to which it reduces
-  pub reduce_met : (a : Name) (t : NominalTerm) → fresh a (grounded g t) ≡ met g (reduce a t)
-  reduce_met a t = same_if (iff_trans (fresh_grounded a t) (iff_trans (Fresh_reduce none (embedded g) a t) (iff_sym (met_iff (reduce a t)))))
+  pub fresh_reduce : (a : Name) (t : NominalTerm) → fresh a (grounded g t) ≡ meets_some g (reduce a t)
+  fresh_reduce a t = same_if (iff_trans (fresh_grounded a t) (iff_trans (Fresh_reduce none (embedded g) a t) (iff_sym (meets_some_iff (reduce a t)))))
     where
-      met_iff : (o : Option (List Cond)) → met g o ≡ true ↔ MeetsSome none (embedded g) o
-      met_iff None = iff_nothing (λ h. true≢false (sym h))
-      met_iff (Some cs) = meets_iff cs
+      meets_some_iff : (o : Option (List Cond)) → meets_some g o ≡ true ↔ MeetsSome none (embedded g) o
+      meets_some_iff None = iff_nothing (λ h. true≢false (sym h))
+      meets_some_iff (Some cs) = meets_iff cs
 
   pub meets_add : (c : Cond) (ds : Conds) → meets g (add_cond c ds) ≡ (fresh c.name (g c.var) && meets g ds)
   meets_add c ds =

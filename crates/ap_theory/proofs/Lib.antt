@@ -6,6 +6,7 @@ pub mod DisagreementLemmas
 pub mod CanonicalLemmas
 pub mod ExchangeLemmas
 pub mod TermLemmas
+pub mod ConditionSetLemmas
 pub mod VariableLemmas
 pub mod SameTermLemmas
 pub mod TerminationLemmas

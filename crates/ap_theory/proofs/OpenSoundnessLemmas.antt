@@ -2,7 +2,6 @@
 use Rattle.std.proofs.Common.{subst, ◌≡◌, ◌+◌, ℕ, zero, suc, Bool, true, false, List, [], ◌∷◌, ◌++◌, map, refl, sym, ap, ap₂, ◌∙◌, true≢false}
 use Rattle.std.specs.Prelude.{if◌then◌else◌, Option, Some, None}
 use Rattle.ap_defs.specs.Freshness.{Conds, alpha_under, cond_eq, fresh_under, has_cond, var_eq}
-use Rattle.ap_defs.specs.Permutations.{name_eq}
 use Rattle.ap_defs.specs.Substitution.{Binding, Equation, Problem, bound_term, moved, put_binding, under, ◌:=◌, ◌≐◌}
 use Rattle.ap_defs.specs.Terms.{NominalTerm, abs, app, name, pair, susp, unit}
 use Rattle.ap_defs.specs.Unification.{Ending, Rule, Stage, Unified, after, apply_rule, bind, clash, ending, equations_of, finish, first_stage, problem_of, reduce_all, replace, rule, run, size, solved, steps_for, unfinished, unify, unsolvable, with_conditions}
@@ -17,15 +16,11 @@ use Rattle.ap_theory.proofs.BooleanLemmas.{and_both, or_if_left, or_if_right}
 use Rattle.ap_theory.proofs.EqualityLemmas.{Equal_itself}
 use Rattle.ap_theory.proofs.IdempotenceLemmas.{EachSome, ExtendsWell, bound_term_unbound, each_add_all, each_reduce_all, under_unbound, unify_extends}
 use Rattle.ap_theory.proofs.MostGeneralLemmas.{unify_Solves}
-use Rattle.ap_theory.proofs.PermutationLemmas.{name_eq_itself}
 use Rattle.ap_theory.proofs.SubstitutionLemmas.{under_applied}
-use Rattle.ap_theory.proofs.TermLemmas.{act_term_none, same_var}
+use Rattle.ap_theory.proofs.TermLemmas.{act_term_none, cond_eq_itself, same_var}
 use Rattle.ap_theory.proofs.TerminationLemmas.{Shrinks, rule_shrinks}
 use Rattle.ap_theory.proofs.TestLemmas.{Equal_alpha_under, Fresh_fresh_under}
 use Rattle.ap_theory.proofs.VariableLemmas.{EachEquation, EachProblem, each_act, each_equation-append, each_equation_put, each_left, each_pair, each_problem-append, each_problem_put, each_put, each_right, each_susp, not_var, susp_each}
-
-cond_eq_itself : (c : Cond) → cond_eq c c ≡ true
-cond_eq_itself c = and_both (var_eq c.var c.var) (name_eq c.name c.name) (same_var c.var c.var refl) (name_eq_itself c.name)
 
 -- idempotent bindings agree with themselves
 agrees_itself : (d : Context) (bs cs : List Binding) → ((y : Var) → is_bound y cs ≡ true → substitution_of bs y ≡ substitution_of cs y) → BindsUnbound bs cs → BindsOnce cs → Agrees d (substitution_of bs) cs

@@ -153,3 +153,6 @@ swaps_other a b c n e f k l =
 pub inverse-append : (p q : List Swap) → inverse (p ++ q) ≡ inverse q ++ inverse p
 inverse-append [] q = sym (append-nil (inverse q))
 inverse-append (s ∷ p) q = ap (λ r. r ++ s ∷ []) (inverse-append p q) ∙ append_assoc (inverse q) (inverse p) (s ∷ [])
+
+pub name_eq_moved : (p : List Swap) (a b : Name) → name_eq a (act_name p b) ≡ name_eq (act_name (inverse p) a) b
+name_eq_moved p a b = ap (λ x. name_eq x (act_name p b)) (sym (act_inverse p a)) ∙ name_eq_act p (act_name (inverse p) a) b

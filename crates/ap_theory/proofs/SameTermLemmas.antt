@@ -1,6 +1,7 @@
 -- What unification does with terms that count as equal counts as equal.
-use Rattle.std.proofs.Common.{subst, ◌≡◌, ◌+◌, ℕ, zero, suc, true, false, ◌||◌, List, [], ◌∷◌, ◌++◌, map, refl, sym, ap, ap₂, ◌∙◌, arith}
+use Rattle.std.proofs.Common.{subst, ◌≡◌, ◌+◌, ℕ, zero, suc, true, false, ◌||◌, List, [], ◌∷◌, ◌++◌, map, refl, sym, ap, ap₂, ◌∙◌, arith, ◌↔◌}
 use Rattle.std.specs.Prelude.{if◌then◌else◌, nat_lt, ◌==◌, Option, Some, None}
+use Rattle.ap_defs.specs.Canonical.{canonical_term}
 use Rattle.ap_defs.specs.Freshness.{Conds, both, reduce, var_eq}
 use Rattle.ap_defs.specs.Permutations.{IsSamePerm, act_name, disagreement, inverse, name_eq, swap_of}
 use Rattle.ap_defs.specs.SameTerm.{SameBindings, SameEnding, SameEquations, SameProblems, SameRule, SameStage, SameTerm, SameTerms, SameUnified, next_binding, next_equation, next_problem, next_term, no_bindings, no_equations, no_problems, no_terms, same_abs, same_app, same_bind, same_clash, same_name, same_pair, same_replace, same_susp, same_unit}
@@ -11,6 +12,7 @@ use Rattle.ap_defs.specs.declared.terms.Cond.{Cond}
 use Rattle.ap_defs.specs.declared.terms.Name.{Name}
 use Rattle.ap_defs.specs.declared.terms.Swap.{Swap}
 use Rattle.ap_defs.specs.declared.terms.Var.{Var}
+use Rattle.ap_theory.proofs.CanonicalLemmas.{canonical_act, canonical_same}
 use Rattle.ap_theory.proofs.DisagreementLemmas.{disagreement_same}
 use Rattle.ap_theory.proofs.PermutationLemmas.{act-append, act_inverse, act_swap, append_same, inverse_act, inverse_same}
 use Rattle.ap_theory.proofs.TermLemmas.{act_term-append, act_term_none}
@@ -235,3 +237,34 @@ act_inverse_same p t = act_act_none p (inverse p) t (λ a. act-append p (inverse
 pub act_swap_same : (p : List Swap) (a b : Name) (t : NominalTerm) → a.sort ≡ b.sort
     → SameTerm (act_term p (act_term (swap_of a b ∷ []) t)) (act_term (swap_of (act_name p a) (act_name p b) ∷ []) (act_term p t))
 act_swap_same p a b t e = act_act_same p (swap_of a b ∷ []) (swap_of (act_name p a) (act_name p b) ∷ []) p t (λ c. act-append p (swap_of a b ∷ []) c ∙ act_swap p a b c e)
+
+pub same_trans : {t u v : NominalTerm} → SameTerm t u → SameTerm u v → SameTerm t v
+same_trans same_unit same_unit = same_unit
+same_trans same_name same_name = same_name
+same_trans (same_pair h i) (same_pair j k) = same_pair (same_trans h j) (same_trans i k)
+same_trans (same_app h) (same_app i) = same_app (same_trans h i)
+same_trans (same_abs h) (same_abs i) = same_abs (same_trans h i)
+same_trans (same_susp h) (same_susp i) = same_susp (λ a. h a ∙ i a)
+
+-- Terms with canonical lists.
+pub canonical_term_same : (t : NominalTerm) → SameTerm (canonical_term t) t
+canonical_term_same unit = same_unit
+canonical_term_same (name a) = same_name
+canonical_term_same (pair t u) = same_pair (canonical_term_same t) (canonical_term_same u)
+canonical_term_same (app f t) = same_app (canonical_term_same t)
+canonical_term_same (abs a t) = same_abs (canonical_term_same t)
+canonical_term_same (susp p x) = same_susp (canonical_act p)
+
+pub same_canonical_term : {t u : NominalTerm} → SameTerm t u → canonical_term t ≡ canonical_term u
+same_canonical_term same_unit = refl
+same_canonical_term same_name = refl
+same_canonical_term (same_pair h i) = ap₂ pair (same_canonical_term h) (same_canonical_term i)
+same_canonical_term (same_app {f} h) = ap (app f) (same_canonical_term h)
+same_canonical_term (same_abs {a} h) = ap (abs a) (same_canonical_term h)
+same_canonical_term (same_susp {p} {q} {x} h) = ap (λ r. susp r x) (canonical_same p q h)
+
+pub same_iff_canonical : (t u : NominalTerm) → SameTerm t u ↔ (canonical_term t ≡ canonical_term u)
+same_iff_canonical t u = (
+  (λ h. same_canonical_term h),
+  (λ e. same_trans (same_sym (canonical_term_same t)) (subst (λ (z : NominalTerm). SameTerm z u) (sym e) (canonical_term_same u))),
+)

@@ -1,13 +1,16 @@
 -- Laws of nominal terms: action, variables, size.
 use Rattle.std.proofs.Common.{◌≡◌, ◌+◌, ◌≤◌, ℕ, true, ◌||◌, List, [], ◌++◌, refl, ap, ap₂, arith, eqb, append_assoc}
 use Rattle.std.proofs.lemmas.Bool.Decides.{nat_tests}
-use Rattle.ap_defs.specs.Freshness.{var_eq}
+use Rattle.ap_defs.specs.Freshness.{cond_eq, var_eq}
+use Rattle.ap_defs.specs.Permutations.{name_eq}
 use Rattle.ap_defs.specs.Substitution.{occurs}
 use Rattle.ap_defs.specs.Terms.{NominalTerm, abs, act_term, app, name, pair, susp, unit}
 use Rattle.ap_defs.specs.Unification.{size}
+use Rattle.ap_defs.specs.declared.terms.Cond.{Cond}
 use Rattle.ap_defs.specs.declared.terms.Swap.{Swap}
 use Rattle.ap_defs.specs.declared.terms.Var.{Var}
-use Rattle.ap_theory.proofs.PermutationLemmas.{act-append}
+use Rattle.ap_theory.proofs.BooleanLemmas.{and_both}
+use Rattle.ap_theory.proofs.PermutationLemmas.{act-append, name_eq_itself}
 
 pub var_same : (x y : Var) → var_eq x y ≡ true → x ≡ y
 var_same x y h = grind (arith, nat_tests)
@@ -63,3 +66,6 @@ number_same m n h = grind (arith, nat_tests)
 
 pub same_number : (m n : ℕ) → m ≡ n → eqb m n ≡ true
 same_number m n h = grind (arith, nat_tests)
+
+pub cond_eq_itself : (c : Cond) → cond_eq c c ≡ true
+cond_eq_itself c = and_both (var_eq c.var c.var) (name_eq c.name c.name) (same_var c.var c.var refl) (name_eq_itself c.name)

@@ -9,3 +9,5 @@ pub mod StatementsOnSubstitution
 pub mod StatementsOnResults
 pub mod Exchanges
 pub mod StatementsOnExchanges
+pub mod StatementsOnConditions
+pub mod StatementsOnGroundings

@@ -1,8 +1,7 @@
 -- What is proved of freshness and equality under any set of conditions.
 use Rattle.std.specs.Prelude.{◌≡◌, true, List, [], ◌∷◌, ◌↔◌}
-use Rattle.ap_defs.specs.Alpha.{alpha, fresh}
+use Rattle.ap_defs.specs.Canonical.{canonical_term}
 use Rattle.ap_defs.specs.Freshness.{Conds, alpha_under, fresh_under}
-use Rattle.ap_defs.specs.Groundings.{Grounding, grounded, meets}
 use Rattle.ap_defs.specs.Permutations.{act_name, inverse, swap_of}
 use Rattle.ap_defs.specs.SameTerm.{SameTerm}
 use Rattle.ap_defs.specs.Terms.{NominalTerm, act_term}
@@ -65,9 +64,9 @@ FreshnessIsTested = (ds : Conds) (a : Name) (t : NominalTerm) → fresh_under ds
 abbrev pub EqualityIsTested : Type 0
 EqualityIsTested = (ds : Conds) (t u : NominalTerm) → alpha_under ds t u ≡ true ↔ Equal (listed ds) t u
 
--- what follows from conditions holds of each grounding that meets them
-abbrev pub FreshnessIsSound : Type 0
-FreshnessIsSound = (g : Grounding) (ds : Conds) → meets g ds ≡ true → (a : Name) (t : NominalTerm) → fresh_under ds a t ≡ true → fresh a (grounded g t) ≡ true
+-- terms that differ only in how permutations are listed have one form with canonical lists
+abbrev pub SameWhereCanonicalIsOne : Type 0
+SameWhereCanonicalIsOne = (t u : NominalTerm) → SameTerm t u ↔ (canonical_term t ≡ canonical_term u)
 
-abbrev pub EqualityIsSound : Type 0
-EqualityIsSound = (g : Grounding) (ds : Conds) → meets g ds ≡ true → (t u : NominalTerm) → alpha_under ds t u ≡ true → alpha (grounded g t) (grounded g u) ≡ true
+abbrev pub CanonicalTermIsSame : Type 0
+CanonicalTermIsSame = (t : NominalTerm) → SameTerm (canonical_term t) t

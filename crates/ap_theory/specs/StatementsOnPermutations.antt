@@ -1,5 +1,5 @@
 -- What is proved of permutations, as lists of swappings.
-use Rattle.std.specs.Prelude.{◌≡◌, ◌≢◌, true, not, List, [], ◌++◌}
+use Rattle.std.specs.Prelude.{◌≡◌, ◌≢◌, true, false, not, List, [], ◌++◌}
 use Rattle.ap_defs.specs.Canonical.{canonical}
 use Rattle.ap_defs.specs.Permutations.{IsSamePerm, act_name, disagreement, has_name, inverse, name_eq, names_of, swap_name, swap_of}
 use Rattle.ap_defs.specs.declared.terms.Name.{Name}
@@ -23,6 +23,18 @@ InverseIsUndone = (p : List Swap) (a : Name) → act_name p (act_name (inverse p
 
 abbrev pub InversesOfEqualsAreEqual : Type 0
 InversesOfEqualsAreEqual = (p q : List Swap) → IsSamePerm p q → IsSamePerm (inverse p) (inverse q)
+
+abbrev pub UnmentionedIsFixed : Type 0
+UnmentionedIsFixed = (p : List Swap) (a : Name) → has_name a (names_of p) ≡ false → act_name p a ≡ a
+
+abbrev pub SwappingUndoesItself : Type 0
+SwappingUndoesItself = (s : Swap) (a : Name) → swap_name s (swap_name s a) ≡ a
+
+abbrev pub SwappingFlips : Type 0
+SwappingFlips = (a b c : Name) → a.sort ≡ b.sort → swap_name (swap_of a b) c ≡ swap_name (swap_of b a) c
+
+abbrev pub SwappingOfOneName : Type 0
+SwappingOfOneName = (a c : Name) → swap_name (swap_of a a) c ≡ c
 
 -- p (a b) is (p a  p b) p, for names of one sort
 abbrev pub SwappingIsConjugated : Type 0

@@ -2,7 +2,7 @@
 use Rattle.std.specs.Prelude.{◌≡◌, Bool, true, ◌&&◌, List, [], ◌∷◌, Some}
 use Rattle.ap_defs.specs.Freshness.{Conds, alpha_under, fresh_under}
 use Rattle.ap_defs.specs.Substitution.{Binding, under}
-use Rattle.ap_defs.specs.Terms.{NominalTerm, name, susp}
+use Rattle.ap_defs.specs.Terms.{NominalTerm, susp}
 use Rattle.ap_defs.specs.Unification.{Unified, unify}
 use Rattle.ap_defs.specs.declared.terms.Var.{Var}
 use Rattle.ap_theory.specs.Variables.{EachBinding, EachCond, EachTerm, IsIdempotent, IsUnbound, is_bound}

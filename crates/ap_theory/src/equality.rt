@@ -1,6 +1,6 @@
 //! Laws of freshness and equality of terms with variables, under any set of conditions.
 
-ghost use Rattle.ap_theory.specs.StatementsOnEquality.{DisagreementDecides, EqualityIsEquivariant, EqualityIsReflexive, EqualityIsSound, EqualityIsSymmetric, EqualityIsTested, EqualityIsTransitive, EqualityKeepsFreshness, EqualityRespectsEqualPermutations, EqualityWeakens, FreshNamesSwap, FreshnessIsEquivariant, FreshnessIsSound, FreshnessIsTested, FreshnessOfTheMoved, FreshnessRespectsEqualPermutations, FreshnessWeakens, PermutationsMoveAcross};
+ghost use Rattle.ap_theory.specs.StatementsOnEquality.{CanonicalTermIsSame, DisagreementDecides, EqualityIsEquivariant, EqualityIsReflexive, EqualityIsSymmetric, EqualityIsTested, EqualityIsTransitive, EqualityKeepsFreshness, EqualityRespectsEqualPermutations, EqualityWeakens, FreshNamesSwap, FreshnessIsEquivariant, FreshnessIsTested, FreshnessOfTheMoved, FreshnessRespectsEqualPermutations, FreshnessWeakens, PermutationsMoveAcross, SameWhereCanonicalIsOne};
 
 use crate::contexts::Conditions;
 
@@ -39,11 +39,14 @@ pub fn more_conditions<D: Conditions, E: Conditions>()
     ensures equal { EqualityWeakens D.holds E.holds }
 {}
 
-/// The tests under a list of conditions are true just where what they test follows from the list,
-/// and what they find is true of each grounding that meets the list.
+/// The tests under a list of conditions are true just where what they test follows from the list.
 pub fn tests_under_conditions()
     ensures fresh { FreshnessIsTested }
     ensures equal { EqualityIsTested }
-    ensures fresh_sound { FreshnessIsSound }
-    ensures equal_sound { EqualityIsSound }
+{}
+
+/// Terms that differ only in how permutations are listed are those with one canonical form.
+pub fn canonical_terms()
+    ensures one { SameWhereCanonicalIsOne }
+    ensures same { CanonicalTermIsSame }
 {}

@@ -4,10 +4,12 @@
 //! lemmas that prove it in `proofs/`, where the crates above can cite them.
 #![tactic(auto)]
 
+pub mod conditions;
 pub mod contexts;
 pub mod equality;
 pub mod exchanges;
 pub mod ground_terms;
+pub mod groundings;
 pub mod permutations;
 pub mod results;
 pub mod substitution;

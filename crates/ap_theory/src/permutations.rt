@@ -1,6 +1,6 @@
 //! Laws of permutations, given as lists of swappings of which the last acts first.
 
-ghost use Rattle.ap_theory.specs.StatementsOnPermutations.{ActionComposes, ActionIsInjective, ActionKeepsSorts, CanonicalListIsEqual, CanonicalListIsItsOwn, CanonicalListMentionsTheMoved, DisagreementIsWhole, EqualsDisagreeAlike, EqualsDoNotDisagree, EqualsHaveOneCanonicalList, InverseIsUndone, InverseUndoes, InversesOfEqualsAreEqual, SwappingIsConjugated, WhatDoesNotDisagreeIsEqual};
+ghost use Rattle.ap_theory.specs.StatementsOnPermutations.{ActionComposes, ActionIsInjective, ActionKeepsSorts, CanonicalListIsEqual, CanonicalListIsItsOwn, CanonicalListMentionsTheMoved, DisagreementIsWhole, EqualsDisagreeAlike, EqualsDoNotDisagree, EqualsHaveOneCanonicalList, InverseIsUndone, InverseUndoes, InversesOfEqualsAreEqual, SwappingFlips, SwappingIsConjugated, SwappingOfOneName, SwappingUndoesItself, UnmentionedIsFixed, WhatDoesNotDisagreeIsEqual};
 
 /// Two lists in a row act one after the other.
 pub fn composition()
@@ -14,6 +14,14 @@ pub fn bijection()
     ensures undoes { InverseUndoes }
     ensures undone { InverseIsUndone }
     ensures inverses { InversesOfEqualsAreEqual }
+    ensures fixed { UnmentionedIsFixed }
+{}
+
+/// A swapping undoes itself, may be written either way round, and with one name does nothing.
+pub fn swapping()
+    ensures undoes { SwappingUndoesItself }
+    ensures flips { SwappingFlips }
+    ensures one { SwappingOfOneName }
 {}
 
 /// A permutation carries a swapping over to the images of its names.

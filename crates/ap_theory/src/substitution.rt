@@ -1,6 +1,6 @@
 //! Laws of substitutions. A binder may capture.
 
-ghost use Rattle.ap_theory.specs.StatementsOnSubstitution.{BindingsAreASubstitution, OccurringIsNoLonger, PuttingIsASubstitution, PuttingLeavesTheAbsent, ReductionIsLeast, ReductionIsLeastOfAll, SubstitutionCommutes, SubstitutionIsCongruent, SubstitutionIsLocal, SubstitutionKeepsEquality, SubstitutionKeepsFreshness, SubstitutionsCompose, VariablesAreIdentity};
+ghost use Rattle.ap_theory.specs.StatementsOnSubstitution.{BindingsAreASubstitution, OccurringIsNoLonger, PuttingIsASubstitution, PuttingLeavesTheAbsent, SubstitutionCommutes, SubstitutionIsCongruent, SubstitutionIsLocal, SubstitutionKeepsEquality, SubstitutionKeepsFreshness, SubstitutionsCompose, VariablesAreIdentity};
 
 use crate::contexts::Conditions;
 
@@ -34,11 +34,4 @@ pub fn substitution_keeps_conditions<D: Conditions, E: Conditions>()
 /// Substitutions that are equal on the variables of a term make equal terms of it.
 pub fn substitution_is_congruent<D: Conditions>()
     ensures { SubstitutionIsCongruent D.holds }
-{}
-
-/// A freshness problem reduces to the least set of conditions from which it follows, also under
-/// any substitution. Where it does not reduce it never follows.
-pub fn reduction_is_least<D: Conditions>()
-    ensures under { ReductionIsLeast D.holds }
-    ensures least { ReductionIsLeastOfAll D.holds }
 {}

@@ -1,3 +1,4 @@
+use Rattle.ap_theory.proofs.DisagreementLemmas.{act_unnamed}
 use Rattle.ap_theory.proofs.PermutationLemmas.{act_injective, act_inverse, act_sort, inverse_act, inverse_same}
 use Rattle.ap_theory.proofs.permutations.bijection.Goals as goal
 
@@ -15,3 +16,6 @@ returns-clause-undone c = act_inverse
 
 pub returns-clause-inverses : goal.returns-clause-inverses
 returns-clause-inverses c = inverse_same
+
+pub returns-clause-fixed : goal.returns-clause-fixed
+returns-clause-fixed c = act_unnamed

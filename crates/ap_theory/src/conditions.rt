@@ -1,0 +1,27 @@
+//! Laws of sets of conditions, and of reducing freshness problems to them.
+
+ghost use Rattle.ap_theory.specs.StatementsOnConditions.{AddedConditionsAreIn, ConditionsAreASet, ReductionCommutesWithBindings, ReductionMovesAcross, RefutedWhereFree};
+ghost use Rattle.ap_theory.specs.StatementsOnSubstitution.{ReductionIsLeast, ReductionIsLeastOfAll};
+
+use crate::contexts::Conditions;
+
+/// A set of conditions is determined by its members, in whatever order they are collected.
+pub fn conditions_are_a_set()
+    ensures added { AddedConditionsAreIn }
+    ensures set { ConditionsAreASet }
+{}
+
+/// A freshness problem reduces to the least set of conditions from which it follows, also under
+/// any substitution. Where it does not reduce it never follows.
+pub fn reduction_is_least<D: Conditions>()
+    ensures under { ReductionIsLeast D.holds }
+    ensures least { ReductionIsLeastOfAll D.holds }
+{}
+
+/// A problem is refuted just where its name is free in the term. Reducing commutes with permutations
+/// and with bindings.
+pub fn reduction_refutes()
+    ensures free { RefutedWhereFree }
+    ensures moves { ReductionMovesAcross }
+    ensures bindings { ReductionCommutesWithBindings }
+{}
