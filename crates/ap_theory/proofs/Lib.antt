@@ -18,5 +18,6 @@ pub mod SolvingLemmas
 pub mod MostGeneralLemmas
 pub mod IdempotenceLemmas
 pub mod OpenSoundnessLemmas
+pub mod RefusalLemmas
 pub mod GroundLemmas
 pub mod GroundingLemmas

@@ -1,8 +1,9 @@
 -- What is proved of the result of unification.
-use Rattle.std.specs.Prelude.{◌≡◌, Bool, true, ◌&&◌, List, [], ◌∷◌, Some}
-use Rattle.ap_defs.specs.Freshness.{Conds, alpha_under, fresh_under}
+use Rattle.std.specs.Prelude.{◌≡◌, Bool, true, false, ◌&&◌, List, [], ◌∷◌, ◌==◌, Some, None}
+use Rattle.ap_defs.specs.Freshness.{Conds, add_conds, alpha_under, fresh_under}
+use Rattle.ap_defs.specs.Permutations.{name_eq}
 use Rattle.ap_defs.specs.Substitution.{Binding, under}
-use Rattle.ap_defs.specs.Terms.{NominalTerm, susp}
+use Rattle.ap_defs.specs.Terms.{NominalTerm, abs, app, name, pair, susp, unit}
 use Rattle.ap_defs.specs.Unification.{Unified, unify}
 use Rattle.ap_defs.specs.declared.terms.Var.{Var}
 use Rattle.ap_theory.specs.Variables.{EachBinding, EachCond, EachTerm, IsIdempotent, IsUnbound, is_bound}
@@ -47,3 +48,25 @@ abbrev pub ResultKeeps : Type 0
 ResultKeeps = (test : Var → Bool) (bs : List Binding) (ds : Conds) (ts us : List NominalTerm) (r : Unified)
     → EachBinding (λ x. test x ≡ true) bs → EachCond (λ x. test x ≡ true) ds → EachTerm (λ x. test x ≡ true) ts → EachTerm (λ x. test x ≡ true) us
     → unify bs ds ts us ≡ Some r → EachBinding (λ x. test x ≡ true) r.bindings × EachCond (λ x. test x ≡ true) r.conditions
+
+abbrev pub ResultConditionsAreASet : Type 0
+ResultConditionsAreASet = (bs : List Binding) (ds : Conds) (ts us : List NominalTerm) (r : Unified) → unify bs ds ts us ≡ Some r → add_conds r.conditions [] ≡ r.conditions
+
+-- false for two terms that no substitution makes equal since they begin differently
+abbrev pub has_same_head : NominalTerm → NominalTerm → Bool
+has_same_head (susp p x) u = true
+has_same_head t (susp q y) = true
+has_same_head unit unit = true
+has_same_head (name a) (name b) = name_eq a b
+has_same_head (pair t u) (pair v w) = true
+has_same_head (app f t) (app g u) = f == g
+has_same_head (abs a t) (abs b u) = a.sort == b.sort
+has_same_head _ _ = false
+
+abbrev pub have_same_heads : List Binding → List NominalTerm → List NominalTerm → Bool
+have_same_heads bs (t ∷ ts) (u ∷ us) = has_same_head (under bs t) (under bs u) && have_same_heads bs ts us
+have_same_heads bs _ _ = true
+
+-- where a head differs at some place there is no result
+abbrev pub NoResultWhereHeadsDiffer : Type 0
+NoResultWhereHeadsDiffer = (bs : List Binding) (ds : Conds) (ts us : List NominalTerm) → IsIdempotent bs → have_same_heads bs ts us ≡ false → unify bs ds ts us ≡ None
