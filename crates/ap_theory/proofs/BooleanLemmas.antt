@@ -22,10 +22,6 @@ and_both x y h k = rw (h, k) refl
 pub or_right : (x y : Bool) → x ≡ false → (x || y) ≡ true → y ≡ true
 or_right x y e h = rw e at h
 
-pub and_true : (x : Bool) → (x && true) ≡ x
-and_true true = refl
-and_true false = refl
-
 pub and_false : (x : Bool) → (x && false) ≡ false
 and_false true = refl
 and_false false = refl

@@ -135,10 +135,6 @@ has_without_name a c (b ∷ bs) n h =
 pub act_sorts : (p q : List Swap) (a b : Name) → a.sort ≡ b.sort → (act_name p a).sort ≡ (act_name q b).sort
 act_sorts p q a b h = act_sort p a ∙ h ∙ sym (act_sort q b)
 
--- what a swapping does to a name that is one of its two
-pub swap_name_left : (a b c : Name) → a.sort ≡ b.sort → c ≡ a → swap_name (swap_of a b) c ≡ b
-swap_name_left a b c h e = ap (swap_name (swap_of a b)) e ∙ swap_left a b h
-
 pub swap_name_right : (a b c : Name) → a.sort ≡ b.sort → c ≡ b → swap_name (swap_of a b) c ≡ a
 swap_name_right a b c h e = ap (swap_name (swap_of a b)) e ∙ swap_right a b h
 

@@ -2,7 +2,7 @@
 use Rattle.std.specs.Prelude.{◌≡◌, ◌≤◌, true, false, List, [], ◌∷◌, ◌↔◌}
 use Rattle.ap_defs.specs.Freshness.{Conds, reduce}
 use Rattle.ap_defs.specs.Substitution.{Binding, occurs, put, under, ◌:=◌}
-use Rattle.ap_defs.specs.Terms.{NominalTerm, act_term}
+use Rattle.ap_defs.specs.Terms.{NominalTerm, act_term, susp}
 use Rattle.ap_defs.specs.Unification.{size, unify}
 use Rattle.ap_defs.specs.declared.terms.Name.{Name}
 use Rattle.ap_defs.specs.declared.terms.Swap.{Swap}
@@ -64,3 +64,19 @@ ReductionIsLeastOfAll d = (a : Name) (t : NominalTerm) → Fresh d a t ↔ Meets
 abbrev pub UnificationIsMostGeneral : Context → Type 0
 UnificationIsMostGeneral d = (s : Substitution) (bs : List Binding) (ds : Conds) (ts us : List NominalTerm)
     → (Meets d s ds × Agrees d s bs × EquatesAll d s ts us) ↔ IsInstance d s (unify bs ds ts us)
+
+abbrev pub BindingsCommute : Type 0
+BindingsCommute = (bs : List Binding) (p : List Swap) (t : NominalTerm) → under bs (act_term p t) ≡ act_term p (under bs t)
+
+abbrev pub PuttingCommutes : Type 0
+PuttingCommutes = (x : Var) (v : NominalTerm) (p : List Swap) (t : NominalTerm) → put x v (act_term p t) ≡ act_term p (put x v t)
+
+-- bindings under which what was said of the variables holds
+abbrev pub AreMet : Context → Context → List Binding → Type 0
+AreMet d e bs = (a : Name) (x : Var) → d a x → Fresh e a (under bs (susp [] x))
+
+abbrev pub BindingsKeepFreshness : Context → Context → Type 0
+BindingsKeepFreshness d e = (bs : List Binding) → AreMet d e bs → (a : Name) (t : NominalTerm) → Fresh d a t → Fresh e a (under bs t)
+
+abbrev pub BindingsKeepEquality : Context → Context → Type 0
+BindingsKeepEquality d e = (bs : List Binding) → AreMet d e bs → (t u : NominalTerm) → Equal d t u → Equal e (under bs t) (under bs u)

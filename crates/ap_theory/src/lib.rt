@@ -1,7 +1,9 @@
 //! The theory of names and of unification over the definitions of `ap_defs`.
 //!
-//! Each law is the contract of a call that does nothing. Its statement stands in `specs/`, and the
-//! lemmas that prove it in `proofs/`, where the crates above can cite them.
+//! Each law is the contract of a call that does nothing: `permutations`, `exchanges`, `ground_terms`,
+//! `equality` (of terms with variables, under any set of `contexts::Conditions`), `substitution`,
+//! `conditions`, `unification`, `results` (of unification) and `groundings`. The statements stand in
+//! `specs/`, and the lemmas that prove them in `proofs/`, where the crates above can cite them.
 #![tactic(auto)]
 
 pub mod conditions;

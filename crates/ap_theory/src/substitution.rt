@@ -1,6 +1,6 @@
 //! Laws of substitutions. A binder may capture.
 
-ghost use Rattle.ap_theory.specs.StatementsOnSubstitution.{BindingsAreASubstitution, OccurringIsNoLonger, PuttingIsASubstitution, PuttingLeavesTheAbsent, SubstitutionCommutes, SubstitutionIsCongruent, SubstitutionIsLocal, SubstitutionKeepsEquality, SubstitutionKeepsFreshness, SubstitutionsCompose, VariablesAreIdentity};
+ghost use Rattle.ap_theory.specs.StatementsOnSubstitution.{BindingsAreASubstitution, BindingsCommute, BindingsKeepEquality, BindingsKeepFreshness, OccurringIsNoLonger, PuttingCommutes, PuttingIsASubstitution, PuttingLeavesTheAbsent, SubstitutionCommutes, SubstitutionIsCongruent, SubstitutionIsLocal, SubstitutionKeepsEquality, SubstitutionKeepsFreshness, SubstitutionsCompose, VariablesAreIdentity};
 
 use crate::contexts::Conditions;
 
@@ -18,11 +18,20 @@ pub fn substitution_is_local()
     ensures size { OccurringIsNoLonger }
 {}
 
-/// A list of bindings is a substitution, as is one term put for one variable.
+/// A list of bindings is a substitution, as is one term put for one variable. Both commute with
+/// permutations.
 pub fn bindings_are_substitutions()
     ensures under { BindingsAreASubstitution }
     ensures put { PuttingIsASubstitution }
     ensures absent { PuttingLeavesTheAbsent }
+    ensures under_commutes { BindingsCommute }
+    ensures put_commutes { PuttingCommutes }
+{}
+
+/// Bindings whose terms meet what was said of the variables keep freshness and equality.
+pub fn bindings_keep_conditions<D: Conditions, E: Conditions>()
+    ensures fresh { BindingsKeepFreshness D.holds E.holds }
+    ensures equal { BindingsKeepEquality D.holds E.holds }
 {}
 
 /// A substitution whose terms meet what was said of the variables keeps freshness and equality.
