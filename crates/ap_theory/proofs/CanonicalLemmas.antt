@@ -13,7 +13,8 @@ use Rattle.ap_theory.proofs.PermutationLemmas.{act_injective, act_sort, has_with
 moved_same : (p q : List Swap) → IsSamePerm p q → moved_names p ≡ moved_names q
 moved_same p q h = disagreement_same p [] q [] h (λ a. refl)
 
-first_same : (n : ℕ) (p q : List Swap) → IsSamePerm p q → ((r s : List Swap) → IsSamePerm r s → canonical_within n r ≡ canonical_within n s) → (as' : List Name) → swap_first (canonical_within n) p as' ≡ swap_first (canonical_within n) q as'
+first_same : (n : ℕ) (p q : List Swap) → IsSamePerm p q → ((r s : List Swap) → IsSamePerm r s → canonical_within n r ≡ canonical_within n s)
+    → (as' : List Name) → swap_first (canonical_within n) p as' ≡ swap_first (canonical_within n) q as'
 first_same n p q h go [] = refl
 first_same n p q h go (a ∷ as') =
     let b = least a as' in
@@ -72,7 +73,8 @@ first_act n p (a ∷ as') f g go c =
     let s = swap_of b (act_name p b) in
     ap (swap_name s) (go b (f b (least_among a as')) c) ∙ swap_swap s (act_name p c)
 
-within_act_name : (n : ℕ) (p : List Swap) (vs : List Name) → ((c : Name) → Moves p c → has_name c vs ≡ true) → length vs ≤ n → IsSamePerm (canonical_within n p) p
+within_act_name : (n : ℕ) (p : List Swap) (vs : List Name) → ((c : Name) → Moves p c → has_name c vs ≡ true) → length vs ≤ n
+    → IsSamePerm (canonical_within n p) p
 within_act_name zero p [] h l = none_moved p (λ c m. true≢false (sym (h c m)))
 within_act_name zero p (v ∷ vs) h l = absurd (omega arith)
 within_act_name (suc n) p vs h l =
@@ -89,7 +91,8 @@ pub canonical_canonical : (p : List Swap) → canonical (canonical p) ≡ canoni
 canonical_canonical p = canonical_same (canonical p) p (canonical_act p)
 
 -- The canonical list mentions only names that are moved.
-first_names : (n : ℕ) (p : List Swap) (c : Name) → ((b : Name) → Moves p b → has_name c (names_of (canonical_within n (swap_of b (act_name p b) ∷ p))) ≡ true → Moves (swap_of b (act_name p b) ∷ p) c)
+first_names : (n : ℕ) (p : List Swap) (c : Name)
+    → ((b : Name) → Moves p b → has_name c (names_of (canonical_within n (swap_of b (act_name p b) ∷ p))) ≡ true → Moves (swap_of b (act_name p b) ∷ p) c)
     → (as' : List Name) → ((b : Name) → has_name b as' ≡ true → Moves p b) → has_name c (names_of (swap_first (canonical_within n) p as')) ≡ true → Moves p c
 first_names n p c go [] f h = cc
 first_names n p c go (a ∷ as') f h =

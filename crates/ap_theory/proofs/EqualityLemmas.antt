@@ -69,11 +69,15 @@ module _ (d : Context) where
   Equal_same _ _ h = absurd h
 
   -- if πc = ρc and ρc is moved by (πa ρa), then c = a or ρc = πa
-  differ_step : (π ρ : List Swap) (a c : Name) → (c ≢ a) → (act_name π a ≢ act_name ρ a) → (act_name π c ≡ swap_name (swap_of (act_name π a) (act_name ρ a)) (act_name ρ c) → ⊥) → (act_name π c ≡ act_name ρ c) ⊎ (act_name π c ≢ act_name ρ c) → act_name π c ≡ act_name ρ c → ⊥
+  differ_step : (π ρ : List Swap) (a c : Name) → (c ≢ a) → (act_name π a ≢ act_name ρ a)
+      → (act_name π c ≡ swap_name (swap_of (act_name π a) (act_name ρ a)) (act_name ρ c) → ⊥)
+      → (act_name π c ≡ act_name ρ c) ⊎ (act_name π c ≢ act_name ρ c) → act_name π c ≡ act_name ρ c → ⊥
   differ_step π ρ a c n ne h (inr m) e = m e
   differ_step π ρ a c n ne h (inl e) e' = h (e ∙ sym (swap_other (act_name π a) (act_name ρ a) (act_name ρ c) (act_sorts π ρ a a refl) (λ p. n (act_injective π c a (e ∙ p))) (λ p. n (act_injective ρ c a p))))
 
-  differ_abs : (a : Name) (t : NominalTerm) (π ρ : List Swap) → FreshWhereTheyDiffer d π ρ (abs a t) → ((π ρ : List Swap) → FreshWhereTheyDiffer d π ρ t → Equal d (act_term π t) (act_term ρ t)) → (act_name π a ≡ act_name ρ a) ⊎ (act_name π a ≢ act_name ρ a) → Equal d (act_term π (abs a t)) (act_term ρ (abs a t))
+  differ_abs : (a : Name) (t : NominalTerm) (π ρ : List Swap) → FreshWhereTheyDiffer d π ρ (abs a t)
+      → ((π ρ : List Swap) → FreshWhereTheyDiffer d π ρ t → Equal d (act_term π t) (act_term ρ t))
+      → (act_name π a ≡ act_name ρ a) ⊎ (act_name π a ≢ act_name ρ a) → Equal d (act_term π (abs a t)) (act_term ρ (abs a t))
   differ_abs a t π ρ h ih (inl e) = inl (e, ih π ρ (λ c n. not_left (λ p. n (ap (act_name π) p ∙ e ∙ sym (ap (act_name ρ) p))) (h c n)))
   differ_abs a t π ρ h ih (inr ne) =
       let s = swap_of (act_name π a) (act_name ρ a) in
@@ -117,7 +121,8 @@ module _ (d : Context) where
   Equal_act _ _ π h = absurd h
 
   -- freshness respects equality
-  Fresh_abs : (a b c : Name) (u : NominalTerm) → a.sort ≡ b.sort → Fresh d a u → Fresh d c (act_term (swap_of a b ∷ []) u) → (c ≡ b) ⊎ (c ≢ b) → (c ≡ a) ⊎ (c ≢ a) → (c ≡ b) ⊎ Fresh d c u
+  Fresh_abs : (a b c : Name) (u : NominalTerm) → a.sort ≡ b.sort → Fresh d a u → Fresh d c (act_term (swap_of a b ∷ []) u) → (c ≡ b) ⊎ (c ≢ b)
+      → (c ≡ a) ⊎ (c ≢ a) → (c ≡ b) ⊎ Fresh d c u
   Fresh_abs a b c u e f g (inl q) k = inl q
   Fresh_abs a b c u e f g (inr m) (inl p) = inr (subst (λ z. Fresh d z u) (sym p) f)
   Fresh_abs a b c u e f g (inr m) (inr n) = inr (Fresh_act_at (swap_of a b ∷ []) c c u (swap_other a b c e n m) g)
@@ -133,20 +138,24 @@ module _ (d : Context) where
   Fresh_Equal c (abs a t) (abs b u) (inr e) (inr h) = Fresh_abs a b c u e.1 e.3 (Fresh_Equal c t (act_term (swap_of a b ∷ []) u) e.2 h) (name_decided c b) (name_decided c a)
   Fresh_Equal c (susp π x) (susp ρ y) e h = fresh_susp c π ρ x y e.0 e.1 h (name_decided (act_name (inverse π) c) (act_name (inverse ρ) c))
     where
-      fresh_susp : (c : Name) (π ρ : List Swap) (x y : Var) → x ≡ y → ((a : Name) → (act_name π a ≢ act_name ρ a) → d a x) → d (act_name (inverse π) c) x → (act_name (inverse π) c ≡ act_name (inverse ρ) c) ⊎ (act_name (inverse π) c ≡ act_name (inverse ρ) c → ⊥) → d (act_name (inverse ρ) c) y
+      fresh_susp : (c : Name) (π ρ : List Swap) (x y : Var) → x ≡ y → ((a : Name) → (act_name π a ≢ act_name ρ a) → d a x)
+          → d (act_name (inverse π) c) x → (act_name (inverse π) c ≡ act_name (inverse ρ) c) ⊎ (act_name (inverse π) c ≡ act_name (inverse ρ) c → ⊥)
+          → d (act_name (inverse ρ) c) y
       fresh_susp c π ρ x y e k h (inl p) = subst (λ z. d z y) p (subst (λ z. d (act_name (inverse π) c) z) e h)
       fresh_susp c π ρ x y e k h (inr n) = subst (λ z. d (act_name (inverse ρ) c) z) e (k (act_name (inverse ρ) c) (λ q. n (ap (act_name (inverse π)) (sym (q ∙ act_inverse ρ c)) ∙ inverse_act π (act_name (inverse ρ) c))))
   Fresh_Equal c _ _ e h = absurd e
 
   -- transitivity
-  swaps_Fresh : (a b c : Name) (v : NominalTerm) → a.sort ≡ b.sort → b.sort ≡ c.sort → Fresh d a v → Fresh d b v → FreshWhereTheyDiffer d (swap_of a b ∷ swap_of b c ∷ []) (swap_of a c ∷ []) v
+  swaps_Fresh : (a b c : Name) (v : NominalTerm) → a.sort ≡ b.sort → b.sort ≡ c.sort → Fresh d a v → Fresh d b v
+      → FreshWhereTheyDiffer d (swap_of a b ∷ swap_of b c ∷ []) (swap_of a c ∷ []) v
   swaps_Fresh a b c v e f fa fb n m =
       elim (name_decided n a) [
         | inl h ↦ subst (λ z. Fresh d z v) (sym h) fa
         | inr k ↦ elim (name_decided n b) [ inl h ↦ subst (λ z. Fresh d z v) (sym h) fb | inr l ↦ absurd (m (swaps_other a b c n e f k l)) ]
       ]
 
-  Equal_trans_abs : (a b c : Name) (t u v : NominalTerm) → ((u v : NominalTerm) → Equal d t u → Equal d u v → Equal d t v) → Equal d (abs a t) (abs b u) → Equal d (abs b u) (abs c v) → (a ≡ c) ⊎ (a ≢ c) → Equal d (abs a t) (abs c v)
+  Equal_trans_abs : (a b c : Name) (t u v : NominalTerm) → ((u v : NominalTerm) → Equal d t u → Equal d u v → Equal d t v)
+      → Equal d (abs a t) (abs b u) → Equal d (abs b u) (abs c v) → (a ≡ c) ⊎ (a ≢ c) → Equal d (abs a t) (abs c v)
   Equal_trans_abs a b c t u v ih (inl p) (inl q) k = inl (p.0 ∙ q.0, ih u v p.1 q.1)
   Equal_trans_abs a b c t u v ih (inl p) (inr q) k =
       inr ((λ r. q.0 (sym p.0 ∙ r)), ap (λ n. n.sort) p.0 ∙ q.1, ih u (act_term (swap_of a c ∷ []) v) p.1 (subst (λ z. Equal d u (act_term (swap_of z c ∷ []) v)) (sym p.0) q.2), subst (λ z. Fresh d z v) (sym p.0) q.3)
@@ -164,7 +173,8 @@ module _ (d : Context) where
       let e3 : Equal d (act_term (swap_of a b ∷ swap_of b c ∷ []) v) (act_term (swap_of a c ∷ []) v) = differ_Equal v (swap_of a b ∷ swap_of b c ∷ []) (swap_of a c ∷ []) (swaps_Fresh a b c v p.1 q.1 fa q.3) in
       inr (n, p.1 ∙ q.1, ih (act_term (swap_of a b ∷ []) (act_term (swap_of b c ∷ []) v)) (act_term (swap_of a c ∷ []) v) e2 (subst (λ z. Equal d z (act_term (swap_of a c ∷ []) v)) (act_term-append (swap_of a b ∷ []) (swap_of b c ∷ []) v) e3), fa)
 
-  condition_trans : (π ρ τ : List Swap) (c : Name) (x : Var) → ((act_name π c ≢ act_name ρ c) → d c x) → ((act_name ρ c ≢ act_name τ c) → d c x) → (act_name π c ≢ act_name τ c) → (act_name π c ≡ act_name ρ c) ⊎ (act_name π c ≢ act_name ρ c) → d c x
+  condition_trans : (π ρ τ : List Swap) (c : Name) (x : Var) → ((act_name π c ≢ act_name ρ c) → d c x) → ((act_name ρ c ≢ act_name τ c) → d c x)
+      → (act_name π c ≢ act_name τ c) → (act_name π c ≡ act_name ρ c) ⊎ (act_name π c ≢ act_name ρ c) → d c x
   condition_trans π ρ τ c x h k n (inl p) = k (λ q. n (p ∙ q))
   condition_trans π ρ τ c x h k n (inr m) = h m
 
@@ -221,11 +231,17 @@ module _ (d : Context) where
       go c n (inr m) (inr k) = absurd (n (swap_other a b c e m k))
 
   -- what two permutations make equal is fresh for each name on which they differ
-  Equal_differ_step : (π ρ : List Swap) (a c : Name) (t : NominalTerm) → (c ≢ a) → (act_name π c ≢ act_name ρ c) → Fresh d (act_name π a) (act_term ρ t) → act_name π c ≡ swap_name (swap_of (act_name π a) (act_name ρ a)) (act_name ρ c) → (act_name ρ c ≡ act_name π a) ⊎ (act_name ρ c ≢ act_name π a) → Fresh d c t
+  Equal_differ_step : (π ρ : List Swap) (a c : Name) (t : NominalTerm) → (c ≢ a) → (act_name π c ≢ act_name ρ c)
+      → Fresh d (act_name π a) (act_term ρ t) → act_name π c ≡ swap_name (swap_of (act_name π a) (act_name ρ a)) (act_name ρ c)
+      → (act_name ρ c ≡ act_name π a) ⊎ (act_name ρ c ≢ act_name π a) → Fresh d c t
   Equal_differ_step π ρ a c t na n f e (inl p) = Fresh_act_at ρ (act_name π a) c t (ap (act_name (inverse ρ)) (sym p) ∙ inverse_act ρ c) f
   Equal_differ_step π ρ a c t na n f e (inr m) = absurd (n (e ∙ swap_other (act_name π a) (act_name ρ a) (act_name ρ c) (act_sorts π ρ a a refl) m (λ q. na (act_injective ρ c a q))))
 
-  Equal_differ_abs : (a : Name) (t : NominalTerm) (π ρ : List Swap) → ((π ρ : List Swap) → Equal d (act_term π t) (act_term ρ t) → FreshWhereTheyDiffer d π ρ t) → Equal d (act_term π (abs a t)) (act_term ρ (abs a t)) → (c : Name) → (act_name π c ≢ act_name ρ c) → (c ≡ a) ⊎ (c ≢ a) → (act_name π c ≡ swap_name (swap_of (act_name π a) (act_name ρ a)) (act_name ρ c)) ⊎ (act_name π c ≡ swap_name (swap_of (act_name π a) (act_name ρ a)) (act_name ρ c) → ⊥) → (c ≡ a) ⊎ Fresh d c t
+  Equal_differ_abs : (a : Name) (t : NominalTerm) (π ρ : List Swap)
+      → ((π ρ : List Swap) → Equal d (act_term π t) (act_term ρ t) → FreshWhereTheyDiffer d π ρ t)
+      → Equal d (act_term π (abs a t)) (act_term ρ (abs a t)) → (c : Name) → (act_name π c ≢ act_name ρ c) → (c ≡ a) ⊎ (c ≢ a)
+      → (act_name π c ≡ swap_name (swap_of (act_name π a) (act_name ρ a)) (act_name ρ c)) ⊎ (act_name π c ≡ swap_name (swap_of (act_name π a) (act_name ρ a)) (act_name ρ c) → ⊥)
+      → (c ≡ a) ⊎ Fresh d c t
   Equal_differ_abs a t π ρ ih h c n (inl p) k = inl p
   Equal_differ_abs a t π ρ ih (inl h) c n (inr na) k = inr (ih π ρ h.1 c n)
   Equal_differ_abs a t π ρ ih (inr h) c n (inr na) (inl e) = inr (Equal_differ_step π ρ a c t na n h.3 e (name_decided (act_name ρ c) (act_name π a)))

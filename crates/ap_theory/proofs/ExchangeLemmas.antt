@@ -126,7 +126,8 @@ exchange_other (c ∷ cs) (d ∷ ds) a s h k =
     ∙ swap_other c d a (sym s.0) (not_has a c cs h) (not_has a d ds k)
 exchange_other _ _ a s h k = absurd s
 
-exchange_first : (c : Name) (cs : List Name) (d : Name) (ds : List Name) → AreOfSorts (c ∷ cs) (d ∷ ds) → has_name c cs ≡ false → has_name d ds ≡ false → AreApart (c ∷ cs) (d ∷ ds)
+exchange_first : (c : Name) (cs : List Name) (d : Name) (ds : List Name) → AreOfSorts (c ∷ cs) (d ∷ ds) → has_name c cs ≡ false
+    → has_name d ds ≡ false → AreApart (c ∷ cs) (d ∷ ds)
     → (has_name c ds ≡ false) × (has_name d cs ≡ false)
 exchange_first c cs d ds s h k p = (
   not_has_later c d ds (p c (has_front c cs)),
@@ -198,7 +199,8 @@ extension_goes cs ds m s h k =
     ∙ ap (map (act_name (exchange ms ds))) (exchange_goes cs ms (sorts, h, different, apart_flip ms cs apart.0))
     ∙ exchange_goes ms ds (sorts_trans ms cs ds (sorts_flip cs ms sorts) s, different, k, apart.1)
 
-pub extension_other : (cs ds : List Name) (m : ℕ) (a : Name) → AreOfSorts cs ds → has_name a cs ≡ false → has_name a ds ≡ false → a.num < m → act_name (extension cs ds m) a ≡ a
+pub extension_other : (cs ds : List Name) (m : ℕ) (a : Name) → AreOfSorts cs ds → has_name a cs ≡ false → has_name a ds ≡ false → a.num < m
+    → act_name (extension cs ds m) a ≡ a
 extension_other cs ds m a s h k l =
     let ms = Between cs ds m in
     let sorts = new_names_sorts cs (cs ++ ds) m in

@@ -96,7 +96,8 @@ pub alpha_iff : (t u : GroundTerm) → alpha t u ≡ true ↔ Equal none (embed 
 alpha_iff t u = iff_trans (iff_same (λ x. x ≡ true) (alpha_embed [] t u)) (alpha_under_iff [] (embed t) (embed u))
 
 -- the same where permutations act
-pub alpha_act_iff : (p q : List Swap) (t u : GroundTerm) → alpha (act_ground p t) (act_ground q u) ≡ true ↔ Equal none (act_term p (embed t)) (act_term q (embed u))
+pub alpha_act_iff : (p q : List Swap) (t u : GroundTerm)
+    → alpha (act_ground p t) (act_ground q u) ≡ true ↔ Equal none (act_term p (embed t)) (act_term q (embed u))
 alpha_act_iff p q t u =
     iff_trans (alpha_iff (act_ground p t) (act_ground q u))
     (iff_trans (iff_same (λ z. Equal none z (embed (act_ground q u))) (embed_act p t)) (iff_same (Equal none (act_term p (embed t))) (embed_act q u)))
@@ -125,7 +126,8 @@ pub fresh_alpha : (a : Name) (t u : GroundTerm) → alpha t u ≡ true → fresh
 fresh_alpha a t u h = same_if (iff_trans (fresh_iff a t) (iff_trans (Fresh_both none a (embed t) (embed u) ((alpha_iff t u).0 h)) (iff_sym (fresh_iff a u))))
 
 -- two permutations make equal terms of a term just where the names on which they differ are fresh for it
-pub alpha_differ_iff : (p q : List Swap) (t : GroundTerm) → alpha (act_ground p t) (act_ground q t) ≡ true ↔ ((c : Name) → act_name p c ≢ act_name q c → fresh c t ≡ true)
+pub alpha_differ_iff : (p q : List Swap) (t : GroundTerm)
+    → alpha (act_ground p t) (act_ground q t) ≡ true ↔ ((c : Name) → act_name p c ≢ act_name q c → fresh c t ≡ true)
 alpha_differ_iff p q t =
     iff_trans (alpha_act_iff p q t t)
     (iff_trans (Equal_act_act none p q (embed t)) ((λ h c n. (fresh_iff c t).1 (h c n)), (λ h c n. (fresh_iff c t).0 (h c n))))

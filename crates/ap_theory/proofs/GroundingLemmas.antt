@@ -76,7 +76,8 @@ module _ (g : Grounding) where
 
   -- Each grounding that agrees with the substitution, meets the conditions and makes each two sides equal is an instance of what
   -- unification gives, and the other way round. Where it gives none, there is no such grounding.
-  pub unify_instances : (bs : List Binding) (ds : Conds) (ts us : List NominalTerm) → (meets g ds && (agrees g bs && equates_all g ts us)) ≡ is_instance g (unify bs ds ts us)
+  pub unify_instances : (bs : List Binding) (ds : Conds) (ts us : List NominalTerm)
+      → (meets g ds && (agrees g bs && equates_all g ts us)) ≡ is_instance g (unify bs ds ts us)
   unify_instances bs ds ts us =
       same_if
       (iff_trans (and_iff (meets g ds) (agrees g bs && equates_all g ts us))
@@ -122,8 +123,10 @@ listed_met g (d ∷ ds) m c x h =
       | inr k ↦ listed_met g ds (and_right (fresh d.name (g d.var)) (meets g ds) m) c x k
     ]
 
-pub fresh_under_sound : (g : Grounding) (ds : Conds) → meets g ds ≡ true → (a : Name) (t : NominalTerm) → fresh_under ds a t ≡ true → fresh a (grounded g t) ≡ true
+pub fresh_under_sound : (g : Grounding) (ds : Conds) → meets g ds ≡ true → (a : Name) (t : NominalTerm) → fresh_under ds a t ≡ true
+    → fresh a (grounded g t) ≡ true
 fresh_under_sound g ds m a t h = (fresh_grounded g a t).1 (applied_Fresh (listed ds) none (embedded g) (listed_met g ds m) a t (fresh_under_Fresh ds a t h))
 
-pub alpha_under_sound : (g : Grounding) (ds : Conds) → meets g ds ≡ true → (t u : NominalTerm) → alpha_under ds t u ≡ true → alpha (grounded g t) (grounded g u) ≡ true
+pub alpha_under_sound : (g : Grounding) (ds : Conds) → meets g ds ≡ true → (t u : NominalTerm) → alpha_under ds t u ≡ true
+    → alpha (grounded g t) (grounded g u) ≡ true
 alpha_under_sound g ds m t u h = (alpha_grounded g t u).1 (applied_Equal (listed ds) none (embedded g) (listed_met g ds m) t u (alpha_under_Equal ds t u h))

@@ -35,7 +35,8 @@ under_unbound bs t h =
     ∙ applied_local (substitution_of bs) variables t (λ x o. ap (bound_or_itself x) (bound_term_unbound bs x (h x o)))
     ∙ applied_variables t
 
-moved_each : (bs cs : List Binding) (p : List Swap) (x : Var) → BindsUnbound bs cs → (IsUnbound cs x → IsUnbound bs x) → EachVar (IsUnbound bs) (moved p x (bound_term cs x))
+moved_each : (bs cs : List Binding) (p : List Swap) (x : Var) → BindsUnbound bs cs → (IsUnbound cs x → IsUnbound bs x)
+    → EachVar (IsUnbound bs) (moved p x (bound_term cs x))
 moved_each bs [] p x h k = each_susp (IsUnbound bs) p x (k refl)
 moved_each bs ((y := t) ∷ cs) p x h k =
     elim (var_eq x y) as (λ b. var_eq x y ≡ b → EachVar (IsUnbound bs) (moved p x (if b then Some t else bound_term cs x))) [
@@ -63,7 +64,8 @@ module _ (x : Var) (v : NominalTerm) where
   unbound_after : (bs : List Binding) (y : Var) → IsUnbound bs y → x ≢ y → IsUnbound (bound_in x v bs) y
   unbound_after bs y h n = ap₂ ◌||◌ (var_eq_flip y x ∙ not_var x y n) (is_bound_put x v y bs ∙ h)
 
-  BindsUnbound_put : (bs cs ds : List Binding) → ((y : Var) → IsUnbound bs y → x ≢ y → IsUnbound ds y) → EachVar (IsUnbound ds) v → BindsUnbound bs cs → BindsUnbound ds (map (put_binding x v) cs)
+  BindsUnbound_put : (bs cs ds : List Binding) → ((y : Var) → IsUnbound bs y → x ≢ y → IsUnbound ds y) → EachVar (IsUnbound ds) v → BindsUnbound bs cs
+      → BindsUnbound ds (map (put_binding x v) cs)
   BindsUnbound_put bs [] ds other new h = tt
   BindsUnbound_put bs ((y := t) ∷ cs) ds other new h = (each_put (IsUnbound bs) (IsUnbound ds) x v other new t h.0, BindsUnbound_put bs cs ds other new h.1)
 
@@ -79,7 +81,8 @@ module _ (x : Var) (v : NominalTerm) where
       let new = new_unbound bs k e in
       ((new, BindsUnbound_put bs bs (bound_in x v bs) (unbound_after bs) new h.0), (is_bound_put x v x bs ∙ u, BindsOnce_put bs h.1))
 
-  moved_put : (p : List Swap) (y : Var) (bs : List Binding) → var_eq x y ≡ false → moved p y (bound_term (map (put_binding x v) bs) y) ≡ put x v (moved p y (bound_term bs y))
+  moved_put : (p : List Swap) (y : Var) (bs : List Binding) → var_eq x y ≡ false
+      → moved p y (bound_term (map (put_binding x v) bs) y) ≡ put x v (moved p y (bound_term bs y))
   moved_put p y [] e = sym (ap (λ (b : Bool). if b then act_term p v else susp p y) e)
   moved_put p y ((z := t) ∷ bs) e =
       elim (var_eq y z) as (λ b. moved p y (if b then Some (put x v t) else bound_term (map (put_binding x v) bs) y) ≡ put x v (moved p y (if b then Some t else bound_term bs y))) [
@@ -110,7 +113,8 @@ ExtendsIn first unsolvable = Unit {0}
 ExtendsIn first (solved r) = Extends first r.bindings
 
 module _ (first : List Binding) where
-  extends_bind : (x : Var) (v : NominalTerm) (bs : List Binding) → IsUnbound bs x → EachVar (IsUnbound bs) v → occurs x v ≡ false → Extends first bs → Extends first (bound_in x v bs)
+  extends_bind : (x : Var) (v : NominalTerm) (bs : List Binding) → IsUnbound bs x → EachVar (IsUnbound bs) v → occurs x v ≡ false → Extends first bs
+      → Extends first (bound_in x v bs)
   extends_bind x v bs u k e h = (
     idempotent_bind x v bs u k e h.0,
     (λ t. under_bind x v bs u (under first t) ∙ ap (put x v) (h.1 t) ∙ sym (under_bind x v bs u t)),
@@ -164,7 +168,8 @@ module _ (P : Var → Type 0) where
   each_reduce a (abs b t) h = elim (name_eq a b) as (λ v. EachSome P (if v then Some [] else reduce a t)) [ true ↦ tt | false ↦ each_reduce a t h ]
   each_reduce a (susp p x) h = (susp_each P p x h, tt)
 
-  pub each_reduce_all : (bs : List Binding) (ps : List Problem) → ((t : NominalTerm) → EachVar P t → EachVar P (under bs t)) → EachProblem P ps → EachSome P (reduce_all bs ps)
+  pub each_reduce_all : (bs : List Binding) (ps : List Problem) → ((t : NominalTerm) → EachVar P t → EachVar P (under bs t)) → EachProblem P ps
+      → EachSome P (reduce_all bs ps)
   each_reduce_all bs [] m h = tt
   each_reduce_all bs ((a # t) ∷ ps) m h = each_both (reduce a (under bs t)) (reduce_all bs ps) (each_reduce a (under bs t) (m t h.0)) (each_reduce_all bs ps m h.1)
 

@@ -4,7 +4,7 @@ use Rattle.std.specs.Prelude.{if◌then◌else◌, Option, Some, None}
 use Rattle.ap_defs.specs.Freshness.{Conds, add_cond, add_conds, cond_before, cond_eq, reduce, var_eq}
 use Rattle.ap_defs.specs.Permutations.{name_eq}
 use Rattle.ap_defs.specs.Substitution.{Binding, Problem, bound_term, under, ◌#◌, ◌:=◌}
-use Rattle.ap_defs.specs.Terms.{NominalTerm}
+use Rattle.ap_defs.specs.Terms.{NominalTerm, name}
 use Rattle.ap_defs.specs.Unification.{Ending, ending, equations_of, finish, first_stage, problem_of, reduce_all, solved, steps_for, unfinished, unify, unsolvable, with_conditions}
 use Rattle.ap_defs.specs.declared.terms.Cond.{Cond}
 use Rattle.ap_defs.specs.declared.terms.Var.{Var}
@@ -104,7 +104,8 @@ module _ (d : Context) (s : Substitution) where
 
   -- A substitution that meets the conditions, agrees with the bindings and makes each two sides equal is an instance of what
   -- unification gives, and the other way round. Where it gives none, there is no such substitution.
-  pub unify_Solves : (bs : List Binding) (ds : Conds) (ts us : List NominalTerm) → (Meets d s ds × Agrees d s bs × EquatesAll d s ts us) ↔ IsInstance d s (unify bs ds ts us)
+  pub unify_Solves : (bs : List Binding) (ds : Conds) (ts us : List NominalTerm)
+      → (Meets d s ds × Agrees d s bs × EquatesAll d s ts us) ↔ IsInstance d s (unify bs ds ts us)
   unfolding unify ending
   unify_Solves bs ds ts us =
       let first = first_stage bs ts us in

@@ -23,7 +23,8 @@ use Rattle.ap_theory.proofs.TestLemmas.{Equal_alpha_under, Fresh_fresh_under}
 use Rattle.ap_theory.proofs.VariableLemmas.{EachEquation, EachProblem, each_act, each_equation-append, each_equation_put, each_left, each_pair, each_problem-append, each_problem_put, each_put, each_right, each_susp, not_var, susp_each}
 
 -- idempotent bindings agree with themselves
-agrees_itself : (d : Context) (bs cs : List Binding) → ((y : Var) → is_bound y cs ≡ true → substitution_of bs y ≡ substitution_of cs y) → BindsUnbound bs cs → BindsOnce cs → Agrees d (substitution_of bs) cs
+agrees_itself : (d : Context) (bs cs : List Binding) → ((y : Var) → is_bound y cs ≡ true → substitution_of bs y ≡ substitution_of cs y)
+    → BindsUnbound bs cs → BindsOnce cs → Agrees d (substitution_of bs) cs
 agrees_itself d bs [] m h o = tt
 agrees_itself d bs ((x := t) ∷ cs) m h o =
     let here : substitution_of bs x ≡ t = m x (or_if_left (var_eq x x) (is_bound x cs) (same_var x x refl)) ∙ ap (λ (b : Bool). bound_or_itself x (if b then Some t else bound_term cs x)) (same_var x x refl) in
@@ -35,7 +36,8 @@ agrees_itself d bs ((x := t) ∷ cs) m h o =
           h.1 o.1,
     )
 
-meets_itself : (bs : List Binding) (ds cs : Conds) → ((c : Cond) → has_cond c cs ≡ true → has_cond c ds ≡ true) → EachCond (IsUnbound bs) cs → Meets (listed ds) (substitution_of bs) cs
+meets_itself : (bs : List Binding) (ds cs : Conds) → ((c : Cond) → has_cond c cs ≡ true → has_cond c ds ≡ true) → EachCond (IsUnbound bs) cs
+    → Meets (listed ds) (substitution_of bs) cs
 meets_itself bs ds [] m h = tt
 meets_itself bs ds (c ∷ cs) m h = (
   subst (λ (z : NominalTerm). Fresh (listed ds) c.name z) (sym (ap (bound_or_itself c.var) (bound_term_unbound bs c.var h.0))) (m c (or_if_left (cond_eq c c) (has_cond c cs) (cond_eq_itself c))),
@@ -43,7 +45,8 @@ meets_itself bs ds (c ∷ cs) m h = (
 )
 
 -- a result that is idempotent and has conditions on unbound variables is its own instance
-pub result_itself : (r : Unified) → IsIdempotent r.bindings → EachCond (IsUnbound r.bindings) r.conditions → IsInstance (listed r.conditions) (substitution_of r.bindings) (Some r)
+pub result_itself : (r : Unified) → IsIdempotent r.bindings → EachCond (IsUnbound r.bindings) r.conditions
+    → IsInstance (listed r.conditions) (substitution_of r.bindings) (Some r)
 result_itself r h k = (
   agrees_itself (listed r.conditions) r.bindings r.bindings (λ y b. refl) h.0 h.1,
   meets_itself r.bindings r.conditions r.conditions (λ c m. m) k,
@@ -55,14 +58,16 @@ SolvesItself bs ds ts us (Some r) =
     Meets (listed r.conditions) (substitution_of r.bindings) ds × Agrees (listed r.conditions) (substitution_of r.bindings) bs × EquatesAll (listed r.conditions) (substitution_of r.bindings) ts us
 
 -- the result solves what was to be solved
-pub unify_solves_itself : (bs : List Binding) (ds : Conds) (ts us : List NominalTerm) (r : Unified) → IsIdempotent bs → unify bs ds ts us ≡ Some r → SolvesItself bs ds ts us (Some r)
+pub unify_solves_itself : (bs : List Binding) (ds : Conds) (ts us : List NominalTerm) (r : Unified) → IsIdempotent bs → unify bs ds ts us ≡ Some r
+    → SolvesItself bs ds ts us (Some r)
 unify_solves_itself bs ds ts us r h e =
     let well : ExtendsWell bs (Some r) = subst (ExtendsWell bs) e (unify_extends bs ds ts us h) in
     (unify_Solves (listed r.conditions) (substitution_of r.bindings) bs ds ts us).1
     (subst (IsInstance (listed r.conditions) (substitution_of r.bindings)) (sym e) (result_itself r well.0.0 well.1))
 
 -- The same with the tests.
-equal_all_tested : (cs : Conds) (bs : List Binding) (ts us : List NominalTerm) → EquatesAll (listed cs) (substitution_of bs) ts us → equal_all_under cs bs ts us ≡ true
+equal_all_tested : (cs : Conds) (bs : List Binding) (ts us : List NominalTerm) → EquatesAll (listed cs) (substitution_of bs) ts us
+    → equal_all_under cs bs ts us ≡ true
 equal_all_tested cs bs [] us h = refl
 equal_all_tested cs bs (t ∷ ts) [] h = refl
 equal_all_tested cs bs (t ∷ ts) (u ∷ us) h =
@@ -77,19 +82,24 @@ fresh_all_tested cs bs (d ∷ ds) h =
     (ap (fresh_under cs d.name) (under_applied bs (susp [] d.var) ∙ act_term_none (substitution_of bs d.var)) ∙ Fresh_fresh_under cs d.name (substitution_of bs d.var) h.0)
     (fresh_all_tested cs bs ds h.1)
 
-pub unify_equal_all : (bs : List Binding) (ds : Conds) (ts us : List NominalTerm) (r : Unified) → IsIdempotent bs → unify bs ds ts us ≡ Some r → equal_all_under r.conditions r.bindings ts us ≡ true
+pub unify_equal_all : (bs : List Binding) (ds : Conds) (ts us : List NominalTerm) (r : Unified) → IsIdempotent bs → unify bs ds ts us ≡ Some r
+    → equal_all_under r.conditions r.bindings ts us ≡ true
 unify_equal_all bs ds ts us r h e = equal_all_tested r.conditions r.bindings ts us (unify_solves_itself bs ds ts us r h e).2
 
-pub unify_fresh_all : (bs : List Binding) (ds : Conds) (ts us : List NominalTerm) (r : Unified) → IsIdempotent bs → unify bs ds ts us ≡ Some r → fresh_all_under r.conditions r.bindings ds ≡ true
+pub unify_fresh_all : (bs : List Binding) (ds : Conds) (ts us : List NominalTerm) (r : Unified) → IsIdempotent bs → unify bs ds ts us ≡ Some r
+    → fresh_all_under r.conditions r.bindings ds ≡ true
 unify_fresh_all bs ds ts us r h e = fresh_all_tested r.conditions r.bindings ds (unify_solves_itself bs ds ts us r h e).0
 
-pub unify_idempotent : (bs : List Binding) (ds : Conds) (ts us : List NominalTerm) (r : Unified) → IsIdempotent bs → unify bs ds ts us ≡ Some r → IsIdempotent r.bindings × EachCond (IsUnbound r.bindings) r.conditions
+pub unify_idempotent : (bs : List Binding) (ds : Conds) (ts us : List NominalTerm) (r : Unified) → IsIdempotent bs → unify bs ds ts us ≡ Some r
+    → IsIdempotent r.bindings × EachCond (IsUnbound r.bindings) r.conditions
 unify_idempotent bs ds ts us r h e = let k : ExtendsWell bs (Some r) = subst (ExtendsWell bs) e (unify_extends bs ds ts us h) in (k.0.0, k.1)
 
-pub under_unify : (bs : List Binding) (ds : Conds) (ts us : List NominalTerm) (r : Unified) → IsIdempotent bs → unify bs ds ts us ≡ Some r → (t : NominalTerm) → under r.bindings (under bs t) ≡ under r.bindings t
+pub under_unify : (bs : List Binding) (ds : Conds) (ts us : List NominalTerm) (r : Unified) → IsIdempotent bs → unify bs ds ts us ≡ Some r
+    → (t : NominalTerm) → under r.bindings (under bs t) ≡ under r.bindings t
 under_unify bs ds ts us r h e = let k : ExtendsWell bs (Some r) = subst (ExtendsWell bs) e (unify_extends bs ds ts us h) in k.0.1
 
-pub is_bound_unify : (bs : List Binding) (ds : Conds) (ts us : List NominalTerm) (r : Unified) → IsIdempotent bs → unify bs ds ts us ≡ Some r → (x : Var) → is_bound x bs ≡ true → is_bound x r.bindings ≡ true
+pub is_bound_unify : (bs : List Binding) (ds : Conds) (ts us : List NominalTerm) (r : Unified) → IsIdempotent bs → unify bs ds ts us ≡ Some r
+    → (x : Var) → is_bound x bs ≡ true → is_bound x r.bindings ≡ true
 is_bound_unify bs ds ts us r h e = let k : ExtendsWell bs (Some r) = subst (ExtendsWell bs) e (unify_extends bs ds ts us h) in k.0.2
 
 -- A property of the variables that stand in the input is one of those in the result.
@@ -157,11 +167,13 @@ module _ (P : Var → Type 0) where
       with_keeps r.bindings (reduce_all r.bindings (map problem_of ds ++ r.problems)) k.1
       (each_reduce_all P r.bindings (map problem_of ds ++ r.problems) (under_keeps r.bindings k.1) (each_problem-append P (map problem_of ds) r.problems (each_problem_conds ds h) k.0))
 
-  unify_keeps_all : (bs : List Binding) (ds : Conds) (ts us : List NominalTerm) → EachBinding P bs → EachCond P ds → EachTerm P ts → EachTerm P us → KeepsResult (unify bs ds ts us)
+  unify_keeps_all : (bs : List Binding) (ds : Conds) (ts us : List NominalTerm) → EachBinding P bs → EachCond P ds → EachTerm P ts → EachTerm P us
+      → KeepsResult (unify bs ds ts us)
   unfolding unify ending
   unify_keeps_all bs ds ts us b c t u =
       let first = first_stage bs ts us in
       finish_keeps ds (ending first) c (run_keeps (steps_for first) first (equations_keep bs b ts us t u) tt b)
 
-  pub unify_keeps : (bs : List Binding) (ds : Conds) (ts us : List NominalTerm) (r : Unified) → EachBinding P bs → EachCond P ds → EachTerm P ts → EachTerm P us → unify bs ds ts us ≡ Some r → EachBinding P r.bindings × EachCond P r.conditions
+  pub unify_keeps : (bs : List Binding) (ds : Conds) (ts us : List NominalTerm) (r : Unified) → EachBinding P bs → EachCond P ds → EachTerm P ts
+      → EachTerm P us → unify bs ds ts us ≡ Some r → EachBinding P r.bindings × EachCond P r.conditions
   unify_keeps bs ds ts us r b c t u e = subst KeepsResult e (unify_keeps_all bs ds ts us b c t u)

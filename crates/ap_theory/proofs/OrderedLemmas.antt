@@ -57,7 +57,8 @@ module _ {A : Type 0} (same before : A → A → Bool) (o : IsOrder same before)
   member_front a bs = ap (λ x. x || has same before a bs) (o.itself a)
 
   -- two first members are equal
-  same_front : (a : A) (as' : List A) (b : A) (bs : List A) → Above same before a as' → Above same before b bs → SameMembers same before (a ∷ as') (b ∷ bs) → a ≡ b
+  same_front : (a : A) (as' : List A) (b : A) (bs : List A) → Above same before a as' → Above same before b bs
+      → SameMembers same before (a ∷ as') (b ∷ bs) → a ≡ b
   same_front a as' b bs h k m =
       elim (or_cases (same a b) (has same before a bs) (sym (m a) ∙ member_front a as')) [
         | inl e ↦ o.tells a b e
@@ -67,7 +68,8 @@ module _ {A : Type 0} (same before : A → A → Bool) (o : IsOrder same before)
         ]
       ]
 
-  same_later : (a : A) (as' bs : List A) → Above same before a as' → Above same before a bs → SameMembers same before (a ∷ as') (a ∷ bs) → SameMembers same before as' bs
+  same_later : (a : A) (as' bs : List A) → Above same before a as' → Above same before a bs → SameMembers same before (a ∷ as') (a ∷ bs)
+      → SameMembers same before as' bs
   same_later a as' bs h k m c =
       elim (same c a) as (λ v. same c a ≡ v → has same before c as' ≡ has same before c bs) [
         | true ↦ λ e. same_test (has same before c as') (has same before c bs)

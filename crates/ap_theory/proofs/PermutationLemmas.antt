@@ -72,7 +72,8 @@ name_eq_act p a b = same_test _ _
     (λ e. ap (name_eq (act_name p a)) (sym (ap (act_name p) (name_eq_same _ _ e))) ∙ name_eq_itself _)
 
 -- a permutation carries a swapping over: p (a b) = (p a  p b) p
-pub act_swap : (p : List Swap) (a b c : Name) → a.sort ≡ b.sort → act_name p (swap_name (swap_of a b) c) ≡ swap_name (swap_of (act_name p a) (act_name p b)) (act_name p c)
+pub act_swap : (p : List Swap) (a b c : Name) → a.sort ≡ b.sort
+    → act_name p (swap_name (swap_of a b) c) ≡ swap_name (swap_of (act_name p a) (act_name p b)) (act_name p c)
 act_swap p a b c h =
     let sorts : (act_name p a).sort ≡ (act_name p b).sort = act_sort p a ∙ h ∙ sym (act_sort p b) in
     elim (name_tells c a) [
@@ -139,7 +140,8 @@ pub swap_name_right : (a b c : Name) → a.sort ≡ b.sort → c ≡ b → swap_
 swap_name_right a b c h e = ap (swap_name (swap_of a b)) e ∙ swap_right a b h
 
 -- (a b)(b c) is (a c) on every name but a and b
-pub swaps_other : (a b c n : Name) → a.sort ≡ b.sort → b.sort ≡ c.sort → n ≢ a → n ≢ b → swap_name (swap_of a b) (swap_name (swap_of b c) n) ≡ swap_name (swap_of a c) n
+pub swaps_other : (a b c n : Name) → a.sort ≡ b.sort → b.sort ≡ c.sort → n ≢ a → n ≢ b
+    → swap_name (swap_of a b) (swap_name (swap_of b c) n) ≡ swap_name (swap_of a c) n
 swaps_other a b c n e f k l =
     elim (name_decided n c) [
       | inl h ↦ ap (swap_name (swap_of a b)) (swap_name_right b c n f h) ∙ swap_right a b e ∙ sym (swap_name_right a c n (e ∙ f) h)

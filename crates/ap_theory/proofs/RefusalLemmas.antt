@@ -40,7 +40,8 @@ alpha_same_head ds bs (app f t) (susp q y) h = refl
 alpha_same_head ds bs (abs a t) (susp q y) h = refl
 alpha_same_head ds bs _ _ h = absurd (true≢false (sym h))
 
-all_same_heads : (ds : Conds) (bs cs : List Binding) → ((t : NominalTerm) → under cs (under bs t) ≡ under cs t) → (ts us : List NominalTerm) → equal_all_under ds cs ts us ≡ true → have_same_heads bs ts us ≡ true
+all_same_heads : (ds : Conds) (bs cs : List Binding) → ((t : NominalTerm) → under cs (under bs t) ≡ under cs t) → (ts us : List NominalTerm)
+    → equal_all_under ds cs ts us ≡ true → have_same_heads bs ts us ≡ true
 all_same_heads ds bs cs e [] us h = refl
 all_same_heads ds bs cs e (t ∷ ts) [] h = refl
 all_same_heads ds bs cs e (t ∷ ts) (u ∷ us) h =
@@ -70,6 +71,7 @@ finish_set ds unfinished = tt
 finish_set ds unsolvable = tt
 finish_set ds (solved r) = with_set r.bindings (reduce_all r.bindings (map problem_of ds ++ r.problems))
 
-pub unify_set : (bs : List Binding) (ds : Conds) (ts us : List NominalTerm) (r : Unified) → unify bs ds ts us ≡ Some r → add_conds r.conditions [] ≡ r.conditions
+pub unify_set : (bs : List Binding) (ds : Conds) (ts us : List NominalTerm) (r : Unified) → unify bs ds ts us ≡ Some r
+    → add_conds r.conditions [] ≡ r.conditions
 unfolding unify
 unify_set bs ds ts us r e = subst HasSet e (finish_set ds (ending (first_stage bs ts us)))

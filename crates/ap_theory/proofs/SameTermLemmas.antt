@@ -43,7 +43,8 @@ put_same x h (same_abs i) = same_abs (put_same x h i)
 put_same x {v} {w} h (same_susp {p} {q} {x = y} i) =
     elim (var_eq x y) as (λ b. SameTerm (if b then act_term p v else susp p y) (if b then act_term q w else susp q y)) [ true ↦ act_same p q i h | false ↦ same_susp i ]
 
-bind_same : (x : Var) (p q : List Swap) → IsSamePerm p q → {t u : NominalTerm} → SameTerm t u → SameRule (unless_occurs x t (act_term (inverse p) t)) (unless_occurs x u (act_term (inverse q) u))
+bind_same : (x : Var) (p q : List Swap) → IsSamePerm p q → {t u : NominalTerm} → SameTerm t u
+    → SameRule (unless_occurs x t (act_term (inverse p) t)) (unless_occurs x u (act_term (inverse q) u))
 bind_same x p q h {t} {u} i =
     rw (occurs_same x i) (elim (occurs x u) as (λ b. SameRule (if b then clash else bind x (act_term (inverse p) t)) (if b then clash else bind x (act_term (inverse q) u))) [
       | true ↦ same_clash
@@ -90,15 +91,18 @@ rule_same (same_abs i) (same_susp {p} {q} {x} h) = bind_same x p q h (same_abs i
 rule_same _ _ = same_clash
 
 -- stages, steps and runs
-put_equations_same : (x : Var) {v w : NominalTerm} → SameTerm v w → {es fs : List Equation} → SameEquations es fs → SameEquations (map (put_equation x v) es) (map (put_equation x w) fs)
+put_equations_same : (x : Var) {v w : NominalTerm} → SameTerm v w → {es fs : List Equation} → SameEquations es fs
+    → SameEquations (map (put_equation x v) es) (map (put_equation x w) fs)
 put_equations_same x h no_equations = no_equations
 put_equations_same x h (next_equation i j k) = next_equation (put_same x h i) (put_same x h j) (put_equations_same x h k)
 
-put_problems_same : (x : Var) {v w : NominalTerm} → SameTerm v w → {ps qs : List Problem} → SameProblems ps qs → SameProblems (map (put_problem x v) ps) (map (put_problem x w) qs)
+put_problems_same : (x : Var) {v w : NominalTerm} → SameTerm v w → {ps qs : List Problem} → SameProblems ps qs
+    → SameProblems (map (put_problem x v) ps) (map (put_problem x w) qs)
 put_problems_same x h no_problems = no_problems
 put_problems_same x h (next_problem i j) = next_problem (put_same x h i) (put_problems_same x h j)
 
-put_bindings_same : (x : Var) {v w : NominalTerm} → SameTerm v w → {r s : List Binding} → SameBindings r s → SameBindings (map (put_binding x v) r) (map (put_binding x w) s)
+put_bindings_same : (x : Var) {v w : NominalTerm} → SameTerm v w → {r s : List Binding} → SameBindings r s
+    → SameBindings (map (put_binding x v) r) (map (put_binding x w) s)
 put_bindings_same x h no_bindings = no_bindings
 put_bindings_same x h (next_binding i j) = next_binding (put_same x h i) (put_bindings_same x h j)
 
@@ -116,16 +120,19 @@ SameProgress failed failed = Unit {0}
 SameProgress (next s) (next r) = SameStage s r
 SameProgress _ _ = ⊥
 
-apply_same : {a b : Rule} → SameRule a b → {es fs : List Equation} {ps qs : List Problem} {s r : List Binding} → SameEquations es fs → SameProblems ps qs → SameBindings s r → SameProgress (apply_rule a es ps s) (apply_rule b fs qs r)
+apply_same : {a b : Rule} → SameRule a b → {es fs : List Equation} {ps qs : List Problem} {s r : List Binding} → SameEquations es fs
+    → SameProblems ps qs → SameBindings s r → SameProgress (apply_rule a es ps s) (apply_rule b fs qs r)
 apply_same (same_replace h i) j k l = record { equations = equations_append_same h j; problems = problems_append_same k i; bindings = l }
 apply_same (same_bind {x} h) j k l = record { equations = put_equations_same x h j; problems = put_problems_same x h k; bindings = next_binding h (put_bindings_same x h l) }
 apply_same same_clash j k l = tt
 
-step_same : {es fs : List Equation} {ps qs : List Problem} {s r : List Binding} → SameEquations es fs → SameProblems ps qs → SameBindings s r → SameProgress (step_of es ps s) (step_of fs qs r)
+step_same : {es fs : List Equation} {ps qs : List Problem} {s r : List Binding} → SameEquations es fs → SameProblems ps qs → SameBindings s r
+    → SameProgress (step_of es ps s) (step_of fs qs r)
 step_same no_equations k l = tt
 step_same (next_equation h i j) k l = apply_same (rule_same h i) j k l
 
-after_same : (f g : Stage → Ending) → ((s r : Stage) → SameStage s r → SameEnding (f s) (g r)) → (s r : Stage) → SameStage s r → (p q : Progress) → SameProgress p q → SameEnding (after f s p) (after g r q)
+after_same : (f g : Stage → Ending) → ((s r : Stage) → SameStage s r → SameEnding (f s) (g r)) → (s r : Stage) → SameStage s r → (p q : Progress)
+    → SameProgress p q → SameEnding (after f s p) (after g r q)
 after_same f g go s r h done done i = h
 after_same f g go s r h failed failed i = tt
 after_same f g go s r h (next s') (next r') i = go s' r' i
@@ -152,7 +159,8 @@ reduce_same a (same_app h) = reduce_same a h
 reduce_same a (same_abs {a = b} {t} {u} h) = ap (λ (o : Option (List Cond)). if name_eq a b then Some [] else o) (reduce_same a h)
 reduce_same a (same_susp {p} {q} {x} h) = ap (λ (b : Name). Some (record { name = b; var = x } ∷ [])) (inverse_same p q h a)
 
-moved_bound_same : (p q : List Swap) (x : Var) → IsSamePerm p q → {r s : List Binding} → SameBindings r s → SameTerm (moved p x (bound_term r x)) (moved q x (bound_term s x))
+moved_bound_same : (p q : List Swap) (x : Var) → IsSamePerm p q → {r s : List Binding} → SameBindings r s
+    → SameTerm (moved p x (bound_term r x)) (moved q x (bound_term s x))
 moved_bound_same p q x h no_bindings = same_susp h
 moved_bound_same p q x h (next_binding {x = y} {t} {u} {r} {s} i j) =
     elim (var_eq x y) as (λ b. SameTerm (moved p x (if b then Some t else bound_term r x)) (moved q x (if b then Some u else bound_term s x))) [
@@ -188,13 +196,15 @@ finish_same ds (solved s) (solved r) h =
     subst (λ (o : Option (List Cond)). SameUnified (with_conditions s.bindings (reduce_all s.bindings (map problem_of ds ++ s.problems))) (with_conditions r.bindings o)) same (with_same h.bindings _)
 finish_same ds _ _ h = absurd h
 
-equations_same : {r s : List Binding} → SameBindings r s → {ts us vs ws : List NominalTerm} → SameTerms ts vs → SameTerms us ws → SameEquations (equations_of r ts us) (equations_of s vs ws)
+equations_same : {r s : List Binding} → SameBindings r s → {ts us vs ws : List NominalTerm} → SameTerms ts vs → SameTerms us ws
+    → SameEquations (equations_of r ts us) (equations_of s vs ws)
 equations_same b no_terms k = no_equations
 equations_same b (next_term h i) no_terms = no_equations
 equations_same b (next_term h i) (next_term j k) = next_equation (under_same b h) (under_same b j) (equations_same b i k)
 
 -- terms and bindings that count as equal unify with results that count as equal
-pub unify_same : {r s : List Binding} → SameBindings r s → (ds : Conds) → {ts us vs ws : List NominalTerm} → SameTerms ts vs → SameTerms us ws → SameUnified (unify r ds ts us) (unify s ds vs ws)
+pub unify_same : {r s : List Binding} → SameBindings r s → (ds : Conds) → {ts us vs ws : List NominalTerm} → SameTerms ts vs → SameTerms us ws
+    → SameUnified (unify r ds ts us) (unify s ds vs ws)
 unfolding unify
 unify_same {r} {s} b ds {ts} {us} {vs} {ws} h k =
     finish_same ds (ending (first_stage r ts us)) (ending (first_stage s vs ws))

@@ -46,7 +46,8 @@ module _ (d : Context) (s : Substitution) where
   Equal_flip t u = (Equal_sym d t u, Equal_sym d u t)
 
   -- a suspension and another term
-  bind_Holds : (p : List Swap) (x : Var) (u : NominalTerm) → (occurs x u ≡ true → size (s x) < size (applied s u)) → Equal d (act_term p (s x)) (applied s u) ↔ RuleHolds d s (unless_occurs x u (act_term (inverse p) u))
+  bind_Holds : (p : List Swap) (x : Var) (u : NominalTerm) → (occurs x u ≡ true → size (s x) < size (applied s u))
+      → Equal d (act_term p (s x)) (applied s u) ↔ RuleHolds d s (unless_occurs x u (act_term (inverse p) u))
   bind_Holds p x u lt =
       elim (occurs x u) as (λ v. occurs x u ≡ v → Equal d (act_term p (s x)) (applied s u) ↔ RuleHolds d s (if v then clash else bind x (act_term (inverse p) u))) [
         | true ↦ λ e. iff_nothing (λ h.
@@ -57,11 +58,13 @@ module _ (d : Context) (s : Substitution) where
         | false ↦ λ e. iff_trans (Equal_move d p (s x) (applied s u)) (iff_same (Equal d (s x)) (sym (applied_act s (inverse p) u)))
       ] refl
 
-  flipped_bind_Holds : (q : List Swap) (y : Var) (t : NominalTerm) → (occurs y t ≡ true → size (s y) < size (applied s t)) → Equal d (applied s t) (act_term q (s y)) ↔ RuleHolds d s (unless_occurs y t (act_term (inverse q) t))
+  flipped_bind_Holds : (q : List Swap) (y : Var) (t : NominalTerm) → (occurs y t ≡ true → size (s y) < size (applied s t))
+      → Equal d (applied s t) (act_term q (s y)) ↔ RuleHolds d s (unless_occurs y t (act_term (inverse q) t))
   flipped_bind_Holds q y t lt = iff_trans (Equal_flip (applied s t) (act_term q (s y))) (bind_Holds q y t lt)
 
   -- two suspensions of different variables
-  bind_either_Holds : (p : List Swap) (x : Var) (q : List Swap) (y : Var) (b : Bool) → Equal d (act_term p (s x)) (act_term q (s y)) ↔ RuleHolds d s (if b then bind y (susp (inverse q ++ p) x) else bind x (susp (inverse p ++ q) y))
+  bind_either_Holds : (p : List Swap) (x : Var) (q : List Swap) (y : Var) (b : Bool)
+      → Equal d (act_term p (s x)) (act_term q (s y)) ↔ RuleHolds d s (if b then bind y (susp (inverse q ++ p) x) else bind x (susp (inverse p ++ q) y))
   bind_either_Holds p x q y true =
       iff_trans (Equal_flip (act_term p (s x)) (act_term q (s y)))
       (iff_trans (Equal_move d q (s y) (act_term p (s x))) (iff_same (Equal d (s y)) (sym (act_term-append (inverse q) p (s x)))))
@@ -94,7 +97,8 @@ module _ (d : Context) (s : Substitution) where
       ] refl
 
   -- two abstractions
-  abs_Holds : (a : Name) (t : NominalTerm) (b : Name) (u : NominalTerm) → Equal d (abs a (applied s t)) (abs b (applied s u)) ↔ RuleHolds d s (rule (abs a t) (abs b u))
+  abs_Holds : (a : Name) (t : NominalTerm) (b : Name) (u : NominalTerm)
+      → Equal d (abs a (applied s t)) (abs b (applied s u)) ↔ RuleHolds d s (rule (abs a t) (abs b u))
   abs_Holds a t b u =
       elim (name_tells a b) [
         | inl w ↦ rw w.0 ((λ h. elim h [ inl k ↦ ((k.1, tt), tt) | inr k ↦ absurd (k.0 w.1) ]), (λ h. inl (w.1, h.0.0)))
@@ -182,7 +186,8 @@ module _ (d : Context) (s : Substitution) where
       let k : Freshens d s (ps ++ qs) ↔ (Freshens d s ps × Freshens d s qs) = Freshens-append ps qs in
       ((λ h. ((h.0, (k.0 h.1).0), (k.0 h.1).1)), (λ h. (h.0.0, k.1 (h.0.1, h.1))))
 
-  apply_rule_Solves : (r : Rule) (es : List Equation) (ps : List Problem) (bs : List Binding) (whole : Stage) → (RuleHolds d s r × Equates d s es × Freshens d s ps × Agrees d s bs) ↔ SolvesNext d s whole (apply_rule r es ps bs)
+  apply_rule_Solves : (r : Rule) (es : List Equation) (ps : List Problem) (bs : List Binding) (whole : Stage)
+      → (RuleHolds d s r × Equates d s es × Freshens d s ps × Agrees d s bs) ↔ SolvesNext d s whole (apply_rule r es ps bs)
   apply_rule_Solves (replace new qs) es ps bs whole =
       let k = Equates-append new es in
       let l = Freshens-append ps qs in (
@@ -195,7 +200,8 @@ module _ (d : Context) (s : Substitution) where
   )
   apply_rule_Solves clash es ps bs whole = iff_nothing (λ h. h.0)
 
-  step_Solves : (es : List Equation) (ps : List Problem) (bs : List Binding) → Solves d s (record { equations = es; problems = ps; bindings = bs }) ↔ SolvesNext d s (record { equations = es; problems = ps; bindings = bs }) (step_of es ps bs)
+  step_Solves : (es : List Equation) (ps : List Problem) (bs : List Binding)
+      → Solves d s (record { equations = es; problems = ps; bindings = bs }) ↔ SolvesNext d s (record { equations = es; problems = ps; bindings = bs }) (step_of es ps bs)
   step_Solves [] ps bs = iff_itself
   step_Solves ((t ≐ u) ∷ es) ps bs =
       let k = rule_Holds t u in
@@ -203,7 +209,8 @@ module _ (d : Context) (s : Substitution) where
       ((λ h. (k.0 h.0.0, h.0.1, h.1, h.2)), (λ h. ((k.1 h.0, h.1), h.2, h.3)))
       (apply_rule_Solves (rule t u) es ps bs (record { equations = (t ≐ u) ∷ es; problems = ps; bindings = bs }))
 
-  after_Solves : (k : ℕ) (r : Stage) → ((r' : Stage) → HasEnded (run k r') → Solves d s r' ↔ SolvesEnding d s (run k r')) → (p : Progress) → HasEnded (after (run k) r p) → Solves d s r ↔ SolvesNext d s r p → Solves d s r ↔ SolvesEnding d s (after (run k) r p)
+  after_Solves : (k : ℕ) (r : Stage) → ((r' : Stage) → HasEnded (run k r') → Solves d s r' ↔ SolvesEnding d s (run k r')) → (p : Progress)
+      → HasEnded (after (run k) r p) → Solves d s r ↔ SolvesNext d s r p → Solves d s r ↔ SolvesEnding d s (after (run k) r p)
   after_Solves k r go done e h = h
   after_Solves k r go failed e h = h
   after_Solves k r go (next r') e h = iff_trans h (go r' e)

@@ -76,7 +76,8 @@ module _ (d e : Context) (s : Substitution) (m : (c : Name) (x : Var) → d c x 
   applied_Equal _ _ h = absurd h
 
 -- substitutions that are equal on the variables of a term make equal terms of it
-pub applied_congruent : (d : Context) (r s : Substitution) (t : NominalTerm) → ((x : Var) → occurs x t ≡ true → Equal d (r x) (s x)) → Equal d (applied r t) (applied s t)
+pub applied_congruent : (d : Context) (r s : Substitution) (t : NominalTerm) → ((x : Var) → occurs x t ≡ true → Equal d (r x) (s x))
+    → Equal d (applied r t) (applied s t)
 applied_congruent d r s unit h = tt
 applied_congruent d r s (name a) h = refl
 applied_congruent d r s (pair t u) h = (

@@ -21,7 +21,8 @@ HasEnded unfinished = ⊥
 HasEnded unsolvable = Unit {0}
 HasEnded (solved s) = Unit {0}
 
-after_more : (f g : Stage → Ending) (s : Stage) → ((s' : Stage) → HasEnded (f s') → g s' ≡ f s') → (p : Progress) → HasEnded (after f s p) → after g s p ≡ after f s p
+after_more : (f g : Stage → Ending) (s : Stage) → ((s' : Stage) → HasEnded (f s') → g s' ≡ f s') → (p : Progress) → HasEnded (after f s p)
+    → after g s p ≡ after f s p
 after_more f g s go done h = refl
 after_more f g s go failed h = refl
 after_more f g s go (next s') h = go s' h
@@ -132,7 +133,8 @@ abbrev EndsWithin : ℕ → List Var → ℕ → Type 0
 EndsWithin k vs m = (es : List Equation) (ps : List Problem) (s : List Binding) → EachEquation (Among vs) es → size_of es ≤ m → HasEnded (run k (record { equations = es; problems = ps; bindings = s }))
 
 -- One step, where the plain steps and the steps after a binding end
-after_rule : (k : ℕ) (vs : List Var) (m : ℕ) (t u : NominalTerm) (es : List Equation) (ps : List Problem) (s : List Binding) → EachEquation (Among vs) es → size t + size u + size_of es ≤ m
+after_rule : (k : ℕ) (vs : List Var) (m : ℕ) (t u : NominalTerm) (es : List Equation) (ps : List Problem) (s : List Binding)
+    → EachEquation (Among vs) es → size t + size u + size_of es ≤ m
     → ((fs : List Equation) (qs : List Problem) → EachEquation (Among vs) fs → size_of fs < size t + size u + size_of es → HasEnded (run k (record { equations = fs; problems = qs; bindings = s })))
     → ((x : Var) → has_var x vs ≡ true → EndsWithin k (without_var x vs) (m * m))
     → (r : Rule) → Shrinks (Among vs) (size t + size u) r → (whole : Stage) → HasEnded (after (run k) whole (apply_rule r es ps s))
@@ -243,7 +245,8 @@ abbrev pub count : ℕ → Stage → ℕ
 count zero s = 0
 count (suc k) s = counted (count k) (step s)
 
-counted_more : (k j : ℕ) (s : Stage) → ((s' : Stage) → HasEnded (run k s') → count j s' ≡ count k s') → (p : Progress) → HasEnded (after (run k) s p) → counted (count j) p ≡ counted (count k) p
+counted_more : (k j : ℕ) (s : Stage) → ((s' : Stage) → HasEnded (run k s') → count j s' ≡ count k s') → (p : Progress) → HasEnded (after (run k) s p)
+    → counted (count j) p ≡ counted (count k) p
 counted_more k j s go done h = refl
 counted_more k j s go failed h = refl
 counted_more k j s go (next s') h = ap (λ n. 1 + n) (go s' h)
@@ -286,12 +289,14 @@ IsSpent unfinished = Unit {0}
 IsSpent unsolvable = Unit {0}
 IsSpent (solved s) = s.equations ≡ []
 
-spent_rule : (k : ℕ) (r : Rule) (es : List Equation) (ps : List Problem) (s : List Binding) (whole : Stage) → ((s' : Stage) → IsSpent (run k s')) → IsSpent (after (run k) whole (apply_rule r es ps s))
+spent_rule : (k : ℕ) (r : Rule) (es : List Equation) (ps : List Problem) (s : List Binding) (whole : Stage) → ((s' : Stage) → IsSpent (run k s'))
+    → IsSpent (after (run k) whole (apply_rule r es ps s))
 spent_rule k (replace new qs) es ps s whole go = go _
 spent_rule k (bind x v) es ps s whole go = go _
 spent_rule k clash es ps s whole go = tt
 
-spent_step : (k : ℕ) (es : List Equation) (ps : List Problem) (s : List Binding) → ((s' : Stage) → IsSpent (run k s')) → IsSpent (run (suc k) (record { equations = es; problems = ps; bindings = s }))
+spent_step : (k : ℕ) (es : List Equation) (ps : List Problem) (s : List Binding) → ((s' : Stage) → IsSpent (run k s'))
+    → IsSpent (run (suc k) (record { equations = es; problems = ps; bindings = s }))
 spent_step k [] ps s go = refl
 spent_step k ((t ≐ u) ∷ es) ps s go = spent_rule k (rule t u) es ps s (record { equations = (t ≐ u) ∷ es; problems = ps; bindings = s }) go
 
