@@ -10,7 +10,7 @@ use Rattle.ap_defs.specs.declared.terms.Var.{Var}
 use Rattle.ap_theory.specs.Contexts.{Context, Equal, Fresh, FreshWhereTheyDiffer}
 use Rattle.ap_theory.proofs.PermutationLemmas.{act-append, act_injective, act_inverse, act_sorts, inverse-append, inverse_act, inverse_same, name_decided, swap_flip, swap_name_right, swap_other, swap_swap, swaps_other}
 use Rattle.ap_theory.proofs.SameTermLemmas.{act_act_none, act_inverse_same, act_same, act_swap_same, inverse_act_same, same_itself, same_sym}
-use Rattle.ap_theory.proofs.TermLemmas.{act_term-append, act_term_none, size_act_term}
+use Rattle.ap_theory.proofs.TermLemmas.{act_term-append, act_term_none, size_act_term, swapped}
 
 not_left : {A B : Type 0} → (A → ⊥) → A ⊎ B → B
 not_left n (inl a) = absurd (n a)
@@ -91,7 +91,7 @@ module _ (d : Context) where
       let second : Fresh d c0 t = not_left n0 (h c0 (λ p. n0 (act_injective π c0 a (p ∙ r0)))) in
       inr (ne, act_sorts π ρ a a refl, subst (λ u. Equal d (act_term π t) u) (act_term-append (s ∷ []) ρ t) first, act_Fresh ρ (act_name π a) t second)
 
-  -- the names on which two permutations differ are fresh for what both make equal terms of
+  -- two permutations make equal terms of a term for which the names on which they differ are fresh
   pub differ_Equal : (t : NominalTerm) (π ρ : List Swap) → FreshWhereTheyDiffer d π ρ t → Equal d (act_term π t) (act_term ρ t)
   differ_Equal unit π ρ h = tt
   differ_Equal (name a) π ρ h = equal_unless (act_name π a) (act_name ρ a) (name_decided (act_name π a) (act_name ρ a)) (λ n. h a n refl)
@@ -114,14 +114,14 @@ module _ (d : Context) where
       inr (
         (λ p. h.0 (act_injective π a b p)),
         act_sorts π π a b h.1,
-        Equal_same (act_term π t) (act_swap_same π a b u h.1) (Equal_act t (act_term (swap_of a b ∷ []) u) π h.2),
+        Equal_same (act_term π t) (act_swap_same π a b u h.1) (Equal_act t (swapped a b u) π h.2),
         act_Fresh_at π (act_name π a) a u (inverse_act π a) h.3,
       )
   Equal_act (susp τ x) (susp υ y) π h = (h.0, λ c n. h.1 c (λ p. n (act-append π τ c ∙ ap (act_name π) p ∙ sym (act-append π υ c))))
   Equal_act _ _ π h = absurd h
 
   -- freshness respects equality
-  Fresh_abs : (a b c : Name) (u : NominalTerm) → a.sort ≡ b.sort → Fresh d a u → Fresh d c (act_term (swap_of a b ∷ []) u) → (c ≡ b) ⊎ (c ≢ b)
+  Fresh_abs : (a b c : Name) (u : NominalTerm) → a.sort ≡ b.sort → Fresh d a u → Fresh d c (swapped a b u) → (c ≡ b) ⊎ (c ≢ b)
       → (c ≡ a) ⊎ (c ≢ a) → (c ≡ b) ⊎ Fresh d c u
   Fresh_abs a b c u e f g (inl q) k = inl q
   Fresh_abs a b c u e f g (inr m) (inl p) = inr (subst (λ z. Fresh d z u) (sym p) f)
@@ -135,7 +135,7 @@ module _ (d : Context) where
   Fresh_Equal c (abs a t) (abs b u) (inl e) (inl p) = inl (p ∙ e.0)
   Fresh_Equal c (abs a t) (abs b u) (inl e) (inr h) = inr (Fresh_Equal c t u e.1 h)
   Fresh_Equal c (abs a t) (abs b u) (inr e) (inl p) = inr (subst (λ z. Fresh d z u) (sym p) e.3)
-  Fresh_Equal c (abs a t) (abs b u) (inr e) (inr h) = Fresh_abs a b c u e.1 e.3 (Fresh_Equal c t (act_term (swap_of a b ∷ []) u) e.2 h) (name_decided c b) (name_decided c a)
+  Fresh_Equal c (abs a t) (abs b u) (inr e) (inr h) = Fresh_abs a b c u e.1 e.3 (Fresh_Equal c t (swapped a b u) e.2 h) (name_decided c b) (name_decided c a)
   Fresh_Equal c (susp π x) (susp ρ y) e h = fresh_susp c π ρ x y e.0 e.1 h (name_decided (act_name (inverse π) c) (act_name (inverse ρ) c))
     where
       fresh_susp : (c : Name) (π ρ : List Swap) (x y : Var) → x ≡ y → ((a : Name) → (act_name π a ≢ act_name ρ a) → d a x)
@@ -158,20 +158,20 @@ module _ (d : Context) where
       → Equal d (abs a t) (abs b u) → Equal d (abs b u) (abs c v) → (a ≡ c) ⊎ (a ≢ c) → Equal d (abs a t) (abs c v)
   Equal_trans_abs a b c t u v ih (inl p) (inl q) k = inl (p.0 ∙ q.0, ih u v p.1 q.1)
   Equal_trans_abs a b c t u v ih (inl p) (inr q) k =
-      inr ((λ r. q.0 (sym p.0 ∙ r)), ap (λ n. n.sort) p.0 ∙ q.1, ih u (act_term (swap_of a c ∷ []) v) p.1 (subst (λ z. Equal d u (act_term (swap_of z c ∷ []) v)) (sym p.0) q.2), subst (λ z. Fresh d z v) (sym p.0) q.3)
+      inr ((λ r. q.0 (sym p.0 ∙ r)), ap (λ n. n.sort) p.0 ∙ q.1, ih u (swapped a c v) p.1 (subst (λ z. Equal d u (swapped z c v)) (sym p.0) q.2), subst (λ z. Fresh d z v) (sym p.0) q.3)
   Equal_trans_abs a b c t u v ih (inr p) (inl q) k =
-      inr ((λ r. p.0 (r ∙ sym q.0)), p.1 ∙ ap (λ n. n.sort) q.0, ih (act_term (swap_of a b ∷ []) u) (act_term (swap_of a c ∷ []) v) p.2 (subst (λ z. Equal d (act_term (swap_of a b ∷ []) u) (act_term (swap_of a z ∷ []) v)) q.0 (Equal_act u v (swap_of a b ∷ []) q.1)), Fresh_Equal a u v q.1 p.3)
+      inr ((λ r. p.0 (r ∙ sym q.0)), p.1 ∙ ap (λ n. n.sort) q.0, ih (swapped a b u) (swapped a c v) p.2 (subst (λ z. Equal d (swapped a b u) (swapped a z v)) q.0 (Equal_act u v (swap_of a b ∷ []) q.1)), Fresh_Equal a u v q.1 p.3)
   Equal_trans_abs a b c t u v ih (inr p) (inr q) (inl r) =
       inl (
         r,
         Equal_same t (act_act_none (swap_of a b ∷ []) (swap_of b c ∷ []) v (λ n. ap (λ z. swap_name (swap_of a b) (swap_name (swap_of b z) n)) (sym r) ∙ ap (swap_name (swap_of a b)) (sym (swap_flip a b n p.1)) ∙ swap_swap (swap_of a b) n))
-            (ih (act_term (swap_of a b ∷ []) u) (act_term (swap_of a b ∷ []) (act_term (swap_of b c ∷ []) v)) p.2 (Equal_act u (act_term (swap_of b c ∷ []) v) (swap_of a b ∷ []) q.2)),
+            (ih (swapped a b u) (swapped a b (swapped b c v)) p.2 (Equal_act u (swapped b c v) (swap_of a b ∷ []) q.2)),
       )
   Equal_trans_abs a b c t u v ih (inr p) (inr q) (inr n) =
-      let fa : Fresh d a v = Fresh_act_at (swap_of b c ∷ []) a a v (swap_other b c a q.1 p.0 n) (Fresh_Equal a u (act_term (swap_of b c ∷ []) v) q.2 p.3) in
-      let e2 : Equal d t (act_term (swap_of a b ∷ []) (act_term (swap_of b c ∷ []) v)) = ih (act_term (swap_of a b ∷ []) u) (act_term (swap_of a b ∷ []) (act_term (swap_of b c ∷ []) v)) p.2 (Equal_act u (act_term (swap_of b c ∷ []) v) (swap_of a b ∷ []) q.2) in
-      let e3 : Equal d (act_term (swap_of a b ∷ swap_of b c ∷ []) v) (act_term (swap_of a c ∷ []) v) = differ_Equal v (swap_of a b ∷ swap_of b c ∷ []) (swap_of a c ∷ []) (swaps_Fresh a b c v p.1 q.1 fa q.3) in
-      inr (n, p.1 ∙ q.1, ih (act_term (swap_of a b ∷ []) (act_term (swap_of b c ∷ []) v)) (act_term (swap_of a c ∷ []) v) e2 (subst (λ z. Equal d z (act_term (swap_of a c ∷ []) v)) (act_term-append (swap_of a b ∷ []) (swap_of b c ∷ []) v) e3), fa)
+      let fa : Fresh d a v = Fresh_act_at (swap_of b c ∷ []) a a v (swap_other b c a q.1 p.0 n) (Fresh_Equal a u (swapped b c v) q.2 p.3) in
+      let e2 : Equal d t (swapped a b (swapped b c v)) = ih (swapped a b u) (swapped a b (swapped b c v)) p.2 (Equal_act u (swapped b c v) (swap_of a b ∷ []) q.2) in
+      let e3 : Equal d (act_term (swap_of a b ∷ swap_of b c ∷ []) v) (swapped a c v) = differ_Equal v (swap_of a b ∷ swap_of b c ∷ []) (swap_of a c ∷ []) (swaps_Fresh a b c v p.1 q.1 fa q.3) in
+      inr (n, p.1 ∙ q.1, ih (swapped a b (swapped b c v)) (swapped a c v) e2 (subst (λ z. Equal d z (swapped a c v)) (act_term-append (swap_of a b ∷ []) (swap_of b c ∷ []) v) e3), fa)
 
   condition_trans : (π ρ τ : List Swap) (c : Name) (x : Var) → ((act_name π c ≢ act_name ρ c) → d c x) → ((act_name ρ c ≢ act_name τ c) → d c x)
       → (act_name π c ≢ act_name τ c) → (act_name π c ≡ act_name ρ c) ⊎ (act_name π c ≢ act_name ρ c) → d c x
@@ -204,15 +204,15 @@ module _ (d : Context) where
   Equal_sym (app f t) (app g u) h = (sym h.0, Equal_sym t u h.1)
   Equal_sym (abs a t) (abs b u) (inl h) = inl (sym h.0, Equal_sym t u h.1)
   Equal_sym (abs a t) (abs b u) (inr h) =
-      let back : Equal d (act_term (swap_of a b ∷ []) u) t = Equal_sym t (act_term (swap_of a b ∷ []) u) h.2 in
-      let far : Equal d (act_term (swap_of a b ∷ []) (act_term (swap_of a b ∷ []) u)) (act_term (swap_of a b ∷ []) t) = Equal_act (act_term (swap_of a b ∷ []) u) t (swap_of a b ∷ []) back in
-      let near : Equal d u (act_term (swap_of a b ∷ []) (act_term (swap_of a b ∷ []) u)) = same_are_Equal u (act_term (swap_of a b ∷ []) (act_term (swap_of a b ∷ []) u)) (same_sym (inverse_act_same (swap_of a b ∷ []) u)) in
+      let back : Equal d (swapped a b u) t = Equal_sym t (swapped a b u) h.2 in
+      let far : Equal d (swapped a b (swapped a b u)) (swapped a b t) = Equal_act (swapped a b u) t (swap_of a b ∷ []) back in
+      let near : Equal d u (swapped a b (swapped a b u)) = same_are_Equal u (swapped a b (swapped a b u)) (same_sym (inverse_act_same (swap_of a b ∷ []) u)) in
       inr (
         (λ p. h.0 (sym p)),
         sym h.1,
         Equal_same u (act_same (swap_of a b ∷ []) (swap_of b a ∷ []) (λ n. swap_flip a b n h.1) (same_itself t))
-            (Equal_trans u (act_term (swap_of a b ∷ []) (act_term (swap_of a b ∷ []) u)) (act_term (swap_of a b ∷ []) t) near far),
-        Fresh_Equal b (act_term (swap_of a b ∷ []) u) t back (act_Fresh_at (swap_of a b ∷ []) b a u (swap_name_right a b b h.1 refl) h.3),
+            (Equal_trans u (swapped a b (swapped a b u)) (swapped a b t) near far),
+        Fresh_Equal b (swapped a b u) t back (act_Fresh_at (swap_of a b ∷ []) b a u (swap_name_right a b b h.1 refl) h.3),
       )
   Equal_sym (susp π x) (susp ρ y) h = (sym h.0, λ c n. subst (λ w. d c w) h.0 (h.1 c (λ p. n (sym p))))
   Equal_sym _ _ h = absurd h
@@ -222,8 +222,8 @@ module _ (d : Context) where
   same_Equal t t' u e h = Equal_trans t' t u (same_are_Equal t' t (same_sym e)) h
 
   -- swapping two fresh names changes nothing up to equality
-  pub Equal_swap_fresh : (a b : Name) (t : NominalTerm) → a.sort ≡ b.sort → Fresh d a t → Fresh d b t → Equal d (act_term (swap_of a b ∷ []) t) t
-  Equal_swap_fresh a b t e fa fb = subst (λ z. Equal d (act_term (swap_of a b ∷ []) t) z) (act_term_none t) (differ_Equal t (swap_of a b ∷ []) [] (λ c n. go c n (name_decided c a) (name_decided c b)))
+  pub Equal_swap_fresh : (a b : Name) (t : NominalTerm) → a.sort ≡ b.sort → Fresh d a t → Fresh d b t → Equal d (swapped a b t) t
+  Equal_swap_fresh a b t e fa fb = subst (λ z. Equal d (swapped a b t) z) (act_term_none t) (differ_Equal t (swap_of a b ∷ []) [] (λ c n. go c n (name_decided c a) (name_decided c b)))
     where
       go : (c : Name) → (swap_name (swap_of a b) c ≡ c → ⊥) → (c ≡ a) ⊎ (c ≢ a) → (c ≡ b) ⊎ (c ≢ b) → Fresh d c t
       go c n (inl p) k = subst (λ z. Fresh d z t) (sym p) fa
@@ -269,7 +269,7 @@ module _ (d : Context) where
   size_Equal (pair t u) (pair v w) h = ap₂ (λ m n. 1 + m + n) (size_Equal t v h.0) (size_Equal u w h.1)
   size_Equal (app f t) (app g u) h = ap (λ m. 1 + m) (size_Equal t u h.1)
   size_Equal (abs a t) (abs b u) (inl h) = ap (λ m. 1 + m) (size_Equal t u h.1)
-  size_Equal (abs a t) (abs b u) (inr h) = ap (λ m. 1 + m) (size_Equal t (act_term (swap_of a b ∷ []) u) h.2 ∙ size_act_term (swap_of a b ∷ []) u)
+  size_Equal (abs a t) (abs b u) (inr h) = ap (λ m. 1 + m) (size_Equal t (swapped a b u) h.2 ∙ size_act_term (swap_of a b ∷ []) u)
   size_Equal (susp p x) (susp q y) h = refl
   size_Equal _ _ h = absurd h
 
@@ -315,6 +315,6 @@ module _ (d e : Context) (m : (a : Name) (x : Var) → d a x → e a x) where
   Equal_weaken (pair t u) (pair v w) h = (Equal_weaken t v h.0, Equal_weaken u w h.1)
   Equal_weaken (app f t) (app g u) h = (h.0, Equal_weaken t u h.1)
   Equal_weaken (abs a t) (abs b u) (inl h) = inl (h.0, Equal_weaken t u h.1)
-  Equal_weaken (abs a t) (abs b u) (inr h) = inr (h.0, h.1, Equal_weaken t (act_term (swap_of a b ∷ []) u) h.2, Fresh_weaken a u h.3)
+  Equal_weaken (abs a t) (abs b u) (inr h) = inr (h.0, h.1, Equal_weaken t (swapped a b u) h.2, Fresh_weaken a u h.3)
   Equal_weaken (susp p x) (susp q y) h = (h.0, λ c n. m c x (h.1 c n))
   Equal_weaken _ _ h = absurd h

@@ -13,7 +13,7 @@ use Rattle.ap_theory.specs.Contexts.{Context, Equal, Fresh}
 use Rattle.ap_theory.specs.Substitutions.{Substitution, applied, bound_or_itself, substitution_of, variables}
 use Rattle.ap_theory.proofs.BooleanLemmas.{or_cases, or_if_left, or_if_right}
 use Rattle.ap_theory.proofs.EqualityLemmas.{Equal_act, act_Fresh, differ_Equal}
-use Rattle.ap_theory.proofs.TermLemmas.{act_term-append, act_term_none, same_var, size_act_term, var_eq_flip, var_same}
+use Rattle.ap_theory.proofs.TermLemmas.{act_term-append, act_term_none, same_var, size_act_term, swapped, var_eq_flip, var_same}
 
 -- the action commutes with a substitution
 pub applied_act : (s : Substitution) (p : List Swap) (t : NominalTerm) → applied s (act_term p t) ≡ act_term p (applied s t)
@@ -71,7 +71,7 @@ module _ (d e : Context) (s : Substitution) (m : (c : Name) (x : Var) → d c x 
   applied_Equal (app f t) (app g u) h = (h.0, applied_Equal t u h.1)
   applied_Equal (abs a t) (abs b u) (inl h) = inl (h.0, applied_Equal t u h.1)
   applied_Equal (abs a t) (abs b u) (inr h) =
-      inr (h.0, h.1, subst (λ z. Equal e (applied s t) z) (applied_act s (swap_of a b ∷ []) u) (applied_Equal t (act_term (swap_of a b ∷ []) u) h.2), applied_Fresh a u h.3)
+      inr (h.0, h.1, subst (λ z. Equal e (applied s t) z) (applied_act s (swap_of a b ∷ []) u) (applied_Equal t (swapped a b u) h.2), applied_Fresh a u h.3)
   applied_Equal (susp p x) (susp q y) h = subst (λ z. Equal e (act_term p (s x)) (act_term q (s z))) h.0 (differ_Equal e (s x) p q (λ c n. m c x (h.1 c n)))
   applied_Equal _ _ h = absurd h
 

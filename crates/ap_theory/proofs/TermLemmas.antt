@@ -1,12 +1,13 @@
 -- Laws of nominal terms: action, variables, size.
-use Rattle.std.proofs.Common.{◌≡◌, ◌+◌, ◌≤◌, ℕ, true, ◌||◌, List, [], ◌++◌, refl, ap, ap₂, arith, eqb, append_assoc}
+use Rattle.std.proofs.Common.{◌≡◌, ◌+◌, ◌≤◌, ℕ, true, ◌||◌, List, [], ◌∷◌, ◌++◌, refl, ap, ap₂, arith, eqb, append_assoc}
 use Rattle.std.proofs.lemmas.Bool.Decides.{nat_tests}
 use Rattle.ap_defs.specs.Freshness.{cond_eq, var_eq}
-use Rattle.ap_defs.specs.Permutations.{name_eq}
+use Rattle.ap_defs.specs.Permutations.{name_eq, swap_of}
 use Rattle.ap_defs.specs.Substitution.{occurs}
 use Rattle.ap_defs.specs.Terms.{NominalTerm, abs, act_term, app, name, pair, susp, unit}
 use Rattle.ap_defs.specs.Unification.{size}
 use Rattle.ap_defs.specs.declared.terms.Cond.{Cond}
+use Rattle.ap_defs.specs.declared.terms.Name.{Name}
 use Rattle.ap_defs.specs.declared.terms.Swap.{Swap}
 use Rattle.ap_defs.specs.declared.terms.Var.{Var}
 use Rattle.ap_theory.proofs.BooleanLemmas.{and_both}
@@ -69,3 +70,7 @@ same_number m n h = grind (arith, nat_tests)
 
 pub cond_eq_itself : (c : Cond) → cond_eq c c ≡ true
 cond_eq_itself c = and_both (var_eq c.var c.var) (name_eq c.name c.name) (same_var c.var c.var refl) (name_eq_itself c.name)
+
+-- a term under one swapping
+abbrev pub swapped : Name → Name → NominalTerm → NominalTerm
+swapped a b t = act_term (swap_of a b ∷ []) t

@@ -1,15 +1,15 @@
 -- The tests of freshness and equality under a list of conditions hold just where what they test does.
 use Rattle.std.proofs.Common.{subst, ◌≡◌, true, ◌&&◌, not, List, [], ◌∷◌, refl, sym, ap, ◌∙◌, inl, inr, true≢false, eqb, ◌↔◌}
 use Rattle.ap_defs.specs.Freshness.{Conds, all_fresh, alpha_under, fresh_under, has_cond, var_eq}
-use Rattle.ap_defs.specs.Permutations.{disagreement, has_name, name_eq, swap_of}
-use Rattle.ap_defs.specs.Terms.{NominalTerm, abs, act_term, app, name, pair, susp, unit}
+use Rattle.ap_defs.specs.Permutations.{disagreement, has_name, name_eq}
+use Rattle.ap_defs.specs.Terms.{NominalTerm, abs, app, name, pair, susp, unit}
 use Rattle.ap_defs.specs.declared.terms.Name.{Name}
 use Rattle.ap_defs.specs.declared.terms.Var.{Var}
 use Rattle.ap_theory.specs.Contexts.{Equal, Fresh, listed}
 use Rattle.ap_theory.proofs.BooleanLemmas.{and_both, and_left, and_right, or_cases, or_if_left, or_if_right, or_right}
 use Rattle.ap_theory.proofs.DisagreementLemmas.{differing_disagree, disagree_differing, has_front}
 use Rattle.ap_theory.proofs.PermutationLemmas.{name_decided, name_eq_itself, name_eq_same, name_tells, not_name}
-use Rattle.ap_theory.proofs.TermLemmas.{number_same, same_number, same_var, var_same}
+use Rattle.ap_theory.proofs.TermLemmas.{number_same, same_number, same_var, swapped, var_same}
 
 pub fresh_under_Fresh : (ds : Conds) (a : Name) (t : NominalTerm) → fresh_under ds a t ≡ true → Fresh (listed ds) a t
 fresh_under_Fresh ds a unit h = tt
@@ -54,10 +54,9 @@ alpha_under_Equal ds (abs a t) (abs b u) h =
     elim (name_tells a b) [
       | inl w ↦ inl (w.1, alpha_under_Equal ds t u (rw w.0 at h))
       | inr w ↦
-          let moved_u = act_term (swap_of a b ∷ []) u in
-          let k : (eqb a.sort b.sort && (fresh_under ds a u && alpha_under ds t moved_u)) ≡ true = rw w.0 at h in
-          let m : (fresh_under ds a u && alpha_under ds t moved_u) ≡ true = and_right (eqb a.sort b.sort) _ k in
-          inr (w.1, number_same a.sort b.sort (and_left _ (fresh_under ds a u && alpha_under ds t moved_u) k), alpha_under_Equal ds t moved_u (and_right (fresh_under ds a u) _ m), fresh_under_Fresh ds a u (and_left _ (alpha_under ds t moved_u) m))
+          let k : (eqb a.sort b.sort && (fresh_under ds a u && alpha_under ds t (swapped a b u))) ≡ true = rw w.0 at h in
+          let m : (fresh_under ds a u && alpha_under ds t (swapped a b u)) ≡ true = and_right (eqb a.sort b.sort) _ k in
+          inr (w.1, number_same a.sort b.sort (and_left _ (fresh_under ds a u && alpha_under ds t (swapped a b u)) k), alpha_under_Equal ds t (swapped a b u) (and_right (fresh_under ds a u) _ m), fresh_under_Fresh ds a u (and_left _ (alpha_under ds t (swapped a b u)) m))
     ]
 alpha_under_Equal ds (susp p x) (susp q y) h = (
   var_same x y (and_left _ (all_fresh ds (disagreement p q) x) h),
@@ -73,7 +72,7 @@ Equal_alpha_under ds (app f t) (app g u) h = and_both _ _ (same_number f g h.0) 
 Equal_alpha_under ds (abs a t) (abs b u) (inl h) = rw (← h.0, name_eq_itself a) (Equal_alpha_under ds t u h.1)
 Equal_alpha_under ds (abs a t) (abs b u) (inr h) =
     rw (not_name a b h.0)
-    (and_both _ _ (same_number a.sort b.sort h.1) (and_both _ _ (Fresh_fresh_under ds a u h.3) (Equal_alpha_under ds t (act_term (swap_of a b ∷ []) u) h.2)))
+    (and_both _ _ (same_number a.sort b.sort h.1) (and_both _ _ (Fresh_fresh_under ds a u h.3) (Equal_alpha_under ds t (swapped a b u) h.2)))
 Equal_alpha_under ds (susp p x) (susp q y) h =
     and_both _ _ (same_var x y h.0) (each_all_fresh ds (disagreement p q) x (λ c m. h.1 c (disagree_differing p q c m)))
 Equal_alpha_under ds _ _ h = absurd h
