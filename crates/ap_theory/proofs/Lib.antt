@@ -14,6 +14,7 @@ pub mod EqualityLemmas
 pub mod TestLemmas
 pub mod SubstitutionLemmas
 pub mod ReductionLemmas
+pub mod CollectionLemmas
 pub mod SolvingLemmas
 pub mod MostGeneralLemmas
 pub mod IdempotenceLemmas

@@ -55,16 +55,16 @@ module _ (d : Context) (s : Substitution) where
 pub Fresh_reduce_variables : (d : Context) (a : Name) (t : NominalTerm) → Fresh d a t ↔ MeetsSome d variables (reduce a t)
 Fresh_reduce_variables d a t = iff_trans (iff_same (Fresh d a) (sym (applied_variables t))) (Fresh_reduce d variables a t)
 
+pub is_none_both : (o p : Option (List Cond)) → is_none (both o p) ≡ (is_none o || is_none p)
+is_none_both None p = refl
+is_none_both (Some cs) None = refl
+is_none_both (Some cs) (Some ds) = refl
+
 -- a problem is refuted just where the name is free in the term
 pub is_none_reduce : (a : Name) (t : NominalTerm) → is_none (reduce a t) ≡ is_free a t
 is_none_reduce a unit = refl
 is_none_reduce a (name b) = elim (name_eq a b) as (λ v. is_none {T = List Cond} (if v then None else Some []) ≡ v) [ true ↦ refl | false ↦ refl ]
 is_none_reduce a (pair t u) = is_none_both (reduce a t) (reduce a u) ∙ ap₂ ◌||◌ (is_none_reduce a t) (is_none_reduce a u)
-  where
-    is_none_both : (o p : Option (List Cond)) → is_none (both o p) ≡ (is_none o || is_none p)
-    is_none_both None p = refl
-    is_none_both (Some cs) None = refl
-    is_none_both (Some cs) (Some ds) = refl
 is_none_reduce a (app f t) = is_none_reduce a t
 is_none_reduce a (abs b t) = elim (name_eq a b) as (λ v. is_none {T = List Cond} (if v then Some [] else reduce a t) ≡ (not v && is_free a t)) [ true ↦ refl | false ↦ is_none_reduce a t ]
 is_none_reduce a (susp p x) = refl
@@ -99,7 +99,7 @@ reduce_all-append bs [] qs = empty_both (reduce_all bs qs)
     empty_both (Some cs) = refl
 reduce_all-append bs ((a # t) ∷ ps) qs = ap (both (reduce a (under bs t))) (reduce_all-append bs ps qs) ∙ sym (both_assoc (reduce a (under bs t)) (reduce_all bs ps) (reduce_all bs qs))
 
-both_again : (bs : List Binding) (o p : Option (List Cond)) → both (reduce_again bs o) (reduce_again bs p) ≡ reduce_again bs (both o p)
+pub both_again : (bs : List Binding) (o p : Option (List Cond)) → both (reduce_again bs o) (reduce_again bs p) ≡ reduce_again bs (both o p)
 both_again bs None p = refl
 both_again bs (Some cs) None = both_nothing (reduce_all bs (map problem_of cs))
 both_again bs (Some cs) (Some ds) = sym (reduce_all-append bs (map problem_of cs) (map problem_of ds)) ∙ ap (reduce_all bs) (sym (map_problem_of cs ds))

@@ -1,8 +1,8 @@
 -- What is proved of sets of conditions, and of reducing freshness problems to them.
 use Rattle.std.specs.Prelude.{◌≡◌, Bool, false, ◌&&◌, ◌||◌, not, List, [], map, Option, Some, None, is_none}
-use Rattle.ap_defs.specs.Freshness.{Conds, add_conds, has_cond, reduce}
+use Rattle.ap_defs.specs.Freshness.{Conds, add_conds, both, has_cond, reduce}
 use Rattle.ap_defs.specs.Permutations.{act_name, inverse, name_eq}
-use Rattle.ap_defs.specs.Substitution.{Binding, under}
+use Rattle.ap_defs.specs.Substitution.{Binding, Problem, under}
 use Rattle.ap_defs.specs.Terms.{NominalTerm, abs, act_term, app, name, pair, susp, unit}
 use Rattle.ap_defs.specs.Unification.{problem_of, reduce_all}
 use Rattle.ap_defs.specs.declared.terms.Cond.{Cond}
@@ -40,3 +40,22 @@ reduce_again bs (Some cs) = reduce_all bs (map problem_of cs)
 -- it doesn't matter whether a problem is reduced before or after the bindings are carried out
 abbrev pub ReductionCommutesWithBindings : Type 0
 ReductionCommutesWithBindings = (bs : List Binding) (a : Name) (t : NominalTerm) → reduce a (under bs t) ≡ reduce_again bs (reduce a t)
+
+-- the set of the conditions, where there are some
+abbrev pub collected : Option (List Cond) → Option Conds
+collected None = None
+collected (Some cs) = Some (add_conds cs [])
+
+abbrev pub joined : Option Conds → Option Conds → Option Conds
+joined None p = None
+joined (Some cs) None = None
+joined (Some cs) (Some ds) = Some (add_conds cs ds)
+
+-- Problems may be reduced as soon as they arise, and only the set of conditions kept: once bindings are added, what that set
+-- reduces to is what the problems reduce to. So a problem that is refuted early stays refuted.
+abbrev pub EarlyReductionSuffices : Type 0
+EarlyReductionSuffices = (bs cs : List Binding) → ((t : NominalTerm) → under cs (under bs t) ≡ under cs t) → (ps : List Problem)
+    → collected (reduce_all cs ps) ≡ collected (reduce_again cs (collected (reduce_all bs ps)))
+
+abbrev pub CollectingInParts : Type 0
+CollectingInParts = (o p : Option (List Cond)) → collected (both o p) ≡ joined (collected o) (collected p)

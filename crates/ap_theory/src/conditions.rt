@@ -1,6 +1,6 @@
 //! Laws of sets of conditions, and of reducing freshness problems to them.
 
-ghost use Rattle.ap_theory.specs.StatementsOnConditions.{AddedConditionsAreIn, ConditionsAreASet, ReductionCommutesWithBindings, ReductionMovesAcross, RefutedWhereFree};
+ghost use Rattle.ap_theory.specs.StatementsOnConditions.{AddedConditionsAreIn, CollectingInParts, ConditionsAreASet, EarlyReductionSuffices, ReductionCommutesWithBindings, ReductionMovesAcross, RefutedWhereFree};
 ghost use Rattle.ap_theory.specs.StatementsOnSubstitution.{ReductionIsLeast, ReductionIsLeastOfAll};
 
 use crate::contexts::Conditions;
@@ -16,6 +16,12 @@ pub fn conditions_are_a_set()
 pub fn reduction_is_least<D: Conditions>()
     ensures under { ReductionIsLeast D.holds }
     ensures least { ReductionIsLeastOfAll D.holds }
+{}
+
+/// Problems may be reduced as soon as they arise, and only the set of conditions kept.
+pub fn early_reduction()
+    ensures suffices { EarlyReductionSuffices }
+    ensures parts { CollectingInParts }
 {}
 
 /// A problem is refuted just where its name is free in the term. Reducing commutes with permutations
