@@ -3,7 +3,7 @@ use Rattle.std.proofs.Common.{◌≡◌, Bool, true, false, ◌||◌, List, [], 
 use Rattle.std.specs.Prelude.{is_none, Option, Some, None}
 use Rattle.ap_defs.specs.Freshness.{add_conds, both, cond_eq, has_cond, reduce}
 use Rattle.ap_defs.specs.Substitution.{Binding, Problem, under, ◌#◌}
-use Rattle.ap_defs.specs.Terms.{NominalTerm, name, susp}
+use Rattle.ap_defs.specs.Terms.{NominalTerm, susp}
 use Rattle.ap_defs.specs.Unification.{problem_of, reduce_all}
 use Rattle.ap_defs.specs.declared.terms.Cond.{Cond}
 use Rattle.ap_theory.specs.StatementsOnConditions.{collected, joined, reduce_again}
@@ -41,7 +41,8 @@ module _ (bs : List Binding) where
         | inr k ↦ or_if_right (is_none (reduced_cond d)) (is_none (reduced_conds ds)) (none_of_member c ds k h)
       ]
 
-  none_of_part : (cs ds : List Cond) → ((c : Cond) → has_cond c cs ≡ true → has_cond c ds ≡ true) → is_none (reduced_conds cs) ≡ true → is_none (reduced_conds ds) ≡ true
+  none_of_part : (cs ds : List Cond) → ((c : Cond) → has_cond c cs ≡ true → has_cond c ds ≡ true) → is_none (reduced_conds cs) ≡ true
+      → is_none (reduced_conds ds) ≡ true
   none_of_part [] ds m h = cc
   none_of_part (c ∷ cs) ds m h =
       elim (or_cases (is_none (reduced_cond c)) (is_none (reduced_conds cs)) (sym (is_none_both (reduced_cond c) (reduced_conds cs)) ∙ h)) [
@@ -49,7 +50,8 @@ module _ (bs : List Binding) where
         | inr e ↦ none_of_part cs ds (λ b k. m b (or_if_right (cond_eq b c) (has_cond b cs) k)) e
       ]
 
-  in_of_member : (b c : Cond) (ds : List Cond) → is_none (reduced_conds ds) ≡ false → has_cond c ds ≡ true → has_in b (reduced_cond c) ≡ true → has_in b (reduced_conds ds) ≡ true
+  in_of_member : (b c : Cond) (ds : List Cond) → is_none (reduced_conds ds) ≡ false → has_cond c ds ≡ true → has_in b (reduced_cond c) ≡ true
+      → has_in b (reduced_conds ds) ≡ true
   in_of_member b c [] n m h = cc
   in_of_member b c (d ∷ ds) n m h =
       has_in_both b (reduced_cond d) (reduced_conds ds) n
@@ -58,7 +60,8 @@ module _ (bs : List Binding) where
         | inr k ↦ or_if_right (has_in b (reduced_cond d)) (has_in b (reduced_conds ds)) (in_of_member b c ds (some_parts d ds n) k h)
       ]
 
-  in_of_part : (b : Cond) (cs ds : List Cond) → ((c : Cond) → has_cond c cs ≡ true → has_cond c ds ≡ true) → is_none (reduced_conds cs) ≡ false → is_none (reduced_conds ds) ≡ false
+  in_of_part : (b : Cond) (cs ds : List Cond) → ((c : Cond) → has_cond c cs ≡ true → has_cond c ds ≡ true) → is_none (reduced_conds cs) ≡ false
+      → is_none (reduced_conds ds) ≡ false
       → has_in b (reduced_conds cs) ≡ true → has_in b (reduced_conds ds) ≡ true
   in_of_part b [] ds m k n h = cc
   in_of_part b (c ∷ cs) ds m k n h =
@@ -78,14 +81,16 @@ module _ (bs : List Binding) where
       collected_by (reduced_conds cs) (reduced_conds ds) (none_same cs ds m)
       (λ b k n. same_test (has_in b (reduced_conds cs)) (has_in b (reduced_conds ds)) (in_of_part b cs ds (λ c h. sym (m c) ∙ h) k n) (in_of_part b ds cs (λ c h. m c ∙ h) n k))
     where
-      collected_by : (o p : Option (List Cond)) → is_none o ≡ is_none p → ((b : Cond) → is_none o ≡ false → is_none p ≡ false → has_in b o ≡ has_in b p) → collected o ≡ collected p
+      collected_by : (o p : Option (List Cond)) → is_none o ≡ is_none p
+          → ((b : Cond) → is_none o ≡ false → is_none p ≡ false → has_in b o ≡ has_in b p) → collected o ≡ collected p
       collected_by None None h k = refl
       collected_by None (Some es) h k = absurd (true≢false h)
       collected_by (Some es) None h k = absurd (true≢false (sym h))
       collected_by (Some es) (Some fs) h k = ap Some (add_conds_same es fs (λ b. k b refl refl))
 
 -- problems that were reduced under bindings, reduced again under bindings that extend them
-pub reduce_all_again : (bs cs : List Binding) → ((t : NominalTerm) → under cs (under bs t) ≡ under cs t) → (ps : List Problem) → reduce_all cs ps ≡ reduce_again cs (reduce_all bs ps)
+pub reduce_all_again : (bs cs : List Binding) → ((t : NominalTerm) → under cs (under bs t) ≡ under cs t) → (ps : List Problem)
+    → reduce_all cs ps ≡ reduce_again cs (reduce_all bs ps)
 reduce_all_again bs cs e [] = refl
 reduce_all_again bs cs e ((a # t) ∷ ps) =
     ap₂ both (ap (reduce a) (sym (e t)) ∙ reduce_under cs a (under bs t)) (reduce_all_again bs cs e ps)

@@ -10,6 +10,7 @@ pub mod ConditionSetLemmas
 pub mod VariableLemmas
 pub mod SameTermLemmas
 pub mod TerminationLemmas
+pub mod SameUnificationLemmas
 pub mod EqualityLemmas
 pub mod TestLemmas
 pub mod SubstitutionLemmas

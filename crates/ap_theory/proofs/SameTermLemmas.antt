@@ -1,13 +1,13 @@
--- What unification does with terms that count as equal counts as equal.
-use Rattle.std.proofs.Common.{subst, ◌≡◌, ◌+◌, ℕ, zero, suc, true, false, ◌||◌, List, [], ◌∷◌, ◌++◌, map, refl, sym, ap, ap₂, ◌∙◌, arith, ◌↔◌}
-use Rattle.std.specs.Prelude.{if◌then◌else◌, nat_lt, ◌==◌, Option, Some, None}
+-- Terms that count as equal, and what rules and reductions make of them.
+use Rattle.std.proofs.Common.{subst, ◌≡◌, true, false, ◌||◌, List, [], ◌∷◌, ◌++◌, map, refl, sym, ap, ap₂, ◌∙◌, ◌↔◌}
+use Rattle.std.specs.Prelude.{if◌then◌else◌, nat_lt, ◌==◌, Option, Some}
 use Rattle.ap_defs.specs.Canonical.{canonical_term}
 use Rattle.ap_defs.specs.Freshness.{Conds, both, reduce, var_eq}
 use Rattle.ap_defs.specs.Permutations.{IsSamePerm, act_name, disagreement, inverse, name_eq, swap_of}
-use Rattle.ap_defs.specs.SameTerm.{SameBindings, SameEnding, SameEquations, SameProblems, SameRule, SameStage, SameTerm, SameTerms, SameUnified, next_binding, next_equation, next_problem, next_term, no_bindings, no_equations, no_problems, no_terms, same_abs, same_app, same_bind, same_clash, same_name, same_pair, same_replace, same_susp, same_unit}
-use Rattle.ap_defs.specs.Substitution.{Binding, Equation, Problem, bound_term, moved, occurs, put, put_binding, put_equation, put_problem, under, ◌#◌, ◌≐◌}
+use Rattle.ap_defs.specs.SameTerm.{SameBindings, SameEquations, SameProblems, SameRule, SameTerm, next_binding, next_equation, next_problem, no_bindings, no_equations, no_problems, same_abs, same_app, same_bind, same_clash, same_name, same_pair, same_replace, same_susp, same_unit}
+use Rattle.ap_defs.specs.Substitution.{Binding, Equation, Problem, occurs, put, put_binding, put_equation, put_problem, ◌#◌, ◌≐◌}
 use Rattle.ap_defs.specs.Terms.{NominalTerm, abs, act_term, app, name, pair, susp, unit}
-use Rattle.ap_defs.specs.Unification.{Ending, Progress, Rule, Stage, after, apply_rule, bind, clash, done, ending, equations_of, failed, finish, first_stage, fresh_for, next, problem_of, reduce_all, replace, rule, run, solved, step, step_of, steps_for, unfinished, unify, unless_occurs, unsolvable, with_conditions}
+use Rattle.ap_defs.specs.Unification.{bind, clash, fresh_for, problem_of, replace, rule, unless_occurs}
 use Rattle.ap_defs.specs.declared.terms.Cond.{Cond}
 use Rattle.ap_defs.specs.declared.terms.Name.{Name}
 use Rattle.ap_defs.specs.declared.terms.Swap.{Swap}
@@ -16,7 +16,6 @@ use Rattle.ap_theory.proofs.CanonicalLemmas.{canonical_act, canonical_same}
 use Rattle.ap_theory.proofs.DisagreementLemmas.{disagreement_same}
 use Rattle.ap_theory.proofs.PermutationLemmas.{act-append, act_inverse, act_swap, append_same, inverse_act, inverse_same}
 use Rattle.ap_theory.proofs.TermLemmas.{act_term-append, act_term_none}
-use Rattle.ap_theory.proofs.TerminationLemmas.{ending_ends, run_more}
 
 pub act_same : (p q : List Swap) → IsSamePerm p q → {t u : NominalTerm} → SameTerm t u → SameTerm (act_term p t) (act_term q u)
 act_same p q h same_unit = same_unit
@@ -91,124 +90,28 @@ rule_same (same_abs i) (same_susp {p} {q} {x} h) = bind_same x p q h (same_abs i
 rule_same _ _ = same_clash
 
 -- stages, steps and runs
-put_equations_same : (x : Var) {v w : NominalTerm} → SameTerm v w → {es fs : List Equation} → SameEquations es fs
+pub put_equations_same : (x : Var) {v w : NominalTerm} → SameTerm v w → {es fs : List Equation} → SameEquations es fs
     → SameEquations (map (put_equation x v) es) (map (put_equation x w) fs)
 put_equations_same x h no_equations = no_equations
 put_equations_same x h (next_equation i j k) = next_equation (put_same x h i) (put_same x h j) (put_equations_same x h k)
 
-put_problems_same : (x : Var) {v w : NominalTerm} → SameTerm v w → {ps qs : List Problem} → SameProblems ps qs
+pub put_problems_same : (x : Var) {v w : NominalTerm} → SameTerm v w → {ps qs : List Problem} → SameProblems ps qs
     → SameProblems (map (put_problem x v) ps) (map (put_problem x w) qs)
 put_problems_same x h no_problems = no_problems
 put_problems_same x h (next_problem i j) = next_problem (put_same x h i) (put_problems_same x h j)
 
-put_bindings_same : (x : Var) {v w : NominalTerm} → SameTerm v w → {r s : List Binding} → SameBindings r s
+pub put_bindings_same : (x : Var) {v w : NominalTerm} → SameTerm v w → {r s : List Binding} → SameBindings r s
     → SameBindings (map (put_binding x v) r) (map (put_binding x w) s)
 put_bindings_same x h no_bindings = no_bindings
 put_bindings_same x h (next_binding i j) = next_binding (put_same x h i) (put_bindings_same x h j)
 
-equations_append_same : {es fs gs hs : List Equation} → SameEquations es fs → SameEquations gs hs → SameEquations (es ++ gs) (fs ++ hs)
+pub equations_append_same : {es fs gs hs : List Equation} → SameEquations es fs → SameEquations gs hs → SameEquations (es ++ gs) (fs ++ hs)
 equations_append_same no_equations k = k
 equations_append_same (next_equation i j h) k = next_equation i j (equations_append_same h k)
 
-problems_append_same : {ps qs rs ts : List Problem} → SameProblems ps qs → SameProblems rs ts → SameProblems (ps ++ rs) (qs ++ ts)
+pub problems_append_same : {ps qs rs ts : List Problem} → SameProblems ps qs → SameProblems rs ts → SameProblems (ps ++ rs) (qs ++ ts)
 problems_append_same no_problems k = k
 problems_append_same (next_problem i h) k = next_problem i (problems_append_same h k)
-
-abbrev SameProgress : Progress → Progress → Type 0
-SameProgress done done = Unit {0}
-SameProgress failed failed = Unit {0}
-SameProgress (next s) (next r) = SameStage s r
-SameProgress _ _ = ⊥
-
-apply_same : {a b : Rule} → SameRule a b → {es fs : List Equation} {ps qs : List Problem} {s r : List Binding} → SameEquations es fs
-    → SameProblems ps qs → SameBindings s r → SameProgress (apply_rule a es ps s) (apply_rule b fs qs r)
-apply_same (same_replace h i) j k l = record { equations = equations_append_same h j; problems = problems_append_same k i; bindings = l }
-apply_same (same_bind {x} h) j k l = record { equations = put_equations_same x h j; problems = put_problems_same x h k; bindings = next_binding h (put_bindings_same x h l) }
-apply_same same_clash j k l = tt
-
-step_same : {es fs : List Equation} {ps qs : List Problem} {s r : List Binding} → SameEquations es fs → SameProblems ps qs → SameBindings s r
-    → SameProgress (step_of es ps s) (step_of fs qs r)
-step_same no_equations k l = tt
-step_same (next_equation h i j) k l = apply_same (rule_same h i) j k l
-
-after_same : (f g : Stage → Ending) → ((s r : Stage) → SameStage s r → SameEnding (f s) (g r)) → (s r : Stage) → SameStage s r → (p q : Progress)
-    → SameProgress p q → SameEnding (after f s p) (after g r q)
-after_same f g go s r h done done i = h
-after_same f g go s r h failed failed i = tt
-after_same f g go s r h (next s') (next r') i = go s' r' i
-after_same f g go s r h _ _ i = absurd i
-
-run_same : (k : ℕ) (s r : Stage) → SameStage s r → SameEnding (run k s) (run k r)
-run_same zero s r h = tt
-run_same (suc k) s r h = after_same (run k) (run k) (run_same k) s r h (step s) (step r) (step_same h.equations h.problems h.bindings)
-
-pub ending_same : (s r : Stage) → SameStage s r → SameEnding (ending s) (ending r)
-unfolding ending
-ending_same s r h =
-    let k = steps_for s + steps_for r in
-    let a : run k s ≡ run (steps_for s) s = run_more (steps_for s) k s (omega arith) (ending_ends s) in
-    let b : run k r ≡ run (steps_for r) r = run_more (steps_for r) k r (omega arith) (ending_ends r) in
-    subst (λ (e : Ending). SameEnding e (run (steps_for r) r)) a (subst (λ (e : Ending). SameEnding (run k s) e) b (run_same k s r h))
-
--- phase 2
-pub reduce_same : (a : Name) {t u : NominalTerm} → SameTerm t u → reduce a t ≡ reduce a u
-reduce_same a same_unit = refl
-reduce_same a same_name = refl
-reduce_same a (same_pair h i) = ap₂ both (reduce_same a h) (reduce_same a i)
-reduce_same a (same_app h) = reduce_same a h
-reduce_same a (same_abs {a = b} {t} {u} h) = ap (λ (o : Option (List Cond)). if name_eq a b then Some [] else o) (reduce_same a h)
-reduce_same a (same_susp {p} {q} {x} h) = ap (λ (b : Name). Some (record { name = b; var = x } ∷ [])) (inverse_same p q h a)
-
-moved_bound_same : (p q : List Swap) (x : Var) → IsSamePerm p q → {r s : List Binding} → SameBindings r s
-    → SameTerm (moved p x (bound_term r x)) (moved q x (bound_term s x))
-moved_bound_same p q x h no_bindings = same_susp h
-moved_bound_same p q x h (next_binding {x = y} {t} {u} {r} {s} i j) =
-    elim (var_eq x y) as (λ b. SameTerm (moved p x (if b then Some t else bound_term r x)) (moved q x (if b then Some u else bound_term s x))) [
-      | true ↦ act_same p q h i
-      | false ↦ moved_bound_same p q x h j
-    ]
-
-pub under_same : {r s : List Binding} → SameBindings r s → {t u : NominalTerm} → SameTerm t u → SameTerm (under r t) (under s u)
-under_same b same_unit = same_unit
-under_same b same_name = same_name
-under_same b (same_pair h i) = same_pair (under_same b h) (under_same b i)
-under_same b (same_app h) = same_app (under_same b h)
-under_same b (same_abs h) = same_abs (under_same b h)
-under_same b (same_susp {p} {q} {x} h) = moved_bound_same p q x h b
-
-reduce_all_same : {r s : List Binding} → SameBindings r s → {ps qs : List Problem} → SameProblems ps qs → reduce_all r ps ≡ reduce_all s qs
-reduce_all_same b no_problems = refl
-reduce_all_same b (next_problem {a} h i) = ap₂ both (reduce_same a (under_same b h)) (reduce_all_same b i)
-
-conds_same : (ds : Conds) → SameProblems (map problem_of ds) (map problem_of ds)
-conds_same [] = no_problems
-conds_same (d ∷ ds) = next_problem (same_susp (λ a. refl)) (conds_same ds)
-
-with_same : {r s : List Binding} → SameBindings r s → (o : Option (List Cond)) → SameUnified (with_conditions r o) (with_conditions s o)
-with_same b None = tt
-with_same b (Some cs) = (b, refl)
-
-finish_same : (ds : Conds) (e f : Ending) → SameEnding e f → SameUnified (finish ds e) (finish ds f)
-finish_same ds unfinished unfinished h = tt
-finish_same ds unsolvable unsolvable h = tt
-finish_same ds (solved s) (solved r) h =
-    let same = reduce_all_same h.bindings (problems_append_same (conds_same ds) h.problems) in
-    subst (λ (o : Option (List Cond)). SameUnified (with_conditions s.bindings (reduce_all s.bindings (map problem_of ds ++ s.problems))) (with_conditions r.bindings o)) same (with_same h.bindings _)
-finish_same ds _ _ h = absurd h
-
-equations_same : {r s : List Binding} → SameBindings r s → {ts us vs ws : List NominalTerm} → SameTerms ts vs → SameTerms us ws
-    → SameEquations (equations_of r ts us) (equations_of s vs ws)
-equations_same b no_terms k = no_equations
-equations_same b (next_term h i) no_terms = no_equations
-equations_same b (next_term h i) (next_term j k) = next_equation (under_same b h) (under_same b j) (equations_same b i k)
-
--- terms and bindings that count as equal unify with results that count as equal
-pub unify_same : {r s : List Binding} → SameBindings r s → (ds : Conds) → {ts us vs ws : List NominalTerm} → SameTerms ts vs → SameTerms us ws
-    → SameUnified (unify r ds ts us) (unify s ds vs ws)
-unfolding unify
-unify_same {r} {s} b ds {ts} {us} {vs} {ws} h k =
-    finish_same ds (ending (first_stage r ts us)) (ending (first_stage s vs ws))
-    (ending_same (first_stage r ts us) (first_stage s vs ws) (record { equations = equations_same b h k; problems = no_problems; bindings = b }))
 
 -- terms that count as equal
 pub same_itself : (t : NominalTerm) → SameTerm t t
@@ -278,3 +181,15 @@ same_iff_canonical t u = (
   (λ h. same_canonical_term h),
   (λ e. same_trans (same_sym (canonical_term_same t)) (subst (λ (z : NominalTerm). SameTerm z u) (sym e) (canonical_term_same u))),
 )
+
+pub reduce_same : (a : Name) {t u : NominalTerm} → SameTerm t u → reduce a t ≡ reduce a u
+reduce_same a same_unit = refl
+reduce_same a same_name = refl
+reduce_same a (same_pair h i) = ap₂ both (reduce_same a h) (reduce_same a i)
+reduce_same a (same_app h) = reduce_same a h
+reduce_same a (same_abs {a = b} {t} {u} h) = ap (λ (o : Option (List Cond)). if name_eq a b then Some [] else o) (reduce_same a h)
+reduce_same a (same_susp {p} {q} {x} h) = ap (λ (b : Name). Some (record { name = b; var = x } ∷ [])) (inverse_same p q h a)
+
+pub conds_same : (ds : Conds) → SameProblems (map problem_of ds) (map problem_of ds)
+conds_same [] = no_problems
+conds_same (d ∷ ds) = next_problem (same_susp (λ a. refl)) (conds_same ds)

@@ -1,11 +1,12 @@
 -- What is proved of unification.
-use Rattle.std.specs.Prelude.{◌≡◌, ◌≢◌, ◌≤◌, ℕ, ◌&&◌, List}
+use Rattle.std.specs.Prelude.{◌≡◌, ◌≢◌, ◌≤◌, ℕ, ◌&&◌, List, Option, Some, None}
 use Rattle.ap_defs.specs.Freshness.{Conds}
 use Rattle.ap_defs.specs.Groundings.{Grounding, agrees, equates_all, is_instance, meets}
-use Rattle.ap_defs.specs.SameTerm.{SameBindings, SameTerms, SameUnified}
-use Rattle.ap_defs.specs.Substitution.{Binding}
+use Rattle.ap_defs.specs.SameTerm.{SameBindings, SameTerm, SameTerms, SameUnified}
+use Rattle.ap_defs.specs.Substitution.{Binding, bound_term}
 use Rattle.ap_defs.specs.Terms.{NominalTerm}
-use Rattle.ap_defs.specs.Unification.{Stage, done, ending, failed, next, run, solved, step, steps_for, unfinished, unify, unsolvable}
+use Rattle.ap_defs.specs.Unification.{Stage, Unified, done, ending, failed, next, run, solved, step, steps_for, unfinished, unify, unsolvable}
+use Rattle.ap_defs.specs.declared.terms.Var.{Var}
 
 -- the steps that are allowed suffice
 abbrev pub UnificationEnds : Type 0
@@ -38,3 +39,22 @@ UnificationHasTheInstances = (g : Grounding) (s : List Binding) (ds : Conds) (ts
 abbrev pub UnificationRespectsEqualPermutations : Type 0
 UnificationRespectsEqualPermutations = (r s : List Binding) (ds : Conds) (ts us vs ws : List NominalTerm)
     → SameBindings r s → SameTerms ts vs → SameTerms us ws → SameUnified (unify r ds ts us) (unify s ds vs ws)
+
+abbrev pub BoundAlike : Option NominalTerm → Option NominalTerm → Type 0
+BoundAlike None None = Unit {0}
+BoundAlike (Some t) (Some u) = SameTerm t u
+BoundAlike _ _ = ⊥
+
+-- lists of bindings that are one substitution, whatever their order
+abbrev pub BindAlike : List Binding → List Binding → Type 0
+BindAlike r s = (x : Var) → BoundAlike (bound_term r x) (bound_term s x)
+
+abbrev pub UnifiedAlike : Option Unified → Option Unified → Type 0
+UnifiedAlike None None = Unit {0}
+UnifiedAlike (Some a) (Some b) = BindAlike a.bindings b.bindings × (a.conditions ≡ b.conditions)
+UnifiedAlike _ _ = ⊥
+
+-- the order of the bindings does not matter, nor how permutations are listed
+abbrev pub UnificationSeesTheSubstitution : Type 0
+UnificationSeesTheSubstitution = (r s : List Binding) (ds : Conds) (ts us vs ws : List NominalTerm)
+    → BindAlike r s → SameTerms ts vs → SameTerms us ws → UnifiedAlike (unify r ds ts us) (unify s ds vs ws)

@@ -1,7 +1,7 @@
 //! Laws of nominal unification (Urban, Pitts and Gabbay, "Nominal unification").
 
 ghost use Rattle.ap_theory.specs.StatementsOnSubstitution.{UnificationIsMostGeneral};
-ghost use Rattle.ap_theory.specs.StatementsOnUnification.{EndingAfterAStep, EndingByAnyBound, EndingOfAFailure, EndingOfTheDone, MoreStepsChangeNothing, UnificationEnds, UnificationHasTheInstances, UnificationRespectsEqualPermutations};
+ghost use Rattle.ap_theory.specs.StatementsOnUnification.{EndingAfterAStep, EndingByAnyBound, EndingOfAFailure, EndingOfTheDone, MoreStepsChangeNothing, UnificationEnds, UnificationHasTheInstances, UnificationRespectsEqualPermutations, UnificationSeesTheSubstitution};
 
 use crate::contexts::Conditions;
 
@@ -25,9 +25,10 @@ pub fn unification_is_most_general()
 {}
 
 /// Inputs whose lists of swappings are equal as permutations give such results, and the same
-/// conditions.
+/// conditions. The order of the bindings does not matter.
 pub fn unification_respects_equal_permutations()
-    ensures { UnificationRespectsEqualPermutations }
+    ensures same { UnificationRespectsEqualPermutations }
+    ensures order { UnificationSeesTheSubstitution }
 {}
 
 /// What unification gives has as its instances just the substitutions that solve the equations,
