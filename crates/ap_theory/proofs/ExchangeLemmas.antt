@@ -8,7 +8,7 @@ use Rattle.ap_theory.specs.Exchanges.{AreApart, exchange, extension, new_names, 
 use Rattle.ap_theory.specs.StatementsOnExchanges.{Exchangeable}
 use Rattle.ap_theory.proofs.BooleanLemmas.{false_if_not, or_cases, or_false, or_if_right}
 use Rattle.ap_theory.proofs.DisagreementLemmas.{has_front, has_name-append}
-use Rattle.ap_theory.proofs.PermutationLemmas.{act-append, name_eq_itself, name_eq_same, swap_left, swap_other, swap_right}
+use Rattle.ap_theory.proofs.PermutationLemmas.{act-append, name_eq_itself, name_eq_same, swap_flip, swap_left, swap_other}
 
 number_above_from : (as' : List Name) (m : ℕ) → m ≤ number_above as' m
 number_above_from [] m = omega arith
@@ -126,14 +126,6 @@ exchange_other (c ∷ cs) (d ∷ ds) a s h k =
     ∙ swap_other c d a (sym s.0) (not_has a c cs h) (not_has a d ds k)
 exchange_other _ _ a s h k = absurd s
 
-exchange_first : (c : Name) (cs : List Name) (d : Name) (ds : List Name) → AreOfSorts (c ∷ cs) (d ∷ ds) → has_name c cs ≡ false
-    → has_name d ds ≡ false → AreApart (c ∷ cs) (d ∷ ds)
-    → (has_name c ds ≡ false) × (has_name d cs ≡ false)
-exchange_first c cs d ds s h k p = (
-  not_has_later c d ds (p c (has_front c cs)),
-  false_if_not (has_name d cs) (λ m. true≢false (sym (has_front d ds) ∙ p d (or_if_right (name_eq d c) (has_name d cs) m))),
-)
-
 -- what is apart from two lists is apart from their ends
 apart_ends : (c : Name) (cs : List Name) (d : Name) (ds : List Name) → AreApart (c ∷ cs) (d ∷ ds) → AreApart cs ds
 apart_ends c cs d ds p a m = not_has_later a d ds (p a (or_if_right (name_eq a c) (has_name a cs) m))
@@ -143,26 +135,24 @@ exchange_goes [] [] h = refl
 exchange_goes (c ∷ cs) (d ∷ ds) h =
     let e = exchange cs ds in
     let s = swap_of c d in
-    let f = exchange_first c cs d ds h.0 h.1.0 h.2.0 h.3 in
+    let off : has_name c ds ≡ false = not_has_later c d ds (h.3 c (has_front c cs)) in
     ap₂ ◌∷◌
-    (ap (swap_name s) (exchange_other cs ds c h.0.1 h.1.0 f.0) ∙ swap_left c d (sym h.0.0))
+    (ap (swap_name s) (exchange_other cs ds c h.0.1 h.1.0 off) ∙ swap_left c d (sym h.0.0))
     (map_after (swap_name s) (act_name e) cs
     ∙ ap (map (swap_name s)) (exchange_goes cs ds (h.0.1, h.1.1, h.2.1, apart_ends c cs d ds h.3))
-    ∙ map_fixed (swap_name s) ds (λ a m. swap_other c d a (sym h.0.0) (member_apart a c ds f.0 m) (member_apart a d ds h.2.0 m)))
+    ∙ map_fixed (swap_name s) ds (λ a m. swap_other c d a (sym h.0.0) (member_apart a c ds off m) (member_apart a d ds h.2.0 m)))
 exchange_goes _ _ h = absurd h.0
 
+-- it doesn't matter which list comes first
+exchange_flip : (cs ds : List Name) → AreOfSorts cs ds → IsSamePerm (exchange cs ds) (exchange ds cs)
+exchange_flip [] [] s a = refl
+exchange_flip (c ∷ cs) (d ∷ ds) s a = ap (swap_name (swap_of c d)) (exchange_flip cs ds s.1 a) ∙ swap_flip c d (act_name (exchange ds cs) a) (sym s.0)
+exchange_flip _ _ s a = absurd s
+
 pub exchange_comes_back : (cs ds : List Name) → Exchangeable cs ds → map (act_name (exchange cs ds)) ds ≡ cs
-exchange_comes_back [] [] h = refl
-exchange_comes_back (c ∷ cs) (d ∷ ds) h =
-    let e = exchange cs ds in
-    let s = swap_of c d in
-    let f = exchange_first c cs d ds h.0 h.1.0 h.2.0 h.3 in
-    ap₂ ◌∷◌
-    (ap (swap_name s) (exchange_other cs ds d h.0.1 f.1 h.2.0) ∙ swap_right c d (sym h.0.0))
-    (map_after (swap_name s) (act_name e) ds
-    ∙ ap (map (swap_name s)) (exchange_comes_back cs ds (h.0.1, h.1.1, h.2.1, apart_ends c cs d ds h.3))
-    ∙ map_fixed (swap_name s) cs (λ a m. swap_other c d a (sym h.0.0) (member_apart a c cs h.1.0 m) (member_apart a d cs f.1 m)))
-exchange_comes_back _ _ h = absurd h.0
+exchange_comes_back cs ds h =
+    map_same (act_name (exchange cs ds)) (act_name (exchange ds cs)) ds (exchange_flip cs ds h.0)
+    ∙ exchange_goes ds cs (sorts_flip cs ds h.0, h.2, h.1, apart_flip cs ds h.3)
 
 pub exchange_exchange : (cs ds : List Name) → Exchangeable cs ds → IsSamePerm (exchange cs ds ++ exchange cs ds) []
 exchange_exchange cs ds h a =
