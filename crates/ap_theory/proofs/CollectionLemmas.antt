@@ -3,7 +3,7 @@ use Rattle.std.proofs.Common.{◌≡◌, Bool, true, false, ◌||◌, List, [], 
 use Rattle.std.specs.Prelude.{is_none, Option, Some, None}
 use Rattle.ap_defs.specs.Freshness.{add_conds, both, cond_eq, has_cond, reduce}
 use Rattle.ap_defs.specs.Substitution.{Binding, Problem, under, ◌#◌}
-use Rattle.ap_defs.specs.Terms.{NominalTerm, name, susp}
+use Rattle.ap_defs.specs.Terms.{NominalTerm, susp}
 use Rattle.ap_defs.specs.Unification.{problem_of, reduce_all}
 use Rattle.ap_defs.specs.declared.terms.Cond.{Cond}
 use Rattle.ap_theory.specs.StatementsOnConditions.{collected, joined, reduce_again}

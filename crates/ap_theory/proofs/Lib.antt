@@ -23,3 +23,4 @@ pub mod OpenSoundnessLemmas
 pub mod RefusalLemmas
 pub mod GroundLemmas
 pub mod GroundingLemmas
+pub mod ReplacementLemmas

@@ -4,7 +4,7 @@ use Rattle.std.specs.Prelude.{if◌then◌else◌, Option, Some, None}
 use Rattle.ap_defs.specs.Freshness.{Conds, add_cond, add_conds, cond_before, cond_eq, reduce, var_eq}
 use Rattle.ap_defs.specs.Permutations.{name_eq}
 use Rattle.ap_defs.specs.Substitution.{Binding, Problem, bound_term, under, ◌#◌, ◌:=◌}
-use Rattle.ap_defs.specs.Terms.{NominalTerm, name}
+use Rattle.ap_defs.specs.Terms.{NominalTerm}
 use Rattle.ap_defs.specs.Unification.{Ending, ending, equations_of, finish, first_stage, problem_of, reduce_all, solved, steps_for, unfinished, unify, unsolvable, with_conditions}
 use Rattle.ap_defs.specs.declared.terms.Cond.{Cond}
 use Rattle.ap_defs.specs.declared.terms.Var.{Var}

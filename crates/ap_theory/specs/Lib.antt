@@ -11,3 +11,4 @@ pub mod Exchanges
 pub mod StatementsOnExchanges
 pub mod StatementsOnConditions
 pub mod StatementsOnGroundings
+pub mod StatementsOnReplacement
