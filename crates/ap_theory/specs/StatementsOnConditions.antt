@@ -1,5 +1,5 @@
 -- What is proved of sets of conditions, and of reducing freshness problems to them.
-use Rattle.std.specs.Prelude.{◌≡◌, Bool, false, ◌&&◌, ◌||◌, not, List, [], map, Option, Some, None, is_none}
+use Rattle.std.specs.Prelude.{◌≡◌, Bool, false, ◌&&◌, ◌||◌, not, List, [], map, Option, Some, None, ◌↔◌, is_none}
 use Rattle.ap_defs.specs.Freshness.{Conds, add_conds, both, has_cond, reduce}
 use Rattle.ap_defs.specs.Permutations.{act_name, inverse, name_eq}
 use Rattle.ap_defs.specs.Substitution.{Binding, Problem, under}
@@ -8,6 +8,8 @@ use Rattle.ap_defs.specs.Unification.{problem_of, reduce_all}
 use Rattle.ap_defs.specs.declared.terms.Cond.{Cond}
 use Rattle.ap_defs.specs.declared.terms.Name.{Name}
 use Rattle.ap_defs.specs.declared.terms.Swap.{Swap}
+use Rattle.ap_theory.specs.Contexts.{Context, Fresh}
+use Rattle.ap_theory.specs.Substitutions.{MeetsSome, Substitution, applied, variables}
 
 abbrev pub AddedConditionsAreIn : Type 0
 AddedConditionsAreIn = (c : Cond) (cs : List Cond) (ds : Conds) → has_cond c (add_conds cs ds) ≡ (has_cond c cs || has_cond c ds)
@@ -15,6 +17,14 @@ AddedConditionsAreIn = (c : Cond) (cs : List Cond) (ds : Conds) → has_cond c (
 -- in whatever order, and however often, conditions are collected, the set is the same
 abbrev pub ConditionsAreASet : Type 0
 ConditionsAreASet = (cs ds : List Cond) → ((c : Cond) → has_cond c cs ≡ has_cond c ds) → add_conds cs [] ≡ add_conds ds []
+
+-- a name is fresh for what a substitution makes of a term just where the conditions are met to which this reduces
+abbrev pub ReductionIsLeast : Context → Type 0
+ReductionIsLeast d = (s : Substitution) (a : Name) (t : NominalTerm) → Fresh d a (applied s t) ↔ MeetsSome d s (reduce a t)
+
+-- a name is fresh for a term under just those sets of conditions that have each condition to which this reduces
+abbrev pub ReductionIsLeastOfAll : Context → Type 0
+ReductionIsLeastOfAll d = (a : Name) (t : NominalTerm) → Fresh d a t ↔ MeetsSome d variables (reduce a t)
 
 -- the name stands in the term, and is bound nowhere around
 abbrev pub is_free : Name → NominalTerm → Bool

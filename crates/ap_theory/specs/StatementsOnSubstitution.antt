@@ -1,14 +1,13 @@
 -- What is proved of substitutions.
-use Rattle.std.specs.Prelude.{◌≡◌, ◌≤◌, true, false, List, [], ◌∷◌, ◌↔◌}
-use Rattle.ap_defs.specs.Freshness.{Conds, reduce}
+use Rattle.std.specs.Prelude.{◌≡◌, ◌≤◌, true, false, List, [], ◌∷◌}
 use Rattle.ap_defs.specs.Substitution.{Binding, occurs, put, under, ◌:=◌}
 use Rattle.ap_defs.specs.Terms.{NominalTerm, act_term, susp}
-use Rattle.ap_defs.specs.Unification.{size, unify}
+use Rattle.ap_defs.specs.Unification.{size}
 use Rattle.ap_defs.specs.declared.terms.Name.{Name}
 use Rattle.ap_defs.specs.declared.terms.Swap.{Swap}
 use Rattle.ap_defs.specs.declared.terms.Var.{Var}
 use Rattle.ap_theory.specs.Contexts.{Context, Equal, Fresh}
-use Rattle.ap_theory.specs.Substitutions.{Agrees, EquatesAll, IsInstance, Meets, MeetsSome, Substitution, applied, substitution_of, variables}
+use Rattle.ap_theory.specs.Substitutions.{Substitution, applied, substitution_of, variables}
 
 abbrev pub SubstitutionCommutes : Type 0
 SubstitutionCommutes = (s : Substitution) (p : List Swap) (t : NominalTerm) → applied s (act_term p t) ≡ act_term p (applied s t)
@@ -50,20 +49,6 @@ SubstitutionIsCongruent d = (r s : Substitution) (t : NominalTerm) → ((x : Var
 -- a variable that occurs in a term is no longer than the term
 abbrev pub OccurringIsNoLonger : Type 0
 OccurringIsNoLonger = (s : Substitution) (x : Var) (t : NominalTerm) → occurs x t ≡ true → size (s x) ≤ size (applied s t)
-
--- a name is fresh for what a substitution makes of a term just where the conditions are met to which this reduces
-abbrev pub ReductionIsLeast : Context → Type 0
-ReductionIsLeast d = (s : Substitution) (a : Name) (t : NominalTerm) → Fresh d a (applied s t) ↔ MeetsSome d s (reduce a t)
-
--- a name is fresh for a term under just those sets of conditions that have each condition to which this reduces
-abbrev pub ReductionIsLeastOfAll : Context → Type 0
-ReductionIsLeastOfAll d = (a : Name) (t : NominalTerm) → Fresh d a t ↔ MeetsSome d variables (reduce a t)
-
--- The substitutions that meet the conditions, agree with the bindings and make each two sides equal are those that agree with what
--- unification gives and meet its conditions. Where it gives nothing, there is none.
-abbrev pub UnificationIsMostGeneral : Context → Type 0
-UnificationIsMostGeneral d = (s : Substitution) (bs : List Binding) (ds : Conds) (ts us : List NominalTerm)
-    → (Meets d s ds × Agrees d s bs × EquatesAll d s ts us) ↔ IsInstance d s (unify bs ds ts us)
 
 abbrev pub BindingsCommute : Type 0
 BindingsCommute = (bs : List Binding) (p : List Swap) (t : NominalTerm) → under bs (act_term p t) ≡ act_term p (under bs t)

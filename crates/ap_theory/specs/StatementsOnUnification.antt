@@ -1,5 +1,5 @@
 -- What is proved of unification.
-use Rattle.std.specs.Prelude.{◌≡◌, ◌≢◌, ◌≤◌, ℕ, ◌&&◌, List, Option, Some, None}
+use Rattle.std.specs.Prelude.{◌≡◌, ◌≢◌, ◌≤◌, ℕ, ◌&&◌, List, Option, Some, None, ◌↔◌}
 use Rattle.ap_defs.specs.Freshness.{Conds}
 use Rattle.ap_defs.specs.Groundings.{Grounding, agrees, equates_all, is_instance, meets}
 use Rattle.ap_defs.specs.SameTerm.{SameBindings, SameTerm, SameTerms, SameUnified}
@@ -7,6 +7,8 @@ use Rattle.ap_defs.specs.Substitution.{Binding, bound_term}
 use Rattle.ap_defs.specs.Terms.{NominalTerm}
 use Rattle.ap_defs.specs.Unification.{Stage, Unified, done, ending, failed, next, run, solved, step, steps_for, unfinished, unify, unsolvable}
 use Rattle.ap_defs.specs.declared.terms.Var.{Var}
+use Rattle.ap_theory.specs.Contexts.{Context}
+use Rattle.ap_theory.specs.Substitutions.{Agrees, EquatesAll, IsInstance, Meets, Substitution}
 
 -- the steps that are allowed suffice
 abbrev pub UnificationEnds : Type 0
@@ -34,6 +36,12 @@ EndingOfTheDone = (s : Stage) → step s ≡ done → ending s ≡ solved s
 abbrev pub UnificationHasTheInstances : Type 0
 UnificationHasTheInstances = (g : Grounding) (s : List Binding) (ds : Conds) (ts us : List NominalTerm)
     → (meets g ds && (agrees g s && equates_all g ts us)) ≡ is_instance g (unify s ds ts us)
+
+-- The substitutions that meet the conditions, agree with the bindings and make each two sides equal are those that agree with what
+-- unification gives and meet its conditions. Where it gives nothing, there is none.
+abbrev pub UnificationIsMostGeneral : Context → Type 0
+UnificationIsMostGeneral d = (s : Substitution) (bs : List Binding) (ds : Conds) (ts us : List NominalTerm)
+    → (Meets d s ds × Agrees d s bs × EquatesAll d s ts us) ↔ IsInstance d s (unify bs ds ts us)
 
 -- where lists of swappings are equal as permutations, so are those of the results, and the conditions are the same
 abbrev pub UnificationRespectsEqualPermutations : Type 0

@@ -1,7 +1,6 @@
 //! Laws of sets of conditions, and of reducing freshness problems to them.
 
-ghost use Rattle.ap_theory.specs.StatementsOnConditions.{AddedConditionsAreIn, CollectingInParts, ConditionsAreASet, EarlyReductionSuffices, ReductionCommutesWithBindings, ReductionMovesAcross, RefutedWhereFree};
-ghost use Rattle.ap_theory.specs.StatementsOnSubstitution.{ReductionIsLeast, ReductionIsLeastOfAll};
+ghost use Rattle.ap_theory.specs.StatementsOnConditions.{AddedConditionsAreIn, CollectingInParts, ConditionsAreASet, EarlyReductionSuffices, ReductionCommutesWithBindings, ReductionIsLeast, ReductionIsLeastOfAll, ReductionMovesAcross, RefutedWhereFree};
 
 use crate::contexts::Conditions;
 

@@ -1,7 +1,6 @@
 //! Laws of nominal unification (Urban, Pitts and Gabbay, "Nominal unification").
 
-ghost use Rattle.ap_theory.specs.StatementsOnSubstitution.{UnificationIsMostGeneral};
-ghost use Rattle.ap_theory.specs.StatementsOnUnification.{EndingAfterAStep, EndingByAnyBound, EndingOfAFailure, EndingOfTheDone, MoreStepsChangeNothing, UnificationEnds, UnificationHasTheInstances, UnificationRespectsEqualPermutations, UnificationSeesTheSubstitution};
+ghost use Rattle.ap_theory.specs.StatementsOnUnification.{EndingAfterAStep, EndingByAnyBound, EndingOfAFailure, EndingOfTheDone, MoreStepsChangeNothing, UnificationEnds, UnificationHasTheInstances, UnificationIsMostGeneral, UnificationRespectsEqualPermutations, UnificationSeesTheSubstitution};
 
 use crate::contexts::Conditions;
 
