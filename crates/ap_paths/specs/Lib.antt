@@ -1,0 +1,7 @@
+pub mod Entries
+pub mod History
+pub mod Trees
+pub mod Merging
+pub mod Frontier
+pub mod Laws
+pub mod Cuts
