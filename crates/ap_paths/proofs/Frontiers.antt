@@ -14,6 +14,7 @@ use Rattle.ap_paths.specs.Entries.{TreeEntry, split, done, stop}
 use Rattle.ap_paths.specs.History.{same_path, is_open, without, kids_of, open_from, legal_from, is_legal, open_of}
 use Rattle.ap_paths.specs.Trees.{Choices, Outputs, IsChoice, GoesOn, InTree, joined, IsTree, times, Ascends, AreAtMost, AreKids, AreTrue}
 use Rattle.ap_paths.specs.Frontier.{Before, Item, AllAfter, Sorted, outs_in, ended_in, open_in}
+use Rattle.ap_paths.specs.Weights.{weigh, one_if, is_it}
 use Rattle.ap_paths.specs.Merging.{is_before, Ending, insert, ends_from, all_outs, merged}
 
 pub before_left : (p q r : List ℕ) → Before p q → Before (p ++ r) q
@@ -77,10 +78,6 @@ path_same [] (y ∷ ys) e = absurd (true≢false (sym e))
 path_same (x ∷ xs) [] e = absurd (true≢false (sym e))
 path_same (x ∷ xs) (y ∷ ys) e = let b = both_true (eqb x y) (same_path xs ys) e in λ i. eqb_same x y b.0 i ∷ path_same xs ys b.1 i
 
-abbrev pub one_if : Bool → ℕ
-one_if true = 1
-one_if false = 0
-
 abbrev pub AllIn : Choices → List Item → Type 0
 AllIn c [] = Unit {0}
 AllIn c (x ∷ xs) = InTree c x.0 × AllIn c xs
@@ -103,10 +100,6 @@ mark p (x ∷ xs) = if hits p x then (x.0, true) ∷ xs else x ∷ mark p xs
 abbrev pub undone : (List ℕ → ℕ) → List Item → ℕ
 undone h [] = 0
 undone h (x ∷ xs) = (if x.1 then 0 else h x.0) + undone h xs
-
-abbrev pub weigh : (List ℕ → ℕ) → List (List ℕ) → ℕ
-weigh h [] = 0
-weigh h (p ∷ ps) = h p + weigh h ps
 
 hit_is : (p : List ℕ) (x : Item) → hits p x ≡ true → (p ≡ x.0) × (x.1 ≡ false)
 hit_is p (q, true) e = absurd (true≢false (sym e))
@@ -199,9 +192,6 @@ grow_doned at p ks (x ∷ xs) =
     cases (λ l. ended_in at l ≡ (if x.1 then (x.0, at x.0) ∷ ended_in at xs else ended_in at xs)) p x (kid_items p ks ++ xs) (x ∷ grow p ks xs)
     (λ _ open_yet. doned_kids at p ks xs ∙ sym (ap (λ b. if b then (x.0, at x.0) ∷ ended_in at xs else ended_in at xs) open_yet))
     (λ _. ap (λ l. if x.1 then (x.0, at x.0) ∷ l else l) (grow_doned at p ks xs))
-
-abbrev pub is_it : List ℕ → List ℕ → ℕ
-is_it p q = one_if (same_path p q)
 
 pub same_itself : (p : List ℕ) → same_path p p ≡ true
 same_itself [] = refl

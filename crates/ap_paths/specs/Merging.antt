@@ -14,7 +14,7 @@ abbrev pub Ending : Type 0
 Ending = List ℕ × List NominalOut
 
 -- an end takes its place by path, behind those of the same path
-abbrev pub insert : List ℕ → List NominalOut → List Ending → List Ending
+abbrev pub insert : {X : Type 0} → List ℕ → X → List (List ℕ × X) → List (List ℕ × X)
 insert p os [] = (p, os) ∷ []
 insert p os (e ∷ es) = if is_before p e.0 then (p, os) ∷ e ∷ es else e ∷ insert p os es
 
