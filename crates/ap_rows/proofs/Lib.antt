@@ -1,0 +1,3 @@
+mod Programs
+mod Rows
+mod SampledPrograms
