@@ -19,8 +19,3 @@ all_values (e ∷ es) = e.1 ++ all_values es
 -- the outputs of a history's ends, in path order
 abbrev pub merged_values : List Entry → List Out
 merged_values history = all_values (ended_from [] history)
-
--- lists of outputs, one after another
-abbrev pub all_lists : List (List Out) → List Out
-all_lists [] = []
-all_lists (os ∷ rest) = os ++ all_lists rest

@@ -1,20 +1,16 @@
 //! The outputs of a closed book.
 
-ghost use Rattle.std.specs.Prelude.{◌≡◌, [], ◌∷◌, length, IfOk};
+ghost use Rattle.std.specs.Prelude.{◌≡◌, [], ◌∷◌, IfOk};
 ghost use Rattle.ap_defs.specs.Answers.{outs_of};
 ghost use Rattle.ap_paths.specs.Entries.{entries_of};
-ghost use Rattle.ap_paths.specs.Merging.{insert, merged};
+ghost use Rattle.ap_paths.specs.Merging.{merged};
 ghost use Rattle.ap_book.specs.Values.{ended_from, all_values, merged_values};
-ghost use Rattle.ap_book.specs.Ends.{ends_in, AreBelow};
 
 use ap_defs::lists::List;
 use ap_defs::memory::Memory;
 use ap_defs::paths::{Closed, Entry, Out, Path};
+use ap_paths::Endings;
 use std::alloc::Global;
-use std::collections::BTreeMap;
-
-// The outputs of ends by path; ends of one path come in the order of their entries.
-type Ends = BTreeMap<(Vec<u32>, usize), List<Out>>;
 
 /// The outputs of a closed book's ends, in path order. The outputs themselves are moved.
 ///
@@ -26,33 +22,32 @@ pub fn merge(alloc: Global, closed: Closed) -> Result<Vec<Out>, Memory>
 {
     let Closed { history, logs } = closed;
     drop(logs);
-    let ends = gather(alloc, history.into_vec())?;
-    let all = join(alloc, ends)?;
+    let endings = gather(alloc, history.into_vec())?;
+    let ended = endings.into_vec(alloc)?;
+    let all = join(alloc, ended)?;
     Ok(all)
 }
 
-fn gather(alloc: Global, history: Vec<Entry>) -> Result<Ends, Memory>
-    ensures { IfOk result (λ m. ends_in m.entries ≡ ended_from [] history.items) }
+fn gather(alloc: Global, history: Vec<Entry>) -> Result<Endings, Memory>
+    ensures { IfOk result (λ m. m ≡ ended_from [] history.items) }
 {
-    let mut ends = BTreeMap::new(alloc);
+    let mut endings = Endings::new(alloc);
     for entry in history {
-        enter(alloc, &mut ends, entry)?;
+        enter(alloc, &mut endings, entry)?;
     }
-    Ok(ends)
+    Ok(endings)
 }
 
 // Puts what an entry ends into its place.
-fn enter(alloc: Global, ends: &mut Ends, entry: Entry) -> Result<(), Memory>
-    requires { AreBelow (length ends.old.entries) ends.old.entries }
-    ensures place { IfOk result (λ _. ends_in ends.new.entries ≡ ended_from (ends_in ends.old.entries) (entry ∷ [])) }
-    ensures numbers { IfOk result (λ _. AreBelow (length ends.new.entries) ends.new.entries) }
+fn enter(alloc: Global, endings: &mut Endings, entry: Entry) -> Result<(), Memory>
+    ensures { IfOk result (λ _. endings.new ≡ ended_from endings.old (entry ∷ [])) }
 {
     match entry {
         Entry::Done {
             seat: _seat,
             path,
             outs,
-        } => end(alloc, ends, &path, outs),
+        } => endings.put(alloc, &path, outs),
         Entry::Split {
             seat: _seat,
             path: _path,
@@ -62,24 +57,12 @@ fn enter(alloc: Global, ends: &mut Ends, entry: Entry) -> Result<(), Memory>
     }
 }
 
-// Puts one more end into its place.
-fn end(alloc: Global, ends: &mut Ends, path: &Path, outs: List<Out>) -> Result<(), Memory>
-    requires { AreBelow (length ends.old.entries) ends.old.entries }
-    ensures place { IfOk result (λ _. ends_in ends.new.entries ≡ insert path.now outs (ends_in ends.old.entries)) }
-    ensures numbers { IfOk result (λ _. AreBelow (length ends.new.entries) ends.new.entries) }
-{
-    let mut choices = Vec::new(alloc);
-    choices.extend_from_slice(path.choices())?;
-    let number = ends.len();
-    ends.insert((choices, number), outs)?;
-    Ok(())
-}
-
-fn join(alloc: Global, ends: Ends) -> Result<Vec<Out>, Memory>
-    ensures { IfOk result (λ v. v.items ≡ all_values (ends_in ends.entries)) }
+fn join(alloc: Global, ended: Vec<(Path, List<Out>)>) -> Result<Vec<Out>, Memory>
+    ensures { IfOk result (λ v. v.items ≡ all_values ended.items) }
 {
     let mut all = Vec::new(alloc);
-    for outs in ends.into_values() {
+    for (path, outs) in ended {
+        drop(path);
         all.append(&mut outs.into_vec())?;
     }
     Ok(all)

@@ -6,3 +6,4 @@ pub mod Merging
 pub mod Frontier
 pub mod Laws
 pub mod Cuts
+pub mod Ends

@@ -6,10 +6,12 @@
 //! histories and outputs through `entries_of` and `outs_of`, without addresses.
 #![tactic(auto)]
 
+mod endings;
 mod laws;
 mod tree;
 
 pub use ap_defs::paths::{Out, Path, Visit};
+pub use endings::Endings;
 pub use laws::merges_whole;
 pub use tree::Tree;
 

@@ -1,6 +1,7 @@
 ghost use Rattle.std.specs.Prelude.{◌≡◌, IfOk};
 ghost use Rattle.ap_defs.specs.Answers.{out_of, cut};
 
+use crate::endings::Endings;
 use crate::laws::merges_whole;
 use crate::tree::Tree;
 use ap_defs::lists::List;
@@ -84,5 +85,24 @@ fn counts<T: Tree>(alloc: Global, tree: &T) -> Result<(Option<u32>, usize, usize
 fn a_tree_is_visited(rt: HostRuntime) -> Result<(), Fail> {
     let counted = counts(rt.alloc(), &Cuts)?;
     assert_eq!(rt; counted, (Some(2), 2, 2));
+    Ok(())
+}
+
+#[test]
+fn ends_stand_in_path_order(rt: HostRuntime) -> Result<(), Fail> {
+    let alloc = rt.alloc();
+    let root = Path::root(alloc);
+    let mut endings = Endings::new(alloc);
+    for k in [2, 1] {
+        let outs = List::of(Cuts.outs(alloc, &root.child(alloc, k)?)?);
+        endings.put(alloc, &root.child(alloc, k)?, outs)?;
+    }
+    let ended = endings.into_vec(alloc)?;
+    let [(first, _), (second, outs)] = ended.as_slice() else {
+        panic!(rt; "other ends");
+    };
+    assert!(rt; first.choices() == [1].as_slice());
+    assert!(rt; second.choices() == [2].as_slice());
+    assert_eq!(rt; outs.items().len(), 1);
     Ok(())
 }
