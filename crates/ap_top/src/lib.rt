@@ -14,6 +14,5 @@ mod tests;
 mod words;
 mod writing;
 
-pub use report::Report;
 pub use run::top;
 pub use status::Status;

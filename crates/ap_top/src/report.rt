@@ -3,11 +3,11 @@
 use crate::Status;
 use ap_defs::lists::List;
 
-/// What a call writes, and how it ends where the writing succeeds.
-#[derive(Debug, Drop)]
-pub struct Report {
-    /// All bytes that are to be written.
-    pub bytes: List<u8>,
-    /// The status that goes with them.
-    pub status: Status,
+// What a call writes, and how it ends where the writing succeeds.
+#[derive(Drop)]
+pub(crate) struct Report {
+    // all bytes that are to be written
+    pub(crate) bytes: List<u8>,
+    // the status that goes with them
+    pub(crate) status: Status,
 }

@@ -6,8 +6,9 @@ ghost use Rattle.ap_top.specs.Report.{Input, fault as fault_of, report_or_not_ye
 ghost use Rattle.ap_top.specs.Run.{limit, IsRead, IsWritten};
 
 use crate::reading::{ReadError, read_whole};
+use crate::report::Report;
 use crate::writing::write_whole;
-use crate::{Report, Status, words};
+use crate::{Status, words};
 use ap_defs::lists::List;
 use ap_defs::memory::Memory;
 use ap_io::{Failed, Gate, Sink, Source};
