@@ -15,6 +15,7 @@ pub mod EqualityLemmas
 pub mod TestLemmas
 pub mod SubstitutionLemmas
 pub mod ReductionLemmas
+pub mod UnderLemmas
 pub mod CollectionLemmas
 pub mod SolvingLemmas
 pub mod MostGeneralLemmas

@@ -1,6 +1,6 @@
 //! Laws of freshness and equality of terms with variables, under any set of conditions.
 
-ghost use Rattle.ap_theory.specs.StatementsOnEquality.{CanonicalTermIsSame, DisagreementDecides, EqualityIsEquivariant, EqualityIsReflexive, EqualityIsSymmetric, EqualityIsTested, EqualityIsTransitive, EqualityKeepsFreshness, EqualityRespectsEqualPermutations, EqualityWeakens, FreshNamesSwap, FreshnessIsEquivariant, FreshnessIsTested, FreshnessOfTheMoved, FreshnessRespectsEqualPermutations, FreshnessWeakens, PermutationsMoveAcross, SameWhereCanonicalIsOne};
+ghost use Rattle.ap_theory.specs.StatementsOnEquality.{CanonicalTermIsSame, DisagreementDecides, EqualityIsEquivariant, EqualityIsReflexive, EqualityIsSymmetric, EqualityIsTransitive, EqualityKeepsFreshness, EqualityRespectsEqualPermutations, EqualityWeakens, FreshNamesSwap, FreshnessIsEquivariant, FreshnessOfTheMoved, FreshnessRespectsEqualPermutations, FreshnessWeakens, PermutationsMoveAcross, SameWhereCanonicalIsOne};
 
 use crate::contexts::Conditions;
 
@@ -37,12 +37,6 @@ pub fn disagreement_decides_equality<D: Conditions>()
 pub fn more_conditions<D: Conditions, E: Conditions>()
     ensures fresh { FreshnessWeakens D.holds E.holds }
     ensures equal { EqualityWeakens D.holds E.holds }
-{}
-
-/// The tests under a list of conditions are true just where what they test follows from the list.
-pub fn tests_under_conditions()
-    ensures fresh { FreshnessIsTested }
-    ensures equal { EqualityIsTested }
 {}
 
 /// Terms that differ only in how permutations are listed are those with one canonical form.
