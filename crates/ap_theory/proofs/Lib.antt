@@ -13,6 +13,7 @@ pub mod TerminationLemmas
 pub mod SameUnificationLemmas
 pub mod EqualityLemmas
 pub mod TestLemmas
+pub mod DecisionLemmas
 pub mod SubstitutionLemmas
 pub mod ReductionLemmas
 pub mod UnderLemmas

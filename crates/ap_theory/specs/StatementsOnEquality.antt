@@ -1,5 +1,5 @@
 -- What is proved of freshness and equality under any set of conditions.
-use Rattle.std.specs.Prelude.{◌≡◌, List, [], ◌∷◌, ◌↔◌}
+use Rattle.std.specs.Prelude.{◌≡◌, ◌⊎◌, List, [], ◌∷◌, ◌↔◌}
 use Rattle.ap_defs.specs.Canonical.{canonical_term}
 use Rattle.ap_defs.specs.Permutations.{act_name, inverse, swap_of}
 use Rattle.ap_defs.specs.SameTerm.{SameTerm}
@@ -62,3 +62,13 @@ SameWhereCanonicalIsOne = (t u : NominalTerm) → SameTerm t u ↔ (canonical_te
 
 abbrev pub CanonicalTermIsSame : Type 0
 CanonicalTermIsSame = (t : NominalTerm) → SameTerm (canonical_term t) t
+
+-- where each condition is decided, so are freshness and equality
+abbrev pub AreDecided : Context → Type 0
+AreDecided d = (a : Name) (x : Var) → d a x ⊎ (d a x → ⊥)
+
+abbrev pub FreshnessIsDecided : Context → Type 0
+FreshnessIsDecided d = AreDecided d → (a : Name) (t : NominalTerm) → Fresh d a t ⊎ (Fresh d a t → ⊥)
+
+abbrev pub EqualityIsDecided : Context → Type 0
+EqualityIsDecided d = AreDecided d → (t u : NominalTerm) → Equal d t u ⊎ (Equal d t u → ⊥)

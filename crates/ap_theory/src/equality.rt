@@ -1,6 +1,6 @@
 //! Laws of freshness and equality of terms with variables, under any set of conditions.
 
-ghost use Rattle.ap_theory.specs.StatementsOnEquality.{CanonicalTermIsSame, DisagreementDecides, EqualityIsEquivariant, EqualityIsReflexive, EqualityIsSymmetric, EqualityIsTransitive, EqualityKeepsFreshness, EqualityRespectsEqualPermutations, EqualityWeakens, FreshNamesSwap, FreshnessIsEquivariant, FreshnessOfTheMoved, FreshnessRespectsEqualPermutations, FreshnessWeakens, PermutationsMoveAcross, SameWhereCanonicalIsOne};
+ghost use Rattle.ap_theory.specs.StatementsOnEquality.{CanonicalTermIsSame, DisagreementDecides, EqualityIsDecided, EqualityIsEquivariant, EqualityIsReflexive, EqualityIsSymmetric, EqualityIsTransitive, EqualityKeepsFreshness, EqualityRespectsEqualPermutations, EqualityWeakens, FreshNamesSwap, FreshnessIsDecided, FreshnessIsEquivariant, FreshnessOfTheMoved, FreshnessRespectsEqualPermutations, FreshnessWeakens, PermutationsMoveAcross, SameWhereCanonicalIsOne};
 
 use crate::contexts::Conditions;
 
@@ -31,6 +31,12 @@ pub fn equality_is_equivariant<D: Conditions>()
 pub fn disagreement_decides_equality<D: Conditions>()
     ensures differ { DisagreementDecides D.holds }
     ensures swap { FreshNamesSwap D.holds }
+{}
+
+/// Where each condition is decided, so are freshness and equality.
+pub fn decided_conditions<D: Conditions>()
+    ensures fresh { FreshnessIsDecided D.holds }
+    ensures equal { EqualityIsDecided D.holds }
 {}
 
 /// What follows from some conditions follows from more.
