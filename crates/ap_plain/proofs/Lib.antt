@@ -1,0 +1,4 @@
+pub mod Splits
+pub mod Sorts
+pub mod Runs
+pub mod Lists

@@ -1,0 +1,4 @@
+pub mod Symbols
+pub mod Readers
+pub mod Declarations
+pub mod Facts
