@@ -2,3 +2,4 @@ pub mod Splits
 pub mod Sorts
 pub mod Runs
 pub mod Lists
+pub mod FactLists

@@ -1,9 +1,10 @@
 -- The facts and the query of the plain form.
-use Rattle.std.specs.Prelude.{ℕ, zero, suc, ◌+◌, Bool, true, ◌||◌, ◌&&◌, not, List, [], ◌∷◌, ◌++◌, codes, Option, None, Some, slice_get, position, if◌then◌else◌}
+use Rattle.std.specs.Prelude.{ℕ, zero, suc, ◌+◌, Bool, true, ◌||◌, ◌&&◌, not, List, [], ◌∷◌, ◌++◌, codes, Option, None, Some, map, slice_get, position, if◌then◌else◌}
 use Rattle.std.specs.List.{list_any}
 use Rattle.std.specs.Str.{bytes_eq}
-use Rattle.ap_defs.specs.Terms.{NominalTerm, unit, pair, app}
+use Rattle.ap_defs.specs.Terms.{NominalTerm, unit, pair, app, term_of}
 use Rattle.ap_facts.specs.declared.program.FactConstructor.{FactConstructor}
+use Rattle.ap_facts.specs.declared.program.FactPredicate.{FactPredicate}
 use Rattle.ap_facts.specs.declared.program.FactQuery.{FactQuery}
 use Rattle.ap_plain.specs.declared.declarations.Predicate.{Predicate}
 use Rattle.ap_plain.specs.Symbols.{Sym}
@@ -52,6 +53,13 @@ named_predicate ps w = do
 -- the facts of each predicate
 abbrev pub FactLists : Type 0
 FactLists = List (List (List NominalTerm))
+
+-- the facts of predicates of the program, without where terms lie in memory
+abbrev pub fact_lists : List FactPredicate → FactLists
+fact_lists qs = map (λ q. map (map term_of) q.facts) qs
+
+abbrev pub arities : List FactPredicate → List ℕ
+arities qs = map (λ q. q.arity) qs
 
 -- with a fact at the end of those of the predicate with this number
 abbrev pub with_fact : ℕ → List NominalTerm → FactLists → FactLists

@@ -1,19 +1,22 @@
 // The facts of the plain form.
-ghost use Rattle.std.specs.Prelude.{◌≡◌, ◌<◌, ◌≤◌, ◌+◌, ◌^◌, [], IfOk, IfSome, length, map};
+ghost use Rattle.std.specs.Prelude.{◌≡◌, ◌<◌, ◌≤◌, ◌+◌, ◌^◌, [], IfOk, IfSome, OnOk, length, vec_len, map, drop};
 ghost use Rattle.ap_defs.specs.Terms.{term_of};
 ghost use Rattle.ap_plain.specs.Facts as spec;
-ghost use Rattle.ap_plain.specs.Facts.{read_term};
+ghost use Rattle.ap_plain.specs.Facts.{read_term, fact_lists, arities};
 ghost use Rattle.ap_plain.specs.Readers as readers;
-ghost use Rattle.ap_plain.specs.Readers.{Gives, listed};
-ghost use Rattle.ap_plain.specs.Symbols.{syms};
+ghost use Rattle.ap_plain.specs.Readers.{Gives, listed, run};
+ghost use Rattle.ap_plain.specs.Symbols.{syms, views};
 
 use crate::declarations::Predicate;
 use crate::error::ReadError;
 use crate::readers::{after_close, after_comma, after_open, ident};
 use crate::symbol::Symbol;
+use ap_defs::lists::List;
+use ap_defs::memory::Memory;
 use ap_defs::terms::Term;
-use ap_facts::program::FactConstructor;
+use ap_facts::program::{FactConstructor, FactPredicate};
 use std::alloc::{AllocError, Global};
+use std::mem;
 
 /// The deepest nesting of an item.
 const DEEPEST: u32 = 256;
@@ -156,4 +159,61 @@ pub fn fact(
     } else {
         Err(ReadError::NotPlain)
     }
+}
+
+/// A fact goes to the end of those of its predicate.
+fn push_fact(
+    alloc: Global,
+    all: &mut Vec<FactPredicate>,
+    place: usize,
+    args: Vec<Term>,
+) -> Result<(), Memory>
+    requires { place < vec_len all.old }
+    ensures lists { OnOk result (fact_lists all.new.items ≡ spec.with_fact place (map term_of args.items) (fact_lists all.old.items)) }
+    ensures arities { OnOk result (arities all.new.items ≡ arities all.old.items) }
+{
+    let predicate = &mut all[place];
+    let facts = mem::replace(&mut predicate.facts, List::of(Vec::new(alloc)));
+    let mut facts = facts.into_vec();
+    facts.push(List::of(args))?;
+    predicate.facts = List::of(facts);
+    Ok(())
+}
+
+/// The predicates, without facts.
+fn without_facts(alloc: Global, predicates: &[Predicate]) -> Result<Vec<FactPredicate>, Memory>
+    ensures lists { IfOk result (λ v. fact_lists v.items ≡ map (λ p. []) predicates.now) }
+    ensures arities { IfOk result (λ v. arities v.items ≡ map (λ p. p.arity) predicates.now) }
+{
+    let mut all = Vec::with_capacity(alloc, predicates.len())?;
+    for predicate in predicates {
+        all.push(FactPredicate {
+            arity: predicate.arity,
+            facts: List::of(Vec::new(alloc)),
+        })?;
+    }
+    Ok(all)
+}
+
+/// The predicates with the facts that the first items are, and how many items these are.
+pub fn facts(
+    alloc: Global,
+    constructors: &[FactConstructor],
+    predicates: &[Predicate],
+    items: &[&[Symbol<'_>]],
+) -> Result<(Vec<FactPredicate>, usize), Memory>
+    requires { length constructors.now < 2 ^ 31 }
+    ensures read { IfOk result (λ r. run (spec.add_fact constructors.now predicates.now) (map (λ p. []) predicates.now) (views items.now) ≡ (fact_lists r.0.items, views (drop r.1 items.now))) }
+    ensures arities { IfOk result (λ r. arities r.0.items ≡ map (λ p. p.arity) predicates.now) }
+    ensures within { IfOk result (λ r. r.1 ≤ length items.now) }
+{
+    let mut all = without_facts(alloc, predicates)?;
+    for (place, item) in items.iter().enumerate() {
+        match fact(alloc, constructors, predicates, item) {
+            Ok((predicate, args)) => push_fact(alloc, &mut all, predicate, args)?,
+            Err(ReadError::NotPlain) => return Ok((all, place)),
+            Err(ReadError::Memory) => return Err(Memory),
+        }
+    }
+    Ok((all, items.len()))
 }

@@ -11,6 +11,7 @@ mod error;
 mod facts;
 
 
+mod query;
 mod readers;
 
 mod symbol;
