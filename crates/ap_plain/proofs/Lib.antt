@@ -3,3 +3,4 @@ pub mod Sorts
 pub mod Runs
 pub mod Lists
 pub mod FactLists
+pub mod Programs

@@ -2,3 +2,4 @@ pub mod Symbols
 pub mod Readers
 pub mod Declarations
 pub mod Facts
+pub mod Report

@@ -11,6 +11,7 @@ mod error;
 mod facts;
 
 
+mod plain;
 mod query;
 mod readers;
 
