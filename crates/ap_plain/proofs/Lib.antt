@@ -4,3 +4,6 @@ pub mod Runs
 pub mod Lists
 pub mod FactLists
 pub mod Programs
+pub mod Closed
+pub mod Reports
+pub mod Tokens

@@ -9,12 +9,10 @@
 mod declarations;
 mod error;
 mod facts;
-
-
 mod plain;
 mod query;
 mod readers;
-
+mod report;
 mod symbol;
 
-
+pub use report::plain_report;
