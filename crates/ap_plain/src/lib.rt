@@ -16,3 +16,6 @@ mod report;
 mod symbol;
 
 pub use report::plain_report;
+
+#[cfg(test)]
+mod tests;
