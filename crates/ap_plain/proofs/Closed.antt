@@ -5,18 +5,18 @@ use Rattle.std.specs.Option.{option_map}
 use Rattle.std.proofs.lemmas.List.{length-map}
 use Rattle.std.proofs.lemmas.Option.{slice_get-map}
 use Rattle.ap_defs.specs.declared.terms.Term.{Term}
-use Rattle.ap_defs.specs.Terms.{NominalTerm, unit, pair, app, term_of}
+use Rattle.ap_defs.specs.Terms.{NominalTerm, app, term_of}
 use Rattle.ap_facts.specs.declared.program.FactConstructor.{FactConstructor}
 use Rattle.ap_facts.specs.declared.program.FactPredicate.{FactPredicate}
 use Rattle.ap_facts.specs.declared.program.FactQuery.{FactQuery}
 use Rattle.ap_facts.specs.declared.program.FactProgram.{FactProgram}
-use Rattle.ap_facts.specs.Facts.{AreClosed, IsClosed, EachClosed, AreFacts, ArePredicates, IsQuery, IsFactProgram}
+use Rattle.ap_facts.specs.Facts.{AreClosed, IsClosed, EachClosed, AreFacts, ArePredicates, IsFactProgram}
 use Rattle.ap_plain.specs.declared.declarations.Predicate.{Predicate}
 use Rattle.ap_plain.specs.Symbols.{Sym, items_of}
 use Rattle.ap_plain.specs.Readers.{◌>>=◌, Reader, ident, variable, after_comma, after_open, after_close, after_ask, at_end, further, listed, arguments, run, or_stop}
 use Rattle.ap_plain.specs.Declarations.{sort_of, first_constructor, add_constructor, add_predicate}
-use Rattle.ap_plain.specs.Facts.{tuple, constructor_place, predicate_place, named_constructor, named_predicate, read_term, deepest, FactLists, fact_lists, arities, with_fact, read_fact, add_fact, are_different, if_different, query_of}
-use Rattle.ap_plain.specs.Report.{Plain, plain_view, last_query, with_query, read_facts, read_rest, read_items, plain_of_items, plain_of}
+use Rattle.ap_plain.specs.Facts.{tuple, constructor_place, predicate_place, named_constructor, named_predicate, read_term, deepest, FactLists, fact_lists, arities, with_fact, read_fact, add_fact, are_different, query_of}
+use Rattle.ap_plain.specs.Report.{Plain, plain_view, last_query, read_rest, read_items, plain_of_items, plain_of}
 
 -- what holds after two steps
 bind_if : {A B : Type 0} (r : Option A) (f : A → Option B) (P : A → Type 0) (Q : B → Type 0) → IfSome r P → ((x : A) → P x → IfSome (f x) Q) → IfSome (r >>= f) Q

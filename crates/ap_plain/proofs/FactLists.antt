@@ -1,5 +1,5 @@
 -- One more fact of a predicate.
-use Rattle.std.proofs.Common.{◌≡◌, ℕ, zero, suc, ◌<◌, List, [], ◌∷◌, ◌++◌, length, get_or, set, map, None, Some, refl, sym, ap, ◌∙◌, arith}
+use Rattle.std.proofs.Common.{◌≡◌, ℕ, zero, suc, ◌<◌, List, [], ◌∷◌, ◌++◌, length, get_or, set, map, None, Some, refl, ap, arith}
 use Rattle.ap_defs.specs.Terms.{NominalTerm, term_of}
 use Rattle.ap_facts.specs.declared.program.FactPredicate.{FactPredicate}
 use Rattle.ap_plain.specs.Facts.{FactLists, with_fact, fact_lists, arities, read_fact, add_fact}

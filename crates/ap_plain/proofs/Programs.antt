@@ -1,5 +1,5 @@
 -- The program that the items after the first constructor are.
-use Rattle.std.proofs.Common.{◌≡◌, ℕ, List, [], ◌∷◌, map, Option, None, Some, refl}
+use Rattle.std.proofs.Common.{◌≡◌, ℕ, List, [], map, Option, None, Some, refl}
 use Rattle.ap_facts.specs.declared.program.FactConstructor.{FactConstructor}
 use Rattle.ap_facts.specs.declared.program.FactPredicate.{FactPredicate}
 use Rattle.ap_facts.specs.declared.program.FactQuery.{FactQuery}

@@ -1,5 +1,5 @@
 -- The report of a text is that of the program that was read.
-use Rattle.std.proofs.Common.{◌≡◌, ℕ, zero, suc, ◌≤◌, List, [], ◌∷◌, ◌++◌, length, map, take, Option, None, Some, IfSome, Result, Ok, Err, refl, sym, ap, ap₂, ◌∙◌, arith, subst, length-append}
+use Rattle.std.proofs.Common.{◌≡◌, ℕ, suc, List, [], ◌∷◌, map, Option, None, Some, IfSome, refl, sym, ap, ap₂, ◌∙◌}
 use Rattle.std.specs.Prelude.{if◌then◌else◌, Bool, true, false}
 use Rattle.std.specs.List.{list_all}
 use Rattle.std.proofs.lemmas.Simd.{map-map}
@@ -12,11 +12,10 @@ use Rattle.ap_facts.specs.declared.program.FactPredicate.{FactPredicate}
 use Rattle.ap_facts.specs.declared.program.FactProgram.{FactProgram}
 use Rattle.ap_facts.specs.Facts as facts
 use Rattle.ap_facts.specs.Facts.{IsFactProgram}
-use Rattle.ap_lexer.specs.Tokens.{Lexeme, lexed}
-use Rattle.ap_lexer.specs.declared.token.LexFault.{LexFault}
+use Rattle.ap_lexer.specs.Tokens.{lexed}
 use Rattle.ap_plain.specs.Symbols.{Sym}
 use Rattle.ap_plain.specs.Readers.{◌>>=◌}
-use Rattle.ap_plain.specs.Facts.{fact_lists, arities}
+use Rattle.ap_plain.specs.Facts.{fact_lists}
 use Rattle.ap_plain.specs.Report.{Plain, plain_view, plain_of, plain_of_text, symbols_of, is_plain_byte, clause_of, clauses_from, program_of, words_of, report_of_text}
 use Rattle.ap_plain.proofs.Closed.{IsWhole, plain_whole, is_program}
 

@@ -4,7 +4,7 @@ use Rattle.std.proofs.lemmas.Grind.{common_steps}
 use Rattle.std.proofs.Math.Seq.{drop-cons}
 use Rattle.ap_plain.specs.declared.symbol.Symbol.{Symbol}
 use Rattle.ap_plain.specs.Symbols.{Sym, syms, views}
-use Rattle.ap_plain.specs.Readers.{run, or_stop}
+use Rattle.ap_plain.specs.Readers.{run}
 
 -- The run has come to an item, with what the step has made so far.
 pub record Running {A : Type 0} (step : A → List Sym → Option A) (start : A) (items : List (Bor (List Symbol))) (so_far : A) (place : ℕ) : Type 0 where

@@ -1,5 +1,5 @@
 -- How many times the data type comes again.
-use Rattle.std.proofs.Common.{◌≡◌, ℕ, ◌+◌, Bool, true, false, List, [], ◌∷◌, Option, None, Some, refl, sym, ap, ◌∙◌, arith, cond, add-zero}
+use Rattle.std.proofs.Common.{◌≡◌, ℕ, ◌+◌, Bool, true, false, List, ◌∷◌, None, Some, refl, sym, ap, ◌∙◌, arith, cond, add-zero}
 use Rattle.std.specs.Str.{bytes_eq}
 use Rattle.ap_plain.specs.Symbols.{Sym, Ident, Comma}
 use Rattle.ap_plain.specs.Declarations.{after_next, after_sort, counted, more_sorts, sorts}

@@ -1,5 +1,5 @@
 -- One more symbol of a text that is split into items.
-use Rattle.std.proofs.Common.{◌≡◌, ℕ, suc, ◌+◌, ◌-◌, ◌<◌, ◌≤◌, Bool, true, false, List, [], ◌∷◌, ◌++◌, length, take, drop, get_or, map, Option, None, Some, Bor, All, refl, sym, ap, ◌∙◌, arith, add-one, append_assoc, append-nil, ◌≢◌}
+use Rattle.std.proofs.Common.{◌≡◌, ℕ, suc, ◌+◌, ◌-◌, ◌<◌, ◌≤◌, true, false, List, [], ◌∷◌, ◌++◌, length, take, drop, get_or, Option, None, Some, Bor, All, refl, sym, ap, ◌∙◌, arith, add-one, append_assoc, append-nil, ◌≢◌}
 use Rattle.std.specs.Option.{option_map}
 use Rattle.std.proofs.lemmas.List.{get_or-drop, map-append}
 use Rattle.std.proofs.lemmas.Grind.{common_steps}

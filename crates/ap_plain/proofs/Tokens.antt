@@ -1,5 +1,5 @@
 -- A text has at most as many tokens as bytes.
-use Rattle.std.proofs.Common.{◌≡◌, ℕ, zero, suc, pred, ◌+◌, ◌≤◌, List, [], ◌∷◌, ◌++◌, length, map, take, Option, None, Some, Result, Ok, Err, refl, sym, ap, ◌∙◌, arith, length-append}
+use Rattle.std.proofs.Common.{◌≡◌, ℕ, zero, suc, pred, ◌≤◌, List, [], ◌∷◌, length, map, take, Option, None, Some, Ok, Err, ap, arith, length-append}
 use Rattle.std.specs.Prelude.{if◌then◌else◌, Bool, true, false, ◌==◌}
 use Rattle.std.specs.Str.Lossy.{utf8_valid_len}
 use Rattle.std.proofs.lemmas.List.{length-map}
@@ -9,7 +9,7 @@ use Rattle.ap_plain.specs.Symbols.{sym as view, syms, sym_of}
 use Rattle.ap_lexer.specs.declared.pieces.Piece.{Piece}
 use Rattle.ap_lexer.specs.declared.token.LexFault.{LexFault}
 use Rattle.ap_lexer.specs.Pieces.{piece_at}
-use Rattle.ap_lexer.specs.Tokens.{Span, Scan, Lexeme, scan_from, scan_piece, span_of, lexeme_at, lexemes_of, lexed, lexed_front}
+use Rattle.ap_lexer.specs.Tokens.{Scan, Lexeme, scan_from, scan_piece, span_of, lexeme_at, lexemes_of, lexed}
 
 one_at_most : (at : ℕ) (p : Piece) → length (span_of at p) ≤ 1
 one_at_most at p = elim p.kind as (λ k. length (span_of at (record { kind = k; len = p.len })) ≤ 1) [ None ↦ omega arith | Some kind ↦ omega arith ]

@@ -157,11 +157,7 @@ fn predicate_arity(sort: &str, symbols: &[Symbol<'_>]) -> Option<u32>
 
 /// The predicate that an item declares.
 #[tactic(auto, unfolding(crate::specs::Declarations::predicate_of))]
-fn predicate_of(
-    alloc: Global,
-    sort: &str,
-    symbols: &[Symbol<'_>],
-) -> Result<Predicate, ReadError>
+fn predicate_of(alloc: Global, sort: &str, symbols: &[Symbol<'_>]) -> Result<Predicate, ReadError>
     requires { length symbols.now < 2 ^ 32 }
     ensures { Gives (λ p. p) result (spec.predicate_of sort.now (syms symbols.now)) }
 {

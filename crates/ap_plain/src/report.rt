@@ -53,11 +53,7 @@ fn text_program(alloc: Global, text: &[u8]) -> Result<FactProgram, ReadError>
 /// The report of a text of the plain form to a depth, or `None` where the text isn't of that form.
 ///
 /// `Err` is want of memory.
-pub fn plain_report(
-    alloc: Global,
-    text: &[u8],
-    depth: u32,
-) -> Result<Option<List<u8>>, Memory>
+pub fn plain_report(alloc: Global, text: &[u8], depth: u32) -> Result<Option<List<u8>>, Memory>
     requires { length text.now ≤ 16777216 }
     ensures { IfOk result (λ r. r ≡ report_of_text depth text.now) }
 {

@@ -4,6 +4,7 @@ use std::alloc::Global;
 use std::test::Fail;
 
 const NUMBERS: &str = "nat : type. z : nat. s : nat -> nat. pred p(nat). p(z). p(s(z)). ?- p(X).";
+
 const PAIRS: &str = "e : type. c : e. f : e -> e. pred p(e, e). p(c, f(c)). ?- p(Y, X).";
 
 // Whether a text has this report to a depth.

@@ -1,6 +1,4 @@
-use Rattle.std.proofs.Common.{◌≡◌, ◌++◌, ◌∷◌, [], Some, None, ◌∙◌, sym, ap, arith, length-append}
-use Rattle.ap_plain.specs.Declarations.{add_predicate}
-use Rattle.ap_plain.specs.Symbols.{syms}
+use Rattle.std.proofs.Common.{Some, ◌∙◌, sym, ap, arith, length-append}
 use Rattle.ap_plain.proofs.Runs.{runs_on, runs_to, runs_through}
 use Rattle.ap_plain.proofs.declarations.predicates.Goals as goal
 

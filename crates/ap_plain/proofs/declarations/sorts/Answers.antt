@@ -1,5 +1,5 @@
-use Rattle.std.proofs.Common.{◌≡◌, Some, None, ◌∙◌, sym, ap, arith, ◌+◌, length}
-use Rattle.ap_plain.specs.Declarations.{more_sorts, after_next, counted}
+use Rattle.std.proofs.Common.{◌≡◌, Some, ◌∙◌, sym, arith}
+use Rattle.ap_plain.specs.Declarations.{after_next}
 use Rattle.ap_plain.specs.Symbols.{syms}
 use Rattle.ap_plain.proofs.Sorts.{more_on, sorts_are}
 use Rattle.ap_plain.proofs.declarations.sorts.Goals as goal

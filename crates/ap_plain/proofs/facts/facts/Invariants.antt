@@ -1,4 +1,4 @@
-use Rattle.std.proofs.Common.{◌≡◌, ◌≤◌, [], length, map}
+use Rattle.std.proofs.Common.{◌≡◌, [], map}
 use Rattle.ap_plain.specs.Facts.{add_fact, fact_lists, arities}
 use Rattle.ap_plain.proofs.Runs.{Running}
 use Rattle.ap_plain.proofs.facts.facts.Given as goal

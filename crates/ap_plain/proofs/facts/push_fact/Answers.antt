@@ -1,4 +1,4 @@
-use Rattle.std.proofs.Common.{◌≡◌, ◌++◌, ◌∷◌, [], get_or, map, sym, ap, ◌∙◌, arith, length, ◌<◌}
+use Rattle.std.proofs.Common.{◌≡◌, ◌++◌, ◌∷◌, [], get_or, map, ap, ◌∙◌, arith, length, ◌<◌}
 use Rattle.std.proofs.lemmas.List.{map-append}
 use Rattle.ap_defs.specs.Terms.{term_of}
 use Rattle.ap_plain.proofs.FactLists.{fact_pushed, arities_kept}

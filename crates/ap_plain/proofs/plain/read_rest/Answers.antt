@@ -1,8 +1,7 @@
-use Rattle.std.proofs.Common.{◌≡◌, List, ◌∷◌, [], Some, None, ◌∙◌, sym, ap}
+use Rattle.std.proofs.Common.{◌∙◌, sym, ap}
 use Rattle.std.proofs.lemmas.Result.{err_from_is_err_and}
 use Rattle.ap_plain.specs.Facts.{fact_lists}
-use Rattle.ap_plain.specs.Report.{last_query}
-use Rattle.ap_plain.specs.Symbols.{Sym, views}
+use Rattle.ap_plain.specs.Symbols.{views}
 use Rattle.ap_plain.proofs.Lists.{fails_on}
 use Rattle.ap_plain.proofs.Programs.{rest_is, view_is, no_query}
 use Rattle.ap_plain.proofs.plain.read_rest.Goals as goal

@@ -1,6 +1,5 @@
-use Rattle.std.proofs.Common.{◌≡◌, ◌+◌, ◌-◌, ◌++◌, ◌∷◌, [], suc, zero, ℕ, List, Some, vec_len, arith, sym, ◌∙◌, ap, refl}
-use Rattle.ap_plain.specs.Readers.{after_comma, variable}
-use Rattle.ap_plain.specs.Symbols.{Sym, syms}
+use Rattle.std.proofs.Common.{◌≡◌, ◌+◌, ◌-◌, ◌++◌, ◌∷◌, [], suc, zero, vec_len, arith, sym, ◌∙◌, refl}
+use Rattle.ap_plain.specs.Readers.{variable}
 use Rattle.ap_plain.proofs.Lists.{listed_first, listed_fails, further_on, further_ends, further_fails, further_done}
 use Rattle.ap_plain.proofs.query.variables.Goals as goal
 
