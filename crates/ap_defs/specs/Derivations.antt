@@ -1,6 +1,6 @@
 -- Derivations: a node for each goal that was selected, over terms of some form. Over ground terms
 -- they are the ground proofs of nominal logic.
-use Rattle.std.specs.Prelude.{◌≡◌, ℕ, suc, max, List, [], ◌∷◌, ◌++◌, map}
+use Rattle.std.specs.Prelude.{ℕ, suc, max, List, [], ◌∷◌, ◌++◌, map}
 use Rattle.ap_defs.specs.declared.terms.Name.{Name}
 use Rattle.ap_defs.specs.declared.outcomes.Derivation as code
 use Rattle.ap_defs.specs.Terms.{NominalTerm, GroundTerm, term_of}

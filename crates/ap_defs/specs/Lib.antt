@@ -19,3 +19,5 @@ pub mod Paths
 pub mod Answers
 pub mod Printing
 pub mod Lines
+pub mod Typing
+pub mod GroundProofs

@@ -1,17 +1,16 @@
 -- How terms are written: names and variables by a spelling, constructors as they are declared.
-use Rattle.std.specs.Prelude.{◌≡◌, ℕ, zero, suc, ◌+◌, ◌-◌, Bool, true, false, ◌==◌, not, if◌then◌else◌, List, [], ◌∷◌, ◌++◌, length, map, filter, take, codes, Option, Some, None}
+use Rattle.std.specs.Prelude.{ℕ, zero, suc, ◌+◌, Bool, true, false, not, if◌then◌else◌, List, [], ◌∷◌, ◌++◌, length, map, filter, take, codes, Option, Some, None}
 use Rattle.std.specs.List.{range_with_len}
 use Rattle.std.specs.Str.{bytes_eq}
 use Rattle.std.specs.Fmt.{decimal}
 use Rattle.ap_defs.specs.declared.terms.Name.{Name}
 use Rattle.ap_defs.specs.declared.terms.Var.{Var}
 use Rattle.ap_defs.specs.declared.terms.Swap.{Swap}
-use Rattle.ap_defs.specs.declared.terms.Cond.{Cond}
 use Rattle.ap_defs.specs.Permutations.{name_eq, has_name, left_name, right_name}
-use Rattle.ap_defs.specs.Freshness.{Conds, var_eq}
+use Rattle.ap_defs.specs.Freshness.{var_eq}
 use Rattle.ap_defs.specs.Unification.{has_var}
 use Rattle.ap_defs.specs.Terms.{NominalTerm, unit, name, pair, app, abs, susp}
-use Rattle.ap_defs.specs.Types.{NominalConstructor, NominalSignature}
+use Rattle.ap_defs.specs.Types.{NominalConstructor}
 
 -- the constructor with this number: 0 is the empty list, 1 the list cell, and the declared ones count from 2
 abbrev pub constructor_in : List NominalConstructor → ℕ → Option NominalConstructor

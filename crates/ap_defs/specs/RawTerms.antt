@@ -1,5 +1,5 @@
 -- Terms as they are read: binders and places of swappings may be variables, and no swapping is carried out.
-use Rattle.std.specs.Prelude.{◌≡◌, ℕ}
+use Rattle.std.specs.Prelude.{ℕ}
 use Rattle.ap_defs.specs.declared.terms.Name.{Name}
 use Rattle.ap_defs.specs.declared.terms.Var.{Var}
 use Rattle.ap_defs.specs.declared.terms.Id.{Id}

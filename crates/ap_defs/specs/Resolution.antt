@@ -1,6 +1,6 @@
 -- Sequential nominal resolution, after Cheney and Urban: the outputs of a goal from a state, in order.
 -- Paths are relative to the goal.
-use Rattle.std.specs.Prelude.{◌≡◌, ℕ, zero, suc, ◌+◌, List, [], ◌∷◌, ◌++◌, map, length, Option, Some, None}
+use Rattle.std.specs.Prelude.{ℕ, zero, suc, List, [], ◌∷◌, ◌++◌, map, length, Option, Some, None}
 use Rattle.ap_defs.specs.declared.terms.Name.{Name}
 use Rattle.ap_defs.specs.declared.terms.Var.{Var}
 use Rattle.ap_defs.specs.declared.terms.Cond.{Cond}

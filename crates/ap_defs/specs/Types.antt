@@ -1,5 +1,5 @@
 -- Types of terms, shapes of types with holes, the kinds of identifiers, and signatures.
-use Rattle.std.specs.Prelude.{◌≡◌, ℕ, Bool, List, [], ◌∷◌, map}
+use Rattle.std.specs.Prelude.{ℕ, Bool, List, map}
 use Rattle.ap_defs.specs.declared.terms.Ty as code
 use Rattle.ap_defs.specs.declared.terms.Shape as shapes
 use Rattle.ap_defs.specs.declared.goals.Kind.{Kind}

@@ -1,4 +1,4 @@
-//! Freshness and equality of ground terms.
+//! Freshness and equality of ground terms, after Urban, Pitts and Gabbay.
 
 ghost use Rattle.std.specs.Prelude.{◌≡◌, IfOk};
 ghost use Rattle.ap_defs.specs.Permutations.{swap_name, act_name, name_eq, swap_of};
@@ -10,7 +10,7 @@ use crate::memory::Memory;
 use crate::terms::{Ground, Name, Swap};
 use std::alloc::{AllocError, Global};
 
-/// Whether the name isn't free in the term.
+/// Whether the name is fresh for the term, that is, isn't free in it. It takes no memory.
 #[tactic(auto, unfolding(crate::specs::Permutations::name_eq))]
 pub fn fresh_ground(a: &Name, g: &Ground) -> bool
     ensures { result ≡ fresh a.now (ground_of g.now) }
@@ -26,7 +26,7 @@ pub fn fresh_ground(a: &Name, g: &Ground) -> bool
 
 /// What a swapping makes of a name.
 #[tactic(auto, unfolding(crate::specs::Permutations::swap_name, crate::specs::Permutations::name_eq))]
-pub fn swap_name_by(s: &Swap, a: &Name) -> Name
+fn swap_name_by(s: &Swap, a: &Name) -> Name
     ensures { result ≡ swap_name s.now a.now }
 {
     if a.sort == s.sort && a.num == s.left {
@@ -45,7 +45,7 @@ pub fn swap_name_by(s: &Swap, a: &Name) -> Name
 }
 
 /// What a permutation makes of a name.
-pub fn apply_perm(p: &[Swap], a: &Name) -> Name
+fn apply_perm(p: &[Swap], a: &Name) -> Name
     ensures { result ≡ act_name p.now a.now }
 {
     match p {
@@ -55,7 +55,7 @@ pub fn apply_perm(p: &[Swap], a: &Name) -> Name
 }
 
 /// A copy with a permutation carried out.
-pub fn act_on_ground(alloc: Global, p: &[Swap], g: &Ground) -> Result<Ground, AllocError>
+fn act_on_ground(alloc: Global, p: &[Swap], g: &Ground) -> Result<Ground, AllocError>
     ensures { IfOk result (λ h. ground_of h ≡ act_ground p.now (ground_of g.now)) }
 {
     match g {
@@ -77,7 +77,8 @@ pub fn act_on_ground(alloc: Global, p: &[Swap], g: &Ground) -> Result<Ground, Al
     }
 }
 
-/// Whether two terms are equal up to renaming of binders.
+/// Whether two terms are equal up to renaming of binders. A binder is renamed by a swapping, so this
+/// answers `Memory` where there is none for the term that is swapped.
 #[tactic(auto, unfolding(crate::specs::Permutations::name_eq))]
 pub fn alpha_eq(alloc: Global, g: &Ground, h: &Ground) -> Result<bool, Memory>
     ensures { IfOk result (λ yes. yes ≡ alpha (ground_of g.now) (ground_of h.now)) }

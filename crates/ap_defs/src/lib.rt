@@ -5,6 +5,7 @@
 //! `goal_of`, `derivation_of`, `answer_of`, `out_of`. Every clause speaks of the view.
 #![tactic(auto)]
 
+pub mod copies;
 pub mod goals;
 pub mod ground;
 pub mod lists;
@@ -12,3 +13,5 @@ pub mod memory;
 pub mod outcomes;
 pub mod paths;
 pub mod terms;
+#[cfg(test)]
+mod tests;

@@ -1,10 +1,9 @@
 -- The text of an answer, written binding by binding.
-use Rattle.std.proofs.Common.{◌≡◌, ℕ, zero, suc, ◌+◌, ◌<◌, ◌≤◌, Bool, true, false, ◌||◌, not, List, [], ◌∷◌, ◌++◌, map, drop, length, get_or, refl, sym, ap, ap₂, ◌∙◌, arith, append_assoc, add-one, drop-cons}
-use Rattle.std.specs.Prelude.{codes, if◌then◌else◌}
-use Rattle.std.specs.Str.{bytes_eq}
+use Rattle.std.proofs.Common.{◌≡◌, ℕ, Bool, true, false, List, [], ◌∷◌, ◌++◌, map, refl, sym, ap, ◌∙◌, append_assoc}
+use Rattle.std.specs.Prelude.{codes}
 use Rattle.std.proofs.lemmas.List.{append-nil}
 use Rattle.ap_defs.specs.Printing.{Spelling}
-use Rattle.ap_defs.specs.Lines.{ShownBind, shown_binds, bind_text, comma_joined, shown_text}
+use Rattle.ap_defs.specs.Lines.{ShownBind, bind_text, comma_joined, shown_text}
 use Rattle.ap_facts.specs.FactLines.{comma_if}
 
 -- what is still to be written of bindings, where some have been written and where none has

@@ -1,6 +1,5 @@
 -- Closed terms have no names and no variables, and so most operations leave them as they are.
-use Rattle.std.proofs.Common.{◌≡◌, ℕ, zero, suc, Bool, true, false, ◌||◌, List, [], ◌∷◌, ◌++◌, map, length, refl, sym, ap, ap₂, ◌∙◌}
-use Rattle.std.specs.Prelude.{slice_get, Option, Some, None}
+use Rattle.std.proofs.Common.{◌≡◌, ℕ, zero, suc, false, ◌||◌, List, [], ◌∷◌, map, refl, ap, ap₂}
 use Rattle.ap_defs.specs.declared.terms.Swap.{Swap}
 use Rattle.ap_defs.specs.declared.terms.Var.{Var}
 use Rattle.ap_defs.specs.declared.terms.Term.{Term}
@@ -8,9 +7,8 @@ use Rattle.ap_defs.specs.Terms.{NominalTerm, unit, name, pair, app, abs, susp, a
 use Rattle.ap_defs.specs.Substitution.{Binding, occurs, put, under}
 use Rattle.ap_defs.specs.Renaming.{rename_term}
 use Rattle.ap_defs.specs.Canonical.{canonical_term}
-use Rattle.ap_defs.specs.Printing.{Spelling, Place, whole, part, rest, cell, arguments, barred, pair_text, application_text, constructor_in, constructor_text, argument_count, term_at}
 use Rattle.ap_facts.specs.declared.program.FactConstructor.{FactConstructor}
-use Rattle.ap_facts.specs.Facts.{AreClosed, IsClosed, EachClosed}
+use Rattle.ap_facts.specs.Facts.{AreClosed, EachClosed}
 
 -- The term has no name, no abstraction and no suspension.
 abbrev pub IsPlain : NominalTerm → Type 0

@@ -1,10 +1,9 @@
 -- The text of closed arguments, by the form of their term.
-use Rattle.std.proofs.Common.{◌≡◌, ◌≢◌, ℕ, zero, suc, ◌+◌, ◌-◌, ◌<◌, ◌≤◌, List, [], ◌∷◌, ◌++◌, map, length, get_or, refl, sym, ap, ap₂, ◌∙◌, subst, arith, append_assoc}
-use Rattle.std.specs.Prelude.{slice_get, Option, Some, None, Result, Ok, Err, OnOk, codes}
+use Rattle.std.proofs.Common.{◌≡◌, ℕ, zero, suc, ◌-◌, ◌<◌, ◌≤◌, List, [], ◌∷◌, ◌++◌, map, length, get_or, refl, ap, ap₂, ◌∙◌, subst, arith, append_assoc}
+use Rattle.std.specs.Prelude.{slice_get, Some, Result, Ok, Err, OnOk, codes}
 use Rattle.ap_defs.specs.Unification.{size}
-use Rattle.ap_defs.specs.Terms.{NominalTerm, unit, name, pair, app, abs, susp}
-use Rattle.ap_defs.specs.Types.{NominalConstructor}
-use Rattle.ap_defs.specs.Printing.{Place, whole, arguments, application_text, constructor_in, constructor_text, argument_count, term_at}
+use Rattle.ap_defs.specs.Terms.{NominalTerm, pair, app}
+use Rattle.ap_defs.specs.Printing.{whole, application_text, constructor_in, term_at}
 use Rattle.ap_facts.specs.declared.program.FactConstructor.{FactConstructor}
 use Rattle.ap_facts.specs.Facts.{AreClosed, IsClosed, same_types, constructor_of}
 use Rattle.ap_facts.specs.FactLines.{plain_spelling, arguments_text}

@@ -1,22 +1,21 @@
 -- The report of a program of facts: a line for each fact, and the totals.
-use Rattle.std.proofs.Common.{◌≡◌, ◌≢◌, ℕ, zero, suc, ◌+◌, get_or, Bool, true, false, List, [], ◌∷◌, ◌++◌, map, length, refl, sym, ap, ap₂, ◌∙◌, subst, arith, append_assoc}
-use Rattle.std.specs.Prelude.{slice_get, Option, Some, None, codes, decimal, filter, if◌then◌else◌}
+use Rattle.std.proofs.Common.{◌≡◌, ◌≢◌, ℕ, zero, suc, get_or, true, false, List, [], ◌∷◌, ◌++◌, map, length, refl, sym, ap, ap₂, ◌∙◌, arith, append_assoc}
+use Rattle.std.specs.Prelude.{slice_get, Some, codes, decimal, if◌then◌else◌}
 use Rattle.std.specs.Str.{bytes_eq}
 use Rattle.std.proofs.lemmas.List.{append-nil}
 use Rattle.std.proofs.lemmas.Fmt.{decimal_digit}
 use Rattle.ap_defs.specs.declared.terms.Name.{Name}
 use Rattle.ap_defs.specs.declared.terms.Var.{Var}
 use Rattle.ap_defs.specs.declared.terms.Term.{Term}
-use Rattle.ap_defs.specs.Terms.{NominalTerm, unit, name, pair, app, abs, susp, term_of}
-use Rattle.ap_defs.specs.Types.{NominalConstructor, NominalLocal}
+use Rattle.ap_defs.specs.Terms.{NominalTerm, unit, pair, app, term_of}
+use Rattle.ap_defs.specs.Types.{NominalConstructor}
 use Rattle.ap_defs.specs.Answers.{NominalAnswer, NominalOut, found, cut, query_outs}
-use Rattle.ap_defs.specs.Printing.{Spelling, Place, whole, part, rest, cell, arguments, barred, pair_text, cell_text, application_text, constructor_in, constructor_text, argument_count, term_at, term_text}
+use Rattle.ap_defs.specs.Printing.{Spelling, Place, whole, part, rest, cell, arguments, barred, pair_text, cell_text, application_text, constructor_in, constructor_text, argument_count, term_at}
 use Rattle.ap_defs.specs.Lines.{var_texts, ShownBind, shown_binds, bind_text, comma_joined, shown_text, answer_text, line_text, lines_of, ended, is_found, is_cut, is_stuck, count_of, totals_text, query_lines, program_report}
-use Rattle.ap_facts.specs.declared.program.FactConstructor.{FactConstructor}
 use Rattle.ap_facts.specs.declared.program.FactPredicate.{FactPredicate}
 use Rattle.ap_facts.specs.declared.program.FactProgram.{FactProgram}
 use Rattle.ap_facts.specs.Facts.{constructor_of, local_of, query_of, clauses_from, program_of, AreFacts, IsFactProgram}
-use Rattle.ap_facts.specs.FactLines.{plain_spelling, fact_text, fact_lines, totals_line}
+use Rattle.ap_facts.specs.FactLines.{fact_text, fact_lines, totals_line}
 use Rattle.ap_facts.proofs.Lookups.{got_at}
 use Rattle.ap_facts.proofs.ClosedTerms.{IsPlain, ArePlain, plain_each}
 use Rattle.ap_facts.proofs.FactSearch.{IsAnswer, AreFound, query_found, facts_at}

@@ -1,23 +1,19 @@
 -- What the search finds for a query of a program of facts.
-use Rattle.std.proofs.Common.{◌≡◌, ℕ, zero, suc, ◌+◌, Bool, true, false, List, [], ◌∷◌, ◌++◌, map, length, refl, sym, ap, ap₂, ◌∙◌, subst, arith}
-use Rattle.std.specs.Prelude.{slice_get, Option, Some, None, option_map}
+use Rattle.std.proofs.Common.{◌≡◌, ℕ, zero, suc, ◌+◌, List, [], ◌∷◌, ◌++◌, map, length, refl, sym, ap, ◌∙◌, subst, arith}
+use Rattle.std.specs.Prelude.{slice_get, Some}
 use Rattle.std.proofs.lemmas.List.{length-map}
 use Rattle.ap_defs.specs.declared.terms.Term.{Term}
-use Rattle.ap_defs.specs.declared.terms.Var.{Var}
-use Rattle.ap_defs.specs.Terms.{NominalTerm, susp, term_of}
-use Rattle.ap_defs.specs.Types.{NominalType, NominalLocal}
-use Rattle.ap_defs.specs.Goals.{NominalGoal, succeed, NominalClause, Clauses, clauses_of}
-use Rattle.ap_defs.specs.Renaming.{rename_term, local_vars}
-use Rattle.ap_defs.specs.Unification.{unify, Unified}
+use Rattle.ap_defs.specs.Terms.{NominalTerm, term_of}
+use Rattle.ap_defs.specs.Goals.{Clauses, clauses_of}
+use Rattle.ap_defs.specs.Renaming.{local_vars}
 use Rattle.ap_defs.specs.Derivations as nodes
-use Rattle.ap_defs.specs.Resolution as search
-use Rattle.ap_defs.specs.Resolution.{State, Output, below, if_unified, outputs, by_clause, by_clauses, calls, clause_node, kinds_of, first_state, next_number}
-use Rattle.ap_defs.specs.Answers.{NominalAnswer, NominalOut, found, cut, stuck, binds_in, answer_in, out_in, query_outs, typed_vars, vars_in, derivation_in}
+use Rattle.ap_defs.specs.Resolution.{State, Output, outputs, by_clause, by_clauses, calls, clause_node, kinds_of, first_state, next_number}
+use Rattle.ap_defs.specs.Answers.{NominalAnswer, NominalOut, found, answer_in, out_in, query_outs}
 use Rattle.ap_facts.specs.declared.program.FactConstructor.{FactConstructor}
 use Rattle.ap_facts.specs.declared.program.FactPredicate.{FactPredicate}
 use Rattle.ap_facts.specs.declared.program.FactQuery.{FactQuery}
-use Rattle.ap_facts.specs.Facts.{clause_of, clauses_from, args_from, local_of, query_of, EachClosed, AreFacts, ArePredicates}
-use Rattle.ap_facts.proofs.ClosedTerms.{IsPlain, ArePlain, plain_each, renames_plain}
+use Rattle.ap_facts.specs.Facts.{clause_of, clauses_from, args_from, local_of, query_of, AreFacts, ArePredicates}
+use Rattle.ap_facts.proofs.ClosedTerms.{ArePlain, plain_each, renames_plain}
 use Rattle.ap_facts.proofs.FactUnification.{var_at, vars_from, bound_from, unify_all, terms_bound}
 
 -- the clauses of a predicate are its facts

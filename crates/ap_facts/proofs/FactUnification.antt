@@ -1,12 +1,12 @@
 -- Unification of different variables with closed terms binds each of them to its term.
-use Rattle.std.proofs.Common.{◌≡◌, ℕ, zero, suc, ◌+◌, ◌<◌, ◌≤◌, Bool, true, false, List, [], ◌∷◌, ◌++◌, map, length, refl, sym, ap, ap₂, ◌∙◌, arith, eqb}
-use Rattle.std.specs.Prelude.{Option, Some, None, if◌then◌else◌, ◌==◌}
+use Rattle.std.proofs.Common.{◌≡◌, ℕ, zero, suc, ◌<◌, ◌≤◌, true, false, List, [], ◌∷◌, map, length, refl, ap, ap₂, ◌∙◌, arith}
+use Rattle.std.specs.Prelude.{Some, if◌then◌else◌}
 use Rattle.std.proofs.lemmas.Bool.Decides.{nat_tests}
 use Rattle.ap_defs.specs.declared.terms.Var.{Var}
-use Rattle.ap_defs.specs.Terms.{NominalTerm, unit, name, pair, app, abs, susp, act_term, term_of}
+use Rattle.ap_defs.specs.Terms.{NominalTerm, unit, pair, app, susp, act_term}
 use Rattle.ap_defs.specs.Freshness.{var_eq}
-use Rattle.ap_defs.specs.Substitution.{Binding, ◌:=◌, Equation, ◌≐◌, Problem, occurs, put, put_equation, put_binding, bound_term, moved, under}
-use Rattle.ap_defs.specs.Unification.{Rule, bind, rule, unless_occurs, Stage, bind_in, apply_rule, step, Ending, solved, after, run, size_of, vars_of, distinct_vars, enough, steps_for, ending, equations_of, first_stage, unify, Unified, finish}
+use Rattle.ap_defs.specs.Substitution.{Binding, ◌:=◌, Equation, ◌≐◌, put_equation, put_binding, bound_term, moved, under}
+use Rattle.ap_defs.specs.Unification.{bind, rule, unless_occurs, Stage, bind_in, apply_rule, solved, after, run, size_of, vars_of, distinct_vars, enough, ending, equations_of, unify, finish}
 use Rattle.ap_defs.specs.Canonical.{canonical_term}
 use Rattle.ap_facts.specs.Facts.{args_from}
 use Rattle.ap_facts.proofs.ClosedTerms.{IsPlain, ArePlain, act_plain, occurs_plain, put_plain, under_plain, canonical_plain}

@@ -1,5 +1,5 @@
 -- What the report of a program of facts is made of: texts of closed terms, and a line for each fact.
-use Rattle.std.specs.Prelude.{◌≡◌, ℕ, Bool, true, false, List, [], ◌∷◌, ◌++◌, map, codes, decimal}
+use Rattle.std.specs.Prelude.{ℕ, Bool, true, false, List, [], ◌∷◌, ◌++◌, map, codes, decimal}
 use Rattle.ap_defs.specs.declared.terms.Term.{Term}
 use Rattle.ap_defs.specs.Terms.{NominalTerm, term_of}
 use Rattle.ap_defs.specs.Printing.{Spelling, arguments, term_at}

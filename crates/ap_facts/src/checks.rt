@@ -29,6 +29,7 @@ fn are_closed(constructors: &[FactConstructor], count: u32, t: &Term) -> bool
     }
 }
 
+/// Whether each argument of a fact is closed.
 fn each_closed(constructors: &[FactConstructor], args: &[Term]) -> bool
     ensures { IsTrue result ↔ EachClosed constructors.now args.now }
 {
@@ -40,6 +41,7 @@ fn each_closed(constructors: &[FactConstructor], args: &[Term]) -> bool
     true
 }
 
+/// Whether the facts of a predicate are of its arity and closed.
 fn are_facts(constructors: &[FactConstructor], arity: u32, facts: &[List<Term>]) -> bool
     ensures { IsTrue result ↔ AreFacts constructors.now arity facts.now }
 {
@@ -51,6 +53,7 @@ fn are_facts(constructors: &[FactConstructor], arity: u32, facts: &[List<Term>])
     true
 }
 
+/// Whether the facts of each predicate are.
 fn are_predicates(constructors: &[FactConstructor], predicates: &[FactPredicate]) -> bool
     ensures { IsTrue result ↔ ArePredicates constructors.now predicates.now }
 {
@@ -62,6 +65,7 @@ fn are_predicates(constructors: &[FactConstructor], predicates: &[FactPredicate]
     true
 }
 
+/// Whether the query is of a declared predicate, with as many arguments.
 fn is_query(predicates: &[FactPredicate], query: &FactQuery) -> bool
     ensures { IsTrue result ↔ IsQuery predicates.now query.now }
 {
@@ -70,7 +74,8 @@ fn is_query(predicates: &[FactPredicate], query: &FactQuery) -> bool
 }
 
 /// Whether each fact is closed and has its predicate's arity, and the query is of a declared
-/// predicate with as many arguments.
+/// predicate with as many arguments: the test of what [`fact_report`](crate::report::fact_report)
+/// requires.
 pub fn is_fact_program(program: &FactProgram) -> bool
     ensures { IsTrue result ↔ IsFactProgram program.now }
 {

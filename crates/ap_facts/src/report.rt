@@ -84,9 +84,11 @@ fn write_totals(alloc: Global, out: &mut Vec<u8>, answers: usize, cuts: usize) -
     Ok(())
 }
 
-/// The report of the program's query to a depth: a line for each fact of the query's predicate, and the totals.
+/// The report of the program's query to a depth: a line for each fact of the query's predicate, and
+/// the totals.
 ///
-/// At depth 0 the query is cut at once. `Err` is want of memory.
+/// It is what sequential nominal resolution (Cheney and Urban) gives, whatever words the text has. At
+/// depth 0 the query is cut at once. `Err` is want of memory.
 pub fn fact_report(alloc: Global, program: &FactProgram, depth: u32) -> Result<List<u8>, Memory>
     requires { IsFactProgram program.now }
     ensures { IfOk result (λ r. (words : list (list ℕ)) → r ≡ program_report (program_of program.now words) depth) }

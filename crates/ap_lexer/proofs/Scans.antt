@@ -2,12 +2,16 @@
 use Rattle.std.proofs.Common.{◌≡◌, ℕ, zero, suc, pred, ◌+◌, ◌<◌, ◌≤◌, List, [], ◌∷◌, ◌++◌, length, take, drop, map, None, Some, refl, sym, ap, ◌∙◌, arith, add-zero, append_assoc, append-nil, length-drop, length-append}
 use Rattle.std.proofs.lemmas.List.{map-append, drop-drop}
 use Rattle.std.proofs.lemmas.List.Sums.{sum_by-append}
-use Rattle.std.proofs.Math.Seq.{take-add}
-use Rattle.std.specs.Prelude.{count_by, ◌==◌}
+use Rattle.std.proofs.lemmas.Bool.Decides.{nat_tests}
+use Rattle.std.proofs.lemmas.Str.{utf8_valid_len-IsUtf8}
+use Rattle.std.proofs.Math.Seq.{take-add, take-length}
+use Rattle.std.specs.Str.{IsUtf8}
+use Rattle.std.specs.Str.Lossy.{utf8_valid_len}
+use Rattle.std.specs.Prelude.{Ok, true, count_by, ◌==◌}
 use Rattle.ap_lexer.specs.declared.pieces.Piece.{Piece}
 use Rattle.ap_lexer.specs.declared.token.TokenKind.{TokenKind}
 use Rattle.ap_lexer.specs.Pieces.{piece_at}
-use Rattle.ap_lexer.specs.Tokens.{Scan, Lexeme, scan_from, scan_piece, span_of, lexeme_at, lexemes_of, line_at}
+use Rattle.ap_lexer.specs.Tokens.{Scan, Lexeme, scan_from, scan_piece, span_of, lexeme_at, lexed, lexed_front, lexemes_of, line_at}
 
 pub scan_skip : (at k : ℕ) (bs : List ℕ) → k ≤ length bs → scan_from at k bs ≡ scan_from (at + k) 0 (drop k bs)
 unfolding scan_from
@@ -85,3 +89,14 @@ token_kept bs found place line rest p kind t come e t_is = rw (e, t_is, come.lin
 
 pub nothing_kept : (bs : List ℕ) (place : ℕ) (p : Piece) → p.kind ≡ None → [] ≡ map (lexeme_at bs) (span_of place p)
 nothing_kept bs place p e = rw e refl
+
+same_test : (m n : ℕ) → m ≡ n → (m == n) ≡ true
+same_test m n e = grind (arith, nat_tests)
+
+-- a text in which the scan comes to the end reads as its tokens
+pub lexed-whole : (bs : List ℕ) → IsUtf8 bs → (scan_from 0 0 bs).stop ≡ length bs → lexed bs ≡ Ok (lexemes_of bs)
+unfolding lexed
+lexed-whole bs text stop =
+    let front : take (utf8_valid_len bs) bs ≡ bs = rw (utf8_valid_len-IsUtf8 bs text) (take-length bs) in
+    let ends = same_test (scan_from 0 0 bs).stop (length bs) stop in
+    ap (lexed_front bs) front ∙ rw ends refl

@@ -2,6 +2,7 @@
 ghost use Rattle.std.specs.Prelude.{◌≡◌, ◌<◌, ◌≤◌, [], ◌∷◌, take, None, IfSome, MatchOption};
 ghost use Rattle.std.specs.Str.{IsCharBoundary};
 ghost use Rattle.std.specs.Str.Lossy.{utf8_valid_len};
+ghost use Rattle.ap_lexer.specs.Laws.{TakesLongest};
 ghost use Rattle.ap_lexer.specs.Pieces as spec;
 
 use crate::token::TokenKind;
@@ -142,3 +143,9 @@ pub fn piece_at(text: &str) -> Option<Piece>
         Start::Other => mark_at(text),
     }
 }
+
+/// The longest token is taken, at the front of any text: where a token is taken, no longer front
+/// is a token, and where none is taken, no front is one. The call itself does nothing.
+pub fn takes_longest(_text: &str)
+    ensures { TakesLongest _text.now (spec.piece_at _text.now) }
+{}

@@ -1,5 +1,6 @@
 // The tokens of a text, one piece after another.
 ghost use Rattle.std.specs.Prelude.{◌≡◌, ◌≤◌, ◌+◌, IfOk, length, take, map, count_by, ◌==◌};
+ghost use Rattle.ap_lexer.specs.Laws.{AreTokensOf};
 ghost use Rattle.ap_lexer.specs.Tokens.{Gives, lexed, lexemes, lexemes_of, scan_from, line_at, is_dot, lexeme};
 
 use crate::pieces::{piece_at, text_front};
@@ -35,6 +36,7 @@ fn scan(alloc: Global, text: &str) -> Result<Scanned<'_>, AllocError>
     ensures place { IfOk result (λ s. (s.place ≡ (scan_from 0 0 text.now).stop) × (s.place ≤ length text.now)) }
     ensures line { IfOk result (λ s. s.line ≡ line_at text.now s.place) }
     ensures few { IfOk result (λ s. length s.tokens.items ≤ length text.now) }
+    ensures longest { IfOk result (λ s. AreTokensOf text.now (lexemes s.tokens.items)) }
 {
     let mut tokens = Vec::new(alloc);
     let mut place = 0;
@@ -79,7 +81,8 @@ fn count_dots(tokens: &[Token<'_>]) -> usize
 #[tactic(auto, unfolding(crate::specs::Tokens::lexed))]
 pub fn lex(alloc: Global, text: &[u8]) -> Result<Vec<Token<'_>>, LexError>
     requires { length text.now ≤ TEXT_LIMIT }
-    ensures { Gives (λ v. lexemes v.items) result (lexed text.now) }
+    ensures read { Gives (λ v. lexemes v.items) result (lexed text.now) }
+    ensures longest { IfOk result (λ v. AreTokensOf text.now (lexemes v.items)) }
 {
     let front = text_front(text);
     let Scanned {

@@ -1,4 +1,4 @@
-use Rattle.std.proofs.Common.{◌≡◌, ◌∙◌, ◌↔◌, ◌<◌, ◌≤◌, nat_le, ◌-◌, ℕ, zero, suc, IsTrue, Bool, true, false, List, ap, sym, refl, subst, arith}
+use Rattle.std.proofs.Common.{◌≡◌, ◌∙◌, ◌↔◌, ◌<◌, ◌≤◌, nat_le, ◌-◌, ℕ, zero, suc, IsTrue, Bool, true, List, ap, sym, subst, arith}
 use Rattle.std.proofs.lemmas.Bool.Decides.{nat_tests}
 use Rattle.ap_defs.specs.Terms.{NominalTerm, pair, term_of}
 use Rattle.ap_facts.specs.declared.program.FactConstructor.{FactConstructor}

@@ -1,4 +1,4 @@
-use Rattle.std.proofs.Common.{◌≡◌, ◌∙◌, ◌++◌, ap, sym, length}
+use Rattle.std.proofs.Common.{◌∙◌, ap, sym}
 use Rattle.ap_facts.specs.declared.program.FactPredicate.{FactPredicate}
 use Rattle.ap_facts.proofs.FactReport.{cut_written, facts_written, query_facts}
 use Rattle.ap_facts.proofs.report.fact_report.Goals as goal

@@ -1,4 +1,4 @@
-use Rattle.std.proofs.Common.{◌∙◌, length, ap, arith}
+use Rattle.std.proofs.Common.{length, arith}
 use Rattle.ap_facts.proofs.Lookups.{fact_closed, fact_length}
 use Rattle.ap_facts.proofs.report.write_facts.Goals as goal
 

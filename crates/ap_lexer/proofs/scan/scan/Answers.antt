@@ -2,6 +2,7 @@ use Rattle.std.proofs.Common.{◌≡◌, ◌++◌, map, sym, refl, ap, ◌∙◌
 use Rattle.std.proofs.lemmas.List.{map-append}
 use Rattle.std.proofs.lemmas.Str.{IsUtf8-drop}
 use Rattle.ap_lexer.specs.Tokens.{lexemes, lexeme, lexeme_at, span_of}
+use Rattle.ap_lexer.proofs.Placed.{placed_on, placed_all}
 use Rattle.ap_lexer.proofs.Scans.{comes_on, comes_to_stop, token_kept, nothing_kept}
 use Rattle.ap_lexer.proofs.scan.scan.Goals as goal
 use Rattle.ap_lexer.proofs.scan.scan.Goals.{in-Some-kind+in_ok-push, in_default-kind}
@@ -9,7 +10,9 @@ use Rattle.ap_lexer.proofs.scan.scan.Goals.{in-Some-kind+in_ok-push, in_default-
 pub loop-piece-preserved : goal.loop-piece-preserved
 loop-piece-preserved c =
     let come = c.loop-piece.invariant.1 in
+    let placed = c.loop-piece.invariant.2 in
     let cut = c.in-Some.ensures.cut in
+    let piece = sym c.piece_at.ensures.value ∙ c.in-Some.is in
     let found : lexemes c.match-piece.tokens.items ≡ lexemes c.loop-piece.tokens.items ++ map (lexeme_at c.args.text.now) (span_of c.loop-piece.place c.in-Some.piece) =
     elim c.match-piece.branch [
       | in-Some-kind+in_ok-push w ↦ rw (w.tokens-is, w.in_ok-push.ensures.items, map-append lexeme) (ap (λ t. lexemes c.loop-piece.tokens.items ++ t)
@@ -18,7 +21,8 @@ loop-piece-preserved c =
     ] in (
       rw c.split_at.ensures.back (IsUtf8-drop _ _ c.loop-piece.invariant.0 cut.1),
       rw (found, c.split_at.ensures.back, c.count_lines.ensures.value, c.split_at.ensures.front)
-          (comes_on _ _ _ _ _ c.in-Some.piece come (sym c.piece_at.ensures.value ∙ c.in-Some.is) cut.0 cut.1.0),
+          (comes_on _ _ _ _ _ c.in-Some.piece come piece cut.0 cut.1.0),
+      rw found (placed_on _ _ _ _ c.in-Some.piece placed c.loop-piece.invariant.0 come.rest_is piece cut.0),
     )
 
 pub returns-clause-tokens : goal.returns-clause-tokens
@@ -27,3 +31,6 @@ returns-clause-tokens c = (comes_to_stop _ _ _ _ _ c.loop-piece.invariant.1 (sym
 pub returns-clause-place : goal.returns-clause-place
 returns-clause-place c =
     ((comes_to_stop _ _ _ _ _ c.loop-piece.invariant.1 (sym c.piece_at.ensures.value ∙ c.in_default.is)).1, c.loop-piece.invariant.1.inside)
+
+pub returns-clause-longest : goal.returns-clause-longest
+returns-clause-longest c = placed_all _ _ _ c.loop-piece.invariant.2 c.loop-piece.invariant.1.inside

@@ -1,0 +1,4 @@
+pub mod Parting
+pub mod Opening
+pub mod Keeping
+pub mod Merges

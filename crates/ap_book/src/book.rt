@@ -1,0 +1,186 @@
+//! The book: its history, with the open paths beside it.
+
+ghost use Rattle.std.specs.Prelude.{◌≡◌, ℕ, true, ◌∷◌, ◌++◌, [], if◌then◌else◌, IfOk, IfErr};
+ghost use Rattle.ap_defs.specs.declared.paths.Entry.TheVariants.{Split, Done, Stop};
+ghost use Rattle.ap_paths.specs.Entries.{entries_of};
+ghost use Rattle.ap_paths.specs.History.{has_stop, is_legal, progress_of};
+ghost use Rattle.ap_paths.specs.Trees.{Ascends};
+ghost use Rattle.ap_book.specs.Answers.{Enters, EntersDone};
+
+use crate::error::{BookError, DoneError};
+use crate::opened::{has, make_kids, make_room, only_root, replace, take_out};
+use ap_defs::lists::List;
+use ap_defs::memory::Memory;
+use ap_defs::paths::{Entry, Out, Path, Progress};
+use std::alloc::Global;
+use std::collections::HashSet;
+use std::marker::Model;
+
+/// Which paths of a search were split, and which have ended. At first the empty path is open.
+///
+/// Contracts see a book as its history. That is always legal: each path was open at its entry, and
+/// at most one Stop stands there.
+#[derive(Drop)]
+pub struct Book {
+    history: Vec<Entry>,
+    opened: HashSet<Vec<u32>>,
+    stopped: bool,
+}
+
+impl Model for Book {
+    ghost use Rattle.std.specs.Prelude.{List as list};
+    ghost use Rattle.ap_defs.specs.declared.paths.Entry.{Entry};
+
+    ghost Value = { list Entry };
+
+    ghost use Rattle.ap_defs.specs.contracts.paths.Entry as e;
+    ghost use Rattle.std.specs.Coded.{coded_list};
+
+    ghost coded = { coded_list e.the_row.coded };
+
+    ghost use Rattle.std.specs.Prelude.{◌≡◌, false, ◌<◌, vec_len, vec_capacity};
+    ghost use Rattle.ap_paths.specs.Entries.{entries_of};
+    ghost use Rattle.ap_book.specs.Kept.{paths_of, IsKept};
+
+    ghost view = { λ b. b.history.items };
+
+    ghost invariant = { λ b. IsKept (entries_of b.history.items) (paths_of b.opened.keys) b.stopped × (b.stopped ≡ false → vec_len b.history < vec_capacity b.history) };
+}
+
+impl Book {
+    /// A book with no entry, which has room for a Stop.
+    pub fn new(alloc: Global) -> Result<Book, Memory>
+        ensures { IfOk result (λ b. b ≡ []) }
+    {
+        Ok(Book {
+            history: Vec::with_capacity(alloc, 1)?,
+            opened: only_root(alloc)?,
+            stopped: false,
+        })
+    }
+
+    /// Replaces an open path by its kids, which ascend strictly from at least 1.
+    ///
+    /// `NotOpen` comes exactly where the path is not open. After an error the book is unchanged.
+    pub fn split(
+        &mut self,
+        alloc: Global,
+        seat: u32,
+        path: &Path,
+        kids: &[u32],
+    ) -> Result<(), BookError>
+        requires { Ascends 1 kids.now }
+        ensures { Enters self.old path.now (Split seat path.now kids.now) result self.new }
+    {
+        if !has(&self.opened, path) {
+            return Err(BookError::NotOpen);
+        }
+        let Ok(entry) = make_split(alloc, seat, path, kids) else {
+            return Err(BookError::Memory);
+        };
+        let Ok(made) = make_kids(alloc, path, kids) else {
+            return Err(BookError::Memory);
+        };
+        if self.history.reserve(2).is_err() {
+            return Err(BookError::Memory);
+        }
+        if make_room(&mut self.opened, made.len()).is_err() {
+            return Err(BookError::Memory);
+        }
+        replace(&mut self.opened, path, made);
+        self.history.push_reserved(entry);
+        Ok(())
+    }
+
+    /// Ends an open path, with the outputs below it.
+    ///
+    /// `NotOpen` comes exactly where the path is not open. After an error the book is unchanged,
+    /// and the outputs come back.
+    pub fn done(
+        &mut self,
+        alloc: Global,
+        seat: u32,
+        path: &Path,
+        outs: Vec<Out>,
+    ) -> Result<(), DoneError>
+        ensures { EntersDone self.old path.now outs.items (Done seat path.now outs.items) result self.new }
+    {
+        let outs = List::of(outs);
+        if !has(&self.opened, path) {
+            return Err(DoneError {
+                cause: BookError::NotOpen,
+                outs,
+            });
+        }
+        let Ok(copied) = path.copy(alloc) else {
+            return Err(DoneError {
+                cause: BookError::Memory,
+                outs,
+            });
+        };
+        if self.history.reserve(2).is_err() {
+            return Err(DoneError {
+                cause: BookError::Memory,
+                outs,
+            });
+        }
+        take_out(&mut self.opened, path);
+        self.history.push_reserved(Entry::Done {
+            seat,
+            path: copied,
+            outs,
+        });
+        Ok(())
+    }
+
+    /// Adds a Stop, unless one stands. It takes no memory.
+    pub fn stop(&mut self, seat: u32)
+        ensures { self.new ≡ (if has_stop (entries_of self.old) then self.old else self.old ++ Stop seat ∷ []) }
+    {
+        if !self.stopped {
+            self.history.push_reserved(Entry::Stop { seat });
+            self.stopped = true;
+        }
+    }
+
+    /// How far the search is: stopped where a Stop stands, else finished where no path is open,
+    /// else how many are open.
+    pub fn status(&self) -> Progress
+        ensures value { result ≡ progress_of (entries_of self.now) }
+        ensures legal { is_legal (entries_of self.now) ≡ true }
+    {
+        if self.stopped {
+            Progress::Stopped
+        } else if self.opened.is_empty() {
+            Progress::Finished
+        } else {
+            Progress::Left(self.opened.len() as u64)
+        }
+    }
+
+    /// The entries, in order.
+    pub fn close(self) -> List<Entry>
+        ensures value { result ≡ self }
+        ensures legal { is_legal (entries_of result) ≡ true }
+    {
+        let Book {
+            history,
+            opened,
+            stopped: _,
+        } = self;
+        drop(opened);
+        List::of(history)
+    }
+}
+
+fn make_split(alloc: Global, seat: u32, path: &Path, kids: &[u32]) -> Result<Entry, Memory>
+    ensures { IfOk result (λ e. e ≡ Split seat path.now kids.now) }
+{
+    let mut copied = Vec::new(alloc);
+    copied.extend_from_slice(kids)?;
+    Ok(Entry::Split {
+        seat,
+        path: path.copy(alloc)?,
+        kids: List::of(copied),
+    })
+}

@@ -1,0 +1,18 @@
+//! Why an entry is refused.
+
+use ap_defs::lists::List;
+use ap_defs::paths::Out;
+
+/// Why an entry is refused: its path is not open, or memory is wanting.
+#[derive(Clone, Copy, Debug, PartialEq, Eq)]
+pub enum BookError {
+    NotOpen,
+    Memory,
+}
+
+/// Why an end is refused, with its outputs, which come back.
+#[derive(Debug, Drop)]
+pub struct DoneError {
+    pub cause: BookError,
+    pub outs: List<Out>,
+}

@@ -1,0 +1,14 @@
+//! The book of a search: which paths were split and which have ended, and their outputs merged.
+#![tactic(auto)]
+
+mod book;
+mod error;
+mod merging;
+mod opened;
+
+pub use book::Book;
+pub use error::{BookError, DoneError};
+pub use merging::merge;
+
+#[cfg(test)]
+mod tests;

@@ -1,0 +1,51 @@
+-- A history that is one entry longer.
+use Rattle.std.proofs.Common.{◌≡◌, ℕ, Bool, true, false, ◌&&◌, ◌||◌, List, [], ◌∷◌, ◌++◌, refl, sym, ap, ◌∙◌, true≢false}
+use Rattle.ap_paths.specs.Entries.{TreeEntry}
+use Rattle.ap_paths.specs.History.{open_after, open_from, open_of, is_stop, has_stop, may_enter, legal_from, is_legal}
+
+or-false : (b : Bool) → b || false ≡ b
+or-false true = refl
+or-false false = refl
+
+or_assoc : (a b c : Bool) → a || (b || c) ≡ (a || b) || c
+or_assoc true b c = refl
+or_assoc false b c = refl
+
+pub open_from-last : (ps : List (List ℕ)) (es : List TreeEntry) (e : TreeEntry) → open_from ps (es ++ e ∷ []) ≡ open_after (open_from ps es) e
+open_from-last ps [] e = refl
+open_from-last ps (x ∷ xs) e = open_from-last (open_after ps x) xs e
+
+pub open_of-last : (es : List TreeEntry) (e : TreeEntry) → open_of (es ++ e ∷ []) ≡ open_after (open_of es) e
+open_of-last es e = open_from-last ([] ∷ []) es e
+
+pub has_stop-last : (es : List TreeEntry) (e : TreeEntry) → has_stop (es ++ e ∷ []) ≡ has_stop es || is_stop e
+has_stop-last [] e = elim (is_stop e) as (λ b. b || false ≡ false || b) [ true ↦ refl | false ↦ refl ]
+has_stop-last (x ∷ xs) e = ap (λ b. is_stop x || b) (has_stop-last xs e) ∙ elim (is_stop x) as (λ b. b || (has_stop xs || is_stop e) ≡ (b || has_stop xs) || is_stop e) [ true ↦ refl | false ↦ refl ]
+
+both_true : (a b : Bool) → a && b ≡ true → (a ≡ true) × (b ≡ true)
+both_true true b h = (refl, h)
+both_true false b h = absurd (true≢false (sym h))
+
+legal_from-last : (ps : List (List ℕ)) (b : Bool) (es : List TreeEntry) (e : TreeEntry) → legal_from ps b es ≡ true → may_enter (open_from ps es) (b || has_stop es) e ≡ true → legal_from ps b (es ++ e ∷ []) ≡ true
+legal_from-last ps b [] e h may = rw (sym (or-false b)) (rw may refl)
+legal_from-last ps b (x ∷ xs) e h may =
+    let parts = both_true (may_enter ps b x) (legal_from (open_after ps x) (b || is_stop x) xs) h in
+    let same : b || (is_stop x || has_stop xs) ≡ (b || is_stop x) || has_stop xs = or_assoc b (is_stop x) (has_stop xs) in
+    let later = legal_from-last (open_after ps x) (b || is_stop x) xs e parts.1 (rw (sym same) may) in
+    rw (parts.0, later) refl
+
+pub is_legal-last : (es : List TreeEntry) (e : TreeEntry) → is_legal es ≡ true → may_enter (open_of es) (has_stop es) e ≡ true → is_legal (es ++ e ∷ []) ≡ true
+is_legal-last es e h may = legal_from-last ([] ∷ []) false es e h may
+
+-- what a book owes after an entry
+pub entered : (old new : List TreeEntry) (e : TreeEntry) (ps : List (List ℕ)) (b : Bool) → new ≡ old ++ e ∷ [] → ps ≡ open_after (open_of old) e → b ≡ has_stop old || is_stop e → is_legal old ≡ true → may_enter (open_of old) (has_stop old) e ≡ true
+    → (ps ≡ open_of new) × (b ≡ has_stop new) × (is_legal new ≡ true)
+entered old new e ps b is opens stops legal may = (
+  opens ∙ sym (open_of-last old e) ∙ ap open_of (sym is),
+  stops ∙ sym (has_stop-last old e) ∙ ap has_stop (sym is),
+  ap is_legal is ∙ is_legal-last old e legal may,
+)
+
+pub or_false : (b : Bool) → b ≡ b || false
+or_false true = refl
+or_false false = refl

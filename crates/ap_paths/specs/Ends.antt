@@ -1,0 +1,12 @@
+-- The map in which ends are put in order: a key is a path and a number, which tells apart ends of one path.
+use Rattle.std.specs.Prelude.{ℕ, ◌<◌, List, [], ◌∷◌, Vec}
+
+-- the paths and what stands beside them
+abbrev pub ends_in : {Z X : Type 0} → List ((Vec ℕ Z × ℕ) × X) → List (List ℕ × X)
+ends_in [] = []
+ends_in (e ∷ es) = (e.0.0.items, e.1) ∷ ends_in es
+
+-- all numbers are below n
+abbrev pub AreBelow : {Z X : Type 0} → ℕ → List ((Vec ℕ Z × ℕ) × X) → Type 0
+AreBelow n [] = Unit {0}
+AreBelow n (e ∷ es) = (e.0.1 < n) × AreBelow n es

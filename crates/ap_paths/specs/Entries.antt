@@ -1,0 +1,33 @@
+-- Entries of a book, and what a tree answers, without where their outputs lie in memory.
+use Rattle.std.specs.Prelude.{ℕ, List, [], ◌∷◌}
+use Rattle.ap_defs.specs.declared.paths.Entry.{Entry}
+use Rattle.ap_defs.specs.declared.paths.Entry.TheVariants.{Split, Done, Stop}
+use Rattle.ap_defs.specs.declared.paths.Visit.{Visit}
+use Rattle.ap_defs.specs.declared.paths.Visit.TheVariants.{Kids, Outs}
+use Rattle.ap_defs.specs.Answers.{NominalOut, outs_of}
+
+-- An entry, with the number of the seat that made it: a path was split into kids, ended with outputs, or all is to stop.
+pub data TreeEntry : Type 0 where
+  split : ℕ → List ℕ → List ℕ → TreeEntry
+  done : ℕ → List ℕ → List NominalOut → TreeEntry
+  stop : ℕ → TreeEntry
+
+-- an entry of the program, without where it lies in memory
+abbrev pub entry_of : Entry → TreeEntry
+entry_of (Split seat p ks) = split seat p ks
+entry_of (Done seat p outs) = done seat p (outs_of outs)
+entry_of (Stop seat) = stop seat
+
+abbrev pub entries_of : List Entry → List TreeEntry
+entries_of [] = []
+entries_of (e ∷ es) = entry_of e ∷ entries_of es
+
+-- What a tree answers at a path: the kids that are worth a visit, or the outputs below it.
+pub data Plan : Type 0 where
+  kids : List ℕ → Plan
+  outs : List NominalOut → Plan
+
+-- an answer of the program, without where it lies in memory
+abbrev pub visit_of : Visit → Plan
+visit_of (Kids ks) = kids ks
+visit_of (Outs os) = outs (outs_of os)

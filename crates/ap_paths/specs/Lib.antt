@@ -1,0 +1,9 @@
+pub mod Entries
+pub mod History
+pub mod Trees
+pub mod Weights
+pub mod Merging
+pub mod Frontier
+pub mod Laws
+pub mod Cuts
+pub mod Ends

@@ -1,0 +1,34 @@
+-- The outputs of the ends of a history, in path order.
+use Rattle.std.specs.Prelude.{ℕ, Bool, if◌then◌else◌, List, [], ◌∷◌, ◌++◌}
+use Rattle.std.specs.Ordering.{is_lt, nat_cmp}
+use Rattle.std.specs.Cmp.Lexicographic.{slice_cmp}
+use Rattle.ap_defs.specs.Answers.{NominalOut}
+use Rattle.ap_paths.specs.Entries.{TreeEntry, split, done, stop}
+
+-- the order of paths: that of lists of numbers, where a beginning comes first
+abbrev pub is_before : List ℕ → List ℕ → Bool
+is_before p q = is_lt (slice_cmp nat_cmp p q)
+
+-- a path that has ended, with its outputs
+abbrev pub Ending : Type 0
+Ending = List ℕ × List NominalOut
+
+-- an end takes its place by path, behind those of the same path
+abbrev pub insert : {X : Type 0} → List ℕ → X → List (List ℕ × X) → List (List ℕ × X)
+insert p os [] = (p, os) ∷ []
+insert p os (e ∷ es) = if is_before p e.0 then (p, os) ∷ e ∷ es else e ∷ insert p os es
+
+-- the ends of a history, in path order, beside those that stand there
+abbrev pub ends_from : List Ending → List TreeEntry → List Ending
+ends_from ends [] = ends
+ends_from ends (split seat p ks ∷ es) = ends_from ends es
+ends_from ends (done seat p os ∷ es) = ends_from (insert p os ends) es
+ends_from ends (stop seat ∷ es) = ends_from ends es
+
+abbrev pub all_outs : List Ending → List NominalOut
+all_outs [] = []
+all_outs (e ∷ es) = e.1 ++ all_outs es
+
+-- the outputs of a history's ends, in path order
+abbrev pub merged : List TreeEntry → List NominalOut
+merged history = all_outs (ends_from [] history)

@@ -1,0 +1,72 @@
+//! What has ended in a search, by path.
+
+ghost use Rattle.std.specs.Prelude.{◌≡◌, [], IfOk, OnOk, OnErr};
+ghost use Rattle.ap_paths.specs.Merging.{insert};
+
+use ap_defs::lists::List;
+use ap_defs::memory::Memory;
+use ap_defs::paths::{Out, Path};
+use std::alloc::Global;
+use std::collections::BTreeMap;
+use std::marker::Model;
+
+/// Paths that have ended, with their outputs, in path order. Ends of one path stand in the order in
+/// which they came.
+#[derive(Drop)]
+pub struct Endings {
+    // A number tells apart ends of one path.
+    ends: BTreeMap<(Vec<u32>, usize), List<Out>>,
+}
+
+impl Model for Endings {
+    ghost use Rattle.std.specs.Prelude.{ℕ, List as list, length};
+    ghost use Rattle.ap_defs.specs.declared.paths.Out.{Out};
+
+    ghost Value = { list (list ℕ × list Out) };
+
+    ghost use Rattle.ap_defs.specs.contracts.paths.Out as o;
+    ghost use Rattle.std.specs.Coded.{coded×, coded_list, coded_ℕ};
+
+    ghost coded = { coded_list (coded× (coded_list coded_ℕ) (coded_list o.the_row.coded)) };
+
+    ghost use Rattle.ap_paths.specs.Ends.{ends_in, AreBelow};
+
+    ghost view = { λ a. ends_in a.ends.entries };
+
+    ghost invariant = { λ a. AreBelow (length a.ends.entries) a.ends.entries };
+}
+
+impl Endings {
+    /// No ends.
+    pub fn new(alloc: Global) -> Endings
+        ensures { result ≡ [] }
+    {
+        Endings {
+            ends: BTreeMap::new(alloc),
+        }
+    }
+
+    /// Adds an end in its place. It takes time in proportion to the logarithm of their number.
+    pub fn put(&mut self, alloc: Global, path: &Path, outs: List<Out>) -> Result<(), Memory>
+        ensures ok { OnOk result (self.new ≡ insert path.now outs self.old) }
+        ensures err { OnErr result (self.new ≡ self.old) }
+    {
+        let mut choices = Vec::new(alloc);
+        choices.extend_from_slice(path.choices())?;
+        let number = self.ends.len();
+        self.ends.insert((choices, number), outs)?;
+        Ok(())
+    }
+
+    /// The paths that have ended and their outputs, in path order. The outputs are moved.
+    pub fn into_vec(self, alloc: Global) -> Result<Vec<(Path, List<Out>)>, Memory>
+        ensures { IfOk result (λ v. v.items ≡ self) }
+    {
+        let Endings { ends } = self;
+        let mut all = Vec::new(alloc);
+        for ((choices, _number), outs) in ends {
+            all.push((Path::of(choices), outs))?;
+        }
+        Ok(all)
+    }
+}

@@ -1,0 +1,45 @@
+//! A tree of paths, as its choices and its outputs below each path.
+
+ghost use Rattle.std.specs.Prelude.{◌≡◌, ℕ, Option, List as list, IfOk};
+ghost use Rattle.ap_defs.specs.Answers.{NominalOut, outs_of};
+ghost use Rattle.ap_paths.specs.Entries.{Plan, visit_of};
+ghost use Rattle.ap_paths.specs.Trees.{InTree, IsTree, IsPlan};
+
+use ap_defs::memory::Memory;
+use ap_defs::paths::{Out, Path, Visit};
+use std::alloc::Global;
+
+/// A tree of paths with the outputs below each. The empty path is in it; where a path has `w`
+/// choices, the paths that go on from it by one entry are those with 1 to `w` appended.
+///
+/// The only error of each method is want of memory.
+pub trait Tree: Sync {
+    /// The number of choices at a path, or none where it ends without one.
+    ghost choices: { Self → list ℕ → Option ℕ };
+
+    /// The outputs below a path.
+    ghost at: { Self → list ℕ → list NominalOut };
+
+    /// What `visit` answers: the tree and the path alone fix it.
+    ghost plan: { Self → list ℕ → Plan };
+
+    /// The number of choices at a path of the tree, or none where it ends without one.
+    fn width(&self, alloc: Global, path: &Path) -> Result<Option<u32>, Memory>
+        requires { InTree (choices self.now) path.now }
+        ensures { IfOk result (λ w. w ≡ choices self.now path.now) };
+
+    /// The outputs below a path of the tree, in path order.
+    fn outs(&self, alloc: Global, path: &Path) -> Result<Vec<Out>, Memory>
+        requires { InTree (choices self.now) path.now }
+        ensures { IfOk result (λ v. outs_of v.items ≡ at self.now path.now) };
+
+    /// The kids of a path that are worth a visit, only where it is at a choice, or the outputs
+    /// below it. Each choice that is left out has no outputs below it.
+    fn visit(&self, alloc: Global, path: &Path) -> Result<Visit, Memory>
+        requires { InTree (choices self.now) path.now }
+        ensures { IfOk result (λ v. visit_of v ≡ plan self.now path.now) };
+
+    ghost branches: { (t : Self) → IsTree (choices t) (at t) };
+
+    ghost planned: { (t : Self) (p : list ℕ) → InTree (choices t) p → IsPlan (choices t) (at t) p (plan t p) };
+}

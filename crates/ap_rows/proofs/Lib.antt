@@ -1,0 +1,4 @@
+mod Controls
+mod Programs
+mod Rows
+mod SampledPrograms

@@ -1,0 +1,2 @@
+//! Worked rows: the definitions computed on small programs.
+#![tactic(auto)]
