@@ -1,0 +1,5 @@
+pub mod Places
+pub mod Moving
+pub mod Permitted
+pub mod Wholes
+pub mod OneWorker
