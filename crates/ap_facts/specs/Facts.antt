@@ -1,7 +1,7 @@
 -- A program of facts as a nominal program.
-use Rattle.std.specs.Prelude.{◌≡◌, ℕ, zero, suc, ◌<◌, Bool, false, List, [], ◌∷◌, map, length, slice_get, Option, Some, None}
+use Rattle.std.specs.Prelude.{◌≡◌, ℕ, zero, suc, false, List, [], ◌∷◌, map, length, slice_get, Some}
 use Rattle.ap_defs.specs.declared.terms.Term.{Term}
-use Rattle.ap_defs.specs.Terms.{NominalTerm, unit, name, pair, app, abs, susp, term_of}
+use Rattle.ap_defs.specs.Terms.{NominalTerm, unit, pair, app, susp, term_of}
 use Rattle.ap_defs.specs.Types as types
 use Rattle.ap_defs.specs.Types.{NominalType, NominalLocal, NominalConstructor, NominalSignature}
 use Rattle.ap_defs.specs.Goals as goals

@@ -1,3 +1,4 @@
+mod Controls
 mod Programs
 mod Rows
 mod SampledPrograms

@@ -1,0 +1,18 @@
+// What a worker passes before each task.
+
+/// A gate that each worker passes before each of its tasks. A test may hold a worker there until
+/// another one has come.
+pub trait Gate: Sync {
+    /// The worker is about to take this task. Each worker counts its tasks from 1. The call returns
+    /// when the worker may go on.
+    fn enter(&self, worker: u32, task: u64);
+}
+
+/// A gate that is always open.
+#[derive(Clone, Copy, Debug)]
+pub struct NoGate;
+
+impl Gate for NoGate {
+    /// Returns at once.
+    fn enter(&self, _worker: u32, _task: u64) {}
+}

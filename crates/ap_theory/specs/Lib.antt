@@ -1,0 +1,14 @@
+pub mod Contexts
+pub mod StatementsOnPermutations
+pub mod StatementsOnGroundTerms
+pub mod StatementsOnUnification
+pub mod Substitutions
+pub mod Variables
+pub mod StatementsOnEquality
+pub mod StatementsOnSubstitution
+pub mod StatementsOnResults
+pub mod Exchanges
+pub mod StatementsOnExchanges
+pub mod StatementsOnConditions
+pub mod StatementsOnGroundings
+pub mod StatementsOnReplacement
