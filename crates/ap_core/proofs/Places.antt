@@ -1,5 +1,5 @@
 -- Lists of lists, by place.
-use Rattle.std.proofs.Common.{◌≡◌, ◌≢◌, ℕ, zero, suc, ◌+◌, ◌<◌, List, [], ◌∷◌, length, set, sym, refl, ap, ◌∙◌, Option, Some, None, arith}
+use Rattle.std.proofs.Common.{◌≡◌, ◌≢◌, ℕ, zero, suc, ◌+◌, ◌<◌, List, [], ◌∷◌, length, set, sym, refl, ap, ◌∙◌, Option, Some, None, ◌++◌, take, drop, get_or, add-one, arith}
 use Rattle.std.specs.Prelude.{slice_get}
 
 module _ {A : Type 0} where
@@ -57,3 +57,12 @@ module _ {A : Type 0} where
   there_below [] i a e = absurd (some_there a (sym e))
   there_below (x ∷ xs) zero a e = omega arith
   there_below (x ∷ xs) (suc i) a e = let z = there_below xs i a e in omega arith
+
+  split_at' : (xs : List A) (i : ℕ) (d : A) → i < length xs → xs ≡ take i xs ++ get_or xs i d ∷ drop (suc i) xs
+  split_at' [] i d l = absurd (omega arith)
+  split_at' (x ∷ xs) zero d l = refl
+  split_at' (x ∷ xs) (suc i) d l = ap (λ l. x ∷ l) (split_at' xs i d (omega arith))
+
+  -- what stands before a place, there and behind it
+  pub split_at : (xs : List A) (i : ℕ) (d : A) → i < length xs → xs ≡ take i xs ++ get_or xs i d ∷ drop (i + 1) xs
+  split_at xs i d l = split_at' xs i d l ∙ ap (λ n. take i xs ++ get_or xs i d ∷ drop n xs) (sym (add-one i))
