@@ -13,8 +13,10 @@ pub mod TerminationLemmas
 pub mod SameUnificationLemmas
 pub mod EqualityLemmas
 pub mod TestLemmas
+pub mod DecisionLemmas
 pub mod SubstitutionLemmas
 pub mod ReductionLemmas
+pub mod UnderLemmas
 pub mod CollectionLemmas
 pub mod SolvingLemmas
 pub mod MostGeneralLemmas

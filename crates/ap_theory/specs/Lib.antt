@@ -12,3 +12,4 @@ pub mod StatementsOnExchanges
 pub mod StatementsOnConditions
 pub mod StatementsOnGroundings
 pub mod StatementsOnReplacement
+pub mod StatementsOnTests

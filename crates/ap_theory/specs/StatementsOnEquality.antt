@@ -1,14 +1,13 @@
 -- What is proved of freshness and equality under any set of conditions.
-use Rattle.std.specs.Prelude.{◌≡◌, true, List, [], ◌∷◌, ◌↔◌}
+use Rattle.std.specs.Prelude.{◌≡◌, ◌⊎◌, List, [], ◌∷◌, ◌↔◌}
 use Rattle.ap_defs.specs.Canonical.{canonical_term}
-use Rattle.ap_defs.specs.Freshness.{Conds, alpha_under, fresh_under}
 use Rattle.ap_defs.specs.Permutations.{act_name, inverse, swap_of}
 use Rattle.ap_defs.specs.SameTerm.{SameTerm}
 use Rattle.ap_defs.specs.Terms.{NominalTerm, act_term}
 use Rattle.ap_defs.specs.declared.terms.Name.{Name}
 use Rattle.ap_defs.specs.declared.terms.Swap.{Swap}
 use Rattle.ap_defs.specs.declared.terms.Var.{Var}
-use Rattle.ap_theory.specs.Contexts.{Context, Equal, Fresh, FreshWhereTheyDiffer, listed}
+use Rattle.ap_theory.specs.Contexts.{Context, Equal, Fresh, FreshWhereTheyDiffer}
 
 -- a permutation takes a name and a term for which it is fresh to such
 abbrev pub FreshnessIsEquivariant : Context → Type 0
@@ -57,16 +56,19 @@ FreshnessWeakens d e = ((a : Name) (x : Var) → d a x → e a x) → (a : Name)
 abbrev pub EqualityWeakens : Context → Context → Type 0
 EqualityWeakens d e = ((a : Name) (x : Var) → d a x → e a x) → (t u : NominalTerm) → Equal d t u → Equal e t u
 
--- the tests under a list of conditions are true just where what they test holds
-abbrev pub FreshnessIsTested : Type 0
-FreshnessIsTested = (ds : Conds) (a : Name) (t : NominalTerm) → fresh_under ds a t ≡ true ↔ Fresh (listed ds) a t
-
-abbrev pub EqualityIsTested : Type 0
-EqualityIsTested = (ds : Conds) (t u : NominalTerm) → alpha_under ds t u ≡ true ↔ Equal (listed ds) t u
-
 -- terms that differ only in how permutations are listed have one form with canonical lists
 abbrev pub SameWhereCanonicalIsOne : Type 0
 SameWhereCanonicalIsOne = (t u : NominalTerm) → SameTerm t u ↔ (canonical_term t ≡ canonical_term u)
 
 abbrev pub CanonicalTermIsSame : Type 0
 CanonicalTermIsSame = (t : NominalTerm) → SameTerm (canonical_term t) t
+
+-- where each condition is decided, so are freshness and equality
+abbrev pub AreDecided : Context → Type 0
+AreDecided d = (a : Name) (x : Var) → d a x ⊎ (d a x → ⊥)
+
+abbrev pub FreshnessIsDecided : Context → Type 0
+FreshnessIsDecided d = AreDecided d → (a : Name) (t : NominalTerm) → Fresh d a t ⊎ (Fresh d a t → ⊥)
+
+abbrev pub EqualityIsDecided : Context → Type 0
+EqualityIsDecided d = AreDecided d → (t u : NominalTerm) → Equal d t u ⊎ (Equal d t u → ⊥)

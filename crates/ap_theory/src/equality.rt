@@ -1,6 +1,6 @@
 //! Laws of freshness and equality of terms with variables, under any set of conditions.
 
-ghost use Rattle.ap_theory.specs.StatementsOnEquality.{CanonicalTermIsSame, DisagreementDecides, EqualityIsEquivariant, EqualityIsReflexive, EqualityIsSymmetric, EqualityIsTested, EqualityIsTransitive, EqualityKeepsFreshness, EqualityRespectsEqualPermutations, EqualityWeakens, FreshNamesSwap, FreshnessIsEquivariant, FreshnessIsTested, FreshnessOfTheMoved, FreshnessRespectsEqualPermutations, FreshnessWeakens, PermutationsMoveAcross, SameWhereCanonicalIsOne};
+ghost use Rattle.ap_theory.specs.StatementsOnEquality.{CanonicalTermIsSame, DisagreementDecides, EqualityIsDecided, EqualityIsEquivariant, EqualityIsReflexive, EqualityIsSymmetric, EqualityIsTransitive, EqualityKeepsFreshness, EqualityRespectsEqualPermutations, EqualityWeakens, FreshNamesSwap, FreshnessIsDecided, FreshnessIsEquivariant, FreshnessOfTheMoved, FreshnessRespectsEqualPermutations, FreshnessWeakens, PermutationsMoveAcross, SameWhereCanonicalIsOne};
 
 use crate::contexts::Conditions;
 
@@ -33,16 +33,16 @@ pub fn disagreement_decides_equality<D: Conditions>()
     ensures swap { FreshNamesSwap D.holds }
 {}
 
+/// Where each condition is decided, so are freshness and equality.
+pub fn decided_conditions<D: Conditions>()
+    ensures fresh { FreshnessIsDecided D.holds }
+    ensures equal { EqualityIsDecided D.holds }
+{}
+
 /// What follows from some conditions follows from more.
 pub fn more_conditions<D: Conditions, E: Conditions>()
     ensures fresh { FreshnessWeakens D.holds E.holds }
     ensures equal { EqualityWeakens D.holds E.holds }
-{}
-
-/// The tests under a list of conditions are true just where what they test follows from the list.
-pub fn tests_under_conditions()
-    ensures fresh { FreshnessIsTested }
-    ensures equal { EqualityIsTested }
 {}
 
 /// Terms that differ only in how permutations are listed are those with one canonical form.

@@ -1,0 +1,47 @@
+//! The program: from the words of the command line and standard input to standard output and the
+//! exit status.
+#![tactic(auto)]
+
+use ap_io::{NoGate, StdSink, StdSource};
+use ap_top::{Status, top};
+use std::alloc::AllocError;
+use std::process::ExitCode;
+use std::rt::Env;
+use std::sync::Wait;
+use std::thread::{Builder, Threads};
+use std::{env, io, thread};
+
+// The stack of the thread that does the work. A term may be nested as deep as its text is long, and
+// a walk down it, or its drop, takes a frame a level. Memory is taken only for what is used of it.
+const STACK: usize = 1 << 30;
+
+// The words after the program's name. Where one isn't UTF-8 there are none, which is refused too.
+fn words(rt: &(impl Env + AllocGlobal)) -> Result<Vec<String>, AllocError> {
+    match env::args(rt) {
+        Ok(args) => args.skip(1).collect(rt.alloc()),
+        Err(error) if error.kind() == io::ErrorKind::OutOfMemory => Err(AllocError),
+        Err(_) => Ok(Vec::new(rt.alloc())),
+    }
+}
+
+// Runs the interpreter on standard input and output.
+fn run<R: Threads + Wait + Sync + AllocGlobal + Input + Print>(rt: &R, words: &[String]) -> Status {
+    let mut source = StdSource::new(rt.reader());
+    let mut sink = StdSink::new(io::writer(rt));
+    top(rt, rt.alloc(), words, &mut source, &mut sink, &NoGate)
+}
+
+fn main(rt: HostRuntime) -> ExitCode {
+    let Ok(words) = words(&rt) else {
+        return ExitCode::from(Status::Memory.code());
+    };
+    let status = thread::scope(thread::scope_env(), &rt, |scope| {
+        let large = Builder::new().stack_size(STACK);
+        match large.spawn_scoped(scope, || run(&rt, &words)) {
+            Ok(worker) => worker.join(&rt),
+            // No thread with such a stack can be started.
+            Err(_) => run(&rt, &words),
+        }
+    });
+    ExitCode::from(status.code())
+}

@@ -1,0 +1,10 @@
+use Rattle.std.proofs.Common.{◌≤◌, [], length}
+use Rattle.ap_plain.specs.Declarations.{add_predicate}
+use Rattle.ap_plain.proofs.Runs.{Running}
+use Rattle.ap_plain.proofs.declarations.predicates.Given as goal
+
+abbrev pub invariant-loop-place : goal.invariant-loop-place
+invariant-loop-place l = record {
+  running : Running (add_predicate l.sort) [] l.items l.all.items l.place;
+  few : length l.all.items ≤ l.place;
+}

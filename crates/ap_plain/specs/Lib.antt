@@ -1,0 +1,5 @@
+pub mod Symbols
+pub mod Readers
+pub mod Declarations
+pub mod Facts
+pub mod Report

@@ -1,0 +1,4 @@
+pub mod Report
+pub mod Run
+pub mod Status
+pub mod Words

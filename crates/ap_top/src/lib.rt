@@ -1,0 +1,18 @@
+//! The top call: from the words of the command line and the bytes that come in to the bytes that go
+//! out and the status.
+//!
+//! [`top`] reads the source whole, makes all bytes of the report, and then writes them. Its contract
+//! says that the status and the bytes are those of the report of the words and of what was read.
+#![tactic(auto)]
+
+mod reading;
+mod report;
+mod run;
+mod status;
+#[cfg(test)]
+mod tests;
+mod words;
+mod writing;
+
+pub use run::top;
+pub use status::Status;

@@ -1,0 +1,10 @@
+nat : type.
+z : nat.
+s : nat -> nat.
+
+pred p(nat).
+
+p(z).
+p(s(z)).
+
+?- p(X).
