@@ -1,5 +1,5 @@
 -- The test of kids says what it is to say.
-use Rattle.std.proofs.Common.{◌≡◌, ◌≢◌, ℕ, zero, suc, ◌+◌, ◌-◌, ◌<◌, ◌≤◌, Bool, true, false, ◌==◌, ◌&&◌, eqb, if◌then◌else◌, Option, Some, None, List, [], ◌∷◌, ◌++◌, length, drop, sym, refl, ap, ◌∙◌, subst, true≢false, eq-eqb, ne_eqb, add-one, arith}
+use Rattle.std.proofs.Common.{◌≡◌, ◌≢◌, ℕ, zero, suc, ◌+◌, ◌-◌, ◌<◌, ◌≤◌, Bool, true, false, ◌==◌, ◌&&◌, if◌then◌else◌, Some, None, List, [], ◌∷◌, ◌++◌, length, drop, sym, refl, ap, ◌∙◌, subst, true≢false, eq-eqb, ne_eqb, add-one, arith}
 use Rattle.std.specs.Bool.{MatchBool}
 use Rattle.std.proofs.lemmas.Bool.Decides.{nat_tests}
 use mathlib.Core.Logic.{dite}
@@ -63,21 +63,21 @@ sound at p i (suc n) (k ∷ ks) e =
     elim b as (λ b. (k == i) ≡ b → (if b then covers at p (suc i) n ks else is_none (at (p ++ i ∷ [])) && covers at p (suc i) n (k ∷ ks)) ≡ true → Covered at p i (suc n) (k ∷ ks)) [
       | true ↦ λ s h.
           (let same = is_same k i s in
-            let r = sound at p (suc i) n ks h in (
-              ((omega arith), subst (λ (j : ℕ). Ascends (suc j) ks) (sym same) r.0),
-              ((omega arith), under_same (suc i + n) (i + suc n) ks (omega arith) r.1),
-              λ j low high none. (let other : k ≢ j = λ z. (let one = counts k j z in omega arith) in let not_one = counts_not k j other in r.2 j (omega arith) (omega arith) (omega arith)),
-            ))
+          let r = sound at p (suc i) n ks h in (
+            ((omega arith), subst (λ (j : ℕ). Ascends (suc j) ks) (sym same) r.0),
+            ((omega arith), under_same (suc i + n) (i + suc n) ks (omega arith) r.1),
+            λ j low high none. (let other : k ≢ j = λ z. (let one = counts k j z in omega arith) in let not_one = counts_not k j other in r.2 j (omega arith) (omega arith) (omega arith)),
+          ))
       | false ↦ λ s h.
           (let ne = is_other k i s in
-            let b = both_true (is_none (at (p ++ i ∷ []))) (covers at p (suc i) n (k ∷ ks)) h in
-            let r = sound at p (suc i) n (k ∷ ks) b.1 in (
-              ((let z = r.0.0 in omega arith), r.0.1),
-              under_same (suc i + n) (i + suc n) (k ∷ ks) (omega arith) r.1,
-              λ j low high none. dite (ℕ_discrete i j)
-                  (λ same. subst (λ (x : ℕ). at (p ++ x ∷ []) ≡ []) same (none_is (at (p ++ i ∷ [])) b.0))
-                  (λ other. r.2 j (omega arith) (omega arith) none),
-            ))
+          let b = both_true (is_none (at (p ++ i ∷ []))) (covers at p (suc i) n (k ∷ ks)) h in
+          let r = sound at p (suc i) n (k ∷ ks) b.1 in (
+            ((let z = r.0.0 in omega arith), r.0.1),
+            under_same (suc i + n) (i + suc n) (k ∷ ks) (omega arith) r.1,
+            λ j low high none. dite (ℕ_discrete i j)
+                (λ same. subst (λ (x : ℕ). at (p ++ x ∷ []) ≡ []) same (none_is (at (p ++ i ∷ [])) b.0))
+                (λ other. r.2 j (omega arith) (omega arith) none),
+          ))
     ] in
     step (k == i) refl e
 
@@ -93,17 +93,17 @@ complete at p i (suc n) (k ∷ ks) h =
     elim b as (λ b. (k == i) ≡ b → (if b then covers at p (suc i) n ks else is_none (at (p ++ i ∷ [])) && covers at p (suc i) n (k ∷ ks)) ≡ true) [
       | true ↦ λ s.
           (let same = is_same k i s in
-            complete at p (suc i) n ks (
-              subst (λ (j : ℕ). Ascends (suc j) ks) same h.0.1,
-              under_same (i + suc n) (suc i + n) ks (omega arith) h.1.1,
-              λ j low high none. (let other = counts_not k j (λ z. omega arith) in h.2 j (omega arith) (omega arith) (omega arith)),
-            ))
+          complete at p (suc i) n ks (
+            subst (λ (j : ℕ). Ascends (suc j) ks) same h.0.1,
+            under_same (i + suc n) (suc i + n) ks (omega arith) h.1.1,
+            λ j low high none. (let other = counts_not k j (λ z. omega arith) in h.2 j (omega arith) (omega arith) (omega arith)),
+          ))
       | false ↦ λ s.
           (let ne = is_other k i s in
-            let up : i < k = (let z = h.0.0 in let y : k ≢ i = ne in omega arith) in
-            let here : at (p ++ i ∷ []) ≡ [] = h.2 i (omega arith) (omega arith) (none_below i k (k ∷ ks) up ((omega arith), h.0.1)) in
-            let r = complete at p (suc i) n (k ∷ ks) (((omega arith), h.0.1), under_same (i + suc n) (suc i + n) (k ∷ ks) (omega arith) h.1, λ j low high none. h.2 j (omega arith) (omega arith) none) in
-            ap (λ o. is_none o && covers at p (suc i) n (k ∷ ks)) here ∙ r)
+          let up : i < k = (let z = h.0.0 in let y : k ≢ i = ne in omega arith) in
+          let here : at (p ++ i ∷ []) ≡ [] = h.2 i (omega arith) (omega arith) (none_below i k (k ∷ ks) up ((omega arith), h.0.1)) in
+          let r = complete at p (suc i) n (k ∷ ks) (((omega arith), h.0.1), under_same (i + suc n) (suc i + n) (k ∷ ks) (omega arith) h.1, λ j low high none. h.2 j (omega arith) (omega arith) none) in
+          ap (λ o. is_none o && covers at p (suc i) n (k ∷ ks)) here ∙ r)
     ] in
     step (k == i) refl
 
@@ -155,9 +155,9 @@ pub next_kid : (at : Outputs) (p : List ℕ) (i w next : ℕ) (ks : List ℕ) �
 next_kid at p i w next ks l e =
     let e' : starts (suc i) (drop next ks) ≡ true = ap (λ k. starts k (drop next ks)) (sym (add-one i)) ∙ e in (
       ap (λ m. covers at p (suc i) m (drop next ks)) (let z : w - i ≡ suc (w - (i + 1)) = omega arith in z)
-      ∙ covers_next at p (suc i) (w - (i + 1)) (drop next ks) e'
-      ∙ ap (covers at p (suc (suc i)) (w - (i + 1))) (drop_again next ks ∙ ap (λ m. drop m ks) (sym (add-one next)))
-      ∙ ap (λ m. covers at p (suc m) (w - (i + 1)) (drop (next + 1) ks)) (sym (add-one i)),
+          ∙ covers_next at p (suc i) (w - (i + 1)) (drop next ks) e'
+          ∙ ap (covers at p (suc (suc i)) (w - (i + 1))) (drop_again next ks ∙ ap (λ m. drop m ks) (sym (add-one next)))
+          ∙ ap (λ m. covers at p (suc m) (w - (i + 1)) (drop (next + 1) ks)) (sym (add-one i)),
       (let z = starts_below next (i + 1) ks e in omega arith),
     )
 

@@ -1,15 +1,13 @@
 -- One worker keeps the pending paths in order: its hand, and then its deque from the back.
-use Rattle.std.proofs.Common.{◌≡◌, ◌≢◌, ℕ, zero, suc, ◌+◌, ◌<◌, List, [], ◌∷◌, ◌++◌, sym, refl, ap, ◌∙◌, subst, append_assoc, Some, arith}
-use Rattle.std.specs.Prelude.{slice_get}
+use Rattle.std.proofs.Common.{◌≡◌, ℕ, zero, suc, List, [], ◌∷◌, ◌++◌, sym, refl, ap, ◌∙◌, subst, append_assoc, arith}
 use Rattle.ap_defs.specs.declared.paths.Event.{Event}
 use Rattle.ap_defs.specs.declared.paths.Event.TheVariants.{Push, Pop, Steal, Split, Done}
 use Rattle.ap_paths.specs.Entries.{TreeEntry, split, done, stop}
 use Rattle.ap_paths.specs.History.{kids_of}
 use Rattle.ap_paths.specs.Trees.{Choices, Outputs, AreKids, AreTrue}
 use Rattle.ap_paths.specs.Merging.{Ending, insert}
-use Rattle.ap_core.specs.States.{State, state, start}
-use Rattle.ap_core.specs.Steps.{IsStep}
-use Rattle.ap_core.specs.Traces.{Makes, Leads, AreSeats, IsInOrder}
+use Rattle.ap_core.specs.States.{State, state}
+use Rattle.ap_core.specs.Traces.{Leads, AreSeats, IsInOrder}
 use Rattle.ap_core.specs.Laws.{AreInOrder}
 use Rattle.ap_core.proofs.Places.{same_some, some_there}
 

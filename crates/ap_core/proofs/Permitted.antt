@@ -1,5 +1,5 @@
 -- Each legal and true history with no stop is that of some permitted list of events, for two workers or more.
-use Rattle.std.proofs.Common.{◌≡◌, ℕ, zero, suc, ◌+◌, ◌<◌, Bool, true, false, ◌||◌, not, List, [], ◌∷◌, ◌++◌, sym, refl, ap, ◌∙◌, subst, true≢false, arith}
+use Rattle.std.proofs.Common.{◌≡◌, ℕ, ◌+◌, ◌<◌, Bool, true, false, ◌||◌, List, [], ◌∷◌, ◌++◌, sym, refl, ap, subst, true≢false, arith}
 use Rattle.ap_defs.specs.declared.paths.Event.{Event}
 use Rattle.ap_defs.specs.Answers.{NominalOut}
 use Rattle.ap_paths.specs.Entries.{TreeEntry, split, done, stop}

@@ -1,8 +1,8 @@
 -- What the program's workers do is what the events say.
-use Rattle.std.proofs.Common.{◌≡◌, ◌≢◌, ℕ, zero, suc, ◌+◌, ◌<◌, ◌≤◌, Bool, true, false, List, [], ◌∷◌, ◌++◌, length, set, get_or, sym, refl, ap, ◌∙◌, subst, Option, Some, None, Result, Ok, Err, IfOk, if◌then◌else◌, add-one, append-nil, append_assoc, arith}
+use Rattle.std.proofs.Common.{◌≡◌, ◌≢◌, ℕ, zero, suc, ◌+◌, ◌<◌, ◌≤◌, Bool, true, false, List, [], ◌∷◌, ◌++◌, length, set, get_or, sym, refl, ap, ◌∙◌, subst, Some, None, Result, Ok, Err, IfOk, if◌then◌else◌, add-one, append-nil, append_assoc, arith}
 use Rattle.std.specs.Prelude.{slice_get}
 use Rattle.ap_defs.specs.declared.paths.Out.{Out}
-use Rattle.ap_defs.specs.Answers.{NominalOut, outs_of}
+use Rattle.ap_defs.specs.Answers.{outs_of}
 use Rattle.ap_paths.specs.History.{kids_of}
 use Rattle.ap_paths.specs.Trees.{Choices, Outputs, AreKids}
 use Rattle.ap_paths.specs.Merging.{Ending, is_before, insert}

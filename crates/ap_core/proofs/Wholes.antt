@@ -1,17 +1,17 @@
 -- After permitted events the frontier of pending and ended paths is whole.
-use Rattle.std.proofs.Common.{◌≡◌, ℕ, zero, suc, ◌+◌, ◌<◌, Bool, true, false, Option, Some, None, List, [], ◌∷◌, ◌++◌, sym, refl, ap, ◌∙◌, subst, append-nil, arith}
+use Rattle.std.proofs.Common.{◌≡◌, ℕ, zero, suc, ◌+◌, ◌<◌, false, Some, List, [], ◌∷◌, ◌++◌, sym, refl, ap, ◌∙◌, subst, append-nil, arith}
 use Rattle.std.specs.Prelude.{slice_get, slice_set}
 use Rattle.ap_defs.specs.declared.paths.Event.{Event}
 use Rattle.ap_defs.specs.declared.paths.Event.TheVariants.{Push, Pop, Steal, Split, Done}
 use Rattle.ap_paths.specs.History.{kids_of}
-use Rattle.ap_paths.specs.Trees.{Choices, Outputs, InTree, IsTree, AreKids}
-use Rattle.ap_paths.specs.Weights.{weigh, one_if, is_it, HaveSame}
-use Rattle.ap_paths.specs.Frontier.{Item, Sorted, outs_in, ended_in, open_in}
+use Rattle.ap_paths.specs.Trees.{Choices, Outputs, InTree, IsTree}
+use Rattle.ap_paths.specs.Weights.{weigh, one_if, is_it}
+use Rattle.ap_paths.specs.Frontier.{Item}
 use Rattle.ap_paths.specs.Merging.{Ending, insert, all_outs}
 use Rattle.ap_paths.proofs.Frontiers.{IsFrontier, grow, mark, undone, weigh_both, weigh_open_in, same_itself, frontier_split, frontier_done, frontier_moved, all_doned, in_tree_at, Has}
 use Rattle.ap_core.specs.States.{State, state, pending, joined_all, nones, start}
 use Rattle.ap_core.specs.Steps.{IsStep, AreSteps}
-use Rattle.ap_core.specs.Laws.{IsWhole, StaysWhole}
+use Rattle.ap_core.specs.Laws.{StaysWhole}
 use Rattle.ap_core.proofs.Places.{same_some, some_there}
 
 -- the weight of all lists after a change of one
@@ -86,7 +86,6 @@ core_step c at s (Done w) t tree f h =
 core_steps : (c : Choices) (at : Outputs) (s : State) (es : List Event) (t : State) → IsTree c at → HasFrontier c at s → AreSteps c at s es t → HasFrontier c at t
 core_steps c at s [] t tree f h = subst (HasFrontier c at) (sym h) f
 core_steps c at s (e ∷ es) t tree f h = core_steps c at h.0 es t tree (core_step c at s e h.0 tree f h.1) h.2
-
 
 weigh_nones : (h : List ℕ → ℕ) (n : ℕ) → weigh h (joined_all (nones n)) ≡ 0
 weigh_nones h zero = refl

@@ -1,5 +1,5 @@
 -- What holds of all permitted lists of events.
-use Rattle.std.specs.Prelude.{◌≡◌, ℕ, ◌<◌, true, false, List, [], ◌∷◌}
+use Rattle.std.specs.Prelude.{◌≡◌, ℕ, true, false, List, [], ◌∷◌}
 use Rattle.ap_defs.specs.declared.paths.Event.{Event}
 use Rattle.ap_paths.specs.Entries.{TreeEntry}
 use Rattle.ap_paths.specs.History.{is_legal, has_stop}

@@ -1,5 +1,5 @@
 -- The program's workers and its Core, as states.
-use Rattle.std.specs.Prelude.{◌≡◌, ℕ, Bool, true, false, List, [], ◌∷◌, slice_get, Option, Some}
+use Rattle.std.specs.Prelude.{◌≡◌, ℕ, Bool, true, false, List, [], ◌∷◌, slice_get, Some}
 use Rattle.ap_defs.specs.declared.paths.Core.{Core}
 use Rattle.ap_defs.specs.declared.paths.Event.{Event}
 use Rattle.ap_defs.specs.declared.paths.Out.{Out}

@@ -1,5 +1,5 @@
 -- The events: where each is permitted, and what it does.
-use Rattle.std.specs.Prelude.{◌≡◌, ◌≢◌, ℕ, Option, Some, List, [], ◌∷◌, ◌++◌, slice_get, slice_set}
+use Rattle.std.specs.Prelude.{◌≡◌, ◌≢◌, ℕ, Some, List, [], ◌∷◌, ◌++◌, slice_get, slice_set}
 use Rattle.ap_defs.specs.declared.paths.Event.{Event}
 use Rattle.ap_defs.specs.declared.paths.Event.TheVariants.{Push, Pop, Steal, Split, Done}
 use Rattle.ap_paths.specs.History.{kids_of}

@@ -12,12 +12,7 @@ use std::alloc::Global;
 
 // Whether the kids are ascending choices of the path, and each choice that they leave out has no
 // outputs below it.
-pub fn are_kids<T: Tree>(
-    alloc: Global,
-    tree: &T,
-    path: &Path,
-    kids: &[u32],
-) -> Result<bool, Memory>
+pub fn are_kids<T: Tree>(alloc: Global, tree: &T, path: &Path, kids: &[u32]) -> Result<bool, Memory>
     requires { InTree (T.choices tree.now) path.now }
     ensures { IfOk result (λ b. MatchBool b (AreKids (T.choices tree.now) (T.at tree.now) path.now kids.now) (AreKids (T.choices tree.now) (T.at tree.now) path.now kids.now → ⊥)) }
 {

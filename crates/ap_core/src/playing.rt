@@ -73,10 +73,7 @@ fn core_of(alloc: Global, team: Vec<Worker>, endings: Endings) -> Result<Core, M
 }
 
 // The hands and the deques of all workers.
-fn rows_of(
-    alloc: Global,
-    team: Vec<Worker>,
-) -> Result<(Vec<List<Path>>, Vec<List<Path>>), Memory>
+fn rows_of(alloc: Global, team: Vec<Worker>) -> Result<(Vec<List<Path>>, Vec<List<Path>>), Memory>
     ensures hands { IfOk result (λ r. r.0.items ≡ hands_of team.items) }
     ensures deques { IfOk result (λ r. r.1.items ≡ deques_of team.items) }
 {

@@ -1,4 +1,4 @@
-use Rattle.std.proofs.Common.{◌≡◌, ◌+◌, ◌-◌, ◌≤◌, drop, length, suc}
+use Rattle.std.proofs.Common.{◌≡◌, ◌-◌, ◌≤◌, drop, length, suc}
 use Rattle.ap_core.specs.Covers.{covers}
 use Rattle.ap_core.proofs.kids.cover.Given as goal
 

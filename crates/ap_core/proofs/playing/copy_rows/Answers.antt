@@ -1,4 +1,4 @@
-use Rattle.std.proofs.Common.{◌≡◌, ◌∙◌, ◌∷◌, ◌++◌, [], sym, ap, take, append_assoc}
+use Rattle.std.proofs.Common.{◌∙◌, ◌∷◌, ◌++◌, [], sym, ap, take, append_assoc}
 use Rattle.std.proofs.lemmas.List.{take_more}
 use Rattle.ap_core.specs.States.{joined_all}
 use Rattle.ap_core.proofs.Stepping.{joined_more}

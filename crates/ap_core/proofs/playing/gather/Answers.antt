@@ -1,4 +1,4 @@
-use Rattle.std.proofs.Common.{◌≡◌, ◌∙◌, ◌≤◌, ◌∷◌, ◌++◌, [], ap, arith}
+use Rattle.std.proofs.Common.{◌∙◌, [], ap}
 use Rattle.ap_core.specs.Stages.{state_of}
 use Rattle.ap_core.proofs.Stepping.{one_more}
 use Rattle.ap_core.proofs.playing.gather.Goals as goal

@@ -1,9 +1,9 @@
-use Rattle.std.proofs.Common.{length, ◌≡◌, ◌∙◌, ◌<◌, ◌+◌, sym, ap, subst, take, drop, Bool, List, ℕ, Some, [], ◌∷◌, ◌++◌, arith}
+use Rattle.std.proofs.Common.{length, ◌≡◌, ◌∙◌, ◌<◌, ◌+◌, sym, ap, subst, take, drop, Bool, List, Some, [], ◌∷◌, ◌++◌, arith}
 use Rattle.std.specs.Prelude.{slice_get}
 use Rattle.std.proofs.lemmas.List.{with_items_is, take_more}
 use Rattle.ap_defs.specs.declared.paths.Event.{Event}
 use Rattle.ap_core.specs.declared.workers.Worker.{Worker}
-use Rattle.ap_core.specs.States.{State, start}
+use Rattle.ap_core.specs.States.{start}
 use Rattle.ap_core.specs.Steps.{IsStep, AreSteps, IsRefused}
 use Rattle.ap_core.specs.Stages.{hands_of, state_of, ends_of, Answered}
 use Rattle.ap_core.proofs.Places.{split_at}

@@ -1,4 +1,4 @@
-use Rattle.std.proofs.Common.{◌≡◌, ◌++◌, length}
+use Rattle.std.proofs.Common.{◌≡◌, ◌++◌}
 use Rattle.ap_core.proofs.playing.row_of.Given as goal
 
 abbrev pub invariant-loop-path : goal.invariant-loop-path

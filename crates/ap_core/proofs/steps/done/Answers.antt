@@ -1,5 +1,4 @@
-use Rattle.std.proofs.Common.{◌≡◌, ◌∙◌, sym, ap, subst, get_or}
-use Rattle.ap_defs.specs.Answers.{outs_of}
+use Rattle.std.proofs.Common.{◌∙◌, ap, get_or}
 use Rattle.ap_paths.specs.Merging.{insert}
 use Rattle.ap_core.proofs.Stepping.{end_made, nothing_begun, began_there, at_get, hand_beyond}
 use Rattle.ap_core.proofs.steps.done.Goals as goal

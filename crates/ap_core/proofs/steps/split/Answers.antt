@@ -1,4 +1,4 @@
-use Rattle.std.proofs.Common.{◌≡◌, ◌∙◌, sym, subst, get_or, Bool, true, false}
+use Rattle.std.proofs.Common.{subst, get_or, Bool}
 use Rattle.std.specs.Bool.{MatchBool}
 use Rattle.ap_paths.specs.Trees.{AreKids}
 use Rattle.ap_core.proofs.Stepping.{split_made, not_split, nothing_begun, began_there, at_get, hand_beyond}

@@ -1,4 +1,4 @@
-use Rattle.std.proofs.Common.{◌≡◌, ◌+◌, ◌-◌, ◌++◌, drop, length}
+use Rattle.std.proofs.Common.{◌≡◌, ◌-◌, ◌++◌, drop, length}
 use Rattle.ap_paths.specs.History.{kids_of}
 use Rattle.ap_core.proofs.workers.Worker.take_kids.Given as goal
 
