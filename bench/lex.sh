@@ -10,12 +10,12 @@ work=$(mktemp -d)
 trap 'rm -rf "$work"' EXIT
 
 # The program is built first, so that no build is measured.
-(cd "$crate" && rt run < stdin > /dev/null 2>&1)
+(cd "$crate" && rt run -- lex < stdin > /dev/null 2>&1)
 
 for shape in ordinary dense parens; do
     for size in 16777216 8388608 4194304; do
         python3 "$bench/token_text.py" "$size" "$shape" > "$work/text"
         printf '%-9s' "$shape"
-        python3 "$bench/measure.py" "$work/text" "$crate/out/ap_bench"
+        python3 "$bench/measure.py" "$work/text" "$crate/out/ap_bench" lex
     done
 done

@@ -1,28 +1,29 @@
-//! For measurements: splits standard input into tokens, and prints how many there are. The scripts of
-//! `bench/` time it.
+//! For measurements, which the scripts of `bench/` time: `lex` splits standard input into tokens and
+//! prints how many there are; `book` fills a book with a tree of two choices at each of 16 levels,
+//! merges it, and prints how many outputs it has.
 #![tactic(auto)]
 
-ghost use Rattle.std.specs.Prelude.{◌≤◌, length};
+mod book;
+mod tokens;
 
-use ap_lexer::{LexError, TEXT_LIMIT, lex};
-use std::alloc::Global;
+use std::env;
 use std::io::{self, Read};
+use std::rt::Env;
 
-// The number of tokens, or what is wrong with the text.
-fn token_count(alloc: Global, text: &[u8]) -> io::Result<String>
-    requires { length text.now ≤ TEXT_LIMIT }
-{
-    match lex(alloc, text) {
-        Ok(tokens) => Ok(format!(in alloc; "{} tokens", tokens.len())?),
-        Err(LexError::Fault(fault)) => Ok(format!(in alloc; "a fault at line {}", fault.line)?),
-        Err(LexError::Memory) => Ok(format!(in alloc; "no memory")?),
-    }
+// The first word after the program's name.
+fn first_word(rt: &(impl Env + AllocGlobal)) -> io::Result<Option<String>> {
+    Ok(env::args(rt)?.nth(1))
 }
 
 fn main(rt: HostRuntime) -> io::Result<()> {
-    let mut text = Vec::new(rt.alloc());
-    rt.reader().read_to_end(&mut text)?;
-    let end = text.len().min(TEXT_LIMIT);
-    let line = token_count(rt.alloc(), &text[..end])?;
+    let alloc = rt.alloc();
+    let line = match first_word(&rt)? {
+        Some(word) if word.as_str() == "book" => book::report(alloc)?,
+        _ => {
+            let mut text = Vec::new(alloc);
+            rt.reader().read_to_end(&mut text)?;
+            tokens::report(alloc, &text)?
+        }
+    };
     println!(rt; "{line}")
 }

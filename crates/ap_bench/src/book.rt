@@ -1,0 +1,53 @@
+//! A book of a large tree.
+
+use ap_book::{Book, merge};
+use ap_defs::lists::List;
+use ap_defs::memory::Memory;
+use ap_defs::paths::{Closed, Out, Path};
+use std::alloc::{AllocError, Global};
+
+const LEVELS: usize = 16;
+
+// Splits a path in two, or ends it with one output at the last level.
+fn visit(alloc: Global, book: &mut Book, open: &mut Vec<Path>, path: Path) -> Result<(), Memory> {
+    if path.choices().len() < LEVELS {
+        if book.split(alloc, 0, &path, &[1, 2]).is_err() {
+            return Err(Memory);
+        }
+        open.push(path.child(alloc, 2)?)?;
+        open.push(path.child(alloc, 1)?)?;
+        return Ok(());
+    }
+    let mut outs = Vec::new(alloc);
+    outs.push(Out::Cut(path.copy(alloc)?))?;
+    match book.done(alloc, 0, &path, outs) {
+        Ok(()) => Ok(()),
+        Err(_) => Err(Memory),
+    }
+}
+
+fn filled(alloc: Global) -> Result<Book, Memory> {
+    let mut book = Book::new(alloc)?;
+    let mut open = Vec::new(alloc);
+    open.push(Path::root(alloc))?;
+    for _ in 0..1_000_000 {
+        match open.pop() {
+            Some(path) => visit(alloc, &mut book, &mut open, path)?,
+            None => break,
+        }
+    }
+    Ok(book)
+}
+
+fn merged(alloc: Global) -> Result<usize, Memory> {
+    let history = filled(alloc)?.close();
+    let logs = List::of(Vec::new(alloc));
+    Ok(merge(alloc, Closed { history, logs })?.len())
+}
+
+pub fn report(alloc: Global) -> Result<String, AllocError> {
+    match merged(alloc) {
+        Ok(count) => format!(in alloc; "{count} outputs"),
+        Err(Memory) => Err(AllocError),
+    }
+}
