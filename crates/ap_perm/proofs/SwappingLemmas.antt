@@ -58,6 +58,7 @@ canonical_go n i p s l h =
   where
     some_same : {r t : Swap} → Some r ≡ Some t → r ≡ t
     some_same k = cc
+
     go : (m : ℕ) (as' : List Name) → least_exchanged p as' ≡ Some s → swap_first (canonical_within m) p as' ≡ s ∷ canonical_within m (s ∷ p)
     go m [] k = cc
     go m (a ∷ as') k = ap (λ r. r ∷ canonical_within m (r ∷ p)) (some_same k)

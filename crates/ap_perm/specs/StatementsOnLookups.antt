@@ -7,7 +7,7 @@ use Rattle.ap_defs.specs.declared.terms.Swap.{Swap}
 use Rattle.ap_defs.specs.declared.terms.Var.{Var}
 use Rattle.ap_theory.specs.Substitutions.{applied}
 use Rattle.ap_theory.specs.Variables.{IsIdempotent}
-use Rattle.ap_perm.specs.Lookups.{Bound, IsRanked, carried_out, depth_of, stands_for}
+use Rattle.ap_perm.specs.Lookups.{Bound, IsRanked, carried_out, depth_of, rank_in, stands_for}
 
 -- it doesn't matter how deep bindings are followed, once that is deep enough
 abbrev pub DepthDoesNotMatter : Bound → (Var → ℕ) → Type 0
@@ -35,3 +35,12 @@ AbstractionsAreCarriedOut bound rank = (a : Name) (t : NominalTerm) → carried_
 -- no bound variable is left
 abbrev pub NoneBoundIsLeft : Bound → (Var → ℕ) → Type 0
 NoneBoundIsLeft bound rank = (t : NominalTerm) (x : Var) → occurs x (carried_out bound rank t) ≡ true → bound x ≡ None
+
+-- a list of bindings that is idempotent has a rank
+abbrev pub IdempotentListsAreRanked : Type 0
+IdempotentListsAreRanked = (bs : List Binding) → IsIdempotent bs → IsRanked (bound_term bs) (rank_in bs)
+
+-- and there a term with every binding carried out is the term under the list
+abbrev pub CarriedOutIsUnder : Type 0
+CarriedOutIsUnder = (bs : List Binding) (rank : Var → ℕ) → IsIdempotent bs → IsRanked (bound_term bs) rank
+    → (t : NominalTerm) → carried_out (bound_term bs) rank t ≡ under bs t

@@ -1,6 +1,6 @@
 //! Laws of lookups, for whoever cites a contract.
 
-ghost use Rattle.ap_perm.specs.StatementsOnLookups.{AbstractionsAreCarriedOut, ApplicationsAreCarriedOut, BoundIsFollowed, DepthDoesNotMatter, NoneBoundIsLeft, PairsAreCarriedOut, UnboundStays};
+ghost use Rattle.ap_perm.specs.StatementsOnLookups.{AbstractionsAreCarriedOut, ApplicationsAreCarriedOut, BoundIsFollowed, CarriedOutIsUnder, DepthDoesNotMatter, IdempotentListsAreRanked, NoneBoundIsLeft, PairsAreCarriedOut, UnboundStays};
 
 use crate::look::Look;
 
@@ -17,3 +17,10 @@ pub fn bindings_are_carried_out<L: Look>(look: &L)
 {
     let _look = look;
 }
+
+/// A list of bindings whose terms have no bound variable has a rank, and there a term with every
+/// binding carried out is the term under the list.
+pub fn idempotent_lists()
+    ensures ranked { IdempotentListsAreRanked }
+    ensures under { CarriedOutIsUnder }
+{}

@@ -1,4 +1,4 @@
-use Rattle.ap_perm.proofs.LookupLemmas.{carried_out_abs, carried_out_app, carried_out_bound, carried_out_deep, carried_out_pair, carried_out_unbound}
+use Rattle.ap_perm.proofs.LookupLemmas.{carried_out_abs, carried_out_app, carried_out_bound, carried_out_deep, carried_out_each, carried_out_pair, carried_out_unbound}
 use Rattle.ap_perm.proofs.laws.bindings_are_carried_out.Goals as goal
 
 pub returns : goal.returns
@@ -13,5 +13,5 @@ returns g c =
       pairs = carried_out_pair bound rank ranked;
       applications = carried_out_app bound rank ranked;
       abstractions = carried_out_abs bound rank ranked;
-      left = ?
+      left = carried_out_each bound rank ranked;
     }
