@@ -1,5 +1,5 @@
 -- Terms with every binding carried out.
-use Rattle.std.proofs.Common.{subst, ◌≡◌, ◌<◌, ◌≤◌, ℕ, zero, suc, max, Bool, true, false, ◌||◌, List, [], ◌∷◌, ◌++◌, refl, sym, ap, ap₂, ◌∙◌, inl, inr, arith, true≢false, append-nil}
+use Rattle.std.proofs.Common.{subst, ◌≡◌, ◌<◌, ◌≤◌, ℕ, zero, suc, max, true, false, ◌||◌, List, [], ◌∷◌, refl, sym, ap, ap₂, ◌∙◌, inl, inr, arith, append-nil}
 use Rattle.std.specs.Prelude.{Option, Some, None, if◌then◌else◌}
 use Rattle.ap_defs.specs.Freshness.{var_eq}
 use Rattle.ap_defs.specs.Substitution.{Binding, bound_term, occurs, under, ◌:=◌}
@@ -9,14 +9,14 @@ use Rattle.ap_defs.specs.declared.terms.Swap.{Swap}
 use Rattle.ap_defs.specs.declared.terms.Var.{Var}
 use Rattle.ap_theory.proofs.BooleanLemmas.{or_cases, or_if_left, or_if_right}
 use Rattle.ap_theory.proofs.IdempotenceLemmas.{bound_term_unbound}
-use Rattle.ap_theory.proofs.SubstitutionLemmas.{applied_local, applied_variables, under_applied}
+use Rattle.ap_theory.proofs.SubstitutionLemmas.{applied_act, applied_local, applied_variables, under_applied}
 use Rattle.ap_theory.proofs.TermLemmas.{same_var, var_same}
 use Rattle.ap_theory.proofs.VariableLemmas.{each_act, each_pair, each_susp}
 use Rattle.ap_theory.specs.Variables.{BindsUnbound, EachVar, IsIdempotent, IsUnbound, is_bound}
 use Rattle.ap_theory.specs.Substitutions.{Substitution, applied, bound_or_itself, substitution_of, variables}
 use Rattle.ap_perm.specs.Lookups.{Bound, IsRanked, carried_out, depth_of, followed, rank_in, stands_for}
 
-occurs_depth : (rank : Var → ℕ) (y : Var) (t : NominalTerm) → occurs y t ≡ true → rank y < depth_of rank t
+pub occurs_depth : (rank : Var → ℕ) (y : Var) (t : NominalTerm) → occurs y t ≡ true → rank y < depth_of rank t
 occurs_depth rank y unit h = cc
 occurs_depth rank y (name a) h = cc
 occurs_depth rank y (pair t u) h =
@@ -27,6 +27,18 @@ occurs_depth rank y (pair t u) h =
 occurs_depth rank y (app f t) h = occurs_depth rank y t h
 occurs_depth rank y (abs a t) h = occurs_depth rank y t h
 occurs_depth rank y (susp p x) h = let e = ap rank (var_same y x h) in omega arith
+
+pub depth_act : (rank : Var → ℕ) (p : List Swap) (t : NominalTerm) → depth_of rank (act_term p t) ≡ depth_of rank t
+depth_act rank p unit = refl
+depth_act rank p (name a) = refl
+depth_act rank p (pair t u) = ap₂ max (depth_act rank p t) (depth_act rank p u)
+depth_act rank p (app f t) = depth_act rank p t
+depth_act rank p (abs a t) = depth_act rank p t
+depth_act rank p (susp q x) = refl
+
+pub carried_out_act : (bound : Bound) (rank : Var → ℕ) (p : List Swap) (t : NominalTerm) → carried_out bound rank (act_term p t) ≡ act_term p (carried_out bound rank t)
+unfolding carried_out
+carried_out_act bound rank p t = ap (λ n. applied (stands_for bound n) (act_term p t)) (depth_act rank p t) ∙ applied_act (stands_for bound (depth_of rank t)) p t
 
 follow_alike : (r s : Substitution) (x : Var) (o : Option NominalTerm) → ((t : NominalTerm) → o ≡ Some t → applied r t ≡ applied s t) → followed r x o ≡ followed s x o
 follow_alike r s x None f = refl
@@ -85,7 +97,7 @@ module _ (bound : Bound) (rank : Var → ℕ) (ranked : IsRanked bound rank) whe
   unfolding carried_out
   carried_out_unbound p x e = ap (λ o. act_term p (followed (stands_for bound (rank x)) x o)) e ∙ ap (λ q. susp q x) (append-nil p)
 
-  depth_ranked : (x : Var) (t : NominalTerm) → bound x ≡ Some t → depth_of rank t ≤ rank x
+  pub depth_ranked : (x : Var) (t : NominalTerm) → bound x ≡ Some t → depth_of rank t ≤ rank x
   depth_ranked x t e = deepest t (λ y i. ranked x y t e i)
     where
       deepest : (u : NominalTerm) → ((y : Var) → occurs y u ≡ true → rank y < rank x) → depth_of rank u ≤ rank x

@@ -1,7 +1,7 @@
 -- What is proved of terms with every binding carried out.
-use Rattle.std.specs.Prelude.{◌≡◌, ◌≤◌, ℕ, true, List, Option, Some, None}
+use Rattle.std.specs.Prelude.{◌≡◌, ◌≤◌, ℕ, true, List, Some, None}
 use Rattle.ap_defs.specs.Substitution.{Binding, bound_term, occurs, under}
-use Rattle.ap_defs.specs.Terms.{NominalTerm, abs, act_term, app, name, pair, susp, unit}
+use Rattle.ap_defs.specs.Terms.{NominalTerm, abs, act_term, app, pair, susp}
 use Rattle.ap_defs.specs.declared.terms.Name.{Name}
 use Rattle.ap_defs.specs.declared.terms.Swap.{Swap}
 use Rattle.ap_defs.specs.declared.terms.Var.{Var}
@@ -21,6 +21,10 @@ UnboundStays bound rank = (p : List Swap) (x : Var) → bound x ≡ None → car
 abbrev pub BoundIsFollowed : Bound → (Var → ℕ) → Type 0
 BoundIsFollowed bound rank = (p : List Swap) (x : Var) (t : NominalTerm) → bound x ≡ Some t
     → carried_out bound rank (susp p x) ≡ act_term p (carried_out bound rank t)
+
+-- it doesn't matter whether a permutation acts before or after
+abbrev pub CarryingOutCommutes : Bound → (Var → ℕ) → Type 0
+CarryingOutCommutes bound rank = (p : List Swap) (t : NominalTerm) → carried_out bound rank (act_term p t) ≡ act_term p (carried_out bound rank t)
 
 -- the parts of a term are carried out each by itself
 abbrev pub PairsAreCarriedOut : Bound → (Var → ℕ) → Type 0

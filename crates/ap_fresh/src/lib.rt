@@ -1,0 +1,5 @@
+//! Freshness of names for terms whose variables are bound.
+#![tactic(auto)]
+
+pub mod error;
+pub mod reduction;
