@@ -56,7 +56,7 @@ fn collect<L: Look>(a: Name, t: &Term, look: &L, conds: &mut Vec<Cond>) -> Resul
     match t {
         Term::Unit => Ok(()),
         Term::Name(b) => {
-            if a == *b {
+            if *b == a {
                 Err(FreshError::Refuted)
             } else {
                 Ok(())
