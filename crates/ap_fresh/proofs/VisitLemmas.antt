@@ -61,7 +61,7 @@ module _ (bound : Bound) (rank : Var → ℕ) (ranked : IsRanked bound rank) whe
   visits_bound q x p t e =
       let u = act_term p t in
       let h : visits bound rank (susp q x) ≡ 1 + visits bound rank u =
-        size_act_term q (marked (unrolled bound (rank x)) x (bound x)) ∙ ap (λ o. size (marked (unrolled bound (rank x)) x o)) e
-        ∙ ap (λ n. 1 + n) (visits_deep (rank x) u (depth_ranked bound rank ranked x u e)) in
+      size_act_term q (marked (unrolled bound (rank x)) x (bound x)) ∙ ap (λ o. size (marked (unrolled bound (rank x)) x o)) e
+      ∙ ap (λ n. 1 + n) (visits_deep (rank x) u (depth_ranked bound rank ranked x u e)) in
       let k = visits_act p t in
       omega arith

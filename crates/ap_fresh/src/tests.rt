@@ -64,7 +64,8 @@ fn y_for_x(alloc: Global) -> Result<OneBinding, Memory> {
 fn leaves(alloc: Global, a: Name, t: &Term, look: &OneBinding, names: &[Name]) -> bool {
     match reduce(alloc, a, t, look) {
         Ok(conds) => {
-            conds.iter().all(|c| c.var == Y) && conds.len() == names.len()
+            conds.iter().all(|c| c.var == Y)
+                && conds.len() == names.len()
                 && conds.iter().zip(names).all(|(c, name)| c.name == *name)
         }
         Err(_) => false,
