@@ -1,10 +1,10 @@
 -- Conditions that are added to an ascending set, one after the other.
-use Rattle.std.proofs.Common.{◌≡◌, ◌<◌, ◌+◌, ℕ, Bool, true, false, ◌&&◌, List, [], ◌∷◌, ◌++◌, length, get_or, take, drop, refl, sym, ap, ap₂, ◌∙◌, inl, inr}
+use Rattle.std.proofs.Common.{◌≡◌, ◌<◌, ℕ, Bool, true, false, ◌&&◌, List, [], ◌∷◌, ◌++◌, length, get_or, take, drop, refl, sym, ap, ◌∙◌}
 use Rattle.std.proofs.Math.Seq.{drop-cons}
 use Rattle.std.proofs.lemmas.List.{take-append-drop}
 use Rattle.std.specs.List.{insert, list_all}
 use Rattle.std.specs.Prelude.{Option, Some, None, if◌then◌else◌, is_none}
-use Rattle.ap_defs.specs.Freshness.{Conds, add_cond, add_conds, both, cond_before, cond_eq, fresh_under, has_cond, reduce}
+use Rattle.ap_defs.specs.Freshness.{Conds, add_cond, add_conds, both, cond_before, cond_eq, has_cond, reduce}
 use Rattle.ap_defs.specs.Terms.{NominalTerm}
 use Rattle.ap_defs.specs.declared.terms.Cond.{Cond}
 use Rattle.ap_defs.specs.declared.terms.Name.{Name}

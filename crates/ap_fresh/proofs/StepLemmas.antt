@@ -1,5 +1,5 @@
 -- What a freshness problem reduces to, for each kind of term.
-use Rattle.std.proofs.Common.{◌≡◌, ℕ, true, false, List, [], ◌∷◌, refl, sym, ap, ◌∙◌}
+use Rattle.std.proofs.Common.{◌≡◌, ℕ, true, false, List, [], ◌∷◌, refl, ap, ◌∙◌}
 use Rattle.std.specs.Prelude.{Option, Some, None, Result, Ok, Err, OnOk}
 use Rattle.ap_defs.specs.Freshness.{Conds, both, reduce}
 use Rattle.ap_defs.specs.Permutations.{act_name, inverse, name_eq}

@@ -1,5 +1,5 @@
 -- Conditions that are added to a set.
-use Rattle.std.specs.Prelude.{Bool, ◌≡◌, List, Option, Some, None}
+use Rattle.std.specs.Prelude.{◌≡◌, List, Option, Some, None}
 use Rattle.std.specs.List.{list_all}
 use Rattle.ap_defs.specs.Freshness.{Conds, add_conds, fresh_under, has_cond}
 use Rattle.ap_defs.specs.Terms.{NominalTerm}

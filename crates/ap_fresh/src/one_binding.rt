@@ -22,7 +22,7 @@ impl Look for OneBinding {
     ghost use Rattle.ap_defs.specs.Substitution.{bound_term, ◌:=◌};
     ghost use Rattle.ap_defs.specs.Terms.{act_term};
     ghost use Rattle.ap_perm.specs.Lookups.{rank_in};
-    ghost use Rattle.ap_fresh.proofs.OneBinding.{one_ranked};
+    ghost use Rattle.ap_fresh.specs.OneBinding.{one_ranked};
 
     ghost bound = { λ l. bound_term ((l.var := act_term l.perm (term_of l.term)) ∷ []) };
 

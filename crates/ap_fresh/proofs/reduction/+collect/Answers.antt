@@ -1,8 +1,8 @@
-use Rattle.std.proofs.Common.{rules, ◌≡◌, true, false, None, Some, OnOk, IsErrOf, ◌<◌, subst, sym, ap, ap₂, ◌∙◌, arith, List, []}
+use Rattle.std.proofs.Common.{rules, ◌≡◌, true, false, None, Some, OnOk, IsErrOf, ◌<◌, subst, sym, ap, ◌∙◌, List}
 use Rattle.std.specs.Prelude.{Option}
 use Rattle.ap_defs.specs.Freshness.{add_cond, reduce as by_rules}
 use Rattle.ap_defs.specs.Permutations.{act_name, inverse, name_eq}
-use Rattle.ap_defs.specs.Terms.{term_of, unit, name, pair, app, abs, susp}
+use Rattle.ap_defs.specs.Terms.{term_of, pair, app, abs}
 use Rattle.ap_defs.specs.declared.terms.Cond.{Cond}
 use Rattle.ap_perm.specs.Lookups.{carried_out}
 use Rattle.ap_fresh.specs.declared.error.FreshError.TheVariants.{Refuted}

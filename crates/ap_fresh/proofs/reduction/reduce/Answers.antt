@@ -1,7 +1,6 @@
-use Rattle.std.proofs.Common.{rules, ◌≡◌, Some, IsErrOf, sym, ap, ◌∙◌}
+use Rattle.std.proofs.Common.{rules, IsErrOf, sym, ap, ◌∙◌}
 use Rattle.ap_defs.specs.Freshness.{reduce as by_rules}
 use Rattle.ap_defs.specs.Terms.{term_of}
-use Rattle.ap_theory.specs.StatementsOnConditions.{collected}
 use Rattle.ap_perm.specs.Lookups.{carried_out}
 use Rattle.ap_fresh.proofs.SetLemmas.{added_none, collected_fresh, collected_least, refuted_free}
 use Rattle.ap_fresh.specs.declared.error.FreshError.TheVariants.{Refuted}

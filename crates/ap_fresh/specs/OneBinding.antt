@@ -1,4 +1,4 @@
--- A list of one binding has a rank, where the term doesn't have the variable.
+-- The lookup of the tests: a list of one binding has a rank, where its term does not have the variable.
 use Rattle.std.proofs.Common.{◌≡◌, Bool, false, ◌||◌, refl, List, [], ◌∷◌, sym, ap, ◌∙◌}
 use Rattle.ap_defs.specs.Freshness.{var_eq}
 use Rattle.ap_defs.specs.Substitution.{bound_term, occurs, ◌:=◌}
