@@ -1,5 +1,5 @@
 -- What a permutation does depends on its canonical list alone.
-use Rattle.std.proofs.Common.{◌≡◌, List, [], ◌∷◌, ◌++◌, refl, sym, ap, ap₂, ◌∙◌, reverse}
+use Rattle.std.proofs.Common.{◌≡◌, List, [], ◌∷◌, ◌++◌, refl, sym, ap, ◌∙◌, reverse}
 use Rattle.std.proofs.lemmas.List.{reverse-append}
 use Rattle.ap_defs.specs.Canonical.{canonical}
 use Rattle.ap_defs.specs.Permutations.{IsSamePerm, act_name, disagreement, inverse}

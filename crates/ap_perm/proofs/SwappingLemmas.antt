@@ -1,9 +1,9 @@
 -- Steps of the loops over lists of swappings and over sets of names.
-use Rattle.std.proofs.Common.{◌≡◌, ◌<◌, ◌+◌, ◌-◌, ℕ, zero, suc, true, false, List, [], ◌∷◌, ◌++◌, length, get_or, take, drop, refl, sym, ap, ◌∙◌, arith, append_assoc, add-one}
+use Rattle.std.proofs.Common.{◌≡◌, ◌<◌, ◌+◌, ◌-◌, ℕ, zero, suc, true, false, List, [], ◌∷◌, ◌++◌, length, get_or, take, drop, refl, sym, ap, ◌∙◌, arith, add-one}
 use Rattle.std.proofs.Math.Seq.{drop-cons, take-suc}
 use Rattle.std.proofs.lemmas.List.{take-append-drop}
 use Rattle.std.specs.List.{insert}
-use Rattle.std.specs.Prelude.{Option, Some, None}
+use Rattle.std.specs.Prelude.{Some, None}
 use Rattle.ap_defs.specs.Canonical.{canonical_within, moved_names, swap_first}
 use Rattle.ap_defs.specs.Permutations.{act_name, add_name, differing, disagreement, inverse, name_before, name_eq, names_of, swap_name}
 use Rattle.ap_defs.specs.declared.terms.Name.{Name}
@@ -58,6 +58,7 @@ canonical_go n i p s l h =
   where
     some_same : {r t : Swap} → Some r ≡ Some t → r ≡ t
     some_same k = cc
+
     go : (m : ℕ) (as' : List Name) → least_exchanged p as' ≡ Some s → swap_first (canonical_within m) p as' ≡ s ∷ canonical_within m (s ∷ p)
     go m [] k = cc
     go m (a ∷ as') k = ap (λ r. r ∷ canonical_within m (r ∷ p)) (some_same k)

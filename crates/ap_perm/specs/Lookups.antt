@@ -1,9 +1,10 @@
 -- What variables are bound to, and terms with every binding carried out.
-use Rattle.std.specs.Prelude.{◌≡◌, ◌<◌, ℕ, zero, suc, max, true, List, [], Option, Some, None}
-use Rattle.ap_defs.specs.Substitution.{occurs}
+use Rattle.std.specs.Prelude.{◌≡◌, ◌<◌, ℕ, zero, suc, max, true, List, [], Option, Some, None, if◌then◌else◌}
+use Rattle.ap_defs.specs.Substitution.{Binding, occurs}
 use Rattle.ap_defs.specs.Terms.{NominalTerm, unit, name, pair, app, abs, susp}
 use Rattle.ap_defs.specs.declared.terms.Var.{Var}
 use Rattle.ap_theory.specs.Substitutions.{Substitution, applied}
+use Rattle.ap_theory.specs.Variables.{is_bound}
 
 -- the term to which a variable is bound, if it is bound
 abbrev pub Bound : Type 0
@@ -34,3 +35,7 @@ depth_of rank (susp p x) = suc (rank x)
 -- the term with every binding carried out
 unfoldable pub carried_out : Bound → (Var → ℕ) → NominalTerm → NominalTerm
 carried_out bound rank t = applied (stands_for bound (depth_of rank t)) t
+
+-- a rank for a list of bindings whose terms have no bound variable
+abbrev pub rank_in : List Binding → Var → ℕ
+rank_in bs x = if is_bound x bs then 1 else 0

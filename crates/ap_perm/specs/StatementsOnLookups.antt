@@ -1,13 +1,13 @@
 -- What is proved of terms with every binding carried out.
-use Rattle.std.specs.Prelude.{◌≡◌, ◌≤◌, ℕ, true, List, Option, Some, None}
+use Rattle.std.specs.Prelude.{◌≡◌, ◌≤◌, ℕ, true, List, Some, None}
 use Rattle.ap_defs.specs.Substitution.{Binding, bound_term, occurs, under}
-use Rattle.ap_defs.specs.Terms.{NominalTerm, abs, act_term, app, name, pair, susp, unit}
+use Rattle.ap_defs.specs.Terms.{NominalTerm, abs, act_term, app, pair, susp}
 use Rattle.ap_defs.specs.declared.terms.Name.{Name}
 use Rattle.ap_defs.specs.declared.terms.Swap.{Swap}
 use Rattle.ap_defs.specs.declared.terms.Var.{Var}
 use Rattle.ap_theory.specs.Substitutions.{applied}
 use Rattle.ap_theory.specs.Variables.{IsIdempotent}
-use Rattle.ap_perm.specs.Lookups.{Bound, IsRanked, carried_out, depth_of, stands_for}
+use Rattle.ap_perm.specs.Lookups.{Bound, IsRanked, carried_out, depth_of, rank_in, stands_for}
 
 -- it doesn't matter how deep bindings are followed, once that is deep enough
 abbrev pub DepthDoesNotMatter : Bound → (Var → ℕ) → Type 0
@@ -22,6 +22,10 @@ abbrev pub BoundIsFollowed : Bound → (Var → ℕ) → Type 0
 BoundIsFollowed bound rank = (p : List Swap) (x : Var) (t : NominalTerm) → bound x ≡ Some t
     → carried_out bound rank (susp p x) ≡ act_term p (carried_out bound rank t)
 
+-- it doesn't matter whether a permutation acts before or after
+abbrev pub CarryingOutCommutes : Bound → (Var → ℕ) → Type 0
+CarryingOutCommutes bound rank = (p : List Swap) (t : NominalTerm) → carried_out bound rank (act_term p t) ≡ act_term p (carried_out bound rank t)
+
 -- the parts of a term are carried out each by itself
 abbrev pub PairsAreCarriedOut : Bound → (Var → ℕ) → Type 0
 PairsAreCarriedOut bound rank = (t u : NominalTerm) → carried_out bound rank (pair t u) ≡ pair (carried_out bound rank t) (carried_out bound rank u)
@@ -35,3 +39,12 @@ AbstractionsAreCarriedOut bound rank = (a : Name) (t : NominalTerm) → carried_
 -- no bound variable is left
 abbrev pub NoneBoundIsLeft : Bound → (Var → ℕ) → Type 0
 NoneBoundIsLeft bound rank = (t : NominalTerm) (x : Var) → occurs x (carried_out bound rank t) ≡ true → bound x ≡ None
+
+-- a list of bindings that is idempotent has a rank
+abbrev pub IdempotentListsAreRanked : Type 0
+IdempotentListsAreRanked = (bs : List Binding) → IsIdempotent bs → IsRanked (bound_term bs) (rank_in bs)
+
+-- and there a term with every binding carried out is the term under the list
+abbrev pub CarriedOutIsUnder : Type 0
+CarriedOutIsUnder = (bs : List Binding) (rank : Var → ℕ) → IsIdempotent bs → IsRanked (bound_term bs) rank
+    → (t : NominalTerm) → carried_out (bound_term bs) rank t ≡ under bs t

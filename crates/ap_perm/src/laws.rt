@@ -1,6 +1,6 @@
 //! Laws of lookups, for whoever cites a contract.
 
-ghost use Rattle.ap_perm.specs.StatementsOnLookups.{AbstractionsAreCarriedOut, ApplicationsAreCarriedOut, BoundIsFollowed, DepthDoesNotMatter, NoneBoundIsLeft, PairsAreCarriedOut, UnboundStays};
+ghost use Rattle.ap_perm.specs.StatementsOnLookups.{AbstractionsAreCarriedOut, ApplicationsAreCarriedOut, BoundIsFollowed, CarriedOutIsUnder, CarryingOutCommutes, DepthDoesNotMatter, IdempotentListsAreRanked, NoneBoundIsLeft, PairsAreCarriedOut, UnboundStays};
 
 use crate::look::Look;
 
@@ -10,6 +10,7 @@ pub fn bindings_are_carried_out<L: Look>(look: &L)
     ensures depth { DepthDoesNotMatter (L.bound look.now) (L.rank look.now) }
     ensures unbound { UnboundStays (L.bound look.now) (L.rank look.now) }
     ensures bound { BoundIsFollowed (L.bound look.now) (L.rank look.now) }
+    ensures moved { CarryingOutCommutes (L.bound look.now) (L.rank look.now) }
     ensures pairs { PairsAreCarriedOut (L.bound look.now) (L.rank look.now) }
     ensures applications { ApplicationsAreCarriedOut (L.bound look.now) (L.rank look.now) }
     ensures abstractions { AbstractionsAreCarriedOut (L.bound look.now) (L.rank look.now) }
@@ -17,3 +18,10 @@ pub fn bindings_are_carried_out<L: Look>(look: &L)
 {
     let _look = look;
 }
+
+/// A list of bindings whose terms have no bound variable has a rank, and there a term with every
+/// binding carried out is the term under the list.
+pub fn idempotent_lists()
+    ensures ranked { IdempotentListsAreRanked }
+    ensures under { CarriedOutIsUnder }
+{}

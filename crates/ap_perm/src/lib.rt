@@ -5,3 +5,5 @@ pub mod laws;
 pub mod look;
 pub mod perm;
 pub mod swappings;
+#[cfg(test)]
+mod tests;

@@ -15,6 +15,8 @@ use std::marker::Model;
 /// Contracts see it as its canonical list of swappings, so that equal permutations are one value.
 /// The list is empty for the identity. Else it begins with the swapping of the least name that is
 /// moved, by number and then by sort, with its image, and goes on with the list of what is left.
+///
+/// The only error of its calls is want of memory. See Urban, Pitts and Gabbay, "Nominal unification".
 #[derive(Drop, Debug)]
 pub struct Perm {
     swaps: Vec<Swap>,

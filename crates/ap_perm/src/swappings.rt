@@ -1,4 +1,6 @@
 //! Lists of swappings, of which the first is outermost: the last one acts first.
+//!
+//! The only error here is want of memory.
 
 ghost use Rattle.std.specs.Prelude.{◌≡◌, IfOk, OnOk};
 ghost use Rattle.ap_defs.specs.Canonical.{canonical, num_before, least as least_name, moved_names};

@@ -1,4 +1,4 @@
-use Rattle.ap_perm.proofs.LookupLemmas.{carried_out_abs, carried_out_app, carried_out_bound, carried_out_deep, carried_out_pair, carried_out_unbound}
+use Rattle.ap_perm.proofs.LookupLemmas.{carried_out_abs, carried_out_act, carried_out_app, carried_out_bound, carried_out_deep, carried_out_each, carried_out_pair, carried_out_unbound}
 use Rattle.ap_perm.proofs.laws.bindings_are_carried_out.Goals as goal
 
 pub returns : goal.returns
@@ -10,8 +10,9 @@ returns g c =
       depth = carried_out_deep bound rank ranked;
       unbound = carried_out_unbound bound rank ranked;
       bound = carried_out_bound bound rank ranked;
+      moved = carried_out_act bound rank;
       pairs = carried_out_pair bound rank ranked;
       applications = carried_out_app bound rank ranked;
       abstractions = carried_out_abs bound rank ranked;
-      left = ?
+      left = carried_out_each bound rank ranked;
     }

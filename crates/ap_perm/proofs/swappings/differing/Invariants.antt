@@ -1,4 +1,4 @@
-use Rattle.std.proofs.Common.{◌≡◌, ◌++◌, drop}
+use Rattle.std.proofs.Common.{◌≡◌, drop}
 use Rattle.ap_defs.specs.Permutations.{differing, names_of}
 use Rattle.ap_perm.proofs.swappings.differing.Given as goal
 

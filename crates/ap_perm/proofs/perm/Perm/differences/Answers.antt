@@ -7,6 +7,6 @@ use Rattle.ap_perm.proofs.perm.Perm.differences.Goals as goal
 pub returns : goal.returns
 returns c =
     let e : disagreement c.deref.result.now c.deref-2.result.now ≡ disagreement c.args.self.now c.args.other.now =
-      ap₂ disagreement c.deref.ensures.value c.deref-2.ensures.value
-      ∙ disagreement_viewed c.self.inside.swaps.items c.other.inside.swaps.items c.args.self.now c.args.other.now c.self.view_is c.other.view_is in
+    ap₂ disagreement c.deref.ensures.value c.deref-2.ensures.value
+    ∙ disagreement_viewed c.self.inside.swaps.items c.other.inside.swaps.items c.args.self.now c.args.other.now c.self.view_is c.other.view_is in
     subst (λ (as' : List Name). IfOk c.differing.result (λ names. names.items ≡ as')) e c.differing.ensures

@@ -1,0 +1,16 @@
+-- Conditions that are added to a set.
+use Rattle.std.specs.Prelude.{◌≡◌, List, Option, Some, None}
+use Rattle.std.specs.List.{list_all}
+use Rattle.ap_defs.specs.Freshness.{Conds, add_conds, fresh_under, has_cond}
+use Rattle.ap_defs.specs.Terms.{NominalTerm}
+use Rattle.ap_defs.specs.declared.terms.Cond.{Cond}
+use Rattle.ap_defs.specs.declared.terms.Name.{Name}
+
+-- the set with the conditions of a problem, unless this is refuted
+abbrev pub added : Option (List Cond) → Conds → Option Conds
+added None ds = None
+added (Some cs) ds = Some (add_conds cs ds)
+
+-- the name is fresh for the term under just those sets that have each of the conditions
+abbrev pub IsLeast : Name → NominalTerm → Conds → Type 0
+IsLeast a t cs = (ds : Conds) → fresh_under ds a t ≡ list_all (λ c. has_cond c ds) cs
