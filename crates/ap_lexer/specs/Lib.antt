@@ -1,0 +1,4 @@
+pub mod Spelling
+pub mod Pieces
+pub mod Laws
+pub mod Tokens

@@ -1,0 +1,18 @@
+//! The lexer: a text of bytes as tokens, or its first fault.
+//!
+//! `specs/Spelling.antt` says what a token is, `specs/Pieces.antt` which one begins a text,
+//! `specs/Tokens.antt` what a text reads as, and `specs/Laws.antt` that the longest token is taken.
+//! What prints text for this lexer finds in `proofs/Seams.antt` where tokens end, and in
+//! `proofs/Scans.antt` how one follows another.
+#![tactic(auto)]
+
+mod pieces;
+mod scan;
+mod token;
+
+pub use pieces::takes_longest;
+pub use scan::{TEXT_LIMIT, lex};
+pub use token::{CHARACTER, LexError, LexFault, NOT_UTF8, Token, TokenKind};
+
+#[cfg(test)]
+mod tests;

@@ -1,0 +1,78 @@
+// Tokens, which borrow the text, and faults.
+ghost use Rattle.std.specs.Prelude.{◌≡◌};
+
+use std::alloc::{AllocError, AllocFailed};
+
+/// The kinds of tokens.
+#[derive(Clone, Copy, Debug, PartialEq, Eq)]
+pub enum TokenKind {
+    /// `A` to `Z` or `_`, and then characters that have XID_Continue.
+    Var,
+    /// Another character that has XID_Start, and then characters that have XID_Continue.
+    Ident,
+    /// What is spelled like an identifier and is `name_type`, `type`, `pred`, `new`, `exists` or
+    /// `swap`.
+    Reserved,
+    /// One of `.` `,` `;` `:` `:-` `?-` `->` `(` `)` `[` `]` `|` `\` `#` `=`.
+    Sign,
+}
+
+/// A token: its kind, its text, and where it stands.
+#[derive(Clone, Copy, Debug, PartialEq, Eq)]
+pub struct Token<'a> {
+    pub kind: TokenKind,
+    pub text: &'a str,
+    /// The bytes before the token.
+    pub start: u64,
+    /// The bytes up to the token's end.
+    pub end: u64,
+    /// 1 and the number of LFs before the token.
+    pub line: u64,
+}
+
+/// The kind of a fault at which no UTF-8 character begins.
+pub const NOT_UTF8: u32 = 1;
+
+/// The kind of a fault at which a character begins, but neither a token nor white space nor a
+/// comment.
+pub const CHARACTER: u32 = 2;
+
+/// The first place of a text at which nothing begins.
+#[derive(Clone, Copy, Debug, PartialEq, Eq)]
+pub struct LexFault {
+    /// 1 and the number of `.` tokens before the place.
+    pub item: u32,
+    /// 1 and the number of LFs before the place.
+    pub line: u64,
+    /// `NOT_UTF8` or `CHARACTER`.
+    pub kind: u32,
+}
+
+/// Why a text gives no tokens.
+#[derive(Clone, Copy, Debug, PartialEq, Eq)]
+pub enum LexError {
+    /// The text is faulty.
+    Fault(LexFault),
+    /// The allocator refused a growth.
+    Memory,
+}
+
+impl From<AllocError> for LexError {
+    ghost use Rattle.ap_lexer.specs.declared.token.LexError.TheVariants.{Memory};
+
+    ghost from_gives = { λ _ e. e ≡ Memory };
+
+    fn from(_: AllocError) -> Self {
+        LexError::Memory
+    }
+}
+
+impl<T: Drop> From<AllocFailed<T>> for LexError {
+    ghost use Rattle.ap_lexer.specs.declared.token.LexError.TheVariants.{Memory};
+
+    ghost from_gives = { λ _ e. e ≡ Memory };
+
+    fn from(_: AllocFailed<T>) -> Self {
+        LexError::Memory
+    }
+}
