@@ -7,15 +7,15 @@ use Rattle.ap_trees.specs.Terms.{Name, Swapped, Term, OfWord, OfVar, Unit, Varia
 use Rattle.ap_trees.specs.TermGrammar.{IsTerm, IsEnd, AreTerms, a_variable, a_word, under, applied, the_unit, grouped, the_nil, listed, swapping, IsId, an_ident, a_var, no_bar, behind_bar, only_one, and_more}
 use Rattle.ap_trees.proofs.TypeLaws.{bind_if, close_is, close_list_is, read_sole, read_several}
 
-if_also : {A : Type 0} (r : Option A) (P Q : A → Type 0) → IfSome r P → ((x : A) → P x → Q x) → IfSome r Q
+pub if_also : {A : Type 0} (r : Option A) (P Q : A → Type 0) → IfSome r P → ((x : A) → P x → Q x) → IfSome r Q
 if_also None P Q p also = tt
 if_also (Some x) P Q p also = also x p
 
-open_is : (ts : List Sym) → IfSome (after_open ts) (λ us. ts ≡ Open ∷ us)
+pub open_is : (ts : List Sym) → IfSome (after_open ts) (λ us. ts ≡ Open ∷ us)
 open_is (Open ∷ us) = refl
 open_is ts = tt
 
-comma_is : (ts : List Sym) → IfSome (after_comma ts) (λ us. ts ≡ Comma ∷ us)
+pub comma_is : (ts : List Sym) → IfSome (after_comma ts) (λ us. ts ≡ Comma ∷ us)
 comma_is (Comma ∷ us) = refl
 comma_is ts = tt
 
@@ -27,7 +27,7 @@ further_sound : (others : Reader (List Term)) → ((us : List Sym) → IfSome (o
 further_sound others sound ts x (Comma ∷ us) h = bind_if (others us) _ _ _ (sound us) (λ y g. and_more h g)
 further_sound others sound ts x after h = only_one h
 
-terms_sound : (read : Reader Term) → Sound read → (k : ℕ) (ts : List Sym) → IfSome (separated after_comma read k ts) (λ x. AreTerms ts x.0 x.1)
+pub terms_sound : (read : Reader Term) → Sound read → (k : ℕ) (ts : List Sym) → IfSome (separated after_comma read k ts) (λ x. AreTerms ts x.0 x.1)
 unfolding separated
 terms_sound read sound zero ts = tt
 terms_sound read sound (suc k) ts = bind_if (read ts) _ _ _ (sound ts) (λ first h. further_sound (separated after_comma read k) (terms_sound read sound k) ts first.0 first.1 h)
@@ -107,7 +107,7 @@ id_shrinks an_ident = omega arith
 id_shrinks a_var = omega arith
 
 mutual
-  term_shrinks : {ts rest : List Sym} {t : Term} → IsTerm ts t rest → length rest < length ts
+  pub term_shrinks : {ts rest : List Sym} {t : Term} → IsTerm ts t rest → length rest < length ts
   term_shrinks a_variable = omega arith
   term_shrinks a_word = omega arith
   term_shrinks (under i h) = omega (arith, id_shrinks i, term_shrinks h)
@@ -122,7 +122,7 @@ mutual
   end_shrinks no_bar = omega arith
   end_shrinks (behind_bar h) = omega (arith, term_shrinks h)
 
-  terms_shrink : {ts rest : List Sym} {parts : List Term} → AreTerms ts parts rest → length rest < length ts
+  pub terms_shrink : {ts rest : List Sym} {parts : List Term} → AreTerms ts parts rest → length rest < length ts
   terms_shrink (only_one h) = term_shrinks h
   terms_shrink (and_more h g) = omega (arith, term_shrinks h, terms_shrink g)
 
@@ -214,13 +214,13 @@ read_swapped : (n : ℕ) (ts us vs rest : List Sym) (left right : Name) (t : Ter
 unfolding read_term swapped
 read_swapped n ts us vs rest left right t first second got = rw first (rw second (rw got refl))
 
-closes : {rest : List Sym} → Ends (Close ∷ rest)
+pub closes : {rest : List Sym} → Ends (Close ∷ rest)
 closes = record { lambda = refl; bracket = refl }
 
-closes_list : {rest : List Sym} → Ends (CloseList ∷ rest)
+pub closes_list : {rest : List Sym} → Ends (CloseList ∷ rest)
 closes_list = record { lambda = refl; bracket = refl }
 
-goes_on : {rest : List Sym} → Ends (Comma ∷ rest)
+pub goes_on : {rest : List Sym} → Ends (Comma ∷ rest)
 goes_on = record { lambda = refl; bracket = refl }
 
 -- What is in the grammar is read, where neither `\\` nor `(` follows.
@@ -245,7 +245,7 @@ mutual
   end_only no_bar n fits = read_no_bar n _
   end_only (behind_bar h) n fits = read_behind_bar n _ _ _ (term_only h n (omega arith) closes_list)
 
-  terms_only : {ts rest : List Sym} {parts : List Term} → AreTerms ts parts rest → (n k : ℕ) → length ts ≤ n → length ts ≤ k → Ends rest → after_comma rest ≡ None
+  pub terms_only : {ts rest : List Sym} {parts : List Term} → AreTerms ts parts rest → (n k : ℕ) → length ts ≤ n → length ts ≤ k → Ends rest → after_comma rest ≡ None
       → separated after_comma (read_term n) k ts ≡ Some (parts, rest)
   terms_only h n zero fits few ends stops = absurd (omega (arith, terms_shrink h))
   terms_only (only_one h) n (suc k) fits few ends stops = read_sole after_comma (read_term n) k _ _ _ (term_only h n fits ends) stops
@@ -260,7 +260,7 @@ pub all_sound : (ts : List Sym) → IfSome (all_term ts) (λ t. IsTerm ts t [])
 unfolding all_term
 all_sound ts = bind_if (read_term (length ts) ts) _ _ _ (term_sound (length ts) ts) (λ x h. at_end_sound x.1 h)
 
-at_last : Ends []
+pub at_last : Ends []
 at_last = record { lambda = refl; bracket = refl }
 
 pub all_only : (ts : List Sym) (t : Term) → IsTerm ts t [] → all_term ts ≡ Some t

@@ -30,7 +30,7 @@ further_sound : (others : Reader (List Ty)) → ((us : List Sym) → IfSome (oth
 further_sound others sound ts x (Comma ∷ us) h = bind_if (others us) _ _ _ (sound us) (λ y g. several h g)
 further_sound others sound ts x after h = sole h
 
-types_sound : (read : Reader Ty) → Sound read → (k : ℕ) (ts : List Sym) → IfSome (separated after_comma read k ts) (λ x. AreTypes ts x.0 x.1)
+pub types_sound : (read : Reader Ty) → Sound read → (k : ℕ) (ts : List Sym) → IfSome (separated after_comma read k ts) (λ x. AreTypes ts x.0 x.1)
 unfolding separated
 types_sound read sound zero ts = tt
 types_sound read sound (suc k) ts = bind_if (read ts) _ _ _ (sound ts) (λ first h. further_sound (separated after_comma read k) (types_sound read sound k) ts first.0 first.1 h)
@@ -57,14 +57,14 @@ type_sound (suc n) (OpenList ∷ ts) =
 type_sound (suc n) ts = tt
 
 mutual
-  type_shrinks : {ts rest : List Sym} {t : Ty} → IsType ts t rest → length rest < length ts
+  pub type_shrinks : {ts rest : List Sym} {t : Ty} → IsType ts t rest → length rest < length ts
   type_shrinks word = omega arith
   type_shrinks (abs h) = omega (arith, type_shrinks h)
   type_shrinks unit = omega arith
   type_shrinks (group parts h) = omega (arith, types_shrink h)
   type_shrinks (array h) = omega (arith, type_shrinks h)
 
-  types_shrink : {ts rest : List Sym} {parts : List Ty} → AreTypes ts parts rest → length rest < length ts
+  pub types_shrink : {ts rest : List Sym} {parts : List Ty} → AreTypes ts parts rest → length rest < length ts
   types_shrink (sole h) = type_shrinks h
   types_shrink (several h g) = omega (arith, type_shrinks h, types_shrink g)
 
@@ -76,7 +76,7 @@ type_not_close unit = refl
 type_not_close (group parts h) = refl
 type_not_close (array h) = refl
 
-types_not_close : {ts rest : List Sym} {parts : List Ty} → AreTypes ts parts rest → after_close ts ≡ None
+pub types_not_close : {ts rest : List Sym} {parts : List Ty} → AreTypes ts parts rest → after_close ts ≡ None
 types_not_close (sole h) = type_not_close h
 types_not_close (several h g) = type_not_close h
 
@@ -120,7 +120,7 @@ mutual
   type_only (group {ts = ts} parts h) (suc n) fits ends = read_group n _ _ parts (types_not_close h) (types_only h n (length ts) (omega arith) (omega arith) refl refl)
   type_only (array h) (suc n) fits ends = read_array n _ _ _ (type_only h n (omega arith) refl)
 
-  types_only : {ts rest : List Sym} {parts : List Ty} → AreTypes ts parts rest → (n k : ℕ) → length ts ≤ n → length ts ≤ k → after_lambda rest ≡ None → after_comma rest ≡ None
+  pub types_only : {ts rest : List Sym} {parts : List Ty} → AreTypes ts parts rest → (n k : ℕ) → length ts ≤ n → length ts ≤ k → after_lambda rest ≡ None → after_comma rest ≡ None
       → separated after_comma (read_type n) k ts ≡ Some (parts, rest)
   types_only h n zero fits few ends stops = absurd (omega (arith, types_shrink h))
   types_only (sole h) n (suc k) fits few ends stops = read_sole after_comma (read_type n) k _ _ _ (type_only h n fits ends) stops
