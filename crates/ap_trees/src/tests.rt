@@ -1,6 +1,7 @@
 use crate::{ReadError, symbols_of, whole_term, whole_type};
 use ap_lexer::{TEXT_LIMIT, lex};
 use std::alloc::{AllocError, Global};
+use std::fmt::Debug;
 use std::test::Fail;
 
 /// What a tree shows, or `none` where there is none.
