@@ -1,5 +1,5 @@
 -- Reading a term.
-use Rattle.std.specs.Prelude.{ℕ, zero, suc, List, [], ◌∷◌, length, Option, None, Some}
+use Rattle.std.specs.Prelude.{ℕ, zero, suc, List, ◌∷◌, length, Option, None, Some}
 use Rattle.ap_trees.specs.Symbols.{Sym, Var, Ident, Swap, Open, OpenList}
 use Rattle.ap_trees.specs.Terms.{Name, Term, OfWord, OfVar, Unit, Variable, Word, Apply, Nil, Abs, Swapped, arguments, tuple, cells}
 use Rattle.ap_trees.specs.Readers.{Reader, ◌>>=◌, separated, after_lambda, after_comma, after_open, after_close, after_close_list, after_bar, at_end}

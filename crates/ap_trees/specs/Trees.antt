@@ -1,5 +1,5 @@
 -- The views of trees, without where their parts lie in memory.
-use Rattle.std.specs.Prelude.{ℕ, List, map, Option}
+use Rattle.std.specs.Prelude.{List, map}
 use Rattle.std.specs.Option.{option_map}
 use Rattle.ap_trees.specs.declared.trees.Binder.{Binder}
 use Rattle.ap_trees.specs.declared.trees.Binder.TheVariants as binders

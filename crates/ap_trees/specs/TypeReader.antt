@@ -1,5 +1,5 @@
 -- Reading a type.
-use Rattle.std.specs.Prelude.{ℕ, zero, suc, List, [], ◌∷◌, length, Option, None, Some}
+use Rattle.std.specs.Prelude.{ℕ, zero, suc, List, ◌∷◌, length, Option, None, Some}
 use Rattle.ap_trees.specs.Symbols.{Sym, Ident, Open, OpenList}
 use Rattle.ap_trees.specs.Types.{Ty, Unit, Word, Array, Abs, tuple}
 use Rattle.ap_trees.specs.Readers.{Reader, ◌>>=◌, separated, after_comma, after_lambda, after_close, after_close_list, at_end}

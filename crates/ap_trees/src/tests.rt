@@ -39,12 +39,21 @@ fn terms_are_read(rt: HostRuntime) -> Result<(), Fail> {
         ("()", "Unit"),
         ("X", "Var(\"X\")"),
         ("((x))", "Word(\"x\")"),
-        ("f(x,Y)", "Apply(\"f\", More(Word(\"x\"), Last(Var(\"Y\"))))"),
-        ("(x,y,z)", "Pair(Word(\"x\"), Pair(Word(\"y\"), Word(\"z\")))"),
+        (
+            "f(x,Y)",
+            "Apply(\"f\", More(Word(\"x\"), Last(Var(\"Y\"))))",
+        ),
+        (
+            "(x,y,z)",
+            "Pair(Word(\"x\"), Pair(Word(\"y\"), Word(\"z\")))",
+        ),
         ("[]", "Nil"),
         ("[x|T]", "Cell(Word(\"x\"), Var(\"T\"))"),
         ("[x,y]", "Cell(Word(\"x\"), Cell(Word(\"y\"), Nil))"),
-        ("x\\Y\\f(x)", "Abs(Word(\"x\"), Abs(Var(\"Y\"), Apply(\"f\", Last(Word(\"x\")))))"),
+        (
+            "x\\Y\\f(x)",
+            "Abs(Word(\"x\"), Abs(Var(\"Y\"), Apply(\"f\", Last(Word(\"x\")))))",
+        ),
         ("swap(a,B,())", "Swapped(Word(\"a\"), Var(\"B\"), Unit)"),
         ("swap(a,b)", "none"),
         ("f()", "none"),
@@ -61,7 +70,10 @@ fn types_are_read(rt: HostRuntime) -> Result<(), Fail> {
     for (text, want) in [
         ("()", "Unit"),
         ("((a))", "Word(\"a\")"),
-        ("(a,b,c)", "Pair(Word(\"a\"), Pair(Word(\"b\"), Word(\"c\")))"),
+        (
+            "(a,b,c)",
+            "Pair(Word(\"a\"), Pair(Word(\"b\"), Word(\"c\")))",
+        ),
         ("a\\[b]", "Abs(\"a\", List(Word(\"b\")))"),
         ("X", "none"),
         ("[]", "none"),
