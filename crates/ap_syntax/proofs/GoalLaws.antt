@@ -1,17 +1,17 @@
 -- What is read is in the grammar of goals, and what is in it is read.
-use Rattle.std.proofs.Common.{◌≡◌, ◌≢◌, ℕ, zero, suc, ◌<◌, ◌≤◌, Bool, true, false, List, [], ◌∷◌, length, Option, None, Some, IfSome, refl, sym, ap, ◌∙◌, arith, subst, if◌then◌else◌}
+use Rattle.std.proofs.Common.{◌≡◌, ◌≢◌, ℕ, zero, suc, ◌<◌, Bool, true, false, List, [], ◌∷◌, length, Option, None, Some, IfSome, refl, sym, ap, ◌∙◌, arith, subst, if◌then◌else◌}
 use Rattle.std.proofs.lemmas.Slice.Eq.{bytes_eq-Decides}
 use Rattle.std.proofs.lemmas.Bool.Decides.{not_from_Decides}
 use Rattle.std.specs.Str.{bytes_eq}
-use Rattle.ap_trees.specs.Readers.{Reader, ◌>>=◌, with_front, further, separated, after_comma, after_lambda, after_close, at_end, after_open}
+use Rattle.ap_trees.specs.Readers.{Reader, ◌>>=◌, with_front, further, separated, after_comma, after_close, at_end, after_open}
 use Rattle.ap_trees.specs.Symbols.{Sym, Var, Ident, New, Exists, Open, Close, Comma, Semicolon, Equal, Fresh}
 use Rattle.ap_trees.specs.Terms.{Term}
 use Rattle.ap_trees.specs.TermReader.{read_term}
-use Rattle.ap_trees.specs.TermGrammar.{IsTerm, AreTerms, a_word, applied}
-use Rattle.ap_trees.specs.Goals.{Goal, Atom, Equation, Freshness, Both, Either, Some_variable, New_name, joined}
-use Rattle.ap_trees.proofs.TypeLaws.{bind_if, close_is, read_sole, read_several}
-use Rattle.ap_trees.proofs.TermLaws.{Ends, term_sound, terms_sound, term_only, terms_only, term_shrinks, terms_shrink, open_is, if_also, closes}
-use Rattle.ap_syntax.specs.Marks.{after_semicolon, after_equal, after_fresh, after_new, after_exists, read_ident, read_bound, read_var, unless_blank, blank}
+use Rattle.ap_trees.specs.TermGrammar.{IsTerm, AreTerms}
+use Rattle.ap_trees.specs.Goals.{Goal, Equation, Freshness, Both, Either, Some_variable, New_name}
+use Rattle.ap_trees.proofs.TypeLaws.{bind_if, close_is}
+use Rattle.ap_trees.proofs.TermLaws.{term_sound, terms_sound, term_shrinks, terms_shrink, open_is, if_also}
+use Rattle.ap_syntax.specs.Marks.{after_semicolon, after_equal, after_fresh, read_ident, read_bound, unless_blank, blank}
 use Rattle.ap_syntax.specs.Matching.{begins_term, after_group, unless_term}
 use Rattle.ap_syntax.specs.GoalGrammar.{IsAtom, bare, with_arguments, IsGoal, disjunction, AreConjs, last_conj, next_conj, IsConj, conjunction, AreSimples, last_simple, next_simple, IsSimple, new_name, some_variable, in_parentheses, equation, freshness, an_atom}
 use Rattle.ap_syntax.specs.GoalReader.{terms_inside, atom_arguments, read_atom, right_side, atom_goal, relation_or_atom, read_flat, simple_by, goal_inside, new_goal, exists_goal, read_simple, joined_by, read_conj, read_disj, read_goal, all_goal, first_term}

@@ -1,17 +1,16 @@
 -- What is in the grammar of goals is read.
-use Rattle.std.proofs.Common.{◌≡◌, ◌≢◌, ℕ, zero, suc, ◌<◌, ◌≤◌, Bool, true, false, List, [], ◌∷◌, length, Option, None, Some, refl, sym, ap, ◌∙◌, arith, subst}
+use Rattle.std.proofs.Common.{◌≡◌, ◌≢◌, ℕ, zero, suc, ◌≤◌, false, List, [], ◌∷◌, length, None, Some, refl, ◌∙◌, arith}
 use Rattle.std.proofs.lemmas.Bool.{false_from_ne_true}
 use Rattle.std.proofs.lemmas.Slice.Eq.{bytes_eq-Decides}
 use Rattle.std.specs.Str.{bytes_eq}
-use Rattle.ap_trees.specs.Readers.{Reader, separated, after_comma, after_lambda, after_close, at_end, after_open}
+use Rattle.ap_trees.specs.Readers.{Reader, separated, after_comma, after_lambda, after_open}
 use Rattle.ap_trees.specs.Symbols.{Sym, Var, Ident, New, Exists, Open, Close, Comma, Semicolon, Equal, Fresh}
 use Rattle.ap_trees.specs.Terms.{Term, Word, Apply, arguments}
-use Rattle.ap_trees.specs.TermReader.{read_term}
 use Rattle.ap_trees.specs.TermGrammar.{IsTerm, AreTerms, under, an_ident, a_var, a_word, applied, a_variable, the_unit, grouped, the_nil, listed, swapping}
 use Rattle.ap_trees.specs.Goals.{Goal, Atom, Equation, Freshness, Both, Either, Some_variable, New_name, joined}
 use Rattle.ap_trees.proofs.TypeLaws.{read_sole, read_several}
-use Rattle.ap_trees.proofs.TermLaws.{Ends, term_only, terms_only, term_shrinks, terms_shrink, closes}
-use Rattle.ap_syntax.specs.Marks.{after_semicolon, after_equal, after_fresh, after_new, after_exists, read_ident, read_bound, blank}
+use Rattle.ap_trees.proofs.TermLaws.{Ends, term_only, terms_only, closes}
+use Rattle.ap_syntax.specs.Marks.{after_semicolon, after_equal, after_fresh, after_new, after_exists, read_bound, blank}
 use Rattle.ap_syntax.specs.Matching.{begins_term, after_group}
 use Rattle.ap_syntax.specs.GoalGrammar.{IsAtom, bare, with_arguments, IsGoal, disjunction, AreConjs, last_conj, next_conj, IsConj, conjunction, AreSimples, last_simple, next_simple, IsSimple, new_name, some_variable, in_parentheses, equation, freshness, an_atom}
 use Rattle.ap_syntax.specs.GoalReader.{terms_inside, atom_arguments, read_atom, right_side, atom_goal, read_flat, goal_inside, new_goal, exists_goal, read_simple, read_conj, read_disj, read_goal, all_goal, first_term}

@@ -1,16 +1,16 @@
 -- What is read is in the grammar of items, and what is in it is read.
-use Rattle.std.proofs.Common.{◌≡◌, ℕ, zero, suc, ◌<◌, ◌≤◌, List, [], ◌∷◌, length, Option, None, Some, IfSome, refl, sym, ap, ◌∙◌, arith, subst}
+use Rattle.std.proofs.Common.{◌≡◌, ℕ, ◌<◌, List, [], ◌∷◌, length, Option, None, Some, IfSome, refl, sym, ap, ◌∙◌, arith, subst}
 use Rattle.ap_trees.specs.Readers.{◌>>=◌, separated, after_comma, after_lambda, after_close, at_end, after_open}
 use Rattle.ap_trees.specs.Symbols.{Sym, Ident, NameType, DataType, Pred, Colon, If, Ask, Arrow, Open, Close}
 use Rattle.ap_trees.specs.Types.{Ty}
-use Rattle.ap_trees.specs.TypeGrammar.{IsType, AreTypes}
+use Rattle.ap_trees.specs.TypeGrammar.{AreTypes}
 use Rattle.ap_trees.specs.TypeReader.{read_type}
 use Rattle.ap_trees.specs.Terms.{Term}
 use Rattle.ap_trees.specs.Goals.{Goal}
 use Rattle.ap_trees.specs.Items.{Saying, ANameType, ADataType, AConstructor, APredicate, AClause, AQuery}
 use Rattle.ap_trees.proofs.TypeLaws.{bind_if, close_is, type_sound, types_sound, type_only, types_only, type_shrinks, types_shrink, types_not_close}
 use Rattle.ap_trees.proofs.TermLaws.{Ends, if_also}
-use Rattle.ap_syntax.specs.Marks.{after_arrow, after_colon, after_if, read_ident, read_declared, sole_ident}
+use Rattle.ap_syntax.specs.Marks.{after_arrow, after_colon, read_ident, read_declared, sole_ident}
 use Rattle.ap_syntax.specs.GoalGrammar.{IsAtom, bare, with_arguments, IsGoal}
 use Rattle.ap_syntax.specs.GoalReader.{read_atom, all_goal}
 use Rattle.ap_syntax.specs.ItemGrammar.{AreArguments, some_type, unit_type, type_list, IsItem, name_type, data_type, constant, constructor, proposition, predicate, fact, rule, query}

@@ -9,7 +9,7 @@ use Rattle.std.proofs.lemmas.Bool.Decides.{nat_tests}
 use Rattle.ap_syntax.specs.declared.nesting.Step.{Step}
 use Rattle.ap_trees.specs.declared.symbols.Symbol.{Symbol}
 use Rattle.ap_trees.specs.Symbols.{sym as sym_of, syms}
-use Rattle.ap_syntax.specs.Nesting.{to_bracket, is_bracket, closed, step_of, next_levels, most_levels, passes}
+use Rattle.ap_syntax.specs.Nesting.{to_bracket, is_bracket, step_of, next_levels, most_levels, passes}
 
 pub last_first : (levels : List Level) (place : ℕ) (x : Level) → 0 < place → place ≤ length levels → reverse (take place levels) ≡ get_or levels (place - 1) x ∷ reverse (take (place - 1) levels)
 last_first levels place x some inside =

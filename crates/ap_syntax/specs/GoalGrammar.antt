@@ -1,5 +1,5 @@
 -- The grammar of goals. `IsGoal ts g rest`: the symbols ts are a spelling of the goal g, and then rest.
-use Rattle.std.specs.Prelude.{ℕ, List, [], ◌∷◌, Bool, false, None, ◌≡◌, ◌≢◌}
+use Rattle.std.specs.Prelude.{ℕ, List, [], ◌∷◌, false, None, ◌≡◌, ◌≢◌}
 use Rattle.ap_trees.specs.Symbols.{Sym, Var, Ident, New, Exists, Open, Close, Comma, Semicolon, Equal, Fresh}
 use Rattle.ap_trees.specs.Terms.{Term}
 use Rattle.ap_trees.specs.TermGrammar.{IsTerm, AreTerms}

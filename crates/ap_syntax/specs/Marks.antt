@@ -1,5 +1,5 @@
 -- What comes first, and the symbols after it.
-use Rattle.std.specs.Prelude.{ℕ, List, [], ◌∷◌, Option, None, Some, codes, if◌then◌else◌}
+use Rattle.std.specs.Prelude.{ℕ, List, ◌∷◌, Option, None, Some, codes, if◌then◌else◌}
 use Rattle.std.specs.Str.{bytes_eq}
 use Rattle.ap_trees.specs.Symbols.{Sym, Ident, Var, Colon, Semicolon, Equal, Fresh, New, Exists, If, Ask, Arrow, Pred}
 use Rattle.ap_trees.specs.Readers.{Reader, ◌>>=◌, at_end}

@@ -1,5 +1,5 @@
 -- What tokens read as: their items, or the first faulty item.
-use Rattle.std.specs.Prelude.{ℕ, suc, ◌+◌, true, false, List, [], ◌∷◌, ◌++◌, take, drop, position, Option, None, Some, Result, Ok, Err, ◌≡◌, ⊤}
+use Rattle.std.specs.Prelude.{ℕ, ◌+◌, true, false, List, [], ◌∷◌, ◌++◌, take, drop, position, Option, None, Some, Result, Ok, Err, ◌≡◌, ⊤}
 use Rattle.ap_lexer.specs.Tokens.{Lexeme, is_dot}
 use Rattle.ap_trees.specs.Symbols.{Sym, syms_of}
 use Rattle.ap_trees.specs.Items.{Saying, ItemOf}

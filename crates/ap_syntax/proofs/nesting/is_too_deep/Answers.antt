@@ -1,6 +1,5 @@
-use Rattle.std.proofs.Common.{◌≡◌, ◌≤◌, ◌<◌, arith, sym, ◌∙◌, length, reverse}
+use Rattle.std.proofs.Common.{◌≤◌, ◌<◌, arith, sym, ◌∙◌, length, reverse}
 use Rattle.std.proofs.lemmas.List.{length-reverse}
-use Rattle.ap_syntax.specs.declared.nesting.Level.{Level}
 use Rattle.ap_syntax.proofs.Levels.{step_on, step_over, passes_end}
 use Rattle.ap_syntax.proofs.nesting.is_too_deep.Goals as goal
 

@@ -1,6 +1,5 @@
-use Rattle.std.proofs.Common.{◌≡◌, ◌+◌, ◌≤◌, drop, length}
+use Rattle.std.proofs.Common.{◌≡◌, ◌+◌, drop}
 use Rattle.std.specs.List.{position_or_len}
-use Rattle.std.proofs.Common.{not}
 use Rattle.ap_lexer.specs.Tokens.{lexemes, is_dot}
 use Rattle.ap_syntax.proofs.reading.dot_place.Given as goal
 
