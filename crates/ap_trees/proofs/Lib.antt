@@ -1,0 +1,4 @@
+pub mod Lists
+pub mod TypeLaws
+pub mod TermLists
+pub mod TermLaws

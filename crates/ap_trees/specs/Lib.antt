@@ -1,0 +1,12 @@
+pub mod Symbols
+pub mod Types
+pub mod Terms
+pub mod Goals
+pub mod Items
+pub mod Trees
+pub mod Outcomes
+pub mod TypeGrammar
+pub mod TermGrammar
+pub mod Readers
+pub mod TypeReader
+pub mod TermReader

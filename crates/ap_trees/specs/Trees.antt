@@ -1,0 +1,82 @@
+-- The views of trees, without where their parts lie in memory.
+use Rattle.std.specs.Prelude.{List, map}
+use Rattle.std.specs.Option.{option_map}
+use Rattle.ap_trees.specs.declared.trees.Binder.{Binder}
+use Rattle.ap_trees.specs.declared.trees.Binder.TheVariants as binders
+use Rattle.ap_trees.specs.declared.trees.Tree.{Tree}
+use Rattle.ap_trees.specs.declared.trees.Tree as code
+use Rattle.ap_trees.specs.declared.trees.Args as args
+use Rattle.ap_trees.specs.declared.trees.TypeTree.{TypeTree}
+use Rattle.ap_trees.specs.declared.trees.TypeTree as code_types
+use Rattle.ap_trees.specs.declared.trees.GoalTree.{GoalTree}
+use Rattle.ap_trees.specs.declared.trees.GoalTree as code_goals
+use Rattle.ap_trees.specs.declared.trees.Form.{Form}
+use Rattle.ap_trees.specs.declared.trees.Form.TheVariants as code_forms
+use Rattle.ap_trees.specs.declared.trees.Item.{Item}
+use Rattle.ap_trees.specs.Types as types
+use Rattle.ap_trees.specs.Types.{Ty}
+use Rattle.ap_trees.specs.Terms as terms
+use Rattle.ap_trees.specs.Terms.{Name, Term, Terms}
+use Rattle.ap_trees.specs.Goals as goals
+use Rattle.ap_trees.specs.Goals.{Goal}
+use Rattle.ap_trees.specs.Items as items
+use Rattle.ap_trees.specs.Items.{Saying, ItemOf}
+
+abbrev pub type_of : TypeTree → Ty
+type_of code_types.Unit = types.Unit
+type_of (code_types.Word word) = types.Word word.now
+type_of (code_types.Pair' p left q right) = types.Pair (type_of left) (type_of right)
+type_of (code_types.List' p element) = types.Array (type_of element)
+type_of (code_types.Abs' word p body) = types.Abs word.now (type_of body)
+
+abbrev pub types_of : List TypeTree → List Ty
+types_of ts = map type_of ts
+
+abbrev pub name_of : Binder → Name
+name_of (binders.Word w) = terms.OfWord w.now
+name_of (binders.Var w) = terms.OfVar w.now
+
+abbrev mutual
+  pub term_of : Tree → Term
+  term_of code.Unit = terms.Unit
+  term_of (code.Var w) = terms.Variable w.now
+  term_of (code.Word w) = terms.Word w.now
+  term_of (code.Apply' w p rest) = terms.Apply w.now (terms_of rest)
+  term_of (code.Pair' p left q right) = terms.Pair (term_of left) (term_of right)
+  term_of code.Nil = terms.Nil
+  term_of (code.Cell' p head q tail) = terms.Cell (term_of head) (term_of tail)
+  term_of (code.Abs' name p body) = terms.Abs (name_of name) (term_of body)
+  term_of (code.Swapped' left right p body) = terms.Swapped (name_of left) (name_of right) (term_of body)
+
+  pub terms_of : args.Args → Terms
+  terms_of (args.Last t) = terms.Last (term_of t)
+  terms_of (args.More' t p rest) = terms.More (term_of t) (terms_of rest)
+
+abbrev pub trees_of : List Tree → List Term
+trees_of ts = map term_of ts
+
+abbrev pub goal_of : GoalTree → Goal
+goal_of (code_goals.Atom w args) = goals.Atom w.now (trees_of args)
+goal_of (code_goals.Equal t u) = goals.Equation (term_of t) (term_of u)
+goal_of (code_goals.Fresh t u) = goals.Freshness (term_of t) (term_of u)
+goal_of (code_goals.Both' p g q h) = goals.Both (goal_of g) (goal_of h)
+goal_of (code_goals.Either' p g q h) = goals.Either (goal_of g) (goal_of h)
+goal_of (code_goals.Exists' w p g) = goals.Some_variable w.now (goal_of g)
+goal_of (code_goals.New' w p g) = goals.New_name w.now (goal_of g)
+
+abbrev pub goals_of : List GoalTree → List Goal
+goals_of gs = map goal_of gs
+
+abbrev pub form_of : Form → Saying
+form_of (code_forms.NameType w) = items.ANameType w.now
+form_of (code_forms.DataType w) = items.ADataType w.now
+form_of (code_forms.Constructor w args result) = items.AConstructor w.now (types_of args) result.now
+form_of (code_forms.Predicate w args) = items.APredicate w.now (types_of args)
+form_of (code_forms.Clause w args body) = items.AClause w.now (trees_of args) (option_map goal_of body)
+form_of (code_forms.Query goal) = items.AQuery (goal_of goal)
+
+abbrev pub item_of : Item → ItemOf
+item_of i = record { line = i.line; form = form_of i.form }
+
+abbrev pub items_of : List Item → List ItemOf
+items_of is = map item_of is

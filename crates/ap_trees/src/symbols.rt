@@ -1,0 +1,120 @@
+// What the grammar sees of a token.
+ghost use Rattle.std.specs.Prelude.{◌≡◌, IfOk};
+ghost use Rattle.ap_lexer.specs.Tokens.{lexeme, lexemes};
+ghost use Rattle.ap_trees.specs.Symbols.{sym, syms, sym_of, syms_of, reserved_sym, mark_sym};
+
+use ap_lexer::{Token, TokenKind};
+use std::alloc::{AllocError, Global};
+
+/// A token without its place; a reserved word or a mark without its text.
+#[derive(Clone, Copy, Debug, PartialEq, Eq)]
+pub enum Symbol<'a> {
+    Var(&'a str),
+    Ident(&'a str),
+    /// `name_type`
+    NameType,
+    /// `type`
+    DataType,
+    /// `pred`
+    Pred,
+    /// `new`
+    New,
+    /// `exists`
+    Exists,
+    /// `swap`
+    Swap,
+    /// `.`
+    Dot,
+    /// `,`
+    Comma,
+    /// `;`
+    Semicolon,
+    /// `:`
+    Colon,
+    /// `:-`
+    If,
+    /// `?-`
+    Ask,
+    /// `->`
+    Arrow,
+    /// `(`
+    Open,
+    /// `)`
+    Close,
+    /// `[`
+    OpenList,
+    /// `]`
+    CloseList,
+    /// `|`
+    Bar,
+    /// `\`
+    Lambda,
+    /// `#`
+    Fresh,
+    /// `=`
+    Equal,
+    /// What no lexer gives.
+    Other,
+}
+
+/// The symbol of a reserved word.
+fn reserved_symbol<'a>(word: &str) -> Symbol<'a>
+    ensures { sym result ≡ reserved_sym word.now }
+{
+    match word {
+        "name_type" => Symbol::NameType,
+        "type" => Symbol::DataType,
+        "pred" => Symbol::Pred,
+        "new" => Symbol::New,
+        "exists" => Symbol::Exists,
+        "swap" => Symbol::Swap,
+        _ => Symbol::Other,
+    }
+}
+
+/// The symbol of a mark.
+fn mark_symbol<'a>(mark: &str) -> Symbol<'a>
+    ensures { sym result ≡ mark_sym mark.now }
+{
+    match mark {
+        "." => Symbol::Dot,
+        "," => Symbol::Comma,
+        ";" => Symbol::Semicolon,
+        ":" => Symbol::Colon,
+        ":-" => Symbol::If,
+        "?-" => Symbol::Ask,
+        "->" => Symbol::Arrow,
+        "(" => Symbol::Open,
+        ")" => Symbol::Close,
+        "[" => Symbol::OpenList,
+        "]" => Symbol::CloseList,
+        "|" => Symbol::Bar,
+        "\\" => Symbol::Lambda,
+        "#" => Symbol::Fresh,
+        "=" => Symbol::Equal,
+        _ => Symbol::Other,
+    }
+}
+
+/// The symbol of a token.
+pub fn symbol_of<'a>(token: &Token<'a>) -> Symbol<'a>
+    ensures { sym result ≡ sym_of (lexeme token.now) }
+{
+    match token.kind {
+        TokenKind::Var => Symbol::Var(token.text),
+        TokenKind::Ident => Symbol::Ident(token.text),
+        TokenKind::Reserved => reserved_symbol(token.text),
+        TokenKind::Sign => mark_symbol(token.text),
+    }
+}
+
+/// The symbols of tokens, one for each.
+pub fn symbols_of<'a>(alloc: Global, tokens: &[Token<'a>]) -> Result<Vec<Symbol<'a>>, AllocError>
+    ensures { IfOk result (λ v. syms v.items ≡ syms_of (lexemes tokens.now)) }
+{
+    let mut symbols = Vec::new(alloc);
+    for token in tokens {
+        symbols.push(symbol_of(token))?;
+    }
+    Ok(symbols)
+}

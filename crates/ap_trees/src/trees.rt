@@ -1,0 +1,79 @@
+// Trees of items, goals, types and terms, whose words borrow the text.
+
+use ap_defs::lists::List;
+
+/// What stands left of `\` or as one of the two sides of a swapping.
+#[derive(Clone, Copy, Debug, PartialEq, Eq)]
+pub enum Binder<'a> {
+    Word(&'a str),
+    Var(&'a str),
+}
+
+/// The arguments of an application, of which there is one at least.
+#[cycle(tree)]
+#[derive(Debug, Drop)]
+pub enum Args<'a> {
+    Last(Tree<'a>),
+    More(Tree<'a>, Box<Args<'a>>),
+}
+
+/// A term as it is written. A word alone is a name or a constructor.
+#[cycle(tree)]
+#[derive(Debug, Drop)]
+pub enum Tree<'a> {
+    Unit,
+    Var(&'a str),
+    Word(&'a str),
+    Apply(&'a str, Box<Args<'a>>),
+    Pair(Box<Tree<'a>>, Box<Tree<'a>>),
+    Nil,
+    Cell(Box<Tree<'a>>, Box<Tree<'a>>),
+    Abs(Binder<'a>, Box<Tree<'a>>),
+    Swapped(Binder<'a>, Binder<'a>, Box<Tree<'a>>),
+}
+
+/// A type as it is written. A word is a name type or a data type.
+#[derive(Debug, Drop)]
+pub enum TypeTree<'a> {
+    Unit,
+    Word(&'a str),
+    Pair(Box<TypeTree<'a>>, Box<TypeTree<'a>>),
+    List(Box<TypeTree<'a>>),
+    Abs(&'a str, Box<TypeTree<'a>>),
+}
+
+/// A goal as it is written.
+#[derive(Debug, Drop)]
+pub enum GoalTree<'a> {
+    Atom(&'a str, List<Tree<'a>>),
+    Equal(Tree<'a>, Tree<'a>),
+    Fresh(Tree<'a>, Tree<'a>),
+    Both(Box<GoalTree<'a>>, Box<GoalTree<'a>>),
+    Either(Box<GoalTree<'a>>, Box<GoalTree<'a>>),
+    Exists(&'a str, Box<GoalTree<'a>>),
+    New(&'a str, Box<GoalTree<'a>>),
+}
+
+/// What an item says.
+#[derive(Debug, Drop)]
+pub enum Form<'a> {
+    /// A name type is declared.
+    NameType(&'a str),
+    /// A data type is declared.
+    DataType(&'a str),
+    /// A constructor is declared: its word, its arguments' types and its data type.
+    Constructor(&'a str, List<TypeTree<'a>>, &'a str),
+    /// A predicate is declared: its word and its arguments' types.
+    Predicate(&'a str, List<TypeTree<'a>>),
+    /// A clause: its predicate, the head's arguments and the body.
+    Clause(&'a str, List<Tree<'a>>, Option<GoalTree<'a>>),
+    /// A query.
+    Query(GoalTree<'a>),
+}
+
+/// An item, and the line of its first token.
+#[derive(Debug, Drop)]
+pub struct Item<'a> {
+    pub line: u64,
+    pub form: Form<'a>,
+}

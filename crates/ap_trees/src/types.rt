@@ -1,0 +1,113 @@
+// Reading a type.
+ghost use Rattle.std.specs.Prelude.{◌≡◌, ◌<◌, [], length, IfOk, Some};
+ghost use Rattle.ap_trees.specs.Outcomes.{Gives};
+ghost use Rattle.ap_trees.specs.Readers.{separated, after_comma};
+ghost use Rattle.ap_trees.specs.Symbols.{syms};
+ghost use Rattle.ap_trees.specs.Trees.{type_of, types_of};
+ghost use Rattle.ap_trees.specs.Types as trees;
+ghost use Rattle.ap_trees.specs.TypeGrammar.{IsType};
+ghost use Rattle.ap_trees.specs.TypeReader.{read_type, all_type};
+
+use crate::cursor::{after_close, after_close_list, after_comma, after_lambda};
+use crate::outcome::ReadError;
+use crate::symbols::Symbol;
+use crate::trees::TypeTree;
+use std::alloc::{AllocError, Global};
+
+/// The tuple of one type or more.
+fn tuple<'a>(alloc: Global, mut parts: Vec<TypeTree<'a>>) -> Result<TypeTree<'a>, AllocError>
+    ensures { IfOk result (λ t. type_of t ≡ trees.tuple (types_of parts.entry.items)) }
+{
+    let Some(mut whole) = parts.pop() else {
+        return Ok(TypeTree::Unit);
+    };
+    while let Some(part) = parts.pop() {
+        whole = TypeTree::Pair(Box::new(alloc, part)?, Box::new(alloc, whole)?);
+    }
+    Ok(whole)
+}
+
+/// A type that begins the symbols, and what follows it.
+#[cycle(types)]
+#[tactic(auto, unfolding(crate::specs::TypeReader::read_type))]
+pub fn type_tree<'a, 's>(
+    alloc: Global,
+    levels: usize,
+    symbols: &'s [Symbol<'a>],
+) -> Result<(TypeTree<'a>, &'s [Symbol<'a>]), ReadError>
+    ensures value { Gives (λ r. (type_of r.0, syms r.1.now)) result (read_type levels (syms symbols.now)) }
+    ensures shorter { IfOk result (λ r. length r.1.now < length symbols.now) }
+{
+    if levels == 0 {
+        return Err(ReadError::Grammar);
+    }
+    match symbols {
+        [Symbol::Ident(word), rest @ ..] => match after_lambda(rest) {
+            Some(rest) => {
+                let (body, rest) = type_tree(alloc, levels - 1, rest)?;
+                Ok((TypeTree::Abs(word, Box::new(alloc, body)?), rest))
+            }
+            None => Ok((TypeTree::Word(word), rest)),
+        },
+        [Symbol::Open, rest @ ..] => match after_close(rest) {
+            Some(rest) => Ok((TypeTree::Unit, rest)),
+            None => {
+                let (parts, rest) = type_list(alloc, levels - 1, rest)?;
+                let rest = after_close(rest).ok_or(ReadError::Grammar)?;
+                Ok((tuple(alloc, parts)?, rest))
+            }
+        },
+        [Symbol::OpenList, rest @ ..] => {
+            let (element, rest) = type_tree(alloc, levels - 1, rest)?;
+            let rest = after_close_list(rest).ok_or(ReadError::Grammar)?;
+            Ok((TypeTree::List(Box::new(alloc, element)?), rest))
+        }
+        _ => Err(ReadError::Grammar),
+    }
+}
+
+/// The types that begin the symbols, with commas between, and what follows them.
+#[cycle(types)]
+pub fn type_list<'a, 's>(
+    alloc: Global,
+    levels: usize,
+    symbols: &'s [Symbol<'a>],
+) -> Result<(Vec<TypeTree<'a>>, &'s [Symbol<'a>]), ReadError>
+    ensures value { Gives (λ r. (types_of r.0.items, syms r.1.now)) result (separated after_comma (read_type levels) (length symbols.now) (syms symbols.now)) }
+    ensures shorter { IfOk result (λ r. length r.1.now < length symbols.now) }
+{
+    let mut all = Vec::new(alloc);
+    let (first, mut rest) = type_tree(alloc, levels, symbols)?;
+    all.push(first)?;
+    while let Some(after) = after_comma(rest) {
+        let (next, left) = type_tree(alloc, levels, after)?;
+        all.push(next)?;
+        rest = left;
+    }
+    Ok((all, rest))
+}
+
+// By the reader.
+#[tactic(auto, unfolding(crate::specs::TypeReader::all_type))]
+fn exact_type<'a>(alloc: Global, symbols: &[Symbol<'a>]) -> Result<TypeTree<'a>, ReadError>
+    ensures { Gives type_of result (all_type (syms symbols.now)) }
+{
+    let (tree, rest) = type_tree(alloc, symbols.len(), symbols)?;
+    if rest.is_empty() {
+        Ok(tree)
+    } else {
+        Err(ReadError::Grammar)
+    }
+}
+
+/// The type that all the symbols spell.
+pub fn whole_type<'a>(alloc: Global, symbols: &[Symbol<'a>]) -> Result<TypeTree<'a>, ReadError>
+    // What is read is in the grammar.
+    ensures found { IfOk result (λ t. IsType (syms symbols.now) (type_of t) []) }
+    // What is in the grammar is read.
+    ensures only { (t : trees.Ty) → IsType (syms symbols.now) t [] → Gives type_of result (Some t) }
+    // It has no other reading.
+    ensures one { IfOk result (λ t. (u : trees.Ty) → IsType (syms symbols.now) u [] → u ≡ type_of t) }
+{
+    exact_type(alloc, symbols)
+}
