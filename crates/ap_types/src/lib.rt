@@ -1,0 +1,5 @@
+//! Types: equations of types, which types may hold names of a sort, and which are inhabited.
+#![tactic(auto)]
+
+pub mod answers;
+mod rounds;
