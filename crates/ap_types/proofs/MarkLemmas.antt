@@ -50,11 +50,13 @@ passes_at test p (d ∷ cs) (suc i) c l e h =
 
 module _ (test : Test) (grows : Grows test) where
   sound_set : (cs : List NominalConstructor) (table : List Bool) (x : ℕ) → ((p : ℕ → Bool) → Within (marked table) p → some_passes test p cs x ≡ true) → IsSound test cs table → IsSound test cs (set table x true)
-  sound_set cs table x h (r, k) =
-      (suc r, λ d e. elim (set_marked table x d e) [
-        | inl s ↦ subst (λ y. some_passes test (reached test cs r) cs y ≡ true) s (h (reached test cs r) k)
-        | inr m ↦ reached_more test grows cs r (suc r) (omega arith) d (k d m)
-      ])
+  sound_set cs table x h (r, k) = (
+    suc r,
+    λ d e. elim (set_marked table x d e) [
+      | inl s ↦ subst (λ y. some_passes test (reached test cs r) cs y ≡ true) s (h (reached test cs r) k)
+      | inr m ↦ reached_more test grows cs r (suc r) (omega arith) d (k d m)
+    ],
+  )
 
   -- One more constructor, which is one of all.
   pub mark_more : (cs rest : List NominalConstructor) (c : NominalConstructor) (old table new : List Bool) (any one : Bool)
@@ -127,6 +129,7 @@ written_back new old n h = sym_subst
     front : (xs ys : List Bool) → take (length xs) (xs ++ ys) ≡ xs
     front [] ys = refl
     front (x ∷ xs) ys = ap (λ zs. x ∷ zs) (front xs ys)
+
     sym_subst : take n (new ++ drop (length new) old) ≡ new
     sym_subst = subst (λ m. take m (new ++ drop (length new) old) ≡ new) h (front new (drop (length new) old))
 

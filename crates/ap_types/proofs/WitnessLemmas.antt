@@ -87,10 +87,11 @@ module _ (cs : List NominalConstructor) (avoided : List Name) where
       ]
 
   applied : (f d : ℕ) (c : NominalConstructor) → constructor_in cs (suc (suc f)) ≡ Some c → c.result ≡ d → HasTerm (arguments c.args) → HasTerm (one (base d))
-  applied f d c e r k =
-      (terms.app (suc (suc f)) k.0,
-      subst (λ (o : Option NominalConstructor). IsApplication (IsTyped cs (λ x. None) (embedded k.0)) o d) (sym e) (r, k.1),
-      fresh_app avoided (suc (suc f)) k.0 k.2)
+  applied f d c e r k = (
+    terms.app (suc (suc f)) k.0,
+    subst (λ (o : Option NominalConstructor). IsApplication (IsTyped cs (λ x. None) (embedded k.0)) o d) (sym e) (r, k.1),
+    fresh_app avoided (suc (suc f)) k.0 k.2,
+  )
 
   term_of_data : (r d : ℕ) → reached all_inhabited cs r d ≡ true → HasTerm (one (base d))
   term_of_data zero d e = cc

@@ -3,3 +3,5 @@
 
 pub mod answers;
 mod rounds;
+#[cfg(test)]
+mod tests;
