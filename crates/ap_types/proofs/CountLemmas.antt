@@ -1,10 +1,7 @@
 -- How many numbers below a bound pass a test.
 use Rattle.std.proofs.Common.{◌≡◌, ◌<◌, ◌≤◌, ◌⊎◌, ℕ, zero, suc, Bool, true, false, refl, inl, inr, arith, subst}
 use Rattle.std.specs.Prelude.{if◌then◌else◌}
-
-abbrev pub count_below : (ℕ → Bool) → ℕ → ℕ
-count_below p zero = 0
-count_below p (suc n) = if p n then suc (count_below p n) else count_below p n
+use Rattle.ap_types.specs.Steps.{count_below}
 
 pub count_most : (p : ℕ → Bool) (n : ℕ) → count_below p n ≤ n
 count_most p zero = omega arith

@@ -5,3 +5,7 @@ pub mod MarkLemmas
 pub mod QuestionLemmas
 pub mod StillLemmas
 pub mod WitnessLemmas
+pub mod ShapeLemmas
+pub mod RuleLemmas
+pub mod MeasureLemmas
+pub mod StepLemmas

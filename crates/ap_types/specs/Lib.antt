@@ -4,3 +4,6 @@ pub mod Holding
 pub mod Questions
 pub mod Marks
 pub mod Statements
+pub mod Equations
+pub mod Solving
+pub mod Steps

@@ -3,5 +3,6 @@
 
 pub mod answers;
 mod rounds;
+mod solving;
 #[cfg(test)]
 mod tests;
