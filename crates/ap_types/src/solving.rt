@@ -1,7 +1,7 @@
 //! Solving equations of shapes, one step after the other.
 
 ghost use Rattle.std.specs.Prelude.{◌≡◌, ℕ, ◌<◌, ◌≤◌, [], ◌∷◌, ◌++◌, length, map, IfOk, IfErr};
-ghost use Rattle.ap_defs.specs.Types.{shape_of};
+ghost use Rattle.ap_defs.specs.Types.{shape_of, hole, names, base, pair, list, abs};
 ghost use Rattle.ap_types.specs.Equations.{◌≐◌, equation_of, filled};
 ghost use Rattle.ap_types.specs.Solving.{occurs, single, rule, put_equation, unless_occurs};
 ghost use Rattle.ap_types.specs.Steps.{rule_of, Leads, Advances, NeverSame};
@@ -46,41 +46,116 @@ fn bind_unless_occurs(x: u64, t: Shape) -> Step
     }
 }
 
-/// The rule for an equation.
-fn rule_for(left: Shape, right: Shape) -> Step
-    ensures { rule_of result ≡ rule (shape_of left) (shape_of right) }
+/// The rule for a hole and a shape.
+fn rule_for_hole(x: u64, right: Shape) -> Step
+    ensures { rule_of result ≡ rule (hole x) (shape_of right) }
 {
-    match (left, right) {
-        (Shape::Hole(x), Shape::Hole(y)) => {
+    match right {
+        Shape::Hole(y) => {
             if x == y {
                 Step::Nothing
             } else {
                 Step::Bind(x, Shape::Hole(y))
             }
         }
-        (Shape::Hole(x), u) => bind_unless_occurs(x, u),
-        (t, Shape::Hole(y)) => bind_unless_occurs(y, t),
-        (Shape::Unit, Shape::Unit) => Step::Nothing,
-        (Shape::Names(r), Shape::Names(s)) => {
-            if r == s {
+        Shape::Unit => Step::Bind(x, Shape::Unit),
+        Shape::Names(sort) => Step::Bind(x, Shape::Names(sort)),
+        Shape::Base(base) => Step::Bind(x, Shape::Base(base)),
+        Shape::Pair(v, w) => bind_unless_occurs(x, Shape::Pair(v, w)),
+        Shape::List(v) => bind_unless_occurs(x, Shape::List(v)),
+        Shape::Abs(v, w) => bind_unless_occurs(x, Shape::Abs(v, w)),
+    }
+}
+
+/// The rule for a name type and a shape.
+fn rule_for_names(sort: u32, right: Shape) -> Step
+    ensures { rule_of result ≡ rule (names sort) (shape_of right) }
+{
+    match right {
+        Shape::Hole(y) => Step::Bind(y, Shape::Names(sort)),
+        Shape::Names(other) => {
+            if sort == other {
                 Step::Nothing
             } else {
                 Step::Clash
             }
         }
-        (Shape::Base(c), Shape::Base(d)) => {
-            if c == d {
+        _ => Step::Clash,
+    }
+}
+
+/// The rule for a data type and a shape.
+fn rule_for_base(data_type: u32, right: Shape) -> Step
+    ensures { rule_of result ≡ rule (base data_type) (shape_of right) }
+{
+    match right {
+        Shape::Hole(y) => Step::Bind(y, Shape::Base(data_type)),
+        Shape::Base(other) => {
+            if data_type == other {
                 Step::Nothing
             } else {
                 Step::Clash
             }
         }
-        (Shape::Pair(t, u), Shape::Pair(v, w)) | (Shape::Abs(t, u), Shape::Abs(v, w)) => Step::Two(
+        _ => Step::Clash,
+    }
+}
+
+/// The rule for a pair and a shape.
+fn rule_for_pair(t: Box<Shape>, u: Box<Shape>, right: Shape) -> Step
+    ensures { rule_of result ≡ rule (pair (shape_of t.value) (shape_of u.value)) (shape_of right) }
+{
+    match right {
+        Shape::Hole(y) => bind_unless_occurs(y, Shape::Pair(t, u)),
+        Shape::Pair(v, w) => Step::Two(
             (Box::into_inner(t), Box::into_inner(v)),
             (Box::into_inner(u), Box::into_inner(w)),
         ),
-        (Shape::List(t), Shape::List(u)) => Step::One((Box::into_inner(t), Box::into_inner(u))),
         _ => Step::Clash,
+    }
+}
+
+/// The rule for a list and a shape.
+fn rule_for_list(t: Box<Shape>, right: Shape) -> Step
+    ensures { rule_of result ≡ rule (list (shape_of t.value)) (shape_of right) }
+{
+    match right {
+        Shape::Hole(y) => bind_unless_occurs(y, Shape::List(t)),
+        Shape::List(v) => Step::One((Box::into_inner(t), Box::into_inner(v))),
+        _ => Step::Clash,
+    }
+}
+
+/// The rule for an abstraction and a shape.
+fn rule_for_abs(t: Box<Shape>, u: Box<Shape>, right: Shape) -> Step
+    ensures { rule_of result ≡ rule (abs (shape_of t.value) (shape_of u.value)) (shape_of right) }
+{
+    match right {
+        Shape::Hole(y) => bind_unless_occurs(y, Shape::Abs(t, u)),
+        Shape::Abs(v, w) => Step::Two(
+            (Box::into_inner(t), Box::into_inner(v)),
+            (Box::into_inner(u), Box::into_inner(w)),
+        ),
+        _ => Step::Clash,
+    }
+}
+
+/// The rule for an equation.
+fn rule_for(left: Shape, right: Shape) -> Step
+    ensures { rule_of result ≡ rule (shape_of left) (shape_of right) }
+{
+    match left {
+        Shape::Hole(x) => rule_for_hole(x, right),
+        Shape::Unit => match right {
+            Shape::Hole(y) => Step::Bind(y, Shape::Unit),
+            Shape::Unit => Step::Nothing,
+            _ => Step::Clash,
+        },
+        Shape::Names(sort) => rule_for_names(sort, right),
+        Shape::Base(base) => rule_for_base(base, right),
+        Shape::Pair(t, u) => rule_for_pair(t, u, right),
+        Shape::List(t) => rule_for_list(t, right),
+        Shape::Abs(t, u) => rule_for_abs(t, u, right),
     }
 }
 
@@ -140,4 +215,63 @@ fn copy_shape(alloc: Global, t: &Shape) -> Result<Shape, Memory>
             Ok(Shape::Abs(left, right))
         }
     }
+}
+
+/// Shapes with a shape put for a hole.
+fn put_in_shapes(alloc: Global, x: u64, v: &Shape, shapes: &[Shape]) -> Result<Vec<Shape>, Memory>
+    ensures { IfOk result (λ w. map shape_of w.items ≡ map (filled (single x (shape_of v.now))) (map shape_of shapes.now)) }
+{
+    let mut filled = Vec::new(alloc);
+    for t in shapes {
+        filled.push(put_in(alloc, x, v, t)?)?;
+    }
+    Ok(filled)
+}
+
+/// Equations with a shape put for a hole.
+fn put_in_equations(
+    alloc: Global,
+    x: u64,
+    v: &Shape,
+    equations: &[(Shape, Shape)],
+) -> Result<Vec<(Shape, Shape)>, Memory>
+    ensures { IfOk result (λ w. map equation_of w.items ≡ map (put_equation x (shape_of v.now)) (map equation_of equations.now)) }
+{
+    let mut filled = Vec::new(alloc);
+    for e in equations {
+        let left = put_in(alloc, x, v, &e.0)?;
+        let right = put_in(alloc, x, v, &e.1)?;
+        filled.push((left, right))?;
+    }
+    Ok(filled)
+}
+
+/// The shapes of the holes so far, and the equations that are left, the last of them first.
+#[derive(Debug, Drop)]
+pub(crate) struct Stage {
+    pub(crate) holes: Vec<Shape>,
+    pub(crate) equations: Vec<(Shape, Shape)>,
+}
+
+/// The stage in which a hole is filled.
+fn fill(alloc: Global, stage: Stage, x: u64, v: &Shape) -> Result<Stage, Memory>
+    ensures holes { IfOk result (λ s. map shape_of s.holes.items ≡ map (filled (single x (shape_of v.now))) (map shape_of stage.holes.items)) }
+    ensures equations { IfOk result (λ s. map equation_of s.equations.items ≡ map (put_equation x (shape_of v.now)) (map equation_of stage.equations.items)) }
+{
+    let holes = put_in_shapes(alloc, x, v, stage.holes.as_slice())?;
+    let equations = put_in_equations(alloc, x, v, stage.equations.as_slice())?;
+    Ok(Stage { holes, equations })
+}
+
+/// The stage with one more equation.
+fn with_equation(stage: Stage, equation: (Shape, Shape)) -> Result<Stage, Memory>
+    ensures holes { IfOk result (λ s. s.holes.items ≡ stage.holes.items) }
+    ensures equations { IfOk result (λ s. map equation_of s.equations.items ≡ map equation_of stage.equations.items ++ equation_of equation ∷ []) }
+{
+    let Stage {
+        holes,
+        mut equations,
+    } = stage;
+    equations.push(equation)?;
+    Ok(Stage { holes, equations })
 }
