@@ -9,3 +9,4 @@ pub mod ShapeLemmas
 pub mod RuleLemmas
 pub mod MeasureLemmas
 pub mod StepLemmas
+pub mod AnswerLemmas

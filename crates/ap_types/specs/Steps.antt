@@ -1,5 +1,5 @@
 -- What a step of solving keeps, and how its values are seen.
-use Rattle.std.specs.Prelude.{◌≡◌, ◌<◌, ◌≤◌, ◌+◌, ◌*◌, ℕ, zero, suc, Bool, false, ◌||◌, if◌then◌else◌, List, [], ◌∷◌}
+use Rattle.std.specs.Prelude.{◌≡◌, ◌<◌, ◌≤◌, ◌+◌, ◌*◌, ℕ, zero, suc, Bool, false, ◌||◌, if◌then◌else◌, List, [], ◌∷◌, length}
 use Rattle.ap_defs.specs.Types.{TypeShape, hole, unit, names, base, pair, list, abs, shape_of}
 use Rattle.ap_types.specs.declared.solving.Step.{Step}
 use Rattle.ap_types.specs.declared.solving.Step.TheVariants as steps
@@ -18,6 +18,7 @@ rule_of steps.Clash = clash
 pub record Leads (ts : List TypeShape) (es : List ShapeEquation) (ts' : List TypeShape) (es' : List ShapeEquation) : Type 0 where
   pub onward : (f : Filling) → FilledBy f f 0 ts → Solves f es → FilledBy f f 0 ts' × Solves f es'
   pub back : (g f : Filling) → FilledBy g f 0 ts' → Solves g es' → (h : Filling) × FilledBy h f 0 ts × Solves h es
+  pub as_many : length ts' ≡ length ts
 
 -- how large a shape is, and equations are
 abbrev pub size : TypeShape → ℕ
@@ -59,3 +60,14 @@ pub record Advances (ts : List TypeShape) (es : List ShapeEquation) (ts' : List 
 -- no filling makes the two the same
 abbrev pub NeverSame : TypeShape → TypeShape → Type 0
 NeverSame t u = (f : Filling) → filled f t ≡ filled f u → ⊥
+
+-- no filling that agrees with the shapes of the holes solves the equations
+abbrev pub NoneSolves : List TypeShape → List ShapeEquation → Type 0
+NoneSolves ts es = (f : Filling) → FilledBy f f 0 ts → Solves f es → ⊥
+
+-- Other shapes for the holes, by which some of the equations were solved: what agrees with the first shapes and solves all
+-- agrees with these, and an instance of these that solves the rest solves all.
+pub record Answers (ts : List TypeShape) (all : List ShapeEquation) (ts' : List TypeShape) (rest : List ShapeEquation) : Type 0 where
+  pub onward : (f : Filling) → FilledBy f f 0 ts → Solves f all → FilledBy f f 0 ts' × Solves f rest
+  pub back : (g f : Filling) → FilledBy g f 0 ts' → Solves f rest → (h : Filling) × FilledBy h f 0 ts × Solves f all
+  pub as_many : length ts' ≡ length ts

@@ -2,6 +2,7 @@
 #![tactic(auto)]
 
 pub mod answers;
+pub mod errors;
 mod rounds;
 mod solving;
 #[cfg(test)]

@@ -1,11 +1,12 @@
 //! Solving equations of shapes, one step after the other.
 
-ghost use Rattle.std.specs.Prelude.{◌≡◌, ℕ, ◌<◌, ◌≤◌, [], ◌∷◌, ◌++◌, length, map, IfOk, IfErr};
+ghost use Rattle.std.specs.Prelude.{◌≡◌, ℕ, ◌<◌, ◌≤◌, [], ◌∷◌, ◌++◌, length, vec_len, map, IfOk, IfErr};
 ghost use Rattle.ap_defs.specs.Types.{shape_of, hole, names, base, pair, list, abs};
-ghost use Rattle.ap_types.specs.Equations.{◌≐◌, equation_of, filled};
-ghost use Rattle.ap_types.specs.Solving.{occurs, single, rule, put_equation, unless_occurs};
-ghost use Rattle.ap_types.specs.Steps.{rule_of, Leads, Advances, NeverSame};
+ghost use Rattle.ap_types.specs.Equations.{◌≐◌, equation_of, filled, bound_of, equations_bound};
+ghost use Rattle.ap_types.specs.Solving.{occurs, single, rule, put_equation, unless_occurs, shape_at};
+ghost use Rattle.ap_types.specs.Steps.{rule_of, Leads, Advances, NeverSame, NoneSolves, Answers};
 
+use crate::errors::TypesError;
 use ap_defs::memory::Memory;
 use ap_defs::terms::Shape;
 use std::alloc::Global;
@@ -274,4 +275,110 @@ fn with_equation(stage: Stage, equation: (Shape, Shape)) -> Result<Stage, Memory
     } = stage;
     equations.push(equation)?;
     Ok(Stage { holes, equations })
+}
+
+/// One step: the stage after the rule for an equation.
+fn advance(alloc: Global, stage: Stage, left: Shape, right: Shape) -> Result<Stage, TypesError>
+    ensures ok { IfOk result (λ s. Advances (map shape_of stage.holes.items) (map equation_of stage.equations.items ++ (shape_of left ≐ shape_of right) ∷ []) (map shape_of s.holes.items) (map equation_of s.equations.items)) }
+    ensures clash { IfErr result (λ e. e ≡ TypesError.Clash → NeverSame (shape_of left) (shape_of right)) }
+{
+    match rule_for(left, right) {
+        Step::Nothing => Ok(stage),
+        Step::One(e) => {
+            let stage = with_equation(stage, e)?;
+            Ok(stage)
+        }
+        Step::Two(e, d) => {
+            let stage = with_equation(stage, e)?;
+            let stage = with_equation(stage, d)?;
+            Ok(stage)
+        }
+        Step::Bind(x, v) => {
+            let stage = fill(alloc, stage, x, &v)?;
+            Ok(stage)
+        }
+        Step::Clash => Err(TypesError::Clash),
+    }
+}
+
+/// Takes steps until no equation is left, and gives the shapes of the holes.
+fn run(alloc: Global, first: Stage) -> Result<Vec<Shape>, TypesError>
+    ensures ok { IfOk result (λ w. Leads (map shape_of first.holes.items) (map equation_of first.equations.items) (map shape_of w.items) []) }
+    ensures clash { IfErr result (λ e. e ≡ TypesError.Clash → NoneSolves (map shape_of first.holes.items) (map equation_of first.equations.items)) }
+{
+    let mut stage = first;
+    'steps: while let Some((left, right)) = stage.equations.pop() {
+        stage = advance(alloc, stage, left, right)?;
+    }
+    let Stage { holes, equations: _ } = stage;
+    Ok(holes)
+}
+
+/// A copy of a shape with the shapes of the holes put for them.
+fn resolved(alloc: Global, holes: &[Shape], t: &Shape) -> Result<Shape, Memory>
+    ensures { IfOk result (λ u. shape_of u ≡ filled (shape_at (map shape_of holes.now)) (shape_of t.now)) }
+{
+    match t {
+        Shape::Hole(x) => {
+            let place = *x as usize;
+            if place < holes.len() {
+                copy_shape(alloc, &holes[place])
+            } else {
+                Ok(Shape::Hole(*x))
+            }
+        }
+        Shape::Unit => Ok(Shape::Unit),
+        Shape::Names(sort) => Ok(Shape::Names(*sort)),
+        Shape::Base(base) => Ok(Shape::Base(*base)),
+        Shape::Pair(left, right) => {
+            let left = Box::new(alloc, resolved(alloc, holes, left)?)?;
+            let right = Box::new(alloc, resolved(alloc, holes, right)?)?;
+            Ok(Shape::Pair(left, right))
+        }
+        Shape::List(element) => {
+            let element = Box::new(alloc, resolved(alloc, holes, element)?)?;
+            Ok(Shape::List(element))
+        }
+        Shape::Abs(left, right) => {
+            let left = Box::new(alloc, resolved(alloc, holes, left)?)?;
+            let right = Box::new(alloc, resolved(alloc, holes, right)?)?;
+            Ok(Shape::Abs(left, right))
+        }
+    }
+}
+
+/// The shapes of the holes after one more equation.
+fn unify_one(
+    alloc: Global,
+    holes: Vec<Shape>,
+    left: &Shape,
+    right: &Shape,
+) -> Result<Vec<Shape>, TypesError>
+    requires left { bound_of (shape_of left.now) ≤ vec_len holes }
+    requires right { bound_of (shape_of right.now) ≤ vec_len holes }
+    ensures ok { IfOk result (λ w. Answers (map shape_of holes.items) ((shape_of left.now ≐ shape_of right.now) ∷ []) (map shape_of w.items) []) }
+    ensures clash { IfErr result (λ e. e ≡ TypesError.Clash → NoneSolves (map shape_of holes.items) ((shape_of left.now ≐ shape_of right.now) ∷ [])) }
+{
+    let left = resolved(alloc, holes.as_slice(), left)?;
+    let right = resolved(alloc, holes.as_slice(), right)?;
+    let mut equations = Vec::new(alloc);
+    equations.push((left, right))?;
+    run(alloc, Stage { holes, equations })
+}
+
+/// The shapes of the holes after all the equations.
+pub(crate) fn unify_all(
+    alloc: Global,
+    holes: Vec<Shape>,
+    equations: &[(Shape, Shape)],
+) -> Result<Vec<Shape>, TypesError>
+    requires { equations_bound (map equation_of equations.now) ≤ vec_len holes }
+    ensures ok { IfOk result (λ w. Answers (map shape_of holes.items) (map equation_of equations.now) (map shape_of w.items) []) }
+    ensures clash { IfErr result (λ e. e ≡ TypesError.Clash → NoneSolves (map shape_of holes.items) (map equation_of equations.now)) }
+{
+    let mut solved = holes;
+    for e in equations {
+        solved = unify_one(alloc, solved, &e.0, &e.1)?;
+    }
+    Ok(solved)
 }
