@@ -1,8 +1,13 @@
 -- Solving one equation after the other.
-use Rattle.std.proofs.Common.{◌≡◌, ◌<◌, ◌≤◌, ◌+◌, ◌∙◌, ℕ, zero, suc, List, [], ◌∷◌, ◌++◌, map, length, refl, sym, ap, subst, arith}
+use Rattle.std.proofs.Common.{◌≡◌, ◌<◌, ◌≤◌, ◌+◌, ◌∙◌, ℕ, zero, suc, List, [], ◌∷◌, ◌++◌, map, length, get_or, drop, refl, sym, ap, subst, arith}
+use Rattle.std.proofs.lemmas.List.{at_drop_more}
 use Rattle.std.specs.Prelude.{max, slice_index_or}
-use Rattle.ap_defs.specs.Types.{TypeShape, hole, names}
-use Rattle.ap_types.specs.Equations.{ShapeEquation, ◌≐◌, Filling, filled, Solves, FilledBy, bound_of, equations_bound}
+use Rattle.std.specs.Prelude.{Result, Ok, Err, IfOk, IfErr}
+use Rattle.ap_defs.specs.declared.terms.Shape.{Shape}
+use Rattle.ap_defs.specs.Types.{TypeShape, shape_of, hole, names}
+use Rattle.ap_types.specs.declared.errors.TypesError.{TypesError}
+use Rattle.ap_types.specs.declared.errors.TypesError.TheVariants.{Clash}
+use Rattle.ap_types.specs.Equations.{ShapeEquation, ◌≐◌, Filling, filled, Solves, FilledBy, bound_of, equations_bound, equation_of}
 use Rattle.ap_types.specs.Solving.{shape_at}
 use Rattle.ap_types.specs.Steps.{Leads, Answers, NoneSolves}
 use Rattle.ap_types.proofs.ShapeLemmas.{filled_filled, filled_same, occurs_bound}
@@ -46,3 +51,41 @@ answers_more ts all ts1 (t ≐ u) rest ts2 h k = record {
 pub none_more : (ts : List TypeShape) (all : List ShapeEquation) (ts1 : List TypeShape) (e : ShapeEquation) (rest : List ShapeEquation)
     → Answers ts all ts1 (e ∷ rest) → NoneSolves ts1 (e ∷ []) → NoneSolves ts all
 none_more ts all ts1 (t ≐ u) rest h n f a s = let m = h.onward f a s in n f m.0 (m.1.0, tt)
+
+-- The same for what the program returns.
+pub one_equation : (l r : Shape) (ts : List TypeShape) (t u : TypeShape) (items : List (Shape × Shape)) → items ≡ (l, r) ∷ [] → shape_of l ≡ filled (shape_at ts) t → shape_of r ≡ filled (shape_at ts) u
+    → map equation_of items ≡ (filled (shape_at ts) t ≐ filled (shape_at ts) u) ∷ []
+one_equation l r ts t u items e f g = ap (map equation_of) e ∙ ap (λ a. (a ≐ shape_of r) ∷ []) f ∙ ap (λ b. (filled (shape_at ts) t ≐ b) ∷ []) g
+
+pub unified_ok : {A E : Type 0} (r : Result A E) (view : A → List TypeShape) (ts : List TypeShape) (t u : TypeShape) (es : List ShapeEquation) → es ≡ (filled (shape_at ts) t ≐ filled (shape_at ts) u) ∷ []
+    → bound_of t ≤ length ts → bound_of u ≤ length ts → IfOk r (λ w. Leads ts es (view w) []) → IfOk r (λ w. Answers ts ((t ≐ u) ∷ []) (view w) [])
+unified_ok (Ok w) view ts t u es e l m h = answers_one ts t u (view w) l m (subst (λ (fs : List ShapeEquation). Leads ts fs (view w) []) e h)
+unified_ok (Err x) view ts t u es e l m h = tt
+
+pub unified_err : {A : Type 0} (r : Result A TypesError) (ts : List TypeShape) (t u : TypeShape) (es : List ShapeEquation) → es ≡ (filled (shape_at ts) t ≐ filled (shape_at ts) u) ∷ []
+    → bound_of t ≤ length ts → bound_of u ≤ length ts → IfErr r (λ e. e ≡ Clash → NoneSolves ts es) → IfErr r (λ e. e ≡ Clash → NoneSolves ts ((t ≐ u) ∷ []))
+unified_err (Ok w) ts t u es e l m h = tt
+unified_err (Err x) ts t u es e l m h = λ i. none_one ts t u l m (subst (NoneSolves ts) e (h i))
+
+-- the element at a place, in a loop over all
+pub next_at : {A : Type 0} (xs : List A) (i : ℕ) (x : A) → i < length xs → x ≡ get_or xs i x → drop i xs ≡ x ∷ drop (i + 1) xs
+next_at xs i x l e = at_drop_more (λ ys. ys) xs i x l ∙ ap (λ y. y ∷ drop (i + 1) xs) (sym e)
+
+equation_next : (es : List (Shape × Shape)) (i : ℕ) (e : Shape × Shape) → i < length es → e ≡ get_or es i e → map equation_of (drop i es) ≡ equation_of e ∷ map equation_of (drop (i + 1) es)
+equation_next es i e l h = ap (map equation_of) (next_at es i e l h)
+
+pub answers_next : (ts : List TypeShape) (es : List (Shape × Shape)) (ts1 ts2 : List TypeShape) (i : ℕ) (e : Shape × Shape) → i < length es → e ≡ get_or es i e
+    → Answers ts (map equation_of es) ts1 (map equation_of (drop i es)) → Answers ts1 (equation_of e ∷ []) ts2 [] → Answers ts (map equation_of es) ts2 (map equation_of (drop (i + 1) es))
+answers_next ts es ts1 ts2 i e l h a b =
+    answers_more ts (map equation_of es) ts1 (equation_of e) (map equation_of (drop (i + 1) es)) ts2 (subst (Answers ts (map equation_of es) ts1) (equation_next es i e l h) a) b
+
+pub none_next : (ts : List TypeShape) (es : List (Shape × Shape)) (ts1 : List TypeShape) (i : ℕ) (e : Shape × Shape) → i < length es → e ≡ get_or es i e
+    → Answers ts (map equation_of es) ts1 (map equation_of (drop i es)) → NoneSolves ts1 (equation_of e ∷ []) → NoneSolves ts (map equation_of es)
+none_next ts es ts1 i e l h a b =
+    none_more ts (map equation_of es) ts1 (equation_of e) (map equation_of (drop (i + 1) es)) (subst (Answers ts (map equation_of es) ts1) (equation_next es i e l h) a) b
+
+pub bound_next : (es : List (Shape × Shape)) (i : ℕ) (e : Shape × Shape) (n : ℕ) → i < length es → e ≡ get_or es i e → equations_bound (map equation_of (drop i es)) ≤ n
+    → (bound_of (shape_of e.0) ≤ n) × (bound_of (shape_of e.1) ≤ n) × (equations_bound (map equation_of (drop (i + 1) es)) ≤ n)
+bound_next es i e n l h k =
+    let m : equations_bound (equation_of e ∷ map equation_of (drop (i + 1) es)) ≤ n = subst (λ (fs : List ShapeEquation). equations_bound fs ≤ n) (equation_next es i e l h) k in
+    (omega arith, omega arith, omega arith)

@@ -10,3 +10,4 @@ pub mod RuleLemmas
 pub mod MeasureLemmas
 pub mod StepLemmas
 pub mod AnswerLemmas
+pub mod NameLemmas

@@ -1,9 +1,10 @@
 -- Each step leads on.
 use Rattle.std.proofs.Common.{◌≡◌, ◌<◌, ◌≤◌, ◌+◌, ◌∙◌, ℕ, List, [], ◌∷◌, ◌++◌, map, length, refl, sym, ap, subst, append-nil}
 use Rattle.std.specs.Prelude.{max}
-use Rattle.std.proofs.lemmas.List.{length-map}
-use Rattle.ap_defs.specs.Types.{TypeShape}
-use Rattle.ap_types.specs.Equations.{ShapeEquation, ◌≐◌, Filling, filled, Solves, FilledBy, bound_of, equations_bound}
+use Rattle.std.proofs.lemmas.List.{length-map, map-append}
+use Rattle.ap_defs.specs.declared.terms.Shape.{Shape}
+use Rattle.ap_defs.specs.Types.{TypeShape, shape_of}
+use Rattle.ap_types.specs.Equations.{ShapeEquation, ◌≐◌, Filling, filled, Solves, FilledBy, bound_of, equations_bound, equation_of}
 use Rattle.ap_types.specs.Solving.{single, Rule, replace, bind, clash, rule, put_equation}
 use Rattle.ap_types.specs.Steps.{Leads, Advances, NeverSame, NoneSolves, size}
 use Rattle.ap_types.proofs.RuleLemmas.{RuleHolds, rule_holds, Solves-append, put_fills, put_solves, with_hole, fills_before, solves_before, bound_before}
@@ -82,3 +83,7 @@ advances_bind_as ts front t u x v ts' es' e p q =
 pub none_at_clash : (ts : List TypeShape) (es : List ShapeEquation) (ts' : List TypeShape) (front : List ShapeEquation) (t u : TypeShape)
     → Leads ts es ts' (front ++ (t ≐ u) ∷ []) → NeverSame t u → NoneSolves ts es
 none_at_clash ts es ts' front t u h n f a s = n f ((Solves-append f front ((t ≐ u) ∷ [])).0 (h.onward f a s).1).1.0
+
+-- the last equation, taken from a vector
+pub popped : (all front : List (Shape × Shape)) (l r : Shape) → all ≡ front ++ (l, r) ∷ [] → map equation_of all ≡ map equation_of front ++ (shape_of l ≐ shape_of r) ∷ []
+popped all front l r e = ap (map equation_of) e ∙ map-append equation_of front ((l, r) ∷ [])

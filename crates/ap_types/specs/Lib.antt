@@ -7,3 +7,4 @@ pub mod Statements
 pub mod Equations
 pub mod Solving
 pub mod Steps
+pub mod Assignments

@@ -2,6 +2,7 @@
 #![tactic(auto)]
 
 pub mod answers;
+pub mod equations;
 pub mod errors;
 mod rounds;
 mod solving;
