@@ -17,7 +17,7 @@ fills_push : (g f : Filling) (x : ℕ) (ts : List TypeShape) (t : TypeShape) →
 fills_push g f x [] t h e = let s : x ≡ x + 0 = omega arith in (ap f s ∙ e, tt)
 fills_push g f x (u ∷ ts) t h e = let s : suc x + length ts ≡ x + suc (length ts) = omega arith in (h.0, fills_push g f (suc x) ts t h.1 (ap f s ∙ e))
 
-length_shapes : (items : List Shape) → length (map shape_of items) ≡ length items
+pub length_shapes : (items : List Shape) → length (map shape_of items) ≡ length items
 length_shapes [] = refl
 length_shapes (t ∷ ts) = ap suc (length_shapes ts)
 
@@ -81,18 +81,18 @@ bound_names n xs = elim (n == 1) as (λ b. equations_bound (if b then map name_e
 -- Both parts of solving together.
 pub narrows_both : (es : List ShapeEquation) (xs : List ℕ) (n : ℕ) (ts0 ts1 ts2 : List TypeShape) → ((f : Filling) → FilledBy f f 0 ts0) → length ts0 ≡ hole_count es xs
     → Answers ts0 es ts1 [] → Answers ts1 (name_equations n xs) ts2 [] → Narrows es xs n ts2
-narrows_both es xs n ts0 ts1 ts2 open long a b = record {
-  onward = λ f s. (b.onward f (a.onward f (open f) s.0).0 (names_solved n f xs s.1)).0;
+narrows_both es xs n ts0 ts1 ts2 opened long a b = record {
+  onward = λ f s. (b.onward f (a.onward f (opened f) s.0).0 (names_solved n f xs s.1)).0;
   back = λ g f h. let k = b.back g f h tt in ((a.back k.0 f k.1 tt).2, k.2);
   as_many = b.as_many ∙ a.as_many ∙ long;
 }
 
 pub unsolvable_first : (es : List ShapeEquation) (xs : List ℕ) (n : ℕ) (ts0 : List TypeShape) → ((f : Filling) → FilledBy f f 0 ts0) → NoneSolves ts0 es → IsUnsolvable es xs n
-unsolvable_first es xs n ts0 open h f s = h f (open f) s.0
+unsolvable_first es xs n ts0 opened h f s = h f (opened f) s.0
 
 pub unsolvable_second : (es : List ShapeEquation) (xs : List ℕ) (n : ℕ) (ts0 ts1 : List TypeShape) → ((f : Filling) → FilledBy f f 0 ts0) → Answers ts0 es ts1 []
     → NoneSolves ts1 (name_equations n xs) → IsUnsolvable es xs n
-unsolvable_second es xs n ts0 ts1 open a h f s = h f (a.onward f (open f) s.0).0 (names_solved n f xs s.1)
+unsolvable_second es xs n ts0 ts1 opened a h f s = h f (a.onward f (opened f) s.0).0 (names_solved n f xs s.1)
 
 -- The solutions are the instances that give the holes in question name types.
 pub narrows_most_general : (es : List ShapeEquation) (xs : List ℕ) (n : ℕ) (ts : List TypeShape) → Narrows es xs n ts → (f : Filling) → IsSolution es xs n f ↔ (IsInstance ts f × GivesNames n f xs)
@@ -168,7 +168,7 @@ names_or_holes n f ts [] h k = tt
 names_or_holes n f ts (x ∷ xs) h k = (found_or_hole n f ts x h k.0, names_or_holes n f ts xs h k.1)
 
 pub narrows_unsolvable : (es : List ShapeEquation) (xs : List ℕ) (n : ℕ) (ts : List TypeShape) → Narrows es xs n ts → (AreNamesOrHoles n ts xs → ⊥) → IsUnsolvable es xs n
-narrows_unsolvable es xs n ts h no f s = no (names_or_holes n f ts xs (h.onward f s) s.1)
+narrows_unsolvable es xs n ts h refused f s = refused (names_or_holes n f ts xs (h.onward f s) s.1)
 
 none_named : (t : TypeShape) → IsNameType 0 t → ⊥
 none_named (names s) h = omega arith

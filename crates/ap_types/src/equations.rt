@@ -73,7 +73,7 @@ fn bound_in_names(names: &[u64]) -> Result<usize, Memory>
 
 /// A hole's own shape for each of so many.
 fn open_holes(alloc: Global, count: usize) -> Result<Vec<Shape>, Memory>
-    ensures open { IfOk result (λ v. (f : Filling) → FilledBy f f 0 (map shape_of v.items)) }
+    ensures opened { IfOk result (λ v. (f : Filling) → FilledBy f f 0 (map shape_of v.items)) }
     ensures len { IfOk result (λ v. length v.items ≡ count) }
 {
     let mut holes = Vec::new(alloc);
