@@ -1,13 +1,13 @@
 -- Solving one equation after the other.
-use Rattle.std.proofs.Common.{◌≡◌, ◌<◌, ◌≤◌, ◌+◌, ◌∙◌, ℕ, zero, suc, List, [], ◌∷◌, ◌++◌, map, length, get_or, drop, refl, sym, ap, subst, arith}
+use Rattle.std.proofs.Common.{◌≡◌, ◌<◌, ◌≤◌, ◌+◌, ◌∙◌, ℕ, zero, suc, List, [], ◌∷◌, map, length, get_or, drop, refl, sym, ap, subst, arith}
 use Rattle.std.proofs.lemmas.List.{at_drop_more}
-use Rattle.std.specs.Prelude.{max, slice_index_or}
+use Rattle.std.specs.Prelude.{slice_index_or}
 use Rattle.std.specs.Prelude.{Result, Ok, Err, IfOk, IfErr}
 use Rattle.ap_defs.specs.declared.terms.Shape.{Shape}
-use Rattle.ap_defs.specs.Types.{TypeShape, shape_of, hole, names}
+use Rattle.ap_defs.specs.Types.{TypeShape, shape_of, hole}
 use Rattle.ap_types.specs.declared.errors.TypesError.{TypesError}
 use Rattle.ap_types.specs.declared.errors.TypesError.TheVariants.{Clash}
-use Rattle.ap_types.specs.Equations.{ShapeEquation, ◌≐◌, Filling, filled, Solves, FilledBy, bound_of, equations_bound, equation_of}
+use Rattle.ap_types.specs.Equations.{ShapeEquation, ◌≐◌, Filling, filled, FilledBy, bound_of, equations_bound, equation_of}
 use Rattle.ap_types.specs.Solving.{shape_at}
 use Rattle.ap_types.specs.Steps.{Leads, Answers, NoneSolves}
 use Rattle.ap_types.proofs.ShapeLemmas.{filled_filled, filled_same, occurs_bound}

@@ -1,5 +1,5 @@
 -- Solving ends: each rule leaves fewer holes, or as many and smaller equations.
-use Rattle.std.proofs.Common.{◌≡◌, ◌<◌, ◌≤◌, ◌+◌, ◌*◌, ◌⊎◌, ◌∙◌, ℕ, zero, suc, Bool, true, false, ◌||◌, List, [], ◌∷◌, ◌++◌, map, refl, sym, ap, inl, inr, subst, arith, mul-le-mul}
+use Rattle.std.proofs.Common.{◌≡◌, ◌<◌, ◌≤◌, ◌+◌, ◌*◌, ◌⊎◌, ◌∙◌, ℕ, zero, suc, Bool, true, false, ◌||◌, List, [], ◌∷◌, ◌++◌, map, refl, sym, ap, inl, inr, arith, mul-le-mul}
 use Rattle.std.specs.Prelude.{◌==◌, if◌then◌else◌, max}
 use Rattle.std.proofs.lemmas.Bool.Decides.{eqb_tells}
 use Rattle.ap_defs.specs.Types.{TypeShape, hole, unit, names, base, pair, list, abs}
@@ -9,7 +9,7 @@ use Rattle.ap_types.specs.Steps.{size, size_of, stands_in, count_below, enough, 
 use Rattle.ap_types.proofs.BooleanLemmas.{or_cases, or_if_left, or_if_right, or_grows}
 use Rattle.ap_types.proofs.CountLemmas.{count_grows, count_less}
 use Rattle.ap_types.proofs.RoundLemmas.{Within}
-use Rattle.ap_types.proofs.ShapeLemmas.{size_pos, size_put, bound_put, occurs_put, gone_put, occurs_bound, number_itself}
+use Rattle.ap_types.proofs.ShapeLemmas.{size_put, bound_put, occurs_put, gone_put, occurs_bound, number_itself}
 
 -- what the rule for an equation of size m leaves, with the equation's holes p, all below b
 abbrev pub Shrinks : ℕ → (ℕ → Bool) → ℕ → Rule → Type 0
@@ -155,7 +155,7 @@ pub bound_fewer : (b : ℕ) (front : List ShapeEquation) (t u : TypeShape) (x : 
 unfolding steps_for
 bound_fewer b front t u x v h l =
     let stands : stands_in (front ++ (t ≐ u) ∷ []) x ≡ true =
-        stands_in-append front ((t ≐ u) ∷ []) x ∙ or_if_right (stands_in front x) (stands_in ((t ≐ u) ∷ []) x) (or_if_left (holes_of t u x) false h.3) in
+    stands_in-append front ((t ≐ u) ∷ []) x ∙ or_if_right (stands_in front x) (stands_in ((t ≐ u) ∷ []) x) (or_if_left (holes_of t u x) false h.3) in
     let below : x < b = let k = stands_below (front ++ (t ≐ u) ∷ []) x stands in omega arith in
     enough_fewer (count_below (stands_in (map (put_equation x v) front)) b) (count_below (stands_in (front ++ (t ≐ u) ∷ [])) b) (size_of (map (put_equation x v) front)) (size_of (front ++ (t ≐ u) ∷ []))
     (count_less (stands_in (map (put_equation x v) front)) (stands_in (front ++ (t ≐ u) ∷ [])) b (λ y m e. bound_within front t u x v h.2 y e) x below (gone_put_all x v front h.0) stands)

@@ -1,12 +1,12 @@
 -- Holes that must be name types.
-use Rattle.std.proofs.Common.{◌≡◌, ◌<◌, ◌≤◌, ◌+◌, ◌∙◌, ◌↔◌, ◌⊎◌, ℕ, zero, suc, Bool, true, false, IsTrue, List, [], ◌∷◌, ◌++◌, map, length, refl, sym, ap, inl, inr, subst, arith, length-append}
-use Rattle.std.specs.Prelude.{max, slice_index_or, ◌==◌, if◌then◌else◌}
-use Rattle.std.proofs.lemmas.Bool.Decides.{eqb_tells, nat_tests}
+use Rattle.std.proofs.Common.{◌≡◌, ◌<◌, ◌≤◌, ◌+◌, ◌∙◌, ◌↔◌, ◌⊎◌, ℕ, zero, suc, true, false, List, [], ◌∷◌, ◌++◌, map, length, refl, sym, ap, inl, inr, subst, arith, length-append}
+use Rattle.std.specs.Prelude.{slice_index_or, ◌==◌, if◌then◌else◌}
+use Rattle.std.proofs.lemmas.Bool.Decides.{eqb_tells}
 use Rattle.std.proofs.lemmas.List.{map-append}
 use Rattle.ap_defs.specs.declared.terms.Shape.{Shape}
 use Rattle.ap_defs.specs.declared.terms.Shape.TheVariants as shapes
-use Rattle.ap_defs.specs.Types.{TypeShape, shape_of, hole, unit, names, base, pair, list, abs}
-use Rattle.ap_types.specs.Equations.{ShapeEquation, ◌≐◌, Filling, filled, Solves, FilledBy, IsNameType, GivesNames, IsSolution, IsInstance, bound_of, equations_bound, names_bound, hole_count}
+use Rattle.ap_defs.specs.Types.{TypeShape, shape_of, hole, unit, names}
+use Rattle.ap_types.specs.Equations.{ShapeEquation, Filling, filled, Solves, FilledBy, IsNameType, GivesNames, IsSolution, IsInstance, equations_bound, names_bound, hole_count}
 use Rattle.ap_types.specs.Solving.{shape_at}
 use Rattle.ap_types.specs.Steps.{Answers, NoneSolves}
 use Rattle.ap_types.specs.Assignments.{IsNameOrOpen, AreNames, IsNameOrHole, AreNamesOrHoles, IsUnsolvable, name_equation, name_equations, Narrows}
@@ -124,8 +124,8 @@ narrows_constrained es [] n ts h z k = tt
 narrows_constrained es (x ∷ xs) n ts h z k =
     names_open n ts (x ∷ xs) (positive n z)
     (λ e. let s = (h.back (λ y. unit) (instance_by (λ y. unit) ts) (instance_fills (λ y. unit) ts)).1 in
-        let one : (n == 1) ≡ true = elim (eqb_tells n 1) [ inl w ↦ w.0 | inr w ↦ absurd (w.1 e) ] in
-        rw one at s)
+    let one : (n == 1) ≡ true = elim (eqb_tells n 1) [ inl w ↦ w.0 | inr w ↦ absurd (w.1 e) ] in
+    rw one at s)
     k
   where
     positive : (m : ℕ) → (m ≡ 0 → (x ∷ xs) ≡ []) → 0 < m

@@ -1,14 +1,13 @@
 -- Each rule keeps the fillings that solve an equation.
-use Rattle.std.proofs.Common.{◌≡◌, ◌<◌, ◌≤◌, ◌+◌, ◌∙◌, ◌↔◌, ℕ, zero, suc, Bool, true, false, ◌||◌, List, [], ◌∷◌, ◌++◌, map, refl, sym, ap, inl, inr, subst, arith}
-use Rattle.std.specs.Prelude.{◌==◌, if◌then◌else◌, max}
+use Rattle.std.proofs.Common.{◌≡◌, ◌<◌, ◌∙◌, ◌↔◌, ℕ, suc, true, false, List, [], ◌∷◌, ◌++◌, map, refl, sym, ap, inl, inr, arith}
+use Rattle.std.specs.Prelude.{if◌then◌else◌}
 use Rattle.std.proofs.lemmas.Bool.Decides.{eqb_tells}
 use Rattle.ap_defs.specs.Types.{TypeShape, hole, unit, names, base, pair, list, abs}
-use Rattle.ap_types.specs.Equations.{ShapeEquation, ◌≐◌, Filling, filled, Solves, FilledBy, bound_of, equations_bound}
+use Rattle.ap_types.specs.Equations.{ShapeEquation, ◌≐◌, Filling, filled, Solves, FilledBy}
 use Rattle.ap_types.specs.Solving.{occurs, single, Rule, replace, bind, clash, unless_occurs, rule, put_equation}
 use Rattle.ap_types.specs.Steps.{size}
-use Rattle.ap_types.proofs.BooleanLemmas.{or_cases, or_if_left, or_if_right}
-use Rattle.ap_types.proofs.RoundLemmas.{Within}
-use Rattle.ap_types.proofs.ShapeLemmas.{filled_filled, filled_same, put_absent, single_itself, size_pos, size_occurs, number_itself}
+use Rattle.ap_types.proofs.BooleanLemmas.{or_cases}
+use Rattle.ap_types.proofs.ShapeLemmas.{filled_filled, filled_same, put_absent, single_itself, size_occurs}
 
 -- what a rule leaves to be solved
 abbrev pub RuleHolds : Filling → Rule → Type 0

@@ -1,6 +1,6 @@
 -- Laws of shapes with holes.
-use Rattle.std.proofs.Common.{◌≡◌, ◌<◌, ◌≤◌, ◌+◌, ◌*◌, ◌⊎◌, ◌∙◌, ℕ, zero, suc, Bool, true, false, ◌||◌, List, [], ◌∷◌, refl, sym, ap, ap₂, inl, inr, subst, arith}
-use Rattle.std.specs.Prelude.{◌==◌, if◌then◌else◌, max}
+use Rattle.std.proofs.Common.{◌≡◌, ◌<◌, ◌≤◌, ◌*◌, ◌⊎◌, ◌∙◌, ℕ, Bool, true, false, ◌||◌, refl, sym, ap, ap₂, inl, inr, subst, arith}
+use Rattle.std.specs.Prelude.{◌==◌, if◌then◌else◌}
 use Rattle.std.proofs.lemmas.Bool.Decides.{eqb_tells}
 use Rattle.ap_defs.specs.Types.{TypeShape, hole, unit, names, base, pair, list, abs}
 use Rattle.ap_types.specs.Equations.{Filling, filled, bound_of}

@@ -1,10 +1,10 @@
 -- Each step leads on.
-use Rattle.std.proofs.Common.{◌≡◌, ◌<◌, ◌≤◌, ◌+◌, ◌∙◌, ℕ, List, [], ◌∷◌, ◌++◌, map, length, refl, sym, ap, subst, append-nil}
+use Rattle.std.proofs.Common.{◌≡◌, ◌+◌, ◌∙◌, ℕ, List, [], ◌∷◌, ◌++◌, map, refl, sym, ap, subst, append-nil}
 use Rattle.std.specs.Prelude.{max}
 use Rattle.std.proofs.lemmas.List.{length-map, map-append}
 use Rattle.ap_defs.specs.declared.terms.Shape.{Shape}
 use Rattle.ap_defs.specs.Types.{TypeShape, shape_of}
-use Rattle.ap_types.specs.Equations.{ShapeEquation, ◌≐◌, Filling, filled, Solves, FilledBy, bound_of, equations_bound, equation_of}
+use Rattle.ap_types.specs.Equations.{ShapeEquation, ◌≐◌, Filling, filled, bound_of, equation_of}
 use Rattle.ap_types.specs.Solving.{single, Rule, replace, bind, clash, rule, put_equation}
 use Rattle.ap_types.specs.Steps.{Leads, Advances, NeverSame, NoneSolves, size}
 use Rattle.ap_types.proofs.RuleLemmas.{RuleHolds, rule_holds, Solves-append, put_fills, put_solves, with_hole, fills_before, solves_before, bound_before}
@@ -40,9 +40,11 @@ advances_bind ts front t u x v e =
             let k = (Solves-append f front ((t ≐ u) ∷ [])).0 h in
             let i = holds_as f t u (bind x v) e k.1.0 in
             (put_fills f x v i f 0 ts a, put_solves f x v i front k.0);
-        back = λ g f a h.
-            (with_hole g x v, fills_before g x v f 0 ts a,
-            (Solves-append (with_hole g x v) front ((t ≐ u) ∷ [])).1 (solves_before g x v front h, (solved_as (with_hole g x v) t u (bind x v) e (bound_before g x v s.0), tt)));
+        back = λ g f a h. (
+          with_hole g x v,
+          fills_before g x v f 0 ts a,
+          (Solves-append (with_hole g x v) front ((t ≐ u) ∷ [])).1 (solves_before g x v front h, (solved_as (with_hole g x v) t u (bind x v) e (bound_before g x v s.0), tt)),
+        );
         as_many = length-map ts (filled (single x v));
       };
       bounded = λ b l. bound_bounded b front t u x v s l;

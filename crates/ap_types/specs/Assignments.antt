@@ -1,6 +1,6 @@
 -- What an assignment has for holes that must be name types.
 use Rattle.std.specs.Prelude.{◌≡◌, ◌<◌, ◌≤◌, ℕ, ◌==◌, if◌then◌else◌, List, [], ◌∷◌, map, length}
-use Rattle.ap_defs.specs.Types.{TypeShape, hole, unit, names, base, pair, list, abs}
+use Rattle.ap_defs.specs.Types.{TypeShape, hole, names}
 use Rattle.ap_types.specs.Equations.{ShapeEquation, ◌≐◌, Filling, FilledBy, Solves, IsSolution, hole_count}
 use Rattle.ap_types.specs.Solving.{shape_at}
 

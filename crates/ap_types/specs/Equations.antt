@@ -1,10 +1,9 @@
 -- Equations of shapes, and what solves them.
-use Rattle.std.specs.Prelude.{◌≡◌, ◌<◌, ℕ, zero, suc, List, [], ◌∷◌, max}
+use Rattle.std.specs.Prelude.{◌≡◌, ◌<◌, ℕ, suc, List, [], ◌∷◌, max}
 use Rattle.ap_defs.specs.declared.terms.Shape.{Shape}
 use Rattle.ap_defs.specs.Types.{TypeShape, shape_of, hole, unit, names, base, pair, list, abs}
 
 infix 4 ◌≐◌
-
 -- Two shapes that are to become the same.
 pub data ShapeEquation : Type 0 where
   ◌≐◌ : TypeShape → TypeShape → ShapeEquation

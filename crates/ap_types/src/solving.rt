@@ -310,7 +310,10 @@ fn run(alloc: Global, first: Stage) -> Result<Vec<Shape>, TypesError>
     'steps: while let Some((left, right)) = stage.equations.pop() {
         stage = advance(alloc, stage, left, right)?;
     }
-    let Stage { holes, equations: _ } = stage;
+    let Stage {
+        holes,
+        equations: _,
+    } = stage;
     Ok(holes)
 }
 

@@ -1,4 +1,4 @@
-use Rattle.std.proofs.Common.{◌≡◌, ◌≤◌, ◌<◌, ◌∙◌, ℕ, [], List, true, false, map, length, sym, ap, subst, rules, arith}
+use Rattle.std.proofs.Common.{◌≡◌, ◌<◌, [], List, true, false, map, length, sym, ap, subst, rules, arith}
 use Rattle.std.proofs.lemmas.List.{nil_from_length}
 use Rattle.ap_defs.specs.Types.{TypeShape, shape_of}
 use Rattle.ap_defs.specs.declared.terms.Shape.{Shape}
@@ -18,10 +18,10 @@ pub returns-then-not-are_names_or_holes-clause-clash : goal.returns-then-not-are
 returns-then-not-are_names_or_holes-clause-clash c =
     let refused : c.are_names_or_holes.result ≡ false = search rules in
     λ e. narrows_unsolvable (map equation_of c.args.equations.now) c.args.names.now c.args.name_types (map shape_of c.in_ok-holes.holes.items) c.in_ok-holes.ensures.ok
-        (λ k.
-            let found : c.are_names_or_holes.result ≡ true =
-                c.are_names_or_holes.ensures.1 (subst (λ (s : List Shape). AreNamesOrHoles c.args.name_types (map shape_of s) c.args.names.now) (sym c.as_slice.ensures.value) k) in
-            cc)
+    (λ k.
+    let found : c.are_names_or_holes.result ≡ true =
+    c.are_names_or_holes.ensures.1 (subst (λ (s : List Shape). AreNamesOrHoles c.args.name_types (map shape_of s) c.args.names.now) (sym c.as_slice.ensures.value) k) in
+    cc)
 
 named : (c : goal.After-of) → (c.args.name_types ≡ 0 → c.args.names.now ≡ [])
 named c = elim c.else-name_types-eq0.branch [
@@ -39,7 +39,7 @@ names_are : (c : goal.After-of) → AreNames c.args.name_types (map shape_of c.o
 names_are c =
     let found : c.are_names_or_holes.result ≡ true = search rules in
     let holes : AreNamesOrHoles c.args.name_types (map shape_of c.in_ok-holes.holes.items) c.args.names.now =
-        subst (λ (s : List Shape). AreNamesOrHoles c.args.name_types (map shape_of s) c.args.names.now) c.as_slice.ensures.value (c.are_names_or_holes.ensures.0 found) in
+    subst (λ (s : List Shape). AreNamesOrHoles c.args.name_types (map shape_of s) c.args.names.now) c.as_slice.ensures.value (c.are_names_or_holes.ensures.0 found) in
     narrows_constrained (map equation_of c.args.equations.now) c.args.names.now c.args.name_types (map shape_of c.of.result) (narrow c) (named c)
     (subst (λ (ts : List TypeShape). AreNamesOrHoles c.args.name_types ts c.args.names.now) (sym (same_shapes c)) holes)
 

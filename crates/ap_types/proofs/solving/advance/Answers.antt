@@ -1,4 +1,4 @@
-use Rattle.std.proofs.Common.{◌≡◌, ◌∙◌, [], ◌∷◌, ◌++◌, List, map, refl, sym, ap, append_assoc}
+use Rattle.std.proofs.Common.{◌≡◌, ◌∙◌, [], ◌∷◌, ◌++◌, List, map, ap, append_assoc}
 use Rattle.ap_defs.specs.Types.{shape_of}
 use Rattle.ap_types.specs.Equations.{ShapeEquation, equation_of}
 use Rattle.ap_types.proofs.StepLemmas.{advances_replace_as, advances_drop, advances_bind_as, never_clash}

@@ -1,8 +1,8 @@
-use Rattle.std.proofs.Common.{◌≡◌, ◌≤◌, ◌∙◌, [], ◌∷◌, ◌++◌, List, map, ap, subst, arith}
+use Rattle.std.proofs.Common.{◌≡◌, ◌≤◌, [], ◌∷◌, ◌++◌, List, map, subst}
 use Rattle.std.proofs.lemmas.Result.{err_from_is_err_and}
 use Rattle.ap_defs.specs.Types.{shape_of}
 use Rattle.ap_types.specs.Equations.{ShapeEquation, ◌≐◌, equation_of, equations_bound}
-use Rattle.ap_types.specs.Steps.{Leads, Advances}
+use Rattle.ap_types.specs.Steps.{Leads}
 use Rattle.ap_types.proofs.StepLemmas.{none_at_clash, leads_on, popped}
 use Rattle.ap_types.proofs.solving.run.Goals as goal
 
@@ -14,9 +14,9 @@ returns-in_err-stage-clause-clash c =
     let now = map shape_of c.steps.stage.holes.items in
     let front = map equation_of c.pop.new.self.items in
     let split : map equation_of c.steps.stage.equations.items ≡ front ++ (shape_of c.in-Some.left ≐ shape_of c.in-Some.right) ∷ [] =
-        popped c.steps.stage.equations.items c.pop.new.self.items c.in-Some.left c.in-Some.right c.in-Some.ensures.items in
+    popped c.steps.stage.equations.items c.pop.new.self.items c.in-Some.left c.in-Some.right c.in-Some.ensures.items in
     rw (p.1, p.2) (λ i. none_at_clash ts first now front (shape_of c.in-Some.left) (shape_of c.in-Some.right)
-        (subst (λ (es : List ShapeEquation). Leads ts first now es) split c.steps.invariant.0) (c.in_err-stage.ensures.clash i))
+    (subst (λ (es : List ShapeEquation). Leads ts first now es) split c.steps.invariant.0) (c.in_err-stage.ensures.clash i))
 
 pub steps-preserved : goal.steps-preserved
 steps-preserved c =
@@ -26,8 +26,9 @@ steps-preserved c =
     let front = map equation_of c.pop.new.self.items in
     let last = front ++ (shape_of c.in-Some.left ≐ shape_of c.in-Some.right) ∷ [] in
     let split : map equation_of c.steps.stage.equations.items ≡ front ++ (shape_of c.in-Some.left ≐ shape_of c.in-Some.right) ∷ [] =
-        popped c.steps.stage.equations.items c.pop.new.self.items c.in-Some.left c.in-Some.right c.in-Some.ensures.items in
-    let advance = c.in_ok-stage.ensures.ok in
-    (leads_on ts first now last (map shape_of c.in_ok-stage.stage.holes.items) (map equation_of c.in_ok-stage.stage.equations.items)
-        (subst (λ (es : List ShapeEquation). Leads ts first now es) split c.steps.invariant.0) advance.leads,
-    advance.bounded (equations_bound first) (subst (λ (es : List ShapeEquation). equations_bound es ≤ equations_bound first) split c.steps.invariant.1))
+    popped c.steps.stage.equations.items c.pop.new.self.items c.in-Some.left c.in-Some.right c.in-Some.ensures.items in
+    let advance = c.in_ok-stage.ensures.ok in (
+      leads_on ts first now last (map shape_of c.in_ok-stage.stage.holes.items) (map equation_of c.in_ok-stage.stage.equations.items)
+          (subst (λ (es : List ShapeEquation). Leads ts first now es) split c.steps.invariant.0) advance.leads,
+      advance.bounded (equations_bound first) (subst (λ (es : List ShapeEquation). equations_bound es ≤ equations_bound first) split c.steps.invariant.1),
+    )

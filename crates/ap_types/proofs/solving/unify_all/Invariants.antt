@@ -1,5 +1,5 @@
 -- The equations that are left are still to be solved, with the holes as they are.
-use Rattle.std.proofs.Common.{◌≤◌, [], map, drop, length}
+use Rattle.std.proofs.Common.{◌≤◌, map, drop, length}
 use Rattle.ap_defs.specs.Types.{shape_of}
 use Rattle.ap_types.specs.Equations.{equation_of, equations_bound}
 use Rattle.ap_types.specs.Steps.{Answers}

@@ -1,7 +1,7 @@
-use Rattle.std.proofs.Common.{◌≡◌, ◌≤◌, ◌∙◌, [], ◌∷◌, ◌++◌, List, map, length, refl, sym, ap, subst, arith}
+use Rattle.std.proofs.Common.{◌≡◌, ◌≤◌, ◌∙◌, [], ◌∷◌, ◌++◌, List, map, length, ap, arith}
 use Rattle.std.proofs.lemmas.List.{length-map}
 use Rattle.ap_defs.specs.declared.terms.Shape.{Shape}
-use Rattle.ap_defs.specs.Types.{TypeShape, shape_of}
+use Rattle.ap_defs.specs.Types.{shape_of}
 use Rattle.ap_types.specs.Equations.{equation_of, bound_of, filled}
 use Rattle.ap_types.specs.Solving.{shape_at}
 use Rattle.ap_types.proofs.AnswerLemmas.{one_equation, unified_ok, unified_err}
