@@ -1,0 +1,13 @@
+pub mod BooleanLemmas
+pub mod CountLemmas
+pub mod RoundLemmas
+pub mod MarkLemmas
+pub mod QuestionLemmas
+pub mod StillLemmas
+pub mod WitnessLemmas
+pub mod ShapeLemmas
+pub mod RuleLemmas
+pub mod MeasureLemmas
+pub mod StepLemmas
+pub mod AnswerLemmas
+pub mod NameLemmas

@@ -1,0 +1,10 @@
+pub mod Rounds
+pub mod Inhabited
+pub mod Holding
+pub mod Questions
+pub mod Marks
+pub mod Statements
+pub mod Equations
+pub mod Solving
+pub mod Steps
+pub mod Assignments

@@ -1,0 +1,10 @@
+//! Types: equations of types, which types may hold names of a sort, and which are inhabited.
+#![tactic(auto)]
+
+pub mod answers;
+pub mod equations;
+pub mod errors;
+mod rounds;
+mod solving;
+#[cfg(test)]
+mod tests;
