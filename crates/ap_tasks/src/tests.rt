@@ -27,9 +27,9 @@ fn kid(alloc: Global, k: u32) -> Result<Placed<Ternary>, Memory>
 fn one_of_three_is_left(rt: HostRuntime) -> Result<(), Fail> {
     let alloc = rt.alloc();
     let (mut owner, mut thief) = tasks::<Ternary>(alloc)?;
-    for k in 1..4 {
-        assert!(rt; owner.push(kid(alloc, k)?).is_ok());
-    }
+    assert!(rt; owner.push(kid(alloc, 1)?).is_ok());
+    assert!(rt; owner.push(kid(alloc, 2)?).is_ok());
+    assert!(rt; owner.push(kid(alloc, 3)?).is_ok());
     let Stolen::Got(first) = thief.steal() else {
         panic!(rt; "nothing was stolen")
     };
