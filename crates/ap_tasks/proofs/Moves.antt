@@ -2,10 +2,10 @@
 use Rattle.std.proofs.Common.{◌≡◌, ◌≢◌, ℕ, zero, suc, ◌+◌, ◌-◌, ◌<◌, ◌≤◌, ◌⊎◌, List, [], ◌∷◌, ◌++◌, length, set, sym, refl, ap, ◌∙◌, subst, inl, inr, ⊎_elim, length-append, arith}
 use mathlib.Core.Option.{some, some-injective, some-ne-none}
 use lib.ListN.{get_elem?}
-use Rattle.crossbeam_deque.specs.Tasks.{Pushes, Takes, Pops, Finds, FindsFew, Forks, Merges, Blocks, Learns}
-use Rattle.crossbeam_deque.proofs.Lists.{at_set, at_snoc}
+use Rattle.crossbeam_deque.specs.Tasks.{Pushes, Takes, Pops, Finds, FindsFew, Forks, Merges}
+use Rattle.crossbeam_deque.proofs.Lists.{at_set}
 use Rattle.ap_tasks.specs.declared.hand.Hand.{Hand}
-use Rattle.ap_tasks.specs.Rule.{hand, weigh, total, IsQuiet, AreQuiet, Balanced, Permits, PermitsEmpty, PermitsFew, Pushed, Popped, Robbed}
+use Rattle.ap_tasks.specs.Rule.{hand, weigh, total, IsQuiet, AreQuiet, Balanced, PermitsEmpty, PermitsFew, Pushed, Popped, Robbed}
 
 pub weigh-append : (h : List ℕ → ℕ) (xs ys : List (List ℕ)) → weigh h (xs ++ ys) ≡ weigh h xs + weigh h ys
 weigh-append h [] ys = omega arith

@@ -1,5 +1,5 @@
-use Rattle.std.proofs.Common.{arith, ◌≡◌, ◌∙◌, ◌∷◌, [], ap, sym}
-use Rattle.crossbeam_deque.specs.Handles.{worker_deque, worker_view}
+use Rattle.std.proofs.Common.{arith, ◌∙◌, ap, sym}
+use Rattle.crossbeam_deque.specs.Handles.{worker_view}
 use Rattle.ap_tasks.specs.Rule.{weigh}
 use Rattle.ap_tasks.proofs.Moves.{weigh-append}
 use Rattle.ap_tasks.proofs.Closings.{parts_of-last, stolen_of-last, of_last}

@@ -1,7 +1,7 @@
-use Rattle.std.proofs.Common.{arith, ◌≡◌, ◌-◌, ◌+◌, ◌∙◌, [], ap, sym, subst}
+use Rattle.std.proofs.Common.{arith, ◌≡◌, ◌-◌, ◌+◌, ◌∙◌, [], ap, subst}
 use Rattle.std.specs.declared.alloc.Global.{Global}
 use Rattle.atomic_blocks.specs.Lent.{RowsId}
-use Rattle.crossbeam_deque.specs.Handles.{IsPassOf, worker_deque, worker_view}
+use Rattle.crossbeam_deque.specs.Handles.{IsPassOf}
 use Rattle.ap_tasks.specs.Rule.{hand}
 use Rattle.ap_tasks.specs.declared.hand.Hand.{Hand}
 use Rattle.ap_tasks.proofs.Closings.{forks_at, cut_view}

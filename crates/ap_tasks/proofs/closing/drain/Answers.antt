@@ -1,4 +1,4 @@
-use Rattle.ap_tasks.proofs.Closings.{pops_at, finds_at, drained}
+use Rattle.ap_tasks.proofs.Closings.{pops_at, drained}
 use Rattle.ap_tasks.proofs.closing.drain.Goals as goal
 
 pub pop_as-requires-clause-lifo : goal.pop_as-requires-clause-lifo

@@ -1,4 +1,4 @@
-use Rattle.std.proofs.Common.{◌≡◌, ◌≤◌, ◌+◌, ◌-◌, ◌++◌, length, vec_len, vec_capacity}
+use Rattle.std.proofs.Common.{◌≡◌, ◌≤◌, ◌+◌, ◌-◌, ◌++◌, length, vec_capacity}
 use Rattle.crossbeam_deque.specs.Handles.{worker_view}
 use Rattle.ap_tasks.specs.Rule.{hand}
 use Rattle.ap_tasks.specs.Owners.{IsFirst}

@@ -1,10 +1,9 @@
-use Rattle.std.proofs.Common.{rules, arith, ap, subst, ◌≡◌}
+use Rattle.std.proofs.Common.{rules, subst, ◌≡◌}
 use Rattle.std.specs.declared.alloc.Global.{Global}
 use Rattle.atomic_blocks.specs.Lent.{RowsId}
 use Rattle.crossbeam_deque.specs.Handles.{worker_deque, stealer_deque}
 use Rattle.ap_tasks.specs.Ends.{AreSpare}
 use Rattle.ap_tasks.proofs.Closings.{forks_at}
-use Rattle.ap_tasks.proofs.Moves.{begins}
 use Rattle.ap_tasks.proofs.closing.tasks.Goals as goal
 
 pub another-pass-requires : goal.another-pass-requires
