@@ -18,5 +18,5 @@ pub use seat::Seat;
 pub use shared::{Raw, SharedBook};
 pub use view::{Own, Stage, View};
 
-
-
+#[cfg(test)]
+mod tests;
