@@ -1,10 +1,11 @@
 #!/bin/sh
-# Runs the program on texts of facts of the greatest size, of half and of a quarter of it, and prints
-# the seconds and the peak memory of each: read.sh [facts|names]
+# Runs the program on a text of BYTES bytes, on one of half and on one of a quarter, and prints what
+# each took, the greatest memory too: read.sh [facts|names [BYTES]]. BYTES is the limit if left out.
 set -eu
 
 bench=$(dirname -- "$(readlink -f -- "$0")")
 shape=${1:-facts}
+bytes=${2:-16777216}
 work=$(mktemp -d)
 trap 'rm -rf "$work"' EXIT
 
@@ -12,7 +13,7 @@ trap 'rm -rf "$work"' EXIT
 "$bench/../alphaprolog" run --depth 1 < "$bench/../examples/first.apl" > /dev/null
 program=$bench/../crates/ap_cli/out/ap_cli
 
-for size in 16777216 8388608 4194304; do
+for size in "$bytes" $((bytes / 2)) $((bytes / 4)); do
     python3 "$bench/plain_text.py" "$size" "$shape" > "$work/text"
     python3 "$bench/measure.py" "$work/text" "$program" run --depth 1
 done

@@ -198,7 +198,7 @@ same_itself [] = refl
 same_itself (x ∷ xs) = rw (eq-eqb x x refl, same_itself xs) refl
 
 -- an item that is open at p
-abbrev Has : List ℕ → List Item → Type 0
+abbrev pub Has : List ℕ → List Item → Type 0
 Has p xs = 0 < undone (is_it p) xs
 
 undone_both : (h : List ℕ → ℕ) (xs ys : List Item) → undone h (xs ++ ys) ≡ undone h xs + undone h ys

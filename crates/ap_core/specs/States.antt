@@ -1,0 +1,28 @@
+-- The state of all workers between two events: a hand and a deque for each, and what has ended.
+use Rattle.std.specs.Prelude.{ℕ, zero, suc, List, [], ◌∷◌, ◌++◌, slice_set}
+use Rattle.ap_paths.specs.Merging.{Ending}
+
+pub record State : Type 0 where
+  pub hands : List (List (List ℕ))
+  pub deques : List (List (List ℕ))
+  pub ends : List Ending
+
+abbrev pub state : List (List (List ℕ)) → List (List (List ℕ)) → List Ending → State
+state hands deques ends = record { hands = hands; deques = deques; ends = ends }
+
+abbrev pub joined_all : List (List (List ℕ)) → List (List ℕ)
+joined_all [] = []
+joined_all (l ∷ ls) = l ++ joined_all ls
+
+-- the paths in hands, then those in deques
+abbrev pub pending : State → List (List ℕ)
+pending s = joined_all s.hands ++ joined_all s.deques
+
+-- n empty lists
+abbrev pub nones : ℕ → List (List (List ℕ))
+nones zero = []
+nones (suc n) = [] ∷ nones n
+
+-- at the start worker 0 has the empty path in its hand
+abbrev pub start : ℕ → State
+start n = state (slice_set (nones n) 0 ([] ∷ [])) (nones n) []

@@ -1,0 +1,59 @@
+-- The events: where each is permitted, and what it does.
+use Rattle.std.specs.Prelude.{◌≡◌, ◌≢◌, ℕ, Option, Some, List, [], ◌∷◌, ◌++◌, slice_get, slice_set}
+use Rattle.ap_defs.specs.declared.paths.Event.{Event}
+use Rattle.ap_defs.specs.declared.paths.Event.TheVariants.{Push, Pop, Steal, Split, Done}
+use Rattle.ap_paths.specs.History.{kids_of}
+use Rattle.ap_paths.specs.Trees.{Choices, Outputs, AreKids}
+use Rattle.ap_paths.specs.Merging.{insert}
+use Rattle.ap_core.specs.States.{State, state}
+
+-- the last path in the hand of w goes to the back of its deque
+abbrev pub Pushes : State → ℕ → State → Type 0
+Pushes s w t =
+    (rest : List (List ℕ)) × (p : List ℕ) × (deque : List (List ℕ)) × (slice_get s.hands w ≡ Some (rest ++ p ∷ [])) × (slice_get s.deques w ≡ Some deque)
+    × (t ≡ state (slice_set s.hands w rest) (slice_set s.deques w (deque ++ p ∷ [])) s.ends)
+
+-- the hand of w is empty, and the path at the back of its deque comes there
+abbrev pub Pops : State → ℕ → State → Type 0
+Pops s w t =
+    (rest : List (List ℕ)) × (p : List ℕ) × (slice_get s.hands w ≡ Some []) × (slice_get s.deques w ≡ Some (rest ++ p ∷ []))
+    × (t ≡ state (slice_set s.hands w (p ∷ [])) (slice_set s.deques w rest) s.ends)
+
+-- the hand of w is empty, and the path at the front of another deque comes there
+abbrev pub Steals : State → ℕ → ℕ → State → Type 0
+Steals s w from t =
+    (rest : List (List ℕ)) × (p : List ℕ) × (slice_get s.hands w ≡ Some []) × (slice_get s.deques from ≡ Some (p ∷ rest)) × (from ≢ w)
+    × (t ≡ state (slice_set s.hands w (p ∷ [])) (slice_set s.deques from rest) s.ends)
+
+-- the first path in the hand of w is replaced by its kids, which leave out only choices with no outputs
+abbrev pub Splits : Choices → Outputs → State → ℕ → List ℕ → State → Type 0
+Splits c at s w ks t =
+    (rest : List (List ℕ)) × (p : List ℕ) × (slice_get s.hands w ≡ Some (p ∷ rest)) × AreKids c at p ks
+    × (t ≡ state (slice_set s.hands w (kids_of p ks ++ rest)) s.deques s.ends)
+
+-- the first path in the hand of w ends, with the outputs below it
+abbrev pub Ends : Outputs → State → ℕ → State → Type 0
+Ends at s w t =
+    (rest : List (List ℕ)) × (p : List ℕ) × (slice_get s.hands w ≡ Some (p ∷ rest))
+    × (t ≡ state (slice_set s.hands w rest) s.deques (insert p (at p) s.ends))
+
+-- the event is permitted, and leads from one state to the next
+abbrev pub IsStep : Choices → Outputs → State → Event → State → Type 0
+IsStep c at s (Push w) t = Pushes s w t
+IsStep c at s (Pop w) t = Pops s w t
+IsStep c at s (Steal w from) t = Steals s w from t
+IsStep c at s (Split w ks) t = Splits c at s w ks t
+IsStep c at s (Done w) t = Ends at s w t
+
+-- the events are permitted, one after another, and lead from one state to another
+abbrev pub AreSteps : Choices → Outputs → State → List Event → State → Type 0
+AreSteps c at s [] t = t ≡ s
+AreSteps c at s (e ∷ es) t = (u : State) × IsStep c at s e u × AreSteps c at u es t
+
+-- the event is not permitted
+abbrev pub IsRefused : Choices → Outputs → State → Event → Type 0
+IsRefused c at s e = (t : State) → IsStep c at s e t → ⊥
+
+-- the events are permitted up to one that is not
+abbrev pub StopsAt : Choices → Outputs → State → List Event → Type 0
+StopsAt c at s events = (es : List Event) × (e : Event) × (rest : List Event) × (u : State) × (events ≡ es ++ e ∷ rest) × AreSteps c at s es u × IsRefused c at u e

@@ -1,0 +1,35 @@
+-- The entries that a list of events makes.
+use Rattle.std.specs.Prelude.{◌≡◌, ℕ, ◌<◌, Option, Some, List, [], ◌∷◌, ◌++◌, slice_get}
+use Rattle.ap_defs.specs.declared.paths.Event.{Event}
+use Rattle.ap_defs.specs.declared.paths.Event.TheVariants.{Push, Pop, Steal, Split, Done}
+use Rattle.ap_paths.specs.Entries.{TreeEntry, split, done, stop}
+use Rattle.ap_paths.specs.History.{kids_of, seat_of}
+use Rattle.ap_paths.specs.Trees.{Choices, Outputs}
+use Rattle.ap_core.specs.States.{State}
+use Rattle.ap_core.specs.Steps.{IsStep}
+
+-- the entries that an event makes at this state: one where a path is split or ends
+abbrev pub Makes : Outputs → State → Event → List TreeEntry → Type 0
+Makes at s (Push w) es = es ≡ []
+Makes at s (Pop w) es = es ≡ []
+Makes at s (Steal w from) es = es ≡ []
+Makes at s (Split w ks) es = (p : List ℕ) × (rest : List (List ℕ)) × (slice_get s.hands w ≡ Some (p ∷ rest)) × (es ≡ split w p ks ∷ [])
+Makes at s (Done w) es = (p : List ℕ) × (rest : List (List ℕ)) × (slice_get s.hands w ≡ Some (p ∷ rest)) × (es ≡ done w p (at p) ∷ [])
+
+-- the events are permitted, lead from s to t, and make these entries, in order
+abbrev pub Leads : Choices → Outputs → State → List Event → State → List TreeEntry → Type 0
+Leads c at s [] t history = (t ≡ s) × (history ≡ [])
+Leads c at s (e ∷ es) t history = (u : State) × (made : List TreeEntry) × (later : List TreeEntry) × IsStep c at s e u × Makes at s e made × Leads c at u es t later × (history ≡ made ++ later)
+
+-- the numbers of all seats are below n
+abbrev pub AreSeats : ℕ → List TreeEntry → Type 0
+AreSeats n [] = Unit {0}
+AreSeats n (e ∷ es) = (seat_of e < n) × AreSeats n es
+
+-- each entry is of the first of the open paths, whose kids take its place: of the least one, as kids ascend
+abbrev pub IsInOrder : List (List ℕ) → List TreeEntry → Type 0
+IsInOrder ps [] = Unit {0}
+IsInOrder [] (e ∷ es) = ⊥
+IsInOrder (p ∷ ps) (split seat q ks ∷ es) = (q ≡ p) × IsInOrder (kids_of p ks ++ ps) es
+IsInOrder (p ∷ ps) (done seat q os ∷ es) = (q ≡ p) × IsInOrder ps es
+IsInOrder (p ∷ ps) (stop seat ∷ es) = ⊥

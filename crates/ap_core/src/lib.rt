@@ -1,0 +1,11 @@
+//! The core of a search: what its workers do, event by event.
+#![tactic(auto)]
+
+mod kids;
+mod laws;
+mod playing;
+mod steps;
+mod workers;
+
+pub use laws::{are_in_order, are_permitted, stays_whole};
+pub use playing::play;

@@ -1,0 +1,3 @@
+pub mod SwappingLemmas
+pub mod PermLemmas
+pub mod LookupLemmas

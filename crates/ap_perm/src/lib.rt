@@ -1,0 +1,7 @@
+//! Permutations of names, and lookups of what variables are bound to.
+#![tactic(auto)]
+
+pub mod laws;
+pub mod look;
+pub mod perm;
+pub mod swappings;
