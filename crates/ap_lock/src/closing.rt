@@ -11,7 +11,7 @@ ghost use Rattle.ap_lock.specs.Seats.{book_id, seats_of, AreOf, AreLogged, AreMa
 use crate::logs::make_logs;
 use crate::plays::{Cut, Unite};
 use crate::seat::Seat;
-use crate::shared::{SharedBook, Raw};
+use crate::shared::{Raw, SharedBook};
 use ap_book::Book;
 use ap_defs::lists::List;
 use ap_defs::memory::Memory;

@@ -8,7 +8,6 @@ use crate::view::View;
 use ap_book::Book;
 use atomic_table::{Join, Play, Split, TableRule};
 
-
 /// The rule: the words count the tickets that were drawn and served, the book is at home or with the
 /// one seat whose ticket is served, and its history begins with what each seat has seen.
 pub struct Rule;

@@ -10,9 +10,9 @@ ghost use Rattle.ap_book.specs.Answers.{Enters, EntersDone};
 ghost use Rattle.ap_lock.specs.Turns.{Begins};
 ghost use Rattle.ap_lock.specs.Seats.{book_id, SameSeat, IsTurn};
 
+use crate::shared::{Raw, SharedBook};
 use ap_book::{BookError, DoneError};
 use ap_defs::paths::{Out, Path, Progress};
-use crate::shared::{SharedBook, Raw};
 use std::alloc::Global;
 use std::marker::Model;
 use std::sync::Wait;

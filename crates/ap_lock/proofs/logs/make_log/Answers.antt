@@ -14,8 +14,8 @@ loop-entry-preserved c =
     let place = v.1 in
     let grown : c.note.new.places.items ≡ c.loop-entry.places.items ++ places_from c.loop-entry.place n (e ∷ []) = c.in_ok-note.ensures in (
       grown ∙ ap (λ (l : List ℕ). l ++ places_from c.loop-entry.place n (e ∷ [])) v.0
-      ∙ ap (λ (k : ℕ). places_of n (take i h) ++ places_from k n (e ∷ [])) place
-      ∙ ap (λ (x : Entry). places_of n (take i h) ++ places_from i n (x ∷ [])) c.entry-item.is
-      ∙ sym (one_more n i e h c.loop-entry-test.true),
+          ∙ ap (λ (k : ℕ). places_of n (take i h) ++ places_from k n (e ∷ [])) place
+          ∙ ap (λ (x : Entry). places_of n (take i h) ++ places_from i n (x ∷ [])) c.entry-item.is
+          ∙ sym (one_more n i e h c.loop-entry-test.true),
       omega arith,
     )
