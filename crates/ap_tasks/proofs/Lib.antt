@@ -1,0 +1,4 @@
+pub mod Moves
+pub mod Spares
+pub mod Closings
+pub mod Placing

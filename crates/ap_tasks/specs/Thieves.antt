@@ -1,0 +1,16 @@
+-- What a try to steal says.
+use Rattle.std.specs.Prelude.{◌≡◌, ◌<◌, ◌⊎◌, [], ◌∷◌, ◌++◌}
+use Rattle.ap_tasks.specs.declared.hand.Hand.{Hand}
+use Rattle.ap_tasks.specs.declared.thief.Stolen.{Stolen}
+use Rattle.ap_tasks.specs.declared.thief.Stolen.TheVariants.{Got, Empty, Again}
+use Rattle.ap_tasks.specs.Ends.{ThiefView}
+use Rattle.ap_tasks.specs.Rule.{PermitsFew}
+
+-- the rule permits a deque of at most one path beside a view that has stolen these
+abbrev pub FewBeside : ThiefView → Type 0
+FewBeside t = (v : Hand) × (v.stolen ≡ t.stolen) × PermitsFew v
+
+abbrev pub Stole : {W : Type 0} → ThiefView → Stolen W → ThiefView → Type 0
+Stole old (Got p) new = new.stolen ≡ old.stolen ++ p ∷ []
+Stole old Empty new = (new.stolen ≡ old.stolen) × FewBeside old
+Stole old Again new = (new.stolen ≡ old.stolen) × ((old.known < new.known) ⊎ FewBeside old)
