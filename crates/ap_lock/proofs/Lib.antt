@@ -1,0 +1,7 @@
+pub mod Counts
+pub mod Places
+pub mod Steps
+pub mod Allowed
+pub mod Shutting
+pub mod Endings
+pub mod Logging

@@ -1,0 +1,115 @@
+//! The seats of a shared book, and what they ask of it.
+
+ghost use Rattle.std.specs.Prelude.{◌≡◌, List as list, [], ◌∷◌, ◌++◌, if◌then◌else◌};
+ghost use Rattle.ap_defs.specs.declared.paths.Entry.{Entry};
+ghost use Rattle.ap_defs.specs.declared.paths.Entry.TheVariants.{Split, Done, Stop};
+ghost use Rattle.ap_paths.specs.Entries.{entries_of};
+ghost use Rattle.ap_paths.specs.Trees.{Ascends};
+ghost use Rattle.ap_paths.specs.History.{has_stop, progress_of};
+ghost use Rattle.ap_book.specs.Answers.{Enters, EntersDone};
+ghost use Rattle.ap_lock.specs.Turns.{Begins};
+ghost use Rattle.ap_lock.specs.Seats.{book_id, SameSeat, IsTurn};
+
+use crate::shared::{Raw, SharedBook};
+use ap_book::{BookError, DoneError};
+use ap_defs::paths::{Out, Path, Progress};
+use std::alloc::Global;
+use std::marker::Model;
+use std::sync::Wait;
+
+/// A worker's place at a shared book. Contracts see it as its book, its number and the history as it
+/// last saw it; its log is the places of its own entries there.
+#[derive(Drop)]
+pub struct Seat {
+    pub(crate) number: u32,
+    pub(crate) raw: Raw,
+}
+
+impl Model for Seat {
+    ghost use Rattle.ap_lock.specs.Seats.{SeatView, seat_view, IsSeat};
+
+    ghost Value = { SeatView };
+
+    ghost use Rattle.ap_defs.specs.contracts.paths.Entry as e;
+    ghost use Rattle.ap_lock.specs.Seats.{seat_code};
+
+    ghost coded = { seat_code e.the_row.coded };
+
+    ghost view = { λ s. seat_view s.number s.raw };
+
+    ghost invariant = { λ s. IsSeat s.number s.raw };
+}
+
+impl SharedBook {
+    /// How far the search is. As each call on a seat it takes one turn of the lock, at a history that
+    /// begins with all that the seat has seen, and answers what the book answers there. It may wait,
+    /// and takes no memory.
+    pub fn status<R: Wait>(&self, rt: &R, seat: &mut Seat) -> Progress
+        requires { seat.old.book ≡ book_id self.now }
+        ensures same { SameSeat seat.old seat.new }
+        ensures turn { IsTurn seat.old seat.new.seen }
+        ensures answer { result ≡ progress_of (entries_of seat.new.seen) }
+    {
+        let book = self.open(rt, &mut seat.raw);
+        let answer = book.status();
+        self.shut(&mut seat.raw, book);
+        answer
+    }
+
+    /// Replaces an open path by its kids, which ascend strictly from at least 1, in one turn. It may
+    /// wait.
+    ///
+    /// `NotOpen` comes exactly where the path is not open at that turn, and `Memory` only where it
+    /// is. After an error no entry was made.
+    pub fn split<R: Wait>(
+        &self,
+        rt: &R,
+        alloc: Global,
+        seat: &mut Seat,
+        path: &Path,
+        kids: &[u32],
+    ) -> Result<(), BookError>
+        requires seat { seat.old.book ≡ book_id self.now }
+        requires kids { Ascends 1 kids.now }
+        ensures same { SameSeat seat.old seat.new }
+        ensures turn { (turn : list Entry) × IsTurn seat.old turn × Enters turn path.now (Split seat.old.number path.now kids.now) result seat.new.seen }
+    {
+        let mut book = self.open(rt, &mut seat.raw);
+        let answer = book.split(alloc, seat.number, path, kids);
+        self.shut(&mut seat.raw, book);
+        answer
+    }
+
+    /// Ends an open path, with the outputs below it, in one turn. It may wait.
+    ///
+    /// `NotOpen` comes exactly where the path is not open at that turn, and `Memory` only where it
+    /// is. After an error no entry was made, and the outputs come back.
+    pub fn done<R: Wait>(
+        &self,
+        rt: &R,
+        alloc: Global,
+        seat: &mut Seat,
+        path: &Path,
+        outs: Vec<Out>,
+    ) -> Result<(), DoneError>
+        requires { seat.old.book ≡ book_id self.now }
+        ensures same { SameSeat seat.old seat.new }
+        ensures turn { (turn : list Entry) × IsTurn seat.old turn × EntersDone turn path.now outs.items (Done seat.old.number path.now outs.items) result seat.new.seen }
+    {
+        let mut book = self.open(rt, &mut seat.raw);
+        let answer = book.done(alloc, seat.number, path, outs);
+        self.shut(&mut seat.raw, book);
+        answer
+    }
+
+    /// Adds a Stop in one turn, unless one stands. It may wait, and takes no memory.
+    pub fn stop<R: Wait>(&self, rt: &R, seat: &mut Seat)
+        requires { seat.old.book ≡ book_id self.now }
+        ensures same { SameSeat seat.old seat.new }
+        ensures turn { (turn : list Entry) × IsTurn seat.old turn × (seat.new.seen ≡ (if has_stop (entries_of turn) then turn else turn ++ Stop seat.old.number ∷ [])) }
+    {
+        let mut book = self.open(rt, &mut seat.raw);
+        book.stop(seat.number);
+        self.shut(&mut seat.raw, book);
+    }
+}

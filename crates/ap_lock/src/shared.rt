@@ -1,0 +1,89 @@
+//! The book behind the lock.
+
+ghost use Rattle.std.specs.Prelude.{◌≡◌, ◌<◌, ◌≤◌, List as list, []};
+ghost use Rattle.ap_defs.specs.declared.paths.Entry.{Entry};
+ghost use Rattle.ap_lock.specs.Turns.{lone, number_of, IsIdle, IsWaiting, HasTurn, MayEnd, Ended, Holds, MayShut};
+ghost use Rattle.ap_lock.specs.declared.view.Stage.TheVariants.{Idle};
+
+use crate::plays::{Draw, End, Look, Rule};
+use crate::view::View;
+use ap_book::Book;
+use atomic_table::{Seat, Table};
+use crossbeam_utils::Backoff;
+use std::alloc::Global;
+use std::sync::Wait;
+
+pub type Raw = Seat<Option<Book>, View>;
+
+// The word of tickets drawn.
+const TICKET: usize = 0;
+
+// The word of tickets served.
+const SERVING: usize = 1;
+
+// The slot of the book.
+const BOOK: usize = 0;
+
+/// A book behind a ticket lock.
+#[derive(Drop)]
+pub struct SharedBook {
+    pub(crate) table: Table<Option<Book>, View, u64, Rule, Global>,
+    pub ghost words: { table.shared.table_id.words ≡ 2 },
+    pub ghost slots: { table.shared.table_id.slots ≡ 1 },
+    pub ghost some: { 0 < table.shared.key },
+}
+
+impl SharedBook {
+    // The ticket that was drawn, as the word has it.
+    fn draw(&self, seat: &mut Raw) -> u64
+        requires { (seat.old.table_id ≡ self.now.table.shared.table_id) × IsIdle seat.old.me }
+        ensures { (seat.new.table_id ≡ seat.old.table_id) × IsWaiting seat.old.me.0 result seat.new.me }
+    {
+        self.table.shared.fetch_add::<Draw>(seat, TICKET, 1)
+    }
+
+    // Waits for the turn.
+    pub(crate) fn take<R: Wait>(&self, rt: &R, seat: &mut Raw)
+        requires { (seat.old.table_id ≡ self.now.table.shared.table_id) × IsIdle seat.old.me }
+        ensures { (seat.new.table_id ≡ seat.old.table_id) × ((history : list Entry) × HasTurn seat.old.me.0 history seat.new.me) }
+    {
+        let ticket = self.draw(seat);
+        let backoff = Backoff::new();
+        for _ in rt.forever() {
+            if self.table.shared.load::<Look>(seat, SERVING) == ticket {
+                return;
+            }
+            backoff.snooze();
+        }
+        unreachable!()
+    }
+
+    // Ends the turn, with the book at home.
+    pub(crate) fn end(&self, seat: &mut Raw)
+        requires { (seat.old.table_id ≡ self.now.table.shared.table_id) × MayEnd seat.old.me }
+        ensures { (seat.new.table_id ≡ seat.old.table_id) × Ended seat.old.me 0 seat.new.me }
+    {
+        self.table.shared.fetch_add::<End>(seat, SERVING, 1);
+    }
+
+    // Waits for the turn, and takes the book.
+    pub(crate) fn open<R: Wait>(&self, rt: &R, seat: &mut Raw) -> Book
+        requires { (seat.old.table_id ≡ self.now.table.shared.table_id) × IsIdle seat.old.me }
+        ensures { (seat.new.table_id ≡ seat.old.table_id) × Holds seat.old.me.0 result seat.new.me }
+    {
+        self.take(rt, seat);
+        let found = self.table.shared.exchange(seat, BOOK, None);
+        let Some(book) = found else { unreachable!() };
+        book
+    }
+
+    // Puts the book back, and ends the turn.
+    pub(crate) fn shut(&self, seat: &mut Raw, book: Book)
+        requires { (seat.old.table_id ≡ self.now.table.shared.table_id) × MayShut seat.old.me book }
+        ensures { (seat.new.table_id ≡ seat.old.table_id) × (seat.new.me ≡ (lone Idle (number_of seat.old.me.0) book, [])) }
+    {
+        let found = self.table.shared.exchange(seat, BOOK, Some(book));
+        drop(found);
+        self.end(seat);
+    }
+}
