@@ -1,0 +1,3 @@
+pub mod CallerLemmas
+pub mod ConditionLemmas
+pub mod VersionLemmas

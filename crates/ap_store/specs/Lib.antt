@@ -1,0 +1,4 @@
+pub mod Bindings
+pub mod Triples
+pub mod Counts
+pub mod Views
