@@ -1,0 +1,7 @@
+pub mod Matches
+pub mod Joins
+pub mod GoalLaws
+pub mod GoalOnly
+pub mod Levels
+pub mod ItemLaws
+pub mod Readings

@@ -1,0 +1,318 @@
+// Reading a goal.
+ghost use Rattle.std.specs.Prelude.{◌≡◌, ◌<◌, ◌≤◌, [], length, IfOk, Some};
+ghost use Rattle.ap_trees.specs.Goals as trees;
+ghost use Rattle.ap_trees.specs.Outcomes.{Gives};
+ghost use Rattle.ap_trees.specs.Readers.{separated, after_comma};
+ghost use Rattle.ap_trees.specs.Symbols.{syms};
+ghost use Rattle.ap_trees.specs.Trees.{term_of, trees_of, goal_of, goals_of};
+ghost use Rattle.ap_syntax.specs.GoalReader as spec;
+ghost use Rattle.ap_syntax.specs.GoalReader.{read_goal, read_conj, read_simple};
+ghost use Rattle.ap_syntax.specs.Marks.{after_semicolon};
+
+use crate::marks::{
+    after_equal, after_exists, after_fresh, after_new, after_semicolon, bound, ident,
+};
+use crate::matching::after_group;
+use ap_defs::lists::List;
+use ap_trees::{
+    GoalTree, ReadError, Symbol, Tree, after_close, after_comma, after_open, term, term_list,
+};
+use std::alloc::Global;
+
+/// The terms up to the `)` that closes them, and what follows it.
+#[tactic(auto, unfolding(crate::specs::GoalReader::terms_inside))]
+fn terms_inside<'a, 's>(
+    alloc: Global,
+    symbols: &'s [Symbol<'a>],
+) -> Result<(Vec<Tree<'a>>, &'s [Symbol<'a>]), ReadError>
+    ensures value { Gives (λ r. (trees_of r.0.items, syms r.1.now)) result (spec.terms_inside (syms symbols.now)) }
+    ensures shorter { IfOk result (λ r. length r.1.now ≤ length symbols.now) }
+{
+    let (parts, rest) = term_list(alloc, symbols.len(), symbols)?;
+    let rest = after_close(rest).ok_or(ReadError::Grammar)?;
+    Ok((parts, rest))
+}
+
+/// The arguments of an atom, if it has any, and what follows them.
+#[tactic(auto, unfolding(crate::specs::GoalReader::atom_arguments))]
+fn atom_arguments<'a, 's>(
+    alloc: Global,
+    symbols: &'s [Symbol<'a>],
+) -> Result<(Vec<Tree<'a>>, &'s [Symbol<'a>]), ReadError>
+    ensures value { Gives (λ r. (trees_of r.0.items, syms r.1.now)) result (spec.atom_arguments (syms symbols.now)) }
+    ensures shorter { IfOk result (λ r. length r.1.now ≤ length symbols.now) }
+{
+    match after_open(symbols) {
+        Some(rest) => terms_inside(alloc, rest),
+        None => Ok((Vec::new(alloc), symbols)),
+    }
+}
+
+/// An atom: its word and its arguments.
+pub struct Head<'a> {
+    pub word: &'a str,
+    pub args: Vec<Tree<'a>>,
+}
+
+/// An atom that begins the symbols, and what follows it.
+#[tactic(auto, unfolding(crate::specs::GoalReader::read_atom))]
+pub fn atom<'a, 's>(
+    alloc: Global,
+    symbols: &'s [Symbol<'a>],
+) -> Result<(Head<'a>, &'s [Symbol<'a>]), ReadError>
+    ensures value { Gives (λ r. ((r.0.word.now, trees_of r.0.args.items), syms r.1.now)) result (spec.read_atom (syms symbols.now)) }
+    ensures shorter { IfOk result (λ r. length r.1.now < length symbols.now) }
+{
+    let (word, rest) = ident(symbols).ok_or(ReadError::Grammar)?;
+    let (args, rest) = atom_arguments(alloc, rest)?;
+    Ok((Head { word, args }, rest))
+}
+
+/// An atom as a goal.
+#[tactic(auto, unfolding(crate::specs::GoalReader::atom_goal))]
+fn atom_goal<'a, 's>(
+    alloc: Global,
+    symbols: &'s [Symbol<'a>],
+) -> Result<(GoalTree<'a>, &'s [Symbol<'a>]), ReadError>
+    ensures value { Gives (λ r. (goal_of r.0, syms r.1.now)) result (spec.atom_goal (syms symbols.now)) }
+    ensures shorter { IfOk result (λ r. length r.1.now < length symbols.now) }
+{
+    let (Head { word, args }, rest) = atom(alloc, symbols)?;
+    Ok((GoalTree::Atom(word, List::of(args)), rest))
+}
+
+/// An equation, behind its `=`.
+#[tactic(auto, unfolding(crate::specs::GoalReader::right_side))]
+fn equation<'a, 's>(
+    alloc: Global,
+    left: Tree<'a>,
+    symbols: &'s [Symbol<'a>],
+) -> Result<(GoalTree<'a>, &'s [Symbol<'a>]), ReadError>
+    ensures value { Gives (λ r. (goal_of r.0, syms r.1.now)) result (spec.right_side trees.Equation (term_of left.entry) (syms symbols.now)) }
+    ensures shorter { IfOk result (λ r. length r.1.now < length symbols.now) }
+{
+    let (right, rest) = term(alloc, symbols.len(), symbols)?;
+    Ok((GoalTree::Equal(left, right), rest))
+}
+
+/// A freshness goal, behind its `#`.
+#[tactic(auto, unfolding(crate::specs::GoalReader::right_side))]
+fn freshness<'a, 's>(
+    alloc: Global,
+    left: Tree<'a>,
+    symbols: &'s [Symbol<'a>],
+) -> Result<(GoalTree<'a>, &'s [Symbol<'a>]), ReadError>
+    ensures value { Gives (λ r. (goal_of r.0, syms r.1.now)) result (spec.right_side trees.Freshness (term_of left.entry) (syms symbols.now)) }
+    ensures shorter { IfOk result (λ r. length r.1.now < length symbols.now) }
+{
+    let (right, rest) = term(alloc, symbols.len(), symbols)?;
+    Ok((GoalTree::Fresh(left, right), rest))
+}
+
+/// An equation, a freshness goal or an atom.
+#[tactic(auto, unfolding(crate::specs::GoalReader::read_flat))]
+fn flat<'a, 's>(
+    alloc: Global,
+    symbols: &'s [Symbol<'a>],
+) -> Result<(GoalTree<'a>, &'s [Symbol<'a>]), ReadError>
+    ensures value { Gives (λ r. (goal_of r.0, syms r.1.now)) result (spec.read_flat (syms symbols.now)) }
+    ensures shorter { IfOk result (λ r. length r.1.now < length symbols.now) }
+{
+    let (left, rest) = term(alloc, symbols.len(), symbols)?;
+    match after_equal(rest) {
+        Some(rest) => equation(alloc, left, rest),
+        None => match after_fresh(rest) {
+            Some(rest) => freshness(alloc, left, rest),
+            None => atom_goal(alloc, symbols),
+        },
+    }
+}
+
+/// The conjunction of one goal or more.
+fn conjunction<'a>(alloc: Global, mut parts: Vec<GoalTree<'a>>) -> Result<GoalTree<'a>, ReadError>
+    ensures { Gives goal_of result (spec.joined_by trees.Both (goals_of parts.entry.items)) }
+{
+    let Some(mut whole) = parts.pop() else {
+        return Err(ReadError::Grammar);
+    };
+    while let Some(part) = parts.pop() {
+        whole = GoalTree::Both(Box::new(alloc, part)?, Box::new(alloc, whole)?);
+    }
+    Ok(whole)
+}
+
+/// The disjunction of one goal or more.
+fn disjunction<'a>(alloc: Global, mut parts: Vec<GoalTree<'a>>) -> Result<GoalTree<'a>, ReadError>
+    ensures { Gives goal_of result (spec.joined_by trees.Either (goals_of parts.entry.items)) }
+{
+    let Some(mut whole) = parts.pop() else {
+        return Err(ReadError::Grammar);
+    };
+    while let Some(part) = parts.pop() {
+        whole = GoalTree::Either(Box::new(alloc, part)?, Box::new(alloc, whole)?);
+    }
+    Ok(whole)
+}
+
+/// A goal that begins the symbols, and what follows it.
+#[cycle(goals)]
+#[tactic(auto, unfolding(crate::specs::GoalReader::read_goal))]
+pub fn goal<'a, 's>(
+    alloc: Global,
+    levels: usize,
+    symbols: &'s [Symbol<'a>],
+) -> Result<(GoalTree<'a>, &'s [Symbol<'a>]), ReadError>
+    ensures value { Gives (λ r. (goal_of r.0, syms r.1.now)) result (spec.read_goal levels (syms symbols.now)) }
+    ensures shorter { IfOk result (λ r. length r.1.now < length symbols.now) }
+{
+    if levels == 0 {
+        return Err(ReadError::Grammar);
+    }
+    let (goal, rest) = any_of(alloc, levels - 1, symbols)?;
+    Ok((goal, rest))
+}
+
+/// One conjunction or more with semicolons between, and what follows.
+#[cycle(goals)]
+#[tactic(auto, unfolding(crate::specs::GoalReader::read_disj))]
+fn any_of<'a, 's>(
+    alloc: Global,
+    levels: usize,
+    symbols: &'s [Symbol<'a>],
+) -> Result<(GoalTree<'a>, &'s [Symbol<'a>]), ReadError>
+    ensures value { Gives (λ r. (goal_of r.0, syms r.1.now)) result (spec.read_disj (read_goal levels) (syms symbols.now)) }
+    ensures shorter { IfOk result (λ r. length r.1.now < length symbols.now) }
+{
+    let (parts, rest) = conjunctions(alloc, levels, symbols)?;
+    Ok((disjunction(alloc, parts)?, rest))
+}
+
+/// One simple goal or more with commas between, and what follows.
+#[cycle(goals)]
+#[tactic(auto, unfolding(crate::specs::GoalReader::read_conj))]
+fn all_of<'a, 's>(
+    alloc: Global,
+    levels: usize,
+    symbols: &'s [Symbol<'a>],
+) -> Result<(GoalTree<'a>, &'s [Symbol<'a>]), ReadError>
+    ensures value { Gives (λ r. (goal_of r.0, syms r.1.now)) result (spec.read_conj (read_goal levels) (syms symbols.now)) }
+    ensures shorter { IfOk result (λ r. length r.1.now < length symbols.now) }
+{
+    let (parts, rest) = simple_goals(alloc, levels, symbols)?;
+    Ok((conjunction(alloc, parts)?, rest))
+}
+
+/// The conjunctions that begin the symbols, with semicolons between, and what follows them.
+#[cycle(goals)]
+fn conjunctions<'a, 's>(
+    alloc: Global,
+    levels: usize,
+    symbols: &'s [Symbol<'a>],
+) -> Result<(Vec<GoalTree<'a>>, &'s [Symbol<'a>]), ReadError>
+    ensures value { Gives (λ r. (goals_of r.0.items, syms r.1.now)) result (separated after_semicolon (read_conj (read_goal levels)) (length symbols.now) (syms symbols.now)) }
+    ensures shorter { IfOk result (λ r. length r.1.now < length symbols.now) }
+{
+    let mut all = Vec::new(alloc);
+    let (first, mut rest) = all_of(alloc, levels, symbols)?;
+    all.push(first)?;
+    while let Some(after) = after_semicolon(rest) {
+        let (next, left) = all_of(alloc, levels, after)?;
+        all.push(next)?;
+        rest = left;
+    }
+    Ok((all, rest))
+}
+
+/// The simple goals that begin the symbols, with commas between, and what follows them.
+#[cycle(goals)]
+fn simple_goals<'a, 's>(
+    alloc: Global,
+    levels: usize,
+    symbols: &'s [Symbol<'a>],
+) -> Result<(Vec<GoalTree<'a>>, &'s [Symbol<'a>]), ReadError>
+    ensures value { Gives (λ r. (goals_of r.0.items, syms r.1.now)) result (separated after_comma (read_simple (read_goal levels)) (length symbols.now) (syms symbols.now)) }
+    ensures shorter { IfOk result (λ r. length r.1.now < length symbols.now) }
+{
+    let mut all = Vec::new(alloc);
+    let (first, mut rest) = simple(alloc, levels, symbols)?;
+    all.push(first)?;
+    while let Some(after) = after_comma(rest) {
+        let (next, left) = simple(alloc, levels, after)?;
+        all.push(next)?;
+        rest = left;
+    }
+    Ok((all, rest))
+}
+
+/// A simple goal that begins the symbols, and what follows it.
+#[cycle(goals)]
+#[tactic(auto, unfolding(crate::specs::GoalReader::read_simple))]
+fn simple<'a, 's>(
+    alloc: Global,
+    levels: usize,
+    symbols: &'s [Symbol<'a>],
+) -> Result<(GoalTree<'a>, &'s [Symbol<'a>]), ReadError>
+    ensures value { Gives (λ r. (goal_of r.0, syms r.1.now)) result (spec.read_simple (read_goal levels) (syms symbols.now)) }
+    ensures shorter { IfOk result (λ r. length r.1.now < length symbols.now) }
+{
+    match after_new(symbols) {
+        Some(rest) => new_goal(alloc, levels, rest),
+        None => match after_exists(symbols) {
+            Some(rest) => exists_goal(alloc, levels, rest),
+            None => match after_group(symbols) {
+                Some(rest) => goal_inside(alloc, levels, rest),
+                None => flat(alloc, symbols),
+            },
+        },
+    }
+}
+
+/// A goal of a new name, behind `new`.
+#[cycle(goals)]
+#[tactic(auto, unfolding(crate::specs::GoalReader::new_goal))]
+fn new_goal<'a, 's>(
+    alloc: Global,
+    levels: usize,
+    symbols: &'s [Symbol<'a>],
+) -> Result<(GoalTree<'a>, &'s [Symbol<'a>]), ReadError>
+    ensures value { Gives (λ r. (goal_of r.0, syms r.1.now)) result (spec.new_goal (read_goal levels) (syms symbols.now)) }
+    ensures shorter { IfOk result (λ r. length r.1.now < length symbols.now) }
+{
+    let (word, rest) = ident(symbols).ok_or(ReadError::Grammar)?;
+    let rest = after_open(rest).ok_or(ReadError::Grammar)?;
+    let (goal, rest) = goal_inside(alloc, levels, rest)?;
+    Ok((GoalTree::New(word, Box::new(alloc, goal)?), rest))
+}
+
+/// A goal of some variable, behind `exists`.
+#[cycle(goals)]
+#[tactic(auto, unfolding(crate::specs::GoalReader::exists_goal))]
+fn exists_goal<'a, 's>(
+    alloc: Global,
+    levels: usize,
+    symbols: &'s [Symbol<'a>],
+) -> Result<(GoalTree<'a>, &'s [Symbol<'a>]), ReadError>
+    ensures value { Gives (λ r. (goal_of r.0, syms r.1.now)) result (spec.exists_goal (read_goal levels) (syms symbols.now)) }
+    ensures shorter { IfOk result (λ r. length r.1.now < length symbols.now) }
+{
+    let (word, rest) = bound(symbols).ok_or(ReadError::Grammar)?;
+    let rest = after_open(rest).ok_or(ReadError::Grammar)?;
+    let (goal, rest) = goal_inside(alloc, levels, rest)?;
+    Ok((GoalTree::Exists(word, Box::new(alloc, goal)?), rest))
+}
+
+/// A goal up to the `)` that closes it, and what follows that.
+#[cycle(goals)]
+#[tactic(auto, unfolding(crate::specs::GoalReader::goal_inside))]
+fn goal_inside<'a, 's>(
+    alloc: Global,
+    levels: usize,
+    symbols: &'s [Symbol<'a>],
+) -> Result<(GoalTree<'a>, &'s [Symbol<'a>]), ReadError>
+    ensures value { Gives (λ r. (goal_of r.0, syms r.1.now)) result (spec.goal_inside (read_goal levels) (syms symbols.now)) }
+    ensures shorter { IfOk result (λ r. length r.1.now < length symbols.now) }
+{
+    let (goal, rest) = goal(alloc, levels, symbols)?;
+    let rest = after_close(rest).ok_or(ReadError::Grammar)?;
+    Ok((goal, rest))
+}

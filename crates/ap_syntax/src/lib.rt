@@ -1,0 +1,19 @@
+//! The parser: tokens as items, or the first faulty item.
+//!
+//! `specs/GoalGrammar.antt` and `specs/ItemGrammar.antt` are the grammars of goals and items,
+//! `specs/Nesting.antt` says how deep an item is, and `specs/Reading.antt` what tokens read as.
+#![tactic(auto)]
+
+mod faults;
+mod goals;
+mod items;
+mod marks;
+mod matching;
+mod nesting;
+mod reading;
+
+pub use faults::{GRAMMAR, SynError, SynFault, TOO_DEEP, UNENDED};
+pub use reading::{TOKEN_LIMIT, parse};
+
+#[cfg(test)]
+mod tests;

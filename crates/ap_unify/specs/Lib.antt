@@ -1,0 +1,3 @@
+pub mod Equations
+pub mod Stages
+pub mod Unified
