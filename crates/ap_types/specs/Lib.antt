@@ -8,3 +8,4 @@ pub mod Equations
 pub mod Solving
 pub mod Steps
 pub mod Assignments
+pub mod Tables

@@ -4,6 +4,7 @@
 pub mod answers;
 pub mod equations;
 pub mod errors;
+pub mod holding;
 mod rounds;
 mod solving;
 #[cfg(test)]

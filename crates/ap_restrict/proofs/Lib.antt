@@ -1,0 +1,12 @@
+pub mod PlaceLemmas
+pub mod CarryingLemmas
+pub mod KindLemmas
+pub mod TableLemmas
+pub mod FactLemmas
+pub mod HeadLemmas
+pub mod NameLemmas
+pub mod ItemLemmas
+pub mod ScanLemmas
+pub mod CarriedTyping
+pub mod CarriedScoping
+pub mod KeepingLemmas

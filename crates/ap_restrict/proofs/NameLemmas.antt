@@ -1,0 +1,58 @@
+-- The first free name that is not fresh for the head, from the front.
+use Rattle.std.proofs.Common.{◌≡◌, ◌<◌, ◌+◌, ℕ, zero, suc, Bool, true, false, List, [], ◌∷◌, length, get_or, drop, map, refl, sym, ap, ◌∙◌, subst, inl, inr}
+use Rattle.std.proofs.Math.Seq.{drop-cons}
+use Rattle.std.specs.Prelude.{Option, Some, None}
+use Rattle.ap_defs.specs.declared.terms.Name.{Name}
+use Rattle.ap_defs.specs.declared.goals.Local.{Local}
+use Rattle.ap_defs.specs.Types as types
+use Rattle.ap_defs.specs.Types.{NominalKind, NominalLocal, NominalConstructor, local_of, locals_of}
+use Rattle.ap_defs.specs.Goals.{NominalClause}
+use Rattle.ap_defs.specs.Renaming.{local_names, name_unless}
+use Rattle.ap_program.specs.NameRestriction.{IsFreshForHead}
+use Rattle.ap_restrict.specs.Heads.{IsAnswer, free_sort, sort_unless}
+
+abbrev name_with : ℕ → ℕ → Name
+name_with s n = record { sort = s; num = n }
+
+skipped : (b : Bool) (k : NominalKind) (n : ℕ) (names : List Name) → sort_unless b k ≡ None → name_unless b k n names ≡ names
+skipped true (types.name s) n names e = refl
+skipped true (types.var t) n names e = refl
+skipped false (types.name s) n names e = cc
+skipped false (types.var t) n names e = refl
+
+counted : (b : Bool) (k : NominalKind) (n s : ℕ) (names : List Name) → sort_unless b k ≡ Some s → name_unless b k n names ≡ name_with s n ∷ names
+counted true (types.name r) n s names e = cc
+counted true (types.var t) n s names e = cc
+counted false (types.name r) n s names e = cc
+counted false (types.var t) n s names e = cc
+
+answer_next : (cs : List NominalConstructor) (c : NominalClause) (a : Name) (names : List Name) (o : Option Name)
+    → IsFreshForHead cs c a → IsAnswer cs c names o → IsAnswer cs c (a ∷ names) o
+answer_next cs c a names None f h = (f, h)
+answer_next cs c a names (Some b) f h = inr (f, h)
+
+-- the names of the identifiers from number i on
+abbrev pub names_from : ℕ → List Local → List Name
+names_from i ls = local_names i (locals_of (drop i ls))
+
+from_next : (i : ℕ) (ls : List Local) (l d : Local) → i < length ls → l ≡ get_or ls i d → names_from i ls ≡ name_unless l.bound (local_of l).kind i (names_from (suc i) ls)
+from_next i ls l d h e =
+    ap (λ rest. local_names i (locals_of rest)) (drop-cons ls i d h) ∙ ap (λ x. name_unless x.bound (local_of x).kind i (names_from (suc i) ls)) (sym e)
+
+-- One identifier on: one that is no free name, one whose name is fresh, and one whose name is not.
+pub next_skips : (cs : List NominalConstructor) (c : NominalClause) (i : ℕ) (ls : List Local) (l d : Local) → i < length ls → l ≡ get_or ls i d → free_sort (local_of l) ≡ None
+    → (o : Option Name) → IsAnswer cs c (names_from (suc i) ls) o → IsAnswer cs c (names_from i ls) o
+next_skips cs c i ls l d h e f o a =
+    subst (λ names. IsAnswer cs c names o) (sym (from_next i ls l d h e ∙ skipped l.bound (local_of l).kind i (names_from (suc i) ls) f)) a
+
+pub next_fresh : (cs : List NominalConstructor) (c : NominalClause) (i s : ℕ) (ls : List Local) (l d : Local) → i < length ls → l ≡ get_or ls i d → free_sort (local_of l) ≡ Some s
+    → IsFreshForHead cs c (name_with s i) → (o : Option Name) → IsAnswer cs c (names_from (suc i) ls) o → IsAnswer cs c (names_from i ls) o
+next_fresh cs c i s ls l d h e f n o a =
+    subst (λ names. IsAnswer cs c names o) (sym (from_next i ls l d h e ∙ counted l.bound (local_of l).kind i s (names_from (suc i) ls) f))
+    (answer_next cs c (name_with s i) (names_from (suc i) ls) o n a)
+
+pub next_found : (cs : List NominalConstructor) (c : NominalClause) (i s : ℕ) (ls : List Local) (l d : Local) → i < length ls → l ≡ get_or ls i d → free_sort (local_of l) ≡ Some s
+    → (IsFreshForHead cs c (name_with s i) → ⊥) → IsAnswer cs c (names_from i ls) (Some (name_with s i))
+next_found cs c i s ls l d h e f n =
+    subst (λ names. IsAnswer cs c names (Some (name_with s i))) (sym (from_next i ls l d h e ∙ counted l.bound (local_of l).kind i s (names_from (suc i) ls) f))
+    (inl (refl, n))

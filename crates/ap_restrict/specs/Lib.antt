@@ -1,0 +1,5 @@
+pub mod Places
+pub mod Facts
+pub mod Heads
+pub mod Scans
+pub mod Outcomes

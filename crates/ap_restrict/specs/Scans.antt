@@ -1,0 +1,21 @@
+-- Verdicts on items, and the first fault of items so far.
+use Rattle.std.specs.Prelude.{Bool, if◌then◌else◌, nat_lt, List, [], ◌∷◌, ◌++◌, Option, Some, None}
+use Rattle.ap_defs.specs.Types.{NominalConstructor}
+use Rattle.ap_program.specs.declared.faults.NameFault.{NameFault}
+use Rattle.ap_program.specs.NameRestriction.{RawItem, Passes, AllPass, IsFaultOf, IsFirstFault}
+
+-- the item's fault, or that it passes
+abbrev pub IsVerdict : List NominalConstructor → RawItem → Option NameFault → Type 0
+IsVerdict cs i None = Passes cs i
+IsVerdict cs i (Some f) = IsFaultOf cs i f
+
+-- the first fault of the items, or that all pass
+abbrev pub IsScan : List NominalConstructor → List RawItem → Option NameFault → Type 0
+IsScan cs items None = AllPass cs items
+IsScan cs items (Some f) = IsFirstFault cs items f
+
+-- the fault of the earlier item, or the first of the two
+abbrev pub earlier_of : Option NameFault → Option NameFault → Option NameFault
+earlier_of None new = new
+earlier_of (Some old) None = Some old
+earlier_of (Some old) (Some new) = if nat_lt new.item old.item then Some new else Some old

@@ -1,0 +1,161 @@
+//! Whether the free names of a clause are fresh for its head.
+
+ghost use Rattle.std.specs.Prelude.{◌≡◌, ◌↔◌, map, IsTrue, IfOk};
+ghost use Rattle.ap_defs.specs.Terms.{term_of};
+ghost use Rattle.ap_defs.specs.Types.{local_of, locals_of, signature_of};
+ghost use Rattle.ap_defs.specs.Goals.{goal_of};
+ghost use Rattle.ap_defs.specs.Renaming.{local_names};
+ghost use Rattle.ap_defs.specs.Resolution.{kinds_of};
+ghost use Rattle.ap_types.specs.Rounds.{marked};
+ghost use Rattle.ap_program.specs.NameRestriction.{IsFreshForHead};
+ghost use Rattle.ap_defs.specs.Answers.{kind_at};
+ghost use Rattle.ap_restrict.specs.Facts.{facts_of, HasSame};
+ghost use Rattle.ap_restrict.specs.Heads.{bars, is_known, fresh_by, fresh_by_each, AreTables, clause_with, IsAnswer, free_sort};
+
+use crate::facts::{Fact, has, known_facts};
+use crate::tables::table_of;
+use ap_defs::goals::{Goal, Kind, Local, Signature};
+use ap_defs::memory::Memory;
+use ap_defs::terms::{Name, Term, Var};
+use ap_perm::swappings::preimage;
+use ap_types::holding::{Holding, holds, types_holding};
+use std::alloc::Global;
+use std::collections::HashSet;
+
+/// The signature of a program and a table for each sort of a free name.
+#[derive(Drop)]
+pub struct Setting<'a> {
+    pub sig: &'a Signature,
+    pub tables: &'a [Holding],
+}
+
+/// What is looked at of a clause: its head, its body and its identifiers.
+#[derive(Drop)]
+pub struct Head<'a> {
+    pub args: &'a [Term],
+    pub body: &'a Goal<Term>,
+    pub locals: &'a [Local],
+}
+
+/// Whether the variable's type can't hold names of the table's sort.
+#[tactic(auto, using(crate::proofs::KindLemmas::kind_past, crate::proofs::KindLemmas::kind_there))]
+fn is_barred(table: &Holding, locals: &[Local], x: Var) -> bool
+    ensures { result ≡ bars table.now.sort (marked table.now.table.items) (kind_at (kinds_of (locals_of locals.now)) x.num) }
+{
+    let place = x.num as usize;
+    if place >= locals.len() {
+        return false;
+    }
+    match &locals[place].kind {
+        Kind::Name(_) => false,
+        Kind::Var(t) => !holds(table, t),
+    }
+}
+
+/// Whether a condition is known where the clause is used with the free name `a`.
+fn is_known_of(
+    facts: &HashSet<Fact>,
+    table: &Holding,
+    locals: &[Local],
+    a: Name,
+    name: Name,
+    x: Var,
+) -> bool
+    ensures { result ≡ is_known facts.now.keys table.now.sort (marked table.now.table.items) (kinds_of (locals_of locals.now)) a name x }
+{
+    let fact = Fact {
+        left: a,
+        name,
+        var: x,
+    };
+    has(facts, fact) || is_barred(table, locals, x)
+}
+
+/// Whether the name is fresh for the term by what is known.
+#[tactic(auto, unfolding(ap_defs::specs::Permutations::name_eq))]
+fn is_fresh(facts: &HashSet<Fact>, table: &Holding, locals: &[Local], a: Name, t: &Term) -> bool
+    ensures { result ≡ fresh_by (is_known facts.now.keys table.now.sort (marked table.now.table.items) (kinds_of (locals_of locals.now)) a) a (term_of t.now) }
+{
+    match t {
+        Term::Unit => true,
+        Term::Name(b) => a != *b,
+        Term::Pair(left, right) => is_fresh(facts, table, locals, a, left)
+            && is_fresh(facts, table, locals, a, right),
+        Term::App(_, argument) => is_fresh(facts, table, locals, a, argument),
+        Term::Abs(b, body) => a == *b || is_fresh(facts, table, locals, a, body),
+        Term::Susp(swaps, x) => is_known_of(
+            facts,
+            table,
+            locals,
+            a,
+            preimage(swaps.items(), a),
+            *x,
+        ),
+    }
+}
+
+/// Whether the name is fresh for each of the terms by what is known.
+fn are_fresh(facts: &HashSet<Fact>, table: &Holding, locals: &[Local], a: Name, ts: &[Term]) -> bool
+    ensures { result ≡ fresh_by_each (is_known facts.now.keys table.now.sort (marked table.now.table.items) (kinds_of (locals_of locals.now)) a) a (map term_of ts.now) }
+{
+    for t in ts {
+        if !is_fresh(facts, table, locals, a, t) {
+            return false;
+        }
+    }
+    true
+}
+
+/// Whether the name is fresh for the head.
+fn is_fresh_for_head(
+    alloc: Global,
+    setting: &Setting<'_>,
+    head: &Head<'_>,
+    facts: &HashSet<Fact>,
+    a: Name,
+) -> Result<bool, Memory>
+    requires tables { AreTables (signature_of setting.now.sig.now).constructors setting.now.tables.now }
+    requires facts { HasSame facts.now.keys (facts_of (goal_of head.now.body.now)) }
+    ensures { IfOk result (λ b. IsTrue b ↔ IsFreshForHead (signature_of setting.now.sig.now).constructors (clause_with (map term_of head.now.args.now) (goal_of head.now.body.now) (locals_of head.now.locals.now)) a) }
+{
+    match table_of(setting.sig, setting.tables, a.sort) {
+        Some(table) => Ok(are_fresh(facts, table, head.locals, a, head.args)),
+        None => {
+            let table = types_holding(alloc, setting.sig, a.sort)?;
+            Ok(are_fresh(facts, &table, head.locals, a, head.args))
+        }
+    }
+}
+
+/// The sort of an identifier that is a free name.
+fn sort_of(local: &Local) -> Option<u32>
+    ensures { result ≡ free_sort (local_of local.now) }
+{
+    match &local.kind {
+        Kind::Name(sort) if !local.bound => Some(*sort),
+        _ => None,
+    }
+}
+
+/// The first free name that is not fresh for the head.
+pub fn first_not_fresh(
+    alloc: Global,
+    setting: &Setting<'_>,
+    head: &Head<'_>,
+) -> Result<Option<Name>, Memory>
+    requires { AreTables (signature_of setting.now.sig.now).constructors setting.now.tables.now }
+    ensures { IfOk result (λ o. IsAnswer (signature_of setting.now.sig.now).constructors (clause_with (map term_of head.now.args.now) (goal_of head.now.body.now) (locals_of head.now.locals.now)) (local_names 0 (locals_of head.now.locals.now)) o) }
+{
+    let facts = known_facts(alloc, head.body)?;
+    let mut num = 0;
+    for local in head.locals {
+        if let Some(sort) = sort_of(local) {
+            let a = Name { sort, num };
+            if !is_fresh_for_head(alloc, setting, head, &facts, a)? {
+                return Ok(Some(a));
+            }
+        }
+        num += 1;
+    }
+    Ok(None)
+}

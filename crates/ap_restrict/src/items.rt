@@ -1,0 +1,136 @@
+//! The fault of one clause or query.
+
+ghost use Rattle.std.specs.Prelude.{◌≡◌, ◌++◌, map, IfOk};
+ghost use Rattle.ap_defs.specs.RawTerms.{raw_of};
+ghost use Rattle.ap_defs.specs.Types.{locals_of, signature_of};
+ghost use Rattle.ap_defs.specs.Goals.{clause_over, query_over};
+ghost use Rattle.ap_defs.specs.Renaming.{local_names};
+ghost use Rattle.ap_program.specs.CarryingOut.{carried_out, map_clause};
+ghost use Rattle.ap_program.specs.NameRestriction.{RawItem, clause as clause_item, query as query_item, item_terms, in_each, spelling_at};
+ghost use Rattle.ap_restrict.specs.Places.{first_of, variables_at};
+ghost use Rattle.ap_restrict.specs.Heads.{AreTables, IsAnswer};
+ghost use Rattle.ap_restrict.specs.Scans.{IsVerdict};
+
+use crate::carrying::{carry_goal, carry_terms};
+use crate::heads::{Head, Setting, first_not_fresh};
+use crate::places::{Place, first_in_goal, first_in_terms};
+use ap_defs::goals::{Clause, Local, Query, Signature};
+use ap_defs::lists::Text;
+use ap_defs::memory::Memory;
+use ap_defs::terms::{Name, Raw, Var};
+use ap_program::faults::NameFault;
+use std::alloc::Global;
+
+/// How the identifier with this number is spelled.
+#[tactic(auto, using(crate::proofs::ItemLemmas::spelled_past, crate::proofs::ItemLemmas::spelled_there))]
+fn spelling(alloc: Global, locals: &[Local], num: u64) -> Result<Text, Memory>
+    ensures { IfOk result (λ t. t ≡ spelling_at (locals_of locals.now) num) }
+{
+    let place = num as usize;
+    if place >= locals.len() {
+        return Ok(Text::of(String::new(alloc)));
+    }
+    locals[place].text.copy(alloc)
+}
+
+/// Where an item stands, and its identifiers.
+#[derive(Drop)]
+struct Position<'a> {
+    item: u32,
+    line: u64,
+    locals: &'a [Local],
+}
+
+/// The fault of an item, by the identifier with this number.
+fn fault(alloc: Global, position: &Position<'_>, kind: u32, num: u64) -> Result<NameFault, Memory>
+    ensures item { IfOk result (λ f. f.item ≡ position.now.item) }
+    ensures line { IfOk result (λ f. f.line ≡ position.now.line) }
+    ensures kind { IfOk result (λ f. f.kind ≡ kind) }
+    ensures name { IfOk result (λ f. f.name ≡ spelling_at (locals_of position.now.locals.now) num) }
+{
+    let name = spelling(alloc, position.locals, num)?;
+    Ok(NameFault {
+        item: position.item,
+        line: position.line,
+        kind,
+        name,
+    })
+}
+
+/// The first variable at such a place of a clause.
+#[tactic(auto, using(crate::proofs::PlaceLemmas::first_append, crate::proofs::PlaceLemmas::in_each_append))]
+fn first_in_clause(place: Place, clause: &Clause<Raw>) -> Option<Var>
+    ensures { result ≡ first_of (in_each (variables_at place) (item_terms (clause_item (clause_over raw_of clause.now)))) }
+{
+    match first_in_terms(place, clause.args.items()) {
+        Some(x) => Some(x),
+        None => first_in_goal(place, &clause.body),
+    }
+}
+
+/// The first free name of a clause that is not fresh for its head, once swappings are carried out.
+fn head_name(
+    alloc: Global,
+    setting: &Setting<'_>,
+    clause: &Clause<Raw>,
+) -> Result<Option<Name>, Memory>
+    requires { AreTables (signature_of setting.now.sig.now).constructors setting.now.tables.now }
+    ensures { IfOk result (λ o. IsAnswer (signature_of setting.now.sig.now).constructors (map_clause carried_out (clause_over raw_of clause.now)) (local_names 0 (locals_of clause.now.locals)) o) }
+{
+    let args = carry_terms(alloc, clause.args.items())?;
+    let body = carry_goal(alloc, &clause.body)?;
+    let head = Head {
+        args: args.items(),
+        body: &body,
+        locals: clause.locals.items(),
+    };
+    first_not_fresh(alloc, setting, &head)
+}
+
+/// The fault of a clause.
+pub fn clause_fault(
+    alloc: Global,
+    setting: &Setting<'_>,
+    clause: &Clause<Raw>,
+) -> Result<Option<NameFault>, Memory>
+    requires { AreTables (signature_of setting.now.sig.now).constructors setting.now.tables.now }
+    ensures { IfOk result (IsVerdict (signature_of setting.now.sig.now).constructors (clause_item (clause_over raw_of clause.now))) }
+{
+    let position = Position {
+        item: clause.item,
+        line: clause.line,
+        locals: clause.locals.items(),
+    };
+    if let Some(x) = first_in_clause(Place::Binder, clause) {
+        return Ok(Some(fault(alloc, &position, 1, x.num)?));
+    }
+    if let Some(y) = first_in_clause(Place::Swap, clause) {
+        return Ok(Some(fault(alloc, &position, 2, y.num)?));
+    }
+    match head_name(alloc, setting, clause)? {
+        Some(a) => Ok(Some(fault(alloc, &position, 3, a.num)?)),
+        None => Ok(None),
+    }
+}
+
+/// The fault of a query.
+pub fn query_fault(
+    alloc: Global,
+    sig: &Signature,
+    query: &Query<Raw>,
+) -> Result<Option<NameFault>, Memory>
+    ensures { IfOk result (IsVerdict (signature_of sig.now).constructors (query_item (query_over raw_of query.now))) }
+{
+    let position = Position {
+        item: query.item,
+        line: query.line,
+        locals: query.locals.items(),
+    };
+    if let Some(x) = first_in_goal(Place::Binder, &query.goal) {
+        return Ok(Some(fault(alloc, &position, 1, x.num)?));
+    }
+    if let Some(y) = first_in_goal(Place::Swap, &query.goal) {
+        return Ok(Some(fault(alloc, &position, 2, y.num)?));
+    }
+    Ok(None)
+}

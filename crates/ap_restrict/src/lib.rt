@@ -1,0 +1,12 @@
+//! The name restriction: whether a typed program keeps it, and the first fault where it doesn't.
+#![tactic(auto)]
+
+mod carrying;
+pub mod errors;
+mod facts;
+mod heads;
+mod items;
+mod places;
+mod programs;
+pub mod restrict;
+mod tables;

@@ -1,0 +1,36 @@
+//! Which types may hold names of a sort, where this is asked of many types.
+
+ghost use Rattle.std.specs.Prelude.{◌≡◌, IfOk};
+ghost use Rattle.ap_defs.specs.Types.{type_of, signature_of};
+ghost use Rattle.ap_types.specs.Rounds.{marked};
+ghost use Rattle.ap_types.specs.Holding.{holds_if};
+ghost use Rattle.ap_types.specs.Tables.{IsTableOf};
+
+use crate::rounds::{Question, answer_by, least_table};
+use ap_defs::goals::Signature;
+use ap_defs::memory::Memory;
+use ap_defs::terms::Ty;
+use std::alloc::Global;
+
+/// The data types that may hold names of a sort, found once.
+#[derive(Debug, Drop)]
+pub struct Holding {
+    pub sort: u32,
+    pub table: Vec<bool>,
+}
+
+/// The data types that may hold names of a sort, by the constructors of a signature. `Err` is want of
+/// memory.
+pub fn types_holding(alloc: Global, sig: &Signature, sort: u32) -> Result<Holding, Memory>
+    ensures { IfOk result (λ h. IsTableOf (signature_of sig.now).constructors sort h) }
+{
+    let table = least_table(alloc, Question::Holds(sort), sig.constructors.items())?;
+    Ok(Holding { sort, table })
+}
+
+/// Whether a type may hold names of the table's sort, as `may_hold` says. It takes no memory.
+pub fn holds(table: &Holding, ty: &Ty) -> bool
+    ensures { result ≡ holds_if table.now.sort (marked table.now.table.items) (type_of ty.now) }
+{
+    answer_by(Question::Holds(table.sort), table.table.as_slice(), ty)
+}
