@@ -1,0 +1,4 @@
+pub mod Records
+pub mod Continuations
+pub mod StatementsOnRecords
+pub mod StatementsOnContinuations
