@@ -1,2 +1,4 @@
 pub mod RecordLemmas
 pub mod ContinuationLemmas
+pub mod PrefixLemmas
+pub mod MarkLemmas

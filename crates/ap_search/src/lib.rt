@@ -5,4 +5,5 @@
 #![tactic(auto)]
 
 pub mod continuations;
+pub mod paths;
 pub mod records;
