@@ -8,3 +8,4 @@ pub mod TreeLemmas
 pub mod SubtreeLemmas
 pub mod OrderLemmas
 pub mod QueryTreeLemmas
+pub mod SameStateLemmas

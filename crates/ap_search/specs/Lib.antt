@@ -1,8 +1,10 @@
+pub mod SameStates
 pub mod Records
 pub mod Continuations
 pub mod Prefixes
 pub mod MarkedContinuations
 pub mod PathTrees
+pub mod StatementsOnSameStates
 pub mod StatementsOnRecords
 pub mod StatementsOnPrefixes
 pub mod StatementsOnTrees

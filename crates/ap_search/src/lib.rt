@@ -5,6 +5,7 @@
 #![tactic(auto)]
 
 pub mod continuations;
+pub mod equal_states;
 pub mod paths;
 pub mod records;
 pub mod trees;
