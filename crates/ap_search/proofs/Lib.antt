@@ -9,3 +9,4 @@ pub mod SubtreeLemmas
 pub mod OrderLemmas
 pub mod QueryTreeLemmas
 pub mod SameStateLemmas
+pub mod DepthLemmas

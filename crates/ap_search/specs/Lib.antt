@@ -4,8 +4,10 @@ pub mod Continuations
 pub mod Prefixes
 pub mod MarkedContinuations
 pub mod PathTrees
+pub mod Depths
 pub mod StatementsOnSameStates
 pub mod StatementsOnRecords
 pub mod StatementsOnPrefixes
 pub mod StatementsOnTrees
+pub mod StatementsOnDepths
 pub mod StatementsOnContinuations

@@ -5,6 +5,7 @@
 #![tactic(auto)]
 
 pub mod continuations;
+pub mod depths;
 pub mod equal_states;
 pub mod paths;
 pub mod records;
