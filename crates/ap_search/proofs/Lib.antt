@@ -10,3 +10,5 @@ pub mod OrderLemmas
 pub mod QueryTreeLemmas
 pub mod SameStateLemmas
 pub mod DepthLemmas
+pub mod NumberLemmas
+pub mod FitStateLemmas

@@ -1,5 +1,5 @@
 -- Search and answers from states that count as equal.
-use Rattle.std.proofs.Common.{subst, ◌≡◌, ℕ, zero, suc, true, false, List, [], ◌∷◌, ◌++◌, map, length, refl, sym, ap, ap₂, ◌∙◌}
+use Rattle.std.proofs.Common.{subst, ◌≡◌, ℕ, zero, suc, List, [], ◌∷◌, ◌++◌, map, refl, sym, ap, ap₂, ◌∙◌}
 use Rattle.std.specs.Prelude.{Option, Some, None}
 use Rattle.ap_defs.specs.Answers as answers
 use Rattle.ap_defs.specs.Answers.{NominalAnswer, answer_in, ascending_vars, binds_in, closed_term, out_in, typed_vars}
@@ -10,15 +10,14 @@ use Rattle.ap_defs.specs.Goals.{NominalGoal, succeed, atom, equal, fresh, both, 
 use Rattle.ap_defs.specs.Occurrences.{free_vars, vars_of_terms, without_var}
 use Rattle.ap_defs.specs.Permutations.{IsSamePerm}
 use Rattle.ap_defs.specs.Renaming.{local_vars, rename_goal, rename_term}
-use Rattle.ap_defs.specs.Resolution.{Call, Output, State, below, by_clause, by_clauses, calls, clause_node, cut, each_found, found, fresh_for_each, if_reduced, if_unified, just_found, kinds_of, next_number, outputs, solve, stuck, test_fresh}
-use Rattle.ap_defs.specs.SameTerm.{SameProblems, SameTerm, SameTerms, next_problem, next_term, no_problems, no_terms, same_abs, same_app, same_name, same_pair, same_susp, same_unit}
+use Rattle.ap_defs.specs.Resolution.{Call, Output, State, below, by_clause, by_clauses, calls, clause_node, each_found, fresh_for_each, if_reduced, if_unified, just_found, kinds_of, next_number, outputs, solve, test_fresh}
+use Rattle.ap_defs.specs.SameTerm.{SameTerm, SameTerms, next_term, no_terms, same_abs, same_app, same_name, same_pair, same_susp, same_unit}
 use Rattle.ap_defs.specs.Substitution.{Binding, Problem, bound_term, moved, under, ◌#◌}
 use Rattle.ap_defs.specs.Terms as terms
 use Rattle.ap_defs.specs.Terms.{NominalTerm}
 use Rattle.ap_defs.specs.Types.{NominalKind, NominalLocal}
 use Rattle.ap_defs.specs.Unification.{Unified, reduce_all, unify, vars_then}
 use Rattle.ap_defs.specs.declared.terms.Cond.{Cond}
-use Rattle.ap_defs.specs.declared.terms.Name.{Name}
 use Rattle.ap_defs.specs.declared.terms.Swap.{Swap}
 use Rattle.ap_defs.specs.declared.terms.Var.{Var}
 use Rattle.ap_theory.specs.StatementsOnUnification.{BindAlike, BoundAlike, UnifiedAlike}

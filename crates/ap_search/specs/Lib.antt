@@ -5,9 +5,11 @@ pub mod Prefixes
 pub mod MarkedContinuations
 pub mod PathTrees
 pub mod Depths
+pub mod FitStates
 pub mod StatementsOnSameStates
 pub mod StatementsOnRecords
 pub mod StatementsOnPrefixes
 pub mod StatementsOnTrees
 pub mod StatementsOnDepths
+pub mod StatementsOnFitStates
 pub mod StatementsOnContinuations
