@@ -28,25 +28,25 @@ use Rattle.ap_search.proofs.NumberLemmas.{AreProblemsBelow, AreSomeBelow, IsUnif
 
 -- Lists of outputs.
 module _ (P : State → Type 0) where
-  found-append : (os qs : List Output) → AllFound P os → AllFound P qs → AllFound P (os ++ qs)
+  pub found-append : (os qs : List Output) → AllFound P os → AllFound P qs → AllFound P (os ++ qs)
   found-append [] qs h k = k
   found-append (found p s d ∷ os) qs h k = (h.0, found-append os qs h.1 k)
   found-append (cut p ∷ os) qs h k = found-append os qs h k
   found-append (stuck p ∷ os) qs h k = found-append os qs h k
 
-  found_below : (p : List ℕ) (node : NominalDerivation → NominalDerivation) (os : List Output) → AllFound P os → AllFound P (map (below p node) os)
+  pub found_below : (p : List ℕ) (node : NominalDerivation → NominalDerivation) (os : List Output) → AllFound P os → AllFound P (map (below p node) os)
   found_below p node [] h = tt
   found_below p node (found q s d ∷ os) h = (h.0, found_below p node os h.1)
   found_below p node (cut q ∷ os) h = found_below p node os h
   found_below p node (stuck q ∷ os) h = found_below p node os h
 
-found_weaken : (P Q : State → Type 0) → ((s : State) → P s → Q s) → (os : List Output) → AllFound P os → AllFound Q os
+pub found_weaken : (P Q : State → Type 0) → ((s : State) → P s → Q s) → (os : List Output) → AllFound P os → AllFound Q os
 found_weaken P Q w [] h = tt
 found_weaken P Q w (found p s d ∷ os) h = (w s h.0, found_weaken P Q w os h.1)
 found_weaken P Q w (cut p ∷ os) h = found_weaken P Q w os h
 found_weaken P Q w (stuck p ∷ os) h = found_weaken P Q w os h
 
-found_each : (P Q : State → Type 0) (go : State → List Output) → ((s : State) → P s → AllFound Q (go s)) → (os : List Output) → AllFound P os → AllFound Q (each_found go os)
+pub found_each : (P Q : State → Type 0) (go : State → List Output) → ((s : State) → P s → AllFound Q (go s)) → (os : List Output) → AllFound P os → AllFound Q (each_found go os)
 found_each P Q go k [] h = tt
 found_each P Q go k (found p s d ∷ os) h = found-append Q (map (below p (nodes.both d)) (go s)) (each_found go os) (found_below Q p (nodes.both d) (go s) (k s h.0)) (found_each P Q go k os h.1)
 found_each P Q go k (cut p ∷ os) h = found_each P Q go k os h

@@ -12,3 +12,7 @@ pub mod SameStateLemmas
 pub mod DepthLemmas
 pub mod NumberLemmas
 pub mod FitStateLemmas
+pub mod TypingLemmas
+pub mod TypedUnificationLemmas
+pub mod TypedStateLemmas
+pub mod TypedAnswerLemmas

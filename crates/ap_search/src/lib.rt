@@ -11,3 +11,4 @@ pub mod fit_states;
 pub mod paths;
 pub mod records;
 pub mod trees;
+pub mod types;

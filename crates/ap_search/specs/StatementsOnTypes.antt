@@ -1,0 +1,30 @@
+-- What is proved of the types of states and answers.
+use Rattle.std.specs.Prelude.{◌≡◌, ℕ, List, Some}
+use Rattle.ap_defs.specs.Answers.{query_outs}
+use Rattle.ap_defs.specs.Freshness.{Conds}
+use Rattle.ap_defs.specs.Goals.{NominalProgram, NominalQuery}
+use Rattle.ap_defs.specs.Resolution.{solve_query}
+use Rattle.ap_defs.specs.Substitution.{Binding}
+use Rattle.ap_defs.specs.Terms.{NominalTerm}
+use Rattle.ap_defs.specs.Types.{NominalConstructor, NominalKind, NominalType}
+use Rattle.ap_defs.specs.Unification.{Unified, unify}
+use Rattle.ap_program.specs.RawTyping.{HasTermType}
+use Rattle.ap_program.specs.Typed.{HaveTypes, IsTypedProgram, IsTypedQuery, term_form}
+use Rattle.ap_search.specs.FitStates.{AllFound}
+use Rattle.ap_search.specs.TypedStates.{AreTypedBindings, AreTypedConds, AreTypedOuts, IsTypedState}
+
+-- unification keeps types
+abbrev pub UnificationKeepsTypes : Type 0
+UnificationKeepsTypes = (cs : List NominalConstructor) (kinds : List NominalKind) (bs : List Binding) (ds : Conds) (ts us : List NominalTerm) (as' : List NominalType) (r : Unified)
+    → AreTypedBindings cs kinds bs → AreTypedConds kinds ds → HaveTypes (HasTermType cs kinds) ts as' → HaveTypes (HasTermType cs kinds) us as'
+    → unify bs ds ts us ≡ Some r → AreTypedBindings cs kinds r.bindings × AreTypedConds kinds r.conditions
+
+-- so the search of a typed query of a typed program finds typed states
+abbrev pub SearchFindsTypedStates : Type 0
+SearchFindsTypedStates = (p : NominalProgram) → IsTypedProgram p → (d : ℕ) (q : NominalQuery) → IsTypedQuery term_form p.signature q
+    → AllFound (IsTypedState p.signature.constructors) (solve_query p.clauses d q)
+
+-- and its answers are typed
+abbrev pub AnswersAreTyped : Type 0
+AnswersAreTyped = (p : NominalProgram) → IsTypedProgram p → (d : ℕ) (q : NominalQuery) → IsTypedQuery term_form p.signature q
+    → AreTypedOuts p.signature.constructors q.locals (query_outs p.clauses d q)
