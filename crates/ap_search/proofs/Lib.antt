@@ -16,3 +16,4 @@ pub mod TypingLemmas
 pub mod TypedUnificationLemmas
 pub mod TypedStateLemmas
 pub mod TypedAnswerLemmas
+pub mod TypedBelowLemmas

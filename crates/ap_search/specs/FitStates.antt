@@ -1,6 +1,6 @@
 -- States as the search of a well formed query has them: bindings are carried out, conditions are on unbound variables, and every
 -- number is below the next one.
-use Rattle.std.specs.Prelude.{◌<◌, ℕ, List, [], ◌∷◌, length}
+use Rattle.std.specs.Prelude.{◌<◌, ◌^◌, ℕ, List, [], ◌∷◌, length}
 use Rattle.ap_defs.specs.Freshness.{Conds}
 use Rattle.ap_defs.specs.Goals.{Clauses, NominalClause}
 use Rattle.ap_defs.specs.Renaming.{AreBelow, IsBelow, IsGoalBelow}
@@ -40,3 +40,8 @@ AllFound P [] = Unit {0}
 AllFound P (found p s d ∷ os) = P s × AllFound P os
 AllFound P (cut p ∷ os) = AllFound P os
 AllFound P (stuck p ∷ os) = AllFound P os
+
+-- the clauses of each predicate can be numbered
+abbrev pub AreShort : Clauses → Type 0
+AreShort [] = Unit {0}
+AreShort (cs ∷ css) = (length cs < 2 ^ 32) × AreShort css

@@ -1,5 +1,5 @@
 -- States and answers that are typed by the kinds of their numbers.
-use Rattle.std.specs.Prelude.{Bool, false, List, [], ◌∷◌}
+use Rattle.std.specs.Prelude.{◌≡◌, ℕ, Bool, false, List, [], ◌∷◌, length}
 use Rattle.ap_defs.specs.declared.terms.Var.{Var}
 use Rattle.ap_defs.specs.Answers as answers
 use Rattle.ap_defs.specs.Answers.{NominalAnswer, NominalOut}
@@ -52,3 +52,10 @@ AreTypedOuts cs locals [] = Unit {0}
 AreTypedOuts cs locals (answers.found p a ∷ os) = IsTypedAnswer cs locals a × AreTypedOuts cs locals os
 AreTypedOuts cs locals (answers.cut p ∷ os) = AreTypedOuts cs locals os
 AreTypedOuts cs locals (answers.stuck p ∷ os) = AreTypedOuts cs locals os
+
+-- each answer has so many bindings
+abbrev pub HaveBindings : ℕ → List NominalOut → Type 0
+HaveBindings n [] = Unit {0}
+HaveBindings n (answers.found p a ∷ os) = (length a.binds ≡ n) × HaveBindings n os
+HaveBindings n (answers.cut p ∷ os) = HaveBindings n os
+HaveBindings n (answers.stuck p ∷ os) = HaveBindings n os

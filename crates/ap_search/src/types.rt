@@ -1,6 +1,6 @@
 //! The types of states and answers.
 
-ghost use Rattle.ap_search.specs.StatementsOnTypes.{AnswersAreTyped, SearchFindsTypedStates, UnificationKeepsTypes};
+ghost use Rattle.ap_search.specs.StatementsOnTypes.{AnswersAreTyped, AnswersHaveBindings, SearchFindsTypedStates, TypedIsFit, TypedQueryIsFit, UnificationKeepsTypes};
 
 /// Unification of terms that have the same types keeps types.
 pub fn unification_keeps_types()
@@ -11,4 +11,11 @@ pub fn unification_keeps_types()
 pub fn answers_are_typed()
     ensures states { SearchFindsTypedStates }
     ensures answers { AnswersAreTyped }
+    ensures bindings { AnswersHaveBindings }
+{}
+
+/// The numbers of a typed program and of a typed query are those of their identifiers.
+pub fn typed_items_are_fit()
+    ensures program { TypedIsFit }
+    ensures query { TypedQueryIsFit }
 {}
