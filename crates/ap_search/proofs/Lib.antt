@@ -17,3 +17,4 @@ pub mod TypedUnificationLemmas
 pub mod TypedStateLemmas
 pub mod TypedAnswerLemmas
 pub mod TypedBelowLemmas
+pub mod InTreeLemmas

@@ -1,8 +1,8 @@
 -- What is typed by kinds has no number beyond them.
-use Rattle.std.proofs.Common.{subst, ◌≡◌, ◌+◌, ◌<◌, ◌≤◌, ◌^◌, ℕ, zero, suc, Bool, true, false, List, [], ◌∷◌, ◌++◌, map, length, refl, sym, ap, ◌∙◌, arith}
+use Rattle.std.proofs.Common.{subst, ◌≡◌, ◌<◌, ◌≤◌, ◌^◌, ℕ, zero, suc, Bool, true, false, List, [], ◌∷◌, map, length, refl, ap, ◌∙◌, arith}
 use Rattle.std.specs.Prelude.{Option, Some, None}
 use Rattle.std.proofs.lemmas.List.{length-map}
-use Rattle.ap_defs.specs.Answers.{binds_in, kind_at, out_in, query_outs}
+use Rattle.ap_defs.specs.Answers.{kind_at, out_in, query_outs}
 use Rattle.ap_defs.specs.Goals.{NominalGoal, succeed, atom, equal, fresh, both, either, exists, new, NominalClause, NominalProgram, NominalQuery, Clauses}
 use Rattle.ap_defs.specs.Lines.{text_of_var, var_texts}
 use Rattle.ap_defs.specs.Renaming.{AreBelow, AreSwapsBelow, IsBelow, IsGoalBelow, local_vars, var_unless}
@@ -12,10 +12,9 @@ use Rattle.ap_defs.specs.Types as types
 use Rattle.ap_defs.specs.Types.{NominalConstructor, NominalKind, NominalLocal, NominalSignature, NominalType}
 use Rattle.ap_defs.specs.Typing.{Want, one}
 use Rattle.ap_defs.specs.declared.terms.Swap.{Swap}
-use Rattle.ap_defs.specs.declared.terms.Var.{Var}
 use Rattle.ap_program.specs.NameRestriction.{item_count, most_items, sum_of_lengths}
 use Rattle.ap_program.specs.RawTyping.{AreSwapsOf, HasTermType, IsTypedTerm}
-use Rattle.ap_program.specs.Typed.{AreArguments, AreTypedClauses, AreTypedFrom, HaveTypes, IsTypedClause, IsTypedGoal, IsTypedProgram, IsTypedQuery, predicate_at, term_form}
+use Rattle.ap_program.specs.Typed.{AreArguments, AreTypedClauses, AreTypedFrom, HaveTypes, IsTypedGoal, IsTypedProgram, IsTypedQuery, predicate_at, term_form}
 use Rattle.ap_search.specs.FitStates.{AreFitClauses, AreShort, IsFitProgram}
 use Rattle.ap_search.specs.TypedStates.{HaveBindings}
 use Rattle.ap_search.proofs.TypingLemmas.{abs_view, app_view, name_view, pair_view, susp_view}
