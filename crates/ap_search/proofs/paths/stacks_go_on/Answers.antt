@@ -1,0 +1,11 @@
+use Rattle.ap_search.proofs.MarkLemmas.{marked_stack_begins, marks_stack, stack_begins}
+use Rattle.ap_search.proofs.paths.stacks_go_on.Goals as goal
+
+pub returns-clause-outputs : goal.returns-clause-outputs
+returns-clause-outputs c = stack_begins
+
+pub returns-clause-marks : goal.returns-clause-marks
+returns-clause-marks c = marked_stack_begins
+
+pub returns-clause-among : goal.returns-clause-among
+returns-clause-among c = marks_stack
