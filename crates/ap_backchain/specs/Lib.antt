@@ -1,0 +1,6 @@
+pub mod Below
+pub mod Places
+pub mod Starts
+pub mod Positions
+pub mod Turns
+pub mod Views
