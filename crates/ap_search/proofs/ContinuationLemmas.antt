@@ -72,7 +72,7 @@ module _ (k : Continuation) where
   follow_fresh p s xs (terms.app f t) u = refl
   follow_fresh p s xs (terms.abs a t) u = refl
 
-brought_both : (d e : NominalDerivation) → vars_brought (nodes.both d e) ≡ vars_brought d ++ vars_brought e
+pub brought_both : (d e : NominalDerivation) → vars_brought (nodes.both d e) ≡ vars_brought d ++ vars_brought e
 brought_both d e = vars_of_terms-append (terms_in d) (terms_in e)
 
 brought_vars : (xs : List Var) → vars_of_terms (map (terms.susp []) xs) ≡ xs

@@ -84,15 +84,19 @@ module _ (mcall : MarkedCallThen) (call : CallThen) (same : MarksCall mcall call
   marks_goal (new a g) m k h p s xs =
       among_reduced (λ r. marked_then mcall g m p r xs) (λ r. goal_then call g k p r xs) (λ r. marks_goal g m k h p r xs) s (reduce_all s.bindings (fresh_for_each a (free_vars g)))
 
-  marks_clauses : (ts : List NominalTerm) (m : MarkedContinuation) (k : Continuation) → Marks m k → (i : ℕ) (cs : List NominalClause)
+  pub marks_clause : (ts : List NominalTerm) (m : MarkedContinuation) (k : Continuation) → Marks m k → (i : ℕ) (c : NominalClause)
+      → Marks (marked_clause_then (marked_then mcall) ts m i c) (clause_then (goal_then call) ts k i c)
+  marks_clause ts m k h i c p s xs =
+      let n = next_number s in
+      among_unified (λ r. marked_then mcall (rename_goal n c.body) m (p ++ i ∷ []) r (xs ++ local_vars n c.locals)) (λ r. goal_then call (rename_goal n c.body) k (p ++ i ∷ []) r (xs ++ local_vars n c.locals)) (λ r. marks_goal (rename_goal n c.body) m k h (p ++ i ∷ []) r (xs ++ local_vars n c.locals))
+      (record s { kinds = s.kinds ++ kinds_of c.locals }) (unify s.bindings s.conditions ts (map (rename_term n) c.args))
+
+  pub marks_clauses : (ts : List NominalTerm) (m : MarkedContinuation) (k : Continuation) → Marks m k → (i : ℕ) (cs : List NominalClause)
       → Marks (marked_clauses_then (marked_then mcall) ts m i cs) (clauses_then (goal_then call) ts k i cs)
   marks_clauses ts m k h i [] p s xs = refl
   marks_clauses ts m k h i (c ∷ cs) p s xs =
-      let n = next_number s in
       outs_among-append (marked_clause_then (marked_then mcall) ts m i c p s xs) (marked_clauses_then (marked_then mcall) ts m (suc i) cs p s xs)
-      ∙ ap₂ ◌++◌
-      (among_unified (λ r. marked_then mcall (rename_goal n c.body) m (p ++ i ∷ []) r (xs ++ local_vars n c.locals)) (λ r. goal_then call (rename_goal n c.body) k (p ++ i ∷ []) r (xs ++ local_vars n c.locals)) (λ r. marks_goal (rename_goal n c.body) m k h (p ++ i ∷ []) r (xs ++ local_vars n c.locals)) (record s { kinds = s.kinds ++ kinds_of c.locals }) (unify s.bindings s.conditions ts (map (rename_term n) c.args)))
-      (marks_clauses ts m k h (suc i) cs p s xs)
+      ∙ ap₂ ◌++◌ (marks_clause ts m k h i c p s xs) (marks_clauses ts m k h (suc i) cs p s xs)
 
 pub marks_calls : (program : Clauses) (d : ℕ) → MarksCall (marked_calls_then program d) (calls_then program d)
 marks_calls program zero c ts m k h p s xs = refl

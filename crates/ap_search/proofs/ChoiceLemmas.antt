@@ -1,0 +1,116 @@
+-- The ways of a choice: what a stack has below each, and that the choice is the only one at its path.
+use Rattle.std.proofs.Common.{subst, ◌≡◌, ◌≢◌, ◌+◌, ◌<◌, ℕ, zero, suc, Bool, true, false, ◌&&◌, List, [], ◌∷◌, ◌++◌, map, length, get_or, refl, sym, ap, ap₂, ◌∙◌, append-nil, arith, true≢false}
+use Rattle.std.specs.Prelude.{if◌then◌else◌}
+use Rattle.ap_defs.specs.Answers.{NominalOut, out_path}
+use Rattle.ap_defs.specs.Goals.{NominalGoal, NominalClause, Clauses}
+use Rattle.ap_defs.specs.PathOrder.{has_prefix}
+use Rattle.ap_defs.specs.Paths as tree
+use Rattle.ap_defs.specs.Paths.{HasChoice, Mark, here, later}
+use Rattle.ap_defs.specs.Renaming.{local_vars, rename_goal, rename_term}
+use Rattle.ap_defs.specs.Resolution.{State, kinds_of, next_number}
+use Rattle.ap_defs.specs.Terms.{NominalTerm}
+use Rattle.ap_defs.specs.Types.{NominalLocal}
+use Rattle.ap_defs.specs.Unification.{unify}
+use Rattle.ap_defs.specs.declared.terms.Var.{Var}
+use Rattle.ap_theory.proofs.BooleanLemmas.{and_both, and_false, and_left, and_right}
+use Rattle.ap_search.specs.Continuations.{Waiting, calls_then, clause_then, clauses_then, goal_then, stack_then}
+use Rattle.ap_search.specs.MarkedContinuations.{MarkedCallThen, MarkedContinuation, NominalMark, choice, mark_in, mark_path, marked_calls_then, marked_clause_then, marked_clauses_then, marked_stack_then, marked_then, out, outs_among, widths_at}
+use Rattle.ap_search.specs.Prefixes.{AllBegin, beginning}
+use Rattle.ap_search.proofs.MarkLemmas.{Begins, CallBegins, MarksCall, begin_among, beginning_among, calls_begin, clause_begins, goal_begins, marked_stack_begins, marks_calls, marks_clause, marks_clauses, marks_goal, marks_stack}
+use Rattle.ap_search.proofs.PrefixLemmas.{begin_shorter, beginning-append, beginning_other, beginning_whole, prefix_itself, prefix_longer}
+
+module _ {A : Type 0} (path : A → List ℕ) where
+  -- of two lists of which one goes on by i and the other not
+  pub beginning_first : (p : List ℕ) (i : ℕ) (os qs : List A) → AllBegin path (p ++ i ∷ []) os → beginning path (p ++ i ∷ []) qs ≡ []
+      → beginning path (p ++ i ∷ []) (os ++ qs) ≡ os
+  beginning_first p i os qs h e =
+      beginning-append path (p ++ i ∷ []) os qs ∙ ap₂ ◌++◌ (beginning_whole path (p ++ i ∷ []) os h) e ∙ append-nil os
+
+  pub beginning_second : (p : List ℕ) (i j : ℕ) (os qs : List A) → i ≢ j → AllBegin path (p ++ i ∷ []) os
+      → beginning path (p ++ j ∷ []) (os ++ qs) ≡ beginning path (p ++ j ∷ []) qs
+  beginning_second p i j os qs n h = beginning-append path (p ++ j ∷ []) os qs ∙ ap (λ l. l ++ beginning path (p ++ j ∷ []) qs) (beginning_other path p i j os n h)
+
+-- The ways of an atom, of marks.
+module _ (mcall : MarkedCallThen) (begins : CallBegins mcall) (ts : List NominalTerm) (m : MarkedContinuation) (h : Begins m) (p : List ℕ) (s : State) (xs : List Var) where
+  abbrev way : ℕ → NominalClause → List NominalMark
+  way i c = marked_clause_then (marked_then mcall) ts m i c p s xs
+
+  abbrev ways : ℕ → List NominalClause → List NominalMark
+  ways i cs = marked_clauses_then (marked_then mcall) ts m i cs p s xs
+
+  -- clauses from n on have nothing below an earlier one
+  pub no_earlier_way : (i n : ℕ) (cs : List NominalClause) → i < n → beginning mark_path (p ++ i ∷ []) (ways n cs) ≡ []
+  no_earlier_way i n [] l = refl
+  no_earlier_way i n (c ∷ cs) l =
+      beginning_second mark_path p n i (way n c) (ways (suc n) cs) (λ e. omega arith) (clause_begins mcall begins ts m h n c p s xs)
+      ∙ no_earlier_way i (suc n) cs (omega arith)
+
+  -- below the i-th clause there is what it has
+  pub mark_way : (n i : ℕ) (d : NominalClause) (cs : List NominalClause) → i < length cs
+      → beginning mark_path (p ++ (n + i) ∷ []) (ways n cs) ≡ way (n + i) (get_or cs i d)
+  mark_way n i d [] l = absurd (omega arith)
+  mark_way n zero d (c ∷ cs) l =
+      let e : n + zero ≡ n = omega arith in
+      rw e (beginning_first mark_path p n (way n c) (ways (suc n) cs) (clause_begins mcall begins ts m h n c p s xs) (no_earlier_way n (suc n) cs (omega arith)))
+  mark_way n (suc i) d (c ∷ cs) l =
+      let e : n + suc i ≡ suc n + i = omega arith in
+      rw e (beginning_second mark_path p n (suc n + i) (way n c) (ways (suc n) cs) (λ f. omega arith) (clause_begins mcall begins ts m h n c p s xs) ∙ mark_way (suc n) i d cs (omega arith))
+
+-- The ways of an atom, of outputs.
+module _ (program : Clauses) (d : ℕ) (locals : List NominalLocal) (ws : List Waiting) (ts : List NominalTerm) (p : List ℕ) (s : State) (xs : List Var) where
+  abbrev out_way : ℕ → NominalClause → List NominalOut
+  out_way i c = clause_then (goal_then (calls_then program d)) ts (stack_then program locals ws) i c p s xs
+
+  abbrev out_ways : ℕ → List NominalClause → List NominalOut
+  out_ways i cs = clauses_then (goal_then (calls_then program d)) ts (stack_then program locals ws) i cs p s xs
+
+  -- below the i-th clause there is what it has
+  pub clause_at : (n i : ℕ) (c : NominalClause) (cs : List NominalClause) → i < length cs
+      → beginning out_path (p ++ (n + i) ∷ []) (out_ways n cs) ≡ out_way (n + i) (get_or cs i c)
+  clause_at n i c cs l =
+      let mcall = marked_calls_then program d in
+      let k = marked_stack_then program locals ws in
+      ap (beginning out_path (p ++ (n + i) ∷ [])) (sym (marks_clauses mcall (calls_then program d) (marks_calls program d) ts k (stack_then program locals ws) (marks_stack program locals ws) n cs p s xs))
+      ∙ sym (beginning_among (p ++ (n + i) ∷ []) (marked_clauses_then (marked_then mcall) ts k n cs p s xs))
+      ∙ ap outs_among (mark_way mcall (calls_begin program d) ts k (marked_stack_begins program locals ws) p s xs n i c cs l)
+      ∙ marks_clause mcall (calls_then program d) (marks_calls program d) ts k (stack_then program locals ws) (marks_stack program locals ws) (n + i) (get_or cs i c) p s xs
+
+-- the outputs of a goal in front of a stack begin with the path
+pub goal_outs_begin : (program : Clauses) (d : ℕ) (locals : List NominalLocal) (ws : List Waiting) (g : NominalGoal) (p : List ℕ) (s : State) (xs : List Var)
+    → AllBegin out_path p (goal_then (calls_then program d) g (stack_then program locals ws) p s xs)
+goal_outs_begin program d locals ws g p s xs =
+    let k = marked_stack_then program locals ws in
+    subst (AllBegin out_path p) (marks_goal (marked_calls_then program d) (calls_then program d) (marks_calls program d) g k (stack_then program locals ws) (marks_stack program locals ws) p s xs)
+    (begin_among p (marked_then (marked_calls_then program d) g k p s xs) (goal_begins (marked_calls_then program d) (calls_begin program d) g k (marked_stack_begins program locals ws) p s xs))
+
+-- The ways of a disjunction.
+module _ (program : Clauses) (d : ℕ) (locals : List NominalLocal) (ws : List Waiting) (g h : NominalGoal) (p : List ℕ) (s : State) (xs : List Var) where
+  abbrev side : NominalGoal → ℕ → List NominalOut
+  side f i = goal_then (calls_then program d) f (stack_then program locals ws) (p ++ i ∷ []) s xs
+
+  pub left_at : beginning out_path (p ++ 1 ∷ []) (side g 1 ++ side h 2) ≡ side g 1
+  left_at =
+      beginning_first out_path p 1 (side g 1) (side h 2) (goal_outs_begin program d locals ws g (p ++ 1 ∷ []) s xs)
+      (beginning_other out_path p 2 1 (side h 2) (λ e. omega arith) (goal_outs_begin program d locals ws h (p ++ 2 ∷ []) s xs))
+
+  pub right_at : beginning out_path (p ++ 2 ∷ []) (side g 1 ++ side h 2) ≡ side h 2
+  right_at =
+      beginning_second out_path p 1 2 (side g 1) (side h 2) (λ e. omega arith) (goal_outs_begin program d locals ws g (p ++ 1 ∷ []) s xs)
+      ∙ beginning_whole out_path (p ++ 2 ∷ []) (side h 2) (goal_outs_begin program d locals ws h (p ++ 2 ∷ []) s xs)
+
+-- Widths of choices at a path.
+pub widths_none : (p : List ℕ) (i : ℕ) (ms : List NominalMark) → AllBegin mark_path (p ++ i ∷ []) ms → widths_at p ms ≡ []
+widths_none p i [] h = refl
+widths_none p i (out o ∷ ms) h = widths_none p i ms h.1
+widths_none p i (choice q w ∷ ms) h =
+    ap (λ b. if has_prefix p q && b then (w ∷ widths_at p ms) else widths_at p ms) (prefix_longer p i q h.0)
+    ∙ ap (λ b. if b then (w ∷ widths_at p ms) else widths_at p ms) (and_false (has_prefix p q)) ∙ widths_none p i ms h.1
+
+pub widths-append : (p : List ℕ) (ms ns : List NominalMark) → widths_at p (ms ++ ns) ≡ widths_at p ms ++ widths_at p ns
+widths-append p [] ns = refl
+widths-append p (out o ∷ ms) ns = widths-append p ms ns
+widths-append p (choice q w ∷ ms) ns =
+    elim (has_prefix p q && has_prefix q p) as (λ b. (if b then (w ∷ widths_at p (ms ++ ns)) else widths_at p (ms ++ ns)) ≡ (if b then (w ∷ widths_at p ms) else widths_at p ms) ++ widths_at p ns) [
+      | true ↦ ap (λ l. w ∷ l) (widths-append p ms ns)
+      | false ↦ widths-append p ms ns
+    ]
