@@ -1,1 +1,3 @@
+pub mod ReducedLemmas
 pub mod TurnLemmas
+pub mod VarLemmas

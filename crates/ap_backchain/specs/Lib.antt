@@ -1,4 +1,5 @@
 pub mod Below
+pub mod BelowProps
 pub mod Places
 pub mod Starts
 pub mod Positions

@@ -7,7 +7,8 @@ ghost use Rattle.ap_backchain.specs.Below.{AreClausesBelow, AreEachBelow, IsClau
 ghost use Rattle.ap_backchain.specs.Places.{position_in, position_of, positions_of};
 ghost use Rattle.ap_backchain.specs.Positions.{by_clause, by_clauses};
 
-use crate::branch::{Branch, branch_in, with_choice, with_goal, with_vars};
+use crate::branch::Branch;
+use crate::moves::{branch_in, with_choice, with_goal, with_vars};
 use crate::renaming::vars_of_locals;
 use crate::state::clause_state;
 use ap_defs::goals::Clause;

@@ -12,7 +12,7 @@ ghost use Rattle.ap_backchain.specs.Starts.{first_position};
 use crate::branch::Branch;
 use crate::frames::Frame;
 use crate::state::state_with;
-use crate::turns::{Turn, turn};
+use crate::turns::{Turn, take_turn};
 use ap_defs::goals::{Clause, Local, Query};
 use ap_defs::lists::List;
 use ap_defs::memory::Memory;
@@ -59,7 +59,7 @@ pub fn outputs_from<'a>(
     let mut pending = Vec::new(alloc);
     pending.push(first)?;
     'searching: while let Some(b) = pending.pop() {
-        match turn(alloc, clauses, locals, b)? {
+        match take_turn(alloc, clauses, locals, b)? {
             Turn::Ends(out) => outs.push(out)?,
             Turn::Goes(mut kids) => {
                 kids.reverse();

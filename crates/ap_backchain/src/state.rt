@@ -70,10 +70,12 @@ pub fn unified(
 {
     match unify_lists(alloc, &s.bindings, &s.conditions, left, right)? {
         None => Ok(None),
-        Some(UnifiedValue {
-            bindings,
-            conditions,
-        }) => {
+        Some(
+            UnifiedValue {
+                bindings,
+                conditions,
+            },
+        ) => {
             let kinds = copy_kinds(alloc, &s.kinds)?;
             Ok(Some(SearchState {
                 bindings,
@@ -99,10 +101,12 @@ pub fn clause_state(
     let head = rename_terms(alloc, s.kinds.len() as u64, clause.args.items())?;
     match unify_lists(alloc, &s.bindings, &s.conditions, args, &head)? {
         None => Ok(None),
-        Some(UnifiedValue {
-            bindings,
-            conditions,
-        }) => {
+        Some(
+            UnifiedValue {
+                bindings,
+                conditions,
+            },
+        ) => {
             let kinds = kinds_with(alloc, &s.kinds, clause.locals.items())?;
             Ok(Some(SearchState {
                 bindings,

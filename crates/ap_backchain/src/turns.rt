@@ -13,11 +13,12 @@ ghost use Rattle.ap_backchain.specs.Positions.{goes, goes_with as going_with, tu
 ghost use Rattle.ap_backchain.specs.Views.{option_state, state_of};
 
 use crate::answers::answer_in;
-use crate::branch::{Branch, copy_branch, with_choice, with_goal, with_state, with_vars};
+use crate::branch::Branch;
 use crate::clauses::{clauses_at, enter_each};
 use crate::frames::Frame;
-use crate::fresh::{fresh_for_vars, fresh_state};
 use crate::free_vars::free_vars_of;
+use crate::fresh::{fresh_for_vars, fresh_state};
+use crate::moves::{copy_branch, with_choice, with_goal, with_state, with_vars};
 use crate::renaming::{rename_term, rename_terms};
 use crate::state::{SearchState, unified};
 use ap_defs::goals::{Clause, Goal, Local};
@@ -60,12 +61,7 @@ fn goes_with<'a>(
 }
 
 /// The turn of an equation.
-fn turn_of_equation<'a>(
-    alloc: Global,
-    b: Branch<'a>,
-    t: Term,
-    u: Term,
-) -> Result<Turn<'a>, Memory>
+fn turn_of_equation<'a>(alloc: Global, b: Branch<'a>, t: Term, u: Term) -> Result<Turn<'a>, Memory>
     ensures { IfOk result (λ r. turned_of r ≡ turned_goal [] 0 (equal (term_of t) (term_of u)) (position_of b.entry)) }
 {
     let state = unified(alloc, &b.state, &[t], &[u])?;
@@ -240,7 +236,7 @@ fn found<'a>(alloc: Global, locals: &[Local], b: Branch<'a>) -> Result<Out, Memo
 
 /// One turn of the search of a query with these identifiers: the first goal that waits is taken, or
 /// the state is found where none waits.
-pub fn turn<'a>(
+pub fn take_turn<'a>(
     alloc: Global,
     clauses: &'a [List<Clause<Term>>],
     locals: &[Local],
