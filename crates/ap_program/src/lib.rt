@@ -3,4 +3,7 @@
 #![tactic(auto)]
 
 pub mod faults;
+pub mod renaming;
+#[cfg(test)]
+mod renaming_tests;
 pub mod restricted;

@@ -1,23 +1,19 @@
 -- The ways of a choice: what a stack has below each, and that the choice is the only one at its path.
-use Rattle.std.proofs.Common.{subst, ◌≡◌, ◌≢◌, ◌+◌, ◌<◌, ℕ, zero, suc, Bool, true, false, ◌&&◌, List, [], ◌∷◌, ◌++◌, map, length, get_or, refl, sym, ap, ap₂, ◌∙◌, append-nil, arith, true≢false}
+use Rattle.std.proofs.Common.{subst, ◌≡◌, ◌≢◌, ◌+◌, ◌<◌, ℕ, zero, suc, true, false, ◌&&◌, List, [], ◌∷◌, ◌++◌, length, get_or, refl, sym, ap, ap₂, ◌∙◌, append-nil, arith}
 use Rattle.std.specs.Prelude.{if◌then◌else◌}
 use Rattle.ap_defs.specs.Answers.{NominalOut, out_path}
 use Rattle.ap_defs.specs.Goals.{NominalGoal, NominalClause, Clauses}
 use Rattle.ap_defs.specs.PathOrder.{has_prefix}
-use Rattle.ap_defs.specs.Paths as tree
-use Rattle.ap_defs.specs.Paths.{HasChoice, Mark, here, later}
-use Rattle.ap_defs.specs.Renaming.{local_vars, rename_goal, rename_term}
-use Rattle.ap_defs.specs.Resolution.{State, kinds_of, next_number}
+use Rattle.ap_defs.specs.Resolution.{State}
 use Rattle.ap_defs.specs.Terms.{NominalTerm}
 use Rattle.ap_defs.specs.Types.{NominalLocal}
-use Rattle.ap_defs.specs.Unification.{unify}
 use Rattle.ap_defs.specs.declared.terms.Var.{Var}
-use Rattle.ap_theory.proofs.BooleanLemmas.{and_both, and_false, and_left, and_right}
+use Rattle.ap_theory.proofs.BooleanLemmas.{and_false}
 use Rattle.ap_search.specs.Continuations.{Waiting, calls_then, clause_then, clauses_then, goal_then, stack_then}
-use Rattle.ap_search.specs.MarkedContinuations.{MarkedCallThen, MarkedContinuation, NominalMark, choice, mark_in, mark_path, marked_calls_then, marked_clause_then, marked_clauses_then, marked_stack_then, marked_then, out, outs_among, widths_at}
+use Rattle.ap_search.specs.MarkedContinuations.{MarkedCallThen, MarkedContinuation, NominalMark, choice, mark_path, marked_calls_then, marked_clause_then, marked_clauses_then, marked_stack_then, marked_then, out, outs_among, widths_at}
 use Rattle.ap_search.specs.Prefixes.{AllBegin, beginning}
-use Rattle.ap_search.proofs.MarkLemmas.{Begins, CallBegins, MarksCall, begin_among, beginning_among, calls_begin, clause_begins, goal_begins, marked_stack_begins, marks_calls, marks_clause, marks_clauses, marks_goal, marks_stack}
-use Rattle.ap_search.proofs.PrefixLemmas.{begin_shorter, beginning-append, beginning_other, beginning_whole, prefix_itself, prefix_longer}
+use Rattle.ap_search.proofs.MarkLemmas.{Begins, CallBegins, begin_among, beginning_among, calls_begin, clause_begins, goal_begins, marked_stack_begins, marks_calls, marks_clause, marks_clauses, marks_goal, marks_stack}
+use Rattle.ap_search.proofs.PrefixLemmas.{beginning-append, beginning_other, beginning_whole, prefix_longer}
 
 module _ {A : Type 0} (path : A → List ℕ) where
   -- of two lists of which one goes on by i and the other not

@@ -8,7 +8,7 @@ use Rattle.ap_defs.specs.Derivations.{NominalDerivation, terms_in}
 use Rattle.ap_defs.specs.Freshness.{reduce}
 use Rattle.ap_defs.specs.Goals.{NominalGoal, succeed, atom, equal, fresh, both, either, exists, new, NominalClause, NominalQuery, Clauses, clauses_of}
 use Rattle.ap_defs.specs.Occurrences.{free_vars, vars_of_terms}
-use Rattle.ap_defs.specs.Renaming.{local_names, local_vars, rename_goal, rename_term}
+use Rattle.ap_defs.specs.Renaming.{local_vars, rename_goal, rename_term}
 use Rattle.ap_defs.specs.Resolution.{Call, Output, State, below, by_clause, by_clauses, calls, clause_node, cut, each_found, first_state, found, fresh_for_each, if_reduced, if_unified, just_found, kinds_of, next_number, outputs, solve, stuck, test_fresh}
 use Rattle.ap_defs.specs.Substitution.{under}
 use Rattle.ap_defs.specs.Terms as terms

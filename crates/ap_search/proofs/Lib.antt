@@ -4,3 +4,7 @@ pub mod PrefixLemmas
 pub mod MarkLemmas
 pub mod MarkedLemmas
 pub mod ChoiceLemmas
+pub mod TreeLemmas
+pub mod SubtreeLemmas
+pub mod OrderLemmas
+pub mod QueryTreeLemmas

@@ -1,7 +1,6 @@
 -- Marks of stacks: they begin with the path, and without choices they are the outputs.
-use Rattle.std.proofs.Common.{subst, ◌≡◌, ◌≢◌, ◌+◌, ◌<◌, ℕ, zero, suc, Bool, true, false, ◌&&◌, List, [], ◌∷◌, ◌++◌, map, length, get_or, refl, sym, ap, ap₂, ◌∙◌, append_assoc, append-nil, arith}
+use Rattle.std.proofs.Common.{subst, ◌≡◌, ℕ, zero, suc, true, false, List, [], ◌∷◌, ◌++◌, map, refl, ap, ap₂, ◌∙◌}
 use Rattle.std.specs.Prelude.{Option, Some, None, if◌then◌else◌}
-use Rattle.ap_defs.specs.Answers as answers
 use Rattle.ap_defs.specs.Answers.{NominalOut, out_path}
 use Rattle.ap_defs.specs.Freshness.{reduce}
 use Rattle.ap_defs.specs.Goals.{NominalGoal, succeed, atom, equal, fresh, both, either, exists, new, NominalClause, Clauses, clauses_of}
@@ -16,10 +15,10 @@ use Rattle.ap_defs.specs.Types.{NominalLocal}
 use Rattle.ap_defs.specs.Unification.{Unified, reduce_all, unify}
 use Rattle.ap_defs.specs.declared.terms.Cond.{Cond}
 use Rattle.ap_defs.specs.declared.terms.Var.{Var}
-use Rattle.ap_search.specs.Continuations.{CallThen, Continuation, Waiting, answer_then, calls_then, clause_then, clauses_then, goal_then, stack_then, then_if_reduced, then_if_unified, then_test_fresh}
-use Rattle.ap_search.specs.MarkedContinuations.{MarkedCallThen, MarkedContinuation, NominalMark, choice, mark_path, marked_answer_then, marked_calls_then, marked_clause_then, marked_clauses_then, marked_stack_then, marked_then, marks_if_reduced, marks_if_unified, marks_test_fresh, out, outs_among}
+use Rattle.ap_search.specs.Continuations.{CallThen, Continuation, Waiting, calls_then, clause_then, clauses_then, goal_then, stack_then, then_if_reduced, then_if_unified, then_test_fresh}
+use Rattle.ap_search.specs.MarkedContinuations.{MarkedCallThen, MarkedContinuation, NominalMark, choice, mark_path, marked_calls_then, marked_clause_then, marked_clauses_then, marked_stack_then, marked_then, marks_if_reduced, marks_if_unified, marks_test_fresh, out, outs_among}
 use Rattle.ap_search.specs.Prefixes.{AllBegin, beginning}
-use Rattle.ap_search.proofs.PrefixLemmas.{begin-append, begin_shorter, beginning-append, beginning_other, beginning_whole, prefix_itself}
+use Rattle.ap_search.proofs.PrefixLemmas.{begin-append, begin_shorter, prefix_itself}
 
 pub outs_among-append : (ms ns : List NominalMark) → outs_among (ms ++ ns) ≡ outs_among ms ++ outs_among ns
 outs_among-append [] ns = refl

@@ -1,5 +1,5 @@
 -- An answer sees the set of variables that its derivation brought.
-use Rattle.std.proofs.Common.{subst, ◌≡◌, ◌<◌, Bool, true, false, ◌||◌, List, [], ◌∷◌, ◌++◌, map, refl, sym, ap, ap₂, ◌∙◌, inl, inr, arith, true≢false, append_assoc}
+use Rattle.std.proofs.Common.{subst, ◌≡◌, Bool, true, ◌||◌, List, [], ◌∷◌, ◌++◌, map, refl, sym, ap, ap₂, ◌∙◌, inl, inr, arith, true≢false}
 use Rattle.std.specs.Prelude.{if◌then◌else◌, Option, Some, None, nat_lt}
 use Rattle.std.proofs.lemmas.List.{map-append}
 use Rattle.std.proofs.lemmas.Bool.Decides.{nat_tests}
@@ -9,17 +9,17 @@ use Rattle.ap_defs.specs.Derivations.{DerivationOver, NominalDerivation, atom, b
 use Rattle.ap_defs.specs.Freshness.{var_eq}
 use Rattle.ap_defs.specs.Occurrences.{vars_of_terms}
 use Rattle.ap_defs.specs.Resolution.{State}
-use Rattle.ap_defs.specs.Substitution.{bound_term, moved, under}
+use Rattle.ap_defs.specs.Substitution.{bound_term, moved}
 use Rattle.ap_defs.specs.Terms as terms
 use Rattle.ap_defs.specs.Terms.{NominalTerm, act_term}
 use Rattle.ap_defs.specs.Types.{NominalLocal}
 use Rattle.ap_defs.specs.Unification.{has_var, vars_then}
 use Rattle.ap_defs.specs.declared.terms.Swap.{Swap}
 use Rattle.ap_defs.specs.declared.terms.Var.{Var}
-use Rattle.ap_theory.proofs.BooleanLemmas.{or_assoc, or_cases, or_if_left, or_if_right, or_nothing, same_test}
+use Rattle.ap_theory.proofs.BooleanLemmas.{or_assoc, or_cases, or_if_left, or_if_right, same_test}
 use Rattle.ap_theory.proofs.OrderedLemmas.{IsAscending, IsOrder, add, ascending_add, has, member_add, same_ascending}
 use Rattle.ap_theory.proofs.TermLemmas.{same_var, var_same}
-use Rattle.ap_search.specs.Records.{SameVars, answer_with, closed_vars, vars_brought, vars_with}
+use Rattle.ap_search.specs.Records.{SameVars, answer_with, closed_vars, vars_brought}
 
 -- The variables of the terms of a derivation.
 pub terms_in_map : {S T : Type 0} (f : S → T) (d : DerivationOver S) → terms_in (map_terms f d) ≡ map f (terms_in d)

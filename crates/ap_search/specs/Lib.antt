@@ -2,6 +2,8 @@ pub mod Records
 pub mod Continuations
 pub mod Prefixes
 pub mod MarkedContinuations
+pub mod PathTrees
 pub mod StatementsOnRecords
 pub mod StatementsOnPrefixes
+pub mod StatementsOnTrees
 pub mod StatementsOnContinuations

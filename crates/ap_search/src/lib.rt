@@ -7,3 +7,4 @@
 pub mod continuations;
 pub mod paths;
 pub mod records;
+pub mod trees;

@@ -1,0 +1,8 @@
+use Rattle.ap_search.proofs.QueryTreeLemmas.{query_choice, query_tree}
+use Rattle.ap_search.proofs.trees.choices_are_a_tree.Goals as goal
+
+pub returns-clause-tree : goal.returns-clause-tree
+returns-clause-tree c = query_tree
+
+pub returns-clause-widths : goal.returns-clause-widths
+returns-clause-widths c = query_choice

@@ -1,0 +1,30 @@
+-- What is proved of the tree of paths of a query.
+use Rattle.std.specs.Prelude.{◌≡◌, ℕ, ◌≤◌, ◌&&◌, List, Some, length, filter, map, ◌↔◌}
+use Rattle.ap_defs.specs.Answers.{outs_at, query_outs}
+use Rattle.ap_defs.specs.Goals.{Clauses, NominalQuery}
+use Rattle.ap_defs.specs.PathOrder.{has_prefix}
+use Rattle.ap_defs.specs.Paths.{HasChoice, marked_query}
+use Rattle.ap_paths.specs.Trees.{joined}
+use Rattle.ap_search.specs.MarkedContinuations.{NominalMark, mark_in, mark_path}
+use Rattle.ap_search.specs.PathTrees.{AreInPathOrder, query_choices}
+
+-- what is below a choice is what is below each of its ways, in order
+abbrev pub ChoicesAreATree : Type 0
+ChoicesAreATree = (program : Clauses) (d : ℕ) (q : NominalQuery) (p : List ℕ) (w : ℕ) → query_choices program d q p ≡ Some w
+    → outs_at program d q p ≡ joined (outs_at program d q) p 1 w
+
+-- the choices are those among the marks
+abbrev pub MarksHaveWidths : Type 0
+MarksHaveWidths = (program : Clauses) (d : ℕ) (q : NominalQuery) (p : List ℕ) (w : ℕ) → HasChoice (marked_query program d q) p w ↔ (query_choices program d q p ≡ Some w)
+
+-- outputs stand in path order, and no path begins with another
+abbrev pub OutputsAreInPathOrder : Type 0
+OutputsAreInPathOrder = (program : Clauses) (d : ℕ) (q : NominalQuery) → AreInPathOrder (query_outs program d q)
+
+-- the marks at just this path
+abbrev pub marks_at : List ℕ → List NominalMark → List NominalMark
+marks_at p ms = filter (λ m. has_prefix p (mark_path m) && has_prefix (mark_path m) p) ms
+
+-- an output or a choice, and no two of them, stand at one path
+abbrev pub OneMarkAtAPath : Type 0
+OneMarkAtAPath = (program : Clauses) (d : ℕ) (q : NominalQuery) (p : List ℕ) → length (marks_at p (map (mark_in q.locals) (marked_query program d q))) ≤ 1
