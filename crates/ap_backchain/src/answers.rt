@@ -89,13 +89,17 @@ fn vars_among(
 fn typed(alloc: Global, kinds: &[Kind], x: Var) -> Result<Option<(Var, Ty)>, Memory>
     ensures { IfOk result (λ o. map typed_var_of (option_to_list o) ≡ with_type x (kind_at (map kind_of kinds.now) x.num) []) }
 {
-    match kinds.get(x.num as usize) {
-        Some(Kind::Var(t)) => {
-            let t = copy_type(alloc, t)?;
-            Ok(Some((x, t)))
+    let place = x.num as usize;
+    if place < kinds.len() {
+        match &kinds[place] {
+            Kind::Var(t) => {
+                let t = copy_type(alloc, t)?;
+                Ok(Some((x, t)))
+            }
+            Kind::Name(_) => Ok(None),
         }
-        Some(Kind::Name(_)) => Ok(None),
-        None => Ok(None),
+    } else {
+        Ok(None)
     }
 }
 

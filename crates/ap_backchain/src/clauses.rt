@@ -24,9 +24,10 @@ pub fn clauses_at<'a>(clauses: &'a [List<Clause<Term>>], pred: u32) -> &'a [Clau
     ensures below { AreEachBelow (map clause_of result.now) }
     ensures few { length result.now < 2 ^ 32 }
 {
-    match clauses.get(pred as usize) {
-        Some(list) => list.items(),
-        None => &[],
+    if (pred as usize) < clauses.len() {
+        clauses[pred as usize].items()
+    } else {
+        &[]
     }
 }
 
@@ -44,10 +45,11 @@ pub fn enter_clause<'a>(
     ensures { IfOk result (λ o. position_in o ≡ by_clause depth (map term_of args.now) (position_of b.now) choice (clause_of clause.now)) }
 {
     let base = b.state.kinds.len() as u64;
+    let locals = clause.locals.items();
     match clause_state(alloc, &b.state, args, clause)? {
         None => Ok(None),
         Some(state) => {
-            let vars = vars_of_locals(alloc, base, clause.locals.items())?;
+            let vars = vars_of_locals(alloc, base, locals)?;
             let in_state = branch_in(alloc, b, state)?;
             let chosen = with_choice(in_state, choice)?;
             let bringing = with_vars(chosen, &vars)?;

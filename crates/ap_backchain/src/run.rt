@@ -10,7 +10,7 @@ ghost use Rattle.ap_backchain.specs.Positions.{outs_from};
 ghost use Rattle.ap_backchain.specs.Starts.{first_position};
 
 use crate::branch::Branch;
-use crate::frames::Frame;
+use crate::moves::with_goal;
 use crate::state::state_with;
 use crate::turns::{Turn, take_turn};
 use ap_defs::goals::{Clause, Local, Query};
@@ -30,18 +30,13 @@ pub fn first_branch<'a>(
     ensures { IfOk result (λ b. position_of b ≡ first_position depth (query_of query.now)) }
 {
     let state = state_with(alloc, query.locals.items())?;
-    let mut frames = Vec::new(alloc);
-    frames.push(Frame {
-        goal: &query.goal,
-        base: 0,
-        depth,
-    })?;
-    Ok(Branch {
-        frames,
+    let bare = Branch {
+        frames: Vec::new(alloc),
         path: Vec::new(alloc),
         state,
         brought: Vec::new(alloc),
-    })
+    };
+    with_goal(bare, &query.goal, 0, depth)
 }
 
 /// The outputs of a branch, in order. Branches wait on a stack, the last one to be taken first.

@@ -12,10 +12,10 @@ ghost use Rattle.ap_backchain.specs.Positions.{clause_state as state_by_clause, 
 ghost use Rattle.ap_backchain.specs.Views.{option_state, state_of};
 
 use crate::copies::{copy_kinds, kinds_with};
-use crate::renaming::rename_terms;
 use ap_defs::goals::{Clause, Kind, Local};
 use ap_defs::memory::Memory;
 use ap_defs::terms::{Cond, Term};
+use ap_program::renaming::rename_terms;
 use ap_store::bindings::{VarBinding, copy_bindings};
 use ap_store::conditions::with_conds;
 use ap_unify::stages::UnifiedValue;

@@ -19,13 +19,13 @@ use crate::frames::Frame;
 use crate::free_vars::free_vars_of;
 use crate::fresh::{fresh_for_vars, fresh_state};
 use crate::moves::{copy_branch, with_choice, with_goal, with_state, with_vars};
-use crate::renaming::{rename_term, rename_terms};
 use crate::state::{SearchState, unified};
 use ap_defs::goals::{Clause, Goal, Local};
 use ap_defs::lists::List;
 use ap_defs::memory::Memory;
 use ap_defs::paths::{Out, Path};
 use ap_defs::terms::{Name, Term, Var};
+use ap_program::renaming::{rename_term, rename_terms};
 use ap_store::bindings::under_bindings;
 use std::alloc::Global;
 
