@@ -8,3 +8,13 @@ pub mod TreeLemmas
 pub mod SubtreeLemmas
 pub mod OrderLemmas
 pub mod QueryTreeLemmas
+pub mod SameStateLemmas
+pub mod DepthLemmas
+pub mod NumberLemmas
+pub mod FitStateLemmas
+pub mod TypingLemmas
+pub mod TypedUnificationLemmas
+pub mod TypedStateLemmas
+pub mod TypedAnswerLemmas
+pub mod TypedBelowLemmas
+pub mod InTreeLemmas

@@ -1,9 +1,17 @@
+pub mod SameStates
 pub mod Records
 pub mod Continuations
 pub mod Prefixes
 pub mod MarkedContinuations
 pub mod PathTrees
+pub mod Depths
+pub mod FitStates
+pub mod TypedStates
+pub mod StatementsOnSameStates
 pub mod StatementsOnRecords
 pub mod StatementsOnPrefixes
 pub mod StatementsOnTrees
+pub mod StatementsOnDepths
+pub mod StatementsOnFitStates
+pub mod StatementsOnTypes
 pub mod StatementsOnContinuations

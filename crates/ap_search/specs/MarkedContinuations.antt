@@ -1,5 +1,5 @@
 -- Search in continuation form, with a mark put first where it chooses.
-use Rattle.std.specs.Prelude.{ℕ, zero, suc, ◌&&◌, if◌then◌else◌, List, [], ◌∷◌, ◌++◌, map, filter, length, Option, Some, None}
+use Rattle.std.specs.Prelude.{ℕ, zero, suc, ◌&&◌, if◌then◌else◌, List, [], ◌∷◌, ◌++◌, map, length, Option, Some, None}
 use Rattle.ap_defs.specs.declared.terms.Var.{Var}
 use Rattle.ap_defs.specs.declared.terms.Cond.{Cond}
 use Rattle.ap_defs.specs.Answers as answers
@@ -104,7 +104,3 @@ abbrev pub widths_at : List ℕ → List NominalMark → List ℕ
 widths_at p [] = []
 widths_at p (out o ∷ ms) = widths_at p ms
 widths_at p (choice q w ∷ ms) = if has_prefix p q && has_prefix q p then (w ∷ widths_at p ms) else widths_at p ms
-
--- the marks whose path begins with p
-abbrev pub marks_beginning : List ℕ → List NominalMark → List NominalMark
-marks_beginning p ms = filter (λ m. has_prefix p (mark_path m)) ms

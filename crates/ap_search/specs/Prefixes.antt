@@ -1,6 +1,5 @@
 -- Lists of what has a path: those that begin with a path.
 use Rattle.std.specs.Prelude.{◌≡◌, ℕ, true, List, [], ◌∷◌, filter}
-use Rattle.ap_defs.specs.Answers.{NominalOut, out_path}
 use Rattle.ap_defs.specs.PathOrder.{has_prefix}
 
 -- each path begins with p
@@ -11,6 +10,3 @@ AllBegin path p (o ∷ os) = (has_prefix p (path o) ≡ true) × AllBegin path p
 -- those whose path begins with p
 abbrev pub beginning : {A : Type 0} → (A → List ℕ) → List ℕ → List A → List A
 beginning path p os = filter (λ o. has_prefix p (path o)) os
-
-abbrev pub outs_beginning : List ℕ → List NominalOut → List NominalOut
-outs_beginning p os = filter (λ o. has_prefix p (out_path o)) os

@@ -3,7 +3,8 @@ use Rattle.std.specs.Prelude.{◌≡◌, ℕ, ◌≤◌, ◌&&◌, List, Some, l
 use Rattle.ap_defs.specs.Answers.{outs_at, query_outs}
 use Rattle.ap_defs.specs.Goals.{Clauses, NominalQuery}
 use Rattle.ap_defs.specs.PathOrder.{has_prefix}
-use Rattle.ap_defs.specs.Paths.{HasChoice, marked_query}
+use Rattle.ap_defs.specs.Paths.{HasChoice, InTree, marked_query}
+use Rattle.ap_paths.specs.Trees as trees
 use Rattle.ap_paths.specs.Trees.{joined}
 use Rattle.ap_search.specs.MarkedContinuations.{NominalMark, mark_in, mark_path}
 use Rattle.ap_search.specs.PathTrees.{AreInPathOrder, query_choices}
@@ -28,3 +29,7 @@ marks_at p ms = filter (λ m. has_prefix p (mark_path m) && has_prefix (mark_pat
 -- an output or a choice, and no two of them, stand at one path
 abbrev pub OneMarkAtAPath : Type 0
 OneMarkAtAPath = (program : Clauses) (d : ℕ) (q : NominalQuery) (p : List ℕ) → length (marks_at p (map (mark_in q.locals) (marked_query program d q))) ≤ 1
+
+-- a path stands in the tree of the marks just where each of its entries is a choice
+abbrev pub TreeOfChoices : Type 0
+TreeOfChoices = (program : Clauses) (d : ℕ) (q : NominalQuery) (p : List ℕ) → InTree (marked_query program d q) p ↔ trees.InTree (query_choices program d q) p

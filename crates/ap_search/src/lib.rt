@@ -5,6 +5,10 @@
 #![tactic(auto)]
 
 pub mod continuations;
+pub mod depths;
+pub mod equal_states;
+pub mod fit_states;
 pub mod paths;
 pub mod records;
 pub mod trees;
+pub mod types;

@@ -1,11 +1,12 @@
 //! The tree of paths of a query.
 
-ghost use Rattle.ap_search.specs.StatementsOnTrees.{ChoicesAreATree, MarksHaveWidths, OneMarkAtAPath, OutputsAreInPathOrder};
+ghost use Rattle.ap_search.specs.StatementsOnTrees.{ChoicesAreATree, MarksHaveWidths, OneMarkAtAPath, OutputsAreInPathOrder, TreeOfChoices};
 
 /// What is below a choice is what is below each of its ways, in order.
 pub fn choices_are_a_tree()
     ensures tree { ChoicesAreATree }
     ensures widths { MarksHaveWidths }
+    ensures paths { TreeOfChoices }
 {}
 
 /// Outputs stand in path order, and none begins with another. There is one mark at most at a path.
