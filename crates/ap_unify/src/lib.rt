@@ -2,9 +2,9 @@
 #![tactic(auto)]
 
 mod equations;
-mod problems;
+pub mod problems;
 mod rules;
-mod stages;
+pub mod stages;
 #[cfg(test)]
 mod tests;
 pub mod unify;

@@ -83,7 +83,7 @@ fn both_of(first: Option<Vec<Cond>>, second: Option<Vec<Cond>>) -> Result<Option
 
 /// The conditions to which a freshness problem reduces, or none where it is refuted.
 #[tactic(auto, unfolding(ap_defs::specs::Permutations::name_eq))]
-fn reduce_fresh(alloc: Global, a: &Name, t: &Term) -> Result<Option<Vec<Cond>>, Memory>
+pub fn reduce_fresh(alloc: Global, a: &Name, t: &Term) -> Result<Option<Vec<Cond>>, Memory>
     ensures { IfOk result (λ o. items_in o ≡ reduce a.now (term_of t.now)) }
 {
     match t {

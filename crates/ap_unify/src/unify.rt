@@ -5,6 +5,7 @@ ghost use Rattle.ap_defs.specs.Groundings.{Grounding};
 ghost use Rattle.ap_defs.specs.Renaming.{AreBelow};
 ghost use Rattle.ap_defs.specs.Terms.{term_of};
 ghost use Rattle.ap_defs.specs.Unification.{unify as unify_lem};
+ghost use Rattle.ap_store.specs.Bindings.{bindings_of};
 ghost use Rattle.ap_store.specs.Triples.{GoesOn};
 ghost use Rattle.ap_store.specs.Views.{IsUnchanged, kinds, present, versions};
 ghost use Rattle.ap_unify.specs.Stages.{unified_of};
@@ -13,13 +14,35 @@ ghost use Rattle.ap_unify.specs.Unified.{IsResult, is_of, solves};
 use crate::equations::equations_under;
 use crate::stages::{UnifiedValue, UnifierStage, finish_run, rewrite};
 use ap_defs::memory::Memory;
-use ap_defs::terms::Term;
-use ap_store::bindings::copy_bindings;
+use ap_defs::terms::{Cond, Term};
+use ap_store::bindings::{VarBinding, copy_bindings};
 use ap_store::store::Store;
 use std::alloc::Global;
 
-/// What the rules give for two lists of terms under the bindings and conditions of the store.
+/// What the rules give for two lists of terms under bindings and conditions, or none where they give
+/// no solution (Urban, Pitts and Gabbay, "Nominal Unification").
 #[tactic(auto, unfolding(ap_defs::specs::Unification::unify))]
+pub fn unify_lists(
+    alloc: Global,
+    bindings: &[VarBinding],
+    conditions: &[Cond],
+    left: &[Term],
+    right: &[Term],
+) -> Result<Option<UnifiedValue>, Memory>
+    ensures { IfOk result (λ o. unified_of o ≡ unify_lem (bindings_of bindings.now) conditions.now (map term_of left.now) (map term_of right.now)) }
+{
+    let bindings = copy_bindings(alloc, bindings)?;
+    let equations = equations_under(alloc, &bindings, left, right)?;
+    let first = UnifierStage {
+        equations,
+        problems: Vec::new(alloc),
+        bindings,
+    };
+    let ending = rewrite(alloc, first)?;
+    finish_run(alloc, conditions, ending)
+}
+
+/// What the rules give for two lists of terms under the bindings and conditions of the store.
 fn unify_by_rules(
     alloc: Global,
     store: &Store,
@@ -28,15 +51,7 @@ fn unify_by_rules(
 ) -> Result<Option<UnifiedValue>, Memory>
     ensures { IfOk result (λ o. unified_of o ≡ unify_lem (present store.now).bindings (present store.now).conditions (map term_of left.now) (map term_of right.now)) }
 {
-    let bindings = copy_bindings(alloc, store.bindings())?;
-    let equations = equations_under(alloc, &bindings, left, right)?;
-    let first = UnifierStage {
-        equations,
-        problems: Vec::new(alloc),
-        bindings,
-    };
-    let ending = rewrite(alloc, first)?;
-    finish_run(alloc, store.conditions(), ending)
+    unify_lists(alloc, store.bindings(), store.conditions(), left, right)
 }
 
 /// Makes the terms at each place of two lists equal, by the most general bindings and conditions

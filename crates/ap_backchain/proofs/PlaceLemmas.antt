@@ -1,0 +1,42 @@
+-- Kinds and clauses at their places.
+use Rattle.std.proofs.Common.{◌≡◌, ℕ, zero, suc, ◌+◌, ◌<◌, ◌≤◌, ◌^◌, List, [], ◌∷◌, length, get_or, map, refl, sym, ap, ◌∙◌, arith, subst}
+use Rattle.std.specs.Prelude.{Some, None}
+use Rattle.std.proofs.lemmas.List.{length-map}
+use Rattle.ap_defs.specs.Answers.{kind_at}
+use Rattle.ap_defs.specs.Goals.{clause_of, clauses_of, Clauses, NominalClause}
+use Rattle.ap_defs.specs.Types.{kind_of}
+use Rattle.ap_defs.specs.declared.goals.Clause.{Clause}
+use Rattle.ap_defs.specs.declared.goals.Kind.{Kind}
+use Rattle.ap_defs.specs.declared.terms.Term.{Term}
+use Rattle.ap_backchain.specs.Below.{AreClausesBelow, AreEachBelow, IsClauseBelow}
+
+pub kind_here : (ks : List Kind) (n : ℕ) (k : Kind) → n < length ks → k ≡ get_or ks n k → kind_at (map kind_of ks) n ≡ Some (kind_of k)
+kind_here [] n k h e = absurd (omega arith)
+kind_here (j ∷ ks) zero k h e = ap (λ x. Some (kind_of x)) (sym e)
+kind_here (j ∷ ks) (suc n) k h e = kind_here ks n k (omega arith) e
+
+pub kind_past : (ks : List Kind) (n : ℕ) → length ks ≤ n → kind_at (map kind_of ks) n ≡ None
+kind_past [] n h = refl
+kind_past (j ∷ ks) zero h = absurd (omega arith)
+kind_past (j ∷ ks) (suc n) h = kind_past ks n (omega arith)
+
+pub clauses_here : (css : List (List (Clause Term))) (n : ℕ) (cs : List (Clause Term)) → n < length css → cs ≡ get_or css n cs
+    → map clause_of cs ≡ clauses_of (map (map clause_of) css) n
+clauses_here [] n cs h e = absurd (omega arith)
+clauses_here (ds ∷ css) zero cs h e = ap (map clause_of) e
+clauses_here (ds ∷ css) (suc n) cs h e = clauses_here css n cs (omega arith) e
+
+pub clauses_past : (css : List (List (Clause Term))) (n : ℕ) → length css ≤ n → [] ≡ clauses_of (map (map clause_of) css) n
+clauses_past [] n h = refl
+clauses_past (ds ∷ css) zero h = absurd (omega arith)
+clauses_past (ds ∷ css) (suc n) h = clauses_past css n (omega arith)
+
+pub each_below : (css : Clauses) (n : ℕ) → AreClausesBelow css → AreEachBelow (clauses_of css n)
+each_below [] n h = tt
+each_below (cs ∷ css) zero h = h.0.0
+each_below (cs ∷ css) (suc n) h = each_below css n h.1
+
+pub few_clauses : (css : Clauses) (n : ℕ) → AreClausesBelow css → length (clauses_of css n) < 2 ^ 32
+few_clauses [] n h = omega arith
+few_clauses (cs ∷ css) zero h = h.0.1
+few_clauses (cs ∷ css) (suc n) h = few_clauses css n h.1

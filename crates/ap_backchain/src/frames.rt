@@ -1,0 +1,13 @@
+//! Goals that wait.
+
+use ap_defs::goals::Goal;
+use ap_defs::terms::Term;
+
+/// A goal of the program that waits. Its identifiers are numbered from `base` on, and the atoms in
+/// it have this depth.
+#[derive(Clone, Copy)]
+pub struct Frame<'a> {
+    pub goal: &'a Goal<Term>,
+    pub base: u64,
+    pub depth: u32,
+}

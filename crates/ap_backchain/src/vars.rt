@@ -1,0 +1,112 @@
+//! Variables of terms, and ascending sets of variables.
+
+ghost use Rattle.std.specs.Prelude.{◌≡◌, ◌++◌, ◌^◌, [], IfOk, List as list, OnOk, map};
+ghost use Rattle.ap_defs.specs.Answers.{add_var, ascending_vars};
+ghost use Rattle.ap_defs.specs.Freshness.{var_eq};
+ghost use Rattle.ap_defs.specs.Occurrences.{vars_of_terms, without_var};
+ghost use Rattle.ap_defs.specs.Renaming.{AreBelow, IsBelow, rename_term as renamed};
+ghost use Rattle.ap_defs.specs.Terms.{term_of};
+ghost use Rattle.ap_defs.specs.Unification.{vars_then};
+ghost use Rattle.ap_defs.specs.declared.terms.Var.{Var as variable};
+
+use ap_defs::memory::Memory;
+use ap_defs::terms::{Cond, Term, Var};
+use std::alloc::Global;
+
+/// Adds a variable to a set.
+#[tactic(auto, using(crate::proofs::VarLemmas::add_there, crate::proofs::VarLemmas::add_between))]
+fn add_var_to(vars: &mut Vec<Var>, x: Var) -> Result<(), Memory>
+    ensures { OnOk result (vars.new.items ≡ add_var x vars.old.items) }
+{
+    for place in 0..vars.len() {
+        if x.num == vars[place].num {
+            return Ok(());
+        }
+        if x.num < vars[place].num {
+            vars.insert(place, x)?;
+            return Ok(());
+        }
+    }
+    vars.push(x)?;
+    Ok(())
+}
+
+/// Adds the variables of a term to a set, from the last one on.
+fn add_vars_of(vars: &mut Vec<Var>, t: &Term) -> Result<(), Memory>
+    ensures { OnOk result ((xs : list variable) → vars.old.items ≡ ascending_vars xs → vars.new.items ≡ ascending_vars (vars_then (term_of t.now) xs)) }
+{
+    match t {
+        Term::Unit | Term::Name(_) => Ok(()),
+        Term::Pair(left, right) => {
+            add_vars_of(vars, right)?;
+            add_vars_of(vars, left)
+        }
+        Term::App(_, argument) => add_vars_of(vars, argument),
+        Term::Abs(_, body) => add_vars_of(vars, body),
+        Term::Susp(_, x) => add_var_to(vars, *x),
+    }
+}
+
+/// Adds the variables of terms to a set, from the last one on.
+pub fn add_vars_of_terms(vars: &mut Vec<Var>, terms: &[Term]) -> Result<(), Memory>
+    ensures { OnOk result ((xs : list variable) → vars.old.items ≡ ascending_vars xs → vars.new.items ≡ ascending_vars (vars_of_terms (map term_of terms.now) ++ xs)) }
+{
+    'adding: for i in (0..terms.len()).rev() {
+        add_vars_of(vars, &terms[i])?;
+    }
+    Ok(())
+}
+
+/// Adds the variables of conditions to a set, from the last one on.
+pub fn add_vars_of_conds(vars: &mut Vec<Var>, conds: &[Cond]) -> Result<(), Memory>
+    ensures { OnOk result ((xs : list variable) → vars.old.items ≡ ascending_vars xs → vars.new.items ≡ ascending_vars (map (λ c. c.var) conds.now ++ xs)) }
+{
+    'adding: for i in (0..conds.len()).rev() {
+        add_var_to(vars, conds[i].var)?;
+    }
+    Ok(())
+}
+
+/// The variables but one.
+pub fn without(alloc: Global, x: Var, vars: &[Var]) -> Result<Vec<Var>, Memory>
+    ensures { IfOk result (λ v. v.items ≡ without_var x vars.now) }
+{
+    let mut others = Vec::new(alloc);
+    'choosing: for y in vars {
+        if x.num != y.num {
+            others.push(*y)?;
+        }
+    }
+    Ok(others)
+}
+
+/// The variables of a term whose numbers are raised, as they are read, after others.
+pub fn push_vars_of(vars: &mut Vec<Var>, base: u64, t: &Term) -> Result<(), Memory>
+    requires { IsBelow (2 ^ 64) (renamed base (term_of t.now)) }
+    ensures { OnOk result (vars.new.items ≡ vars.old.items ++ vars_then (renamed base (term_of t.now)) []) }
+{
+    match t {
+        Term::Unit | Term::Name(_) => Ok(()),
+        Term::Pair(left, right) => {
+            push_vars_of(vars, base, left)?;
+            push_vars_of(vars, base, right)
+        }
+        Term::App(_, argument) => push_vars_of(vars, base, argument),
+        Term::Abs(_, body) => push_vars_of(vars, base, body),
+        Term::Susp(_, x) => {
+            vars.push(Var { num: base + x.num })?;
+            Ok(())
+        }
+    }
+}
+
+/// The variables of terms whose numbers are raised, as they are read, after others.
+pub fn push_vars_of_terms(vars: &mut Vec<Var>, base: u64, terms: &[Term]) -> Result<(), Memory>
+    requires { AreBelow (2 ^ 64) (map (renamed base) (map term_of terms.now)) }
+    ensures { OnOk result (vars.new.items ≡ vars.old.items ++ vars_of_terms (map (renamed base) (map term_of terms.now))) }
+{
+    'reading: for t in terms {
+        push_vars_of(vars, base, t)?;
+    }
+    Ok(())
+}
