@@ -1,10 +1,11 @@
 -- Bindings, one after the other.
-use Rattle.std.proofs.Common.{◌≡◌, ℕ, suc, ◌+◌, ◌<◌, Bool, true, false, List, [], ◌∷◌, ◌++◌, map, length, drop, get_or, refl, sym, ap, ap₂, ◌∙◌, append_assoc, add-one, drop-cons}
+use Rattle.std.proofs.Common.{◌≡◌, ℕ, suc, ◌+◌, ◌<◌, ◌≤◌, Bool, arith, true, false, List, [], ◌∷◌, ◌++◌, map, length, drop, get_or, refl, sym, ap, ap₂, ◌∙◌, append_assoc, add-one, drop-cons}
 use Rattle.std.specs.Prelude.{codes, if◌then◌else◌}
 use Rattle.std.specs.Str.{bytes_eq}
+use Rattle.std.proofs.Math.ListN.{drop_of_length-le}
 use denote.Ref.{Bor}
 use Rattle.ap_defs.specs.declared.terms.Term.{Term}
-use Rattle.ap_defs.specs.Terms.{NominalTerm, term_of}
+use Rattle.ap_defs.specs.Terms.{term_of}
 use Rattle.ap_defs.specs.declared.terms.Name.{Name}
 use Rattle.ap_defs.specs.declared.terms.Var.{Var}
 use Rattle.ap_defs.specs.Unification.{vars_then}
@@ -27,16 +28,22 @@ shown_next ws ts w t i bs bs1 all h k e d invariant new =
     let texts : drop i ws ≡ w ∷ drop (suc i) ws = drop-cons ws i w h ∙ ap (λ (x : Bor (List ℕ)). x ∷ drop (suc i) ws) (sym e) in
     let terms : drop i ts ≡ t ∷ drop (suc i) ts = drop-cons ts i t k ∙ ap (λ (x : Term). x ∷ drop (suc i) ts) (sym d) in
     let next : shown_binds (lent_texts (drop i ws)) (map term_of (drop i ts)) ≡ shown_binds (w.now ∷ []) (term_of t ∷ []) ++ shown_binds (lent_texts (drop (suc i) ws)) (map term_of (drop (suc i) ts)) =
-        ap₂ (λ us vs. shown_binds (lent_texts us) (map term_of vs)) texts terms ∙ shown_if (bytes_eq w.now (codes "_")) (w.now, term_of t) (shown_binds (lent_texts (drop (suc i) ws)) (map term_of (drop (suc i) ts)))
+    ap₂ (λ us vs. shown_binds (lent_texts us) (map term_of vs)) texts terms ∙ shown_if (bytes_eq w.now (codes "_")) (w.now, term_of t) (shown_binds (lent_texts (drop (suc i) ws)) (map term_of (drop (suc i) ts)))
     in
     rw (new, add-one i) (append_assoc bs (shown_binds (w.now ∷ []) (term_of t ∷ [])) (shown_binds (lent_texts (drop (suc i) ws)) (map term_of (drop (suc i) ts))) ∙ ap (λ r. bs ++ r) (sym next) ∙ invariant)
 
-lent_as_many : (ws : List (Bor (List ℕ))) → length (lent_texts ws) ≡ length ws
-lent_as_many [] = refl
-lent_as_many (w ∷ ws) = ap suc (lent_as_many ws)
+none_bound : (ws : List (List ℕ)) → shown_binds ws [] ≡ []
+none_bound [] = refl
+none_bound (w ∷ ws) = refl
 
-pub length_lent : (ws : List (Bor (List ℕ))) (texts : List (List ℕ)) (n : ℕ) → lent_texts ws ≡ texts → n ≡ length texts → n ≡ length ws
-length_lent ws texts n e h = h ∙ ap length (sym e) ∙ lent_as_many ws
+-- no term is left
+pub none_next : (ws : List (Bor (List ℕ))) (ts : List Term) (i : ℕ) (bs all : List ShownBind) → length ts ≤ i
+    → bs ++ shown_binds (lent_texts (drop i ws)) (map term_of (drop i ts)) ≡ all → bs ++ shown_binds (lent_texts (drop (i + 1) ws)) (map term_of (drop (i + 1) ts)) ≡ all
+none_next ws ts i bs all h invariant =
+    let now : drop i ts ≡ [] = drop_of_length-le ts h in
+    let next : drop (i + 1) ts ≡ [] = drop_of_length-le ts (let later : length ts ≤ i + 1 = omega arith in later) in
+    ap (λ vs. bs ++ shown_binds (lent_texts (drop (i + 1) ws)) (map term_of vs)) next ∙ ap (λ ds. bs ++ ds) (none_bound (lent_texts (drop (i + 1) ws)) ∙ sym (none_bound (lent_texts (drop i ws))))
+    ∙ ap (λ vs. bs ++ shown_binds (lent_texts (drop i ws)) (map term_of vs)) (sym now) ∙ invariant
 
 bind_front : (bs : List Binding) (b : Binding) (i : ℕ) → i < length bs → b ≡ get_or bs i b → binds_of (drop i bs) ≡ bind_of b ∷ binds_of (drop (i + 1) bs)
 bind_front bs b i h e =

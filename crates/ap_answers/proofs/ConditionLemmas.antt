@@ -1,20 +1,19 @@
 -- Conditions under their places: they are sorted as they are kept.
-use Rattle.std.proofs.Common.{◌≡◌, ◌≢◌, ℕ, zero, suc, ◌+◌, ◌-◌, ◌<◌, ◌≤◌, nat_eq, nat_lt, Bool, true, false, ◌&&◌, ◌||◌, not, cond, List, [], ◌∷◌, ◌++◌, map, length, drop, get_or, refl, sym, ap, ap₂, subst, ◌∙◌, arith, add-one, drop-cons}
-use Rattle.std.specs.Prelude.{Option, Some, None, if◌then◌else◌, filter, position, ◌==◌}
+use Rattle.std.proofs.Common.{◌≡◌, ◌≢◌, ℕ, ◌+◌, ◌-◌, ◌<◌, ◌≤◌, nat_lt, Bool, true, false, not, cond, List, [], ◌∷◌, map, length, drop, get_or, refl, sym, ap, ap₂, subst, ◌∙◌, arith, add-one, drop-cons}
+use Rattle.std.specs.Prelude.{Some, None, if◌then◌else◌, filter, position, ◌==◌}
 use Rattle.std.specs.List.{position_or_len}
 use Rattle.std.specs.Prelude.{◌⊎◌}
 use Rattle.std.proofs.lemmas.List.Quantifiers.{position-Some}
 use Rattle.std.proofs.lemmas.List.{get_or_default}
 use Rattle.std.proofs.Common.{inl, inr}
 use Rattle.std.proofs.lemmas.Bool.Decides.{nat_tests}
-use Rattle.std.specs.Ordering.{match_ordering, ordering_then, nat_cmp}
+use Rattle.std.specs.Ordering.{match_ordering, ordering_then}
 use Rattle.std.specs.BTreeMap.{insert_entry}
 use Rattle.ap_defs.specs.declared.terms.Name.{Name}
 use Rattle.ap_defs.specs.declared.terms.Var.{Var}
 use Rattle.ap_defs.specs.declared.terms.Cond.{Cond}
-use Rattle.ap_defs.specs.Permutations.{name_eq, has_name}
+use Rattle.ap_defs.specs.Permutations.{name_eq}
 use Rattle.ap_defs.specs.Freshness.{var_eq}
-use Rattle.ap_defs.specs.Unification.{has_var}
 use Rattle.ap_defs.specs.Lines.{comes_first, var_comes_first, printed_before, insert_cond, sort_conds}
 use Rattle.ap_answers.specs.Conditions.{occurs_in, Occurs, placed_cmp}
 use Rattle.std.specs.declared.cmp.Ordering.TheVariants.{Less, Equal, Greater}
@@ -102,13 +101,21 @@ place_is p cs i h = place_when (nat_lt (position_or_len p cs) (length cs)) (posi
 before_places : (names : List Name) (vars : List Var) (c d : Cond) (i j k l : ℕ) → Occurs names vars c i j → Occurs names vars d k l
     → printed_before names vars c d ≡ (if i == k then nat_lt j l else nat_lt i k)
 before_places names vars c d i j k l h m =
-    rw (same_place var_eq var_tells vars c.var d.var i k h.var m.var,
-        names_before names c.name d.name, before_by_place name_eq name_tells names c.name d.name, place_is (name_eq c.name) names j h.name, place_is (name_eq d.name) names l m.name,
-        vars_before vars c.var d.var, before_by_place var_eq var_tells vars c.var d.var, place_is (var_eq c.var) vars i h.var, place_is (var_eq d.var) vars k m.var) refl
+    rw (
+      same_place var_eq var_tells vars c.var d.var i k h.var m.var,
+      names_before names c.name d.name,
+      before_by_place name_eq name_tells names c.name d.name,
+      place_is (name_eq c.name) names j h.name,
+      place_is (name_eq d.name) names l m.name,
+      vars_before vars c.var d.var,
+      before_by_place var_eq var_tells vars c.var d.var,
+      place_is (var_eq c.var) vars i h.var,
+      place_is (var_eq d.var) vars k m.var,
+    ) refl
 
 chosen_by : {X : Type 0} (p e q f r g : Bool) (x y z : X) → r ≡ false → g ≡ false → (p ≡ true → e ≡ false) → (q ≡ true → f ≡ false)
     → match_ordering (ordering_then (cond p Less (cond e Equal Greater)) (ordering_then (cond q Less (cond f Equal Greater)) (cond r Less (cond g Equal Greater)))) x y z
-      ≡ (if (if e then q else p) then x else z)
+    ≡ (if (if e then q else p) then x else z)
 chosen_by true true q f r g x y z rf gf a b = let no : true ≡ false = a refl in cc
 chosen_by true false q f r g x y z rf gf a b = refl
 chosen_by false false q f r g x y z rf gf a b = refl
@@ -140,7 +147,7 @@ kept_in_order names vars n m i j c [] h o keyed = refl
 kept_in_order names vars n m i j c (e ∷ es) h o keyed =
     ap kept_conds (ordered i j m e.0.0 e.0.1 e.0.2 (((i, j, m), c) ∷ e ∷ es) ((e.0, c) ∷ es) (e ∷ insert_entry placed_cmp es (i, j, m) c) (omega (arith, keyed.1)))
     ∙ inserted_if (if i == e.0.0 then nat_lt j e.0.1 else nat_lt i e.0.0) (printed_before names vars) c (i, j, m) e es (insert_entry placed_cmp es (i, j, m) c)
-      (before_places names vars c e.1 i j e.0.0 e.0.1 o keyed.0) (kept_in_order names vars n m i j c es h o keyed.2)
+    (before_places names vars c e.1 i j e.0.0 e.0.1 o keyed.0) (kept_in_order names vars n m i j c es h o keyed.2)
 
 keyed_more : (names : List Name) (vars : List Var) (n m : ℕ) (es : List ((ℕ × ℕ × ℕ) × Cond)) → n ≤ m → Keyed names vars n es → Keyed names vars m es
 keyed_more names vars n m [] h k = tt
@@ -156,7 +163,7 @@ kept_keyed names vars n m i j c [] h o keyed = (o, omega arith, tt)
 kept_keyed names vars n m i j c (e ∷ es) h o keyed =
     subst (Keyed names vars m) (sym (ordered i j m e.0.0 e.0.1 e.0.2 (((i, j, m), c) ∷ e ∷ es) ((e.0, c) ∷ es) (e ∷ insert_entry placed_cmp es (i, j, m) c) (omega (arith, keyed.1))))
     (keyed_if names vars m (if i == e.0.0 then nat_lt j e.0.1 else nat_lt i e.0.0) ((i, j, m), c) e es (insert_entry placed_cmp es (i, j, m) c)
-      (o, omega arith, keyed_more names vars n m (e ∷ es) (omega arith) keyed) (kept_keyed names vars n m i j c es h o keyed.2))
+    (o, omega arith, keyed_more names vars n m (e ∷ es) (omega arith) keyed) (kept_keyed names vars n m i j c es h o keyed.2))
 
 filter_keeps : (p : Cond → Bool) (c : Cond) (cs : List Cond) → p c ≡ true → filter p (c ∷ cs) ≡ c ∷ filter p cs
 filter_keeps p c cs e = rw e refl
@@ -177,19 +184,19 @@ pub kept_next : (names : List Name) (vars : List Var) (cs : List Cond) (c : Cond
 kept_next names vars cs c left next i j es fs s h e k keyed o f =
     let more : length cs - left < length cs - next = omega arith in
     let front : filter (occurs_in names vars) (drop next cs) ≡ c ∷ filter (occurs_in names vars) (drop left cs) =
-        ap (filter (occurs_in names vars)) (front_at cs c left next s h e) ∙ filter_keeps (occurs_in names vars) c (drop left cs) o.there
-    in
-    ( ap kept_conds f ∙ kept_in_order names vars (length cs - left) (length cs - next) i j c es more o keyed ∙ ap (insert_cond (printed_before names vars) c) k ∙ ap (sort_conds (printed_before names vars)) (sym front)
-    , subst (Keyed names vars (length cs - next)) (sym f) (kept_keyed names vars (length cs - left) (length cs - next) i j c es more o keyed)
+    ap (filter (occurs_in names vars)) (front_at cs c left next s h e) ∙ filter_keeps (occurs_in names vars) c (drop left cs) o.there
+    in (
+      ap kept_conds f ∙ kept_in_order names vars (length cs - left) (length cs - next) i j c es more o keyed ∙ ap (insert_cond (printed_before names vars) c) k ∙ ap (sort_conds (printed_before names vars)) (sym front),
+      subst (Keyed names vars (length cs - next)) (sym f) (kept_keyed names vars (length cs - left) (length cs - next) i j c es more o keyed),
     )
 
 pub passed_next : (names : List Name) (vars : List Var) (cs : List Cond) (c : Cond) (left next : ℕ) (es : List ((ℕ × ℕ × ℕ) × Cond)) → next + 1 ≡ left → left ≤ length cs → c ≡ get_or cs next c
     → kept_conds es ≡ sort_conds (printed_before names vars) (filter (occurs_in names vars) (drop left cs)) → Keyed names vars (length cs - left) es → occurs_in names vars c ≡ false
     → (kept_conds es ≡ sort_conds (printed_before names vars) (filter (occurs_in names vars) (drop next cs))) × Keyed names vars (length cs - next) es
-passed_next names vars cs c left next es s h e k keyed o =
-    ( k ∙ ap (sort_conds (printed_before names vars)) (sym (ap (filter (occurs_in names vars)) (front_at cs c left next s h e) ∙ filter_drops (occurs_in names vars) c (drop left cs) o))
-    , keyed_more names vars (length cs - left) (length cs - next) es (omega arith) keyed
-    )
+passed_next names vars cs c left next es s h e k keyed o = (
+  k ∙ ap (sort_conds (printed_before names vars)) (sym (ap (filter (occurs_in names vars)) (front_at cs c left next s h e) ∙ filter_drops (occurs_in names vars) c (drop left cs) o)),
+  keyed_more names vars (length cs - left) (length cs - next) es (omega arith) keyed,
+)
 
 pub name_flips : (a b : Name) → name_eq a b ≡ name_eq b a
 name_flips a b = flips name_eq name_tells a b

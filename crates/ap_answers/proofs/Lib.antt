@@ -5,6 +5,7 @@ pub mod SpellingLemmas
 pub mod DisplayLemmas
 pub mod LineLemmas
 pub mod MembershipLemmas
+pub mod QueryLemmas
 pub mod SeparatedLemmas
 pub mod TextLemmas
 pub mod WordLemmas

@@ -1,12 +1,11 @@
 -- The lines of outputs: each longest run of cuts or of stuck branches gives one.
-use Rattle.std.proofs.Common.{◌≡◌, ℕ, zero, suc, ◌≤◌, ◌<◌, Bool, true, false, List, [], ◌∷◌, ◌++◌, map, length, drop, get_or, refl, sym, ap, ap₂, ◌∙◌, subst, arith, append_assoc}
-use Rattle.std.specs.Prelude.{if◌then◌else◌, codes, decimal}
+use Rattle.std.proofs.Common.{◌≡◌, ℕ, zero, suc, ◌≤◌, Bool, true, false, List, [], ◌∷◌, ◌++◌, map, length, drop, get_or, refl, sym, ap, ◌∙◌, subst, arith, append_assoc}
+use Rattle.std.specs.Prelude.{if◌then◌else◌, codes}
 use Rattle.ap_defs.specs.declared.paths.Out.{Out}
 use Rattle.ap_defs.specs.declared.paths.Out.TheVariants as code
-use Rattle.ap_defs.specs.declared.outcomes.Answer.{Answer}
-use Rattle.ap_defs.specs.Answers.{NominalOut, found, cut, stuck, answer_of, out_of, outs_of}
-use Rattle.ap_defs.specs.Lines.{Line, answer, cuts, stucks, line_before, lines_of, ended, is_found, is_cut, is_stuck}
-use Rattle.ap_answers.specs.Runs.{run_length, HasBindings, EachFits, IsLineFor}
+use Rattle.ap_defs.specs.Answers.{NominalOut, found, cut, stuck, out_of, outs_of}
+use Rattle.ap_defs.specs.Lines.{Line, answer, cuts, stucks, line_before, lines_of, ended, is_cut, is_stuck}
+use Rattle.ap_answers.specs.Runs.{run_length, IsLineFor}
 
 before_stuck : (p q : List ℕ) (ls : List Line) → line_before (cut p) (line_before (stuck q) ls) ≡ cuts 1 ∷ line_before (stuck q) ls
 before_stuck p q [] = refl
@@ -71,11 +70,6 @@ drop_outs zero outs = refl
 drop_outs (suc n) [] = refl
 drop_outs (suc n) (o ∷ outs) = drop_outs n outs
 
-fits_further : (k n : ℕ) (outs : List Out) → EachFits k outs → EachFits k (drop n outs)
-fits_further k zero outs h = h
-fits_further k (suc n) [] h = h
-fits_further k (suc n) (o ∷ outs) h = fits_further k n outs h.1
-
 length_outs : (outs : List Out) → length (outs_of outs) ≡ length outs
 length_outs [] = refl
 length_outs (o ∷ outs) = ap suc (length_outs outs)
@@ -83,12 +77,9 @@ length_outs (o ∷ outs) = ap suc (length_outs outs)
 pub within_outs : (text : Line → List ℕ) (outs : List Out) (n : ℕ) (old new : List ℕ) → IsLineFor text (outs_of outs) n old new → n ≤ length outs
 within_outs text outs n old new h = subst (λ m. n ≤ m) (length_outs outs) h.within
 
-pub lines_further : (text : Line → List ℕ) (outs rest : List Out) (n k : ℕ) (old new all : List ℕ) → IsLineFor text (outs_of outs) n old new → EachFits k outs → rest ≡ drop n outs
-    → old ++ ended (map text (lines_of (outs_of outs))) ≡ all → (new ++ ended (map text (lines_of (outs_of rest))) ≡ all) × EachFits k rest
-lines_further text outs rest n k old new all h fits e w =
-    ( ap (λ os. new ++ ended (map text (lines_of os))) (ap outs_of e ∙ sym (drop_outs n outs)) ∙ h.written ∙ w
-    , subst (EachFits k) (sym e) (fits_further k n outs fits)
-    )
+pub lines_further : (text : Line → List ℕ) (outs rest : List Out) (n : ℕ) (old new all : List ℕ) → IsLineFor text (outs_of outs) n old new → rest ≡ drop n outs
+    → old ++ ended (map text (lines_of (outs_of outs))) ≡ all → new ++ ended (map text (lines_of (outs_of rest))) ≡ all
+lines_further text outs rest n old new all h e w = ap (λ os. new ++ ended (map text (lines_of os))) (ap outs_of e ∙ sym (drop_outs n outs)) ∙ h.written ∙ w
 
 ended_one_more : (ws : List (List ℕ)) (w : List ℕ) → ended ws ++ (w ++ codes "\n") ≡ ended (ws ++ w ∷ [])
 ended_one_more [] w = refl

@@ -1,7 +1,6 @@
 -- The names of identifiers, whose numbers rise.
-use Rattle.std.proofs.Common.{◌≡◌, ℕ, zero, suc, ◌+◌, ◌<◌, ◌≤◌, Bool, true, false, ◌&&◌, ◌||◌, nat_eq, List, [], ◌∷◌, ◌++◌, length, drop, get_or, refl, sym, ap, ◌∙◌, append_assoc, arith, add-one, drop-cons}
-use Rattle.std.specs.Prelude.{Option, Some, None}
-use Rattle.std.proofs.lemmas.List.{append-nil}
+use Rattle.std.proofs.Common.{◌≡◌, ℕ, suc, ◌+◌, ◌<◌, Bool, true, false, List, [], ◌∷◌, ◌++◌, length, drop, get_or, refl, sym, ap, ◌∙◌, append_assoc, arith, add-one, drop-cons}
+use Rattle.std.specs.Prelude.{Some, None}
 use Rattle.std.proofs.lemmas.Bool.Decides.{nat_tests}
 use Rattle.ap_defs.specs.declared.terms.Name.{Name}
 use Rattle.ap_defs.specs.declared.goals.Local.{Local}
@@ -58,5 +57,5 @@ pub free_next : (ls : List Local) (l : Local) (i : ℕ) (as' bs all : List Name)
 free_next ls l i as' bs all h e invariant d =
     let front : drop i ls ≡ l ∷ drop (suc i) ls = drop-cons ls i l h ∙ ap (λ (x : Local). x ∷ drop (suc i) ls) (sym e) in
     let named : local_names i (locals_of (drop i ls)) ≡ name_unless l.bound (kind_of l.kind) i [] ++ local_names (suc i) (locals_of (drop (suc i) ls)) =
-        ap (λ (m : List Local). local_names i (locals_of m)) front ∙ name_front l.bound (kind_of l.kind) i (local_names (suc i) (locals_of (drop (suc i) ls))) in
+    ap (λ (m : List Local). local_names i (locals_of m)) front ∙ name_front l.bound (kind_of l.kind) i (local_names (suc i) (locals_of (drop (suc i) ls))) in
     rw (d, add-one i) (append_assoc as' (name_unless l.bound (kind_of l.kind) i []) (local_names (suc i) (locals_of (drop (suc i) ls))) ∙ ap (λ r. as' ++ r) (sym named) ∙ invariant)

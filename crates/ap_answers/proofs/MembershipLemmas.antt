@@ -75,5 +75,5 @@ pub shown_filter : (locals : List NominalLocal) (ts : List NominalTerm) (cs : Li
     → filter (occurs_in (more_names (local_names zero locals) (names_of_terms ts)) (first_vars [] (vars_of_terms ts))) cs ≡ filter (is_shown_cond locals ts) cs
 shown_filter locals ts cs =
     same_filter _ (is_shown_cond locals ts) cs (λ c.
-      ap₂ (λ p q. p && q) (has_var_more c.var [] (vars_of_terms ts))
-      (has_name_more c.name (local_names zero locals) (names_of_terms ts) ∙ or_flipped (has_name c.name (local_names zero locals)) (has_name c.name (names_of_terms ts))))
+    ap₂ (λ p q. p && q) (has_var_more c.var [] (vars_of_terms ts))
+    (has_name_more c.name (local_names zero locals) (names_of_terms ts) ∙ or_flipped (has_name c.name (local_names zero locals)) (has_name c.name (names_of_terms ts))))

@@ -1,5 +1,5 @@
 -- Names and variables without doubles.
-use Rattle.std.proofs.Common.{◌≡◌, ℕ, zero, suc, ◌+◌, ◌≤◌, ◌<◌, Bool, true, false, ◌&&◌, ◌||◌, List, [], ◌∷◌, ◌++◌, if◌then◌else◌, refl, sym, ap, ap₂, ◌∙◌, append_assoc, arith, drop, length, get_or, add-one, drop-cons}
+use Rattle.std.proofs.Common.{◌≡◌, ℕ, suc, ◌+◌, ◌<◌, Bool, true, false, ◌||◌, List, [], ◌∷◌, ◌++◌, if◌then◌else◌, refl, sym, ap, ap₂, ◌∙◌, append_assoc, drop, length, get_or, add-one, drop-cons}
 use Rattle.std.specs.List.{list_any}
 use Rattle.std.proofs.lemmas.List.{append-nil}
 use Rattle.ap_defs.specs.declared.terms.Name.{Name}
@@ -7,7 +7,7 @@ use Rattle.ap_defs.specs.declared.terms.Var.{Var}
 use Rattle.ap_defs.specs.declared.terms.Swap.{Swap}
 use Rattle.ap_defs.specs.Permutations.{name_eq, has_name, names_of, left_name, right_name}
 use Rattle.ap_defs.specs.Freshness.{var_eq}
-use Rattle.ap_defs.specs.Unification.{has_var, vars_then, size}
+use Rattle.ap_defs.specs.Unification.{has_var, vars_then}
 use Rattle.ap_defs.specs.Terms.{NominalTerm, unit, name, pair, app, abs, susp}
 use Rattle.ap_defs.specs.Occurrences.{names_then, names_of_terms, vars_of_terms}
 use Rattle.ap_defs.specs.Printing.{first_names, first_vars}
@@ -52,7 +52,7 @@ first_names_same ks ls (x ∷ xs) h =
 first_names_seen : (ks : List Name) (x : Name) (xs ys : List Name) → first_names ks (xs ++ ys) ≡ first_names ks xs ++ first_names (ks ++ first_names ks xs) ys
     → first_names (x ∷ ks) (xs ++ ys) ≡ first_names (x ∷ ks) xs ++ first_names (x ∷ (ks ++ first_names (x ∷ ks) xs)) ys → (seen : Bool)
     → (if seen then first_names ks (xs ++ ys) else (x ∷ first_names (x ∷ ks) (xs ++ ys)))
-      ≡ (if seen then first_names ks xs else (x ∷ first_names (x ∷ ks) xs)) ++ first_names (ks ++ (if seen then first_names ks xs else (x ∷ first_names (x ∷ ks) xs))) ys
+    ≡ (if seen then first_names ks xs else (x ∷ first_names (x ∷ ks) xs)) ++ first_names (ks ++ (if seen then first_names ks xs else (x ∷ first_names (x ∷ ks) xs))) ys
 first_names_seen ks x xs ys e d true = e
 first_names_seen ks x xs ys e d false =
     ap (λ (as' : List Name). x ∷ as') (d ∙ ap (λ as'. first_names (x ∷ ks) xs ++ as') (first_names_same (x ∷ (ks ++ first_names (x ∷ ks) xs)) (ks ++ x ∷ first_names (x ∷ ks) xs) ys (λ b. name_moved b x ks (first_names (x ∷ ks) xs))))
@@ -97,7 +97,7 @@ first_vars_same ks ls (x ∷ xs) h =
 first_vars_seen : (ks : List Var) (x : Var) (xs ys : List Var) → first_vars ks (xs ++ ys) ≡ first_vars ks xs ++ first_vars (ks ++ first_vars ks xs) ys
     → first_vars (x ∷ ks) (xs ++ ys) ≡ first_vars (x ∷ ks) xs ++ first_vars (x ∷ (ks ++ first_vars (x ∷ ks) xs)) ys → (seen : Bool)
     → (if seen then first_vars ks (xs ++ ys) else (x ∷ first_vars (x ∷ ks) (xs ++ ys)))
-      ≡ (if seen then first_vars ks xs else (x ∷ first_vars (x ∷ ks) xs)) ++ first_vars (ks ++ (if seen then first_vars ks xs else (x ∷ first_vars (x ∷ ks) xs))) ys
+    ≡ (if seen then first_vars ks xs else (x ∷ first_vars (x ∷ ks) xs)) ++ first_vars (ks ++ (if seen then first_vars ks xs else (x ∷ first_vars (x ∷ ks) xs))) ys
 first_vars_seen ks x xs ys e d true = e
 first_vars_seen ks x xs ys e d false =
     ap (λ (as' : List Var). x ∷ as') (d ∙ ap (λ as'. first_vars (x ∷ ks) xs ++ as') (first_vars_same (x ∷ (ks ++ first_vars (x ∷ ks) xs)) (ks ++ x ∷ first_vars (x ∷ ks) xs) ys (λ b. var_moved b x ks (first_vars (x ∷ ks) xs))))

@@ -1,5 +1,5 @@
 -- The text of a term, by the form of the term.
-use Rattle.std.proofs.Common.{◌≡◌, ℕ, zero, suc, ◌-◌, ◌≤◌, ◌<◌, ◌≢◌, get_or, Bool, true, false, List, [], ◌∷◌, ◌++◌, map, length, refl, sym, ap, ◌∙◌, append_assoc, arith}
+use Rattle.std.proofs.Common.{◌≡◌, ℕ, zero, suc, ◌-◌, ◌≤◌, ◌<◌, ◌≢◌, get_or, List, [], ◌∷◌, ◌++◌, map, length, refl, sym, ap, ◌∙◌, append_assoc, arith}
 use Rattle.std.specs.Prelude.{Option, Some, None, slice_get, codes, replicate, reverse}
 use Rattle.std.specs.Option.{option_map}
 use Rattle.std.proofs.lemmas.Option.{slice_get_past, slice_get-get_or}
@@ -51,7 +51,7 @@ swappings_round : (names : Name → List ℕ) (p : List Swap) (text : List ℕ) 
 swappings_round names [] text = append-nil text
 swappings_round names (s ∷ p) text =
     let closed : heads_text names p ++ (text ++ (codes ")" ++ replicate (length p) 41)) ≡ swaps_text names p text ++ codes ")" =
-        rw (← swappings_round names p text) (simp append_assoc (ap (λ bs. heads_text names p ++ (text ++ bs)) (sym (parentheses_end (length p)))))
+    rw (← swappings_round names p text) (simp append_assoc (ap (λ bs. heads_text names p ++ (text ++ bs)) (sym (parentheses_end (length p)))))
     in
     simp append_assoc (ap (λ (bs : List ℕ). codes "swap(" ++ (names (left_name s) ++ (codes "," ++ (names (right_name s) ++ (codes "," ++ bs))))) closed)
 

@@ -9,3 +9,4 @@ pub mod Words
 pub mod Displays
 pub mod Separated
 pub mod Runs
+pub mod Queries

@@ -1,11 +1,11 @@
 //! The text of an answer.
 
-ghost use Rattle.std.specs.Prelude.{◌≡◌, ℕ, List as list, [], ◌∷◌, ◌++◌, length, codes, OnOk};
+ghost use Rattle.std.specs.Prelude.{◌≡◌, ℕ, List as list, [], ◌∷◌, ◌++◌, OnOk};
 ghost use Rattle.ap_defs.specs.Types.{locals_of};
 ghost use Rattle.ap_defs.specs.Goals.{program_of};
 ghost use Rattle.ap_defs.specs.Answers.{answer_of};
 ghost use Rattle.ap_defs.specs.Printing.{has_word};
-ghost use Rattle.ap_defs.specs.Lines.{answer_text, bind_text, cond_text, shown_text, var_texts, where_text};
+ghost use Rattle.ap_defs.specs.Lines.{answer_text, bind_text, cond_text, shown_text, where_text};
 ghost use Rattle.ap_answers.specs.Spelled.{spelling_in};
 ghost use Rattle.ap_answers.specs.Bindings.{bind_of, binds_of};
 ghost use Rattle.ap_answers.specs.Words.{knows};
@@ -63,11 +63,7 @@ fn write_cond(out: &mut Vec<u8>, by: &Speller<'_>, cond: &Cond) -> Result<(), Me
 }
 
 /// Writes further conditions, each behind a comma.
-fn write_further_conds(
-    out: &mut Vec<u8>,
-    by: &Speller<'_>,
-    conds: &[Cond],
-) -> Result<(), Memory>
+fn write_further_conds(out: &mut Vec<u8>, by: &Speller<'_>, conds: &[Cond]) -> Result<(), Memory>
     ensures { OnOk result (out.new.items ≡ out.old.items ++ further_conds (spelling_in by.now) conds.now) }
 {
     for cond in conds {
@@ -117,8 +113,7 @@ pub fn write_answer(
     locals: &[Local],
     answer: &Answer,
 ) -> Result<(), Memory>
-    requires taken { (w : list ℕ) → knows taken.now w ≡ has_word w program.now.words }
-    requires fits { length answer.now.binds ≡ length (var_texts (locals_of locals.now)) }
+    requires { (w : list ℕ) → knows taken.now w ≡ has_word w program.now.words }
     ensures { OnOk result (out.new.items ≡ out.old.items ++ answer_text (program_of program.now) (locals_of locals.now) (answer_of answer.now)) }
 {
     let shown = display_of(alloc, locals, answer)?;

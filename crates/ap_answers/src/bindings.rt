@@ -1,6 +1,6 @@
 //! The bindings that are shown.
 
-ghost use Rattle.std.specs.Prelude.{◌≡◌, [], ◌∷◌, ◌++◌, length, map, IfOk, OnOk};
+ghost use Rattle.std.specs.Prelude.{◌≡◌, [], ◌∷◌, ◌++◌, map, IfOk, OnOk};
 ghost use Rattle.ap_defs.specs.Terms.{term_of};
 ghost use Rattle.ap_defs.specs.Types.{locals_of};
 ghost use Rattle.ap_defs.specs.Lines.{var_texts, shown_binds};
@@ -21,11 +21,7 @@ pub struct Binding<'a> {
 }
 
 /// Keeps a binding, unless its variable is `_`.
-fn keep<'a>(
-    binds: &mut Vec<Binding<'a>>,
-    text: &'a Text,
-    term: &'a Term,
-) -> Result<(), Memory>
+fn keep<'a>(binds: &mut Vec<Binding<'a>>, text: &'a Text, term: &'a Term) -> Result<(), Memory>
     ensures { OnOk result (binds_of binds.new.items ≡ binds_of binds.old.items ++ shown_binds (text.now ∷ []) (term_of term.now ∷ [])) }
 {
     if text.as_str() != "_" {
@@ -40,13 +36,14 @@ pub fn shown_bindings<'a>(
     locals: &'a [Local],
     terms: &'a [Term],
 ) -> Result<Vec<Binding<'a>>, Memory>
-    requires { length terms.now ≡ length (var_texts (locals_of locals.now)) }
     ensures { IfOk result (λ binds. binds_of binds.items ≡ shown_binds (var_texts (locals_of locals.now)) (map term_of terms.now)) }
 {
     let texts = variable_texts(alloc, locals)?;
     let mut binds = Vec::new(alloc);
     for (i, text) in texts.iter().enumerate() {
-        keep(&mut binds, text, &terms[i])?;
+        if i < terms.len() {
+            keep(&mut binds, text, &terms[i])?;
+        }
     }
     Ok(binds)
 }

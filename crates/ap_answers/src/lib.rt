@@ -4,9 +4,11 @@
 mod answers;
 mod bindings;
 mod conditions;
+mod copying;
 mod locals;
 mod occurrences;
 mod place;
+pub mod printing;
 mod report;
 mod shown;
 mod speller;

@@ -35,8 +35,20 @@ fn add_swap(names: &mut IndexSet<Name>, swap: &Swap) -> Result<(), Memory>
     ensures { OnOk result (names.new.keys ≡ more_names names.old.keys (names_of (swap.now ∷ []))) }
 {
     let sort = swap.sort;
-    add_name(names, Name { sort, num: swap.left })?;
-    add_name(names, Name { sort, num: swap.right })
+    add_name(
+        names,
+        Name {
+            sort,
+            num: swap.left,
+        },
+    )?;
+    add_name(
+        names,
+        Name {
+            sort,
+            num: swap.right,
+        },
+    )
 }
 
 /// Adds the names of swappings.

@@ -5,9 +5,9 @@ ghost use Rattle.ap_defs.specs.Types.{locals_of};
 ghost use Rattle.ap_defs.specs.Goals.{program_of};
 ghost use Rattle.ap_defs.specs.Answers.{outs_of, out_of};
 ghost use Rattle.ap_defs.specs.Printing.{has_word};
-ghost use Rattle.ap_defs.specs.Lines.{is_found, is_cut, is_stuck, count_of, lines_of, line_text, ended, totals_text, query_lines, var_texts};
+ghost use Rattle.ap_defs.specs.Lines.{is_found, is_cut, is_stuck, count_of, lines_of, line_text, ended, totals_text, query_lines};
 ghost use Rattle.ap_answers.specs.Words.{knows};
-ghost use Rattle.ap_answers.specs.Runs.{run_length, EachFits, IsLineFor};
+ghost use Rattle.ap_answers.specs.Runs.{run_length, IsLineFor};
 
 use crate::answers::write_answer;
 use crate::words::word_set;
@@ -110,7 +110,9 @@ fn write_totals(alloc: Global, out: &mut Vec<u8>, query: u32, outs: &[Out]) -> R
     let answers = count_answers(outs);
     let cuts = count_cuts(outs);
     let stuck = count_stuck(outs);
-    let line = format!(in alloc; "% query {query}: {answers} answers, {cuts} cut, {stuck} stuck\n")?;
+    let line = format!(in alloc;
+        "% query {query}: {answers} answers, {cuts} cut, {stuck} stuck\n"
+    )?;
     out.extend_from_slice(line.as_bytes())?;
     Ok(())
 }
@@ -143,7 +145,6 @@ fn write_line(
     outs: &[Out],
 ) -> Result<usize, Memory>
     requires taken { (w : list ℕ) → knows taken.now w ≡ has_word w program.now.words }
-    requires fits { EachFits (length (var_texts (locals_of locals.now))) outs.now }
     requires some { 1 ≤ length outs.now }
     ensures { IfOk result (λ n. IsLineFor (line_text (program_of program.now) (locals_of locals.now)) (outs_of outs.now) n out.old.items out.new.items) }
 {
@@ -175,8 +176,7 @@ fn write_lines(
     locals: &[Local],
     outs: &[Out],
 ) -> Result<(), Memory>
-    requires taken { (w : list ℕ) → knows taken.now w ≡ has_word w program.now.words }
-    requires fits { EachFits (length (var_texts (locals_of locals.now))) outs.now }
+    requires { (w : list ℕ) → knows taken.now w ≡ has_word w program.now.words }
     ensures { OnOk result (out.new.items ≡ out.old.items ++ ended (map (line_text (program_of program.now) (locals_of locals.now)) (lines_of (outs_of outs.now)))) }
 {
     let mut rest = outs;
@@ -196,7 +196,6 @@ pub fn report(
     locals: &[Local],
     outs: &[Out],
 ) -> Result<Vec<u8>, Memory>
-    requires { EachFits (length (var_texts (locals_of locals.now))) outs.now }
     ensures { IfOk result (λ bytes. bytes.items ≡ query_lines (program_of program.now) query (locals_of locals.now) (outs_of outs.now)) }
 {
     let taken = word_set(alloc, program.words.items())?;

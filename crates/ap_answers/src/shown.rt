@@ -1,11 +1,11 @@
 //! What is shown of an answer.
 
-ghost use Rattle.std.specs.Prelude.{◌≡◌, [], zero, length, IfOk};
+ghost use Rattle.std.specs.Prelude.{◌≡◌, [], zero, IfOk};
 ghost use Rattle.ap_defs.specs.Types.{locals_of};
 ghost use Rattle.ap_defs.specs.Renaming.{local_names};
 ghost use Rattle.ap_defs.specs.Occurrences.{names_of_terms, vars_of_terms};
 ghost use Rattle.ap_defs.specs.Printing.{first_vars};
-ghost use Rattle.ap_defs.specs.Lines.{terms_of_binds, var_texts, shown_in};
+ghost use Rattle.ap_defs.specs.Lines.{terms_of_binds, shown_in};
 ghost use Rattle.ap_defs.specs.Answers.{answer_of};
 ghost use Rattle.ap_answers.specs.Bindings.{binds_of};
 ghost use Rattle.ap_answers.specs.Displays.{Shows};
@@ -64,7 +64,6 @@ pub fn display_of<'a>(
     locals: &'a [Local],
     answer: &'a Answer,
 ) -> Result<Display<'a>, Memory>
-    requires { length answer.now.binds ≡ length (var_texts (locals_of locals.now)) }
     ensures { IfOk result (λ d. Shows (locals_of locals.now) d (shown_in (locals_of locals.now) (answer_of answer.now))) }
 {
     let binds = shown_bindings(alloc, locals, answer.binds.items())?;

@@ -32,9 +32,21 @@ fn write_head(out: &mut Vec<u8>, by: &Speller<'_>, swap: &Swap) -> Result<(), Me
 {
     let sort = swap.sort;
     out.extend_from_slice(b"swap(")?;
-    by.write_name(out, Name { sort, num: swap.left })?;
+    by.write_name(
+        out,
+        Name {
+            sort,
+            num: swap.left,
+        },
+    )?;
     out.push(b',')?;
-    by.write_name(out, Name { sort, num: swap.right })?;
+    by.write_name(
+        out,
+        Name {
+            sort,
+            num: swap.right,
+        },
+    )?;
     out.push(b',')?;
     Ok(())
 }

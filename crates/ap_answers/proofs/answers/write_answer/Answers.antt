@@ -1,11 +1,6 @@
-use Rattle.std.proofs.Common.{◌++◌, ◌≡◌, ap, sym, ◌∙◌}
-use Rattle.std.specs.Prelude.{OnOk}
 use Rattle.ap_defs.specs.Types.{locals_of}
-use Rattle.ap_defs.specs.Goals.{program_of}
 use Rattle.ap_defs.specs.Answers.{answer_of}
-use Rattle.ap_defs.specs.Lines.{shown_in, shown_text, spelling_for, answer_text}
-use Rattle.ap_answers.specs.Spelled.{spelling_in}
-use Rattle.ap_answers.specs.Bindings.{binds_of}
+use Rattle.ap_defs.specs.Lines.{shown_in}
 use Rattle.ap_answers.proofs.answers.write_answer.Goals as goal
 
 pub returns : goal.returns

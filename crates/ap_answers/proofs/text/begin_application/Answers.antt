@@ -1,5 +1,4 @@
-use Rattle.std.proofs.Common.{◌≡◌, ◌++◌, map, arith, rules}
-use Rattle.ap_defs.specs.Types.{constructor_of}
+use Rattle.std.proofs.Common.{arith, rules}
 use Rattle.ap_answers.specs.Places.{place_of}
 use Rattle.ap_answers.proofs.TextLemmas.{declares_none, declares_some}
 use Rattle.ap_answers.proofs.text.begin_application.Goals as goal

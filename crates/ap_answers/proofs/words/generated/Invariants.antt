@@ -1,9 +1,6 @@
 -- The words so far, and as many as are wanting of those that are left to try, are all.
-use Rattle.std.proofs.Common.{◌≡◌, ◌-◌, ◌+◌, ◌≤◌, ◌++◌, List, ℕ, length, take, map}
-use Rattle.std.specs.Prelude.{filter, not}
-use Rattle.std.specs.List.{range_with_len}
-use Rattle.std.specs.Fmt.{decimal}
-use Rattle.ap_defs.specs.Printing.{has_word, new_words}
+use Rattle.std.proofs.Common.{◌≡◌, ◌-◌, ◌+◌, ◌≤◌, ◌++◌, length, take}
+use Rattle.ap_defs.specs.Printing.{new_words}
 use Rattle.ap_answers.proofs.WordLemmas.{rest_of_words}
 use Rattle.ap_answers.proofs.words.generated.Given as goal
 
