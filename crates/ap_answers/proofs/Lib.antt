@@ -1,0 +1,12 @@
+pub mod OccurrenceLemmas
+pub mod BindingLemmas
+pub mod ConditionLemmas
+pub mod SpellingLemmas
+pub mod DisplayLemmas
+pub mod LineLemmas
+pub mod MembershipLemmas
+pub mod QueryLemmas
+pub mod SeparatedLemmas
+pub mod TextLemmas
+pub mod WordLemmas
+pub mod LocalLemmas

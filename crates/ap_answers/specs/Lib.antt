@@ -1,0 +1,12 @@
+pub mod Spelled
+pub mod Places
+pub mod Swappings
+pub mod Locals
+pub mod Occurring
+pub mod Bindings
+pub mod Conditions
+pub mod Words
+pub mod Displays
+pub mod Separated
+pub mod Runs
+pub mod Queries

@@ -1,0 +1,18 @@
+-- The spelling that a table gives: the text at the place of a name or a variable.
+use Rattle.std.specs.Prelude.{ℕ, List, [], Option, Some, None, map, slice_get, unwrap_or, position}
+use Rattle.ap_defs.specs.Permutations.{name_eq}
+use Rattle.ap_defs.specs.Freshness.{var_eq}
+use Rattle.ap_defs.specs.Types.{constructor_of}
+use Rattle.ap_defs.specs.Printing.{Spelling}
+use Rattle.ap_answers.specs.declared.speller.Speller.{Speller}
+
+abbrev pub text_at : List (List ℕ) → Option ℕ → List ℕ
+text_at texts None = []
+text_at texts (Some i) = unwrap_or (slice_get texts i) []
+
+abbrev pub spelling_in : Speller → Spelling
+spelling_in s = record {
+  names = λ a. text_at s.name_texts.items (position (name_eq a) s.names.now.keys);
+  vars = λ x. text_at s.var_texts.items (position (var_eq x) s.vars.now.keys);
+  constructors = map constructor_of s.constructors.now;
+}

@@ -1,0 +1,63 @@
+//! What is shown of an answer, and the report on a query.
+
+ghost use Rattle.std.specs.Prelude.{◌≡◌, ◌≤◌, length, IfOk};
+ghost use Rattle.ap_defs.specs.Types.{locals_of};
+ghost use Rattle.ap_defs.specs.Goals.{program_of};
+ghost use Rattle.ap_defs.specs.Answers.{answer_of, outs_of};
+ghost use Rattle.ap_defs.specs.Lines.{shown_in, query_lines};
+ghost use Rattle.ap_answers.specs.Queries.{query_locals, nominal_shown};
+
+use crate::copying::shown_of;
+use crate::report::report;
+use crate::shown::display_of;
+use ap_defs::goals::Local;
+use ap_defs::memory::Memory;
+use ap_defs::outcomes::{Answer, Shown};
+use ap_defs::paths::Out;
+use ap_program::restricted::Restricted;
+use std::alloc::Global;
+
+/// The identifiers of the query of this number, from 1.
+fn locals_in(program: &Restricted, query: u32) -> &[Local]
+    requires from_one { 1 ≤ query }
+    requires exists { query ≤ length (program_of program.now).queries }
+    ensures { locals_of result.now ≡ query_locals (program_of program.now) query }
+{
+    let query = &program.program().queries.items()[(query - 1) as usize];
+    query.locals.items()
+}
+
+/// What is shown of an answer to the query of this number, from 1: the bindings of variables other than
+/// `_`, the conditions whose variable occurs in these and whose name does or is a free name of the query,
+/// and the names and variables that print as generated.
+pub fn canonical(
+    alloc: Global,
+    program: &Restricted,
+    query: u32,
+    answer: &Answer,
+) -> Result<Shown, Memory>
+    requires from_one { 1 ≤ query }
+    requires exists { query ≤ length (program_of program.now).queries }
+    ensures { IfOk result (λ shown. nominal_shown shown ≡ shown_in (query_locals (program_of program.now) query) (answer_of answer.now)) }
+{
+    let locals = locals_in(program, query);
+    let display = display_of(alloc, locals, answer)?;
+    let shown = shown_of(alloc, locals, &display)?;
+    Ok(shown)
+}
+
+/// The report on the query of this number, from 1: a line for each answer, one for each longest run of
+/// cuts and of stuck branches, and the totals. Terms are written as nominal terms are read.
+pub fn lines(
+    alloc: Global,
+    program: &Restricted,
+    query: u32,
+    outs: &[Out],
+) -> Result<Vec<u8>, Memory>
+    requires from_one { 1 ≤ query }
+    requires exists { query ≤ length (program_of program.now).queries }
+    ensures { IfOk result (λ bytes. bytes.items ≡ query_lines (program_of program.now) query (query_locals (program_of program.now) query) (outs_of outs.now)) }
+{
+    let locals = locals_in(program, query);
+    report(alloc, program.program(), query, locals, outs)
+}

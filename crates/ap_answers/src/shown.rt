@@ -1,0 +1,79 @@
+//! What is shown of an answer.
+
+ghost use Rattle.std.specs.Prelude.{◌≡◌, [], zero, IfOk};
+ghost use Rattle.ap_defs.specs.Types.{locals_of};
+ghost use Rattle.ap_defs.specs.Renaming.{local_names};
+ghost use Rattle.ap_defs.specs.Occurrences.{names_of_terms, vars_of_terms};
+ghost use Rattle.ap_defs.specs.Printing.{first_vars};
+ghost use Rattle.ap_defs.specs.Lines.{terms_of_binds, shown_in};
+ghost use Rattle.ap_defs.specs.Answers.{answer_of};
+ghost use Rattle.ap_answers.specs.Bindings.{binds_of};
+ghost use Rattle.ap_answers.specs.Displays.{Shows};
+ghost use Rattle.ap_answers.specs.Occurring.{more_names};
+
+use crate::bindings::{Binding, shown_bindings};
+use crate::conditions::shown_conditions;
+use crate::locals::free_names;
+use crate::occurrences::{add_names, add_vars};
+use ap_defs::goals::Local;
+use ap_defs::memory::Memory;
+use ap_defs::outcomes::Answer;
+use ap_defs::terms::{Cond, Name, Var};
+use indexmap::IndexSet;
+use std::alloc::Global;
+
+/// What is shown of an answer: bindings that lend their parts, the query's free names and then the others
+/// of the bindings, their variables, and conditions.
+#[derive(Drop)]
+pub struct Display<'a> {
+    pub binds: Vec<Binding<'a>>,
+    pub names: IndexSet<Name>,
+    pub vars: IndexSet<Var>,
+    pub conds: Vec<Cond>,
+}
+
+/// The query's free names, and then the others of the bindings, by first occurrence.
+pub fn names_of_bindings(
+    alloc: Global,
+    locals: &[Local],
+    binds: &[Binding<'_>],
+) -> Result<IndexSet<Name>, Memory>
+    ensures { IfOk result (λ names. names.keys ≡ more_names (local_names zero (locals_of locals.now)) (names_of_terms (terms_of_binds (binds_of binds.now)))) }
+{
+    let mut names = free_names(alloc, locals)?;
+    for bind in binds {
+        add_names(&mut names, bind.term)?;
+    }
+    Ok(names)
+}
+
+/// The variables of the bindings, by first occurrence.
+pub fn vars_of_bindings(alloc: Global, binds: &[Binding<'_>]) -> Result<IndexSet<Var>, Memory>
+    ensures { IfOk result (λ vars. vars.keys ≡ first_vars [] (vars_of_terms (terms_of_binds (binds_of binds.now)))) }
+{
+    let mut vars = IndexSet::new(alloc);
+    for bind in binds {
+        add_vars(&mut vars, bind.term)?;
+    }
+    Ok(vars)
+}
+
+/// What is shown of an answer to a query with these identifiers.
+pub fn display_of<'a>(
+    alloc: Global,
+    locals: &'a [Local],
+    answer: &'a Answer,
+) -> Result<Display<'a>, Memory>
+    ensures { IfOk result (λ d. Shows (locals_of locals.now) d (shown_in (locals_of locals.now) (answer_of answer.now))) }
+{
+    let binds = shown_bindings(alloc, locals, answer.binds.items())?;
+    let names = names_of_bindings(alloc, locals, binds.as_slice())?;
+    let vars = vars_of_bindings(alloc, binds.as_slice())?;
+    let conds = shown_conditions(alloc, &names, &vars, answer.conds.items())?;
+    Ok(Display {
+        binds,
+        names,
+        vars,
+        conds,
+    })
+}

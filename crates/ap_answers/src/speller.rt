@@ -1,0 +1,93 @@
+//! How the names, variables and constructors of an answer are spelled.
+
+ghost use Rattle.std.specs.Prelude.{◌≡◌, ℕ, zero, List as list, ◌++◌, Some, OnOk, IfOk};
+ghost use Rattle.ap_defs.specs.Types.{locals_of};
+ghost use Rattle.ap_defs.specs.Goals.{program_of};
+ghost use Rattle.ap_defs.specs.Renaming.{local_names};
+ghost use Rattle.ap_defs.specs.Printing.{has_word};
+ghost use Rattle.ap_defs.specs.Lines.{NominalShown, spelling_for};
+ghost use Rattle.ap_answers.specs.Words.{knows};
+ghost use Rattle.ap_answers.specs.Spelled.{spelling_in, text_at};
+
+use crate::locals::free_name_texts;
+use crate::words::generated;
+use ap_defs::goals::{Constructor, Local, Program};
+use ap_defs::lists::Text;
+use ap_defs::memory::Memory;
+use ap_defs::terms::{Name, Term, Var};
+use indexmap::IndexSet;
+use std::alloc::Global;
+use std::collections::HashSet;
+
+/// The names and the variables that are written, each with its text at the same place, and the
+/// declared constructors.
+#[derive(Drop)]
+pub struct Speller<'a> {
+    pub names: &'a IndexSet<Name>,
+    pub name_texts: Vec<Text>,
+    pub vars: &'a IndexSet<Var>,
+    pub var_texts: Vec<Text>,
+    pub constructors: &'a [Constructor],
+}
+
+// Writes the text at this place, if there is one.
+fn write_at(out: &mut Vec<u8>, texts: &[Text], place: usize) -> Result<(), Memory>
+    ensures { OnOk result (out.new.items ≡ out.old.items ++ text_at texts.now (Some place)) }
+{
+    if let Some(text) = texts.get(place) {
+        out.extend_from_slice(text.as_str().as_bytes())?;
+    }
+    Ok(())
+}
+
+impl Speller<'_> {
+    #[tactic(auto, unfolding(ap_defs::specs::Permutations::name_eq))]
+    /// Writes a name. One that has no text is left out.
+    pub fn write_name(&self, out: &mut Vec<u8>, name: Name) -> Result<(), Memory>
+        ensures { OnOk result (out.new.items ≡ out.old.items ++ (spelling_in self.now).names name) }
+    {
+        if let Some(place) = self.names.get_index_of(&name) {
+            write_at(out, self.name_texts.as_slice(), place)?;
+        }
+        Ok(())
+    }
+
+    /// Writes a variable. One that has no text is left out.
+    pub fn write_var(&self, out: &mut Vec<u8>, var: Var) -> Result<(), Memory>
+        ensures { OnOk result (out.new.items ≡ out.old.items ++ (spelling_in self.now).vars var) }
+    {
+        if let Some(place) = self.vars.get_index_of(&var) {
+            write_at(out, self.var_texts.as_slice(), place)?;
+        }
+        Ok(())
+    }
+}
+
+/// The speller for an answer that shows these names and variables: the query's free names first, which
+/// are written as they are spelled, and then the others, which get generated words, as variables do.
+pub fn speller_for<'a>(
+    alloc: Global,
+    program: &'a Program<Term>,
+    taken: &HashSet<&str>,
+    locals: &[Local],
+    names: &'a IndexSet<Name>,
+    vars: &'a IndexSet<Var>,
+) -> Result<Speller<'a>, Memory>
+    requires { (w : list ℕ) → knows taken.now w ≡ has_word w program.now.words }
+    ensures { IfOk result (λ by. (s : NominalShown) → names.now.keys ≡ local_names zero (locals_of locals.now) ++ s.names → vars.now.keys ≡ s.vars → spelling_in by ≡ spelling_for (program_of program.now) (locals_of locals.now) s) }
+{
+    let words = program.words.items();
+    let mut name_texts = free_name_texts(alloc, locals)?;
+    let others = names.len().saturating_sub(name_texts.len());
+    let mut made = generated(alloc, "n", words, taken, others)?;
+    name_texts.append(&mut made)?;
+    let var_texts = generated(alloc, "_", words, taken, vars.len())?;
+    let constructors = program.signature.constructors.items();
+    Ok(Speller {
+        names,
+        name_texts,
+        vars,
+        var_texts,
+        constructors,
+    })
+}

@@ -1,0 +1,227 @@
+//! The text of terms.
+
+ghost use Rattle.std.specs.Prelude.{◌≡◌, ◌++◌, [], ◌∷◌, codes, reverse, map, Some, OnOk, IfOk};
+ghost use Rattle.std.specs.Option.{option_map};
+ghost use Rattle.ap_defs.specs.Terms.{term_of};
+ghost use Rattle.ap_defs.specs.Printing.{barred, swaps_text, term_at};
+ghost use Rattle.ap_answers.specs.Spelled.{spelling_in};
+ghost use Rattle.ap_answers.specs.Places.{place_of, pair_opening, pair_closing, cell_opening, cell_closing, declared_opening, declared_closing, declared_place, opening, closing, argument_place};
+ghost use Rattle.ap_defs.specs.Types.{constructor_of};
+ghost use Rattle.ap_answers.specs.Swappings.{heads_text};
+
+use crate::place::{Place, parenthesized, write_bar, write_between, write_nil, write_unit};
+use crate::speller::Speller;
+use ap_defs::goals::Constructor;
+use ap_defs::memory::Memory;
+use ap_defs::terms::{Name, Swap, Term, Var};
+use std::alloc::Global;
+
+/// Writes the beginnings of swappings.
+fn write_heads(out: &mut Vec<u8>, by: &Speller<'_>, swaps: &[Swap]) -> Result<(), Memory>
+    ensures { OnOk result (out.new.items ≡ out.old.items ++ heads_text (spelling_in by.now).names swaps.now) }
+{
+    for swap in swaps {
+        write_head(out, by, swap)?;
+    }
+    Ok(())
+}
+
+/// Writes the beginning of a swapping.
+fn write_head(out: &mut Vec<u8>, by: &Speller<'_>, swap: &Swap) -> Result<(), Memory>
+    ensures { OnOk result (out.new.items ≡ out.old.items ++ heads_text (spelling_in by.now).names (swap.now ∷ [])) }
+{
+    let sort = swap.sort;
+    out.extend_from_slice(b"swap(")?;
+    by.write_name(
+        out,
+        Name {
+            sort,
+            num: swap.left,
+        },
+    )?;
+    out.push(b',')?;
+    by.write_name(
+        out,
+        Name {
+            sort,
+            num: swap.right,
+        },
+    )?;
+    out.push(b',')?;
+    Ok(())
+}
+
+/// Writes a variable inside swappings, the first outermost.
+fn write_suspension(
+    out: &mut Vec<u8>,
+    by: &Speller<'_>,
+    swaps: &[Swap],
+    var: Var,
+) -> Result<(), Memory>
+    ensures { OnOk result (out.new.items ≡ out.old.items ++ swaps_text (spelling_in by.now).names swaps.now ((spelling_in by.now).vars var)) }
+{
+    write_heads(out, by, swaps)?;
+    by.write_var(out, var)?;
+    for _swap in swaps {
+        out.push(b')')?;
+    }
+    Ok(())
+}
+
+/// Writes what stands before the left part of a pair, and keeps what will stand behind the right one.
+fn begin_pair(out: &mut Vec<u8>, closers: &mut Vec<u8>, place: Place) -> Result<(), Memory>
+    ensures written { OnOk result (out.new.items ≡ out.old.items ++ pair_opening (place_of place)) }
+    ensures kept { OnOk result (closers.new.items ≡ closers.old.items ++ pair_closing (place_of place)) }
+{
+    if parenthesized(place) {
+        write_bar(out, place)?;
+        out.push(b'(')?;
+        closers.push(b')')?;
+    }
+    Ok(())
+}
+
+/// Writes what stands before the parts of a list cell, and keeps what will stand behind them.
+fn begin_cell(out: &mut Vec<u8>, closers: &mut Vec<u8>, place: Place) -> Result<(), Memory>
+    ensures written { OnOk result (out.new.items ≡ out.old.items ++ cell_opening (place_of place)) }
+    ensures kept { OnOk result (closers.new.items ≡ closers.old.items ++ cell_closing (place_of place)) }
+{
+    if let Place::Rest = place {
+        out.push(b',')?;
+    } else {
+        out.push(b'[')?;
+        closers.push(b']')?;
+    }
+    Ok(())
+}
+
+/// Writes a constructor and what stands before its arguments, and keeps what will stand behind them.
+/// Says where they stand, if there are any.
+fn begin_declared(
+    out: &mut Vec<u8>,
+    closers: &mut Vec<u8>,
+    constructor: &Constructor,
+    place: Place,
+) -> Result<Option<Place>, Memory>
+    ensures written { OnOk result (out.new.items ≡ out.old.items ++ declared_opening (Some (constructor_of constructor.now)) (place_of place)) }
+    ensures kept { OnOk result (closers.new.items ≡ closers.old.items ++ declared_closing (Some (constructor_of constructor.now))) }
+    ensures place { IfOk result (λ next. option_map place_of next ≡ declared_place (Some (constructor_of constructor.now))) }
+{
+    write_bar(out, place)?;
+    out.extend_from_slice(constructor.text.as_str().as_bytes())?;
+    let count = constructor.args.items().len();
+    if count == 0 {
+        return Ok(None);
+    }
+    out.push(b'(')?;
+    closers.push(b')')?;
+    Ok(Some(Place::Arguments(count)))
+}
+
+/// Writes what stands before the argument of an application, and keeps what will stand behind it. Says
+/// where it stands, if it is written.
+fn begin_application(
+    out: &mut Vec<u8>,
+    closers: &mut Vec<u8>,
+    constructors: &[Constructor],
+    f: u32,
+    place: Place,
+) -> Result<Option<Place>, Memory>
+    ensures written { OnOk result (out.new.items ≡ out.old.items ++ opening (map constructor_of constructors.now) f (place_of place)) }
+    ensures kept { OnOk result (closers.new.items ≡ closers.old.items ++ closing (map constructor_of constructors.now) f (place_of place)) }
+    ensures place { IfOk result (λ next. option_map place_of next ≡ argument_place (map constructor_of constructors.now) f) }
+{
+    if f == 0 {
+        write_nil(out, place)?;
+        return Ok(None);
+    }
+    if f == 1 {
+        begin_cell(out, closers, place)?;
+        return Ok(Some(Place::Cell));
+    }
+    let index = (f - 2) as usize;
+    if index >= constructors.len() {
+        write_bar(out, place)?;
+        return Ok(None);
+    }
+    begin_declared(out, closers, &constructors[index], place)
+}
+
+/// Writes a binder and its mark.
+fn begin_abstraction(
+    out: &mut Vec<u8>,
+    by: &Speller<'_>,
+    name: Name,
+    place: Place,
+) -> Result<(), Memory>
+    ensures { OnOk result (out.new.items ≡ out.old.items ++ barred (place_of place) ((spelling_in by.now).names name ++ codes "\\")) }
+{
+    write_bar(out, place)?;
+    by.write_name(out, name)?;
+    out.push(b'\\')?;
+    Ok(())
+}
+
+/// Writes what has been kept, the last first.
+fn write_closers(out: &mut Vec<u8>, mut closers: Vec<u8>) -> Result<(), Memory>
+    ensures { OnOk result (out.new.items ≡ out.old.items ++ reverse closers.items) }
+{
+    while let Some(closer) = closers.pop() {
+        out.push(closer)?;
+    }
+    Ok(())
+}
+
+/// Writes a term at a place.
+///
+/// It goes on along the right part of a pair, the argument of an application and the body of an
+/// abstraction, and calls itself on left parts of pairs alone.
+pub fn write_term(
+    alloc: Global,
+    out: &mut Vec<u8>,
+    by: &Speller<'_>,
+    term: &Term,
+    mut place: Place,
+) -> Result<(), Memory>
+    ensures { OnOk result (out.new.items ≡ out.old.items ++ term_at (spelling_in by.now) (term_of term.now) (place_of place)) }
+{
+    let mut closers = Vec::new(alloc);
+    let mut rest = term;
+    loop {
+        match rest {
+            Term::Unit => {
+                write_unit(out, place)?;
+                return write_closers(out, closers);
+            }
+            Term::Name(name) => {
+                write_bar(out, place)?;
+                by.write_name(out, *name)?;
+                return write_closers(out, closers);
+            }
+            Term::Susp(swaps, var) => {
+                write_bar(out, place)?;
+                write_suspension(out, by, swaps.items(), *var)?;
+                return write_closers(out, closers);
+            }
+            Term::Pair(left, right) => {
+                begin_pair(out, &mut closers, place)?;
+                write_term(alloc, out, by, left, Place::Whole)?;
+                place = write_between(out, place)?;
+                rest = right;
+            }
+            Term::App(f, argument) => {
+                let next = begin_application(out, &mut closers, by.constructors, *f, place)?;
+                let Some(next) = next else {
+                    return write_closers(out, closers);
+                };
+                place = next;
+                rest = argument;
+            }
+            Term::Abs(name, body) => {
+                begin_abstraction(out, by, *name, place)?;
+                place = Place::Whole;
+                rest = body;
+            }
+        }
+    }
+}
