@@ -1,0 +1,4 @@
+pub mod RawTyping
+pub mod Typed
+pub mod CarryingOut
+pub mod NameRestriction
