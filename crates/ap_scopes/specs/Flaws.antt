@@ -139,12 +139,18 @@ abbrev pub clause_flaw : Declared → List ℕ → List Term → Option Goal →
 clause_flaw d w ts None = atom_flaw d w ts
 clause_flaw d w ts (Some g) = least (atom_flaw d w ts) (goal_flaw d g)
 
+abbrev pub constructor_flaw : Declared → List ℕ → List Ty → List ℕ → Option ℕ
+constructor_flaw d w args result =
+    least (redeclared_if (constructor_place d w)) (least (types_flaw d.signature args) (result_flaw (type_named d.signature result)))
+
+abbrev pub predicate_flaw : Declared → List ℕ → List Ty → Option ℕ
+predicate_flaw d w args = least (redeclared_if (predicate_place d w)) (types_flaw d.signature args)
+
 -- the least kind of an item's faults before it is typed
 abbrev pub item_flaw : Declared → Saying → Option ℕ
 item_flaw d (items.ANameType w) = redeclared_if (type_named d.signature w)
 item_flaw d (items.ADataType w) = redeclared_if (type_named d.signature w)
-item_flaw d (items.AConstructor w args result) =
-    least (redeclared_if (constructor_place d w)) (least (types_flaw d.signature args) (result_flaw (type_named d.signature result)))
-item_flaw d (items.APredicate w args) = least (redeclared_if (predicate_place d w)) (types_flaw d.signature args)
+item_flaw d (items.AConstructor w args result) = constructor_flaw d w args result
+item_flaw d (items.APredicate w args) = predicate_flaw d w args
 item_flaw d (items.AClause w args body) = clause_flaw d w args body
 item_flaw d (items.AQuery g) = goal_flaw d g

@@ -150,11 +150,7 @@ impl<'a> Identifiers<'a> {
     }
 
     /// The number of the identifier that stands at an occurrence. `Err` is want of memory.
-    pub fn number(
-        &mut self,
-        scope: &Brought<'_, 'a>,
-        spelling: Binder<'a>,
-    ) -> Result<u64, Memory>
+    pub fn number(&mut self, scope: &Brought<'_, 'a>, spelling: Binder<'a>) -> Result<u64, Memory>
         requires { IsNumbered self.old }
         ensures value { IfOk result (λ n. (n, found_of self.new) ≡ spec.numbered (scope_of scope.now) (name_of spelling.entry) (found_of self.old)) }
         ensures numbered { OnOk result (IsNumbered self.new) }

@@ -12,6 +12,7 @@ pub mod flaws;
 pub mod goal_flaws;
 pub mod goals;
 pub mod identifiers;
+pub mod item_flaws;
 pub mod numbers;
 pub mod terms;
 pub mod text_words;

@@ -42,7 +42,7 @@ fn add_type<'a>(words: &mut Words<'a>, tree: &TypeTree<'a>) -> Result<(), Memory
 }
 
 /// The words of types.
-#[tactic(auto, using(crate::proofs::Tables::with_words_append))]
+#[tactic(auto, using(crate::proofs::Tables::with_words_append, std::proofs::lemmas::Grind::common_steps))]
 fn add_types<'a>(words: &mut Words<'a>, trees: &[TypeTree<'a>]) -> Result<(), Memory>
     ensures { OnOk result (words_in words.new ≡ with_words (words_in words.old) (spec.types_words (types_of trees.now))) }
 {
@@ -102,7 +102,7 @@ fn add_arguments<'a>(words: &mut Words<'a>, args: &Args<'a>) -> Result<(), Memor
 }
 
 /// The words of terms.
-#[tactic(auto, using(crate::proofs::Tables::with_words_append))]
+#[tactic(auto, using(crate::proofs::Tables::with_words_append, std::proofs::lemmas::Grind::common_steps))]
 fn add_terms<'a>(words: &mut Words<'a>, trees: &[Tree<'a>]) -> Result<(), Memory>
     ensures { OnOk result (words_in words.new ≡ with_words (words_in words.old) (spec.terms_words (trees_of trees.now))) }
 {
@@ -180,7 +180,7 @@ fn add_form<'a>(words: &mut Words<'a>, form: &Form<'a>) -> Result<(), Memory>
 
 /// The words and variables of a text, each once, in the order in which they first stand there. `Err` is
 /// want of memory.
-#[tactic(auto, using(crate::proofs::Tables::with_words_append))]
+#[tactic(auto, using(crate::proofs::Tables::with_words_append, std::proofs::lemmas::Grind::common_steps))]
 pub fn words_of(alloc: Global, items: &[Item<'_>]) -> Result<List<Text>, Memory>
     ensures { IfOk result (λ ts. ts ≡ spec.words_of (items_of items.now)) }
 {

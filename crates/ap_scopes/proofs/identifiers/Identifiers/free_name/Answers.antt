@@ -10,12 +10,12 @@ pub returns-in_ok-set-in-None-clause-numbered : goal.returns-in_ok-set-in-None-c
 returns-in_ok-set-in-None-clause-numbered c =
     let word = c.args.word.now in
     let old = found_of c.args.self.now in
-    let grown : found_of c.push-in-None.new.self ≡ old ++ free_one (OfWord word) ∷ [] = ap (λ p. p.1) c.in_ok-number-in-None.ensures.value in
+    let grown : found_of c.push.new.self ≡ old ++ free_one (OfWord word) ∷ [] = ap (λ p. p.1) c.in_ok-number-in-None.ensures.value in
     let last : c.in_ok-number-in-None.number ≡ length old = ap (λ p. p.0) c.in_ok-number-in-None.ensures.value in
     let none : free_place old (OfWord word) ≡ None = sym (c.requires.names word) ∙ sym c.get.ensures ∙ c.in-None.is in
     record {
       names = λ w.
-          c.in_ok-set-in-None.ensures w ∙ ap (λ n. if bytes_eq word w then Some n else number_at c.push-in-None.new.self.names w) last
+          c.in_ok-set-in-None.ensures w ∙ ap (λ n. if bytes_eq word w then Some n else number_at c.push.new.self.names w) last
           ∙ one_more old OfWord (λ u v. refl) word w _ (ap (λ t. number_at t w) c.in_ok-number-in-None.ensures.names ∙ c.requires.names w) none
           ∙ sym (ap (λ f. free_place f (OfWord w)) grown);
       variables = λ w other.

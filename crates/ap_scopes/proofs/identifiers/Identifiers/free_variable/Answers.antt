@@ -10,7 +10,7 @@ pub returns-in_ok-set-in-None-clause-numbered : goal.returns-in_ok-set-in-None-c
 returns-in_ok-set-in-None-clause-numbered c =
     let word = c.args.word.now in
     let old = found_of c.args.self.now in
-    let grown : found_of c.push-in-None.new.self ≡ old ++ free_one (OfVar word) ∷ [] = ap (λ p. p.1) c.in_ok-number-in-None.ensures.value in
+    let grown : found_of c.push.new.self ≡ old ++ free_one (OfVar word) ∷ [] = ap (λ p. p.1) c.in_ok-number-in-None.ensures.value in
     let last : c.in_ok-number-in-None.number ≡ length old = ap (λ p. p.0) c.in_ok-number-in-None.ensures.value in
     let none : free_place old (OfVar word) ≡ None = sym (c.requires.numbered.variables word c.requires.named) ∙ sym c.get.ensures ∙ c.in-None.is in
     record {
@@ -18,7 +18,7 @@ returns-in_ok-set-in-None-clause-numbered c =
           ap (λ t. number_at t w) c.in_ok-number-in-None.ensures.names ∙ c.requires.numbered.names w
           ∙ sym (ap (λ f. free_place f (OfWord w)) grown ∙ free_place-other old (OfWord w) (OfVar word) refl);
       variables = λ w other.
-          c.in_ok-set-in-None.ensures w ∙ ap (λ n. if bytes_eq word w then Some n else number_at c.push-in-None.new.self.variables w) last
+          c.in_ok-set-in-None.ensures w ∙ ap (λ n. if bytes_eq word w then Some n else number_at c.push.new.self.variables w) last
           ∙ one_more old OfVar (λ u v. refl) word w _ (ap (λ t. number_at t w) c.in_ok-number-in-None.ensures.variables ∙ c.requires.numbered.variables w other) none
           ∙ sym (ap (λ f. free_place f (OfVar w)) grown);
     }
