@@ -1,0 +1,4 @@
+pub mod Tables
+pub mod LeastLemmas
+pub mod Numbering
+pub mod Orders

@@ -1,0 +1,146 @@
+//! The faults that terms show before they are typed.
+ghost use Rattle.std.specs.Prelude.{◌≡◌, ◌==◌};
+ghost use Rattle.ap_trees.specs.Trees.{term_of, terms_of, trees_of, name_of};
+ghost use Rattle.ap_scopes.specs.Flaws as spec;
+ghost use Rattle.ap_scopes.specs.Views.{declared_of, IsIndexed};
+
+use crate::declarations::Declarations;
+use ap_trees::{Args, Binder, Tree};
+
+/// A type, an applied constructor or a predicate that no earlier item declares.
+pub const UNDECLARED: u32 = 1;
+/// An item declares what an earlier one of the same space declares.
+pub const REDECLARED: u32 = 2;
+/// A constructor or predicate stands with another number of arguments than declared.
+pub const ARITY: u32 = 3;
+/// No assignment of types fits.
+pub const CLASH: u32 = 4;
+
+/// The least of two kinds.
+pub fn least(first: Option<u32>, second: Option<u32>) -> Option<u32>
+    ensures { result ≡ spec.least first second }
+{
+    match (first, second) {
+        (Some(first), Some(second)) => Some(if first <= second { first } else { second }),
+        (None, second) => second,
+        (first, None) => first,
+    }
+}
+
+/// The fault of a number of arguments.
+fn arity_flaw(declared: usize, given: usize) -> Option<u32>
+    ensures { result ≡ spec.arity_flaw declared given }
+{
+    if declared == given { None } else { Some(ARITY) }
+}
+
+/// The fault of an applied constructor, or of a predicate, where it is given how many arguments it has.
+pub fn count_flaw(given: usize, declared: Option<usize>) -> Option<u32>
+    ensures { result ≡ spec.count_flaw given declared }
+{
+    match declared {
+        None => Some(UNDECLARED),
+        Some(declared) => arity_flaw(declared, given),
+    }
+}
+
+/// The fault of a word alone, where it is given how many arguments it has as a constructor.
+fn word_flaw(declared: Option<usize>) -> Option<u32>
+    ensures { result ≡ spec.word_flaw declared }
+{
+    match declared {
+        None => None,
+        Some(declared) => arity_flaw(declared, 0),
+    }
+}
+
+/// The fault of a binder, of one of the first two places of a swapping, or of the word after `new`.
+pub fn binder_flaw(declared: &Declarations<'_>, binder: Binder<'_>) -> Option<u32>
+    requires { IsIndexed declared.now }
+    ensures { result ≡ spec.binder_flaw (declared_of declared.now) (name_of binder.entry) }
+{
+    match binder {
+        Binder::Var(_) => None,
+        Binder::Word(word) => match declared.constructor_place(word) {
+            Some(_) => Some(CLASH),
+            None => None,
+        },
+    }
+}
+
+/// The least kind of a term's faults.
+#[cycle(term_flaws)]
+pub fn term_flaw(declared: &Declarations<'_>, tree: &Tree<'_>) -> Option<u32>
+    requires { IsIndexed declared.now }
+    ensures { result ≡ spec.term_flaw (declared_of declared.now) (term_of tree.now) }
+{
+    match tree {
+        Tree::Unit | Tree::Nil | Tree::Var(_) => None,
+        Tree::Word(word) => word_flaw(declared.constructor_arity(word)),
+        Tree::Apply(word, args) => {
+            let flaw = application_flaw(declared.constructor_arity(word), args);
+            least(flaw, arguments_flaw(declared, args))
+        }
+        Tree::Pair(left, right) => least(term_flaw(declared, left), term_flaw(declared, right)),
+        Tree::Cell(head, tail) => least(term_flaw(declared, head), term_flaw(declared, tail)),
+        Tree::Abs(binder, body) => {
+            least(binder_flaw(declared, *binder), term_flaw(declared, body))
+        }
+        Tree::Swapped(left, right, body) => {
+            let ends = least(binder_flaw(declared, *left), binder_flaw(declared, *right));
+            least(ends, term_flaw(declared, body))
+        }
+    }
+}
+
+/// The least kind of the faults of arguments.
+#[cycle(term_flaws)]
+fn arguments_flaw(declared: &Declarations<'_>, args: &Args<'_>) -> Option<u32>
+    requires { IsIndexed declared.now }
+    ensures { result ≡ spec.arguments_flaw (declared_of declared.now) (terms_of args.now) }
+{
+    match args {
+        Args::Last(last) => term_flaw(declared, last),
+        Args::More(first, rest) => {
+            least(term_flaw(declared, first), arguments_flaw(declared, rest))
+        }
+    }
+}
+
+/// Whether there are as many arguments as declared.
+fn are_as_many(declared: usize, args: &Args<'_>) -> bool
+    ensures { result ≡ (declared == spec.count (terms_of args.now)) }
+{
+    match args {
+        Args::Last(_) => declared == 1,
+        Args::More(_, rest) => declared != 0 && are_as_many(declared - 1, rest),
+    }
+}
+
+/// The fault of an applied constructor, where it is given how many arguments it has.
+fn application_flaw(declared: Option<usize>, args: &Args<'_>) -> Option<u32>
+    ensures { result ≡ spec.count_flaw (spec.count (terms_of args.now)) declared }
+{
+    match declared {
+        None => Some(UNDECLARED),
+        Some(declared) => {
+            if are_as_many(declared, args) {
+                None
+            } else {
+                Some(ARITY)
+            }
+        }
+    }
+}
+
+/// The least kind of the faults of terms.
+pub fn terms_flaw(declared: &Declarations<'_>, trees: &[Tree<'_>]) -> Option<u32>
+    requires { IsIndexed declared.now }
+    ensures { result ≡ spec.terms_flaw (declared_of declared.now) (trees_of trees.now) }
+{
+    let mut flaw = None;
+    for tree in trees {
+        flaw = least(flaw, term_flaw(declared, tree));
+    }
+    flaw
+}

@@ -1,0 +1,62 @@
+//! The faults that goals show before they are typed.
+ghost use Rattle.std.specs.Prelude.{◌≡◌};
+ghost use Rattle.std.specs.Option.{option_map};
+ghost use Rattle.ap_trees.specs.Trees.{goal_of, trees_of};
+ghost use Rattle.ap_scopes.specs.Flaws as spec;
+ghost use Rattle.ap_scopes.specs.Views.{declared_of, IsIndexed};
+
+use crate::declarations::Declarations;
+use crate::flaws::{binder_flaw, count_flaw, least, term_flaw, terms_flaw};
+use ap_trees::{Binder, GoalTree, Tree};
+
+/// The least kind of an atom's faults.
+pub fn atom_flaw(declared: &Declarations<'_>, word: &str, args: &[Tree<'_>]) -> Option<u32>
+    requires { IsIndexed declared.now }
+    ensures { result ≡ spec.atom_flaw (declared_of declared.now) word.now (trees_of args.now) }
+{
+    let flaw = count_flaw(args.len(), declared.predicate_arity(word));
+    least(flaw, terms_flaw(declared, args))
+}
+
+/// The least kind of a goal's faults.
+pub fn goal_flaw(declared: &Declarations<'_>, goal: &GoalTree<'_>) -> Option<u32>
+    requires { IsIndexed declared.now }
+    ensures { result ≡ spec.goal_flaw (declared_of declared.now) (goal_of goal.now) }
+{
+    match goal {
+        GoalTree::Atom(word, args) => atom_flaw(declared, word, args.items()),
+        GoalTree::Equal(left, right) => {
+            least(term_flaw(declared, left), term_flaw(declared, right))
+        }
+        GoalTree::Fresh(left, right) => {
+            least(term_flaw(declared, left), term_flaw(declared, right))
+        }
+        GoalTree::Both(left, right) => {
+            least(goal_flaw(declared, left), goal_flaw(declared, right))
+        }
+        GoalTree::Either(left, right) => {
+            least(goal_flaw(declared, left), goal_flaw(declared, right))
+        }
+        GoalTree::Exists(_, inner) => goal_flaw(declared, inner),
+        GoalTree::New(word, inner) => least(
+            binder_flaw(declared, Binder::Word(word)),
+            goal_flaw(declared, inner),
+        ),
+    }
+}
+
+/// The least kind of the faults of a clause.
+pub fn clause_flaw(
+    declared: &Declarations<'_>,
+    word: &str,
+    args: &[Tree<'_>],
+    body: &Option<GoalTree<'_>>,
+) -> Option<u32>
+    requires { IsIndexed declared.now }
+    ensures { result ≡ spec.clause_flaw (declared_of declared.now) word.now (trees_of args.now) (option_map goal_of body.now) }
+{
+    match body {
+        None => atom_flaw(declared, word, args),
+        Some(body) => least(atom_flaw(declared, word, args), goal_flaw(declared, body)),
+    }
+}

@@ -1,0 +1,169 @@
+//! The identifiers of a clause or query, numbered from 0 by first occurrence.
+ghost use Rattle.std.specs.Prelude.{◌≡◌, true, false, [], IfOk, OnOk};
+ghost use Rattle.ap_trees.specs.Terms.{OfWord, OfVar};
+ghost use Rattle.ap_trees.specs.Trees.{name_of};
+ghost use Rattle.ap_scopes.specs.Identifiers as spec;
+ghost use Rattle.ap_scopes.specs.Views.{IsNumbered, identifier_of, found_of, scope_of};
+
+use crate::numbers::Numbers;
+use ap_defs::memory::Memory;
+use ap_trees::Binder;
+use std::alloc::Global;
+
+/// An identifier: its spelling, and whether `new` or `exists` brings it.
+#[derive(Clone, Copy, Debug)]
+pub struct Identifier<'a> {
+    pub spelling: Binder<'a>,
+    pub bound: bool,
+}
+
+/// What the goals around a place bring, with their numbers, the inner ones first.
+#[derive(Clone, Copy)]
+pub enum Brought<'s, 'a> {
+    Nothing,
+    Inner(Binder<'a>, u64, &'s Brought<'s, 'a>),
+}
+
+/// The identifiers found so far, each of which has the number of its place, and the numbers of those that
+/// belong to the whole clause or query.
+#[derive(Drop)]
+pub struct Identifiers<'a> {
+    pub found: Vec<Identifier<'a>>,
+    names: Numbers<'a>,
+    variables: Numbers<'a>,
+}
+
+/// Whether two occurrences are spelled alike.
+fn is_same(left: Binder<'_>, right: Binder<'_>) -> bool
+    ensures { result ≡ spec.same_name (name_of left.entry) (name_of right.entry) }
+{
+    match (left, right) {
+        (Binder::Word(left), Binder::Word(right)) => left == right,
+        (Binder::Var(left), Binder::Var(right)) => left == right,
+        _ => false,
+    }
+}
+
+/// Whether it is `_`.
+fn is_blank(spelling: Binder<'_>) -> bool
+    ensures { result ≡ spec.is_blank (name_of spelling.entry) }
+{
+    match spelling {
+        Binder::Word(_) => false,
+        Binder::Var(word) => word == "_",
+    }
+}
+
+impl<'s, 'a> Brought<'s, 'a> {
+    /// The number of the innermost that is spelled so.
+    fn number(&self, spelling: Binder<'a>) -> Option<u64>
+        ensures { result ≡ spec.brought (scope_of self.now) (name_of spelling.entry) }
+    {
+        match self {
+            Brought::Nothing => None,
+            Brought::Inner(brought, number, outer) => {
+                if is_same(spelling, *brought) {
+                    Some(*number)
+                } else {
+                    outer.number(spelling)
+                }
+            }
+        }
+    }
+}
+
+impl<'a> Identifiers<'a> {
+    /// None is found yet.
+    pub fn new(alloc: Global) -> Identifiers<'a>
+        ensures value { found_of result ≡ [] }
+        ensures numbered { IsNumbered result }
+    {
+        Identifiers {
+            found: Vec::new(alloc),
+            names: Numbers::new(alloc),
+            variables: Numbers::new(alloc),
+        }
+    }
+
+    /// A new identifier is found.
+    fn push(&mut self, spelling: Binder<'a>, bound: bool) -> Result<u64, Memory>
+        ensures value { IfOk result (λ n. (n, found_of self.new) ≡ spec.number_new (found_of self.old) (record { spelling = name_of spelling.entry; bound = bound })) }
+        ensures names { OnOk result (self.new.names ≡ self.old.names) }
+        ensures variables { OnOk result (self.new.variables ≡ self.old.variables) }
+    {
+        let number = self.found.len() as u64;
+        self.found.push(Identifier { spelling, bound })?;
+        Ok(number)
+    }
+
+    /// `new` or `exists` brings a new identifier.
+    pub fn bring(&mut self, spelling: Binder<'a>) -> Result<u64, Memory>
+        requires { IsNumbered self.old }
+        ensures value { IfOk result (λ n. (n, found_of self.new) ≡ spec.number_new (found_of self.old) (spec.bound_one (name_of spelling.entry))) }
+        ensures numbered { OnOk result (IsNumbered self.new) }
+    {
+        self.push(spelling, true)
+    }
+
+    /// `_` stands somewhere.
+    fn blank(&mut self, spelling: Binder<'a>) -> Result<u64, Memory>
+        requires numbered { IsNumbered self.old }
+        requires blank { spec.is_blank (name_of spelling) ≡ true }
+        ensures value { IfOk result (λ n. (n, found_of self.new) ≡ spec.number_new (found_of self.old) (spec.free_one (name_of spelling.entry))) }
+        ensures numbered { OnOk result (IsNumbered self.new) }
+    {
+        let number = self.push(spelling, false)?;
+        Ok(number)
+    }
+
+    /// The number of a name that belongs to the whole clause or query.
+    fn free_name(&mut self, word: &'a str) -> Result<u64, Memory>
+        requires { IsNumbered self.old }
+        ensures value { IfOk result (λ n. (n, found_of self.new) ≡ spec.free_number (found_of self.old) (OfWord word.entry.now)) }
+        ensures numbered { OnOk result (IsNumbered self.new) }
+    {
+        match self.names.get(word) {
+            Some(number) => Ok(number),
+            None => {
+                let number = self.push(Binder::Word(word), false)?;
+                self.names.set(word, number)?;
+                Ok(number)
+            }
+        }
+    }
+
+    /// The number of a variable that belongs to the whole clause or query.
+    fn free_variable(&mut self, word: &'a str) -> Result<u64, Memory>
+        requires numbered { IsNumbered self.old }
+        requires named { spec.is_blank (OfVar word.now) ≡ false }
+        ensures value { IfOk result (λ n. (n, found_of self.new) ≡ spec.free_number (found_of self.old) (OfVar word.entry.now)) }
+        ensures numbered { OnOk result (IsNumbered self.new) }
+    {
+        match self.variables.get(word) {
+            Some(number) => Ok(number),
+            None => {
+                let number = self.push(Binder::Var(word), false)?;
+                self.variables.set(word, number)?;
+                Ok(number)
+            }
+        }
+    }
+
+    /// The number of the identifier that stands at an occurrence. `Err` is want of memory.
+    pub fn number(&mut self, scope: &Brought<'_, 'a>, spelling: Binder<'a>) -> Result<u64, Memory>
+        requires { IsNumbered self.old }
+        ensures value { IfOk result (λ n. (n, found_of self.new) ≡ spec.numbered (scope_of scope.now) (name_of spelling.entry) (found_of self.old)) }
+        ensures numbered { OnOk result (IsNumbered self.new) }
+    {
+        if is_blank(spelling) {
+            return self.blank(spelling);
+        }
+        if let Some(number) = scope.number(spelling) {
+            return Ok(number);
+        }
+        match spelling {
+            Binder::Word(word) => self.free_name(word),
+            Binder::Var(word) => self.free_variable(word),
+        }
+    }
+}

@@ -1,0 +1,192 @@
+//! The words and variables of a text.
+ghost use Rattle.std.specs.Prelude.{◌≡◌, OnOk, IfOk};
+ghost use Rattle.ap_trees.specs.Trees as trees;
+ghost use Rattle.ap_trees.specs.Trees.{term_of, terms_of, trees_of, goal_of, types_of, form_of, items_of, name_of};
+ghost use Rattle.ap_scopes.specs.Words as spec;
+ghost use Rattle.ap_scopes.specs.Words.{with_words};
+ghost use Rattle.ap_scopes.specs.Views.{words_in};
+
+use crate::words::Words;
+use ap_defs::lists::{List, Text};
+use ap_defs::memory::Memory;
+use ap_trees::{Args, Binder, Form, GoalTree, Item, Tree, TypeTree};
+use std::alloc::Global;
+
+fn spelled<'a>(binder: Binder<'a>) -> &'a str
+    ensures { result.now ≡ spec.spelled (name_of binder.entry) }
+{
+    match binder {
+        Binder::Word(word) => word,
+        Binder::Var(word) => word,
+    }
+}
+
+/// The words of a type.
+#[tactic(auto, using(crate::proofs::Tables::with_words_append))]
+fn add_type<'a>(words: &mut Words<'a>, tree: &TypeTree<'a>) -> Result<(), Memory>
+    ensures { OnOk result (words_in words.new ≡ with_words (words_in words.old) (spec.type_words (trees.type_of tree.now))) }
+{
+    match tree {
+        TypeTree::Unit => Ok(()),
+        TypeTree::Word(word) => words.add(word),
+        TypeTree::Pair(left, right) => {
+            add_type(words, left)?;
+            add_type(words, right)
+        }
+        TypeTree::List(element) => add_type(words, element),
+        TypeTree::Abs(word, body) => {
+            words.add(word)?;
+            add_type(words, body)
+        }
+    }
+}
+
+/// The words of types.
+#[tactic(auto, using(crate::proofs::Tables::with_words_append, std::proofs::lemmas::Grind::common_steps))]
+fn add_types<'a>(words: &mut Words<'a>, trees: &[TypeTree<'a>]) -> Result<(), Memory>
+    ensures { OnOk result (words_in words.new ≡ with_words (words_in words.old) (spec.types_words (types_of trees.now))) }
+{
+    for tree in trees {
+        add_type(words, tree)?;
+    }
+    Ok(())
+}
+
+/// The words of a term.
+#[cycle(term_words)]
+#[tactic(auto, using(crate::proofs::Tables::with_words_append))]
+fn add_term<'a>(words: &mut Words<'a>, tree: &Tree<'a>) -> Result<(), Memory>
+    ensures { OnOk result (words_in words.new ≡ with_words (words_in words.old) (spec.term_words (term_of tree.now))) }
+{
+    match tree {
+        Tree::Unit | Tree::Nil => Ok(()),
+        Tree::Var(word) => words.add(word),
+        Tree::Word(word) => words.add(word),
+        Tree::Apply(word, args) => {
+            words.add(word)?;
+            add_arguments(words, args)
+        }
+        Tree::Pair(left, right) => {
+            add_term(words, left)?;
+            add_term(words, right)
+        }
+        Tree::Cell(head, tail) => {
+            add_term(words, head)?;
+            add_term(words, tail)
+        }
+        Tree::Abs(binder, body) => {
+            words.add(spelled(*binder))?;
+            add_term(words, body)
+        }
+        Tree::Swapped(left, right, body) => {
+            words.add(spelled(*left))?;
+            words.add(spelled(*right))?;
+            add_term(words, body)
+        }
+    }
+}
+
+/// The words of arguments.
+#[cycle(term_words)]
+#[tactic(auto, using(crate::proofs::Tables::with_words_append))]
+fn add_arguments<'a>(words: &mut Words<'a>, args: &Args<'a>) -> Result<(), Memory>
+    ensures { OnOk result (words_in words.new ≡ with_words (words_in words.old) (spec.arguments_words (terms_of args.now))) }
+{
+    match args {
+        Args::Last(last) => add_term(words, last),
+        Args::More(first, rest) => {
+            add_term(words, first)?;
+            add_arguments(words, rest)
+        }
+    }
+}
+
+/// The words of terms.
+#[tactic(auto, using(crate::proofs::Tables::with_words_append, std::proofs::lemmas::Grind::common_steps))]
+fn add_terms<'a>(words: &mut Words<'a>, trees: &[Tree<'a>]) -> Result<(), Memory>
+    ensures { OnOk result (words_in words.new ≡ with_words (words_in words.old) (spec.terms_words (trees_of trees.now))) }
+{
+    for tree in trees {
+        add_term(words, tree)?;
+    }
+    Ok(())
+}
+
+/// The words of a goal.
+#[tactic(auto, using(crate::proofs::Tables::with_words_append))]
+fn add_goal<'a>(words: &mut Words<'a>, goal: &GoalTree<'a>) -> Result<(), Memory>
+    ensures { OnOk result (words_in words.new ≡ with_words (words_in words.old) (spec.goal_words (goal_of goal.now))) }
+{
+    match goal {
+        GoalTree::Atom(word, args) => {
+            words.add(word)?;
+            add_terms(words, args.items())
+        }
+        GoalTree::Equal(left, right) => {
+            add_term(words, left)?;
+            add_term(words, right)
+        }
+        GoalTree::Fresh(left, right) => {
+            add_term(words, left)?;
+            add_term(words, right)
+        }
+        GoalTree::Both(left, right) => {
+            add_goal(words, left)?;
+            add_goal(words, right)
+        }
+        GoalTree::Either(left, right) => {
+            add_goal(words, left)?;
+            add_goal(words, right)
+        }
+        GoalTree::Exists(word, inner) => {
+            words.add(word)?;
+            add_goal(words, inner)
+        }
+        GoalTree::New(word, inner) => {
+            words.add(word)?;
+            add_goal(words, inner)
+        }
+    }
+}
+
+/// The words of what an item says.
+#[tactic(auto, using(crate::proofs::Tables::with_words_append))]
+fn add_form<'a>(words: &mut Words<'a>, form: &Form<'a>) -> Result<(), Memory>
+    ensures { OnOk result (words_in words.new ≡ with_words (words_in words.old) (spec.saying_words (form_of form.now))) }
+{
+    match form {
+        Form::NameType(word) => words.add(word),
+        Form::DataType(word) => words.add(word),
+        Form::Constructor(word, args, result) => {
+            words.add(word)?;
+            add_types(words, args.items())?;
+            words.add(result)
+        }
+        Form::Predicate(word, args) => {
+            words.add(word)?;
+            add_types(words, args.items())
+        }
+        Form::Clause(word, args, body) => {
+            words.add(word)?;
+            add_terms(words, args.items())?;
+            match body {
+                None => Ok(()),
+                Some(goal) => add_goal(words, goal),
+            }
+        }
+        Form::Query(goal) => add_goal(words, goal),
+    }
+}
+
+/// The words and variables of a text, each once, in the order in which they first stand there. `Err` is
+/// want of memory.
+#[tactic(auto, using(crate::proofs::Tables::with_words_append, std::proofs::lemmas::Grind::common_steps))]
+pub fn words_of(alloc: Global, items: &[Item<'_>]) -> Result<List<Text>, Memory>
+    ensures { IfOk result (λ ts. ts ≡ spec.words_of (items_of items.now)) }
+{
+    let mut words = Words::new(alloc);
+    for item in items {
+        add_form(&mut words, &item.form)?;
+    }
+    words.texts(alloc)
+}

@@ -1,0 +1,4 @@
+pub mod Declaring
+pub mod Checking
+pub mod Views
+pub mod Laws

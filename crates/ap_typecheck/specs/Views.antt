@@ -1,0 +1,55 @@
+-- The state of the code, without where it lies in memory.
+use Rattle.std.specs.Prelude.{◌≡◌, ◌+◌, ◌≤◌, ℕ, List, [], map, length}
+use Rattle.ap_defs.specs.RawTerms.{raw_of}
+use Rattle.ap_defs.specs.Goals.{clause_over, query_over}
+use Rattle.ap_scopes.specs.Views.{declared_of, IsIndexed}
+use Rattle.ap_program.specs.NameRestriction.{item_count}
+use Rattle.ap_typecheck.specs.declared.state.State.{State}
+use Rattle.ap_typecheck.specs.Declaring.{Made, program_of}
+use Rattle.ap_defs.specs.Types.{NominalKind}
+use Rattle.ap_trees.specs.Items.{Saying, ItemOf}
+use Rattle.ap_scopes.specs.Declarations.{Declared}
+use Rattle.ap_kinds.specs.declared.errors.KindsError.{KindsError}
+use Rattle.ap_kinds.specs.declared.errors.KindsError.TheVariants as kinds
+use Rattle.ap_typecheck.specs.declared.error.Refusal.{Refusal}
+use Rattle.ap_typecheck.specs.declared.error.Refusal.TheVariants as refusals
+use Rattle.ap_typecheck.specs.declared.error.TypeError.{TypeError}
+use Rattle.ap_typecheck.specs.declared.error.TypeError.TheVariants as errors
+use Rattle.ap_typecheck.specs.Checking.{IsMistyped, IsFaultOf, IsFirstFault}
+
+abbrev pub made_of : State → Made
+made_of s = record {
+  declared = declared_of s.declared;
+  clauses = map (λ cs. map (clause_over raw_of) cs.items) s.clauses.items;
+  queries = map (query_over raw_of) s.queries.items;
+}
+
+-- how many things were declared, stated and asked
+abbrev pub count : Made → ℕ
+count m = item_count (program_of [] m)
+
+-- the tables have the words that are declared, and each predicate has a list of clauses
+pub record IsKept (s : State) : Type 0 where
+  pub indexed : IsIndexed s.declared
+  pub listed : length s.clauses.items ≡ length s.declared.signature.predicates
+
+abbrev pub refusal_of : KindsError → Refusal
+refusal_of kinds.Clash = refusals.Kind 4
+refusal_of kinds.Ambiguous = refusals.Kind 5
+refusal_of kinds.Empty = refusals.Kind 6
+refusal_of kinds.Memory = refusals.Memory
+
+-- what typing refuses is right
+abbrev pub IsRefusedBy : Refusal → Declared → (List NominalKind → Type 0) → Type 0
+IsRefusedBy (refusals.Kind k) d P = IsMistyped k d P
+IsRefusedBy refusals.Memory d P = Unit {0}
+
+-- what an item refuses is right
+abbrev pub IsRefusedItem : Refusal → Declared → Saying → Type 0
+IsRefusedItem (refusals.Kind k) d saying = IsFaultOf k d saying
+IsRefusedItem refusals.Memory d saying = Unit {0}
+
+-- what a text refuses is right
+abbrev pub IsRefusedText : TypeError → List ItemOf → Type 0
+IsRefusedText (errors.Fault f) is = IsFirstFault is f
+IsRefusedText errors.Memory is = Unit {0}

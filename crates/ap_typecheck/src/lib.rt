@@ -1,0 +1,16 @@
+//! Typing of a text: its items as a program, or its first fault.
+//!
+//! `specs/Checking.antt` says which program the items of a text make, and which fault is the first;
+//! `specs/Declaring.antt` what each item adds.
+#![tactic(auto)]
+
+mod checking;
+mod declaring;
+mod error;
+mod items;
+pub mod laws;
+mod state;
+mod typing;
+
+pub use checking::check;
+pub use error::{AMBIGUOUS, EMPTY, TypeError, TypeFault};
