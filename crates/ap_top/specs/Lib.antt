@@ -1,4 +1,3 @@
 pub mod Report
 pub mod Run
-pub mod Status
 pub mod Words

@@ -2,9 +2,9 @@
 use Rattle.std.specs.Prelude.{◌≡◌, ℕ, ◌<◌, ◌≤◌, List, length, take, Option, IfSome}
 use Rattle.std.specs.Io.KnownBytes.{Appends, Keeps}
 use Rattle.ap_io.specs.Causes.{Rose}
-use Rattle.ap_top.specs.declared.report.Report.{Report}
-use Rattle.ap_top.specs.declared.status.Status.{Status}
-use Rattle.ap_top.specs.declared.status.Status.TheVariants as status
+use Rattle.ap_report.specs.declared.report.Report.{Report}
+use Rattle.ap_report.specs.declared.status.Status.{Status}
+use Rattle.ap_report.specs.declared.status.Status.TheVariants as status
 use Rattle.ap_top.specs.Report.{Input, Whole, Over, Broken}
 
 -- the most bytes that an input may have
@@ -26,8 +26,11 @@ pub record Change : Type 0 where
   pub faults' : ℕ
 
 -- how a report came to the sink, by the status that was returned: after Write its first bytes, which comes
--- only where the count rose; after Memory nothing; else all its bytes, and the status is the report's
+-- only where the count rose; else all its bytes, and the status is the report's
 abbrev pub IsWritten : Change → Report → Status → Type 0
 IsWritten sink report status.Write = Rose sink.faults sink.faults' × (n : ℕ) × Appends sink.bytes sink.bytes' (take n report.bytes)
-IsWritten sink report status.Memory = (sink.faults' ≡ sink.faults) × Keeps sink.bytes sink.bytes'
 IsWritten sink report other = (sink.faults' ≡ sink.faults) × (other ≡ report.status) × Appends sink.bytes sink.bytes' report.bytes
+
+-- nothing was written
+abbrev pub IsUnwritten : Change → Type 0
+IsUnwritten sink = (sink.faults' ≡ sink.faults) × Keeps sink.bytes sink.bytes'

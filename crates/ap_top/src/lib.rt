@@ -6,13 +6,11 @@
 #![tactic(auto)]
 
 mod reading;
-mod report;
 mod run;
-mod status;
 #[cfg(test)]
 mod tests;
 mod words;
 mod writing;
 
+pub use ap_report::Status;
 pub use run::top;
-pub use status::Status;

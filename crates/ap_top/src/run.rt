@@ -1,58 +1,43 @@
 // From the words and the bytes that come in to the bytes that go out.
-ghost use Rattle.std.specs.Prelude.{◌≡◌, ◌≢◌, ◌≤◌, None, IfOk, IsSome, length, map, string_bytes};
-ghost use Rattle.ap_plain.specs.Report.{report_of_text};
+ghost use Rattle.std.specs.Prelude.{◌≡◌, ◌≢◌, None, IfOk, IsSome, map, string_bytes};
+ghost use Rattle.ap_report.specs.declared.report.Report.{Report};
+ghost use Rattle.ap_report.specs.TextReport.{IsTextReport};
 ghost use Rattle.ap_top.specs.Words.{depth_of};
-ghost use Rattle.ap_top.specs.Report.{Input, fault as fault_of, report_or_not_yet, report_on, report_of as report_for};
-ghost use Rattle.ap_top.specs.Run.{limit, IsRead, IsWritten};
+ghost use Rattle.ap_top.specs.Report.{Input, IsReportOn, IsTheReport, line as line_of};
+ghost use Rattle.ap_top.specs.Run.{IsRead, IsUnwritten, IsWritten};
 
 use crate::reading::{ReadError, read_whole};
-use crate::report::Report;
+use crate::words;
 use crate::writing::write_whole;
-use crate::{Status, words};
 use ap_defs::lists::List;
 use ap_defs::memory::Memory;
 use ap_io::{Failed, Gate, Sink, Source};
-use ap_plain::plain_report;
+use ap_report::{Report, Status, report_text};
 use std::alloc::Global;
 use std::sync::Wait;
 use std::thread::Threads;
 
 // A report of one line.
-fn fault(alloc: Global, line: &str, status: Status) -> Result<Report, Memory>
-    ensures { IfOk result (λ r. r ≡ fault_of line.now status) }
+fn line(alloc: Global, text: &str, status: Status) -> Result<Report, Memory>
+    ensures { IfOk result (λ r. r ≡ line_of text.now status) }
 {
-    let mut bytes = line.as_bytes().to_vec(alloc)?;
-    bytes.push(b'\n')?;
     Ok(Report {
-        bytes: List::of(bytes),
+        bytes: List::of(text.as_bytes().to_vec(alloc)?),
         status,
     })
-}
-
-// The report on a text.
-fn report_text(alloc: Global, depth: u32, text: &[u8]) -> Result<Report, Memory>
-    requires { length text.now ≤ limit }
-    ensures { IfOk result (λ r. r ≡ report_or_not_yet (report_of_text depth text.now)) }
-{
-    match plain_report(alloc, text, depth)? {
-        Some(bytes) => Ok(Report {
-            bytes,
-            status: Status::Ok,
-        }),
-        None => fault(alloc, "% not yet", Status::NotYet),
-    }
 }
 
 // The report on what the source has left.
 fn report_source<S: Source>(alloc: Global, depth: u32, source: &mut S) -> Result<Report, Memory>
     ensures { IfOk result (λ r. (input : Input)
         × IsRead (S.left source.old) (S.faults source.old) (S.faults source.new) input
-        × (r ≡ report_on depth input)) }
+        × IsReportOn depth input r
+        × ((s : Report) → IsReportOn depth input s → s ≡ r)) }
 {
     match read_whole(alloc, source) {
-        Ok(text) => report_text(alloc, depth, &text),
-        Err(ReadError::Failed) => fault(alloc, "% read fault", Status::Read),
-        Err(ReadError::TooLarge) => fault(alloc, "% not yet", Status::NotYet),
+        Ok(text) => report_text(alloc, &text, depth),
+        Err(ReadError::Failed) => line(alloc, "% read fault\n", Status::Read),
+        Err(ReadError::TooLarge) => line(alloc, "% text too large\n", Status::TooLarge),
         Err(ReadError::Memory) => Err(Memory),
     }
 }
@@ -64,11 +49,11 @@ fn report<S: Source>(alloc: Global, words: &[String], source: &mut S) -> Result<
     ensures made { IfOk result (λ r. (input : Input)
         × (IsSome (depth_of (map string_bytes words.now)) →
         IsRead (S.left source.old) (S.faults source.old) (S.faults source.new) input)
-        × (r ≡ report_for (map string_bytes words.now) input)) }
+        × IsTheReport (map string_bytes words.now) input r) }
 {
     match words::depth(words) {
         Some(depth) => report_source(alloc, depth, source),
-        None => fault(alloc, "% usage fault", Status::Usage),
+        None => line(alloc, "% usage fault\n", Status::Usage),
     }
 }
 
@@ -78,12 +63,14 @@ fn report<S: Source>(alloc: Global, words: &[String], source: &mut S) -> Result<
 ///
 /// | Status | Comes | Written is |
 /// |---|---|---|
-/// | `Ok` | exactly where the report is one on a text of the plain form | all of it |
+/// | `Ok` | exactly where the text has no fault and is of the plain form | the report of its query |
 /// | `Usage` | exactly where the words aren't `run`, `--depth`, and a number of at most 1,000,000; then nothing is read | its line |
+/// | `Syntax` | exactly where the text doesn't split into tokens, or an item isn't in the grammar | the line of the first fault |
 /// | `Read` | only where the source's count of failures rose | its line |
 /// | `Write` | only where the sink's count of failures rose | the first bytes of the report |
 /// | `Memory` | where memory is wanting | nothing |
-/// | `NotYet` | exactly where the input has a byte past 16,777,216, or isn't of the plain form | its line |
+/// | `TooLarge` | exactly where the input has a byte past 16,777,216 | its line |
+/// | `NotYet` | exactly where the text has no fault and isn't of the plain form | its line |
 ///
 /// A `Write` stands in place of any other status.
 pub fn top<R: Threads + Wait + Sync, S: Source, K: Sink, G: Gate>(
@@ -96,17 +83,24 @@ pub fn top<R: Threads + Wait + Sync, S: Source, K: Sink, G: Gate>(
 ) -> Status
     // Nothing is read where the words are refused.
     ensures unread { depth_of (map string_bytes words.now) ≡ None → source.new ≡ source.old }
-    // The bytes and the status are those of the report of the words and of what was read.
-    ensures run { (input : Input)
-        × (IsSome (depth_of (map string_bytes words.now)) → result ≢ Status.Memory →
+    // The bytes and the status are those of the one report of the words and of what was read.
+    ensures run { result ≢ Status.Memory → (input : Input) × (report : Report)
+        × (IsSome (depth_of (map string_bytes words.now)) →
         IsRead (S.left source.old) (S.faults source.old) (S.faults source.new) input)
+        × IsTheReport (map string_bytes words.now) input report
         × IsWritten (record {
           bytes = K.held sink.old;
           bytes' = K.held sink.new;
           faults = K.faults sink.old;
           faults' = K.faults sink.new;
-        })
-        (report_for (map string_bytes words.now) input) result }
+        }) report result }
+    // Nothing is written where memory was wanting.
+    ensures memory { result ≡ Status.Memory → IsUnwritten (record {
+      bytes = K.held sink.old;
+      bytes' = K.held sink.new;
+      faults = K.faults sink.old;
+      faults' = K.faults sink.new;
+    }) }
 {
     match report(alloc, words, source) {
         Ok(report) => match write_whole(sink, report.bytes.items()) {

@@ -1,9 +1,0 @@
-pub mod Splits
-pub mod Sorts
-pub mod Runs
-pub mod Lists
-pub mod FactLists
-pub mod Programs
-pub mod Closed
-pub mod Reports
-pub mod Tokens

@@ -1,0 +1,49 @@
+-- The lines that tell a text's first fault.
+use Rattle.std.specs.Prelude.{ℕ, List, ◌++◌, codes}
+use Rattle.std.specs.Fmt.{decimal}
+use Rattle.ap_lexer.specs.declared.token.LexFault.{LexFault}
+use Rattle.ap_syntax.specs.declared.faults.SynFault.{SynFault}
+use Rattle.ap_typecheck.specs.declared.error.TypeFault.{TypeFault}
+use Rattle.ap_program.specs.declared.faults.NameFault.{NameFault}
+use Rattle.ap_report.specs.declared.report.Report.{Report}
+use Rattle.ap_report.specs.declared.status.Status.TheVariants as status
+
+-- the line of a fault of an item, with its kind's number and what is said of it
+abbrev pub fault_line : List ℕ → ℕ → ℕ → ℕ → List ℕ → List ℕ
+fault_line what item line kind said =
+    codes "% " ++ what ++ codes " fault: item " ++ decimal item ++ codes ", line " ++ decimal line
+    ++ codes ", kind " ++ decimal kind ++ codes " " ++ said ++ codes "\n"
+
+-- the words of the kinds
+abbrev pub syntax_word : ℕ → List ℕ
+syntax_word 1 = codes "NotUtf8"
+syntax_word 2 = codes "Character"
+syntax_word 3 = codes "Grammar"
+syntax_word 4 = codes "TooDeep"
+syntax_word kind = codes "Unended"
+
+abbrev pub type_word : ℕ → List ℕ
+type_word 1 = codes "Undeclared"
+type_word 2 = codes "Redeclared"
+type_word 3 = codes "Arity"
+type_word 4 = codes "Clash"
+type_word 5 = codes "Ambiguous"
+type_word kind = codes "Empty"
+
+abbrev pub name_word : ℕ → List ℕ
+name_word 1 = codes "VariableBinder"
+name_word 2 = codes "VariableSwap"
+name_word kind = codes "HeadName"
+
+-- the reports of faults
+abbrev pub token_report : LexFault → Report
+token_report f = record { bytes = fault_line (codes "syntax") f.item f.line f.kind (syntax_word f.kind); status = status.Syntax }
+
+abbrev pub item_report : SynFault → Report
+item_report f = record { bytes = fault_line (codes "syntax") f.item f.line f.kind (syntax_word f.kind); status = status.Syntax }
+
+abbrev pub type_report : TypeFault → Report
+type_report f = record { bytes = fault_line (codes "type") f.item f.line f.kind (type_word f.kind); status = status.Types }
+
+abbrev pub name_report : NameFault → Report
+name_report f = record { bytes = fault_line (codes "name") f.item f.line f.kind (name_word f.kind ++ codes ", name " ++ f.name); status = status.Names }

@@ -1,0 +1,4 @@
+pub mod Status
+pub mod FaultLines
+pub mod Queries
+pub mod TextReport

@@ -1,0 +1,51 @@
+// How a call ended.
+ghost use Rattle.std.specs.Prelude.{◌≡◌};
+ghost use Rattle.ap_report.specs.Status.{code_of};
+
+/// How a call of the interpreter ended.
+#[derive(Clone, Copy, Debug, PartialEq, Eq)]
+pub enum Status {
+    /// The report was written.
+    Ok,
+    /// The words of the command line are refused.
+    Usage,
+    /// The text has a fault in its tokens or its grammar.
+    Syntax,
+    /// An item of the text isn't well typed.
+    Types,
+    /// An item of the text breaks a rule on names.
+    Names,
+    /// A read failed.
+    Read,
+    /// A write failed. The sink has the first bytes of the report.
+    Write,
+    /// Memory was wanting. Nothing was written.
+    Memory,
+    /// A derivation was refused.
+    NotChecked,
+    /// The input has more bytes than the limit.
+    TooLarge,
+    /// The text isn't of the form that is answered so far.
+    NotYet,
+}
+
+impl Status {
+    /// The number that the program exits with.
+    pub fn code(&self) -> u8
+        ensures { result ≡ code_of self.now }
+    {
+        match self {
+            Status::Ok => 0,
+            Status::Usage => 1,
+            Status::Syntax => 2,
+            Status::Types => 3,
+            Status::Names => 4,
+            Status::Read => 5,
+            Status::Write => 6,
+            Status::Memory => 7,
+            Status::NotChecked => 8,
+            Status::TooLarge => 9,
+            Status::NotYet => 10,
+        }
+    }
+}

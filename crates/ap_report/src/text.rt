@@ -1,0 +1,75 @@
+// The report on a text.
+ghost use Rattle.std.specs.Prelude.{◌≡◌, ◌≤◌, Ok, IfOk, length};
+ghost use Rattle.ap_lexer.specs.Tokens.{lexed, lexemes};
+ghost use Rattle.ap_trees.specs.Trees.{items_of};
+ghost use Rattle.ap_report.specs.TextReport.{IsItemsReport, IsTextReport};
+
+use crate::faults::{item_report, name_report, token_report, type_report};
+use crate::queries::report_program;
+use crate::{Report, Status};
+use ap_defs::lists::List;
+use ap_defs::memory::Memory;
+use ap_lexer::{LexError, Token, lex};
+use ap_restrict::errors::NameError;
+use ap_restrict::restrict::restrict;
+use ap_syntax::{SynError, parse};
+use ap_trees::Item;
+use ap_typecheck::{TypeError, check};
+use std::alloc::Global;
+
+/// The report on items.
+fn report_items(alloc: Global, items: &[Item<'_>], depth: u32) -> Result<Report, Memory>
+    requires { length items.now ≤ 16777216 }
+    ensures made { IfOk result (λ r. IsItemsReport depth (items_of items.now) r) }
+    ensures only { IfOk result (λ r. (s : Report) → IsItemsReport depth (items_of items.now) s → s ≡ r) }
+{
+    let program = match check(alloc, items) {
+        Ok(program) => program,
+        Err(TypeError::Fault(fault)) => return type_report(alloc, fault),
+        Err(TypeError::Memory) => return Err(Memory),
+    };
+    let restricted = match restrict(alloc, program) {
+        Ok(restricted) => restricted,
+        Err(NameError::Fault(fault)) => return name_report(alloc, &fault),
+        Err(NameError::Memory) => return Err(Memory),
+    };
+    Ok(Report {
+        bytes: List::of(report_program(alloc, &restricted, depth)?),
+        status: Status::Ok,
+    })
+}
+
+/// The report on a text with these tokens.
+fn report_tokens(
+    alloc: Global,
+    tokens: &[Token<'_>],
+    depth: u32,
+) -> Result<Report, Memory>
+    requires { length tokens.now ≤ 16777216 }
+    ensures made { IfOk result (λ r. (text : List ℕ) → lexed text ≡ Ok (lexemes tokens.now) → IsTextReport depth text r) }
+    ensures only { IfOk result (λ r. (text : List ℕ) → lexed text ≡ Ok (lexemes tokens.now) → (s : Report) → IsTextReport depth text s → s ≡ r) }
+{
+    match parse(alloc, tokens) {
+        Ok(items) => report_items(alloc, &items, depth),
+        Err(SynError::Fault(fault)) => item_report(alloc, fault),
+        Err(SynError::Memory) => Err(Memory),
+    }
+}
+
+/// The report on a text, to a depth: the line of the first fault, or what the program's queries are
+/// answered.
+///
+/// `Err` is want of memory.
+pub fn report_text(alloc: Global, text: &[u8], depth: u32) -> Result<Report, Memory>
+    requires { length text.now ≤ 16777216 }
+    // What is answered is the report on the text.
+    ensures made { IfOk result (λ r. IsTextReport depth text.now r) }
+    // No other is.
+    ensures only { IfOk result (λ r. (s : Report) → IsTextReport depth text.now s → s ≡ r) }
+{
+    match lex(alloc, text) {
+        Ok(tokens) => report_tokens(alloc, &tokens, depth),
+        Err(LexError::Fault(fault)) => token_report(alloc, fault),
+        Err(LexError::Memory) => Err(Memory),
+    }
+}
