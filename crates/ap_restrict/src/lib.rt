@@ -10,3 +10,5 @@ mod places;
 mod programs;
 pub mod restrict;
 mod tables;
+#[cfg(test)]
+mod tests;

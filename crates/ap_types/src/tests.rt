@@ -1,6 +1,7 @@
 use crate::answers::{inhabited, may_hold};
 use crate::equations::solve;
 use crate::errors::TypesError;
+use crate::holding::{holds, types_holding};
 use ap_defs::goals::{Constructor, Signature};
 use ap_defs::lists::{List, Text};
 use ap_defs::memory::Memory;
@@ -131,5 +132,15 @@ fn holes_that_must_be_name_types(rt: HostRuntime) -> Result<(), Fail> {
     assert!(rt; matches!(either.holes.items(), [Shape::Hole(0), Shape::Hole(1)]));
     let unit = vec![in alloc; (Shape::Hole(1), Shape::Unit)]?;
     assert!(rt; is_clash(solve(alloc, unit.as_slice(), &[1], 2)));
+    Ok(())
+}
+
+#[test]
+fn a_table_answers_for_its_sort(rt: HostRuntime) -> Result<(), Fail> {
+    let alloc = rt.alloc();
+    let signature = lambda_terms(alloc)?;
+    let table = types_holding(alloc, &signature, 0)?;
+    assert!(rt; holds(&table, &Ty::Base(0)));
+    assert!(rt; !holds(&table, &Ty::Base(1)));
     Ok(())
 }
