@@ -8,7 +8,8 @@ use Rattle.ap_defs.specs.Types.{kind_of}
 use Rattle.ap_defs.specs.declared.goals.Clause.{Clause}
 use Rattle.ap_defs.specs.declared.goals.Kind.{Kind}
 use Rattle.ap_defs.specs.declared.terms.Term.{Term}
-use Rattle.ap_backchain.specs.Below.{AreClausesBelow, AreEachBelow, IsClauseBelow}
+use Rattle.ap_backchain.specs.Below.{AreClausesBelow}
+use Rattle.ap_search.specs.FitStates.{AreFitClauses, AreShort, IsFitProgram}
 
 pub kind_here : (ks : List Kind) (n : ℕ) (k : Kind) → n < length ks → k ≡ get_or ks n k → kind_at (map kind_of ks) n ≡ Some (kind_of k)
 kind_here [] n k h e = absurd (omega arith)
@@ -31,12 +32,12 @@ clauses_past [] n h = refl
 clauses_past (ds ∷ css) zero h = absurd (omega arith)
 clauses_past (ds ∷ css) (suc n) h = clauses_past css n (omega arith)
 
-pub each_below : (css : Clauses) (n : ℕ) → AreClausesBelow css → AreEachBelow (clauses_of css n)
+pub each_below : (css : Clauses) (n : ℕ) → IsFitProgram css → AreFitClauses (clauses_of css n)
 each_below [] n h = tt
-each_below (cs ∷ css) zero h = h.0.0
+each_below (cs ∷ css) zero h = h.0
 each_below (cs ∷ css) (suc n) h = each_below css n h.1
 
-pub few_clauses : (css : Clauses) (n : ℕ) → AreClausesBelow css → length (clauses_of css n) < 2 ^ 32
+pub few_clauses : (css : Clauses) (n : ℕ) → AreShort css → length (clauses_of css n) < 2 ^ 32
 few_clauses [] n h = omega arith
-few_clauses (cs ∷ css) zero h = h.0.1
+few_clauses (cs ∷ css) zero h = h.0
 few_clauses (cs ∷ css) (suc n) h = few_clauses css n h.1

@@ -3,7 +3,8 @@
 ghost use Rattle.std.specs.Prelude.{◌≡◌, ◌<◌, ◌^◌, IfOk, length, map};
 ghost use Rattle.ap_defs.specs.Goals.{clause_of, clauses_of};
 ghost use Rattle.ap_defs.specs.Terms.{term_of};
-ghost use Rattle.ap_backchain.specs.Below.{AreClausesBelow, AreEachBelow, IsClauseBelow};
+ghost use Rattle.ap_backchain.specs.Below.{AreClausesBelow};
+ghost use Rattle.ap_search.specs.FitStates.{AreFitClauses, IsFitClause};
 ghost use Rattle.ap_backchain.specs.Places.{position_in, position_of, positions_of};
 ghost use Rattle.ap_backchain.specs.Positions.{by_clause, by_clauses};
 
@@ -21,7 +22,7 @@ use std::alloc::Global;
 pub fn clauses_at<'a>(clauses: &'a [List<Clause<Term>>], pred: u32) -> &'a [Clause<Term>]
     requires { AreClausesBelow (map (map clause_of) clauses.now) }
     ensures clauses { map clause_of result.now ≡ clauses_of (map (map clause_of) clauses.now) pred }
-    ensures below { AreEachBelow (map clause_of result.now) }
+    ensures below { AreFitClauses (map clause_of result.now) }
     ensures few { length result.now < 2 ^ 32 }
 {
     if (pred as usize) < clauses.len() {
@@ -41,7 +42,7 @@ pub fn enter_clause<'a>(
     choice: u32,
     clause: &'a Clause<Term>,
 ) -> Result<Option<Branch<'a>>, Memory>
-    requires { IsClauseBelow (clause_of clause.now) }
+    requires { IsFitClause (clause_of clause.now) }
     ensures { IfOk result (λ o. position_in o ≡ by_clause depth (map term_of args.now) (position_of b.now) choice (clause_of clause.now)) }
 {
     let base = b.state.kinds.len() as u64;
@@ -67,7 +68,7 @@ pub fn enter_each<'a>(
     depth: u32,
     clauses: &'a [Clause<Term>],
 ) -> Result<Vec<Branch<'a>>, Memory>
-    requires below { AreEachBelow (map clause_of clauses.now) }
+    requires below { AreFitClauses (map clause_of clauses.now) }
     requires few { length clauses.now < 2 ^ 32 }
     ensures { IfOk result (λ v. positions_of v.items ≡ by_clauses depth (map term_of args.now) (position_of b.now) 1 (map clause_of clauses.now)) }
 {
