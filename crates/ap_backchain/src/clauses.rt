@@ -8,8 +8,8 @@ ghost use Rattle.ap_search.specs.FitStates.{AreFitClauses, IsFitClause};
 ghost use Rattle.ap_backchain.specs.Places.{position_in, position_of, positions_of};
 ghost use Rattle.ap_backchain.specs.Positions.{by_clause, by_clauses};
 
-use crate::branch::Branch;
-use crate::moves::{branch_in, with_choice, with_goal, with_vars};
+use crate::moves::{place_in, with_choice, with_goal, with_vars};
+use crate::place::Place;
 use crate::renaming::vars_of_locals;
 use crate::state::clause_state;
 use ap_defs::goals::Clause;
@@ -32,16 +32,16 @@ pub fn clauses_at<'a>(clauses: &'a [List<Clause<Term>>], pred: u32) -> &'a [Clau
     }
 }
 
-/// The branch in which the body of a clause waits, once its head is unified with the arguments of an
+/// The place in which the body of a clause waits, once its head is unified with the arguments of an
 /// atom, or none where that has no solution.
 pub fn enter_clause<'a>(
     alloc: Global,
-    b: &Branch<'a>,
+    b: &Place<'a>,
     args: &[Term],
     depth: u32,
     choice: u32,
     clause: &'a Clause<Term>,
-) -> Result<Option<Branch<'a>>, Memory>
+) -> Result<Option<Place<'a>>, Memory>
     requires { IsFitClause (clause_of clause.now) }
     ensures { IfOk result (λ o. position_in o ≡ by_clause depth (map term_of args.now) (position_of b.now) choice (clause_of clause.now)) }
 {
@@ -51,7 +51,7 @@ pub fn enter_clause<'a>(
         None => Ok(None),
         Some(state) => {
             let vars = vars_of_locals(alloc, base, locals)?;
-            let in_state = branch_in(alloc, b, state)?;
+            let in_state = place_in(alloc, b, state)?;
             let chosen = with_choice(in_state, choice)?;
             let bringing = with_vars(chosen, &vars)?;
             let entered = with_goal(bringing, &clause.body, base, depth)?;
@@ -60,14 +60,14 @@ pub fn enter_clause<'a>(
     }
 }
 
-/// The branches by the clauses of a predicate, in order.
+/// The placees by the clauses of a predicate, in order.
 pub fn enter_each<'a>(
     alloc: Global,
-    b: &Branch<'a>,
+    b: &Place<'a>,
     args: &[Term],
     depth: u32,
     clauses: &'a [Clause<Term>],
-) -> Result<Vec<Branch<'a>>, Memory>
+) -> Result<Vec<Place<'a>>, Memory>
     requires below { AreFitClauses (map clause_of clauses.now) }
     requires few { length clauses.now < 2 ^ 32 }
     ensures { IfOk result (λ v. positions_of v.items ≡ by_clauses depth (map term_of args.now) (position_of b.now) 1 (map clause_of clauses.now)) }
