@@ -1,4 +1,5 @@
 pub mod FitLemmas
+pub mod MarkLemmas
 pub mod PendingLemmas
 pub mod PlaceLemmas
 pub mod ReducedLemmas

@@ -10,33 +10,33 @@ use Rattle.ap_backchain.specs.Places.{position_of, positions_of}
 use Rattle.ap_backchain.proofs.TurnLemmas.{outs_turned, turns_turned}
 use Rattle.ap_backchain.specs.Positions.{ends, goes, outs_from, outs_from_each, outs_of_turned, turned}
 use Rattle.ap_backchain.specs.Turns.{turns_from, turns_from_each, turns_of_turned}
-use Rattle.ap_backchain.specs.declared.branch.Branch.{Branch}
+use Rattle.ap_backchain.specs.declared.place.Place.{Place}
 
-abbrev pub outs_pending : Clauses → List NominalLocal → List Branch → List NominalOut
+abbrev pub outs_pending : Clauses → List NominalLocal → List Place → List NominalOut
 outs_pending program locals [] = []
 outs_pending program locals (b ∷ bs) = outs_pending program locals bs ++ outs_from program locals (position_of b)
 
-abbrev pub turns_pending : Clauses → List Branch → ℕ
+abbrev pub turns_pending : Clauses → List Place → ℕ
 turns_pending program [] = 0
 turns_pending program (b ∷ bs) = turns_pending program bs + turns_from program (position_of b)
 
-pub outs_last : (program : Clauses) (locals : List NominalLocal) (bs : List Branch) (b : Branch)
+pub outs_last : (program : Clauses) (locals : List NominalLocal) (bs : List Place) (b : Place)
     → outs_pending program locals (bs ++ b ∷ []) ≡ outs_from program locals (position_of b) ++ outs_pending program locals bs
 outs_last program locals [] b = sym (append-nil (outs_from program locals (position_of b)))
 outs_last program locals (c ∷ bs) b =
     ap (λ os. os ++ outs_from program locals (position_of c)) (outs_last program locals bs b)
     ∙ append_assoc (outs_from program locals (position_of b)) (outs_pending program locals bs) (outs_from program locals (position_of c))
 
-pub turns_last : (program : Clauses) (bs : List Branch) (b : Branch)
+pub turns_last : (program : Clauses) (bs : List Place) (b : Place)
     → turns_pending program (bs ++ b ∷ []) ≡ turns_from program (position_of b) + turns_pending program bs
 turns_last program [] b = omega arith
 turns_last program (c ∷ bs) b =
     let h : turns_pending program (bs ++ b ∷ []) ≡ turns_from program (position_of b) + turns_pending program bs = turns_last program bs b in omega arith
 
-turned_round : (b : Branch) (ks : List Branch) → reverse (b ∷ ks) ≡ reverse ks ++ b ∷ []
+turned_round : (b : Place) (ks : List Place) → reverse (b ∷ ks) ≡ reverse ks ++ b ∷ []
 turned_round b ks = reverse-append (b ∷ []) ks
 
-pub outs_added : (program : Clauses) (locals : List NominalLocal) (bs ks : List Branch)
+pub outs_added : (program : Clauses) (locals : List NominalLocal) (bs ks : List Place)
     → outs_pending program locals (bs ++ reverse ks) ≡ outs_from_each program locals (positions_of ks) ++ outs_pending program locals bs
 outs_added program locals bs [] = ap (outs_pending program locals) (append-nil bs)
 outs_added program locals bs (k ∷ ks) =
@@ -46,7 +46,7 @@ outs_added program locals bs (k ∷ ks) =
     ∙ ap (λ os. outs_from program locals (position_of k) ++ os) (outs_added program locals bs ks)
     ∙ sym (append_assoc (outs_from program locals (position_of k)) (outs_from_each program locals (positions_of ks)) (outs_pending program locals bs))
 
-pub turns_added : (program : Clauses) (bs ks : List Branch)
+pub turns_added : (program : Clauses) (bs ks : List Place)
     → turns_pending program (bs ++ reverse ks) ≡ turns_from_each program (positions_of ks) + turns_pending program bs
 turns_added program bs [] =
     let h : turns_pending program (bs ++ []) ≡ turns_pending program bs = ap (turns_pending program) (append-nil bs) in
@@ -59,7 +59,7 @@ turns_added program bs (k ∷ ks) =
     ∙ (let h : turns_pending program (bs ++ reverse ks) ≡ turns_from_each program (positions_of ks) + turns_pending program bs = turns_added program bs ks in omega arith)
 
 -- One turn of a search keeps the outputs so far and those to come, and leaves fewer turns.
-module _ (program : Clauses) (locals : List NominalLocal) (ps qs : List Branch) (b : Branch) (e : ps ≡ qs ++ b ∷ []) where
+module _ (program : Clauses) (locals : List NominalLocal) (ps qs : List Place) (b : Place) (e : ps ≡ qs ++ b ∷ []) where
   pub ends_kept : (outs outs' : List Out) (out : Out) (all : List NominalOut) → ends (out_of out) ≡ turned program locals (position_of b) → outs' ≡ outs ++ out ∷ []
       → outs_of outs ++ outs_pending program locals ps ≡ all → outs_of outs' ++ outs_pending program locals qs ≡ all
   ends_kept outs outs' out all h k i =
@@ -76,7 +76,7 @@ module _ (program : Clauses) (locals : List NominalLocal) (ps qs : List Branch) 
       let i : turns_pending program ps ≡ turns_from program (position_of b) + turns_pending program qs = ap (turns_pending program) e ∙ turns_last program qs b in
       omega arith
 
-  pub goes_kept : (outs : List Out) (ks rs : List Branch) (all : List NominalOut) → goes (positions_of ks) ≡ turned program locals (position_of b) → rs ≡ qs ++ reverse ks
+  pub goes_kept : (outs : List Out) (ks rs : List Place) (all : List NominalOut) → goes (positions_of ks) ≡ turned program locals (position_of b) → rs ≡ qs ++ reverse ks
       → outs_of outs ++ outs_pending program locals ps ≡ all → outs_of outs ++ outs_pending program locals rs ≡ all
   goes_kept outs ks rs all h k i =
       ap (λ os. outs_of outs ++ os)
@@ -87,7 +87,7 @@ module _ (program : Clauses) (locals : List NominalLocal) (ps qs : List Branch) 
       ∙ ap (outs_pending program locals) (sym e))
       ∙ i
 
-  pub goes_fewer : (ks rs : List Branch) → goes (positions_of ks) ≡ turned program locals (position_of b) → rs ≡ qs ++ reverse ks
+  pub goes_fewer : (ks rs : List Place) → goes (positions_of ks) ≡ turned program locals (position_of b) → rs ≡ qs ++ reverse ks
       → turns_pending program rs < turns_pending program ps
   goes_fewer ks rs h k =
       let j : suc (turns_from_each program (positions_of ks)) ≡ turns_from program (position_of b) = ap (λ t. suc (turns_of_turned program t)) h ∙ turns_turned program locals (position_of b) in

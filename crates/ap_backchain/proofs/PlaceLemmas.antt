@@ -3,12 +3,14 @@ use Rattle.std.proofs.Common.{◌≡◌, ℕ, zero, suc, ◌+◌, ◌<◌, ◌�
 use Rattle.std.specs.Prelude.{Some, None}
 use Rattle.std.proofs.lemmas.List.{length-map}
 use Rattle.ap_defs.specs.Answers.{kind_at}
-use Rattle.ap_defs.specs.Goals.{clause_of, clauses_of, Clauses, NominalClause}
-use Rattle.ap_defs.specs.Types.{kind_of}
+use Rattle.ap_defs.specs.Goals.{clause_of, clauses_of, query_of, Clauses}
+use Rattle.ap_defs.specs.Types.{NominalSignature, kind_of}
+use Rattle.ap_program.specs.Typed.{AreTypedQueries, IsTypedQuery, term_form}
 use Rattle.ap_defs.specs.declared.goals.Clause.{Clause}
 use Rattle.ap_defs.specs.declared.goals.Kind.{Kind}
+use Rattle.ap_defs.specs.declared.goals.Query.{Query}
 use Rattle.ap_defs.specs.declared.terms.Term.{Term}
-use Rattle.ap_backchain.specs.Below.{AreClausesBelow, AreEachBelow, IsClauseBelow}
+use Rattle.ap_search.specs.FitStates.{AreFitClauses, AreShort, IsFitProgram}
 
 pub kind_here : (ks : List Kind) (n : ℕ) (k : Kind) → n < length ks → k ≡ get_or ks n k → kind_at (map kind_of ks) n ≡ Some (kind_of k)
 kind_here [] n k h e = absurd (omega arith)
@@ -31,12 +33,18 @@ clauses_past [] n h = refl
 clauses_past (ds ∷ css) zero h = absurd (omega arith)
 clauses_past (ds ∷ css) (suc n) h = clauses_past css n (omega arith)
 
-pub each_below : (css : Clauses) (n : ℕ) → AreClausesBelow css → AreEachBelow (clauses_of css n)
+pub each_below : (css : Clauses) (n : ℕ) → IsFitProgram css → AreFitClauses (clauses_of css n)
 each_below [] n h = tt
-each_below (cs ∷ css) zero h = h.0.0
+each_below (cs ∷ css) zero h = h.0
 each_below (cs ∷ css) (suc n) h = each_below css n h.1
 
-pub few_clauses : (css : Clauses) (n : ℕ) → AreClausesBelow css → length (clauses_of css n) < 2 ^ 32
+pub few_clauses : (css : Clauses) (n : ℕ) → AreShort css → length (clauses_of css n) < 2 ^ 32
 few_clauses [] n h = omega arith
-few_clauses (cs ∷ css) zero h = h.0.1
+few_clauses (cs ∷ css) zero h = h.0
 few_clauses (cs ∷ css) (suc n) h = few_clauses css n h.1
+
+pub typed_query_here : (sig : NominalSignature) (qs : List (Query Term)) (n : ℕ) (q : Query Term) → n < length qs → q ≡ get_or qs n q
+    → AreTypedQueries term_form sig (map query_of qs) → IsTypedQuery term_form sig (query_of q)
+typed_query_here sig [] n q h e k = absurd (omega arith)
+typed_query_here sig (r ∷ qs) zero q h e k = subst (λ (x : Query Term). IsTypedQuery term_form sig (query_of x)) (sym e) k.0
+typed_query_here sig (r ∷ qs) (suc n) q h e k = typed_query_here sig qs n q (omega arith) e k.1

@@ -1,7 +1,9 @@
 pub mod Below
 pub mod BelowProps
+pub mod Marks
 pub mod Places
 pub mod Starts
 pub mod Positions
+pub mod Problems
 pub mod Turns
 pub mod Views

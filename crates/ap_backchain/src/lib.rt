@@ -1,21 +1,27 @@
 //! Sequential nominal resolution of the queries of a program, to a depth, after Cheney and Urban,
 //! "Nominal Logic Programming".
 //!
-//! A `branch::Branch` is a place of a search: the goals that wait, with the path, the bindings, the
-//! conditions and the numbers so far. `turns::take_turn` takes its first goal, and `run` goes from branch
-//! to branch, depth first, over a stack of its own.
+//! A `place::Place` is where a search stands: the goals that wait, with the path, the bindings, the
+//! conditions and the numbers so far. `turns::take_turn` takes the first goal, and `run` goes from
+//! place to place, depth first, over a stack of its own: neither goals nor choices nor the depth
+//! lie on the machine's call stack. `problem` asks a query of a restricted program.
 #![tactic(auto)]
 
 pub mod answers;
-pub mod branch;
 pub mod clauses;
 pub mod copies;
 pub mod frames;
 pub mod free_vars;
 pub mod fresh;
+#[cfg(test)]
+mod limits;
 pub mod moves;
+pub mod place;
+pub mod problem;
 pub mod renaming;
 pub mod run;
 pub mod state;
+#[cfg(test)]
+mod tests;
 pub mod turns;
 pub mod vars;

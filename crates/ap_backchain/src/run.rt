@@ -9,8 +9,8 @@ ghost use Rattle.ap_backchain.specs.Places.{position_of};
 ghost use Rattle.ap_backchain.specs.Positions.{outs_from};
 ghost use Rattle.ap_backchain.specs.Starts.{first_position};
 
-use crate::branch::Branch;
 use crate::moves::with_goal;
+use crate::place::Place;
 use crate::state::state_with;
 use crate::turns::{Turn, take_turn};
 use ap_defs::goals::{Clause, Local, Query};
@@ -20,17 +20,17 @@ use ap_defs::paths::Out;
 use ap_defs::terms::Term;
 use std::alloc::Global;
 
-/// The branch where the search of a query to a depth begins.
-pub fn first_branch<'a>(
+/// The place where the search of a query to a depth begins.
+pub fn first_place<'a>(
     alloc: Global,
     depth: u32,
     query: &'a Query<Term>,
-) -> Result<Branch<'a>, Memory>
+) -> Result<Place<'a>, Memory>
     requires { IsQueryBelow (query_of query.now) }
     ensures { IfOk result (λ b. position_of b ≡ first_position depth (query_of query.now)) }
 {
     let state = state_with(alloc, query.locals.items())?;
-    let bare = Branch {
+    let bare = Place {
         frames: Vec::new(alloc),
         path: Vec::new(alloc),
         state,
@@ -39,12 +39,12 @@ pub fn first_branch<'a>(
     with_goal(bare, &query.goal, 0, depth)
 }
 
-/// The outputs of a branch, in order. Branches wait on a stack, the last one to be taken first.
+/// The outputs from a place, in order. Places wait on a stack, the last one to be taken first.
 pub fn outputs_from<'a>(
     alloc: Global,
     clauses: &'a [List<Clause<Term>>],
     locals: &[Local],
-    first: Branch<'a>,
+    first: Place<'a>,
 ) -> Result<Vec<Out>, Memory>
     requires clauses { AreClausesBelow (map (map clause_of) clauses.now) }
     requires locals { length locals.now < 2 ^ 64 }
@@ -55,7 +55,9 @@ pub fn outputs_from<'a>(
     pending.push(first)?;
     'searching: while let Some(b) = pending.pop() {
         match take_turn(alloc, clauses, locals, b)? {
-            Turn::Ends(out) => outs.push(out)?,
+            Turn::Ends(out) => {
+                outs.push(out)?;
+            }
             Turn::Goes(mut kids) => {
                 kids.reverse();
                 pending.append(&mut kids)?;
@@ -78,6 +80,6 @@ pub fn outputs_of_query(
     requires query { IsQueryBelow (query_of query.now) }
     ensures { IfOk result (λ v. outs_of v.items ≡ query_outs (map (map clause_of) clauses.now) depth (query_of query.now)) }
 {
-    let first = first_branch(alloc, depth, query)?;
+    let first = first_place(alloc, depth, query)?;
     outputs_from(alloc, clauses, query.locals.items(), first)
 }

@@ -1,4 +1,4 @@
-//! What the first goal that waits makes of a branch.
+//! What the first goal that waits makes of a place.
 
 ghost use Rattle.std.specs.Prelude.{◌≡◌, ◌≤◌, ◌<◌, ◌^◌, [], ◌∷◌, IfOk, IfSome, length, map};
 ghost use Rattle.ap_defs.specs.Answers.{found as found_at, out_of};
@@ -13,12 +13,12 @@ ghost use Rattle.ap_backchain.specs.Positions.{goes, goes_with as going_with, tu
 ghost use Rattle.ap_backchain.specs.Views.{option_state, state_of};
 
 use crate::answers::answer_in;
-use crate::branch::Branch;
 use crate::clauses::{clauses_at, enter_each};
 use crate::frames::Frame;
 use crate::free_vars::free_vars_of;
 use crate::fresh::{fresh_for_vars, fresh_state};
-use crate::moves::{copy_branch, with_choice, with_goal, with_state, with_vars};
+use crate::moves::{copy_place, with_choice, with_goal, with_state, with_vars};
+use crate::place::Place;
 use crate::state::{SearchState, unified};
 use ap_defs::goals::{Clause, Goal, Local};
 use ap_defs::lists::List;
@@ -29,15 +29,15 @@ use ap_program::renaming::{rename_term, rename_terms};
 use ap_store::bindings::under_bindings;
 use std::alloc::Global;
 
-/// A search ends with an output, or goes on from each of these branches, in order.
+/// A search ends with an output, or goes on from each of these placees, in order.
 #[derive(Drop)]
 pub enum Turn<'a> {
     Ends(Out),
-    Goes(Vec<Branch<'a>>),
+    Goes(Vec<Place<'a>>),
 }
 
-/// The search goes on from one branch.
-fn goes_to<'a>(alloc: Global, b: Branch<'a>) -> Result<Turn<'a>, Memory>
+/// The search goes on from one place.
+fn goes_to<'a>(alloc: Global, b: Place<'a>) -> Result<Turn<'a>, Memory>
     ensures { IfOk result (λ t. turned_of t ≡ goes (position_of b.entry ∷ [])) }
 {
     let mut kids = Vec::new(alloc);
@@ -45,10 +45,10 @@ fn goes_to<'a>(alloc: Global, b: Branch<'a>) -> Result<Turn<'a>, Memory>
     Ok(Turn::Goes(kids))
 }
 
-/// The search goes on from a branch with a state, if there is one.
+/// The search goes on from a place with a state, if there is one.
 fn goes_with<'a>(
     alloc: Global,
-    b: Branch<'a>,
+    b: Place<'a>,
     state: Option<SearchState>,
 ) -> Result<Turn<'a>, Memory>
     requires { IfSome state (λ s. length b.state.kinds.items ≤ length s.kinds.items) }
@@ -61,7 +61,7 @@ fn goes_with<'a>(
 }
 
 /// The turn of an equation.
-fn turn_of_equation<'a>(alloc: Global, b: Branch<'a>, t: Term, u: Term) -> Result<Turn<'a>, Memory>
+fn turn_of_equation<'a>(alloc: Global, b: Place<'a>, t: Term, u: Term) -> Result<Turn<'a>, Memory>
     ensures { IfOk result (λ r. turned_of r ≡ turned_goal [] 0 (equal (term_of t) (term_of u)) (position_of b.entry)) }
 {
     let state = unified(alloc, &b.state, &[t], &[u])?;
@@ -71,7 +71,7 @@ fn turn_of_equation<'a>(alloc: Global, b: Branch<'a>, t: Term, u: Term) -> Resul
 /// The turn of a freshness goal, whose left side stands under the bindings already.
 fn turn_of_fresh<'a>(
     alloc: Global,
-    b: Branch<'a>,
+    b: Place<'a>,
     left: &Term,
     right: &Term,
 ) -> Result<Turn<'a>, Memory>
@@ -91,7 +91,7 @@ fn turn_of_fresh<'a>(
 fn turn_of_atom<'a>(
     alloc: Global,
     clauses: &'a [List<Clause<Term>>],
-    b: Branch<'a>,
+    b: Place<'a>,
     depth: u32,
     pred: u32,
     args: &[Term],
@@ -110,7 +110,7 @@ fn turn_of_atom<'a>(
 /// The turn of a disjunction.
 fn turn_of_either<'a>(
     alloc: Global,
-    b: Branch<'a>,
+    b: Place<'a>,
     depth: u32,
     base: u64,
     left: &'a Goal<Term>,
@@ -120,7 +120,7 @@ fn turn_of_either<'a>(
     requires right { IsGoalBelow (length b.state.kinds.items) (rename_goal base (goal_of right.now)) }
     ensures { IfOk result (λ r. turned_of r ≡ turned_goal [] depth (either (rename_goal base (goal_of left.now)) (rename_goal base (goal_of right.now))) (position_of b.entry)) }
 {
-    let copied = copy_branch(alloc, &b)?;
+    let copied = copy_place(alloc, &b)?;
     let chosen = with_choice(copied, 1)?;
     let first = with_goal(chosen, left, base, depth)?;
     let other = with_choice(b, 2)?;
@@ -134,7 +134,7 @@ fn turn_of_either<'a>(
 /// The turn of a goal with a new name.
 fn turn_of_new<'a>(
     alloc: Global,
-    b: Branch<'a>,
+    b: Place<'a>,
     depth: u32,
     base: u64,
     a: Name,
@@ -156,7 +156,7 @@ fn turn_of_new<'a>(
 /// The turn of a goal that brings a variable.
 fn turn_of_exists<'a>(
     alloc: Global,
-    b: Branch<'a>,
+    b: Place<'a>,
     depth: u32,
     base: u64,
     x: Var,
@@ -174,7 +174,7 @@ fn turn_of_exists<'a>(
 /// The turn of a conjunction.
 fn turn_of_both<'a>(
     alloc: Global,
-    b: Branch<'a>,
+    b: Place<'a>,
     depth: u32,
     base: u64,
     left: &'a Goal<Term>,
@@ -189,12 +189,12 @@ fn turn_of_both<'a>(
     goes_to(alloc, opened)
 }
 
-/// The turn of the goal of a frame, from a branch in which the others wait.
+/// The turn of the goal of a frame, from a place in which the others wait.
 fn turn_of_goal<'a>(
     alloc: Global,
     clauses: &'a [List<Clause<Term>>],
     frame: Frame<'a>,
-    b: Branch<'a>,
+    b: Place<'a>,
 ) -> Result<Turn<'a>, Memory>
     requires clauses { AreClausesBelow (map (map clause_of) clauses.now) }
     requires goal { IsGoalBelow (length b.state.kinds.items) (rename_goal frame.base (goal_of frame.goal.now)) }
@@ -225,8 +225,8 @@ fn turn_of_goal<'a>(
     }
 }
 
-/// The output of a branch in which no goal waits.
-fn found<'a>(alloc: Global, locals: &[Local], b: Branch<'a>) -> Result<Out, Memory>
+/// The output of a place in which no goal waits.
+fn found<'a>(alloc: Global, locals: &[Local], b: Place<'a>) -> Result<Out, Memory>
     requires { length locals.now < 2 ^ 64 }
     ensures { IfOk result (λ o. out_of o ≡ found_at b.entry.path.items (answer_with (locals_of locals.now) (state_of b.entry.state) b.entry.brought.items)) }
 {
@@ -240,20 +240,20 @@ pub fn take_turn<'a>(
     alloc: Global,
     clauses: &'a [List<Clause<Term>>],
     locals: &[Local],
-    b: Branch<'a>,
+    b: Place<'a>,
 ) -> Result<Turn<'a>, Memory>
     requires clauses { AreClausesBelow (map (map clause_of) clauses.now) }
     requires locals { length locals.now < 2 ^ 64 }
     ensures { IfOk result (λ r. turned_of r ≡ turned (map (map clause_of) clauses.now) (locals_of locals.now) (position_of b.entry)) }
 {
-    let Branch {
+    let Place {
         mut frames,
         path,
         state,
         brought,
     } = b;
     let first = frames.pop();
-    let rest = Branch {
+    let rest = Place {
         frames,
         path,
         state,

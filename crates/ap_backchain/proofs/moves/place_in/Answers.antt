@@ -3,7 +3,7 @@ use Rattle.ap_search.specs.Continuations.{Waiting}
 use Rattle.ap_backchain.specs.Below.{AreWaitingBelow}
 use Rattle.ap_backchain.specs.Views.{stack_of}
 use Rattle.ap_backchain.proofs.FitLemmas.{waiting_more}
-use Rattle.ap_backchain.proofs.moves.branch_in.Goals as goal
+use Rattle.ap_backchain.proofs.moves.place_in.Goals as goal
 
 pub invariant_of-result : goal.invariant_of-result
 invariant_of-result c =

@@ -12,7 +12,7 @@ use ap_defs::terms::Var;
 /// A place of a search: the goals that wait, the last one to be taken first; the choices on the way;
 /// the state; and the variables that clauses and `exists` brought, in order.
 #[derive(Drop)]
-pub struct Branch<'a> {
+pub struct Place<'a> {
     pub frames: Vec<Frame<'a>>,
     pub path: Vec<u32>,
     pub state: SearchState,

@@ -5,7 +5,7 @@ use Rattle.ap_defs.specs.Resolution.{State, kinds_of}
 use Rattle.ap_defs.specs.Types.{locals_of}
 use Rattle.ap_backchain.specs.Views.{state_of}
 use Rattle.ap_backchain.proofs.FitLemmas.{goal_zero, kinds_count}
-use Rattle.ap_backchain.proofs.run.first_branch.Goals as goal
+use Rattle.ap_backchain.proofs.run.first_place.Goals as goal
 
 pub with_goal-requires : goal.with_goal-requires
 with_goal-requires c =

@@ -1,0 +1,9 @@
+use Rattle.ap_defs.specs.Goals.{program_of}
+use Rattle.ap_search.proofs.TypedBelowLemmas.{bounded_short, typed_fits}
+use Rattle.ap_backchain.proofs.problem.clauses_of_problem.Goals as goal
+
+pub returns-clause-below : goal.returns-clause-below
+returns-clause-below c =
+    let restricted = c.program.ensures.restricted in
+    rw (c.items.ensures, c.program.ensures.same)
+    (typed_fits (program_of c.args.p.now.program.now) restricted.typed, bounded_short (program_of c.args.p.now.program.now) restricted.bounded)

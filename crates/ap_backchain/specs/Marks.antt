@@ -1,0 +1,41 @@
+-- The marks of a place, where it chooses, and what a turn makes of a place that doesn't choose.
+use Rattle.std.specs.Prelude.{◌≡◌, ℕ, zero, suc, List, [], ◌∷◌, ◌++◌, length, Option, Some, None}
+use Rattle.ap_defs.specs.Answers.{out_path}
+use Rattle.ap_defs.specs.Goals.{NominalGoal, succeed, atom, equal, fresh, both, either, exists, new, Clauses, clauses_of}
+use Rattle.ap_defs.specs.Types.{NominalLocal}
+use Rattle.ap_search.specs.Continuations.{Waiting}
+use Rattle.ap_search.specs.MarkedContinuations.{NominalMark, marked_stack_then, out}
+use Rattle.ap_backchain.specs.Positions.{Position, Turned, ends, goes}
+
+-- the marks of the goals that wait
+abbrev pub marks_from : Clauses → List NominalLocal → Position → List NominalMark
+marks_from program locals p = marked_stack_then program locals p.waiting p.path p.state p.brought
+
+abbrev pub marks_from_each : Clauses → List NominalLocal → List Position → List NominalMark
+marks_from_each program locals [] = []
+marks_from_each program locals (p ∷ ps) = marks_from program locals p ++ marks_from_each program locals ps
+
+abbrev pub marks_of_turned : Clauses → List NominalLocal → Turned → List NominalMark
+marks_of_turned program locals (ends o) = out o ∷ []
+marks_of_turned program locals (goes ps) = marks_from_each program locals ps
+
+-- among how many the first goal chooses, if it chooses: an atom that isn't cut among clauses, and a disjunction between its sides
+abbrev pub choice_of_atom : Clauses → ℕ → ℕ → Option ℕ
+choice_of_atom program zero c = None
+choice_of_atom program (suc d) c = Some (length (clauses_of program c))
+
+abbrev pub choice_of_goal : Clauses → ℕ → NominalGoal → Option ℕ
+choice_of_goal program d (atom c ts) = choice_of_atom program d c
+choice_of_goal program d (either g h) = Some 2
+choice_of_goal program d _ = None
+
+abbrev pub choice_of : Clauses → List Waiting → Option ℕ
+choice_of program [] = None
+choice_of program (w ∷ ws) = choice_of_goal program w.depth w.goal
+
+-- a search that doesn't choose ends, or goes on from one place with the same path
+abbrev pub IsSettled : Position → Turned → Type 0
+IsSettled p (ends o) = out_path o ≡ p.path
+IsSettled p (goes []) = Unit {0}
+IsSettled p (goes (r ∷ [])) = r.path ≡ p.path
+IsSettled p (goes (r ∷ s ∷ ps)) = ⊥

@@ -1,0 +1,55 @@
+//! Queries of restricted programs.
+
+ghost use Rattle.std.specs.Prelude.{◌≡◌, ◌-◌, Some, IfOk, map, slice_get};
+ghost use Rattle.ap_defs.specs.Answers.{outs_of, query_outs};
+ghost use Rattle.ap_defs.specs.Goals.{NominalQuery, clause_of, program_of, query_of};
+ghost use Rattle.ap_backchain.specs.Below.{AreClausesBelow, IsQueryBelow};
+ghost use Rattle.ap_backchain.specs.Problems.{HasQuery, clauses_in, queries_in};
+
+use crate::run::outputs_of_query;
+use ap_defs::goals::{Clause, Query};
+use ap_defs::lists::List;
+use ap_defs::memory::Memory;
+use ap_defs::paths::Out;
+use ap_defs::terms::Term;
+use ap_program::restricted::Restricted;
+use std::alloc::Global;
+
+/// A query of a program, by its number from 1, that is searched to a depth: so many clauses may be
+/// used one inside another.
+#[derive(Clone, Copy)]
+pub struct Problem<'a> {
+    pub program: &'a Restricted,
+    pub query: u32,
+    pub depth: u32,
+}
+
+/// The clauses of each predicate.
+pub fn clauses_of_problem<'a>(p: &Problem<'a>) -> &'a [List<Clause<Term>>]
+    ensures clauses { map (map clause_of) result.now ≡ clauses_in p.now }
+    ensures below { AreClausesBelow (map (map clause_of) result.now) }
+{
+    p.program.program().clauses.items()
+}
+
+/// The query.
+pub fn query_of_problem<'a>(p: &Problem<'a>) -> &'a Query<Term>
+    requires { HasQuery p.now }
+    ensures query { slice_get (queries_in p.now) (p.now.query - 1) ≡ Some (query_of result.now) }
+    ensures below { IsQueryBelow (query_of result.now) }
+{
+    let queries = p.program.program().queries.items();
+    &queries[p.query as usize - 1]
+}
+
+/// The outputs of a query to a depth, in order, each with its path and its answer: all answers of
+/// sequential nominal resolution, and a note wherever a branch was cut or is stuck (Cheney and
+/// Urban, "Nominal Logic Programming").
+pub fn outputs(alloc: Global, p: &Problem<'_>) -> Result<Vec<Out>, Memory>
+    requires { HasQuery p.now }
+    ensures { IfOk result (λ v. (q : NominalQuery) → slice_get (queries_in p.now) (p.now.query - 1) ≡ Some q → outs_of v.items ≡ query_outs (clauses_in p.now) p.now.depth q) }
+{
+    let clauses = clauses_of_problem(p);
+    let query = query_of_problem(p);
+    outputs_of_query(alloc, clauses, p.depth, query)
+}
