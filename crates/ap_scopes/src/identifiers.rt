@@ -1,5 +1,5 @@
 //! The identifiers of a clause or query, numbered from 0 by first occurrence.
-ghost use Rattle.std.specs.Prelude.{◌≡◌, true, false, [], IfOk, OnOk};
+ghost use Rattle.std.specs.Prelude.{◌≡◌, true, false, [], IfOk, OnOk, map};
 ghost use Rattle.ap_trees.specs.Terms.{OfWord, OfVar};
 ghost use Rattle.ap_trees.specs.Trees.{name_of};
 ghost use Rattle.ap_scopes.specs.Identifiers as spec;
@@ -83,6 +83,13 @@ impl<'a> Identifiers<'a> {
             names: Numbers::new(alloc),
             variables: Numbers::new(alloc),
         }
+    }
+
+    /// The identifiers, in order of their numbers. It takes no memory.
+    pub fn into_found(self) -> Vec<Identifier<'a>>
+        ensures { map identifier_of result.items ≡ found_of self.entry }
+    {
+        self.found
     }
 
     /// A new identifier is found.
