@@ -1,0 +1,16 @@
+pub mod Lookups
+pub mod Walks
+pub mod Assignments
+pub mod IdentLemmas
+pub mod Inversions
+pub mod Gathers
+pub mod Steps
+pub mod Opening
+pub mod Binding
+pub mod Walking
+pub mod GoalWalks
+pub mod InhabitedLemmas
+pub mod Solutions
+pub mod Readings
+pub mod Findings
+pub mod SolvedLemmas

@@ -1,0 +1,213 @@
+-- What is wanted inside a pair, an application and an abstraction.
+use Rattle.std.proofs.Common.{◌≡◌, ◌<◌, ◌+◌, ◌∙◌, ℕ, List, [], ◌∷◌, length, refl, sym, ap, subst, arith, Option, Some, None}
+use Rattle.ap_defs.specs.Types.{NominalType, NominalConstructor, TypeShape, hole, unit, names, base, pair, list, abs}
+use Rattle.ap_defs.specs.Types as types
+use Rattle.ap_defs.specs.Typing as typing
+use Rattle.ap_defs.specs.Typing.{Want, one, arguments}
+use Rattle.ap_kinds.specs.declared.kinds.IdentKind.{IdentKind}
+use Rattle.ap_kinds.specs.Systems.{EquationSystem, with_hole, refused, opened}
+use Rattle.ap_kinds.specs.Gathering.{Wanting, whole, nothing, more, cell, wanting_all, sides, new_sides, listed_hole, inside_element, inside_cell, new_element, inside_declared}
+use Rattle.ap_kinds.proofs.Assignments.{Assign, closed, Agree, closed_opened, closed_same, agree_on}
+use Rattle.ap_kinds.proofs.IdentLemmas.{fits_same}
+use Rattle.ap_kinds.proofs.Inversions.{Splits, Declares}
+use Rattle.ap_kinds.proofs.Gathers.{IsMade, IsShapeOf, Suits, want_by, grows_refl, grows_on, shape_grows, suits_grows, want_same, below_idents, gathers_equate, gathers_refused, Opens}
+use Rattle.ap_kinds.proofs.Steps.{made_hole, grows_hole, hole_filled, hole_shape, opened_shape, gathers_meet}
+
+-- Pairs.
+abbrev SidesOf : Wanting → Assign → Want → Want → Type 0
+SidesOf w φ a b = Splits (want_by φ w) a b
+
+split_one : (c : NominalType) (a b : Want) → Splits (one c) a b → (x : NominalType) × (y : NominalType) × (c ≡ types.pair x y) × (a ≡ one x) × (b ≡ one y)
+split_one (types.pair x y) a b h = (x, y, refl, h.0, h.1)
+split_one _ a b h = absurd h
+
+splits_as : (c x y : NominalType) → c ≡ types.pair x y → Splits (one c) (one x) (one y)
+splits_as c x y e = subst (λ d. Splits (one d) (one x) (one y)) (sym e) (refl, refl)
+
+opens_new_sides : (n : ℕ) (idents : List IdentKind) (t : TypeShape) (s : EquationSystem) → IsMade n idents s → IsShapeOf n t s
+    → Opens n idents (SidesOf (whole t)) s (whole (hole s.next)) (whole (hole (s.next + 1))) (new_sides t s).system
+opens_new_sides n idents t s m h =
+    let s1 = with_hole s in
+    let s2 = with_hole s1 in
+    let m1 = made_hole n idents s m in
+    let m2 = made_hole n idents s1 m1 in
+    let up = grows_on n s s1 s2 (grows_hole n s) (grows_hole n s1) in
+    let k : IsShapeOf n (pair (hole s.next) (hole (s.next + 1))) s2 = record { bounded = omega arith; proper = λ f r. (tt, tt) } in
+    let g = gathers_equate n idents t (pair (hole s.next) (hole (s.next + 1))) s2 m2 (shape_grows n t s s2 up h) k in
+    record {
+      made = g.made;
+      grows = grows_on n s s2 (new_sides t s).system up g.grows;
+      left = hole_shape n s.next (new_sides t s).system (omega arith);
+      right = hole_shape n (s.next + 1) (new_sides t s).system (omega arith);
+      sound = λ φ f r. splits_as (closed φ t) (φ s.next) (φ (s.next + 1)) (g.sound φ f r);
+      complete = λ φ f r a b z.
+          let q = split_one (closed φ t) a b z in
+          let p = hole_filled n idents s φ q.0 m r in
+          let o = hole_filled n idents s1 p.0 q.1 m1 p.2 in
+          let first : o.0 s.next ≡ q.0 = sym (o.1 s.next (omega arith)) ∙ p.3 in
+          let agree : Agree s.next φ o.0 = agree_on s.next s1.next φ p.0 o.0 (omega arith) p.1 o.1 in
+          let e : closed o.0 t ≡ types.pair (o.0 s.next) (o.0 (s.next + 1)) = sym (closed_same s.next φ o.0 agree t h.bounded) ∙ q.2 ∙ (let c = o.3 in cc) in
+          let fits = fits_same n idents φ o.0 (below_idents (length idents) s.next φ o.0 m.past agree) f in
+          let c = g.complete o.0 fits o.2 e in (
+            c.0,
+            agree_on s.next s2.next φ o.0 c.0 (omega arith) agree c.1,
+            c.2,
+            q.3 ∙ ap one (sym first ∙ c.1 s.next (omega arith)),
+            q.4 ∙ ap one (sym o.3 ∙ c.1 (s.next + 1) (omega arith)),
+          );
+    }
+
+want_all : (φ : Assign) (as' : List NominalType) → want_by φ (wanting_all as') ≡ arguments as'
+want_all φ [] = refl
+want_all φ (a ∷ []) = ap one (closed_opened φ a)
+want_all φ (a ∷ b ∷ rest) = refl
+
+suits_all : (n : ℕ) (as' : List NominalType) (s : EquationSystem) → Suits n (wanting_all as') s
+suits_all n [] s = tt
+suits_all n (a ∷ []) s = opened_shape n a s
+suits_all n (a ∷ b ∷ rest) s = tt
+
+agree_self : (k : ℕ) (φ : Assign) → Agree k φ φ
+agree_self k φ x l = refl
+
+-- nothing new
+opens_same : (n : ℕ) (idents : List IdentKind) (R : Assign → Want → Want → Type 0) (s : EquationSystem) (w v : Wanting) → IsMade n idents s → Suits n w s → Suits n v s
+    → ((φ : Assign) → R φ (want_by φ w) (want_by φ v)) → ((φ : Assign) (a b : Want) → R φ a b → (a ≡ want_by φ w) × (b ≡ want_by φ v)) → Opens n idents R s w v s
+opens_same n idents R s w v m p q to from = record {
+  made = m;
+  grows = grows_refl n s;
+  left = p;
+  right = q;
+  sound = λ φ f r. to φ;
+  complete = λ φ f r a b h. let e = from φ a b h in (φ, agree_self s.next φ, r, e.0, e.1);
+}
+
+left_side : (n : ℕ) (t u : TypeShape) (s : EquationSystem) → IsShapeOf n (pair t u) s → IsShapeOf n t s
+left_side n t u s h = record { bounded = let a = h.bounded in omega arith; proper = λ f g. (h.proper f g).0 }
+
+right_side : (n : ℕ) (t u : TypeShape) (s : EquationSystem) → IsShapeOf n (pair t u) s → IsShapeOf n u s
+right_side n t u s h = record { bounded = let a = h.bounded in omega arith; proper = λ f g. (h.proper f g).1 }
+
+list_shape : (n : ℕ) (x : ℕ) (s : EquationSystem) → x < s.next → IsShapeOf n (list (hole x)) s
+list_shape n x s l = record { bounded = omega arith; proper = λ f g. tt }
+
+opens_refused : (n : ℕ) (idents : List IdentKind) (R : Assign → Want → Want → Type 0) (s : EquationSystem) → IsMade n idents s → ((φ : Assign) (a b : Want) → R φ a b → ⊥)
+    → Opens n idents R s nothing nothing (refused s)
+opens_refused n idents R s m h =
+    let g = gathers_refused n idents (λ φ. ⊥) s m (λ φ f p. p) in
+    record {
+      made = g.made;
+      grows = g.grows;
+      left = tt;
+      right = tt;
+      sound = λ φ f r. absurd (g.sound φ f r);
+      complete = λ φ f r a b k. absurd (h φ a b k);
+    }
+
+pub opens_sides : (n : ℕ) (idents : List IdentKind) (w : Wanting) (s : EquationSystem) → IsMade n idents s → Suits n w s
+    → Opens n idents (SidesOf w) s (sides w s).left (sides w s).right (sides w s).system
+opens_sides n idents (whole (pair t u)) s m h =
+    opens_same n idents (SidesOf (whole (pair t u))) s (whole t) (whole u) m (left_side n t u s h) (right_side n t u s h) (λ φ. (refl, refl)) (λ φ a b r. r)
+opens_sides n idents (whole (hole x)) s m h = opens_new_sides n idents (hole x) s m h
+opens_sides n idents (whole unit) s m h = opens_new_sides n idents unit s m h
+opens_sides n idents (whole (names k)) s m h = opens_new_sides n idents (names k) s m h
+opens_sides n idents (whole (base d)) s m h = opens_new_sides n idents (base d) s m h
+opens_sides n idents (whole (list t)) s m h = opens_new_sides n idents (list t) s m h
+opens_sides n idents (whole (abs t u)) s m h = opens_new_sides n idents (abs t u) s m h
+opens_sides n idents nothing s m h = opens_refused n idents (SidesOf nothing) s m (λ φ a b r. r)
+opens_sides n idents (more c rest) s m h =
+    opens_same n idents (SidesOf (more c rest)) s (whole (opened c)) (wanting_all rest) m (opened_shape n c s) (suits_all n rest s)
+    (λ φ. (ap one (closed_opened φ c), want_all φ rest)) (λ φ a b r. (r.0 ∙ ap one (sym (closed_opened φ c)), r.1 ∙ sym (want_all φ rest)))
+opens_sides n idents (cell x) s m h =
+    opens_same n idents (SidesOf (cell x)) s (whole (hole x)) (whole (list (hole x))) m (hole_shape n x s h) (list_shape n x s h) (λ φ. (refl, refl)) (λ φ a b r. r)
+
+-- Lists.
+abbrev pub CellOf : Wanting → Assign → Want → Want → Type 0
+CellOf w φ a b = (c : NominalType) × (want_by φ w ≡ one (types.list c)) × (a ≡ typing.more c (one (types.list c))) × (b ≡ typing.nothing)
+
+abbrev pub NilOf : Wanting → Assign → Want → Want → Type 0
+NilOf w φ a b = (c : NominalType) × (want_by φ w ≡ one (types.list c)) × (a ≡ typing.nothing) × (b ≡ typing.nothing)
+
+cell_of : NominalType → Want
+cell_of c = typing.more c (one (types.list c))
+
+opens_new_element : (n : ℕ) (idents : List IdentKind) (w : Wanting) (s : EquationSystem) → IsMade n idents s → Suits n w s
+    → Opens n idents (CellOf w) s (new_element w s).want nothing (new_element w s).system
+opens_new_element n idents w s m h =
+    let s1 = with_hole s in
+    let m1 = made_hole n idents s m in
+    let g = gathers_meet n idents w (list (hole s.next)) s1 m1 (suits_grows n w s s1 (grows_hole n s) h) (list_shape n s.next s1 (omega arith)) in
+    let more1 = g.grows.next in
+    record {
+      made = g.made;
+      grows = grows_on n s s1 (new_element w s).system (grows_hole n s) g.grows;
+      left = omega arith;
+      right = tt;
+      sound = λ φ f r. (φ s.next, g.sound φ f r, refl, refl);
+      complete = λ φ f r a b z.
+          let p = hole_filled n idents s φ z.0 m r in
+          let fits = fits_same n idents φ p.0 (below_idents (length idents) s.next φ p.0 m.past p.1) f in
+          let e : want_by p.0 w ≡ one (types.list (p.0 s.next)) = sym (want_same n w s φ p.0 p.1 h) ∙ z.1 ∙ ap (λ c. one (types.list c)) (sym p.3) in
+          let c = g.complete p.0 fits p.2 e in (
+            c.0,
+            agree_on s.next s1.next φ p.0 c.0 (omega arith) p.1 c.1,
+            c.2,
+            z.2 ∙ ap (λ d. typing.more d (one (types.list d))) (sym p.3 ∙ c.1 s.next (omega arith)),
+            z.3,
+          );
+    }
+
+listed : (w : Wanting) (x : ℕ) → listed_hole w ≡ Some x → w ≡ whole (list (hole x))
+listed (whole (list (hole y))) x e = let d : y ≡ x = cc in ap (λ z. whole (list (hole z))) d
+listed _ x e = cc
+
+opens_element : (n : ℕ) (idents : List IdentKind) (o : Option ℕ) (w : Wanting) (s : EquationSystem) → listed_hole w ≡ o → IsMade n idents s → Suits n w s
+    → Opens n idents (CellOf w) s (inside_element o w s).want nothing (inside_element o w s).system
+opens_element n idents None w s e m h = opens_new_element n idents w s m h
+opens_element n idents (Some x) w s e m h =
+    let is = listed w x e in
+    let l : x < s.next = let k : IsShapeOf n (list (hole x)) s = subst (λ v. Suits n v s) is h in let b = k.bounded in omega arith in
+    opens_same n idents (CellOf w) s (cell x) nothing m l tt
+    (λ φ. (φ x, ap (want_by φ) is, refl, refl))
+    (λ φ a b r. let d : ◌≡◌ {A = Want} (one (types.list (φ x))) (one (types.list r.0)) = sym (ap (want_by φ) is) ∙ r.1 in
+    let c : φ x ≡ r.0 = cc in
+    (r.2 ∙ ap (λ z. typing.more z (one (types.list z))) (sym c), r.3))
+
+pub opens_cell : (n : ℕ) (idents : List IdentKind) (w : Wanting) (s : EquationSystem) → IsMade n idents s → Suits n w s
+    → Opens n idents (CellOf w) s (inside_cell w s).want nothing (inside_cell w s).system
+opens_cell n idents w s m h = opens_element n idents (listed_hole w) w s refl m h
+
+pub opens_nil : (n : ℕ) (idents : List IdentKind) (w : Wanting) (s : EquationSystem) → IsMade n idents s → Suits n w s
+    → Opens n idents (NilOf w) s nothing nothing (inside_cell w s).system
+opens_nil n idents w s m h =
+    let o = opens_cell n idents w s m h in
+    record {
+      made = o.made;
+      grows = o.grows;
+      left = tt;
+      right = tt;
+      sound = λ φ f r. let c = o.sound φ f r in (c.0, c.1, refl, refl);
+      complete = λ φ f r a b z.
+          let c = o.complete φ f r (typing.more z.0 (one (types.list z.0))) typing.nothing (z.0, z.1, refl, refl) in
+          (c.0, c.1, c.2, z.2, z.3);
+    }
+
+-- Declared constructors.
+abbrev pub DeclaredOf : Option NominalConstructor → Wanting → Assign → Want → Want → Type 0
+DeclaredOf o w φ a b = (c : NominalType) × (want_by φ w ≡ one c) × Declares o c a × (b ≡ typing.nothing)
+
+pub opens_declared : (n : ℕ) (idents : List IdentKind) (o : Option NominalConstructor) (w : Wanting) (s : EquationSystem) → IsMade n idents s → Suits n w s
+    → Opens n idents (DeclaredOf o w) s (inside_declared o w s).want nothing (inside_declared o w s).system
+opens_declared n idents None w s m h = opens_refused n idents (DeclaredOf None w) s m (λ φ a b r. r.2)
+opens_declared n idents (Some c) w s m h =
+    let g = gathers_meet n idents w (base c.result) s m h (record { bounded = omega arith; proper = λ f r. tt }) in
+    record {
+      made = g.made;
+      grows = g.grows;
+      left = suits_all n c.args (inside_declared (Some c) w s).system;
+      right = tt;
+      sound = λ φ f r. (types.base c.result, g.sound φ f r, (refl, want_all φ c.args), refl);
+      complete = λ φ f r a b z.
+          let k = g.complete φ f r (z.1 ∙ ap one z.2.0) in
+          (k.0, k.1, k.2, z.2.1 ∙ sym (want_all k.0 c.args), z.3);
+    }

@@ -1,0 +1,96 @@
+-- The steps of a walk.
+use Rattle.std.proofs.Common.{◌≡◌, ◌<◌, ◌⊎◌, inl, inr, ℕ, List, refl, ap, arith}
+use Rattle.std.specs.Prelude.{◌==◌, if◌then◌else◌}
+use Rattle.std.proofs.lemmas.Bool.Decides.{eqb_tells}
+use Rattle.ap_defs.specs.Types.{NominalType, NominalConstructor, TypeShape, hole, unit, names, base, pair, list, abs}
+use Rattle.ap_defs.specs.Types as types
+use Rattle.ap_defs.specs.Typing as typing
+use Rattle.ap_defs.specs.Typing.{Want, one, arguments}
+use Rattle.ap_kinds.specs.declared.kinds.IdentKind.{IdentKind}
+use Rattle.ap_kinds.specs.Systems.{EquationSystem, equate, with_name, with_hole, opened}
+use Rattle.ap_kinds.specs.Gathering.{Wanting, whole, nothing, more, cell, meet, meet_unit, meet_swapped}
+use Rattle.ap_kinds.proofs.Assignments.{Assign, filling, closed, Agree, proper_opened, bound_opened, names_snoc, names_bound_snoc}
+use Rattle.ap_kinds.proofs.Gathers.{Meets, IsMade, Grows, IsShapeOf, Suits, want_by, meets_same, Gathers, gathers_map, gathers_none, gathers_equate, gathers_refused}
+
+-- New holes.
+abbrev put : Assign → ℕ → NominalType → Assign
+put φ x a y = if y == x then a else φ y
+
+put_at : (φ : Assign) (x : ℕ) (a : NominalType) → put φ x a x ≡ a
+put_at φ x a = elim (eqb_tells x x) [ inl w ↦ rw w.0 refl | inr w ↦ absurd (w.1 refl) ]
+
+put_agrees : (φ : Assign) (x : ℕ) (a : NominalType) → Agree x φ (put φ x a)
+put_agrees φ x a y l = elim (eqb_tells y x) [ inl w ↦ let e = w.1 in absurd (omega arith) | inr w ↦ rw w.0 refl ]
+
+pub made_hole : (n : ℕ) (idents : List IdentKind) (s : EquationSystem) → IsMade n idents s → IsMade n idents (with_hole s)
+made_hole n idents s m = record { bounded = let a = m.bounded in omega arith; named = let a = m.named in omega arith; proper = m.proper; past = let a = m.past in omega arith }
+
+pub grows_hole : (n : ℕ) (s : EquationSystem) → Grows n s (with_hole s)
+grows_hole n s = record { next = omega arith; names = λ f h. h; back = λ φ h. h }
+
+pub made_name : (n : ℕ) (idents : List IdentKind) (s : EquationSystem) (x : ℕ) → x < s.next → IsMade n idents s → IsMade n idents (with_name x s)
+made_name n idents s x l m = record {
+  bounded = m.bounded;
+  named = names_bound_snoc s.next s.names x m.named l;
+  proper = λ f g. m.proper f (names_snoc n f s.names x g).0;
+  past = m.past;
+}
+
+pub grows_name : (n : ℕ) (s : EquationSystem) (x : ℕ) → Grows n s (with_name x s)
+grows_name n s x = record { next = omega arith; names = λ f g. (names_snoc n f s.names x g).0; back = λ φ h. (h.0, (names_snoc n (filling φ) s.names x h.1).0) }
+
+pub hole_filled : (n : ℕ) (idents : List IdentKind) (s : EquationSystem) (φ : Assign) (a : NominalType) → IsMade n idents s → Meets n φ s
+    → (ψ : Assign) × Agree s.next φ ψ × Meets n ψ (with_hole s) × (ψ s.next ≡ a)
+hole_filled n idents s φ a m h =
+    let ψ = put φ s.next a in
+    (ψ, put_agrees φ s.next a, meets_same n idents s φ ψ m (put_agrees φ s.next a) h, put_at φ s.next a)
+
+pub hole_shape : (n : ℕ) (x : ℕ) (s : EquationSystem) → x < s.next → IsShapeOf n (hole x) s
+hole_shape n x s l = record { bounded = omega arith; proper = λ f g. tt }
+
+pub opened_shape : (n : ℕ) (a : NominalType) (s : EquationSystem) → IsShapeOf n (opened a) s
+opened_shape n a s = record { bounded = bound_opened a s.next; proper = λ f g. proper_opened f a }
+
+-- A term of a shape stands where something is wanted.
+pub gathers_meet : (n : ℕ) (idents : List IdentKind) (w : Wanting) (u : TypeShape) (s : EquationSystem) → IsMade n idents s → Suits n w s → IsShapeOf n u s
+    → Gathers n idents (λ φ. want_by φ w ≡ one (closed φ u)) s (meet w u s)
+gathers_meet n idents (whole t) u s m h k =
+    gathers_map n idents (λ φ. closed φ t ≡ closed φ u) (λ φ. one (closed φ t) ≡ one (closed φ u)) s (equate t u s)
+    (λ φ f r e. ap one e) (λ φ f r e. let d : ◌≡◌ {A = Want} (one (closed φ t)) (one (closed φ u)) = e in cc) (gathers_equate n idents t u s m h k)
+gathers_meet n idents nothing u s m h k = gathers_refused n idents (λ φ. typing.nothing ≡ one (closed φ u)) s m (λ φ f e. let d : ◌≡◌ {A = Want} typing.nothing (one (closed φ u)) = e in cc)
+gathers_meet n idents (more a rest) u s m h k =
+    gathers_refused n idents (λ φ. typing.more a (arguments rest) ≡ one (closed φ u)) s m (λ φ f e. let d : ◌≡◌ {A = Want} (typing.more a (arguments rest)) (one (closed φ u)) = e in cc)
+gathers_meet n idents (cell x) u s m h k =
+    gathers_refused n idents (λ φ. typing.more (φ x) (one (types.list (φ x))) ≡ one (closed φ u)) s m
+    (λ φ f e. let d : ◌≡◌ {A = Want} (typing.more (φ x) (one (types.list (φ x)))) (one (closed φ u)) = e in cc)
+
+pub gathers_unit : (n : ℕ) (idents : List IdentKind) (w : Wanting) (s : EquationSystem) → IsMade n idents s → Suits n w s
+    → Gathers n idents (λ φ. (want_by φ w ≡ typing.nothing) ⊎ (want_by φ w ≡ one types.unit)) s (meet_unit w s)
+gathers_unit n idents nothing s m h = gathers_none n idents (λ φ. (typing.nothing ≡ typing.nothing) ⊎ (typing.nothing ≡ one types.unit)) s m (λ φ f r. inl refl)
+gathers_unit n idents (whole t) s m h =
+    gathers_map n idents (λ φ. one (closed φ t) ≡ one types.unit) (λ φ. (one (closed φ t) ≡ typing.nothing) ⊎ (one (closed φ t) ≡ one types.unit)) s (equate t unit s)
+    (λ φ f r e. inr e) (λ φ f r e. elim e [ inl d ↦ (let c : ◌≡◌ {A = Want} (one (closed φ t)) typing.nothing = d in cc) | inr d ↦ d ])
+    (gathers_meet n idents (whole t) unit s m h (record { bounded = omega arith; proper = λ f g. tt }))
+gathers_unit n idents (more a rest) s m h =
+    gathers_refused n idents (λ φ. (typing.more a (arguments rest) ≡ typing.nothing) ⊎ (typing.more a (arguments rest) ≡ one types.unit)) s m
+    (λ φ f e. elim e [
+      | inl d ↦ (let c : ◌≡◌ {A = Want} (typing.more a (arguments rest)) typing.nothing = d in cc)
+      | inr d ↦ (let c : ◌≡◌ {A = Want} (typing.more a (arguments rest)) (one types.unit) = d in cc)
+    ])
+gathers_unit n idents (cell x) s m h =
+    gathers_refused n idents (λ φ. (typing.more (φ x) (one (types.list (φ x))) ≡ typing.nothing) ⊎ (typing.more (φ x) (one (types.list (φ x))) ≡ one types.unit)) s m
+    (λ φ f e. elim e [
+      | inl d ↦ (let c : ◌≡◌ {A = Want} (typing.more (φ x) (one (types.list (φ x)))) typing.nothing = d in cc)
+      | inr d ↦ (let c : ◌≡◌ {A = Want} (typing.more (φ x) (one (types.list (φ x)))) (one types.unit) = d in cc)
+    ])
+
+pub gathers_swapped : (n : ℕ) (idents : List IdentKind) (w : Wanting) (s : EquationSystem) → IsMade n idents s
+    → Gathers n idents (λ φ. (a : NominalType) × (want_by φ w ≡ one a)) s (meet_swapped w s)
+gathers_swapped n idents (whole t) s m = gathers_none n idents (λ φ. (a : NominalType) × (one (closed φ t) ≡ one a)) s m (λ φ f r. (closed φ t, refl))
+gathers_swapped n idents nothing s m =
+    gathers_refused n idents (λ φ. (a : NominalType) × (typing.nothing ≡ one a)) s m (λ φ f e. let d : ◌≡◌ {A = Want} typing.nothing (one e.0) = e.1 in cc)
+gathers_swapped n idents (more b rest) s m =
+    gathers_refused n idents (λ φ. (a : NominalType) × (typing.more b (arguments rest) ≡ one a)) s m (λ φ f e. let d : ◌≡◌ {A = Want} (typing.more b (arguments rest)) (one e.0) = e.1 in cc)
+gathers_swapped n idents (cell x) s m =
+    gathers_refused n idents (λ φ. (a : NominalType) × (typing.more (φ x) (one (types.list (φ x))) ≡ one a)) s m
+    (λ φ f e. let d : ◌≡◌ {A = Want} (typing.more (φ x) (one (types.list (φ x)))) (one e.0) = e.1 in cc)

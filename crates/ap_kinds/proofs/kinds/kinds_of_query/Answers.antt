@@ -1,0 +1,32 @@
+-- The walk over the goal has the kinds that type it as its solutions.
+use Rattle.std.proofs.Common.{map, subst, sym}
+use Rattle.ap_defs.specs.Types.{kind_of, signature_of}
+use Rattle.ap_defs.specs.RawTerms.{raw_of}
+use Rattle.ap_defs.specs.Goals.{goal_over}
+use Rattle.ap_kinds.specs.ItemKinds.{GoalTyped}
+use Rattle.ap_kinds.specs.Systems.{EquationSystem, system_of, started}
+use Rattle.ap_kinds.specs.Reading.{name_count}
+use Rattle.ap_kinds.proofs.GoalWalks.{gathers_goal}
+use Rattle.ap_kinds.proofs.Solutions.{made_started}
+use Rattle.ap_kinds.proofs.Findings.{Walks, ok_inferred, err_refused}
+use Rattle.ap_kinds.proofs.kinds.kinds_of_query.Goals as goal
+
+pub returns-clause-ok : goal.returns-clause-ok
+returns-clause-ok c =
+    let sig = signature_of c.args.sig.now in
+    let idents = c.args.idents.now in
+    let query = goal_over raw_of c.args.goal.now in
+    let n = name_count sig in
+    ok_inferred c.settle.result (λ ks. map kind_of ks.items) sig idents (GoalTyped sig query) (system_of c.in_ok-system.system)
+    (subst (λ (s : EquationSystem). Walks sig idents (GoalTyped sig query) s) (sym c.in_ok-system.ensures) (gathers_goal n sig idents query (started idents) (made_started n idents)))
+    c.settle.ensures.ok
+
+pub returns-clause-err : goal.returns-clause-err
+returns-clause-err c =
+    let sig = signature_of c.args.sig.now in
+    let idents = c.args.idents.now in
+    let query = goal_over raw_of c.args.goal.now in
+    let n = name_count sig in
+    err_refused c.settle.result sig idents (GoalTyped sig query) (system_of c.in_ok-system.system)
+    (subst (λ (s : EquationSystem). Walks sig idents (GoalTyped sig query) s) (sym c.in_ok-system.ensures) (gathers_goal n sig idents query (started idents) (made_started n idents)))
+    c.settle.ensures.err

@@ -1,0 +1,6 @@
+pub mod Sorts
+pub mod ItemKinds
+pub mod Reading
+pub mod Systems
+pub mod Gathering
+pub mod Views

@@ -1,0 +1,64 @@
+-- Systems of type equations, as they grow.
+use Rattle.std.specs.Prelude.{ℕ, ◌+◌, List, [], ◌∷◌, ◌++◌, map, slice_index_or, Bool, true, false, length}
+use Rattle.ap_defs.specs.Types.{NominalType, TypeShape, hole, unit, names, base, pair, list, abs}
+use Rattle.ap_defs.specs.Types as types
+use Rattle.ap_types.specs.Equations.{ShapeEquation, ◌≐◌, equation_of}
+use Rattle.ap_kinds.specs.declared.kinds.IdentKind.{IdentKind}
+use Rattle.ap_kinds.specs.declared.kinds.IdentKind.TheVariants as classes
+use Rattle.ap_kinds.specs.declared.systems.System.{System}
+
+-- Equations, the holes that must be name types, and the number of the next hole.
+pub record EquationSystem : Type 0 where
+  pub equations : List ShapeEquation
+  pub names : List ℕ
+  pub next : ℕ
+
+abbrev pub system_of : System → EquationSystem
+system_of s = record { equations = map equation_of s.equations.items; names = s.names.items; next = s.next }
+
+abbrev pub equate : TypeShape → TypeShape → EquationSystem → EquationSystem
+equate t u s = record { equations = s.equations ++ (t ≐ u) ∷ []; names = s.names; next = s.next }
+
+abbrev pub with_name : ℕ → EquationSystem → EquationSystem
+with_name x s = record { equations = s.equations; names = s.names ++ x ∷ []; next = s.next }
+
+abbrev pub with_hole : EquationSystem → EquationSystem
+with_hole s = record { equations = s.equations; names = s.names; next = s.next + 1 }
+
+-- nothing solves it
+abbrev pub refused : EquationSystem → EquationSystem
+refused s = equate unit (names 0) s
+
+-- a type as a shape without holes
+abbrev pub opened : NominalType → TypeShape
+opened types.unit = unit
+opened (types.names s) = names s
+opened (types.base d) = base d
+opened (types.pair t u) = pair (opened t) (opened u)
+opened (types.list t) = list (opened t)
+opened (types.abs s t) = abs (names s) (opened t)
+
+abbrev pub is_name : IdentKind → Bool
+is_name classes.Name = true
+is_name classes.Var = false
+
+abbrev pub is_var : IdentKind → Bool
+is_var classes.Name = false
+is_var classes.Var = true
+
+-- whether the number is that of an identifier that is a name, or a variable
+abbrev pub is_name_at : List IdentKind → ℕ → Bool
+is_name_at idents n = is_name (slice_index_or idents n classes.Var)
+
+abbrev pub is_var_at : List IdentKind → ℕ → Bool
+is_var_at idents n = is_var (slice_index_or idents n classes.Name)
+
+-- the holes of the identifiers that are names, from number i on
+abbrev pub name_holes : ℕ → List IdentKind → List ℕ
+name_holes i [] = []
+name_holes i (classes.Name ∷ cs) = i ∷ name_holes (i + 1) cs
+name_holes i (classes.Var ∷ cs) = name_holes (i + 1) cs
+
+-- the hole i is the type of the identifier i
+abbrev pub started : List IdentKind → EquationSystem
+started idents = record { equations = []; names = name_holes 0 idents; next = length idents }

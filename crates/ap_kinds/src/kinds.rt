@@ -1,0 +1,140 @@
+//! The kinds of an item's identifiers.
+
+ghost use Rattle.std.specs.Prelude.{◌≡◌, length, map, IfOk, IfErr};
+ghost use Rattle.ap_defs.specs.Types.{shape_of, kind_of, signature_of};
+ghost use Rattle.ap_defs.specs.RawTerms.{raw_of};
+ghost use Rattle.ap_defs.specs.Goals.{goal_over};
+ghost use Rattle.ap_types.specs.Assignments.{IsUnsolvable};
+ghost use Rattle.ap_kinds.specs.ItemKinds.{TypesQuery, TypesClause, IsInferred, IsRefused};
+ghost use Rattle.ap_kinds.specs.Systems.{system_of, started};
+ghost use Rattle.ap_kinds.specs.Gathering.{gather_goal, gather_atom};
+ghost use Rattle.ap_kinds.specs.Reading.{name_count, IsSolved, IsFound, IsNotFound};
+
+use crate::errors::KindsError;
+use crate::goals::{gather_atom, gather_goal};
+use crate::reading::read_inhabited;
+use crate::systems::{System, started};
+use ap_defs::goals::{Goal, Kind, Signature};
+use ap_defs::lists::List;
+use ap_defs::memory::Memory;
+use ap_defs::terms::{Raw, Shape};
+use ap_types::equations::solve;
+use ap_types::errors::TypesError;
+use std::alloc::Global;
+
+/// Whether an identifier is a name or a variable.
+#[derive(Clone, Copy, Debug)]
+pub enum IdentKind {
+    Name,
+    Var,
+}
+
+/// The most general shapes of the holes of a system. No sort is above the greatest `u32`, so more name
+/// types than that count as want of memory.
+fn shapes_of_holes(
+    alloc: Global,
+    sig: &Signature,
+    system: &System,
+) -> Result<Vec<Shape>, TypesError>
+    ensures ok { IfOk result (λ v. IsSolved (name_count (signature_of sig.now)) (system_of system.now) (map shape_of v.items)) }
+    ensures clash { IfErr result (λ e. e ≡ TypesError.Clash → IsUnsolvable (system_of system.now).equations (system_of system.now).names (name_count (signature_of sig.now))) }
+{
+    let name_types = sig.name_types.items().len();
+    if name_types > u32::MAX as usize {
+        return Err(TypesError::Memory);
+    }
+    let equations = system.equations.as_slice();
+    let names = system.names.as_slice();
+    let assignment = solve(alloc, equations, names, name_types as u32)?;
+    Ok(assignment.holes.into_vec())
+}
+
+/// The kinds of identifiers, by the solution of their system.
+fn settle(
+    alloc: Global,
+    sig: &Signature,
+    idents: &[IdentKind],
+    system: &System,
+) -> Result<Vec<Kind>, KindsError>
+    ensures ok { IfOk result (λ ks. IsFound (signature_of sig.now) idents.now (system_of system.now) (map kind_of ks.items)) }
+    ensures err { IfErr result (λ e. IsNotFound e (signature_of sig.now) idents.now (system_of system.now)) }
+{
+    match shapes_of_holes(alloc, sig, system) {
+        Ok(holes) => read_inhabited(alloc, sig, idents, holes.as_slice()),
+        Err(TypesError::Clash) => Err(KindsError::Clash),
+        Err(TypesError::Memory) => Err(KindsError::Memory),
+    }
+}
+
+/// The system of a query.
+fn system_of_query(
+    alloc: Global,
+    sig: &Signature,
+    goal: &Goal<Raw>,
+    idents: &[IdentKind],
+) -> Result<System, Memory>
+    ensures { IfOk result (λ s. system_of s ≡ gather_goal (signature_of sig.now) idents.now (goal_over raw_of goal.now) (started idents.now)) }
+{
+    let system = started(alloc, idents)?;
+    gather_goal(alloc, sig, idents, goal, system)
+}
+
+/// The system of a clause.
+fn system_of_clause(
+    alloc: Global,
+    sig: &Signature,
+    pred: u32,
+    args: &List<Raw>,
+    body: &Goal<Raw>,
+    idents: &[IdentKind],
+) -> Result<System, Memory>
+    ensures { IfOk result (λ s. system_of s ≡ gather_goal (signature_of sig.now) idents.now (goal_over raw_of body.now) (gather_atom (signature_of sig.now) idents.now pred (map raw_of args.now) (started idents.now))) }
+{
+    let system = started(alloc, idents)?;
+    let system = gather_atom(alloc, sig, idents, pred, args.items(), system)?;
+    gather_goal(alloc, sig, idents, body, system)
+}
+
+/// The only kinds of its identifiers that type a query.
+///
+/// Kinds type it where each identifier has one, of a name or of a variable as it is one and of a type
+/// that is declared, and the goal is typed by them, its names having the sorts of their kinds; the
+/// sorts that stand in the goal are not looked at. The types are those of αProlog, after Cheney and
+/// Urban, Nominal Logic Programming, and are inferred after Damas and Milner, Principal type-schemes
+/// for functional programs, without schemes.
+///
+/// `Clash`: no kinds type it, as where a number is that of no identifier, or a constructor or predicate
+/// is not declared or has other arguments than declared. `Ambiguous`: more than one list of kinds does.
+/// `Empty`: exactly one does, and gives a variable a type that is not inhabited. `Memory` is want of
+/// memory.
+pub fn kinds_of_query(
+    alloc: Global,
+    sig: &Signature,
+    goal: &Goal<Raw>,
+    idents: &[IdentKind],
+) -> Result<Vec<Kind>, KindsError>
+    ensures ok { IfOk result (λ ks. IsInferred (signature_of sig.now).constructors (TypesQuery (signature_of sig.now) idents.now (goal_over raw_of goal.now)) (map kind_of ks.items)) }
+    ensures err { IfErr result (λ e. IsRefused e (signature_of sig.now).constructors (TypesQuery (signature_of sig.now) idents.now (goal_over raw_of goal.now))) }
+{
+    let system = system_of_query(alloc, sig, goal, idents)?;
+    settle(alloc, sig, idents, &system)
+}
+
+/// The only kinds of its identifiers that type a clause of a predicate, by its head's arguments and its
+/// body.
+///
+/// As `kinds_of_query`; besides, the arguments have the types that the predicate is declared with.
+pub fn kinds_of_clause(
+    alloc: Global,
+    sig: &Signature,
+    pred: u32,
+    args: &List<Raw>,
+    body: &Goal<Raw>,
+    idents: &[IdentKind],
+) -> Result<Vec<Kind>, KindsError>
+    ensures ok { IfOk result (λ ks. IsInferred (signature_of sig.now).constructors (TypesClause (signature_of sig.now) idents.now pred (map raw_of args.now) (goal_over raw_of body.now)) (map kind_of ks.items)) }
+    ensures err { IfErr result (λ e. IsRefused e (signature_of sig.now).constructors (TypesClause (signature_of sig.now) idents.now pred (map raw_of args.now) (goal_over raw_of body.now))) }
+{
+    let system = system_of_clause(alloc, sig, pred, args, body, idents)?;
+    settle(alloc, sig, idents, &system)
+}

@@ -1,0 +1,19 @@
+//! The types of one item: the kinds of its identifiers.
+//!
+//! An item is walked once, with the type that is wanted at each place, and its type equations are
+//! solved. `specs/ItemKinds.antt` says which kinds type an item and what is found of them.
+#![tactic(auto)]
+
+mod errors;
+mod goals;
+mod kinds;
+mod reading;
+mod sorts;
+mod systems;
+mod terms;
+#[cfg(test)]
+mod tests;
+
+pub use errors::KindsError;
+pub use kinds::{IdentKind, kinds_of_clause, kinds_of_query};
+pub use sorts::{goal_with_sorts, terms_with_sorts};

@@ -1,0 +1,211 @@
+//! Kinds that are read off the shapes of holes.
+
+ghost use Rattle.std.specs.Prelude.{◌≡◌, ◌↔◌, ℕ, List as list, length, map, true, false, IfOk, IfErr, IsTrue};
+ghost use Rattle.ap_defs.specs.Types.{NominalConstructor, shape_of, type_of, kind_of, signature_of};
+ghost use Rattle.ap_types.specs.Inhabited.{IsInhabited};
+ghost use Rattle.ap_types.specs.Solving.{shape_at};
+ghost use Rattle.ap_program.specs.Typed.{AreInhabited};
+ghost use Rattle.ap_kinds.specs.Reading.{is_declared, is_sort, is_closed, sort_in_shape, read_type, read_kind, read_kinds, AllDeclared, SomeUndeclared, AllClosed, SomeOpen, IsRead, IsUnread};
+
+use crate::errors::KindsError;
+use crate::kinds::IdentKind;
+use ap_defs::copies::copy_type;
+use ap_defs::goals::{Kind, Signature};
+use ap_defs::memory::Memory;
+use ap_defs::terms::{Shape, Ty};
+use ap_types::answers::inhabited;
+use std::alloc::Global;
+
+/// Whether a shape's name types and data types are declared, of which there are so many.
+fn is_declared(name_types: usize, data_types: usize, t: &Shape) -> bool
+    ensures { result ≡ is_declared name_types data_types (shape_of t.now) }
+{
+    match t {
+        Shape::Hole(_) | Shape::Unit => true,
+        Shape::Names(sort) => (*sort as usize) < name_types,
+        Shape::Base(data) => (*data as usize) < data_types,
+        Shape::Pair(left, right) | Shape::Abs(left, right) => {
+            is_declared(name_types, data_types, left) && is_declared(name_types, data_types, right)
+        }
+        Shape::List(element) => is_declared(name_types, data_types, element),
+    }
+}
+
+/// Whether a shape is a name type.
+fn is_sort(t: &Shape) -> bool
+    ensures { result ≡ is_sort (shape_of t.now) }
+{
+    match t {
+        Shape::Names(_) => true,
+        _ => false,
+    }
+}
+
+/// Whether a shape has no hole, and only name types to the left in abstractions.
+fn is_closed(t: &Shape) -> bool
+    ensures { result ≡ is_closed (shape_of t.now) }
+{
+    match t {
+        Shape::Hole(_) => false,
+        Shape::Unit | Shape::Names(_) | Shape::Base(_) => true,
+        Shape::Pair(left, right) => is_closed(left) && is_closed(right),
+        Shape::List(element) => is_closed(element),
+        Shape::Abs(left, body) => is_sort(left) && is_closed(body),
+    }
+}
+
+/// Whether the shape of a hole is declared.
+fn is_declared_at(name_types: usize, data_types: usize, holes: &[Shape], x: usize) -> bool
+    ensures { result ≡ is_declared name_types data_types (shape_at (map shape_of holes.now) x) }
+{
+    x >= holes.len() || is_declared(name_types, data_types, &holes[x])
+}
+
+/// Whether the shape of a hole is closed.
+fn is_closed_at(holes: &[Shape], x: usize) -> bool
+    ensures { result ≡ is_closed (shape_at (map shape_of holes.now) x) }
+{
+    x < holes.len() && is_closed(&holes[x])
+}
+
+/// Whether the shapes of the holes below a number are declared.
+fn are_declared(name_types: usize, data_types: usize, holes: &[Shape], count: usize) -> bool
+    ensures all { result ≡ true → AllDeclared name_types data_types count (map shape_of holes.now) }
+    ensures some { result ≡ false → SomeUndeclared name_types data_types count (map shape_of holes.now) }
+{
+    for x in 0..count {
+        if !is_declared_at(name_types, data_types, holes, x) {
+            return false;
+        }
+    }
+    true
+}
+
+/// Whether the shapes of the holes below a number are closed.
+fn are_closed(holes: &[Shape], count: usize) -> bool
+    ensures all { result ≡ true → AllClosed count (map shape_of holes.now) }
+    ensures some { result ≡ false → SomeOpen count (map shape_of holes.now) }
+{
+    for x in 0..count {
+        if !is_closed_at(holes, x) {
+            return false;
+        }
+    }
+    true
+}
+
+/// The sort of a shape that is a name type.
+fn sort_in_shape(t: &Shape) -> u32
+    ensures { result ≡ sort_in_shape (shape_of t.now) }
+{
+    match t {
+        Shape::Names(sort) => *sort,
+        _ => 0,
+    }
+}
+
+/// The type that a closed shape is.
+fn read_type(alloc: Global, t: &Shape) -> Result<Ty, Memory>
+    ensures { IfOk result (λ u. type_of u ≡ read_type (shape_of t.now)) }
+{
+    match t {
+        Shape::Hole(_) | Shape::Unit => Ok(Ty::Unit),
+        Shape::Names(sort) => Ok(Ty::Names(*sort)),
+        Shape::Base(data) => Ok(Ty::Base(*data)),
+        Shape::Pair(left, right) => {
+            let left = Box::new(alloc, read_type(alloc, left)?)?;
+            let right = Box::new(alloc, read_type(alloc, right)?)?;
+            Ok(Ty::Pair(left, right))
+        }
+        Shape::List(element) => {
+            let element = Box::new(alloc, read_type(alloc, element)?)?;
+            Ok(Ty::List(element))
+        }
+        Shape::Abs(left, body) => {
+            let body = Box::new(alloc, read_type(alloc, body)?)?;
+            Ok(Ty::Abs(sort_in_shape(left), body))
+        }
+    }
+}
+
+/// The kind of an identifier whose hole has a shape.
+fn read_kind(alloc: Global, ident: IdentKind, t: &Shape) -> Result<Kind, Memory>
+    ensures { IfOk result (λ k. kind_of k ≡ read_kind ident (shape_of t.now)) }
+{
+    match ident {
+        IdentKind::Name => Ok(Kind::Name(sort_in_shape(t))),
+        IdentKind::Var => Ok(Kind::Var(read_type(alloc, t)?)),
+    }
+}
+
+/// The kind of an identifier, by the shapes of the holes.
+fn read_kind_at(alloc: Global, ident: IdentKind, holes: &[Shape], x: usize) -> Result<Kind, Memory>
+    ensures { IfOk result (λ k. kind_of k ≡ read_kind ident (shape_at (map shape_of holes.now) x)) }
+{
+    if x < holes.len() {
+        read_kind(alloc, ident, &holes[x])
+    } else {
+        read_kind(alloc, ident, &Shape::Hole(x as u64))
+    }
+}
+
+/// The kinds of identifiers, by the shapes of the holes.
+fn read_kinds(alloc: Global, idents: &[IdentKind], holes: &[Shape]) -> Result<Vec<Kind>, Memory>
+    ensures { IfOk result (λ ks. map kind_of ks.items ≡ read_kinds (map shape_of holes.now) 0 idents.now) }
+{
+    let mut kinds = Vec::new(alloc);
+    for (i, ident) in idents.iter().enumerate() {
+        kinds.push(read_kind_at(alloc, *ident, holes, i)?)?;
+    }
+    Ok(kinds)
+}
+
+/// A type that is inhabited where the type of each variable is: their tuple, of little depth.
+fn tuple_of_types(alloc: Global, kinds: &[Kind]) -> Result<Ty, Memory>
+    ensures { IfOk result (λ t. (cs : list NominalConstructor) → IsInhabited cs (type_of t) ↔ AreInhabited cs (map kind_of kinds.now)) }
+{
+    match kinds {
+        [] | [Kind::Name(_)] => Ok(Ty::Unit),
+        [Kind::Var(t)] => copy_type(alloc, t),
+        _ => {
+            let (left, right) = kinds.split_at(kinds.len() / 2);
+            let left = Box::new(alloc, tuple_of_types(alloc, left)?)?;
+            let right = Box::new(alloc, tuple_of_types(alloc, right)?)?;
+            Ok(Ty::Pair(left, right))
+        }
+    }
+}
+
+/// Whether the type of each variable is inhabited.
+fn are_inhabited(alloc: Global, sig: &Signature, kinds: &[Kind]) -> Result<bool, Memory>
+    ensures { IfOk result (λ b. IsTrue b ↔ AreInhabited (signature_of sig.now).constructors (map kind_of kinds.now)) }
+{
+    let tuple = tuple_of_types(alloc, kinds)?;
+    inhabited(alloc, sig, &tuple)
+}
+
+/// The kinds of identifiers whose types are inhabited, by the shapes of the holes.
+pub(crate) fn read_inhabited(
+    alloc: Global,
+    sig: &Signature,
+    idents: &[IdentKind],
+    holes: &[Shape],
+) -> Result<Vec<Kind>, KindsError>
+    ensures read { IfOk result (λ ks. IsRead (signature_of sig.now) idents.now (map shape_of holes.now) (map kind_of ks.items)) }
+    ensures inhabited { IfOk result (λ ks. AreInhabited (signature_of sig.now).constructors (map kind_of ks.items)) }
+    ensures unread { IfErr result (λ e. IsUnread e (signature_of sig.now) idents.now (map shape_of holes.now)) }
+{
+    let name_types = sig.name_types.items().len();
+    let data_types = sig.data_types.items().len();
+    if !are_declared(name_types, data_types, holes, idents.len()) {
+        return Err(KindsError::Clash);
+    }
+    if !are_closed(holes, idents.len()) {
+        return Err(KindsError::Ambiguous);
+    }
+    let kinds = read_kinds(alloc, idents, holes)?;
+    if !are_inhabited(alloc, sig, kinds.as_slice())? {
+        return Err(KindsError::Empty);
+    }
+    Ok(kinds)
+}
