@@ -4,3 +4,6 @@ pub mod Sorted
 pub mod TypedPrograms
 pub mod Counting
 pub mod Uniqueness
+pub mod Tables
+pub mod Refusals
+pub mod Steps

@@ -134,6 +134,10 @@ same_length (classes.Var ∷ cs) (types.name s ∷ ks) h = absurd h
 pub as_many : (found : Found) (ks : List NominalKind) → AreOfClasses (classes_of found) ks → length found ≡ length ks
 as_many found ks h = sym (length-map found (λ i. class_of i.spelling)) ∙ same_length (classes_of found) ks h
 
+pub with_kinds_none : (found : Found) → with_kinds found [] ≡ []
+with_kinds_none [] = refl
+with_kinds_none (i ∷ is) = refl
+
 pub kinds_back : (found : Found) (ks : List NominalKind) → length found ≡ length ks → kinds_of (with_kinds found ks) ≡ ks
 kinds_back [] [] e = refl
 kinds_back [] (k ∷ ks) e = absurd (omega arith)

@@ -35,8 +35,8 @@ clause_typed d n line w args body c h =
     let rest = body-done d body between in
     let typed : IsTypedClause raw_form d.signature made.pred made =
         (refl,
-        (subst (λ k. AreArguments (HasRawType cs k) made.args (predicate_at d.signature.predicates made.pred)) back types.2,
-        subst (λ k. IsTypedGoal (HasRawType cs k) d.signature.predicates k made.body) back types.3),
+        (subst (λ k. AreArguments (HasRawType cs k) made.args (predicate_at d.signature.predicates made.pred)) back types.2.0,
+        subst (λ k. IsTypedGoal (HasRawType cs k) d.signature.predicates k made.body) back types.2.1),
         subst (AreInhabited cs) back inhabited,
         scoped (length between) r.1 ks long r.0.0 r.0.1
             (each_in-on (IsKnown [] between) (IsKnown [] r.1) (grows_known [] between r.1 rest.grows) r.0.0 heads.each_known) rest.known rest.ascends rest.bound) in

@@ -31,32 +31,38 @@ classes_of found = map (λ i. class_of i.spelling) found
 abbrev pub predicate_of : Declared → List ℕ → ℕ
 predicate_of d w = predicate_number (predicate_place d w)
 
--- Which lists of kinds, one for each identifier, type a clause or a query.
+-- Which lists of kinds, one for each identifier, type a resolved clause or query.
+abbrev pub TypesParts : Declared → ℕ → (List RawTerm × GoalOver RawTerm) × Found → List NominalKind → Type 0
+TypesParts d pred r ks = TypesClause d.signature (classes_of r.1) pred r.0.0 r.0.1 ks
+
+abbrev pub TypesGoalParts : Declared → GoalOver RawTerm × Found → List NominalKind → Type 0
+TypesGoalParts d r ks = TypesQuery d.signature (classes_of r.1) r.0 ks
+
 abbrev pub TypesClauseOf : Declared → List ℕ → List Term → Option Goal → List NominalKind → Type 0
-TypesClauseOf d w args body ks = let r = resolved_clause d args body in
-    TypesClause d.signature (classes_of r.1) (predicate_of d w) r.0.0 r.0.1 ks
+TypesClauseOf d w args body ks = TypesParts d (predicate_of d w) (resolved_clause d args body) ks
 
 abbrev pub TypesQueryOf : Declared → Goal → List NominalKind → Type 0
-TypesQueryOf d g ks = let r = resolved_query d g in TypesQuery d.signature (classes_of r.1) r.0 ks
+TypesQueryOf d g ks = TypesGoalParts d (resolved_query d g) ks
 
 -- Item n as a clause or query with kinds for its identifiers; names have the sorts of their kinds.
-abbrev pub clause_with : Declared → ℕ → ℕ → List ℕ → List Term → Option Goal → List NominalKind → ClauseOver RawTerm
-clause_with d n line w args body ks = let r = resolved_clause d args body in record {
+abbrev pub clause_with_kinds : ℕ → ℕ → ℕ → (List RawTerm × GoalOver RawTerm) × Found → List NominalKind → ClauseOver RawTerm
+clause_with_kinds n line pred r ks = record {
   item = n;
   line = line;
-  pred = predicate_of d w;
+  pred = pred;
   args = terms_with_sorts ks r.0.0;
   body = goal_with_sorts ks r.0.1;
   locals = with_kinds r.1 ks;
 }
 
+abbrev pub query_with_kinds : ℕ → ℕ → GoalOver RawTerm × Found → List NominalKind → QueryOver RawTerm
+query_with_kinds n line r ks = record { item = n; line = line; goal = goal_with_sorts ks r.0; locals = with_kinds r.1 ks }
+
+abbrev pub clause_with : Declared → ℕ → ℕ → List ℕ → List Term → Option Goal → List NominalKind → ClauseOver RawTerm
+clause_with d n line w args body ks = clause_with_kinds n line (predicate_of d w) (resolved_clause d args body) ks
+
 abbrev pub query_with : Declared → ℕ → ℕ → Goal → List NominalKind → QueryOver RawTerm
-query_with d n line g ks = let r = resolved_query d g in record {
-  item = n;
-  line = line;
-  goal = goal_with_sorts ks r.0;
-  locals = with_kinds r.1 ks;
-}
+query_with d n line g ks = query_with_kinds n line (resolved_query d g) ks
 
 -- Exactly one list of kinds types it, this one, and by it each variable's type is inhabited.
 abbrev pub IsClauseOf : Declared → ℕ → ℕ → List ℕ → List Term → Option Goal → ClauseOver RawTerm → Type 0

@@ -1,8 +1,11 @@
 -- The state of the code, without where it lies in memory.
 use Rattle.std.specs.Prelude.{◌≡◌, ◌+◌, ◌≤◌, ℕ, List, [], map, length}
-use Rattle.ap_defs.specs.RawTerms.{raw_of}
-use Rattle.ap_defs.specs.Goals.{clause_over, query_over}
-use Rattle.ap_scopes.specs.Views.{declared_of, IsIndexed}
+use Rattle.ap_defs.specs.RawTerms.{RawTerm, raw_of}
+use Rattle.ap_defs.specs.Goals.{GoalOver, goal_over, clause_over, query_over}
+use Rattle.ap_scopes.specs.Views.{declared_of, identifier_of, IsIndexed}
+use Rattle.ap_scopes.specs.Identifiers.{Found}
+use Rattle.ap_typecheck.specs.declared.typing.ClauseParts.{ClauseParts}
+use Rattle.ap_typecheck.specs.declared.typing.QueryParts.{QueryParts}
 use Rattle.ap_program.specs.NameRestriction.{item_count}
 use Rattle.ap_typecheck.specs.declared.state.State.{State}
 use Rattle.ap_typecheck.specs.Declaring.{Made, program_of}
@@ -33,6 +36,12 @@ pub record IsKept (s : State) : Type 0 where
   pub indexed : IsIndexed s.declared
   pub listed : length s.clauses.items ≡ length s.declared.signature.predicates
 
+abbrev pub clause_parts_of : ClauseParts → (List RawTerm × GoalOver RawTerm) × Found
+clause_parts_of r = ((map raw_of r.args, goal_over raw_of r.body), map identifier_of r.found.items)
+
+abbrev pub query_parts_of : QueryParts → GoalOver RawTerm × Found
+query_parts_of r = (goal_over raw_of r.goal, map identifier_of r.found.items)
+
 abbrev pub refusal_of : KindsError → Refusal
 refusal_of kinds.Clash = refusals.Kind 4
 refusal_of kinds.Ambiguous = refusals.Kind 5
@@ -53,3 +62,7 @@ IsRefusedItem refusals.Memory d saying = Unit {0}
 abbrev pub IsRefusedText : TypeError → List ItemOf → Type 0
 IsRefusedText (errors.Fault f) is = IsFirstFault is f
 IsRefusedText errors.Memory is = Unit {0}
+
+abbrev pub text_error : Refusal → ℕ → ℕ → TypeError
+text_error (refusals.Kind k) n line = errors.Fault (record { item = n; line = line; kind = k })
+text_error refusals.Memory n line = errors.Memory

@@ -7,6 +7,7 @@ ghost use Rattle.ap_program.specs.Typed.{IsTypedRawProgram};
 ghost use Rattle.ap_program.specs.NameRestriction.{item_count, most_items};
 ghost use Rattle.ap_typecheck.specs.Checking.{MakesAll, IsProgramOf};
 ghost use Rattle.ap_typecheck.specs.Declaring.{nothing_made};
+ghost use Rattle.ap_typecheck.specs.Views as spec;
 ghost use Rattle.ap_typecheck.specs.Views.{IsRefusedText, made_of};
 
 use crate::error::{Refusal, TypeError, TypeFault};
@@ -19,6 +20,16 @@ use ap_scopes::text_words::words_of;
 use ap_trees::Item;
 use std::alloc::Global;
 
+/// Why a text has no typed program, where this item makes nothing.
+fn text_error(refusal: Refusal, item: u32, line: u64) -> TypeError
+    ensures { result ≡ spec.text_error refusal item line }
+{
+    match refusal {
+        Refusal::Kind(kind) => TypeError::Fault(TypeFault { item, line, kind }),
+        Refusal::Memory => TypeError::Memory,
+    }
+}
+
 /// What the items make, or the first fault.
 fn check_items<'a>(alloc: Global, items: &[Item<'a>]) -> Result<State<'a>, TypeError>
     requires { length items.now ≤ 16777216 }
@@ -30,14 +41,7 @@ fn check_items<'a>(alloc: Global, items: &[Item<'a>]) -> Result<State<'a>, TypeE
         let number = place as u32 + 1;
         match check_item(alloc, &mut state, (number, item.line), &item.form) {
             Ok(()) => {}
-            Err(Refusal::Memory) => return Err(TypeError::Memory),
-            Err(Refusal::Kind(kind)) => {
-                return Err(TypeError::Fault(TypeFault {
-                    item: number,
-                    line: item.line,
-                    kind,
-                }));
-            }
+            Err(refusal) => return Err(text_error(refusal, number, item.line)),
         }
     }
     Ok(state)

@@ -47,7 +47,8 @@ pub fn declare_name_type<'a>(
 {
     let text = text_of(alloc, word)?;
     push(alloc, &mut state.declared.signature.name_types, text)?;
-    state.declared.name_types.add(word)
+    state.declared.name_types.add(word)?;
+    Ok(())
 }
 
 /// A data type is declared.
@@ -63,7 +64,8 @@ pub fn declare_data_type<'a>(
 {
     let text = text_of(alloc, word)?;
     push(alloc, &mut state.declared.signature.data_types, text)?;
-    state.declared.data_types.add(word)
+    state.declared.data_types.add(word)?;
+    Ok(())
 }
 
 /// The number of the data type that a word stands for.
@@ -96,7 +98,8 @@ pub fn declare_constructor<'a>(
         result: data_number(state.declared.type_named(data_type)),
     };
     push(alloc, &mut state.declared.signature.constructors, constructor)?;
-    state.declared.constructors.add(word)
+    state.declared.constructors.add(word)?;
+    Ok(())
 }
 
 /// A predicate is declared. It has no clauses yet.

@@ -9,8 +9,12 @@ mod declaring;
 mod error;
 mod items;
 pub mod laws;
+mod locals;
 mod state;
 mod typing;
 
 pub use checking::check;
 pub use error::{AMBIGUOUS, EMPTY, TypeError, TypeFault};
+
+#[cfg(test)]
+mod tests;

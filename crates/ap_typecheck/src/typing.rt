@@ -2,88 +2,154 @@
 ghost use Rattle.std.specs.Prelude.{◌≡◌, IfOk, IfErr, map};
 ghost use Rattle.std.specs.Option.{option_map};
 ghost use Rattle.ap_defs.specs.RawTerms.{raw_of};
-ghost use Rattle.ap_defs.specs.Types.{kind_of, local_of, locals_of};
+ghost use Rattle.ap_defs.specs.Types.{signature_of, kind_of};
 ghost use Rattle.ap_defs.specs.Goals.{clause_over, query_over};
-ghost use Rattle.ap_trees.specs.Trees.{goal_of, trees_of, name_of};
-ghost use Rattle.ap_scopes.specs.Views.{declared_of, identifier_of, IsIndexed, IsSmall};
+ghost use Rattle.ap_trees.specs.Trees.{goal_of, trees_of};
+ghost use Rattle.ap_kinds.specs.ItemKinds.{IsInferred};
+ghost use Rattle.ap_scopes.specs.Resolution.{resolved_clause, resolved_query};
+ghost use Rattle.ap_scopes.specs.Views.{declared_of, IsIndexed, IsSmall};
 ghost use Rattle.ap_typecheck.specs.Checking as spec;
-ghost use Rattle.ap_typecheck.specs.Declaring as made;
-ghost use Rattle.ap_typecheck.specs.Checking.{IsClauseOf, IsQueryOf};
-ghost use Rattle.ap_typecheck.specs.Views.{IsRefusedBy};
+ghost use Rattle.ap_typecheck.specs.Checking.{IsClauseOf, IsQueryOf, TypesParts, TypesGoalParts};
+ghost use Rattle.ap_typecheck.specs.Views.{IsRefusedBy, clause_parts_of, query_parts_of};
 
 use crate::error::{Refusal, refusal_of_kinds};
-use ap_defs::copies::copy_kind;
-use ap_defs::goals::{Clause, Kind, Local, Query};
-use ap_defs::lists::{List, Text};
+use crate::locals::{classes_of, with_kinds};
+use ap_defs::goals::{Clause, Goal, Kind, Query};
+use ap_defs::lists::List;
 use ap_defs::memory::Memory;
 use ap_defs::terms::Raw;
-use ap_kinds::{
-    IdentKind, goal_with_sorts, kinds_of_clause, kinds_of_query, terms_with_sorts,
-};
+use ap_kinds::{goal_with_sorts, kinds_of_clause, kinds_of_query, terms_with_sorts};
 use ap_scopes::declarations::Declarations;
 use ap_scopes::goals::{predicate_number, resolved_body, resolved_goal};
 use ap_scopes::identifiers::{Brought, Identifier, Identifiers};
 use ap_scopes::terms::resolved_terms;
-use ap_trees::{Binder, GoalTree, Tree};
+use ap_trees::{GoalTree, Tree};
 use std::alloc::Global;
 
-/// Whether it is a name or a variable.
-fn class_of(spelling: Binder<'_>) -> IdentKind
-    ensures { result ≡ spec.class_of (name_of spelling.entry) }
-{
-    match spelling {
-        Binder::Word(_) => IdentKind::Name,
-        Binder::Var(_) => IdentKind::Var,
-    }
+/// A clause's head and body with numbers for their words, and the identifiers.
+#[derive(Drop)]
+pub struct ClauseParts<'a> {
+    pub args: List<Raw>,
+    pub body: Goal<Raw>,
+    pub found: Vec<Identifier<'a>>,
 }
 
-/// Which identifiers are names, and which are variables.
-fn classes_of(alloc: Global, found: &[Identifier<'_>]) -> Result<Vec<IdentKind>, Memory>
-    ensures { IfOk result (λ v. v.items ≡ spec.classes_of (map identifier_of found.now)) }
-{
-    let mut classes = Vec::new(alloc);
-    for identifier in found {
-        classes.push(class_of(identifier.spelling))?;
-    }
-    Ok(classes)
+/// A query's goal with numbers for its words, and the identifiers.
+#[derive(Drop)]
+pub struct QueryParts<'a> {
+    pub goal: Goal<Raw>,
+    pub found: Vec<Identifier<'a>>,
 }
 
-/// An identifier with its kind.
-fn local(alloc: Global, identifier: &Identifier<'_>, kind: &Kind) -> Result<Local, Memory>
-    ensures { IfOk result (λ l. local_of l ≡ made.with_kind (identifier_of identifier.now) (kind_of kind.now)) }
+#[tactic(auto, using(ap_scopes::proofs::Orders::in_order_is))]
+fn clause_parts<'a>(
+    alloc: Global,
+    declared: &Declarations<'_>,
+    args: &[Tree<'a>],
+    body: &Option<GoalTree<'a>>,
+) -> Result<ClauseParts<'a>, Memory>
+    requires indexed { IsIndexed declared.now }
+    requires small { IsSmall declared.now }
+    ensures { IfOk result (λ r. clause_parts_of r ≡ resolved_clause (declared_of declared.now) (trees_of args.now) (option_map goal_of body.now)) }
 {
-    let word = match identifier.spelling {
-        Binder::Word(word) => word,
-        Binder::Var(word) => word,
-    };
-    Ok(Local {
-        kind: copy_kind(alloc, kind)?,
-        bound: identifier.bound,
-        text: Text::of(String::from_str(alloc, word)?),
+    let mut found = Identifiers::new(alloc);
+    let args = resolved_terms(alloc, declared, &Brought::Nothing, args, &mut found)?;
+    let body = resolved_body(alloc, declared, body, &mut found)?;
+    Ok(ClauseParts {
+        args,
+        body,
+        found: found.into_found(),
     })
 }
 
-/// Identifiers with their kinds.
-fn with_kinds(
+fn query_parts<'a>(
     alloc: Global,
-    found: &[Identifier<'_>],
-    kinds: &[Kind],
-) -> Result<List<Local>, Memory>
-    ensures { IfOk result (λ ls. locals_of ls ≡ made.with_kinds (map identifier_of found.now) (map kind_of kinds.now)) }
+    declared: &Declarations<'_>,
+    goal: &GoalTree<'a>,
+) -> Result<QueryParts<'a>, Memory>
+    requires indexed { IsIndexed declared.now }
+    requires small { IsSmall declared.now }
+    ensures { IfOk result (λ r. query_parts_of r ≡ resolved_query (declared_of declared.now) (goal_of goal.now)) }
 {
-    let mut locals = Vec::new(alloc);
-    let mut rest = kinds;
-    for identifier in found {
-        let Some((kind, others)) = rest.split_first() else {
-            return Ok(List::of(locals));
-        };
-        locals.push(local(alloc, identifier, kind)?)?;
-        rest = others;
-    }
-    Ok(List::of(locals))
+    let mut found = Identifiers::new(alloc);
+    let goal = resolved_goal(alloc, declared, &Brought::Nothing, goal, &mut found)?;
+    Ok(QueryParts {
+        goal,
+        found: found.into_found(),
+    })
 }
 
-/// A clause of a predicate with the kinds of its identifiers.
+#[tactic(auto, using(crate::proofs::Refusals::refused))]
+fn clause_kinds(
+    alloc: Global,
+    declared: &Declarations<'_>,
+    pred: u32,
+    parts: &ClauseParts<'_>,
+) -> Result<Vec<Kind>, Refusal>
+    ensures ok { IfOk result (λ ks. IsInferred (declared_of declared.now).signature.constructors (TypesParts (declared_of declared.now) pred (clause_parts_of parts.now)) (map kind_of ks.items)) }
+    ensures err { IfErr result (λ e. IsRefusedBy e (declared_of declared.now) (TypesParts (declared_of declared.now) pred (clause_parts_of parts.now))) }
+{
+    let classes = classes_of(alloc, parts.found.as_slice())?;
+    let signature = &declared.signature;
+    match kinds_of_clause(alloc, signature, pred, &parts.args, &parts.body, classes.as_slice()) {
+        Ok(kinds) => Ok(kinds),
+        Err(refused) => Err(refusal_of_kinds(refused)),
+    }
+}
+
+#[tactic(auto, using(crate::proofs::Refusals::refused))]
+fn query_kinds(
+    alloc: Global,
+    declared: &Declarations<'_>,
+    parts: &QueryParts<'_>,
+) -> Result<Vec<Kind>, Refusal>
+    ensures ok { IfOk result (λ ks. IsInferred (declared_of declared.now).signature.constructors (TypesGoalParts (declared_of declared.now) (query_parts_of parts.now)) (map kind_of ks.items)) }
+    ensures err { IfErr result (λ e. IsRefusedBy e (declared_of declared.now) (TypesGoalParts (declared_of declared.now) (query_parts_of parts.now))) }
+{
+    let classes = classes_of(alloc, parts.found.as_slice())?;
+    match kinds_of_query(alloc, &declared.signature, &parts.goal, classes.as_slice()) {
+        Ok(kinds) => Ok(kinds),
+        Err(refused) => Err(refusal_of_kinds(refused)),
+    }
+}
+
+fn clause_with(
+    alloc: Global,
+    place: (u32, u64),
+    pred: u32,
+    parts: &ClauseParts<'_>,
+    kinds: &[Kind],
+) -> Result<Clause<Raw>, Memory>
+    ensures { IfOk result (λ c. clause_over raw_of c ≡ spec.clause_with_kinds place.0 place.1 pred (clause_parts_of parts.now) (map kind_of kinds.now)) }
+{
+    Ok(Clause {
+        item: place.0,
+        line: place.1,
+        pred,
+        args: terms_with_sorts(alloc, kinds, parts.args.items())?,
+        body: goal_with_sorts(alloc, kinds, &parts.body)?,
+        locals: with_kinds(alloc, parts.found.as_slice(), kinds)?,
+    })
+}
+
+fn query_with(
+    alloc: Global,
+    place: (u32, u64),
+    parts: &QueryParts<'_>,
+    kinds: &[Kind],
+) -> Result<Query<Raw>, Memory>
+    ensures { IfOk result (λ q. query_over raw_of q ≡ spec.query_with_kinds place.0 place.1 (query_parts_of parts.now) (map kind_of kinds.now)) }
+{
+    Ok(Query {
+        item: place.0,
+        line: place.1,
+        goal: goal_with_sorts(alloc, kinds, &parts.goal)?,
+        locals: with_kinds(alloc, parts.found.as_slice(), kinds)?,
+    })
+}
+
+/// A clause of a predicate with the kinds of its identifiers. `place` is the item's number and line.
+#[tactic(auto, using(crate::proofs::Refusals::clause_refused, crate::proofs::Refusals::clause_made))]
 pub fn typed_clause<'a>(
     alloc: Global,
     declared: &Declarations<'_>,
@@ -97,27 +163,16 @@ pub fn typed_clause<'a>(
     ensures ok { IfOk result (λ c. IsClauseOf (declared_of declared.now) place.0 place.1 word.now (trees_of args.now) (option_map goal_of body.now) (clause_over raw_of c)) }
     ensures err { IfErr result (λ e. IsRefusedBy e (declared_of declared.now) (spec.TypesClauseOf (declared_of declared.now) word.now (trees_of args.now) (option_map goal_of body.now))) }
 {
-    let mut found = Identifiers::new(alloc);
-    let args = resolved_terms(alloc, declared, &Brought::Nothing, args, &mut found)?;
-    let body = resolved_body(alloc, declared, body, &mut found)?;
+    let parts = clause_parts(alloc, declared, args, body)?;
     let pred = predicate_number(declared.predicate_place(word));
-    let classes = classes_of(alloc, &found.found)?;
-    let signature = &declared.signature;
-    let kinds = match kinds_of_clause(alloc, signature, pred, &args, &body, &classes) {
-        Ok(kinds) => kinds,
-        Err(refused) => return Err(refusal_of_kinds(refused)),
-    };
-    Ok(Clause {
-        item: place.0,
-        line: place.1,
-        pred,
-        args: terms_with_sorts(alloc, &kinds, args.items())?,
-        body: goal_with_sorts(alloc, &kinds, &body)?,
-        locals: with_kinds(alloc, &found.found, &kinds)?,
-    })
+    match clause_kinds(alloc, declared, pred, &parts) {
+        Err(refusal) => Err(refusal),
+        Ok(kinds) => Ok(clause_with(alloc, place, pred, &parts, kinds.as_slice())?),
+    }
 }
 
-/// A query with the kinds of its identifiers.
+/// A query with the kinds of its identifiers. `place` is the item's number and line.
+#[tactic(auto, using(crate::proofs::Refusals::query_refused, crate::proofs::Refusals::query_made))]
 pub fn typed_query<'a>(
     alloc: Global,
     declared: &Declarations<'_>,
@@ -129,17 +184,9 @@ pub fn typed_query<'a>(
     ensures ok { IfOk result (λ q. IsQueryOf (declared_of declared.now) place.0 place.1 (goal_of goal.now) (query_over raw_of q)) }
     ensures err { IfErr result (λ e. IsRefusedBy e (declared_of declared.now) (spec.TypesQueryOf (declared_of declared.now) (goal_of goal.now))) }
 {
-    let mut found = Identifiers::new(alloc);
-    let goal = resolved_goal(alloc, declared, &Brought::Nothing, goal, &mut found)?;
-    let classes = classes_of(alloc, &found.found)?;
-    let kinds = match kinds_of_query(alloc, &declared.signature, &goal, &classes) {
-        Ok(kinds) => kinds,
-        Err(refused) => return Err(refusal_of_kinds(refused)),
-    };
-    Ok(Query {
-        item: place.0,
-        line: place.1,
-        goal: goal_with_sorts(alloc, &kinds, &goal)?,
-        locals: with_kinds(alloc, &found.found, &kinds)?,
-    })
+    let parts = query_parts(alloc, declared, goal)?;
+    match query_kinds(alloc, declared, &parts) {
+        Err(refusal) => Err(refusal),
+        Ok(kinds) => Ok(query_with(alloc, place, &parts, kinds.as_slice())?),
+    }
 }

@@ -1,0 +1,18 @@
+use Rattle.std.proofs.Common.{◌≡◌, ◌∙◌, sym, ap, ◌++◌, ◌∷◌, [], None}
+use Rattle.ap_scopes.specs.Declarations.{place}
+use Rattle.ap_scopes.specs.Views.{words_in}
+use Rattle.ap_typecheck.proofs.Tables.{new_word, no_name_type}
+use Rattle.ap_typecheck.proofs.declaring.declare_name_type.Goals as goal
+
+pub returns-clause-kept : goal.returns-clause-kept
+returns-clause-kept c =
+    let k = c.requires.kept.indexed in
+    let word = c.args.word.now in
+    let old = words_in c.args.state.now.declared.name_types in
+    let absent : place word old ≡ None = ap (place word) k.name_types ∙ no_name_type _ _ c.requires.new in
+    let added : words_in c.add.new.self ≡ c.push.new.list =
+        c.in_ok-add.ensures ∙ new_word word old absent ∙ ap (λ ws. ws ++ word ∷ []) k.name_types ∙ sym (c.in_ok-push.ensures ∙ ap (λ t. c.args.state.now.declared.signature.name_types ++ t ∷ []) c.in_ok-text.ensures) in
+    record {
+      indexed = record { name_types = added; data_types = k.data_types; constructors = k.constructors; predicates = k.predicates };
+      listed = c.requires.kept.listed;
+    }
