@@ -9,8 +9,8 @@ use Rattle.ap_defs.specs.Goals.{GoalOver, succeed, atom, equal, fresh, both, eit
 use Rattle.ap_defs.specs.Printing.{constructor_in}
 use Rattle.ap_program.specs.Typed.{predicate_at}
 use Rattle.ap_kinds.specs.declared.kinds.IdentKind.{IdentKind}
-use Rattle.ap_kinds.specs.declared.terms.Wanted.{Wanted}
-use Rattle.ap_kinds.specs.declared.terms.Wanted.TheVariants as code
+use Rattle.ap_kinds.specs.declared.wants.Wanted.{Wanted}
+use Rattle.ap_kinds.specs.declared.wants.Wanted.TheVariants as code
 use Rattle.ap_kinds.specs.Systems.{EquationSystem, equate, with_name, with_hole, refused, opened, is_name_at, is_var_at}
 
 -- What is wanted of a term: a shape; nothing; a type and the rest of a constructor's arguments; or an element of the type of a

@@ -1,7 +1,7 @@
 -- What the walk's values are seen as.
 use Rattle.ap_kinds.specs.declared.terms.Sides as code_sides
-use Rattle.ap_kinds.specs.declared.terms.Inside as code_inside
-use Rattle.ap_kinds.specs.declared.terms.Place as code_place
+use Rattle.ap_kinds.specs.declared.inside.Inside as code_inside
+use Rattle.ap_kinds.specs.declared.places.Place as code_place
 use Rattle.ap_kinds.specs.Systems.{system_of}
 use Rattle.ap_kinds.specs.Gathering.{Sides, Inside, Place, wanting_of}
 

@@ -10,7 +10,8 @@ ghost use Rattle.ap_program.specs.Typed.{predicate_at};
 
 use crate::kinds::IdentKind;
 use crate::systems::{System, is_name_at, is_var_at, opened, refused, with_hole, with_name};
-use crate::terms::{Wanted, gather_term};
+use crate::terms::gather_term;
+use crate::wants::Wanted;
 use ap_defs::goals::{Constructor, Goal, Signature};
 use ap_defs::lists::List;
 use ap_defs::memory::Memory;

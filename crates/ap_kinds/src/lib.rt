@@ -6,13 +6,16 @@
 
 mod errors;
 mod goals;
+mod inside;
 mod kinds;
+mod places;
 mod reading;
 mod sorts;
 mod systems;
 mod terms;
 #[cfg(test)]
 mod tests;
+mod wants;
 
 pub use errors::KindsError;
 pub use kinds::{IdentKind, kinds_of_clause, kinds_of_query};

@@ -6,156 +6,186 @@ use ap_defs::lists::{List, Text};
 use ap_defs::memory::Memory;
 use ap_defs::terms::{Id, Name, Raw, Ty, Var};
 use std::alloc::Global;
-use std::test::Fail;
 
-// So many name types; e and f, of which c : e is the only constructor; pred p(f, id) and pred q(e, id).
+const A: Name = Name { sort: 0, num: 0 };
+
+const B: Name = Name { sort: 0, num: 1 };
+
+const X: Var = Var { num: 1 };
+
+const Y: Var = Var { num: 2 };
+
+fn texts(alloc: Global, count: usize) -> Result<List<Text>, Memory> {
+    let mut texts = Vec::new(alloc);
+    for _ in 0..count {
+        texts.push(Text::of(String::new(alloc)))?;
+    }
+    Ok(List::of(texts))
+}
+
+fn predicate(alloc: Global, data: u32) -> Result<List<Ty>, Memory> {
+    Ok(List::of(vec![in alloc; Ty::Base(data), Ty::Names(0)]?))
+}
+
+// So many name types; data types e and f, of which c : e is the only constructor; p(e, id) and q(f, id).
 fn signature(alloc: Global, name_types: usize) -> Result<Signature, Memory> {
-    let mut names = Vec::new(alloc);
-    for _ in 0..name_types {
-        names.push(Text::of(String::from_str(alloc, "id")?))?;
-    }
-    let mut data_types = Vec::new(alloc);
-    for spelling in ["e", "f"] {
-        data_types.push(Text::of(String::from_str(alloc, spelling)?))?;
-    }
-    let mut constructors = Vec::new(alloc);
-    constructors.push(Constructor {
-        text: Text::of(String::from_str(alloc, "c")?),
+    let c = Constructor {
+        text: Text::of(String::new(alloc)),
         args: List::of(Vec::new(alloc)),
         result: 0,
-    })?;
-    let mut predicates = Vec::new(alloc);
-    for data in [1, 0] {
-        let mut args = Vec::new(alloc);
-        args.push(Ty::Base(data))?;
-        args.push(Ty::Names(0))?;
-        predicates.push(List::of(args))?;
-    }
+    };
     Ok(Signature {
-        name_types: List::of(names),
-        data_types: List::of(data_types),
-        constructors: List::of(constructors),
-        predicates: List::of(predicates),
+        name_types: texts(alloc, name_types)?,
+        data_types: texts(alloc, 2)?,
+        constructors: List::of(vec![in alloc; c]?),
+        predicates: List::of(vec![in alloc; predicate(alloc, 0)?, predicate(alloc, 1)?]?),
     })
 }
 
-fn name(num: u64) -> Name {
-    Name { sort: 0, num }
+fn found(
+    alloc: Global,
+    name_types: usize,
+    goal: &Goal<Raw>,
+    idents: &[IdentKind],
+) -> Result<Vec<Kind>, KindsError> {
+    let sig = signature(alloc, name_types)?;
+    kinds_of_query(alloc, &sig, goal, idents)
 }
 
-fn var(num: u64) -> Var {
-    Var { num }
+fn applied(alloc: Global, constructor: u32) -> Result<Raw, Memory> {
+    Ok(Raw::App(constructor, Box::new(alloc, Raw::Unit)?))
 }
 
-fn empty_list(alloc: Global) -> Result<Raw, Memory> {
-    Ok(Raw::App(0, Box::new(alloc, Raw::Unit)?))
+// () = c
+fn unit_is_constructor(alloc: Global) -> Result<Vec<Kind>, KindsError> {
+    let goal = Goal::Equal(Raw::Unit, applied(alloc, 2)?);
+    found(alloc, 1, &goal, &[])
 }
 
-// a \ X = Y
-fn abstraction(alloc: Global) -> Result<Goal<Raw>, Memory> {
-    let body = Box::new(alloc, Raw::Var(var(1)))?;
-    Ok(Goal::Equal(Raw::Abs(Id::Name(name(0)), body), Raw::Var(var(2))))
+// [] = []
+fn empty_lists(alloc: Global) -> Result<Vec<Kind>, KindsError> {
+    let goal = Goal::Equal(applied(alloc, 0)?, applied(alloc, 0)?);
+    found(alloc, 1, &goal, &[])
 }
 
-// swap(a,b,b) # []
+// X = Y, of which the first has number 0
+fn two_variables(alloc: Global) -> Result<Vec<Kind>, KindsError> {
+    let goal = Goal::Equal(Raw::Var(Var { num: 0 }), Raw::Var(X));
+    found(alloc, 1, &goal, &[IdentKind::Var, IdentKind::Var])
+}
+
+#[test]
+fn sides_of_an_equation_have_one_type(rt: HostRuntime) {
+    assert!(rt; matches!(two_variables(rt.alloc()), Err(KindsError::Ambiguous)));
+    assert!(rt; matches!(unit_is_constructor(rt.alloc()), Err(KindsError::Clash)));
+    assert!(rt; matches!(empty_lists(rt.alloc()), Ok(kinds) if kinds.is_empty()));
+}
+
+// swap(a,b,b) # ()
 fn swapping(alloc: Global) -> Result<Goal<Raw>, Memory> {
-    let inner = Box::new(alloc, Raw::Name(name(1)))?;
-    let left = Raw::Swapped(Id::Name(name(0)), Id::Name(name(1)), inner);
-    Ok(Goal::Fresh(left, empty_list(alloc)?))
+    let inner = Box::new(alloc, Raw::Name(B))?;
+    Ok(Goal::Fresh(Raw::Swapped(Id::Name(A), Id::Name(B), inner), Raw::Unit))
 }
 
-#[test]
-fn sides_of_an_equation_have_one_type(rt: HostRuntime) -> Result<(), Fail> {
-    let alloc = rt.alloc();
-    let sig = signature(alloc, 1)?;
-    let vars = [IdentKind::Var, IdentKind::Var];
-    let open = Goal::Equal(Raw::Var(var(0)), Raw::Var(var(1)));
-    let found = kinds_of_query(alloc, &sig, &open, &vars);
-    assert!(rt; matches!(found, Err(KindsError::Ambiguous)));
-    let applied = Raw::App(2, Box::new(alloc, Raw::Unit)?);
-    let found = kinds_of_query(alloc, &sig, &Goal::Equal(Raw::Unit, applied), &[]);
-    assert!(rt; matches!(found, Err(KindsError::Clash)));
-    let lists = Goal::Equal(empty_list(alloc)?, empty_list(alloc)?);
-    let found = kinds_of_query(alloc, &sig, &lists, &[])?;
-    assert!(rt; found.is_empty());
-    Ok(())
-}
-
-#[test]
-fn names_have_the_only_name_type(rt: HostRuntime) -> Result<(), Fail> {
-    let alloc = rt.alloc();
-    let idents = [IdentKind::Name, IdentKind::Name];
+fn swapped(alloc: Global, name_types: usize) -> Result<Vec<Kind>, KindsError> {
     let goal = swapping(alloc)?;
-    let found = kinds_of_query(alloc, &signature(alloc, 1)?, &goal, &idents)?;
-    assert!(rt; matches!(found.as_slice(), [Kind::Name(0), Kind::Name(0)]));
-    let found = kinds_of_query(alloc, &signature(alloc, 2)?, &goal, &idents);
-    assert!(rt; matches!(found, Err(KindsError::Ambiguous)));
-    let found = kinds_of_query(alloc, &signature(alloc, 0)?, &goal, &idents);
-    assert!(rt; matches!(found, Err(KindsError::Clash)));
-    Ok(())
+    found(
+        alloc,
+        name_types,
+        &goal,
+        &[IdentKind::Name, IdentKind::Name],
+    )
 }
 
 #[test]
-fn what_stands_in_an_abstraction_is_open(rt: HostRuntime) -> Result<(), Fail> {
+fn names_have_the_only_name_type(rt: HostRuntime) {
     let alloc = rt.alloc();
-    let sig = signature(alloc, 1)?;
-    let idents = [IdentKind::Name, IdentKind::Var, IdentKind::Var];
-    let found = kinds_of_query(alloc, &sig, &abstraction(alloc)?, &idents);
-    assert!(rt; matches!(found, Err(KindsError::Ambiguous)));
-    let fixed = Goal::Equal(Raw::Var(var(1)), Raw::Unit);
-    let both = Goal::Both(
-        Box::new(alloc, abstraction(alloc)?)?,
-        Box::new(alloc, fixed)?,
-    );
-    let found = kinds_of_query(alloc, &sig, &both, &idents)?;
     assert!(rt;
-        matches!(
-            found.as_slice(),
-            [Kind::Name(0), Kind::Var(Ty::Unit), Kind::Var(Ty::Abs(0, _))]
-        )
+        matches!(&swapped(alloc, 1), Ok(kinds) if matches!(kinds.as_slice(), [Kind::Name(0), Kind::Name(0)]))
     );
-    Ok(())
+    assert!(rt; matches!(swapped(alloc, 2), Err(KindsError::Ambiguous)));
+    assert!(rt; matches!(swapped(alloc, 0), Err(KindsError::Clash)));
 }
 
-// The heads p(X, b), q(X, b) and one of no predicate.
-#[test]
-fn a_head_gives_its_variables_their_types(rt: HostRuntime) -> Result<(), Fail> {
-    let alloc = rt.alloc();
-    let sig = signature(alloc, 2)?;
-    let idents = [IdentKind::Var, IdentKind::Name];
-    let mut args = Vec::new(alloc);
-    args.push(Raw::Var(var(0)))?;
-    args.push(Raw::Name(name(1)))?;
-    let args = List::of(args);
-    let found = kinds_of_clause(alloc, &sig, 0, &args, &Goal::True, &idents);
-    assert!(rt; matches!(found, Err(KindsError::Empty)));
-    let found = kinds_of_clause(alloc, &sig, 1, &args, &Goal::True, &idents)?;
-    assert!(rt; matches!(found.as_slice(), [Kind::Var(Ty::Base(0)), Kind::Name(0)]));
-    let found = kinds_of_clause(alloc, &sig, 2, &args, &Goal::True, &idents);
-    assert!(rt; matches!(found, Err(KindsError::Clash)));
-    Ok(())
+// a\X = Y
+fn abstraction(alloc: Global) -> Result<Goal<Raw>, Memory> {
+    let body = Box::new(alloc, Raw::Var(X))?;
+    Ok(Goal::Equal(Raw::Abs(Id::Name(A), body), Raw::Var(Y)))
 }
 
-#[test]
-fn names_take_the_sorts_of_their_kinds(rt: HostRuntime) -> Result<(), Fail> {
-    let alloc = rt.alloc();
-    let kinds = vec![in alloc; Kind::Name(7), Kind::Name(4)]?;
-    let sorted = goal_with_sorts(alloc, kinds.as_slice(), &swapping(alloc)?)?;
-    if let Goal::Fresh(Raw::Swapped(Id::Name(a), Id::Name(b), _), _) = &sorted {
-        assert!(rt; a.sort == 7 && b.sort == 4);
+// a\X = Y, X = ()
+fn closed_abstraction(alloc: Global) -> Result<Goal<Raw>, Memory> {
+    let left = Box::new(alloc, abstraction(alloc)?)?;
+    let right = Box::new(alloc, Goal::Equal(Raw::Var(X), Raw::Unit))?;
+    Ok(Goal::Both(left, right))
+}
+
+fn abstracted(alloc: Global, closed: bool) -> Result<Vec<Kind>, KindsError> {
+    let goal = if closed {
+        closed_abstraction(alloc)?
     } else {
-        assert!(rt; false);
-    }
-    let terms = [Raw::Name(name(1)), Raw::Name(name(2))];
-    let sorted = terms_with_sorts(alloc, kinds.as_slice(), &terms)?;
+        abstraction(alloc)?
+    };
+    found(
+        alloc,
+        1,
+        &goal,
+        &[IdentKind::Name, IdentKind::Var, IdentKind::Var],
+    )
+}
+
+#[test]
+fn what_stands_in_an_abstraction_may_be_open(rt: HostRuntime) {
+    let alloc = rt.alloc();
+    assert!(rt; matches!(abstracted(alloc, false), Err(KindsError::Ambiguous)));
+    let closed = abstracted(alloc, true);
     assert!(rt;
-        matches!(
-            sorted.items(),
-            [
-                Raw::Name(Name { sort: 4, num: 1 }),
-                Raw::Name(Name { sort: 0, num: 2 })
-            ]
-        )
+        matches!(&closed, Ok(kinds) if matches!(kinds.as_slice(), [Kind::Name(0), Kind::Var(Ty::Unit), Kind::Var(Ty::Abs(0, _))]))
     );
-    Ok(())
+}
+
+// The head (X, a) of the predicate with a number.
+fn headed(alloc: Global, pred: u32) -> Result<Vec<Kind>, KindsError> {
+    let sig = signature(alloc, 2)?;
+    let args = List::of(vec![in alloc; Raw::Var(X), Raw::Name(A)]?);
+    kinds_of_clause(
+        alloc,
+        &sig,
+        pred,
+        &args,
+        &Goal::True,
+        &[IdentKind::Name, IdentKind::Var],
+    )
+}
+
+#[test]
+fn a_head_gives_its_words_their_types(rt: HostRuntime) {
+    let alloc = rt.alloc();
+    let inhabited = headed(alloc, 0);
+    assert!(rt;
+        matches!(&inhabited, Ok(kinds) if matches!(kinds.as_slice(), [Kind::Name(0), Kind::Var(Ty::Base(0))]))
+    );
+    assert!(rt; matches!(headed(alloc, 1), Err(KindsError::Empty)));
+    assert!(rt; matches!(headed(alloc, 2), Err(KindsError::Clash)));
+}
+
+fn sorted_goal(alloc: Global) -> Result<bool, Memory> {
+    let kinds = [Kind::Name(7), Kind::Name(4)];
+    let sorted = goal_with_sorts(alloc, &kinds, &swapping(alloc)?)?;
+    if let Goal::Fresh(Raw::Swapped(Id::Name(a), Id::Name(b), _), _) = &sorted {
+        return Ok(a.sort == 7 && b.sort == 4);
+    }
+    Ok(false)
+}
+
+fn sorted_terms(alloc: Global) -> Result<bool, Memory> {
+    let kinds = [Kind::Var(Ty::Unit), Kind::Name(4)];
+    let sorted = terms_with_sorts(alloc, &kinds, &[Raw::Name(B)])?;
+    Ok(matches!(sorted.items(), [Raw::Name(b)] if b.sort == 4 && b.num == 1))
+}
+
+#[test]
+fn names_take_the_sorts_of_their_kinds(rt: HostRuntime) {
+    assert!(rt; matches!(sorted_goal(rt.alloc()), Ok(true)));
+    assert!(rt; matches!(sorted_terms(rt.alloc()), Ok(true)));
 }
