@@ -94,22 +94,26 @@ module _ (cs ds : List NominalConstructor) where
 module _ (s s' : NominalSignature) (ds : List NominalConstructor) (qs : List (List NominalType)) (ec : s'.constructors ≡ s.constructors ++ ds) (ep : s'.predicates ≡ s.predicates ++ qs) where
   clause_grows : (p : ℕ) (c : ClauseOver RawTerm) → IsTypedClause raw_form s p c → IsTypedClause raw_form s' p c
   clause_grows p c h =
-      let ks = kinds_of c.locals in
-      (h.0,
-      (subst (λ cs. AreArguments (HasRawType cs ks) c.args (predicate_at s'.predicates c.pred)) (sym ec)
-          (subst (λ ps. AreArguments (HasRawType (s.constructors ++ ds) ks) c.args (predicate_at ps c.pred)) (sym ep) (arguments_grow s.constructors ds s.predicates qs ks c.args c.pred h.1.0)),
-      subst (λ cs. IsTypedGoal (HasRawType cs ks) s'.predicates ks c.body) (sym ec)
-          (subst (λ ps. IsTypedGoal (HasRawType (s.constructors ++ ds) ks) ps ks c.body) (sym ep) (goal_grows s.constructors ds s.predicates qs ks c.body h.1.1))),
-      subst (λ cs. AreInhabited cs ks) (sym ec) (inhabited_more s.constructors ds ks h.2),
-      h.3)
+      let ks = kinds_of c.locals in (
+        h.0,
+        (
+          subst (λ cs. AreArguments (HasRawType cs ks) c.args (predicate_at s'.predicates c.pred)) (sym ec)
+              (subst (λ ps. AreArguments (HasRawType (s.constructors ++ ds) ks) c.args (predicate_at ps c.pred)) (sym ep) (arguments_grow s.constructors ds s.predicates qs ks c.args c.pred h.1.0)),
+          subst (λ cs. IsTypedGoal (HasRawType cs ks) s'.predicates ks c.body) (sym ec)
+              (subst (λ ps. IsTypedGoal (HasRawType (s.constructors ++ ds) ks) ps ks c.body) (sym ep) (goal_grows s.constructors ds s.predicates qs ks c.body h.1.1)),
+        ),
+        subst (λ cs. AreInhabited cs ks) (sym ec) (inhabited_more s.constructors ds ks h.2),
+        h.3,
+      )
 
   query_grows : (q : QueryOver RawTerm) → IsTypedQuery raw_form s q → IsTypedQuery raw_form s' q
   query_grows q h =
-      let ks = kinds_of q.locals in
-      (subst (λ cs. IsTypedGoal (HasRawType cs ks) s'.predicates ks q.goal) (sym ec)
-          (subst (λ ps. IsTypedGoal (HasRawType (s.constructors ++ ds) ks) ps ks q.goal) (sym ep) (goal_grows s.constructors ds s.predicates qs ks q.goal h.0)),
-      subst (λ cs. AreInhabited cs ks) (sym ec) (inhabited_more s.constructors ds ks h.1),
-      h.2)
+      let ks = kinds_of q.locals in (
+        subst (λ cs. IsTypedGoal (HasRawType cs ks) s'.predicates ks q.goal) (sym ec)
+            (subst (λ ps. IsTypedGoal (HasRawType (s.constructors ++ ds) ks) ps ks q.goal) (sym ep) (goal_grows s.constructors ds s.predicates qs ks q.goal h.0)),
+        subst (λ cs. AreInhabited cs ks) (sym ec) (inhabited_more s.constructors ds ks h.1),
+        h.2,
+      )
 
   list_grows : (p : ℕ) (cs : List (ClauseOver RawTerm)) → AreTypedClauses raw_form s p cs → AreTypedClauses raw_form s' p cs
   list_grows p [] h = h

@@ -30,9 +30,11 @@ query_refused e d g r er h = subst (λ x. IsRefusedBy e d (TypesGoalParts d x)) 
 
 pub clause_made : (d : Declared) (n line : ℕ) (w : List ℕ) (args : List Term) (body : Option Goal) (pred : ℕ) (r : (List RawTerm × GoalOver RawTerm) × Found) (ks : List NominalKind) (c : ClauseOver RawTerm)
     → pred ≡ predicate_of d w → r ≡ resolved_clause d args body → IsInferred d.signature.constructors (TypesParts d pred r) ks → c ≡ clause_with_kinds n line pred r ks → IsClauseOf d n line w args body c
-clause_made d n line w args body pred r ks c ep er h ec =
-    (ks, subst (λ x. IsInferred d.signature.constructors (TypesParts d (predicate_of d w) x) ks) er (subst (λ p. IsInferred d.signature.constructors (TypesParts d p r) ks) ep h),
-    ec ∙ (λ j. clause_with_kinds n line (ep j) (er j) ks))
+clause_made d n line w args body pred r ks c ep er h ec = (
+  ks,
+  subst (λ x. IsInferred d.signature.constructors (TypesParts d (predicate_of d w) x) ks) er (subst (λ p. IsInferred d.signature.constructors (TypesParts d p r) ks) ep h),
+  ec ∙ (λ j. clause_with_kinds n line (ep j) (er j) ks),
+)
 
 pub query_made : (d : Declared) (n line : ℕ) (g : Goal) (r : GoalOver RawTerm × Found) (ks : List NominalKind) (q : QueryOver RawTerm)
     → r ≡ resolved_query d g → IsInferred d.signature.constructors (TypesGoalParts d r) ks → q ≡ query_with_kinds n line r ks → IsQueryOf d n line g q

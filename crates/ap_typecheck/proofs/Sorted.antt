@@ -170,7 +170,8 @@ pub scoped : (low : ℕ) (found : Found) (ks : List NominalKind) → length foun
 scoped low found ks e args g heads body ascends bound = record {
   marked = subst (AreMarked (with_kinds found ks)) (sym (brought-sorted ks g)) (are_marked found ks e (brought g) bound);
   once = subst EachOnce (sym (brought-sorted ks g)) (each_once low (brought g) ascends);
-  inside = λ n m.
-      (absent-some (IsKnown [] found) n (unknown found ks n m) (terms_with_sorts ks args) (each_in-sorted (IsKnown [] found) ks args heads),
-      absent-free (IsKnown [] found) n (unknown found ks n m) (goal_with_sorts ks g) (each_free-sorted (IsKnown [] found) ks g body));
+  inside = λ n m. (
+    absent-some (IsKnown [] found) n (unknown found ks n m) (terms_with_sorts ks args) (each_in-sorted (IsKnown [] found) ks args heads),
+    absent-free (IsKnown [] found) n (unknown found ks n m) (goal_with_sorts ks g) (each_free-sorted (IsKnown [] found) ks g body),
+  );
 }

@@ -33,13 +33,16 @@ clause_typed d n line w args body c h =
     let heads = terms-done d [] args [] in
     let between = (resolved_terms d [] args []).1 in
     let rest = body-done d body between in
-    let typed : IsTypedClause raw_form d.signature made.pred made =
-        (refl,
-        (subst (λ k. AreArguments (HasRawType cs k) made.args (predicate_at d.signature.predicates made.pred)) back types.2.0,
-        subst (λ k. IsTypedGoal (HasRawType cs k) d.signature.predicates k made.body) back types.2.1),
-        subst (AreInhabited cs) back inhabited,
-        scoped (length between) r.1 ks long r.0.0 r.0.1
-            (each_in-on (IsKnown [] between) (IsKnown [] r.1) (grows_known [] between r.1 rest.grows) r.0.0 heads.each_known) rest.known rest.ascends rest.bound) in
+    let typed : IsTypedClause raw_form d.signature made.pred made = (
+      refl,
+      (
+        subst (λ k. AreArguments (HasRawType cs k) made.args (predicate_at d.signature.predicates made.pred)) back types.2.0,
+        subst (λ k. IsTypedGoal (HasRawType cs k) d.signature.predicates k made.body) back types.2.1,
+      ),
+      subst (AreInhabited cs) back inhabited,
+      scoped (length between) r.1 ks long r.0.0 r.0.1
+          (each_in-on (IsKnown [] between) (IsKnown [] r.1) (grows_known [] between r.1 rest.grows) r.0.0 heads.each_known) rest.known rest.ascends rest.bound,
+    ) in
     subst (λ x. IsTypedClause raw_form d.signature x.pred x) (sym h.2) typed
 
 pub query_typed : (d : Declared) (n line : ℕ) (g : Goal) (q : QueryOver RawTerm) → IsQueryOf d n line g q → IsTypedQuery raw_form d.signature q
@@ -53,10 +56,11 @@ query_typed d n line g q h =
     let long : length r.1 ≡ length ks = as_many r.1 ks types.0 in
     let back : ks ≡ kinds_of made.locals = sym (kinds_back r.1 ks long) in
     let rest = goal-done d [] g [] in
-    let typed : IsTypedQuery raw_form d.signature made =
-        (subst (λ k. IsTypedGoal (HasRawType cs k) d.signature.predicates k made.goal) back types.2,
-        subst (AreInhabited cs) back inhabited,
-        scoped 0 r.1 ks long [] r.0 tt rest.known rest.ascends rest.bound) in
+    let typed : IsTypedQuery raw_form d.signature made = (
+      subst (λ k. IsTypedGoal (HasRawType cs k) d.signature.predicates k made.goal) back types.2,
+      subst (AreInhabited cs) back inhabited,
+      scoped 0 r.1 ks long [] r.0 tt rest.known rest.ascends rest.bound,
+    ) in
     subst (λ x. IsTypedQuery raw_form d.signature x) (sym h.2) typed
 
 -- one more

@@ -97,7 +97,11 @@ pub fn declare_constructor<'a>(
         args: resolved_types(alloc, &state.declared, args)?,
         result: data_number(state.declared.type_named(data_type)),
     };
-    push(alloc, &mut state.declared.signature.constructors, constructor)?;
+    push(
+        alloc,
+        &mut state.declared.signature.constructors,
+        constructor,
+    )?;
     state.declared.constructors.add(word)?;
     Ok(())
 }

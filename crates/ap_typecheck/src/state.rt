@@ -35,7 +35,10 @@ impl<'a> State<'a> {
 }
 
 /// Lists in place of vectors.
-fn lists_of(alloc: Global, clauses: Vec<Vec<Clause<Raw>>>) -> Result<List<List<Clause<Raw>>>, Memory>
+fn lists_of(
+    alloc: Global,
+    clauses: Vec<Vec<Clause<Raw>>>,
+) -> Result<List<List<Clause<Raw>>>, Memory>
     ensures { IfOk result (λ css. map (map (clause_over raw_of)) css ≡ map (λ cs. map (clause_over raw_of) cs.items) clauses.items) }
 {
     let mut lists = Vec::new(alloc);
@@ -46,7 +49,11 @@ fn lists_of(alloc: Global, clauses: Vec<Vec<Clause<Raw>>>) -> Result<List<List<C
 }
 
 /// The program of a text that has these words.
-pub fn program_from(alloc: Global, state: State<'_>, words: List<Text>) -> Result<Program<Raw>, Memory>
+pub fn program_from(
+    alloc: Global,
+    state: State<'_>,
+    words: List<Text>,
+) -> Result<Program<Raw>, Memory>
     ensures { IfOk result (λ p. program_over raw_of p ≡ program_of words (made_of state.entry)) }
 {
     let State {

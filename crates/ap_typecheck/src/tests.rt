@@ -78,8 +78,10 @@ Atom(0, List { items: [Var(Var { num: 0 })] }) L:Var(List(Pair(Base(0), Base(0))
 
 #[test]
 fn identifiers_are_numbered(rt: HostRuntime) -> Result<(), Fail> {
-    let text = "id : name_type. pred p(id, id). ?- p(a, X), new b (exists X (p(b, X), p(a, Y))), p(b, _), p(_, X).";
-    let want = "Both(Atom(0, List { items: [Name(Name { sort: 0, num: 0 }), Var(Var { num: 1 })] }), \
+    let text =
+        "id : name_type. pred p(id, id). ?- p(a, X), new b (exists X (p(b, X), p(a, Y))), p(b, _), p(_, X).";
+    let want =
+        "Both(Atom(0, List { items: [Name(Name { sort: 0, num: 0 }), Var(Var { num: 1 })] }), \
 Both(New(Name { sort: 0, num: 2 }, Exists(Var { num: 3 }, Both(Atom(0, List { items: [Name(Name { sort: 0, num: 2 }), Var(Var { num: 3 })] }), \
 Atom(0, List { items: [Name(Name { sort: 0, num: 0 }), Var(Var { num: 4 })] })))), \
 Both(Atom(0, List { items: [Name(Name { sort: 0, num: 5 }), Var(Var { num: 6 })] }), Atom(0, List { items: [Var(Var { num: 7 }), Var(Var { num: 1 })] })))) \

@@ -91,7 +91,14 @@ fn clause_kinds(
 {
     let classes = classes_of(alloc, parts.found.as_slice())?;
     let signature = &declared.signature;
-    match kinds_of_clause(alloc, signature, pred, &parts.args, &parts.body, classes.as_slice()) {
+    match kinds_of_clause(
+        alloc,
+        signature,
+        pred,
+        &parts.args,
+        &parts.body,
+        classes.as_slice(),
+    ) {
         Ok(kinds) => Ok(kinds),
         Err(refused) => Err(refusal_of_kinds(refused)),
     }

@@ -13,8 +13,8 @@ returns-clause-kept c =
     let known = map (λ b. b.text) (map constructor_of c.args.state.now.declared.signature.constructors) in
     let absent : place word old ≡ None = ap (place word) k.constructors ∙ c.requires.new in
     let added : words_in c.add.new.self ≡ map (λ b. b.text) (map constructor_of c.push.new.list) =
-        c.in_ok-add.ensures ∙ new_word word old absent ∙ ap (λ ws. ws ++ word ∷ []) k.constructors
-        ∙ sym (ap (λ l. map (λ b. b.text) (map constructor_of l)) c.in_ok-push.ensures ∙ words_append _ _ ∙ ap (λ t. known ++ t ∷ []) c.in_ok-text_of.ensures) in
+    c.in_ok-add.ensures ∙ new_word word old absent ∙ ap (λ ws. ws ++ word ∷ []) k.constructors
+    ∙ sym (ap (λ l. map (λ b. b.text) (map constructor_of l)) c.in_ok-push.ensures ∙ words_append _ _ ∙ ap (λ t. known ++ t ∷ []) c.in_ok-text_of.ensures) in
     record {
       indexed = record { name_types = k.name_types; data_types = k.data_types; constructors = added; predicates = k.predicates };
       listed = c.requires.kept.listed;

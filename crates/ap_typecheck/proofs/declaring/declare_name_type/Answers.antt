@@ -11,7 +11,7 @@ returns-clause-kept c =
     let old = words_in c.args.state.now.declared.name_types in
     let absent : place word old ≡ None = ap (place word) k.name_types ∙ no_name_type _ _ c.requires.new in
     let added : words_in c.add.new.self ≡ c.push.new.list =
-        c.in_ok-add.ensures ∙ new_word word old absent ∙ ap (λ ws. ws ++ word ∷ []) k.name_types ∙ sym (c.in_ok-push.ensures ∙ ap (λ t. c.args.state.now.declared.signature.name_types ++ t ∷ []) c.in_ok-text.ensures) in
+    c.in_ok-add.ensures ∙ new_word word old absent ∙ ap (λ ws. ws ++ word ∷ []) k.name_types ∙ sym (c.in_ok-push.ensures ∙ ap (λ t. c.args.state.now.declared.signature.name_types ++ t ∷ []) c.in_ok-text.ensures) in
     record {
       indexed = record { name_types = added; data_types = k.data_types; constructors = k.constructors; predicates = k.predicates };
       listed = c.requires.kept.listed;

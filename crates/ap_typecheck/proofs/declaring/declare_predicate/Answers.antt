@@ -17,11 +17,11 @@ returns-clause-made c =
     let sig = (declared_of old.declared).signature in
     let words : words_in c.add.new.self ≡ words_in old.declared.predicates ++ word ∷ [] = c.in_ok-add.ensures ∙ new_word word (words_in old.declared.predicates) c.requires.new in
     let types : map (map type_of) c.push.new.list ≡ map (map type_of) old.declared.signature.predicates ++ resolved_types sig (types_of c.args.args.now) ∷ [] =
-        ap (map (map type_of)) c.in_ok-push.ensures ∙ map-append (map type_of) old.declared.signature.predicates (c.in_ok-types.types ∷ [])
-        ∙ ap (λ t. map (map type_of) old.declared.signature.predicates ++ t ∷ []) c.in_ok-types.ensures in
+    ap (map (map type_of)) c.in_ok-push.ensures ∙ map-append (map type_of) old.declared.signature.predicates (c.in_ok-types.types ∷ [])
+    ∙ ap (λ t. map (map type_of) old.declared.signature.predicates ++ t ∷ []) c.in_ok-types.ensures in
     let clauses : map (λ cs. map (clause_over raw_of) cs.items) c.push-2.new.self.items ≡ map (λ cs. map (clause_over raw_of) cs.items) old.clauses.items ++ [] ∷ [] =
-        ap (map (λ cs. map (clause_over raw_of) cs.items)) c.in_ok-push-2.ensures.items ∙ map-append (λ cs. map (clause_over raw_of) cs.items) old.clauses.items (c.new.result ∷ [])
-        ∙ ap (λ l. map (λ cs. map (clause_over raw_of) cs.items) old.clauses.items ++ map (clause_over raw_of) l ∷ []) c.new.ensures.items in
+    ap (map (λ cs. map (clause_over raw_of) cs.items)) c.in_ok-push-2.ensures.items ∙ map-append (λ cs. map (clause_over raw_of) cs.items) old.clauses.items (c.new.result ∷ [])
+    ∙ ap (λ l. map (λ cs. map (clause_over raw_of) cs.items) old.clauses.items ++ map (clause_over raw_of) l ∷ []) c.new.ensures.items in
     λ j. record {
       declared = record {
         signature = record { name_types = sig.name_types; data_types = sig.data_types; constructors = sig.constructors; predicates = types j };
