@@ -1,7 +1,7 @@
 -- Goals and clauses whose numbers fit.
-use Rattle.std.proofs.Common.{◌≡◌, ℕ, zero, ◌+◌, ◌<◌, ◌≤◌, ◌^◌, List, [], ◌∷◌, ◌++◌, length, map, refl, sym, ap, ap₂, ◌∙◌, arith, subst}
+use Rattle.std.proofs.Common.{◌≡◌, ℕ, zero, suc, ◌+◌, ◌-◌, ◌<◌, ◌≤◌, ◌^◌, List, [], ◌∷◌, ◌++◌, length, map, refl, sym, ap, ap₂, ◌∙◌, arith, subst}
 use Rattle.std.proofs.lemmas.List.{length-map}
-use Rattle.std.specs.Prelude.{Option, Some, None}
+use Rattle.std.specs.Prelude.{Option, Some, None, slice_get}
 use Rattle.ap_defs.specs.declared.goals.Kind.{Kind}
 use Rattle.ap_defs.specs.declared.goals.Local.{Local}
 use Rattle.ap_defs.specs.declared.terms.Name.{Name}
@@ -73,3 +73,11 @@ locals_length xs ls e = sym (length-map xs kind_of) ∙ ap length e ∙ length-m
 
 pub kinds_count : (xs : List Kind) (ls : List NominalLocal) → map kind_of xs ≡ kinds_of ls → length xs ≡ length ls
 kinds_count xs ls e = sym (length-map xs kind_of) ∙ ap length e ∙ length-map ls (λ l. l.kind)
+
+-- the last frame waits first
+pub last_waits : (fs : List Frame) (f : Frame) (ws : List Waiting) → Some f ≡ slice_get fs (length fs - 1) → (vs : List Waiting) × (stack_of fs ws ≡ waiting_of f ∷ vs)
+last_waits [] f ws h = absurd cc
+last_waits (g ∷ []) f ws h = let e : g ≡ f = cc in (ws, ap (λ x. waiting_of x ∷ ws) e)
+last_waits (g ∷ k ∷ fs) f ws h =
+    let e : suc (suc (length fs)) - 1 ≡ suc (suc (length fs) - 1) = omega arith in
+    last_waits (k ∷ fs) f (waiting_of g ∷ ws) (h ∙ ap (slice_get (g ∷ k ∷ fs)) e)

@@ -1,3 +1,4 @@
+pub mod BranchLemmas
 pub mod FitLemmas
 pub mod MarkLemmas
 pub mod PendingLemmas

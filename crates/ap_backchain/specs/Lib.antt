@@ -1,5 +1,6 @@
 pub mod Below
 pub mod BelowProps
+pub mod Branches
 pub mod Marks
 pub mod Places
 pub mod Starts

@@ -8,6 +8,7 @@
 #![tactic(auto)]
 
 pub mod answers;
+pub mod branch;
 pub mod clauses;
 pub mod copies;
 pub mod frames;

@@ -1,0 +1,156 @@
+-- Steps of branches.
+use Rattle.std.proofs.Common.{◌≡◌, ℕ, zero, suc, ◌+◌, ◌-◌, ◌<◌, List, [], ◌∷◌, ◌++◌, length, map, refl, sym, ap, ◌∙◌, subst, arith}
+use Rattle.std.proofs.lemmas.List.{append-nil}
+use Rattle.std.specs.Global.{Global}
+use Rattle.std.specs.Prelude.{Option, Some, None, Result, Ok, Err, IfOk, Vec, slice_get}
+use Rattle.ap_defs.specs.Answers as answers
+use Rattle.ap_defs.specs.Answers.{NominalOut, out_of, out_path, outs_at, outs_of}
+use Rattle.ap_defs.specs.Goals.{NominalGoal, succeed, atom, equal, fresh, both, either, exists, new, Clauses, NominalQuery, clauses_of}
+use Rattle.ap_defs.specs.Paths.{marked_query}
+use Rattle.ap_defs.specs.Types.{NominalLocal}
+use Rattle.ap_defs.specs.declared.paths.Node.{Node}
+use Rattle.ap_defs.specs.declared.paths.Node.TheVariants as nodes
+use Rattle.ap_defs.specs.declared.paths.Out.{Out}
+use Rattle.ap_defs.specs.declared.paths.Out.TheVariants as code
+use Rattle.ap_search.specs.Continuations.{Waiting}
+use Rattle.ap_search.specs.MarkedContinuations.{MarkedContinuation, NominalMark, choice, mark_in, mark_path, marked_calls_then, marked_clauses_then, marked_stack_then, marked_then, out, outs_among}
+use Rattle.ap_search.specs.PathTrees.{query_choices, width_at}
+use Rattle.ap_search.specs.Prefixes.{beginning}
+use Rattle.ap_search.proofs.MarkLemmas.{marked_stack_begins, marks_stack}
+use Rattle.ap_search.proofs.MarkedLemmas.{marked_stack_is_query}
+use Rattle.ap_search.proofs.PrefixLemmas.{beginning_whole}
+use Rattle.ap_search.proofs.QueryTreeLemmas.{outs_at_marks, place_choice, width_choice}
+use Rattle.ap_backchain.proofs.MarkLemmas.{marks_turned, settled}
+use Rattle.ap_backchain.proofs.TurnLemmas.{turns_turned}
+use Rattle.ap_backchain.specs.Branches.{IsBranchFor, IsBranchOf, IsChoosing, IsNamed, IsNodeAt, marks_of_standing, path_of_branch, path_of_standing}
+use Rattle.ap_backchain.specs.Marks.{IsSettled, choice_of, choice_of_atom, choice_of_goal, marks_from, marks_of_turned}
+use Rattle.ap_backchain.specs.Places.{position_of, positions_of}
+use Rattle.ap_backchain.specs.Positions.{Position, Turned, ends, goes, outs_from, turned}
+use Rattle.ap_backchain.specs.Problems.{clauses_in, queries_in}
+use Rattle.ap_backchain.specs.Starts.{first_position}
+use Rattle.ap_backchain.specs.Turns.{turns_from, turns_of_turned}
+use Rattle.ap_backchain.specs.declared.branch.Branch.{Branch}
+use Rattle.ap_backchain.specs.declared.branch.Standing.{Standing}
+use Rattle.ap_backchain.specs.declared.branch.Standing.TheVariants as standings
+use Rattle.ap_backchain.specs.declared.place.Place.{Place}
+use Rattle.ap_backchain.specs.declared.problem.Problem.{Problem}
+
+-- A turn of a place that doesn't choose.
+module _ (program : Clauses) (locals : List NominalLocal) (here : Place) (h : choice_of program (position_of here).waiting ≡ None) where
+  pub ended_marks : (o : NominalOut) → ends o ≡ turned program locals (position_of here) → out o ∷ [] ≡ marks_from program locals (position_of here)
+  ended_marks o e = ap (marks_of_turned program locals) e ∙ marks_turned program locals (position_of here) h
+
+  pub ended_path : (o : NominalOut) → ends o ≡ turned program locals (position_of here) → out_path o ≡ here.path.items
+  ended_path o e = subst (λ (t : Turned). IsSettled (position_of here) t) (sym e) (settled program locals (position_of here) h)
+
+  pub failed_marks : (ks : List Place) → ks ≡ [] → goes (positions_of ks) ≡ turned program locals (position_of here) → [] ≡ marks_from program locals (position_of here)
+  failed_marks ks n e = ap (λ ps. marks_of_turned program locals (goes (positions_of ps))) (sym n) ∙ ap (marks_of_turned program locals) e ∙ marks_turned program locals (position_of here) h
+
+  alone : (rest : List Place) (next : Place) → IsSettled (position_of here) (goes (positions_of (rest ++ next ∷ []))) → rest ≡ []
+  alone [] next k = refl
+  alone (r ∷ []) next k = absurd k
+  alone (r ∷ s ∷ rs) next k = absurd k
+
+  went_alone : (ks rest : List Place) (next : Place) → ks ≡ rest ++ next ∷ [] → goes (positions_of ks) ≡ turned program locals (position_of here)
+      → goes (position_of next ∷ []) ≡ turned program locals (position_of here)
+  went_alone ks rest next n e =
+      let f : goes (positions_of (rest ++ next ∷ [])) ≡ turned program locals (position_of here) = ap (λ ps. goes (positions_of ps)) (sym n) ∙ e in
+      let one : rest ≡ [] = alone rest next (subst (λ (t : Turned). IsSettled (position_of here) t) (sym f) (settled program locals (position_of here) h)) in
+      ap (λ ps. goes (positions_of (ps ++ next ∷ []))) (sym one) ∙ f
+
+  pub went_marks : (ks rest : List Place) (next : Place) → ks ≡ rest ++ next ∷ [] → goes (positions_of ks) ≡ turned program locals (position_of here)
+      → marks_from program locals (position_of next) ≡ marks_from program locals (position_of here)
+  went_marks ks rest next n e =
+      sym (append-nil (marks_from program locals (position_of next))) ∙ ap (marks_of_turned program locals) (went_alone ks rest next n e) ∙ marks_turned program locals (position_of here) h
+
+  pub went_path : (ks rest : List Place) (next : Place) → ks ≡ rest ++ next ∷ [] → goes (positions_of ks) ≡ turned program locals (position_of here)
+      → next.path.items ≡ here.path.items
+  went_path ks rest next n e =
+      subst (λ (t : Turned). IsSettled (position_of here) t) (sym (went_alone ks rest next n e)) (settled program locals (position_of here) h)
+
+  pub went_fewer : (ks rest : List Place) (next : Place) → ks ≡ rest ++ next ∷ [] → goes (positions_of ks) ≡ turned program locals (position_of here)
+      → turns_from program (position_of next) < turns_from program (position_of here)
+  went_fewer ks rest next n e =
+      let k : suc (turns_from program (position_of next) + 0) ≡ turns_from program (position_of here) = ap (λ t. suc (turns_of_turned program t)) (went_alone ks rest next n e) ∙ turns_turned program locals (position_of here) in
+      omega arith
+
+-- A place that chooses has a mark there.
+choosing_atom : (program : Clauses) (d c : ℕ) (ts : List _) (m : MarkedContinuation) (p : List ℕ) (s : _) (xs : List _) (v : ℕ) → choice_of_atom program d c ≡ Some v
+    → (rest : List NominalMark) × (marked_calls_then program d c ts m p s xs ≡ choice p v ∷ rest)
+choosing_atom program zero c ts m p s xs v h = absurd cc
+choosing_atom program (suc d) c ts m p s xs v h =
+    let rest = marked_clauses_then (marked_then (marked_calls_then program d)) ts m 1 (clauses_of program c) p s xs in
+    let e : length (clauses_of program c) ≡ v = cc in
+    (rest, ap (λ w. choice p w ∷ rest) e)
+
+choosing_goal : (program : Clauses) (d : ℕ) (g : NominalGoal) (m : MarkedContinuation) (p : List ℕ) (s : _) (xs : List _) (v : ℕ) → choice_of_goal program d g ≡ Some v
+    → (rest : List NominalMark) × (marked_then (marked_calls_then program d) g m p s xs ≡ choice p v ∷ rest)
+choosing_goal program d (atom c ts) m p s xs v h = choosing_atom program d c ts m p s xs v h
+choosing_goal program d (either f g) m p s xs v h =
+    let rest = marked_then (marked_calls_then program d) f m (p ++ 1 ∷ []) s xs ++ marked_then (marked_calls_then program d) g m (p ++ 2 ∷ []) s xs in
+    let e : 2 ≡ v = cc in
+    (rest, ap (λ w. choice p w ∷ rest) e)
+choosing_goal program d _ m p s xs v h = absurd cc
+
+choosing_by : (program : Clauses) (locals : List NominalLocal) (ws : List Waiting) (p : List ℕ) (s : _) (xs : List _) (v : ℕ) → choice_of program ws ≡ Some v
+    → (rest : List NominalMark) × (marked_stack_then program locals ws p s xs ≡ choice p v ∷ rest)
+choosing_by program locals [] p s xs v h = absurd cc
+choosing_by program locals (w ∷ ws) p s xs v h = choosing_goal program w.depth w.goal (marked_stack_then program locals ws) p s xs v h
+
+pub choosing_marks : (program : Clauses) (locals : List NominalLocal) (p : Position) (v : ℕ) → choice_of program p.waiting ≡ Some v
+    → (rest : List NominalMark) × (marks_from program locals p ≡ choice p.path v ∷ rest)
+choosing_marks program locals p v h = choosing_by program locals p.waiting p.path p.state p.brought v h
+
+-- The node of a branch is that of the search at its path.
+module _ (program : Clauses) (d : ℕ) (q : NominalQuery) where
+  chooses : (w : ℕ) (p : Place) → beginning mark_path p.path.items (map (mark_in q.locals) (marked_query program d q)) ≡ marks_from program q.locals (position_of p)
+      → choice_of program (position_of p).waiting ≡ Some w → query_choices program d q p.path.items ≡ Some w
+  chooses w p h c =
+      let m = choosing_marks program q.locals (position_of p) w c in
+      place_choice program d q p.path.items (marks_from program q.locals (position_of p)) h ∙ ap (width_at p.path.items) m.1 ∙ width_choice p.path.items w m.0
+
+  pub node_at : (n : Node) (s : Standing) → beginning mark_path (path_of_standing s) (map (mark_in q.locals) (marked_query program d q)) ≡ marks_of_standing program q.locals s
+      → IsChoosing program s → IsNamed n s → IsNodeAt program d q (path_of_standing s) n
+  node_at (nodes.Choice w kept) (standings.Choosing v p) h c k = (chooses v p h c ∙ ap Some (sym k.0), k.1)
+  node_at nodes.Answer (standings.Ended (code.Found p a)) h c k =
+      (place_choice program d q p _ h, (_, outs_at_marks program d q p ∙ ap outs_among h))
+  node_at nodes.Cut (standings.Ended (code.Cut p)) h c k = (place_choice program d q p _ h, outs_at_marks program d q p ∙ ap outs_among h)
+  node_at nodes.Stuck (standings.Ended (code.Stuck p)) h c k = (place_choice program d q p _ h, outs_at_marks program d q p ∙ ap outs_among h)
+  node_at nodes.Failed (standings.Failed path) h c k = (place_choice program d q path.items _ h, outs_at_marks program d q path.items ∙ ap outs_among h)
+  node_at _ _ h c k = absurd k
+
+  pub run_at : (s : Standing) → beginning mark_path (path_of_standing s) (map (mark_in q.locals) (marked_query program d q)) ≡ marks_of_standing program q.locals s
+      → outs_among (marks_of_standing program q.locals s) ≡ outs_at program d q (path_of_standing s)
+  run_at s h = ap outs_among (sym h) ∙ sym (outs_at_marks program d q (path_of_standing s))
+
+  pub root_marks : (s : Standing) → path_of_standing s ≡ [] → marks_of_standing program q.locals s ≡ marks_from program q.locals (first_position d q)
+      → beginning mark_path (path_of_standing s) (map (mark_in q.locals) (marked_query program d q)) ≡ marks_of_standing program q.locals s
+  root_marks s e m =
+      let first = first_position d q in
+      ap (λ p. beginning mark_path p (map (mark_in q.locals) (marked_query program d q))) e
+      ∙ ap (beginning mark_path []) (sym (marked_stack_is_query program d q))
+      ∙ beginning_whole mark_path [] (marks_from program q.locals first) (marked_stack_begins program q.locals first.waiting [] first.state [])
+      ∙ sym m
+
+asked_once : {X : Type 0} (o : Option X) (x y : X) → o ≡ Some x → o ≡ Some y → x ≡ y
+asked_once o x y h k = cc
+
+pub root_is : (p : Problem) (query : NominalQuery) (s : Standing) (b : Branch) → slice_get (queries_in p) (p.query - 1) ≡ Some query
+    → b.standing ≡ s → IsNamed b.node b.standing → path_of_standing s ≡ []
+    → marks_of_standing (clauses_in p) query.locals s ≡ marks_from (clauses_in p) query.locals (first_position p.depth query) → IsChoosing (clauses_in p) s → IsBranchOf p b
+root_is p query s b asked e named path marks choosing = λ q h.
+    subst (λ (x : NominalQuery). IsBranchFor (clauses_in p) p.depth x b) (asked_once (slice_get (queries_in p) (p.query - 1)) query q asked h)
+    (subst (λ (r : Standing). (IsNamed b.node r → IsBranchFor (clauses_in p) p.depth query (record b { standing = r }))) (sym e)
+    (λ k. record { marks = root_marks (clauses_in p) p.depth query s path marks; choosing = choosing; named = k }) named)
+
+pub atom_chooses : (program : Clauses) (d c : ℕ) → (d ≡ 0 → ⊥) → choice_of_atom program d c ≡ Some (length (clauses_of program c))
+atom_chooses program zero c h = absurd (h refl)
+atom_chooses program (suc d) c h = refl
+
+pub run_is : {E : Type 0} (p : Problem) (query : NominalQuery) (b : Branch) (r : Result (Vec Out Global) E) → slice_get (queries_in p) (p.query - 1) ≡ Some query → IsBranchOf p b
+    → IfOk r (λ v. outs_of v.items ≡ outs_among (marks_of_standing (clauses_in p) query.locals b.standing))
+    → IfOk r (λ v. (q : NominalQuery) → slice_get (queries_in p) (p.query - 1) ≡ Some q → outs_of v.items ≡ outs_at (clauses_in p) p.depth q (path_of_branch b))
+run_is p query b (Ok v) asked of h = λ q k.
+    subst (λ (x : NominalQuery). outs_of v.items ≡ outs_at (clauses_in p) p.depth x (path_of_branch b)) (asked_once (slice_get (queries_in p) (p.query - 1)) query q asked k)
+    (h ∙ run_at (clauses_in p) p.depth query b.standing (of query asked).marks)
+run_is p query b (Err e) asked of h = tt

@@ -1,0 +1,25 @@
+use Rattle.std.proofs.Common.{◌≡◌, List, map, ap, ◌∙◌, subst}
+use Rattle.ap_defs.specs.Goals.{Clauses, clause_of, query_of}
+use Rattle.ap_defs.specs.Types.{NominalLocal, locals_of}
+use Rattle.ap_backchain.specs.Branches.{IsChoosing, marks_of_standing}
+use Rattle.ap_backchain.specs.Marks.{marks_from}
+use Rattle.ap_backchain.specs.Places.{position_of}
+use Rattle.ap_backchain.specs.Positions.{Position}
+use Rattle.ap_backchain.specs.Problems.{clauses_in}
+use Rattle.ap_backchain.proofs.BranchLemmas.{root_is}
+use Rattle.ap_backchain.proofs.branch.Branch.root.Goals as goal
+
+pub returns-clause-of : goal.returns-clause-of
+returns-clause-of c =
+    let p = c.args.p.now in
+    let query = query_of c.query_of_problem-query.result.now in
+    let s = c.in_ok-standing.standing in
+    let place = position_of c.in_ok-place.place in
+    let same = c.clauses_of_problem-clauses.ensures.clauses in
+    let given = map (map clause_of) c.clauses_of_problem-clauses.result.now in
+    let marks = subst (λ (x : Clauses). marks_of_standing x query.locals s ≡ marks_from x query.locals place) same
+    (subst (λ (ls : List NominalLocal). marks_of_standing given ls s ≡ marks_from given ls place) (ap locals_of c.items.ensures) c.in_ok-standing.ensures.marks) in
+    root_is p query s c.in_ok-branch.branch c.query_of_problem-query.ensures.query c.in_ok-branch.ensures.standing c.in_ok-branch.ensures.named
+    (c.in_ok-standing.ensures.path ∙ ap (λ (x : Position). x.path) c.in_ok-place.ensures)
+    (marks ∙ ap (λ (x : Position). marks_from (clauses_in p) query.locals x) c.in_ok-place.ensures)
+    (subst (λ (x : Clauses). IsChoosing x s) same c.in_ok-standing.ensures.choosing)

@@ -1,0 +1,68 @@
+-- Branches, and what it is for one to be of a problem.
+use Rattle.std.specs.Prelude.{◌≡◌, ◌-◌, ℕ, List, [], ◌∷◌, Option, Some, None, map, slice_get}
+use Rattle.std.specs.List.{range_with_len}
+use Rattle.ap_defs.specs.Answers as answers
+use Rattle.ap_defs.specs.Answers.{NominalAnswer, out_of, out_path, outs_at}
+use Rattle.ap_defs.specs.Goals.{Clauses, NominalQuery}
+use Rattle.ap_defs.specs.Paths.{marked_query}
+use Rattle.ap_defs.specs.Types.{NominalLocal}
+use Rattle.ap_defs.specs.declared.paths.Node.{Node}
+use Rattle.ap_defs.specs.declared.paths.Node.TheVariants as nodes
+use Rattle.ap_defs.specs.declared.paths.Out.TheVariants as code
+use Rattle.ap_search.specs.MarkedContinuations.{NominalMark, mark_in, mark_path, out}
+use Rattle.ap_search.specs.PathTrees.{query_choices}
+use Rattle.ap_search.specs.Prefixes.{beginning}
+use Rattle.ap_backchain.specs.Marks.{choice_of, marks_from}
+use Rattle.ap_backchain.specs.Places.{position_of}
+use Rattle.ap_backchain.specs.Problems.{clauses_in, queries_in}
+use Rattle.ap_backchain.specs.declared.branch.Branch.{Branch}
+use Rattle.ap_backchain.specs.declared.branch.Standing.{Standing}
+use Rattle.ap_backchain.specs.declared.branch.Standing.TheVariants as standings
+use Rattle.ap_backchain.specs.declared.problem.Problem.{Problem}
+
+abbrev pub path_of_standing : Standing → List ℕ
+path_of_standing (standings.Choosing w p) = p.path.items
+path_of_standing (standings.Ended o) = out_path (out_of o)
+path_of_standing (standings.Failed path) = path.items
+
+-- the marks of the search from where a branch stands
+abbrev pub marks_of_standing : Clauses → List NominalLocal → Standing → List NominalMark
+marks_of_standing program locals (standings.Choosing w p) = marks_from program locals (position_of p)
+marks_of_standing program locals (standings.Ended o) = out (out_of o) ∷ []
+marks_of_standing program locals (standings.Failed path) = []
+
+-- where it chooses it knows among how many
+abbrev pub IsChoosing : Clauses → Standing → Type 0
+IsChoosing program (standings.Choosing w p) = choice_of program (position_of p).waiting ≡ Some w
+IsChoosing program (standings.Ended o) = Unit {0}
+IsChoosing program (standings.Failed path) = Unit {0}
+
+-- the node says where it stands; each choice is kept
+abbrev pub IsNamed : Node → Standing → Type 0
+IsNamed (nodes.Choice w kept) (standings.Choosing v p) = (w ≡ v) × (kept ≡ range_with_len 1 w)
+IsNamed nodes.Answer (standings.Ended (code.Found p a)) = Unit {0}
+IsNamed nodes.Cut (standings.Ended (code.Cut p)) = Unit {0}
+IsNamed nodes.Stuck (standings.Ended (code.Stuck p)) = Unit {0}
+IsNamed nodes.Failed (standings.Failed path) = Unit {0}
+IsNamed _ _ = ⊥
+
+abbrev pub path_of_branch : Branch → List ℕ
+path_of_branch b = path_of_standing b.standing
+
+-- all that the branch holds is what the search of the query has at its path
+pub record IsBranchFor (program : Clauses) (depth : ℕ) (q : NominalQuery) (b : Branch) : Type 0 where
+  pub marks : beginning mark_path (path_of_branch b) (map (mark_in q.locals) (marked_query program depth q)) ≡ marks_of_standing program q.locals b.standing
+  pub choosing : IsChoosing program b.standing
+  pub named : IsNamed b.node b.standing
+
+abbrev pub IsBranchOf : Problem → Branch → Type 0
+IsBranchOf p b = (q : NominalQuery) → slice_get (queries_in p) (p.query - 1) ≡ Some q → IsBranchFor (clauses_in p) p.depth q b
+
+-- The node of the search at a path: a choice where it chooses there, and there keeps each choice; an answer, cut or stuck where
+-- that is its one output with just this path; and failed where it has nothing at all.
+abbrev pub IsNodeAt : Clauses → ℕ → NominalQuery → List ℕ → Node → Type 0
+IsNodeAt program d q p (nodes.Choice w kept) = (query_choices program d q p ≡ Some w) × (kept ≡ range_with_len 1 w)
+IsNodeAt program d q p nodes.Answer = (query_choices program d q p ≡ None) × ((a : NominalAnswer) × (outs_at program d q p ≡ answers.found p a ∷ []))
+IsNodeAt program d q p nodes.Cut = (query_choices program d q p ≡ None) × (outs_at program d q p ≡ answers.cut p ∷ [])
+IsNodeAt program d q p nodes.Stuck = (query_choices program d q p ≡ None) × (outs_at program d q p ≡ answers.stuck p ∷ [])
+IsNodeAt program d q p nodes.Failed = (query_choices program d q p ≡ None) × (outs_at program d q p ≡ [])
