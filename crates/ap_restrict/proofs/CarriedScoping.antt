@@ -1,5 +1,5 @@
 -- Carrying out swappings brings no identifier, and no identifier to another place.
-use Rattle.std.proofs.Common.{◌≡◌, ℕ, Bool, true, false, ◌||◌, ◌&&◌, List, [], ◌∷◌, ◌++◌, map, refl, sym, ap, ap₂, ◌∙◌, subst}
+use Rattle.std.proofs.Common.{◌≡◌, ℕ, Bool, true, false, ◌||◌, ◌&&◌, List, [], ◌∷◌, ◌++◌, map, refl, sym, ap, ap₂, subst}
 use Rattle.std.specs.Prelude.{◌==◌, not, if◌then◌else◌}
 use Rattle.ap_defs.specs.declared.terms.Name.{Name}
 use Rattle.ap_defs.specs.declared.terms.Id.TheVariants as ids
@@ -12,7 +12,7 @@ use Rattle.ap_defs.specs.Types.{NominalLocal}
 use Rattle.ap_defs.specs.Goals.{GoalOver, succeed, atom, equal, fresh, both, either, exists, new}
 use Rattle.ap_theory.proofs.BooleanLemmas.{or_false}
 use Rattle.ap_program.specs.Typed.{stands_in_raw, stands_in_term, stands_in_swaps, stands_in_some, stands_free, brought, AreMarked, EachOnce, IsScoped, id_number}
-use Rattle.ap_program.specs.CarryingOut.{carried_out, abs_by, swapped_by, map_goal}
+use Rattle.ap_program.specs.CarryingOut.{carried_out, map_goal}
 
 neither : (p q : Bool) → p ≡ false → q ≡ false → (p || q) ≡ false
 neither p q e f = ap₂ (λ x y. x || y) e f

@@ -1,12 +1,11 @@
 -- Carrying out swappings keeps types.
-use Rattle.std.proofs.Common.{◌≡◌, ℕ, zero, suc, Bool, true, false, List, [], ◌∷◌, ◌++◌, map, refl, sym, ap, ◌∙◌, subst, inl, inr}
+use Rattle.std.proofs.Common.{◌≡◌, ℕ, zero, suc, List, [], ◌∷◌, ◌++◌, refl, sym, ap, ◌∙◌, subst, inl, inr}
 use Rattle.std.specs.Prelude.{Option, Some, None}
 use Rattle.ap_defs.specs.declared.terms.Name.{Name}
 use Rattle.ap_defs.specs.declared.terms.Swap.{Swap}
 use Rattle.ap_defs.specs.declared.terms.Var.{Var}
-use Rattle.ap_defs.specs.declared.terms.Id.{Id}
 use Rattle.ap_defs.specs.declared.terms.Id.TheVariants as ids
-use Rattle.ap_defs.specs.Permutations.{name_eq, swap_of, swap_name, act_name, left_name, right_name}
+use Rattle.ap_defs.specs.Permutations.{swap_of, swap_name, act_name}
 use Rattle.ap_defs.specs.RawTerms as raw
 use Rattle.ap_defs.specs.RawTerms.{RawTerm}
 use Rattle.ap_defs.specs.Terms as terms
@@ -17,8 +16,8 @@ use Rattle.ap_defs.specs.Typing.{Want, nothing, one, more, arguments, IsApplicat
 use Rattle.ap_defs.specs.Printing.{constructor_in}
 use Rattle.ap_defs.specs.Answers.{kind_at}
 use Rattle.ap_theory.proofs.PermutationLemmas.{name_tells, swap_left, swap_right, swap_other}
-use Rattle.ap_program.specs.RawTyping.{IsNameOf, IsVarOf, IsOfSort, AreOfOneSort, IsTypedRaw, AreSwapsOf, IsTypedTerm}
-use Rattle.ap_program.specs.CarryingOut.{carried_out, abs_by, swapped_by}
+use Rattle.ap_program.specs.RawTyping.{IsNameOf, IsTypedRaw, AreSwapsOf, IsTypedTerm}
+use Rattle.ap_program.specs.CarryingOut.{carried_out}
 use Rattle.ap_program.specs.NameRestriction.{variable_of, variable_binders, variable_places}
 
 -- what is typed of one argument is typed of another

@@ -1,5 +1,5 @@
 -- What the test of a head tells.
-use Rattle.std.proofs.Common.{◌≡◌, ◌≢◌, ◌⊎◌, ◌↔◌, ℕ, Bool, true, false, ◌&&◌, ◌||◌, IsTrue, List, [], ◌∷◌, refl, sym, ap, ◌∙◌, subst, inl, inr, true≢false}
+use Rattle.std.proofs.Common.{◌≡◌, ◌↔◌, ℕ, Bool, true, IsTrue, List, [], ◌∷◌, refl, sym, ap, ◌∙◌, subst, inl, inr, true≢false}
 use Rattle.std.specs.Prelude.{not, Option, Some, None}
 use Rattle.ap_defs.specs.declared.terms.Name.{Name}
 use Rattle.ap_defs.specs.declared.terms.Var.{Var}
@@ -12,7 +12,7 @@ use Rattle.ap_defs.specs.Answers.{kind_at}
 use Rattle.ap_defs.specs.Resolution.{kinds_of}
 use Rattle.ap_types.specs.declared.holding.Holding.{Holding}
 use Rattle.ap_types.specs.Rounds.{IsLeast, marked}
-use Rattle.ap_types.specs.Holding.{holds_if, some_holds, MayHold}
+use Rattle.ap_types.specs.Holding.{holds_if, some_holds}
 use Rattle.ap_types.specs.Tables.{IsTableOf}
 use Rattle.ap_types.proofs.QuestionLemmas.{holds_least}
 use Rattle.ap_theory.specs.Contexts.{Context, Fresh}

@@ -7,7 +7,7 @@ use Rattle.ap_defs.specs.declared.terms.Var.{Var}
 use Rattle.ap_defs.specs.Types.{NominalLocal, NominalConstructor, locals_of}
 use Rattle.ap_defs.specs.Terms.{NominalTerm}
 use Rattle.ap_defs.specs.RawTerms.{RawTerm}
-use Rattle.ap_defs.specs.Goals.{NominalGoal, NominalClause, ClauseOver}
+use Rattle.ap_defs.specs.Goals.{NominalGoal, ClauseOver}
 use Rattle.ap_defs.specs.Renaming.{local_names}
 use Rattle.ap_program.specs.CarryingOut.{carried_out, map_clause, map_goal}
 use Rattle.ap_program.specs.declared.faults.NameFault.{NameFault}

@@ -1,5 +1,5 @@
 -- A typed program all of whose items pass is restricted, once its swappings are carried out.
-use Rattle.std.proofs.Common.{◌≡◌, ◌≤◌, ◌+◌, ℕ, suc, List, [], ◌∷◌, ◌++◌, map, length, refl, sym, ap, ap₂, ◌∙◌, subst}
+use Rattle.std.proofs.Common.{◌≡◌, ◌≤◌, ◌+◌, ℕ, suc, List, [], ◌∷◌, ◌++◌, map, length, refl, sym, ap₂, ◌∙◌, subst}
 use Rattle.std.proofs.lemmas.List.{length-map}
 use Rattle.std.specs.Prelude.{Option, Some, None}
 use Rattle.ap_defs.specs.RawTerms.{RawTerm}
@@ -9,9 +9,9 @@ use Rattle.ap_defs.specs.Types as types
 use Rattle.ap_defs.specs.Goals.{GoalOver, succeed, atom, equal, fresh, both, either, exists, new, ClauseOver, QueryOver, ProgramOver}
 use Rattle.ap_defs.specs.Resolution.{kinds_of}
 use Rattle.ap_program.specs.RawTyping.{HasRawType, HasTermType}
-use Rattle.ap_program.specs.Typed.{HaveTypes, AreArguments, predicate_at, IsTypedGoal, raw_form, term_form, FitsClause, IsTypedClause, IsTypedQuery, AreTypedClauses, AreTypedFrom, AreTypedQueries, IsTypedRawProgram, IsTypedProgram}
+use Rattle.ap_program.specs.Typed.{HaveTypes, AreArguments, predicate_at, IsTypedGoal, raw_form, term_form, IsTypedClause, IsTypedQuery, AreTypedClauses, AreTypedFrom, AreTypedQueries, IsTypedRawProgram}
 use Rattle.ap_program.specs.CarryingOut.{carried_out, map_goal, map_clause, map_query, carried_out_program}
-use Rattle.ap_program.specs.NameRestriction.{RawItem, clause, query, Passes, AllPass, HasNamesAlone, variable_binders, variable_places, in_each, terms_of_goal, items_of, items_of_lists, AreRestrictedClauses, AreRestrictedLists, IsRestricted, item_count, most_items, sum_of_lengths}
+use Rattle.ap_program.specs.NameRestriction.{RawItem, clause, query, AllPass, HasNamesAlone, variable_binders, variable_places, in_each, terms_of_goal, items_of, items_of_lists, AreRestrictedClauses, AreRestrictedLists, IsRestricted, item_count, most_items, sum_of_lengths}
 use Rattle.ap_restrict.proofs.PlaceLemmas.{in_each_append}
 use Rattle.ap_restrict.proofs.CarriedTyping.{HasNames, carried_typed, nothing_left, nothing_right}
 use Rattle.ap_restrict.proofs.CarriedScoping.{carried_scoped}

@@ -1,8 +1,8 @@
 -- The kind of an identifier, by its number.
-use Rattle.std.proofs.Common.{◌≡◌, ◌<◌, ◌≤◌, ℕ, zero, suc, List, [], ◌∷◌, length, get_or, refl, arith, map}
-use Rattle.std.specs.Prelude.{Option, Some, None}
+use Rattle.std.proofs.Common.{◌≡◌, ◌<◌, ◌≤◌, ℕ, zero, suc, List, [], ◌∷◌, length, get_or, refl, arith}
+use Rattle.std.specs.Prelude.{Some, None}
 use Rattle.ap_defs.specs.declared.goals.Local.{Local}
-use Rattle.ap_defs.specs.Types.{NominalKind, kind_of, locals_of}
+use Rattle.ap_defs.specs.Types.{kind_of, locals_of}
 use Rattle.ap_defs.specs.Answers.{kind_at}
 use Rattle.ap_defs.specs.Resolution.{kinds_of}
 

@@ -1,5 +1,5 @@
 -- The first variable that stands where a name belongs.
-use Rattle.std.specs.Prelude.{List, [], ◌∷◌, ◌++◌, Option, Some, None}
+use Rattle.std.specs.Prelude.{List, [], ◌∷◌, Option, Some, None}
 use Rattle.ap_defs.specs.declared.terms.Var.{Var}
 use Rattle.ap_defs.specs.RawTerms.{RawTerm}
 use Rattle.ap_program.specs.NameRestriction.{variable_binders, variable_places}

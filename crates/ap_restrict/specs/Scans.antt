@@ -1,5 +1,5 @@
 -- Verdicts on items, and the first fault of items so far.
-use Rattle.std.specs.Prelude.{Bool, if◌then◌else◌, nat_lt, List, [], ◌∷◌, ◌++◌, Option, Some, None}
+use Rattle.std.specs.Prelude.{if◌then◌else◌, nat_lt, List, Option, Some, None}
 use Rattle.ap_defs.specs.Types.{NominalConstructor}
 use Rattle.ap_program.specs.declared.faults.NameFault.{NameFault}
 use Rattle.ap_program.specs.NameRestriction.{RawItem, Passes, AllPass, IsFaultOf, IsFirstFault}

@@ -3,7 +3,7 @@ use Rattle.ap_defs.specs.RawTerms.{raw_of}
 use Rattle.ap_defs.specs.Types.{constructor_of, locals_of}
 use Rattle.ap_defs.specs.Goals.{query_over}
 use Rattle.ap_program.specs.NameRestriction.{query}
-use Rattle.ap_restrict.proofs.ItemLemmas.{fault_is, binder_is, swap_is, names_alone}
+use Rattle.ap_restrict.proofs.ItemLemmas.{fault_is, binder_is, swap_is}
 use Rattle.ap_restrict.proofs.items.query_fault.Goals as goal
 
 pub returns-in-Some : goal.returns-in-Some

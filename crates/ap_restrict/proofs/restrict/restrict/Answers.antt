@@ -1,6 +1,5 @@
-use Rattle.std.proofs.Common.{map, subst, sym}
+use Rattle.std.proofs.Common.{subst, sym}
 use Rattle.ap_defs.specs.RawTerms.{raw_of}
-use Rattle.ap_defs.specs.Types.{constructor_of}
 use Rattle.ap_defs.specs.Goals.{program_over}
 use Rattle.ap_program.specs.NameRestriction.{IsRestricted, items_of}
 use Rattle.ap_restrict.specs.Scans.{IsScan}

@@ -1,4 +1,4 @@
-use Rattle.std.proofs.Common.{◌<◌, length, arith}
+use Rattle.std.proofs.Common.{arith}
 use Rattle.ap_defs.specs.Types.{constructor_of}
 use Rattle.std.proofs.Common.{map}
 use Rattle.ap_restrict.proofs.TableLemmas.{table_at}
