@@ -1,5 +1,5 @@
 -- The lines that tell a text's first fault.
-use Rattle.std.specs.Prelude.{ℕ, List, ◌++◌, codes}
+use Rattle.std.specs.Prelude.{ℕ, ◌==◌, if◌then◌else◌, List, ◌++◌, codes}
 use Rattle.std.specs.Fmt.{decimal}
 use Rattle.ap_lexer.specs.declared.token.LexFault.{LexFault}
 use Rattle.ap_syntax.specs.declared.faults.SynFault.{SynFault}
@@ -11,29 +11,27 @@ use Rattle.ap_report.specs.declared.status.Status.TheVariants as status
 -- the line of a fault of an item, with its kind's number and what is said of it
 abbrev pub fault_line : List ℕ → ℕ → ℕ → ℕ → List ℕ → List ℕ
 fault_line what item line kind said =
-    codes "% " ++ what ++ codes " fault: item " ++ decimal item ++ codes ", line " ++ decimal line
-    ++ codes ", kind " ++ decimal kind ++ codes " " ++ said ++ codes "\n"
+    codes "% " ++ (what ++ (codes " fault: item " ++ (decimal item ++ (codes ", line " ++ (decimal line
+    ++ (codes ", kind " ++ (decimal kind ++ (codes " " ++ (said ++ codes "\n")))))))))
 
 -- the words of the kinds
 abbrev pub syntax_word : ℕ → List ℕ
-syntax_word 1 = codes "NotUtf8"
-syntax_word 2 = codes "Character"
-syntax_word 3 = codes "Grammar"
-syntax_word 4 = codes "TooDeep"
-syntax_word kind = codes "Unended"
+syntax_word kind =
+    if kind == 1 then codes "NotUtf8" else
+    (if kind == 2 then codes "Character" else
+    (if kind == 3 then codes "Grammar" else
+    (if kind == 4 then codes "TooDeep" else codes "Unended")))
 
 abbrev pub type_word : ℕ → List ℕ
-type_word 1 = codes "Undeclared"
-type_word 2 = codes "Redeclared"
-type_word 3 = codes "Arity"
-type_word 4 = codes "Clash"
-type_word 5 = codes "Ambiguous"
-type_word kind = codes "Empty"
+type_word kind =
+    if kind == 1 then codes "Undeclared" else
+    (if kind == 2 then codes "Redeclared" else
+    (if kind == 3 then codes "Arity" else
+    (if kind == 4 then codes "Clash" else
+    (if kind == 5 then codes "Ambiguous" else codes "Empty"))))
 
 abbrev pub name_word : ℕ → List ℕ
-name_word 1 = codes "VariableBinder"
-name_word 2 = codes "VariableSwap"
-name_word kind = codes "HeadName"
+name_word kind = if kind == 1 then codes "VariableBinder" else (if kind == 2 then codes "VariableSwap" else codes "HeadName")
 
 -- the reports of faults
 abbrev pub token_report : LexFault → Report
@@ -46,4 +44,4 @@ abbrev pub type_report : TypeFault → Report
 type_report f = record { bytes = fault_line (codes "type") f.item f.line f.kind (type_word f.kind); status = status.Types }
 
 abbrev pub name_report : NameFault → Report
-name_report f = record { bytes = fault_line (codes "name") f.item f.line f.kind (name_word f.kind ++ codes ", name " ++ f.name); status = status.Names }
+name_report f = record { bytes = fault_line (codes "name") f.item f.line f.kind (name_word f.kind ++ (codes ", name " ++ f.name)); status = status.Names }

@@ -1,0 +1,3 @@
+mod NameFaults
+mod Reports
+mod QueryReports
