@@ -3,9 +3,8 @@ use Rattle.std.proofs.Common.{◌≡◌, ℕ, zero, suc, ◌+◌, ◌-◌, ◌<�
 use Rattle.std.proofs.lemmas.List.{append-nil}
 use Rattle.std.specs.Global.{Global}
 use Rattle.std.specs.Prelude.{Option, Some, None, Result, Ok, Err, IfOk, Vec, slice_get}
-use Rattle.ap_defs.specs.Answers as answers
-use Rattle.ap_defs.specs.Answers.{NominalOut, out_of, out_path, outs_at, outs_of}
-use Rattle.ap_defs.specs.Goals.{NominalGoal, succeed, atom, equal, fresh, both, either, exists, new, Clauses, NominalQuery, clauses_of}
+use Rattle.ap_defs.specs.Answers.{NominalOut, out_path, outs_at, outs_of}
+use Rattle.ap_defs.specs.Goals.{NominalGoal, atom, either, Clauses, NominalQuery, clauses_of}
 use Rattle.ap_defs.specs.Paths.{marked_query}
 use Rattle.ap_defs.specs.Types.{NominalLocal}
 use Rattle.ap_defs.specs.declared.paths.Node.{Node}
@@ -16,7 +15,7 @@ use Rattle.ap_search.specs.Continuations.{Waiting}
 use Rattle.ap_search.specs.MarkedContinuations.{MarkedContinuation, NominalMark, choice, mark_in, mark_path, marked_calls_then, marked_clauses_then, marked_stack_then, marked_then, out, outs_among}
 use Rattle.ap_search.specs.PathTrees.{query_choices, width_at}
 use Rattle.ap_search.specs.Prefixes.{beginning}
-use Rattle.ap_search.proofs.MarkLemmas.{marked_stack_begins, marks_stack}
+use Rattle.ap_search.proofs.MarkLemmas.{marked_stack_begins}
 use Rattle.ap_search.proofs.MarkedLemmas.{marked_stack_is_query}
 use Rattle.ap_search.proofs.PrefixLemmas.{beginning_whole}
 use Rattle.ap_search.proofs.QueryTreeLemmas.{outs_at_marks, place_choice, width_choice}
@@ -25,7 +24,7 @@ use Rattle.ap_backchain.proofs.TurnLemmas.{turns_turned}
 use Rattle.ap_backchain.specs.Branches.{IsBranchFor, IsBranchOf, IsChoosing, IsNamed, IsNodeAt, marks_of_standing, path_of_branch, path_of_standing}
 use Rattle.ap_backchain.specs.Marks.{IsSettled, choice_of, choice_of_atom, choice_of_goal, marks_from, marks_of_turned}
 use Rattle.ap_backchain.specs.Places.{position_of, positions_of}
-use Rattle.ap_backchain.specs.Positions.{Position, Turned, ends, goes, outs_from, turned}
+use Rattle.ap_backchain.specs.Positions.{Position, Turned, ends, goes, turned}
 use Rattle.ap_backchain.specs.Problems.{clauses_in, queries_in}
 use Rattle.ap_backchain.specs.Starts.{first_position}
 use Rattle.ap_backchain.specs.Turns.{turns_from, turns_of_turned}

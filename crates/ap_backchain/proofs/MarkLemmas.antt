@@ -1,10 +1,10 @@
 -- A place that doesn't choose has the marks of what a turn makes of it.
-use Rattle.std.proofs.Common.{◌≡◌, ℕ, zero, suc, List, [], ◌∷◌, ◌++◌, refl, sym, ap, ◌∙◌}
+use Rattle.std.proofs.Common.{◌≡◌, ℕ, zero, suc, List, [], ◌∷◌, refl}
 use Rattle.std.proofs.lemmas.List.{append-nil}
 use Rattle.std.specs.Prelude.{Option, Some, None}
 use Rattle.ap_defs.specs.declared.terms.Cond.{Cond}
 use Rattle.ap_defs.specs.Freshness.{reduce}
-use Rattle.ap_defs.specs.Goals.{NominalGoal, succeed, atom, equal, fresh, both, either, exists, new, Clauses, clauses_of}
+use Rattle.ap_defs.specs.Goals.{NominalGoal, succeed, atom, equal, fresh, both, either, exists, new, Clauses}
 use Rattle.ap_defs.specs.Occurrences.{free_vars}
 use Rattle.ap_defs.specs.Resolution.{State, fresh_for_each}
 use Rattle.ap_defs.specs.Substitution.{under}
@@ -15,7 +15,7 @@ use Rattle.ap_defs.specs.Unification.{Unified, reduce_all, unify}
 use Rattle.ap_search.specs.Continuations.{Waiting}
 use Rattle.ap_search.specs.MarkedContinuations.{marked_calls_then, marked_stack_then, marked_then, marks_if_reduced, marks_if_unified, marks_test_fresh}
 use Rattle.ap_backchain.specs.Marks.{IsSettled, choice_of, choice_of_atom, choice_of_goal, marks_from, marks_from_each, marks_of_turned}
-use Rattle.ap_backchain.specs.Positions.{Position, Turned, each_position, ends, goes, goes_with, reduced_state, turned, turned_atom, turned_by, turned_fresh, turned_goal, unified_state, with_state}
+use Rattle.ap_backchain.specs.Positions.{Position, Turned, each_position, ends, goes, reduced_state, turned, turned_atom, turned_by, turned_fresh, turned_goal, unified_state, with_state}
 
 marks_unified : (program : Clauses) (locals : List NominalLocal) (f : State → Position) (s : State) (o : Option Unified)
     → marks_from_each program locals (each_position f (unified_state s o)) ≡ marks_if_unified (λ r. marks_from program locals (f r)) s o

@@ -1,7 +1,6 @@
 -- Kinds and clauses at their places.
-use Rattle.std.proofs.Common.{◌≡◌, ℕ, zero, suc, ◌+◌, ◌<◌, ◌≤◌, ◌^◌, List, [], ◌∷◌, length, get_or, map, refl, sym, ap, ◌∙◌, arith, subst}
+use Rattle.std.proofs.Common.{◌≡◌, ℕ, zero, suc, ◌<◌, ◌≤◌, ◌^◌, List, [], ◌∷◌, length, get_or, map, refl, sym, ap, arith, subst}
 use Rattle.std.specs.Prelude.{Some, None}
-use Rattle.std.proofs.lemmas.List.{length-map}
 use Rattle.ap_defs.specs.Answers.{kind_at}
 use Rattle.ap_defs.specs.Goals.{clause_of, clauses_of, query_of, Clauses}
 use Rattle.ap_defs.specs.Types.{NominalSignature, kind_of}

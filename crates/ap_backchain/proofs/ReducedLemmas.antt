@@ -1,5 +1,5 @@
 -- Conditions of one problem after another.
-use Rattle.std.proofs.Common.{◌≡◌, List, [], ◌∷◌, ◌++◌, refl, sym, ap, ◌∙◌, append_assoc}
+use Rattle.std.proofs.Common.{◌≡◌, List, [], ◌++◌, refl, ap, append_assoc}
 use Rattle.std.specs.Prelude.{Option, Some, None}
 use Rattle.ap_defs.specs.Freshness.{both}
 use Rattle.ap_defs.specs.declared.terms.Cond.{Cond}

@@ -1,5 +1,5 @@
 -- Branches, and what it is for one to be of a problem.
-use Rattle.std.specs.Prelude.{◌≡◌, ◌-◌, ℕ, List, [], ◌∷◌, Option, Some, None, map, slice_get}
+use Rattle.std.specs.Prelude.{◌≡◌, ◌-◌, ℕ, List, [], ◌∷◌, Some, None, map, slice_get}
 use Rattle.std.specs.List.{range_with_len}
 use Rattle.ap_defs.specs.Answers as answers
 use Rattle.ap_defs.specs.Answers.{NominalAnswer, out_of, out_path, outs_at}

@@ -1,7 +1,7 @@
 -- The marks of a place, where it chooses, and what a turn makes of a place that doesn't choose.
 use Rattle.std.specs.Prelude.{◌≡◌, ℕ, zero, suc, List, [], ◌∷◌, ◌++◌, length, Option, Some, None}
 use Rattle.ap_defs.specs.Answers.{out_path}
-use Rattle.ap_defs.specs.Goals.{NominalGoal, succeed, atom, equal, fresh, both, either, exists, new, Clauses, clauses_of}
+use Rattle.ap_defs.specs.Goals.{NominalGoal, atom, either, Clauses, clauses_of}
 use Rattle.ap_defs.specs.Types.{NominalLocal}
 use Rattle.ap_search.specs.Continuations.{Waiting}
 use Rattle.ap_search.specs.MarkedContinuations.{NominalMark, marked_stack_then, out}

@@ -1,8 +1,7 @@
 -- Where the search of a query begins.
-use Rattle.std.specs.Prelude.{ℕ, List, [], ◌∷◌}
+use Rattle.std.specs.Prelude.{ℕ, [], ◌∷◌}
 use Rattle.ap_defs.specs.Goals.{NominalQuery}
 use Rattle.ap_defs.specs.Resolution.{first_state}
-use Rattle.ap_search.specs.Continuations.{Waiting}
 use Rattle.ap_backchain.specs.Positions.{Position}
 
 abbrev pub first_position : ℕ → NominalQuery → Position

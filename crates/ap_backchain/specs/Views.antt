@@ -1,6 +1,5 @@
 -- What the values of the program stand for.
 use Rattle.std.specs.Prelude.{List, [], ◌∷◌, Option, Some, None, map}
-use Rattle.ap_defs.specs.Answers.{out_of}
 use Rattle.ap_defs.specs.Goals.{goal_of}
 use Rattle.ap_defs.specs.Renaming.{rename_goal}
 use Rattle.ap_defs.specs.Resolution.{State}

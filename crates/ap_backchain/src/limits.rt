@@ -4,7 +4,8 @@ ghost use Rattle.std.specs.Prelude.{◌≡◌, true, length, map};
 ghost use Rattle.ap_defs.specs.Goals.{clause_of, goal_of, query_of};
 ghost use Rattle.ap_defs.specs.Renaming.{AreBelow, AreSwapsBelow, IsBelow, IsGoalBelow};
 ghost use Rattle.ap_defs.specs.Terms.{term_of};
-ghost use Rattle.ap_backchain.specs.Below.{AreClausesBelow, AreEachBelow, IsClauseBelow, IsQueryBelow};
+ghost use Rattle.ap_search.specs.FitStates.{AreFitClauses, IsFitClause};
+ghost use Rattle.ap_backchain.specs.Below.{AreClausesBelow, IsQueryBelow};
 
 use ap_defs::goals::{Clause, Goal, Query};
 use ap_defs::lists::List;
@@ -57,14 +58,14 @@ fn does_goal_fit(n: u64, goal: &Goal<Term>) -> bool
 }
 
 fn does_clause_fit(clause: &Clause<Term>) -> bool
-    ensures { result ≡ true → IsClauseBelow (clause_of clause.now) }
+    ensures { result ≡ true → IsFitClause (clause_of clause.now) }
 {
     let n = clause.locals.items().len() as u64;
     do_terms_fit(n, clause.args.items()) && does_goal_fit(n, &clause.body)
 }
 
 fn do_each_fit(clauses: &[Clause<Term>]) -> bool
-    ensures { result ≡ true → AreEachBelow (map clause_of clauses.now) }
+    ensures { result ≡ true → AreFitClauses (map clause_of clauses.now) }
 {
     match clauses {
         [] => true,

@@ -1,4 +1,4 @@
-//! Branches with more goals, choices and variables, or in other states.
+//! Places with more goals, choices and variables, or in other states.
 
 ghost use Rattle.std.specs.Prelude.{◌≡◌, ◌≤◌, IfOk, length};
 ghost use Rattle.ap_defs.specs.Goals.{goal_of};

@@ -1,4 +1,4 @@
-use Rattle.std.proofs.Common.{◌≡◌, [], ◌∷◌, ap, sym, arith}
+use Rattle.std.proofs.Common.{[], ◌∷◌, ap}
 use Rattle.ap_backchain.proofs.PlaceLemmas.{kind_here, kind_past}
 use Rattle.ap_backchain.proofs.answers.typed.Goals as goal
 

@@ -1,4 +1,4 @@
-use Rattle.std.proofs.Common.{◌≡◌, [], ◌++◌, map, ap, ◌∙◌, sym, append_assoc}
+use Rattle.std.proofs.Common.{[], ◌++◌, map, ap, ◌∙◌, sym, append_assoc}
 use Rattle.std.proofs.lemmas.List.{append-nil}
 use Rattle.ap_defs.specs.Answers.{ascending_vars}
 use Rattle.ap_defs.specs.Occurrences.{vars_of_terms}

@@ -1,4 +1,4 @@
-use Rattle.std.proofs.Common.{◌≡◌, ℕ, List, [], map, sym, subst}
+use Rattle.std.proofs.Common.{◌≡◌, List, [], map, sym, subst}
 use Rattle.std.specs.Prelude.{MatchOption, Some, None}
 use Rattle.ap_defs.specs.Goals.{clause_of}
 use Rattle.ap_search.specs.Continuations.{Waiting}

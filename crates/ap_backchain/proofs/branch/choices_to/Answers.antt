@@ -1,4 +1,4 @@
-use Rattle.std.proofs.Common.{◌≡◌, ◌+◌, ◌-◌, suc, List, [], ◌∷◌, ◌++◌, ap, ◌∙◌, sym, append_assoc, arith}
+use Rattle.std.proofs.Common.{◌≡◌, ◌+◌, ◌-◌, suc, [], ◌∷◌, ◌++◌, ap, ◌∙◌, sym, append_assoc, arith}
 use Rattle.std.specs.List.{range_with_len}
 use Rattle.ap_backchain.proofs.branch.choices_to.Goals as goal
 

@@ -1,8 +1,7 @@
-use Rattle.std.proofs.Common.{◌≡◌, length, List, [], ◌∷◌, ap, ◌∙◌, sym, subst}
+use Rattle.std.proofs.Common.{length, List, [], ap, ◌∙◌, sym, subst}
 use Rattle.ap_search.specs.Continuations.{Waiting}
 use Rattle.ap_backchain.specs.Below.{AreWaitingBelow}
-use Rattle.ap_backchain.specs.Positions.{Position}
-use Rattle.ap_backchain.specs.Views.{stack_of, state_of, waiting_of}
+use Rattle.ap_backchain.specs.Views.{stack_of, state_of}
 use Rattle.ap_backchain.proofs.FitLemmas.{stack_push}
 use Rattle.ap_backchain.proofs.moves.with_goal.Goals as goal
 

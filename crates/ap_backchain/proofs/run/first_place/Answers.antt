@@ -1,9 +1,8 @@
-use Rattle.std.proofs.Common.{◌≡◌, ℕ, length, [], ap, sym, subst}
+use Rattle.std.proofs.Common.{◌≡◌, ℕ, length, ap, sym, subst}
 use Rattle.ap_defs.specs.Goals.{NominalGoal, goal_of}
 use Rattle.ap_defs.specs.Renaming.{IsGoalBelow}
-use Rattle.ap_defs.specs.Resolution.{State, kinds_of}
+use Rattle.ap_defs.specs.Resolution.{State}
 use Rattle.ap_defs.specs.Types.{locals_of}
-use Rattle.ap_backchain.specs.Views.{state_of}
 use Rattle.ap_backchain.proofs.FitLemmas.{goal_zero, kinds_count}
 use Rattle.ap_backchain.proofs.run.first_place.Goals as goal
 

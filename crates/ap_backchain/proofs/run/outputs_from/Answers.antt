@@ -1,10 +1,9 @@
-use Rattle.std.proofs.Common.{◌≡◌, List, ◌++◌, map, sym, ap, ◌∙◌, rules}
+use Rattle.std.proofs.Common.{◌≡◌, ◌++◌, map, sym, ap, ◌∙◌}
 use Rattle.std.specs.Prelude.{reverse}
 use Rattle.ap_defs.specs.Answers.{out_of}
 use Rattle.ap_defs.specs.Goals.{clause_of}
 use Rattle.ap_defs.specs.Types.{locals_of}
-use Rattle.ap_backchain.specs.Places.{position_of, positions_of, turned_of}
-use Rattle.ap_backchain.specs.Positions.{ends, goes, turned}
+use Rattle.ap_backchain.specs.Places.{turned_of}
 use Rattle.ap_backchain.proofs.PendingLemmas.{ends_fewer, ends_kept, goes_fewer, goes_kept}
 use Rattle.ap_backchain.proofs.run.outputs_from.Goals as goal
 

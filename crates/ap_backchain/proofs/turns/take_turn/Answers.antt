@@ -1,4 +1,4 @@
-use Rattle.std.proofs.Common.{◌≡◌, length, List, [], ◌∷◌, map, ap, ◌∙◌, sym, subst}
+use Rattle.std.proofs.Common.{◌≡◌, length, List, [], map, ap, ◌∙◌, sym, subst}
 use Rattle.std.specs.Prelude.{IfOk}
 use Rattle.ap_defs.specs.Goals.{clause_of}
 use Rattle.ap_defs.specs.Types.{locals_of}
@@ -6,7 +6,7 @@ use Rattle.ap_search.specs.Continuations.{Waiting}
 use Rattle.ap_backchain.specs.Below.{AreWaitingBelow}
 use Rattle.ap_backchain.specs.Places.{position_of, turned_of}
 use Rattle.ap_backchain.specs.Positions.{Turned, turned_by}
-use Rattle.ap_backchain.specs.Views.{stack_of, waiting_of}
+use Rattle.ap_backchain.specs.Views.{stack_of}
 use Rattle.ap_backchain.proofs.FitLemmas.{stack_push}
 use Rattle.ap_backchain.proofs.turns.take_turn.Goals as goal
 

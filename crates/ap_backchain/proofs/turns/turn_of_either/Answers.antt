@@ -1,4 +1,4 @@
-use Rattle.std.proofs.Common.{◌≡◌, ℕ, ap, sym, subst}
+use Rattle.std.proofs.Common.{ℕ, ap, sym, subst}
 use Rattle.ap_defs.specs.Goals.{goal_of}
 use Rattle.ap_defs.specs.Renaming.{IsGoalBelow, rename_goal}
 use Rattle.ap_backchain.specs.Positions.{Position}

@@ -1,4 +1,4 @@
-use Rattle.std.proofs.Common.{◌≡◌, ◌<◌, ◌^◌, length, ◌∙◌, arith, rules}
+use Rattle.std.proofs.Common.{◌<◌, ◌^◌, length, ◌∙◌, arith}
 use Rattle.ap_backchain.proofs.VarLemmas.{fits_step, pushed_step}
 use Rattle.ap_backchain.proofs.vars.push_vars_of_terms.Goals as goal
 
