@@ -1,5 +1,5 @@
 -- The least of several kinds.
-use Rattle.std.proofs.Common.{◌≡◌, ℕ, ◌+◌, suc, List, [], ◌∷◌, map, drop, length, ◌<◌, get_or, Option, None, Some, refl, sym, ap, ◌∙◌, min, arith}
+use Rattle.std.proofs.Common.{◌≡◌, ℕ, Option, None, Some, refl, ap, min, arith}
 use Rattle.ap_scopes.specs.Flaws.{least}
 
 pub least-assoc : (a b c : Option ℕ) → least (least a b) c ≡ least a (least b c)

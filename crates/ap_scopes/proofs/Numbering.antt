@@ -1,9 +1,9 @@
 -- Identifiers that are found one after the other.
-use Rattle.std.proofs.Common.{◌≡◌, ℕ, suc, Bool, true, false, not, true≢false, ◌&&◌, List, [], ◌∷◌, ◌++◌, map, length, Option, None, Some, refl, sym, ap, ◌∙◌, position, cond, if◌then◌else◌, codes}
+use Rattle.std.proofs.Common.{◌≡◌, ℕ, Bool, true, false, true≢false, List, [], ◌∷◌, ◌++◌, length, Option, None, Some, refl, sym, ap, ◌∙◌, if◌then◌else◌, codes}
 use Rattle.std.specs.Str.{bytes_eq}
 use Rattle.std.proofs.lemmas.Slice.Eq.{bytes_eq-Decides}
 use Rattle.ap_trees.specs.Terms.{Name, OfWord, OfVar}
-use Rattle.ap_scopes.specs.Identifiers.{Identifier, Found, is_free, free_place, same_name, is_blank, free_one, bound_one}
+use Rattle.ap_scopes.specs.Identifiers.{Found, is_free, free_place, same_name, is_blank, free_one, bound_one}
 use Rattle.ap_scopes.proofs.Tables.{position-skip, position-hit}
 
 -- what `new` or `exists` brings does not belong to the whole

@@ -1,5 +1,5 @@
 -- What is made of parts of the text in their order.
-use Rattle.std.proofs.Common.{◌≡◌, List, [], ◌∷◌, ◌++◌, refl, sym, ap, ◌∙◌}
+use Rattle.std.proofs.Common.{◌≡◌, ap, ◌∙◌}
 use Rattle.ap_scopes.specs.Identifiers.{Found}
 use Rattle.ap_scopes.specs.Resolution.{Resolver, made, in_order}
 

@@ -1,8 +1,8 @@
 -- What the items so far declare.
-use Rattle.std.specs.Prelude.{ℕ, ◌+◌, suc, List, [], ◌∷◌, ◌++◌, Option, None, Some, map, length, position}
+use Rattle.std.specs.Prelude.{ℕ, List, [], Option, None, Some, map, position}
 use Rattle.std.specs.Str.{bytes_eq}
 use Rattle.std.specs.Option.{option_map}
-use Rattle.ap_defs.specs.Types.{NominalType, NominalConstructor, NominalSignature, names, base}
+use Rattle.ap_defs.specs.Types.{NominalType, NominalSignature, names, base}
 
 -- the place of a word among words that are all different
 abbrev pub place : List ℕ → List (List ℕ) → Option ℕ

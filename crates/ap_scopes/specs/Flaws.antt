@@ -10,7 +10,7 @@ use Rattle.ap_trees.specs.Goals as goals
 use Rattle.ap_trees.specs.Goals.{Goal}
 use Rattle.ap_trees.specs.Items as items
 use Rattle.ap_trees.specs.Items.{Saying}
-use Rattle.ap_scopes.specs.Declarations.{Declared, place, type_named, constructor_place, predicate_place}
+use Rattle.ap_scopes.specs.Declarations.{Declared, type_named, constructor_place, predicate_place}
 
 -- The kinds of fault of which this module speaks.
 abbrev pub undeclared : ℕ

@@ -11,7 +11,7 @@ use Rattle.ap_trees.specs.Terms.{Name, OfWord, OfVar, Term, Terms}
 use Rattle.ap_trees.specs.Goals as goals
 use Rattle.ap_trees.specs.Goals.{Goal}
 use Rattle.ap_scopes.specs.Declarations.{Declared, constructor_place, predicate_place}
-use Rattle.ap_scopes.specs.Identifiers.{Found, Scope, Numbering, numbered, number_new, bound_one}
+use Rattle.ap_scopes.specs.Identifiers.{Found, Scope, numbered, bound_one}
 
 -- What is made of a part of the text, in the order of the text: it depends on the identifiers found before, and may find more.
 abbrev pub Resolver : Type 0 → Type 0

@@ -1,6 +1,6 @@
 -- The type that a tree of a type stands for.
-use Rattle.std.specs.Prelude.{ℕ, List, map, Option, None, Some}
-use Rattle.ap_defs.specs.Types.{NominalType, NominalSignature, unit, names, base, pair, list, abs}
+use Rattle.std.specs.Prelude.{List, map, Option, None, Some}
+use Rattle.ap_defs.specs.Types.{NominalType, NominalSignature, unit, names, pair, list, abs}
 use Rattle.ap_trees.specs.Types as trees
 use Rattle.ap_trees.specs.Types.{Ty}
 use Rattle.ap_scopes.specs.Declarations.{type_named}

@@ -1,13 +1,13 @@
 -- How many things the items of a text make.
-use Rattle.std.proofs.Common.{◌≡◌, ℕ, zero, suc, ◌+◌, ◌<◌, ◌≤◌, List, [], ◌∷◌, ◌++◌, length, Option, None, Some, refl, sym, ap, subst, ◌∙◌, arith, length-append}
+use Rattle.std.proofs.Common.{◌≡◌, ℕ, zero, suc, ◌+◌, ◌≤◌, List, [], ◌∷◌, ◌++◌, length, refl, sym, ap, subst, arith, length-append}
 use Rattle.ap_defs.specs.RawTerms.{RawTerm}
 use Rattle.ap_defs.specs.Types.{NominalConstructor, NominalType}
 use Rattle.ap_defs.specs.Goals.{ClauseOver, ProgramOver}
 use Rattle.ap_trees.specs.Items as items
 use Rattle.ap_trees.specs.Items.{Saying, ItemOf}
 use Rattle.ap_program.specs.NameRestriction.{item_count, sum_of_lengths}
-use Rattle.ap_typecheck.specs.Declaring.{Made, nothing_made, put_clause, program_of}
-use Rattle.ap_typecheck.specs.Checking.{Says, Makes, MakesAll, IsProgramOf}
+use Rattle.ap_typecheck.specs.Declaring.{Made, nothing_made, put_clause}
+use Rattle.ap_typecheck.specs.Checking.{Says, MakesAll, IsProgramOf}
 use Rattle.ap_typecheck.specs.Views.{count}
 
 put_sum : (c : ClauseOver RawTerm) (p : ℕ) (css : List (List (ClauseOver RawTerm))) → sum_of_lengths (put_clause c p css) ≤ suc (sum_of_lengths css)

@@ -1,5 +1,5 @@
 -- What is typed stays so when more is declared.
-use Rattle.std.proofs.Common.{◌≡◌, ℕ, zero, suc, Bool, true, false, ◌&&◌, ◌||◌, ◌==◌, List, [], ◌∷◌, ◌++◌, Option, None, Some, refl, sym, ap, subst, ◌∙◌}
+use Rattle.std.proofs.Common.{◌≡◌, ℕ, zero, suc, Bool, true, ◌&&◌, ◌==◌, List, [], ◌∷◌, ◌++◌, Option, None, Some, refl, sym, subst}
 use Rattle.ap_defs.specs.RawTerms as raw
 use Rattle.ap_defs.specs.RawTerms.{RawTerm}
 use Rattle.ap_defs.specs.Types as types
@@ -8,12 +8,12 @@ use Rattle.ap_defs.specs.Goals.{GoalOver, succeed, atom, equal, fresh, both, eit
 use Rattle.ap_defs.specs.Typing.{Want, nothing, one, more, arguments, IsApplication}
 use Rattle.ap_defs.specs.Printing.{constructor_in}
 use Rattle.ap_types.specs.Rounds.{reached, some_passes}
-use Rattle.ap_types.specs.Inhabited.{inhabited_if, all_inhabited, inhabited_in, IsInhabited}
+use Rattle.ap_types.specs.Inhabited.{all_inhabited}
 use Rattle.ap_types.proofs.BooleanLemmas.{or_grows, and_grows}
 use Rattle.ap_types.proofs.QuestionLemmas.{inhabited_grows, all_inhabited_grows}
 use Rattle.ap_defs.specs.Resolution.{kinds_of}
 use Rattle.ap_program.specs.RawTyping.{IsTypedRaw, HasRawType}
-use Rattle.ap_program.specs.Typed.{Typing, HaveTypes, predicate_at, AreArguments, IsTypedGoal, AreInhabited, IsTypedClause, IsTypedQuery, AreTypedClauses, AreTypedFrom, AreTypedQueries, raw_form}
+use Rattle.ap_program.specs.Typed.{HaveTypes, predicate_at, AreArguments, IsTypedGoal, AreInhabited, IsTypedClause, IsTypedQuery, AreTypedClauses, AreTypedFrom, AreTypedQueries, raw_form}
 
 pub constructor_grows : (cs ds : List NominalConstructor) (f : ℕ) (c : NominalConstructor) → constructor_in cs f ≡ Some c → constructor_in (cs ++ ds) f ≡ Some c
 constructor_grows [] ds f c e = absurd (cc)

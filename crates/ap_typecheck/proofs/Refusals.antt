@@ -1,5 +1,5 @@
 -- What typing refuses.
-use Rattle.std.proofs.Common.{◌≡◌, ◌⊎◌, inl, inr, ℕ, List, Option, refl, sym, ap, subst, ◌∙◌}
+use Rattle.std.proofs.Common.{◌≡◌, inl, inr, ℕ, List, Option, refl, ap, subst, ◌∙◌}
 use Rattle.ap_defs.specs.RawTerms.{RawTerm}
 use Rattle.ap_defs.specs.Goals.{GoalOver, ClauseOver, QueryOver}
 use Rattle.ap_defs.specs.Types.{NominalKind}

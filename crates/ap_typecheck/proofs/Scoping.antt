@@ -1,8 +1,7 @@
 -- Where the identifiers of a resolved clause or query stand.
-use Rattle.std.proofs.Common.{◌≡◌, ◌⊎◌, inl, inr, ℕ, zero, suc, ◌+◌, ◌<◌, ◌≤◌, Bool, true, false, not, ◌&&◌, ◌||◌, ◌==◌, List, [], ◌∷◌, ◌++◌, length, Option, None, Some, refl, sym, ap, subst, ◌∙◌, arith, position, append_assoc, append-nil, length-append, true≢false, cond}
+use Rattle.std.proofs.Common.{◌≡◌, ◌⊎◌, inl, inr, ℕ, zero, suc, ◌+◌, ◌<◌, ◌≤◌, Bool, true, false, not, ◌&&◌, List, [], ◌∷◌, ◌++◌, length, Option, None, Some, refl, sym, ap, subst, ◌∙◌, arith, append_assoc, append-nil, length-append, cond}
 use Rattle.std.specs.Option.{option_map}
 use Rattle.ap_defs.specs.declared.terms.Id.{Id}
-use Rattle.ap_defs.specs.declared.terms.Id.TheVariants as ids
 use Rattle.ap_defs.specs.RawTerms as raw
 use Rattle.ap_defs.specs.RawTerms.{RawTerm}
 use Rattle.ap_defs.specs.Goals.{GoalOver, succeed, atom, equal, fresh, both, either, exists, new}
@@ -14,7 +13,7 @@ use Rattle.ap_program.specs.Typed.{id_number, brought}
 use Rattle.ap_scopes.specs.Declarations.{Declared, constructor_place}
 use Rattle.ap_scopes.specs.Identifiers as scopes
 use Rattle.ap_scopes.specs.Identifiers.{Identifier, Found, Scope, same_name, is_blank, is_free, free_place, free_one, bound_one, number_new, number_or, free_number, numbered}
-use Rattle.ap_scopes.specs.Resolution.{Resolver, in_order, two_ids, swapped_by, put_first, id_of, term_of_id, identifier, binder, word_alone, resolved_term, resolved_arguments, resolved_terms, resolved_goal, resolved_body}
+use Rattle.ap_scopes.specs.Resolution.{Resolver, in_order, two_ids, swapped_by, put_first, identifier, binder, word_alone, resolved_term, resolved_arguments, resolved_terms, resolved_goal, resolved_body}
 use Rattle.ap_scopes.proofs.Tables.{position-cons}
 
 -- what holds of the number of each identifier that stands in a term

@@ -1,5 +1,5 @@
 -- Sorts and kinds change nothing of where identifiers stand.
-use Rattle.std.proofs.Common.{◌≡◌, ◌⊎◌, inl, inr, ℕ, zero, suc, ◌<◌, ◌≤◌, Bool, true, false, not, ◌&&◌, ◌||◌, ◌==◌, List, [], ◌∷◌, ◌++◌, map, length, Option, None, Some, refl, sym, ap, subst, ◌∙◌, arith, true≢false}
+use Rattle.std.proofs.Common.{◌≡◌, ◌⊎◌, inl, inr, ℕ, zero, suc, ◌<◌, ◌≤◌, Bool, true, false, not, ◌&&◌, ◌||◌, ◌==◌, List, [], ◌∷◌, ◌++◌, length, refl, sym, ap, subst, ◌∙◌, arith, true≢false}
 use Rattle.std.proofs.lemmas.List.{length-map}
 use Rattle.std.proofs.lemmas.Bool.Decides.{Decides-eqb}
 use Rattle.ap_defs.specs.declared.terms.Id.{Id}
@@ -10,13 +10,12 @@ use Rattle.ap_defs.specs.Types as types
 use Rattle.ap_defs.specs.Types.{NominalKind, NominalLocal}
 use Rattle.ap_defs.specs.Resolution.{kinds_of}
 use Rattle.ap_defs.specs.Goals.{GoalOver, succeed, atom, equal, fresh, both, either, exists, new}
-use Rattle.ap_trees.specs.Terms.{OfWord, OfVar}
 use Rattle.ap_kinds.specs.ItemKinds.{AreOfClasses}
 use Rattle.ap_kinds.specs.declared.kinds.IdentKind.{IdentKind}
 use Rattle.ap_kinds.specs.declared.kinds.IdentKind.TheVariants as classes
 use Rattle.ap_kinds.specs.Sorts.{with_sorts, terms_with_sorts, goal_with_sorts, id_with_sort}
 use Rattle.ap_program.specs.Typed.{id_number, brought, stands_in_raw, stands_in_some, stands_free, has_number, EachOnce, is_marked, AreMarked, IsScoped}
-use Rattle.ap_scopes.specs.Identifiers.{Identifier, Found}
+use Rattle.ap_scopes.specs.Identifiers.{Found}
 use Rattle.ap_typecheck.specs.Declaring.{with_kinds}
 use Rattle.ap_typecheck.specs.Checking.{class_of, classes_of}
 use Rattle.ap_typecheck.proofs.Scoping.{Each, EachIn, EachFree, IsAt, IsKnown, Ascends, AreBound}

@@ -1,5 +1,5 @@
 -- One item more, or a faulty one, from the items that are left.
-use Rattle.std.proofs.Common.{◌≡◌, ◌⊎◌, inl, inr, ℕ, zero, suc, ◌+◌, ◌<◌, length, drop, get_or, List, [], ◌∷◌, Option, None, Some, refl, sym, ap, subst, ◌∙◌, arith}
+use Rattle.std.proofs.Common.{◌≡◌, inl, inr, ℕ, zero, suc, ◌+◌, ◌<◌, length, drop, get_or, List, [], ◌∷◌, None, refl, sym, ap, subst, ◌∙◌, arith}
 use Rattle.ap_trees.specs.Items.{ItemOf}
 use Rattle.ap_trees.specs.declared.trees.Item.{Item}
 use Rattle.ap_trees.specs.Trees.{item_of, items_of}
@@ -9,7 +9,7 @@ use Rattle.ap_typecheck.specs.Views.{IsRefusedItem, IsRefusedText, text_error}
 use Rattle.ap_scopes.specs.Flaws.{item_flaw}
 use Rattle.ap_typecheck.specs.declared.error.TypeFault.{TypeFault}
 use Rattle.ap_typecheck.specs.Declaring.{Made}
-use Rattle.ap_typecheck.specs.Checking.{Says, Makes, MakesAll, IsFaultOf, IsFaultAmong, IsFirstFault}
+use Rattle.ap_typecheck.specs.Checking.{Says, MakesAll, IsFaultOf, IsFaultAmong, IsFirstFault}
 
 pub one_more : (m : Made) (n : ℕ) (i : ItemOf) (is whole : List ItemOf) (between after : Made) → whole ≡ i ∷ is → item_flaw m.declared i.form ≡ None → Says m n i.line i.form between
     → MakesAll between (n + 1) is after → MakesAll m n whole after

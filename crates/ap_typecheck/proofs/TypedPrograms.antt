@@ -1,23 +1,21 @@
 -- What the items of a text make is typed by its kinds.
-use Rattle.std.proofs.Common.{◌≡◌, ℕ, zero, suc, ◌+◌, List, [], ◌∷◌, ◌++◌, length, Option, None, Some, refl, sym, ap, subst, ◌∙◌, append-nil, arith}
+use Rattle.std.proofs.Common.{◌≡◌, ℕ, zero, suc, ◌+◌, List, [], ◌∷◌, ◌++◌, length, Option, refl, sym, subst, append-nil, arith}
 use Rattle.ap_defs.specs.RawTerms.{RawTerm}
-use Rattle.ap_defs.specs.Types.{NominalType, NominalKind, NominalConstructor, NominalSignature}
+use Rattle.ap_defs.specs.Types.{NominalType, NominalConstructor, NominalSignature}
 use Rattle.ap_defs.specs.Resolution.{kinds_of}
-use Rattle.ap_defs.specs.Goals.{GoalOver, ClauseOver, QueryOver, ProgramOver}
+use Rattle.ap_defs.specs.Goals.{ClauseOver, QueryOver, ProgramOver}
 use Rattle.ap_trees.specs.Terms.{Term}
 use Rattle.ap_trees.specs.Goals.{Goal}
 use Rattle.ap_trees.specs.Items as items
 use Rattle.ap_trees.specs.Items.{Saying, ItemOf}
-use Rattle.ap_kinds.specs.Sorts.{terms_with_sorts, goal_with_sorts}
 use Rattle.ap_program.specs.RawTyping.{HasRawType}
-use Rattle.ap_program.specs.Typed.{AreArguments, predicate_at, IsTypedGoal, AreInhabited, IsScoped, stands_in_raw, IsTypedClause, IsTypedQuery, AreTypedClauses, AreTypedFrom, AreTypedQueries, IsTypedRawProgram, raw_form}
+use Rattle.ap_program.specs.Typed.{AreArguments, predicate_at, IsTypedGoal, AreInhabited, IsTypedClause, IsTypedQuery, AreTypedClauses, AreTypedFrom, AreTypedQueries, IsTypedRawProgram, raw_form}
 use Rattle.ap_scopes.specs.Declarations.{Declared}
-use Rattle.ap_scopes.specs.Identifiers.{Found}
-use Rattle.ap_scopes.specs.Resolution.{resolved_terms, resolved_body, resolved_goal, resolved_clause, resolved_query}
-use Rattle.ap_typecheck.specs.Declaring.{Made, nothing_made, with_name_type, with_data_type, with_constructor, with_predicate, with_kinds, put_clause, program_of}
-use Rattle.ap_typecheck.specs.Checking.{classes_of, predicate_of, clause_with, query_with, IsClauseOf, IsQueryOf, Says, Makes, MakesAll, IsProgramOf}
+use Rattle.ap_scopes.specs.Resolution.{resolved_terms, resolved_clause, resolved_query}
+use Rattle.ap_typecheck.specs.Declaring.{Made, nothing_made, with_name_type, with_data_type, with_constructor, with_predicate, put_clause}
+use Rattle.ap_typecheck.specs.Checking.{clause_with, query_with, IsClauseOf, IsQueryOf, Says, MakesAll, IsProgramOf}
 use Rattle.ap_typecheck.proofs.Growth.{clauses_grow, queries_grow}
-use Rattle.ap_typecheck.proofs.Scoping.{IsKnown, EachIn, terms-done, body-done, goal-done, each_in-on, grows_known}
+use Rattle.ap_typecheck.proofs.Scoping.{IsKnown, terms-done, body-done, goal-done, each_in-on, grows_known}
 use Rattle.ap_typecheck.proofs.Sorted.{as_many, kinds_back, scoped}
 
 pub clause_typed : (d : Declared) (n line : ℕ) (w : List ℕ) (args : List Term) (body : Option Goal) (c : ClauseOver RawTerm) → IsClauseOf d n line w args body c → IsTypedClause raw_form d.signature c.pred c

@@ -1,14 +1,13 @@
 -- A text has one program or one first fault.
-use Rattle.std.proofs.Common.{◌≡◌, ◌⊎◌, inl, inr, ℕ, suc, List, [], ◌∷◌, Option, None, Some, refl, sym, ap, subst, ◌∙◌}
+use Rattle.std.proofs.Common.{◌≡◌, inl, inr, ℕ, suc, List, [], ◌∷◌, None, Some, sym, ap, subst, ◌∙◌}
 use Rattle.ap_defs.specs.RawTerms.{RawTerm}
-use Rattle.ap_defs.specs.Goals.{ClauseOver, QueryOver, ProgramOver}
-use Rattle.ap_defs.specs.Types.{NominalKind, NominalConstructor}
+use Rattle.ap_defs.specs.Goals.{ProgramOver}
+use Rattle.ap_defs.specs.Types.{NominalKind}
 use Rattle.ap_trees.specs.Items as items
 use Rattle.ap_trees.specs.Items.{Saying, ItemOf}
 use Rattle.ap_kinds.specs.ItemKinds.{IsInferred}
 use Rattle.ap_program.specs.Typed.{AreInhabited}
 use Rattle.ap_scopes.specs.Declarations.{Declared}
-use Rattle.ap_scopes.specs.Flaws.{item_flaw}
 use Rattle.ap_scopes.specs.Words.{words_of}
 use Rattle.ap_typecheck.specs.declared.error.TypeFault.{TypeFault}
 use Rattle.ap_typecheck.specs.Declaring.{Made, nothing_made, with_clause, with_query, program_of}

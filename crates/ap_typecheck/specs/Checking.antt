@@ -13,7 +13,7 @@ use Rattle.ap_kinds.specs.declared.errors.KindsError.TheVariants as errors
 use Rattle.ap_kinds.specs.ItemKinds.{TypesClause, TypesQuery, IsInferred, IsRefused}
 use Rattle.ap_kinds.specs.Sorts.{terms_with_sorts, goal_with_sorts}
 use Rattle.ap_scopes.specs.Declarations.{Declared, predicate_place}
-use Rattle.ap_scopes.specs.Identifiers.{Identifier, Found}
+use Rattle.ap_scopes.specs.Identifiers.{Found}
 use Rattle.ap_scopes.specs.Resolution.{resolved_clause, resolved_query, predicate_number}
 use Rattle.ap_scopes.specs.Flaws.{item_flaw}
 use Rattle.ap_scopes.specs.Words.{words_of}

@@ -1,7 +1,7 @@
 -- What the items of a text make, one after the other.
-use Rattle.std.specs.Prelude.{◌≡◌, ℕ, zero, suc, ◌+◌, Bool, List, [], ◌∷◌, ◌++◌, map, Option, None, Some}
+use Rattle.std.specs.Prelude.{ℕ, zero, suc, List, [], ◌∷◌, ◌++◌, Option, Some}
 use Rattle.ap_defs.specs.RawTerms.{RawTerm}
-use Rattle.ap_defs.specs.Goals.{GoalOver, ClauseOver, QueryOver, ProgramOver}
+use Rattle.ap_defs.specs.Goals.{ClauseOver, QueryOver, ProgramOver}
 use Rattle.ap_defs.specs.Types.{NominalType, NominalKind, NominalLocal, NominalSignature, base}
 use Rattle.ap_trees.specs.Types.{Ty}
 use Rattle.ap_scopes.specs.Declarations.{Declared, nothing_declared, type_named}

@@ -1,5 +1,5 @@
 -- What holds of the typing of texts.
-use Rattle.std.specs.Prelude.{◌≡◌, ◌≤◌, ℕ, List, length}
+use Rattle.std.specs.Prelude.{◌≡◌, ◌≤◌, List, length}
 use Rattle.ap_defs.specs.RawTerms.{RawTerm}
 use Rattle.ap_defs.specs.Goals.{ProgramOver}
 use Rattle.ap_trees.specs.Items.{ItemOf}

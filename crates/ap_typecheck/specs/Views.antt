@@ -1,5 +1,5 @@
 -- The state of the code, without where it lies in memory.
-use Rattle.std.specs.Prelude.{◌≡◌, ◌+◌, ◌≤◌, ℕ, List, [], map, length}
+use Rattle.std.specs.Prelude.{◌≡◌, ℕ, List, [], map, length}
 use Rattle.ap_defs.specs.RawTerms.{RawTerm, raw_of}
 use Rattle.ap_defs.specs.Goals.{GoalOver, goal_over, clause_over, query_over}
 use Rattle.ap_scopes.specs.Views.{declared_of, identifier_of, IsIndexed}

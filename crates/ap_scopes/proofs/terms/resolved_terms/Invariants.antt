@@ -3,7 +3,6 @@ use Rattle.ap_defs.specs.RawTerms.{raw_of}
 use Rattle.ap_trees.specs.Trees.{trees_of}
 use Rattle.ap_scopes.specs.Resolution.{made, resolved_terms}
 use Rattle.ap_scopes.specs.Views.{IsNumbered, declared_of, scope_of, found_of}
-use Rattle.ap_scopes.specs.Identifiers.{Found}
 use Rattle.ap_scopes.proofs.terms.resolved_terms.Given as goal
 
 abbrev pub invariant-loop-tree : goal.invariant-loop-tree

@@ -1,6 +1,6 @@
-use Rattle.std.proofs.Common.{◌≡◌, ◌≤◌, ◌<◌, ◌+◌, ◌∷◌, ◌∙◌, suc, sym, ap, subst, refl, drop, length, arith}
+use Rattle.std.proofs.Common.{◌≤◌, ◌<◌, ◌+◌, suc, refl, drop, length, arith}
 use Rattle.ap_trees.specs.Trees.{item_of, items_of, form_of}
-use Rattle.ap_typecheck.specs.Views.{made_of, count, IsRefusedText}
+use Rattle.ap_typecheck.specs.Views.{made_of, count}
 use Rattle.ap_typecheck.proofs.Counting.{says_count}
 use Rattle.ap_typecheck.proofs.Steps.{one_more, one_later, refused_text, dropped}
 use Rattle.ap_typecheck.proofs.checking.check_items.Goals as goal

@@ -1,4 +1,4 @@
-use Rattle.std.proofs.Common.{◌≡◌, ◌≤◌, ◌+◌, drop}
+use Rattle.std.proofs.Common.{◌≤◌, ◌+◌, drop}
 use Rattle.ap_trees.specs.Trees.{items_of}
 use Rattle.ap_typecheck.specs.declared.error.TypeFault.{TypeFault}
 use Rattle.ap_typecheck.specs.Declaring.{Made, nothing_made}

@@ -1,6 +1,6 @@
 use Rattle.std.proofs.Common.{◌≡◌, ◌∙◌, sym, ap, ◌++◌, ◌∷◌, [], None, map}
-use Rattle.ap_defs.specs.Types.{constructor_of, signature_of}
-use Rattle.ap_scopes.specs.Declarations.{place, constructor_words}
+use Rattle.ap_defs.specs.Types.{constructor_of}
+use Rattle.ap_scopes.specs.Declarations.{place}
 use Rattle.ap_scopes.specs.Views.{words_in}
 use Rattle.ap_typecheck.proofs.Tables.{new_word, words_append}
 use Rattle.ap_typecheck.proofs.declaring.declare_constructor.Goals as goal

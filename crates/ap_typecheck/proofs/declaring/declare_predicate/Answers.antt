@@ -1,11 +1,10 @@
-use Rattle.std.proofs.Common.{◌≡◌, ◌∙◌, ◌+◌, sym, ap, ◌++◌, ◌∷◌, [], List, ℕ, None, map, length, arith, length-append}
+use Rattle.std.proofs.Common.{◌≡◌, ◌∙◌, ◌+◌, sym, ap, ◌++◌, ◌∷◌, [], map, length, length-append}
 use Rattle.std.proofs.lemmas.List.{map-append}
-use Rattle.ap_defs.specs.RawTerms.{raw_of, RawTerm}
-use Rattle.ap_defs.specs.Goals.{clause_over, query_over, ClauseOver}
-use Rattle.ap_defs.specs.Types.{type_of, constructor_of, NominalType}
+use Rattle.ap_defs.specs.RawTerms.{raw_of}
+use Rattle.ap_defs.specs.Goals.{clause_over, query_over}
+use Rattle.ap_defs.specs.Types.{type_of}
 use Rattle.ap_trees.specs.Trees.{types_of}
 use Rattle.ap_scopes.specs.Types.{resolved_types}
-use Rattle.ap_scopes.specs.Declarations.{place}
 use Rattle.ap_scopes.specs.Views.{words_in, declared_of}
 use Rattle.ap_typecheck.proofs.Tables.{new_word}
 use Rattle.ap_typecheck.proofs.declaring.declare_predicate.Goals as goal

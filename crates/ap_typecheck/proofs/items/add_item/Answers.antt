@@ -1,4 +1,4 @@
-use Rattle.std.proofs.Common.{◌≡◌, List, subst}
+use Rattle.std.proofs.Common.{List, subst}
 use Rattle.std.specs.Option.{option_map}
 use Rattle.ap_defs.specs.RawTerms.{raw_of}
 use Rattle.ap_defs.specs.Goals.{clause_over}

@@ -1,4 +1,4 @@
-use Rattle.std.proofs.Common.{◌≡◌, ◌<◌, ◌∙◌, sym, ap, ◌++◌, ◌∷◌, [], map, length, arith, subst}
+use Rattle.std.proofs.Common.{◌≡◌, ◌<◌, ◌∙◌, sym, ap, ◌++◌, ◌∷◌, [], map, length, subst}
 use Rattle.std.proofs.lemmas.List.{map-append}
 use Rattle.ap_defs.specs.RawTerms.{raw_of}
 use Rattle.ap_defs.specs.Goals.{clause_over, query_over}

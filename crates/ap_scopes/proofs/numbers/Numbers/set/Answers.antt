@@ -1,4 +1,3 @@
-use Rattle.std.proofs.Common.{◌≡◌, ℕ, List}
 use Rattle.std.proofs.lemmas.Map.Text.{hash_map_updates_str}
 use Rattle.ap_scopes.proofs.numbers.Numbers.set.Goals as goal
 

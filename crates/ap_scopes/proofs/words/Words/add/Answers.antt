@@ -1,7 +1,4 @@
-use Rattle.std.proofs.Common.{◌≡◌, ◌∙◌, ◌++◌, ◌∷◌, [], ap, Bool, true, false, map, if◌then◌else◌, refl, sym}
-use Rattle.std.specs.Str.{bytes_eq}
-use Rattle.std.specs.List.{list_any}
-use Rattle.std.proofs.lemmas.List.{map-append}
+use Rattle.std.proofs.Common.{◌∙◌, ap, map}
 use Rattle.ap_scopes.proofs.Tables.{insert-map}
 use Rattle.ap_scopes.proofs.words.Words.add.Goals as goal
 

@@ -1,4 +1,4 @@
-use Rattle.std.proofs.Common.{◌≡◌, ◌∙◌, ap, length}
+use Rattle.std.proofs.Common.{◌∙◌}
 use Rattle.std.specs.Str.{bytes_eq}
 use Rattle.ap_scopes.proofs.Tables.{position-map}
 use Rattle.ap_scopes.proofs.words.Words.place.Goals as goal
