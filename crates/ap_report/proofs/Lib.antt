@@ -1,3 +1,4 @@
 mod NameFaults
 mod Reports
 mod QueryReports
+mod TokenCounts

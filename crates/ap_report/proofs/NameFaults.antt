@@ -7,7 +7,7 @@ use Rattle.ap_defs.specs.Types.{NominalConstructor}
 use Rattle.ap_defs.specs.Goals.{NominalClause}
 use Rattle.ap_program.specs.declared.faults.NameFault.{NameFault}
 use Rattle.ap_program.specs.CarryingOut.{carried_out, map_clause}
-use Rattle.ap_program.specs.NameRestriction.{RawItem, clause, query, item_number, item_line, item_locals, binders_in, places_in, HasNamesAlone, Passes, AreFreshForHead, IsFirstNotFresh, IsHeadName, free_names_of, IsFirst, IsWrong, variable_binder, variable_swap, head_name, IsFaultOf, PassUpTo, PassBelow, IsFirstFault, AllPass, spelling_at}
+use Rattle.ap_program.specs.NameRestriction.{RawItem, clause, query, item_number, item_locals, binders_in, places_in, Passes, AreFreshForHead, IsFirstNotFresh, IsHeadName, free_names_of, IsFirst, IsWrong, variable_binder, variable_swap, head_name, IsFaultOf, PassUpTo, PassBelow, IsFirstFault, AllPass, spelling_at}
 
 -- an item that is wrong doesn't pass
 no_first : (x : Var) (xs : List Var) → IsFirst x xs → xs ≡ [] → ⊥

@@ -1,17 +1,21 @@
 -- A text has one report.
-use Rattle.std.proofs.Common.{◌≡◌, ℕ, List, Result, Ok, Err, refl, sym, ap, subst, ◌∙◌}
+use Rattle.std.proofs.Common.{◌≡◌, ℕ, List, Ok, Err, sym, ap, subst, ◌∙◌}
 use Rattle.ap_defs.specs.RawTerms.{RawTerm}
-use Rattle.ap_defs.specs.Goals.{ProgramOver}
+use Rattle.ap_defs.specs.Goals.{ProgramOver, NominalProgram}
 use Rattle.ap_lexer.specs.Tokens.{Lexeme, lexed}
 use Rattle.ap_lexer.specs.declared.token.LexFault.{LexFault}
 use Rattle.ap_trees.specs.Items.{ItemOf}
 use Rattle.ap_syntax.specs.Reading.{Reads, Outcome}
 use Rattle.ap_syntax.specs.declared.faults.SynFault.{SynFault}
 use Rattle.ap_typecheck.proofs.Uniqueness as typing
+use Rattle.ap_typecheck.specs.Checking.{IsProgramOf, IsFirstFault}
+use Rattle.ap_typecheck.specs.declared.error.TypeFault.{TypeFault}
+use Rattle.ap_program.specs.declared.faults.NameFault.{NameFault}
+use Rattle.ap_program.specs.CarryingOut.{carried_out_program}
 use Rattle.ap_program.specs.NameRestriction.{items_of, AllPass, IsNameFault}
 use Rattle.ap_report.specs.declared.report.Report.{Report}
 use Rattle.ap_report.specs.FaultLines.{token_report, item_report, type_report, name_report}
-use Rattle.ap_report.specs.TextReport.{IsItemsReport, ill_typed, ill_named, answered, IsTextReport, faulty_token, faulty_item, with_items, answered_report}
+use Rattle.ap_report.specs.TextReport.{IsItemsReport, ill_typed, ill_named, answered, IsTextReport, faulty_token, faulty_item, with_items, answered_report, run_report}
 use Rattle.ap_report.proofs.NameFaults.{name_fault_one, passes_or_fault}
 
 pub items_report_one : (depth : ℕ) (items : List ItemOf) (r s : Report) → IsItemsReport depth items r → IsItemsReport depth items s → s ≡ r
@@ -30,6 +34,16 @@ items_report_one depth items _ _ (answered p h) (ill_named q g k) =
     let same : q ≡ p = typing.program_one items q p k.0 h.0 in
     absurd (passes_or_fault p.signature.constructors (items_of p) g h.1 (subst (λ x. IsNameFault x g) same k.1))
 items_report_one depth items _ _ (answered p h) (answered q k) = ap (answered_report depth) (typing.program_one items q p k.0 h.0)
+
+pub typed_made : (depth : ℕ) (items : List ItemOf) (f : TypeFault) (r : Report) → IsFirstFault items f → r ≡ type_report f → IsItemsReport depth items r
+typed_made depth items f r h is = rw is (ill_typed f h)
+
+pub named_made : (depth : ℕ) (items : List ItemOf) (p : ProgramOver RawTerm) (f : NameFault) (r : Report) → IsProgramOf items p → IsNameFault p f → r ≡ name_report f → IsItemsReport depth items r
+named_made depth items p f r made h is = rw is (ill_named p f (made, h))
+
+pub answered_made : (depth : ℕ) (items : List ItemOf) (p : ProgramOver RawTerm) (q : NominalProgram) (r : Report) → IsProgramOf items p → AllPass p.signature.constructors (items_of p)
+    → q ≡ carried_out_program p → r ≡ run_report depth q → IsItemsReport depth items r
+answered_made depth items p q r made passes carried is = rw is (rw carried (answered p (made, passes)))
 
 -- a text that does not split into tokens
 pub token_only : (depth : ℕ) (text : List ℕ) (f : LexFault) → lexed text ≡ Err f → (s : Report) → IsTextReport depth text s → s ≡ token_report f

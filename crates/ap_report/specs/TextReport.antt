@@ -1,7 +1,7 @@
 -- What is written for a text, and the status: the text's first fault, or the report of its program.
 use Rattle.std.specs.Prelude.{◌≡◌, ℕ, List, Ok, Err}
 use Rattle.ap_defs.specs.RawTerms.{RawTerm}
-use Rattle.ap_defs.specs.Goals.{ProgramOver}
+use Rattle.ap_defs.specs.Goals.{ProgramOver, NominalProgram}
 use Rattle.ap_defs.specs.Lines.{program_report}
 use Rattle.ap_lexer.specs.Tokens.{Lexeme, lexed}
 use Rattle.ap_lexer.specs.declared.token.LexFault.{LexFault}
@@ -33,9 +33,13 @@ IsKept items p = IsProgramOf items p × AllPass p.signature.constructors (items_
 abbrev pub IsBroken : List ItemOf → ProgramOver RawTerm → NameFault → Type 0
 IsBroken items p f = IsProgramOf items p × IsNameFault p f
 
--- the report of a program to a depth, once its swappings are carried out
+-- the report of a program to a depth
+abbrev pub run_report : ℕ → NominalProgram → Report
+run_report depth p = record { bytes = program_report p depth; status = status.Ok }
+
+-- the same once its swappings are carried out
 abbrev pub answered_report : ℕ → ProgramOver RawTerm → Report
-answered_report depth p = record { bytes = program_report (carried_out_program p) depth; status = status.Ok }
+answered_report depth p = run_report depth (carried_out_program p)
 
 -- The report on items, to a depth.
 pub data IsItemsReport (depth : ℕ) (items : List ItemOf) : Report → Type 0 where

@@ -1,5 +1,5 @@
 // The report on the queries of a program.
-ghost use Rattle.std.specs.Prelude.{◌≡◌, ◌<◌, ◌+◌, IfOk, length};
+ghost use Rattle.std.specs.Prelude.{◌≡◌, ◌-◌, ◌≤◌, IfOk, length};
 ghost use Rattle.ap_defs.specs.Goals.{program_of};
 ghost use Rattle.ap_defs.specs.Lines.{program_report};
 ghost use Rattle.ap_report.specs.Queries.{query_report};
@@ -10,17 +10,24 @@ use ap_defs::memory::Memory;
 use ap_program::restricted::Restricted;
 use std::alloc::Global;
 
-/// The report on the query at a place.
+/// How many queries a program has.
+fn query_count(program: &Restricted) -> u32
+    ensures { result ≡ length (program_of program.now).queries }
+{
+    program.program().queries.items().len() as u32
+}
+
+/// The report on the query of a number, from 1.
 fn report_query(
     alloc: Global,
     program: &Restricted,
-    place: usize,
+    query: u32,
     depth: u32,
 ) -> Result<Vec<u8>, Memory>
-    requires { place < length (program_of program.now).queries }
-    ensures { IfOk result (λ v. v.items ≡ query_report (program_of program.now) depth place) }
+    requires from_one { 1 ≤ query }
+    requires exists { query ≤ length (program_of program.now).queries }
+    ensures { IfOk result (λ v. v.items ≡ query_report (program_of program.now) depth (query - 1)) }
 {
-    let query = place as u32 + 1;
     let problem = Problem {
         program,
         query,
@@ -38,10 +45,10 @@ pub(crate) fn report_program(
 ) -> Result<Vec<u8>, Memory>
     ensures { IfOk result (λ v. v.items ≡ program_report (program_of program.now) depth) }
 {
-    let count = program.program().queries.items().len();
+    let count = query_count(program);
     let mut bytes = Vec::new(alloc);
     for place in 0..count {
-        let report = report_query(alloc, program, place, depth)?;
+        let report = report_query(alloc, program, place + 1, depth)?;
         bytes.extend_from_slice(&report)?;
     }
     Ok(bytes)

@@ -25,8 +25,6 @@ pub enum Status {
     NotChecked,
     /// The input has more bytes than the limit.
     TooLarge,
-    /// The text isn't of the form that is answered so far.
-    NotYet,
 }
 
 impl Status {
@@ -45,7 +43,6 @@ impl Status {
             Status::Memory => 7,
             Status::NotChecked => 8,
             Status::TooLarge => 9,
-            Status::NotYet => 10,
         }
     }
 }

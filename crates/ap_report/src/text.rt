@@ -1,8 +1,9 @@
 // The report on a text.
-ghost use Rattle.std.specs.Prelude.{◌≡◌, ◌≤◌, Ok, IfOk, length};
+ghost use Rattle.std.specs.Prelude.{◌≡◌, ◌≤◌, ℕ, List as list, Ok, IfOk, length};
+ghost use Rattle.ap_defs.specs.Goals.{program_of};
 ghost use Rattle.ap_lexer.specs.Tokens.{lexed, lexemes};
 ghost use Rattle.ap_trees.specs.Trees.{items_of};
-ghost use Rattle.ap_report.specs.TextReport.{IsItemsReport, IsTextReport};
+ghost use Rattle.ap_report.specs.TextReport.{IsItemsReport, IsTextReport, run_report};
 
 use crate::faults::{item_report, name_report, token_report, type_report};
 use crate::queries::report_program;
@@ -10,12 +11,24 @@ use crate::{Report, Status};
 use ap_defs::lists::List;
 use ap_defs::memory::Memory;
 use ap_lexer::{LexError, Token, lex};
+use ap_program::restricted::Restricted;
 use ap_restrict::errors::NameError;
 use ap_restrict::restrict::restrict;
 use ap_syntax::{SynError, parse};
 use ap_trees::Item;
 use ap_typecheck::{TypeError, check};
 use std::alloc::Global;
+
+/// The report on a program.
+fn report_restricted(alloc: Global, restricted: &Restricted, depth: u32) -> Result<Report, Memory>
+    ensures { IfOk result (λ r. r ≡ run_report depth (program_of restricted.now)) }
+{
+    let bytes = report_program(alloc, restricted, depth)?;
+    Ok(Report {
+        bytes: List::of(bytes),
+        status: Status::Ok,
+    })
+}
 
 /// The report on items.
 fn report_items(alloc: Global, items: &[Item<'_>], depth: u32) -> Result<Report, Memory>
@@ -28,26 +41,18 @@ fn report_items(alloc: Global, items: &[Item<'_>], depth: u32) -> Result<Report,
         Err(TypeError::Fault(fault)) => return type_report(alloc, fault),
         Err(TypeError::Memory) => return Err(Memory),
     };
-    let restricted = match restrict(alloc, program) {
-        Ok(restricted) => restricted,
-        Err(NameError::Fault(fault)) => return name_report(alloc, &fault),
-        Err(NameError::Memory) => return Err(Memory),
-    };
-    Ok(Report {
-        bytes: List::of(report_program(alloc, &restricted, depth)?),
-        status: Status::Ok,
-    })
+    match restrict(alloc, program) {
+        Ok(restricted) => report_restricted(alloc, &restricted, depth),
+        Err(NameError::Fault(fault)) => name_report(alloc, &fault),
+        Err(NameError::Memory) => Err(Memory),
+    }
 }
 
 /// The report on a text with these tokens.
-fn report_tokens(
-    alloc: Global,
-    tokens: &[Token<'_>],
-    depth: u32,
-) -> Result<Report, Memory>
+fn report_tokens(alloc: Global, tokens: &[Token<'_>], depth: u32) -> Result<Report, Memory>
     requires { length tokens.now ≤ 16777216 }
-    ensures made { IfOk result (λ r. (text : List ℕ) → lexed text ≡ Ok (lexemes tokens.now) → IsTextReport depth text r) }
-    ensures only { IfOk result (λ r. (text : List ℕ) → lexed text ≡ Ok (lexemes tokens.now) → (s : Report) → IsTextReport depth text s → s ≡ r) }
+    ensures made { IfOk result (λ r. (text : list ℕ) → lexed text ≡ Ok (lexemes tokens.now) → IsTextReport depth text r) }
+    ensures only { IfOk result (λ r. (text : list ℕ) → lexed text ≡ Ok (lexemes tokens.now) → (s : Report) → IsTextReport depth text s → s ≡ r) }
 {
     match parse(alloc, tokens) {
         Ok(items) => report_items(alloc, &items, depth),

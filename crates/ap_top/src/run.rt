@@ -63,16 +63,21 @@ fn report<S: Source>(alloc: Global, words: &[String], source: &mut S) -> Result<
 ///
 /// | Status | Comes | Written is |
 /// |---|---|---|
-/// | `Ok` | exactly where the text has no fault and is of the plain form | the report of its query |
+/// | `Ok` | exactly where the text has no fault | the report of its queries |
 /// | `Usage` | exactly where the words aren't `run`, `--depth`, and a number of at most 1,000,000; then nothing is read | its line |
 /// | `Syntax` | exactly where the text doesn't split into tokens, or an item isn't in the grammar | the line of the first fault |
+/// | `Types` | exactly where an item isn't well typed | the line of the first fault |
+/// | `Names` | exactly where an item breaks the name restriction | the line of the first fault |
 /// | `Read` | only where the source's count of failures rose | its line |
 /// | `Write` | only where the sink's count of failures rose | the first bytes of the report |
 /// | `Memory` | where memory is wanting | nothing |
 /// | `TooLarge` | exactly where the input has a byte past 16,777,216 | its line |
-/// | `NotYet` | exactly where the text has no fault and isn't of the plain form | its line |
 ///
-/// A `Write` stands in place of any other status.
+/// The statuses on the text come in this order, and a `Write` stands in place of any other.
+///
+/// The report of a query is what sequential nominal resolution finds to the depth (Cheney and Urban,
+/// "Nominal Logic Programming"): a line for each answer, in order, once for each derivation, with notes
+/// where branches were cut or stuck, and the totals.
 pub fn top<R: Threads + Wait + Sync, S: Source, K: Sink, G: Gate>(
     _rt: &R,
     alloc: Global,

@@ -46,8 +46,8 @@ fn texts_are_answered(rt: HostRuntime) -> Result<(), Fail> {
     assert_eq!(rt; status, 0);
     assert_eq!(rt; sink.bytes(), REPORT.as_bytes());
     let (status, sink) = call(&rt, rt.alloc(), "run --depth 1", "", 100, 0, 0)?;
-    assert_eq!(rt; status, 10);
-    assert_eq!(rt; sink.bytes(), b"% not yet\n".as_slice());
+    assert_eq!(rt; status, 0);
+    assert!(rt; sink.bytes().is_empty());
     Ok(())
 }
 
