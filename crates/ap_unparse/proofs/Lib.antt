@@ -1,0 +1,5 @@
+pub mod ByteLemmas
+pub mod TypeBytes
+pub mod TermBytes
+pub mod GoalBytes
+pub mod GoalSteps

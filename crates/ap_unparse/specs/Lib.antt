@@ -1,0 +1,4 @@
+pub mod Written
+pub mod WrittenTypes
+pub mod WrittenTerms
+pub mod WrittenGoals
