@@ -3,3 +3,5 @@ pub mod TypeBytes
 pub mod TermBytes
 pub mod GoalBytes
 pub mod GoalSteps
+pub mod TypeReadings
+pub mod TermReadings

@@ -1,8 +1,10 @@
 //! The texts of terms, goals and types.
 
-ghost use Rattle.std.specs.Prelude.{◌≡◌, IfOk};
+ghost use Rattle.std.specs.Prelude.{◌≡◌, [], IfOk};
 ghost use Rattle.ap_trees.specs.Trees.{term_of, goal_of, type_of};
-ghost use Rattle.ap_unparse.specs.Written.{bytes_of};
+ghost use Rattle.ap_unparse.specs.Written.{bytes_of, symbols_of};
+ghost use Rattle.ap_trees.specs.TermGrammar.{IsTerm};
+ghost use Rattle.ap_trees.specs.TypeGrammar.{IsType};
 ghost use Rattle.ap_unparse.specs.WrittenTerms.{written_term};
 ghost use Rattle.ap_unparse.specs.WrittenGoals.{written_goal};
 ghost use Rattle.ap_unparse.specs.WrittenTypes.{written_type};
@@ -17,8 +19,10 @@ use ap_trees::{GoalTree, Tree, TypeTree};
 use std::alloc::Global;
 
 /// The text of a term.
+#[tactic(auto, using(crate::proofs::TermReadings::term_is_read))]
 pub fn term_text(alloc: Global, t: &Tree<'_>) -> Result<Vec<u8>, Memory>
     ensures text { IfOk result (λ bytes. bytes.items ≡ bytes_of (written_term (term_of t.now))) }
+    ensures grammar { IsTerm (symbols_of (written_term (term_of t.now))) (term_of t.now) [] }
 {
     let mut out = Vec::new(alloc);
     write_tree(alloc, &mut out, t, Place::Whole)?;
@@ -35,8 +39,10 @@ pub fn goal_text(alloc: Global, g: &GoalTree<'_>) -> Result<Vec<u8>, Memory>
 }
 
 /// The text of a type.
+#[tactic(auto, using(crate::proofs::TypeReadings::type_is_read))]
 pub fn type_text(alloc: Global, t: &TypeTree<'_>) -> Result<Vec<u8>, Memory>
     ensures text { IfOk result (λ bytes. bytes.items ≡ bytes_of (written_type (type_of t.now))) }
+    ensures grammar { IsType (symbols_of (written_type (type_of t.now))) (type_of t.now) [] }
 {
     let mut out = Vec::new(alloc);
     write_type(alloc, &mut out, t, false)?;
