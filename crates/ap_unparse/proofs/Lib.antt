@@ -5,3 +5,4 @@ pub mod GoalBytes
 pub mod GoalSteps
 pub mod TypeReadings
 pub mod TermReadings
+pub mod Lexing

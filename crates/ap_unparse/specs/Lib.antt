@@ -2,3 +2,4 @@ pub mod Written
 pub mod WrittenTypes
 pub mod WrittenTerms
 pub mod WrittenGoals
+pub mod Writable

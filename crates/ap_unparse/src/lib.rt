@@ -3,6 +3,7 @@
 
 mod closing;
 mod goals;
+pub mod laws;
 mod place;
 mod side;
 mod terms;
