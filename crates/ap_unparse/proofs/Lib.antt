@@ -6,3 +6,4 @@ pub mod GoalSteps
 pub mod TypeReadings
 pub mod TermReadings
 pub mod Lexing
+pub mod WordedLemmas

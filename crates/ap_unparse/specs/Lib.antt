@@ -3,3 +3,4 @@ pub mod WrittenTypes
 pub mod WrittenTerms
 pub mod WrittenGoals
 pub mod Writable
+pub mod Worded

@@ -9,6 +9,9 @@ ghost use Rattle.ap_unparse.specs.WrittenTerms.{written_term};
 ghost use Rattle.ap_unparse.specs.WrittenGoals.{written_goal};
 ghost use Rattle.ap_unparse.specs.WrittenTypes.{written_type};
 
+ghost use Rattle.ap_unparse.specs.Worded.{IsWordedTerm, IsWordedType};
+ghost use Rattle.ap_unparse.specs.Writable.{Reads};
+
 use crate::goals::write_goal;
 use crate::place::Place;
 use crate::side::Side;
@@ -19,9 +22,10 @@ use ap_trees::{GoalTree, Tree, TypeTree};
 use std::alloc::Global;
 
 /// The text of a term.
-#[tactic(auto, using(crate::proofs::TermReadings::term_is_read))]
+#[tactic(auto, using(crate::proofs::TermReadings::term_is_read, crate::proofs::WordedLemmas::term_is_lexed))]
 pub fn term_text(alloc: Global, t: &Tree<'_>) -> Result<Vec<u8>, Memory>
     ensures text { IfOk result (λ bytes. bytes.items ≡ bytes_of (written_term (term_of t.now))) }
+    ensures tokens { IfOk result (λ bytes. IsWordedTerm (term_of t.now) → Reads bytes.items (symbols_of (written_term (term_of t.now)))) }
     ensures grammar { IsTerm (symbols_of (written_term (term_of t.now))) (term_of t.now) [] }
 {
     let mut out = Vec::new(alloc);
@@ -39,9 +43,10 @@ pub fn goal_text(alloc: Global, g: &GoalTree<'_>) -> Result<Vec<u8>, Memory>
 }
 
 /// The text of a type.
-#[tactic(auto, using(crate::proofs::TypeReadings::type_is_read))]
+#[tactic(auto, using(crate::proofs::TypeReadings::type_is_read, crate::proofs::WordedLemmas::type_is_lexed))]
 pub fn type_text(alloc: Global, t: &TypeTree<'_>) -> Result<Vec<u8>, Memory>
     ensures text { IfOk result (λ bytes. bytes.items ≡ bytes_of (written_type (type_of t.now))) }
+    ensures tokens { IfOk result (λ bytes. IsWordedType (type_of t.now) → Reads bytes.items (symbols_of (written_type (type_of t.now)))) }
     ensures grammar { IsType (symbols_of (written_type (type_of t.now))) (type_of t.now) [] }
 {
     let mut out = Vec::new(alloc);
