@@ -7,3 +7,6 @@ pub mod TypeReadings
 pub mod TermReadings
 pub mod Lexing
 pub mod WordedLemmas
+pub mod MatchedBrackets
+pub mod GoalReadings
+pub mod WordedGoals

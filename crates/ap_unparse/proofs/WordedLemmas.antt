@@ -22,7 +22,7 @@ use Rattle.ap_unparse.specs.Writable.{IsMark, IsWritten, StartsApart, Writes, Re
 use Rattle.ap_unparse.specs.Worded.{IsIdentifier, IsVariable, IsWordedType, IsWordedName, IsWordedTerm, AreWorded}
 use Rattle.ap_unparse.proofs.Lexing.{ascii_text, written_is_lexed}
 
-mark : (m : ℕ) → is_short_mark (m ∷ []) ≡ true → ((rest : List ℕ) → is_long_mark (m ∷ take 1 rest) ≡ false) → m < 128 → is_xid_continue m ≡ false → IsMark (m ∷ [])
+pub mark : (m : ℕ) → is_short_mark (m ∷ []) ≡ true → ((rest : List ℕ) → is_long_mark (m ∷ take 1 rest) ≡ false) → m < 128 → is_xid_continue m ≡ false → IsMark (m ∷ [])
 mark m short alone low stops = record { byte = m; is = refl; short = short; alone = alone; low = low; stops = stops; utf8 = ascii_text m low }
 
 pub comma_mark : IsMark (codes ",")
@@ -57,10 +57,10 @@ lambda_mark = mark 92 refl (λ rest. refl) (omega arith) refl
 abbrev pub Joins : List Written → Type 0
 Joins vs = (ws : List Written) → Writes ws → StartsApart ws → Writes (vs ++ ws)
 
-tuple_inside : (ts us : List Written) → Joins ts → Joins us → Joins (ts ++ comma ∷ space ∷ us)
+pub tuple_inside : (ts us : List Written) → Joins ts → Joins us → Joins (ts ++ comma ∷ space ∷ us)
 tuple_inside ts us first second ws h a = subst Writes (sym (append_assoc ts (comma ∷ space ∷ us) ws)) (first (comma ∷ space ∷ (us ++ ws)) (comma_mark, tt, second ws h a) tt)
 
-behind_close : (ts : List Written) → Joins ts → Joins (ts ++ round_close ∷ [])
+pub behind_close : (ts : List Written) → Joins ts → Joins (ts ++ round_close ∷ [])
 behind_close ts first ws h a = subst Writes (sym (append_assoc ts (round_close ∷ []) ws)) (first (round_close ∷ ws) (close_mark, tt, h) tt)
 
 behind_square : (ts : List Written) → Joins ts → Joins (ts ++ square_close ∷ [])

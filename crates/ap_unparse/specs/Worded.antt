@@ -3,6 +3,8 @@ use Rattle.std.specs.Prelude.{ℕ, List, [], ◌∷◌, codes, ◌≢◌}
 use Rattle.std.specs.Str.{IsUtf8}
 use Rattle.ap_lexer.specs.declared.token.TokenKind.TheVariants.{Var, Ident}
 use Rattle.ap_lexer.specs.Spelling.{IsToken}
+use Rattle.ap_trees.specs.Goals as goals
+use Rattle.ap_trees.specs.Goals.{Goal}
 use Rattle.ap_trees.specs.Types as types
 use Rattle.ap_trees.specs.Types.{Ty}
 use Rattle.ap_trees.specs.Terms as terms
@@ -40,3 +42,17 @@ abbrev mutual
   pub AreWorded : Terms → Type 0
   AreWorded (Last t) = IsWordedTerm t
   AreWorded (More t ts) = IsWordedTerm t × AreWorded ts
+
+abbrev pub EachWorded : List Term → Type 0
+EachWorded [] = Unit {0}
+EachWorded (t ∷ ts) = IsWordedTerm t × EachWorded ts
+
+-- the variable of an `exists` isn't `_`
+abbrev pub IsWordedGoal : Goal → Type 0
+IsWordedGoal (goals.Atom w ts) = IsIdentifier w × EachWorded ts
+IsWordedGoal (goals.Equation t u) = IsWordedTerm t × IsWordedTerm u
+IsWordedGoal (goals.Freshness t u) = IsWordedTerm t × IsWordedTerm u
+IsWordedGoal (goals.Both g h) = IsWordedGoal g × IsWordedGoal h
+IsWordedGoal (goals.Either g h) = IsWordedGoal g × IsWordedGoal h
+IsWordedGoal (goals.Some_variable w g) = IsVariable w × (w ≢ codes "_") × IsWordedGoal g
+IsWordedGoal (goals.New_name w g) = IsIdentifier w × IsWordedGoal g

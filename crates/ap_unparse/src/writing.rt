@@ -5,11 +5,12 @@ ghost use Rattle.ap_trees.specs.Trees.{term_of, goal_of, type_of};
 ghost use Rattle.ap_unparse.specs.Written.{bytes_of, symbols_of};
 ghost use Rattle.ap_trees.specs.TermGrammar.{IsTerm};
 ghost use Rattle.ap_trees.specs.TypeGrammar.{IsType};
+ghost use Rattle.ap_syntax.specs.GoalGrammar.{IsGoal};
 ghost use Rattle.ap_unparse.specs.WrittenTerms.{written_term};
 ghost use Rattle.ap_unparse.specs.WrittenGoals.{written_goal};
 ghost use Rattle.ap_unparse.specs.WrittenTypes.{written_type};
 
-ghost use Rattle.ap_unparse.specs.Worded.{IsWordedTerm, IsWordedType};
+ghost use Rattle.ap_unparse.specs.Worded.{IsWordedTerm, IsWordedGoal, IsWordedType};
 ghost use Rattle.ap_unparse.specs.Writable.{Reads};
 
 use crate::goals::write_goal;
@@ -34,8 +35,11 @@ pub fn term_text(alloc: Global, t: &Tree<'_>) -> Result<Vec<u8>, Memory>
 }
 
 /// The text of a goal.
+#[tactic(auto, using(crate::proofs::GoalReadings::goal_is_read, crate::proofs::WordedGoals::goal_is_lexed))]
 pub fn goal_text(alloc: Global, g: &GoalTree<'_>) -> Result<Vec<u8>, Memory>
     ensures text { IfOk result (λ bytes. bytes.items ≡ bytes_of (written_goal (goal_of g.now))) }
+    ensures tokens { IfOk result (λ bytes. IsWordedGoal (goal_of g.now) → Reads bytes.items (symbols_of (written_goal (goal_of g.now)))) }
+    ensures grammar { IsWordedGoal (goal_of g.now) → IsGoal (symbols_of (written_goal (goal_of g.now))) (goal_of g.now) [] }
 {
     let mut out = Vec::new(alloc);
     write_goal(alloc, &mut out, g, Side::Alone)?;
