@@ -1,14 +1,14 @@
 -- The bytes of a goal, by its form.
-use Rattle.std.proofs.Common.{◌≡◌, ℕ, ◌+◌, ◌≤◌, ◌<◌, List, [], ◌∷◌, ◌++◌, refl, sym, ap, ◌∙◌, append_assoc, arith}
+use Rattle.std.proofs.Common.{◌≡◌, ℕ, ◌+◌, ◌≤◌, ◌<◌, List, ◌++◌, refl, ◌∙◌, append_assoc, arith}
 use Rattle.std.specs.Prelude.{codes, reverse}
 use Rattle.std.proofs.lemmas.List.{append-nil, reverse-append}
 use Rattle.ap_trees.specs.Terms.{Term}
 use Rattle.ap_trees.specs.Goals.{Goal, Atom, Equation, Freshness, Both, Either, Some_variable, New_name}
 use Rattle.ap_unparse.specs.declared.side.Side.{Side}
 use Rattle.ap_unparse.specs.declared.side.Side.TheVariants.{Alone, OnLeft, BehindComma}
-use Rattle.ap_unparse.specs.Written.{Written, bytes_of}
+use Rattle.ap_unparse.specs.Written.{bytes_of}
 use Rattle.ap_unparse.specs.WrittenTerms.{written_term}
-use Rattle.ap_unparse.specs.WrittenGoals.{goal_at, further_terms, arguments_of, both_opening, both_closing, either_opening, either_closing}
+use Rattle.ap_unparse.specs.WrittenGoals.{goal_at, arguments_of, both_opening, both_closing, either_opening, either_closing}
 use Rattle.ap_unparse.proofs.ByteLemmas.{bytes_of-append}
 
 -- What is written, what is left of a goal, and what is kept, in the order in which they will stand.

@@ -1,5 +1,5 @@
 -- A goal that is written is in the grammar.
-use Rattle.std.proofs.Common.{◌≡◌, ◌≢◌, ℕ, true, false, List, [], ◌∷◌, ◌++◌, refl, sym, ap, ◌∙◌, subst, append_assoc, append-nil}
+use Rattle.std.proofs.Common.{◌≡◌, ◌≢◌, ℕ, false, List, [], ◌∷◌, ◌++◌, refl, sym, ap, ◌∙◌, subst, append_assoc, append-nil}
 use Rattle.ap_trees.specs.Symbols.{Sym}
 use Rattle.ap_trees.specs.Terms.{Term}
 use Rattle.ap_trees.specs.TermGrammar.{AreTerms, only_one, and_more}
@@ -9,7 +9,7 @@ use Rattle.ap_syntax.specs.Matching.{begins_relation}
 use Rattle.ap_syntax.specs.GoalGrammar.{IsAtom, bare, with_arguments, IsGoal, disjunction, AreConjs, last_conj, next_conj, IsConj, conjunction, AreSimples, last_simple, next_simple, IsSimple, new_name, some_variable, in_parentheses, equation, freshness, an_atom}
 use Rattle.ap_unparse.specs.declared.side.Side.{Side}
 use Rattle.ap_unparse.specs.declared.side.Side.TheVariants.{Alone, OnLeft, BehindComma}
-use Rattle.ap_unparse.specs.Written.{Written, ident, var, comma, semicolon, space, round_open, round_close, fresh, equal, new, exists, symbols_of}
+use Rattle.ap_unparse.specs.Written.{Written, ident, comma, semicolon, space, round_open, round_close, fresh, equal, symbols_of}
 use Rattle.ap_unparse.specs.WrittenTerms.{written_term}
 use Rattle.ap_unparse.specs.WrittenGoals.{further_terms, arguments_of, goal_at, written_goal}
 use Rattle.ap_unparse.specs.Worded.{IsWordedGoal}
@@ -73,11 +73,11 @@ one_way : (g : Goal) → IsSimpleAt OnLeft g → goal_at BehindComma g ≡ goal_
 one_way g simple comma alone conj disj = record {
   simple = simple;
   simples = λ ws h.
-    subst (λ vs. AreSimples (symbols_of (vs ++ ws)) (conj_parts g) (symbols_of ws)) (sym comma)
-    (subst (λ gs. AreSimples (symbols_of (goal_at OnLeft g ++ ws)) gs (symbols_of ws)) (sym conj) (last_simple (simple ws h)));
+      subst (λ vs. AreSimples (symbols_of (vs ++ ws)) (conj_parts g) (symbols_of ws)) (sym comma)
+      (subst (λ gs. AreSimples (symbols_of (goal_at OnLeft g ++ ws)) gs (symbols_of ws)) (sym conj) (last_simple (simple ws h)));
   conjs = λ ws h.
-    subst (λ vs. AreConjs (symbols_of (vs ++ ws)) (disj_parts g) (symbols_of ws)) (sym alone)
-    (subst (λ gs. AreConjs (symbols_of (goal_at OnLeft g ++ ws)) gs (symbols_of ws)) (sym disj) (last_conj (conj_of_simple g (simple ws h))));
+      subst (λ vs. AreConjs (symbols_of (vs ++ ws)) (disj_parts g) (symbols_of ws)) (sym alone)
+      (subst (λ gs. AreConjs (symbols_of (goal_at OnLeft g ++ ws)) gs (symbols_of ws)) (sym disj) (last_conj (conj_of_simple g (simple ws h))));
 }
 
 further_read : (t : Term) (ts : List Term) (ws : List Written) → AreTerms (symbols_of (written_term t ++ (further_terms ts ++ (round_close ∷ ws)))) (t ∷ ts) (symbols_of (round_close ∷ ws))
@@ -91,7 +91,7 @@ atom_read : (w : List ℕ) (ts : List Term) (ws : List Written) → IsAtom (symb
 atom_read w [] ws = bare
 atom_read w (t ∷ ts) ws =
     let same : (written_term t ++ (further_terms ts ++ round_close ∷ [])) ++ ws ≡ written_term t ++ (further_terms ts ++ round_close ∷ ws) =
-        append_assoc (written_term t) (further_terms ts ++ round_close ∷ []) ws ∙ ap (λ vs. written_term t ++ vs) (append_assoc (further_terms ts) (round_close ∷ []) ws)
+    append_assoc (written_term t) (further_terms ts ++ round_close ∷ []) ws ∙ ap (λ vs. written_term t ++ vs) (append_assoc (further_terms ts) (round_close ∷ []) ws)
     in
     subst (λ vs. IsAtom (symbols_of (ident w ∷ round_open ∷ vs)) w (t ∷ ts) (symbols_of ws)) (sym same) (with_arguments (further_read t ts ws))
 
@@ -129,7 +129,7 @@ grouped g vs ws e h conjs =
     let begins = group_begins (goal_at Alone g) ws (goal_matched Alone g) ∙ h in
     subst (λ us. IsSimple (symbols_of ((round_open ∷ (us ++ round_close ∷ [])) ++ ws)) g (symbols_of ws)) (sym e)
     (subst (λ us. IsSimple (symbols_of (round_open ∷ us)) g (symbols_of ws)) (sym (append_assoc (goal_at Alone g) (round_close ∷ []) ws))
-      (in_parentheses begins (goal_of_conjs g (symbols_of (goal_at Alone g ++ round_close ∷ ws)) (symbols_of (round_close ∷ ws)) (conjs (round_close ∷ ws) refl))))
+    (in_parentheses begins (goal_of_conjs g (symbols_of (goal_at Alone g ++ round_close ∷ ws)) (symbols_of (round_close ∷ ws)) (conjs (round_close ∷ ws) refl))))
 
 both_simples : (g h : Goal) → Spells g → Spells h → (ws : List Written) → NoRelation ws → AreSimples (symbols_of (goal_at BehindComma (Both g h) ++ ws)) (g ∷ conj_parts h) (symbols_of ws)
 both_simples g h first second ws n =

@@ -1,5 +1,5 @@
 -- Terms of an atom, one after the other.
-use Rattle.std.proofs.Common.{◌≡◌, ℕ, suc, ◌+◌, ◌-◌, ◌≤◌, ◌<◌, List, [], ◌∷◌, ◌++◌, length, take, drop, get_or, refl, sym, ap, ◌∙◌, append_assoc, arith, add-one, drop-cons}
+use Rattle.std.proofs.Common.{◌≡◌, ℕ, suc, ◌+◌, ◌-◌, ◌≤◌, ◌<◌, List, [], ◌∷◌, ◌++◌, length, take, drop, get_or, sym, ap, ◌∙◌, append_assoc, arith, add-one, drop-cons}
 use Rattle.std.specs.Prelude.{codes}
 use Rattle.std.proofs.Math.Seq.{take-length}
 use Rattle.ap_trees.specs.declared.trees.Tree.{Tree}
@@ -14,7 +14,7 @@ pub further_next : (ts : List Tree) (t : Tree) (i : ℕ) (o o1 o2 all : List ℕ
 further_next ts t i o o1 o2 all h e a b invariant =
     let front : drop i ts ≡ t ∷ drop (suc i) ts = drop-cons ts i t h ∙ ap (λ (x : Tree). x ∷ drop (suc i) ts) (sym e) in
     let next : o2 ++ bytes_of (further_terms (trees_of (drop (suc i) ts))) ≡ o ++ bytes_of (further_terms (trees_of (drop i ts))) =
-        rw (b, a, front) (simp (bytes_of-append, append_assoc))
+    rw (b, a, front) (simp (bytes_of-append, append_assoc))
     in
     rw (add-one i) (next ∙ invariant)
 

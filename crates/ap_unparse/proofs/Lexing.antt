@@ -1,26 +1,23 @@
 -- The bytes that are written are lexed into the tokens that are written.
-use Rattle.std.proofs.Common.{◌≡◌, ℕ, zero, suc, ◌+◌, ◌<◌, ◌≤◌, Bool, true, false, List, [], ◌∷◌, ◌++◌, map, length, take, drop, Some, None, refl, sym, ap, ap₂, ◌∙◌, subst, arith, append_assoc, append-nil, length-append}
-use Rattle.std.specs.Prelude.{Result, Ok, if◌then◌else◌, encode_utf8, encode_utf8_all, codes}
-use Rattle.std.specs.List.{AllPass}
+use Rattle.std.proofs.Common.{◌≡◌, ℕ, suc, ◌+◌, ◌<◌, ◌≤◌, Bool, List, [], ◌∷◌, ◌++◌, map, length, take, drop, Some, None, refl, sym, ap, ap₂, ◌∙◌, subst, arith, append_assoc, length-append}
+use Rattle.std.specs.Prelude.{if◌then◌else◌, encode_utf8, encode_utf8_all}
 use Rattle.std.specs.Str.{IsUtf8}
 use Rattle.std.proofs.lemmas.Str.{IsUtf8-append, IsUtf8-nil, IsUtf8-from_ascii, len_utf8_bounds, length-encode}
 use Rattle.std.proofs.lemmas.Str.Ascii.{IsAscii-cons}
 use Rattle.std.proofs.lemmas.List.{drop_at}
 use Rattle.std.proofs.Math.Seq.{take-append_seam}
-use Rattle.unicode_ident.specs.Ident.{is_xid_continue}
 use Rattle.unicode_ident.proofs.Computing.{unicode_ident}
 use Rattle.ap_lexer.specs.declared.token.TokenKind.{TokenKind}
 use Rattle.ap_lexer.specs.declared.token.TokenKind.TheVariants.{Var, Ident, Reserved, Sign}
-use Rattle.ap_lexer.specs.declared.pieces.Piece.{Piece}
-use Rattle.ap_lexer.specs.Spelling.{starts_variable, starts_identifier, is_reserved, is_long_mark, is_short_mark, IsWord, IsToken}
+use Rattle.ap_lexer.specs.Spelling.{is_reserved, IsWord}
 use Rattle.ap_lexer.specs.Pieces.{piece_at}
-use Rattle.ap_lexer.specs.Tokens.{Scan, Span, Lexeme, scan_from, scan_piece, lexeme_at, lexemes_of, lexed}
+use Rattle.ap_lexer.specs.Tokens.{Scan, scan_from, scan_piece, lexeme_at, lexemes_of}
 use Rattle.ap_lexer.proofs.Seams.{EndsWord, ends_word-nil, ends_word-ascii, piece_at-variable, piece_at-word, piece_at-short, piece_at-space}
 use Rattle.ap_lexer.proofs.Scans.{scan_step, scan_stop, lexed-whole}
 use Rattle.ap_lexer.proofs.First.{none_at}
-use Rattle.ap_trees.specs.Symbols.{Sym, spelled, sym_of, syms_of}
+use Rattle.ap_trees.specs.Symbols.{Sym, spelled, syms_of}
 use Rattle.ap_unparse.specs.Written.{Written, token, space, bytes_of, symbols_of}
-use Rattle.ap_unparse.specs.Writable.{IsMark, IsWritten, StartsApart, ApartFrom, Writes, Reads}
+use Rattle.ap_unparse.specs.Writable.{IsWritten, StartsApart, Writes, Reads}
 
 token_text : (kind : TokenKind) (text : List ℕ) → IsWritten kind text → IsUtf8 text
 token_text Sign text h = h.utf8
@@ -55,7 +52,7 @@ ends (token Reserved text ∷ ws) h a = absurd a
 piece_there : (kind : TokenKind) (text : List ℕ) (ws : List Written) → Writes (token kind text ∷ ws) → piece_at (text ++ bytes_of ws) ≡ Some (record { kind = Some kind; len = length text })
 piece_there Sign text ws h =
     let at : piece_at (h.0.byte ∷ bytes_of ws) ≡ Some (record { kind = Some Sign; len = 1 }) =
-        piece_at-short h.0.byte (bytes_of ws) (subst (λ bs. IsUtf8 (bs ++ bytes_of ws)) h.0.is (bytes_text (token Sign text ∷ ws) h)) (bytes_text ws h.2) h.0.short (h.0.alone (bytes_of ws)) in
+    piece_at-short h.0.byte (bytes_of ws) (subst (λ bs. IsUtf8 (bs ++ bytes_of ws)) h.0.is (bytes_text (token Sign text ∷ ws) h)) (bytes_text ws h.2) h.0.short (h.0.alone (bytes_of ws)) in
     subst (λ bs. piece_at (bs ++ bytes_of ws) ≡ Some (record { kind = Some Sign; len = length bs })) (sym h.0.is) at
 piece_there Var text ws h =
     let word = h.0.0 in
@@ -66,13 +63,13 @@ piece_there Ident text ws h =
     let kind : (if is_reserved (encode_utf8_all (word.0 ∷ word.1)) then Reserved else Ident) ≡ Ident = ap (λ bs. if is_reserved bs then Reserved else Ident) word.2 ∙ ap (λ b. if b then Reserved else Ident) h.0.0.1 in
     subst (λ bs. piece_at (bs ++ bytes_of ws) ≡ Some (record { kind = Some Ident; len = length bs })) word.2
     (piece_at-word word.0 word.1 (bytes_of ws) (subst (λ bs. IsUtf8 (bs ++ bytes_of ws)) (sym word.2) (bytes_text (token Ident text ∷ ws) h)) word.3 word.4 (ends ws h.2 h.1)
-      ∙ ap (λ (k : TokenKind). Some (record { kind = Some k; len = length (encode_utf8_all (word.0 ∷ word.1)) })) kind)
+    ∙ ap (λ (k : TokenKind). Some (record { kind = Some k; len = length (encode_utf8_all (word.0 ∷ word.1)) })) kind)
 piece_there Reserved text ws h =
     let word = h.0.0.0 in
     let kind : (if is_reserved (encode_utf8_all (word.0 ∷ word.1)) then Reserved else Ident) ≡ Reserved = ap (λ bs. if is_reserved bs then Reserved else Ident) word.2 ∙ ap (λ b. if b then Reserved else Ident) h.0.0.1 in
     subst (λ bs. piece_at (bs ++ bytes_of ws) ≡ Some (record { kind = Some Reserved; len = length bs })) word.2
     (piece_at-word word.0 word.1 (bytes_of ws) (subst (λ bs. IsUtf8 (bs ++ bytes_of ws)) (sym word.2) (bytes_text (token Reserved text ∷ ws) h)) word.3 word.4 (ends ws h.2 h.1)
-      ∙ ap (λ (k : TokenKind). Some (record { kind = Some k; len = length (encode_utf8_all (word.0 ∷ word.1)) })) kind)
+    ∙ ap (λ (k : TokenKind). Some (record { kind = Some k; len = length (encode_utf8_all (word.0 ∷ word.1)) })) kind)
 
 word_long : {starts : ℕ → Bool} (text : List ℕ) → IsWord starts text → 0 < length text
 word_long text w = subst (λ bs. 0 < length bs) w.2 (rw (length-append (encode_utf8 w.0) (encode_utf8_all w.1)) (rw (length-encode w.0) (omega (arith, (len_utf8_bounds w.0).0))))

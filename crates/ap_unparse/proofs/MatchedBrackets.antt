@@ -1,6 +1,5 @@
 -- The brackets of what is written match.
-use Rattle.std.proofs.Common.{◌≡◌, ℕ, zero, suc, ◌+◌, Bool, true, false, List, [], ◌∷◌, ◌++◌, Option, Some, None, refl, sym, ap, ◌∙◌, append_assoc, add-one}
-use Rattle.ap_trees.specs.Symbols.{Sym}
+use Rattle.std.proofs.Common.{◌≡◌, ℕ, zero, suc, true, List, [], ◌∷◌, ◌++◌, Some, None, refl, sym, ap, ◌∙◌, append_assoc, add-one}
 use Rattle.ap_trees.specs.Terms as terms
 use Rattle.ap_trees.specs.Terms.{Name, OfWord, OfVar, Term, Terms, Variable, Word, Apply, Pair, Nil, Cell, Abs, Swapped, Last, More}
 use Rattle.ap_trees.specs.Goals as goals
@@ -101,13 +100,13 @@ closes_first ws = refl
 pub group_matched : (vs : List Written) → Matched vs → Matched (round_open ∷ (vs ++ round_close ∷ []))
 group_matched vs m = record {
   skip = λ d ws.
-    opens d ((vs ++ round_close ∷ []) ++ ws) ∙ ap (λ xs. after_match (suc d) (symbols_of xs)) (append_assoc vs (round_close ∷ []) ws) ∙ m.skip (suc d) (round_close ∷ ws) ∙ closes d ws;
+      opens d ((vs ++ round_close ∷ []) ++ ws) ∙ ap (λ xs. after_match (suc d) (symbols_of xs)) (append_assoc vs (round_close ∷ []) ws) ∙ m.skip (suc d) (round_close ∷ ws) ∙ closes d ws;
 }
 
 square_matched : (vs : List Written) → Matched vs → Matched (square_open ∷ (vs ++ square_close ∷ []))
 square_matched vs m = record {
   skip = λ d ws.
-    opens_square d ((vs ++ square_close ∷ []) ++ ws) ∙ ap (λ xs. after_match (suc d) (symbols_of xs)) (append_assoc vs (square_close ∷ []) ws) ∙ m.skip (suc d) (square_close ∷ ws) ∙ closes_square d ws;
+      opens_square d ((vs ++ square_close ∷ []) ++ ws) ∙ ap (λ xs. after_match (suc d) (symbols_of xs)) (append_assoc vs (square_close ∷ []) ws) ∙ m.skip (suc d) (square_close ∷ ws) ∙ closes_square d ws;
 }
 
 barred_matched : (place : Place) (vs : List Written) → Matched vs → Matched (barred place vs)
@@ -164,8 +163,8 @@ atom_matched : (ts : List Term) → Matched (atoms.arguments_of ts)
 atom_matched [] = none_matched
 atom_matched (t ∷ ts) = record {
   skip = λ d ws.
-    ap (λ xs. after_match d (symbols_of (round_open ∷ (xs ++ ws)))) (sym (append_assoc (written_term t) (further_terms ts) (round_close ∷ [])))
-    ∙ (group_matched (written_term t ++ further_terms ts) (both_matched (written_term t) (further_terms ts) (term_matched Whole t) (further_matched ts))).skip d ws;
+      ap (λ xs. after_match d (symbols_of (round_open ∷ (xs ++ ws)))) (sym (append_assoc (written_term t) (further_terms ts) (round_close ∷ [])))
+      ∙ (group_matched (written_term t ++ further_terms ts) (both_matched (written_term t) (further_terms ts) (term_matched Whole t) (further_matched ts))).skip d ws;
 }
 
 side_both : (side : Side) (vs : List Written) → Matched vs → Matched (both_at side vs)
@@ -192,13 +191,13 @@ goal_matched side (goals.Both g h) =
 goal_matched side (goals.Either g h) =
     side_either side (goal_at OnLeft g ++ space ∷ semicolon ∷ space ∷ goal_at Alone h)
     (both_matched (goal_at OnLeft g) (space ∷ semicolon ∷ space ∷ goal_at Alone h) (goal_matched OnLeft g)
-      (space_matched (semicolon ∷ space ∷ goal_at Alone h) (semicolon_matched (space ∷ goal_at Alone h) (space_matched (goal_at Alone h) (goal_matched Alone h)))))
+    (space_matched (semicolon ∷ space ∷ goal_at Alone h) (semicolon_matched (space ∷ goal_at Alone h) (space_matched (goal_at Alone h) (goal_matched Alone h)))))
 goal_matched side (goals.Some_variable w g) =
     exists_matched (space ∷ var w ∷ space ∷ round_open ∷ (goal_at Alone g ++ round_close ∷ [])) (space_matched (var w ∷ space ∷ round_open ∷ (goal_at Alone g ++ round_close ∷ []))
-      (var_matched w (space ∷ round_open ∷ (goal_at Alone g ++ round_close ∷ [])) (space_matched (round_open ∷ (goal_at Alone g ++ round_close ∷ [])) (group_matched (goal_at Alone g) (goal_matched Alone g)))))
+    (var_matched w (space ∷ round_open ∷ (goal_at Alone g ++ round_close ∷ [])) (space_matched (round_open ∷ (goal_at Alone g ++ round_close ∷ [])) (group_matched (goal_at Alone g) (goal_matched Alone g)))))
 goal_matched side (goals.New_name w g) =
     new_matched (space ∷ ident w ∷ space ∷ round_open ∷ (goal_at Alone g ++ round_close ∷ [])) (space_matched (ident w ∷ space ∷ round_open ∷ (goal_at Alone g ++ round_close ∷ []))
-      (ident_matched w (space ∷ round_open ∷ (goal_at Alone g ++ round_close ∷ [])) (space_matched (round_open ∷ (goal_at Alone g ++ round_close ∷ [])) (group_matched (goal_at Alone g) (goal_matched Alone g)))))
+    (ident_matched w (space ∷ round_open ∷ (goal_at Alone g ++ round_close ∷ [])) (space_matched (round_open ∷ (goal_at Alone g ++ round_close ∷ [])) (group_matched (goal_at Alone g) (goal_matched Alone g)))))
 
 -- what comes after a parenthesis decides what it begins
 pub group_begins : (vs ws : List Written) → Matched vs → begins_term (symbols_of (vs ++ round_close ∷ ws)) ≡ begins_relation (symbols_of ws)

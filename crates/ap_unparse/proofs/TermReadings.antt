@@ -3,7 +3,6 @@ use Rattle.std.proofs.Common.{◌≡◌, ℕ, List, [], ◌∷◌, ◌++◌, ref
 use Rattle.ap_trees.specs.Symbols.{Sym}
 use Rattle.ap_trees.specs.Terms.{Name, OfWord, OfVar, Term, Terms, Unit, Variable, Word, Apply, Pair, Nil, Cell, Abs, Swapped, Last, More, arguments, tuple, cells}
 use Rattle.ap_trees.specs.TermGrammar.{IsId, an_ident, a_var, IsTerm, under, a_word, applied, a_variable, the_unit, grouped, the_nil, listed, swapping, IsEnd, no_bar, behind_bar, AreTerms, only_one, and_more}
-use Rattle.ap_unparse.specs.declared.place.Place.{Place}
 use Rattle.ap_unparse.specs.declared.place.Place.TheVariants.{Whole, Part, Rest}
 use Rattle.ap_unparse.specs.Written.{Written, ident, comma, round_open, round_close, square_open, square_close, bar, lambda, swap, symbols_of}
 use Rattle.ap_unparse.specs.WrittenTerms.{written_name, term_at, arguments_of, written_term}
@@ -94,8 +93,8 @@ behind : (t : Term) → Alone (term_at Whole t) t → heads_of t ≡ [] → end_
 behind t alone heads end text vs h ws first = record {
   after = symbols_of (bar ∷ (term_at Whole t ++ ws));
   elements =
-    subst (λ us. AreTerms (symbols_of (vs ++ (us ++ ws))) (h ∷ heads_of t) (symbols_of (bar ∷ (term_at Whole t ++ ws)))) (sym text)
-    (subst (λ hs. AreTerms (symbols_of (vs ++ (bar ∷ (term_at Whole t ++ ws)))) (h ∷ hs) (symbols_of (bar ∷ (term_at Whole t ++ ws)))) (sym heads) (only_one (first (bar ∷ (term_at Whole t ++ ws)))));
+      subst (λ us. AreTerms (symbols_of (vs ++ (us ++ ws))) (h ∷ heads_of t) (symbols_of (bar ∷ (term_at Whole t ++ ws)))) (sym text)
+      (subst (λ hs. AreTerms (symbols_of (vs ++ (bar ∷ (term_at Whole t ++ ws)))) (h ∷ hs) (symbols_of (bar ∷ (term_at Whole t ++ ws)))) (sym heads) (only_one (first (bar ∷ (term_at Whole t ++ ws)))));
   end = subst (λ e. IsEnd (symbols_of (bar ∷ (term_at Whole t ++ ws))) e (symbols_of ws)) (sym end) (behind_bar (alone ws));
 }
 
@@ -103,8 +102,8 @@ simple : (t : Term) → Alone (term_at Whole t) t → parts_of t ≡ t ∷ [] �
 simple t alone parts part heads end text = record {
   alone = alone;
   inner = λ ws.
-    subst (λ us. AreTerms (symbols_of (us ++ ws)) (parts_of t) (symbols_of ws)) (sym part)
-    (subst (λ ps. AreTerms (symbols_of (term_at Whole t ++ ws)) ps (symbols_of ws)) (sym parts) (only_one (alone ws)));
+      subst (λ us. AreTerms (symbols_of (us ++ ws)) (parts_of t) (symbols_of ws)) (sym part)
+      (subst (λ ps. AreTerms (symbols_of (term_at Whole t ++ ws)) ps (symbols_of ws)) (sym parts) (only_one (alone ws)));
   further = behind t alone heads end text;
 }
 
@@ -125,7 +124,7 @@ cell_alone : (t u : Term) → Spells t → Spells u → Alone (term_at Whole (Ce
 cell_alone t u first second ws =
     let inside = term_at Whole t ++ term_at Rest u in
     let same : (inside ++ square_close ∷ []) ++ ws ≡ term_at Whole t ++ (term_at Rest u ++ square_close ∷ ws) =
-        append_assoc inside (square_close ∷ []) ws ∙ append_assoc (term_at Whole t) (term_at Rest u) (square_close ∷ ws)
+    append_assoc inside (square_close ∷ []) ws ∙ append_assoc (term_at Whole t) (term_at Rest u) (square_close ∷ ws)
     in
     let parts = second.further (term_at Whole t) t (square_close ∷ ws) first.alone in
     subst (λ v. IsTerm (symbols_of (term_at Whole (Cell t u) ++ ws)) v (symbols_of ws)) (ap (λ v. Cell t v) (cells-heads_of u))
@@ -138,8 +137,8 @@ cell_further t u first second vs h ws head =
     record {
       after = parts.after;
       elements =
-        subst (λ us. AreTerms (symbols_of (vs ++ (comma ∷ us))) (h ∷ t ∷ heads_of u) parts.after) (sym same)
-        (and_more (head (comma ∷ (term_at Whole t ++ (term_at Rest u ++ ws)))) parts.elements);
+          subst (λ us. AreTerms (symbols_of (vs ++ (comma ∷ us))) (h ∷ t ∷ heads_of u) parts.after) (sym same)
+          (and_more (head (comma ∷ (term_at Whole t ++ (term_at Rest u ++ ws)))) parts.elements);
       end = parts.end;
     }
 

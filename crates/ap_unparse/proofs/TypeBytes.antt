@@ -1,9 +1,9 @@
 -- The bytes of a type, by its form.
-use Rattle.std.proofs.Common.{◌≡◌, ℕ, ◌+◌, ◌≤◌, ◌<◌, Bool, true, false, List, [], ◌∷◌, ◌++◌, refl, sym, ap, ◌∙◌, append_assoc, arith}
+use Rattle.std.proofs.Common.{◌≡◌, ℕ, ◌+◌, ◌≤◌, ◌<◌, Bool, true, false, List, [], ◌++◌, refl, append_assoc, arith}
 use Rattle.std.specs.Prelude.{codes, reverse, if◌then◌else◌}
 use Rattle.std.proofs.lemmas.List.{append-nil, reverse-append}
 use Rattle.ap_trees.specs.Types.{Ty, Unit, Word, Pair, Array, Abs}
-use Rattle.ap_unparse.specs.Written.{Written, comma, space, round_close, square_close, bytes_of}
+use Rattle.ap_unparse.specs.Written.{bytes_of}
 use Rattle.ap_unparse.specs.WrittenTypes.{type_at}
 use Rattle.ap_unparse.proofs.ByteLemmas.{bytes_of-append}
 

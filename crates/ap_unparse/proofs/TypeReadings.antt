@@ -1,6 +1,5 @@
 -- A type that is written is in the grammar.
 use Rattle.std.proofs.Common.{◌≡◌, true, false, List, [], ◌∷◌, ◌++◌, refl, sym, ap, ◌∙◌, subst, append_assoc, append-nil}
-use Rattle.ap_trees.specs.Symbols.{Sym, Close, CloseList}
 use Rattle.ap_trees.specs.Types.{Ty, Unit, Word, Pair, Array, Abs, tuple}
 use Rattle.ap_trees.specs.TypeGrammar.{IsType, AreTypes, abs, word, unit, group, array, sole, several}
 use Rattle.ap_unparse.specs.Written.{Written, comma, space, round_open, round_close, square_open, square_close, symbols_of}

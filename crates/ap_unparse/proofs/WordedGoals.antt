@@ -1,25 +1,24 @@
 -- What is written of worded goals may be written.
-use Rattle.std.proofs.Common.{◌≡◌, ℕ, ◌<◌, true, List, [], ◌∷◌, ◌++◌, refl, sym, ap, ◌∙◌, subst, append_assoc, append-nil, arith}
+use Rattle.std.proofs.Common.{◌≡◌, ℕ, true, List, [], ◌∷◌, ◌++◌, refl, sym, subst, append_assoc, append-nil, arith}
 use Rattle.std.specs.Prelude.{codes, encode_utf8_all}
 use Rattle.std.specs.List.{AllPass}
 use Rattle.std.proofs.lemmas.Str.{IsUtf8-append}
 use Rattle.std.proofs.lemmas.List.Elements.{All-cons}
-use Rattle.unicode_ident.specs.Ident.{is_xid_continue, is_xid_start}
+use Rattle.unicode_ident.specs.Ident.{is_xid_continue}
 use Rattle.unicode_ident.proofs.Computing.{unicode_ident}
-use Rattle.ap_lexer.specs.Spelling.{IsToken}
 use Rattle.ap_lexer.specs.declared.token.TokenKind.TheVariants.{Reserved, Sign}
 use Rattle.ap_trees.specs.Terms.{Term}
 use Rattle.ap_trees.specs.Goals.{Goal, Atom, Equation, Freshness, Both, Either, Some_variable, New_name}
 use Rattle.ap_unparse.specs.declared.place.Place.TheVariants.{Whole}
 use Rattle.ap_unparse.specs.declared.side.Side.{Side}
 use Rattle.ap_unparse.specs.declared.side.Side.TheVariants.{Alone, OnLeft, BehindComma}
-use Rattle.ap_unparse.specs.Written.{Written, token, ident, var, comma, semicolon, space, round_open, round_close, fresh, equal, new, exists, bytes_of, symbols_of}
+use Rattle.ap_unparse.specs.Written.{Written, token, comma, semicolon, space, round_open, round_close, bytes_of, symbols_of}
 use Rattle.ap_unparse.specs.WrittenTerms.{written_term}
 use Rattle.ap_unparse.specs.WrittenGoals.{further_terms, arguments_of, both_at, either_at, goal_at, written_goal}
 use Rattle.ap_unparse.specs.Writable.{IsMark, IsWritten, StartsApart, Writes, Reads}
-use Rattle.ap_unparse.specs.Worded.{IsWordedTerm, EachWorded, IsWordedGoal}
+use Rattle.ap_unparse.specs.Worded.{EachWorded, IsWordedGoal}
 use Rattle.ap_unparse.proofs.Lexing.{ascii_text, written_is_lexed}
-use Rattle.ap_unparse.proofs.WordedLemmas.{Joins, mark, comma_mark, open_mark, close_mark, behind_close, tuple_inside, writes_term}
+use Rattle.ap_unparse.proofs.WordedLemmas.{Joins, mark, comma_mark, open_mark, behind_close, tuple_inside, writes_term}
 
 semicolon_mark : IsMark (codes ";")
 unfolding unicode_ident
@@ -49,18 +48,18 @@ exists_text = refl
 
 new_written : IsWritten Reserved (codes "new")
 unfolding unicode_ident
-new_written =
-    ( ((110, codes "ew", sym new_text, refl, goes 101 (codes "w") refl (goes 119 [] refl none_goes)), refl)
-    , IsUtf8-append (110 ∷ []) (codes "ew") (ascii_text 110 (omega arith)) (IsUtf8-append (101 ∷ []) (codes "w") (ascii_text 101 (omega arith)) (ascii_text 119 (omega arith)))
-    )
+new_written = (
+  ((110, codes "ew", sym new_text, refl, goes 101 (codes "w") refl (goes 119 [] refl none_goes)), refl),
+  IsUtf8-append (110 ∷ []) (codes "ew") (ascii_text 110 (omega arith)) (IsUtf8-append (101 ∷ []) (codes "w") (ascii_text 101 (omega arith)) (ascii_text 119 (omega arith))),
+)
 
 exists_written : IsWritten Reserved (codes "exists")
 unfolding unicode_ident
-exists_written =
-    ( ((101, codes "xists", sym exists_text, refl, goes 120 (codes "ists") refl (goes 105 (codes "sts") refl (goes 115 (codes "ts") refl (goes 116 (codes "s") refl (goes 115 [] refl none_goes))))), refl)
-    , IsUtf8-append (101 ∷ []) (codes "xists") (ascii_text 101 (omega arith)) (IsUtf8-append (120 ∷ []) (codes "ists") (ascii_text 120 (omega arith)) (IsUtf8-append (105 ∷ []) (codes "sts") (ascii_text 105 (omega arith))
-        (IsUtf8-append (115 ∷ []) (codes "ts") (ascii_text 115 (omega arith)) (IsUtf8-append (116 ∷ []) (codes "s") (ascii_text 116 (omega arith)) (ascii_text 115 (omega arith))))))
-    )
+exists_written = (
+  ((101, codes "xists", sym exists_text, refl, goes 120 (codes "ists") refl (goes 105 (codes "sts") refl (goes 115 (codes "ts") refl (goes 116 (codes "s") refl (goes 115 [] refl none_goes))))), refl),
+  IsUtf8-append (101 ∷ []) (codes "xists") (ascii_text 101 (omega arith)) (IsUtf8-append (120 ∷ []) (codes "ists") (ascii_text 120 (omega arith)) (IsUtf8-append (105 ∷ []) (codes "sts") (ascii_text 105 (omega arith))
+      (IsUtf8-append (115 ∷ []) (codes "ts") (ascii_text 115 (omega arith)) (IsUtf8-append (116 ∷ []) (codes "s") (ascii_text 116 (omega arith)) (ascii_text 115 (omega arith)))))),
+)
 
 further_apart : (ts : List Term) (ws : List Written) → StartsApart ws → StartsApart (further_terms ts ++ ws)
 further_apart [] ws a = a

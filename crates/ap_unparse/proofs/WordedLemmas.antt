@@ -1,11 +1,10 @@
 -- What is written of worded trees may be written.
-use Rattle.std.proofs.Common.{◌≡◌, ℕ, ◌<◌, Bool, true, false, List, [], ◌∷◌, ◌++◌, take, refl, sym, ap, ◌∙◌, subst, append_assoc, append-nil, arith}
+use Rattle.std.proofs.Common.{◌≡◌, ℕ, ◌<◌, Bool, true, false, List, [], ◌∷◌, ◌++◌, take, refl, sym, subst, append_assoc, append-nil, arith}
 use Rattle.std.specs.Prelude.{codes, encode_utf8_all}
 use Rattle.std.specs.List.{AllPass}
 use Rattle.std.proofs.lemmas.Str.{IsUtf8-append}
 use Rattle.std.proofs.lemmas.List.Elements.{All-cons}
-use Rattle.std.specs.Str.{IsUtf8}
-use Rattle.unicode_ident.specs.Ident.{is_xid_continue, is_xid_start}
+use Rattle.unicode_ident.specs.Ident.{is_xid_continue}
 use Rattle.unicode_ident.proofs.Computing.{unicode_ident}
 use Rattle.ap_lexer.specs.Spelling.{is_long_mark, is_short_mark, IsToken}
 use Rattle.ap_lexer.specs.declared.token.TokenKind.TheVariants.{Reserved}
@@ -15,11 +14,11 @@ use Rattle.ap_trees.specs.Terms as terms
 use Rattle.ap_trees.specs.Terms.{Name, OfWord, OfVar, Term, Terms, Variable, Word, Apply, Pair, Nil, Cell, Abs, Swapped, Last, More}
 use Rattle.ap_unparse.specs.declared.place.Place.{Place}
 use Rattle.ap_unparse.specs.declared.place.Place.TheVariants.{Whole, Part, Rest}
-use Rattle.ap_unparse.specs.Written.{Written, ident, var, comma, space, round_open, round_close, square_open, square_close, bar, lambda, swap, bytes_of, symbols_of}
+use Rattle.ap_unparse.specs.Written.{Written, ident, var, comma, space, round_open, round_close, square_close, lambda, swap, bytes_of, symbols_of}
 use Rattle.ap_unparse.specs.WrittenTypes.{type_at, written_type}
 use Rattle.ap_unparse.specs.WrittenTerms.{written_name, term_at, arguments_of, written_term, barred, tuple_at, list_at, nil_at}
 use Rattle.ap_unparse.specs.Writable.{IsMark, IsWritten, StartsApart, Writes, Reads}
-use Rattle.ap_unparse.specs.Worded.{IsIdentifier, IsVariable, IsWordedType, IsWordedName, IsWordedTerm, AreWorded}
+use Rattle.ap_unparse.specs.Worded.{IsWordedType, IsWordedName, IsWordedTerm, AreWorded}
 use Rattle.ap_unparse.proofs.Lexing.{ascii_text, written_is_lexed}
 
 pub mark : (m : ℕ) → is_short_mark (m ∷ []) ≡ true → ((rest : List ℕ) → is_long_mark (m ∷ take 1 rest) ≡ false) → m < 128 → is_xid_continue m ≡ false → IsMark (m ∷ [])

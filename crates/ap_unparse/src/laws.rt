@@ -8,5 +8,4 @@ ghost use Rattle.ap_unparse.specs.Writable.{Writes, Reads};
 #[tactic(auto, using(crate::proofs::Lexing::written_is_lexed))]
 pub fn tokens_are_read_again()
     ensures { (ws : list Written) → Writes ws → Reads (bytes_of ws) (symbols_of ws) }
-{
-}
+{}

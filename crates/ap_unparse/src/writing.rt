@@ -9,7 +9,6 @@ ghost use Rattle.ap_syntax.specs.GoalGrammar.{IsGoal};
 ghost use Rattle.ap_unparse.specs.WrittenTerms.{written_term};
 ghost use Rattle.ap_unparse.specs.WrittenGoals.{written_goal};
 ghost use Rattle.ap_unparse.specs.WrittenTypes.{written_type};
-
 ghost use Rattle.ap_unparse.specs.Worded.{IsWordedTerm, IsWordedGoal, IsWordedType};
 ghost use Rattle.ap_unparse.specs.Writable.{Reads};
 
