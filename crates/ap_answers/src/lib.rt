@@ -12,5 +12,7 @@ pub mod printing;
 mod report;
 mod shown;
 mod speller;
+#[cfg(test)]
+mod tests;
 mod text;
 mod words;

@@ -1,0 +1,12 @@
+pub mod ByteLemmas
+pub mod TypeBytes
+pub mod TermBytes
+pub mod GoalBytes
+pub mod GoalSteps
+pub mod TypeReadings
+pub mod TermReadings
+pub mod Lexing
+pub mod WordedLemmas
+pub mod MatchedBrackets
+pub mod GoalReadings
+pub mod WordedGoals

@@ -1,0 +1,6 @@
+pub mod Written
+pub mod WrittenTypes
+pub mod WrittenTerms
+pub mod WrittenGoals
+pub mod Writable
+pub mod Worded

@@ -1,0 +1,199 @@
+//! The text of terms.
+
+ghost use Rattle.std.specs.Prelude.{◌≡◌, [], ◌++◌, OnOk};
+ghost use Rattle.ap_trees.specs.Trees.{name_of, term_of, terms_of};
+ghost use Rattle.ap_unparse.specs.Written.{bytes_of};
+ghost use Rattle.ap_unparse.specs.WrittenTerms.{barred, name_text, tuple_opening, tuple_closing, list_opening, list_closing, swap_opening, abs_opening, apply_opening, term_at, arguments_of, nil_at};
+
+use crate::closing::write_closers;
+use crate::place::Place;
+use ap_defs::memory::Memory;
+use ap_trees::{Args, Binder, Tree};
+use std::alloc::Global;
+
+/// Writes the bar that stands before the rest of a list.
+fn write_bar(out: &mut Vec<u8>, place: Place) -> Result<(), Memory>
+    ensures { OnOk result (out.new.items ≡ out.old.items ++ bytes_of (barred place [])) }
+{
+    if let Place::Rest = place {
+        out.push(b'|')?;
+    }
+    Ok(())
+}
+
+/// Writes a word or a variable.
+fn write_name(out: &mut Vec<u8>, name: &Binder<'_>) -> Result<(), Memory>
+    ensures { OnOk result (out.new.items ≡ out.old.items ++ name_text (name_of name.now)) }
+{
+    let (Binder::Word(word) | Binder::Var(word)) = name;
+    out.extend_from_slice(word.as_bytes())?;
+    Ok(())
+}
+
+/// Writes what stands before the parts of a tuple, and keeps what will stand behind them.
+fn begin_tuple(out: &mut Vec<u8>, closers: &mut Vec<u8>, place: Place) -> Result<(), Memory>
+    ensures written { OnOk result (out.new.items ≡ out.old.items ++ tuple_opening place) }
+    ensures kept { OnOk result (closers.new.items ≡ closers.old.items ++ tuple_closing place) }
+{
+    match place {
+        Place::Part => return Ok(()),
+        Place::Rest => out.extend_from_slice(b"|(")?,
+        Place::Whole => out.push(b'(')?,
+    }
+    closers.push(b')')?;
+    Ok(())
+}
+
+/// Writes what stands before the parts of a list cell, and keeps what will stand behind them.
+fn begin_list(out: &mut Vec<u8>, closers: &mut Vec<u8>, place: Place) -> Result<(), Memory>
+    ensures written { OnOk result (out.new.items ≡ out.old.items ++ list_opening place) }
+    ensures kept { OnOk result (closers.new.items ≡ closers.old.items ++ list_closing place) }
+{
+    if let Place::Rest = place {
+        out.push(b',')?;
+        return Ok(());
+    }
+    out.push(b'[')?;
+    closers.push(b']')?;
+    Ok(())
+}
+
+/// Writes what stands before the body of an abstraction.
+fn begin_abs(out: &mut Vec<u8>, name: &Binder<'_>, place: Place) -> Result<(), Memory>
+    ensures { OnOk result (out.new.items ≡ out.old.items ++ abs_opening place (name_of name.now)) }
+{
+    write_bar(out, place)?;
+    write_name(out, name)?;
+    out.push(b'\\')?;
+    Ok(())
+}
+
+/// Writes what stands before the body of a swapping.
+fn begin_swap(
+    out: &mut Vec<u8>,
+    left: &Binder<'_>,
+    right: &Binder<'_>,
+    place: Place,
+) -> Result<(), Memory>
+    ensures { OnOk result (out.new.items ≡ out.old.items ++ swap_opening place (name_of left.now) (name_of right.now)) }
+{
+    write_bar(out, place)?;
+    out.extend_from_slice(b"swap(")?;
+    write_name(out, left)?;
+    out.push(b',')?;
+    write_name(out, right)?;
+    out.push(b',')?;
+    Ok(())
+}
+
+/// Writes what stands before arguments.
+fn begin_apply(out: &mut Vec<u8>, word: &str, place: Place) -> Result<(), Memory>
+    ensures { OnOk result (out.new.items ≡ out.old.items ++ apply_opening place word.now) }
+{
+    write_bar(out, place)?;
+    out.extend_from_slice(word.as_bytes())?;
+    out.push(b'(')?;
+    Ok(())
+}
+
+/// Writes a term that has no parts.
+fn write_leaf(out: &mut Vec<u8>, text: &[u8], place: Place) -> Result<(), Memory>
+    ensures { OnOk result (out.new.items ≡ out.old.items ++ (bytes_of (barred place []) ++ text.now)) }
+{
+    write_bar(out, place)?;
+    out.extend_from_slice(text)?;
+    Ok(())
+}
+
+/// Writes the empty list: nothing at the end of a list.
+fn write_nil(out: &mut Vec<u8>, place: Place) -> Result<(), Memory>
+    ensures { OnOk result (out.new.items ≡ out.old.items ++ bytes_of (nil_at place)) }
+{
+    if let Place::Rest = place {
+        return Ok(());
+    }
+    out.extend_from_slice(b"[]")?;
+    Ok(())
+}
+
+/// Writes one term or more, with commas between them.
+#[cycle(writing)]
+fn write_arguments(alloc: Global, out: &mut Vec<u8>, args: &Args<'_>) -> Result<(), Memory>
+    ensures { OnOk result (out.new.items ≡ out.old.items ++ bytes_of (arguments_of (terms_of args.now))) }
+{
+    let mut rest = args;
+    loop {
+        match rest {
+            Args::Last(t) => return write_tree(alloc, out, t, Place::Whole),
+            Args::More(t, others) => {
+                write_tree(alloc, out, t, Place::Whole)?;
+                out.push(b',')?;
+                rest = others;
+            }
+        }
+    }
+}
+
+/// Writes a term at a place.
+///
+/// It goes on along the right part of a pair, the rest of a list and the body of an abstraction or of a
+/// swapping, and calls itself on the other parts alone.
+#[cycle(writing)]
+pub fn write_tree(
+    alloc: Global,
+    out: &mut Vec<u8>,
+    t: &Tree<'_>,
+    mut place: Place,
+) -> Result<(), Memory>
+    ensures { OnOk result (out.new.items ≡ out.old.items ++ bytes_of (term_at place (term_of t.now))) }
+{
+    let mut closers = Vec::new(alloc);
+    let mut rest = t;
+    loop {
+        match rest {
+            Tree::Unit => {
+                write_leaf(out, b"()", place)?;
+                return write_closers(out, closers);
+            }
+            Tree::Var(word) | Tree::Word(word) => {
+                write_leaf(out, word.as_bytes(), place)?;
+                return write_closers(out, closers);
+            }
+            Tree::Nil => {
+                write_nil(out, place)?;
+                return write_closers(out, closers);
+            }
+            Tree::Apply(word, args) => {
+                begin_apply(out, word, place)?;
+                write_arguments(alloc, out, args)?;
+                out.push(b')')?;
+                write_closers(out, closers)?;
+                return Ok(());
+            }
+            Tree::Pair(left, right) => {
+                begin_tuple(out, &mut closers, place)?;
+                write_tree(alloc, out, left, Place::Whole)?;
+                out.push(b',')?;
+                place = Place::Part;
+                rest = right;
+            }
+            Tree::Cell(head, tail) => {
+                begin_list(out, &mut closers, place)?;
+                write_tree(alloc, out, head, Place::Whole)?;
+                place = Place::Rest;
+                rest = tail;
+            }
+            Tree::Abs(name, body) => {
+                begin_abs(out, name, place)?;
+                place = Place::Whole;
+                rest = body;
+            }
+            Tree::Swapped(left, right, body) => {
+                begin_swap(out, left, right, place)?;
+                closers.push(b')')?;
+                place = Place::Whole;
+                rest = body;
+            }
+        }
+    }
+}

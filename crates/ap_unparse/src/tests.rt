@@ -1,0 +1,165 @@
+use crate::writing::{goal_text, term_text, type_text};
+use ap_lexer::{TEXT_LIMIT, Token, lex};
+use ap_syntax::{TOKEN_LIMIT, parse};
+use ap_trees::{Form, Item};
+use std::alloc::{AllocError, Global};
+use std::test::Fail;
+
+/// A text with what stands before and behind it.
+fn between(alloc: Global, before: &str, text: &[u8], behind: &str) -> Result<Vec<u8>, AllocError> {
+    let mut out = Vec::new(alloc);
+    out.extend_from_slice(before.as_bytes())?;
+    out.extend_from_slice(text)?;
+    out.extend_from_slice(behind.as_bytes())?;
+    Ok(out)
+}
+
+fn tokens_of(alloc: Global, text: &[u8]) -> Result<Vec<Token<'_>>, AllocError> {
+    if text.len() > TEXT_LIMIT {
+        return Err(AllocError);
+    }
+    lex(alloc, text).map_err(|_| AllocError)
+}
+
+fn items_of<'a>(alloc: Global, tokens: &[Token<'a>]) -> Result<Vec<Item<'a>>, AllocError> {
+    if tokens.len() > TOKEN_LIMIT {
+        return Err(AllocError);
+    }
+    parse(alloc, tokens).map_err(|_| AllocError)
+}
+
+/// What is written of the goal of a query, of a predicate's first argument, or of a head's first term.
+fn written_of(alloc: Global, form: &Form<'_>) -> Result<Vec<u8>, AllocError> {
+    let written = match form {
+        Form::Query(goal) => goal_text(alloc, goal),
+        Form::Predicate(_, types) => match types.items() {
+            [first, ..] => type_text(alloc, first),
+            [] => return Err(AllocError),
+        },
+        Form::Clause(_, terms, _) => match terms.items() {
+            [first, ..] => term_text(alloc, first),
+            [] => return Err(AllocError),
+        },
+        _ => return Err(AllocError),
+    };
+    written.map_err(|_| AllocError)
+}
+
+/// What is written of the one item of a text.
+fn written(alloc: Global, text: &[u8]) -> Result<Vec<u8>, AllocError> {
+    let tokens = tokens_of(alloc, text)?;
+    let items = items_of(alloc, tokens.as_slice())?;
+    let [item] = items.as_slice() else {
+        return Err(AllocError);
+    };
+    written_of(alloc, &item.form)
+}
+
+/// The one item of a text, as it is debugged.
+fn debugged(alloc: Global, text: &[u8]) -> Result<String, AllocError> {
+    let tokens = tokens_of(alloc, text)?;
+    let items = items_of(alloc, tokens.as_slice())?;
+    let [item] = items.as_slice() else {
+        return Err(AllocError);
+    };
+    let form = &item.form;
+    format!(in alloc; "{form:?}")
+}
+
+/// Whether what is written of a part of the item is this text, and is read again as the same.
+fn goes_round(
+    alloc: Global,
+    before: &str,
+    text: &str,
+    behind: &str,
+    want: &str,
+) -> Result<bool, AllocError> {
+    let whole = between(alloc, before, text.as_bytes(), behind)?;
+    let written = written(alloc, whole.as_slice())?;
+    let again = between(alloc, before, written.as_slice(), behind)?;
+    let same = debugged(alloc, whole.as_slice())? == debugged(alloc, again.as_slice())?;
+    Ok(same && written.as_slice() == want.as_bytes())
+}
+
+#[test]
+fn goals_are_written_and_read_again(rt: HostRuntime) -> Result<(), Fail> {
+    let alloc = rt.alloc();
+    for (text, want) in [
+        ("X # Y", "X # Y"),
+        (
+            "subst(M,X,E,M2),subst(N,X,E,N2)",
+            "subst(M,X,E,M2), subst(N,X,E,N2)",
+        ),
+        (
+            "y # X, y # E, subst(M,X,E,M2)",
+            "y # X, y # E, subst(M,X,E,M2)",
+        ),
+        (
+            "subst(lam(y\\M), X, E, lam(y\\M2))",
+            "subst(lam(y\\M),X,E,lam(y\\M2))",
+        ),
+        ("((p, q), r) ; s", "((p, q), r) ; s"),
+        ("p ; (q ; r), s ; t", "p ; ((q ; r), s) ; t"),
+        ("(p;q);r", "(p ; q) ; r"),
+        ("new x ((p(x) ; q)), r", "new x (p(x) ; q), r"),
+        ("exists X(X=())", "exists X (X = ())"),
+        ("[a,b|c] = [[],X|[Y]]", "[a,b|c] = [[],X,Y]"),
+        ("swap(a,X,x\\(y\\z,w)) = ()", "swap(a,X,x\\(y\\z,w)) = ()"),
+        ("(a,b) = ((c),(d,e))", "(a,b) = (c,d,e)"),
+        ("X\\((t)) # f((t,u))", "X\\t # f((t,u))"),
+        ("[t|(u,v)] = g(((a,b),c),d)", "[t|(u,v)] = g(((a,b),c),d)"),
+    ] {
+        let round = goes_round(alloc, "?- ", text, ".", want)?;
+        assert!(rt; round, "at {text}");
+    }
+    Ok(())
+}
+
+#[test]
+fn types_and_terms_are_written_and_read_again(rt: HostRuntime) -> Result<(), Fail> {
+    let alloc = rt.alloc();
+    let text = "(id\\(exp), ((a,b),[()]))";
+    let want = "(id\\exp, (a, b), [()])";
+    let round = goes_round(alloc, "pred p(", text, ").", want)?;
+    assert!(rt; round, "at {text}");
+    let text = "lam(y\\app(M,[N|swap(a,b,L)]))";
+    let round = goes_round(alloc, "subst(", text, ", X).", text)?;
+    assert!(rt; round, "at {text}");
+    Ok(())
+}
+
+/// A text so often, with another between, between two texts.
+fn many(
+    alloc: Global,
+    first: &str,
+    one: &str,
+    sign: &str,
+    last: &str,
+) -> Result<String, AllocError> {
+    let mut out = String::from_str(alloc, first)?;
+    for _ in 1..5_000 {
+        out.push_str(one)?;
+        out.push_str(sign)?;
+    }
+    out.push_str(one)?;
+    out.push_str(last)?;
+    Ok(out)
+}
+
+#[test]
+fn long_texts_are_written(rt: HostRuntime) -> Result<(), Fail> {
+    let alloc = rt.alloc();
+    for (first, one, sign, last) in [
+        ("", "p", ", ", ""),
+        ("", "p", " ; ", ""),
+        ("X = [", "a", ",", "|b]"),
+        ("X = (", "a", ",", ")"),
+        ("p(", "a", ",", ")"),
+    ] {
+        let text = many(alloc, first, one, sign, last)?;
+        let whole = between(alloc, "?- ", text.as_bytes(), ".")?;
+        let written = written(alloc, whole.as_slice())?;
+        assert!(rt; written.as_slice() == text.as_bytes(), "at {first}");
+    }
+    Ok(())
+}

@@ -1,0 +1,58 @@
+//! The texts of terms, goals and types.
+
+ghost use Rattle.std.specs.Prelude.{◌≡◌, [], IfOk};
+ghost use Rattle.ap_trees.specs.Trees.{term_of, goal_of, type_of};
+ghost use Rattle.ap_unparse.specs.Written.{bytes_of, symbols_of};
+ghost use Rattle.ap_trees.specs.TermGrammar.{IsTerm};
+ghost use Rattle.ap_trees.specs.TypeGrammar.{IsType};
+ghost use Rattle.ap_syntax.specs.GoalGrammar.{IsGoal};
+ghost use Rattle.ap_unparse.specs.WrittenTerms.{written_term};
+ghost use Rattle.ap_unparse.specs.WrittenGoals.{written_goal};
+ghost use Rattle.ap_unparse.specs.WrittenTypes.{written_type};
+ghost use Rattle.ap_unparse.specs.Worded.{IsWordedTerm, IsWordedGoal, IsWordedType};
+ghost use Rattle.ap_unparse.specs.Writable.{Reads};
+
+use crate::goals::write_goal;
+use crate::place::Place;
+use crate::side::Side;
+use crate::terms::write_tree;
+use crate::types::write_type;
+use ap_defs::memory::Memory;
+use ap_trees::{GoalTree, Tree, TypeTree};
+use std::alloc::Global;
+
+/// The text of a term.
+#[tactic(auto, using(crate::proofs::TermReadings::term_is_read, crate::proofs::WordedLemmas::term_is_lexed))]
+pub fn term_text(alloc: Global, t: &Tree<'_>) -> Result<Vec<u8>, Memory>
+    ensures text { IfOk result (λ bytes. bytes.items ≡ bytes_of (written_term (term_of t.now))) }
+    ensures tokens { IfOk result (λ bytes. IsWordedTerm (term_of t.now) → Reads bytes.items (symbols_of (written_term (term_of t.now)))) }
+    ensures grammar { IsTerm (symbols_of (written_term (term_of t.now))) (term_of t.now) [] }
+{
+    let mut out = Vec::new(alloc);
+    write_tree(alloc, &mut out, t, Place::Whole)?;
+    Ok(out)
+}
+
+/// The text of a goal.
+#[tactic(auto, using(crate::proofs::GoalReadings::goal_is_read, crate::proofs::WordedGoals::goal_is_lexed))]
+pub fn goal_text(alloc: Global, g: &GoalTree<'_>) -> Result<Vec<u8>, Memory>
+    ensures text { IfOk result (λ bytes. bytes.items ≡ bytes_of (written_goal (goal_of g.now))) }
+    ensures tokens { IfOk result (λ bytes. IsWordedGoal (goal_of g.now) → Reads bytes.items (symbols_of (written_goal (goal_of g.now)))) }
+    ensures grammar { IsWordedGoal (goal_of g.now) → IsGoal (symbols_of (written_goal (goal_of g.now))) (goal_of g.now) [] }
+{
+    let mut out = Vec::new(alloc);
+    write_goal(alloc, &mut out, g, Side::Alone)?;
+    Ok(out)
+}
+
+/// The text of a type.
+#[tactic(auto, using(crate::proofs::TypeReadings::type_is_read, crate::proofs::WordedLemmas::type_is_lexed))]
+pub fn type_text(alloc: Global, t: &TypeTree<'_>) -> Result<Vec<u8>, Memory>
+    ensures text { IfOk result (λ bytes. bytes.items ≡ bytes_of (written_type (type_of t.now))) }
+    ensures tokens { IfOk result (λ bytes. IsWordedType (type_of t.now) → Reads bytes.items (symbols_of (written_type (type_of t.now)))) }
+    ensures grammar { IsType (symbols_of (written_type (type_of t.now))) (type_of t.now) [] }
+{
+    let mut out = Vec::new(alloc);
+    write_type(alloc, &mut out, t, false)?;
+    Ok(out)
+}
