@@ -1,0 +1,27 @@
+% Capture-avoiding substitution in the lambda calculus: subst(T, X, E, R) says that R is T with E for X.
+
+id : name_type.
+exp : type.
+var : id -> exp.
+app : (exp, exp) -> exp.
+lam : id\exp -> exp.
+
+pred subst(exp, id, exp, exp).
+
+subst(var(X), X, E, E).
+subst(var(Y), X, E, var(Y)) :- X # Y.
+subst(app(M,N), X, E, app(M2,N2)) :- subst(M,X,E,M2), subst(N,X,E,N2).
+subst(lam(y\M), X, E, lam(y\M2)) :- y # X, y # E, subst(M,X,E,M2).
+
+% The binder is renamed where it would capture: (\b. a b)[b/a].
+?- subst(lam(b\app(var(a),var(b))), a, var(b), R).
+
+% The bound variable hides the one that is replaced.
+?- subst(lam(a\var(a)), a, var(b), R).
+
+% Backwards: what gives app(b, b) when b stands for a?
+?- subst(M, a, var(b), app(var(b),var(b))).
+
+% Two abstractions are equal where they differ in the bound name alone.
+?- lam(a\var(a)) = lam(b\var(b)).
+?- lam(a\X) = lam(b\var(b)).

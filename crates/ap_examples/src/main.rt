@@ -1,0 +1,51 @@
+//! The example programs, one after the other: the name of each, and what the top call writes for it.
+#![tactic(auto)]
+
+use ap_io::{NoGate, StdSink, StdSource};
+use ap_top::top;
+use std::alloc::{AllocError, Global};
+use std::fs::{File, Files};
+use std::io;
+use std::sync::Wait;
+use std::thread::Threads;
+
+// The programs, in the folder that this one is run in, and the depth for all of them.
+const NAMES: [&str; 7] = [
+    "first.apl",
+    "substitution.apl",
+    "types.apl",
+    "evaluation.apl",
+    "debruijn.apl",
+    "prover.apl",
+    "processes.apl",
+];
+
+fn words(alloc: Global) -> Result<Vec<String>, AllocError> {
+    let mut words = Vec::new(alloc);
+    for word in ["run", "--depth", "10"] {
+        words.push(word.to_string(alloc)?)?;
+    }
+    Ok(words)
+}
+
+// Runs a program, and answers the status.
+fn run<R: Threads + Wait + Sync + AllocGlobal + Files + Print>(
+    rt: &R,
+    words: &[String],
+    name: &str,
+) -> io::Result<u8> {
+    let mut source = StdSource::new(File::open(rt, name)?);
+    let mut sink = StdSink::new(io::writer(rt));
+    let status = top(rt, rt.alloc(), words, &mut source, &mut sink, &NoGate);
+    Ok(status.code())
+}
+
+fn main(rt: HostRuntime) -> io::Result<()> {
+    let words = words(rt.alloc())?;
+    for name in NAMES {
+        println!(rt; "% {name}")?;
+        let status = run(&rt, &words, name)?;
+        println!(rt; "% status {status}")?;
+    }
+    Ok(())
+}
