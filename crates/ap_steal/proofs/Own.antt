@@ -33,7 +33,7 @@ own_none c plan i n (x ∷ xs) e =
     [ true ↦ λ is nil. absurd (let k = ap length nil in omega arith) | false ↦ λ is nil. ((λ same. absurd (other (maker_of x) n is same)), own_none c plan (suc i) n xs nil) ] in
     step (eqb (maker_of x) n) refl e
 
-same_front : (xs ys : List ℕ) → xs ++ ys ≡ xs → ys ≡ []
+pub same_front : (xs ys : List ℕ) → xs ++ ys ≡ xs → ys ≡ []
 same_front xs [] e = refl
 same_front xs (y ∷ ys) e = absurd (let n = ap length e in omega (arith, length-append xs (y ∷ ys)))
 
@@ -82,13 +82,13 @@ or-true : (b : Bool) → b || true ≡ true
 or-true true = refl
 or-true false = refl
 
-pub over_stop : (n : ℕ) (turn after : List Entry) → after ≡ (if has_stop (entries_of turn) then turn else turn ++ Stop n ∷ []) → IsOver after
-over_stop n turn after stops =
+-- after a turn that entered a stop, one stands
+pub stop_stands : (n : ℕ) (turn after : List Entry) → after ≡ (if has_stop (entries_of turn) then turn else turn ++ Stop n ∷ []) → has_stop (entries_of after) ≡ true
+stop_stands n turn after stops =
     let step : (b : Bool) → has_stop (entries_of turn) ≡ b → has_stop (entries_of (if b then turn else turn ++ Stop n ∷ [])) ≡ true = λ b.
     elim b as (λ b. has_stop (entries_of turn) ≡ b → has_stop (entries_of (if b then turn else turn ++ Stop n ∷ [])) ≡ true)
     [ true ↦ λ e. e | false ↦ λ e. ap has_stop (entries_of-last turn (Stop n)) ∙ has_stop-last (entries_of turn) (stop n) ∙ or-true (has_stop (entries_of turn)) ] in
-    let stands : has_stop (entries_of after) ≡ true = ap (λ (l : List Entry). has_stop (entries_of l)) stops ∙ step (has_stop (entries_of turn)) refl in
-    inr (rw stands refl)
+    ap (λ (l : List Entry). has_stop (entries_of l)) stops ∙ step (has_stop (entries_of turn)) refl
 
 -- ascending numbers up to the width are choices
 are_choices : (o : Option ℕ) (w i : ℕ) (ks : List ℕ) → o ≡ Some w → 1 ≤ i → Ascends i ks → AreAtMost w ks → AreChoices o ks

@@ -102,11 +102,11 @@ pub entries_of-append : (xs ys : List Entry) → entries_of (xs ++ ys) ≡ entri
 entries_of-append [] ys = refl
 entries_of-append (x ∷ xs) ys = ap (λ l. entry_of x ∷ l) (entries_of-append xs ys)
 
-has_stop-append : (xs ys : List TreeEntry) → has_stop (xs ++ ys) ≡ has_stop xs || has_stop ys
+pub has_stop-append : (xs ys : List TreeEntry) → has_stop (xs ++ ys) ≡ has_stop xs || has_stop ys
 has_stop-append [] ys = refl
 has_stop-append (x ∷ xs) ys = ap (λ b. is_stop x || b) (has_stop-append xs ys) ∙ elim (is_stop x) as (λ b. b || (has_stop xs || has_stop ys) ≡ (b || has_stop xs) || has_stop ys) [ true ↦ refl | false ↦ refl ]
 
-either_false : (a b : Bool) → a || b ≡ false → (a ≡ false) × (b ≡ false)
+pub either_false : (a b : Bool) → a || b ≡ false → (a ≡ false) × (b ≡ false)
 either_false true b h = absurd (true≢false h)
 either_false false b h = (refl, h)
 

@@ -1,6 +1,6 @@
 //! What the workers start with.
 
-ghost use Rattle.std.specs.Prelude.{◌≡◌, All, ◌≤◌, vec_len, IfOk};
+ghost use Rattle.std.specs.Prelude.{◌≡◌, true, [], ◌∷◌, All, ◌≤◌, vec_len, IfOk};
 ghost use Rattle.atomic_table.specs.Seated.{TableId};
 ghost use Rattle.ap_steal.specs.Planned.{IsNew};
 
@@ -19,14 +19,29 @@ pub struct Job<W: Shape> {
 }
 
 // Tools with an empty hand and no thieves.
-fn bare<W: Shape>(alloc: Global, number: u32, own: Owner<W>) -> Tools<W> {
+fn bare<W: Shape>(alloc: Global, number: u32, alone: bool, own: Owner<W>) -> Tools<W>
+    ensures { (result.alone ≡ alone) × (result.hand.items ≡ []) }
+{
     Tools {
         number,
+        count: 0,
+        alone,
         own,
         others: Vec::new(alloc),
         at: 0,
         hand: VecDeque::new(alloc),
     }
+}
+
+/// Tools for one worker alone, with the empty path in its hand.
+pub fn lone_tools<W: Shape>(alloc: Global) -> Result<Tools<W>, Memory>
+    ensures { IfOk result (λ t. (t.alone ≡ true) × (t.hand.items ≡ [] ∷ [])) }
+{
+    let (own, thief) = tasks(alloc)?;
+    drop(thief);
+    let mut tools = bare(alloc, 0, true, own);
+    tools.hand.push_back(Placed::root(alloc))?;
+    Ok(tools)
 }
 
 /// Tools for each of the workers, of which the first has the empty path in its hand.
@@ -38,7 +53,7 @@ pub fn make_tools<W: Shape>(alloc: Global, workers: u32) -> Result<Vec<Tools<W>>
     let mut thieves = Vec::with_capacity(alloc, workers as usize)?;
     for number in 0..workers {
         let (own, thief) = tasks(alloc)?;
-        let mut tools = bare(alloc, number, own);
+        let mut tools = bare(alloc, number, false, own);
         if number == 0 {
             tools.hand.push_back(Placed::root(alloc))?;
         }

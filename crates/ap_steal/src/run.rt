@@ -1,11 +1,12 @@
 //! Workers in threads, and the history that they leave.
 
-ghost use Rattle.std.specs.Prelude.{◌≡◌, true, false, All, [], vec_len, IfOk};
+ghost use Rattle.std.specs.Prelude.{◌≡◌, true, false, All, [], ◌∷◌, vec_len, IfOk};
 ghost use Rattle.ap_paths.specs.Entries.{entries_of, entry_of};
 ghost use Rattle.ap_paths.specs.History.{is_legal, has_stop, is_stop, open_of};
-ghost use Rattle.ap_core.specs.Traces.{AreSeats};
-ghost use Rattle.ap_lock.specs.Seats.{book_id, seats_of, logs_of};
+ghost use Rattle.ap_core.specs.Traces.{AreSeats, IsInOrder};
+ghost use Rattle.ap_lock.specs.Seats.{SeatView, book_id, seats_of, logs_of};
 ghost use Rattle.ap_steal.specs.Planned.{ArePlanned, IsNew, Ended};
+ghost use Rattle.ap_steal.specs.Order.{IsOrdered};
 
 use crate::jobs::Job;
 use crate::work::work;
@@ -87,6 +88,7 @@ pub fn finish<T: Tree>(
     ensures legal { IfOk result (λ c. (is_legal (entries_of c.history) ≡ true) × (has_stop (entries_of c.history) ≡ false) × (open_of (entries_of c.history) ≡ [])) }
     ensures planned { IfOk result (λ c. ArePlanned (T.choices tree.now) (T.plan tree.now) (entries_of c.history)) }
     ensures seats { IfOk result (λ c. (c.logs ≡ logs_of (seats_of book) c.history) × AreSeats (seats_of book) (entries_of c.history)) }
+    ensures order { (s : SeatView) → seats.items ≡ s ∷ [] → s.number ≡ 0 → seats_of book ≡ 1 → IsOrdered s.number s.seen → IfOk result (λ c. IsInOrder ([] ∷ []) (entries_of c.history)) }
 {
     let _tree = tree;
     let closed = book.close(alloc, seats)?;

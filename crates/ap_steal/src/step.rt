@@ -1,11 +1,15 @@
 //! One path of a worker.
 
-ghost use Rattle.std.specs.Prelude.{◌≡◌, ℕ, List as list, IfOk};
+ghost use Rattle.std.specs.Prelude.{◌≡◌, ℕ, true, ◌∷◌, List as list, IfOk};
+ghost use Rattle.ap_defs.specs.declared.paths.Entry.{Entry};
+ghost use Rattle.ap_defs.specs.declared.paths.Entry.TheVariants.{Split, Done};
 ghost use Rattle.ap_defs.specs.Answers.{outs_of};
 ghost use Rattle.ap_paths.specs.Entries.{kids, outs, visit_of};
 ghost use Rattle.ap_paths.specs.Trees.{InTree, Ascends};
-ghost use Rattle.ap_lock.specs.Seats.{book_id, SameSeat};
+ghost use Rattle.ap_book.specs.Answers.{Enters, EntersDone};
+ghost use Rattle.ap_lock.specs.Seats.{book_id, SameSeat, IsTurn};
 ghost use Rattle.ap_steal.specs.Planned.{OwnPlanned, AreChoices};
+ghost use Rattle.ap_steal.specs.Order.{IsSole};
 
 use crate::tools::Tools;
 use ap_book::{BookError, DoneError};
@@ -26,17 +30,18 @@ fn split_planned<R: Wait, T: Tree>(
     book: &SharedBook,
     seat: &mut Seat,
     path: &Path,
-    list: &[u32],
+    given: &[u32],
 ) -> Result<(), BookError>
     requires book { seat.old.book ≡ book_id book.now }
     requires own { OwnPlanned (T.choices tree.now) (T.plan tree.now) seat.old.number seat.old.seen }
-    requires planned { InTree (T.choices tree.now) path.now × (T.plan tree.now path.now ≡ kids list.now) }
-    requires ascends { Ascends 1 list.now }
+    requires planned { InTree (T.choices tree.now) path.now × (T.plan tree.now path.now ≡ kids given.now) }
+    requires ascends { Ascends 1 given.now }
     ensures same { SameSeat seat.old seat.new }
     ensures own { OwnPlanned (T.choices tree.now) (T.plan tree.now) seat.new.number seat.new.seen }
+    ensures turn { (turn : list Entry) × IsTurn seat.old turn × Enters turn path.now (Split seat.old.number path.now given.now) result seat.new.seen }
 {
     let _tree = tree;
-    book.split(rt, alloc, seat, path, list)
+    book.split(rt, alloc, seat, path, given)
 }
 
 // One turn, for an end by the plan.
@@ -47,16 +52,17 @@ fn done_planned<R: Wait, T: Tree>(
     book: &SharedBook,
     seat: &mut Seat,
     path: &Path,
-    list: Vec<Out>,
+    given: Vec<Out>,
 ) -> Result<(), DoneError>
     requires book { seat.old.book ≡ book_id book.now }
     requires own { OwnPlanned (T.choices tree.now) (T.plan tree.now) seat.old.number seat.old.seen }
-    requires planned { InTree (T.choices tree.now) path.now × (T.plan tree.now path.now ≡ outs (outs_of list.items)) }
+    requires planned { InTree (T.choices tree.now) path.now × (T.plan tree.now path.now ≡ outs (outs_of given.items)) }
     ensures same { SameSeat seat.old seat.new }
     ensures own { OwnPlanned (T.choices tree.now) (T.plan tree.now) seat.new.number seat.new.seen }
+    ensures turn { (turn : list Entry) × IsTurn seat.old turn × EntersDone turn path.now given.items (Done seat.old.number path.now given.items) result seat.new.seen }
 {
     let _tree = tree;
-    book.done(rt, alloc, seat, path, list)
+    book.done(rt, alloc, seat, path, given)
 }
 
 // What the tree answers at a path of it. Its kids ascend, and are choices of the path.
@@ -77,18 +83,20 @@ fn run_kids<W: Shape, R: Wait, T: Tree>(
     seat: &mut Seat,
     tools: &mut Tools<W>,
     path: &Placed<W>,
-    list: &[u32],
+    given: &[u32],
 ) -> Result<(), Memory>
     requires book { seat.old.book ≡ book_id book.now }
     requires shape { T.choices tree.now ≡ W.choices }
     requires own { OwnPlanned (T.choices tree.now) (T.plan tree.now) seat.old.number seat.old.seen }
-    requires planned { InTree (T.choices tree.now) path.now × (T.plan tree.now path.now ≡ kids list.now) }
-    requires kids { Ascends 1 list.now × AreChoices (T.choices tree.now path.now) list.now }
+    requires planned { InTree (T.choices tree.now) path.now × (T.plan tree.now path.now ≡ kids given.now) }
+    requires kids { Ascends 1 given.now × AreChoices (T.choices tree.now path.now) given.now }
     ensures same { SameSeat seat.old seat.new }
     ensures own { OwnPlanned (T.choices tree.now) (T.plan tree.now) seat.new.number seat.new.seen }
+    ensures alone { tools.new.alone ≡ tools.old.alone }
+    ensures order { tools.old.alone ≡ true → IsSole (path.now ∷ tools.old.hand.items) seat.old.number seat.old.seen → IfOk result (λ _. IsSole tools.new.hand.items seat.new.number seat.new.seen) }
 {
-    match split_planned(rt, alloc, tree, book, seat, path.path(), list) {
-        Ok(()) => tools.take_kids(alloc, path, list),
+    match split_planned(rt, alloc, tree, book, seat, path.path(), given) {
+        Ok(()) => tools.take_kids(alloc, path, given),
         Err(BookError::NotOpen) => Ok(()),
         Err(BookError::Memory) => Err(Memory),
     }
@@ -102,15 +110,16 @@ fn run_outs<R: Wait, T: Tree>(
     book: &SharedBook,
     seat: &mut Seat,
     path: &Path,
-    list: List<Out>,
+    given: List<Out>,
 ) -> Result<(), Memory>
     requires book { seat.old.book ≡ book_id book.now }
     requires own { OwnPlanned (T.choices tree.now) (T.plan tree.now) seat.old.number seat.old.seen }
-    requires planned { InTree (T.choices tree.now) path.now × (T.plan tree.now path.now ≡ outs (outs_of list)) }
+    requires planned { InTree (T.choices tree.now) path.now × (T.plan tree.now path.now ≡ outs (outs_of given)) }
     ensures same { SameSeat seat.old seat.new }
     ensures own { OwnPlanned (T.choices tree.now) (T.plan tree.now) seat.new.number seat.new.seen }
+    ensures order { (hand : list (list ℕ)) → IsSole (path.now ∷ hand) seat.old.number seat.old.seen → IfOk result (λ _. IsSole hand seat.new.number seat.new.seen) }
 {
-    match done_planned(rt, alloc, tree, book, seat, path, list.into_vec()) {
+    match done_planned(rt, alloc, tree, book, seat, path, given.into_vec()) {
         Ok(()) => Ok(()),
         Err(refused) => match refused.cause {
             BookError::NotOpen => Ok(()),
@@ -134,6 +143,8 @@ pub fn run_path<W: Shape, R: Wait, T: Tree>(
     requires own { OwnPlanned (T.choices tree.now) (T.plan tree.now) seat.old.number seat.old.seen }
     ensures same { SameSeat seat.old seat.new }
     ensures own { OwnPlanned (T.choices tree.now) (T.plan tree.now) seat.new.number seat.new.seen }
+    ensures alone { tools.new.alone ≡ tools.old.alone }
+    ensures order { tools.old.alone ≡ true → IsSole (path.now ∷ tools.old.hand.items) seat.old.number seat.old.seen → IfOk result (λ _. IsSole tools.new.hand.items seat.new.number seat.new.seen) }
 {
     match visit_planned(alloc, tree, path.path()) {
         Ok(Visit::Kids(list)) => run_kids(rt, alloc, tree, book, seat, tools, path, list.items()),

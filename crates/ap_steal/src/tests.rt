@@ -93,7 +93,7 @@ impl Tree for Pairs {
     ghost planned = { λ t. pair_planned t.depth };
 }
 
-fn pairs(depth: usize, meets: bool, fails: bool) -> Pairs {
+fn tree_of(depth: usize, meets: bool, fails: bool) -> Pairs {
     Pairs {
         depth,
         meets,
@@ -107,7 +107,7 @@ fn pairs(depth: usize, meets: bool, fails: bool) -> Pairs {
 #[test]
 fn two_workers_meet(rt: HostRuntime) -> Result<(), Fail> {
     let alloc = rt.alloc();
-    let tree = pairs(1, true, false);
+    let tree = tree_of(1, true, false);
     let closed = search(&rt, alloc, &tree, 2, &NoGate)?;
     assert!(rt; !tree.gave_up.load(SeqCst));
     let outs = merge(alloc, closed)?;
@@ -122,7 +122,7 @@ fn two_workers_meet(rt: HostRuntime) -> Result<(), Fail> {
 #[test]
 fn many_workers_meet(rt: HostRuntime) -> Result<(), Fail> {
     for workers in [8, 64] {
-        let tree = pairs(1, true, false);
+        let tree = tree_of(1, true, false);
         let closed = search(&rt, rt.alloc(), &tree, workers, &NoGate)?;
         assert!(rt; !tree.gave_up.load(SeqCst));
         assert_eq!(rt; closed.history.items().len(), 3);
@@ -134,7 +134,7 @@ fn many_workers_meet(rt: HostRuntime) -> Result<(), Fail> {
 #[test]
 fn one_worker_goes_in_order(rt: HostRuntime) -> Result<(), Fail> {
     let alloc = rt.alloc();
-    let closed = search(&rt, alloc, &pairs(16, false, false), 1, &NoGate)?;
+    let closed = search(&rt, alloc, &tree_of(16, false, false), 1, &NoGate)?;
     assert_eq!(rt; closed.history.items().len(), 131071);
     let outs = merge(alloc, closed)?;
     assert_eq!(rt; outs.len(), 65536);
@@ -145,7 +145,7 @@ fn one_worker_goes_in_order(rt: HostRuntime) -> Result<(), Fail> {
 fn all_counts_give_the_same(rt: HostRuntime) -> Result<(), Fail> {
     let alloc = rt.alloc();
     for workers in [1, 2, 8, 64] {
-        let closed = search(&rt, alloc, &pairs(9, false, false), workers, &NoGate)?;
+        let closed = search(&rt, alloc, &tree_of(9, false, false), workers, &NoGate)?;
         assert_eq!(rt; closed.history.items().len(), 1023);
         let outs = merge(alloc, closed)?;
         assert_eq!(rt; outs.len(), 512);
@@ -156,7 +156,7 @@ fn all_counts_give_the_same(rt: HostRuntime) -> Result<(), Fail> {
 #[test]
 fn want_of_memory_stops_all(rt: HostRuntime) -> Result<(), Fail> {
     for workers in [1, 2, 8] {
-        let tree = pairs(6, false, true);
+        let tree = tree_of(6, false, true);
         assert!(rt; search(&rt, rt.alloc(), &tree, workers, &NoGate).is_err());
     }
     Ok(())

@@ -1,7 +1,9 @@
 //! What a worker keeps: a hand of paths, a deque of its own, and thieves of the others' deques.
 
-ghost use Rattle.std.specs.Prelude.{◌≡◌, [], IfOk};
+ghost use Rattle.std.specs.Prelude.{◌≡◌, true, None, ◌∷◌, ◌++◌, IfOk};
+ghost use Rattle.ap_paths.specs.History.{kids_of};
 ghost use Rattle.ap_steal.specs.Planned.{AreChoices};
+ghost use Rattle.ap_steal.specs.Order.{TookFirst};
 
 use ap_defs::memory::Memory;
 use ap_tasks::{Owner, Placed, Shape, Stolen, Thief};
@@ -12,6 +14,10 @@ use std::collections::VecDeque;
 #[derive(Drop)]
 pub struct Tools<W: Shape> {
     pub number: u32,
+    // The paths that were run.
+    pub count: u64,
+    // Whether there are no other workers. Then all paths stay in the hand.
+    pub alone: bool,
     pub own: Owner<W>,
     pub others: Vec<Thief<W>>,
     // The thief that tried last.
@@ -21,7 +27,10 @@ pub struct Tools<W: Shape> {
 
 impl<W: Shape> Tools<W> {
     // A path to run: from the hand, the own deque, or another's.
-    pub fn next(&mut self) -> Option<Placed<W>> {
+    pub fn next(&mut self) -> Option<Placed<W>>
+        ensures alone { self.new.alone ≡ self.old.alone }
+        ensures first { TookFirst self.old result self.new }
+    {
         match self.hand.pop_front() {
             Some(path) => Some(path),
             None => self.fetch(),
@@ -29,8 +38,11 @@ impl<W: Shape> Tools<W> {
     }
 
     // A path from the own deque, or another's.
-    fn fetch(&mut self) -> Option<Placed<W>> {
-        if self.others.is_empty() {
+    fn fetch(&mut self) -> Option<Placed<W>>
+        ensures alone { self.new.alone ≡ self.old.alone }
+        ensures none { self.old.alone ≡ true → (result ≡ None) × (self.new.hand.items ≡ self.old.hand.items) }
+    {
+        if self.alone {
             return None;
         }
         match self.own.pop() {
@@ -40,7 +52,9 @@ impl<W: Shape> Tools<W> {
     }
 
     // A path of another worker. Each thief tries once, in turn.
-    fn rob(&mut self) -> Option<Placed<W>> {
+    fn rob(&mut self) -> Option<Placed<W>>
+        ensures { self.new.alone ≡ self.old.alone }
+    {
         for _ in 0..self.others.len() {
             if let Some(path) = self.rob_next() {
                 return Some(path);
@@ -50,7 +64,9 @@ impl<W: Shape> Tools<W> {
     }
 
     // One try of the next thief.
-    fn rob_next(&mut self) -> Option<Placed<W>> {
+    fn rob_next(&mut self) -> Option<Placed<W>>
+        ensures { self.new.alone ≡ self.old.alone }
+    {
         let next = self.at.saturating_add(1);
         let at = if next < self.others.len() { next } else { 0 };
         self.at = at;
@@ -67,18 +83,22 @@ impl<W: Shape> Tools<W> {
     // last first; where there are no other workers, or there is no room, they go into the hand.
     pub fn take_kids(&mut self, alloc: Global, path: &Placed<W>, kids: &[u32]) -> Result<(), Memory>
         requires { AreChoices (W.choices path.now) kids.now }
+        ensures alone { self.new.alone ≡ self.old.alone }
+        ensures kids { self.old.alone ≡ true → IfOk result (λ _. self.new.hand.items ≡ kids_of path.now kids.now ++ self.old.hand.items) }
     {
         for i in 0..kids.len() {
-            let last = kids.len() - 1 - i;
-            let kid = path.child(alloc, kids[last])?;
-            self.put(kid, last == 0)?;
+            let kid = path.child(alloc, kids[kids.len() - 1 - i])?;
+            self.put(kid, i + 1 == kids.len())?;
         }
         Ok(())
     }
 
     // Takes one path.
-    fn put(&mut self, path: Placed<W>, stays: bool) -> Result<(), Memory> {
-        if stays || self.others.is_empty() {
+    fn put(&mut self, path: Placed<W>, stays: bool) -> Result<(), Memory>
+        ensures alone { self.new.alone ≡ self.old.alone }
+        ensures first { self.old.alone ≡ true → IfOk result (λ _. self.new.hand.items ≡ path ∷ self.old.hand.items) }
+    {
+        if stays || self.alone {
             self.hand.push_front(path)?;
             return Ok(());
         }

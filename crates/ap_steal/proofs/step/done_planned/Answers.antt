@@ -6,4 +6,4 @@ pub returns-clause-own : goal.returns-clause-own
 returns-clause-own g c =
     let t = c.done.ensures.turn in
     let n = c.args.seat.now.number in
-    own_done _ _ c.args.seat.now _ t.0 _ c.args.path.now c.args.list.items (Done n c.args.path.now c.args.list.items) c.done.result c.done.ensures.same.1 t.1 c.requires.planned t.2 c.requires.own
+    own_done _ _ c.args.seat.now _ t.0 _ c.args.path.now c.args.given.items (Done n c.args.path.now c.args.given.items) c.done.result c.done.ensures.same.1 t.1 c.requires.planned t.2 c.requires.own

@@ -1,7 +1,7 @@
 use Rattle.std.proofs.Common.{rules, arith, ◌≡◌, ◌∙◌, length, sym, ap, vec_len}
 use Rattle.ap_lock.specs.Seats.{book_id, seats_of, new_seats}
 use Rattle.ap_steal.proofs.Whole.{of_new}
-use Rattle.ap_steal.proofs.searching.search_in.Goals as goal
+use Rattle.ap_steal.proofs.searching.search_beside.Goals as goal
 
 pub make_jobs-requires : goal.make_jobs-requires
 make_jobs-requires g c =
