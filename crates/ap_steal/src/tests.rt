@@ -6,7 +6,7 @@ use ap_book::merge;
 use ap_defs::lists::List;
 use ap_defs::memory::Memory;
 use ap_defs::paths::{Out, Path, Visit};
-use ap_io::NoGate;
+use ap_io::{Gate, NoGate};
 use ap_paths::Tree;
 use std::alloc::Global;
 use std::sync::atomic::AtomicBool;
@@ -15,21 +15,25 @@ use std::test::Fail;
 
 const TURNS: u64 = 200_000_000;
 
-// Two choices at each path of fewer entries than the depth, and a cut at each end. The visits of [1]
-// and [2] wait for one another where they are to meet, and want memory where they are to fail.
+// Two that wait for one another, and note where one gave up.
 #[derive(Drop)]
-struct Pairs {
-    depth: usize,
-    meets: bool,
-    fails: bool,
+struct Meeting {
     first: AtomicBool,
     second: AtomicBool,
     gave_up: AtomicBool,
 }
 
-impl Pairs {
-    fn meet(&self, k: u32) {
-        let (mine, theirs) = if k == 1 {
+impl Meeting {
+    fn new() -> Meeting {
+        Meeting {
+            first: AtomicBool::new(false),
+            second: AtomicBool::new(false),
+            gave_up: AtomicBool::new(false),
+        }
+    }
+
+    fn meet(&self, is_first: bool) {
+        let (mine, theirs) = if is_first {
             (&self.first, &self.second)
         } else {
             (&self.second, &self.first)
@@ -41,6 +45,31 @@ impl Pairs {
             }
         }
         self.gave_up.store(true, SeqCst);
+    }
+}
+
+// Two choices at each path of fewer entries than the depth, and a cut at each end. The visits of [1]
+// and [2] wait for one another where they are to meet, and want memory where they are to fail.
+#[derive(Drop)]
+struct Pairs {
+    depth: usize,
+    meets: bool,
+    fails: bool,
+    meeting: Meeting,
+}
+
+// Lets the first call pass, and holds each later one until a call of the other worker is inside.
+#[derive(Drop)]
+struct Hold {
+    passed: AtomicBool,
+    meeting: Meeting,
+}
+
+impl Gate for Hold {
+    fn enter(&self, worker: u32, _task: u64) {
+        if self.passed.swap(true, SeqCst) {
+            self.meeting.meet(worker == 0);
+        }
     }
 }
 
@@ -74,7 +103,7 @@ impl Tree for Pairs {
     fn visit(&self, alloc: Global, path: &Path) -> Result<Visit, Memory> {
         if let [k] = path.choices() {
             if self.meets {
-                self.meet(*k);
+                self.meeting.meet(*k == 1);
             }
             if self.fails && *k == 2 {
                 return Err(Memory);
@@ -98,9 +127,7 @@ fn tree_of(depth: usize, meets: bool, fails: bool) -> Pairs {
         depth,
         meets,
         fails,
-        first: AtomicBool::new(false),
-        second: AtomicBool::new(false),
-        gave_up: AtomicBool::new(false),
+        meeting: Meeting::new(),
     }
 }
 
@@ -109,7 +136,7 @@ fn two_workers_meet(rt: HostRuntime) -> Result<(), Fail> {
     let alloc = rt.alloc();
     let tree = tree_of(1, true, false);
     let closed = search(&rt, alloc, &tree, 2, &NoGate)?;
-    assert!(rt; !tree.gave_up.load(SeqCst));
+    assert!(rt; !tree.meeting.gave_up.load(SeqCst));
     let outs = merge(alloc, closed)?;
     let [Out::Cut(first), Out::Cut(second)] = outs.as_slice() else {
         panic!(rt; "other outputs");
@@ -124,7 +151,7 @@ fn many_workers_meet(rt: HostRuntime) -> Result<(), Fail> {
     for workers in [8, 64] {
         let tree = tree_of(1, true, false);
         let closed = search(&rt, rt.alloc(), &tree, workers, &NoGate)?;
-        assert!(rt; !tree.gave_up.load(SeqCst));
+        assert!(rt; !tree.meeting.gave_up.load(SeqCst));
         assert_eq!(rt; closed.history.items().len(), 3);
         assert_eq!(rt; closed.logs.items().len(), workers as usize);
     }
@@ -159,5 +186,17 @@ fn want_of_memory_stops_all(rt: HostRuntime) -> Result<(), Fail> {
         let tree = tree_of(6, false, true);
         assert!(rt; search(&rt, rt.alloc(), &tree, workers, &NoGate).is_err());
     }
+    Ok(())
+}
+
+#[test]
+fn workers_meet_in_the_gate(rt: HostRuntime) -> Result<(), Fail> {
+    let gate = Hold {
+        passed: AtomicBool::new(false),
+        meeting: Meeting::new(),
+    };
+    let closed = search(&rt, rt.alloc(), &tree_of(1, false, false), 2, &gate)?;
+    assert!(rt; !gate.meeting.gave_up.load(SeqCst));
+    assert_eq!(rt; closed.history.items().len(), 3);
     Ok(())
 }
