@@ -1,10 +1,9 @@
 -- What a worker knows of its own entries.
-use Rattle.std.proofs.Common.{◌≡◌, ◌≢◌, ℕ, zero, suc, ◌+◌, Bool, true, false, ◌||◌, inl, inr, eqb, if◌then◌else◌, Option, Some, Result, Ok, Err, ◌≤◌, ◌<◌, get_or, List, [], ◌∷◌, ◌++◌, length, sym, refl, ap, ◌∙◌, subst, length-append, eq-eqb, true≢false, arith}
+use Rattle.std.proofs.Common.{◌≡◌, ℕ, zero, suc, ◌+◌, Bool, true, false, ◌||◌, eqb, if◌then◌else◌, Option, Some, Result, Ok, Err, ◌≤◌, ◌<◌, get_or, List, [], ◌∷◌, ◌++◌, length, sym, refl, ap, ◌∙◌, subst, length-append, eq-eqb, true≢false, arith}
 use Rattle.ap_defs.specs.declared.paths.Entry.{Entry}
 use Rattle.ap_defs.specs.declared.paths.Entry.TheVariants.{Stop}
 use Rattle.ap_defs.specs.declared.paths.Out.{Out}
 use Rattle.ap_paths.specs.Entries.{entry_of, entries_of, stop, kids}
-use Rattle.ap_paths.specs.Entries as entries
 use Rattle.ap_paths.specs.History.{has_stop}
 use Rattle.ap_paths.specs.Trees.{Choices, Outputs, IsChoice, IsPlan, Ascends, AreAtMost}
 use Rattle.ap_paths.proofs.Histories.{has_stop-last}
@@ -15,7 +14,7 @@ use Rattle.ap_book.specs.Answers.{Enters, EntersDone}
 use Rattle.ap_lock.specs.Turns.{Begins, maker_of, places_from, places_of}
 use Rattle.ap_lock.specs.Seats.{SeatView, IsTurn}
 use Rattle.ap_lock.proofs.Places.{places_from-append}
-use Rattle.ap_steal.specs.Planned.{Plans, IsPlanned, OwnPlanned, IsOver, AreChoices}
+use Rattle.ap_steal.specs.Planned.{Plans, IsPlanned, OwnPlanned, AreChoices}
 
 own_both : (c : Choices) (plan : Plans) (n : ℕ) (xs ys : List Entry) → OwnPlanned c plan n xs → OwnPlanned c plan n ys → OwnPlanned c plan n (xs ++ ys)
 own_both c plan n [] ys h g = g

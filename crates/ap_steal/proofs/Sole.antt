@@ -1,11 +1,11 @@
 -- One worker alone: its entries are in order.
-use Rattle.std.proofs.Common.{◌≡◌, ℕ, zero, suc, ◌+◌, ◌<◌, Bool, true, false, ◌||◌, eqb, if◌then◌else◌, Result, Ok, Err, IfOk, List, [], ◌∷◌, ◌++◌, length, sym, refl, ap, ◌∙◌, subst, length-append, eq-eqb, true≢false, append-nil, append_assoc, arith}
+use Rattle.std.proofs.Common.{◌≡◌, ℕ, zero, suc, ◌+◌, ◌<◌, Bool, true, false, ◌||◌, eqb, if◌then◌else◌, Result, Ok, Err, IfOk, List, [], ◌∷◌, ◌++◌, length, sym, refl, ap, ◌∙◌, subst, eq-eqb, true≢false, append-nil, arith}
 use Rattle.ap_defs.specs.declared.paths.Entry.{Entry}
-use Rattle.ap_defs.specs.declared.paths.Entry.TheVariants.{Split, Done, Stop}
+use Rattle.ap_defs.specs.declared.paths.Entry.TheVariants.{Split, Done}
 use Rattle.ap_defs.specs.declared.paths.Out.{Out}
 use Rattle.ap_defs.specs.Answers.{NominalOut, outs_of}
 use Rattle.ap_paths.specs.Entries.{TreeEntry, split, done, stop, entry_of, entries_of}
-use Rattle.ap_paths.specs.History.{is_legal, kids_of, has_stop, is_stop, is_open, open_of, open_from, without, same_path}
+use Rattle.ap_paths.specs.History.{is_legal, kids_of, has_stop, is_open, open_of, open_from, without, same_path}
 use Rattle.ap_paths.specs.Weights.{weigh, is_it, one_if}
 use Rattle.ap_paths.proofs.Frontiers.{same_itself, weigh_both, weigh_without}
 use Rattle.ap_book.specs.declared.error.BookError.{BookError}
@@ -13,7 +13,7 @@ use Rattle.ap_book.specs.declared.error.BookError.TheVariants.{NotOpen}
 use Rattle.ap_book.specs.declared.error.DoneError.{DoneError}
 use Rattle.ap_book.specs.Answers.{Refuses, Enters, EntersDone}
 use Rattle.ap_core.specs.Traces.{AreSeats, IsInOrder, Leads}
-use Rattle.ap_lock.specs.Turns.{Begins, AreBy, maker_of, places_from, places_of}
+use Rattle.ap_lock.specs.Turns.{AreBy, maker_of, places_from, places_of}
 use Rattle.ap_lock.specs.Seats.{SeatView, IsTurn, AreLogged, AreMadeBy, logs_of}
 use Rattle.ap_lock.proofs.Places.{places_from-append}
 use Rattle.ap_steal.specs.Order.{Runs, IsSole, IsOrdered}

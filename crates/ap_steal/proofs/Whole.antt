@@ -1,5 +1,5 @@
 -- What the history is once all workers have ended.
-use Rattle.std.proofs.Common.{◌≡◌, ◌≢◌, ℕ, zero, suc, ◌+◌, ◌<◌, ◌≤◌, ◌⊎◌, Bool, true, false, ◌&&◌, ◌||◌, eqb, if◌then◌else◌, All, List, [], ◌∷◌, ◌++◌, length, get_or, sym, refl, ap, ◌∙◌, subst, inl, inr, ⊎_elim, true≢false, eq-eqb, ne_eqb, append-nil, add-one, take, Result, Ok, Err, IfOk, arith}
+use Rattle.std.proofs.Common.{◌≡◌, ◌≢◌, ℕ, zero, suc, ◌+◌, ◌<◌, ◌≤◌, ◌⊎◌, Bool, true, false, ◌&&◌, ◌||◌, eqb, if◌then◌else◌, All, List, [], ◌∷◌, ◌++◌, length, get_or, sym, refl, ap, ◌∙◌, subst, inl, inr, ⊎_elim, true≢false, ne_eqb, append-nil, add-one, take, Result, Ok, Err, IfOk, arith}
 use mathlib.Core.Logic.{dite}
 use native.Mathlib.Decide.{ℕ_discrete}
 use Rattle.atomic_table.specs.Seated.{TableId}
@@ -7,13 +7,13 @@ use Rattle.ap_defs.specs.declared.paths.Entry.{Entry}
 use Rattle.ap_defs.specs.declared.paths.Progress.{Progress}
 use Rattle.ap_defs.specs.declared.paths.Progress.TheVariants.{Left, Finished, Stopped}
 use Rattle.ap_paths.specs.Entries.{TreeEntry, split, done, stop, entry_of, entries_of}
-use Rattle.ap_paths.specs.History.{seat_of, has_stop, is_stop, is_legal, legal_from, may_enter, open_after, open_from, open_of, left_of, progress_of}
+use Rattle.ap_paths.specs.History.{has_stop, is_stop, is_legal, legal_from, may_enter, open_after, open_from, open_of, left_of, progress_of}
 use Rattle.ap_paths.specs.Trees.{Choices, Outputs, InTree, IsTree, IsPlan, AreTrue}
 use Rattle.ap_paths.specs.Merging.{merged}
 use Rattle.ap_paths.proofs.Frontiers.{merged_whole}
 use Rattle.ap_defs.specs.declared.paths.Closed.{Closed}
 use Rattle.ap_core.specs.Traces.{AreSeats}
-use Rattle.ap_lock.specs.Turns.{Begins, maker_of, places_from, places_of, one_if}
+use Rattle.ap_lock.specs.Turns.{Begins, maker_of, places_from, one_if}
 use Rattle.ap_lock.specs.Seats.{SeatView, AreOf, AreLogged, AreMadeBy, seats_with, new_seats}
 use Rattle.ap_lock.proofs.Endings.{new_seats-length}
 use Rattle.ap_steal.specs.Planned.{Plans, IsPlanned, ArePlanned, OwnPlanned, IsOver, IsNew, Ended}

@@ -1,9 +1,9 @@
 -- The trees of the tests: so many choices at each path up to a depth, and a cut at each end.
-use Rattle.std.proofs.Common.{◌≡◌, ℕ, zero, suc, ◌+◌, ◌-◌, ◌≤◌, ◌<◌, Bool, true, false, nat_lt, if◌then◌else◌, Option, Some, None, List, [], ◌∷◌, ◌++◌, length, length-append, sym, refl, ap, ◌∙◌, subst, arith}
+use Rattle.std.proofs.Common.{◌≡◌, ℕ, zero, suc, ◌-◌, ◌≤◌, Option, Some, None, List, [], ◌∷◌, ◌++◌, length, length-append, sym, refl, ap, ◌∙◌, subst, arith}
 use Rattle.ap_defs.specs.Answers.{NominalOut, cut}
 use Rattle.ap_paths.specs.Entries as entries
 use Rattle.ap_paths.specs.Entries.{Plan}
-use Rattle.ap_paths.specs.Trees.{InTree, IsTree, IsPlan, AreKids, joined, times}
+use Rattle.ap_paths.specs.Trees.{InTree, IsTree, IsPlan, joined, times}
 
 -- the choices left
 abbrev pub left : ℕ → List ℕ → ℕ

@@ -1,5 +1,5 @@
 -- The order of one worker alone: each entry is of the first path of its hand, whose kids take its place.
-use Rattle.std.specs.Prelude.{◌≡◌, ℕ, Bool, true, false, Option, Some, None, List, [], ◌∷◌, ◌++◌}
+use Rattle.std.specs.Prelude.{◌≡◌, ℕ, true, false, Option, Some, None, List, [], ◌∷◌, ◌++◌}
 use Rattle.ap_defs.specs.declared.paths.Entry.{Entry}
 use Rattle.ap_paths.specs.Entries.{TreeEntry, split, done, stop, entries_of}
 use Rattle.ap_paths.specs.History.{kids_of, has_stop}

@@ -159,23 +159,13 @@ fn many_workers_meet(rt: HostRuntime) -> Result<(), Fail> {
 }
 
 #[test]
-fn one_worker_goes_in_order(rt: HostRuntime) -> Result<(), Fail> {
-    let alloc = rt.alloc();
-    let closed = search(&rt, alloc, &tree_of(16, false, false), 1, &NoGate)?;
-    assert_eq!(rt; closed.history.items().len(), 131071);
-    let outs = merge(alloc, closed)?;
-    assert_eq!(rt; outs.len(), 65536);
-    Ok(())
-}
-
-#[test]
 fn all_counts_give_the_same(rt: HostRuntime) -> Result<(), Fail> {
     let alloc = rt.alloc();
     for workers in [1, 2, 8, 64] {
-        let closed = search(&rt, alloc, &tree_of(9, false, false), workers, &NoGate)?;
-        assert_eq!(rt; closed.history.items().len(), 1023);
+        let closed = search(&rt, alloc, &tree_of(17, false, false), workers, &NoGate)?;
+        assert_eq!(rt; closed.history.items().len(), 262143);
         let outs = merge(alloc, closed)?;
-        assert_eq!(rt; outs.len(), 512);
+        assert_eq!(rt; outs.len(), 131072);
     }
     Ok(())
 }

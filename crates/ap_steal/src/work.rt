@@ -128,13 +128,15 @@ fn go_on<W: Shape, R: Wait, T: Tree, G: Gate>(
     ensures order { tools.old.alone ≡ true → IsSole tools.old.hand.items seat.old.number seat.old.seen → IsSole tools.new.hand.items seat.new.number seat.new.seen }
 {
     if run_next(rt, alloc, tree, gate, book, seat, tools) {
-        backoff.reset();
         if tools.count % LOOKS != 0 {
+            backoff.reset();
             return false;
         }
-    } else {
+    } else if !backoff.is_completed() {
         backoff.snooze();
+        return false;
     }
+    backoff.reset();
     is_over(rt, tree, book, seat)
 }
 

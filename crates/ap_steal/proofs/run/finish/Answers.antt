@@ -1,4 +1,4 @@
-use Rattle.std.proofs.Common.{rules, arith, ◌≡◌, ◌∙◌, ◌<◌, false, length, sym, ap}
+use Rattle.std.proofs.Common.{rules, arith, ◌≡◌, false, length}
 use Rattle.ap_paths.specs.Entries.{entries_of}
 use Rattle.ap_paths.specs.History.{has_stop}
 use Rattle.ap_lock.specs.Seats.{book_id, seats_of}

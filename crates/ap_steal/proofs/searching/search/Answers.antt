@@ -1,7 +1,3 @@
-use Rattle.std.proofs.Common.{◌≡◌, Result, Ok, Err, IfOk, [], ◌∷◌}
-use Rattle.ap_defs.specs.declared.paths.Closed.{Closed}
-use Rattle.ap_paths.specs.Entries.{entries_of}
-use Rattle.ap_paths.specs.Merging.{merged}
 use Rattle.ap_steal.proofs.Whole.{whole_of}
 use Rattle.ap_steal.proofs.Sole.{permitted_of}
 use Rattle.ap_steal.proofs.searching.search.Goals as goal

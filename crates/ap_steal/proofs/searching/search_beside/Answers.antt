@@ -1,4 +1,4 @@
-use Rattle.std.proofs.Common.{rules, arith, ◌≡◌, ◌∙◌, length, sym, ap, vec_len}
+use Rattle.std.proofs.Common.{rules, ◌≡◌, ◌∙◌, length, sym, vec_len}
 use Rattle.ap_lock.specs.Seats.{book_id, seats_of, new_seats}
 use Rattle.ap_steal.proofs.Whole.{of_new}
 use Rattle.ap_steal.proofs.searching.search_beside.Goals as goal
