@@ -5,3 +5,4 @@ pub mod Allowed
 pub mod Shutting
 pub mod Endings
 pub mod Logging
+pub mod Sent

@@ -1,0 +1,23 @@
+//! Deques that are made and dropped.
+
+use ap_defs::memory::Memory;
+use ap_tasks::{Owner, Thief, tasks};
+use std::alloc::{AllocError, Global};
+use std::marker::Brand;
+
+const DEQUES: u32 = 1_000;
+
+fn made(alloc: Global) -> Result<u32, Memory> {
+    for _ in 0..DEQUES {
+        let pair: (Owner<Brand>, Thief<Brand>) = tasks(alloc)?;
+        drop(pair);
+    }
+    Ok(DEQUES)
+}
+
+pub fn report(alloc: Global) -> Result<String, AllocError> {
+    match made(alloc) {
+        Ok(count) => format!(in alloc; "{count} deques"),
+        Err(Memory) => Err(AllocError),
+    }
+}

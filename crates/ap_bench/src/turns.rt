@@ -1,0 +1,36 @@
+//! Turns of a shared book, where nobody else wants one.
+
+ghost use Rattle.std.specs.Prelude.{◌≡◌, IfOk};
+ghost use Rattle.ap_lock.specs.Seats.{book_id};
+
+use ap_defs::memory::Memory;
+use ap_lock::{Seat, SharedBook};
+use std::alloc::{AllocError, Global};
+use std::sync::Wait;
+
+const TURNS: u32 = 1_000_000;
+
+fn made(alloc: Global) -> Result<(SharedBook, Seat), Memory>
+    ensures { IfOk result (λ r. r.1.book ≡ book_id r.0) }
+{
+    let (book, mut seats) = SharedBook::make(alloc, 1)?;
+    let Some(seat) = seats.pop() else {
+        return Err(Memory);
+    };
+    Ok((book, seat))
+}
+
+fn taken<R: Wait>(rt: &R, alloc: Global) -> Result<u32, Memory> {
+    let (book, mut seat) = made(alloc)?;
+    for _ in 0..TURNS {
+        book.status(rt, &mut seat);
+    }
+    Ok(TURNS)
+}
+
+pub fn report<R: Wait>(rt: &R, alloc: Global) -> Result<String, AllocError> {
+    match taken(rt, alloc) {
+        Ok(count) => format!(in alloc; "{count} turns"),
+        Err(Memory) => Err(AllocError),
+    }
+}

@@ -1,0 +1,4 @@
+pub mod Own
+pub mod Whole
+pub mod Sent
+pub mod Sole

@@ -1,0 +1,8 @@
+use Rattle.std.proofs.Common.{◌≡◌, vec_len}
+use Rattle.ap_steal.proofs.jobs.give_all.Given as goal
+
+abbrev pub invariant-loop-thief : goal.invariant-loop-thief
+invariant-loop-thief g l = vec_len l.all ≡ vec_len l.initial.all
+
+abbrev pub decreases-loop-thief : goal.decreases-loop-thief
+decreases-loop-thief g l = vec_len l.thieves

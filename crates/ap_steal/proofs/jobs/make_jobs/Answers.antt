@@ -1,0 +1,20 @@
+use Rattle.std.proofs.Common.{rules, ◌≡◌, ◌∷◌, ◌++◌, [], List, All, sym, subst}
+use Rattle.std.proofs.lemmas.List.Elements.{All-append}
+use Rattle.ap_lock.specs.Seats.{SeatView}
+use Rattle.ap_steal.specs.declared.jobs.Job.{Job}
+use Rattle.ap_steal.specs.Planned.{IsNew}
+use Rattle.ap_steal.proofs.Whole.{all_one, all_last}
+use Rattle.ap_steal.proofs.jobs.make_jobs.Goals as goal
+
+pub loop-seat-preserved : goal.loop-seat-preserved
+loop-seat-preserved g c =
+    let v = c.loop-seat.invariant in
+    let job : Job g.row.W.Denot = record { seat = c.in-Some.seat; tools = c.in-Some-pop.one } in
+    let more : c.push.new.self.items ≡ c.loop-seat.jobs.items ++ job ∷ [] = search rules in (
+      search rules,
+      search rules,
+      λ book h.
+          let w = v.2 book h in
+          let s = all_last (λ (s : SeatView). IsNew book s) _ _ _ c.in-Some.ensures.items w.0 in
+          (s.0, subst (λ (l : List (Job g.row.W.Denot)). All (λ j. IsNew book j.seat) l) (sym more) (All-append (λ (j : Job g.row.W.Denot). IsNew book j.seat) c.loop-seat.jobs.items (job ∷ []) w.1 (all_one (λ (j : Job g.row.W.Denot). IsNew book j.seat) job s.1))),
+    )

@@ -1,0 +1,13 @@
+use Rattle.std.proofs.Common.{◌≡◌, ◌+◌, All, vec_len}
+use Rattle.atomic_table.specs.Seated.{TableId}
+use Rattle.ap_steal.specs.Planned.{IsNew}
+use Rattle.ap_steal.proofs.jobs.make_jobs.Given as goal
+
+abbrev pub invariant-loop-seat : goal.invariant-loop-seat
+invariant-loop-seat g l =
+    (vec_len l.seats ≡ vec_len l.tools)
+    × (vec_len l.jobs + vec_len l.seats ≡ vec_len l.initial.seats)
+    × ((book : TableId) → All (λ s. IsNew book s) l.initial.seats.items → All (λ s. IsNew book s) l.seats.items × All (λ j. IsNew book j.seat) l.jobs.items)
+
+abbrev pub decreases-loop-seat : goal.decreases-loop-seat
+decreases-loop-seat g l = vec_len l.seats

@@ -1,0 +1,30 @@
+use Rattle.std.proofs.Common.{rules, ◌≡◌, ◌∙◌, length, sym, vec_len}
+use Rattle.ap_lock.specs.Seats.{book_id, seats_of, new_seats}
+use Rattle.ap_steal.proofs.Whole.{of_new}
+use Rattle.ap_steal.proofs.searching.search_beside.Goals as goal
+
+pub make_jobs-requires : goal.make_jobs-requires
+make_jobs-requires g c =
+    let book = c.in_ok-book.book in
+    let is : c.in_ok-book.seats.items ≡ new_seats (book_id book) 0 c.args.workers = search rules in
+    let n : length c.in_ok-book.seats.items ≡ c.args.workers = (of_new _ _ _ is).1 in
+    let m : vec_len c.in_ok-tools.tools ≡ c.args.workers = search rules in
+    let k : vec_len c.in_ok-book.seats ≡ length c.in_ok-book.seats.items = search rules in
+    k ∙ n ∙ sym m
+
+pub run_all-requires-clause-new : goal.run_all-requires-clause-new
+run_all-requires-clause-new g c κs within =
+    let book = c.in_ok-book.book in
+    let is : c.in_ok-book.seats.items ≡ new_seats (book_id book) 0 c.args.workers = search rules in
+    c.turned.ensures.new (book_id book) (c.in_ok-jobs.ensures.new (book_id book) (of_new _ _ _ is).0)
+
+pub finish-requires-clause-all : goal.finish-requires-clause-all
+finish-requires-clause-all g c κs within =
+    let book = c.in_ok-book.book in
+    let is : c.in_ok-book.seats.items ≡ new_seats (book_id book) 0 c.args.workers = search rules in
+    let n : length c.in_ok-book.seats.items ≡ c.args.workers = (of_new _ _ _ is).1 in
+    let k : vec_len c.in_ok-book.seats ≡ length c.in_ok-book.seats.items = search rules in
+    let s : seats_of book ≡ c.args.workers = search rules in
+    let a : vec_len c.in_ok-jobs.jobs ≡ vec_len c.in_ok-book.seats = search rules in
+    let b : vec_len c.in_ok-seats.seats ≡ vec_len c.turned.result = search rules in
+    b ∙ c.turned.ensures.len ∙ a ∙ k ∙ n ∙ sym s

@@ -1,0 +1,45 @@
+-- Entries that follow the plans of a tree, and when a worker may end.
+use Rattle.std.specs.Prelude.{◌≡◌, ℕ, ◌⊎◌, Option, List, [], ◌∷◌}
+use Rattle.ap_defs.specs.declared.paths.Entry.{Entry}
+use Rattle.ap_defs.specs.declared.paths.Progress.TheVariants.{Finished, Stopped}
+use Rattle.ap_paths.specs.Entries.{TreeEntry, split, done, stop, Plan, kids, outs, entry_of, entries_of}
+use Rattle.ap_paths.specs.History.{progress_of}
+use Rattle.ap_paths.specs.Trees.{Choices, InTree, IsChoice}
+use Rattle.atomic_table.specs.Seated.{TableId}
+use Rattle.ap_lock.specs.Turns.{maker_of}
+use Rattle.ap_lock.specs.Seats.{SeatView}
+
+abbrev pub Plans : Type 0
+Plans = List ℕ → Plan
+
+-- the entry is by the plan of a path of the tree
+abbrev pub IsPlanned : Choices → Plans → TreeEntry → Type 0
+IsPlanned c plan (split seat p ks) = InTree c p × (plan p ≡ kids ks)
+IsPlanned c plan (done seat p os) = InTree c p × (plan p ≡ outs os)
+IsPlanned c plan (stop seat) = Unit {0}
+
+abbrev pub ArePlanned : Choices → Plans → List TreeEntry → Type 0
+ArePlanned c plan [] = Unit {0}
+ArePlanned c plan (e ∷ es) = IsPlanned c plan e × ArePlanned c plan es
+
+-- the entries of this number are
+abbrev pub OwnPlanned : Choices → Plans → ℕ → List Entry → Type 0
+OwnPlanned c plan n [] = Unit {0}
+OwnPlanned c plan n (e ∷ es) = (maker_of e ≡ n → IsPlanned c plan (entry_of e)) × OwnPlanned c plan n es
+
+-- each number is a choice
+abbrev pub AreChoices : Option ℕ → List ℕ → Type 0
+AreChoices w [] = Unit {0}
+AreChoices w (k ∷ ks) = IsChoice w k × AreChoices w ks
+
+-- who has seen this may end
+abbrev pub IsOver : List Entry → Type 0
+IsOver seen = (progress_of (entries_of seen) ≡ Finished) ⊎ (progress_of (entries_of seen) ≡ Stopped)
+
+-- a seat of this book that has seen nothing
+abbrev pub IsNew : TableId → SeatView → Type 0
+IsNew book s = (s.book ≡ book) × (s.seen ≡ [])
+
+-- a worker's seat at its end
+abbrev pub Ended : Choices → Plans → TableId → SeatView → Type 0
+Ended c plan book s = (s.book ≡ book) × OwnPlanned c plan s.number s.seen × IsOver s.seen

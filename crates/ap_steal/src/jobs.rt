@@ -1,0 +1,127 @@
+//! What the workers start with.
+
+ghost use Rattle.std.specs.Prelude.{◌≡◌, true, [], ◌∷◌, All, ◌≤◌, vec_len, IfOk};
+ghost use Rattle.atomic_table.specs.Seated.{TableId};
+ghost use Rattle.ap_steal.specs.Planned.{IsNew};
+
+use crate::tools::Tools;
+use ap_defs::memory::Memory;
+use ap_lock::Seat;
+use ap_tasks::{Owner, Placed, Shape, Thief, tasks};
+use std::alloc::Global;
+use std::collections::VecDeque;
+
+/// A seat at the shared book, and a worker's tools.
+#[derive(Drop)]
+pub struct Job<W: Shape> {
+    pub seat: Seat,
+    pub tools: Tools<W>,
+}
+
+// Tools with an empty hand and no thieves.
+fn bare<W: Shape>(alloc: Global, number: u32, alone: bool, own: Owner<W>) -> Tools<W>
+    ensures { (result.alone ≡ alone) × (result.hand.items ≡ []) }
+{
+    Tools {
+        number,
+        count: 0,
+        alone,
+        own,
+        others: Vec::new(alloc),
+        at: 0,
+        hand: VecDeque::new(alloc),
+    }
+}
+
+/// Tools for one worker alone, with the empty path in its hand.
+pub fn lone_tools<W: Shape>(alloc: Global) -> Result<Tools<W>, Memory>
+    ensures { IfOk result (λ t. (t.alone ≡ true) × (t.hand.items ≡ [] ∷ [])) }
+{
+    let (own, thief) = tasks(alloc)?;
+    drop(thief);
+    let mut tools = bare(alloc, 0, true, own);
+    tools.hand.push_back(Placed::root(alloc))?;
+    Ok(tools)
+}
+
+/// Tools for each of the workers, of which the first has the empty path in its hand.
+pub fn make_tools<W: Shape>(alloc: Global, workers: u32) -> Result<Vec<Tools<W>>, Memory>
+    requires { workers ≤ 64 }
+    ensures { IfOk result (λ v. vec_len v ≡ workers) }
+{
+    let mut all = Vec::with_capacity(alloc, workers as usize)?;
+    let mut thieves = Vec::with_capacity(alloc, workers as usize)?;
+    for number in 0..workers {
+        let (own, thief) = tasks(alloc)?;
+        let mut tools = bare(alloc, number, false, own);
+        if number == 0 {
+            tools.hand.push_back(Placed::root(alloc))?;
+        }
+        all.push(tools)?;
+        thieves.push(thief)?;
+    }
+    give_all(alloc, all, thieves)
+}
+
+// Parts of each thief for the other workers.
+fn give_all<W: Shape>(
+    alloc: Global,
+    mut all: Vec<Tools<W>>,
+    mut thieves: Vec<Thief<W>>,
+) -> Result<Vec<Tools<W>>, Memory>
+    ensures { IfOk result (λ v. vec_len v ≡ vec_len all) }
+{
+    while let Some(thief) = thieves.pop() {
+        let number = thieves.len();
+        all = give(alloc, all, thief, number)?;
+    }
+    Ok(all)
+}
+
+// A part of the thief for each of the workers but this one, as far as there are parts.
+fn give<W: Shape>(
+    alloc: Global,
+    mut all: Vec<Tools<W>>,
+    mut thief: Thief<W>,
+    number: usize,
+) -> Result<Vec<Tools<W>>, Memory>
+    ensures { IfOk result (λ v. vec_len v ≡ vec_len all) }
+{
+    for i in 0..all.len() {
+        if i != number && thief.parts() > 1 {
+            let part = thief.split(alloc)?;
+            let tools = &mut all[i];
+            tools.others.push(part)?;
+        }
+    }
+    Ok(all)
+}
+
+/// The jobs in the other order.
+pub fn turned<W: Shape>(mut jobs: Vec<Job<W>>) -> Vec<Job<W>>
+    ensures len { vec_len result ≡ vec_len jobs }
+    ensures new { (book : TableId) → All (λ j. IsNew book j.seat) jobs.items → All (λ j. IsNew book j.seat) result.items }
+{
+    jobs.reverse();
+    jobs
+}
+
+/// A job for each seat, the last one first.
+pub fn make_jobs<W: Shape>(
+    alloc: Global,
+    mut seats: Vec<Seat>,
+    mut tools: Vec<Tools<W>>,
+) -> Result<Vec<Job<W>>, Memory>
+    requires { vec_len seats ≡ vec_len tools }
+    ensures len { IfOk result (λ v. vec_len v ≡ vec_len seats) }
+    ensures new { (book : TableId) → All (λ s. IsNew book s) seats.items → IfOk result (λ v. All (λ j. IsNew book j.seat) v.items) }
+{
+    let mut jobs = Vec::with_capacity(alloc, seats.len())?;
+    while let Some(seat) = seats.pop() {
+        let Some(one) = tools.pop() else {
+            unreachable!()
+        };
+        jobs.push(Job { seat, tools: one })?;
+    }
+    Ok(jobs)
+}
