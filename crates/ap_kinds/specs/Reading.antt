@@ -64,6 +64,10 @@ pub record IsSolved (n : ℕ) (s : EquationSystem) (ts : List TypeShape) : Type 
   pub most_general : (f : Filling) → IsSolution s.equations s.names n f ↔ (IsInstance ts f × GivesNames n f s.names)
   pub constrained : AreNames n ts s.names
 
+-- the shapes of the first holes are those of the second list
+abbrev pub AreFirst : ℕ → List TypeShape → List TypeShape → Type 0
+AreFirst count ts us = (x : ℕ) → x < count → shape_at ts x ≡ shape_at us x
+
 abbrev pub AllDeclared : ℕ → ℕ → ℕ → List TypeShape → Type 0
 AllDeclared n m count ts = (x : ℕ) → x < count → is_declared n m (shape_at ts x) ≡ true
 

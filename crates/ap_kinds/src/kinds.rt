@@ -5,10 +5,12 @@ ghost use Rattle.ap_defs.specs.Types.{shape_of, kind_of, signature_of};
 ghost use Rattle.ap_defs.specs.RawTerms.{raw_of};
 ghost use Rattle.ap_defs.specs.Goals.{goal_over};
 ghost use Rattle.ap_types.specs.Assignments.{IsUnsolvable};
+ghost use Rattle.ap_types.specs.Triangular.{table_of, assignment_of, IsSettled};
+ghost use Rattle.ap_program.specs.Typed.{AreInhabited};
 ghost use Rattle.ap_kinds.specs.ItemKinds.{TypesQuery, TypesClause, IsInferred, IsRefused};
 ghost use Rattle.ap_kinds.specs.Systems.{system_of, started};
 ghost use Rattle.ap_kinds.specs.Gathering.{gather_goal, gather_atom};
-ghost use Rattle.ap_kinds.specs.Reading.{name_count, IsSolved, IsFound, IsNotFound};
+ghost use Rattle.ap_kinds.specs.Reading.{name_count, AreFirst, IsSolved, IsRead, IsUnread, IsFound, IsNotFound};
 
 use crate::errors::KindsError;
 use crate::goals::{gather_atom, gather_goal};
@@ -18,8 +20,9 @@ use ap_defs::goals::{Goal, Kind, Signature};
 use ap_defs::lists::List;
 use ap_defs::memory::Memory;
 use ap_defs::terms::{Raw, Shape};
-use ap_types::equations::solve;
+use ap_types::equations::solved;
 use ap_types::errors::TypesError;
+use ap_types::solved::{Solved, value_of};
 use std::alloc::Global;
 
 /// Whether an identifier is a name or a variable.
@@ -29,14 +32,11 @@ pub enum IdentKind {
     Var,
 }
 
-/// The most general shapes of the holes of a system. No sort is above the greatest `u32`, so more name
-/// types than that count as want of memory.
-fn shapes_of_holes(
-    alloc: Global,
-    sig: &Signature,
-    system: &System,
-) -> Result<Vec<Shape>, TypesError>
-    ensures ok { IfOk result (λ v. IsSolved (name_count (signature_of sig.now)) (system_of system.now) (map shape_of v.items)) }
+/// The table of the most general shapes of the holes of a system. No sort is above the greatest `u32`,
+/// so more name types than that count as want of memory.
+fn table_of_holes(alloc: Global, sig: &Signature, system: &System) -> Result<Solved, TypesError>
+    ensures settled { IfOk result (λ s. IsSettled (table_of s.nodes.items)) }
+    ensures ok { IfOk result (λ s. IsSolved (name_count (signature_of sig.now)) (system_of system.now) (assignment_of s)) }
     ensures clash { IfErr result (λ e. e ≡ TypesError.Clash → IsUnsolvable (system_of system.now).equations (system_of system.now).names (name_count (signature_of sig.now))) }
 {
     let name_types = sig.name_types.items().len();
@@ -45,8 +45,35 @@ fn shapes_of_holes(
     }
     let equations = system.equations.as_slice();
     let names = system.names.as_slice();
-    let assignment = solve(alloc, equations, names, name_types as u32)?;
-    Ok(assignment.holes.into_vec())
+    solved(alloc, equations, names, name_types as u32)
+}
+
+/// The shapes of the first holes, which are those of the identifiers.
+fn first_shapes(alloc: Global, table: &Solved, count: usize) -> Result<Vec<Shape>, Memory>
+    requires { IsSettled (table_of table.now.nodes.items) }
+    ensures { IfOk result (λ v. AreFirst count (map shape_of v.items) (assignment_of table.now)) }
+{
+    let mut shapes = Vec::new(alloc);
+    for x in 0..count {
+        shapes.push(value_of(alloc, table, x)?)?;
+    }
+    Ok(shapes)
+}
+
+/// The kinds of identifiers, by the table of their system.
+fn read_table(
+    alloc: Global,
+    sig: &Signature,
+    idents: &[IdentKind],
+    table: &Solved,
+) -> Result<Vec<Kind>, KindsError>
+    requires { IsSettled (table_of table.now.nodes.items) }
+    ensures read { IfOk result (λ ks. IsRead (signature_of sig.now) idents.now (assignment_of table.now) (map kind_of ks.items)) }
+    ensures inhabited { IfOk result (λ ks. AreInhabited (signature_of sig.now).constructors (map kind_of ks.items)) }
+    ensures unread { IfErr result (λ e. IsUnread e (signature_of sig.now) idents.now (assignment_of table.now)) }
+{
+    let shapes = first_shapes(alloc, table, idents.len())?;
+    read_inhabited(alloc, sig, idents, shapes.as_slice())
 }
 
 /// The kinds of identifiers, by the solution of their system.
@@ -59,8 +86,8 @@ fn settle(
     ensures ok { IfOk result (λ ks. IsFound (signature_of sig.now) idents.now (system_of system.now) (map kind_of ks.items)) }
     ensures err { IfErr result (λ e. IsNotFound e (signature_of sig.now) idents.now (system_of system.now)) }
 {
-    match shapes_of_holes(alloc, sig, system) {
-        Ok(holes) => read_inhabited(alloc, sig, idents, holes.as_slice()),
+    match table_of_holes(alloc, sig, system) {
+        Ok(table) => read_table(alloc, sig, idents, &table),
         Err(TypesError::Clash) => Err(KindsError::Clash),
         Err(TypesError::Memory) => Err(KindsError::Memory),
     }

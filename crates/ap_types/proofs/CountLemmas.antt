@@ -1,7 +1,7 @@
 -- How many numbers below a bound pass a test.
 use Rattle.std.proofs.Common.{◌≡◌, ◌<◌, ◌≤◌, ◌⊎◌, ℕ, zero, suc, Bool, true, false, refl, inl, inr, arith, subst}
 use Rattle.std.specs.Prelude.{if◌then◌else◌}
-use Rattle.ap_types.specs.Steps.{count_below}
+use Rattle.ap_types.specs.Joining.{count_below}
 
 pub count_most : (p : ℕ → Bool) (n : ℕ) → count_below p n ≤ n
 count_most p zero = omega arith

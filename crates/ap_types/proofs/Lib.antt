@@ -6,8 +6,9 @@ pub mod QuestionLemmas
 pub mod StillLemmas
 pub mod WitnessLemmas
 pub mod ShapeLemmas
-pub mod RuleLemmas
-pub mod MeasureLemmas
-pub mod StepLemmas
-pub mod AnswerLemmas
 pub mod NameLemmas
+pub mod TableLemmas
+pub mod LoadLemmas
+pub mod JoinLemmas
+pub mod WalkLemmas
+pub mod SettledLemmas

@@ -1,35 +1,17 @@
 -- Holes that must be name types.
-use Rattle.std.proofs.Common.{◌≡◌, ◌<◌, ◌≤◌, ◌+◌, ◌∙◌, ◌↔◌, ◌⊎◌, ℕ, zero, suc, true, false, List, [], ◌∷◌, ◌++◌, map, length, refl, sym, ap, inl, inr, subst, arith, length-append}
+use Rattle.std.proofs.Common.{◌≡◌, ◌<◌, ◌≤◌, ◌+◌, ◌∙◌, ◌↔◌, ◌⊎◌, ℕ, zero, suc, true, false, List, [], ◌∷◌, map, length, refl, sym, ap, inl, inr, subst, arith}
 use Rattle.std.specs.Prelude.{slice_index_or, ◌==◌, if◌then◌else◌}
 use Rattle.std.proofs.lemmas.Bool.Decides.{eqb_tells}
-use Rattle.std.proofs.lemmas.List.{map-append}
-use Rattle.ap_defs.specs.declared.terms.Shape.{Shape}
-use Rattle.ap_defs.specs.declared.terms.Shape.TheVariants as shapes
-use Rattle.ap_defs.specs.Types.{TypeShape, shape_of, hole, unit, names}
-use Rattle.ap_types.specs.Equations.{ShapeEquation, Filling, filled, Solves, FilledBy, IsNameType, GivesNames, IsSolution, IsInstance, equations_bound, names_bound, hole_count}
+use Rattle.ap_defs.specs.Types.{TypeShape, hole, unit, names}
+use Rattle.ap_types.specs.Equations.{ShapeEquation, Filling, filled, Solves, FilledBy, IsNameType, GivesNames, IsSolution, IsInstance, equations_bound, names_bound}
 use Rattle.ap_types.specs.Solving.{shape_at}
-use Rattle.ap_types.specs.Steps.{Answers, NoneSolves}
 use Rattle.ap_types.specs.Assignments.{IsNameOrOpen, AreNames, IsNameOrHole, AreNamesOrHoles, IsUnsolvable, name_equation, name_equations, Narrows}
-use Rattle.ap_types.proofs.AnswerLemmas.{fills_at}
 
--- One more hole with its own shape.
-fills_push : (g f : Filling) (x : ℕ) (ts : List TypeShape) (t : TypeShape) → FilledBy g f x ts → f (x + length ts) ≡ filled g t → FilledBy g f x (ts ++ t ∷ [])
-fills_push g f x [] t h e = let s : x ≡ x + 0 = omega arith in (ap f s ∙ e, tt)
-fills_push g f x (u ∷ ts) t h e = let s : suc x + length ts ≡ x + suc (length ts) = omega arith in (h.0, fills_push g f (suc x) ts t h.1 (ap f s ∙ e))
-
-pub length_shapes : (items : List Shape) → length (map shape_of items) ≡ length items
-length_shapes [] = refl
-length_shapes (t ∷ ts) = ap suc (length_shapes ts)
-
-pub open_next : (items new : List Shape) (x : ℕ) → new ≡ items ++ shapes.Hole x ∷ [] → ((f : Filling) → FilledBy f f 0 (map shape_of items)) → length items ≡ x
-    → ((f : Filling) → FilledBy f f 0 (map shape_of new)) × (length new ≡ x + 1)
-open_next items new x e h l = (
-  (λ f.
-      let at : 0 + length (map shape_of items) ≡ x = omega (arith, length_shapes items) in
-      subst (λ (ts : List TypeShape). FilledBy f f 0 ts) (sym (ap (map shape_of) e ∙ map-append shape_of items (shapes.Hole x ∷ [])))
-      (fills_push f f 0 (map shape_of items) (hole x) (h f) (ap f at))),
-  ap length e ∙ length-append items (shapes.Hole x ∷ []) ∙ ap (λ n. n + 1) l,
-)
+-- what stands for a hole is filled from its shape
+pub fills_at : (g f : Filling) (x y : ℕ) (d : TypeShape) (ts : List TypeShape) → FilledBy g f x ts → y < length ts → f (x + y) ≡ filled g (slice_index_or ts y d)
+fills_at g f x y d [] h l = absurd (omega arith)
+fills_at g f x zero d (t ∷ ts) h l = let e : x + 0 ≡ x = omega arith in ap f e ∙ h.0
+fills_at g f x (suc y) d (t ∷ ts) h l = let e : x + suc y ≡ suc x + y = omega arith in ap f e ∙ fills_at g f (suc x) y d ts h.1 (omega arith)
 
 at_any : (ts : List TypeShape) (y : ℕ) (d e : TypeShape) → y < length ts → slice_index_or ts y d ≡ slice_index_or ts y e
 at_any [] y d e l = absurd (omega arith)
@@ -78,26 +60,10 @@ bound_one (x ∷ xs) = let h = bound_one xs in omega arith
 pub bound_names : (n : ℕ) (xs : List ℕ) → equations_bound (name_equations n xs) ≤ names_bound xs
 bound_names n xs = elim (n == 1) as (λ b. equations_bound (if b then map name_equation xs else []) ≤ names_bound xs) [ true ↦ bound_one xs | false ↦ omega arith ]
 
--- Both parts of solving together.
-pub narrows_both : (es : List ShapeEquation) (xs : List ℕ) (n : ℕ) (ts0 ts1 ts2 : List TypeShape) → ((f : Filling) → FilledBy f f 0 ts0) → length ts0 ≡ hole_count es xs
-    → Answers ts0 es ts1 [] → Answers ts1 (name_equations n xs) ts2 [] → Narrows es xs n ts2
-narrows_both es xs n ts0 ts1 ts2 opened long a b = record {
-  onward = λ f s. (b.onward f (a.onward f (opened f) s.0).0 (names_solved n f xs s.1)).0;
-  back = λ g f h. let k = b.back g f h tt in ((a.back k.0 f k.1 tt).2, k.2);
-  as_many = b.as_many ∙ a.as_many ∙ long;
-}
-
-pub unsolvable_first : (es : List ShapeEquation) (xs : List ℕ) (n : ℕ) (ts0 : List TypeShape) → ((f : Filling) → FilledBy f f 0 ts0) → NoneSolves ts0 es → IsUnsolvable es xs n
-unsolvable_first es xs n ts0 opened h f s = h f (opened f) s.0
-
-pub unsolvable_second : (es : List ShapeEquation) (xs : List ℕ) (n : ℕ) (ts0 ts1 : List TypeShape) → ((f : Filling) → FilledBy f f 0 ts0) → Answers ts0 es ts1 []
-    → NoneSolves ts1 (name_equations n xs) → IsUnsolvable es xs n
-unsolvable_second es xs n ts0 ts1 opened a h f s = h f (a.onward f (opened f) s.0).0 (names_solved n f xs s.1)
-
 -- The solutions are the instances that give the holes in question name types.
 pub narrows_most_general : (es : List ShapeEquation) (xs : List ℕ) (n : ℕ) (ts : List TypeShape) → Narrows es xs n ts → (f : Filling) → IsSolution es xs n f ↔ (IsInstance ts f × GivesNames n f xs)
 narrows_most_general es xs n ts h f = (
-  (λ s. ((f, h.onward f s), s.1)),
+  (λ s. (h.onward f s, s.1)),
   (λ k. ((h.back k.0.0 f k.0.1).0, k.1)),
 )
 
@@ -151,24 +117,24 @@ name_or_hole n f (names s) h = h
 name_or_hole n f (hole y) h = tt
 name_or_hole n f _ h = absurd h
 
-found_or_hole : (n : ℕ) (f : Filling) (ts : List TypeShape) (x : ℕ) → FilledBy f f 0 ts → IsNameType n (f x) → IsNameOrHole n (shape_at ts x)
-found_or_hole n f ts x h k =
+found_or_hole : (n : ℕ) (g f : Filling) (ts : List TypeShape) (x : ℕ) → FilledBy g f 0 ts → IsNameType n (f x) → IsNameOrHole n (shape_at ts x)
+found_or_hole n g f ts x h k =
     elim (below_or_past x (length ts)) [
       | inl l ↦
           let m : 0 + x ≡ x = omega arith in
-          name_or_hole n f (shape_at ts x) (subst (IsNameType n) (sym (ap f m) ∙ fills_at f f 0 x (hole x) ts h l) k)
+          name_or_hole n g (shape_at ts x) (subst (IsNameType n) (sym (ap f m) ∙ fills_at g f 0 x (hole x) ts h l) k)
       | inr l ↦ subst (IsNameOrHole n) (sym (past_end ts x (hole x) l)) tt
     ]
   where
     below_or_past : (i j : ℕ) → (i < j) ⊎ (j ≤ i)
     below_or_past i j = grind arith
 
-pub names_or_holes : (n : ℕ) (f : Filling) (ts : List TypeShape) (xs : List ℕ) → FilledBy f f 0 ts → GivesNames n f xs → AreNamesOrHoles n ts xs
-names_or_holes n f ts [] h k = tt
-names_or_holes n f ts (x ∷ xs) h k = (found_or_hole n f ts x h k.0, names_or_holes n f ts xs h k.1)
+pub names_or_holes : (n : ℕ) (g f : Filling) (ts : List TypeShape) (xs : List ℕ) → FilledBy g f 0 ts → GivesNames n f xs → AreNamesOrHoles n ts xs
+names_or_holes n g f ts [] h k = tt
+names_or_holes n g f ts (x ∷ xs) h k = (found_or_hole n g f ts x h k.0, names_or_holes n g f ts xs h k.1)
 
 pub narrows_unsolvable : (es : List ShapeEquation) (xs : List ℕ) (n : ℕ) (ts : List TypeShape) → Narrows es xs n ts → (AreNamesOrHoles n ts xs → ⊥) → IsUnsolvable es xs n
-narrows_unsolvable es xs n ts h refused f s = refused (names_or_holes n f ts xs (h.onward f s) s.1)
+narrows_unsolvable es xs n ts h refused f s = refused (names_or_holes n (h.onward f s).0 f ts xs (h.onward f s).1 s.1)
 
 none_named : (t : TypeShape) → IsNameType 0 t → ⊥
 none_named (names s) h = omega arith

@@ -7,7 +7,7 @@ use Rattle.ap_types.specs.Rounds.{Test, IsLeast, some_passes, reached}
 use Rattle.ap_types.specs.Statements.{AreOf, InhabitedStandsStill, HoldingStandsStill}
 use Rattle.ap_types.specs.Inhabited.{all_inhabited}
 use Rattle.ap_types.specs.Holding.{some_holds}
-use Rattle.ap_types.specs.Steps.{count_below}
+use Rattle.ap_types.specs.Joining.{count_below}
 use Rattle.ap_types.proofs.BooleanLemmas.{and_left, or_cases}
 use Rattle.ap_types.proofs.CountLemmas.{count_most, count_less, IsWithin}
 use Rattle.ap_types.proofs.RoundLemmas.{Within, Grows, some_passes_grows, reached_more, reached_closed}

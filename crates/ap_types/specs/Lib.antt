@@ -6,6 +6,8 @@ pub mod Marks
 pub mod Statements
 pub mod Equations
 pub mod Solving
-pub mod Steps
 pub mod Assignments
+pub mod Triangular
+pub mod Joining
+pub mod Walking
 pub mod Tables

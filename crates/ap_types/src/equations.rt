@@ -1,12 +1,18 @@
 //! Equations of types.
 
-ghost use Rattle.std.specs.Prelude.{◌≡◌, ◌↔◌, ℕ, ◌+◌, ◌≤◌, [], ◌∷◌, length, vec_len, map, max, IsTrue, IfOk, IfErr};
+ghost use Rattle.std.specs.Prelude.{◌≡◌, ◌↔◌, ℕ, ◌+◌, ◌≤◌, [], ◌∷◌, length, map, max, IsTrue, IfOk, IfErr};
 ghost use Rattle.ap_defs.specs.Types.{shape_of};
-ghost use Rattle.ap_types.specs.Equations.{equation_of, bound_of, equations_bound, names_bound, hole_count, Filling, FilledBy, IsSolution, IsInstance, GivesNames};
-ghost use Rattle.ap_types.specs.Assignments.{AreNames, IsUnsolvable, IsNameOrHole, AreNamesOrHoles, name_equation, name_equations, Narrows};
+ghost use Rattle.ap_types.specs.Equations.{equation_of, bound_of, equations_bound, names_bound, hole_count, Filling, IsSolution, IsInstance, GivesNames};
+ghost use Rattle.ap_types.specs.Assignments.{AreNames, IsUnsolvable, name_equation, name_equations, Narrows};
+ghost use Rattle.ap_types.specs.Triangular.{table_of, AreFormed, IsSettled, assignment_of};
+ghost use Rattle.ap_types.specs.Joining.{AreWithin, NeverAgree, LoadsSystem, Settles};
 
 use crate::errors::TypesError;
-use crate::solving::unify_all;
+use crate::joining::{join_all, shorten_all};
+use crate::loading::{Loaded, load_all, open_places};
+use crate::nodes::Node;
+use crate::solved::{Solved, are_names_or_holes, written_out};
+use crate::walking::refuse_cycles;
 use ap_defs::lists::List;
 use ap_defs::memory::Memory;
 use ap_defs::terms::{Assignment, Shape};
@@ -71,18 +77,6 @@ fn bound_in_names(names: &[u64]) -> Result<usize, Memory>
     Ok(bound)
 }
 
-/// A hole's own shape for each of so many.
-fn open_holes(alloc: Global, count: usize) -> Result<Vec<Shape>, Memory>
-    ensures opened { IfOk result (λ v. (f : Filling) → FilledBy f f 0 (map shape_of v.items)) }
-    ensures len { IfOk result (λ v. length v.items ≡ count) }
-{
-    let mut holes = Vec::new(alloc);
-    for x in 0..count {
-        holes.push(Shape::Hole(x as u64))?;
-    }
-    Ok(holes)
-}
-
 /// The equations by which holes are the one name type, where one is declared.
 fn equations_of_names(
     alloc: Global,
@@ -101,48 +95,84 @@ fn equations_of_names(
     Ok(equations)
 }
 
-/// Whether a shape is a declared name type or a hole.
-fn is_name_or_hole(name_types: u32, t: &Shape) -> bool
-    ensures { IsTrue result ↔ IsNameOrHole name_types (shape_of t.now) }
+/// The equations and those by which holes are the one name type, put into a table whose first places
+/// are the holes.
+fn load_system(
+    alloc: Global,
+    equations: &[(Shape, Shape)],
+    names: &[u64],
+    name_types: u32,
+    holes: usize,
+) -> Result<Loaded, Memory>
+    requires { hole_count (map equation_of equations.now) names.now ≤ holes }
+    ensures { IfOk result (λ l. LoadsSystem (map equation_of equations.now) (name_equations name_types names.now) holes (table_of l.nodes.items) l.pairs.items) }
 {
-    match t {
-        Shape::Hole(_) => true,
-        Shape::Names(sort) => *sort < name_types,
-        _ => false,
-    }
+    let by_names = equations_of_names(alloc, names, name_types)?;
+    let nodes = open_places(alloc, holes)?;
+    let pairs = Vec::new(alloc);
+    let loaded = load_all(Loaded { nodes, pairs }, equations)?;
+    load_all(loaded, by_names.as_slice())
 }
 
-/// Whether each of these holes has a declared name type or a hole for its shape.
-fn are_names_or_holes(name_types: u32, holes: &[Shape], names: &[u64]) -> bool
-    ensures { IsTrue result ↔ AreNamesOrHoles name_types (map shape_of holes.now) names.now }
+/// The table in which the pairs of places have become alike.
+fn settled(alloc: Global, loaded: Loaded) -> Result<Vec<Node>, TypesError>
+    requires formed { AreFormed (table_of loaded.nodes.items) }
+    requires within { AreWithin (length loaded.nodes.items) loaded.pairs.items }
+    ensures ok { IfOk result (λ v. Settles (table_of loaded.nodes.items) loaded.pairs.items (table_of v.items)) }
+    ensures clash { IfErr result (λ e. e ≡ TypesError.Clash → NeverAgree (table_of loaded.nodes.items) loaded.pairs.items) }
 {
-    for x in names {
-        let place = *x as usize;
-        if place < holes.len() && !is_name_or_hole(name_types, &holes[place]) {
-            return false;
-        }
-    }
-    true
+    let mut nodes = join_all(loaded)?;
+    shorten_all(&mut nodes);
+    refuse_cycles(alloc, nodes.as_slice())?;
+    Ok(nodes)
 }
 
-/// Shapes of the holes that have every solution of the equations, before it is tested whether the holes
-/// that must be name types can be.
+/// A table that has every solution of the equations, before it is tested whether the holes that must be
+/// name types can be.
 fn narrowed(
     alloc: Global,
     equations: &[(Shape, Shape)],
     names: &[u64],
     name_types: u32,
-) -> Result<Vec<Shape>, TypesError>
-    ensures ok { IfOk result (λ v. Narrows (map equation_of equations.now) names.now name_types (map shape_of v.items)) }
+) -> Result<Solved, TypesError>
+    ensures settled { IfOk result (λ s. IsSettled (table_of s.nodes.items)) }
+    ensures holes { IfOk result (λ s. s.holes ≡ hole_count (map equation_of equations.now) names.now) }
+    ensures narrows { IfOk result (λ s. Narrows (map equation_of equations.now) names.now name_types (assignment_of s)) }
     ensures clash { IfErr result (λ e. e ≡ TypesError.Clash → IsUnsolvable (map equation_of equations.now) names.now name_types) }
 {
     let in_equations = bound_in_equations(equations)?;
     let in_names = bound_in_names(names)?;
-    let opened = open_holes(alloc, greater(in_equations, in_names))?;
-    let by_names = equations_of_names(alloc, names, name_types)?;
-    let solved = unify_all(alloc, opened, equations)?;
-    let named = unify_all(alloc, solved, by_names.as_slice())?;
-    Ok(named)
+    let holes = greater(in_equations, in_names);
+    let loaded = load_system(alloc, equations, names, name_types, holes)?;
+    let nodes = settled(alloc, loaded)?;
+    Ok(Solved { nodes, holes })
+}
+
+/// The most general assignment of types to the holes of equations, as a table.
+///
+/// As `solve`, whose assignment it stands for; it takes room and, but for the following of links, time
+/// as the equations do. `value_of` writes out the shape of a hole.
+pub fn solved(
+    alloc: Global,
+    equations: &[(Shape, Shape)],
+    names: &[u64],
+    name_types: u32,
+) -> Result<Solved, TypesError>
+    ensures settled { IfOk result (λ s. IsSettled (table_of s.nodes.items)) }
+    ensures in_order { IfOk result (λ s. s.holes ≡ hole_count (map equation_of equations.now) names.now) }
+    ensures most_general { IfOk result (λ s. (f : Filling) → IsSolution (map equation_of equations.now) names.now name_types f ↔ (IsInstance (assignment_of s) f × GivesNames name_types f names.now)) }
+    ensures constrained { IfOk result (λ s. AreNames name_types (assignment_of s) names.now) }
+    ensures solvable { IfOk result (λ s. (f : Filling) × IsSolution (map equation_of equations.now) names.now name_types f) }
+    ensures clash { IfErr result (λ e. e ≡ TypesError.Clash → IsUnsolvable (map equation_of equations.now) names.now name_types) }
+{
+    if name_types == 0 && names.len() > 0 {
+        return Err(TypesError::Clash);
+    }
+    let solved = narrowed(alloc, equations, names, name_types)?;
+    if !are_names_or_holes(name_types, &solved, names) {
+        return Err(TypesError::Clash);
+    }
+    Ok(solved)
 }
 
 /// The most general assignment of types to the holes of equations.
@@ -152,7 +182,8 @@ fn narrowed(
 /// hole, in order; a hole that is left in it is undetermined. Where one name type is declared, a hole in
 /// `names` that nothing else fixes is that one. `Clash` comes exactly where no assignment solves the
 /// equations; `Memory` is want of memory. The left part of an abstraction is not forced to be a name
-/// type by itself. This is first-order unification after Robinson.
+/// type by itself. This is first-order unification after Robinson, over a table in which equal parts
+/// stand once, after Huet; the shapes that are given may be exponentially larger than the equations.
 pub fn solve(
     alloc: Global,
     equations: &[(Shape, Shape)],
@@ -167,13 +198,8 @@ pub fn solve(
     ensures solvable { IfOk result (λ a. (f : Filling) × IsSolution (map equation_of equations.now) names.now name_types f) }
     ensures clash { IfErr result (λ e. e ≡ TypesError.Clash → IsUnsolvable (map equation_of equations.now) names.now name_types) }
 {
-    if name_types == 0 && names.len() > 0 {
-        return Err(TypesError::Clash);
-    }
-    let holes = narrowed(alloc, equations, names, name_types)?;
-    if !are_names_or_holes(name_types, holes.as_slice(), names) {
-        return Err(TypesError::Clash);
-    }
+    let solved = solved(alloc, equations, names, name_types)?;
+    let holes = written_out(alloc, &solved)?;
     Ok(Assignment {
         holes: List::of(holes),
     })

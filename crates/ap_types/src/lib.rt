@@ -5,7 +5,11 @@ pub mod answers;
 pub mod equations;
 pub mod errors;
 pub mod holding;
+mod joining;
+mod loading;
+pub mod nodes;
 mod rounds;
-mod solving;
+pub mod solved;
 #[cfg(test)]
 mod tests;
+mod walking;

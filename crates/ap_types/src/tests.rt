@@ -1,7 +1,8 @@
 use crate::answers::{inhabited, may_hold};
-use crate::equations::solve;
+use crate::equations::{solve, solved};
 use crate::errors::TypesError;
 use crate::holding::{holds, types_holding};
+use crate::solved::value_of;
 use ap_defs::goals::{Constructor, Signature};
 use ap_defs::lists::{List, Text};
 use ap_defs::memory::Memory;
@@ -132,6 +133,30 @@ fn holes_that_must_be_name_types(rt: HostRuntime) -> Result<(), Fail> {
     assert!(rt; matches!(either.holes.items(), [Shape::Hole(0), Shape::Hole(1)]));
     let unit = vec![in alloc; (Shape::Hole(1), Shape::Unit)]?;
     assert!(rt; is_clash(solve(alloc, unit.as_slice(), &[1], 2)));
+    Ok(())
+}
+
+// Hole x is a pair of hole x - 1 with itself, for each x from 1 on.
+fn doublings(alloc: Global, count: u64) -> Result<Vec<(Shape, Shape)>, Memory> {
+    let mut equations = Vec::new(alloc);
+    for x in 0..count {
+        if x < u64::MAX {
+            let twice = pair(alloc, Shape::Hole(x), Shape::Hole(x))?;
+            equations.push((Shape::Hole(x + 1), twice))?;
+        }
+    }
+    Ok(equations)
+}
+
+#[test]
+fn shapes_that_double_stand_once(rt: HostRuntime) -> Result<(), Fail> {
+    let alloc = rt.alloc();
+    let mut equations = doublings(alloc, 200)?;
+    let table = solved(alloc, equations.as_slice(), &[], 1)?;
+    assert!(rt; table.holes == 201 && table.nodes.len() == 401);
+    assert!(rt; matches!(value_of(alloc, &table, 0)?, Shape::Hole(0)));
+    equations.push((Shape::Hole(200), Shape::Unit))?;
+    assert!(rt; is_clash(solve(alloc, equations.as_slice(), &[], 1)));
     Ok(())
 }
 

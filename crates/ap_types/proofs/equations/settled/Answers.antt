@@ -1,0 +1,34 @@
+use Rattle.std.proofs.Common.{◌≡◌, ◌∙◌, List, length, subst, sym, arith}
+use Rattle.std.proofs.lemmas.Result.{err_from_is_err_and}
+use Rattle.ap_types.specs.declared.nodes.Node.{Node}
+use Rattle.ap_types.specs.Triangular.{table_of, IsSettled}
+use Rattle.ap_types.specs.Joining.{Rewrites, Settles}
+use Rattle.ap_types.specs.Walking.{NoneFits}
+use Rattle.ap_types.proofs.JoinLemmas.{written_back}
+use Rattle.ap_types.proofs.SettledLemmas.{settles, never_settles}
+use Rattle.ap_types.proofs.equations.settled.Goals as goal
+
+pub returns-in_err-refuse_cycles-clause-clash : goal.returns-in_err-refuse_cycles-clause-clash
+returns-in_err-refuse_cycles-clause-clash c =
+    let p = err_from_is_err_and c.from_residual-in_err-refuse_cycles.result c.from_residual-in_err-refuse_cycles.ensures.1 in
+    let ns = c.in_ok-nodes.nodes.items in
+    let new = c.shorten_all.new.nodes in
+    let kept : length new ≡ length c.deref_mut.result.now = c.shorten_all.auto.nodes in
+    let as_long : length new ≡ c.in_ok-nodes.nodes.len = omega (arith, c.deref_mut.ensures.len) in
+    let value : c.as_slice.result.now ≡ new = c.as_slice.ensures.value ∙ written_back new ns c.in_ok-nodes.nodes.len as_long in
+    let rewrites : Rewrites (table_of ns) (table_of new) = subst (λ (ms : List Node). Rewrites (table_of ms) (table_of new)) c.deref_mut.ensures.value c.shorten_all.ensures in
+    rw (p.1, p.2) (λ i. never_settles (table_of c.args.loaded.nodes.items) (table_of ns) (table_of new) c.args.loaded.pairs.items c.in_ok-nodes.ensures.ok rewrites
+    (subst (λ (ms : List Node). NoneFits (table_of ms)) value (c.in_err-refuse_cycles.ensures.clash i)))
+
+pub returns-clause-ok : goal.returns-clause-ok
+returns-clause-ok c =
+    let ns = c.in_ok-nodes.nodes.items in
+    let new = c.shorten_all.new.nodes in
+    let kept : length new ≡ length c.deref_mut.result.now = c.shorten_all.auto.nodes in
+    let as_long : length new ≡ c.in_ok-nodes.nodes.len = omega (arith, c.deref_mut.ensures.len) in
+    let back = written_back new ns c.in_ok-nodes.nodes.len as_long in
+    let value : c.as_slice.result.now ≡ new = c.as_slice.ensures.value ∙ back in
+    let rewrites : Rewrites (table_of ns) (table_of new) = subst (λ (ms : List Node). Rewrites (table_of ms) (table_of new)) c.deref_mut.ensures.value c.shorten_all.ensures in
+    subst (λ (ms : List Node). Settles (table_of c.args.loaded.nodes.items) c.args.loaded.pairs.items (table_of ms)) (sym back)
+    (settles (table_of c.args.loaded.nodes.items) (table_of ns) (table_of new) c.args.loaded.pairs.items c.in_ok-nodes.ensures.ok rewrites
+    (subst (λ (ms : List Node). IsSettled (table_of ms)) value c.in_ok-refuse_cycles.ensures.ok))

@@ -1,0 +1,117 @@
+//! Solved equations, whose shapes are read off a table.
+
+ghost use Rattle.std.specs.Prelude.{◌≡◌, ℕ, ◌<◌, ◌≤◌, length, map, IsTrue, ◌↔◌, IfOk};
+ghost use Rattle.ap_defs.specs.Types.{shape_of};
+ghost use Rattle.ap_types.specs.Equations.{names_bound};
+ghost use Rattle.ap_types.specs.Solving.{shape_at};
+ghost use Rattle.ap_types.specs.Assignments.{IsNameOrHole, AreNamesOrHoles};
+ghost use Rattle.ap_types.specs.Triangular.{table_of, value_of, IsSettled, assignment_of};
+
+use crate::joining::link_of;
+use crate::nodes::Node;
+use ap_defs::memory::Memory;
+use ap_defs::terms::Shape;
+use std::alloc::Global;
+
+/// The most general assignment of equations that have one, as a table in which equal parts can stand
+/// once: it takes no more room than the equations, where the shapes written out may be exponentially
+/// larger. The first `holes` places are the holes.
+#[derive(Debug, Drop)]
+pub struct Solved {
+    pub nodes: Vec<Node>,
+    pub holes: usize,
+}
+
+/// The shape of a place, written out.
+fn value_in(alloc: Global, nodes: &[Node], x: usize) -> Result<Shape, Memory>
+    requires { IsSettled (table_of nodes.now) }
+    ensures { IfOk result (λ t. shape_of t ≡ value_of (table_of nodes.now) x) }
+{
+    if x >= nodes.len() {
+        return Ok(Shape::Hole(x as u64));
+    }
+    match nodes[x] {
+        Node::Place(y) => {
+            if y == x {
+                Ok(Shape::Hole(x as u64))
+            } else {
+                value_in(alloc, nodes, y)
+            }
+        }
+        Node::Unit => Ok(Shape::Unit),
+        Node::Names(sort) => Ok(Shape::Names(sort)),
+        Node::Base(base) => Ok(Shape::Base(base)),
+        Node::Pair(y, z) => {
+            let left = Box::new(alloc, value_in(alloc, nodes, y)?)?;
+            let right = Box::new(alloc, value_in(alloc, nodes, z)?)?;
+            Ok(Shape::Pair(left, right))
+        }
+        Node::List(y) => {
+            let element = Box::new(alloc, value_in(alloc, nodes, y)?)?;
+            Ok(Shape::List(element))
+        }
+        Node::Abs(y, z) => {
+            let left = Box::new(alloc, value_in(alloc, nodes, y)?)?;
+            let right = Box::new(alloc, value_in(alloc, nodes, z)?)?;
+            Ok(Shape::Abs(left, right))
+        }
+    }
+}
+
+/// The shape of a hole in the assignment that a table stands for, written out. `Err` is want of memory.
+pub fn value_of(alloc: Global, solved: &Solved, hole: usize) -> Result<Shape, Memory>
+    requires { IsSettled (table_of solved.now.nodes.items) }
+    ensures { IfOk result (λ t. shape_of t ≡ shape_at (assignment_of solved.now) hole) }
+{
+    if hole >= solved.holes {
+        return Ok(Shape::Hole(hole as u64));
+    }
+    value_in(alloc, solved.nodes.as_slice(), hole)
+}
+
+/// The assignment that a table stands for, written out. `Err` is want of memory.
+pub fn written_out(alloc: Global, solved: &Solved) -> Result<Vec<Shape>, Memory>
+    requires { IsSettled (table_of solved.now.nodes.items) }
+    ensures { IfOk result (λ v. map shape_of v.items ≡ assignment_of solved.now) }
+{
+    let mut shapes = Vec::new(alloc);
+    for x in 0..solved.holes {
+        shapes.push(value_in(alloc, solved.nodes.as_slice(), x)?)?;
+    }
+    Ok(shapes)
+}
+
+/// Whether a place stands for a declared name type or an open place.
+fn is_name_or_hole(name_types: u32, nodes: &[Node], x: usize) -> bool
+    requires { IsSettled (table_of nodes.now) }
+    ensures { IsTrue result ↔ IsNameOrHole name_types (value_of (table_of nodes.now) x) }
+{
+    if x >= nodes.len() {
+        return true;
+    }
+    let mut at = x;
+    let mut next = link_of(nodes, at);
+    'links: while next != at {
+        at = next;
+        next = link_of(nodes, at);
+    }
+    match nodes[at] {
+        Node::Place(_) => true,
+        Node::Names(sort) => sort < name_types,
+        _ => false,
+    }
+}
+
+/// Whether each of these holes has a declared name type or a hole for its shape.
+pub(crate) fn are_names_or_holes(name_types: u32, solved: &Solved, names: &[u64]) -> bool
+    requires settled { IsSettled (table_of solved.now.nodes.items) }
+    requires bound { names_bound names.now ≤ solved.now.holes }
+    ensures { IsTrue result ↔ AreNamesOrHoles name_types (assignment_of solved.now) names.now }
+{
+    for x in names {
+        if !is_name_or_hole(name_types, solved.nodes.as_slice(), *x as usize) {
+            return false;
+        }
+    }
+    true
+}

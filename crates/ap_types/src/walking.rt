@@ -1,0 +1,176 @@
+//! Whether a place of a table stands within itself.
+
+ghost use Rattle.std.specs.Prelude.{◌≡◌, ℕ, ◌<◌, ◌≤◌, ◌+◌, ◌++◌, ◌∷◌, [], slice_set, length, true, false, MatchOption, IfOk, IfErr};
+ghost use Rattle.ap_types.specs.Triangular.{table_of, AreFormed, IsSettled};
+ghost use Rattle.ap_types.specs.Walking.{IsPart, mark_at, is_left, is_new, IsWalk, Passes, HasLeft, NoneFits};
+
+use crate::errors::TypesError;
+use crate::nodes::Node;
+use ap_defs::memory::Memory;
+use std::alloc::Global;
+
+/// Whether a walk has not come to a place, has entered it, or has left it as one of a number.
+#[derive(Clone, Copy, Debug)]
+pub(crate) enum Mark {
+    New,
+    Entered,
+    Left(usize),
+}
+
+/// The marks of places, how many were left, and the path to the place where the walk is, each place a
+/// part of the one before.
+#[derive(Debug, Drop)]
+struct Walk {
+    marks: Vec<Mark>,
+    left: usize,
+    path: Vec<usize>,
+}
+
+/// Whether a place was left.
+fn is_left(marks: &[Mark], x: usize) -> bool
+    ensures { result ≡ is_left (mark_at marks.now x) }
+{
+    x < marks.len() && matches!(marks[x], Mark::Left(_))
+}
+
+/// Whether a place is new.
+fn is_new(marks: &[Mark], x: usize) -> bool
+    ensures { result ≡ is_new (mark_at marks.now x) }
+{
+    x >= marks.len() || matches!(marks[x], Mark::New)
+}
+
+/// A part of a place that was not left.
+fn waiting_part(nodes: &[Node], marks: &[Mark], x: usize) -> Option<usize>
+    requires { x < length nodes.now }
+    ensures { MatchOption result ((c : ℕ) → IsPart (table_of nodes.now) x c → is_left (mark_at marks.now c) ≡ true) (λ c. IsPart (table_of nodes.now) x c × (is_left (mark_at marks.now c) ≡ false)) }
+{
+    match nodes[x] {
+        Node::Place(y) => {
+            if y == x || is_left(marks, y) {
+                None
+            } else {
+                Some(y)
+            }
+        }
+        Node::Unit | Node::Names(_) | Node::Base(_) => None,
+        Node::List(y) => { if is_left(marks, y) { None } else { Some(y) } }
+        Node::Pair(y, z) | Node::Abs(y, z) => {
+            if !is_left(marks, y) {
+                Some(y)
+            } else if !is_left(marks, z) {
+                Some(z)
+            } else {
+                None
+            }
+        }
+    }
+}
+
+/// The walk after it entered a place.
+fn enter(walk: Walk, x: usize) -> Result<Walk, Memory>
+    requires { x < length walk.marks.items }
+    ensures marks { IfOk result (λ w. w.marks.items ≡ slice_set walk.marks.items x Mark.Entered) }
+    ensures left { IfOk result (λ w. w.left ≡ walk.left) }
+    ensures path { IfOk result (λ w. w.path.items ≡ walk.path.items ++ x ∷ []) }
+{
+    let Walk {
+        mut marks,
+        left,
+        mut path,
+    } = walk;
+    marks[x] = Mark::Entered;
+    path.push(x)?;
+    Ok(Walk { marks, left, path })
+}
+
+/// The walk after it left a place.
+fn leave(walk: Walk, x: usize) -> Walk
+    requires within { x < length walk.marks.items }
+    requires room { walk.left < length walk.marks.items }
+    ensures marks { result.marks.items ≡ slice_set walk.marks.items x (Mark.Left walk.left) }
+    ensures left { result.left ≡ walk.left + 1 }
+    ensures path { result.path.items ≡ walk.path.items }
+{
+    let Walk {
+        mut marks,
+        left,
+        path,
+    } = walk;
+    marks[x] = Mark::Left(left);
+    Walk {
+        marks,
+        left: left + 1,
+        path,
+    }
+}
+
+/// Goes back from the last place of a path where its parts were left, or else on to one of them; that
+/// one stands on the path already where it was entered.
+fn pass(nodes: &[Node], walk: Walk, last: usize) -> Result<Walk, TypesError>
+    requires formed { AreFormed (table_of nodes.now) }
+    requires walk { IsWalk (table_of nodes.now) walk.marks.items walk.left (walk.path.items ++ last ∷ []) }
+    ensures ok { IfOk result (λ w. Passes (table_of nodes.now) walk.marks.items (walk.path.items ++ last ∷ []) w.marks.items w.left w.path.items) }
+    ensures clash { IfErr result (λ e. e ≡ TypesError.Clash → NoneFits (table_of nodes.now)) }
+{
+    let marks = walk.marks.as_slice();
+    if is_left(marks, last) {
+        return Ok(walk);
+    }
+    match waiting_part(nodes, marks, last) {
+        None => Ok(leave(walk, last)),
+        Some(c) => {
+            if !is_new(marks, c) {
+                return Err(TypesError::Clash);
+            }
+            let Walk {
+                marks,
+                left,
+                mut path,
+            } = walk;
+            path.push(last)?;
+            let walk = enter(Walk { marks, left, path }, c)?;
+            Ok(walk)
+        }
+    }
+}
+
+/// The walk after it left a place and all that stands within it.
+fn explore(nodes: &[Node], walk: Walk, start: usize) -> Result<Walk, TypesError>
+    requires formed { AreFormed (table_of nodes.now) }
+    requires within { start < length nodes.now }
+    requires walk { IsWalk (table_of nodes.now) walk.marks.items walk.left [] }
+    requires path { walk.path.items ≡ [] }
+    ensures left { IfOk result (λ w. HasLeft (table_of nodes.now) walk.marks.items start w.marks.items w.left) }
+    ensures path { IfOk result (λ w. w.path.items ≡ []) }
+    ensures clash { IfErr result (λ e. e ≡ TypesError.Clash → NoneFits (table_of nodes.now)) }
+{
+    let Walk {
+        marks,
+        left,
+        mut path,
+    } = walk;
+    path.push(start)?;
+    let mut now = Walk { marks, left, path };
+    'steps: while let Some(last) = now.path.pop() {
+        now = pass(nodes, now, last)?;
+    }
+    Ok(now)
+}
+
+/// Walks over all places, and refuses a table in which one stands within itself.
+pub(crate) fn refuse_cycles(alloc: Global, nodes: &[Node]) -> Result<(), TypesError>
+    requires { AreFormed (table_of nodes.now) }
+    ensures ok { IfOk result (λ u. IsSettled (table_of nodes.now)) }
+    ensures clash { IfErr result (λ e. e ≡ TypesError.Clash → NoneFits (table_of nodes.now)) }
+{
+    let mut walk = Walk {
+        marks: vec![in alloc; Mark::New; nodes.len()]?,
+        left: 0,
+        path: Vec::new(alloc),
+    };
+    for x in 0..nodes.len() {
+        walk = explore(nodes, walk, x)?;
+    }
+    Ok(())
+}
