@@ -1,5 +1,5 @@
 //! For measurements, which the scripts of `bench/` time: `lex` splits standard input into tokens and
-//! prints how many there are; `book` fills a book with a tree of two choices at each of 16 levels,
+//! prints how many there are; `parse` reads its items, and prints how many there are; `book` fills a book with a tree of two choices at each of 16 levels,
 //! merges it, and prints how many outputs it has; `lock` takes a million turns of a shared book; `tasks`
 //! makes a thousand deques; `types` solves 20 equations whose answers double at
 //! each step, and prints how many shapes they are.
@@ -7,6 +7,7 @@
 
 mod book;
 mod deques;
+mod items;
 mod tokens;
 mod turns;
 mod types;
@@ -22,15 +23,19 @@ fn first_word(rt: &(impl Env + AllocGlobal)) -> io::Result<Option<String>> {
 
 fn main(rt: HostRuntime) -> io::Result<()> {
     let alloc = rt.alloc();
-    let line = match first_word(&rt)? {
+    let word = first_word(&rt)?;
+    let line = match &word {
         Some(word) if word.as_str() == "book" => book::report(alloc)?,
         Some(word) if word.as_str() == "lock" => turns::report(&rt, alloc)?,
         Some(word) if word.as_str() == "tasks" => deques::report(alloc)?,
         Some(word) if word.as_str() == "types" => types::report(alloc)?,
-        _ => {
+        word => {
             let mut text = Vec::new(alloc);
             rt.reader().read_to_end(&mut text)?;
-            tokens::report(alloc, &text)?
+            match word {
+                Some(word) if word.as_str() == "parse" => items::report(alloc, &text)?,
+                _ => tokens::report(alloc, &text)?,
+            }
         }
     };
     println!(rt; "{line}")

@@ -1,4 +1,6 @@
 // Trees of items, goals, types and terms, whose words borrow the text.
+//
+// A tree is as deep to the right as its text is long, so each is dropped in a loop.
 
 use ap_defs::lists::List;
 
@@ -11,7 +13,7 @@ pub enum Binder<'a> {
 
 /// The arguments of an application, of which there is one at least.
 #[cycle(tree)]
-#[derive(Debug, Drop)]
+#[derive(Debug)]
 pub enum Args<'a> {
     Last(Tree<'a>),
     More(Tree<'a>, Box<Args<'a>>),
@@ -19,7 +21,7 @@ pub enum Args<'a> {
 
 /// A term as it is written. A word alone is a name or a constructor.
 #[cycle(tree)]
-#[derive(Debug, Drop)]
+#[derive(Debug)]
 pub enum Tree<'a> {
     Unit,
     Var(&'a str),
@@ -32,8 +34,36 @@ pub enum Tree<'a> {
     Swapped(Binder<'a>, Binder<'a>, Box<Tree<'a>>),
 }
 
+impl Drop for Args<'_> {
+    #[cycle(drops)]
+    fn drop(mut self) {
+        loop {
+            match self {
+                Args::Last(_last) => return,
+                Args::More(_first, rest) => self = Box::into_inner(rest),
+            }
+        }
+    }
+}
+
+impl Drop for Tree<'_> {
+    #[cycle(drops)]
+    fn drop(mut self) {
+        loop {
+            match self {
+                Tree::Unit | Tree::Var(_) | Tree::Word(_) | Tree::Nil => return,
+                Tree::Apply(_word, _args) => return,
+                Tree::Pair(_left, right) => self = Box::into_inner(right),
+                Tree::Cell(_head, tail) => self = Box::into_inner(tail),
+                Tree::Abs(_name, body) => self = Box::into_inner(body),
+                Tree::Swapped(_left, _right, body) => self = Box::into_inner(body),
+            }
+        }
+    }
+}
+
 /// A type as it is written. A word is a name type or a data type.
-#[derive(Debug, Drop)]
+#[derive(Debug)]
 pub enum TypeTree<'a> {
     Unit,
     Word(&'a str),
@@ -42,8 +72,21 @@ pub enum TypeTree<'a> {
     Abs(&'a str, Box<TypeTree<'a>>),
 }
 
+impl Drop for TypeTree<'_> {
+    fn drop(mut self) {
+        loop {
+            match self {
+                TypeTree::Unit | TypeTree::Word(_) => return,
+                TypeTree::Pair(_left, right) => self = Box::into_inner(right),
+                TypeTree::List(element) => self = Box::into_inner(element),
+                TypeTree::Abs(_word, body) => self = Box::into_inner(body),
+            }
+        }
+    }
+}
+
 /// A goal as it is written.
-#[derive(Debug, Drop)]
+#[derive(Debug)]
 pub enum GoalTree<'a> {
     Atom(&'a str, List<Tree<'a>>),
     Equal(Tree<'a>, Tree<'a>),
@@ -52,6 +95,22 @@ pub enum GoalTree<'a> {
     Either(Box<GoalTree<'a>>, Box<GoalTree<'a>>),
     Exists(&'a str, Box<GoalTree<'a>>),
     New(&'a str, Box<GoalTree<'a>>),
+}
+
+impl Drop for GoalTree<'_> {
+    fn drop(mut self) {
+        loop {
+            match self {
+                GoalTree::Atom(_word, _args) => return,
+                GoalTree::Equal(_left, _right) => return,
+                GoalTree::Fresh(_left, _right) => return,
+                GoalTree::Both(_left, right) => self = Box::into_inner(right),
+                GoalTree::Either(_left, right) => self = Box::into_inner(right),
+                GoalTree::Exists(_word, inner) => self = Box::into_inner(inner),
+                GoalTree::New(_word, inner) => self = Box::into_inner(inner),
+            }
+        }
+    }
 }
 
 /// What an item says.

@@ -1,5 +1,5 @@
 -- The bytes that are written are lexed into the tokens that are written.
-use Rattle.std.proofs.Common.{◌≡◌, ℕ, suc, ◌+◌, ◌<◌, ◌≤◌, Bool, List, [], ◌∷◌, ◌++◌, map, length, take, drop, Some, None, refl, sym, ap, ap₂, ◌∙◌, subst, arith, append_assoc, length-append}
+use Rattle.std.proofs.Common.{◌≡◌, ℕ, suc, ◌+◌, ◌<◌, ◌≤◌, Bool, List, [], ◌∷◌, ◌++◌, map, length, take, drop, Some, None, Ok, refl, sym, ap, ap₂, ◌∙◌, subst, arith, append_assoc, length-append}
 use Rattle.std.specs.Prelude.{if◌then◌else◌, encode_utf8, encode_utf8_all}
 use Rattle.std.specs.Str.{IsUtf8}
 use Rattle.std.proofs.lemmas.Str.{IsUtf8-append, IsUtf8-nil, IsUtf8-from_ascii, len_utf8_bounds, length-encode}
@@ -11,8 +11,8 @@ use Rattle.ap_lexer.specs.declared.token.TokenKind.{TokenKind}
 use Rattle.ap_lexer.specs.declared.token.TokenKind.TheVariants.{Var, Ident, Reserved, Sign}
 use Rattle.ap_lexer.specs.Spelling.{is_reserved, IsWord}
 use Rattle.ap_lexer.specs.Pieces.{piece_at}
-use Rattle.ap_lexer.specs.Tokens.{Scan, scan_from, scan_piece, lexeme_at, lexemes_of}
-use Rattle.ap_lexer.proofs.Seams.{EndsWord, ends_word-nil, ends_word-ascii, piece_at-variable, piece_at-word, piece_at-short, piece_at-space}
+use Rattle.ap_lexer.specs.Tokens.{Scan, Lexeme, scan_from, scan_piece, lexeme_at, lexemes_of, lexed}
+use Rattle.ap_lexer.proofs.Seams.{EndsWord, ends_word-nil, ends_word-ascii, piece_at-variable, piece_at-word, piece_at-space}
 use Rattle.ap_lexer.proofs.Scans.{scan_step, scan_stop, lexed-whole}
 use Rattle.ap_lexer.proofs.First.{none_at}
 use Rattle.ap_trees.specs.Symbols.{Sym, spelled, syms_of}
@@ -43,17 +43,14 @@ ends [] h a = ends_word-nil IsUtf8-nil
 ends (space ∷ ws) h a = ends_word-ascii (bytes_of ws) 32 (bytes_text (space ∷ ws) h) (omega arith) refl
 ends (token Sign text ∷ ws) h a =
     subst (λ bs. EndsWord (bs ++ bytes_of ws)) (sym h.0.is)
-    (ends_word-ascii (bytes_of ws) h.0.byte (subst (λ bs. IsUtf8 (bs ++ bytes_of ws)) h.0.is (bytes_text (token Sign text ∷ ws) h)) h.0.low h.0.stops)
+    (ends_word-ascii (h.0.more ++ bytes_of ws) h.0.byte (subst (λ bs. IsUtf8 (bs ++ bytes_of ws)) h.0.is (bytes_text (token Sign text ∷ ws) h)) h.0.low h.0.stops)
 ends (token Var text ∷ ws) h a = absurd a
 ends (token Ident text ∷ ws) h a = absurd a
 ends (token Reserved text ∷ ws) h a = absurd a
 
 -- the token that is written begins the text
-piece_there : (kind : TokenKind) (text : List ℕ) (ws : List Written) → Writes (token kind text ∷ ws) → piece_at (text ++ bytes_of ws) ≡ Some (record { kind = Some kind; len = length text })
-piece_there Sign text ws h =
-    let at : piece_at (h.0.byte ∷ bytes_of ws) ≡ Some (record { kind = Some Sign; len = 1 }) =
-    piece_at-short h.0.byte (bytes_of ws) (subst (λ bs. IsUtf8 (bs ++ bytes_of ws)) h.0.is (bytes_text (token Sign text ∷ ws) h)) (bytes_text ws h.2) h.0.short (h.0.alone (bytes_of ws)) in
-    subst (λ bs. piece_at (bs ++ bytes_of ws) ≡ Some (record { kind = Some Sign; len = length bs })) (sym h.0.is) at
+pub piece_there : (kind : TokenKind) (text : List ℕ) (ws : List Written) → Writes (token kind text ∷ ws) → piece_at (text ++ bytes_of ws) ≡ Some (record { kind = Some kind; len = length text })
+piece_there Sign text ws h = h.0.taken (bytes_of ws) (bytes_text ws h.2)
 piece_there Var text ws h =
     let word = h.0.0 in
     subst (λ bs. piece_at (bs ++ bytes_of ws) ≡ Some (record { kind = Some Var; len = length bs })) word.2
@@ -74,27 +71,51 @@ piece_there Reserved text ws h =
 word_long : {starts : ℕ → Bool} (text : List ℕ) → IsWord starts text → 0 < length text
 word_long text w = subst (λ bs. 0 < length bs) w.2 (rw (length-append (encode_utf8 w.0) (encode_utf8_all w.1)) (rw (length-encode w.0) (omega (arith, (len_utf8_bounds w.0).0))))
 
-token_long : (kind : TokenKind) (text : List ℕ) → IsWritten kind text → 0 < length text
+pub token_long : (kind : TokenKind) (text : List ℕ) → IsWritten kind text → 0 < length text
 token_long Sign text h = subst (λ bs. 0 < length bs) (sym h.is) (omega arith)
 token_long Var text h = word_long text h.0
 token_long Ident text h = word_long text h.0.0
 token_long Reserved text h = word_long text h.0.0
 
+-- the kind and the text of a token
+abbrev pub Spelling : Type 0
+Spelling = TokenKind × List ℕ
+
+abbrev pub spelling : Lexeme → Spelling
+spelling t = (t.kind, t.text)
+
+abbrev pub spellings : List Written → List Spelling
+spellings [] = []
+spellings (space ∷ ws) = spellings ws
+spellings (token kind text ∷ ws) = (kind, text) ∷ spellings ws
+
+abbrev pub symbol_of : Spelling → Sym
+symbol_of s = spelled s.0 s.1
+
+pub symbols-spellings : (ws : List Written) → map symbol_of (spellings ws) ≡ symbols_of ws
+symbols-spellings [] = refl
+symbols-spellings (space ∷ ws) = symbols-spellings ws
+symbols-spellings (token kind text ∷ ws) = ap (λ us. spelled kind text ∷ us) (symbols-spellings ws)
+
+pub syms-spelling : (ts : List Lexeme) → syms_of ts ≡ map symbol_of (map spelling ts)
+syms-spelling [] = refl
+syms-spelling (t ∷ ts) = ap (λ us. spelled t.kind t.text ∷ us) (syms-spelling ts)
+
 -- The scan from a place where this is written comes to the end, and its tokens are those that are written.
 record Scans (bs : List ℕ) (at : ℕ) (ws : List Written) : Type 0 where
   stop : (scan_from at 0 (bytes_of ws)).stop ≡ at + length (bytes_of ws)
-  tokens : syms_of (map (lexeme_at bs) (scan_from at 0 (bytes_of ws)).spans) ≡ symbols_of ws
+  tokens : map spelling (map (lexeme_at bs) (scan_from at 0 (bytes_of ws)).spans) ≡ spellings ws
 
 scans : (bs pre : List ℕ) (at : ℕ) (ws : List Written) → Writes ws → bs ≡ pre ++ bytes_of ws → length pre ≡ at → Scans bs at ws
 scans bs pre at [] h e l =
     let end = scan_stop at [] (none_at [] refl) in
-    record { stop = ap (λ (s : Scan). s.stop) end ∙ (let none : at ≡ at + 0 = omega arith in none); tokens = ap (λ (s : Scan). syms_of (map (lexeme_at bs) s.spans)) end }
+    record { stop = ap (λ (s : Scan). s.stop) end ∙ (let none : at ≡ at + 0 = omega arith in none); tokens = ap (λ (s : Scan). map spelling (map (lexeme_at bs) s.spans)) end }
 scans bs pre at (space ∷ ws) h e l =
     let rest = scans bs (pre ++ 32 ∷ []) (at + 1) ws h (e ∙ sym (append_assoc pre (32 ∷ []) (bytes_of ws))) (length-append pre (32 ∷ []) ∙ (let more : length pre + 1 ≡ at + 1 = omega arith in more)) in
     let step = scan_step at (32 ∷ bytes_of ws) (record { kind = None; len = 1 }) (piece_at-space (bytes_of ws) (bytes_text (space ∷ ws) h) (bytes_text ws h)) (omega arith) (omega arith) in
     record {
       stop = ap (λ (s : Scan). s.stop) step ∙ rest.stop ∙ (let sum : at + 1 + length (bytes_of ws) ≡ at + suc (length (bytes_of ws)) = omega arith in sum);
-      tokens = ap (λ (s : Scan). syms_of (map (lexeme_at bs) s.spans)) step ∙ rest.tokens;
+      tokens = ap (λ (s : Scan). map spelling (map (lexeme_at bs) s.spans)) step ∙ rest.tokens;
     }
 scans bs pre at (token kind text ∷ ws) h e l =
     let long = token_long kind text h.0 in
@@ -106,15 +127,23 @@ scans bs pre at (token kind text ∷ ws) h e l =
     let here : take (length text) (drop at bs) ≡ text = ap (λ (r : List ℕ). take (length text) r) (ap (drop at) e ∙ drop_at pre (text ++ bytes_of ws) at l) ∙ take-append_seam text (bytes_of ws) in
     record {
       stop = ap (λ (s : Scan). s.stop) next ∙ rest.stop ∙ (rw (length-append text (bytes_of ws)) (let sum : at + length text + length (bytes_of ws) ≡ at + (length text + length (bytes_of ws)) = omega arith in sum));
-      tokens = ap (λ (s : Scan). syms_of (map (lexeme_at bs) s.spans)) next ∙ ap₂ (λ (t : List ℕ) (us : List Sym). spelled kind t ∷ us) here rest.tokens;
+      tokens = ap (λ (s : Scan). map spelling (map (lexeme_at bs) s.spans)) next ∙ ap₂ (λ (t : List ℕ) (us : List Spelling). (kind, t) ∷ us) here rest.tokens;
     }
 
--- what is written is read as its tokens
-pub written_is_lexed : (ws : List Written) → Writes ws → Reads (bytes_of ws) (symbols_of ws)
-written_is_lexed ws h =
+-- what is written is lexed into its tokens
+pub record Lexes (ws : List Written) : Type 0 where
+  pub all : lexed (bytes_of ws) ≡ Ok (lexemes_of (bytes_of ws))
+  pub tokens : map spelling (lexemes_of (bytes_of ws)) ≡ spellings ws
+
+pub lexes : (ws : List Written) → Writes ws → Lexes ws
+lexes ws h =
     let scan = scans (bytes_of ws) [] 0 ws h refl refl in
     record {
-      tokens = lexemes_of (bytes_of ws);
       all = lexed-whole (bytes_of ws) (bytes_text ws h) (scan.stop ∙ (let none : 0 + length (bytes_of ws) ≡ length (bytes_of ws) = omega arith in none));
-      same = scan.tokens;
+      tokens = scan.tokens;
     }
+
+pub written_is_lexed : (ws : List Written) → Writes ws → Reads (bytes_of ws) (symbols_of ws)
+written_is_lexed ws h =
+    let found = lexes ws h in
+    record { tokens = lexemes_of (bytes_of ws); all = found.all; same = syms-spelling (lexemes_of (bytes_of ws)) ∙ ap (map symbol_of) found.tokens ∙ symbols-spellings ws }

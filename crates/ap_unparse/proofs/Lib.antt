@@ -10,3 +10,7 @@ pub mod WordedLemmas
 pub mod MatchedBrackets
 pub mod GoalReadings
 pub mod WordedGoals
+pub mod NoDots
+pub mod KeptLevels
+pub mod WholeItems
+pub mod ReadAgain

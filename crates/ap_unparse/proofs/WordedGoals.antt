@@ -32,10 +32,10 @@ equal_mark : IsMark (codes "=")
 unfolding unicode_ident
 equal_mark = mark 61 refl (λ rest. refl) (omega arith) refl
 
-goes : (c : ℕ) (cs : List ℕ) → is_xid_continue c ≡ true → AllPass is_xid_continue cs → AllPass is_xid_continue (c ∷ cs)
+pub goes : (c : ℕ) (cs : List ℕ) → is_xid_continue c ≡ true → AllPass is_xid_continue cs → AllPass is_xid_continue (c ∷ cs)
 goes c cs e h = All-cons (λ x. is_xid_continue x ≡ true) c cs e h
 
-none_goes : AllPass is_xid_continue []
+pub none_goes : AllPass is_xid_continue []
 none_goes = λ k d l. absurd (omega arith)
 
 new_text : codes "new" ≡ encode_utf8_all (110 ∷ codes "ew")

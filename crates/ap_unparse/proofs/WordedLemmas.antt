@@ -8,6 +8,7 @@ use Rattle.unicode_ident.specs.Ident.{is_xid_continue}
 use Rattle.unicode_ident.proofs.Computing.{unicode_ident}
 use Rattle.ap_lexer.specs.Spelling.{is_long_mark, is_short_mark, IsToken}
 use Rattle.ap_lexer.specs.declared.token.TokenKind.TheVariants.{Reserved}
+use Rattle.ap_lexer.proofs.Seams.{piece_at-short, piece_at-long}
 use Rattle.ap_trees.specs.Types as types
 use Rattle.ap_trees.specs.Types.{Ty}
 use Rattle.ap_trees.specs.Terms as terms
@@ -22,7 +23,15 @@ use Rattle.ap_unparse.specs.Worded.{IsWordedType, IsWordedName, IsWordedTerm, Ar
 use Rattle.ap_unparse.proofs.Lexing.{ascii_text, written_is_lexed}
 
 pub mark : (m : ℕ) → is_short_mark (m ∷ []) ≡ true → ((rest : List ℕ) → is_long_mark (m ∷ take 1 rest) ≡ false) → m < 128 → is_xid_continue m ≡ false → IsMark (m ∷ [])
-mark m short alone low stops = record { byte = m; is = refl; short = short; alone = alone; low = low; stops = stops; utf8 = ascii_text m low }
+mark m short alone low stops = record {
+  byte = m;
+  more = [];
+  is = refl;
+  taken = λ rest after. piece_at-short m rest (IsUtf8-append (m ∷ []) rest (ascii_text m low) after) after short (alone rest);
+  low = low;
+  stops = stops;
+  utf8 = ascii_text m low;
+}
 
 pub comma_mark : IsMark (codes ",")
 unfolding unicode_ident
@@ -51,6 +60,28 @@ bar_mark = mark 124 refl (λ rest. refl) (omega arith) refl
 pub lambda_mark : IsMark (codes "\\")
 unfolding unicode_ident
 lambda_mark = mark 92 refl (λ rest. refl) (omega arith) refl
+
+pub dot_mark : IsMark (codes ".")
+unfolding unicode_ident
+dot_mark = mark 46 refl (λ rest. refl) (omega arith) refl
+
+-- a mark of two bytes
+long_mark : (m n : ℕ) → is_long_mark (m ∷ n ∷ []) ≡ true → m < 128 → n < 128 → is_xid_continue m ≡ false → IsMark (m ∷ n ∷ [])
+long_mark m n long first second stops = record {
+  byte = m;
+  more = n ∷ [];
+  is = refl;
+  taken = λ rest after.
+      let behind = IsUtf8-append (n ∷ []) rest (ascii_text n second) after in
+      piece_at-long m n rest (IsUtf8-append (m ∷ []) (n ∷ rest) (ascii_text m first) behind) behind long;
+  low = first;
+  stops = stops;
+  utf8 = IsUtf8-append (m ∷ []) (n ∷ []) (ascii_text m first) (ascii_text n second);
+}
+
+pub ask_mark : IsMark (codes "?-")
+unfolding unicode_ident
+ask_mark = long_mark 63 45 refl (omega arith) (omega arith) refl
 
 -- Whatever may be written behind it, apart from words, may be written behind it.
 abbrev pub Joins : List Written → Type 0

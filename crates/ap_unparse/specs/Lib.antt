@@ -4,3 +4,4 @@ pub mod WrittenTerms
 pub mod WrittenGoals
 pub mod Writable
 pub mod Worded
+pub mod Again

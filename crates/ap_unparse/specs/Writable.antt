@@ -1,20 +1,21 @@
 -- What may be written, and what is read again.
-use Rattle.std.specs.Prelude.{◌≡◌, ℕ, ◌<◌, true, false, List, [], ◌∷◌, take, Ok}
+use Rattle.std.specs.Prelude.{◌≡◌, ℕ, ◌<◌, false, List, [], ◌∷◌, ◌++◌, length, Some, Ok}
 use Rattle.std.specs.Str.{IsUtf8}
 use Rattle.unicode_ident.specs.Ident.{is_xid_continue}
 use Rattle.ap_lexer.specs.declared.token.TokenKind.{TokenKind}
 use Rattle.ap_lexer.specs.declared.token.TokenKind.TheVariants.{Var, Ident, Reserved, Sign}
-use Rattle.ap_lexer.specs.Spelling.{is_long_mark, is_short_mark, IsToken}
+use Rattle.ap_lexer.specs.Spelling.{IsToken}
+use Rattle.ap_lexer.specs.Pieces.{piece_at}
 use Rattle.ap_lexer.specs.Tokens.{Lexeme, lexed}
 use Rattle.ap_trees.specs.Symbols.{Sym, syms_of}
 use Rattle.ap_unparse.specs.Written.{Written, token, space}
 
--- A mark of one byte that begins no longer mark and goes on with no word.
+-- A mark that begins whatever text it is written before, whole, and goes on with no word.
 pub record IsMark (text : List ℕ) : Type 0 where
   pub byte : ℕ
-  pub is : text ≡ byte ∷ []
-  pub short : is_short_mark (byte ∷ []) ≡ true
-  pub alone : (rest : List ℕ) → is_long_mark (byte ∷ take 1 rest) ≡ false
+  pub more : List ℕ
+  pub is : text ≡ byte ∷ more
+  pub taken : (rest : List ℕ) → IsUtf8 rest → piece_at (text ++ rest) ≡ Some (record { kind = Some Sign; len = length text })
   pub low : byte < 128
   pub stops : is_xid_continue byte ≡ false
   pub utf8 : IsUtf8 text

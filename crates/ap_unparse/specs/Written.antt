@@ -63,3 +63,12 @@ new = token Reserved (codes "new")
 
 abbrev pub exists : Written
 exists = token Reserved (codes "exists")
+
+abbrev pub pred : Written
+pred = token Reserved (codes "pred")
+
+abbrev pub dot : Written
+dot = token Sign (codes ".")
+
+abbrev pub ask : Written
+ask = token Sign (codes "?-")
