@@ -1,21 +1,25 @@
 //! What is shown of an answer, and the report on a query.
 
-ghost use Rattle.std.specs.Prelude.{◌≡◌, ◌≤◌, length, IfOk};
+ghost use Rattle.std.specs.Prelude.{◌≡◌, ◌≤◌, ℕ, List as list, length, IfOk};
 ghost use Rattle.ap_defs.specs.Types.{locals_of};
 ghost use Rattle.ap_defs.specs.Goals.{program_of};
 ghost use Rattle.ap_defs.specs.Answers.{answer_of, outs_of};
 ghost use Rattle.ap_defs.specs.Lines.{shown_in, query_lines};
+ghost use Rattle.ap_defs.specs.Printing.{has_word};
 ghost use Rattle.ap_answers.specs.Queries.{query_locals, nominal_shown};
+ghost use Rattle.ap_answers.specs.Words.{knows};
 
 use crate::copying::shown_of;
 use crate::report::report;
 use crate::shown::display_of;
+use crate::words::word_set;
 use ap_defs::goals::Local;
 use ap_defs::memory::Memory;
 use ap_defs::outcomes::{Answer, Shown};
 use ap_defs::paths::Out;
 use ap_program::restricted::Restricted;
 use std::alloc::Global;
+use std::collections::HashSet;
 
 /// The identifiers of the query of this number, from 1.
 fn locals_in(program: &Restricted, query: u32) -> &[Local]
@@ -46,6 +50,31 @@ pub fn canonical(
     Ok(shown)
 }
 
+/// The set of the words of a program's text, which are left out where words are generated.
+pub fn words_in(alloc: Global, program: &Restricted) -> Result<HashSet<&str>, Memory>
+    ensures { IfOk result (λ set. (w : list ℕ) → knows set w ≡ has_word w program.now.words) }
+{
+    word_set(alloc, program.program().words.items())
+}
+
+/// The same as [`lines`], where the set of the words of the text is known. It is worth while for the queries
+/// of one program.
+pub fn lines_among(
+    alloc: Global,
+    program: &Restricted,
+    taken: &HashSet<&str>,
+    query: u32,
+    outs: &[Out],
+) -> Result<Vec<u8>, Memory>
+    requires words { (w : list ℕ) → knows taken.now w ≡ has_word w program.now.words }
+    requires from_one { 1 ≤ query }
+    requires exists { query ≤ length (program_of program.now).queries }
+    ensures { IfOk result (λ bytes. bytes.items ≡ query_lines (program_of program.now) query (query_locals (program_of program.now) query) (outs_of outs.now)) }
+{
+    let locals = locals_in(program, query);
+    report(alloc, program.program(), taken, query, locals, outs)
+}
+
 /// The report on the query of this number, from 1: a line for each answer, one for each longest run of
 /// cuts and of stuck branches, and the totals. Terms are written as nominal terms are read.
 pub fn lines(
@@ -58,6 +87,6 @@ pub fn lines(
     requires exists { query ≤ length (program_of program.now).queries }
     ensures { IfOk result (λ bytes. bytes.items ≡ query_lines (program_of program.now) query (query_locals (program_of program.now) query) (outs_of outs.now)) }
 {
-    let locals = locals_in(program, query);
-    report(alloc, program.program(), query, locals, outs)
+    let taken = words_in(alloc, program)?;
+    lines_among(alloc, program, &taken, query, outs)
 }

@@ -10,7 +10,6 @@ ghost use Rattle.ap_answers.specs.Words.{knows};
 ghost use Rattle.ap_answers.specs.Runs.{run_length, IsLineFor};
 
 use crate::answers::write_answer;
-use crate::words::word_set;
 use ap_defs::goals::{Local, Program};
 use ap_defs::memory::Memory;
 use ap_defs::paths::Out;
@@ -188,19 +187,20 @@ fn write_lines(
     Ok(())
 }
 
-/// The report on a query with this number and these identifiers.
+/// The report on a query with this number and these identifiers, where the words of the text are known.
 pub fn report(
     alloc: Global,
     program: &Program<Term>,
+    taken: &HashSet<&str>,
     query: u32,
     locals: &[Local],
     outs: &[Out],
 ) -> Result<Vec<u8>, Memory>
+    requires { (w : list ℕ) → knows taken.now w ≡ has_word w program.now.words }
     ensures { IfOk result (λ bytes. bytes.items ≡ query_lines (program_of program.now) query (locals_of locals.now) (outs_of outs.now)) }
 {
-    let taken = word_set(alloc, program.words.items())?;
     let mut out = Vec::new(alloc);
-    write_lines(alloc, &mut out, program, &taken, locals, outs)?;
+    write_lines(alloc, &mut out, program, taken, locals, outs)?;
     write_totals(alloc, &mut out, query, outs)?;
     Ok(out)
 }
