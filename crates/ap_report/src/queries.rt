@@ -4,8 +4,9 @@ ghost use Rattle.ap_defs.specs.Goals.{program_of};
 ghost use Rattle.ap_defs.specs.Lines.{program_report};
 ghost use Rattle.ap_report.specs.Queries.{query_report};
 
+use crate::solver::Solver;
 use ap_answers::printing::lines;
-use ap_backchain::problem::{Problem, outputs};
+use ap_backchain::problem::Problem;
 use ap_defs::memory::Memory;
 use ap_program::restricted::Restricted;
 use std::alloc::Global;
@@ -18,8 +19,9 @@ fn query_count(program: &Restricted) -> u32
 }
 
 /// The report on the query of a number, from 1.
-fn report_query(
+fn report_query<S: Solver>(
     alloc: Global,
+    solver: &S,
     program: &Restricted,
     query: u32,
     depth: u32,
@@ -33,13 +35,14 @@ fn report_query(
         query,
         depth,
     };
-    let outs = outputs(alloc, &problem)?;
+    let outs = solver.solve(alloc, &problem)?;
     lines(alloc, program, query, &outs)
 }
 
 /// The report on each query of the program, to a depth, one after the other.
-pub(crate) fn report_program(
+pub(crate) fn report_program<S: Solver>(
     alloc: Global,
+    solver: &S,
     program: &Restricted,
     depth: u32,
 ) -> Result<Vec<u8>, Memory>
@@ -48,7 +51,7 @@ pub(crate) fn report_program(
     let count = query_count(program);
     let mut bytes = Vec::new(alloc);
     for place in 0..count {
-        let report = report_query(alloc, program, place + 1, depth)?;
+        let report = report_query(alloc, solver, program, place + 1, depth)?;
         bytes.extend_from_slice(&report)?;
     }
     Ok(bytes)

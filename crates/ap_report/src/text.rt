@@ -7,6 +7,7 @@ ghost use Rattle.ap_report.specs.TextReport.{IsItemsReport, IsTextReport, run_re
 
 use crate::faults::{item_report, name_report, token_report, type_report};
 use crate::queries::report_program;
+use crate::solver::{Alone, Solver};
 use crate::{Report, Status};
 use ap_defs::lists::List;
 use ap_defs::memory::Memory;
@@ -20,10 +21,15 @@ use ap_typecheck::{TypeError, check};
 use std::alloc::Global;
 
 /// The report on a program.
-fn report_restricted(alloc: Global, restricted: &Restricted, depth: u32) -> Result<Report, Memory>
+fn report_restricted<S: Solver>(
+    alloc: Global,
+    solver: &S,
+    restricted: &Restricted,
+    depth: u32,
+) -> Result<Report, Memory>
     ensures { IfOk result (λ r. r ≡ run_report depth (program_of restricted.now)) }
 {
-    let bytes = report_program(alloc, restricted, depth)?;
+    let bytes = report_program(alloc, solver, restricted, depth)?;
     Ok(Report {
         bytes: List::of(bytes),
         status: Status::Ok,
@@ -31,7 +37,12 @@ fn report_restricted(alloc: Global, restricted: &Restricted, depth: u32) -> Resu
 }
 
 /// The report on items.
-fn report_items(alloc: Global, items: &[Item<'_>], depth: u32) -> Result<Report, Memory>
+fn report_items<S: Solver>(
+    alloc: Global,
+    solver: &S,
+    items: &[Item<'_>],
+    depth: u32,
+) -> Result<Report, Memory>
     requires { length items.now ≤ 16777216 }
     ensures made { IfOk result (λ r. IsItemsReport depth (items_of items.now) r) }
     ensures only { IfOk result (λ r. (s : Report) → IsItemsReport depth (items_of items.now) s → s ≡ r) }
@@ -42,30 +53,40 @@ fn report_items(alloc: Global, items: &[Item<'_>], depth: u32) -> Result<Report,
         Err(TypeError::Memory) => return Err(Memory),
     };
     match restrict(alloc, program) {
-        Ok(restricted) => report_restricted(alloc, &restricted, depth),
+        Ok(restricted) => report_restricted(alloc, solver, &restricted, depth),
         Err(NameError::Fault(fault)) => name_report(alloc, &fault),
         Err(NameError::Memory) => Err(Memory),
     }
 }
 
 /// The report on a text with these tokens.
-fn report_tokens(alloc: Global, tokens: &[Token<'_>], depth: u32) -> Result<Report, Memory>
+fn report_tokens<S: Solver>(
+    alloc: Global,
+    solver: &S,
+    tokens: &[Token<'_>],
+    depth: u32,
+) -> Result<Report, Memory>
     requires { length tokens.now ≤ 16777216 }
     ensures made { IfOk result (λ r. (text : list ℕ) → lexed text ≡ Ok (lexemes tokens.now) → IsTextReport depth text r) }
     ensures only { IfOk result (λ r. (text : list ℕ) → lexed text ≡ Ok (lexemes tokens.now) → (s : Report) → IsTextReport depth text s → s ≡ r) }
 {
     match parse(alloc, tokens) {
-        Ok(items) => report_items(alloc, &items, depth),
+        Ok(items) => report_items(alloc, solver, &items, depth),
         Err(SynError::Fault(fault)) => item_report(alloc, fault),
         Err(SynError::Memory) => Err(Memory),
     }
 }
 
 /// The report on a text, to a depth: the line of the first fault, or what the program's queries are
-/// answered.
+/// answered, however they are searched.
 ///
 /// `Err` is want of memory.
-pub fn report_text(alloc: Global, text: &[u8], depth: u32) -> Result<Report, Memory>
+pub fn report_text_by<S: Solver>(
+    alloc: Global,
+    solver: &S,
+    text: &[u8],
+    depth: u32,
+) -> Result<Report, Memory>
     requires { length text.now ≤ 16777216 }
     // What is answered is the report on the text.
     ensures made { IfOk result (λ r. IsTextReport depth text.now r) }
@@ -73,8 +94,19 @@ pub fn report_text(alloc: Global, text: &[u8], depth: u32) -> Result<Report, Mem
     ensures only { IfOk result (λ r. (s : Report) → IsTextReport depth text.now s → s ≡ r) }
 {
     match lex(alloc, text) {
-        Ok(tokens) => report_tokens(alloc, &tokens, depth),
+        Ok(tokens) => report_tokens(alloc, solver, &tokens, depth),
         Err(LexError::Fault(fault)) => token_report(alloc, fault),
         Err(LexError::Memory) => Err(Memory),
     }
+}
+
+/// The same, where the caller alone searches.
+///
+/// `Err` is want of memory.
+pub fn report_text(alloc: Global, text: &[u8], depth: u32) -> Result<Report, Memory>
+    requires { length text.now ≤ 16777216 }
+    ensures made { IfOk result (λ r. IsTextReport depth text.now r) }
+    ensures only { IfOk result (λ r. (s : Report) → IsTextReport depth text.now s → s ≡ r) }
+{
+    report_text_by(alloc, &Alone, text, depth)
 }

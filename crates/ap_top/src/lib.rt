@@ -9,7 +9,12 @@ mod reading;
 mod run;
 #[cfg(test)]
 mod tests;
+#[cfg(test)]
+mod worker_tests;
+#[cfg(test)]
+mod replay_tests;
 mod words;
+mod workers;
 mod writing;
 
 pub use ap_report::Status;

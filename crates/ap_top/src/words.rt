@@ -1,11 +1,14 @@
 // The words of the command line.
-ghost use Rattle.std.specs.Prelude.{◌≡◌, map, string_bytes};
+ghost use Rattle.std.specs.Prelude.{◌≡◌, ◌<◌, ◌≤◌, IfSome, map, string_bytes};
 ghost use Rattle.std.specs.Char.{is_ascii_digit};
 ghost use Rattle.std.specs.List.{list_all};
-ghost use Rattle.ap_top.specs.Words.{number_of, depth_of};
+ghost use Rattle.ap_top.specs.Words.{asked_of, both_asked, by_options, number_of};
 
 // The greatest depth that may be asked for.
 const GREATEST_DEPTH: u32 = 1_000_000;
+
+// The most workers that may be asked for.
+const MOST_WORKERS: u32 = 64;
 
 fn all_digits(text: &str) -> bool
     ensures { result ≡ list_all is_ascii_digit text.now }
@@ -27,14 +30,58 @@ fn number(text: &str, most: u32) -> Option<u32>
     if number <= most { Some(number) } else { None }
 }
 
-// The depth that `run --depth D` asks for. All other words are refused.
-pub(crate) fn depth(words: &[String]) -> Option<u32>
-    ensures { result ≡ depth_of (map string_bytes words.now) }
+// What accepted words ask for.
+#[derive(Clone, Copy)]
+pub(crate) struct Asked {
+    pub(crate) depth: u32,
+    pub(crate) workers: u32,
+}
+
+// What a depth and a number of workers ask for, where both are in their ranges.
+fn both(depth: Option<u32>, workers: Option<u32>) -> Option<Asked>
+    ensures { result ≡ both_asked depth workers }
+{
+    match (depth, workers) {
+        (Some(depth), Some(workers)) => {
+            if workers > 0 {
+                Some(Asked { depth, workers })
+            } else {
+                None
+            }
+        }
+        _ => None,
+    }
+}
+
+// What two options ask for, in either order.
+fn by_two(option: &str, value: &str, other: &str, second: &str) -> Option<Asked>
+    ensures { result ≡ by_options option.now value.now other.now second.now }
+{
+    if option == "--depth" && other == "--workers" {
+        both(number(value, GREATEST_DEPTH), number(second, MOST_WORKERS))
+    } else if option == "--workers" && other == "--depth" {
+        both(number(second, GREATEST_DEPTH), number(value, MOST_WORKERS))
+    } else {
+        None
+    }
+}
+
+// What `run --depth D` or `run --depth D --workers W` asks for. All other words are refused.
+pub(crate) fn asked(words: &[String]) -> Option<Asked>
+    ensures asked { result ≡ asked_of (map string_bytes words.now) }
+    ensures few { IfSome result (λ a. (0 < a.workers) × (a.workers ≤ 64)) }
 {
     match words {
-        [command, option, depth] => {
+        [command, option, value] => {
             if command.as_str() == "run" && option.as_str() == "--depth" {
-                number(depth.as_str(), GREATEST_DEPTH)
+                both(number(value.as_str(), GREATEST_DEPTH), Some(1))
+            } else {
+                None
+            }
+        }
+        [command, option, value, other, second] => {
+            if command.as_str() == "run" {
+                by_two(option.as_str(), value.as_str(), other.as_str(), second.as_str())
             } else {
                 None
             }

@@ -1,0 +1,54 @@
+-- The tree of paths of a problem.
+use Rattle.std.specs.Prelude.{◌-◌, ℕ, nat_lt, if◌then◌else◌, List, [], length, Option, Some, None, Vec, slice_get}
+use Rattle.std.specs.List.{range_with_len}
+use Rattle.ap_defs.specs.Answers.{NominalOut, outs_at}
+use Rattle.ap_defs.specs.Goals.{Clauses, NominalQuery}
+use Rattle.ap_defs.specs.declared.paths.Node.{Node}
+use Rattle.ap_defs.specs.declared.paths.Node.TheVariants as nodes
+use Rattle.ap_paths.specs.Entries as entries
+use Rattle.ap_paths.specs.Entries.{Plan}
+use Rattle.ap_search.specs.PathTrees.{query_choices}
+use Rattle.ap_backchain.specs.Problems.{clauses_in, queries_in}
+use Rattle.ap_backchain.specs.declared.problem.Problem.{Problem}
+
+abbrev pub query_in : Problem → Option NominalQuery
+query_in p = slice_get (queries_in p) (p.query - 1)
+
+abbrev pub choices_of : Clauses → ℕ → Option NominalQuery → List ℕ → Option ℕ
+choices_of program d None path = None
+choices_of program d (Some q) path = query_choices program d q path
+
+abbrev pub outs_of_query : Clauses → ℕ → Option NominalQuery → List ℕ → List NominalOut
+outs_of_query program d None path = []
+outs_of_query program d (Some q) path = outs_at program d q path
+
+-- among how many the search of the problem chooses at a path, where it does
+abbrev pub problem_choices : Problem → List ℕ → Option ℕ
+problem_choices p = choices_of (clauses_in p) p.depth (query_in p)
+
+-- the outputs of the problem below a path
+abbrev pub problem_outs : Problem → List ℕ → List NominalOut
+problem_outs p = outs_of_query (clauses_in p) p.depth (query_in p)
+
+-- a choice has each of its ways as a kid
+abbrev pub shared_out : Option ℕ → List NominalOut → Plan
+shared_out None os = entries.outs os
+shared_out (Some w) os = entries.kids (range_with_len 1 w)
+
+-- choices with fewer than 16 others on the way are shared out; all else is searched whole
+abbrev pub problem_plan : Problem → List ℕ → Plan
+problem_plan p path = if nat_lt (length path) 16 then shared_out (problem_choices p path) (problem_outs p path) else entries.outs (problem_outs p path)
+
+-- the kids of a branch at a path that is shared out, where it is at a choice
+abbrev pub kids_shared : List ℕ → Node → Option (List ℕ)
+kids_shared path (nodes.Choice w kept) = if nat_lt (length path) 16 then Some kept else None
+kids_shared path _ = None
+
+-- the answer of a visit: these kids, or else these outputs
+abbrev pub kids_or : List NominalOut → Option (List ℕ) → Plan
+kids_or os None = entries.outs os
+kids_or os (Some ks) = entries.kids ks
+
+abbrev pub items_in : {Z : Type 0} → Option (Vec ℕ Z) → Option (List ℕ)
+items_in None = None
+items_in (Some v) = Some v.items

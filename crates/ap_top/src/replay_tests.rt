@@ -1,0 +1,85 @@
+// Branches at paths, of programs that are read from texts.
+use ap_backchain::problem::Problem;
+use ap_defs::memory::Memory;
+use ap_defs::paths::{Node, Path};
+use ap_lexer::lex;
+use ap_paths::{Tree, Visit};
+use ap_program::restricted::Restricted;
+use ap_replay::error::ReplayError;
+use ap_replay::problem_tree::ProblemTree;
+use ap_replay::replay::at;
+use ap_restrict::restrict::restrict;
+use ap_syntax::parse;
+use ap_typecheck::check;
+use std::alloc::Global;
+use std::test::Fail;
+
+const CUTS: &str = "pred p. pred q. p :- q. p :- q. q :- q. ?- p.";
+
+const LIMIT: usize = 16_777_216;
+
+// The program of a text with no fault.
+fn program_of(alloc: Global, text: &str) -> Result<Restricted, Memory> {
+    let bytes = text.as_bytes();
+    if bytes.len() > LIMIT {
+        return Err(Memory);
+    }
+    let tokens = lex(alloc, bytes).or(Err(Memory))?;
+    if tokens.len() > LIMIT {
+        return Err(Memory);
+    }
+    let items = parse(alloc, &tokens).or(Err(Memory))?;
+    if items.len() > LIMIT {
+        return Err(Memory);
+    }
+    let program = check(alloc, &items).or(Err(Memory))?;
+    restrict(alloc, program).or(Err(Memory))
+}
+
+#[test]
+fn paths_have_branches(rt: HostRuntime) -> Result<(), Fail> {
+    let alloc = rt.alloc();
+    let program = program_of(alloc, CUTS)?;
+    assert_eq!(rt; program.program().queries.items().len(), 1);
+    let problem = Problem {
+        program: &program,
+        query: 1,
+        depth: 1,
+    };
+    let root = Path::root(alloc);
+    let second = root.child(alloc, 2)?;
+    let branch = at(alloc, &problem, &second);
+    let Ok(branch) = branch else {
+        panic!(rt; "there is a second way");
+    };
+    assert!(rt; matches!(branch.node(), Node::Cut));
+    for path in [root.child(alloc, 3)?, root.child(alloc, 1)?.child(alloc, 1)?] {
+        let branch = at(alloc, &problem, &path);
+        assert!(rt; matches!(branch, Err(ReplayError::NotABranch)));
+    }
+    Ok(())
+}
+
+// How many kids or outputs a visit of the empty path answers, and its width and outputs.
+fn counts<T: Tree>(alloc: Global, tree: &T) -> Result<(usize, Option<u32>, usize), Memory> {
+    let root = Path::root(alloc);
+    let kids = match tree.visit(alloc, &root)? {
+        Visit::Kids(kids) => kids.items().len(),
+        Visit::Outs(_) => 0,
+    };
+    Ok((kids, tree.width(alloc, &root)?, tree.outs(alloc, &root)?.len()))
+}
+
+#[test]
+fn problems_are_trees(rt: HostRuntime) -> Result<(), Fail> {
+    let alloc = rt.alloc();
+    let program = program_of(alloc, CUTS)?;
+    assert_eq!(rt; program.program().queries.items().len(), 1);
+    let tree = ProblemTree::of(Problem {
+        program: &program,
+        query: 1,
+        depth: 1,
+    });
+    assert_eq!(rt; counts(alloc, &tree)?, (2, Some(2), 2));
+    Ok(())
+}
