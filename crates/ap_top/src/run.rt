@@ -7,7 +7,7 @@ ghost use Rattle.ap_top.specs.Report.{Input, IsReportOn, IsTheReport, line as li
 ghost use Rattle.ap_top.specs.Run.{IsRead, IsUnwritten, IsWritten};
 
 use crate::reading::{ReadError, read_whole};
-use crate::words::{self, Asked};
+use crate::words::{self, Wanted};
 use crate::workers::Workers;
 use crate::writing::write_whole;
 use ap_defs::lists::List;
@@ -64,7 +64,7 @@ fn report<R: Threads + Wait + Sync, S: Source, G: Gate>(
         × IsTheReport (map string_bytes words.now) input r) }
 {
     match words::asked(words) {
-        Some(Asked { depth, workers }) => {
+        Some(Wanted { depth, workers }) => {
             let solver = Workers {
                 rt,
                 gate,

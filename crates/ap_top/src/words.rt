@@ -32,19 +32,19 @@ fn number(text: &str, most: u32) -> Option<u32>
 
 // What accepted words ask for.
 #[derive(Clone, Copy)]
-pub(crate) struct Asked {
+pub(crate) struct Wanted {
     pub(crate) depth: u32,
     pub(crate) workers: u32,
 }
 
 // What a depth and a number of workers ask for, where both are in their ranges.
-fn both(depth: Option<u32>, workers: Option<u32>) -> Option<Asked>
+fn both(depth: Option<u32>, workers: Option<u32>) -> Option<Wanted>
     ensures { result ≡ both_asked depth workers }
 {
     match (depth, workers) {
         (Some(depth), Some(workers)) => {
             if workers > 0 {
-                Some(Asked { depth, workers })
+                Some(Wanted { depth, workers })
             } else {
                 None
             }
@@ -54,7 +54,7 @@ fn both(depth: Option<u32>, workers: Option<u32>) -> Option<Asked>
 }
 
 // What two options ask for, in either order.
-fn by_two(option: &str, value: &str, other: &str, second: &str) -> Option<Asked>
+fn by_two(option: &str, value: &str, other: &str, second: &str) -> Option<Wanted>
     ensures { result ≡ by_options option.now value.now other.now second.now }
 {
     if option == "--depth" && other == "--workers" {
@@ -67,7 +67,7 @@ fn by_two(option: &str, value: &str, other: &str, second: &str) -> Option<Asked>
 }
 
 // What `run --depth D` or `run --depth D --workers W` asks for. All other words are refused.
-pub(crate) fn asked(words: &[String]) -> Option<Asked>
+pub(crate) fn asked(words: &[String]) -> Option<Wanted>
     ensures asked { result ≡ asked_of (map string_bytes words.now) }
     ensures few { IfSome result (λ a. (0 < a.workers) × (a.workers ≤ 64)) }
 {

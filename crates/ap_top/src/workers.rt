@@ -15,6 +15,7 @@ use std::thread::Threads;
 
 // So many workers, each of which passes the gate before each path that it takes up. One worker alone
 // searches without paths.
+#[derive(Drop)]
 pub(crate) struct Workers<'a, R, G> {
     pub(crate) rt: &'a R,
     pub(crate) gate: &'a G,
