@@ -1,9 +1,10 @@
 -- Steps of branches.
-use Rattle.std.proofs.Common.{◌≡◌, ℕ, zero, suc, ◌+◌, ◌-◌, ◌<◌, List, [], ◌∷◌, ◌++◌, length, map, refl, sym, ap, ◌∙◌, subst, arith}
+use Rattle.std.proofs.Common.{◌≡◌, ℕ, zero, suc, ◌+◌, ◌-◌, ◌<◌, ◌≤◌, List, [], ◌∷◌, ◌++◌, length, map, refl, sym, ap, ◌∙◌, subst, arith}
 use Rattle.std.proofs.lemmas.List.{append-nil}
 use Rattle.std.specs.Global.{Global}
 use Rattle.std.specs.Prelude.{Option, Some, None, Result, Ok, Err, IfOk, Vec, slice_get}
-use Rattle.ap_defs.specs.Answers.{NominalOut, out_path, outs_at, outs_of}
+use Rattle.ap_defs.specs.Answers.{NominalAnswer, NominalOut, answer_of, found, out_path, outs_at, outs_of}
+use Rattle.ap_defs.specs.declared.outcomes.Answer.{Answer}
 use Rattle.ap_defs.specs.Goals.{NominalGoal, atom, either, Clauses, NominalQuery, clauses_of}
 use Rattle.ap_defs.specs.Paths.{marked_query}
 use Rattle.ap_defs.specs.Types.{NominalLocal}
@@ -17,11 +18,11 @@ use Rattle.ap_search.specs.PathTrees.{query_choices, width_at}
 use Rattle.ap_search.specs.Prefixes.{beginning}
 use Rattle.ap_search.proofs.MarkLemmas.{marked_stack_begins}
 use Rattle.ap_search.proofs.MarkedLemmas.{marked_stack_is_query}
-use Rattle.ap_search.proofs.PrefixLemmas.{beginning_whole}
+use Rattle.ap_search.proofs.PrefixLemmas.{beginning_deeper, beginning_whole}
 use Rattle.ap_search.proofs.QueryTreeLemmas.{outs_at_marks, place_choice, width_choice}
 use Rattle.ap_backchain.proofs.MarkLemmas.{marks_turned, settled}
 use Rattle.ap_backchain.proofs.TurnLemmas.{turns_turned}
-use Rattle.ap_backchain.specs.Branches.{IsBranchFor, IsBranchOf, IsChoosing, IsNamed, IsNodeAt, marks_of_standing, path_of_branch, path_of_standing}
+use Rattle.ap_backchain.specs.Branches.{IsBranchFor, IsBranchOf, IsChoiceAt, IsChoiceOfNode, IsChoosing, IsNamed, IsNodeAt, marks_of_standing, path_of_branch, path_of_standing}
 use Rattle.ap_backchain.specs.Marks.{IsSettled, choice_of, choice_of_atom, choice_of_goal, marks_from, marks_of_turned}
 use Rattle.ap_backchain.specs.Places.{position_of, positions_of}
 use Rattle.ap_backchain.specs.Positions.{Position, Turned, ends, goes, turned}
@@ -29,8 +30,8 @@ use Rattle.ap_backchain.specs.Problems.{clauses_in, queries_in}
 use Rattle.ap_backchain.specs.Starts.{first_position}
 use Rattle.ap_backchain.specs.Turns.{turns_from, turns_of_turned}
 use Rattle.ap_backchain.specs.declared.branch.Branch.{Branch}
-use Rattle.ap_backchain.specs.declared.branch.Standing.{Standing}
-use Rattle.ap_backchain.specs.declared.branch.Standing.TheVariants as standings
+use Rattle.ap_backchain.specs.declared.standing.Standing.{Standing}
+use Rattle.ap_backchain.specs.declared.standing.Standing.TheVariants as standings
 use Rattle.ap_backchain.specs.declared.place.Place.{Place}
 use Rattle.ap_backchain.specs.declared.problem.Problem.{Problem}
 
@@ -131,6 +132,16 @@ module _ (program : Clauses) (d : ℕ) (q : NominalQuery) where
       ∙ beginning_whole mark_path [] (marks_from program q.locals first) (marked_stack_begins program q.locals first.waiting [] first.state [])
       ∙ sym m
 
+  pub step_marks : (s t : Standing) (k : ℕ) → beginning mark_path (path_of_standing s) (map (mark_in q.locals) (marked_query program d q)) ≡ marks_of_standing program q.locals s
+      → path_of_standing t ≡ path_of_standing s ++ k ∷ []
+      → marks_of_standing program q.locals t ≡ beginning mark_path (path_of_standing s ++ k ∷ []) (marks_of_standing program q.locals s)
+      → beginning mark_path (path_of_standing t) (map (mark_in q.locals) (marked_query program d q)) ≡ marks_of_standing program q.locals t
+  step_marks s t k h e m =
+      ap (λ p. beginning mark_path p (map (mark_in q.locals) (marked_query program d q))) e
+      ∙ sym (beginning_deeper mark_path (path_of_standing s) (k ∷ []) (map (mark_in q.locals) (marked_query program d q)))
+      ∙ ap (beginning mark_path (path_of_standing s ++ k ∷ [])) h
+      ∙ sym m
+
 asked_once : {X : Type 0} (o : Option X) (x y : X) → o ≡ Some x → o ≡ Some y → x ≡ y
 asked_once o x y h k = cc
 
@@ -153,3 +164,32 @@ run_is p query b (Ok v) asked of h = λ q k.
     subst (λ (x : NominalQuery). outs_of v.items ≡ outs_at (clauses_in p) p.depth x (path_of_branch b)) (asked_once (slice_get (queries_in p) (p.query - 1)) query q asked k)
     (h ∙ run_at (clauses_in p) p.depth query b.standing (of query asked).marks)
 run_is p query b (Err e) asked of h = tt
+
+pub step_is : (p : Problem) (query : NominalQuery) (b c : Branch) (t : Standing) (k : ℕ) → slice_get (queries_in p) (p.query - 1) ≡ Some query → IsBranchOf p b
+    → c.standing ≡ t → IsNamed c.node c.standing → path_of_standing t ≡ path_of_branch b ++ k ∷ []
+    → marks_of_standing (clauses_in p) query.locals t ≡ beginning mark_path (path_of_branch b ++ k ∷ []) (marks_of_standing (clauses_in p) query.locals b.standing)
+    → IsChoosing (clauses_in p) t → IsBranchOf p c
+step_is p query b c t k asked of e named path marks choosing = λ q h.
+    subst (λ (x : NominalQuery). IsBranchFor (clauses_in p) p.depth x c) (asked_once (slice_get (queries_in p) (p.query - 1)) query q asked h)
+    (subst (λ (r : Standing). (IsNamed c.node r → IsBranchFor (clauses_in p) p.depth query (record c { standing = r }))) (sym e)
+    (λ n. record { marks = step_marks (clauses_in p) p.depth query b.standing t k (of query asked).marks path marks; choosing = choosing; named = n }) named)
+
+-- a node that is a choice stands before one
+pub choice_stands : (n : Node) (s : Standing) (k : ℕ) → IsNamed n s → IsChoiceOfNode k n → IsChoiceAt k s
+choice_stands (nodes.Choice w kept) (standings.Choosing v p) k h c = (c.0, subst (λ (m : ℕ). k ≤ m) h.0 c.1)
+choice_stands (nodes.Choice w kept) (standings.Ended o) k h c = absurd h
+choice_stands (nodes.Choice w kept) (standings.Failed path) k h c = absurd h
+choice_stands nodes.Answer s k h c = absurd c
+choice_stands nodes.Cut s k h c = absurd c
+choice_stands nodes.Stuck s k h c = absurd c
+choice_stands nodes.Failed s k h c = absurd c
+
+-- the answer of a branch
+pub answer_at : (p : Problem) (b : Branch) (path : List ℕ) (a : Answer) (r : NominalAnswer) → IsBranchOf p b → b.standing ≡ standings.Ended (code.Found path a) → r ≡ answer_of a
+    → (q : NominalQuery) → slice_get (queries_in p) (p.query - 1) ≡ Some q → outs_at (clauses_in p) p.depth q (path_of_branch b) ≡ found (path_of_branch b) r ∷ []
+answer_at p b path a r of e f q asked =
+    outs_at_marks (clauses_in p) p.depth q (path_of_branch b)
+    ∙ ap outs_among (of q asked).marks
+    ∙ ap (λ s. outs_among (marks_of_standing (clauses_in p) q.locals s)) e
+    ∙ ap (λ x. found x (answer_of a) ∷ []) (sym (ap path_of_standing e))
+    ∙ ap (λ x. found (path_of_branch b) x ∷ []) (sym f)

@@ -1,3 +1,4 @@
+pub mod ChooseLemmas
 pub mod BranchLemmas
 pub mod FitLemmas
 pub mod MarkLemmas
@@ -6,3 +7,4 @@ pub mod PlaceLemmas
 pub mod ReducedLemmas
 pub mod TurnLemmas
 pub mod VarLemmas
+pub mod AnsweringLemmas

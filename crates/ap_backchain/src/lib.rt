@@ -7,6 +7,7 @@
 //! lie on the machine's call stack. `problem` asks a query of a restricted program.
 #![tactic(auto)]
 
+pub mod answer_copies;
 pub mod answers;
 pub mod branch;
 pub mod clauses;
@@ -21,7 +22,9 @@ pub mod place;
 pub mod problem;
 pub mod renaming;
 pub mod run;
+pub mod standing;
 pub mod state;
+pub mod step;
 #[cfg(test)]
 mod tests;
 pub mod turns;

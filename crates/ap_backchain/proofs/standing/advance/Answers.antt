@@ -3,7 +3,7 @@ use Rattle.ap_defs.specs.Goals.{clause_of}
 use Rattle.ap_defs.specs.Types.{locals_of}
 use Rattle.ap_backchain.specs.Places.{turned_of}
 use Rattle.ap_backchain.proofs.BranchLemmas.{went_fewer, went_marks, went_path}
-use Rattle.ap_backchain.proofs.branch.advance.Goals as goal
+use Rattle.ap_backchain.proofs.standing.advance.Goals as goal
 
 pub advancing-smaller : goal.advancing-smaller
 advancing-smaller c =

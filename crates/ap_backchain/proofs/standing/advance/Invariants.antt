@@ -4,7 +4,7 @@ use Rattle.ap_defs.specs.Types.{locals_of}
 use Rattle.ap_backchain.specs.Marks.{marks_from}
 use Rattle.ap_backchain.specs.Places.{position_of}
 use Rattle.ap_backchain.specs.Turns.{turns_from}
-use Rattle.ap_backchain.proofs.branch.advance.Given as goal
+use Rattle.ap_backchain.proofs.standing.advance.Given as goal
 
 -- the place has the marks and the path of the first one
 abbrev pub invariant-advancing : goal.invariant-advancing

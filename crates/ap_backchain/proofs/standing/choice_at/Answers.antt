@@ -4,7 +4,7 @@ use Rattle.ap_defs.specs.Goals.{clause_of}
 use Rattle.ap_search.specs.Continuations.{Waiting}
 use Rattle.ap_backchain.specs.Marks.{choice_of}
 use Rattle.ap_backchain.proofs.FitLemmas.{last_waits}
-use Rattle.ap_backchain.proofs.branch.choice_at.Goals as goal
+use Rattle.ap_backchain.proofs.standing.choice_at.Goals as goal
 
 pub returns-in-Some : goal.returns-in-Some
 returns-in-Some c =
