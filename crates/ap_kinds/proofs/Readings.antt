@@ -7,7 +7,7 @@ use Rattle.ap_defs.specs.Types as types
 use Rattle.ap_types.specs.Equations.{ShapeEquation, ◌≐◌, Filling, filled, Solves, IsNameType, GivesNames, FilledBy, hole_count}
 use Rattle.ap_types.specs.Solving.{shape_at}
 use Rattle.ap_types.specs.Assignments.{AreNames, IsNameOrOpen}
-use Rattle.ap_types.proofs.AnswerLemmas.{fills_at}
+use Rattle.ap_types.proofs.NameLemmas.{fills_at}
 use Rattle.ap_types.proofs.NameLemmas.{instance_by, instance_fills}
 use Rattle.ap_kinds.specs.ItemKinds.{IsDeclaredType}
 use Rattle.ap_kinds.specs.Systems.{EquationSystem, opened}

@@ -4,7 +4,7 @@ use Rattle.ap_defs.specs.declared.terms.Raw.{Raw}
 use Rattle.ap_defs.specs.declared.terms.Ty.{Ty}
 use Rattle.ap_defs.specs.RawTerms.{raw_of}
 use Rattle.ap_defs.specs.Types.{NominalConstructor, type_of}
-use Rattle.ap_types.proofs.AnswerLemmas.{next_at}
+use Rattle.ap_types.proofs.LoadLemmas.{next_at}
 use Rattle.ap_kinds.specs.declared.kinds.IdentKind.{IdentKind}
 use Rattle.ap_kinds.specs.Systems.{EquationSystem, opened, refused}
 use Rattle.ap_kinds.specs.Gathering.{whole, gather_term, gather_terms}

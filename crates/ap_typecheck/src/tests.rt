@@ -115,6 +115,14 @@ fn faults_are_found(rt: HostRuntime) -> Result<(), Fail> {
             "fault 4 1 4",
         ),
         ("e : type. c : e. ?- new c (() = ()).", "fault 3 1 4"),
+        ("e : type. c : e. pred p(e). p(c, c).", "fault 4 1 3"),
+        ("?- [] = X.", "fault 1 1 5"),
+        ("?- (X, ()) = Y.", "fault 1 1 5"),
+        ("e : type. f : e -> e. pred p(e). p(f(X)).", "fault 4 1 6"),
+        (
+            "n : name_type. e : type. pred p(n\\e). p(X).",
+            "fault 4 1 6",
+        ),
     ] {
         assert_eq!(rt; shown(rt.alloc(), text)?.as_str(), want);
     }
