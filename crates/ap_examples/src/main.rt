@@ -10,7 +10,7 @@ use std::sync::Wait;
 use std::thread::Threads;
 
 // The programs, in the folder that this one is run in, and the depth for all of them.
-const NAMES: [&str; 7] = [
+const NAMES: [&str; 21] = [
     "first.apl",
     "substitution.apl",
     "types.apl",
@@ -18,6 +18,20 @@ const NAMES: [&str; 7] = [
     "debruijn.apl",
     "prover.apl",
     "processes.apl",
+    "syntax_not_utf8.apl",
+    "syntax_character.apl",
+    "syntax_grammar.apl",
+    "syntax_too_deep.apl",
+    "syntax_unended.apl",
+    "type_undeclared.apl",
+    "type_redeclared.apl",
+    "type_arity.apl",
+    "type_clash.apl",
+    "type_ambiguous.apl",
+    "type_empty.apl",
+    "name_variable_binder.apl",
+    "name_variable_swap.apl",
+    "name_head_name.apl",
 ];
 
 fn words(alloc: Global) -> Result<Vec<String>, AllocError> {

@@ -1,0 +1,4 @@
+% The last item has no full stop.
+nat : type.
+z : nat.
+s : nat -> nat

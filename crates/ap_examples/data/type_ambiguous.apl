@@ -1,0 +1,4 @@
+% Nothing says of which type X is.
+nat : type.
+z : nat.
+?- X = Y.

@@ -1,0 +1,4 @@
+% The word id is a name type already.
+id : name_type.
+exp : type.
+id : type.
