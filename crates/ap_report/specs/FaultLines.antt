@@ -34,11 +34,14 @@ abbrev pub name_word : ℕ → List ℕ
 name_word kind = if kind == 1 then codes "VariableBinder" else (if kind == 2 then codes "VariableSwap" else codes "HeadName")
 
 -- the reports of faults
+abbrev pub syntax_report : ℕ → ℕ → ℕ → Report
+syntax_report item line kind = record { bytes = fault_line (codes "syntax") item line kind (syntax_word kind); status = status.Syntax }
+
 abbrev pub token_report : LexFault → Report
-token_report f = record { bytes = fault_line (codes "syntax") f.item f.line f.kind (syntax_word f.kind); status = status.Syntax }
+token_report f = syntax_report f.item f.line f.kind
 
 abbrev pub item_report : SynFault → Report
-item_report f = record { bytes = fault_line (codes "syntax") f.item f.line f.kind (syntax_word f.kind); status = status.Syntax }
+item_report f = syntax_report f.item f.line f.kind
 
 abbrev pub type_report : TypeFault → Report
 type_report f = record { bytes = fault_line (codes "type") f.item f.line f.kind (type_word f.kind); status = status.Types }

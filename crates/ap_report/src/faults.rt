@@ -64,26 +64,28 @@ fn name_word<'a>(kind: u32) -> &'a str
     }
 }
 
-/// The report of a fault of the tokens.
-pub(crate) fn token_report(alloc: Global, fault: LexFault) -> Result<Report, Memory>
-    ensures { IfOk result (λ r. r ≡ spec.token_report fault) }
+/// The report of a fault of the tokens or of the grammar.
+fn syntax_report(alloc: Global, item: u32, line: u64, kind: u32) -> Result<Report, Memory>
+    ensures { IfOk result (λ r. r ≡ spec.syntax_report item line kind) }
 {
-    let LexFault { item, line, kind } = fault;
     Ok(Report {
         bytes: fault_line(alloc, "syntax", item, line, kind, syntax_word(kind))?,
         status: Status::Syntax,
     })
 }
 
+/// The report of a fault of the tokens.
+pub(crate) fn token_report(alloc: Global, fault: LexFault) -> Result<Report, Memory>
+    ensures { IfOk result (λ r. r ≡ spec.token_report fault) }
+{
+    syntax_report(alloc, fault.item, fault.line, fault.kind)
+}
+
 /// The report of a fault of an item's grammar.
 pub(crate) fn item_report(alloc: Global, fault: SynFault) -> Result<Report, Memory>
     ensures { IfOk result (λ r. r ≡ spec.item_report fault) }
 {
-    let SynFault { item, line, kind } = fault;
-    Ok(Report {
-        bytes: fault_line(alloc, "syntax", item, line, kind, syntax_word(kind))?,
-        status: Status::Syntax,
-    })
+    syntax_report(alloc, fault.item, fault.line, fault.kind)
 }
 
 /// The report of a fault of an item's types.

@@ -5,6 +5,12 @@
 //! says that the status and the bytes are those of the report of the words and of what was read.
 #![tactic(auto)]
 
+#[cfg(test)]
+mod answered;
+#[cfg(test)]
+mod cases;
+#[cfg(test)]
+mod faulty;
 mod reading;
 mod run;
 #[cfg(test)]
