@@ -21,22 +21,22 @@ fn first_word(rt: &(impl Env + AllocGlobal)) -> io::Result<Option<String>> {
     Ok(env::args(rt)?.nth(1))
 }
 
+// What standard input holds.
+fn input(rt: &(impl Input + AllocGlobal)) -> io::Result<Vec<u8>> {
+    let mut text = Vec::new(rt.alloc());
+    rt.reader().read_to_end(&mut text)?;
+    Ok(text)
+}
+
 fn main(rt: HostRuntime) -> io::Result<()> {
     let alloc = rt.alloc();
-    let word = first_word(&rt)?;
-    let line = match &word {
+    let line = match first_word(&rt)? {
         Some(word) if word.as_str() == "book" => book::report(alloc)?,
         Some(word) if word.as_str() == "lock" => turns::report(&rt, alloc)?,
         Some(word) if word.as_str() == "tasks" => deques::report(alloc)?,
         Some(word) if word.as_str() == "types" => types::report(alloc)?,
-        word => {
-            let mut text = Vec::new(alloc);
-            rt.reader().read_to_end(&mut text)?;
-            match word {
-                Some(word) if word.as_str() == "parse" => items::report(alloc, &text)?,
-                _ => tokens::report(alloc, &text)?,
-            }
-        }
+        Some(word) if word.as_str() == "parse" => items::report(alloc, &input(&rt)?)?,
+        _ => tokens::report(alloc, &input(&rt)?)?,
     };
     println!(rt; "{line}")
 }
