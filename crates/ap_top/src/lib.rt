@@ -12,14 +12,14 @@ mod cases;
 #[cfg(test)]
 mod faulty;
 mod reading;
+#[cfg(test)]
+mod replay_tests;
 mod run;
 #[cfg(test)]
 mod tests;
+mod words;
 #[cfg(test)]
 mod worker_tests;
-#[cfg(test)]
-mod replay_tests;
-mod words;
 mod workers;
 mod writing;
 

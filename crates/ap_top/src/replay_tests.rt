@@ -1,4 +1,9 @@
 // Branches at paths, of programs that are read from texts.
+ghost use Rattle.std.specs.Prelude.{IfOk, IfSome};
+ghost use Rattle.ap_backchain.specs.Branches.{IsBranchOf};
+ghost use Rattle.ap_backchain.specs.Problems.{HasQuery};
+
+use ap_backchain::branch::Branch;
 use ap_backchain::problem::Problem;
 use ap_defs::memory::Memory;
 use ap_defs::paths::{Node, Path};
@@ -53,9 +58,70 @@ fn paths_have_branches(rt: HostRuntime) -> Result<(), Fail> {
         panic!(rt; "there is a second way");
     };
     assert!(rt; matches!(branch.node(), Node::Cut));
-    for path in [root.child(alloc, 3)?, root.child(alloc, 1)?.child(alloc, 1)?] {
+    for path in [
+        root.child(alloc, 3)?,
+        root.child(alloc, 1)?.child(alloc, 1)?,
+    ] {
         let branch = at(alloc, &problem, &path);
         assert!(rt; matches!(branch, Err(ReplayError::NotABranch)));
+    }
+    Ok(())
+}
+
+// The branch after the first choice of one that has two.
+fn first_way<'a>(
+    alloc: Global,
+    problem: &Problem<'a>,
+    branch: Branch<'a>,
+) -> Result<Option<Branch<'a>>, Memory>
+    requires query { HasQuery problem.now }
+    requires of { IsBranchOf problem.now branch }
+    ensures { IfOk result (λ o. IfSome o (λ b. IsBranchOf problem.now b)) }
+{
+    match branch.node() {
+        Node::Choice(2, _) => Ok(Some(branch.step(alloc, problem, 1)?)),
+        _ => Ok(None),
+    }
+}
+
+#[test]
+fn a_branch_goes_on_by_a_choice(rt: HostRuntime) -> Result<(), Fail> {
+    let alloc = rt.alloc();
+    let program = program_of(alloc, CUTS)?;
+    assert_eq!(rt; program.program().queries.items().len(), 1);
+    let problem = Problem {
+        program: &program,
+        query: 1,
+        depth: 1,
+    };
+    let root = Branch::root(alloc, &problem)?;
+    let Some(branch) = first_way(alloc, &problem, root)? else {
+        panic!(rt; "there are two ways");
+    };
+    assert!(rt; matches!(branch.node(), Node::Cut));
+    Ok(())
+}
+
+#[test]
+fn a_branch_has_an_answer(rt: HostRuntime) -> Result<(), Fail> {
+    let alloc = rt.alloc();
+    let program = program_of(alloc, "id : name_type. ?- X = a ; X = b.")?;
+    assert_eq!(rt; program.program().queries.items().len(), 1);
+    let problem = Problem {
+        program: &program,
+        query: 1,
+        depth: 0,
+    };
+    let root = Branch::root(alloc, &problem)?;
+    let Some(branch) = first_way(alloc, &problem, root)? else {
+        panic!(rt; "there are two ways");
+    };
+    match branch.node() {
+        Node::Answer => {
+            let answer = branch.answer(alloc, &problem)?;
+            assert_eq!(rt; answer.binds.items().len(), 1);
+        }
+        _ => panic!(rt; "it is no answer"),
     }
     Ok(())
 }
@@ -67,7 +133,11 @@ fn counts<T: Tree>(alloc: Global, tree: &T) -> Result<(usize, Option<u32>, usize
         Visit::Kids(kids) => kids.items().len(),
         Visit::Outs(_) => 0,
     };
-    Ok((kids, tree.width(alloc, &root)?, tree.outs(alloc, &root)?.len()))
+    Ok((
+        kids,
+        tree.width(alloc, &root)?,
+        tree.outs(alloc, &root)?.len(),
+    ))
 }
 
 #[test]

@@ -63,7 +63,7 @@ fn report<R: Threads + Wait + Sync, S: Source, G: Gate>(
         IsRead (S.left source.old) (S.faults source.old) (S.faults source.new) input)
         × IsTheReport (map string_bytes words.now) input r) }
 {
-    match words::asked(words) {
+    match words::accepted(words) {
         Some(Wanted { depth, workers }) => {
             let solver = Workers {
                 rt,

@@ -1,8 +1,8 @@
 // The words of the command line.
-ghost use Rattle.std.specs.Prelude.{◌≡◌, ◌<◌, ◌≤◌, IfSome, map, string_bytes};
+ghost use Rattle.std.specs.Prelude.{◌≡◌, ◌<◌, ◌≤◌, None, Some, IfSome, map, string_bytes};
 ghost use Rattle.std.specs.Char.{is_ascii_digit};
 ghost use Rattle.std.specs.List.{list_all};
-ghost use Rattle.ap_top.specs.Words.{asked_of, both_asked, by_options, number_of};
+ghost use Rattle.ap_top.specs.Words.{asked_of, both_asked, by_options, depth_of, number_of};
 
 // The greatest depth that may be asked for.
 const GREATEST_DEPTH: u32 = 1_000_000;
@@ -18,7 +18,8 @@ fn all_digits(text: &str) -> bool
 
 // The number that digits spell, if it is at most `most`.
 fn number(text: &str, most: u32) -> Option<u32>
-    ensures { result ≡ number_of most text.now }
+    ensures spelled { result ≡ number_of most text.now }
+    ensures most { IfSome result (λ n. n ≤ most) }
 {
     // `parse` alone would take a sign.
     if !all_digits(text) {
@@ -39,7 +40,8 @@ pub(crate) struct Wanted {
 
 // What a depth and a number of workers ask for, where both are in their ranges.
 fn both(depth: Option<u32>, workers: Option<u32>) -> Option<Wanted>
-    ensures { result ≡ both_asked depth workers }
+    ensures both { result ≡ both_asked depth workers }
+    ensures few { IfSome workers (λ w. w ≤ 64) → IfSome result (λ a. (0 < a.workers) × (a.workers ≤ 64)) }
 {
     match (depth, workers) {
         (Some(depth), Some(workers)) => {
@@ -55,7 +57,8 @@ fn both(depth: Option<u32>, workers: Option<u32>) -> Option<Wanted>
 
 // What two options ask for, in either order.
 fn by_two(option: &str, value: &str, other: &str, second: &str) -> Option<Wanted>
-    ensures { result ≡ by_options option.now value.now other.now second.now }
+    ensures options { result ≡ by_options option.now value.now other.now second.now }
+    ensures few { IfSome result (λ a. (0 < a.workers) × (a.workers ≤ 64)) }
 {
     if option == "--depth" && other == "--workers" {
         both(number(value, GREATEST_DEPTH), number(second, MOST_WORKERS))
@@ -67,7 +70,7 @@ fn by_two(option: &str, value: &str, other: &str, second: &str) -> Option<Wanted
 }
 
 // What `run --depth D` or `run --depth D --workers W` asks for. All other words are refused.
-pub(crate) fn asked(words: &[String]) -> Option<Wanted>
+fn asked(words: &[String]) -> Option<Wanted>
     ensures asked { result ≡ asked_of (map string_bytes words.now) }
     ensures few { IfSome result (λ a. (0 < a.workers) × (a.workers ≤ 64)) }
 {
@@ -81,11 +84,25 @@ pub(crate) fn asked(words: &[String]) -> Option<Wanted>
         }
         [command, option, value, other, second] => {
             if command.as_str() == "run" {
-                by_two(option.as_str(), value.as_str(), other.as_str(), second.as_str())
+                by_two(
+                    option.as_str(),
+                    value.as_str(),
+                    other.as_str(),
+                    second.as_str(),
+                )
             } else {
                 None
             }
         }
         _ => None,
     }
+}
+
+// The same, with what it says of the depth.
+pub(crate) fn accepted(words: &[String]) -> Option<Wanted>
+    ensures accepted { IfSome result (λ a. depth_of (map string_bytes words.now) ≡ Some a.depth) }
+    ensures refused { result ≡ None → depth_of (map string_bytes words.now) ≡ None }
+    ensures few { IfSome result (λ a. (0 < a.workers) × (a.workers ≤ 64)) }
+{
+    asked(words)
 }

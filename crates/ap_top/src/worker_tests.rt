@@ -89,7 +89,10 @@ fn workers_write_the_same_bytes(rt: HostRuntime) -> Result<(), Fail> {
         }
     }
     let (_, sink) = call(&rt, alloc, "run --depth 1 --workers 8", CUTS, &NoGate)?;
-    assert_eq!(rt; sink.bytes(), b"% cut 2\n% query 1: 0 answers, 2 cut, 0 stuck\n".as_slice());
+    assert_eq!(rt;
+        sink.bytes(),
+        b"% cut 2\n% query 1: 0 answers, 2 cut, 0 stuck\n".as_slice()
+    );
     Ok(())
 }
 
@@ -103,7 +106,10 @@ fn two_workers_work_at_once(rt: HostRuntime) -> Result<(), Fail> {
     };
     let (status, sink) = call(&rt, rt.alloc(), "run --depth 3 --workers 2", FACTS, &gate)?;
     assert_eq!(rt; status, 0);
-    assert_eq!(rt; sink.bytes(), b"yes\nyes\n% query 1: 2 answers, 0 cut, 0 stuck\n".as_slice());
+    assert_eq!(rt;
+        sink.bytes(),
+        b"yes\nyes\n% query 1: 2 answers, 0 cut, 0 stuck\n".as_slice()
+    );
     assert!(rt; !gate.gave_up.load(SeqCst), "they have not met");
     Ok(())
 }

@@ -1,5 +1,8 @@
 // The search of a query by so many workers.
-ghost use Rattle.std.specs.Prelude.{◌<◌, ◌≤◌};
+ghost use Rattle.std.specs.Prelude.{◌≡◌, ◌-◌, ◌<◌, ◌≤◌, Some, IfOk, slice_get};
+ghost use Rattle.ap_defs.specs.Answers.{outs_of, query_outs};
+ghost use Rattle.ap_defs.specs.Goals.{NominalQuery};
+ghost use Rattle.ap_backchain.specs.Problems.{HasQuery, clauses_in, queries_in};
 
 use ap_backchain::problem::{Problem, outputs};
 use ap_book::merge;
@@ -30,7 +33,11 @@ fn search_beside<R: Threads + Wait + Sync, G: Gate>(
     gate: &G,
     count: u32,
     problem: &Problem<'_>,
-) -> Result<Vec<Out>, Memory> {
+) -> Result<Vec<Out>, Memory>
+    requires query { HasQuery problem.now }
+    requires count { (0 < count) × (count ≤ 64) }
+    ensures { IfOk result (λ v. (q : NominalQuery) → slice_get (queries_in problem.now) (problem.now.query - 1) ≡ Some q → outs_of v.items ≡ query_outs (clauses_in problem.now) problem.now.depth q) }
+{
     let tree = ProblemTree::of(*problem);
     let closed = search(rt, alloc, &tree, count, gate)?;
     merge(alloc, closed)

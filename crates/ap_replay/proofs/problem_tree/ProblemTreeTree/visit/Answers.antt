@@ -22,7 +22,7 @@ returns-in_ok-outs-in-None c =
     let path = c.args.path.now in
     let outs = outs_of c.in_ok-outs-in-None.outs.items in
     let there = outs_there p outs path c.args.self.now.query
-        (subst (λ (x : List ℕ). ((q : NominalQuery) → slice_get (queries_in p) (p.query - 1) ≡ Some q → outs ≡ outs_at (clauses_in p) p.depth q x)) c.in_ok-branch.ensures.path c.in_ok-outs-in-None.ensures) in
+    (subst (λ (x : List ℕ). ((q : NominalQuery) → slice_get (queries_in p) (p.query - 1) ≡ Some q → outs ≡ outs_at (clauses_in p) p.depth q x)) c.in_ok-branch.ensures.path c.in_ok-outs-in-None.ensures) in
     ap (λ os. entries.outs (outs_of os)) c.of-in-None.ensures
     ∙ ap entries.outs there
     ∙ no_kids (problem_outs p path) c.in_ok-kids.field-0 (kids_shared path c.node.result.now) c.in-None.is c.in_ok-kids.ensures
