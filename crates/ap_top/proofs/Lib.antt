@@ -1,4 +1,3 @@
-mod AcceptedWords
 mod Numbers
 mod Reports
 mod Wrote

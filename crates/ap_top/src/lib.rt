@@ -18,9 +18,6 @@ mod run;
 #[cfg(test)]
 mod tests;
 mod words;
-#[cfg(test)]
-mod worker_tests;
-mod workers;
 mod writing;
 
 pub use ap_report::Status;

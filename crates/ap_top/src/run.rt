@@ -7,13 +7,12 @@ ghost use Rattle.ap_top.specs.Report.{Input, IsReportOn, IsTheReport, line as li
 ghost use Rattle.ap_top.specs.Run.{IsRead, IsUnwritten, IsWritten};
 
 use crate::reading::{ReadError, read_whole};
-use crate::words::{self, Wanted};
-use crate::workers::Workers;
+use crate::words;
 use crate::writing::write_whole;
 use ap_defs::lists::List;
 use ap_defs::memory::Memory;
 use ap_io::{Failed, Gate, Sink, Source};
-use ap_report::{Report, Solver, Status, report_text_by};
+use ap_report::{Report, Status, report_text};
 use std::alloc::Global;
 use std::sync::Wait;
 use std::thread::Threads;
@@ -29,19 +28,14 @@ fn line(alloc: Global, text: &str, status: Status) -> Result<Report, Memory>
 }
 
 // The report on what the source has left.
-fn report_source<Q: Solver, S: Source>(
-    alloc: Global,
-    solver: &Q,
-    depth: u32,
-    source: &mut S,
-) -> Result<Report, Memory>
+fn report_source<S: Source>(alloc: Global, depth: u32, source: &mut S) -> Result<Report, Memory>
     ensures { IfOk result (λ r. (input : Input)
         × IsRead (S.left source.old) (S.faults source.old) (S.faults source.new) input
         × IsReportOn depth input r
         × ((s : Report) → IsReportOn depth input s → s ≡ r)) }
 {
     match read_whole(alloc, source) {
-        Ok(text) => report_text_by(alloc, solver, &text, depth),
+        Ok(text) => report_text(alloc, &text, depth),
         Err(ReadError::Failed) => line(alloc, "% read fault\n", Status::Read),
         Err(ReadError::TooLarge) => line(alloc, "% text too large\n", Status::TooLarge),
         Err(ReadError::Memory) => Err(Memory),
@@ -50,41 +44,27 @@ fn report_source<Q: Solver, S: Source>(
 
 // The report for the words and what the source has left, which is read only where the words are
 // accepted.
-fn report<R: Threads + Wait + Sync, S: Source, G: Gate>(
-    rt: &R,
-    alloc: Global,
-    words: &[String],
-    source: &mut S,
-    gate: &G,
-) -> Result<Report, Memory>
+fn report<S: Source>(alloc: Global, words: &[String], source: &mut S) -> Result<Report, Memory>
     ensures unread { depth_of (map string_bytes words.now) ≡ None → source.new ≡ source.old }
     ensures made { IfOk result (λ r. (input : Input)
         × (IsSome (depth_of (map string_bytes words.now)) →
         IsRead (S.left source.old) (S.faults source.old) (S.faults source.new) input)
         × IsTheReport (map string_bytes words.now) input r) }
 {
-    match words::accepted(words) {
-        Some(Wanted { depth, workers }) => {
-            let solver = Workers {
-                rt,
-                gate,
-                count: workers,
-            };
-            report_source(alloc, &solver, depth, source)
-        }
+    match words::depth(words) {
+        Some(depth) => report_source(alloc, depth, source),
         None => line(alloc, "% usage fault\n", Status::Usage),
     }
 }
 
 /// Reads the source whole, makes the report of the words and of what was read, and then writes it to
-/// the sink. The words are those after the program's name. The writing takes no memory. Two workers or
-/// more search side by side, each on a thread of its own where threads can be started, and pass the
-/// gate before each path that they take up; what is written does not depend on how many there are.
+/// the sink. The words are those after the program's name. The writing takes no memory. The work is
+/// done on one thread so far, so the gate isn't passed.
 ///
 /// | Status | Comes | Written is |
 /// |---|---|---|
 /// | `Ok` | exactly where the text has no fault | the report of its queries |
-/// | `Usage` | exactly where the words aren't `run`, `--depth` with a number of at most 1,000,000, and at most once `--workers` with a number from 1 to 64; then nothing is read | its line |
+/// | `Usage` | exactly where the words aren't `run`, `--depth`, and a number of at most 1,000,000; then nothing is read | its line |
 /// | `Syntax` | exactly where the text doesn't split into tokens, or an item isn't in the grammar | the line of the first fault |
 /// | `Types` | exactly where an item isn't well typed | the line of the first fault |
 /// | `Names` | exactly where an item breaks the name restriction | the line of the first fault |
@@ -99,12 +79,12 @@ fn report<R: Threads + Wait + Sync, S: Source, G: Gate>(
 /// "Nominal Logic Programming"): a line for each answer, in order, once for each derivation, with notes
 /// where branches were cut or stuck, and the totals.
 pub fn top<R: Threads + Wait + Sync, S: Source, K: Sink, G: Gate>(
-    rt: &R,
+    _rt: &R,
     alloc: Global,
     words: &[String],
     source: &mut S,
     sink: &mut K,
-    gate: &G,
+    _gate: &G,
 ) -> Status
     // Nothing is read where the words are refused.
     ensures unread { depth_of (map string_bytes words.now) ≡ None → source.new ≡ source.old }
@@ -127,7 +107,7 @@ pub fn top<R: Threads + Wait + Sync, S: Source, K: Sink, G: Gate>(
       faults' = K.faults sink.new;
     }) }
 {
-    match report(rt, alloc, words, source, gate) {
+    match report(alloc, words, source) {
         Ok(report) => match write_whole(sink, report.bytes.items()) {
             Ok(()) => report.status,
             Err(Failed) => Status::Write,

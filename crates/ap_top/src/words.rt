@@ -1,14 +1,11 @@
 // The words of the command line.
-ghost use Rattle.std.specs.Prelude.{◌≡◌, ◌<◌, ◌≤◌, None, Some, IfSome, map, string_bytes};
+ghost use Rattle.std.specs.Prelude.{◌≡◌, map, string_bytes};
 ghost use Rattle.std.specs.Char.{is_ascii_digit};
 ghost use Rattle.std.specs.List.{list_all};
-ghost use Rattle.ap_top.specs.Words.{asked_of, both_asked, by_options, depth_of, number_of};
+ghost use Rattle.ap_top.specs.Words.{number_of, depth_of};
 
 // The greatest depth that may be asked for.
 const GREATEST_DEPTH: u32 = 1_000_000;
-
-// The most workers that may be asked for.
-const MOST_WORKERS: u32 = 64;
 
 fn all_digits(text: &str) -> bool
     ensures { result ≡ list_all is_ascii_digit text.now }
@@ -18,8 +15,7 @@ fn all_digits(text: &str) -> bool
 
 // The number that digits spell, if it is at most `most`.
 fn number(text: &str, most: u32) -> Option<u32>
-    ensures spelled { result ≡ number_of most text.now }
-    ensures most { IfSome result (λ n. n ≤ most) }
+    ensures { result ≡ number_of most text.now }
 {
     // `parse` alone would take a sign.
     if !all_digits(text) {
@@ -31,78 +27,18 @@ fn number(text: &str, most: u32) -> Option<u32>
     if number <= most { Some(number) } else { None }
 }
 
-// What accepted words ask for.
-#[derive(Clone, Copy)]
-pub(crate) struct Wanted {
-    pub(crate) depth: u32,
-    pub(crate) workers: u32,
-}
-
-// What a depth and a number of workers ask for, where both are in their ranges.
-fn both(depth: Option<u32>, workers: Option<u32>) -> Option<Wanted>
-    ensures both { result ≡ both_asked depth workers }
-    ensures few { IfSome workers (λ w. w ≤ 64) → IfSome result (λ a. (0 < a.workers) × (a.workers ≤ 64)) }
-{
-    match (depth, workers) {
-        (Some(depth), Some(workers)) => {
-            if workers > 0 {
-                Some(Wanted { depth, workers })
-            } else {
-                None
-            }
-        }
-        _ => None,
-    }
-}
-
-// What two options ask for, in either order.
-fn by_two(option: &str, value: &str, other: &str, second: &str) -> Option<Wanted>
-    ensures options { result ≡ by_options option.now value.now other.now second.now }
-    ensures few { IfSome result (λ a. (0 < a.workers) × (a.workers ≤ 64)) }
-{
-    if option == "--depth" && other == "--workers" {
-        both(number(value, GREATEST_DEPTH), number(second, MOST_WORKERS))
-    } else if option == "--workers" && other == "--depth" {
-        both(number(second, GREATEST_DEPTH), number(value, MOST_WORKERS))
-    } else {
-        None
-    }
-}
-
-// What `run --depth D` or `run --depth D --workers W` asks for. All other words are refused.
-fn asked(words: &[String]) -> Option<Wanted>
-    ensures asked { result ≡ asked_of (map string_bytes words.now) }
-    ensures few { IfSome result (λ a. (0 < a.workers) × (a.workers ≤ 64)) }
+// The depth that `run --depth D` asks for. All other words are refused.
+pub(crate) fn depth(words: &[String]) -> Option<u32>
+    ensures { result ≡ depth_of (map string_bytes words.now) }
 {
     match words {
-        [command, option, value] => {
+        [command, option, depth] => {
             if command.as_str() == "run" && option.as_str() == "--depth" {
-                both(number(value.as_str(), GREATEST_DEPTH), Some(1))
-            } else {
-                None
-            }
-        }
-        [command, option, value, other, second] => {
-            if command.as_str() == "run" {
-                by_two(
-                    option.as_str(),
-                    value.as_str(),
-                    other.as_str(),
-                    second.as_str(),
-                )
+                number(depth.as_str(), GREATEST_DEPTH)
             } else {
                 None
             }
         }
         _ => None,
     }
-}
-
-// The same, with what it says of the depth.
-pub(crate) fn accepted(words: &[String]) -> Option<Wanted>
-    ensures accepted { IfSome result (λ a. depth_of (map string_bytes words.now) ≡ Some a.depth) }
-    ensures refused { result ≡ None → depth_of (map string_bytes words.now) ≡ None }
-    ensures few { IfSome result (λ a. (0 < a.workers) × (a.workers ≤ 64)) }
-{
-    asked(words)
 }
