@@ -5,7 +5,15 @@
 //! says that the status and the bytes are those of the report of the words and of what was read.
 #![tactic(auto)]
 
+#[cfg(test)]
+mod answered;
+#[cfg(test)]
+mod cases;
+#[cfg(test)]
+mod faulty;
 mod reading;
+#[cfg(test)]
+mod replay_tests;
 mod run;
 #[cfg(test)]
 mod tests;

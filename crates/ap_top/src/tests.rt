@@ -1,14 +1,17 @@
-ghost use Rattle.std.specs.Prelude.{◌≤◌};
+ghost use Rattle.std.specs.Prelude.{◌≤◌, None};
 
 use super::*;
+use crate::answered::ANSWERED;
+use crate::cases::{SUBSTITUTION, Table};
+use crate::faulty::FAULTY;
 use ap_defs::memory::Memory;
-use ap_io::{MemSink, MemSource, NoGate};
+use ap_io::{Failed, MemSink, MemSource, NoGate, Source};
 use std::alloc::Global;
 use std::sync::Wait;
 use std::test::Fail;
 use std::thread::Threads;
 
-const TEXT: &str = "nat : type. z : nat. s : nat -> nat. pred p(nat). p(z). p(s(z)). ?- p(X).";
+const TEXT: &[u8] = b"nat : type. z : nat. s : nat -> nat. pred p(nat). p(z). p(s(z)). ?- p(X).";
 
 const REPORT: &str = "X = z\nX = s(z)\n% query 1: 2 answers, 0 cut, 0 stuck\n";
 
@@ -25,7 +28,7 @@ fn call<R: Threads + Wait + Sync>(
     rt: &R,
     alloc: Global,
     line: &str,
-    text: &str,
+    text: &[u8],
     most: usize,
     failing_read: u64,
     failing_write: u64,
@@ -33,21 +36,137 @@ fn call<R: Threads + Wait + Sync>(
     requires { 1 ≤ most }
 {
     let words = words_of(alloc, line)?;
-    let bytes = text.as_bytes().to_vec(alloc)?;
+    let bytes = text.to_vec(alloc)?;
     let mut source = MemSource::new(bytes, vec![in alloc; failing_read]?);
-    let mut sink = MemSink::new(alloc, most, 100, vec![in alloc; failing_write]?)?;
+    let mut sink = MemSink::new(alloc, most, 200, vec![in alloc; failing_write]?)?;
     let status = top(rt, alloc, &words, &mut source, &mut sink, &NoGate);
     Ok((status.code(), sink))
 }
 
+// The place of the first case of a table that ends or is written otherwise.
+fn first_other<R: Threads + Wait + Sync>(
+    rt: &R,
+    alloc: Global,
+    table: &Table<'_>,
+) -> Result<Option<usize>, Memory> {
+    let depth = table.depth;
+    let line = format!(in alloc; "run --depth {depth}")?;
+    let begin = table.begin;
+    for (place, (rest, written)) in table.cases.iter().enumerate() {
+        let text = format!(in alloc; "{begin}{rest}")?;
+        let (status, sink) = call(rt, alloc, &line, text.as_bytes(), 100, 0, 0)?;
+        if status != table.status || sink.bytes() != written.as_bytes() {
+            return Ok(Some(place));
+        }
+    }
+    Ok(None)
+}
+
 #[test]
-fn texts_are_answered(rt: HostRuntime) -> Result<(), Fail> {
-    let (status, sink) = call(&rt, rt.alloc(), "run --depth 01", TEXT, 100, 0, 0)?;
-    assert_eq!(rt; status, 0);
-    assert_eq!(rt; sink.bytes(), REPORT.as_bytes());
-    let (status, sink) = call(&rt, rt.alloc(), "run --depth 1", "", 100, 0, 0)?;
-    assert_eq!(rt; status, 0);
+fn texts_are_answered_as_stored(rt: HostRuntime) -> Result<(), Fail> {
+    for (place, table) in ANSWERED.iter().enumerate() {
+        assert_eq!(rt;
+            first_other(&rt, rt.alloc(), table)?,
+            None,
+            "in table {place}"
+        );
+    }
+    Ok(())
+}
+
+#[test]
+fn faults_are_told_as_stored(rt: HostRuntime) -> Result<(), Fail> {
+    for (place, table) in FAULTY.iter().enumerate() {
+        assert_eq!(rt;
+            first_other(&rt, rt.alloc(), table)?,
+            None,
+            "in table {place}"
+        );
+    }
+    Ok(())
+}
+
+// The text is levels of parentheses and a full stop.
+fn nested(alloc: Global, levels: usize) -> Result<Vec<u8>, Memory> {
+    let mut text = vec![in alloc; b'('; levels]?;
+    text.push(b'.')?;
+    Ok(text)
+}
+
+#[test]
+fn nesting_is_bounded(rt: HostRuntime) -> Result<(), Fail> {
+    for (levels, line) in [
+        (256, "% syntax fault: item 1, line 1, kind 3 Grammar\n"),
+        (257, "% syntax fault: item 1, line 1, kind 4 TooDeep\n"),
+    ] {
+        let text = nested(rt.alloc(), levels)?;
+        let (status, sink) = call(&rt, rt.alloc(), "run --depth 5", &text, 100, 0, 0)?;
+        assert_eq!(rt; status, 2);
+        assert_eq!(rt; sink.bytes(), line.as_bytes());
+    }
+    Ok(())
+}
+
+#[test]
+fn bytes_that_are_no_text_are_told(rt: HostRuntime) -> Result<(), Fail> {
+    let text = [255u8, 46];
+    let (status, sink) = call(&rt, rt.alloc(), "run --depth 5", &text, 100, 0, 0)?;
+    assert_eq!(rt; status, 2);
+    assert_eq!(rt;
+        sink.bytes(),
+        b"% syntax fault: item 1, line 1, kind 1 NotUtf8\n".as_slice()
+    );
+    Ok(())
+}
+
+// A source of so many spaces, which never fails and tells no bytes.
+#[derive(Drop)]
+struct Spaces {
+    left: usize,
+}
+
+impl Source for Spaces {
+    ghost left = { λ _. None };
+
+    ghost faults = { λ _. 0 };
+
+    fn read(&mut self, buf: &mut [u8]) -> Result<usize, Failed> {
+        let count = self.left.min(buf.len());
+        buf.fill(b' ');
+        self.left -= count;
+        Ok(count)
+    }
+
+    fn faults(&self) -> u64 {
+        0
+    }
+}
+
+#[test]
+fn a_text_past_the_limit_is_too_large(rt: HostRuntime) -> Result<(), Fail> {
+    let words = words_of(rt.alloc(), "run --depth 5")?;
+    let mut source = Spaces { left: 16_777_217 };
+    let mut sink = MemSink::new(rt.alloc(), 100, 200, Vec::new(rt.alloc()))?;
+    let status = top(&rt, rt.alloc(), &words, &mut source, &mut sink, &NoGate);
+    assert_eq!(rt; status, Status::TooLarge);
+    assert_eq!(rt; sink.bytes(), b"% text too large\n".as_slice());
+    Ok(())
+}
+
+#[test]
+fn a_beginning_of_an_answer_is_written(rt: HostRuntime) -> Result<(), Fail> {
+    let alloc = rt.alloc();
+    let mut text = SUBSTITUTION.as_bytes().to_vec(alloc)?;
+    text.extend_from_slice(b"?- subst(lam(b\\app(var(a),var(b))), a, var(b), R).\n")?;
+    let (status, sink) = call(&rt, alloc, "run --depth 5", &text, 10, 0, 2)?;
+    assert_eq!(rt; status, 6);
+    assert_eq!(rt; sink.bytes(), b"R = lam(n1".as_slice());
+    let (status, sink) = call(&rt, alloc, "run --depth 5", &text, 10, 1, 1)?;
+    assert_eq!(rt; status, 6);
     assert!(rt; sink.bytes().is_empty());
+    let (status, sink) = call(&rt, alloc, "run --depth 5", &text, 10, 1, 0)?;
+    assert_eq!(rt; status, 5);
+    assert_eq!(rt; sink.bytes(), b"% read fault\n".as_slice());
     Ok(())
 }
 
