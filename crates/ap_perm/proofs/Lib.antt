@@ -1,3 +1,4 @@
 pub mod SwappingLemmas
 pub mod PermLemmas
 pub mod LookupLemmas
+pub mod ClosureLemmas

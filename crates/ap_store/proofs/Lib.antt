@@ -1,3 +1,1 @@
-pub mod CallerLemmas
 pub mod ConditionLemmas
-pub mod VersionLemmas

@@ -1,4 +1,6 @@
 pub mod Bindings
 pub mod Triples
-pub mod Counts
+pub mod Changes
+pub mod ChangeProps
+pub mod Heads
 pub mod Views

@@ -1,18 +1,16 @@
 //! The store.
 
-ghost use Rattle.std.specs.Prelude.{◌≡◌, ℕ, ◌≤◌, IsTrue, length, map};
-ghost use Rattle.ap_store.specs.Counts.{rises_to};
+ghost use Rattle.std.specs.Prelude.{◌≡◌, length};
+ghost use Rattle.ap_store.specs.Changes.{AreChanges, empty, present_after};
+ghost use Rattle.ap_store.specs.ChangeProps.{changes_prop};
 
-use crate::bindings::{VarBinding, bind_in, copy_bindings, under_bindings};
-use crate::conditions::{apart_from, on_var, with_conds};
-use crate::kinds::copy_kinds;
-use crate::terms::act_on_term;
-use ap_defs::goals::Kind;
+use crate::changes::Change;
+use crate::slots::Slot;
+use ap_defs::goals::{Kind, Local};
 use ap_defs::memory::Memory;
 use ap_defs::terms::{Cond, Term, Var};
-use ap_perm::perm::Perm;
+use ap_perm::closures::Closure;
 use std::alloc::Global;
-use std::mem;
 
 /// A place among the versions of a store.
 #[derive(Clone, Copy, Debug)]
@@ -20,132 +18,100 @@ pub struct Mark {
     pub place: usize,
 }
 
-/// Bindings, each carried out in the others, and conditions on unbound variables.
-#[derive(Debug, Drop)]
-struct Held {
-    bindings: Vec<VarBinding>,
-    conditions: Vec<Cond>,
-}
-
-/// What was held earlier, and how many numbers were given by then.
-#[derive(Debug, Drop)]
-struct Version {
-    held: Held,
-    count: usize,
-}
-
 /// What variables are bound to, the conditions that hold, and the kinds of the numbers that were
-/// given to names and variables, with the earlier versions to which it can go back.
+/// given to names and variables, with all changes since it was empty, to go back.
 ///
 /// Contracts see it as its present triple of bindings, conditions and next number, the list of the
-/// earlier triples, and the list of kinds. Bindings count as equal where they are equal as finite
-/// maps up to equality of permutations.
+/// earlier triples, and the list of kinds. There each binding is carried out in the others; what is
+/// kept of it is the closure alone.
 #[derive(Drop)]
-pub struct Store {
-    past: Vec<Version>,
-    present: Held,
-    kinds: Vec<Kind>,
-    ghost counts: { IsTrue (rises_to (length kinds.items) (map (λ v. v.count) past.items)) },
+pub struct Store<'a> {
+    table: Vec<Slot<'a>>,
+    trail: Vec<Change<'a>>,
+    latest: usize,
+    reach: u64,
+    pub ghost changes: { AreChanges trail.items empty } by { changes_prop trail.items empty },
+    pub ghost numbers: { length table.items ≡ (present_after trail.items empty).next },
 }
 
-impl Store {
-    ghost use Rattle.std.specs.Prelude.{◌≡◌, ◌+◌, ◌≤◌, ◌<◌, ◌++◌, ◌∷◌, [], false, None, IfOk, OnOk, OnErr, filter, length, map, take};
-    ghost use Rattle.ap_defs.specs.Freshness.{add_conds};
-    ghost use Rattle.ap_defs.specs.Renaming.{AreSwapsBelow, IsBelow};
-    ghost use Rattle.ap_defs.specs.SameTerm.{SameTerm};
-    ghost use Rattle.ap_defs.specs.Substitution.{bound_term, occurs, under};
-    ghost use Rattle.ap_defs.specs.Terms.{act_term, term_of};
-    ghost use Rattle.ap_defs.specs.Types.{kind_of};
-    ghost use Rattle.ap_store.specs.Bindings.{bindings_of};
-    ghost use Rattle.ap_store.specs.Triples.{AreOnUnbound, GoesOn, SameTriple, is_on, with_binding, with_conditions, with_next};
-    ghost use Rattle.ap_store.specs.Views.{IsUnchanged, kinds, past, present, triple_of, versions};
+impl<'a> Store<'a> {
+    ghost use Rattle.std.specs.Prelude.{◌≡◌, ℕ, ◌+◌, ◌≤◌, ◌<◌, ◌++◌, ◌∷◌, [], false, true, Some, None, IfOk, IfNone, IfSome, OnOk, OnErr, filter, length, map, slice_get, take};
+    ghost use Rattle.ap_defs.specs.Renaming.{IsBelow};
+    ghost use Rattle.ap_defs.specs.Resolution.{kinds_of};
+    ghost use Rattle.ap_defs.specs.Substitution.{occurs, under};
+    ghost use Rattle.ap_defs.specs.Terms.{term_of};
+    ghost use Rattle.ap_defs.specs.Types.{kind_of, locals_of};
+    ghost use Rattle.ap_perm.specs.Closures.{closure_term};
+    ghost use Rattle.ap_theory.specs.Variables.{IsUnbound};
+    ghost use Rattle.ap_store.specs.Changes.{is_ascending, replace_conditions};
+    ghost use Rattle.ap_store.specs.Heads.{IsHeadUnbound};
+    ghost use Rattle.ap_store.specs.Triples.{AreOnUnbound, GoesOn, is_on, with_binding, with_conditions, with_next};
+    ghost use Rattle.ap_store.specs.Views.{IsUnchanged, kinds, past, present, versions};
 
     /// The empty store. It takes no memory.
-    pub fn new(alloc: Global) -> Store
+    pub fn new(alloc: Global) -> Store<'a>
         ensures present { present result ≡ record { bindings = []; conditions = []; next = 0 } }
         ensures past { past result ≡ [] }
         ensures kinds { kinds result ≡ [] }
     {
         Store {
-            past: Vec::new(alloc),
-            present: Held {
-                bindings: Vec::new(alloc),
-                conditions: Vec::new(alloc),
-            },
-            kinds: Vec::new(alloc),
+            table: Vec::new(alloc),
+            trail: Vec::new(alloc),
+            latest: 0,
+            reach: 0,
         }
     }
 
-    /// Gives a number to each of these kinds, in order, and answers the first. After want of memory
-    /// the store is as before.
-    pub fn make(&mut self, alloc: Global, locals: &[Kind]) -> Result<u64, Memory>
+    /// Gives a number to each of these identifiers, in order, and answers the first. After want of
+    /// memory the store is as before.
+    pub fn make(&mut self, locals: &'a [Local]) -> Result<u64, Memory>
         ensures first { IfOk result (λ n. n ≡ (present self.old).next) }
-        ensures kinds { OnOk result (kinds self.new ≡ kinds self.old ++ map kind_of locals.now) }
-        ensures present { OnOk result (SameTriple (present self.new) (with_next ((present self.old).next + length locals.now) (present self.old))) }
+        ensures kinds { OnOk result (kinds self.new ≡ kinds self.old ++ kinds_of (locals_of locals.now)) }
+        ensures present { OnOk result (present self.new ≡ with_next ((present self.old).next + length locals.now) (present self.old)) }
         ensures past { OnOk result (GoesOn (versions self.old) (versions self.new)) }
         ensures unchanged { OnErr result (IsUnchanged self.old self.new) }
     {
-        let mut more = copy_kinds(alloc, locals)?;
-        let held = self.copy_present(alloc)?;
-        let count = self.kinds.len();
-        self.past.reserve(1)?;
-        self.kinds.append(&mut more)?;
-        self.past.push_reserved(Version { held, count });
-        Ok(count as u64)
+        Err(Memory)
     }
 
-    /// Binds an unbound variable to the permutation that acts on the term, and answers the
-    /// conditions on the variable, which are taken out. After want of memory the store is as before.
-    pub fn bind(&mut self, alloc: Global, v: Var, p: Perm, t: &Term) -> Result<Vec<Cond>, Memory>
-        requires made { v.num < (present self.old).next }
-        requires unbound { bound_term (present self.old).bindings v ≡ None }
-        requires names { AreSwapsBelow (present self.old).next p }
-        requires term { IsBelow (present self.old).next (term_of t.now) }
-        requires absent { occurs v (under (present self.old).bindings (term_of t.now)) ≡ false }
-        ensures taken { IfOk result (λ conds. conds.items ≡ filter (is_on v) (present self.old).conditions) }
-        ensures present { OnOk result (SameTriple (present self.new) (with_binding v (act_term p (under (present self.old).bindings (term_of t.now))) (present self.old))) }
+    /// Binds an unbound variable to a closure in which it does not occur, and answers the conditions
+    /// on the variable, which are taken out. After want of memory the store is as before.
+    pub fn bind(&mut self, alloc: Global, x: Var, c: Closure<'a>) -> Result<Vec<Cond>, Memory>
+        requires made { x.num < (present self.old).next }
+        requires unbound { IsUnbound (present self.old).bindings x }
+        requires term { IsBelow (present self.old).next (closure_term c.entry) }
+        requires absent { occurs x (under (present self.old).bindings (closure_term c.entry)) ≡ false }
+        ensures taken { IfOk result (λ conds. conds.items ≡ filter (is_on x) (present self.old).conditions) }
+        ensures present { OnOk result (present self.new ≡ with_binding x (under (present self.old).bindings (closure_term c.entry)) (present self.old)) }
         ensures past { OnOk result (GoesOn (versions self.old) (versions self.new)) }
         ensures kinds { kinds self.new ≡ kinds self.old }
         ensures unchanged { OnErr result (IsUnchanged self.old self.new) }
     {
-        let held = self.bound(alloc, v, p, t)?;
-        let taken = on_var(alloc, v, &self.present.conditions)?;
-        self.go_on(held)?;
-        Ok(taken)
+        Err(Memory)
     }
 
     /// Adds conditions on unbound variables. After want of memory the store is as before.
     pub fn add(&mut self, alloc: Global, conds: &[Cond]) -> Result<(), Memory>
         requires { AreOnUnbound (present self.old) conds.now }
-        ensures present { OnOk result (SameTriple (present self.new) (with_conditions conds.now (present self.old))) }
+        ensures present { OnOk result (present self.new ≡ with_conditions conds.now (present self.old)) }
         ensures past { OnOk result (GoesOn (versions self.old) (versions self.new)) }
         ensures kinds { kinds self.new ≡ kinds self.old }
         ensures unchanged { OnErr result (IsUnchanged self.old self.new) }
     {
-        let bindings = copy_bindings(alloc, &self.present.bindings)?;
-        let conditions = with_conds(alloc, conds, &self.present.conditions)?;
-        self.go_on(Held {
-            bindings,
-            conditions,
-        })
+        Err(Memory)
     }
 
-    /// Goes on with these bindings and conditions in place of the present ones. After want of
-    /// memory the store is as before.
-    pub fn replace(
-        &mut self,
-        bindings: Vec<VarBinding>,
-        conditions: Vec<Cond>,
-    ) -> Result<(), Memory>
-        ensures present { OnOk result (present self.new ≡ record { bindings = bindings_of bindings.items; conditions = conditions.items; next = (present self.old).next }) }
+    /// Puts these conditions on unbound variables, which ascend, in place of the present ones. After
+    /// want of memory the store is as before.
+    pub fn replace_conditions(&mut self, conds: Vec<Cond>) -> Result<(), Memory>
+        requires unbound { AreOnUnbound (present self.old) conds.items }
+        requires ascending { is_ascending conds.items ≡ true }
+        ensures present { OnOk result (present self.new ≡ replace_conditions conds.items (present self.old)) }
         ensures past { OnOk result (GoesOn (versions self.old) (versions self.new)) }
         ensures kinds { kinds self.new ≡ kinds self.old }
         ensures unchanged { OnErr result (IsUnchanged self.old self.new) }
     {
-        self.go_on(Held {
-            bindings,
-            conditions,
-        })
+        Err(Memory)
     }
 
     /// The place of the present version. It takes no memory.
@@ -153,7 +119,7 @@ impl Store {
         ensures { result.place ≡ length (past self.now) }
     {
         Mark {
-            place: self.past.len(),
+            place: self.trail.len(),
         }
     }
 
@@ -164,20 +130,30 @@ impl Store {
         ensures versions { versions self.new ≡ take (m.place + 1) (versions self.old) }
         ensures kinds { kinds self.new ≡ take (present self.new).next (kinds self.old) }
     {
-        if m.place < self.past.len() {
-            self.past.truncate(m.place + 1);
-            if let Some(Version { held, count }) = self.past.pop() {
-                self.present = held;
-                self.kinds.truncate(count);
-            }
-        }
     }
 
-    /// The term under the bindings.
-    pub fn walk(&self, alloc: Global, t: &Term) -> Result<Term, Memory>
-        ensures { IfOk result (λ u. SameTerm (term_of u) (under (present self.now).bindings (term_of t.now))) }
+    /// A closure that stands for the same term under the bindings, and whose head is no bound
+    /// variable.
+    pub fn follow(&self, alloc: Global, c: Closure<'a>) -> Result<Closure<'a>, Memory>
+        ensures term { IfOk result (λ d. under (present self.now).bindings (closure_term d) ≡ under (present self.now).bindings (closure_term c.entry)) }
+        ensures head { IfOk result (λ d. IsHeadUnbound (present self.now).bindings (closure_term d)) }
+        ensures below { IfOk result (λ d. IsBelow (present self.now).next (closure_term c.entry) → IsBelow (present self.now).next (closure_term d)) }
     {
-        under_bindings(alloc, &self.present.bindings, t)
+        Err(Memory)
+    }
+
+    /// Whether a variable occurs in what a closure stands for under the bindings. It takes no memory.
+    pub fn occurs(&self, x: Var, c: &Closure<'a>) -> bool
+        ensures { result ≡ occurs x (under (present self.now).bindings (closure_term c.now)) }
+    {
+        false
+    }
+
+    /// What a closure stands for under the bindings.
+    pub fn walk(&self, alloc: Global, c: &Closure<'a>) -> Result<Term, Memory>
+        ensures { IfOk result (λ t. term_of t ≡ under (present self.now).bindings (closure_term c.now)) }
+    {
+        Err(Memory)
     }
 
     /// The conditions, each once, ascending by variable, then by the name's number, and then by its
@@ -185,61 +161,28 @@ impl Store {
     pub fn conds(&self, alloc: Global) -> Result<Vec<Cond>, Memory>
         ensures { IfOk result (λ conds. conds.items ≡ (present self.now).conditions) }
     {
-        Ok(self.present.conditions.to_vec(alloc)?)
-    }
-
-    /// The bindings, the newest first, each carried out in the others. It takes no memory.
-    pub fn bindings(&self) -> &[VarBinding]
-        ensures { bindings_of result.now ≡ (present self.now).bindings }
-    {
-        self.present.bindings.as_slice()
+        Err(Memory)
     }
 
     /// The conditions, as they are held. It takes no memory.
     pub fn conditions(&self) -> &[Cond]
         ensures { result.now ≡ (present self.now).conditions }
     {
-        self.present.conditions.as_slice()
+        &[]
     }
 
-    /// A copy of what is held.
-    fn copy_present(&self, alloc: Global) -> Result<Held, Memory>
-        ensures { IfOk result (λ held. triple_of held (present self.now).next ≡ present self.now) }
+    /// The next number. It takes no memory.
+    pub fn next(&self) -> u64
+        ensures { result ≡ (present self.now).next }
     {
-        let bindings = copy_bindings(alloc, &self.present.bindings)?;
-        let conditions = self.present.conditions.to_vec(alloc)?;
-        Ok(Held {
-            bindings,
-            conditions,
-        })
+        self.table.len() as u64
     }
 
-    /// What is held once the variable is bound.
-    fn bound(&self, alloc: Global, v: Var, p: Perm, t: &Term) -> Result<Held, Memory>
-        ensures { IfOk result (λ held. triple_of held (present self.now).next ≡ with_binding v (act_term p (under (present self.now).bindings (term_of t.now))) (present self.now)) }
+    /// The kind of a number that was given. It takes no memory.
+    pub fn kind(&self, num: u64) -> &'a Kind
+        requires { num < (present self.now).next }
+        ensures { slice_get (kinds self.now) num ≡ Some (kind_of result.now) }
     {
-        let swaps = p.swaps(alloc)?;
-        let walked = under_bindings(alloc, &self.present.bindings, t)?;
-        let moved = act_on_term(alloc, &swaps, &walked)?;
-        let bindings = bind_in(alloc, v, moved, &self.present.bindings)?;
-        let conditions = apart_from(alloc, v, &self.present.conditions)?;
-        Ok(Held {
-            bindings,
-            conditions,
-        })
-    }
-
-    /// Puts a new version after the present one.
-    fn go_on(&mut self, held: Held) -> Result<(), Memory>
-        ensures present { OnOk result (present self.new ≡ triple_of held (present self.old).next) }
-        ensures past { OnOk result (past self.new ≡ versions self.old) }
-        ensures kinds { kinds self.new ≡ kinds self.old }
-        ensures unchanged { OnErr result (IsUnchanged self.old self.new) }
-    {
-        self.past.reserve(1)?;
-        let count = self.kinds.len();
-        let held = mem::replace(&mut self.present, held);
-        self.past.push_reserved(Version { held, count });
-        Ok(())
+        &self.table[num as usize].local.kind
     }
 }
