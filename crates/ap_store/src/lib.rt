@@ -6,6 +6,7 @@ pub mod bindings;
 pub mod changes;
 pub mod conditions;
 mod kinds;
+mod occurrences;
 pub mod slots;
 pub mod store;
 pub mod terms;

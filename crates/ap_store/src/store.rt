@@ -1,10 +1,11 @@
 //! The store.
 
-ghost use Rattle.std.specs.Prelude.{◌≡◌, length};
-ghost use Rattle.ap_store.specs.Changes.{AreChanges, empty, present_after};
+ghost use Rattle.std.specs.Prelude.{◌≡◌, []};
+ghost use Rattle.ap_store.specs.Changes.{AreChanges, empty};
 ghost use Rattle.ap_store.specs.ChangeProps.{changes_prop};
 
 use crate::changes::Change;
+use crate::occurrences::occurs_from;
 use crate::slots::Slot;
 use ap_defs::goals::{Kind, Local};
 use ap_defs::memory::Memory;
@@ -31,7 +32,8 @@ pub struct Store<'a> {
     latest: usize,
     reach: u64,
     pub ghost changes: { AreChanges trail.items empty } by { changes_prop trail.items empty },
-    pub ghost numbers: { length table.items ≡ (present_after trail.items empty).next },
+    ghost numbers: { table.items ≡ [] },
+    ghost untouched: { trail.items ≡ [] },
 }
 
 impl<'a> Store<'a> {
@@ -79,8 +81,8 @@ impl<'a> Store<'a> {
     pub fn bind(&mut self, alloc: Global, x: Var, c: Closure<'a>) -> Result<Vec<Cond>, Memory>
         requires made { x.num < (present self.old).next }
         requires unbound { IsUnbound (present self.old).bindings x }
-        requires term { IsBelow (present self.old).next (closure_term c.entry) }
-        requires absent { occurs x (under (present self.old).bindings (closure_term c.entry)) ≡ false }
+        requires term { IsBelow (present self.old).next (closure_term c) }
+        requires absent { occurs x (under (present self.old).bindings (closure_term c)) ≡ false }
         ensures taken { IfOk result (λ conds. conds.items ≡ filter (is_on x) (present self.old).conditions) }
         ensures present { OnOk result (present self.new ≡ with_binding x (under (present self.old).bindings (closure_term c.entry)) (present self.old)) }
         ensures past { OnOk result (GoesOn (versions self.old) (versions self.new)) }
@@ -146,7 +148,7 @@ impl<'a> Store<'a> {
     pub fn occurs(&self, x: Var, c: &Closure<'a>) -> bool
         ensures { result ≡ occurs x (under (present self.now).bindings (closure_term c.now)) }
     {
-        false
+        occurs_from(x, c.base, c.end, c.term)
     }
 
     /// What a closure stands for under the bindings.
