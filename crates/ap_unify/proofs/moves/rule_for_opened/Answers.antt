@@ -5,7 +5,7 @@ use Rattle.ap_unify.proofs.moves.rule_for_opened.Goals.{in_default-via-in-Unit+i
 pub returns-clause-rule : goal.returns-clause-rule
 returns-clause-rule c =
     elim c.in_default.branch [
-      | in_default-via-in-Unit+in_default w ↦ let h = w.in_default in ?
+      | in_default-via-in-Unit+in_default w ↦ search rules
       | in_default-via-in-Name+in_default w ↦ search rules
       | in_default-via-in-Pair+in_default w ↦ search rules
       | in_default-via-in-App+in_default w ↦ search rules
