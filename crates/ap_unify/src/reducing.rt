@@ -13,11 +13,14 @@ ghost use Rattle.ap_unify.specs.Finishing.{some_if};
 
 use ap_defs::memory::Memory;
 use ap_defs::terms::{Cond, Name, Var};
+use ap_fresh::error::FreshError;
+use ap_fresh::reduction::{add_reduced, add_reduced_var};
 use ap_perm::closures::Closure;
 use ap_store::store::Store;
 
 /// Adds the conditions under which a name is fresh for what a closure stands for, unless it is free
 /// there.
+#[tactic(auto, using(crate::proofs::WellLemmas::looked))]
 pub fn reduce_closure<'a>(
     store: &Store<'a>,
     a: Name,
@@ -26,11 +29,16 @@ pub fn reduce_closure<'a>(
 ) -> Result<bool, Memory>
     ensures { IfOk result (λ fine. added (reduce a (under (present store.now).bindings (closure_term c.now))) conds.old.items ≡ some_if fine conds.new.items) }
 {
-    Err(Memory)
+    match add_reduced(a, c, store, conds) {
+        Ok(()) => Ok(true),
+        Err(FreshError::Refuted) => Ok(false),
+        Err(FreshError::Memory) => Err(Memory),
+    }
 }
 
 /// Adds the conditions under which a name is fresh for what a variable stands for, unless it is free
 /// there.
+#[tactic(auto, using(crate::proofs::WellLemmas::looked))]
 pub fn reduce_var<'a>(
     store: &Store<'a>,
     a: Name,
@@ -39,7 +47,11 @@ pub fn reduce_var<'a>(
 ) -> Result<bool, Memory>
     ensures { IfOk result (λ fine. added (reduce a (under (present store.now).bindings (susp [] x))) conds.old.items ≡ some_if fine conds.new.items) }
 {
-    Err(Memory)
+    match add_reduced_var(a, x, store, conds) {
+        Ok(()) => Ok(true),
+        Err(FreshError::Refuted) => Ok(false),
+        Err(FreshError::Memory) => Err(Memory),
+    }
 }
 
 /// Adds the conditions under which a name is fresh for what each of the variables stands for, from the
