@@ -16,7 +16,6 @@ use ap_perm::closures::Closure;
 use ap_perm::joining::numbered;
 use ap_perm::look::Look;
 use ap_perm::swappings::{preimage, swapped};
-
 use std::alloc::Global;
 
 /// Whether two conditions are one.

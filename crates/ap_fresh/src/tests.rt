@@ -72,11 +72,7 @@ fn bound_names(alloc: Global) -> Result<bool, Memory> {
 fn bound_variables(alloc: Global) -> Result<bool, Memory> {
     let term = Term::Susp(List::of(Vec::new(alloc)), Y);
     let look = bound_to(alloc, &term)?;
-    Ok(
-        is_left(alloc, A, &look, C)?
-            && is_left(alloc, B, &look, A)?
-            && is_left(alloc, C, &look, B)?,
-    )
+    Ok(is_left(alloc, A, &look, C)? && is_left(alloc, B, &look, A)? && is_left(alloc, C, &look, B)?)
 }
 
 #[test]

@@ -32,7 +32,7 @@ pub record IsWell (a : Triple) : Type 0 where
   pub set : add_conds a.conditions [] ≡ a.conditions
 
 -- a condition of a set to which it was added, and the others
-parts_of_add : (a : Triple) (c : Cond) (ds : Conds) → AreOnUnbound a (add_cond c ds) → AreOnUnbound a (c ∷ [])  × AreOnUnbound a ds
+parts_of_add : (a : Triple) (c : Cond) (ds : Conds) → AreOnUnbound a (add_cond c ds) → AreOnUnbound a (c ∷ []) × AreOnUnbound a ds
 parts_of_add a c [] h = (h, tt)
 parts_of_add a c (d ∷ ds) h =
     elim (cond_eq c d) as (λ v. cond_eq c d ≡ v → AreOnUnbound a (if v then (d ∷ ds) else (if cond_before c d then (c ∷ d ∷ ds) else (d ∷ add_cond c ds))) → AreOnUnbound a (c ∷ []) × AreOnUnbound a (d ∷ ds)) [

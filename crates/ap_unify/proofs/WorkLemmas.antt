@@ -112,8 +112,8 @@ go_bound a b w v x t e h k = record {
   next = ap (λ (c : Triple). c.next) e;
   pairs = λ p. subst (ArePairsBelow a.next) (sym h) p;
   conditions = λ ds m c.
-    taken_more ds a.conditions w.taken.items x m c
-    ∙ ap₂ (λ cs ts. has_cond c (cs ++ ts)) (sym (ap (λ (d : Triple). d.conditions) e)) (sym k);
+      taken_more ds a.conditions w.taken.items x m c
+      ∙ ap₂ (λ cs ts. has_cond c (cs ++ ts)) (sym (ap (λ (d : Triple). d.conditions) e)) (sym k);
 }
 
 pub go_on_on : (a b c : Triple) (u v w : Work) → GoOn a u b v → GoOn b v c w → GoOn a u c w

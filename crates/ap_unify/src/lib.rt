@@ -10,5 +10,7 @@ pub mod problems;
 mod reducing;
 mod rules;
 pub mod stages;
+#[cfg(test)]
+mod tests;
 pub mod unify;
 mod work;

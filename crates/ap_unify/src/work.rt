@@ -67,7 +67,8 @@ fn put_names<'a>(work: &mut Work<'a>, names: &[Name], x: Var) -> Result<(), Memo
     ensures taken { work.new.taken.items ≡ work.old.taken.items }
 {
     'putting: for a in names {
-        work.problems.push(FreshFor::OfVar(Cond { name: *a, var: x }))?;
+        work.problems
+            .push(FreshFor::OfVar(Cond { name: *a, var: x }))?;
     }
     Ok(())
 }
@@ -147,11 +148,7 @@ fn rule_at<'a>(alloc: Global, store: &Store<'a>, e: ClosurePair<'a>) -> Result<M
 }
 
 /// One step: false where there is no solution.
-fn advance<'a>(
-    alloc: Global,
-    store: &mut Store<'a>,
-    work: &mut Work<'a>,
-) -> Result<bool, Memory>
+fn advance<'a>(alloc: Global, store: &mut Store<'a>, work: &mut Work<'a>) -> Result<bool, Memory>
     requires some { 0 < vec_len work.old.equations }
     requires below { ArePairsBelow (present store.old).next work.old.equations.items }
     ensures stage { IfOk result (λ goes_on. progress_if goes_on (work_stage (present store.new).bindings work.new) ≡ step (work_stage (present store.old).bindings work.old)) }

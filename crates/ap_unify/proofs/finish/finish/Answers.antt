@@ -19,9 +19,9 @@ returns-after-not-is_empty-clause-conditions c =
     let e = kept_collected a.conditions (well c.args.store.now).set c.in-Some.conds.items o (c.in_ok-reduce_met.ensures ∙ ap items_in c.in-Some.is) in
     elim c.if-not-is_empty.branch [
       | then-not-is_empty+in_ok-add-in-Some w ↦
-        e ∙ ap Some (sym (ap (λ (r : Store). (present r).conditions) w.store-is ∙ ap (λ (b : Triple). b.conditions) w.in_ok-add-in-Some.ensures.present ∙ ap (λ cs. add_conds cs a.conditions) w.deref.ensures.value))
+          e ∙ ap Some (sym (ap (λ (r : Store). (present r).conditions) w.store-is ∙ ap (λ (b : Triple). b.conditions) w.in_ok-add-in-Some.ensures.present ∙ ap (λ cs. add_conds cs a.conditions) w.deref.ensures.value))
       | else-not-is_empty w ↦
-        let none : length c.in-Some.conds.items ≡ 0 = search rules in
-        let empty : c.in-Some.conds.items ≡ [] = nil_from_length c.in-Some.conds.items none in
-        e ∙ ap Some (ap (λ cs. add_conds cs a.conditions) empty ∙ sym (ap (λ (r : Store). (present r).conditions) w.store-is))
+          let none : length c.in-Some.conds.items ≡ 0 = search rules in
+          let empty : c.in-Some.conds.items ≡ [] = nil_from_length c.in-Some.conds.items none in
+          e ∙ ap Some (ap (λ cs. add_conds cs a.conditions) empty ∙ sym (ap (λ (r : Store). (present r).conditions) w.store-is))
     ]
