@@ -7,3 +7,4 @@ pub mod SoundLemmas
 pub mod StoredLemmas
 pub mod StoreLemmas
 pub mod FollowLemmas
+pub mod ReachLemmas

@@ -14,4 +14,6 @@ pub mod slots;
 pub mod store;
 mod tables;
 pub mod terms;
+#[cfg(test)]
+mod tests;
 mod walks;

@@ -35,10 +35,11 @@ fn occurs_below(store: &Store<'_>, x: Var, base: u64, end: u64, t: &Term) -> boo
 }
 
 impl Store<'_> {
-    /// Whether a variable occurs in what a closure stands for under the bindings. It takes no memory.
+    /// Whether a variable occurs in what a closure stands for under the bindings. It takes no memory,
+    /// and looks at no term where the variable is new.
     pub fn occurs(&self, x: Var, c: &Closure<'_>) -> bool
         ensures { result ≡ occurs x (under (present self.now).bindings (closure_term c.now)) }
     {
-        occurs_below(self, x, c.base, c.end, c.term)
+        !self.is_new(x, c) && occurs_below(self, x, c.base, c.end, c.term)
     }
 }
