@@ -5,6 +5,5 @@ pub mod ReducingLemmas
 pub mod ResultLemmas
 pub mod RunLemmas
 pub mod SolutionLemmas
-pub mod UndoLemmas
 pub mod WellLemmas
 pub mod WorkLemmas

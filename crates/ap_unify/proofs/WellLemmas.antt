@@ -1,14 +1,14 @@
 -- What holds of each store, in the words of the laws of search.
-use Rattle.std.proofs.Common.{◌≡◌, ℕ, List, [], ◌∷◌, length}
+use Rattle.std.proofs.Common.{◌≡◌, ℕ, List, [], ◌∷◌}
 use Rattle.ap_defs.specs.Freshness.{Conds}
 use Rattle.ap_defs.specs.Substitution.{Binding, under, ◌:=◌}
 use Rattle.ap_defs.specs.Terms.{NominalTerm}
 use Rattle.ap_perm.specs.Lookups.{carried_out}
 use Rattle.ap_search.specs.FitStates as search
 use Rattle.ap_store.proofs.AscendingLemmas.{ascending_is_set}
-use Rattle.ap_store.proofs.StoreLemmas.{carried_out_under, count_of_kinds, well_formed}
+use Rattle.ap_store.proofs.StoreLemmas.{carried_out_under, well_formed}
 use Rattle.ap_store.specs.Triples.{AreOnUnbound, Triple}
-use Rattle.ap_store.specs.Views.{kinds, present, rank, raw_bound}
+use Rattle.ap_store.specs.Views.{present, rank, raw_bound}
 use Rattle.ap_store.specs.WellFormed.{AreBindingsBelow, IsWellFormed}
 use Rattle.ap_store.specs.declared.store.Store.{Store}
 use Rattle.ap_theory.specs.Variables.{EachCond, IsUnbound}
@@ -37,9 +37,6 @@ is_well a h = record {
 
 pub well : (s : Store) → IsWell (present s)
 well s = is_well (present s) (well_formed s)
-
-pub counted : (s : Store) → length (kinds s) ≡ (present s).next
-counted = count_of_kinds
 
 -- with every binding followed, a term is what it is under the bindings
 pub looked : (s : Store) (t : NominalTerm) → carried_out (raw_bound s) (rank s) t ≡ under (present s).bindings t
