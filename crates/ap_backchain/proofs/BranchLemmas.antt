@@ -1,9 +1,10 @@
 -- Steps of branches.
-use Rattle.std.proofs.Common.{◌≡◌, ℕ, zero, suc, ◌+◌, ◌-◌, ◌<◌, List, [], ◌∷◌, ◌++◌, length, map, refl, sym, ap, ◌∙◌, subst, arith}
+use Rattle.std.proofs.Common.{◌≡◌, ℕ, zero, suc, ◌+◌, ◌-◌, ◌<◌, ◌≤◌, List, [], ◌∷◌, ◌++◌, length, map, refl, sym, ap, ◌∙◌, subst, arith}
 use Rattle.std.proofs.lemmas.List.{append-nil}
 use Rattle.std.specs.Global.{Global}
 use Rattle.std.specs.Prelude.{Option, Some, None, Result, Ok, Err, IfOk, Vec, slice_get}
-use Rattle.ap_defs.specs.Answers.{NominalOut, out_path, outs_at, outs_of}
+use Rattle.ap_defs.specs.Answers.{NominalAnswer, NominalOut, answer_of, found, out_path, outs_at, outs_of}
+use Rattle.ap_defs.specs.declared.outcomes.Answer.{Answer}
 use Rattle.ap_defs.specs.Goals.{NominalGoal, atom, either, Clauses, NominalQuery, clauses_of}
 use Rattle.ap_defs.specs.Paths.{marked_query}
 use Rattle.ap_defs.specs.Types.{NominalLocal}
@@ -17,60 +18,43 @@ use Rattle.ap_search.specs.PathTrees.{query_choices, width_at}
 use Rattle.ap_search.specs.Prefixes.{beginning}
 use Rattle.ap_search.proofs.MarkLemmas.{marked_stack_begins}
 use Rattle.ap_search.proofs.MarkedLemmas.{marked_stack_is_query}
-use Rattle.ap_search.proofs.PrefixLemmas.{beginning_whole}
+use Rattle.ap_search.proofs.PrefixLemmas.{beginning_deeper, beginning_whole}
 use Rattle.ap_search.proofs.QueryTreeLemmas.{outs_at_marks, place_choice, width_choice}
 use Rattle.ap_backchain.proofs.MarkLemmas.{marks_turned, settled}
 use Rattle.ap_backchain.proofs.TurnLemmas.{turns_turned}
-use Rattle.ap_backchain.specs.Branches.{IsBranchFor, IsBranchOf, IsChoosing, IsNamed, IsNodeAt, marks_of_standing, path_of_branch, path_of_standing}
+use Rattle.ap_backchain.specs.Branches.{IsBranchFor, IsBranchOf, IsChoiceAt, IsChoiceOfNode, IsChoosing, IsNamed, IsNodeAt, marks_of_standing, path_of_branch, path_of_standing}
 use Rattle.ap_backchain.specs.Marks.{IsSettled, choice_of, choice_of_atom, choice_of_goal, marks_from, marks_of_turned}
-use Rattle.ap_backchain.specs.Places.{position_of, positions_of}
+use Rattle.ap_backchain.specs.Places.{position_of}
 use Rattle.ap_backchain.specs.Positions.{Position, Turned, ends, goes, turned}
 use Rattle.ap_backchain.specs.Problems.{clauses_in, queries_in}
 use Rattle.ap_backchain.specs.Starts.{first_position}
 use Rattle.ap_backchain.specs.Turns.{turns_from, turns_of_turned}
 use Rattle.ap_backchain.specs.declared.branch.Branch.{Branch}
-use Rattle.ap_backchain.specs.declared.branch.Standing.{Standing}
-use Rattle.ap_backchain.specs.declared.branch.Standing.TheVariants as standings
+use Rattle.ap_backchain.specs.declared.standing.Standing.{Standing}
+use Rattle.ap_backchain.specs.declared.standing.Standing.TheVariants as standings
 use Rattle.ap_backchain.specs.declared.place.Place.{Place}
 use Rattle.ap_backchain.specs.declared.problem.Problem.{Problem}
 
 -- A turn of a place that doesn't choose.
-module _ (program : Clauses) (locals : List NominalLocal) (here : Place) (h : choice_of program (position_of here).waiting ≡ None) where
-  pub ended_marks : (o : NominalOut) → ends o ≡ turned program locals (position_of here) → out o ∷ [] ≡ marks_from program locals (position_of here)
-  ended_marks o e = ap (marks_of_turned program locals) e ∙ marks_turned program locals (position_of here) h
+module _ (program : Clauses) (locals : List NominalLocal) (here : Position) (h : choice_of program here.waiting ≡ None) where
+  pub ended_marks : (o : NominalOut) → ends o ≡ turned program locals here → out o ∷ [] ≡ marks_from program locals here
+  ended_marks o e = ap (marks_of_turned program locals) e ∙ marks_turned program locals here h
 
-  pub ended_path : (o : NominalOut) → ends o ≡ turned program locals (position_of here) → out_path o ≡ here.path.items
-  ended_path o e = subst (λ (t : Turned). IsSettled (position_of here) t) (sym e) (settled program locals (position_of here) h)
+  pub ended_path : (o : NominalOut) → ends o ≡ turned program locals here → out_path o ≡ here.path
+  ended_path o e = subst (λ (t : Turned). IsSettled here t) (sym e) (settled program locals here h)
 
-  pub failed_marks : (ks : List Place) → ks ≡ [] → goes (positions_of ks) ≡ turned program locals (position_of here) → [] ≡ marks_from program locals (position_of here)
-  failed_marks ks n e = ap (λ ps. marks_of_turned program locals (goes (positions_of ps))) (sym n) ∙ ap (marks_of_turned program locals) e ∙ marks_turned program locals (position_of here) h
+  pub failed_marks : goes [] ≡ turned program locals here → [] ≡ marks_from program locals here
+  failed_marks e = ap (marks_of_turned program locals) e ∙ marks_turned program locals here h
 
-  alone : (rest : List Place) (next : Place) → IsSettled (position_of here) (goes (positions_of (rest ++ next ∷ []))) → rest ≡ []
-  alone [] next k = refl
-  alone (r ∷ []) next k = absurd k
-  alone (r ∷ s ∷ rs) next k = absurd k
+  pub went_marks : (next : Position) → goes (next ∷ []) ≡ turned program locals here → marks_from program locals next ≡ marks_from program locals here
+  went_marks next e = sym (append-nil (marks_from program locals next)) ∙ ap (marks_of_turned program locals) e ∙ marks_turned program locals here h
 
-  went_alone : (ks rest : List Place) (next : Place) → ks ≡ rest ++ next ∷ [] → goes (positions_of ks) ≡ turned program locals (position_of here)
-      → goes (position_of next ∷ []) ≡ turned program locals (position_of here)
-  went_alone ks rest next n e =
-      let f : goes (positions_of (rest ++ next ∷ [])) ≡ turned program locals (position_of here) = ap (λ ps. goes (positions_of ps)) (sym n) ∙ e in
-      let one : rest ≡ [] = alone rest next (subst (λ (t : Turned). IsSettled (position_of here) t) (sym f) (settled program locals (position_of here) h)) in
-      ap (λ ps. goes (positions_of (ps ++ next ∷ []))) (sym one) ∙ f
+  pub went_path : (next : Position) → goes (next ∷ []) ≡ turned program locals here → next.path ≡ here.path
+  went_path next e = subst (λ (t : Turned). IsSettled here t) (sym e) (settled program locals here h)
 
-  pub went_marks : (ks rest : List Place) (next : Place) → ks ≡ rest ++ next ∷ [] → goes (positions_of ks) ≡ turned program locals (position_of here)
-      → marks_from program locals (position_of next) ≡ marks_from program locals (position_of here)
-  went_marks ks rest next n e =
-      sym (append-nil (marks_from program locals (position_of next))) ∙ ap (marks_of_turned program locals) (went_alone ks rest next n e) ∙ marks_turned program locals (position_of here) h
-
-  pub went_path : (ks rest : List Place) (next : Place) → ks ≡ rest ++ next ∷ [] → goes (positions_of ks) ≡ turned program locals (position_of here)
-      → next.path.items ≡ here.path.items
-  went_path ks rest next n e =
-      subst (λ (t : Turned). IsSettled (position_of here) t) (sym (went_alone ks rest next n e)) (settled program locals (position_of here) h)
-
-  pub went_fewer : (ks rest : List Place) (next : Place) → ks ≡ rest ++ next ∷ [] → goes (positions_of ks) ≡ turned program locals (position_of here)
-      → turns_from program (position_of next) < turns_from program (position_of here)
-  went_fewer ks rest next n e =
-      let k : suc (turns_from program (position_of next) + 0) ≡ turns_from program (position_of here) = ap (λ t. suc (turns_of_turned program t)) (went_alone ks rest next n e) ∙ turns_turned program locals (position_of here) in
+  pub went_fewer : (next : Position) → goes (next ∷ []) ≡ turned program locals here → turns_from program next < turns_from program here
+  went_fewer next e =
+      let k : suc (turns_from program next + 0) ≡ turns_from program here = ap (λ t. suc (turns_of_turned program t)) e ∙ turns_turned program locals here in
       omega arith
 
 -- A place that chooses has a mark there.
@@ -131,6 +115,16 @@ module _ (program : Clauses) (d : ℕ) (q : NominalQuery) where
       ∙ beginning_whole mark_path [] (marks_from program q.locals first) (marked_stack_begins program q.locals first.waiting [] first.state [])
       ∙ sym m
 
+  pub step_marks : (s t : Standing) (k : ℕ) → beginning mark_path (path_of_standing s) (map (mark_in q.locals) (marked_query program d q)) ≡ marks_of_standing program q.locals s
+      → path_of_standing t ≡ path_of_standing s ++ k ∷ []
+      → marks_of_standing program q.locals t ≡ beginning mark_path (path_of_standing s ++ k ∷ []) (marks_of_standing program q.locals s)
+      → beginning mark_path (path_of_standing t) (map (mark_in q.locals) (marked_query program d q)) ≡ marks_of_standing program q.locals t
+  step_marks s t k h e m =
+      ap (λ p. beginning mark_path p (map (mark_in q.locals) (marked_query program d q))) e
+      ∙ sym (beginning_deeper mark_path (path_of_standing s) (k ∷ []) (map (mark_in q.locals) (marked_query program d q)))
+      ∙ ap (beginning mark_path (path_of_standing s ++ k ∷ [])) h
+      ∙ sym m
+
 asked_once : {X : Type 0} (o : Option X) (x y : X) → o ≡ Some x → o ≡ Some y → x ≡ y
 asked_once o x y h k = cc
 
@@ -153,3 +147,32 @@ run_is p query b (Ok v) asked of h = λ q k.
     subst (λ (x : NominalQuery). outs_of v.items ≡ outs_at (clauses_in p) p.depth x (path_of_branch b)) (asked_once (slice_get (queries_in p) (p.query - 1)) query q asked k)
     (h ∙ run_at (clauses_in p) p.depth query b.standing (of query asked).marks)
 run_is p query b (Err e) asked of h = tt
+
+pub step_is : (p : Problem) (query : NominalQuery) (b c : Branch) (t : Standing) (k : ℕ) → slice_get (queries_in p) (p.query - 1) ≡ Some query → IsBranchOf p b
+    → c.standing ≡ t → IsNamed c.node c.standing → path_of_standing t ≡ path_of_branch b ++ k ∷ []
+    → marks_of_standing (clauses_in p) query.locals t ≡ beginning mark_path (path_of_branch b ++ k ∷ []) (marks_of_standing (clauses_in p) query.locals b.standing)
+    → IsChoosing (clauses_in p) t → IsBranchOf p c
+step_is p query b c t k asked of e named path marks choosing = λ q h.
+    subst (λ (x : NominalQuery). IsBranchFor (clauses_in p) p.depth x c) (asked_once (slice_get (queries_in p) (p.query - 1)) query q asked h)
+    (subst (λ (r : Standing). (IsNamed c.node r → IsBranchFor (clauses_in p) p.depth query (record c { standing = r }))) (sym e)
+    (λ n. record { marks = step_marks (clauses_in p) p.depth query b.standing t k (of query asked).marks path marks; choosing = choosing; named = n }) named)
+
+-- a node that is a choice stands before one
+pub choice_stands : (n : Node) (s : Standing) (k : ℕ) → IsNamed n s → IsChoiceOfNode k n → IsChoiceAt k s
+choice_stands (nodes.Choice w kept) (standings.Choosing v p) k h c = (c.0, subst (λ (m : ℕ). k ≤ m) h.0 c.1)
+choice_stands (nodes.Choice w kept) (standings.Ended o) k h c = absurd h
+choice_stands (nodes.Choice w kept) (standings.Failed path) k h c = absurd h
+choice_stands nodes.Answer s k h c = absurd c
+choice_stands nodes.Cut s k h c = absurd c
+choice_stands nodes.Stuck s k h c = absurd c
+choice_stands nodes.Failed s k h c = absurd c
+
+-- the answer of a branch
+pub answer_at : (p : Problem) (b : Branch) (path : List ℕ) (a : Answer) (r : NominalAnswer) → IsBranchOf p b → b.standing ≡ standings.Ended (code.Found path a) → r ≡ answer_of a
+    → (q : NominalQuery) → slice_get (queries_in p) (p.query - 1) ≡ Some q → outs_at (clauses_in p) p.depth q (path_of_branch b) ≡ found (path_of_branch b) r ∷ []
+answer_at p b path a r of e f q asked =
+    outs_at_marks (clauses_in p) p.depth q (path_of_branch b)
+    ∙ ap outs_among (of q asked).marks
+    ∙ ap (λ s. outs_among (marks_of_standing (clauses_in p) q.locals s)) e
+    ∙ ap (λ x. found x (answer_of a) ∷ []) (sym (ap path_of_standing e))
+    ∙ ap (λ x. found (path_of_branch b) x ∷ []) (sym f)

@@ -17,7 +17,7 @@ use Rattle.ap_search.specs.MarkedContinuations.{marked_calls_then, marked_stack_
 use Rattle.ap_backchain.specs.Marks.{IsSettled, choice_of, choice_of_atom, choice_of_goal, marks_from, marks_from_each, marks_of_turned}
 use Rattle.ap_backchain.specs.Positions.{Position, Turned, each_position, ends, goes, reduced_state, turned, turned_atom, turned_by, turned_fresh, turned_goal, unified_state, with_state}
 
-marks_unified : (program : Clauses) (locals : List NominalLocal) (f : State → Position) (s : State) (o : Option Unified)
+pub marks_unified : (program : Clauses) (locals : List NominalLocal) (f : State → Position) (s : State) (o : Option Unified)
     → marks_from_each program locals (each_position f (unified_state s o)) ≡ marks_if_unified (λ r. marks_from program locals (f r)) s o
 marks_unified program locals f s None = refl
 marks_unified program locals f s (Some r) = append-nil _

@@ -1,5 +1,5 @@
 -- Branches, and what it is for one to be of a problem.
-use Rattle.std.specs.Prelude.{◌≡◌, ◌-◌, ℕ, List, [], ◌∷◌, Some, None, map, slice_get}
+use Rattle.std.specs.Prelude.{◌≡◌, ◌≤◌, ◌-◌, ℕ, List, [], ◌∷◌, Some, None, map, slice_get}
 use Rattle.std.specs.List.{range_with_len}
 use Rattle.ap_defs.specs.Answers as answers
 use Rattle.ap_defs.specs.Answers.{NominalAnswer, out_of, out_path, outs_at}
@@ -16,8 +16,8 @@ use Rattle.ap_backchain.specs.Marks.{choice_of, marks_from}
 use Rattle.ap_backchain.specs.Places.{position_of}
 use Rattle.ap_backchain.specs.Problems.{clauses_in, queries_in}
 use Rattle.ap_backchain.specs.declared.branch.Branch.{Branch}
-use Rattle.ap_backchain.specs.declared.branch.Standing.{Standing}
-use Rattle.ap_backchain.specs.declared.branch.Standing.TheVariants as standings
+use Rattle.ap_backchain.specs.declared.standing.Standing.{Standing}
+use Rattle.ap_backchain.specs.declared.standing.Standing.TheVariants as standings
 use Rattle.ap_backchain.specs.declared.problem.Problem.{Problem}
 
 abbrev pub path_of_standing : Standing → List ℕ
@@ -37,6 +37,12 @@ IsChoosing program (standings.Choosing w p) = choice_of program (position_of p).
 IsChoosing program (standings.Ended o) = Unit {0}
 IsChoosing program (standings.Failed path) = Unit {0}
 
+-- it stands before a choice, among which this is
+abbrev pub IsChoiceAt : ℕ → Standing → Type 0
+IsChoiceAt k (standings.Choosing w p) = (1 ≤ k) × (k ≤ w)
+IsChoiceAt k (standings.Ended o) = ⊥
+IsChoiceAt k (standings.Failed path) = ⊥
+
 -- the node says where it stands; each choice is kept
 abbrev pub IsNamed : Node → Standing → Type 0
 IsNamed (nodes.Choice w kept) (standings.Choosing v p) = (w ≡ v) × (kept ≡ range_with_len 1 w)
@@ -48,6 +54,17 @@ IsNamed _ _ = ⊥
 
 abbrev pub path_of_branch : Branch → List ℕ
 path_of_branch b = path_of_standing b.standing
+
+abbrev pub IsChoiceOfNode : ℕ → Node → Type 0
+IsChoiceOfNode k (nodes.Choice w kept) = (1 ≤ k) × (k ≤ w)
+IsChoiceOfNode k _ = ⊥
+
+-- it is one of the choices at which the branch stands
+abbrev pub IsChoiceOf : ℕ → Branch → Type 0
+IsChoiceOf k b = IsChoiceOfNode k b.node
+
+abbrev pub IsAnswering : Branch → Type 0
+IsAnswering b = b.node ≡ nodes.Answer
 
 -- all that the branch holds is what the search of the query has at its path
 pub record IsBranchFor (program : Clauses) (depth : ℕ) (q : NominalQuery) (b : Branch) : Type 0 where

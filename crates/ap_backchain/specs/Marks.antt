@@ -1,10 +1,11 @@
 -- The marks of a place, where it chooses, and what a turn makes of a place that doesn't choose.
-use Rattle.std.specs.Prelude.{◌≡◌, ℕ, zero, suc, List, [], ◌∷◌, ◌++◌, length, Option, Some, None}
+use Rattle.std.specs.Prelude.{◌≡◌, ◌≤◌, ℕ, zero, suc, List, [], ◌∷◌, ◌++◌, length, Option, Some, None}
 use Rattle.ap_defs.specs.Answers.{out_path}
-use Rattle.ap_defs.specs.Goals.{NominalGoal, atom, either, Clauses, clauses_of}
+use Rattle.ap_defs.specs.Goals.{NominalGoal, NominalClause, atom, either, Clauses, clauses_of}
+use Rattle.ap_defs.specs.Terms.{NominalTerm}
 use Rattle.ap_defs.specs.Types.{NominalLocal}
 use Rattle.ap_search.specs.Continuations.{Waiting}
-use Rattle.ap_search.specs.MarkedContinuations.{NominalMark, marked_stack_then, out}
+use Rattle.ap_search.specs.MarkedContinuations.{NominalMark, marked_calls_then, marked_clauses_then, marked_stack_then, marked_then, out}
 use Rattle.ap_backchain.specs.Positions.{Position, Turned, ends, goes}
 
 -- the marks of the goals that wait
@@ -28,6 +29,18 @@ abbrev pub choice_of_goal : Clauses → ℕ → NominalGoal → Option ℕ
 choice_of_goal program d (atom c ts) = choice_of_atom program d c
 choice_of_goal program d (either g h) = Some 2
 choice_of_goal program d _ = None
+
+abbrev pub IsAmong : ℕ → Option ℕ → Type 0
+IsAmong k None = ⊥
+IsAmong k (Some w) = (1 ≤ k) × (k ≤ w)
+
+-- the marks of a goal in front of those that wait, and of clauses that an atom can enter
+abbrev pub goal_marks : Clauses → List NominalLocal → ℕ → NominalGoal → Position → List NominalMark
+goal_marks program locals d g p = marked_then (marked_calls_then program d) g (marked_stack_then program locals p.waiting) p.path p.state p.brought
+
+abbrev pub clauses_marks : Clauses → List NominalLocal → ℕ → List NominalTerm → List NominalClause → Position → List NominalMark
+clauses_marks program locals d ts cs p =
+    marked_clauses_then (marked_then (marked_calls_then program d)) ts (marked_stack_then program locals p.waiting) 1 cs p.path p.state p.brought
 
 abbrev pub choice_of : Clauses → List Waiting → Option ℕ
 choice_of program [] = None

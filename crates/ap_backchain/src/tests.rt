@@ -9,8 +9,6 @@ use std::alloc::Global;
 
 const VAR: u32 = 2;
 
-const APP: u32 = 3;
-
 const LAM: u32 = 4;
 
 fn named(num: u64) -> Term {
@@ -25,34 +23,12 @@ fn of(alloc: Global, constructor: u32, argument: Term) -> Result<Term, Memory> {
     Ok(Term::App(constructor, Box::new(alloc, argument)?))
 }
 
-fn applied(alloc: Global, t: Term, u: Term) -> Result<Term, Memory> {
-    let parts = Term::Pair(Box::new(alloc, t)?, Box::new(alloc, u)?);
-    of(alloc, APP, parts)
-}
-
 fn lam(alloc: Global, binder: u64, body: Term) -> Result<Term, Memory> {
     let name = Name {
         sort: 0,
         num: binder,
     };
     of(alloc, LAM, Term::Abs(name, Box::new(alloc, body)?))
-}
-
-fn both(alloc: Global, g: Goal<Term>, h: Goal<Term>) -> Result<Goal<Term>, Memory> {
-    Ok(Goal::Both(Box::new(alloc, g)?, Box::new(alloc, h)?))
-}
-
-fn terms(alloc: Global, t: Term, u: Term, v: Term, w: Term) -> Result<List<Term>, Memory> {
-    let mut all = Vec::new(alloc);
-    all.push(t)?;
-    all.push(u)?;
-    all.push(v)?;
-    all.push(w)?;
-    Ok(List::of(all))
-}
-
-fn subst(alloc: Global, t: Term, x: Term, e: Term, r: Term) -> Result<Goal<Term>, Memory> {
-    Ok(Goal::Atom(0, terms(alloc, t, x, e, r)?))
 }
 
 /// So many names, and then so many variables.
@@ -77,17 +53,6 @@ fn locals(alloc: Global, names: usize, vars: usize) -> Result<List<Local>, Memor
     Ok(List::of(all))
 }
 
-fn clause(pred: u32, args: List<Term>, body: Goal<Term>, locals: List<Local>) -> Clause<Term> {
-    Clause {
-        item: 1,
-        line: 1,
-        pred,
-        args,
-        body,
-        locals,
-    }
-}
-
 fn query(goal: Goal<Term>, locals: List<Local>) -> Query<Term> {
     Query {
         item: 1,
@@ -108,15 +73,7 @@ fn spelled(alloc: Global, outs: &[Out]) -> Result<String, Memory> {
         };
         word.push_str(letter)?;
         for k in path.choices() {
-            word.push_str(if *k == 1 {
-                "1"
-            } else if *k == 2 {
-                "2"
-            } else if *k == 3 {
-                "3"
-            } else {
-                "4"
-            })?;
+            word.push_str(if *k == 1 { "1" } else { "2" })?;
         }
     }
     Ok(word)
@@ -147,91 +104,6 @@ fn reaches(
     Ok(spelling.as_str() == word)
 }
 
-fn substitution(alloc: Global) -> Result<Vec<List<Clause<Term>>>, Memory> {
-    let mut all = Vec::new(alloc);
-    let h = |n: u64| hole(alloc, n);
-    all.push(clause(
-        0,
-        terms(alloc, of(alloc, VAR, h(0))?, h(0), h(1), h(1))?,
-        Goal::True,
-        locals(alloc, 0, 2)?,
-    ))?;
-    all.push(clause(
-        0,
-        terms(
-            alloc,
-            of(alloc, VAR, h(0))?,
-            h(1),
-            h(2),
-            of(alloc, VAR, h(0))?,
-        )?,
-        Goal::Fresh(h(1), h(0)),
-        locals(alloc, 0, 3)?,
-    ))?;
-    let first = subst(alloc, h(0), h(2), h(3), h(4))?;
-    let second = subst(alloc, h(1), h(2), h(3), h(5))?;
-    all.push(clause(
-        0,
-        terms(
-            alloc,
-            applied(alloc, h(0), h(1))?,
-            h(2),
-            h(3),
-            applied(alloc, h(4), h(5))?,
-        )?,
-        both(alloc, first, second)?,
-        locals(alloc, 0, 6)?,
-    ))?;
-    let inner = subst(alloc, h(1), h(2), h(3), h(4))?;
-    let goals = both(alloc, Goal::Fresh(named(0), h(3)), inner)?;
-    all.push(clause(
-        0,
-        terms(
-            alloc,
-            lam(alloc, 0, h(1))?,
-            h(2),
-            h(3),
-            lam(alloc, 0, h(4))?,
-        )?,
-        both(alloc, Goal::Fresh(named(0), h(2)), goals)?,
-        locals(alloc, 1, 4)?,
-    ))?;
-    let mut predicates = Vec::new(alloc);
-    predicates.push(List::of(all))?;
-    Ok(predicates)
-}
-
-fn avoids_capture(alloc: Global) -> Result<bool, Memory> {
-    let program = substitution(alloc)?;
-    let body = applied(alloc, of(alloc, VAR, named(1))?, of(alloc, VAR, named(0))?)?;
-    let goal = subst(
-        alloc,
-        lam(alloc, 0, body)?,
-        named(1),
-        of(alloc, VAR, named(0))?,
-        hole(alloc, 2),
-    )?;
-    let asking = query(goal, locals(alloc, 2, 1)?);
-    Ok(
-        reaches(alloc, program.as_slice(), 5, &asking, "F4312")?
-            && reaches(alloc, program.as_slice(), 2, &asking, "C43")?
-            && reaches(alloc, program.as_slice(), 0, &asking, "C")?,
-    )
-}
-
-fn is_stuck(alloc: Global) -> Result<bool, Memory> {
-    let program = substitution(alloc)?;
-    let goal = subst(
-        alloc,
-        of(alloc, VAR, named(0))?,
-        hole(alloc, 2),
-        of(alloc, VAR, named(1))?,
-        hole(alloc, 3),
-    )?;
-    let asking = query(goal, locals(alloc, 2, 2)?);
-    reaches(alloc, program.as_slice(), 5, &asking, "F1S2")
-}
-
 fn new_names(alloc: Global) -> Result<bool, Memory> {
     let whole = lam(alloc, 0, of(alloc, VAR, named(0))?)?;
     let name = Name { sort: 0, num: 0 };
@@ -255,16 +127,6 @@ fn either_side(alloc: Global) -> Result<bool, Memory> {
         Box::new(alloc, Goal::Equal(hole(alloc, 2), named(1)))?,
     );
     reaches(alloc, &[], 5, &query(goal, locals(alloc, 2, 1)?), "F1F2")
-}
-
-#[test]
-fn substitution_avoids_capture_and_is_cut(rt: HostRuntime) {
-    assert!(rt; matches!(avoids_capture(rt.alloc()), Ok(true)));
-}
-
-#[test]
-fn an_unbound_left_side_is_stuck(rt: HostRuntime) {
-    assert!(rt; matches!(is_stuck(rt.alloc()), Ok(true)));
 }
 
 #[test]

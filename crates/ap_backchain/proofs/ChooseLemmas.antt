@@ -1,0 +1,107 @@
+-- What a place has below one of its choices.
+use Rattle.std.proofs.Common.{◌≡◌, ℕ, zero, suc, ◌+◌, ◌-◌, ◌<◌, ◌≤◌, ◌≢◌, false, List, [], ◌∷◌, ◌++◌, length, get_or, map, refl, sym, ap, ◌∙◌, subst, arith}
+use Rattle.std.proofs.lemmas.List.{append-nil}
+use Rattle.std.specs.Prelude.{if◌then◌else◌, Option, Some, None}
+use Rattle.ap_defs.specs.Goals.{NominalGoal, NominalClause, atom, either, Clauses, clause_of, clauses_of}
+use Rattle.ap_defs.specs.PathOrder.{has_prefix}
+use Rattle.ap_defs.specs.Renaming.{rename_term}
+use Rattle.ap_defs.specs.Resolution.{State, kinds_of, next_number}
+use Rattle.ap_defs.specs.Terms.{NominalTerm}
+use Rattle.ap_defs.specs.Types.{NominalLocal}
+use Rattle.ap_defs.specs.Unification.{unify}
+use Rattle.ap_defs.specs.declared.goals.Clause.{Clause}
+use Rattle.ap_defs.specs.declared.terms.Term.{Term}
+use Rattle.ap_search.specs.FitStates.{AreFitClauses, IsFitClause}
+use Rattle.ap_search.specs.MarkedContinuations.{NominalMark, choice, mark_path, marked_calls_then, marked_clause_then, marked_clauses_then, marked_stack_then, marked_then}
+use Rattle.ap_search.specs.Prefixes.{beginning}
+use Rattle.ap_search.proofs.ChoiceLemmas.{beginning_first, beginning_second, mark_way}
+use Rattle.ap_search.proofs.MarkLemmas.{calls_begin, marked_stack_begins}
+use Rattle.ap_search.proofs.PrefixLemmas.{beginning_other, beginning_whole, prefix_itself, prefix_longer}
+use Rattle.ap_backchain.proofs.MarkLemmas.{marks_unified}
+use Rattle.ap_backchain.specs.Marks.{IsAmong, choice_of_goal, clauses_marks, goal_marks, marks_from, marks_from_each}
+use Rattle.ap_backchain.specs.Positions.{Position, by_clause, clause_state, each_position, entered, with_choice, with_goal}
+
+past_choice : (p : List ℕ) (k w : ℕ) (ms : List NominalMark) → beginning mark_path (p ++ k ∷ []) (choice p w ∷ ms) ≡ beginning mark_path (p ++ k ∷ []) ms
+past_choice p k w ms =
+    ap (λ b. if b then (choice p w ∷ beginning mark_path (p ++ k ∷ []) ms) else beginning mark_path (p ++ k ∷ []) ms)
+    (prefix_longer p k (p ++ k ∷ []) (prefix_itself (p ++ k ∷ [])))
+
+pub clause_here : (cs : List (Clause Term)) (n : ℕ) (c : Clause Term) → n < length cs → c ≡ get_or cs n c → clause_of c ≡ get_or (map clause_of cs) n (clause_of c)
+clause_here [] n c h e = absurd (omega arith)
+clause_here (b ∷ cs) zero c h e = ap clause_of e
+clause_here (b ∷ cs) (suc n) c h e = clause_here cs n c (omega arith) e
+
+pub fit_here : (cs : List (Clause Term)) (n : ℕ) (c : Clause Term) → n < length cs → c ≡ get_or cs n c → AreFitClauses (map clause_of cs) → IsFitClause (clause_of c)
+fit_here [] n c h e k = absurd (omega arith)
+fit_here (b ∷ cs) zero c h e k = subst (λ (x : Clause Term). IsFitClause (clause_of x)) (sym e) k.0
+fit_here (b ∷ cs) (suc n) c h e k = fit_here cs n c (omega arith) e k.1
+
+module _ (program : Clauses) (locals : List NominalLocal) (d : ℕ) where
+  -- below the choice of a clause
+  pub clause_way : (ts : List NominalTerm) (p : Position) (k : ℕ) (c : NominalClause) (cs : List NominalClause) → 1 ≤ k → k - 1 < length cs → c ≡ get_or cs (k - 1) c
+      → marks_from_each program locals (by_clause d ts p k c)
+      ≡ beginning mark_path (p.path ++ k ∷ [])
+        (marked_clauses_then (marked_then (marked_calls_then program d)) ts (marked_stack_then program locals p.waiting) 1 cs p.path p.state p.brought)
+  clause_way ts p k c cs low high e =
+      let f : 1 + (k - 1) ≡ k = omega arith in
+      let m = marked_stack_then program locals p.waiting in
+      marks_unified program locals (entered d p k c) (record (p.state) { kinds = p.state.kinds ++ kinds_of c.locals })
+      (unify p.state.bindings p.state.conditions ts (map (rename_term (next_number p.state)) c.args))
+      ∙ ap (λ (x : NominalClause). marked_clause_then (marked_then (marked_calls_then program d)) ts m k x p.path p.state p.brought) e
+      ∙ sym
+        (subst
+        (λ (j : ℕ). beginning mark_path (p.path ++ j ∷ []) (marked_clauses_then (marked_then (marked_calls_then program d)) ts m 1 cs p.path p.state p.brought)
+          ≡ marked_clause_then (marked_then (marked_calls_then program d)) ts m j (get_or cs (k - 1) c) p.path p.state p.brought) f
+        (mark_way (marked_calls_then program d) (calls_begin program d) ts m (marked_stack_begins program locals p.waiting) p.path p.state p.brought 1 (k - 1) c cs high))
+
+  pub entered_path : (p : Position) (k : ℕ) (c : NominalClause) (o : Option State) (r : Position) → r ∷ [] ≡ each_position (entered d p k c) o → r.path ≡ p.path ++ k ∷ []
+  entered_path p k c None r h = cc
+  entered_path p k c (Some s) r h = let e : r ≡ entered d p k c s = cc in ap (λ (x : Position). x.path) e
+
+  -- below a side of a disjunction
+  pub left_way : (g h : NominalGoal) (p : Position)
+      → marks_from program locals (with_goal d g (with_choice 1 p))
+      ≡ beginning mark_path (p.path ++ 1 ∷ []) (marked_then (marked_calls_then program d) (either g h) (marked_stack_then program locals p.waiting) p.path p.state p.brought)
+  left_way g h p =
+      let first = marks_from program locals (with_goal d g (with_choice 1 p)) in
+      let second = marks_from program locals (with_goal d h (with_choice 2 p)) in
+      sym (past_choice p.path 1 2 (first ++ second)
+      ∙ beginning_first mark_path p.path 1 first second (marked_stack_begins program locals (record { goal = g; depth = d } ∷ p.waiting) (p.path ++ 1 ∷ []) p.state p.brought)
+        (beginning_other mark_path p.path 2 1 second (λ e. omega arith) (marked_stack_begins program locals (record { goal = h; depth = d } ∷ p.waiting) (p.path ++ 2 ∷ []) p.state p.brought)))
+
+  pub right_way : (g h : NominalGoal) (p : Position)
+      → marks_from program locals (with_goal d h (with_choice 2 p))
+      ≡ beginning mark_path (p.path ++ 2 ∷ []) (marked_then (marked_calls_then program d) (either g h) (marked_stack_then program locals p.waiting) p.path p.state p.brought)
+  right_way g h p =
+      let first = marks_from program locals (with_goal d g (with_choice 1 p)) in
+      let second = marks_from program locals (with_goal d h (with_choice 2 p)) in
+      sym (past_choice p.path 2 2 (first ++ second)
+      ∙ beginning_second mark_path p.path 1 2 first second (λ e. omega arith) (marked_stack_begins program locals (record { goal = g; depth = d } ∷ p.waiting) (p.path ++ 1 ∷ []) p.state p.brought)
+      ∙ beginning_whole mark_path (p.path ++ 2 ∷ []) second (marked_stack_begins program locals (record { goal = h; depth = d } ∷ p.waiting) (p.path ++ 2 ∷ []) p.state p.brought))
+
+  -- the branch of a clause, and where there is none
+  pub kid_marks : (ts : List NominalTerm) (p : Position) (k : ℕ) (c : NominalClause) (cs : List NominalClause) → 1 ≤ k → k - 1 < length cs → c ≡ get_or cs (k - 1) c
+      → (r : Position) → r ∷ [] ≡ by_clause d ts p k c → marks_from program locals r ≡ beginning mark_path (p.path ++ k ∷ []) (clauses_marks program locals d ts cs p)
+  kid_marks ts p k c cs low high e r h = sym (append-nil (marks_from program locals r)) ∙ ap (marks_from_each program locals) h ∙ clause_way ts p k c cs low high e
+
+  pub no_kid_marks : (ts : List NominalTerm) (p : Position) (k : ℕ) (c : NominalClause) (cs : List NominalClause) → 1 ≤ k → k - 1 < length cs → c ≡ get_or cs (k - 1) c
+      → [] ≡ by_clause d ts p k c → [] ≡ beginning mark_path (p.path ++ k ∷ []) (clauses_marks program locals d ts cs p)
+  no_kid_marks ts p k c cs low high e h = ap (marks_from_each program locals) h ∙ clause_way ts p k c cs low high e
+
+-- below the choice of an atom there is what its clauses have
+pub atom_marks : (program : Clauses) (locals : List NominalLocal) (d c : ℕ) (ts : List NominalTerm) (p : Position) (k : ℕ) → (d ≡ 0 → ⊥)
+    → beginning mark_path (p.path ++ k ∷ []) (goal_marks program locals d (atom c ts) p)
+    ≡ beginning mark_path (p.path ++ k ∷ []) (clauses_marks program locals (d - 1) ts (clauses_of program c) p)
+atom_marks program locals zero c ts p k h = absurd (h refl)
+atom_marks program locals (suc d) c ts p k h =
+    let e : d ≡ suc d - 1 = omega arith in
+    past_choice p.path k (length (clauses_of program c)) (clauses_marks program locals d ts (clauses_of program c) p)
+    ∙ ap (λ n. beginning mark_path (p.path ++ k ∷ []) (clauses_marks program locals n ts (clauses_of program c) p)) e
+
+pub deep_enough : (program : Clauses) (d c : ℕ) (ts : List NominalTerm) (k : ℕ) → IsAmong k (choice_of_goal program d (atom c ts)) → d ≡ 0 → ⊥
+deep_enough program zero c ts k h e = h
+deep_enough program (suc d) c ts k h e = absurd (omega arith)
+
+pub among_clauses : (program : Clauses) (d c : ℕ) (ts : List NominalTerm) (k : ℕ) → IsAmong k (choice_of_goal program d (atom c ts)) → (1 ≤ k) × (k ≤ length (clauses_of program c))
+among_clauses program zero c ts k h = absurd h
+among_clauses program (suc d) c ts k h = h

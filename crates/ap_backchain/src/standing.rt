@@ -1,0 +1,55 @@
+//! Where branches stand.
+
+ghost use Rattle.std.specs.Prelude.{◌≡◌, ◌^◌, ◌<◌, IfOk, length, map};
+ghost use Rattle.ap_defs.specs.Goals.{clause_of};
+ghost use Rattle.ap_defs.specs.Types.{locals_of};
+ghost use Rattle.ap_backchain.specs.Below.{AreClausesBelow};
+ghost use Rattle.ap_backchain.specs.Branches.{IsChoosing, marks_of_standing, path_of_standing};
+ghost use Rattle.ap_backchain.specs.Marks.{marks_from};
+ghost use Rattle.ap_backchain.specs.Places.{position_of};
+
+use crate::choices::choice_at;
+use crate::place::Place;
+use crate::turns::{Turn, take_turn};
+use ap_defs::goals::{Clause, Local};
+use ap_defs::lists::List;
+use ap_defs::memory::Memory;
+use ap_defs::paths::Out;
+use ap_defs::terms::Term;
+use std::alloc::Global;
+
+/// Where a branch stands: before a choice among so many, at an output, or where the search fails,
+/// with the path.
+#[derive(Drop)]
+pub enum Standing<'a> {
+    Choosing(u32, Place<'a>),
+    Ended(Out),
+    Failed(Vec<u32>),
+}
+
+/// The search from a place up to its first choice or its end.
+pub fn advance<'a>(
+    alloc: Global,
+    clauses: &'a [List<Clause<Term>>],
+    locals: &[Local],
+    place: Place<'a>,
+) -> Result<Standing<'a>, Memory>
+    requires clauses { AreClausesBelow (map (map clause_of) clauses.now) }
+    requires locals { length locals.now < 2 ^ 64 }
+    ensures marks { IfOk result (λ s. marks_of_standing (map (map clause_of) clauses.now) (locals_of locals.now) s ≡ marks_from (map (map clause_of) clauses.now) (locals_of locals.now) (position_of place.entry)) }
+    ensures path { IfOk result (λ s. path_of_standing s ≡ place.entry.path.items) }
+    ensures choosing { IfOk result (λ s. IsChoosing (map (map clause_of) clauses.now) s) }
+{
+    let path = place.path.to_vec(alloc)?;
+    let mut here = place;
+    'advancing: loop {
+        match choice_at(clauses, &here) {
+            Some(width) => return Ok(Standing::Choosing(width, here)),
+            None => match take_turn(alloc, clauses, locals, &mut here)? {
+                Turn::Ends(out) => return Ok(Standing::Ended(out)),
+                Turn::Fails => return Ok(Standing::Failed(path)),
+                Turn::Goes => {}
+            },
+        }
+    }
+}
