@@ -2,3 +2,4 @@ pub mod SwappingLemmas
 pub mod PermLemmas
 pub mod LookupLemmas
 pub mod ClosureLemmas
+pub mod VisitLemmas

@@ -1,1 +1,9 @@
 pub mod ConditionLemmas
+pub mod TrailLemmas
+pub mod BindLemmas
+pub mod BelowLemmas
+pub mod AscendingLemmas
+pub mod SoundLemmas
+pub mod StoredLemmas
+pub mod StoreLemmas
+pub mod FollowLemmas

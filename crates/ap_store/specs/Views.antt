@@ -1,13 +1,13 @@
 -- What a store stands for.
-use Rattle.std.specs.Prelude.{◌≡◌, List, [], ◌∷◌, ◌++◌, map}
-use Rattle.ap_defs.specs.Types.{NominalKind, kind_of}
+use Rattle.std.specs.Prelude.{◌≡◌, ℕ, List, [], ◌∷◌, ◌++◌, map}
+use Rattle.ap_defs.specs.Types.{NominalKind}
+use Rattle.ap_defs.specs.declared.terms.Var.{Var}
+use Rattle.ap_perm.specs.Lookups as lookups
 use Rattle.ap_store.specs.Changes.{empty, past_after, present_after}
+use Rattle.ap_store.specs.Slots.{slot_kind}
+use Rattle.ap_store.specs.Trails.{no_rank, nothing_bound, rank_after, raw_after}
 use Rattle.ap_store.specs.Triples.{Triple}
-use Rattle.ap_store.specs.declared.slots.Slot.{Slot}
 use Rattle.ap_store.specs.declared.store.Store.{Store}
-
-abbrev pub slot_kind : Slot → NominalKind
-slot_kind s = kind_of s.local.now.kind
 
 -- the kinds of the numbers below next
 abbrev pub kinds : Store → List NominalKind
@@ -28,3 +28,11 @@ versions s = past s ++ present s ∷ []
 -- nothing that a store stands for is changed
 abbrev pub IsUnchanged : Store → Store → Type 0
 IsUnchanged s r = (versions r ≡ versions s) × (kinds r ≡ kinds s)
+
+-- the term of the closure to which a variable is bound, in which no binding is carried out
+abbrev pub raw_bound : Store → lookups.Bound
+raw_bound s = raw_after s.trail.items nothing_bound
+
+-- ranks that fall along bindings
+abbrev pub rank : Store → Var → ℕ
+rank s = rank_after s.trail.items empty no_rank

@@ -5,8 +5,13 @@
 pub mod bindings;
 pub mod changes;
 pub mod conditions;
+mod following;
 mod kinds;
+mod lookups;
 mod occurrences;
+mod searches;
 pub mod slots;
 pub mod store;
+mod tables;
 pub mod terms;
+mod walks;

@@ -1,15 +1,18 @@
 //! The store.
 
-ghost use Rattle.std.specs.Prelude.{◌≡◌, []};
-ghost use Rattle.ap_store.specs.Changes.{AreChanges, empty};
-ghost use Rattle.ap_store.specs.ChangeProps.{changes_prop};
+ghost use Rattle.ap_perm.specs.Lookups.{IsRanked};
+ghost use Rattle.ap_store.specs.Changes.{empty};
+ghost use Rattle.ap_store.specs.Slots.{IsStored, stored_prop};
+ghost use Rattle.ap_store.specs.Trails.{no_rank, nothing_bound, rank_after, raw_after};
 
 use crate::changes::Change;
-use crate::occurrences::occurs_from;
+use crate::conditions::{apart_from, on_var, with_conds};
+use crate::searches::{closure_at, conditions_at};
 use crate::slots::Slot;
+use crate::tables::add_slots;
 use ap_defs::goals::{Kind, Local};
 use ap_defs::memory::Memory;
-use ap_defs::terms::{Cond, Term, Var};
+use ap_defs::terms::{Cond, Var};
 use ap_perm::closures::Closure;
 use std::alloc::Global;
 
@@ -31,24 +34,21 @@ pub struct Store<'a> {
     trail: Vec<Change<'a>>,
     latest: usize,
     reach: u64,
-    pub ghost changes: { AreChanges trail.items empty } by { changes_prop trail.items empty },
-    ghost numbers: { table.items ≡ [] },
-    ghost untouched: { trail.items ≡ [] },
+    pub ghost stored: { IsStored table.items trail.items latest reach } by { stored_prop table.items trail.items latest reach },
+    pub ghost ranked: { IsRanked (raw_after trail.items nothing_bound) (rank_after trail.items empty no_rank) },
 }
 
 impl<'a> Store<'a> {
-    ghost use Rattle.std.specs.Prelude.{◌≡◌, ℕ, ◌+◌, ◌≤◌, ◌<◌, ◌++◌, ◌∷◌, [], false, true, Some, None, IfOk, IfNone, IfSome, OnOk, OnErr, filter, length, map, slice_get, take};
+    ghost use Rattle.std.specs.Prelude.{◌≡◌, ℕ, ◌+◌, ◌≤◌, ◌<◌, ◌++◌, ◌∷◌, [], false, true, Some, None, IfOk, IfNone, IfSome, MatchOption, OnOk, OnErr, filter, length, map, slice_get, take, vec_len, vec_capacity};
     ghost use Rattle.ap_defs.specs.Renaming.{IsBelow};
     ghost use Rattle.ap_defs.specs.Resolution.{kinds_of};
     ghost use Rattle.ap_defs.specs.Substitution.{occurs, under};
-    ghost use Rattle.ap_defs.specs.Terms.{term_of};
     ghost use Rattle.ap_defs.specs.Types.{kind_of, locals_of};
     ghost use Rattle.ap_perm.specs.Closures.{closure_term};
     ghost use Rattle.ap_theory.specs.Variables.{IsUnbound};
-    ghost use Rattle.ap_store.specs.Changes.{is_ascending, replace_conditions};
-    ghost use Rattle.ap_store.specs.Heads.{IsHeadUnbound};
-    ghost use Rattle.ap_store.specs.Triples.{AreOnUnbound, GoesOn, is_on, with_binding, with_conditions, with_next};
-    ghost use Rattle.ap_store.specs.Views.{IsUnchanged, kinds, past, present, versions};
+    ghost use Rattle.ap_store.specs.Changes.{has_on, is_ascending, replace_conditions, with_bound};
+    ghost use Rattle.ap_store.specs.Triples.{AreOnUnbound, GoesOn, is_apart, is_on, with_binding, with_conditions, with_next};
+    ghost use Rattle.ap_store.specs.Views.{IsUnchanged, kinds, past, present, raw_bound, versions};
 
     /// The empty store. It takes no memory.
     pub fn new(alloc: Global) -> Store<'a>
@@ -73,7 +73,13 @@ impl<'a> Store<'a> {
         ensures past { OnOk result (GoesOn (versions self.old) (versions self.new)) }
         ensures unchanged { OnErr result (IsUnchanged self.old self.new) }
     {
-        Err(Memory)
+        let count = locals.len();
+        self.table.reserve(count)?;
+        self.trail.reserve(1)?;
+        let first = self.table.len() as u64;
+        add_slots(&mut self.table, locals);
+        self.trail.push_reserved(Change::Made(count));
+        Ok(first)
     }
 
     /// Binds an unbound variable to a closure in which it does not occur, and answers the conditions
@@ -89,7 +95,9 @@ impl<'a> Store<'a> {
         ensures kinds { kinds self.new ≡ kinds self.old }
         ensures unchanged { OnErr result (IsUnchanged self.old self.new) }
     {
-        Err(Memory)
+        let taken = self.take_conditions(alloc, x)?;
+        self.note_binding(x, c);
+        Ok(taken)
     }
 
     /// Adds conditions on unbound variables. After want of memory the store is as before.
@@ -100,7 +108,9 @@ impl<'a> Store<'a> {
         ensures kinds { kinds self.new ≡ kinds self.old }
         ensures unchanged { OnErr result (IsUnchanged self.old self.new) }
     {
-        Err(Memory)
+        let held = self.conditions();
+        let all = with_conds(alloc, conds, held)?;
+        self.replace_conditions(all)
     }
 
     /// Puts these conditions on unbound variables, which ascend, in place of the present ones. After
@@ -113,7 +123,9 @@ impl<'a> Store<'a> {
         ensures kinds { kinds self.new ≡ kinds self.old }
         ensures unchanged { OnErr result (IsUnchanged self.old self.new) }
     {
-        Err(Memory)
+        self.trail.reserve(1)?;
+        self.note_conditions(conds);
+        Ok(())
     }
 
     /// The place of the present version. It takes no memory.
@@ -132,30 +144,20 @@ impl<'a> Store<'a> {
         ensures versions { versions self.new ≡ take (m.place + 1) (versions self.old) }
         ensures kinds { kinds self.new ≡ take (present self.new).next (kinds self.old) }
     {
+        'undoing: while self.trail.len() > m.place {
+            self.undo_last();
+        }
     }
 
-    /// A closure that stands for the same term under the bindings, and whose head is no bound
-    /// variable.
-    pub fn follow(&self, alloc: Global, c: Closure<'a>) -> Result<Closure<'a>, Memory>
-        ensures term { IfOk result (λ d. under (present self.now).bindings (closure_term d) ≡ under (present self.now).bindings (closure_term c.entry)) }
-        ensures head { IfOk result (λ d. IsHeadUnbound (present self.now).bindings (closure_term d)) }
-        ensures below { IfOk result (λ d. IsBelow (present self.now).next (closure_term c.entry) → IsBelow (present self.now).next (closure_term d)) }
+    /// The closure to which a variable is bound, or none where it is unbound. It takes no memory.
+    pub fn binding(&self, x: Var) -> Option<&Closure<'a>>
+        ensures { MatchOption result (raw_bound self.now x ≡ None) (λ c. raw_bound self.now x ≡ Some (closure_term c.now)) }
     {
-        Err(Memory)
-    }
-
-    /// Whether a variable occurs in what a closure stands for under the bindings. It takes no memory.
-    pub fn occurs(&self, x: Var, c: &Closure<'a>) -> bool
-        ensures { result ≡ occurs x (under (present self.now).bindings (closure_term c.now)) }
-    {
-        occurs_from(x, c.base, c.end, c.term)
-    }
-
-    /// What a closure stands for under the bindings.
-    pub fn walk(&self, alloc: Global, c: &Closure<'a>) -> Result<Term, Memory>
-        ensures { IfOk result (λ t. term_of t ≡ under (present self.now).bindings (closure_term c.now)) }
-    {
-        Err(Memory)
+        if x.num < self.table.len() as u64 {
+            closure_at(&self.trail, self.table[x.num as usize].place)
+        } else {
+            None
+        }
     }
 
     /// The conditions, each once, ascending by variable, then by the name's number, and then by its
@@ -163,14 +165,14 @@ impl<'a> Store<'a> {
     pub fn conds(&self, alloc: Global) -> Result<Vec<Cond>, Memory>
         ensures { IfOk result (λ conds. conds.items ≡ (present self.now).conditions) }
     {
-        Err(Memory)
+        Ok(self.conditions().to_vec(alloc)?)
     }
 
     /// The conditions, as they are held. It takes no memory.
     pub fn conditions(&self) -> &[Cond]
         ensures { result.now ≡ (present self.now).conditions }
     {
-        &[]
+        conditions_at(&self.trail, self.latest)
     }
 
     /// The next number. It takes no memory.
@@ -186,5 +188,80 @@ impl<'a> Store<'a> {
         ensures { slice_get (kinds self.now) num ≡ Some (kind_of result.now) }
     {
         &self.table[num as usize].local.kind
+    }
+
+    /// Takes the conditions on a variable out, and leaves room for one more change.
+    fn take_conditions(&mut self, alloc: Global, x: Var) -> Result<Vec<Cond>, Memory>
+        ensures taken { IfOk result (λ conds. conds.items ≡ filter (is_on x) (present self.old).conditions) }
+        ensures present { OnOk result (present self.new ≡ replace_conditions (filter (is_apart x) (present self.old).conditions) (present self.old)) }
+        ensures room { OnOk result (vec_len self.new.trail < vec_capacity self.new.trail) }
+        ensures past { OnOk result (GoesOn (versions self.old) (versions self.new)) }
+        ensures kinds { kinds self.new ≡ kinds self.old }
+        ensures unchanged { OnErr result (IsUnchanged self.old self.new) }
+    {
+        self.trail.reserve(2)?;
+        let held = self.conditions();
+        let taken = on_var(alloc, x, held)?;
+        if taken.is_empty() {
+            return Ok(taken);
+        }
+        let left = apart_from(alloc, x, held)?;
+        self.note_conditions(left);
+        Ok(taken)
+    }
+
+    /// Notes that a variable is bound.
+    fn note_binding(&mut self, x: Var, c: Closure<'a>)
+        requires room { vec_len self.old.trail < vec_capacity self.old.trail }
+        requires made { x.num < (present self.old).next }
+        requires unbound { IsUnbound (present self.old).bindings x }
+        requires term { IsBelow (present self.old).next (closure_term c) }
+        requires absent { occurs x (under (present self.old).bindings (closure_term c)) ≡ false }
+        requires apart { has_on x (present self.old).conditions ≡ false }
+        ensures present { present self.new ≡ with_bound x (under (present self.old).bindings (closure_term c.entry)) (present self.old) }
+        ensures versions { versions self.new ≡ versions self.old ++ present self.new ∷ [] }
+        ensures kinds { kinds self.new ≡ kinds self.old }
+    {
+        let reach = self.reach;
+        let count = self.trail.len() + 1;
+        self.reach = reach.max(c.end);
+        self.table[x.num as usize].place = count;
+        self.trail.push_reserved(Change::Bound(x, c, reach));
+    }
+
+    /// Notes that other conditions hold.
+    fn note_conditions(&mut self, conds: Vec<Cond>)
+        requires room { vec_len self.old.trail < vec_capacity self.old.trail }
+        requires unbound { AreOnUnbound (present self.old) conds.items }
+        requires ascending { is_ascending conds.items ≡ true }
+        ensures present { present self.new ≡ replace_conditions conds.items (present self.old) }
+        ensures versions { versions self.new ≡ versions self.old ++ present self.new ∷ [] }
+        ensures kinds { kinds self.new ≡ kinds self.old }
+        ensures room { vec_capacity self.new.trail + vec_len self.old.trail + 1 ≡ vec_capacity self.old.trail + vec_len self.new.trail }
+    {
+        let earlier = self.latest;
+        self.latest = self.trail.len() + 1;
+        self.trail.push_reserved(Change::Replaced(conds, earlier));
+    }
+
+    /// Undoes the last change.
+    fn undo_last(&mut self)
+        requires { 0 < length (past self.old) }
+        ensures versions { versions self.old ≡ versions self.new ++ present self.old ∷ [] }
+        ensures kinds { kinds self.new ≡ take (present self.new).next (kinds self.old) }
+        ensures next { (present self.new).next ≤ (present self.old).next }
+    {
+        match self.trail.pop() {
+            None => {}
+            Some(Change::Made(count)) => {
+                let left = self.table.len() - count;
+                self.table.truncate(left);
+            }
+            Some(Change::Bound(x, _, reach)) => {
+                self.reach = reach;
+                self.table[x.num as usize].place = 0;
+            }
+            Some(Change::Replaced(_, earlier)) => self.latest = earlier,
+        }
     }
 }
