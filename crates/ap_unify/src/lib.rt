@@ -2,9 +2,8 @@
 #![tactic(auto)]
 
 mod equations;
+pub mod fresh;
 pub mod problems;
 mod rules;
 pub mod stages;
-#[cfg(test)]
-mod tests;
 pub mod unify;
