@@ -1,10 +1,14 @@
+pub mod AnsweringLemmas
+pub mod HeadLemmas
+pub mod MachineLemmas
 pub mod ChooseLemmas
+pub mod TrackLemmas
+pub mod PointLemmas
+pub mod ArenaLemmas
 pub mod BranchLemmas
 pub mod FitLemmas
 pub mod MarkLemmas
-pub mod PendingLemmas
+pub mod SearchLemmas
 pub mod PlaceLemmas
-pub mod ReducedLemmas
 pub mod TurnLemmas
 pub mod VarLemmas
-pub mod AnsweringLemmas

@@ -57,6 +57,16 @@ pub fn add_vars_of_terms(vars: &mut Vec<Var>, terms: &[Term]) -> Result<(), Memo
     Ok(())
 }
 
+/// Adds variables to a set, from the last one on.
+pub fn add_vars(vars: &mut Vec<Var>, others: &[Var]) -> Result<(), Memory>
+    ensures { OnOk result ((xs : list variable) → vars.old.items ≡ ascending_vars xs → vars.new.items ≡ ascending_vars (others.now ++ xs)) }
+{
+    'adding: for i in (0..others.len()).rev() {
+        add_var_to(vars, others[i])?;
+    }
+    Ok(())
+}
+
 /// Adds the variables of conditions to a set, from the last one on.
 pub fn add_vars_of_conds(vars: &mut Vec<Var>, conds: &[Cond]) -> Result<(), Memory>
     ensures { OnOk result ((xs : list variable) → vars.old.items ≡ ascending_vars xs → vars.new.items ≡ ascending_vars (map (λ c. c.var) conds.now ++ xs)) }
