@@ -12,3 +12,4 @@ pub mod SearchLemmas
 pub mod PlaceLemmas
 pub mod TurnLemmas
 pub mod VarLemmas
+pub mod VisitLemmas
