@@ -13,3 +13,5 @@ pub mod PlaceLemmas
 pub mod TurnLemmas
 pub mod VarLemmas
 pub mod VisitLemmas
+pub mod SetLemmas
+pub mod AnswerLemmas

@@ -1,5 +1,5 @@
 -- Visits of what terms stand for, in which each binding is gone through once.
-use Rattle.std.proofs.Common.{◌≡◌, ◌≢◌, ◌<◌, ◌+◌, ℕ, suc, Bool, true, false, ◌||◌, List, [], ◌∷◌, ◌++◌, length, get_or, drop, set, map, refl, sym, ap, ◌∙◌, subst, add-one, arith}
+use Rattle.std.proofs.Common.{◌≡◌, ◌≢◌, ◌<◌, ◌≤◌, ℕ, suc, Bool, true, false, ◌||◌, List, [], ◌∷◌, ◌++◌, length, get_or, drop, set, map, refl, sym, ap, ◌∙◌, subst, arith}
 use Rattle.std.specs.Prelude.{OnOk, Option, Some, None, Result, Ok, Err}
 use Rattle.std.proofs.Math.Seq.{drop-cons}
 use Rattle.std.proofs.lemmas.Bool.Decides.{nat_tests}
@@ -20,9 +20,11 @@ use Rattle.ap_perm.specs.declared.closures.Closure.{Closure}
 use Rattle.ap_search.proofs.RecordLemmas.{has_var-append}
 use Rattle.ap_search.specs.Records.{SameVars, closed_vars}
 use Rattle.ap_store.proofs.FollowLemmas.{bound_occurs, unbound_occurs}
+use Rattle.ap_store.proofs.StoreLemmas.{unbound_past}
 use Rattle.ap_store.specs.Views.{present, raw_bound}
 use Rattle.ap_store.specs.declared.store.Store.{Store}
 use Rattle.ap_theory.proofs.BooleanLemmas.{or_assoc, or_if_left, or_if_right, or_nothing, or_swap}
+use Rattle.ap_theory.proofs.IdempotenceLemmas.{bound_term_unbound}
 use Rattle.ap_theory.proofs.TermLemmas.{occurs_act, var_same}
 use Rattle.ap_backchain.specs.Marked.{is_marked}
 use Rattle.ap_backchain.specs.Reached.{HasVisited, IsDone}
@@ -121,11 +123,15 @@ has_canonical y (app f t) xs = has_canonical y t xs
 has_canonical y (abs a t) xs = has_canonical y t xs
 has_canonical y (susp p x) xs = refl
 
-pub reached_step : (s : State) (xs : List Var) (i : ℕ) (x : Var) (u v : Visit) → i < length xs → x ≡ get_or xs i x
-    → SameVars u.vars.items (vars_of_terms (closed_vars s (drop (i + 1) xs))) → HasVisited s.bindings (susp [] x) u v
+-- a number that was not given is unbound
+pub past_itself : (s : Store) (y x : Var) → (present s).next ≤ x.num → occurs y (under (present s).bindings (susp [] x)) ≡ var_eq y x
+past_itself s y x l = ap (λ o. occurs y (moved [] x o)) (bound_term_unbound (present s).bindings x (unbound_past s x l))
+
+pub reached_step : (s : State) (xs : List Var) (i : ℕ) (d : Var) (u v : Visit) → i < length xs
+    → SameVars u.vars.items (vars_of_terms (closed_vars s (drop (suc i) xs))) → HasVisited s.bindings (susp [] (get_or xs i d)) u v
     → SameVars v.vars.items (vars_of_terms (closed_vars s (drop i xs)))
-reached_step s xs i x u v l e h k y =
-    let front : x ∷ drop (i + 1) xs ≡ drop i xs = rw (add-one i) (ap (λ z. z ∷ drop (suc i) xs) e ∙ sym (drop-cons xs i x l)) in
+reached_step s xs i d u v l h k y =
+    let x = get_or xs i d in
     k.vars y ∙ ap (λ b. occurs y (under s.bindings (susp [] x)) || b) (h y)
-    ∙ sym (has_canonical y (under s.bindings (susp [] x)) (vars_of_terms (closed_vars s (drop (i + 1) xs))))
-    ∙ ap (λ zs. has_var y (vars_of_terms (closed_vars s zs))) front
+    ∙ sym (has_canonical y (under s.bindings (susp [] x)) (vars_of_terms (closed_vars s (drop (suc i) xs))))
+    ∙ ap (λ zs. has_var y (vars_of_terms (closed_vars s zs))) (sym (drop-cons xs i d l))
