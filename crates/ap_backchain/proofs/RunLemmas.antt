@@ -1,13 +1,14 @@
 -- What a search finds again when it goes back to a choice, and what a choice makes of a place.
 use Rattle.std.specs.Global.{Global}
-use Rattle.std.specs.Prelude.{Option, Some, None, Vec, reverse}
-use Rattle.std.proofs.Common.{◌≡◌, ℕ, zero, suc, ◌+◌, ◌-◌, ◌<◌, ◌≤◌, List, [], ◌∷◌, ◌++◌, length, get_or, map, drop, refl, sym, ap, ◌∙◌, subst, arith}
-use Rattle.std.proofs.lemmas.List.{reverse-append}
+use Rattle.std.specs.Prelude.{Bool, true, false, Option, Some, None, Result, Ok, Err, OnOk, Vec, reverse}
+use Rattle.std.proofs.Common.{◌≡◌, ℕ, zero, suc, ◌+◌, ◌-◌, ◌<◌, ◌≤◌, List, [], ◌∷◌, ◌++◌, length, get_or, map, drop, refl, sym, ap, ap₂, ◌∙◌, subst, arith}
+use Rattle.std.proofs.Math.Decide.{dec_lt}
+use Rattle.std.proofs.lemmas.List.{drop_all, reverse-append}
 use Rattle.std.proofs.Math.Seq.{drop-cons}
 use Rattle.ap_defs.specs.Answers.{NominalOut}
 use Rattle.ap_defs.specs.Goals.{Clauses, NominalGoal, succeed, atom, equal, fresh, both, either, exists, new, clause_of, clauses_of}
-use Rattle.ap_defs.specs.Terms as terms
-use Rattle.ap_defs.specs.Terms.{NominalTerm}
+use Rattle.ap_defs.specs.Renaming.{rename_term}
+use Rattle.ap_defs.specs.Terms.{NominalTerm, term_of}
 use Rattle.ap_defs.specs.Types.{NominalLocal}
 use Rattle.ap_defs.specs.declared.goals.Clause.{Clause}
 use Rattle.ap_defs.specs.declared.terms.Term.{Term}
@@ -22,10 +23,16 @@ use Rattle.ap_backchain.specs.Tracks.{GoesFrom, IsWithin, Track, back_to, next_i
 use Rattle.ap_backchain.specs.declared.place.Place.{Place}
 use Rattle.ap_backchain.specs.declared.points.Point.{Point}
 use Rattle.ap_backchain.specs.declared.points.Rest.{Rest}
+use Rattle.ap_backchain.specs.declared.points.Rest.TheVariants as rests
 use Rattle.ap_backchain.specs.declared.points.Save.{Save}
+use Rattle.ap_backchain.specs.declared.points.Untried.{Untried}
 use Rattle.ap_backchain.proofs.MachineLemmas.{next_here}
 use Rattle.ap_backchain.proofs.PointLemmas.{pending_from, points_from}
 use Rattle.ap_backchain.proofs.TrackLemmas.{back_from, goes_same, within_from}
+
+pub on_ok : {T E P : Type 0} (r : Result T E) → P → OnOk r P
+on_ok (Ok x) p = p
+on_ok (Err e) p = tt
 
 -- A choice is kept where the search stood, and the search goes on.
 module _ (s : Save) (t u : Track) (r : Rest) (ps : List Point) (w : IsWithin s t) (e : back_to s t ≡ t) (g : GoesFrom t u) where
@@ -69,6 +76,47 @@ module _ (b d : Place) (us vs : Vec Point Global) (l : vs.items ≡ us.items) (h
   pub points_goes : GoesFrom (track_of b) (track_of d) → HasPoints d vs
   points_goes g = subst (λ (ps : List Point). ArePoints (track_of d) (reverse ps)) (sym l) (points_from (track_of b) (track_of d) (reverse us.items) h g)
 
+module _ (b d : Place) (vs : Vec Point Global) (t : track_of d ≡ track_of b) where
+  pub pending_same : pending_of d vs ≡ pending_of b vs
+  pending_same = ap (λ v. positions_pending v (reverse vs.items)) t
+
+  pub points_same : HasPoints b vs → HasPoints d vs
+  points_same h = subst (λ (v : Track). ArePoints v (reverse vs.items)) (sym t) h
+
+-- The first of the clauses that are left.
+pub clause_left : (u : Untried) (i : ℕ) (c : Clause Term) (p : Position) → i < length u.clauses.now → c ≡ get_or u.clauses.now i c
+    → positions_left (rests.Clauses (record u { tried = i })) p
+    ≡ by_clause u.depth (map (rename_term u.base) (map term_of u.args.now)) p (i + 1) (clause_of c) ++ positions_left (rests.Clauses (record u { tried = i + 1 })) p
+clause_left u i c p h e =
+    let j : suc i ≡ i + 1 = omega arith in
+    let ts = map (rename_term u.base) (map term_of u.args.now) in
+    ap (λ bs. by_clauses u.depth ts p (suc i) (map clause_of bs)) (drop-cons u.clauses.now i c h ∙ ap (λ x. x ∷ drop (suc i) u.clauses.now) (sym e))
+    ∙ ap (λ k. by_clause u.depth ts p k (clause_of c) ++ by_clauses u.depth ts p (suc k) (map clause_of (drop k u.clauses.now))) j
+
+pub no_clause_left : (u : Untried) (i : ℕ) (p : Position) → length u.clauses.now ≤ i → positions_left (rests.Clauses (record u { tried = i })) p ≡ []
+no_clause_left u i p l = ap (λ cs. by_clauses u.depth (map (rename_term u.base) (map term_of u.args.now)) p (suc i) (map clause_of cs)) (drop_all i u.clauses.now l)
+
+-- The clauses after the n-th are kept, if there are any.
+module _ (s : Save) (b d : Place) (w : IsWithin s (track_of b)) (e : back_to s (track_of b) ≡ track_of b) (f : position_at (track_of b) s.first ≡ position_of b)
+    (g : GoesFrom (track_of b) (track_of d)) (u : Untried) (n : ℕ) (us vs : Vec Point Global)
+    (kept : n < length u.clauses.now → vs.items ≡ us.items ++ record { save = s; rest = rests.Clauses (record u { tried = n }) } ∷ [])
+    (none : length u.clauses.now ≤ n → vs.items ≡ us.items) (h : HasPoints b us) where
+  pub pending_rest : pending_of d vs ≡ positions_left (rests.Clauses (record u { tried = n })) (position_of b) ++ pending_of b us
+  pending_rest =
+      elim (dec_lt n (length u.clauses.now)) [
+        yes k ↦ pending_with s b d w e f g (rests.Clauses (record u { tried = n })) us vs (kept k)
+      | no k ↦
+          let l : length u.clauses.now ≤ n = omega arith in
+          pending_goes b d us vs (none l) h g ∙ ap (λ ps. ps ++ pending_of b us) (sym (no_clause_left u n (position_of b) l))
+      ]
+
+  pub points_rest : IsFitRest (next_of b) (rests.Clauses (record u { tried = n })) → HasPoints d vs
+  points_rest fit =
+      elim (dec_lt n (length u.clauses.now)) [
+        yes k ↦ points_with s b d w e f g (rests.Clauses (record u { tried = n })) us vs (kept k) fit h
+      | no k ↦ let l : length u.clauses.now ≤ n = omega arith in points_goes b d us vs (none l) h g
+      ]
+
 pub next_same : (b d : Place) → track_of d ≡ track_of b → next_of d ≡ next_of b
 next_same b d e = sym (next_here d) ∙ ap next_in e ∙ next_here b
 
@@ -80,19 +128,22 @@ module _ (b : Place) (us vs : Vec Point Global) (p : Point) (l : vs.items ≡ us
   pub latest_points : HasPoints b vs → IsPoint (track_of b) p × ArePoints (back_to p.save (track_of b)) (reverse us.items)
   latest_points h = subst (λ (ps : List Point). ArePoints (track_of b) ps) (last_first us.items vs.items p l) h
 
--- Clauses from a number on.
-module _ (d : ℕ) (ts : List NominalTerm) (p : Position) where
-  pub clauses_from : (cs : List (Clause Term)) (i : ℕ) (c : Clause Term) → i < length cs → c ≡ get_or cs i c
-      → by_clauses d ts p (suc i) (map clause_of (drop i cs)) ≡ by_clause d ts p (i + 1) (clause_of c) ++ by_clauses d ts p (suc (i + 1)) (map clause_of (drop (i + 1) cs))
-  clauses_from cs i c h e =
-      let j : suc i ≡ i + 1 = omega arith in
-      ap (λ bs. by_clauses d ts p (suc i) (map clause_of bs)) (drop-cons cs i c h ∙ ap (λ x. x ∷ drop (suc i) cs) (sym e))
-      ∙ ap (λ k. by_clause d ts p k (clause_of c) ++ by_clauses d ts p (suc k) (map clause_of (drop k cs))) j
+  -- once the search has gone back to it
+  pub pending_back : (d : Place) → track_of d ≡ back_to p.save (track_of b) → position_of d ≡ position_at (back_to p.save (track_of b)) p.save.first
+      → positions_left p.rest (position_of d) ++ pending_of d us ≡ pending_of b vs
+  pending_back d t q = ap₂ (λ (x : Position) (v : Track). positions_left p.rest x ++ positions_pending v (reverse us.items)) q t ∙ sym latest_pending
+
+  pub points_back : (d : Place) → track_of d ≡ back_to p.save (track_of b) → HasPoints b vs → HasPoints d us
+  points_back d t h = subst (λ (v : Track). ArePoints v (reverse us.items)) (sym t) (latest_points h).1
 
 pub atom_goes : (program : Clauses) (n c : ℕ) (ts : List NominalTerm) (p : Position) (w : ℕ) → choice_of_atom program n c ≡ Some w
     → goes (by_clauses (n - 1) ts p 1 (clauses_of program c)) ≡ turned_atom program n c ts p
 atom_goes program zero c ts p w h = cc
 atom_goes program (suc n) c ts p w h = let e : suc n - 1 ≡ n = omega arith in ap (λ m. goes (by_clauses m ts p 1 (clauses_of program c))) e
+
+pub deep_atom : (program : Clauses) (n c w : ℕ) → choice_of_atom program n c ≡ Some w → 1 ≤ n
+deep_atom program zero c w h = cc
+deep_atom program (suc n) c w h = omega arith
 
 -- A choice does not end the search.
 ended_goal : (program : Clauses) (d : ℕ) (g : NominalGoal) (p : Position) (w : ℕ) → choice_of_goal program d g ≡ Some w → ended (turned_goal program d g p) ≡ []
