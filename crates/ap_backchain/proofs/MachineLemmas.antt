@@ -6,7 +6,7 @@ use Rattle.ap_search.specs.Continuations.{Waiting}
 use Rattle.ap_store.specs.Triples.{Triple}
 use Rattle.ap_store.specs.Views.{kinds, past, present, versions}
 use Rattle.ap_store.specs.declared.store.Store.{Store}
-use Rattle.ap_store.proofs.StoreLemmas.{count_of_kinds}
+use Rattle.ap_store.proofs.StoreLemmas.{next_counts}
 use Rattle.ap_backchain.specs.Places.{next_of, position_of, track_of}
 use Rattle.ap_backchain.specs.Positions.{Position}
 use Rattle.ap_backchain.specs.Stacks.{cells_of, first_of, waiting_in}
