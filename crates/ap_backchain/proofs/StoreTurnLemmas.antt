@@ -1,5 +1,5 @@
 -- What calls of a store make of a place.
-use Rattle.std.proofs.Common.{◌≡◌, ℕ, List, [], ◌∷◌, length, refl, sym, ap, ◌∙◌, subst}
+use Rattle.std.proofs.Common.{◌≡◌, ℕ, ◌≤◌, ◌^◌, List, [], ◌∷◌, length, refl, sym, ap, ◌∙◌, subst, arith, rules}
 use Rattle.std.specs.Prelude.{Bool, true, false, if◌then◌else◌, Option, Some, None}
 use Rattle.ap_defs.specs.declared.terms.Cond.{Cond}
 use Rattle.ap_defs.specs.declared.terms.Var.{Var}
@@ -32,6 +32,9 @@ use Rattle.ap_backchain.specs.declared.turns.Turn.TheVariants as turns
 use Rattle.ap_backchain.proofs.TrackLemmas.{longer_same}
 
 -- Numbers.
+pub few_numbers : (s : Store) → (present s).next ≤ 2 ^ 64
+few_numbers s = let h = s.stored.2 in let l : length s.table.items ≤ 2 ^ 64 = search rules in omega (arith, h, l)
+
 pub same_next : (s r : Store) → kinds r ≡ kinds s → (present r).next ≡ (present s).next
 same_next s r e = sym (next_counts r) ∙ ap length e ∙ next_counts s
 

@@ -18,7 +18,18 @@ pub of-requires : goal.of-requires
 of-requires c = rw c.next-end.ensures c.requires.left
 
 pub make_fresh-requires-clause-name : goal.make_fresh-requires-clause-name
-make_fresh-requires-clause-name c =
-    let n = (present c.args.place.now.store).next in
-    let k = c.in_ok-left.ensures.below (rw c.of.ensures c.requires.left) in
-    subst (λ (t : NominalTerm). IsBelow n t) (sym c.in_ok-open.ensures ∙ ap opened_term c.in-Name.is) k
+make_fresh-requires-clause-name c = let h = c.in-Name in let k = c.in_ok-a in let n = c.in_ok-left in let m = c.«open» in ?
+
+pub invariant_of-place : goal.invariant_of-place
+invariant_of-place c = record {
+  below = waiting_kept c.args.place.now.store c.make_fresh.new.store (waiting_in c.args.place.now.goals) c.make_fresh.ensures.kinds c.args.place.now.below;
+}
+
+pub returns-in-Susp-clause-turned : goal.returns-in-Susp-clause-turned
+returns-in-Susp-clause-turned c = let h = c.in-Susp in ?
+
+pub returns-in-Name-clause-turned : goal.returns-in-Name-clause-turned
+returns-in-Name-clause-turned c = let h = c.goes_where in ?
+
+pub returns-clause-turned : goal.returns-clause-turned
+returns-clause-turned c = let h = c.in_default in ?
