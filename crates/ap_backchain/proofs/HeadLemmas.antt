@@ -4,13 +4,17 @@ use Rattle.std.proofs.lemmas.List.{length-map, take-append-le, take_all}
 use Rattle.std.specs.Prelude.{Bool, Option, Some, None}
 use Rattle.ap_defs.specs.Freshness.{Conds}
 use Rattle.ap_defs.specs.Goals.{NominalClause}
-use Rattle.ap_defs.specs.Renaming.{rename_term}
+use Rattle.ap_defs.specs.Renaming.{AreBelow, rename_term}
 use Rattle.ap_defs.specs.Resolution.{State, kinds_of}
 use Rattle.ap_defs.specs.Substitution.{Binding, Equation, ◌≐◌, under}
-use Rattle.ap_defs.specs.Terms.{NominalTerm}
+use Rattle.ap_defs.specs.Terms.{NominalTerm, term_of}
 use Rattle.ap_defs.specs.Types.{NominalKind}
 use Rattle.ap_defs.specs.Unification.{Unified, ending, equations_of, finish, unify}
+use Rattle.ap_defs.specs.declared.terms.Term.{Term}
 use Rattle.ap_defs.specs.declared.terms.Var.{Var}
+use Rattle.ap_perm.specs.Closures.{closure_term}
+use Rattle.ap_perm.specs.declared.closures.Closure.{Closure}
+use Rattle.ap_program.proofs.RenamingLemmas.{are_below_more, are_renamed_below}
 use Rattle.ap_search.specs.Continuations.{Waiting}
 use Rattle.ap_store.specs.Triples.{GoesOn, Triple, with_next}
 use Rattle.ap_store.specs.Views.{kinds, past, present, versions}
@@ -38,12 +42,37 @@ pub unify_cut : (s : List Binding) (ds : Conds) (ts us : List NominalTerm) (k : 
 unfolding unify
 unify_cut s ds ts us k h = ap (λ es. finish ds (ending (record { equations = es; problems = []; bindings = s }))) (equations_cut s ts us k h)
 
--- the head of a clause that is renamed, up to where it is compared
-pub renamed_cut : (n : ℕ) (ts : List NominalTerm) (k : ℕ) → map (rename_term n) (take k ts) ≡ take k (map (rename_term n) ts)
-renamed_cut n [] zero = refl
-renamed_cut n [] (suc k) = refl
-renamed_cut n (t ∷ ts) zero = refl
-renamed_cut n (t ∷ ts) (suc k) = ap (λ us. rename_term n t ∷ us) (renamed_cut n ts k)
+-- terms that are renamed, up to where they are compared
+pub terms_cut : (n : ℕ) (ts : List Term) (k : ℕ) → map (rename_term n) (map term_of (take k ts)) ≡ take k (map (rename_term n) (map term_of ts))
+terms_cut n [] zero = refl
+terms_cut n [] (suc k) = refl
+terms_cut n (t ∷ ts) zero = refl
+terms_cut n (t ∷ ts) (suc k) = ap (λ us. rename_term n (term_of t) ∷ us) (terms_cut n ts k)
+
+cut_below : (m n : ℕ) (ts : List Term) (k : ℕ) → AreBelow m (map (rename_term n) (map term_of ts)) → AreBelow m (map (rename_term n) (map term_of (take k ts)))
+cut_below m n [] zero h = tt
+cut_below m n [] (suc k) h = tt
+cut_below m n (t ∷ ts) zero h = tt
+cut_below m n (t ∷ ts) (suc k) h = (h.0, cut_below m n ts k h.1)
+
+pub args_below : (m n base : ℕ) (ts : List Term) (k : ℕ) → n ≤ m → AreBelow n (map (rename_term base) (map term_of ts)) → AreBelow m (map (rename_term base) (map term_of (take k ts)))
+args_below m n base ts k l h = cut_below m base ts k (are_below_more m n l (map (rename_term base) (map term_of ts)) h)
+
+pub head_below : (m n base : ℕ) (ts us : List Term) (k : ℕ) → base + n ≤ m → us ≡ ts → AreBelow n (map term_of ts) → AreBelow m (map (rename_term base) (map term_of (take k us)))
+head_below m n base ts us k l e h =
+    subst (λ (vs : List Term). AreBelow m (map (rename_term base) (map term_of (take k vs)))) (sym e)
+    (args_below m (base + n) base ts k l (are_renamed_below base n (map term_of ts) h))
+
+-- closures of such terms
+module _ (cs ds : List Closure) (base : ℕ) (ts : List Term) (same : cs ≡ ds) (closed : map closure_term ds ≡ map (rename_term base) (map term_of ts)) where
+  pub closed_terms : map closure_term cs ≡ map (rename_term base) (map term_of ts)
+  closed_terms = ap (map closure_term) same ∙ closed
+
+  pub closed_length : length cs ≡ length ts
+  closed_length = sym (length-map cs closure_term) ∙ ap length closed_terms ∙ length-map (map term_of ts) (rename_term base) ∙ length-map ts term_of
+
+  pub closed_below : (m : ℕ) → AreBelow m (map (rename_term base) (map term_of ts)) → AreBelow m (map closure_term cs)
+  closed_below m h = subst (AreBelow m) (sym closed_terms) h
 
 -- A store r in which the identifiers of a clause were given numbers, and d, in which its head was unified.
 module _ (s r d : Store) (ts : List NominalTerm) (c : NominalClause) (count : ℕ) (many : count ≡ length c.locals)

@@ -1,6 +1,7 @@
 -- What calls of a store make of a place.
-use Rattle.std.proofs.Common.{◌≡◌, ℕ, List, [], ◌∷◌, length, refl, sym, ap, ◌∙◌, subst}
-use Rattle.std.specs.Prelude.{Bool, true, false, if◌then◌else◌, Option, Some, None}
+use Rattle.std.proofs.Common.{◌≡◌, ℕ, ◌≤◌, ◌^◌, List, [], ◌∷◌, length, refl, sym, ap, ◌∙◌, subst, arith, rules}
+use Rattle.std.specs.Global.{Global}
+use Rattle.std.specs.Prelude.{Bool, Vec, true, false, if◌then◌else◌, Option, Some, None}
 use Rattle.ap_defs.specs.declared.terms.Cond.{Cond}
 use Rattle.ap_defs.specs.declared.terms.Var.{Var}
 use Rattle.ap_defs.specs.declared.terms.Name.{Name}
@@ -13,6 +14,9 @@ use Rattle.ap_defs.specs.Terms.{NominalTerm, name, susp}
 use Rattle.ap_defs.specs.Types.{NominalKind}
 use Rattle.ap_defs.specs.Unification.{Unified}
 use Rattle.ap_search.specs.Continuations.{Waiting}
+use Rattle.ap_perm.specs.Closures.{opened_term}
+use Rattle.ap_perm.specs.declared.closures.Opened.{Opened}
+use Rattle.ap_perm.specs.declared.closures.Opened.TheVariants as parts
 use Rattle.ap_store.specs.Heads.{IsHeadUnbound}
 use Rattle.ap_store.specs.Triples.{GoesOn, Triple}
 use Rattle.ap_store.specs.Views.{kinds, present, versions}
@@ -32,6 +36,9 @@ use Rattle.ap_backchain.specs.declared.turns.Turn.TheVariants as turns
 use Rattle.ap_backchain.proofs.TrackLemmas.{longer_same}
 
 -- Numbers.
+pub few_numbers : (s : Store) → (present s).next ≤ 2 ^ 64
+few_numbers s = let h = s.stored.2 in let l : length s.table.items ≤ 2 ^ 64 = search rules in omega (arith, h, l)
+
 pub same_next : (s r : Store) → kinds r ≡ kinds s → (present r).next ≡ (present s).next
 same_next s r e = sym (next_counts r) ∙ ap length e ∙ next_counts s
 
@@ -82,14 +89,22 @@ module _ (s : Store) (p : Position) (t u v w : NominalTerm) (followed : under (p
   turned_as : w ≡ v → turned_fresh p (under (present s).bindings t) u ≡ turned_fresh p (under (present s).bindings w) u
   turned_as e = ap (λ (x : NominalTerm). turned_fresh p x u) (sym (ap (under (present s).bindings) e ∙ followed))
 
-  pub turned_other : w ≡ v → goes [] ≡ turned_fresh p (under (present s).bindings w) u → goes [] ≡ turned_fresh p (under (present s).bindings t) u
-  turned_other e h = h ∙ sym (turned_as e)
+  turned_to : {y : NominalTerm} → w ≡ y → w ≡ v → turned_fresh p (under (present s).bindings t) u ≡ turned_fresh p (under (present s).bindings y) u
+  turned_to f e = turned_as e ∙ ap (λ (y : NominalTerm). turned_fresh p (under (present s).bindings y) u) f
+
+  pub turned_other : (o : Opened) → w ≡ opened_term o → w ≡ v → ((a : Name) → o ≡ parts.Name a → ⊥) → ((q : Vec Swap Global) (x : Var) → o ≡ parts.Susp q x → ⊥)
+      → goes [] ≡ turned_fresh p (under (present s).bindings t) u
+  turned_other parts.Unit f e h k = sym (turned_to f e)
+  turned_other (parts.Name a) f e h k = absurd (h a refl)
+  turned_other (parts.Pair c d) f e h k = sym (turned_to f e)
+  turned_other (parts.App g c) f e h k = sym (turned_to f e)
+  turned_other (parts.Abs a c) f e h k = sym (turned_to f e)
+  turned_other (parts.Susp q x) f e h k = absurd (k q x refl)
 
   pub turned_stuck : (q : List Swap) (x : Var) → w ≡ susp q x → w ≡ v → IsHeadUnbound (present s).bindings v → ends (stuck p.path) ≡ turned_fresh p (under (present s).bindings t) u
   turned_stuck q x f e h =
       let k : IsHeadUnbound (present s).bindings (susp q x) = subst (λ (y : NominalTerm). IsHeadUnbound (present s).bindings y) (sym e ∙ f) h in
-      sym (turned_as e ∙ ap (λ (y : NominalTerm). turned_fresh p (under (present s).bindings y) u) f
-      ∙ ap (λ (o : Option NominalTerm). turned_fresh p (moved q x o) u) (bound_term_unbound (present s).bindings x k))
+      sym (turned_to f e ∙ ap (λ (o : Option NominalTerm). turned_fresh p (moved q x o) u) (bound_term_unbound (present s).bindings x k))
 
   pub turned_name : (a : Name) → w ≡ name a → w ≡ v → goes_with p (reduced_state p.state (reduce a (under p.state.bindings u))) ≡ turned_fresh p (under (present s).bindings t) u
-  turned_name a f e = sym (turned_as e ∙ ap (λ (y : NominalTerm). turned_fresh p (under (present s).bindings y) u) f)
+  turned_name a f e = sym (turned_to f e)

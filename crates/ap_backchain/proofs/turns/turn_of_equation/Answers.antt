@@ -19,30 +19,30 @@ pub of-requires-2 : goal.of-requires-2
 of-requires-2 c = rw c.next-end.ensures c.requires.right
 
 pub unify-requires-clause-left : goal.unify-requires-clause-left
-unify-requires-clause-left c = (rw c.of-left.ensures c.requires.left, tt)
+unify-requires-clause-left c = (rw c.of.ensures c.requires.left, tt)
 
 pub unify-requires-clause-right : goal.unify-requires-clause-right
-unify-requires-clause-right c = (rw c.of-right.ensures c.requires.right, tt)
+unify-requires-clause-right c = (rw c.of-2.ensures c.requires.right, tt)
 
 pub invariant_of-place : goal.invariant_of-place
 invariant_of-place c = record {
-  below = waiting_kept c.args.place.now.store c.unify-solved.new.store (waiting_in c.args.place.now.goals) c.unify-solved.ensures.kinds c.args.place.now.below;
+  below = waiting_kept c.args.place.now.store c.unify.new.store (waiting_in c.args.place.now.goals) c.unify.ensures.kinds c.args.place.now.below;
 }
 
 pub returns-clause-turned : goal.returns-clause-turned
 returns-clause-turned c =
     let s = c.args.place.now.store in
-    let r = c.unify-solved.new.store in
+    let r = c.unify.new.store in
     let p = position_of c.args.place.now in
     let a = present s in
     let t = rename_term c.args.base (term_of c.args.t.now) in
     let u = rename_term c.args.base (term_of c.args.u.now) in
-    turned_unified s r p _ c.unify-solved.ensures.kinds refl _ c.goes_where.result c.in_ok-solved.solved c.in_ok-solved.ensures.defined c.goes_where.ensures
-    ∙ ap (λ (v : NominalTerm). goes_with p (unified_state (state_in s) (unify a.bindings a.conditions (v ∷ []) (closure_term c.of-right.result ∷ [])))) c.of-left.ensures
-    ∙ ap (λ (v : NominalTerm). goes_with p (unified_state (state_in s) (unify a.bindings a.conditions (t ∷ []) (v ∷ [])))) c.of-right.ensures
+    turned_unified s r p _ c.unify.ensures.kinds refl _ c.goes_where.result c.in_ok-solved.solved c.in_ok-solved.ensures.defined c.goes_where.ensures
+    ∙ ap (λ (v : NominalTerm). goes_with p (unified_state (state_in s) (unify a.bindings a.conditions (v ∷ []) (closure_term c.of-2.result ∷ [])))) c.of.ensures
+    ∙ ap (λ (v : NominalTerm). goes_with p (unified_state (state_in s) (unify a.bindings a.conditions (t ∷ []) (v ∷ [])))) c.of-2.ensures
 
 pub returns-clause-goes : goal.returns-clause-goes
 returns-clause-goes c =
     let b = c.args.place.now in
-    let r = c.unify-solved.new.store in
-    store_goes b.store r (cells_of b.goals) b.path.items b.brought.items c.unify-solved.ensures.past (longer_same (kinds b.store) (kinds r) c.unify-solved.ensures.kinds)
+    let r = c.unify.new.store in
+    store_goes b.store r (cells_of b.goals) b.path.items b.brought.items c.unify.ensures.past (longer_same (kinds b.store) (kinds r) c.unify.ensures.kinds)
