@@ -10,6 +10,7 @@ pub mod FitLemmas
 pub mod MarkLemmas
 pub mod SearchLemmas
 pub mod RunLemmas
+pub mod StoreTurnLemmas
 pub mod PlaceLemmas
 pub mod TurnLemmas
 pub mod VarLemmas
