@@ -31,3 +31,4 @@ pub mod step;
 mod tests;
 pub mod turns;
 pub mod vars;
+pub mod visits;
