@@ -62,6 +62,6 @@ sorted_set xs ys zs p s f =
     let is : zs ≡ dedup var_eq ys = dedup_is var_eq ys zs f in
     let up : IsStrictlySortedBy by_num (dedup var_eq ys) = IsStrictlySortedBy-dedup (on_total (λ (x : Var). x.num) nat_cmp_total) (λ x y. unsigned_ties x.num y.num) ys s in
     let same : SameVars (dedup var_eq ys) xs = λ x. same_test (has_var x (dedup var_eq ys)) (has_var x xs)
-        (λ h. to_has x xs (Contains-permutation ys xs x (IsPermutation-sym xs ys p) (Contains-from_dedup var_eq ys x (from_has x (dedup var_eq ys) h))))
-        (λ h. to_has x (dedup var_eq ys) (Contains-dedup var_equivalence var_same ys x (Contains-permutation xs ys x p (from_has x xs h)))) in
+    (λ h. to_has x xs (Contains-permutation ys xs x (IsPermutation-sym xs ys p) (Contains-from_dedup var_eq ys x (from_has x (dedup var_eq ys) h))))
+    (λ h. to_has x (dedup var_eq ys) (Contains-dedup var_equivalence var_same ys x (Contains-permutation xs ys x p (from_has x xs h)))) in
     is ∙ sym (strictly_set (dedup var_eq ys) up) ∙ ascending_same (dedup var_eq ys) xs same
