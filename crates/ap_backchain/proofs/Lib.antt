@@ -9,6 +9,8 @@ pub mod BranchLemmas
 pub mod FitLemmas
 pub mod MarkLemmas
 pub mod SearchLemmas
+pub mod RunLemmas
+pub mod StoreTurnLemmas
 pub mod PlaceLemmas
 pub mod TurnLemmas
 pub mod VarLemmas

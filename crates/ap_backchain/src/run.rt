@@ -51,8 +51,8 @@ fn keep_rest<'a>(
     untried: Untried<'a>,
     tried: usize,
 ) -> Result<(), Memory>
-    ensures kept { OnOk result (tried < length untried.clauses.now → points.new.items ≡ points.old.items ++ record { save = save; rest = Rest.Clauses (record untried.entry { tried = tried }) } ∷ []) }
-    ensures none { OnOk result (length untried.clauses.now ≤ tried → points.new.items ≡ points.old.items) }
+    ensures kept { OnOk result (tried < length untried.entry.clauses.now → points.new.items ≡ points.old.items ++ record { save = save; rest = Rest.Clauses (record untried.entry { tried = tried }) } ∷ []) }
+    ensures none { OnOk result (length untried.entry.clauses.now ≤ tried → points.new.items ≡ points.old.items) }
 {
     if tried < untried.clauses.len() {
         let rest = Rest::Clauses(Untried { tried, ..untried });
@@ -294,14 +294,7 @@ pub fn outputs_from<'a>(
     let mut points = Vec::new(alloc);
     let mut place = first;
     'searching: loop {
-        if !go_on(
-            alloc,
-            clauses,
-            locals,
-            &mut place,
-            &mut points,
-            &mut outs,
-        )? {
+        if !go_on(alloc, clauses, locals, &mut place, &mut points, &mut outs)? {
             return Ok(outs);
         }
     }

@@ -1,0 +1,35 @@
+use Rattle.std.proofs.Common.{◌≡◌, List, map, ap, ◌∙◌, sym, subst}
+use Rattle.std.specs.Prelude.{IfOk, OnOk, Option, None}
+use Rattle.ap_defs.specs.Goals.{clause_of}
+use Rattle.ap_defs.specs.Types.{locals_of}
+use Rattle.ap_backchain.specs.Marks.{choice_of}
+use Rattle.ap_backchain.specs.Places.{position_of, track_of, turned_of}
+use Rattle.ap_backchain.specs.Positions.{Position, Turned, turned}
+use Rattle.ap_backchain.specs.Tracks.{GoesFrom, Track}
+use Rattle.ap_backchain.proofs.TrackLemmas.{goes_same}
+use Rattle.ap_backchain.proofs.turns.take_turn.Goals as goal
+
+pub turn_of_goal-requires-clause-goal : goal.turn_of_goal-requires-clause-goal
+turn_of_goal-requires-clause-goal c = c.in-Some.ensures.some.1
+
+pub turn_of_goal-requires-clause-settled : goal.turn_of_goal-requires-clause-settled
+turn_of_goal-requires-clause-settled c =
+    let program = map (map clause_of) c.args.clauses.now in
+    sym (ap (λ (p : Position). choice_of program p.waiting) c.in-Some.ensures.some.0) ∙ c.requires.settled
+
+pub returns-in-Some-clause-turned : goal.returns-in-Some-clause-turned
+returns-in-Some-clause-turned c =
+    let program = map (map clause_of) c.args.clauses.now in let ls = locals_of c.args.locals.now in
+    let q = position_of c.turn_of_goal.new.place in
+    subst (λ (t : Turned). IfOk c.turn_of_goal.result (λ r. turned_of r q ≡ t)) (sym (ap (turned program ls) c.in-Some.ensures.some.0)) c.turn_of_goal.ensures.turned
+
+pub returns-in-Some-clause-goes : goal.returns-in-Some-clause-goes
+returns-in-Some-clause-goes c =
+    let u = track_of c.turn_of_goal.new.place in
+    subst (λ (t : Track). OnOk c.turn_of_goal.result (GoesFrom t u)) c.pop_goal.ensures.track c.turn_of_goal.ensures.goes
+
+pub returns-in-None-clause-turned : goal.returns-in-None-clause-turned
+returns-in-None-clause-turned c = ?
+
+pub returns-in-None-clause-goes : goal.returns-in-None-clause-goes
+returns-in-None-clause-goes c = goes_same (track_of c.args.place.now) (track_of c.pop_goal.new.self) c.pop_goal.ensures.track
