@@ -89,7 +89,7 @@ waiting_made s r ls ws h k = let e : (present r).next ≡ (present s).next + len
 
 -- A store r in which the identifiers of a clause were given numbers, and d, in which its head was unified.
 module _ (s r d : Store) (ts : List NominalTerm) (c : NominalClause) (count : ℕ) (many : count ≡ length c.locals)
-  (made : present r ≡ with_next ((present s).next + count) (present s)) (grown : kinds r ≡ kinds s ++ kinds_of c.locals) (kept : kinds d ≡ kinds r) where
+    (made : present r ≡ with_next ((present s).next + count) (present s)) (grown : kinds r ≡ kinds s ++ kinds_of c.locals) (kept : kinds d ≡ kinds r) where
   abbrev renamed_kinds : State
   renamed_kinds = record { bindings = (present s).bindings; conditions = (present s).conditions; kinds = kinds s ++ kinds_of c.locals }
 
@@ -107,7 +107,7 @@ module _ (s r d : Store) (ts : List NominalTerm) (c : NominalClause) (count : �
 
   -- what was compared is what clauses are entered by
   module _ (n : ℕ) (first : n ≡ (present s).next) (ls rs : List NominalTerm) (k : ℕ) (left : ls ≡ take k ts) (right : rs ≡ take k (map (rename_term n) c.args)) (enough : min (length ts) (length c.args) ≤ k)
-    (solved : Bool) (result : IsResult (unify (present r).bindings (present r).conditions ls rs) (present r) solved (present d)) where
+      (solved : Bool) (result : IsResult (unify (present r).bindings (present r).conditions ls rs) (present r) solved (present d)) where
     compared : unify (present r).bindings (present r).conditions ls rs ≡ unify (present s).bindings (present s).conditions ts (map (rename_term (length (kinds s))) c.args)
     compared =
         let e : n ≡ length (kinds s) = first ∙ sym (next_counts s) in
@@ -129,7 +129,7 @@ module _ (s r d : Store) (ts : List NominalTerm) (c : NominalClause) (count : �
 
 -- A store f that went back to where s was.
 module _ (s d f : Store) (m : ℕ) (goes : GoesOn (versions s) (versions d)) (more : (ks : List NominalKind) × (kinds d ≡ kinds s ++ ks))
-  (mark : m ≡ length (past s)) (back : versions f ≡ take (m + 1) (versions d)) (left : kinds f ≡ take (present f).next (kinds d)) where
+    (mark : m ≡ length (past s)) (back : versions f ≡ take (m + 1) (versions d)) (left : kinds f ≡ take (present f).next (kinds d)) where
   versions_back : versions f ≡ versions s
   versions_back =
       let l : length (versions s) ≡ m + 1 = omega (arith, length-append (past s) (present s ∷ []), mark) in

@@ -14,3 +14,6 @@ pub mod StoreTurnLemmas
 pub mod PlaceLemmas
 pub mod TurnLemmas
 pub mod VarLemmas
+pub mod VisitLemmas
+pub mod SetLemmas
+pub mod AnswerLemmas

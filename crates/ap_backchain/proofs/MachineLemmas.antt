@@ -31,7 +31,7 @@ pub position_from : (r : Store) (a : Arena) (path : List ℕ) (brought : List Va
 position_from r a path brought n e =
     ap (λ m. position_at (track_with r a path brought) m) e
     ∙ ap (λ (v : Triple). record { waiting = waiting_in a; path = path; state = record { bindings = v.bindings; conditions = v.conditions; kinds = kinds r }; brought = brought })
-      (last_present (past r) (present r))
+    (last_present (past r) (present r))
 
 pub next_here : (b : Place) → next_in (track_of b) ≡ next_of b
 next_here b = next_with b.store b.goals b.path.items b.brought.items

@@ -15,9 +15,11 @@ pending_from t u (p ∷ ps) h g =
 pub points_from : (t u : Track) (ps : List Point) → ArePoints t ps → GoesFrom t u → ArePoints u ps
 points_from t u [] h g = tt
 points_from t u (p ∷ ps) h g =
-    let e = sym (back_from p.save t u h.0.within g) in
-    (record {
-      within = within_from p.save t u h.0.within g;
-      waiting = subst (λ (v : Track). AreWaitingBelow (next_in v) (position_at v p.save.first).waiting) e h.0.waiting;
-      rest = subst (λ (v : Track). IsFitRest (next_in v) p.rest) e h.0.rest;
-    }, subst (λ (v : Track). ArePoints v ps) e h.1)
+    let e = sym (back_from p.save t u h.0.within g) in (
+      record {
+        within = within_from p.save t u h.0.within g;
+        waiting = subst (λ (v : Track). AreWaitingBelow (next_in v) (position_at v p.save.first).waiting) e h.0.waiting;
+        rest = subst (λ (v : Track). IsFitRest (next_in v) p.rest) e h.0.rest;
+      },
+      subst (λ (v : Track). ArePoints v ps) e h.1,
+    )

@@ -41,12 +41,14 @@ module _ (s : Save) (t u : Track) (r : Rest) (ps : List Point) (w : IsWithin s t
 
   points_kept : AreWaitingBelow (next_in t) (position_at t s.first).waiting → IsFitRest (next_in t) r → ArePoints t ps → ArePoints u (record { save = s; rest = r } ∷ ps)
   points_kept below fit h =
-      let f : t ≡ back_to s u = sym (back_from s t u w g ∙ e) in
-      (record {
-        within = within_from s t u w g;
-        waiting = subst (λ (v : Track). AreWaitingBelow (next_in v) (position_at v s.first).waiting) f below;
-        rest = subst (λ (v : Track). IsFitRest (next_in v) r) f fit;
-      }, subst (λ (v : Track). ArePoints v ps) f h)
+      let f : t ≡ back_to s u = sym (back_from s t u w g ∙ e) in (
+        record {
+          within = within_from s t u w g;
+          waiting = subst (λ (v : Track). AreWaitingBelow (next_in v) (position_at v s.first).waiting) f below;
+          rest = subst (λ (v : Track). IsFitRest (next_in v) r) f fit;
+        },
+        subst (λ (v : Track). ArePoints v ps) f h,
+      )
 
 pub last_first : (ps qs : List Point) (p : Point) → qs ≡ ps ++ p ∷ [] → reverse qs ≡ p ∷ reverse ps
 last_first ps qs p e = ap reverse e ∙ reverse-append ps (p ∷ [])
@@ -104,17 +106,17 @@ module _ (s : Save) (b d : Place) (w : IsWithin s (track_of b)) (e : back_to s (
   pub pending_rest : pending_of d vs ≡ positions_left (rests.Clauses (record u { tried = n })) (position_of b) ++ pending_of b us
   pending_rest =
       elim (dec_lt n (length u.clauses.now)) [
-        yes k ↦ pending_with s b d w e f g (rests.Clauses (record u { tried = n })) us vs (kept k)
-      | no k ↦
-          let l : length u.clauses.now ≤ n = omega arith in
-          pending_goes b d us vs (none l) h g ∙ ap (λ ps. ps ++ pending_of b us) (sym (no_clause_left u n (position_of b) l))
+        | yes k ↦ pending_with s b d w e f g (rests.Clauses (record u { tried = n })) us vs (kept k)
+        | no k ↦
+            let l : length u.clauses.now ≤ n = omega arith in
+            pending_goes b d us vs (none l) h g ∙ ap (λ ps. ps ++ pending_of b us) (sym (no_clause_left u n (position_of b) l))
       ]
 
   pub points_rest : IsFitRest (next_of b) (rests.Clauses (record u { tried = n })) → HasPoints d vs
   points_rest fit =
       elim (dec_lt n (length u.clauses.now)) [
-        yes k ↦ points_with s b d w e f g (rests.Clauses (record u { tried = n })) us vs (kept k) fit h
-      | no k ↦ let l : length u.clauses.now ≤ n = omega arith in points_goes b d us vs (none l) h g
+        | yes k ↦ points_with s b d w e f g (rests.Clauses (record u { tried = n })) us vs (kept k) fit h
+        | no k ↦ let l : length u.clauses.now ≤ n = omega arith in points_goes b d us vs (none l) h g
       ]
 
 pub next_same : (b d : Place) → track_of d ≡ track_of b → next_of d ≡ next_of b

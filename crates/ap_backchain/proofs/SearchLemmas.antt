@@ -19,9 +19,9 @@ module _ (program : Clauses) (locals : List NominalLocal) where
       ap (λ os. os ++ outs_from_each program locals qs) f
       ∙ append_assoc outs (ended (turned program locals p)) (outs_from_each program locals qs)
       ∙ ap (λ os. outs ++ os)
-        (ap (λ rs. ended (turned program locals p) ++ outs_from_each program locals rs) e
-        ∙ outs_followed (turned program locals p) ps
-        ∙ ap (λ os. os ++ outs_from_each program locals ps) (outs_turned program locals p))
+      (ap (λ rs. ended (turned program locals p) ++ outs_from_each program locals rs) e
+      ∙ outs_followed (turned program locals p) ps
+      ∙ ap (λ os. os ++ outs_from_each program locals ps) (outs_turned program locals p))
       ∙ h
 
   turns_followed : (t : Turned) (ps : List Position) → turns_from_each program (followed t ps) ≡ turns_of_turned program t + turns_from_each program ps

@@ -116,7 +116,7 @@ back_here s t vs w e f m c p x =
     let n : (last_version t.versions).next ≡ length t.kinds = ap (λ us. (last_version us).next) e ∙ ap (λ (u : Triple). u.next) (last_present vs w) ∙ f in
     ap (λ us. record { versions = us; kinds = take (last_version us).next t.kinds; cells = take s.cells t.cells; path = take s.path t.path; brought = take s.brought t.brought }) a
     ∙ ap (λ ks. record { versions = t.versions; kinds = ks; cells = take s.cells t.cells; path = take s.path t.path; brought = take s.brought t.brought })
-      (take_all (last_version t.versions).next t.kinds (omega (arith, n)))
+    (take_all (last_version t.versions).next t.kinds (omega (arith, n)))
     ∙ ap (λ cs. record { versions = t.versions; kinds = t.kinds; cells = cs; path = take s.path t.path; brought = take s.brought t.brought }) (take_all s.cells t.cells (omega (arith, c)))
     ∙ ap (λ ps. record { versions = t.versions; kinds = t.kinds; cells = t.cells; path = ps; brought = take s.brought t.brought }) (take_all s.path t.path (omega (arith, p)))
     ∙ ap (λ xs. record { versions = t.versions; kinds = t.kinds; cells = t.cells; path = t.path; brought = xs }) (take_all s.brought t.brought (omega (arith, x)))
@@ -127,7 +127,7 @@ within_here s t vs w e f m c i p x =
     let many : length t.versions ≡ length vs + 1 = ap length e ∙ length-append vs (w ∷ []) in
     let a : take (s.mark.place + 1) t.versions ≡ t.versions = take_all (s.mark.place + 1) t.versions (omega (arith, many, m)) in
     let n : (last_version (take (s.mark.place + 1) t.versions)).next ≡ length t.kinds =
-        ap (λ us. (last_version us).next) (a ∙ e) ∙ ap (λ (u : Triple). u.next) (last_present vs w) ∙ f in
+    ap (λ us. (last_version us).next) (a ∙ e) ∙ ap (λ (u : Triple). u.next) (last_present vs w) ∙ f in
     record {
       mark = omega (arith, many, m);
       kinds = omega (arith, n);

@@ -6,14 +6,14 @@ ghost use Rattle.ap_defs.specs.Answers.{answer_of, closed_term, kind_at, typed_v
 ghost use Rattle.ap_defs.specs.Canonical.{canonical_term};
 ghost use Rattle.ap_defs.specs.Terms.{susp, term_of};
 ghost use Rattle.ap_defs.specs.Types.{locals_of};
-ghost use Rattle.ap_search.specs.Records.{SameVars, answer_with, closed_vars, vars_with};
+ghost use Rattle.ap_search.specs.Records.{answer_with, closed_vars};
 ghost use Rattle.ap_backchain.specs.Views.{state_in};
 ghost use Rattle.ap_backchain.specs.Reached.{vars_reached};
 ghost use Rattle.ap_store.specs.Views.{kinds};
 
 use crate::reached::reached;
 use crate::renaming::vars_of_locals;
-use crate::vars::{add_vars, add_vars_of_conds, add_vars_of_terms};
+use crate::vars::{add_vars_of_conds, add_vars_of_terms, make_ascending};
 use ap_defs::copies::copy_type;
 use ap_defs::goals::{Kind, Local};
 use ap_defs::lists::List;
@@ -87,9 +87,10 @@ fn vars_among(
     ensures { IfOk result (λ v. v.items ≡ vars_reached (map term_of binds.now) conds.now others.now) }
 {
     let mut vars = Vec::new(alloc);
-    add_vars(&mut vars, others)?;
-    add_vars_of_conds(&mut vars, conds)?;
     add_vars_of_terms(&mut vars, binds)?;
+    add_vars_of_conds(&mut vars, conds)?;
+    vars.extend_from_slice(others)?;
+    make_ascending(&mut vars);
     Ok(vars)
 }
 

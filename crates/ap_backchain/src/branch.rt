@@ -127,13 +127,7 @@ impl<'a> Branch<'a> {
     {
         let clauses = clauses_of_problem(p);
         let query = query_of_problem(p);
-        let standing = choose(
-            alloc,
-            clauses,
-            query.locals.items(),
-            self.standing,
-            choice,
-        )?;
+        let standing = choose(alloc, clauses, query.locals.items(), self.standing, choice)?;
         let branch = branch_at(alloc, standing)?;
         Ok(branch)
     }

@@ -14,7 +14,6 @@ pub mod branch;
 pub mod choices;
 pub mod clauses;
 pub mod closures;
-
 pub mod frames;
 pub mod free_vars;
 #[cfg(test)]
@@ -31,3 +30,4 @@ pub mod step;
 mod tests;
 pub mod turns;
 pub mod vars;
+pub mod visits;

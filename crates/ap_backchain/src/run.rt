@@ -294,14 +294,7 @@ pub fn outputs_from<'a>(
     let mut points = Vec::new(alloc);
     let mut place = first;
     'searching: loop {
-        if !go_on(
-            alloc,
-            clauses,
-            locals,
-            &mut place,
-            &mut points,
-            &mut outs,
-        )? {
+        if !go_on(alloc, clauses, locals, &mut place, &mut points, &mut outs)? {
             return Ok(outs);
         }
     }

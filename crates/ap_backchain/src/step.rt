@@ -1,6 +1,6 @@
 //! One choice of a branch.
 
-ghost use Rattle.std.specs.Prelude.{◌≡◌, ◌≤◌, ◌^◌, ◌<◌, ◌++◌, [], ◌∷◌, IfOk, List as list, length, map};
+ghost use Rattle.std.specs.Prelude.{◌≡◌, ◌≤◌, ◌-◌, ◌^◌, ◌<◌, ◌++◌, [], ◌∷◌, IfOk, List as list, length, map};
 ghost use Rattle.ap_defs.specs.Goals.{Clauses, clause_of, goal_of};
 ghost use Rattle.ap_defs.specs.Renaming.{AreBelow, IsGoalBelow, rename_goal, rename_term as renamed};
 ghost use Rattle.ap_defs.specs.Terms.{term_of};

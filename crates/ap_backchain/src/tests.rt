@@ -176,8 +176,10 @@ fn any_fact(alloc: Global) -> Result<Goal<Term>, Memory> {
 fn all_clauses(alloc: Global) -> Result<bool, Memory> {
     let clauses = three_facts(alloc)?;
     let asked = query(any_fact(alloc)?, locals(alloc, 0, 1)?);
-    Ok(reaches(alloc, clauses.as_slice(), 1, &asked, "F1F2F3")?
-        && reaches(alloc, clauses.as_slice(), 0, &asked, "C")?)
+    Ok(
+        reaches(alloc, clauses.as_slice(), 1, &asked, "F1F2F3")?
+            && reaches(alloc, clauses.as_slice(), 0, &asked, "C")?,
+    )
 }
 
 fn last_clause(alloc: Global) -> Result<bool, Memory> {

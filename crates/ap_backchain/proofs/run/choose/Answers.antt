@@ -29,6 +29,6 @@ returns-clause-left c =
     IfOk-weaker c.choose_by.result (λ x. positions_with x c.choose_by.new.place c.choose_by.new.points ≡ followed q (pending_of d us))
     (λ x. (locals : List NominalLocal) → positions_with x c.choose_by.new.place c.choose_by.new.points ≡ followed (turned program locals (position_of b)) (pending_of b us))
     (λ x h locals.
-      h ∙ ap (followed q) (pending_same b d us c.pop_goal.ensures.track)
-      ∙ ap (λ (p : Position). followed (turned program locals p) (pending_of b us)) (sym c.in-Some.ensures.some.0))
+    h ∙ ap (followed q) (pending_same b d us c.pop_goal.ensures.track)
+    ∙ ap (λ (p : Position). followed (turned program locals p) (pending_of b us)) (sym c.in-Some.ensures.some.0))
     c.choose_by.ensures.left

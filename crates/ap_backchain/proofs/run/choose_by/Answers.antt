@@ -47,4 +47,4 @@ returns-in_ok-take_left-in-Either-clause-left c =
     rw c.in-Either.is
     (c.in_ok-take_left-in-Either.ensures.left
     ∙ ap₂ (λ g h. followed (turned_goal (map (map clause_of) c.args.clauses.now) c.args.frame.depth (either (rename_goal c.args.frame.base (goal_of g)) (rename_goal c.args.frame.base (goal_of h))) p) ps)
-      c.deref.ensures c.deref-in-Either.ensures)
+    c.deref.ensures c.deref-in-Either.ensures)

@@ -30,11 +30,11 @@ returns c =
     let store = c.make.new.self in
     let depth = c.args.depth in
     let begins : state_in store ≡ first_state (query_of c.args.query.now) =
-        ap (λ (v : Triple). record { bindings = v.bindings; conditions = v.conditions; kinds = kinds store })
-          (c.in_ok-make.ensures.present ∙ ap (λ (v : Triple). with_next (v.next + length c.items.result.now) v) c.new-store.ensures.present)
-        ∙ ap (λ ks. record { bindings = []; conditions = []; kinds = ks })
-          (c.in_ok-make.ensures.kinds ∙ ap (λ ks. ks ++ kinds_of (locals_of c.items.result.now)) c.new-store.ensures.kinds
-          ∙ ap (λ ls. kinds_of (locals_of ls)) c.items.ensures) in
+    ap (λ (v : Triple). record { bindings = v.bindings; conditions = v.conditions; kinds = kinds store })
+    (c.in_ok-make.ensures.present ∙ ap (λ (v : Triple). with_next (v.next + length c.items.result.now) v) c.new-store.ensures.present)
+    ∙ ap (λ ks. record { bindings = []; conditions = []; kinds = ks })
+    (c.in_ok-make.ensures.kinds ∙ ap (λ ks. ks ++ kinds_of (locals_of c.items.result.now)) c.new-store.ensures.kinds
+    ∙ ap (λ ls. kinds_of (locals_of ls)) c.items.ensures) in
     c.in_ok-push_goal.ensures.position
     ∙ ap (λ (p : Position). with_goal depth (rename_goal 0 (goal_of c.args.query.now.goal)) p) c.of-place.ensures.position
     ∙ ap (λ (g : NominalGoal). with_goal depth g (record { waiting = []; path = []; state = state_in store; brought = [] })) (goal_zero (goal_of c.args.query.now.goal))

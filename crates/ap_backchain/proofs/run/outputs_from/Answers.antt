@@ -18,12 +18,12 @@ returns-then-not-branch c =
     let p = position_of c.searching.place in
     let ps = pending_of c.searching.place c.searching.points in
     let left : [] ≡ followed (turned program locals p) ps =
-        sym (ap (λ qs. positions_pending (track_of c.go_on.new.place) (reverse qs)) (c.in_ok-go_on.ensures.none c.if-not-branch.true))
-        ∙ ap (λ b. positions_with b c.go_on.new.place c.go_on.new.points) (sym c.if-not-branch.true)
-        ∙ c.in_ok-go_on.ensures.left in
+    sym (ap (λ qs. positions_pending (track_of c.go_on.new.place) (reverse qs)) (c.in_ok-go_on.ensures.none c.if-not-branch.true))
+    ∙ ap (λ b. positions_with b c.go_on.new.place c.go_on.new.points) (sym c.if-not-branch.true)
+    ∙ c.in_ok-go_on.ensures.left in
     sym (append-nil (outs_of c.go_on.new.outs.items))
     ∙ turn_keeps program locals p ps [] (outs_of c.searching.outs.items) (outs_of c.go_on.new.outs.items) (outs_from program locals (position_of c.args.first))
-      left c.in_ok-go_on.ensures.outs c.searching.invariant.all
+    left c.in_ok-go_on.ensures.outs c.searching.invariant.all
 
 pub searching-smaller : goal.searching-smaller
 searching-smaller c =
@@ -37,9 +37,9 @@ searching-preserved c =
     let locals = locals_of c.args.locals.now in
     record {
       all = turn_keeps program locals (position_of c.searching.place) (pending_of c.searching.place c.searching.points)
-        (positions_with true c.go_on.new.place c.go_on.new.points)
-        (outs_of c.searching.outs.items) (outs_of c.go_on.new.outs.items) (outs_from program locals (position_of c.args.first))
-        (ap (λ b. positions_with b c.go_on.new.place c.go_on.new.points) (sym c.if-not-branch.false) ∙ c.in_ok-go_on.ensures.left)
-        c.in_ok-go_on.ensures.outs c.searching.invariant.all;
+          (positions_with true c.go_on.new.place c.go_on.new.points)
+          (outs_of c.searching.outs.items) (outs_of c.go_on.new.outs.items) (outs_from program locals (position_of c.args.first))
+          (ap (λ b. positions_with b c.go_on.new.place c.go_on.new.points) (sym c.if-not-branch.false) ∙ c.in_ok-go_on.ensures.left)
+          c.in_ok-go_on.ensures.outs c.searching.invariant.all;
       points = c.in_ok-go_on.ensures.points;
     }

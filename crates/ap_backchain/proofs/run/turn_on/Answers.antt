@@ -26,7 +26,7 @@ returns-in-Some-clause-outs c =
     on_ok c.choose.result
     (sym (append-nil outs)
     ∙ ap (λ (os : List NominalOut). outs ++ os)
-      (ended_choice (map (map clause_of) c.args.clauses.now) (locals_of c.args.locals.now) (position_of c.args.place.now) c.in-Some.field-0 c.in-Some.ensures))
+    (ended_choice (map (map clause_of) c.args.clauses.now) (locals_of c.args.locals.now) (position_of c.args.place.now) c.in-Some.field-0 c.in-Some.ensures))
 
 pub returns-in-Goes-clause-left : goal.returns-in-Goes-clause-left
 returns-in-Goes-clause-left c =

@@ -15,8 +15,8 @@ enter_clause-requires-clause-clause c =
     let h : c.args.choice - 1 < length c.args.candidates.now = omega (arith, a, b) in
     fit_here c.args.candidates.now (c.args.choice - 1) c.index-candidates-choice.result h c.index-candidates-choice.is c.requires.below
 
-pub returns-then-enter_clause-clause-marks : goal.returns-then-enter_clause-clause-marks
-returns-then-enter_clause-clause-marks c =
+pub returns-then-branch-clause-marks : goal.returns-then-branch-clause-marks
+returns-then-branch-clause-marks c =
     let a = c.requires.low in let b = c.requires.high in
     let cs = c.args.candidates.now in let d = c.index-candidates-choice.result in
     let h : c.args.choice - 1 < length cs = omega (arith, a, b) in
@@ -25,31 +25,31 @@ returns-then-enter_clause-clause-marks c =
     let ts = map (rename_term c.args.frame.base) (map term_of c.args.args.now) in
     c.in_ok-standing.ensures.marks
     ∙ kid_marks program ls (c.args.frame.depth - 1) ts (position_of c.args.place) c.args.choice (clause_of d) (map clause_of cs) a (omega (arith, h, many))
-    (clause_here cs (c.args.choice - 1) d h c.index-candidates-choice.is) (position_of c.enter_clause.new.place) (rw c.if-enter_clause.true at c.in_ok-enter_clause.ensures.entered)
+    (clause_here cs (c.args.choice - 1) d h c.index-candidates-choice.is) (position_of c.enter_clause.new.place) (rw c.if-branch.true at c.in_ok-enter_clause.ensures.entered)
 
-pub returns-then-enter_clause-clause-path : goal.returns-then-enter_clause-clause-path
-returns-then-enter_clause-clause-path c =
+pub returns-then-branch-clause-path : goal.returns-then-branch-clause-path
+returns-then-branch-clause-path c =
     let p = position_of c.args.place in let d = clause_of c.index-candidates-choice.result in
     let ts = map (rename_term c.args.frame.base) (map term_of c.args.args.now) in
     c.in_ok-standing.ensures.path
     ∙ entered_path (map (map clause_of) c.args.clauses.now) (locals_of c.args.locals.now) (c.args.frame.depth - 1) p c.args.choice d (clause_state ts p.state d) (position_of c.enter_clause.new.place)
-    (rw c.if-enter_clause.true at c.in_ok-enter_clause.ensures.entered)
+    (rw c.if-branch.true at c.in_ok-enter_clause.ensures.entered)
 
-pub returns-else-enter_clause-clause-marks : goal.returns-else-enter_clause-clause-marks
-returns-else-enter_clause-clause-marks c =
+pub returns-clause-marks : goal.returns-clause-marks
+returns-clause-marks c =
     let a = c.requires.low in let b = c.requires.high in
     let cs = c.args.candidates.now in let d = c.index-candidates-choice.result in
     let h : c.args.choice - 1 < length cs = omega (arith, a, b) in
     let many = length-map cs clause_of in
     let program = map (map clause_of) c.args.clauses.now in let ls = locals_of c.args.locals.now in
     let ts = map (rename_term c.args.frame.base) (map term_of c.args.args.now) in
-    c.in_ok-standing-else-enter_clause.ensures.marks program ls
+    c.in_ok-standing-2.ensures.marks program ls
     ∙ no_kid_marks program ls (c.args.frame.depth - 1) ts (position_of c.args.place) c.args.choice (clause_of d) (map clause_of cs) a (omega (arith, h, many))
-    (clause_here cs (c.args.choice - 1) d h c.index-candidates-choice.is) (rw c.if-enter_clause.false at c.in_ok-enter_clause.ensures.entered)
+    (clause_here cs (c.args.choice - 1) d h c.index-candidates-choice.is) (rw c.if-branch.false at c.in_ok-enter_clause.ensures.entered)
 
-pub returns-else-enter_clause-clause-path : goal.returns-else-enter_clause-clause-path
-returns-else-enter_clause-clause-path c =
-    c.in_ok-standing-else-enter_clause.ensures.path ∙ ap (λ (p : Position). p.path ++ c.args.choice ∷ []) (c.in_ok-enter_clause.ensures.none c.if-enter_clause.false).1
+pub returns-clause-path : goal.returns-clause-path
+returns-clause-path c =
+    c.in_ok-standing-2.ensures.path ∙ ap (λ (p : Position). p.path ++ c.args.choice ∷ []) (c.in_ok-enter_clause.ensures.none c.if-branch.false).1
 
-pub returns-else-enter_clause-clause-choosing : goal.returns-else-enter_clause-clause-choosing
-returns-else-enter_clause-clause-choosing c = c.in_ok-standing-else-enter_clause.ensures.choosing (map (map clause_of) c.args.clauses.now)
+pub returns-clause-choosing : goal.returns-clause-choosing
+returns-clause-choosing c = c.in_ok-standing-2.ensures.choosing (map (map clause_of) c.args.clauses.now)

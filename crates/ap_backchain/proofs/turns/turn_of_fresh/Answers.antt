@@ -50,7 +50,7 @@ returns-in-Susp-clause-turned c =
     let same : c.of-in-Susp.result ≡ p.path = search rules in
     ap (λ (ps : List ℕ). ends (stuck ps)) same
     ∙ turned_stuck s p t u (closure_term c.in_ok-left.left) (opened_term c.in_ok-a.field-0) (c.in_ok-left.ensures.term ∙ ap (under bs) c.of.ensures)
-      c.in-Susp.field-0.items c.in-Susp.field-1 (ap opened_term c.in-Susp.is) c.in_ok-a.ensures c.in_ok-left.ensures.head
+    c.in-Susp.field-0.items c.in-Susp.field-1 (ap opened_term c.in-Susp.is) c.in_ok-a.ensures c.in_ok-left.ensures.head
 
 pub returns-clause-turned : goal.returns-clause-turned
 returns-clause-turned c =
