@@ -1,17 +1,16 @@
 -- Visits of what terms stand for, in which each binding is gone through once.
-use Rattle.std.proofs.Common.{◌≡◌, ◌≢◌, ◌<◌, ◌≤◌, ℕ, suc, Bool, true, false, ◌||◌, List, [], ◌∷◌, ◌++◌, length, get_or, drop, set, map, refl, sym, ap, ◌∙◌, subst, arith}
+use Rattle.std.proofs.Common.{◌≡◌, ◌≢◌, ◌<◌, ◌≤◌, ℕ, suc, Bool, true, false, ◌||◌, List, [], ◌∷◌, ◌++◌, length, get_or, drop, set, refl, sym, ap, ◌∙◌, subst, arith}
 use Rattle.std.specs.Prelude.{OnOk, Option, Some, None, Result, Ok, Err}
 use Rattle.std.proofs.Math.Seq.{drop-cons}
 use Rattle.std.proofs.lemmas.Bool.Decides.{nat_tests}
 use Rattle.std.proofs.lemmas.List.{get_or-set_other}
-use Rattle.ap_defs.specs.Answers.{closed_term}
 use Rattle.ap_defs.specs.Canonical.{canonical_term}
 use Rattle.ap_defs.specs.Freshness.{var_eq}
 use Rattle.ap_defs.specs.Occurrences.{vars_of_terms}
 use Rattle.ap_defs.specs.Renaming.{rename_term}
 use Rattle.ap_defs.specs.Resolution.{State}
 use Rattle.ap_defs.specs.Substitution.{Binding, bound_term, moved, occurs, under}
-use Rattle.ap_defs.specs.Terms.{NominalTerm, unit, name, pair, app, abs, susp, act_term, term_of}
+use Rattle.ap_defs.specs.Terms.{NominalTerm, unit, name, pair, app, abs, susp, term_of}
 use Rattle.ap_defs.specs.Unification.{has_var, vars_then}
 use Rattle.ap_defs.specs.declared.terms.Swap.{Swap}
 use Rattle.ap_defs.specs.declared.terms.Var.{Var}
@@ -19,15 +18,14 @@ use Rattle.ap_perm.specs.Closures.{closure_term}
 use Rattle.ap_perm.specs.declared.closures.Closure.{Closure}
 use Rattle.ap_search.proofs.RecordLemmas.{has_var-append}
 use Rattle.ap_search.specs.Records.{SameVars, closed_vars}
-use Rattle.ap_store.proofs.FollowLemmas.{bound_occurs, unbound_occurs}
+use Rattle.ap_store.proofs.FollowLemmas.{bound_occurs}
 use Rattle.ap_store.proofs.StoreLemmas.{unbound_past}
 use Rattle.ap_store.specs.Views.{present, raw_bound}
 use Rattle.ap_store.specs.declared.store.Store.{Store}
-use Rattle.ap_theory.proofs.BooleanLemmas.{or_assoc, or_if_left, or_if_right, or_nothing, or_swap}
+use Rattle.ap_theory.proofs.BooleanLemmas.{or_assoc, or_if_left, or_if_right, or_swap}
 use Rattle.ap_theory.proofs.IdempotenceLemmas.{bound_term_unbound}
 use Rattle.ap_theory.proofs.TermLemmas.{occurs_act, var_same}
-use Rattle.ap_backchain.specs.Marked.{is_marked}
-use Rattle.ap_backchain.specs.Reached.{HasVisited, IsDone}
+use Rattle.ap_backchain.specs.Reached.{HasVisited, IsDone, is_marked}
 use Rattle.ap_backchain.specs.declared.visits.Visit.{Visit}
 
 or_known : (a b : Bool) → (a ≡ true → b ≡ true) → b ≡ (a || b)

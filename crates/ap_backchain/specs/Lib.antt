@@ -1,4 +1,3 @@
-pub mod Marked
 pub mod Reached
 pub mod Searches
 pub mod Heads

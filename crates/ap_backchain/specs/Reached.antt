@@ -1,5 +1,5 @@
 -- Variables that are reached from others.
-use Rattle.std.specs.Prelude.{◌≡◌, ◌||◌, true, List, [], ◌++◌, map}
+use Rattle.std.specs.Prelude.{◌≡◌, ◌||◌, Bool, true, false, List, [], ◌++◌, map, slice_index_or}
 use Rattle.ap_defs.specs.Answers.{ascending_vars}
 use Rattle.ap_defs.specs.Freshness.{Conds}
 use Rattle.ap_defs.specs.Occurrences.{vars_of_terms}
@@ -7,12 +7,15 @@ use Rattle.ap_defs.specs.Substitution.{Binding, occurs, under}
 use Rattle.ap_defs.specs.Terms.{NominalTerm, susp}
 use Rattle.ap_defs.specs.Unification.{has_var}
 use Rattle.ap_defs.specs.declared.terms.Var.{Var}
-use Rattle.ap_backchain.specs.Marked.{is_marked}
 use Rattle.ap_backchain.specs.declared.visits.Visit.{Visit}
 
 -- the set of the variables of bindings, of conditions and of further ones
 abbrev pub vars_reached : List NominalTerm → Conds → List Var → List Var
 vars_reached binds conds others = ascending_vars (vars_of_terms binds ++ map (λ c. c.var) conds ++ others)
+
+-- the mark at the variable's number
+abbrev pub is_marked : List Bool → Var → Bool
+is_marked marks x = slice_index_or marks x.num false
 
 -- the variables in what a marked variable stands for are found
 abbrev pub IsDone : List Binding → Visit → Type 0

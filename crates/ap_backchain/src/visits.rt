@@ -2,7 +2,7 @@
 
 ghost use Rattle.std.specs.Prelude.{◌≡◌, ◌∷◌, ◌++◌, [], false, true, IfOk, OnOk, set};
 ghost use Rattle.ap_defs.specs.declared.terms.Var.{Var as variable};
-ghost use Rattle.ap_backchain.specs.Marked.{is_marked};
+ghost use Rattle.ap_backchain.specs.Reached.{is_marked};
 
 use ap_defs::memory::Memory;
 use ap_defs::terms::Var;
