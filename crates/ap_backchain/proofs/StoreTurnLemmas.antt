@@ -101,10 +101,12 @@ module _ (s : Store) (p : Position) (t u v w : NominalTerm) (followed : under (p
   turned_other (parts.Abs a c) f e h k = sym (turned_to f e)
   turned_other (parts.Susp q x) f e h k = absurd (k q x refl)
 
-  pub turned_stuck : (q : List Swap) (x : Var) → w ≡ susp q x → w ≡ v → IsHeadUnbound (present s).bindings v → ends (stuck p.path) ≡ turned_fresh p (under (present s).bindings t) u
-  turned_stuck q x f e h =
+  pub turned_stuck : (q : List Swap) (x : Var) (ps : List ℕ) → ps ≡ p.path → w ≡ susp q x → w ≡ v → IsHeadUnbound (present s).bindings v
+      → ends (stuck ps) ≡ turned_fresh p (under (present s).bindings t) u
+  turned_stuck q x ps same f e h =
       let k : IsHeadUnbound (present s).bindings (susp q x) = subst (λ (y : NominalTerm). IsHeadUnbound (present s).bindings y) (sym e ∙ f) h in
-      sym (turned_to f e ∙ ap (λ (o : Option NominalTerm). turned_fresh p (moved q x o) u) (bound_term_unbound (present s).bindings x k))
+      ap (λ (rs : List ℕ). ends (stuck rs)) same
+      ∙ sym (turned_to f e ∙ ap (λ (o : Option NominalTerm). turned_fresh p (moved q x o) u) (bound_term_unbound (present s).bindings x k))
 
   pub turned_name : (a : Name) → w ≡ name a → w ≡ v → goes_with p (reduced_state p.state (reduce a (under p.state.bindings u))) ≡ turned_fresh p (under (present s).bindings t) u
   turned_name a f e = sym (turned_to f e)

@@ -1,5 +1,4 @@
-use Rattle.std.proofs.Common.{◌≡◌, List, ℕ, refl, sym, ap, ◌∙◌, subst, rules}
-use Rattle.ap_defs.specs.Answers.{stuck}
+use Rattle.std.proofs.Common.{◌≡◌, refl, sym, ap, ◌∙◌, subst, rules}
 use Rattle.ap_defs.specs.Freshness.{reduce}
 use Rattle.ap_defs.specs.Renaming.{IsBelow, rename_term}
 use Rattle.ap_defs.specs.Substitution.{under}
@@ -7,7 +6,7 @@ use Rattle.ap_defs.specs.Terms.{NominalTerm, term_of}
 use Rattle.ap_perm.specs.Closures.{closure_term, opened_term}
 use Rattle.ap_store.specs.Views.{present}
 use Rattle.ap_backchain.specs.Places.{position_of}
-use Rattle.ap_backchain.specs.Positions.{ends, goes_with, reduced_state}
+use Rattle.ap_backchain.specs.Positions.{goes_with, reduced_state}
 use Rattle.ap_backchain.specs.Stacks.{waiting_in}
 use Rattle.ap_backchain.specs.Views.{state_in}
 use Rattle.ap_backchain.proofs.StoreTurnLemmas.{turned_name, turned_other, turned_reduced, turned_stuck, waiting_kept}
@@ -47,10 +46,8 @@ returns-in-Susp-clause-turned c =
     let bs = (present s).bindings in
     let t = rename_term c.args.base (term_of c.args.t.now) in
     let u = rename_term c.args.base (term_of c.args.u.now) in
-    let same : c.of-in-Susp.result ≡ p.path = search rules in
-    ap (λ (ps : List ℕ). ends (stuck ps)) same
-    ∙ turned_stuck s p t u (closure_term c.in_ok-left.left) (opened_term c.in_ok-a.field-0) (c.in_ok-left.ensures.term ∙ ap (under bs) c.of.ensures)
-    c.in-Susp.field-0.items c.in-Susp.field-1 (ap opened_term c.in-Susp.is) c.in_ok-a.ensures c.in_ok-left.ensures.head
+    turned_stuck s p t u (closure_term c.in_ok-left.left) (opened_term c.in_ok-a.field-0) (c.in_ok-left.ensures.term ∙ ap (under bs) c.of.ensures)
+    c.in-Susp.field-0.items c.in-Susp.field-1 _ (search rules) (ap opened_term c.in-Susp.is) c.in_ok-a.ensures c.in_ok-left.ensures.head
 
 pub returns-clause-turned : goal.returns-clause-turned
 returns-clause-turned c =
