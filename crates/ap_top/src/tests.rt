@@ -110,7 +110,8 @@ fn a_text_past_the_limit_is_too_large(rt: HostRuntime) -> Result<(), Fail> {
 #[test]
 fn a_beginning_of_an_answer_is_written(rt: HostRuntime) -> Result<(), Fail> {
     let alloc = rt.alloc();
-    let text = b"id : name_type. e : type. v : id -> e. l : id\\e -> e. ?- R = l(x\\v(x)).".as_slice();
+    let text =
+        b"id : name_type. e : type. v : id -> e. l : id\\e -> e. ?- R = l(x\\v(x)).".as_slice();
     let (status, sink) = call(&rt, alloc, "run --depth 5", text, 10, 0, 2)?;
     assert_eq!(rt; status, 6);
     assert_eq!(rt; sink.bytes(), b"R = l(n1\\v".as_slice());

@@ -77,13 +77,7 @@ fn of_three(command: &str, option: &str, value: &str) -> Option<Wanted>
 }
 
 // What `run --depth D --workers W` asks for, with the options in either order.
-fn of_five(
-    command: &str,
-    option: &str,
-    value: &str,
-    other: &str,
-    second: &str,
-) -> Option<Wanted>
+fn of_five(command: &str, option: &str, value: &str, other: &str, second: &str) -> Option<Wanted>
     ensures asked { result ≡ asked_by_five command.now option.now value.now other.now second.now }
     ensures few { IfSome result (λ a. (0 < a.workers) × (a.workers ≤ 64)) }
 {

@@ -42,7 +42,7 @@ closures-requires-2 c =
     let made = made_next s r c.items.result.now c.args.clause.now.locals c.in_ok-start.ensures.present c.items.ensures in
     let k = c.min-count.result in let n = c.in_ok-start.start in let heads = c.items-head.result.now in
     let below_right : AreBelow c.next-end.result (map (rename_term n) (map term_of (take k heads))) =
-        head_below c.next-end.result (length (locals_of c.args.clause.now.locals)) n c.args.clause.now.args heads k (omega (arith, made, c.next-end.ensures, c.in_ok-start.ensures.first)) c.items-head.ensures c.requires.clause.0 in
+    head_below c.next-end.result (length (locals_of c.args.clause.now.locals)) n c.args.clause.now.args heads k (omega (arith, made, c.next-end.ensures, c.in_ok-start.ensures.first)) c.items-head.ensures c.requires.clause.0 in
     below_right
 
 pub unify-requires-clause-lengths : goal.unify-requires-clause-lengths
@@ -50,7 +50,7 @@ unify-requires-clause-lengths c =
     let k = c.min-count.result in
     let left : length c.deref.result.now ≡ length (take k c.args.args.now) = closed_length c.deref.result.now c.in_ok-left.left.items c.args.base (take k c.args.args.now) c.deref.ensures.value c.in_ok-left.ensures in
     let right : length c.deref-2.result.now ≡ length (take k c.items-head.result.now) =
-        closed_length c.deref-2.result.now c.in_ok-right.right.items c.in_ok-start.start (take k c.items-head.result.now) c.deref-2.ensures.value c.in_ok-right.ensures in
+    closed_length c.deref-2.result.now c.in_ok-right.right.items c.in_ok-start.start (take k c.items-head.result.now) c.deref-2.ensures.value c.in_ok-right.ensures in
     let l : k ≤ length c.args.args.now = omega (arith, c.min-count.ensures) in
     let m : k ≤ length c.items-head.result.now = omega (arith, c.min-count.ensures) in
     left ∙ length-take-le k c.args.args.now l ∙ sym (right ∙ length-take-le k c.items-head.result.now m)
@@ -70,7 +70,7 @@ unify-requires-clause-right c =
     let made = made_next s r c.items.result.now c.args.clause.now.locals c.in_ok-start.ensures.present c.items.ensures in
     let k = c.min-count.result in let n = c.in_ok-start.start in let heads = c.items-head.result.now in
     let below_right : AreBelow c.next-end.result (map (rename_term n) (map term_of (take k heads))) =
-        head_below c.next-end.result (length (locals_of c.args.clause.now.locals)) n c.args.clause.now.args heads k (omega (arith, made, c.next-end.ensures, c.in_ok-start.ensures.first)) c.items-head.ensures c.requires.clause.0 in
+    head_below c.next-end.result (length (locals_of c.args.clause.now.locals)) n c.args.clause.now.args heads k (omega (arith, made, c.next-end.ensures, c.in_ok-start.ensures.first)) c.items-head.ensures c.requires.clause.0 in
     closed_below c.deref-2.result.now c.in_ok-right.right.items n (take k heads) c.deref-2.ensures.value c.in_ok-right.ensures (present r).next
     (subst (λ (e : ℕ). AreBelow e (map (rename_term n) (map term_of (take k heads)))) c.next-end.ensures below_right)
 
@@ -95,13 +95,16 @@ returns-then-branch-clause-state c =
     let many : length c.items.result.now ≡ length cl.locals = ap length c.items.ensures ∙ sym (length-map c.args.clause.now.locals local_of) in
     let left : map closure_term c.deref.result.now ≡ take k ts = closed_terms c.deref.result.now c.in_ok-left.left.items c.args.base (take k c.args.args.now) c.deref.ensures.value c.in_ok-left.ensures ∙ terms_cut c.args.base c.args.args.now k in
     let right : map closure_term c.deref-2.result.now ≡ take k (map (rename_term n) cl.args) =
-        closed_terms c.deref-2.result.now c.in_ok-right.right.items n (take k heads) c.deref-2.ensures.value c.in_ok-right.ensures
-        ∙ ap (λ (us : List Term). map (rename_term n) (map term_of (take k us))) c.items-head.ensures ∙ terms_cut n c.args.clause.now.args k in
+    closed_terms c.deref-2.result.now c.in_ok-right.right.items n (take k heads) c.deref-2.ensures.value c.in_ok-right.ensures
+    ∙ ap (λ (us : List Term). map (rename_term n) (map term_of (take k us))) c.items-head.ensures ∙ terms_cut n c.args.clause.now.args k in
     let enough : min (length ts) (length cl.args) ≤ k =
-        omega (arith, length-map (map term_of c.args.args.now) (rename_term c.args.base), length-map c.args.args.now term_of, length-map c.args.clause.now.args term_of, ap length c.items-head.ensures, c.min-count.ensures) in
-    (c.in_ok-start.ensures.first, head_next s r d ts cl (length c.items.result.now) many c.in_ok-start.ensures.present more c.unify.ensures.kinds n c.in_ok-start.ensures.first,
-    head_some s r d ts cl (length c.items.result.now) many c.in_ok-start.ensures.present more c.unify.ensures.kinds
-    n c.in_ok-start.ensures.first (map closure_term c.deref.result.now) (map closure_term c.deref-2.result.now) k left right enough c.in_ok-unify.field-0 c.in_ok-unify.ensures.defined c.if-branch.true, refl)
+    omega (arith, length-map (map term_of c.args.args.now) (rename_term c.args.base), length-map c.args.args.now term_of, length-map c.args.clause.now.args term_of, ap length c.items-head.ensures, c.min-count.ensures) in (
+      c.in_ok-start.ensures.first,
+      head_next s r d ts cl (length c.items.result.now) many c.in_ok-start.ensures.present more c.unify.ensures.kinds n c.in_ok-start.ensures.first,
+      head_some s r d ts cl (length c.items.result.now) many c.in_ok-start.ensures.present more c.unify.ensures.kinds
+          n c.in_ok-start.ensures.first (map closure_term c.deref.result.now) (map closure_term c.deref-2.result.now) k left right enough c.in_ok-unify.field-0 c.in_ok-unify.ensures.defined c.if-branch.true,
+      refl,
+    )
 
 pub returns-then-branch-clause-goes : goal.returns-then-branch-clause-goes
 returns-then-branch-clause-goes c =
@@ -131,10 +134,10 @@ returns-clause-state c =
     let many : length c.items.result.now ≡ length cl.locals = ap length c.items.ensures ∙ sym (length-map c.args.clause.now.locals local_of) in
     let left : map closure_term c.deref.result.now ≡ take k ts = closed_terms c.deref.result.now c.in_ok-left.left.items c.args.base (take k c.args.args.now) c.deref.ensures.value c.in_ok-left.ensures ∙ terms_cut c.args.base c.args.args.now k in
     let right : map closure_term c.deref-2.result.now ≡ take k (map (rename_term n) cl.args) =
-        closed_terms c.deref-2.result.now c.in_ok-right.right.items n (take k heads) c.deref-2.ensures.value c.in_ok-right.ensures
-        ∙ ap (λ (us : List Term). map (rename_term n) (map term_of (take k us))) c.items-head.ensures ∙ terms_cut n c.args.clause.now.args k in
+    closed_terms c.deref-2.result.now c.in_ok-right.right.items n (take k heads) c.deref-2.ensures.value c.in_ok-right.ensures
+    ∙ ap (λ (us : List Term). map (rename_term n) (map term_of (take k us))) c.items-head.ensures ∙ terms_cut n c.args.clause.now.args k in
     let enough : min (length ts) (length cl.args) ≤ k =
-        omega (arith, length-map (map term_of c.args.args.now) (rename_term c.args.base), length-map c.args.args.now term_of, length-map c.args.clause.now.args term_of, ap length c.items-head.ensures, c.min-count.ensures) in
+    omega (arith, length-map (map term_of c.args.args.now) (rename_term c.args.base), length-map c.args.args.now term_of, length-map c.args.clause.now.args term_of, ap length c.items-head.ensures, c.min-count.ensures) in
     head_none s r d ts cl (length c.items.result.now) many c.in_ok-start.ensures.present more c.unify.ensures.kinds
     n c.in_ok-start.ensures.first (map closure_term c.deref.result.now) (map closure_term c.deref-2.result.now) k left right enough c.in_ok-unify.field-0 c.in_ok-unify.ensures.defined c.if-branch.false
 
@@ -154,5 +157,7 @@ returns-clause-none c =
     let d = c.unify.new.store in
     let on : GoesOn (versions s) (versions d) = goes_on_both (versions s) (versions r) (versions d) c.in_ok-start.ensures.past c.unify.ensures.past in
     let longer : (ks : List NominalKind) × (kinds d ≡ kinds s ++ ks) = (kinds_of (locals_of c.items.result.now), c.unify.ensures.kinds ∙ c.in_ok-start.ensures.kinds) in
-    λ h. (track_back s d c.undo_to.new.self c.mark-mark.result.place on longer c.mark-mark.ensures c.undo_to.ensures.versions c.undo_to.ensures.kinds (cells_of b.goals) b.path.items b.brought.items,
-    position_back s d c.undo_to.new.self c.mark-mark.result.place on longer c.mark-mark.ensures c.undo_to.ensures.versions c.undo_to.ensures.kinds (position_of b))
+    λ h. (
+      track_back s d c.undo_to.new.self c.mark-mark.result.place on longer c.mark-mark.ensures c.undo_to.ensures.versions c.undo_to.ensures.kinds (cells_of b.goals) b.path.items b.brought.items,
+      position_back s d c.undo_to.new.self c.mark-mark.result.place on longer c.mark-mark.ensures c.undo_to.ensures.versions c.undo_to.ensures.kinds (position_of b),
+    )
