@@ -8,7 +8,8 @@ use Rattle.ap_defs.specs.Renaming.{AreBelow, rename_term}
 use Rattle.ap_defs.specs.Resolution.{State, kinds_of}
 use Rattle.ap_defs.specs.Substitution.{Binding, Equation, ◌≐◌, under}
 use Rattle.ap_defs.specs.Terms.{NominalTerm, term_of}
-use Rattle.ap_defs.specs.Types.{NominalKind}
+use Rattle.ap_defs.specs.Types.{NominalKind, local_of, locals_of}
+use Rattle.ap_defs.specs.declared.goals.Local.{Local}
 use Rattle.ap_defs.specs.Unification.{Unified, ending, equations_of, finish, unify}
 use Rattle.ap_defs.specs.declared.terms.Term.{Term}
 use Rattle.ap_defs.specs.declared.terms.Var.{Var}
@@ -22,10 +23,12 @@ use Rattle.ap_store.specs.declared.store.Store.{Store}
 use Rattle.ap_store.proofs.StoreLemmas.{next_counts}
 use Rattle.ap_store.proofs.TrailLemmas.{prefix_is}
 use Rattle.ap_unify.specs.Unified.{IsResult}
+use Rattle.ap_backchain.specs.Below.{AreWaitingBelow}
 use Rattle.ap_backchain.specs.Positions.{Position, clause_state, unified_state, with_state}
 use Rattle.ap_backchain.specs.Tracks.{last_version}
 use Rattle.ap_backchain.specs.Views.{state_in}
 use Rattle.ap_backchain.specs.declared.frames.Cell.{Cell}
+use Rattle.ap_backchain.proofs.FitLemmas.{waiting_more}
 use Rattle.ap_backchain.proofs.StoreTurnLemmas.{same_next, state_with, track_with}
 use Rattle.ap_backchain.proofs.TrackLemmas.{last_present}
 
@@ -73,6 +76,16 @@ module _ (cs ds : List Closure) (base : ℕ) (ts : List Term) (same : cs ≡ ds)
 
   pub closed_below : (m : ℕ) → AreBelow m (map (rename_term base) (map term_of ts)) → AreBelow m (map closure_term cs)
   closed_below m h = subst (AreBelow m) (sym closed_terms) h
+
+-- a clause's identifiers, from the list of them that was given numbers
+pub made_next : (s r : Store) (ls ms : List Local) → present r ≡ with_next ((present s).next + length ls) (present s) → ls ≡ ms → (present r).next ≡ (present s).next + length (locals_of ms)
+made_next s r ls ms h e = ap (λ (a : Triple). a.next) h ∙ ap (λ (ns : List Local). (present s).next + length ns) e ∙ ap (λ n. (present s).next + n) (sym (length-map ms local_of))
+
+pub made_kinds : (s r : Store) (ls ms : List Local) → kinds r ≡ kinds s ++ kinds_of (locals_of ls) → ls ≡ ms → kinds r ≡ kinds s ++ kinds_of (locals_of ms)
+made_kinds s r ls ms h e = h ∙ ap (λ (ns : List Local). kinds s ++ kinds_of (locals_of ns)) e
+
+pub waiting_made : (s r : Store) (ls : List Local) (ws : List Waiting) → present r ≡ with_next ((present s).next + length ls) (present s) → AreWaitingBelow (present s).next ws → AreWaitingBelow (present r).next ws
+waiting_made s r ls ws h k = let e : (present r).next ≡ (present s).next + length ls = ap (λ (a : Triple). a.next) h in waiting_more (present r).next (present s).next (omega (arith, e)) ws k
 
 -- A store r in which the identifiers of a clause were given numbers, and d, in which its head was unified.
 module _ (s r d : Store) (ts : List NominalTerm) (c : NominalClause) (count : ℕ) (many : count ≡ length c.locals)

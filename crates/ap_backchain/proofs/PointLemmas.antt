@@ -1,9 +1,8 @@
 -- Choices stay as they are while the search goes on.
-use Rattle.std.proofs.Common.{◌≡◌, ℕ, List, [], ◌∷◌, ◌++◌, length, refl, sym, ap, ap₂, ◌∙◌, subst}
-use Rattle.ap_backchain.specs.Points.{ArePoints, IsFitRest, IsPoint, positions_left, positions_pending}
+use Rattle.std.proofs.Common.{◌≡◌, List, [], ◌∷◌, ◌++◌, refl, sym, ap, subst}
+use Rattle.ap_backchain.specs.Points.{ArePoints, IsFitRest, positions_left, positions_pending}
 use Rattle.ap_backchain.specs.Below.{AreWaitingBelow}
-use Rattle.ap_backchain.specs.Positions.{Position}
-use Rattle.ap_backchain.specs.Tracks.{GoesFrom, IsWithin, Track, back_to, next_in, position_at}
+use Rattle.ap_backchain.specs.Tracks.{GoesFrom, Track, next_in, position_at}
 use Rattle.ap_backchain.specs.declared.points.Point.{Point}
 use Rattle.ap_backchain.proofs.TrackLemmas.{back_from, within_from}
 

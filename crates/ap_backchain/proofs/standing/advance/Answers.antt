@@ -1,10 +1,10 @@
-use Rattle.std.proofs.Common.{◌≡◌, map, sym, ap, ◌∙◌}
+use Rattle.std.proofs.Common.{map, sym, ap, ◌∙◌}
 use Rattle.ap_defs.specs.Goals.{clause_of}
 use Rattle.ap_defs.specs.Types.{locals_of}
 use Rattle.ap_backchain.specs.Places.{position_of, turned_of}
-use Rattle.ap_backchain.specs.Positions.{goes, turned}
+use Rattle.ap_backchain.specs.Positions.{turned}
 use Rattle.ap_backchain.specs.declared.turns.Turn.{Turn}
-use Rattle.ap_backchain.proofs.BranchLemmas.{ended_marks, ended_path, failed_marks, went_fewer, went_marks, went_path}
+use Rattle.ap_backchain.proofs.BranchLemmas.{went_fewer, went_marks, went_path}
 use Rattle.ap_backchain.proofs.standing.advance.Goals as goal
 
 pub advancing-smaller : goal.advancing-smaller

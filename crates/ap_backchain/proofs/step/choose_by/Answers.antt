@@ -1,10 +1,9 @@
-use Rattle.std.proofs.Common.{◌≡◌, ◌≤◌, ◌^◌, ◌-◌, ℕ, List, [], ◌∷◌, ◌++◌, length, map, ap, sym, ◌∙◌, subst, arith, rules}
+use Rattle.std.proofs.Common.{◌≡◌, ◌-◌, List, [], ◌∷◌, ◌++◌, map, ap, sym, ◌∙◌, subst, arith}
 use Rattle.std.specs.Prelude.{IfOk}
-use Rattle.ap_defs.specs.Goals.{atom, clause_of, either, goal_of}
+use Rattle.ap_defs.specs.Goals.{clause_of, either, goal_of}
 use Rattle.ap_defs.specs.Renaming.{rename_goal, rename_term}
 use Rattle.ap_defs.specs.Terms.{term_of}
 use Rattle.ap_defs.specs.Types.{locals_of}
-use Rattle.ap_program.proofs.RenamingLemmas.{are_below_more}
 use Rattle.ap_search.specs.MarkedContinuations.{NominalMark, mark_path}
 use Rattle.ap_search.specs.Prefixes.{beginning}
 use Rattle.ap_backchain.specs.Branches.{marks_of_standing}

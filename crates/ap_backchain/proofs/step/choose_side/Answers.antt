@@ -1,4 +1,4 @@
-use Rattle.std.proofs.Common.{◌≡◌, ℕ, map, ap, sym, ◌∙◌, subst}
+use Rattle.std.proofs.Common.{ℕ, map, ap, sym, ◌∙◌, subst}
 use Rattle.ap_defs.specs.Goals.{clause_of, goal_of}
 use Rattle.ap_defs.specs.Renaming.{IsGoalBelow, rename_goal}
 use Rattle.ap_defs.specs.Types.{locals_of}

@@ -1,10 +1,13 @@
 use Rattle.std.proofs.Common.{◌≡◌, List, map, ap, ◌∙◌, sym, subst}
 use Rattle.std.specs.Prelude.{IfOk, OnOk, Option, None}
+use Rattle.ap_defs.specs.Answers.{found}
 use Rattle.ap_defs.specs.Goals.{clause_of}
 use Rattle.ap_defs.specs.Types.{locals_of}
+use Rattle.ap_search.specs.Continuations.{Waiting}
+use Rattle.ap_search.specs.Records.{answer_with}
 use Rattle.ap_backchain.specs.Marks.{choice_of}
 use Rattle.ap_backchain.specs.Places.{position_of, track_of, turned_of}
-use Rattle.ap_backchain.specs.Positions.{Position, Turned, turned}
+use Rattle.ap_backchain.specs.Positions.{Position, Turned, ends, turned, turned_by}
 use Rattle.ap_backchain.specs.Tracks.{GoesFrom, Track}
 use Rattle.ap_backchain.proofs.TrackLemmas.{goes_same}
 use Rattle.ap_backchain.proofs.turns.take_turn.Goals as goal
@@ -28,8 +31,13 @@ returns-in-Some-clause-goes c =
     let u = track_of c.turn_of_goal.new.place in
     subst (λ (t : Track). OnOk c.turn_of_goal.result (GoesFrom t u)) c.pop_goal.ensures.track c.turn_of_goal.ensures.goes
 
-pub returns-in-None-clause-turned : goal.returns-in-None-clause-turned
-returns-in-None-clause-turned c = ?
+pub returns-in_ok-out-in-None-clause-turned : goal.returns-in_ok-out-in-None-clause-turned
+returns-in_ok-out-in-None-clause-turned c =
+    let program = map (map clause_of) c.args.clauses.now in let ls = locals_of c.args.locals.now in
+    let p = position_of c.args.place.now in
+    ap ends c.in_ok-out-in-None.ensures
+    ∙ ap (λ (r : Position). ends (found r.path (answer_with ls r.state r.brought))) c.in-None.ensures.none.1
+    ∙ sym (ap (λ (ws : List Waiting). turned_by program ls ws p) c.in-None.ensures.none.0)
 
-pub returns-in-None-clause-goes : goal.returns-in-None-clause-goes
-returns-in-None-clause-goes c = goes_same (track_of c.args.place.now) (track_of c.pop_goal.new.self) c.pop_goal.ensures.track
+pub returns-in_ok-out-in-None-clause-goes : goal.returns-in_ok-out-in-None-clause-goes
+returns-in_ok-out-in-None-clause-goes c = goes_same (track_of c.args.place.now) (track_of c.pop_goal.new.self) c.pop_goal.ensures.track

@@ -1,6 +1,6 @@
-use Rattle.std.proofs.Common.{◌≡◌, ◌≤◌, List, length, take, ap, ◌∙◌, sym, subst, arith}
+use Rattle.std.proofs.Common.{◌≡◌, List, length, take, ap, ◌∙◌, sym, subst, arith}
 use Rattle.std.proofs.lemmas.List.{length-take-le}
-use Rattle.ap_backchain.specs.Arenas.{AreLinked, waiting_at}
+use Rattle.ap_backchain.specs.Arenas.{AreLinked}
 use Rattle.ap_backchain.specs.declared.frames.Cell.{Cell}
 use Rattle.ap_backchain.proofs.ArenaLemmas.{linked_cut}
 use Rattle.ap_backchain.proofs.arena.Arena.back_to.Goals as goal

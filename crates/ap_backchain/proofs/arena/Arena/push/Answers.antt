@@ -1,4 +1,4 @@
-use Rattle.std.proofs.Common.{◌≡◌, ◌≤◌, ◌+◌, suc, List, [], ◌∷◌, ◌++◌, length, ap, ◌∙◌, sym, subst, length-append, arith}
+use Rattle.std.proofs.Common.{◌≡◌, ◌≤◌, ◌+◌, List, [], ◌∷◌, ◌++◌, length, ap, ◌∙◌, sym, subst, length-append, arith}
 use Rattle.ap_backchain.specs.Arenas.{AreLinked, waiting_at}
 use Rattle.ap_backchain.specs.declared.frames.Cell.{Cell}
 use Rattle.ap_backchain.proofs.ArenaLemmas.{linked_last, waiting_front}
