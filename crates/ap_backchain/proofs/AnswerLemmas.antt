@@ -1,7 +1,7 @@
 -- Answers of states that were found.
 use Rattle.std.proofs.Common.{◌≡◌, ◌≤◌, ℕ, zero, suc, List, [], ◌∷◌, ◌++◌, length, map, refl, sym, ap, ◌∙◌, arith}
 use Rattle.std.specs.Prelude.{None}
-use Rattle.ap_defs.specs.Answers.{NominalAnswer, binds_in, closed_term, kind_at, typed_var_of, typed_vars}
+use Rattle.ap_defs.specs.Answers.{binds_in, closed_term, kind_at, typed_vars}
 use Rattle.ap_defs.specs.Canonical.{canonical_term}
 use Rattle.ap_defs.specs.Freshness.{Conds}
 use Rattle.ap_defs.specs.Occurrences.{vars_of_terms}

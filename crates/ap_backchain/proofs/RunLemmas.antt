@@ -1,11 +1,10 @@
 -- What a search finds again when it goes back to a choice, and what a choice makes of a place.
 use Rattle.std.specs.Global.{Global}
-use Rattle.std.specs.Prelude.{Bool, true, false, Option, Some, None, Result, Ok, Err, OnOk, Vec, reverse}
+use Rattle.std.specs.Prelude.{Some, Result, Ok, Err, OnOk, Vec, reverse}
 use Rattle.std.proofs.Common.{◌≡◌, ℕ, zero, suc, ◌+◌, ◌-◌, ◌<◌, ◌≤◌, List, [], ◌∷◌, ◌++◌, length, get_or, map, drop, refl, sym, ap, ap₂, ◌∙◌, subst, arith}
 use Rattle.std.proofs.Math.Decide.{dec_lt}
 use Rattle.std.proofs.lemmas.List.{drop_all, reverse-append}
 use Rattle.std.proofs.Math.Seq.{drop-cons}
-use Rattle.ap_defs.specs.Answers.{NominalOut}
 use Rattle.ap_defs.specs.Goals.{Clauses, NominalGoal, succeed, atom, equal, fresh, both, either, exists, new, clause_of, clauses_of}
 use Rattle.ap_defs.specs.Renaming.{rename_term}
 use Rattle.ap_defs.specs.Terms.{NominalTerm, term_of}
@@ -17,7 +16,7 @@ use Rattle.ap_backchain.specs.Below.{AreWaitingBelow}
 use Rattle.ap_backchain.specs.Marks.{choice_of, choice_of_atom, choice_of_goal}
 use Rattle.ap_backchain.specs.Places.{next_of, position_of, track_of}
 use Rattle.ap_backchain.specs.Points.{ArePoints, IsFitRest, IsPoint, positions_left, positions_pending}
-use Rattle.ap_backchain.specs.Positions.{Position, by_clause, by_clauses, ends, goes, turned, turned_atom, turned_by, turned_goal}
+use Rattle.ap_backchain.specs.Positions.{Position, by_clause, by_clauses, goes, turned, turned_atom, turned_by, turned_goal}
 use Rattle.ap_backchain.specs.Searches.{HasPoints, ended, pending_of}
 use Rattle.ap_backchain.specs.Tracks.{GoesFrom, IsWithin, Track, back_to, next_in, position_at}
 use Rattle.ap_backchain.specs.declared.place.Place.{Place}
@@ -28,7 +27,7 @@ use Rattle.ap_backchain.specs.declared.points.Save.{Save}
 use Rattle.ap_backchain.specs.declared.points.Untried.{Untried}
 use Rattle.ap_backchain.proofs.MachineLemmas.{next_here}
 use Rattle.ap_backchain.proofs.PointLemmas.{pending_from, points_from}
-use Rattle.ap_backchain.proofs.TrackLemmas.{back_from, goes_same, within_from}
+use Rattle.ap_backchain.proofs.TrackLemmas.{back_from, within_from}
 
 pub on_ok : {T E P : Type 0} (r : Result T E) → P → OnOk r P
 on_ok (Ok x) p = p

@@ -1,9 +1,9 @@
 -- One turn of a search keeps the outputs so far and those to come, and leaves fewer turns.
-use Rattle.std.proofs.Common.{◌≡◌, ℕ, suc, ◌+◌, ◌<◌, List, [], ◌∷◌, ◌++◌, refl, sym, ap, ◌∙◌, append_assoc, arith}
+use Rattle.std.proofs.Common.{◌≡◌, suc, ◌+◌, ◌<◌, List, ◌∷◌, ◌++◌, refl, ap, ◌∙◌, append_assoc, arith}
 use Rattle.ap_defs.specs.Answers.{NominalOut}
 use Rattle.ap_defs.specs.Goals.{Clauses}
 use Rattle.ap_defs.specs.Types.{NominalLocal}
-use Rattle.ap_backchain.specs.Positions.{Position, Turned, ends, goes, outs_from, outs_from_each, outs_of_turned, turned}
+use Rattle.ap_backchain.specs.Positions.{Position, Turned, ends, goes, outs_from_each, outs_of_turned, turned}
 use Rattle.ap_backchain.specs.Searches.{ended, followed}
 use Rattle.ap_backchain.specs.Turns.{turns_from, turns_from_each, turns_of_turned}
 use Rattle.ap_backchain.proofs.TurnLemmas.{outs_append, outs_turned, turns_append, turns_turned}

@@ -1,5 +1,5 @@
 -- Sets of variables by sorting.
-use Rattle.std.proofs.Common.{◌≡◌, ◌<◌, ◌+◌, ℕ, zero, suc, Bool, true, false, ◌||◌, List, [], ◌∷◌, length, refl, sym, ap, ◌∙◌, inl, inr, arith, true≢false, Ordering}
+use Rattle.std.proofs.Common.{◌≡◌, ◌<◌, ℕ, zero, suc, true, false, List, [], ◌∷◌, length, refl, sym, ap, ◌∙◌, inl, inr, arith, true≢false, Ordering}
 use Rattle.std.specs.Prelude.{nat_lt, slice_index_or, IsPermutation}
 use Rattle.std.specs.Cmp.{IsEquivalence, unsigned_ties}
 use Rattle.std.specs.List.{Contains, dedup}

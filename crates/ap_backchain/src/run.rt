@@ -9,10 +9,9 @@ ghost use Rattle.ap_backchain.specs.Below.{AreClausesBelow, IsQueryBelow};
 ghost use Rattle.ap_backchain.specs.Marks.{choice_of, choice_of_goal};
 ghost use Rattle.ap_backchain.specs.Places.{next_of, position_of};
 ghost use Rattle.ap_backchain.specs.Points.{IsFitRest, positions_left};
-ghost use Rattle.ap_backchain.specs.Positions.{outs_from, outs_from_each, turned, turned_goal};
+ghost use Rattle.ap_backchain.specs.Positions.{outs_from, turned, turned_goal};
 ghost use Rattle.ap_backchain.specs.Searches.{HasPoints, ended, followed, pending_of, positions_with};
 ghost use Rattle.ap_backchain.specs.Starts.{first_position};
-ghost use Rattle.ap_backchain.specs.Turns.{turns_from_each};
 
 use crate::choices::choice_at;
 use crate::clauses::{clauses_at, enter_clause};

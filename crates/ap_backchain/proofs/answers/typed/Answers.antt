@@ -1,5 +1,4 @@
 use Rattle.std.proofs.Common.{[], sym, ap}
-use Rattle.std.specs.Prelude.{◌≤◌}
 use Rattle.ap_defs.specs.Answers.{with_type}
 use Rattle.ap_backchain.proofs.AnswerLemmas.{no_kind}
 use Rattle.ap_backchain.proofs.answers.typed.Goals as goal

@@ -1,7 +1,7 @@
-use Rattle.std.proofs.Common.{◌≡◌, ℕ, List, ◌∷◌, ap, ap₂, ◌∙◌, sym, subst}
+use Rattle.std.proofs.Common.{ℕ, List, ◌∷◌, ap, ap₂, ◌∙◌, sym, subst}
 use Rattle.ap_defs.specs.Goals.{goal_of}
 use Rattle.ap_defs.specs.Renaming.{IsGoalBelow, rename_goal}
-use Rattle.ap_backchain.specs.Places.{position_of, track_of}
+use Rattle.ap_backchain.specs.Places.{track_of}
 use Rattle.ap_backchain.specs.Positions.{Position, with_goal}
 use Rattle.ap_backchain.specs.Tracks.{GoesFrom}
 use Rattle.ap_backchain.specs.declared.points.Rest.{Rest}

@@ -1,11 +1,11 @@
 use Rattle.std.proofs.Common.{◌≡◌, ℕ, ◌+◌, ◌<◌, ◌≤◌, Bool, List, [], ◌∷◌, ◌++◌, length, map, ap, ◌∙◌, sym, subst, arith}
 use Rattle.ap_defs.specs.Goals.{clause_of}
 use Rattle.ap_defs.specs.Renaming.{AreBelow, rename_term}
-use Rattle.ap_defs.specs.Terms.{NominalTerm, term_of}
+use Rattle.ap_defs.specs.Terms.{term_of}
 use Rattle.ap_backchain.specs.Places.{position_if, position_of, track_of}
 use Rattle.ap_backchain.specs.Points.{positions_left}
 use Rattle.ap_backchain.specs.Positions.{Position, by_clause}
-use Rattle.ap_backchain.specs.Searches.{HasPoints, pending_of}
+use Rattle.ap_backchain.specs.Searches.{pending_of}
 use Rattle.ap_backchain.specs.Tracks.{GoesFrom, Track}
 use Rattle.ap_backchain.specs.declared.points.Point.{Point}
 use Rattle.ap_backchain.specs.declared.points.Rest.TheVariants as rests

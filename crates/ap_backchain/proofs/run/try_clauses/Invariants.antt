@@ -1,7 +1,4 @@
-use Rattle.std.proofs.Common.{◌≡◌, suc, drop, map}
-use Rattle.ap_defs.specs.Goals.{clause_of}
-use Rattle.ap_defs.specs.Renaming.{rename_term}
-use Rattle.ap_defs.specs.Terms.{term_of}
+use Rattle.std.proofs.Common.{◌≡◌}
 use Rattle.ap_backchain.specs.Places.{position_of, track_of}
 use Rattle.ap_backchain.specs.Points.{positions_left}
 use Rattle.ap_backchain.specs.declared.points.Rest.TheVariants as rests
