@@ -24,7 +24,7 @@ pub enum Stage {
 const ITEM_LIMIT: usize = 16_777_216;
 
 fn of_items(alloc: Global, items: &[Item<'_>], last: Stage) -> Result<String, AllocError>
-    requires { length items.now ≤ ITEM_LIMIT }
+    requires { length items.now ≤ 16777216 }
 {
     let program = match check(alloc, items) {
         Ok(program) => program,
