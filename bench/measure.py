@@ -1,8 +1,8 @@
 #!/usr/bin/env python3
 """Runs a command on a file as its input, and prints what it took: measure.py INPUT COMMAND..
 
-The line has the bytes of the input, the seconds, the greatest memory in MiB, the exit status and the
-bytes that were written.
+The line has the bytes of the input, the seconds, the greatest memory in MiB, the exit status, and what was
+written: the text if it is one short line, and else how many bytes.
 """
 
 import os
@@ -10,6 +10,19 @@ import subprocess
 import sys
 import tempfile
 import time
+
+SHORT = 80
+
+
+def written(out):
+    """What the command wrote, in words."""
+    size = os.fstat(out.fileno()).st_size
+    if size <= SHORT:
+        out.seek(0)
+        text = out.read().decode("utf-8", "replace").strip()
+        if text and "\n" not in text:
+            return text
+    return f"{size} bytes written"
 
 
 def main():
@@ -20,9 +33,9 @@ def main():
         _, status, usage = os.wait4(process.pid, 0)
         seconds = time.monotonic() - start
         size = os.path.getsize(path)
-        written = os.fstat(out.fileno()).st_size
+        said = written(out)
     code = os.waitstatus_to_exitcode(status)
-    print(f"{size:>10} bytes {seconds:>8.2f} s {usage.ru_maxrss / 1024:>8.1f} MiB   status {code:<3} {written:>10} bytes written")
+    print(f"{size:>10} bytes {seconds:>8.2f} s {usage.ru_maxrss / 1024:>8.1f} MiB   status {code:<3} {said}")
 
 
 main()

@@ -4,6 +4,7 @@
 The shapes:
   facts   one predicate, and as many facts of it as fit
   names   about half of the text declares constructors, and the facts use each of them
+  long    facts of 83 bytes, some 200,000 in 16 MiB; they are in the grammar, and not typed
 """
 
 import sys
@@ -32,7 +33,12 @@ def names(size):
         number += 1
 
 
-SHAPES = {"facts": facts, "names": names}
+def long(size):
+    while True:
+        yield "reachable(graph(Edges,Nodes), path(From,[(From,Via),(Via,To)|Others],To), x\\s(N)).\n"
+
+
+SHAPES = {"facts": facts, "names": names, "long": long}
 QUERY = "?- p(X).\n"
 
 

@@ -1,19 +1,20 @@
 #!/bin/sh
-# Runs the program on a text of BYTES bytes, on one of half and on one of a quarter, and prints what
-# each took, the greatest memory too: read.sh [facts|names [BYTES]]. BYTES is the limit if left out.
+# Reads texts of 16, 8 and 4 MiB with some 200,000, 100,000 and 50,000 facts: splits them into tokens,
+# and then splits and parses them, and prints what each took, the reading and the greatest memory too.
 set -eu
 
 bench=$(dirname -- "$(readlink -f -- "$0")")
-shape=${1:-facts}
-bytes=${2:-16777216}
+crate=$bench/../crates/ap_bench
 work=$(mktemp -d)
 trap 'rm -rf "$work"' EXIT
 
 # The program is built first, so that no build is measured.
-"$bench/../alphaprolog" run --depth 1 < "$bench/../examples/first.apl" > /dev/null
-program=$bench/../crates/ap_cli/out/ap_cli
+(cd "$crate" && rt run -- lex < stdin > /dev/null 2>&1)
 
-for size in "$bytes" $((bytes / 2)) $((bytes / 4)); do
-    python3 "$bench/plain_text.py" "$size" "$shape" > "$work/text"
-    python3 "$bench/measure.py" "$work/text" "$program" run --depth 1
+for size in 16777216 8388608 4194304; do
+    python3 "$bench/plain_text.py" "$size" long > "$work/text"
+    for mode in lex parse; do
+        printf '%-6s' "$mode"
+        python3 "$bench/measure.py" "$work/text" "$crate/out/ap_bench" "$mode"
+    done
 done

@@ -1,0 +1,61 @@
+#!/usr/bin/env python3
+"""Writes a program with one query that takes a search of some length: program_text.py SHAPE SIZE
+
+The shapes:
+  reverse  a list of SIZE parts is reversed, each part put behind the rest
+  subst    the clauses of examples/substitution.apl, asked of a term of SIZE levels, each of which is an
+           abstraction in the pair of the term below with itself
+  types    the clauses of examples/types.apl, asked for the type of a numeral: a function that is used SIZE times
+"""
+
+import os
+import sys
+
+EXAMPLES = os.path.join(os.path.dirname(os.path.realpath(__file__)), "..", "examples")
+
+REVERSE = """nat : type.
+z : nat.
+s : nat -> nat.
+pred append([nat], [nat], [nat]).
+append([], L, L).
+append([X|L], M, [X|N]) :- append(L, M, N).
+pred reverse([nat], [nat]).
+reverse([], []).
+reverse([X|L], R) :- reverse(L, M), append(M, [X], R).
+"""
+
+
+def clauses(name):
+    """The items of an example that are no queries; each query stands on a line of its own."""
+    with open(os.path.join(EXAMPLES, name), encoding="utf-8") as text:
+        return "".join(line for line in text if not line.startswith("?-"))
+
+
+def reverse(size):
+    return REVERSE + "?- reverse([" + ",".join(["z"] * size) + "], R).\n"
+
+
+def term(levels):
+    if levels == 0:
+        return "app(var(a),var(b))"
+    below = term(levels - 1)
+    return f"app(lam(x{levels}\\{below}),{below})"
+
+
+def subst(size):
+    return clauses("substitution.apl") + f"?- subst({term(size)}, a, var(b), R).\n"
+
+
+def types(size):
+    uses = "app(var(f)," * size + "var(x)" + ")" * size
+    return clauses("types.apl") + f"?- tc([], lam(f\\lam(x\\{uses})), T).\n"
+
+
+SHAPES = {"reverse": reverse, "subst": subst, "types": types}
+
+
+def main():
+    sys.stdout.write(SHAPES[sys.argv[1]](int(sys.argv[2])))
+
+
+main()

@@ -1,0 +1,146 @@
+//! A tree of two choices at each of 20 levels, with some work at each leaf.
+
+ghost use Rattle.std.specs.Prelude.{◌≡◌, ◌<◌, ◌≤◌, IfOk};
+ghost use Rattle.ap_defs.specs.Answers.{out_of, cut};
+
+use ap_defs::lists::List;
+use ap_defs::memory::Memory;
+use ap_defs::paths::{Entry, Out, Path, Visit};
+use ap_io::NoGate;
+use ap_paths::Tree;
+use ap_steal::search;
+use std::alloc::{AllocError, Global};
+use std::sync::Wait;
+use std::thread::Threads;
+
+const LEVELS: usize = 20;
+
+/// Rounds of work at each leaf, which take about 10 microseconds.
+const ROUNDS: u64 = 6_000;
+
+// Some work: rounds of a mixer of bits, each of which waits for the one before it. It is 0 for 0 alone.
+fn worked(seed: u64) -> u64 {
+    let mut state = seed;
+    for _ in 0..ROUNDS {
+        state = (state ^ (state >> 33)).wrapping_mul(18_397_679_294_719_823_053);
+    }
+    state
+}
+
+fn cut_at(alloc: Global, path: &Path) -> Result<Out, Memory>
+    ensures { IfOk result (λ o. out_of o ≡ cut path.now) }
+{
+    Ok(Out::Cut(path.copy(alloc)?))
+}
+
+// The work at a leaf. Its result is looked at, so that no compiler leaves it out.
+fn work_at(path: &Path) -> Result<(), Memory> {
+    let mut seed = 1;
+    for k in path.choices() {
+        seed = 3u64.wrapping_mul(seed).wrapping_add(*k as u64);
+    }
+    if worked(seed) == 0 {
+        return Err(Memory);
+    }
+    Ok(())
+}
+
+#[derive(Drop)]
+struct Pairs {
+    depth: usize,
+}
+
+impl Tree for Pairs {
+    ghost use Rattle.ap_steal.specs.Meet.{pair_choices, pair_at, pair_plan, pair_branches, pair_planned};
+
+    ghost choices = { λ t. pair_choices t.depth };
+
+    ghost at = { λ t. pair_at t.depth };
+
+    ghost plan = { λ t. pair_plan t.depth };
+
+    fn width(&self, _alloc: Global, path: &Path) -> Result<Option<u32>, Memory> {
+        if path.choices().len() < self.depth {
+            Ok(Some(2))
+        } else {
+            Ok(None)
+        }
+    }
+
+    fn outs(&self, _alloc: Global, _path: &Path) -> Result<Vec<Out>, Memory> {
+        Err(Memory)
+    }
+
+    fn visit(&self, alloc: Global, path: &Path) -> Result<Visit, Memory> {
+        if path.choices().len() < self.depth {
+            return Ok(Visit::Kids(List::of(Vec::from_array(alloc, [1, 2])?)));
+        }
+        work_at(path)?;
+        let mut outs = Vec::with_capacity(alloc, 1)?;
+        outs.push(cut_at(alloc, path)?)?;
+        Ok(Visit::Outs(List::of(outs)))
+    }
+
+    ghost branches = { λ t. pair_branches t.depth };
+
+    ghost planned = { λ t. pair_planned t.depth };
+}
+
+// The outputs below a path, by recursion over the levels that are left.
+fn gather(alloc: Global, levels: &[u8], path: &Path, outs: &mut Vec<Out>) -> Result<(), Memory> {
+    match levels {
+        [] => {
+            work_at(path)?;
+            outs.push(cut_at(alloc, path)?)?;
+            Ok(())
+        }
+        [_, rest @ ..] => {
+            gather(alloc, rest, &path.child(alloc, 1)?, outs)?;
+            gather(alloc, rest, &path.child(alloc, 2)?, outs)
+        }
+    }
+}
+
+fn gathered(alloc: Global) -> Result<usize, Memory> {
+    let mut outs = Vec::new(alloc);
+    gather(alloc, &[0; LEVELS], &Path::root(alloc), &mut outs)?;
+    Ok(outs.len())
+}
+
+fn leaves(history: &[Entry]) -> usize {
+    history
+        .iter()
+        .filter(|entry| matches!(entry, Entry::Done { .. }))
+        .count()
+}
+
+fn searched<R: Threads + Wait + Sync>(rt: &R, alloc: Global, workers: u32) -> Result<usize, Memory>
+    requires { (0 < workers) × (workers ≤ 64) }
+{
+    let tree = Pairs { depth: LEVELS };
+    let closed = search(rt, alloc, &tree, workers, &NoGate)?;
+    Ok(leaves(closed.history.items()))
+}
+
+fn line(alloc: Global, counted: Result<usize, Memory>) -> Result<String, AllocError> {
+    match counted {
+        Ok(count) => format!(in alloc; "{count} leaves"),
+        Err(Memory) => Err(AllocError),
+    }
+}
+
+/// The tree, searched by so many workers.
+pub fn report<R: Threads + Wait + Sync>(
+    rt: &R,
+    alloc: Global,
+    workers: u32,
+) -> Result<String, AllocError>
+    requires { (0 < workers) × (workers ≤ 64) }
+{
+    line(alloc, searched(rt, alloc, workers))
+}
+
+/// The tree, gone through by a plain recursion.
+pub fn report_recursion(alloc: Global) -> Result<String, AllocError> {
+    line(alloc, gathered(alloc))
+}
