@@ -9,7 +9,7 @@ use std::io;
 use std::sync::Wait;
 use std::thread::Threads;
 
-// The programs, in the folder that this one is run in, and the depth for all of them.
+// The programs, in the folder that this one is run in, which are run to one depth.
 const NAMES: [&str; 21] = [
     "first.apl",
     "substitution.apl",
@@ -34,32 +34,37 @@ const NAMES: [&str; 21] = [
     "name_head_name.apl",
 ];
 
-fn words(alloc: Global) -> Result<Vec<String>, AllocError> {
+const DEPTH: &str = "10";
+
+// A program that counts down from 100,352, and a depth that it does not come to.
+const DEEP: (&str, &str) = ("recursion.apl", "200000");
+
+fn words(alloc: Global, depth: &str) -> Result<Vec<String>, AllocError> {
     let mut words = Vec::new(alloc);
-    for word in ["run", "--depth", "10"] {
+    for word in ["run", "--depth", depth] {
         words.push(word.to_string(alloc)?)?;
     }
     Ok(words)
 }
 
-// Runs a program, and answers the status.
+// Runs a program, and writes its name before what it writes and the status after.
 fn run<R: Threads + Wait + Sync + AllocGlobal + Files + Print>(
     rt: &R,
     words: &[String],
     name: &str,
-) -> io::Result<u8> {
+) -> io::Result<()> {
+    println!(rt; "% {name}")?;
     let mut source = StdSource::new(File::open(rt, name)?);
     let mut sink = StdSink::new(io::writer(rt));
     let status = top(rt, rt.alloc(), words, &mut source, &mut sink, &NoGate);
-    Ok(status.code())
+    println!(rt; "% status {}", status.code())
 }
 
 fn main(rt: HostRuntime) -> io::Result<()> {
-    let words = words(rt.alloc())?;
+    let short = words(rt.alloc(), DEPTH)?;
     for name in NAMES {
-        println!(rt; "% {name}")?;
-        let status = run(&rt, &words, name)?;
-        println!(rt; "% status {status}")?;
+        run(&rt, &short, name)?;
     }
-    Ok(())
+    let (name, depth) = DEEP;
+    run(&rt, &words(rt.alloc(), depth)?, name)
 }
