@@ -1,8 +1,7 @@
 -- Kinds whose variables are of inhabited types, one after the other.
-use Rattle.std.proofs.Common.{◌≡◌, ◌<◌, ◌≤◌, ◌+◌, ◌∙◌, ◌↔◌, ℕ, zero, suc, List, [], ◌∷◌, map, drop, get_or, length, refl, sym, ap, subst, arith, true, false}
+use Rattle.std.proofs.Common.{◌≡◌, ◌<◌, ◌≤◌, ◌+◌, ◌∙◌, ◌↔◌, ℕ, List, [], ◌∷◌, map, drop, get_or, length, sym, ap, subst}
 use Rattle.std.proofs.lemmas.List.{at_drop_more, drop_all}
 use Rattle.ap_defs.specs.declared.goals.Kind.{Kind}
-use Rattle.ap_defs.specs.declared.goals.Kind.TheVariants as kinds
 use Rattle.ap_defs.specs.Types.{NominalKind, NominalConstructor, name, var, kind_of}
 use Rattle.ap_program.specs.Typed.{AreInhabited}
 
