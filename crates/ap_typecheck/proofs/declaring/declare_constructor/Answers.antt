@@ -1,10 +1,8 @@
-use Rattle.std.proofs.Common.{◌≡◌, ◌∙◌, sym, ap, ◌++◌, ◌∷◌, [], None, List, map, subst}
-use Rattle.std.proofs.lemmas.List.{map-append}
-use Rattle.ap_types.specs.Tables.{AreInhabitants}
-use Rattle.ap_defs.specs.Types.{NominalConstructor, constructor_of}
+use Rattle.std.proofs.Common.{◌≡◌, ◌∙◌, sym, ap, ◌++◌, ◌∷◌, [], None, map}
+use Rattle.ap_defs.specs.Types.{constructor_of}
 use Rattle.ap_scopes.specs.Declarations.{place}
 use Rattle.ap_scopes.specs.Views.{words_in}
-use Rattle.ap_typecheck.proofs.Tables.{new_word, words_append}
+use Rattle.ap_typecheck.proofs.Tables.{new_word, words_append, inhabitants_more}
 use Rattle.ap_typecheck.proofs.declaring.declare_constructor.Goals as goal
 
 pub returns-clause-kept : goal.returns-clause-kept
@@ -17,11 +15,9 @@ returns-clause-kept c =
     let added : words_in c.add.new.self ≡ map (λ b. b.text) (map constructor_of c.push.new.list) =
     c.in_ok-add.ensures ∙ new_word word old absent ∙ ap (λ ws. ws ++ word ∷ []) k.constructors
     ∙ sym (ap (λ l. map (λ b. b.text) (map constructor_of l)) c.in_ok-push.ensures ∙ words_append _ _ ∙ ap (λ t. known ++ t ∷ []) c.in_ok-text_of.ensures) in
-    let constructors : map constructor_of c.push.new.list ≡ map constructor_of c.args.state.now.declared.signature.constructors ++ constructor_of c.constructor ∷ [] =
-    ap (map constructor_of) c.in_ok-push.ensures ∙ map-append constructor_of c.args.state.now.declared.signature.constructors (c.constructor ∷ []) in
+    let declared = c.args.state.now.declared.signature.constructors in
     record {
       indexed = record { name_types = k.name_types; data_types = k.data_types; constructors = added; predicates = k.predicates };
-      inhabited = subst (λ (cs : List NominalConstructor). AreInhabitants cs c.declare.new.inhabitants) (sym constructors)
-          (c.in_ok-declare.ensures (map constructor_of c.args.state.now.declared.signature.constructors) c.requires.kept.inhabited);
+      inhabited = inhabitants_more declared c.push.new.list _ c.declare.new.inhabitants c.in_ok-push.ensures (c.in_ok-declare.ensures (map constructor_of declared) c.requires.kept.inhabited);
       listed = c.requires.kept.listed;
     }
