@@ -14,3 +14,4 @@ pub mod Readings
 pub mod Findings
 pub mod SolvedLemmas
 pub mod InhabitedLemmas
+pub mod ClosedLemmas

@@ -13,6 +13,7 @@ ghost use Rattle.ap_kinds.specs.Systems.{system_of, started};
 ghost use Rattle.ap_kinds.specs.Gathering.{gather_goal, gather_atom};
 ghost use Rattle.ap_kinds.specs.Reading.{name_count, AreFirst, IsSolved, IsRead, IsUnread, IsFound, IsNotFound};
 
+use crate::closed::is_ambiguous;
 use crate::errors::KindsError;
 use crate::goals::{gather_atom, gather_goal};
 use crate::reading::read_inhabited;
@@ -76,6 +77,12 @@ fn read_table(
     ensures inhabited { IfOk result (λ ks. AreInhabited (signature_of sig.now).constructors (map kind_of ks.items)) }
     ensures unread { IfErr result (λ e. IsUnread e (signature_of sig.now) idents.now (assignment_of table.now)) }
 {
+    let name_types = sig.name_types.items().len();
+    let data_types = sig.data_types.items().len();
+    let ambiguous = is_ambiguous(alloc, name_types, data_types, table, idents.len())?;
+    if ambiguous {
+        return Err(KindsError::Ambiguous);
+    }
     let shapes = first_shapes(alloc, table, idents.len())?;
     read_inhabited(alloc, sig, inhabitants, idents, shapes.as_slice())
 }
