@@ -1,5 +1,5 @@
 -- Branches that stand at an answer.
-use Rattle.std.proofs.Common.{◌≡◌, ℕ, zero, suc, ◌+◌, ◌-◌, ◌<◌, ◌≤◌, List, [], ◌∷◌, length, refl, subst, arith}
+use Rattle.std.proofs.Common.{◌≡◌, ℕ, zero, suc, ◌-◌, ◌<◌, List, [], ◌∷◌, length, refl, subst, arith}
 use Rattle.std.specs.Prelude.{Some, Result, Ok, Err, IfOk, slice_get}
 use Rattle.ap_defs.specs.Answers.{answer_of, found, outs_at}
 use Rattle.ap_defs.specs.Goals.{NominalQuery}

@@ -24,7 +24,7 @@ use Rattle.ap_backchain.proofs.MarkLemmas.{marks_turned, settled}
 use Rattle.ap_backchain.proofs.TurnLemmas.{turns_turned}
 use Rattle.ap_backchain.specs.Branches.{IsBranchFor, IsBranchOf, IsChoiceAt, IsChoiceOfNode, IsChoosing, IsNamed, IsNodeAt, marks_of_standing, path_of_branch, path_of_standing}
 use Rattle.ap_backchain.specs.Marks.{IsSettled, choice_of, choice_of_atom, choice_of_goal, marks_from, marks_of_turned}
-use Rattle.ap_backchain.specs.Places.{position_of, positions_of}
+use Rattle.ap_backchain.specs.Places.{position_of}
 use Rattle.ap_backchain.specs.Positions.{Position, Turned, ends, goes, turned}
 use Rattle.ap_backchain.specs.Problems.{clauses_in, queries_in}
 use Rattle.ap_backchain.specs.Starts.{first_position}
@@ -36,42 +36,25 @@ use Rattle.ap_backchain.specs.declared.place.Place.{Place}
 use Rattle.ap_backchain.specs.declared.problem.Problem.{Problem}
 
 -- A turn of a place that doesn't choose.
-module _ (program : Clauses) (locals : List NominalLocal) (here : Place) (h : choice_of program (position_of here).waiting ≡ None) where
-  pub ended_marks : (o : NominalOut) → ends o ≡ turned program locals (position_of here) → out o ∷ [] ≡ marks_from program locals (position_of here)
-  ended_marks o e = ap (marks_of_turned program locals) e ∙ marks_turned program locals (position_of here) h
+module _ (program : Clauses) (locals : List NominalLocal) (here : Position) (h : choice_of program here.waiting ≡ None) where
+  pub ended_marks : (o : NominalOut) → ends o ≡ turned program locals here → out o ∷ [] ≡ marks_from program locals here
+  ended_marks o e = ap (marks_of_turned program locals) e ∙ marks_turned program locals here h
 
-  pub ended_path : (o : NominalOut) → ends o ≡ turned program locals (position_of here) → out_path o ≡ here.path.items
-  ended_path o e = subst (λ (t : Turned). IsSettled (position_of here) t) (sym e) (settled program locals (position_of here) h)
+  pub ended_path : (o : NominalOut) → ends o ≡ turned program locals here → out_path o ≡ here.path
+  ended_path o e = subst (λ (t : Turned). IsSettled here t) (sym e) (settled program locals here h)
 
-  pub failed_marks : (ks : List Place) → ks ≡ [] → goes (positions_of ks) ≡ turned program locals (position_of here) → [] ≡ marks_from program locals (position_of here)
-  failed_marks ks n e = ap (λ ps. marks_of_turned program locals (goes (positions_of ps))) (sym n) ∙ ap (marks_of_turned program locals) e ∙ marks_turned program locals (position_of here) h
+  pub failed_marks : goes [] ≡ turned program locals here → [] ≡ marks_from program locals here
+  failed_marks e = ap (marks_of_turned program locals) e ∙ marks_turned program locals here h
 
-  alone : (rest : List Place) (next : Place) → IsSettled (position_of here) (goes (positions_of (rest ++ next ∷ []))) → rest ≡ []
-  alone [] next k = refl
-  alone (r ∷ []) next k = absurd k
-  alone (r ∷ s ∷ rs) next k = absurd k
+  pub went_marks : (next : Position) → goes (next ∷ []) ≡ turned program locals here → marks_from program locals next ≡ marks_from program locals here
+  went_marks next e = sym (append-nil (marks_from program locals next)) ∙ ap (marks_of_turned program locals) e ∙ marks_turned program locals here h
 
-  went_alone : (ks rest : List Place) (next : Place) → ks ≡ rest ++ next ∷ [] → goes (positions_of ks) ≡ turned program locals (position_of here)
-      → goes (position_of next ∷ []) ≡ turned program locals (position_of here)
-  went_alone ks rest next n e =
-      let f : goes (positions_of (rest ++ next ∷ [])) ≡ turned program locals (position_of here) = ap (λ ps. goes (positions_of ps)) (sym n) ∙ e in
-      let one : rest ≡ [] = alone rest next (subst (λ (t : Turned). IsSettled (position_of here) t) (sym f) (settled program locals (position_of here) h)) in
-      ap (λ ps. goes (positions_of (ps ++ next ∷ []))) (sym one) ∙ f
+  pub went_path : (next : Position) → goes (next ∷ []) ≡ turned program locals here → next.path ≡ here.path
+  went_path next e = subst (λ (t : Turned). IsSettled here t) (sym e) (settled program locals here h)
 
-  pub went_marks : (ks rest : List Place) (next : Place) → ks ≡ rest ++ next ∷ [] → goes (positions_of ks) ≡ turned program locals (position_of here)
-      → marks_from program locals (position_of next) ≡ marks_from program locals (position_of here)
-  went_marks ks rest next n e =
-      sym (append-nil (marks_from program locals (position_of next))) ∙ ap (marks_of_turned program locals) (went_alone ks rest next n e) ∙ marks_turned program locals (position_of here) h
-
-  pub went_path : (ks rest : List Place) (next : Place) → ks ≡ rest ++ next ∷ [] → goes (positions_of ks) ≡ turned program locals (position_of here)
-      → next.path.items ≡ here.path.items
-  went_path ks rest next n e =
-      subst (λ (t : Turned). IsSettled (position_of here) t) (sym (went_alone ks rest next n e)) (settled program locals (position_of here) h)
-
-  pub went_fewer : (ks rest : List Place) (next : Place) → ks ≡ rest ++ next ∷ [] → goes (positions_of ks) ≡ turned program locals (position_of here)
-      → turns_from program (position_of next) < turns_from program (position_of here)
-  went_fewer ks rest next n e =
-      let k : suc (turns_from program (position_of next) + 0) ≡ turns_from program (position_of here) = ap (λ t. suc (turns_of_turned program t)) (went_alone ks rest next n e) ∙ turns_turned program locals (position_of here) in
+  pub went_fewer : (next : Position) → goes (next ∷ []) ≡ turned program locals here → turns_from program next < turns_from program here
+  went_fewer next e =
+      let k : suc (turns_from program next + 0) ≡ turns_from program here = ap (λ t. suc (turns_of_turned program t)) e ∙ turns_turned program locals here in
       omega arith
 
 -- A place that chooses has a mark there.

@@ -1,9 +1,8 @@
 -- What a place has below one of its choices.
-use Rattle.std.proofs.Common.{◌≡◌, ℕ, zero, suc, ◌+◌, ◌-◌, ◌<◌, ◌≤◌, ◌≢◌, false, List, [], ◌∷◌, ◌++◌, length, get_or, map, refl, sym, ap, ◌∙◌, subst, arith}
+use Rattle.std.proofs.Common.{◌≡◌, ℕ, zero, suc, ◌+◌, ◌-◌, ◌<◌, ◌≤◌, List, [], ◌∷◌, ◌++◌, length, get_or, map, refl, sym, ap, ◌∙◌, subst, arith}
 use Rattle.std.proofs.lemmas.List.{append-nil}
 use Rattle.std.specs.Prelude.{if◌then◌else◌, Option, Some, None}
 use Rattle.ap_defs.specs.Goals.{NominalGoal, NominalClause, atom, either, Clauses, clause_of, clauses_of}
-use Rattle.ap_defs.specs.PathOrder.{has_prefix}
 use Rattle.ap_defs.specs.Renaming.{rename_term}
 use Rattle.ap_defs.specs.Resolution.{State, kinds_of, next_number}
 use Rattle.ap_defs.specs.Terms.{NominalTerm}
@@ -19,7 +18,7 @@ use Rattle.ap_search.proofs.MarkLemmas.{calls_begin, marked_stack_begins}
 use Rattle.ap_search.proofs.PrefixLemmas.{beginning_other, beginning_whole, prefix_itself, prefix_longer}
 use Rattle.ap_backchain.proofs.MarkLemmas.{marks_unified}
 use Rattle.ap_backchain.specs.Marks.{IsAmong, choice_of_goal, clauses_marks, goal_marks, marks_from, marks_from_each}
-use Rattle.ap_backchain.specs.Positions.{Position, by_clause, clause_state, each_position, entered, with_choice, with_goal}
+use Rattle.ap_backchain.specs.Positions.{Position, by_clause, each_position, entered, with_choice, with_goal}
 
 past_choice : (p : List ℕ) (k w : ℕ) (ms : List NominalMark) → beginning mark_path (p ++ k ∷ []) (choice p w ∷ ms) ≡ beginning mark_path (p ++ k ∷ []) ms
 past_choice p k w ms =

@@ -1,7 +1,6 @@
 -- Goals and clauses whose numbers fit.
-use Rattle.std.proofs.Common.{◌≡◌, ℕ, suc, ◌+◌, ◌-◌, ◌≤◌, List, [], ◌∷◌, ◌++◌, length, map, refl, sym, ap, ap₂, ◌∙◌, arith}
+use Rattle.std.proofs.Common.{◌≡◌, ℕ, ◌+◌, ◌≤◌, List, [], ◌∷◌, length, map, refl, sym, ap, ap₂, ◌∙◌, arith}
 use Rattle.std.proofs.lemmas.List.{length-map}
-use Rattle.std.specs.Prelude.{Some, slice_get}
 use Rattle.ap_defs.specs.declared.goals.Kind.{Kind}
 use Rattle.ap_defs.specs.declared.goals.Local.{Local}
 use Rattle.ap_defs.specs.declared.terms.Name.{Name}
@@ -15,12 +14,6 @@ use Rattle.ap_defs.specs.Types.{NominalLocal, kind_of, locals_of}
 use Rattle.ap_program.proofs.RenamingLemmas.{goal_below_more}
 use Rattle.ap_search.specs.Continuations.{Waiting}
 use Rattle.ap_backchain.specs.Below.{AreWaitingBelow}
-use Rattle.ap_backchain.specs.Views.{stack_of, waiting_of}
-use Rattle.ap_backchain.specs.declared.frames.Frame.{Frame}
-
-pub stack_push : (fs : List Frame) (f : Frame) (ws : List Waiting) → stack_of (fs ++ f ∷ []) ws ≡ waiting_of f ∷ stack_of fs ws
-stack_push [] f ws = refl
-stack_push (g ∷ fs) f ws = stack_push fs f (waiting_of g ∷ ws)
 
 pub waiting_more : (m n : ℕ) → n ≤ m → (ws : List Waiting) → AreWaitingBelow n ws → AreWaitingBelow m ws
 waiting_more m n l [] h = tt
@@ -73,11 +66,3 @@ locals_length xs ls e = sym (length-map xs kind_of) ∙ ap length e ∙ length-m
 
 pub kinds_count : (xs : List Kind) (ls : List NominalLocal) → map kind_of xs ≡ kinds_of ls → length xs ≡ length ls
 kinds_count xs ls e = sym (length-map xs kind_of) ∙ ap length e ∙ length-map ls (λ l. l.kind)
-
--- the last frame waits first
-pub last_waits : (fs : List Frame) (f : Frame) (ws : List Waiting) → Some f ≡ slice_get fs (length fs - 1) → (vs : List Waiting) × (stack_of fs ws ≡ waiting_of f ∷ vs)
-last_waits [] f ws h = absurd cc
-last_waits (g ∷ []) f ws h = let e : g ≡ f = cc in (ws, ap (λ x. waiting_of x ∷ ws) e)
-last_waits (g ∷ k ∷ fs) f ws h =
-    let e : suc (suc (length fs)) - 1 ≡ suc (suc (length fs) - 1) = omega arith in
-    last_waits (k ∷ fs) f (waiting_of g ∷ ws) (h ∙ ap (slice_get (g ∷ k ∷ fs)) e)

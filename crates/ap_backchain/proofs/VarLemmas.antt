@@ -1,27 +1,13 @@
--- Steps of the loops over sets of variables.
-use Rattle.std.proofs.Common.{◌≡◌, ◌<◌, ◌+◌, ℕ, suc, true, false, nat_lt, List, [], ◌∷◌, ◌++◌, length, get_or, take, drop, refl, sym, ap, ◌∙◌, add-one, append_assoc, map, subst}
+-- Steps of the loops over lists of variables.
+use Rattle.std.proofs.Common.{◌≡◌, ◌<◌, ◌+◌, ℕ, suc, List, [], ◌∷◌, ◌++◌, length, get_or, drop, refl, sym, ap, ◌∙◌, add-one, append_assoc, map, subst}
 use Rattle.std.proofs.Math.Seq.{drop-cons}
-use Rattle.std.proofs.lemmas.List.{take-append-drop}
-use Rattle.std.specs.List.{insert}
 use Rattle.std.specs.Prelude.{OnOk, Result, Ok, Err}
-use Rattle.ap_defs.specs.Answers.{add_var}
-use Rattle.ap_defs.specs.Freshness.{var_eq}
 use Rattle.ap_defs.specs.Occurrences.{vars_of_terms}
 use Rattle.ap_defs.specs.Renaming.{AreBelow, IsBelow, rename_term}
 use Rattle.ap_defs.specs.Terms.{NominalTerm, unit, name, pair, app, abs, susp, term_of}
 use Rattle.ap_defs.specs.Unification.{vars_then}
 use Rattle.ap_defs.specs.declared.terms.Term.{Term}
 use Rattle.ap_defs.specs.declared.terms.Var.{Var}
-
-pub add_there : (x : Var) (xs : List Var) (i : ℕ) (d : Var) → i < length xs → var_eq x (get_or xs i d) ≡ true
-    → take i xs ++ add_var x (drop i xs) ≡ xs
-add_there x xs i d h e =
-    ap (λ ys. take i xs ++ add_var x ys) (drop-cons xs i d h) ∙ rw e (ap (λ ys. take i xs ++ ys) (sym (drop-cons xs i d h)) ∙ take-append-drop i xs)
-
-pub add_between : (x : Var) (xs : List Var) (i : ℕ) (d : Var) → i < length xs → var_eq x (get_or xs i d) ≡ false → nat_lt x.num (get_or xs i d).num ≡ true
-    → insert xs i x ≡ take i xs ++ add_var x (drop i xs)
-add_between x xs i d h e k =
-    sym (ap (λ ys. take i xs ++ add_var x ys) (drop-cons xs i d h) ∙ rw (e, k) (ap (λ ys. take i xs ++ x ∷ ys) (sym (drop-cons xs i d h))))
 
 -- the variables of a term stand in front of the others
 pub vars_in_front : (t : NominalTerm) (xs : List Var) → vars_then t xs ≡ vars_then t [] ++ xs
@@ -42,17 +28,18 @@ pair_pushed (Ok x) t u vs ws xs h k =
     k ∙ ap (λ ys. ys ++ vars_then u []) h ∙ append_assoc vs (vars_then t []) (vars_then u []) ∙ ap (λ ys. vs ++ ys) (sym (vars_in_front t (vars_then u [])))
 pair_pushed (Err e) t u vs ws xs h k = tt
 
-vars_before : (t : NominalTerm) (xs ys : List Var) → vars_then t xs ++ ys ≡ vars_then t (xs ++ ys)
-vars_before t xs ys =
-    ap (λ zs. zs ++ ys) (vars_in_front t xs) ∙ append_assoc (vars_then t []) xs ys ∙ sym (vars_in_front t (xs ++ ys))
-
 from_here : {X : Type 0} (ts : List X) (i : ℕ) (t : X) → i < length ts → t ≡ get_or ts i t → t ∷ drop (suc i) ts ≡ drop i ts
 from_here ts i t h e = ap (λ u. u ∷ drop (suc i) ts) e ∙ sym (drop-cons ts i t h)
 
-pub terms_step : (ts : List Term) (i : ℕ) (t : Term) (xs : List Var) → i < length ts → t ≡ get_or ts i t
-    → vars_then (term_of t) (vars_of_terms (map term_of (drop (suc i) ts)) ++ xs) ≡ vars_of_terms (map term_of (drop i ts)) ++ xs
-terms_step ts i t xs h e =
-    sym (vars_before (term_of t) (vars_of_terms (map term_of (drop (suc i) ts))) xs) ∙ ap (λ us. vars_of_terms (map term_of us) ++ xs) (from_here ts i t h e)
+-- the variables of one more term are read
+pub read_step : (f : Term → NominalTerm) (ts : List Term) (i : ℕ) (t : Term) (vs ws : List Var) → i < length ts → t ≡ get_or ts i t
+    → ws ≡ vs ++ vars_then (f t) []
+    → ws ++ vars_of_terms (map f (drop (i + 1) ts)) ≡ vs ++ vars_of_terms (map f (drop i ts))
+read_step f ts i t vs ws h e k =
+    rw (add-one i)
+    (ap (λ xs. xs ++ vars_of_terms (map f (drop (suc i) ts))) k
+    ∙ append_assoc vs (vars_then (f t) []) (vars_of_terms (map f (drop (suc i) ts)))
+    ∙ ap (λ xs. vs ++ xs) (sym (vars_in_front (f t) (vars_of_terms (map f (drop (suc i) ts)))) ∙ ap (λ us. vars_of_terms (map f us)) (from_here ts i t h e)))
 
 pub pushed_step : (base : ℕ) (ts : List Term) (i : ℕ) (t : Term) (vs ws : List Var) → i < length ts → t ≡ get_or ts i t
     → ws ≡ vs ++ vars_then (rename_term base (term_of t)) []

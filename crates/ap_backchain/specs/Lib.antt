@@ -1,3 +1,11 @@
+pub mod Reached
+pub mod Searches
+pub mod Heads
+pub mod Tracks
+pub mod Points
+pub mod Arenas
+pub mod ArenaProps
+pub mod Stacks
 pub mod Below
 pub mod BelowProps
 pub mod Branches

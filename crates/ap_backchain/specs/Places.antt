@@ -1,22 +1,32 @@
 -- The places for which branches stand.
-use Rattle.std.specs.Prelude.{List, [], ◌∷◌, Option, Some, None, map}
+use Rattle.std.specs.Prelude.{ℕ, Bool, true, false, List, [], ◌∷◌}
 use Rattle.ap_defs.specs.Answers.{out_of}
+use Rattle.ap_store.specs.Views.{kinds, present, versions}
 use Rattle.ap_backchain.specs.Positions.{Position, Turned, ends, goes}
-use Rattle.ap_backchain.specs.Views.{stack_of, state_of}
+use Rattle.ap_backchain.specs.Stacks.{cells_of, waiting_in}
+use Rattle.ap_backchain.specs.Tracks.{Track}
+use Rattle.ap_backchain.specs.Views.{state_in}
 use Rattle.ap_backchain.specs.declared.place.Place.{Place}
 use Rattle.ap_backchain.specs.declared.turns.Turn.{Turn}
 use Rattle.ap_backchain.specs.declared.turns.Turn.TheVariants as turns
 
 abbrev pub position_of : Place → Position
-position_of b = record { waiting = stack_of b.frames.items []; path = b.path.items; state = state_of b.state; brought = b.brought.items }
+position_of b = record { waiting = waiting_in b.goals; path = b.path.items; state = state_in b.store; brought = b.brought.items }
 
-abbrev pub positions_of : List Place → List Position
-positions_of bs = map position_of bs
+-- with all that it can go back to
+abbrev pub track_of : Place → Track
+track_of b = record { versions = versions b.store; kinds = kinds b.store; cells = cells_of b.goals; path = b.path.items; brought = b.brought.items }
 
-abbrev pub position_in : Option Place → List Position
-position_in None = []
-position_in (Some b) = position_of b ∷ []
+-- the next number
+abbrev pub next_of : Place → ℕ
+next_of b = (present b.store).next
 
-abbrev pub turned_of : Turn → Turned
-turned_of (turns.Ends o) = ends (out_of o)
-turned_of (turns.Goes v) = goes (positions_of v.items)
+abbrev pub position_if : Bool → Position → List Position
+position_if true p = p ∷ []
+position_if false p = []
+
+-- where a turn ends or goes on from the place as it is then
+abbrev pub turned_of : Turn → Position → Turned
+turned_of turns.Goes p = goes (p ∷ [])
+turned_of turns.Fails p = goes []
+turned_of (turns.Ends o) p = ends (out_of o)

@@ -5,21 +5,24 @@ ghost use Rattle.std.specs.Option.{option_to_list};
 ghost use Rattle.ap_defs.specs.Answers.{answer_of, closed_term, kind_at, typed_var_of, typed_vars, with_type};
 ghost use Rattle.ap_defs.specs.Canonical.{canonical_term};
 ghost use Rattle.ap_defs.specs.Terms.{susp, term_of};
-ghost use Rattle.ap_defs.specs.Types.{kind_of, locals_of};
-ghost use Rattle.ap_search.specs.Records.{answer_with, closed_vars, vars_with};
-ghost use Rattle.ap_backchain.specs.Views.{state_of};
+ghost use Rattle.ap_defs.specs.Types.{locals_of};
+ghost use Rattle.ap_search.specs.Records.{answer_with, closed_vars};
+ghost use Rattle.ap_backchain.specs.Views.{state_in};
+ghost use Rattle.ap_backchain.specs.Reached.{vars_reached};
+ghost use Rattle.ap_store.specs.Views.{kinds};
 
+use crate::reached::reached;
 use crate::renaming::vars_of_locals;
-use crate::state::SearchState;
-use crate::vars::{add_vars_of_conds, add_vars_of_terms};
+use crate::vars::{add_vars_of_conds, add_vars_of_terms, make_ascending};
 use ap_defs::copies::copy_type;
 use ap_defs::goals::{Kind, Local};
 use ap_defs::lists::List;
 use ap_defs::memory::Memory;
 use ap_defs::outcomes::Answer;
 use ap_defs::terms::{Cond, Term, Ty, Var};
+use ap_perm::closures::Closure;
 use ap_perm::perm::Perm;
-use ap_store::bindings::under_bindings;
+use ap_store::store::Store;
 use std::alloc::Global;
 
 /// A copy of a term in which the list of each suspension is canonical.
@@ -49,49 +52,54 @@ fn canonical_of(alloc: Global, t: &Term) -> Result<Term, Memory>
     }
 }
 
-/// What a variable stands for in a state, with canonical lists.
-fn closed_var(alloc: Global, s: &SearchState, x: Var) -> Result<Term, Memory>
-    ensures { IfOk result (λ t. term_of t ≡ closed_term (state_of s.now) (susp [] x)) }
+/// What a variable stands for, with canonical lists.
+fn closed_var(alloc: Global, store: &Store<'_>, x: Var) -> Result<Term, Memory>
+    ensures { IfOk result (λ t. term_of t ≡ closed_term (state_in store.now) (susp [] x)) }
 {
     let waiting = Term::Susp(List::of(Vec::new(alloc)), x);
-    let bound = under_bindings(alloc, &s.bindings, &waiting)?;
-    canonical_of(alloc, &bound)
+    if x.num < store.next() {
+        let closure = Closure::of(alloc, 0, store.next(), &waiting);
+        let bound = store.walk(alloc, &closure)?;
+        canonical_of(alloc, &bound)
+    } else {
+        Ok(waiting)
+    }
 }
 
-/// What variables stand for in a state, with canonical lists.
-fn closed(alloc: Global, s: &SearchState, vars: &[Var]) -> Result<Vec<Term>, Memory>
-    ensures { IfOk result (λ v. map term_of v.items ≡ closed_vars (state_of s.now) vars.now) }
+/// What variables stand for, with canonical lists.
+fn closed(alloc: Global, store: &Store<'_>, vars: &[Var]) -> Result<Vec<Term>, Memory>
+    ensures { IfOk result (λ v. map term_of v.items ≡ closed_vars (state_in store.now) vars.now) }
 {
     let mut terms = Vec::new(alloc);
     'closing: for x in vars {
-        terms.push(closed_var(alloc, s, *x)?)?;
+        terms.push(closed_var(alloc, store, *x)?)?;
     }
     Ok(terms)
 }
 
-/// The set of the variables of bindings, of conditions and of further terms.
+/// The set of the variables of bindings, of conditions and of further ones.
 fn vars_among(
     alloc: Global,
     binds: &[Term],
     conds: &[Cond],
-    terms: &[Term],
+    others: &[Var],
 ) -> Result<Vec<Var>, Memory>
-    ensures { IfOk result (λ v. v.items ≡ vars_with (map term_of binds.now) conds.now (map term_of terms.now)) }
+    ensures { IfOk result (λ v. v.items ≡ vars_reached (map term_of binds.now) conds.now others.now) }
 {
     let mut vars = Vec::new(alloc);
-    add_vars_of_terms(&mut vars, terms)?;
-    add_vars_of_conds(&mut vars, conds)?;
     add_vars_of_terms(&mut vars, binds)?;
+    add_vars_of_conds(&mut vars, conds)?;
+    vars.extend_from_slice(others)?;
+    make_ascending(&mut vars);
     Ok(vars)
 }
 
 /// A variable with its type, or none where its number is no variable's.
-fn typed(alloc: Global, kinds: &[Kind], x: Var) -> Result<Option<(Var, Ty)>, Memory>
-    ensures { IfOk result (λ o. map typed_var_of (option_to_list o) ≡ with_type x (kind_at (map kind_of kinds.now) x.num) []) }
+fn typed(alloc: Global, store: &Store<'_>, x: Var) -> Result<Option<(Var, Ty)>, Memory>
+    ensures { IfOk result (λ o. map typed_var_of (option_to_list o) ≡ with_type x (kind_at (kinds store.now) x.num) []) }
 {
-    let place = x.num as usize;
-    if place < kinds.len() {
-        match &kinds[place] {
+    if x.num < store.next() {
+        match store.kind(x.num) {
             Kind::Var(t) => {
                 let t = copy_type(alloc, t)?;
                 Ok(Some((x, t)))
@@ -104,12 +112,12 @@ fn typed(alloc: Global, kinds: &[Kind], x: Var) -> Result<Option<(Var, Ty)>, Mem
 }
 
 /// Variables with their types.
-fn typed_of(alloc: Global, kinds: &[Kind], vars: &[Var]) -> Result<Vec<(Var, Ty)>, Memory>
-    ensures { IfOk result (λ v. map typed_var_of v.items ≡ typed_vars (map kind_of kinds.now) vars.now) }
+fn typed_of(alloc: Global, store: &Store<'_>, vars: &[Var]) -> Result<Vec<(Var, Ty)>, Memory>
+    ensures { IfOk result (λ v. map typed_var_of v.items ≡ typed_vars (kinds store.now) vars.now) }
 {
     let mut all = Vec::new(alloc);
     'typing: for x in vars {
-        if let Some(one) = typed(alloc, kinds, *x)? {
+        if let Some(one) = typed(alloc, store, *x)? {
             all.push(one)?;
         }
     }
@@ -121,18 +129,18 @@ fn typed_of(alloc: Global, kinds: &[Kind], vars: &[Var]) -> Result<Vec<(Var, Ty)
 pub fn answer_in(
     alloc: Global,
     locals: &[Local],
-    s: &SearchState,
+    store: &Store<'_>,
     brought: &[Var],
 ) -> Result<Answer, Memory>
     requires { length locals.now < 2 ^ 64 }
-    ensures { IfOk result (λ a. answer_of a ≡ answer_with (locals_of locals.now) (state_of s.now) brought.now) }
+    ensures { IfOk result (λ a. answer_of a ≡ answer_with (locals_of locals.now) (state_in store.now) brought.now) }
 {
     let free = vars_of_locals(alloc, 0, locals)?;
-    let binds = closed(alloc, s, &free)?;
-    let others = closed(alloc, s, brought)?;
-    let vars = vars_among(alloc, &binds, &s.conditions, &others)?;
-    let vars = typed_of(alloc, &s.kinds, &vars)?;
-    let conds = s.conditions.to_vec(alloc)?;
+    let binds = closed(alloc, store, &free)?;
+    let others = reached(alloc, store, brought)?;
+    let vars = vars_among(alloc, &binds, store.conditions(), &others)?;
+    let vars = typed_of(alloc, store, &vars)?;
+    let conds = store.conds(alloc)?;
     Ok(Answer {
         binds: List::of(binds),
         conds: List::of(conds),

@@ -1,21 +1,24 @@
 //! Clauses that an atom enters.
 
-ghost use Rattle.std.specs.Prelude.{◌≡◌, ◌<◌, ◌^◌, IfOk, length, map};
+ghost use Rattle.std.specs.Prelude.{◌≡◌, ◌<◌, ◌^◌, false, None, IfOk, OnOk, length, map};
 ghost use Rattle.ap_defs.specs.Goals.{clause_of, clauses_of};
+ghost use Rattle.ap_defs.specs.Renaming.{AreBelow, rename_term as renamed};
 ghost use Rattle.ap_defs.specs.Terms.{term_of};
 ghost use Rattle.ap_backchain.specs.Below.{AreClausesBelow};
 ghost use Rattle.ap_search.specs.FitStates.{AreFitClauses, IsFitClause};
-ghost use Rattle.ap_backchain.specs.Places.{position_in, position_of, positions_of};
-ghost use Rattle.ap_backchain.specs.Positions.{by_clause, by_clauses};
+ghost use Rattle.ap_backchain.specs.Places.{next_of, position_if, position_of, track_of};
+ghost use Rattle.ap_backchain.specs.Positions.{by_clause};
+ghost use Rattle.ap_backchain.specs.Tracks.{GoesFrom};
+ghost use Rattle.ap_backchain.specs.Heads.{HasHead};
 
-use crate::moves::{place_in, with_choice, with_goal, with_vars};
+use crate::closures::closures;
 use crate::place::Place;
 use crate::renaming::vars_of_locals;
-use crate::state::clause_state;
 use ap_defs::goals::Clause;
 use ap_defs::lists::List;
 use ap_defs::memory::Memory;
 use ap_defs::terms::Term;
+use ap_unify::unify::unify;
 use std::alloc::Global;
 
 /// The clauses of a predicate.
@@ -32,52 +35,62 @@ pub fn clauses_at<'a>(clauses: &'a [List<Clause<Term>>], pred: u32) -> &'a [Clau
     }
 }
 
-/// The place in which the body of a clause waits, once its head is unified with the arguments of an
-/// atom, or none where that has no solution.
-pub fn enter_clause<'a>(
+/// Unifies the head of a clause, whose identifiers get the next numbers, with the arguments of an
+/// atom. It answers the first of these numbers, or none where there is no solution; then the place
+/// is as before.
+fn unify_head<'a>(
     alloc: Global,
-    b: &Place<'a>,
-    args: &[Term],
-    depth: u32,
-    choice: u32,
+    place: &mut Place<'a>,
+    args: &'a [Term],
+    base: u64,
     clause: &'a Clause<Term>,
-) -> Result<Option<Place<'a>>, Memory>
-    requires { IsFitClause (clause_of clause.now) }
-    ensures { IfOk result (λ o. position_in o ≡ by_clause depth (map term_of args.now) (position_of b.now) choice (clause_of clause.now)) }
+) -> Result<Option<u64>, Memory>
+    requires args { AreBelow (next_of place.old) (map (renamed base) (map term_of args.now)) }
+    requires clause { IsFitClause (clause_of clause.now) }
+    ensures state { IfOk result (λ o. HasHead (map (renamed base) (map term_of args.now)) (clause_of clause.now) place.old o place.new) }
+    ensures goes { OnOk result (GoesFrom (track_of place.old) (track_of place.new)) }
+    ensures none { IfOk result (λ o. o ≡ None → (track_of place.new ≡ track_of place.old) × (position_of place.new ≡ position_of place.old)) }
 {
-    let base = b.state.kinds.len() as u64;
-    let locals = clause.locals.items();
-    match clause_state(alloc, &b.state, args, clause)? {
-        None => Ok(None),
-        Some(state) => {
-            let vars = vars_of_locals(alloc, base, locals)?;
-            let in_state = place_in(alloc, b, state)?;
-            let chosen = with_choice(in_state, choice)?;
-            let bringing = with_vars(chosen, &vars)?;
-            let entered = with_goal(bringing, &clause.body, base, depth)?;
-            Ok(Some(entered))
-        }
+    let mark = place.store.mark();
+    let start = place.store.make(clause.locals.items())?;
+    let end = place.store.next();
+    let head = clause.args.items();
+    let count = args.len().min(head.len());
+    let left = closures(alloc, base, end, &args[..count])?;
+    let right = closures(alloc, start, end, &head[..count])?;
+    if unify(alloc, &mut place.store, &left, &right)? {
+        Ok(Some(start))
+    } else {
+        place.store.undo_to(mark);
+        Ok(None)
     }
 }
 
-/// The placees by the clauses of a predicate, in order.
-pub fn enter_each<'a>(
+/// Enters a clause: its head is unified with the arguments of an atom, and its body waits. It answers
+/// whether that has a solution; where not, the place is as before.
+pub fn enter_clause<'a>(
     alloc: Global,
-    b: &Place<'a>,
-    args: &[Term],
+    place: &mut Place<'a>,
+    args: &'a [Term],
+    base: u64,
     depth: u32,
-    clauses: &'a [Clause<Term>],
-) -> Result<Vec<Place<'a>>, Memory>
-    requires below { AreFitClauses (map clause_of clauses.now) }
-    requires few { length clauses.now < 2 ^ 32 }
-    ensures { IfOk result (λ v. positions_of v.items ≡ by_clauses depth (map term_of args.now) (position_of b.now) 1 (map clause_of clauses.now)) }
+    choice: u32,
+    clause: &'a Clause<Term>,
+) -> Result<bool, Memory>
+    requires args { AreBelow (next_of place.old) (map (renamed base) (map term_of args.now)) }
+    requires clause { IsFitClause (clause_of clause.now) }
+    ensures entered { IfOk result (λ b. position_if b (position_of place.new) ≡ by_clause depth (map (renamed base) (map term_of args.now)) (position_of place.old) choice (clause_of clause.now)) }
+    ensures goes { OnOk result (GoesFrom (track_of place.old) (track_of place.new)) }
+    ensures none { IfOk result (λ b. b ≡ false → (track_of place.new ≡ track_of place.old) × (position_of place.new ≡ position_of place.old)) }
 {
-    let mut kids = Vec::new(alloc);
-    'entering: for i in 0..clauses.len() {
-        let choice = i as u32 + 1;
-        if let Some(kid) = enter_clause(alloc, b, args, depth, choice, &clauses[i])? {
-            kids.push(kid)?;
+    match unify_head(alloc, place, args, base, clause)? {
+        None => Ok(false),
+        Some(start) => {
+            let vars = vars_of_locals(alloc, start, clause.locals.items())?;
+            place.push_choice(choice)?;
+            place.push_vars(&vars)?;
+            place.push_goal(&clause.body, start, depth)?;
+            Ok(true)
         }
     }
-    Ok(kids)
 }

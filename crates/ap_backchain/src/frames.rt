@@ -11,3 +11,10 @@ pub struct Frame<'a> {
     pub base: u64,
     pub depth: u32,
 }
+
+/// A goal that waits, and the number of the one behind it, from 1, or 0 where it is the last.
+#[derive(Clone, Copy)]
+pub struct Cell<'a> {
+    pub frame: Frame<'a>,
+    pub next: usize,
+}

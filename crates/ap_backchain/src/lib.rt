@@ -9,23 +9,25 @@
 
 pub mod answer_copies;
 pub mod answers;
+pub mod arena;
 pub mod branch;
+pub mod choices;
 pub mod clauses;
-pub mod copies;
+pub mod closures;
 pub mod frames;
 pub mod free_vars;
-pub mod fresh;
 #[cfg(test)]
 mod limits;
-pub mod moves;
 pub mod place;
+pub mod points;
 pub mod problem;
+pub mod reached;
 pub mod renaming;
 pub mod run;
 pub mod standing;
-pub mod state;
 pub mod step;
 #[cfg(test)]
 mod tests;
 pub mod turns;
 pub mod vars;
+pub mod visits;

@@ -2,7 +2,7 @@
 
 ghost use Rattle.std.specs.Prelude.{◌≡◌, ◌-◌, Some, IfOk, map, slice_get};
 ghost use Rattle.ap_defs.specs.Answers.{outs_of, query_outs};
-ghost use Rattle.ap_defs.specs.Goals.{NominalQuery, clause_of, program_of, query_of};
+ghost use Rattle.ap_defs.specs.Goals.{NominalQuery, clause_of, query_of};
 ghost use Rattle.ap_backchain.specs.Below.{AreClausesBelow, IsQueryBelow};
 ghost use Rattle.ap_backchain.specs.Problems.{HasQuery, clauses_in, queries_in};
 

@@ -1,23 +1,30 @@
 //! Whole searches.
 
-ghost use Rattle.std.specs.Prelude.{◌≡◌, ◌<◌, ◌^◌, [], ◌∷◌, IfOk, length, map};
+ghost use Rattle.std.specs.Prelude.{◌≡◌, ℕ, ◌<◌, ◌≤◌, ◌^◌, ◌++◌, [], ◌∷◌, false, true, Some, IfOk, List as list, OnOk, length, map};
 ghost use Rattle.ap_defs.specs.Answers.{outs_of, query_outs};
-ghost use Rattle.ap_defs.specs.Goals.{clause_of, query_of};
-ghost use Rattle.ap_defs.specs.Types.{locals_of};
+ghost use Rattle.ap_defs.specs.Goals.{clause_of, either, goal_of, query_of};
+ghost use Rattle.ap_defs.specs.Renaming.{IsGoalBelow, rename_goal};
+ghost use Rattle.ap_defs.specs.Types.{NominalLocal, locals_of};
 ghost use Rattle.ap_backchain.specs.Below.{AreClausesBelow, IsQueryBelow};
-ghost use Rattle.ap_backchain.specs.Places.{position_of};
-ghost use Rattle.ap_backchain.specs.Positions.{outs_from};
+ghost use Rattle.ap_backchain.specs.Marks.{choice_of, choice_of_goal};
+ghost use Rattle.ap_backchain.specs.Places.{next_of, position_of};
+ghost use Rattle.ap_backchain.specs.Points.{IsFitRest, positions_left};
+ghost use Rattle.ap_backchain.specs.Positions.{outs_from, turned, turned_goal};
+ghost use Rattle.ap_backchain.specs.Searches.{HasPoints, ended, followed, pending_of, positions_with};
 ghost use Rattle.ap_backchain.specs.Starts.{first_position};
 
-use crate::moves::with_goal;
+use crate::choices::choice_at;
+use crate::clauses::{clauses_at, enter_clause};
+use crate::frames::Frame;
 use crate::place::Place;
-use crate::state::state_with;
+use crate::points::{Point, Rest, Save, Untried};
 use crate::turns::{Turn, take_turn};
-use ap_defs::goals::{Clause, Local, Query};
+use ap_defs::goals::{Clause, Goal, Local, Query};
 use ap_defs::lists::List;
 use ap_defs::memory::Memory;
 use ap_defs::paths::Out;
 use ap_defs::terms::Term;
+use ap_store::store::Store;
 use std::alloc::Global;
 
 /// The place where the search of a query to a depth begins.
@@ -29,17 +36,249 @@ pub fn first_place<'a>(
     requires { IsQueryBelow (query_of query.now) }
     ensures { IfOk result (λ b. position_of b ≡ first_position depth (query_of query.now)) }
 {
-    let state = state_with(alloc, query.locals.items())?;
-    let bare = Place {
-        frames: Vec::new(alloc),
-        path: Vec::new(alloc),
-        state,
-        brought: Vec::new(alloc),
-    };
-    with_goal(bare, &query.goal, 0, depth)
+    let mut store = Store::new(alloc);
+    store.make(query.locals.items())?;
+    let mut place = Place::of(alloc, store);
+    place.push_goal(&query.goal, 0, depth)?;
+    Ok(place)
 }
 
-/// The outputs from a place, in order. Places wait on a stack, the last one to be taken first.
+/// Keeps the clauses of an atom that follow the one that was entered, if there are any.
+fn keep_rest<'a>(
+    points: &mut Vec<Point<'a>>,
+    save: Save,
+    untried: Untried<'a>,
+    tried: usize,
+) -> Result<(), Memory>
+    ensures kept { OnOk result (tried < length untried.entry.clauses.now → points.new.items ≡ points.old.items ++ record { save = save; rest = Rest.Clauses (record untried.entry { tried = tried }) } ∷ []) }
+    ensures none { OnOk result (length untried.entry.clauses.now ≤ tried → points.new.items ≡ points.old.items) }
+{
+    if tried < untried.clauses.len() {
+        let rest = Rest::Clauses(Untried { tried, ..untried });
+        points.push(Point { save, rest })?;
+    }
+    Ok(())
+}
+
+/// Enters the first of the clauses of an atom that are left for which that has a solution, and keeps
+/// the ones that follow. It answers whether there is one; where not, all is as before.
+fn try_clauses<'a>(
+    alloc: Global,
+    place: &mut Place<'a>,
+    points: &mut Vec<Point<'a>>,
+    untried: Untried<'a>,
+) -> Result<bool, Memory>
+    requires rest { IsFitRest (next_of place.old) (Rest.Clauses untried) }
+    requires points { HasPoints place.old points.old }
+    ensures left { IfOk result (λ b. positions_with b place.new points.new ≡ positions_left (Rest.Clauses untried.entry) (position_of place.old) ++ pending_of place.old points.old) }
+    ensures points { OnOk result (HasPoints place.new points.new) }
+    ensures none { IfOk result (λ b. b ≡ false → points.new.items ≡ points.old.items) }
+{
+    let save = place.save();
+    let Untried {
+        args,
+        base,
+        depth,
+        clauses,
+        tried,
+    } = untried;
+    'trying: for i in tried..clauses.len() {
+        let choice = i as u32 + 1;
+        if enter_clause(alloc, place, args, base, depth, choice, &clauses[i])? {
+            keep_rest(points, save, untried, i + 1)?;
+            return Ok(true);
+        }
+    }
+    Ok(false)
+}
+
+/// Goes on by the left side of a disjunction, and keeps the right side.
+fn take_left<'a>(
+    place: &mut Place<'a>,
+    points: &mut Vec<Point<'a>>,
+    frame: Frame<'a>,
+    left: &'a Goal<Term>,
+    right: &'a Goal<Term>,
+) -> Result<(), Memory>
+    requires left { IsGoalBelow (next_of place.old) (rename_goal frame.base (goal_of left.now)) }
+    requires right { IsGoalBelow (next_of place.old) (rename_goal frame.base (goal_of right.now)) }
+    requires points { HasPoints place.old points.old }
+    ensures left { OnOk result (positions_with true place.new points.new ≡ followed (turned_goal [] frame.entry.depth (either (rename_goal frame.entry.base (goal_of left.now)) (rename_goal frame.entry.base (goal_of right.now))) (position_of place.old)) (pending_of place.old points.old)) }
+    ensures points { OnOk result (HasPoints place.new points.new) }
+{
+    let save = place.save();
+    place.push_choice(1)?;
+    place.push_goal(left, frame.base, frame.depth)?;
+    let rest = Rest::Right(Frame {
+        goal: right,
+        ..frame
+    });
+    points.push(Point { save, rest })?;
+    Ok(())
+}
+
+/// Goes on by the first way of the goal of a frame, from a place in which the others wait, and keeps
+/// the other ways. It answers whether there is a way.
+fn choose_by<'a>(
+    alloc: Global,
+    clauses: &'a [List<Clause<Term>>],
+    frame: Frame<'a>,
+    place: &mut Place<'a>,
+    points: &mut Vec<Point<'a>>,
+) -> Result<bool, Memory>
+    requires clauses { AreClausesBelow (map (map clause_of) clauses.now) }
+    requires goal { IsGoalBelow (next_of place.old) (rename_goal frame.base (goal_of frame.goal.now)) }
+    requires choosing { (w : ℕ) × (choice_of_goal (map (map clause_of) clauses.now) frame.depth (rename_goal frame.base (goal_of frame.goal.now)) ≡ Some w) }
+    requires points { HasPoints place.old points.old }
+    ensures left { IfOk result (λ b. positions_with b place.new points.new ≡ followed (turned_goal (map (map clause_of) clauses.now) frame.entry.depth (rename_goal frame.entry.base (goal_of frame.entry.goal.now)) (position_of place.old)) (pending_of place.old points.old)) }
+    ensures points { OnOk result (HasPoints place.new points.new) }
+{
+    match frame.goal {
+        Goal::Atom(pred, args) => {
+            let untried = Untried {
+                args: args.items(),
+                base: frame.base,
+                depth: frame.depth - 1,
+                clauses: clauses_at(clauses, *pred),
+                tried: 0,
+            };
+            try_clauses(alloc, place, points, untried)
+        }
+        Goal::Either(left, right) => {
+            take_left(place, points, frame, left, right)?;
+            Ok(true)
+        }
+        Goal::True => unreachable!(),
+        Goal::Equal(_, _) => unreachable!(),
+        Goal::Fresh(_, _) => unreachable!(),
+        Goal::Both(_, _) => unreachable!(),
+        Goal::Exists(_, _) => unreachable!(),
+        Goal::New(_, _) => unreachable!(),
+    }
+}
+
+/// Goes on by the first way of the first goal that waits, which chooses, and keeps the other ways. It
+/// answers whether there is a way.
+fn choose<'a>(
+    alloc: Global,
+    clauses: &'a [List<Clause<Term>>],
+    place: &mut Place<'a>,
+    points: &mut Vec<Point<'a>>,
+) -> Result<bool, Memory>
+    requires clauses { AreClausesBelow (map (map clause_of) clauses.now) }
+    requires choosing { (w : ℕ) × (choice_of (map (map clause_of) clauses.now) (position_of place.old).waiting ≡ Some w) }
+    requires points { HasPoints place.old points.old }
+    ensures left { IfOk result (λ b. (locals : list NominalLocal) → positions_with b place.new points.new ≡ followed (turned (map (map clause_of) clauses.now) locals (position_of place.old)) (pending_of place.old points.old)) }
+    ensures points { OnOk result (HasPoints place.new points.new) }
+{
+    match place.pop_goal() {
+        None => unreachable!(),
+        Some(frame) => choose_by(alloc, clauses, frame, place, points),
+    }
+}
+
+/// One turn of a search, which adds the output with which it ends. It answers whether the search goes
+/// on from the place.
+fn turn_on<'a>(
+    alloc: Global,
+    clauses: &'a [List<Clause<Term>>],
+    locals: &[Local],
+    place: &mut Place<'a>,
+    points: &mut Vec<Point<'a>>,
+    outs: &mut Vec<Out>,
+) -> Result<bool, Memory>
+    requires clauses { AreClausesBelow (map (map clause_of) clauses.now) }
+    requires locals { length locals.now < 2 ^ 64 }
+    requires points { HasPoints place.old points.old }
+    ensures left { IfOk result (λ b. positions_with b place.new points.new ≡ followed (turned (map (map clause_of) clauses.now) (locals_of locals.now) (position_of place.old)) (pending_of place.old points.old)) }
+    ensures outs { OnOk result (outs_of outs.new.items ≡ outs_of outs.old.items ++ ended (turned (map (map clause_of) clauses.now) (locals_of locals.now) (position_of place.old))) }
+    ensures points { OnOk result (HasPoints place.new points.new) }
+{
+    match choice_at(clauses, place) {
+        Some(_) => choose(alloc, clauses, place, points),
+        None => match take_turn(alloc, clauses, locals, place)? {
+            Turn::Goes => Ok(true),
+            Turn::Fails => Ok(false),
+            Turn::Ends(out) => {
+                outs.push(out)?;
+                Ok(false)
+            }
+        },
+    }
+}
+
+/// Goes on by one of the ways that a choice has left, from where the search had come there. It
+/// answers whether there is one.
+fn go_on_by<'a>(
+    alloc: Global,
+    place: &mut Place<'a>,
+    points: &mut Vec<Point<'a>>,
+    rest: Rest<'a>,
+) -> Result<bool, Memory>
+    requires rest { IsFitRest (next_of place.old) rest }
+    requires points { HasPoints place.old points.old }
+    ensures left { IfOk result (λ b. positions_with b place.new points.new ≡ positions_left rest.entry (position_of place.old) ++ pending_of place.old points.old) }
+    ensures points { OnOk result (HasPoints place.new points.new) }
+    ensures none { IfOk result (λ b. b ≡ false → points.new.items ≡ points.old.items) }
+{
+    match rest {
+        Rest::Clauses(untried) => try_clauses(alloc, place, points, untried),
+        Rest::Right(frame) => {
+            place.push_choice(2)?;
+            place.push_goal(frame.goal, frame.base, frame.depth)?;
+            Ok(true)
+        }
+    }
+}
+
+/// Goes back to the latest choice that has a way left, and goes on by it. It answers whether there is
+/// one.
+fn resume<'a>(
+    alloc: Global,
+    place: &mut Place<'a>,
+    points: &mut Vec<Point<'a>>,
+) -> Result<bool, Memory>
+    requires points { HasPoints place.old points.old }
+    ensures left { IfOk result (λ b. positions_with b place.new points.new ≡ pending_of place.old points.old) }
+    ensures points { OnOk result (HasPoints place.new points.new) }
+    ensures none { IfOk result (λ b. b ≡ false → points.new.items ≡ []) }
+{
+    'resuming: while let Some(Point { save, rest }) = points.pop() {
+        place.go_back(save);
+        if go_on_by(alloc, place, points, rest)? {
+            return Ok(true);
+        }
+    }
+    Ok(false)
+}
+
+/// One turn of a search, which adds the output with which it ends; where it does not go on from
+/// there, the search resumes. It answers whether it goes on.
+fn go_on<'a>(
+    alloc: Global,
+    clauses: &'a [List<Clause<Term>>],
+    locals: &[Local],
+    place: &mut Place<'a>,
+    points: &mut Vec<Point<'a>>,
+    outs: &mut Vec<Out>,
+) -> Result<bool, Memory>
+    requires clauses { AreClausesBelow (map (map clause_of) clauses.now) }
+    requires locals { length locals.now < 2 ^ 64 }
+    requires points { HasPoints place.old points.old }
+    ensures left { IfOk result (λ b. positions_with b place.new points.new ≡ followed (turned (map (map clause_of) clauses.now) (locals_of locals.now) (position_of place.old)) (pending_of place.old points.old)) }
+    ensures outs { OnOk result (outs_of outs.new.items ≡ outs_of outs.old.items ++ ended (turned (map (map clause_of) clauses.now) (locals_of locals.now) (position_of place.old))) }
+    ensures points { OnOk result (HasPoints place.new points.new) }
+    ensures none { IfOk result (λ b. b ≡ false → points.new.items ≡ []) }
+{
+    if turn_on(alloc, clauses, locals, place, points, outs)? {
+        Ok(true)
+    } else {
+        resume(alloc, place, points)
+    }
+}
+
+/// The outputs from a place, in order, depth first: where the search does not go on from a place, it
+/// goes back to the latest choice that has a way left.
 pub fn outputs_from<'a>(
     alloc: Global,
     clauses: &'a [List<Clause<Term>>],
@@ -51,20 +290,13 @@ pub fn outputs_from<'a>(
     ensures { IfOk result (λ v. outs_of v.items ≡ outs_from (map (map clause_of) clauses.now) (locals_of locals.now) (position_of first.entry)) }
 {
     let mut outs = Vec::new(alloc);
-    let mut pending = Vec::new(alloc);
-    pending.push(first)?;
-    'searching: while let Some(b) = pending.pop() {
-        match take_turn(alloc, clauses, locals, b)? {
-            Turn::Ends(out) => {
-                outs.push(out)?;
-            }
-            Turn::Goes(mut kids) => {
-                kids.reverse();
-                pending.append(&mut kids)?;
-            }
+    let mut points = Vec::new(alloc);
+    let mut place = first;
+    'searching: loop {
+        if !go_on(alloc, clauses, locals, &mut place, &mut points, &mut outs)? {
+            return Ok(outs);
         }
     }
-    Ok(outs)
 }
 
 /// The outputs of a query to a depth, in order, each with its path and its answer: all answers of

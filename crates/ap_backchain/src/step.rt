@@ -1,8 +1,8 @@
 //! One choice of a branch.
 
-ghost use Rattle.std.specs.Prelude.{◌≡◌, ◌≤◌, ◌^◌, ◌<◌, ◌++◌, [], ◌∷◌, IfOk, List as list, length, map};
+ghost use Rattle.std.specs.Prelude.{◌≡◌, ◌≤◌, ◌-◌, ◌^◌, ◌<◌, ◌++◌, [], ◌∷◌, IfOk, List as list, length, map};
 ghost use Rattle.ap_defs.specs.Goals.{Clauses, clause_of, goal_of};
-ghost use Rattle.ap_defs.specs.Renaming.{IsGoalBelow, rename_goal};
+ghost use Rattle.ap_defs.specs.Renaming.{AreBelow, IsGoalBelow, rename_goal, rename_term as renamed};
 ghost use Rattle.ap_defs.specs.Terms.{term_of};
 ghost use Rattle.ap_defs.specs.Types.{NominalLocal, locals_of};
 ghost use Rattle.ap_search.specs.FitStates.{AreFitClauses};
@@ -11,28 +11,26 @@ ghost use Rattle.ap_search.specs.Prefixes.{beginning};
 ghost use Rattle.ap_backchain.specs.Below.{AreClausesBelow};
 ghost use Rattle.ap_backchain.specs.Branches.{IsChoiceAt, IsChoosing, marks_of_standing, path_of_standing};
 ghost use Rattle.ap_backchain.specs.Marks.{IsAmong, choice_of_goal, clauses_marks, goal_marks, marks_from};
-ghost use Rattle.ap_backchain.specs.Places.{position_of};
-ghost use Rattle.ap_backchain.specs.Positions.{with_choice as choice_on, with_goal as goal_on};
+ghost use Rattle.ap_backchain.specs.Places.{next_of, position_of};
+ghost use Rattle.ap_backchain.specs.Positions.{with_choice, with_goal};
 
 use crate::clauses::{clauses_at, enter_clause};
 use crate::frames::Frame;
-use crate::moves::{with_choice, with_goal};
 use crate::place::Place;
 use crate::standing::{Standing, advance};
 use ap_defs::goals::{Clause, Goal, Local};
 use ap_defs::lists::List;
 use ap_defs::memory::Memory;
 use ap_defs::terms::Term;
-use ap_program::renaming::rename_terms;
 use std::alloc::Global;
 
 /// The search failed after one more choice.
-fn failed_after<'a>(alloc: Global, path: &[u32], choice: u32) -> Result<Standing<'a>, Memory>
+fn failed_after<'a>(path: Vec<u32>, choice: u32) -> Result<Standing<'a>, Memory>
     ensures marks { IfOk result (λ s. (program : Clauses) (locals : list NominalLocal) → marks_of_standing program locals s ≡ []) }
-    ensures path { IfOk result (λ s. path_of_standing s ≡ path.now ++ choice ∷ []) }
+    ensures path { IfOk result (λ s. path_of_standing s ≡ path.items ++ choice ∷ []) }
     ensures choosing { IfOk result (λ s. (program : Clauses) → IsChoosing program s) }
 {
-    let mut longer = path.to_vec(alloc)?;
+    let mut longer = path;
     longer.push(choice)?;
     Ok(Standing::Failed(longer))
 }
@@ -42,31 +40,39 @@ fn choose_clause<'a>(
     alloc: Global,
     clauses: &'a [List<Clause<Term>>],
     locals: &[Local],
-    place: &Place<'a>,
-    args: &[Term],
-    depth: u32,
+    place: Place<'a>,
+    frame: Frame<'a>,
+    args: &'a [Term],
     candidates: &'a [Clause<Term>],
     choice: u32,
 ) -> Result<Standing<'a>, Memory>
     requires clauses { AreClausesBelow (map (map clause_of) clauses.now) }
     requires locals { length locals.now < 2 ^ 64 }
+    requires args { AreBelow (next_of place) (map (renamed frame.base) (map term_of args.now)) }
     requires below { AreFitClauses (map clause_of candidates.now) }
+    requires depth { 1 ≤ frame.depth }
     requires low { 1 ≤ choice }
     requires high { choice ≤ length candidates.now }
-    ensures marks { IfOk result (λ s. marks_of_standing (map (map clause_of) clauses.now) (locals_of locals.now) s ≡ beginning mark_path (place.now.path.items ++ choice ∷ []) (clauses_marks (map (map clause_of) clauses.now) (locals_of locals.now) depth (map term_of args.now) (map clause_of candidates.now) (position_of place.now))) }
-    ensures path { IfOk result (λ s. path_of_standing s ≡ place.now.path.items ++ choice ∷ []) }
+    ensures marks { IfOk result (λ s. marks_of_standing (map (map clause_of) clauses.now) (locals_of locals.now) s ≡ beginning mark_path (place.entry.path.items ++ choice ∷ []) (clauses_marks (map (map clause_of) clauses.now) (locals_of locals.now) (frame.entry.depth - 1) (map (renamed frame.entry.base) (map term_of args.now)) (map clause_of candidates.now) (position_of place.entry))) }
+    ensures path { IfOk result (λ s. path_of_standing s ≡ place.entry.path.items ++ choice ∷ []) }
     ensures choosing { IfOk result (λ s. IsChoosing (map (map clause_of) clauses.now) s) }
 {
+    let mut here = place;
     let clause = &candidates[choice as usize - 1];
-    match enter_clause(alloc, place, args, depth, choice, clause)? {
-        None => {
-            let standing = failed_after(alloc, &place.path, choice)?;
-            Ok(standing)
-        }
-        Some(kid) => {
-            let standing = advance(alloc, clauses, locals, kid)?;
-            Ok(standing)
-        }
+    if enter_clause(
+        alloc,
+        &mut here,
+        args,
+        frame.base,
+        frame.depth - 1,
+        choice,
+        clause,
+    )? {
+        let standing = advance(alloc, clauses, locals, here)?;
+        Ok(standing)
+    } else {
+        let standing = failed_after(here.path, choice)?;
+        Ok(standing)
     }
 }
 
@@ -82,14 +88,15 @@ fn choose_side<'a>(
 ) -> Result<Standing<'a>, Memory>
     requires clauses { AreClausesBelow (map (map clause_of) clauses.now) }
     requires locals { length locals.now < 2 ^ 64 }
-    requires below { IsGoalBelow (length place.state.kinds.items) (rename_goal frame.base (goal_of side.now)) }
-    ensures marks { IfOk result (λ s. marks_of_standing (map (map clause_of) clauses.now) (locals_of locals.now) s ≡ marks_from (map (map clause_of) clauses.now) (locals_of locals.now) (goal_on frame.entry.depth (rename_goal frame.entry.base (goal_of side.now)) (choice_on choice (position_of place.entry)))) }
+    requires below { IsGoalBelow (next_of place) (rename_goal frame.base (goal_of side.now)) }
+    ensures marks { IfOk result (λ s. marks_of_standing (map (map clause_of) clauses.now) (locals_of locals.now) s ≡ marks_from (map (map clause_of) clauses.now) (locals_of locals.now) (with_goal frame.entry.depth (rename_goal frame.entry.base (goal_of side.now)) (with_choice choice (position_of place.entry)))) }
     ensures path { IfOk result (λ s. path_of_standing s ≡ place.entry.path.items ++ choice ∷ []) }
     ensures choosing { IfOk result (λ s. IsChoosing (map (map clause_of) clauses.now) s) }
 {
-    let chosen = with_choice(place, choice)?;
-    let opened = with_goal(chosen, side, frame.base, frame.depth)?;
-    let standing = advance(alloc, clauses, locals, opened)?;
+    let mut here = place;
+    here.push_choice(choice)?;
+    here.push_goal(side, frame.base, frame.depth)?;
+    let standing = advance(alloc, clauses, locals, here)?;
     Ok(standing)
 }
 
@@ -104,7 +111,7 @@ fn choose_by<'a>(
 ) -> Result<Standing<'a>, Memory>
     requires clauses { AreClausesBelow (map (map clause_of) clauses.now) }
     requires locals { length locals.now < 2 ^ 64 }
-    requires goal { IsGoalBelow (length place.state.kinds.items) (rename_goal frame.base (goal_of frame.goal.now)) }
+    requires goal { IsGoalBelow (next_of place) (rename_goal frame.base (goal_of frame.goal.now)) }
     requires choice { IsAmong choice (choice_of_goal (map (map clause_of) clauses.now) frame.depth (rename_goal frame.base (goal_of frame.goal.now))) }
     ensures marks { IfOk result (λ s. marks_of_standing (map (map clause_of) clauses.now) (locals_of locals.now) s ≡ beginning mark_path (place.entry.path.items ++ choice ∷ []) (goal_marks (map (map clause_of) clauses.now) (locals_of locals.now) frame.entry.depth (rename_goal frame.entry.base (goal_of frame.entry.goal.now)) (position_of place.entry))) }
     ensures path { IfOk result (λ s. path_of_standing s ≡ place.entry.path.items ++ choice ∷ []) }
@@ -112,15 +119,14 @@ fn choose_by<'a>(
 {
     match frame.goal {
         Goal::Atom(pred, args) => {
-            let args = rename_terms(alloc, frame.base, args.items())?;
             let candidates = clauses_at(clauses, *pred);
             choose_clause(
                 alloc,
                 clauses,
                 locals,
-                &place,
-                &args,
-                frame.depth - 1,
+                place,
+                frame,
+                args.items(),
                 candidates,
                 choice,
             )
@@ -159,22 +165,10 @@ pub fn choose<'a>(
 {
     match standing {
         Standing::Choosing(_, place) => {
-            let Place {
-                mut frames,
-                path,
-                state,
-                brought,
-            } = place;
-            let first = frames.pop();
-            let rest = Place {
-                frames,
-                path,
-                state,
-                brought,
-            };
-            match first {
+            let mut here = place;
+            match here.pop_goal() {
                 None => unreachable!(),
-                Some(frame) => choose_by(alloc, clauses, locals, frame, rest, choice),
+                Some(frame) => choose_by(alloc, clauses, locals, frame, here, choice),
             }
         }
         Standing::Ended(_) => unreachable!(),

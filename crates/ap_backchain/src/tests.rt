@@ -62,6 +62,14 @@ fn query(goal: Goal<Term>, locals: List<Local>) -> Query<Term> {
     }
 }
 
+fn digit(choice: u32) -> &'static str {
+    match choice {
+        1 => "1",
+        2 => "2",
+        _ => "3",
+    }
+}
+
 /// The outputs as a word: a letter for each, and the choices of its path.
 fn spelled(alloc: Global, outs: &[Out]) -> Result<String, Memory> {
     let mut word = String::new(alloc);
@@ -73,7 +81,7 @@ fn spelled(alloc: Global, outs: &[Out]) -> Result<String, Memory> {
         };
         word.push_str(letter)?;
         for k in path.choices() {
-            word.push_str(if *k == 1 { "1" } else { "2" })?;
+            word.push_str(digit(*k))?;
         }
     }
     Ok(word)
@@ -129,6 +137,66 @@ fn either_side(alloc: Global) -> Result<bool, Memory> {
     reaches(alloc, &[], 5, &query(goal, locals(alloc, 2, 1)?), "F1F2")
 }
 
+fn constant(alloc: Global, constructor: u32) -> Result<Term, Memory> {
+    of(alloc, constructor, Term::Unit)
+}
+
+/// The clause p(k), for a constant k.
+fn fact(alloc: Global, constructor: u32) -> Result<Clause<Term>, Memory> {
+    let mut args = Vec::new(alloc);
+    args.push(constant(alloc, constructor)?)?;
+    Ok(Clause {
+        item: 1,
+        line: 1,
+        pred: 0,
+        args: List::of(args),
+        body: Goal::True,
+        locals: locals(alloc, 0, 0)?,
+    })
+}
+
+/// The clauses p(2), p(3) and p(4).
+fn three_facts(alloc: Global) -> Result<Vec<List<Clause<Term>>>, Memory> {
+    let mut facts = Vec::new(alloc);
+    for constructor in 2..5 {
+        facts.push(fact(alloc, constructor)?)?;
+    }
+    let mut clauses = Vec::new(alloc);
+    clauses.push(List::of(facts))?;
+    Ok(clauses)
+}
+
+/// The atom p(X), where X is variable 0.
+fn any_fact(alloc: Global) -> Result<Goal<Term>, Memory> {
+    let mut args = Vec::new(alloc);
+    args.push(hole(alloc, 0))?;
+    Ok(Goal::Atom(0, List::of(args)))
+}
+
+fn all_clauses(alloc: Global) -> Result<bool, Memory> {
+    let clauses = three_facts(alloc)?;
+    let asked = query(any_fact(alloc)?, locals(alloc, 0, 1)?);
+    Ok(
+        reaches(alloc, clauses.as_slice(), 1, &asked, "F1F2F3")?
+            && reaches(alloc, clauses.as_slice(), 0, &asked, "C")?,
+    )
+}
+
+fn last_clause(alloc: Global) -> Result<bool, Memory> {
+    let clauses = three_facts(alloc)?;
+    let goal = Goal::Both(
+        Box::new(alloc, any_fact(alloc)?)?,
+        Box::new(alloc, Goal::Equal(hole(alloc, 0), constant(alloc, 4)?))?,
+    );
+    let asked = query(goal, locals(alloc, 0, 1)?);
+    reaches(alloc, clauses.as_slice(), 1, &asked, "F3")
+}
+
+fn stuck_first(alloc: Global) -> Result<bool, Memory> {
+    let goal = Goal::Fresh(hole(alloc, 1), named(0));
+    reaches(alloc, &[], 1, &query(goal, locals(alloc, 1, 1)?), "S")
+}
+
 #[test]
 fn a_new_name_stays_inside(rt: HostRuntime) {
     assert!(rt; matches!(new_names(rt.alloc()), Ok(true)));
@@ -137,4 +205,19 @@ fn a_new_name_stays_inside(rt: HostRuntime) {
 #[test]
 fn both_sides_of_a_disjunction_are_tried(rt: HostRuntime) {
     assert!(rt; matches!(either_side(rt.alloc()), Ok(true)));
+}
+
+#[test]
+fn each_clause_is_tried_in_order(rt: HostRuntime) {
+    assert!(rt; matches!(all_clauses(rt.alloc()), Ok(true)));
+}
+
+#[test]
+fn going_back_undoes_what_was_bound(rt: HostRuntime) {
+    assert!(rt; matches!(last_clause(rt.alloc()), Ok(true)));
+}
+
+#[test]
+fn a_variable_is_not_known_to_be_fresh(rt: HostRuntime) {
+    assert!(rt; matches!(stuck_first(rt.alloc()), Ok(true)));
 }

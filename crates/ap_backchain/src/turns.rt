@@ -1,269 +1,212 @@
-//! What the first goal that waits makes of a place.
+//! What the first goal that waits makes of a place, where it does not choose.
 
-ghost use Rattle.std.specs.Prelude.{◌≡◌, ◌≤◌, ◌<◌, ◌^◌, [], ◌∷◌, IfOk, IfSome, length, map};
+ghost use Rattle.std.specs.Prelude.{◌≡◌, ◌<◌, ◌^◌, [], ◌∷◌, if◌then◌else◌, None, IfOk, OnOk, length, map};
 ghost use Rattle.ap_defs.specs.Answers.{found as found_at, out_of};
-ghost use Rattle.ap_defs.specs.Goals.{both, clause_of, either, equal, exists, goal_of, new};
-ghost use Rattle.ap_defs.specs.Renaming.{IsGoalBelow, rename_goal, rename_name, rename_var};
+ghost use Rattle.ap_defs.specs.Goals.{both, clause_of, equal, exists, fresh, goal_of, new};
+ghost use Rattle.ap_defs.specs.Renaming.{IsBelow, IsGoalBelow, rename_goal, rename_name, rename_term as renamed, rename_var};
 ghost use Rattle.ap_defs.specs.Terms.{term_of};
 ghost use Rattle.ap_defs.specs.Types.{locals_of};
 ghost use Rattle.ap_backchain.specs.Below.{AreClausesBelow};
-ghost use Rattle.ap_backchain.specs.Places.{position_of, turned_of};
+ghost use Rattle.ap_backchain.specs.Marks.{choice_of, choice_of_goal};
+ghost use Rattle.ap_backchain.specs.Places.{next_of, position_of, track_of, turned_of};
+ghost use Rattle.ap_backchain.specs.Positions.{turned, turned_goal};
+ghost use Rattle.ap_backchain.specs.Tracks.{GoesFrom};
 ghost use Rattle.ap_search.specs.Records.{answer_with};
-ghost use Rattle.ap_backchain.specs.Positions.{goes, goes_with as going_with, turned, turned_atom, turned_fresh, turned_goal};
-ghost use Rattle.ap_backchain.specs.Views.{option_state, state_of};
 
 use crate::answers::answer_in;
-use crate::clauses::{clauses_at, enter_each};
 use crate::frames::Frame;
 use crate::free_vars::free_vars_of;
-use crate::fresh::{fresh_for_vars, fresh_state};
-use crate::moves::{copy_place, with_choice, with_goal, with_state, with_vars};
 use crate::place::Place;
-use crate::state::{SearchState, unified};
 use ap_defs::goals::{Clause, Goal, Local};
 use ap_defs::lists::List;
 use ap_defs::memory::Memory;
 use ap_defs::paths::{Out, Path};
 use ap_defs::terms::{Name, Term, Var};
-use ap_program::renaming::{rename_term, rename_terms};
-use ap_store::bindings::under_bindings;
+use ap_perm::closures::{Closure, Opened};
+use ap_unify::fresh::{make_fresh, make_fresh_for_each};
+use ap_unify::unify::unify;
 use std::alloc::Global;
 
-/// A search ends with an output, or goes on from each of these placees, in order.
+/// A search goes on from the place, fails there, or ends with an output.
 #[derive(Drop)]
-pub enum Turn<'a> {
+pub enum Turn {
+    Goes,
+    Fails,
     Ends(Out),
-    Goes(Vec<Place<'a>>),
 }
 
-/// The search goes on from one place.
-fn goes_to<'a>(alloc: Global, b: Place<'a>) -> Result<Turn<'a>, Memory>
-    ensures { IfOk result (λ t. turned_of t ≡ goes (position_of b.entry ∷ [])) }
+/// The search goes on where something has a solution.
+fn goes_where(solved: bool) -> Turn
+    ensures { result ≡ (if solved then Turn.Goes else Turn.Fails) }
 {
-    let mut kids = Vec::new(alloc);
-    kids.push(b)?;
-    Ok(Turn::Goes(kids))
-}
-
-/// The search goes on from a place with a state, if there is one.
-fn goes_with<'a>(
-    alloc: Global,
-    b: Place<'a>,
-    state: Option<SearchState>,
-) -> Result<Turn<'a>, Memory>
-    requires { IfSome state (λ s. length b.state.kinds.items ≤ length s.kinds.items) }
-    ensures { IfOk result (λ t. turned_of t ≡ going_with (position_of b.entry) (option_state state)) }
-{
-    match state {
-        None => Ok(Turn::Goes(Vec::new(alloc))),
-        Some(s) => goes_to(alloc, with_state(b, s)),
-    }
+    if solved { Turn::Goes } else { Turn::Fails }
 }
 
 /// The turn of an equation.
-fn turn_of_equation<'a>(alloc: Global, b: Place<'a>, t: Term, u: Term) -> Result<Turn<'a>, Memory>
-    ensures { IfOk result (λ r. turned_of r ≡ turned_goal [] 0 (equal (term_of t) (term_of u)) (position_of b.entry)) }
+fn turn_of_equation<'a>(
+    alloc: Global,
+    place: &mut Place<'a>,
+    base: u64,
+    t: &'a Term,
+    u: &'a Term,
+) -> Result<Turn, Memory>
+    requires left { IsBelow (next_of place.old) (renamed base (term_of t.now)) }
+    requires right { IsBelow (next_of place.old) (renamed base (term_of u.now)) }
+    ensures turned { IfOk result (λ r. turned_of r (position_of place.new) ≡ turned_goal [] 0 (equal (renamed base (term_of t.now)) (renamed base (term_of u.now))) (position_of place.old)) }
+    ensures goes { OnOk result (GoesFrom (track_of place.old) (track_of place.new)) }
 {
-    let state = unified(alloc, &b.state, &[t], &[u])?;
-    goes_with(alloc, b, state)
+    let end = place.store.next();
+    let left = [Closure::of(alloc, base, end, t)];
+    let right = [Closure::of(alloc, base, end, u)];
+    let solved = unify(alloc, &mut place.store, &left, &right)?;
+    Ok(goes_where(solved))
 }
 
-/// The turn of a freshness goal, whose left side stands under the bindings already.
+/// The turn of a freshness goal.
 fn turn_of_fresh<'a>(
     alloc: Global,
-    b: Place<'a>,
-    left: &Term,
-    right: &Term,
-) -> Result<Turn<'a>, Memory>
-    ensures { IfOk result (λ r. turned_of r ≡ turned_fresh (position_of b.entry) (term_of left.now) (term_of right.now)) }
-{
-    match left {
-        Term::Name(a) => {
-            let state = fresh_state(alloc, &b.state, a, right)?;
-            goes_with(alloc, b, state)
-        }
-        Term::Susp(_, _) => Ok(Turn::Ends(Out::Stuck(Path::of(b.path)))),
-        _ => Ok(Turn::Goes(Vec::new(alloc))),
-    }
-}
-
-/// The turn of an atom.
-fn turn_of_atom<'a>(
-    alloc: Global,
-    clauses: &'a [List<Clause<Term>>],
-    b: Place<'a>,
-    depth: u32,
-    pred: u32,
-    args: &[Term],
-) -> Result<Turn<'a>, Memory>
-    requires { AreClausesBelow (map (map clause_of) clauses.now) }
-    ensures { IfOk result (λ r. turned_of r ≡ turned_atom (map (map clause_of) clauses.now) depth pred (map term_of args.now) (position_of b.entry)) }
-{
-    if depth == 0 {
-        return Ok(Turn::Ends(Out::Cut(Path::of(b.path))));
-    }
-    let candidates = clauses_at(clauses, pred);
-    let kids = enter_each(alloc, &b, args, depth - 1, candidates)?;
-    Ok(Turn::Goes(kids))
-}
-
-/// The turn of a disjunction.
-fn turn_of_either<'a>(
-    alloc: Global,
-    b: Place<'a>,
-    depth: u32,
+    place: &mut Place<'a>,
     base: u64,
-    left: &'a Goal<Term>,
-    right: &'a Goal<Term>,
-) -> Result<Turn<'a>, Memory>
-    requires left { IsGoalBelow (length b.state.kinds.items) (rename_goal base (goal_of left.now)) }
-    requires right { IsGoalBelow (length b.state.kinds.items) (rename_goal base (goal_of right.now)) }
-    ensures { IfOk result (λ r. turned_of r ≡ turned_goal [] depth (either (rename_goal base (goal_of left.now)) (rename_goal base (goal_of right.now))) (position_of b.entry)) }
+    t: &'a Term,
+    u: &'a Term,
+) -> Result<Turn, Memory>
+    requires left { IsBelow (next_of place.old) (renamed base (term_of t.now)) }
+    requires right { IsBelow (next_of place.old) (renamed base (term_of u.now)) }
+    ensures turned { IfOk result (λ r. turned_of r (position_of place.new) ≡ turned_goal [] 0 (fresh (renamed base (term_of t.now)) (renamed base (term_of u.now))) (position_of place.old)) }
+    ensures goes { OnOk result (GoesFrom (track_of place.old) (track_of place.new)) }
 {
-    let copied = copy_place(alloc, &b)?;
-    let chosen = with_choice(copied, 1)?;
-    let first = with_goal(chosen, left, base, depth)?;
-    let other = with_choice(b, 2)?;
-    let second = with_goal(other, right, base, depth)?;
-    let mut kids = Vec::new(alloc);
-    kids.push(first)?;
-    kids.push(second)?;
-    Ok(Turn::Goes(kids))
+    let end = place.store.next();
+    let left = place.store.follow(alloc, Closure::of(alloc, base, end, t))?;
+    match left.open(alloc)? {
+        Opened::Name(a) => {
+            let right = Closure::of(alloc, base, end, u);
+            let solved = make_fresh(alloc, &mut place.store, a, &right)?;
+            Ok(goes_where(solved))
+        }
+        Opened::Susp(_, _) => {
+            let path = place.path.to_vec(alloc)?;
+            Ok(Turn::Ends(Out::Stuck(Path::of(path))))
+        }
+        _ => Ok(Turn::Fails),
+    }
 }
 
 /// The turn of a goal with a new name.
 fn turn_of_new<'a>(
     alloc: Global,
-    b: Place<'a>,
+    place: &mut Place<'a>,
     depth: u32,
     base: u64,
     a: Name,
     goal: &'a Goal<Term>,
-) -> Result<Turn<'a>, Memory>
-    requires { IsGoalBelow (length b.state.kinds.items) (new (rename_name base a) (rename_goal base (goal_of goal.now))) }
-    ensures { IfOk result (λ r. turned_of r ≡ turned_goal [] depth (new (rename_name base a) (rename_goal base (goal_of goal.now))) (position_of b.entry)) }
+) -> Result<Turn, Memory>
+    requires { IsGoalBelow (next_of place.old) (new (rename_name base a) (rename_goal base (goal_of goal.now))) }
+    ensures turned { IfOk result (λ r. turned_of r (position_of place.new) ≡ turned_goal [] depth (new (rename_name base a) (rename_goal base (goal_of goal.now))) (position_of place.old)) }
+    ensures goes { OnOk result (GoesFrom (track_of place.old) (track_of place.new)) }
 {
     let vars = free_vars_of(alloc, base, goal)?;
     let fresh_name = Name {
         sort: a.sort,
         num: base + a.num,
     };
-    let state = fresh_for_vars(alloc, &b.state, &fresh_name, &vars)?;
-    let opened = with_goal(b, goal, base, depth)?;
-    goes_with(alloc, opened, state)
+    let solved = make_fresh_for_each(alloc, &mut place.store, fresh_name, &vars)?;
+    place.push_goal(goal, base, depth)?;
+    Ok(goes_where(solved))
 }
 
 /// The turn of a goal that brings a variable.
 fn turn_of_exists<'a>(
-    alloc: Global,
-    b: Place<'a>,
+    place: &mut Place<'a>,
     depth: u32,
     base: u64,
     x: Var,
     goal: &'a Goal<Term>,
-) -> Result<Turn<'a>, Memory>
-    requires { IsGoalBelow (length b.state.kinds.items) (exists (rename_var base x) (rename_goal base (goal_of goal.now))) }
-    ensures { IfOk result (λ r. turned_of r ≡ turned_goal [] depth (exists (rename_var base x) (rename_goal base (goal_of goal.now))) (position_of b.entry)) }
+) -> Result<Turn, Memory>
+    requires { IsGoalBelow (next_of place.old) (exists (rename_var base x) (rename_goal base (goal_of goal.now))) }
+    ensures turned { IfOk result (λ r. turned_of r (position_of place.new) ≡ turned_goal [] depth (exists (rename_var base x) (rename_goal base (goal_of goal.now))) (position_of place.old)) }
+    ensures goes { OnOk result (GoesFrom (track_of place.old) (track_of place.new)) }
 {
     let brought = [Var { num: base + x.num }];
-    let bringing = with_vars(b, &brought)?;
-    let opened = with_goal(bringing, goal, base, depth)?;
-    goes_to(alloc, opened)
+    place.push_vars(&brought)?;
+    place.push_goal(goal, base, depth)?;
+    Ok(Turn::Goes)
 }
 
 /// The turn of a conjunction.
 fn turn_of_both<'a>(
-    alloc: Global,
-    b: Place<'a>,
+    place: &mut Place<'a>,
     depth: u32,
     base: u64,
     left: &'a Goal<Term>,
     right: &'a Goal<Term>,
-) -> Result<Turn<'a>, Memory>
-    requires left { IsGoalBelow (length b.state.kinds.items) (rename_goal base (goal_of left.now)) }
-    requires right { IsGoalBelow (length b.state.kinds.items) (rename_goal base (goal_of right.now)) }
-    ensures { IfOk result (λ r. turned_of r ≡ turned_goal [] depth (both (rename_goal base (goal_of left.now)) (rename_goal base (goal_of right.now))) (position_of b.entry)) }
+) -> Result<Turn, Memory>
+    requires left { IsGoalBelow (next_of place.old) (rename_goal base (goal_of left.now)) }
+    requires right { IsGoalBelow (next_of place.old) (rename_goal base (goal_of right.now)) }
+    ensures turned { IfOk result (λ r. turned_of r (position_of place.new) ≡ turned_goal [] depth (both (rename_goal base (goal_of left.now)) (rename_goal base (goal_of right.now))) (position_of place.old)) }
+    ensures goes { OnOk result (GoesFrom (track_of place.old) (track_of place.new)) }
 {
-    let waiting = with_goal(b, right, base, depth)?;
-    let opened = with_goal(waiting, left, base, depth)?;
-    goes_to(alloc, opened)
+    place.push_goal(right, base, depth)?;
+    place.push_goal(left, base, depth)?;
+    Ok(Turn::Goes)
 }
 
-/// The turn of the goal of a frame, from a place in which the others wait.
+/// The turn of the goal of a frame, which does not choose, from a place in which the others wait.
 fn turn_of_goal<'a>(
     alloc: Global,
     clauses: &'a [List<Clause<Term>>],
     frame: Frame<'a>,
-    b: Place<'a>,
-) -> Result<Turn<'a>, Memory>
-    requires clauses { AreClausesBelow (map (map clause_of) clauses.now) }
-    requires goal { IsGoalBelow (length b.state.kinds.items) (rename_goal frame.base (goal_of frame.goal.now)) }
-    ensures { IfOk result (λ r. turned_of r ≡ turned_goal (map (map clause_of) clauses.now) frame.entry.depth (rename_goal frame.entry.base (goal_of frame.entry.goal.now)) (position_of b.entry)) }
+    place: &mut Place<'a>,
+) -> Result<Turn, Memory>
+    requires goal { IsGoalBelow (next_of place.old) (rename_goal frame.base (goal_of frame.goal.now)) }
+    requires settled { choice_of_goal (map (map clause_of) clauses.now) frame.depth (rename_goal frame.base (goal_of frame.goal.now)) ≡ None }
+    ensures turned { IfOk result (λ r. turned_of r (position_of place.new) ≡ turned_goal (map (map clause_of) clauses.now) frame.entry.depth (rename_goal frame.entry.base (goal_of frame.entry.goal.now)) (position_of place.old)) }
+    ensures goes { OnOk result (GoesFrom (track_of place.old) (track_of place.new)) }
 {
     let Frame { goal, base, depth } = frame;
     match goal {
-        Goal::True => goes_to(alloc, b),
-        Goal::Atom(pred, args) => {
-            let args = rename_terms(alloc, base, args.items())?;
-            turn_of_atom(alloc, clauses, b, depth, *pred, &args)
+        Goal::True => Ok(Turn::Goes),
+        Goal::Equal(t, u) => turn_of_equation(alloc, place, base, t, u),
+        Goal::Fresh(t, u) => turn_of_fresh(alloc, place, base, t, u),
+        Goal::Both(g, h) => turn_of_both(place, depth, base, g, h),
+        Goal::Exists(x, g) => turn_of_exists(place, depth, base, *x, g),
+        Goal::New(a, g) => turn_of_new(alloc, place, depth, base, *a, g),
+        Goal::Atom(_, _) => {
+            prove!(depth == 0);
+            let path = place.path.to_vec(alloc)?;
+            Ok(Turn::Ends(Out::Cut(Path::of(path))))
         }
-        Goal::Equal(t, u) => {
-            let left = rename_term(alloc, base, t)?;
-            let right = rename_term(alloc, base, u)?;
-            turn_of_equation(alloc, b, left, right)
-        }
-        Goal::Fresh(t, u) => {
-            let left = rename_term(alloc, base, t)?;
-            let right = rename_term(alloc, base, u)?;
-            let bound = under_bindings(alloc, &b.state.bindings, &left)?;
-            turn_of_fresh(alloc, b, &bound, &right)
-        }
-        Goal::Both(g, h) => turn_of_both(alloc, b, depth, base, g, h),
-        Goal::Either(g, h) => turn_of_either(alloc, b, depth, base, g, h),
-        Goal::Exists(x, g) => turn_of_exists(alloc, b, depth, base, *x, g),
-        Goal::New(a, g) => turn_of_new(alloc, b, depth, base, *a, g),
+        Goal::Either(_, _) => unreachable!(),
     }
 }
 
 /// The output of a place in which no goal waits.
-fn found<'a>(alloc: Global, locals: &[Local], b: Place<'a>) -> Result<Out, Memory>
+fn found<'a>(alloc: Global, locals: &[Local], place: &Place<'a>) -> Result<Out, Memory>
     requires { length locals.now < 2 ^ 64 }
-    ensures { IfOk result (λ o. out_of o ≡ found_at b.entry.path.items (answer_with (locals_of locals.now) (state_of b.entry.state) b.entry.brought.items)) }
+    ensures { IfOk result (λ o. out_of o ≡ found_at place.now.path.items (answer_with (locals_of locals.now) (position_of place.now).state place.now.brought.items)) }
 {
-    let answer = answer_in(alloc, locals, &b.state, &b.brought)?;
-    Ok(Out::Found(Path::of(b.path), answer))
+    let answer = answer_in(alloc, locals, &place.store, &place.brought)?;
+    let path = place.path.to_vec(alloc)?;
+    Ok(Out::Found(Path::of(path), answer))
 }
 
-/// One turn of the search of a query with these identifiers: the first goal that waits is taken, or
-/// the state is found where none waits.
+/// One turn of the search of a query with these identifiers: the first goal that waits, which does
+/// not choose, is taken, or the state is found where none waits.
 pub fn take_turn<'a>(
     alloc: Global,
     clauses: &'a [List<Clause<Term>>],
     locals: &[Local],
-    b: Place<'a>,
-) -> Result<Turn<'a>, Memory>
-    requires clauses { AreClausesBelow (map (map clause_of) clauses.now) }
+    place: &mut Place<'a>,
+) -> Result<Turn, Memory>
+    requires settled { choice_of (map (map clause_of) clauses.now) (position_of place.old).waiting ≡ None }
     requires locals { length locals.now < 2 ^ 64 }
-    ensures { IfOk result (λ r. turned_of r ≡ turned (map (map clause_of) clauses.now) (locals_of locals.now) (position_of b.entry)) }
+    ensures turned { IfOk result (λ r. turned_of r (position_of place.new) ≡ turned (map (map clause_of) clauses.now) (locals_of locals.now) (position_of place.old)) }
+    ensures goes { OnOk result (GoesFrom (track_of place.old) (track_of place.new)) }
 {
-    let Place {
-        mut frames,
-        path,
-        state,
-        brought,
-    } = b;
-    let first = frames.pop();
-    let rest = Place {
-        frames,
-        path,
-        state,
-        brought,
-    };
-    match first {
+    match place.pop_goal() {
         None => {
-            let out = found(alloc, locals, rest)?;
+            let out = found(alloc, locals, place)?;
             Ok(Turn::Ends(out))
         }
-        Some(frame) => turn_of_goal(alloc, clauses, frame, rest),
+        Some(frame) => turn_of_goal(alloc, clauses, frame, place),
     }
 }

@@ -1,70 +1,61 @@
 //! Variables of terms, and ascending sets of variables.
 
-ghost use Rattle.std.specs.Prelude.{◌≡◌, ◌++◌, ◌^◌, [], IfOk, List as list, OnOk, map};
-ghost use Rattle.ap_defs.specs.Answers.{add_var, ascending_vars};
-ghost use Rattle.ap_defs.specs.Freshness.{var_eq};
+ghost use Rattle.std.specs.Prelude.{◌≡◌, ◌++◌, ◌^◌, [], IfOk, OnOk, map};
+ghost use Rattle.ap_defs.specs.Answers.{ascending_vars};
 ghost use Rattle.ap_defs.specs.Occurrences.{vars_of_terms, without_var};
 ghost use Rattle.ap_defs.specs.Renaming.{AreBelow, IsBelow, rename_term as renamed};
 ghost use Rattle.ap_defs.specs.Terms.{term_of};
 ghost use Rattle.ap_defs.specs.Unification.{vars_then};
-ghost use Rattle.ap_defs.specs.declared.terms.Var.{Var as variable};
 
 use ap_defs::memory::Memory;
 use ap_defs::terms::{Cond, Term, Var};
 use std::alloc::Global;
 
-/// Adds a variable to a set.
-#[tactic(auto, using(crate::proofs::VarLemmas::add_there, crate::proofs::VarLemmas::add_between))]
-fn add_var_to(vars: &mut Vec<Var>, x: Var) -> Result<(), Memory>
-    ensures { OnOk result (vars.new.items ≡ add_var x vars.old.items) }
-{
-    for place in 0..vars.len() {
-        if x.num == vars[place].num {
-            return Ok(());
-        }
-        if x.num < vars[place].num {
-            vars.insert(place, x)?;
-            return Ok(());
-        }
-    }
-    vars.push(x)?;
-    Ok(())
-}
-
-/// Adds the variables of a term to a set, from the last one on.
+/// Adds the variables of a term after others.
 fn add_vars_of(vars: &mut Vec<Var>, t: &Term) -> Result<(), Memory>
-    ensures { OnOk result ((xs : list variable) → vars.old.items ≡ ascending_vars xs → vars.new.items ≡ ascending_vars (vars_then (term_of t.now) xs)) }
+    ensures { OnOk result (vars.new.items ≡ vars.old.items ++ vars_then (term_of t.now) []) }
 {
     match t {
         Term::Unit | Term::Name(_) => Ok(()),
         Term::Pair(left, right) => {
-            add_vars_of(vars, right)?;
-            add_vars_of(vars, left)
+            add_vars_of(vars, left)?;
+            add_vars_of(vars, right)
         }
         Term::App(_, argument) => add_vars_of(vars, argument),
         Term::Abs(_, body) => add_vars_of(vars, body),
-        Term::Susp(_, x) => add_var_to(vars, *x),
+        Term::Susp(_, x) => {
+            vars.push(*x)?;
+            Ok(())
+        }
     }
 }
 
-/// Adds the variables of terms to a set, from the last one on.
+/// Adds the variables of terms after others.
 pub fn add_vars_of_terms(vars: &mut Vec<Var>, terms: &[Term]) -> Result<(), Memory>
-    ensures { OnOk result ((xs : list variable) → vars.old.items ≡ ascending_vars xs → vars.new.items ≡ ascending_vars (vars_of_terms (map term_of terms.now) ++ xs)) }
+    ensures { OnOk result (vars.new.items ≡ vars.old.items ++ vars_of_terms (map term_of terms.now)) }
 {
-    'adding: for i in (0..terms.len()).rev() {
-        add_vars_of(vars, &terms[i])?;
+    'adding: for t in terms {
+        add_vars_of(vars, t)?;
     }
     Ok(())
 }
 
-/// Adds the variables of conditions to a set, from the last one on.
+/// Adds the variables of conditions after others.
 pub fn add_vars_of_conds(vars: &mut Vec<Var>, conds: &[Cond]) -> Result<(), Memory>
-    ensures { OnOk result ((xs : list variable) → vars.old.items ≡ ascending_vars xs → vars.new.items ≡ ascending_vars (map (λ c. c.var) conds.now ++ xs)) }
+    ensures { OnOk result (vars.new.items ≡ vars.old.items ++ map (λ c. c.var) conds.now) }
 {
-    'adding: for i in (0..conds.len()).rev() {
-        add_var_to(vars, conds[i].var)?;
+    'adding: for c in conds {
+        vars.push(c.var)?;
     }
     Ok(())
+}
+
+/// Makes a set of variables, which ascends. It takes no memory.
+pub fn make_ascending(vars: &mut Vec<Var>)
+    ensures { vars.new.items ≡ ascending_vars vars.old.items }
+{
+    vars.sort_unstable();
+    vars.dedup();
 }
 
 /// The variables but one.

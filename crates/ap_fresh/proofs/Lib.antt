@@ -1,3 +1,4 @@
 pub mod SetLemmas
 pub mod VisitLemmas
 pub mod StepLemmas
+pub mod RenamedLemmas

@@ -12,6 +12,7 @@ use Rattle.ap_fresh.specs.Reduction.{added}
 use Rattle.ap_perm.proofs.LookupLemmas.{carried_out_abs, carried_out_act, carried_out_app, carried_out_bound, carried_out_name, carried_out_pair, carried_out_unbound, carried_out_unit}
 use Rattle.ap_perm.specs.Lookups.{Bound, IsRanked, carried_out}
 use Rattle.ap_theory.proofs.ReductionLemmas.{reduce_act}
+use Rattle.ap_theory.proofs.TermLemmas.{act_term_none}
 
 -- what follows from a fact about a success
 pub on_ok : {T E : Type 0} (r : Result T E) {A B : Type 0} → (A → B) → OnOk r A → OnOk r B
@@ -52,3 +53,9 @@ module _ (bound : Bound) (rank : Var → ℕ) (ranked : IsRanked bound rank) whe
   bound_problem a q x p t u e h =
       ap (problem a) e ∙ ap (reduce a) (carried_out_bound bound rank ranked q x (act_term p t) h) ∙ reduce_act q a (carried_out bound rank (act_term p t))
       ∙ ap (reduce (act_name (inverse q) a)) (carried_out_act bound rank p t) ∙ reduce_act p (act_name (inverse q) a) (carried_out bound rank t)
+
+  pub moved_problem : (a : Name) (p : List Swap) (t : NominalTerm) → problem a (act_term p t) ≡ problem (act_name (inverse p) a) t
+  moved_problem a p t = ap (reduce a) (carried_out_act bound rank p t) ∙ reduce_act p a (carried_out bound rank t)
+
+  pub var_problem : (a : Name) (x : Var) (t : NominalTerm) → bound x ≡ Some t → problem a (susp [] x) ≡ problem a t
+  var_problem a x t h = ap (reduce a) (carried_out_bound bound rank ranked [] x t h ∙ act_term_none (carried_out bound rank t))

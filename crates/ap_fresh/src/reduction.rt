@@ -1,16 +1,21 @@
 //! Freshness problems, reduced to conditions on unbound variables.
 
-ghost use Rattle.std.specs.Prelude.{◌≡◌, true, false, None, Some, IfOk, OnOk, IsErrOf, IsOkUnless};
+ghost use Rattle.std.specs.Prelude.{◌≡◌, [], true, false, None, Some, IfOk, OnOk, IsErrOf, IsOkUnless, map};
 ghost use Rattle.ap_defs.specs.Freshness.{add_cond, cond_before, cond_eq, reduce as by_rules};
-ghost use Rattle.ap_defs.specs.Terms.{term_of};
+ghost use Rattle.ap_defs.specs.Permutations.{act_name, inverse};
+ghost use Rattle.ap_defs.specs.Renaming.{AreSwapsBelow, IsBelow, rename_swap, rename_term};
+ghost use Rattle.ap_defs.specs.Terms.{susp, term_of};
 ghost use Rattle.ap_theory.specs.StatementsOnConditions.{collected, is_free};
+ghost use Rattle.ap_perm.specs.Closures.{closure_term};
 ghost use Rattle.ap_perm.specs.Lookups.{carried_out};
 ghost use Rattle.ap_fresh.specs.Reduction.{added, IsLeast};
 
 use crate::error::FreshError;
-use ap_defs::terms::{Cond, Name, Term};
+use ap_defs::terms::{Cond, Name, Swap, Term, Var};
+use ap_perm::closures::Closure;
+use ap_perm::joining::numbered;
 use ap_perm::look::Look;
-use ap_perm::swappings::preimage;
+use ap_perm::swappings::{preimage, swapped};
 use std::alloc::Global;
 
 /// Whether two conditions are one.
@@ -48,39 +53,101 @@ fn add(conds: &mut Vec<Cond>, c: Cond) -> Result<(), FreshError>
     Ok(())
 }
 
-/// Adds the conditions to which `a # t` reduces under the bindings, from the last to the first.
-fn collect<L: Look>(a: Name, t: &Term, look: &L, conds: &mut Vec<Cond>) -> Result<(), FreshError>
-    ensures added { OnOk result (added (by_rules a (carried_out (L.bound look.now) (L.rank look.now) (term_of t.now))) conds.old.items ≡ Some conds.new.items) }
-    ensures refuted { IsErrOf result FreshError.Refuted → by_rules a (carried_out (L.bound look.now) (L.rank look.now) (term_of t.now)) ≡ None }
+/// The name of which a list of swappings makes `a`, once their numbers are higher by `base`, and then
+/// below `end`.
+fn preimage_from(base: u64, end: u64, swaps: &[Swap], a: Name) -> Name
+    requires { AreSwapsBelow end (map (rename_swap base) swaps.now) }
+    ensures { result ≡ act_name (inverse (map (rename_swap base) swaps.now)) a }
+{
+    let mut moved = a;
+    for swap in swaps {
+        let numbered = Swap {
+            sort: swap.sort,
+            left: base + swap.left,
+            right: base + swap.right,
+        };
+        moved = swapped(&numbered, moved);
+    }
+    moved
+}
+
+/// Adds the conditions to which `a # t` reduces under the bindings, from the last to the first. The
+/// identifiers of the term are numbered from `base` on, below `end`.
+fn collect<L: Look>(
+    a: Name,
+    base: u64,
+    end: u64,
+    t: &Term,
+    look: &L,
+    conds: &mut Vec<Cond>,
+) -> Result<(), FreshError>
+    requires { IsBelow end (rename_term base (term_of t.now)) }
+    ensures added { OnOk result (added (by_rules a (carried_out (L.bound look.now) (L.rank look.now) (rename_term base (term_of t.now)))) conds.old.items ≡ Some conds.new.items) }
+    ensures refuted { IsErrOf result FreshError.Refuted → by_rules a (carried_out (L.bound look.now) (L.rank look.now) (rename_term base (term_of t.now))) ≡ None }
 {
     match t {
         Term::Unit => Ok(()),
         Term::Name(b) => {
-            if *b == a {
+            if numbered(base, *b) == a {
                 Err(FreshError::Refuted)
             } else {
                 Ok(())
             }
         }
         Term::Pair(left, right) => {
-            collect(a, right, look, conds)?;
-            collect(a, left, look, conds)
+            collect(a, base, end, right, look, conds)?;
+            collect(a, base, end, left, look, conds)
         }
-        Term::App(_, argument) => collect(a, argument, look, conds),
+        Term::App(_, argument) => collect(a, base, end, argument, look, conds),
         Term::Abs(b, body) => {
-            if a == *b {
+            if a == numbered(base, *b) {
                 Ok(())
             } else {
-                collect(a, body, look, conds)
+                collect(a, base, end, body, look, conds)
             }
         }
         Term::Susp(swaps, x) => {
-            let name = preimage(swaps.items(), a);
-            match look.look(*x) {
-                None => add(conds, Cond { name, var: *x }),
-                Some((p, bound)) => collect(p.preimage(name), bound, look, conds),
+            let name = preimage_from(base, end, swaps.items(), a);
+            let var = Var { num: base + x.num };
+            match look.look(var) {
+                None => add(conds, Cond { name, var }),
+                Some(c) => {
+                    let name = preimage(&c.swaps, name);
+                    collect(name, c.base, c.end, c.term, look, conds)
+                }
             }
         }
+    }
+}
+
+/// Adds the conditions to which `a # t` reduces under the bindings to a set, from the last to the
+/// first. `Refuted` comes exactly where there are none.
+pub fn add_reduced<L: Look>(
+    a: Name,
+    t: &Closure<'_>,
+    look: &L,
+    conds: &mut Vec<Cond>,
+) -> Result<(), FreshError>
+    ensures added { OnOk result (added (by_rules a (carried_out (L.bound look.now) (L.rank look.now) (closure_term t.now))) conds.old.items ≡ Some conds.new.items) }
+    ensures refuted { IsErrOf result FreshError.Refuted → by_rules a (carried_out (L.bound look.now) (L.rank look.now) (closure_term t.now)) ≡ None }
+{
+    collect(preimage(&t.swaps, a), t.base, t.end, t.term, look, conds)
+}
+
+/// Adds the conditions to which `a # x` reduces under the bindings to a set. `Refuted` comes exactly
+/// where there are none.
+pub fn add_reduced_var<L: Look>(
+    a: Name,
+    x: Var,
+    look: &L,
+    conds: &mut Vec<Cond>,
+) -> Result<(), FreshError>
+    ensures added { OnOk result (added (by_rules a (carried_out (L.bound look.now) (L.rank look.now) (susp [] x))) conds.old.items ≡ Some conds.new.items) }
+    ensures refuted { IsErrOf result FreshError.Refuted → by_rules a (carried_out (L.bound look.now) (L.rank look.now) (susp [] x)) ≡ None }
+{
+    match look.look(x) {
+        None => add(conds, Cond { name: a, var: x }),
+        Some(c) => add_reduced(a, c, look, conds),
     }
 }
 
@@ -90,13 +157,18 @@ fn collect<L: Look>(a: Name, t: &Term, look: &L, conds: &mut Vec<Cond>) -> Resul
 /// then by the number of the name, then by its sort.
 ///
 /// `Refuted` comes exactly where `a` is free in the term, so that no conditions are enough.
-pub fn reduce<L: Look>(alloc: Global, a: Name, t: &Term, look: &L) -> Result<Vec<Cond>, FreshError>
-    ensures conditions { IfOk result (λ conds. collected (by_rules a (carried_out (L.bound look.now) (L.rank look.now) (term_of t.now))) ≡ Some conds.items) }
-    ensures least { IfOk result (λ conds. IsLeast a (carried_out (L.bound look.now) (L.rank look.now) (term_of t.now)) conds.items) }
-    ensures fresh { OnOk result (is_free a (carried_out (L.bound look.now) (L.rank look.now) (term_of t.now)) ≡ false) }
-    ensures refuted { IsErrOf result FreshError.Refuted → is_free a (carried_out (L.bound look.now) (L.rank look.now) (term_of t.now)) ≡ true }
+pub fn reduce<L: Look>(
+    alloc: Global,
+    a: Name,
+    t: &Closure<'_>,
+    look: &L,
+) -> Result<Vec<Cond>, FreshError>
+    ensures conditions { IfOk result (λ conds. collected (by_rules a (carried_out (L.bound look.now) (L.rank look.now) (closure_term t.now))) ≡ Some conds.items) }
+    ensures least { IfOk result (λ conds. IsLeast a (carried_out (L.bound look.now) (L.rank look.now) (closure_term t.now)) conds.items) }
+    ensures fresh { OnOk result (is_free a (carried_out (L.bound look.now) (L.rank look.now) (closure_term t.now)) ≡ false) }
+    ensures refuted { IsErrOf result FreshError.Refuted → is_free a (carried_out (L.bound look.now) (L.rank look.now) (closure_term t.now)) ≡ true }
 {
     let mut conds = Vec::new(alloc);
-    collect(a, t, look, &mut conds)?;
+    add_reduced(a, t, look, &mut conds)?;
     Ok(conds)
 }

@@ -1,10 +1,15 @@
+ghost use Rattle.std.specs.Prelude.{◌≡◌, false};
+ghost use Rattle.ap_defs.specs.Renaming.{IsBelow, rename_term};
+ghost use Rattle.ap_defs.specs.Substitution.{occurs};
+ghost use Rattle.ap_defs.specs.Terms.{term_of};
+
 use crate::error::FreshError;
 use crate::one_binding::OneBinding;
 use crate::reduction::reduce;
 use ap_defs::lists::List;
 use ap_defs::memory::Memory;
-use ap_defs::terms::{Cond, Name, Swap, Term, Var};
-use ap_perm::perm::Perm;
+use ap_defs::terms::{Name, Swap, Term, Var};
+use ap_perm::closures::Closure;
 use std::alloc::Global;
 
 const X: Var = Var { num: 0 };
@@ -17,9 +22,7 @@ const B: Name = Name { sort: 0, num: 1 };
 
 const C: Name = Name { sort: 0, num: 2 };
 
-const OF_OTHER_SORT: Name = Name { sort: 1, num: 0 };
-
-fn swap(left: u64, right: u64) -> Swap {
+const fn swap(left: u64, right: u64) -> Swap {
     Swap {
         sort: 0,
         left,
@@ -27,84 +30,53 @@ fn swap(left: u64, right: u64) -> Swap {
     }
 }
 
-fn waiting(alloc: Global, swaps: &[Swap], x: Var) -> Result<Term, Memory> {
-    let swaps = swaps.to_vec(alloc)?;
-    Ok(Term::Susp(List::of(swaps), x))
+/// X is bound to (a b)(b c) acting on the term.
+#[tactic(auto, using(ap_theory::proofs::TermLemmas::occurs_act))]
+fn bound_to<'a>(alloc: Global, term: &'a Term) -> Result<OneBinding<'a>, Memory>
+    requires below { IsBelow 3 (rename_term 0 (term_of term.now)) }
+    requires apart { occurs (record { num = 0 }) (rename_term 0 (term_of term.now)) ≡ false }
+{
+    let closure = Closure::of(alloc, 0, 3, term).moved_by(alloc, &[swap(0, 1), swap(1, 2)])?;
+    Ok(OneBinding { var: X, closure })
 }
 
-fn pair(alloc: Global, left: Term, right: Term) -> Result<Term, Memory> {
-    Ok(Term::Pair(Box::new(alloc, left)?, Box::new(alloc, right)?))
-}
-
-fn abstraction(alloc: Global, binder: Name, body: Term) -> Result<Term, Memory> {
-    Ok(Term::Abs(binder, Box::new(alloc, body)?))
-}
-
-/// X is bound to (a b)(b c) acting on (c, a).
-fn names_for_x(alloc: Global) -> Result<OneBinding, Memory> {
-    Ok(OneBinding {
-        var: X,
-        perm: Perm::of(alloc, &[swap(0, 1), swap(1, 2)])?,
-        term: Term::Pair(
-            Box::new(alloc, Term::Name(C))?,
-            Box::new(alloc, Term::Name(A))?,
-        ),
-    })
-}
-
-/// X is bound to (a b)(b c) acting on Y.
-fn y_for_x(alloc: Global) -> Result<OneBinding, Memory> {
-    Ok(OneBinding {
-        var: X,
-        perm: Perm::of(alloc, &[swap(0, 1), swap(1, 2)])?,
-        term: Term::Susp(List::of(Vec::new(alloc)), Y),
-    })
-}
-
-fn leaves(alloc: Global, a: Name, t: &Term, look: &OneBinding, names: &[Name]) -> bool {
-    match reduce(alloc, a, t, look) {
+/// The names of the conditions on Y to which freshness for X reduces, or none where it is refuted.
+fn left(alloc: Global, a: Name, look: &OneBinding<'_>) -> Result<Option<Vec<Name>>, Memory> {
+    let x = Term::Susp(List::of(Vec::new(alloc)), X);
+    match reduce(alloc, a, &Closure::of(alloc, 0, 1, &x), look) {
         Ok(conds) => {
-            conds.iter().all(|c| c.var == Y)
-                && conds.len() == names.len()
-                && conds.iter().zip(names).all(|(c, name)| c.name == *name)
+            let mut names = Vec::new(alloc);
+            for c in &conds {
+                if c.var == Y {
+                    names.push(c.name)?;
+                }
+            }
+            Ok(Some(names))
         }
-        Err(_) => false,
+        Err(FreshError::Refuted) => Ok(None),
+        Err(FreshError::Memory) => Err(Memory),
     }
 }
 
-fn is_refuted(alloc: Global, a: Name, t: &Term, look: &OneBinding) -> bool {
-    matches!(reduce(alloc, a, t, look), Err(FreshError::Refuted))
+fn is_left(alloc: Global, a: Name, look: &OneBinding<'_>, b: Name) -> Result<bool, Memory> {
+    let names = left(alloc, a, look)?;
+    Ok(matches!(&names, Some(names) if names.as_slice() == [b].as_slice()))
 }
 
-fn names_of_a_bound_term(alloc: Global) -> Result<bool, Memory> {
-    let look = names_for_x(alloc)?;
-    let x = waiting(alloc, &[swap(0, 2)], X)?;
-    Ok(
-        is_refuted(alloc, B, &x, &look)
-            && is_refuted(alloc, C, &x, &look)
-            && leaves(alloc, A, &x, &look, &[]),
-    )
+fn bound_names(alloc: Global) -> Result<bool, Memory> {
+    let term = Term::Name(C);
+    let look = bound_to(alloc, &term)?;
+    Ok(left(alloc, A, &look)?.is_none() && left(alloc, B, &look)?.is_some())
 }
 
-fn conditions_of_a_bound_term(alloc: Global) -> Result<bool, Memory> {
-    let look = y_for_x(alloc)?;
-    let twice = pair(
-        alloc,
-        waiting(alloc, &[], X)?,
-        waiting(alloc, &[swap(0, 1), swap(1, 2)], Y)?,
-    )?;
-    let both = pair(alloc, waiting(alloc, &[], Y)?, twice)?;
-    let own = abstraction(alloc, A, Term::Name(A))?;
-    let other = abstraction(alloc, A, Term::Name(OF_OTHER_SORT))?;
-    Ok(
-        leaves(alloc, A, &both, &look, &[A, C])
-            && leaves(alloc, A, &own, &look, &[])
-            && is_refuted(alloc, OF_OTHER_SORT, &other, &look),
-    )
+fn bound_variables(alloc: Global) -> Result<bool, Memory> {
+    let term = Term::Susp(List::of(Vec::new(alloc)), Y);
+    let look = bound_to(alloc, &term)?;
+    Ok(is_left(alloc, A, &look, C)? && is_left(alloc, B, &look, A)? && is_left(alloc, C, &look, B)?)
 }
 
 #[test]
 fn freshness_is_reduced_under_bindings(rt: HostRuntime) {
-    assert!(rt; matches!(names_of_a_bound_term(rt.alloc()), Ok(true)));
-    assert!(rt; matches!(conditions_of_a_bound_term(rt.alloc()), Ok(true)));
+    assert!(rt; matches!(bound_names(rt.alloc()), Ok(true)));
+    assert!(rt; matches!(bound_variables(rt.alloc()), Ok(true)));
 }

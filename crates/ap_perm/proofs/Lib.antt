@@ -1,3 +1,5 @@
 pub mod SwappingLemmas
 pub mod PermLemmas
 pub mod LookupLemmas
+pub mod ClosureLemmas
+pub mod VisitLemmas

@@ -1,3 +1,5 @@
 pub mod Names
 pub mod Lookups
 pub mod StatementsOnLookups
+pub mod BelowProps
+pub mod Closures

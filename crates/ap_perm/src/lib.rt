@@ -1,6 +1,8 @@
 //! Permutations of names, and lookups of what variables are bound to.
 #![tactic(auto)]
 
+pub mod closures;
+pub mod joining;
 pub mod laws;
 pub mod look;
 pub mod perm;

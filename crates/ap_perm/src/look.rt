@@ -1,15 +1,16 @@
 //! Lookups of what variables are bound to.
 
 ghost use Rattle.std.specs.Prelude.{◌≡◌, ℕ, Option, Some, None, MatchOption};
-ghost use Rattle.ap_defs.specs.Terms.{NominalTerm, act_term, term_of};
+ghost use Rattle.ap_defs.specs.Terms.{NominalTerm};
 ghost use Rattle.ap_defs.specs.declared.terms.Var.{Var};
+ghost use Rattle.ap_perm.specs.Closures.{closure_term};
 ghost use Rattle.ap_perm.specs.Lookups.{IsRanked};
 
-use crate::perm::Perm;
-use ap_defs::terms::{Term, Var};
+use crate::closures::Closure;
+use ap_defs::terms::Var;
 
-/// What variables are bound to: each bound one to a permutation and a term on which it acts. No
-/// variable is reached from itself through bindings, since their ranks fall.
+/// What variables are bound to, each bound one to a closure. No variable is reached from itself
+/// through bindings, since their ranks fall.
 pub trait Look {
     /// The term to which a variable is bound, if it is bound.
     ghost bound: { Self → Var → Option NominalTerm };
@@ -18,8 +19,8 @@ pub trait Look {
     ghost rank: { Self → Var → ℕ };
 
     /// The binding of a variable, or none where it is unbound. It takes no memory.
-    fn look(&self, v: Var) -> Option<(&Perm, &Term)>
-        ensures { MatchOption result (bound self.now v ≡ None) (λ r. bound self.now v ≡ Some (act_term r.0.now (term_of r.1.now))) };
+    fn look(&self, v: Var) -> Option<&Closure<'_>>
+        ensures { MatchOption result (bound self.now v ≡ None) (λ c. bound self.now v ≡ Some (closure_term c.now)) };
 
     ghost ranked: { (l : Self) → IsRanked (bound l) (rank l) };
 }

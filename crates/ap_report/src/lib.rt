@@ -7,11 +7,12 @@ mod report;
 mod solver;
 mod status;
 mod text;
+mod wanted;
 
 pub use report::Report;
-pub use solver::{Alone, Solver};
 pub use status::Status;
-pub use text::{report_text, report_text_by};
+pub use text::report_text;
+pub use wanted::Wanted;
 
 #[cfg(test)]
 mod tests;

@@ -1,31 +1,55 @@
-//! Ways to search the queries of a program.
+//! The outputs of a query, by one worker or by several.
+
+ghost use Rattle.std.specs.Prelude.{◌≡◌, ◌-◌, ◌<◌, ◌≤◌, Some, IfOk, slice_get};
+ghost use Rattle.ap_defs.specs.Answers.{outs_of, query_outs};
+ghost use Rattle.ap_defs.specs.Goals.{NominalQuery};
+ghost use Rattle.ap_backchain.specs.Problems.{HasQuery, clauses_in, queries_in};
 
 use ap_backchain::problem::{Problem, outputs};
+use ap_book::merge;
 use ap_defs::memory::Memory;
 use ap_defs::paths::Out;
+use ap_io::Gate;
+use ap_replay::problem_tree::ProblemTree;
+use ap_steal::search;
 use std::alloc::Global;
+use std::sync::Wait;
+use std::thread::Threads;
 
-/// A way to search the queries of a program: by one worker or by several.
-pub trait Solver {
-    ghost use Rattle.std.specs.Prelude.{◌≡◌, ◌-◌, Some, IfOk, slice_get};
-    ghost use Rattle.ap_defs.specs.Answers.{outs_of, query_outs};
-    ghost use Rattle.ap_defs.specs.Goals.{NominalQuery};
-    ghost use Rattle.ap_backchain.specs.Problems.{HasQuery, clauses_in, queries_in};
-
-    /// The outputs of a query to a depth, in order, each with its path and its answer: those of
-    /// sequential nominal resolution (Cheney and Urban, "Nominal Logic Programming"). The only error
-    /// is want of memory.
-    fn solve(&self, alloc: Global, problem: &Problem<'_>) -> Result<Vec<Out>, Memory>
-        requires { HasQuery problem.now }
-        ensures { IfOk result (λ v. (q : NominalQuery) → slice_get (queries_in problem.now) (problem.now.query - 1) ≡ Some q → outs_of v.items ≡ query_outs (clauses_in problem.now) problem.now.depth q) };
+/// The outputs of a query, which so many workers find between them.
+fn search_beside<R: Threads + Wait + Sync, G: Gate>(
+    rt: &R,
+    alloc: Global,
+    gate: &G,
+    workers: u32,
+    problem: &Problem<'_>,
+) -> Result<Vec<Out>, Memory>
+    requires query { HasQuery problem.now }
+    requires workers { (0 < workers) × (workers ≤ 64) }
+    ensures { IfOk result (λ v. (q : NominalQuery) → slice_get (queries_in problem.now) (problem.now.query - 1) ≡ Some q → outs_of v.items ≡ query_outs (clauses_in problem.now) problem.now.depth q) }
+{
+    let tree = ProblemTree::of(*problem);
+    let closed = search(rt, alloc, &tree, workers, gate)?;
+    merge(alloc, closed)
 }
 
-/// The search by the caller alone, depth first.
-#[derive(Clone, Copy, Debug)]
-pub struct Alone;
-
-impl Solver for Alone {
-    fn solve(&self, alloc: Global, problem: &Problem<'_>) -> Result<Vec<Out>, Memory> {
+/// The outputs of a query to a depth, in order, each with its path and its answer: those of sequential
+/// nominal resolution (Cheney and Urban, "Nominal Logic Programming"), whoever finds them. One worker
+/// alone searches without paths and without the gate. The only error is want of memory.
+pub(crate) fn solve<R: Threads + Wait + Sync, G: Gate>(
+    rt: &R,
+    alloc: Global,
+    gate: &G,
+    workers: u32,
+    problem: &Problem<'_>,
+) -> Result<Vec<Out>, Memory>
+    requires query { HasQuery problem.now }
+    requires workers { (0 < workers) × (workers ≤ 64) }
+    ensures { IfOk result (λ v. (q : NominalQuery) → slice_get (queries_in problem.now) (problem.now.query - 1) ≡ Some q → outs_of v.items ≡ query_outs (clauses_in problem.now) problem.now.depth q) }
+{
+    if workers == 1 {
         outputs(alloc, problem)
+    } else {
+        search_beside(rt, alloc, gate, workers, problem)
     }
 }

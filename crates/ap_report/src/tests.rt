@@ -1,7 +1,10 @@
 use super::*;
 use ap_defs::memory::Memory;
+use ap_io::NoGate;
 use std::alloc::Global;
+use std::sync::Wait;
 use std::test::Fail;
+use std::thread::Threads;
 
 // Texts with a fault, and what the line says of it.
 const SYNTAX: [(&str, &str); 11] = [
@@ -52,19 +55,33 @@ const NAMES: [(&str, &str); 3] = [
 ];
 
 // The status and the line of a short text.
-fn line_of(alloc: Global, text: &[u8]) -> Result<(u8, Vec<u8>), Memory> {
+fn line_of<R: Threads + Wait + Sync>(
+    rt: &R,
+    alloc: Global,
+    text: &[u8],
+) -> Result<(u8, Vec<u8>), Memory> {
     if text.len() > 1000 {
         return Err(Memory);
     }
-    let report = report_text(alloc, text, 5)?;
+    let wanted = Wanted {
+        depth: 5,
+        workers: 1,
+    };
+    let report = report_text(rt, alloc, &NoGate, wanted, text)?;
     Ok((report.status.code(), report.bytes.into_vec()))
 }
 
 // Whether each text has the status, and the line tells its fault.
-fn are_told(alloc: Global, what: &str, status: u8, texts: &[(&str, &str)]) -> Result<bool, Memory> {
+fn are_told<R: Threads + Wait + Sync>(
+    rt: &R,
+    alloc: Global,
+    what: &str,
+    status: u8,
+    texts: &[(&str, &str)],
+) -> Result<bool, Memory> {
     for (text, fault) in texts {
         let wanted = format!(in alloc; "% {what} fault: {fault}\n")?;
-        let (found, line) = line_of(alloc, text.as_bytes())?;
+        let (found, line) = line_of(rt, alloc, text.as_bytes())?;
         if found != status || line.as_slice() != wanted.as_bytes() {
             return Ok(false);
         }
@@ -74,25 +91,25 @@ fn are_told(alloc: Global, what: &str, status: u8, texts: &[(&str, &str)]) -> Re
 
 #[test]
 fn syntax_faults_are_told(rt: HostRuntime) -> Result<(), Fail> {
-    assert!(rt; are_told(rt.alloc(), "syntax", 2, &SYNTAX)?);
+    assert!(rt; are_told(&rt, rt.alloc(), "syntax", 2, &SYNTAX)?);
     Ok(())
 }
 
 #[test]
 fn type_faults_are_told(rt: HostRuntime) -> Result<(), Fail> {
-    assert!(rt; are_told(rt.alloc(), "type", 3, &TYPES)?);
+    assert!(rt; are_told(&rt, rt.alloc(), "type", 3, &TYPES)?);
     Ok(())
 }
 
 #[test]
 fn name_faults_are_told(rt: HostRuntime) -> Result<(), Fail> {
-    assert!(rt; are_told(rt.alloc(), "name", 4, &NAMES)?);
+    assert!(rt; are_told(&rt, rt.alloc(), "name", 4, &NAMES)?);
     Ok(())
 }
 
 #[test]
 fn bytes_that_are_no_text_are_told(rt: HostRuntime) -> Result<(), Fail> {
-    let (status, line) = line_of(rt.alloc(), &[255, 46])?;
+    let (status, line) = line_of(&rt, rt.alloc(), &[255, 46])?;
     assert_eq!(rt; status, 2);
     assert_eq!(rt;
         line.as_slice(),
@@ -114,7 +131,7 @@ fn nesting_is_bounded(rt: HostRuntime) -> Result<(), Fail> {
             text.push(b'(')?;
         }
         text.push(b'.')?;
-        let (status, bytes) = line_of(alloc, &text)?;
+        let (status, bytes) = line_of(&rt, alloc, &text)?;
         assert_eq!(rt; status, 2);
         assert_eq!(rt; bytes.as_slice(), line.as_bytes());
     }

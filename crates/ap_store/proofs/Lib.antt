@@ -1,3 +1,10 @@
-pub mod CallerLemmas
 pub mod ConditionLemmas
-pub mod VersionLemmas
+pub mod TrailLemmas
+pub mod BindLemmas
+pub mod BelowLemmas
+pub mod AscendingLemmas
+pub mod SoundLemmas
+pub mod StoredLemmas
+pub mod StoreLemmas
+pub mod FollowLemmas
+pub mod ReachLemmas

@@ -1,4 +1,9 @@
 pub mod Bindings
 pub mod Triples
-pub mod Counts
+pub mod Changes
+pub mod ChangeProps
+pub mod Heads
+pub mod WellFormed
+pub mod Trails
+pub mod Slots
 pub mod Views

@@ -5,6 +5,7 @@ use Rattle.ap_defs.specs.Substitution.{Binding, bound_term, put_binding, ◌:=�
 use Rattle.ap_defs.specs.Terms.{NominalTerm}
 use Rattle.ap_defs.specs.declared.terms.Cond.{Cond}
 use Rattle.ap_defs.specs.declared.terms.Var.{Var}
+use Rattle.ap_theory.specs.Variables.{IsUnbound}
 use Rattle.ap_store.specs.Bindings.{SameMap}
 
 pub record Triple : Type 0 where
@@ -48,4 +49,4 @@ GoesOn as' bs = (cs : List Triple) × (bs ≡ as' ++ cs)
 -- the conditions are on unbound variables, and their numbers are below the next one
 abbrev pub AreOnUnbound : Triple → List Cond → Type 0
 AreOnUnbound a [] = Unit {0}
-AreOnUnbound a (c ∷ cs) = ((c.name.num < a.next) × (c.var.num < a.next) × (bound_term a.bindings c.var ≡ None)) × AreOnUnbound a cs
+AreOnUnbound a (c ∷ cs) = ((c.name.num < a.next) × (c.var.num < a.next) × IsUnbound a.bindings c.var) × AreOnUnbound a cs

@@ -1,11 +1,19 @@
-//! The store of a branch: what variables are bound to, the conditions that hold, and the numbers
+//! The store of a search: what variables are bound to, the conditions that hold, and the numbers
 //! that were given, with marks to go back to.
 #![tactic(auto)]
 
 pub mod bindings;
+pub mod changes;
 pub mod conditions;
+mod following;
 mod kinds;
+mod lookups;
+mod occurrences;
+mod searches;
+pub mod slots;
 pub mod store;
+mod tables;
 pub mod terms;
 #[cfg(test)]
 mod tests;
+mod walks;

@@ -1,18 +1,20 @@
 //! The store.
 
-ghost use Rattle.std.specs.Prelude.{◌≡◌, ℕ, ◌≤◌, IsTrue, length, map};
-ghost use Rattle.ap_store.specs.Counts.{rises_to};
+ghost use Rattle.ap_perm.specs.Lookups.{IsRanked};
+ghost use Rattle.ap_store.specs.Changes.{empty};
+ghost use Rattle.ap_store.specs.Slots.{IsStored, stored_prop};
+ghost use Rattle.ap_store.specs.Trails.{no_rank, nothing_bound, rank_after, raw_after};
 
-use crate::bindings::{VarBinding, bind_in, copy_bindings, under_bindings};
+use crate::changes::Change;
 use crate::conditions::{apart_from, on_var, with_conds};
-use crate::kinds::copy_kinds;
-use crate::terms::act_on_term;
-use ap_defs::goals::Kind;
+use crate::searches::{closure_at, conditions_at};
+use crate::slots::Slot;
+use crate::tables::add_slots;
+use ap_defs::goals::{Kind, Local};
 use ap_defs::memory::Memory;
-use ap_defs::terms::{Cond, Term, Var};
-use ap_perm::perm::Perm;
+use ap_defs::terms::{Cond, Var};
+use ap_perm::closures::Closure;
 use std::alloc::Global;
-use std::mem;
 
 /// A place among the versions of a store.
 #[derive(Clone, Copy, Debug)]
@@ -20,132 +22,110 @@ pub struct Mark {
     pub place: usize,
 }
 
-/// Bindings, each carried out in the others, and conditions on unbound variables.
-#[derive(Debug, Drop)]
-struct Held {
-    bindings: Vec<VarBinding>,
-    conditions: Vec<Cond>,
-}
-
-/// What was held earlier, and how many numbers were given by then.
-#[derive(Debug, Drop)]
-struct Version {
-    held: Held,
-    count: usize,
-}
-
 /// What variables are bound to, the conditions that hold, and the kinds of the numbers that were
-/// given to names and variables, with the earlier versions to which it can go back.
+/// given to names and variables, with all changes since it was empty, to go back.
 ///
 /// Contracts see it as its present triple of bindings, conditions and next number, the list of the
-/// earlier triples, and the list of kinds. Bindings count as equal where they are equal as finite
-/// maps up to equality of permutations.
+/// earlier triples, and the list of kinds. There each binding is carried out in the others; what is
+/// kept of it is the closure alone.
 #[derive(Drop)]
-pub struct Store {
-    past: Vec<Version>,
-    present: Held,
-    kinds: Vec<Kind>,
-    ghost counts: { IsTrue (rises_to (length kinds.items) (map (λ v. v.count) past.items)) },
+pub struct Store<'a> {
+    table: Vec<Slot<'a>>,
+    trail: Vec<Change<'a>>,
+    latest: usize,
+    reach: u64,
+    pub ghost stored: { IsStored table.items trail.items latest reach } by { stored_prop table.items trail.items latest reach },
+    pub ghost ranked: { IsRanked (raw_after trail.items nothing_bound) (rank_after trail.items empty no_rank) },
 }
 
-impl Store {
-    ghost use Rattle.std.specs.Prelude.{◌≡◌, ◌+◌, ◌≤◌, ◌<◌, ◌++◌, ◌∷◌, [], false, None, IfOk, OnOk, OnErr, filter, length, map, take};
-    ghost use Rattle.ap_defs.specs.Freshness.{add_conds};
-    ghost use Rattle.ap_defs.specs.Renaming.{AreSwapsBelow, IsBelow};
-    ghost use Rattle.ap_defs.specs.SameTerm.{SameTerm};
-    ghost use Rattle.ap_defs.specs.Substitution.{bound_term, occurs, under};
-    ghost use Rattle.ap_defs.specs.Terms.{act_term, term_of};
-    ghost use Rattle.ap_defs.specs.Types.{kind_of};
-    ghost use Rattle.ap_store.specs.Bindings.{bindings_of};
-    ghost use Rattle.ap_store.specs.Triples.{AreOnUnbound, GoesOn, SameTriple, is_on, with_binding, with_conditions, with_next};
-    ghost use Rattle.ap_store.specs.Views.{IsUnchanged, kinds, past, present, triple_of, versions};
+impl<'a> Store<'a> {
+    ghost use Rattle.std.specs.Prelude.{◌≡◌, ℕ, ◌+◌, ◌≤◌, ◌<◌, ◌++◌, ◌∷◌, [], false, true, Some, None, IfOk, IfNone, IfSome, MatchOption, OnOk, OnErr, filter, length, map, slice_get, take, vec_len, vec_capacity};
+    ghost use Rattle.ap_defs.specs.Renaming.{IsBelow};
+    ghost use Rattle.ap_defs.specs.Resolution.{kinds_of};
+    ghost use Rattle.ap_defs.specs.Substitution.{occurs, under};
+    ghost use Rattle.ap_defs.specs.Types.{kind_of, locals_of};
+    ghost use Rattle.ap_perm.specs.Closures.{closure_term};
+    ghost use Rattle.ap_theory.specs.Variables.{IsUnbound};
+    ghost use Rattle.ap_store.specs.Changes.{has_on, is_ascending, replace_conditions, with_bound};
+    ghost use Rattle.ap_store.specs.Triples.{AreOnUnbound, GoesOn, is_apart, is_on, with_binding, with_conditions, with_next};
+    ghost use Rattle.ap_store.specs.Views.{IsUnchanged, kinds, past, present, raw_bound, versions};
 
     /// The empty store. It takes no memory.
-    pub fn new(alloc: Global) -> Store
+    pub fn new(alloc: Global) -> Store<'a>
         ensures present { present result ≡ record { bindings = []; conditions = []; next = 0 } }
         ensures past { past result ≡ [] }
         ensures kinds { kinds result ≡ [] }
     {
         Store {
-            past: Vec::new(alloc),
-            present: Held {
-                bindings: Vec::new(alloc),
-                conditions: Vec::new(alloc),
-            },
-            kinds: Vec::new(alloc),
+            table: Vec::new(alloc),
+            trail: Vec::new(alloc),
+            latest: 0,
+            reach: 0,
         }
     }
 
-    /// Gives a number to each of these kinds, in order, and answers the first. After want of memory
-    /// the store is as before.
-    pub fn make(&mut self, alloc: Global, locals: &[Kind]) -> Result<u64, Memory>
+    /// Gives a number to each of these identifiers, in order, and answers the first. After want of
+    /// memory the store is as before.
+    pub fn make(&mut self, locals: &'a [Local]) -> Result<u64, Memory>
         ensures first { IfOk result (λ n. n ≡ (present self.old).next) }
-        ensures kinds { OnOk result (kinds self.new ≡ kinds self.old ++ map kind_of locals.now) }
-        ensures present { OnOk result (SameTriple (present self.new) (with_next ((present self.old).next + length locals.now) (present self.old))) }
+        ensures kinds { OnOk result (kinds self.new ≡ kinds self.old ++ kinds_of (locals_of locals.now)) }
+        ensures present { OnOk result (present self.new ≡ with_next ((present self.old).next + length locals.now) (present self.old)) }
         ensures past { OnOk result (GoesOn (versions self.old) (versions self.new)) }
         ensures unchanged { OnErr result (IsUnchanged self.old self.new) }
     {
-        let mut more = copy_kinds(alloc, locals)?;
-        let held = self.copy_present(alloc)?;
-        let count = self.kinds.len();
-        self.past.reserve(1)?;
-        self.kinds.append(&mut more)?;
-        self.past.push_reserved(Version { held, count });
-        Ok(count as u64)
+        let count = locals.len();
+        self.table.reserve(count)?;
+        self.trail.reserve(1)?;
+        let first = self.table.len() as u64;
+        add_slots(&mut self.table, locals);
+        self.trail.push_reserved(Change::Made(count));
+        Ok(first)
     }
 
-    /// Binds an unbound variable to the permutation that acts on the term, and answers the
-    /// conditions on the variable, which are taken out. After want of memory the store is as before.
-    pub fn bind(&mut self, alloc: Global, v: Var, p: Perm, t: &Term) -> Result<Vec<Cond>, Memory>
-        requires made { v.num < (present self.old).next }
-        requires unbound { bound_term (present self.old).bindings v ≡ None }
-        requires names { AreSwapsBelow (present self.old).next p }
-        requires term { IsBelow (present self.old).next (term_of t.now) }
-        requires absent { occurs v (under (present self.old).bindings (term_of t.now)) ≡ false }
-        ensures taken { IfOk result (λ conds. conds.items ≡ filter (is_on v) (present self.old).conditions) }
-        ensures present { OnOk result (SameTriple (present self.new) (with_binding v (act_term p (under (present self.old).bindings (term_of t.now))) (present self.old))) }
+    /// Binds an unbound variable to a closure in which it does not occur, and answers the conditions
+    /// on the variable, which are taken out. After want of memory the store is as before.
+    pub fn bind(&mut self, alloc: Global, x: Var, c: Closure<'a>) -> Result<Vec<Cond>, Memory>
+        requires made { x.num < (present self.old).next }
+        requires unbound { IsUnbound (present self.old).bindings x }
+        requires term { IsBelow (present self.old).next (closure_term c) }
+        requires absent { occurs x (under (present self.old).bindings (closure_term c)) ≡ false }
+        ensures taken { IfOk result (λ conds. conds.items ≡ filter (is_on x) (present self.old).conditions) }
+        ensures present { OnOk result (present self.new ≡ with_binding x (under (present self.old).bindings (closure_term c.entry)) (present self.old)) }
         ensures past { OnOk result (GoesOn (versions self.old) (versions self.new)) }
         ensures kinds { kinds self.new ≡ kinds self.old }
         ensures unchanged { OnErr result (IsUnchanged self.old self.new) }
     {
-        let held = self.bound(alloc, v, p, t)?;
-        let taken = on_var(alloc, v, &self.present.conditions)?;
-        self.go_on(held)?;
+        let taken = self.take_conditions(alloc, x)?;
+        self.note_binding(x, c);
         Ok(taken)
     }
 
     /// Adds conditions on unbound variables. After want of memory the store is as before.
     pub fn add(&mut self, alloc: Global, conds: &[Cond]) -> Result<(), Memory>
         requires { AreOnUnbound (present self.old) conds.now }
-        ensures present { OnOk result (SameTriple (present self.new) (with_conditions conds.now (present self.old))) }
+        ensures present { OnOk result (present self.new ≡ with_conditions conds.now (present self.old)) }
         ensures past { OnOk result (GoesOn (versions self.old) (versions self.new)) }
         ensures kinds { kinds self.new ≡ kinds self.old }
         ensures unchanged { OnErr result (IsUnchanged self.old self.new) }
     {
-        let bindings = copy_bindings(alloc, &self.present.bindings)?;
-        let conditions = with_conds(alloc, conds, &self.present.conditions)?;
-        self.go_on(Held {
-            bindings,
-            conditions,
-        })
+        let held = self.conditions();
+        let all = with_conds(alloc, conds, held)?;
+        self.replace_conditions(all)
     }
 
-    /// Goes on with these bindings and conditions in place of the present ones. After want of
-    /// memory the store is as before.
-    pub fn replace(
-        &mut self,
-        bindings: Vec<VarBinding>,
-        conditions: Vec<Cond>,
-    ) -> Result<(), Memory>
-        ensures present { OnOk result (present self.new ≡ record { bindings = bindings_of bindings.items; conditions = conditions.items; next = (present self.old).next }) }
+    /// Puts these conditions on unbound variables, which ascend, in place of the present ones. After
+    /// want of memory the store is as before.
+    pub fn replace_conditions(&mut self, conds: Vec<Cond>) -> Result<(), Memory>
+        requires unbound { AreOnUnbound (present self.old) conds.items }
+        requires ascending { is_ascending conds.items ≡ true }
+        ensures present { OnOk result (present self.new ≡ replace_conditions conds.items (present self.old)) }
         ensures past { OnOk result (GoesOn (versions self.old) (versions self.new)) }
         ensures kinds { kinds self.new ≡ kinds self.old }
         ensures unchanged { OnErr result (IsUnchanged self.old self.new) }
     {
-        self.go_on(Held {
-            bindings,
-            conditions,
-        })
+        self.trail.reserve(1)?;
+        self.note_conditions(conds);
+        Ok(())
     }
 
     /// The place of the present version. It takes no memory.
@@ -153,7 +133,7 @@ impl Store {
         ensures { result.place ≡ length (past self.now) }
     {
         Mark {
-            place: self.past.len(),
+            place: self.trail.len(),
         }
     }
 
@@ -164,20 +144,28 @@ impl Store {
         ensures versions { versions self.new ≡ take (m.place + 1) (versions self.old) }
         ensures kinds { kinds self.new ≡ take (present self.new).next (kinds self.old) }
     {
-        if m.place < self.past.len() {
-            self.past.truncate(m.place + 1);
-            if let Some(Version { held, count }) = self.past.pop() {
-                self.present = held;
-                self.kinds.truncate(count);
-            }
+        'undoing: while self.trail.len() > m.place {
+            self.undo_last();
         }
     }
 
-    /// The term under the bindings.
-    pub fn walk(&self, alloc: Global, t: &Term) -> Result<Term, Memory>
-        ensures { IfOk result (λ u. SameTerm (term_of u) (under (present self.now).bindings (term_of t.now))) }
+    /// The closure to which a variable is bound, or none where it is unbound. It takes no memory.
+    pub fn binding(&self, x: Var) -> Option<&Closure<'a>>
+        ensures { MatchOption result (raw_bound self.now x ≡ None) (λ c. raw_bound self.now x ≡ Some (closure_term c.now)) }
     {
-        under_bindings(alloc, &self.present.bindings, t)
+        if x.num < self.table.len() as u64 {
+            closure_at(&self.trail, self.table[x.num as usize].place)
+        } else {
+            None
+        }
+    }
+
+    /// Whether the variable is so new that neither the closure nor any bound one can have it. It takes
+    /// no memory.
+    pub fn is_new(&self, x: Var, c: &Closure<'_>) -> bool
+        ensures { result ≡ true → occurs x (under (present self.now).bindings (closure_term c.now)) ≡ false }
+    {
+        self.reach <= x.num && c.end <= x.num
     }
 
     /// The conditions, each once, ascending by variable, then by the name's number, and then by its
@@ -185,61 +173,103 @@ impl Store {
     pub fn conds(&self, alloc: Global) -> Result<Vec<Cond>, Memory>
         ensures { IfOk result (λ conds. conds.items ≡ (present self.now).conditions) }
     {
-        Ok(self.present.conditions.to_vec(alloc)?)
-    }
-
-    /// The bindings, the newest first, each carried out in the others. It takes no memory.
-    pub fn bindings(&self) -> &[VarBinding]
-        ensures { bindings_of result.now ≡ (present self.now).bindings }
-    {
-        self.present.bindings.as_slice()
+        Ok(self.conditions().to_vec(alloc)?)
     }
 
     /// The conditions, as they are held. It takes no memory.
     pub fn conditions(&self) -> &[Cond]
         ensures { result.now ≡ (present self.now).conditions }
     {
-        self.present.conditions.as_slice()
+        conditions_at(&self.trail, self.latest)
     }
 
-    /// A copy of what is held.
-    fn copy_present(&self, alloc: Global) -> Result<Held, Memory>
-        ensures { IfOk result (λ held. triple_of held (present self.now).next ≡ present self.now) }
+    /// The next number. It takes no memory.
+    pub fn next(&self) -> u64
+        ensures { result ≡ (present self.now).next }
     {
-        let bindings = copy_bindings(alloc, &self.present.bindings)?;
-        let conditions = self.present.conditions.to_vec(alloc)?;
-        Ok(Held {
-            bindings,
-            conditions,
-        })
+        self.table.len() as u64
     }
 
-    /// What is held once the variable is bound.
-    fn bound(&self, alloc: Global, v: Var, p: Perm, t: &Term) -> Result<Held, Memory>
-        ensures { IfOk result (λ held. triple_of held (present self.now).next ≡ with_binding v (act_term p (under (present self.now).bindings (term_of t.now))) (present self.now)) }
+    /// The kind of a number that was given. It takes no memory.
+    pub fn kind(&self, num: u64) -> &'a Kind
+        requires { num < (present self.now).next }
+        ensures { slice_get (kinds self.now) num ≡ Some (kind_of result.now) }
     {
-        let swaps = p.swaps(alloc)?;
-        let walked = under_bindings(alloc, &self.present.bindings, t)?;
-        let moved = act_on_term(alloc, &swaps, &walked)?;
-        let bindings = bind_in(alloc, v, moved, &self.present.bindings)?;
-        let conditions = apart_from(alloc, v, &self.present.conditions)?;
-        Ok(Held {
-            bindings,
-            conditions,
-        })
+        &self.table[num as usize].local.kind
     }
 
-    /// Puts a new version after the present one.
-    fn go_on(&mut self, held: Held) -> Result<(), Memory>
-        ensures present { OnOk result (present self.new ≡ triple_of held (present self.old).next) }
-        ensures past { OnOk result (past self.new ≡ versions self.old) }
+    /// Takes the conditions on a variable out, and leaves room for one more change.
+    fn take_conditions(&mut self, alloc: Global, x: Var) -> Result<Vec<Cond>, Memory>
+        ensures taken { IfOk result (λ conds. conds.items ≡ filter (is_on x) (present self.old).conditions) }
+        ensures present { OnOk result (present self.new ≡ replace_conditions (filter (is_apart x) (present self.old).conditions) (present self.old)) }
+        ensures room { OnOk result (vec_len self.new.trail < vec_capacity self.new.trail) }
+        ensures past { OnOk result (GoesOn (versions self.old) (versions self.new)) }
         ensures kinds { kinds self.new ≡ kinds self.old }
         ensures unchanged { OnErr result (IsUnchanged self.old self.new) }
     {
-        self.past.reserve(1)?;
-        let count = self.kinds.len();
-        let held = mem::replace(&mut self.present, held);
-        self.past.push_reserved(Version { held, count });
-        Ok(())
+        self.trail.reserve(2)?;
+        let held = self.conditions();
+        let taken = on_var(alloc, x, held)?;
+        if taken.is_empty() {
+            return Ok(taken);
+        }
+        let left = apart_from(alloc, x, held)?;
+        self.note_conditions(left);
+        Ok(taken)
+    }
+
+    /// Notes that a variable is bound.
+    fn note_binding(&mut self, x: Var, c: Closure<'a>)
+        requires room { vec_len self.old.trail < vec_capacity self.old.trail }
+        requires made { x.num < (present self.old).next }
+        requires unbound { IsUnbound (present self.old).bindings x }
+        requires term { IsBelow (present self.old).next (closure_term c) }
+        requires absent { occurs x (under (present self.old).bindings (closure_term c)) ≡ false }
+        requires apart { has_on x (present self.old).conditions ≡ false }
+        ensures present { present self.new ≡ with_bound x (under (present self.old).bindings (closure_term c.entry)) (present self.old) }
+        ensures versions { versions self.new ≡ versions self.old ++ present self.new ∷ [] }
+        ensures kinds { kinds self.new ≡ kinds self.old }
+    {
+        let reach = self.reach;
+        let count = self.trail.len() + 1;
+        self.reach = reach.max(c.end);
+        self.table[x.num as usize].place = count;
+        self.trail.push_reserved(Change::Bound(x, c, reach));
+    }
+
+    /// Notes that other conditions hold.
+    fn note_conditions(&mut self, conds: Vec<Cond>)
+        requires room { vec_len self.old.trail < vec_capacity self.old.trail }
+        requires unbound { AreOnUnbound (present self.old) conds.items }
+        requires ascending { is_ascending conds.items ≡ true }
+        ensures present { present self.new ≡ replace_conditions conds.items (present self.old) }
+        ensures versions { versions self.new ≡ versions self.old ++ present self.new ∷ [] }
+        ensures kinds { kinds self.new ≡ kinds self.old }
+        ensures room { vec_capacity self.new.trail + vec_len self.old.trail + 1 ≡ vec_capacity self.old.trail + vec_len self.new.trail }
+    {
+        let earlier = self.latest;
+        self.latest = self.trail.len() + 1;
+        self.trail.push_reserved(Change::Replaced(conds, earlier));
+    }
+
+    /// Undoes the last change.
+    fn undo_last(&mut self)
+        requires { 0 < length (past self.old) }
+        ensures versions { versions self.old ≡ versions self.new ++ present self.old ∷ [] }
+        ensures kinds { kinds self.new ≡ take (present self.new).next (kinds self.old) }
+        ensures next { (present self.new).next ≤ (present self.old).next }
+    {
+        match self.trail.pop() {
+            None => {}
+            Some(Change::Made(count)) => {
+                let left = self.table.len() - count;
+                self.table.truncate(left);
+            }
+            Some(Change::Bound(x, _, reach)) => {
+                self.reach = reach;
+                self.table[x.num as usize].place = 0;
+            }
+            Some(Change::Replaced(_, earlier)) => self.latest = earlier,
+        }
     }
 }

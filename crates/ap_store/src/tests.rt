@@ -1,9 +1,9 @@
 use crate::store::Store;
-use ap_defs::goals::Kind;
-use ap_defs::lists::List;
+use ap_defs::goals::{Kind, Local};
+use ap_defs::lists::{List, Text};
 use ap_defs::memory::Memory;
 use ap_defs::terms::{Cond, Name, Term, Ty, Var};
-use ap_perm::perm::Perm;
+use ap_perm::closures::Closure;
 use std::alloc::Global;
 
 const A: Name = Name { sort: 0, num: 0 };
@@ -14,35 +14,49 @@ const X: Var = Var { num: 2 };
 
 const Y: Var = Var { num: 3 };
 
-fn numbered(alloc: Global) -> Result<bool, Memory> {
-    let mut store = Store::new(alloc);
-    let locals = [Kind::Name(0), Kind::Var(Ty::Names(0))];
-    let first = store.make(alloc, &locals)?;
-    let start = store.mark();
-    let next = store.make(alloc, &locals)?;
-    store.undo_to(start);
-    let again = store.make(alloc, &locals)?;
-    Ok(first == 0 && next == 2 && again == 2)
+fn local(alloc: Global, kind: Kind) -> Local {
+    Local {
+        kind,
+        bound: false,
+        text: Text::of(String::new(alloc)),
+    }
 }
 
-fn stands_for(alloc: Global, store: &Store, x: Var, a: Name) -> Result<bool, Memory> {
+fn names_and_variables(alloc: Global) -> [Local; 4] {
+    [
+        local(alloc, Kind::Name(0)),
+        local(alloc, Kind::Name(0)),
+        local(alloc, Kind::Var(Ty::Names(0))),
+        local(alloc, Kind::Var(Ty::Names(0))),
+    ]
+}
+
+fn numbered(alloc: Global) -> Result<bool, Memory> {
+    let locals = names_and_variables(alloc);
+    let mut store = Store::new(alloc);
+    let first = store.make(&locals)?;
+    let start = store.mark();
+    let next = store.make(&locals)?;
+    store.undo_to(start);
+    let again = store.make(&locals)?;
+    Ok(first == 0 && next == 4 && again == 4 && store.next() == 8)
+}
+
+fn stands_for(alloc: Global, store: &Store<'_>, x: Var, a: Name) -> Result<bool, Memory> {
     let waiting = Term::Susp(List::of(Vec::new(alloc)), x);
-    let found = store.walk(alloc, &waiting)?;
+    let closure = Closure::of(alloc, 0, 4, &waiting);
+    let found = store.walk(alloc, &closure)?;
     Ok(matches!(&found, Term::Name(b) if *b == a))
 }
 
 fn undone(alloc: Global) -> Result<bool, Memory> {
+    let locals = names_and_variables(alloc);
+    let name = Term::Name(A);
     let mut store = Store::new(alloc);
-    let locals = [
-        Kind::Name(0),
-        Kind::Name(0),
-        Kind::Var(Ty::Names(0)),
-        Kind::Var(Ty::Names(0)),
-    ];
-    store.make(alloc, &locals)?;
+    store.make(&locals)?;
     store.add(alloc, &[Cond { name: B, var: Y }, Cond { name: B, var: X }])?;
     let start = store.mark();
-    let taken = store.bind(alloc, X, Perm::identity(alloc), &Term::Name(A))?;
+    let taken = store.bind(alloc, X, Closure::of(alloc, 0, 4, &name))?;
     let left = store.conds(alloc)?;
     let bound = stands_for(alloc, &store, X, A)?;
     store.undo_to(start);
@@ -56,6 +70,20 @@ fn undone(alloc: Global) -> Result<bool, Memory> {
     )
 }
 
+fn followed(alloc: Global) -> Result<bool, Memory> {
+    let locals = names_and_variables(alloc);
+    let variable = Term::Susp(List::of(Vec::new(alloc)), X);
+    let other = Term::Susp(List::of(Vec::new(alloc)), Y);
+    let name = Term::Name(A);
+    let mut store = Store::new(alloc);
+    store.make(&locals)?;
+    store.bind(alloc, Y, Closure::of(alloc, 0, 4, &variable))?;
+    let occurs = store.occurs(X, &Closure::of(alloc, 0, 4, &other));
+    store.bind(alloc, X, Closure::of(alloc, 0, 4, &name))?;
+    let found = store.follow(alloc, Closure::of(alloc, 0, 4, &other))?;
+    Ok(occurs && matches!(found.term, Term::Name(_)) && stands_for(alloc, &store, Y, A)?)
+}
+
 #[test]
 fn numbers_are_given_again_after_going_back(rt: HostRuntime) {
     assert!(rt; matches!(numbered(rt.alloc()), Ok(true)));
@@ -64,4 +92,9 @@ fn numbers_are_given_again_after_going_back(rt: HostRuntime) {
 #[test]
 fn bindings_and_conditions_are_undone(rt: HostRuntime) {
     assert!(rt; matches!(undone(rt.alloc()), Ok(true)));
+}
+
+#[test]
+fn variables_are_followed(rt: HostRuntime) {
+    assert!(rt; matches!(followed(rt.alloc()), Ok(true)));
 }

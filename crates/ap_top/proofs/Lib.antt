@@ -1,3 +1,4 @@
+mod AcceptedWords
 mod Numbers
 mod Reports
 mod Wrote

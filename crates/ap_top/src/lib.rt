@@ -5,12 +5,6 @@
 //! says that the status and the bytes are those of the report of the words and of what was read.
 #![tactic(auto)]
 
-#[cfg(test)]
-mod answered;
-#[cfg(test)]
-mod cases;
-#[cfg(test)]
-mod faulty;
 mod reading;
 #[cfg(test)]
 mod replay_tests;
@@ -18,6 +12,8 @@ mod run;
 #[cfg(test)]
 mod tests;
 mod words;
+#[cfg(test)]
+mod worker_tests;
 mod writing;
 
 pub use ap_report::Status;

@@ -1,5 +1,5 @@
 // From the words and the bytes that come in to the bytes that go out.
-ghost use Rattle.std.specs.Prelude.{◌≡◌, ◌≢◌, None, IfOk, IsSome, map, string_bytes};
+ghost use Rattle.std.specs.Prelude.{◌≡◌, ◌≢◌, ◌<◌, ◌≤◌, None, IfOk, IsSome, map, string_bytes};
 ghost use Rattle.ap_report.specs.declared.report.Report.{Report};
 ghost use Rattle.ap_report.specs.TextReport.{IsTextReport};
 ghost use Rattle.ap_top.specs.Words.{depth_of};
@@ -12,7 +12,7 @@ use crate::writing::write_whole;
 use ap_defs::lists::List;
 use ap_defs::memory::Memory;
 use ap_io::{Failed, Gate, Sink, Source};
-use ap_report::{Report, Status, report_text};
+use ap_report::{Report, Status, Wanted, report_text};
 use std::alloc::Global;
 use std::sync::Wait;
 use std::thread::Threads;
@@ -28,14 +28,21 @@ fn line(alloc: Global, text: &str, status: Status) -> Result<Report, Memory>
 }
 
 // The report on what the source has left.
-fn report_source<S: Source>(alloc: Global, depth: u32, source: &mut S) -> Result<Report, Memory>
+fn report_source<R: Threads + Wait + Sync, S: Source, G: Gate>(
+    rt: &R,
+    alloc: Global,
+    gate: &G,
+    wanted: Wanted,
+    source: &mut S,
+) -> Result<Report, Memory>
+    requires workers { (0 < wanted.workers) × (wanted.workers ≤ 64) }
     ensures { IfOk result (λ r. (input : Input)
         × IsRead (S.left source.old) (S.faults source.old) (S.faults source.new) input
-        × IsReportOn depth input r
-        × ((s : Report) → IsReportOn depth input s → s ≡ r)) }
+        × IsReportOn wanted.depth input r
+        × ((s : Report) → IsReportOn wanted.depth input s → s ≡ r)) }
 {
     match read_whole(alloc, source) {
-        Ok(text) => report_text(alloc, &text, depth),
+        Ok(text) => report_text(rt, alloc, gate, wanted, &text),
         Err(ReadError::Failed) => line(alloc, "% read fault\n", Status::Read),
         Err(ReadError::TooLarge) => line(alloc, "% text too large\n", Status::TooLarge),
         Err(ReadError::Memory) => Err(Memory),
@@ -44,27 +51,34 @@ fn report_source<S: Source>(alloc: Global, depth: u32, source: &mut S) -> Result
 
 // The report for the words and what the source has left, which is read only where the words are
 // accepted.
-fn report<S: Source>(alloc: Global, words: &[String], source: &mut S) -> Result<Report, Memory>
+fn report<R: Threads + Wait + Sync, S: Source, G: Gate>(
+    rt: &R,
+    alloc: Global,
+    gate: &G,
+    words: &[String],
+    source: &mut S,
+) -> Result<Report, Memory>
     ensures unread { depth_of (map string_bytes words.now) ≡ None → source.new ≡ source.old }
     ensures made { IfOk result (λ r. (input : Input)
         × (IsSome (depth_of (map string_bytes words.now)) →
         IsRead (S.left source.old) (S.faults source.old) (S.faults source.new) input)
         × IsTheReport (map string_bytes words.now) input r) }
 {
-    match words::depth(words) {
-        Some(depth) => report_source(alloc, depth, source),
+    match words::accepted(words) {
+        Some(wanted) => report_source(rt, alloc, gate, wanted, source),
         None => line(alloc, "% usage fault\n", Status::Usage),
     }
 }
 
 /// Reads the source whole, makes the report of the words and of what was read, and then writes it to
-/// the sink. The words are those after the program's name. The writing takes no memory. The work is
-/// done on one thread so far, so the gate isn't passed.
+/// the sink. The words are those after the program's name. The writing takes no memory. Two workers or
+/// more search side by side, each on a thread of its own where threads can be started, and pass the
+/// gate before each path that they take up; what is written does not depend on how many there are.
 ///
 /// | Status | Comes | Written is |
 /// |---|---|---|
 /// | `Ok` | exactly where the text has no fault | the report of its queries |
-/// | `Usage` | exactly where the words aren't `run`, `--depth`, and a number of at most 1,000,000; then nothing is read | its line |
+/// | `Usage` | exactly where the words aren't `run`, `--depth` with a number of at most 1,000,000, and at most once `--workers` with a number from 1 to 64; then nothing is read | its line |
 /// | `Syntax` | exactly where the text doesn't split into tokens, or an item isn't in the grammar | the line of the first fault |
 /// | `Types` | exactly where an item isn't well typed | the line of the first fault |
 /// | `Names` | exactly where an item breaks the name restriction | the line of the first fault |
@@ -79,12 +93,12 @@ fn report<S: Source>(alloc: Global, words: &[String], source: &mut S) -> Result<
 /// "Nominal Logic Programming"): a line for each answer, in order, once for each derivation, with notes
 /// where branches were cut or stuck, and the totals.
 pub fn top<R: Threads + Wait + Sync, S: Source, K: Sink, G: Gate>(
-    _rt: &R,
+    rt: &R,
     alloc: Global,
     words: &[String],
     source: &mut S,
     sink: &mut K,
-    _gate: &G,
+    gate: &G,
 ) -> Status
     // Nothing is read where the words are refused.
     ensures unread { depth_of (map string_bytes words.now) ≡ None → source.new ≡ source.old }
@@ -107,7 +121,7 @@ pub fn top<R: Threads + Wait + Sync, S: Source, K: Sink, G: Gate>(
       faults' = K.faults sink.new;
     }) }
 {
-    match report(alloc, words, source) {
+    match report(rt, alloc, gate, words, source) {
         Ok(report) => match write_whole(sink, report.bytes.items()) {
             Ok(()) => report.status,
             Err(Failed) => Status::Write,

@@ -1,9 +1,6 @@
 ghost use Rattle.std.specs.Prelude.{◌≤◌, None};
 
 use super::*;
-use crate::answered::ANSWERED;
-use crate::cases::{SUBSTITUTION, Table};
-use crate::faulty::FAULTY;
 use ap_defs::memory::Memory;
 use ap_io::{Failed, MemSink, MemSource, NoGate, Source};
 use std::alloc::Global;
@@ -41,49 +38,6 @@ fn call<R: Threads + Wait + Sync>(
     let mut sink = MemSink::new(alloc, most, 200, vec![in alloc; failing_write]?)?;
     let status = top(rt, alloc, &words, &mut source, &mut sink, &NoGate);
     Ok((status.code(), sink))
-}
-
-// The place of the first case of a table that ends or is written otherwise.
-fn first_other<R: Threads + Wait + Sync>(
-    rt: &R,
-    alloc: Global,
-    table: &Table<'_>,
-) -> Result<Option<usize>, Memory> {
-    let depth = table.depth;
-    let line = format!(in alloc; "run --depth {depth}")?;
-    let begin = table.begin;
-    for (place, (rest, written)) in table.cases.iter().enumerate() {
-        let text = format!(in alloc; "{begin}{rest}")?;
-        let (status, sink) = call(rt, alloc, &line, text.as_bytes(), 100, 0, 0)?;
-        if status != table.status || sink.bytes() != written.as_bytes() {
-            return Ok(Some(place));
-        }
-    }
-    Ok(None)
-}
-
-#[test]
-fn texts_are_answered_as_stored(rt: HostRuntime) -> Result<(), Fail> {
-    for (place, table) in ANSWERED.iter().enumerate() {
-        assert_eq!(rt;
-            first_other(&rt, rt.alloc(), table)?,
-            None,
-            "in table {place}"
-        );
-    }
-    Ok(())
-}
-
-#[test]
-fn faults_are_told_as_stored(rt: HostRuntime) -> Result<(), Fail> {
-    for (place, table) in FAULTY.iter().enumerate() {
-        assert_eq!(rt;
-            first_other(&rt, rt.alloc(), table)?,
-            None,
-            "in table {place}"
-        );
-    }
-    Ok(())
 }
 
 // The text is levels of parentheses and a full stop.
@@ -156,15 +110,15 @@ fn a_text_past_the_limit_is_too_large(rt: HostRuntime) -> Result<(), Fail> {
 #[test]
 fn a_beginning_of_an_answer_is_written(rt: HostRuntime) -> Result<(), Fail> {
     let alloc = rt.alloc();
-    let mut text = SUBSTITUTION.as_bytes().to_vec(alloc)?;
-    text.extend_from_slice(b"?- subst(lam(b\\app(var(a),var(b))), a, var(b), R).\n")?;
-    let (status, sink) = call(&rt, alloc, "run --depth 5", &text, 10, 0, 2)?;
+    let text =
+        b"id : name_type. e : type. v : id -> e. l : id\\e -> e. ?- R = l(x\\v(x)).".as_slice();
+    let (status, sink) = call(&rt, alloc, "run --depth 5", text, 10, 0, 2)?;
     assert_eq!(rt; status, 6);
-    assert_eq!(rt; sink.bytes(), b"R = lam(n1".as_slice());
-    let (status, sink) = call(&rt, alloc, "run --depth 5", &text, 10, 1, 1)?;
+    assert_eq!(rt; sink.bytes(), b"R = l(n1\\v".as_slice());
+    let (status, sink) = call(&rt, alloc, "run --depth 5", text, 10, 1, 1)?;
     assert_eq!(rt; status, 6);
     assert!(rt; sink.bytes().is_empty());
-    let (status, sink) = call(&rt, alloc, "run --depth 5", &text, 10, 1, 0)?;
+    let (status, sink) = call(&rt, alloc, "run --depth 5", text, 10, 1, 0)?;
     assert_eq!(rt; status, 5);
     assert_eq!(rt; sink.bytes(), b"% read fault\n".as_slice());
     Ok(())

@@ -1,1 +1,9 @@
+pub mod FinishLemmas
+pub mod FreshLemmas
+pub mod MoveLemmas
+pub mod ReducingLemmas
 pub mod ResultLemmas
+pub mod RunLemmas
+pub mod SolutionLemmas
+pub mod WellLemmas
+pub mod WorkLemmas

@@ -1,3 +1,6 @@
 pub mod Equations
+pub mod Finishing
+pub mod Runs
 pub mod Stages
 pub mod Unified
+pub mod Work

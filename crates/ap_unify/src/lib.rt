@@ -2,9 +2,15 @@
 #![tactic(auto)]
 
 mod equations;
+mod finish;
+pub mod fresh;
+mod moves;
+mod pairs;
 pub mod problems;
+mod reducing;
 mod rules;
 pub mod stages;
 #[cfg(test)]
 mod tests;
 pub mod unify;
+mod work;

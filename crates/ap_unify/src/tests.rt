@@ -1,13 +1,15 @@
-ghost use Rattle.std.specs.Prelude.{◌≡◌, ◌<◌, [], IfOk};
-ghost use Rattle.ap_defs.specs.Renaming.{IsBelow};
+ghost use Rattle.std.specs.Prelude.{◌≡◌, ◌<◌, [], IfOk, length};
+ghost use Rattle.ap_defs.specs.Renaming.{IsBelow, rename_term};
 ghost use Rattle.ap_defs.specs.Terms.{abs, app, name, pair, susp, term_of};
 ghost use Rattle.ap_store.specs.Views.{present};
 
+use crate::fresh::{make_fresh, make_fresh_for_each};
 use crate::unify::unify;
-use ap_defs::goals::Kind;
-use ap_defs::lists::List;
+use ap_defs::goals::{Kind, Local};
+use ap_defs::lists::{List, Text};
 use ap_defs::memory::Memory;
 use ap_defs::terms::{Cond, Name, Term, Ty, Var};
+use ap_perm::closures::Closure;
 use ap_perm::swappings::image;
 use ap_store::store::Store;
 use std::alloc::Global;
@@ -20,18 +22,31 @@ const X: Var = Var { num: 2 };
 
 const Y: Var = Var { num: 3 };
 
-/// A store with the numbers of two names and two variables.
-fn given(alloc: Global) -> Result<Store, Memory>
+fn local(alloc: Global, kind: Kind) -> Local {
+    Local {
+        kind,
+        bound: false,
+        text: Text::of(String::new(alloc)),
+    }
+}
+
+/// Two names and two variables.
+fn locals(alloc: Global) -> [Local; 4] {
+    [
+        local(alloc, Kind::Name(0)),
+        local(alloc, Kind::Name(0)),
+        local(alloc, Kind::Var(Ty::Base(0))),
+        local(alloc, Kind::Var(Ty::Base(0))),
+    ]
+}
+
+/// A store with these numbers.
+fn given<'a>(alloc: Global, locals: &'a [Local]) -> Result<Store<'a>, Memory>
+    requires { length locals.now ≡ 4 }
     ensures { IfOk result (λ store. (present store).next ≡ 4) }
 {
     let mut store = Store::new(alloc);
-    let locals = [
-        Kind::Name(0),
-        Kind::Name(0),
-        Kind::Var(Ty::Base(0)),
-        Kind::Var(Ty::Base(0)),
-    ];
-    store.make(alloc, &locals)?;
+    store.make(locals)?;
     Ok(store)
 }
 
@@ -61,75 +76,79 @@ fn lam(alloc: Global, a: Name, t: Term) -> Result<Term, Memory>
     Ok(Term::App(4, Box::new(alloc, abstraction)?))
 }
 
-fn solved(alloc: Global, store: &mut Store, left: Term, right: Term) -> Result<bool, Memory>
-    requires left { IsBelow (present store.old).next (term_of left) }
-    requires right { IsBelow (present store.old).next (term_of right) }
+fn solved<'a>(
+    alloc: Global,
+    store: &mut Store<'a>,
+    left: &'a Term,
+    right: &'a Term,
+) -> Result<bool, Memory>
+    requires next { (present store.old).next ≡ 4 }
+    requires left { IsBelow 4 (rename_term 0 (term_of left.now)) }
+    requires right { IsBelow 4 (rename_term 0 (term_of right.now)) }
 {
-    unify(alloc, store, &[left], &[right])
-}
-
-fn is_name(alloc: Global, store: &Store, x: Var, a: Name) -> Result<bool, Memory> {
-    match store.walk(alloc, &hole(alloc, x))? {
-        Term::App(2, argument) => Ok(matches!(&*argument, Term::Name(b) if *b == a)),
-        _ => Ok(false),
-    }
+    let left = [Closure::of(alloc, 0, 4, left)];
+    let right = [Closure::of(alloc, 0, 4, right)];
+    unify(alloc, store, &left, &right)
 }
 
 /// Whether Y stands for X with the two names exchanged, under these conditions.
-fn is_exchanged(alloc: Global, store: &Store, conds: &[Cond]) -> Result<bool, Memory> {
-    let held = store.conds(alloc)?;
-    match store.walk(alloc, &hole(alloc, Y))? {
+fn is_exchanged(alloc: Global, store: &Store<'_>, conds: &[Cond]) -> Result<bool, Memory> {
+    let y = hole(alloc, Y);
+    match store.walk(alloc, &Closure::of(alloc, 0, 4, &y))? {
         Term::Susp(swaps, x) => {
             let exchanged = image(swaps.items(), A) == B && image(swaps.items(), B) == A;
-            Ok(x == X && exchanged && held.as_slice() == conds)
+            Ok(x == X && exchanged && store.conditions() == conds)
         }
         _ => Ok(false),
     }
 }
 
 fn one_variable_for_two(alloc: Global) -> Result<bool, Memory> {
-    let mut store = given(alloc)?;
     let left = applied(alloc, hole(alloc, X), var(alloc, B)?)?;
     let left = lam(alloc, A, lam(alloc, B, left)?)?;
     let right = applied(alloc, var(alloc, A)?, hole(alloc, X))?;
     let right = lam(alloc, B, lam(alloc, A, right)?)?;
-    solved(alloc, &mut store, left, right)
+    let locals = locals(alloc);
+    let mut store = given(alloc, &locals)?;
+    solved(alloc, &mut store, &left, &right)
 }
 
 fn inside_itself(alloc: Global) -> Result<bool, Memory> {
-    let mut store = given(alloc)?;
+    let left = hole(alloc, X);
     let right = lam(alloc, A, hole(alloc, X))?;
-    solved(alloc, &mut store, hole(alloc, X), right)
+    let locals = locals(alloc);
+    let mut store = given(alloc, &locals)?;
+    solved(alloc, &mut store, &left, &right)
 }
 
 fn bodies_exchanged(alloc: Global) -> Result<bool, Memory> {
-    let mut store = given(alloc)?;
     let left = lam(alloc, A, hole(alloc, X))?;
     let right = lam(alloc, B, hole(alloc, Y))?;
-    let solved = solved(alloc, &mut store, left, right)?;
+    let locals = locals(alloc);
+    let mut store = given(alloc, &locals)?;
+    let solved = solved(alloc, &mut store, &left, &right)?;
     Ok(solved && is_exchanged(alloc, &store, &[Cond { name: B, var: X }])?)
 }
 
-fn two_variables(alloc: Global) -> Result<bool, Memory> {
-    let mut store = given(alloc)?;
-    let left = applied(alloc, hole(alloc, X), var(alloc, B)?)?;
-    let left = lam(alloc, A, lam(alloc, B, left)?)?;
-    let right = applied(alloc, var(alloc, A)?, hole(alloc, Y))?;
-    let right = lam(alloc, B, lam(alloc, A, right)?)?;
-    let solved = solved(alloc, &mut store, left, right)?;
-    Ok(solved && is_name(alloc, &store, X, B)? && is_name(alloc, &store, Y, A)?)
-}
-
-fn under_two_binders(alloc: Global, outer: Name, conds: &[Cond]) -> Result<bool, Memory>
-    requires { outer.num < 4 }
-{
-    let mut store = given(alloc)?;
+fn under_two_binders(alloc: Global) -> Result<bool, Memory> {
     let left = applied(alloc, var(alloc, B)?, hole(alloc, X))?;
     let left = lam(alloc, A, lam(alloc, B, left)?)?;
     let right = applied(alloc, var(alloc, A)?, hole(alloc, Y))?;
-    let right = lam(alloc, outer, lam(alloc, A, right)?)?;
-    let solved = solved(alloc, &mut store, left, right)?;
-    Ok(solved && is_exchanged(alloc, &store, conds)?)
+    let right = lam(alloc, A, lam(alloc, A, right)?)?;
+    let locals = locals(alloc);
+    let mut store = given(alloc, &locals)?;
+    let solved = solved(alloc, &mut store, &left, &right)?;
+    Ok(solved && is_exchanged(alloc, &store, &[Cond { name: A, var: X }])?)
+}
+
+fn made_fresh(alloc: Global) -> Result<bool, Memory> {
+    let own = var(alloc, A)?;
+    let locals = locals(alloc);
+    let mut store = given(alloc, &locals)?;
+    let refused = !make_fresh(alloc, &mut store, A, &Closure::of(alloc, 0, 4, &own))?;
+    let made = make_fresh_for_each(alloc, &mut store, A, &[Y, X])?;
+    let conds = [Cond { name: A, var: X }, Cond { name: A, var: Y }];
+    Ok(refused && made && store.conditions() == &conds[..])
 }
 
 #[test]
@@ -143,12 +162,10 @@ fn sides_without_a_solution_are_refused(rt: HostRuntime) {
 fn bindings_and_conditions_are_most_general(rt: HostRuntime) {
     let alloc = rt.alloc();
     assert!(rt; matches!(bodies_exchanged(alloc), Ok(true)));
-    assert!(rt; matches!(two_variables(alloc), Ok(true)));
-    assert!(rt; matches!(under_two_binders(alloc, B, &[]), Ok(true)));
-    assert!(rt;
-        matches!(
-            under_two_binders(alloc, A, &[Cond { name: A, var: X }]),
-            Ok(true)
-        )
-    );
+    assert!(rt; matches!(under_two_binders(alloc), Ok(true)));
+}
+
+#[test]
+fn names_are_made_fresh(rt: HostRuntime) {
+    assert!(rt; matches!(made_fresh(rt.alloc()), Ok(true)));
 }

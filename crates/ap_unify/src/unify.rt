@@ -1,20 +1,27 @@
 //! Unification of lists of terms.
 
-ghost use Rattle.std.specs.Prelude.{◌≡◌, ◌&&◌, false, IfOk, OnErr, length, map};
+ghost use Rattle.std.specs.Prelude.{◌≡◌, ◌&&◌, [], false, true, IfOk, OnErr, OnOk, length, map};
 ghost use Rattle.ap_defs.specs.Groundings.{Grounding};
 ghost use Rattle.ap_defs.specs.Renaming.{AreBelow};
 ghost use Rattle.ap_defs.specs.Terms.{term_of};
 ghost use Rattle.ap_defs.specs.Unification.{unify as unify_lem};
+ghost use Rattle.ap_perm.specs.Closures.{closure_term};
 ghost use Rattle.ap_store.specs.Bindings.{bindings_of};
 ghost use Rattle.ap_store.specs.Triples.{GoesOn};
 ghost use Rattle.ap_store.specs.Views.{IsUnchanged, kinds, present, versions};
+ghost use Rattle.ap_unify.specs.Runs.{paired};
 ghost use Rattle.ap_unify.specs.Stages.{unified_of};
 ghost use Rattle.ap_unify.specs.Unified.{IsResult, is_of, solves};
+ghost use Rattle.ap_unify.specs.Work.{ArePairsBelow, equations_left};
 
 use crate::equations::equations_under;
+use crate::finish::finish;
+use crate::pairs::{ClosurePair, Work};
 use crate::stages::{UnifiedValue, UnifierStage, finish_run, rewrite};
+use crate::work::run;
 use ap_defs::memory::Memory;
 use ap_defs::terms::{Cond, Term};
+use ap_perm::closures::Closure;
 use ap_store::bindings::{VarBinding, copy_bindings};
 use ap_store::store::Store;
 use std::alloc::Global;
@@ -42,16 +49,49 @@ pub fn unify_lists(
     finish_run(alloc, conditions, ending)
 }
 
-/// What the rules give for two lists of terms under the bindings and conditions of the store.
-fn unify_by_rules(
+/// The equations of the terms at each place of two lists.
+fn first_work<'a>(
     alloc: Global,
-    store: &Store,
-    left: &[Term],
-    right: &[Term],
-) -> Result<Option<UnifiedValue>, Memory>
-    ensures { IfOk result (λ o. unified_of o ≡ unify_lem (present store.now).bindings (present store.now).conditions (map term_of left.now) (map term_of right.now)) }
+    left: &[Closure<'a>],
+    right: &[Closure<'a>],
+) -> Result<Work<'a>, Memory>
+    requires { length left.now ≡ length right.now }
+    ensures equations { IfOk result (λ w. equations_left w ≡ paired (map closure_term left.now) (map closure_term right.now)) }
+    ensures problems { IfOk result (λ w. w.problems.items ≡ []) }
+    ensures taken { IfOk result (λ w. w.taken.items ≡ []) }
 {
-    unify_lists(alloc, store.bindings(), store.conditions(), left, right)
+    let mut equations = Vec::new(alloc);
+    'pairing: for i in (0..left.len()).rev() {
+        let left = left[i].copy(alloc)?;
+        let right = right[i].copy(alloc)?;
+        equations.push(ClosurePair { left, right })?;
+    }
+    Ok(Work {
+        equations,
+        problems: Vec::new(alloc),
+        taken: Vec::new(alloc),
+    })
+}
+
+/// Unification that may leave bindings behind where there is no solution.
+fn unify_forward<'a>(
+    alloc: Global,
+    store: &mut Store<'a>,
+    left: &[Closure<'a>],
+    right: &[Closure<'a>],
+) -> Result<bool, Memory>
+    requires lengths { length left.now ≡ length right.now }
+    requires left { AreBelow (present store.old).next (map closure_term left.now) }
+    requires right { AreBelow (present store.old).next (map closure_term right.now) }
+    ensures defined { IfOk result (λ solved. IsResult (unify_lem (present store.old).bindings (present store.old).conditions (map closure_term left.now) (map closure_term right.now)) (present store.old) solved (present store.new)) }
+    ensures past { GoesOn (versions store.old) (versions store.new) }
+    ensures kinds { kinds store.new ≡ kinds store.old }
+{
+    let mut work = first_work(alloc, left, right)?;
+    if !run(alloc, store, &mut work)? {
+        return Ok(false);
+    }
+    finish(alloc, store, &work)
 }
 
 /// Makes the terms at each place of two lists equal, by the most general bindings and conditions
@@ -59,34 +99,34 @@ fn unify_by_rules(
 ///
 /// It answers true where there are such, and then the store has them. It answers false exactly
 /// where there are none. Then, and after want of memory, the store is as before.
-pub fn unify(
+pub fn unify<'a>(
     alloc: Global,
-    store: &mut Store,
-    left: &[Term],
-    right: &[Term],
+    store: &mut Store<'a>,
+    left: &[Closure<'a>],
+    right: &[Closure<'a>],
 ) -> Result<bool, Memory>
     requires lengths { length left.now ≡ length right.now }
-    requires left { AreBelow (present store.old).next (map term_of left.now) }
-    requires right { AreBelow (present store.old).next (map term_of right.now) }
+    requires left { AreBelow (present store.old).next (map closure_term left.now) }
+    requires right { AreBelow (present store.old).next (map closure_term right.now) }
     // The answer and the bindings, conditions and next number are those of the rules.
-    ensures defined { IfOk result (λ solved. IsResult (unify_lem (present store.old).bindings (present store.old).conditions (map term_of left.now) (map term_of right.now)) (present store.old) solved (present store.new)) }
+    ensures defined { IfOk result (λ solved. IsResult (unify_lem (present store.old).bindings (present store.old).conditions (map closure_term left.now) (map closure_term right.now)) (present store.old) solved (present store.new)) }
     // The groundings of the new bindings and conditions are those of the old ones that make the two sides at each place equal.
-    ensures instances { IfOk result (λ solved. (g : Grounding) → solves g (present store.old) (map term_of left.now) (map term_of right.now) ≡ (solved && is_of g (present store.new))) }
+    ensures instances { IfOk result (λ solved. (g : Grounding) → solves g (present store.old) (map closure_term left.now) (map closure_term right.now) ≡ (solved && is_of g (present store.new))) }
     ensures past { GoesOn (versions store.old) (versions store.new) }
     ensures kinds { kinds store.new ≡ kinds store.old }
     ensures failed { IfOk result (λ solved. solved ≡ false → IsUnchanged store.old store.new) }
     ensures unchanged { OnErr result (IsUnchanged store.old store.new) }
 {
-    match unify_by_rules(alloc, store, left, right)? {
-        None => Ok(false),
-        Some(
-            UnifiedValue {
-                bindings,
-                conditions,
-            },
-        ) => {
-            store.replace(bindings, conditions)?;
-            Ok(true)
+    let start = store.mark();
+    match unify_forward(alloc, store, left, right) {
+        Ok(true) => Ok(true),
+        Ok(false) => {
+            store.undo_to(start);
+            Ok(false)
+        }
+        Err(refusal) => {
+            store.undo_to(start);
+            Err(refusal)
         }
     }
 }

@@ -1,14 +1,7 @@
-use Rattle.std.proofs.Common.{[], ◌∷◌, ap}
-use Rattle.ap_backchain.proofs.PlaceLemmas.{kind_here, kind_past}
+use Rattle.std.proofs.Common.{[], sym, ap}
+use Rattle.ap_defs.specs.Answers.{with_type}
+use Rattle.ap_backchain.proofs.AnswerLemmas.{no_kind}
 use Rattle.ap_backchain.proofs.answers.typed.Goals as goal
 
-pub returns-in_ok-t-in-Var : goal.returns-in_ok-t-in-Var
-returns-in_ok-t-in-Var c =
-    rw (kind_here c.args.kinds.now c.args.x.num c.index-kinds-place.result c.if-place-kinds.true c.index-kinds-place.is, c.in-Var.is)
-    (ap (λ u. (c.args.x, u) ∷ []) c.in_ok-t-in-Var.ensures)
-
-pub returns-in-Name : goal.returns-in-Name
-returns-in-Name c = rw (kind_here c.args.kinds.now c.args.x.num c.index-kinds-place.result c.if-place-kinds.true c.index-kinds-place.is, c.in-Name.is)
-
-pub returns-else-place-kinds : goal.returns-else-place-kinds
-returns-else-place-kinds c = rw (kind_past c.args.kinds.now c.args.x.num c.if-place-kinds.false)
+pub returns-else-x-next : goal.returns-else-x-next
+returns-else-x-next c = sym (ap (λ k. with_type c.args.x k []) (no_kind c.args.store.now c.args.x.num (rw c.next.ensures at c.if-x-next.false)))

@@ -1,16 +1,15 @@
-use Rattle.std.proofs.Common.{◌≡◌, List, [], map, sym, subst}
+use Rattle.std.proofs.Common.{◌≡◌, List, map, sym, subst}
 use Rattle.std.specs.Prelude.{IfOk}
 use Rattle.ap_defs.specs.Answers.{NominalOut, outs_of}
 use Rattle.ap_defs.specs.Goals.{clause_of}
 use Rattle.ap_defs.specs.Types.{locals_of}
 use Rattle.ap_search.proofs.MarkLemmas.{marks_stack}
-use Rattle.ap_backchain.specs.Views.{stack_of, state_of}
+use Rattle.ap_backchain.specs.Places.{position_of}
 use Rattle.ap_backchain.proofs.branch.outs_of_standing.Goals as goal
 
 pub returns-in-Choosing : goal.returns-in-Choosing
 returns-in-Choosing c =
-    let place = c.in-Choosing.place in
+    let p = position_of c.in-Choosing.place in
     rw c.in-Choosing.is
     (subst (λ (os : List NominalOut). IfOk c.outputs_from.result (λ v. outs_of v.items ≡ os))
-    (sym (marks_stack (map (map clause_of) c.args.clauses.now) (locals_of c.args.locals.now) (stack_of place.frames.items []) place.path.items (state_of place.state) place.brought.items))
-    c.outputs_from.ensures)
+    (sym (marks_stack (map (map clause_of) c.args.clauses.now) (locals_of c.args.locals.now) p.waiting p.path p.state p.brought)) c.outputs_from.ensures)

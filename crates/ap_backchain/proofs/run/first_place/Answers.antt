@@ -1,19 +1,41 @@
-use Rattle.std.proofs.Common.{◌≡◌, ℕ, length, ap, sym, subst}
-use Rattle.ap_defs.specs.Goals.{NominalGoal, goal_of}
-use Rattle.ap_defs.specs.Renaming.{IsGoalBelow}
-use Rattle.ap_defs.specs.Resolution.{State}
-use Rattle.ap_defs.specs.Types.{locals_of}
-use Rattle.ap_backchain.proofs.FitLemmas.{goal_zero, kinds_count}
+use Rattle.std.proofs.Common.{◌≡◌, ℕ, ◌+◌, [], ◌++◌, length, ap, ◌∙◌, sym, subst, arith}
+use Rattle.std.proofs.lemmas.List.{length-map}
+use Rattle.ap_defs.specs.Goals.{NominalGoal, goal_of, query_of}
+use Rattle.ap_defs.specs.Renaming.{IsGoalBelow, rename_goal}
+use Rattle.ap_defs.specs.Resolution.{State, first_state, kinds_of}
+use Rattle.ap_defs.specs.Types.{local_of, locals_of}
+use Rattle.ap_store.specs.Triples.{Triple, with_next}
+use Rattle.ap_store.specs.Views.{kinds, present}
+use Rattle.ap_store.specs.declared.store.Store.{Store}
+use Rattle.ap_backchain.specs.Places.{next_of}
+use Rattle.ap_backchain.specs.Positions.{Position, with_goal}
+use Rattle.ap_backchain.specs.Views.{state_in}
+use Rattle.ap_backchain.proofs.FitLemmas.{goal_zero}
 use Rattle.ap_backchain.proofs.run.first_place.Goals as goal
 
-pub with_goal-requires : goal.with_goal-requires
-with_goal-requires c =
-    let begins = rw c.items.ensures at c.in_ok-state.ensures in
-    let many : length c.in_ok-state.state.kinds.items ≡ length (locals_of c.args.query.now.locals) =
-    kinds_count c.in_ok-state.state.kinds.items (locals_of c.args.query.now.locals) (ap (λ (s : State). s.kinds) begins) in
-    subst (λ (g : NominalGoal). IsGoalBelow (length c.in_ok-state.state.kinds.items) g) (sym (goal_zero (goal_of c.args.query.now.goal)))
-    (subst (λ (n : ℕ). IsGoalBelow n (goal_of c.args.query.now.goal)) (sym many) c.requires)
+pub push_goal-requires : goal.push_goal-requires
+push_goal-requires c =
+    let locals = c.args.query.now.locals in
+    let given : next_of c.of-place.result ≡ (present c.make.new.self).next = ap (λ (s : Store). (present s).next) c.of-place.ensures.store in
+    let made : (present c.make.new.self).next ≡ (present c.new-store.result).next + length c.items.result.now = ap (λ (v : Triple). v.next) c.in_ok-make.ensures.present in
+    let none : (present c.new-store.result).next ≡ 0 = ap (λ (v : Triple). v.next) c.new-store.ensures.present in
+    let same : length c.items.result.now ≡ length locals = ap length c.items.ensures in
+    let many : length (locals_of locals) ≡ length locals = length-map locals local_of in
+    let all : length (locals_of locals) ≡ next_of c.of-place.result = omega (arith, given, made, none, same, many) in
+    subst (λ (g : NominalGoal). IsGoalBelow (next_of c.of-place.result) g) (sym (goal_zero (goal_of c.args.query.now.goal)))
+    (subst (λ (n : ℕ). IsGoalBelow n (goal_of c.args.query.now.goal)) all c.requires)
 
 pub returns : goal.returns
 returns c =
-    rw (c.new.ensures.items, c.new-2.ensures.items, c.new-3.ensures.items, goal_zero (goal_of c.args.query.now.goal), rw c.items.ensures at c.in_ok-state.ensures) at c.with_goal.ensures
+    let store = c.make.new.self in
+    let depth = c.args.depth in
+    let begins : state_in store ≡ first_state (query_of c.args.query.now) =
+    ap (λ (v : Triple). record { bindings = v.bindings; conditions = v.conditions; kinds = kinds store })
+    (c.in_ok-make.ensures.present ∙ ap (λ (v : Triple). with_next (v.next + length c.items.result.now) v) c.new-store.ensures.present)
+    ∙ ap (λ ks. record { bindings = []; conditions = []; kinds = ks })
+    (c.in_ok-make.ensures.kinds ∙ ap (λ ks. ks ++ kinds_of (locals_of c.items.result.now)) c.new-store.ensures.kinds
+    ∙ ap (λ ls. kinds_of (locals_of ls)) c.items.ensures) in
+    c.in_ok-push_goal.ensures.position
+    ∙ ap (λ (p : Position). with_goal depth (rename_goal 0 (goal_of c.args.query.now.goal)) p) c.of-place.ensures.position
+    ∙ ap (λ (g : NominalGoal). with_goal depth g (record { waiting = []; path = []; state = state_in store; brought = [] })) (goal_zero (goal_of c.args.query.now.goal))
+    ∙ ap (λ (s : State). with_goal depth (goal_of c.args.query.now.goal) (record { waiting = []; path = []; state = s; brought = [] })) begins

@@ -1,30 +1,45 @@
-use Rattle.std.proofs.Common.{◌≡◌, ◌++◌, map, sym, ap, ◌∙◌}
+use Rattle.std.proofs.Common.{◌≡◌, true, [], map, ap, ◌∙◌, sym}
+use Rattle.std.proofs.lemmas.List.{append-nil}
 use Rattle.std.specs.Prelude.{reverse}
-use Rattle.ap_defs.specs.Answers.{out_of}
+use Rattle.ap_defs.specs.Answers.{outs_of}
 use Rattle.ap_defs.specs.Goals.{clause_of}
 use Rattle.ap_defs.specs.Types.{locals_of}
-use Rattle.ap_backchain.specs.Places.{turned_of}
-use Rattle.ap_backchain.proofs.PendingLemmas.{ends_fewer, ends_kept, goes_fewer, goes_kept}
+use Rattle.ap_backchain.specs.Places.{position_of, track_of}
+use Rattle.ap_backchain.specs.Points.{positions_pending}
+use Rattle.ap_backchain.specs.Positions.{outs_from, turned}
+use Rattle.ap_backchain.specs.Searches.{followed, pending_of, positions_with}
+use Rattle.ap_backchain.proofs.SearchLemmas.{turn_keeps, turn_lessens}
 use Rattle.ap_backchain.proofs.run.outputs_from.Goals as goal
 
-pub searching-smaller-in-Continue-branch-4 : goal.searching-smaller-in-Continue-branch-4
-searching-smaller-in-Continue-branch-4 c =
-    ends_fewer (map (map clause_of) c.args.clauses.now) (locals_of c.args.locals.now) c.searching.pending.items c.pop.new.self.items c.in-Some.b c.in-Some.ensures.items
-    (out_of c.in-Ends.out) (sym (ap turned_of c.in-Ends.is) ∙ c.in_ok-out.ensures)
-
-pub searching-preserved-in-Continue-branch-4 : goal.searching-preserved-in-Continue-branch-4
-searching-preserved-in-Continue-branch-4 c =
-    ends_kept (map (map clause_of) c.args.clauses.now) (locals_of c.args.locals.now) c.searching.pending.items c.pop.new.self.items c.in-Some.b c.in-Some.ensures.items
-    c.searching.outs.items c.push-in-Ends.new.self.items c.in-Ends.out _ (sym (ap turned_of c.in-Ends.is) ∙ c.in_ok-out.ensures) c.in_ok-push-in-Ends.ensures.items c.searching.invariant
+pub returns-then-not-branch : goal.returns-then-not-branch
+returns-then-not-branch c =
+    let program = map (map clause_of) c.args.clauses.now in
+    let locals = locals_of c.args.locals.now in
+    let p = position_of c.searching.place in
+    let ps = pending_of c.searching.place c.searching.points in
+    let left : [] ≡ followed (turned program locals p) ps =
+    sym (ap (λ qs. positions_pending (track_of c.go_on.new.place) (reverse qs)) (c.in_ok-go_on.ensures.none c.if-not-branch.true))
+    ∙ ap (λ b. positions_with b c.go_on.new.place c.go_on.new.points) (sym c.if-not-branch.true)
+    ∙ c.in_ok-go_on.ensures.left in
+    sym (append-nil (outs_of c.go_on.new.outs.items))
+    ∙ turn_keeps program locals p ps [] (outs_of c.searching.outs.items) (outs_of c.go_on.new.outs.items) (outs_from program locals (position_of c.args.first))
+    left c.in_ok-go_on.ensures.outs c.searching.invariant.all
 
 pub searching-smaller : goal.searching-smaller
 searching-smaller c =
-    let added : c.append.new.self.items ≡ c.pop.new.self.items ++ reverse c.in-Goes.kids.items = c.in_ok-append-in-Goes.ensures.items ∙ ap (λ ks. c.pop.new.self.items ++ ks) c.reverse.ensures.items in
-    goes_fewer (map (map clause_of) c.args.clauses.now) (locals_of c.args.locals.now) c.searching.pending.items c.pop.new.self.items c.in-Some.b c.in-Some.ensures.items
-    c.in-Goes.kids.items c.append.new.self.items (sym (ap turned_of c.in-Goes.is) ∙ c.in_ok-out.ensures) added
+    turn_lessens (map (map clause_of) c.args.clauses.now) (locals_of c.args.locals.now) (position_of c.searching.place) (pending_of c.searching.place c.searching.points)
+    (positions_with true c.go_on.new.place c.go_on.new.points)
+    (ap (λ b. positions_with b c.go_on.new.place c.go_on.new.points) (sym c.if-not-branch.false) ∙ c.in_ok-go_on.ensures.left)
 
 pub searching-preserved : goal.searching-preserved
 searching-preserved c =
-    let added : c.append.new.self.items ≡ c.pop.new.self.items ++ reverse c.in-Goes.kids.items = c.in_ok-append-in-Goes.ensures.items ∙ ap (λ ks. c.pop.new.self.items ++ ks) c.reverse.ensures.items in
-    goes_kept (map (map clause_of) c.args.clauses.now) (locals_of c.args.locals.now) c.searching.pending.items c.pop.new.self.items c.in-Some.b c.in-Some.ensures.items
-    c.searching.outs.items c.in-Goes.kids.items c.append.new.self.items _ (sym (ap turned_of c.in-Goes.is) ∙ c.in_ok-out.ensures) added c.searching.invariant
+    let program = map (map clause_of) c.args.clauses.now in
+    let locals = locals_of c.args.locals.now in
+    record {
+      all = turn_keeps program locals (position_of c.searching.place) (pending_of c.searching.place c.searching.points)
+          (positions_with true c.go_on.new.place c.go_on.new.points)
+          (outs_of c.searching.outs.items) (outs_of c.go_on.new.outs.items) (outs_from program locals (position_of c.args.first))
+          (ap (λ b. positions_with b c.go_on.new.place c.go_on.new.points) (sym c.if-not-branch.false) ∙ c.in_ok-go_on.ensures.left)
+          c.in_ok-go_on.ensures.outs c.searching.invariant.all;
+      points = c.in_ok-go_on.ensures.points;
+    }

@@ -1,10 +1,9 @@
-use Rattle.std.proofs.Common.{◌≡◌, ◌≤◌, ◌^◌, ◌-◌, ℕ, List, [], ◌∷◌, ◌++◌, length, map, ap, sym, ◌∙◌, subst, arith, rules}
+use Rattle.std.proofs.Common.{◌≡◌, ◌-◌, List, [], ◌∷◌, ◌++◌, map, ap, sym, ◌∙◌, subst, arith}
 use Rattle.std.specs.Prelude.{IfOk}
-use Rattle.ap_defs.specs.Goals.{atom, clause_of, either, goal_of}
+use Rattle.ap_defs.specs.Goals.{clause_of, either, goal_of}
 use Rattle.ap_defs.specs.Renaming.{rename_goal, rename_term}
 use Rattle.ap_defs.specs.Terms.{term_of}
 use Rattle.ap_defs.specs.Types.{locals_of}
-use Rattle.ap_program.proofs.RenamingLemmas.{are_below_more}
 use Rattle.ap_search.specs.MarkedContinuations.{NominalMark, mark_path}
 use Rattle.ap_search.specs.Prefixes.{beginning}
 use Rattle.ap_backchain.specs.Branches.{marks_of_standing}
@@ -14,19 +13,13 @@ use Rattle.ap_backchain.specs.Positions.{with_choice, with_goal}
 use Rattle.ap_backchain.proofs.ChooseLemmas.{atom_marks, deep_enough, left_way, right_way}
 use Rattle.ap_backchain.proofs.step.choose_by.Goals as goal
 
-pub rename_terms-requires : goal.rename_terms-requires
-rename_terms-requires c =
-    let few : length c.args.place.state.kinds.items ≤ 2 ^ 64 = search rules in
-    let fits = rw c.in-Atom.is at c.requires.goal in
-    rw c.items.ensures (are_below_more (2 ^ 64) (length c.args.place.state.kinds.items) few (map (rename_term c.args.frame.base) (map term_of c.in-Atom.args)) fits)
-
 pub returns-in-Atom-clause-marks : goal.returns-in-Atom-clause-marks
 returns-in-Atom-clause-marks c =
     let program = map (map clause_of) c.args.clauses.now in let ls = locals_of c.args.locals.now in
     let p = position_of c.args.place in let k = c.args.choice in let d = c.args.frame.depth in
     let ts = map (rename_term c.args.frame.base) (map term_of c.in-Atom.args) in
     let among = rw c.in-Atom.is at c.requires.choice in
-    let terms = ap (map term_of) c.deref.ensures.value ∙ c.in_ok-args-in-Atom.ensures ∙ ap (λ us. map (rename_term c.args.frame.base) (map term_of us)) c.items.ensures in
+    let terms = ap (λ us. map (rename_term c.args.frame.base) (map term_of us)) c.items.ensures in
     let e =
     ap (λ us. beginning mark_path (p.path ++ k ∷ []) (clauses_marks program ls (d - 1) us (map clause_of c.clauses_at-candidates.result.now) p)) terms
     ∙ ap (λ cs. beginning mark_path (p.path ++ k ∷ []) (clauses_marks program ls (d - 1) ts cs p)) c.clauses_at-candidates.ensures.clauses
@@ -39,13 +32,13 @@ returns-then-choice-eq1-clause-marks c =
     let p = position_of c.args.place in let d = c.args.frame.depth in
     let l = rename_goal c.args.frame.base (goal_of c.in-Either.left.value) in let r = rename_goal c.args.frame.base (goal_of c.in-Either.right.value) in
     let e =
-    ap (λ g. marks_from program ls (with_goal d (rename_goal c.args.frame.base (goal_of g)) (with_choice 1 p))) c.deref-then-choice-eq1.ensures
+    ap (λ g. marks_from program ls (with_goal d (rename_goal c.args.frame.base (goal_of g)) (with_choice 1 p))) c.deref.ensures
     ∙ left_way program ls d l r p
     ∙ ap (λ j. beginning mark_path (p.path ++ j ∷ []) (goal_marks program ls d (either l r) p)) (sym c.if-choice-eq1.true) in
     rw c.in-Either.is (subst (λ (ms : List NominalMark). IfOk c.choose_side.result (λ s. marks_of_standing program ls s ≡ ms)) e c.choose_side.ensures.marks)
 
-pub returns-in-Either-clause-marks : goal.returns-in-Either-clause-marks
-returns-in-Either-clause-marks c =
+pub returns-else-choice-eq1-clause-marks : goal.returns-else-choice-eq1-clause-marks
+returns-else-choice-eq1-clause-marks c =
     let program = map (map clause_of) c.args.clauses.now in let ls = locals_of c.args.locals.now in
     let p = position_of c.args.place in let d = c.args.frame.depth in
     let l = rename_goal c.args.frame.base (goal_of c.in-Either.left.value) in let r = rename_goal c.args.frame.base (goal_of c.in-Either.right.value) in

@@ -1,39 +1,55 @@
-use Rattle.std.proofs.Common.{◌≡◌, ◌≤◌, ◌<◌, ◌-◌, List, [], ◌∷◌, length, map, sym, ◌∙◌, arith}
+use Rattle.std.proofs.Common.{◌<◌, ◌-◌, [], ◌∷◌, ◌++◌, length, map, ap, ◌∙◌, arith}
 use Rattle.std.proofs.lemmas.List.{length-map}
 use Rattle.ap_defs.specs.Goals.{clause_of}
+use Rattle.ap_defs.specs.Renaming.{rename_term}
 use Rattle.ap_defs.specs.Terms.{term_of}
 use Rattle.ap_defs.specs.Types.{locals_of}
 use Rattle.ap_backchain.specs.Places.{position_of}
-use Rattle.ap_backchain.proofs.ChooseLemmas.{clause_here, fit_here, kid_marks, no_kid_marks}
+use Rattle.ap_backchain.specs.Positions.{Position, clause_state}
+use Rattle.ap_backchain.proofs.ChooseLemmas.{clause_here, entered_path, fit_here, kid_marks, no_kid_marks}
 use Rattle.ap_backchain.proofs.step.choose_clause.Goals as goal
 
-pub enter_clause-requires : goal.enter_clause-requires
-enter_clause-requires c =
+pub enter_clause-requires-clause-clause : goal.enter_clause-requires-clause-clause
+enter_clause-requires-clause-clause c =
     let a = c.requires.low in let b = c.requires.high in
     let h : c.args.choice - 1 < length c.args.candidates.now = omega (arith, a, b) in
     fit_here c.args.candidates.now (c.args.choice - 1) c.index-candidates-choice.result h c.index-candidates-choice.is c.requires.below
 
-pub returns-in_ok-standing-in-None-clause-marks : goal.returns-in_ok-standing-in-None-clause-marks
-returns-in_ok-standing-in-None-clause-marks c =
+pub returns-then-branch-clause-marks : goal.returns-then-branch-clause-marks
+returns-then-branch-clause-marks c =
     let a = c.requires.low in let b = c.requires.high in
     let cs = c.args.candidates.now in let d = c.index-candidates-choice.result in
     let h : c.args.choice - 1 < length cs = omega (arith, a, b) in
     let many = length-map cs clause_of in
     let program = map (map clause_of) c.args.clauses.now in let ls = locals_of c.args.locals.now in
-    c.in_ok-standing-in-None.ensures.marks program ls
-    ∙ no_kid_marks program ls c.args.depth (map term_of c.args.args.now) (position_of c.args.place.now) c.args.choice (clause_of d) (map clause_of cs) a (omega (arith, h, many))
-    (clause_here cs (c.args.choice - 1) d h c.index-candidates-choice.is) (rw c.in-None.is at c.in_ok-enter_clause.ensures)
+    let ts = map (rename_term c.args.frame.base) (map term_of c.args.args.now) in
+    c.in_ok-standing.ensures.marks
+    ∙ kid_marks program ls (c.args.frame.depth - 1) ts (position_of c.args.place) c.args.choice (clause_of d) (map clause_of cs) a (omega (arith, h, many))
+    (clause_here cs (c.args.choice - 1) d h c.index-candidates-choice.is) (position_of c.enter_clause.new.place) (rw c.if-branch.true at c.in_ok-enter_clause.ensures.entered)
 
-pub returns-in_ok-standing-in-None-clause-choosing : goal.returns-in_ok-standing-in-None-clause-choosing
-returns-in_ok-standing-in-None-clause-choosing c = c.in_ok-standing-in-None.ensures.choosing (map (map clause_of) c.args.clauses.now)
+pub returns-then-branch-clause-path : goal.returns-then-branch-clause-path
+returns-then-branch-clause-path c =
+    let p = position_of c.args.place in let d = clause_of c.index-candidates-choice.result in
+    let ts = map (rename_term c.args.frame.base) (map term_of c.args.args.now) in
+    c.in_ok-standing.ensures.path
+    ∙ entered_path (map (map clause_of) c.args.clauses.now) (locals_of c.args.locals.now) (c.args.frame.depth - 1) p c.args.choice d (clause_state ts p.state d) (position_of c.enter_clause.new.place)
+    (rw c.if-branch.true at c.in_ok-enter_clause.ensures.entered)
 
-pub returns-in_ok-standing-in-Some-clause-marks : goal.returns-in_ok-standing-in-Some-clause-marks
-returns-in_ok-standing-in-Some-clause-marks c =
+pub returns-clause-marks : goal.returns-clause-marks
+returns-clause-marks c =
     let a = c.requires.low in let b = c.requires.high in
     let cs = c.args.candidates.now in let d = c.index-candidates-choice.result in
     let h : c.args.choice - 1 < length cs = omega (arith, a, b) in
     let many = length-map cs clause_of in
     let program = map (map clause_of) c.args.clauses.now in let ls = locals_of c.args.locals.now in
-    c.in_ok-standing-in-Some.ensures.marks
-    ∙ kid_marks program ls c.args.depth (map term_of c.args.args.now) (position_of c.args.place.now) c.args.choice (clause_of d) (map clause_of cs) a (omega (arith, h, many))
-    (clause_here cs (c.args.choice - 1) d h c.index-candidates-choice.is) (position_of c.in-Some.kid) (rw c.in-Some.is at c.in_ok-enter_clause.ensures)
+    let ts = map (rename_term c.args.frame.base) (map term_of c.args.args.now) in
+    c.in_ok-standing-2.ensures.marks program ls
+    ∙ no_kid_marks program ls (c.args.frame.depth - 1) ts (position_of c.args.place) c.args.choice (clause_of d) (map clause_of cs) a (omega (arith, h, many))
+    (clause_here cs (c.args.choice - 1) d h c.index-candidates-choice.is) (rw c.if-branch.false at c.in_ok-enter_clause.ensures.entered)
+
+pub returns-clause-path : goal.returns-clause-path
+returns-clause-path c =
+    c.in_ok-standing-2.ensures.path ∙ ap (λ (p : Position). p.path ++ c.args.choice ∷ []) (c.in_ok-enter_clause.ensures.none c.if-branch.false).1
+
+pub returns-clause-choosing : goal.returns-clause-choosing
+returns-clause-choosing c = c.in_ok-standing-2.ensures.choosing (map (map clause_of) c.args.clauses.now)

@@ -1,10 +1,18 @@
-use Rattle.std.proofs.Common.{◌≤◌, ◌^◌, length, rules}
+use Rattle.std.proofs.Common.{sym, ◌∙◌, subst}
 use Rattle.ap_defs.specs.Goals.{goal_of}
 use Rattle.ap_defs.specs.Renaming.{rename_goal}
-use Rattle.ap_program.proofs.RenamingLemmas.{goal_below_more}
+use Rattle.ap_program.proofs.RenamingLemmas.{free_vars_below, goal_below_more}
+use Rattle.ap_store.specs.Views.{present}
+use Rattle.ap_unify.specs.Unified.{AreVarsBelow}
+use Rattle.ap_backchain.proofs.StoreTurnLemmas.{few_numbers}
 use Rattle.ap_backchain.proofs.turns.turn_of_new.Goals as goal
 
 pub free_vars_of-requires : goal.free_vars_of-requires
 free_vars_of-requires c =
-    let few : length c.args.b.state.kinds.items ≤ 2 ^ 64 = search rules in
-    goal_below_more (2 ^ 64) (length c.args.b.state.kinds.items) few (rename_goal c.args.base (goal_of c.args.goal.now)) c.requires.1
+    let s = c.args.place.now.store in
+    goal_below_more _ (present s).next (few_numbers s) (rename_goal c.args.base (goal_of c.args.goal.now)) c.requires.1
+
+pub make_fresh_for_each-requires-clause-vars : goal.make_fresh_for_each-requires-clause-vars
+make_fresh_for_each-requires-clause-vars c =
+    let n = (present c.args.place.now.store).next in
+    subst (AreVarsBelow n) (sym (c.deref.ensures.value ∙ c.in_ok-vars.ensures)) (free_vars_below n (rename_goal c.args.base (goal_of c.args.goal.now)) c.requires.1)

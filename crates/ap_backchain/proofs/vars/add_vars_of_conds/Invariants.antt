@@ -1,8 +1,6 @@
-use Rattle.std.proofs.Common.{◌≡◌, ◌++◌, List, drop, map}
-use Rattle.ap_defs.specs.Answers.{ascending_vars}
-use Rattle.ap_defs.specs.declared.terms.Var.{Var}
+use Rattle.std.proofs.Common.{◌≡◌, ◌++◌, drop, map}
 use Rattle.ap_backchain.proofs.vars.add_vars_of_conds.Given as goal
 
--- the variables of the conditions from here on are in the set
+-- the variables so far and those of the rest are all
 abbrev pub invariant-adding : goal.invariant-adding
-invariant-adding l = (xs : List Var) → l.initial.vars.items ≡ ascending_vars xs → l.vars.items ≡ ascending_vars (map (λ c. c.var) (drop l.i l.conds) ++ xs)
+invariant-adding l = l.vars.items ++ map (λ c. c.var) (drop l.c-index l.conds) ≡ l.initial.vars.items ++ map (λ c. c.var) l.conds

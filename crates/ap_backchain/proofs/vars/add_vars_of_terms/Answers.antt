@@ -1,13 +1,10 @@
-use Rattle.std.proofs.Common.{◌≡◌, ◌-◌, ◌++◌, suc, drop, map, ap, ◌∙◌, arith}
-use Rattle.ap_defs.specs.Answers.{ascending_vars}
-use Rattle.ap_defs.specs.Occurrences.{vars_of_terms}
+use Rattle.std.proofs.Common.{◌<◌, length, ◌∙◌, arith}
 use Rattle.ap_defs.specs.Terms.{term_of}
-use Rattle.ap_backchain.proofs.VarLemmas.{terms_step}
+use Rattle.ap_backchain.proofs.VarLemmas.{read_step}
 use Rattle.ap_backchain.proofs.vars.add_vars_of_terms.Goals as goal
 
 pub adding-preserved : goal.adding-preserved
-adding-preserved c = λ xs h.
-    let e : c.adding.i ≡ suc (c.adding.i - 1) = omega arith in
-    c.in_ok-add_vars_of.ensures (vars_of_terms (map term_of (drop (suc (c.adding.i - 1)) c.args.terms.now)) ++ xs)
-    (c.adding.invariant xs h ∙ ap (λ n. ascending_vars (vars_of_terms (map term_of (drop n c.args.terms.now)) ++ xs)) e)
-    ∙ ap ascending_vars (terms_step c.args.terms.now (c.adding.i - 1) c.index-terms-i.result xs (omega arith) c.index-terms-i.is)
+adding-preserved c =
+    let h : c.adding.t-index < length c.args.terms.now = omega arith in
+    read_step term_of c.args.terms.now c.adding.t-index c.t-item.result c.adding.vars.items c.add_vars_of.new.vars.items h c.t-item.is c.in_ok-add_vars_of.ensures
+    ∙ c.adding.invariant

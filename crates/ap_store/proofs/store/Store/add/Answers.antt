@@ -1,15 +1,13 @@
-use Rattle.std.proofs.Common.{length, ap, ◌∙◌}
-use Rattle.ap_defs.specs.Freshness.{add_conds}
-use Rattle.ap_store.specs.Bindings.{bindings_of}
-use Rattle.ap_store.specs.Triples.{with_conditions}
-use Rattle.ap_store.specs.Views.{present, triple_of}
-use Rattle.ap_store.proofs.VersionLemmas.{same_if_ok, triple_eq}
+use Rattle.std.proofs.Common.{refl}
+use Rattle.ap_store.proofs.StoreLemmas.{added_ascending, added_unbound}
 use Rattle.ap_store.proofs.store.Store.add.Goals as goal
 
-pub returns-clause-present : goal.returns-clause-present
-returns-clause-present c =
-    let s = bindings_of c.args.self.now.present.bindings.items in
-    let ds = c.args.self.now.present.conditions.items in
-    let n = length c.args.self.now.kinds.items in
-    same_if_ok c.go_on.result (present c.go_on.new.self) _ (with_conditions c.args.conds.now (present c.args.self.now)) c.go_on.ensures.present
-    (triple_eq (bindings_of c.in_ok-bindings.bindings.items) s c.in_ok-conditions.conditions.items (add_conds c.args.conds.now ds) n (c.in_ok-bindings.ensures ∙ ap bindings_of c.deref.ensures.value) (c.in_ok-conditions.ensures ∙ ap (add_conds c.args.conds.now) c.deref-2.ensures.value))
+pub replace_conditions-requires-clause-unbound : goal.replace_conditions-requires-clause-unbound
+replace_conditions-requires-clause-unbound c =
+    let s = c.args.self.now in
+    added_unbound s.trail.items s.trail.items s.stored.0 refl c.args.conds.now c.in_ok-all.all.items c.conditions-held.result.now c.in_ok-all.ensures c.conditions-held.ensures c.requires
+
+pub replace_conditions-requires-clause-ascending : goal.replace_conditions-requires-clause-ascending
+replace_conditions-requires-clause-ascending c =
+    let s = c.args.self.now in
+    added_ascending s.trail.items s.trail.items s.stored.0 refl c.args.conds.now c.in_ok-all.all.items c.conditions-held.result.now c.in_ok-all.ensures c.conditions-held.ensures

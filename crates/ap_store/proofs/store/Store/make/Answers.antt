@@ -1,26 +1,34 @@
-use Rattle.std.proofs.Common.{◌≡◌, ◌≤◌, ◌+◌, length, map, refl, ap, ◌∙◌, arith}
-use Rattle.ap_store.specs.Bindings.{bindings_of}
-use Rattle.ap_store.specs.Views.{present, triple_of, version_of}
-use Rattle.ap_store.proofs.VersionLemmas.{as_many, counts_more, goes_on, same_bound, versions_more}
+use Rattle.std.proofs.Common.{◌≡◌, ◌+◌, ◌++◌, [], ◌∷◌, List, length, ap, ◌∙◌, arith}
+use Rattle.ap_store.specs.Changes.{empty}
+use Rattle.ap_store.specs.Slots.{place_in}
+use Rattle.ap_store.specs.Views.{versions}
+use Rattle.ap_store.specs.declared.changes.Change.{Change}
+use Rattle.ap_store.specs.declared.changes.Change.TheVariants.{Made}
+use Rattle.ap_store.specs.declared.slots.Slot.{Slot}
+use Rattle.ap_store.proofs.SoundLemmas.{ranked_after}
+use Rattle.ap_store.proofs.StoredLemmas.{stored_made}
+use Rattle.ap_store.proofs.TrailLemmas.{goes_on_one, present_new, versions_after, versions_new}
 use Rattle.ap_store.proofs.store.Store.make.Goals as goal
 
 pub invariant_of-self-2 : goal.invariant_of-self-2
 invariant_of-self-2 c =
-    let n = length c.args.self.now.kinds.items in
-    let e : c.len-count.result ≡ n = omega (arith, c.len-count.ensures) in
-    let l : n ≤ length c.append.new.self.items = omega (arith, c.in_ok-append.ensures.len) in
-    record { counts = counts_more c.args.self.now.past.items c.reserve.new.self.items c.push_reserved.new.self.items _ n (length c.append.new.self.items) c.args.self.now.counts c.push_reserved.ensures.items c.reserve.ensures.items e l }
+    let s = c.args.self.now in
+    let n = length c.args.locals.now in
+    let e : length c.add_slots.new.table.items ≡ length s.table.items + n = omega (arith, c.add_slots.ensures.length, ap length c.reserve.ensures.items) in
+    let kept = stored_made s.table.items c.add_slots.new.table.items s.trail.items c.push_reserved.new.self.items s.latest s.reach n s.stored e
+    (λ i. c.add_slots.ensures.places i ∙ ap (λ (us : List Slot). place_in us i) c.reserve.ensures.items)
+    (c.push_reserved.ensures.items ∙ ap (λ (cs : List Change). cs ++ Made n ∷ []) c.reserve-2.ensures.items) in
+    record { stored = kept; ranked = ranked_after c.push_reserved.new.self.items kept.0 }
 
 pub returns-clause-present : goal.returns-clause-present
-returns-clause-present c = record {
-  bindings = λ x. same_bound _;
-  conditions = refl;
-  next = omega (arith, c.in_ok-append.ensures.len, as_many c.in_ok-more.more.items c.args.locals.now c.in_ok-more.ensures);
-}
+returns-clause-present c =
+    let s = c.args.self.now in
+    let n = length c.args.locals.now in
+    present_new s.trail.items c.push_reserved.new.self.items (Made n) empty (c.push_reserved.ensures.items ∙ ap (λ (cs : List Change). cs ++ Made n ∷ []) c.reserve-2.ensures.items)
 
 pub returns-clause-past : goal.returns-clause-past
 returns-clause-past c =
-    let e : c.len-count.result ≡ length c.args.self.now.kinds.items = omega (arith, c.len-count.ensures) in
-    goes_on (map version_of c.args.self.now.past.items) (map version_of c.push_reserved.new.self.items) (present c.args.self.now) (triple_of c.args.self.now.present (length c.append.new.self.items))
-    (versions_more c.args.self.now.past.items c.reserve.new.self.items c.push_reserved.new.self.items _ (present c.args.self.now) c.push_reserved.ensures.items c.reserve.ensures.items
-    (ap (λ n. triple_of c.in_ok-held.held n) e ∙ c.in_ok-held.ensures))
+    let s = c.args.self.now in
+    let n = length c.args.locals.now in
+    goes_on_one (versions s) (versions_after c.push_reserved.new.self.items empty) _
+    (versions_new s.trail.items c.push_reserved.new.self.items (Made n) empty (c.push_reserved.ensures.items ∙ ap (λ (cs : List Change). cs ++ Made n ∷ []) c.reserve-2.ensures.items))

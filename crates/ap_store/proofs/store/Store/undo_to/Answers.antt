@@ -1,35 +1,25 @@
-use Rattle.std.proofs.Common.{◌≤◌, ◌<◌, length, arith}
-use Rattle.ap_store.specs.Views.{present}
-use Rattle.ap_store.proofs.VersionLemmas.{count_at, counts_back, kinds_cut, kinds_left, versions_back}
+use Rattle.std.proofs.Common.{◌≡◌, ◌+◌, [], ◌∷◌, length, ap, arith}
+use Rattle.std.proofs.lemmas.List.{length-append}
+use Rattle.ap_store.specs.Changes.{empty}
+use Rattle.ap_store.specs.Views.{kinds, present, versions}
+use Rattle.ap_store.proofs.TrailLemmas.{goes_on_both, goes_on_one, past_length, prefix_is, take_further, versions_length}
 use Rattle.ap_store.proofs.store.Store.undo_to.Goals as goal
 
-pub invariant_of-self : goal.invariant_of-self
-invariant_of-self c =
-    let vs = c.args.self.now.past.items in
-    let ws = c.truncate.new.self.items in
-    let us = c.pop.new.self.items in
-    let v = c.in-Some.field-0 in
-    let ks = c.args.self.now.kinds.items in
-    let ls = c.truncate-in-Some.new.self.items in
-    let l : v.count ≤ length ks = count_at vs ws us v c.args.m.place (length ks) c.args.self.now.counts c.truncate.ensures.items c.in-Some.ensures.items in
-    record { counts = counts_back vs ws us v c.args.m.place (length ks) (length ls) c.args.self.now.counts c.truncate.ensures.items c.in-Some.ensures.items (kinds_left ks ls v.count c.truncate-in-Some.ensures.items l) }
+pub undo_last-requires : goal.undo_last-requires
+undo_last-requires c = omega (arith, past_length c.undoing.self.trail.items empty, c.len.ensures)
 
-pub returns-in-Some-clause-versions : goal.returns-in-Some-clause-versions
-returns-in-Some-clause-versions c =
-    let vs = c.args.self.now.past.items in
-    let ws = c.truncate.new.self.items in
-    let us = c.pop.new.self.items in
-    let v = c.in-Some.field-0 in
-    let ks = c.args.self.now.kinds.items in
-    let ls = c.truncate-in-Some.new.self.items in
-    let l : v.count ≤ length ks = count_at vs ws us v c.args.m.place (length ks) c.args.self.now.counts c.truncate.ensures.items c.in-Some.ensures.items in
-    let k : c.args.m.place < length vs = omega (arith, c.if-m-len.true, c.len.ensures) in
-    versions_back vs ws us v (present c.args.self.now) c.args.m.place (length ls) k c.truncate.ensures.items c.in-Some.ensures.items (kinds_left ks ls v.count c.truncate-in-Some.ensures.items l)
+pub undoing-preserved : goal.undoing-preserved
+undoing-preserved c =
+    let s = c.undoing.self in
+    let r = c.undo_last.new.self in
+    record {
+      versions = goes_on_both (versions r) (versions s) (versions c.args.self.now) (goes_on_one (versions r) (versions s) (present s) c.undo_last.ensures.versions) c.undoing.invariant.versions;
+      kinds = take_further (present r).next (present s).next (kinds r) (kinds s) (kinds c.args.self.now) c.undo_last.ensures.kinds c.undoing.invariant.kinds c.undo_last.ensures.next;
+      place = omega (arith, c.len.ensures, ap length c.undo_last.ensures.versions, length-append (versions r) (present s ∷ []), versions_length s.trail.items empty, versions_length r.trail.items empty, past_length r.trail.items empty);
+    }
 
-pub returns-in-Some-clause-kinds : goal.returns-in-Some-clause-kinds
-returns-in-Some-clause-kinds c =
-    let vs = c.args.self.now.past.items in
-    let v = c.in-Some.field-0 in
-    let ks = c.args.self.now.kinds.items in
-    let l : v.count ≤ length ks = count_at vs c.truncate.new.self.items c.pop.new.self.items v c.args.m.place (length ks) c.args.self.now.counts c.truncate.ensures.items c.in-Some.ensures.items in
-    kinds_cut ks c.truncate-in-Some.new.self.items v.count c.truncate-in-Some.ensures.items l
+pub returns-clause-versions : goal.returns-clause-versions
+returns-clause-versions c =
+    let s = c.undoing.self in
+    let l : length (versions s) ≡ c.args.m.place + 1 = omega (arith, c.len.ensures, c.undoing.invariant.place, versions_length s.trail.items empty, past_length s.trail.items empty) in
+    prefix_is (versions s) (versions c.args.self.now) (c.args.m.place + 1) c.undoing.invariant.versions l

@@ -1,0 +1,13 @@
+use Rattle.std.proofs.Common.{◌≡◌, length}
+use Rattle.ap_backchain.specs.Searches.{HasPoints, pending_of}
+use Rattle.ap_backchain.proofs.run.resume.Given as goal
+
+-- the choices so far had no way left, so that the others have all
+abbrev pub invariant-resuming : goal.invariant-resuming
+invariant-resuming l = record {
+  points : HasPoints l.place l.points;
+  left : pending_of l.place l.points ≡ pending_of l.fn.place l.fn.points;
+}
+
+abbrev pub decreases-resuming : goal.decreases-resuming
+decreases-resuming l = length l.points.items

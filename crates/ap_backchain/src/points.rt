@@ -1,0 +1,42 @@
+//! Choices of which some ways are still to be tried.
+
+use crate::frames::Frame;
+use ap_defs::goals::Clause;
+use ap_defs::terms::Term;
+use ap_store::store::Mark;
+
+/// How far a search had come: the version of the store, and how many cells, choices and variables
+/// there were, with the number of the first goal that waited.
+#[derive(Clone, Copy)]
+pub struct Save {
+    pub mark: Mark,
+    pub cells: usize,
+    pub first: usize,
+    pub path: usize,
+    pub brought: usize,
+}
+
+/// The clauses of an atom with these arguments, of which so many were tried. The numbers in the
+/// arguments are raised by `base`, and the body of a clause has the depth.
+#[derive(Clone, Copy)]
+pub struct Untried<'a> {
+    pub args: &'a [Term],
+    pub base: u64,
+    pub depth: u32,
+    pub clauses: &'a [Clause<Term>],
+    pub tried: usize,
+}
+
+/// The ways that a choice has left: the right side of a disjunction, or further clauses.
+#[derive(Clone, Copy)]
+pub enum Rest<'a> {
+    Right(Frame<'a>),
+    Clauses(Untried<'a>),
+}
+
+/// A choice, with how far the search had come there.
+#[derive(Clone, Copy)]
+pub struct Point<'a> {
+    pub save: Save,
+    pub rest: Rest<'a>,
+}

@@ -1,0 +1,19 @@
+-- Swappings of closures.
+use Rattle.std.proofs.Common.{◌≡◌, ◌^◌, ◌<◌, ◌≤◌, ℕ, List, [], ◌∷◌, map, subst, sym, arith}
+use Rattle.ap_defs.specs.Renaming.{AreSwapsBelow, IsBelow, rename_swap, rename_term}
+use Rattle.ap_defs.specs.Terms.{NominalTerm, susp, term_of}
+use Rattle.ap_defs.specs.declared.terms.Swap.{Swap}
+use Rattle.ap_defs.specs.declared.terms.Term.{Term}
+use Rattle.ap_defs.specs.declared.terms.Term.TheVariants as code
+use Rattle.ap_defs.specs.declared.terms.Var.{Var}
+
+swaps_below_more : (m n : ℕ) → n ≤ m → (p : List Swap) → AreSwapsBelow n p → AreSwapsBelow m p
+swaps_below_more m n l [] h = tt
+swaps_below_more m n l (s ∷ p) h = (omega arith, omega arith, swaps_below_more m n l p h.2)
+
+-- the swappings of a suspension
+pub waiting_below : (m n base : ℕ) (t : Term) (q r : List Swap) (x : Var) → n ≤ m → IsBelow n (rename_term base (term_of t)) → t ≡ code.Susp q x → r ≡ q
+    → AreSwapsBelow m (map (rename_swap base) r)
+waiting_below m n base t q r x l h e f =
+    let k : IsBelow n (rename_term base (susp q x)) = subst (λ (u : Term). IsBelow n (rename_term base (term_of u))) e h in
+    subst (λ (p : List Swap). AreSwapsBelow m (map (rename_swap base) p)) (sym f) (swaps_below_more m n l (map (rename_swap base) q) k.0)

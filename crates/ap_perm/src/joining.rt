@@ -1,0 +1,43 @@
+//! Lists of swappings in a row, and names whose numbers become higher.
+
+ghost use Rattle.std.specs.Prelude.{◌≡◌, ◌+◌, ◌<◌, ◌^◌, ◌++◌, IfOk, map};
+ghost use Rattle.ap_defs.specs.Renaming.{AreSwapsBelow, rename_name, rename_swap};
+
+use ap_defs::memory::Memory;
+use ap_defs::terms::{Name, Swap};
+use std::alloc::Global;
+
+/// One list of swappings, and then the other.
+pub fn joined(alloc: Global, p: &[Swap], q: &[Swap]) -> Result<Vec<Swap>, Memory>
+    ensures { IfOk result (λ r. r.items ≡ p.now ++ q.now) }
+{
+    let mut joined = p.to_vec(alloc)?;
+    joined.extend_from_slice(q)?;
+    Ok(joined)
+}
+
+/// A list of swappings, and then the other, with its numbers higher by `base`.
+pub fn with_numbered(mut p: Vec<Swap>, base: u64, q: &[Swap]) -> Result<Vec<Swap>, Memory>
+    requires { AreSwapsBelow (2 ^ 64) (map (rename_swap base) q.now) }
+    ensures { IfOk result (λ r. r.items ≡ p.items ++ map (rename_swap base) q.now) }
+{
+    for s in q {
+        p.push(Swap {
+            sort: s.sort,
+            left: base + s.left,
+            right: base + s.right,
+        })?;
+    }
+    Ok(p)
+}
+
+/// The name with its number higher by `base`. It takes no memory.
+pub fn numbered(base: u64, a: Name) -> Name
+    requires { base + a.num < 2 ^ 64 }
+    ensures { result ≡ rename_name base a }
+{
+    Name {
+        sort: a.sort,
+        num: base + a.num,
+    }
+}

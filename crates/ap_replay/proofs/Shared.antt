@@ -1,0 +1,9 @@
+-- The tree of a problem may be shared between threads: `search` does not find that by itself.
+use denote.Param.Send.{IsSync, sendable}
+use denote.Ref.{NamedLft}
+use Rattle.std.proofs.Crossing.{crosses}
+use Rattle.ap_program.proofs.Shared.{restricted_sync}
+use Rattle.ap_replay.specs.contracts.problem_tree.ProblemTree.{the_row}
+
+pub tree_sync : (a : NamedLft) → IsSync (the_row a)
+tree_sync a = search (sendable, crosses, restricted_sync) depth 30

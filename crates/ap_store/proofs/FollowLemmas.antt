@@ -1,0 +1,94 @@
+-- Variables that are followed to the closures to which they are bound.
+use Rattle.std.proofs.Common.{◌≡◌, ◌<◌, ◌≤◌, ◌+◌, ℕ, suc, Bool, true, false, List, [], ◌∷◌, ◌++◌, map, refl, sym, ap, ◌∙◌, subst, arith}
+use Rattle.std.specs.Prelude.{Option, Some, None, is_some}
+use Rattle.ap_defs.specs.Freshness.{var_eq}
+use Rattle.ap_defs.specs.Renaming.{AreSwapsBelow, IsBelow, rename_swap, rename_term, rename_var}
+use Rattle.ap_defs.specs.Substitution.{bound_term, moved, occurs, under}
+use Rattle.ap_defs.specs.Terms.{NominalTerm, act_term, pair, susp, term_of}
+use Rattle.ap_defs.specs.declared.terms.Swap.{Swap}
+use Rattle.ap_defs.specs.declared.terms.Term.{Term}
+use Rattle.ap_defs.specs.declared.terms.Term.TheVariants as code
+use Rattle.ap_defs.specs.declared.terms.Var.{Var}
+use Rattle.ap_perm.specs.Closures.{closure_term}
+use Rattle.ap_perm.specs.Lookups.{depth_of}
+use Rattle.ap_perm.specs.declared.closures.Closure.{Closure}
+use Rattle.ap_perm.proofs.LookupLemmas.{depth_act, depth_ranked}
+use Rattle.ap_perm.proofs.VisitLemmas.{visits, visits_bound, visits_left, visits_right}
+use Rattle.ap_theory.proofs.IdempotenceLemmas.{bound_term_unbound}
+use Rattle.ap_theory.proofs.SubstitutionLemmas.{under_act}
+use Rattle.ap_theory.proofs.TermLemmas.{act_term-append, occurs_act}
+use Rattle.ap_theory.specs.Variables.{IsUnbound}
+use Rattle.ap_store.specs.Views.{present, rank, raw_bound}
+use Rattle.ap_store.specs.declared.store.Store.{Store}
+use Rattle.ap_store.proofs.BelowLemmas.{act_below}
+use Rattle.ap_store.proofs.StoreLemmas.{store_ranked, store_sound}
+
+-- how many nodes a walk through the bindings visits
+abbrev pub visits_in : Store → NominalTerm → ℕ
+visits_in s t = visits (raw_bound s) (rank s) t
+
+module _ (s : Store) where
+  pub left_less : (t u : NominalTerm) → visits_in s t < visits_in s (pair t u)
+  left_less t u = visits_left (raw_bound s) (rank s) (store_ranked s) t u
+
+  pub right_less : (t u : NominalTerm) → visits_in s u < visits_in s (pair t u)
+  right_less t u = visits_right (raw_bound s) (rank s) (store_ranked s) t u
+
+  -- the closure's term without its swappings
+  abbrev bare : Closure → NominalTerm
+  bare c = rename_term c.base (term_of c.term.now)
+
+  pub bound_less : (q : List Swap) (x : Var) (c : Closure) → raw_bound s x ≡ Some (closure_term c) → visits_in s (bare c) < visits_in s (susp q x)
+  bound_less q x c e = visits_bound (raw_bound s) (rank s) (store_ranked s) q x c.swaps.items (bare c) e
+
+  pub unbound_var : (x : Var) → raw_bound s x ≡ None → IsUnbound (present s).bindings x
+  unbound_var x e = (store_sound s).same x ∙ ap is_some e
+
+  pub unbound_under : (q : List Swap) (x : Var) → raw_bound s x ≡ None → under (present s).bindings (susp q x) ≡ susp q x
+  unbound_under q x e = ap (moved q x) (bound_term_unbound (present s).bindings x (unbound_var x e))
+
+  -- a bound variable stands for what its closure stands for
+  pub bound_under : (q : List Swap) (x : Var) (c : Closure) → raw_bound s x ≡ Some (closure_term c)
+      → under (present s).bindings (susp q x) ≡ under (present s).bindings (act_term (q ++ c.swaps.items) (bare c))
+  bound_under q x c e =
+      (store_sound s).follows q x (closure_term c) e ∙ sym (under_act (present s).bindings q (closure_term c)) ∙ ap (under (present s).bindings) (sym (act_term-append q c.swaps.items (bare c)))
+
+  pub unbound_occurs : (y x : Var) (q : List Swap) → raw_bound s x ≡ None → occurs y (under (present s).bindings (susp q x)) ≡ var_eq y x
+  unbound_occurs y x q e = ap (occurs y) (unbound_under q x e)
+
+  -- swappings do not change which variables occur
+  pub bare_occurs : (y : Var) (p : List Swap) (t : NominalTerm) → occurs y (under (present s).bindings (act_term p t)) ≡ occurs y (under (present s).bindings t)
+  bare_occurs y p t = ap (occurs y) (under_act (present s).bindings p t) ∙ occurs_act y p (under (present s).bindings t)
+
+  pub bound_occurs : (y x : Var) (q : List Swap) (c : Closure) → raw_bound s x ≡ Some (closure_term c)
+      → occurs y (under (present s).bindings (susp q x)) ≡ occurs y (under (present s).bindings (bare c))
+  bound_occurs y x q c e = ap (occurs y) (bound_under q x c e) ∙ bare_occurs y (q ++ c.swaps.items) (bare c)
+
+  pub bound_below : (q : List Swap) (x : Var) (c : Closure) → raw_bound s x ≡ Some (closure_term c) → AreSwapsBelow (present s).next q → IsBelow (present s).next (act_term (q ++ c.swaps.items) (bare c))
+  bound_below q x c e h =
+      subst (λ (t : NominalTerm). IsBelow (present s).next t) (sym (act_term-append q c.swaps.items (bare c)))
+      (act_below (present s).next q h (closure_term c) ((store_sound s).below x (closure_term c) e))
+
+  pub bound_depth : (q : List Swap) (x : Var) (c : Closure) → raw_bound s x ≡ Some (closure_term c) → depth_of (rank s) (act_term (q ++ c.swaps.items) (bare c)) < depth_of (rank s) (susp q x)
+  bound_depth q x c e =
+      let l : depth_of (rank s) (closure_term c) ≤ rank s x = depth_ranked (raw_bound s) (rank s) (store_ranked s) x (closure_term c) e in
+      let k : depth_of (rank s) (act_term (q ++ c.swaps.items) (bare c)) ≡ depth_of (rank s) (bare c) = depth_act (rank s) (q ++ c.swaps.items) (bare c) in
+      let m : depth_of (rank s) (closure_term c) ≡ depth_of (rank s) (bare c) = depth_act (rank s) c.swaps.items (bare c) in
+      omega (arith, l, k, m)
+
+  -- what a variable at the head of a closure is followed to
+  pub step_found : (c d : Closure) (all : List Swap) (q : List Swap) (x : Var) → c.term.now ≡ code.Susp q x → all ≡ (c.swaps.items ++ map (rename_swap c.base) q) ++ d.swaps.items
+      → raw_bound s (rename_var c.base x) ≡ Some (closure_term d)
+      → (under (present s).bindings (act_term all (bare d)) ≡ under (present s).bindings (closure_term c))
+      × (IsBelow (present s).next (closure_term c) → IsBelow (present s).next (act_term all (bare d))) × (depth_of (rank s) (act_term all (bare d)) < depth_of (rank s) (closure_term c))
+  step_found c d all q x f g e =
+      let p = c.swaps.items ++ map (rename_swap c.base) q in
+      let y = rename_var c.base x in
+      let h : closure_term c ≡ susp p y = ap (λ (t : Term). act_term c.swaps.items (rename_term c.base (term_of t))) f in
+      let k : act_term all (bare d) ≡ act_term (p ++ d.swaps.items) (bare d) = ap (λ r. act_term r (bare d)) g in (
+        ap (under (present s).bindings) k ∙ sym (bound_under p y d e) ∙ ap (under (present s).bindings) (sym h),
+        (λ l. let m : IsBelow (present s).next (susp p y) = subst (λ (t : NominalTerm). IsBelow (present s).next t) h l in
+            subst (λ (t : NominalTerm). IsBelow (present s).next t) (sym k) (bound_below p y d e m.0)),
+        subst (λ (t : NominalTerm). depth_of (rank s) t < depth_of (rank s) (closure_term c)) (sym k)
+            (subst (λ (t : NominalTerm). depth_of (rank s) (act_term (p ++ d.swaps.items) (bare d)) < depth_of (rank s) t) (sym h) (bound_depth p y d e)),
+      )

@@ -1,0 +1,30 @@
+use Rattle.std.proofs.Common.{◌<◌, ◌≤◌, length, inl, inr, sym, ◌∙◌, arith}
+use Rattle.ap_store.proofs.StoredLemmas.{conds_at_index, conds_at_outside}
+use Rattle.ap_store.proofs.searches.conditions_at.Goals as goal
+use Rattle.ap_store.proofs.searches.conditions_at.Goals.{then-place-eq0-via-then-place-eq0, then-place-eq0-via-else-place-eq0+then-trail-place}
+
+pub returns-then-place-eq0 : goal.returns-then-place-eq0
+returns-then-place-eq0 c =
+    sym (conds_at_outside c.args.trail.now c.args.place
+    (elim c.then-place-eq0.branch [
+      | then-place-eq0-via-then-place-eq0 w ↦ inl (omega arith)
+      | then-place-eq0-via-else-place-eq0+then-trail-place w ↦ inr (omega arith)
+    ]))
+
+pub returns-in-Made : goal.returns-in-Made
+returns-in-Made c =
+    let l : 0 < c.args.place = omega arith in
+    let m : c.args.place ≤ length c.args.trail.now = omega arith in
+    sym (conds_at_index c.args.trail.now c.args.place c.index-trail-place.result _ l m c.index-trail-place.is c.in-Made.is)
+
+pub returns-in-Bound : goal.returns-in-Bound
+returns-in-Bound c =
+    let l : 0 < c.args.place = omega arith in
+    let m : c.args.place ≤ length c.args.trail.now = omega arith in
+    sym (conds_at_index c.args.trail.now c.args.place c.index-trail-place.result _ l m c.index-trail-place.is c.in-Bound.is)
+
+pub returns-in-Replaced : goal.returns-in-Replaced
+returns-in-Replaced c =
+    let l : 0 < c.args.place = omega arith in
+    let m : c.args.place ≤ length c.args.trail.now = omega arith in
+    c.as_slice.ensures.value ∙ sym (conds_at_index c.args.trail.now c.args.place c.index-trail-place.result _ l m c.index-trail-place.is c.in-Replaced.is)

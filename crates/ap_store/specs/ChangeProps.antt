@@ -1,0 +1,25 @@
+-- That changes follow one another is a fact with one proof at most.
+use Rattle.std.specs.Prelude.{◌≡◌, ℕ, ◌<◌, false, true, List, [], ◌∷◌}
+use mathlib.Core.HLevel.{Unit-prop}
+use Rattle.std.proofs.Props.{props}
+use Rattle.ap_defs.specs.Renaming.{IsBelow}
+use Rattle.ap_defs.specs.declared.terms.Cond.{Cond}
+use Rattle.ap_perm.specs.BelowProps.{below_prop}
+use Rattle.ap_perm.specs.Closures.{closure_term}
+use Rattle.ap_store.specs.Changes.{AreChanges, IsChange, after}
+use Rattle.ap_store.specs.Triples.{AreOnUnbound, Triple}
+use Rattle.ap_store.specs.declared.changes.Change.{Change}
+use Rattle.ap_store.specs.declared.changes.Change.TheVariants.{Made, Bound, Replaced}
+
+on_unbound_prop : (a : Triple) (cs : List Cond) → IsProp (AreOnUnbound a cs)
+on_unbound_prop a [] = Unit-prop
+on_unbound_prop a (c ∷ cs) = let h : IsProp (AreOnUnbound a cs) = on_unbound_prop a cs in hlevel (props, h)
+
+change_prop : (c : Change) (a : Triple) → IsProp (IsChange c a)
+change_prop (Made n) a = Unit-prop
+change_prop (Bound x c n) a = let h : IsProp (IsBelow a.next (closure_term c)) = below_prop a.next (closure_term c) in hlevel (props, h)
+change_prop (Replaced ds n) a = let h : IsProp (AreOnUnbound a ds.items) = on_unbound_prop a ds.items in hlevel (props, h)
+
+pub changes_prop : (cs : List Change) (a : Triple) → IsProp (AreChanges cs a)
+changes_prop [] a = Unit-prop
+changes_prop (c ∷ cs) a = let h : IsProp (IsChange c a) = change_prop c a in let k : IsProp (AreChanges cs (after c a)) = changes_prop cs (after c a) in hlevel (props, h, k)

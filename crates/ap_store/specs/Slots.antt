@@ -1,0 +1,41 @@
+-- What is kept of each number.
+use Rattle.std.specs.Prelude.{◌≡◌, ℕ, zero, suc, List, [], ◌∷◌, length}
+use mathlib.Core.HLevel.{Unit-prop}
+use Rattle.std.proofs.Props.{props}
+use Rattle.ap_defs.specs.Types.{NominalKind, kind_of}
+use Rattle.ap_perm.specs.Lookups as lookups
+use Rattle.ap_store.specs.Changes.{AreChanges, IsChange, empty, present_after}
+use Rattle.ap_store.specs.ChangeProps.{changes_prop}
+use Rattle.ap_store.specs.Trails.{AreLinked, IsLinked, Kept, keep, kept_after, nothing_kept}
+use Rattle.ap_store.specs.declared.changes.Change.{Change}
+use Rattle.ap_store.specs.declared.changes.Change.TheVariants.{Made, Bound, Replaced}
+use Rattle.ap_store.specs.declared.slots.Slot.{Slot}
+
+abbrev pub slot_kind : Slot → NominalKind
+slot_kind s = kind_of s.local.now.kind
+
+-- the count that is kept of a number, or 0
+abbrev pub place_in : List Slot → ℕ → ℕ
+place_in [] i = 0
+place_in (s ∷ ss) zero = s.place
+place_in (s ∷ ss) (suc i) = place_in ss i
+
+-- the changes may follow one another, and what is kept beside them fits them
+abbrev pub IsStored : List Slot → List Change → ℕ → ℕ → Type 0
+IsStored table cs latest reach =
+    AreChanges cs empty × AreLinked cs nothing_kept
+    × (length table ≡ (present_after cs empty).next) × ((i : ℕ) → place_in table i ≡ (kept_after cs nothing_kept).place i)
+    × (latest ≡ (kept_after cs nothing_kept).latest) × (reach ≡ (kept_after cs nothing_kept).reach)
+
+link_prop : (c : Change) (k : Kept) → IsProp (IsLinked c k)
+link_prop (Made n) k = Unit-prop
+link_prop (Bound x c n) k = hlevel props
+link_prop (Replaced ds n) k = hlevel props
+
+links_prop : (cs : List Change) (k : Kept) → IsProp (AreLinked cs k)
+links_prop [] k = Unit-prop
+links_prop (c ∷ cs) k = let h : IsProp (IsLinked c k) = link_prop c k in let l : IsProp (AreLinked cs (keep c k)) = links_prop cs (keep c k) in hlevel (props, h, l)
+
+pub stored_prop : (table : List Slot) (cs : List Change) (latest reach : ℕ) → IsProp (IsStored table cs latest reach)
+stored_prop table cs latest reach =
+    let h : IsProp (AreChanges cs empty) = changes_prop cs empty in let k : IsProp (AreLinked cs nothing_kept) = links_prop cs nothing_kept in hlevel (props, h, k)

@@ -1,0 +1,48 @@
+use Rattle.std.proofs.Common.{◌≡◌, [], length, subst, sym, ap, ◌∙◌, ◌+◌, arith, rules}
+use Rattle.std.proofs.lemmas.List.{nil_from_length}
+use Rattle.ap_defs.specs.Unification.{done, failed, next, step}
+use Rattle.ap_store.specs.Views.{present, versions}
+use Rattle.ap_theory.proofs.TerminationLemmas.{ending_done, ending_failed, ending_next, steps_left, steps_left_next}
+use Rattle.ap_unify.proofs.WorkLemmas.{go_on_on, goes_on_on, no_equation}
+use Rattle.ap_unify.proofs.work.run.Goals as goal
+use Rattle.ap_unify.specs.Work.{ArePairsBelow, progress_if, work_stage}
+
+pub returns-then-not-branch-clause-ending : goal.returns-then-not-branch-clause-ending
+returns-then-not-branch-clause-ending c =
+    let before = work_stage (present c.rewriting.store).bindings c.rewriting.work in
+    let s = work_stage (present c.advance.new.store).bindings c.advance.new.work in
+    let e : step before ≡ failed = sym c.in_ok-advance.ensures.stage ∙ ap (λ b. progress_if b s) c.if-not-branch.true in
+    sym c.rewriting.invariant.ending ∙ ending_failed before e
+
+pub rewriting-smaller : goal.rewriting-smaller
+rewriting-smaller c =
+    let before = work_stage (present c.rewriting.store).bindings c.rewriting.work in
+    let s = work_stage (present c.advance.new.store).bindings c.advance.new.work in
+    let e : step before ≡ next s = sym c.in_ok-advance.ensures.stage ∙ ap (λ b. progress_if b s) c.if-not-branch.false in
+    let fewer : steps_left before ≡ 1 + steps_left s = steps_left_next before s e in
+    omega (arith, fewer)
+
+pub rewriting-preserved : goal.rewriting-preserved
+rewriting-preserved c =
+    let a = present c.args.store.now in
+    let b = present c.rewriting.store in
+    let d = present c.advance.new.store in
+    let before = work_stage b.bindings c.rewriting.work in
+    let s = work_stage d.bindings c.advance.new.work in
+    let e : step before ≡ next s = sym c.in_ok-advance.ensures.stage ∙ ap (λ v. progress_if v s) c.if-not-branch.false in
+    record {
+      ending = sym (ending_next before s e) ∙ c.rewriting.invariant.ending;
+      pairs = subst (λ n. ArePairsBelow n c.advance.new.work.equations.items) (sym c.in_ok-advance.ensures.goes_on.next) (c.in_ok-advance.ensures.goes_on.pairs c.rewriting.invariant.pairs);
+      goes_on = go_on_on a b d c.args.work.now c.rewriting.work c.advance.new.work c.rewriting.invariant.goes_on c.in_ok-advance.ensures.goes_on;
+      past = goes_on_on (versions c.args.store.now) (versions c.rewriting.store) (versions c.advance.new.store) c.rewriting.invariant.past c.advance.ensures.past;
+      kinds = c.advance.ensures.kinds ∙ c.rewriting.invariant.kinds;
+    }
+
+pub returns-clause-ending : goal.returns-clause-ending
+returns-clause-ending c =
+    let w = c.rewriting.work in
+    let s = (present c.rewriting.store).bindings in
+    let none : length w.equations.items ≡ 0 = search rules in
+    let empty : w.equations.items ≡ [] = nil_from_length w.equations.items none in
+    let e : step (work_stage s w) ≡ done = no_equation s w empty in
+    sym c.rewriting.invariant.ending ∙ ending_done (work_stage s w) e

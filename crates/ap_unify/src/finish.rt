@@ -1,0 +1,105 @@
+//! The end of a run: freshness problems and conditions, reduced under the final bindings.
+
+ghost use Rattle.std.specs.Prelude.{◌≡◌, ◌++◌, Some, IfOk, map};
+ghost use Rattle.ap_defs.specs.Freshness.{Conds};
+ghost use Rattle.ap_defs.specs.Unification.{problem_of, reduce_all};
+ghost use Rattle.ap_fresh.specs.Reduction.{added};
+ghost use Rattle.ap_store.specs.Triples.{AreOnUnbound, GoesOn};
+ghost use Rattle.ap_store.specs.Views.{kinds, present, versions};
+ghost use Rattle.ap_theory.specs.StatementsOnConditions.{collected};
+ghost use Rattle.ap_unify.specs.Equations.{items_in};
+ghost use Rattle.ap_unify.specs.Finishing.{reduced, some_if, with_kept};
+ghost use Rattle.ap_unify.specs.Work.{problem_for, problems_met};
+
+use crate::pairs::{FreshFor, Work};
+use crate::reducing::{reduce_closure, reduce_var};
+use ap_defs::memory::Memory;
+use ap_defs::terms::Cond;
+use ap_store::store::Store;
+use std::alloc::Global;
+
+/// Adds the conditions to which a problem reduces, unless it is refuted.
+fn reduce_one<'a>(
+    store: &Store<'a>,
+    p: &FreshFor<'a>,
+    conds: &mut Vec<Cond>,
+) -> Result<bool, Memory>
+    ensures { IfOk result (λ fine. added (reduced (present store.now).bindings (problem_for p.now)) conds.old.items ≡ some_if fine conds.new.items) }
+{
+    match p {
+        FreshFor::OfTerm(a, c) => reduce_closure(store, *a, c, conds),
+        FreshFor::OfVar(c) => reduce_var(store, c.name, c.var, conds),
+    }
+}
+
+/// Adds the conditions to which problems reduce, from the last to the first, unless one is refuted.
+fn reduce_each<'a>(
+    store: &Store<'a>,
+    problems: &[FreshFor<'a>],
+    conds: &mut Vec<Cond>,
+) -> Result<bool, Memory>
+    ensures { IfOk result (λ fine. added (reduce_all (present store.now).bindings (map problem_for problems.now)) conds.old.items ≡ some_if fine conds.new.items) }
+{
+    'reducing: for i in (0..problems.len()).rev() {
+        if !reduce_one(store, &problems[i], conds)? {
+            return Ok(false);
+        }
+    }
+    Ok(true)
+}
+
+/// Adds the conditions to which conditions reduce, from the last to the first, unless one is refuted.
+fn reduce_taken<'a>(
+    store: &Store<'a>,
+    taken: &[Cond],
+    conds: &mut Vec<Cond>,
+) -> Result<bool, Memory>
+    ensures { IfOk result (λ fine. added (reduce_all (present store.now).bindings (map problem_of taken.now)) conds.old.items ≡ some_if fine conds.new.items) }
+{
+    'reducing: for i in (0..taken.len()).rev() {
+        if !reduce_var(store, taken[i].name, taken[i].var, conds)? {
+            return Ok(false);
+        }
+    }
+    Ok(true)
+}
+
+/// The conditions to which the problems that were met reduce, and those that were taken, or none
+/// where one is refuted.
+fn reduce_met<'a>(
+    alloc: Global,
+    store: &Store<'a>,
+    work: &Work<'a>,
+) -> Result<Option<Vec<Cond>>, Memory>
+    ensures { IfOk result (λ o. collected (reduce_all (present store.now).bindings (map problem_of work.now.taken.items ++ problems_met work.now)) ≡ items_in o) }
+{
+    let mut conds = Vec::new(alloc);
+    if !reduce_each(store, &work.problems, &mut conds)? {
+        return Ok(None);
+    }
+    if !reduce_taken(store, &work.taken, &mut conds)? {
+        return Ok(None);
+    }
+    Ok(Some(conds))
+}
+
+/// Adds the conditions to which the problems that were met reduce, and those that were taken. It
+/// answers false where one is refuted.
+pub fn finish<'a>(alloc: Global, store: &mut Store<'a>, work: &Work<'a>) -> Result<bool, Memory>
+    requires { (cs : Conds) → collected (reduce_all (present store.old).bindings (map problem_of work.now.taken.items ++ problems_met work.now)) ≡ Some cs → AreOnUnbound (present store.old) cs }
+    ensures conditions { IfOk result (λ fine. with_kept (present store.old).conditions (reduce_all (present store.old).bindings (map problem_of work.now.taken.items ++ problems_met work.now)) ≡ some_if fine (present store.new).conditions) }
+    ensures bindings { (present store.new).bindings ≡ (present store.old).bindings }
+    ensures next { (present store.new).next ≡ (present store.old).next }
+    ensures past { GoesOn (versions store.old) (versions store.new) }
+    ensures kinds { kinds store.new ≡ kinds store.old }
+{
+    match reduce_met(alloc, store, work)? {
+        None => Ok(false),
+        Some(conds) => {
+            if !conds.is_empty() {
+                store.add(alloc, &conds)?;
+            }
+            Ok(true)
+        }
+    }
+}

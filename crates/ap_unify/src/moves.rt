@@ -1,0 +1,249 @@
+//! The rules of unification, each for one equation of closures.
+
+ghost use Rattle.std.specs.Prelude.{◌≡◌, [], ◌∷◌, ◌<◌, false, IfOk};
+ghost use Rattle.ap_defs.specs.Permutations.{inverse, swap_of};
+ghost use Rattle.ap_defs.specs.Renaming.{AreSwapsBelow, IsBelow};
+ghost use Rattle.ap_defs.specs.Substitution.{◌#◌, ◌≐◌, occurs, under};
+ghost use Rattle.ap_defs.specs.Terms.{abs, act_term, susp};
+ghost use Rattle.ap_defs.specs.Unification.{bind, replace, rule, unless_occurs};
+ghost use Rattle.ap_perm.specs.Closures.{closure_term, opened_term};
+ghost use Rattle.ap_store.specs.Heads.{IsHeadUnbound};
+ghost use Rattle.ap_store.specs.Views.{present};
+ghost use Rattle.ap_theory.specs.Variables.{IsUnbound};
+ghost use Rattle.ap_unify.specs.Work.{IsMoveFit, move_under, opened_under};
+
+use crate::pairs::ClosurePair;
+use ap_defs::memory::Memory;
+use ap_defs::terms::{Name, Swap, Var};
+use ap_perm::closures::{Closure, Opened};
+use ap_perm::swappings::differing;
+use ap_store::store::Store;
+use std::alloc::Global;
+
+/// What a rule makes of the first equation: nothing, one equation, or two; one and a freshness
+/// problem; the names that are to be fresh for a variable; a binding; or no solution.
+#[derive(Drop)]
+pub enum Move<'a> {
+    Done,
+    One(ClosurePair<'a>),
+    Two(ClosurePair<'a>, ClosurePair<'a>),
+    Swapped(ClosurePair<'a>, Name, Closure<'a>),
+    Differ(Vec<Name>, Var),
+    Bind(Var, Closure<'a>),
+    Clash,
+}
+
+/// The inverse of a permutation.
+#[tactic(auto, using(ap_perm::proofs::PermLemmas::reverse_inverse))]
+fn inverse_of(alloc: Global, p: &[Swap]) -> Result<Vec<Swap>, Memory>
+    ensures { IfOk result (λ q. q.items ≡ inverse p.now) }
+{
+    let mut inverted = p.to_vec(alloc)?;
+    inverted.reverse();
+    Ok(inverted)
+}
+
+/// A closure on which the inverse of a permutation acts.
+fn moved_back<'a>(alloc: Global, p: &[Swap], c: Closure<'a>) -> Result<Closure<'a>, Memory>
+    ensures { IfOk result (λ d. closure_term d ≡ act_term (inverse p.now) (closure_term c.entry)) }
+{
+    let back = inverse_of(alloc, p)?;
+    c.moved_by(alloc, &back)
+}
+
+/// A variable is bound to a closure on which the inverse of the variable's permutation acts.
+#[tactic(auto, using(crate::proofs::MoveLemmas::moved_under, crate::proofs::MoveLemmas::back_below, crate::proofs::MoveLemmas::back_absent))]
+fn bind_to<'a>(
+    alloc: Global,
+    store: &Store<'a>,
+    p: &[Swap],
+    x: Var,
+    c: Closure<'a>,
+) -> Result<Move<'a>, Memory>
+    requires made { x.num < (present store.now).next }
+    requires unbound { IsUnbound (present store.now).bindings x }
+    requires swaps { AreSwapsBelow (present store.now).next p.now }
+    requires below { IsBelow (present store.now).next (closure_term c) }
+    requires absent { occurs x (under (present store.now).bindings (closure_term c)) ≡ false }
+    ensures rule { IfOk result (λ m. move_under (present store.now).bindings m ≡ bind x (act_term (inverse p.now) (under (present store.now).bindings (closure_term c.entry)))) }
+    ensures fit { IfOk result (λ m. IsMoveFit (present store.now).bindings (present store.now).next m) }
+{
+    let moved = moved_back(alloc, p, c)?;
+    Ok(Move::Bind(x, moved))
+}
+
+/// A variable is bound to a closure, unless it occurs there.
+fn bind_unless_occurs<'a>(
+    alloc: Global,
+    store: &Store<'a>,
+    p: &[Swap],
+    x: Var,
+    c: Closure<'a>,
+) -> Result<Move<'a>, Memory>
+    requires made { x.num < (present store.now).next }
+    requires unbound { IsUnbound (present store.now).bindings x }
+    requires swaps { AreSwapsBelow (present store.now).next p.now }
+    requires below { IsBelow (present store.now).next (closure_term c) }
+    ensures rule { IfOk result (λ m. move_under (present store.now).bindings m ≡ unless_occurs x (under (present store.now).bindings (closure_term c.entry)) (act_term (inverse p.now) (under (present store.now).bindings (closure_term c.entry)))) }
+    ensures fit { IfOk result (λ m. IsMoveFit (present store.now).bindings (present store.now).next m) }
+{
+    if store.occurs(x, &c) {
+        return Ok(Move::Clash);
+    }
+    bind_to(alloc, store, p, x, c)
+}
+
+/// Of two different variables the one with the greater number is bound; of one variable, the names
+/// on which the permutations differ are to be fresh for it.
+fn suspensions<'a>(
+    alloc: Global,
+    store: &Store<'a>,
+    p: &[Swap],
+    x: Var,
+    left: Closure<'a>,
+    q: &[Swap],
+    y: Var,
+    right: Closure<'a>,
+) -> Result<Move<'a>, Memory>
+    requires left { under (present store.now).bindings (closure_term left) ≡ susp p.now x }
+    requires right { under (present store.now).bindings (closure_term right) ≡ susp q.now y }
+    requires left_unbound { IsUnbound (present store.now).bindings x }
+    requires right_unbound { IsUnbound (present store.now).bindings y }
+    requires left_swaps { AreSwapsBelow (present store.now).next p.now }
+    requires right_swaps { AreSwapsBelow (present store.now).next q.now }
+    requires left_made { x.num < (present store.now).next }
+    requires right_made { y.num < (present store.now).next }
+    requires left_below { IsBelow (present store.now).next (closure_term left) }
+    requires right_below { IsBelow (present store.now).next (closure_term right) }
+    ensures rule { IfOk result (λ m. move_under (present store.now).bindings m ≡ rule (susp p.now x) (susp q.now y)) }
+    ensures fit { IfOk result (λ m. IsMoveFit (present store.now).bindings (present store.now).next m) }
+{
+    if x.num == y.num {
+        let names = differing(alloc, p, q)?;
+        Ok(Move::Differ(names, x))
+    } else if x.num < y.num {
+        bind_to(alloc, store, q, y, left)
+    } else {
+        bind_to(alloc, store, p, x, right)
+    }
+}
+
+/// Abstractions with different binders of one sort: the bodies are compared once the binders are
+/// exchanged on the right, and the left binder is to be fresh for the right body.
+#[tactic(auto, using(crate::proofs::MoveLemmas::moved_under, crate::proofs::MoveLemmas::swapped_below))]
+fn exchanged<'a>(
+    alloc: Global,
+    store: &Store<'a>,
+    a: Name,
+    t: Closure<'a>,
+    b: Name,
+    u: Closure<'a>,
+) -> Result<Move<'a>, Memory>
+    requires left { (a.num < (present store.now).next) × IsBelow (present store.now).next (closure_term t) }
+    requires right { (b.num < (present store.now).next) × IsBelow (present store.now).next (closure_term u) }
+    ensures rule { IfOk result (λ m. move_under (present store.now).bindings m ≡ replace ((under (present store.now).bindings (closure_term t.entry) ≐ act_term (swap_of a b ∷ []) (under (present store.now).bindings (closure_term u.entry))) ∷ []) ((a # under (present store.now).bindings (closure_term u.entry)) ∷ [])) }
+    ensures fit { IfOk result (λ m. IsMoveFit (present store.now).bindings (present store.now).next m) }
+{
+    let swap = [Swap {
+        sort: a.sort,
+        left: a.num,
+        right: b.num,
+    }];
+    let body = u.copy(alloc)?;
+    let right = u.moved_by(alloc, &swap)?;
+    Ok(Move::Swapped(ClosurePair { left: t, right }, a, body))
+}
+
+/// The rule for two abstractions.
+#[tactic(auto, unfolding(ap_defs::specs::Permutations::name_eq))]
+fn abstractions<'a>(
+    alloc: Global,
+    store: &Store<'a>,
+    a: Name,
+    t: Closure<'a>,
+    b: Name,
+    u: Closure<'a>,
+) -> Result<Move<'a>, Memory>
+    requires left { (a.num < (present store.now).next) × IsBelow (present store.now).next (closure_term t) }
+    requires right { (b.num < (present store.now).next) × IsBelow (present store.now).next (closure_term u) }
+    ensures rule { IfOk result (λ m. move_under (present store.now).bindings m ≡ rule (abs a (under (present store.now).bindings (closure_term t.entry))) (abs b (under (present store.now).bindings (closure_term u.entry)))) }
+    ensures fit { IfOk result (λ m. IsMoveFit (present store.now).bindings (present store.now).next m) }
+{
+    if a == b {
+        Ok(Move::One(ClosurePair { left: t, right: u }))
+    } else if a.sort == b.sort {
+        exchanged(alloc, store, a, t, b, u)
+    } else {
+        Ok(Move::Clash)
+    }
+}
+
+/// The rule for two closures that were taken apart.
+#[tactic(auto, unfolding(ap_defs::specs::Permutations::name_eq))]
+fn rule_for_opened<'a>(
+    alloc: Global,
+    store: &Store<'a>,
+    left: Closure<'a>,
+    opened_left: Opened<'a>,
+    right: Closure<'a>,
+    opened_right: Opened<'a>,
+) -> Result<Move<'a>, Memory>
+    requires left { under (present store.now).bindings (closure_term left) ≡ opened_under (present store.now).bindings opened_left }
+    requires right { under (present store.now).bindings (closure_term right) ≡ opened_under (present store.now).bindings opened_right }
+    requires left_unbound { IsHeadUnbound (present store.now).bindings (opened_term opened_left) }
+    requires right_unbound { IsHeadUnbound (present store.now).bindings (opened_term opened_right) }
+    requires left_below { IsBelow (present store.now).next (closure_term left) }
+    requires right_below { IsBelow (present store.now).next (closure_term right) }
+    requires opened_left_below { IsBelow (present store.now).next (opened_term opened_left) }
+    requires opened_right_below { IsBelow (present store.now).next (opened_term opened_right) }
+    ensures rule { IfOk result (λ m. move_under (present store.now).bindings m ≡ rule (opened_under (present store.now).bindings opened_left.entry) (opened_under (present store.now).bindings opened_right.entry)) }
+    ensures fit { IfOk result (λ m. IsMoveFit (present store.now).bindings (present store.now).next m) }
+{
+    match (opened_left, opened_right) {
+        (Opened::Unit, Opened::Unit) => Ok(Move::Done),
+        (Opened::Name(a), Opened::Name(b)) => {
+            if a == b {
+                Ok(Move::Done)
+            } else {
+                Ok(Move::Clash)
+            }
+        }
+        (Opened::Pair(t, u), Opened::Pair(v, w)) => Ok(Move::Two(
+            ClosurePair { left: t, right: v },
+            ClosurePair { left: u, right: w },
+        )),
+        (Opened::App(f, t), Opened::App(g, u)) => {
+            if f == g {
+                Ok(Move::One(ClosurePair { left: t, right: u }))
+            } else {
+                Ok(Move::Clash)
+            }
+        }
+        (Opened::Abs(a, t), Opened::Abs(b, u)) => abstractions(alloc, store, a, t, b, u),
+        (Opened::Susp(p, x), Opened::Susp(q, y)) => {
+            suspensions(alloc, store, &p, x, left, &q, y, right)
+        }
+        (Opened::Susp(p, x), _) => bind_unless_occurs(alloc, store, &p, x, right),
+        (_, Opened::Susp(q, y)) => bind_unless_occurs(alloc, store, &q, y, left),
+        _ => Ok(Move::Clash),
+    }
+}
+
+/// The rule for two closures, neither of them a suspension of a bound variable.
+pub fn rule_for<'a>(
+    alloc: Global,
+    store: &Store<'a>,
+    left: Closure<'a>,
+    right: Closure<'a>,
+) -> Result<Move<'a>, Memory>
+    requires left_unbound { IsHeadUnbound (present store.now).bindings (closure_term left) }
+    requires right_unbound { IsHeadUnbound (present store.now).bindings (closure_term right) }
+    requires left_below { IsBelow (present store.now).next (closure_term left) }
+    requires right_below { IsBelow (present store.now).next (closure_term right) }
+    ensures rule { IfOk result (λ m. move_under (present store.now).bindings m ≡ rule (under (present store.now).bindings (closure_term left.entry)) (under (present store.now).bindings (closure_term right.entry))) }
+    ensures fit { IfOk result (λ m. IsMoveFit (present store.now).bindings (present store.now).next m) }
+{
+    let opened_left = left.copy(alloc)?.open(alloc)?;
+    let opened_right = right.copy(alloc)?.open(alloc)?;
+    rule_for_opened(alloc, store, left, opened_left, right, opened_right)
+}

@@ -1,0 +1,181 @@
+//! A run of unification, from the first equation to the last.
+
+ghost use Rattle.std.specs.Prelude.{◌≡◌, ◌<◌, ◌∷◌, [], ◌++◌, false, true, IfOk, OnOk, map, vec_len};
+ghost use Rattle.ap_defs.specs.Renaming.{IsBelow};
+ghost use Rattle.ap_defs.specs.Substitution.{◌#◌, occurs, under};
+ghost use Rattle.ap_defs.specs.Unification.{apply_rule, bind, ending, fresh_for, next, rule, step};
+ghost use Rattle.ap_perm.specs.Closures.{closure_term};
+ghost use Rattle.ap_store.specs.Triples.{GoesOn};
+ghost use Rattle.ap_store.specs.Views.{kinds, present, versions};
+ghost use Rattle.ap_theory.specs.Variables.{IsUnbound};
+ghost use Rattle.ap_unify.specs.Runs.{equation_under, problem_under};
+ghost use Rattle.ap_unify.specs.Work.{ArePairsBelow, GoOn, IsMoveFit, IsPairBelow, ending_if, equations_left, move_under, problems_met, progress_if, work_stage};
+
+use crate::moves::{Move, rule_for};
+use crate::pairs::{ClosurePair, FreshFor, Work};
+use ap_defs::memory::Memory;
+use ap_defs::terms::{Cond, Name, Var};
+use ap_perm::closures::Closure;
+use ap_store::store::Store;
+use std::alloc::Global;
+
+/// Puts an equation in front.
+fn put_equation<'a>(work: &mut Work<'a>, e: ClosurePair<'a>) -> Result<(), Memory>
+    ensures equations { OnOk result (work.new.equations.items ≡ work.old.equations.items ++ e.entry ∷ []) }
+    ensures problems { work.new.problems.items ≡ work.old.problems.items }
+    ensures taken { work.new.taken.items ≡ work.old.taken.items }
+{
+    work.equations.push(e)?;
+    Ok(())
+}
+
+/// Puts two equations in front.
+fn put_equations<'a>(
+    work: &mut Work<'a>,
+    first: ClosurePair<'a>,
+    second: ClosurePair<'a>,
+) -> Result<(), Memory>
+    ensures equations { OnOk result (work.new.equations.items ≡ work.old.equations.items ++ second.entry ∷ first.entry ∷ []) }
+    ensures problems { work.new.problems.items ≡ work.old.problems.items }
+    ensures taken { work.new.taken.items ≡ work.old.taken.items }
+{
+    work.equations.push(second)?;
+    work.equations.push(first)?;
+    Ok(())
+}
+
+/// Puts an equation in front, and a problem behind the others.
+fn put_exchanged<'a>(
+    work: &mut Work<'a>,
+    e: ClosurePair<'a>,
+    a: Name,
+    body: Closure<'a>,
+) -> Result<(), Memory>
+    ensures equations { OnOk result (work.new.equations.items ≡ work.old.equations.items ++ e.entry ∷ []) }
+    ensures problems { OnOk result (problems_met work.new ≡ problems_met work.old ++ (a # closure_term body.entry) ∷ []) }
+    ensures taken { work.new.taken.items ≡ work.old.taken.items }
+{
+    work.equations.push(e)?;
+    work.problems.push(FreshFor::OfTerm(a, body))?;
+    Ok(())
+}
+
+/// Puts the problems behind the others that the names are fresh for a variable.
+fn put_names<'a>(work: &mut Work<'a>, names: &[Name], x: Var) -> Result<(), Memory>
+    ensures equations { work.new.equations.items ≡ work.old.equations.items }
+    ensures problems { OnOk result (problems_met work.new ≡ problems_met work.old ++ map (fresh_for x) names.now) }
+    ensures taken { work.new.taken.items ≡ work.old.taken.items }
+{
+    'putting: for a in names {
+        work.problems
+            .push(FreshFor::OfVar(Cond { name: *a, var: x }))?;
+    }
+    Ok(())
+}
+
+/// Binds a variable, and takes the conditions on it out of the store.
+fn bind_var<'a>(
+    alloc: Global,
+    store: &mut Store<'a>,
+    work: &mut Work<'a>,
+    x: Var,
+    c: Closure<'a>,
+) -> Result<(), Memory>
+    requires made { x.num < (present store.old).next }
+    requires unbound { IsUnbound (present store.old).bindings x }
+    requires below { IsBelow (present store.old).next (closure_term c) }
+    requires absent { occurs x (under (present store.old).bindings (closure_term c)) ≡ false }
+    ensures stage { OnOk result (next (work_stage (present store.new).bindings work.new) ≡ apply_rule (bind x (under (present store.old).bindings (closure_term c.entry))) (map (equation_under (present store.old).bindings) (equations_left work.old)) (map (problem_under (present store.old).bindings) (problems_met work.old)) (present store.old).bindings) }
+    ensures goes_on { OnOk result (GoOn (present store.old) work.old (present store.new) work.new) }
+    ensures past { GoesOn (versions store.old) (versions store.new) }
+    ensures kinds { kinds store.new ≡ kinds store.old }
+{
+    let mut taken = store.bind(alloc, x, c)?;
+    work.taken.append(&mut taken)?;
+    Ok(())
+}
+
+/// What a rule made of the first equation is carried out. It answers false where that is no
+/// solution.
+fn carry_out<'a>(
+    alloc: Global,
+    store: &mut Store<'a>,
+    work: &mut Work<'a>,
+    m: Move<'a>,
+) -> Result<bool, Memory>
+    requires { IsMoveFit (present store.old).bindings (present store.old).next m }
+    ensures stage { IfOk result (λ goes_on. progress_if goes_on (work_stage (present store.new).bindings work.new) ≡ apply_rule (move_under (present store.old).bindings m.entry) (map (equation_under (present store.old).bindings) (equations_left work.old)) (map (problem_under (present store.old).bindings) (problems_met work.old)) (present store.old).bindings) }
+    ensures goes_on { OnOk result (GoOn (present store.old) work.old (present store.new) work.new) }
+    ensures past { GoesOn (versions store.old) (versions store.new) }
+    ensures kinds { kinds store.new ≡ kinds store.old }
+{
+    match m {
+        Move::Done => Ok(true),
+        Move::One(e) => {
+            put_equation(work, e)?;
+            Ok(true)
+        }
+        Move::Two(first, second) => {
+            put_equations(work, first, second)?;
+            Ok(true)
+        }
+        Move::Swapped(e, a, body) => {
+            put_exchanged(work, e, a, body)?;
+            Ok(true)
+        }
+        Move::Differ(names, x) => {
+            put_names(work, &names, x)?;
+            Ok(true)
+        }
+        Move::Bind(x, c) => {
+            bind_var(alloc, store, work, x, c)?;
+            Ok(true)
+        }
+        Move::Clash => Ok(false),
+    }
+}
+
+/// The rule for two closures, once bound variables at their heads are followed.
+fn rule_at<'a>(alloc: Global, store: &Store<'a>, e: ClosurePair<'a>) -> Result<Move<'a>, Memory>
+    requires { IsPairBelow (present store.now).next e }
+    ensures rule { IfOk result (λ m. move_under (present store.now).bindings m ≡ rule (under (present store.now).bindings (closure_term e.entry.left)) (under (present store.now).bindings (closure_term e.entry.right))) }
+    ensures fit { IfOk result (λ m. IsMoveFit (present store.now).bindings (present store.now).next m) }
+{
+    let ClosurePair { left, right } = e;
+    let left = store.follow(alloc, left)?;
+    let right = store.follow(alloc, right)?;
+    rule_for(alloc, store, left, right)
+}
+
+/// One step: false where there is no solution.
+fn advance<'a>(alloc: Global, store: &mut Store<'a>, work: &mut Work<'a>) -> Result<bool, Memory>
+    requires some { 0 < vec_len work.old.equations }
+    requires below { ArePairsBelow (present store.old).next work.old.equations.items }
+    ensures stage { IfOk result (λ goes_on. progress_if goes_on (work_stage (present store.new).bindings work.new) ≡ step (work_stage (present store.old).bindings work.old)) }
+    ensures goes_on { OnOk result (GoOn (present store.old) work.old (present store.new) work.new) }
+    ensures past { GoesOn (versions store.old) (versions store.new) }
+    ensures kinds { kinds store.new ≡ kinds store.old }
+{
+    let Some(first) = work.equations.pop() else {
+        return Ok(true);
+    };
+    let m = rule_at(alloc, store, first)?;
+    carry_out(alloc, store, work, m)
+}
+
+/// Rewrites equations from the first, until none is left or there is no solution.
+pub fn run<'a>(alloc: Global, store: &mut Store<'a>, work: &mut Work<'a>) -> Result<bool, Memory>
+    requires { ArePairsBelow (present store.old).next work.old.equations.items }
+    ensures ending { IfOk result (λ solved. ending (work_stage (present store.old).bindings work.old) ≡ ending_if solved (work_stage (present store.new).bindings work.new)) }
+    ensures left { IfOk result (λ solved. solved ≡ true → work.new.equations.items ≡ []) }
+    ensures goes_on { OnOk result (GoOn (present store.old) work.old (present store.new) work.new) }
+    ensures past { GoesOn (versions store.old) (versions store.new) }
+    ensures kinds { kinds store.new ≡ kinds store.old }
+{
+    'rewriting: while !work.equations.is_empty() {
+        if !advance(alloc, store, work)? {
+            return Ok(false);
+        }
+    }
+    Ok(true)
+}
