@@ -9,8 +9,9 @@ pub mod Opening
 pub mod Binding
 pub mod Walking
 pub mod GoalWalks
-pub mod InhabitedLemmas
 pub mod Solutions
 pub mod Readings
 pub mod Findings
 pub mod SolvedLemmas
+pub mod InhabitedLemmas
+pub mod ClosedLemmas

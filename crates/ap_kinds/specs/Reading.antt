@@ -1,10 +1,11 @@
 -- Kinds that are read off the shapes of holes.
-use Rattle.std.specs.Prelude.{◌≡◌, ◌<◌, ◌↔◌, ℕ, ◌+◌, Bool, true, false, ◌&&◌, ◌⊎◌, nat_lt, List, [], ◌∷◌, length}
+use Rattle.std.specs.Prelude.{◌≡◌, ◌<◌, ◌↔◌, ℕ, ◌+◌, Bool, true, false, ◌&&◌, ◌⊎◌, nat_lt, List, [], ◌∷◌, length, slice_index_or, Option, None, Some}
 use Rattle.ap_defs.specs.Types.{NominalType, NominalKind, NominalSignature, TypeShape, hole, unit, names, base, pair, list, abs, name, var}
 use Rattle.ap_defs.specs.Types as types
 use Rattle.ap_types.specs.Equations.{Filling, GivesNames, IsSolution, IsInstance}
 use Rattle.ap_types.specs.Solving.{shape_at}
 use Rattle.ap_types.specs.Assignments.{AreNames, IsUnsolvable}
+use Rattle.ap_types.specs.Triangular.{value_of}
 use Rattle.ap_program.specs.Typed.{AreInhabited}
 use Rattle.ap_kinds.specs.declared.kinds.IdentKind.{IdentKind}
 use Rattle.ap_kinds.specs.declared.kinds.IdentKind.TheVariants as classes
@@ -112,3 +113,15 @@ IsUnsolved errors.Memory sig s = Unit {0}
 -- nothing solves the system, or what does gives no inhabited kinds
 abbrev pub IsNotFound : KindsError → NominalSignature → List IdentKind → EquationSystem → Type 0
 IsNotFound e sig idents s = IsUnsolved e sig s ⊎ ((ts : List TypeShape) × IsSolved (name_count sig) s ts × IsUnread e sig idents ts)
+
+-- what is known of places is right
+abbrev pub AreKnown : List TypeShape → List (Option Bool) → Type 0
+AreKnown ts known = (x : ℕ) (b : Bool) → slice_index_or known x None ≡ Some b → b ≡ is_closed (value_of ts x)
+
+-- each place of the table is declared
+abbrev pub AreDeclaredPlaces : ℕ → ℕ → List TypeShape → Type 0
+AreDeclaredPlaces n m ts = (x : ℕ) → is_declared n m (shape_at ts x) ≡ true
+
+-- all shapes are declared, and some is open
+abbrev pub IsAmbiguous : ℕ → ℕ → ℕ → List TypeShape → Type 0
+IsAmbiguous n m count ts = AllDeclared n m count ts × SomeOpen count ts

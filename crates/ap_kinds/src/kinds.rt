@@ -5,6 +5,7 @@ ghost use Rattle.ap_defs.specs.Types.{shape_of, kind_of, signature_of};
 ghost use Rattle.ap_defs.specs.RawTerms.{raw_of};
 ghost use Rattle.ap_defs.specs.Goals.{goal_over};
 ghost use Rattle.ap_types.specs.Assignments.{IsUnsolvable};
+ghost use Rattle.ap_types.specs.Tables.{AreInhabitants};
 ghost use Rattle.ap_types.specs.Triangular.{table_of, assignment_of, IsSettled};
 ghost use Rattle.ap_program.specs.Typed.{AreInhabited};
 ghost use Rattle.ap_kinds.specs.ItemKinds.{TypesQuery, TypesClause, IsInferred, IsRefused};
@@ -12,6 +13,7 @@ ghost use Rattle.ap_kinds.specs.Systems.{system_of, started};
 ghost use Rattle.ap_kinds.specs.Gathering.{gather_goal, gather_atom};
 ghost use Rattle.ap_kinds.specs.Reading.{name_count, AreFirst, IsSolved, IsRead, IsUnread, IsFound, IsNotFound};
 
+use crate::closed::is_ambiguous;
 use crate::errors::KindsError;
 use crate::goals::{gather_atom, gather_goal};
 use crate::reading::read_inhabited;
@@ -22,6 +24,7 @@ use ap_defs::memory::Memory;
 use ap_defs::terms::{Raw, Shape};
 use ap_types::equations::solved;
 use ap_types::errors::TypesError;
+use ap_types::inhabitants::Inhabitants;
 use ap_types::solved::{Solved, value_of};
 use std::alloc::Global;
 
@@ -64,30 +67,40 @@ fn first_shapes(alloc: Global, table: &Solved, count: usize) -> Result<Vec<Shape
 fn read_table(
     alloc: Global,
     sig: &Signature,
+    inhabitants: &Inhabitants,
     idents: &[IdentKind],
     table: &Solved,
 ) -> Result<Vec<Kind>, KindsError>
-    requires { IsSettled (table_of table.now.nodes.items) }
+    requires inhabited { AreInhabitants (signature_of sig.now).constructors inhabitants.now }
+    requires settled { IsSettled (table_of table.now.nodes.items) }
     ensures read { IfOk result (λ ks. IsRead (signature_of sig.now) idents.now (assignment_of table.now) (map kind_of ks.items)) }
     ensures inhabited { IfOk result (λ ks. AreInhabited (signature_of sig.now).constructors (map kind_of ks.items)) }
     ensures unread { IfErr result (λ e. IsUnread e (signature_of sig.now) idents.now (assignment_of table.now)) }
 {
+    let name_types = sig.name_types.items().len();
+    let data_types = sig.data_types.items().len();
+    let ambiguous = is_ambiguous(alloc, name_types, data_types, table, idents.len())?;
+    if ambiguous {
+        return Err(KindsError::Ambiguous);
+    }
     let shapes = first_shapes(alloc, table, idents.len())?;
-    read_inhabited(alloc, sig, idents, shapes.as_slice())
+    read_inhabited(alloc, sig, inhabitants, idents, shapes.as_slice())
 }
 
 /// The kinds of identifiers, by the solution of their system.
 fn settle(
     alloc: Global,
     sig: &Signature,
+    inhabitants: &Inhabitants,
     idents: &[IdentKind],
     system: &System,
 ) -> Result<Vec<Kind>, KindsError>
+    requires { AreInhabitants (signature_of sig.now).constructors inhabitants.now }
     ensures ok { IfOk result (λ ks. IsFound (signature_of sig.now) idents.now (system_of system.now) (map kind_of ks.items)) }
     ensures err { IfErr result (λ e. IsNotFound e (signature_of sig.now) idents.now (system_of system.now)) }
 {
     match table_of_holes(alloc, sig, system) {
-        Ok(table) => read_table(alloc, sig, idents, &table),
+        Ok(table) => read_table(alloc, sig, inhabitants, idents, &table),
         Err(TypesError::Clash) => Err(KindsError::Clash),
         Err(TypesError::Memory) => Err(KindsError::Memory),
     }
@@ -128,7 +141,8 @@ fn system_of_clause(
 /// that is declared, and the goal is typed by them, its names having the sorts of their kinds; the
 /// sorts that stand in the goal are not looked at. The types are those of αProlog, after Cheney and
 /// Urban, Nominal Logic Programming, and are inferred after Damas and Milner, Principal type-schemes
-/// for functional programs, without schemes.
+/// for functional programs, without schemes. `inhabitants` are those of the signature's constructors, so
+/// that the constructors are not gone through for each query.
 ///
 /// `Clash`: no kinds type it, as where a number is that of no identifier, or a constructor or predicate
 /// is not declared or has other arguments than declared. `Ambiguous`: more than one list of kinds does.
@@ -137,14 +151,16 @@ fn system_of_clause(
 pub fn kinds_of_query(
     alloc: Global,
     sig: &Signature,
+    inhabitants: &Inhabitants,
     goal: &Goal<Raw>,
     idents: &[IdentKind],
 ) -> Result<Vec<Kind>, KindsError>
+    requires { AreInhabitants (signature_of sig.now).constructors inhabitants.now }
     ensures ok { IfOk result (λ ks. IsInferred (signature_of sig.now).constructors (TypesQuery (signature_of sig.now) idents.now (goal_over raw_of goal.now)) (map kind_of ks.items)) }
     ensures err { IfErr result (λ e. IsRefused e (signature_of sig.now).constructors (TypesQuery (signature_of sig.now) idents.now (goal_over raw_of goal.now))) }
 {
     let system = system_of_query(alloc, sig, goal, idents)?;
-    settle(alloc, sig, idents, &system)
+    settle(alloc, sig, inhabitants, idents, &system)
 }
 
 /// The only kinds of its identifiers that type a clause of a predicate, by its head's arguments and its
@@ -154,14 +170,16 @@ pub fn kinds_of_query(
 pub fn kinds_of_clause(
     alloc: Global,
     sig: &Signature,
+    inhabitants: &Inhabitants,
     pred: u32,
     args: &List<Raw>,
     body: &Goal<Raw>,
     idents: &[IdentKind],
 ) -> Result<Vec<Kind>, KindsError>
+    requires { AreInhabitants (signature_of sig.now).constructors inhabitants.now }
     ensures ok { IfOk result (λ ks. IsInferred (signature_of sig.now).constructors (TypesClause (signature_of sig.now) idents.now pred (map raw_of args.now) (goal_over raw_of body.now)) (map kind_of ks.items)) }
     ensures err { IfErr result (λ e. IsRefused e (signature_of sig.now).constructors (TypesClause (signature_of sig.now) idents.now pred (map raw_of args.now) (goal_over raw_of body.now))) }
 {
     let system = system_of_clause(alloc, sig, pred, args, body, idents)?;
-    settle(alloc, sig, idents, &system)
+    settle(alloc, sig, inhabitants, idents, &system)
 }

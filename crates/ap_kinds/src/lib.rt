@@ -4,6 +4,7 @@
 //! solved. `specs/ItemKinds.antt` says which kinds type an item and what is found of them.
 #![tactic(auto)]
 
+mod closed;
 mod errors;
 mod goals;
 mod inside;

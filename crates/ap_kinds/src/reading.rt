@@ -1,19 +1,18 @@
 //! Kinds that are read off the shapes of holes.
 
-ghost use Rattle.std.specs.Prelude.{◌≡◌, ◌↔◌, ℕ, List as list, length, map, true, false, IfOk, IfErr, IsTrue};
+ghost use Rattle.std.specs.Prelude.{◌≡◌, ◌↔◌, ℕ, List as list, [], ◌∷◌, length, map, true, false, IfOk, IfErr, IsTrue};
 ghost use Rattle.ap_defs.specs.Types.{NominalConstructor, shape_of, type_of, kind_of, signature_of};
-ghost use Rattle.ap_types.specs.Inhabited.{IsInhabited};
+ghost use Rattle.ap_types.specs.Tables.{AreInhabitants};
 ghost use Rattle.ap_types.specs.Solving.{shape_at};
 ghost use Rattle.ap_program.specs.Typed.{AreInhabited};
 ghost use Rattle.ap_kinds.specs.Reading.{is_declared, is_sort, is_closed, sort_in_shape, read_type, read_kind, read_kinds, AllDeclared, SomeUndeclared, AllClosed, SomeOpen, IsRead, IsUnread};
 
 use crate::errors::KindsError;
 use crate::kinds::IdentKind;
-use ap_defs::copies::copy_type;
 use ap_defs::goals::{Kind, Signature};
 use ap_defs::memory::Memory;
 use ap_defs::terms::{Shape, Ty};
-use ap_types::answers::inhabited;
+use ap_types::inhabitants::{Inhabitants, is_inhabited};
 use std::alloc::Global;
 
 /// Whether a shape's name types and data types are declared, of which there are so many.
@@ -160,37 +159,37 @@ fn read_kinds(alloc: Global, idents: &[IdentKind], holes: &[Shape]) -> Result<Ve
     Ok(kinds)
 }
 
-/// A type that is inhabited where the type of each variable is: their tuple, of little depth.
-fn tuple_of_types(alloc: Global, kinds: &[Kind]) -> Result<Ty, Memory>
-    ensures { IfOk result (λ t. (cs : list NominalConstructor) → IsInhabited cs (type_of t) ↔ AreInhabited cs (map kind_of kinds.now)) }
+/// Whether an identifier is a name, or a variable of an inhabited type.
+fn is_name_or_inhabited(inhabitants: &Inhabitants, kind: &Kind) -> bool
+    ensures { (cs : list NominalConstructor) → AreInhabitants cs inhabitants.now → IsTrue result ↔ AreInhabited cs (kind_of kind.now ∷ []) }
 {
-    match kinds {
-        [] | [Kind::Name(_)] => Ok(Ty::Unit),
-        [Kind::Var(t)] => copy_type(alloc, t),
-        _ => {
-            let (left, right) = kinds.split_at(kinds.len() / 2);
-            let left = Box::new(alloc, tuple_of_types(alloc, left)?)?;
-            let right = Box::new(alloc, tuple_of_types(alloc, right)?)?;
-            Ok(Ty::Pair(left, right))
-        }
+    match kind {
+        Kind::Name(_) => true,
+        Kind::Var(ty) => is_inhabited(inhabitants, ty),
     }
 }
 
-/// Whether the type of each variable is inhabited.
-fn are_inhabited(alloc: Global, sig: &Signature, kinds: &[Kind]) -> Result<bool, Memory>
-    ensures { IfOk result (λ b. IsTrue b ↔ AreInhabited (signature_of sig.now).constructors (map kind_of kinds.now)) }
+/// Whether the type of each variable is inhabited. It costs as much as the types are long.
+fn are_inhabited(inhabitants: &Inhabitants, kinds: &[Kind]) -> bool
+    ensures { (cs : list NominalConstructor) → AreInhabitants cs inhabitants.now → IsTrue result ↔ AreInhabited cs (map kind_of kinds.now) }
 {
-    let tuple = tuple_of_types(alloc, kinds)?;
-    inhabited(alloc, sig, &tuple)
+    for kind in kinds {
+        if !is_name_or_inhabited(inhabitants, kind) {
+            return false;
+        }
+    }
+    true
 }
 
 /// The kinds of identifiers whose types are inhabited, by the shapes of the holes.
 pub(crate) fn read_inhabited(
     alloc: Global,
     sig: &Signature,
+    inhabitants: &Inhabitants,
     idents: &[IdentKind],
     holes: &[Shape],
 ) -> Result<Vec<Kind>, KindsError>
+    requires { AreInhabitants (signature_of sig.now).constructors inhabitants.now }
     ensures read { IfOk result (λ ks. IsRead (signature_of sig.now) idents.now (map shape_of holes.now) (map kind_of ks.items)) }
     ensures inhabited { IfOk result (λ ks. AreInhabited (signature_of sig.now).constructors (map kind_of ks.items)) }
     ensures unread { IfErr result (λ e. IsUnread e (signature_of sig.now) idents.now (map shape_of holes.now)) }
@@ -204,7 +203,7 @@ pub(crate) fn read_inhabited(
         return Err(KindsError::Ambiguous);
     }
     let kinds = read_kinds(alloc, idents, holes)?;
-    if !are_inhabited(alloc, sig, kinds.as_slice())? {
+    if !are_inhabited(inhabitants, kinds.as_slice()) {
         return Err(KindsError::Empty);
     }
     Ok(kinds)

@@ -5,6 +5,7 @@ use ap_defs::goals::{Constructor, Goal, Kind, Signature};
 use ap_defs::lists::{List, Text};
 use ap_defs::memory::Memory;
 use ap_defs::terms::{Id, Name, Raw, Ty, Var};
+use ap_types::inhabitants::inhabitants_of;
 use std::alloc::Global;
 
 const A: Name = Name { sort: 0, num: 0 };
@@ -49,7 +50,8 @@ fn found(
     idents: &[IdentKind],
 ) -> Result<Vec<Kind>, KindsError> {
     let sig = signature(alloc, name_types)?;
-    kinds_of_query(alloc, &sig, goal, idents)
+    let inhabitants = inhabitants_of(alloc, sig.constructors.items())?;
+    kinds_of_query(alloc, &sig, &inhabitants, goal, idents)
 }
 
 fn applied(alloc: Global, constructor: u32) -> Result<Raw, Memory> {
@@ -147,10 +149,12 @@ fn what_stands_in_an_abstraction_may_be_open(rt: HostRuntime) {
 // The head (X, a) of the predicate with a number.
 fn headed(alloc: Global, pred: u32) -> Result<Vec<Kind>, KindsError> {
     let sig = signature(alloc, 2)?;
+    let inhabitants = inhabitants_of(alloc, sig.constructors.items())?;
     let args = List::of(vec![in alloc; Raw::Var(X), Raw::Name(A)]?);
     kinds_of_clause(
         alloc,
         &sig,
+        &inhabitants,
         pred,
         &args,
         &Goal::True,

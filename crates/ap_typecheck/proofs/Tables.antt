@@ -1,5 +1,5 @@
 -- Tables of words that get one more, and lists of clauses.
-use Rattle.std.proofs.Common.{◌≡◌, ℕ, zero, suc, ◌<◌, Bool, true, false, ◌||◌, List, [], ◌∷◌, ◌++◌, map, length, Option, None, Some, refl, sym, ap, ◌∙◌, position, cond, arith, get_or}
+use Rattle.std.proofs.Common.{◌≡◌, ℕ, zero, suc, ◌<◌, Bool, true, false, ◌||◌, List, [], ◌∷◌, ◌++◌, map, length, Option, None, Some, refl, sym, ap, subst, ◌∙◌, position, cond, arith, get_or}
 use Rattle.std.proofs.Math.ListN.{set}
 use Rattle.std.specs.Str.{bytes_eq}
 use Rattle.std.specs.List.{list_any}
@@ -8,7 +8,10 @@ use Rattle.ap_defs.specs.RawTerms.{RawTerm}
 use Rattle.ap_defs.specs.Goals.{ClauseOver}
 use Rattle.ap_defs.specs.declared.goals.Constructor.{Constructor}
 use Rattle.ap_defs.specs.Types.{NominalType, names, base, constructor_of}
-use Rattle.ap_scopes.specs.Declarations.{or_else, place}
+use Rattle.ap_types.specs.declared.inhabitants.Inhabitants.{Inhabitants}
+use Rattle.ap_types.specs.Tables.{AreInhabitants}
+use Rattle.std.proofs.lemmas.List.{map-append}
+use Rattle.ap_scopes.specs.Declarations.{Declared, nothing_declared, or_else, place}
 use Rattle.ap_scopes.specs.Words.{with_word}
 use Rattle.ap_scopes.proofs.Tables.{position-cons}
 use Rattle.ap_typecheck.specs.Declaring.{put_clause}
@@ -47,3 +50,10 @@ put_is view c (cs ∷ css) (suc p) old new l e v = ap (λ x. view cs ∷ x) (put
 pub words_append : (cs : List Constructor) (c : Constructor) → map (λ b. b.text) (map constructor_of (cs ++ c ∷ [])) ≡ map (λ b. b.text) (map constructor_of cs) ++ c.text ∷ []
 words_append [] c = refl
 words_append (b ∷ cs) c = ap (λ ws. b.text ∷ ws) (words_append cs c)
+
+-- one more constructor, of which the inhabited data types are known
+pub inhabitants_more : (old new : List Constructor) (c : Constructor) (i : Inhabitants) → new ≡ old ++ c ∷ [] → AreInhabitants (map constructor_of old ++ constructor_of c ∷ []) i → AreInhabitants (map constructor_of new) i
+inhabitants_more old new c i e h = subst (λ cs. AreInhabitants cs i) (sym (ap (map constructor_of) e ∙ map-append constructor_of old (c ∷ []))) h
+
+pub no_constructors : (d : Declared) (i : Inhabitants) → d ≡ nothing_declared → AreInhabitants [] i → AreInhabitants d.signature.constructors i
+no_constructors d i e h = subst (λ n. AreInhabitants n.signature.constructors i) (sym e) h

@@ -6,6 +6,7 @@ use Rattle.ap_scopes.specs.Views.{declared_of, identifier_of, IsIndexed}
 use Rattle.ap_scopes.specs.Identifiers.{Found}
 use Rattle.ap_typecheck.specs.declared.typing.ClauseParts.{ClauseParts}
 use Rattle.ap_typecheck.specs.declared.typing.QueryParts.{QueryParts}
+use Rattle.ap_types.specs.Tables.{AreInhabitants}
 use Rattle.ap_program.specs.NameRestriction.{item_count}
 use Rattle.ap_typecheck.specs.declared.state.State.{State}
 use Rattle.ap_typecheck.specs.Declaring.{Made, program_of}
@@ -31,9 +32,10 @@ made_of s = record {
 abbrev pub count : Made → ℕ
 count m = item_count (program_of [] m)
 
--- the tables have the words that are declared, and each predicate has a list of clauses
+-- the tables have the words that are declared and the data types that are inhabited, and each predicate has a list of clauses
 pub record IsKept (s : State) : Type 0 where
   pub indexed : IsIndexed s.declared
+  pub inhabited : AreInhabitants (declared_of s.declared).signature.constructors s.inhabitants
   pub listed : length s.clauses.items ≡ length s.declared.signature.predicates
 
 abbrev pub clause_parts_of : ClauseParts → (List RawTerm × GoalOver RawTerm) × Found

@@ -15,6 +15,7 @@ use ap_defs::memory::Memory;
 use ap_defs::terms::Ty;
 use ap_scopes::types::resolved_types;
 use ap_trees::TypeTree;
+use ap_types::inhabitants::declare;
 use std::alloc::Global;
 use std::mem;
 
@@ -97,6 +98,7 @@ pub fn declare_constructor<'a>(
         args: resolved_types(alloc, &state.declared, args)?,
         result: data_number(state.declared.type_named(data_type)),
     };
+    declare(alloc, &mut state.inhabitants, &constructor)?;
     push(
         alloc,
         &mut state.declared.signature.constructors,

@@ -56,11 +56,19 @@ fn add_item<'a>(
         }
         Form::Predicate(word, args) => declare_predicate(alloc, state, word, args.items())?,
         Form::Clause(word, args, body) => {
-            let clause = typed_clause(alloc, &state.declared, place, word, args.items(), body)?;
+            let clause = typed_clause(
+                alloc,
+                &state.declared,
+                &state.inhabitants,
+                place,
+                word,
+                args.items(),
+                body,
+            )?;
             put_clause(state, clause)?;
         }
         Form::Query(goal) => {
-            let query = typed_query(alloc, &state.declared, place, goal)?;
+            let query = typed_query(alloc, &state.declared, &state.inhabitants, place, goal)?;
             state.queries.push(query)?;
         }
     }

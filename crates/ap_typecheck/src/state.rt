@@ -10,12 +10,15 @@ use ap_defs::lists::{List, Text};
 use ap_defs::memory::Memory;
 use ap_defs::terms::Raw;
 use ap_scopes::declarations::Declarations;
+use ap_types::inhabitants::{Inhabitants, no_inhabitants};
 use std::alloc::Global;
 
-/// What is declared, the clauses of each predicate, and the queries.
+/// What is declared, the data types that are inhabited by it, the clauses of each predicate, and the
+/// queries.
 #[derive(Drop)]
 pub struct State<'a> {
     pub declared: Declarations<'a>,
+    pub inhabitants: Inhabitants,
     pub clauses: Vec<Vec<Clause<Raw>>>,
     pub queries: Vec<Query<Raw>>,
 }
@@ -28,6 +31,7 @@ impl<'a> State<'a> {
     {
         State {
             declared: Declarations::new(alloc),
+            inhabitants: no_inhabitants(alloc),
             clauses: Vec::new(alloc),
             queries: Vec::new(alloc),
         }
@@ -60,6 +64,7 @@ pub fn program_from(
         declared,
         clauses,
         queries,
+        ..
     } = state;
     Ok(Program {
         signature: declared.signature,

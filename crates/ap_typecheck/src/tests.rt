@@ -123,6 +123,10 @@ fn faults_are_found(rt: HostRuntime) -> Result<(), Fail> {
             "n : name_type. e : type. pred p(n\\e). p(X).",
             "fault 4 1 6",
         ),
+        (
+            "e : type. f : type. c : f -> e. pred p(e). d : f. p(X). g : type. pred q(g). q(X).",
+            "fault 9 1 6",
+        ),
     ] {
         assert_eq!(rt; shown(rt.alloc(), text)?.as_str(), want);
     }

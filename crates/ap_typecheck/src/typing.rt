@@ -5,6 +5,7 @@ ghost use Rattle.ap_defs.specs.RawTerms.{raw_of};
 ghost use Rattle.ap_defs.specs.Types.{signature_of, kind_of};
 ghost use Rattle.ap_defs.specs.Goals.{clause_over, query_over};
 ghost use Rattle.ap_trees.specs.Trees.{goal_of, trees_of};
+ghost use Rattle.ap_types.specs.Tables.{AreInhabitants};
 ghost use Rattle.ap_kinds.specs.ItemKinds.{IsInferred};
 ghost use Rattle.ap_scopes.specs.Resolution.{resolved_clause, resolved_query};
 ghost use Rattle.ap_scopes.specs.Views.{declared_of, IsIndexed, IsSmall};
@@ -24,6 +25,7 @@ use ap_scopes::goals::{predicate_number, resolved_body, resolved_goal};
 use ap_scopes::identifiers::{Brought, Identifier, Identifiers};
 use ap_scopes::terms::resolved_terms;
 use ap_trees::{GoalTree, Tree};
+use ap_types::inhabitants::Inhabitants;
 use std::alloc::Global;
 
 /// A clause's head and body with numbers for their words, and the identifiers.
@@ -83,9 +85,11 @@ fn query_parts<'a>(
 fn clause_kinds(
     alloc: Global,
     declared: &Declarations<'_>,
+    inhabitants: &Inhabitants,
     pred: u32,
     parts: &ClauseParts<'_>,
 ) -> Result<Vec<Kind>, Refusal>
+    requires { AreInhabitants (declared_of declared.now).signature.constructors inhabitants.now }
     ensures ok { IfOk result (λ ks. IsInferred (declared_of declared.now).signature.constructors (TypesParts (declared_of declared.now) pred (clause_parts_of parts.now)) (map kind_of ks.items)) }
     ensures err { IfErr result (λ e. IsRefusedBy e (declared_of declared.now) (TypesParts (declared_of declared.now) pred (clause_parts_of parts.now))) }
 {
@@ -94,6 +98,7 @@ fn clause_kinds(
     match kinds_of_clause(
         alloc,
         signature,
+        inhabitants,
         pred,
         &parts.args,
         &parts.body,
@@ -108,13 +113,21 @@ fn clause_kinds(
 fn query_kinds(
     alloc: Global,
     declared: &Declarations<'_>,
+    inhabitants: &Inhabitants,
     parts: &QueryParts<'_>,
 ) -> Result<Vec<Kind>, Refusal>
+    requires { AreInhabitants (declared_of declared.now).signature.constructors inhabitants.now }
     ensures ok { IfOk result (λ ks. IsInferred (declared_of declared.now).signature.constructors (TypesGoalParts (declared_of declared.now) (query_parts_of parts.now)) (map kind_of ks.items)) }
     ensures err { IfErr result (λ e. IsRefusedBy e (declared_of declared.now) (TypesGoalParts (declared_of declared.now) (query_parts_of parts.now))) }
 {
     let classes = classes_of(alloc, parts.found.as_slice())?;
-    match kinds_of_query(alloc, &declared.signature, &parts.goal, classes.as_slice()) {
+    match kinds_of_query(
+        alloc,
+        &declared.signature,
+        inhabitants,
+        &parts.goal,
+        classes.as_slice(),
+    ) {
         Ok(kinds) => Ok(kinds),
         Err(refused) => Err(refusal_of_kinds(refused)),
     }
@@ -160,6 +173,7 @@ fn query_with(
 pub fn typed_clause<'a>(
     alloc: Global,
     declared: &Declarations<'_>,
+    inhabitants: &Inhabitants,
     place: (u32, u64),
     word: &str,
     args: &[Tree<'a>],
@@ -167,12 +181,13 @@ pub fn typed_clause<'a>(
 ) -> Result<Clause<Raw>, Refusal>
     requires indexed { IsIndexed declared.now }
     requires small { IsSmall declared.now }
+    requires inhabited { AreInhabitants (declared_of declared.now).signature.constructors inhabitants.now }
     ensures ok { IfOk result (λ c. IsClauseOf (declared_of declared.now) place.0 place.1 word.now (trees_of args.now) (option_map goal_of body.now) (clause_over raw_of c)) }
     ensures err { IfErr result (λ e. IsRefusedBy e (declared_of declared.now) (spec.TypesClauseOf (declared_of declared.now) word.now (trees_of args.now) (option_map goal_of body.now))) }
 {
     let parts = clause_parts(alloc, declared, args, body)?;
     let pred = predicate_number(declared.predicate_place(word));
-    match clause_kinds(alloc, declared, pred, &parts) {
+    match clause_kinds(alloc, declared, inhabitants, pred, &parts) {
         Err(refusal) => Err(refusal),
         Ok(kinds) => Ok(clause_with(alloc, place, pred, &parts, kinds.as_slice())?),
     }
@@ -183,16 +198,18 @@ pub fn typed_clause<'a>(
 pub fn typed_query<'a>(
     alloc: Global,
     declared: &Declarations<'_>,
+    inhabitants: &Inhabitants,
     place: (u32, u64),
     goal: &GoalTree<'a>,
 ) -> Result<Query<Raw>, Refusal>
     requires indexed { IsIndexed declared.now }
     requires small { IsSmall declared.now }
+    requires inhabited { AreInhabitants (declared_of declared.now).signature.constructors inhabitants.now }
     ensures ok { IfOk result (λ q. IsQueryOf (declared_of declared.now) place.0 place.1 (goal_of goal.now) (query_over raw_of q)) }
     ensures err { IfErr result (λ e. IsRefusedBy e (declared_of declared.now) (spec.TypesQueryOf (declared_of declared.now) (goal_of goal.now))) }
 {
     let parts = query_parts(alloc, declared, goal)?;
-    match query_kinds(alloc, declared, &parts) {
+    match query_kinds(alloc, declared, inhabitants, &parts) {
         Err(refusal) => Err(refusal),
         Ok(kinds) => Ok(query_with(alloc, place, &parts, kinds.as_slice())?),
     }

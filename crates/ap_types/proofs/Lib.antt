@@ -1,7 +1,7 @@
 pub mod BooleanLemmas
 pub mod CountLemmas
 pub mod RoundLemmas
-pub mod MarkLemmas
+pub mod RuleLemmas
 pub mod QuestionLemmas
 pub mod StillLemmas
 pub mod WitnessLemmas

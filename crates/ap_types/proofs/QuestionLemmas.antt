@@ -4,12 +4,16 @@ use Rattle.ap_defs.specs.Types.{NominalType, NominalConstructor, constructor_of,
 use Rattle.ap_defs.specs.declared.goals.Constructor.{Constructor}
 use Rattle.ap_types.specs.declared.rounds.Question.{Question}
 use Rattle.ap_types.specs.declared.rounds.Question.TheVariants as questions
-use Rattle.ap_types.specs.Rounds.{IsLeast, reached, marked}
+use Rattle.ap_types.specs.Rounds.{Within, IsLeast, reached, marked}
 use Rattle.ap_types.specs.Inhabited.{inhabited_if, all_inhabited, IsInhabited}
 use Rattle.ap_types.specs.Holding.{holds_if, some_holds, MayHold}
 use Rattle.ap_types.specs.Questions.{test_of}
 use Rattle.ap_types.proofs.BooleanLemmas.{or_grows, and_grows}
-use Rattle.ap_types.proofs.RoundLemmas.{Within, Grows}
+use Rattle.ap_types.proofs.RoundLemmas.{Grows}
+use Rattle.ap_types.proofs.RuleLemmas.{stands_least}
+use Rattle.ap_types.specs.Rules.{Stands}
+use Rattle.ap_types.specs.declared.least.Rule.{Rule}
+use Rattle.std.specs.Global.{Vec}
 
 pub inhabited_grows : (p q : ℕ → Bool) → Within p q → (t : NominalType) → inhabited_if p t ≡ true → inhabited_if q t ≡ true
 inhabited_grows p q h unit e = e
@@ -69,4 +73,11 @@ holds_answer cs ds table slice t sort b same as_slice h e =
     let k = holds_least (map constructor_of ds) sort (marked table) h t in
     let f : b ≡ holds_if sort (marked table) t = subst (λ (s : List Bool). b ≡ holds_if sort (marked s) t) as_slice e in
     subst (λ (xs : List Constructor). IsTrue b ↔ MayHold (map constructor_of xs) t sort) same
+    ((λ i. k.0 (sym f ∙ i)), (λ i. f ∙ k.1 i))
+
+pub inhabited_so_far : (cs : List NominalConstructor) (table slice : List Bool) (ws : List (Vec Rule)) (t : NominalType) (b : Bool)
+    → slice ≡ table → Stands all_inhabited cs [] table ws → b ≡ inhabited_if (marked slice) t → IsTrue b ↔ IsInhabited cs t
+inhabited_so_far cs table slice ws t b as_slice h e =
+    let k = inhabited_least cs (marked table) (stands_least all_inhabited all_inhabited_grows cs table ws h) t in
+    let f : b ≡ inhabited_if (marked table) t = subst (λ (s : List Bool). b ≡ inhabited_if (marked s) t) as_slice e in
     ((λ i. k.0 (sym f ∙ i)), (λ i. f ∙ k.1 i))

@@ -2,12 +2,8 @@
 use Rattle.std.proofs.Common.{◌≡◌, ◌≤◌, ℕ, zero, suc, Bool, true, List, [], ◌∷◌, ◌&&◌, arith}
 use Rattle.std.specs.Prelude.{◌==◌}
 use Rattle.ap_defs.specs.Types.{NominalType, NominalConstructor}
-use Rattle.ap_types.specs.Rounds.{Test, some_passes, reached}
+use Rattle.ap_types.specs.Rounds.{Test, Within, some_passes, reached}
 use Rattle.ap_types.proofs.BooleanLemmas.{or_grows, and_grows}
-
--- each data type that is in here is in there
-abbrev pub Within : (ℕ → Bool) → (ℕ → Bool) → Type 0
-Within p q = (d : ℕ) → p d ≡ true → q d ≡ true
 
 -- with more data types no fewer arguments pass
 abbrev pub Grows : Test → Type 0

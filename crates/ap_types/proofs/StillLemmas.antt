@@ -3,14 +3,14 @@ use Rattle.std.proofs.Common.{◌≡◌, ◌<◌, ◌≤◌, ◌⊎◌, ℕ, zer
 use Rattle.std.specs.Prelude.{◌==◌}
 use Rattle.std.proofs.lemmas.Bool.Decides.{eqb_tells}
 use Rattle.ap_defs.specs.Types.{NominalConstructor}
-use Rattle.ap_types.specs.Rounds.{Test, IsLeast, some_passes, reached}
+use Rattle.ap_types.specs.Rounds.{Test, Within, IsLeast, some_passes, reached}
 use Rattle.ap_types.specs.Statements.{AreOf, InhabitedStandsStill, HoldingStandsStill}
 use Rattle.ap_types.specs.Inhabited.{all_inhabited}
 use Rattle.ap_types.specs.Holding.{some_holds}
 use Rattle.ap_types.specs.Joining.{count_below}
 use Rattle.ap_types.proofs.BooleanLemmas.{and_left, or_cases}
 use Rattle.ap_types.proofs.CountLemmas.{count_most, count_less, IsWithin}
-use Rattle.ap_types.proofs.RoundLemmas.{Within, Grows, some_passes_grows, reached_more, reached_closed}
+use Rattle.ap_types.proofs.RoundLemmas.{Grows, some_passes_grows, reached_more, reached_closed}
 use Rattle.ap_types.proofs.QuestionLemmas.{all_inhabited_grows, some_holds_grows, inhabited_least, holds_least}
 
 -- The first set has all of the second below n, or it has fewer.

@@ -2,7 +2,7 @@ pub mod Rounds
 pub mod Inhabited
 pub mod Holding
 pub mod Questions
-pub mod Marks
+pub mod Rules
 pub mod Statements
 pub mod Equations
 pub mod Solving

@@ -20,6 +20,10 @@ reached test cs (suc r) d = some_passes test (reached test cs r) cs d
 abbrev pub marked : List Bool → ℕ → Bool
 marked table d = slice_index_or table d false
 
+-- each data type that is in here is in there
+abbrev pub Within : (ℕ → Bool) → (ℕ → Bool) → Type 0
+Within p q = (d : ℕ) → p d ≡ true → q d ≡ true
+
 -- The data types are those that are in after some round.
 pub record IsLeast (test : Test) (cs : List NominalConstructor) (found : ℕ → Bool) : Type 0 where
   pub sound : (r : ℕ) × ((d : ℕ) → found d ≡ true → reached test cs r d ≡ true)

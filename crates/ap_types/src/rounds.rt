@@ -1,15 +1,14 @@
 //! Questions of types whose answers for data types are found in rounds.
 
-ghost use Rattle.std.specs.Prelude.{◌≡◌, ℕ, ◌<◌, List as list, length, map, set, true, false, Bool, IfOk};
-ghost use Rattle.std.specs.Bool.{OnTrue, OnFalse};
-ghost use Rattle.ap_defs.specs.Types.{type_of, constructor_of};
+ghost use Rattle.std.specs.Prelude.{◌≡◌, ℕ, List as list, [], ◌∷◌, ◌++◌, map, Bool, ◌&&◌, IfOk, OnOk};
+ghost use Rattle.ap_defs.specs.Types.{NominalConstructor, type_of, constructor_of};
 ghost use Rattle.ap_types.specs.Rounds.{marked, IsLeast};
 ghost use Rattle.ap_types.specs.Inhabited.{inhabited_if, all_inhabited};
 ghost use Rattle.ap_types.specs.Holding.{holds_if, some_holds};
 ghost use Rattle.ap_types.specs.Questions.{answer_if, test_of};
-ghost use Rattle.ap_types.specs.Statements.{AreOf};
-ghost use Rattle.ap_types.specs.Marks.{MarksOne, MarksAll};
+ghost use Rattle.ap_types.specs.Rules.{all_in, Adds, Say, IsLeastSoFar};
 
+use crate::least::{Least, Rule, add_rules, is_marked, nothing};
 use ap_defs::goals::Constructor;
 use ap_defs::memory::Memory;
 use ap_defs::terms::Ty;
@@ -20,14 +19,6 @@ use std::alloc::Global;
 pub(crate) enum Question {
     Inhabited,
     Holds(u32),
-}
-
-/// Whether a data type is marked.
-fn is_marked(table: &[bool], base: u32) -> bool
-    ensures { result ≡ marked table.now base }
-{
-    let place = base as usize;
-    place < table.len() && table[place]
 }
 
 /// Whether a type is inhabited, by the data types that are marked as inhabited.
@@ -55,40 +46,6 @@ fn holds_by(sort: u32, table: &[bool], t: &Ty) -> bool
     }
 }
 
-/// Whether each of a constructor's arguments is inhabited.
-fn are_inhabited_by(table: &[bool], args: &[Ty]) -> bool
-    ensures { result ≡ all_inhabited (marked table.now) (map type_of args.now) }
-{
-    for t in args {
-        if !is_inhabited_by(table, t) {
-            return false;
-        }
-    }
-    true
-}
-
-/// Whether one of a constructor's arguments may hold names of a sort.
-fn some_holds_by(sort: u32, table: &[bool], args: &[Ty]) -> bool
-    ensures { result ≡ some_holds sort (marked table.now) (map type_of args.now) }
-{
-    for t in args {
-        if holds_by(sort, table, t) {
-            return true;
-        }
-    }
-    false
-}
-
-/// Whether a constructor's arguments put its data type in.
-fn passes(question: Question, table: &[bool], args: &[Ty]) -> bool
-    ensures { result ≡ test_of question (marked table.now) (map type_of args.now) }
-{
-    match question {
-        Question::Inhabited => are_inhabited_by(table, args),
-        Question::Holds(sort) => some_holds_by(sort, table, args),
-    }
-}
-
 /// The answer for a type, by the data types that are marked.
 pub(crate) fn answer_by(question: Question, table: &[bool], t: &Ty) -> bool
     ensures { result ≡ answer_if question (marked table.now) (type_of t.now) }
@@ -99,44 +56,125 @@ pub(crate) fn answer_by(question: Question, table: &[bool], t: &Ty) -> bool
     }
 }
 
-/// Marks the data type of a constructor if it passes, and says whether it was not marked before.
-fn mark_one(question: Question, table: &mut [bool], constructor: &Constructor) -> bool
-    requires { constructor.now.result < length table.old }
-    ensures { MarksOne (test_of question) (constructor_of constructor.now) table.old table.new result }
+/// The data types that must be in for a type to be inhabited.
+fn add_needs(ty: &Ty, needs: &mut Vec<u32>) -> Result<(), Memory>
+    ensures { OnOk result ((p : ℕ → Bool) → all_in p needs.new.items ≡ (all_in p needs.old.items && inhabited_if p (type_of ty.now))) }
 {
-    let place = constructor.result as usize;
-    if table[place] || !passes(question, table, constructor.args.items()) {
-        return false;
-    }
-    table[place] = true;
-    true
-}
-
-/// Marks the data type of each constructor that passes, and says whether one was not marked before.
-fn mark_all(question: Question, table: &mut [bool], constructors: &[Constructor]) -> bool
-    requires { AreOf (length table.old) (map constructor_of constructors.now) }
-    ensures { MarksAll (test_of question) (map constructor_of constructors.now) table.old table.new result }
-{
-    let mut any = false;
-    for constructor in constructors {
-        let new = mark_one(question, table, constructor);
-        any = any || new;
-    }
-    any
-}
-
-/// One more than the greatest number of a data type that has a constructor.
-fn table_size(constructors: &[Constructor]) -> usize
-    ensures { AreOf result (map constructor_of constructors.now) }
-{
-    let mut size = 0;
-    for constructor in constructors {
-        let bound = constructor.result as usize + 1;
-        if size < bound {
-            size = bound;
+    match ty {
+        Ty::Unit | Ty::Names(_) | Ty::List(_) => Ok(()),
+        Ty::Base(base) => Ok(needs.push(*base)?),
+        Ty::Pair(left, right) => {
+            add_needs(left, needs)?;
+            add_needs(right, needs)
         }
+        Ty::Abs(_, body) => add_needs(body, needs),
     }
-    size
+}
+
+/// The data types that must be in for each of a constructor's arguments to be inhabited.
+fn needs_of(alloc: Global, args: &[Ty]) -> Result<Vec<u32>, Memory>
+    ensures { IfOk result (λ needs. (p : ℕ → Bool) → all_in p needs.items ≡ all_inhabited p (map type_of args.now)) }
+{
+    let mut needs = Vec::new(alloc);
+    for ty in args {
+        add_needs(ty, &mut needs)?;
+    }
+    Ok(needs)
+}
+
+/// A rule that gives a data type.
+fn add_rule(rules: &mut Vec<Rule>, gives: u32, needs: Vec<u32>) -> Result<(), Memory>
+    ensures { OnOk result (Adds rules.old.items rules.new.items (λ p. all_in p needs.items) gives) }
+{
+    Ok(rules.push(Rule { gives, needs })?)
+}
+
+/// The rules by which a data type may hold names of a sort where a type may.
+fn add_holding(
+    alloc: Global,
+    sort: u32,
+    gives: u32,
+    ty: &Ty,
+    rules: &mut Vec<Rule>,
+) -> Result<(), Memory>
+    ensures { OnOk result (Adds rules.old.items rules.new.items (λ p. holds_if sort p (type_of ty.now)) gives) }
+{
+    match ty {
+        Ty::Unit => Ok(()),
+        Ty::Names(other) => {
+            if *other == sort {
+                add_rule(rules, gives, Vec::new(alloc))?;
+            }
+            Ok(())
+        }
+        Ty::Base(base) => add_rule(rules, gives, vec![in alloc; *base]?),
+        Ty::Pair(left, right) => {
+            add_holding(alloc, sort, gives, left, rules)?;
+            add_holding(alloc, sort, gives, right, rules)
+        }
+        Ty::List(element) => add_holding(alloc, sort, gives, element, rules),
+        Ty::Abs(_, body) => add_holding(alloc, sort, gives, body, rules),
+    }
+}
+
+/// The rules by which a data type may hold names of a sort where one of a constructor's arguments may.
+fn holding_rules(alloc: Global, sort: u32, gives: u32, args: &[Ty]) -> Result<Vec<Rule>, Memory>
+    ensures { IfOk result (λ rules. Adds [] rules.items (λ p. some_holds sort p (map type_of args.now)) gives) }
+{
+    let mut rules = Vec::new(alloc);
+    for ty in args {
+        add_holding(alloc, sort, gives, ty, &mut rules)?;
+    }
+    Ok(rules)
+}
+
+/// What a constructor says, as rules.
+fn rules_of(
+    alloc: Global,
+    question: Question,
+    constructor: &Constructor,
+) -> Result<Vec<Rule>, Memory>
+    ensures { IfOk result (λ rules. Say (test_of question) (constructor_of constructor.now) rules.items) }
+{
+    let gives = constructor.result;
+    match question {
+        Question::Inhabited => {
+            let needs = needs_of(alloc, constructor.args.items())?;
+            let mut rules = Vec::new(alloc);
+            add_rule(&mut rules, gives, needs)?;
+            Ok(rules)
+        }
+        Question::Holds(sort) => holding_rules(alloc, sort, gives, constructor.args.items()),
+    }
+}
+
+/// The least set with one more constructor. It costs as much as the constructor is long, and the rules
+/// of earlier ones that go on.
+pub(crate) fn add_constructor(
+    alloc: Global,
+    question: Question,
+    least: &mut Least,
+    constructor: &Constructor,
+) -> Result<(), Memory>
+    ensures { OnOk result ((cs : list NominalConstructor) → IsLeastSoFar question cs least.old → IsLeastSoFar question (cs ++ constructor_of constructor.now ∷ []) least.new) }
+{
+    let rules = rules_of(alloc, question, constructor)?;
+    add_rules(alloc, least, rules)
+}
+
+/// The least set by constructors. It costs as much as they are long together.
+pub(crate) fn least_of(
+    alloc: Global,
+    question: Question,
+    constructors: &[Constructor],
+) -> Result<Least, Memory>
+    ensures { IfOk result (λ l. IsLeastSoFar question (map constructor_of constructors.now) l) }
+{
+    let mut least = nothing(alloc);
+    for constructor in constructors {
+        add_constructor(alloc, question, &mut least, constructor)?;
+    }
+    Ok(least)
 }
 
 /// A table in which just those data types are marked that are in after some round.
@@ -147,8 +185,6 @@ pub(crate) fn least_table(
 ) -> Result<Vec<bool>, Memory>
     ensures { IfOk result (λ v. IsLeast (test_of question) (map constructor_of constructors.now) (marked v.items)) }
 {
-    let size = table_size(constructors);
-    let mut table = vec![in alloc; false; size]?;
-    'rounds: while mark_all(question, &mut table, constructors) {}
-    Ok(table)
+    let least = least_of(alloc, question, constructors)?;
+    Ok(least.table)
 }

@@ -2,6 +2,7 @@ use crate::answers::{inhabited, may_hold};
 use crate::equations::{solve, solved};
 use crate::errors::TypesError;
 use crate::holding::{holds, types_holding};
+use crate::inhabitants::{declare, is_inhabited, no_inhabitants};
 use crate::solved::value_of;
 use ap_defs::goals::{Constructor, Signature};
 use ap_defs::lists::{List, Text};
@@ -167,5 +168,25 @@ fn a_table_answers_for_its_sort(rt: HostRuntime) -> Result<(), Fail> {
     let table = types_holding(alloc, &signature, 0)?;
     assert!(rt; holds(&table, &Ty::Base(0)));
     assert!(rt; !holds(&table, &Ty::Base(1)));
+    Ok(())
+}
+
+// Data type x is made of data types x + 1 and x + 1, for each x below a number, and that one of nothing.
+#[test]
+fn data_types_are_inhabited_from_the_last(rt: HostRuntime) -> Result<(), Fail> {
+    let alloc = rt.alloc();
+    let mut table = no_inhabitants(alloc);
+    for x in 0..50 {
+        let args = vec![in alloc; Ty::Base(x + 1), Ty::Base(x + 1)]?;
+        declare(alloc, &mut table, &constructor(alloc, "c", args, x)?)?;
+    }
+    assert!(rt; !is_inhabited(&table, &Ty::Base(0)));
+    declare(
+        alloc,
+        &mut table,
+        &constructor(alloc, "d", Vec::new(alloc), 50)?,
+    )?;
+    assert!(rt; is_inhabited(&table, &Ty::Base(0)));
+    assert!(rt; !is_inhabited(&table, &Ty::Base(51)));
     Ok(())
 }

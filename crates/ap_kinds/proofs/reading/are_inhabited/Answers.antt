@@ -1,11 +1,24 @@
-use Rattle.std.proofs.Common.{map}
-use Rattle.ap_defs.specs.Types.{type_of, kind_of, signature_of}
-use Rattle.ap_types.specs.Inhabited.{IsInhabited}
-use Rattle.ap_program.specs.Typed.{AreInhabited}
-use Rattle.ap_kinds.proofs.InhabitedLemmas.{answered_as}
+use Rattle.std.proofs.Common.{◌∙◌, refl, sym, true≢false}
+use Rattle.ap_kinds.proofs.InhabitedLemmas.{inhabited_here, none_left}
 use Rattle.ap_kinds.proofs.reading.are_inhabited.Goals as goal
 
+pub returns-then-not-is_name_or_inhabited : goal.returns-then-not-is_name_or_inhabited
+returns-then-not-is_name_or_inhabited c cs h =
+    let here = inhabited_here cs c.args.kinds.now c.loop-kind.kind-index c.kind-item.result c.loop-kind-test.true c.kind-item.is in
+    let rest = c.loop-kind.invariant cs h in
+    let known = c.is_name_or_inhabited.ensures cs h in (
+      (λ e. absurd (true≢false (sym e))),
+      (λ k. absurd (true≢false (sym (known.1 (here.0 (rest.1 k)).0) ∙ c.if-not-is_name_or_inhabited.true))),
+    )
+
+pub loop-kind-preserved : goal.loop-kind-preserved
+loop-kind-preserved c cs h =
+    let here = inhabited_here cs c.args.kinds.now c.loop-kind.kind-index c.kind-item.result c.loop-kind-test.true c.kind-item.is in
+    let rest = c.loop-kind.invariant cs h in
+    let known = c.is_name_or_inhabited.ensures cs h in (
+      (λ k. rest.0 (here.1 (known.0 c.if-not-is_name_or_inhabited.false, k))),
+      (λ k. (here.0 (rest.1 k)).1),
+    )
+
 pub returns : goal.returns
-returns c =
-    let cs = (signature_of c.args.sig.now).constructors in
-    answered_as c.inhabited.result (IsInhabited cs (type_of c.in_ok-tuple.tuple)) (AreInhabited cs (map kind_of c.args.kinds.now)) (c.in_ok-tuple.ensures cs) c.inhabited.ensures
+returns c cs h = ((λ e. (c.loop-kind.invariant cs h).0 (none_left cs c.args.kinds.now c.loop-kind.kind-index c.loop-kind-test.false)), (λ k. refl))

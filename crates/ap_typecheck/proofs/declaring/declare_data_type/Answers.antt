@@ -14,5 +14,6 @@ returns-clause-kept c =
     c.in_ok-add.ensures ∙ new_word word old absent ∙ ap (λ ws. ws ++ word ∷ []) k.data_types ∙ sym (c.in_ok-push.ensures ∙ ap (λ t. c.args.state.now.declared.signature.data_types ++ t ∷ []) c.in_ok-text.ensures) in
     record {
       indexed = record { name_types = k.name_types; data_types = added; constructors = k.constructors; predicates = k.predicates };
+      inhabited = c.requires.kept.inhabited;
       listed = c.requires.kept.listed;
     }

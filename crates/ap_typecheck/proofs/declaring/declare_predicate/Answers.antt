@@ -46,5 +46,6 @@ returns-clause-kept c =
         constructors = k.constructors;
         predicates = more_words ∙ ap (λ n. n + 1) k.predicates ∙ sym more_types;
       };
+      inhabited = c.requires.kept.inhabited;
       listed = more_lists ∙ ap (λ n. n + 1) c.requires.kept.listed ∙ sym more_types;
     }
