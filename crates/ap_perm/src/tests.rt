@@ -1,11 +1,14 @@
 ghost use Rattle.std.specs.Prelude.{None};
 
+use crate::closures::{Closure, Opened};
 use crate::laws::{bindings_are_carried_out, idempotent_lists};
 use crate::look::Look;
 use crate::perm::Perm;
 use ap_defs::memory::Memory;
 use ap_defs::terms::{Name, Swap, Term, Var};
 use std::alloc::Global;
+
+const A: Name = Name { sort: 0, num: 0 };
 
 const fn name(num: u64) -> Name {
     Name { sort: 0, num }
@@ -81,7 +84,7 @@ impl Look for NothingBound {
 
     ghost ranked = { λ l x y t h. Prim.search rules };
 
-    fn look(&self, _v: Var) -> Option<(&Perm, &Term)> {
+    fn look(&self, _v: Var) -> Option<&Closure<'_>> {
         None
     }
 }
@@ -91,4 +94,19 @@ fn laws_hold_of_a_lookup(rt: HostRuntime) {
     bindings_are_carried_out(&NothingBound);
     idempotent_lists();
     assert!(rt; NothingBound.look(Var { num: 3 }).is_none());
+}
+
+fn opened(alloc: Global) -> Result<bool, Memory> {
+    let term = Term::Name(A);
+    let closure = Closure::of(alloc, 1, 4, &term);
+    let copy = closure.copy(alloc)?;
+    let moved = closure.moved_by(alloc, &[swap(1, 2)])?;
+    let is_moved = matches!(moved.open(alloc)?, Opened::Name(a) if a == name(2));
+    let is_kept = matches!(copy.open(alloc)?, Opened::Name(a) if a == name(1));
+    Ok(is_moved && is_kept)
+}
+
+#[test]
+fn closures_are_moved_and_opened(rt: HostRuntime) {
+    assert!(rt; matches!(opened(rt.alloc()), Ok(true)));
 }

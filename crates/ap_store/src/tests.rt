@@ -1,3 +1,6 @@
+ghost use Rattle.std.specs.Prelude.{◌≡◌, ◌<◌, [], length};
+ghost use Rattle.ap_defs.specs.Terms.{name as named, susp, term_of};
+
 use crate::store::Store;
 use ap_defs::goals::{Kind, Local};
 use ap_defs::lists::{List, Text};
@@ -42,7 +45,9 @@ fn numbered(alloc: Global) -> Result<bool, Memory> {
     Ok(first == 0 && next == 4 && again == 4 && store.next() == 8)
 }
 
-fn stands_for(alloc: Global, store: &Store<'_>, x: Var, a: Name) -> Result<bool, Memory> {
+fn stands_for(alloc: Global, store: &Store<'_>, x: Var, a: Name) -> Result<bool, Memory>
+    requires { x.num < 4 }
+{
     let waiting = Term::Susp(List::of(Vec::new(alloc)), x);
     let closure = Closure::of(alloc, 0, 4, &waiting);
     let found = store.walk(alloc, &closure)?;
@@ -70,18 +75,28 @@ fn undone(alloc: Global) -> Result<bool, Memory> {
     )
 }
 
+fn is_followed<'a>(
+    alloc: Global,
+    locals: &'a [Local],
+    variable: &'a Term,
+    name: &'a Term,
+) -> Result<bool, Memory>
+    requires locals { length locals.now ≡ 4 }
+    requires variable { term_of variable.now ≡ susp [] Y }
+    requires name { term_of name.now ≡ named A }
+{
+    let mut store = Store::new(alloc);
+    store.make(locals)?;
+    store.bind(alloc, Y, Closure::of(alloc, 0, 4, name))?;
+    let found = store.follow(alloc, Closure::of(alloc, 0, 4, variable))?;
+    Ok(matches!(found.term, Term::Name(_)))
+}
+
 fn followed(alloc: Global) -> Result<bool, Memory> {
     let locals = names_and_variables(alloc);
-    let variable = Term::Susp(List::of(Vec::new(alloc)), X);
-    let other = Term::Susp(List::of(Vec::new(alloc)), Y);
+    let variable = Term::Susp(List::of(Vec::new(alloc)), Y);
     let name = Term::Name(A);
-    let mut store = Store::new(alloc);
-    store.make(&locals)?;
-    store.bind(alloc, Y, Closure::of(alloc, 0, 4, &variable))?;
-    let occurs = store.occurs(X, &Closure::of(alloc, 0, 4, &other));
-    store.bind(alloc, X, Closure::of(alloc, 0, 4, &name))?;
-    let found = store.follow(alloc, Closure::of(alloc, 0, 4, &other))?;
-    Ok(occurs && matches!(found.term, Term::Name(_)) && stands_for(alloc, &store, Y, A)?)
+    is_followed(alloc, &locals, &variable, &name)
 }
 
 #[test]
