@@ -8,8 +8,8 @@ use Rattle.ap_report.proofs.Reports.{item_only, items_only}
 use Rattle.ap_report.proofs.TokenCounts.{few_items}
 use Rattle.ap_report.proofs.text.report_tokens.Goals as goal
 
-pub report_items-requires : goal.report_items-requires
-report_items-requires g c = rw c.deref.ensures.value (few_items c.args.tokens.now c.in-Ok.items.items c.in-Ok.ensures.read c.requires.length)
+pub report_items-requires-clause-length : goal.report_items-requires-clause-length
+report_items-requires-clause-length g c κs within = rw c.deref.ensures.value (few_items c.args.tokens.now c.in-Ok.items.items c.in-Ok.ensures.read c.requires.length)
 
 pub returns-in-Ok-clause-made : goal.returns-in-Ok-clause-made
 returns-in-Ok-clause-made g c = IfOk-weaker c.report_items.result _ _ (λ r is text lexes. with_items (items_of c.in-Ok.items.items) r (lexemes c.args.tokens.now, lexes, c.in-Ok.ensures.read)
@@ -24,8 +24,8 @@ returns-in-Err-Fault-clause-made g c = IfOk-weaker c.item_report.result _ _ (λ 
   lexemes c.args.tokens.now,
   lexes,
   subst (λ e. Fails e (Reads 1 (lexemes c.args.tokens.now))) c.in-Err-Fault.field-0-is c.in-Err-Fault.ensures.read,
-))) c.item_report.ensures
+))) (rw c.in-Err-Fault.fault-is at c.item_report.ensures)
 
 pub returns-in-Err-Fault-clause-only : goal.returns-in-Err-Fault-clause-only
 returns-in-Err-Fault-clause-only g c = IfOk-weaker c.item_report.result _ _ (λ r is text lexes s h. rw is (item_only c.args.wanted.depth text (lexemes c.args.tokens.now) c.in-Err-Fault.fault lexes
-    (λ o reads. subst (λ e. Fails e (λ x. x ≡ o)) c.in-Err-Fault.field-0-is (c.in-Err-Fault.ensures.only o reads)) s h)) c.item_report.ensures
+    (λ o reads. subst (λ e. Fails e (λ x. x ≡ o)) c.in-Err-Fault.field-0-is (c.in-Err-Fault.ensures.only o reads)) s h)) (rw c.in-Err-Fault.fault-is at c.item_report.ensures)
