@@ -114,7 +114,7 @@ fn a_beginning_of_an_answer_is_written(rt: HostRuntime) -> Result<(), Fail> {
         b"id : name_type. e : type. v : id -> e. l : id\\e -> e. ?- R = l(x\\v(x)).".as_slice();
     let (status, sink) = call(&rt, alloc, "run --depth 5", text, 10, 0, 2)?;
     assert_eq!(rt; status, 6);
-    assert_eq!(rt; sink.bytes(), b"R = l(n1\\v".as_slice());
+    assert_eq!(rt; sink.bytes(), b"R = l(x\\v(".as_slice());
     let (status, sink) = call(&rt, alloc, "run --depth 5", text, 10, 1, 1)?;
     assert_eq!(rt; status, 6);
     assert!(rt; sink.bytes().is_empty());
