@@ -1,10 +1,6 @@
 #!/bin/sh
 # Fills a book with 131,071 entries, closes and merges it, and prints what that took.
-set -eu
+. "$(dirname -- "$(readlink -f -- "$0")")/prepare.sh"
 
-bench=$(dirname -- "$(readlink -f -- "$0")")
-crate=$bench/../crates/ap_bench
-
-# The program is built first, so that no build is measured.
-(cd "$crate" && rt run -- lex < stdin > /dev/null 2>&1)
-python3 "$bench/measure.py" /dev/null "$crate/out/ap_bench" book
+build_stages
+measure /dev/null "$stages" book

@@ -2,20 +2,14 @@
 # Splits texts of 16, 8 and 4 MiB into tokens, and prints what each took, the reading and the greatest
 # memory too. The shapes: an ordinary program with long words and a comment, a dense one with short
 # words, and parentheses alone.
-set -eu
+. "$(dirname -- "$(readlink -f -- "$0")")/prepare.sh"
 
-bench=$(dirname -- "$(readlink -f -- "$0")")
-crate=$bench/../crates/ap_bench
-work=$(mktemp -d)
-trap 'rm -rf "$work"' EXIT
-
-# The program is built first, so that no build is measured.
-(cd "$crate" && rt run -- lex < stdin > /dev/null 2>&1)
+build_stages
 
 for shape in ordinary dense parens; do
     for size in 16777216 8388608 4194304; do
         python3 "$bench/token_text.py" "$size" "$shape" > "$work/text"
         printf '%-9s' "$shape"
-        python3 "$bench/measure.py" "$work/text" "$crate/out/ap_bench" lex
+        measure "$work/text" "$stages" lex
     done
 done

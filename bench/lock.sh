@@ -1,12 +1,8 @@
 #!/bin/sh
 # Takes 1,000,000 turns of a shared book that nobody else wants, and makes 1,000 deques, and prints
 # what each took.
-set -eu
+. "$(dirname -- "$(readlink -f -- "$0")")/prepare.sh"
 
-bench=$(dirname -- "$(readlink -f -- "$0")")
-crate=$bench/../crates/ap_bench
-
-# The program is built first, so that no build is measured.
-(cd "$crate" && rt run -- lex < stdin > /dev/null 2>&1)
-python3 "$bench/measure.py" /dev/null "$crate/out/ap_bench" lock
-python3 "$bench/measure.py" /dev/null "$crate/out/ap_bench" tasks
+build_stages
+measure /dev/null "$stages" lock
+measure /dev/null "$stages" tasks

@@ -1,20 +1,14 @@
 #!/bin/sh
 # Reads texts of 16, 8 and 4 MiB with some 200,000, 100,000 and 50,000 facts: splits them into tokens,
 # and then splits and parses them, and prints what each took, the reading and the greatest memory too.
-set -eu
+. "$(dirname -- "$(readlink -f -- "$0")")/prepare.sh"
 
-bench=$(dirname -- "$(readlink -f -- "$0")")
-crate=$bench/../crates/ap_bench
-work=$(mktemp -d)
-trap 'rm -rf "$work"' EXIT
-
-# The program is built first, so that no build is measured.
-(cd "$crate" && rt run -- lex < stdin > /dev/null 2>&1)
+build_stages
 
 for size in 16777216 8388608 4194304; do
     python3 "$bench/plain_text.py" "$size" long > "$work/text"
     for mode in lex parse; do
         printf '%-6s' "$mode"
-        python3 "$bench/measure.py" "$work/text" "$crate/out/ap_bench" "$mode"
+        measure "$work/text" "$stages" "$mode"
     done
 done

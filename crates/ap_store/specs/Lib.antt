@@ -1,4 +1,3 @@
-pub mod Bindings
 pub mod Triples
 pub mod Changes
 pub mod ChangeProps

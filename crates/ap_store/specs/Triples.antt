@@ -1,23 +1,16 @@
 -- What a store holds: bindings, conditions and the next number.
 use Rattle.std.specs.Prelude.{◌≡◌, ℕ, ◌<◌, Bool, not, List, [], ◌∷◌, ◌++◌, None, filter, map}
 use Rattle.ap_defs.specs.Freshness.{Conds, add_conds, var_eq}
-use Rattle.ap_defs.specs.Substitution.{Binding, bound_term, put_binding, ◌:=◌}
+use Rattle.ap_defs.specs.Substitution.{Binding, put_binding, ◌:=◌}
 use Rattle.ap_defs.specs.Terms.{NominalTerm}
 use Rattle.ap_defs.specs.declared.terms.Cond.{Cond}
 use Rattle.ap_defs.specs.declared.terms.Var.{Var}
 use Rattle.ap_theory.specs.Variables.{IsUnbound}
-use Rattle.ap_store.specs.Bindings.{SameMap}
 
 pub record Triple : Type 0 where
   pub bindings : List Binding
   pub conditions : Conds
   pub next : ℕ
-
--- the triples count as equal
-pub record SameTriple (a b : Triple) : Type 0 where
-  pub bindings : SameMap a.bindings b.bindings
-  pub conditions : a.conditions ≡ b.conditions
-  pub next : a.next ≡ b.next
 
 -- the condition is on the variable
 abbrev pub is_on : Var → Cond → Bool

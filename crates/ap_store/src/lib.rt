@@ -2,18 +2,15 @@
 //! that were given, with marks to go back to.
 #![tactic(auto)]
 
-pub mod bindings;
 pub mod changes;
-pub mod conditions;
+mod conditions;
 mod following;
-mod kinds;
 mod lookups;
 mod occurrences;
 mod searches;
 pub mod slots;
 pub mod store;
 mod tables;
-pub mod terms;
 #[cfg(test)]
 mod tests;
 mod walks;

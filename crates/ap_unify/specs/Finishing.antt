@@ -17,3 +17,8 @@ some_if true x = Some x
 abbrev pub with_kept : Conds → Option (List Cond) → Option Conds
 with_kept kept None = None
 with_kept kept (Some cs) = Some (add_conds cs kept)
+
+-- the list in an option of a Vec
+abbrev pub items_in : {A : Type 0} → Option (Vec A Global) → Option (List A)
+items_in None = None
+items_in (Some v) = Some v.items

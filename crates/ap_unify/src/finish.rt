@@ -7,8 +7,7 @@ ghost use Rattle.ap_fresh.specs.Reduction.{added};
 ghost use Rattle.ap_store.specs.Triples.{AreOnUnbound, GoesOn};
 ghost use Rattle.ap_store.specs.Views.{kinds, present, versions};
 ghost use Rattle.ap_theory.specs.StatementsOnConditions.{collected};
-ghost use Rattle.ap_unify.specs.Equations.{items_in};
-ghost use Rattle.ap_unify.specs.Finishing.{reduced, some_if, with_kept};
+ghost use Rattle.ap_unify.specs.Finishing.{items_in, reduced, some_if, with_kept};
 ghost use Rattle.ap_unify.specs.Work.{problem_for, problems_met};
 
 use crate::pairs::{FreshFor, Work};

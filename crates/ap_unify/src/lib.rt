@@ -1,15 +1,11 @@
 //! Nominal unification, after Urban, Pitts and Gabbay.
 #![tactic(auto)]
 
-mod equations;
 mod finish;
 pub mod fresh;
 mod moves;
 mod pairs;
-pub mod problems;
 mod reducing;
-mod rules;
-pub mod stages;
 #[cfg(test)]
 mod tests;
 pub mod unify;

@@ -1,53 +1,23 @@
 //! Unification of lists of terms.
 
-ghost use Rattle.std.specs.Prelude.{◌≡◌, ◌&&◌, [], false, true, IfOk, OnErr, OnOk, length, map};
+ghost use Rattle.std.specs.Prelude.{◌≡◌, ◌&&◌, [], false, true, IfOk, OnErr, length, map};
 ghost use Rattle.ap_defs.specs.Groundings.{Grounding};
 ghost use Rattle.ap_defs.specs.Renaming.{AreBelow};
-ghost use Rattle.ap_defs.specs.Terms.{term_of};
 ghost use Rattle.ap_defs.specs.Unification.{unify as unify_lem};
 ghost use Rattle.ap_perm.specs.Closures.{closure_term};
-ghost use Rattle.ap_store.specs.Bindings.{bindings_of};
 ghost use Rattle.ap_store.specs.Triples.{GoesOn};
 ghost use Rattle.ap_store.specs.Views.{IsUnchanged, kinds, present, versions};
 ghost use Rattle.ap_unify.specs.Runs.{paired};
-ghost use Rattle.ap_unify.specs.Stages.{unified_of};
 ghost use Rattle.ap_unify.specs.Unified.{IsResult, is_of, solves};
 ghost use Rattle.ap_unify.specs.Work.{ArePairsBelow, equations_left};
 
-use crate::equations::equations_under;
 use crate::finish::finish;
 use crate::pairs::{ClosurePair, Work};
-use crate::stages::{UnifiedValue, UnifierStage, finish_run, rewrite};
 use crate::work::run;
 use ap_defs::memory::Memory;
-use ap_defs::terms::{Cond, Term};
 use ap_perm::closures::Closure;
-use ap_store::bindings::{VarBinding, copy_bindings};
 use ap_store::store::Store;
 use std::alloc::Global;
-
-/// What the rules give for two lists of terms under bindings and conditions, or none where they give
-/// no solution (Urban, Pitts and Gabbay, "Nominal Unification").
-#[tactic(auto, unfolding(ap_defs::specs::Unification::unify))]
-pub fn unify_lists(
-    alloc: Global,
-    bindings: &[VarBinding],
-    conditions: &[Cond],
-    left: &[Term],
-    right: &[Term],
-) -> Result<Option<UnifiedValue>, Memory>
-    ensures { IfOk result (λ o. unified_of o ≡ unify_lem (bindings_of bindings.now) conditions.now (map term_of left.now) (map term_of right.now)) }
-{
-    let bindings = copy_bindings(alloc, bindings)?;
-    let equations = equations_under(alloc, &bindings, left, right)?;
-    let first = UnifierStage {
-        equations,
-        problems: Vec::new(alloc),
-        bindings,
-    };
-    let ending = rewrite(alloc, first)?;
-    finish_run(alloc, conditions, ending)
-}
 
 /// The equations of the terms at each place of two lists.
 fn first_work<'a>(
