@@ -9,7 +9,7 @@ use Rattle.ap_defs.specs.Types as types
 use Rattle.ap_defs.specs.Goals.{GoalOver, succeed, atom, equal, fresh, both, either, exists, new, ClauseOver, QueryOver, ProgramOver}
 use Rattle.ap_defs.specs.Resolution.{kinds_of}
 use Rattle.ap_program.specs.RawTyping.{HasRawType, HasTermType}
-use Rattle.ap_program.specs.Typed.{HaveTypes, AreArguments, predicate_at, IsTypedGoal, raw_form, term_form, IsTypedClause, IsTypedQuery, AreTypedClauses, AreTypedFrom, AreTypedQueries, IsTypedRawProgram}
+use Rattle.ap_program.specs.Typed.{HaveTypes, AreArguments, predicate_at, IsTypedGoal, raw_form, term_form, IsTypedClause, IsTypedQuery, AreTypedClauses, AreTypedFrom, AreTypedQueries, IsTypedProgram, IsTypedRawProgram}
 use Rattle.ap_program.specs.CarryingOut.{carried_out, map_goal, map_clause, map_query, carried_out_program}
 use Rattle.ap_program.specs.NameRestriction.{RawItem, clause, query, AllPass, HasNamesAlone, variable_binders, variable_places, in_each, terms_of_goal, items_of, items_of_lists, AreRestrictedClauses, AreRestrictedLists, IsRestricted, item_count, most_items, sum_of_lengths}
 use Rattle.ap_restrict.proofs.PlaceLemmas.{in_each_append}
@@ -127,12 +127,19 @@ same_count p =
     ap₂ (λ m n. length p.signature.name_types + length p.signature.data_types + length p.signature.constructors + length p.signature.predicates + m + n)
     (same_sum (map_clause carried_out) p.clauses) (length-map p.queries (map_query carried_out))
 
+pub kept_typed : (p : ProgramOver RawTerm) → IsTypedRawProgram p → AllPass p.signature.constructors (items_of p) → IsTypedProgram (carried_out_program p)
+kept_typed p h a =
+    let cs = p.signature.constructors in
+    let of_clauses = items_of_lists p.clauses in
+    let of_queries = map query p.queries in (
+      typed_from p.signature 0 p.clauses (all_left cs of_clauses of_queries a) h.0,
+      typed_queries p.signature p.queries (all_right cs of_clauses of_queries a) h.1,
+    )
+
 pub kept : (p : ProgramOver RawTerm) → IsTypedRawProgram p → AllPass p.signature.constructors (items_of p) → item_count p ≤ most_items → IsRestricted (carried_out_program p)
 kept p h a b =
-    let cs = p.signature.constructors in
-    let clauses = all_left cs (items_of_lists p.clauses) (map query p.queries) a in
     record {
-      typed = (typed_from p.signature 0 p.clauses clauses h.0, typed_queries p.signature p.queries (all_right cs (items_of_lists p.clauses) (map query p.queries) a) h.1);
-      names = restricted_lists cs p.clauses clauses;
+      typed = kept_typed p h a;
+      names = restricted_lists p.signature.constructors p.clauses (all_left p.signature.constructors (items_of_lists p.clauses) (map query p.queries) a);
       bounded = subst (λ n. n ≤ most_items) (sym (same_count p)) b;
     }

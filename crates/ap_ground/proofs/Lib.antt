@@ -1,0 +1,12 @@
+pub mod EnvironmentLemmas
+pub mod FreeIdentifierLemmas
+pub mod GroundTypingLemmas
+pub mod ScopeLemmas
+pub mod ProofActionLemmas
+pub mod InstanceTypingLemmas
+pub mod DerivabilityLemmas
+pub mod ListLemmas
+pub mod ShownConditionLemmas
+pub mod ShownExchangeLemmas
+pub mod FillerLemmas
+pub mod ShownLemmas

@@ -1,0 +1,13 @@
+pub mod EachFoundLemmas
+pub mod ShiftLemmas
+pub mod OccurrenceLemmas
+pub mod EnvironmentLemmas
+pub mod BackwardLemmas
+pub mod StepLemmas
+pub mod ClauseLemmas
+pub mod FoundLemmas
+pub mod QueryLemmas
+pub mod ClosingLemmas
+pub mod AnswerVarLemmas
+pub mod AnswerTypeLemmas
+pub mod AnswerLemmas

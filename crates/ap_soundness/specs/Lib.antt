@@ -1,0 +1,2 @@
+pub mod FoundStates
+pub mod StatementsOnSoundness
