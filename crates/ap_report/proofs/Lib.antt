@@ -2,3 +2,4 @@ mod NameFaults
 mod Reports
 mod QueryReports
 mod TokenCounts
+pub mod SoundTexts

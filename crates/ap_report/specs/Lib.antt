@@ -2,3 +2,4 @@ pub mod Status
 pub mod FaultLines
 pub mod Queries
 pub mod TextReport
+pub mod SoundAnswers

@@ -2,3 +2,4 @@ mod AcceptedWords
 mod Numbers
 mod Reports
 mod Wrote
+mod SoundInputs

@@ -3,6 +3,7 @@ use Rattle.std.specs.Prelude.{◌≡◌, ℕ, List, Option, None, Some, codes}
 use Rattle.ap_report.specs.declared.report.Report.{Report}
 use Rattle.ap_report.specs.declared.status.Status.{Status}
 use Rattle.ap_report.specs.declared.status.Status.TheVariants as status
+use Rattle.ap_report.specs.SoundAnswers.{IsSoundText}
 use Rattle.ap_report.specs.TextReport.{IsTextReport}
 use Rattle.ap_top.specs.Words.{depth_of}
 
@@ -31,7 +32,16 @@ IsReportAt (Some depth) input r = IsReportOn depth input r
 abbrev pub IsReport : List (List ℕ) → Input → Report → Type 0
 IsReport words input r = IsReportAt (depth_of words) input r
 
--- the report of the words and the input, of which there is no other
+-- the answers in the report on an input are sound
+abbrev pub AreSoundOn : Option ℕ → Input → Type 0
+AreSoundOn (Some depth) (Whole text) = IsSoundText depth text
+AreSoundOn _ _ = Unit {0}
+
+abbrev pub HasSoundAnswers : List (List ℕ) → Input → Type 0
+HasSoundAnswers words input = AreSoundOn (depth_of words) input
+
+-- The report of the words and the input: there is no other, and its answers are sound.
 pub record IsTheReport (words : List (List ℕ)) (input : Input) (r : Report) : Type 0 where
   pub is : IsReport words input r
   pub only : (s : Report) → IsReport words input s → s ≡ r
+  pub sound : HasSoundAnswers words input

@@ -1,0 +1,19 @@
+-- The program of each text is sound.
+use Rattle.std.proofs.Common.{ℕ, List, [], ◌∷◌}
+use Rattle.ap_defs.specs.Goals.{NominalProgram, NominalQuery}
+use Rattle.ap_program.specs.CarryingOut.{carried_out_program}
+use Rattle.ap_program.specs.Typed.{AreTypedQueries, IsTypedProgram, term_form}
+use Rattle.ap_report.specs.SoundAnswers.{HaveSoundAnswers, IsSoundProgram, IsSoundText}
+use Rattle.ap_restrict.proofs.KeepingLemmas.{kept_typed}
+use Rattle.ap_soundness.proofs.AnswerLemmas.{shown_sound}
+use Rattle.ap_typecheck.proofs.TypedPrograms.{program_typed}
+
+sound_queries : (p : NominalProgram) → IsTypedProgram p → (depth : ℕ) (qs : List NominalQuery) → AreTypedQueries term_form p.signature qs → HaveSoundAnswers p depth qs
+sound_queries p typed depth [] h = tt
+sound_queries p typed depth (q ∷ qs) h = (shown_sound p typed depth q h.0, sound_queries p typed depth qs h.1)
+
+pub sound_program : (p : NominalProgram) → IsTypedProgram p → (depth : ℕ) → IsSoundProgram p depth
+sound_program p typed depth = sound_queries p typed depth p.queries typed.1
+
+pub sound_text : (depth : ℕ) (text : List ℕ) → IsSoundText depth text
+sound_text depth text items p split kept = sound_program (carried_out_program p) (kept_typed p (program_typed items p kept.0) kept.1) depth

@@ -1,0 +1,28 @@
+-- Soundness of what is written for a text: each ground instance of what is shown of an answer is derivable in nominal logic.
+use Rattle.std.specs.Prelude.{ℕ, List, [], ◌∷◌}
+use Rattle.ap_defs.specs.Answers.{query_outs}
+use Rattle.ap_defs.specs.Goals.{NominalProgram, NominalQuery, ProgramOver}
+use Rattle.ap_defs.specs.RawTerms.{RawTerm}
+use Rattle.ap_ground.specs.ShownInstances.{InEachShownInstance, IsTypedDerivable}
+use Rattle.ap_program.specs.CarryingOut.{carried_out_program}
+use Rattle.ap_report.specs.TextReport.{HasItems, IsKept}
+use Rattle.ap_soundness.specs.FoundStates.{EachAnswer}
+use Rattle.ap_trees.specs.Items.{ItemOf}
+
+-- for each instance of what is shown of an answer there are terms for the query's free variables, with those that are shown among
+-- them, for which the query is derivable, no higher than the depth
+abbrev pub HasSoundAnswers : NominalProgram → ℕ → NominalQuery → Type 0
+HasSoundAnswers p depth q = EachAnswer (λ a. InEachShownInstance p.signature.constructors q.locals a (IsTypedDerivable p q depth)) (query_outs p.clauses depth q)
+
+-- each query has sound answers
+abbrev pub HaveSoundAnswers : NominalProgram → ℕ → List NominalQuery → Type 0
+HaveSoundAnswers p depth [] = Unit {0}
+HaveSoundAnswers p depth (q ∷ qs) = HasSoundAnswers p depth q × HaveSoundAnswers p depth qs
+
+-- the queries of the program have, whose report to a depth is written
+abbrev pub IsSoundProgram : NominalProgram → ℕ → Type 0
+IsSoundProgram p depth = HaveSoundAnswers p depth p.queries
+
+-- the program of the text is sound, where the text has no fault
+abbrev pub IsSoundText : ℕ → List ℕ → Type 0
+IsSoundText depth text = (items : List ItemOf) (p : ProgramOver RawTerm) → HasItems text items → IsKept items p → IsSoundProgram (carried_out_program p) depth
