@@ -29,6 +29,10 @@ pub enum TypeError {
 }
 
 impl From<AllocError> for TypeError {
+    ghost use Rattle.ap_typecheck.specs.declared.error.TypeError.TheVariants as errors;
+
+    ghost from_gives = { λ _ e. e ≡ errors.Memory };
+
     fn from(_refusal: AllocError) -> TypeError {
         TypeError::Memory
     }
