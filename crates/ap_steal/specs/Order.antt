@@ -23,6 +23,10 @@ IsSole hand n seen = has_stop (entries_of seen) ≡ false → AreBy n seen → R
 abbrev pub IsOrdered : ℕ → List Entry → Type 0
 IsOrdered n seen = has_stop (entries_of seen) ≡ false → AreBy n seen → IsInOrder ([] ∷ []) (entries_of seen)
 
+-- the number, the count of paths and whether it is alone are those that the worker had
+abbrev pub KeepsWho : {W : Type 0} → Tools W → Tools W → Type 0
+KeepsWho old new = (new.number ≡ old.number) × (new.count ≡ old.count) × (new.alone ≡ old.alone)
+
 -- a worker alone takes the first path of its hand
 abbrev pub TookFirst : {W : Type 0} → Tools W → Option (List ℕ) → Tools W → Type 0
 TookFirst old None new = old.alone ≡ true → new.hand.items ≡ old.hand.items

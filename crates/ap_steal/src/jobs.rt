@@ -1,6 +1,6 @@
 //! What the workers start with.
 
-ghost use Rattle.std.specs.Prelude.{◌≡◌, true, [], ◌∷◌, All, ◌≤◌, vec_len, IfOk};
+ghost use Rattle.std.specs.Prelude.{◌≡◌, true, [], ◌∷◌, All, ◌≤◌, reverse, vec_len, IfOk};
 ghost use Rattle.atomic_table.specs.Seated.{TableId};
 ghost use Rattle.ap_steal.specs.Planned.{IsNew};
 
@@ -99,6 +99,7 @@ fn give<W: Shape>(
 
 /// The jobs in the other order.
 pub fn turned<W: Shape>(mut jobs: Vec<Job<W>>) -> Vec<Job<W>>
+    ensures order { result.items ≡ reverse jobs.items }
     ensures len { vec_len result ≡ vec_len jobs }
     ensures new { (book : TableId) → All (λ j. IsNew book j.seat) jobs.items → All (λ j. IsNew book j.seat) result.items }
 {

@@ -1,9 +1,9 @@
 //! What a worker keeps: a hand of paths, a deque of its own, and thieves of the others' deques.
 
-ghost use Rattle.std.specs.Prelude.{◌≡◌, true, None, ◌∷◌, ◌++◌, IfOk};
+ghost use Rattle.std.specs.Prelude.{◌≡◌, true, None, [], ◌∷◌, ◌++◌, IfOk};
 ghost use Rattle.ap_paths.specs.History.{kids_of};
 ghost use Rattle.ap_steal.specs.Planned.{AreChoices};
-ghost use Rattle.ap_steal.specs.Order.{TookFirst};
+ghost use Rattle.ap_steal.specs.Order.{KeepsWho, TookFirst};
 
 use ap_defs::memory::Memory;
 use ap_tasks::{Owner, Placed, Shape, Stolen, Thief};
@@ -28,8 +28,9 @@ pub struct Tools<W: Shape> {
 impl<W: Shape> Tools<W> {
     // A path to run: from the hand, the own deque, or another's.
     pub fn next(&mut self) -> Option<Placed<W>>
-        ensures alone { self.new.alone ≡ self.old.alone }
+        ensures kept { KeepsWho self.old self.new }
         ensures first { TookFirst self.old result self.new }
+        ensures none { result ≡ None → self.old.hand.items ≡ [] }
     {
         match self.hand.pop_front() {
             Some(path) => Some(path),
@@ -39,7 +40,7 @@ impl<W: Shape> Tools<W> {
 
     // A path from the own deque, or another's.
     fn fetch(&mut self) -> Option<Placed<W>>
-        ensures alone { self.new.alone ≡ self.old.alone }
+        ensures kept { KeepsWho self.old self.new }
         ensures none { self.old.alone ≡ true → (result ≡ None) × (self.new.hand.items ≡ self.old.hand.items) }
     {
         if self.alone {
@@ -53,7 +54,7 @@ impl<W: Shape> Tools<W> {
 
     // A path of another worker. Each thief tries once, in turn.
     fn rob(&mut self) -> Option<Placed<W>>
-        ensures { self.new.alone ≡ self.old.alone }
+        ensures kept { KeepsWho self.old self.new }
     {
         for _ in 0..self.others.len() {
             if let Some(path) = self.rob_next() {
@@ -65,7 +66,7 @@ impl<W: Shape> Tools<W> {
 
     // One try of the next thief.
     fn rob_next(&mut self) -> Option<Placed<W>>
-        ensures { self.new.alone ≡ self.old.alone }
+        ensures kept { KeepsWho self.old self.new }
     {
         let next = self.at.saturating_add(1);
         let at = if next < self.others.len() { next } else { 0 };
@@ -83,7 +84,7 @@ impl<W: Shape> Tools<W> {
     // last first; where there are no other workers, or there is no room, they go into the hand.
     pub fn take_kids(&mut self, alloc: Global, path: &Placed<W>, kids: &[u32]) -> Result<(), Memory>
         requires { AreChoices (W.choices path.now) kids.now }
-        ensures alone { self.new.alone ≡ self.old.alone }
+        ensures kept { KeepsWho self.old self.new }
         ensures kids { self.old.alone ≡ true → IfOk result (λ _. self.new.hand.items ≡ kids_of path.now kids.now ++ self.old.hand.items) }
     {
         for i in 0..kids.len() {
@@ -95,7 +96,7 @@ impl<W: Shape> Tools<W> {
 
     // Takes one path.
     fn put(&mut self, path: Placed<W>, stays: bool) -> Result<(), Memory>
-        ensures alone { self.new.alone ≡ self.old.alone }
+        ensures kept { KeepsWho self.old self.new }
         ensures first { self.old.alone ≡ true → IfOk result (λ _. self.new.hand.items ≡ path ∷ self.old.hand.items) }
     {
         if stays || self.alone {

@@ -1,5 +1,5 @@
-use Rattle.std.proofs.Common.{◌≡◌}
 use Rattle.ap_steal.proofs.tools.Tools.rob.Given as goal
+use Rattle.ap_steal.specs.Order.{KeepsWho}
 
 abbrev pub invariant-loop : goal.invariant-loop
-invariant-loop g l = l.self.alone ≡ l.initial.self.alone
+invariant-loop g l = KeepsWho l.initial.self l.self

@@ -1,6 +1,7 @@
 use Rattle.std.proofs.Common.{◌≡◌, ◌-◌, ◌++◌, drop, length, true}
 use Rattle.ap_paths.specs.History.{kids_of}
 use Rattle.ap_steal.proofs.tools.Tools.take_kids.Given as goal
+use Rattle.ap_steal.specs.Order.{KeepsWho}
 
 abbrev pub invariant-loop-i : goal.invariant-loop-i
-invariant-loop-i g l = (l.self.alone ≡ l.initial.self.alone) × (l.initial.self.alone ≡ true → l.self.hand.items ≡ kids_of l.path (drop (length l.kids - l.i) l.kids) ++ l.initial.self.hand.items)
+invariant-loop-i g l = KeepsWho l.initial.self l.self × (l.initial.self.alone ≡ true → l.self.hand.items ≡ kids_of l.path (drop (length l.kids - l.i) l.kids) ++ l.initial.self.hand.items)
