@@ -14,6 +14,4 @@ pub mod slots;
 pub mod store;
 mod tables;
 pub mod terms;
-#[cfg(test)]
-mod tests;
 mod walks;

@@ -10,7 +10,5 @@ pub mod problems;
 mod reducing;
 mod rules;
 pub mod stages;
-#[cfg(test)]
-mod tests;
 pub mod unify;
 mod work;
