@@ -12,7 +12,5 @@ pub mod printing;
 mod report;
 mod shown;
 mod speller;
-#[cfg(test)]
-mod tests;
 mod text;
 mod words;

@@ -16,8 +16,6 @@ pub mod clauses;
 pub mod closures;
 pub mod frames;
 pub mod free_vars;
-#[cfg(test)]
-mod limits;
 pub mod place;
 pub mod points;
 pub mod problem;
@@ -26,8 +24,6 @@ pub mod renaming;
 pub mod run;
 pub mod standing;
 pub mod step;
-#[cfg(test)]
-mod tests;
 pub mod turns;
 pub mod vars;
 pub mod visits;

@@ -14,7 +14,7 @@ use std::sync::Wait;
 use std::thread::Threads;
 use std::{fs, io};
 
-const FILES: [&str; 18] = [
+const FILES: [&str; 21] = [
     "substituted.cases",
     "substituted_to_2.cases",
     "substituted_to_0.cases",
@@ -33,6 +33,9 @@ const FILES: [&str; 18] = [
     "names.cases",
     "head_names.cases",
     "variables.cases",
+    "name_faults.cases",
+    "nested.cases",
+    "grammar.cases",
 ];
 
 const DIVIDER: &str = "\n----\n";
@@ -97,7 +100,7 @@ fn run_file<R: Threads + Wait + Sync + AllocGlobal + Files + Print>(
 }
 
 fn main(rt: HostRuntime) -> io::Result<()> {
-    for name in FILES {
+    for name in &FILES {
         run_file(&rt, name)?;
     }
     Ok(())

@@ -14,8 +14,6 @@ mod reading;
 mod sorts;
 mod systems;
 mod terms;
-#[cfg(test)]
-mod tests;
 mod wants;
 
 pub use errors::KindsError;

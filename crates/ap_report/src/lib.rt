@@ -13,6 +13,3 @@ pub use report::Report;
 pub use status::Status;
 pub use text::report_text;
 pub use wanted::Wanted;
-
-#[cfg(test)]
-mod tests;

@@ -10,5 +10,3 @@ mod places;
 mod programs;
 pub mod restrict;
 mod tables;
-#[cfg(test)]
-mod tests;

@@ -11,6 +11,4 @@ mod searches;
 pub mod slots;
 pub mod store;
 mod tables;
-#[cfg(test)]
-mod tests;
 mod walks;

@@ -14,6 +14,3 @@ mod reading;
 
 pub use faults::{GRAMMAR, SynError, SynFault, TOO_DEEP, UNENDED};
 pub use reading::{TOKEN_LIMIT, parse};
-
-#[cfg(test)]
-mod tests;

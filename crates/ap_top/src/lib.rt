@@ -6,14 +6,8 @@
 #![tactic(auto)]
 
 mod reading;
-#[cfg(test)]
-mod replay_tests;
 mod run;
-#[cfg(test)]
-mod tests;
 mod words;
-#[cfg(test)]
-mod worker_tests;
 mod writing;
 
 pub use ap_report::Status;

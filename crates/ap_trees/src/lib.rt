@@ -18,6 +18,3 @@ pub use symbols::{Symbol, symbols_of};
 pub use terms::{term, term_list, whole_term};
 pub use trees::{Args, Binder, Form, GoalTree, Item, Tree, TypeTree};
 pub use types::{type_list, type_tree, whole_type};
-
-#[cfg(test)]
-mod tests;

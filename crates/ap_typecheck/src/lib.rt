@@ -15,6 +15,3 @@ mod typing;
 
 pub use checking::check;
 pub use error::{AMBIGUOUS, EMPTY, TypeError, TypeFault};
-
-#[cfg(test)]
-mod tests;

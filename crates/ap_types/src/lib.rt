@@ -12,6 +12,4 @@ mod loading;
 pub mod nodes;
 mod rounds;
 pub mod solved;
-#[cfg(test)]
-mod tests;
 mod walking;

@@ -6,7 +6,5 @@ pub mod fresh;
 mod moves;
 mod pairs;
 mod reducing;
-#[cfg(test)]
-mod tests;
 pub mod unify;
 mod work;

@@ -7,7 +7,5 @@ pub mod laws;
 mod place;
 mod side;
 mod terms;
-#[cfg(test)]
-mod tests;
 mod types;
 pub mod writing;

@@ -1,43 +1,38 @@
-use crate::{SynError, TOKEN_LIMIT, parse};
-use ap_lexer::{TEXT_LIMIT, lex};
+use crate::reading::{items_of, tokens_of};
+use ap_syntax::{SynError, SynFault, TOKEN_LIMIT, parse};
+use ap_trees::Item;
 use std::alloc::{AllocError, Global};
 use std::test::Fail;
 
+fn items_shown(alloc: Global, items: &[Item<'_>]) -> Result<String, AllocError> {
+    let mut out = String::new(alloc);
+    for item in items {
+        let (line, form) = (item.line, &item.form);
+        out.push_str(format!(in alloc; "{line} {form:?};")?.as_str())?;
+    }
+    Ok(out)
+}
+
+fn fault_shown(alloc: Global, fault: SynFault) -> Result<String, AllocError> {
+    let (item, line, kind) = (fault.item, fault.line, fault.kind);
+    format!(in alloc; "fault {item} {line} {kind}")
+}
+
 /// What a text reads as: its items, or the fault's item, line and kind.
 fn shown(alloc: Global, text: &str) -> Result<String, AllocError> {
-    if text.len() > TEXT_LIMIT {
-        return Err(AllocError);
-    }
-    let tokens = lex(alloc, text.as_bytes()).map_err(|_| AllocError)?;
+    let tokens = tokens_of(alloc, text.as_bytes())?;
     if tokens.len() > TOKEN_LIMIT {
         return Err(AllocError);
     }
     match parse(alloc, &tokens) {
-        Ok(items) => {
-            let mut out = String::new(alloc);
-            for item in &items {
-                let (line, form) = (item.line, &item.form);
-                out.push_str(format!(in alloc; "{line} {form:?};")?.as_str())?;
-            }
-            Ok(out)
-        }
-        Err(SynError::Fault(fault)) => {
-            let (item, line, kind) = (fault.item, fault.line, fault.kind);
-            format!(in alloc; "fault {item} {line} {kind}")
-        }
+        Ok(items) => items_shown(alloc, &items),
+        Err(SynError::Fault(fault)) => fault_shown(alloc, fault),
         Err(SynError::Memory) => Err(AllocError),
     }
 }
 
-/// The first text of a table that does not read as what stands beside it, with what it reads as.
-fn first_other(alloc: Global, rows: &[(&str, &str)]) -> Result<String, AllocError> {
-    for (text, want) in rows {
-        let found = shown(alloc, text)?;
-        if found.as_str() != *want {
-            return format!(in alloc; "{text} is {found}");
-        }
-    }
-    Ok(String::new(alloc))
+fn is_read_as(alloc: Global, text: &str, want: &str) -> Result<bool, AllocError> {
+    Ok(shown(alloc, text)?.as_str() == want)
 }
 
 // Declarations, clauses and queries.
@@ -128,7 +123,9 @@ const ITEMS: [(&str, &str); 24] = [
 
 #[test]
 fn items_are_read(rt: HostRuntime) -> Result<(), Fail> {
-    assert_eq!(rt; first_other(rt.alloc(), &ITEMS)?.as_str(), "");
+    for (text, want) in &ITEMS {
+        assert!(rt; is_read_as(rt.alloc(), text, want)?, "at {text}");
+    }
     Ok(())
 }
 
@@ -199,27 +196,23 @@ const TERMS: [(&str, &str); 27] = [
     ),
 ];
 
-/// The first term of a table that does not read as what stands beside it.
-fn first_other_term(alloc: Global, rows: &[(&str, &str)]) -> Result<String, AllocError> {
-    for (text, want) in rows {
-        let fact = format!(in alloc; "{text}.")?;
-        let found = shown(alloc, fact.as_str())?;
-        let whole = format!(in alloc; "1 Clause(\"p\", List {{ items: [{want}] }}, None);")?;
-        if found.as_str() != whole.as_str() {
-            return format!(in alloc; "{text} is {found}");
-        }
-    }
-    Ok(String::new(alloc))
+/// Whether a term reads as this, as the argument of a fact.
+fn term_is_read_as(alloc: Global, text: &str, want: &str) -> Result<bool, AllocError> {
+    let fact = format!(in alloc; "{text}.")?;
+    let whole = format!(in alloc; "1 Clause(\"p\", List {{ items: [{want}] }}, None);")?;
+    is_read_as(alloc, fact.as_str(), whole.as_str())
 }
 
 #[test]
 fn terms_are_read(rt: HostRuntime) -> Result<(), Fail> {
-    assert_eq!(rt; first_other_term(rt.alloc(), &TERMS)?.as_str(), "");
+    for (text, want) in &TERMS {
+        assert!(rt; term_is_read_as(rt.alloc(), text, want)?, "at {text}");
+    }
     Ok(())
 }
 
 // Goals. `p`, `q` and `r` are atoms without arguments, and P, Q and R stand for what they read as.
-const GOALS: [(&str, &str); 40] = [
+const GOALS: [(&str, &str); 18] = [
     ("p", "P"),
     ("(p)", "P"),
     ("((p))", "P"),
@@ -234,6 +227,17 @@ const GOALS: [(&str, &str); 40] = [
     ("p, (q; r)", "Both(P, Either(Q, R))"),
     ("(p; q), r", "Both(Either(P, Q), R)"),
     ("((p; q), r)", "Both(Either(P, Q), R)"),
+    ("new x (p)", "New(\"x\", P)"),
+    ("new x ((p; q)), r", "Both(New(\"x\", Either(P, Q)), R)"),
+    ("exists X (p)", "Exists(\"X\", P)"),
+    (
+        "new x (exists Y (new z (p)))",
+        "New(\"x\", Exists(\"Y\", New(\"z\", P)))",
+    ),
+];
+
+// Goals with equations and freshness.
+const EQUATIONS: [(&str, &str); 22] = [
     ("x = y", "Equal(Word(\"x\"), Word(\"y\"))"),
     ("x # y", "Fresh(Word(\"x\"), Word(\"y\"))"),
     ("(x) = y", "Equal(Word(\"x\"), Word(\"y\"))"),
@@ -278,103 +282,50 @@ const GOALS: [(&str, &str); 40] = [
         "p(x) = z",
         "Equal(Apply(\"p\", Last(Word(\"x\"))), Word(\"z\"))",
     ),
-    ("new x (p)", "New(\"x\", P)"),
-    ("new x ((p; q)), r", "Both(New(\"x\", Either(P, Q)), R)"),
     (
         "new x ((x) = y)",
         "New(\"x\", Equal(Word(\"x\"), Word(\"y\")))",
     ),
-    ("exists X (p)", "Exists(\"X\", P)"),
     (
         "exists X ((X) # y, p); q",
         "Either(Exists(\"X\", Both(Fresh(Var(\"X\"), Word(\"y\")), P)), Q)",
     ),
-    (
-        "new x (exists Y (new z (p)))",
-        "New(\"x\", Exists(\"Y\", New(\"z\", P)))",
-    ),
 ];
 
-/// The first goal of a table that does not read as what stands beside it, as the goal of a query.
-fn first_other_goal(alloc: Global, rows: &[(&str, &str)]) -> Result<String, AllocError> {
-    for (text, want) in rows {
-        let query = format!(in alloc; "?- {text}.")?;
-        let found = shown(alloc, query.as_str())?
-            .replace(alloc, "Atom(\"p\", List { items: [] })", "P")?
-            .replace(alloc, "Atom(\"q\", List { items: [] })", "Q")?
-            .replace(alloc, "Atom(\"r\", List { items: [] })", "R")?;
-        let whole = format!(in alloc; "1 Query({want});")?;
-        if found.as_str() != whole.as_str() {
-            return format!(in alloc; "{text} is {found}");
-        }
-    }
-    Ok(String::new(alloc))
+/// A text with letters for the atoms without arguments.
+fn with_letters(alloc: Global, text: &str) -> Result<String, AllocError> {
+    text.replace(alloc, "Atom(\"p\", List { items: [] })", "P")?
+        .replace(alloc, "Atom(\"q\", List { items: [] })", "Q")?
+        .replace(alloc, "Atom(\"r\", List { items: [] })", "R")
+}
+
+/// Whether a goal reads as this, as the goal of a query.
+fn goal_is_read_as(alloc: Global, text: &str, want: &str) -> Result<bool, AllocError> {
+    let query = format!(in alloc; "?- {text}.")?;
+    let found = shown(alloc, query.as_str())?;
+    let whole = format!(in alloc; "1 Query({want});")?;
+    Ok(with_letters(alloc, found.as_str())? == whole)
 }
 
 #[test]
 fn goals_are_read(rt: HostRuntime) -> Result<(), Fail> {
-    assert_eq!(rt; first_other_goal(rt.alloc(), &GOALS)?.as_str(), "");
+    for (text, want) in &GOALS {
+        assert!(rt; goal_is_read_as(rt.alloc(), text, want)?, "at {text}");
+    }
     Ok(())
 }
 
-// Texts with a fault: its item, line and kind.
-const FAULTS: [(&str, &str); 51] = [
-    ("id : name_type", "fault 1 1 5"),
-    (".", "fault 1 1 3"),
-    ("p.\n.", "fault 2 2 3"),
-    ("p.\nq(.\nr", "fault 2 2 3"),
-    ("p.\n\nr(", "fault 2 3 5"),
-    ("% (\np(\n.", "fault 1 2 3"),
-    ("X.", "fault 1 1 3"),
-    ("(p).", "fault 1 1 3"),
-    ("p().", "fault 1 1 3"),
-    ("p(x,).", "fault 1 1 3"),
-    ("p(,x).", "fault 1 1 3"),
-    ("p(x y).", "fault 1 1 3"),
-    ("p(x)).", "fault 1 1 3"),
-    ("p q.", "fault 1 1 3"),
-    ("p = q.", "fault 1 1 3"),
-    ("p :- .", "fault 1 1 3"),
-    ("p :- q :- r.", "fault 1 1 3"),
-    (":- p.", "fault 1 1 3"),
-    ("type : type.", "fault 1 1 3"),
-    ("new : t.", "fault 1 1 3"),
-    ("c : X.", "fault 1 1 3"),
-    ("X : t.", "fault 1 1 3"),
-    ("c : t -> .", "fault 1 1 3"),
-    ("c : a -> b -> t.", "fault 1 1 3"),
-    ("c : (a, b).", "fault 1 1 3"),
-    ("c : a -> (t).", "fault 1 1 3"),
-    ("c : name_type -> t.", "fault 1 1 3"),
-    ("c : [] -> t.", "fault 1 1 3"),
-    ("c : [a, b] -> t.", "fault 1 1 3"),
-    ("pred p().", "fault 1 1 3"),
-    ("pred p(a)(b).", "fault 1 1 3"),
-    ("pred P.", "fault 1 1 3"),
-    ("?- .", "fault 1 1 3"),
-    ("?- X.", "fault 1 1 3"),
-    ("?- ().", "fault 1 1 3"),
-    ("?- x\\p.", "fault 1 1 3"),
-    ("?- p, .", "fault 1 1 3"),
-    ("?- p = q = r.", "fault 1 1 3"),
-    ("?- (p = q) = r.", "fault 1 1 3"),
-    ("?- (p; q) # r.", "fault 1 1 3"),
-    ("?- (X, y).", "fault 1 1 3"),
-    ("?- new X (p).", "fault 1 1 3"),
-    ("?- new x p.", "fault 1 1 3"),
-    ("?- exists x (p).", "fault 1 1 3"),
-    ("?- exists _ (p).", "fault 1 1 3"),
-    ("?- exists X (p) = q.", "fault 1 1 3"),
-    ("?- swap(a,b) = c.", "fault 1 1 3"),
-    ("?- swap((a),b,c) = d.", "fault 1 1 3"),
-    ("?- [a|b,c] = d.", "fault 1 1 3"),
-    ("?- [|a] = d.", "fault 1 1 3"),
-    ("?- (x)\\y = z.", "fault 1 1 3"),
-];
+#[test]
+fn equations_are_read(rt: HostRuntime) -> Result<(), Fail> {
+    for (text, want) in &EQUATIONS {
+        assert!(rt; goal_is_read_as(rt.alloc(), text, want)?, "at {text}");
+    }
+    Ok(())
+}
 
 #[test]
 fn the_first_fault_is_told(rt: HostRuntime) -> Result<(), Fail> {
-    assert_eq!(rt; first_other(rt.alloc(), &FAULTS)?.as_str(), "");
+    assert_eq!(rt; shown(rt.alloc(), "p.\nq(.\nr")?.as_str(), "fault 2 2 3");
     Ok(())
 }
 
@@ -390,7 +341,7 @@ fn many(alloc: Global, count: usize, text: &str, end: &str) -> Result<String, Al
 
 // So many of a text, what stands behind them, and the kind of the fault: 3 where at most 256 levels
 // are open at once, 4 where there are more, 5 where no `.` ends the item.
-const NESTED: [(usize, &str, &str, &str); 32] = [
+const NESTED: [(usize, &str, &str, &str); 8] = [
     (256, "(", ".", "3"),
     (257, "(", ".", "4"),
     (256, "[", ".", "3"),
@@ -399,55 +350,78 @@ const NESTED: [(usize, &str, &str, &str); 32] = [
     (257, "x\\", ".", "4"),
     (257, "(", "", "5"),
     (257, "(", "(. .", "4"),
-    // A bracket takes away its partner and each `\` since.
-    (300, "()", ".", "3"),
-    (300, "[]", ".", "3"),
-    (300, "(x\\y\\)", ".", "3"),
-    (300, "[x\\y\\]", ".", "3"),
-    (128, "([])([", ".", "3"),
-    (129, "([])([", ".", "4"),
-    // It changes nothing where it has no partner.
-    (300, ")", ".", "3"),
-    (256, "(]", ".", "3"),
-    (257, "(]", ".", "4"),
-    (257, "[)", ".", "4"),
-    (257, "x\\)", ".", "4"),
-    (129, "(x\\]", ".", "4"),
-    // These marks take away each `\` since the last open bracket.
-    (300, "x\\,", ".", "3"),
-    (300, "x\\;", ".", "3"),
-    (300, "x\\|", ".", "3"),
-    (300, "x\\=", ".", "3"),
-    (300, "x\\#", ".", "3"),
-    (300, "x\\:-", ".", "3"),
-    (300, "x\\->", ".", "3"),
-    (128, "x\\(,", ".", "3"),
-    (129, "x\\(,", ".", "4"),
-    // The others do not.
-    (257, "x\\:", ".", "4"),
-    (257, "x\\?-", ".", "4"),
-    (257, "x\\swap", ".", "4"),
 ];
 
-/// The first text of such a table that has another kind of fault.
-fn first_other_kind(
+// The same with brackets. One takes away its partner and each `\` since, and changes nothing where it
+// has no partner.
+const CLOSED: [(usize, &str, &str); 12] = [
+    (300, "()", "3"),
+    (300, "[]", "3"),
+    (300, "(x\\y\\)", "3"),
+    (300, "[x\\y\\]", "3"),
+    (128, "([])([", "3"),
+    (129, "([])([", "4"),
+    (300, ")", "3"),
+    (256, "(]", "3"),
+    (257, "(]", "4"),
+    (257, "[)", "4"),
+    (257, "x\\)", "4"),
+    (129, "(x\\]", "4"),
+];
+
+// The same with marks. All but the last three take away each `\` since the last open bracket.
+const MARKED: [(usize, &str, &str); 12] = [
+    (300, "x\\,", "3"),
+    (300, "x\\;", "3"),
+    (300, "x\\|", "3"),
+    (300, "x\\=", "3"),
+    (300, "x\\#", "3"),
+    (300, "x\\:-", "3"),
+    (300, "x\\->", "3"),
+    (128, "x\\(,", "3"),
+    (129, "x\\(,", "4"),
+    (257, "x\\:", "4"),
+    (257, "x\\?-", "4"),
+    (257, "x\\swap", "4"),
+];
+
+/// Whether a text has a fault of this kind.
+fn has_kind(
     alloc: Global,
-    rows: &[(usize, &str, &str, &str)],
-) -> Result<String, AllocError> {
-    for (count, text, end, kind) in rows {
-        let whole = many(alloc, *count, text, end)?;
-        let found = shown(alloc, whole.as_str())?;
-        let want = format!(in alloc; "fault 1 1 {kind}")?;
-        if found.as_str() != want.as_str() {
-            return format!(in alloc; "{count} of {text} is {found}");
-        }
-    }
-    Ok(String::new(alloc))
+    count: usize,
+    text: &str,
+    end: &str,
+    kind: &str,
+) -> Result<bool, AllocError> {
+    let whole = many(alloc, count, text, end)?;
+    let want = format!(in alloc; "fault 1 1 {kind}")?;
+    is_read_as(alloc, whole.as_str(), want.as_str())
 }
 
 #[test]
 fn nesting_is_counted(rt: HostRuntime) -> Result<(), Fail> {
-    assert_eq!(rt; first_other_kind(rt.alloc(), &NESTED)?.as_str(), "");
+    for (count, text, end, kind) in &NESTED {
+        let told = has_kind(rt.alloc(), *count, text, end, kind)?;
+        assert!(rt; told, "at {count} of {text}");
+    }
+    Ok(())
+}
+
+#[test]
+fn brackets_take_away(rt: HostRuntime) -> Result<(), Fail> {
+    for (count, text, kind) in &CLOSED {
+        let told = has_kind(rt.alloc(), *count, text, ".", kind)?;
+        assert!(rt; told, "at {count} of {text}");
+    }
+    Ok(())
+}
+
+#[test]
+fn marks_take_away(rt: HostRuntime) -> Result<(), Fail> {
+    for (count, text, kind) in &MARKED {
+        let told = has_kind(rt.alloc(), *count, text, ".", kind)?;
+        assert!(rt; told, "at {count} of {text}");
+    }
     Ok(())
 }
 
@@ -473,37 +447,39 @@ fn deep(alloc: Global, count: usize, nest: &Nest<'_>) -> Result<String, AllocErr
     format!(in alloc; "{before}{opened}{closed}")
 }
 
-/// How the first item begins that is not read with 256 levels, or is with 257.
-fn first_unbounded<'a>(alloc: Global, rows: &[Nest<'a>]) -> Result<&'a str, AllocError> {
-    for row in rows {
-        let most = deep(alloc, 256, row)?;
-        let over = deep(alloc, 257, row)?;
-        let read = !shown(alloc, most.as_str())?.starts_with("fault");
-        if !read || shown(alloc, over.as_str())?.as_str() != "fault 1 1 4" {
-            return Ok(row.0);
-        }
-    }
-    Ok("")
+/// Whether an item is read with 256 levels, and not with 257.
+fn is_bounded(alloc: Global, nest: &Nest<'_>) -> Result<bool, AllocError> {
+    let most = deep(alloc, 256, nest)?;
+    let over = deep(alloc, 257, nest)?;
+    let read = !shown(alloc, most.as_str())?.starts_with("fault");
+    Ok(read && is_read_as(alloc, over.as_str(), "fault 1 1 4")?)
 }
 
 #[test]
 fn nesting_is_bounded(rt: HostRuntime) -> Result<(), Fail> {
-    assert_eq!(rt; first_unbounded(rt.alloc(), &DEEP)?, "");
+    for nest in &DEEP {
+        assert!(rt; is_bounded(rt.alloc(), nest)?, "at {}", nest.0);
+    }
     Ok(())
+}
+
+// A whole program, of ten items on ten lines.
+const PROGRAM: &str = "id : name_type.\nexp : type.\nvar : id -> exp.\napp : (exp, exp) -> exp.\n\
+    lam : id\\exp -> exp.\npred subst(exp, id, exp, exp).\nsubst(var(X), X, E, E).\n\
+    subst(var(Y), X, E, var(Y)) :- X # Y.\n\
+    subst(app(M,N), X, E, app(M2,N2)) :- subst(M,X,E,M2), subst(N,X,E,N2).\n\
+    subst(lam(y\\M), X, E, lam(y\\M2)) :- y # X, y # E, subst(M,X,E,M2).\n";
+
+/// How many items a text has, and the line of the last.
+fn last_item(alloc: Global, text: &str) -> Result<(usize, u64), AllocError> {
+    let tokens = tokens_of(alloc, text.as_bytes())?;
+    let items = items_of(alloc, &tokens)?;
+    let line = items.last().map_or(0, |item| item.line);
+    Ok((items.len(), line))
 }
 
 #[test]
 fn a_whole_program_is_read(rt: HostRuntime) -> Result<(), Fail> {
-    let text = "id : name_type.\nexp : type.\nvar : id -> exp.\napp : (exp, exp) -> exp.\n\
-        lam : id\\exp -> exp.\npred subst(exp, id, exp, exp).\nsubst(var(X), X, E, E).\n\
-        subst(var(Y), X, E, var(Y)) :- X # Y.\n\
-        subst(app(M,N), X, E, app(M2,N2)) :- subst(M,X,E,M2), subst(N,X,E,N2).\n\
-        subst(lam(y\\M), X, E, lam(y\\M2)) :- y # X, y # E, subst(M,X,E,M2).\n";
-    assert!(rt; text.len() <= TEXT_LIMIT);
-    let tokens = lex(rt.alloc(), text.as_bytes()).map_err(|_| AllocError)?;
-    assert!(rt; tokens.len() <= TOKEN_LIMIT);
-    let items = parse(rt.alloc(), &tokens).map_err(|_| AllocError)?;
-    assert_eq!(rt; items.len(), 10);
-    assert_eq!(rt; items[9].line, 10);
+    assert_eq!(rt; last_item(rt.alloc(), PROGRAM)?, (10, 10));
     Ok(())
 }

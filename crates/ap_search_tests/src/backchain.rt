@@ -1,5 +1,5 @@
 use crate::limits::{do_clauses_fit, does_query_fit};
-use crate::run::outputs_of_query;
+use ap_backchain::run::outputs_of_query;
 use ap_defs::goals::{Clause, Goal, Kind, Local, Query};
 use ap_defs::lists::{List, Text};
 use ap_defs::memory::Memory;
@@ -31,24 +31,22 @@ fn lam(alloc: Global, binder: u64, body: Term) -> Result<Term, Memory> {
     of(alloc, LAM, Term::Abs(name, Box::new(alloc, body)?))
 }
 
+fn local(alloc: Global, kind: Kind) -> Local {
+    Local {
+        kind,
+        bound: false,
+        text: Text::of(String::new(alloc)),
+    }
+}
+
 /// So many names, and then so many variables.
 fn locals(alloc: Global, names: usize, vars: usize) -> Result<List<Local>, Memory> {
     let mut all = Vec::new(alloc);
     for _ in 0..names {
-        let text = Text::of(String::new(alloc));
-        all.push(Local {
-            kind: Kind::Name(0),
-            bound: false,
-            text,
-        })?;
+        all.push(local(alloc, Kind::Name(0)))?;
     }
     for _ in 0..vars {
-        let text = Text::of(String::new(alloc));
-        all.push(Local {
-            kind: Kind::Var(Ty::Base(0)),
-            bound: false,
-            text,
-        })?;
+        all.push(local(alloc, Kind::Var(Ty::Base(0))))?;
     }
     Ok(List::of(all))
 }
@@ -112,28 +110,33 @@ fn reaches(
     Ok(spelling.as_str() == word)
 }
 
-fn new_names(alloc: Global) -> Result<bool, Memory> {
+/// The first name is new in a goal.
+fn new(alloc: Global, goal: Goal<Term>) -> Result<Goal<Term>, Memory> {
+    Ok(Goal::New(Name { sort: 0, num: 0 }, Box::new(alloc, goal)?))
+}
+
+/// Whether a query of one name and one variable, without clauses, has these outputs.
+fn gives(alloc: Global, goal: Goal<Term>, word: &str) -> Result<bool, Memory> {
+    reaches(alloc, &[], 5, &query(goal, locals(alloc, 1, 1)?), word)
+}
+
+fn closed_name(alloc: Global) -> Result<bool, Memory> {
     let whole = lam(alloc, 0, of(alloc, VAR, named(0))?)?;
-    let name = Name { sort: 0, num: 0 };
-    let closed = Goal::New(name, Box::new(alloc, Goal::Equal(whole, hole(alloc, 1)))?);
-    let open = Goal::New(
-        name,
-        Box::new(
-            alloc,
-            Goal::Equal(of(alloc, VAR, named(0))?, hole(alloc, 1)),
-        )?,
-    );
-    Ok(
-        reaches(alloc, &[], 5, &query(closed, locals(alloc, 1, 1)?), "F")?
-            && reaches(alloc, &[], 5, &query(open, locals(alloc, 1, 1)?), "")?,
-    )
+    gives(alloc, new(alloc, Goal::Equal(whole, hole(alloc, 1)))?, "F")
+}
+
+fn open_name(alloc: Global) -> Result<bool, Memory> {
+    let whole = of(alloc, VAR, named(0))?;
+    gives(alloc, new(alloc, Goal::Equal(whole, hole(alloc, 1)))?, "")
+}
+
+/// The third identifier is the name of this number.
+fn is_name(alloc: Global, num: u64) -> Result<Box<Goal<Term>>, Memory> {
+    Ok(Box::new(alloc, Goal::Equal(hole(alloc, 2), named(num)))?)
 }
 
 fn either_side(alloc: Global) -> Result<bool, Memory> {
-    let goal = Goal::Either(
-        Box::new(alloc, Goal::Equal(hole(alloc, 2), named(0)))?,
-        Box::new(alloc, Goal::Equal(hole(alloc, 2), named(1)))?,
-    );
+    let goal = Goal::Either(is_name(alloc, 0)?, is_name(alloc, 1)?);
     reaches(alloc, &[], 5, &query(goal, locals(alloc, 2, 1)?), "F1F2")
 }
 
@@ -173,22 +176,21 @@ fn any_fact(alloc: Global) -> Result<Goal<Term>, Memory> {
     Ok(Goal::Atom(0, List::of(args)))
 }
 
-fn all_clauses(alloc: Global) -> Result<bool, Memory> {
+fn all_clauses(alloc: Global, depth: u32, word: &str) -> Result<bool, Memory> {
     let clauses = three_facts(alloc)?;
     let asked = query(any_fact(alloc)?, locals(alloc, 0, 1)?);
-    Ok(
-        reaches(alloc, clauses.as_slice(), 1, &asked, "F1F2F3")?
-            && reaches(alloc, clauses.as_slice(), 0, &asked, "C")?,
-    )
+    reaches(alloc, clauses.as_slice(), depth, &asked, word)
+}
+
+/// The goal p(X), X = c, for constant 4.
+fn last_fact(alloc: Global) -> Result<Goal<Term>, Memory> {
+    let last = Goal::Equal(hole(alloc, 0), constant(alloc, 4)?);
+    Ok(Goal::Both(Box::new(alloc, any_fact(alloc)?)?, Box::new(alloc, last)?))
 }
 
 fn last_clause(alloc: Global) -> Result<bool, Memory> {
     let clauses = three_facts(alloc)?;
-    let goal = Goal::Both(
-        Box::new(alloc, any_fact(alloc)?)?,
-        Box::new(alloc, Goal::Equal(hole(alloc, 0), constant(alloc, 4)?))?,
-    );
-    let asked = query(goal, locals(alloc, 0, 1)?);
+    let asked = query(last_fact(alloc)?, locals(alloc, 0, 1)?);
     reaches(alloc, clauses.as_slice(), 1, &asked, "F3")
 }
 
@@ -199,7 +201,8 @@ fn stuck_first(alloc: Global) -> Result<bool, Memory> {
 
 #[test]
 fn a_new_name_stays_inside(rt: HostRuntime) {
-    assert!(rt; matches!(new_names(rt.alloc()), Ok(true)));
+    assert!(rt; matches!(closed_name(rt.alloc()), Ok(true)));
+    assert!(rt; matches!(open_name(rt.alloc()), Ok(true)));
 }
 
 #[test]
@@ -209,7 +212,8 @@ fn both_sides_of_a_disjunction_are_tried(rt: HostRuntime) {
 
 #[test]
 fn each_clause_is_tried_in_order(rt: HostRuntime) {
-    assert!(rt; matches!(all_clauses(rt.alloc()), Ok(true)));
+    assert!(rt; matches!(all_clauses(rt.alloc(), 1, "F1F2F3"), Ok(true)));
+    assert!(rt; matches!(all_clauses(rt.alloc(), 0, "C"), Ok(true)));
 }
 
 #[test]

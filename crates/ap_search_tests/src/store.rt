@@ -1,12 +1,12 @@
 ghost use Rattle.std.specs.Prelude.{◌≡◌, ◌<◌, [], length};
 ghost use Rattle.ap_defs.specs.Terms.{name as named, susp, term_of};
 
-use crate::store::Store;
 use ap_defs::goals::{Kind, Local};
 use ap_defs::lists::{List, Text};
 use ap_defs::memory::Memory;
 use ap_defs::terms::{Cond, Name, Term, Ty, Var};
 use ap_perm::closures::Closure;
+use ap_store::store::Store;
 use std::alloc::Global;
 
 const A: Name = Name { sort: 0, num: 0 };

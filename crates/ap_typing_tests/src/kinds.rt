@@ -1,10 +1,10 @@
-use crate::errors::KindsError;
-use crate::kinds::{IdentKind, kinds_of_clause, kinds_of_query};
-use crate::sorts::{goal_with_sorts, terms_with_sorts};
 use ap_defs::goals::{Constructor, Goal, Kind, Signature};
 use ap_defs::lists::{List, Text};
 use ap_defs::memory::Memory;
 use ap_defs::terms::{Id, Name, Raw, Ty, Var};
+use ap_kinds::{
+    IdentKind, KindsError, goal_with_sorts, kinds_of_clause, kinds_of_query, terms_with_sorts,
+};
 use ap_types::inhabitants::inhabitants_of;
 use std::alloc::Global;
 
@@ -173,13 +173,20 @@ fn a_head_gives_its_words_their_types(rt: HostRuntime) {
     assert!(rt; matches!(headed(alloc, 2), Err(KindsError::Clash)));
 }
 
+/// Whether the two names that are swapped have these sorts.
+fn swaps_sorts(goal: &Goal<Raw>, left: u32, right: u32) -> bool {
+    match goal {
+        Goal::Fresh(Raw::Swapped(Id::Name(a), Id::Name(b), _), _) => {
+            a.sort == left && b.sort == right
+        }
+        _ => false,
+    }
+}
+
 fn sorted_goal(alloc: Global) -> Result<bool, Memory> {
     let kinds = [Kind::Name(7), Kind::Name(4)];
     let sorted = goal_with_sorts(alloc, &kinds, &swapping(alloc)?)?;
-    if let Goal::Fresh(Raw::Swapped(Id::Name(a), Id::Name(b), _), _) = &sorted {
-        return Ok(a.sort == 7 && b.sort == 4);
-    }
-    Ok(false)
+    Ok(swaps_sorts(&sorted, 7, 4))
 }
 
 fn sorted_terms(alloc: Global) -> Result<bool, Memory> {

@@ -3,8 +3,6 @@ ghost use Rattle.ap_defs.specs.Renaming.{IsBelow, rename_term};
 ghost use Rattle.ap_defs.specs.Terms.{abs, app, name, pair, susp, term_of};
 ghost use Rattle.ap_store.specs.Views.{present};
 
-use crate::fresh::{make_fresh, make_fresh_for_each};
-use crate::unify::unify;
 use ap_defs::goals::{Kind, Local};
 use ap_defs::lists::{List, Text};
 use ap_defs::memory::Memory;
@@ -12,6 +10,8 @@ use ap_defs::terms::{Cond, Name, Term, Ty, Var};
 use ap_perm::closures::Closure;
 use ap_perm::swappings::image;
 use ap_store::store::Store;
+use ap_unify::fresh::{make_fresh, make_fresh_for_each};
+use ap_unify::unify::unify;
 use std::alloc::Global;
 
 const A: Name = Name { sort: 0, num: 0 };

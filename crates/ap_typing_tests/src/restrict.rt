@@ -1,6 +1,6 @@
-use crate::restrict::restrict;
 use ap_defs::goals::{Program, Signature};
 use ap_defs::lists::List;
+use ap_restrict::restrict::restrict;
 use std::test::Fail;
 
 #[test]

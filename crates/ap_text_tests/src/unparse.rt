@@ -1,7 +1,6 @@
-use crate::writing::{goal_text, term_text, type_text};
-use ap_lexer::{TEXT_LIMIT, Token, lex};
-use ap_syntax::{TOKEN_LIMIT, parse};
-use ap_trees::{Form, Item};
+use crate::reading::{items_of, tokens_of};
+use ap_trees::Form;
+use ap_unparse::writing::{goal_text, term_text, type_text};
 use std::alloc::{AllocError, Global};
 use std::test::Fail;
 
@@ -12,20 +11,6 @@ fn between(alloc: Global, before: &str, text: &[u8], behind: &str) -> Result<Vec
     out.extend_from_slice(text)?;
     out.extend_from_slice(behind.as_bytes())?;
     Ok(out)
-}
-
-fn tokens_of(alloc: Global, text: &[u8]) -> Result<Vec<Token<'_>>, AllocError> {
-    if text.len() > TEXT_LIMIT {
-        return Err(AllocError);
-    }
-    lex(alloc, text).map_err(|_| AllocError)
-}
-
-fn items_of<'a>(alloc: Global, tokens: &[Token<'a>]) -> Result<Vec<Item<'a>>, AllocError> {
-    if tokens.len() > TOKEN_LIMIT {
-        return Err(AllocError);
-    }
-    parse(alloc, tokens).map_err(|_| AllocError)
 }
 
 /// What is written of the goal of a query, of a predicate's first argument, or of a head's first term.
@@ -81,37 +66,54 @@ fn goes_round(
     Ok(same && written.as_slice() == want.as_bytes())
 }
 
+/// The first goal of a table that is not written as what stands beside it, or not read again.
+fn first_other<'a>(alloc: Global, rows: &[(&'a str, &str)]) -> Result<&'a str, AllocError> {
+    for (text, want) in rows {
+        if !goes_round(alloc, "?- ", text, ".", want)? {
+            return Ok(text);
+        }
+    }
+    Ok("")
+}
+
+const GOALS: [(&str, &str); 7] = [
+    (
+        "subst(M,X,E,M2),subst(N,X,E,N2)",
+        "subst(M,X,E,M2), subst(N,X,E,N2)",
+    ),
+    (
+        "y # X, y # E, subst(M,X,E,M2)",
+        "y # X, y # E, subst(M,X,E,M2)",
+    ),
+    ("((p, q), r) ; s", "((p, q), r) ; s"),
+    ("p ; (q ; r), s ; t", "p ; ((q ; r), s) ; t"),
+    ("(p;q);r", "(p ; q) ; r"),
+    ("new x ((p(x) ; q)), r", "new x (p(x) ; q), r"),
+    ("exists X(X=())", "exists X (X = ())"),
+];
+
 #[test]
 fn goals_are_written_and_read_again(rt: HostRuntime) -> Result<(), Fail> {
-    let alloc = rt.alloc();
-    for (text, want) in [
-        ("X # Y", "X # Y"),
-        (
-            "subst(M,X,E,M2),subst(N,X,E,N2)",
-            "subst(M,X,E,M2), subst(N,X,E,N2)",
-        ),
-        (
-            "y # X, y # E, subst(M,X,E,M2)",
-            "y # X, y # E, subst(M,X,E,M2)",
-        ),
-        (
-            "subst(lam(y\\M), X, E, lam(y\\M2))",
-            "subst(lam(y\\M),X,E,lam(y\\M2))",
-        ),
-        ("((p, q), r) ; s", "((p, q), r) ; s"),
-        ("p ; (q ; r), s ; t", "p ; ((q ; r), s) ; t"),
-        ("(p;q);r", "(p ; q) ; r"),
-        ("new x ((p(x) ; q)), r", "new x (p(x) ; q), r"),
-        ("exists X(X=())", "exists X (X = ())"),
-        ("[a,b|c] = [[],X|[Y]]", "[a,b|c] = [[],X,Y]"),
-        ("swap(a,X,x\\(y\\z,w)) = ()", "swap(a,X,x\\(y\\z,w)) = ()"),
-        ("(a,b) = ((c),(d,e))", "(a,b) = (c,d,e)"),
-        ("X\\((t)) # f((t,u))", "X\\t # f((t,u))"),
-        ("[t|(u,v)] = g(((a,b),c),d)", "[t|(u,v)] = g(((a,b),c),d)"),
-    ] {
-        let round = goes_round(alloc, "?- ", text, ".", want)?;
-        assert!(rt; round, "at {text}");
-    }
+    assert_eq!(rt; first_other(rt.alloc(), &GOALS)?, "");
+    Ok(())
+}
+
+const SIDES: [(&str, &str); 7] = [
+    ("X # Y", "X # Y"),
+    (
+        "subst(lam(y\\M), X, E, lam(y\\M2))",
+        "subst(lam(y\\M),X,E,lam(y\\M2))",
+    ),
+    ("[a,b|c] = [[],X|[Y]]", "[a,b|c] = [[],X,Y]"),
+    ("swap(a,X,x\\(y\\z,w)) = ()", "swap(a,X,x\\(y\\z,w)) = ()"),
+    ("(a,b) = ((c),(d,e))", "(a,b) = (c,d,e)"),
+    ("X\\((t)) # f((t,u))", "X\\t # f((t,u))"),
+    ("[t|(u,v)] = g(((a,b),c),d)", "[t|(u,v)] = g(((a,b),c),d)"),
+];
+
+#[test]
+fn terms_are_written_and_read_again(rt: HostRuntime) -> Result<(), Fail> {
+    assert_eq!(rt; first_other(rt.alloc(), &SIDES)?, "");
     Ok(())
 }
 
@@ -146,20 +148,33 @@ fn many(
     Ok(out)
 }
 
+/// Whether so long a goal is written as it stands.
+fn is_written(
+    alloc: Global,
+    first: &str,
+    one: &str,
+    sign: &str,
+    last: &str,
+) -> Result<bool, AllocError> {
+    let text = many(alloc, first, one, sign, last)?;
+    let whole = between(alloc, "?- ", text.as_bytes(), ".")?;
+    let written = written(alloc, whole.as_slice())?;
+    Ok(written.as_slice() == text.as_bytes())
+}
+
+const LONG: [(&str, &str, &str, &str); 5] = [
+    ("", "p", ", ", ""),
+    ("", "p", " ; ", ""),
+    ("X = [", "a", ",", "|b]"),
+    ("X = (", "a", ",", ")"),
+    ("p(", "a", ",", ")"),
+];
+
 #[test]
 fn long_texts_are_written(rt: HostRuntime) -> Result<(), Fail> {
-    let alloc = rt.alloc();
-    for (first, one, sign, last) in [
-        ("", "p", ", ", ""),
-        ("", "p", " ; ", ""),
-        ("X = [", "a", ",", "|b]"),
-        ("X = (", "a", ",", ")"),
-        ("p(", "a", ",", ")"),
-    ] {
-        let text = many(alloc, first, one, sign, last)?;
-        let whole = between(alloc, "?- ", text.as_bytes(), ".")?;
-        let written = written(alloc, whole.as_slice())?;
-        assert!(rt; written.as_slice() == text.as_bytes(), "at {first}");
+    for (first, one, sign, last) in &LONG {
+        let same = is_written(rt.alloc(), first, one, sign, last)?;
+        assert!(rt; same, "at {first}");
     }
     Ok(())
 }

@@ -1,0 +1,123 @@
+use ap_defs::goals::{Clause, Local, Program, Query};
+use ap_defs::terms::Raw;
+use ap_lexer::{TEXT_LIMIT, Token, lex};
+use ap_syntax::{TOKEN_LIMIT, parse};
+use ap_trees::Item;
+use ap_typecheck::{TypeError, TypeFault, check};
+use std::alloc::{AllocError, Global};
+use std::test::Fail;
+
+fn tokens_of(alloc: Global, text: &[u8]) -> Result<Vec<Token<'_>>, AllocError> {
+    if text.len() > TEXT_LIMIT {
+        return Err(AllocError);
+    }
+    lex(alloc, text).map_err(|_| AllocError)
+}
+
+fn items_of<'a>(alloc: Global, tokens: &[Token<'a>]) -> Result<Vec<Item<'a>>, AllocError> {
+    if tokens.len() > TOKEN_LIMIT {
+        return Err(AllocError);
+    }
+    parse(alloc, tokens).map_err(|_| AllocError)
+}
+
+/// Identifiers with their kinds.
+fn push_locals(alloc: Global, out: &mut String, locals: &[Local]) -> Result<(), AllocError> {
+    for local in locals {
+        let (text, kind, bound) = (local.text.as_str(), &local.kind, local.bound);
+        out.push_str(format!(in alloc; " {text}:{kind:?}:{bound}")?.as_str())?;
+    }
+    out.push_str(";")?;
+    Ok(())
+}
+
+fn push_clause(alloc: Global, out: &mut String, clause: &Clause<Raw>) -> Result<(), AllocError> {
+    let (args, body) = (&clause.args, &clause.body);
+    out.push_str(format!(in alloc; "{args:?} {body:?}")?.as_str())?;
+    push_locals(alloc, out, clause.locals.items())
+}
+
+fn push_query(alloc: Global, out: &mut String, query: &Query<Raw>) -> Result<(), AllocError> {
+    let goal = &query.goal;
+    out.push_str(format!(in alloc; "{goal:?}")?.as_str())?;
+    push_locals(alloc, out, query.locals.items())
+}
+
+/// The clauses and queries of a program with their identifiers.
+fn program_shown(alloc: Global, program: &Program<Raw>) -> Result<String, AllocError> {
+    let mut out = String::new(alloc);
+    for clauses in program.clauses.items() {
+        for clause in clauses.items() {
+            push_clause(alloc, &mut out, clause)?;
+        }
+    }
+    for query in program.queries.items() {
+        push_query(alloc, &mut out, query)?;
+    }
+    Ok(out)
+}
+
+fn fault_shown(alloc: Global, fault: TypeFault) -> Result<String, AllocError> {
+    let (item, line, kind) = (fault.item, fault.line, fault.kind);
+    format!(in alloc; "fault {item} {line} {kind}")
+}
+
+/// The program of a text, or its fault's item, line and kind.
+fn shown(alloc: Global, text: &str) -> Result<String, AllocError> {
+    let tokens = tokens_of(alloc, text.as_bytes())?;
+    let items = items_of(alloc, &tokens)?;
+    if items.len() > 1000 {
+        return Err(AllocError);
+    }
+    match check(alloc, &items) {
+        Ok(program) => program_shown(alloc, &program),
+        Err(TypeError::Fault(fault)) => fault_shown(alloc, fault),
+        Err(TypeError::Memory) => Err(AllocError),
+    }
+}
+
+const PROGRAMS: [(&str, &str); 4] = [
+    ("", ""),
+    (
+        "e : type. c : e. pred q([(e, e)]). q([(c,c)]). ?- q(L).",
+        "List { items: [App(1, Pair(Pair(App(2, Unit), App(2, Unit)), App(0, Unit)))] } True;\
+Atom(0, List { items: [Var(Var { num: 0 })] }) L:Var(List(Pair(Base(0), Base(0)))):false;",
+    ),
+    (
+        "id : name_type. ?- a # b.",
+        "Fresh(Name(Name { sort: 0, num: 0 }), Name(Name { sort: 0, num: 1 })) a:Name(0):false b:Name(0):false;",
+    ),
+    (
+        "m : name_type. n : name_type. e : type. f : (n\\e, e) -> e. c : e. pred p(e). p(f(x\\c, Y)).",
+        "List { items: [App(2, Pair(Abs(Name(Name { sort: 1, num: 0 }), App(3, Unit)), Var(Var { num: 1 })))] } True x:Name(1):false Y:Var(Base(0)):false;",
+    ),
+];
+
+#[test]
+fn programs_are_typed(rt: HostRuntime) -> Result<(), Fail> {
+    for (text, want) in &PROGRAMS {
+        assert!(rt; shown(rt.alloc(), text)?.as_str() == *want, "at {text}");
+    }
+    Ok(())
+}
+
+#[test]
+fn identifiers_are_numbered(rt: HostRuntime) -> Result<(), Fail> {
+    let text =
+        "id : name_type. pred p(id, id). ?- p(a, X), new b (exists X (p(b, X), p(a, Y))), p(b, _), p(_, X).";
+    let want =
+        "Both(Atom(0, List { items: [Name(Name { sort: 0, num: 0 }), Var(Var { num: 1 })] }), \
+Both(New(Name { sort: 0, num: 2 }, Exists(Var { num: 3 }, Both(Atom(0, List { items: [Name(Name { sort: 0, num: 2 }), Var(Var { num: 3 })] }), \
+Atom(0, List { items: [Name(Name { sort: 0, num: 0 }), Var(Var { num: 4 })] })))), \
+Both(Atom(0, List { items: [Name(Name { sort: 0, num: 5 }), Var(Var { num: 6 })] }), Atom(0, List { items: [Var(Var { num: 7 }), Var(Var { num: 1 })] })))) \
+a:Name(0):false X:Var(Names(0)):false b:Name(0):true X:Var(Names(0)):true Y:Var(Names(0)):false b:Name(0):false _:Var(Names(0)):false _:Var(Names(0)):false;";
+    assert_eq!(rt; shown(rt.alloc(), text)?.as_str(), want);
+    Ok(())
+}
+
+#[test]
+fn the_first_fault_is_told(rt: HostRuntime) -> Result<(), Fail> {
+    let text = "id : name_type.\nid : type.\nq.";
+    assert_eq!(rt; shown(rt.alloc(), text)?.as_str(), "fault 2 2 2");
+    Ok(())
+}
