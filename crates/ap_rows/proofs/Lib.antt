@@ -1,4 +1,5 @@
 mod Controls
+mod GroundRows
 mod Programs
 mod Rows
 mod SampledPrograms
