@@ -6,7 +6,7 @@ use Rattle.ap_defs.specs.declared.terms.Name.{Name}
 use Rattle.ap_defs.specs.declared.goals.Local.{Local}
 use Rattle.ap_defs.specs.Permutations.{name_eq, has_name}
 use Rattle.ap_defs.specs.Types as types
-use Rattle.ap_defs.specs.Types.{NominalKind, NominalLocal, kind_of, local_of, locals_of}
+use Rattle.ap_defs.specs.Types.{NominalKind, kind_of, locals_of}
 use Rattle.ap_defs.specs.Renaming.{local_names, name_unless}
 use Rattle.ap_answers.specs.Locals.{AllBelow, sort_unless}
 use Rattle.ap_answers.specs.Occurring.{more_names}

@@ -9,7 +9,7 @@ use Rattle.ap_defs.specs.declared.terms.Var.{Var}
 use Rattle.ap_defs.specs.Permutations.{name_eq}
 use Rattle.ap_defs.specs.Freshness.{var_eq}
 use Rattle.ap_defs.specs.Types as types
-use Rattle.ap_defs.specs.Types.{NominalKind, NominalLocal, NominalConstructor}
+use Rattle.ap_defs.specs.Types.{NominalKind, NominalLocal}
 use Rattle.ap_defs.specs.Goals.{NominalProgram}
 use Rattle.ap_defs.specs.Renaming.{local_names, name_unless}
 use Rattle.ap_defs.specs.Printing.{Spelling, name_word, var_word, new_words}

@@ -6,7 +6,7 @@ use Rattle.ap_defs.specs.Freshness.{Conds}
 use Rattle.ap_defs.specs.Goals.{NominalClause}
 use Rattle.ap_defs.specs.Renaming.{AreBelow, rename_term}
 use Rattle.ap_defs.specs.Resolution.{State, kinds_of}
-use Rattle.ap_defs.specs.Substitution.{Binding, Equation, ◌≐◌, under}
+use Rattle.ap_defs.specs.Substitution.{Binding, ◌≐◌, under}
 use Rattle.ap_defs.specs.Terms.{NominalTerm, term_of}
 use Rattle.ap_defs.specs.Types.{NominalKind, local_of, locals_of}
 use Rattle.ap_defs.specs.declared.goals.Local.{Local}

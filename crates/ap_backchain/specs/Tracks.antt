@@ -1,5 +1,5 @@
 -- What a search can go back to, and what it finds there.
-use Rattle.std.specs.Prelude.{◌≡◌, ℕ, ◌+◌, ◌<◌, ◌≤◌, List, [], ◌∷◌, ◌++◌, length, take}
+use Rattle.std.specs.Prelude.{ℕ, ◌+◌, ◌<◌, ◌≤◌, List, [], ◌∷◌, length, take}
 use Rattle.ap_defs.specs.Resolution.{State}
 use Rattle.ap_defs.specs.Types.{NominalKind}
 use Rattle.ap_defs.specs.declared.terms.Var.{Var}

@@ -20,7 +20,7 @@ fn visit(alloc: Global, book: &mut Book, open: &mut Vec<Path>, path: Path) -> Re
     }
     let mut outs = Vec::new(alloc);
     outs.push(Out::Cut(path.copy(alloc)?))?;
-    match book.done(alloc, 0, &path, outs) {
+    match book.done(0, &path, outs) {
         Ok(()) => Ok(()),
         Err(_) => Err(Memory),
     }

@@ -1,14 +1,16 @@
 //! The book: its history, with the open paths beside it.
 
-ghost use Rattle.std.specs.Prelude.{◌≡◌, ℕ, true, ◌∷◌, ◌++◌, [], if◌then◌else◌, IfOk, IfErr};
+ghost use Rattle.std.specs.Prelude.{◌≡◌, ℕ, List as list, true, ◌∷◌, ◌++◌, [], if◌then◌else◌, IfOk, IfErr};
 ghost use Rattle.ap_defs.specs.declared.paths.Entry.TheVariants.{Split, Done, Stop};
 ghost use Rattle.ap_paths.specs.Entries.{entries_of};
 ghost use Rattle.ap_paths.specs.History.{has_stop, is_legal, progress_of};
 ghost use Rattle.ap_paths.specs.Trees.{Ascends};
 ghost use Rattle.ap_book.specs.Answers.{Enters, EntersDone};
+ghost use Rattle.ap_book.specs.Kept.{AreKidsOf};
 
 use crate::error::{BookError, DoneError};
-use crate::opened::{has, make_kids, make_room, only_root, replace, take_out};
+use crate::kids::Kids;
+use crate::opened::{has, make_room, only_root, replace, take_out};
 use ap_defs::lists::List;
 use ap_defs::memory::Memory;
 use ap_defs::paths::{Entry, Out, Path, Progress};
@@ -72,23 +74,38 @@ impl Book {
         requires { Ascends 1 kids.now }
         ensures { Enters self.old path.now (Split seat path.now kids.now) result self.new }
     {
+        self.enter_split(seat, path, Kids::of(alloc, path, kids))
+    }
+
+    /// The same, with kids that were made ready before, or for which memory was wanting.
+    pub fn enter_split(
+        &mut self,
+        seat: u32,
+        path: &Path,
+        kids: Result<Kids, Memory>,
+    ) -> Result<(), BookError>
+        requires ready { IfOk kids (λ k. AreKidsOf path.now k.choices.items k) }
+        requires ascends { IfOk kids (λ k. Ascends 1 k.choices.items) }
+        ensures { (ks : list ℕ) → IfOk kids (λ k. k.choices.items ≡ ks) → Enters self.old path.now (Split seat path.now ks) result self.new }
+    {
         if !has(&self.opened, path) {
             return Err(BookError::NotOpen);
         }
-        let Ok(entry) = make_split(alloc, seat, path, kids) else {
-            return Err(BookError::Memory);
-        };
-        let Ok(made) = make_kids(alloc, path, kids) else {
+        let Ok(Kids { choices, paths }) = kids else {
             return Err(BookError::Memory);
         };
         if self.history.reserve(2).is_err() {
             return Err(BookError::Memory);
         }
-        if make_room(&mut self.opened, made.len()).is_err() {
+        if make_room(&mut self.opened, paths.len()).is_err() {
             return Err(BookError::Memory);
         }
-        replace(&mut self.opened, path, made);
-        self.history.push_reserved(entry);
+        let taken = replace(&mut self.opened, path, paths);
+        self.history.push_reserved(Entry::Split {
+            seat,
+            path: Path::of(taken),
+            kids: List::of(choices),
+        });
         Ok(())
     }
 
@@ -96,13 +113,7 @@ impl Book {
     ///
     /// `NotOpen` comes exactly where the path is not open. After an error the book is unchanged,
     /// and the outputs come back.
-    pub fn done(
-        &mut self,
-        alloc: Global,
-        seat: u32,
-        path: &Path,
-        outs: Vec<Out>,
-    ) -> Result<(), DoneError>
+    pub fn done(&mut self, seat: u32, path: &Path, outs: Vec<Out>) -> Result<(), DoneError>
         ensures { EntersDone self.old path.now outs.items (Done seat path.now outs.items) result self.new }
     {
         let outs = List::of(outs);
@@ -112,22 +123,16 @@ impl Book {
                 outs,
             });
         }
-        let Ok(copied) = path.copy(alloc) else {
-            return Err(DoneError {
-                cause: BookError::Memory,
-                outs,
-            });
-        };
         if self.history.reserve(2).is_err() {
             return Err(DoneError {
                 cause: BookError::Memory,
                 outs,
             });
         }
-        take_out(&mut self.opened, path);
+        let taken = take_out(&mut self.opened, path);
         self.history.push_reserved(Entry::Done {
             seat,
-            path: copied,
+            path: Path::of(taken),
             outs,
         });
         Ok(())
@@ -171,16 +176,4 @@ impl Book {
         drop(opened);
         List::of(history)
     }
-}
-
-fn make_split(alloc: Global, seat: u32, path: &Path, kids: &[u32]) -> Result<Entry, Memory>
-    ensures { IfOk result (λ e. e ≡ Split seat path.now kids.now) }
-{
-    let mut copied = Vec::new(alloc);
-    copied.extend_from_slice(kids)?;
-    Ok(Entry::Split {
-        seat,
-        path: path.copy(alloc)?,
-        kids: List::of(copied),
-    })
 }

@@ -3,11 +3,13 @@
 
 mod book;
 mod error;
+mod kids;
 mod merging;
 mod opened;
 
 pub use book::Book;
 pub use error::{BookError, DoneError};
+pub use kids::Kids;
 pub use merging::merge;
 
 #[cfg(test)]

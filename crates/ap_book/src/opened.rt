@@ -2,7 +2,7 @@
 
 ghost use Rattle.std.specs.Prelude.{◌≡◌, ℕ, ◌+◌, ◌≤◌, List as list, [], ◌∷◌, ◌++◌, true, IfOk, OnOk, vec_len};
 ghost use Rattle.std.specs.HashSet.{spare};
-ghost use Rattle.ap_paths.specs.History.{is_open, kids_of};
+ghost use Rattle.ap_paths.specs.History.{is_open};
 ghost use Rattle.ap_paths.specs.Weights.{weigh, is_it, times_in, HaveSame};
 ghost use Rattle.ap_book.specs.Kept.{paths_of};
 
@@ -18,26 +18,6 @@ pub fn only_root(alloc: Global) -> Result<HashSet<Vec<u32>>, Memory>
     let mut opened = HashSet::new(alloc);
     opened.insert(Vec::new(alloc))?;
     Ok(opened)
-}
-
-// The choices of the path's kids.
-pub fn make_kids(alloc: Global, path: &Path, kids: &[u32]) -> Result<Vec<Vec<u32>>, Memory>
-    ensures { IfOk result (λ v. paths_of v.items ≡ kids_of path.now kids.now) }
-{
-    let mut made = Vec::with_capacity(alloc, kids.len())?;
-    for k in kids {
-        made.push(make_kid(alloc, path, *k)?)?;
-    }
-    Ok(made)
-}
-
-fn make_kid(alloc: Global, path: &Path, k: u32) -> Result<Vec<u32>, Memory>
-    ensures { IfOk result (λ v. v.items ≡ path.now ++ k ∷ []) }
-{
-    let mut choices = Vec::with_capacity(alloc, 1)?;
-    choices.extend_from_slice(path.choices())?;
-    choices.push(k)?;
-    Ok(choices)
 }
 
 // Whether the path is in the set.
@@ -56,24 +36,30 @@ pub fn make_room(opened: &mut HashSet<Vec<u32>>, more: usize) -> Result<(), Memo
     Ok(())
 }
 
-// Takes a path out of the set.
-pub fn take_out(opened: &mut HashSet<Vec<u32>>, path: &Path)
+// Takes a path out of the set, and gives what stood there.
+pub fn take_out(opened: &mut HashSet<Vec<u32>>, path: &Path) -> Vec<u32>
     requires { is_open path.now (paths_of opened.old.keys) ≡ true }
+    ensures path { result.items ≡ path.now }
     ensures taken { (h : list ℕ → ℕ) → weigh h (paths_of opened.new.keys) + h path.now ≡ weigh h (paths_of opened.old.keys) }
     ensures room { spare opened.old ≤ spare opened.new }
 {
-    opened.remove(path.choices());
+    let Some(taken) = opened.take(path.choices()) else {
+        unreachable!()
+    };
+    taken
 }
 
-// Puts paths that are not there in the place of one, where there is room for them.
-pub fn replace(opened: &mut HashSet<Vec<u32>>, path: &Path, kids: Vec<Vec<u32>>)
+// Puts paths that are not there in the place of one, where there is room for them, and gives that one.
+pub fn replace(opened: &mut HashSet<Vec<u32>>, path: &Path, kids: Vec<Vec<u32>>) -> Vec<u32>
     requires there { is_open path.now (paths_of opened.old.keys) ≡ true }
     requires room { vec_len kids ≤ spare opened.old }
     requires once { (q : list ℕ) → times_in (paths_of kids.items) q + times_in (paths_of opened.old.keys) q ≤ 1 + is_it q path.now }
-    ensures { (h : list ℕ → ℕ) → weigh h (paths_of opened.new.keys) + h path.now ≡ weigh h (paths_of opened.old.keys) + weigh h (paths_of kids.items) }
+    ensures path { result.items ≡ path.now }
+    ensures replaced { (h : list ℕ → ℕ) → weigh h (paths_of opened.new.keys) + h path.now ≡ weigh h (paths_of opened.old.keys) + weigh h (paths_of kids.items) }
 {
-    take_out(opened, path);
+    let taken = take_out(opened, path);
     add_all(opened, kids);
+    taken
 }
 
 // Adds paths that are not there, for which there is room.

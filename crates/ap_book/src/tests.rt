@@ -1,5 +1,6 @@
 use crate::book::Book;
 use crate::error::BookError;
+use crate::kids::Kids;
 use crate::merging::merge;
 use ap_defs::lists::List;
 use ap_defs::memory::Memory;
@@ -23,7 +24,7 @@ fn entries_are_made_where_paths_are_open(rt: HostRuntime) -> Result<(), Fail> {
     let alloc = rt.alloc();
     let root = Path::root(alloc);
     let mut book = Book::new(alloc)?;
-    let refused = book.done(alloc, 0, &path_of(alloc, 1)?, cut_at(alloc, 1)?);
+    let refused = book.done(0, &path_of(alloc, 1)?, cut_at(alloc, 1)?);
     let Err(refusal) = refused else {
         panic!(rt; "an end was accepted");
     };
@@ -44,18 +45,30 @@ fn entries_are_made_where_paths_are_open(rt: HostRuntime) -> Result<(), Fail> {
 }
 
 #[test]
+fn kids_are_made_ready(rt: HostRuntime) -> Result<(), Fail> {
+    let alloc = rt.alloc();
+    let root = Path::root(alloc);
+    let mut book = Book::new(alloc)?;
+    let kids = Kids::of(alloc, &root, &[1, 3])?;
+    assert!(rt; kids.choices.as_slice() == [1, 3].as_slice());
+    assert_eq!(rt; kids.paths.len(), 2);
+    assert_eq!(rt; book.enter_split(0, &root, Ok(kids)), Ok(()));
+    assert_eq!(rt; book.status(), Progress::Left(2));
+    let refused = book.enter_split(0, &path_of(alloc, 3)?, Err(Memory));
+    assert_eq!(rt; refused, Err(BookError::Memory));
+    let refused = book.enter_split(0, &path_of(alloc, 2)?, Err(Memory));
+    assert_eq!(rt; refused, Err(BookError::NotOpen));
+    assert_eq!(rt; book.status(), Progress::Left(2));
+    Ok(())
+}
+
+#[test]
 fn outputs_are_merged_in_path_order(rt: HostRuntime) -> Result<(), Fail> {
     let alloc = rt.alloc();
     let mut book = Book::new(alloc)?;
     assert!(rt; book.split(alloc, 0, &Path::root(alloc), &[1, 2]).is_ok());
-    assert!(rt;
-        book.done(alloc, 1, &path_of(alloc, 2)?, cut_at(alloc, 2)?)
-            .is_ok()
-    );
-    assert!(rt;
-        book.done(alloc, 0, &path_of(alloc, 1)?, cut_at(alloc, 1)?)
-            .is_ok()
-    );
+    assert!(rt; book.done(1, &path_of(alloc, 2)?, cut_at(alloc, 2)?).is_ok());
+    assert!(rt; book.done(0, &path_of(alloc, 1)?, cut_at(alloc, 1)?).is_ok());
     assert_eq!(rt; book.status(), Progress::Finished);
     let closed = Closed {
         history: book.close(),

@@ -13,7 +13,7 @@ use Rattle.ap_defs.specs.Unification.{has_var}
 use Rattle.ap_defs.specs.Types as types
 use Rattle.ap_defs.specs.Types.{NominalKind, NominalLocal, NominalConstructor}
 use Rattle.ap_defs.specs.Goals as goals
-use Rattle.ap_defs.specs.Goals.{NominalGoal, NominalClause, NominalQuery, NominalProgram, Clauses, clauses_of}
+use Rattle.ap_defs.specs.Goals.{NominalGoal, NominalClause, NominalQuery, NominalProgram, clauses_of}
 use Rattle.ap_defs.specs.Occurrences.{free_names, free_vars}
 use Rattle.ap_defs.specs.Renaming.{local_names, local_vars}
 use Rattle.ap_defs.specs.Derivations.{GroundProof, atom, equal, fresh, succeed, both, left, right, exists, new, height}

@@ -4,7 +4,7 @@ use Rattle.ap_defs.specs.declared.terms.Var.{Var}
 use Rattle.ap_defs.specs.Terms as terms
 use Rattle.ap_defs.specs.Terms.{NominalTerm, GroundTerm}
 use Rattle.ap_defs.specs.Types as types
-use Rattle.ap_defs.specs.Types.{NominalType, NominalKind, NominalConstructor, NominalSignature}
+use Rattle.ap_defs.specs.Types.{NominalType, NominalConstructor}
 use Rattle.ap_defs.specs.Printing.{constructor_in}
 
 -- What an application's argument is to be: nothing, a term of a type, or a tuple with a part of each type.

@@ -54,7 +54,7 @@ impl Path {
     pub fn child(&self, alloc: Global, k: u32) -> Result<Path, Memory>
         ensures { IfOk result (λ p. p ≡ self.now ++ k ∷ []) }
     {
-        let mut choices = Vec::with_capacity(alloc, 1)?;
+        let mut choices = Vec::with_capacity(alloc, self.choices.len().saturating_add(1))?;
         choices.extend_from_slice(self.choices.as_slice())?;
         choices.push(k)?;
         Ok(Path { choices })

@@ -1,5 +1,5 @@
 -- The lookup of the tests: a list of one binding has a rank, where its term does not have the variable.
-use Rattle.std.proofs.Common.{◌≡◌, Bool, false, ◌||◌, refl, List, [], ◌∷◌, sym, ap, ◌∙◌}
+use Rattle.std.proofs.Common.{◌≡◌, Bool, false, ◌||◌, refl, [], ◌∷◌, sym, ap}
 use Rattle.ap_defs.specs.Freshness.{var_eq}
 use Rattle.ap_defs.specs.Substitution.{bound_term, occurs, ◌:=◌}
 use Rattle.ap_defs.specs.Terms.{NominalTerm}

@@ -15,13 +15,13 @@ use Rattle.ap_defs.specs.Unification.{has_var}
 use Rattle.ap_defs.specs.declared.terms.Name.{Name}
 use Rattle.ap_defs.specs.declared.terms.Swap.{Swap}
 use Rattle.ap_defs.specs.declared.terms.Var.{Var}
-use Rattle.ap_program.specs.RawTyping.{IsVarOf}
+use Rattle.ap_program.specs.RawTyping.{AreVarsOf, IsVarOf}
 use Rattle.ap_program.specs.Typed.{AreInhabited}
 use Rattle.ap_theory.proofs.BooleanLemmas.{or_cases, or_if_left, or_if_right}
 use Rattle.ap_theory.proofs.TermLemmas.{same_var, var_same}
 use Rattle.ap_types.specs.Inhabited.{IsInhabited}
 use Rattle.ap_ground.specs.ShownInstances.{vars_among}
-use Rattle.ap_ground.specs.TypedGroundings.{AreOfKinds, GivesKinds, GivesTypes, HaveInhabitants}
+use Rattle.ap_ground.specs.TypedGroundings.{GivesKinds, GivesTypes, HaveInhabitants}
 use Rattle.ap_ground.proofs.GroundTypingLemmas.{of_type_act}
 use Rattle.ap_ground.proofs.InstanceTypingLemmas.{inhabited_avoids}
 
@@ -44,7 +44,7 @@ module _ (cs : List NominalConstructor) (avoided : List Name) where
         | false ↦ filler_fresh vs h.1 x a k
       ]
 
-  pub filler_typed : (kinds : List NominalKind) (vs : List (Var × NominalType)) (h : HaveInhabitants cs vs) → AreOfKinds kinds vs
+  pub filler_typed : (kinds : List NominalKind) (vs : List (Var × NominalType)) (h : HaveInhabitants cs vs) → AreVarsOf kinds vs
       → (x : Var) (t : NominalType) → IsVarOf kinds x t → has_var x (only_vars vs) ≡ true → IsOfType cs (filler vs h x) t
   filler_typed kinds [] h k x t i m = cc
   filler_typed kinds (v ∷ vs) h k x t i m =
@@ -80,7 +80,7 @@ module _ (cs : List NominalConstructor) (xs : List Var) (g h : Grounding) where
       ] refl k
 
 -- a grounding that is typed by kinds gives types
-pub gives_types : (cs : List NominalConstructor) (kinds : List NominalKind) (g : Grounding) (vs : List (Var × NominalType)) → AreOfKinds kinds vs
+pub gives_types : (cs : List NominalConstructor) (kinds : List NominalKind) (g : Grounding) (vs : List (Var × NominalType)) → AreVarsOf kinds vs
     → ((x : Var) (t : NominalType) → IsVarOf kinds x t → has_var x (only_vars vs) ≡ true → IsOfType cs (g x) t) → GivesTypes cs vs g
 gives_types cs kinds g [] k h = tt
 gives_types cs kinds g (v ∷ vs) k h = (
@@ -100,12 +100,12 @@ kind_inhabited cs (types.var a ∷ ks) h zero t e = let i : a ≡ t = cc in subs
 kind_inhabited cs (types.name s ∷ ks) h (suc n) t e = kind_inhabited cs ks h n t e
 kind_inhabited cs (types.var a ∷ ks) h (suc n) t e = kind_inhabited cs ks h.1 n t e
 
-pub have_inhabitants : (cs : List NominalConstructor) (kinds : List NominalKind) (vs : List (Var × NominalType)) → AreInhabited cs kinds → AreOfKinds kinds vs → HaveInhabitants cs vs
+pub have_inhabitants : (cs : List NominalConstructor) (kinds : List NominalKind) (vs : List (Var × NominalType)) → AreInhabited cs kinds → AreVarsOf kinds vs → HaveInhabitants cs vs
 have_inhabitants cs kinds [] h k = tt
 have_inhabitants cs kinds (v ∷ vs) h k = (kind_inhabited cs kinds h v.0.num v.1 k.0, have_inhabitants cs kinds vs h k.1)
 
 -- a grounding that gives typed variables their types gives them those of their kinds
-pub gives_kinds : (cs : List NominalConstructor) (kinds : List NominalKind) (g : Grounding) (vs : List (Var × NominalType)) → AreOfKinds kinds vs → GivesTypes cs vs g
+pub gives_kinds : (cs : List NominalConstructor) (kinds : List NominalKind) (g : Grounding) (vs : List (Var × NominalType)) → AreVarsOf kinds vs → GivesTypes cs vs g
     → GivesKinds cs kinds (only_vars vs) g
 gives_kinds cs kinds g [] k h x m = cc
 gives_kinds cs kinds g (v ∷ vs) k h x m =

@@ -6,7 +6,7 @@ use Rattle.ap_defs.specs.Alpha as ground
 use Rattle.ap_defs.specs.Derivations.{atom, equal, fresh, succeed, both, left, right, exists, new}
 use Rattle.ap_defs.specs.Freshness.{var_eq}
 use Rattle.ap_defs.specs.Goals as goals
-use Rattle.ap_defs.specs.Goals.{NominalGoal, NominalProgram}
+use Rattle.ap_defs.specs.Goals.{NominalGoal}
 use Rattle.ap_defs.specs.GroundProofs.{Environment, IsFresh, IsNew, instance, with_name, with_term}
 use Rattle.ap_defs.specs.Occurrences.{free_names, free_vars, names_then, without_var}
 use Rattle.ap_defs.specs.Permutations.{has_name}

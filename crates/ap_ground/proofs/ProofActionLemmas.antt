@@ -6,7 +6,7 @@ use Rattle.ap_defs.specs.Derivations.{atom, equal, fresh, succeed, both, left, r
 use Rattle.ap_defs.specs.Freshness.{var_eq}
 use Rattle.ap_defs.specs.Answers.{kind_at}
 use Rattle.ap_defs.specs.Goals as goals
-use Rattle.ap_defs.specs.Goals.{NominalClause, NominalGoal, NominalProgram}
+use Rattle.ap_defs.specs.Goals.{NominalGoal}
 use Rattle.ap_defs.specs.GroundProofs.{AlphaEach, AreDifferent, AreOfSorts, Environment, Instantiates, IsFresh, IsNew, IsValid, environment, instance, name_for, swap_under, term_for, with_name, with_term}
 use Rattle.ap_defs.specs.Occurrences.{free_names, free_vars, names_of_terms, vars_of_terms}
 use Rattle.ap_defs.specs.Permutations.{act_name, has_name, left_name, name_eq, right_name, swap_name, swap_of}

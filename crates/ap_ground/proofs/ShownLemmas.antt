@@ -18,12 +18,13 @@ use Rattle.ap_defs.specs.declared.terms.Cond.{Cond}
 use Rattle.ap_defs.specs.declared.terms.Name.{Name}
 use Rattle.ap_defs.specs.declared.terms.Swap.{Swap}
 use Rattle.ap_defs.specs.declared.terms.Var.{Var}
+use Rattle.ap_program.specs.RawTyping.{AreVarsOf}
 use Rattle.ap_theory.proofs.BooleanLemmas.{and_both, and_left, and_right, or_if_left, or_if_right}
 use Rattle.ap_theory.proofs.DisagreementLemmas.{has_front, has_name-append}
 use Rattle.ap_theory.proofs.GroundLemmas.{fresh_act}
 use Rattle.ap_ground.specs.ShownInstances.{InEachInstance, InEachShownInstance, IsShownInstanceOf, IsTypedDerivable, shown_terms}
 use Rattle.ap_ground.specs.StatementsOnShownInstances.{ShownInstancesAreDerivable, ShownInstancesAreTyped}
-use Rattle.ap_ground.specs.TypedGroundings.{AreOfKinds, GivesTypes, HaveInhabitants}
+use Rattle.ap_ground.specs.TypedGroundings.{GivesTypes, HaveInhabitants}
 use Rattle.ap_ground.proofs.DerivabilityLemmas.{derivable_act}
 use Rattle.ap_ground.proofs.FillerLemmas.{filled, filled_among, filled_types, filler, filler_fresh, filler_typed, gives_types, gives_types_act}
 use Rattle.ap_ground.proofs.GroundTypingLemmas.{types_act}
@@ -37,7 +38,7 @@ abbrev names_in : Conds → List Name
 names_in cs = map (λ c. c.name) cs
 
 module _ (cs : List NominalConstructor) (locals : List NominalLocal) (a : NominalAnswer) (kinds : List NominalKind)
-    (typed : AreOfKinds kinds a.vars) (inhabited : HaveInhabitants cs a.vars) (g : Grounding) (shown : IsShownInstanceOf cs locals a g) where
+    (typed : AreVarsOf kinds a.vars) (inhabited : HaveInhabitants cs a.vars) (g : Grounding) (shown : IsShownInstanceOf cs locals a g) where
   abbrev Texts : List (List ℕ)
   Texts = var_texts locals
 
@@ -141,7 +142,7 @@ module _ (cs : List NominalConstructor) (locals : List NominalLocal) (a : Nomina
 abbrev pub IsKept : List NominalLocal → (List GroundTerm → Type 0) → Type 0
 IsKept locals P = (s : List Swap) → ((b : Name) → has_name b (local_names 0 locals) ≡ true → act_name s b ≡ b) → (gs : List GroundTerm) → P gs → P (map (act_ground s) gs)
 
-pub shown_have : (cs : List NominalConstructor) (locals : List NominalLocal) (a : NominalAnswer) (kinds : List NominalKind) → AreOfKinds kinds a.vars → HaveInhabitants cs a.vars
+pub shown_have : (cs : List NominalConstructor) (locals : List NominalLocal) (a : NominalAnswer) (kinds : List NominalKind) → AreVarsOf kinds a.vars → HaveInhabitants cs a.vars
     → (P : List GroundTerm → Type 0) → IsKept locals P → InEachInstance cs a P → InEachShownInstance cs locals a P
 shown_have cs locals a kinds typed inhabited P kept each g shown =
     let s = Hiding cs locals a kinds typed inhabited g shown in

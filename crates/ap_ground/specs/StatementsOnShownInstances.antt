@@ -9,9 +9,10 @@ use Rattle.ap_defs.specs.Permutations.{act_name, has_name}
 use Rattle.ap_defs.specs.Renaming.{local_names}
 use Rattle.ap_defs.specs.Terms.{GroundTerm, act_ground}
 use Rattle.ap_defs.specs.Types.{NominalKind}
+use Rattle.ap_program.specs.RawTyping.{AreVarsOf}
 use Rattle.ap_program.specs.Typed.{IsTypedProgram, IsTypedQuery, term_form}
 use Rattle.ap_ground.specs.ShownInstances.{InEachInstance, InEachShownInstance, IsTypedDerivable}
-use Rattle.ap_ground.specs.TypedGroundings.{AreOfKinds, HaveInhabitants}
+use Rattle.ap_ground.specs.TypedGroundings.{HaveInhabitants}
 
 -- a permutation that leaves the free names of a query keeps its derivability
 abbrev pub DerivabilityIsEquivariant : Type 0
@@ -22,11 +23,11 @@ DerivabilityIsEquivariant = (p : NominalProgram) → IsTypedProgram p → (q : N
 -- where a query is derivable in each instance of an answer, it is in each instance of what is shown of it
 abbrev pub ShownInstancesAreDerivable : Type 0
 ShownInstancesAreDerivable = (p : NominalProgram) → IsTypedProgram p → (q : NominalQuery) → IsTypedQuery term_form p.signature q
-    → (a : NominalAnswer) (kinds : List NominalKind) → AreOfKinds kinds a.vars → HaveInhabitants p.signature.constructors a.vars → (d : ℕ)
+    → (a : NominalAnswer) (kinds : List NominalKind) → AreVarsOf kinds a.vars → HaveInhabitants p.signature.constructors a.vars → (d : ℕ)
     → InEachInstance p.signature.constructors a (λ gs. IsDerivable p q gs d) → InEachShownInstance p.signature.constructors q.locals a (λ gs. IsDerivable p q gs d)
 
 -- the same for terms of the types of the query's variables
 abbrev pub ShownInstancesAreTyped : Type 0
 ShownInstancesAreTyped = (p : NominalProgram) → IsTypedProgram p → (q : NominalQuery) → IsTypedQuery term_form p.signature q
-    → (a : NominalAnswer) (kinds : List NominalKind) → AreOfKinds kinds a.vars → HaveInhabitants p.signature.constructors a.vars → (d : ℕ)
+    → (a : NominalAnswer) (kinds : List NominalKind) → AreVarsOf kinds a.vars → HaveInhabitants p.signature.constructors a.vars → (d : ℕ)
     → InEachInstance p.signature.constructors a (IsTypedDerivable p q d) → InEachShownInstance p.signature.constructors q.locals a (IsTypedDerivable p q d)

@@ -7,7 +7,6 @@ use Rattle.ap_defs.specs.Groundings.{Grounding}
 use Rattle.ap_defs.specs.Types.{NominalConstructor, NominalKind, NominalType}
 use Rattle.ap_defs.specs.Typing.{IsOfType}
 use Rattle.ap_defs.specs.Unification.{has_var}
-use Rattle.ap_program.specs.RawTyping.{IsVarOf}
 use Rattle.ap_types.specs.Inhabited.{IsInhabited}
 
 -- the grounding gives each of the variables a ground term of its type by the kinds
@@ -18,11 +17,6 @@ GivesKinds cs kinds xs g = (x : Var) → has_var x xs ≡ true → HasTypeOf cs 
 abbrev pub GivesTypes : List NominalConstructor → List (Var × NominalType) → Grounding → Type 0
 GivesTypes cs [] g = Unit {0}
 GivesTypes cs (v ∷ vs) g = IsOfType cs (g v.0) v.1 × GivesTypes cs vs g
-
--- each variable has the type beside it by the kinds
-abbrev pub AreOfKinds : List NominalKind → List (Var × NominalType) → Type 0
-AreOfKinds kinds [] = Unit {0}
-AreOfKinds kinds (v ∷ vs) = IsVarOf kinds v.0 v.1 × AreOfKinds kinds vs
 
 -- the type beside each variable is inhabited
 abbrev pub HaveInhabitants : List NominalConstructor → List (Var × NominalType) → Type 0

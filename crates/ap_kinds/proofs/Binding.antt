@@ -1,10 +1,10 @@
 -- Words that stand where names belong: binders and places of swappings.
 use Rattle.std.proofs.Common.{◌≡◌, ◌<◌, ◌≤◌, ◌∙◌, ℕ, List, Bool, true, false, length, refl, sym, ap, subst, arith}
 use Rattle.ap_defs.specs.declared.terms.Id.{Id}
-use Rattle.ap_defs.specs.Types.{NominalType, NominalConstructor, TypeShape, hole, unit, names, base, pair, list, abs}
+use Rattle.ap_defs.specs.Types.{NominalType, TypeShape, hole, unit, names, base, pair, list, abs}
 use Rattle.ap_defs.specs.Types as types
 use Rattle.ap_defs.specs.Typing as typing
-use Rattle.ap_defs.specs.Typing.{Want, one, arguments}
+use Rattle.ap_defs.specs.Typing.{Want, one}
 use Rattle.ap_types.specs.Equations.{Filling, filled, IsNameType, GivesNames}
 use Rattle.ap_program.specs.RawTyping.{IsOfSort, AreOfOneSort}
 use Rattle.ap_kinds.specs.declared.kinds.IdentKind.{IdentKind}

@@ -13,7 +13,7 @@ use Rattle.ap_types.specs.Triangular.{layer_of, table_of, value_of, assignment_o
 use Rattle.ap_types.proofs.TableLemmas.{at_past, layer_at, length_table}
 use Rattle.ap_types.proofs.WalkLemmas.{weight, part_less, open_or_parts}
 use Rattle.ap_types.proofs.SettledLemmas.{open_value, past_value, length_values, value_at}
-use Rattle.ap_kinds.specs.Reading.{is_declared, is_sort, is_closed, AllDeclared, SomeOpen, AreKnown, AreDeclaredPlaces}
+use Rattle.ap_kinds.specs.Reading.{is_declared, is_closed, AllDeclared, SomeOpen, AreKnown, AreDeclaredPlaces}
 
 below_or_past : (i j : ℕ) → (i < j) ⊎ (j ≤ i)
 below_or_past i j = grind arith

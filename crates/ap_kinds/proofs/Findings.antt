@@ -1,7 +1,7 @@
 -- What is found of a system is what there is of kinds that hold.
 use Rattle.std.proofs.Common.{◌≡◌, ◌<◌, ◌+◌, ◌∙◌, inl, inr, ℕ, zero, suc, List, [], ◌∷◌, true, false, length, refl, sym, ap, subst, arith, Result, Ok, Err}
 use Rattle.std.specs.Prelude.{IfOk, IfErr}
-use Rattle.ap_defs.specs.Types.{NominalType, NominalKind, NominalConstructor, NominalSignature, TypeShape, hole, unit, names, base, pair, list, abs}
+use Rattle.ap_defs.specs.Types.{NominalType, NominalKind, NominalSignature, TypeShape, hole, unit, names, list}
 use Rattle.ap_defs.specs.Types as types
 use Rattle.ap_types.specs.Equations.{filled}
 use Rattle.ap_types.specs.Solving.{shape_at}

@@ -1,6 +1,6 @@
 -- What a part of a walk does: the new system has the solutions of the old one by which what was walked over is typed.
 use Rattle.std.proofs.Common.{◌≡◌, ◌<◌, ◌≤◌, ◌∙◌, ℕ, List, length, refl, sym, ap, subst, arith}
-use Rattle.ap_defs.specs.Types.{NominalType, NominalConstructor, TypeShape, hole, unit, names, base, pair, list, abs}
+use Rattle.ap_defs.specs.Types.{NominalType, NominalConstructor, TypeShape, unit, names, list}
 use Rattle.ap_defs.specs.Types as types
 use Rattle.ap_defs.specs.RawTerms.{RawTerm}
 use Rattle.ap_defs.specs.Typing as typing

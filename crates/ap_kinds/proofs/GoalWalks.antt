@@ -5,7 +5,7 @@ use Rattle.ap_defs.specs.declared.terms.Name.{Name}
 use Rattle.ap_defs.specs.declared.terms.Var.{Var}
 use Rattle.ap_defs.specs.RawTerms as raw
 use Rattle.ap_defs.specs.RawTerms.{RawTerm}
-use Rattle.ap_defs.specs.Types.{NominalType, NominalConstructor, NominalSignature, TypeShape, hole, unit, names, base, pair, list, abs}
+use Rattle.ap_defs.specs.Types.{NominalType, NominalConstructor, NominalSignature, hole, unit, names, pair, abs}
 use Rattle.ap_defs.specs.Types as types
 use Rattle.ap_defs.specs.Typing.{Want, one}
 use Rattle.ap_defs.specs.Goals.{GoalOver, succeed, atom, equal, fresh, both, either, exists, new}

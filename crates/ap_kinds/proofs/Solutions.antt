@@ -1,6 +1,6 @@
 -- The types that type an item are those that solve its system.
 use Rattle.std.proofs.Common.{◌≡◌, ◌<◌, ◌≤◌, ◌+◌, ◌∙◌, ℕ, zero, suc, List, [], ◌∷◌, true, length, refl, sym, ap, subst, arith, Option, Some, None}
-use Rattle.ap_defs.specs.Types.{NominalType, NominalKind, NominalSignature, TypeShape, hole, unit, names, base, pair, list, abs, name, var}
+use Rattle.ap_defs.specs.Types.{NominalType, NominalKind, unit, names, name, var}
 use Rattle.ap_defs.specs.Types as types
 use Rattle.ap_defs.specs.Answers.{kind_at}
 use Rattle.ap_types.specs.Equations.{IsNameType, GivesNames, names_bound}

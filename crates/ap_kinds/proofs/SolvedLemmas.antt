@@ -5,7 +5,7 @@ use Rattle.std.proofs.lemmas.List.{get_or_append_left}
 use Rattle.std.proofs.Math.Seq.{get_or-append_seam}
 use Rattle.ap_defs.specs.declared.goals.Kind.{Kind}
 use Rattle.ap_defs.specs.declared.terms.Shape.{Shape}
-use Rattle.ap_defs.specs.Types.{TypeShape, NominalKind, NominalSignature, hole, shape_of, kind_of}
+use Rattle.ap_defs.specs.Types.{TypeShape, NominalKind, NominalSignature, hole, kind_of}
 use Rattle.ap_types.specs.declared.errors.TypesError.{TypesError}
 use Rattle.ap_types.specs.declared.errors.TypesError.TheVariants.{Clash}
 use Rattle.ap_types.specs.declared.solved.Solved.{Solved}

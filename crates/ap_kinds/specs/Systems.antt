@@ -1,6 +1,6 @@
 -- Systems of type equations, as they grow.
 use Rattle.std.specs.Prelude.{ℕ, ◌+◌, List, [], ◌∷◌, ◌++◌, map, slice_index_or, Bool, true, false, length}
-use Rattle.ap_defs.specs.Types.{NominalType, TypeShape, hole, unit, names, base, pair, list, abs}
+use Rattle.ap_defs.specs.Types.{NominalType, TypeShape, unit, names, base, pair, list, abs}
 use Rattle.ap_defs.specs.Types as types
 use Rattle.ap_types.specs.Equations.{ShapeEquation, ◌≐◌, equation_of}
 use Rattle.ap_kinds.specs.declared.kinds.IdentKind.{IdentKind}

@@ -1,18 +1,17 @@
 -- What the table asks of each step.
-use Rattle.std.proofs.Common.{◌≡◌, ◌≢◌, ℕ, ◌+◌, ◌%◌, ◌^◌, ◌<◌, ◌≤◌, ◌⊎◌, Option, Some, None, List, [], ◌∷◌, ◌++◌, length, set, get_or, sym, refl, ap, ◌∙◌, subst, inl, inr, ⊎_elim, arith}
+use Rattle.std.proofs.Common.{◌≡◌, ◌≢◌, ℕ, ◌+◌, ◌%◌, ◌^◌, ◌<◌, Some, None, List, [], ◌∷◌, ◌++◌, length, set, get_or, sym, refl, ap, ◌∙◌, subst, inl, inr, ⊎_elim, arith}
 use Rattle.std.proofs.Math.Nat.{mod-add-mod}
 use mathlib.Core.Option.{some, none}
 use mathlib.Core.Logic.{dite}
 use native.Mathlib.Decide.{ℕ_discrete}
 use lib.ListN.{get_elem?}
-use Rattle.atomic_table.specs.Table.{State, Me, Act, keeps, takes, gives, rest, Allows, Splits, Joins}
+use Rattle.atomic_table.specs.Table.{State, Me, keeps, takes, gives, rest, Allows}
 use Rattle.atomic_table.proofs.Lists.{set_again, one_turn}
 use Rattle.ap_defs.specs.declared.paths.Entry.{Entry}
-use Rattle.ap_lock.specs.declared.view.Stage.{Stage}
 use Rattle.ap_lock.specs.declared.view.Stage.TheVariants.{Idle, Waiting, Turn}
 use Rattle.ap_lock.specs.declared.view.Own.{Own}
 use Rattle.ap_lock.specs.declared.view.View.{View}
-use Rattle.ap_lock.specs.Turns.{Slot, own, view, lone, Begins, IsKept, Kept, Drew, Called, Looked, Ended, AreBy, IsIdle, IsWaiting, HasTurn, MayEnd, number_of, seen_of}
+use Rattle.ap_lock.specs.Turns.{Slot, own, view, lone, IsKept, Kept, Drew, Called, Looked, Ended, AreBy, IsIdle, IsWaiting, HasTurn, MayEnd, number_of, seen_of}
 use Rattle.ap_lock.proofs.Steps.{draw_step, take_step, end_step, at_home, window}
 
 abbrev Homes : Type 0

@@ -1,15 +1,15 @@
 -- How the seats are made, and what they know at the end.
-use Rattle.std.proofs.Common.{◌≡◌, ◌≢◌, ℕ, zero, suc, ◌+◌, ◌-◌, ◌<◌, ◌≤◌, eqb, Option, Some, None, List, [], ◌∷◌, ◌++◌, length, take, drop, sym, refl, ap, ◌∙◌, subst, length-append, add-one, zero-add, arith}
+use Rattle.std.proofs.Common.{◌≡◌, ℕ, zero, suc, ◌+◌, ◌-◌, ◌<◌, ◌≤◌, eqb, Some, None, List, [], ◌∷◌, ◌++◌, length, sym, refl, ap, ◌∙◌, subst, add-one, zero-add, arith}
 use mathlib.Core.Option.{some, none, some-injective}
 use lib.ListN.{get_elem?}
-use Rattle.atomic_table.specs.Table.{State, Me, Final, Seen}
+use Rattle.atomic_table.specs.Table.{Me, Final, Seen}
 use Rattle.atomic_table.specs.Seated.{TableId}
 use Rattle.ap_defs.specs.declared.paths.Entry.{Entry}
 use Rattle.ap_lock.specs.declared.view.Stage.TheVariants.{Idle}
 use Rattle.ap_lock.specs.declared.view.Own.{Own}
 use Rattle.ap_lock.specs.declared.view.View.{View}
-use Rattle.ap_lock.specs.Turns.{Slot, Kept, own, view, lone, fresh, number_of, seen_of, places_of, Begins, IsKnown, AreKnown, others, first_of, united, times, one_if}
-use Rattle.ap_lock.specs.Seats.{SeatView, Raw, seat_view, IsSeat, AreOf, AreLogged, IsUnited, new_seats, seats_with}
+use Rattle.ap_lock.specs.Turns.{Slot, Kept, view, lone, fresh, seen_of, places_of, AreKnown, others, first_of, united, times, one_if}
+use Rattle.ap_lock.specs.Seats.{SeatView, Raw, seat_view, IsSeat, AreOf, AreLogged, new_seats, seats_with}
 use Rattle.ap_lock.proofs.Steps.{all_home, no_strangers}
 
 -- what the closed table has in its slot

@@ -1,5 +1,5 @@
 -- A seat may end its turn with what the book answered.
-use Rattle.std.proofs.Common.{◌≡◌, ℕ, Bool, true, false, if◌then◌else◌, Option, Some, None, Result, Ok, Err, List, [], ◌∷◌, ◌++◌, sym, refl, ap, ◌∙◌, subst, append-nil}
+use Rattle.std.proofs.Common.{◌≡◌, ℕ, Bool, true, false, if◌then◌else◌, None, Result, Ok, Err, List, [], ◌∷◌, ◌++◌, sym, ap, ◌∙◌, subst, append-nil}
 use Rattle.atomic_table.specs.Table.{Me}
 use Rattle.ap_defs.specs.declared.paths.Entry.{Entry}
 use Rattle.ap_defs.specs.declared.paths.Out.{Out}

@@ -1,17 +1,17 @@
 -- Each step keeps the rule.
-use Rattle.std.proofs.Common.{◌≡◌, ◌≢◌, ℕ, zero, suc, ◌+◌, ◌%◌, ◌^◌, ◌<◌, ◌≤◌, ◌⊎◌, Bool, true, false, eqb, Option, Some, None, List, [], ◌∷◌, ◌++◌, length, set, get_or, take, drop, sym, refl, ap, ◌∙◌, subst, inl, inr, ⊎_elim, append_assoc, append-nil, length-append, eq-eqb, ne_eqb, arith}
+use Rattle.std.proofs.Common.{◌≡◌, ◌≢◌, ℕ, zero, suc, ◌+◌, ◌%◌, ◌^◌, ◌<◌, ◌≤◌, Bool, true, false, eqb, Some, List, [], ◌∷◌, ◌++◌, length, set, take, drop, sym, refl, ap, ◌∙◌, subst, inl, inr, ⊎_elim, append_assoc, append-nil, length-append, eq-eqb, ne_eqb, arith}
 use mathlib.Core.Option.{some, none, some-injective, some-ne-none}
 use mathlib.Core.Logic.{dite}
 use native.Mathlib.Decide.{ℕ_discrete}
 use lib.ListN.{get_elem?}
-use Rattle.atomic_table.specs.Table.{State, Me, Act, keeps, takes, gives, Allows, Splits, Joins}
-use Rattle.atomic_table.proofs.Lists.{at_set, at_snoc, set_again, one_turn}
+use Rattle.atomic_table.specs.Table.{State, Splits, Joins}
+use Rattle.atomic_table.proofs.Lists.{at_set, at_snoc}
 use Rattle.ap_defs.specs.declared.paths.Entry.{Entry}
 use Rattle.ap_lock.specs.declared.view.Stage.{Stage}
 use Rattle.ap_lock.specs.declared.view.Stage.TheVariants.{Idle, Waiting, Turn}
 use Rattle.ap_lock.specs.declared.view.Own.{Own}
 use Rattle.ap_lock.specs.declared.view.View.{View}
-use Rattle.ap_lock.specs.Turns.{Slot, own, view, lone, Begins, places_of, one_if, times, total, has, tickets, turns, IsKnown, AreKnown, AreWhole, InTurn, Fits, Home, IsKept, Kept, AreBy, fresh, others, first_of, united}
+use Rattle.ap_lock.specs.Turns.{Slot, own, view, lone, places_of, one_if, times, total, has, tickets, turns, AreKnown, InTurn, Fits, IsKept, Kept, AreBy, fresh, others, first_of, united}
 use Rattle.ap_lock.proofs.Counts.{total_set, total_snoc, total_at, total_two, total_le, total_zero, total_some}
 use Rattle.ap_lock.proofs.Places.{places_others}
 

@@ -8,8 +8,7 @@ use Rattle.ap_book.specs.declared.book.Book.{Book}
 use Rattle.ap_lock.specs.declared.view.View.{View}
 use Rattle.ap_lock.specs.declared.view.Stage.TheVariants.{Idle}
 use Rattle.ap_lock.specs.declared.shared.SharedBook.{SharedBook}
-use Rattle.ap_lock.specs.declared.view.Own.{Own}
-use Rattle.ap_lock.specs.Turns.{own, lone, seen_of, Begins, places_of, AreKnown, one_if, times}
+use Rattle.ap_lock.specs.Turns.{lone, seen_of, Begins, places_of, AreKnown, one_if, times}
 
 abbrev pub Raw : Type 0
 Raw = TableSeat (Option Book) View

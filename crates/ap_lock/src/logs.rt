@@ -1,8 +1,9 @@
 //! The places of each seat's entries in a history.
 
-ghost use Rattle.std.specs.Prelude.{◌≡◌, [], ◌∷◌, ◌++◌, IfOk};
-ghost use Rattle.ap_lock.specs.Turns.{maker_of, places_from, places_of};
+ghost use Rattle.std.specs.Prelude.{◌≡◌, [], IfOk};
+ghost use Rattle.ap_lock.specs.Turns.{maker_of};
 ghost use Rattle.ap_lock.specs.Seats.{logs_of};
+ghost use Rattle.ap_lock.specs.Noting.{lists_of, noted};
 
 use ap_defs::lists::List;
 use ap_defs::memory::Memory;
@@ -28,36 +29,50 @@ fn maker(entry: &Entry) -> u32
     }
 }
 
-// Adds the place of an entry, where it is of this number.
-fn note(entry: &Entry, number: usize, place: u64, places: &mut Vec<u64>) -> Result<(), Memory>
-    ensures { IfOk result (λ _. places.new.items ≡ places.old.items ++ places_from place number (entry.now ∷ [])) }
+// Adds the place of an entry to the log of its number, if there is one.
+fn note(entry: &Entry, place: u64, logs: &mut Vec<Vec<u64>>) -> Result<(), Memory>
+    ensures { IfOk result (λ _. lists_of logs.new.items ≡ noted (maker_of entry.now) place (lists_of logs.old.items)) }
 {
-    if maker(entry) as usize == number {
-        places.push(place)?;
+    let number = maker(entry) as usize;
+    if number < logs.len() {
+        let log = &mut logs[number];
+        log.push(place)?;
     }
     Ok(())
 }
 
-// The places of the entries of this number, ascending.
-fn make_log(alloc: Global, history: &[Entry], number: usize) -> Result<Vec<u64>, Memory>
-    ensures { IfOk result (λ v. v.items ≡ places_of number history.now) }
+// So many logs without a place.
+fn make_empty(alloc: Global, seats: usize) -> Result<Vec<Vec<u64>>, Memory>
+    ensures { IfOk result (λ v. lists_of v.items ≡ logs_of seats []) }
 {
-    let mut places = Vec::new(alloc);
-    let mut place = 0;
-    for entry in history {
-        note(entry, number, place, &mut places)?;
-        place += 1;
+    let mut logs = Vec::with_capacity(alloc, seats)?;
+    for _ in 0..seats {
+        logs.push(Vec::new(alloc))?;
     }
-    Ok(places)
+    Ok(logs)
 }
 
-/// The places of the entries of each number below `seats`, in order of the numbers.
+// The places of all entries, each in the log of its number.
+fn note_all(alloc: Global, history: &[Entry], seats: usize) -> Result<Vec<Vec<u64>>, Memory>
+    ensures { IfOk result (λ v. lists_of v.items ≡ logs_of seats history.now) }
+{
+    let mut logs = make_empty(alloc, seats)?;
+    let mut place = 0;
+    for entry in history {
+        note(entry, place, &mut logs)?;
+        place += 1;
+    }
+    Ok(logs)
+}
+
+/// The places of the entries of each number below `seats`, ascending, in order of the numbers. It goes
+/// through the history once.
 pub fn make_logs(alloc: Global, history: &[Entry], seats: usize) -> Result<Vec<List<u64>>, Memory>
     ensures { IfOk result (λ v. v.items ≡ logs_of seats history.now) }
 {
     let mut logs = Vec::with_capacity(alloc, seats)?;
-    for number in 0..seats {
-        logs.push(List::of(make_log(alloc, history, number)?))?;
+    for log in note_all(alloc, history, seats)? {
+        logs.push(List::of(log))?;
     }
     Ok(logs)
 }

@@ -11,7 +11,7 @@ ghost use Rattle.ap_lock.specs.Turns.{Begins};
 ghost use Rattle.ap_lock.specs.Seats.{book_id, SameSeat, IsTurn};
 
 use crate::shared::{Raw, SharedBook};
-use ap_book::{BookError, DoneError};
+use ap_book::{BookError, DoneError, Kids};
 use ap_defs::paths::{Out, Path, Progress};
 use std::alloc::Global;
 use std::marker::Model;
@@ -56,8 +56,8 @@ impl SharedBook {
         answer
     }
 
-    /// Replaces an open path by its kids, which ascend strictly from at least 1, in one turn. It may
-    /// wait.
+    /// Replaces an open path by its kids, which ascend strictly from at least 1, in one turn. What it
+    /// puts into the book is made before that turn. It may wait.
     ///
     /// `NotOpen` comes exactly where the path is not open at that turn, and `Memory` only where it
     /// is. After an error no entry was made.
@@ -74,8 +74,9 @@ impl SharedBook {
         ensures same { SameSeat seat.old seat.new }
         ensures turn { (turn : list Entry) × IsTurn seat.old turn × Enters turn path.now (Split seat.old.number path.now kids.now) result seat.new.seen }
     {
+        let ready = Kids::of(alloc, path, kids);
         let mut book = self.open(rt, &mut seat.raw);
-        let answer = book.split(alloc, seat.number, path, kids);
+        let answer = book.enter_split(seat.number, path, ready);
         self.shut(&mut seat.raw, book);
         answer
     }
@@ -87,7 +88,6 @@ impl SharedBook {
     pub fn done<R: Wait>(
         &self,
         rt: &R,
-        alloc: Global,
         seat: &mut Seat,
         path: &Path,
         outs: Vec<Out>,
@@ -97,7 +97,7 @@ impl SharedBook {
         ensures turn { (turn : list Entry) × IsTurn seat.old turn × EntersDone turn path.now outs.items (Done seat.old.number path.now outs.items) result seat.new.seen }
     {
         let mut book = self.open(rt, &mut seat.raw);
-        let answer = book.done(alloc, seat.number, path, outs);
+        let answer = book.done(seat.number, path, outs);
         self.shut(&mut seat.raw, book);
         answer
     }

@@ -11,6 +11,7 @@ use ap_book::Book;
 use atomic_table::{Seat, Table};
 use crossbeam_utils::Backoff;
 use std::alloc::Global;
+use std::hint;
 use std::sync::Wait;
 
 pub type Raw = Seat<Option<Book>, View>;
@@ -24,6 +25,19 @@ const SERVING: usize = 1;
 // The slot of the book.
 const BOOK: usize = 0;
 
+// Who waits looks so often before it leaves the processor to others.
+const LOOKS: u32 = 64;
+
+// Lets a moment pass, and counts it. Turns are short, so the first ones are short.
+fn pause(looks: u32, backoff: &Backoff) -> u32 {
+    if looks < LOOKS {
+        hint::spin_loop();
+        return looks + 1;
+    }
+    backoff.snooze();
+    looks
+}
+
 /// A book behind a ticket lock.
 #[derive(Drop)]
 pub struct SharedBook {
@@ -34,6 +48,19 @@ pub struct SharedBook {
 }
 
 impl SharedBook {
+    // Waits until nobody seems to have the turn or a ticket, or until it has let others go first for long.
+    // Who has a ticket and is kept from running holds up all that drew one later, so none is drawn early.
+    fn stand_off(&self) {
+        let backoff = Backoff::new();
+        let mut looks = 0;
+        for _ in 0..2 * LOOKS {
+            if self.table.shared.peek(TICKET) == self.table.shared.peek(SERVING) {
+                return;
+            }
+            looks = pause(looks, &backoff);
+        }
+    }
+
     // The ticket that was drawn, as the word has it.
     fn draw(&self, seat: &mut Raw) -> u64
         requires { (seat.old.table_id ≡ self.now.table.shared.table_id) × IsIdle seat.old.me }
@@ -47,13 +74,15 @@ impl SharedBook {
         requires { (seat.old.table_id ≡ self.now.table.shared.table_id) × IsIdle seat.old.me }
         ensures { (seat.new.table_id ≡ seat.old.table_id) × ((history : list Entry) × HasTurn seat.old.me.0 history seat.new.me) }
     {
+        self.stand_off();
         let ticket = self.draw(seat);
         let backoff = Backoff::new();
+        let mut looks = 0;
         for _ in rt.forever() {
             if self.table.shared.load::<Look>(seat, SERVING) == ticket {
                 return;
             }
-            backoff.snooze();
+            looks = pause(looks, &backoff);
         }
         unreachable!()
     }

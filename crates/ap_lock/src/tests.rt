@@ -53,10 +53,10 @@ fn seats_find_their_own_entries(rt: HostRuntime) -> Result<(), Fail> {
     assert_eq!(rt; book.split(&rt, alloc, &mut first, &root, &[1, 2]), Ok(()));
     let again = book.split(&rt, alloc, &mut second, &root, &[1, 2]);
     assert_eq!(rt; again, Err(BookError::NotOpen));
-    let ended = book.done(&rt, alloc, &mut second, &kid(alloc, 1)?, cut_at(alloc, 1)?);
+    let ended = book.done(&rt, &mut second, &kid(alloc, 1)?, cut_at(alloc, 1)?);
     assert!(rt; ended.is_ok());
     assert_eq!(rt; book.status(&rt, &mut second), Progress::Left(1));
-    let ended = book.done(&rt, alloc, &mut first, &kid(alloc, 2)?, cut_at(alloc, 2)?);
+    let ended = book.done(&rt, &mut first, &kid(alloc, 2)?, cut_at(alloc, 2)?);
     assert!(rt; ended.is_ok());
     assert_eq!(rt; book.status(&rt, &mut first), Progress::Finished);
     book.stop(&rt, &mut second);
@@ -84,7 +84,7 @@ fn visit<R: Wait>(
     ensures { seat.new.book ≡ seat.old.book }
 {
     if path.choices().len() == 5 {
-        let ended = book.done(rt, alloc, seat, path, Vec::new(alloc));
+        let ended = book.done(rt, seat, path, Vec::new(alloc));
         return if ended.is_ok() { Ok(()) } else { Err(Memory) };
     }
     let kids = [1, 2, 3, 4, 5, 6, 7, 8, 9, 10];

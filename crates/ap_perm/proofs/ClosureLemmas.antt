@@ -1,7 +1,7 @@
 -- Swappings of closures.
-use Rattle.std.proofs.Common.{◌≡◌, ◌^◌, ◌<◌, ◌≤◌, ℕ, List, [], ◌∷◌, map, subst, sym, arith}
+use Rattle.std.proofs.Common.{◌≡◌, ◌≤◌, ℕ, List, [], ◌∷◌, map, subst, sym, arith}
 use Rattle.ap_defs.specs.Renaming.{AreSwapsBelow, IsBelow, rename_swap, rename_term}
-use Rattle.ap_defs.specs.Terms.{NominalTerm, susp, term_of}
+use Rattle.ap_defs.specs.Terms.{susp, term_of}
 use Rattle.ap_defs.specs.declared.terms.Swap.{Swap}
 use Rattle.ap_defs.specs.declared.terms.Term.{Term}
 use Rattle.ap_defs.specs.declared.terms.Term.TheVariants as code

@@ -12,7 +12,7 @@ use Rattle.ap_defs.specs.Terms as terms
 use Rattle.ap_defs.specs.Terms.{NominalTerm}
 use Rattle.ap_defs.specs.Freshness.{Conds, reduce}
 use Rattle.ap_defs.specs.Types as types
-use Rattle.ap_defs.specs.Types.{NominalType, NominalKind, NominalLocal, NominalConstructor, NominalSignature}
+use Rattle.ap_defs.specs.Types.{NominalType, NominalKind, NominalLocal, NominalConstructor}
 use Rattle.ap_defs.specs.Goals.{GoalOver, succeed, atom, equal, fresh, both, either, exists, new, ClauseOver, QueryOver, ProgramOver, NominalGoal, NominalClause, NominalProgram}
 use Rattle.ap_defs.specs.Answers.{kind_at}
 use Rattle.ap_defs.specs.Renaming.{local_names}

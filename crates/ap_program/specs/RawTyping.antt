@@ -24,6 +24,11 @@ IsNameOf kinds a s = (a.sort ≡ s) × (kind_at kinds a.num ≡ Some (types.name
 abbrev pub IsVarOf : List NominalKind → Var → NominalType → Type 0
 IsVarOf kinds x t = kind_at kinds x.num ≡ Some (types.var t)
 
+-- each variable has the type beside it
+abbrev pub AreVarsOf : List NominalKind → List (Var × NominalType) → Type 0
+AreVarsOf kinds [] = Unit {0}
+AreVarsOf kinds (v ∷ vs) = IsVarOf kinds v.0 v.1 × AreVarsOf kinds vs
+
 -- a word in a place where a name of the sort belongs: such a name, or a variable of its type
 abbrev pub IsOfSort : List NominalKind → Id → ℕ → Type 0
 IsOfSort kinds (ids.Name a) s = IsNameOf kinds a s

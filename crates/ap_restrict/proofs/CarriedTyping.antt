@@ -11,7 +11,7 @@ use Rattle.ap_defs.specs.RawTerms.{RawTerm}
 use Rattle.ap_defs.specs.Terms as terms
 use Rattle.ap_defs.specs.Terms.{NominalTerm, act_term}
 use Rattle.ap_defs.specs.Types as types
-use Rattle.ap_defs.specs.Types.{NominalType, NominalKind, NominalConstructor}
+use Rattle.ap_defs.specs.Types.{NominalKind, NominalConstructor}
 use Rattle.ap_defs.specs.Typing.{Want, nothing, one, more, arguments, IsApplication}
 use Rattle.ap_defs.specs.Printing.{constructor_in}
 use Rattle.ap_defs.specs.Answers.{kind_at}

@@ -6,7 +6,7 @@ use Rattle.ap_defs.specs.declared.terms.Var.{Var}
 use Rattle.ap_defs.specs.Permutations.{name_eq, act_name, inverse}
 use Rattle.ap_defs.specs.Terms.{NominalTerm, unit, name, pair, app, abs, susp}
 use Rattle.ap_defs.specs.Types as types
-use Rattle.ap_defs.specs.Types.{NominalType, NominalKind, NominalLocal, NominalConstructor}
+use Rattle.ap_defs.specs.Types.{NominalKind, NominalLocal, NominalConstructor}
 use Rattle.ap_defs.specs.Goals.{NominalGoal}
 use Rattle.ap_defs.specs.Answers.{kind_at}
 use Rattle.ap_defs.specs.Resolution.{kinds_of}

@@ -5,7 +5,7 @@ use Rattle.std.specs.Prelude.{Option, Some, None}
 use Rattle.ap_defs.specs.declared.terms.Name.{Name}
 use Rattle.ap_defs.specs.declared.goals.Local.{Local}
 use Rattle.ap_defs.specs.Types as types
-use Rattle.ap_defs.specs.Types.{NominalKind, NominalLocal, NominalConstructor, local_of, locals_of}
+use Rattle.ap_defs.specs.Types.{NominalKind, NominalConstructor, local_of, locals_of}
 use Rattle.ap_defs.specs.Goals.{NominalClause}
 use Rattle.ap_defs.specs.Renaming.{local_names, name_unless}
 use Rattle.ap_program.specs.NameRestriction.{IsFreshForHead}

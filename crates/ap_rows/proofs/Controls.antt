@@ -5,7 +5,7 @@ use Rattle.ap_defs.specs.Permutations.{swap_of, swap_name, name_eq, name_before}
 use Rattle.ap_defs.specs.Terms.{NominalTerm, name, app, abs, susp, act_term}
 use Rattle.ap_defs.specs.Substitution.{Binding, ◌:=◌, Equation, ◌≐◌, Problem, ◌#◌}
 use Rattle.ap_defs.specs.Unification as right
-use Rattle.ap_defs.specs.Unification.{Rule, replace, clash, Stage, Progress, done, Ending, unfinished, after, apply_rule, steps_for, first_stage, finish, Unified, unify, ending}
+use Rattle.ap_defs.specs.Unification.{Rule, replace, Stage, Progress, done, Ending, unfinished, after, apply_rule, steps_for, first_stage, finish, Unified, unify, ending}
 use Rattle.ap_defs.specs.Goals as goals
 use Rattle.ap_defs.specs.Goals.{NominalGoal}
 use Rattle.ap_defs.specs.Derivations as nodes

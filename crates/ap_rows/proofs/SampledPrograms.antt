@@ -7,9 +7,7 @@ use Rattle.ap_defs.specs.Terms.{unit, name, pair, app, abs, susp}
 use Rattle.ap_defs.specs.Unification.{unify, ending}
 use Rattle.ap_defs.specs.Canonical.{canonical}
 use Rattle.ap_defs.specs.Types as types
-use Rattle.ap_defs.specs.Types.{NominalType, NominalLocal, NominalConstructor, NominalSignature}
 use Rattle.ap_defs.specs.Goals as goals
-use Rattle.ap_defs.specs.Goals.{NominalGoal, NominalClause, NominalQuery, NominalProgram, Clauses}
 use Rattle.ap_defs.specs.Lines.{program_report}
 use Rattle.ap_rows.proofs.Programs.{n, v, named, brought_name, variable, some_variable, constructor, signature, clause, query, programs}
 

@@ -2,7 +2,6 @@
 use Rattle.std.proofs.Common.{◌≡◌, ℕ, zero, suc, List, [], ◌∷◌, ◌++◌, map, refl, sym, ap, ap₂, ◌∙◌, append_assoc, append-nil, length}
 use Rattle.std.specs.Prelude.{Option, Some, None}
 use Rattle.ap_defs.specs.Answers as answers
-use Rattle.ap_defs.specs.Answers.{out_in}
 use Rattle.ap_defs.specs.Derivations as nodes
 use Rattle.ap_defs.specs.Derivations.{NominalDerivation}
 use Rattle.ap_defs.specs.Freshness.{reduce}

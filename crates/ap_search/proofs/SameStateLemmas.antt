@@ -2,7 +2,7 @@
 use Rattle.std.proofs.Common.{subst, ◌≡◌, ℕ, zero, suc, List, [], ◌∷◌, ◌++◌, map, refl, sym, ap, ap₂, ◌∙◌}
 use Rattle.std.specs.Prelude.{Option, Some, None}
 use Rattle.ap_defs.specs.Answers as answers
-use Rattle.ap_defs.specs.Answers.{NominalAnswer, answer_in, ascending_vars, binds_in, closed_term, out_in, typed_vars}
+use Rattle.ap_defs.specs.Answers.{NominalAnswer, answer_in, ascending_vars, binds_in, out_in, typed_vars}
 use Rattle.ap_defs.specs.Derivations as nodes
 use Rattle.ap_defs.specs.Derivations.{NominalDerivation}
 use Rattle.ap_defs.specs.Freshness.{Conds, add_conds, both as both_lists, reduce}

@@ -16,10 +16,10 @@ use Rattle.ap_defs.specs.Typing.{Want, one}
 use Rattle.ap_defs.specs.declared.terms.Name.{Name}
 use Rattle.ap_defs.specs.declared.terms.Swap.{Swap}
 use Rattle.ap_defs.specs.declared.terms.Var.{Var}
-use Rattle.ap_program.specs.RawTyping.{AreSwapsOf, HasTermType, IsNameOf, IsTypedTerm, IsVarOf}
+use Rattle.ap_program.specs.RawTyping.{AreSwapsOf, AreVarsOf, HasTermType, IsNameOf, IsTypedTerm, IsVarOf}
 use Rattle.ap_program.specs.Typed.{HaveTypes, IsTypedProgram, IsTypedQuery, term_form}
 use Rattle.ap_search.specs.FitStates.{AllFound}
-use Rattle.ap_search.specs.TypedStates.{AreOfTypes, AreTypedOuts, IsTypedAnswer, local_types, type_unless}
+use Rattle.ap_search.specs.TypedStates.{AreTypedOuts, IsTypedAnswer, local_types, type_unless}
 use Rattle.ap_search.proofs.TypedStateLemmas.{Grown, query_typed}
 use Rattle.ap_search.proofs.TypedUnificationLemmas.{AreNamesOf, disagreement_typed}
 use Rattle.ap_search.proofs.TypingLemmas.{abs_view, act_name_of, app_view, as_wanted, kind_at_front, pair_view, susp_view, under_typed}
@@ -84,11 +84,11 @@ module _ (cs : List NominalConstructor) (kinds : List NominalKind) where
       first true (types.var t) e rest = rest
       first true (types.name s) e rest = rest
 
-  vars_typed : (xs : List Var) → AreOfTypes kinds (typed_vars kinds xs)
+  vars_typed : (xs : List Var) → AreVarsOf kinds (typed_vars kinds xs)
   vars_typed [] = tt
   vars_typed (x ∷ xs) = first (kind_at kinds x.num) refl (vars_typed xs)
     where
-      first : (o : Option NominalKind) → kind_at kinds x.num ≡ o → AreOfTypes kinds (typed_vars kinds xs) → AreOfTypes kinds (with_type x o (typed_vars kinds xs))
+      first : (o : Option NominalKind) → kind_at kinds x.num ≡ o → AreVarsOf kinds (typed_vars kinds xs) → AreVarsOf kinds (with_type x o (typed_vars kinds xs))
       first None e rest = rest
       first (Some (types.var t)) e rest = (e, rest)
       first (Some (types.name s)) e rest = rest

@@ -2,7 +2,6 @@
 use Rattle.std.proofs.Common.{subst, ◌≡◌, ◌+◌, ℕ, zero, suc, true, false, List, [], ◌∷◌, ◌++◌, map, length, refl, sym, ap, ◌∙◌, arith, append_assoc, append-nil}
 use Rattle.std.specs.Prelude.{if◌then◌else◌, Option, Some, None}
 use Rattle.ap_defs.specs.Derivations as nodes
-use Rattle.ap_defs.specs.Derivations.{NominalDerivation}
 use Rattle.ap_defs.specs.Freshness.{Conds, add_conds, reduce, var_eq}
 use Rattle.ap_defs.specs.Goals.{NominalGoal, succeed, atom, equal, fresh, both, either, exists, new, NominalClause, NominalProgram, NominalQuery, Clauses, clauses_of}
 use Rattle.ap_defs.specs.Occurrences.{free_vars, vars_of_terms, without_var}
@@ -12,7 +11,7 @@ use Rattle.ap_defs.specs.Substitution.{Binding, under, ◌:=◌}
 use Rattle.ap_defs.specs.Terms as terms
 use Rattle.ap_defs.specs.Terms.{NominalTerm}
 use Rattle.ap_defs.specs.Types as types
-use Rattle.ap_defs.specs.Types.{NominalConstructor, NominalKind, NominalLocal, NominalSignature, NominalType}
+use Rattle.ap_defs.specs.Types.{NominalConstructor, NominalKind, NominalSignature, NominalType}
 use Rattle.ap_defs.specs.Typing.{Want, one}
 use Rattle.ap_defs.specs.Unification.{Unified, reduce_all, unify, vars_then}
 use Rattle.ap_defs.specs.declared.terms.Cond.{Cond}

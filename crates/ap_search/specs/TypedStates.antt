@@ -1,6 +1,5 @@
 -- States and answers that are typed by the kinds of their numbers.
 use Rattle.std.specs.Prelude.{◌≡◌, ℕ, Bool, false, List, [], ◌∷◌, length}
-use Rattle.ap_defs.specs.declared.terms.Var.{Var}
 use Rattle.ap_defs.specs.Answers as answers
 use Rattle.ap_defs.specs.Answers.{NominalAnswer, NominalOut}
 use Rattle.ap_defs.specs.Freshness.{Conds}
@@ -8,7 +7,7 @@ use Rattle.ap_defs.specs.Resolution.{State}
 use Rattle.ap_defs.specs.Substitution.{Binding, ◌:=◌}
 use Rattle.ap_defs.specs.Types as types
 use Rattle.ap_defs.specs.Types.{NominalConstructor, NominalKind, NominalLocal, NominalType}
-use Rattle.ap_program.specs.RawTyping.{HasTermType, IsNameOf, IsVarOf}
+use Rattle.ap_program.specs.RawTyping.{AreVarsOf, HasTermType, IsNameOf, IsVarOf}
 use Rattle.ap_program.specs.Typed.{HaveTypes}
 
 -- each variable is bound to a term of its type
@@ -34,17 +33,12 @@ abbrev pub local_types : List NominalLocal → List NominalType
 local_types [] = []
 local_types (l ∷ ls) = type_unless l.bound l.kind (local_types ls)
 
--- each variable has the type beside it
-abbrev pub AreOfTypes : List NominalKind → List (Var × NominalType) → Type 0
-AreOfTypes kinds [] = Unit {0}
-AreOfTypes kinds (v ∷ vs) = IsVarOf kinds v.0 v.1 × AreOfTypes kinds vs
-
 -- There are kinds by which the bindings have the types of the query's free variables, and conditions and variables are typed.
 pub record IsTypedAnswer (cs : List NominalConstructor) (locals : List NominalLocal) (a : NominalAnswer) : Type 0 where
   pub kinds : List NominalKind
   pub binds : HaveTypes (HasTermType cs kinds) a.binds (local_types locals)
   pub conds : AreTypedConds kinds a.conds
-  pub vars : AreOfTypes kinds a.vars
+  pub vars : AreVarsOf kinds a.vars
 
 -- each answer among outputs
 abbrev pub AreTypedOuts : List NominalConstructor → List NominalLocal → List NominalOut → Type 0

@@ -1,7 +1,7 @@
 -- Answers are sound: each instance, and each instance of what is shown, is derivable.
 use Rattle.std.proofs.Common.{subst, ◌≡◌, ℕ, List, [], ◌∷◌, map, refl, sym, ap₂}
 use Rattle.ap_defs.specs.Answers as answers
-use Rattle.ap_defs.specs.Answers.{NominalAnswer, NominalOut, answer_in, binds_in, closed_term, derivation_in, out_in, query_outs, typed_vars, vars_in}
+use Rattle.ap_defs.specs.Answers.{NominalAnswer, NominalOut, answer_in, binds_in, closed_term, derivation_in, out_in, query_outs, vars_in}
 use Rattle.ap_defs.specs.Derivations.{NominalDerivation, terms_in}
 use Rattle.ap_defs.specs.Goals.{NominalProgram, NominalQuery}
 use Rattle.ap_defs.specs.GroundProofs.{IsDerivable}
@@ -13,6 +13,7 @@ use Rattle.ap_defs.specs.Substitution.{under}
 use Rattle.ap_defs.specs.Terms.{susp}
 use Rattle.ap_defs.specs.Types.{NominalConstructor, NominalKind}
 use Rattle.ap_defs.specs.declared.terms.Var.{Var}
+use Rattle.ap_program.specs.RawTyping.{AreVarsOf}
 use Rattle.ap_program.specs.Typed.{IsTypedProgram, IsTypedQuery, term_form}
 use Rattle.ap_search.specs.FitStates.{AllFound, IsFitState}
 use Rattle.ap_search.specs.TypedStates.{IsTypedState}
@@ -20,7 +21,7 @@ use Rattle.ap_search.proofs.FitStateLemmas.{query_fits}
 use Rattle.ap_search.proofs.TypedBelowLemmas.{typed_fits, typed_query_below}
 use Rattle.ap_search.proofs.TypedStateLemmas.{query_states_typed}
 use Rattle.ap_ground.specs.ShownInstances.{InEachInstance, InEachShownInstance, IsTypedDerivable}
-use Rattle.ap_ground.specs.TypedGroundings.{AreOfKinds, HaveInhabitants}
+use Rattle.ap_ground.specs.TypedGroundings.{HaveInhabitants}
 use Rattle.ap_ground.proofs.ShownLemmas.{shown_typed}
 use Rattle.ap_soundness.specs.FoundStates.{EachAnswer, EachFound}
 use Rattle.ap_soundness.specs.StatementsOnSoundness.{AnswersAreSound, AnswersAreSoundAndTyped, ShownAnswersAreSound}
@@ -36,7 +37,7 @@ binds_grounded s g (x ∷ xs) = ap₂ ◌∷◌ (sym (grounded_canonical g (unde
 -- an answer that is sound, with what is known of its variables
 record IsSound (p : NominalProgram) (depth : ℕ) (q : NominalQuery) (a : NominalAnswer) : Type 0 where
   kinds : List NominalKind
-  typed : AreOfKinds kinds a.vars
+  typed : AreVarsOf kinds a.vars
   inhabited : HaveInhabitants p.signature.constructors a.vars
   derivable_each : InEachInstance p.signature.constructors a (IsTypedDerivable p q depth)
 

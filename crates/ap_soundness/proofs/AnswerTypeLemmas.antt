@@ -10,7 +10,7 @@ use Rattle.ap_defs.specs.Resolution.{State, kinds_of}
 use Rattle.ap_defs.specs.Substitution.{under}
 use Rattle.ap_defs.specs.Terms.{susp}
 use Rattle.ap_defs.specs.Types as types
-use Rattle.ap_defs.specs.Types.{NominalConstructor, NominalKind, NominalLocal}
+use Rattle.ap_defs.specs.Types.{NominalConstructor, NominalLocal}
 use Rattle.ap_defs.specs.Typing.{one}
 use Rattle.ap_defs.specs.Unification.{has_var, vars_then}
 use Rattle.ap_defs.specs.declared.terms.Var.{Var}

@@ -10,17 +10,17 @@ use Rattle.ap_defs.specs.Occurrences.{vars_of_terms}
 use Rattle.ap_defs.specs.Resolution.{State}
 use Rattle.ap_defs.specs.Terms.{NominalTerm, abs, app, name, pair, susp, unit}
 use Rattle.ap_defs.specs.Types as types
-use Rattle.ap_defs.specs.Types.{NominalConstructor, NominalKind, NominalLocal, NominalType}
+use Rattle.ap_defs.specs.Types.{NominalConstructor, NominalKind, NominalType}
 use Rattle.ap_defs.specs.Typing.{IsOfType}
 use Rattle.ap_defs.specs.Unification.{has_var, vars_then}
 use Rattle.ap_defs.specs.declared.terms.Var.{Var}
-use Rattle.ap_program.specs.RawTyping.{IsVarOf}
+use Rattle.ap_program.specs.RawTyping.{AreVarsOf, IsVarOf}
 use Rattle.ap_search.proofs.RecordLemmas.{has_var-append, vars_then-append}
 use Rattle.ap_theory.proofs.BooleanLemmas.{or_cases, or_if_left, or_if_right}
 use Rattle.ap_theory.proofs.TermLemmas.{var_same}
 use Rattle.ap_program.specs.Typed.{AreInhabited}
 use Rattle.ap_types.specs.Inhabited.{IsInhabited}
-use Rattle.ap_ground.specs.TypedGroundings.{AreOfKinds, GivesTypes, HaveInhabitants}
+use Rattle.ap_ground.specs.TypedGroundings.{GivesTypes, HaveInhabitants}
 
 has_added : (x y : Var) (ys : List Var) → (var_eq x y || has_var x ys) ≡ true → has_var x (add_var y ys) ≡ true
 has_added x y [] h = h
@@ -92,11 +92,11 @@ given_type cs kinds g (y ∷ ys) h x a m v =
     later (Some (types.var t)) h = h.1
 
 -- the variables of an answer have the types beside them
-pub answer_kinds : (kinds : List NominalKind) (xs : List Var) → AreOfKinds kinds (typed_vars kinds xs)
+pub answer_kinds : (kinds : List NominalKind) (xs : List Var) → AreVarsOf kinds (typed_vars kinds xs)
 answer_kinds kinds [] = tt
 answer_kinds kinds (x ∷ xs) = first (kind_at kinds x.num) refl (answer_kinds kinds xs)
   where
-    first : (o : Option NominalKind) → kind_at kinds x.num ≡ o → AreOfKinds kinds (typed_vars kinds xs) → AreOfKinds kinds (with_type x o (typed_vars kinds xs))
+    first : (o : Option NominalKind) → kind_at kinds x.num ≡ o → AreVarsOf kinds (typed_vars kinds xs) → AreVarsOf kinds (with_type x o (typed_vars kinds xs))
     first None e rest = rest
     first (Some (types.name s)) e rest = rest
     first (Some (types.var t)) e rest = (e, rest)

@@ -13,7 +13,7 @@ use Rattle.ap_defs.specs.Resolution.{State, clause_node, kinds_of, next_number}
 use Rattle.ap_defs.specs.Terms as terms
 use Rattle.ap_defs.specs.Terms.{NominalTerm}
 use Rattle.ap_defs.specs.Types as types
-use Rattle.ap_defs.specs.Types.{NominalConstructor, NominalKind, NominalLocal, NominalType}
+use Rattle.ap_defs.specs.Types.{NominalConstructor, NominalKind, NominalType}
 use Rattle.ap_defs.specs.Unification.{Unified, has_var, unify}
 use Rattle.ap_defs.specs.declared.terms.Var.{Var}
 use Rattle.ap_program.specs.RawTyping.{HasTermType}

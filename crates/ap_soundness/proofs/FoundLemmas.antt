@@ -2,7 +2,6 @@
 use Rattle.std.proofs.Common.{subst, ◌≡◌, ◌+◌, ℕ, zero, suc, List, [], ◌∷◌, ◌++◌, map, refl, ap, ◌∙◌, arith}
 use Rattle.std.specs.Prelude.{Option, Some, None}
 use Rattle.ap_defs.specs.Derivations as nodes
-use Rattle.ap_defs.specs.Derivations.{NominalDerivation, height, map_terms, terms_in}
 use Rattle.ap_defs.specs.Freshness.{add_conds}
 use Rattle.ap_defs.specs.Goals.{NominalGoal, succeed, atom, equal, fresh, both, either, exists, new, NominalClause, NominalProgram, Clauses, clauses_of}
 use Rattle.ap_defs.specs.GroundProofs.{clause_at}

@@ -47,7 +47,6 @@ fn split_planned<R: Wait, T: Tree>(
 // One turn, for an end by the plan.
 fn done_planned<R: Wait, T: Tree>(
     rt: &R,
-    alloc: Global,
     tree: &T,
     book: &SharedBook,
     seat: &mut Seat,
@@ -62,7 +61,7 @@ fn done_planned<R: Wait, T: Tree>(
     ensures turn { (turn : list Entry) × IsTurn seat.old turn × EntersDone turn path.now given.items (Done seat.old.number path.now given.items) result seat.new.seen }
 {
     let _tree = tree;
-    book.done(rt, alloc, seat, path, given)
+    book.done(rt, seat, path, given)
 }
 
 // What the tree answers at a path of it. Its kids ascend, and are choices of the path.
@@ -105,7 +104,6 @@ fn run_kids<W: Shape, R: Wait, T: Tree>(
 // Enters an end. Where the path is not open, nothing is done.
 fn run_outs<R: Wait, T: Tree>(
     rt: &R,
-    alloc: Global,
     tree: &T,
     book: &SharedBook,
     seat: &mut Seat,
@@ -119,7 +117,7 @@ fn run_outs<R: Wait, T: Tree>(
     ensures own { OwnPlanned (T.choices tree.now) (T.plan tree.now) seat.new.number seat.new.seen }
     ensures order { (hand : list (list ℕ)) → IsSole (path.now ∷ hand) seat.old.number seat.old.seen → IfOk result (λ _. IsSole hand seat.new.number seat.new.seen) }
 {
-    match done_planned(rt, alloc, tree, book, seat, path, given.into_vec()) {
+    match done_planned(rt, tree, book, seat, path, given.into_vec()) {
         Ok(()) => Ok(()),
         Err(refused) => match refused.cause {
             BookError::NotOpen => Ok(()),
@@ -148,7 +146,7 @@ pub fn run_path<W: Shape, R: Wait, T: Tree>(
 {
     match visit_planned(alloc, tree, path.path()) {
         Ok(Visit::Kids(list)) => run_kids(rt, alloc, tree, book, seat, tools, path, list.items()),
-        Ok(Visit::Outs(list)) => run_outs(rt, alloc, tree, book, seat, path.path(), list),
+        Ok(Visit::Outs(list)) => run_outs(rt, tree, book, seat, path.path(), list),
         Err(error) => Err(error),
     }
 }

@@ -1,5 +1,5 @@
 -- Ascending lists of conditions.
-use Rattle.std.proofs.Common.{◌≡◌, ◌<◌, ◌≤◌, ◌+◌, ℕ, Bool, true, false, ◌||◌, ◌&&◌, not, List, [], ◌∷◌, refl, sym, ap, ap₂, ◌∙◌, arith}
+use Rattle.std.proofs.Common.{◌≡◌, Bool, true, false, ◌||◌, not, List, [], ◌∷◌, refl, ap, ap₂, ◌∙◌, arith}
 use Rattle.std.specs.Prelude.{filter, if◌then◌else◌}
 use Rattle.std.proofs.lemmas.Bool.Decides.{nat_tests}
 use Rattle.ap_defs.specs.Freshness.{Conds, add_cond, add_conds, cond_before, cond_eq, var_eq}
@@ -7,7 +7,7 @@ use Rattle.ap_defs.specs.Permutations.{name_eq}
 use Rattle.ap_defs.specs.declared.terms.Cond.{Cond}
 use Rattle.ap_defs.specs.declared.terms.Var.{Var}
 use Rattle.ap_theory.proofs.BooleanLemmas.{and_both, and_left, and_right}
-use Rattle.ap_store.specs.Changes.{has_on, is_ascending, is_before_first, with_bound}
+use Rattle.ap_store.specs.Changes.{has_on, is_ascending, is_before_first}
 use Rattle.ap_store.specs.Triples.{AreOnUnbound, Triple, is_apart, is_on}
 
 before_differs : (c d : Cond) → cond_before c d ≡ true → cond_eq c d ≡ false

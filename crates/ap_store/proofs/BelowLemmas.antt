@@ -1,10 +1,10 @@
 -- Numbers that are below a bound.
-use Rattle.std.proofs.Common.{◌≡◌, ◌<◌, ◌≤◌, ℕ, Bool, true, false, List, [], ◌∷◌, ◌++◌, map, refl, sym, ap, ◌∙◌, subst, arith}
-use Rattle.std.specs.Prelude.{◌==◌, if◌then◌else◌}
+use Rattle.std.proofs.Common.{◌≡◌, ◌<◌, ◌≤◌, ℕ, true, false, List, [], ◌∷◌, ◌++◌, map, refl, arith}
+use Rattle.std.specs.Prelude.{if◌then◌else◌}
 use Rattle.ap_defs.specs.Freshness.{var_eq}
 use Rattle.ap_defs.specs.Permutations.{act_name, left_name, name_eq, right_name, swap_name}
 use Rattle.ap_defs.specs.Renaming.{AreSwapsBelow, IsBelow}
-use Rattle.ap_defs.specs.Substitution.{Binding, bound_term, put, put_binding, under, ◌:=◌}
+use Rattle.ap_defs.specs.Substitution.{Binding, put, put_binding, under, ◌:=◌}
 use Rattle.ap_defs.specs.Terms.{NominalTerm, abs, act_term, app, name, pair, susp, unit}
 use Rattle.ap_defs.specs.declared.terms.Name.{Name}
 use Rattle.ap_defs.specs.declared.terms.Swap.{Swap}

@@ -9,7 +9,7 @@ use Rattle.ap_defs.specs.declared.terms.Var.{Var}
 use Rattle.ap_theory.proofs.BooleanLemmas.{or_cases, or_if_left, or_if_right}
 use Rattle.ap_theory.proofs.IdempotenceLemmas.{bound_term_unbound}
 use Rattle.ap_theory.proofs.SubstitutionLemmas.{put_act}
-use Rattle.ap_theory.proofs.TermLemmas.{occurs_act, same_var, var_eq_flip, var_same}
+use Rattle.ap_theory.proofs.TermLemmas.{occurs_act, var_eq_flip, var_same}
 use Rattle.ap_theory.proofs.VariableLemmas.{each_put, not_var, occurs_apart}
 use Rattle.ap_theory.specs.Variables.{BindsOnce, BindsUnbound, EachVar, IsIdempotent, IsUnbound, is_bound}
 

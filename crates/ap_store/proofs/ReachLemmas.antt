@@ -1,9 +1,9 @@
 -- Variables that are too new to occur.
-use Rattle.std.proofs.Common.{◌≡◌, ◌<◌, ◌≤◌, ℕ, max, true, false, ◌||◌, List, [], ◌∷◌, map, refl, sym, ap, ◌∙◌, inl, inr, arith}
+use Rattle.std.proofs.Common.{◌≡◌, ◌<◌, ◌≤◌, ℕ, max, true, false, List, [], ◌∷◌, map, refl, sym, ap, ◌∙◌, inl, inr, arith}
 use Rattle.ap_defs.specs.Freshness.{var_eq}
 use Rattle.ap_defs.specs.Renaming.{IsBelow, rename_term}
-use Rattle.ap_defs.specs.Substitution.{Binding, bound_term, occurs, put_binding, under, ◌:=◌}
-use Rattle.ap_defs.specs.Terms.{NominalTerm, abs, act_term, app, name, pair, susp, term_of, unit}
+use Rattle.ap_defs.specs.Substitution.{Binding, occurs, put_binding, under, ◌:=◌}
+use Rattle.ap_defs.specs.Terms.{NominalTerm, abs, app, name, pair, susp, term_of, unit}
 use Rattle.ap_defs.specs.declared.terms.Swap.{Swap}
 use Rattle.ap_defs.specs.declared.terms.Var.{Var}
 use Rattle.ap_perm.specs.Closures.{closure_term}

@@ -1,11 +1,10 @@
 -- What the changes of a store keep: its triples are well formed, and bound variables stand for what their closures stand for.
-use Rattle.std.proofs.Common.{◌≡◌, ◌<◌, ◌≤◌, ◌+◌, ℕ, zero, suc, max, Bool, true, false, ◌||◌, not, List, [], ◌∷◌, ◌++◌, map, refl, sym, ap, ap₂, ◌∙◌, subst, arith, true≢false}
+use Rattle.std.proofs.Common.{◌≡◌, ◌<◌, ◌≤◌, ◌+◌, ℕ, zero, suc, Bool, true, false, ◌||◌, List, [], ◌∷◌, refl, sym, ap, ap₂, ◌∙◌, subst, arith, true≢false}
 use Rattle.std.specs.Prelude.{◌≢◌, Option, Some, None, is_some, if◌then◌else◌}
-use Rattle.ap_defs.specs.Freshness.{Conds, add_cond, add_conds, cond_before, cond_eq, var_eq}
-use Rattle.ap_defs.specs.Renaming.{AreSwapsBelow, IsBelow}
-use Rattle.ap_defs.specs.Substitution.{Binding, bound_term, moved, occurs, put, put_binding, under, ◌:=◌}
-use Rattle.ap_defs.specs.Terms.{NominalTerm, abs, act_term, app, name, pair, susp, unit}
-use Rattle.ap_defs.specs.declared.terms.Cond.{Cond}
+use Rattle.ap_defs.specs.Freshness.{Conds, var_eq}
+use Rattle.ap_defs.specs.Renaming.{IsBelow}
+use Rattle.ap_defs.specs.Substitution.{Binding, bound_term, moved, occurs, put, under}
+use Rattle.ap_defs.specs.Terms.{NominalTerm, act_term, susp}
 use Rattle.ap_defs.specs.declared.terms.Swap.{Swap}
 use Rattle.ap_defs.specs.declared.terms.Var.{Var}
 use Rattle.ap_perm.specs.Closures.{closure_term}
@@ -14,17 +13,17 @@ use Rattle.ap_perm.specs.Lookups.{IsRanked, carried_out, depth_of, followed, sta
 use Rattle.ap_perm.proofs.LookupLemmas.{occurs_depth}
 use Rattle.ap_theory.proofs.BooleanLemmas.{or_false}
 use Rattle.ap_theory.proofs.IdempotenceLemmas.{bound_term_unbound, under_each}
-use Rattle.ap_theory.proofs.SubstitutionLemmas.{applied_local, put_absent, put_act, under_act, under_applied}
+use Rattle.ap_theory.proofs.SubstitutionLemmas.{applied_local, put_absent, put_act, under_applied}
 use Rattle.ap_theory.proofs.TermLemmas.{act_term_none, same_var, var_same}
 use Rattle.ap_theory.specs.Substitutions.{applied, bound_or_itself, substitution_of}
 use Rattle.ap_theory.specs.Variables.{IsIdempotent, IsUnbound, is_bound}
 use Rattle.ap_store.specs.Changes.{AreChanges, IsChange, after, empty, has_on, is_ascending, present_after, with_bound}
 use Rattle.ap_store.specs.Trails.{no_rank, nothing_bound, rank_after, rank_step, raw_after, raw_step}
-use Rattle.ap_store.specs.Triples.{AreOnUnbound, Triple, is_on}
+use Rattle.ap_store.specs.Triples.{AreOnUnbound, Triple}
 use Rattle.ap_store.specs.WellFormed.{AreBindingsBelow, IsWellFormed}
 use Rattle.ap_store.specs.declared.changes.Change.{Change}
 use Rattle.ap_store.specs.declared.changes.Change.TheVariants.{Made, Bound, Replaced}
-use Rattle.ap_store.proofs.BelowLemmas.{act_below, below_more, bindings_below_more, bindings_below_put, under_below}
+use Rattle.ap_store.proofs.BelowLemmas.{below_more, bindings_below_more, bindings_below_put, under_below}
 use Rattle.ap_store.proofs.BindLemmas.{bound_in, idempotent_bind, is_bound_put, occurs_through, under_bind}
 
 pub record IsSound (b : lookups.Bound) (a : Triple) (r : Var → ℕ) : Type 0 where

@@ -3,7 +3,7 @@ use Rattle.std.proofs.Common.{◌≡◌, ◌<◌, ◌≤◌, ◌+◌, ◌-◌, �
 use Rattle.std.specs.Prelude.{◌==◌, ◌⊎◌, nat_lt, slice_set, if◌then◌else◌, MatchOption, Option, Some, None}
 use Rattle.std.proofs.lemmas.Bool.Decides.{nat_tests}
 use Rattle.std.proofs.lemmas.List.{length-append, length-map, length-take-le, map-append, take-map, take_more}
-use Rattle.ap_defs.specs.Freshness.{Conds, var_eq}
+use Rattle.ap_defs.specs.Freshness.{var_eq}
 use Rattle.ap_defs.specs.Substitution.{put_binding, under}
 use Rattle.ap_defs.specs.Terms.{NominalTerm}
 use Rattle.ap_defs.specs.Resolution.{kinds_of}
@@ -17,7 +17,7 @@ use Rattle.ap_theory.proofs.TermLemmas.{number_same}
 use Rattle.ap_theory.specs.Variables.{IsUnbound, is_bound}
 use Rattle.ap_store.specs.Changes.{AreChanges, IsChange, after, empty, present_after}
 use Rattle.ap_store.specs.Slots.{IsStored, place_in, slot_kind}
-use Rattle.ap_store.specs.Trails.{AreLinked, IsLinked, Kept, change_conds, change_term, conds_at, keep, kept_after, nothing_bound, nothing_kept, raw_after, raw_step, term_at}
+use Rattle.ap_store.specs.Trails.{AreLinked, Kept, change_conds, change_term, conds_at, keep, kept_after, nothing_bound, nothing_kept, raw_after, raw_step, term_at}
 use Rattle.ap_store.specs.Triples.{Triple}
 use Rattle.ap_store.specs.declared.changes.Change.{Change}
 use Rattle.ap_store.specs.declared.changes.Change.TheVariants.{Made, Bound, Replaced}

@@ -1,6 +1,6 @@
 -- What changes make of a triple, and which changes may follow one another.
-use Rattle.std.specs.Prelude.{◌≡◌, ℕ, ◌+◌, ◌<◌, ◌||◌, Bool, true, false, ◌&&◌, List, [], ◌∷◌, map}
-use Rattle.ap_defs.specs.Freshness.{Conds, cond_before, var_eq}
+use Rattle.std.specs.Prelude.{◌≡◌, ◌+◌, ◌<◌, ◌||◌, Bool, true, false, ◌&&◌, List, [], ◌∷◌, map}
+use Rattle.ap_defs.specs.Freshness.{Conds, cond_before}
 use Rattle.ap_defs.specs.Renaming.{IsBelow}
 use Rattle.ap_defs.specs.Substitution.{◌:=◌, occurs, put_binding, under}
 use Rattle.ap_defs.specs.Terms.{NominalTerm}

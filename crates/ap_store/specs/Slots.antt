@@ -4,7 +4,7 @@ use mathlib.Core.HLevel.{Unit-prop}
 use Rattle.std.proofs.Props.{props}
 use Rattle.ap_defs.specs.Types.{NominalKind, kind_of}
 use Rattle.ap_perm.specs.Lookups as lookups
-use Rattle.ap_store.specs.Changes.{AreChanges, IsChange, empty, present_after}
+use Rattle.ap_store.specs.Changes.{AreChanges, empty, present_after}
 use Rattle.ap_store.specs.ChangeProps.{changes_prop}
 use Rattle.ap_store.specs.Trails.{AreLinked, IsLinked, Kept, keep, kept_after, nothing_kept}
 use Rattle.ap_store.specs.declared.changes.Change.{Change}

@@ -1,5 +1,5 @@
 -- What a store holds: bindings, conditions and the next number.
-use Rattle.std.specs.Prelude.{◌≡◌, ℕ, ◌<◌, Bool, not, List, [], ◌∷◌, ◌++◌, None, filter, map}
+use Rattle.std.specs.Prelude.{◌≡◌, ℕ, ◌<◌, Bool, not, List, [], ◌∷◌, ◌++◌, filter, map}
 use Rattle.ap_defs.specs.Freshness.{Conds, add_conds, var_eq}
 use Rattle.ap_defs.specs.Substitution.{Binding, put_binding, ◌:=◌}
 use Rattle.ap_defs.specs.Terms.{NominalTerm}

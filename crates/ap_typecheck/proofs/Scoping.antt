@@ -12,7 +12,7 @@ use Rattle.ap_trees.specs.Goals.{Goal}
 use Rattle.ap_program.specs.Typed.{id_number, brought}
 use Rattle.ap_scopes.specs.Declarations.{Declared, constructor_place}
 use Rattle.ap_scopes.specs.Identifiers as scopes
-use Rattle.ap_scopes.specs.Identifiers.{Identifier, Found, Scope, same_name, is_blank, is_free, free_place, free_one, bound_one, number_new, number_or, free_number, numbered}
+use Rattle.ap_scopes.specs.Identifiers.{Identifier, Found, Scope, same_name, is_blank, is_free, free_place, free_one, bound_one, number_new, number_or, numbered}
 use Rattle.ap_scopes.specs.Resolution.{Resolver, in_order, two_ids, swapped_by, put_first, identifier, binder, word_alone, resolved_term, resolved_arguments, resolved_terms, resolved_goal, resolved_body}
 use Rattle.ap_scopes.proofs.Tables.{position-cons}
 

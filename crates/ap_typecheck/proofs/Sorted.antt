@@ -7,7 +7,7 @@ use Rattle.ap_defs.specs.declared.terms.Id.TheVariants as ids
 use Rattle.ap_defs.specs.RawTerms as raw
 use Rattle.ap_defs.specs.RawTerms.{RawTerm}
 use Rattle.ap_defs.specs.Types as types
-use Rattle.ap_defs.specs.Types.{NominalKind, NominalLocal}
+use Rattle.ap_defs.specs.Types.{NominalKind}
 use Rattle.ap_defs.specs.Resolution.{kinds_of}
 use Rattle.ap_defs.specs.Goals.{GoalOver, succeed, atom, equal, fresh, both, either, exists, new}
 use Rattle.ap_kinds.specs.ItemKinds.{AreOfClasses}

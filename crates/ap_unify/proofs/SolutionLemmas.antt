@@ -6,7 +6,7 @@ use Rattle.ap_defs.specs.Freshness.{Conds, add_cond, add_conds, cond_before, con
 use Rattle.ap_defs.specs.Renaming.{AreBelow}
 use Rattle.ap_defs.specs.Substitution.{Binding, Problem}
 use Rattle.ap_defs.specs.Terms.{NominalTerm}
-use Rattle.ap_defs.specs.Unification.{Ending, Unified, ending, finish, first_stage, problem_of, reduce_all, solved, unify, unsolvable}
+use Rattle.ap_defs.specs.Unification.{Unified, ending, finish, problem_of, reduce_all, solved, unify, unsolvable}
 use Rattle.ap_defs.specs.declared.terms.Cond.{Cond}
 use Rattle.ap_search.proofs.NumberLemmas.{IsUnifiedBelow, unify_below}
 use Rattle.ap_search.specs.FitStates.{AreBindingsBelow, AreCondsBelow}

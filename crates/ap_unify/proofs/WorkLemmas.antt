@@ -1,5 +1,5 @@
 -- The work that is left, where equations and problems are put to it.
-use Rattle.std.proofs.Common.{subst, ◌≡◌, ◌<◌, ◌+◌, ℕ, suc, List, [], ◌∷◌, ◌++◌, drop, get_or, length, map, refl, reverse, sym, ap, ap₂, ◌∙◌, add-one, append_assoc}
+use Rattle.std.proofs.Common.{subst, ◌≡◌, ◌<◌, ◌+◌, ℕ, List, [], ◌∷◌, ◌++◌, drop, get_or, length, map, refl, reverse, sym, ap, ap₂, ◌∙◌, add-one, append_assoc}
 use Rattle.std.proofs.Math.Seq.{drop-cons}
 use Rattle.std.proofs.lemmas.List.{append-nil, reverse-append, reverse-reverse}
 use Rattle.std.specs.Prelude.{filter, IfOk, Result, Ok, Err}

@@ -11,7 +11,7 @@ use Rattle.ap_perm.specs.declared.closures.Opened.{Opened}
 use Rattle.ap_perm.specs.declared.closures.Opened.TheVariants as parts
 use Rattle.ap_store.specs.Triples.{Triple}
 use Rattle.ap_theory.specs.Variables.{IsUnbound}
-use Rattle.ap_unify.specs.Runs.{equation_under, problem_under, stage_under}
+use Rattle.ap_unify.specs.Runs.{stage_under}
 use Rattle.ap_unify.specs.declared.moves.Move.{Move}
 use Rattle.ap_unify.specs.declared.moves.Move.TheVariants as moves
 use Rattle.ap_unify.specs.declared.pairs.ClosurePair.{ClosurePair}

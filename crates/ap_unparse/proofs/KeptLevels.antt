@@ -1,7 +1,7 @@
 -- A term takes away what it adds to the levels, but for `\` since the last open bracket.
-use Rattle.std.proofs.Common.{◌≡◌, ℕ, Bool, true, false, ◌||◌, List, [], ◌∷◌, ◌++◌, length, refl, sym, ap, ◌∙◌, subst}
+use Rattle.std.proofs.Common.{◌≡◌, Bool, true, false, ◌||◌, List, [], ◌∷◌, ◌++◌, length, refl, ap, ◌∙◌}
 use Rattle.std.specs.Prelude.{nat_lt}
-use Rattle.ap_trees.specs.Symbols.{Sym, Comma, Close, CloseList, Equal, Open}
+use Rattle.ap_trees.specs.Symbols.{Sym, Close, CloseList, Equal, Open}
 use Rattle.ap_trees.specs.Terms.{Name, Term}
 use Rattle.ap_trees.specs.TermGrammar.{IsId, an_ident, a_var, IsTerm, under, a_word, applied, a_variable, the_unit, grouped, the_nil, listed, swapping, IsEnd, no_bar, behind_bar, AreTerms, only_one, and_more}
 use Rattle.ap_syntax.specs.declared.nesting.Level.{Level}

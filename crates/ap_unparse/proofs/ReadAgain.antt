@@ -1,5 +1,5 @@
 -- Goals, terms and types that are written as one item are read again.
-use Rattle.std.proofs.Common.{◌≡◌, ℕ, false, List, [], ◌∷◌, ◌++◌, refl, sym, ap, ◌∙◌, subst, append_assoc, append-nil, arith}
+use Rattle.std.proofs.Common.{◌≡◌, ℕ, false, List, [], ◌∷◌, ◌++◌, refl, sym, ap, ◌∙◌, subst, append_assoc, arith}
 use Rattle.std.specs.Prelude.{codes, encode_utf8_all}
 use Rattle.std.proofs.lemmas.Str.{IsUtf8-append}
 use Rattle.unicode_ident.proofs.Computing.{unicode_ident}
@@ -13,9 +13,9 @@ use Rattle.ap_trees.specs.Items.{AQuery, APredicate}
 use Rattle.ap_syntax.specs.ItemGrammar.{query, predicate}
 use Rattle.ap_syntax.specs.Nesting.{is_too_deep, passes}
 use Rattle.ap_unparse.specs.Written.{Written, token, space, dot, ident, round_open, round_close, symbols_of, bytes_of}
-use Rattle.ap_unparse.specs.WrittenTypes.{type_at, written_type}
+use Rattle.ap_unparse.specs.WrittenTypes.{written_type}
 use Rattle.ap_unparse.specs.WrittenTerms.{written_term}
-use Rattle.ap_unparse.specs.WrittenGoals.{goal_at, written_goal}
+use Rattle.ap_unparse.specs.WrittenGoals.{written_goal}
 use Rattle.ap_unparse.specs.declared.side.Side.TheVariants.{Alone}
 use Rattle.ap_unparse.specs.Writable.{IsWritten}
 use Rattle.ap_unparse.specs.Worded.{IsIdentifier, IsWordedType, IsWordedTerm, IsWordedGoal}

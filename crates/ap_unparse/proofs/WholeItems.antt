@@ -1,5 +1,5 @@
 -- A text that is written of one item is read as this item.
-use Rattle.std.proofs.Common.{◌≡◌, ℕ, suc, ◌+◌, ◌<◌, ◌≤◌, Bool, true, false, List, [], ◌∷◌, ◌++◌, map, length, take, drop, Option, Some, None, Result, Ok, refl, sym, ap, ◌∙◌, subst, arith, length-append}
+use Rattle.std.proofs.Common.{◌≡◌, ℕ, suc, ◌+◌, ◌≤◌, true, false, List, [], ◌∷◌, ◌++◌, map, length, take, drop, Some, None, Ok, refl, sym, ap, ◌∙◌, subst, arith, length-append}
 use Rattle.std.specs.Prelude.{codes, cond, not, nat_lt}
 use Rattle.std.specs.List.{position_or_len}
 use Rattle.std.specs.Str.{bytes_eq}
@@ -8,16 +8,16 @@ use Rattle.ap_lexer.specs.declared.token.TokenKind.{TokenKind}
 use Rattle.ap_lexer.specs.declared.token.TokenKind.TheVariants.{Sign}
 use Rattle.ap_lexer.specs.Tokens.{Lexeme, Scan, is_dot, lexeme_at, lexemes_of, scan_from}
 use Rattle.ap_lexer.proofs.Scans.{scan_step}
-use Rattle.ap_trees.specs.Symbols.{Sym, syms_of}
+use Rattle.ap_trees.specs.Symbols.{syms_of}
 use Rattle.ap_trees.specs.Items.{Saying, ItemOf}
 use Rattle.ap_syntax.specs.ItemGrammar.{IsItem}
 use Rattle.ap_syntax.specs.Nesting.{is_too_deep}
 use Rattle.ap_syntax.specs.Reading as items
-use Rattle.ap_syntax.specs.Reading.{first_dot, before, an_item, all_read, goes_on}
+use Rattle.ap_syntax.specs.Reading.{first_dot, an_item, all_read, goes_on}
 use Rattle.ap_unparse.specs.Written.{Written, token, space, dot, symbols_of, bytes_of}
 use Rattle.ap_unparse.specs.Writable.{Writes}
 use Rattle.ap_unparse.specs.Again.{ReadsAs}
-use Rattle.ap_unparse.proofs.Lexing.{Spelling, spelling, spellings, symbol_of, symbols-spellings, syms-spelling, lexes, piece_there, token_long}
+use Rattle.ap_unparse.proofs.Lexing.{Spelling, spelling, spellings, symbol_of, symbols-spellings, lexes, piece_there, token_long}
 use Rattle.ap_unparse.proofs.NoDots.{NoDot, no_dots, item_dots}
 
 -- The `.` stands behind so many tokens, and nothing behind it.

@@ -1,5 +1,5 @@
-use Rattle.std.proofs.Common.{◌≡◌, ℕ, ◌+◌, length, map, sym, ◌∙◌, subst}
-use Rattle.ap_defs.specs.Goals.{clause_of, goal_of}
+use Rattle.std.proofs.Common.{ℕ, length, sym, ◌∙◌, subst}
+use Rattle.ap_defs.specs.Goals.{goal_of}
 use Rattle.ap_defs.specs.Renaming.{IsGoalBelow, rename_goal}
 use Rattle.ap_defs.specs.Types.{locals_of}
 use Rattle.ap_program.proofs.RenamingLemmas.{goal_renamed_below}

@@ -1,5 +1,5 @@
 use Rattle.std.proofs.Common.{◌≡◌, List, map, ap, ◌∙◌, sym, subst}
-use Rattle.std.specs.Prelude.{IfOk, OnOk, Option, None}
+use Rattle.std.specs.Prelude.{IfOk, OnOk}
 use Rattle.ap_defs.specs.Answers.{found}
 use Rattle.ap_defs.specs.Goals.{clause_of}
 use Rattle.ap_defs.specs.Types.{locals_of}

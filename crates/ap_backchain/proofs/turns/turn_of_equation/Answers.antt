@@ -1,5 +1,5 @@
-use Rattle.std.proofs.Common.{◌≡◌, [], ◌∷◌, refl, ap, ◌∙◌}
-use Rattle.ap_defs.specs.Renaming.{IsBelow, rename_term}
+use Rattle.std.proofs.Common.{[], ◌∷◌, refl, ap, ◌∙◌}
+use Rattle.ap_defs.specs.Renaming.{rename_term}
 use Rattle.ap_defs.specs.Terms.{NominalTerm, term_of}
 use Rattle.ap_defs.specs.Unification.{unify}
 use Rattle.ap_perm.specs.Closures.{closure_term}

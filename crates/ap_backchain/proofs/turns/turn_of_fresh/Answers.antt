@@ -1,4 +1,4 @@
-use Rattle.std.proofs.Common.{◌≡◌, refl, sym, ap, ◌∙◌, subst, rules}
+use Rattle.std.proofs.Common.{refl, sym, ap, ◌∙◌, subst, rules}
 use Rattle.ap_defs.specs.Freshness.{reduce}
 use Rattle.ap_defs.specs.Renaming.{IsBelow, rename_term}
 use Rattle.ap_defs.specs.Substitution.{under}

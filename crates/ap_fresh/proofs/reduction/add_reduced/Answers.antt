@@ -2,7 +2,7 @@ use Rattle.std.proofs.Common.{◌≡◌, Some, OnOk, subst, sym, ap, ◌∙◌, 
 use Rattle.std.specs.Prelude.{Option}
 use Rattle.ap_defs.specs.Permutations.{act_name, inverse}
 use Rattle.ap_defs.specs.Renaming.{rename_term}
-use Rattle.ap_defs.specs.Terms.{act_term, term_of}
+use Rattle.ap_defs.specs.Terms.{term_of}
 use Rattle.ap_defs.specs.declared.terms.Cond.{Cond}
 use Rattle.ap_fresh.specs.Reduction.{added}
 use Rattle.ap_fresh.proofs.StepLemmas.{moved_problem, problem}

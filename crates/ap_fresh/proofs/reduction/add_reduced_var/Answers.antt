@@ -1,6 +1,5 @@
 use Rattle.std.proofs.Common.{◌≡◌, Some, OnOk, [], refl, subst, sym, ap, ◌∙◌, List}
 use Rattle.std.specs.Prelude.{Option}
-use Rattle.ap_defs.specs.Freshness.{add_cond}
 use Rattle.ap_defs.specs.Terms.{susp}
 use Rattle.ap_defs.specs.declared.terms.Cond.{Cond}
 use Rattle.ap_perm.specs.Closures.{closure_term}

@@ -1,7 +1,7 @@
-use Rattle.std.proofs.Common.{rules, ◌≡◌, ◌<◌, ℕ, map, sym, ap, ◌∙◌, subst}
+use Rattle.std.proofs.Common.{rules, ◌≡◌, ◌<◌, map, sym, ap, ◌∙◌, subst}
 use Rattle.ap_defs.specs.Renaming.{IsBelow, rename_swap, rename_term, rename_var}
 use Rattle.ap_defs.specs.Substitution.{occurs, under}
-use Rattle.ap_defs.specs.Terms.{NominalTerm, pair, susp, term_of}
+use Rattle.ap_defs.specs.Terms.{NominalTerm, pair, term_of}
 use Rattle.ap_defs.specs.declared.terms.Term.{Term}
 use Rattle.ap_store.specs.Views.{present}
 use Rattle.ap_store.proofs.FollowLemmas.{bound_less, bound_occurs, left_less, right_less, unbound_occurs, visits_in}

@@ -1,4 +1,4 @@
-use Rattle.std.proofs.Common.{rules, ◌≡◌, ◌<◌, ◌≤◌, ◌^◌, ◌++◌, ℕ, map, sym, ap, ◌∙◌, subst, arith, IfOk}
+use Rattle.std.proofs.Common.{rules, ◌≡◌, ◌<◌, ◌≤◌, ◌^◌, ◌++◌, map, sym, ap, ◌∙◌, subst, arith, IfOk}
 use Rattle.ap_defs.specs.Renaming.{IsBelow, rename_swap, rename_term, rename_var}
 use Rattle.ap_defs.specs.Substitution.{under}
 use Rattle.ap_defs.specs.Terms.{NominalTerm, act_term, pair, susp, term_of}

@@ -1,4 +1,4 @@
-use Rattle.std.proofs.Common.{◌≡◌, drop, map}
+use Rattle.std.proofs.Common.{◌≡◌, drop}
 use Rattle.std.specs.Prelude.{Some}
 use Rattle.ap_defs.specs.Resolution.{fresh_for_each}
 use Rattle.ap_defs.specs.Unification.{reduce_all}

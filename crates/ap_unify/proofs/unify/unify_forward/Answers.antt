@@ -1,5 +1,5 @@
 use Rattle.std.proofs.Common.{◌≡◌, [], map, sym, ap, ◌∙◌}
-use Rattle.ap_defs.specs.Unification.{ending, solved, unsolvable}
+use Rattle.ap_defs.specs.Unification.{ending, solved}
 use Rattle.ap_perm.specs.Closures.{closure_term}
 use Rattle.ap_store.specs.Views.{present}
 use Rattle.ap_unify.proofs.SolutionLemmas.{collected_on_unbound, first_kept, first_of_work, is_no_result, is_result, last_of_work}

@@ -15,15 +15,6 @@ returns-then-not-has c =
       refl,
     )
 
-pub returns-in_default : goal.returns-in_default
-returns-in_default c =
-    let b = c.self.inside in
-    let p = c.args.path.now in (
-      subst (λ l. is_open p (open_of (entries_of l)) ≡ true) c.self.view_is (open_there (entries_of b.history.items) (paths_of b.opened.keys) b.stopped p true c.self.invariant.0 (sym c.if-not-has.false ∙ c.has.ensures)),
-      c.of-outs.ensures,
-      refl,
-    )
-
 pub returns-then-is_err : goal.returns-then-is_err
 returns-then-is_err c =
     let b = c.self.inside in
@@ -39,7 +30,7 @@ invariant_of-self-2 c =
     let p = c.args.path.now in
     let is : c.push_reserved.new.self.items ≡ b.history.items ++ Done c.args.seat p c.args.outs.items ∷ [] = search rules in
     let room : vec_len c.push_reserved.new.self < vec_capacity c.push_reserved.new.self = search rules in
-    (kept_done b.history.items c.push_reserved.new.self.items c.args.seat p c.args.outs.items (paths_of b.opened.keys) (paths_of c.take_out.new.opened.keys) b.stopped c.self.invariant.0 is (sym c.has.ensures ∙ c.if-not-has.false) c.take_out.ensures.taken, λ _. room)
+    (kept_done b.history.items c.push_reserved.new.self.items c.args.seat p c.args.outs.items (paths_of b.opened.keys) (paths_of c.take_out-taken.new.opened.keys) b.stopped c.self.invariant.0 is (sym c.has.ensures ∙ c.if-not-has.false) c.take_out-taken.ensures.taken, λ _. room)
 
 pub returns : goal.returns
 returns c =

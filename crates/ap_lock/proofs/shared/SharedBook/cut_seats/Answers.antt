@@ -1,4 +1,4 @@
-use Rattle.std.proofs.Common.{rules, arith, ◌≡◌, ◌∙◌, ◌<◌, ◌≤◌, ◌+◌, ◌-◌, List, [], ◌∷◌, ◌++◌, sym, ap, refl}
+use Rattle.std.proofs.Common.{rules, arith, ◌≡◌, ◌∙◌, ◌+◌, ◌-◌, List, [], ◌∷◌, ◌++◌, sym, ap}
 use Rattle.atomic_table.specs.Table.{Me}
 use Rattle.ap_lock.specs.declared.view.Stage.TheVariants.{Idle}
 use Rattle.ap_lock.specs.Turns.{Slot, view, lone, fresh, others, first_of}

@@ -1,5 +1,5 @@
-use Rattle.std.proofs.Common.{rules, arith}
-use Rattle.ap_lock.proofs.Allowed.{draw_at, drawn}
+use Rattle.std.proofs.Common.{arith}
+use Rattle.ap_lock.proofs.Allowed.{draw_at}
 use Rattle.ap_lock.proofs.shared.SharedBook.draw.Goals as goal
 
 pub fetch_add-requires : goal.fetch_add-requires

@@ -1,4 +1,4 @@
-use Rattle.std.proofs.Common.{rules, arith}
+use Rattle.std.proofs.Common.{arith}
 use Rattle.ap_lock.proofs.Allowed.{end_at}
 use Rattle.ap_lock.proofs.shared.SharedBook.end.Goals as goal
 

@@ -1,6 +1,5 @@
-use Rattle.std.proofs.Common.{rules, ◌≡◌, ◌∙◌, List, sym, ap, subst}
+use Rattle.std.proofs.Common.{◌∙◌, List, sym, ap, subst}
 use Rattle.ap_lock.specs.Seats.{SeatView, AreLogged, seats_with}
-use Rattle.ap_lock.specs.Turns.{places_of}
 use Rattle.ap_lock.proofs.Endings.{of_last}
 use Rattle.ap_lock.proofs.shared.SharedBook.finish.Goals as goal
 

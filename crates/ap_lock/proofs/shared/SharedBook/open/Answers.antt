@@ -1,4 +1,4 @@
-use Rattle.std.proofs.Common.{rules, arith, ◌∙◌, Some}
+use Rattle.std.proofs.Common.{◌∙◌, Some}
 use Rattle.ap_lock.proofs.Allowed.{carried}
 use Rattle.ap_lock.proofs.shared.SharedBook.open.Goals as goal
 

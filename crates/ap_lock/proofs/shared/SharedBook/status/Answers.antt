@@ -1,4 +1,4 @@
-use Rattle.std.proofs.Common.{◌∙◌, rules}
+use Rattle.std.proofs.Common.{rules}
 use Rattle.ap_lock.proofs.Shutting.{may_shut, adds_nothing}
 use Rattle.ap_lock.proofs.shared.SharedBook.status.Goals as goal
 

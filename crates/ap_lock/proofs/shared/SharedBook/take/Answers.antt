@@ -1,5 +1,5 @@
-use Rattle.std.proofs.Common.{rules, arith, ◌∙◌}
-use Rattle.ap_lock.proofs.Allowed.{look_at, called, waits_on}
+use Rattle.std.proofs.Common.{arith, ◌∙◌}
+use Rattle.ap_lock.proofs.Allowed.{look_at}
 use Rattle.ap_lock.proofs.shared.SharedBook.take.Goals as goal
 
 pub load-requires : goal.load-requires

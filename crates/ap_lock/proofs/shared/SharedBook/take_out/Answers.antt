@@ -1,4 +1,4 @@
-use Rattle.std.proofs.Common.{rules, ◌≡◌, ◌∙◌, ◌≤◌, sym, subst, Some, None, ℕ, List, []}
+use Rattle.std.proofs.Common.{◌≡◌, ◌∙◌, ◌≤◌, sym, subst, ℕ, List, []}
 use Rattle.ap_defs.specs.declared.paths.Entry.{Entry}
 use Rattle.ap_lock.specs.Seats.{seats_of}
 use Rattle.ap_lock.specs.Turns.{AreKnown, times, places_of}

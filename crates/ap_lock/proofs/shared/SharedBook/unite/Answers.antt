@@ -1,8 +1,8 @@
-use Rattle.std.proofs.Common.{rules, arith, ◌≡◌, ◌∙◌, ◌+◌, List, [], ◌∷◌, ◌++◌, length, length-append, sym, ap, subst, refl}
+use Rattle.std.proofs.Common.{rules, arith, ◌≡◌, ◌∙◌, List, [], ◌∷◌, length, length-append, sym, ap, subst}
 use Rattle.atomic_table.specs.Table.{Me}
 use Rattle.ap_lock.specs.Turns.{Slot}
 use Rattle.ap_lock.specs.declared.view.View.{View}
-use Rattle.ap_lock.specs.Seats.{SeatView, book_id, AreLogged, seats_with}
+use Rattle.ap_lock.specs.Seats.{SeatView, AreLogged, seats_with}
 use Rattle.ap_lock.proofs.Steps.{unite_step}
 use Rattle.ap_lock.proofs.Endings.{logged_one, logged_last, took_in, of_last, times_one, times_more, seats_with-last}
 use Rattle.ap_lock.proofs.shared.SharedBook.unite.Goals as goal

@@ -1,6 +1,5 @@
 use Rattle.std.proofs.Common.{rules, ◌≡◌, sym, subst, Some, List, [], ◌∷◌, map}
 use mathlib.Core.Option.{some}
-use Rattle.ap_defs.specs.declared.paths.Entry.{Entry}
 use Rattle.ap_lock.specs.declared.view.Stage.TheVariants.{Idle}
 use Rattle.ap_lock.specs.Turns.{Slot, Kept, view, fresh}
 use Rattle.ap_lock.proofs.Steps.{begin_step}

@@ -1,5 +1,4 @@
 use Rattle.std.proofs.Common.{◌≡◌, ◌≤◌, ◌<◌, List, length, inl, refl, sym, ap, ◌∙◌, arith}
-use Rattle.std.specs.Prelude.{Option, MatchOption, Some, None}
 use Rattle.ap_perm.specs.Closures.{closure_term}
 use Rattle.ap_store.specs.Slots.{place_in}
 use Rattle.ap_store.specs.Trails.{term_at}

@@ -1,4 +1,4 @@
-use Rattle.std.proofs.Common.{sym, ◌∙◌, arith}
+use Rattle.std.proofs.Common.{arith}
 use Rattle.ap_store.specs.Changes.{empty}
 use Rattle.ap_store.proofs.TrailLemmas.{past_length}
 use Rattle.ap_store.proofs.store.Store.mark.Goals as goal

@@ -1,8 +1,8 @@
-use Rattle.std.proofs.Common.{◌≡◌, ◌≤◌, ◌<◌, ◌-◌, ◌++◌, [], ◌∷◌, length, take, refl, sym, ap, ◌∙◌, arith}
+use Rattle.std.proofs.Common.{◌≡◌, ◌≤◌, ◌<◌, ◌-◌, ◌++◌, [], ◌∷◌, length, take, refl, ap, ◌∙◌, arith}
 use Rattle.ap_store.specs.Changes.{empty, present_after}
 use Rattle.ap_store.specs.Slots.{slot_kind}
 use Rattle.ap_store.specs.declared.changes.Change.{Change}
-use Rattle.ap_store.specs.declared.changes.Change.TheVariants.{Made, Bound, Replaced}
+use Rattle.ap_store.specs.declared.changes.Change.TheVariants.{Made, Bound}
 use Rattle.ap_store.specs.declared.slots.Slot.{Slot}
 use Rattle.ap_store.proofs.SoundLemmas.{ranked_after}
 use Rattle.ap_store.proofs.StoredLemmas.{bound_fits, bound_next, kinds_kept, kinds_left, kinds_set, made_fits, unmade_as, unmarked_as, unreplaced_as, versions_last}

@@ -3,7 +3,7 @@ use Rattle.std.proofs.lemmas.List.{take_more}
 use Rattle.ap_paths.specs.History.{kids_of}
 use Rattle.ap_book.specs.Kept.{paths_of}
 use Rattle.ap_book.proofs.Opening.{paths_both}
-use Rattle.ap_book.proofs.opened.make_kids.Goals as goal
+use Rattle.ap_book.proofs.kids.make_kids.Goals as goal
 
 kids_of-last : (p ks : List ℕ) (k : ℕ) → kids_of p (ks ++ k ∷ []) ≡ kids_of p ks ++ (p ++ k ∷ []) ∷ []
 kids_of-last p [] k = refl
