@@ -11,6 +11,3 @@ pub use book::Book;
 pub use error::{BookError, DoneError};
 pub use kids::Kids;
 pub use merging::merge;
-
-#[cfg(test)]
-mod tests;

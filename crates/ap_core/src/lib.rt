@@ -9,6 +9,3 @@ mod workers;
 
 pub use laws::{are_in_order, are_permitted, stays_whole};
 pub use playing::play;
-
-#[cfg(test)]
-mod tests;

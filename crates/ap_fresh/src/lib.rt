@@ -2,8 +2,4 @@
 #![tactic(auto)]
 
 pub mod error;
-#[cfg(test)]
-mod one_binding;
 pub mod reduction;
-#[cfg(test)]
-mod tests;

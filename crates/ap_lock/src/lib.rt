@@ -18,6 +18,3 @@ mod view;
 pub use seat::Seat;
 pub use shared::{Raw, SharedBook};
 pub use view::{Own, Stage, View};
-
-#[cfg(test)]
-mod tests;

@@ -5,5 +5,4 @@ pub mod Weights
 pub mod Merging
 pub mod Frontier
 pub mod Laws
-pub mod Cuts
 pub mod Ends

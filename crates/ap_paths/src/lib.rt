@@ -14,6 +14,3 @@ pub use ap_defs::paths::{Out, Path, Visit};
 pub use endings::Endings;
 pub use laws::merges_whole;
 pub use tree::Tree;
-
-#[cfg(test)]
-mod tests;

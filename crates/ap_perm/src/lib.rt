@@ -7,5 +7,3 @@ pub mod laws;
 pub mod look;
 pub mod perm;
 pub mod swappings;
-#[cfg(test)]
-mod tests;

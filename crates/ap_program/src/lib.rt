@@ -4,6 +4,4 @@
 
 pub mod faults;
 pub mod renaming;
-#[cfg(test)]
-mod renaming_tests;
 pub mod restricted;

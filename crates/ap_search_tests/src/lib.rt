@@ -1,5 +1,5 @@
-//! Tests of the crates that search and report, and of the top call: `ap_store`, `ap_unify`,
-//! `ap_backchain`, `ap_replay`, `ap_answers`, `ap_report` and `ap_top`.
+//! Tests of the crates that search and answer: `ap_perm`, `ap_fresh`, `ap_program`, `ap_store`,
+//! `ap_unify`, `ap_backchain`, `ap_replay` and `ap_answers`.
 #![tactic(auto)]
 
 #[cfg(test)]
@@ -7,18 +7,20 @@ mod answers;
 #[cfg(test)]
 mod backchain;
 #[cfg(test)]
+mod fresh;
+#[cfg(test)]
 mod limits;
 #[cfg(test)]
-mod replay;
+mod one_binding;
 #[cfg(test)]
-mod report;
+mod perm;
+#[cfg(test)]
+mod renaming;
+#[cfg(test)]
+mod replay;
 #[cfg(test)]
 mod store;
 #[cfg(test)]
 mod texts;
 #[cfg(test)]
-mod top_call;
-#[cfg(test)]
 mod unify;
-#[cfg(test)]
-mod workers;

@@ -17,6 +17,3 @@ mod work;
 pub use jobs::Job;
 pub use searching::search;
 pub use tools::Tools;
-
-#[cfg(test)]
-mod tests;

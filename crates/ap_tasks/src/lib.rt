@@ -20,6 +20,3 @@ pub use owner::{Kept, Owner};
 pub use placed::{Placed, Shape};
 pub use rule::{Cut, Fair, Pops, Puts, Robs, Unite};
 pub use thief::{Stolen, Thief};
-
-#[cfg(test)]
-mod tests;

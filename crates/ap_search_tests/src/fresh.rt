@@ -3,12 +3,12 @@ ghost use Rattle.ap_defs.specs.Renaming.{IsBelow, rename_term};
 ghost use Rattle.ap_defs.specs.Substitution.{occurs};
 ghost use Rattle.ap_defs.specs.Terms.{term_of};
 
-use crate::error::FreshError;
 use crate::one_binding::OneBinding;
-use crate::reduction::reduce;
 use ap_defs::lists::List;
 use ap_defs::memory::Memory;
 use ap_defs::terms::{Name, Swap, Term, Var};
+use ap_fresh::error::FreshError;
+use ap_fresh::reduction::reduce;
 use ap_perm::closures::Closure;
 use std::alloc::Global;
 

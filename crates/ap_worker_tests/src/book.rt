@@ -1,7 +1,4 @@
-use crate::book::Book;
-use crate::error::BookError;
-use crate::kids::Kids;
-use crate::merging::merge;
+use ap_book::{Book, BookError, Kids, merge};
 use ap_defs::lists::List;
 use ap_defs::memory::Memory;
 use ap_defs::paths::{Closed, Out, Path, Progress};

@@ -1,7 +1,7 @@
 ghost use Rattle.std.specs.Prelude.{◌≡◌, ◌≤◌, ◌∷◌, [], IfOk};
 
-use crate::{Placed, Shape, Stolen, tasks};
 use ap_defs::memory::Memory;
+use ap_tasks::{Placed, Shape, Stolen, tasks};
 use std::alloc::Global;
 use std::test::Fail;
 

@@ -1,10 +1,10 @@
 ghost use Rattle.std.specs.Prelude.{◌≡◌, ◌∷◌, [], All, vec_len, IfOk, IfSome};
 ghost use Rattle.ap_lock.specs.Seats.{book_id, seats_of, AreOf};
 
-use crate::{Seat, SharedBook};
 use ap_book::BookError;
 use ap_defs::memory::Memory;
 use ap_defs::paths::{Closed, Out, Path, Progress};
+use ap_lock::{Seat, SharedBook};
 use std::alloc::Global;
 use std::sync::Wait;
 use std::test::Fail;

@@ -1,11 +1,11 @@
 ghost use Rattle.std.specs.Prelude.{◌≡◌, [], ◌∷◌, IfOk, length, map};
 ghost use Rattle.ap_defs.specs.Terms.{app, susp, term_of};
 
-use crate::renaming::rename;
 use ap_defs::goals::{Clause, Fresh, Goal, Kind, Local};
 use ap_defs::lists::{List, Text};
 use ap_defs::memory::Memory;
 use ap_defs::terms::{Term, Ty, Var};
+use ap_program::renaming::rename;
 use std::alloc::Global;
 
 fn variable(alloc: Global, num: u64) -> Term

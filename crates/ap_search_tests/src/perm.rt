@@ -1,11 +1,11 @@
 ghost use Rattle.std.specs.Prelude.{None};
 
-use crate::closures::{Closure, Opened};
-use crate::laws::{bindings_are_carried_out, idempotent_lists};
-use crate::look::Look;
-use crate::perm::Perm;
 use ap_defs::memory::Memory;
 use ap_defs::terms::{Name, Swap, Term, Var};
+use ap_perm::closures::{Closure, Opened};
+use ap_perm::laws::{bindings_are_carried_out, idempotent_lists};
+use ap_perm::look::Look;
+use ap_perm::perm::Perm;
 use std::alloc::Global;
 
 const A: Name = Name { sort: 0, num: 0 };

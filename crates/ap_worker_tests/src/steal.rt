@@ -1,13 +1,13 @@
 ghost use Rattle.std.specs.Prelude.{◌≡◌, IfOk};
 ghost use Rattle.ap_defs.specs.Answers.{out_of, cut};
 
-use crate::searching::search;
 use ap_book::merge;
 use ap_defs::lists::List;
 use ap_defs::memory::Memory;
 use ap_defs::paths::{Out, Path, Visit};
 use ap_io::{Gate, NoGate};
 use ap_paths::Tree;
+use ap_steal::search;
 use std::alloc::Global;
 use std::sync::atomic::AtomicBool;
 use std::sync::atomic::Ordering::SeqCst;

@@ -1,0 +1,18 @@
+//! Tests of the crates of paths, books and workers: `ap_paths`, `ap_book`, `ap_core`, `ap_tasks`,
+//! `ap_lock` and `ap_steal`.
+#![tactic(auto)]
+
+#[cfg(test)]
+mod book;
+#[cfg(test)]
+mod core;
+#[cfg(test)]
+mod cuts;
+#[cfg(test)]
+mod lock;
+#[cfg(test)]
+mod paths;
+#[cfg(test)]
+mod steal;
+#[cfg(test)]
+mod tasks;
