@@ -40,6 +40,15 @@ impl Model for Seat {
     ghost invariant = { λ s. IsSeat s.number s.raw };
 }
 
+impl Seat {
+    /// Which of the book's seats it is: from 0 on, as they were made.
+    pub fn number(&self) -> u32
+        ensures { result ≡ self.now.number }
+    {
+        self.number
+    }
+}
+
 impl SharedBook {
     /// How far the search is. As each call on a seat it takes one turn of the lock, at a history that
     /// begins with all that the seat has seen, and answers what the book answers there. It may wait,

@@ -103,7 +103,7 @@ fn enter_all<R: Wait>(rt: &R, alloc: Global, book: &SharedBook, mut seat: Seat) 
     ensures { result.book ≡ book_id book.now }
 {
     let mut todo = Vec::new(alloc);
-    let Ok(path) = kid(alloc, seat.number.wrapping_add(1)) else {
+    let Ok(path) = kid(alloc, seat.number().wrapping_add(1)) else {
         return seat;
     };
     if todo.push(path).is_err() {
