@@ -1,4 +1,4 @@
-ghost use Rattle.std.specs.Prelude.{◌≡◌, IfOk};
+ghost use Rattle.std.specs.Prelude.{◌≡◌, ◌<◌, ◌≤◌, IfOk};
 ghost use Rattle.ap_defs.specs.Answers.{out_of, cut};
 
 use ap_book::merge;
@@ -9,9 +9,11 @@ use ap_io::{Gate, NoGate};
 use ap_paths::Tree;
 use ap_steal::search;
 use std::alloc::Global;
+use std::sync::Wait;
 use std::sync::atomic::AtomicBool;
 use std::sync::atomic::Ordering::SeqCst;
 use std::test::Fail;
+use std::thread::Threads;
 
 const TURNS: u64 = 200_000_000;
 
@@ -158,14 +160,39 @@ fn many_workers_meet(rt: HostRuntime) -> Result<(), Fail> {
     Ok(())
 }
 
+fn same_cut(left: &Out, right: &Out) -> bool {
+    match (left, right) {
+        (Out::Cut(path), Out::Cut(other)) => path.choices() == other.choices(),
+        _ => false,
+    }
+}
+
+fn same_cuts(left: &[Out], right: &[Out]) -> bool {
+    left.len() == right.len() && left.iter().zip(right.iter()).all(|(l, r)| same_cut(l, r))
+}
+
+// How many entries a search of 131,072 ends has, and the outputs.
+fn searched<R: Threads + Wait + Sync>(
+    rt: &R,
+    alloc: Global,
+    workers: u32,
+) -> Result<(usize, Vec<Out>), Memory>
+    requires { (0 < workers) × (workers ≤ 64) }
+{
+    let closed = search(rt, alloc, &tree_of(17, false, false), workers, &NoGate)?;
+    Ok((closed.history.items().len(), merge(alloc, closed)?))
+}
+
 #[test]
 fn all_counts_give_the_same(rt: HostRuntime) -> Result<(), Fail> {
     let alloc = rt.alloc();
-    for workers in [1, 2, 8, 64] {
-        let closed = search(&rt, alloc, &tree_of(17, false, false), workers, &NoGate)?;
-        assert_eq!(rt; closed.history.items().len(), 262143);
-        let outs = merge(alloc, closed)?;
-        assert_eq!(rt; outs.len(), 131072);
+    let (entries, first) = searched(&rt, alloc, 1)?;
+    assert_eq!(rt; entries, 262143);
+    assert_eq!(rt; first.len(), 131072);
+    for workers in [2, 8, 64] {
+        let (entries, outs) = searched(&rt, alloc, workers)?;
+        assert_eq!(rt; entries, 262143);
+        assert!(rt; same_cuts(outs.as_slice(), first.as_slice()));
     }
     Ok(())
 }
