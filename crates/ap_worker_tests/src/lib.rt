@@ -5,9 +5,9 @@
 #[cfg(test)]
 mod book;
 #[cfg(test)]
-mod core;
-#[cfg(test)]
 mod cuts;
+#[cfg(test)]
+mod events;
 #[cfg(test)]
 mod lock;
 #[cfg(test)]
