@@ -21,7 +21,7 @@ impl<'a> Look for OneBinding<'a> {
     ghost use Rattle.ap_defs.specs.Substitution.{bound_term, ◌:=◌};
     ghost use Rattle.ap_perm.specs.Closures.{closure_term};
     ghost use Rattle.ap_perm.specs.Lookups.{rank_in};
-    ghost use Rattle.ap_search_tests.specs.OneBinding.{one_ranked};
+    ghost use Rattle.ap_unify_tests.specs.OneBinding.{one_ranked};
 
     ghost bound = { λ l. bound_term ((l.var := closure_term l.closure) ∷ []) };
 

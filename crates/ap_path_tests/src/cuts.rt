@@ -23,7 +23,7 @@ pub fn cut_at(alloc: Global, choices: &[u32]) -> Result<Out, Memory>
 }
 
 impl Tree for Cuts {
-    ghost use Rattle.ap_worker_tests.specs.Cuts.{cuts_choices, cuts_at, cuts_plan, cuts_branches, cuts_planned};
+    ghost use Rattle.ap_path_tests.specs.Cuts.{cuts_choices, cuts_at, cuts_plan, cuts_branches, cuts_planned};
 
     ghost choices = { λ t. cuts_choices };
 
