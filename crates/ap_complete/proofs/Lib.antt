@@ -1,0 +1,6 @@
+pub mod HeldSortLemmas
+pub mod ClauseNameLemmas
+pub mod NameListLemmas
+pub mod RestrictionLemmas
+pub mod MembershipLemmas
+pub mod SimulationLemmas

@@ -1,0 +1,3 @@
+pub mod StatementsOnFreshness
+pub mod NumberedProofs
+pub mod StatementsOnSimulation
