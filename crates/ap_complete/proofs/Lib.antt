@@ -4,3 +4,9 @@ pub mod NameListLemmas
 pub mod RestrictionLemmas
 pub mod MembershipLemmas
 pub mod SimulationLemmas
+pub mod ClearingLemmas
+pub mod RenamingLemmas
+pub mod RenamedProofLemmas
+pub mod PairLemmas
+pub mod CoveringLemmas
+pub mod CompletenessLemmas

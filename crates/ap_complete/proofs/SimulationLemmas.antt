@@ -43,7 +43,7 @@ use Rattle.ap_complete.specs.StatementsOnSimulation.{SearchFollowsProofs}
 use Rattle.ap_complete.proofs.MembershipLemmas.{among_clauses, among_each, among_left, among_map, among_right, prefix_below, prefix_longer, reached_among, reached_as, reached_below, stuck_each}
 
 -- the other way round
-pub agree_flip : (g : NominalGoal) (e f : _) → AgreeOn g e f → AgreeOn g f e
+pub agree_flip : (g : NominalGoal) (e f : Environment) → AgreeOn g e f → AgreeOn g f e
 agree_flip g e f h = record { names = λ b k. sym (h.names b k); terms = λ x k. alpha_sym (e.terms x) (f.terms x) (h.terms x k) }
 
 fresh_is_name : (t w : GroundTerm) → IsFresh t w → (a : Name) × (t ≡ terms.name a)
@@ -213,7 +213,7 @@ module _ (f : Grounding) where
         abbrev m : ℕ
         m = next_number s
 
-        abbrev item : _
+        abbrev item : Environment
         item = item_environment m f c.locals
 
         agrees_on_head : AgreeOn (atom c.pred c.args) (shifted m f) item
@@ -237,7 +237,7 @@ module _ (f : Grounding) where
             each_flip (map (instance (shifted m f)) c.args) ts'
             (instances_agree item (shifted m f) c.args ts' flipped.names flipped.terms (each_flip ts' (map (instance item) c.args) same)) in
             let next : m + length c.locals ≡ length (s.kinds ++ kinds_of c.locals) =
-            sym (length-append s.kinds (kinds_of c.locals) ∙ ap (λ j. m + j) (length-map (λ (l : NominalLocal). l.kind) c.locals)) in
+            sym (length-append s.kinds (kinds_of c.locals) ∙ ap (λ j. m + j) (length-map c.locals (λ l. l.kind))) in
             reached_below f (k ∷ []) (clause_node k m c.locals) (path d) _ (s.kinds ++ (kinds_of c.locals ++ kinds_in p c.body d))
             (unified_reached (outputs call (rename_goal m c.body)) (record s { kinds = s.kinds ++ kinds_of c.locals }) (path d) (s.kinds ++ (kinds_of c.locals ++ kinds_in p c.body d))
             (unify s.bindings s.conditions (map (rename_term n) ts) (map (rename_term m) c.args))

@@ -6,3 +6,4 @@
 
 pub mod freshness;
 pub mod simulation;
+pub mod completeness;
