@@ -111,7 +111,7 @@ shown_instance cs locals gs a i = record {
   grounding = i.grounding;
   types = types_among cs (shown_in locals a).vars a.vars i.grounding i.types;
   conditions =
-      let back = λ x. act_ground (inverse i.swaps) (i.grounding x) in
+      let back : Grounding = λ x. act_ground (inverse i.swaps) (i.grounding x) in
       meets_moved i.grounding i.swaps (shown_in locals a).conds ∙ meets_sorted back _ _ ∙ meets_kept back _ a.conds (sym (meets_moved i.grounding i.swaps a.conds) ∙ i.conditions);
   equal = shown_equal (λ t. grounded i.grounding (replace_names i.swaps t)) (var_texts locals) gs a.binds i.equal;
 }

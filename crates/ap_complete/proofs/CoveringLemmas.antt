@@ -182,12 +182,12 @@ module _ (p : NominalProgram) (typed : IsTypedProgram p) where
     -- variables with the types that they have by these kinds
     given_types : (f : Grounding) → ((x : Var) (t : NominalType) → kind_at all x.num ≡ Some (types.var t) → IsOfType cs (f x) t) → (xs : List Var) → GivesTypes cs (typed_vars all xs) f
     given_types f h [] = tt
-    given_types f h (x ∷ xs) = go (kind_at all x.num) refl
+    given_types f h (x ∷ xs) = go (kind_at all x.num) refl (given_types f h xs)
       where
-        go : (o : Option NominalKind) → kind_at all x.num ≡ o → GivesTypes cs (with_type x o (typed_vars all xs)) f
-        go None e = given_types f h xs
-        go (Some (types.name s)) e = given_types f h xs
-        go (Some (types.var t)) e = (h x t e, given_types f h xs)
+        go : (o : Option NominalKind) → kind_at all x.num ≡ o → GivesTypes cs (typed_vars all xs) f → GivesTypes cs (with_type x o (typed_vars all xs)) f
+        go None e rest = rest
+        go (Some (types.name s)) e rest = rest
+        go (Some (types.var t)) e rest = (h x t e, rest)
 
 -- A STATE'S ANSWER
 

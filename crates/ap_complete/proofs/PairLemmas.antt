@@ -107,11 +107,11 @@ looked_gives f (v ∷ ps) h =
 
 -- AN ITEM'S VARIABLES
 
-record VarPlace (m : ℕ) (ls : List NominalLocal) (i : ℕ) : Type 0 where
-  place : ℕ
-  number : i ≡ m + place
-  below : place < length ls
-  unmarked : is_marked ls place ≡ false
+pub record VarPlace (m : ℕ) (ls : List NominalLocal) (i : ℕ) : Type 0 where
+  pub place : ℕ
+  pub number : i ≡ m + place
+  pub below : place < length ls
+  pub unmarked : is_marked ls place ≡ false
 
 pub var_place : (m : ℕ) (ls : List NominalLocal) (x : Var) → has_var x (local_vars m ls) ≡ true → VarPlace m ls x.num
 var_place m [] x h = absurd (true≢false (sym h))
@@ -176,7 +176,7 @@ module _ (p : NominalProgram) (typed : IsTypedProgram p) where
   cs = p.signature.constructors
 
   -- what is given to an item's variables is distinct from what is given in its goal
-  item_keys : (m k : ℕ) (locals : List NominalLocal) (gs : List GroundTerm) (g : NominalGoal) (ps : Pairs) → AreMarked locals (brought g)
+  pub item_keys : (m k : ℕ) (locals : List NominalLocal) (gs : List GroundTerm) (g : NominalGoal) (ps : Pairs) → AreMarked locals (brought g)
       → ((x : Var) → has_key x ps ≡ true → is_taken m (m + length locals) k g x.num ≡ true) → KeysApart ps → KeysApart (zipped (local_vars m locals) gs ++ ps)
   item_keys m k locals gs g ps marked taken apart =
       apart-append (zipped (local_vars m locals) gs) ps (zipped_apart (local_vars m locals) gs (item_vars_apart m locals)) apart

@@ -327,7 +327,7 @@ module _ (p : NominalProgram) (restricted : IsRestricted p) where
     abbrev goal : NominalGoal
     goal = goals.atom q ts
 
-    abbrev item : IsTypedClause term_form p.signature _ c
+    abbrev item : IsTypedClause term_form p.signature (program_clause_typed p.signature 0 p.clauses q k c restricted.typed.0 at).0 c
     item = (program_clause_typed p.signature 0 p.clauses q k c restricted.typed.0 at).1
 
     counted : count ≡ length c.locals + inner

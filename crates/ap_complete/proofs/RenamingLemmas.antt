@@ -133,11 +133,11 @@ taken_within n m k m' k' g h a b c i t =
 
 -- AN ITEM'S OWN NAMES
 
-record LocalPlace (m : ℕ) (ls : List NominalLocal) (i : ℕ) : Type 0 where
-  place : ℕ
-  number : i ≡ m + place
-  below : place < length ls
-  unmarked : is_marked ls place ≡ false
+pub record LocalPlace (m : ℕ) (ls : List NominalLocal) (i : ℕ) : Type 0 where
+  pub place : ℕ
+  pub number : i ≡ m + place
+  pub below : place < length ls
+  pub unmarked : is_marked ls place ≡ false
 
 pub local_place : (m : ℕ) (ls : List NominalLocal) (a : Name) → has_name a (local_names m ls) ≡ true → LocalPlace m ls a.num
 local_place m [] a h = absurd (true≢false (sym h))
@@ -176,21 +176,21 @@ fresh_term_for a (y ∷ ys) [] h x = refl
 fresh_term_for a (y ∷ ys) (g ∷ gs) h x =
     elim (var_eq y x) as (λ v. fresh a (if v then g else term_for ys gs x) ≡ true) [ true ↦ h.0 | false ↦ fresh_term_for a ys gs h.1 x ]
 
-names_among : (b : Name) (t : NominalTerm) (ts : List NominalTerm) → IsAmong t ts → has_name b (names_then t []) ≡ true → has_name b (names_of_terms ts) ≡ true
+pub names_among : (b : Name) (t : NominalTerm) (ts : List NominalTerm) → IsAmong t ts → has_name b (names_then t []) ≡ true → has_name b (names_of_terms ts) ≡ true
 names_among b t [] i h = absurd i
 names_among b t (u ∷ us) (inl e) h =
     has_names_then b u (names_of_terms us) ∙ or_if_left (has_name b (names_then u [])) (has_name b (names_of_terms us)) (ap (λ z. has_name b (names_then z [])) e ∙ h)
 names_among b t (u ∷ us) (inr i) h =
     has_names_then b u (names_of_terms us) ∙ or_if_right (has_name b (names_then u [])) (has_name b (names_of_terms us)) (names_among b t us i h)
 
-vars_among : (x : Var) (t : NominalTerm) (ts : List NominalTerm) → IsAmong t ts → has_var x (vars_then t []) ≡ true → has_var x (vars_of_terms ts) ≡ true
+pub vars_among : (x : Var) (t : NominalTerm) (ts : List NominalTerm) → IsAmong t ts → has_var x (vars_then t []) ≡ true → has_var x (vars_of_terms ts) ≡ true
 vars_among x t [] i h = absurd i
 vars_among x t (u ∷ us) (inl e) h =
     has_vars_then x u (vars_of_terms us) ∙ or_if_left (has_var x (vars_then u [])) (has_var x (vars_of_terms us)) (ap (λ z. has_var x (vars_then z [])) e ∙ h)
 vars_among x t (u ∷ us) (inr i) h =
     has_vars_then x u (vars_of_terms us) ∙ or_if_right (has_var x (vars_then u [])) (has_var x (vars_of_terms us)) (vars_among x t us i h)
 
-among_vars : (f : Var → GroundTerm) (x : Var) (xs : List Var) → has_var x xs ≡ true → IsAmong (f x) (map f xs)
+pub among_vars : (f : Var → GroundTerm) (x : Var) (xs : List Var) → has_var x xs ≡ true → IsAmong (f x) (map f xs)
 among_vars f x [] h = absurd (true≢false (sym h))
 among_vars f x (y ∷ ys) h = elim (or_cases (var_eq x y) (has_var x ys) h) [ inl e ↦ inl (ap f (sym (var_same x y e))) | inr e ↦ inr (among_vars f x ys e) ]
 
@@ -246,7 +246,7 @@ module _ (e : Environment) (keeps : KeepsSorts e) (a : Name) where
   fresh_parts t h k = (fresh_parts_then t [] [] h k).0
 
 -- instances in place of instances
-each_replaced : (ts : List NominalTerm) (us : List GroundTerm) (f g : NominalTerm → GroundTerm) → ((t : NominalTerm) → IsAmong t ts → alpha (g t) (f t) ≡ true)
+pub each_replaced : (ts : List NominalTerm) (us : List GroundTerm) (f g : NominalTerm → GroundTerm) → ((t : NominalTerm) → IsAmong t ts → alpha (g t) (f t) ≡ true)
     → AlphaEach (map f ts) us → AlphaEach (map g ts) us
 each_replaced [] us f g h k = k
 each_replaced (t ∷ ts) [] f g h k = absurd k
