@@ -47,8 +47,8 @@ use Rattle.ap_ground.proofs.ProofActionLemmas.{agree_act, keeps_environment, pro
 use Rattle.ap_ground.proofs.ScopeLemmas.{goal_local, program_clause_typed}
 use Rattle.ap_soundness.specs.FoundStates.{Solves}
 use Rattle.ap_soundness.proofs.ClosingLemmas.{grounded_canonical}
-use Rattle.ap_soundness.proofs.EnvironmentLemmas.{goal_vars_local, item_agrees, item_environment, vars_from}
-use Rattle.ap_soundness.proofs.ShiftLemmas.{goal_by_none, shifted, var_by_none}
+use Rattle.ap_ground.proofs.ItemEnvironmentLemmas.{goal_vars_local, item_agrees, item_environment, vars_from}
+use Rattle.ap_ground.proofs.ShiftLemmas.{goal_by_none, shifted, var_by_none}
 use Rattle.ap_soundness.proofs.StepLemmas.{KindsAt}
 use Rattle.ap_complete.specs.Coverings.{IsCovered, IsInstance, LeavesNames, answered, is_stuck, replace_in_cond}
 use Rattle.ap_complete.specs.NumberedProofs as numbered

@@ -77,32 +77,6 @@ name_image (a ∷ as') (x ∷ cs) d s c h =
     ]
 name_image _ _ d s c h = absurd s
 
--- The free names of an item are different.
-lower_apart : (a : Name) (s m : ℕ) → a.num < m → name_eq a (record { sort = s; num = m }) ≡ false
-unfolding name_eq
-lower_apart a s m h = grind (arith, nat_tests)
-
-lower_is_no_local : (a : Name) (m : ℕ) (ls : List NominalLocal) → a.num < m → has_name a (local_names m ls) ≡ false
-lower_is_no_local a m [] h = refl
-lower_is_no_local a m (l ∷ ls) h = first l.bound l.kind (lower_is_no_local a (suc m) ls (omega arith))
-  where
-    first : (b : Bool) (k : NominalKind) → has_name a (local_names (suc m) ls) ≡ false → has_name a (name_unless b k m (local_names (suc m) ls)) ≡ false
-    first true k e = e
-    first false (types.var t) e = e
-    first false (types.name s) e = ap₂ ◌||◌ (lower_apart a s m h) e
-
-pub locals_differ : (m : ℕ) (ls : List NominalLocal) → AreDifferent (local_names m ls)
-locals_differ m [] = tt
-locals_differ m (l ∷ ls) = first l.bound l.kind (locals_differ (suc m) ls)
-  where
-    low : m < suc m
-    low = omega arith
-
-    first : (b : Bool) (k : NominalKind) → AreDifferent (local_names (suc m) ls) → AreDifferent (name_unless b k m (local_names (suc m) ls))
-    first true k e = e
-    first false (types.var t) e = e
-    first false (types.name s) e = (lower_is_no_local (record { sort = s; num = m }) (suc m) ls low, e)
-
 -- a name that is fresh for each term of a type is fresh for what stands for a variable of that type
 some_var : (a b : NominalType) → Some (types.var a) ≡ Some (types.var b) → a ≡ b
 some_var a b e = cc

@@ -27,7 +27,7 @@ use Rattle.ap_theory.proofs.BooleanLemmas.{false_if_not, or_cases, or_false, or_
 use Rattle.ap_theory.proofs.TermLemmas.{number_same, same_number, same_var, var_same}
 use Rattle.ap_ground.proofs.InstanceTypingLemmas.{inhabited_avoids}
 use Rattle.ap_ground.proofs.ScopeLemmas.{program_clause_typed}
-use Rattle.ap_soundness.proofs.EnvironmentLemmas.{vars_from}
+use Rattle.ap_ground.proofs.ItemEnvironmentLemmas.{vars_from}
 use Rattle.ap_soundness.proofs.StepLemmas.{KindsAt}
 use Rattle.ap_complete.specs.NumberedProofs.{IsGiven, kinds_in, kinds_of_use}
 use Rattle.ap_complete.proofs.RenamedProofLemmas.{same_clause}

@@ -37,14 +37,13 @@ use Rattle.ap_ground.proofs.FreeIdentifierLemmas.{has_var-append, has_without_va
 use Rattle.ap_ground.proofs.GroundTypingLemmas.{type_of_act}
 use Rattle.ap_ground.proofs.ProofActionLemmas.{has_act, instance_act, instantiates_act, keeps_environment, proofs_equivariant}
 use Rattle.ap_ground.proofs.ScopeLemmas.{goal_local, program_clause_typed, stands_goal}
-use Rattle.ap_soundness.proofs.EnvironmentLemmas.{goal_vars_local, item_agrees, names_from}
-use Rattle.ap_soundness.proofs.OccurrenceLemmas.{has_without}
-use Rattle.ap_soundness.proofs.ShiftLemmas.{rename_apart}
+use Rattle.ap_ground.proofs.ItemEnvironmentLemmas.{goal_vars_local, item_agrees, locals_differ, names_from, sorts_renamed}
+use Rattle.ap_ground.proofs.OccurrenceLemmas.{has_without}
+use Rattle.ap_ground.proofs.ShiftLemmas.{rename_apart}
 use Rattle.ap_complete.specs.NumberedProofs.{IsAmong, IsNamed, kinds_in, kinds_of_use}
 use Rattle.ap_complete.specs.StatementsOnFreshness.{FreshForTerms}
 use Rattle.ap_complete.proofs.ClearingLemmas.{Clearing, clearing, exchange_leaves, fresh_among}
 use Rattle.ap_complete.proofs.MembershipLemmas.{among_map}
-use Rattle.ap_complete.proofs.NameListLemmas.{locals_differ}
 use Rattle.ap_complete.proofs.RenamingLemmas.{LocalPlace, act_proof-append, among_vars, brought_is, each_replaced, fresh_parts, fresh_term_for, in_range, is_brought, is_brought_true, is_taken, local_place, marked_below, names_act-append, names_among, number_left, number_right, once_left, once_right, one_marked, range_is, range_true, taken_within, vars_among}
 use Rattle.ap_complete.proofs.RestrictionLemmas.{clause_names_fresh}
 
@@ -291,10 +290,6 @@ module _ (p : NominalProgram) (restricted : IsRestricted p) where
   sorts_beside [] (b ∷ bs) ds h k = absurd h
   sorts_beside (a ∷ as') [] ds h k = absurd h
   sorts_beside (a ∷ as') (b ∷ bs) [] h k = absurd k
-
-  sorts_renamed : (n : ℕ) (as' : List Name) → AreOfSorts as' (map (rename_name n) as')
-  sorts_renamed n [] = tt
-  sorts_renamed n (a ∷ as') = (refl, sorts_renamed n as')
 
   fresh_names_apart : (a : Name) (s : List Swap) (as' : List Name) (gs : List GroundTerm) → FreshForTerms a (map (act_ground s) (map terms.name as' ++ gs))
       → (has_name a (map (act_name s) as') ≡ false) × FreshForTerms a (map (act_ground s) gs)

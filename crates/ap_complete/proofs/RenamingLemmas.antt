@@ -39,9 +39,9 @@ use Rattle.ap_ground.proofs.GroundTypingLemmas.{type_of_act}
 use Rattle.ap_ground.proofs.ListLemmas.{has_names_then, has_vars_then}
 use Rattle.ap_ground.proofs.ProofActionLemmas.{has_act, height_act, instance_act, instantiates_act, keeps_environment, proofs_equivariant}
 use Rattle.ap_ground.proofs.ScopeLemmas.{goal_local, program_clause_typed, stands_goal}
-use Rattle.ap_soundness.proofs.EnvironmentLemmas.{goal_vars_local, item_agrees, names_from}
-use Rattle.ap_soundness.proofs.OccurrenceLemmas.{has_without}
-use Rattle.ap_soundness.proofs.ShiftLemmas.{rename_apart}
+use Rattle.ap_ground.proofs.ItemEnvironmentLemmas.{goal_vars_local, item_agrees, names_from}
+use Rattle.ap_ground.proofs.OccurrenceLemmas.{has_without}
+use Rattle.ap_ground.proofs.ShiftLemmas.{rename_apart}
 use Rattle.ap_complete.specs.NumberedProofs.{IsAmong, IsNamed, kinds_in, kinds_of_use}
 use Rattle.ap_complete.specs.StatementsOnFreshness.{FreshForTerms}
 use Rattle.ap_complete.proofs.ClearingLemmas.{Clearing, clearing, exchange_leaves, fresh_among}

@@ -21,13 +21,14 @@ use Rattle.ap_theory.proofs.GroundLemmas.{fresh_alpha}
 use Rattle.ap_theory.proofs.PermutationLemmas.{name_eq_same}
 use Rattle.ap_defs.specs.Permutations.{name_eq}
 use Rattle.ap_ground.specs.Environments.{KeepsSorts}
+use Rattle.ap_ground.proofs.ItemEnvironmentLemmas.{locals_differ}
 use Rattle.ap_ground.proofs.ListLemmas.{has_names_then}
 use Rattle.ap_ground.proofs.ProofActionLemmas.{keeps_environment}
 use Rattle.ap_ground.proofs.ScopeLemmas.{arguments_local, goal_local, program_clause_typed}
 use Rattle.ap_complete.specs.StatementsOnFreshness.{ClauseNamesAreFresh, FreshForTerms}
 use Rattle.ap_complete.proofs.ClauseNameLemmas.{AllOwn, body_held, fresh_instance, held_has}
 use Rattle.ap_complete.proofs.HeldSortLemmas.{sorts_not_held_fresh}
-use Rattle.ap_complete.proofs.NameListLemmas.{locals_differ, name_for_apart, name_image, term_for_fresh}
+use Rattle.ap_complete.proofs.NameListLemmas.{name_for_apart, name_image, term_for_fresh}
 
 -- the restriction of one clause of a program
 clause_restricted : (cs : List NominalConstructor) (list : List NominalClause) (k : ℕ) (c : NominalClause) → AreRestrictedClauses cs list → clause_at list k ≡ Some c → IsRestrictedClause cs c

@@ -30,14 +30,15 @@ use Rattle.ap_theory.proofs.GroundLemmas.{act_ground_none, alpha_sym, fresh_alph
 use Rattle.ap_theory.proofs.GroundingLemmas.{fresh_reduce, meets_add_all, under_alpha, unify_instances}
 use Rattle.ap_theory.proofs.TermLemmas.{same_var}
 use Rattle.ap_ground.specs.Environments.{AgreeOn}
+use Rattle.ap_ground.proofs.AlphaLemmas.{alpha_each_sym}
 use Rattle.ap_ground.proofs.EnvironmentLemmas.{instances_agree}
 use Rattle.ap_ground.proofs.FreeIdentifierLemmas.{proofs_see_free}
 use Rattle.ap_ground.proofs.ScopeLemmas.{arguments_local, goal_local, program_clause_typed}
 use Rattle.ap_soundness.specs.FoundStates.{Solves}
 use Rattle.ap_soundness.proofs.BackwardLemmas.{under_name}
-use Rattle.ap_soundness.proofs.EnvironmentLemmas.{goal_vars_local, item_agrees, item_environment}
-use Rattle.ap_soundness.proofs.OccurrenceLemmas.{has_var_of_map}
-use Rattle.ap_soundness.proofs.ShiftLemmas.{free_vars_renamed, shifted, shifted_instance, with_own_name, with_own_term}
+use Rattle.ap_ground.proofs.ItemEnvironmentLemmas.{goal_vars_local, item_agrees, item_environment}
+use Rattle.ap_ground.proofs.OccurrenceLemmas.{has_var_of_map}
+use Rattle.ap_ground.proofs.ShiftLemmas.{free_vars_renamed, shifted, shifted_instance, with_own_name, with_own_term}
 use Rattle.ap_complete.specs.NumberedProofs.{IsAmong, IsGiven, IsNamed, IsReached, answered, is_stuck, kinds_in, kinds_of_use}
 use Rattle.ap_complete.specs.StatementsOnSimulation.{SearchFollowsProofs}
 use Rattle.ap_complete.proofs.MembershipLemmas.{among_clauses, among_each, among_left, among_map, among_right, prefix_below, prefix_longer, reached_among, reached_as, reached_below, stuck_each}
@@ -124,11 +125,6 @@ module _ (f : Grounding) where
   equates_of_each n m (t ∷ ts) (u ∷ us) h =
       and_both (alpha (grounded f (rename_term n t)) (grounded f (rename_term m u))) (equates_all f (map (rename_term n) ts) (map (rename_term m) us))
       (sym (ap₂ alpha (shifted_instance n f t) (shifted_instance m f u)) ∙ h.0) (equates_of_each n m ts us h.1)
-
-  each_flip : (gs hs : List GroundTerm) → AlphaEach gs hs → AlphaEach hs gs
-  each_flip [] [] h = tt
-  each_flip (g ∷ gs) (h ∷ hs) k = (alpha_sym g h k.0, each_flip gs hs k.1)
-  each_flip _ _ k = absurd k
 
   module _ (p : NominalProgram) (typed : IsTypedProgram p) where
     abbrev cs : List NominalConstructor
@@ -234,8 +230,8 @@ module _ (f : Grounding) where
             let flipped = agree_flip (atom c.pred c.args) (shifted m f) item agrees_on_head in
             let ts' = map (instance (shifted n f)) ts in
             let heads : AlphaEach ts' (map (instance (shifted m f)) c.args) =
-            each_flip (map (instance (shifted m f)) c.args) ts'
-            (instances_agree item (shifted m f) c.args ts' flipped.names flipped.terms (each_flip ts' (map (instance item) c.args) same)) in
+            alpha_each_sym (map (instance (shifted m f)) c.args) ts'
+            (instances_agree item (shifted m f) c.args ts' flipped.names flipped.terms (alpha_each_sym ts' (map (instance item) c.args) same)) in
             let next : m + length c.locals ≡ length (s.kinds ++ kinds_of c.locals) =
             sym (length-append s.kinds (kinds_of c.locals) ∙ ap (λ j. m + j) (length-map c.locals (λ l. l.kind))) in
             reached_below f (k ∷ []) (clause_node k m c.locals) (path d) _ (s.kinds ++ (kinds_of c.locals ++ kinds_in p c.body d))
