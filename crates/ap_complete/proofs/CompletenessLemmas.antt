@@ -20,7 +20,7 @@ use Rattle.ap_defs.specs.Unification.{has_var}
 use Rattle.ap_defs.specs.declared.terms.Cond.{Cond}
 use Rattle.ap_defs.specs.declared.terms.Swap.{Swap}
 use Rattle.ap_defs.specs.declared.terms.Var.{Var}
-use Rattle.ap_program.specs.NameRestriction.{IsRestricted}
+use Rattle.ap_complete.specs.Restriction.{KeepsRestriction}
 use Rattle.ap_program.specs.Typed.{IsTypedQuery, term_form}
 use Rattle.ap_search.specs.Depths.{HasNoCutOut}
 use Rattle.ap_search.specs.PathTrees.{AllAfter, AreInPathOrder, is_before}

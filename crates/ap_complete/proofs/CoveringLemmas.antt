@@ -27,7 +27,8 @@ use Rattle.ap_defs.specs.Typing.{IsOfType}
 use Rattle.ap_defs.specs.declared.terms.Name.{Name}
 use Rattle.ap_defs.specs.declared.terms.Swap.{Swap}
 use Rattle.ap_defs.specs.declared.terms.Var.{Var}
-use Rattle.ap_program.specs.NameRestriction.{IsRestricted}
+use Rattle.ap_complete.specs.RenamedProofs.{IsReady, IsRenamed, in_range, is_brought, is_taken}
+use Rattle.ap_complete.specs.Restriction.{KeepsRestriction}
 use Rattle.ap_program.specs.Typed.{AreInhabited, IsTypedProgram, IsTypedQuery, brought, has_number, is_marked, term_form}
 use Rattle.ap_search.proofs.TypingLemmas.{kind_at_back, kind_at_front}
 use Rattle.ap_theory.proofs.BooleanLemmas.{and_both, and_left, and_right, false_if_not, or_cases, or_if_left, or_if_right}
@@ -57,8 +58,8 @@ use Rattle.ap_complete.specs.StatementsOnCompleteness.{ProofsAreCovered}
 use Rattle.ap_complete.proofs.ClearingLemmas.{Clearing, clearing, fresh_among}
 use Rattle.ap_complete.proofs.MembershipLemmas.{among_map}
 use Rattle.ap_complete.proofs.PairLemmas.{Gives, KeysApart, Pairs, gives-append, is_given, item_given, item_keys, keys_apart, keys_taken, looked, looked_gives, pairs_in, pairs_of_use, zipped}
-use Rattle.ap_complete.proofs.RenamedProofLemmas.{Ready, Renamed, renamed}
-use Rattle.ap_complete.proofs.RenamingLemmas.{brought_is, fresh_term_for, in_range, is_brought, is_taken, local_place, marked_below, one_marked, range_is}
+use Rattle.ap_complete.proofs.RenamedProofLemmas.{renamed}
+use Rattle.ap_complete.proofs.RenamingLemmas.{brought_is, fresh_term_for, local_place, marked_below, one_marked, range_is}
 use Rattle.ap_complete.proofs.SimulationLemmas.{agree_flip, search_follows_proofs}
 
 -- TYPES
@@ -219,7 +220,7 @@ module _ (f : Grounding) (r : State) (solves : Solves f r) (k : List Swap) where
         back gs xs h.1,
       )
 
-module _ (p : NominalProgram) (restricted : IsRestricted p) (q : NominalQuery) (t : IsTypedQuery term_form p.signature q) (depth : ℕ) (gs : List GroundTerm)
+module _ (p : NominalProgram) (restricted : KeepsRestriction p) (q : NominalQuery) (t : IsTypedQuery term_form p.signature q) (depth : ℕ) (gs : List GroundTerm)
     (types_of : AreOfTypes p.signature.constructors (kinds_of q.locals) (local_vars 0 q.locals) gs) (proof : GroundProof)
     (valid : IsValid p (kinds_of q.locals) proof q.goal (environment q.locals (local_names 0 q.locals) gs)) (low : height proof ≤ depth) where
   abbrev locals : List NominalLocal
@@ -310,7 +311,7 @@ module _ (p : NominalProgram) (restricted : IsRestricted p) (q : NominalQuery) (
 
   -- THE SEARCH'S NAMES
 
-  ready : Ready p restricted kinds 0 next count q.goal env
+  ready : IsReady p kinds 0 next count q.goal env
   ready = record {
     typed = t.0;
     keeps = keeps_environment locals names moved (sorts_themselves names);
@@ -322,7 +323,7 @@ module _ (p : NominalProgram) (restricted : IsRestricted p) (q : NominalQuery) (
     own = λ i h. (t.2.inside i (query_marked i h)).1;
   }
 
-  rest : Renamed p restricted kinds 0 next q.goal env proof
+  rest : IsRenamed p kinds 0 next q.goal env proof
   rest = renamed p restricted proof q.goal cl.perm kinds 0 next env ready valid_moved
 
   -- A GROUNDING

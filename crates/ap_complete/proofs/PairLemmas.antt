@@ -29,9 +29,10 @@ use Rattle.ap_ground.proofs.InstanceTypingLemmas.{inhabited_avoids}
 use Rattle.ap_ground.proofs.ScopeLemmas.{program_clause_typed}
 use Rattle.ap_ground.proofs.ItemEnvironmentLemmas.{vars_from}
 use Rattle.ap_soundness.proofs.StepLemmas.{KindsAt}
+use Rattle.ap_complete.specs.RenamedProofs.{in_range, is_brought, is_taken}
 use Rattle.ap_complete.specs.NumberedProofs.{IsGiven, kinds_in, kinds_of_use}
 use Rattle.ap_complete.proofs.RenamedProofLemmas.{same_clause}
-use Rattle.ap_complete.proofs.RenamingLemmas.{brought_is, in_range, is_brought, is_brought_true, is_taken, marked_below, number_left, number_right, once_left, once_right, one_marked, range_is, range_true, taken_within}
+use Rattle.ap_complete.proofs.RenamingLemmas.{brought_is, is_brought_true, marked_below, number_left, number_right, once_left, once_right, one_marked, range_is, range_true, taken_within}
 
 -- a variable and the term for it
 abbrev pub Pairs : Type 0

@@ -21,7 +21,9 @@ use Rattle.ap_defs.specs.Unification.{has_var}
 use Rattle.ap_defs.specs.declared.terms.Name.{Name}
 use Rattle.ap_defs.specs.declared.terms.Swap.{Swap}
 use Rattle.ap_defs.specs.declared.terms.Var.{Var}
-use Rattle.ap_program.specs.NameRestriction.{IsRestricted}
+use Rattle.ap_complete.specs.RenamedProofs.{IsReady, IsRenamed, in_range, is_brought, is_taken}
+use Rattle.ap_complete.specs.StatementsOnRenaming.{ProofsAreRenamed}
+use Rattle.ap_complete.specs.Restriction.{KeepsRestriction}
 use Rattle.ap_program.specs.RawTyping.{HasTermType}
 use Rattle.ap_program.specs.Typed.{EachOnce, IsTypedClause, IsTypedGoal, brought, has_number, is_marked, stands_free, stands_in_term, term_form}
 use Rattle.ap_theory.specs.Exchanges.{exchange}
@@ -29,7 +31,7 @@ use Rattle.ap_theory.specs.StatementsOnExchanges.{Exchangeable}
 use Rattle.ap_theory.proofs.BooleanLemmas.{false_if_not, or_cases, or_false, or_if_left, or_if_right}
 use Rattle.ap_theory.proofs.DisagreementLemmas.{has_front, has_name-append}
 use Rattle.ap_theory.proofs.ExchangeLemmas.{exchange_goes, exchange_other}
-use Rattle.ap_theory.proofs.GroundLemmas.{act_ground-append, alpha_act, alpha_itself, alpha_swap_fresh, alpha_sym, alpha_trans, fresh_act, fresh_alpha}
+use Rattle.ap_theory.proofs.GroundLemmas.{act_ground-append, act_ground_none, alpha_act, alpha_itself, alpha_swap_fresh, alpha_sym, alpha_trans, fresh_act, fresh_alpha}
 use Rattle.ap_theory.proofs.PermutationLemmas.{act_inverse, has_without_name, name_eq_itself, name_eq_same, name_tells, not_name, swap_left, swap_other}
 use Rattle.ap_theory.proofs.TermLemmas.{number_same, same_number}
 use Rattle.ap_ground.specs.Environments.{AgreeOn, KeepsSorts, act_environment, act_proof}
@@ -44,36 +46,21 @@ use Rattle.ap_complete.specs.NumberedProofs.{IsAmong, IsNamed, kinds_in, kinds_o
 use Rattle.ap_complete.specs.StatementsOnFreshness.{FreshForTerms}
 use Rattle.ap_complete.proofs.ClearingLemmas.{Clearing, clearing, exchange_leaves, fresh_among}
 use Rattle.ap_complete.proofs.MembershipLemmas.{among_map}
-use Rattle.ap_complete.proofs.RenamingLemmas.{LocalPlace, act_proof-append, among_vars, brought_is, each_replaced, fresh_parts, fresh_term_for, in_range, is_brought, is_brought_true, is_taken, local_place, marked_below, names_act-append, names_among, number_left, number_right, once_left, once_right, one_marked, range_is, range_true, taken_within, vars_among}
+use Rattle.ap_complete.proofs.RenamingLemmas.{LocalPlace, act_proof-append, among_vars, brought_is, each_replaced, fresh_parts, fresh_term_for, is_brought_true, local_place, marked_below, names_act-append, names_among, number_left, number_right, once_left, once_right, one_marked, range_is, range_true, taken_within, vars_among}
 use Rattle.ap_complete.proofs.RestrictionLemmas.{clause_names_fresh}
 
 pub same_clause : (o : Option NominalClause) (c b : NominalClause) → o ≡ Some c → o ≡ Some b → b ≡ c
 same_clause o c b h k = cc
 
-module _ (p : NominalProgram) (restricted : IsRestricted p) where
+module _ (p : NominalProgram) (restricted : KeepsRestriction p) where
   abbrev cs : List NominalConstructor
   cs = p.signature.constructors
 
-  -- A goal where a search comes to it: its free names have the search's numbers, and the names that the search takes are fresh for
-  -- the terms of its free variables.
-  pub record Ready (kinds : List NominalKind) (n m k : ℕ) (g : NominalGoal) (e : Environment) : Type 0 where
-    pub typed : IsTypedGoal (HasTermType cs kinds) p.signature.predicates kinds g
-    pub keeps : KeepsSorts e
-    pub names : (b : Name) → has_name b (free_names g) ≡ true → e.names b ≡ rename_name n b
-    pub clear : (a : Name) → is_taken n m k g a.num ≡ true → (x : Var) → has_var x (free_vars g) ≡ true → fresh a (e.terms x) ≡ true
-    pub low : (i : ℕ) → has_number i (brought g) ≡ true → n + i < m
-    pub free_low : (b : Name) → has_name b (free_names g) ≡ true → n + b.num < m
-    pub once : EachOnce (brought g)
-    pub own : (i : ℕ) → has_number i (brought g) ≡ true → stands_free stands_in_term i g ≡ false
+  abbrev Ready : List NominalKind → ℕ → ℕ → ℕ → NominalGoal → Environment → Type 0
+  Ready kinds n m k g e = IsReady p kinds n m k g e
 
-  -- a proof with the search's names
-  pub record Renamed (kinds : List NominalKind) (n m : ℕ) (g : NominalGoal) (e : Environment) (proof : GroundProof) : Type 0 where
-    pub result : GroundProof
-    pub valid : IsValid p kinds result g e
-    pub named : IsNamed p n m g result
-    pub same_path : path result ≡ path proof
-    pub same_height : height result ≡ height proof
-    pub same_kinds : kinds_in p g result ≡ kinds_in p g proof
+  abbrev Renamed : List NominalKind → ℕ → ℕ → NominalGoal → Environment → GroundProof → Type 0
+  Renamed kinds n m g e proof = IsRenamed p kinds n m g e proof
 
   abbrev Renames : GroundProof → Type 0
   Renames proof = (g : NominalGoal) (s : List Swap) (kinds : List NominalKind) (n m : ℕ) (e : Environment) → Ready kinds n m (length (kinds_in p g proof)) g e
@@ -535,3 +522,27 @@ module _ (p : NominalProgram) (restricted : IsRestricted p) where
       atom_renamed d (renamed d) q k ts names gs kinds n m e v.0 v.1 s
       (subst (λ (o : Option NominalClause). Ready kinds n m (length (kinds_of_use (λ g. kinds_in p g d) o)) (goals.atom q ts) e) v.1 r) v
   renamed _ _ s kinds n m e r v = absurd v
+
+-- The identity on proofs, as a permutation of nothing.
+act_proof-none : (d : GroundProof) → act_proof [] d ≡ d
+act_proof-none (nodes.atom k names gs d) =
+    ap₂ (λ (x : List Name × List GroundTerm) (y : GroundProof). nodes.atom k x.0 x.1 y) (ap₂ (λ (x : List Name) (y : List GroundTerm). (x, y)) (names_none names) (terms_none gs)) (act_proof-none d)
+  where
+    names_none : (as' : List Name) → map (act_name []) as' ≡ as'
+    names_none [] = refl
+    names_none (a ∷ as') = ap (λ l. a ∷ l) (names_none as')
+
+    terms_none : (hs : List GroundTerm) → map (act_ground []) hs ≡ hs
+    terms_none [] = refl
+    terms_none (h ∷ hs) = ap₂ ◌∷◌ (act_ground_none h) (terms_none hs)
+act_proof-none nodes.equal = refl
+act_proof-none nodes.fresh = refl
+act_proof-none nodes.succeed = refl
+act_proof-none (nodes.both d e) = ap₂ nodes.both (act_proof-none d) (act_proof-none e)
+act_proof-none (nodes.left d) = ap nodes.left (act_proof-none d)
+act_proof-none (nodes.right d) = ap nodes.right (act_proof-none d)
+act_proof-none (nodes.exists g d) = ap₂ nodes.exists (act_ground_none g) (act_proof-none d)
+act_proof-none (nodes.new c d) = ap (nodes.new c) (act_proof-none d)
+
+pub proofs_renamed : ProofsAreRenamed
+proofs_renamed p keeps kinds n m g e proof r v = renamed p keeps proof g [] kinds n m e r (subst (λ (d : GroundProof). IsValid p kinds d g e) (sym (act_proof-none proof)) v)

@@ -22,7 +22,8 @@ use Rattle.ap_defs.specs.Unification.{has_var, vars_then}
 use Rattle.ap_defs.specs.declared.terms.Name.{Name}
 use Rattle.ap_defs.specs.declared.terms.Swap.{Swap}
 use Rattle.ap_defs.specs.declared.terms.Var.{Var}
-use Rattle.ap_program.specs.NameRestriction.{IsRestricted}
+use Rattle.ap_complete.specs.RenamedProofs.{in_range, is_brought, is_taken}
+use Rattle.ap_complete.specs.Restriction.{KeepsRestriction}
 use Rattle.ap_program.specs.RawTyping.{HasTermType}
 use Rattle.ap_program.specs.Typed.{AreMarked, EachOnce, IsTypedGoal, brought, has_number, is_marked, stands_free, stands_in_term}
 use Rattle.ap_theory.specs.Exchanges.{exchange}
@@ -50,20 +51,6 @@ use Rattle.ap_complete.proofs.NameListLemmas.{locals_differ}
 use Rattle.ap_complete.proofs.RestrictionLemmas.{clause_names_fresh}
 
 -- THE NUMBERS THAT A SEARCH TAKES
-
--- one of k numbers from m on
-abbrev pub in_range : ℕ → ℕ → ℕ → Bool
-in_range m k i = not (nat_lt i m) && nat_lt i (m + k)
-
--- the number of one of the identifiers, n higher
-abbrev pub is_brought : ℕ → List ℕ → ℕ → Bool
-is_brought n [] i = false
-is_brought n (j ∷ js) i = (i == n + j) || is_brought n js i
-
--- the number is one that a search of a goal takes for a name or a variable, where the goal's identifiers are numbered from n on, the
--- next number is m, and k numbers are to be made
-abbrev pub is_taken : ℕ → ℕ → ℕ → NominalGoal → ℕ → Bool
-is_taken n m k g i = in_range m k i || is_brought n (brought g) i
 
 pub range_true : (m k i : ℕ) → m ≤ i → i < m + k → in_range m k i ≡ true
 range_true m k i h l = grind (arith, nat_tests)

@@ -13,7 +13,7 @@ use Rattle.ap_defs.specs.Renaming.{local_names, local_vars}
 use Rattle.ap_defs.specs.Resolution.{kinds_of}
 use Rattle.ap_defs.specs.Terms.{GroundTerm, NominalTerm}
 use Rattle.ap_defs.specs.Types.{NominalConstructor}
-use Rattle.ap_program.specs.NameRestriction.{AreFreshForHead, AreRestrictedClauses, AreRestrictedLists, CannotHold, FreshForEach, IsFreshForHead, IsRestricted, IsRestrictedClause, known_in, stated_conditions}
+use Rattle.ap_program.specs.NameRestriction.{AreFreshForHead, AreRestrictedClauses, AreRestrictedLists, CannotHold, FreshForEach, IsFreshForHead, IsRestrictedClause, known_in, stated_conditions}
 use Rattle.ap_theory.specs.Contexts.{Context, Fresh}
 use Rattle.ap_types.specs.Holding.{MayHold}
 use Rattle.ap_theory.proofs.BooleanLemmas.{or_cases, or_if_left, or_if_right}
@@ -25,6 +25,7 @@ use Rattle.ap_ground.proofs.ItemEnvironmentLemmas.{locals_differ}
 use Rattle.ap_ground.proofs.ListLemmas.{has_names_then}
 use Rattle.ap_ground.proofs.ProofActionLemmas.{keeps_environment}
 use Rattle.ap_ground.proofs.ScopeLemmas.{arguments_local, goal_local, program_clause_typed}
+use Rattle.ap_complete.specs.Restriction.{KeepsRestriction}
 use Rattle.ap_complete.specs.StatementsOnFreshness.{ClauseNamesAreFresh, FreshForTerms}
 use Rattle.ap_complete.proofs.ClauseNameLemmas.{AllOwn, body_held, fresh_instance, held_has}
 use Rattle.ap_complete.proofs.HeldSortLemmas.{sorts_not_held_fresh}

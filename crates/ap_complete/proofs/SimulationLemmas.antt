@@ -36,7 +36,7 @@ use Rattle.ap_ground.proofs.FreeIdentifierLemmas.{proofs_see_free}
 use Rattle.ap_ground.proofs.ScopeLemmas.{arguments_local, goal_local, program_clause_typed}
 use Rattle.ap_soundness.specs.FoundStates.{Solves}
 use Rattle.ap_soundness.proofs.BackwardLemmas.{under_name}
-use Rattle.ap_ground.proofs.ItemEnvironmentLemmas.{goal_vars_local, item_agrees, item_environment}
+use Rattle.ap_ground.proofs.ItemEnvironmentLemmas.{agrees_on_body, agrees_on_head, item_environment}
 use Rattle.ap_ground.proofs.OccurrenceLemmas.{has_var_of_map}
 use Rattle.ap_ground.proofs.ShiftLemmas.{free_vars_renamed, shifted, shifted_instance, with_own_name, with_own_term}
 use Rattle.ap_complete.specs.NumberedProofs.{IsAmong, IsGiven, IsNamed, IsReached, answered, is_stuck, kinds_in, kinds_of_use}
@@ -212,22 +212,12 @@ module _ (f : Grounding) where
         abbrev item : Environment
         item = item_environment m f c.locals
 
-        agrees_on_head : AgreeOn (atom c.pred c.args) (shifted m f) item
-        agrees_on_head =
-            item_agrees m f c.locals (atom c.pred c.args) (arguments_local p.signature c.locals c.args c.body is.3 c.pred is.1.0)
-            (goal_vars_local cs p.signature.predicates c.locals (atom c.pred c.args) is.1.0 (λ i e. (is.3.inside i e).0))
-
-        agrees_on_body : AgreeOn c.body (shifted m f) item
-        agrees_on_body =
-            item_agrees m f c.locals c.body (goal_local p.signature c.locals c.args c.body is.3 is.1.1)
-            (goal_vars_local cs p.signature.predicates c.locals c.body is.1.1 (λ i e. (is.3.inside i e).1))
-
         -- the clause of a node
         clause_reached : Solves f s → AlphaEach (map (instance (shifted n f)) ts) (map (instance item) c.args) → IsValid p (kinds_of c.locals) d c.body item
             → IsNamed p m (m + length c.locals) c.body d → IsGiven p f m (m + length c.locals) c.body d → height d ≤ depth
             → IsReached f (k ∷ path d) (by_clause (outputs call) (map (rename_term n) ts) s k c) (s.kinds ++ (kinds_of c.locals ++ kinds_in p c.body d))
         clause_reached w same v a b l =
-            let flipped = agree_flip (atom c.pred c.args) (shifted m f) item agrees_on_head in
+            let flipped = agree_flip (atom c.pred c.args) (shifted m f) item (agrees_on_head p c.pred c is m f) in
             let ts' = map (instance (shifted n f)) ts in
             let heads : AlphaEach ts' (map (instance (shifted m f)) c.args) =
             alpha_each_sym (map (instance (shifted m f)) c.args) ts'
@@ -242,7 +232,7 @@ module _ (f : Grounding) where
             let from : State = record { bindings = r.bindings; conditions = r.conditions; kinds = s.kinds ++ kinds_of c.locals } in
             reached_as f (path d) (outputs call (rename_goal m c.body) from) _ _ (append_assoc s.kinds (kinds_of c.locals) (kinds_in p c.body d))
             (goal_reached (kinds_of c.locals) m c.body from d is.1.1 (record { agreeing = i.agreeing; meeting = i.meeting })
-            (proofs_see_free p (kinds_of c.locals) d c.body item (shifted m f) v (agree_flip c.body (shifted m f) item agrees_on_body))
+            (proofs_see_free p (kinds_of c.locals) d c.body item (shifted m f) v (agree_flip c.body (shifted m f) item (agrees_on_body p c.pred c is m f)))
             (subst (λ (j : ℕ). IsNamed p m j c.body d) next a) (subst (λ (j : ℕ). IsGiven p f m j c.body d) next b) l)))
 
     same_clause : (o : Option NominalClause) (c b : NominalClause) → o ≡ Some c → o ≡ Some b → b ≡ c

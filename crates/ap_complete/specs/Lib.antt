@@ -1,3 +1,6 @@
+pub mod Restriction
+pub mod RenamedProofs
+pub mod StatementsOnRenaming
 pub mod StatementsOnFreshness
 pub mod NumberedProofs
 pub mod StatementsOnSimulation

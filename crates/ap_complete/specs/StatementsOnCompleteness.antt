@@ -10,7 +10,7 @@ use Rattle.ap_defs.specs.Renaming.{local_names, local_vars}
 use Rattle.ap_defs.specs.Resolution.{kinds_of}
 use Rattle.ap_defs.specs.Terms.{GroundTerm}
 use Rattle.ap_ground.specs.ShownInstances.{IsTypedDerivable}
-use Rattle.ap_program.specs.NameRestriction.{IsRestricted}
+use Rattle.ap_complete.specs.Restriction.{KeepsRestriction}
 use Rattle.ap_program.specs.Typed.{IsTypedQuery, term_form}
 use Rattle.ap_search.specs.Depths.{HasNoCutOut}
 use Rattle.ap_complete.specs.Coverings.{HasAllAnswers, HasCompleteAnswers, IsCovered, IsInstance, SomeAnswer, SomeStuck}
@@ -18,7 +18,7 @@ use Rattle.ap_complete.specs.NumberedProofs.{IsAmong}
 
 -- every ground proof no higher than the depth is covered
 abbrev pub ProofsAreCovered : Type 0
-ProofsAreCovered = (p : NominalProgram) → IsRestricted p → (q : NominalQuery) → IsTypedQuery term_form p.signature q
+ProofsAreCovered = (p : NominalProgram) → KeepsRestriction p → (q : NominalQuery) → IsTypedQuery term_form p.signature q
     → (depth : ℕ) (gs : List GroundTerm) → AreOfTypes p.signature.constructors (kinds_of q.locals) (local_vars 0 q.locals) gs
     → (proof : GroundProof) → IsValid p (kinds_of q.locals) proof q.goal (environment q.locals (local_names 0 q.locals) gs) → height proof ≤ depth
     → IsCovered p q depth gs (path proof)
@@ -30,14 +30,14 @@ CoveredInOneWay = (p : NominalProgram) (q : NominalQuery) (depth : ℕ) (path l 
 
 -- so each derivable instance of a query is an instance of an answer, or a branch is stuck
 abbrev pub DerivableIsAnswered : Type 0
-DerivableIsAnswered = (p : NominalProgram) → IsRestricted p → (q : NominalQuery) → IsTypedQuery term_form p.signature q → (depth : ℕ) (gs : List GroundTerm)
+DerivableIsAnswered = (p : NominalProgram) → KeepsRestriction p → (q : NominalQuery) → IsTypedQuery term_form p.signature q → (depth : ℕ) (gs : List GroundTerm)
     → IsTypedDerivable p q depth gs → SomeAnswer (λ a. IsInstance p.signature.constructors q.locals a gs) (query_outs p.clauses depth q) ⊎ SomeStuck (query_outs p.clauses depth q)
 
 -- the same in the terms of what is shown
 abbrev pub AnswersAreComplete : Type 0
-AnswersAreComplete = (p : NominalProgram) → IsRestricted p → (q : NominalQuery) → IsTypedQuery term_form p.signature q → (depth : ℕ) → HasCompleteAnswers p depth q
+AnswersAreComplete = (p : NominalProgram) → KeepsRestriction p → (q : NominalQuery) → IsTypedQuery term_form p.signature q → (depth : ℕ) → HasCompleteAnswers p depth q
 
 -- where nothing was cut and nothing is stuck, it is at any height
 abbrev pub WholeAnswersAreAll : Type 0
-WholeAnswersAreAll = (p : NominalProgram) → IsRestricted p → (q : NominalQuery) → IsTypedQuery term_form p.signature q → (depth : ℕ)
+WholeAnswersAreAll = (p : NominalProgram) → KeepsRestriction p → (q : NominalQuery) → IsTypedQuery term_form p.signature q → (depth : ℕ)
     → HasNoCutOut (query_outs p.clauses depth q) → (SomeStuck (query_outs p.clauses depth q) → ⊥) → HasAllAnswers p depth q

@@ -4,6 +4,7 @@
 //! lemmas that prove them in `proofs/`, where the crates above can cite them.
 #![tactic(auto)]
 
-pub mod freshness;
-pub mod simulation;
 pub mod completeness;
+pub mod freshness;
+pub mod renaming;
+pub mod simulation;
