@@ -21,21 +21,22 @@ use Rattle.ap_defs.specs.declared.terms.Cond.{Cond}
 use Rattle.ap_defs.specs.declared.terms.Swap.{Swap}
 use Rattle.ap_defs.specs.declared.terms.Var.{Var}
 use Rattle.ap_complete.specs.Restriction.{KeepsRestriction}
-use Rattle.ap_program.specs.Typed.{IsTypedQuery, term_form}
+use Rattle.ap_program.specs.Typed.{AreTypedQueries, IsTypedQuery, term_form}
 use Rattle.ap_search.specs.Depths.{HasNoCutOut}
 use Rattle.ap_search.specs.PathTrees.{AllAfter, AreInPathOrder, is_before}
 use Rattle.ap_search.proofs.DepthLemmas.{query_deeper}
 use Rattle.ap_search.proofs.QueryTreeLemmas.{query_in_order}
-use Rattle.ap_theory.proofs.BooleanLemmas.{and_both, and_left, and_right}
+use Rattle.ap_theory.proofs.BooleanLemmas.{and_both, and_left, and_right, false_if_not}
 use Rattle.ap_theory.proofs.GroundLemmas.{fresh_act}
 use Rattle.ap_theory.proofs.PermutationLemmas.{inverse_act}
 use Rattle.ap_theory.proofs.TermLemmas.{number_same, same_number}
 use Rattle.ap_ground.specs.ShownInstances.{IsTypedDerivable, shown_terms, vars_among}
 use Rattle.ap_ground.specs.TypedGroundings.{GivesTypes}
 use Rattle.ap_ground.proofs.ShownConditionLemmas.{meets_sorted}
-use Rattle.ap_complete.specs.Coverings.{HasAllAnswers, IsCovered, IsInstance, IsShownInstance, SomeAnswer, SomeStuck, answered, is_stuck, replace_in_cond}
+use Rattle.ap_complete.specs.CompleteAnswers.{HasCompleteAnswers, HaveCompleteAnswers, IsShown}
+use Rattle.ap_complete.specs.Coverings.{HasNoStuckOut, IsCovered, IsInstance, IsShownInstance, SomeAnswer, SomeStuck, answered, is_stuck, replace_in_cond}
 use Rattle.ap_complete.specs.NumberedProofs.{IsAmong}
-use Rattle.ap_complete.specs.StatementsOnCompleteness.{AnswersAreComplete, CoveredInOneWay, DerivableIsAnswered, WholeAnswersAreAll}
+use Rattle.ap_complete.specs.StatementsOnCompleteness.{AnswersAreComplete, DerivableIsAnswered, OutputsStandAlone, ProgramsAreComplete, WholeAnswersAreAll}
 use Rattle.ap_complete.proofs.CoveringLemmas.{proofs_covered}
 
 some_answer : (P : NominalAnswer → Type 0) (path : List ℕ) (a : NominalAnswer) (os : List NominalOut) → IsAmong (answers.found path a) os → P a → SomeAnswer P os
@@ -116,25 +117,42 @@ shown_instance cs locals gs a i = record {
   equal = shown_equal (λ t. grounded i.grounding (replace_names i.swaps t)) (var_texts locals) gs a.binds i.equal;
 }
 
-pub answers_complete : AnswersAreComplete
-answers_complete p restricted q t depth gs h =
-    elim (derivable_answered p restricted q t depth gs h) [
-      | inl i ↦ inl (each_answered (λ a. IsInstance p.signature.constructors q.locals a gs) (λ a. IsShownInstance p.signature.constructors q.locals a gs)
-        (shown_instance p.signature.constructors q.locals gs) (query_outs p.clauses depth q) i)
-      | inr i ↦ inr i
-    ]
-
 -- ANY HEIGHT
 
+none_stuck : (os : List NominalOut) → HasNoStuckOut os → SomeStuck os → ⊥
+none_stuck [] h k = k
+none_stuck (answers.found l a ∷ os) h k = none_stuck os h k
+none_stuck (answers.cut l ∷ os) h k = none_stuck os h k
+none_stuck (answers.stuck l ∷ os) h k = h
+
 pub whole_answers_all : WholeAnswersAreAll
-whole_answers_all p restricted q t depth uncut unstuck height gs h =
+whole_answers_all p keeps q t depth uncut unstuck height gs h =
     let proof = h.1.0 in
     let low = h.1.2 in
     let same = query_deeper p.clauses depth (depth + height) q (omega arith) uncut in
-    elim (answers_complete p restricted q t (depth + height) gs (h.0, (proof, h.1.1, omega arith))) [
-      | inl i ↦ subst (SomeAnswer (λ a. IsShownInstance p.signature.constructors q.locals a gs)) same i
-      | inr i ↦ absurd (unstuck (subst SomeStuck same i))
+    elim (derivable_answered p keeps q t (depth + height) gs (h.0, (proof, h.1.1, omega arith))) [
+      | inl i ↦ subst (SomeAnswer (λ a. IsInstance p.signature.constructors q.locals a gs)) same i
+      | inr i ↦ absurd (none_stuck (query_outs p.clauses depth q) unstuck (subst SomeStuck same i))
     ]
+
+pub answers_complete : AnswersAreComplete
+answers_complete p keeps depth q t = record {
+  shown = λ gs h. elim (derivable_answered p keeps q t depth gs h) [ inl i ↦ inl (each_shown p depth q gs i) | inr i ↦ inr i ];
+  whole = λ uncut unstuck height gs h. each_shown p depth q gs (whole_answers_all p keeps q t depth uncut unstuck height gs h);
+}
+  where
+    each_shown : (p : NominalProgram) (depth : ℕ) (q : NominalQuery) (gs : List GroundTerm)
+        → SomeAnswer (λ a. IsInstance p.signature.constructors q.locals a gs) (query_outs p.clauses depth q) → IsShown p depth q gs
+    each_shown p depth q gs i =
+        each_answered (λ a. IsInstance p.signature.constructors q.locals a gs) (λ a. IsShownInstance p.signature.constructors q.locals a gs)
+        (shown_instance p.signature.constructors q.locals gs) (query_outs p.clauses depth q) i
+
+queries_complete : (p : NominalProgram) → KeepsRestriction p → (depth : ℕ) (qs : List NominalQuery) → AreTypedQueries term_form p.signature qs → HaveCompleteAnswers p depth qs
+queries_complete p keeps depth [] t = tt
+queries_complete p keeps depth (q ∷ qs) t = (answers_complete p keeps depth q t.0, queries_complete p keeps depth qs t.1)
+
+pub programs_complete : ProgramsAreComplete
+programs_complete p keeps depth = queries_complete p keeps depth p.queries keeps.typed.1
 
 -- ONE WAY
 
@@ -157,17 +175,40 @@ after_among p (w ∷ os) h o (inl e) = ap (λ z. is_before p (out_path z)) (sym 
 after_among p (w ∷ os) h o (inr i) = after_among p os h.1 o i
 
 
-one_way : (path l : List ℕ) (a : NominalAnswer) (os : List NominalOut) → AreInPathOrder os → IsAmong (answers.found path a) os → IsAmong (answers.stuck l) os → has_prefix l path ≡ true → ⊥
-one_way path l a [] o i j h = i
-one_way path l a (w ∷ os) o (inl e) (inl f) h = two_ends (sym e ∙ f)
-  where
-    two_ends : answers.found path a ≡ answers.stuck l → ⊥
-    two_ends e = cc
-one_way path l a (w ∷ os) o (inl e) (inr j) h =
-    not_beginning l path (ap (λ z. is_before (out_path z) l) (sym e) ∙ after_among (out_path w) os o.0 (answers.stuck l) j) h
-one_way path l a (w ∷ os) o (inr i) (inl f) h =
-    not_begun l path (ap (λ z. is_before (out_path z) path) (sym f) ∙ after_among (out_path w) os o.0 (answers.found path a) i) h
-one_way path l a (w ∷ os) o (inr i) (inr j) h = one_way path l a os o.1 i j h
+-- where an output is at a beginning of another one's path, it is that one
+beginning_is : (o w : NominalOut) (os : List NominalOut) → AreInPathOrder os → IsAmong o os → IsAmong w os → has_prefix (out_path w) (out_path o) ≡ true → o ≡ w
+beginning_is o w [] h i j k = absurd i
+beginning_is o w (v ∷ os) h (inl e) (inl f) k = sym e ∙ f
+beginning_is o w (v ∷ os) h (inl e) (inr j) k =
+    absurd (not_beginning (out_path w) (out_path o) (ap (λ z. is_before (out_path z) (out_path w)) (sym e) ∙ after_among (out_path v) os h.0 w j) k)
+beginning_is o w (v ∷ os) h (inr i) (inl f) k =
+    absurd (not_begun (out_path w) (out_path o) (ap (λ z. is_before (out_path z) (out_path o)) (sym f) ∙ after_among (out_path v) os h.0 o i) k)
+beginning_is o w (v ∷ os) h (inr i) (inr j) k = beginning_is o w os h.1 i j k
 
-pub covered_in_one_way : CoveredInOneWay
-covered_in_one_way p q depth path l a i j h = one_way path l a (query_outs p.clauses depth q) (query_in_order p.clauses depth q) i j h
+-- what is kept of outputs in order by a path
+prefix_itself : (l : List ℕ) → has_prefix l l ≡ true
+prefix_itself [] = refl
+prefix_itself (k ∷ l) = and_both (k == k) (has_prefix l l) (same_number k k refl) (prefix_itself l)
+
+none_kept : (l : List ℕ) (os : List NominalOut) → AllAfter l os → filter (λ o. has_prefix l (out_path o)) os ≡ []
+none_kept l [] h = refl
+none_kept l (w ∷ os) h =
+    ap (λ b. if b then (w ∷ filter (λ o. has_prefix l (out_path o)) os) else filter (λ o. has_prefix l (out_path o)) os)
+    (false_if_not (has_prefix l (out_path w)) (not_begun l (out_path w) h.0))
+    ∙ none_kept l os h.1
+
+one_kept : (o : NominalOut) (os : List NominalOut) → AreInPathOrder os → IsAmong o os → filter (λ w. has_prefix (out_path o) (out_path w)) os ≡ o ∷ []
+one_kept o [] h i = absurd i
+one_kept o (v ∷ os) h (inl e) =
+    subst (λ (w : NominalOut). filter (λ z. has_prefix (out_path w) (out_path z)) (v ∷ os) ≡ w ∷ []) e
+    (ap (λ b. if b then (v ∷ filter (λ z. has_prefix (out_path v) (out_path z)) os) else filter (λ z. has_prefix (out_path v) (out_path z)) os) (prefix_itself (out_path v))
+    ∙ ap (λ l. v ∷ l) (none_kept (out_path v) os h.0))
+one_kept o (v ∷ os) h (inr i) =
+    ap (λ b. if b then (v ∷ filter (λ z. has_prefix (out_path o) (out_path z)) os) else filter (λ z. has_prefix (out_path o) (out_path z)) os)
+    (false_if_not (has_prefix (out_path o) (out_path v)) (not_beginning (out_path o) (out_path v) (after_among (out_path v) os h.0 o i)))
+    ∙ one_kept o os h.1 i
+
+pub outputs_stand_alone : OutputsStandAlone
+outputs_stand_alone p q depth o i =
+    let order = query_in_order p.clauses depth q in
+    (one_kept o (query_outs p.clauses depth q) order i, λ l j k. beginning_is o (answers.stuck l) (query_outs p.clauses depth q) order i j k)

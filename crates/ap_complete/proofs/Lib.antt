@@ -10,3 +10,4 @@ pub mod RenamedProofLemmas
 pub mod PairLemmas
 pub mod CoveringLemmas
 pub mod CompletenessLemmas
+pub mod LostProofs

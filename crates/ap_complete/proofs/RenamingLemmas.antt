@@ -47,7 +47,6 @@ use Rattle.ap_complete.specs.NumberedProofs.{IsAmong, IsNamed, kinds_in, kinds_o
 use Rattle.ap_complete.specs.StatementsOnFreshness.{FreshForTerms}
 use Rattle.ap_complete.proofs.ClearingLemmas.{Clearing, clearing, exchange_leaves, fresh_among}
 use Rattle.ap_complete.proofs.MembershipLemmas.{among_map}
-use Rattle.ap_complete.proofs.NameListLemmas.{locals_differ}
 use Rattle.ap_complete.proofs.RestrictionLemmas.{clause_names_fresh}
 
 -- THE NUMBERS THAT A SEARCH TAKES

@@ -65,15 +65,9 @@ SomeStuck (answers.found p a ∷ os) = SomeStuck os
 SomeStuck (answers.cut p ∷ os) = SomeStuck os
 SomeStuck (answers.stuck p ∷ os) = Unit {0}
 
--- COMPLETE ANSWERS, the converse of sound ones
-
--- Each derivable instance of the query, no higher than the depth, is a shown instance of an answer, or a branch is stuck.
-abbrev pub HasCompleteAnswers : NominalProgram → ℕ → NominalQuery → Type 0
-HasCompleteAnswers p depth q =
-    (gs : List GroundTerm) → IsTypedDerivable p q depth gs
-    → SomeAnswer (λ a. IsShownInstance p.signature.constructors q.locals a gs) (query_outs p.clauses depth q) ⊎ SomeStuck (query_outs p.clauses depth q)
-
--- Each derivable instance of the query, however high, is a shown instance of an answer.
-abbrev pub HasAllAnswers : NominalProgram → ℕ → NominalQuery → Type 0
-HasAllAnswers p depth q =
-    (height : ℕ) (gs : List GroundTerm) → IsTypedDerivable p q height gs → SomeAnswer (λ a. IsShownInstance p.signature.constructors q.locals a gs) (query_outs p.clauses depth q)
+-- none is
+abbrev pub HasNoStuckOut : List NominalOut → Type 0
+HasNoStuckOut [] = Unit {0}
+HasNoStuckOut (answers.found p a ∷ os) = HasNoStuckOut os
+HasNoStuckOut (answers.cut p ∷ os) = HasNoStuckOut os
+HasNoStuckOut (answers.stuck p ∷ os) = ⊥

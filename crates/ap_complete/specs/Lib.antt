@@ -5,4 +5,5 @@ pub mod StatementsOnFreshness
 pub mod NumberedProofs
 pub mod StatementsOnSimulation
 pub mod Coverings
+pub mod CompleteAnswers
 pub mod StatementsOnCompleteness
