@@ -1,6 +1,6 @@
 -- Terms under an environment that gives different names to an item's own ones.
-use Rattle.std.proofs.Common.{◌≡◌, ◌≢◌, Bool, true, false, ◌&&◌, ◌||◌, List, [], ◌∷◌, ◌++◌, map, subst, refl, sym, ap, ap₂, ◌∙◌, inl, inr, true≢false}
-use Rattle.std.specs.Prelude.{◌==◌, not, if◌then◌else◌, Option, Some, None}
+use Rattle.std.proofs.Common.{◌≡◌, ◌≢◌, true, false, List, [], ◌∷◌, ◌++◌, map, subst, refl, sym, ap, ap₂, ◌∙◌, inl, inr, true≢false}
+use Rattle.std.specs.Prelude.{not, if◌then◌else◌, Option, Some, None}
 use Rattle.ap_defs.specs.declared.terms.Cond.{Cond}
 use Rattle.ap_defs.specs.declared.terms.Name.{Name}
 use Rattle.ap_defs.specs.declared.terms.Swap.{Swap}
@@ -18,7 +18,7 @@ use Rattle.ap_defs.specs.Terms.{NominalTerm, abs, act_ground, app, name, pair, s
 use Rattle.ap_defs.specs.Types.{NominalKind}
 use Rattle.ap_program.specs.NameRestriction.{conditions_left, stated_conditions}
 use Rattle.ap_theory.specs.Contexts.{Context, Fresh}
-use Rattle.ap_theory.proofs.BooleanLemmas.{and_both, and_left, and_right, or_cases, or_if_left, or_if_right, or_nothing, or_right}
+use Rattle.ap_theory.proofs.BooleanLemmas.{and_both, and_left, and_right, or_cases, or_if_left, or_if_right, or_right}
 use Rattle.ap_theory.proofs.DisagreementLemmas.{has_front, has_name-append}
 use Rattle.ap_theory.proofs.GroundLemmas.{fresh_moved}
 use Rattle.ap_theory.proofs.PermutationLemmas.{act-append, act_inverse, inverse_act, name_decided, name_eq_itself, name_eq_same, name_tells, not_name, swap_left, swap_other, swap_right}
@@ -161,7 +161,7 @@ module _ (e : Environment) (keeps : KeepsSorts e) (own : List Name)
       elim (name_tells a b) [
         | inl w ↦ rw w.0 tt
         | inr w ↦ rw w.0 (left_held a h t (own_later b (names_then t []) o)
-          (or_right (name_eq (e.names a) (e.names b)) (fresh (e.names a) (instance e t)) (other a b h (o b (has_front b (names_then t []))) w.1) f))
+            (or_right (name_eq (e.names a) (e.names b)) (fresh (e.names a) (instance e t)) (other a b h (o b (has_front b (names_then t []))) w.1) f))
       ]
   left_held a h (susp p x) o f = (sym (fresh_susp p (own_swaps p o) x a h) ∙ f, tt)
 

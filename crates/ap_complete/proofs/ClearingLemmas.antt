@@ -1,5 +1,5 @@
 -- Names that are in the way are exchanged for new ones.
-use Rattle.std.proofs.Common.{subst, ◌≡◌, ◌≢◌, ◌<◌, ◌≤◌, ℕ, Bool, true, false, ◌&&◌, ◌||◌, List, [], ◌∷◌, ◌++◌, map, refl, sym, ap, ◌∙◌, inl, inr, arith, true≢false}
+use Rattle.std.proofs.Common.{◌≡◌, ◌<◌, ◌≤◌, ℕ, Bool, true, false, List, [], ◌∷◌, ◌++◌, map, refl, sym, ap, ◌∙◌, inl, inr, arith, true≢false}
 use Rattle.std.specs.Prelude.{not, if◌then◌else◌}
 use Rattle.ap_defs.specs.Alpha.{alpha, fresh}
 use Rattle.ap_defs.specs.GroundProofs.{AreOfSorts}
@@ -11,7 +11,7 @@ use Rattle.ap_defs.specs.declared.terms.Swap.{Swap}
 use Rattle.ap_theory.specs.Exchanges.{exchange, new_names}
 use Rattle.ap_theory.specs.StatementsOnExchanges.{Exchangeable}
 use Rattle.ap_theory.specs.StatementsOnReplacement.{ground_names_then}
-use Rattle.ap_theory.proofs.BooleanLemmas.{and_both, and_left, and_right, false_if_not, or_cases, or_false, or_if_left, or_if_right}
+use Rattle.ap_theory.proofs.BooleanLemmas.{and_both, and_left, false_if_not, or_cases, or_false, or_if_left, or_if_right}
 use Rattle.ap_theory.proofs.DisagreementLemmas.{has_front, has_name-append}
 use Rattle.ap_theory.proofs.ExchangeLemmas.{exchange_exchange, exchange_goes, exchange_other, new_names_apart, new_names_different, new_names_high, new_names_sorts}
 use Rattle.ap_theory.proofs.GroundLemmas.{act_ground-append, act_ground_none, alpha_act, alpha_itself, alpha_swap_fresh, alpha_trans, fresh_act}

@@ -1,11 +1,11 @@
 -- Derivable instances of a query are instances of its answers.
-use Rattle.std.proofs.Common.{subst, ◌≡◌, ◌+◌, ◌≤◌, ℕ, Bool, true, false, ◌&&◌, List, [], ◌∷◌, map, refl, sym, ap, ap₂, ◌∙◌, inl, inr, arith, true≢false}
+use Rattle.std.proofs.Common.{subst, ◌≡◌, ◌+◌, ℕ, Bool, true, false, ◌&&◌, List, [], ◌∷◌, map, refl, sym, ap, ap₂, ◌∙◌, inl, inr, arith, true≢false}
 use Rattle.std.specs.Prelude.{◌⊎◌, ◌==◌, if◌then◌else◌, filter, nat_lt, codes}
 use Rattle.std.specs.Str.{bytes_eq}
 use Rattle.ap_defs.specs.Alpha.{fresh}
 use Rattle.ap_defs.specs.Answers as answers
 use Rattle.ap_defs.specs.Answers.{NominalAnswer, NominalOut, out_path, query_outs}
-use Rattle.ap_defs.specs.Derivations.{GroundProof, path}
+use Rattle.ap_defs.specs.Derivations.{path}
 use Rattle.ap_defs.specs.Freshness.{Conds}
 use Rattle.ap_defs.specs.Goals.{NominalProgram, NominalQuery}
 use Rattle.ap_defs.specs.GroundProofs.{AlphaEach}
@@ -21,8 +21,7 @@ use Rattle.ap_defs.specs.declared.terms.Cond.{Cond}
 use Rattle.ap_defs.specs.declared.terms.Swap.{Swap}
 use Rattle.ap_defs.specs.declared.terms.Var.{Var}
 use Rattle.ap_complete.specs.Restriction.{KeepsRestriction}
-use Rattle.ap_program.specs.Typed.{AreTypedQueries, IsTypedQuery, term_form}
-use Rattle.ap_search.specs.Depths.{HasNoCutOut}
+use Rattle.ap_program.specs.Typed.{AreTypedQueries, term_form}
 use Rattle.ap_search.specs.PathTrees.{AllAfter, AreInPathOrder, is_before}
 use Rattle.ap_search.proofs.DepthLemmas.{query_deeper}
 use Rattle.ap_search.proofs.QueryTreeLemmas.{query_in_order}
@@ -30,10 +29,10 @@ use Rattle.ap_theory.proofs.BooleanLemmas.{and_both, and_left, and_right, false_
 use Rattle.ap_theory.proofs.GroundLemmas.{fresh_act}
 use Rattle.ap_theory.proofs.PermutationLemmas.{inverse_act}
 use Rattle.ap_theory.proofs.TermLemmas.{number_same, same_number}
-use Rattle.ap_ground.specs.ShownInstances.{IsTypedDerivable, shown_terms, vars_among}
+use Rattle.ap_ground.specs.ShownInstances.{shown_terms, vars_among}
 use Rattle.ap_ground.specs.TypedGroundings.{GivesTypes}
 use Rattle.ap_ground.proofs.ShownConditionLemmas.{meets_sorted}
-use Rattle.ap_complete.specs.CompleteAnswers.{HasCompleteAnswers, HaveCompleteAnswers, IsShown}
+use Rattle.ap_complete.specs.CompleteAnswers.{HaveCompleteAnswers, IsShown}
 use Rattle.ap_complete.specs.Coverings.{HasNoStuckOut, IsCovered, IsInstance, IsShownInstance, SomeAnswer, SomeStuck, answered, is_stuck, replace_in_cond}
 use Rattle.ap_complete.specs.NumberedProofs.{IsAmong}
 use Rattle.ap_complete.specs.StatementsOnCompleteness.{AnswersAreComplete, DerivableIsAnswered, OutputsStandAlone, ProgramsAreComplete, WholeAnswersAreAll}
@@ -70,7 +69,7 @@ derivable_answered p restricted q t depth gs h = go (proofs_covered p restricted
 -- WHAT IS SHOWN
 
 -- the conditions under swappings, as conditions under none
-meets_moved : (f : Grounding) (s : List Swap) (ds : Conds) → meets f (map (replace_in_cond s) ds) ≡ meets (λ x. act_ground (inverse s) (f x)) ds
+pub meets_moved : (f : Grounding) (s : List Swap) (ds : Conds) → meets f (map (replace_in_cond s) ds) ≡ meets (λ x. act_ground (inverse s) (f x)) ds
 meets_moved f s [] = refl
 meets_moved f s (c ∷ ds) =
     ap₂ ◌&&◌ (sym (fresh_act (inverse s) (act_name s c.name) (f c.var)) ∙ ap (λ a. fresh a (act_ground (inverse s) (f c.var))) (inverse_act s c.name)) (meets_moved f s ds)
@@ -173,7 +172,6 @@ after_among : (p : List ℕ) (os : List NominalOut) → AllAfter p os → (o : N
 after_among p [] h o i = absurd i
 after_among p (w ∷ os) h o (inl e) = ap (λ z. is_before p (out_path z)) (sym e) ∙ h.0
 after_among p (w ∷ os) h o (inr i) = after_among p os h.1 o i
-
 
 -- where an output is at a beginning of another one's path, it is that one
 beginning_is : (o w : NominalOut) (os : List NominalOut) → AreInPathOrder os → IsAmong o os → IsAmong w os → has_prefix (out_path w) (out_path o) ≡ true → o ≡ w

@@ -1,21 +1,19 @@
 -- Every ground proof of a query, no higher than the depth, is covered.
-use Rattle.std.proofs.Common.{subst, ◌≡◌, ◌+◌, ◌<◌, ◌≤◌, ℕ, zero, suc, Bool, true, false, ◌&&◌, ◌||◌, List, [], ◌∷◌, ◌++◌, map, length, refl, sym, ap, ap₂, ◌∙◌, inl, inr, arith, true≢false}
+use Rattle.std.proofs.Common.{subst, ◌≡◌, ◌+◌, ◌<◌, ◌≤◌, ℕ, zero, suc, true, false, List, [], ◌∷◌, ◌++◌, map, length, refl, sym, ap, ap₂, ◌∙◌, inl, inr, arith, true≢false}
 use Rattle.std.specs.Prelude.{if◌then◌else◌, Option, Some, None}
 use Rattle.std.proofs.lemmas.List.{length-map}
 use Rattle.ap_defs.specs.Alpha.{alpha, fresh}
-use Rattle.ap_defs.specs.Answers as answers
-use Rattle.ap_defs.specs.Answers.{NominalAnswer, answer_in, binds_in, closed_term, derivation_in, kind_at, out_in, query_outs, typed_vars, vars_in, with_type}
+use Rattle.ap_defs.specs.Answers.{answer_in, binds_in, closed_term, derivation_in, kind_at, out_in, typed_vars, vars_in, with_type}
 use Rattle.ap_defs.specs.Derivations as nodes
 use Rattle.ap_defs.specs.Derivations.{GroundProof, height, path}
 use Rattle.ap_defs.specs.Freshness.{Conds, var_eq}
 use Rattle.ap_defs.specs.Goals as goals
 use Rattle.ap_defs.specs.Goals.{NominalGoal, NominalClause, NominalProgram, NominalQuery, clauses_of}
-use Rattle.ap_defs.specs.GroundProofs.{AlphaEach, AreOfSorts, AreOfTypes, Environment, HasTypeOf, IsValid, clause_at, environment, with_name, with_term}
+use Rattle.ap_defs.specs.GroundProofs.{AlphaEach, AreOfSorts, AreOfTypes, Environment, HasTypeOf, IsValid, environment, with_name, with_term}
 use Rattle.ap_defs.specs.Groundings.{Grounding, grounded, meets}
-use Rattle.ap_defs.specs.Occurrences.{free_names, free_vars}
-use Rattle.ap_defs.specs.PathOrder.{has_prefix}
+use Rattle.ap_defs.specs.Occurrences.{free_names}
 use Rattle.ap_defs.specs.Permutations.{act_name, has_name, inverse, name_eq}
-use Rattle.ap_defs.specs.Renaming.{local_names, local_vars, rename_goal, rename_name, rename_var, replace_names}
+use Rattle.ap_defs.specs.Renaming.{local_names, local_vars, rename_var, replace_names}
 use Rattle.ap_defs.specs.Resolution as search
 use Rattle.ap_defs.specs.Resolution.{Output, State, first_state, kinds_of, next_number, solve, solve_query}
 use Rattle.ap_defs.specs.Substitution.{under}
@@ -31,7 +29,7 @@ use Rattle.ap_complete.specs.RenamedProofs.{IsReady, IsRenamed, in_range, is_bro
 use Rattle.ap_complete.specs.Restriction.{KeepsRestriction}
 use Rattle.ap_program.specs.Typed.{AreInhabited, IsTypedProgram, IsTypedQuery, brought, has_number, is_marked, term_form}
 use Rattle.ap_search.proofs.TypingLemmas.{kind_at_back, kind_at_front}
-use Rattle.ap_theory.proofs.BooleanLemmas.{and_both, and_left, and_right, false_if_not, or_cases, or_if_left, or_if_right}
+use Rattle.ap_theory.proofs.BooleanLemmas.{and_both, and_left, and_right, false_if_not, or_cases, or_if_right}
 use Rattle.ap_theory.proofs.DisagreementLemmas.{has_front}
 use Rattle.ap_theory.proofs.GroundLemmas.{act_ground_none, alpha_itself, alpha_move, alpha_trans, fresh_act}
 use Rattle.ap_theory.proofs.GroundingLemmas.{under_alpha}
@@ -55,9 +53,9 @@ use Rattle.ap_complete.specs.Coverings.{IsCovered, IsInstance, LeavesNames, answ
 use Rattle.ap_complete.specs.NumberedProofs as numbered
 use Rattle.ap_complete.specs.NumberedProofs.{IsAmong, IsGiven, IsNamed, IsReached, kinds_in, kinds_of_use}
 use Rattle.ap_complete.specs.StatementsOnCompleteness.{ProofsAreCovered}
-use Rattle.ap_complete.proofs.ClearingLemmas.{Clearing, clearing, fresh_among}
+use Rattle.ap_complete.proofs.ClearingLemmas.{Clearing, clearing}
 use Rattle.ap_complete.proofs.MembershipLemmas.{among_map}
-use Rattle.ap_complete.proofs.PairLemmas.{Gives, KeysApart, Pairs, gives-append, is_given, item_given, item_keys, keys_apart, keys_taken, looked, looked_gives, pairs_in, pairs_of_use, zipped}
+use Rattle.ap_complete.proofs.PairLemmas.{Gives, Pairs, gives-append, is_given, item_given, item_keys, keys_apart, keys_taken, looked, looked_gives, pairs_in, pairs_of_use, zipped}
 use Rattle.ap_complete.proofs.RenamedProofLemmas.{renamed}
 use Rattle.ap_complete.proofs.RenamingLemmas.{brought_is, fresh_term_for, local_place, marked_below, one_marked, range_is}
 use Rattle.ap_complete.proofs.SimulationLemmas.{agree_flip, search_follows_proofs}
@@ -214,8 +212,7 @@ module _ (f : Grounding) (r : State) (solves : Solves f r) (k : List Swap) where
       let bound : alpha (f x) (grounded f u) ≡ true = ap (λ t. alpha t (grounded f u)) (sym (act_ground_none (f x))) ∙ under_alpha f r.bindings solves.agreeing (susp [] x) in
       let here : alpha (act_ground k g) (f x) ≡ true = ap (λ y. alpha (act_ground k g) (f y)) (sym (var_by_none x)) ∙ h.0 in
       let moved : alpha g (act_ground (inverse k) (grounded f u)) ≡ true =
-      sym (alpha_move k g (grounded f u)) ∙ alpha_trans (act_ground k g) (f x) (grounded f u) here bound in
-      (
+      sym (alpha_move k g (grounded f u)) ∙ alpha_trans (act_ground k g) (f x) (grounded f u) here bound in (
         ap (alpha g) (sym (act_grounded (inverse k) f (closed_term r (susp [] x))) ∙ ap (act_ground (inverse k)) (grounded_canonical f u)) ∙ moved,
         back gs xs h.1,
       )

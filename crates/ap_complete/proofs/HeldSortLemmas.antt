@@ -1,5 +1,5 @@
 -- A free name of a ground term has a sort that its type may hold.
-use Rattle.std.proofs.Common.{◌≡◌, ℕ, zero, suc, Bool, true, false, ◌&&◌, ◌||◌, List, [], ◌∷◌, subst, refl, sym, ap, ap₂, ◌∙◌, inl, inr, true≢false}
+use Rattle.std.proofs.Common.{◌≡◌, ℕ, zero, suc, Bool, true, false, ◌&&◌, ◌||◌, List, [], ◌∷◌, refl, sym, ap, ◌∙◌, inl, inr, true≢false}
 use Rattle.std.specs.Prelude.{◌==◌, ◌⊎◌, not, Option, Some, None}
 use Rattle.ap_defs.specs.declared.terms.Name.{Name}
 use Rattle.ap_defs.specs.Alpha.{fresh}
@@ -8,8 +8,8 @@ use Rattle.ap_defs.specs.Printing.{constructor_in}
 use Rattle.ap_defs.specs.Terms.{GroundTerm, abs, app, name, pair, unit}
 use Rattle.ap_defs.specs.Types as types
 use Rattle.ap_defs.specs.Types.{NominalConstructor, NominalType}
-use Rattle.ap_defs.specs.Typing.{IsApplication, IsOfType, IsTyped, Want, arguments, embedded, more, nothing, one}
-use Rattle.ap_types.specs.Holding.{MayHold, holds_if, some_holds}
+use Rattle.ap_defs.specs.Typing.{IsApplication, IsTyped, Want, arguments, embedded, more, nothing, one}
+use Rattle.ap_types.specs.Holding.{holds_if, some_holds}
 use Rattle.ap_types.specs.Rounds.{reached, some_passes}
 use Rattle.ap_theory.proofs.BooleanLemmas.{and_both, or_cases, or_false, or_if_left, or_if_right, or_nothing}
 use Rattle.ap_theory.proofs.PermutationLemmas.{name_eq_same}
@@ -99,11 +99,13 @@ module _ (cs : List NominalConstructor) (a : Name) where
       ]
   free_holds (app zero t) (one (types.list b)) h n = let i = free_holds t nothing h n in absurd (true≢false (sym i.1))
   free_holds (app (suc zero) t) (one (types.list b)) h n =
-      let i = free_holds t (more b (one (types.list b))) h n in
-      (i.0, elim (or_cases (holds_if a.sort (found i.0) b) (holds_if a.sort (found i.0) b || false) i.1) [
-        | inl j ↦ or_if_left (holds_if a.sort (found i.0) b) false j
-        | inr j ↦ j
-      ])
+      let i = free_holds t (more b (one (types.list b))) h n in (
+        i.0,
+        elim (or_cases (holds_if a.sort (found i.0) b) (holds_if a.sort (found i.0) b || false) i.1) [
+          | inl j ↦ or_if_left (holds_if a.sort (found i.0) b) false j
+          | inr j ↦ j
+        ],
+      )
   free_holds (app f t) (one (types.base d)) h n = application_holds t (free_holds t) f d (constructor_in cs f) refl h n
   free_holds (abs b t) (one (types.abs s c)) h n =
       let i = free_holds t (one c) h.1 (or_false (name_eq a b) (fresh a t) n).1 in

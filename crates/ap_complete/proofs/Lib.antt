@@ -11,3 +11,4 @@ pub mod PairLemmas
 pub mod CoveringLemmas
 pub mod CompletenessLemmas
 pub mod LostProofs
+pub mod ExactLemmas

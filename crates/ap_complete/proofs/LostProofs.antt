@@ -13,8 +13,8 @@ use Rattle.ap_defs.specs.Types as types
 use Rattle.ap_defs.specs.Types.{NominalLocal}
 use Rattle.ap_defs.specs.Unification.{ending, unify}
 use Rattle.ap_program.specs.NameRestriction.{IsRestrictedClause}
-use Rattle.ap_program.specs.Typed.{IsScoped, IsTypedProgram, is_marked, stands_free, stands_in_some, stands_in_term}
-use Rattle.ap_complete.specs.CompleteAnswers.{IsCompleteProgram, IsShown}
+use Rattle.ap_program.specs.Typed.{IsTypedProgram, is_marked}
+use Rattle.ap_complete.specs.CompleteAnswers.{IsCompleteProgram}
 use Rattle.ap_complete.specs.Coverings.{IsShownInstance, SomeAnswer, SomeStuck}
 use Rattle.ap_complete.specs.StatementsOnCompleteness.{RestrictionIsNeeded}
 

@@ -1,7 +1,6 @@
 -- Names that stand beside names, and names and terms of an item's identifiers.
-use Rattle.std.proofs.Common.{◌≡◌, ◌≢◌, ◌<◌, ℕ, suc, Bool, true, false, ◌||◌, List, [], ◌∷◌, map, subst, refl, sym, ap, ap₂, ◌∙◌, inl, inr, arith, true≢false}
+use Rattle.std.proofs.Common.{◌≡◌, ◌≢◌, true, false, List, [], ◌∷◌, subst, refl, sym, ap, ◌∙◌, inl, inr, true≢false}
 use Rattle.std.specs.Prelude.{if◌then◌else◌, Option, Some}
-use Rattle.std.proofs.lemmas.Bool.Decides.{nat_tests}
 use Rattle.ap_defs.specs.declared.terms.Name.{Name}
 use Rattle.ap_defs.specs.declared.terms.Var.{Var}
 use Rattle.ap_defs.specs.Alpha.{fresh}
@@ -9,12 +8,11 @@ use Rattle.ap_defs.specs.Answers.{kind_at}
 use Rattle.ap_defs.specs.Freshness.{var_eq}
 use Rattle.ap_defs.specs.GroundProofs.{AreDifferent, AreOfSorts, AreOfTypes, HasTypeOf, name_for, term_for}
 use Rattle.ap_defs.specs.Permutations.{has_name, name_eq}
-use Rattle.ap_defs.specs.Renaming.{local_names, name_unless}
 use Rattle.ap_defs.specs.Terms.{GroundTerm}
 use Rattle.ap_defs.specs.Types as types
 use Rattle.ap_defs.specs.Types.{NominalConstructor, NominalKind, NominalLocal, NominalType}
 use Rattle.ap_defs.specs.Typing.{IsOfType}
-use Rattle.ap_theory.proofs.BooleanLemmas.{or_cases, or_if_left, or_if_right}
+use Rattle.ap_theory.proofs.BooleanLemmas.{or_cases, or_if_right}
 use Rattle.ap_theory.proofs.DisagreementLemmas.{has_front}
 use Rattle.ap_theory.proofs.PermutationLemmas.{name_eq_itself, name_eq_same, name_tells, not_name}
 use Rattle.ap_theory.proofs.TermLemmas.{var_same}

@@ -1,37 +1,28 @@
 -- The terms that a ground proof gives to the variables of a search.
-use Rattle.std.proofs.Common.{subst, ◌≡◌, ◌≢◌, ◌+◌, ◌<◌, ◌≤◌, ℕ, zero, suc, Bool, true, false, ◌&&◌, ◌||◌, List, [], ◌∷◌, ◌++◌, map, length, refl, sym, ap, ap₂, ◌∙◌, inl, inr, arith, true≢false}
+use Rattle.std.proofs.Common.{subst, ◌≡◌, ◌+◌, ◌<◌, ◌≤◌, ℕ, zero, suc, Bool, true, false, ◌||◌, List, [], ◌∷◌, ◌++◌, map, length, refl, sym, ap, ap₂, ◌∙◌, inl, inr, arith, true≢false}
 use Rattle.std.specs.Prelude.{◌==◌, if◌then◌else◌, Option, Some, None}
 use Rattle.std.proofs.lemmas.List.{length-append, length-map}
-use Rattle.std.proofs.lemmas.Bool.Decides.{nat_tests}
-use Rattle.ap_defs.specs.Answers.{kind_at}
 use Rattle.ap_defs.specs.Derivations as nodes
 use Rattle.ap_defs.specs.Derivations.{GroundProof}
 use Rattle.ap_defs.specs.Freshness.{var_eq}
 use Rattle.ap_defs.specs.Goals as goals
 use Rattle.ap_defs.specs.Goals.{NominalGoal, NominalClause, NominalProgram, clauses_of}
-use Rattle.ap_defs.specs.GroundProofs.{AreOfTypes, Environment, HasTypeOf, IsValid, clause_at, environment, with_name, with_term}
+use Rattle.ap_defs.specs.GroundProofs.{AreOfTypes, Environment, IsValid, clause_at, environment, with_name, with_term}
 use Rattle.ap_defs.specs.Groundings.{Grounding}
 use Rattle.ap_defs.specs.Renaming.{local_vars, rename_var, var_unless}
 use Rattle.ap_defs.specs.Resolution.{kinds_of}
-use Rattle.ap_defs.specs.Terms as terms
 use Rattle.ap_defs.specs.Terms.{GroundTerm}
 use Rattle.ap_defs.specs.Types as types
 use Rattle.ap_defs.specs.Types.{NominalConstructor, NominalKind, NominalLocal, NominalType}
-use Rattle.ap_defs.specs.Typing.{IsOfType}
 use Rattle.ap_defs.specs.Unification.{has_var}
-use Rattle.ap_defs.specs.declared.terms.Name.{Name}
 use Rattle.ap_defs.specs.declared.terms.Var.{Var}
-use Rattle.ap_program.specs.Typed.{AreInhabited, AreMarked, EachOnce, IsTypedProgram, brought, has_number, is_marked}
-use Rattle.ap_search.proofs.TypingLemmas.{kind_at_back, kind_at_front}
+use Rattle.ap_program.specs.Typed.{AreMarked, EachOnce, IsTypedProgram, brought, has_number, is_marked}
 use Rattle.ap_theory.proofs.BooleanLemmas.{false_if_not, or_cases, or_false, or_if_left, or_if_right}
 use Rattle.ap_theory.proofs.TermLemmas.{number_same, same_number, same_var, var_same}
-use Rattle.ap_ground.proofs.InstanceTypingLemmas.{inhabited_avoids}
 use Rattle.ap_ground.proofs.ScopeLemmas.{program_clause_typed}
 use Rattle.ap_ground.proofs.ItemEnvironmentLemmas.{vars_from}
-use Rattle.ap_soundness.proofs.StepLemmas.{KindsAt}
 use Rattle.ap_complete.specs.RenamedProofs.{in_range, is_brought, is_taken}
 use Rattle.ap_complete.specs.NumberedProofs.{IsGiven, kinds_in, kinds_of_use}
-use Rattle.ap_complete.proofs.RenamedProofLemmas.{same_clause}
 use Rattle.ap_complete.proofs.RenamingLemmas.{brought_is, is_brought_true, marked_below, number_left, number_right, once_left, once_right, one_marked, range_is, range_true, taken_within}
 
 -- a variable and the term for it

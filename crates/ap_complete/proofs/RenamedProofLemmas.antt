@@ -1,6 +1,6 @@
 -- Every ground proof has one with the names of a search, of the same path and height.
-use Rattle.std.proofs.Common.{subst, ◌≡◌, ◌≢◌, ◌+◌, ◌<◌, ◌≤◌, ℕ, zero, suc, Bool, true, false, ◌&&◌, ◌||◌, List, [], ◌∷◌, ◌++◌, map, length, max, refl, sym, ap, ap₂, ◌∙◌, inl, inr, arith, true≢false}
-use Rattle.std.specs.Prelude.{◌==◌, not, if◌then◌else◌, Option, Some, None}
+use Rattle.std.proofs.Common.{subst, ◌≡◌, ◌≢◌, ◌+◌, ◌<◌, ◌≤◌, ℕ, suc, Bool, true, false, ◌&&◌, ◌||◌, List, [], ◌∷◌, ◌++◌, map, length, max, refl, sym, ap, ap₂, ◌∙◌, inl, inr, arith, true≢false}
+use Rattle.std.specs.Prelude.{◌==◌, not, if◌then◌else◌, Option, Some}
 use Rattle.std.proofs.lemmas.List.{length-append, length-map}
 use Rattle.ap_defs.specs.Alpha.{alpha, fresh}
 use Rattle.ap_defs.specs.Answers.{kind_at}
@@ -9,14 +9,14 @@ use Rattle.ap_defs.specs.Derivations.{GroundProof, height, path}
 use Rattle.ap_defs.specs.Freshness.{var_eq}
 use Rattle.ap_defs.specs.Goals as goals
 use Rattle.ap_defs.specs.Goals.{NominalGoal, NominalClause, NominalProgram, clauses_of}
-use Rattle.ap_defs.specs.GroundProofs.{AlphaEach, AreDifferent, AreOfSorts, Environment, Instantiates, IsNew, IsValid, clause_at, environment, instance, with_name, with_term}
-use Rattle.ap_defs.specs.Occurrences.{free_names, free_vars, names_then, without_name}
+use Rattle.ap_defs.specs.GroundProofs.{AlphaEach, AreOfSorts, Environment, Instantiates, IsNew, IsValid, clause_at, environment, instance, with_name, with_term}
+use Rattle.ap_defs.specs.Occurrences.{free_names, free_vars, without_name}
 use Rattle.ap_defs.specs.Permutations.{act_name, has_name, inverse, name_eq, swap_of}
-use Rattle.ap_defs.specs.Renaming.{local_names, local_vars, rename_name, rename_var}
+use Rattle.ap_defs.specs.Renaming.{local_names, local_vars, rename_name}
 use Rattle.ap_defs.specs.Resolution.{kinds_of}
 use Rattle.ap_defs.specs.Terms as terms
 use Rattle.ap_defs.specs.Terms.{GroundTerm, NominalTerm, act_ground}
-use Rattle.ap_defs.specs.Types.{NominalConstructor, NominalKind, NominalLocal}
+use Rattle.ap_defs.specs.Types.{NominalConstructor, NominalKind}
 use Rattle.ap_defs.specs.Unification.{has_var}
 use Rattle.ap_defs.specs.declared.terms.Name.{Name}
 use Rattle.ap_defs.specs.declared.terms.Swap.{Swap}
@@ -29,10 +29,10 @@ use Rattle.ap_program.specs.Typed.{EachOnce, IsTypedClause, IsTypedGoal, brought
 use Rattle.ap_theory.specs.Exchanges.{exchange}
 use Rattle.ap_theory.specs.StatementsOnExchanges.{Exchangeable}
 use Rattle.ap_theory.proofs.BooleanLemmas.{false_if_not, or_cases, or_false, or_if_left, or_if_right}
-use Rattle.ap_theory.proofs.DisagreementLemmas.{has_front, has_name-append}
+use Rattle.ap_theory.proofs.DisagreementLemmas.{has_name-append}
 use Rattle.ap_theory.proofs.ExchangeLemmas.{exchange_goes, exchange_other}
 use Rattle.ap_theory.proofs.GroundLemmas.{act_ground-append, act_ground_none, alpha_act, alpha_itself, alpha_swap_fresh, alpha_sym, alpha_trans, fresh_act, fresh_alpha}
-use Rattle.ap_theory.proofs.PermutationLemmas.{act_inverse, has_without_name, name_eq_itself, name_eq_same, name_tells, not_name, swap_left, swap_other}
+use Rattle.ap_theory.proofs.PermutationLemmas.{act_inverse, has_without_name, name_eq_same, name_tells, swap_left, swap_other}
 use Rattle.ap_theory.proofs.TermLemmas.{number_same, same_number}
 use Rattle.ap_ground.specs.Environments.{AgreeOn, KeepsSorts, act_environment, act_proof}
 use Rattle.ap_ground.proofs.FreeIdentifierLemmas.{has_var-append, has_without_var, proofs_see_free}

@@ -1,19 +1,16 @@
 -- A ground proof whose names are exchanged for those of a search.
-use Rattle.std.proofs.Common.{subst, ◌≡◌, ◌≢◌, ◌+◌, ◌<◌, ◌≤◌, ℕ, zero, suc, Bool, true, false, ◌&&◌, ◌||◌, List, [], ◌∷◌, ◌++◌, map, length, refl, sym, ap, ap₂, ◌∙◌, inl, inr, arith, true≢false}
-use Rattle.std.specs.Prelude.{◌==◌, not, nat_lt, if◌then◌else◌, Option, Some, None}
-use Rattle.std.proofs.lemmas.Bool.Decides.{eqb_tells, nat_tests}
-use Rattle.std.proofs.lemmas.List.{length-append, length-map}
+use Rattle.std.proofs.Common.{◌≡◌, ◌+◌, ◌<◌, ◌≤◌, ℕ, zero, suc, Bool, true, false, List, [], ◌∷◌, ◌++◌, map, length, refl, sym, ap, ap₂, ◌∙◌, inl, inr, arith, true≢false}
+use Rattle.std.specs.Prelude.{◌==◌, not, if◌then◌else◌}
+use Rattle.std.proofs.lemmas.Bool.Decides.{nat_tests}
 use Rattle.ap_defs.specs.Alpha.{alpha, fresh}
 use Rattle.ap_defs.specs.Derivations as nodes
 use Rattle.ap_defs.specs.Derivations.{GroundProof, height, path}
 use Rattle.ap_defs.specs.Freshness.{var_eq}
-use Rattle.ap_defs.specs.Goals as goals
-use Rattle.ap_defs.specs.Goals.{NominalGoal, NominalClause, NominalProgram, clauses_of}
-use Rattle.ap_defs.specs.GroundProofs.{AlphaEach, AreOfSorts, Environment, HasTypeOf, Instantiates, IsNew, IsValid, clause_at, environment, instance, name_for, swap_under, term_for, with_name, with_term}
-use Rattle.ap_defs.specs.Occurrences.{free_names, free_vars, names_of_terms, names_then, vars_of_terms}
-use Rattle.ap_defs.specs.Permutations.{act_name, has_name, left_name, name_eq, names_of, right_name, swap_name, swap_of}
-use Rattle.ap_defs.specs.Renaming.{local_names, local_vars, name_unless, rename_name, rename_var}
-use Rattle.ap_defs.specs.Resolution.{kinds_of}
+use Rattle.ap_defs.specs.Goals.{NominalGoal}
+use Rattle.ap_defs.specs.GroundProofs.{AlphaEach, Environment, instance, swap_under, term_for}
+use Rattle.ap_defs.specs.Occurrences.{names_of_terms, names_then, vars_of_terms}
+use Rattle.ap_defs.specs.Permutations.{act_name, has_name, left_name, name_eq, names_of, right_name, swap_name}
+use Rattle.ap_defs.specs.Renaming.{local_names, name_unless}
 use Rattle.ap_defs.specs.Terms as terms
 use Rattle.ap_defs.specs.Terms.{GroundTerm, NominalTerm, act_ground}
 use Rattle.ap_defs.specs.Types as types
@@ -23,31 +20,16 @@ use Rattle.ap_defs.specs.declared.terms.Name.{Name}
 use Rattle.ap_defs.specs.declared.terms.Swap.{Swap}
 use Rattle.ap_defs.specs.declared.terms.Var.{Var}
 use Rattle.ap_complete.specs.RenamedProofs.{in_range, is_brought, is_taken}
-use Rattle.ap_complete.specs.Restriction.{KeepsRestriction}
-use Rattle.ap_program.specs.RawTyping.{HasTermType}
-use Rattle.ap_program.specs.Typed.{AreMarked, EachOnce, IsTypedGoal, brought, has_number, is_marked, stands_free, stands_in_term}
-use Rattle.ap_theory.specs.Exchanges.{exchange}
-use Rattle.ap_theory.proofs.BooleanLemmas.{and_both, and_left, and_right, false_if_not, or_cases, or_false, or_if_left, or_if_right}
-use Rattle.ap_theory.proofs.DisagreementLemmas.{has_front, has_name-append}
-use Rattle.ap_theory.proofs.ExchangeLemmas.{exchange_goes, exchange_other}
-use Rattle.ap_theory.proofs.GroundLemmas.{act_ground-append, alpha_act, alpha_itself, alpha_swap_fresh, alpha_trans, fresh_act, fresh_alpha}
-use Rattle.ap_theory.proofs.PermutationLemmas.{act-append, act_inverse, has_without_name, name_decided, name_eq_same, name_tells, not_name, swap_left, swap_name_fixes, swap_other}
+use Rattle.ap_program.specs.Typed.{AreMarked, EachOnce, brought, has_number, is_marked}
+use Rattle.ap_theory.proofs.BooleanLemmas.{and_both, false_if_not, or_cases, or_if_left, or_if_right}
+use Rattle.ap_theory.proofs.DisagreementLemmas.{has_front}
+use Rattle.ap_theory.proofs.GroundLemmas.{act_ground-append, alpha_trans, fresh_act}
+use Rattle.ap_theory.proofs.PermutationLemmas.{act-append, name_eq_same, swap_name_fixes}
 use Rattle.ap_theory.proofs.TermLemmas.{number_same, same_number, same_var, var_same}
-use Rattle.ap_defs.specs.Permutations.{inverse}
-use Rattle.ap_ground.specs.Environments.{AgreeOn, KeepsSorts, act_environment, act_proof}
-use Rattle.ap_ground.proofs.FreeIdentifierLemmas.{has_var-append, has_without_var, proofs_see_free}
-use Rattle.ap_ground.proofs.GroundTypingLemmas.{type_of_act}
+use Rattle.ap_ground.specs.Environments.{KeepsSorts, act_proof}
 use Rattle.ap_ground.proofs.ListLemmas.{has_names_then, has_vars_then}
-use Rattle.ap_ground.proofs.ProofActionLemmas.{has_act, height_act, instance_act, instantiates_act, keeps_environment, proofs_equivariant}
-use Rattle.ap_ground.proofs.ScopeLemmas.{goal_local, program_clause_typed, stands_goal}
-use Rattle.ap_ground.proofs.ItemEnvironmentLemmas.{goal_vars_local, item_agrees, names_from}
-use Rattle.ap_ground.proofs.OccurrenceLemmas.{has_without}
-use Rattle.ap_ground.proofs.ShiftLemmas.{rename_apart}
-use Rattle.ap_complete.specs.NumberedProofs.{IsAmong, IsNamed, kinds_in, kinds_of_use}
+use Rattle.ap_complete.specs.NumberedProofs.{IsAmong}
 use Rattle.ap_complete.specs.StatementsOnFreshness.{FreshForTerms}
-use Rattle.ap_complete.proofs.ClearingLemmas.{Clearing, clearing, exchange_leaves, fresh_among}
-use Rattle.ap_complete.proofs.MembershipLemmas.{among_map}
-use Rattle.ap_complete.proofs.RestrictionLemmas.{clause_names_fresh}
 
 -- THE NUMBERS THAT A SEARCH TAKES
 
@@ -201,11 +183,10 @@ module _ (e : Environment) (keeps : KeepsSorts e) (a : Name) where
   unmoved [] as' h = (refl, h)
   unmoved (s ∷ p) as' h =
       let later = none_rest (left_name s) (right_name s ∷ names_of p ++ as') h in
-      let k = unmoved p as' (none_rest (right_name s) (names_of p ++ as') later) in
-      (
+      let k = unmoved p as' (none_rest (right_name s) (names_of p ++ as') later) in (
         ap (swap_name (swap_under e s)) k.0
-        ∙ swap_name_fixes (swap_under e s) a (ap (name_eq a) (left_under s) ∙ none_first (left_name s) (right_name s ∷ names_of p ++ as') h)
-        (ap (name_eq a) (right_under s) ∙ none_first (right_name s) (names_of p ++ as') later),
+            ∙ swap_name_fixes (swap_under e s) a (ap (name_eq a) (left_under s) ∙ none_first (left_name s) (right_name s ∷ names_of p ++ as') h)
+            (ap (name_eq a) (right_under s) ∙ none_first (right_name s) (names_of p ++ as') later),
         k.1,
       )
 

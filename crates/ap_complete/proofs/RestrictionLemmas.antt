@@ -1,33 +1,30 @@
 -- A clause's own names are fresh for the atom, wherever its head matches and its body has a ground proof.
-use Rattle.std.proofs.Common.{◌≡◌, ℕ, zero, suc, true, List, [], ◌∷◌, map, subst, refl, sym, ap, ◌∙◌, inl, inr}
-use Rattle.std.specs.Prelude.{◌⊎◌, Option, Some}
+use Rattle.std.proofs.Common.{◌≡◌, ℕ, zero, suc, true, List, [], ◌∷◌, map, subst, sym, ap, ◌∙◌, inl, inr}
+use Rattle.std.specs.Prelude.{Some}
 use Rattle.ap_defs.specs.declared.terms.Name.{Name}
 use Rattle.ap_defs.specs.declared.terms.Var.{Var}
 use Rattle.ap_defs.specs.Alpha.{fresh}
-use Rattle.ap_defs.specs.Derivations.{GroundProof}
-use Rattle.ap_defs.specs.Goals.{Clauses, NominalClause, NominalProgram, clauses_of}
-use Rattle.ap_defs.specs.GroundProofs.{AlphaEach, Environment, Instantiates, IsValid, clause_at, environment, instance}
+use Rattle.ap_defs.specs.Goals.{Clauses, NominalClause, clauses_of}
+use Rattle.ap_defs.specs.GroundProofs.{AlphaEach, Environment, clause_at, environment, instance}
 use Rattle.ap_defs.specs.Occurrences.{names_of_terms, names_then}
 use Rattle.ap_defs.specs.Permutations.{has_name}
 use Rattle.ap_defs.specs.Renaming.{local_names, local_vars}
 use Rattle.ap_defs.specs.Resolution.{kinds_of}
 use Rattle.ap_defs.specs.Terms.{GroundTerm, NominalTerm}
 use Rattle.ap_defs.specs.Types.{NominalConstructor}
-use Rattle.ap_program.specs.NameRestriction.{AreFreshForHead, AreRestrictedClauses, AreRestrictedLists, CannotHold, FreshForEach, IsFreshForHead, IsRestrictedClause, known_in, stated_conditions}
+use Rattle.ap_program.specs.NameRestriction.{AreFreshForHead, AreRestrictedClauses, AreRestrictedLists, FreshForEach, IsFreshForHead, IsRestrictedClause, known_in, stated_conditions}
 use Rattle.ap_theory.specs.Contexts.{Context, Fresh}
 use Rattle.ap_types.specs.Holding.{MayHold}
 use Rattle.ap_theory.proofs.BooleanLemmas.{or_cases, or_if_left, or_if_right}
 use Rattle.ap_theory.proofs.GroundLemmas.{fresh_alpha}
 use Rattle.ap_theory.proofs.PermutationLemmas.{name_eq_same}
 use Rattle.ap_defs.specs.Permutations.{name_eq}
-use Rattle.ap_ground.specs.Environments.{KeepsSorts}
 use Rattle.ap_ground.proofs.ItemEnvironmentLemmas.{locals_differ}
 use Rattle.ap_ground.proofs.ListLemmas.{has_names_then}
 use Rattle.ap_ground.proofs.ProofActionLemmas.{keeps_environment}
 use Rattle.ap_ground.proofs.ScopeLemmas.{arguments_local, goal_local, program_clause_typed}
-use Rattle.ap_complete.specs.Restriction.{KeepsRestriction}
 use Rattle.ap_complete.specs.StatementsOnFreshness.{ClauseNamesAreFresh, FreshForTerms}
-use Rattle.ap_complete.proofs.ClauseNameLemmas.{AllOwn, body_held, fresh_instance, held_has}
+use Rattle.ap_complete.proofs.ClauseNameLemmas.{body_held, fresh_instance, held_has}
 use Rattle.ap_complete.proofs.HeldSortLemmas.{sorts_not_held_fresh}
 use Rattle.ap_complete.proofs.NameListLemmas.{name_for_apart, name_image, term_for_fresh}
 
@@ -82,6 +79,6 @@ clause_names_fresh p restricted q k c at names gs fits proof valid ts same a h =
     each e own d a b k [] (t ∷ ts) o f s = absurd s
     each e own d a b k (u ∷ us) (t ∷ ts) o f s = (
       fresh_alpha a t (instance e u) s.0
-      ∙ k u (λ x i. o x (has_names_then x u (names_of_terms us) ∙ or_if_left (has_name x (names_then u [])) (has_name x (names_of_terms us)) i)) f.0,
+          ∙ k u (λ x i. o x (has_names_then x u (names_of_terms us) ∙ or_if_left (has_name x (names_then u [])) (has_name x (names_of_terms us)) i)) f.0,
       each e own d a b k us ts (λ x i. o x (has_names_then x u (names_of_terms us) ∙ or_if_right (has_name x (names_then u [])) (has_name x (names_of_terms us)) i)) f.1 s.1,
     )

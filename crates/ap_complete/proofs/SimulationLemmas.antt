@@ -1,5 +1,5 @@
 -- A search follows a ground proof that has its names and a grounding's terms.
-use Rattle.std.proofs.Common.{subst, ◌≡◌, ◌+◌, ◌≤◌, ℕ, zero, suc, Bool, true, false, ◌&&◌, List, [], ◌∷◌, ◌++◌, map, length, refl, sym, ap, ap₂, ◌∙◌, inl, inr, arith, true≢false}
+use Rattle.std.proofs.Common.{subst, ◌≡◌, ◌+◌, ◌≤◌, ℕ, zero, suc, true, ◌&&◌, List, [], ◌∷◌, ◌++◌, map, length, refl, sym, ap, ap₂, ◌∙◌, inl, arith, true≢false}
 use Rattle.std.specs.Prelude.{Option, Some, None}
 use Rattle.std.proofs.lemmas.List.{append-nil, append_assoc, length-append, length-map}
 use Rattle.ap_defs.specs.Alpha.{alpha}
@@ -8,7 +8,7 @@ use Rattle.ap_defs.specs.Derivations as nodes
 use Rattle.ap_defs.specs.Derivations.{GroundProof, height, path}
 use Rattle.ap_defs.specs.Freshness.{add_conds, both as both_lists, reduce}
 use Rattle.ap_defs.specs.Goals.{NominalGoal, NominalClause, NominalProgram, atom, both, clauses_of, either, equal, exists, fresh, new, succeed}
-use Rattle.ap_defs.specs.GroundProofs.{AlphaEach, IsFresh, IsNew, IsValid, Environment, clause_at, environment, instance, with_name, with_term}
+use Rattle.ap_defs.specs.GroundProofs.{AlphaEach, IsFresh, IsNew, IsValid, Environment, clause_at, environment, instance, with_name}
 use Rattle.ap_defs.specs.Groundings.{Grounding, agrees, equates_all, grounded, is_instance, meets}
 use Rattle.ap_defs.specs.Occurrences.{free_vars}
 use Rattle.ap_defs.specs.Renaming.{local_names, local_vars, rename_goal, rename_name, rename_term, rename_var}
@@ -17,7 +17,7 @@ use Rattle.ap_defs.specs.Resolution as search
 use Rattle.ap_defs.specs.Substitution.{Binding, under}
 use Rattle.ap_defs.specs.Terms as terms
 use Rattle.ap_defs.specs.Terms.{GroundTerm, NominalTerm}
-use Rattle.ap_defs.specs.Types.{NominalConstructor, NominalKind, NominalLocal}
+use Rattle.ap_defs.specs.Types.{NominalConstructor, NominalKind}
 use Rattle.ap_defs.specs.Unification.{Unified, has_var, reduce_all, unify}
 use Rattle.ap_defs.specs.declared.terms.Cond.{Cond}
 use Rattle.ap_defs.specs.declared.terms.Name.{Name}
@@ -33,7 +33,7 @@ use Rattle.ap_ground.specs.Environments.{AgreeOn}
 use Rattle.ap_ground.proofs.AlphaLemmas.{alpha_each_sym}
 use Rattle.ap_ground.proofs.EnvironmentLemmas.{instances_agree}
 use Rattle.ap_ground.proofs.FreeIdentifierLemmas.{proofs_see_free}
-use Rattle.ap_ground.proofs.ScopeLemmas.{arguments_local, goal_local, program_clause_typed}
+use Rattle.ap_ground.proofs.ScopeLemmas.{program_clause_typed}
 use Rattle.ap_soundness.specs.FoundStates.{Solves}
 use Rattle.ap_soundness.proofs.BackwardLemmas.{under_name}
 use Rattle.ap_ground.proofs.ItemEnvironmentLemmas.{agrees_on_body, agrees_on_head, item_environment}
@@ -41,7 +41,7 @@ use Rattle.ap_ground.proofs.OccurrenceLemmas.{has_var_of_map}
 use Rattle.ap_ground.proofs.ShiftLemmas.{free_vars_renamed, shifted, shifted_instance, with_own_name, with_own_term}
 use Rattle.ap_complete.specs.NumberedProofs.{IsAmong, IsGiven, IsNamed, IsReached, answered, is_stuck, kinds_in, kinds_of_use}
 use Rattle.ap_complete.specs.StatementsOnSimulation.{SearchFollowsProofs}
-use Rattle.ap_complete.proofs.MembershipLemmas.{among_clauses, among_each, among_left, among_map, among_right, prefix_below, prefix_longer, reached_among, reached_as, reached_below, stuck_each}
+use Rattle.ap_complete.proofs.MembershipLemmas.{among_clauses, among_each, among_left, among_right, prefix_below, prefix_longer, reached_among, reached_as, reached_below, stuck_each}
 
 -- the other way round
 pub agree_flip : (g : NominalGoal) (e f : Environment) → AgreeOn g e f → AgreeOn g f e

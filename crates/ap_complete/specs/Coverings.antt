@@ -5,7 +5,6 @@ use Rattle.ap_defs.specs.declared.terms.Name.{Name}
 use Rattle.ap_defs.specs.declared.terms.Swap.{Swap}
 use Rattle.ap_defs.specs.Answers as answers
 use Rattle.ap_defs.specs.Answers.{NominalAnswer, NominalOut, query_outs}
-use Rattle.ap_defs.specs.Freshness.{Conds}
 use Rattle.ap_defs.specs.Goals.{NominalProgram, NominalQuery}
 use Rattle.ap_defs.specs.GroundProofs.{AlphaEach}
 use Rattle.ap_defs.specs.Groundings.{Grounding, grounded, meets}
@@ -15,7 +14,7 @@ use Rattle.ap_defs.specs.Permutations.{act_name, has_name}
 use Rattle.ap_defs.specs.Renaming.{local_names, replace_names}
 use Rattle.ap_defs.specs.Terms.{GroundTerm}
 use Rattle.ap_defs.specs.Types.{NominalConstructor, NominalLocal}
-use Rattle.ap_ground.specs.ShownInstances.{IsTypedDerivable, shown_terms, vars_among}
+use Rattle.ap_ground.specs.ShownInstances.{shown_terms, vars_among}
 use Rattle.ap_ground.specs.TypedGroundings.{GivesTypes}
 use Rattle.ap_complete.specs.NumberedProofs.{IsAmong}
 

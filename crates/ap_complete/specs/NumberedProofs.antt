@@ -1,7 +1,6 @@
 -- Ground proofs whose names and terms are those to which a search comes: a clause is used with its identifiers as the search numbers
 -- them, and a grounding gives the terms of the variables.
 use Rattle.std.specs.Prelude.{◌≡◌, ◌⊎◌, ◌+◌, ℕ, true, List, [], ◌∷◌, ◌++◌, map, length, Option, Some, None}
-use Rattle.ap_defs.specs.declared.terms.Name.{Name}
 use Rattle.ap_defs.specs.Derivations as nodes
 use Rattle.ap_defs.specs.Derivations.{GroundProof, NominalDerivation}
 use Rattle.ap_defs.specs.Goals.{NominalGoal, NominalClause, NominalProgram, atom, both, either, exists, new, clauses_of}

@@ -4,7 +4,7 @@ use Rattle.ap_defs.specs.Answers as answers
 use Rattle.ap_defs.specs.Answers.{NominalOut, out_path, outs_at, query_outs}
 use Rattle.ap_defs.specs.Derivations.{GroundProof, height, path}
 use Rattle.ap_defs.specs.Goals.{NominalProgram, NominalQuery}
-use Rattle.ap_defs.specs.GroundProofs.{AreOfTypes, IsValid, environment}
+use Rattle.ap_defs.specs.GroundProofs.{AreOfTypes, IsDerivable, IsValid, environment}
 use Rattle.ap_defs.specs.PathOrder.{has_prefix}
 use Rattle.ap_defs.specs.Renaming.{local_names, local_vars}
 use Rattle.ap_defs.specs.Resolution.{kinds_of}
@@ -39,6 +39,11 @@ abbrev pub WholeAnswersAreAll : Type 0
 WholeAnswersAreAll = (p : NominalProgram) → KeepsRestriction p → (q : NominalQuery) → IsTypedQuery term_form p.signature q → (depth : ℕ)
     → HasNoCutOut (query_outs p.clauses depth q) → HasNoStuckOut (query_outs p.clauses depth q)
     → (height : ℕ) (gs : List GroundTerm) → IsTypedDerivable p q height gs → SomeAnswer (λ a. IsInstance p.signature.constructors q.locals a gs) (query_outs p.clauses depth q)
+
+-- and no other one is: an instance of an answer is derivable
+abbrev pub InstancesAreDerivable : Type 0
+InstancesAreDerivable = (p : NominalProgram) → IsTypedProgram p → (q : NominalQuery) → IsTypedQuery term_form p.signature q → (depth : ℕ) (gs : List GroundTerm)
+    → SomeAnswer (λ a. IsInstance p.signature.constructors q.locals a gs) (query_outs p.clauses depth q) → IsDerivable p q gs depth
 
 -- the same in the terms of what is shown
 abbrev pub AnswersAreComplete : Type 0
