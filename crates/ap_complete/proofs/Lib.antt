@@ -6,8 +6,12 @@ pub mod MembershipLemmas
 pub mod SimulationLemmas
 pub mod ClearingLemmas
 pub mod RenamingLemmas
+pub mod ReadyLemmas
+pub mod BinderLemmas
+pub mod AtomLemmas
 pub mod RenamedProofLemmas
 pub mod PairLemmas
+pub mod TypedPairLemmas
 pub mod CoveringLemmas
 pub mod CompletenessLemmas
 pub mod LostProofs
