@@ -6,6 +6,7 @@
 #![tactic(auto)]
 
 pub mod copies;
+pub mod faults;
 pub mod goals;
 pub mod ground;
 pub mod lists;
