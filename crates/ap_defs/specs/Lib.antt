@@ -21,3 +21,4 @@ pub mod Printing
 pub mod Lines
 pub mod Typing
 pub mod GroundProofs
+pub mod Limits

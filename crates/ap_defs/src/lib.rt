@@ -8,6 +8,7 @@
 pub mod copies;
 pub mod goals;
 pub mod ground;
+pub mod limits;
 pub mod lists;
 pub mod memory;
 pub mod outcomes;
