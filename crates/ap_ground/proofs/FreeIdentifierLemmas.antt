@@ -25,20 +25,20 @@ use Rattle.ap_ground.specs.StatementsOnGroundProofs.{ProofsSeeFreeIdentifiers}
 use Rattle.ap_ground.proofs.EnvironmentLemmas.{instance_agrees_then, instances_agree}
 
 -- Lists of names and variables.
-name_in_left : (b : Name) (as' bs : List Name) → has_name b as' ≡ true → has_name b (as' ++ bs) ≡ true
+pub name_in_left : (b : Name) (as' bs : List Name) → has_name b as' ≡ true → has_name b (as' ++ bs) ≡ true
 name_in_left b as' bs h = has_name-append b as' bs ∙ or_if_left (has_name b as') (has_name b bs) h
 
-name_in_right : (b : Name) (as' bs : List Name) → has_name b bs ≡ true → has_name b (as' ++ bs) ≡ true
+pub name_in_right : (b : Name) (as' bs : List Name) → has_name b bs ≡ true → has_name b (as' ++ bs) ≡ true
 name_in_right b as' bs h = has_name-append b as' bs ∙ or_if_right (has_name b as') (has_name b bs) h
 
 pub has_var-append : (x : Var) (xs ys : List Var) → has_var x (xs ++ ys) ≡ (has_var x xs || has_var x ys)
 has_var-append x [] ys = refl
 has_var-append x (y ∷ xs) ys = ap (λ b. var_eq x y || b) (has_var-append x xs ys) ∙ sym (or_assoc (var_eq x y) (has_var x xs) (has_var x ys))
 
-var_in_left : (x : Var) (xs ys : List Var) → has_var x xs ≡ true → has_var x (xs ++ ys) ≡ true
+pub var_in_left : (x : Var) (xs ys : List Var) → has_var x xs ≡ true → has_var x (xs ++ ys) ≡ true
 var_in_left x xs ys h = has_var-append x xs ys ∙ or_if_left (has_var x xs) (has_var x ys) h
 
-var_in_right : (x : Var) (xs ys : List Var) → has_var x ys ≡ true → has_var x (xs ++ ys) ≡ true
+pub var_in_right : (x : Var) (xs ys : List Var) → has_var x ys ≡ true → has_var x (xs ++ ys) ≡ true
 var_in_right x xs ys h = has_var-append x xs ys ∙ or_if_right (has_var x xs) (has_var x ys) h
 
 pub has_without_var : (x y : Var) (ys : List Var) → var_eq x y ≡ false → has_var y ys ≡ true → has_var y (without_var x ys) ≡ true

@@ -10,3 +10,7 @@ pub mod ShownConditionLemmas
 pub mod ShownExchangeLemmas
 pub mod FillerLemmas
 pub mod ShownLemmas
+pub mod AlphaLemmas
+pub mod ShiftLemmas
+pub mod OccurrenceLemmas
+pub mod ItemEnvironmentLemmas

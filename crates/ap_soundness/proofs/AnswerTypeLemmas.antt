@@ -21,8 +21,8 @@ use Rattle.ap_search.proofs.TypingLemmas.{under_typed}
 use Rattle.ap_theory.proofs.BooleanLemmas.{or_if_left, or_if_right}
 use Rattle.ap_ground.specs.TypedGroundings.{GivesKinds, GivesTypes}
 use Rattle.ap_ground.proofs.InstanceTypingLemmas.{grounded_typed}
-use Rattle.ap_soundness.proofs.EnvironmentLemmas.{free_is_variable, types_renamed}
-use Rattle.ap_soundness.proofs.OccurrenceLemmas.{IsVariable, var_stands}
+use Rattle.ap_ground.proofs.ItemEnvironmentLemmas.{free_is_variable, types_renamed}
+use Rattle.ap_ground.proofs.OccurrenceLemmas.{IsVariable, var_stands}
 use Rattle.ap_soundness.proofs.StepLemmas.{KindsKept}
 use Rattle.ap_soundness.proofs.AnswerVarLemmas.{canonical_vars, given_type, has_ascending, has_in_closed}
 use Rattle.ap_soundness.proofs.ClosingLemmas.{closing}
@@ -55,7 +55,7 @@ module _ (cs : List NominalConstructor) (locals : List NominalLocal) (s : State)
       has_ascending y ((bound_vars ++ cond_vars) ++ brought_vars)
       (has_var-append y (bound_vars ++ cond_vars) brought_vars ∙ or_if_right (has_var y (bound_vars ++ cond_vars)) (has_var y brought_vars) there)
 
-  locals_answered : AreAnswered (local_vars 0 locals)
+  pub locals_answered : AreAnswered (local_vars 0 locals)
   locals_answered x y h k =
       let there = has_in_closed s x y (local_vars 0 locals) h (closed_has x y k) in
       has_ascending y ((bound_vars ++ cond_vars) ++ brought_vars)

@@ -4,21 +4,20 @@ use Rattle.std.specs.Prelude.{Option, Some, None}
 use Rattle.ap_defs.specs.Alpha.{alpha}
 use Rattle.ap_defs.specs.Alpha as ground
 use Rattle.ap_defs.specs.Freshness.{add_conds, both as both_lists, reduce, var_eq}
-use Rattle.ap_defs.specs.GroundProofs.{AlphaEach}
 use Rattle.ap_defs.specs.Groundings.{Grounding, agrees, equates_all, grounded, is_instance, meets}
 use Rattle.ap_defs.specs.Resolution.{State, fresh_for_each}
 use Rattle.ap_defs.specs.Substitution.{Binding, under}
-use Rattle.ap_defs.specs.Terms.{GroundTerm, NominalTerm, name, susp, unit, pair, app, abs}
+use Rattle.ap_defs.specs.Terms.{NominalTerm, name, susp}
 use Rattle.ap_defs.specs.Unification.{Unified, has_var, reduce_all, unify}
 use Rattle.ap_defs.specs.declared.terms.Cond.{Cond}
 use Rattle.ap_defs.specs.declared.terms.Name.{Name}
 use Rattle.ap_defs.specs.declared.terms.Var.{Var}
 use Rattle.ap_theory.specs.StatementsOnGroundings.{meets_some}
 use Rattle.ap_theory.proofs.BooleanLemmas.{and_both, and_left, and_right, or_cases}
-use Rattle.ap_theory.proofs.GroundLemmas.{act_ground_none, alpha_sym, fresh_alpha}
+use Rattle.ap_theory.proofs.GroundLemmas.{act_ground_none, fresh_alpha}
 use Rattle.ap_theory.proofs.GroundingLemmas.{fresh_reduce, meets_add_all, under_alpha, unify_instances}
-use Rattle.ap_theory.proofs.PermutationLemmas.{name_eq_same}
 use Rattle.ap_theory.proofs.TermLemmas.{var_same}
+use Rattle.ap_ground.proofs.AlphaLemmas.{alpha_name}
 use Rattle.ap_soundness.specs.FoundStates.{Solves}
 
 module _ (g : Grounding) where
@@ -68,20 +67,5 @@ module _ (g : Grounding) where
         | inr i ↦ reduce_all_back bs a h ys parts.1 x i
       ]
 
-  -- what is equal to a name is that name
-  alpha_name : (t : GroundTerm) (a : Name) → alpha t (name a) ≡ true → t ≡ name a
-  alpha_name unit a h = absurd (true≢false (sym h))
-  alpha_name (name b) a h = ap name (name_eq_same b a h)
-  alpha_name (pair t u) a h = absurd (true≢false (sym h))
-  alpha_name (app f t) a h = absurd (true≢false (sym h))
-  alpha_name (abs b t) a h = absurd (true≢false (sym h))
-
   pub under_name : (bs : List Binding) (t : NominalTerm) (a : Name) → agrees g bs ≡ true → under bs t ≡ name a → grounded g t ≡ name a
   under_name bs t a h e = alpha_name (grounded g t) a (ap (λ u. alpha (grounded g t) (grounded g u)) (sym e) ∙ under_alpha g bs h t)
-
--- equal each, the other way round
-pub alpha_each_sym : (gs hs : List GroundTerm) → AlphaEach gs hs → AlphaEach hs gs
-alpha_each_sym [] [] h = tt
-alpha_each_sym [] (u ∷ us) h = absurd h
-alpha_each_sym (t ∷ ts) [] h = absurd h
-alpha_each_sym (t ∷ ts) (u ∷ us) h = (alpha_sym t u h.0, alpha_each_sym ts us h.1)

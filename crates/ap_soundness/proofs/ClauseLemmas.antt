@@ -21,14 +21,13 @@ use Rattle.ap_program.specs.Typed.{AreArguments, AreInhabited, HaveTypes, IsType
 use Rattle.ap_search.proofs.RecordLemmas.{has_var-append, vars_of_terms-append}
 use Rattle.ap_search.proofs.TypingLemmas.{kind_at_back, kind_at_front}
 use Rattle.ap_theory.proofs.BooleanLemmas.{and_left, and_right, or_cases, or_if_left, or_if_right}
-use Rattle.ap_ground.specs.Environments.{AgreeOn}
 use Rattle.ap_ground.proofs.EnvironmentLemmas.{instances_agree}
 use Rattle.ap_ground.proofs.FreeIdentifierLemmas.{proofs_see_free}
-use Rattle.ap_ground.proofs.ScopeLemmas.{arguments_local, goal_local}
-use Rattle.ap_soundness.proofs.BackwardLemmas.{alpha_each_sym, unify_back}
-use Rattle.ap_soundness.proofs.EnvironmentLemmas.{free_is_variable, goal_vars_local, instantiates, item_agrees, item_environment, node_terms, vars_from}
-use Rattle.ap_soundness.proofs.OccurrenceLemmas.{IsVariable, has_var_of_map}
-use Rattle.ap_soundness.proofs.ShiftLemmas.{has_renamed, shifted, shifted_instance}
+use Rattle.ap_ground.proofs.AlphaLemmas.{alpha_each_sym}
+use Rattle.ap_soundness.proofs.BackwardLemmas.{unify_back}
+use Rattle.ap_ground.proofs.ItemEnvironmentLemmas.{agrees_on_body, agrees_on_head, free_is_variable, instantiates, item_environment, node_terms, vars_from}
+use Rattle.ap_ground.proofs.OccurrenceLemmas.{IsVariable, has_var_of_map}
+use Rattle.ap_ground.proofs.ShiftLemmas.{has_renamed, shifted, shifted_instance}
 use Rattle.ap_soundness.proofs.StepLemmas.{FoundFrom, KindsKept, ground_proof, vars_in_nodes}
 
 module _ (p : NominalProgram) where
@@ -75,13 +74,13 @@ module _ (p : NominalProgram) where
     abbrev pub start : Unified → State
     start r = record { bindings = r.bindings; conditions = r.conditions; kinds = s.kinds ++ item_kinds }
 
-    vars_of_node : (x : Var) (d : NominalDerivation) → has_var x (vars_in_nodes (clause_node k m c.locals d)) ≡ (has_var x (local_vars m c.locals) || has_var x (vars_in_nodes d))
+    pub vars_of_node : (x : Var) (d : NominalDerivation) → has_var x (vars_in_nodes (clause_node k m c.locals d)) ≡ (has_var x (local_vars m c.locals) || has_var x (vars_in_nodes d))
     vars_of_node x d =
         ap (has_var x) (vars_of_terms-append (map (terms.susp []) (local_vars m c.locals)) (terms_in d))
         ∙ has_var-append x (vars_of_terms (map (terms.susp []) (local_vars m c.locals))) (vars_in_nodes d)
         ∙ ap (λ ys. has_var x ys || has_var x (vars_in_nodes d)) (vars_of_susps (local_vars m c.locals))
 
-    local_kind : (more : List NominalKind) → KindsKept (s.kinds ++ item_kinds) more → (x : Var) (v : IsVariable item_kinds x) → kind_at more (m + x.num) ≡ Some (types.var v.0)
+    pub local_kind : (more : List NominalKind) → KindsKept (s.kinds ++ item_kinds) more → (x : Var) (v : IsVariable item_kinds x) → kind_at more (m + x.num) ≡ Some (types.var v.0)
     local_kind more kept x v = kept (m + x.num) (types.var v.0) (kind_at_back s.kinds item_kinds x.num ∙ v.1)
 
     local_known : (more : List NominalKind) → KindsKept (s.kinds ++ item_kinds) more → (x : Var) → has_var x (local_vars m c.locals) ≡ true → IsVariable more x
@@ -97,16 +96,6 @@ module _ (p : NominalProgram) where
         × AlphaEach (map (instance (shifted n g)) ts) (map (instance (environment c.locals (local_names m c.locals) gs)) c.args)
         × IsValid p item_kinds (ground_proof g d) c.body (environment c.locals (local_names m c.locals) gs)
 
-    agrees_on_head : (g : Grounding) → AgreeOn (atom c.pred c.args) (shifted m g) (item_environment m g c.locals)
-    agrees_on_head g =
-        item_agrees m g c.locals (atom c.pred c.args) (arguments_local p.signature c.locals c.args c.body typed.3 c.pred typed.1.0)
-        (goal_vars_local cs p.signature.predicates c.locals (atom c.pred c.args) typed.1.0 (λ i e. (typed.3.inside i e).0))
-
-    agrees_on_body : (g : Grounding) → AgreeOn c.body (shifted m g) (item_environment m g c.locals)
-    agrees_on_body g =
-        item_agrees m g c.locals c.body (goal_local p.signature c.locals c.args c.body typed.3 typed.1.1)
-        (goal_vars_local cs p.signature.predicates c.locals c.body typed.1.1 (λ i e. (typed.3.inside i e).1))
-
     node_valid : (g : Grounding) (d : NominalDerivation) → ((x : Var) → has_var x (local_vars 0 c.locals) ≡ true → HasTypeOf cs (kind_at item_kinds x.num) (g (rename_var m x)))
         → equates_all g (map (rename_term n) ts) (map (rename_term m) c.args) ≡ true → IsValid p item_kinds (ground_proof g d) c.body (shifted m g)
         → IsNode g d (map (λ x. g (rename_var m x)) (local_vars 0 c.locals))
@@ -114,12 +103,12 @@ module _ (p : NominalProgram) where
         let env = item_environment m g c.locals in
         let args = subst (λ r. AreArguments (HasTermType cs item_kinds) c.args (predicate_at p.signature.predicates r)) typed.0 typed.1.0 in
         let each = equates_arguments g n m kinds item_kinds ts c.args (predicate_at p.signature.predicates q) goal_typed args e in
-        let agree = agrees_on_head g in
+        let agree = agrees_on_head p q c typed m g in
         let us = map (instance (shifted n g)) ts in (
           instantiates cs c.locals m g t,
           alpha_each_sym (map (instance env) c.args) us
               (instances_agree (shifted m g) env c.args us agree.names agree.terms (alpha_each_sym us (map (instance (shifted m g)) c.args) each)),
-          proofs_see_free p item_kinds (ground_proof g d) c.body (shifted m g) env b (agrees_on_body g),
+          proofs_see_free p item_kinds (ground_proof g d) c.body (shifted m g) env b (agrees_on_body p q c typed m g),
         )
 
     pub clause_found : (r : Unified) → unify s.bindings s.conditions (map (rename_term n) ts) (map (rename_term m) c.args) ≡ Some r

@@ -23,14 +23,14 @@ use Rattle.ap_soundness.proofs.EachFoundLemmas.{Property, each-append, each_belo
 use Rattle.ap_soundness.proofs.StepLemmas.{FoundFrom, KindsAt, both_found, equal_found, exists_found, fresh_found, left_found, new_found, right_found, succeed_found}
 use Rattle.ap_soundness.proofs.ClauseLemmas.{clause_found}
 
-abbrev with_conds : State → List Cond → State
+abbrev pub with_conds : State → List Cond → State
 with_conds s conds = record s { conditions = add_conds conds s.conditions }
 
-abbrev with_kinds : State → List NominalLocal → State
+abbrev pub with_kinds : State → List NominalLocal → State
 with_kinds s locals = record s { kinds = s.kinds ++ kinds_of locals }
 
 -- the clauses of a predicate that are numbered from k on
-abbrev AreNumbered : NominalProgram → ℕ → ℕ → List NominalClause → Type 0
+abbrev pub AreNumbered : NominalProgram → ℕ → ℕ → List NominalClause → Type 0
 AreNumbered p q k rest = (j : ℕ) (c : NominalClause) → clause_at rest (suc j) ≡ Some c → clause_at (clauses_of p.clauses q) (k + j) ≡ Some c
 
 module _ (p : NominalProgram) where
@@ -101,7 +101,7 @@ module _ (p : NominalProgram) where
           (clause_step k c here typed.0 (unify s.bindings s.conditions (map (rename_term n) ts) (map (rename_term (next_number s)) c.args)) refl)
           (clauses_found (suc k) rest (λ j b e. let l : suc k + j ≡ k + suc j = omega arith in ap (clause_at (clauses_of p.clauses q)) l ∙ i (suc j) b e) typed.1)
 
-  typed_clauses_of : (i : ℕ) (css : Clauses) → AreTypedFrom term_form p.signature i css → (q : ℕ) → AreTypedClauses term_form p.signature (i + q) (clauses_of css q)
+  pub typed_clauses_of : (i : ℕ) (css : Clauses) → AreTypedFrom term_form p.signature i css → (q : ℕ) → AreTypedClauses term_form p.signature (i + q) (clauses_of css q)
   typed_clauses_of i [] h q = tt
   typed_clauses_of i (b ∷ css) h zero = let e : i ≡ i + zero = omega arith in subst (λ (j : ℕ). AreTypedClauses term_form p.signature j b) e h.0
   typed_clauses_of i (b ∷ css) h (suc q) =

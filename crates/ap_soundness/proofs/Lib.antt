@@ -1,7 +1,4 @@
 pub mod EachFoundLemmas
-pub mod ShiftLemmas
-pub mod OccurrenceLemmas
-pub mod EnvironmentLemmas
 pub mod BackwardLemmas
 pub mod StepLemmas
 pub mod ClauseLemmas

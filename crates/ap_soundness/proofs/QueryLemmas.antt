@@ -16,12 +16,12 @@ use Rattle.ap_ground.proofs.ScopeLemmas.{goal_local}
 use Rattle.ap_soundness.specs.FoundStates.{EachFound, IsDerivableState}
 use Rattle.ap_soundness.specs.StatementsOnSoundness.{FoundStatesAreDerivable}
 use Rattle.ap_soundness.proofs.EachFoundLemmas.{Property, each_weaken}
-use Rattle.ap_soundness.proofs.EnvironmentLemmas.{goal_vars_local, item_agrees}
+use Rattle.ap_ground.proofs.ItemEnvironmentLemmas.{goal_vars_local, item_agrees}
 use Rattle.ap_soundness.proofs.FoundLemmas.{found_is_valid}
-use Rattle.ap_soundness.proofs.ShiftLemmas.{goal_by_none, shifted, var_by_none}
+use Rattle.ap_ground.proofs.ShiftLemmas.{goal_by_none, shifted, var_by_none}
 use Rattle.ap_soundness.proofs.StepLemmas.{FoundFrom, ground_proof}
 
-height_mapped : {S T : Type 0} (f : S → T) (d : DerivationOver S) → height (map_terms f d) ≡ height d
+pub height_mapped : {S T : Type 0} (f : S → T) (d : DerivationOver S) → height (map_terms f d) ≡ height d
 height_mapped f (atom k as' ts d) = ap suc (height_mapped f d)
 height_mapped f equal = refl
 height_mapped f fresh = refl

@@ -32,8 +32,8 @@ use Rattle.ap_ground.specs.TypedGroundings.{GivesKinds}
 use Rattle.ap_soundness.specs.FoundStates.{EachFound, Solves}
 use Rattle.ap_soundness.proofs.BackwardLemmas.{add_back, reduce_all_back, reduce_back, under_name, unify_back}
 use Rattle.ap_soundness.proofs.EachFoundLemmas.{Property, each_reduced}
-use Rattle.ap_soundness.proofs.OccurrenceLemmas.{IsVariable, has_without}
-use Rattle.ap_soundness.proofs.ShiftLemmas.{free_vars_renamed, has_renamed, rename_apart, shifted, shifted_instance, with_own_name, with_own_term}
+use Rattle.ap_ground.proofs.OccurrenceLemmas.{IsVariable, has_without}
+use Rattle.ap_ground.proofs.ShiftLemmas.{free_vars_renamed, has_renamed, rename_apart, shifted, shifted_instance, with_own_name, with_own_term}
 
 -- each number keeps its kind, n higher
 abbrev pub KindsAt : ℕ → List NominalKind → List NominalKind → Type 0
@@ -85,7 +85,7 @@ module _ (p : NominalProgram) where
           (b.0, ap₂ alpha (shifted_instance n g t) (shifted_instance n g u) ∙ and_left (alpha (grounded g (rename_term n t)) (grounded g (rename_term n u))) true b.1);
     }
 
-    reduced_found : (t u : NominalTerm) (a : Name) → under s.bindings (rename_term n t) ≡ terms.name a → (conds : List Cond) → reduce a (under s.bindings (rename_term n u)) ≡ Some conds
+    pub reduced_found : (t u : NominalTerm) (a : Name) → under s.bindings (rename_term n t) ≡ terms.name a → (conds : List Cond) → reduce a (under s.bindings (rename_term n u)) ≡ Some conds
         → Of (fresh t u) (record s { conditions = add_conds conds s.conditions }) nodes.fresh
     reduced_found t u a e conds i = record {
       kept = λ m k j. j;
@@ -109,7 +109,7 @@ module _ (p : NominalProgram) where
     fresh_found t u (terms.app f v) e = tt
     fresh_found t u (terms.abs a v) e = tt
 
-    vars_of_both : (x : Var) (d e : NominalDerivation) → has_var x (vars_in_nodes (nodes.both d e)) ≡ (has_var x (vars_in_nodes d) || has_var x (vars_in_nodes e))
+    pub vars_of_both : (x : Var) (d e : NominalDerivation) → has_var x (vars_in_nodes (nodes.both d e)) ≡ (has_var x (vars_in_nodes d) || has_var x (vars_in_nodes e))
     vars_of_both x d e = ap (has_var x) (vars_of_terms-append (terms_in d) (terms_in e)) ∙ has_var-append x (vars_in_nodes d) (vars_in_nodes e)
 
     pub both_found : (f h : NominalGoal) (r : State) (d : NominalDerivation) → Of f r d → (q : State) (e : NominalDerivation) → FoundFrom kinds n h r depth q e → Of (both f h) q (nodes.both d e)

@@ -5,7 +5,7 @@ use Rattle.std.proofs.lemmas.Bool.Decides.{nat_tests}
 use Rattle.ap_defs.specs.Alpha.{alpha}
 use Rattle.ap_defs.specs.Answers.{kind_at}
 use Rattle.ap_defs.specs.Freshness.{var_eq}
-use Rattle.ap_defs.specs.Goals.{NominalGoal}
+use Rattle.ap_defs.specs.Goals.{NominalClause, NominalGoal, NominalProgram, atom}
 use Rattle.ap_defs.specs.GroundProofs.{AreDifferent, AreOfSorts, AreOfTypes, Environment, HasTypeOf, Instantiates, environment, name_for, term_for}
 use Rattle.ap_defs.specs.Groundings.{Grounding, grounded}
 use Rattle.ap_defs.specs.Occurrences.{free_names, free_vars}
@@ -19,14 +19,15 @@ use Rattle.ap_defs.specs.Unification.{has_var}
 use Rattle.ap_defs.specs.declared.terms.Name.{Name}
 use Rattle.ap_defs.specs.declared.terms.Var.{Var}
 use Rattle.ap_program.specs.RawTyping.{HasTermType}
-use Rattle.ap_program.specs.Typed.{IsTypedGoal, is_marked, stands_free, stands_in_term}
+use Rattle.ap_program.specs.Typed.{IsTypedClause, IsTypedGoal, is_marked, stands_free, stands_in_term, term_form}
 use Rattle.ap_theory.proofs.BooleanLemmas.{false_if_not, or_cases, or_if_left, or_if_right}
 use Rattle.ap_theory.proofs.GroundLemmas.{act_ground_none, alpha_itself}
 use Rattle.ap_theory.proofs.PermutationLemmas.{name_eq_itself, name_eq_same}
 use Rattle.ap_theory.proofs.TermLemmas.{same_var, var_same}
 use Rattle.ap_ground.specs.Environments.{AgreeOn}
-use Rattle.ap_soundness.proofs.OccurrenceLemmas.{IsVariable, free_var_stands}
-use Rattle.ap_soundness.proofs.ShiftLemmas.{shifted}
+use Rattle.ap_ground.proofs.ScopeLemmas.{arguments_local, goal_local}
+use Rattle.ap_ground.proofs.OccurrenceLemmas.{IsVariable, free_var_stands}
+use Rattle.ap_ground.proofs.ShiftLemmas.{shifted}
 
 -- A variable that is an identifier and isn't marked is among the free variables.
 var_first : (m : ℕ) (x : Var) (t : NominalType) (b : Bool) (k : NominalKind) (rest : List Var) → k ≡ types.var t → b ≡ false → x.num ≡ m + zero → has_var x (var_unless b k m rest) ≡ true
@@ -118,7 +119,7 @@ pub vars_from : (n : ℕ) (ls : List NominalLocal) → local_vars n ls ≡ map (
 vars_from n ls = let e : n + 0 ≡ n = omega arith in sym (renamed_vars n 0 ls ∙ ap (λ i. local_vars i ls) e)
 
 -- What stands beside a member.
-beside_name : (f : Name → Name) (as' : List Name) (b : Name) → has_name b as' ≡ true → name_for as' (map f as') b ≡ f b
+pub beside_name : (f : Name → Name) (as' : List Name) (b : Name) → has_name b as' ≡ true → name_for as' (map f as') b ≡ f b
 beside_name f [] b h = absurd (true≢false (sym h))
 beside_name f (a ∷ as') b h =
     elim (name_eq a b) as (λ v. name_eq a b ≡ v → (if v then f a else name_for as' (map f as') b) ≡ f b) [
@@ -163,7 +164,7 @@ goal_vars_local cs preds locals goal h k x i =
     var_among 0 x.num locals x r.0.0 r.0.1 (false_if_not (is_marked locals x.num) (λ e. true≢false (sym r.1 ∙ k x.num e))) (omega arith)
 
 -- The names and terms of a clause's node.
-sorts_renamed : (n : ℕ) (as' : List Name) → AreOfSorts as' (map (rename_name n) as')
+pub sorts_renamed : (n : ℕ) (as' : List Name) → AreOfSorts as' (map (rename_name n) as')
 sorts_renamed n [] = tt
 sorts_renamed n (a ∷ as') = (refl, sorts_renamed n as')
 
@@ -180,7 +181,7 @@ lower_is_no_local a m (l ∷ ls) h = first l.bound l.kind (lower_is_no_local a (
     first false (types.var t) e = e
     first false (types.name s) e = ap₂ ◌||◌ (lower_apart a s m h) e
 
-locals_differ : (m : ℕ) (ls : List NominalLocal) → AreDifferent (local_names m ls)
+pub locals_differ : (m : ℕ) (ls : List NominalLocal) → AreDifferent (local_names m ls)
 locals_differ m [] = tt
 locals_differ m (l ∷ ls) = first l.bound l.kind (locals_differ (suc m) ls)
   where
@@ -213,3 +214,15 @@ grounded_vars n g (x ∷ xs) = ap₂ ◌∷◌ (act_ground_none (g (rename_var n
 
 pub node_terms : (n : ℕ) (g : Grounding) (locals : List NominalLocal) → map (grounded g) (map (susp []) (local_vars n locals)) ≡ map (λ x. g (rename_var n x)) (local_vars 0 locals)
 node_terms n g locals = ap (λ xs. map (grounded g) (map (susp []) xs)) (vars_from n locals) ∙ grounded_vars n g (local_vars 0 locals)
+
+-- A clause of a typed program whose identifiers are numbered from m on.
+module _ (p : NominalProgram) (q : ℕ) (c : NominalClause) (typed : IsTypedClause term_form p.signature q c) (m : ℕ) (g : Grounding) where
+  pub agrees_on_head : AgreeOn (atom c.pred c.args) (shifted m g) (item_environment m g c.locals)
+  agrees_on_head =
+      item_agrees m g c.locals (atom c.pred c.args) (arguments_local p.signature c.locals c.args c.body typed.3 c.pred typed.1.0)
+      (goal_vars_local p.signature.constructors p.signature.predicates c.locals (atom c.pred c.args) typed.1.0 (λ i e. (typed.3.inside i e).0))
+
+  pub agrees_on_body : AgreeOn c.body (shifted m g) (item_environment m g c.locals)
+  agrees_on_body =
+      item_agrees m g c.locals c.body (goal_local p.signature c.locals c.args c.body typed.3 typed.1.1)
+      (goal_vars_local p.signature.constructors p.signature.predicates c.locals c.body typed.1.1 (λ i e. (typed.3.inside i e).1))

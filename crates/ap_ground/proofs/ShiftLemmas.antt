@@ -32,7 +32,7 @@ shifted_instance n g (terms.abs a t) = ap (terms.abs (rename_name n a)) (shifted
 shifted_instance n g (terms.susp p x) = refl
 
 -- What `new` and `exists` bring stands for itself.
-shifted_name : (n : ℕ) (a b : Name) → (if name_eq a b then rename_name n a else rename_name n b) ≡ rename_name n b
+pub shifted_name : (n : ℕ) (a b : Name) → (if name_eq a b then rename_name n a else rename_name n b) ≡ rename_name n b
 shifted_name n a b =
     elim (name_eq a b) as (λ v. name_eq a b ≡ v → (if v then rename_name n a else rename_name n b) ≡ rename_name n b) [
       | true ↦ λ e. ap (rename_name n) (name_eq_same a b e)
