@@ -1,0 +1,9 @@
+pub mod Restriction
+pub mod RenamedProofs
+pub mod StatementsOnRenaming
+pub mod StatementsOnFreshness
+pub mod NumberedProofs
+pub mod StatementsOnSimulation
+pub mod Coverings
+pub mod CompleteAnswers
+pub mod StatementsOnCompleteness
