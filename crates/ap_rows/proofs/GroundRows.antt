@@ -12,34 +12,34 @@ use Rattle.ap_defs.specs.GroundProofs.{Environment, IsDerivable, IsFresh, IsNew,
 use Rattle.ap_rows.proofs.Programs.{clause, constructor, n, named, program, query, signature, v, variable}
 
 -- natural numbers, which of them are even, and names that are apart
-abbrev even_signature : NominalSignature
+abbrev pub even_signature : NominalSignature
 even_signature = signature (codes "id" ∷ []) (codes "nat" ∷ []) (constructor (codes "z") [] 0 ∷ constructor (codes "s") (types.base 0 ∷ []) 0 ∷ [])
     ((types.base 0 ∷ []) ∷ (types.names 0 ∷ types.names 0 ∷ []) ∷ [])
 
 -- `even(z).`
-abbrev zero_is_even : NominalClause
+abbrev pub zero_is_even : NominalClause
 zero_is_even = clause 0 (app 2 unit ∷ []) goals.succeed []
 
 -- `even(s(s(X))) :- even(X).`
-abbrev two_more_is_even : NominalClause
+abbrev pub two_more_is_even : NominalClause
 two_more_is_even = clause 0 (app 3 (app 3 (v 0)) ∷ []) (goals.atom 0 (v 0 ∷ [])) (variable (types.base 0) (codes "X") ∷ [])
 
 -- `apart(X, Y) :- X # Y.`
-abbrev names_are_apart : NominalClause
+abbrev pub names_are_apart : NominalClause
 names_are_apart = clause 1 (v 0 ∷ v 1 ∷ []) (goals.fresh (v 0) (v 1)) (variable (types.names 0) (codes "X") ∷ variable (types.names 0) (codes "Y") ∷ [])
 
-abbrev even_clauses : Clauses
+abbrev pub even_clauses : Clauses
 even_clauses = (zero_is_even ∷ two_more_is_even ∷ []) ∷ (names_are_apart ∷ []) ∷ []
 
 -- `?- even(s(s(X))).`
-abbrev even_query : NominalQuery
+abbrev pub even_query : NominalQuery
 even_query = query (goals.atom 0 (app 3 (app 3 (v 0)) ∷ [])) (variable (types.base 0) (codes "X") ∷ [])
 
 -- `?- apart(a, b).`
-abbrev apart_query : NominalQuery
+abbrev pub apart_query : NominalQuery
 apart_query = query (goals.atom 1 (name (n 0 0) ∷ name (n 0 1) ∷ [])) (named 0 (codes "a") ∷ named 0 (codes "b") ∷ [])
 
-abbrev even_program : NominalProgram
+abbrev pub even_program : NominalProgram
 even_program = program even_signature even_clauses even_query []
 
 -- it is derivable with `z` for X, by a proof of height 2

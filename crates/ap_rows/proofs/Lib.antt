@@ -3,3 +3,5 @@ mod GroundRows
 mod Programs
 mod Rows
 mod SampledPrograms
+mod RefusedProofs
+mod DerivationRows

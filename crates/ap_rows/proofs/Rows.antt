@@ -14,10 +14,10 @@ use Rattle.ap_defs.specs.Lines.{program_report}
 use Rattle.ap_rows.proofs.Programs.{n, v, named, brought_name, variable, some_variable, constructor, signature, clause, query, program}
 
 -- capture-avoiding substitution in the lambda calculus
-abbrev substitution_signature : NominalSignature
+abbrev pub substitution_signature : NominalSignature
 substitution_signature = signature (codes "id" ∷ []) (codes "exp" ∷ []) (constructor (codes "var") ((types.names 0) ∷ []) 0 ∷ constructor (codes "app") ((types.base 0) ∷ (types.base 0) ∷ []) 0 ∷ constructor (codes "lam") ((types.abs 0 (types.base 0)) ∷ []) 0 ∷ []) (((types.base 0) ∷ (types.names 0) ∷ (types.base 0) ∷ (types.base 0) ∷ []) ∷ [])
 
-abbrev substitution_clauses : Clauses
+abbrev pub substitution_clauses : Clauses
 substitution_clauses =
     (clause 0 ((app 2 (v 0)) ∷ (v 0) ∷ (v 1) ∷ (v 1) ∷ []) goals.succeed (variable (types.names 0) (codes "X") ∷ variable (types.base 0) (codes "E") ∷ [])
     ∷ clause 0 ((app 2 (v 0)) ∷ (v 1) ∷ (v 2) ∷ (app 2 (v 0)) ∷ []) (goals.fresh (v 1) (v 0)) (variable (types.names 0) (codes "Y") ∷ variable (types.names 0) (codes "X") ∷ variable (types.base 0) (codes "E") ∷ [])

@@ -1,0 +1,12 @@
+pub mod TypeTestLemmas
+pub mod CheckedLemmas
+pub mod ShownCheckedLemmas
+pub mod OpenLemmas
+pub mod OpenShiftLemmas
+pub mod OpenBackwardLemmas
+pub mod OpenStepLemmas
+pub mod OpenClauseLemmas
+pub mod OpenFoundLemmas
+pub mod AnswerCheckLemmas
+pub mod FoundCheckLemmas
+pub mod TraceLemmas
