@@ -3,3 +3,4 @@ mod Numbers
 mod Reports
 mod Wrote
 mod SoundInputs
+mod CompleteInputs

@@ -3,6 +3,7 @@ use Rattle.std.specs.Prelude.{◌≡◌, ℕ, List, Option, None, Some, codes}
 use Rattle.ap_report.specs.declared.report.Report.{Report}
 use Rattle.ap_report.specs.declared.status.Status.{Status}
 use Rattle.ap_report.specs.declared.status.Status.TheVariants as status
+use Rattle.ap_report.specs.CompleteTexts.{IsCompleteText}
 use Rattle.ap_report.specs.SoundAnswers.{IsSoundText}
 use Rattle.ap_report.specs.TextReport.{IsTextReport}
 use Rattle.ap_top.specs.Words.{depth_of}
@@ -40,8 +41,17 @@ AreSoundOn _ _ = Unit {0}
 abbrev pub HasSoundAnswers : List (List ℕ) → Input → Type 0
 HasSoundAnswers words input = AreSoundOn (depth_of words) input
 
--- The report of the words and the input: there is no other, and its answers are sound.
+-- and complete
+abbrev pub AreCompleteOn : Option ℕ → Input → Type 0
+AreCompleteOn (Some depth) (Whole text) = IsCompleteText depth text
+AreCompleteOn _ _ = Unit {0}
+
+abbrev pub HasCompleteAnswers : List (List ℕ) → Input → Type 0
+HasCompleteAnswers words input = AreCompleteOn (depth_of words) input
+
+-- The report of the words and the input: there is no other, and its answers are sound and complete.
 pub record IsTheReport (words : List (List ℕ)) (input : Input) (r : Report) : Type 0 where
   pub is : IsReport words input r
   pub only : (s : Report) → IsReport words input s → s ≡ r
   pub sound : HasSoundAnswers words input
+  pub complete : HasCompleteAnswers words input

@@ -51,7 +51,7 @@ fn report_source<R: Threads + Wait + Sync, S: Source, G: Gate>(
 
 // The report for the words and what the source has left, which is read only where the words are
 // accepted.
-#[tactic(auto, using(crate::proofs::SoundInputs::sound_input))]
+#[tactic(auto, using(crate::proofs::SoundInputs::sound_input, crate::proofs::CompleteInputs::complete_input))]
 fn report<R: Threads + Wait + Sync, S: Source, G: Gate>(
     rt: &R,
     alloc: Global,
@@ -93,7 +93,9 @@ fn report<R: Threads + Wait + Sync, S: Source, G: Gate>(
 /// The report of a query is what sequential nominal resolution finds to the depth (Cheney and Urban,
 /// "Nominal Logic Programming"): a line for each answer, in order, once for each derivation, with notes
 /// where branches were cut or stuck, and the totals. Each ground instance of an answer that meets its
-/// freshness conditions is derivable in nominal logic, by a proof no higher than the depth.
+/// freshness conditions is derivable in nominal logic, by a proof no higher than the depth; and each ground
+/// instance of a query that is derivable so is an instance of an answer, or a branch is stuck. Where nothing
+/// was cut and nothing is stuck, it is whatever the height of its proof.
 pub fn top<R: Threads + Wait + Sync, S: Source, K: Sink, G: Gate>(
     rt: &R,
     alloc: Global,
@@ -104,8 +106,8 @@ pub fn top<R: Threads + Wait + Sync, S: Source, K: Sink, G: Gate>(
 ) -> Status
     // Nothing is read where the words are refused.
     ensures unread { depth_of (map string_bytes words.now) ≡ None → source.new ≡ source.old }
-    // The bytes and the status are those of the one report of the words and of what was read, and the
-    // ground instances of its answers are derivable.
+    // The bytes and the status are those of the one report of the words and of what was read; the ground
+    // instances of its answers are derivable, and what is derivable is among them.
     ensures run { result ≢ Status.Memory → (input : Input) × (report : Report)
         × (IsSome (depth_of (map string_bytes words.now)) →
         IsRead (S.left source.old) (S.faults source.old) (S.faults source.new) input)
