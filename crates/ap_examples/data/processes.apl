@@ -1,4 +1,5 @@
-% Processes of the pi-calculus: alpha-equivalence by `new`, scope extrusion, and communication.
+% Processes of the pi-calculus (Milner, Parrow and Walker, A calculus of mobile processes, 1992): alpha-equivalence by `new`,
+% scope extrusion, and communication. Depth 3 or more: nothing is cut.
 
 name : name_type.
 proc : type.
@@ -35,10 +36,11 @@ step(par(P,Q), par(P,Q2)) :- step(Q, Q2).
 step(res(x\P), res(x\Q)) :- step(P, Q).
 step(par(res(x\P),Q), res(x\par(P,Q))) :- x # Q.
 
+% Yes: they differ in the bound name alone. The second pair uses it in another place, so there is no answer.
 ?- alpha(res(a\out(a,c,nil)), res(b\out(b,c,nil))).
 ?- alpha(res(a\out(a,c,nil)), res(b\out(c,b,nil))).
 
-% A message is received.
+% A message is received: m stands for x.
 ?- step(par(out(c,m,nil),inp(c,x\out(x,x,nil))), R).
 
 % A private name leaves its scope; it differs from the free name of the receiver.
