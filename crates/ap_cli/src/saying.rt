@@ -1,11 +1,9 @@
 //! What the program says on standard error.
 
+use ap_defs::limits::SIZE_LIMIT;
 use ap_explain::explain_text;
 use ap_top::Status;
 use std::alloc::Global;
-
-/// The most bytes that a text may have.
-const LIMIT: usize = 16_777_216;
 
 /// How the program is called.
 const USAGE: &str = "usage: alphaprolog run --depth D [--workers W] < FILE
@@ -33,7 +31,7 @@ fn status_text(status: Status) -> &'static str {
 
 // What is said of the fault of a text.
 fn say_fault<R: Eprint>(rt: &R, alloc: Global, text: &[u8]) {
-    if text.len() > LIMIT {
+    if text.len() > SIZE_LIMIT {
         return;
     }
     if let Ok(said) = explain_text(alloc, text) {

@@ -22,3 +22,4 @@ pub mod Lines
 pub mod Typing
 pub mod GroundProofs
 pub mod FaultKinds
+pub mod Limits

@@ -1,10 +1,12 @@
-//! The kinds of the faults that a text may have, and where a fault stands.
+//! The faults that a text may have: where one stands, and of what kind it is.
 //!
-//! A kind has a number, by which it comes before or after the others of its enum, and a word. Where
-//! several kinds apply to a place or an item, the least of them is told, but for the syntax of an item,
-//! of which `SyntaxKind` says more.
+//! A kind has a number, by which the kinds of one enum are ordered, and a word. Where several kinds of
+//! type fault or of name fault apply to an item, the least of them is told; `SyntaxKind` says which is told
+//! of a fault of the syntax.
 ghost use Rattle.std.specs.Prelude.{◌≡◌};
 ghost use Rattle.ap_defs.specs.FaultKinds as spec;
+
+use crate::lists::Text;
 
 /// Where a fault stands: an item of the text, by its number from 1, and a line, from 1.
 #[derive(Clone, Copy, Debug, PartialEq, Eq)]
@@ -137,4 +139,36 @@ impl NameKind {
             NameKind::HeadName => "HeadName",
         }
     }
+}
+
+/// A fault of the tokens, at the first place of the text where nothing begins, or of the first item that
+/// isn't in the grammar.
+#[derive(Clone, Copy, Debug, PartialEq, Eq)]
+pub struct SyntaxFault {
+    pub place: Place,
+    pub kind: SyntaxKind,
+}
+
+/// The fault of the first item that isn't well typed, with the least kind that applies.
+#[derive(Clone, Copy, Debug, PartialEq, Eq)]
+pub struct TypeFault {
+    pub place: Place,
+    pub kind: TypeKind,
+}
+
+/// The fault of the first item that breaks the name restriction, with the least kind that applies, and how
+/// the identifier is spelled that is at fault.
+#[derive(Debug, Drop)]
+pub struct NameFault {
+    pub place: Place,
+    pub kind: NameKind,
+    pub name: Text,
+}
+
+/// The first fault of a text.
+#[derive(Debug, Drop)]
+pub enum Fault {
+    Syntax(SyntaxFault),
+    Types(TypeFault),
+    Names(NameFault),
 }

@@ -9,6 +9,7 @@ pub mod copies;
 pub mod faults;
 pub mod goals;
 pub mod ground;
+pub mod limits;
 pub mod lists;
 pub mod memory;
 pub mod outcomes;

@@ -9,7 +9,6 @@ mod clashes;
 mod declared;
 mod explaining;
 mod explanation;
-mod find;
 mod idents;
 mod kinds;
 mod names;
@@ -19,5 +18,4 @@ mod typing;
 mod words;
 
 pub use explaining::{explain, explain_text};
-pub use explanation::{Explanation, Fault, FaultKind};
-pub use find::{Found, find_fault};
+pub use explanation::Explanation;

@@ -4,6 +4,7 @@
 //! four dashes divide: a beginning that all its texts have, and what follows it in each.
 #![tactic(auto)]
 
+use ap_defs::limits::SIZE_LIMIT;
 use ap_explain::explain_text;
 use std::alloc::Global;
 use std::fs::Files;
@@ -32,11 +33,8 @@ const BYTES: [&[u8]; 4] = [
     b"z\xC3\xA9 : exp\xC3(",
 ];
 
-/// The most bytes that a text may have.
-const LIMIT: usize = 16_777_216;
-
 fn explained(alloc: Global, bytes: &[u8]) -> io::Result<String> {
-    if bytes.len() > LIMIT {
+    if bytes.len() > SIZE_LIMIT {
         return Err(ErrorKind::InvalidInput.into());
     }
     match explain_text(alloc, bytes) {

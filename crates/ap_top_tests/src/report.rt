@@ -1,6 +1,7 @@
+use ap_defs::limits::{Depth, Workers};
 use ap_defs::memory::Memory;
 use ap_io::NoGate;
-use ap_report::{Wanted, report_text};
+use ap_report::report_text;
 use std::alloc::Global;
 use std::sync::Wait;
 use std::test::Fail;
@@ -16,11 +17,10 @@ fn tells<R: Threads + Wait + Sync>(
     if text.len() > 1000 {
         return Err(Memory);
     }
-    let wanted = Wanted {
-        depth: 5,
-        workers: 1,
+    let Some(depth) = Depth::of(5) else {
+        return Err(Memory);
     };
-    let report = report_text(rt, alloc, &NoGate, wanted, text)?;
+    let report = report_text(rt, alloc, &NoGate, depth, Workers::one(), text)?;
     Ok(report.status.code() == want.0 && report.bytes.items() == want.1)
 }
 

@@ -1,21 +1,23 @@
+use ap_defs::faults::TypeFault;
 use ap_defs::goals::{Clause, Local, Program, Query};
+use ap_defs::limits::SIZE_LIMIT;
 use ap_defs::terms::Raw;
-use ap_lexer::{TEXT_LIMIT, Token, lex};
-use ap_syntax::{TOKEN_LIMIT, parse};
+use ap_lexer::{Token, lex};
+use ap_syntax::parse;
 use ap_trees::Item;
-use ap_typecheck::{TypeError, TypeFault, check};
+use ap_typecheck::{TypeError, check};
 use std::alloc::{AllocError, Global};
 use std::test::Fail;
 
 fn tokens_of(alloc: Global, text: &[u8]) -> Result<Vec<Token<'_>>, AllocError> {
-    if text.len() > TEXT_LIMIT {
+    if text.len() > SIZE_LIMIT {
         return Err(AllocError);
     }
     lex(alloc, text).map_err(|_| AllocError)
 }
 
 fn items_of<'a>(alloc: Global, tokens: &[Token<'a>]) -> Result<Vec<Item<'a>>, AllocError> {
-    if tokens.len() > TOKEN_LIMIT {
+    if tokens.len() > SIZE_LIMIT {
         return Err(AllocError);
     }
     parse(alloc, tokens).map_err(|_| AllocError)
@@ -58,7 +60,7 @@ fn program_shown(alloc: Global, program: &Program<Raw>) -> Result<String, AllocE
 }
 
 fn fault_shown(alloc: Global, fault: TypeFault) -> Result<String, AllocError> {
-    let (item, line, kind) = (fault.item, fault.line, fault.kind);
+    let (item, line, kind) = (fault.place.item, fault.place.line, fault.kind.number());
     format!(in alloc; "fault {item} {line} {kind}")
 }
 
