@@ -2,7 +2,7 @@
 ghost use Rattle.std.specs.Prelude.{◌≡◌};
 
 use crate::declared::{Entry, Table};
-use crate::subject::{Subject, declared_note, with_note};
+use crate::subject::{COMPARED, Subject, declared_note, with_note};
 use crate::types::{Shape, type_text};
 use crate::typing::{Cause, Clash, Typing};
 use ap_defs::memory::Memory;
@@ -175,6 +175,9 @@ fn meant<'a>(
     let mut only = None;
     let mut count: usize = 0;
     for entry in typing.declared.constructors.entries() {
+        if count >= COMPARED {
+            break;
+        }
         if entry.count == 0 && typing.declared.types.shape(entry.result) == wanted {
             nearest.compare(alloc, entry.word)?;
             only = Some(entry.word);

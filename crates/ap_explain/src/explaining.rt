@@ -15,7 +15,6 @@ use crate::words::explain_word;
 use ap_defs::faults::{Fault, NameFault, NameKind, SyntaxKind, TypeKind};
 use ap_defs::memory::Memory;
 use ap_lexer::{LexError, Token, lex};
-use ap_report::{TextError, program_of_text};
 use ap_located::characters::{explain_bytes, explain_character};
 use ap_located::grammar::explain_grammar;
 use ap_located::items::{ranges_of, tokens_in};
@@ -24,6 +23,7 @@ use ap_located::nesting::{explain_depth, explain_unended};
 use ap_located::nodes::Node;
 use ap_located::reader::read_item;
 use ap_located::spots::Span;
+use ap_report::{TextError, program_of_text};
 use std::alloc::Global;
 
 // The types of the faulty item's parts.

@@ -15,7 +15,7 @@ use ap_located::spots::shown_word;
 use std::alloc::Global;
 
 /// The rounds in which types are found to be inhabited, at most.
-const ROUNDS: usize = 1000;
+const ROUNDS: usize = 100;
 
 fn is_in(inhabited: &[bool], word: usize) -> bool {
     inhabited.get(word).copied().unwrap_or(true)

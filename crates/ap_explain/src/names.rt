@@ -10,10 +10,11 @@ use ap_located::items::{span_at, text_at};
 use ap_located::messages::Message;
 use ap_located::nodes::{Form, Node, node_at};
 use ap_located::spots::shown_word;
+use ap_scopes::words::Words;
 use std::alloc::Global;
 
 /// The rounds in which types are found to hold names, at most.
-const ROUNDS: usize = 1000;
+const ROUNDS: usize = 100;
 
 /// The most levels that are walked up.
 const LEVELS: usize = 1024;
@@ -218,23 +219,35 @@ fn is_fresh_goal(tokens: &[Token<'_>], nodes: &[Node], place: usize, word: &str)
         && must_hold(nodes, place)
 }
 
-// Whether a goal says that a name is fresh for a variable.
-fn is_covered(tokens: &[Token<'_>], nodes: &[Node], name: &str, variable: &str) -> bool {
-    for (place, node) in nodes.iter().enumerate() {
-        if node.form == Form::Variable && text_at(tokens, node.first) == variable {
-            let mut at = place;
-            for _ in 0..LEVELS {
-                if at == 0 {
-                    break;
-                }
-                if is_fresh_goal(tokens, nodes, at, name) {
-                    return true;
-                }
-                at = node_at(nodes, at).parent;
-            }
+// Whether a node stands in a goal that a name is fresh, and that must hold.
+fn is_in_fresh_goal(tokens: &[Token<'_>], nodes: &[Node], place: usize, name: &str) -> bool {
+    let mut at = place;
+    for _ in 0..LEVELS {
+        if at == 0 {
+            return false;
         }
+        if is_fresh_goal(tokens, nodes, at, name) {
+            return true;
+        }
+        at = node_at(nodes, at).parent;
     }
     false
+}
+
+// The variables for which goals say that a name is fresh.
+fn covered_by<'a>(
+    alloc: Global,
+    tokens: &[Token<'a>],
+    nodes: &[Node],
+    name: &str,
+) -> Result<Words<'a>, Memory> {
+    let mut covered = Words::new(alloc);
+    for (place, node) in nodes.iter().enumerate() {
+        if node.form == Form::Variable && is_in_fresh_goal(tokens, nodes, place, name) {
+            covered.add(text_at(tokens, node.first))?;
+        }
+    }
+    Ok(covered)
 }
 
 // A name that stands free in a head itself.
@@ -262,6 +275,7 @@ fn open_variable(
     holding: &[bool],
     name_type: usize,
 ) -> Result<Option<usize>, Memory> {
+    let covered = covered_by(alloc, typing.tokens, nodes, name)?;
     for (place, node) in nodes.iter().enumerate() {
         if node.form == Form::Variable
             && is_in_head(nodes, place)
@@ -270,7 +284,7 @@ fn open_variable(
             let slot = typing.slot_of(*node);
             let variable = text_at(typing.tokens, node.first);
             let holds = may_hold(alloc, &mut typing.declared.types, holding, name_type, slot)?;
-            if holds && !is_covered(typing.tokens, nodes, name, variable) {
+            if holds && covered.place(variable).is_none() {
                 return Ok(Some(node.first));
             }
         }

@@ -11,7 +11,7 @@ use ap_located::spots::shown_word;
 use std::alloc::Global;
 
 /// Other words than so many are not compared with a misspelt one.
-const COMPARED: usize = 20_000;
+pub const COMPARED: usize = 20_000;
 
 /// A text, its tokens, its items, and which of these is faulty, by its place.
 #[derive(Clone, Copy)]
