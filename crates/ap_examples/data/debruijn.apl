@@ -17,7 +17,7 @@ ap : (db, db) -> db.
 fn : db -> db.
 
 pred index(id, [id], nat).
-index(X, [X|L], z).
+index(X, [X|_], z).
 index(X, [Y|L], s(N)) :- X # Y, index(X, L, N).
 
 pred nameless([id], exp, db).

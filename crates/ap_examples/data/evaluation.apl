@@ -9,12 +9,12 @@ lam : id\exp -> exp.
 
 pred subst(exp, id, exp, exp).
 subst(var(X), X, E, E).
-subst(var(Y), X, E, var(Y)) :- X # Y.
+subst(var(Y), X, _, var(Y)) :- X # Y.
 subst(app(M,N), X, E, app(M2,N2)) :- subst(M,X,E,M2), subst(N,X,E,N2).
 subst(lam(y\M), X, E, lam(y\M2)) :- y # X, y # E, subst(M,X,E,M2).
 
 pred value(exp).
-value(lam(x\M)).
+value(lam(_)).
 
 pred step(exp, exp).
 step(app(lam(x\M),V), R) :- x # V, x # R, value(V), subst(M, x, V, R).

@@ -21,8 +21,8 @@ alpha(res(B), res(D)) :- new x (exists P (exists Q (B = x\P, D = x\Q, alpha(P, Q
 pred rename(proc, name, name, proc).
 pred renamed(name, name, name, name).
 renamed(X, X, M, M).
-renamed(Y, X, M, Y) :- X # Y.
-rename(nil, X, M, nil).
+renamed(Y, X, _, Y) :- X # Y.
+rename(nil, _, _, nil).
 rename(par(P,Q), X, M, par(P2,Q2)) :- rename(P, X, M, P2), rename(Q, X, M, Q2).
 rename(out(C,N,P), X, M, out(C2,N2,P2)) :- renamed(C, X, M, C2), renamed(N, X, M, N2), rename(P, X, M, P2).
 rename(inp(C,y\P), X, M, inp(C2,y\P2)) :- y # X, y # M, y # C, y # C2, renamed(C, X, M, C2), rename(P, X, M, P2).

@@ -23,7 +23,7 @@ among(H, [H|G], G).
 among(H, [K|G], [K|L]) :- among(H, G, L).
 
 pred prove([(label, form)], form, proof).
-prove(G, A, hyp(X)) :- among((X,A), G, L).
+prove(G, A, hyp(X)) :- among((X,A), G, _).
 prove(G, imp(A,B), intro(x\P)) :- x # G, prove([(x,A)|G], B, P).
 prove(G, con(A,B), both(P,Q)) :- prove(G, A, P), prove(G, B, Q).
 prove(G, C, split(X,x\y\P)) :-

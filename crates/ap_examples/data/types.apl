@@ -13,8 +13,8 @@ o : ty.
 arr : (ty, ty) -> ty.
 
 pred mem((id, ty), [(id, ty)]).
-mem(P, [P|L]).
-mem(P, [Q|L]) :- mem(P, L).
+mem(P, [P|_]).
+mem(P, [_|L]) :- mem(P, L).
 
 pred tc([(id, ty)], exp, ty).
 tc(G, var(X), T) :- mem((X,T), G).
