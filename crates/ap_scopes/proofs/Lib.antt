@@ -1,4 +1,5 @@
 pub mod Tables
 pub mod LeastLemmas
+pub mod FlawLemmas
 pub mod Numbering
 pub mod Orders
