@@ -3,68 +3,65 @@ ghost use Rattle.std.specs.Prelude.{IfOk, IfSome};
 ghost use Rattle.ap_backchain.specs.Branches.{IsBranchOf};
 ghost use Rattle.ap_backchain.specs.Problems.{HasQuery};
 
-use crate::texts::program_of;
+use crate::texts::{only_query, program_of};
 use ap_backchain::branch::Branch;
 use ap_backchain::problem::Problem;
 use ap_defs::memory::Memory;
 use ap_defs::paths::{Node, Path};
-use ap_program::restricted::Restricted;
 use ap_replay::error::ReplayError;
 use ap_replay::replay::at;
 use std::alloc::Global;
 
 const CUTS: &str = "pred p. pred q. p :- q. p :- q. q :- q. ?- p.";
 
-/// The query of a program that has one.
-fn only_query<'a>(program: &'a Restricted, depth: u32) -> Option<Problem<'a>>
-    ensures { IfSome result (λ p. HasQuery p) }
-{
-    if program.program().queries.items().len() == 1 {
-        Some(Problem {
-            program,
-            query: 1,
-            depth,
-        })
-    } else {
-        None
+const NAMES: &str = "id : name_type. ?- X = a ; X = b.";
+
+fn word_of(node: &Node) -> &'static str {
+    match node {
+        Node::Choice(_, _) => "choice",
+        Node::Answer => "answer",
+        Node::Cut => "cut",
+        Node::Stuck => "stuck",
+        Node::Failed => "failed",
     }
 }
 
-fn is_cut_at<'a>(alloc: Global, p: &Problem<'a>, path: &Path) -> Result<bool, Memory>
+/// What the branch of a path stands at.
+fn found<'a>(alloc: Global, p: &Problem<'a>, path: &Path) -> Result<&'static str, Memory>
     requires { HasQuery p.now }
 {
     match at(alloc, p, path) {
-        Ok(branch) => Ok(matches!(branch.node(), Node::Cut)),
-        Err(ReplayError::NotABranch) => Ok(false),
+        Ok(branch) => Ok(word_of(branch.node())),
+        Err(ReplayError::NotABranch) => Ok("none"),
         Err(ReplayError::Memory) => Err(Memory),
     }
 }
 
-fn is_no_branch<'a>(alloc: Global, p: &Problem<'a>, path: &Path) -> Result<bool, Memory>
-    requires { HasQuery p.now }
-{
-    match at(alloc, p, path) {
-        Ok(_) => Ok(false),
-        Err(ReplayError::NotABranch) => Ok(true),
-        Err(ReplayError::Memory) => Err(Memory),
-    }
+fn path_of(alloc: Global, choices: &[u32]) -> Result<Path, Memory> {
+    Ok(Path::of(choices.to_vec(alloc)?))
 }
 
-fn has_two_ways<'a>(alloc: Global, p: &Problem<'a>) -> Result<bool, Memory>
-    requires { HasQuery p.now }
-{
-    let root = Path::root(alloc);
-    let second = is_cut_at(alloc, p, &root.child(alloc, 2)?)?;
-    let third = is_no_branch(alloc, p, &root.child(alloc, 3)?)?;
-    let below = is_no_branch(alloc, p, &root.child(alloc, 1)?.child(alloc, 1)?)?;
-    Ok(second && third && below)
-}
-
-fn cuts_have_two_ways(alloc: Global) -> Result<bool, Memory> {
-    let program = program_of(alloc, CUTS)?;
+fn stands(alloc: Global, text: &str, choices: &[u32], want: &str) -> Result<bool, Memory> {
+    let path = path_of(alloc, choices)?;
+    let program = program_of(alloc, text)?;
     match only_query(&program, 1) {
-        Some(problem) => has_two_ways(alloc, &problem),
+        Some(problem) => Ok(found(alloc, &problem, &path)? == want),
         None => Ok(false),
+    }
+}
+
+#[test]
+fn paths_have_branches(rt: HostRuntime) {
+    for (text, choices, want) in [
+        (CUTS, [].as_slice(), "choice"),
+        (CUTS, [1].as_slice(), "cut"),
+        (CUTS, [2].as_slice(), "cut"),
+        (CUTS, [3].as_slice(), "none"),
+        (CUTS, [1, 1].as_slice(), "none"),
+        (NAMES, [2].as_slice(), "answer"),
+    ] {
+        let stands = stands(rt.alloc(), text, choices, want);
+        assert!(rt; matches!(stands, Ok(true)), "at {choices:?} of {text}");
     }
 }
 
@@ -80,61 +77,28 @@ fn first_way<'a>(alloc: Global, p: &Problem<'a>) -> Result<Option<Branch<'a>>, M
     }
 }
 
-fn goes_on_to_a_cut<'a>(alloc: Global, p: &Problem<'a>) -> Result<bool, Memory>
+/// Whether the branch after the first choice is an answer that binds one variable.
+fn binds_one<'a>(alloc: Global, p: &Problem<'a>) -> Result<bool, Memory>
     requires { HasQuery p.now }
 {
     match first_way(alloc, p)? {
-        Some(branch) => Ok(matches!(branch.node(), Node::Cut)),
+        Some(branch) => match branch.node() {
+            Node::Answer => Ok(branch.answer(alloc, p)?.binds.items().len() == 1),
+            _ => Ok(false),
+        },
         None => Ok(false),
     }
 }
 
-fn cuts_go_on(alloc: Global) -> Result<bool, Memory> {
-    let program = program_of(alloc, CUTS)?;
-    match only_query(&program, 1) {
-        Some(problem) => goes_on_to_a_cut(alloc, &problem),
-        None => Ok(false),
-    }
-}
-
-fn binds_one<'a>(alloc: Global, p: &Problem<'a>, branch: &Branch<'a>) -> Result<bool, Memory>
-    requires query { HasQuery p.now }
-    requires of { IsBranchOf p.now branch.now }
-{
-    match branch.node() {
-        Node::Answer => Ok(branch.answer(alloc, p)?.binds.items().len() == 1),
-        _ => Ok(false),
-    }
-}
-
-fn first_way_binds_one<'a>(alloc: Global, p: &Problem<'a>) -> Result<bool, Memory>
-    requires { HasQuery p.now }
-{
-    match first_way(alloc, p)? {
-        Some(branch) => binds_one(alloc, p, &branch),
-        None => Ok(false),
-    }
-}
-
-fn equations_bind_one(alloc: Global) -> Result<bool, Memory> {
-    let program = program_of(alloc, "id : name_type. ?- X = a ; X = b.")?;
+fn names_bind_one(alloc: Global) -> Result<bool, Memory> {
+    let program = program_of(alloc, NAMES)?;
     match only_query(&program, 0) {
-        Some(problem) => first_way_binds_one(alloc, &problem),
+        Some(problem) => binds_one(alloc, &problem),
         None => Ok(false),
     }
-}
-
-#[test]
-fn paths_have_branches(rt: HostRuntime) {
-    assert!(rt; matches!(cuts_have_two_ways(rt.alloc()), Ok(true)));
-}
-
-#[test]
-fn a_branch_goes_on_by_a_choice(rt: HostRuntime) {
-    assert!(rt; matches!(cuts_go_on(rt.alloc()), Ok(true)));
 }
 
 #[test]
 fn a_branch_has_an_answer(rt: HostRuntime) {
-    assert!(rt; matches!(equations_bind_one(rt.alloc()), Ok(true)));
+    assert!(rt; matches!(names_bind_one(rt.alloc()), Ok(true)));
 }

@@ -1,8 +1,17 @@
-//! Tests of the crates of workers: `ap_tasks`, `ap_lock` and `ap_steal`.
+//! Tests of the crates of paths, books and workers: `ap_paths`, `ap_book`, `ap_core`, `ap_tasks`, `ap_lock` and
+//! `ap_steal`.
 #![tactic(auto)]
 
 #[cfg(test)]
+mod book;
+#[cfg(test)]
+mod events;
+#[cfg(test)]
 mod lock;
+#[cfg(test)]
+mod pairs;
+#[cfg(test)]
+mod paths;
 #[cfg(test)]
 mod steal;
 #[cfg(test)]
