@@ -4,6 +4,7 @@ use ap_defs::memory::Memory;
 use ap_defs::paths::{Out, Path, Visit};
 use ap_paths::{Endings, Tree, merges_whole};
 use std::alloc::Global;
+use std::cmp::Ordering;
 
 /// How many choices the empty path of a tree has, and how many kids.
 fn widths<T: Tree>(alloc: Global, tree: &T) -> Result<(Option<u32>, usize), Memory> {
@@ -60,4 +61,27 @@ pub fn are_both_ends(ends: &[(Path, List<Out>)]) -> bool {
 fn ends_stand_in_path_order(rt: HostRuntime) {
     let ends = both_ends(rt.alloc());
     assert!(rt; matches!(&ends, Ok(ends) if are_both_ends(ends.as_slice())));
+}
+
+/// Paths by 1, by 1 and then 2, and by 2.
+fn three_paths(alloc: Global) -> Result<(Path, Path, Path), Memory> {
+    let first = Path::root(alloc).child(alloc, 1)?;
+    let below = first.child(alloc, 2)?.copy(alloc)?;
+    let second = Path::root(alloc).child(alloc, 2)?;
+    Ok((first, below, second))
+}
+
+fn are_in_order(first: &Path, below: &Path, second: &Path) -> bool {
+    first.cmp(below) == Ordering::Less
+        && second.cmp(below) == Ordering::Greater
+        && first.cmp(first) == Ordering::Equal
+        && first.is_prefix(below)
+        && !second.is_prefix(below)
+        && below.choices() == [1, 2].as_slice()
+}
+
+#[test]
+fn a_path_comes_before_the_paths_that_go_on_from_it(rt: HostRuntime) {
+    let paths = three_paths(rt.alloc());
+    assert!(rt; matches!(&paths, Ok((first, below, second)) if are_in_order(first, below, second)));
 }
