@@ -1,27 +1,9 @@
+use crate::reading::{items_of, tokens_of};
 use ap_defs::faults::TypeFault;
 use ap_defs::goals::{Clause, Local, Program, Query};
-use ap_defs::limits::SIZE_LIMIT;
 use ap_defs::terms::Raw;
-use ap_lexer::{Token, lex};
-use ap_syntax::parse;
-use ap_trees::Item;
 use ap_typecheck::{TypeError, check};
 use std::alloc::{AllocError, Global};
-use std::test::Fail;
-
-fn tokens_of(alloc: Global, text: &[u8]) -> Result<Vec<Token<'_>>, AllocError> {
-    if text.len() > SIZE_LIMIT {
-        return Err(AllocError);
-    }
-    lex(alloc, text).map_err(|_| AllocError)
-}
-
-fn items_of<'a>(alloc: Global, tokens: &[Token<'a>]) -> Result<Vec<Item<'a>>, AllocError> {
-    if tokens.len() > SIZE_LIMIT {
-        return Err(AllocError);
-    }
-    parse(alloc, tokens).map_err(|_| AllocError)
-}
 
 /// Identifiers with their kinds.
 fn push_locals(alloc: Global, out: &mut String, locals: &[Local]) -> Result<(), AllocError> {
@@ -78,7 +60,21 @@ fn shown(alloc: Global, text: &str) -> Result<String, AllocError> {
     }
 }
 
-const PROGRAMS: [(&str, &str); 4] = [
+/// The typed program of a text.
+pub fn typed(alloc: Global, text: &str) -> Result<Program<Raw>, AllocError> {
+    let tokens = tokens_of(alloc, text.as_bytes())?;
+    let items = items_of(alloc, &tokens)?;
+    if items.len() > 1000 {
+        return Err(AllocError);
+    }
+    check(alloc, &items).map_err(|_| AllocError)
+}
+
+fn is_shown(alloc: Global, text: &str, want: &str) -> Result<bool, AllocError> {
+    Ok(shown(alloc, text)?.as_str() == want)
+}
+
+const PROGRAMS: [(&str, &str); 6] = [
     ("", ""),
     (
         "e : type. c : e. pred q([(e, e)]). q([(c,c)]). ?- q(L).",
@@ -93,33 +89,23 @@ Atom(0, List { items: [Var(Var { num: 0 })] }) L:Var(List(Pair(Base(0), Base(0))
         "m : name_type. n : name_type. e : type. f : (n\\e, e) -> e. c : e. pred p(e). p(f(x\\c, Y)).",
         "List { items: [App(2, Pair(Abs(Name(Name { sort: 1, num: 0 }), App(3, Unit)), Var(Var { num: 1 })))] } True x:Name(1):false Y:Var(Base(0)):false;",
     ),
-];
-
-#[test]
-fn programs_are_typed(rt: HostRuntime) -> Result<(), Fail> {
-    for (text, want) in &PROGRAMS {
-        assert!(rt; shown(rt.alloc(), text)?.as_str() == *want, "at {text}");
-    }
-    Ok(())
-}
-
-#[test]
-fn identifiers_are_numbered(rt: HostRuntime) -> Result<(), Fail> {
-    let text =
-        "id : name_type. pred p(id, id). ?- p(a, X), new b (exists X (p(b, X), p(a, Y))), p(b, _), p(_, X).";
-    let want =
+    (
+        "id : name_type. pred p(id, id). ?- p(a, X), new b (exists X (p(b, X), p(a, Y))), p(b, _), p(_, X).",
         "Both(Atom(0, List { items: [Name(Name { sort: 0, num: 0 }), Var(Var { num: 1 })] }), \
 Both(New(Name { sort: 0, num: 2 }, Exists(Var { num: 3 }, Both(Atom(0, List { items: [Name(Name { sort: 0, num: 2 }), Var(Var { num: 3 })] }), \
 Atom(0, List { items: [Name(Name { sort: 0, num: 0 }), Var(Var { num: 4 })] })))), \
 Both(Atom(0, List { items: [Name(Name { sort: 0, num: 5 }), Var(Var { num: 6 })] }), Atom(0, List { items: [Var(Var { num: 7 }), Var(Var { num: 1 })] })))) \
-a:Name(0):false X:Var(Names(0)):false b:Name(0):true X:Var(Names(0)):true Y:Var(Names(0)):false b:Name(0):false _:Var(Names(0)):false _:Var(Names(0)):false;";
-    assert_eq!(rt; shown(rt.alloc(), text)?.as_str(), want);
-    Ok(())
-}
+a:Name(0):false X:Var(Names(0)):false b:Name(0):true X:Var(Names(0)):true Y:Var(Names(0)):false b:Name(0):false _:Var(Names(0)):false _:Var(Names(0)):false;",
+    ),
+    ("id : name_type.\nid : type.\nq.", "fault 2 2 2"),
+];
 
 #[test]
-fn the_first_fault_is_told(rt: HostRuntime) -> Result<(), Fail> {
-    let text = "id : name_type.\nid : type.\nq.";
-    assert_eq!(rt; shown(rt.alloc(), text)?.as_str(), "fault 2 2 2");
-    Ok(())
+fn programs_are_typed(rt: HostRuntime) {
+    for (text, want) in &PROGRAMS {
+        assert!(rt;
+            matches!(is_shown(rt.alloc(), text, want), Ok(true)),
+            "at {text}"
+        );
+    }
 }

@@ -1,7 +1,8 @@
-use ap_defs::goals::{Constructor, Signature};
+use crate::typecheck::typed;
+use ap_defs::goals::{Constructor, Program};
 use ap_defs::lists::{List, Text};
 use ap_defs::memory::Memory;
-use ap_defs::terms::{Assignment, Shape, Ty};
+use ap_defs::terms::{Assignment, Raw, Shape, Ty};
 use ap_types::answers::{inhabited, may_hold};
 use ap_types::equations::{solve, solved};
 use ap_types::errors::TypesError;
@@ -9,28 +10,6 @@ use ap_types::holding::{holds, types_holding};
 use ap_types::inhabitants::{Inhabitants, declare, is_inhabited, no_inhabitants};
 use ap_types::solved::value_of;
 use std::alloc::Global;
-use std::test::Fail;
-
-fn constructor(
-    alloc: Global,
-    spelling: &str,
-    args: Vec<Ty>,
-    of: u32,
-) -> Result<Constructor, Memory> {
-    Ok(Constructor {
-        text: Text::of(String::from_str(alloc, spelling)?),
-        args: List::of(args),
-        result: of,
-    })
-}
-
-fn texts(alloc: Global, spellings: &[&str]) -> Result<List<Text>, Memory> {
-    let mut texts = Vec::new(alloc);
-    for spelling in spellings {
-        texts.push(Text::of(String::from_str(alloc, spelling)?))?;
-    }
-    Ok(List::of(texts))
-}
 
 fn list(alloc: Global, of: Ty) -> Result<Ty, Memory> {
     Ok(Ty::List(Box::new(alloc, of)?))
@@ -40,63 +19,67 @@ fn abstraction(alloc: Global, sort: u32, body: Ty) -> Result<Ty, Memory> {
     Ok(Ty::Abs(sort, Box::new(alloc, body)?))
 }
 
-fn lam(alloc: Global) -> Result<Constructor, Memory> {
-    let body = abstraction(alloc, 0, Ty::Base(0))?;
-    constructor(alloc, "lam", vec![in alloc; body]?, 0)
-}
+// Two name types and two data types, of which the second has no constructor.
+const LAMBDA_TERMS: &str = "id : name_type. key : name_type. exp : type. e : type. \
+    var : id -> exp. app : (exp, exp) -> exp. lam : id\\exp -> exp.";
 
-fn app(alloc: Global) -> Result<Constructor, Memory> {
-    constructor(alloc, "app", vec![in alloc; Ty::Base(0), Ty::Base(0)]?, 0)
-}
-
-fn var(alloc: Global) -> Result<Constructor, Memory> {
-    constructor(alloc, "var", vec![in alloc; Ty::Names(0)]?, 0)
-}
-
-fn constructors(alloc: Global) -> Result<List<Constructor>, Memory> {
-    Ok(List::of(vec![in alloc; lam(alloc)?, app(alloc)?, var(alloc)?]?))
-}
-
-// var : id -> exp. app : (exp, exp) -> exp. lam : id\exp -> exp. And a data type without constructors.
-fn lambda_terms(alloc: Global) -> Result<Signature, Memory> {
-    Ok(Signature {
-        name_types: texts(alloc, &["id", "key"])?,
-        data_types: texts(alloc, &["exp", "e"])?,
-        constructors: constructors(alloc)?,
-        predicates: List::of(Vec::new(alloc)),
-    })
+fn lambda_terms(alloc: Global) -> Result<Program<Raw>, Memory> {
+    Ok(typed(alloc, LAMBDA_TERMS)?)
 }
 
 /// Whether a type is inhabited for the lambda terms.
-fn has_terms(alloc: Global, ty: Ty) -> Result<bool, Memory> {
-    let signature = lambda_terms(alloc)?;
-    inhabited(alloc, &signature, &ty)
+fn has_terms(alloc: Global, ty: &Ty) -> Result<bool, Memory> {
+    let program = lambda_terms(alloc)?;
+    inhabited(alloc, &program.signature, ty)
+}
+
+/// Whether there are lists of the empty data type, and abstractions in it.
+fn empty_inside(alloc: Global) -> Result<(bool, bool), Memory> {
+    let lists = has_terms(alloc, &list(alloc, Ty::Base(1))?)?;
+    let abstractions = has_terms(alloc, &abstraction(alloc, 0, Ty::Base(1))?)?;
+    Ok((lists, abstractions))
 }
 
 #[test]
-fn lambda_terms_are_inhabited(rt: HostRuntime) -> Result<(), Fail> {
+fn lambda_terms_are_inhabited(rt: HostRuntime) {
     let alloc = rt.alloc();
-    assert!(rt; has_terms(alloc, Ty::Base(0))?);
-    assert!(rt; !has_terms(alloc, Ty::Base(1))?);
-    assert!(rt; has_terms(alloc, list(alloc, Ty::Base(1))?)?);
-    assert!(rt; !has_terms(alloc, abstraction(alloc, 0, Ty::Base(1))?)?);
-    Ok(())
+    assert!(rt; matches!(has_terms(alloc, &Ty::Base(0)), Ok(true)));
+    assert!(rt; matches!(has_terms(alloc, &Ty::Base(1)), Ok(false)));
+    assert!(rt; matches!(empty_inside(alloc), Ok((true, false))));
 }
 
 /// Whether terms of a type may have names of a sort free, for the lambda terms.
-fn has_names(alloc: Global, ty: Ty, sort: u32) -> Result<bool, Memory> {
-    let signature = lambda_terms(alloc)?;
-    may_hold(alloc, &signature, &ty, sort)
+fn has_names(alloc: Global, ty: &Ty, sort: u32) -> Result<bool, Memory> {
+    let program = lambda_terms(alloc)?;
+    may_hold(alloc, &program.signature, ty, sort)
+}
+
+/// Whether lists of terms may have names free, and abstractions their own.
+fn names_inside(alloc: Global) -> Result<(bool, bool), Memory> {
+    let lists = has_names(alloc, &list(alloc, Ty::Base(0))?, 0)?;
+    let abstractions = has_names(alloc, &abstraction(alloc, 1, Ty::Unit)?, 1)?;
+    Ok((lists, abstractions))
 }
 
 #[test]
-fn lambda_terms_may_hold_their_names(rt: HostRuntime) -> Result<(), Fail> {
+fn lambda_terms_may_hold_their_names(rt: HostRuntime) {
     let alloc = rt.alloc();
-    assert!(rt; has_names(alloc, Ty::Base(0), 0)?);
-    assert!(rt; !has_names(alloc, Ty::Base(0), 1)?);
-    assert!(rt; has_names(alloc, list(alloc, Ty::Base(0))?, 0)?);
-    assert!(rt; !has_names(alloc, abstraction(alloc, 1, Ty::Unit)?, 1)?);
-    Ok(())
+    assert!(rt; matches!(has_names(alloc, &Ty::Base(0), 0), Ok(true)));
+    assert!(rt; matches!(has_names(alloc, &Ty::Base(0), 1), Ok(false)));
+    assert!(rt; matches!(names_inside(alloc), Ok((true, false))));
+}
+
+/// Whether a type may hold names of the first sort, for the lambda terms, by a table.
+fn is_in_table(alloc: Global, ty: &Ty) -> Result<bool, Memory> {
+    let program = lambda_terms(alloc)?;
+    let table = types_holding(alloc, &program.signature, 0)?;
+    Ok(holds(&table, ty))
+}
+
+#[test]
+fn a_table_answers_for_its_sort(rt: HostRuntime) {
+    assert!(rt; matches!(is_in_table(rt.alloc(), &Ty::Base(0)), Ok(true)));
+    assert!(rt; matches!(is_in_table(rt.alloc(), &Ty::Base(1)), Ok(false)));
 }
 
 fn pair(alloc: Global, left: Shape, right: Shape) -> Result<Shape, Memory> {
@@ -136,11 +119,14 @@ fn endless(alloc: Global) -> Result<Vec<(Shape, Shape)>, Memory> {
     Ok(vec![in alloc; (Shape::Hole(1), Shape::Hole(0)), (Shape::Hole(0), around)]?)
 }
 
+fn endless_filled(alloc: Global) -> Result<Assignment, TypesError> {
+    let equations = endless(alloc)?;
+    solve(alloc, equations.as_slice(), &[], 1)
+}
+
 #[test]
-fn a_hole_in_its_own_shape_is_a_clash(rt: HostRuntime) -> Result<(), Fail> {
-    let equations = endless(rt.alloc())?;
-    assert!(rt; is_clash(solve(rt.alloc(), equations.as_slice(), &[], 1)));
-    Ok(())
+fn a_hole_in_its_own_shape_is_a_clash(rt: HostRuntime) {
+    assert!(rt; is_clash(endless_filled(rt.alloc())));
 }
 
 /// Whether hole 1, which must be a name type, is the one that there is.
@@ -201,18 +187,12 @@ fn shapes_that_double_stand_once(rt: HostRuntime) {
     assert!(rt; is_clash(doubled_unit(rt.alloc())));
 }
 
-/// Whether a type may hold names of the first sort, for the lambda terms, by a table.
-fn is_in_table(alloc: Global, ty: Ty) -> Result<bool, Memory> {
-    let signature = lambda_terms(alloc)?;
-    let table = types_holding(alloc, &signature, 0)?;
-    Ok(holds(&table, &ty))
-}
-
-#[test]
-fn a_table_answers_for_its_sort(rt: HostRuntime) -> Result<(), Fail> {
-    assert!(rt; is_in_table(rt.alloc(), Ty::Base(0))?);
-    assert!(rt; !is_in_table(rt.alloc(), Ty::Base(1))?);
-    Ok(())
+fn constructor(alloc: Global, args: Vec<Ty>, of: u32) -> Constructor {
+    Constructor {
+        text: Text::of(String::new(alloc)),
+        args: List::of(args),
+        result: of,
+    }
 }
 
 // Data type x is made of data types x + 1 and x + 1, for each x below 50.
@@ -220,7 +200,7 @@ fn chain(alloc: Global) -> Result<Inhabitants, Memory> {
     let mut table = no_inhabitants(alloc);
     for x in 0..50 {
         let args = vec![in alloc; Ty::Base(x + 1), Ty::Base(x + 1)]?;
-        declare(alloc, &mut table, &constructor(alloc, "c", args, x)?)?;
+        declare(alloc, &mut table, &constructor(alloc, args, x))?;
     }
     Ok(table)
 }
@@ -229,17 +209,12 @@ fn chain(alloc: Global) -> Result<Inhabitants, Memory> {
 fn last_inhabits(alloc: Global) -> Result<bool, Memory> {
     let mut table = chain(alloc)?;
     let before = is_inhabited(&table, &Ty::Base(0));
-    declare(
-        alloc,
-        &mut table,
-        &constructor(alloc, "d", Vec::new(alloc), 50)?,
-    )?;
+    declare(alloc, &mut table, &constructor(alloc, Vec::new(alloc), 50))?;
     let other = is_inhabited(&table, &Ty::Base(51));
     Ok(!before && !other && is_inhabited(&table, &Ty::Base(0)))
 }
 
 #[test]
-fn data_types_are_inhabited_from_the_last(rt: HostRuntime) -> Result<(), Fail> {
-    assert!(rt; last_inhabits(rt.alloc())?);
-    Ok(())
+fn data_types_are_inhabited_from_the_last(rt: HostRuntime) {
+    assert!(rt; matches!(last_inhabits(rt.alloc()), Ok(true)));
 }
