@@ -34,7 +34,11 @@ pub fn least(first: Option<TypeKind>, second: Option<TypeKind>) -> Option<TypeKi
 fn arity_flaw(declared: usize, given: usize) -> Option<TypeKind>
     ensures { result ≡ spec.arity_flaw declared given }
 {
-    if declared == given { None } else { Some(TypeKind::Arity) }
+    if declared == given {
+        None
+    } else {
+        Some(TypeKind::Arity)
+    }
 }
 
 /// The fault of an applied constructor, or of a predicate, where it is given how many arguments it has.

@@ -53,7 +53,11 @@ fn constructor_flaw(
 }
 
 /// The least kind of a predicate's faults.
-fn predicate_flaw(declared: &Declarations<'_>, word: &str, args: &[TypeTree<'_>]) -> Option<TypeKind>
+fn predicate_flaw(
+    declared: &Declarations<'_>,
+    word: &str,
+    args: &[TypeTree<'_>],
+) -> Option<TypeKind>
     requires indexed { IsIndexed declared.now }
     requires small { IsSmall declared.now }
     ensures { result ≡ spec.predicate_flaw (declared_of declared.now) word.now (types_of args.now) }
