@@ -14,7 +14,7 @@ mapped_at f [] i x lt e = absurd (omega arith)
 mapped_at f (y ∷ ys) zero x lt e = ap (λ z. f z ∷ map f ys) (sym e)
 mapped_at f (y ∷ ys) (suc i) x lt e = mapped_at f ys i x (omega arith) e
 
-joined_first : (options : List OptionName) (word : List ℕ) (words : List (List ℕ)) → list_any is_equals word ≡ true
+pub joined_first : (options : List OptionName) (word : List ℕ) (words : List (List ℕ)) → list_any is_equals word ≡ true
     → settings_of options (word ∷ words) ≡ both (joined options word) (settings_of options words)
 joined_first options word [] has = rw has refl
 joined_first options word (v ∷ vs) has = rw has refl

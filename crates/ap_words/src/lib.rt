@@ -4,6 +4,7 @@
 //! [`Asked`] and of [`CommandName`], its row in the table, and what its settings ask for.
 #![tactic(auto)]
 
+mod program;
 mod reading;
 mod settings;
 mod table;

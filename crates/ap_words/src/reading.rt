@@ -3,6 +3,7 @@ ghost use Rattle.std.specs.Prelude.{◌≡◌, IfOk, map, string_bytes};
 ghost use Rattle.ap_words.specs.Words.{asked_by, asked_of, asked_together, asked_with, command_of, depth_in, workers_in};
 
 use crate::Asked;
+use crate::program::is_taken;
 use crate::settings::{Setting, complete, number_of, read_settings};
 use crate::table::{CommandName, OptionName};
 use ap_defs::limits::{Depth, Workers};
@@ -89,9 +90,19 @@ fn asked_words(alloc: Global, words: &[String]) -> Result<Option<Asked>, Memory>
     }
 }
 
-/// What the words after the program's name ask for, where they are accepted. `Err` is want of memory.
+/// What the words after the program's name ask for, where they are accepted. The command is built by
+/// clap too, which then takes the words: it would answer otherwise only for want of memory.
+///
+/// `Err` is want of memory.
 pub fn read(alloc: Global, words: &[String]) -> Result<Option<Asked>, Memory>
     ensures { IfOk result (λ asked. asked ≡ asked_of (map string_bytes words.now)) }
 {
-    asked_words(alloc, words)
+    let Some(asked) = asked_words(alloc, words)? else {
+        return Ok(None);
+    };
+    if is_taken(alloc, words)? {
+        Ok(Some(asked))
+    } else {
+        Ok(None)
+    }
 }
