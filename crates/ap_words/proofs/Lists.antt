@@ -1,5 +1,5 @@
 -- The first element that passes a test, and how many do.
-use Rattle.std.proofs.Common.{◌≡◌, ◌∙◌, ◌+◌, ◌++◌, ◌||◌, ◌&&◌, refl, sym, ap, subst, arith, ℕ, Bool, true, false, true≢false, cond, List, [], ◌∷◌, Option, Some, None, map}
+use Rattle.std.proofs.Common.{◌≡◌, ◌+◌, ◌++◌, ◌||◌, ◌&&◌, refl, sym, subst, Bool, true, false, true≢false, cond, List, [], ◌∷◌, Some, None, map}
 use Rattle.std.specs.Prelude.{count_by, find, option_map}
 use Rattle.std.proofs.lemmas.List.Sums.{sum_by-cons, sum_by_push}
 use Rattle.std.specs.List.{list_all}

@@ -1,5 +1,5 @@
 -- What names an option.
-use Rattle.std.proofs.Common.{◌≡◌, ◌≢◌, ◌++◌, refl, sym, true, false, ⊎_elim, ℕ, List, [], ◌∷◌, Option, Some, None, codes}
+use Rattle.std.proofs.Common.{◌≡◌, ◌≢◌, ◌++◌, refl, sym, false, ⊎_elim, ℕ, List, [], ◌∷◌, None, codes}
 use Rattle.std.proofs.lemmas.Bool.{cases_Bool}
 use Rattle.std.proofs.lemmas.Slice.Eq.{bytes_eq-Decides}
 use Rattle.std.specs.Str.{bytes_eq}

@@ -1,9 +1,9 @@
 -- How clap sees the words of a setting.
-use Rattle.std.proofs.Common.{◌≡◌, ◌∙◌, ◌++◌, ◌==◌, ◌&&◌, ◌+◌, refl, sym, ap, ap₂, suc, take, drop, arith, ℕ, Bool, true, false, true≢false, cond, List, [], ◌∷◌, Option, Some, None, codes, length}
+use Rattle.std.proofs.Common.{◌≡◌, ◌∙◌, ◌++◌, ◌==◌, ◌&&◌, ◌+◌, refl, sym, ap, ap₂, suc, take, drop, arith, ℕ, Bool, true, false, true≢false, cond, List, [], ◌∷◌, Some, None, codes, length}
 use Rattle.std.proofs.lemmas.Bool.Decides.{nat_tests}
 use Rattle.std.specs.Prelude.{nat_lt}
 use Rattle.std.specs.Char.{is_ascii_digit}
-use Rattle.std.specs.List.{before_first, after_first, list_all, list_any, position_or_len}
+use Rattle.std.specs.List.{before_first, after_first, list_any, position_or_len}
 use Rattle.std.specs.Str.{bytes_eq}
 use Rattle.std.specs.Str.Parse.{digits_value}
 use Rattle.clap.specs.Lexer.{long_of, short_of}

@@ -1,7 +1,7 @@
 -- What clap has of settings that were read, as rows.
-use Rattle.std.proofs.Common.{◌≡◌, ◌∙◌, ◌≤◌, ◌+◌, ◌++◌, ◌||◌, ◌&&◌, not, refl, sym, ap, arith, ℕ, Bool, true, false, true≢false, cond, subst, List, [], ◌∷◌, Option, Some, None, map, append-nil}
+use Rattle.std.proofs.Common.{◌≡◌, ◌∙◌, ◌≤◌, ◌+◌, ◌++◌, ◌||◌, ◌&&◌, not, refl, sym, ap, arith, ℕ, Bool, true, false, true≢false, cond, subst, List, [], ◌∷◌, Some, None, map, append-nil}
 use Rattle.std.specs.Prelude.{count_by, find, fold}
-use Rattle.std.specs.List.{list_all, list_any}
+use Rattle.std.specs.List.{list_all}
 use Rattle.std.specs.Str.{bytes_eq}
 use Rattle.clap.specs.Walk.{Row, Rule, Text, arg_by_id, arg_by_long, at_row, has_row, more_values, reading_by, used, with_default}
 use Rattle.clap.specs.Simple.{filled}

@@ -1,5 +1,5 @@
 -- The settings of words, from one word on.
-use Rattle.std.proofs.Common.{◌≡◌, ◌<◌, ◌+◌, ◌++◌, ◌∙◌, refl, sym, ap, arith, zero, suc, add-one, ℕ, Bool, true, false, List, [], ◌∷◌, Option, Some, None, length, drop, get_or, map}
+use Rattle.std.proofs.Common.{◌≡◌, ◌<◌, ◌+◌, ◌++◌, ◌∙◌, refl, sym, ap, arith, zero, suc, add-one, ℕ, true, List, [], ◌∷◌, Option, Some, None, length, drop, get_or, map}
 use Rattle.std.specs.Prelude.{option_map}
 use Rattle.std.specs.List.{list_any}
 use Rattle.std.proofs.lemmas.List.{append_assoc}

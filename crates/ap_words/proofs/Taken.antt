@@ -1,12 +1,12 @@
 -- clap takes the words that are accepted.
-use Rattle.std.proofs.Common.{◌≡◌, ◌∙◌, ◌≤◌, ◌<◌, ◌+◌, ◌++◌, ◌||◌, ◌&&◌, ◌⊎◌, ⊎_elim, not, refl, sym, ap, ap₂, subst, arith, ℕ, Bool, true, false, true≢false, cond, List, [], ◌∷◌, Option, Some, None, map, codes, append-nil, append_assoc}
+use Rattle.std.proofs.Common.{◌≡◌, ◌∙◌, ◌≤◌, ◌+◌, ◌++◌, ◌||◌, ◌&&◌, ⊎_elim, not, refl, sym, ap, subst, arith, ℕ, Bool, true, false, true≢false, cond, List, [], ◌∷◌, Option, Some, None, map, codes, append-nil, append_assoc}
 use Rattle.std.proofs.lemmas.Bool.{cases_Bool}
 use Rattle.std.proofs.lemmas.Bool.Decides.{nat_tests}
 use Rattle.std.proofs.lemmas.Slice.Eq.{bytes_eq-Decides}
-use Rattle.std.specs.Prelude.{count_by, find, fold, nat_le, option_map, option_and_then}
+use Rattle.std.specs.Prelude.{count_by, fold, nat_le, option_map, option_and_then}
 use Rattle.std.specs.List.{before_first, after_first, list_all, list_any}
 use Rattle.std.specs.Str.{bytes_eq}
-use Rattle.clap.specs.Walk.{Walk, Text, Names, finished, idle, nothing_held, walk, walk_from, walked}
+use Rattle.clap.specs.Walk.{Walk, Text, Names, nothing_held, walk_from, walked}
 use Rattle.clap.specs.Simple.{Shape, built}
 use Rattle.clap.specs.Takes.{is_given, level_passes, takes, turn_passes, walk_passes}
 use Rattle.clap.specs.Walk.{Rule}
@@ -22,7 +22,7 @@ use Rattle.ap_words.proofs.Lists.{all_found, count_first, count_push, find_holds
 use Rattle.ap_words.proofs.Plain.{joined_word, name_same, number_plain, option_word, parted}
 use Rattle.ap_words.proofs.Rows.{Given, IsKnown, built_argument, defaults_stay, each_free, names, no_defaults, required_given, row_for, row_given, seen}
 use Rattle.ap_words.proofs.Steps.{joined_first}
-use Rattle.ap_words.proofs.Walking.{IsFine, given_in, held_at, joined_turn, joined_walk, leaf, name_turn, name_walk, settle_at, settled_at, value_turn, value_walk, walk_at, walk_in}
+use Rattle.ap_words.proofs.Walking.{IsFine, given_in, joined_turn, joined_walk, leaf, name_turn, name_walk, settle_at, settled_at, value_turn, value_walk, walk_at, walk_in}
 
 -- ---- what a setting was read from
 

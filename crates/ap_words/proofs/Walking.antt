@@ -1,9 +1,8 @@
 -- What clap's walk makes of one setting.
-use Rattle.std.proofs.Common.{◌≡◌, ◌∙◌, ◌++◌, ◌||◌, ◌&&◌, not, refl, sym, ap, arith, ℕ, Bool, true, false, List, [], ◌∷◌, Option, Some, None, map}
+use Rattle.std.proofs.Common.{◌≡◌, ◌∙◌, ◌++◌, refl, sym, ap, true, false, List, [], ◌∷◌, Option, Some, None, map}
 use Rattle.std.proofs.lemmas.List.{map-append}
 use Rattle.std.specs.Prelude.{option_map}
-use Rattle.std.specs.Str.{bytes_eq}
-use Rattle.clap.specs.Walk.{Held, Row, Rule, Text, Walk, idle, option, arg_by_id, has_row, settled, walked}
+use Rattle.clap.specs.Walk.{Held, Row, Text, Walk, idle, option, settled, walked}
 use Rattle.clap.specs.Simple.{Shape, new_shape}
 use Rattle.clap.specs.Takes.{settle_passes, turn_passes}
 use Rattle.ap_words.specs.declared.table.OptionName.{OptionName}

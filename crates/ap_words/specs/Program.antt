@@ -1,5 +1,5 @@
 -- The program's command, as clap is told of it: a subcommand for each command, with an argument for each option.
-use Rattle.std.specs.Prelude.{◌≡◌, true, false, Some, List, codes, fold}
+use Rattle.std.specs.Prelude.{◌≡◌, true, false, Some, codes, fold}
 use Rattle.clap.specs.Words.{App, Rule, new_app, new_rule, with_rule, with_subcommand}
 use Rattle.clap.specs.Simple.{on_top}
 use Rattle.clap.specs.declared.builder.command.Command.{Command}

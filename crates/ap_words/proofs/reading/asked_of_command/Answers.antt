@@ -1,6 +1,5 @@
-use Rattle.std.proofs.Common.{◌≡◌, ◌∙◌, ap, sym, map, List, Option, string_bytes}
+use Rattle.std.proofs.Common.{◌∙◌, ap, map, List, string_bytes}
 use Rattle.std.specs.Prelude.{option_and_then}
-use Rattle.ap_words.specs.declared.settings.Setting.{Setting}
 use Rattle.ap_words.specs.declared.table.OptionName.{OptionName}
 use Rattle.ap_words.specs.Words.{asked_together, settings_of}
 use Rattle.ap_words.proofs.reading.asked_of_command.Goals as goal

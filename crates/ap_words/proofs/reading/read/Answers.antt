@@ -1,4 +1,4 @@
-use Rattle.std.proofs.Common.{◌≡◌, ◌∙◌, sym, true, false, true≢false, Some, map, string_bytes}
+use Rattle.std.proofs.Common.{◌≡◌, ◌∙◌, sym, true≢false, Some, map, string_bytes}
 use Rattle.ap_words.specs.Words.{asked_of}
 use Rattle.ap_words.proofs.Taken.{accepted_taken}
 use Rattle.ap_words.proofs.reading.read.Goals as goal

@@ -1,4 +1,4 @@
-use Rattle.std.proofs.Common.{◌≡◌, ◌∙◌, ◌++◌, ap, sym, drop, map, List, Option, string_bytes}
+use Rattle.std.proofs.Common.{◌∙◌, ◌++◌, ap, sym, drop, map, List, Option, string_bytes}
 use Rattle.std.specs.Prelude.{option_map}
 use Rattle.ap_words.specs.declared.settings.Setting.{Setting}
 use Rattle.ap_words.specs.Words.{both, settings_of}

@@ -1,4 +1,4 @@
-use Rattle.std.proofs.Common.{◌≡◌, ◌∙◌, ap₂, sym, subst, arith, Some, None, List, ℕ, string_bytes}
+use Rattle.std.proofs.Common.{◌∙◌, ap₂, sym, subst, arith, Some, None, List, ℕ, string_bytes}
 use Rattle.std.proofs.lemmas.Str.Pattern.{split_parts}
 use Rattle.clap.proofs.CutLemmas.{Lacks}
 use Rattle.ap_words.specs.Words.{setting_of}
