@@ -1,0 +1,4 @@
+pub mod Settled
+pub mod Wanted
+pub mod FreeLocals
+pub mod Scopes

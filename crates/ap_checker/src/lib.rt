@@ -1,0 +1,12 @@
+//! A checker of derivations, which shares no code with the search that makes them: its freshness and
+//! its equality under conditions are its own, on terms.
+#![tactic(auto)]
+
+pub mod equality;
+mod fits;
+mod free;
+mod lookups;
+mod nodes;
+mod scope;
+pub mod swappings;
+pub mod types;
