@@ -6,3 +6,4 @@ pub mod LocalLemmas
 pub mod ScopeLemmas
 pub mod NodeLemmas
 pub mod FreeLemmas
+pub mod NewNameLemmas

@@ -6,6 +6,7 @@ pub mod equality;
 mod fits;
 mod free;
 mod lookups;
+mod new_names;
 mod nodes;
 mod scope;
 pub mod swappings;
