@@ -7,3 +7,4 @@ pub mod ScopeLemmas
 pub mod NodeLemmas
 pub mod FreeLemmas
 pub mod NewNameLemmas
+pub mod AnswerLemmas

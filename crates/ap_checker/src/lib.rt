@@ -2,6 +2,7 @@
 //! its equality under conditions are its own, on terms.
 #![tactic(auto)]
 
+mod answers;
 pub mod equality;
 mod fits;
 mod free;
