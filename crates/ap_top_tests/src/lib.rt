@@ -6,4 +6,6 @@ mod report;
 #[cfg(test)]
 mod top_call;
 #[cfg(test)]
+mod words;
+#[cfg(test)]
 mod workers;
