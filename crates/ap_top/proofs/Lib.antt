@@ -1,5 +1,3 @@
-mod AcceptedWords
-mod Numbers
 mod Reports
 mod Wrote
 mod SoundInputs

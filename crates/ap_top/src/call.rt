@@ -1,53 +1,19 @@
 // From the words and the bytes that come in to the bytes that go out.
-ghost use Rattle.std.specs.Prelude.{◌≡◌, ◌≢◌, ◌<◌, ◌≤◌, None, IfOk, IsSome, map, string_bytes};
+ghost use Rattle.std.specs.Prelude.{◌≡◌, ◌≢◌, None, IfOk, IsSome, map, string_bytes};
 ghost use Rattle.ap_report.specs.declared.report.Report.{Report};
-ghost use Rattle.ap_report.specs.TextReport.{IsTextReport};
-ghost use Rattle.ap_top.specs.Words.{depth_of};
-ghost use Rattle.ap_top.specs.Report.{Input, IsReportOn, IsTheReport, line as line_of};
+ghost use Rattle.ap_words.specs.Words.{asked_of};
+ghost use Rattle.ap_top.specs.Report.{Input, IsTheReport};
 ghost use Rattle.ap_top.specs.Run.{IsRead, IsUnwritten, IsWritten};
 
-use crate::reading::{ReadError, read_whole};
-use crate::words;
+use crate::commands::report_of;
+use crate::lines::line;
 use crate::writing::write_whole;
-use ap_defs::lists::List;
 use ap_defs::memory::Memory;
 use ap_io::{Failed, Gate, Sink, Source};
-use ap_report::{Report, Status, Wanted, report_text};
+use ap_report::{Report, Status};
 use std::alloc::Global;
 use std::sync::Wait;
 use std::thread::Threads;
-
-// A report of one line.
-fn line(alloc: Global, text: &str, status: Status) -> Result<Report, Memory>
-    ensures { IfOk result (λ r. r ≡ line_of text.now status) }
-{
-    Ok(Report {
-        bytes: List::of(text.as_bytes().to_vec(alloc)?),
-        status,
-    })
-}
-
-// The report on what the source has left.
-fn report_source<R: Threads + Wait + Sync, S: Source, G: Gate>(
-    rt: &R,
-    alloc: Global,
-    gate: &G,
-    wanted: Wanted,
-    source: &mut S,
-) -> Result<Report, Memory>
-    requires workers { (0 < wanted.workers) × (wanted.workers ≤ 64) }
-    ensures { IfOk result (λ r. (input : Input)
-        × IsRead (S.left source.old) (S.faults source.old) (S.faults source.new) input
-        × IsReportOn wanted.depth input r
-        × ((s : Report) → IsReportOn wanted.depth input s → s ≡ r)) }
-{
-    match read_whole(alloc, source) {
-        Ok(text) => report_text(rt, alloc, gate, wanted, &text),
-        Err(ReadError::Failed) => line(alloc, "% read fault\n", Status::Read),
-        Err(ReadError::TooLarge) => line(alloc, "% text too large\n", Status::TooLarge),
-        Err(ReadError::Memory) => Err(Memory),
-    }
-}
 
 // The report for the words and what the source has left, which is read only where the words are
 // accepted.
@@ -59,14 +25,14 @@ fn report<R: Threads + Wait + Sync, S: Source, G: Gate>(
     words: &[String],
     source: &mut S,
 ) -> Result<Report, Memory>
-    ensures unread { depth_of (map string_bytes words.now) ≡ None → source.new ≡ source.old }
+    ensures unread { asked_of (map string_bytes words.now) ≡ None → source.new ≡ source.old }
     ensures made { IfOk result (λ r. (input : Input)
-        × (IsSome (depth_of (map string_bytes words.now)) →
+        × (IsSome (asked_of (map string_bytes words.now)) →
         IsRead (S.left source.old) (S.faults source.old) (S.faults source.new) input)
         × IsTheReport (map string_bytes words.now) input r) }
 {
-    match words::accepted(words) {
-        Some(wanted) => report_source(rt, alloc, gate, wanted, source),
+    match ap_words::read(alloc, words)? {
+        Some(asked) => report_of(rt, alloc, gate, asked, source),
         None => line(alloc, "% usage fault\n", Status::Usage),
     }
 }
@@ -79,7 +45,7 @@ fn report<R: Threads + Wait + Sync, S: Source, G: Gate>(
 /// | Status | Comes | Written is |
 /// |---|---|---|
 /// | `Ok` | exactly where the text has no fault | the report of its queries |
-/// | `Usage` | exactly where the words aren't `run`, `--depth` with a number of at most 1,000,000, and at most once `--workers` with a number from 1 to 64; then nothing is read | its line |
+/// | `Usage` | exactly where the words are refused: they aren't a command and numbers for its options, each in its range, none set twice and no required one left out; then nothing is read | its line |
 /// | `Syntax` | exactly where the text doesn't split into tokens, or an item isn't in the grammar | the line of the first fault |
 /// | `Types` | exactly where an item isn't well typed | the line of the first fault |
 /// | `Names` | exactly where an item breaks the name restriction | the line of the first fault |
@@ -105,11 +71,11 @@ pub fn top<R: Threads + Wait + Sync, S: Source, K: Sink, G: Gate>(
     gate: &G,
 ) -> Status
     // Nothing is read where the words are refused.
-    ensures unread { depth_of (map string_bytes words.now) ≡ None → source.new ≡ source.old }
+    ensures unread { asked_of (map string_bytes words.now) ≡ None → source.new ≡ source.old }
     // The bytes and the status are those of the one report of the words and of what was read; the ground
     // instances of its answers are derivable, and what is derivable is among them.
     ensures run { result ≢ Status.Memory → (input : Input) × (report : Report)
-        × (IsSome (depth_of (map string_bytes words.now)) →
+        × (IsSome (asked_of (map string_bytes words.now)) →
         IsRead (S.left source.old) (S.faults source.old) (S.faults source.new) input)
         × IsTheReport (map string_bytes words.now) input report
         × IsWritten (record {

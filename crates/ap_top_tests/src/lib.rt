@@ -4,4 +4,6 @@
 #[cfg(test)]
 mod top_call;
 #[cfg(test)]
+mod words;
+#[cfg(test)]
 mod workers;

@@ -7,14 +7,18 @@ use std::alloc::Global;
 use std::sync::Wait;
 use std::thread::Threads;
 
-const TEXT: &[u8] = b"nat : type. z : nat. s : nat -> nat. pred p(nat). p(z). p(s(z)). ?- p(X).";
+/// A text with two answers.
+pub const TEXT: &[u8] =
+    b"nat : type. z : nat. s : nat -> nat. pred p(nat). p(z). p(s(z)). ?- p(X).";
 
-const REPORT: &[u8] = b"X = z\nX = s(z)\n% query 1: 2 answers, 0 cut, 0 stuck\n";
+/// What is written for it.
+pub const REPORT: &[u8] = b"X = z\nX = s(z)\n% query 1: 2 answers, 0 cut, 0 stuck\n";
 
 /// An answer with a new name.
 const NAMED: &[u8] = b"id : name_type. e : type. v : id -> e. l : id\\e -> e. ?- R = l(x\\v(x)).";
 
-fn words_of(alloc: Global, line: &str) -> Result<Vec<String>, Memory> {
+/// The words of a line.
+pub fn words_of(alloc: Global, line: &str) -> Result<Vec<String>, Memory> {
     let mut words = Vec::new(alloc);
     for word in line.split_whitespace() {
         words.push(word.to_string(alloc)?)?;
@@ -49,7 +53,7 @@ pub fn call<R: Threads + Wait + Sync, G: Gate>(
 }
 
 /// Whether a call ends with a status, and has written these bytes.
-fn writes<R: Threads + Wait + Sync>(
+pub fn writes<R: Threads + Wait + Sync>(
     rt: &R,
     alloc: Global,
     line: &str,
@@ -119,34 +123,6 @@ fn a_beginning_of_an_answer_is_written(rt: HostRuntime) {
             (status, want),
         );
         assert!(rt; matches!(done, Ok(true)), "at {read} and {write}");
-    }
-}
-
-// The first read would fail.
-#[test]
-fn other_words_are_refused_before_a_read(rt: HostRuntime) {
-    for line in [
-        "",
-        "run",
-        "run --depth 1000001",
-        "run --depth 5 --depth 5",
-        "run --depth -5",
-        "run --depth 5 --workers 0",
-        "run --depth 1 --workers 0",
-        "run --depth 1 --workers 65",
-        "run --workers 2",
-        "run --workers 2 --workers 2",
-        "run --depth 1 --workers",
-        "solve --depth 5",
-    ] {
-        let fails = Fails {
-            read: 1,
-            write: 0,
-            most: 100,
-        };
-        let want = b"% usage fault\n".as_slice();
-        let refused = writes(&rt, rt.alloc(), line, TEXT, fails, (1, want));
-        assert!(rt; matches!(refused, Ok(true)), "at {line}");
     }
 }
 

@@ -18,6 +18,23 @@ const LISTS: &[u8] = b"e : type. a : e. b : e. pred app([e], [e], [e]).
 app([], L, L). app([X|L], M, [X|N]) :- app(L, M, N).
 ?- app(X, Y, [a,b,a]). ?- X = a ; X = b ; X = a. ?- app(X, [a|Y], Z).";
 
+// Substitution in terms of the lambda calculus, under a binder of the substituted name.
+const LAM: &[u8] = b"id : name_type.
+exp : type.
+var : id -> exp.
+app : (exp, exp) -> exp.
+lam : id\\exp -> exp.
+pred subst(exp, id, exp, exp).
+subst(var(X), X, E, E).
+subst(var(Y), X, E, var(Y)) :- X # Y.
+subst(app(M,N), X, E, app(M2,N2)) :- subst(M,X,E,M2), subst(N,X,E,N2).
+subst(lam(y\\M), X, E, lam(y\\M2)) :- y # X, y # E, subst(M,X,E,M2).
+?- subst(lam(b\\app(var(a),var(b))), a, var(b), R).
+";
+
+const LAM_REPORT: &[u8] =
+    b"R = lam(n1\\app(var(b),var(n1)))\n% query 1: 1 answers, 0 cut, 0 stuck\n";
+
 // Lets the first call pass, and holds each later one until a call of the other worker is inside.
 #[derive(Drop)]
 struct Hold {
@@ -102,6 +119,22 @@ fn workers_write_the_same_bytes(rt: HostRuntime) {
     ] {
         let same = are_the_same_on_each(&rt, rt.alloc(), line);
         assert!(rt; matches!(same, Ok(true)), "at {line}");
+    }
+}
+
+#[test]
+fn a_substitution_is_the_same_by_1_2_and_64_workers(rt: HostRuntime) {
+    for line in [
+        "run --depth 5",
+        "run --depth 5 --workers 1",
+        "run --workers=2 --depth=05",
+        "run --depth=5 --workers 64",
+    ] {
+        let bytes = written(&rt, rt.alloc(), line, LAM, &NoGate);
+        assert!(rt;
+            matches!(&bytes, Ok(Some(bytes)) if bytes.as_slice() == LAM_REPORT),
+            "at {line}"
+        );
     }
 }
 
