@@ -16,3 +16,4 @@ pub mod CoveringLemmas
 pub mod CompletenessLemmas
 pub mod LostProofs
 pub mod ExactLemmas
+pub mod KeptLemmas

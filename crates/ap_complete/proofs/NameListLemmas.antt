@@ -76,9 +76,6 @@ name_image (a ∷ as') (x ∷ cs) d s c h =
 name_image _ _ d s c h = absurd s
 
 -- a name that is fresh for each term of a type is fresh for what stands for a variable of that type
-some_var : (a b : NominalType) → Some (types.var a) ≡ Some (types.var b) → a ≡ b
-some_var a b e = cc
-
 pub term_for_fresh : (cs : List NominalConstructor) (kinds : List NominalKind) (xs : List Var) (gs : List GroundTerm) → AreOfTypes cs kinds xs gs
     → (x : Var) (t : NominalType) → kind_at kinds x.num ≡ Some (types.var t) → (a : Name) → ((g : GroundTerm) → IsOfType cs g t → fresh a g ≡ true)
     → fresh a (term_for xs gs x) ≡ true

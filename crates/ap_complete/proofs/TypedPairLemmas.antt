@@ -29,9 +29,6 @@ use Rattle.ap_soundness.proofs.StepLemmas.{KindsAt}
 use Rattle.ap_complete.specs.NumberedProofs.{kinds_in, kinds_of_use}
 use Rattle.ap_complete.proofs.PairLemmas.{Pairs, looked, pairs_in, pairs_of_use, zipped}
 
-some_kind : (j k : NominalKind) → Some j ≡ Some k → j ≡ k
-some_kind j k h = cc
-
 module _ (p : NominalProgram) (typed : IsTypedProgram p) where
   abbrev cs : List NominalConstructor
   cs = p.signature.constructors

@@ -3,7 +3,8 @@ use Rattle.std.specs.Prelude.{◌≡◌, ◌⊎◌, ◌≤◌, ℕ, true, List, 
 use Rattle.ap_defs.specs.Answers as answers
 use Rattle.ap_defs.specs.Answers.{NominalOut, out_path, outs_at, query_outs}
 use Rattle.ap_defs.specs.Derivations.{GroundProof, height, path}
-use Rattle.ap_defs.specs.Goals.{NominalProgram, NominalQuery}
+use Rattle.ap_defs.specs.Goals.{NominalProgram, NominalQuery, ProgramOver}
+use Rattle.ap_defs.specs.RawTerms.{RawTerm}
 use Rattle.ap_defs.specs.GroundProofs.{AreOfTypes, IsDerivable, IsValid, environment}
 use Rattle.ap_defs.specs.PathOrder.{has_prefix}
 use Rattle.ap_defs.specs.Renaming.{local_names, local_vars}
@@ -11,6 +12,8 @@ use Rattle.ap_defs.specs.Resolution.{kinds_of}
 use Rattle.ap_defs.specs.Terms.{GroundTerm}
 use Rattle.ap_ground.specs.ShownInstances.{IsTypedDerivable}
 use Rattle.ap_complete.specs.Restriction.{KeepsRestriction}
+use Rattle.ap_program.specs.CarryingOut.{carried_out_program}
+use Rattle.ap_program.specs.NameRestriction.{AllPass, items_of}
 use Rattle.ap_program.specs.Typed.{IsTypedProgram, IsTypedQuery, term_form}
 use Rattle.ap_search.specs.Depths.{HasNoCutOut}
 use Rattle.ap_complete.specs.CompleteAnswers.{HasCompleteAnswers, IsCompleteProgram}
@@ -51,6 +54,11 @@ AnswersAreComplete = (p : NominalProgram) → KeepsRestriction p → (depth : �
 
 abbrev pub ProgramsAreComplete : Type 0
 ProgramsAreComplete = (p : NominalProgram) → KeepsRestriction p → (depth : ℕ) → IsCompleteProgram p depth
+
+-- so is the program of items that keep the restriction, once its swappings are carried out
+abbrev pub KeptProgramsAreComplete : Type 0
+KeptProgramsAreComplete = (p : ProgramOver RawTerm) → IsTypedProgram (carried_out_program p) → AllPass p.signature.constructors (items_of p) → (depth : ℕ)
+    → IsCompleteProgram (carried_out_program p) depth
 
 -- without the restriction they need not be
 abbrev pub RestrictionIsNeeded : Type 0

@@ -1,6 +1,6 @@
 //! Ground proofs and the answers of a search.
 
-ghost use Rattle.ap_complete.specs.StatementsOnCompleteness.{AnswersAreComplete, DerivableIsAnswered, InstancesAreDerivable, OutputsStandAlone, ProgramsAreComplete, ProofsAreCovered, RestrictionIsNeeded, WholeAnswersAreAll};
+ghost use Rattle.ap_complete.specs.StatementsOnCompleteness.{AnswersAreComplete, DerivableIsAnswered, InstancesAreDerivable, KeptProgramsAreComplete, OutputsStandAlone, ProgramsAreComplete, ProofsAreCovered, RestrictionIsNeeded, WholeAnswersAreAll};
 
 /// In a program that keeps the name restriction every ground proof of a query, no higher than the depth of
 /// the search, is covered: at its path stands an answer of which the proof's terms are an instance, up to
@@ -20,11 +20,12 @@ pub fn derivable_is_answered()
     ensures derivable { InstancesAreDerivable }
 {}
 
-/// The same in the terms of what is shown, of a query and of each query of a program: the converse of what
-/// `ap_soundness` has of shown answers.
+/// The same in the terms of what is shown, of a query, of each query of a program, and of each query of the
+/// program of items: the converse of what `ap_soundness` has of shown answers.
 pub fn answers_are_complete()
     ensures query { AnswersAreComplete }
     ensures program { ProgramsAreComplete }
+    ensures items { KeptProgramsAreComplete }
 {}
 
 /// Without the name restriction the answers of a typed program need not be complete.

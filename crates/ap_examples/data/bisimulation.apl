@@ -1,6 +1,6 @@
 % The pi-calculus with late transitions (Milner, Parrow and Walker, A calculus of mobile processes, 1992): the transitions
 % of a process as a list, and strong late bisimulation to a number of steps.
-% Depth 16 or more: nothing is cut.
+% Depth 15 or more: nothing is cut.
 name : name_type.
 nat : type. z : nat. s : nat -> nat.
 proc : type.

@@ -1,6 +1,6 @@
 % Closure conversion: functions become pairs of code and an environment, and code has no free variables but its
 % environment and its argument (Minamide, Morrisett and Harper, Typed closure conversion, 1996; here untyped).
-% Depth 10 or more: nothing is cut.
+% Depth 8 or more: nothing is cut.
 
 id : name_type.
 nat : type.

@@ -1,6 +1,6 @@
 % Evaluation with closures: a big-step semantics in which a value is a function with the values of its free
 % variables (Landin, The mechanical evaluation of expressions, 1964; as a natural semantics Kahn 1987).
-% Depth 8 or more: nothing is cut.
+% Depth 6 or more: nothing is cut.
 
 id : name_type.
 exp : type.

@@ -1,6 +1,6 @@
 % Call-by-name reduction by evaluation contexts (Felleisen and Hieb 1992) of a small language with naturals and a fixed
 % point (PCF: Plotkin, LCF considered as a programming language, 1977).
-% Depth 30 or more: nothing is cut.
+% Depth 29 or more: nothing is cut.
 
 id : name_type.
 exp : type.

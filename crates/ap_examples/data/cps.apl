@@ -1,6 +1,6 @@
 % Translations into continuation-passing style, by value: Plotkin's (Call-by-name, call-by-value and the lambda calculus,
 % 1975), and one in one pass, which makes no administrative redexes (Danvy and Filinski, Representing control, 1992).
-% Depth 12 or more: nothing is cut.
+% Depth 11 or more: nothing is cut.
 
 id : name_type.
 exp : type.

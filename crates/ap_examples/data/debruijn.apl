@@ -1,4 +1,5 @@
-% A translation: terms with names to terms with de Bruijn indices, in both directions.
+% A translation: terms with names to terms with de Bruijn indices (de Bruijn, Lambda calculus notation with nameless
+% dummies, 1972). Depth 6 or more: nothing is cut.
 
 id : name_type.
 exp : type.
@@ -16,7 +17,7 @@ ap : (db, db) -> db.
 fn : db -> db.
 
 pred index(id, [id], nat).
-index(X, [X|L], z).
+index(X, [X|_], z).
 index(X, [Y|L], s(N)) :- X # Y, index(X, L, N).
 
 pred nameless([id], exp, db).
@@ -24,7 +25,7 @@ nameless(L, var(X), ix(N)) :- index(X, L, N).
 nameless(L, app(M,N), ap(D,E)) :- nameless(L, M, D), nameless(L, N, E).
 nameless(L, lam(x\M), fn(D)) :- x # L, nameless([x|L], M, D).
 
-% \a. \b. a b
+% \a. \b. a b: a is bound one binder further out, so its index is 1, and that of b is 0.
 ?- nameless([], lam(a\lam(b\app(var(a),var(b)))), D).
 
 % Alpha-equivalent terms have one translation.
@@ -34,5 +35,5 @@ nameless(L, lam(x\M), fn(D)) :- x # L, nameless([x|L], M, D).
 % by X # Y before it is known. So the branch is stuck, and the report says so.
 ?- nameless([], M, fn(fn(ap(ix(z),ix(s(z)))))).
 
-% A free name stands in the list.
+% A free name stands in the list, behind the bound one.
 ?- nameless([c], lam(a\app(var(c),var(a))), D).

@@ -1,6 +1,6 @@
 % Monomorphic type inference: type variables are variables of the search, and unification solves the equations (Hindley
 % 1969; Wand, A simple algorithm and proof for type inference, 1987).
-% Depth 20 or more: nothing is cut.
+% Depth 13 or more: nothing is cut.
 
 id : name_type.
 ty : type.

@@ -1,6 +1,6 @@
 % The linear lambda calculus: each variable is used exactly once, but those of a type !A, which are unpacked into
 % another context (Girard, Linear logic, 1987; with two contexts as Barber, Dual intuitionistic linear logic, 1996).
-% Depth 10 or more: nothing is cut.
+% Depth 9 or more: nothing is cut.
 
 id : name_type.
 ty : type.

@@ -1,6 +1,6 @@
 % The object calculus (Abadi and Cardelli, A Theory of Objects, 1996, chapters 6 and 7): an object is a list of methods,
 % each of which binds self; methods are called and replaced. Evaluation, and inference of first-order types.
-% Depth 12 or more: nothing is cut.
+% Depth 8 or more: nothing is cut.
 
 id : name_type.
 label : name_type.

@@ -88,7 +88,7 @@ prove(Q, S, C) :- right(Q, S, [], [], C).
 ?- prove(s(s(s(z))), [c,f(c)], imp(and(all(x\all(y\imp(r(var(x),var(y)),r(var(y),var(x))))),r(c,f(c))), r(f(c),c))).
 % 4. not exists x. p x gives forall x. not p x, where not A is A -> false.
 ?- prove(s(z), [], imp(imp(ex(x\p(var(x))),false), all(x\imp(p(var(x)),false)))).
-% 5. Peirce's law, ((p c -> r c c) -> p c) -> p c, doesn't hold in intuitionistic logic.
+% 5. Peirce's law, ((p c -> r c c) -> p c) -> p c, doesn't hold in intuitionistic logic: no answer.
 ?- prove(s(s(z)), [c], imp(imp(imp(p(c),r(c,c)),p(c)),p(c))).
 % 6. Excluded middle holds under two negations.
 ?- prove(s(s(z)), [c], imp(imp(or(p(c),imp(p(c),false)),false),false)).

@@ -1,6 +1,6 @@
 % Records with subtyping, by the algorithmic rules (Cardelli, A semantics of multiple inheritance, 1984; Pierce, Types
 % and Programming Languages, chapters 15 and 16).
-% Depth 10 or more: nothing is cut.
+% Depth 6 or more: nothing is cut.
 
 id : name_type.
 label : name_type.                      % two labels are different names, so l # k tells them apart

@@ -1,6 +1,6 @@
 % System F, the lambda calculus with type abstraction (Girard 1972, Reynolds 1974), with explicit types as in
 % Pierce, Types and Programming Languages, chapter 23: typing, and evaluation by value.
-% Depth 10 or more: nothing is cut.
+% Depth 9 or more: nothing is cut.
 
 id : name_type.                 % variables of terms
 tv : name_type.                 % variables of types

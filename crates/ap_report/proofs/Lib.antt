@@ -3,3 +3,4 @@ pub mod Texts
 mod QueryReports
 mod TokenCounts
 pub mod SoundTexts
+pub mod CompleteTexts

@@ -4,4 +4,5 @@ pub mod Texts
 pub mod Queries
 pub mod TextReport
 pub mod SoundAnswers
+pub mod CompleteTexts
 pub mod Laws

@@ -1,62 +1,54 @@
-ghost use Rattle.std.specs.Prelude.{◌≡◌, length, IfOk};
-ghost use Rattle.ap_defs.specs.Goals.{program_of as seen_as};
+ghost use Rattle.ap_backchain.specs.Problems.{HasQuery};
 
-use crate::texts::program_of;
+use crate::texts::{only_query, program_of};
 use ap_answers::printing::{canonical, lines};
-use ap_defs::lists::List;
+use ap_backchain::problem::{Problem, outputs};
 use ap_defs::memory::Memory;
 use ap_defs::outcomes::Answer;
-use ap_defs::paths::{Out, Path};
-use ap_program::restricted::Restricted;
+use ap_defs::paths::Out;
 use std::alloc::Global;
-use std::test::Fail;
 
-// A program whose one query has no identifiers.
-fn plain(alloc: Global) -> Result<Restricted, Memory>
-    ensures { IfOk result (λ r. length (seen_as r).queries ≡ 1) }
+// A query with an answer that shows one variable and no condition, and with a cut.
+const TEXT: &str = "id : name_type. pred p. p :- p. ?- X = a, _ = b ; p, X = a.";
+
+const LINES: &[u8] = b"X = a\n% cut 1\n% query 1: 1 answers, 1 cut, 0 stuck\n";
+
+fn are_written<'a>(alloc: Global, p: &Problem<'a>, outs: &[Out]) -> Result<bool, Memory>
+    requires { HasQuery p.now }
 {
-    let program = program_of(alloc, "?- () = ().")?;
-    if program.program().queries.items().len() == 1 {
-        Ok(program)
-    } else {
-        Err(Memory)
+    let bytes = lines(alloc, p.program, p.query, outs)?;
+    Ok(bytes.as_slice() == LINES)
+}
+
+/// Whether one binding of an answer's two is shown.
+fn shows_one<'a>(alloc: Global, p: &Problem<'a>, answer: &Answer) -> Result<bool, Memory>
+    requires { HasQuery p.now }
+{
+    let shown = canonical(alloc, p.program, p.query, answer)?;
+    let one = shown.binds.items().len() == 1 && shown.conds.items().is_empty();
+    Ok(one && answer.binds.items().len() == 2)
+}
+
+fn are_shown<'a>(alloc: Global, p: &Problem<'a>) -> Result<bool, Memory>
+    requires { HasQuery p.now }
+{
+    let outs = outputs(alloc, p)?;
+    let written = are_written(alloc, p, outs.as_slice())?;
+    match outs.as_slice() {
+        [Out::Found(_, answer), ..] => Ok(written && shows_one(alloc, p, answer)?),
+        _ => Ok(false),
     }
 }
 
-// The answer to it.
-fn answer(alloc: Global) -> Answer {
-    Answer {
-        binds: List::of(Vec::new(alloc)),
-        conds: List::of(Vec::new(alloc)),
-        vars: List::of(Vec::new(alloc)),
+fn text_is_answered(alloc: Global) -> Result<bool, Memory> {
+    let program = program_of(alloc, TEXT)?;
+    match only_query(&program, 1) {
+        Some(problem) => are_shown(alloc, &problem),
+        None => Ok(false),
     }
 }
 
-/// The lines of an answer to it and a cut.
-fn lines_of_two(alloc: Global) -> Result<Vec<u8>, Memory> {
-    let program = plain(alloc)?;
-    let found = Out::Found(Path::root(alloc), answer(alloc));
-    let outs = vec![in alloc; found, Out::Cut(Path::root(alloc))]?;
-    lines(alloc, &program, 1, &outs)
-}
-
 #[test]
-fn answers_and_cuts_have_their_lines(rt: HostRuntime) -> Result<(), Fail> {
-    let bytes = lines_of_two(rt.alloc())?;
-    let wanted = b"yes\n% cut 1\n% query 1: 1 answers, 1 cut, 0 stuck\n";
-    assert!(rt; bytes.as_slice() == wanted.as_slice());
-    Ok(())
-}
-
-/// Whether none is shown.
-fn shows_none(alloc: Global) -> Result<bool, Memory> {
-    let program = plain(alloc)?;
-    let shown = canonical(alloc, &program, 1, &answer(alloc))?;
-    Ok(shown.binds.items().is_empty())
-}
-
-#[test]
-fn an_answer_without_variables_shows_none(rt: HostRuntime) -> Result<(), Fail> {
-    assert!(rt; shows_none(rt.alloc())?);
-    Ok(())
+fn answers_and_cuts_have_their_lines(rt: HostRuntime) {
+    assert!(rt; matches!(text_is_answered(rt.alloc()), Ok(true)));
 }

@@ -1,5 +1,9 @@
-//! The program of a text, for the tests.
+//! The program of a text, and its query.
 
+ghost use Rattle.std.specs.Prelude.{IfSome};
+ghost use Rattle.ap_backchain.specs.Problems.{HasQuery};
+
+use ap_backchain::problem::Problem;
 use ap_defs::limits::SIZE_LIMIT;
 use ap_defs::memory::Memory;
 use ap_lexer::{Token, lex};
@@ -37,4 +41,19 @@ pub fn program_of(alloc: Global, text: &str) -> Result<Restricted, Memory> {
     let tokens = tokens_of(alloc, text.as_bytes())?;
     let items = items_of(alloc, &tokens)?;
     restricted_of(alloc, &items)
+}
+
+/// The query of a program that has one.
+pub fn only_query<'a>(program: &'a Restricted, depth: u32) -> Option<Problem<'a>>
+    ensures { IfSome result (λ p. HasQuery p) }
+{
+    if program.program().queries.items().len() == 1 {
+        Some(Problem {
+            program,
+            query: 1,
+            depth,
+        })
+    } else {
+        None
+    }
 }

@@ -1,4 +1,5 @@
-//! Tests of the crates that read and write a text: `ap_trees`, `ap_syntax` and `ap_unparse`.
+//! Tests of the crates that read, write and type a text: `ap_lexer`, `ap_trees`, `ap_syntax`, `ap_unparse`, `ap_types` and
+//! `ap_typecheck`. What whole texts show of `ap_kinds` and `ap_restrict` stands in `ap_cases`.
 #![tactic(auto)]
 
 #[cfg(test)]
@@ -6,6 +7,12 @@ mod reading;
 #[cfg(test)]
 mod syntax;
 #[cfg(test)]
+mod tokens;
+#[cfg(test)]
 mod trees;
+#[cfg(test)]
+mod typecheck;
+#[cfg(test)]
+mod types;
 #[cfg(test)]
 mod unparse;

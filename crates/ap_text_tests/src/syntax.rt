@@ -4,7 +4,6 @@ use ap_defs::limits::SIZE_LIMIT;
 use ap_syntax::{SynError, parse};
 use ap_trees::Item;
 use std::alloc::{AllocError, Global};
-use std::test::Fail;
 
 fn items_shown(alloc: Global, items: &[Item<'_>]) -> Result<String, AllocError> {
     let mut out = String::new(alloc);
@@ -124,11 +123,11 @@ const ITEMS: [(&str, &str); 24] = [
 ];
 
 #[test]
-fn items_are_read(rt: HostRuntime) -> Result<(), Fail> {
+fn items_are_read(rt: HostRuntime) {
     for (text, want) in &ITEMS {
-        assert!(rt; is_read_as(rt.alloc(), text, want)?, "at {text}");
+        let told = is_read_as(rt.alloc(), text, want);
+        assert!(rt; matches!(told, Ok(true)), "at {text}");
     }
-    Ok(())
 }
 
 // Terms, each as the argument of a fact.
@@ -206,11 +205,11 @@ fn term_is_read_as(alloc: Global, text: &str, want: &str) -> Result<bool, AllocE
 }
 
 #[test]
-fn terms_are_read(rt: HostRuntime) -> Result<(), Fail> {
+fn terms_are_read(rt: HostRuntime) {
     for (text, want) in &TERMS {
-        assert!(rt; term_is_read_as(rt.alloc(), text, want)?, "at {text}");
+        let told = term_is_read_as(rt.alloc(), text, want);
+        assert!(rt; matches!(told, Ok(true)), "at {text}");
     }
-    Ok(())
 }
 
 // Goals. `p`, `q` and `r` are atoms without arguments, and P, Q and R stand for what they read as.
@@ -310,25 +309,25 @@ fn goal_is_read_as(alloc: Global, text: &str, want: &str) -> Result<bool, AllocE
 }
 
 #[test]
-fn goals_are_read(rt: HostRuntime) -> Result<(), Fail> {
+fn goals_are_read(rt: HostRuntime) {
     for (text, want) in &GOALS {
-        assert!(rt; goal_is_read_as(rt.alloc(), text, want)?, "at {text}");
+        let told = goal_is_read_as(rt.alloc(), text, want);
+        assert!(rt; matches!(told, Ok(true)), "at {text}");
     }
-    Ok(())
 }
 
 #[test]
-fn equations_are_read(rt: HostRuntime) -> Result<(), Fail> {
+fn equations_are_read(rt: HostRuntime) {
     for (text, want) in &EQUATIONS {
-        assert!(rt; goal_is_read_as(rt.alloc(), text, want)?, "at {text}");
+        let told = goal_is_read_as(rt.alloc(), text, want);
+        assert!(rt; matches!(told, Ok(true)), "at {text}");
     }
-    Ok(())
 }
 
 #[test]
-fn the_first_fault_is_told(rt: HostRuntime) -> Result<(), Fail> {
-    assert_eq!(rt; shown(rt.alloc(), "p.\nq(.\nr")?.as_str(), "fault 2 2 3");
-    Ok(())
+fn the_first_fault_is_told(rt: HostRuntime) {
+    let told = is_read_as(rt.alloc(), "p.\nq(.\nr", "fault 2 2 3");
+    assert!(rt; matches!(told, Ok(true)));
 }
 
 /// As many of one text, and then another.
@@ -401,30 +400,27 @@ fn has_kind(
 }
 
 #[test]
-fn nesting_is_counted(rt: HostRuntime) -> Result<(), Fail> {
+fn nesting_is_counted(rt: HostRuntime) {
     for (count, text, end, kind) in &NESTED {
-        let told = has_kind(rt.alloc(), *count, text, end, kind)?;
-        assert!(rt; told, "at {count} of {text}");
+        let told = has_kind(rt.alloc(), *count, text, end, kind);
+        assert!(rt; matches!(told, Ok(true)), "at {count} of {text}");
     }
-    Ok(())
 }
 
 #[test]
-fn brackets_take_away(rt: HostRuntime) -> Result<(), Fail> {
+fn brackets_take_away(rt: HostRuntime) {
     for (count, text, kind) in &CLOSED {
-        let told = has_kind(rt.alloc(), *count, text, ".", kind)?;
-        assert!(rt; told, "at {count} of {text}");
+        let told = has_kind(rt.alloc(), *count, text, ".", kind);
+        assert!(rt; matches!(told, Ok(true)), "at {count} of {text}");
     }
-    Ok(())
 }
 
 #[test]
-fn marks_take_away(rt: HostRuntime) -> Result<(), Fail> {
+fn marks_take_away(rt: HostRuntime) {
     for (count, text, kind) in &MARKED {
-        let told = has_kind(rt.alloc(), *count, text, ".", kind)?;
-        assert!(rt; told, "at {count} of {text}");
+        let told = has_kind(rt.alloc(), *count, text, ".", kind);
+        assert!(rt; matches!(told, Ok(true)), "at {count} of {text}");
     }
-    Ok(())
 }
 
 /// How an item begins, an opening, what stands in the middle, its closing, and how the item ends.
@@ -458,11 +454,14 @@ fn is_bounded(alloc: Global, nest: &Nest<'_>) -> Result<bool, AllocError> {
 }
 
 #[test]
-fn nesting_is_bounded(rt: HostRuntime) -> Result<(), Fail> {
+fn nesting_is_bounded(rt: HostRuntime) {
     for nest in &DEEP {
-        assert!(rt; is_bounded(rt.alloc(), nest)?, "at {}", nest.0);
+        assert!(rt;
+            matches!(is_bounded(rt.alloc(), nest), Ok(true)),
+            "at {}",
+            nest.0
+        );
     }
-    Ok(())
 }
 
 // A whole program, of ten items on ten lines.
@@ -481,7 +480,6 @@ fn last_item(alloc: Global, text: &str) -> Result<(usize, u64), AllocError> {
 }
 
 #[test]
-fn a_whole_program_is_read(rt: HostRuntime) -> Result<(), Fail> {
-    assert_eq!(rt; last_item(rt.alloc(), PROGRAM)?, (10, 10));
-    Ok(())
+fn a_whole_program_is_read(rt: HostRuntime) {
+    assert!(rt; matches!(last_item(rt.alloc(), PROGRAM), Ok((10, 10))));
 }

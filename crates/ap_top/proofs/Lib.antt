@@ -1,5 +1,4 @@
-mod AcceptedWords
-mod Numbers
 mod Reports
 mod Wrote
 mod SoundInputs
+mod CompleteInputs

@@ -1,47 +1,50 @@
 -- A report never has one of the two statuses that tell how it came to the sink.
-use Rattle.std.proofs.Common.{◌≡◌, refl, sym, ap, subst, ◌∙◌, ℕ, List, Option, Some, None, Result, Ok, Err, IfOk}
+use Rattle.std.proofs.Common.{◌≡◌, refl, sym, ap, subst, ℕ, List, Option, Some, None, Result, Ok, Err, IfOk}
 use Rattle.std.specs.Io.KnownBytes.{Appends}
-use Rattle.ap_trees.specs.Items.{ItemOf}
+use Rattle.ap_defs.specs.Goals.{NominalProgram}
+use Rattle.ap_defs.specs.declared.faults.Fault.TheVariants as faults
 use Rattle.ap_report.specs.declared.report.Report.{Report}
+use Rattle.ap_report.specs.declared.status.Status.{Status}
 use Rattle.ap_report.specs.declared.status.Status.TheVariants as status
-use Rattle.ap_report.specs.TextReport.{IsItemsReport, ill_typed, ill_named, answered, IsTextReport, faulty_token, faulty_item, with_items}
-use Rattle.ap_top.specs.Report.{Input, Whole, Over, Broken, IsReportAt}
+use Rattle.ap_report.specs.TextReport.{IsTextReport, refused, answered, run_report}
+use Rattle.ap_words.specs.declared.Asked.{Asked}
+use Rattle.ap_words.specs.declared.Asked.TheVariants as asked
+use Rattle.ap_top.specs.Report.{Input, Whole, Over, Broken, IsOnly, IsReportOf}
 use Rattle.ap_top.specs.Run.{Change, IsWritten}
 
-written_items : (sink : Change) (depth : ℕ) (items : List ItemOf) (r : Report) → IsItemsReport depth items r → sink.faults' ≡ sink.faults → Appends sink.bytes sink.bytes' r.bytes → IsWritten sink r r.status
-written_items sink depth items _ (ill_typed f h) steady whole = (steady, refl, whole)
-written_items sink depth items _ (ill_named p f h) steady whole = (steady, refl, whole)
-written_items sink depth items _ (answered p h) steady whole = (steady, refl, whole)
+-- the status of a report
+abbrev pub IsTold : Status → Type 0
+IsTold status.Write = ⊥
+IsTold status.Memory = ⊥
+IsTold _ = Unit {0}
 
-written_text : (sink : Change) (depth : ℕ) (text : List ℕ) (r : Report) → IsTextReport depth text r → sink.faults' ≡ sink.faults → Appends sink.bytes sink.bytes' r.bytes → IsWritten sink r r.status
-written_text sink depth text _ (faulty_token f h) steady whole = (steady, refl, whole)
-written_text sink depth text _ (faulty_item f h) steady whole = (steady, refl, whole)
-written_text sink depth text r (with_items items _ h k) steady whole = written_items sink depth items r k steady whole
+told_text : (answer : NominalProgram → Report) → ((p : NominalProgram) → IsTold (answer p).status) → (text : List ℕ) (r : Report) → IsTextReport answer text r → IsTold r.status
+told_text answer told text _ (refused (faults.Syntax f) h) = tt
+told_text answer told text _ (refused (faults.Types f) h) = tt
+told_text answer told text _ (refused (faults.Names f) h) = tt
+told_text answer told text _ (answered p h) = told p
 
-pub written_report : (sink : Change) (depth : Option ℕ) (input : Input) (r : Report) → IsReportAt depth input r → sink.faults' ≡ sink.faults → Appends sink.bytes sink.bytes' r.bytes → IsWritten sink r r.status
-written_report sink None input r is steady whole = subst (λ x. IsWritten sink x x.status) (sym is) (steady, refl, subst (λ x. Appends sink.bytes sink.bytes' x.bytes) is whole)
-written_report sink (Some depth) (Whole text) r is steady whole = written_text sink depth text r is steady whole
-written_report sink (Some depth) Over r is steady whole = subst (λ x. IsWritten sink x x.status) (sym is) (steady, refl, subst (λ x. Appends sink.bytes sink.bytes' x.bytes) is whole)
-written_report sink (Some depth) Broken r is steady whole = subst (λ x. IsWritten sink x x.status) (sym is) (steady, refl, subst (λ x. Appends sink.bytes sink.bytes' x.bytes) is whole)
+pub told_report : (a : Option Asked) (input : Input) (r : Report) → IsReportOf a input r → IsTold r.status
+told_report None input r is = subst (λ x. IsTold x.status) (sym is) tt
+told_report (Some (asked.Run depth workers)) (Whole text) r is = told_text (run_report depth) (λ p. tt) text r is
+told_report (Some (asked.Run depth workers)) Over r is = subst (λ x. IsTold x.status) (sym is) tt
+told_report (Some (asked.Run depth workers)) Broken r is = subst (λ x. IsTold x.status) (sym is) tt
+
+pub written_report : (sink : Change) (r : Report) (s : Status) → IsTold s → s ≡ r.status → sink.faults' ≡ sink.faults → Appends sink.bytes sink.bytes' r.bytes → IsWritten sink r s
+written_report sink r status.Ok told is steady whole = (steady, is, whole)
+written_report sink r status.Usage told is steady whole = (steady, is, whole)
+written_report sink r status.Syntax told is steady whole = (steady, is, whole)
+written_report sink r status.Types told is steady whole = (steady, is, whole)
+written_report sink r status.Names told is steady whole = (steady, is, whole)
+written_report sink r status.Read told is steady whole = (steady, is, whole)
+written_report sink r status.Write told is steady whole = absurd told
+written_report sink r status.Memory told is steady whole = absurd told
+written_report sink r status.TooLarge told is steady whole = (steady, is, whole)
+
+pub never_memory : (r : Report) → IsTold r.status → r.status ≡ status.Memory → ⊥
+never_memory r told is = subst (λ (s : Status). IsTold s) is told
 
 -- two things that are known of what is returned
 pub both_known : {A E : Type 0} (P Q R : A → Type 0) (x : Result A E) → ((a : A) → P a → Q a → R a) → IfOk x P → IfOk x Q → IfOk x R
 both_known P Q R (Ok a) f p q = f a p q
 both_known P Q R (Err e) f p q = tt
-
--- no report has the status of want of memory
-items_memory : (depth : ℕ) (items : List ItemOf) (r : Report) → IsItemsReport depth items r → r.status ≡ status.Memory → ⊥
-items_memory depth items _ (ill_typed f h) is = absurd (let e : status.Types ≡ status.Memory = is in cc)
-items_memory depth items _ (ill_named p f h) is = absurd (let e : status.Names ≡ status.Memory = is in cc)
-items_memory depth items _ (answered p h) is = absurd (let e : status.Ok ≡ status.Memory = is in cc)
-
-text_memory : (depth : ℕ) (text : List ℕ) (r : Report) → IsTextReport depth text r → r.status ≡ status.Memory → ⊥
-text_memory depth text _ (faulty_token f h) is = absurd (let e : status.Syntax ≡ status.Memory = is in cc)
-text_memory depth text _ (faulty_item f h) is = absurd (let e : status.Syntax ≡ status.Memory = is in cc)
-text_memory depth text r (with_items items _ h k) is = items_memory depth items r k is
-
-pub never_memory : (depth : Option ℕ) (input : Input) (r : Report) → IsReportAt depth input r → r.status ≡ status.Memory → ⊥
-never_memory None input r made is = absurd (let e : status.Usage ≡ status.Memory = sym (ap (λ x. x.status) made) ∙ is in cc)
-never_memory (Some depth) (Whole text) r made is = text_memory depth text r made is
-never_memory (Some depth) Over r made is = absurd (let e : status.TooLarge ≡ status.Memory = sym (ap (λ x. x.status) made) ∙ is in cc)
-never_memory (Some depth) Broken r made is = absurd (let e : status.Read ≡ status.Memory = sym (ap (λ x. x.status) made) ∙ is in cc)

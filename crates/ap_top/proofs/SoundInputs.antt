@@ -1,14 +1,16 @@
 -- The answers in the report on any input are sound.
 use Rattle.std.proofs.Common.{ℕ, List, Option, Some, None}
 use Rattle.ap_report.proofs.SoundTexts.{sound_text}
-use Rattle.ap_top.specs.Report.{AreSoundOn, Broken, HasSoundAnswers, Input, Over, Whole}
-use Rattle.ap_top.specs.Words.{depth_of}
+use Rattle.ap_top.specs.Report.{IsSoundFor, Broken, HasSoundAnswers, Input, Over, Whole}
+use Rattle.ap_words.specs.declared.Asked.{Asked}
+use Rattle.ap_words.specs.declared.Asked.TheVariants as asked
+use Rattle.ap_words.specs.Words.{asked_of}
 
-sound_on : (depth : Option ℕ) (input : Input) → AreSoundOn depth input
-sound_on None input = tt
-sound_on (Some depth) (Whole text) = sound_text depth text
-sound_on (Some depth) Over = tt
-sound_on (Some depth) Broken = tt
+sound_for : (a : Option Asked) (input : Input) → IsSoundFor a input
+sound_for None input = tt
+sound_for (Some (asked.Run depth workers)) (Whole text) = sound_text depth text
+sound_for (Some (asked.Run depth workers)) Over = tt
+sound_for (Some (asked.Run depth workers)) Broken = tt
 
 pub sound_input : (words : List (List ℕ)) (input : Input) → HasSoundAnswers words input
-sound_input words input = sound_on (depth_of words) input
+sound_input words input = sound_for (asked_of words) input

@@ -3,9 +3,12 @@ use Rattle.std.specs.Prelude.{◌≡◌, ℕ, List, Option, None, Some, codes}
 use Rattle.ap_report.specs.declared.report.Report.{Report}
 use Rattle.ap_report.specs.declared.status.Status.{Status}
 use Rattle.ap_report.specs.declared.status.Status.TheVariants as status
+use Rattle.ap_report.specs.CompleteTexts.{IsCompleteText}
 use Rattle.ap_report.specs.SoundAnswers.{IsSoundText}
-use Rattle.ap_report.specs.TextReport.{IsTextReport}
-use Rattle.ap_top.specs.Words.{depth_of}
+use Rattle.ap_report.specs.TextReport.{IsTextReport, run_report}
+use Rattle.ap_words.specs.declared.Asked.{Asked}
+use Rattle.ap_words.specs.declared.Asked.TheVariants as asked
+use Rattle.ap_words.specs.Words.{asked_of}
 
 -- what reading gave: all bytes that were left, a byte past the limit, or a failure
 pub data Input : Type 0 where
@@ -17,31 +20,48 @@ pub data Input : Type 0 where
 abbrev pub line : List ℕ → Status → Report
 line text status = record { bytes = text; status = status }
 
--- the report on an input, with the search cut at the depth
-abbrev pub IsReportOn : ℕ → Input → Report → Type 0
-IsReportOn depth (Whole text) r = IsTextReport depth text r
-IsReportOn depth Over r = r ≡ line (codes "% text too large\n") status.TooLarge
-IsReportOn depth Broken r = r ≡ line (codes "% read fault\n") status.Read
+-- the report on an input, of a command with this report on a text
+abbrev pub IsReportOn : (List ℕ → Report → Type 0) → Input → Report → Type 0
+IsReportOn IsReportOnText (Whole text) r = IsReportOnText text r
+IsReportOn IsReportOnText Over r = r ≡ line (codes "% text too large\n") status.TooLarge
+IsReportOn IsReportOnText Broken r = r ≡ line (codes "% read fault\n") status.Read
 
--- the same at the depth that the words ask for, if they are accepted
-abbrev pub IsReportAt : Option ℕ → Input → Report → Type 0
-IsReportAt None input r = r ≡ line (codes "% usage fault\n") status.Usage
-IsReportAt (Some depth) input r = IsReportOn depth input r
+-- the report of what is asked for, command by command
+abbrev pub IsReportFor : Asked → Input → Report → Type 0
+IsReportFor (asked.Run depth workers) input r = IsReportOn (IsTextReport (run_report depth)) input r
+
+-- the same, or the refusal of words that ask for nothing
+abbrev pub IsReportOf : Option Asked → Input → Report → Type 0
+IsReportOf None input r = r ≡ line (codes "% usage fault\n") status.Usage
+IsReportOf (Some a) input r = IsReportFor a input r
 
 -- the report of the words and the input
 abbrev pub IsReport : List (List ℕ) → Input → Report → Type 0
-IsReport words input r = IsReportAt (depth_of words) input r
+IsReport words input r = IsReportOf (asked_of words) input r
 
--- the answers in the report on an input are sound
-abbrev pub AreSoundOn : Option ℕ → Input → Type 0
-AreSoundOn (Some depth) (Whole text) = IsSoundText depth text
-AreSoundOn _ _ = Unit {0}
+-- the answers in the report are sound
+abbrev pub IsSoundFor : Option Asked → Input → Type 0
+IsSoundFor (Some (asked.Run depth workers)) (Whole text) = IsSoundText depth text
+IsSoundFor _ _ = Unit {0}
 
 abbrev pub HasSoundAnswers : List (List ℕ) → Input → Type 0
-HasSoundAnswers words input = AreSoundOn (depth_of words) input
+HasSoundAnswers words input = IsSoundFor (asked_of words) input
 
--- The report of the words and the input: there is no other, and its answers are sound.
+-- there is no other
+abbrev pub IsOnly : (Report → Type 0) → Report → Type 0
+IsOnly P r = P r × ((s : Report) → P s → s ≡ r)
+
+-- and complete
+abbrev pub IsCompleteFor : Option Asked → Input → Type 0
+IsCompleteFor (Some (asked.Run depth workers)) (Whole text) = IsCompleteText depth text
+IsCompleteFor _ _ = Unit {0}
+
+abbrev pub HasCompleteAnswers : List (List ℕ) → Input → Type 0
+HasCompleteAnswers words input = IsCompleteFor (asked_of words) input
+
+-- The report of the words and the input: there is no other, and its answers are sound and complete.
 pub record IsTheReport (words : List (List ℕ)) (input : Input) (r : Report) : Type 0 where
   pub is : IsReport words input r
   pub only : (s : Report) → IsReport words input s → s ≡ r
   pub sound : HasSoundAnswers words input
+  pub complete : HasCompleteAnswers words input

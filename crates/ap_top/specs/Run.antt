@@ -1,21 +1,18 @@
 -- What a call does to its source and its sink.
 use Rattle.std.specs.Prelude.{◌≡◌, ℕ, ◌<◌, ◌≤◌, List, length, take, Option, IfSome}
 use Rattle.std.specs.Io.KnownBytes.{Appends, Keeps}
+use Rattle.ap_defs.specs.Limits.{size_limit}
 use Rattle.ap_io.specs.Causes.{Rose}
 use Rattle.ap_report.specs.declared.report.Report.{Report}
 use Rattle.ap_report.specs.declared.status.Status.{Status}
 use Rattle.ap_report.specs.declared.status.Status.TheVariants as status
 use Rattle.ap_top.specs.Report.{Input, Whole, Over, Broken}
 
--- the most bytes that an input may have
-abbrev pub limit : ℕ
-limit = 16777216
-
 -- what was read of a source that told these bytes to be left, and whose count of failures was `before`
 -- and is `now`: all its bytes, more than the limit, or a failure, which comes only where the count rose
 abbrev pub IsRead : Option (List ℕ) → ℕ → ℕ → Input → Type 0
-IsRead left before now (Whole bytes) = (now ≡ before) × (length bytes ≤ limit) × IfSome left (λ all. bytes ≡ all)
-IsRead left before now Over = (now ≡ before) × IfSome left (λ all. limit < length all)
+IsRead left before now (Whole bytes) = (now ≡ before) × (length bytes ≤ size_limit) × IfSome left (λ all. bytes ≡ all)
+IsRead left before now Over = (now ≡ before) × IfSome left (λ all. size_limit < length all)
 IsRead left before now Broken = Rose before now
 
 -- the bytes that a sink tells and its count of failures, at the call and at the return

@@ -2,13 +2,15 @@
 //! out and the status.
 //!
 //! [`top`] reads the source whole, makes all bytes of the report, and then writes them. Its contract
-//! says that the status and the bytes are those of the report of the words and of what was read.
+//! says that the status and the bytes are those of the report of the words and of what was read. Each
+//! command has a module of its own under `commands`.
 #![tactic(auto)]
 
+mod call;
+mod commands;
+mod lines;
 mod reading;
-mod run;
-mod words;
 mod writing;
 
 pub use ap_report::Status;
-pub use run::top;
+pub use call::top;

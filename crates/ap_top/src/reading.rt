@@ -4,11 +4,9 @@ ghost use Rattle.ap_top.specs.Report.{Whole, Over, Broken};
 ghost use Rattle.ap_top.specs.Run.{IsRead};
 ghost use Rattle.ap_top.specs.declared.reading.ReadError.TheVariants as errors;
 
+use ap_defs::limits::SIZE_LIMIT;
 use ap_io::{Failed, Source};
 use std::alloc::{AllocError, Global};
-
-// The most bytes that an input may have.
-const LIMIT: usize = 16_777_216;
 
 // Why the bytes of a source weren't read whole.
 #[derive(Clone, Copy, Debug, PartialEq, Eq)]
@@ -53,7 +51,7 @@ pub(crate) fn read_whole<S: Source>(alloc: Global, source: &mut S) -> Result<Vec
         if count == 0 {
             return Ok(bytes);
         }
-        if count > LIMIT - bytes.len() {
+        if count > SIZE_LIMIT - bytes.len() {
             return Err(ReadError::TooLarge);
         }
         bytes.extend_from_slice(&buf[..count])?;

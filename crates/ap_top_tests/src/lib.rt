@@ -1,9 +1,9 @@
-//! Tests of the report on a text and of the top call: `ap_report` and `ap_top`.
+//! Tests of the top call, and of the report on a text through it: `ap_top` and `ap_report`.
 #![tactic(auto)]
 
 #[cfg(test)]
-mod report;
-#[cfg(test)]
 mod top_call;
+#[cfg(test)]
+mod words;
 #[cfg(test)]
 mod workers;

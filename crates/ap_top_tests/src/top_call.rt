@@ -5,17 +5,20 @@ use ap_io::{Gate, MemSink, MemSource, NoGate};
 use ap_top::top;
 use std::alloc::Global;
 use std::sync::Wait;
-use std::test::Fail;
 use std::thread::Threads;
 
-const TEXT: &[u8] = b"nat : type. z : nat. s : nat -> nat. pred p(nat). p(z). p(s(z)). ?- p(X).";
+/// A text with two answers.
+pub const TEXT: &[u8] =
+    b"nat : type. z : nat. s : nat -> nat. pred p(nat). p(z). p(s(z)). ?- p(X).";
 
-const REPORT: &[u8] = b"X = z\nX = s(z)\n% query 1: 2 answers, 0 cut, 0 stuck\n";
+/// What is written for it.
+pub const REPORT: &[u8] = b"X = z\nX = s(z)\n% query 1: 2 answers, 0 cut, 0 stuck\n";
 
 /// An answer with a new name.
 const NAMED: &[u8] = b"id : name_type. e : type. v : id -> e. l : id\\e -> e. ?- R = l(x\\v(x)).";
 
-fn words_of(alloc: Global, line: &str) -> Result<Vec<String>, Memory> {
+/// The words of a line.
+pub fn words_of(alloc: Global, line: &str) -> Result<Vec<String>, Memory> {
     let mut words = Vec::new(alloc);
     for word in line.split_whitespace() {
         words.push(word.to_string(alloc)?)?;
@@ -50,7 +53,7 @@ pub fn call<R: Threads + Wait + Sync, G: Gate>(
 }
 
 /// Whether a call ends with a status, and has written these bytes.
-fn writes<R: Threads + Wait + Sync>(
+pub fn writes<R: Threads + Wait + Sync>(
     rt: &R,
     alloc: Global,
     line: &str,
@@ -65,41 +68,42 @@ fn writes<R: Threads + Wait + Sync>(
 }
 
 #[test]
-fn bytes_that_are_no_text_are_told(rt: HostRuntime) -> Result<(), Fail> {
+fn bytes_that_are_no_text_are_told(rt: HostRuntime) {
     let fails = Fails {
         read: 0,
         write: 0,
         most: 100,
     };
     let want = b"% syntax fault: item 1, line 1, kind 1 NotUtf8\n".as_slice();
-    assert!(rt;
-        writes(
-            &rt,
-            rt.alloc(),
-            "run --depth 5",
-            &[255, 46],
-            fails,
-            (2, want)
-        )?
+    let written = writes(
+        &rt,
+        rt.alloc(),
+        "run --depth 5",
+        &[255, 46],
+        fails,
+        (2, want),
     );
-    Ok(())
+    assert!(rt; matches!(written, Ok(true)));
 }
 
-#[test]
-fn a_text_past_the_limit_is_too_large(rt: HostRuntime) -> Result<(), Fail> {
-    let text = vec![in rt.alloc(); b' '; 16_777_217]?;
+fn is_too_large<R: Threads + Wait + Sync>(rt: &R, alloc: Global) -> Result<bool, Memory> {
+    let text = vec![in alloc; b' '; 16_777_217]?;
     let fails = Fails {
         read: 0,
         write: 0,
         most: 100,
     };
     let want = b"% text too large\n".as_slice();
-    assert!(rt; writes(&rt, rt.alloc(), "run --depth 5", &text, fails, (9, want))?);
-    Ok(())
+    writes(rt, alloc, "run --depth 5", &text, fails, (9, want))
 }
 
 #[test]
-fn a_beginning_of_an_answer_is_written(rt: HostRuntime) -> Result<(), Fail> {
+fn a_text_past_the_limit_is_too_large(rt: HostRuntime) {
+    assert!(rt; matches!(is_too_large(&rt, rt.alloc()), Ok(true)));
+}
+
+#[test]
+fn a_beginning_of_an_answer_is_written(rt: HostRuntime) {
     for (read, write, status, want) in [
         (0, 2, 6, b"R = l(x\\v(".as_slice()),
         (1, 1, 6, b"".as_slice()),
@@ -117,41 +121,9 @@ fn a_beginning_of_an_answer_is_written(rt: HostRuntime) -> Result<(), Fail> {
             NAMED,
             fails,
             (status, want),
-        )?;
-        assert!(rt; done, "at {read} and {write}");
-    }
-    Ok(())
-}
-
-// The first read would fail.
-#[test]
-fn other_words_are_refused_before_a_read(rt: HostRuntime) -> Result<(), Fail> {
-    for line in [
-        "",
-        "run",
-        "run --depth 1000001",
-        "run --depth 5 --depth 5",
-        "run --depth -5",
-        "run --depth 5 --workers 0",
-        "run --depth 1 --workers 0",
-        "run --depth 1 --workers 65",
-        "run --workers 2",
-        "run --workers 2 --workers 2",
-        "run --depth 1 --workers",
-        "solve --depth 5",
-    ] {
-        let fails = Fails {
-            read: 1,
-            write: 0,
-            most: 100,
-        };
-        let want = b"% usage fault\n".as_slice();
-        assert!(rt;
-            writes(&rt, rt.alloc(), line, TEXT, fails, (1, want))?,
-            "at {line}"
         );
+        assert!(rt; matches!(done, Ok(true)), "at {read} and {write}");
     }
-    Ok(())
 }
 
 /// Whether a call on the short text ends with a status, and has written these bytes.
@@ -168,7 +140,7 @@ fn ends<R: Threads + Wait + Sync>(
 
 // The third read isn't made.
 #[test]
-fn each_read_fails_in_turn(rt: HostRuntime) -> Result<(), Fail> {
+fn each_read_fails_in_turn(rt: HostRuntime) {
     for (read, status, want) in [
         (1, 5, b"% read fault\n".as_slice()),
         (2, 5, b"% read fault\n".as_slice()),
@@ -179,9 +151,9 @@ fn each_read_fails_in_turn(rt: HostRuntime) -> Result<(), Fail> {
             write: 0,
             most: 3,
         };
-        assert!(rt; ends(&rt, rt.alloc(), fails, (status, want))?, "at {read}");
+        let done = ends(&rt, rt.alloc(), fails, (status, want));
+        assert!(rt; matches!(done, Ok(true)), "at {read}");
     }
-    Ok(())
 }
 
 /// Whether a call whose writes take three bytes, and fail after so many, has written what they took.
@@ -203,26 +175,23 @@ fn stops_after<R: Threads + Wait + Sync>(
 }
 
 #[test]
-fn each_write_fails_in_turn(rt: HostRuntime) -> Result<(), Fail> {
+fn each_write_fails_in_turn(rt: HostRuntime) {
     for written in 0..18usize {
-        assert!(rt; stops_after(&rt, rt.alloc(), written)?, "after {written}");
+        let stopped = stops_after(&rt, rt.alloc(), written);
+        assert!(rt; matches!(stopped, Ok(true)), "after {written}");
     }
-    Ok(())
 }
 
 // The nineteenth write isn't made, and a write fault stands in place of a read fault.
 #[test]
-fn a_write_fault_stands_before_another(rt: HostRuntime) -> Result<(), Fail> {
+fn a_write_fault_stands_before_another(rt: HostRuntime) {
     for (read, write, most, status, want) in [
         (0, 19, 3, 0, REPORT),
         (0, 2, 10, 6, b"X = z\nX = ".as_slice()),
         (1, 1, 10, 6, b"".as_slice()),
     ] {
         let fails = Fails { read, write, most };
-        assert!(rt;
-            ends(&rt, rt.alloc(), fails, (status, want))?,
-            "at {read} and {write}"
-        );
+        let done = ends(&rt, rt.alloc(), fails, (status, want));
+        assert!(rt; matches!(done, Ok(true)), "at {read} and {write}");
     }
-    Ok(())
 }

@@ -1,9 +1,20 @@
-//! Tests of the crates of workers: `ap_tasks`, `ap_lock` and `ap_steal`.
+//! Tests of the crates of streams, paths, books and workers: `ap_io`, `ap_paths`, `ap_book`, `ap_core`, `ap_tasks`,
+//! `ap_lock` and `ap_steal`, and of the paths of `ap_defs`.
 #![tactic(auto)]
 
 #[cfg(test)]
+mod book;
+#[cfg(test)]
+mod events;
+#[cfg(test)]
 mod lock;
 #[cfg(test)]
+mod pairs;
+#[cfg(test)]
+mod paths;
+#[cfg(test)]
 mod steal;
+#[cfg(test)]
+mod streams;
 #[cfg(test)]
 mod tasks;

@@ -1,25 +1,15 @@
-ghost use Rattle.std.specs.Prelude.{◌≡◌, ◌∷◌, [], All, vec_len, IfOk, IfSome};
-ghost use Rattle.ap_lock.specs.Seats.{book_id, seats_of, AreOf};
+ghost use Rattle.std.specs.Prelude.{◌≡◌, ◌∷◌, [], All, vec_len, IfOk};
+ghost use Rattle.ap_lock.specs.Seats.{book_id, seats_of};
 
+use crate::pairs::cut_at;
 use ap_book::BookError;
 use ap_defs::memory::Memory;
-use ap_defs::paths::{Closed, Out, Path, Progress};
+use ap_defs::paths::{Closed, Path, Progress};
 use ap_lock::{Seat, SharedBook};
 use std::alloc::Global;
 use std::sync::Wait;
-use std::test::Fail;
 use std::thread;
 use std::thread::Threads;
-
-fn kid(alloc: Global, k: u32) -> Result<Path, Memory> {
-    Path::root(alloc).child(alloc, k)
-}
-
-fn cut_at(alloc: Global, k: u32) -> Result<Vec<Out>, Memory> {
-    let mut outs = Vec::new(alloc);
-    outs.push(Out::Cut(kid(alloc, k)?))?;
-    Ok(outs)
-}
 
 // A book with two seats.
 fn pair(alloc: Global) -> Result<(SharedBook, Seat, Seat), Memory>
@@ -38,37 +28,108 @@ fn pair(alloc: Global) -> Result<(SharedBook, Seat, Seat), Memory>
 fn close_pair(alloc: Global, book: SharedBook, first: Seat, second: Seat) -> Result<Closed, Memory>
     requires { (first.book ≡ book_id book) × (second.book ≡ book_id book) × (seats_of book ≡ 2) }
 {
-    let mut seats = Vec::with_capacity(alloc, 2)?;
-    seats.push(first)?;
-    seats.push(second)?;
+    let seats = Vec::from_array(alloc, [first, second])?;
     book.close(alloc, seats)
 }
 
-#[test]
-fn seats_find_their_own_entries(rt: HostRuntime) -> Result<(), Fail> {
-    let alloc = rt.alloc();
-    let root = Path::root(alloc);
+fn kid(alloc: Global, k: u32) -> Result<Path, Memory> {
+    Path::root(alloc).child(alloc, k)
+}
+
+fn split_root<R: Wait>(
+    rt: &R,
+    alloc: Global,
+    book: &SharedBook,
+    seat: &mut Seat,
+) -> Result<(), BookError>
+    requires { seat.old.book ≡ book_id book.now }
+    ensures { seat.new.book ≡ seat.old.book }
+{
+    book.split(rt, alloc, seat, &Path::root(alloc), &[1, 2])
+}
+
+fn ends<R: Wait>(
+    rt: &R,
+    alloc: Global,
+    book: &SharedBook,
+    seat: &mut Seat,
+    k: u32,
+) -> Result<bool, Memory>
+    requires { seat.old.book ≡ book_id book.now }
+    ensures { seat.new.book ≡ seat.old.book }
+{
+    let path = kid(alloc, k)?;
+    Ok(book.done(rt, seat, &path, cut_at(alloc, &path)?).is_ok())
+}
+
+/// Whether two seats open the empty path once.
+fn open_once<R: Wait>(
+    rt: &R,
+    alloc: Global,
+    book: &SharedBook,
+    first: &mut Seat,
+    second: &mut Seat,
+) -> bool
+    requires { (first.old.book ≡ book_id book.now) × (second.old.book ≡ book_id book.now) }
+    ensures { (first.new.book ≡ first.old.book) × (second.new.book ≡ second.old.book) }
+{
+    let before = book.status(rt, second) == Progress::Left(1);
+    let opened = split_root(rt, alloc, book, first) == Ok(());
+    let again = split_root(rt, alloc, book, second) == Err(BookError::NotOpen);
+    before && opened && again
+}
+
+/// Whether two seats end one path each, and nothing is open then.
+fn end_both<R: Wait>(
+    rt: &R,
+    alloc: Global,
+    book: &SharedBook,
+    first: &mut Seat,
+    second: &mut Seat,
+) -> Result<bool, Memory>
+    requires { (first.old.book ≡ book_id book.now) × (second.old.book ≡ book_id book.now) }
+    ensures { (first.new.book ≡ first.old.book) × (second.new.book ≡ second.old.book) }
+{
+    let one = ends(rt, alloc, book, second, 1)?;
+    let left = book.status(rt, second) == Progress::Left(1);
+    let two = ends(rt, alloc, book, first, 2)?;
+    let finished = book.status(rt, first) == Progress::Finished;
+    Ok(one && left && two && finished)
+}
+
+/// Whether the one seat sees that the other has stopped the search.
+fn stops<R: Wait>(rt: &R, book: &SharedBook, first: &mut Seat, second: &mut Seat) -> bool
+    requires { (first.old.book ≡ book_id book.now) × (second.old.book ≡ book_id book.now) }
+    ensures { (first.new.book ≡ first.old.book) × (second.new.book ≡ second.old.book) }
+{
+    book.stop(rt, second);
+    book.status(rt, first) == Progress::Stopped
+}
+
+/// Whether each of two seats has every other one of four entries.
+fn takes_turns(closed: &Closed) -> bool {
+    match closed.logs.items() {
+        [one, two] => {
+            closed.history.items().len() == 4
+                && one.items() == [0, 2].as_slice()
+                && two.items() == [1, 3].as_slice()
+        }
+        _ => false,
+    }
+}
+
+fn find_entries<R: Wait>(rt: &R, alloc: Global) -> Result<bool, Memory> {
     let (book, mut first, mut second) = pair(alloc)?;
-    assert_eq!(rt; book.status(&rt, &mut second), Progress::Left(1));
-    assert_eq!(rt; book.split(&rt, alloc, &mut first, &root, &[1, 2]), Ok(()));
-    let again = book.split(&rt, alloc, &mut second, &root, &[1, 2]);
-    assert_eq!(rt; again, Err(BookError::NotOpen));
-    let ended = book.done(&rt, &mut second, &kid(alloc, 1)?, cut_at(alloc, 1)?);
-    assert!(rt; ended.is_ok());
-    assert_eq!(rt; book.status(&rt, &mut second), Progress::Left(1));
-    let ended = book.done(&rt, &mut first, &kid(alloc, 2)?, cut_at(alloc, 2)?);
-    assert!(rt; ended.is_ok());
-    assert_eq!(rt; book.status(&rt, &mut first), Progress::Finished);
-    book.stop(&rt, &mut second);
-    assert_eq!(rt; book.status(&rt, &mut first), Progress::Stopped);
+    let opened = open_once(rt, alloc, &book, &mut first, &mut second);
+    let ended = end_both(rt, alloc, &book, &mut first, &mut second)?;
+    let stopped = stops(rt, &book, &mut first, &mut second);
     let closed = close_pair(alloc, book, first, second)?;
-    assert_eq!(rt; closed.history.items().len(), 4);
-    let [one, two] = closed.logs.items() else {
-        panic!(rt; "other logs");
-    };
-    assert!(rt; one.items() == [0, 2].as_slice());
-    assert!(rt; two.items() == [1, 3].as_slice());
-    Ok(())
+    Ok(opened && ended && stopped && takes_turns(&closed))
+}
+
+#[test]
+fn seats_find_their_own_entries(rt: HostRuntime) {
+    assert!(rt; matches!(find_entries(&rt, rt.alloc()), Ok(true)));
 }
 
 // Splits a path of fewer than five choices into ten, and ends a longer one.
@@ -164,26 +225,37 @@ fn close_five(
     book.close(alloc, seats)
 }
 
-#[test]
-fn four_threads_enter(rt: HostRuntime) -> Result<(), Fail> {
-    let alloc = rt.alloc();
+/// Whether four seats have a fourth of the entries each, and the fifth has the first one.
+fn are_fourths(closed: &Closed) -> bool {
+    match closed.logs.items() {
+        [fourths @ .., last] => {
+            closed.history.items().len() == 44445
+                && fourths.len() == 4
+                && fourths.iter().all(|log| log.items().len() == 11111)
+                && last.items() == [0].as_slice()
+        }
+        _ => false,
+    }
+}
+
+/// Splits the empty path in four.
+fn begin<R: Wait>(rt: &R, alloc: Global, book: &SharedBook, own: &mut Seat) -> Result<(), BookError>
+    requires { own.old.book ≡ book_id book.now }
+    ensures { own.new.book ≡ own.old.book }
+{
+    book.split(rt, alloc, own, &Path::root(alloc), &[1, 2, 3, 4])
+}
+
+fn enter_beside<R: Threads + Wait + Sync>(rt: &R, alloc: Global) -> Result<bool, Memory> {
     let (book, mut own, seats) = five(alloc)?;
-    let root = Path::root(alloc);
-    assert!(rt;
-        book.split(&rt, alloc, &mut own, &root, &[1, 2, 3, 4])
-            .is_ok()
-    );
-    let seats = run_all(&rt, alloc, &book, seats)?;
-    assert_eq!(rt; book.status(&rt, &mut own), Progress::Finished);
+    let begun = begin(rt, alloc, &book, &mut own) == Ok(());
+    let seats = run_all(rt, alloc, &book, seats)?;
+    let finished = book.status(rt, &mut own) == Progress::Finished;
     let closed = close_five(alloc, book, own, seats)?;
-    assert_eq!(rt; closed.history.items().len(), 44445);
-    let [one, two, three, four, last] = closed.logs.items() else {
-        panic!(rt; "other logs");
-    };
-    assert_eq!(rt; one.items().len(), 11111);
-    assert_eq!(rt; two.items().len(), 11111);
-    assert_eq!(rt; three.items().len(), 11111);
-    assert_eq!(rt; four.items().len(), 11111);
-    assert!(rt; last.items() == [0].as_slice());
-    Ok(())
+    Ok(begun && finished && are_fourths(&closed))
+}
+
+#[test]
+fn four_threads_enter(rt: HostRuntime) {
+    assert!(rt; matches!(enter_beside(&rt, rt.alloc()), Ok(true)));
 }

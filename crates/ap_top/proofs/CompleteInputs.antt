@@ -1,0 +1,16 @@
+-- The answers in the report on any input are complete.
+use Rattle.std.proofs.Common.{ℕ, List, Option, Some, None}
+use Rattle.ap_report.proofs.CompleteTexts.{complete_text}
+use Rattle.ap_top.specs.Report.{IsCompleteFor, Broken, HasCompleteAnswers, Input, Over, Whole}
+use Rattle.ap_words.specs.declared.Asked.{Asked}
+use Rattle.ap_words.specs.declared.Asked.TheVariants as asked
+use Rattle.ap_words.specs.Words.{asked_of}
+
+complete_for : (a : Option Asked) (input : Input) → IsCompleteFor a input
+complete_for None input = tt
+complete_for (Some (asked.Run depth workers)) (Whole text) = complete_text depth text
+complete_for (Some (asked.Run depth workers)) Over = tt
+complete_for (Some (asked.Run depth workers)) Broken = tt
+
+pub complete_input : (words : List (List ℕ)) (input : Input) → HasCompleteAnswers words input
+complete_input words input = complete_for (asked_of words) input

@@ -1,0 +1,150 @@
+//! The tree of the tests, and how two visits of it wait for one another.
+
+ghost use Rattle.std.specs.Prelude.{◌≡◌, ◌∷◌, [], IfOk};
+ghost use Rattle.ap_defs.specs.Answers.{out_of, outs_of, cut};
+
+use ap_defs::lists::List;
+use ap_defs::memory::Memory;
+use ap_defs::paths::{Out, Path, Visit};
+use ap_paths::Tree;
+use std::alloc::Global;
+use std::sync::atomic::AtomicBool;
+use std::sync::atomic::Ordering::SeqCst;
+
+const TURNS: u64 = 200_000_000;
+
+/// Two that wait for one another, and note where one gave up.
+#[derive(Drop)]
+pub struct Meeting {
+    first: AtomicBool,
+    second: AtomicBool,
+    gave_up: AtomicBool,
+}
+
+impl Meeting {
+    pub fn new() -> Meeting {
+        Meeting {
+            first: AtomicBool::new(false),
+            second: AtomicBool::new(false),
+            gave_up: AtomicBool::new(false),
+        }
+    }
+
+    /// Waits for the other one.
+    pub fn meet(&self, is_first: bool) {
+        let (mine, theirs) = if is_first {
+            (&self.first, &self.second)
+        } else {
+            (&self.second, &self.first)
+        };
+        mine.store(true, SeqCst);
+        for _ in 0..TURNS {
+            if theirs.load(SeqCst) {
+                return;
+            }
+        }
+        self.gave_up.store(true, SeqCst);
+    }
+
+    /// Whether no one gave up.
+    pub fn was_kept(&self) -> bool {
+        !self.gave_up.load(SeqCst)
+    }
+}
+
+/// Two choices at each path of fewer entries than the depth, and a cut at each end. The visits of [1]
+/// and [2] wait for one another where they are to meet, and want memory where they are to fail.
+#[derive(Drop)]
+pub struct Pairs {
+    pub depth: usize,
+    pub meets: bool,
+    pub fails: bool,
+    pub meeting: Meeting,
+}
+
+impl Pairs {
+    /// The tree of a depth, whose visits neither meet nor fail.
+    pub fn of(depth: usize) -> Pairs {
+        Pairs {
+            depth,
+            meets: false,
+            fails: false,
+            meeting: Meeting::new(),
+        }
+    }
+
+    /// What the visits of [1] and [2] do beside.
+    fn enter(&self, choice: u32) -> Result<(), Memory> {
+        if self.meets {
+            self.meeting.meet(choice == 1);
+        }
+        if self.fails && choice == 2 {
+            return Err(Memory);
+        }
+        Ok(())
+    }
+}
+
+fn copied(alloc: Global, path: &Path) -> Result<Out, Memory>
+    ensures { IfOk result (λ o. out_of o ≡ cut path.now) }
+{
+    Ok(Out::Cut(path.copy(alloc)?))
+}
+
+/// What is cut off at a path.
+pub fn cut_at(alloc: Global, path: &Path) -> Result<Vec<Out>, Memory>
+    ensures { IfOk result (λ v. outs_of v.items ≡ cut path.now ∷ []) }
+{
+    let mut outs = Vec::with_capacity(alloc, 1)?;
+    outs.push(copied(alloc, path)?)?;
+    Ok(outs)
+}
+
+/// Whether these are the cuts at [1] and [2].
+pub fn are_both_cuts(outs: &[Out]) -> bool {
+    match outs {
+        [Out::Cut(first), Out::Cut(second)] => {
+            first.choices() == [1].as_slice() && second.choices() == [2].as_slice()
+        }
+        _ => false,
+    }
+}
+
+impl Tree for Pairs {
+    ghost use Rattle.ap_steal.specs.Meet.{pair_choices, pair_at, pair_plan, pair_branches, pair_planned};
+
+    ghost choices = { λ t. pair_choices t.depth };
+
+    ghost at = { λ t. pair_at t.depth };
+
+    ghost plan = { λ t. pair_plan t.depth };
+
+    fn width(&self, _alloc: Global, path: &Path) -> Result<Option<u32>, Memory> {
+        if path.choices().len() < self.depth {
+            Ok(Some(2))
+        } else {
+            Ok(None)
+        }
+    }
+
+    fn outs(&self, alloc: Global, path: &Path) -> Result<Vec<Out>, Memory> {
+        if path.choices().len() < self.depth {
+            return Err(Memory);
+        }
+        cut_at(alloc, path)
+    }
+
+    fn visit(&self, alloc: Global, path: &Path) -> Result<Visit, Memory> {
+        if let [k] = path.choices() {
+            self.enter(*k)?;
+        }
+        if path.choices().len() < self.depth {
+            return Ok(Visit::Kids(List::of(Vec::from_array(alloc, [1, 2])?)));
+        }
+        Ok(Visit::Outs(List::of(cut_at(alloc, path)?)))
+    }
+
+    ghost branches = { λ t. pair_branches t.depth };
+
+    ghost planned = { λ t. pair_planned t.depth };
+}
