@@ -41,6 +41,7 @@ fn report_restricted<R: Threads + Wait + Sync, G: Gate>(
 /// up. What the report is does not depend on how many there are.
 ///
 /// `Err` is want of memory.
+#[tactic(auto, using(crate::proofs::Texts::refused_report, crate::proofs::Texts::answered_report, crate::proofs::Texts::report_one))]
 pub fn report_text<R: Threads + Wait + Sync, G: Gate>(
     rt: &R,
     alloc: Global,

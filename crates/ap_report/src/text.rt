@@ -16,6 +16,7 @@ use std::alloc::Global;
 ///
 /// `Fault` comes exactly where the text has a fault, and it is the first one: of its tokens, else of an
 /// item's grammar, else of an item's types, else of an item's names. `Memory` is want of memory.
+#[tactic(auto, using(crate::proofs::TokenCounts::few_tokens, crate::proofs::TokenCounts::few_items, crate::proofs::Texts::tokens_refused, crate::proofs::Texts::items_refused, crate::proofs::Texts::types_refused, crate::proofs::Texts::names_refused))]
 pub fn program_of_text(alloc: Global, text: &[u8]) -> Result<Restricted, TextError>
     requires { length text.now ≤ size_limit }
     ensures program { IfOk result (λ r. IsProgramOfText text.now (program_of r)) }

@@ -1,5 +1,5 @@
 -- One item more, or a faulty one, from the items that are left.
-use Rattle.std.proofs.Common.{◌≡◌, inl, inr, ℕ, zero, suc, ◌+◌, ◌<◌, length, drop, get_or, List, [], ◌∷◌, None, refl, sym, ap, subst, ◌∙◌, arith}
+use Rattle.std.proofs.Common.{◌≡◌, inl, inr, ℕ, zero, suc, ◌+◌, ◌<◌, length, drop, get_or, List, [], ◌∷◌, None, sym, ap, subst, ◌∙◌, arith}
 use Rattle.ap_trees.specs.Items.{ItemOf}
 use Rattle.ap_trees.specs.declared.trees.Item.{Item}
 use Rattle.ap_trees.specs.Trees.{item_of, items_of}
