@@ -21,3 +21,5 @@ pub mod Printing
 pub mod Lines
 pub mod Typing
 pub mod GroundProofs
+pub mod FaultKinds
+pub mod Limits

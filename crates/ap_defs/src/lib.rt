@@ -6,12 +6,12 @@
 #![tactic(auto)]
 
 pub mod copies;
+pub mod faults;
 pub mod goals;
 pub mod ground;
+pub mod limits;
 pub mod lists;
 pub mod memory;
 pub mod outcomes;
 pub mod paths;
 pub mod terms;
-#[cfg(test)]
-mod tests;

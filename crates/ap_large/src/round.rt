@@ -1,10 +1,12 @@
 //! A goal is read, written back and dropped.
 
 ghost use Rattle.std.specs.Prelude.{◌≤◌, length};
+ghost use Rattle.ap_defs.specs.Limits.{size_limit};
 
+use ap_defs::limits::SIZE_LIMIT;
 use ap_defs::memory::Memory;
-use ap_lexer::{LexError, TEXT_LIMIT, Token, lex};
-use ap_syntax::{SynError, TOKEN_LIMIT, parse};
+use ap_lexer::{LexError, Token, lex};
+use ap_syntax::{SynError, parse};
 use ap_trees::{Form, GoalTree};
 use ap_unparse::writing::goal_text;
 use std::alloc::{AllocError, Global};
@@ -49,7 +51,7 @@ fn text_of(alloc: Global, goal: &GoalTree<'_>) -> Result<Option<Vec<u8>>, AllocE
 
 /// What is written of the goal of the one query.
 fn written(alloc: Global, tokens: &[Token<'_>]) -> Result<Option<Vec<u8>>, AllocError>
-    requires { length tokens.now ≤ TOKEN_LIMIT }
+    requires { length tokens.now ≤ size_limit }
 {
     let items = match parse(alloc, tokens) {
         Ok(items) => items,
@@ -67,10 +69,10 @@ fn written(alloc: Global, tokens: &[Token<'_>]) -> Result<Option<Vec<u8>>, Alloc
 
 /// The same of a text.
 fn written_of(alloc: Global, text: &[u8]) -> Result<Option<Vec<u8>>, AllocError>
-    requires { length text.now ≤ TEXT_LIMIT }
+    requires { length text.now ≤ size_limit }
 {
     match lex(alloc, text) {
-        Ok(tokens) if tokens.len() <= TOKEN_LIMIT => written(alloc, &tokens),
+        Ok(tokens) if tokens.len() <= SIZE_LIMIT => written(alloc, &tokens),
         Ok(_) | Err(LexError::Fault(_)) => Ok(None),
         Err(LexError::Memory) => Err(AllocError),
     }
@@ -79,7 +81,7 @@ fn written_of(alloc: Global, text: &[u8]) -> Result<Option<Vec<u8>>, AllocError>
 /// What becomes of a goal that is read as a query's, and written.
 pub fn round_of(alloc: Global, goal: &[u8]) -> Result<Outcome, AllocError> {
     let text = query(alloc, goal)?;
-    if text.len() > TEXT_LIMIT {
+    if text.len() > SIZE_LIMIT {
         return Ok(Outcome::NotRead);
     }
     match written_of(alloc, &text)? {

@@ -2,12 +2,12 @@
 use Rattle.std.specs.Prelude.{ℕ, zero, suc, pred, ◌+◌, Bool, ◌==◌, List, [], ◌∷◌, ◌++◌, length, take, drop, map, count_by, Option, None, Some, Result, Ok, Err, codes, if◌then◌else◌, ◌≡◌}
 use Rattle.std.specs.Str.{bytes_eq}
 use Rattle.std.specs.Str.Lossy.{utf8_valid_len}
+use Rattle.ap_defs.specs.declared.faults.SyntaxFault.{SyntaxFault}
+use Rattle.ap_defs.specs.declared.faults.SyntaxKind.TheVariants as kinds
 use Rattle.ap_lexer.specs.declared.token.TokenKind.{TokenKind}
 use Rattle.ap_lexer.specs.declared.token.Token.{Token}
-use Rattle.ap_lexer.specs.declared.token.LexFault.{LexFault}
 use Rattle.ap_lexer.specs.declared.token.LexError.{LexError}
 use Rattle.ap_lexer.specs.declared.token.LexError.TheVariants as errors
-use Rattle.ap_lexer.specs.declared.token.TheConstants.{NOT_UTF8, CHARACTER}
 use Rattle.ap_lexer.specs.declared.pieces.Piece.{Piece}
 use Rattle.ap_lexer.specs.Pieces.{piece_at}
 
@@ -66,12 +66,15 @@ item_after ts = 1 + count_by is_dot ts
 -- `front` is the longest front of `bs` that is UTF-8. The tokens are read from it, and they are
 -- those of the text if the scan ends where the text does. Else the fault is where it ends: at a
 -- character, or where the UTF-8 ends
-abbrev pub lexed_front : List ℕ → List ℕ → Result (List Lexeme) LexFault
+abbrev pub lexed_front : List ℕ → List ℕ → Result (List Lexeme) SyntaxFault
 lexed_front bs front = let stop = (scan_from 0 0 front).stop in if stop == length bs then Ok (lexemes_of front)
-    else Err (record { item = item_after (lexemes_of front); line = line_at front stop; kind = if stop == length front then NOT_UTF8 else CHARACTER })
+    else Err (record {
+      place = record { item = item_after (lexemes_of front); line = line_at front stop };
+      kind = if stop == length front then kinds.NotUtf8 else kinds.Character;
+    })
 
 -- what a text reads as: its tokens, or its first fault
-unfoldable pub lexed : List ℕ → Result (List Lexeme) LexFault
+unfoldable pub lexed : List ℕ → Result (List Lexeme) SyntaxFault
 lexed bs = lexed_front bs (take (utf8_valid_len bs) bs)
 
 -- the view of a token without where it lies in memory
@@ -82,11 +85,11 @@ abbrev pub lexemes : List Token → List Lexeme
 lexemes ts = map lexeme ts
 
 -- an error is the fault that was read, or want of memory
-abbrev pub Fails : LexError → Result (List Lexeme) LexFault → Type 0
+abbrev pub Fails : LexError → Result (List Lexeme) SyntaxFault → Type 0
 Fails errors.Memory read = Unit {0}
 Fails (errors.Fault f) read = read ≡ Err f
 
 -- what was returned is what was read, unless memory ran out
-abbrev pub Gives : {X : Type 0} → (X → List Lexeme) → Result X LexError → Result (List Lexeme) LexFault → Type 0
+abbrev pub Gives : {X : Type 0} → (X → List Lexeme) → Result X LexError → Result (List Lexeme) SyntaxFault → Type 0
 Gives view (Ok x) read = read ≡ Ok (view x)
 Gives view (Err e) read = Fails e read

@@ -11,8 +11,5 @@ mod scan;
 mod token;
 
 pub use pieces::takes_longest;
-pub use scan::{TEXT_LIMIT, lex};
-pub use token::{CHARACTER, LexError, LexFault, NOT_UTF8, Token, TokenKind};
-
-#[cfg(test)]
-mod tests;
+pub use scan::lex;
+pub use token::{LexError, Token, TokenKind};

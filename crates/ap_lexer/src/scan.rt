@@ -1,14 +1,13 @@
 // The tokens of a text, one piece after another.
 ghost use Rattle.std.specs.Prelude.{◌≡◌, ◌≤◌, ◌+◌, IfOk, length, take, map, count_by, ◌==◌};
+ghost use Rattle.ap_defs.specs.Limits.{size_limit};
 ghost use Rattle.ap_lexer.specs.Laws.{AreTokensOf};
 ghost use Rattle.ap_lexer.specs.Tokens.{Gives, lexed, lexemes, lexemes_of, scan_from, line_at, is_dot, lexeme};
 
 use crate::pieces::{piece_at, text_front};
-use crate::token::{CHARACTER, LexError, LexFault, NOT_UTF8, Token};
+use crate::token::{LexError, Token};
+use ap_defs::faults::{Place, SyntaxFault, SyntaxKind};
 use std::alloc::{AllocError, Global};
-
-/// The most bytes that a text may have.
-pub const TEXT_LIMIT: usize = 16_777_216;
 
 /// The tokens up to the place at which nothing begins, and that place with its line.
 #[derive(Drop)]
@@ -31,7 +30,7 @@ fn count_lines(text: &str) -> usize
 
 /// The tokens of a text.
 fn scan(alloc: Global, text: &str) -> Result<Scanned<'_>, AllocError>
-    requires { length text.now ≤ TEXT_LIMIT }
+    requires { length text.now ≤ size_limit }
     ensures tokens { IfOk result (λ s. lexemes s.tokens.items ≡ lexemes_of text.now) }
     ensures place { IfOk result (λ s. (s.place ≡ (scan_from 0 0 text.now).stop) × (s.place ≤ length text.now)) }
     ensures line { IfOk result (λ s. s.line ≡ line_at text.now s.place) }
@@ -80,7 +79,7 @@ fn count_dots(tokens: &[Token<'_>]) -> usize
 /// also where the bytes of a comment aren't UTF-8.
 #[tactic(auto, unfolding(crate::specs::Tokens::lexed))]
 pub fn lex(alloc: Global, text: &[u8]) -> Result<Vec<Token<'_>>, LexError>
-    requires { length text.now ≤ TEXT_LIMIT }
+    requires { length text.now ≤ size_limit }
     ensures read { Gives (λ v. lexemes v.items) result (lexed text.now) }
     ensures longest { IfOk result (λ v. AreTokensOf text.now (lexemes v.items)) }
 {
@@ -93,13 +92,15 @@ pub fn lex(alloc: Global, text: &[u8]) -> Result<Vec<Token<'_>>, LexError>
     if place == text.len() {
         return Ok(tokens);
     }
-    Err(LexError::Fault(LexFault {
-        item: 1 + count_dots(&tokens) as u32,
-        line,
+    Err(LexError::Fault(SyntaxFault {
+        place: Place {
+            item: 1 + count_dots(&tokens) as u32,
+            line,
+        },
         kind: if place == front.len() {
-            NOT_UTF8
+            SyntaxKind::NotUtf8
         } else {
-            CHARACTER
+            SyntaxKind::Character
         },
     }))
 }

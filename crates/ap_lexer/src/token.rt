@@ -1,6 +1,7 @@
-// Tokens, which borrow the text, and faults.
+// Tokens, which borrow the text, and why a text has none.
 ghost use Rattle.std.specs.Prelude.{◌≡◌};
 
+use ap_defs::faults::SyntaxFault;
 use std::alloc::{AllocError, AllocFailed};
 
 /// The kinds of tokens.
@@ -30,29 +31,12 @@ pub struct Token<'a> {
     pub line: u64,
 }
 
-/// The kind of a fault at which no UTF-8 character begins.
-pub const NOT_UTF8: u32 = 1;
-
-/// The kind of a fault at which a character begins, but neither a token nor white space nor a
-/// comment.
-pub const CHARACTER: u32 = 2;
-
-/// The first place of a text at which nothing begins.
-#[derive(Clone, Copy, Debug, PartialEq, Eq)]
-pub struct LexFault {
-    /// 1 and the number of `.` tokens before the place.
-    pub item: u32,
-    /// 1 and the number of LFs before the place.
-    pub line: u64,
-    /// `NOT_UTF8` or `CHARACTER`.
-    pub kind: u32,
-}
-
 /// Why a text gives no tokens.
 #[derive(Clone, Copy, Debug, PartialEq, Eq)]
 pub enum LexError {
-    /// The text is faulty.
-    Fault(LexFault),
+    /// The first place of the text at which nothing begins. Its item is 1 and the number of `.` tokens before
+    /// it, its line 1 and the number of LFs before it, and its kind `NotUtf8` or `Character`.
+    Fault(SyntaxFault),
     /// The allocator refused a growth.
     Memory,
 }

@@ -1,5 +1,9 @@
 -- The name restriction: binders and places of swappings are names, and each free name of a clause is fresh for its head.
 use Rattle.std.specs.Prelude.{◌≡◌, ◌+◌, ◌<◌, ◌≤◌, ◌⊎◌, ℕ, zero, suc, if◌then◌else◌, List, [], ◌∷◌, ◌++◌, map, length, Option, Some, None}
+use Rattle.ap_defs.specs.declared.faults.Place.{Place}
+use Rattle.ap_defs.specs.declared.faults.NameFault.{NameFault}
+use Rattle.ap_defs.specs.declared.faults.NameKind.{NameKind}
+use Rattle.ap_defs.specs.declared.faults.NameKind.TheVariants as kinds
 use Rattle.ap_defs.specs.declared.terms.Name.{Name}
 use Rattle.ap_defs.specs.declared.terms.Var.{Var}
 use Rattle.ap_defs.specs.declared.terms.Cond.{Cond}
@@ -15,11 +19,11 @@ use Rattle.ap_defs.specs.Types as types
 use Rattle.ap_defs.specs.Types.{NominalType, NominalKind, NominalLocal, NominalConstructor}
 use Rattle.ap_defs.specs.Goals.{GoalOver, succeed, atom, equal, fresh, both, either, exists, new, ClauseOver, QueryOver, ProgramOver, NominalGoal, NominalClause, NominalProgram}
 use Rattle.ap_defs.specs.Answers.{kind_at}
+use Rattle.ap_defs.specs.Limits.{size_limit}
 use Rattle.ap_defs.specs.Renaming.{local_names}
 use Rattle.ap_defs.specs.Resolution.{kinds_of}
 use Rattle.ap_types.specs.Holding.{MayHold}
 use Rattle.ap_theory.specs.Contexts.{Context, Fresh, listed}
-use Rattle.ap_program.specs.declared.faults.NameFault.{NameFault}
 use Rattle.ap_program.specs.Typed.{IsTypedProgram}
 use Rattle.ap_program.specs.CarryingOut.{carried_out, map_clause}
 
@@ -84,14 +88,11 @@ item_count p =
     length p.signature.name_types + length p.signature.data_types + length p.signature.constructors + length p.signature.predicates
     + sum_of_lengths p.clauses + length p.queries
 
-abbrev pub most_items : ℕ
-most_items = 16777216
-
 -- The program is typed by its kinds, each clause's free names are fresh for its head, and it isn't too large.
 pub record IsRestricted (p : NominalProgram) : Type 0 where
   pub typed : IsTypedProgram p
   pub names : AreRestrictedLists p.signature.constructors p.clauses
-  pub bounded : item_count p ≤ most_items
+  pub bounded : item_count p ≤ size_limit
 
 -- VARIABLES WHERE NAMES BELONG
 
@@ -141,13 +142,12 @@ pub data RawItem : Type 0 where
   clause : ClauseOver RawTerm → RawItem
   query : QueryOver RawTerm → RawItem
 
-abbrev pub item_number : RawItem → ℕ
-item_number (clause c) = c.item
-item_number (query q) = q.item
+abbrev pub item_place : RawItem → Place
+item_place (clause c) = record { item = c.item; line = c.line }
+item_place (query q) = record { item = q.item; line = q.line }
 
-abbrev pub item_line : RawItem → ℕ
-item_line (clause c) = c.line
-item_line (query q) = q.line
+abbrev pub item_number : RawItem → ℕ
+item_number i = (item_place i).item
 
 abbrev pub item_locals : RawItem → List NominalLocal
 item_locals (clause c) = c.locals
@@ -195,15 +195,14 @@ spelling_at (l ∷ ls) zero = l.text
 spelling_at (l ∷ ls) (suc n) = spelling_at ls n
 
 -- The identifier with this number is what is wrong with the item, with the least kind that applies.
-pub data IsWrong (cs : List NominalConstructor) (i : RawItem) : ℕ → ℕ → Type 0 where
-  variable_binder : (x : Var) → IsFirst x (binders_in i) → IsWrong cs i 1 x.num
-  variable_swap : (x : Var) → binders_in i ≡ [] → IsFirst x (places_in i) → IsWrong cs i 2 x.num
-  head_name : (a : Name) → HasNamesAlone i → IsHeadName cs i a → IsWrong cs i 3 a.num
+pub data IsWrong (cs : List NominalConstructor) (i : RawItem) : NameKind → ℕ → Type 0 where
+  variable_binder : (x : Var) → IsFirst x (binders_in i) → IsWrong cs i kinds.VariableBinder x.num
+  variable_swap : (x : Var) → binders_in i ≡ [] → IsFirst x (places_in i) → IsWrong cs i kinds.VariableSwap x.num
+  head_name : (a : Name) → HasNamesAlone i → IsHeadName cs i a → IsWrong cs i kinds.HeadName a.num
 
 -- the fault is the item's
 pub record IsFaultOf (cs : List NominalConstructor) (i : RawItem) (f : NameFault) : Type 0 where
-  pub item : f.item ≡ item_number i
-  pub line : f.line ≡ item_line i
+  pub place : f.place ≡ item_place i
   pub wrong : (n : ℕ) × IsWrong cs i f.kind n × (f.name ≡ spelling_at (item_locals i) n)
 
 abbrev pub items_of_lists : List (List (ClauseOver RawTerm)) → List RawItem
@@ -229,8 +228,8 @@ pub record IsFirstFault (cs : List NominalConstructor) (items : List RawItem) (f
   pub after : List RawItem
   pub place : items ≡ before ++ at ∷ after
   pub fault : IsFaultOf cs at f
-  pub earlier : PassUpTo cs f.item before
-  pub later : PassBelow cs f.item after
+  pub earlier : PassUpTo cs f.place.item before
+  pub later : PassBelow cs f.place.item after
 
 abbrev pub IsNameFault : ProgramOver RawTerm → NameFault → Type 0
 IsNameFault p f = IsFirstFault p.signature.constructors (items_of p) f

@@ -2,6 +2,5 @@
 //! restriction.
 #![tactic(auto)]
 
-pub mod faults;
 pub mod renaming;
 pub mod restricted;

@@ -1,5 +1,5 @@
 mod NameFaults
-mod Reports
+pub mod Texts
 mod QueryReports
 mod TokenCounts
 pub mod SoundTexts

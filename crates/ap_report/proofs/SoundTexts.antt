@@ -1,7 +1,6 @@
 -- The program of each text is sound.
 use Rattle.std.proofs.Common.{ℕ, List, [], ◌∷◌}
 use Rattle.ap_defs.specs.Goals.{NominalProgram, NominalQuery}
-use Rattle.ap_program.specs.CarryingOut.{carried_out_program}
 use Rattle.ap_program.specs.Typed.{AreTypedQueries, IsTypedProgram, term_form}
 use Rattle.ap_report.specs.SoundAnswers.{HaveSoundAnswers, IsSoundProgram, IsSoundText}
 use Rattle.ap_restrict.proofs.KeepingLemmas.{kept_typed}
@@ -16,4 +15,4 @@ pub sound_program : (p : NominalProgram) → IsTypedProgram p → (depth : ℕ) 
 sound_program p typed depth = sound_queries p typed depth p.queries typed.1
 
 pub sound_text : (depth : ℕ) (text : List ℕ) → IsSoundText depth text
-sound_text depth text items p split kept = sound_program (carried_out_program p) (kept_typed p (program_typed items p kept.0) kept.1) depth
+sound_text depth text p is = sound_program p (rw is.carried (kept_typed is.raw (program_typed is.items is.raw is.typed) is.kept)) depth

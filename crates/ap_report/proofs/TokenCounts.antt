@@ -6,13 +6,13 @@ use Rattle.std.proofs.lemmas.List.{length-map}
 use Rattle.std.proofs.lemmas.Grind.{common_steps}
 use Rattle.ap_lexer.specs.declared.pieces.Piece.{Piece}
 use Rattle.ap_lexer.specs.declared.token.Token.{Token}
-use Rattle.ap_lexer.specs.declared.token.LexFault.{LexFault}
+use Rattle.ap_defs.specs.declared.faults.SyntaxFault.{SyntaxFault}
+use Rattle.ap_defs.specs.Limits.{size_limit}
 use Rattle.ap_lexer.specs.Pieces.{piece_at}
 use Rattle.ap_lexer.specs.Tokens.{Scan, Lexeme, scan_from, scan_piece, span_of, lexeme, lexemes, lexeme_at, lexemes_of, lexed}
 use Rattle.ap_trees.specs.Items.{ItemOf}
 use Rattle.ap_trees.specs.Trees.{item_of, items_of}
 use Rattle.ap_trees.specs.declared.trees.Item.{Item}
-use Rattle.ap_syntax.specs.declared.faults.SynFault.{SynFault}
 use Rattle.ap_syntax.specs.Reading.{First, unended, too_deep, no_item, an_item, Reads, all_read, faulty, goes_on, Outcome, after_items}
 
 one_at_most : (at : ℕ) (p : Piece) → length (span_of at p) ≤ 1
@@ -31,7 +31,7 @@ spans_few at (suc skip) (b ∷ bs) = omega (arith, spans_few (suc at) skip bs)
 lexemes_few : (bs : List ℕ) → length (lexemes_of bs) ≤ length bs
 lexemes_few bs = let same = length-map (scan_from 0 0 bs).spans (lexeme_at bs) in omega (arith, spans_few 0 0 bs)
 
-chosen : (b : Bool) (all ts : List Lexeme) (fault : LexFault) → (if b then Ok all else Err fault) ≡ Ok ts → all ≡ ts
+chosen : (b : Bool) (all ts : List Lexeme) (fault : SyntaxFault) → (if b then Ok all else Err fault) ≡ Ok ts → all ≡ ts
 chosen true all ts fault e = cc
 chosen false all ts fault e = cc
 
@@ -44,15 +44,15 @@ tokens_few bs ts e =
     let short : length front ≤ length bs = grind (arith, common_steps) in
     omega arith
 
-pub few_tokens : (bs : List ℕ) (ts : List Token) → lexed bs ≡ Ok (lexemes ts) → length bs ≤ 16777216 → length ts ≤ 16777216
+pub few_tokens : (bs : List ℕ) (ts : List Token) → lexed bs ≡ Ok (lexemes ts) → length bs ≤ size_limit → length ts ≤ size_limit
 few_tokens bs ts e l = let same = length-map ts lexeme in omega (arith, tokens_few bs (lexemes ts) e)
 
 -- what follows the first item
-abbrev left_over : Result (ItemOf × List Lexeme) SynFault → List Lexeme
+abbrev left_over : Result (ItemOf × List Lexeme) SyntaxFault → List Lexeme
 left_over (Ok p) = p.1
 left_over (Err f) = []
 
-first_shorter : (item : ℕ) (t : Lexeme) (ts : List Lexeme) (o : Result (ItemOf × List Lexeme) SynFault) (x : ItemOf) (rest : List Lexeme) → First item t ts o → o ≡ Ok (x, rest) → length rest ≤ length ts
+first_shorter : (item : ℕ) (t : Lexeme) (ts : List Lexeme) (o : Result (ItemOf × List Lexeme) SyntaxFault) (x : ItemOf) (rest : List Lexeme) → First item t ts o → o ≡ Ok (x, rest) → length rest ≤ length ts
 first_shorter item t ts _ x rest (unended h) e = absurd (cc)
 first_shorter item t ts _ x rest (too_deep place h k) e = absurd (cc)
 first_shorter item t ts _ x rest (no_item place h k n) e = absurd (cc)
@@ -71,7 +71,7 @@ items_few n (t ∷ ts) _ items (faulty f h) e = absurd (cc)
 items_few n (t ∷ ts) _ items (goes_on x rest r h reads) e =
     more_few x r (length ts) (λ more is. let a = items_few (n + 1) rest r more reads is in let b = first_shorter n t ts (Ok (x, rest)) x rest h refl in omega arith) items e
 
-pub few_items : (ts : List Token) (items : List Item) → Reads 1 (lexemes ts) (Ok (items_of items)) → length ts ≤ 16777216 → length items ≤ 16777216
+pub few_items : (ts : List Token) (items : List Item) → Reads 1 (lexemes ts) (Ok (items_of items)) → length ts ≤ size_limit → length items ≤ size_limit
 few_items ts items reads l =
     let a = length-map ts lexeme in
     let b = length-map items item_of in

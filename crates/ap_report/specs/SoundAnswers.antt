@@ -1,13 +1,10 @@
 -- Soundness of what is written for a text: each ground instance of what is shown of an answer is derivable in nominal logic.
 use Rattle.std.specs.Prelude.{ℕ, List, [], ◌∷◌}
 use Rattle.ap_defs.specs.Answers.{query_outs}
-use Rattle.ap_defs.specs.Goals.{NominalProgram, NominalQuery, ProgramOver}
-use Rattle.ap_defs.specs.RawTerms.{RawTerm}
+use Rattle.ap_defs.specs.Goals.{NominalProgram, NominalQuery}
 use Rattle.ap_ground.specs.ShownInstances.{InEachShownInstance, IsTypedDerivable}
-use Rattle.ap_program.specs.CarryingOut.{carried_out_program}
-use Rattle.ap_report.specs.TextReport.{HasItems, IsKept}
+use Rattle.ap_report.specs.Texts.{IsProgramOfText}
 use Rattle.ap_soundness.specs.FoundStates.{EachAnswer}
-use Rattle.ap_trees.specs.Items.{ItemOf}
 
 -- for each instance of what is shown of an answer there are terms for the query's free variables, with those that are shown among
 -- them, for which the query is derivable, no higher than the depth
@@ -25,4 +22,4 @@ IsSoundProgram p depth = HaveSoundAnswers p depth p.queries
 
 -- the program of the text is sound, where the text has no fault
 abbrev pub IsSoundText : ℕ → List ℕ → Type 0
-IsSoundText depth text = (items : List ItemOf) (p : ProgramOver RawTerm) → HasItems text items → IsKept items p → IsSoundProgram (carried_out_program p) depth
+IsSoundText depth text = (p : NominalProgram) → IsProgramOfText text p → IsSoundProgram p depth

@@ -1,15 +1,16 @@
 // The report on the queries of a program.
-ghost use Rattle.std.specs.Prelude.{◌≡◌, ◌-◌, ◌<◌, ◌≤◌, ℕ, List as list, IfOk, length};
+ghost use Rattle.std.specs.Prelude.{◌≡◌, ◌-◌, ℕ, List as list, IfOk, length};
 ghost use Rattle.ap_defs.specs.Goals.{program_of};
 ghost use Rattle.ap_defs.specs.Printing.{has_word};
 ghost use Rattle.ap_defs.specs.Lines.{program_report};
 ghost use Rattle.ap_answers.specs.Words.{knows};
+ghost use Rattle.ap_backchain.specs.Problems.{HasQuery};
 ghost use Rattle.ap_report.specs.Queries.{query_report};
 
 use crate::solver::solve;
-use crate::wanted::Wanted;
 use ap_answers::printing::{lines_among, words_in};
 use ap_backchain::problem::Problem;
+use ap_defs::limits::{Depth, Workers};
 use ap_defs::memory::Memory;
 use ap_io::Gate;
 use ap_program::restricted::Restricted;
@@ -25,29 +26,21 @@ fn query_count(program: &Restricted) -> u32
     program.program().queries.items().len() as u32
 }
 
-/// The report on the query of a number, from 1.
+/// The report on a query of a program, whose words are known.
 fn report_query<R: Threads + Wait + Sync, G: Gate>(
     rt: &R,
     alloc: Global,
     gate: &G,
-    wanted: Wanted,
-    program: &Restricted,
+    workers: Workers,
     taken: &HashSet<&str>,
-    query: u32,
+    problem: &Problem<'_>,
 ) -> Result<Vec<u8>, Memory>
-    requires workers { (0 < wanted.workers) × (wanted.workers ≤ 64) }
-    requires words { (w : list ℕ) → knows taken.now w ≡ has_word w program.now.words }
-    requires from_one { 1 ≤ query }
-    requires exists { query ≤ length (program_of program.now).queries }
-    ensures { IfOk result (λ v. v.items ≡ query_report (program_of program.now) wanted.depth (query - 1)) }
+    requires words { (w : list ℕ) → knows taken.now w ≡ has_word w problem.now.program.now.words }
+    requires query { HasQuery problem.now }
+    ensures { IfOk result (λ v. v.items ≡ query_report (program_of problem.now.program.now) problem.now.depth (problem.now.query - 1)) }
 {
-    let problem = Problem {
-        program,
-        query,
-        depth: wanted.depth,
-    };
-    let outs = solve(rt, alloc, gate, wanted.workers, &problem)?;
-    lines_among(alloc, program, taken, query, &outs)
+    let outs = solve(rt, alloc, gate, workers, problem)?;
+    lines_among(alloc, problem.program, taken, problem.query, &outs)
 }
 
 /// The report on each query of the program, to a depth, one after the other.
@@ -55,17 +48,22 @@ pub(crate) fn report_program<R: Threads + Wait + Sync, G: Gate>(
     rt: &R,
     alloc: Global,
     gate: &G,
-    wanted: Wanted,
+    depth: Depth,
+    workers: Workers,
     program: &Restricted,
 ) -> Result<Vec<u8>, Memory>
-    requires workers { (0 < wanted.workers) × (wanted.workers ≤ 64) }
-    ensures { IfOk result (λ v. v.items ≡ program_report (program_of program.now) wanted.depth) }
+    ensures { IfOk result (λ v. v.items ≡ program_report (program_of program.now) depth) }
 {
     let count = query_count(program);
     let taken = words_in(alloc, program)?;
     let mut bytes = Vec::new(alloc);
     for place in 0..count {
-        let report = report_query(rt, alloc, gate, wanted, program, &taken, place + 1)?;
+        let problem = Problem {
+            program,
+            query: place + 1,
+            depth: depth.get(),
+        };
+        let report = report_query(rt, alloc, gate, workers, &taken, &problem)?;
         bytes.extend_from_slice(&report)?;
     }
     Ok(bytes)

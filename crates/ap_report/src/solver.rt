@@ -1,12 +1,13 @@
 //! The outputs of a query, by one worker or by several.
 
-ghost use Rattle.std.specs.Prelude.{◌≡◌, ◌-◌, ◌<◌, ◌≤◌, Some, IfOk, slice_get};
+ghost use Rattle.std.specs.Prelude.{◌≡◌, ◌-◌, Some, IfOk, slice_get};
 ghost use Rattle.ap_defs.specs.Answers.{outs_of, query_outs};
 ghost use Rattle.ap_defs.specs.Goals.{NominalQuery};
 ghost use Rattle.ap_backchain.specs.Problems.{HasQuery, clauses_in, queries_in};
 
 use ap_backchain::problem::{Problem, outputs};
 use ap_book::merge;
+use ap_defs::limits::Workers;
 use ap_defs::memory::Memory;
 use ap_defs::paths::Out;
 use ap_io::Gate;
@@ -21,15 +22,14 @@ fn search_beside<R: Threads + Wait + Sync, G: Gate>(
     rt: &R,
     alloc: Global,
     gate: &G,
-    workers: u32,
+    workers: Workers,
     problem: &Problem<'_>,
 ) -> Result<Vec<Out>, Memory>
     requires query { HasQuery problem.now }
-    requires workers { (0 < workers) × (workers ≤ 64) }
     ensures { IfOk result (λ v. (q : NominalQuery) → slice_get (queries_in problem.now) (problem.now.query - 1) ≡ Some q → outs_of v.items ≡ query_outs (clauses_in problem.now) problem.now.depth q) }
 {
     let tree = ProblemTree::of(*problem);
-    let closed = search(rt, alloc, &tree, workers, gate)?;
+    let closed = search(rt, alloc, &tree, workers.get(), gate)?;
     merge(alloc, closed)
 }
 
@@ -40,14 +40,13 @@ pub(crate) fn solve<R: Threads + Wait + Sync, G: Gate>(
     rt: &R,
     alloc: Global,
     gate: &G,
-    workers: u32,
+    workers: Workers,
     problem: &Problem<'_>,
 ) -> Result<Vec<Out>, Memory>
     requires query { HasQuery problem.now }
-    requires workers { (0 < workers) × (workers ≤ 64) }
     ensures { IfOk result (λ v. (q : NominalQuery) → slice_get (queries_in problem.now) (problem.now.query - 1) ≡ Some q → outs_of v.items ≡ query_outs (clauses_in problem.now) problem.now.depth q) }
 {
-    if workers == 1 {
+    if workers.get() == 1 {
         outputs(alloc, problem)
     } else {
         search_beside(rt, alloc, gate, workers, problem)

@@ -21,8 +21,6 @@ pub enum Status {
     Write,
     /// Memory was wanting. Nothing was written.
     Memory,
-    /// A derivation was refused.
-    NotChecked,
     /// The input has more bytes than the limit.
     TooLarge,
 }
@@ -41,7 +39,6 @@ impl Status {
             Status::Read => 5,
             Status::Write => 6,
             Status::Memory => 7,
-            Status::NotChecked => 8,
             Status::TooLarge => 9,
         }
     }

@@ -10,8 +10,10 @@ use Rattle.ap_defs.specs.RawTerms.{RawTerm}
 use Rattle.ap_defs.specs.Goals.{NominalGoal, ClauseOver}
 use Rattle.ap_defs.specs.Renaming.{local_names}
 use Rattle.ap_program.specs.CarryingOut.{carried_out, map_clause, map_goal}
-use Rattle.ap_program.specs.declared.faults.NameFault.{NameFault}
-use Rattle.ap_program.specs.NameRestriction.{RawItem, item_number, item_line, item_locals, binders_in, places_in, HasNamesAlone, IsWrong, variable_binder, variable_swap, IsFaultOf, spelling_at, IsFirst, AreFreshForHead, IsFirstNotFresh}
+use Rattle.ap_defs.specs.declared.faults.NameFault.{NameFault}
+use Rattle.ap_defs.specs.declared.faults.NameKind.{NameKind}
+use Rattle.ap_defs.specs.declared.faults.NameKind.TheVariants as kinds
+use Rattle.ap_program.specs.NameRestriction.{RawItem, item_place, item_locals, binders_in, places_in, HasNamesAlone, IsWrong, variable_binder, variable_swap, IsFaultOf, spelling_at, IsFirst, AreFreshForHead, IsFirstNotFresh}
 use Rattle.ap_restrict.specs.Places.{first_of}
 use Rattle.ap_restrict.specs.Heads.{IsAnswer, clause_with}
 
@@ -62,18 +64,17 @@ carried_answer cs c args body names o e f h =
     (subst (λ ts. IsAnswer cs (clause_with ts body c.locals) names o) e h))
 
 -- an item's fault, by its parts
-pub fault_is : (cs : List NominalConstructor) (i : RawItem) (f : NameFault) (kind n : ℕ) (locals : List NominalLocal) → locals ≡ item_locals i
-    → f.item ≡ item_number i → f.line ≡ item_line i → f.kind ≡ kind → f.name ≡ spelling_at locals n → IsWrong cs i kind n → IsFaultOf cs i f
-fault_is cs i f kind n locals l item line same name wrong = record {
-  item = item;
-  line = line;
+pub fault_is : (cs : List NominalConstructor) (i : RawItem) (f : NameFault) (kind : NameKind) (n : ℕ) (locals : List NominalLocal) → locals ≡ item_locals i
+    → f.place ≡ item_place i → f.kind ≡ kind → f.name ≡ spelling_at locals n → IsWrong cs i kind n → IsFaultOf cs i f
+fault_is cs i f kind n locals l place same name wrong = record {
+  place = place;
   wrong = (n, subst (λ k. IsWrong cs i k n) (sym same) wrong, name ∙ ap (λ ls. spelling_at ls n) l);
 }
 
-pub binder_is : (cs : List NominalConstructor) (i : RawItem) (x : Var) → Some x ≡ first_of (binders_in i) → IsWrong cs i 1 x.num
+pub binder_is : (cs : List NominalConstructor) (i : RawItem) (x : Var) → Some x ≡ first_of (binders_in i) → IsWrong cs i kinds.VariableBinder x.num
 binder_is cs i x e = variable_binder x (is_first x (binders_in i) e)
 
-pub swap_is : (cs : List NominalConstructor) (i : RawItem) (x : Var) → None ≡ first_of (binders_in i) → Some x ≡ first_of (places_in i) → IsWrong cs i 2 x.num
+pub swap_is : (cs : List NominalConstructor) (i : RawItem) (x : Var) → None ≡ first_of (binders_in i) → Some x ≡ first_of (places_in i) → IsWrong cs i kinds.VariableSwap x.num
 swap_is cs i x b e = variable_swap x (is_none (binders_in i) b) (is_first x (places_in i) e)
 
 pub names_alone : (i : RawItem) → None ≡ first_of (binders_in i) → None ≡ first_of (places_in i) → HasNamesAlone i

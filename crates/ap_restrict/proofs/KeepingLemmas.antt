@@ -11,7 +11,8 @@ use Rattle.ap_defs.specs.Resolution.{kinds_of}
 use Rattle.ap_program.specs.RawTyping.{HasRawType, HasTermType}
 use Rattle.ap_program.specs.Typed.{HaveTypes, AreArguments, predicate_at, IsTypedGoal, raw_form, term_form, IsTypedClause, IsTypedQuery, AreTypedClauses, AreTypedFrom, AreTypedQueries, IsTypedProgram, IsTypedRawProgram}
 use Rattle.ap_program.specs.CarryingOut.{carried_out, map_goal, map_clause, map_query, carried_out_program}
-use Rattle.ap_program.specs.NameRestriction.{RawItem, clause, query, AllPass, HasNamesAlone, variable_binders, variable_places, in_each, terms_of_goal, items_of, items_of_lists, AreRestrictedClauses, AreRestrictedLists, IsRestricted, item_count, most_items, sum_of_lengths}
+use Rattle.ap_defs.specs.Limits.{size_limit}
+use Rattle.ap_program.specs.NameRestriction.{RawItem, clause, query, AllPass, HasNamesAlone, variable_binders, variable_places, in_each, terms_of_goal, items_of, items_of_lists, AreRestrictedClauses, AreRestrictedLists, IsRestricted, item_count, sum_of_lengths}
 use Rattle.ap_restrict.proofs.PlaceLemmas.{in_each_append}
 use Rattle.ap_restrict.proofs.CarriedTyping.{HasNames, carried_typed, nothing_left, nothing_right}
 use Rattle.ap_restrict.proofs.CarriedScoping.{carried_scoped}
@@ -136,10 +137,10 @@ kept_typed p h a =
       typed_queries p.signature p.queries (all_right cs of_clauses of_queries a) h.1,
     )
 
-pub kept : (p : ProgramOver RawTerm) → IsTypedRawProgram p → AllPass p.signature.constructors (items_of p) → item_count p ≤ most_items → IsRestricted (carried_out_program p)
+pub kept : (p : ProgramOver RawTerm) → IsTypedRawProgram p → AllPass p.signature.constructors (items_of p) → item_count p ≤ size_limit → IsRestricted (carried_out_program p)
 kept p h a b =
     record {
       typed = kept_typed p h a;
       names = restricted_lists p.signature.constructors p.clauses (all_left p.signature.constructors (items_of_lists p.clauses) (map query p.queries) a);
-      bounded = subst (λ n. n ≤ most_items) (sym (same_count p)) b;
+      bounded = subst (λ n. n ≤ size_limit) (sym (same_count p)) b;
     }

@@ -6,7 +6,7 @@ use Rattle.std.specs.Prelude.{nat_lt, if◌then◌else◌, Option, Some, None}
 use Rattle.ap_defs.specs.Types.{NominalConstructor}
 use Rattle.ap_defs.specs.RawTerms.{RawTerm}
 use Rattle.ap_defs.specs.Goals.{ClauseOver}
-use Rattle.ap_program.specs.declared.faults.NameFault.{NameFault}
+use Rattle.ap_defs.specs.declared.faults.NameFault.{NameFault}
 use Rattle.ap_program.specs.NameRestriction.{RawItem, clause, item_number, Passes, AllPass, PassUpTo, PassBelow, IsFaultOf, IsFirstFault, items_of_lists}
 use Rattle.ap_restrict.specs.Scans.{IsVerdict, IsScan, earlier_of}
 
@@ -36,10 +36,10 @@ up_to_join : (cs : List NominalConstructor) (m : ℕ) (before : List RawItem) (a
 up_to_join cs m [] at after h n k = ((λ l. absurd (n l)), k)
 up_to_join cs m (i ∷ is) at after h n k = (h.0, up_to_join cs m is at after h.1 n k)
 
-first_here : (cs : List NominalConstructor) (items : List RawItem) (i : RawItem) (f : NameFault) → PassUpTo cs f.item items → IsFaultOf cs i f → IsFirstFault cs (items ++ i ∷ []) f
+first_here : (cs : List NominalConstructor) (items : List RawItem) (i : RawItem) (f : NameFault) → PassUpTo cs f.place.item items → IsFaultOf cs i f → IsFirstFault cs (items ++ i ∷ []) f
 first_here cs items i f h w = record { before = items; at = i; after = []; place = refl; fault = w; earlier = h; later = tt }
 
-first_still : (cs : List NominalConstructor) (items : List RawItem) (i : RawItem) (f : NameFault) → IsFirstFault cs items f → (item_number i < f.item → Passes cs i) → IsFirstFault cs (items ++ i ∷ []) f
+first_still : (cs : List NominalConstructor) (items : List RawItem) (i : RawItem) (f : NameFault) → IsFirstFault cs items f → (item_number i < f.place.item → Passes cs i) → IsFirstFault cs (items ++ i ∷ []) f
 first_still cs items i f h p = record {
   before = h.before;
   at = h.at;
@@ -47,15 +47,15 @@ first_still cs items i f h p = record {
   place = ap (λ is. is ++ i ∷ []) h.place ∙ append_assoc h.before (h.at ∷ h.after) (i ∷ []);
   fault = h.fault;
   earlier = h.earlier;
-  later = below_then cs f.item h.after i h.later p;
+  later = below_then cs f.place.item h.after i h.later p;
 }
 
-first_less : (cs : List NominalConstructor) (items : List RawItem) (i : RawItem) (f g : NameFault) → IsFirstFault cs items f → IsFaultOf cs i g → g.item < f.item → IsFirstFault cs (items ++ i ∷ []) g
+first_less : (cs : List NominalConstructor) (items : List RawItem) (i : RawItem) (f g : NameFault) → IsFirstFault cs items f → IsFaultOf cs i g → g.place.item < f.place.item → IsFirstFault cs (items ++ i ∷ []) g
 first_less cs items i f g h w l =
-    let number : f.item ≡ item_number h.at = h.fault.item in
+    let number : f.place.item ≡ item_number h.at = ap (λ p. p.item) h.fault.place in
     first_here cs items i g
-    (subst (PassUpTo cs g.item) (sym h.place)
-    (up_to_join cs g.item h.before h.at h.after (up_to_less cs g.item f.item h.before (omega arith) h.earlier) (λ k. omega arith) (below_up_to cs g.item f.item h.after l h.later))) w
+    (subst (PassUpTo cs g.place.item) (sym h.place)
+    (up_to_join cs g.place.item h.before h.at h.after (up_to_less cs g.place.item f.place.item h.before (omega arith) h.earlier) (λ k. omega arith) (below_up_to cs g.place.item f.place.item h.after l h.later))) w
 
 lesser : (m n : ℕ) → nat_lt m n ≡ true → m < n
 lesser m n e = grind (arith, nat_tests)
@@ -63,21 +63,21 @@ lesser m n e = grind (arith, nat_tests)
 not_lesser : (m n : ℕ) → nat_lt m n ≡ false → n ≤ m
 not_lesser m n e = grind (arith, nat_tests)
 
-first_of_two : (cs : List NominalConstructor) (items : List RawItem) (i : RawItem) (f g : NameFault) (b : Bool) → nat_lt g.item f.item ≡ b → IsFirstFault cs items f → IsFaultOf cs i g
+first_of_two : (cs : List NominalConstructor) (items : List RawItem) (i : RawItem) (f g : NameFault) (b : Bool) → nat_lt g.place.item f.place.item ≡ b → IsFirstFault cs items f → IsFaultOf cs i g
     → IsScan cs (items ++ i ∷ []) (if b then Some g else Some f)
-first_of_two cs items i f g true e h w = first_less cs items i f g h w (lesser g.item f.item e)
+first_of_two cs items i f g true e h w = first_less cs items i f g h w (lesser g.place.item f.place.item e)
 first_of_two cs items i f g false e h w =
-    let number : g.item ≡ item_number i = w.item in
-    let same : f.item ≤ g.item = not_lesser g.item f.item e in
+    let number : g.place.item ≡ item_number i = ap (λ p. p.item) w.place in
+    let same : f.place.item ≤ g.place.item = not_lesser g.place.item f.place.item e in
     first_still cs items i f h (λ l. absurd (omega arith))
 
 -- the first fault of the items and one more
 pub scan_more : (cs : List NominalConstructor) (items : List RawItem) (i : RawItem) (best new : Option NameFault) → IsScan cs items best → IsVerdict cs i new
     → IsScan cs (items ++ i ∷ []) (earlier_of best new)
 scan_more cs items i None None h v = all_then cs items i h v
-scan_more cs items i None (Some g) h v = first_here cs items i g (all_up_to cs g.item items h) v
+scan_more cs items i None (Some g) h v = first_here cs items i g (all_up_to cs g.place.item items h) v
 scan_more cs items i (Some f) None h v = first_still cs items i f h (λ l. v)
-scan_more cs items i (Some f) (Some g) h v = first_of_two cs items i f g (nat_lt g.item f.item) refl h v
+scan_more cs items i (Some f) (Some g) h v = first_of_two cs items i f g (nat_lt g.place.item f.place.item) refl h v
 
 pub items_then : (css : List (List (ClauseOver RawTerm))) (cs : List (ClauseOver RawTerm)) → items_of_lists (css ++ cs ∷ []) ≡ items_of_lists css ++ map clause cs
 items_then [] cs = append-nil (map clause cs)

@@ -3,14 +3,14 @@ use Rattle.std.specs.Prelude.{List, [], ◌∷◌, Option, Some, None}
 use Rattle.ap_defs.specs.declared.terms.Var.{Var}
 use Rattle.ap_defs.specs.RawTerms.{RawTerm}
 use Rattle.ap_program.specs.NameRestriction.{variable_binders, variable_places}
-use Rattle.ap_restrict.specs.declared.places.Place.{Place}
-use Rattle.ap_restrict.specs.declared.places.Place.TheVariants as places
+use Rattle.ap_restrict.specs.declared.places.NamePlace.{NamePlace}
+use Rattle.ap_restrict.specs.declared.places.NamePlace.TheVariants as places
 
 abbrev pub first_of : List Var → Option Var
 first_of [] = None
 first_of (x ∷ xs) = Some x
 
 -- the variables at such places of a term
-abbrev pub variables_at : Place → RawTerm → List Var
+abbrev pub variables_at : NamePlace → RawTerm → List Var
 variables_at places.Binder t = variable_binders t
 variables_at places.Swap t = variable_places t

@@ -1,7 +1,7 @@
 -- Verdicts on items, and the first fault of items so far.
 use Rattle.std.specs.Prelude.{if◌then◌else◌, nat_lt, List, Option, Some, None}
 use Rattle.ap_defs.specs.Types.{NominalConstructor}
-use Rattle.ap_program.specs.declared.faults.NameFault.{NameFault}
+use Rattle.ap_defs.specs.declared.faults.NameFault.{NameFault}
 use Rattle.ap_program.specs.NameRestriction.{RawItem, Passes, AllPass, IsFaultOf, IsFirstFault}
 
 -- the item's fault, or that it passes
@@ -18,4 +18,4 @@ IsScan cs items (Some f) = IsFirstFault cs items f
 abbrev pub earlier_of : Option NameFault → Option NameFault → Option NameFault
 earlier_of None new = new
 earlier_of (Some old) None = Some old
-earlier_of (Some old) (Some new) = if nat_lt new.item old.item then Some new else Some old
+earlier_of (Some old) (Some new) = if nat_lt new.place.item old.place.item then Some new else Some old

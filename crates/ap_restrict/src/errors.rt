@@ -3,8 +3,8 @@
 ghost use Rattle.std.specs.Prelude.{◌≡◌};
 ghost use Rattle.ap_restrict.specs.declared.errors.NameError.TheVariants as errors;
 
+use ap_defs::faults::NameFault;
 use ap_defs::memory::Memory;
-use ap_program::faults::NameFault;
 
 /// The first fault of a program, or want of memory.
 #[derive(Debug, Drop)]

@@ -13,12 +13,12 @@ ghost use Rattle.ap_restrict.specs.Scans.{IsVerdict};
 
 use crate::carrying::{carry_goal, carry_terms};
 use crate::heads::{Head, Setting, first_not_fresh};
-use crate::places::{Place, first_in_goal, first_in_terms};
+use crate::places::{NamePlace, first_in_goal, first_in_terms};
+use ap_defs::faults::{NameFault, NameKind, Place};
 use ap_defs::goals::{Clause, Local, Query, Signature};
 use ap_defs::lists::Text;
 use ap_defs::memory::Memory;
 use ap_defs::terms::{Name, Raw, Var};
-use ap_program::faults::NameFault;
 use std::alloc::Global;
 
 /// How the identifier with this number is spelled.
@@ -36,22 +36,24 @@ fn spelling(alloc: Global, locals: &[Local], num: u64) -> Result<Text, Memory>
 /// Where an item stands, and its identifiers.
 #[derive(Drop)]
 struct Position<'a> {
-    item: u32,
-    line: u64,
+    place: Place,
     locals: &'a [Local],
 }
 
 /// The fault of an item, by the identifier with this number.
-fn fault(alloc: Global, position: &Position<'_>, kind: u32, num: u64) -> Result<NameFault, Memory>
-    ensures item { IfOk result (λ f. f.item ≡ position.now.item) }
-    ensures line { IfOk result (λ f. f.line ≡ position.now.line) }
+fn fault(
+    alloc: Global,
+    position: &Position<'_>,
+    kind: NameKind,
+    num: u64,
+) -> Result<NameFault, Memory>
+    ensures place { IfOk result (λ f. f.place ≡ position.now.place) }
     ensures kind { IfOk result (λ f. f.kind ≡ kind) }
     ensures name { IfOk result (λ f. f.name ≡ spelling_at (locals_of position.now.locals.now) num) }
 {
     let name = spelling(alloc, position.locals, num)?;
     Ok(NameFault {
-        item: position.item,
-        line: position.line,
+        place: position.place,
         kind,
         name,
     })
@@ -59,7 +61,7 @@ fn fault(alloc: Global, position: &Position<'_>, kind: u32, num: u64) -> Result<
 
 /// The first variable at such a place of a clause.
 #[tactic(auto, using(crate::proofs::PlaceLemmas::first_append, crate::proofs::PlaceLemmas::in_each_append))]
-fn first_in_clause(place: Place, clause: &Clause<Raw>) -> Option<Var>
+fn first_in_clause(place: NamePlace, clause: &Clause<Raw>) -> Option<Var>
     ensures { result ≡ first_of (in_each (variables_at place) (item_terms (clause_item (clause_over raw_of clause.now)))) }
 {
     match first_in_terms(place, clause.args.items()) {
@@ -97,18 +99,20 @@ pub fn clause_fault(
     ensures { IfOk result (IsVerdict (signature_of setting.now.sig.now).constructors (clause_item (clause_over raw_of clause.now))) }
 {
     let position = Position {
-        item: clause.item,
-        line: clause.line,
+        place: Place {
+            item: clause.item,
+            line: clause.line,
+        },
         locals: clause.locals.items(),
     };
-    if let Some(x) = first_in_clause(Place::Binder, clause) {
-        return Ok(Some(fault(alloc, &position, 1, x.num)?));
+    if let Some(x) = first_in_clause(NamePlace::Binder, clause) {
+        return Ok(Some(fault(alloc, &position, NameKind::VariableBinder, x.num)?));
     }
-    if let Some(y) = first_in_clause(Place::Swap, clause) {
-        return Ok(Some(fault(alloc, &position, 2, y.num)?));
+    if let Some(y) = first_in_clause(NamePlace::Swap, clause) {
+        return Ok(Some(fault(alloc, &position, NameKind::VariableSwap, y.num)?));
     }
     match head_name(alloc, setting, clause)? {
-        Some(a) => Ok(Some(fault(alloc, &position, 3, a.num)?)),
+        Some(a) => Ok(Some(fault(alloc, &position, NameKind::HeadName, a.num)?)),
         None => Ok(None),
     }
 }
@@ -122,15 +126,17 @@ pub fn query_fault(
     ensures { IfOk result (IsVerdict (signature_of sig.now).constructors (query_item (query_over raw_of query.now))) }
 {
     let position = Position {
-        item: query.item,
-        line: query.line,
+        place: Place {
+            item: query.item,
+            line: query.line,
+        },
         locals: query.locals.items(),
     };
-    if let Some(x) = first_in_goal(Place::Binder, &query.goal) {
-        return Ok(Some(fault(alloc, &position, 1, x.num)?));
+    if let Some(x) = first_in_goal(NamePlace::Binder, &query.goal) {
+        return Ok(Some(fault(alloc, &position, NameKind::VariableBinder, x.num)?));
     }
-    if let Some(y) = first_in_goal(Place::Swap, &query.goal) {
-        return Ok(Some(fault(alloc, &position, 2, y.num)?));
+    if let Some(y) = first_in_goal(NamePlace::Swap, &query.goal) {
+        return Ok(Some(fault(alloc, &position, NameKind::VariableSwap, y.num)?));
     }
     Ok(None)
 }

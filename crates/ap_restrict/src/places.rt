@@ -11,7 +11,7 @@ use ap_defs::terms::{Id, Raw, Var};
 
 /// A place where a name belongs: the binder of an abstraction, or one of the two of a swapping.
 #[derive(Clone, Copy, Debug)]
-pub enum Place {
+pub enum NamePlace {
     Binder,
     Swap,
 }
@@ -70,18 +70,18 @@ fn first_place(t: &Raw) -> Option<Var>
 }
 
 /// The first variable at such a place of a term, in the order of the text.
-fn first_in_term(place: Place, t: &Raw) -> Option<Var>
+fn first_in_term(place: NamePlace, t: &Raw) -> Option<Var>
     ensures { result ≡ first_of (variables_at place (raw_of t.now)) }
 {
     match place {
-        Place::Binder => first_binder(t),
-        Place::Swap => first_place(t),
+        NamePlace::Binder => first_binder(t),
+        NamePlace::Swap => first_place(t),
     }
 }
 
 /// The first variable at such a place of some terms.
 #[tactic(auto, using(crate::proofs::PlaceLemmas::first_append))]
-pub fn first_in_terms(place: Place, ts: &[Raw]) -> Option<Var>
+pub fn first_in_terms(place: NamePlace, ts: &[Raw]) -> Option<Var>
     ensures { result ≡ first_of (in_each (variables_at place) (map raw_of ts.now)) }
 {
     for t in ts {
@@ -94,7 +94,7 @@ pub fn first_in_terms(place: Place, ts: &[Raw]) -> Option<Var>
 
 /// The first variable at such a place of two terms.
 #[tactic(auto, using(crate::proofs::PlaceLemmas::first_append))]
-fn first_in_two(place: Place, t: &Raw, u: &Raw) -> Option<Var>
+fn first_in_two(place: NamePlace, t: &Raw, u: &Raw) -> Option<Var>
     ensures { result ≡ first_of (variables_at place (raw_of t.now) ++ variables_at place (raw_of u.now)) }
 {
     match first_in_term(place, t) {
@@ -105,7 +105,7 @@ fn first_in_two(place: Place, t: &Raw, u: &Raw) -> Option<Var>
 
 /// The first variable at such a place of a goal.
 #[tactic(auto, using(crate::proofs::PlaceLemmas::first_append, crate::proofs::PlaceLemmas::in_each_append, crate::proofs::PlaceLemmas::append_none))]
-pub fn first_in_goal(place: Place, g: &Goal<Raw>) -> Option<Var>
+pub fn first_in_goal(place: NamePlace, g: &Goal<Raw>) -> Option<Var>
     ensures { result ≡ first_of (in_each (variables_at place) (terms_of_goal (goal_over raw_of g.now))) }
 {
     match g {

@@ -13,11 +13,11 @@ use crate::carrying::{carry_goal, carry_terms};
 use crate::heads::Setting;
 use crate::items::{clause_fault, query_fault};
 use crate::tables::make_tables;
+use ap_defs::faults::NameFault;
 use ap_defs::goals::{Clause, Program, Query, Signature};
 use ap_defs::lists::List;
 use ap_defs::memory::Memory;
 use ap_defs::terms::{Raw, Term};
-use ap_program::faults::NameFault;
 use std::alloc::Global;
 
 /// The fault of the earlier item.
@@ -29,7 +29,7 @@ fn earlier(best: Option<NameFault>, new: Option<NameFault>) -> Option<NameFault>
         Some(old) => match new {
             None => Some(old),
             Some(other) => {
-                if other.item < old.item {
+                if other.place.item < old.place.item {
                     Some(other)
                 } else {
                     Some(old)

@@ -2,10 +2,11 @@
 
 ghost use Rattle.std.specs.Prelude.{◌≡◌, ◌≤◌, IfOk, IfErr};
 ghost use Rattle.ap_defs.specs.RawTerms.{raw_of};
+ghost use Rattle.ap_defs.specs.Limits.{size_limit};
 ghost use Rattle.ap_defs.specs.Goals.{program_of, program_over};
 ghost use Rattle.ap_program.specs.Typed.{IsTypedRawProgram};
 ghost use Rattle.ap_program.specs.CarryingOut.{carried_out_program};
-ghost use Rattle.ap_program.specs.NameRestriction.{item_count, most_items, items_of, AllPass};
+ghost use Rattle.ap_program.specs.NameRestriction.{item_count, items_of, AllPass};
 ghost use Rattle.ap_restrict.specs.Outcomes.{IsRefusal};
 
 use crate::errors::NameError;
@@ -22,7 +23,7 @@ use std::alloc::Global;
 /// case the program is consumed.
 pub fn restrict(alloc: Global, program: Program<Raw>) -> Result<Restricted, NameError>
     requires typed { IsTypedRawProgram (program_over raw_of program) }
-    requires bounded { item_count (program_over raw_of program) ≤ most_items }
+    requires bounded { item_count (program_over raw_of program) ≤ size_limit }
     ensures passes { IfOk result (λ r. AllPass (program_over raw_of program).signature.constructors (items_of (program_over raw_of program))) }
     ensures carried { IfOk result (λ r. program_of r ≡ carried_out_program (program_over raw_of program)) }
     ensures fault { IfErr result (IsRefusal (program_over raw_of program)) }

@@ -1,13 +1,27 @@
 -- The least of several kinds.
-use Rattle.std.proofs.Common.{◌≡◌, ℕ, Option, None, Some, refl, ap, min, arith}
-use Rattle.ap_scopes.specs.Flaws.{least}
+use Rattle.std.proofs.Common.{◌≡◌, Bool, true, false, Option, None, Some, refl, ap, arith}
+use Rattle.std.proofs.lemmas.Bool.Decides.{nat_tests}
+use Rattle.std.specs.Prelude.{nat_le, if◌then◌else◌}
+use Rattle.ap_defs.specs.declared.faults.TypeKind.{TypeKind}
+use Rattle.ap_defs.specs.FaultKinds.{type_number}
+use Rattle.ap_scopes.specs.Flaws.{lesser, least}
 
-pub least-assoc : (a b c : Option ℕ) → least (least a b) c ≡ least a (least b c)
+lesser-assoc : (a b c : TypeKind) → lesser (lesser a b) c ≡ lesser a (lesser b c)
+lesser-assoc a b c = by_first (nat_le (type_number a) (type_number b)) (nat_le (type_number b) (type_number c)) refl refl
+  where
+    by_first : (p q : Bool) → nat_le (type_number a) (type_number b) ≡ p → nat_le (type_number b) (type_number c) ≡ q
+        → lesser (if p then a else b) c ≡ lesser a (if q then b else c)
+    by_first true true e f = let g : nat_le (type_number a) (type_number c) ≡ true = grind (arith, nat_tests) in rw (e, g) refl
+    by_first true false e f = refl
+    by_first false true e f = rw (e, f) refl
+    by_first false false e f = let g : nat_le (type_number a) (type_number c) ≡ false = grind (arith, nat_tests) in rw (f, g) refl
+
+pub least-assoc : (a b c : Option TypeKind) → least (least a b) c ≡ least a (least b c)
 least-assoc None b c = refl
 least-assoc (Some k) None c = refl
 least-assoc (Some k) (Some m) None = refl
-least-assoc (Some k) (Some m) (Some n) = ap (λ x. Some x) (let e : min (min k m) n ≡ min k (min m n) = omega arith in e)
+least-assoc (Some k) (Some m) (Some n) = ap (λ x. Some x) (lesser-assoc k m n)
 
-pub least-none : (a : Option ℕ) → least a None ≡ a
+pub least-none : (a : Option TypeKind) → least a None ≡ a
 least-none None = refl
 least-none (Some k) = refl

@@ -3,6 +3,7 @@ use Rattle.std.specs.Prelude.{◌≡◌, ◌+◌, ◌≤◌, ℕ, false, List, [
 use Rattle.std.specs.Str.{bytes_eq}
 use Rattle.indexmap.specs.IndexMap.{get_by}
 use Rattle.ap_defs.specs.Types.{NominalSignature, signature_of}
+use Rattle.ap_defs.specs.Limits.{size_limit}
 use Rattle.ap_trees.specs.Trees.{name_of}
 use Rattle.ap_trees.specs.Terms.{OfWord, OfVar}
 use Rattle.ap_scopes.specs.declared.words.Words.{Words}
@@ -37,7 +38,7 @@ abbrev pub size_of : NominalSignature → ℕ
 size_of s = length s.name_types + length s.data_types + length s.constructors + length s.predicates
 
 abbrev pub IsSmall : Declarations → Type 0
-IsSmall d = size_of (signature_of d.signature) ≤ 16777216
+IsSmall d = size_of (signature_of d.signature) ≤ size_limit
 
 abbrev pub identifier_of : code.Identifier → Identifier
 identifier_of i = record { spelling = name_of i.spelling; bound = i.bound }

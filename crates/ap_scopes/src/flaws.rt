@@ -5,47 +5,50 @@ ghost use Rattle.ap_scopes.specs.Flaws as spec;
 ghost use Rattle.ap_scopes.specs.Views.{declared_of, IsIndexed};
 
 use crate::declarations::Declarations;
+use ap_defs::faults::TypeKind;
 use ap_trees::{Args, Binder, Tree};
 
-/// A type, an applied constructor or a predicate that no earlier item declares.
-pub const UNDECLARED: u32 = 1;
-/// An item declares what an earlier one of the same space declares.
-pub const REDECLARED: u32 = 2;
-/// A constructor or predicate stands with another number of arguments than declared.
-pub const ARITY: u32 = 3;
-/// No assignment of types fits.
-pub const CLASH: u32 = 4;
+/// The kind of the lesser number.
+fn lesser(first: TypeKind, second: TypeKind) -> TypeKind
+    ensures { result ≡ spec.lesser first second }
+{
+    if first.number() <= second.number() {
+        first
+    } else {
+        second
+    }
+}
 
 /// The least of two kinds.
-pub fn least(first: Option<u32>, second: Option<u32>) -> Option<u32>
+pub fn least(first: Option<TypeKind>, second: Option<TypeKind>) -> Option<TypeKind>
     ensures { result ≡ spec.least first second }
 {
     match (first, second) {
-        (Some(first), Some(second)) => Some(if first <= second { first } else { second }),
+        (Some(first), Some(second)) => Some(lesser(first, second)),
         (None, second) => second,
         (first, None) => first,
     }
 }
 
 /// The fault of a number of arguments.
-fn arity_flaw(declared: usize, given: usize) -> Option<u32>
+fn arity_flaw(declared: usize, given: usize) -> Option<TypeKind>
     ensures { result ≡ spec.arity_flaw declared given }
 {
-    if declared == given { None } else { Some(ARITY) }
+    if declared == given { None } else { Some(TypeKind::Arity) }
 }
 
 /// The fault of an applied constructor, or of a predicate, where it is given how many arguments it has.
-pub fn count_flaw(given: usize, declared: Option<usize>) -> Option<u32>
+pub fn count_flaw(given: usize, declared: Option<usize>) -> Option<TypeKind>
     ensures { result ≡ spec.count_flaw given declared }
 {
     match declared {
-        None => Some(UNDECLARED),
+        None => Some(TypeKind::Undeclared),
         Some(declared) => arity_flaw(declared, given),
     }
 }
 
 /// The fault of a word alone, where it is given how many arguments it has as a constructor.
-fn word_flaw(declared: Option<usize>) -> Option<u32>
+fn word_flaw(declared: Option<usize>) -> Option<TypeKind>
     ensures { result ≡ spec.word_flaw declared }
 {
     match declared {
@@ -55,14 +58,14 @@ fn word_flaw(declared: Option<usize>) -> Option<u32>
 }
 
 /// The fault of a binder, of one of the first two places of a swapping, or of the word after `new`.
-pub fn binder_flaw(declared: &Declarations<'_>, binder: Binder<'_>) -> Option<u32>
+pub fn binder_flaw(declared: &Declarations<'_>, binder: Binder<'_>) -> Option<TypeKind>
     requires { IsIndexed declared.now }
     ensures { result ≡ spec.binder_flaw (declared_of declared.now) (name_of binder.entry) }
 {
     match binder {
         Binder::Var(_) => None,
         Binder::Word(word) => match declared.constructor_place(word) {
-            Some(_) => Some(CLASH),
+            Some(_) => Some(TypeKind::Clash),
             None => None,
         },
     }
@@ -70,7 +73,7 @@ pub fn binder_flaw(declared: &Declarations<'_>, binder: Binder<'_>) -> Option<u3
 
 /// The least kind of a term's faults.
 #[cycle(term_flaws)]
-pub fn term_flaw(declared: &Declarations<'_>, tree: &Tree<'_>) -> Option<u32>
+pub fn term_flaw(declared: &Declarations<'_>, tree: &Tree<'_>) -> Option<TypeKind>
     requires { IsIndexed declared.now }
     ensures { result ≡ spec.term_flaw (declared_of declared.now) (term_of tree.now) }
 {
@@ -95,7 +98,7 @@ pub fn term_flaw(declared: &Declarations<'_>, tree: &Tree<'_>) -> Option<u32>
 
 /// The least kind of the faults of arguments.
 #[cycle(term_flaws)]
-fn arguments_flaw(declared: &Declarations<'_>, args: &Args<'_>) -> Option<u32>
+fn arguments_flaw(declared: &Declarations<'_>, args: &Args<'_>) -> Option<TypeKind>
     requires { IsIndexed declared.now }
     ensures { result ≡ spec.arguments_flaw (declared_of declared.now) (terms_of args.now) }
 {
@@ -118,23 +121,23 @@ fn are_as_many(declared: usize, args: &Args<'_>) -> bool
 }
 
 /// The fault of an applied constructor, where it is given how many arguments it has.
-fn application_flaw(declared: Option<usize>, args: &Args<'_>) -> Option<u32>
+fn application_flaw(declared: Option<usize>, args: &Args<'_>) -> Option<TypeKind>
     ensures { result ≡ spec.count_flaw (spec.count (terms_of args.now)) declared }
 {
     match declared {
-        None => Some(UNDECLARED),
+        None => Some(TypeKind::Undeclared),
         Some(declared) => {
             if are_as_many(declared, args) {
                 None
             } else {
-                Some(ARITY)
+                Some(TypeKind::Arity)
             }
         }
     }
 }
 
 /// The least kind of the faults of terms.
-pub fn terms_flaw(declared: &Declarations<'_>, trees: &[Tree<'_>]) -> Option<u32>
+pub fn terms_flaw(declared: &Declarations<'_>, trees: &[Tree<'_>]) -> Option<TypeKind>
     requires { IsIndexed declared.now }
     ensures { result ≡ spec.terms_flaw (declared_of declared.now) (trees_of trees.now) }
 {

@@ -7,10 +7,11 @@ ghost use Rattle.ap_scopes.specs.Views.{declared_of, IsIndexed};
 
 use crate::declarations::Declarations;
 use crate::flaws::{binder_flaw, count_flaw, least, term_flaw, terms_flaw};
+use ap_defs::faults::TypeKind;
 use ap_trees::{Binder, GoalTree, Tree};
 
 /// The least kind of an atom's faults.
-pub fn atom_flaw(declared: &Declarations<'_>, word: &str, args: &[Tree<'_>]) -> Option<u32>
+pub fn atom_flaw(declared: &Declarations<'_>, word: &str, args: &[Tree<'_>]) -> Option<TypeKind>
     requires { IsIndexed declared.now }
     ensures { result ≡ spec.atom_flaw (declared_of declared.now) word.now (trees_of args.now) }
 {
@@ -19,7 +20,7 @@ pub fn atom_flaw(declared: &Declarations<'_>, word: &str, args: &[Tree<'_>]) -> 
 }
 
 /// The least kind of a goal's faults.
-pub fn goal_flaw(declared: &Declarations<'_>, goal: &GoalTree<'_>) -> Option<u32>
+pub fn goal_flaw(declared: &Declarations<'_>, goal: &GoalTree<'_>) -> Option<TypeKind>
     requires { IsIndexed declared.now }
     ensures { result ≡ spec.goal_flaw (declared_of declared.now) (goal_of goal.now) }
 {
@@ -51,7 +52,7 @@ pub fn clause_flaw(
     word: &str,
     args: &[Tree<'_>],
     body: &Option<GoalTree<'_>>,
-) -> Option<u32>
+) -> Option<TypeKind>
     requires { IsIndexed declared.now }
     ensures { result ≡ spec.clause_flaw (declared_of declared.now) word.now (trees_of args.now) (option_map goal_of body.now) }
 {

@@ -3,6 +3,7 @@ ghost use Rattle.std.specs.Prelude.{◌≡◌, ◌<◌, ◌≤◌, ◌+◌, ◌^
 ghost use Rattle.std.specs.Option.{option_map};
 ghost use Rattle.ap_defs.specs.RawTerms.{raw_of};
 ghost use Rattle.ap_defs.specs.Goals.{goal_over};
+ghost use Rattle.ap_defs.specs.Limits.{size_limit};
 ghost use Rattle.ap_trees.specs.Trees.{goal_of, trees_of, name_of};
 ghost use Rattle.ap_scopes.specs.Resolution as spec;
 ghost use Rattle.ap_scopes.specs.Declarations.{predicate_place};
@@ -19,7 +20,7 @@ use std::alloc::Global;
 
 /// The number of the predicate at a place.
 pub fn predicate_number(place: Option<usize>) -> u32
-    requires { IfSome place (λ i. i < 16777216) }
+    requires { IfSome place (λ i. i < size_limit) }
     ensures { result ≡ spec.predicate_number place }
 {
     match place {

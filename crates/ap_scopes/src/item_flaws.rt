@@ -7,28 +7,29 @@ ghost use Rattle.ap_scopes.specs.Flaws as spec;
 ghost use Rattle.ap_scopes.specs.Views.{declared_of, IsIndexed, IsSmall};
 
 use crate::declarations::Declarations;
-use crate::flaws::{REDECLARED, least};
+use crate::flaws::least;
 use crate::goal_flaws::{clause_flaw, goal_flaw};
 use crate::types::{result_flaw, types_flaw};
+use ap_defs::faults::TypeKind;
 use ap_defs::terms::Ty;
 use ap_trees::{Form, TypeTree};
 
 /// The fault of declaring a word that stands for a type.
-fn redeclared_type(found: Option<Ty>) -> Option<u32>
+fn redeclared_type(found: Option<Ty>) -> Option<TypeKind>
     ensures { result ≡ spec.redeclared_if (option_map type_of found) }
 {
     match found {
-        Some(_) => Some(REDECLARED),
+        Some(_) => Some(TypeKind::Redeclared),
         None => None,
     }
 }
 
 /// The fault of declaring a word that has a place.
-fn redeclared_place(found: Option<usize>) -> Option<u32>
+fn redeclared_place(found: Option<usize>) -> Option<TypeKind>
     ensures { result ≡ spec.redeclared_if found }
 {
     match found {
-        Some(_) => Some(REDECLARED),
+        Some(_) => Some(TypeKind::Redeclared),
         None => None,
     }
 }
@@ -39,7 +40,7 @@ fn constructor_flaw(
     word: &str,
     args: &[TypeTree<'_>],
     data_type: &str,
-) -> Option<u32>
+) -> Option<TypeKind>
     requires indexed { IsIndexed declared.now }
     requires small { IsSmall declared.now }
     ensures { result ≡ spec.constructor_flaw (declared_of declared.now) word.now (types_of args.now) data_type.now }
@@ -52,7 +53,7 @@ fn constructor_flaw(
 }
 
 /// The least kind of a predicate's faults.
-fn predicate_flaw(declared: &Declarations<'_>, word: &str, args: &[TypeTree<'_>]) -> Option<u32>
+fn predicate_flaw(declared: &Declarations<'_>, word: &str, args: &[TypeTree<'_>]) -> Option<TypeKind>
     requires indexed { IsIndexed declared.now }
     requires small { IsSmall declared.now }
     ensures { result ≡ spec.predicate_flaw (declared_of declared.now) word.now (types_of args.now) }
@@ -64,7 +65,7 @@ fn predicate_flaw(declared: &Declarations<'_>, word: &str, args: &[TypeTree<'_>]
 }
 
 /// The least kind of the faults that an item's words show before it is typed.
-pub fn item_flaw(declared: &Declarations<'_>, form: &Form<'_>) -> Option<u32>
+pub fn item_flaw(declared: &Declarations<'_>, form: &Form<'_>) -> Option<TypeKind>
     requires indexed { IsIndexed declared.now }
     requires small { IsSmall declared.now }
     ensures { result ≡ spec.item_flaw (declared_of declared.now) (form_of form.now) }

@@ -1,6 +1,7 @@
 //! Terms with numbers for their words.
 ghost use Rattle.std.specs.Prelude.{◌≡◌, ◌<◌, ◌≤◌, ◌+◌, ◌^◌, IfOk, OnOk, IfSome, map};
 ghost use Rattle.ap_defs.specs.RawTerms.{raw_of};
+ghost use Rattle.ap_defs.specs.Limits.{size_limit};
 ghost use Rattle.ap_trees.specs.Trees.{term_of, terms_of, trees_of, name_of};
 ghost use Rattle.ap_trees.specs.Terms.{OfWord, OfVar};
 ghost use Rattle.ap_scopes.specs.Resolution as spec;
@@ -51,7 +52,7 @@ fn identifier<'a>(
 
 /// The number of the constructor at a place.
 fn constructor_number(place: Option<usize>) -> u32
-    requires { IfSome place (λ i. i < 16777216) }
+    requires { IfSome place (λ i. i < size_limit) }
     ensures { result ≡ spec.constructor_number place }
 {
     match place {

@@ -9,7 +9,8 @@ ghost use Rattle.ap_scopes.specs.Flaws as flaws;
 ghost use Rattle.ap_scopes.specs.Views.{declared_of, IsIndexed, IsSmall};
 
 use crate::declarations::Declarations;
-use crate::flaws::{CLASH, UNDECLARED, least};
+use crate::flaws::least;
+use ap_defs::faults::TypeKind;
 use ap_defs::lists::List;
 use ap_defs::memory::Memory;
 use ap_defs::terms::Ty;
@@ -73,39 +74,39 @@ pub fn resolved_types(
 }
 
 /// The fault of a word that stands for a type.
-fn type_word_flaw(found: Option<Ty>) -> Option<u32>
+fn type_word_flaw(found: Option<Ty>) -> Option<TypeKind>
     ensures { result ≡ flaws.type_word_flaw (option_map type_of found) }
 {
     match found {
         Some(_) => None,
-        None => Some(UNDECLARED),
+        None => Some(TypeKind::Undeclared),
     }
 }
 
 /// The fault of a word that stands left of `\`.
-fn name_type_flaw(found: Option<Ty>) -> Option<u32>
+fn name_type_flaw(found: Option<Ty>) -> Option<TypeKind>
     ensures { result ≡ flaws.name_type_flaw (option_map type_of found) }
 {
     match found {
         Some(Ty::Names(_)) => None,
-        Some(_) => Some(CLASH),
-        None => Some(UNDECLARED),
+        Some(_) => Some(TypeKind::Clash),
+        None => Some(TypeKind::Undeclared),
     }
 }
 
 /// The fault of a word that is a constructor's result.
-pub fn result_flaw(found: Option<Ty>) -> Option<u32>
+pub fn result_flaw(found: Option<Ty>) -> Option<TypeKind>
     ensures { result ≡ flaws.result_flaw (option_map type_of found) }
 {
     match found {
         Some(Ty::Base(_)) => None,
-        Some(_) => Some(CLASH),
-        None => Some(UNDECLARED),
+        Some(_) => Some(TypeKind::Clash),
+        None => Some(TypeKind::Undeclared),
     }
 }
 
 /// The least kind of a type's faults.
-pub fn type_flaw(declared: &Declarations<'_>, tree: &TypeTree<'_>) -> Option<u32>
+pub fn type_flaw(declared: &Declarations<'_>, tree: &TypeTree<'_>) -> Option<TypeKind>
     requires indexed { IsIndexed declared.now }
     requires small { IsSmall declared.now }
     ensures { result ≡ flaws.type_flaw (declared_of declared.now).signature (trees.type_of tree.now) }
@@ -123,7 +124,7 @@ pub fn type_flaw(declared: &Declarations<'_>, tree: &TypeTree<'_>) -> Option<u32
 }
 
 /// The least kind of the faults of types.
-pub fn types_flaw(declared: &Declarations<'_>, trees: &[TypeTree<'_>]) -> Option<u32>
+pub fn types_flaw(declared: &Declarations<'_>, trees: &[TypeTree<'_>]) -> Option<TypeKind>
     requires indexed { IsIndexed declared.now }
     requires small { IsSmall declared.now }
     ensures { result ≡ flaws.types_flaw (declared_of declared.now).signature (types_of trees.now) }

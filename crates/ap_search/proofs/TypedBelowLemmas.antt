@@ -12,7 +12,8 @@ use Rattle.ap_defs.specs.Types as types
 use Rattle.ap_defs.specs.Types.{NominalConstructor, NominalKind, NominalLocal, NominalSignature, NominalType}
 use Rattle.ap_defs.specs.Typing.{Want, one}
 use Rattle.ap_defs.specs.declared.terms.Swap.{Swap}
-use Rattle.ap_program.specs.NameRestriction.{item_count, most_items, sum_of_lengths}
+use Rattle.ap_defs.specs.Limits.{size_limit}
+use Rattle.ap_program.specs.NameRestriction.{item_count, sum_of_lengths}
 use Rattle.ap_program.specs.RawTyping.{AreSwapsOf, HasTermType, IsTypedTerm}
 use Rattle.ap_program.specs.Typed.{AreArguments, AreTypedClauses, AreTypedFrom, HaveTypes, IsTypedGoal, IsTypedProgram, IsTypedQuery, predicate_at, term_form}
 use Rattle.ap_search.specs.FitStates.{AreFitClauses, AreShort, IsFitProgram}
@@ -80,11 +81,11 @@ pub typed_query_below : (p : NominalProgram) (q : NominalQuery) → IsTypedQuery
 typed_query_below p q h =
     subst (λ (n : ℕ). IsGoalBelow n q.goal) (kinds_count q.locals) (typed_goal_below p.signature.constructors p.signature.predicates (kinds_of q.locals) q.goal h.0)
 
-short_lists : (css : Clauses) → sum_of_lengths css ≤ most_items → AreShort css
+short_lists : (css : Clauses) → sum_of_lengths css ≤ size_limit → AreShort css
 short_lists [] h = tt
 short_lists (cs ∷ css) h = let k : length cs < 2 ^ 32 = omega arith in (k, short_lists css (omega arith))
 
-pub bounded_short : (p : NominalProgram) → item_count p ≤ most_items → AreShort p.clauses
+pub bounded_short : (p : NominalProgram) → item_count p ≤ size_limit → AreShort p.clauses
 bounded_short p h = short_lists p.clauses (omega arith)
 
 -- Each answer has one binding for each free variable of the query.

@@ -4,24 +4,25 @@ ghost use Rattle.std.specs.Prelude.{IfSome};
 ghost use Rattle.ap_backchain.specs.Problems.{HasQuery};
 
 use ap_backchain::problem::Problem;
+use ap_defs::limits::SIZE_LIMIT;
 use ap_defs::memory::Memory;
-use ap_lexer::{TEXT_LIMIT, Token, lex};
+use ap_lexer::{Token, lex};
 use ap_program::restricted::Restricted;
 use ap_restrict::restrict::restrict;
-use ap_syntax::{TOKEN_LIMIT, parse};
+use ap_syntax::parse;
 use ap_trees::Item;
 use ap_typecheck::check;
 use std::alloc::Global;
 
 fn tokens_of(alloc: Global, text: &[u8]) -> Result<Vec<Token<'_>>, Memory> {
-    if text.len() > TEXT_LIMIT {
+    if text.len() > SIZE_LIMIT {
         return Err(Memory);
     }
     lex(alloc, text).or(Err(Memory))
 }
 
 fn items_of<'a>(alloc: Global, tokens: &[Token<'a>]) -> Result<Vec<Item<'a>>, Memory> {
-    if tokens.len() > TOKEN_LIMIT {
+    if tokens.len() > SIZE_LIMIT {
         return Err(Memory);
     }
     parse(alloc, tokens).or(Err(Memory))

@@ -6,10 +6,10 @@ use Rattle.ap_lexer.specs.declared.token.Token.{Token}
 use Rattle.ap_lexer.specs.Tokens.{Lexeme, lexeme, lexemes}
 use Rattle.ap_trees.specs.Symbols.{Sym, syms_of}
 use Rattle.ap_trees.specs.Items.{Saying, ItemOf}
-use Rattle.ap_syntax.specs.declared.faults.SynFault.{SynFault}
+use Rattle.ap_defs.specs.declared.faults.SyntaxFault.{SyntaxFault}
 use Rattle.ap_syntax.specs.declared.faults.SynError.{SynError}
 use Rattle.ap_syntax.specs.declared.faults.SynError.TheVariants as errors
-use Rattle.ap_syntax.specs.declared.faults.TheConstants.{GRAMMAR, TOO_DEEP, UNENDED}
+use Rattle.ap_defs.specs.declared.faults.SyntaxKind.TheVariants as kinds
 use Rattle.ap_syntax.specs.ItemGrammar.{IsItem}
 use Rattle.ap_syntax.specs.ItemReader.{read_item}
 use Rattle.ap_syntax.specs.Nesting.{is_too_deep}
@@ -17,23 +17,23 @@ use Rattle.ap_syntax.specs.Reading.{first_dot, before, fault, First, unended, to
 use Rattle.ap_syntax.proofs.ItemLaws.{item_sound, item_only}
 
 -- what the first of some tokens reads as, by the reader
-abbrev item_or_fault : ℕ → Lexeme → List Lexeme → ℕ → Option Saying → Result (ItemOf × List Lexeme) SynFault
-item_or_fault i t ts place None = Err (fault i t GRAMMAR)
+abbrev item_or_fault : ℕ → Lexeme → List Lexeme → ℕ → Option Saying → Result (ItemOf × List Lexeme) SyntaxFault
+item_or_fault i t ts place None = Err (fault i t kinds.Grammar)
 item_or_fault i t ts place (Some form) = Ok (record { line = t.line; form = form }, drop (place + 1) ts)
 
-abbrev deep_or_item : ℕ → Lexeme → List Lexeme → ℕ → Bool → Result (ItemOf × List Lexeme) SynFault
-deep_or_item i t ts place true = Err (fault i t TOO_DEEP)
+abbrev deep_or_item : ℕ → Lexeme → List Lexeme → ℕ → Bool → Result (ItemOf × List Lexeme) SyntaxFault
+deep_or_item i t ts place true = Err (fault i t kinds.TooDeep)
 deep_or_item i t ts place false = item_or_fault i t ts place (read_item (before place ts))
 
-abbrev outcome_by : ℕ → Lexeme → List Lexeme → Option ℕ → Result (ItemOf × List Lexeme) SynFault
-outcome_by i t ts None = Err (fault i t UNENDED)
+abbrev outcome_by : ℕ → Lexeme → List Lexeme → Option ℕ → Result (ItemOf × List Lexeme) SyntaxFault
+outcome_by i t ts None = Err (fault i t kinds.Unended)
 outcome_by i t ts (Some place) = deep_or_item i t ts place (is_too_deep (before place ts))
 
 none_by : (ts : List Sym) (r : Option Saying) → IfSome r (λ f. IsItem ts f) → ((form : Saying) → ¬ IsItem ts form) → r ≡ None
 none_by ts None h never = refl
 none_by ts (Some f) h never = absurd (never f h)
 
-first_is : {i : ℕ} {t : Lexeme} {ts : List Lexeme} {o : Result (ItemOf × List Lexeme) SynFault} → First i t ts o → outcome_by i t (t ∷ ts) (first_dot (t ∷ ts)) ≡ o
+first_is : {i : ℕ} {t : Lexeme} {ts : List Lexeme} {o : Result (ItemOf × List Lexeme) SyntaxFault} → First i t ts o → outcome_by i t (t ∷ ts) (first_dot (t ∷ ts)) ≡ o
 first_is {i} {t} {ts} (unended none) = ap (outcome_by i t (t ∷ ts)) none
 first_is {i} {t} {ts} (too_deep place dot deep) = ap (outcome_by i t (t ∷ ts)) dot ∙ ap (deep_or_item i t (t ∷ ts) place) deep
 first_is {i} {t} {ts} (no_item place dot deep never) =
@@ -42,11 +42,11 @@ first_is {i} {t} {ts} (no_item place dot deep never) =
 first_is {i} {t} {ts} (an_item place form dot deep h) =
     ap (outcome_by i t (t ∷ ts)) dot ∙ ap (deep_or_item i t (t ∷ ts) place) deep ∙ ap (item_or_fault i t (t ∷ ts) place) (item_only h)
 
-one_first : {i : ℕ} {t : Lexeme} {ts : List Lexeme} {a b : Result (ItemOf × List Lexeme) SynFault} → First i t ts a → First i t ts b → a ≡ b
+one_first : {i : ℕ} {t : Lexeme} {ts : List Lexeme} {a b : Result (ItemOf × List Lexeme) SyntaxFault} → First i t ts a → First i t ts b → a ≡ b
 one_first h g = sym (first_is h) ∙ first_is g
 
 -- There is one reading.
-pub one_reading : {i : ℕ} {ts : List Lexeme} {r s : Result (List ItemOf) SynFault} → Reads i ts r → Reads i ts s → r ≡ s
+pub one_reading : {i : ℕ} {ts : List Lexeme} {r s : Result (List ItemOf) SyntaxFault} → Reads i ts r → Reads i ts s → r ≡ s
 one_reading all_read all_read = refl
 one_reading (faulty f h) (faulty g k) = let same = one_first h k in let e : f ≡ g = cc same in ap (λ v. Err v) e
 one_reading (faulty f h) (goes_on y rest s k l) = let same = one_first h k in absurd (cc same)
@@ -59,26 +59,26 @@ one_reading (goes_on {item = i} x rest r h g) (goes_on y others s k l) =
     let more : r ≡ s = one_reading g (subst (λ us. Reads (i + 1) us s) (sym tokens) l) in
     ap (λ v. after_items (v ∷ []) r) item ∙ ap (after_items (y ∷ [])) more
 
-pub next_of : (i : ℕ) (ts : List Lexeme) (x : ItemOf) (rest : List Lexeme) (r : Result (List ItemOf) SynFault) → FirstOf i ts (Ok (x, rest)) → Reads (i + 1) rest r → Reads i ts (after_items (x ∷ []) r)
+pub next_of : (i : ℕ) (ts : List Lexeme) (x : ItemOf) (rest : List Lexeme) (r : Result (List ItemOf) SyntaxFault) → FirstOf i ts (Ok (x, rest)) → Reads (i + 1) rest r → Reads i ts (after_items (x ∷ []) r)
 next_of i [] x rest r h g = absurd h
 next_of i (t ∷ ts) x rest r h g = goes_on x rest r h g
 
-pub fault_of : (i : ℕ) (ts : List Lexeme) (f : SynFault) → FirstOf i ts (Err f) → Reads i ts (Err f)
+pub fault_of : (i : ℕ) (ts : List Lexeme) (f : SyntaxFault) → FirstOf i ts (Err f) → Reads i ts (Err f)
 fault_of i [] f h = absurd h
 fault_of i (t ∷ ts) f h = faulty f h
 
 -- the outcomes of the code
-pub unended_of : (i : ℕ) (tokens : List Token) (d : Token) → 0 < length tokens → first_dot (lexemes tokens) ≡ None → FirstOf i (lexemes tokens) (Err (fault i (lexeme (get_or tokens 0 d)) UNENDED))
+pub unended_of : (i : ℕ) (tokens : List Token) (d : Token) → 0 < length tokens → first_dot (lexemes tokens) ≡ None → FirstOf i (lexemes tokens) (Err (fault i (lexeme (get_or tokens 0 d)) kinds.Unended))
 unended_of i [] d some none = absurd (omega (arith, some))
 unended_of i (t ∷ ts) d some none = unended none
 
 pub too_deep_of : (i : ℕ) (tokens : List Token) (d : Token) (place : ℕ) → 0 < length tokens → first_dot (lexemes tokens) ≡ Some place → is_too_deep (before place (lexemes tokens)) ≡ true
-    → FirstOf i (lexemes tokens) (Err (fault i (lexeme (get_or tokens 0 d)) TOO_DEEP))
+    → FirstOf i (lexemes tokens) (Err (fault i (lexeme (get_or tokens 0 d)) kinds.TooDeep))
 too_deep_of i [] d place some dot deep = absurd (omega (arith, some))
 too_deep_of i (t ∷ ts) d place some dot deep = too_deep place dot deep
 
 pub no_item_of : (i : ℕ) (tokens : List Token) (d : Token) (place : ℕ) → 0 < length tokens → first_dot (lexemes tokens) ≡ Some place → is_too_deep (before place (lexemes tokens)) ≡ false
-    → read_item (before place (lexemes tokens)) ≡ None → FirstOf i (lexemes tokens) (Err (fault i (lexeme (get_or tokens 0 d)) GRAMMAR))
+    → read_item (before place (lexemes tokens)) ≡ None → FirstOf i (lexemes tokens) (Err (fault i (lexeme (get_or tokens 0 d)) kinds.Grammar))
 no_item_of i [] d place some dot deep none = absurd (omega (arith, some))
 no_item_of i (t ∷ ts) d place some dot deep none =
     no_item place dot deep (λ form h. let both : Some form ≡ None = sym (item_only h) ∙ none in absurd (cc both))
@@ -90,12 +90,12 @@ an_item_of i [] d place form some dot deep got = absurd (omega (arith, some))
 an_item_of i (t ∷ ts) d place form some dot deep got =
     an_item place form dot deep (subst (λ o. IfSome o (λ f. IsItem (before place (lexemes (t ∷ ts))) f)) got (item_sound (before place (lexemes (t ∷ ts)))))
 
-pub after_items-append : (front more : List ItemOf) (r : Result (List ItemOf) SynFault) → after_items front (after_items more r) ≡ after_items (front ++ more) r
+pub after_items-append : (front more : List ItemOf) (r : Result (List ItemOf) SyntaxFault) → after_items front (after_items more r) ≡ after_items (front ++ more) r
 after_items-append front more (Ok xs) = ap (λ v. Ok v) (sym (append_assoc front more xs))
 after_items-append front more (Err f) = refl
 
 -- from one reading to every reading
-pub gives_every : {X : Type 0} (view : X → List ItemOf) (given : Result X SynError) (i : ℕ) (ts : List Lexeme) → Gives view given (Reads i ts) → (r : Result (List ItemOf) SynFault) → Reads i ts r → Gives view given (λ s. s ≡ r)
+pub gives_every : {X : Type 0} (view : X → List ItemOf) (given : Result X SynError) (i : ℕ) (ts : List Lexeme) → Gives view given (Reads i ts) → (r : Result (List ItemOf) SyntaxFault) → Reads i ts r → Gives view given (λ s. s ≡ r)
 gives_every view (Ok x) i ts h r g = one_reading h g
 gives_every view (Err errors.Memory) i ts h r g = tt
 gives_every view (Err (errors.Fault f)) i ts h r g = one_reading h g

@@ -3,10 +3,11 @@ use Rattle.std.specs.Prelude.{ℕ, ◌+◌, true, false, List, [], ◌∷◌, �
 use Rattle.ap_lexer.specs.Tokens.{Lexeme, is_dot}
 use Rattle.ap_trees.specs.Symbols.{Sym, syms_of}
 use Rattle.ap_trees.specs.Items.{Saying, ItemOf}
-use Rattle.ap_syntax.specs.declared.faults.SynFault.{SynFault}
+use Rattle.ap_defs.specs.declared.faults.SyntaxFault.{SyntaxFault}
 use Rattle.ap_syntax.specs.declared.faults.SynError.{SynError}
 use Rattle.ap_syntax.specs.declared.faults.SynError.TheVariants as errors
-use Rattle.ap_syntax.specs.declared.faults.TheConstants.{GRAMMAR, TOO_DEEP, UNENDED}
+use Rattle.ap_defs.specs.declared.faults.SyntaxKind.{SyntaxKind}
+use Rattle.ap_defs.specs.declared.faults.SyntaxKind.TheVariants as kinds
 use Rattle.ap_syntax.specs.ItemGrammar.{IsItem}
 use Rattle.ap_syntax.specs.Nesting.{is_too_deep}
 
@@ -18,31 +19,31 @@ first_dot ts = position is_dot ts
 abbrev pub before : ℕ → List Lexeme → List Sym
 before place ts = syms_of (take place ts)
 
-abbrev pub fault : ℕ → Lexeme → ℕ → SynFault
-fault item first kind = record { item = item; line = first.line; kind = kind }
+abbrev pub fault : ℕ → Lexeme → SyntaxKind → SyntaxFault
+fault item first kind = record { place = record { item = item; line = first.line }; kind = kind }
 
 -- What the first of some tokens reads as, where it begins the item of a number: the item with the
 -- tokens after its `.`, or its fault. Its line is that of its first token.
-pub data First (item : ℕ) (t : Lexeme) (ts : List Lexeme) : Result (ItemOf × List Lexeme) SynFault → Type 0 where
+pub data First (item : ℕ) (t : Lexeme) (ts : List Lexeme) : Result (ItemOf × List Lexeme) SyntaxFault → Type 0 where
   -- no `.` ends it
-  unended : first_dot (t ∷ ts) ≡ None → First item t ts (Err (fault item t UNENDED))
+  unended : first_dot (t ∷ ts) ≡ None → First item t ts (Err (fault item t kinds.Unended))
   -- it has more than 256 levels
-  too_deep : (place : ℕ) → first_dot (t ∷ ts) ≡ Some place → is_too_deep (before place (t ∷ ts)) ≡ true → First item t ts (Err (fault item t TOO_DEEP))
+  too_deep : (place : ℕ) → first_dot (t ∷ ts) ≡ Some place → is_too_deep (before place (t ∷ ts)) ≡ true → First item t ts (Err (fault item t kinds.TooDeep))
   -- it isn't in the grammar
   no_item : (place : ℕ) → first_dot (t ∷ ts) ≡ Some place → is_too_deep (before place (t ∷ ts)) ≡ false
-      → ((form : Saying) → ¬ IsItem (before place (t ∷ ts)) form) → First item t ts (Err (fault item t GRAMMAR))
+      → ((form : Saying) → ¬ IsItem (before place (t ∷ ts)) form) → First item t ts (Err (fault item t kinds.Grammar))
   -- it is in the grammar
   an_item : (place : ℕ) (form : Saying) → first_dot (t ∷ ts) ≡ Some place → is_too_deep (before place (t ∷ ts)) ≡ false
       → IsItem (before place (t ∷ ts)) form → First item t ts (Ok (record { line = t.line; form = form }, drop (place + 1) (t ∷ ts)))
 
 -- the first of some tokens, of which there is one at least
-abbrev pub FirstOf : ℕ → List Lexeme → Result (ItemOf × List Lexeme) SynFault → Type 0
+abbrev pub FirstOf : ℕ → List Lexeme → Result (ItemOf × List Lexeme) SyntaxFault → Type 0
 FirstOf item [] o = ⊥
 FirstOf item (t ∷ ts) o = First item t ts o
 
 -- all items, or the first fault
 abbrev pub Outcome : Type 0
-Outcome = Result (List ItemOf) SynFault
+Outcome = Result (List ItemOf) SyntaxFault
 
 -- these items before those that were read, unless there is a fault
 abbrev pub after_items : List ItemOf → Outcome → Outcome
@@ -52,15 +53,15 @@ after_items front (Err f) = Err f
 -- What tokens read as, of which the first begins the item of a number: all items, or the first fault.
 pub data Reads : ℕ → List Lexeme → Outcome → Type 0 where
   all_read : {item : ℕ} → Reads item [] (Ok [])
-  faulty : {item : ℕ} {t : Lexeme} {ts : List Lexeme} (f : SynFault) → First item t ts (Err f) → Reads item (t ∷ ts) (Err f)
+  faulty : {item : ℕ} {t : Lexeme} {ts : List Lexeme} (f : SyntaxFault) → First item t ts (Err f) → Reads item (t ∷ ts) (Err f)
   goes_on : {item : ℕ} {t : Lexeme} {ts : List Lexeme} (x : ItemOf) (rest : List Lexeme) (r : Outcome) → First item t ts (Ok (x, rest)) → Reads (item + 1) rest r
       → Reads item (t ∷ ts) (after_items (x ∷ []) r)
 
-abbrev pub Fails : {Y : Type 0} → SynError → (Result Y SynFault → Type 0) → Type 0
+abbrev pub Fails : {Y : Type 0} → SynError → (Result Y SyntaxFault → Type 0) → Type 0
 Fails errors.Memory P = ⊤
 Fails (errors.Fault f) P = P (Err f)
 
 -- what was returned is among these readings, unless memory ran out
-abbrev pub Gives : {X Y : Type 0} → (X → Y) → Result X SynError → (Result Y SynFault → Type 0) → Type 0
+abbrev pub Gives : {X Y : Type 0} → (X → Y) → Result X SynError → (Result Y SyntaxFault → Type 0) → Type 0
 Gives view (Ok x) P = P (Ok (view x))
 Gives view (Err e) P = Fails e P

@@ -12,5 +12,5 @@ mod matching;
 mod nesting;
 mod reading;
 
-pub use faults::{GRAMMAR, SynError, SynFault, TOO_DEEP, UNENDED};
-pub use reading::{TOKEN_LIMIT, parse};
+pub use faults::SynError;
+pub use reading::parse;

@@ -1,20 +1,19 @@
 // The items of tokens, one after another.
 ghost use Rattle.std.specs.Prelude.{◌≡◌, ◌<◌, ◌≤◌, ◌+◌, IfOk, IfSome, length, drop};
+ghost use Rattle.ap_defs.specs.Limits.{size_limit};
 ghost use Rattle.ap_lexer.specs.Tokens.{lexeme, lexemes, is_dot};
 ghost use Rattle.ap_trees.specs.Symbols.{syms};
 ghost use Rattle.ap_trees.specs.Trees.{item_of, items_of};
 ghost use Rattle.ap_syntax.specs.Reading.{Gives, Reads, FirstOf, first_dot};
 ghost use Rattle.ap_syntax.specs.Reading as spec;
 
-use crate::faults::{GRAMMAR, SynError, SynFault, TOO_DEEP, UNENDED};
+use crate::faults::SynError;
 use crate::items::form;
 use crate::nesting::is_too_deep;
+use ap_defs::faults::{Place, SyntaxFault, SyntaxKind};
 use ap_lexer::Token;
 use ap_trees::{Item, ReadError, Symbol, symbols_of};
 use std::alloc::{AllocError, Global};
-
-/// The most tokens that may be parsed.
-pub const TOKEN_LIMIT: usize = 16_777_216;
 
 /// The place of the first `.`.
 fn dot_place(tokens: &[Token<'_>]) -> Option<usize>
@@ -50,10 +49,11 @@ fn symbols_before<'a>(
 }
 
 /// The fault of an item.
-fn fault(item: u32, line: u64, kind: u32) -> SynError
-    ensures { result ≡ SynError.Fault (record { item = item; line = line; kind = kind }) }
+fn fault(item: u32, line: u64, kind: SyntaxKind) -> SynError
+    ensures { result ≡ SynError.Fault (record { place = record { item = item; line = line }; kind = kind }) }
 {
-    SynError::Fault(SynFault { item, line, kind })
+    let place = Place { item, line };
+    SynError::Fault(SyntaxFault { place, kind })
 }
 
 /// The first item of tokens, and how many tokens it takes with its `.`.
@@ -68,22 +68,22 @@ fn first_item<'a>(
 {
     let line = tokens[0].line;
     let Some(place) = dot_place(tokens) else {
-        return Err(fault(item, line, UNENDED));
+        return Err(fault(item, line, SyntaxKind::Unended));
     };
     let symbols = symbols_before(alloc, tokens, place)?;
     if is_too_deep(alloc, &symbols)? {
-        return Err(fault(item, line, TOO_DEEP));
+        return Err(fault(item, line, SyntaxKind::TooDeep));
     }
     match form(alloc, &symbols) {
         Ok(form) => Ok((Item { line, form }, place + 1)),
-        Err(ReadError::Grammar) => Err(fault(item, line, GRAMMAR)),
+        Err(ReadError::Grammar) => Err(fault(item, line, SyntaxKind::Grammar)),
         Err(ReadError::Memory) => Err(SynError::Memory),
     }
 }
 
 /// The items of tokens, or the first fault.
 fn read_items<'a>(alloc: Global, tokens: &[Token<'a>]) -> Result<Vec<Item<'a>>, SynError>
-    requires { length tokens.now ≤ TOKEN_LIMIT }
+    requires { length tokens.now ≤ size_limit }
     ensures { Gives (λ v. items_of v.items) result (Reads 1 (lexemes tokens.now)) }
 {
     let mut items = Vec::new(alloc);
@@ -100,10 +100,10 @@ fn read_items<'a>(alloc: Global, tokens: &[Token<'a>]) -> Result<Vec<Item<'a>>, 
 
 /// The items of tokens, each with its end `.` and the line of its first token.
 ///
-/// The first faulty item is told: one that no `.` ends (`UNENDED`), that has more than 256 levels
-/// (`TOO_DEEP`), or that is not in the grammar (`GRAMMAR`), tested in this order.
+/// The first faulty item is told: one that no `.` ends (`Unended`), that has more than 256 levels
+/// (`TooDeep`), or that is not in the grammar (`Grammar`), tested in this order.
 pub fn parse<'a>(alloc: Global, tokens: &[Token<'a>]) -> Result<Vec<Item<'a>>, SynError>
-    requires { length tokens.now ≤ TOKEN_LIMIT }
+    requires { length tokens.now ≤ size_limit }
     // What is returned is a reading of the tokens.
     ensures read { Gives (λ v. items_of v.items) result (Reads 1 (lexemes tokens.now)) }
     // Each reading of the tokens is what is returned.

@@ -1,5 +1,7 @@
 use crate::reading::{items_of, tokens_of};
-use ap_syntax::{SynError, SynFault, TOKEN_LIMIT, parse};
+use ap_defs::faults::SyntaxFault;
+use ap_defs::limits::SIZE_LIMIT;
+use ap_syntax::{SynError, parse};
 use ap_trees::Item;
 use std::alloc::{AllocError, Global};
 
@@ -12,15 +14,15 @@ fn items_shown(alloc: Global, items: &[Item<'_>]) -> Result<String, AllocError> 
     Ok(out)
 }
 
-fn fault_shown(alloc: Global, fault: SynFault) -> Result<String, AllocError> {
-    let (item, line, kind) = (fault.item, fault.line, fault.kind);
+fn fault_shown(alloc: Global, fault: SyntaxFault) -> Result<String, AllocError> {
+    let (item, line, kind) = (fault.place.item, fault.place.line, fault.kind.number());
     format!(in alloc; "fault {item} {line} {kind}")
 }
 
 /// What a text reads as: its items, or the fault's item, line and kind.
 fn shown(alloc: Global, text: &str) -> Result<String, AllocError> {
     let tokens = tokens_of(alloc, text.as_bytes())?;
-    if tokens.len() > TOKEN_LIMIT {
+    if tokens.len() > SIZE_LIMIT {
         return Err(AllocError);
     }
     match parse(alloc, &tokens) {

@@ -1,4 +1,5 @@
-use ap_lexer::{LexError, TEXT_LIMIT, Token, TokenKind, lex};
+use ap_defs::limits::SIZE_LIMIT;
+use ap_lexer::{LexError, Token, TokenKind, lex};
 use std::alloc::{AllocError, Global};
 
 /// Each token as its kind, its line, its span and its text.
@@ -19,13 +20,13 @@ fn listed(alloc: Global, tokens: &[Token<'_>]) -> Result<String, AllocError> {
 
 /// The tokens as `listed` shows them, or the fault's item, line and kind.
 fn shown(alloc: Global, text: &[u8]) -> Result<String, AllocError> {
-    if text.len() > TEXT_LIMIT {
+    if text.len() > SIZE_LIMIT {
         return Err(AllocError);
     }
     match lex(alloc, text) {
         Ok(tokens) => listed(alloc, &tokens),
         Err(LexError::Fault(fault)) => {
-            let (item, line, kind) = (fault.item, fault.line, fault.kind);
+            let (item, line, kind) = (fault.place.item, fault.place.line, fault.kind.number());
             format!(in alloc; "fault {item} {line} {kind}")
         }
         Err(LexError::Memory) => Err(AllocError),

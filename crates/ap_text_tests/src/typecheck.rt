@@ -1,7 +1,8 @@
 use crate::reading::{items_of, tokens_of};
+use ap_defs::faults::TypeFault;
 use ap_defs::goals::{Clause, Local, Program, Query};
 use ap_defs::terms::Raw;
-use ap_typecheck::{TypeError, TypeFault, check};
+use ap_typecheck::{TypeError, check};
 use std::alloc::{AllocError, Global};
 
 /// Identifiers with their kinds.
@@ -41,7 +42,7 @@ fn program_shown(alloc: Global, program: &Program<Raw>) -> Result<String, AllocE
 }
 
 fn fault_shown(alloc: Global, fault: TypeFault) -> Result<String, AllocError> {
-    let (item, line, kind) = (fault.item, fault.line, fault.kind);
+    let (item, line, kind) = (fault.place.item, fault.place.line, fault.kind.number());
     format!(in alloc; "fault {item} {line} {kind}")
 }
 

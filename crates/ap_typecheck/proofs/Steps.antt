@@ -7,7 +7,8 @@ use Rattle.ap_typecheck.specs.declared.error.Refusal.{Refusal}
 use Rattle.ap_typecheck.specs.declared.error.Refusal.TheVariants as refusals
 use Rattle.ap_typecheck.specs.Views.{IsRefusedItem, IsRefusedText, text_error}
 use Rattle.ap_scopes.specs.Flaws.{item_flaw}
-use Rattle.ap_typecheck.specs.declared.error.TypeFault.{TypeFault}
+use Rattle.ap_defs.specs.declared.faults.Place.{Place}
+use Rattle.ap_defs.specs.declared.faults.TypeFault.{TypeFault}
 use Rattle.ap_typecheck.specs.Declaring.{Made}
 use Rattle.ap_typecheck.specs.Checking.{Says, MakesAll, IsFaultOf, IsFaultAmong, IsFirstFault}
 
@@ -21,13 +22,13 @@ pub one_later : (m : Made) (n : ℕ) (i : ItemOf) (is whole : List ItemOf) (betw
 one_later m n i is whole between f e flawless says rest =
     subst (λ w. IsFaultAmong m n w f) (sym e) (inr (between, (flawless, says), subst (λ k. IsFaultAmong between k is f) (let k : n + 1 ≡ suc n = omega arith in k) rest))
 
-pub faulty : (m : Made) (n : ℕ) (i : ItemOf) (is whole : List ItemOf) (f : TypeFault) → whole ≡ i ∷ is → f.item ≡ n → f.line ≡ i.line → IsFaultOf f.kind m.declared i.form → IsFaultAmong m n whole f
-faulty m n i is whole f e item line kind = subst (λ w. IsFaultAmong m n w f) (sym e) (inl (item, line, kind))
+pub faulty : (m : Made) (n : ℕ) (i : ItemOf) (is whole : List ItemOf) (f : TypeFault) → whole ≡ i ∷ is → f.place ≡ record { item = n; line = i.line } → IsFaultOf f.kind m.declared i.form → IsFaultAmong m n whole f
+faulty m n i is whole f e place kind = subst (λ w. IsFaultAmong m n w f) (sym e) (inl (place, kind))
 
-pub refused_text : (e : Refusal) (n line : ℕ) (m : Made) (i : ItemOf) (is whole all : List ItemOf) → whole ≡ i ∷ is → line ≡ i.line → ((f : TypeFault) → IsFaultAmong m n whole f → IsFirstFault all f)
-    → IsRefusedItem e m.declared i.form → IsRefusedText (text_error e n line) all
-refused_text (refusals.Kind k) n line m i is whole all e l on h = let f : TypeFault = record { item = n; line = line; kind = k } in on f (faulty m n i is whole f e refl l h)
-refused_text refusals.Memory n line m i is whole all e l on h = tt
+pub refused_text : (e : Refusal) (n : ℕ) (m : Made) (i : ItemOf) (is whole all : List ItemOf) (at : Place) → whole ≡ i ∷ is → at ≡ record { item = n; line = i.line } → ((f : TypeFault) → IsFaultAmong m n whole f → IsFirstFault all f)
+    → IsRefusedItem e m.declared i.form → IsRefusedText (text_error e at) all
+refused_text (refusals.Kind k) n m i is whole all at e l on h = let f : TypeFault = record { place = at; kind = k } in on f (faulty m n i is whole f e l h)
+refused_text refusals.Memory n m i is whole all at e l on h = tt
 
 dropped-suc : (xs : List Item) (i : ℕ) (x : Item) → i < length xs → x ≡ get_or xs i x → items_of (drop i xs) ≡ item_of x ∷ items_of (drop (suc i) xs)
 dropped-suc [] i x l e = absurd (omega arith)

@@ -1,6 +1,9 @@
 -- Typing of a text: the program that its items make, or its first fault.
 use Rattle.std.specs.Prelude.{◌≡◌, ℕ, suc, ◌⊎◌, List, [], ◌∷◌, map, Option, None, Some}
 use Rattle.ap_defs.specs.RawTerms.{RawTerm}
+use Rattle.ap_defs.specs.declared.faults.TypeFault.{TypeFault}
+use Rattle.ap_defs.specs.declared.faults.TypeKind.{TypeKind}
+use Rattle.ap_defs.specs.declared.faults.TypeKind.TheVariants as kinds
 use Rattle.ap_defs.specs.Goals.{GoalOver, ClauseOver, QueryOver, ProgramOver}
 use Rattle.ap_defs.specs.Types.{NominalKind}
 use Rattle.ap_trees.specs.Terms.{OfWord, OfVar, Name, Term}
@@ -17,7 +20,6 @@ use Rattle.ap_scopes.specs.Identifiers.{Found}
 use Rattle.ap_scopes.specs.Resolution.{resolved_clause, resolved_query, predicate_number}
 use Rattle.ap_scopes.specs.Flaws.{item_flaw}
 use Rattle.ap_scopes.specs.Words.{words_of}
-use Rattle.ap_typecheck.specs.declared.error.TypeFault.{TypeFault}
 use Rattle.ap_typecheck.specs.Declaring.{Made, nothing_made, with_name_type, with_data_type, with_constructor, with_predicate, with_clause, with_query, with_kinds, program_of}
 
 -- a word is a name, and a variable a variable
@@ -86,18 +88,19 @@ Says m n line (items.AQuery g) after = (q : QueryOver RawTerm) × IsQueryOf m.de
 abbrev pub Makes : Made → ℕ → ItemOf → Made → Type 0
 Makes m n i after = (item_flaw m.declared i.form ≡ None) × Says m n i.line i.form after
 
--- Kind 4: no list of kinds types it; 5: more than one does; 6: one does, and some variable's type isn't inhabited.
-abbrev pub IsMistyped : ℕ → Declared → (List NominalKind → Type 0) → Type 0
+-- Clash: no list of kinds types it; Ambiguous: more than one does; Empty: one does, and some variable's type isn't inhabited.
+abbrev pub IsMistyped : TypeKind → Declared → (List NominalKind → Type 0) → Type 0
 IsMistyped kind d P = let cs = d.signature.constructors in
-    ((kind ≡ 4) × IsRefused errors.Clash cs P) ⊎ (((kind ≡ 5) × IsRefused errors.Ambiguous cs P) ⊎ ((kind ≡ 6) × IsRefused errors.Empty cs P))
+    ((kind ≡ kinds.Clash) × IsRefused errors.Clash cs P)
+    ⊎ (((kind ≡ kinds.Ambiguous) × IsRefused errors.Ambiguous cs P) ⊎ ((kind ≡ kinds.Empty) × IsRefused errors.Empty cs P))
 
-abbrev pub SaysMistyped : ℕ → Declared → Saying → Type 0
+abbrev pub SaysMistyped : TypeKind → Declared → Saying → Type 0
 SaysMistyped kind d (items.AClause w args body) = IsMistyped kind d (TypesClauseOf d w args body)
 SaysMistyped kind d (items.AQuery g) = IsMistyped kind d (TypesQueryOf d g)
 SaysMistyped kind d _ = ⊥
 
 -- The kind of an item's fault: the least that its words show, or else that of its typing.
-abbrev pub IsFaultOf : ℕ → Declared → Saying → Type 0
+abbrev pub IsFaultOf : TypeKind → Declared → Saying → Type 0
 IsFaultOf kind d saying = (item_flaw d saying ≡ Some kind) ⊎ ((item_flaw d saying ≡ None) × SaysMistyped kind d saying)
 
 -- The items, numbered from n, make the rest.
@@ -109,7 +112,7 @@ MakesAll m n (i ∷ is) after = (between : Made) × Makes m n i between × Makes
 abbrev pub IsFaultAmong : Made → ℕ → List ItemOf → TypeFault → Type 0
 IsFaultAmong m n [] f = ⊥
 IsFaultAmong m n (i ∷ is) f =
-    ((f.item ≡ n) × (f.line ≡ i.line) × IsFaultOf f.kind m.declared i.form)
+    ((f.place ≡ record { item = n; line = i.line }) × IsFaultOf f.kind m.declared i.form)
     ⊎ ((between : Made) × Makes m n i between × IsFaultAmong between (suc n) is f)
 
 -- The program of a text, and the first fault of a text.

@@ -5,7 +5,7 @@ use Rattle.ap_defs.specs.Goals.{ProgramOver}
 use Rattle.ap_trees.specs.Items.{ItemOf}
 use Rattle.ap_program.specs.Typed.{IsTypedRawProgram}
 use Rattle.ap_program.specs.NameRestriction.{item_count}
-use Rattle.ap_typecheck.specs.declared.error.TypeFault.{TypeFault}
+use Rattle.ap_defs.specs.declared.faults.TypeFault.{TypeFault}
 use Rattle.ap_typecheck.specs.Checking.{IsProgramOf, IsFirstFault}
 
 -- each item of the program of a text is typed by its kinds, with all that the text declares

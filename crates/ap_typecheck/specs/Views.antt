@@ -11,6 +11,8 @@ use Rattle.ap_program.specs.NameRestriction.{item_count}
 use Rattle.ap_typecheck.specs.declared.state.State.{State}
 use Rattle.ap_typecheck.specs.Declaring.{Made, program_of}
 use Rattle.ap_defs.specs.Types.{NominalKind}
+use Rattle.ap_defs.specs.declared.faults.Place.{Place}
+use Rattle.ap_defs.specs.declared.faults.TypeKind.TheVariants as types
 use Rattle.ap_trees.specs.Items.{Saying, ItemOf}
 use Rattle.ap_scopes.specs.Declarations.{Declared}
 use Rattle.ap_kinds.specs.declared.errors.KindsError.{KindsError}
@@ -45,9 +47,9 @@ abbrev pub query_parts_of : QueryParts → GoalOver RawTerm × Found
 query_parts_of r = (goal_over raw_of r.goal, map identifier_of r.found.items)
 
 abbrev pub refusal_of : KindsError → Refusal
-refusal_of kinds.Clash = refusals.Kind 4
-refusal_of kinds.Ambiguous = refusals.Kind 5
-refusal_of kinds.Empty = refusals.Kind 6
+refusal_of kinds.Clash = refusals.Kind types.Clash
+refusal_of kinds.Ambiguous = refusals.Kind types.Ambiguous
+refusal_of kinds.Empty = refusals.Kind types.Empty
 refusal_of kinds.Memory = refusals.Memory
 
 -- what typing refuses is right
@@ -65,6 +67,6 @@ abbrev pub IsRefusedText : TypeError → List ItemOf → Type 0
 IsRefusedText (errors.Fault f) is = IsFirstFault is f
 IsRefusedText errors.Memory is = Unit {0}
 
-abbrev pub text_error : Refusal → ℕ → ℕ → TypeError
-text_error (refusals.Kind k) n line = errors.Fault (record { item = n; line = line; kind = k })
-text_error refusals.Memory n line = errors.Memory
+abbrev pub text_error : Refusal → Place → TypeError
+text_error (refusals.Kind k) place = errors.Fault (record { place = place; kind = k })
+text_error refusals.Memory place = errors.Memory

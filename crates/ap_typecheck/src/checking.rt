@@ -2,17 +2,19 @@
 ghost use Rattle.std.specs.Prelude.{◌≡◌, ◌≤◌, IfOk, IfErr, length};
 ghost use Rattle.ap_defs.specs.RawTerms.{raw_of};
 ghost use Rattle.ap_defs.specs.Goals.{program_over};
+ghost use Rattle.ap_defs.specs.Limits.{size_limit};
 ghost use Rattle.ap_trees.specs.Trees.{items_of};
 ghost use Rattle.ap_program.specs.Typed.{IsTypedRawProgram};
-ghost use Rattle.ap_program.specs.NameRestriction.{item_count, most_items};
+ghost use Rattle.ap_program.specs.NameRestriction.{item_count};
 ghost use Rattle.ap_typecheck.specs.Checking.{MakesAll, IsProgramOf};
 ghost use Rattle.ap_typecheck.specs.Declaring.{nothing_made};
 ghost use Rattle.ap_typecheck.specs.Views as spec;
 ghost use Rattle.ap_typecheck.specs.Views.{IsRefusedText, made_of};
 
-use crate::error::{Refusal, TypeError, TypeFault};
+use crate::error::{Refusal, TypeError};
 use crate::items::check_item;
 use crate::state::{State, program_from};
+use ap_defs::faults::{Place, TypeFault};
 use ap_defs::goals::Program;
 use ap_defs::memory::Memory;
 use ap_defs::terms::Raw;
@@ -20,28 +22,31 @@ use ap_scopes::text_words::words_of;
 use ap_trees::Item;
 use std::alloc::Global;
 
-/// Why a text has no typed program, where this item makes nothing.
-fn text_error(refusal: Refusal, item: u32, line: u64) -> TypeError
-    ensures { result ≡ spec.text_error refusal item line }
+/// Why a text has no typed program, where the item at this place makes nothing.
+fn text_error(refusal: Refusal, place: Place) -> TypeError
+    ensures { result ≡ spec.text_error refusal place }
 {
     match refusal {
-        Refusal::Kind(kind) => TypeError::Fault(TypeFault { item, line, kind }),
+        Refusal::Kind(kind) => TypeError::Fault(TypeFault { place, kind }),
         Refusal::Memory => TypeError::Memory,
     }
 }
 
 /// What the items make, or the first fault.
 fn check_items<'a>(alloc: Global, items: &[Item<'a>]) -> Result<State<'a>, TypeError>
-    requires { length items.now ≤ 16777216 }
+    requires { length items.now ≤ size_limit }
     ensures made { IfOk result (λ s. MakesAll nothing_made 1 (items_of items.now) (made_of s)) }
     ensures err { IfErr result (λ e. IsRefusedText e (items_of items.now)) }
 {
     let mut state = State::new(alloc);
-    for (place, item) in items.iter().enumerate() {
-        let number = place as u32 + 1;
-        match check_item(alloc, &mut state, (number, item.line), &item.form) {
+    for (index, item) in items.iter().enumerate() {
+        let place = Place {
+            item: index as u32 + 1,
+            line: item.line,
+        };
+        match check_item(alloc, &mut state, place, &item.form) {
             Ok(()) => {}
-            Err(refusal) => return Err(text_error(refusal, number, item.line)),
+            Err(refusal) => return Err(text_error(refusal, place)),
         }
     }
     Ok(state)
@@ -62,18 +67,19 @@ fn whole_program(
 
 /// The typed program of a text's items.
 ///
-/// A fault is that of the first faulty item: its number from 1, its line, and the least kind that applies,
-/// of 1 a type, an applied constructor or a predicate that no earlier item declares; 2 the item declares
-/// what an earlier one of the same space declares; 3 a constructor or predicate with another number of
-/// arguments than declared; 4 no assignment of types to the item's identifiers fits, the left of `\` in a
-/// type isn't a name type, a constructor's result isn't a data type, or a declared constructor stands as
-/// a binder, in one of the first two places of `swap`, or after `new`; 5 more than one assignment fits;
-/// 6 exactly one does, and a variable has a type that isn't inhabited. `Memory` is want of memory.
+/// A fault is that of the first faulty item: its number from 1, its line, and the least kind that applies:
+/// `Undeclared`, a type, an applied constructor or a predicate that no earlier item declares; `Redeclared`,
+/// the item declares what an earlier one of the same space declares; `Arity`, a constructor or predicate
+/// with another number of arguments than declared; `Clash`, no assignment of types to the item's
+/// identifiers fits, the left of `\` in a type isn't a name type, a constructor's result isn't a data type,
+/// or a declared constructor stands as a binder, in one of the first two places of `swap`, or after `new`;
+/// `Ambiguous`, more than one assignment fits; `Empty`, exactly one does, and a variable has a type that
+/// isn't inhabited. `Memory` is want of memory.
 pub fn check(alloc: Global, items: &[Item<'_>]) -> Result<Program<Raw>, TypeError>
-    requires { length items.now ≤ 16777216 }
+    requires { length items.now ≤ size_limit }
     ensures program { IfOk result (λ p. IsProgramOf (items_of items.now) (program_over raw_of p)) }
     ensures typed { IfOk result (λ p. IsTypedRawProgram (program_over raw_of p)) }
-    ensures bounded { IfOk result (λ p. item_count (program_over raw_of p) ≤ most_items) }
+    ensures bounded { IfOk result (λ p. item_count (program_over raw_of p) ≤ size_limit) }
     ensures fault { IfErr result (λ e. IsRefusedText e (items_of items.now)) }
 {
     let state = check_items(alloc, items)?;

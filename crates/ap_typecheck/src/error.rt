@@ -1,30 +1,18 @@
-//! Type faults.
+//! Why a text, or an item, isn't well typed.
 ghost use Rattle.std.specs.Prelude.{◌≡◌};
 ghost use Rattle.ap_typecheck.specs.Views.{refusal_of};
 
+use ap_defs::faults::{TypeFault, TypeKind};
 use ap_defs::memory::Memory;
 use ap_kinds::KindsError;
-use ap_scopes::flaws::CLASH;
 use std::alloc::{AllocError, AllocFailed};
-
-/// More than one assignment of types fits.
-pub const AMBIGUOUS: u32 = 5;
-/// Exactly one does, and a variable has a type that isn't inhabited.
-pub const EMPTY: u32 = 6;
-
-/// The first faulty item: its number and line, and the least kind of its faults: 1 undeclared, 2 declared
-/// again, 3 a wrong number of arguments, 4 clash, 5 ambiguous, 6 empty.
-#[derive(Clone, Copy, Debug, PartialEq, Eq)]
-pub struct TypeFault {
-    pub item: u32,
-    pub line: u64,
-    pub kind: u32,
-}
 
 /// Why a text has no typed program.
 #[derive(Clone, Copy, Debug, PartialEq, Eq)]
 pub enum TypeError {
+    /// The first item that isn't well typed: its number and line, and the least kind of its faults.
     Fault(TypeFault),
+    /// The allocator refused a growth.
     Memory,
 }
 
@@ -42,7 +30,7 @@ impl From<AllocError> for TypeError {
 #[derive(Clone, Copy, Debug, PartialEq, Eq)]
 pub enum Refusal {
     /// The least kind of its faults.
-    Kind(u32),
+    Kind(TypeKind),
     Memory,
 }
 
@@ -81,9 +69,9 @@ pub fn refusal_of_kinds(refused: KindsError) -> Refusal
     ensures { result ≡ refusal_of refused }
 {
     match refused {
-        KindsError::Clash => Refusal::Kind(CLASH),
-        KindsError::Ambiguous => Refusal::Kind(AMBIGUOUS),
-        KindsError::Empty => Refusal::Kind(EMPTY),
+        KindsError::Clash => Refusal::Kind(TypeKind::Clash),
+        KindsError::Ambiguous => Refusal::Kind(TypeKind::Ambiguous),
+        KindsError::Empty => Refusal::Kind(TypeKind::Empty),
         KindsError::Memory => Refusal::Memory,
     }
 }

@@ -15,6 +15,7 @@ use crate::declaring::{
 use crate::error::Refusal;
 use crate::state::State;
 use crate::typing::{typed_clause, typed_query};
+use ap_defs::faults::Place;
 use ap_defs::goals::Clause;
 use ap_defs::memory::Memory;
 use ap_defs::terms::Raw;
@@ -38,13 +39,13 @@ fn put_clause(state: &mut State<'_>, clause: Clause<Raw>) -> Result<(), Memory>
 fn add_item<'a>(
     alloc: Global,
     state: &mut State<'a>,
-    place: (u32, u64),
+    place: Place,
     form: &Form<'a>,
 ) -> Result<(), Refusal>
     requires kept { IsKept state.old }
     requires small { IsSmall state.old.declared }
     requires flawless { item_flaw (made_of state.old).declared (form_of form.now) ≡ None }
-    ensures made { OnOk result (Says (made_of state.old) place.0 place.1 (form_of form.now) (made_of state.new)) }
+    ensures made { OnOk result (Says (made_of state.old) place.item place.line (form_of form.now) (made_of state.new)) }
     ensures kept { OnOk result (IsKept state.new) }
     ensures err { IfErr result (λ e. IsRefusedItem e (made_of state.old).declared (form_of form.now)) }
 {
@@ -79,13 +80,13 @@ fn add_item<'a>(
 pub fn check_item<'a>(
     alloc: Global,
     state: &mut State<'a>,
-    place: (u32, u64),
+    place: Place,
     form: &Form<'a>,
 ) -> Result<(), Refusal>
     requires kept { IsKept state.old }
     requires small { IsSmall state.old.declared }
     ensures flawless { OnOk result (item_flaw (made_of state.old).declared (form_of form.now) ≡ None) }
-    ensures made { OnOk result (Says (made_of state.old) place.0 place.1 (form_of form.now) (made_of state.new)) }
+    ensures made { OnOk result (Says (made_of state.old) place.item place.line (form_of form.now) (made_of state.new)) }
     ensures kept { OnOk result (IsKept state.new) }
     ensures err { IfErr result (λ e. IsRefusedItem e (made_of state.old).declared (form_of form.now)) }
 {

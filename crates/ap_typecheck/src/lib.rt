@@ -14,4 +14,4 @@ mod state;
 mod typing;
 
 pub use checking::check;
-pub use error::{AMBIGUOUS, EMPTY, TypeError, TypeFault};
+pub use error::TypeError;

@@ -15,6 +15,7 @@ ghost use Rattle.ap_typecheck.specs.Views.{IsRefusedBy, clause_parts_of, query_p
 
 use crate::error::{Refusal, refusal_of_kinds};
 use crate::locals::{classes_of, with_kinds};
+use ap_defs::faults::Place;
 use ap_defs::goals::{Clause, Goal, Kind, Query};
 use ap_defs::lists::List;
 use ap_defs::memory::Memory;
@@ -135,16 +136,16 @@ fn query_kinds(
 
 fn clause_with(
     alloc: Global,
-    place: (u32, u64),
+    place: Place,
     pred: u32,
     parts: &ClauseParts<'_>,
     kinds: &[Kind],
 ) -> Result<Clause<Raw>, Memory>
-    ensures { IfOk result (λ c. clause_over raw_of c ≡ spec.clause_with_kinds place.0 place.1 pred (clause_parts_of parts.now) (map kind_of kinds.now)) }
+    ensures { IfOk result (λ c. clause_over raw_of c ≡ spec.clause_with_kinds place.item place.line pred (clause_parts_of parts.now) (map kind_of kinds.now)) }
 {
     Ok(Clause {
-        item: place.0,
-        line: place.1,
+        item: place.item,
+        line: place.line,
         pred,
         args: terms_with_sorts(alloc, kinds, parts.args.items())?,
         body: goal_with_sorts(alloc, kinds, &parts.body)?,
@@ -154,27 +155,27 @@ fn clause_with(
 
 fn query_with(
     alloc: Global,
-    place: (u32, u64),
+    place: Place,
     parts: &QueryParts<'_>,
     kinds: &[Kind],
 ) -> Result<Query<Raw>, Memory>
-    ensures { IfOk result (λ q. query_over raw_of q ≡ spec.query_with_kinds place.0 place.1 (query_parts_of parts.now) (map kind_of kinds.now)) }
+    ensures { IfOk result (λ q. query_over raw_of q ≡ spec.query_with_kinds place.item place.line (query_parts_of parts.now) (map kind_of kinds.now)) }
 {
     Ok(Query {
-        item: place.0,
-        line: place.1,
+        item: place.item,
+        line: place.line,
         goal: goal_with_sorts(alloc, kinds, &parts.goal)?,
         locals: with_kinds(alloc, parts.found.as_slice(), kinds)?,
     })
 }
 
-/// A clause of a predicate with the kinds of its identifiers. `place` is the item's number and line.
+/// A clause of a predicate with the kinds of its identifiers.
 #[tactic(auto, using(crate::proofs::Refusals::clause_refused, crate::proofs::Refusals::clause_made))]
 pub fn typed_clause<'a>(
     alloc: Global,
     declared: &Declarations<'_>,
     inhabitants: &Inhabitants,
-    place: (u32, u64),
+    place: Place,
     word: &str,
     args: &[Tree<'a>],
     body: &Option<GoalTree<'a>>,
@@ -182,7 +183,7 @@ pub fn typed_clause<'a>(
     requires indexed { IsIndexed declared.now }
     requires small { IsSmall declared.now }
     requires inhabited { AreInhabitants (declared_of declared.now).signature.constructors inhabitants.now }
-    ensures ok { IfOk result (λ c. IsClauseOf (declared_of declared.now) place.0 place.1 word.now (trees_of args.now) (option_map goal_of body.now) (clause_over raw_of c)) }
+    ensures ok { IfOk result (λ c. IsClauseOf (declared_of declared.now) place.item place.line word.now (trees_of args.now) (option_map goal_of body.now) (clause_over raw_of c)) }
     ensures err { IfErr result (λ e. IsRefusedBy e (declared_of declared.now) (spec.TypesClauseOf (declared_of declared.now) word.now (trees_of args.now) (option_map goal_of body.now))) }
 {
     let parts = clause_parts(alloc, declared, args, body)?;
@@ -193,19 +194,19 @@ pub fn typed_clause<'a>(
     }
 }
 
-/// A query with the kinds of its identifiers. `place` is the item's number and line.
+/// A query with the kinds of its identifiers.
 #[tactic(auto, using(crate::proofs::Refusals::query_refused, crate::proofs::Refusals::query_made))]
 pub fn typed_query<'a>(
     alloc: Global,
     declared: &Declarations<'_>,
     inhabitants: &Inhabitants,
-    place: (u32, u64),
+    place: Place,
     goal: &GoalTree<'a>,
 ) -> Result<Query<Raw>, Refusal>
     requires indexed { IsIndexed declared.now }
     requires small { IsSmall declared.now }
     requires inhabited { AreInhabitants (declared_of declared.now).signature.constructors inhabitants.now }
-    ensures ok { IfOk result (λ q. IsQueryOf (declared_of declared.now) place.0 place.1 (goal_of goal.now) (query_over raw_of q)) }
+    ensures ok { IfOk result (λ q. IsQueryOf (declared_of declared.now) place.item place.line (goal_of goal.now) (query_over raw_of q)) }
     ensures err { IfErr result (λ e. IsRefusedBy e (declared_of declared.now) (spec.TypesQueryOf (declared_of declared.now) (goal_of goal.now))) }
 {
     let parts = query_parts(alloc, declared, goal)?;

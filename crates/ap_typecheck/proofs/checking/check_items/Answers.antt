@@ -8,28 +8,28 @@ use Rattle.ap_typecheck.proofs.checking.check_items.Goals as goal
 pub returns-in-Err-clause-err : goal.returns-in-Err-clause-err
 returns-in-Err-clause-err c =
     let items = c.args.items.now in
-    let place = c.loop-place.place in
-    let item = c.index-items-place.result in
-    let within : place < length items = c.loop-place-test.true in
-    let next = dropped items place item within c.index-items-place.is in
-    rw c.text_error.ensures (refused_text c.in-Err.refusal (place + 1) item.line (made_of c.loop-place.state) (item_of item) (items_of (drop (place + 1) items)) (items_of (drop place items)) (items_of items) next refl c.loop-place.invariant.fault c.in-Err.ensures.err)
+    let place = c.loop-index.index in
+    let item = c.index-items-index.result in
+    let within : place < length items = c.loop-index-test.true in
+    let next = dropped items place item within c.index-items-index.is in
+    rw c.text_error.ensures (refused_text c.in-Err.refusal (place + 1) (made_of c.loop-index.state) (item_of item) (items_of (drop (place + 1) items)) (items_of (drop place items)) (items_of items) _ next refl c.loop-index.invariant.fault c.in-Err.ensures.err)
 
-pub loop-place-preserved : goal.loop-place-preserved
-loop-place-preserved c =
+pub loop-index-preserved : goal.loop-index-preserved
+loop-index-preserved c =
     let items = c.args.items.now in
-    let place = c.loop-place.place in
-    let item = c.index-items-place.result in
-    let before = made_of c.loop-place.state in
+    let place = c.loop-index.index in
+    let item = c.index-items-index.result in
+    let before = made_of c.loop-index.state in
     let between = made_of c.check_item.new.state in
-    let within : place < length items = c.loop-place-test.true in
-    let next = dropped items place item within c.index-items-place.is in
+    let within : place < length items = c.loop-index-test.true in
+    let next = dropped items place item within c.index-items-index.is in
     let grown : count between ≤ suc (count before) = says_count before (place + 1) item.line (form_of item.form) between c.in-Ok.ensures.made in
-    let few : count before ≤ place = c.loop-place.invariant.few in
+    let few : count before ≤ place = c.loop-index.invariant.few in
     record {
       kept = c.in-Ok.ensures.kept;
       few = omega (arith, grown, few);
-      all = λ m rest. c.loop-place.invariant.all m
+      all = λ m rest. c.loop-index.invariant.all m
           (one_more before (place + 1) (item_of item) (items_of (drop (place + 1) items)) (items_of (drop place items)) between m next c.in-Ok.ensures.flawless c.in-Ok.ensures.made rest);
-      fault = λ f rest. c.loop-place.invariant.fault f
+      fault = λ f rest. c.loop-index.invariant.fault f
           (one_later before (place + 1) (item_of item) (items_of (drop (place + 1) items)) (items_of (drop place items)) between f next c.in-Ok.ensures.flawless c.in-Ok.ensures.made rest);
     }

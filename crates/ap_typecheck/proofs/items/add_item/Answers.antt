@@ -11,5 +11,5 @@ use Rattle.ap_typecheck.proofs.items.add_item.Goals as goal
 pub returns-in_ok-put_clause-in-Clause-clause-made : goal.returns-in_ok-put_clause-in-Clause-clause-made
 returns-in_ok-put_clause-in-Clause-clause-made c =
     let clause = clause_over raw_of c.in_ok-clause-in-Clause.clause in
-    let is_clause = λ (ts : List Tree). IsClauseOf (declared_of c.args.state.now.declared) c.args.place.0 c.args.place.1 c.in-Clause.word.now (trees_of ts) (option_map goal_of c.in-Clause.body) clause in
+    let is_clause = λ (ts : List Tree). IsClauseOf (declared_of c.args.state.now.declared) c.args.place.item c.args.place.line c.in-Clause.word.now (trees_of ts) (option_map goal_of c.in-Clause.body) clause in
     rw c.in-Clause.is (clause, subst is_clause c.items-in-Clause.ensures c.in_ok-clause-in-Clause.ensures.ok, c.in_ok-put_clause-in-Clause.ensures.made)

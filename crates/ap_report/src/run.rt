@@ -1,0 +1,63 @@
+// The report of a run.
+ghost use Rattle.std.specs.Prelude.{◌≡◌, ◌≤◌, IfOk, length};
+ghost use Rattle.ap_defs.specs.Goals.{program_of};
+ghost use Rattle.ap_defs.specs.Limits.{size_limit};
+ghost use Rattle.ap_report.specs.TextReport.{IsTextReport, run_report};
+
+use crate::error::TextError;
+use crate::faults::fault_report;
+use crate::queries::report_program;
+use crate::text::program_of_text;
+use crate::{Report, Status};
+use ap_defs::limits::{Depth, Workers};
+use ap_defs::lists::List;
+use ap_defs::memory::Memory;
+use ap_io::Gate;
+use ap_program::restricted::Restricted;
+use std::alloc::Global;
+use std::sync::Wait;
+use std::thread::Threads;
+
+/// The report on a program.
+fn report_restricted<R: Threads + Wait + Sync, G: Gate>(
+    rt: &R,
+    alloc: Global,
+    gate: &G,
+    depth: Depth,
+    workers: Workers,
+    program: &Restricted,
+) -> Result<Report, Memory>
+    ensures { IfOk result (λ r. r ≡ run_report depth (program_of program.now)) }
+{
+    let bytes = report_program(rt, alloc, gate, depth, workers, program)?;
+    Ok(Report {
+        bytes: List::of(bytes),
+        status: Status::Ok,
+    })
+}
+
+/// The report on a text, to a depth: the line of the first fault, or what the program's queries are
+/// answered. So many workers search each query; two or more pass the gate before each path that they take
+/// up. What the report is does not depend on how many there are.
+///
+/// `Err` is want of memory.
+pub fn report_text<R: Threads + Wait + Sync, G: Gate>(
+    rt: &R,
+    alloc: Global,
+    gate: &G,
+    depth: Depth,
+    workers: Workers,
+    text: &[u8],
+) -> Result<Report, Memory>
+    requires { length text.now ≤ size_limit }
+    // What is answered is the report on the text.
+    ensures made { IfOk result (λ r. IsTextReport (run_report depth) text.now r) }
+    // No other is.
+    ensures only { IfOk result (λ r. (s : Report) → IsTextReport (run_report depth) text.now s → s ≡ r) }
+{
+    match program_of_text(alloc, text) {
+        Ok(program) => report_restricted(rt, alloc, gate, depth, workers, &program),
+        Err(TextError::Fault(fault)) => fault_report(alloc, &fault),
+        Err(TextError::Memory) => Err(Memory),
+    }
+}

@@ -1,0 +1,243 @@
+#!/usr/bin/env python3
+"""Proves the crates below the program, several side by side, and builds it.
+
+Progress goes to standard error, one line a crate; what `rt` prints goes to .build/log. Exit status: 0 where the
+program stands, 70 where it could not be built, 130 where the build was interrupted. A second start goes on where
+the first ended, and two starts at one time take turns.
+"""
+import contextlib
+import fcntl
+import os
+import re
+import shutil
+import signal
+import subprocess
+import sys
+import time
+
+TOP = os.path.dirname(os.path.dirname(os.path.realpath(__file__)))
+PROGRAM = "ap_cli"
+ROOM = f"{TOP}/.build"
+LOG = f"{ROOM}/log"
+NOT_BUILT = 70
+# The memory that one check may take.
+BYTES_A_CHECK = 4 << 30
+
+
+def say(text):
+    """Writes a line to standard error; where that is closed nothing is lost but the line."""
+    try:
+        print(f"alphaprolog: {text}", file=sys.stderr, flush=True)
+    except OSError:
+        pass
+
+
+def fail(text):
+    say(text)
+    sys.exit(NOT_BUILT)
+
+
+def text_of(path):
+    with open(path, encoding="utf-8", errors="replace") as file:
+        return file.read()
+
+
+def wanted_kit():
+    """The kit's one-line identity, which README.md names under "What is trusted"."""
+    found = re.search(r"`(rattle-kit-\S+ logic \w+)`", text_of(f"{TOP}/README.md"))
+    if not found:
+        fail("README.md doesn't name the kit any more (`rattle-kit-.. logic ..` under 'What is trusted')")
+    return found[1]
+
+
+def stop_without_the_kit():
+    """Stops where `rt` isn't there, or belongs to another kit."""
+    kit = wanted_kit()
+    where = "(README.md, under 'What is trusted')"
+    if not shutil.which("rt"):
+        fail(f"the command rt isn't on the PATH. The program is proved and built with {kit} {where}")
+    said = subprocess.run(["rt", "version"], capture_output=True, text=True, errors="replace", check=False)
+    found = " ".join((said.stdout.strip().splitlines() or ["no version"])[0].split())
+    if kit not in found:
+        fail(f"rt is of another kit: {found}. The program is proved with {kit} {where}")
+
+
+def crates_below():
+    """The crates of this repository that the program stands on, and itself, lowest first."""
+    below = {}
+    for line in text_of(f"{TOP}/crates.txt").splitlines():
+        head, colon, libraries = line.partition("#")[0].partition(":")
+        if colon:
+            below[head.split()[0]] = libraries.split()
+    order = []
+
+    def add(name):
+        for library in below[name]:
+            if library in below and library not in order:
+                add(library)
+        if name not in order:
+            order.append(name)
+
+    add(PROGRAM)
+    return order, below
+
+
+def measured_minutes():
+    """The processor minutes of each crate's check, by the table of docs/ARCHITECTURE.md."""
+    rows = re.findall(r"(?m)^\| `(ap_\w+)` \| ([\d.]+)[^|]*\|", text_of(f"{TOP}/docs/ARCHITECTURE.md"))
+    return {name: float(minutes) for name, minutes in rows}
+
+
+def estimate(left, below, jobs):
+    """The minutes that so many jobs need for these crates: no less than their longest chain."""
+    minutes, chain = measured_minutes(), {}
+    for name in left:
+        longest = max([chain.get(library, 0) for library in below[name]], default=0)
+        chain[name] = minutes.get(name, 1) + longest
+    total = sum(minutes.get(name, 1) for name in left)
+    return max(1, round(max(total / jobs, max(chain.values(), default=0)) * 1.2))
+
+
+def jobs_at_once():
+    """One check a processor, where memory allows."""
+    found = re.search(r"MemAvailable:\s+(\d+) kB", text_of("/proc/meminfo"))
+    memory = int(found[1]) * 1024 if found else BYTES_A_CHECK
+    return max(1, min(len(os.sched_getaffinity(0)), memory // BYTES_A_CHECK))
+
+
+def being_proved(names):
+    """The crates among these that a check is at work on now."""
+    found = set()
+    for process in filter(str.isdigit, os.listdir("/proc")):
+        try:
+            words = text_of(f"/proc/{process}/cmdline").split("\0")
+            here = os.readlink(f"/proc/{process}/cwd").startswith(TOP)
+        except OSError:
+            continue
+        if here and "--crate-name" in words:
+            found.add(words[words.index("--crate-name") + 1])
+    return [name for name in names if name in found]
+
+
+class Progress:
+    """What was said so far of a build."""
+
+    def __init__(self, crates):
+        self.crates, self.start, self.done, self.working = crates, time.monotonic(), set(), []
+
+    def clock(self):
+        seconds = int(time.monotonic() - self.start)
+        return f"[{seconds // 60:2}:{seconds % 60:02}]"
+
+    def look(self):
+        """Says what ended and what began since the last look."""
+        ended = [name for name in re.findall(r"(?m)^== (ap_\w+)$", text_of(LOG)) if name not in self.done]
+        for name in ended:
+            self.done.add(name)
+            say(f"{self.clock()} {len(self.done)} of {len(self.crates)}: {name} done")
+        working = being_proved([name for name in self.crates if name not in self.done])
+        begun = [name for name in working if name not in self.working]
+        if begun:
+            say(f"{self.clock()} proving {', '.join(begun)}")
+        self.working += begun
+
+
+def end(process):
+    """Ends a command with all that it started."""
+    for which in (signal.SIGTERM, signal.SIGKILL):
+        try:
+            os.killpg(process.pid, which)
+            process.wait(timeout=5)
+        except (ProcessLookupError, subprocess.TimeoutExpired):
+            pass
+
+
+def last_lines(count):
+    return "\n".join("    " + line[:160] for line in text_of(LOG).splitlines()[-count:])
+
+
+def run(words, progress):
+    """Runs a command in the program's folder, with its output in the log; gives its status."""
+    with open(LOG, "a", encoding="utf-8") as log, open(f"{TOP}/crates/{PROGRAM}/stdin", "rb") as given:
+        process = subprocess.Popen(
+            words, cwd=f"{TOP}/crates/{PROGRAM}", stdin=given, stdout=log, stderr=log, start_new_session=True
+        )
+        try:
+            while process.poll() is None:
+                time.sleep(1)
+                progress.look()
+        except KeyboardInterrupt:
+            end(process)
+            say(f"{progress.clock()} interrupted; the log is {LOG}, and ends with")
+            say("\n" + last_lines(5))
+            say("what was proved is kept: start again to go on")
+            sys.exit(130)
+        progress.look()
+        return process.returncode
+
+
+def files_below():
+    """The files that the program is made of."""
+    files = [f"{TOP}/crates.txt", f"{TOP}/HANDLES"]
+    for name in crates_below()[0]:
+        for part in ("src", "specs", "proofs"):
+            for folder, _, names in os.walk(f"{TOP}/crates/{name}/{part}"):
+                files += [f"{folder}/{file}" for file in names]
+    return files
+
+
+def is_current():
+    """Whether the program is newer than each file that it is made of."""
+    program = f"{TOP}/crates/{PROGRAM}/out/{PROGRAM}"
+    if not os.access(program, os.X_OK):
+        return False
+    made = os.stat(program).st_mtime
+    return all(os.stat(file).st_mtime <= made for file in files_below())
+
+
+@contextlib.contextmanager
+def locked(name, waits):
+    """Holds a lock, after those who hold it now: two starts at one time take turns."""
+    os.makedirs(ROOM, exist_ok=True)
+    with open(f"{ROOM}/{name}", "w", encoding="utf-8") as lock:
+        try:
+            fcntl.flock(lock, fcntl.LOCK_EX | fcntl.LOCK_NB)
+        except BlockingIOError:
+            say(waits)
+            fcntl.flock(lock, fcntl.LOCK_EX)
+        yield
+
+
+def build():
+    crates, below = crates_below()
+    built = [name for name in crates if os.path.isfile(f"{TOP}/crates/{name}/out/rlib/stamp")]
+    left, jobs = [name for name in crates if name not in built], jobs_at_once()
+    progress = Progress(crates)
+    say(
+        f"the program is proved and built first: {len(crates)} crates, {len(left)} of them not yet, {jobs} side by side; "
+        f"about {estimate(left, below, jobs)} minutes. The log is {LOG}"
+    )
+    say("to look sooner, without proofs: ./alphaprolog-unproved with the same words")
+    open(LOG, "w", encoding="utf-8").close()
+    proves = ["rt", "all", "check", "--jobs", str(jobs)]
+    for words in (proves, ["rt", "run", "--", "run", "--depth", "1"]):
+        if run(words, progress):
+            say(f"{progress.clock()} the program was not built; the log is {LOG}, and ends with")
+            say("\n" + last_lines(15))
+            fail("what was proved is kept: a second start goes on from there")
+    say(f"{progress.clock()} proved and built")
+
+
+def main():
+    stop_without_the_kit()
+    with locked("lock", "another start is building the program: waiting for it"):
+        if not is_current():
+            build()
+        # Newer than files beside it that it isn't made of, so that the next start needn't ask.
+        os.utime(f"{TOP}/crates/{PROGRAM}/out/{PROGRAM}")
+
+
+if __name__ == "__main__":
+    # A stop by a signal is an interrupt like that of the keyboard.
+    signal.signal(signal.SIGTERM, signal.default_int_handler)
+    main()
