@@ -7,6 +7,8 @@ use ap_fresh::reduction::reduce;
 use ap_perm::closures::Closure;
 use std::alloc::Global;
 
+const C: Name = Name { sort: 0, num: 2 };
+
 const Y: Var = Var { num: 3 };
 
 /// The names of the conditions on Y to which freshness for a closure reduces, or none where it is refuted.
@@ -23,16 +25,13 @@ fn reduces(alloc: Global) -> Result<bool, Memory> {
     let term = Term::Susp(List::of(Vec::new(alloc)), Y);
     let closure = Closure::of(alloc, 0, 4, &term).moved_by(alloc, &[swap(0, 1), swap(1, 2)])?;
     let conds = reduced(alloc, name(0), &closure)?;
-    let wanted = [Cond {
-        name: name(2),
-        var: Y,
-    }];
+    let wanted = [Cond { name: C, var: Y }];
     Ok(matches!(&conds, Some(conds) if conds.as_slice() == wanted.as_slice()))
 }
 
 // The name 2 becomes the name 0.
 fn is_refuted(alloc: Global) -> Result<bool, Memory> {
-    let term = Term::Name(name(2));
+    let term = Term::Name(C);
     let closure = Closure::of(alloc, 0, 4, &term).moved_by(alloc, &[swap(0, 1), swap(1, 2)])?;
     Ok(reduced(alloc, name(0), &closure)?.is_none())
 }

@@ -8,6 +8,8 @@ use ap_perm::look::Look;
 use ap_perm::perm::Perm;
 use std::alloc::Global;
 
+const A: Name = Name { sort: 0, num: 0 };
+
 pub const fn name(num: u64) -> Name {
     Name { sort: 0, num }
 }
@@ -128,7 +130,7 @@ fn opens(alloc: Global, closure: Closure<'_>, a: Name) -> Result<bool, Memory> {
 }
 
 fn opened(alloc: Global) -> Result<bool, Memory> {
-    let term = Term::Name(name(0));
+    let term = Term::Name(A);
     let closure = Closure::of(alloc, 1, 4, &term);
     let copy = closure.copy(alloc)?;
     let moved = closure.moved_by(alloc, &[swap(1, 2)])?;
