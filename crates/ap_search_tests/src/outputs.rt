@@ -84,7 +84,7 @@ const REACHED: [(&str, u32, &str); 8] = [
     (
         "e : type. b : e. c : e. d : e. pred p(e). p(b). p(c). p(d). ?- p(X), (p(X) ; X = d).",
         1,
-        "F111F221F331F32",
+        "F111F212F313F32",
     ),
     ("id : name_type. ?- X # a.", 1, "S"),
 ];
