@@ -72,7 +72,12 @@ fn differ_on(alloc: Global, p: &Perm, q: &Perm, names: &[Name]) -> Result<bool, 
 
 fn differs(alloc: Global) -> Result<bool, Memory> {
     let identity = Perm::identity(alloc);
-    differ_on(alloc, &identity, &cycle(alloc)?, &[name(0), name(1), name(2)])
+    differ_on(
+        alloc,
+        &identity,
+        &cycle(alloc)?,
+        &[name(0), name(1), name(2)],
+    )
 }
 
 fn differs_by_sort(alloc: Global) -> Result<bool, Memory> {

@@ -27,18 +27,18 @@ fn answer_word<'a>(
     match branch.node() {
         Node::Answer => {
             let answer = branch.answer(alloc, p)?;
-            Ok(if answer.binds.items().len() == 1 { "one" } else { "others" })
+            Ok(if answer.binds.items().len() == 1 {
+                "one"
+            } else {
+                "others"
+            })
         }
         _ => Ok("no answer"),
     }
 }
 
 /// What a branch stands at.
-fn word_of<'a>(
-    alloc: Global,
-    p: &Problem<'a>,
-    branch: &Branch<'a>,
-) -> Result<&'static str, Memory>
+fn word_of<'a>(alloc: Global, p: &Problem<'a>, branch: &Branch<'a>) -> Result<&'static str, Memory>
     requires query { HasQuery p.now }
     requires of { IsBranchOf p.now branch.now }
 {
@@ -64,12 +64,7 @@ fn path_of(alloc: Global, choices: &[u32]) -> Result<Path, Memory> {
     Ok(Path::of(choices.to_vec(alloc)?))
 }
 
-fn leads<'a>(
-    alloc: Global,
-    p: &Problem<'a>,
-    choices: &[u32],
-    want: &str,
-) -> Result<bool, Memory>
+fn leads<'a>(alloc: Global, p: &Problem<'a>, choices: &[u32], want: &str) -> Result<bool, Memory>
     requires { HasQuery p.now }
 {
     let path = path_of(alloc, choices)?;

@@ -456,7 +456,11 @@ fn is_bounded(alloc: Global, nest: &Nest<'_>) -> Result<bool, AllocError> {
 #[test]
 fn nesting_is_bounded(rt: HostRuntime) {
     for nest in &DEEP {
-        assert!(rt; matches!(is_bounded(rt.alloc(), nest), Ok(true)), "at {}", nest.0);
+        assert!(rt;
+            matches!(is_bounded(rt.alloc(), nest), Ok(true)),
+            "at {}",
+            nest.0
+        );
     }
 }
 

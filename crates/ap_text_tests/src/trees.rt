@@ -59,7 +59,10 @@ fn is_term(alloc: Global, text: &str, want: &str) -> Result<bool, AllocError> {
 #[test]
 fn terms_are_read(rt: HostRuntime) {
     for (text, want) in &TERMS {
-        assert!(rt; matches!(is_term(rt.alloc(), text, want), Ok(true)), "at {text}");
+        assert!(rt;
+            matches!(is_term(rt.alloc(), text, want), Ok(true)),
+            "at {text}"
+        );
     }
 }
 
@@ -82,6 +85,9 @@ fn is_type(alloc: Global, text: &str, want: &str) -> Result<bool, AllocError> {
 #[test]
 fn types_are_read(rt: HostRuntime) {
     for (text, want) in &TYPES {
-        assert!(rt; matches!(is_type(rt.alloc(), text, want), Ok(true)), "at {text}");
+        assert!(rt;
+            matches!(is_type(rt.alloc(), text, want), Ok(true)),
+            "at {text}"
+        );
     }
 }

@@ -103,6 +103,9 @@ a:Name(0):false X:Var(Names(0)):false b:Name(0):true X:Var(Names(0)):true Y:Var(
 #[test]
 fn programs_are_typed(rt: HostRuntime) {
     for (text, want) in &PROGRAMS {
-        assert!(rt; matches!(is_shown(rt.alloc(), text, want), Ok(true)), "at {text}");
+        assert!(rt;
+            matches!(is_shown(rt.alloc(), text, want), Ok(true)),
+            "at {text}"
+        );
     }
 }

@@ -71,7 +71,14 @@ fn bytes_that_are_no_text_are_told(rt: HostRuntime) {
         most: 100,
     };
     let want = b"% syntax fault: item 1, line 1, kind 1 NotUtf8\n".as_slice();
-    let written = writes(&rt, rt.alloc(), "run --depth 5", &[255, 46], fails, (2, want));
+    let written = writes(
+        &rt,
+        rt.alloc(),
+        "run --depth 5",
+        &[255, 46],
+        fails,
+        (2, want),
+    );
     assert!(rt; matches!(written, Ok(true)));
 }
 

@@ -14,7 +14,7 @@ fn shared(alloc: Global) -> Result<Option<Core>, Memory> {
         Event::Push(0),
         Event::Steal(1, 0),
         Event::Done(1),
-        Event::Done(0)
+        Event::Done(0),
     ]?;
     play(alloc, &Pairs::of(1), 2, events.as_slice())
 }

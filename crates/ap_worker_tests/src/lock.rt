@@ -239,12 +239,7 @@ fn are_fourths(closed: &Closed) -> bool {
 }
 
 /// Splits the empty path in four.
-fn begin<R: Wait>(
-    rt: &R,
-    alloc: Global,
-    book: &SharedBook,
-    own: &mut Seat,
-) -> Result<(), BookError>
+fn begin<R: Wait>(rt: &R, alloc: Global, book: &SharedBook, own: &mut Seat) -> Result<(), BookError>
     requires { own.old.book ≡ book_id book.now }
     ensures { own.new.book ≡ own.old.book }
 {
