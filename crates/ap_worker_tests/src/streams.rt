@@ -23,10 +23,10 @@ fn reads<S: Source>(source: &mut S, answers: &[Result<Option<u8>, Failed>]) -> b
     true
 }
 
-/// Whether writes of these pieces answer so, one after the other.
+/// Whether writes of these pieces, which are not empty, answer so, one after the other.
 fn writes<K: Sink>(sink: &mut K, calls: &[(&[u8], Result<usize, Failed>)]) -> bool {
     for (piece, answer) in calls {
-        if sink.write(piece) != *answer {
+        if piece.is_empty() || sink.write(piece) != *answer {
             return false;
         }
     }
