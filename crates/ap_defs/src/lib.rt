@@ -15,5 +15,3 @@ pub mod memory;
 pub mod outcomes;
 pub mod paths;
 pub mod terms;
-#[cfg(test)]
-mod tests;

@@ -13,6 +13,3 @@ mod token;
 pub use pieces::takes_longest;
 pub use scan::lex;
 pub use token::{LexError, Token, TokenKind};
-
-#[cfg(test)]
-mod tests;

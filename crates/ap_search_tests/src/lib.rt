@@ -1,5 +1,5 @@
-//! Tests of the crates that unify, search and answer: `ap_defs`, `ap_perm`, `ap_fresh`, `ap_program`,
-//! `ap_store`, `ap_backchain`, `ap_replay` and `ap_answers`. What whole texts show of `ap_unify` stands in `ap_cases`.
+//! Tests of the crates that unify, search and answer: `ap_defs`, `ap_perm`, `ap_fresh`, `ap_program`, `ap_store`,
+//! `ap_backchain`, `ap_replay` and `ap_answers`. What whole texts show of `ap_unify` stands in `ap_cases`.
 #![tactic(auto)]
 
 #[cfg(test)]

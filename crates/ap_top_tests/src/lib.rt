@@ -1,6 +1,8 @@
-//! Tests of the top call, and of the report on a text through it: `ap_top` and `ap_report`.
+//! Tests of the report on a text and of the top call: `ap_report` and `ap_top`.
 #![tactic(auto)]
 
+#[cfg(test)]
+mod report;
 #[cfg(test)]
 mod top_call;
 #[cfg(test)]

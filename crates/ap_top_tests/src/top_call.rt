@@ -5,6 +5,7 @@ use ap_io::{Gate, MemSink, MemSource, NoGate};
 use ap_top::top;
 use std::alloc::Global;
 use std::sync::Wait;
+use std::test::Fail;
 use std::thread::Threads;
 
 /// A text with two answers.
@@ -68,42 +69,41 @@ pub fn writes<R: Threads + Wait + Sync>(
 }
 
 #[test]
-fn bytes_that_are_no_text_are_told(rt: HostRuntime) {
+fn bytes_that_are_no_text_are_told(rt: HostRuntime) -> Result<(), Fail> {
     let fails = Fails {
         read: 0,
         write: 0,
         most: 100,
     };
     let want = b"% syntax fault: item 1, line 1, kind 1 NotUtf8\n".as_slice();
-    let written = writes(
-        &rt,
-        rt.alloc(),
-        "run --depth 5",
-        &[255, 46],
-        fails,
-        (2, want),
+    assert!(rt;
+        writes(
+            &rt,
+            rt.alloc(),
+            "run --depth 5",
+            &[255, 46],
+            fails,
+            (2, want)
+        )?
     );
-    assert!(rt; matches!(written, Ok(true)));
+    Ok(())
 }
 
-fn is_too_large<R: Threads + Wait + Sync>(rt: &R, alloc: Global) -> Result<bool, Memory> {
-    let text = vec![in alloc; b' '; 16_777_217]?;
+#[test]
+fn a_text_past_the_limit_is_too_large(rt: HostRuntime) -> Result<(), Fail> {
+    let text = vec![in rt.alloc(); b' '; 16_777_217]?;
     let fails = Fails {
         read: 0,
         write: 0,
         most: 100,
     };
     let want = b"% text too large\n".as_slice();
-    writes(rt, alloc, "run --depth 5", &text, fails, (9, want))
+    assert!(rt; writes(&rt, rt.alloc(), "run --depth 5", &text, fails, (9, want))?);
+    Ok(())
 }
 
 #[test]
-fn a_text_past_the_limit_is_too_large(rt: HostRuntime) {
-    assert!(rt; matches!(is_too_large(&rt, rt.alloc()), Ok(true)));
-}
-
-#[test]
-fn a_beginning_of_an_answer_is_written(rt: HostRuntime) {
+fn a_beginning_of_an_answer_is_written(rt: HostRuntime) -> Result<(), Fail> {
     for (read, write, status, want) in [
         (0, 2, 6, b"R = l(x\\v(".as_slice()),
         (1, 1, 6, b"".as_slice()),
@@ -121,9 +121,10 @@ fn a_beginning_of_an_answer_is_written(rt: HostRuntime) {
             NAMED,
             fails,
             (status, want),
-        );
-        assert!(rt; matches!(done, Ok(true)), "at {read} and {write}");
+        )?;
+        assert!(rt; done, "at {read} and {write}");
     }
+    Ok(())
 }
 
 /// Whether a call on the short text ends with a status, and has written these bytes.
@@ -140,7 +141,7 @@ fn ends<R: Threads + Wait + Sync>(
 
 // The third read isn't made.
 #[test]
-fn each_read_fails_in_turn(rt: HostRuntime) {
+fn each_read_fails_in_turn(rt: HostRuntime) -> Result<(), Fail> {
     for (read, status, want) in [
         (1, 5, b"% read fault\n".as_slice()),
         (2, 5, b"% read fault\n".as_slice()),
@@ -151,9 +152,9 @@ fn each_read_fails_in_turn(rt: HostRuntime) {
             write: 0,
             most: 3,
         };
-        let done = ends(&rt, rt.alloc(), fails, (status, want));
-        assert!(rt; matches!(done, Ok(true)), "at {read}");
+        assert!(rt; ends(&rt, rt.alloc(), fails, (status, want))?, "at {read}");
     }
+    Ok(())
 }
 
 /// Whether a call whose writes take three bytes, and fail after so many, has written what they took.
@@ -175,23 +176,26 @@ fn stops_after<R: Threads + Wait + Sync>(
 }
 
 #[test]
-fn each_write_fails_in_turn(rt: HostRuntime) {
+fn each_write_fails_in_turn(rt: HostRuntime) -> Result<(), Fail> {
     for written in 0..18usize {
-        let stopped = stops_after(&rt, rt.alloc(), written);
-        assert!(rt; matches!(stopped, Ok(true)), "after {written}");
+        assert!(rt; stops_after(&rt, rt.alloc(), written)?, "after {written}");
     }
+    Ok(())
 }
 
 // The nineteenth write isn't made, and a write fault stands in place of a read fault.
 #[test]
-fn a_write_fault_stands_before_another(rt: HostRuntime) {
+fn a_write_fault_stands_before_another(rt: HostRuntime) -> Result<(), Fail> {
     for (read, write, most, status, want) in [
         (0, 19, 3, 0, REPORT),
         (0, 2, 10, 6, b"X = z\nX = ".as_slice()),
         (1, 1, 10, 6, b"".as_slice()),
     ] {
         let fails = Fails { read, write, most };
-        let done = ends(&rt, rt.alloc(), fails, (status, want));
-        assert!(rt; matches!(done, Ok(true)), "at {read} and {write}");
+        assert!(rt;
+            ends(&rt, rt.alloc(), fails, (status, want))?,
+            "at {read} and {write}"
+        );
     }
+    Ok(())
 }

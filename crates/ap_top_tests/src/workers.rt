@@ -6,6 +6,7 @@ use std::alloc::Global;
 use std::sync::Wait;
 use std::sync::atomic::AtomicBool;
 use std::sync::atomic::Ordering::SeqCst;
+use std::test::Fail;
 use std::thread::Threads;
 
 const TURNS: u64 = 200_000_000;
@@ -111,50 +112,53 @@ fn are_the_same_on_each<R: Threads + Wait + Sync>(
 }
 
 #[test]
-fn workers_write_the_same_bytes(rt: HostRuntime) {
+fn workers_write_the_same_bytes(rt: HostRuntime) -> Result<(), Fail> {
     for line in [
         "run --depth 4 --workers 1",
         "run --depth 4 --workers 2",
         "run --workers 64 --depth 4",
     ] {
-        let same = are_the_same_on_each(&rt, rt.alloc(), line);
-        assert!(rt; matches!(same, Ok(true)), "at {line}");
+        assert!(rt; are_the_same_on_each(&rt, rt.alloc(), line)?, "at {line}");
     }
+    Ok(())
 }
 
 #[test]
-fn a_substitution_is_the_same_by_1_2_and_64_workers(rt: HostRuntime) {
+fn a_substitution_is_the_same_by_1_2_and_64_workers(rt: HostRuntime) -> Result<(), Fail> {
     for line in [
         "run --depth 5",
         "run --depth 5 --workers 1",
         "run --workers=2 --depth=05",
         "run --depth=5 --workers 64",
     ] {
-        let bytes = written(&rt, rt.alloc(), line, LAM, &NoGate);
+        let bytes = written(&rt, rt.alloc(), line, LAM, &NoGate)?;
         assert!(rt;
-            matches!(&bytes, Ok(Some(bytes)) if bytes.as_slice() == LAM_REPORT),
+            matches!(&bytes, Some(bytes) if bytes.as_slice() == LAM_REPORT),
             "at {line}"
         );
     }
+    Ok(())
 }
 
 #[test]
-fn eight_workers_cut(rt: HostRuntime) {
-    let bytes = written(&rt, rt.alloc(), "run --depth 1 --workers 8", CUTS, &NoGate);
+fn eight_workers_cut(rt: HostRuntime) -> Result<(), Fail> {
+    let bytes = written(&rt, rt.alloc(), "run --depth 1 --workers 8", CUTS, &NoGate)?;
     let want = b"% cut 2\n% query 1: 0 answers, 2 cut, 0 stuck\n".as_slice();
-    assert!(rt; matches!(&bytes, Ok(Some(bytes)) if bytes.as_slice() == want));
+    assert!(rt; matches!(&bytes, Some(bytes) if bytes.as_slice() == want));
+    Ok(())
 }
 
 #[test]
-fn two_workers_work_at_once(rt: HostRuntime) {
+fn two_workers_work_at_once(rt: HostRuntime) -> Result<(), Fail> {
     let gate = Hold {
         passed: AtomicBool::new(false),
         first: AtomicBool::new(false),
         second: AtomicBool::new(false),
         gave_up: AtomicBool::new(false),
     };
-    let bytes = written(&rt, rt.alloc(), "run --depth 3 --workers 2", FACTS, &gate);
+    let bytes = written(&rt, rt.alloc(), "run --depth 3 --workers 2", FACTS, &gate)?;
     let want = b"yes\nyes\n% query 1: 2 answers, 0 cut, 0 stuck\n".as_slice();
-    assert!(rt; matches!(&bytes, Ok(Some(bytes)) if bytes.as_slice() == want));
+    assert!(rt; matches!(&bytes, Some(bytes) if bytes.as_slice() == want));
     assert!(rt; !gate.gave_up.load(SeqCst), "they have not met");
+    Ok(())
 }

@@ -1,5 +1,5 @@
-//! Tests of the crates of streams, paths, books and workers: `ap_io`, `ap_paths`, `ap_book`, `ap_core`, `ap_tasks`,
-//! `ap_lock` and `ap_steal`, and of the paths of `ap_defs`.
+//! Tests of the crates of paths, books and workers: `ap_paths`, `ap_book`, `ap_core`, `ap_tasks`, `ap_lock` and
+//! `ap_steal`, and of the paths of `ap_defs`.
 #![tactic(auto)]
 
 #[cfg(test)]
@@ -14,7 +14,5 @@ mod pairs;
 mod paths;
 #[cfg(test)]
 mod steal;
-#[cfg(test)]
-mod streams;
 #[cfg(test)]
 mod tasks;
