@@ -1,8 +1,15 @@
-use Rattle.std.proofs.Common.{rules}
+use Rattle.std.proofs.Common.{◌≡◌, ◌+◌, ◌-◌, rules, subst}
 use Rattle.ap_defs.specs.Goals.{program_of}
+use Rattle.ap_report.specs.Queries.{query_report}
 use Rattle.ap_report.proofs.QueryReports.{one_more}
 use Rattle.ap_report.proofs.queries.report_program.Goals as goal
 
--- src/queries.rt:50:5
 pub loop-place-preserved : goal.loop-place-preserved
-loop-place-preserved g c = one_more (program_of c.args.program.now) c.args.depth c.loop-place.place c.loop-place.bytes.items c.deref.result.now c.extend_from_slice.new.self.items (search rules) c.in_ok-extend_from_slice.ensures.items (rw c.deref.ensures.value c.in_ok-report.ensures) c.loop-place.invariant
+loop-place-preserved g c =
+    let program = program_of c.args.program.now in
+    let place = c.loop-place.place in
+    let report = c.in_ok-report.report.items in
+    let made : report ≡ query_report program c.args.depth (place + 1 - 1) =
+    subst (λ d. report ≡ query_report program d (place + 1 - 1)) c.get.ensures.number c.in_ok-report.ensures in
+    one_more program c.args.depth place c.loop-place.bytes.items c.deref.result.now c.extend_from_slice.new.self.items
+    (search rules) c.in_ok-extend_from_slice.ensures.items (rw c.deref.ensures.value made) c.loop-place.invariant
