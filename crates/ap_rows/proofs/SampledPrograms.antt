@@ -265,7 +265,6 @@ sampled_valid_00010 : program_report (programs (signature (codes "id" ∷ []) (c
     ≡ codes "% query 1: 0 answers, 0 cut, 0 stuck\n% query 2: 0 answers, 0 cut, 0 stuck\n"
 unfolding swap_name name_eq name_before unify ending canonical digits
 sampled_valid_00010 = refl
-sampled_valid_00011 = refl
 
 sampled_valid_00012 : program_report (programs (signature (codes "id" ∷ []) (codes "exp" ∷ codes "ty" ∷ []) (constructor (codes "var") ((types.names 0) ∷ []) 0 ∷ constructor (codes "app") ((types.base 0) ∷ (types.base 0) ∷ []) 0 ∷ constructor (codes "lam") ((types.abs 0 (types.base 0)) ∷ []) 0 ∷ constructor (codes "o") [] 1 ∷ constructor (codes "arr") ((types.base 1) ∷ (types.base 1) ∷ []) 1 ∷ []) (((types.pair (types.names 0) (types.base 1)) ∷ (types.list (types.pair (types.names 0) (types.base 1))) ∷ []) ∷ ((types.list (types.pair (types.names 0) (types.base 1))) ∷ (types.base 0) ∷ (types.base 1) ∷ []) ∷ [])) ((clause 0 ((v 0) ∷ (app 1 (pair (v 0) (v 1))) ∷ []) goals.succeed (variable (types.pair (types.names 0) (types.base 1)) (codes "P") ∷ variable (types.list (types.pair (types.names 0) (types.base 1))) (codes "L") ∷ []) ∷ clause 0 ((v 0) ∷ (app 1 (pair (v 1) (v 2))) ∷ []) (goals.atom 0 ((v 0) ∷ (v 2) ∷ [])) (variable (types.pair (types.names 0) (types.base 1)) (codes "P") ∷ variable (types.pair (types.names 0) (types.base 1)) (codes "Q") ∷ variable (types.list (types.pair (types.names 0) (types.base 1))) (codes "L") ∷ []) ∷ []) ∷ (clause 1 ((v 0) ∷ (app 2 (v 1)) ∷ (v 2) ∷ []) (goals.atom 0 ((pair (v 1) (v 2)) ∷ (v 0) ∷ [])) (variable (types.list (types.pair (types.names 0) (types.base 1))) (codes "G") ∷ variable (types.names 0) (codes "X") ∷ variable (types.base 1) (codes "T") ∷ []) ∷ clause 1 ((v 0) ∷ (app 3 (pair (v 1) (v 2))) ∷ (v 3) ∷ []) (goals.both (goals.atom 1 ((v 0) ∷ (v 1) ∷ (app 6 (pair (v 4) (v 3))) ∷ [])) (goals.atom 1 ((v 0) ∷ (v 2) ∷ (v 4) ∷ []))) (variable (types.list (types.pair (types.names 0) (types.base 1))) (codes "G") ∷ variable (types.base 0) (codes "M") ∷ variable (types.base 0) (codes "N") ∷ variable (types.base 1) (codes "U") ∷ variable (types.base 1) (codes "T") ∷ []) ∷ clause 1 ((v 0) ∷ (app 4 (abs (n 0 1) (v 2))) ∷ (app 6 (pair (v 3) (v 4))) ∷ []) (goals.both (goals.fresh (name (n 0 1)) (v 0)) (goals.atom 1 ((app 1 (pair (pair (name (n 0 1)) (v 3)) (v 0))) ∷ (v 2) ∷ (v 4) ∷ []))) (variable (types.list (types.pair (types.names 0) (types.base 1))) (codes "G") ∷ named 0 (codes "x") ∷ variable (types.base 0) (codes "M") ∷ variable (types.base 1) (codes "T") ∷ variable (types.base 1) (codes "U") ∷ []) ∷ []) ∷ []) (query (goals.both (goals.atom 1 ((app 0 unit) ∷ (app 4 (v 0)) ∷ (app 6 (pair (app 6 (pair (v 1) (v 2))) (app 6 (pair (v 3) (app 5 unit))))) ∷ [])) (goals.fresh (v 4) (app 3 (pair (app 4 (abs (n 0 5) (app 2 (name (n 0 6))))) (app 2 (name (n 0 5))))))) (variable (types.abs 0 (types.base 0)) (codes "X") ∷ variable (types.base 1) (codes "Y") ∷ variable (types.base 1) (codes "_1") ∷ variable (types.base 1) (codes "Z") ∷ variable (types.names 0) (codes "_") ∷ named 0 (codes "b") ∷ named 0 (codes "a") ∷ []) ∷ query (goals.atom 0 ((pair (v 0) (v 1)) ∷ (app 1 (pair (pair (name (n 0 2)) (v 1)) (v 3))) ∷ [])) (variable (types.names 0) (codes "X") ∷ variable (types.base 1) (codes "Y") ∷ named 0 (codes "n1") ∷ variable (types.list (types.pair (types.names 0) (types.base 1))) (codes "_1") ∷ []) ∷ []) (codes "id" ∷ codes "exp" ∷ codes "var" ∷ codes "app" ∷ codes "lam" ∷ codes "ty" ∷ codes "o" ∷ codes "arr" ∷ codes "mem" ∷ codes "P" ∷ codes "L" ∷ codes "Q" ∷ codes "tc" ∷ codes "G" ∷ codes "X" ∷ codes "T" ∷ codes "M" ∷ codes "N" ∷ codes "U" ∷ codes "x" ∷ codes "Y" ∷ codes "_1" ∷ codes "Z" ∷ codes "_" ∷ codes "b" ∷ codes "a" ∷ codes "n1" ∷ [])) 1
     ≡ codes "% cut 1\n% query 1: 0 answers, 1 cut, 0 stuck\nX = n1, Y = _2, _1 = _3\n% cut 1\n% query 2: 1 answers, 1 cut, 0 stuck\n"
@@ -286,7 +285,6 @@ sampled_valid_00015 : program_report (programs (signature (codes "id" ∷ []) (c
     ≡ codes "X = _2, Y = _3, _1 = var(_4) where b # _2\n% cut 7\n% query 1: 1 answers, 7 cut, 0 stuck\n% cut 3\n% query 2: 0 answers, 3 cut, 0 stuck\n"
 unfolding swap_name name_eq name_before unify ending canonical digits
 sampled_valid_00015 = refl
-sampled_valid_00016 = refl
 
 sampled_valid_00017 : program_report (programs (signature (codes "id" ∷ []) (codes "exp" ∷ []) (constructor (codes "var") ((types.names 0) ∷ []) 0 ∷ constructor (codes "app") ((types.base 0) ∷ (types.base 0) ∷ []) 0 ∷ constructor (codes "lam") ((types.abs 0 (types.base 0)) ∷ []) 0 ∷ []) (((types.names 0) ∷ (types.base 0) ∷ []) ∷ ((types.base 0) ∷ []) ∷ ((types.base 0) ∷ []) ∷ ((types.abs 0 (types.base 0)) ∷ (types.names 0) ∷ (types.base 0) ∷ []) ∷ ((types.base 0) ∷ (types.base 0) ∷ []) ∷ ((types.base 0) ∷ (types.names 0) ∷ (types.names 0) ∷ []) ∷ ((types.base 0) ∷ (types.base 0) ∷ []) ∷ [])) ((clause 0 ((v 0) ∷ (app 2 (v 0)) ∷ []) goals.succeed (variable (types.names 0) (codes "X") ∷ []) ∷ clause 0 ((v 0) ∷ (app 3 (pair (v 1) (v 2))) ∷ []) (goals.either (goals.atom 0 ((v 0) ∷ (v 1) ∷ [])) (goals.atom 0 ((v 0) ∷ (v 2) ∷ []))) (variable (types.names 0) (codes "X") ∷ variable (types.base 0) (codes "M") ∷ variable (types.base 0) (codes "N") ∷ []) ∷ clause 0 ((v 0) ∷ (app 4 (abs (n 0 1) (v 2))) ∷ []) (goals.both (goals.fresh (name (n 0 1)) (v 0)) (goals.atom 0 ((v 0) ∷ (v 2) ∷ []))) (variable (types.names 0) (codes "X") ∷ named 0 (codes "y") ∷ variable (types.base 0) (codes "M") ∷ []) ∷ []) ∷ (clause 1 ((app 4 (abs (n 0 0) (app 2 (name (n 0 0))))) ∷ []) goals.succeed (named 0 (codes "x") ∷ []) ∷ clause 1 ((app 3 (pair (v 0) (v 1))) ∷ []) (goals.both (goals.atom 1 ((v 0) ∷ [])) (goals.atom 1 ((v 1) ∷ []))) (variable (types.base 0) (codes "M") ∷ variable (types.base 0) (codes "N") ∷ []) ∷ []) ∷ (clause 2 ((v 0) ∷ []) (goals.new (n 0 1) (goals.both (goals.equal (app 4 (abs (n 0 1) (v 0))) (app 4 (abs (n 0 1) (v 0)))) (goals.atom 1 ((v 0) ∷ [])))) (variable (types.base 0) (codes "M") ∷ brought_name 0 (codes "z") ∷ []) ∷ []) ∷ (clause 3 ((v 0) ∷ (v 1) ∷ (v 2) ∷ []) (goals.new (n 0 3) (goals.both (goals.equal (v 0) (abs (n 0 3) (v 4))) (goals.both (goals.equal (v 2) (v 4)) (goals.equal (v 1) (v 1))))) (variable (types.abs 0 (types.base 0)) (codes "F") ∷ variable (types.names 0) (codes "X") ∷ variable (types.base 0) (codes "N") ∷ brought_name 0 (codes "y") ∷ variable (types.base 0) (codes "M") ∷ []) ∷ clause 3 ((v 0) ∷ (v 1) ∷ (v 2) ∷ []) (goals.either (goals.exists (record { num = 3 }) (goals.both (goals.equal (v 3) (v 2)) (goals.fresh (v 1) (v 2)))) (goals.equal (v 0) (v 0))) (variable (types.abs 0 (types.base 0)) (codes "F") ∷ variable (types.names 0) (codes "X") ∷ variable (types.base 0) (codes "N") ∷ some_variable (types.base 0) (codes "M") ∷ []) ∷ []) ∷ (clause 4 ((v 0) ∷ (v 0) ∷ []) goals.succeed (variable (types.base 0) (codes "M") ∷ []) ∷ clause 4 ((app 4 (abs (n 0 0) (v 1))) ∷ (app 4 (abs (n 0 0) (v 2))) ∷ []) (goals.atom 4 ((v 1) ∷ (v 2) ∷ [])) (named 0 (codes "x") ∷ variable (types.base 0) (codes "M") ∷ variable (types.base 0) (codes "N") ∷ []) ∷ clause 4 ((app 3 (pair (v 0) (v 1))) ∷ (app 3 (pair (v 2) (v 3))) ∷ []) (goals.both (goals.atom 4 ((v 0) ∷ (v 2) ∷ [])) (goals.atom 4 ((v 1) ∷ (v 3) ∷ []))) (variable (types.base 0) (codes "M") ∷ variable (types.base 0) (codes "N") ∷ variable (types.base 0) (codes "P") ∷ variable (types.base 0) (codes "Q") ∷ []) ∷ []) ∷ (clause 5 ((app 2 (v 0)) ∷ (v 0) ∷ (v 1) ∷ []) (goals.fresh (v 0) (v 1)) (variable (types.names 0) (codes "X") ∷ variable (types.names 0) (codes "Y") ∷ []) ∷ clause 5 ((app 4 (abs (n 0 0) (v 1))) ∷ (v 2) ∷ (v 3) ∷ []) (goals.both (goals.fresh (name (n 0 0)) (v 2)) (goals.both (goals.fresh (name (n 0 0)) (v 3)) (goals.either (goals.atom 5 ((v 1) ∷ (v 2) ∷ (v 3) ∷ [])) (goals.atom 5 ((v 1) ∷ (v 3) ∷ (v 2) ∷ []))))) (named 0 (codes "x") ∷ variable (types.base 0) (codes "M") ∷ variable (types.names 0) (codes "X") ∷ variable (types.names 0) (codes "Y") ∷ []) ∷ []) ∷ (clause 6 ((app 4 (abs (n 0 0) (app 4 (abs (n 0 1) (v 2))))) ∷ (v 3) ∷ []) (goals.both (goals.fresh (name (n 0 0)) (v 3)) (goals.both (goals.fresh (name (n 0 1)) (v 3)) (goals.equal (v 2) (v 3)))) (named 0 (codes "x") ∷ named 0 (codes "y") ∷ variable (types.base 0) (codes "M") ∷ variable (types.base 0) (codes "N") ∷ []) ∷ clause 6 ((app 4 (abs (n 0 0) (app 4 (abs (n 0 1) (v 2))))) ∷ (app 4 (abs (n 0 1) (app 4 (abs (n 0 0) (v 2))))) ∷ []) goals.succeed (named 0 (codes "x") ∷ named 0 (codes "y") ∷ variable (types.base 0) (codes "M") ∷ []) ∷ clause 6 ((v 0) ∷ (app 4 (abs (n 0 1) (susp (swap_of (n 0 1) (n 0 2) ∷ []) (record { num = 0 })))) ∷ []) (goals.both (goals.fresh (name (n 0 1)) (v 0)) (goals.both (goals.fresh (name (n 0 2)) (v 0)) (goals.both (goals.fresh (name (n 0 2)) (susp (swap_of (n 0 1) (n 0 2) ∷ []) (record { num = 0 }))) (goals.exists (record { num = 3 }) (goals.both (goals.equal (v 3) (app 3 (pair (v 0) (susp (swap_of (n 0 1) (n 0 2) ∷ []) (record { num = 0 }))))) (goals.fresh (name (n 0 1)) (v 3))))))) (variable (types.base 0) (codes "M") ∷ named 0 (codes "x") ∷ named 0 (codes "y") ∷ some_variable (types.base 0) (codes "N") ∷ []) ∷ []) ∷ []) (query (goals.atom 0 ((name (n 0 0)) ∷ (app 3 (pair (app 3 (pair (v 1) (v 1))) (app 2 (v 2)))) ∷ [])) (named 0 (codes "n1") ∷ variable (types.base 0) (codes "X") ∷ variable (types.names 0) (codes "Y") ∷ []) ∷ query (goals.both (goals.atom 3 ((v 0) ∷ (name (n 0 1)) ∷ (app 3 (pair (v 2) (v 2))) ∷ [])) (goals.atom 1 ((app 3 (pair (v 3) (app 2 (name (n 0 1))))) ∷ []))) (variable (types.abs 0 (types.base 0)) (codes "X") ∷ named 0 (codes "a") ∷ variable (types.base 0) (codes "Y") ∷ variable (types.base 0) (codes "_1") ∷ []) ∷ []) (codes "id" ∷ codes "exp" ∷ codes "var" ∷ codes "app" ∷ codes "lam" ∷ codes "free" ∷ codes "X" ∷ codes "M" ∷ codes "N" ∷ codes "y" ∷ codes "notin" ∷ codes "x" ∷ codes "closed" ∷ codes "z" ∷ codes "inst" ∷ codes "F" ∷ codes "eqv" ∷ codes "P" ∷ codes "Q" ∷ codes "var2" ∷ codes "Y" ∷ codes "two" ∷ codes "n1" ∷ codes "a" ∷ codes "_1" ∷ [])) 3
     ≡ codes "X = var(n1), Y = _2\n% cut 3\nX = var(n1), Y = _2\n% cut 3\nX = _2, Y = n1\n% query 1: 3 answers, 6 cut, 0 stuck\n% cut 6\n% query 2: 0 answers, 6 cut, 0 stuck\n"
@@ -352,7 +350,6 @@ sampled_valid_00029 : program_report (programs (signature (codes "id" ∷ []) (c
     ≡ codes "% stuck 1\n% query 1: 0 answers, 0 cut, 1 stuck\nX = _2, Y = _3\n% query 2: 1 answers, 0 cut, 0 stuck\n"
 unfolding swap_name name_eq name_before unify ending canonical digits
 sampled_valid_00029 = refl
-sampled_valid_00030 = refl
 
 sampled_valid_00031 : program_report (programs (signature (codes "id" ∷ codes "nm" ∷ codes "tv" ∷ []) (codes "exp" ∷ codes "ty" ∷ []) (constructor (codes "q") [] 0 ∷ constructor (codes "h") ((types.base 1) ∷ (types.base 0) ∷ (types.names 2) ∷ []) 0 ∷ constructor (codes "g") ((types.base 1) ∷ (types.pair (types.base 0) (types.base 1)) ∷ []) 0 ∷ constructor (codes "s") ((types.names 2) ∷ []) 1 ∷ constructor (codes "z") ((types.abs 0 (types.base 0)) ∷ []) 1 ∷ []) (((types.base 1) ∷ (types.base 1) ∷ (types.list (types.names 0)) ∷ []) ∷ ((types.abs 1 (types.abs 1 (types.base 1))) ∷ []) ∷ (types.unit ∷ []) ∷ [])) ((clause 0 ((app 6 (abs (n 0 0) (v 1))) ∷ (v 2) ∷ (app 0 unit) ∷ []) goals.succeed (named 0 (codes "b") ∷ variable (types.base 0) (codes "X") ∷ variable (types.base 1) (codes "Y") ∷ []) ∷ clause 0 ((v 0) ∷ (app 6 (v 1)) ∷ (app 0 unit) ∷ []) goals.succeed (variable (types.base 1) (codes "X") ∷ variable (types.abs 0 (types.base 0)) (codes "Y") ∷ []) ∷ []) ∷ (clause 1 ((abs (n 1 0) (v 1)) ∷ []) goals.succeed (named 1 (codes "m") ∷ variable (types.abs 1 (types.base 1)) (codes "X") ∷ []) ∷ []) ∷ (clause 2 (unit ∷ []) (goals.atom 2 (unit ∷ [])) [] ∷ []) ∷ []) (query (goals.both (goals.atom 0 ((app 6 (abs (n 0 0) (app 2 unit))) ∷ (v 1) ∷ (app 0 unit) ∷ [])) (goals.both (goals.atom 2 (unit ∷ [])) (goals.atom 2 (unit ∷ [])))) (named 0 (codes "a") ∷ variable (types.base 1) (codes "X") ∷ []) ∷ query (goals.both (goals.atom 2 ((v 0) ∷ [])) (goals.both (goals.atom 0 ((app 6 (abs (n 0 1) (v 2))) ∷ (app 5 (name (n 2 3))) ∷ (app 1 (pair (susp (swap_of (n 0 4) (n 0 1) ∷ []) (record { num = 5 })) (susp (swap_of (n 0 4) (n 0 1) ∷ []) (record { num = 6 })))) ∷ [])) (goals.equal (name (n 2 7)) (name (n 2 3))))) (variable types.unit (codes "X") ∷ named 0 (codes "n1") ∷ variable (types.base 0) (codes "Y") ∷ named 2 (codes "u") ∷ named 0 (codes "b") ∷ variable (types.names 0) (codes "_1") ∷ variable (types.list (types.names 0)) (codes "Z") ∷ named 2 (codes "w") ∷ []) ∷ []) (codes "id" ∷ codes "nm" ∷ codes "tv" ∷ codes "exp" ∷ codes "ty" ∷ codes "q" ∷ codes "h" ∷ codes "g" ∷ codes "s" ∷ codes "z" ∷ codes "p0" ∷ codes "p1" ∷ codes "p2" ∷ codes "m" ∷ codes "X" ∷ codes "b" ∷ codes "Y" ∷ codes "a" ∷ codes "n1" ∷ codes "u" ∷ codes "_1" ∷ codes "Z" ∷ codes "w" ∷ [])) 2
     ≡ codes "% cut 2\n% query 1: 0 answers, 2 cut, 0 stuck\n% cut 1\n% query 2: 0 answers, 1 cut, 0 stuck\n"
@@ -373,8 +370,6 @@ sampled_valid_00034 : program_report (programs (signature (codes "id" ∷ []) (c
     ≡ codes "X = _2, Y = (n1,_2), _1 = _3\nX = _2, Y = (n1,_2), _1 = _3\nX = _2, Y = _3, _1 = [(n1,_2)|_4]\nX = _2, Y = _3, _1 = [_4,(n1,_2)|_5]\n% cut 1\n% query 1: 4 answers, 1 cut, 0 stuck\n% cut 14\n% query 2: 0 answers, 14 cut, 0 stuck\n"
 unfolding swap_name name_eq name_before unify ending canonical digits
 sampled_valid_00034 = refl
-sampled_valid_00035 = refl
-sampled_valid_00036 = refl
 
 sampled_valid_00037 : program_report (programs (signature (codes "id" ∷ []) (codes "exp" ∷ []) (constructor (codes "s") ((types.names 0) ∷ []) 0 ∷ []) ((types.unit ∷ []) ∷ [])) ((clause 0 ((v 0) ∷ []) goals.succeed (variable types.unit (codes "X") ∷ []) ∷ clause 0 ((v 0) ∷ []) goals.succeed (variable types.unit (codes "X") ∷ []) ∷ clause 0 ((v 0) ∷ []) goals.succeed (variable types.unit (codes "X") ∷ []) ∷ clause 0 (unit ∷ []) goals.succeed [] ∷ []) ∷ []) (query (goals.both (goals.atom 0 (unit ∷ [])) (goals.both (goals.atom 0 (unit ∷ [])) (goals.atom 0 (unit ∷ [])))) (named 0 (codes "a") ∷ named 0 (codes "n1") ∷ []) ∷ query (goals.equal (app 2 (name (n 0 0))) (app 2 (v 1))) (named 0 (codes "b") ∷ variable (types.names 0) (codes "X") ∷ []) ∷ []) (codes "id" ∷ codes "exp" ∷ codes "s" ∷ codes "p0" ∷ codes "X" ∷ codes "a" ∷ codes "n1" ∷ codes "b" ∷ [])) 4
     ≡ codes "yes\nyes\nyes\nyes\nyes\nyes\nyes\nyes\nyes\nyes\nyes\nyes\nyes\nyes\nyes\nyes\nyes\nyes\nyes\nyes\nyes\nyes\nyes\nyes\nyes\nyes\nyes\nyes\nyes\nyes\nyes\nyes\nyes\nyes\nyes\nyes\nyes\nyes\nyes\nyes\nyes\nyes\nyes\nyes\nyes\nyes\nyes\nyes\nyes\nyes\nyes\nyes\nyes\nyes\nyes\nyes\nyes\nyes\nyes\nyes\nyes\nyes\nyes\nyes\n% query 1: 64 answers, 0 cut, 0 stuck\nX = b\n% query 2: 1 answers, 0 cut, 0 stuck\n"
