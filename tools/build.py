@@ -114,7 +114,8 @@ def being_proved(names):
             here = os.readlink(f"/proc/{process}/cwd").startswith(TOP)
         except OSError:
             continue
-        if here and "--crate-name" in words:
+        # A look at the sources alone, which comes before the proofs, is told by its word --only.
+        if here and "--crate-name" in words and "--only" not in words:
             found.add(words[words.index("--crate-name") + 1])
     return [name for name in names if name in found]
 
@@ -218,6 +219,7 @@ def build():
         f"about {estimate(left, below, jobs)} minutes. The log is {LOG}"
     )
     say("to look sooner, without proofs: ./alphaprolog-unproved with the same words")
+    say("first the sources are read, which takes a minute")
     open(LOG, "w", encoding="utf-8").close()
     proves = ["rt", "all", "check", "--jobs", str(jobs)]
     for words in (proves, ["rt", "run", "--", "run", "--depth", "1"]):
@@ -238,6 +240,11 @@ def main():
 
 
 if __name__ == "__main__":
-    # A stop by a signal is an interrupt like that of the keyboard.
-    signal.signal(signal.SIGTERM, signal.default_int_handler)
-    main()
+    # A stop by a signal is an interrupt like that of the keyboard, also where that one was ignored.
+    for stop in (signal.SIGINT, signal.SIGTERM, signal.SIGHUP):
+        signal.signal(stop, signal.default_int_handler)
+    try:
+        main()
+    except KeyboardInterrupt:
+        say("interrupted: start again to go on")
+        sys.exit(130)
