@@ -30,7 +30,7 @@ pub struct Speller<'a> {
     pub constructors: &'a [Constructor],
 }
 
-// Writes the text at this place, if there is one.
+/// Writes the text at this place, if there is one.
 fn write_at(out: &mut Vec<u8>, texts: &[Text], place: usize) -> Result<(), Memory>
     ensures { OnOk result (out.new.items ≡ out.old.items ++ text_at texts.now (Some place)) }
 {

@@ -30,7 +30,7 @@ impl Kids {
     }
 }
 
-// The choices of the path's kids.
+/// The choices of the path's kids.
 fn make_kids(alloc: Global, path: &Path, kids: &[u32]) -> Result<Vec<Vec<u32>>, Memory>
     ensures { IfOk result (λ v. paths_of v.items ≡ kids_of path.now kids.now) }
 {

@@ -38,7 +38,7 @@ fn gather(alloc: Global, history: Vec<Entry>) -> Result<Endings, Memory>
     Ok(endings)
 }
 
-// Puts what an entry ends into its place.
+/// Puts what an entry ends into its place.
 fn enter(alloc: Global, endings: &mut Endings, entry: Entry) -> Result<(), Memory>
     ensures { IfOk result (λ _. endings.new ≡ ended_from endings.old (entry ∷ [])) }
 {

@@ -11,7 +11,7 @@ use ap_defs::paths::Path;
 use std::alloc::Global;
 use std::collections::HashSet;
 
-// The empty path alone.
+/// The empty path alone.
 pub fn only_root(alloc: Global) -> Result<HashSet<Vec<u32>>, Memory>
     ensures { IfOk result (λ s. HaveSame (paths_of s.keys) ([] ∷ [])) }
 {
@@ -20,14 +20,14 @@ pub fn only_root(alloc: Global) -> Result<HashSet<Vec<u32>>, Memory>
     Ok(opened)
 }
 
-// Whether the path is in the set.
+/// Whether the path is in the set.
 pub fn has(opened: &HashSet<Vec<u32>>, path: &Path) -> bool
     ensures { result ≡ is_open path.now (paths_of opened.now.keys) }
 {
     opened.contains(path.choices())
 }
 
-// Takes memory for so many more paths.
+/// Takes memory for so many more paths.
 pub fn make_room(opened: &mut HashSet<Vec<u32>>, more: usize) -> Result<(), Memory>
     ensures same { HaveSame (paths_of opened.new.keys) (paths_of opened.old.keys) }
     ensures room { OnOk result (more ≤ spare opened.new) }
@@ -36,7 +36,7 @@ pub fn make_room(opened: &mut HashSet<Vec<u32>>, more: usize) -> Result<(), Memo
     Ok(())
 }
 
-// Takes a path out of the set, and gives what stood there.
+/// Takes a path out of the set, and gives what stood there.
 pub fn take_out(opened: &mut HashSet<Vec<u32>>, path: &Path) -> Vec<u32>
     requires { is_open path.now (paths_of opened.old.keys) ≡ true }
     ensures path { result.items ≡ path.now }
@@ -49,7 +49,7 @@ pub fn take_out(opened: &mut HashSet<Vec<u32>>, path: &Path) -> Vec<u32>
     taken
 }
 
-// Puts paths that are not there in the place of one, where there is room for them, and gives that one.
+/// Puts paths that are not there in the place of one, where there is room for them, and gives that one.
 pub fn replace(opened: &mut HashSet<Vec<u32>>, path: &Path, kids: Vec<Vec<u32>>) -> Vec<u32>
     requires there { is_open path.now (paths_of opened.old.keys) ≡ true }
     requires room { vec_len kids ≤ spare opened.old }
@@ -62,7 +62,7 @@ pub fn replace(opened: &mut HashSet<Vec<u32>>, path: &Path, kids: Vec<Vec<u32>>)
     taken
 }
 
-// Adds paths that are not there, for which there is room.
+/// Adds paths that are not there, for which there is room.
 fn add_all(opened: &mut HashSet<Vec<u32>>, mut paths: Vec<Vec<u32>>)
     requires room { vec_len paths ≤ spare opened.old }
     requires once { (q : list ℕ) → times_in (paths_of paths.items) q + times_in (paths_of opened.old.keys) q ≤ 1 }

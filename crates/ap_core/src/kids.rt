@@ -10,8 +10,8 @@ use ap_defs::paths::Path;
 use ap_paths::Tree;
 use std::alloc::Global;
 
-// Whether the kids are ascending choices of the path, and each choice that they leave out has no
-// outputs below it.
+/// Whether the kids are ascending choices of the path, and each choice that they leave out has no
+/// outputs below it.
 pub fn are_kids<T: Tree>(alloc: Global, tree: &T, path: &Path, kids: &[u32]) -> Result<bool, Memory>
     requires { InTree (T.choices tree.now) path.now }
     ensures { IfOk result (λ b. MatchBool b (AreKids (T.choices tree.now) (T.at tree.now) path.now kids.now) (AreKids (T.choices tree.now) (T.at tree.now) path.now kids.now → ⊥)) }
@@ -23,7 +23,7 @@ pub fn are_kids<T: Tree>(alloc: Global, tree: &T, path: &Path, kids: &[u32]) -> 
     Ok(covered)
 }
 
-// Whether each of the choices is the next of the kids, or has no outputs below it, with no kid left.
+/// Whether each of the choices is the next of the kids, or has no outputs below it, with no kid left.
 fn cover<T: Tree>(
     alloc: Global,
     tree: &T,
@@ -46,7 +46,7 @@ fn cover<T: Tree>(
     Ok(next == kids.len())
 }
 
-// Whether the number stands at this place.
+/// Whether the number stands at this place.
 fn starts_at(kids: &[u32], at: usize, k: u32) -> bool
     requires { at ≤ length kids.now }
     ensures { result ≡ starts k (drop at kids.now) }
@@ -54,7 +54,7 @@ fn starts_at(kids: &[u32], at: usize, k: u32) -> bool
     at < kids.len() && kids[at] == k
 }
 
-// Whether nothing is below a choice of the path.
+/// Whether nothing is below a choice of the path.
 fn is_barren<T: Tree>(alloc: Global, tree: &T, path: &Path, k: u32) -> Result<bool, Memory>
     requires { InTree (T.choices tree.now) (path.now ++ k ∷ []) }
     ensures { IfOk result (λ b. b ≡ is_none (T.at tree.now (path.now ++ k ∷ []))) }

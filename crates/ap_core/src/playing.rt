@@ -40,7 +40,7 @@ pub fn play<T: Tree>(
     Ok(Some(core))
 }
 
-// So many workers, the first one with the empty path in its hand.
+/// So many workers, the first one with the empty path in its hand.
 fn gather(alloc: Global, workers: u32) -> Result<Vec<Worker>, Memory>
     requires { 1 ≤ workers }
     ensures { IfOk result (λ v. state_of v.items [] ≡ start workers) }
@@ -72,7 +72,7 @@ fn core_of(alloc: Global, team: Vec<Worker>, endings: Endings) -> Result<Core, M
     })
 }
 
-// The hands and the deques of all workers.
+/// The hands and the deques of all workers.
 fn rows_of(alloc: Global, team: Vec<Worker>) -> Result<(Vec<List<Path>>, Vec<List<Path>>), Memory>
     ensures hands { IfOk result (λ r. r.0.items ≡ hands_of team.items) }
     ensures deques { IfOk result (λ r. r.1.items ≡ deques_of team.items) }
@@ -97,7 +97,7 @@ fn row_of(alloc: Global, mut paths: VecDeque<Path>) -> Result<List<Path>, Memory
     Ok(List::of(row))
 }
 
-// Adds copies of all paths of these rows.
+/// Adds copies of all paths of these rows.
 fn copy_rows(alloc: Global, all: &mut Vec<Path>, rows: &[List<Path>]) -> Result<(), Memory>
     ensures { IfOk result (λ _. all.new.items ≡ all.old.items ++ joined_all rows.now) }
 {

@@ -13,7 +13,7 @@ use ap_defs::paths::Event;
 use ap_paths::{Endings, Tree};
 use std::alloc::Global;
 
-// Replaces the first path in the hand of a worker by its kids.
+/// Replaces the first path in the hand of a worker by its kids.
 fn split<T: Tree>(
     alloc: Global,
     tree: &T,
@@ -39,7 +39,7 @@ fn split<T: Tree>(
     Ok(true)
 }
 
-// Ends the first path in the hand of a worker, with the outputs below it.
+/// Ends the first path in the hand of a worker, with the outputs below it.
 fn done<T: Tree>(
     alloc: Global,
     tree: &T,
@@ -62,7 +62,7 @@ fn done<T: Tree>(
     Ok(true)
 }
 
-// Whether the event is permitted. If so, it is taken.
+/// Whether the event is permitted. If so, it is taken.
 pub fn take<T: Tree>(
     alloc: Global,
     tree: &T,

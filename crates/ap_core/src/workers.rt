@@ -12,7 +12,7 @@ use ap_defs::paths::Path;
 use std::alloc::Global;
 use std::collections::VecDeque;
 
-// A worker runs the first path of its hand, and lends the others by its deque.
+/// A worker runs the first path of its hand, and lends the others by its deque.
 #[derive(Drop)]
 pub struct Worker {
     pub hand: VecDeque<Path>,
@@ -20,6 +20,7 @@ pub struct Worker {
 }
 
 impl Worker {
+    /// A worker with nothing in its hand and its deque.
     pub fn new(alloc: Global) -> Worker
         ensures hand { result.hand.items ≡ [] }
         ensures deque { result.deque.items ≡ [] }
@@ -30,7 +31,7 @@ impl Worker {
         }
     }
 
-    // Puts the last path of the hand at the back of the deque.
+    /// Puts the last path of the hand at the back of the deque.
     fn push(&mut self) -> Result<bool, Memory>
         ensures { IfOk result (λ b. Pushed self.old b self.new) }
     {
@@ -41,7 +42,7 @@ impl Worker {
         Ok(true)
     }
 
-    // Takes the last path of the deque into the hand, if that is empty.
+    /// Takes the last path of the deque into the hand, if that is empty.
     fn pop(&mut self) -> Result<bool, Memory>
         ensures { IfOk result (λ b. Popped self.old b self.new) }
     {
@@ -55,28 +56,28 @@ impl Worker {
         Ok(true)
     }
 
-    // Whether the hand is empty.
+    /// Whether the hand is empty.
     fn is_idle(&self) -> bool
         ensures { IsTrue result ↔ (self.now.hand.items ≡ []) }
     {
         self.hand.is_empty()
     }
 
-    // Gives the first path of the deque away.
+    /// Gives the first path of the deque away.
     fn give(&mut self) -> Option<Path>
         ensures { Gave self.old result self.new }
     {
         self.deque.pop_front()
     }
 
-    // Takes the first path out of the hand.
+    /// Takes the first path out of the hand.
     pub fn begin(&mut self) -> Option<Path>
         ensures { Began self.old result self.new }
     {
         self.hand.pop_front()
     }
 
-    // Takes a path into the hand, behind the others.
+    /// Takes a path into the hand, behind the others.
     pub fn take(&mut self, path: Path) -> Result<(), Memory>
         ensures hand { IfOk result (λ _. self.new.hand.items ≡ self.old.hand.items ++ path ∷ []) }
         ensures deque { IfOk result (λ _. self.new.deque.items ≡ self.old.deque.items) }
@@ -85,7 +86,7 @@ impl Worker {
         Ok(())
     }
 
-    // Takes the kids of a path into the hand, before the others.
+    /// Takes the kids of a path into the hand, before the others.
     pub fn take_kids(&mut self, alloc: Global, path: &Path, kids: &[u32]) -> Result<(), Memory>
         ensures hand { IfOk result (λ _. self.new.hand.items ≡ kids_of path.now kids.now ++ self.old.hand.items) }
         ensures deque { IfOk result (λ _. self.new.deque.items ≡ self.old.deque.items) }
@@ -98,6 +99,7 @@ impl Worker {
     }
 }
 
+/// Whether a worker may put a path from its hand into its deque. If so, it does.
 pub fn push(workers: &mut [Worker], w: usize) -> Result<bool, Memory>
     ensures { (ends : list Ending) → IfOk result (λ b. Answered (Pushes (state_of workers.old ends) w) b (state_of workers.new ends)) }
 {
@@ -108,6 +110,7 @@ pub fn push(workers: &mut [Worker], w: usize) -> Result<bool, Memory>
     worker.push()
 }
 
+/// Whether a worker may take a path back from its deque. If so, it does.
 pub fn pop(workers: &mut [Worker], w: usize) -> Result<bool, Memory>
     ensures { (ends : list Ending) → IfOk result (λ b. Answered (Pops (state_of workers.old ends) w) b (state_of workers.new ends)) }
 {
@@ -118,6 +121,7 @@ pub fn pop(workers: &mut [Worker], w: usize) -> Result<bool, Memory>
     worker.pop()
 }
 
+/// Whether a worker may take a path from the deque of another. If so, it does.
 pub fn steal(workers: &mut [Worker], w: usize, from: usize) -> Result<bool, Memory>
     ensures { (ends : list Ending) → IfOk result (λ b. Answered (Steals (state_of workers.old ends) w from) b (state_of workers.new ends)) }
 {

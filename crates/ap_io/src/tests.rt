@@ -38,7 +38,7 @@ fn a_sink_takes_what_it_has_room_for(rt: HostRuntime) -> Result<(), Fail> {
     Ok(())
 }
 
-// A stream of std that fails at its second call.
+/// A stream of std that fails at its second call.
 #[derive(Drop)]
 struct Halting {
     calls: u8,
@@ -62,7 +62,7 @@ impl Read for Halting {
 }
 
 impl Write for Halting {
-    // From its third call on it takes no bytes.
+    /// From its third call on it takes no bytes.
     fn write(&mut self, piece: &[u8]) -> io::Result<usize> {
         self.turn()?;
         Ok(if self.calls > 2 { 0 } else { piece.len() })

@@ -23,6 +23,7 @@ pub enum Outcome {
 }
 
 impl Outcome {
+    /// How it is told.
     pub fn text(self) -> &'static str {
         match self {
             Outcome::NotRead => "not read",

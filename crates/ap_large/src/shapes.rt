@@ -18,6 +18,7 @@ const PARTS: u32 = 1_000_000;
 
 const LEVELS: u32 = 250;
 
+/// The goals that are read, written and dropped, by their names.
 pub const SHAPES: [Shape<'static>; 9] = [
     Shape {
         name: "a conjunction of 1,000,000 parts",
@@ -109,6 +110,7 @@ fn push_often(out: &mut Vec<u8>, count: u32, text: &str) -> Result<(), AllocErro
     Ok(())
 }
 
+/// The text of a goal, or want of memory.
 pub fn goal_of_shape(alloc: Global, shape: &Shape<'_>) -> Result<Vec<u8>, AllocError> {
     let mut out = Vec::new(alloc);
     out.extend_from_slice(shape.begin.as_bytes())?;

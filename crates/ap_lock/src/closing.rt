@@ -32,7 +32,7 @@ impl SharedBook {
         Ok((desk, list))
     }
 
-    // A book, and the one seat that stands for all.
+    /// A book, and the one seat that stands for all.
     fn with_all(alloc: Global, seats: u32) -> Result<(SharedBook, Raw), Memory>
         requires { (0 < seats) × (seats ≤ 64) }
         ensures { IfOk result (λ r. (seats_of r.0 ≡ seats) × (r.1.table_id ≡ book_id r.0) × (r.1.me ≡ (view Idle (fresh 0 seats), []))) }
@@ -45,7 +45,7 @@ impl SharedBook {
         Ok((SharedBook { table }, first))
     }
 
-    // The seats, each with one number.
+    /// The seats, each with one number.
     fn cut_seats(&self, mut first: Raw, mut list: Vec<Seat>, seats: u32) -> Vec<Seat>
         requires seats { (0 < seats) × (first.table_id ≡ book_id self.now) × (first.me ≡ (view Idle (fresh 0 seats), [])) }
         requires list { (list.items ≡ []) × (seats ≤ vec_capacity list) }
@@ -62,7 +62,7 @@ impl SharedBook {
         list
     }
 
-    // One seat that stands for all.
+    /// One seat that stands for all.
     fn unite(&self, last: Seat, mut seats: Vec<Seat>) -> Raw
         requires { (last.book ≡ book_id self.now) × AreOf (book_id self.now) seats.items }
         ensures { (result.table_id ≡ book_id self.now) × IsUnited result (seats.items ++ last ∷ []) }
@@ -78,7 +78,7 @@ impl SharedBook {
         first
     }
 
-    // The book, where the one seat that stands for all is given.
+    /// The book, where the one seat that stands for all is given.
     fn take_out(self, first: Raw) -> Book
         requires { (first.table_id ≡ book_id self) × (first.me.0.stage ≡ Idle) × (length first.me.0.owns ≡ seats_of self) }
         ensures known { AreKnown result first.me.0.owns }
@@ -92,7 +92,7 @@ impl SharedBook {
         book
     }
 
-    // The book itself, where all seats are given.
+    /// The book itself, where all seats are given.
     fn finish(self, mut seats: Vec<Seat>) -> Book
         requires { AreOf (book_id self) seats.items × (length seats.items ≡ seats_of self) }
         ensures logged { AreLogged result seats.items }

@@ -10,7 +10,7 @@ use ap_defs::memory::Memory;
 use ap_defs::paths::Entry;
 use std::alloc::Global;
 
-// The number of the seat that made an entry.
+/// The number of the seat that made an entry.
 fn maker(entry: &Entry) -> u32
     ensures { result ≡ maker_of entry.now }
 {
@@ -29,7 +29,7 @@ fn maker(entry: &Entry) -> u32
     }
 }
 
-// Adds the place of an entry to the log of its number, if there is one.
+/// Adds the place of an entry to the log of its number, if there is one.
 fn note(entry: &Entry, place: u64, logs: &mut Vec<Vec<u64>>) -> Result<(), Memory>
     ensures { IfOk result (λ _. lists_of logs.new.items ≡ noted (maker_of entry.now) place (lists_of logs.old.items)) }
 {
@@ -41,7 +41,7 @@ fn note(entry: &Entry, place: u64, logs: &mut Vec<Vec<u64>>) -> Result<(), Memor
     Ok(())
 }
 
-// So many logs without a place.
+/// So many logs without a place.
 fn make_empty(alloc: Global, seats: usize) -> Result<Vec<Vec<u64>>, Memory>
     ensures { IfOk result (λ v. lists_of v.items ≡ logs_of seats []) }
 {
@@ -52,7 +52,7 @@ fn make_empty(alloc: Global, seats: usize) -> Result<Vec<Vec<u64>>, Memory>
     Ok(logs)
 }
 
-// The places of all entries, each in the log of its number.
+/// The places of all entries, each in the log of its number.
 fn note_all(alloc: Global, history: &[Entry], seats: usize) -> Result<Vec<Vec<u64>>, Memory>
     ensures { IfOk result (λ v. lists_of v.items ≡ logs_of seats history.now) }
 {

@@ -14,21 +14,22 @@ use std::alloc::Global;
 use std::hint;
 use std::sync::Wait;
 
+/// A seat of the table in which the book stands, with what it has seen of it.
 pub type Raw = Seat<Option<Book>, View>;
 
-// The word of tickets drawn.
+/// The word of tickets drawn.
 const TICKET: usize = 0;
 
-// The word of tickets served.
+/// The word of tickets served.
 const SERVING: usize = 1;
 
-// The slot of the book.
+/// The slot of the book.
 const BOOK: usize = 0;
 
-// Who waits looks so often before it leaves the processor to others.
+/// Who waits looks so often before it leaves the processor to others.
 const LOOKS: u32 = 64;
 
-// Lets a moment pass, and counts it. Turns are short, so the first ones are short.
+/// Lets a moment pass, and counts it. Turns are short, so the first ones are short.
 fn pause(looks: u32, backoff: &Backoff) -> u32 {
     if looks < LOOKS {
         hint::spin_loop();
@@ -48,8 +49,8 @@ pub struct SharedBook {
 }
 
 impl SharedBook {
-    // Waits until nobody seems to have the turn or a ticket, or until it has let others go first for long.
-    // Who has a ticket and is kept from running holds up all that drew one later, so none is drawn early.
+    /// Waits until nobody seems to have the turn or a ticket, or until it has let others go first for long.
+    /// Who has a ticket and is kept from running holds up all that drew one later, so none is drawn early.
     fn stand_off(&self) {
         let backoff = Backoff::new();
         let mut looks = 0;
@@ -61,7 +62,7 @@ impl SharedBook {
         }
     }
 
-    // The ticket that was drawn, as the word has it.
+    /// The ticket that was drawn, as the word has it.
     fn draw(&self, seat: &mut Raw) -> u64
         requires { (seat.old.table_id ≡ self.now.table.shared.table_id) × IsIdle seat.old.me }
         ensures { (seat.new.table_id ≡ seat.old.table_id) × IsWaiting seat.old.me.0 result seat.new.me }
@@ -69,7 +70,7 @@ impl SharedBook {
         self.table.shared.fetch_add::<Draw>(seat, TICKET, 1)
     }
 
-    // Waits for the turn.
+    /// Waits for the turn.
     pub(crate) fn take<R: Wait>(&self, rt: &R, seat: &mut Raw)
         requires { (seat.old.table_id ≡ self.now.table.shared.table_id) × IsIdle seat.old.me }
         ensures { (seat.new.table_id ≡ seat.old.table_id) × ((history : list Entry) × HasTurn seat.old.me.0 history seat.new.me) }
@@ -87,7 +88,7 @@ impl SharedBook {
         unreachable!()
     }
 
-    // Ends the turn, with the book at home.
+    /// Ends the turn, with the book at home.
     pub(crate) fn end(&self, seat: &mut Raw)
         requires { (seat.old.table_id ≡ self.now.table.shared.table_id) × MayEnd seat.old.me }
         ensures { (seat.new.table_id ≡ seat.old.table_id) × Ended seat.old.me 0 seat.new.me }
@@ -95,7 +96,7 @@ impl SharedBook {
         self.table.shared.fetch_add::<End>(seat, SERVING, 1);
     }
 
-    // Waits for the turn, and takes the book.
+    /// Waits for the turn, and takes the book.
     pub(crate) fn open<R: Wait>(&self, rt: &R, seat: &mut Raw) -> Book
         requires { (seat.old.table_id ≡ self.now.table.shared.table_id) × IsIdle seat.old.me }
         ensures { (seat.new.table_id ≡ seat.old.table_id) × Holds seat.old.me.0 result seat.new.me }
@@ -106,7 +107,7 @@ impl SharedBook {
         book
     }
 
-    // Puts the book back, and ends the turn.
+    /// Puts the book back, and ends the turn.
     pub(crate) fn shut(&self, seat: &mut Raw, book: Book)
         requires { (seat.old.table_id ≡ self.now.table.shared.table_id) × MayShut seat.old.me book }
         ensures { (seat.new.table_id ≡ seat.old.table_id) × (seat.new.me ≡ (lone Idle (number_of seat.old.me.0) book, [])) }

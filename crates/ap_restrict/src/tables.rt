@@ -51,8 +51,8 @@ fn tables_of(alloc: Global, sig: &Signature, sorts: &[u32]) -> Result<Vec<Holdin
     Ok(tables)
 }
 
-// The tables of a program, ascending by sort. They spare work: one that is not there is made where it is
-// wanted.
+/// The tables of a program, ascending by sort. They spare work: one that is not there is made where it is
+/// wanted.
 pub(crate) fn make_tables(alloc: Global, program: &Program<Raw>) -> Result<Vec<Holding>, Memory>
     ensures { IfOk result (λ v. AreTables (signature_of program.now.signature).constructors v.items) }
 {
@@ -77,7 +77,7 @@ fn place_of(tables: &[Holding], sort: u32) -> usize
     low
 }
 
-// The table of the sort, where there is one.
+/// The table of the sort, where there is one.
 pub(crate) fn table_of<'a>(sig: &Signature, tables: &'a [Holding], sort: u32) -> Option<&'a Holding>
     requires { AreTables (signature_of sig.now).constructors tables.now }
     ensures { IfSome result (λ h. IsTableOf (signature_of sig.now).constructors sort h.now) }

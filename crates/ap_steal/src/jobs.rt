@@ -18,7 +18,7 @@ pub struct Job<W: Shape> {
     pub tools: Tools<W>,
 }
 
-// Tools with an empty hand and no thieves.
+/// Tools with an empty hand and no thieves.
 fn bare<W: Shape>(alloc: Global, number: u32, alone: bool, own: Owner<W>) -> Tools<W>
     ensures { (result.alone ≡ alone) × (result.hand.items ≡ []) }
 {
@@ -63,7 +63,7 @@ pub fn make_tools<W: Shape>(alloc: Global, workers: u32) -> Result<Vec<Tools<W>>
     give_all(alloc, all, thieves)
 }
 
-// Parts of each thief for the other workers.
+/// Parts of each thief for the other workers.
 fn give_all<W: Shape>(
     alloc: Global,
     mut all: Vec<Tools<W>>,
@@ -78,7 +78,7 @@ fn give_all<W: Shape>(
     Ok(all)
 }
 
-// A part of the thief for each of the workers but this one, as far as there are parts.
+/// A part of the thief for each of the workers but this one, as far as there are parts.
 fn give<W: Shape>(
     alloc: Global,
     mut all: Vec<Tools<W>>,

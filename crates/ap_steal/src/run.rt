@@ -46,7 +46,7 @@ pub fn run_all<W: Shape + Send, R: Threads + Wait + Sync, T: Tree, G: Gate>(
     Ok(seats)
 }
 
-// Whether a Stop stands.
+/// Whether a Stop stands.
 fn stands(history: &[Entry]) -> bool
     ensures { result ≡ has_stop (entries_of history.now) }
 {

@@ -24,7 +24,7 @@ use std::marker::Brand;
 use std::sync::Wait;
 use std::thread::Threads;
 
-// A search by one worker.
+/// A search by one worker.
 fn search_alone<W: Shape, R: Wait, T: Tree, G: Gate>(
     rt: &R,
     alloc: Global,
@@ -47,7 +47,7 @@ fn search_alone<W: Shape, R: Wait, T: Tree, G: Gate>(
     finish(alloc, tree, book, seats)
 }
 
-// A search by several workers.
+/// A search by several workers.
 fn search_beside<W: Shape + Send, R: Threads + Wait + Sync, T: Tree, G: Gate>(
     rt: &R,
     alloc: Global,
@@ -68,7 +68,7 @@ fn search_beside<W: Shape + Send, R: Threads + Wait + Sync, T: Tree, G: Gate>(
     finish(alloc, tree, book, seats)
 }
 
-// The same, where the tree has this shape.
+/// The same, where the tree has this shape.
 fn search_in<W: Shape + Send, R: Threads + Wait + Sync, T: Tree, G: Gate>(
     rt: &R,
     alloc: Global,

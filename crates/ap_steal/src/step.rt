@@ -22,7 +22,7 @@ use ap_tasks::{Placed, Shape};
 use std::alloc::Global;
 use std::sync::Wait;
 
-// One turn, for a split by the plan.
+/// One turn, for a split by the plan.
 fn split_planned<R: Wait, T: Tree>(
     rt: &R,
     alloc: Global,
@@ -44,7 +44,7 @@ fn split_planned<R: Wait, T: Tree>(
     book.split(rt, alloc, seat, path, given)
 }
 
-// One turn, for an end by the plan.
+/// One turn, for an end by the plan.
 fn done_planned<R: Wait, T: Tree>(
     rt: &R,
     tree: &T,
@@ -64,7 +64,7 @@ fn done_planned<R: Wait, T: Tree>(
     book.done(rt, seat, path, given)
 }
 
-// What the tree answers at a path of it. Its kids ascend, and are choices of the path.
+/// What the tree answers at a path of it. Its kids ascend, and are choices of the path.
 fn visit_planned<T: Tree>(alloc: Global, tree: &T, path: &Path) -> Result<Visit, Memory>
     requires { InTree (T.choices tree.now) path.now }
     ensures plan { IfOk result (λ v. visit_of v ≡ T.plan tree.now path.now) }
@@ -73,7 +73,7 @@ fn visit_planned<T: Tree>(alloc: Global, tree: &T, path: &Path) -> Result<Visit,
     tree.visit(alloc, path)
 }
 
-// Enters a split, and takes the kids. Where the path is not open, nothing is done.
+/// Enters a split, and takes the kids. Where the path is not open, nothing is done.
 fn run_kids<W: Shape, R: Wait, T: Tree>(
     rt: &R,
     alloc: Global,
@@ -101,7 +101,7 @@ fn run_kids<W: Shape, R: Wait, T: Tree>(
     }
 }
 
-// Enters an end. Where the path is not open, nothing is done.
+/// Enters an end. Where the path is not open, nothing is done.
 fn run_outs<R: Wait, T: Tree>(
     rt: &R,
     tree: &T,

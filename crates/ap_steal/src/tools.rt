@@ -26,7 +26,7 @@ pub struct Tools<W: Shape> {
 }
 
 impl<W: Shape> Tools<W> {
-    // A path to run: from the hand, the own deque, or another's.
+    /// A path to run: from the hand, the own deque, or another's.
     pub fn next(&mut self) -> Option<Placed<W>>
         ensures kept { KeepsWho self.old self.new }
         ensures first { TookFirst self.old result self.new }
@@ -38,7 +38,7 @@ impl<W: Shape> Tools<W> {
         }
     }
 
-    // A path from the own deque, or another's.
+    /// A path from the own deque, or another's.
     fn fetch(&mut self) -> Option<Placed<W>>
         ensures kept { KeepsWho self.old self.new }
         ensures none { self.old.alone ≡ true → (result ≡ None) × (self.new.hand.items ≡ self.old.hand.items) }
@@ -52,7 +52,7 @@ impl<W: Shape> Tools<W> {
         }
     }
 
-    // A path of another worker. Each thief tries once, in turn.
+    /// A path of another worker. Each thief tries once, in turn.
     fn rob(&mut self) -> Option<Placed<W>>
         ensures kept { KeepsWho self.old self.new }
     {
@@ -64,7 +64,7 @@ impl<W: Shape> Tools<W> {
         None
     }
 
-    // One try of the next thief.
+    /// One try of the next thief.
     fn rob_next(&mut self) -> Option<Placed<W>>
         ensures kept { KeepsWho self.old self.new }
     {
@@ -80,8 +80,8 @@ impl<W: Shape> Tools<W> {
         }
     }
 
-    // Takes the kids of a path. The first is the next in the hand. The others go into the deque, the
-    // last first; where there are no other workers, or there is no room, they go into the hand.
+    /// Takes the kids of a path. The first is the next in the hand. The others go into the deque, the
+    /// last first; where there are no other workers, or there is no room, they go into the hand.
     pub fn take_kids(&mut self, alloc: Global, path: &Placed<W>, kids: &[u32]) -> Result<(), Memory>
         requires { AreChoices (W.choices path.now) kids.now }
         ensures kept { KeepsWho self.old self.new }
@@ -94,7 +94,7 @@ impl<W: Shape> Tools<W> {
         Ok(())
     }
 
-    // Takes one path.
+    /// Takes one path.
     fn put(&mut self, path: Placed<W>, stays: bool) -> Result<(), Memory>
         ensures kept { KeepsWho self.old self.new }
         ensures first { self.old.alone ≡ true → IfOk result (λ _. self.new.hand.items ≡ path ∷ self.old.hand.items) }

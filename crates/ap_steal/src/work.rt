@@ -20,10 +20,10 @@ use crossbeam_utils::Backoff;
 use std::alloc::Global;
 use std::sync::Wait;
 
-// A worker looks whether the search was stopped after so many paths, and whenever it finds none.
+/// A worker looks whether the search was stopped after so many paths, and whenever it finds none.
 const LOOKS: u64 = 64;
 
-// Whether the search is over.
+/// Whether the search is over.
 fn is_over<R: Wait, T: Tree>(rt: &R, tree: &T, book: &SharedBook, seat: &mut Seat) -> bool
     requires book { seat.old.book ≡ book_id book.now }
     requires own { OwnPlanned (T.choices tree.now) (T.plan tree.now) seat.old.number seat.old.seen }
@@ -40,7 +40,7 @@ fn is_over<R: Wait, T: Tree>(rt: &R, tree: &T, book: &SharedBook, seat: &mut Sea
     }
 }
 
-// Ends the search.
+/// Ends the search.
 fn stop<R: Wait, T: Tree>(rt: &R, tree: &T, book: &SharedBook, seat: &mut Seat)
     requires book { seat.old.book ≡ book_id book.now }
     requires own { OwnPlanned (T.choices tree.now) (T.plan tree.now) seat.old.number seat.old.seen }
@@ -52,7 +52,7 @@ fn stop<R: Wait, T: Tree>(rt: &R, tree: &T, book: &SharedBook, seat: &mut Seat)
     book.stop(rt, seat);
 }
 
-// Runs a path. Where memory is wanting, it ends the search, and says no.
+/// Runs a path. Where memory is wanting, it ends the search, and says no.
 fn run_or_stop<W: Shape, R: Wait, T: Tree>(
     rt: &R,
     alloc: Global,
@@ -79,7 +79,7 @@ fn run_or_stop<W: Shape, R: Wait, T: Tree>(
     }
 }
 
-// Runs the next path, if there is one. Says no where there is none, or memory is wanting.
+/// Runs the next path, if there is one. Says no where there is none, or memory is wanting.
 fn run_next<W: Shape, R: Wait, T: Tree, G: Gate>(
     rt: &R,
     alloc: Global,
@@ -107,7 +107,7 @@ fn run_next<W: Shape, R: Wait, T: Tree, G: Gate>(
     }
 }
 
-// Runs the next path, or looks whether the search is over.
+/// Runs the next path, or looks whether the search is over.
 fn go_on<W: Shape, R: Wait, T: Tree, G: Gate>(
     rt: &R,
     alloc: Global,

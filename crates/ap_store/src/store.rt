@@ -160,7 +160,7 @@ impl<'a> Store<'a> {
         }
     }
 
-    // Whether the variable is so new that neither the closure nor any bound one can have it.
+    /// Whether the variable is so new that neither the closure nor any bound one can have it.
     pub(crate) fn is_new(&self, x: Var, c: &Closure<'_>) -> bool
         ensures { result ≡ true → occurs x (under (present self.now).bindings (closure_term c.now)) ≡ false }
     {

@@ -16,7 +16,7 @@ use ap_defs::memory::Memory;
 use crossbeam_deque::Pass;
 use std::alloc::Global;
 
-// The parts of a new thief but one.
+/// The parts of a new thief but one.
 const SPARE: usize = 1023;
 
 /// The paths that are left in a deque that is closed.
@@ -50,7 +50,7 @@ pub fn tasks<W: Shape>(alloc: Global) -> Result<(Owner<W>, Thief<W>), Memory>
     Ok((owner, thief))
 }
 
-// Cuts passes of one part each.
+/// Cuts passes of one part each.
 fn cut_spare<W: Shape>(
     mut deque: Deque<W>,
     mut spare: Vec<Pass<Placed<W>, Hand>>,
@@ -75,7 +75,7 @@ fn absorb_spare<W: Shape>(deque: &mut Deque<W>, mut spare: Vec<Pass<Placed<W>, H
     }
 }
 
-// A thief comes back to the owner.
+/// A thief comes back to the owner.
 fn absorb_thief<W: Shape>(deque: &mut Deque<W>, thief: Thief<W>)
     requires { IsFirst deque.old × (thief.deque ≡ worker_deque deque.old) }
     ensures same { IsFirst deque.new × (worker_deque deque.new ≡ worker_deque deque.old) }
@@ -102,7 +102,7 @@ fn absorb_all<W: Shape>(deque: &mut Deque<W>, mut thieves: Vec<Thief<W>>)
     }
 }
 
-// Takes out what is there.
+/// Takes out what is there.
 fn drain<W: Shape>(deque: &mut Deque<W>, left: &mut Vec<Placed<W>>)
     requires view { IsFirst deque.old × ((worker_view deque.old).parts ≡ 1024) }
     requires room { (left.old.items ≡ []) × (length (worker_view deque.old).pushed ≤ length (worker_view deque.old).popped + vec_capacity left.old) }

@@ -9,6 +9,7 @@ use crate::rule::{Fair, Pops, Puts};
 use crossbeam_deque::Worker;
 use std::alloc::Global;
 
+/// The owner's side of a deque of paths, whose pushes and pops are accounted for.
 pub type Deque<W> = Worker<Placed<W>, Global, Hand, Fair>;
 
 /// So many pushes always succeed.

@@ -8,6 +8,7 @@ use crossbeam_deque::{Pass, Steal, Stealer};
 use std::alloc::Global;
 use std::marker::Model;
 
+/// A thief's side of a deque of paths, whose steals are accounted for.
 pub type Robber<W> = Stealer<Placed<W>, Global, Hand, Fair>;
 
 /// The side of a deque that steals. Contracts see which deque it is, how many parts of the right to

@@ -15,8 +15,8 @@ use std::alloc::Global;
 use std::sync::Wait;
 use std::thread::Threads;
 
-// The report for the words and what the source has left, which is read only where the words are
-// accepted.
+/// The report for the words and what the source has left, which is read only where the words are
+/// accepted.
 #[tactic(auto, using(crate::proofs::SoundInputs::sound_input, crate::proofs::CompleteInputs::complete_input))]
 fn report<R: Threads + Wait + Sync, S: Source, G: Gate>(
     rt: &R,

@@ -14,7 +14,7 @@ use std::alloc::Global;
 use std::sync::Wait;
 use std::thread::Threads;
 
-// The report of what is asked for, on what the source has left.
+/// The report of what is asked for, on what the source has left.
 pub(crate) fn report_of<R: Threads + Wait + Sync, S: Source, G: Gate>(
     rt: &R,
     alloc: Global,

@@ -7,7 +7,7 @@ use ap_defs::memory::Memory;
 use ap_report::{Report, Status};
 use std::alloc::Global;
 
-// A report of one line.
+/// A report of one line.
 pub(crate) fn line(alloc: Global, text: &str, status: Status) -> Result<Report, Memory>
     ensures { IfOk result (λ r. r ≡ line_of text.now status) }
 {

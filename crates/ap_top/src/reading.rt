@@ -8,7 +8,7 @@ use ap_defs::limits::SIZE_LIMIT;
 use ap_io::{Failed, Source};
 use std::alloc::{AllocError, Global};
 
-// Why the bytes of a source weren't read whole.
+/// Why the bytes of a source weren't read whole.
 #[derive(Clone, Copy, Debug, PartialEq, Eq)]
 pub(crate) enum ReadError {
     // a read failed
@@ -35,7 +35,7 @@ impl From<AllocError> for ReadError {
     }
 }
 
-// All bytes that the source has left, if they are no more than the limit.
+/// All bytes that the source has left, if they are no more than the limit.
 pub(crate) fn read_whole<S: Source>(alloc: Global, source: &mut S) -> Result<Vec<u8>, ReadError>
     ensures whole { IfOk result (λ v.
         IsRead (S.left source.old) (S.faults source.old) (S.faults source.new) (Whole v.items)) }

@@ -5,7 +5,7 @@ ghost use Rattle.ap_io.specs.Causes.{Rose};
 
 use ap_io::{Failed, Sink};
 
-// Writes all bytes to the sink. After a failure the sink has the first of them. It takes no memory.
+/// Writes all bytes to the sink. After a failure the sink has the first of them. It takes no memory.
 pub(crate) fn write_whole<K: Sink>(sink: &mut K, bytes: &[u8]) -> Result<(), Failed>
     ensures ok { OnOk result ((K.faults sink.new ≡ K.faults sink.old)
         × Appends (K.held sink.old) (K.held sink.new) bytes.now) }

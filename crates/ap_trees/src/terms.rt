@@ -303,7 +303,7 @@ pub fn term_list<'a, 's>(
     Ok((all, rest))
 }
 
-// By the reader.
+/// By the reader.
 #[tactic(auto, unfolding(crate::specs::TermReader::all_term))]
 fn exact_term<'a>(alloc: Global, symbols: &[Symbol<'a>]) -> Result<Tree<'a>, ReadError>
     ensures { Gives term_of result (spec.all_term (syms symbols.now)) }

@@ -87,7 +87,7 @@ pub fn type_list<'a, 's>(
     Ok((all, rest))
 }
 
-// By the reader.
+/// By the reader.
 #[tactic(auto, unfolding(crate::specs::TypeReader::all_type))]
 fn exact_type<'a>(alloc: Global, symbols: &[Symbol<'a>]) -> Result<TypeTree<'a>, ReadError>
     ensures { Gives type_of result (all_type (syms symbols.now)) }

@@ -9,7 +9,7 @@ use clap::error::ErrorKind;
 use clap::{Arg, ArgAction, Command};
 use std::alloc::{AllocError, Global};
 
-// The argument of an option.
+/// The argument of an option.
 fn argument<'a>(alloc: Global, option: OptionName) -> Arg<'a>
     ensures rule { rule_of result ≡ argument_of option }
     ensures local { result.global ≡ false }
@@ -21,7 +21,7 @@ fn argument<'a>(alloc: Global, option: OptionName) -> Arg<'a>
         .required(option.is_required())
 }
 
-// The subcommand of a command.
+/// The subcommand of a command.
 fn subcommand<'a>(alloc: Global, command: CommandName) -> Result<Command<'a>, AllocError>
     ensures made { IfOk result (λ made. app_of made ≡ subcommand_of command) }
     ensures local { IfOk result HasNoGlobals }
@@ -34,7 +34,7 @@ fn subcommand<'a>(alloc: Global, command: CommandName) -> Result<Command<'a>, Al
     Ok(made)
 }
 
-// The program's command.
+/// The program's command.
 fn program<'a>(alloc: Global) -> Result<Command<'a>, AllocError>
     ensures { IfOk result (λ made. app_of made ≡ the_program) }
 {
@@ -50,8 +50,8 @@ fn program<'a>(alloc: Global) -> Result<Command<'a>, AllocError>
     Ok(made)
 }
 
-// Whether clap takes the words. It does where they are a command, its required options and others of
-// its options, each once and with a value.
+/// Whether clap takes the words. It does where they are a command, its required options and others of
+/// its options, each once and with a value.
 pub(crate) fn is_taken(alloc: Global, words: &[String]) -> Result<bool, Memory>
     ensures { IfOk result (λ taken. takes the_program (map string_bytes words.now) ≡ true → taken ≡ true) }
 {

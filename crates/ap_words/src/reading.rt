@@ -10,7 +10,7 @@ use ap_defs::limits::{Depth, Workers};
 use ap_defs::memory::Memory;
 use std::alloc::Global;
 
-// The depth that is asked for.
+/// The depth that is asked for.
 fn depth(settings: &[Setting]) -> Option<Depth>
     ensures { result ≡ depth_in settings.now }
 {
@@ -18,7 +18,7 @@ fn depth(settings: &[Setting]) -> Option<Depth>
     Depth::of(u32::try_from(number).ok()?)
 }
 
-// How many workers are asked for.
+/// How many workers are asked for.
 fn workers(settings: &[Setting]) -> Option<Workers>
     ensures { result ≡ workers_in settings.now }
 {
@@ -28,7 +28,7 @@ fn workers(settings: &[Setting]) -> Option<Workers>
     }
 }
 
-// What the settings of a command's options ask for.
+/// What the settings of a command's options ask for.
 fn asked_by(command: CommandName, settings: &[Setting]) -> Option<Asked>
     ensures { result ≡ asked_by command settings.now }
 {
@@ -40,7 +40,7 @@ fn asked_by(command: CommandName, settings: &[Setting]) -> Option<Asked>
     }
 }
 
-// The command of that name.
+/// The command of that name.
 fn command_named(word: &str) -> Option<CommandName>
     ensures { result ≡ command_of word.now }
 {
@@ -52,7 +52,7 @@ fn command_named(word: &str) -> Option<CommandName>
     None
 }
 
-// What the settings ask for, where they may be made together.
+/// What the settings ask for, where they may be made together.
 fn asked_together(command: CommandName, settings: &[Setting]) -> Option<Asked>
     ensures { result ≡ asked_together command settings.now }
 {
@@ -63,7 +63,7 @@ fn asked_together(command: CommandName, settings: &[Setting]) -> Option<Asked>
     }
 }
 
-// What the words after a command ask of it.
+/// What the words after a command ask of it.
 fn asked_of_command(
     alloc: Global,
     command: CommandName,
@@ -77,7 +77,7 @@ fn asked_of_command(
     }
 }
 
-// What the words ask for.
+/// What the words ask for.
 fn asked_words(alloc: Global, words: &[String]) -> Result<Option<Asked>, Memory>
     ensures { IfOk result (λ asked. asked ≡ asked_of (map string_bytes words.now)) }
 {

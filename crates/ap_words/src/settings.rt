@@ -11,7 +11,7 @@ use crate::table::OptionName;
 use ap_defs::memory::Memory;
 use std::alloc::Global;
 
-// An option, and the number that it is set to.
+/// An option, and the number that it is set to.
 #[derive(Clone, Copy, Debug)]
 pub(crate) struct Setting {
     pub(crate) option: OptionName,
@@ -24,7 +24,7 @@ fn all_digits(text: &str) -> bool
     text.as_bytes().iter().all(|byte| byte.is_ascii_digit())
 }
 
-// The number that digits spell.
+/// The number that digits spell.
 fn number(text: &str) -> Option<u64>
     ensures { result ≡ number_of text.now }
 {
@@ -38,7 +38,7 @@ fn number(text: &str) -> Option<u64>
     Some(number)
 }
 
-// The option of that name.
+/// The option of that name.
 fn option_called(options: &[OptionName], name: &str) -> Option<OptionName>
     ensures { result ≡ find (λ o. bytes_eq (option_name o) name.now) options.now }
 {
@@ -50,7 +50,7 @@ fn option_called(options: &[OptionName], name: &str) -> Option<OptionName>
     None
 }
 
-// The option whose name follows `--`.
+/// The option whose name follows `--`.
 fn option_named(options: &[OptionName], word: &str) -> Option<OptionName>
     ensures { result ≡ option_of options.now word.now }
 {
@@ -68,7 +68,7 @@ fn setting_named(options: &[OptionName], name: &str, value: &str) -> Option<Sett
     Some(Setting { option, number })
 }
 
-// What begins with the word at this place: a setting, if it is one, and the place after it.
+/// What begins with the word at this place: a setting, if it is one, and the place after it.
 fn setting_at(options: &[OptionName], words: &[String], at: usize) -> (Option<Setting>, usize)
     requires { at < length words.now }
     ensures first { settings_of options.now (drop at (map string_bytes words.now))
@@ -85,7 +85,7 @@ fn setting_at(options: &[OptionName], words: &[String], at: usize) -> (Option<Se
     }
 }
 
-// What the words set, if they are settings of the options.
+/// What the words set, if they are settings of the options.
 pub(crate) fn read_settings(
     alloc: Global,
     options: &[OptionName],
@@ -107,7 +107,7 @@ pub(crate) fn read_settings(
     Ok(Some(found))
 }
 
-// How often an option is set.
+/// How often an option is set.
 fn times(option: OptionName, settings: &[Setting]) -> usize
     ensures count { result ≡ count_by (sets option) settings.now }
     ensures few { result ≤ length settings.now }
@@ -121,7 +121,7 @@ fn times(option: OptionName, settings: &[Setting]) -> usize
     count
 }
 
-// Whether the option is not set twice, and is set if it is required.
+/// Whether the option is not set twice, and is set if it is required.
 fn well_set(option: OptionName, settings: &[Setting]) -> bool
     ensures { result ≡ is_well_set settings.now option }
 {
@@ -129,7 +129,7 @@ fn well_set(option: OptionName, settings: &[Setting]) -> bool
     count <= 1 && (!option.is_required() || count >= 1)
 }
 
-// Whether each of the options is.
+/// Whether each of the options is.
 pub(crate) fn complete(options: &[OptionName], settings: &[Setting]) -> bool
     ensures { result ≡ are_complete options.now settings.now }
 {
@@ -141,7 +141,7 @@ pub(crate) fn complete(options: &[OptionName], settings: &[Setting]) -> bool
     true
 }
 
-// What an option is set to.
+/// What an option is set to.
 pub(crate) fn number_of(option: OptionName, settings: &[Setting]) -> Option<u64>
     ensures { result ≡ number_in option settings.now }
 {
