@@ -1,6 +1,6 @@
 #!/bin/sh
-# Runs three programs on growing queries, and prints what each took, the greatest memory too: a list that is
-# reversed, a substitution in a lambda term, and the type of a lambda term. The depth is such that nothing is cut.
+# Runs four programs on growing queries, and prints what each took, the greatest memory too: a list that is
+# reversed, a substitution in a lambda term, the type of a lambda term, and a table of facts that is asked often. The depth is such that nothing is cut.
 . "$(dirname -- "$(readlink -f -- "$0")")/prepare.sh"
 
 build_program
@@ -14,3 +14,4 @@ measured() {
 for size in 10 20 40 80; do measured reverse "$size"; done
 for size in 2 4 6 8; do measured subst "$size"; done
 for size in 10 20 40 80; do measured types "$size"; done
+for size in 100 1000 10000; do measured facts "$size"; done

@@ -1,5 +1,6 @@
 pub mod AnsweringLemmas
 pub mod HeadLemmas
+pub mod ApartLemmas
 pub mod MachineLemmas
 pub mod ChooseLemmas
 pub mod TrackLemmas

@@ -16,6 +16,7 @@ pub mod clauses;
 pub mod closures;
 pub mod frames;
 pub mod free_vars;
+mod heads;
 pub mod place;
 pub mod points;
 pub mod problem;

@@ -16,6 +16,7 @@ ghost use Rattle.ap_backchain.specs.Starts.{first_position};
 use crate::choices::choice_at;
 use crate::clauses::{clauses_at, enter_clause};
 use crate::frames::Frame;
+use crate::heads::{key_of_atom, next_clause};
 use crate::place::Place;
 use crate::points::{Point, Rest, Save, Untried};
 use crate::turns::{Turn, take_turn};
@@ -82,12 +83,16 @@ fn try_clauses<'a>(
         clauses,
         tried,
     } = untried;
-    'trying: for i in tried..clauses.len() {
+    let key = key_of_atom(alloc, &place.store, args, base);
+    let mut i = next_clause(clauses, key, tried);
+    'trying: while i < clauses.len() {
+        let next = next_clause(clauses, key, i + 1);
         let choice = i as u32 + 1;
         if enter_clause(alloc, place, args, base, depth, choice, &clauses[i])? {
-            keep_rest(points, save, untried, i + 1)?;
+            keep_rest(points, save, untried, next)?;
             return Ok(true);
         }
+        i = next;
     }
     Ok(false)
 }

@@ -1,10 +1,10 @@
 -- Variables that are followed to the closures to which they are bound.
-use Rattle.std.proofs.Common.{◌≡◌, ◌<◌, ◌≤◌, ◌+◌, ℕ, List, ◌++◌, map, sym, ap, ◌∙◌, subst, arith}
+use Rattle.std.proofs.Common.{◌≡◌, ◌<◌, ◌≤◌, ◌+◌, ℕ, List, ◌++◌, map, refl, sym, ap, ◌∙◌, subst, arith}
 use Rattle.std.specs.Prelude.{Some, None, is_some}
 use Rattle.ap_defs.specs.Freshness.{var_eq}
 use Rattle.ap_defs.specs.Renaming.{AreSwapsBelow, IsBelow, rename_swap, rename_term, rename_var}
 use Rattle.ap_defs.specs.Substitution.{moved, occurs, under}
-use Rattle.ap_defs.specs.Terms.{NominalTerm, act_term, pair, susp, term_of}
+use Rattle.ap_defs.specs.Terms.{NominalTerm, unit, name, pair, app, abs, act_term, susp, term_of}
 use Rattle.ap_defs.specs.declared.terms.Swap.{Swap}
 use Rattle.ap_defs.specs.declared.terms.Term.{Term}
 use Rattle.ap_defs.specs.declared.terms.Term.TheVariants as code
@@ -14,10 +14,13 @@ use Rattle.ap_perm.specs.Lookups.{depth_of}
 use Rattle.ap_perm.specs.declared.closures.Closure.{Closure}
 use Rattle.ap_perm.proofs.LookupLemmas.{depth_act, depth_ranked}
 use Rattle.ap_perm.proofs.VisitLemmas.{visits, visits_bound, visits_left, visits_right}
+use Rattle.ap_theory.proofs.HeadKeyLemmas.{key_act}
 use Rattle.ap_theory.proofs.IdempotenceLemmas.{bound_term_unbound}
 use Rattle.ap_theory.proofs.SubstitutionLemmas.{under_act}
 use Rattle.ap_theory.proofs.TermLemmas.{act_term-append, occurs_act}
+use Rattle.ap_theory.specs.HeadKeys.{head_key}
 use Rattle.ap_theory.specs.Variables.{IsUnbound}
+use Rattle.ap_store.specs.Heads.{IsHeadOf, IsHeadUnbound}
 use Rattle.ap_store.specs.Views.{present, rank, raw_bound}
 use Rattle.ap_store.specs.declared.store.Store.{Store}
 use Rattle.ap_store.proofs.BelowLemmas.{act_below}
@@ -92,3 +95,26 @@ module _ (s : Store) where
         subst (λ (t : NominalTerm). depth_of (rank s) t < depth_of (rank s) (closure_term c)) (sym k)
             (subst (λ (t : NominalTerm). depth_of (rank s) (act_term (p ++ d.swaps.items) (bare d)) < depth_of (rank s) t) (sym h) (bound_depth p y d e)),
       )
+
+  -- swappings that wait change no key
+  pub closure_key : (d : Closure) → head_key (under (present s).bindings (closure_term d)) ≡ head_key (under (present s).bindings (bare d))
+  closure_key d = ap head_key (under_act (present s).bindings d.swaps.items (bare d)) ∙ key_act d.swaps.items (under (present s).bindings (bare d))
+
+  -- what a variable is bound to begins as what the variable stands for, whatever swappings wait
+  pub head_bound : (q : List Swap) (x : Var) (d : Closure) → raw_bound s x ≡ Some (closure_term d) → IsHeadOf (present s) (rank s) (susp q x) (bare d)
+  head_bound q x d e =
+      let bs = (present s).bindings in
+      let l : depth_of (rank s) (closure_term d) ≤ rank s x = depth_ranked (raw_bound s) (rank s) (store_ranked s) x (closure_term d) e in
+      let m : depth_of (rank s) (closure_term d) ≡ depth_of (rank s) (bare d) = depth_act (rank s) d.swaps.items (bare d) in (
+        ap head_key ((store_sound s).follows q x (closure_term d) e) ∙ key_act q (under bs (closure_term d)) ∙ closure_key d,
+        omega (arith, l, m),
+      )
+
+  -- a head that is no bound variable stays
+  pub unbound_key : (t : NominalTerm) → IsHeadUnbound (present s).bindings t → head_key (under (present s).bindings t) ≡ head_key t
+  unbound_key unit h = refl
+  unbound_key (name a) h = refl
+  unbound_key (pair t u) h = refl
+  unbound_key (app f t) h = refl
+  unbound_key (abs a t) h = refl
+  unbound_key (susp q x) h = ap (λ u. head_key (moved q x u)) (bound_term_unbound (present s).bindings x h)

@@ -7,6 +7,7 @@ use Rattle.ap_defs.specs.declared.terms.Var.{Var}
 use Rattle.ap_perm.specs.Closures.{closure_term}
 use Rattle.ap_perm.specs.Lookups.{depth_of}
 use Rattle.ap_perm.specs.declared.closures.Closure.{Closure}
+use Rattle.ap_theory.specs.HeadKeys.{head_key}
 use Rattle.ap_theory.specs.Variables.{IsUnbound}
 use Rattle.ap_store.specs.Triples.{Triple}
 
@@ -20,3 +21,8 @@ IsStep a rank t None = IsHeadUnbound a.bindings t
 IsStep a rank t (Some c) =
     (under a.bindings (closure_term c) ≡ under a.bindings t) × (IsBelow a.next t → IsBelow a.next (closure_term c))
     × (depth_of rank (closure_term c) < depth_of rank t)
+
+-- under the bindings the first term begins as the second, to which the variable at its head is bound
+abbrev pub IsHeadOf : Triple → (Var → ℕ) → NominalTerm → NominalTerm → Type 0
+IsHeadOf a rank t u =
+    (head_key (under a.bindings t) ≡ head_key (under a.bindings u)) × (depth_of rank u < depth_of rank t)

@@ -5,6 +5,7 @@
 pub mod changes;
 mod conditions;
 mod following;
+pub mod heads;
 mod lookups;
 mod occurrences;
 mod searches;

@@ -23,6 +23,7 @@ pub mod MostGeneralLemmas
 pub mod IdempotenceLemmas
 pub mod OpenSoundnessLemmas
 pub mod RefusalLemmas
+pub mod HeadKeyLemmas
 pub mod GroundLemmas
 pub mod GroundingLemmas
 pub mod ReplacementLemmas

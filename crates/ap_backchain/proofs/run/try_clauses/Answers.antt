@@ -1,4 +1,4 @@
-use Rattle.std.proofs.Common.{◌≡◌, ℕ, ◌+◌, ◌<◌, ◌≤◌, Bool, List, [], ◌∷◌, ◌++◌, length, map, ap, ◌∙◌, sym, subst, arith}
+use Rattle.std.proofs.Common.{◌≡◌, ℕ, ◌+◌, ◌<◌, ◌≤◌, Bool, List, [], ◌∷◌, ◌++◌, length, map, ap, ◌∙◌, refl, sym, subst, arith}
 use Rattle.ap_defs.specs.Goals.{clause_of}
 use Rattle.ap_defs.specs.Renaming.{AreBelow, rename_term}
 use Rattle.ap_defs.specs.Terms.{term_of}
@@ -9,6 +9,7 @@ use Rattle.ap_backchain.specs.Searches.{pending_of}
 use Rattle.ap_backchain.specs.Tracks.{GoesFrom, Track}
 use Rattle.ap_backchain.specs.declared.points.Point.{Point}
 use Rattle.ap_backchain.specs.declared.points.Rest.TheVariants as rests
+use Rattle.ap_backchain.proofs.ApartLemmas.{left_skipped}
 use Rattle.ap_backchain.proofs.ChooseLemmas.{fit_here}
 use Rattle.ap_backchain.proofs.RunLemmas.{clause_left, next_same, no_clause_left, pending_rest, pending_goes, points_goes, points_rest}
 use Rattle.ap_backchain.proofs.TrackLemmas.{goes_same}
@@ -27,6 +28,14 @@ enter_clause-requires-clause-clause c =
 entered : (b d : Bool) (p : Position) (ps : List Position) → position_if b p ≡ ps → b ≡ d → position_if d p ≡ ps
 entered b d p ps h e = subst (λ (x : Bool). position_if x p ≡ ps) e h
 
+pub trying-init : goal.trying-init
+trying-init c = record {
+  track = refl;
+  position = refl;
+  points = refl;
+  left = left_skipped c.args.place.now c.args.untried c.key_of_atom-key.result c.key_of_atom-key.ensures c.args.untried.tried c.next_clause-i.result c.next_clause-i.ensures;
+}
+
 pub trying-preserved : goal.trying-preserved
 trying-preserved c =
     let u = c.args.untried in let i = c.trying.i in let p = position_of c.args.place.now in
@@ -41,7 +50,8 @@ trying-preserved c =
       points = before.points;
       left =
           before.left ∙ clause_left u i c.index-clauses-i.result p h c.index-clauses-i.is
-          ∙ ap (λ (ps : List Position). ps ++ positions_left (rests.Clauses (record u { tried = i + 1 })) p) (sym none);
+          ∙ ap (λ (ps : List Position). ps ++ positions_left (rests.Clauses (record u { tried = i + 1 })) p) (sym none)
+          ∙ left_skipped c.args.place.now u c.key_of_atom-key.result c.key_of_atom-key.ensures (i + 1) c.next_clause-next.result c.next_clause-next.ensures;
     }
 
 -- the search has gone on from where it stood before the clauses were tried
@@ -50,27 +60,30 @@ goes c = subst (λ (t : Track). GoesFrom t (track_of c.enter_clause.new.place)) 
 
 pub returns-then-branch-clause-left : goal.returns-then-branch-clause-left
 returns-then-branch-clause-left c =
-    let u = c.args.untried in let i = c.trying.i in let b = c.args.place.now in let d = c.enter_clause.new.place in
+    let u = c.args.untried in let i = c.trying.i in let n = c.next_clause-next.result in let b = c.args.place.now in let d = c.enter_clause.new.place in
     let us = c.args.points.now in let vs = c.keep_rest.new.points in
     let h : i < length u.clauses.now = omega arith in
     let before = c.trying.invariant in
     let others = positions_left (rests.Clauses (record u { tried = i + 1 })) (position_of b) in
     let one = entered c.in_ok-enter_clause.field-0 _ (position_of d) _ c.in_ok-enter_clause.ensures.entered c.if-branch.true
     ∙ ap (λ (q : Position). by_clause u.depth (map (rename_term u.base) (map term_of u.args.now)) q (i + 1) (clause_of c.index-clauses-i.result)) before.position in
+    let after : positions_left (rests.Clauses (record u { tried = n })) (position_of b) ≡ others =
+    sym (left_skipped b u c.key_of_atom-key.result c.key_of_atom-key.ensures (i + 1) n c.next_clause-next.ensures) in
     let rest : pending_of d vs ≡ others ++ pending_of b us =
-    pending_rest c.save-save.result b d c.save-save.ensures.within c.save-save.ensures.track c.save-save.ensures.position (goes c) u (i + 1) us vs
-    (λ k. c.in_ok-keep_rest.ensures.kept k ∙ ap (λ (ps : List Point). ps ++ record { save = c.save-save.result; rest = rests.Clauses (record u { tried = i + 1 }) } ∷ []) before.points)
-    (λ k. c.in_ok-keep_rest.ensures.none k ∙ before.points) c.requires.points in
+    pending_rest c.save-save.result b d c.save-save.ensures.within c.save-save.ensures.track c.save-save.ensures.position (goes c) u n us vs
+    (λ k. c.in_ok-keep_rest.ensures.kept k ∙ ap (λ (ps : List Point). ps ++ record { save = c.save-save.result; rest = rests.Clauses (record u { tried = n }) } ∷ []) before.points)
+    (λ k. c.in_ok-keep_rest.ensures.none k ∙ before.points) c.requires.points
+    ∙ ap (λ (ps : List Position). ps ++ pending_of b us) after in
     ap (λ (ps : List Position). position_of d ∷ ps) rest
     ∙ ap (λ (ps : List Position). (ps ++ others) ++ pending_of b us) one
     ∙ ap (λ (ps : List Position). ps ++ pending_of b us) (sym (before.left ∙ clause_left u i c.index-clauses-i.result (position_of b) h c.index-clauses-i.is))
 
 pub returns-then-branch-clause-points : goal.returns-then-branch-clause-points
 returns-then-branch-clause-points c =
-    let u = c.args.untried in let i = c.trying.i in let before = c.trying.invariant in
+    let u = c.args.untried in let n = c.next_clause-next.result in let before = c.trying.invariant in
     points_rest c.save-save.result c.args.place.now c.enter_clause.new.place c.save-save.ensures.within c.save-save.ensures.track c.save-save.ensures.position (goes c)
-    u (i + 1) c.args.points.now c.keep_rest.new.points
-    (λ k. c.in_ok-keep_rest.ensures.kept k ∙ ap (λ (ps : List Point). ps ++ record { save = c.save-save.result; rest = rests.Clauses (record u { tried = i + 1 }) } ∷ []) before.points)
+    u n c.args.points.now c.keep_rest.new.points
+    (λ k. c.in_ok-keep_rest.ensures.kept k ∙ ap (λ (ps : List Point). ps ++ record { save = c.save-save.result; rest = rests.Clauses (record u { tried = n }) } ∷ []) before.points)
     (λ k. c.in_ok-keep_rest.ensures.none k ∙ before.points) c.requires.points c.requires.rest
 
 pub returns-clause-left : goal.returns-clause-left

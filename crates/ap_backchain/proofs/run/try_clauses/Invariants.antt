@@ -1,4 +1,4 @@
-use Rattle.std.proofs.Common.{◌≡◌}
+use Rattle.std.proofs.Common.{◌≡◌, ◌-◌, length}
 use Rattle.ap_backchain.specs.Places.{position_of, track_of}
 use Rattle.ap_backchain.specs.Points.{positions_left}
 use Rattle.ap_backchain.specs.declared.points.Rest.TheVariants as rests
@@ -12,3 +12,6 @@ invariant-trying l = record {
   points : l.points.items ≡ l.fn.points.items;
   left : positions_left (rests.Clauses l.untried) (position_of l.fn.place) ≡ positions_left (rests.Clauses (record l.untried { tried = l.i })) (position_of l.fn.place);
 }
+
+abbrev pub decreases-trying : goal.decreases-trying
+decreases-trying l = length l.clauses - l.i

@@ -1,0 +1,70 @@
+//! What terms begin with.
+
+ghost use Rattle.std.specs.Prelude.{◌≡◌, ◌<◌, IfSome, IfNone, MatchOption};
+ghost use Rattle.ap_defs.specs.Renaming.{IsBelow, rename_term};
+ghost use Rattle.ap_defs.specs.Substitution.{under};
+ghost use Rattle.ap_defs.specs.Terms.{term_of};
+ghost use Rattle.ap_perm.specs.Closures.{closure_term};
+ghost use Rattle.ap_perm.specs.Lookups.{depth_of};
+ghost use Rattle.ap_store.specs.Heads.{IsHeadOf, IsHeadUnbound};
+ghost use Rattle.ap_store.specs.Views.{present, rank};
+ghost use Rattle.ap_theory.specs.HeadKeys.{head_key};
+
+use crate::store::Store;
+use ap_defs::terms::{Term, Var};
+use ap_perm::closures::Closure;
+
+/// The key of what a term begins with: 0 for a suspension, which may stand for any term, 1 for `()`,
+/// 2 for a name, 3 for a pair, 4 for an abstraction, and `5 + f` for the constructor `f`.
+pub fn head_key(t: &Term) -> u64
+    ensures { result ≡ head_key (term_of t.now) }
+{
+    match t {
+        Term::Susp(_, _) => 0,
+        Term::Unit => 1,
+        Term::Name(_) => 2,
+        Term::Pair(_, _) => 3,
+        Term::Abs(_, _) => 4,
+        Term::App(f, _) => 5 + *f as u64,
+    }
+}
+
+/// The closure to which the variable at the head of a term is bound, or none where no bound variable
+/// stands there. The term's identifiers are numbered from `base` on.
+fn bound_at_head<'s, 'a>(
+    store: &'s Store<'a>,
+    base: u64,
+    end: u64,
+    t: &Term,
+) -> Option<&'s Closure<'a>>
+    requires { IsBelow end (rename_term base (term_of t.now)) }
+    ensures { MatchOption result (IsHeadUnbound (present store.now).bindings (rename_term base (term_of t.now))) (λ d. IsHeadOf (present store.now) (rank store.now) (rename_term base (term_of t.now)) (rename_term d.now.base (term_of d.now.term.now))) }
+{
+    let _end = end;
+    match t {
+        Term::Susp(_, x) => store.binding(Var { num: base + x.num }),
+        _ => None,
+    }
+}
+
+impl<'a> Store<'a> {
+    /// The key of what a closure stands for under the bindings: 0 where that is a suspension. It takes no
+    /// memory.
+    pub fn head_key(&self, c: &Closure<'a>) -> u64
+        ensures { result ≡ head_key (under (present self.now).bindings (closure_term c.now)) }
+    {
+        let mut base = c.base;
+        let mut end = c.end;
+        let mut term = c.term;
+        'following: loop {
+            match bound_at_head(self, base, end, term) {
+                None => return head_key(term),
+                Some(further) => {
+                    base = further.base;
+                    end = further.end;
+                    term = further.term;
+                }
+            }
+        }
+    }
+}
