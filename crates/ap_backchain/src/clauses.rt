@@ -56,7 +56,8 @@ fn unify_head<'a>(
     let end = place.store.next();
     let head = clause.args.items();
     let count = args.len().min(head.len());
-    let left = closures(alloc, base, end, &args[..count])?;
+    // The arguments have none of the new numbers, so that these need not be looked for in them.
+    let left = closures(alloc, base, start, &args[..count])?;
     let right = closures(alloc, start, end, &head[..count])?;
     if unify(alloc, &mut place.store, &left, &right)? {
         Ok(Some(start))

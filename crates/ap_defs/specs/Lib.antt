@@ -23,3 +23,4 @@ pub mod Typing
 pub mod GroundProofs
 pub mod FaultKinds
 pub mod Limits
+pub mod Spines

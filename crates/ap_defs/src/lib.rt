@@ -14,4 +14,5 @@ pub mod lists;
 pub mod memory;
 pub mod outcomes;
 pub mod paths;
+pub mod spines;
 pub mod terms;

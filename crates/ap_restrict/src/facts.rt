@@ -1,13 +1,14 @@
 //! The freshness goals of a clause's body, reduced.
 
 ghost use Rattle.std.specs.Prelude.{◌≡◌, ◌++◌, map, IfOk, OnOk};
+ghost use Rattle.ap_defs.specs.Permutations.{act_name, inverse};
 ghost use Rattle.ap_defs.specs.Terms.{term_of};
-ghost use Rattle.ap_defs.specs.Goals.{goal_of};
+ghost use Rattle.ap_defs.specs.Goals.{goal_of, fresh};
 ghost use Rattle.ap_restrict.specs.Facts.{is_refuted, left_by, fact_of, facts_of, has_fact, HasSame};
 
 use ap_defs::goals::Goal;
 use ap_defs::memory::Memory;
-use ap_defs::terms::{Name, Term, Var};
+use ap_defs::terms::{Name, Swap, Term, Var};
 use ap_perm::swappings::preimage;
 use std::alloc::Global;
 use std::collections::HashSet;
@@ -25,12 +26,36 @@ pub struct Fact {
 fn refutes(a: Name, t: &Term) -> bool
     ensures { result ≡ is_refuted a (term_of t.now) }
 {
-    match t {
-        Term::Unit | Term::Susp(_, _) => false,
-        Term::Name(b) => a == *b,
-        Term::Pair(left, right) => refutes(a, left) || refutes(a, right),
-        Term::App(_, argument) => refutes(a, argument),
-        Term::Abs(b, body) => a != *b && refutes(a, body),
+    let mut rest = t;
+    loop {
+        match rest {
+            Term::Unit | Term::Susp(_, _) => return false,
+            Term::Name(b) => return a == *b,
+            Term::Pair(left, right) => {
+                if refutes(a, left) {
+                    return true;
+                }
+                rest = right;
+            }
+            Term::App(_, argument) => rest = argument,
+            Term::Abs(b, body) => {
+                if a == *b {
+                    return false;
+                }
+                rest = body;
+            }
+        }
+    }
+}
+
+/// What a freshness problem leaves of a suspension.
+fn fact_at(a: Name, swaps: &[Swap], x: Var) -> Fact
+    ensures { result ≡ fact_of a (record { name = act_name (inverse swaps.now) a; var = x }) }
+{
+    Fact {
+        left: a,
+        name: preimage(swaps, a),
+        var: x,
     }
 }
 
@@ -39,29 +64,42 @@ fn refutes(a: Name, t: &Term) -> bool
 fn add_left(a: Name, t: &Term, facts: &mut Vec<Fact>) -> Result<(), Memory>
     ensures { OnOk result (facts.new.items ≡ facts.old.items ++ map (fact_of a) (left_by a (term_of t.now))) }
 {
-    match t {
-        Term::Unit | Term::Name(_) => Ok(()),
-        Term::Pair(left, right) => {
-            add_left(a, left, facts)?;
-            add_left(a, right, facts)
-        }
-        Term::App(_, argument) => add_left(a, argument, facts),
-        Term::Abs(b, body) => {
-            if a == *b {
-                Ok(())
-            } else {
-                add_left(a, body, facts)
+    let mut rest = t;
+    loop {
+        match rest {
+            Term::Unit | Term::Name(_) => return Ok(()),
+            Term::Pair(left, right) => {
+                add_left(a, left, facts)?;
+                rest = right;
+            }
+            Term::App(_, argument) => rest = argument,
+            Term::Abs(b, body) => {
+                if a == *b {
+                    return Ok(());
+                }
+                rest = body;
+            }
+            Term::Susp(swaps, x) => {
+                facts.push(fact_at(a, swaps.items(), *x))?;
+                return Ok(());
             }
         }
-        Term::Susp(swaps, x) => {
-            let name = preimage(swaps.items(), a);
-            facts.push(Fact {
-                left: a,
-                name,
-                var: *x,
-            })?;
-            Ok(())
+    }
+}
+
+/// Adds what a freshness goal leaves.
+fn add_fresh(t: &Term, u: &Term, facts: &mut Vec<Fact>) -> Result<(), Memory>
+    ensures { OnOk result (facts.new.items ≡ facts.old.items ++ facts_of (fresh (term_of t.now) (term_of u.now))) }
+{
+    match t {
+        Term::Name(a) => {
+            if refutes(*a, u) {
+                Ok(())
+            } else {
+                add_left(*a, u, facts)
+            }
         }
+        _ => Ok(()),
     }
 }
 
@@ -69,19 +107,16 @@ fn add_left(a: Name, t: &Term, facts: &mut Vec<Fact>) -> Result<(), Memory>
 fn add_facts(g: &Goal<Term>, facts: &mut Vec<Fact>) -> Result<(), Memory>
     ensures { OnOk result (facts.new.items ≡ facts.old.items ++ facts_of (goal_of g.now)) }
 {
-    match g {
-        Goal::Both(left, right) => {
-            add_facts(left, facts)?;
-            add_facts(right, facts)
-        }
-        Goal::Fresh(Term::Name(a), t) => {
-            if refutes(*a, t) {
-                Ok(())
-            } else {
-                add_left(*a, t, facts)
+    let mut rest = g;
+    loop {
+        match rest {
+            Goal::Both(left, right) => {
+                add_facts(left, facts)?;
+                rest = right;
             }
+            Goal::Fresh(t, u) => return add_fresh(t, u, facts),
+            _ => return Ok(()),
         }
-        _ => Ok(()),
     }
 }
 

@@ -76,21 +76,29 @@ fn is_known_of(
 fn is_fresh(facts: &HashSet<Fact>, table: &Holding, locals: &[Local], a: Name, t: &Term) -> bool
     ensures { result ≡ fresh_by (is_known facts.now.keys table.now.sort (marked table.now.table.items) (kinds_of (locals_of locals.now)) a) a (term_of t.now) }
 {
-    match t {
-        Term::Unit => true,
-        Term::Name(b) => a != *b,
-        Term::Pair(left, right) => is_fresh(facts, table, locals, a, left)
-            && is_fresh(facts, table, locals, a, right),
-        Term::App(_, argument) => is_fresh(facts, table, locals, a, argument),
-        Term::Abs(b, body) => a == *b || is_fresh(facts, table, locals, a, body),
-        Term::Susp(swaps, x) => is_known_of(
-            facts,
-            table,
-            locals,
-            a,
-            preimage(swaps.items(), a),
-            *x,
-        ),
+    let mut rest = t;
+    loop {
+        match rest {
+            Term::Unit => return true,
+            Term::Name(b) => return a != *b,
+            Term::Pair(left, right) => {
+                if !is_fresh(facts, table, locals, a, left) {
+                    return false;
+                }
+                rest = right;
+            }
+            Term::App(_, argument) => rest = argument,
+            Term::Abs(b, body) => {
+                if a == *b {
+                    return true;
+                }
+                rest = body;
+            }
+            Term::Susp(swaps, x) => {
+                let name = preimage(swaps.items(), a);
+                return is_known_of(facts, table, locals, a, name, *x);
+            }
+        }
     }
 }
 

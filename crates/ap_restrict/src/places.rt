@@ -1,4 +1,6 @@
 //! Variables that stand where names belong.
+//!
+//! Each walk goes on along what is last in a term or a goal, and calls itself on what is left of it.
 
 ghost use Rattle.std.specs.Prelude.{◌≡◌, ◌++◌, map};
 ghost use Rattle.ap_defs.specs.RawTerms.{raw_of};
@@ -34,18 +36,21 @@ fn first_variable(left: Id, right: Id) -> Option<Var>
 fn first_binder(t: &Raw) -> Option<Var>
     ensures { result ≡ first_of (variable_binders (raw_of t.now)) }
 {
-    match t {
-        Raw::Unit | Raw::Name(_) | Raw::Var(_) => None,
-        Raw::Pair(left, right) => match first_binder(left) {
-            Some(x) => Some(x),
-            None => first_binder(right),
-        },
-        Raw::App(_, argument) => first_binder(argument),
-        Raw::Abs(binder, body) => match binder {
-            Id::Var(x) => Some(*x),
-            Id::Name(_) => first_binder(body),
-        },
-        Raw::Swapped(_, _, body) => first_binder(body),
+    let mut rest = t;
+    loop {
+        match rest {
+            Raw::Unit | Raw::Name(_) | Raw::Var(_) => return None,
+            Raw::Pair(left, right) => {
+                if let Some(x) = first_binder(left) {
+                    return Some(x);
+                }
+                rest = right;
+            }
+            Raw::App(_, argument) => rest = argument,
+            Raw::Abs(Id::Var(x), _) => return Some(*x),
+            Raw::Abs(Id::Name(_), body) => rest = body,
+            Raw::Swapped(_, _, body) => rest = body,
+        }
     }
 }
 
@@ -54,18 +59,25 @@ fn first_binder(t: &Raw) -> Option<Var>
 fn first_place(t: &Raw) -> Option<Var>
     ensures { result ≡ first_of (variable_places (raw_of t.now)) }
 {
-    match t {
-        Raw::Unit | Raw::Name(_) | Raw::Var(_) => None,
-        Raw::Pair(left, right) => match first_place(left) {
-            Some(x) => Some(x),
-            None => first_place(right),
-        },
-        Raw::App(_, argument) => first_place(argument),
-        Raw::Abs(_, body) => first_place(body),
-        Raw::Swapped(left, right, body) => match first_variable(*left, *right) {
-            Some(x) => Some(x),
-            None => first_place(body),
-        },
+    let mut rest = t;
+    loop {
+        match rest {
+            Raw::Unit | Raw::Name(_) | Raw::Var(_) => return None,
+            Raw::Pair(left, right) => {
+                if let Some(x) = first_place(left) {
+                    return Some(x);
+                }
+                rest = right;
+            }
+            Raw::App(_, argument) => rest = argument,
+            Raw::Abs(_, body) => rest = body,
+            Raw::Swapped(left, right, body) => {
+                if let Some(x) = first_variable(*left, *right) {
+                    return Some(x);
+                }
+                rest = body;
+            }
+        }
     }
 }
 
@@ -108,15 +120,26 @@ fn first_in_two(place: NamePlace, t: &Raw, u: &Raw) -> Option<Var>
 pub fn first_in_goal(place: NamePlace, g: &Goal<Raw>) -> Option<Var>
     ensures { result ≡ first_of (in_each (variables_at place) (terms_of_goal (goal_over raw_of g.now))) }
 {
-    match g {
-        Goal::True => None,
-        Goal::Atom(_, args) => first_in_terms(place, args.items()),
-        Goal::Equal(t, u) | Goal::Fresh(t, u) => first_in_two(place, t, u),
-        Goal::Both(left, right) | Goal::Either(left, right) => match first_in_goal(place, left) {
-            Some(x) => Some(x),
-            None => first_in_goal(place, right),
-        },
-        Goal::Exists(_, goal) => first_in_goal(place, goal),
-        Goal::New(_, goal) => first_in_goal(place, goal),
+    let mut rest = g;
+    loop {
+        match rest {
+            Goal::True => return None,
+            Goal::Atom(_, args) => return first_in_terms(place, args.items()),
+            Goal::Equal(t, u) | Goal::Fresh(t, u) => return first_in_two(place, t, u),
+            Goal::Both(left, right) => {
+                if let Some(x) = first_in_goal(place, left) {
+                    return Some(x);
+                }
+                rest = right;
+            }
+            Goal::Either(left, right) => {
+                if let Some(x) = first_in_goal(place, left) {
+                    return Some(x);
+                }
+                rest = right;
+            }
+            Goal::Exists(_, goal) => rest = goal,
+            Goal::New(_, goal) => rest = goal,
+        }
     }
 }

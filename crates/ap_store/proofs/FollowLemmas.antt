@@ -1,5 +1,5 @@
 -- Variables that are followed to the closures to which they are bound.
-use Rattle.std.proofs.Common.{◌≡◌, ◌<◌, ◌≤◌, ◌+◌, ℕ, List, ◌++◌, map, refl, sym, ap, ◌∙◌, subst, arith}
+use Rattle.std.proofs.Common.{◌≡◌, ◌<◌, ◌≤◌, ◌+◌, ◌||◌, ℕ, Bool, true, false, List, ◌++◌, map, refl, sym, ap, ◌∙◌, subst, arith}
 use Rattle.std.specs.Prelude.{Some, None, is_some}
 use Rattle.ap_defs.specs.Freshness.{var_eq}
 use Rattle.ap_defs.specs.Renaming.{AreSwapsBelow, IsBelow, rename_swap, rename_term, rename_var}
@@ -25,6 +25,11 @@ use Rattle.ap_store.specs.Views.{present, rank, raw_bound}
 use Rattle.ap_store.specs.declared.store.Store.{Store}
 use Rattle.ap_store.proofs.BelowLemmas.{act_below}
 use Rattle.ap_store.proofs.StoreLemmas.{store_ranked, store_sound}
+
+-- where the first does not hold, the second decides
+pub or_right : (a b : Bool) → a ≡ false → b ≡ (a || b)
+or_right true b h = cc
+or_right false b h = refl
 
 -- how many nodes a walk through the bindings visits
 abbrev pub visits_in : Store → NominalTerm → ℕ

@@ -11,24 +11,44 @@ use crate::store::Store;
 use ap_defs::terms::{Term, Var};
 use ap_perm::closures::Closure;
 
+/// The number that those in a closure are below.
+fn end_of(c: &Closure<'_>) -> u64
+    ensures { result ≡ c.now.end }
+{
+    c.end
+}
+
 /// Whether the variable occurs in what the term stands for, whose identifiers are numbered from
 /// `base` on.
-fn occurs_below(store: &Store<'_>, x: Var, base: u64, end: u64, t: &Term) -> bool
+///
+/// It goes on along what is last in a term and into bindings, and calls itself on left parts of pairs
+/// alone.
+fn occurs_below(store: &Store<'_>, x: Var, mut base: u64, mut end: u64, t: &Term) -> bool
     requires { IsBelow end (rename_term base (term_of t.now)) }
     ensures { result ≡ occurs x (under (present store.now).bindings (rename_term base (term_of t.now))) }
 {
-    match t {
-        Term::Unit | Term::Name(_) => false,
-        Term::Pair(left, right) => {
-            occurs_below(store, x, base, end, left) || occurs_below(store, x, base, end, right)
-        }
-        Term::App(_, argument) => occurs_below(store, x, base, end, argument),
-        Term::Abs(_, body) => occurs_below(store, x, base, end, body),
-        Term::Susp(_, y) => {
-            let y = Var { num: base + y.num };
-            match store.binding(y) {
-                None => x.num == y.num,
-                Some(c) => occurs_below(store, x, c.base, c.end, c.term),
+    let mut rest = t;
+    loop {
+        match rest {
+            Term::Unit | Term::Name(_) => return false,
+            Term::Pair(left, right) => {
+                if occurs_below(store, x, base, end, left) {
+                    return true;
+                }
+                rest = right;
+            }
+            Term::App(_, argument) => rest = argument,
+            Term::Abs(_, body) => rest = body,
+            Term::Susp(_, y) => {
+                let y = Var { num: base + y.num };
+                match store.binding(y) {
+                    None => return x.num == y.num,
+                    Some(c) => {
+                        base = c.base;
+                        end = end_of(c);
+                        rest = c.term;
+                    }
+                }
             }
         }
     }

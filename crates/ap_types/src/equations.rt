@@ -40,15 +40,18 @@ fn after(x: u64) -> Result<usize, Memory>
 fn bound_in(t: &Shape) -> Result<usize, Memory>
     ensures { IfOk result (λ n. n ≡ bound_of (shape_of t.now)) }
 {
-    match t {
-        Shape::Hole(x) => after(*x),
-        Shape::Unit | Shape::Names(_) | Shape::Base(_) => Ok(0),
-        Shape::Pair(left, right) | Shape::Abs(left, right) => {
-            let left = bound_in(left)?;
-            let right = bound_in(right)?;
-            Ok(greater(left, right))
+    let mut bound = 0;
+    let mut rest = t;
+    loop {
+        match rest {
+            Shape::Hole(x) => return Ok(greater(bound, after(*x)?)),
+            Shape::Unit | Shape::Names(_) | Shape::Base(_) => return Ok(bound),
+            Shape::Pair(left, right) | Shape::Abs(left, right) => {
+                bound = greater(bound, bound_in(left)?);
+                rest = right;
+            }
+            Shape::List(element) => rest = element,
         }
-        Shape::List(element) => bound_in(element),
     }
 }
 

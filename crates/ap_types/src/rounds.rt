@@ -1,4 +1,6 @@
 //! Questions of types whose answers for data types are found in rounds.
+//!
+//! Each walk goes on along what is last in a type, and calls itself on left parts of pairs alone.
 
 ghost use Rattle.std.specs.Prelude.{◌≡◌, ℕ, List as list, [], ◌∷◌, ◌++◌, map, Bool, ◌&&◌, IfOk, OnOk};
 ghost use Rattle.ap_defs.specs.Types.{NominalConstructor, type_of, constructor_of};
@@ -25,11 +27,19 @@ pub(crate) enum Question {
 fn is_inhabited_by(table: &[bool], t: &Ty) -> bool
     ensures { result ≡ inhabited_if (marked table.now) (type_of t.now) }
 {
-    match t {
-        Ty::Unit | Ty::Names(_) | Ty::List(_) => true,
-        Ty::Base(base) => is_marked(table, *base),
-        Ty::Pair(left, right) => is_inhabited_by(table, left) && is_inhabited_by(table, right),
-        Ty::Abs(_, body) => is_inhabited_by(table, body),
+    let mut rest = t;
+    loop {
+        match rest {
+            Ty::Unit | Ty::Names(_) | Ty::List(_) => return true,
+            Ty::Base(base) => return is_marked(table, *base),
+            Ty::Pair(left, right) => {
+                if !is_inhabited_by(table, left) {
+                    return false;
+                }
+                rest = right;
+            }
+            Ty::Abs(_, body) => rest = body,
+        }
     }
 }
 
@@ -37,12 +47,20 @@ fn is_inhabited_by(table: &[bool], t: &Ty) -> bool
 fn holds_by(sort: u32, table: &[bool], t: &Ty) -> bool
     ensures { result ≡ holds_if sort (marked table.now) (type_of t.now) }
 {
-    match t {
-        Ty::Unit => false,
-        Ty::Names(other) => *other == sort,
-        Ty::Base(base) => is_marked(table, *base),
-        Ty::Pair(left, right) => holds_by(sort, table, left) || holds_by(sort, table, right),
-        Ty::List(inner) | Ty::Abs(_, inner) => holds_by(sort, table, inner),
+    let mut rest = t;
+    loop {
+        match rest {
+            Ty::Unit => return false,
+            Ty::Names(other) => return *other == sort,
+            Ty::Base(base) => return is_marked(table, *base),
+            Ty::Pair(left, right) => {
+                if holds_by(sort, table, left) {
+                    return true;
+                }
+                rest = right;
+            }
+            Ty::List(inner) | Ty::Abs(_, inner) => rest = inner,
+        }
     }
 }
 
@@ -60,14 +78,20 @@ pub(crate) fn answer_by(question: Question, table: &[bool], t: &Ty) -> bool
 fn add_needs(ty: &Ty, needs: &mut Vec<u32>) -> Result<(), Memory>
     ensures { OnOk result ((p : ℕ → Bool) → all_in p needs.new.items ≡ (all_in p needs.old.items && inhabited_if p (type_of ty.now))) }
 {
-    match ty {
-        Ty::Unit | Ty::Names(_) | Ty::List(_) => Ok(()),
-        Ty::Base(base) => Ok(needs.push(*base)?),
-        Ty::Pair(left, right) => {
-            add_needs(left, needs)?;
-            add_needs(right, needs)
+    let mut rest = ty;
+    loop {
+        match rest {
+            Ty::Unit | Ty::Names(_) | Ty::List(_) => return Ok(()),
+            Ty::Base(base) => {
+                needs.push(*base)?;
+                return Ok(());
+            }
+            Ty::Pair(left, right) => {
+                add_needs(left, needs)?;
+                rest = right;
+            }
+            Ty::Abs(_, body) => rest = body,
         }
-        Ty::Abs(_, body) => add_needs(body, needs),
     }
 }
 

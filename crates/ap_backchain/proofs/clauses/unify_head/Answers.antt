@@ -20,11 +20,7 @@ use Rattle.ap_backchain.proofs.clauses.unify_head.Goals as goal
 
 pub closures-requires : goal.closures-requires
 closures-requires c =
-    let s = c.args.place.now.store in let r = c.make.new.self in
-    let made = made_next s r c.items.result.now c.args.clause.now.locals c.in_ok-start.ensures.present c.items.ensures in
-    let k = c.min-count.result in let base = c.args.base in let args = c.args.args.now in
-    let below_left : AreBelow c.next-end.result (map (rename_term base) (map term_of (take k args))) = args_below c.next-end.result (present s).next base args k (omega (arith, made, c.next-end.ensures)) c.requires.args in
-    below_left
+    args_below c.in_ok-start.start (present c.args.place.now.store).next c.args.base c.args.args.now c.min-count.result (omega (arith, c.in_ok-start.ensures.first)) c.requires.args
 
 pub invariant_of-place-in-Break-branch-2 : goal.invariant_of-place-in-Break-branch-2
 invariant_of-place-in-Break-branch-2 c =
