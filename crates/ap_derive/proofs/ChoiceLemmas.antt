@@ -119,7 +119,7 @@ module _ (program : Clauses) (path : List ℕ) (q : ℕ) (ts : List NominalTerm)
         ap (λ z. others_solved others (trace_call program (suc lower) q ts p.state z)) next
         ∙ ap (λ x. others_solved others (trace_clause (trace_goal (trace_call program lower)) ts k x p.state rest)) there
         ∙ below_node others (clause_node k (next_number p.state) c.locals) node (λ f ns. refl)
-            (trace_unified (trace_goal (trace_call program lower) body) (record (p.state) { kinds = p.state.kinds ++ kinds_of c.locals }) o rest)
+        (trace_unified (trace_goal (trace_call program lower) body) (record (p.state) { kinds = p.state.kinds ++ kinds_of c.locals }) o rest)
         ∙ ap (with_node node) (entered_on o)
 
 -- The clause that stands at a place of a list.

@@ -20,11 +20,7 @@ use std::alloc::Global;
 
 /// The derivation of the answer at which a branch stands: the one of the state that the search found
 /// at the branch's path, with what its variables stand for in the end. It checks against the answer.
-pub fn derive<'a>(
-    alloc: Global,
-    p: &Problem<'a>,
-    branch: &Branch<'a>,
-) -> Result<Derivation, Memory>
+pub fn derive<'a>(alloc: Global, p: &Problem<'a>, branch: &Branch<'a>) -> Result<Derivation, Memory>
     requires query { HasQuery p.now }
     requires of { IsBranchOf p.now branch.now }
     requires answer { IsAnswering branch.now }

@@ -35,13 +35,7 @@ fn free_sort(local: &Local) -> Option<u32>
     ensures { (n : ℕ) (as' : list name) → name_unless local.now.bound (kind_of local.now.kind) n as' ≡ names_with result n as' }
 {
     match local.kind {
-        Kind::Name(sort) => {
-            if local.bound {
-                None
-            } else {
-                Some(sort)
-            }
-        }
+        Kind::Name(sort) => { if local.bound { None } else { Some(sort) } }
         Kind::Var(_) => None,
     }
 }

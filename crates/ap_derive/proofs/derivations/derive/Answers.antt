@@ -29,9 +29,11 @@ pub select_along-requires-clause-solved : goal.select_along-requires-clause-solv
 select_along-requires-clause-solved c =
     let p = c.args.p.now in
     let q = query_of c.query_of_problem-query.result.now in
-    let same_program : map (map clause_of) c.items.result.now ≡ clauses_in p = ap (map (map clause_of)) (c.items.ensures ∙ ap (λ (r : Program Term). r.clauses) c.program-program.ensures.same) in
-    (_, branch_solved p c.args.branch.now c.requires.of c.requires.answer q c.query_of_problem-query.ensures.query
-        (map (map clause_of) c.items.result.now) c.path.result.now (position_of c.in_ok-place.place) same_program c.path.ensures c.in_ok-place.ensures)
+    let same_program : map (map clause_of) c.items.result.now ≡ clauses_in p = ap (map (map clause_of)) (c.items.ensures ∙ ap (λ (r : Program Term). r.clauses) c.program-program.ensures.same) in (
+      _,
+      branch_solved p c.args.branch.now c.requires.of c.requires.answer q c.query_of_problem-query.ensures.query
+          (map (map clause_of) c.items.result.now) c.path.result.now (position_of c.in_ok-place.place) same_program c.path.ensures c.in_ok-place.ensures,
+    )
 
 pub assemble-requires : goal.assemble-requires
 assemble-requires c =

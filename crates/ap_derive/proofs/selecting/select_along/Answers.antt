@@ -29,7 +29,7 @@ selecting-preserved c =
     ∙ ap (with_nodes ns) (ap (λ (p : Position). solved_at program path p) c.in-Some.ensures.some.0 ∙ c.in_ok-selected.ensures)
     ∙ sym (one_more ns n (solved_at program path (position_of c.select.new.place)))
     ∙ ap (λ ms. with_nodes ms (solved_at program path (position_of c.select.new.place)))
-      (sym (ap (map node_of) c.in_ok-push.ensures.items ∙ map-append node_of c.selecting.all.items (c.in_ok-selected.selected ∷ [])))
+    (sym (ap (map node_of) c.in_ok-push.ensures.items ∙ map-append node_of c.selecting.all.items (c.in_ok-selected.selected ∷ [])))
 
 pub selecting-smaller : goal.selecting-smaller
 selecting-smaller c =
