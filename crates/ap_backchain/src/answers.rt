@@ -53,7 +53,7 @@ fn canonical_of(alloc: Global, t: &Term) -> Result<Term, Memory>
 }
 
 /// What a variable stands for, with canonical lists.
-fn closed_var(alloc: Global, store: &Store<'_>, x: Var) -> Result<Term, Memory>
+pub fn closed_var(alloc: Global, store: &Store<'_>, x: Var) -> Result<Term, Memory>
     ensures { IfOk result (λ t. term_of t ≡ closed_term (state_in store.now) (susp [] x)) }
 {
     let waiting = Term::Susp(List::of(Vec::new(alloc)), x);
@@ -67,7 +67,7 @@ fn closed_var(alloc: Global, store: &Store<'_>, x: Var) -> Result<Term, Memory>
 }
 
 /// What variables stand for, with canonical lists.
-fn closed(alloc: Global, store: &Store<'_>, vars: &[Var]) -> Result<Vec<Term>, Memory>
+pub fn closed(alloc: Global, store: &Store<'_>, vars: &[Var]) -> Result<Vec<Term>, Memory>
     ensures { IfOk result (λ v. map term_of v.items ≡ closed_vars (state_in store.now) vars.now) }
 {
     let mut terms = Vec::new(alloc);

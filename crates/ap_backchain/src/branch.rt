@@ -14,7 +14,7 @@ ghost use Rattle.ap_backchain.specs.Problems.{HasQuery, clauses_in, queries_in};
 use crate::answer_copies::copy_answer;
 use crate::problem::{Problem, clauses_of_problem, query_of_problem};
 use crate::run::{first_place, outputs_from};
-use crate::standing::{Standing, advance};
+use crate::standing::{Standing, advance, path_of};
 use crate::step::choose;
 use ap_defs::goals::{Clause, Goal, Local};
 use ap_defs::lists::List;
@@ -114,6 +114,13 @@ impl<'a> Branch<'a> {
         ensures exact { (p : Problem) (q : NominalQuery) → slice_get (queries_in p) (p.query - 1) ≡ Some q → IsBranchOf p self.now → IsNodeAt (clauses_in p) p.depth q (path_of_branch self.now) result.now }
     {
         &self.node
+    }
+
+    /// The choices on the way to the branch, the first one first. It takes no memory.
+    pub fn path(&self) -> &[u32]
+        ensures { result.now ≡ path_of_branch self.now }
+    {
+        path_of(&self.standing)
     }
 
     /// The branch that goes on by one of the choices, run up to its next choice or its end. This one

@@ -27,6 +27,21 @@ pub enum Standing<'a> {
     Failed(Vec<u32>),
 }
 
+/// The choices on the way to where a branch stands.
+pub fn path_of<'s>(standing: &'s Standing<'_>) -> &'s [u32]
+    ensures { result.now ≡ path_of_standing standing.now }
+{
+    match standing {
+        Standing::Choosing(_, place) => place.path.as_slice(),
+        Standing::Ended(out) => match out {
+            Out::Found(path, _) => path.choices(),
+            Out::Cut(path) => path.choices(),
+            Out::Stuck(path) => path.choices(),
+        },
+        Standing::Failed(path) => path.as_slice(),
+    }
+}
+
 /// The search from a place up to its first choice or its end.
 pub fn advance<'a>(
     alloc: Global,

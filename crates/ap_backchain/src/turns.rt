@@ -151,7 +151,7 @@ fn turn_of_both<'a>(
 }
 
 /// The turn of the goal of a frame, which does not choose, from a place in which the others wait.
-fn turn_of_goal<'a>(
+pub fn turn_of_goal<'a>(
     alloc: Global,
     clauses: &'a [List<Clause<Term>>],
     frame: Frame<'a>,

@@ -16,7 +16,7 @@ use Rattle.ap_theory.proofs.BooleanLemmas.{and_left, and_right, or_if_left, or_i
 use Rattle.ap_theory.proofs.TermLemmas.{same_var, var_eq_flip, var_same}
 use Rattle.ap_ground.proofs.ShownLemmas.{shown_typed}
 use Rattle.ap_checks.specs.Checks.{each_once}
-use Rattle.ap_checks.specs.StatementsOnChecks.{CheckedIsDerivableAsShown}
+use Rattle.ap_checks.specs.StatementsOnChecks.{CheckedIsDerivableAsShown, DerivableIsDerivableAsShown}
 use Rattle.ap_checks.specs.TypeTests.{have_kinds, type_beside}
 use Rattle.ap_checks.proofs.CheckedLemmas.{checked_derivable, checks_both, not_holds}
 
@@ -77,11 +77,15 @@ module _ (vs : TypedVars) (n : ℕ) where
             (λ x t k. h x t (beside_next w ws x t (not_holds (has_var w.0 (map (λ u. u.0) ws)) (and_left apart (each_once ws) once)) k)),
       )
 
+pub derivable_shown : DerivableIsDerivableAsShown
+derivable_shown p typed q fits a once inhabited depth h =
+    let n = above a.vars in
+    let low : n ≤ n = omega arith in
+    shown_typed p typed q fits a (kinds_from a.vars 0 n) (vars_of_kinds a.vars n a.vars once low (λ x t k. k)) inhabited depth h
+
 pub checked_shown : CheckedIsDerivableAsShown
 checked_shown p typed q fits a d h inhabited =
     let parts = checks_both p q a d h in
     let binds = have_kinds p.signature.constructors (type_beside a.vars) (kinds_of q.locals) (local_vars 0 q.locals) a.binds in
     let once = and_left (each_once a.vars) (list_all (λ c. has_var c.var (map (λ v. v.0) a.vars)) a.conds) (and_right binds _ parts.0) in
-    let n = above a.vars in
-    let low : n ≤ n = omega arith in
-    shown_typed p typed q fits a (kinds_from a.vars 0 n) (vars_of_kinds a.vars n a.vars once low (λ x t k. k)) inhabited (height d) (checked_derivable p q a d h)
+    derivable_shown p typed q fits a once inhabited (height d) (checked_derivable p q a d h)

@@ -11,7 +11,7 @@ use Rattle.ap_program.specs.Typed.{IsTypedProgram, IsTypedQuery, term_form}
 use Rattle.ap_ground.specs.ShownInstances.{InEachInstance, InEachShownInstance, IsTypedDerivable}
 use Rattle.ap_ground.specs.TypedGroundings.{HaveInhabitants}
 use Rattle.ap_soundness.specs.FoundStates.{EachFound}
-use Rattle.ap_checks.specs.Checks.{Checks}
+use Rattle.ap_checks.specs.Checks.{Checks, each_once}
 use Rattle.ap_checks.specs.TypeTests.{is_typed}
 
 -- the test of types is true just where a term is typed
@@ -33,3 +33,10 @@ abbrev pub CheckedIsDerivableAsShown : Type 0
 CheckedIsDerivableAsShown = (p : NominalProgram) → IsTypedProgram p → (q : NominalQuery) → IsTypedQuery term_form p.signature q
     → (a : NominalAnswer) (d : NominalDerivation) → Checks p q a d → HaveInhabitants p.signature.constructors a.vars
     → InEachShownInstance p.signature.constructors q.locals a (IsTypedDerivable p q (height d))
+
+-- where a query is derivable in each instance of an answer, whoever made it, it is in each instance of what is shown of it, if each
+-- of the answer's variables has one type, and that is inhabited
+abbrev pub DerivableIsDerivableAsShown : Type 0
+DerivableIsDerivableAsShown = (p : NominalProgram) → IsTypedProgram p → (q : NominalQuery) → IsTypedQuery term_form p.signature q
+    → (a : NominalAnswer) → each_once a.vars ≡ true → HaveInhabitants p.signature.constructors a.vars → (depth : ℕ)
+    → InEachInstance p.signature.constructors a (IsTypedDerivable p q depth) → InEachShownInstance p.signature.constructors q.locals a (IsTypedDerivable p q depth)

@@ -1,6 +1,6 @@
 //! Derivations that check.
 
-ghost use Rattle.ap_checks.specs.StatementsOnChecks.{CheckedIsDerivable, CheckedIsDerivableAsShown, FoundDerivationsCheck, TypesAreTested};
+ghost use Rattle.ap_checks.specs.StatementsOnChecks.{CheckedIsDerivable, CheckedIsDerivableAsShown, DerivableIsDerivableAsShown, FoundDerivationsCheck, TypesAreTested};
 
 /// The test of types, by which a checker decides, is true just where a term is typed.
 pub fn types_are_tested()
@@ -18,4 +18,11 @@ pub fn found_derivations_check()
 pub fn checked_is_derivable()
     ensures derivable { CheckedIsDerivable }
     ensures shown { CheckedIsDerivableAsShown }
+{}
+
+/// What is shown of an answer keeps what the answer says, whoever made it: where its query is
+/// derivable in each instance of the answer, it is in each instance of what is shown, if each of the
+/// answer's variables has one type, and that is inhabited.
+pub fn shown_is_derivable()
+    ensures { DerivableIsDerivableAsShown }
 {}

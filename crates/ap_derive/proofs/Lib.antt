@@ -1,0 +1,4 @@
+pub mod NodeLemmas
+pub mod SolvedLemmas
+pub mod ChoiceLemmas
+pub mod DerivedLemmas

@@ -1,0 +1,203 @@
+//! The goals that are selected along a path.
+
+ghost use Rattle.std.specs.Prelude.{◌≡◌, ℕ, ◌∷◌, ◌++◌, None, Some, IfOk, List as list, OnOk, map};
+ghost use Rattle.std.specs.Option.{option_map};
+ghost use Rattle.ap_defs.specs.Goals.{Clauses, atom as atom_goal, clause_of, either, goal_of};
+ghost use Rattle.ap_defs.specs.Renaming.{AreBelow, IsGoalBelow, rename_goal, rename_term as renamed};
+ghost use Rattle.ap_defs.specs.Terms.{term_of};
+ghost use Rattle.ap_backchain.specs.Below.{AreClausesBelow};
+ghost use Rattle.ap_backchain.specs.Places.{next_of, position_of};
+ghost use Rattle.ap_backchain.specs.Positions.{with_goal};
+ghost use Rattle.ap_derive.specs.Nodes.{DerivationNode, node_of};
+ghost use Rattle.ap_derive.specs.Solved.{HasChoice, IsSolved, Selects, node_of_goal, rest_of, solved_at, with_frame};
+
+use crate::nodes::{SelectedGoal, selected_atom};
+use ap_backchain::clauses::{clauses_at, enter_clause};
+use ap_backchain::frames::Frame;
+use ap_backchain::place::Place;
+use ap_backchain::turns::{Turn, turn_of_goal};
+use ap_defs::goals::{Clause, Goal};
+use ap_defs::lists::List;
+use ap_defs::memory::Memory;
+use ap_defs::terms::{Name, Term, Var};
+use std::alloc::Global;
+
+/// The choice of the path that follows those on the way to the place.
+fn next_choice(place: &Place<'_>, path: &[u32]) -> u32
+    requires { HasChoice path.now (position_of place.now) }
+    ensures { (rest : list ℕ) × (rest_of path.now (position_of place.now) ≡ result ∷ rest) }
+{
+    path[place.path.len()]
+}
+
+/// Takes the turn of the goal of a frame, which does not choose, from a place in which the others
+/// wait, where all of them are solved along some path.
+fn settle<'a>(
+    alloc: Global,
+    clauses: &'a [List<Clause<Term>>],
+    frame: Frame<'a>,
+    place: &mut Place<'a>,
+) -> Result<(), Memory>
+    requires goal { IsGoalBelow (next_of place.old) (rename_goal frame.base (goal_of frame.goal.now)) }
+    requires settled { (n : DerivationNode) × (node_of_goal (rename_goal frame.base (goal_of frame.goal.now)) ≡ Some n) }
+    requires solved { (path : list ℕ) × IsSolved (map (map clause_of) clauses.now) path (with_frame frame (position_of place.old)) }
+    ensures { OnOk result ((path : list ℕ) (n : DerivationNode) → node_of_goal (rename_goal frame.entry.base (goal_of frame.entry.goal.now)) ≡ Some n → Selects (map (map clause_of) clauses.now) path (with_frame frame.entry (position_of place.old)) n (position_of place.new)) }
+{
+    match turn_of_goal(alloc, clauses, frame, place)? {
+        Turn::Goes => Ok(()),
+        Turn::Fails => unreachable!(),
+        Turn::Ends(_) => unreachable!(),
+    }
+}
+
+/// The node of the goal of a frame, whose numbers are below `next`, or none where it chooses.
+fn settled_goal(frame: &Frame<'_>, next: u64) -> Option<SelectedGoal>
+    requires { IsGoalBelow next (rename_goal frame.now.base (goal_of frame.now.goal.now)) }
+    ensures { option_map node_of result ≡ node_of_goal (rename_goal frame.now.base (goal_of frame.now.goal.now)) }
+{
+    let base = frame.base;
+    match frame.goal {
+        Goal::True => Some(SelectedGoal::True),
+        Goal::Equal(_, _) => Some(SelectedGoal::Equal),
+        Goal::Fresh(_, _) => Some(SelectedGoal::Fresh),
+        Goal::Both(_, _) => Some(SelectedGoal::Both),
+        Goal::Exists(x, _) => Some(SelectedGoal::Exists(Var { num: base + x.num })),
+        Goal::New(a, _) => Some(SelectedGoal::New(Name {
+            sort: a.sort,
+            num: base + a.num,
+        })),
+        Goal::Atom(_, _) => None,
+        Goal::Either(_, _) => None,
+    }
+}
+
+/// Selects an atom, from a place in which the others wait, with the clause of the path's next choice.
+fn select_clause<'a>(
+    alloc: Global,
+    clauses: &'a [List<Clause<Term>>],
+    frame: Frame<'a>,
+    pred: u32,
+    args: &'a [Term],
+    place: &mut Place<'a>,
+    path: &[u32],
+) -> Result<SelectedGoal, Memory>
+    requires clauses { AreClausesBelow (map (map clause_of) clauses.now) }
+    requires args { AreBelow (next_of place.old) (map (renamed frame.base) (map term_of args.now)) }
+    requires solved { IsSolved (map (map clause_of) clauses.now) path.now (with_goal frame.depth (atom_goal pred (map (renamed frame.base) (map term_of args.now))) (position_of place.old)) }
+    ensures { IfOk result (λ n. Selects (map (map clause_of) clauses.now) path.now (with_goal frame.entry.depth (atom_goal pred (map (renamed frame.entry.base) (map term_of args.now))) (position_of place.old)) (node_of n) (position_of place.new)) }
+{
+    let choice = next_choice(place, path);
+    let candidates = clauses_at(clauses, pred);
+    let clause = &candidates[choice as usize - 1];
+    let base = place.store.next();
+    if enter_clause(
+        alloc,
+        place,
+        args,
+        frame.base,
+        frame.depth - 1,
+        choice,
+        clause,
+    )? {
+        selected_atom(alloc, choice, base, clause.locals.items())
+    } else {
+        unreachable!()
+    }
+}
+
+/// Selects a disjunction, from a place in which the others wait, with the side of the path's next
+/// choice.
+fn select_side<'a>(
+    frame: Frame<'a>,
+    left: &'a Goal<Term>,
+    right: &'a Goal<Term>,
+    place: &mut Place<'a>,
+    path: &[u32],
+) -> Result<SelectedGoal, Memory>
+    requires left { IsGoalBelow (next_of place.old) (rename_goal frame.base (goal_of left.now)) }
+    requires right { IsGoalBelow (next_of place.old) (rename_goal frame.base (goal_of right.now)) }
+    requires solved { (program : Clauses) × IsSolved program path.now (with_goal frame.depth (either (rename_goal frame.base (goal_of left.now)) (rename_goal frame.base (goal_of right.now))) (position_of place.old)) }
+    ensures { IfOk result (λ n. (program : Clauses) → Selects program path.now (with_goal frame.entry.depth (either (rename_goal frame.entry.base (goal_of left.now)) (rename_goal frame.entry.base (goal_of right.now))) (position_of place.old)) (node_of n) (position_of place.new)) }
+{
+    if next_choice(place, path) == 1 {
+        place.push_choice(1)?;
+        place.push_goal(left, frame.base, frame.depth)?;
+        Ok(SelectedGoal::Left)
+    } else {
+        place.push_choice(2)?;
+        place.push_goal(right, frame.base, frame.depth)?;
+        Ok(SelectedGoal::Right)
+    }
+}
+
+/// Selects the goal of a frame, which chooses, from a place in which the others wait, as the path
+/// has it: all of them are solved along the path.
+fn select_choice<'a>(
+    alloc: Global,
+    clauses: &'a [List<Clause<Term>>],
+    frame: Frame<'a>,
+    place: &mut Place<'a>,
+    path: &[u32],
+) -> Result<SelectedGoal, Memory>
+    requires clauses { AreClausesBelow (map (map clause_of) clauses.now) }
+    requires goal { IsGoalBelow (next_of place.old) (rename_goal frame.base (goal_of frame.goal.now)) }
+    requires choosing { node_of_goal (rename_goal frame.base (goal_of frame.goal.now)) ≡ None }
+    requires solved { IsSolved (map (map clause_of) clauses.now) path.now (with_frame frame (position_of place.old)) }
+    ensures { IfOk result (λ n. Selects (map (map clause_of) clauses.now) path.now (with_frame frame.entry (position_of place.old)) (node_of n) (position_of place.new)) }
+{
+    match frame.goal {
+        Goal::Atom(pred, args) => {
+            select_clause(alloc, clauses, frame, *pred, args.items(), place, path)
+        }
+        Goal::Either(left, right) => select_side(frame, left, right, place, path),
+        Goal::True => unreachable!(),
+        Goal::Equal(_, _) => unreachable!(),
+        Goal::Fresh(_, _) => unreachable!(),
+        Goal::Both(_, _) => unreachable!(),
+        Goal::Exists(_, _) => unreachable!(),
+        Goal::New(_, _) => unreachable!(),
+    }
+}
+
+/// Selects the goal of a frame, from a place in which the others wait, as the path has it: all of
+/// them are solved along the path.
+fn select<'a>(
+    alloc: Global,
+    clauses: &'a [List<Clause<Term>>],
+    frame: Frame<'a>,
+    place: &mut Place<'a>,
+    path: &[u32],
+) -> Result<SelectedGoal, Memory>
+    requires clauses { AreClausesBelow (map (map clause_of) clauses.now) }
+    requires goal { IsGoalBelow (next_of place.old) (rename_goal frame.base (goal_of frame.goal.now)) }
+    requires solved { IsSolved (map (map clause_of) clauses.now) path.now (with_frame frame (position_of place.old)) }
+    ensures { IfOk result (λ n. Selects (map (map clause_of) clauses.now) path.now (with_frame frame.entry (position_of place.old)) (node_of n) (position_of place.new)) }
+{
+    match settled_goal(&frame, place.store.next()) {
+        Some(selected) => {
+            settle(alloc, clauses, frame, place)?;
+            Ok(selected)
+        }
+        None => select_choice(alloc, clauses, frame, place, path),
+    }
+}
+
+/// The goals that are selected from a place along a path, in order; the place is then where they
+/// lead.
+pub fn select_along<'a>(
+    alloc: Global,
+    clauses: &'a [List<Clause<Term>>],
+    place: &mut Place<'a>,
+    path: &[u32],
+) -> Result<Vec<SelectedGoal>, Memory>
+    requires clauses { AreClausesBelow (map (map clause_of) clauses.now) }
+    requires solved { IsSolved (map (map clause_of) clauses.now) path.now (position_of place.old) }
+    ensures { IfOk result (λ v. solved_at (map (map clause_of) clauses.now) path.now (position_of place.old) ≡ Some (record { state = (position_of place.new).state; nodes = map node_of v.items; rest = rest_of path.now (position_of place.new) })) }
+{
+    let mut all = Vec::new(alloc);
+    'selecting: while let Some(frame) = place.pop_goal() {
+        let selected = select(alloc, clauses, frame, place, path)?;
+        all.push(selected)?;
+    }
+    Ok(all)
+}
