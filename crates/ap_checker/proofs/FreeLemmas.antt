@@ -1,0 +1,103 @@
+-- The names and variables of terms, one after another.
+use Rattle.std.proofs.Common.{◌≡◌, ◌<◌, ◌+◌, ℕ, suc, true, false, List, [], ◌∷◌, ◌++◌, length, map, get_or, drop, take, refl, sym, ap, ap₂, ◌∙◌, append_assoc, add-one}
+use Rattle.std.proofs.Math.Seq.{drop-cons, take-suc}
+use Rattle.std.specs.Prelude.{if◌then◌else◌}
+use Rattle.ap_defs.specs.declared.terms.Name.{Name}
+use Rattle.ap_defs.specs.declared.terms.Swap.{Swap}
+use Rattle.ap_defs.specs.declared.terms.Term.{Term}
+use Rattle.ap_defs.specs.declared.terms.Var.{Var}
+use Rattle.ap_defs.specs.Occurrences.{names_of_terms, names_then, vars_of_terms, without_name, without_var}
+use Rattle.ap_defs.specs.Freshness.{var_eq}
+use Rattle.ap_defs.specs.Permutations.{left_name, name_eq, names_of, right_name}
+use Rattle.ap_defs.specs.Terms.{NominalTerm, abs, app, name, pair, susp, term_of, unit}
+use Rattle.ap_defs.specs.Unification.{vars_then}
+
+names-append : (p q : List Swap) → names_of (p ++ q) ≡ names_of p ++ names_of q
+names-append [] q = refl
+names-append (s ∷ p) q = ap (λ as'. left_name s ∷ right_name s ∷ as') (names-append p q)
+
+pub swaps_next : (p : List Swap) (i : ℕ) (d : Swap) (as' bs cs : List Name) → i < length p → cs ≡ as' ++ names_of (take i p) → bs ≡ cs ++ names_of (get_or p i d ∷ []) → bs ≡ as' ++ names_of (take (i + 1) p)
+swaps_next p i d as' bs cs h k e =
+    e ∙ ap (λ z. z ++ names_of (get_or p i d ∷ [])) k ∙ append_assoc as' (names_of (take i p)) (names_of (get_or p i d ∷ []))
+    ∙ ap (λ z. as' ++ z) (sym (names-append (take i p) (get_or p i d ∷ [])) ∙ ap names_of (sym (take-suc p i d h) ∙ ap (λ n. take n p) (sym (add-one i))))
+
+then_names : (t : NominalTerm) (as' : List Name) → names_then t as' ≡ names_then t [] ++ as'
+then_names unit as' = refl
+then_names (name a) as' = refl
+then_names (pair t u) as' =
+    then_names t (names_then u as') ∙ ap (λ z. names_then t [] ++ z) (then_names u as') ∙ sym (append_assoc (names_then t []) (names_then u []) as')
+    ∙ ap (λ z. z ++ as') (sym (then_names t (names_then u [])))
+then_names (app f t) as' = then_names t as'
+then_names (abs a t) as' = ap (λ z. a ∷ z) (then_names t as')
+then_names (susp p x) as' = ap (λ z. z ++ as') (sym (nothing_more (names_of p)))
+  where
+    nothing_more : (bs : List Name) → bs ++ [] ≡ bs
+    nothing_more [] = refl
+    nothing_more (b ∷ bs) = ap (λ z. b ∷ z) (nothing_more bs)
+
+pub pair_names : (t u : NominalTerm) (as' bs cs : List Name) → bs ≡ as' ++ names_then t [] → cs ≡ bs ++ names_then u [] → cs ≡ as' ++ names_then (pair t u) []
+pair_names t u as' bs cs h k =
+    k ∙ ap (λ z. z ++ names_then u []) h ∙ append_assoc as' (names_then t []) (names_then u []) ∙ ap (λ z. as' ++ z) (sym (then_names t (names_then u [])))
+
+pub abs_names : (a : Name) (t : NominalTerm) (as' bs cs : List Name) → bs ≡ as' ++ (a ∷ []) → cs ≡ bs ++ names_then t [] → cs ≡ as' ++ names_then (abs a t) []
+abs_names a t as' bs cs h k = k ∙ ap (λ z. z ++ names_then t []) h ∙ append_assoc as' (a ∷ []) (names_then t [])
+
+then_vars : (t : NominalTerm) (xs : List Var) → vars_then t xs ≡ vars_then t [] ++ xs
+then_vars unit xs = refl
+then_vars (name a) xs = refl
+then_vars (pair t u) xs =
+    then_vars t (vars_then u xs) ∙ ap (λ z. vars_then t [] ++ z) (then_vars u xs) ∙ sym (append_assoc (vars_then t []) (vars_then u []) xs)
+    ∙ ap (λ z. z ++ xs) (sym (then_vars t (vars_then u [])))
+then_vars (app f t) xs = then_vars t xs
+then_vars (abs a t) xs = then_vars t xs
+then_vars (susp p x) xs = refl
+
+pub pair_vars : (t u : NominalTerm) (xs ys zs : List Var) → ys ≡ xs ++ vars_then t [] → zs ≡ ys ++ vars_then u [] → zs ≡ xs ++ vars_then (pair t u) []
+pair_vars t u xs ys zs h k =
+    k ∙ ap (λ z. z ++ vars_then u []) h ∙ append_assoc xs (vars_then t []) (vars_then u []) ∙ ap (λ z. xs ++ z) (sym (then_vars t (vars_then u [])))
+
+pub two_names : (t u : NominalTerm) (bs cs : List Name) → bs ≡ [] ++ names_then t [] → cs ≡ bs ++ names_then u [] → cs ≡ names_then t (names_then u [])
+two_names t u bs cs h k = k ∙ ap (λ z. z ++ names_then u []) h ∙ sym (then_names t (names_then u []))
+
+pub two_vars : (t u : NominalTerm) (ys zs : List Var) → ys ≡ [] ++ vars_then t [] → zs ≡ ys ++ vars_then u [] → zs ≡ vars_then t (vars_then u [])
+two_vars t u ys zs h k = k ∙ ap (λ z. z ++ vars_then u []) h ∙ sym (then_vars t (vars_then u []))
+
+-- one more term
+pub each_names : (ts : List Term) (i : ℕ) (d : Term) (as' bs : List Name) → i < length ts → bs ≡ as' ++ names_then (term_of (get_or ts i d)) []
+    → bs ++ names_of_terms (map term_of (drop (i + 1) ts)) ≡ as' ++ names_of_terms (map term_of (drop i ts))
+each_names ts i d as' bs h e =
+    let t = term_of (get_or ts i d) in
+    let rest = names_of_terms (map term_of (drop (i + 1) ts)) in
+    ap (λ z. z ++ rest) e ∙ append_assoc as' (names_then t []) rest ∙ ap (λ z. as' ++ z) (sym (then_names t rest)
+    ∙ sym (ap (λ us. names_of_terms (map term_of us)) (drop-cons ts i d h ∙ ap (λ n. get_or ts i d ∷ drop n ts) (sym (add-one i)))))
+
+pub each_vars : (ts : List Term) (i : ℕ) (d : Term) (xs ys : List Var) → i < length ts → ys ≡ xs ++ vars_then (term_of (get_or ts i d)) []
+    → ys ++ vars_of_terms (map term_of (drop (i + 1) ts)) ≡ xs ++ vars_of_terms (map term_of (drop i ts))
+each_vars ts i d xs ys h e =
+    let t = term_of (get_or ts i d) in
+    let rest = vars_of_terms (map term_of (drop (i + 1) ts)) in
+    ap (λ z. z ++ rest) e ∙ append_assoc xs (vars_then t []) rest ∙ ap (λ z. xs ++ z) (sym (then_vars t rest)
+    ∙ sym (ap (λ us. vars_of_terms (map term_of us)) (drop-cons ts i d h ∙ ap (λ n. get_or ts i d ∷ drop n ts) (sym (add-one i)))))
+
+-- one more name or variable
+pub without_drop : (a : Name) (names : List Name) (i : ℕ) (d : Name) → i < length names → name_eq a (get_or names i d) ≡ true → without_name a (drop (i + 1) names) ≡ without_name a (drop i names)
+without_drop a names i d h e =
+    ap (λ n. without_name a (drop n names)) (add-one i)
+    ∙ sym (ap (without_name a) (drop-cons names i d h) ∙ ap (λ v. if v then without_name a (drop (suc i) names) else (get_or names i d ∷ without_name a (drop (suc i) names))) e)
+
+pub without_keep : (a : Name) (names : List Name) (i : ℕ) (d : Name) (as' bs : List Name) → i < length names → name_eq a (get_or names i d) ≡ false → bs ≡ as' ++ (get_or names i d ∷ [])
+    → bs ++ without_name a (drop (i + 1) names) ≡ as' ++ without_name a (drop i names)
+without_keep a names i d as' bs h e k =
+    ap₂ (λ z n. z ++ without_name a (drop n names)) k (add-one i) ∙ append_assoc as' (get_or names i d ∷ []) (without_name a (drop (suc i) names))
+    ∙ ap (λ z. as' ++ z) (sym (ap (without_name a) (drop-cons names i d h) ∙ ap (λ v. if v then without_name a (drop (suc i) names) else (get_or names i d ∷ without_name a (drop (suc i) names))) e))
+
+pub without_var_drop : (x : Var) (vars : List Var) (i : ℕ) (d : Var) → i < length vars → var_eq x (get_or vars i d) ≡ true → without_var x (drop (i + 1) vars) ≡ without_var x (drop i vars)
+without_var_drop x vars i d h e =
+    ap (λ n. without_var x (drop n vars)) (add-one i)
+    ∙ sym (ap (without_var x) (drop-cons vars i d h) ∙ ap (λ v. if v then without_var x (drop (suc i) vars) else (get_or vars i d ∷ without_var x (drop (suc i) vars))) e)
+
+pub without_var_keep : (x : Var) (vars : List Var) (i : ℕ) (d : Var) (xs ys : List Var) → i < length vars → var_eq x (get_or vars i d) ≡ false → ys ≡ xs ++ (get_or vars i d ∷ [])
+    → ys ++ without_var x (drop (i + 1) vars) ≡ xs ++ without_var x (drop i vars)
+without_var_keep x vars i d xs ys h e k =
+    ap₂ (λ z n. z ++ without_var x (drop n vars)) k (add-one i) ∙ append_assoc xs (get_or vars i d ∷ []) (without_var x (drop (suc i) vars))
+    ∙ ap (λ z. xs ++ z) (sym (ap (without_var x) (drop-cons vars i d h) ∙ ap (λ v. if v then without_var x (drop (suc i) vars) else (get_or vars i d ∷ without_var x (drop (suc i) vars))) e))

@@ -1,0 +1,12 @@
+pub mod SwappingLemmas
+pub mod ConditionLemmas
+pub mod SettledLemmas
+pub mod TypeLemmas
+pub mod LocalLemmas
+pub mod ScopeLemmas
+pub mod NodeLemmas
+pub mod FreeLemmas
+pub mod NewNameLemmas
+pub mod AnswerLemmas
+pub mod ClauseLemmas
+pub mod WalkLemmas

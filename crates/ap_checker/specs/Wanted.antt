@@ -1,0 +1,31 @@
+-- What an application's argument is to be: of the program's values, and of the parts of a pair and the argument of an application.
+use Rattle.std.specs.Prelude.{ℕ, zero, suc, ◌==◌, if◌then◌else◌, List, map, Option, Some, None}
+use Rattle.ap_defs.specs.Printing.{constructor_in}
+use Rattle.ap_defs.specs.Types as types
+use Rattle.ap_defs.specs.Types.{NominalConstructor, type_of}
+use Rattle.ap_defs.specs.Typing.{Want, arguments, more, nothing, one}
+use Rattle.ap_checker.specs.declared.types.Wanted.{Wanted}
+use Rattle.ap_checker.specs.declared.types.Wanted.TheVariants as code
+
+abbrev pub want_of : Wanted → Want
+want_of code.Nothing = nothing
+want_of (code.One t) = one (type_of t.now)
+want_of (code.More t ts) = more (type_of t.now) (arguments (map type_of ts.now))
+want_of (code.Cell a l) = more (type_of a.now) (one (type_of l.now))
+
+-- the parts of a pair
+abbrev pub parts_of : Want → Option (Want × Want)
+parts_of (one (types.pair a b)) = Some (one a, one b)
+parts_of (more a w) = Some (one a, w)
+parts_of _ = None
+
+abbrev pub declared_inside : Option NominalConstructor → ℕ → Option Want
+declared_inside None d = None
+declared_inside (Some c) d = if c.result == d then Some (arguments c.args) else None
+
+-- the argument of the constructor with this number
+abbrev pub inside_of : List NominalConstructor → ℕ → Want → Option Want
+inside_of cs zero (one (types.list a)) = Some nothing
+inside_of cs (suc zero) (one (types.list a)) = Some (more a (one (types.list a)))
+inside_of cs f (one (types.base d)) = declared_inside (constructor_in cs f) d
+inside_of cs f _ = None

@@ -1,0 +1,93 @@
+//! Whether the names and terms of a node fit the identifiers of a clause or a query.
+
+ghost use Rattle.std.specs.Prelude.{◌≡◌, zero, map, MatchOption, None, Some};
+ghost use Rattle.ap_defs.specs.Answers.{kind_at, typed_var_of};
+ghost use Rattle.ap_defs.specs.Renaming.{local_names, local_vars};
+ghost use Rattle.ap_defs.specs.Resolution.{kinds_of};
+ghost use Rattle.ap_defs.specs.Terms.{term_of};
+ghost use Rattle.ap_defs.specs.Types.{constructor_of, local_of, locals_of, type_of};
+ghost use Rattle.ap_checks.specs.Checks.{have_counts};
+ghost use Rattle.ap_checks.specs.TypeTests.{has_kind, have_kinds, have_sorts, type_beside};
+ghost use Rattle.ap_checker.specs.FreeLocals.{free_type};
+
+use crate::lookups::{count_names, count_vars, sort_of};
+use crate::types::has_type;
+use ap_defs::goals::{Constructor, Kind, Local};
+use ap_defs::terms::{Name, Term, Ty, Var};
+
+/// The type of an identifier that is a free variable.
+fn type_of_free(local: &Local) -> Option<&Ty>
+    ensures { MatchOption result (free_type (local_of local.now) ≡ None) (λ t. free_type (local_of local.now) ≡ Some (type_of t.now)) }
+{
+    match &local.kind {
+        Kind::Var(ty) if !local.bound => Some(ty),
+        _ => None,
+    }
+}
+
+/// Whether the names and terms are as many as the free names and free variables.
+pub(crate) fn counts_fit(locals: &[Local], names: &[Name], terms: &[Term]) -> bool
+    ensures { result ≡ have_counts (locals_of locals.now) names.now (map term_of terms.now) }
+{
+    names.len() == count_names(locals) && terms.len() == count_vars(locals)
+}
+
+/// Whether each name has the sort of the free name at its place.
+pub(crate) fn names_fit(locals: &[Local], names: &[Name]) -> bool
+    ensures { result ≡ have_sorts (local_names zero (locals_of locals.now)) names.now }
+{
+    let mut place = 0;
+    for (i, local) in locals.iter().enumerate() {
+        let Some(sort) = sort_of(local) else {
+            continue;
+        };
+        if place >= names.len() || names[place].sort != sort {
+            return false;
+        }
+        place += 1;
+    }
+    place == names.len()
+}
+
+/// Whether each term has the type of the free variable at its place.
+pub(crate) fn terms_fit(
+    constructors: &[Constructor],
+    vars: &[(Var, Ty)],
+    locals: &[Local],
+    terms: &[Term],
+) -> bool
+    ensures { result ≡ have_kinds (map constructor_of constructors.now) (type_beside (map typed_var_of vars.now)) (kinds_of (locals_of locals.now)) (local_vars zero (locals_of locals.now)) (map term_of terms.now) }
+{
+    let mut place = 0;
+    for (i, local) in locals.iter().enumerate() {
+        let Some(ty) = type_of_free(local) else {
+            continue;
+        };
+        if place >= terms.len() || !has_type(constructors, vars, &terms[place], ty) {
+            return false;
+        }
+        place += 1;
+    }
+    place == terms.len()
+}
+
+/// Whether the term has the type of the variable with this number.
+#[tactic(auto, using(crate::proofs::LocalLemmas::kind_past))]
+pub(crate) fn term_fits(
+    constructors: &[Constructor],
+    vars: &[(Var, Ty)],
+    locals: &[Local],
+    x: Var,
+    term: &Term,
+) -> bool
+    ensures { result ≡ has_kind (map constructor_of constructors.now) (type_beside (map typed_var_of vars.now)) (kind_at (kinds_of (locals_of locals.now)) x.num) (term_of term.now) }
+{
+    let place = x.num as usize;
+    if place >= locals.len() {
+        return false;
+    }
+    match &locals[place].kind {
+        Kind::Name(_) => false,
+        Kind::Var(ty) => has_type(constructors, vars, term, ty),
+    }
+}

@@ -1,0 +1,143 @@
+//! What stands for the free identifiers of an item, one for each, in order; clauses and queries by number.
+
+ghost use Rattle.std.specs.Prelude.{◌≡◌, zero, length, map, MatchOption, None, Some};
+ghost use Rattle.ap_defs.specs.Goals.{clause_of, clauses_of, program_of, query_of};
+ghost use Rattle.ap_defs.specs.GroundProofs.{clause_at as clause_numbered, name_for as name_beside};
+ghost use Rattle.ap_defs.specs.Renaming.{local_names, local_vars};
+ghost use Rattle.ap_defs.specs.Terms.{term_of, unit};
+ghost use Rattle.ap_defs.specs.Types.{local_of, locals_of};
+ghost use Rattle.ap_checks.specs.Checks.{query_at as query_numbered};
+ghost use Rattle.ap_checks.specs.OpenEnvironments.{open_term_for};
+ghost use Rattle.ap_checker.specs.FreeLocals.{free_sort, is_free_var};
+
+use crate::swappings::is_same;
+use ap_defs::goals::{Clause, Kind, Local, Program, Query};
+use ap_defs::terms::{Name, Term, Var};
+
+/// The sort of an identifier that is a free name.
+pub(crate) fn sort_of(local: &Local) -> Option<u32>
+    ensures { result ≡ free_sort (local_of local.now) }
+{
+    match &local.kind {
+        Kind::Name(sort) if !local.bound => Some(*sort),
+        _ => None,
+    }
+}
+
+/// Whether an identifier is a free variable.
+pub(crate) fn is_variable(local: &Local) -> bool
+    ensures { result ≡ is_free_var (local_of local.now) }
+{
+    match &local.kind {
+        Kind::Var(_) => !local.bound,
+        Kind::Name(_) => false,
+    }
+}
+
+/// How many identifiers are free names.
+#[tactic(auto, using(crate::proofs::LocalLemmas::names_skip, crate::proofs::LocalLemmas::names_take))]
+pub(crate) fn count_names(locals: &[Local]) -> usize
+    ensures { result ≡ length (local_names zero (locals_of locals.now)) }
+{
+    let mut count = 0;
+    for (i, local) in locals.iter().enumerate() {
+        if sort_of(local).is_some() {
+            count += 1;
+        }
+    }
+    count
+}
+
+/// How many identifiers are free variables.
+#[tactic(auto, using(crate::proofs::LocalLemmas::vars_skip, crate::proofs::LocalLemmas::vars_take))]
+pub(crate) fn count_vars(locals: &[Local]) -> usize
+    ensures { result ≡ length (local_vars zero (locals_of locals.now)) }
+{
+    let mut count = 0;
+    for (i, local) in locals.iter().enumerate() {
+        if is_variable(local) {
+            count += 1;
+        }
+    }
+    count
+}
+
+/// The name for a free name, and any other name itself.
+pub(crate) fn name_for(locals: &[Local], names: &[Name], b: Name) -> Name
+    ensures { result ≡ name_beside (local_names zero (locals_of locals.now)) names.now b }
+{
+    let mut place = 0;
+    for (i, local) in locals.iter().enumerate() {
+        let Some(sort) = sort_of(local) else {
+            continue;
+        };
+        if place >= names.len() {
+            return b;
+        }
+        let own = Name {
+            sort,
+            num: i as u64,
+        };
+        if is_same(&own, &b) {
+            return names[place];
+        }
+        place += 1;
+    }
+    b
+}
+
+/// The term for a free variable.
+pub(crate) fn term_for<'a>(locals: &[Local], terms: &'a [Term], x: Var) -> Option<&'a Term>
+    ensures { MatchOption result (open_term_for (local_vars zero (locals_of locals.now)) (map term_of terms.now) x ≡ unit) (λ t. open_term_for (local_vars zero (locals_of locals.now)) (map term_of terms.now) x ≡ term_of t.now) }
+{
+    let mut place = 0;
+    for (i, local) in locals.iter().enumerate() {
+        if !is_variable(local) {
+            continue;
+        }
+        if place >= terms.len() {
+            return None;
+        }
+        if x.num == i as u64 {
+            return Some(&terms[place]);
+        }
+        place += 1;
+    }
+    None
+}
+
+/// The clause of a predicate with this number, from 1.
+pub(crate) fn clause_at(program: &Program<Term>, pred: u32, number: u32) -> Option<&Clause<Term>>
+    ensures { MatchOption result (clause_numbered (clauses_of (program_of program.now).clauses pred) number ≡ None) (λ c. clause_numbered (clauses_of (program_of program.now).clauses pred) number ≡ Some (clause_of c.now)) }
+{
+    let clauses = program.clauses.items();
+    let place = pred as usize;
+    if place >= clauses.len() {
+        return None;
+    }
+    let clauses = clauses[place].items();
+    let number = number as usize;
+    if number == 0 {
+        return None;
+    }
+    if number > clauses.len() {
+        return None;
+    }
+    Some(&clauses[number - 1])
+}
+
+/// The query with this number, from 1.
+#[tactic(auto, using(crate::proofs::ClauseLemmas::query_zero, crate::proofs::ClauseLemmas::query_past, crate::proofs::ClauseLemmas::query_there))]
+pub(crate) fn query_at(program: &Program<Term>, number: u32) -> Option<&Query<Term>>
+    ensures { MatchOption result (query_numbered (program_of program.now).queries number ≡ None) (λ q. query_numbered (program_of program.now).queries number ≡ Some (query_of q.now)) }
+{
+    let queries = program.queries.items();
+    let number = number as usize;
+    if number == 0 {
+        return None;
+    }
+    if number > queries.len() {
+        return None;
+    }
+    Some(&queries[number - 1])
+}

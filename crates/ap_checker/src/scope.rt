@@ -1,0 +1,158 @@
+//! What stands for the identifiers of an item at a place in its goal, and terms with it put in.
+
+ghost use Rattle.std.specs.Prelude.{◌≡◌, map, IfOk, MatchOption, None, Some};
+ghost use Rattle.ap_defs.specs.Terms.{term_of, unit};
+ghost use Rattle.ap_defs.specs.Types.{locals_of};
+ghost use Rattle.ap_checks.specs.OpenEnvironments.{put_in, swap_in};
+ghost use Rattle.ap_checker.specs.Scopes.{environment_of, item_terms, name_stood, term_brought};
+
+use crate::lookups::{name_for, term_for};
+use crate::swappings::{is_same, moved};
+use ap_defs::goals::Local;
+use ap_defs::memory::Memory;
+use ap_defs::terms::{Name, Swap, Term, Var};
+use std::alloc::Global;
+
+/// What stands for the free identifiers of an item, or for one that its goal brought.
+#[derive(Clone, Copy, Debug)]
+pub(crate) enum Standing<'a> {
+    /// The terms for the free variables of a query, in order; each free name stands for itself.
+    Query(&'a [Local], &'a [Term]),
+    /// The names for the free names of a clause and the terms for its free variables, in order.
+    Clause(&'a [Local], &'a [Name], &'a [Term]),
+    /// The name for a name that `new` brought.
+    Name(Name, Name),
+    /// The term for a variable that `exists` brought.
+    Term(Var, &'a Term),
+}
+
+/// The name for a name, if this is what says it.
+fn name_at(standing: &Standing<'_>, b: Name) -> Option<Name>
+    ensures { result ≡ name_stood standing.now b }
+{
+    match standing {
+        Standing::Query(_, _) => Some(b),
+        Standing::Clause(locals, names, _) => Some(name_for(locals, names, b)),
+        Standing::Name(a, c) if is_same(a, &b) => Some(*c),
+        _ => None,
+    }
+}
+
+/// The term that `exists` brought for a variable, if this is what says it.
+fn term_at<'a>(standing: &Standing<'a>, x: Var) -> Option<&'a Term>
+    ensures { MatchOption result (term_brought standing.now x ≡ None) (λ t. term_brought standing.now x ≡ Some (term_of t.now)) }
+{
+    match standing {
+        Standing::Term(y, t) if y.num == x.num => Some(*t),
+        _ => None,
+    }
+}
+
+/// The identifiers of an item, and the terms for its free variables.
+fn item_at<'a>(standing: &Standing<'a>) -> Option<(&'a [Local], &'a [Term])>
+    ensures { MatchOption result (item_terms standing.now ≡ None) (λ p. item_terms standing.now ≡ Some (locals_of p.0.now, map term_of p.1.now)) }
+{
+    match standing {
+        Standing::Query(locals, terms) => Some((*locals, *terms)),
+        Standing::Clause(locals, _, terms) => Some((*locals, *terms)),
+        _ => None,
+    }
+}
+
+/// The name for a name. The innermost stands last.
+pub(crate) fn name_in(scope: &[Standing<'_>], b: Name) -> Name
+    ensures { result ≡ (environment_of scope.now).names b }
+{
+    for i in (0..scope.len()).rev() {
+        if let Some(c) = name_at(&scope[i], b) {
+            return c;
+        }
+    }
+    b
+}
+
+/// The term for a variable; where there is none, unit stands for it.
+pub(crate) fn term_in<'a>(scope: &[Standing<'a>], x: Var) -> Option<&'a Term>
+    ensures { MatchOption result ((environment_of scope.now).terms x ≡ unit) (λ t. (environment_of scope.now).terms x ≡ term_of t.now) }
+{
+    for i in (0..scope.len()).rev() {
+        let innermost = &scope[i];
+        if let Some(t) = term_at(innermost, x) {
+            return Some(t);
+        }
+        if let Some((locals, terms)) = item_at(innermost) {
+            return term_for(locals, terms, x);
+        }
+    }
+    None
+}
+
+/// The swapping with the names for its names.
+fn put_swap(scope: &[Standing<'_>], s: &Swap) -> Swap
+    ensures { result ≡ swap_in (environment_of scope.now) s.now }
+{
+    let sort = s.sort;
+    let left = name_in(scope, Name { sort, num: s.left });
+    let right = name_in(scope, Name { sort, num: s.right });
+    Swap {
+        sort,
+        left: left.num,
+        right: right.num,
+    }
+}
+
+/// The swappings with the names for their names.
+fn put_swaps(alloc: Global, scope: &[Standing<'_>], swaps: &[Swap]) -> Result<Vec<Swap>, Memory>
+    ensures { IfOk result (λ v. v.items ≡ map (swap_in (environment_of scope.now)) swaps.now) }
+{
+    let mut all = Vec::new(alloc);
+    for s in swaps {
+        all.push(put_swap(scope, s))?;
+    }
+    Ok(all)
+}
+
+/// The term with its names and variables replaced at once.
+pub(crate) fn put(alloc: Global, scope: &[Standing<'_>], t: &Term) -> Result<Term, Memory>
+    ensures { IfOk result (λ u. term_of u ≡ put_in (environment_of scope.now) (term_of t.now)) }
+{
+    match t {
+        Term::Unit => Ok(Term::Unit),
+        Term::Name(a) => Ok(Term::Name(name_in(scope, *a))),
+        Term::Pair(left, right) => {
+            let left = Box::new(alloc, put(alloc, scope, left)?)?;
+            let right = Box::new(alloc, put(alloc, scope, right)?)?;
+            Ok(Term::Pair(left, right))
+        }
+        Term::App(f, argument) => {
+            let argument = Box::new(alloc, put(alloc, scope, argument)?)?;
+            Ok(Term::App(*f, argument))
+        }
+        Term::Abs(a, body) => {
+            let body = Box::new(alloc, put(alloc, scope, body)?)?;
+            Ok(Term::Abs(name_in(scope, *a), body))
+        }
+        Term::Susp(swaps, x) => match term_in(scope, *x) {
+            None => Ok(Term::Unit),
+            Some(t) => {
+                let swaps = put_swaps(alloc, scope, swaps.items())?;
+                moved(alloc, &swaps, t)
+            }
+        },
+    }
+}
+
+/// The terms with their names and variables replaced at once.
+pub(crate) fn put_each(
+    alloc: Global,
+    scope: &[Standing<'_>],
+    terms: &[Term],
+) -> Result<Vec<Term>, Memory>
+    ensures { IfOk result (λ v. map term_of v.items ≡ map (put_in (environment_of scope.now)) (map term_of terms.now)) }
+{
+    let mut all = Vec::new(alloc);
+    for t in terms {
+        all.push(put(alloc, scope, t)?)?;
+    }
+    Ok(all)
+}

@@ -1,0 +1,91 @@
+//! The verdict on a derivation.
+
+ghost use Rattle.std.specs.Prelude.{◌≡◌, IfOk};
+ghost use Rattle.ap_defs.specs.Answers.{answer_of};
+ghost use Rattle.ap_defs.specs.Derivations.{derivation_of};
+ghost use Rattle.ap_defs.specs.Goals.{NominalProgram, program_of, query_of};
+ghost use Rattle.ap_checks.specs.Checks.{verdict, verdict_of};
+ghost use Rattle.ap_checker.specs.Rules.{verdict_said};
+ghost use Rattle.ap_checker.specs.Walks.{IsOnWay, refusal_on};
+
+use crate::answers::answer_fits;
+use crate::lookups::query_at;
+use crate::rules::Rule;
+use crate::scope::Standing;
+use crate::visits::visit;
+use crate::walk::{Place, Walk};
+use ap_defs::goals::{Program, Query};
+use ap_defs::memory::Memory;
+use ap_defs::outcomes::{Answer, Derivation, Verdict};
+use ap_defs::terms::Term;
+use ap_program::restricted::Restricted;
+use std::alloc::Global;
+
+/// The walk over a derivation of a query's goal, at its beginning.
+fn walk_from<'a>(
+    alloc: Global,
+    query: &'a Query<Term>,
+    answer: &'a Answer,
+    derivation: &'a Derivation,
+) -> Result<Walk<'a>, Memory>
+    ensures { (p : NominalProgram) → IfOk result (λ w. IsOnWay p (answer_of answer.now) (refusal_on p (query_of query.now) (answer_of answer.now) (derivation_of derivation.now)) 0 w) }
+{
+    let locals = query.locals.items();
+    let mut walk = Walk {
+        standing: Vec::new(alloc),
+        pending: Vec::new(alloc),
+    };
+    walk.bring(Standing::Query(locals, answer.binds.items()))?;
+    walk.put(Place {
+        derivation,
+        goal: &query.goal,
+        locals,
+    })?;
+    Ok(walk)
+}
+
+/// The verdict on a derivation of a query's goal, whose answer fits.
+fn verdict_on_nodes(
+    alloc: Global,
+    program: &Program<Term>,
+    query: &Query<Term>,
+    answer: &Answer,
+    derivation: &Derivation,
+) -> Result<Verdict, Memory>
+    ensures { IfOk result (λ v. verdict_said v ≡ verdict (refusal_on (program_of program.now) (query_of query.now) (answer_of answer.now) (derivation_of derivation.now))) }
+{
+    let mut walk = walk_from(alloc, query, answer, derivation)?;
+    let mut node: u64 = 0;
+    'nodes: while let Some(next) = walk.pending.pop() {
+        node = node.saturating_add(1);
+        walk.standing.truncate(next.mark);
+        if let Some(rule) = visit(alloc, program, answer, &mut walk, next.place)? {
+            let rule = rule.number();
+            return Ok(Verdict::No { node, rule });
+        }
+    }
+    Ok(Verdict::Yes)
+}
+
+/// The verdict on a derivation of an answer to the query with this number, from 1: `Yes` where it
+/// checks, or else the first node that is refused, in preorder from 1, and its least rule. Node 0 is the
+/// answer. A number that doesn't fit in 64 bits is given as the greatest that does. `Err` is want of memory.
+pub fn verify(
+    alloc: Global,
+    program: &Restricted,
+    query: u32,
+    answer: &Answer,
+    derivation: &Derivation,
+) -> Result<Verdict, Memory>
+    ensures { IfOk result (λ v. verdict_said v ≡ verdict_of (program_of program.now) query (answer_of answer.now) (derivation_of derivation.now)) }
+{
+    let program = program.program();
+    let rule = Rule::Answer.number();
+    let Some(query) = query_at(program, query) else {
+        return Ok(Verdict::No { node: 0, rule });
+    };
+    if !answer_fits(program, query, answer) {
+        return Ok(Verdict::No { node: 0, rule });
+    }
+    verdict_on_nodes(alloc, program, query, answer, derivation)
+}

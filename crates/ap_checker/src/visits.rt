@@ -1,0 +1,239 @@
+//! What is done at a node of a derivation: the rules are tried, and what is below the node comes next.
+
+ghost use Rattle.std.specs.Prelude.{◌≡◌, ℕ, List as list, length, map, IfOk, Option as option};
+ghost use Rattle.ap_defs.specs.Answers.{answer_of};
+ghost use Rattle.ap_defs.specs.Derivations as derivations;
+ghost use Rattle.ap_defs.specs.Derivations.{derivation_of};
+ghost use Rattle.ap_defs.specs.Goals as goals;
+ghost use Rattle.ap_defs.specs.Goals.{NominalProgram, clause_of, goal_of, program_of};
+ghost use Rattle.ap_defs.specs.Terms.{term_of};
+ghost use Rattle.ap_defs.specs.Types.{NominalKind};
+ghost use Rattle.ap_checks.specs.Checks.{Refusal, by_clause, first_of};
+ghost use Rattle.ap_checker.specs.Rules.{refused};
+ghost use Rattle.ap_checker.specs.Walks.{AreMarked, IsVisited, derivation_at, goal_at, kinds_at, left_of};
+
+use crate::equality::are_equal_under;
+use crate::fits::{counts_fit, names_fit, term_fits, terms_fit};
+use crate::lookups::clause_at;
+use crate::new_names::is_new;
+use crate::nodes::{all_differ, all_equal, is_name_fresh};
+use crate::rules::Rule;
+use crate::scope::{Standing, put, put_each};
+use crate::walk::{Place, Walk};
+use ap_defs::goals::{Clause, Goal, Program};
+use ap_defs::memory::Memory;
+use ap_defs::outcomes::{Answer, Derivation};
+use ap_defs::terms::{Name, Term, Var};
+use std::alloc::Global;
+
+/// A clause as a node uses it: its number, the names and terms for its free identifiers, and the
+/// derivation of its body.
+#[derive(Clone, Copy, Debug)]
+struct Use<'a> {
+    number: u32,
+    names: &'a [Name],
+    terms: &'a [Term],
+    body: &'a Derivation,
+}
+
+/// The least rule that refuses an atom's node by a clause, if one does.
+fn rule_of_clause(
+    alloc: Global,
+    program: &Program<Term>,
+    answer: &Answer,
+    args: &[Term],
+    used: &Use<'_>,
+    clause: &Clause<Term>,
+) -> Result<Option<Rule>, Memory>
+    ensures { IfOk result (λ r. (n : ℕ) (rest : option Refusal) → by_clause (program_of program.now) (answer_of answer.now) n used.now.names.now (map term_of used.now.terms.now) (map term_of args.now) (clause_of clause.now) rest ≡ first_of (refused n r) rest) }
+{
+    let locals = clause.locals.items();
+    if !counts_fit(locals, used.names, used.terms) {
+        return Ok(Some(Rule::Count));
+    }
+    if !all_differ(used.names) {
+        return Ok(Some(Rule::Distinct));
+    }
+    if !names_fit(locals, used.names) {
+        return Ok(Some(Rule::Typing));
+    }
+    let constructors = program.signature.constructors.items();
+    if !terms_fit(constructors, answer.vars.items(), locals, used.terms) {
+        return Ok(Some(Rule::Typing));
+    }
+    let scope = [Standing::Clause(locals, used.names, used.terms)];
+    let head = put_each(alloc, &scope, clause.args.items())?;
+    if !all_equal(alloc, answer.conds.items(), args, &head)? {
+        return Ok(Some(Rule::Head));
+    }
+    Ok(None)
+}
+
+/// An atom's node.
+fn visit_atom<'a>(
+    alloc: Global,
+    program: &'a Program<Term>,
+    answer: &Answer,
+    walk: &mut Walk<'a>,
+    used: &Use<'a>,
+    pred: u32,
+    args: &[Term],
+) -> Result<Option<Rule>, Memory>
+    requires { AreMarked (length walk.old.standing.items) (left_of walk.old) }
+    ensures { IfOk result (λ r. (kinds : list NominalKind) → IsVisited (program_of program.now) (answer_of answer.now) kinds (derivations.atom used.now.number used.now.names.now (map term_of used.now.terms.now) (derivation_of used.now.body.now)) (goals.atom pred (map term_of args.now)) walk.old walk.new r) }
+{
+    let Some(clause) = clause_at(program, pred, used.number) else {
+        return Ok(Some(Rule::Clause));
+    };
+    let args = put_each(alloc, &walk.standing, args)?;
+    if let Some(rule) = rule_of_clause(alloc, program, answer, &args, used, clause)? {
+        return Ok(Some(rule));
+    }
+    let locals = clause.locals.items();
+    walk.bring(Standing::Clause(locals, used.names, used.terms))?;
+    walk.put(Place {
+        derivation: used.body,
+        goal: &clause.body,
+        locals,
+    })?;
+    Ok(None)
+}
+
+/// An equation's node.
+fn visit_equation(
+    alloc: Global,
+    answer: &Answer,
+    walk: &Walk<'_>,
+    left: &Term,
+    right: &Term,
+) -> Result<Option<Rule>, Memory>
+    requires { AreMarked (length walk.now.standing.items) (left_of walk.now) }
+    ensures { IfOk result (λ r. (p : NominalProgram) (kinds : list NominalKind) → IsVisited p (answer_of answer.now) kinds derivations.equal (goals.equal (term_of left.now) (term_of right.now)) walk.now walk.now r) }
+{
+    let scope = walk.standing.as_slice();
+    let left = put(alloc, scope, left)?;
+    let right = put(alloc, scope, right)?;
+    if !are_equal_under(alloc, answer.conds.items(), &left, &right)? {
+        return Ok(Some(Rule::Equal));
+    }
+    Ok(None)
+}
+
+/// The node of a freshness goal.
+fn visit_freshness(
+    alloc: Global,
+    answer: &Answer,
+    walk: &Walk<'_>,
+    left: &Term,
+    right: &Term,
+) -> Result<Option<Rule>, Memory>
+    requires { AreMarked (length walk.now.standing.items) (left_of walk.now) }
+    ensures { IfOk result (λ r. (p : NominalProgram) (kinds : list NominalKind) → IsVisited p (answer_of answer.now) kinds derivations.fresh (goals.fresh (term_of left.now) (term_of right.now)) walk.now walk.now r) }
+{
+    let scope = walk.standing.as_slice();
+    let left = put(alloc, scope, left)?;
+    let right = put(alloc, scope, right)?;
+    if !is_name_fresh(answer.conds.items(), &left, &right) {
+        return Ok(Some(Rule::Fresh));
+    }
+    Ok(None)
+}
+
+/// The node of an `exists`, which brings a term for its variable.
+fn visit_exists<'a>(
+    program: &Program<Term>,
+    answer: &Answer,
+    walk: &mut Walk<'a>,
+    x: Var,
+    term: &'a Term,
+    below: Place<'a>,
+) -> Result<Option<Rule>, Memory>
+    requires { AreMarked (length walk.old.standing.items) (left_of walk.old) }
+    ensures { IfOk result (λ r. IsVisited (program_of program.now) (answer_of answer.now) (kinds_at below.entry) (derivations.exists (term_of term.now) (derivation_at below.entry)) (goals.exists x (goal_at below.entry)) walk.old walk.new r) }
+{
+    let constructors = program.signature.constructors.items();
+    if !term_fits(constructors, answer.vars.items(), below.locals, x, term) {
+        return Ok(Some(Rule::Typing));
+    }
+    walk.bring(Standing::Term(x, term))?;
+    walk.put(below)?;
+    Ok(None)
+}
+
+/// The node of a `new` goal, which brings a name for its own.
+fn visit_new<'a>(
+    alloc: Global,
+    answer: &Answer,
+    walk: &mut Walk<'a>,
+    goal: &Goal<Term>,
+    names: (Name, Name),
+    below: Place<'a>,
+) -> Result<Option<Rule>, Memory>
+    requires marked { AreMarked (length walk.old.standing.items) (left_of walk.old) }
+    requires goal { goal_of goal.now ≡ goals.new names.0 (goal_at below) }
+    ensures { IfOk result (λ r. (p : NominalProgram) → IsVisited p (answer_of answer.now) (kinds_at below.entry) (derivations.new names.1 (derivation_at below.entry)) (goal_of goal.now) walk.old walk.new r) }
+{
+    let (own, name) = names;
+    if name.sort != own.sort {
+        return Ok(Some(Rule::Typing));
+    }
+    let conds = answer.conds.items();
+    if !is_new(alloc, conds, &walk.standing, name, goal)? {
+        return Ok(Some(Rule::NewName));
+    }
+    walk.bring(Standing::Name(own, name))?;
+    walk.put(below)?;
+    Ok(None)
+}
+
+/// Looks at a node: the least rule that refuses it, or none, and then what is below it comes next.
+pub(crate) fn visit<'a>(
+    alloc: Global,
+    program: &'a Program<Term>,
+    answer: &Answer,
+    walk: &mut Walk<'a>,
+    at: Place<'a>,
+) -> Result<Option<Rule>, Memory>
+    requires { AreMarked (length walk.old.standing.items) (left_of walk.old) }
+    ensures { IfOk result (λ r. IsVisited (program_of program.now) (answer_of answer.now) (kinds_at at.entry) (derivation_at at.entry) (goal_at at.entry) walk.old walk.new r) }
+{
+    match (at.derivation, at.goal) {
+        (Derivation::Atom(number, names, terms, body), Goal::Atom(pred, args)) => {
+            let used = Use {
+                number: *number,
+                names: names.items(),
+                terms: terms.items(),
+                body,
+            };
+            visit_atom(alloc, program, answer, walk, &used, *pred, args.items())
+        }
+        (Derivation::Eq, Goal::Equal(left, right)) => {
+            visit_equation(alloc, answer, walk, left, right)
+        }
+        (Derivation::Fresh, Goal::Fresh(left, right)) => {
+            visit_freshness(alloc, answer, walk, left, right)
+        }
+        (Derivation::True, Goal::True) => Ok(None),
+        (Derivation::Both(first, second), Goal::Both(left, right)) => {
+            walk.put(at.below(second, right))?;
+            walk.put(at.below(first, left))?;
+            Ok(None)
+        }
+        (Derivation::Left(below), Goal::Either(left, _)) => {
+            walk.put(at.below(below, left))?;
+            Ok(None)
+        }
+        (Derivation::Right(below), Goal::Either(_, right)) => {
+            walk.put(at.below(below, right))?;
+            Ok(None)
+        }
+        (Derivation::Exists(term, below), Goal::Exists(x, goal)) => {
+            visit_exists(program, answer, walk, *x, term, at.below(below, goal))
+        }
+        (Derivation::New(name, below), Goal::New(own, goal)) => {
+            let below = at.below(below, goal);
+            visit_new(alloc, answer, walk, at.goal, (*own, *name), below)
+        }
+        _ => Ok(Some(Rule::Shape)),
+    }
+}

@@ -1,0 +1,66 @@
+//! A walk over a derivation, in preorder.
+
+ghost use Rattle.std.specs.Prelude.{◌≡◌, [], ◌∷◌, ◌++◌, length, OnOk};
+ghost use Rattle.ap_checker.specs.Walks.{pending_at};
+
+use crate::scope::Standing;
+use ap_defs::goals::{Goal, Local};
+use ap_defs::memory::Memory;
+use ap_defs::outcomes::Derivation;
+use ap_defs::terms::Term;
+
+/// A node, the goal at its place, and the identifiers of the goal's item.
+#[derive(Clone, Copy, Debug)]
+pub(crate) struct Place<'a> {
+    pub derivation: &'a Derivation,
+    pub goal: &'a Goal<Term>,
+    pub locals: &'a [Local],
+}
+
+/// A node that is yet to be looked at, and how much of what stands for identifiers stands there.
+#[derive(Clone, Copy, Debug)]
+pub(crate) struct Pending<'a> {
+    pub place: Place<'a>,
+    pub mark: usize,
+}
+
+/// What stands for identifiers, the innermost last, and the nodes that are left, the next one last.
+#[derive(Debug, Drop)]
+pub(crate) struct Walk<'a> {
+    pub standing: Vec<Standing<'a>>,
+    pub pending: Vec<Pending<'a>>,
+}
+
+impl<'a> Place<'a> {
+    /// A node below this one, for a goal in this one's goal.
+    pub(crate) fn below(self, derivation: &'a Derivation, goal: &'a Goal<Term>) -> Place<'a>
+        ensures { result ≡ record { derivation = derivation.entry; goal = goal.entry; locals = self.entry.locals } }
+    {
+        Place {
+            derivation,
+            goal,
+            locals: self.locals,
+        }
+    }
+}
+
+impl<'a> Walk<'a> {
+    /// Something stands innermost.
+    pub(crate) fn bring(&mut self, what: Standing<'a>) -> Result<(), Memory>
+        ensures standing { OnOk result (self.new.standing.items ≡ self.old.standing.items ++ what.entry ∷ []) }
+        ensures pending { self.new.pending.items ≡ self.old.pending.items }
+    {
+        self.standing.push(what)?;
+        Ok(())
+    }
+
+    /// The node comes next, where all stands that stands now.
+    pub(crate) fn put(&mut self, place: Place<'a>) -> Result<(), Memory>
+        ensures standing { self.new.standing.items ≡ self.old.standing.items }
+        ensures pending { OnOk result (self.new.pending.items ≡ self.old.pending.items ++ pending_at place.entry (length self.old.standing.items) ∷ []) }
+    {
+        let mark = self.standing.len();
+        self.pending.push(Pending { place, mark })?;
+        Ok(())
+    }
+}
