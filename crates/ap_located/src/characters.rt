@@ -1,0 +1,213 @@
+//! What is said where no token begins.
+ghost use Rattle.std.specs.Prelude.{◌≡◌};
+
+use crate::messages::Message;
+use crate::spots::Span;
+use ap_defs::memory::Memory;
+use std::alloc::Global;
+use unicode_ident::{is_xid_continue, is_xid_start};
+
+/// The bytes of the line with a number, without its end.
+fn line_span(text: &[u8], line: u64) -> Span {
+    let mut start = 0;
+    let mut number: u64 = 1;
+    for (place, byte) in text.iter().enumerate() {
+        if *byte == b'\n' {
+            if number == line {
+                return Span { start, end: place };
+            }
+            number = number.saturating_add(1);
+            start = place.saturating_add(1);
+        }
+    }
+    Span {
+        start,
+        end: text.len(),
+    }
+}
+
+/// The longest front that is UTF-8.
+fn valid_front(bytes: &[u8]) -> &str {
+    match std::str::from_utf8(bytes) {
+        Ok(text) => text,
+        Err(error) => match std::str::from_utf8(bytes.get(..error.valid_up_to()).unwrap_or(&[])) {
+            Ok(text) => text,
+            Err(_) => "",
+        },
+    }
+}
+
+/// What stands before a character.
+#[derive(Clone, Copy)]
+enum Before {
+    Nothing,
+    Word,
+    /// A sign that another may follow.
+    Sign(char),
+}
+
+// What stands before the next character, or `None` where this one begins no token.
+fn next(before: Before, c: char, after: Option<char>) -> Option<Before> {
+    if matches!(before, Before::Word) && is_xid_continue(c) {
+        return Some(Before::Word);
+    }
+    match (before, c) {
+        (_, ' ' | '\t' | '\r' | '\n') => Some(Before::Nothing),
+        (Before::Sign(':' | '?'), '-') | (Before::Sign('-'), '>') => Some(Before::Nothing),
+        (_, ':') => Some(Before::Sign(':')),
+        (_, '?') if after == Some('-') => Some(Before::Sign('?')),
+        (_, '-') if after == Some('>') => Some(Before::Sign('-')),
+        (_, '.' | ',' | ';' | '(' | ')' | '[' | ']' | '|' | '\\' | '#' | '=') => {
+            Some(Before::Nothing)
+        }
+        (_, 'A'..='Z' | '_') => Some(Before::Word),
+        _ if is_xid_start(c) => Some(Before::Word),
+        _ => None,
+    }
+}
+
+/// A character that begins no token: its place, itself, and its neighbours.
+#[derive(Clone, Copy)]
+struct Stray {
+    place: usize,
+    c: char,
+    before: Option<char>,
+    after: Option<char>,
+}
+
+/// The first character of a line at which no token begins.
+fn stray_in(line: &str) -> Option<Stray> {
+    let mut state = Before::Nothing;
+    let mut before = None;
+    for (place, c) in line.char_indices() {
+        let rest = line.get(place.saturating_add(c.len_utf8())..).unwrap_or("");
+        let after = rest.chars().next();
+        if c == '%' {
+            return None;
+        }
+        match next(state, c, after) {
+            Some(next) => state = next,
+            None => {
+                return Some(Stray {
+                    place,
+                    c,
+                    before,
+                    after,
+                });
+            }
+        }
+        before = Some(c);
+    }
+    None
+}
+
+/// What a character is called, where its shape doesn't show it.
+fn name_of(c: char) -> &'static str {
+    match c {
+        '\u{FEFF}' => "a byte order mark",
+        '\u{A0}' => "a space that allows no break",
+        '\u{200B}'..='\u{200D}' | '\u{2060}' => "a character without width",
+        '\u{2028}' | '\u{2029}' => "a separator of lines",
+        '\u{61C}' | '\u{200E}' | '\u{200F}' | '\u{202A}'..='\u{202E}' | '\u{2066}'..='\u{2069}' => {
+            "a mark of the writing direction"
+        }
+        '\u{300}'..='\u{36F}' => "an accent without a letter before it",
+        '\u{0}'..='\u{1F}' | '\u{7F}'..='\u{9F}' => "a control character",
+        _ => "",
+    }
+}
+
+const COMMENT: &str = "a comment begins with `%` and goes to the end of the line";
+
+const NEGATION: &str =
+    "there is no negation: that a name is not in a term is `a # t`; else write a predicate for the contrary";
+
+// What is meant by signs of other languages that have two characters.
+fn pair_advice(stray: Stray) -> Option<&'static str> {
+    match (stray.c, stray.before, stray.after) {
+        ('+', Some('\\'), _) => Some(NEGATION),
+        ('/', _, Some('*' | '/')) | ('-', _, Some('-')) => Some(COMMENT),
+        ('<', _, Some('-')) => Some("a clause is written `head :- goals.`"),
+        _ => None,
+    }
+}
+
+// What is not in the language where a character stands, and what to write.
+fn advice(c: char) -> &'static str {
+    match c {
+        '0'..='9' => {
+            "there are no numbers: declare `nat : type.`, `z : nat.`, `s : nat -> nat.` and write `s(z)`"
+        }
+        '"' => "there are no strings: declare constructors for what they stand for",
+        '\'' | '`' => {
+            "there are no quoted words: a word begins with a letter and goes on with letters, digits and `_`"
+        }
+        '!' => {
+            "there is no cut: clauses are tried in order, and each that fits counts; say in each when it holds"
+        }
+        '&' => "goals that must all hold stand with `,` between",
+        '+' | '-' | '*' | '/' | '<' | '>' | '^' => {
+            "there is no arithmetic: write predicates over constructors such as `z` and `s(t)`"
+        }
+        '{' | '}' => "brackets are `(` and `)`, and `[` and `]` for lists",
+        '~' => NEGATION,
+        '?' => "a query begins with `?-`",
+        '\u{2018}'..='\u{201F}' => "there are no strings and no quoted words",
+        '\u{FEFF}' => "save the text without it",
+        '\u{A0}' => "write a plain space",
+        _ => "what a text may hold stands in docs/LANGUAGE.md, under `Tokens`",
+    }
+}
+
+// What helps with a character in this line.
+fn stray_note(line: &str, stray: Stray) -> &'static str {
+    if line.starts_with('#') {
+        return "there is no `include` and there are no modules: all of a program stands in one text";
+    }
+    match pair_advice(stray) {
+        Some(note) => note,
+        None => advice(stray.c),
+    }
+}
+
+fn stray_sentence(alloc: Global, c: char) -> Result<String, Memory> {
+    let code = c as u32;
+    let name = name_of(c);
+    if name.is_empty() {
+        return Ok(format!(in alloc; "no token begins with the character `{c}` (U+{code:04X})")?);
+    }
+    Ok(format!(in alloc; "{name} (U+{code:04X}) stands where no token begins with it")?)
+}
+
+/// What is said of the first character of a line at which no token begins.
+pub fn explain_character(alloc: Global, text: &[u8], line: u64) -> Result<Message, Memory> {
+    let whole = line_span(text, line);
+    let front = valid_front(text.get(whole.start..whole.end).unwrap_or(&[]));
+    let Some(stray) = stray_in(front) else {
+        return Message::new(alloc, whole, "no token begins here");
+    };
+    let start = whole.start.saturating_add(stray.place);
+    let span = Span {
+        start,
+        end: start.saturating_add(stray.c.len_utf8()),
+    };
+    let sentence = stray_sentence(alloc, stray.c)?;
+    Message::new(alloc, span, sentence.as_str())?.note(alloc, stray_note(front, stray))
+}
+
+/// What is said of bytes that are not UTF-8.
+pub fn explain_bytes(alloc: Global, text: &[u8]) -> Result<Message, Memory> {
+    let start = valid_front(text).len();
+    let span = Span {
+        start,
+        end: start.saturating_add(1),
+    };
+    let byte = text.get(start).copied().unwrap_or(0);
+    let sentence = format!(in alloc;
+        "the byte {byte} (hexadecimal {byte:02X}) begins no character of UTF-8"
+    )?;
+    Message::new(alloc, span, sentence.as_str())?.note(
+        alloc,
+        "save the text in the encoding UTF-8, comments too",
+    )
+}

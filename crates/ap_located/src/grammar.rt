@@ -1,0 +1,133 @@
+//! What is said of an item that isn't in the grammar.
+ghost use Rattle.std.specs.Prelude.{◌≡◌};
+
+use crate::habits::habit;
+use crate::items::{line_at, span_at, text_at};
+use crate::messages::Message;
+use crate::nodes::{Form, Node, node_at};
+use crate::reader::read_item;
+use crate::slips::{Slip, Wanted};
+use crate::spots::{Span, shown_word};
+use ap_defs::memory::Memory;
+use ap_lexer::{Token, TokenKind};
+use std::alloc::Global;
+
+// What closes or goes on with an open node.
+fn wanted_in(form: Form) -> &'static str {
+    match form {
+        Form::List => "`,`, `|` or `]` is wanted here",
+        Form::ListTail => "`]` is wanted here",
+        Form::Group | Form::Exists | Form::New => "`,`, `;` or `)` is wanted here",
+        _ => "`,` or `)` is wanted here",
+    }
+}
+
+// What could stand where an item can't go on.
+fn wanted_text(wanted: Wanted, open: Form) -> &'static str {
+    match wanted {
+        Wanted::Item => "an item begins with a word, `pred` or `?-`",
+        Wanted::Goal =>
+            "a goal is wanted here: `p(t)`, `t = u`, `a # t`, `exists X (..)` or `new a (..)`",
+        Wanted::Term => "a term is wanted here",
+        Wanted::Type => "a type is wanted here",
+        Wanted::Name => "a name is wanted here",
+        Wanted::Variable => "a variable is wanted here",
+        Wanted::Word => "the word of a predicate is wanted here",
+        Wanted::ResultWord => "the word of a data type is wanted here",
+        Wanted::Open => "`(` is wanted here",
+        Wanted::Close => wanted_in(open),
+        Wanted::Swap => "`,` is wanted here, as in `swap(a, b, t)`",
+        Wanted::Relation => "`=` or `#` is wanted here: a term alone is no goal",
+        Wanted::Body => "`:-` or `.` is wanted here",
+        Wanted::Arrow => "`->` and the word of a data type are wanted here",
+        Wanted::PredicateTypes => "types in parentheses, or `.`, are wanted here",
+        Wanted::NextGoal => "`,`, `;` or `.` is wanted here",
+        Wanted::End => "`.` is wanted here",
+    }
+}
+
+// Whether the token begins an item in a line of its own, where one could end before it.
+fn begins_item(tokens: &[Token<'_>], slip: Slip) -> bool {
+    let Some(token) = tokens.get(slip.token) else {
+        return false;
+    };
+    let ends = matches!(
+        slip.wanted,
+        Wanted::NextGoal | Wanted::Body | Wanted::Arrow | Wanted::End | Wanted::PredicateTypes
+    );
+    let begins = token.kind == TokenKind::Ident || token.text == "?-" || token.text == "pred";
+    let before = line_at(tokens, slip.token.saturating_sub(1));
+    slip.token > 0 && ends && begins && token.line > before
+}
+
+fn missing_end(alloc: Global, tokens: &[Token<'_>], slip: Slip) -> Result<Message, Memory> {
+    let end = span_at(tokens, slip.token.saturating_sub(1)).end;
+    let span = Span {
+        start: end,
+        end: end.saturating_add(1),
+    };
+    let line = line_at(tokens, slip.token);
+    Message::new(alloc, span, "a `.` is missing before the next item")?
+        .label(alloc, "the item ends here by a `.`")?
+        .note(
+            alloc,
+            format!(in alloc; "the next item begins in line {line}")?.as_str(),
+        )
+}
+
+fn slip_sentence(alloc: Global, tokens: &[Token<'_>], slip: Slip) -> Result<String, Memory> {
+    if slip.token >= tokens.len() {
+        return Ok(String::from_str(alloc, "the item can't end here")?);
+    }
+    let word = shown_word(alloc, text_at(tokens, slip.token))?;
+    Ok(format!(in alloc; "the item can't go on with `{word}`")?)
+}
+
+// Where the bracket that is open begins, if one is.
+fn open_note(alloc: Global, tokens: &[Token<'_>], node: Node) -> Result<Option<String>, Memory> {
+    let brackets = matches!(
+        node.form,
+        Form::Apply | Form::Tuple | Form::List | Form::ListTail | Form::Group | Form::Predicate
+    );
+    if !brackets {
+        return Ok(None);
+    }
+    let line = line_at(tokens, node.first);
+    let word = shown_word(alloc, text_at(tokens, node.first))?;
+    Ok(Some(format!(in alloc; "what `{word}` opens in line {line} is not closed")?))
+}
+
+fn slip_message(
+    alloc: Global,
+    tokens: &[Token<'_>],
+    nodes: &[Node],
+    slip: Slip,
+) -> Result<Message, Memory> {
+    let open = node_at(nodes, slip.open);
+    let sentence = slip_sentence(alloc, tokens, slip)?;
+    let mut message = Message::new(alloc, span_at(tokens, slip.token), sentence.as_str())?.label(
+        alloc,
+        wanted_text(slip.wanted, open.form),
+    )?;
+    match habit(tokens, nodes, slip) {
+        Some(note) => message = message.note(alloc, note)?,
+        None => {
+            if slip.wanted == Wanted::Close {
+                if let Some(note) = open_note(alloc, tokens, open)? {
+                    message = message.note(alloc, note.as_str())?;
+                }
+            }
+        }
+    }
+    Ok(message)
+}
+
+/// What is said of an item, without its `.`, that isn't in the grammar.
+pub fn explain_grammar(alloc: Global, tokens: &[Token<'_>]) -> Result<Message, Memory> {
+    let reading = read_item(alloc, tokens)?;
+    match reading.slip {
+        Some(slip) if begins_item(tokens, slip) => missing_end(alloc, tokens, slip),
+        Some(slip) => slip_message(alloc, tokens, reading.nodes.all(), slip),
+        None => Message::new(alloc, span_at(tokens, 0), "the item is not in the grammar"),
+    }
+}

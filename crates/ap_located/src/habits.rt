@@ -1,0 +1,227 @@
+//! Slips of those who come from other languages.
+ghost use Rattle.std.specs.Prelude.{◌≡◌};
+
+use crate::items::text_at;
+use crate::nodes::{Form, Node, node_at};
+use crate::slips::{Slip, Wanted};
+use ap_lexer::{Token, TokenKind};
+
+/// A token at which an item can't go on, with its neighbours.
+#[derive(Clone, Copy)]
+struct Around<'a> {
+    text: &'a str,
+    before: &'a str,
+    kind: Option<TokenKind>,
+    kind_before: Option<TokenKind>,
+    // whether the item is a declaration
+    declares: bool,
+    wanted: Wanted,
+    open: Form,
+    // the word that opens the open node
+    opener: &'a str,
+}
+
+fn kind_at(tokens: &[Token<'_>], place: usize) -> Option<TokenKind> {
+    match tokens.get(place) {
+        Some(token) => Some(token.kind),
+        None => None,
+    }
+}
+
+fn around_of<'a>(tokens: &[Token<'a>], nodes: &[Node], slip: Slip) -> Around<'a> {
+    let open = node_at(nodes, slip.open);
+    let (before, kind_before) = if slip.token == 0 {
+        ("", None)
+    } else {
+        let before = slip.token.saturating_sub(1);
+        (text_at(tokens, before), kind_at(tokens, before))
+    };
+    Around {
+        text: text_at(tokens, slip.token),
+        before,
+        kind: kind_at(tokens, slip.token),
+        kind_before,
+        declares: text_at(tokens, 0) == "pred" || text_at(tokens, 1) == ":",
+        wanted: slip.wanted,
+        open: open.form,
+        opener: text_at(tokens, open.first),
+    }
+}
+
+// Whether a term may end with the token.
+fn ends_term(kind: Option<TokenKind>, text: &str) -> bool {
+    match kind {
+        Some(TokenKind::Ident | TokenKind::Var) => true,
+        Some(TokenKind::Sign) => text == ")" || text == "]",
+        _ => false,
+    }
+}
+
+// Whether a term may begin with the token.
+fn begins_term(kind: Option<TokenKind>, text: &str) -> bool {
+    match kind {
+        Some(TokenKind::Ident | TokenKind::Var) => true,
+        Some(TokenKind::Sign) => text == "(" || text == "[",
+        _ => false,
+    }
+}
+
+// Slips in how an item begins.
+fn at_begin(at: Around<'_>) -> Option<&'static str> {
+    if at.wanted == Wanted::Item && at.kind == Some(TokenKind::Reserved) {
+        return Some("this is a reserved word; it can't be declared and can't be called");
+    }
+    if at.wanted == Wanted::Item && at.kind == Some(TokenKind::Var) {
+        return Some(
+            "words of types, constructors and predicates begin with a small letter; variables with a capital",
+        );
+    }
+    if at.wanted == Wanted::Body && at.text == "," {
+        return Some("a clause has one head; its goals stand behind `:-`");
+    }
+    if at.wanted == Wanted::Body && (at.text == "=" || at.text == "#") {
+        return Some(
+            "a clause begins with a predicate; an equation stands behind `:-` or in a query",
+        );
+    }
+    let word = at.kind == Some(TokenKind::Ident) || at.kind == Some(TokenKind::Reserved);
+    if at.wanted == Wanted::Body && word && at.kind_before == Some(TokenKind::Ident) {
+        return Some(
+            "a data type is declared by `exp : type.`, a name type by `id : name_type.`, a constructor by `f : t -> u.`",
+        );
+    }
+    None
+}
+
+// Slips in declarations.
+fn in_types(at: Around<'_>) -> Option<&'static str> {
+    if at.wanted == Wanted::PredicateTypes {
+        return Some("the types of a predicate stand in parentheses: `pred p(t, u).`");
+    }
+    if at.wanted == Wanted::Type && at.kind == Some(TokenKind::Var) {
+        return Some(
+            "there are no type variables: declare a predicate for each type that is needed",
+        );
+    }
+    if at.wanted == Wanted::Type && at.text == ")" && at.before == "(" {
+        return Some("a predicate without arguments is declared without parentheses: `pred p.`");
+    }
+    if at.wanted == Wanted::End && at.text == "->" {
+        return Some("several arguments stand in parentheses: `(t, u) -> v`");
+    }
+    if at.wanted == Wanted::Word {
+        return Some("the word of a predicate begins with a small letter");
+    }
+    if at.declares && at.text == "->" {
+        return Some(
+            "no term is a function; the type of what binds a name of the type `n` is `n\\t`",
+        );
+    }
+    if at.declares && begins_term(at.kind, at.text) && ends_term(at.kind_before, at.before) {
+        return Some(
+            "types have no parameters; a list with elements of the type `t` has the type `[t]`",
+        );
+    }
+    if at.wanted == Wanted::Arrow && at.text == "," {
+        return Some("several arguments stand in parentheses: `(t, u) -> v`");
+    }
+    None
+}
+
+// Slips in what `new` and `exists` bring.
+fn in_binders(at: Around<'_>) -> Option<&'static str> {
+    match at.wanted {
+        Wanted::Name if at.open == Form::Swap => {
+            Some("the first two parts of `swap` are names: `swap(a, b, t)`")
+        }
+        Wanted::Name => Some(
+            "`new` brings a name, whose word begins with a small letter: `new x (goal)`",
+        ),
+        Wanted::Variable => {
+            Some("`exists` brings a variable, which begins with a capital: `exists X (goal)`")
+        }
+        Wanted::Open if at.open == Form::New && at.text == "," => {
+            Some("`new` brings one name: `new x (new y (goal))`")
+        }
+        Wanted::Open if at.open == Form::Exists && at.text == "," => {
+            Some("`exists` brings one variable: `exists X (exists Y (goal))`")
+        }
+        Wanted::Open if at.open == Form::New || at.open == Form::Exists => {
+            Some("the goal stands in parentheses: `new x (goal)`, `exists X (goal)`")
+        }
+        Wanted::Open if at.open == Form::Swap => Some("a swapping is written `swap(a, b, t)`"),
+        _ => None,
+    }
+}
+
+// Slips in goals, by the token.
+fn in_goals(at: Around<'_>) -> Option<&'static str> {
+    if at.text == "is" {
+        return Some("there is no arithmetic and no `is`; `t = u` makes two terms equal");
+    }
+    if at.open == Form::Apply && at.opener == "not" {
+        return Some(
+            "there is no negation: that a name is not in a term is `a # t`; else write a predicate for the contrary",
+        );
+    }
+    if at.text == "->" {
+        return Some("there is no if-then-else: write a clause for each case, or `G1, H1 ; G2, H2`");
+    }
+    if at.text == "(" && at.kind_before == Some(TokenKind::Var) {
+        return Some("a variable stands for a term; it can't be called and has no arguments");
+    }
+    if at.text == ":" || (at.before == "=" && at.text == "=") {
+        return Some("two terms are made equal by one `=`");
+    }
+    if at.text == "|" && at.wanted != Wanted::Close {
+        return Some("goals of which one must hold stand with `;` between");
+    }
+    if at.wanted == Wanted::NextGoal && begins_term(at.kind, at.text) {
+        return Some("goals that must all hold stand with `,` between");
+    }
+    if at.text == ":-" || at.text == "?-" {
+        return Some("is a `.` missing before this item?");
+    }
+    None
+}
+
+// Slips in terms.
+fn in_terms(at: Around<'_>) -> Option<&'static str> {
+    if at.text == ")" && at.before == "(" && at.open == Form::Apply {
+        return Some("without arguments no parentheses stand behind the word");
+    }
+    if at.text == "\\" {
+        return Some("left of `\\` stands a name alone: `x\\t`");
+    }
+    if (at.text == ")" || at.text == "]")
+        && matches!(at.wanted, Wanted::NextGoal | Wanted::Body | Wanted::End)
+    {
+        return Some("no bracket is open that it could close");
+    }
+    let in_arguments = matches!(at.open, Form::Apply | Form::Tuple | Form::List);
+    if in_arguments && begins_term(at.kind, at.text) && ends_term(at.kind_before, at.before) {
+        return Some("arguments stand in parentheses with commas between: `f(t, u)`");
+    }
+    if at.kind == Some(TokenKind::Reserved) {
+        return Some("this is a reserved word; it is no name and no constructor");
+    }
+    None
+}
+
+/// What those who wrote this may not know.
+pub fn habit(tokens: &[Token<'_>], nodes: &[Node], slip: Slip) -> Option<&'static str> {
+    let at = around_of(tokens, nodes, slip);
+    if let Some(note) = at_begin(at) {
+        return Some(note);
+    }
+    if let Some(note) = in_types(at) {
+        return Some(note);
+    }
+    if let Some(note) = in_binders(at) {
+        return Some(note);
+    }
+    if let Some(note) = in_goals(at) {
+        return Some(note);
+    }
+    in_terms(at)
+}

@@ -1,0 +1,156 @@
+//! Reading how an item begins and ends.
+ghost use Rattle.std.specs.Prelude.{◌≡◌};
+
+use crate::nodes::{Form, node_at};
+use crate::reader::{Expect, Known, Reader, Stop, is_sign, sign_at};
+use crate::slips::Wanted;
+use ap_lexer::{Token, TokenKind};
+
+impl<'t, 'a> Reader<'t, 'a> {
+    pub(crate) fn take_start(&mut self, place: usize, token: &Token<'a>) -> Result<(), Stop> {
+        if token.kind == TokenKind::Reserved && token.text == "pred" {
+            self.expect = Expect::PredicateWord;
+            return Ok(());
+        }
+        if is_sign(token, "?-") {
+            self.expect = Expect::Goal;
+            return Ok(());
+        }
+        if token.kind != TokenKind::Ident {
+            return Err(self.stop(place, Wanted::Item));
+        }
+        if sign_at(self.tokens, place.saturating_add(1), ":") {
+            self.nodes.add(Form::Word, place)?;
+            self.expect = Expect::Known(Known::Colon);
+            return Ok(());
+        }
+        self.nodes.enter(Form::Head, place)?;
+        self.take_term(place, token)
+    }
+
+    pub(crate) fn take_known(
+        &mut self,
+        place: usize,
+        token: &Token<'a>,
+        known: Known,
+    ) -> Result<(), Stop> {
+        match known {
+            Known::Lambda => self.expect = Expect::Term,
+            Known::Open => {
+                if !is_sign(token, "(") {
+                    return Err(self.stop(place, Wanted::Open));
+                }
+                self.expect = Expect::Term;
+            }
+            Known::OpenGoals => {
+                if !is_sign(token, "(") {
+                    return Err(self.stop(place, Wanted::Open));
+                }
+                self.expect = Expect::Goal;
+            }
+            Known::Colon => self.expect = Expect::DeclaredType,
+        }
+        Ok(())
+    }
+
+    pub(crate) fn take_new_name(&mut self, place: usize, token: &Token<'a>) -> Result<(), Stop> {
+        if token.kind != TokenKind::Ident {
+            return Err(self.stop(place, Wanted::Name));
+        }
+        self.nodes.add(Form::Binder, place)?;
+        self.expect = Expect::Known(Known::OpenGoals);
+        Ok(())
+    }
+
+    pub(crate) fn take_exists_name(&mut self, place: usize, token: &Token<'a>) -> Result<(), Stop> {
+        if token.kind != TokenKind::Var || token.text == "_" {
+            return Err(self.stop(place, Wanted::Variable));
+        }
+        self.nodes.add(Form::Binder, place)?;
+        self.expect = Expect::Known(Known::OpenGoals);
+        Ok(())
+    }
+
+    pub(crate) fn take_predicate_word(
+        &mut self,
+        place: usize,
+        token: &Token<'a>,
+    ) -> Result<(), Stop> {
+        if token.kind != TokenKind::Ident {
+            return Err(self.stop(place, Wanted::Word));
+        }
+        self.nodes.enter(Form::Predicate, place)?;
+        self.in_type = true;
+        self.expect = Expect::PredicateOpen;
+        Ok(())
+    }
+
+    pub(crate) fn take_predicate_open(
+        &mut self,
+        place: usize,
+        token: &Token<'a>,
+    ) -> Result<(), Stop> {
+        if !is_sign(token, "(") {
+            return Err(self.stop(place, Wanted::PredicateTypes));
+        }
+        self.expect = Expect::Term;
+        Ok(())
+    }
+
+    pub(crate) fn take_declared_type(
+        &mut self,
+        place: usize,
+        token: &Token<'a>,
+    ) -> Result<(), Stop> {
+        if token.kind == TokenKind::Reserved
+            && (token.text == "type" || token.text == "name_type")
+        {
+            self.nodes.add(Form::Word, place)?;
+            self.expect = Expect::End;
+            return Ok(());
+        }
+        self.in_type = true;
+        self.nodes.enter(Form::Domain, place)?;
+        self.take_term(place, token)
+    }
+
+    pub(crate) fn take_result_word(&mut self, place: usize, token: &Token<'a>) -> Result<(), Stop> {
+        if token.kind != TokenKind::Ident {
+            return Err(self.stop(place, Wanted::ResultWord));
+        }
+        self.nodes.add(Form::Word, place)?;
+        self.expect = Expect::End;
+        Ok(())
+    }
+
+    // What is wanted where the item ends at a place, if it may not end there.
+    pub(crate) fn ends(&mut self, place: usize) -> Result<(), Stop> {
+        match self.expect {
+            Expect::End | Expect::PredicateOpen => return Ok(()),
+            Expect::After => {}
+            Expect::Start => return Err(self.stop(place, Wanted::Item)),
+            Expect::Goal => return Err(self.stop(place, Wanted::Goal)),
+            Expect::NewName => return Err(self.stop(place, Wanted::Name)),
+            Expect::ExistsName => return Err(self.stop(place, Wanted::Variable)),
+            Expect::PredicateWord => return Err(self.stop(place, Wanted::Word)),
+            Expect::ResultWord => return Err(self.stop(place, Wanted::ResultWord)),
+            Expect::DeclaredType => return Err(self.stop(place, Wanted::Type)),
+            Expect::Known(_) => return Err(self.stop(place, Wanted::Open)),
+            Expect::Term | Expect::TermOrClose => return Err(self.stop(place, self.wanted_term())),
+        }
+        self.leave_abstractions(place);
+        self.leave_goal(place)?;
+        let open = self.nodes.open_place();
+        match self.nodes.open_node().form {
+            Form::Item => Ok(()),
+            Form::Domain => {
+                if node_at(self.nodes.all(), open.saturating_add(1)).form == Form::Word {
+                    Ok(())
+                } else {
+                    Err(self.stop(place, Wanted::Arrow))
+                }
+            }
+            _ => Err(self.stop(place, Wanted::Close)),
+        }
+    }
+}

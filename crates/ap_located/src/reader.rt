@@ -1,0 +1,175 @@
+//! Reading the tokens of an item, up to the first at which no item can go on.
+ghost use Rattle.std.specs.Prelude.{◌≡◌};
+
+use crate::nodes::Nodes;
+use crate::slips::{Slip, Wanted};
+use ap_defs::memory::Memory;
+use ap_lexer::{Token, TokenKind};
+use std::alloc::{AllocError, AllocFailed, Global};
+
+/// What comes next.
+#[derive(Clone, Copy)]
+pub(crate) enum Expect {
+    /// The item's first token.
+    Start,
+    Goal,
+    Term,
+    /// A term, or the end of what is open.
+    TermOrClose,
+    /// A term or a goal has ended.
+    After,
+    /// The token that was looked at already.
+    Known(Known),
+    NewName,
+    ExistsName,
+    PredicateWord,
+    PredicateOpen,
+    DeclaredType,
+    ResultWord,
+    End,
+}
+
+/// What a token is that was looked at already, or must be.
+#[derive(Clone, Copy)]
+pub(crate) enum Known {
+    /// The `\` behind a binder.
+    Lambda,
+    /// The `(` of arguments.
+    Open,
+    /// The `(` behind a binder of goals.
+    OpenGoals,
+    /// The `:` of a declaration.
+    Colon,
+}
+
+/// Why reading stops.
+#[derive(Clone, Copy)]
+pub(crate) enum Stop {
+    Slip(Slip),
+    Memory,
+}
+
+impl From<Memory> for Stop {
+    fn from(_refusal: Memory) -> Stop {
+        Stop::Memory
+    }
+}
+
+impl From<AllocError> for Stop {
+    fn from(_refusal: AllocError) -> Stop {
+        Stop::Memory
+    }
+}
+
+impl<T: Drop> From<AllocFailed<T>> for Stop {
+    fn from(_refusal: AllocFailed<T>) -> Stop {
+        Stop::Memory
+    }
+}
+
+/// What was read of an item, and where it can't go on, if it can't.
+#[derive(Drop)]
+pub struct Reading {
+    pub nodes: Nodes,
+    pub slip: Option<Slip>,
+}
+
+/// A reader of an item's tokens.
+#[derive(Drop)]
+pub(crate) struct Reader<'t, 'a> {
+    pub(crate) tokens: &'t [Token<'a>],
+    // for each bracket the place of the one that closes it
+    pub(crate) closes: Vec<usize>,
+    pub(crate) nodes: Nodes,
+    pub(crate) expect: Expect,
+    // whether types are read, and not terms
+    pub(crate) in_type: bool,
+}
+
+pub(crate) fn is_sign(token: &Token<'_>, sign: &str) -> bool {
+    token.kind == TokenKind::Sign && token.text == sign
+}
+
+pub(crate) fn sign_at(tokens: &[Token<'_>], place: usize, sign: &str) -> bool {
+    match tokens.get(place) {
+        Some(token) => is_sign(token, sign),
+        None => false,
+    }
+}
+
+fn set_at(places: &mut Vec<usize>, at: usize, place: usize) {
+    if let Some(found) = places.get_mut(at) {
+        *found = place;
+    }
+}
+
+/// For each token that is a bracket, the place of the bracket that closes it, or 0.
+fn closes_of(alloc: Global, tokens: &[Token<'_>]) -> Result<Vec<usize>, Memory> {
+    let mut closes = Vec::new(alloc);
+    let mut open: Vec<usize> = Vec::new(alloc);
+    for (place, token) in tokens.iter().enumerate() {
+        closes.push(0)?;
+        if is_sign(token, "(") || is_sign(token, "[") {
+            open.push(place)?;
+        } else if is_sign(token, ")") || is_sign(token, "]") {
+            if let Some(at) = open.pop() {
+                set_at(&mut closes, at, place);
+            }
+        }
+    }
+    Ok(closes)
+}
+
+impl<'t, 'a> Reader<'t, 'a> {
+    pub(crate) fn stop(&self, place: usize, wanted: Wanted) -> Stop {
+        Stop::Slip(Slip {
+            token: place,
+            wanted,
+            open: self.nodes.open_place(),
+        })
+    }
+
+    // Takes the token at a place.
+    fn take(&mut self, place: usize, token: &Token<'a>) -> Result<(), Stop> {
+        match self.expect {
+            Expect::Start => self.take_start(place, token),
+            Expect::Goal => self.take_goal(place, token),
+            Expect::Term => self.take_term(place, token),
+            Expect::TermOrClose => self.take_term_or_close(place, token),
+            Expect::After => self.take_after(place, token),
+            Expect::Known(known) => self.take_known(place, token, known),
+            Expect::NewName => self.take_new_name(place, token),
+            Expect::ExistsName => self.take_exists_name(place, token),
+            Expect::PredicateWord => self.take_predicate_word(place, token),
+            Expect::PredicateOpen => self.take_predicate_open(place, token),
+            Expect::DeclaredType => self.take_declared_type(place, token),
+            Expect::ResultWord => self.take_result_word(place, token),
+            Expect::End => Err(self.stop(place, Wanted::End)),
+        }
+    }
+
+    fn read_all(&mut self) -> Result<(), Stop> {
+        for (place, token) in self.tokens.iter().enumerate() {
+            self.take(place, token)?;
+        }
+        self.ends(self.tokens.len())
+    }
+}
+
+/// Reads an item's tokens, without its `.`.
+pub fn read_item(alloc: Global, tokens: &[Token<'_>]) -> Result<Reading, Memory> {
+    let mut reader = Reader {
+        tokens,
+        closes: closes_of(alloc, tokens)?,
+        nodes: Nodes::new(alloc)?,
+        expect: Expect::Start,
+        in_type: false,
+    };
+    let slip = match reader.read_all() {
+        Ok(()) => None,
+        Err(Stop::Slip(slip)) => Some(slip),
+        Err(Stop::Memory) => return Err(Memory),
+    };
+    let Reader { nodes, .. } = reader;
+    Ok(Reading { nodes, slip })
+}

@@ -1,0 +1,186 @@
+//! Warner about a text that has a program.
+ghost use Rattle.std.specs.Prelude.{◌≡◌, ◌≤◌, length};
+ghost use Rattle.ap_defs.specs.Limits.{size_limit};
+
+use crate::singles::single_variables;
+use crate::uses::Uses;
+use ap_defs::memory::Memory;
+use ap_lexer::{LexError, Token, lex};
+use ap_located::items::{declared_word, ranges_of, span_at, text_at, tokens_in};
+use ap_located::messages::{Message, message_text};
+use ap_located::nodes::{Form, Node, node_at};
+use ap_located::reader::read_item;
+use ap_located::spots::{Span, shown_word};
+use ap_scopes::words::Words;
+use std::alloc::Global;
+
+/// The warnings that are written, at most.
+const MOST: usize = 20;
+
+/// What gathers the warnings of a text.
+#[derive(Drop)]
+struct Warner<'t, 'a> {
+    text: &'t [u8],
+    uses: Uses<'a>,
+    // the predicates without clauses that were told
+    told: Words<'a>,
+    count: usize,
+    out: String,
+}
+
+impl<'t, 'a> Warner<'t, 'a> {
+    // Adds a warning; behind the last that is written it is only counted.
+    fn warn(
+        &mut self,
+        alloc: Global,
+        span: Span,
+        sentence: &str,
+        note: &str,
+    ) -> Result<(), Memory> {
+        if self.count < MOST {
+            let message = Message::new(alloc, span, sentence)?.note(alloc, note)?;
+            let said = message_text(alloc, self.text, "warning", &message)?;
+            self.out.push_str(said.as_str())?;
+        }
+        self.count = self.count.saturating_add(1);
+        Ok(())
+    }
+
+    fn warn_single(
+        &mut self,
+        alloc: Global,
+        tokens: &[Token<'a>],
+        token: usize,
+    ) -> Result<(), Memory> {
+        let word = shown_word(alloc, text_at(tokens, token))?;
+        let sentence = format!(in alloc; "the variable `{word}` stands once in its clause")?;
+        let note = format!(in alloc;
+            "where any term will do it is spelled `_` or `_{word}`; else is it misspelt?"
+        )?;
+        self.warn(alloc, span_at(tokens, token), sentence.as_str(), note.as_str())
+    }
+
+    fn warn_empty(
+        &mut self,
+        alloc: Global,
+        tokens: &[Token<'a>],
+        token: usize,
+    ) -> Result<(), Memory> {
+        let word = text_at(tokens, token);
+        if self.uses.has_clauses(word) || self.told.place(word).is_some() {
+            return Ok(());
+        }
+        self.told.add(word)?;
+        let shown = shown_word(alloc, word)?;
+        let sentence = format!(in alloc; "no clause has the predicate `{shown}`")?;
+        let note = "this goal never holds";
+        self.warn(alloc, span_at(tokens, token), sentence.as_str(), note)
+    }
+
+    fn warn_unmet(
+        &mut self,
+        alloc: Global,
+        tokens: &[Token<'a>],
+        head: Node,
+        node: Node,
+    ) -> Result<(), Memory> {
+        if self.uses.may_meet(tokens, head, node) {
+            return Ok(());
+        }
+        let word = shown_word(alloc, text_at(tokens, head.first))?;
+        let number = node.rank.saturating_add(1);
+        let sentence = format!(in alloc; "no goal of this text can use this clause of `{word}`")?;
+        let note = format!(in alloc;
+            "each goal `{word}(..)` has another constructor as argument {number}"
+        )?;
+        let token = node.first;
+        self.warn(alloc, span_at(tokens, token), sentence.as_str(), note.as_str())
+    }
+
+    // Looks at a node of a clause or a query.
+    fn look_at(
+        &mut self,
+        alloc: Global,
+        tokens: &[Token<'a>],
+        nodes: &[Node],
+        node: Node,
+    ) -> Result<(), Memory> {
+        let above = node_at(nodes, node.parent);
+        match above.form {
+            Form::Atom => self.warn_empty(alloc, tokens, node.first),
+            Form::Apply if node_at(nodes, above.parent).form == Form::Head => {
+                self.warn_unmet(alloc, tokens, above, node)
+            }
+            _ => Ok(()),
+        }
+    }
+
+    fn look_at_variables(
+        &mut self,
+        alloc: Global,
+        tokens: &[Token<'a>],
+        nodes: &[Node],
+    ) -> Result<(), Memory> {
+        let singles = single_variables(alloc, tokens, nodes)?;
+        for token in &singles {
+            self.warn_single(alloc, tokens, *token)?;
+        }
+        Ok(())
+    }
+
+    fn look_at_item(&mut self, alloc: Global, tokens: &[Token<'a>]) -> Result<(), Memory> {
+        if declared_word(tokens).is_some() {
+            return Ok(());
+        }
+        let reading = read_item(alloc, tokens)?;
+        let nodes = reading.nodes.all();
+        if node_at(nodes, 1).form == Form::Head {
+            self.look_at_variables(alloc, tokens, nodes)?;
+        }
+        for node in nodes {
+            self.look_at(alloc, tokens, nodes, *node)?;
+        }
+        Ok(())
+    }
+
+    // Tells how many warnings are not written.
+    fn end(&mut self, alloc: Global) -> Result<(), Memory> {
+        if self.count > MOST {
+            let more = self.count.saturating_sub(MOST);
+            let line = format!(in alloc; "warnings that are not shown: {more}\n")?;
+            self.out.push_str(line.as_str())?;
+        }
+        Ok(())
+    }
+}
+
+fn warnings_of(alloc: Global, text: &[u8], tokens: &[Token<'_>]) -> Result<String, Memory> {
+    let ranges = ranges_of(alloc, tokens)?;
+    let mut warnings = Warner {
+        text,
+        uses: Uses::of(alloc, tokens, ranges.as_slice())?,
+        told: Words::new(alloc),
+        count: 0,
+        out: String::new(alloc),
+    };
+    for range in &ranges {
+        warnings.look_at_item(alloc, tokens_in(tokens, *range))?;
+    }
+    warnings.end(alloc)?;
+    let Warner { out, .. } = warnings;
+    Ok(out)
+}
+
+/// The warnings about a text, as they are written: of variables that stand once in a clause, of predicates without
+/// clauses that a goal calls, and of clauses that no goal can use, since each that calls the predicate has another
+/// constructor at the place of an argument. A text that doesn't split into tokens has none. `Err` is want of
+/// memory.
+pub fn warnings(alloc: Global, text: &[u8]) -> Result<String, Memory>
+    requires { length text.now ≤ size_limit }
+{
+    match lex(alloc, text) {
+        Ok(tokens) => warnings_of(alloc, text, &tokens),
+        Err(LexError::Fault(_)) => Ok(String::new(alloc)),
+        Err(LexError::Memory) => Err(Memory),
+    }
+}
