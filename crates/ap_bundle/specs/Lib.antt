@@ -1,0 +1,9 @@
+pub mod FaultKinds
+pub mod Words
+pub mod Forms
+pub mod Bundles
+pub mod Nodes
+pub mod Written
+pub mod Readers
+pub mod LineForms
+pub mod Reading

@@ -1,0 +1,3 @@
+pub mod SpaceLemmas
+pub mod Stacks
+pub mod NodeTexts
