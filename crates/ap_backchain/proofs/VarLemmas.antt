@@ -1,11 +1,11 @@
 -- Steps of the loops over lists of variables.
-use Rattle.std.proofs.Common.{◌≡◌, ◌<◌, ◌+◌, ℕ, suc, List, [], ◌∷◌, ◌++◌, length, get_or, drop, refl, sym, ap, ◌∙◌, add-one, append_assoc, map, subst}
+use Rattle.std.proofs.Common.{◌≡◌, ◌<◌, ◌≤◌, ◌+◌, ℕ, suc, List, [], ◌∷◌, ◌++◌, length, get_or, drop, refl, sym, ap, ◌∙◌, add-one, append_assoc, map, subst, arith}
 use Rattle.std.proofs.Math.Seq.{drop-cons}
-use Rattle.std.specs.Prelude.{OnOk, Result, Ok, Err}
 use Rattle.ap_defs.specs.Occurrences.{vars_of_terms}
 use Rattle.ap_defs.specs.Renaming.{AreBelow, IsBelow, rename_term}
 use Rattle.ap_defs.specs.Terms.{NominalTerm, unit, name, pair, app, abs, susp, term_of}
-use Rattle.ap_defs.specs.Unification.{vars_then}
+use Rattle.ap_defs.specs.Unification.{size, vars_then}
+use Rattle.ap_defs.specs.declared.terms.Name.{Name}
 use Rattle.ap_defs.specs.declared.terms.Term.{Term}
 use Rattle.ap_defs.specs.declared.terms.Var.{Var}
 
@@ -22,11 +22,18 @@ vars_in_front (app f t) xs = vars_in_front t xs
 vars_in_front (abs a t) xs = vars_in_front t xs
 vars_in_front (susp p x) xs = refl
 
-pub pair_pushed : {T E : Type 0} (r : Result T E) (t u : NominalTerm) (vs ws xs : List Var) → ws ≡ vs ++ vars_then t [] → OnOk r (xs ≡ ws ++ vars_then u [])
-    → OnOk r (xs ≡ vs ++ vars_then t (vars_then u []))
-pair_pushed (Ok x) t u vs ws xs h k =
-    k ∙ ap (λ ys. ys ++ vars_then u []) h ∙ append_assoc vs (vars_then t []) (vars_then u []) ∙ ap (λ ys. vs ++ ys) (sym (vars_in_front t (vars_then u [])))
-pair_pushed (Err e) t u vs ws xs h k = tt
+-- once the variables of the left part of a pair are added, those of the right part are left
+pub pair_left : (t u : NominalTerm) (vs ws xs : List Var) → ws ≡ vs ++ vars_then t [] → vs ++ vars_then (pair t u) [] ≡ xs → ws ++ vars_then u [] ≡ xs
+pair_left t u vs ws xs h k = ap (λ ys. ys ++ vars_then u []) h ∙ append_assoc vs (vars_then t []) (vars_then u []) ∙ ap (λ ys. vs ++ ys) (sym (vars_in_front t (vars_then u []))) ∙ k
+
+pub right_smaller : (w t u : NominalTerm) (n : ℕ) → w ≡ pair t u → size w ≤ n → size u ≤ n
+right_smaller w t u n e h = let h' : size (pair t u) ≤ n = rw e at h in omega arith
+
+pub argument_smaller : (w : NominalTerm) (f : ℕ) (t : NominalTerm) (n : ℕ) → w ≡ app f t → size w ≤ n → size t ≤ n
+argument_smaller w f t n e h = let h' : size (app f t) ≤ n = rw e at h in omega arith
+
+pub body_smaller : (w : NominalTerm) (a : Name) (t : NominalTerm) (n : ℕ) → w ≡ abs a t → size w ≤ n → size t ≤ n
+body_smaller w a t n e h = let h' : size (abs a t) ≤ n = rw e at h in omega arith
 
 from_here : {X : Type 0} (ts : List X) (i : ℕ) (t : X) → i < length ts → t ≡ get_or ts i t → t ∷ drop (suc i) ts ≡ drop i ts
 from_here ts i t h e = ap (λ u. u ∷ drop (suc i) ts) e ∙ sym (drop-cons ts i t h)
@@ -57,6 +64,3 @@ pub fits_step : (base : ℕ) (n : ℕ) (ts : List Term) (i : ℕ) (t : Term) →
     → IsBelow n (rename_term base (term_of t)) × AreBelow n (map (rename_term base) (map term_of (drop (i + 1) ts)))
 fits_step base n ts i t h e k =
     rw (add-one i) (subst (λ (us : List Term). AreBelow n (map (rename_term base) (map term_of us))) (sym (from_here ts i t h e)) k)
-
-pub two_pushed : (t u : NominalTerm) (us vs ws : List Var) → us ≡ [] → vs ≡ us ++ vars_then t [] → ws ≡ vs ++ vars_then u [] → ws ≡ vars_then t (vars_then u [])
-two_pushed t u us vs ws e h k = k ∙ ap (λ xs. xs ++ vars_then u []) (h ∙ ap (λ xs. xs ++ vars_then t []) e) ∙ sym (vars_in_front t (vars_then u []))

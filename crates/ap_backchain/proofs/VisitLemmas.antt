@@ -133,3 +133,32 @@ reached_step s xs i d u v l h k y =
     k.vars y ∙ ap (λ b. occurs y (under s.bindings (susp [] x)) || b) (h y)
     ∙ sym (has_canonical y (under s.bindings (susp [] x)) (vars_of_terms (closed_vars s (drop (suc i) xs))))
     ∙ ap (λ zs. has_var y (vars_of_terms (closed_vars s zs))) (sym (drop-cons xs i d l))
+
+-- what is found so far, and the variables in what u stands for, are what is to be found of t
+pub record IsLeftOf (bs : List Binding) (u : NominalTerm) (mid : Visit) (t : NominalTerm) (old : Visit) : Type 0 where
+  pub done : IsDone bs mid
+  pub vars : (y : Var) → (occurs y (under bs u) || has_var y mid.vars.items) ≡ (occurs y (under bs t) || has_var y old.vars.items)
+
+or_moved : (a b c : Bool) → (b || (a || c)) ≡ ((a || b) || c)
+or_moved true true c = refl
+or_moved true false c = refl
+or_moved false true c = refl
+or_moved false false c = refl
+
+-- where the rest has no variables, all are found
+pub left_none : (bs : List Binding) (u t : NominalTerm) (mid old : Visit) → IsLeftOf bs u mid t old → ((y : Var) → occurs y (under bs u) ≡ false) → HasVisited bs t old mid
+left_none bs u t mid old h e = record {
+  done = h.done;
+  vars = λ y. ap (λ b. b || has_var y mid.vars.items) (sym (e y)) ∙ h.vars y;
+}
+
+-- once the rest is gone through, all are found
+pub left_visited : (bs : List Binding) (u t : NominalTerm) (mid new old : Visit) → IsLeftOf bs u mid t old → HasVisited bs u mid new → HasVisited bs t old new
+left_visited bs u t mid new old h k = record { done = k.done; vars = λ y. k.vars y ∙ h.vars y }
+
+-- once the left part of a pair is gone through, the right part is left
+pub left_pair : (bs : List Binding) (u v t : NominalTerm) (mid new old : Visit) → IsLeftOf bs (pair u v) mid t old → HasVisited bs u mid new → IsLeftOf bs v new t old
+left_pair bs u v t mid new old h k = record {
+  done = k.done;
+  vars = λ y. ap (λ b. occurs y (under bs v) || b) (k.vars y) ∙ or_moved (occurs y (under bs u)) (occurs y (under bs v)) (has_var y mid.vars.items) ∙ h.vars y;
+}

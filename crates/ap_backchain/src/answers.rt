@@ -19,6 +19,7 @@ use ap_defs::goals::{Kind, Local};
 use ap_defs::lists::List;
 use ap_defs::memory::Memory;
 use ap_defs::outcomes::Answer;
+use ap_defs::spines::{TermLayer, close_term};
 use ap_defs::terms::{Cond, Term, Ty, Var};
 use ap_perm::closures::Closure;
 use ap_perm::perm::Perm;
@@ -26,28 +27,35 @@ use ap_store::store::Store;
 use std::alloc::Global;
 
 /// A copy of a term in which the list of each suspension is canonical.
+///
+/// It goes on along the right part of a pair, the argument of a constructor and the body of an
+/// abstraction, and calls itself on left parts of pairs alone.
+#[tactic(auto, using(ap_defs::proofs::SpineLemmas::term_within_last))]
 fn canonical_of(alloc: Global, t: &Term) -> Result<Term, Memory>
     ensures { IfOk result (λ u. term_of u ≡ canonical_term (term_of t.now)) }
 {
-    match t {
-        Term::Unit => Ok(Term::Unit),
-        Term::Name(a) => Ok(Term::Name(*a)),
-        Term::Pair(left, right) => {
-            let left = Box::new(alloc, canonical_of(alloc, left)?)?;
-            let right = Box::new(alloc, canonical_of(alloc, right)?)?;
-            Ok(Term::Pair(left, right))
-        }
-        Term::App(f, argument) => {
-            let argument = Box::new(alloc, canonical_of(alloc, argument)?)?;
-            Ok(Term::App(*f, argument))
-        }
-        Term::Abs(a, body) => {
-            let body = Box::new(alloc, canonical_of(alloc, body)?)?;
-            Ok(Term::Abs(*a, body))
-        }
-        Term::Susp(swaps, x) => {
-            let swaps = Perm::of(alloc, swaps.items())?.swaps(alloc)?;
-            Ok(Term::Susp(List::of(swaps), *x))
+    let mut layers = Vec::new(alloc);
+    let mut rest = t;
+    loop {
+        match rest {
+            Term::Unit => return close_term(alloc, layers, Term::Unit),
+            Term::Name(a) => return close_term(alloc, layers, Term::Name(*a)),
+            Term::Susp(swaps, x) => {
+                let swaps = Perm::of(alloc, swaps.items())?.swaps(alloc)?;
+                return close_term(alloc, layers, Term::Susp(List::of(swaps), *x));
+            }
+            Term::Pair(left, right) => {
+                layers.push(TermLayer::Left(canonical_of(alloc, left)?))?;
+                rest = right;
+            }
+            Term::App(f, argument) => {
+                layers.push(TermLayer::App(*f))?;
+                rest = argument;
+            }
+            Term::Abs(a, body) => {
+                layers.push(TermLayer::Abs(*a))?;
+                rest = body;
+            }
         }
     }
 }

@@ -1,12 +1,12 @@
 //! Queries of restricted programs.
 
-ghost use Rattle.std.specs.Prelude.{◌≡◌, ◌-◌, Some, IfOk, map, slice_get};
+ghost use Rattle.std.specs.Prelude.{◌≡◌, ◌-◌, Some, IfOk, IfSome, map, slice_get};
 ghost use Rattle.ap_defs.specs.Answers.{outs_of, query_outs};
 ghost use Rattle.ap_defs.specs.Goals.{NominalQuery, clause_of, query_of};
 ghost use Rattle.ap_backchain.specs.Below.{AreClausesBelow, IsQueryBelow};
 ghost use Rattle.ap_backchain.specs.Problems.{HasQuery, clauses_in, queries_in};
 
-use crate::run::outputs_of_query;
+use crate::run::{outputs_of_query, outputs_of_short_query};
 use ap_defs::goals::{Clause, Query};
 use ap_defs::lists::List;
 use ap_defs::memory::Memory;
@@ -52,4 +52,15 @@ pub fn outputs(alloc: Global, p: &Problem<'_>) -> Result<Vec<Out>, Memory>
     let clauses = clauses_of_problem(p);
     let query = query_of_problem(p);
     outputs_of_query(alloc, clauses, p.depth, query)
+}
+
+/// The outputs of a query to a depth, as `outputs`, where the search takes few turns: none says that it
+/// takes more.
+pub fn short_outputs(alloc: Global, p: &Problem<'_>) -> Result<Option<Vec<Out>>, Memory>
+    requires { HasQuery p.now }
+    ensures { IfOk result (λ o. IfSome o (λ v. (q : NominalQuery) → slice_get (queries_in p.now) (p.now.query - 1) ≡ Some q → outs_of v.items ≡ query_outs (clauses_in p.now) p.now.depth q)) }
+{
+    let clauses = clauses_of_problem(p);
+    let query = query_of_problem(p);
+    outputs_of_short_query(alloc, clauses, p.depth, query)
 }

@@ -18,6 +18,8 @@ use std::alloc::Global;
 
 /// Goes through what a term stands for, whose identifiers are numbered from `base` on. Each binding
 /// is gone through once.
+///
+/// It goes on along what is last in a term, and calls itself on left parts of pairs and on bindings.
 fn visit_term(
     store: &Store<'_>,
     visit: &mut Visit,
@@ -29,26 +31,27 @@ fn visit_term(
     requires done { IsDone (present store.now).bindings visit.old }
     ensures { OnOk result (HasVisited (present store.now).bindings (rename_term base (term_of t.now)) visit.old visit.new) }
 {
-    match t {
-        Term::Unit | Term::Name(_) => Ok(()),
-        Term::Pair(left, right) => {
-            visit_term(store, visit, base, end, left)?;
-            visit_term(store, visit, base, end, right)
-        }
-        Term::App(_, argument) => visit_term(store, visit, base, end, argument),
-        Term::Abs(_, body) => visit_term(store, visit, base, end, body),
-        Term::Susp(_, x) => {
-            let x = Var { num: base + x.num };
-            if visit.is_done(x) {
-                return Ok(());
+    let mut rest = t;
+    loop {
+        match rest {
+            Term::Unit | Term::Name(_) => return Ok(()),
+            Term::Pair(left, right) => {
+                visit_term(store, visit, base, end, left)?;
+                rest = right;
             }
-            match store.binding(x) {
-                None => visit.push(x),
-                Some(c) => {
-                    visit_term(store, visit, c.base, c.end, c.term)?;
-                    visit.finish(x);
-                    Ok(())
+            Term::App(_, argument) => rest = argument,
+            Term::Abs(_, body) => rest = body,
+            Term::Susp(_, x) => {
+                let x = Var { num: base + x.num };
+                if visit.is_done(x) {
+                    return Ok(());
                 }
+                let Some(c) = store.binding(x) else {
+                    return visit.push(x);
+                };
+                visit_term(store, visit, c.base, c.end, c.term)?;
+                visit.finish(x);
+                return Ok(());
             }
         }
     }

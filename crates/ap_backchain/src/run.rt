@@ -1,6 +1,6 @@
 //! Whole searches.
 
-ghost use Rattle.std.specs.Prelude.{◌≡◌, ℕ, ◌<◌, ◌≤◌, ◌^◌, ◌++◌, [], ◌∷◌, false, true, Some, IfOk, List as list, OnOk, length, map};
+ghost use Rattle.std.specs.Prelude.{◌≡◌, ℕ, ◌<◌, ◌≤◌, ◌^◌, ◌++◌, [], ◌∷◌, false, true, Some, IfOk, IfSome, List as list, OnOk, length, map};
 ghost use Rattle.ap_defs.specs.Answers.{outs_of, query_outs};
 ghost use Rattle.ap_defs.specs.Goals.{clause_of, either, goal_of, query_of};
 ghost use Rattle.ap_defs.specs.Renaming.{IsGoalBelow, rename_goal};
@@ -27,6 +27,9 @@ use ap_defs::paths::Out;
 use ap_defs::terms::Term;
 use ap_store::store::Store;
 use std::alloc::Global;
+
+// A search of so many turns is over sooner than a thread is started.
+const FEW_TURNS: u32 = 1_000;
 
 /// The place where the search of a query to a depth begins.
 pub fn first_place<'a>(
@@ -302,6 +305,43 @@ pub fn outputs_from<'a>(
             return Ok(outs);
         }
     }
+}
+
+/// The outputs from a place, as `outputs_from`, where the search takes few turns.
+fn outputs_soon<'a>(
+    alloc: Global,
+    clauses: &'a [List<Clause<Term>>],
+    locals: &[Local],
+    first: Place<'a>,
+) -> Result<Option<Vec<Out>>, Memory>
+    requires clauses { AreClausesBelow (map (map clause_of) clauses.now) }
+    requires locals { length locals.now < 2 ^ 64 }
+    ensures { IfOk result (λ o. IfSome o (λ v. outs_of v.items ≡ outs_from (map (map clause_of) clauses.now) (locals_of locals.now) (position_of first.entry))) }
+{
+    let mut outs = Vec::new(alloc);
+    let mut points = Vec::new(alloc);
+    let mut place = first;
+    'searching: for _ in 0..FEW_TURNS {
+        if !go_on(alloc, clauses, locals, &mut place, &mut points, &mut outs)? {
+            return Ok(Some(outs));
+        }
+    }
+    Ok(None)
+}
+
+/// The outputs of a query to a depth, as `outputs_of_query`, where the search takes few turns.
+pub fn outputs_of_short_query(
+    alloc: Global,
+    clauses: &[List<Clause<Term>>],
+    depth: u32,
+    query: &Query<Term>,
+) -> Result<Option<Vec<Out>>, Memory>
+    requires clauses { AreClausesBelow (map (map clause_of) clauses.now) }
+    requires query { IsQueryBelow (query_of query.now) }
+    ensures { IfOk result (λ o. IfSome o (λ v. outs_of v.items ≡ query_outs (map (map clause_of) clauses.now) depth (query_of query.now))) }
+{
+    let first = first_place(alloc, depth, query)?;
+    outputs_soon(alloc, clauses, query.locals.items(), first)
 }
 
 /// The outputs of a query to a depth, in order, each with its path and its answer: all answers of

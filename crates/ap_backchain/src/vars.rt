@@ -1,4 +1,6 @@
 //! Variables of terms, and ascending sets of variables.
+//!
+//! Each walk goes on along what is last in a term, and calls itself on left parts of pairs alone.
 
 ghost use Rattle.std.specs.Prelude.{◌≡◌, ◌++◌, ◌^◌, [], IfOk, OnOk, map};
 ghost use Rattle.ap_defs.specs.Answers.{ascending_vars};
@@ -15,17 +17,20 @@ use std::alloc::Global;
 fn add_vars_of(vars: &mut Vec<Var>, t: &Term) -> Result<(), Memory>
     ensures { OnOk result (vars.new.items ≡ vars.old.items ++ vars_then (term_of t.now) []) }
 {
-    match t {
-        Term::Unit | Term::Name(_) => Ok(()),
-        Term::Pair(left, right) => {
-            add_vars_of(vars, left)?;
-            add_vars_of(vars, right)
-        }
-        Term::App(_, argument) => add_vars_of(vars, argument),
-        Term::Abs(_, body) => add_vars_of(vars, body),
-        Term::Susp(_, x) => {
-            vars.push(*x)?;
-            Ok(())
+    let mut rest = t;
+    loop {
+        match rest {
+            Term::Unit | Term::Name(_) => return Ok(()),
+            Term::Pair(left, right) => {
+                add_vars_of(vars, left)?;
+                rest = right;
+            }
+            Term::App(_, argument) => rest = argument,
+            Term::Abs(_, body) => rest = body,
+            Term::Susp(_, x) => {
+                vars.push(*x)?;
+                return Ok(());
+            }
         }
     }
 }
@@ -76,17 +81,20 @@ pub fn push_vars_of(vars: &mut Vec<Var>, base: u64, t: &Term) -> Result<(), Memo
     requires { IsBelow (2 ^ 64) (renamed base (term_of t.now)) }
     ensures { OnOk result (vars.new.items ≡ vars.old.items ++ vars_then (renamed base (term_of t.now)) []) }
 {
-    match t {
-        Term::Unit | Term::Name(_) => Ok(()),
-        Term::Pair(left, right) => {
-            push_vars_of(vars, base, left)?;
-            push_vars_of(vars, base, right)
-        }
-        Term::App(_, argument) => push_vars_of(vars, base, argument),
-        Term::Abs(_, body) => push_vars_of(vars, base, body),
-        Term::Susp(_, x) => {
-            vars.push(Var { num: base + x.num })?;
-            Ok(())
+    let mut rest = t;
+    loop {
+        match rest {
+            Term::Unit | Term::Name(_) => return Ok(()),
+            Term::Pair(left, right) => {
+                push_vars_of(vars, base, left)?;
+                rest = right;
+            }
+            Term::App(_, argument) => rest = argument,
+            Term::Abs(_, body) => rest = body,
+            Term::Susp(_, x) => {
+                vars.push(Var { num: base + x.num })?;
+                return Ok(());
+            }
         }
     }
 }

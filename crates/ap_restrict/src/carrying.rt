@@ -1,6 +1,7 @@
 //! Swappings, carried out.
 
-ghost use Rattle.std.specs.Prelude.{◌≡◌, map, IfOk};
+ghost use Rattle.std.specs.Prelude.{◌≡◌, [], ◌∷◌, ◌++◌, map, IfOk};
+ghost use Rattle.ap_defs.specs.Permutations.{swap_of};
 ghost use Rattle.ap_defs.specs.RawTerms.{raw_of};
 ghost use Rattle.ap_defs.specs.Terms.{term_of, act_term};
 ghost use Rattle.ap_defs.specs.Goals.{goal_of, goal_over};
@@ -9,42 +10,61 @@ ghost use Rattle.ap_program.specs.CarryingOut.{carried_out, map_goal};
 use ap_defs::goals::Goal;
 use ap_defs::lists::List;
 use ap_defs::memory::Memory;
-use ap_defs::terms::{Id, Raw, Swap, Term};
+use ap_defs::spines::{GoalLayer, TermLayer, close_goal, close_term};
+use ap_defs::terms::{Id, Name, Raw, Swap, Term};
 use ap_perm::swappings::image;
 use std::alloc::Global;
 
+/// Swappings, and one more behind them.
+fn with_swap(alloc: Global, swaps: &[Swap], a: Name, b: Name) -> Result<Vec<Swap>, Memory>
+    ensures { IfOk result (λ v. v.items ≡ swaps.now ++ swap_of a b ∷ []) }
+{
+    let mut all = swaps.to_vec(alloc)?;
+    all.push(Swap {
+        sort: a.sort,
+        left: a.num,
+        right: b.num,
+    })?;
+    Ok(all)
+}
+
 /// A term with its swappings carried out, under further ones.
-#[tactic(auto, using(crate::proofs::CarryingLemmas::act_within))]
+///
+/// It goes on along the right part of a pair, the argument of a constructor and the body of an
+/// abstraction, and calls itself on left parts of pairs and inside swappings alone.
+#[tactic(auto, using(ap_defs::proofs::SpineLemmas::term_within_last, crate::proofs::CarryingLemmas::act_within))]
 fn carry_under(alloc: Global, swaps: &[Swap], t: &Raw) -> Result<Term, Memory>
     ensures { IfOk result (λ u. term_of u ≡ act_term swaps.now (carried_out (raw_of t.now))) }
 {
-    match t {
-        Raw::Unit => Ok(Term::Unit),
-        Raw::Name(a) => Ok(Term::Name(image(swaps, *a))),
-        Raw::Var(x) => Ok(Term::Susp(List::of(swaps.to_vec(alloc)?), *x)),
-        Raw::Pair(left, right) => {
-            let left = Box::new(alloc, carry_under(alloc, swaps, left)?)?;
-            let right = Box::new(alloc, carry_under(alloc, swaps, right)?)?;
-            Ok(Term::Pair(left, right))
+    let mut layers = Vec::new(alloc);
+    let mut rest = t;
+    loop {
+        match rest {
+            Raw::Unit => return close_term(alloc, layers, Term::Unit),
+            Raw::Name(a) => return close_term(alloc, layers, Term::Name(image(swaps, *a))),
+            Raw::Var(x) => {
+                let waiting = List::of(swaps.to_vec(alloc)?);
+                return close_term(alloc, layers, Term::Susp(waiting, *x));
+            }
+            Raw::Pair(left, right) => {
+                layers.push(TermLayer::Left(carry_under(alloc, swaps, left)?))?;
+                rest = right;
+            }
+            Raw::App(f, argument) => {
+                layers.push(TermLayer::App(*f))?;
+                rest = argument;
+            }
+            Raw::Abs(Id::Name(a), body) => {
+                layers.push(TermLayer::Abs(image(swaps, *a)))?;
+                rest = body;
+            }
+            Raw::Swapped(Id::Name(a), Id::Name(b), body) => {
+                let inner = with_swap(alloc, swaps, *a, *b)?;
+                let carried = carry_under(alloc, inner.as_slice(), body)?;
+                return close_term(alloc, layers, carried);
+            }
+            Raw::Abs(Id::Var(_), body) | Raw::Swapped(_, _, body) => rest = body,
         }
-        Raw::App(f, argument) => {
-            let argument = Box::new(alloc, carry_under(alloc, swaps, argument)?)?;
-            Ok(Term::App(*f, argument))
-        }
-        Raw::Abs(Id::Name(a), body) => {
-            let body = Box::new(alloc, carry_under(alloc, swaps, body)?)?;
-            Ok(Term::Abs(image(swaps, *a), body))
-        }
-        Raw::Swapped(Id::Name(a), Id::Name(b), body) => {
-            let mut inner = swaps.to_vec(alloc)?;
-            inner.push(Swap {
-                sort: a.sort,
-                left: a.num,
-                right: b.num,
-            })?;
-            carry_under(alloc, inner.as_slice(), body)
-        }
-        Raw::Abs(Id::Var(_), body) | Raw::Swapped(_, _, body) => carry_under(alloc, swaps, body),
     }
 }
 
@@ -68,31 +88,46 @@ pub fn carry_terms(alloc: Global, ts: &[Raw]) -> Result<List<Term>, Memory>
 }
 
 /// A goal with the swappings of its terms carried out.
+///
+/// It goes on along what is right of `,` and `;` and inside `exists` and `new`, and calls itself on what
+/// is left of them alone.
+#[tactic(auto, using(ap_defs::proofs::SpineLemmas::goal_within_last))]
 pub fn carry_goal(alloc: Global, g: &Goal<Raw>) -> Result<Goal<Term>, Memory>
     ensures { IfOk result (λ h. goal_of h ≡ map_goal carried_out (goal_over raw_of g.now)) }
 {
-    match g {
-        Goal::True => Ok(Goal::True),
-        Goal::Atom(p, args) => Ok(Goal::Atom(*p, carry_terms(alloc, args.items())?)),
-        Goal::Equal(t, u) => Ok(Goal::Equal(carry_term(alloc, t)?, carry_term(alloc, u)?)),
-        Goal::Fresh(t, u) => Ok(Goal::Fresh(carry_term(alloc, t)?, carry_term(alloc, u)?)),
-        Goal::Both(left, right) => {
-            let left = Box::new(alloc, carry_goal(alloc, left)?)?;
-            let right = Box::new(alloc, carry_goal(alloc, right)?)?;
-            Ok(Goal::Both(left, right))
-        }
-        Goal::Either(left, right) => {
-            let left = Box::new(alloc, carry_goal(alloc, left)?)?;
-            let right = Box::new(alloc, carry_goal(alloc, right)?)?;
-            Ok(Goal::Either(left, right))
-        }
-        Goal::Exists(x, goal) => {
-            let goal = Box::new(alloc, carry_goal(alloc, goal)?)?;
-            Ok(Goal::Exists(*x, goal))
-        }
-        Goal::New(a, goal) => {
-            let goal = Box::new(alloc, carry_goal(alloc, goal)?)?;
-            Ok(Goal::New(*a, goal))
+    let mut layers = Vec::new(alloc);
+    let mut rest = g;
+    loop {
+        match rest {
+            Goal::True => return close_goal(alloc, layers, Goal::True),
+            Goal::Atom(p, args) => {
+                let atom = Goal::Atom(*p, carry_terms(alloc, args.items())?);
+                return close_goal(alloc, layers, atom);
+            }
+            Goal::Equal(t, u) => {
+                let equal = Goal::Equal(carry_term(alloc, t)?, carry_term(alloc, u)?);
+                return close_goal(alloc, layers, equal);
+            }
+            Goal::Fresh(t, u) => {
+                let fresh = Goal::Fresh(carry_term(alloc, t)?, carry_term(alloc, u)?);
+                return close_goal(alloc, layers, fresh);
+            }
+            Goal::Both(left, right) => {
+                layers.push(GoalLayer::Both(carry_goal(alloc, left)?))?;
+                rest = right;
+            }
+            Goal::Either(left, right) => {
+                layers.push(GoalLayer::Either(carry_goal(alloc, left)?))?;
+                rest = right;
+            }
+            Goal::Exists(x, goal) => {
+                layers.push(GoalLayer::Exists(*x))?;
+                rest = goal;
+            }
+            Goal::New(a, goal) => {
+                layers.push(GoalLayer::New(*a))?;
+                rest = goal;
+            }
         }
     }
 }

@@ -8,3 +8,4 @@ pub mod StoredLemmas
 pub mod StoreLemmas
 pub mod FollowLemmas
 pub mod ReachLemmas
+pub mod WalkLemmas
