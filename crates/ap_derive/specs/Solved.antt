@@ -1,10 +1,13 @@
 -- Goals that wait, solved along a path.
-use Rattle.std.specs.Prelude.{◌≡◌, ℕ, List, [], ◌∷◌, drop, length, Option, Some, None}
+use Rattle.std.specs.Prelude.{◌≡◌, ℕ, List, [], ◌∷◌, drop, length, map, Option, Some, None}
 use Rattle.ap_defs.specs.Derivations.{NominalDerivation}
 use Rattle.ap_defs.specs.Goals as goals
-use Rattle.ap_defs.specs.Goals.{Clauses, NominalGoal}
+use Rattle.ap_defs.specs.Goals.{Clauses, NominalGoal, clause_of, goal_of}
+use Rattle.ap_defs.specs.Renaming.{rename_goal, rename_term}
 use Rattle.ap_defs.specs.Resolution.{State}
-use Rattle.ap_defs.specs.Terms.{susp}
+use Rattle.ap_defs.specs.Terms.{NominalTerm, susp, term_of}
+use Rattle.ap_defs.specs.declared.goals.Clause.{Clause}
+use Rattle.ap_defs.specs.declared.terms.Term.{Term}
 use Rattle.ap_search.specs.Continuations.{Waiting}
 use Rattle.ap_backchain.specs.Positions.{Position}
 use Rattle.ap_backchain.specs.Views.{waiting_of}
@@ -50,6 +53,16 @@ IsSolved program path p = (r : Solved) × (solved_at program path p ≡ Some r)
 -- the path has one more choice
 abbrev pub HasChoice : List ℕ → Position → Type 0
 HasChoice path p = (k : ℕ) × (rest : List ℕ) × (rest_of path p ≡ k ∷ rest)
+
+-- the clauses of each predicate as the program holds them, the goal of a frame, and terms whose numbers are raised
+abbrev pub program_in : List (List (Clause Term)) → Clauses
+program_in css = map (map clause_of) css
+
+abbrev pub goal_in : Frame → NominalGoal
+goal_in f = rename_goal f.base (goal_of f.goal.now)
+
+abbrev pub raised : ℕ → List Term → List NominalTerm
+raised n ts = map (rename_term n) (map term_of ts)
 
 -- one more goal, that of a frame, in front of the others
 abbrev pub with_frame : Frame → Position → Position

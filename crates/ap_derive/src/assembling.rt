@@ -16,7 +16,8 @@ use std::alloc::Global;
 
 /// The derivation that was made last.
 fn take_last(made: &mut Vec<Derivation>) -> Derivation
-    requires { (d : NominalDerivation) × (ds : list NominalDerivation) × (made_in made.old ≡ d ∷ ds) }
+    requires { (d : NominalDerivation) × (ds : list NominalDerivation) ×
+        (made_in made.old ≡ d ∷ ds) }
     ensures { made_in made.old ≡ derivation_of result ∷ made_in made.new }
 {
     match made.pop() {
@@ -33,8 +34,12 @@ fn derivation_with(
     node: SelectedGoal,
     made: &mut Vec<Derivation>,
 ) -> Result<Derivation, Memory>
-    requires { (ds : list NominalDerivation) × (with_below (closed_node (state_in store.now) (node_of node)) (made_in made.old) ≡ Some ds) }
-    ensures { IfOk result (λ d. with_below (closed_node (state_in store.now) (node_of node)) (made_in made.old) ≡ Some (derivation_of d ∷ made_in made.new)) }
+    requires { (ds : list NominalDerivation) ×
+        (with_below (closed_node (state_in store.now) (node_of node)) (made_in made.old)
+        ≡ Some ds) }
+    ensures { IfOk result (λ d.
+        with_below (closed_node (state_in store.now) (node_of node)) (made_in made.old)
+        ≡ Some (derivation_of d ∷ made_in made.new)) }
 {
     match node {
         SelectedGoal::Atom(number, names, vars) => {
@@ -77,7 +82,8 @@ pub fn assemble(
     nodes: Vec<SelectedGoal>,
 ) -> Result<Derivation, Memory>
     requires { (d : NominalDerivation) × (map node_of nodes.items ≡ preorder d []) }
-    ensures { IfOk result (λ r. (d : NominalDerivation) → map node_of nodes.items ≡ preorder d [] → derivation_of r ≡ derivation_in (state_in store.now) d) }
+    ensures { IfOk result (λ r. (d : NominalDerivation) → map node_of nodes.items ≡ preorder d [] →
+        derivation_of r ≡ derivation_in (state_in store.now) d) }
 {
     let mut left = nodes;
     let mut made = Vec::new(alloc);

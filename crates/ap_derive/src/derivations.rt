@@ -18,14 +18,22 @@ use ap_defs::memory::Memory;
 use ap_defs::outcomes::Derivation;
 use std::alloc::Global;
 
-/// The derivation of the answer at which a branch stands: the one of the state that the search found
-/// at the branch's path, with what its variables stand for in the end. It checks against the answer.
+/// The derivation of the answer at which a branch stands: the one of the state that the search
+/// found at the branch's path, with what its variables stand for in the end. It checks against the
+/// answer.
 pub fn derive<'a>(alloc: Global, p: &Problem<'a>, branch: &Branch<'a>) -> Result<Derivation, Memory>
     requires query { HasQuery p.now }
     requires of { IsBranchOf p.now branch.now }
     requires answer { IsAnswering branch.now }
-    ensures derivation { IfOk result (λ d. (q : NominalQuery) → slice_get (queries_in p.now) (p.now.query - 1) ≡ Some q → IsDerivationAt (clauses_in p.now) p.now.depth q (path_of_branch branch.now) (derivation_of d)) }
-    ensures checks { IfOk result (λ d. (q : NominalQuery) (a : NominalAnswer) → slice_get (queries_in p.now) (p.now.query - 1) ≡ Some q → outs_at (clauses_in p.now) p.now.depth q (path_of_branch branch.now) ≡ found (path_of_branch branch.now) a ∷ [] → Checks (program_of p.now.program.now) q a (derivation_of d)) }
+    ensures derivation { IfOk result (λ d. (q : NominalQuery) →
+        slice_get (queries_in p.now) (p.now.query - 1) ≡ Some q →
+        IsDerivationAt (clauses_in p.now) p.now.depth q (path_of_branch branch.now)
+        (derivation_of d)) }
+    ensures checks { IfOk result (λ d. (q : NominalQuery) (a : NominalAnswer) →
+        slice_get (queries_in p.now) (p.now.query - 1) ≡ Some q →
+        outs_at (clauses_in p.now) p.now.depth q (path_of_branch branch.now)
+        ≡ found (path_of_branch branch.now) a ∷ [] →
+        Checks (program_of p.now.program.now) q a (derivation_of d)) }
 {
     let program = p.program.program();
     let query = query_of_problem(p);

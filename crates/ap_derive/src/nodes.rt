@@ -32,7 +32,8 @@ pub enum SelectedGoal {
 
 /// The sort of an identifier that is a name and isn't marked as bound.
 fn free_sort(local: &Local) -> Option<u32>
-    ensures { (n : ℕ) (as' : list name) → name_unless local.now.bound (kind_of local.now.kind) n as' ≡ names_with result n as' }
+    ensures { (n : ℕ) (as' : list name) →
+        name_unless local.now.bound (kind_of local.now.kind) n as' ≡ names_with result n as' }
 {
     match local.kind {
         Kind::Name(sort) => { if local.bound { None } else { Some(sort) } }
@@ -66,7 +67,9 @@ pub fn selected_atom(
     locals: &[Local],
 ) -> Result<SelectedGoal, Memory>
     requires { base + length locals.now < 2 ^ 64 }
-    ensures { IfOk result (λ n. node_of n ≡ atom number (local_names base (locals_of locals.now)) (map (susp []) (local_vars base (locals_of locals.now)))) }
+    ensures { IfOk result (λ n. node_of n ≡ atom number
+        (local_names base (locals_of locals.now))
+        (map (susp []) (local_vars base (locals_of locals.now)))) }
 {
     let names = names_of_locals(alloc, base, locals)?;
     let vars = vars_of_locals(alloc, base, locals)?;

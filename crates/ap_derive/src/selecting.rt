@@ -1,15 +1,14 @@
 //! The goals that are selected along a path.
 
-ghost use Rattle.std.specs.Prelude.{◌≡◌, ℕ, ◌∷◌, ◌++◌, None, Some, IfOk, List as list, OnOk, map};
+ghost use Rattle.std.specs.Prelude.{◌≡◌, ℕ, ◌∷◌, None, Some, IfOk, List as list, OnOk, map};
 ghost use Rattle.std.specs.Option.{option_map};
-ghost use Rattle.ap_defs.specs.Goals.{Clauses, atom as atom_goal, clause_of, either, goal_of};
-ghost use Rattle.ap_defs.specs.Renaming.{AreBelow, IsGoalBelow, rename_goal, rename_term as renamed};
-ghost use Rattle.ap_defs.specs.Terms.{term_of};
+ghost use Rattle.ap_defs.specs.Goals.{Clauses, atom as atom_goal, either, goal_of};
+ghost use Rattle.ap_defs.specs.Renaming.{AreBelow, IsGoalBelow, rename_goal};
 ghost use Rattle.ap_backchain.specs.Below.{AreClausesBelow};
 ghost use Rattle.ap_backchain.specs.Places.{next_of, position_of};
 ghost use Rattle.ap_backchain.specs.Positions.{with_goal};
 ghost use Rattle.ap_derive.specs.Nodes.{DerivationNode, node_of};
-ghost use Rattle.ap_derive.specs.Solved.{HasChoice, IsSolved, Selects, node_of_goal, rest_of, solved_at, with_frame};
+ghost use Rattle.ap_derive.specs.Solved.{HasChoice, IsSolved, Selects, goal_in, node_of_goal, program_in, raised, rest_of, solved_at, with_frame};
 
 use crate::nodes::{SelectedGoal, selected_atom};
 use ap_backchain::clauses::{clauses_at, enter_clause};
@@ -38,10 +37,14 @@ fn settle<'a>(
     frame: Frame<'a>,
     place: &mut Place<'a>,
 ) -> Result<(), Memory>
-    requires goal { IsGoalBelow (next_of place.old) (rename_goal frame.base (goal_of frame.goal.now)) }
-    requires settled { (n : DerivationNode) × (node_of_goal (rename_goal frame.base (goal_of frame.goal.now)) ≡ Some n) }
-    requires solved { (path : list ℕ) × IsSolved (map (map clause_of) clauses.now) path (with_frame frame (position_of place.old)) }
-    ensures { OnOk result ((path : list ℕ) (n : DerivationNode) → node_of_goal (rename_goal frame.entry.base (goal_of frame.entry.goal.now)) ≡ Some n → Selects (map (map clause_of) clauses.now) path (with_frame frame.entry (position_of place.old)) n (position_of place.new)) }
+    requires goal { IsGoalBelow (next_of place.old) (goal_in frame) }
+    requires settled { (n : DerivationNode) × (node_of_goal (goal_in frame) ≡ Some n) }
+    requires solved { (path : list ℕ) ×
+        IsSolved (program_in clauses.now) path (with_frame frame (position_of place.old)) }
+    ensures { OnOk result ((path : list ℕ) (n : DerivationNode) →
+        node_of_goal (goal_in frame.entry) ≡ Some n →
+        Selects (program_in clauses.now) path
+        (with_frame frame.entry (position_of place.old)) n (position_of place.new)) }
 {
     match turn_of_goal(alloc, clauses, frame, place)? {
         Turn::Goes => Ok(()),
@@ -52,8 +55,8 @@ fn settle<'a>(
 
 /// The node of the goal of a frame, whose numbers are below `next`, or none where it chooses.
 fn settled_goal(frame: &Frame<'_>, next: u64) -> Option<SelectedGoal>
-    requires { IsGoalBelow next (rename_goal frame.now.base (goal_of frame.now.goal.now)) }
-    ensures { option_map node_of result ≡ node_of_goal (rename_goal frame.now.base (goal_of frame.now.goal.now)) }
+    requires { IsGoalBelow next (goal_in frame.now) }
+    ensures { option_map node_of result ≡ node_of_goal (goal_in frame.now) }
 {
     let base = frame.base;
     match frame.goal {
@@ -71,7 +74,8 @@ fn settled_goal(frame: &Frame<'_>, next: u64) -> Option<SelectedGoal>
     }
 }
 
-/// Selects an atom, from a place in which the others wait, with the clause of the path's next choice.
+/// Selects an atom, from a place in which the others wait, with the clause of the path's next
+/// choice.
 fn select_clause<'a>(
     alloc: Global,
     clauses: &'a [List<Clause<Term>>],
@@ -81,10 +85,15 @@ fn select_clause<'a>(
     place: &mut Place<'a>,
     path: &[u32],
 ) -> Result<SelectedGoal, Memory>
-    requires clauses { AreClausesBelow (map (map clause_of) clauses.now) }
-    requires args { AreBelow (next_of place.old) (map (renamed frame.base) (map term_of args.now)) }
-    requires solved { IsSolved (map (map clause_of) clauses.now) path.now (with_goal frame.depth (atom_goal pred (map (renamed frame.base) (map term_of args.now))) (position_of place.old)) }
-    ensures { IfOk result (λ n. Selects (map (map clause_of) clauses.now) path.now (with_goal frame.entry.depth (atom_goal pred (map (renamed frame.entry.base) (map term_of args.now))) (position_of place.old)) (node_of n) (position_of place.new)) }
+    requires clauses { AreClausesBelow (program_in clauses.now) }
+    requires args { AreBelow (next_of place.old) (raised frame.base args.now) }
+    requires solved { IsSolved (program_in clauses.now) path.now
+        (with_goal frame.depth (atom_goal pred (raised frame.base args.now))
+        (position_of place.old)) }
+    ensures { IfOk result (λ n. Selects (program_in clauses.now) path.now
+        (with_goal frame.entry.depth (atom_goal pred (raised frame.entry.base args.now))
+        (position_of place.old))
+        (node_of n) (position_of place.new)) }
 {
     let choice = next_choice(place, path);
     let candidates = clauses_at(clauses, pred);
@@ -116,8 +125,17 @@ fn select_side<'a>(
 ) -> Result<SelectedGoal, Memory>
     requires left { IsGoalBelow (next_of place.old) (rename_goal frame.base (goal_of left.now)) }
     requires right { IsGoalBelow (next_of place.old) (rename_goal frame.base (goal_of right.now)) }
-    requires solved { (program : Clauses) × IsSolved program path.now (with_goal frame.depth (either (rename_goal frame.base (goal_of left.now)) (rename_goal frame.base (goal_of right.now))) (position_of place.old)) }
-    ensures { IfOk result (λ n. (program : Clauses) → Selects program path.now (with_goal frame.entry.depth (either (rename_goal frame.entry.base (goal_of left.now)) (rename_goal frame.entry.base (goal_of right.now))) (position_of place.old)) (node_of n) (position_of place.new)) }
+    requires solved { (program : Clauses) × IsSolved program path.now
+        (with_goal frame.depth
+        (either (rename_goal frame.base (goal_of left.now))
+        (rename_goal frame.base (goal_of right.now)))
+        (position_of place.old)) }
+    ensures { IfOk result (λ n. (program : Clauses) → Selects program path.now
+        (with_goal frame.entry.depth
+        (either (rename_goal frame.entry.base (goal_of left.now))
+        (rename_goal frame.entry.base (goal_of right.now)))
+        (position_of place.old))
+        (node_of n) (position_of place.new)) }
 {
     if next_choice(place, path) == 1 {
         place.push_choice(1)?;
@@ -139,11 +157,13 @@ fn select_choice<'a>(
     place: &mut Place<'a>,
     path: &[u32],
 ) -> Result<SelectedGoal, Memory>
-    requires clauses { AreClausesBelow (map (map clause_of) clauses.now) }
-    requires goal { IsGoalBelow (next_of place.old) (rename_goal frame.base (goal_of frame.goal.now)) }
-    requires choosing { node_of_goal (rename_goal frame.base (goal_of frame.goal.now)) ≡ None }
-    requires solved { IsSolved (map (map clause_of) clauses.now) path.now (with_frame frame (position_of place.old)) }
-    ensures { IfOk result (λ n. Selects (map (map clause_of) clauses.now) path.now (with_frame frame.entry (position_of place.old)) (node_of n) (position_of place.new)) }
+    requires clauses { AreClausesBelow (program_in clauses.now) }
+    requires goal { IsGoalBelow (next_of place.old) (goal_in frame) }
+    requires choosing { node_of_goal (goal_in frame) ≡ None }
+    requires solved { IsSolved (program_in clauses.now) path.now
+        (with_frame frame (position_of place.old)) }
+    ensures { IfOk result (λ n. Selects (program_in clauses.now) path.now
+        (with_frame frame.entry (position_of place.old)) (node_of n) (position_of place.new)) }
 {
     match frame.goal {
         Goal::Atom(pred, args) => {
@@ -168,10 +188,12 @@ fn select<'a>(
     place: &mut Place<'a>,
     path: &[u32],
 ) -> Result<SelectedGoal, Memory>
-    requires clauses { AreClausesBelow (map (map clause_of) clauses.now) }
-    requires goal { IsGoalBelow (next_of place.old) (rename_goal frame.base (goal_of frame.goal.now)) }
-    requires solved { IsSolved (map (map clause_of) clauses.now) path.now (with_frame frame (position_of place.old)) }
-    ensures { IfOk result (λ n. Selects (map (map clause_of) clauses.now) path.now (with_frame frame.entry (position_of place.old)) (node_of n) (position_of place.new)) }
+    requires clauses { AreClausesBelow (program_in clauses.now) }
+    requires goal { IsGoalBelow (next_of place.old) (goal_in frame) }
+    requires solved { IsSolved (program_in clauses.now) path.now
+        (with_frame frame (position_of place.old)) }
+    ensures { IfOk result (λ n. Selects (program_in clauses.now) path.now
+        (with_frame frame.entry (position_of place.old)) (node_of n) (position_of place.new)) }
 {
     match settled_goal(&frame, place.store.next()) {
         Some(selected) => {
@@ -190,9 +212,14 @@ pub fn select_along<'a>(
     place: &mut Place<'a>,
     path: &[u32],
 ) -> Result<Vec<SelectedGoal>, Memory>
-    requires clauses { AreClausesBelow (map (map clause_of) clauses.now) }
-    requires solved { IsSolved (map (map clause_of) clauses.now) path.now (position_of place.old) }
-    ensures { IfOk result (λ v. solved_at (map (map clause_of) clauses.now) path.now (position_of place.old) ≡ Some (record { state = (position_of place.new).state; nodes = map node_of v.items; rest = rest_of path.now (position_of place.new) })) }
+    requires clauses { AreClausesBelow (program_in clauses.now) }
+    requires solved { IsSolved (program_in clauses.now) path.now (position_of place.old) }
+    ensures { IfOk result (λ v. solved_at (program_in clauses.now) path.now (position_of place.old)
+        ≡ Some (record {
+          state = (position_of place.new).state;
+          nodes = map node_of v.items;
+          rest = rest_of path.now (position_of place.new);
+        })) }
 {
     let mut all = Vec::new(alloc);
     'selecting: while let Some(frame) = place.pop_goal() {
