@@ -12,37 +12,41 @@ use std::alloc::Global;
 
 /// What the words so far, from the last one, read as; the first of each stands last.
 #[derive(Drop)]
-pub struct Read {
+pub struct Reading {
     pub numbers: Vec<u64>,
     pub terms: Vec<Term>,
     pub nodes: Vec<Derivation>,
 }
 
-fn number(read: &mut Read) -> Result<u64, Memory> {
+fn number(read: &mut Reading) -> Result<u64, Memory> {
     read.numbers.pop().ok_or(Memory)
 }
 
-fn term(read: &mut Read) -> Result<Term, Memory> {
+fn small_number(read: &mut Reading) -> Result<u32, Memory> {
+    u32::try_from(number(read)?).or(Err(Memory))
+}
+
+fn term(read: &mut Reading) -> Result<Term, Memory> {
     read.terms.pop().ok_or(Memory)
 }
 
-fn boxed_term(alloc: Global, read: &mut Read) -> Result<Box<Term>, Memory> {
+fn boxed_term(alloc: Global, read: &mut Reading) -> Result<Box<Term>, Memory> {
     let term = term(read)?;
     Ok(Box::new(alloc, term)?)
 }
 
-fn node(alloc: Global, read: &mut Read) -> Result<Box<Derivation>, Memory> {
+fn node(alloc: Global, read: &mut Reading) -> Result<Box<Derivation>, Memory> {
     let node = read.nodes.pop().ok_or(Memory)?;
     Ok(Box::new(alloc, node)?)
 }
 
-fn name(read: &mut Read) -> Result<Name, Memory> {
-    let sort = number(read)? as u32;
+fn name(read: &mut Reading) -> Result<Name, Memory> {
+    let sort = small_number(read)?;
     let num = number(read)?;
     Ok(Name { sort, num })
 }
 
-fn names(alloc: Global, read: &mut Read, count: u64) -> Result<List<Name>, Memory> {
+fn names(alloc: Global, read: &mut Reading, count: u64) -> Result<List<Name>, Memory> {
     let mut names = Vec::new(alloc);
     for _i in 0..count {
         names.push(name(read)?)?;
@@ -50,7 +54,7 @@ fn names(alloc: Global, read: &mut Read, count: u64) -> Result<List<Name>, Memor
     Ok(List::of(names))
 }
 
-fn terms(alloc: Global, read: &mut Read, count: u64) -> Result<List<Term>, Memory> {
+fn terms(alloc: Global, read: &mut Reading, count: u64) -> Result<List<Term>, Memory> {
     let mut terms = Vec::new(alloc);
     for _i in 0..count {
         terms.push(term(read)?)?;
@@ -58,8 +62,8 @@ fn terms(alloc: Global, read: &mut Read, count: u64) -> Result<List<Term>, Memor
     Ok(List::of(terms))
 }
 
-fn atom(alloc: Global, read: &mut Read) -> Result<Derivation, Memory> {
-    let clause = number(read)? as u32;
+fn atom(alloc: Global, read: &mut Reading) -> Result<Derivation, Memory> {
+    let clause = small_number(read)?;
     let name_count = number(read)?;
     let term_count = number(read)?;
     let names = names(alloc, read, name_count)?;
@@ -68,7 +72,7 @@ fn atom(alloc: Global, read: &mut Read) -> Result<Derivation, Memory> {
     Ok(Derivation::Atom(clause, names, terms, body))
 }
 
-fn read_term(alloc: Global, read: &mut Read, word: &str) -> Result<Option<Term>, Memory> {
+fn read_term(alloc: Global, read: &mut Reading, word: &str) -> Result<Option<Term>, Memory> {
     Ok(match word {
         "u" => Some(Term::Unit),
         "n" => Some(Term::Name(name(read)?)),
@@ -77,7 +81,7 @@ fn read_term(alloc: Global, read: &mut Read, word: &str) -> Result<Option<Term>,
             Some(Term::Pair(left, boxed_term(alloc, read)?))
         }
         "a" => {
-            let f = number(read)? as u32;
+            let f = small_number(read)?;
             Some(Term::App(f, boxed_term(alloc, read)?))
         }
         "l" => {
@@ -92,7 +96,7 @@ fn read_term(alloc: Global, read: &mut Read, word: &str) -> Result<Option<Term>,
     })
 }
 
-fn read_node(alloc: Global, read: &mut Read, word: &str) -> Result<Option<Derivation>, Memory> {
+fn read_node(alloc: Global, read: &mut Reading, word: &str) -> Result<Option<Derivation>, Memory> {
     Ok(match word {
         "eq" => Some(Derivation::Eq),
         "fresh" => Some(Derivation::Fresh),
@@ -116,7 +120,7 @@ fn read_node(alloc: Global, read: &mut Read, word: &str) -> Result<Option<Deriva
     })
 }
 
-fn read_word(alloc: Global, read: &mut Read, word: &str) -> Result<(), Memory> {
+fn read_word(alloc: Global, read: &mut Reading, word: &str) -> Result<(), Memory> {
     if let Some(term) = read_term(alloc, read, word)? {
         read.terms.push(term)?;
     } else if let Some(node) = read_node(alloc, read, word)? {
@@ -128,12 +132,12 @@ fn read_word(alloc: Global, read: &mut Read, word: &str) -> Result<(), Memory> {
 }
 
 /// What a text of such words reads as.
-pub fn read(alloc: Global, text: &str) -> Result<Read, Memory> {
+pub fn read(alloc: Global, text: &str) -> Result<Reading, Memory> {
     let mut words = Vec::new(alloc);
     for word in text.split_whitespace() {
         words.push(word)?;
     }
-    let mut read = Read {
+    let mut read = Reading {
         numbers: Vec::new(alloc),
         terms: Vec::new(alloc),
         nodes: Vec::new(alloc),

@@ -10,42 +10,15 @@ use ap_defs::terms::{Cond, Name, Ty, Var};
 use ap_program::restricted::Restricted;
 use std::alloc::Global;
 
-/// An answer to a query, with a derivation. Its variables have the first name type, and its conditions are
-/// on names of it: each a name's number and a variable's.
-#[derive(Clone, Copy)]
-struct Claim {
-    query: u32,
-    binds: &'static str,
-    vars: &'static str,
-    conds: &'static str,
-    derivation: &'static str,
-}
-
-/// A claim about a query, with these bindings and no variables.
-const fn plain(query: u32, binds: &'static str, derivation: &'static str) -> Claim {
-    Claim {
-        query,
-        binds,
-        vars: "",
-        conds: "",
-        derivation,
-    }
-}
-
-/// A claim whose bindings have variables.
-const fn open(query: u32, open: [&'static str; 3], derivation: &'static str) -> Claim {
-    Claim {
-        query,
-        binds: open[0],
-        vars: open[1],
-        conds: open[2],
-        derivation,
-    }
-}
+/// The number of a query; the bindings of an answer to it, its variables, which have the first name type, its
+/// conditions, which are on names of that type, each by the numbers of the name and the variable, and a
+/// derivation of it.
+type Claim = (u32, [&'static str; 4]);
 
 fn typed_vars(alloc: Global, mut nums: Vec<u64>) -> Result<List<(Var, Ty)>, Memory> {
     let mut vars = Vec::new(alloc);
-    while let Some(num) = nums.pop() {
+    for _i in 0..nums.len() {
+        let num = nums.pop().ok_or(Memory)?;
         vars.push((Var { num }, Ty::Names(0)))?;
     }
     Ok(List::of(vars))
@@ -53,7 +26,8 @@ fn typed_vars(alloc: Global, mut nums: Vec<u64>) -> Result<List<(Var, Ty)>, Memo
 
 fn conditions(alloc: Global, mut nums: Vec<u64>) -> Result<List<Cond>, Memory> {
     let mut conds = Vec::new(alloc);
-    while let Some(num) = nums.pop() {
+    for _i in 0..nums.len() / 2 {
+        let num = nums.pop().ok_or(Memory)?;
         let name = Name { sort: 0, num };
         let num = nums.pop().ok_or(Memory)?;
         let var = Var { num };
@@ -62,23 +36,25 @@ fn conditions(alloc: Global, mut nums: Vec<u64>) -> Result<List<Cond>, Memory> {
     Ok(List::of(conds))
 }
 
-fn answer_of(alloc: Global, claim: &Claim) -> Result<Answer, Memory> {
-    let mut last_first = read(alloc, claim.binds)?.terms;
+fn answer_of(alloc: Global, words: [&str; 3]) -> Result<Answer, Memory> {
+    let [binds, vars, conds] = words;
+    let mut last_first = read(alloc, binds)?.terms;
     let mut binds = Vec::new(alloc);
-    while let Some(term) = last_first.pop() {
-        binds.push(term)?;
+    for _i in 0..last_first.len() {
+        binds.push(last_first.pop().ok_or(Memory)?)?;
     }
     Ok(Answer {
         binds: List::of(binds),
-        conds: conditions(alloc, read(alloc, claim.conds)?.numbers)?,
-        vars: typed_vars(alloc, read(alloc, claim.vars)?.numbers)?,
+        conds: conditions(alloc, read(alloc, conds)?.numbers)?,
+        vars: typed_vars(alloc, read(alloc, vars)?.numbers)?,
     })
 }
 
 fn verdict_on(alloc: Global, program: &Restricted, claim: &Claim) -> Result<Verdict, Memory> {
-    let answer = answer_of(alloc, claim)?;
-    let derivation = read(alloc, claim.derivation)?.nodes.pop().ok_or(Memory)?;
-    verify(alloc, program, claim.query, &answer, &derivation)
+    let (query, [binds, vars, conds, steps]) = *claim;
+    let answer = answer_of(alloc, [binds, vars, conds])?;
+    let derivation = read(alloc, steps)?.nodes.pop().ok_or(Memory)?;
+    verify(alloc, program, query, &answer, &derivation)
 }
 
 const NAMES: &str = "id : name_type. e : type. v : id -> e. pred two. two :- a # c.
@@ -88,55 +64,79 @@ const NAMES: &str = "id : name_type. e : type. v : id -> e. pred two. two :- a #
     ?- same(a, v(b)).";
 
 const CHECKED: [Claim; 7] = [
-    plain(1, "", "fresh"),
-    plain(3, "", "atom 1 2 0 0 5 0 6 fresh"),
-    plain(5, "", "exists n 0 1 eq"),
-    open(9, ["v 5", "5", "0 5"], "fresh"),
-    plain(10, "", "new 0 7 fresh"),
-    plain(10, "", "new 0 0 fresh"),
-    plain(11, "n 0 8", "new 0 7 fresh"),
+    (1, ["", "", "", "fresh"]),
+    (3, ["", "", "", "atom 1 2 0 0 5 0 6 fresh"]),
+    (5, ["", "", "", "exists n 0 1 eq"]),
+    (9, ["v 5", "5", "0 5", "fresh"]),
+    (10, ["", "", "", "new 0 7 fresh"]),
+    (10, ["", "", "", "new 0 0 fresh"]),
+    (11, ["n 0 8", "", "", "new 0 7 fresh"]),
 ];
 
 // Claims, with the node that is refused and the rule.
 const REFUSED: [(Claim, u64, Rule); 22] = [
-    (plain(1, "", "eq"), 1, Rule::Shape),
-    (plain(2, "", "and fresh left fresh"), 3, Rule::Shape),
-    (plain(3, "", "atom 2 2 0 0 5 0 6 fresh"), 1, Rule::Clause),
+    ((1, ["", "", "", "eq"]), 1, Rule::Shape),
+    ((2, ["", "", "", "and fresh left fresh"]), 3, Rule::Shape),
     (
-        plain(
+        (3, ["", "", "", "atom 2 2 0 0 5 0 6 fresh"]),
+        1,
+        Rule::Clause,
+    ),
+    (
+        (
             4,
-            "",
-            "and atom 1 2 0 0 5 0 6 fresh atom 0 2 0 0 5 0 6 fresh",
+            [
+                "",
+                "",
+                "",
+                "and atom 1 2 0 0 5 0 6 fresh atom 0 2 0 0 5 0 6 fresh",
+            ],
         ),
         4,
         Rule::Clause,
     ),
-    (plain(3, "", "atom 1 1 0 0 5 fresh"), 1, Rule::Count),
-    (plain(3, "", "atom 1 2 1 0 5 0 6 u fresh"), 1, Rule::Count),
-    (plain(3, "", "atom 1 2 0 0 5 0 5 fresh"), 1, Rule::Distinct),
+    ((3, ["", "", "", "atom 1 1 0 0 5 fresh"]), 1, Rule::Count),
     (
-        plain(
+        (3, ["", "", "", "atom 1 2 1 0 5 0 6 u fresh"]),
+        1,
+        Rule::Count,
+    ),
+    (
+        (3, ["", "", "", "atom 1 2 0 0 5 0 5 fresh"]),
+        1,
+        Rule::Distinct,
+    ),
+    (
+        (
             4,
-            "",
-            "and atom 1 2 0 0 5 0 6 fresh atom 1 2 0 0 7 0 7 fresh",
+            [
+                "",
+                "",
+                "",
+                "and atom 1 2 0 0 5 0 6 fresh atom 1 2 0 0 7 0 7 fresh",
+            ],
         ),
         4,
         Rule::Distinct,
     ),
-    (plain(3, "", "atom 1 2 0 1 5 0 6 fresh"), 1, Rule::Typing),
-    (plain(5, "", "exists u eq"), 1, Rule::Typing),
-    (plain(12, "", "atom 1 0 1 n 0 0 true"), 1, Rule::Head),
-    (plain(12, "", "atom 1 0 1 n 0 1 true"), 1, Rule::Head),
-    (plain(6, "", "eq"), 1, Rule::Equal),
-    (plain(7, "", "right eq"), 2, Rule::Equal),
-    (plain(8, "", "fresh"), 1, Rule::Fresh),
-    (open(9, ["v 5", "5", ""], "fresh"), 1, Rule::Fresh),
-    (plain(10, "", "new 0 1 fresh"), 1, Rule::NewName),
-    (plain(11, "n 0 7", "new 0 7 fresh"), 1, Rule::NewName),
-    (plain(13, "", "fresh"), 0, Rule::Answer),
-    (plain(9, "", "fresh"), 0, Rule::Answer),
-    (open(9, ["v 5", "5 5", "0 5"], "fresh"), 0, Rule::Answer),
-    (open(9, ["v 5", "5", "0 6"], "fresh"), 0, Rule::Answer),
+    (
+        (3, ["", "", "", "atom 1 2 0 1 5 0 6 fresh"]),
+        1,
+        Rule::Typing,
+    ),
+    ((5, ["", "", "", "exists u eq"]), 1, Rule::Typing),
+    ((12, ["", "", "", "atom 1 0 1 n 0 0 true"]), 1, Rule::Head),
+    ((12, ["", "", "", "atom 1 0 1 n 0 1 true"]), 1, Rule::Head),
+    ((6, ["", "", "", "eq"]), 1, Rule::Equal),
+    ((7, ["", "", "", "right eq"]), 2, Rule::Equal),
+    ((8, ["", "", "", "fresh"]), 1, Rule::Fresh),
+    ((9, ["v 5", "5", "", "fresh"]), 1, Rule::Fresh),
+    ((10, ["", "", "", "new 0 1 fresh"]), 1, Rule::NewName),
+    ((11, ["n 0 7", "", "", "new 0 7 fresh"]), 1, Rule::NewName),
+    ((13, ["", "", "", "fresh"]), 0, Rule::Answer),
+    ((9, ["", "", "", "fresh"]), 0, Rule::Answer),
+    ((9, ["v 5", "5 5", "0 5", "fresh"]), 0, Rule::Answer),
+    ((9, ["v 5", "5", "0 6", "fresh"]), 0, Rule::Answer),
 ];
 
 fn all_check(alloc: Global) -> Result<bool, Memory> {
@@ -182,14 +182,16 @@ const SUBSTITUTION: &str = "id : name_type. exp : type. var : id -> exp. app : (
 
 const RESULT: &str = "a 4 l 0 3 a 3 p a 2 n 0 0 a 2 n 0 3";
 
-const STEPS: &str = "atom 4 1 4 0 3 a 3 p a 2 n 0 1 a 2 n 0 3 n 0 1 a 2 n 0 0 a 3 p a 2 n 0 0 a 2 n 0 3
+const STEPS: &str =
+    "atom 4 1 4 0 3 a 3 p a 2 n 0 1 a 2 n 0 3 n 0 1 a 2 n 0 0 a 3 p a 2 n 0 0 a 2 n 0 3
     and fresh and fresh
     atom 3 0 6 a 2 n 0 1 a 2 n 0 3 n 0 1 a 2 n 0 0 a 2 n 0 0 a 2 n 0 3
     and atom 1 0 2 n 0 1 a 2 n 0 0 true
     atom 2 0 3 n 0 3 n 0 1 a 2 n 0 0 fresh";
 
 // The first clause for the right variable, at the tenth node.
-const ANOTHER_CLAUSE: &str = "atom 4 1 4 0 3 a 3 p a 2 n 0 1 a 2 n 0 3 n 0 1 a 2 n 0 0 a 3 p a 2 n 0 0 a 2 n 0 3
+const ANOTHER_CLAUSE: &str =
+    "atom 4 1 4 0 3 a 3 p a 2 n 0 1 a 2 n 0 3 n 0 1 a 2 n 0 0 a 3 p a 2 n 0 0 a 2 n 0 3
     and fresh and fresh
     atom 3 0 6 a 2 n 0 1 a 2 n 0 3 n 0 1 a 2 n 0 0 a 2 n 0 0 a 2 n 0 3
     and atom 1 0 2 n 0 1 a 2 n 0 0 true
@@ -197,7 +199,7 @@ const ANOTHER_CLAUSE: &str = "atom 4 1 4 0 3 a 3 p a 2 n 0 1 a 2 n 0 3 n 0 1 a 2
 
 fn substitution_verdict(alloc: Global, derivation: &'static str) -> Result<Verdict, Memory> {
     let program = program_of(alloc, SUBSTITUTION)?;
-    verdict_on(alloc, &program, &plain(1, RESULT, derivation))
+    verdict_on(alloc, &program, &(1, [RESULT, "", "", derivation]))
 }
 
 #[test]

@@ -65,5 +65,13 @@ fn a_million_nodes_are_checked(rt: HostRuntime) {
     let alloc = rt.alloc();
     assert!(rt; matches!(verdict_by(alloc, 2), Ok(Verdict::Yes)));
     let refused = verdict_by(alloc, 1);
-    assert!(rt; matches!(refused, Ok(Verdict::No { node: 1_000_002, rule: 1 })));
+    assert!(rt;
+        matches!(
+            refused,
+            Ok(Verdict::No {
+                node: 1_000_002,
+                rule: 1
+            })
+        )
+    );
 }

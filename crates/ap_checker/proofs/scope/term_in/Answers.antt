@@ -1,5 +1,4 @@
 use Rattle.std.proofs.Common.{◌≡◌, ◌-◌, map, MatchOption, sym, subst, ◌∙◌, arith}
-use Rattle.ap_defs.specs.declared.terms.Term.{Term}
 use Rattle.ap_defs.specs.Terms.{NominalTerm, term_of, unit}
 use Rattle.ap_defs.specs.Types.{locals_of}
 use Rattle.ap_checker.specs.Scopes.{nothing_put}
