@@ -39,11 +39,7 @@ fn is_call(nodes: &[Node], node: Node) -> bool {
 
 impl<'a> Uses<'a> {
     /// Those of items.
-    pub fn of(
-        alloc: Global,
-        tokens: &[Token<'a>],
-        ranges: &[Range],
-    ) -> Result<Uses<'a>, Memory> {
+    pub fn of(alloc: Global, tokens: &[Token<'a>], ranges: &[Range]) -> Result<Uses<'a>, Memory> {
         let mut uses = Uses {
             heads: Words::new(alloc),
             called: Words::new(alloc),
@@ -69,12 +65,7 @@ impl<'a> Uses<'a> {
         Ok(())
     }
 
-    fn add_node(
-        &mut self,
-        tokens: &[Token<'a>],
-        nodes: &[Node],
-        node: Node,
-    ) -> Result<(), Memory> {
+    fn add_node(&mut self, tokens: &[Token<'a>], nodes: &[Node], node: Node) -> Result<(), Memory> {
         let above = node_at(nodes, node.parent);
         match above.form {
             Form::Head => self.heads.add(text_at(tokens, node.first)),
@@ -84,12 +75,7 @@ impl<'a> Uses<'a> {
         }
     }
 
-    fn add_argument(
-        &mut self,
-        tokens: &[Token<'a>],
-        call: Node,
-        node: Node,
-    ) -> Result<(), Memory> {
+    fn add_argument(&mut self, tokens: &[Token<'a>], call: Node, node: Node) -> Result<(), Memory> {
         let Some(predicate) = self.called.place(text_at(tokens, call.first)) else {
             return Ok(());
         };

@@ -57,7 +57,12 @@ impl<'t, 'a> Warner<'t, 'a> {
         let note = format!(in alloc;
             "where any term will do it is spelled `_` or `_{word}`; else is it misspelt?"
         )?;
-        self.warn(alloc, span_at(tokens, token), sentence.as_str(), note.as_str())
+        self.warn(
+            alloc,
+            span_at(tokens, token),
+            sentence.as_str(),
+            note.as_str(),
+        )
     }
 
     fn warn_empty(
@@ -94,7 +99,12 @@ impl<'t, 'a> Warner<'t, 'a> {
             "each goal `{word}(..)` has another constructor as argument {number}"
         )?;
         let token = node.first;
-        self.warn(alloc, span_at(tokens, token), sentence.as_str(), note.as_str())
+        self.warn(
+            alloc,
+            span_at(tokens, token),
+            sentence.as_str(),
+            note.as_str(),
+        )
     }
 
     // Looks at a node of a clause or a query.
