@@ -67,13 +67,13 @@ good_text : (room : ℕ) (t : List ℕ) → IsGood (read_text (length t)) room (
 unfolding read_text
 good_text room t = record {
   whole = λ rest.
-    let all : (t ++ 10 ∷ []) ++ rest ≡ t ++ (10 ∷ rest) = append_assoc t (10 ∷ []) rest in
-    let long : nat_le (length (t ++ (10 ∷ rest))) (length t) ≡ false = lt-leb (length (t ++ (10 ∷ rest))) (length t) (omega (arith, length-append t (10 ∷ rest))) in
-    let lf = byte_behind t rest 10 in
-    rw (all, long, lf, take_text t (10 ∷ rest), add-one, drop_text t rest 10) refl;
+      let all : (t ++ 10 ∷ []) ++ rest ≡ t ++ (10 ∷ rest) = append_assoc t (10 ∷ []) rest in
+      let long : nat_le (length (t ++ (10 ∷ rest))) (length t) ≡ false = lt-leb (length (t ++ (10 ∷ rest))) (length t) (omega (arith, length-append t (10 ∷ rest))) in
+      let lf = byte_behind t rest 10 in
+      rw (all, long, lf, take_text t (10 ∷ rest), add-one, drop_text t rest 10) refl;
   part = λ v u e some.
-    let short : nat_le (length v) (length t) ≡ true = le-leb (length v) (length t) (omega (arith, ap length e, length-append v u, length-append t (10 ∷ []))) in
-    rw short refl;
+      let short : nat_le (length v) (length t) ≡ true = le-leb (length v) (length t) (omega (arith, ap length e, length-append v u, length-append t (10 ∷ []))) in
+      rw short refl;
 }
 
 -- the same at the end of the bytes
@@ -86,7 +86,7 @@ last_then : {A B : Type 0} (read : Reader A) (next : A → Place → Result B Wr
 last_then read next room w v x y first second = record {
   whole = rw (first.whole v) second.whole;
   part = λ a u e h. elim (parted w v a u e h) [
-    inl s ↦ rw (first.part a s.0 s.1 s.2) refl
+    | inl s ↦ rw (first.part a s.0 s.1 s.2) refl
     | inr s ↦ rw (s.1, first.whole s.0) (second.part s.0 u s.2 h)
   ];
 }

@@ -22,7 +22,7 @@ parted (b ∷ w) v (c ∷ a) u e h =
     let heads : b ≡ c = cc in
     let tails : w ++ v ≡ a ++ u = cc in
     elim (parted w v a u tails h) [
-      inl s ↦ inl (s.0, (ap (λ z. b ∷ z) s.1 ∙ ap (λ z. z ∷ (a ++ s.0)) heads), s.2)
+      | inl s ↦ inl (s.0, (ap (λ z. b ∷ z) s.1 ∙ ap (λ z. z ∷ (a ++ s.0)) heads), s.2)
       | inr s ↦ inr (s.0, (ap (λ z. c ∷ z) s.1 ∙ ap (λ z. z ∷ (w ++ s.0)) (sym heads)), s.2)
     ]
 
@@ -33,7 +33,7 @@ module _ {A B : Type 0} where
   good_then read next room w v x y first second = record {
     whole = λ rest. rw (append_assoc w v rest, first.whole (v ++ rest)) (second.whole rest);
     part = λ a u e h. elim (parted w v a u e h) [
-      inl s ↦ rw (first.part a s.0 s.1 s.2) refl
+      | inl s ↦ rw (first.part a s.0 s.1 s.2) refl
       | inr s ↦ rw (s.1, first.whole s.0) (second.part s.0 u s.2 h)
     ];
   }

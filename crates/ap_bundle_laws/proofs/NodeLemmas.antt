@@ -131,7 +131,7 @@ nodes_part room zero m (n ∷ ns) v u l h e some = rw l.1 refl
 nodes_part room (suc bound) m (n ∷ ns) v u l h e some =
     let good = good_node room n h.0 in
     elim (parted (node_lines term_line n) (flat_map (node_lines term_line) ns) v u e some) [
-      inl s ↦ rw (l.1, good.part v s.0 s.1 s.2) refl
+      | inl s ↦ rw (l.1, good.part v s.0 s.1 s.2) refl
       | inr s ↦ rw (l.1, s.1, good.whole s.0, nodes_part room bound (l.0 + children n) ns s.0 u l.2 h.1 s.2 some) refl
     ]
 

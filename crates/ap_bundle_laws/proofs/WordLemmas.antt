@@ -38,9 +38,9 @@ both false b h = (cc, cc)
 
 not_digit : (c d : ℕ) → is_ascii_digit d ≡ false → is_ascii_digit c ≡ true → (c == d) ≡ false
 not_digit c d isnt is = elim (cases (c == d)) [
-    inr h ↦ h
-    | inl h ↦ let e : c ≡ d = (Decides-eqb c d).0 h in let contra : is_ascii_digit d ≡ true = subst (λ (z : ℕ). is_ascii_digit z ≡ true) e is in cc
-  ]
+  | inr h ↦ h
+  | inl h ↦ let e : c ≡ d = (Decides-eqb c d).0 h in let contra : is_ascii_digit d ≡ true = subst (λ (z : ℕ). is_ascii_digit z ≡ true) e is in cc
+]
 
 digits_lack : (c : ℕ) (ds : List ℕ) → is_ascii_digit c ≡ false → list_all is_ascii_digit ds ≡ true → lacks c ds
 digits_lack c [] isnt h = tt
@@ -128,7 +128,7 @@ leading zero h = rw (decimal_digit 0 (lit< tt)) refl
 leading (suc m) h =
     let big = first_decimal (suc m) (omega arith) h in
     elim (cases (get_or (decimal (suc m)) 0 0 == 48)) [
-      inl e ↦ absurd (let same = (Decides-eqb (get_or (decimal (suc m)) 0 0) 48).0 e in omega arith)
+      | inl e ↦ absurd (let same = (Decides-eqb (get_or (decimal (suc m)) 0 0) 48).0 e in omega arith)
       | inr e ↦ rw e (or_true (length (decimal (suc m)) == 1))
     ]
 
