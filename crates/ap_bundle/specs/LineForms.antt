@@ -18,7 +18,7 @@ use Rattle.ap_bundle.specs.Nodes as nodes
 use Rattle.ap_bundle.specs.Nodes.{Node}
 
 -- the words behind this one, if it comes first
-abbrev pub after_head : Head → List Word → Option (List Word)
+unfoldable pub after_head : Head → List Word → Option (List Word)
 after_head h (words.Head k ∷ ws) = if bytes_eq (head_text k) (head_text h) then Some ws else None
 after_head h ws = None
 
@@ -131,5 +131,5 @@ end_form ws = do
   at_end [] rest
 
 -- the first line
-abbrev pub first_form : List ℕ → Option (List Word)
+unfoldable pub first_form : List ℕ → Option (List Word)
 first_form bytes = if bytes_eq bytes (codes "alphaprolog bundle 1") then Some [] else None

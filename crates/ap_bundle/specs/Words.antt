@@ -76,16 +76,16 @@ abbrev pub is_numeral : List ℕ → Bool
 is_numeral text = list_all is_ascii_digit text && (nat_lt 0 (length text) && ((length text == 1) || not (slice_index text 0 == 48)))
 
 -- the number below 2 ^ 64 that is spelled so
-abbrev pub number_of : List ℕ → Option ℕ
+unfoldable pub number_of : List ℕ → Option ℕ
 number_of text = if is_numeral text && nat_lt (digits_value 10 text) (2 ^ 64) then Some (digits_value 10 text) else None
 
-abbrev pub letter_of : List ℕ → Option Letter
+unfoldable pub letter_of : List ℕ → Option Letter
 letter_of text = find (λ l. bytes_eq (letter_text l) text) letters
 
-abbrev pub node_word_of : List ℕ → Option NodeWord
+unfoldable pub node_word_of : List ℕ → Option NodeWord
 node_word_of text = find (λ k. bytes_eq (node_text k) text) node_words
 
-abbrev pub head_of : List ℕ → Option Head
+unfoldable pub head_of : List ℕ → Option Head
 head_of text = find (λ h. bytes_eq (head_text h) text) heads
 
 -- the first of two that is there

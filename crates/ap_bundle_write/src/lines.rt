@@ -66,12 +66,7 @@ pub fn write_line(alloc: Global, out: &mut Vec<u8>, words: &[Word]) -> Result<()
 }
 
 /// Writes a line of a word and a count.
-pub fn write_count(
-    alloc: Global,
-    out: &mut Vec<u8>,
-    head: Head,
-    count: usize,
-) -> Result<(), Memory>
+pub fn write_count(alloc: Global, out: &mut Vec<u8>, head: Head, count: usize) -> Result<(), Memory>
     ensures { OnOk result (out.new.items ≡ out.old.items ++ counted head count) }
 {
     write_line(alloc, out, &[Word::Head(head), Word::Number(count as u64)])

@@ -100,4 +100,3 @@ pub loop-next-smaller : goal.loop-next-smaller
 loop-next-smaller c =
     let e = (ap (λ t. preorder (derivation_of t)) c.in-New.is) in
     less_left preorder derivation_of _ _ c.push-in-New.new.self.items c.in-Some.next (nodes.new c.in-New.name ∷ []) _ c.in-Some.ensures.items (later_one preorder derivation_of c.push-in-New.new.self.items c.pop.new.self.items c.deref-in-New.result c.in_ok-push-in-New.ensures.items) (rw c.deref-in-New.ensures e) (lit< tt)
-

@@ -67,4 +67,3 @@ loop-next-smaller c =
     let left = later_one type_words type_of c.push-in-Abs-3.new.self.items c.pop.new.self.items c.deref-in-Abs.result c.in_ok-push-in-Abs-3.ensures.items in
     let e = ap (λ t. type_words (type_of t)) c.in-Abs.is in
     less_left type_words type_of _ _ c.push-in-Abs-3.new.self.items c.in-Some.next (word.Letter letter.B ∷ word.Number c.in-Abs.sort ∷ []) _ c.in-Some.ensures.items left (rw c.deref-in-Abs.ensures e) (lit< tt)
-

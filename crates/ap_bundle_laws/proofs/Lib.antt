@@ -1,0 +1,6 @@
+pub mod GoodLemmas
+pub mod WordLemmas
+pub mod FormLemmas
+pub mod LineLemmas
+pub mod NodeLemmas
+pub mod BundleLemmas

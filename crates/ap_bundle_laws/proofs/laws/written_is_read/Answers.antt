@@ -1,0 +1,14 @@
+use Rattle.std.proofs.Common.{◌≡◌, ℕ, List, ◌+◌, ap, refl, Err, ◌∙◌}
+use Rattle.std.specs.Prelude.{count_by}
+use Rattle.ap_bundle.specs.Readers.{is_lf, unended, fault_in}
+use Rattle.ap_bundle.specs.Reading.{at_line}
+use Rattle.ap_bundle.specs.Written.{written}
+use Rattle.ap_bundle.specs.declared.faults.BundleKind.TheVariants.{Unended}
+use Rattle.ap_bundle_laws.proofs.BundleLemmas.{again, prefix, take_all}
+use Rattle.ap_bundle_laws.proofs.laws.written_is_read.Goals as goal
+
+pub returns-clause-again : goal.returns-clause-again
+returns-clause-again c = λ b h. ap (at_line (written b)) (again b h)
+
+pub returns-clause-prefixes : goal.returns-clause-prefixes
+returns-clause-prefixes c = λ b v u h e some. ap (at_line v) (prefix b v u h e some) ∙ ap (λ (z : List ℕ). Err (record { line = 1 + count_by is_lf z; kind = Unended })) (take_all v)

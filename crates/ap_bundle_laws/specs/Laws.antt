@@ -1,0 +1,84 @@
+-- What holds of what is written and read.
+use Rattle.std.specs.Prelude.{ℕ, ◌+◌, ◌<◌, ◌^◌, ◌≡◌, List, [], ◌∷◌, ◌++◌, length, count_by, Ok, Err}
+use Rattle.ap_defs.specs.declared.terms.Name.{Name}
+use Rattle.ap_defs.specs.declared.terms.Var.{Var}
+use Rattle.ap_defs.specs.declared.terms.Swap.{Swap}
+use Rattle.ap_defs.specs.declared.terms.Cond.{Cond}
+use Rattle.ap_defs.specs.Terms as terms
+use Rattle.ap_defs.specs.Terms.{NominalTerm}
+use Rattle.ap_defs.specs.Types as types
+use Rattle.ap_defs.specs.Types.{NominalType}
+use Rattle.ap_defs.specs.Answers.{NominalAnswer}
+use Rattle.ap_defs.specs.Derivations as derivations
+use Rattle.ap_defs.specs.Derivations.{NominalDerivation}
+use Rattle.ap_bundle.specs.declared.faults.BundleKind.TheVariants.{Unended}
+use Rattle.ap_bundle.specs.Bundles.{NominalProved, NominalBundle}
+use Rattle.ap_bundle.specs.Readers.{is_lf}
+use Rattle.ap_bundle.specs.Written.{written}
+use Rattle.ap_bundle.specs.Reading.{reading}
+
+-- The numbers of a bundle of the program are in the ranges of their types, and so are the lengths of its lists.
+
+abbrev pub Each : {A : Type 0} → (A → Type 0) → List A → Type 0
+Each P [] = Unit {0}
+Each P (x ∷ xs) = P x × Each P xs
+
+abbrev pub IsListOf : {A : Type 0} → (A → Type 0) → List A → Type 0
+IsListOf P xs = (length xs < 2 ^ 64) × Each P xs
+
+abbrev pub FitsName : Name → Type 0
+FitsName a = (a.sort < 2 ^ 32) × (a.num < 2 ^ 64)
+
+abbrev pub FitsSwap : Swap → Type 0
+FitsSwap s = (s.sort < 2 ^ 32) × (s.left < 2 ^ 64) × (s.right < 2 ^ 64)
+
+abbrev pub FitsCond : Cond → Type 0
+FitsCond c = FitsName c.name × (c.var.num < 2 ^ 64)
+
+abbrev pub FitsTerm : NominalTerm → Type 0
+FitsTerm terms.unit = Unit {0}
+FitsTerm (terms.name a) = FitsName a
+FitsTerm (terms.pair t u) = FitsTerm t × FitsTerm u
+FitsTerm (terms.app f t) = (f < 2 ^ 32) × FitsTerm t
+FitsTerm (terms.abs a t) = FitsName a × FitsTerm t
+FitsTerm (terms.susp swaps x) = IsListOf FitsSwap swaps × (x.num < 2 ^ 64)
+
+abbrev pub FitsType : NominalType → Type 0
+FitsType types.unit = Unit {0}
+FitsType (types.names s) = s < 2 ^ 32
+FitsType (types.base d) = d < 2 ^ 32
+FitsType (types.pair t u) = FitsType t × FitsType u
+FitsType (types.list t) = FitsType t
+FitsType (types.abs s t) = (s < 2 ^ 32) × FitsType t
+
+abbrev pub FitsVar : Var × NominalType → Type 0
+FitsVar v = (v.0.num < 2 ^ 64) × FitsType v.1
+
+abbrev pub FitsAnswer : NominalAnswer → Type 0
+FitsAnswer a = IsListOf FitsTerm a.binds × IsListOf FitsCond a.conds × IsListOf FitsVar a.vars
+
+abbrev pub FitsDerivation : NominalDerivation → Type 0
+FitsDerivation (derivations.atom k names ts d) = (k < 2 ^ 32) × IsListOf FitsName names × IsListOf FitsTerm ts × FitsDerivation d
+FitsDerivation derivations.equal = Unit {0}
+FitsDerivation derivations.fresh = Unit {0}
+FitsDerivation derivations.succeed = Unit {0}
+FitsDerivation (derivations.both d e) = FitsDerivation d × FitsDerivation e
+FitsDerivation (derivations.left d) = FitsDerivation d
+FitsDerivation (derivations.right d) = FitsDerivation d
+FitsDerivation (derivations.exists t d) = FitsTerm t × FitsDerivation d
+FitsDerivation (derivations.new a d) = FitsName a × FitsDerivation d
+
+abbrev pub FitsProved : NominalProved → Type 0
+FitsProved p = (p.query < 2 ^ 32) × FitsAnswer p.answer × FitsDerivation p.derivation
+
+abbrev pub FitsBundle : NominalBundle → Type 0
+FitsBundle b = (length b.text < 2 ^ 64) × IsListOf FitsProved b.proved
+
+-- what is written of a bundle is read again
+abbrev pub WrittenIsRead : Type 0
+WrittenIsRead = (b : NominalBundle) → FitsBundle b → reading (written b) ≡ Ok b
+
+-- each proper prefix of what is written is unended, at the line at which it ends
+abbrev pub PrefixesAreUnended : Type 0
+PrefixesAreUnended = (b : NominalBundle) (v u : List ℕ) → FitsBundle b → written b ≡ v ++ u → 0 < length u
+    → reading v ≡ Err (record { line = 1 + count_by is_lf v; kind = Unended })

@@ -1,0 +1,10 @@
+//! Laws of what is written and read.
+
+ghost use Rattle.ap_bundle_laws.specs.Laws.{WrittenIsRead, PrefixesAreUnended};
+
+/// What is written of a bundle is read again, and of what is written each proper prefix is refused as
+/// unended, at the line at which it ends.
+pub fn written_is_read()
+    ensures again { WrittenIsRead }
+    ensures prefixes { PrefixesAreUnended }
+{}

@@ -1,0 +1,4 @@
+pub mod StackLemmas
+pub mod RepeatLemmas
+pub mod NumberLemmas
+pub mod LoopLemmas

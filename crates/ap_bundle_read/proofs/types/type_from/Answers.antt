@@ -1,0 +1,11 @@
+use Rattle.std.proofs.Common.{◌≡◌, ◌-◌, None, arith, drop, refl}
+use Rattle.std.proofs.lemmas.Grind.{common_steps}
+use Rattle.ap_bundle.specs.Forms.{form, forms, type_onto}
+use Rattle.ap_bundle_read.proofs.LoopLemmas.{forms_none}
+use Rattle.ap_bundle_read.proofs.types.type_from.Goals as goal
+
+pub returns-in-None : goal.returns-in-None
+unfolding form
+returns-in-None c =
+    let none : forms type_onto (drop (c.loop-left.left - 1) c.args.words.now) ≡ None = grind (arith, common_steps) in
+    rw (forms_none type_onto (c.loop-left.left - 1) c.args.words.now none) refl

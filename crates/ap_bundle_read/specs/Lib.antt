@@ -1,0 +1,3 @@
+pub mod Outcomes
+pub mod Stacks
+pub mod Nodes

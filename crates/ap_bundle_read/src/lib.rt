@@ -1,0 +1,16 @@
+//! Bundles, read from bytes.
+#![tactic(auto)]
+
+mod answers;
+mod error;
+mod line_forms;
+mod nodes;
+mod numbers;
+mod place;
+mod read;
+mod terms;
+mod types;
+mod words;
+
+pub use error::BundleError;
+pub use read::read_bundle;

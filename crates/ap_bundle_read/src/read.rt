@@ -1,0 +1,140 @@
+//! A bundle, from its bytes.
+ghost use Rattle.std.specs.Prelude.{◌≡◌, ◌≤◌, [], length, map, count_by};
+ghost use Rattle.ap_bundle.specs.Bundles.{bundle_of, proved_of};
+ghost use Rattle.ap_bundle.specs.LineForms as lines;
+ghost use Rattle.ap_bundle.specs.Readers as readers;
+ghost use Rattle.ap_bundle.specs.Reading as spec;
+ghost use Rattle.ap_bundle_read.specs.Outcomes.{Answers, Gives, place_of};
+
+use crate::answers::{read_all, read_count};
+use crate::error::{BundleError, ReadError};
+use crate::line_forms::{is_end, is_first};
+use crate::place::{Place, first_line, words_at, wrong};
+use ap_bundle::faults::{BundleFault, BundleKind};
+use ap_bundle::words::Head;
+use ap_defs::lists::List;
+use ap_defs::outcomes::{Bundle, Proved};
+use std::alloc::Global;
+
+/// The place behind the first line.
+#[tactic(auto, unfolding(ap_bundle::specs::Readers::read_line))]
+fn read_first(place: Place<'_>) -> Result<Place<'_>, ReadError>
+    ensures { Gives (λ r. ([], place_of r)) result (readers.read_line BundleKind.Header lines.first_form (place_of place.entry)) }
+{
+    let Some((line, rest)) = first_line(place.rest) else {
+        return Err(ReadError::Wrong(BundleKind::Unended, 0));
+    };
+    if !is_first(line) {
+        return Err(wrong(BundleKind::Header, place));
+    }
+    Ok(Place {
+        rest,
+        room: place.room,
+    })
+}
+
+/// A text of this length, and the place behind its LF.
+#[tactic(auto, unfolding(ap_bundle::specs::Reading::read_text))]
+fn read_text<'a>(
+    alloc: Global,
+    length: u64,
+    place: Place<'a>,
+) -> Result<(Vec<u8>, Place<'a>), ReadError>
+    ensures { Gives (λ r. (r.0.items, place_of r.1)) result (spec.read_text length (place_of place.entry)) }
+{
+    let bytes = place.rest;
+    if bytes.len() as u64 <= length {
+        return Err(ReadError::Wrong(BundleKind::Unended, 0));
+    }
+    let (text, behind) = bytes.split_at(length as usize);
+    if behind[0] != b'\n' {
+        return Err(ReadError::Wrong(BundleKind::Header, behind.len()));
+    }
+    let text = text.to_vec(alloc)?;
+    Ok((
+        text,
+        Place {
+            rest: &behind[1..],
+            room: place.room,
+        },
+    ))
+}
+
+/// The last line, after which nothing stands.
+#[tactic(auto, unfolding(ap_bundle::specs::Reading::read_last, ap_bundle::specs::Readers::read_form))]
+fn read_last(alloc: Global, place: Place<'_>) -> Result<(), ReadError>
+    ensures { Gives (λ r. []) result (spec.read_last (place_of place.entry)) }
+{
+    let (words, rest) = words_at(alloc, BundleKind::Header, place)?;
+    if !is_end(&words) {
+        return Err(wrong(BundleKind::Header, place));
+    }
+    if !rest.rest.is_empty() {
+        return Err(wrong(BundleKind::Header, rest));
+    }
+    Ok(())
+}
+
+/// What follows the text.
+#[tactic(auto, unfolding(ap_bundle::specs::Reading::read_rest))]
+fn read_rest(alloc: Global, place: Place<'_>) -> Result<Vec<Proved>, ReadError>
+    ensures { Gives (λ v. map proved_of v.items) result (spec.read_rest spec.read_term (place_of place.entry)) }
+{
+    let (all, rest) = read_all(alloc, place)?;
+    read_last(alloc, rest)?;
+    Ok(all)
+}
+
+/// The bundle that begins at a place.
+#[tactic(auto, unfolding(ap_bundle::specs::Reading::read_at))]
+fn read_at(alloc: Global, place: Place<'_>) -> Result<Bundle, ReadError>
+    ensures { Gives bundle_of result (spec.read_at (place_of place.entry)) }
+{
+    let place = read_first(place)?;
+    let (length, place) = read_count(alloc, Head::Text, place)?;
+    let (text, place) = read_text(alloc, length, place)?;
+    let proved = read_rest(alloc, place)?;
+    Ok(Bundle {
+        text: List::of(text),
+        proved: List::of(proved),
+    })
+}
+
+/// How many LFs there are.
+fn count_lines(bytes: &[u8]) -> usize
+    ensures value { result ≡ count_by readers.is_lf bytes.now }
+    ensures bound { result ≤ length bytes.now }
+{
+    bytes.iter().filter(|byte| **byte == b'\n').count()
+}
+
+/// A fault at its line.
+fn fault_in(bytes: &[u8], kind: BundleKind, left: usize) -> BundleFault
+    ensures { result ≡ readers.fault_in bytes.now (record { kind = kind; left = left }) }
+{
+    let before = bytes.len().saturating_sub(left);
+    BundleFault {
+        line: 1 + count_lines(&bytes[..before]) as u64,
+        kind,
+    }
+}
+
+/// The bundle that the bytes are, with each term written in full.
+///
+/// The lines and the text are read in order, and `Fault` tells the first of them that is wrong. `Memory` is
+/// want of memory.
+pub fn read_bundle(alloc: Global, bytes: &[u8]) -> Result<Bundle, BundleError>
+    ensures { Answers bundle_of result (spec.reading bytes.now) }
+{
+    let start = Place {
+        rest: bytes,
+        room: 0,
+    };
+    match read_at(alloc, start) {
+        Ok(bundle) => Ok(bundle),
+        Err(ReadError::Wrong(kind, left)) => {
+            Err(BundleError::Fault(fault_in(bytes, kind, left)))
+        }
+        Err(ReadError::Memory) => Err(BundleError::Memory),
+    }
+}
