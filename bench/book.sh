@@ -2,5 +2,5 @@
 # Fills a book with 131,071 entries, closes and merges it, and prints what that took.
 . "$(dirname -- "$(readlink -f -- "$0")")/prepare.sh"
 
-build_stages
-measure /dev/null "$stages" book
+build_parts
+measure /dev/null "$parts" book

@@ -3,6 +3,6 @@
 # what each took.
 . "$(dirname -- "$(readlink -f -- "$0")")/prepare.sh"
 
-build_stages
-measure /dev/null "$stages" lock
-measure /dev/null "$stages" tasks
+build_parts
+measure /dev/null "$parts" lock
+measure /dev/null "$parts" tasks

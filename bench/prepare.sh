@@ -6,10 +6,10 @@ bench=$(dirname -- "$(readlink -f -- "$0")")
 work=$(mktemp -d)
 trap 'rm -rf "$work"' EXIT
 
-# Builds the program whose modes are the stages, and sets stages to its path.
-build_stages() {
-    (cd "$bench/../crates/ap_bench" && rt run -- lex < stdin > /dev/null 2>&1)
-    stages=$bench/../crates/ap_bench/out/ap_bench
+# Builds the program that measures parts of the interpreter by themselves, and sets parts to its path.
+build_parts() {
+    (cd "$bench/../crates/ap_bench" && rt run -- types > /dev/null 2>&1)
+    parts=$bench/../crates/ap_bench/out/ap_bench
 }
 
 # Builds the interpreter, and sets program to its path.
@@ -21,4 +21,17 @@ build_program() {
 # Measures a command on the standard input that a file has.
 measure() {
     python3 "$bench/measure.py" "$@"
+}
+
+# Measures the interpreter on the file text of the folder, up to the end of a stage: behind the text stands what that
+# stage finds to be a fault, so that the next one isn't begun.
+measure_to() {
+    case $1 in
+        lex) fault='&' ;;
+        parse) fault='?- .' ;;
+        typed) fault='a_word : not_declared.' ;;
+    esac
+    { cat "$work/text"; printf '\n%s' "$fault"; } > "$work/faulty"
+    printf '%-9s' "$1"
+    measure "$work/faulty" "$program" run --depth 1
 }

@@ -3,8 +3,8 @@
 # that steal, and prints what each took: wall time, so other work on the machine counts.
 . "$(dirname -- "$(readlink -f -- "$0")")/prepare.sh"
 
-build_stages
+build_parts
 for mode in recursion steal1 steal2 steal4; do
     printf '%-10s' "$mode"
-    measure /dev/null "$stages" "$mode"
+    measure /dev/null "$parts" "$mode"
 done

@@ -4,13 +4,13 @@
 # whose types double, which ends in a fault. The time of `parse` is that of reading alone, which typing does first.
 . "$(dirname -- "$(readlink -f -- "$0")")/prepare.sh"
 
-build_stages
+build_program
 
 measured() {
     python3 "$bench/typing_text.py" "$1" "$2" > "$work/text"
     for stage in parse typed; do
-        printf '%-9s %-6s' "$1" "$stage"
-        measure "$work/text" "$stages" "$stage"
+        printf '%-9s' "$1"
+        measure_to "$stage"
     done
 }
 

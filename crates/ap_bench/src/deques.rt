@@ -1,7 +1,7 @@
 //! Deques that are made and dropped.
 
 use ap_defs::memory::Memory;
-use ap_tasks::{Owner, Thief, tasks};
+use ap_tasks::tasks;
 use std::alloc::{AllocError, Global};
 use std::marker::Brand;
 
@@ -9,8 +9,7 @@ const DEQUES: u32 = 1_000;
 
 fn made(alloc: Global) -> Result<u32, Memory> {
     for _ in 0..DEQUES {
-        let pair: (Owner<Brand>, Thief<Brand>) = tasks(alloc)?;
-        drop(pair);
+        let (_owner, _thief) = tasks::<Brand>(alloc)?;
     }
     Ok(DEQUES)
 }

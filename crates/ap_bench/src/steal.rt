@@ -5,7 +5,7 @@ ghost use Rattle.ap_defs.specs.Answers.{out_of, cut};
 
 use ap_defs::lists::List;
 use ap_defs::memory::Memory;
-use ap_defs::paths::{Entry, Out, Path, Visit};
+use ap_defs::paths::{Out, Path, Visit};
 use ap_io::NoGate;
 use ap_paths::Tree;
 use ap_steal::search;
@@ -107,19 +107,13 @@ fn gathered(alloc: Global) -> Result<usize, Memory> {
     Ok(outs.len())
 }
 
-fn leaves(history: &[Entry]) -> usize {
-    history
-        .iter()
-        .filter(|entry| matches!(entry, Entry::Done { .. }))
-        .count()
-}
-
 fn searched<R: Threads + Wait + Sync>(rt: &R, alloc: Global, workers: u32) -> Result<usize, Memory>
     requires { (0 < workers) × (workers ≤ 64) }
 {
     let tree = Pairs { depth: LEVELS };
     let closed = search(rt, alloc, &tree, workers, &NoGate)?;
-    Ok(leaves(closed.history.items()))
+    // There is an entry for each path, and half of them but one are of paths that were split.
+    Ok(closed.history.items().len() / 2 + 1)
 }
 
 fn line(alloc: Global, counted: Result<usize, Memory>) -> Result<String, AllocError> {
