@@ -1,6 +1,8 @@
-//! Tests of the crates that check derivations: `ap_checker`.
+//! Tests of the crates that make and check derivations: `ap_derive` and `ap_checker`.
 #![tactic(auto)]
 
+#[cfg(test)]
+mod derive;
 #[cfg(test)]
 mod reader;
 #[cfg(test)]
