@@ -21,8 +21,8 @@ use std::alloc::Global;
 fn abstraction_over(alloc: Global, over: Option<Ty>, body: Ty) -> Result<Ty, Memory>
     ensures { IfOk result (λ t. type_of t ≡ spec.abstraction_over (option_map type_of over) (type_of body)) }
 {
-    match over {
-        Some(Ty::Names(sort)) => Ok(Ty::Abs(sort, Box::new(alloc, body)?)),
+    match &over {
+        Some(Ty::Names(sort)) => Ok(Ty::Abs(*sort, Box::new(alloc, body)?)),
         _ => Ok(Ty::Unit),
     }
 }
@@ -87,7 +87,7 @@ fn type_word_flaw(found: Option<Ty>) -> Option<TypeKind>
 fn name_type_flaw(found: Option<Ty>) -> Option<TypeKind>
     ensures { result ≡ flaws.name_type_flaw (option_map type_of found) }
 {
-    match found {
+    match &found {
         Some(Ty::Names(_)) => None,
         Some(_) => Some(TypeKind::Clash),
         None => Some(TypeKind::Undeclared),
@@ -98,7 +98,7 @@ fn name_type_flaw(found: Option<Ty>) -> Option<TypeKind>
 pub fn result_flaw(found: Option<Ty>) -> Option<TypeKind>
     ensures { result ≡ flaws.result_flaw (option_map type_of found) }
 {
-    match found {
+    match &found {
         Some(Ty::Base(_)) => None,
         Some(_) => Some(TypeKind::Clash),
         None => Some(TypeKind::Undeclared),

@@ -73,8 +73,8 @@ pub fn declare_data_type<'a>(
 fn data_number(found: Option<Ty>) -> u32
     ensures { result ≡ spec.data_number (option_map type_of found) }
 {
-    match found {
-        Some(Ty::Base(number)) => number,
+    match &found {
+        Some(Ty::Base(number)) => *number,
         _ => 0,
     }
 }
