@@ -1,23 +1,21 @@
 -- Bundles are read as they are written, and their prefixes are unended.
-use Rattle.std.proofs.Common.{◌≡◌, ℕ, zero, suc, ◌+◌, ◌-◌, ◌<◌, ◌≤◌, ◌^◌, ◌==◌, List, [], ◌∷◌, ◌++◌, length, Option, None, Some, Result, Ok, Err, refl, ap, sym, ◌∙◌, subst, append_assoc, arith, inl, inr, length-append, take, drop, get_or, nat_le, le-leb, add-one, true, false, rules}
+use Rattle.std.proofs.Common.{◌≡◌, ℕ, suc, ◌-◌, ◌<◌, List, [], ◌∷◌, ◌++◌, length, Some, Result, Ok, Err, refl, ap, sym, subst, append_assoc, arith, inl, inr, length-append, take, drop, get_or, nat_le, le-leb, add-one, true, false, rules}
 use Rattle.std.specs.Prelude.{codes}
 use Rattle.std.proofs.lemmas.Bool.{lt-leb}
 use Rattle.std.proofs.lemmas.List.{append-nil}
 use Rattle.std.specs.List.{flat_map}
-use Rattle.ap_defs.specs.Terms.{NominalTerm}
 use Rattle.ap_defs.specs.Answers.{NominalAnswer}
 use Rattle.ap_bundle.specs.declared.faults.BundleKind.TheVariants.{Header, Term}
 use Rattle.ap_bundle.specs.declared.words.Head.{Head}
 use Rattle.ap_bundle.specs.declared.words.Head.TheVariants as head
-use Rattle.ap_bundle.specs.declared.words.Word.{Word}
 use Rattle.ap_bundle.specs.declared.words.Word.TheVariants as words
 use Rattle.ap_bundle.specs.Bundles.{NominalProved, NominalBundle}
 use Rattle.ap_bundle.specs.Nodes.{preorder}
-use Rattle.ap_bundle.specs.LineForms.{after_head, first_form, query_form, var_form, cond_form, end_form}
-use Rattle.ap_bundle.specs.Readers.{Place, Wrong, Reader, ◌>>=◌, unended, found, read_line, read_form, repeated}
+use Rattle.ap_bundle.specs.LineForms.{after_head, first_form, query_form, var_form, cond_form}
+use Rattle.ap_bundle.specs.Readers.{Place, Wrong, Reader, ◌>>=◌, unended, read_line, read_form, repeated}
 use Rattle.ap_bundle.specs.Written.{head_line, counted, listed, var_line, cond_line, term_line, node_lines, answer_lines, proved_lines, text_lines, proved_part, written}
-use Rattle.ap_bundle.specs.Reading.{read_count, read_listed, read_term, read_derivation, read_answer, read_proved, read_text, read_last, read_rest, read_at, ends}
-use Rattle.ap_bundle_laws.specs.Laws.{Each, IsListOf, FitsVar, FitsCond, FitsTerm, FitsAnswer, FitsProved, FitsBundle}
+use Rattle.ap_bundle.specs.Reading.{read_count, read_listed, read_term, read_derivation, read_answer, read_proved, read_text, read_last, read_rest, read_at}
+use Rattle.ap_bundle_laws.specs.Laws.{IsListOf, FitsVar, FitsCond, FitsTerm, FitsAnswer, FitsProved, FitsBundle}
 use Rattle.ap_bundle_laws.proofs.GoodLemmas.{at, IsGood, good_then, good_as, good_repeated, parted}
 use Rattle.ap_bundle_laws.proofs.LineLemmas.{good_line, good_count, good_query, good_var, good_cond, good_term, good_end}
 use Rattle.ap_bundle_laws.proofs.NodeLemmas.{good_derivation}

@@ -1,5 +1,5 @@
 -- Terms and types are read as their words.
-use Rattle.std.proofs.Common.{◌≡◌, ℕ, zero, suc, ◌+◌, ◌<◌, ◌≤◌, ◌^◌, Bool, true, false, List, [], ◌∷◌, ◌++◌, length, map, Option, None, Some, refl, ap, sym, ◌∙◌, append_assoc, arith, nat_lt, lt-ltb}
+use Rattle.std.proofs.Common.{◌≡◌, ℕ, ◌<◌, ◌^◌, true, List, [], ◌∷◌, ◌++◌, length, Option, Some, refl, sym, append_assoc, nat_lt, lt-ltb}
 use Rattle.std.proofs.lemmas.List.{append-nil}
 use Rattle.std.specs.List.{flat_map}
 use Rattle.ap_defs.specs.declared.terms.Name.{Name}
@@ -10,8 +10,8 @@ use Rattle.ap_defs.specs.Types as types
 use Rattle.ap_defs.specs.Types.{NominalType}
 use Rattle.ap_bundle.specs.declared.words.Word.{Word}
 use Rattle.ap_bundle.specs.declared.words.Word.TheVariants as word
-use Rattle.ap_bundle.specs.Forms.{◌>>=◌, term_words, type_words, name_words, swap_words, Forms, first, small, if_small, a_name, a_swap, with_swaps, swaps, at_end, name_onto, pair_onto, app_onto, abs_onto, susp_onto, term_onto, names_onto, base_onto, pair_type_onto, list_onto, abs_type_onto, type_onto, Onto, forms_only, word_onto, forms, only, form}
-use Rattle.ap_bundle_laws.specs.Laws.{Each, IsListOf, FitsName, FitsSwap, FitsTerm, FitsType}
+use Rattle.ap_bundle.specs.Forms.{term_words, type_words, swap_words, Forms, small, a_name, a_swap, swaps, name_onto, pair_onto, app_onto, abs_onto, susp_onto, term_onto, names_onto, base_onto, pair_type_onto, list_onto, abs_type_onto, type_onto, forms, form}
+use Rattle.ap_bundle_laws.specs.Laws.{Each, FitsName, FitsSwap, FitsTerm, FitsType}
 
 small_again : (n : ℕ) (ns : List ℕ) → n < 2 ^ 32 → small (n ∷ ns) ≡ Some (n, ns)
 unfolding small

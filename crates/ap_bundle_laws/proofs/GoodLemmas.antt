@@ -1,10 +1,8 @@
 -- A piece of text that a reader reads exactly, whatever follows it, and whose proper prefixes are unended.
-use Rattle.std.proofs.Common.{◌≡◌, ℕ, zero, suc, ◌+◌, ◌<◌, ◌≤◌, ◌⊎◌, inl, inr, Bool, true, false, List, [], ◌∷◌, ◌++◌, length, Option, None, Some, Result, Ok, Err, refl, ap, sym, ◌∙◌, subst, append_assoc, length-append, arith}
-use Rattle.std.proofs.lemmas.List.{append-nil}
+use Rattle.std.proofs.Common.{◌≡◌, ℕ, ◌<◌, ◌⊎◌, inl, inr, List, [], ◌∷◌, ◌++◌, length, Ok, Err, refl, ap, sym, ◌∙◌, append_assoc, length-append, arith}
 use Rattle.std.specs.List.{flat_map}
-use Rattle.ap_bundle.specs.declared.faults.BundleKind.{BundleKind}
 use Rattle.ap_bundle_laws.specs.Laws.{Each}
-use Rattle.ap_bundle.specs.Readers.{Place, Wrong, Reader, ◌>>=◌, unended, found, is_lf, first_line, line_as, read_line, with_front, repeated}
+use Rattle.ap_bundle.specs.Readers.{Place, Reader, ◌>>=◌, unended, with_front, repeated}
 
 abbrev pub at : List ℕ → ℕ → Place
 at bytes room = record { rest = bytes; room = room }

@@ -4,3 +4,4 @@ pub mod FormLemmas
 pub mod LineLemmas
 pub mod NodeLemmas
 pub mod BundleLemmas
+pub mod Examples

@@ -1,6 +1,5 @@
 -- Lines are read as they are written.
-use Rattle.std.proofs.Common.{◌≡◌, ℕ, zero, suc, ◌+◌, ◌<◌, ◌≤◌, ◌^◌, ◌==◌, Bool, true, false, List, [], ◌∷◌, ◌++◌, length, map, Option, None, Some, Result, Ok, Err, refl, ap, sym, ◌∙◌, append_assoc, arith, nat_lt, lt-ltb, length-append}
-use Rattle.std.proofs.lemmas.List.{append-nil}
+use Rattle.std.proofs.Common.{◌≡◌, ℕ, ◌<◌, ◌^◌, ◌==◌, true, List, [], ◌∷◌, ◌++◌, length, map, Option, None, Some, refl, ap, sym, ◌∙◌, append_assoc, arith, nat_lt, lt-ltb, length-append}
 use Rattle.std.specs.List.{flat_map, join_with_byte}
 use Rattle.ap_defs.specs.declared.terms.Name.{Name}
 use Rattle.ap_defs.specs.declared.terms.Var.{Var}
@@ -11,21 +10,19 @@ use Rattle.ap_defs.specs.Terms.{NominalTerm}
 use Rattle.ap_defs.specs.Types as types
 use Rattle.ap_defs.specs.Types.{NominalType}
 use Rattle.ap_bundle.specs.declared.faults.BundleKind.{BundleKind}
-use Rattle.ap_bundle.specs.declared.faults.BundleKind.TheVariants.{Header, Node, Term}
-use Rattle.ap_bundle.specs.declared.words.NodeWord.{NodeWord}
-use Rattle.ap_bundle.specs.declared.words.NodeWord.TheVariants as node
+use Rattle.ap_bundle.specs.declared.faults.BundleKind.TheVariants.{Header, Term}
 use Rattle.ap_bundle.specs.declared.words.Head.{Head}
 use Rattle.ap_bundle.specs.declared.words.Head.TheVariants as head
 use Rattle.ap_bundle.specs.declared.words.Word.{Word}
 use Rattle.ap_bundle.specs.declared.words.Word.TheVariants as word
 use Rattle.ap_bundle.specs.Words.{line, line_words, word_text}
 use Rattle.ap_bundle.specs.Forms.{term_words, type_words, name_words, swap_words}
-use Rattle.ap_bundle.specs.LineForms.{number, small_number, name, at_end, after_head, count_form, query_form, var_form, cond_form, name_form, term_form, end_form}
-use Rattle.ap_bundle.specs.Readers.{Place, Wrong, Reader, ◌>>=◌, unended, found, is_lf, first_line, line_as, read_line, read_words, read_form}
+use Rattle.ap_bundle.specs.LineForms.{small_number, name, after_head, count_form, query_form, var_form, cond_form, name_form, term_form, end_form}
+use Rattle.ap_bundle.specs.Readers.{first_line, read_line, read_form}
 use Rattle.ap_bundle.specs.Written.{head_line, counted, var_line, cond_line, name_line, term_line}
 use Rattle.ap_bundle.specs.Reading.{read_count, read_name, read_term}
-use Rattle.ap_bundle_laws.specs.Laws.{Each, IsListOf, FitsName, FitsSwap, FitsCond, FitsVar, FitsTerm, FitsType}
-use Rattle.ap_bundle_laws.proofs.GoodLemmas.{at, IsGood}
+use Rattle.ap_bundle_laws.specs.Laws.{Each, FitsName, FitsSwap, FitsCond, FitsVar, FitsTerm, FitsType}
+use Rattle.ap_bundle_laws.proofs.GoodLemmas.{IsGood}
 use Rattle.ap_bundle_laws.proofs.WordLemmas.{lacks, Fits, line_words_again, joined_lacks_lf}
 use Rattle.ap_bundle_laws.proofs.FormLemmas.{term_again, type_again}
 

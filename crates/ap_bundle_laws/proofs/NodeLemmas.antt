@@ -1,24 +1,23 @@
 -- Derivations are read as the lines of their nodes.
-use Rattle.std.proofs.Common.{◌≡◌, ℕ, zero, suc, ◌+◌, ◌<◌, ◌≤◌, ◌^◌, List, [], ◌∷◌, ◌++◌, length, Option, None, Some, Result, Ok, Err, refl, ap, sym, ◌∙◌, subst, append_assoc, arith, inl, inr, length-append, map}
+use Rattle.std.proofs.Common.{◌≡◌, ℕ, zero, suc, ◌+◌, ◌<◌, ◌≤◌, ◌^◌, List, [], ◌∷◌, ◌++◌, length, Some, Ok, Err, refl, ap, sym, subst, append_assoc, arith, inl, inr, length-append, map}
 use Rattle.std.proofs.lemmas.List.{append-nil}
 use Rattle.std.specs.List.{flat_map, join_with_byte}
 use Rattle.ap_defs.specs.declared.terms.Name.{Name}
 use Rattle.ap_defs.specs.Terms.{NominalTerm}
 use Rattle.ap_defs.specs.Derivations as derivation
 use Rattle.ap_defs.specs.Derivations.{NominalDerivation, DerivationOver}
-use Rattle.ap_bundle.specs.declared.faults.BundleKind.TheVariants.{Header, Node, Term}
+use Rattle.ap_bundle.specs.declared.faults.BundleKind.TheVariants.{Node}
 use Rattle.ap_bundle.specs.declared.words.NodeWord.{NodeWord}
 use Rattle.ap_bundle.specs.declared.words.NodeWord.TheVariants as word
 use Rattle.ap_bundle.specs.declared.words.Word.{Word}
 use Rattle.ap_bundle.specs.declared.words.Word.TheVariants as words
 use Rattle.ap_bundle.specs.Words.{line, word_text}
-use Rattle.ap_bundle.specs.Forms as forms
-use Rattle.ap_bundle.specs.Forms.{first, name_words}
+use Rattle.ap_bundle.specs.Forms.{name_words}
 use Rattle.ap_bundle.specs.Nodes as nodes
 use Rattle.ap_bundle.specs.Nodes.{preorder, children, node_onto, derivations, derivation_from, one}
 use Rattle.ap_bundle.specs.LineForms as lines
 use Rattle.ap_bundle.specs.LineForms.{NodeLine, node_form, node_behind, atom_line, new_line}
-use Rattle.ap_bundle.specs.Readers.{Place, Wrong, Reader, ◌>>=◌, unended, found, read_form, with_front, repeated}
+use Rattle.ap_bundle.specs.Readers.{Place, ◌>>=◌, unended, read_form, repeated}
 use Rattle.ap_bundle.specs.Written.{node_line, node_lines, name_line, term_line}
 use Rattle.ap_bundle.specs.Reading.{read_name, read_term, read_atom, read_exists, read_behind, read_node, read_nodes, read_derivation}
 use Rattle.ap_bundle_laws.specs.Laws.{Each, IsListOf, FitsName, FitsTerm, FitsDerivation}

@@ -1,9 +1,8 @@
 -- Words are read as they are spelled.
-use Rattle.std.proofs.Common.{◌≡◌, ℕ, ◌+◌, ◌<◌, ◌≤◌, ◌^◌, ◌⊎◌, inl, inr, ◌==◌, ◌&&◌, Bool, true, false, List, [], ◌∷◌, ◌++◌, length, map, get_or, Option, None, Some, refl, ap, sym, ◌∙◌, subst, append_assoc, arith, rules, nat_lt, lt-ltb, lit<, zero, suc, ◌||◌, not}
+use Rattle.std.proofs.Common.{◌≡◌, ℕ, ◌<◌, ◌^◌, ◌⊎◌, inl, inr, ◌==◌, ◌&&◌, Bool, true, false, List, [], ◌∷◌, ◌++◌, length, map, get_or, Some, refl, ap, ◌∙◌, subst, arith, rules, nat_lt, lt-ltb, lit<, zero, suc, ◌||◌, not}
 use Rattle.std.proofs.lemmas.Bool.Decides.{Decides-eqb}
 use Rattle.std.proofs.lemmas.Fmt.{digits_decimal, digits_value-decimal, decimal_nonempty, first_decimal, decimal_digit}
 use Rattle.std.proofs.lemmas.Str.Parse.{IsNumeralModel, numerals_by_value}
-use Rattle.std.proofs.lemmas.Grind.{common_steps}
 use Rattle.std.specs.Char.{is_ascii_digit}
 use Rattle.std.specs.Fmt.{decimal}
 use Rattle.std.specs.List.{list_all, join_with_byte, slice_split}
@@ -13,7 +12,7 @@ use Rattle.ap_bundle.specs.declared.words.NodeWord.TheVariants as node
 use Rattle.ap_bundle.specs.declared.words.Head.TheVariants as head
 use Rattle.ap_bundle.specs.declared.words.Word.{Word}
 use Rattle.ap_bundle.specs.declared.words.Word.TheVariants as word
-use Rattle.ap_bundle.specs.Words.{is_numeral, number_of, word_of, word_text, words_of, line_words, before_words, letter_of, node_word_of, head_of}
+use Rattle.ap_bundle.specs.Words.{is_numeral, number_of, word_of, word_text, words_of, line_words, letter_of, node_word_of, head_of}
 use Rattle.ap_bundle_laws.specs.Laws.{Each}
 
 own : IsNumeralModel (λ ds. list_all is_ascii_digit ds ≡ true) (digits_value 10)

@@ -1,14 +1,14 @@
 -- Steps of the loops that read.
-use Rattle.std.proofs.Common.{◌≡◌, ℕ, zero, suc, ◌+◌, ◌-◌, ◌<◌, List, [], ◌∷◌, ◌++◌, map, Option, None, Some, Result, Ok, Err, refl, ap, sym, ◌∙◌, append_assoc, arith, take, drop, Bool, true, false}
+use Rattle.std.proofs.Common.{◌≡◌, ℕ, zero, suc, ◌+◌, List, [], ◌∷◌, ◌++◌, Option, None, Some, Ok, Err, refl, ap, sym, append_assoc, drop}
 use Rattle.std.proofs.lemmas.List.{append-nil}
 use Rattle.std.specs.Option.{option_map}
 use Rattle.ap_defs.specs.declared.terms.Swap.{Swap}
 use Rattle.ap_defs.specs.Terms.{NominalTerm}
 use Rattle.ap_bundle.specs.declared.words.Word.{Word}
 use Rattle.ap_bundle.specs.Words.{word_of, words_of}
-use Rattle.ap_bundle.specs.Forms.{a_swap, swaps, with_swaps, Forms, Onto, word_onto, forms}
+use Rattle.ap_bundle.specs.Forms.{a_swap, swaps, with_swaps, Onto, forms}
 use Rattle.ap_bundle.specs.Nodes.{Node, children}
-use Rattle.ap_bundle.specs.Readers.{Place, Wrong, Reader, with_front, unended, is_lf, first_line}
+use Rattle.ap_bundle.specs.Readers.{Place, Wrong, Reader, with_front, unended}
 use Rattle.ap_bundle.specs.Reading.{read_node, read_nodes}
 use Rattle.ap_bundle_read.proofs.RepeatLemmas.{with_front-append}
 

@@ -1,11 +1,10 @@
 -- What `parse` answers at a numeral.
-use Rattle.std.proofs.Common.{rules, arith, ◌≡◌, ◌≤◌, ◌<◌, ◌^◌, ◌&&◌, ◌⊎◌, inl, inr, ℕ, List, Bool, true, false, Result, Err, Option, None, Some, length, refl, sym, subst, nat_lt, ltb-true}
+use Rattle.std.proofs.Common.{rules, ◌≡◌, ◌^◌, ◌&&◌, ◌⊎◌, inl, inr, ℕ, List, Bool, true, false, Err, None, length, refl, subst, nat_lt, ltb-true}
 use Rattle.std.proofs.lemmas.Fmt.{IsAscii-from_digits}
 use Rattle.std.proofs.lemmas.Str.{IsUtf8-from_ascii}
 use Rattle.std.proofs.lemmas.Str.Parse.{IsNumeralModel, numerals_by_value, parse_digits}
 use Rattle.std.specs.Char.{is_ascii_digit}
 use Rattle.std.specs.List.{list_all}
-use Rattle.std.specs.Result.{OkIff}
 use Rattle.std.specs.Str.{IsUtf8}
 use Rattle.std.specs.Str.Parse.{digits_value, ParsesUnsigned}
 use Rattle.ap_bundle.specs.Words.{is_numeral, number_of}

@@ -1,7 +1,7 @@
 -- Things that are read one after another.
-use Rattle.std.proofs.Common.{◌≡◌, ℕ, zero, suc, ◌+◌, ◌-◌, ◌<◌, List, [], ◌∷◌, ◌++◌, Result, Ok, Err, refl, ap, sym, ◌∙◌, append_assoc, arith, subst}
+use Rattle.std.proofs.Common.{◌≡◌, ℕ, suc, List, [], ◌∷◌, ◌++◌, Result, Ok, Err, refl, ap, sym, append_assoc}
 use Rattle.std.proofs.lemmas.List.{append-nil}
-use Rattle.ap_bundle.specs.Readers.{Place, Wrong, Reader, ◌>>=◌, with_front, repeated}
+use Rattle.ap_bundle.specs.Readers.{Place, Wrong, Reader, with_front, repeated}
 use Rattle.ap_bundle_read.specs.declared.error.ReadError.{ReadError}
 use Rattle.ap_bundle_read.specs.declared.error.ReadError.TheVariants as errors
 use Rattle.ap_bundle_read.specs.Outcomes.{Fails}

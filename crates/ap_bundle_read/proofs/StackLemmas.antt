@@ -1,5 +1,5 @@
 -- Stacks, of which the last element is the first.
-use Rattle.std.proofs.Common.{◌≡◌, ℕ, List, [], ◌∷◌, ◌++◌, map, Option, None, Some, refl, ap, sym, ◌∙◌}
+use Rattle.std.proofs.Common.{◌≡◌, List, [], ◌∷◌, ◌++◌, map, Option, None, Some, refl, ap, ◌∙◌}
 use Rattle.std.proofs.lemmas.List.{map-append, reverse-append}
 use Rattle.std.specs.Prelude.{reverse}
 use Rattle.ap_defs.specs.Derivations.{DerivationOver}

@@ -1,5 +1,5 @@
 -- What a reader in the code gives, beside what a reader gives.
-use Rattle.std.specs.Prelude.{◌≡◌, Option, None, Some, Result, Ok, Err, ⊤}
+use Rattle.std.specs.Prelude.{◌≡◌, Result, Ok, Err, ⊤}
 use Rattle.ap_bundle.specs.declared.faults.BundleFault.{BundleFault}
 use Rattle.ap_bundle.specs.Readers as readers
 use Rattle.ap_bundle.specs.Readers.{Wrong}

@@ -1,5 +1,5 @@
 -- What is left to write: the parts on a stack, of which the last is written first. And steps of loops that write.
-use Rattle.std.proofs.Common.{◌≡◌, ℕ, ◌+◌, ◌<◌, suc, List, [], ◌∷◌, ◌++◌, map, length, drop, refl, ap, sym, ◌∙◌, append_assoc, arith, length-append, Bor}
+use Rattle.std.proofs.Common.{◌≡◌, ℕ, ◌+◌, ◌<◌, List, [], ◌∷◌, ◌++◌, map, length, drop, ap, sym, ◌∙◌, append_assoc, arith, length-append, Bor}
 use Rattle.std.proofs.lemmas.List.{append-nil, map-append}
 use Rattle.std.specs.List.{flat_map}
 

@@ -1,6 +1,6 @@
-use Rattle.std.proofs.Common.{◌≡◌, ℕ, List, ◌+◌, ap, refl, Err, ◌∙◌}
+use Rattle.std.proofs.Common.{ℕ, List, ◌+◌, ap, Err, ◌∙◌}
 use Rattle.std.specs.Prelude.{count_by}
-use Rattle.ap_bundle.specs.Readers.{is_lf, unended, fault_in}
+use Rattle.ap_bundle.specs.Readers.{is_lf}
 use Rattle.ap_bundle.specs.Reading.{at_line}
 use Rattle.ap_bundle.specs.Written.{written}
 use Rattle.ap_bundle.specs.declared.faults.BundleKind.TheVariants.{Unended}

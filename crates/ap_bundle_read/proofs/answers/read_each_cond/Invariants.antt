@@ -1,5 +1,5 @@
 -- What has been read, and what is left, are all.
-use Rattle.std.proofs.Common.{◌≡◌, ◌-◌, map}
+use Rattle.std.proofs.Common.{◌≡◌, ◌-◌}
 use Rattle.ap_bundle.specs.Readers.{repeated, with_front}
 use Rattle.ap_bundle.specs.declared.faults.BundleKind.TheVariants.{Term}
 use Rattle.ap_bundle.specs.LineForms.{cond_form}

@@ -1,5 +1,5 @@
 -- The nodes that have been read, and those that are left, are all.
-use Rattle.std.proofs.Common.{◌≡◌, ◌≤◌, ◌+◌, ◌-◌, ◌*◌, map, length}
+use Rattle.std.proofs.Common.{◌≡◌, ◌≤◌, ◌+◌, ◌-◌, map, length}
 use Rattle.ap_bundle.specs.Readers.{with_front}
 use Rattle.ap_bundle.specs.Reading.{read_nodes, read_term}
 use Rattle.ap_bundle_read.specs.Nodes.{node_of}

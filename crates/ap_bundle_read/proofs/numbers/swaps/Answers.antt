@@ -1,4 +1,4 @@
-use Rattle.std.proofs.Common.{◌≡◌, ◌-◌, ◌+◌, arith, sym, ◌∙◌}
+use Rattle.std.proofs.Common.{◌-◌, ◌+◌, arith, sym, ◌∙◌}
 use Rattle.std.specs.Prelude.{reverse}
 use Rattle.ap_bundle_read.proofs.LoopLemmas.{swaps_on, swaps_fail}
 use Rattle.ap_bundle_read.proofs.numbers.swaps.Goals as goal

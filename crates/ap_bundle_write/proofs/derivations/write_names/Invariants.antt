@@ -1,5 +1,5 @@
 -- What is written so far, and what is left, are all.
-use Rattle.std.proofs.Common.{◌≡◌, ◌++◌, drop, map, flat_map}
+use Rattle.std.proofs.Common.{◌≡◌, ◌++◌, drop, flat_map}
 use Rattle.ap_bundle.specs.Written.{name_line}
 use Rattle.ap_bundle_write.proofs.derivations.write_names.Given as goal
 

@@ -1,8 +1,7 @@
-use Rattle.std.proofs.Common.{◌≡◌, [], ◌∷◌, ◌++◌, ◌∙◌, ap, refl, sym, lit<, arith, length, flat_map, List}
+use Rattle.std.proofs.Common.{[], ◌∷◌, ◌++◌, ◌∙◌, ap, refl, sym, lit<, arith, length, flat_map}
 use Rattle.ap_defs.specs.Terms.{term_of}
 use Rattle.ap_bundle.specs.Forms.{term_words, name_words, swap_words}
 use Rattle.std.proofs.lemmas.List.{append-nil}
-use Rattle.ap_bundle.specs.declared.words.Word.{Word}
 use Rattle.ap_bundle.specs.declared.words.Word.TheVariants as word
 use Rattle.ap_bundle.specs.declared.words.Letter.TheVariants as letter
 use Rattle.ap_bundle_write.proofs.Stacks.{later_one, later_two, kept_all, less_left, both_written}

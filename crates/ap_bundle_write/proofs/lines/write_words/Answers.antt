@@ -1,4 +1,4 @@
-use Rattle.std.proofs.Common.{◌≡◌, ◌∙◌, ap, sym, ◌++◌, append_assoc, map}
+use Rattle.std.proofs.Common.{◌∙◌, ap, sym, ◌++◌, append_assoc, map}
 use Rattle.std.specs.List.{join_with_byte}
 use Rattle.ap_bundle.specs.Words.{word_text}
 use Rattle.ap_bundle_write.specs.Spaces.{spaced}
