@@ -145,13 +145,6 @@ or_moved true false c = refl
 or_moved false true c = refl
 or_moved false false c = refl
 
--- where the rest has no variables, all are found
-pub left_none : (bs : List Binding) (u t : NominalTerm) (mid old : Visit) → IsLeftOf bs u mid t old → ((y : Var) → occurs y (under bs u) ≡ false) → HasVisited bs t old mid
-left_none bs u t mid old h e = record {
-  done = h.done;
-  vars = λ y. ap (λ b. b || has_var y mid.vars.items) (sym (e y)) ∙ h.vars y;
-}
-
 -- once the rest is gone through, all are found
 pub left_visited : (bs : List Binding) (u t : NominalTerm) (mid new old : Visit) → IsLeftOf bs u mid t old → HasVisited bs u mid new → HasVisited bs t old new
 left_visited bs u t mid new old h k = record { done = k.done; vars = λ y. k.vars y ∙ h.vars y }

@@ -5,7 +5,7 @@ ghost use Rattle.ap_defs.specs.Answers.{outs_of, query_outs};
 ghost use Rattle.ap_defs.specs.Goals.{NominalQuery};
 ghost use Rattle.ap_backchain.specs.Problems.{HasQuery, clauses_in, queries_in};
 
-use ap_backchain::problem::{Problem, outputs};
+use ap_backchain::problem::{Problem, outputs, short_outputs};
 use ap_book::merge;
 use ap_defs::limits::Workers;
 use ap_defs::memory::Memory;
@@ -35,7 +35,8 @@ fn search_beside<R: Threads + Wait + Sync, G: Gate>(
 
 /// The outputs of a query to a depth, in order, each with its path and its answer: those of sequential
 /// nominal resolution (Cheney and Urban, "Nominal Logic Programming"), whoever finds them. One worker
-/// alone searches without paths and without the gate. The only error is want of memory.
+/// alone searches without the gate; so it is where there are several, as long as few turns are enough
+/// and the gate holds none. The only error is want of memory.
 pub(crate) fn solve<R: Threads + Wait + Sync, G: Gate>(
     rt: &R,
     alloc: Global,
@@ -47,8 +48,12 @@ pub(crate) fn solve<R: Threads + Wait + Sync, G: Gate>(
     ensures { IfOk result (λ v. (q : NominalQuery) → slice_get (queries_in problem.now) (problem.now.query - 1) ≡ Some q → outs_of v.items ≡ query_outs (clauses_in problem.now) problem.now.depth q) }
 {
     if workers.get() == 1 {
-        outputs(alloc, problem)
-    } else {
-        search_beside(rt, alloc, gate, workers, problem)
+        return outputs(alloc, problem);
     }
+    if !gate.may_hold() {
+        if let Some(outs) = short_outputs(alloc, problem)? {
+            return Ok(outs);
+        }
+    }
+    search_beside(rt, alloc, gate, workers, problem)
 }

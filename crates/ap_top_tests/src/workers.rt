@@ -63,6 +63,10 @@ impl Gate for Hold {
         }
         self.gave_up.store(true, SeqCst);
     }
+
+    fn may_hold(&self) -> bool {
+        true
+    }
 }
 
 /// The bytes that a call with a status of 0 writes.

@@ -25,6 +25,10 @@ impl Gate for Hold {
             self.meeting.meet(worker == 0);
         }
     }
+
+    fn may_hold(&self) -> bool {
+        true
+    }
 }
 
 /// Whether visits of a small tree that meet are those of so many workers, and its outputs then.

@@ -1,13 +1,12 @@
-use Rattle.std.proofs.Common.{rules, ◌≡◌, ◌<◌, ◌≤◌, map, sym, ap, ◌∙◌, subst, arith, OnOk}
+use Rattle.std.proofs.Common.{rules, ◌≡◌, ◌<◌, map, sym, ap, ◌∙◌, subst, arith, OnOk}
 use Rattle.std.proofs.lemmas.Result.{on_ok_weaker}
 use Rattle.ap_defs.specs.Renaming.{IsBelow, rename_swap, rename_term, rename_var}
-use Rattle.ap_defs.specs.Substitution.{occurs, under}
 use Rattle.ap_defs.specs.Terms.{NominalTerm, pair, term_of}
 use Rattle.ap_defs.specs.declared.terms.Term.{Term}
 use Rattle.ap_store.proofs.FollowLemmas.{bound_less, left_less, right_less, unbound_occurs, visits_in}
 use Rattle.ap_store.specs.Views.{present}
 use Rattle.ap_backchain.specs.Reached.{HasVisited}
-use Rattle.ap_backchain.proofs.VisitLemmas.{IsLeftOf, left_none, left_pair, left_visited, unbound_pushed, visited_bound, visited_marked}
+use Rattle.ap_backchain.proofs.VisitLemmas.{IsLeftOf, left_pair, left_visited, unbound_pushed, visited_bound, visited_marked}
 use Rattle.ap_backchain.proofs.reached.+visit_term.Goals as goal
 
 pub visit_term-requires : goal.visit_term-requires

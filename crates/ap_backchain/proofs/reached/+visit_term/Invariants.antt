@@ -1,13 +1,9 @@
 -- What is found so far, and what is left of the term, are all.
-use Rattle.std.proofs.Common.{◌≡◌, ◌≤◌, ◌||◌}
+use Rattle.std.proofs.Common.{◌≤◌}
 use Rattle.ap_defs.specs.Renaming.{IsBelow, rename_term}
-use Rattle.ap_defs.specs.Substitution.{occurs, under}
 use Rattle.ap_defs.specs.Terms.{term_of}
-use Rattle.ap_defs.specs.Unification.{has_var}
-use Rattle.ap_defs.specs.declared.terms.Var.{Var}
 use Rattle.ap_store.proofs.FollowLemmas.{visits_in}
 use Rattle.ap_store.specs.Views.{present}
-use Rattle.ap_backchain.specs.Reached.{IsDone}
 use Rattle.ap_backchain.proofs.VisitLemmas.{IsLeftOf}
 use Rattle.ap_backchain.proofs.reached.+visit_term.Given as goal
 

@@ -2,7 +2,6 @@
 use Rattle.std.proofs.Common.{◌≡◌, ◌≤◌}
 use Rattle.ap_defs.specs.Spines.{term_within}
 use Rattle.ap_defs.specs.Substitution.{under}
-use Rattle.ap_defs.specs.Terms.{term_of}
 use Rattle.ap_defs.specs.Unification.{size}
 use Rattle.ap_perm.specs.Closures.{closure_term}
 use Rattle.ap_store.specs.Views.{present}
