@@ -1,8 +1,7 @@
-use crate::typecheck::typed;
-use ap_defs::goals::{Constructor, Program};
+use ap_defs::goals::{Constructor, Signature};
 use ap_defs::lists::{List, Text};
 use ap_defs::memory::Memory;
-use ap_defs::terms::{Assignment, Raw, Shape, Ty};
+use ap_defs::terms::{Assignment, Shape, Ty};
 use ap_types::answers::{inhabited, may_hold};
 use ap_types::equations::{solve, solved};
 use ap_types::errors::TypesError;
@@ -19,18 +18,54 @@ fn abstraction(alloc: Global, sort: u32, body: Ty) -> Result<Ty, Memory> {
     Ok(Ty::Abs(sort, Box::new(alloc, body)?))
 }
 
-// Two name types and two data types, of which the second has no constructor.
-const LAMBDA_TERMS: &str = "id : name_type. key : name_type. exp : type. e : type. \
-    var : id -> exp. app : (exp, exp) -> exp. lam : id\\exp -> exp.";
+fn constructor(alloc: Global, args: Vec<Ty>, of: u32) -> Constructor {
+    Constructor {
+        text: Text::of(String::new(alloc)),
+        args: List::of(args),
+        result: of,
+    }
+}
 
-fn lambda_terms(alloc: Global) -> Result<Program<Raw>, Memory> {
-    Ok(typed(alloc, LAMBDA_TERMS)?)
+fn variable(alloc: Global) -> Result<Constructor, Memory> {
+    Ok(constructor(alloc, vec![in alloc; Ty::Names(0)]?, 0))
+}
+
+fn application(alloc: Global) -> Result<Constructor, Memory> {
+    let args = vec![in alloc; Ty::Base(0), Ty::Base(0)]?;
+    Ok(constructor(alloc, args, 0))
+}
+
+fn lambda(alloc: Global) -> Result<Constructor, Memory> {
+    let args = vec![in alloc; abstraction(alloc, 0, Ty::Base(0))?]?;
+    Ok(constructor(alloc, args, 0))
+}
+
+fn constructors(alloc: Global) -> Result<Vec<Constructor>, Memory> {
+    let mut all = Vec::with_capacity(alloc, 3)?;
+    all.push(variable(alloc)?)?;
+    all.push(application(alloc)?)?;
+    all.push(lambda(alloc)?)?;
+    Ok(all)
+}
+
+fn two_words(alloc: Global) -> Result<Vec<Text>, Memory> {
+    let words = vec![in alloc; Text::of(String::new(alloc)), Text::of(String::new(alloc))]?;
+    Ok(words)
+}
+
+/// Two name types and two data types, of which the second has no constructor.
+fn lambda_terms(alloc: Global) -> Result<Signature, Memory> {
+    Ok(Signature {
+        name_types: List::of(two_words(alloc)?),
+        data_types: List::of(two_words(alloc)?),
+        constructors: List::of(constructors(alloc)?),
+        predicates: List::of(Vec::new(alloc)),
+    })
 }
 
 /// Whether a type is inhabited for the lambda terms.
 fn has_terms(alloc: Global, ty: &Ty) -> Result<bool, Memory> {
-    let program = lambda_terms(alloc)?;
-    inhabited(alloc, &program.signature, ty)
+    inhabited(alloc, &lambda_terms(alloc)?, ty)
 }
 
 /// Whether there are lists of the empty data type, and abstractions in it.
@@ -50,8 +85,7 @@ fn lambda_terms_are_inhabited(rt: HostRuntime) {
 
 /// Whether terms of a type may have names of a sort free, for the lambda terms.
 fn has_names(alloc: Global, ty: &Ty, sort: u32) -> Result<bool, Memory> {
-    let program = lambda_terms(alloc)?;
-    may_hold(alloc, &program.signature, ty, sort)
+    may_hold(alloc, &lambda_terms(alloc)?, ty, sort)
 }
 
 /// Whether lists of terms may have names free, and abstractions their own.
@@ -71,8 +105,7 @@ fn lambda_terms_may_hold_their_names(rt: HostRuntime) {
 
 /// Whether a type may hold names of the first sort, for the lambda terms, by a table.
 fn is_in_table(alloc: Global, ty: &Ty) -> Result<bool, Memory> {
-    let program = lambda_terms(alloc)?;
-    let table = types_holding(alloc, &program.signature, 0)?;
+    let table = types_holding(alloc, &lambda_terms(alloc)?, 0)?;
     Ok(holds(&table, ty))
 }
 
@@ -185,14 +218,6 @@ fn doubled_unit(alloc: Global) -> Result<Assignment, TypesError> {
 fn shapes_that_double_stand_once(rt: HostRuntime) {
     assert!(rt; matches!(stand_once(rt.alloc()), Ok(true)));
     assert!(rt; is_clash(doubled_unit(rt.alloc())));
-}
-
-fn constructor(alloc: Global, args: Vec<Ty>, of: u32) -> Constructor {
-    Constructor {
-        text: Text::of(String::new(alloc)),
-        args: List::of(args),
-        result: of,
-    }
 }
 
 // Data type x is made of data types x + 1 and x + 1, for each x below 50.

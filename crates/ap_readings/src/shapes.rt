@@ -16,9 +16,11 @@ pub struct Shape<'a> {
 
 const PARTS: u32 = 1_000_000;
 
+const FEWER_PARTS: u32 = 5_000;
+
 const LEVELS: u32 = 250;
 
-pub const SHAPES: [Shape<'static>; 9] = [
+pub const SHAPES: [Shape<'static>; 12] = [
     Shape {
         name: "a conjunction of 1,000,000 parts",
         count: PARTS - 1,
@@ -41,6 +43,33 @@ pub const SHAPES: [Shape<'static>; 9] = [
         name: "a tuple of 1,000,000 parts",
         count: PARTS - 1,
         begin: "X = (",
+        before: "a,",
+        middle: "a",
+        behind: "",
+        end: ")",
+    },
+    Shape {
+        name: "a disjunction of 5,000 parts",
+        count: FEWER_PARTS - 1,
+        begin: "",
+        before: "p ; ",
+        middle: "p",
+        behind: "",
+        end: "",
+    },
+    Shape {
+        name: "a list of 5,000 parts with an end",
+        count: FEWER_PARTS - 1,
+        begin: "X = [",
+        before: "a,",
+        middle: "a",
+        behind: "",
+        end: "|b]",
+    },
+    Shape {
+        name: "an atom with 5,000 arguments",
+        count: FEWER_PARTS - 1,
+        begin: "p(",
         before: "a,",
         middle: "a",
         behind: "",
