@@ -17,8 +17,6 @@ mod gate;
 mod memory;
 mod standard;
 mod steady;
-#[cfg(test)]
-mod tests;
 mod traits;
 
 pub use gate::{Gate, NoGate};

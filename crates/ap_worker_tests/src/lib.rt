@@ -1,5 +1,5 @@
-//! Tests of the crates of paths, books and workers: `ap_paths`, `ap_book`, `ap_core`, `ap_tasks`, `ap_lock` and
-//! `ap_steal`, and of the paths of `ap_defs`.
+//! Tests of streams, `ap_io`, of paths, books and workers, `ap_paths`, `ap_book`, `ap_core`, `ap_tasks`, `ap_lock` and
+//! `ap_steal`, and of the top call, `ap_top`.
 #![tactic(auto)]
 
 #[cfg(test)]
@@ -15,4 +15,8 @@ mod paths;
 #[cfg(test)]
 mod steal;
 #[cfg(test)]
+mod streams;
+#[cfg(test)]
 mod tasks;
+#[cfg(test)]
+mod top_call;

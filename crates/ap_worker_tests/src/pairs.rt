@@ -6,6 +6,7 @@ ghost use Rattle.ap_defs.specs.Answers.{out_of, outs_of, cut};
 use ap_defs::lists::List;
 use ap_defs::memory::Memory;
 use ap_defs::paths::{Out, Path, Visit};
+use ap_io::Gate;
 use ap_paths::Tree;
 use std::alloc::Global;
 use std::sync::atomic::AtomicBool;
@@ -49,6 +50,39 @@ impl Meeting {
     /// Whether no one gave up.
     pub fn was_kept(&self) -> bool {
         !self.gave_up.load(SeqCst)
+    }
+}
+
+/// Lets the first call pass, and holds each later one until a call of the other worker is inside.
+#[derive(Drop)]
+pub struct Hold {
+    passed: AtomicBool,
+    meeting: Meeting,
+}
+
+impl Hold {
+    pub fn new() -> Hold {
+        Hold {
+            passed: AtomicBool::new(false),
+            meeting: Meeting::new(),
+        }
+    }
+
+    /// Whether no one gave up.
+    pub fn was_kept(&self) -> bool {
+        self.meeting.was_kept()
+    }
+}
+
+impl Gate for Hold {
+    fn enter(&self, worker: u32, _task: u64) {
+        if self.passed.swap(true, SeqCst) {
+            self.meeting.meet(worker == 0);
+        }
+    }
+
+    fn may_hold(&self) -> bool {
+        true
     }
 }
 

@@ -1,35 +1,14 @@
 ghost use Rattle.std.specs.Prelude.{◌≡◌, ◌<◌, ◌≤◌};
 
-use crate::pairs::{Meeting, Pairs, are_both_cuts};
+use crate::pairs::{Hold, Pairs, are_both_cuts};
 use ap_book::merge;
 use ap_defs::memory::Memory;
 use ap_defs::paths::Out;
-use ap_io::{Gate, NoGate};
+use ap_io::NoGate;
 use ap_steal::search;
 use std::alloc::Global;
 use std::sync::Wait;
-use std::sync::atomic::AtomicBool;
-use std::sync::atomic::Ordering::SeqCst;
 use std::thread::Threads;
-
-// Lets the first call pass, and holds each later one until a call of the other worker is inside.
-#[derive(Drop)]
-struct Hold {
-    passed: AtomicBool,
-    meeting: Meeting,
-}
-
-impl Gate for Hold {
-    fn enter(&self, worker: u32, _task: u64) {
-        if self.passed.swap(true, SeqCst) {
-            self.meeting.meet(worker == 0);
-        }
-    }
-
-    fn may_hold(&self) -> bool {
-        true
-    }
-}
 
 /// Whether visits of a small tree that meet are those of so many workers, and its outputs then.
 fn met<R: Threads + Wait + Sync>(
@@ -132,12 +111,9 @@ fn want_of_memory_stops_all(rt: HostRuntime) {
 }
 
 fn meet_in_the_gate<R: Threads + Wait + Sync>(rt: &R, alloc: Global) -> Result<bool, Memory> {
-    let gate = Hold {
-        passed: AtomicBool::new(false),
-        meeting: Meeting::new(),
-    };
+    let gate = Hold::new();
     let closed = search(rt, alloc, &Pairs::of(1), 2, &gate)?;
-    Ok(gate.meeting.was_kept() && closed.history.items().len() == 3)
+    Ok(gate.was_kept() && closed.history.items().len() == 3)
 }
 
 #[test]

@@ -1,0 +1,118 @@
+//! What is shown of a text.
+
+use crate::nested::nest_shown;
+use crate::reading::{items_of, tokens_of};
+use crate::typed::typed_shown;
+use crate::written::part_shown;
+use ap_defs::faults::SyntaxFault;
+use ap_lexer::{Token, TokenKind};
+use ap_syntax::SynError;
+use ap_trees::{Item, ReadError, symbols_of, whole_term, whole_type};
+use std::alloc::{AllocError, Global};
+use std::fmt::Debug;
+
+/// What is shown of a text.
+#[derive(Clone, Copy, Debug)]
+pub enum Kind {
+    /// Its tokens.
+    Tokens,
+    /// Its items.
+    Items,
+    /// The term that it spells.
+    Term,
+    /// The type that it spells.
+    Type,
+    /// What is written of a part of its item.
+    Part,
+    /// Whether the text that it tells of is read.
+    Nest,
+    /// Its program with the kinds of its identifiers.
+    Typed,
+}
+
+/// A token as its kind, its line, its span and its text.
+fn push_token(alloc: Global, out: &mut String, token: &Token<'_>) -> Result<(), AllocError> {
+    let kind = match token.kind {
+        TokenKind::Var => 'V',
+        TokenKind::Ident => 'I',
+        TokenKind::Reserved => 'R',
+        TokenKind::Sign => 'S',
+    };
+    let (line, start, end, text) = (token.line, token.start, token.end, token.text);
+    out.push_str(format!(in alloc; "{kind}{line}:{start}-{end} {text} ")?.as_str())?;
+    Ok(())
+}
+
+fn tokens_shown(alloc: Global, text: &str) -> Result<String, SynError> {
+    let tokens = tokens_of(alloc, text.as_bytes())?;
+    let mut out = String::new(alloc);
+    for token in &tokens {
+        push_token(alloc, &mut out, token)?;
+    }
+    Ok(out)
+}
+
+/// An item as its line and what it says.
+fn push_item(alloc: Global, out: &mut String, item: &Item<'_>) -> Result<(), AllocError> {
+    let (line, form) = (item.line, &item.form);
+    out.push_str(format!(in alloc; "{line} {form:?};")?.as_str())?;
+    Ok(())
+}
+
+fn items_shown(alloc: Global, text: &str) -> Result<String, SynError> {
+    let tokens = tokens_of(alloc, text.as_bytes())?;
+    let items = items_of(alloc, &tokens)?;
+    let mut out = String::new(alloc);
+    for item in &items {
+        push_item(alloc, &mut out, item)?;
+    }
+    Ok(out)
+}
+
+/// A tree, or `none` where there is none.
+fn tree_shown<T: Debug + Drop>(
+    alloc: Global,
+    read: Result<T, ReadError>,
+) -> Result<String, AllocError> {
+    match read {
+        Ok(tree) => format!(in alloc; "{tree:?}"),
+        Err(ReadError::Grammar) => "none".to_string(alloc),
+        Err(ReadError::Memory) => Err(AllocError),
+    }
+}
+
+fn term_shown(alloc: Global, text: &str) -> Result<String, SynError> {
+    let tokens = tokens_of(alloc, text.as_bytes())?;
+    let symbols = symbols_of(alloc, &tokens)?;
+    Ok(tree_shown(alloc, whole_term(alloc, &symbols))?)
+}
+
+fn type_shown(alloc: Global, text: &str) -> Result<String, SynError> {
+    let tokens = tokens_of(alloc, text.as_bytes())?;
+    let symbols = symbols_of(alloc, &tokens)?;
+    Ok(tree_shown(alloc, whole_type(alloc, &symbols))?)
+}
+
+/// A fault as its item, its line and its kind.
+fn fault_shown(alloc: Global, fault: SyntaxFault) -> Result<String, AllocError> {
+    let (item, line, kind) = (fault.place.item, fault.place.line, fault.kind.number());
+    format!(in alloc; "fault {item} {line} {kind}")
+}
+
+/// What is shown of a text, or its fault.
+pub fn shown(alloc: Global, kind: Kind, text: &str) -> Result<String, AllocError> {
+    let read = match kind {
+        Kind::Tokens => tokens_shown(alloc, text),
+        Kind::Items => items_shown(alloc, text),
+        Kind::Term => term_shown(alloc, text),
+        Kind::Type => type_shown(alloc, text),
+        Kind::Part => part_shown(alloc, text),
+        Kind::Nest => nest_shown(alloc, text),
+        Kind::Typed => typed_shown(alloc, text),
+    };
+    match read {
+        Ok(text) => Ok(text),
+        Err(SynError::Fault(fault)) => fault_shown(alloc, fault),
+        Err(SynError::Memory) => Err(AllocError),
+    }
+}

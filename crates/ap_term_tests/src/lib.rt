@@ -1,0 +1,16 @@
+//! Tests of the crates of terms, types and unification: `ap_defs`, `ap_types`, `ap_perm`, `ap_fresh`, `ap_program` and
+//! `ap_store`. What texts show of other crates stands in the data of `ap_cases` and `ap_readings`.
+#![tactic(auto)]
+
+#[cfg(test)]
+mod fresh;
+#[cfg(test)]
+mod perm;
+#[cfg(test)]
+mod renaming;
+#[cfg(test)]
+mod store;
+#[cfg(test)]
+mod terms;
+#[cfg(test)]
+mod types;
