@@ -3,12 +3,14 @@
 //! The files `.cases` of the folder that this program is run in have texts, which are run by one worker and by
 //! several. The file `words` has command lines. The other texts are read as streams, as the program reads them: each of
 //! the folders `examples` and `bytes` has a file `runs`, of a line for each text with the depth and its name. The files
-//! of `searched` are told in `searched.rt`.
+//! of `searched` are told in `searched.rt`, and those of `bundles` in `bundles.rt`.
 #![tactic(auto)]
 
+mod bundles;
 mod call;
 mod cases;
 mod command_lines;
+mod derivations;
 mod searched;
 mod streams;
 
@@ -47,5 +49,7 @@ fn main(rt: HostRuntime) -> io::Result<()> {
     searched::write_outputs(&rt)?;
     searched::write_branches(&rt)?;
     streams::run_folder(&rt, "bytes")?;
-    streams::run_folder(&rt, "examples")
+    streams::run_folder(&rt, "examples")?;
+    bundles::tell_bundles(&rt)?;
+    derivations::check_folder(&rt, "examples")
 }

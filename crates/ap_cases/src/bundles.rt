@@ -1,0 +1,88 @@
+//! Bundles of the folder `bundles`: what is wrong with their bytes, or what each derivation in them comes to.
+//!
+//! The file `names` of the folder has a line for each. Of a bundle that is read it is told, too, whether the bytes that
+//! are written of it are those that were read.
+
+use ap_bundle_read::{BundleError, read_bundle};
+use ap_bundle_write::write_bundle;
+use ap_checker::verify::verify;
+use ap_defs::limits::SIZE_LIMIT;
+use ap_defs::memory::Memory;
+use ap_defs::outcomes::{Bundle, Proved, Verdict};
+use ap_program::restricted::Restricted;
+use ap_report::program_of_text;
+use std::alloc::{AllocError, Global};
+use std::fs::Files;
+use std::{fs, io};
+
+/// The program of a text with no fault.
+pub fn program_of(alloc: Global, text: &[u8]) -> Result<Restricted, Memory> {
+    if text.len() > SIZE_LIMIT {
+        return Err(Memory);
+    }
+    program_of_text(alloc, text).or(Err(Memory))
+}
+
+/// The verdict on a derivation that a bundle has.
+pub fn verdict_on(alloc: Global, program: &Restricted, proved: &Proved) -> Result<Verdict, Memory> {
+    verify(
+        alloc,
+        program,
+        proved.query,
+        &proved.answer,
+        &proved.derivation,
+    )
+}
+
+/// Writes what a derivation of a query comes to.
+fn tell_verdict<R: AllocGlobal + Print>(rt: &R, query: u32, verdict: Verdict) -> io::Result<()> {
+    match verdict {
+        Verdict::Yes => println!(rt; "query {query}: checks"),
+        Verdict::No { node, rule } => {
+            println!(rt; "query {query}: node {node}, rule {rule}")
+        }
+    }
+}
+
+/// Writes what each derivation of a bundle comes to.
+fn tell_derivations<R: AllocGlobal + Print>(rt: &R, bundle: &Bundle) -> io::Result<()> {
+    let program = program_of(rt.alloc(), bundle.text.items()).map_err(|_| AllocError)?;
+    for proved in bundle.proved.items() {
+        let verdict = verdict_on(rt.alloc(), &program, proved).map_err(|_| AllocError)?;
+        tell_verdict(rt, proved.query, verdict)?;
+    }
+    Ok(())
+}
+
+/// Whether a bundle is written as these bytes.
+fn is_written_as(alloc: Global, bundle: &Bundle, bytes: &[u8]) -> Result<bool, Memory> {
+    let written = write_bundle(alloc, bundle)?;
+    Ok(written.as_slice() == bytes)
+}
+
+/// Writes what bytes come to as a bundle.
+fn tell_bundle<R: AllocGlobal + Print>(rt: &R, bytes: &[u8]) -> io::Result<()> {
+    match read_bundle(rt.alloc(), bytes) {
+        Ok(bundle) => {
+            let same = is_written_as(rt.alloc(), &bundle, bytes).map_err(|_| AllocError)?;
+            println!(rt; "written again the same: {same}")?;
+            tell_derivations(rt, &bundle)
+        }
+        Err(BundleError::Fault(fault)) => {
+            let (number, word) = (fault.kind.number(), fault.kind.word());
+            println!(rt; "line {}, kind {number} {word}", fault.line)
+        }
+        Err(BundleError::Memory) => Err(AllocError.into()),
+    }
+}
+
+/// Writes what each bundle of the folder comes to.
+pub fn tell_bundles<R: AllocGlobal + Files + Print>(rt: &R) -> io::Result<()> {
+    let names = fs::read_to_string(rt, "bundles/names")?;
+    for name in names.lines() {
+        println!(rt; "% {name}")?;
+        let bytes = fs::read(rt, &format!(in rt.alloc(); "bundles/{name}")?)?;
+        tell_bundle(rt, &bytes)?;
+    }
+    Ok(())
+}
