@@ -12,7 +12,8 @@ use std::sync::Wait;
 use std::thread::Threads;
 use std::{fs, io};
 
-const DIVIDER: &str = "\n----\n";
+/// What divides the parts of a file of texts.
+pub const DIVIDER: &str = "\n----\n";
 
 const SEVERAL: [&str; 3] = ["2", "8", "64"];
 

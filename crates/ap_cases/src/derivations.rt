@@ -4,6 +4,7 @@ ghost use Rattle.ap_backchain.specs.Branches.{IsBranchOf};
 ghost use Rattle.ap_backchain.specs.Problems.{HasQuery};
 
 use crate::bundles::{program_of, verdict_on};
+use crate::cases::DIVIDER;
 use ap_backchain::branch::Branch;
 use ap_backchain::problem::{Problem, outputs};
 use ap_bundle_read::read_bundle;
@@ -84,44 +85,95 @@ fn prove_program(alloc: Global, program: &Restricted, depth: u32) -> Result<Vec<
     Ok(all)
 }
 
+/// How many answers there are, and how many derivations of them check.
+#[derive(Clone, Copy)]
+struct Tally {
+    answers: usize,
+    checked: usize,
+}
+
+const NONE: Tally = Tally {
+    answers: 0,
+    checked: 0,
+};
+
+impl Tally {
+    fn plus(self, other: Tally) -> Tally {
+        Tally {
+            answers: self.answers.saturating_add(other.answers),
+            checked: self.checked.saturating_add(other.checked),
+        }
+    }
+}
+
 /// How many derivations of a bundle check.
 fn checked_in(alloc: Global, bundle: &Bundle, program: &Restricted) -> Result<usize, Memory> {
-    let mut count = 0;
+    let mut count: usize = 0;
     for proved in bundle.proved.items() {
         if verdict_on(alloc, program, proved)? == Verdict::Yes {
-            count += 1;
+            count = count.saturating_add(1);
         }
     }
     Ok(count)
 }
 
-/// How many answers a text has, and how many derivations check in the bundle of them that is read again.
-fn proved_and_checked(alloc: Global, text: &str, depth: u32) -> Result<(usize, usize), Memory> {
-    let program = program_of(alloc, text.as_bytes())?;
-    let proved = prove_program(alloc, &program, depth)?;
-    let count = proved.len();
+/// How many derivations check in the bundle of a text that is written and read again.
+fn checked_again(
+    alloc: Global,
+    text: &str,
+    proved: Vec<Proved>,
+    program: &Restricted,
+) -> Result<usize, Memory> {
     let bundle = Bundle {
         text: List::of(text.as_bytes().to_vec(alloc)?),
         proved: List::of(proved),
     };
     let bytes = write_bundle(alloc, &bundle)?;
     let again = read_bundle(alloc, &bytes).or(Err(Memory))?;
-    let checked = checked_in(alloc, &again, &program)?;
-    Ok((count, checked))
+    checked_in(alloc, &again, program)
 }
 
-/// Writes how many answers each text of a folder has, and how many derivations of them check.
+/// The answers of a text. A text with a fault has none.
+fn tally_of(alloc: Global, text: &str, depth: u32) -> Result<Tally, Memory> {
+    let Ok(program) = program_of(alloc, text.as_bytes()) else {
+        return Ok(NONE);
+    };
+    let proved = prove_program(alloc, &program, depth)?;
+    let answers = proved.len();
+    let checked = checked_again(alloc, text, proved, &program)?;
+    Ok(Tally { answers, checked })
+}
+
+fn tell<R: Print>(rt: &R, name: &str, tally: Tally) -> io::Result<()> {
+    println!(rt; "{name}: {} answers, {} derivations check", tally.answers, tally.checked)
+}
+
+/// Writes how many answers each text of a folder has, and how many derivations of them check. The file `proofs` of the
+/// folder has a line for each, with the depth and its name.
 pub fn check_folder<R: AllocGlobal + Files + Print>(rt: &R, folder: &str) -> io::Result<()> {
-    println!(rt; "% derivations")?;
     let runs = fs::read_to_string(rt, &format!(in rt.alloc(); "{folder}/proofs")?)?;
     for line in runs.lines() {
         if let Some((depth, name)) = line.split_once(' ') {
             let text = fs::read_to_string(rt, &format!(in rt.alloc(); "{folder}/{name}")?)?;
             let depth = depth.parse::<u32>().unwrap_or(1);
-            let found = proved_and_checked(rt.alloc(), &text, depth);
-            let (answers, checked) = found.map_err(|_| AllocError)?;
-            println!(rt; "{name}: {answers} answers, {checked} derivations check")?;
+            let tally = tally_of(rt.alloc(), &text, depth).map_err(|_| AllocError)?;
+            tell(rt, name, tally)?;
         }
     }
     Ok(())
+}
+
+/// Writes the same of all texts of a file of texts together.
+pub fn check_file<R: AllocGlobal + Files + Print>(rt: &R, name: &str) -> io::Result<()> {
+    let all = fs::read_to_string(rt, name)?;
+    let mut parts = all.trim_end().split(DIVIDER);
+    let depth = parts.next().unwrap_or("").parse::<u32>().unwrap_or(1);
+    let begin = parts.next().unwrap_or("");
+    let mut tally = NONE;
+    for end in parts {
+        let text = format!(in rt.alloc(); "{begin}{end}")?;
+        let more = tally_of(rt.alloc(), &text, depth).map_err(|_| AllocError)?;
+        tally = tally.plus(more);
+    }
+    tell(rt, name, tally)
 }

@@ -51,5 +51,10 @@ fn main(rt: HostRuntime) -> io::Result<()> {
     streams::run_folder(&rt, "bytes")?;
     streams::run_folder(&rt, "examples")?;
     bundles::tell_bundles(&rt)?;
-    derivations::check_folder(&rt, "examples")
+    println!(rt; "% derivations")?;
+    derivations::check_folder(&rt, "examples")?;
+    for name in &FILES {
+        derivations::check_file(&rt, name)?;
+    }
+    Ok(())
 }

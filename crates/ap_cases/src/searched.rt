@@ -6,6 +6,7 @@ ghost use Rattle.ap_backchain.specs.Branches.{IsBranchOf};
 ghost use Rattle.ap_backchain.specs.Problems.{HasQuery};
 
 use ap_answers::printing::{canonical, lines};
+use crate::cases::DIVIDER;
 use ap_backchain::branch::Branch;
 use ap_backchain::problem::{Problem, outputs};
 use ap_defs::limits::SIZE_LIMIT;
@@ -18,8 +19,6 @@ use ap_report::program_of_text;
 use std::alloc::{AllocError, Global};
 use std::fs::Files;
 use std::{fs, io};
-
-const DIVIDER: &str = "\n----\n";
 
 const PATHS: [&[u32]; 5] = [&[], &[1], &[2], &[3], &[1, 1]];
 
