@@ -2,8 +2,15 @@
 //! exit status.
 #![tactic(auto)]
 
+mod counting;
+mod remembering;
+mod saying;
+
 use ap_io::{NoGate, StdSink, StdSource};
 use ap_top::{Status, top};
+use counting::Counting;
+use remembering::Remembering;
+use saying::say;
 use std::alloc::AllocError;
 use std::process::ExitCode;
 use std::rt::Env;
@@ -24,11 +31,17 @@ fn words(rt: &(impl Env + AllocGlobal)) -> Result<Vec<String>, AllocError> {
     }
 }
 
-// Runs the interpreter on standard input and output.
-fn run<R: Threads + Wait + Sync + AllocGlobal + Input + Print>(rt: &R, words: &[String]) -> Status {
-    let mut source = StdSource::new(rt.reader());
-    let mut sink = StdSink::new(io::writer(rt));
-    top(rt, rt.alloc(), words, &mut source, &mut sink, &NoGate)
+// Runs the interpreter on standard input and output, and says on standard error what helps.
+fn run<R: Threads + Wait + Sync + AllocGlobal + Input + Print + Eprint>(
+    rt: &R,
+    words: &[String],
+) -> Status {
+    let alloc = rt.alloc();
+    let mut source = Remembering::new(alloc, StdSource::new(rt.reader()));
+    let mut sink = Counting::new(StdSink::new(io::writer(rt)));
+    let status = top(rt, alloc, words, &mut source, &mut sink, &NoGate);
+    say(rt, alloc, status, source.read_so_far(), sink.tally());
+    status
 }
 
 fn main(rt: HostRuntime) -> ExitCode {
