@@ -125,7 +125,10 @@ fn stops_after<R: Threads + Wait + Sync>(
         write: written as u64 + 1,
         most: 3,
     };
-    ends(rt, alloc, TEXT, fails, (6, &REPORT[..3 * written]))
+    let words = words_of(alloc, "run --depth 1")?;
+    let (status, sink) = call(rt, alloc, &words, TEXT, fails, &NoGate)?;
+    let bytes = sink.bytes();
+    Ok(status == 6 && bytes.len() == 3 * written && REPORT.starts_with(bytes))
 }
 
 #[test]
