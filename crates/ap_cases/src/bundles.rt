@@ -38,9 +38,7 @@ pub fn verdict_on(alloc: Global, program: &Restricted, proved: &Proved) -> Resul
 fn tell_verdict<R: AllocGlobal + Print>(rt: &R, query: u32, verdict: Verdict) -> io::Result<()> {
     match verdict {
         Verdict::Yes => println!(rt; "query {query}: checks"),
-        Verdict::No { node, rule } => {
-            println!(rt; "query {query}: node {node}, rule {rule}")
-        }
+        Verdict::No { node, rule } => { println!(rt; "query {query}: node {node}, rule {rule}") }
     }
 }
 

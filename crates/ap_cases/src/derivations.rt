@@ -145,7 +145,10 @@ fn tally_of(alloc: Global, text: &str, depth: u32) -> Result<Tally, Memory> {
 }
 
 fn tell<R: Print>(rt: &R, name: &str, tally: Tally) -> io::Result<()> {
-    println!(rt; "{name}: {} answers, {} derivations check", tally.answers, tally.checked)
+    println!(rt;
+        "{name}: {} answers, {} derivations check",
+        tally.answers, tally.checked
+    )
 }
 
 /// Writes how many answers each text of a folder has, and how many derivations of them check. The file `proofs` of the

@@ -5,8 +5,8 @@ ghost use Rattle.std.specs.Prelude.{IfSome};
 ghost use Rattle.ap_backchain.specs.Branches.{IsBranchOf};
 ghost use Rattle.ap_backchain.specs.Problems.{HasQuery};
 
-use ap_answers::printing::{canonical, lines};
 use crate::cases::DIVIDER;
+use ap_answers::printing::{canonical, lines};
 use ap_backchain::branch::Branch;
 use ap_backchain::problem::{Problem, outputs};
 use ap_defs::limits::SIZE_LIMIT;

@@ -50,7 +50,7 @@ fn written(alloc: Global, items: &[Item<'_>]) -> Result<Option<Vec<u8>>, Memory>
 }
 
 /// What becomes of a goal whose query has these tokens.
-fn outcome(alloc: Global, tokens: &[Token<'_>], goal: &[u8]) -> Result<Outcome, SynError> {
+fn outcome_of(alloc: Global, tokens: &[Token<'_>], goal: &[u8]) -> Result<Outcome, SynError> {
     let items = items_of(alloc, tokens)?;
     match written(alloc, &items) {
         Ok(None) => Ok(Outcome::NotRead),
@@ -62,7 +62,7 @@ fn outcome(alloc: Global, tokens: &[Token<'_>], goal: &[u8]) -> Result<Outcome, 
 
 fn outcome_of_query(alloc: Global, text: &[u8], goal: &[u8]) -> Result<Outcome, SynError> {
     let tokens = tokens_of(alloc, text)?;
-    outcome(alloc, &tokens, goal)
+    outcome_of(alloc, &tokens, goal)
 }
 
 /// What becomes of a goal that is read as a query's, and written.
