@@ -16,7 +16,7 @@ use std::fs::Files;
 use std::{fs, io};
 
 /// The program of a text with no fault.
-pub fn program_of(alloc: Global, text: &[u8]) -> Result<Restricted, Memory> {
+pub fn program_of_bytes(alloc: Global, text: &[u8]) -> Result<Restricted, Memory> {
     if text.len() > SIZE_LIMIT {
         return Err(Memory);
     }
@@ -44,7 +44,7 @@ fn tell_verdict<R: AllocGlobal + Print>(rt: &R, query: u32, verdict: Verdict) ->
 
 /// Writes what each derivation of a bundle comes to.
 fn tell_derivations<R: AllocGlobal + Print>(rt: &R, bundle: &Bundle) -> io::Result<()> {
-    let program = program_of(rt.alloc(), bundle.text.items()).map_err(|_| AllocError)?;
+    let program = program_of_bytes(rt.alloc(), bundle.text.items()).map_err(|_| AllocError)?;
     for proved in bundle.proved.items() {
         let verdict = verdict_on(rt.alloc(), &program, proved).map_err(|_| AllocError)?;
         tell_verdict(rt, proved.query, verdict)?;

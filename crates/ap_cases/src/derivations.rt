@@ -1,9 +1,11 @@
 //! The derivations of the answers of texts: each is made again from its path, and all of a text are written as a bundle,
 //! which is read again and checked.
+ghost use Rattle.std.specs.Prelude.{◌≡◌, length};
+ghost use Rattle.ap_defs.specs.Goals.{program_of};
 ghost use Rattle.ap_backchain.specs.Branches.{IsBranchOf};
 ghost use Rattle.ap_backchain.specs.Problems.{HasQuery};
 
-use crate::bundles::{program_of, verdict_on};
+use crate::bundles::{program_of_bytes, verdict_on};
 use crate::cases::DIVIDER;
 use ap_backchain::branch::Branch;
 use ap_backchain::problem::{Problem, outputs};
@@ -52,11 +54,15 @@ fn prove_at(
 ) -> Result<(), Memory>
     requires { HasQuery problem.now }
 {
-    let branch = at(alloc, problem, path).or(Err(Memory))?;
-    if let Some(proved) = proved_at(alloc, problem, &branch)? {
-        all.push(proved)?;
+    match at(alloc, problem, path) {
+        Ok(branch) => {
+            if let Some(proved) = proved_at(alloc, problem, &branch)? {
+                all.push(proved)?;
+            }
+            Ok(())
+        }
+        Err(_) => Err(Memory),
     }
-    Ok(())
 }
 
 /// Adds the answers of a query with their derivations.
@@ -71,13 +77,21 @@ fn prove_query(alloc: Global, problem: &Problem<'_>, all: &mut Vec<Proved>) -> R
     Ok(())
 }
 
+/// How many queries a program has.
+fn query_count(program: &Restricted) -> u32
+    ensures { result ≡ length (program_of program.now).queries }
+{
+    program.program().queries.items().len() as u32
+}
+
 /// The answers of the queries of a program, with their derivations.
 fn prove_program(alloc: Global, program: &Restricted, depth: u32) -> Result<Vec<Proved>, Memory> {
+    let count = query_count(program);
     let mut all = Vec::new(alloc);
-    for i in 0..program.program().queries.items().len() {
+    for place in 0..count {
         let problem = Problem {
             program,
-            query: i as u32 + 1,
+            query: place + 1,
             depth,
         };
         prove_query(alloc, &problem, &mut all)?;
@@ -135,7 +149,7 @@ fn checked_again(
 
 /// The answers of a text. A text with a fault has none.
 fn tally_of(alloc: Global, text: &str, depth: u32) -> Result<Tally, Memory> {
-    let Ok(program) = program_of(alloc, text.as_bytes()) else {
+    let Ok(program) = program_of_bytes(alloc, text.as_bytes()) else {
         return Ok(NONE);
     };
     let proved = prove_program(alloc, &program, depth)?;
