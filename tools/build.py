@@ -21,7 +21,7 @@ ROOM = f"{TOP}/.build"
 LOG = f"{ROOM}/log"
 NOT_BUILT = 70
 # The memory that one check may take.
-BYTES_A_CHECK = 4 << 30
+BYTES_A_CHECK = 3 << 30
 
 
 def say(text):
@@ -98,11 +98,16 @@ def estimate(left, below, jobs):
     return max(1, round(max(total / jobs, max(chain.values(), default=0)) * 1.2))
 
 
+def processors():
+    """The processors that this build may use."""
+    return len(os.sched_getaffinity(0))
+
+
 def jobs_at_once():
-    """One check a processor, where memory allows."""
+    """Three checks for two processors, where memory allows: of those that `rt` begins some wait for a crate below them."""
     found = re.search(r"MemAvailable:\s+(\d+) kB", text_of("/proc/meminfo"))
     memory = int(found[1]) * 1024 if found else BYTES_A_CHECK
-    return max(1, min(len(os.sched_getaffinity(0)), memory // BYTES_A_CHECK))
+    return max(1, min(processors() * 3 // 2, memory // BYTES_A_CHECK))
 
 
 def being_proved(names):
@@ -157,11 +162,11 @@ def last_lines(count):
     return "\n".join("    " + line[:160] for line in text_of(LOG).splitlines()[-count:])
 
 
-def run(words, progress):
-    """Runs a command in the program's folder, with its output in the log; gives its status."""
+def run(name, words, progress):
+    """Runs a command in a crate's folder, with its output in the log; gives its status."""
     with open(LOG, "a", encoding="utf-8") as log, open(f"{TOP}/crates/{PROGRAM}/stdin", "rb") as given:
         process = subprocess.Popen(
-            words, cwd=f"{TOP}/crates/{PROGRAM}", stdin=given, stdout=log, stderr=log, start_new_session=True
+            words, cwd=f"{TOP}/crates/{name}", stdin=given, stdout=log, stderr=log, start_new_session=True
         )
         try:
             while process.poll() is None:
@@ -221,9 +226,12 @@ def build():
     say("to look sooner, without proofs: ./alphaprolog-unproved with the same words")
     say("first the sources are read, which takes a minute")
     open(LOG, "w", encoding="utf-8").close()
-    proves = ["rt", "all", "check", "--jobs", str(jobs)]
-    for words in (proves, ["rt", "run", "--", "run", "--depth", "1"]):
-        if run(words, progress):
+    # All crates wait for the lowest: it gets all processors.
+    steps = [(crates[0], ["rt", "lib", "--jobs", str(processors())])] if crates[0] in left else []
+    steps += [(PROGRAM, ["rt", "all", "check", "--jobs", str(jobs)])]
+    steps += [(PROGRAM, ["rt", "run", "--", "run", "--depth", "1"])]
+    for name, words in steps:
+        if run(name, words, progress):
             say(f"{progress.clock()} the program was not built; the log is {LOG}, and ends with")
             say("\n" + last_lines(15))
             fail("what was proved is kept: a second start goes on from there")

@@ -14,7 +14,7 @@ use ap_defs::terms::Term;
 use std::alloc::Global;
 
 /// A binding that is shown: the variable's spelling, and its term.
-#[derive(Clone, Copy, Debug)]
+#[derive(Clone, Copy)]
 pub struct Binding<'a> {
     pub text: &'a Text,
     pub term: &'a Term,

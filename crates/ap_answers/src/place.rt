@@ -8,7 +8,7 @@ use ap_defs::memory::Memory;
 
 /// By itself, as the right part of a pair, as the rest of a list, as the two parts of a list cell, or as
 /// the arguments of a constructor with so many.
-#[derive(Clone, Copy, Debug)]
+#[derive(Clone, Copy)]
 pub enum Place {
     Whole,
     Part,

@@ -11,7 +11,7 @@ pub enum BookError {
 }
 
 /// Why an end is refused, with its outputs, which come back.
-#[derive(Debug, Drop)]
+#[derive(Drop)]
 pub struct DoneError {
     pub cause: BookError,
     pub outs: List<Out>,

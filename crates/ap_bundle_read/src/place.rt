@@ -11,7 +11,7 @@ use ap_bundle::words::Word;
 use std::alloc::Global;
 
 /// What is left of the bytes, and how large the shared terms may be that are still to come.
-#[derive(Clone, Copy, Debug)]
+#[derive(Clone, Copy)]
 pub(crate) struct Place<'a> {
     pub(crate) rest: &'a [u8],
     pub(crate) room: u64,

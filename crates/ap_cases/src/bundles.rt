@@ -10,7 +10,7 @@ use ap_defs::limits::SIZE_LIMIT;
 use ap_defs::memory::Memory;
 use ap_defs::outcomes::{Bundle, Proved, Verdict};
 use ap_program::restricted::Restricted;
-use ap_report::program_of_text;
+use ap_text::program_of_text;
 use std::alloc::{AllocError, Global};
 use std::fs::Files;
 use std::{fs, io};

@@ -15,7 +15,7 @@ use ap_defs::paths::{Node, Out, Path};
 use ap_program::restricted::Restricted;
 use ap_replay::error::ReplayError;
 use ap_replay::replay::at;
-use ap_report::program_of_text;
+use ap_text::program_of_text;
 use std::alloc::{AllocError, Global};
 use std::fs::Files;
 use std::{fs, io};

@@ -4,7 +4,7 @@ ghost use Rattle.std.specs.Prelude.{◌≡◌};
 ghost use Rattle.ap_checker.specs.Rules.{number_of, word_of};
 
 /// Why a node is refused. At a node the least rule counts.
-#[derive(Clone, Copy, Debug, PartialEq, Eq)]
+#[derive(Clone, Copy, PartialEq, Eq)]
 pub enum Rule {
     /// The node's form isn't that of the goal at its place.
     Shape,

@@ -14,7 +14,7 @@ use ap_defs::terms::{Name, Swap, Term, Var};
 use std::alloc::Global;
 
 /// What stands for the free identifiers of an item, or for one that its goal brought.
-#[derive(Clone, Copy, Debug)]
+#[derive(Clone, Copy)]
 pub(crate) enum Standing<'a> {
     /// The terms for the free variables of a query, in order; each free name stands for itself.
     Query(&'a [Local], &'a [Term]),

@@ -13,7 +13,7 @@ use ap_defs::goals::Constructor;
 use ap_defs::terms::{Term, Ty, Var};
 
 /// What an application's argument is to be.
-#[derive(Clone, Copy, Debug)]
+#[derive(Clone, Copy)]
 pub(crate) enum Wanted<'a> {
     /// Nothing: the argument is unit.
     Nothing,

@@ -28,7 +28,7 @@ use std::alloc::Global;
 
 /// A clause as a node uses it: its number, the names and terms for its free identifiers, and the
 /// derivation of its body.
-#[derive(Clone, Copy, Debug)]
+#[derive(Clone, Copy)]
 struct Use<'a> {
     number: u32,
     names: &'a [Name],

@@ -10,7 +10,7 @@ use ap_defs::outcomes::Derivation;
 use ap_defs::terms::Term;
 
 /// A node, the goal at its place, and the identifiers of the goal's item.
-#[derive(Clone, Copy, Debug)]
+#[derive(Clone, Copy)]
 pub(crate) struct Place<'a> {
     pub derivation: &'a Derivation,
     pub goal: &'a Goal<Term>,
@@ -18,14 +18,14 @@ pub(crate) struct Place<'a> {
 }
 
 /// A node that is yet to be looked at, and how much of what stands for identifiers stands there.
-#[derive(Clone, Copy, Debug)]
+#[derive(Clone, Copy)]
 pub(crate) struct Pending<'a> {
     pub place: Place<'a>,
     pub mark: usize,
 }
 
 /// What stands for identifiers, the innermost last, and the nodes that are left, the next one last.
-#[derive(Debug, Drop)]
+#[derive(Drop)]
 pub(crate) struct Walk<'a> {
     pub standing: Vec<Standing<'a>>,
     pub pending: Vec<Pending<'a>>,

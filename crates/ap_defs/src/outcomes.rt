@@ -5,7 +5,7 @@ use crate::terms::{Cond, Name, Term, Ty, Var};
 
 /// An answer: the bindings of the query's free variables in order, the conditions ascending, and
 /// the unbound variables with their types, ascending.
-#[derive(Debug, Drop)]
+#[derive(Drop)]
 pub struct Answer {
     pub binds: List<Term>,
     pub conds: List<Cond>,
@@ -13,7 +13,7 @@ pub struct Answer {
 }
 
 /// How a goal was solved: a node for each goal that was selected.
-#[derive(Debug, Drop)]
+#[derive(Drop)]
 pub enum Derivation {
     /// The clause's number from 1, the names and terms for its free names and variables, its body.
     Atom(u32, List<Name>, List<Term>, Box<Derivation>),
@@ -28,7 +28,7 @@ pub enum Derivation {
 }
 
 /// An answer to the query of this number, from 1, with its derivation.
-#[derive(Debug, Drop)]
+#[derive(Drop)]
 pub struct Proved {
     pub query: u32,
     pub answer: Answer,
@@ -36,21 +36,21 @@ pub struct Proved {
 }
 
 /// A text with derivations of answers to its queries.
-#[derive(Debug, Drop)]
+#[derive(Drop)]
 pub struct Bundle {
     pub text: List<u8>,
     pub proved: List<Proved>,
 }
 
 /// What a checker says: yes, or the first refused node and its least rule.
-#[derive(Clone, Copy, Debug, PartialEq, Eq)]
+#[derive(Clone, Copy, PartialEq, Eq)]
 pub enum Verdict {
     Yes,
     No { node: u64, rule: u32 },
 }
 
 /// What is shown of an answer. `names` and `vars` are those that print as generated, in order.
-#[derive(Debug, Drop)]
+#[derive(Drop)]
 pub struct Shown {
     pub binds: List<(Text, Term)>,
     pub conds: List<Cond>,

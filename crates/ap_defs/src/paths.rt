@@ -13,7 +13,7 @@ use std::cmp::Ordering;
 use std::marker::Model;
 
 /// The choices from the root of a search, in order. Contracts see it as their list.
-#[derive(Drop, Debug)]
+#[derive(Drop)]
 pub struct Path {
     choices: Vec<u32>,
 }
@@ -97,7 +97,7 @@ fn begins_with(front: &[u32], whole: &[u32]) -> bool
 }
 
 /// What a branch of the search came to, with its path.
-#[derive(Debug, Drop)]
+#[derive(Drop)]
 pub enum Out {
     Found(Path, Answer),
     Cut(Path),
@@ -105,14 +105,14 @@ pub enum Out {
 }
 
 /// What a tree of paths answers at a path: its kids, ascending, or the outputs below it.
-#[derive(Debug, Drop)]
+#[derive(Drop)]
 pub enum Visit {
     Kids(List<u32>),
     Outs(List<Out>),
 }
 
 /// What a branch stands at. A choice has its width and the choices that are worth trying.
-#[derive(Debug, Drop)]
+#[derive(Drop)]
 pub enum Node {
     Choice(u32, List<u32>),
     Answer,
@@ -122,7 +122,7 @@ pub enum Node {
 }
 
 /// An entry of a book, with the number of the seat that made it.
-#[derive(Debug, Drop)]
+#[derive(Drop)]
 pub enum Entry {
     Split {
         seat: u32,
@@ -140,14 +140,14 @@ pub enum Entry {
 }
 
 /// A closed book: its history in order, and for each seat the positions of its own entries.
-#[derive(Debug, Drop)]
+#[derive(Drop)]
 pub struct Closed {
     pub history: List<Entry>,
     pub logs: List<List<u64>>,
 }
 
 /// How far a search is: so many paths are open, none is, or it was stopped.
-#[derive(Clone, Copy, Debug, PartialEq, Eq)]
+#[derive(Clone, Copy, PartialEq, Eq)]
 pub enum Progress {
     Left(u64),
     Finished,
@@ -155,7 +155,7 @@ pub enum Progress {
 }
 
 /// An atomic step of one worker, by the worker's number.
-#[derive(Debug, Drop)]
+#[derive(Drop)]
 pub enum Event {
     Push(u32),
     Pop(u32),
@@ -165,7 +165,7 @@ pub enum Event {
 }
 
 /// The state of all workers between two events.
-#[derive(Debug, Drop)]
+#[derive(Drop)]
 pub struct Core {
     pub pending: List<Path>,
     pub hands: List<List<Path>>,

@@ -16,7 +16,7 @@ use std::alloc::Global;
 
 /// What stands round a part of a term: the part is right of a term in a pair, the argument of a
 /// constructor, or the body of an abstraction.
-#[derive(Debug, Drop)]
+#[derive(Drop)]
 pub enum TermLayer {
     Left(Term),
     App(u32),
@@ -25,7 +25,7 @@ pub enum TermLayer {
 
 /// What stands round a part of a type: the part is right of a type in a pair, the elements of a list, or
 /// the body of an abstraction.
-#[derive(Debug, Drop)]
+#[derive(Drop)]
 pub enum TypeLayer {
     Left(Ty),
     List,
@@ -34,7 +34,7 @@ pub enum TypeLayer {
 
 /// What stands round a part of a goal: the part is right of a goal and `,` or `;`, or the body of
 /// `exists` or `new`.
-#[derive(Debug, Drop)]
+#[derive(Drop)]
 pub enum GoalLayer {
     Both(Goal<Term>),
     Either(Goal<Term>),

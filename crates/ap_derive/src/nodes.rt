@@ -16,7 +16,7 @@ use std::alloc::Global;
 
 /// A goal that was selected: its node in the derivation, in which variables stand for themselves,
 /// without what is below it.
-#[derive(Debug, Drop)]
+#[derive(Drop)]
 pub enum SelectedGoal {
     /// The clause's number from 1, and its free names and variables as they were numbered.
     Atom(u32, List<Name>, List<Var>),

@@ -1,7 +1,7 @@
 -- What is explained of a text.
 use Rattle.std.specs.Prelude.{ℕ, List, Option, None, Some, IfSome}
 use Rattle.ap_defs.specs.Goals.{NominalProgram}
-use Rattle.ap_report.specs.Texts.{IsFaultOfText, IsProgramOfText}
+use Rattle.ap_text.specs.Texts.{IsFaultOfText, IsProgramOfText}
 use Rattle.ap_explain.specs.Marks.{IsMarkOf}
 use Rattle.ap_explain.specs.declared.explanation.Explanation.{Explanation}
 

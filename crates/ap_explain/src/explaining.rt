@@ -24,7 +24,7 @@ use ap_located::messages::{Message, message_text};
 use ap_located::nesting::{explain_depth, explain_unended};
 use ap_located::nodes::Node;
 use ap_located::reader::read_item;
-use ap_report::{TextError, program_of_text};
+use ap_text::{TextError, program_of_text};
 use std::alloc::Global;
 
 // The types of the faulty item's parts.

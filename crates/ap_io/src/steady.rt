@@ -60,7 +60,7 @@ impl Source for SteadySource {
 
 /// A sink that takes each piece whole, keeps none of it, tells no bytes and never fails: its count of
 /// failures is 0 for good.
-#[derive(Clone, Copy, Debug)]
+#[derive(Clone, Copy)]
 pub struct SteadySink;
 
 impl SteadySink {

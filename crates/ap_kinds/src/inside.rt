@@ -15,7 +15,7 @@ use ap_defs::terms::Shape;
 use std::alloc::Global;
 
 /// What is wanted of the term inside an application or an abstraction.
-#[derive(Debug, Drop)]
+#[derive(Drop)]
 pub(crate) struct Inside<'a> {
     pub(crate) want: Wanted<'a>,
     pub(crate) system: System,

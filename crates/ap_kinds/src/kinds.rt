@@ -29,7 +29,7 @@ use ap_types::solved::{Solved, value_of};
 use std::alloc::Global;
 
 /// Whether an identifier is a name or a variable.
-#[derive(Clone, Copy, Debug)]
+#[derive(Clone, Copy)]
 pub enum IdentKind {
     Name,
     Var,

@@ -11,7 +11,7 @@ use ap_defs::memory::Memory;
 use ap_defs::terms::{Id, Shape};
 
 /// The hole of an identifier that stands where a name belongs.
-#[derive(Debug, Drop)]
+#[derive(Drop)]
 pub(crate) struct Place {
     pub(crate) hole: u64,
     pub(crate) system: System,

@@ -10,7 +10,7 @@ use ap_defs::terms::{Shape, Ty};
 use std::alloc::Global;
 
 /// Type equations, the holes that must be name types, and the number of the next hole.
-#[derive(Debug, Drop)]
+#[derive(Drop)]
 pub(crate) struct System {
     pub(crate) equations: Vec<(Shape, Shape)>,
     pub(crate) names: Vec<u64>,

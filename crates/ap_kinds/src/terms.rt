@@ -18,7 +18,7 @@ use ap_defs::terms::{Raw, Shape};
 use std::alloc::Global;
 
 /// What is wanted of the two sides of a pair.
-#[derive(Debug, Drop)]
+#[derive(Drop)]
 struct Sides<'a> {
     left: Wanted<'a>,
     right: Wanted<'a>,

@@ -13,7 +13,7 @@ use std::alloc::Global;
 
 /// What is wanted of a term: a shape; nothing, as of a constructor without arguments; an argument of a
 /// type and those of the rest; or the parts of a list cell, whose elements have the type of a hole.
-#[derive(Debug, Drop)]
+#[derive(Drop)]
 pub(crate) enum Wanted<'a> {
     Whole(Shape),
     Nothing,

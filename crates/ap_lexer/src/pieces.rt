@@ -9,7 +9,7 @@ use crate::token::TokenKind;
 use unicode_ident::{is_xid_continue, is_xid_start};
 
 /// What begins a text, and its length in bytes.
-#[derive(Clone, Copy, Debug)]
+#[derive(Clone, Copy)]
 pub struct Piece {
     /// The kind of a token, and `None` for white space and comments.
     pub kind: Option<TokenKind>,
@@ -86,7 +86,7 @@ fn mark_at(text: &str) -> Option<Piece>
 }
 
 /// What a character begins.
-#[derive(Clone, Copy, Debug)]
+#[derive(Clone, Copy)]
 enum Start {
     Blank,
     Comment,

@@ -5,7 +5,7 @@ use ap_defs::faults::SyntaxFault;
 use std::alloc::{AllocError, AllocFailed};
 
 /// The kinds of tokens.
-#[derive(Clone, Copy, Debug, PartialEq, Eq)]
+#[derive(Clone, Copy, PartialEq, Eq)]
 pub enum TokenKind {
     /// `A` to `Z` or `_`, and then characters that have XID_Continue.
     Var,
@@ -19,7 +19,7 @@ pub enum TokenKind {
 }
 
 /// A token: its kind, its text, and where it stands.
-#[derive(Clone, Copy, Debug, PartialEq, Eq)]
+#[derive(Clone, Copy, PartialEq, Eq)]
 pub struct Token<'a> {
     pub kind: TokenKind,
     pub text: &'a str,

@@ -17,7 +17,7 @@ use std::marker::Model;
 /// moved, by number and then by sort, with its image, and goes on with the list of what is left.
 ///
 /// The only error of its calls is want of memory. See Urban, Pitts and Gabbay, "Nominal unification".
-#[derive(Drop, Debug)]
+#[derive(Drop)]
 pub struct Perm {
     swaps: Vec<Swap>,
 }

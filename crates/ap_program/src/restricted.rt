@@ -14,7 +14,7 @@ use std::marker::Model;
 /// The restriction has the aim of Urban and Cheney, "Avoiding Equivariance in Alpha-Prolog", and is this
 /// project's own: each free name of a clause is fresh for each argument of its head, where the freshness
 /// goals of the body and the types of the variables are known. Contracts see the program.
-#[derive(Debug, Drop)]
+#[derive(Drop)]
 pub struct Restricted {
     program: Program<Term>,
 }

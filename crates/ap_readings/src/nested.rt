@@ -5,7 +5,7 @@ use ap_syntax::SynError;
 use std::alloc::{AllocError, Global};
 
 /// A text: what it begins with, an opening so often, what is in the middle, a closing as often, and its end.
-#[derive(Clone, Copy, Debug)]
+#[derive(Clone, Copy)]
 struct Nest<'a> {
     count: u32,
     before: &'a str,

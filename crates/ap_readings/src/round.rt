@@ -9,7 +9,7 @@ use ap_unparse::writing::goal_text;
 use std::alloc::{AllocError, Global};
 
 /// What became of a goal.
-#[derive(Clone, Copy, Debug, PartialEq, Eq)]
+#[derive(Clone, Copy, PartialEq, Eq)]
 pub enum Outcome {
     /// It was not read as a query.
     NotRead,

@@ -3,7 +3,7 @@
 use std::alloc::{AllocError, Global};
 
 /// A goal: what it begins with, a text so often, what is in the middle, another text as often, and its end.
-#[derive(Clone, Copy, Debug)]
+#[derive(Clone, Copy)]
 pub struct Shape<'a> {
     pub name: &'a str,
     pub count: u32,

@@ -8,7 +8,7 @@ use ap_unparse::writing::{goal_text, term_text, type_text};
 use std::alloc::{AllocError, Global};
 
 /// A part of an item that stands alone in it: a query's goal, a predicate's type or the term of a clause's head.
-#[derive(Clone, Copy, Debug)]
+#[derive(Clone, Copy)]
 enum Part {
     Goal,
     Type,

@@ -1,6 +1,4 @@
-mod NameFaults
 pub mod Texts
 mod QueryReports
-mod TokenCounts
 pub mod SoundTexts
 pub mod CompleteTexts

@@ -2,7 +2,7 @@
 use Rattle.std.specs.Prelude.{ℕ, List}
 use Rattle.ap_defs.specs.Goals.{NominalProgram}
 use Rattle.ap_complete.specs.CompleteAnswers.{IsCompleteProgram}
-use Rattle.ap_report.specs.Texts.{IsProgramOfText}
+use Rattle.ap_text.specs.Texts.{IsProgramOfText}
 
 -- the program of the text has complete answers, where the text has no fault
 abbrev pub IsCompleteText : ℕ → List ℕ → Type 0

@@ -1,6 +1,5 @@
 pub mod Status
 pub mod FaultLines
-pub mod Texts
 pub mod Queries
 pub mod TextReport
 pub mod SoundAnswers

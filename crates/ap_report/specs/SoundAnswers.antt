@@ -3,7 +3,7 @@ use Rattle.std.specs.Prelude.{ℕ, List, [], ◌∷◌}
 use Rattle.ap_defs.specs.Answers.{query_outs}
 use Rattle.ap_defs.specs.Goals.{NominalProgram, NominalQuery}
 use Rattle.ap_ground.specs.ShownInstances.{InEachShownInstance, IsTypedDerivable}
-use Rattle.ap_report.specs.Texts.{IsProgramOfText}
+use Rattle.ap_text.specs.Texts.{IsProgramOfText}
 use Rattle.ap_soundness.specs.FoundStates.{EachAnswer}
 
 -- for each instance of what is shown of an answer there are terms for the query's free variables, with those that are shown among

@@ -6,7 +6,7 @@ use Rattle.ap_defs.specs.declared.faults.Fault.{Fault}
 use Rattle.ap_report.specs.declared.report.Report.{Report}
 use Rattle.ap_report.specs.declared.status.Status.TheVariants as status
 use Rattle.ap_report.specs.FaultLines.{fault_report}
-use Rattle.ap_report.specs.Texts.{IsProgramOfText, IsFaultOfText}
+use Rattle.ap_text.specs.Texts.{IsProgramOfText, IsFaultOfText}
 
 -- The report on a text, of a command that is given what it answers for a program.
 pub data IsTextReport (answer : NominalProgram → Report) (text : List ℕ) : Report → Type 0 where

@@ -1,10 +1,7 @@
-//! Laws of texts.
-ghost use Rattle.ap_report.specs.Laws.{ProgramIsOne, FaultIsOne, ProgramOrFault, ReportIsOne};
+//! A law of reports.
+ghost use Rattle.ap_report.specs.Laws.{ReportIsOne};
 
-/// A text has one program or one first fault at most, and not both. So each command has one report on it.
+/// Each command has one report on a text: that of its first fault, or what is answered for its program.
 pub fn a_text_has_one_report()
-    ensures program { ProgramIsOne }
-    ensures fault { FaultIsOne }
-    ensures either { ProgramOrFault }
     ensures report { ReportIsOne }
 {}

@@ -4,16 +4,15 @@ ghost use Rattle.ap_defs.specs.Goals.{program_of};
 ghost use Rattle.ap_defs.specs.Limits.{size_limit};
 ghost use Rattle.ap_report.specs.TextReport.{IsTextReport, run_report};
 
-use crate::error::TextError;
 use crate::faults::fault_report;
 use crate::queries::report_program;
-use crate::text::program_of_text;
 use crate::{Report, Status};
 use ap_defs::limits::{Depth, Workers};
 use ap_defs::lists::List;
 use ap_defs::memory::Memory;
 use ap_io::Gate;
 use ap_program::restricted::Restricted;
+use ap_text::{TextError, program_of_text};
 use std::alloc::Global;
 use std::sync::Wait;
 use std::thread::Threads;
@@ -37,8 +36,9 @@ fn report_restricted<R: Threads + Wait + Sync, G: Gate>(
 }
 
 /// The report on a text, to a depth: the line of the first fault, or what the program's queries are
-/// answered. So many workers search each query; two or more pass the gate before each path that they take
-/// up. What the report is does not depend on how many there are.
+/// answered. So many workers search each query that few turns don't answer, or each query where the gate
+/// may hold them; two or more pass the gate before each path that they take up. What the report is does
+/// not depend on how many there are.
 ///
 /// `Err` is want of memory.
 #[tactic(auto, using(crate::proofs::Texts::refused_report, crate::proofs::Texts::answered_report, crate::proofs::Texts::report_one))]

@@ -14,7 +14,7 @@ use std::alloc::Global;
 use std::collections::HashSet;
 
 /// A condition that freshness goals with the name `left` on the left leave: `name` is fresh for `var`.
-#[derive(Clone, Copy, Debug, PartialEq, Eq, Hash)]
+#[derive(Clone, Copy, PartialEq, Eq, Hash)]
 pub struct Fact {
     pub left: Name,
     pub name: Name,

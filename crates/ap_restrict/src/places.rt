@@ -12,7 +12,7 @@ use ap_defs::goals::Goal;
 use ap_defs::terms::{Id, Raw, Var};
 
 /// A place where a name belongs: the binder of an abstraction, or one of the two of a swapping.
-#[derive(Clone, Copy, Debug)]
+#[derive(Clone, Copy)]
 pub enum NamePlace {
     Binder,
     Swap,

@@ -11,7 +11,7 @@ use ap_trees::Binder;
 use std::alloc::Global;
 
 /// An identifier: its spelling, and whether `new` or `exists` brings it.
-#[derive(Clone, Copy, Debug)]
+#[derive(Clone, Copy)]
 pub struct Identifier<'a> {
     pub spelling: Binder<'a>,
     pub bound: bool,

@@ -17,7 +17,7 @@ use ap_perm::closures::Closure;
 use std::alloc::Global;
 
 /// A place among the versions of a store.
-#[derive(Clone, Copy, Debug)]
+#[derive(Clone, Copy)]
 pub struct Mark {
     pub place: usize,
 }

@@ -10,7 +10,7 @@ use std::alloc::{AllocError, Global};
 const MOST_LEVELS: usize = 256;
 
 /// What is open: a bracket, or the body of `\\`.
-#[derive(Clone, Copy, Debug, PartialEq, Eq)]
+#[derive(Clone, Copy, PartialEq, Eq)]
 pub enum Level {
     Round,
     Square,
@@ -55,7 +55,7 @@ fn after_closing(levels: &[Level], bracket: Level) -> usize
 }
 
 /// What a symbol does to the levels.
-#[derive(Clone, Copy, Debug)]
+#[derive(Clone, Copy)]
 enum Step {
     Opens(Level),
     Closes(Level),

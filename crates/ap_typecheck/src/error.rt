@@ -27,7 +27,7 @@ impl From<AllocError> for TypeError {
 }
 
 /// Why an item makes nothing.
-#[derive(Clone, Copy, Debug, PartialEq, Eq)]
+#[derive(Clone, Copy, PartialEq, Eq)]
 pub enum Refusal {
     /// The least kind of its faults.
     Kind(TypeKind),

@@ -13,7 +13,7 @@ use ap_defs::terms::Ty;
 use std::alloc::Global;
 
 /// The data types that may hold names of a sort, found once.
-#[derive(Debug, Drop)]
+#[derive(Drop)]
 pub struct Holding {
     pub sort: u32,
     pub table: Vec<bool>,

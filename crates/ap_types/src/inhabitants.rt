@@ -13,7 +13,7 @@ use ap_defs::terms::Ty;
 use std::alloc::Global;
 
 /// The data types that are inhabited by the constructors so far.
-#[derive(Debug, Drop)]
+#[derive(Drop)]
 pub struct Inhabitants {
     pub found: Least,
 }

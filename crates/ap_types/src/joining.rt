@@ -11,7 +11,7 @@ use crate::nodes::Node;
 use ap_defs::memory::Memory;
 
 /// The pairs of places that are left after two places were joined.
-#[derive(Clone, Copy, Debug)]
+#[derive(Clone, Copy)]
 pub(crate) enum Rest {
     Nothing,
     One((usize, usize)),

@@ -14,14 +14,14 @@ use std::alloc::Global;
 use std::mem;
 
 /// A data type goes in once those that the rule needs are in.
-#[derive(Debug, Drop)]
+#[derive(Drop)]
 pub struct Rule {
     pub gives: u32,
     pub needs: Vec<u32>,
 }
 
 /// The data types that are in, and the rules that wait at each of the others, which they need besides.
-#[derive(Debug, Drop)]
+#[derive(Drop)]
 pub struct Least {
     pub table: Vec<bool>,
     pub waiting: Vec<Vec<Rule>>,

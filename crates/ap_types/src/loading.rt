@@ -13,7 +13,7 @@ use ap_defs::terms::Shape;
 use std::alloc::Global;
 
 /// A table, and pairs of its places that are to become alike.
-#[derive(Debug, Drop)]
+#[derive(Drop)]
 pub(crate) struct Loaded {
     pub(crate) nodes: Vec<Node>,
     pub(crate) pairs: Vec<(usize, usize)>,

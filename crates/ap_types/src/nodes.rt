@@ -3,7 +3,7 @@
 /// An entry of a table: the place that stands for this one, or a shape whose parts are places. A place
 /// that stands for itself is open. Places that are alike can be one place, so a table is smaller than
 /// the shapes that it stands for.
-#[derive(Clone, Copy, Debug)]
+#[derive(Clone, Copy)]
 pub enum Node {
     Place(usize),
     Unit,

@@ -17,7 +17,7 @@ use ap_defs::terms::Ty;
 use std::alloc::Global;
 
 /// What is asked of a type: whether it is inhabited, or whether it may hold names of a sort.
-#[derive(Clone, Copy, Debug)]
+#[derive(Clone, Copy)]
 pub(crate) enum Question {
     Inhabited,
     Holds(u32),

@@ -16,7 +16,7 @@ use std::alloc::Global;
 /// The most general assignment of equations that have one, as a table in which equal parts can stand
 /// once: it takes no more room than the equations, where the shapes written out may be exponentially
 /// larger. The first `holes` places are the holes.
-#[derive(Debug, Drop)]
+#[derive(Drop)]
 pub struct Solved {
     pub nodes: Vec<Node>,
     pub holes: usize,

@@ -10,7 +10,7 @@ use ap_defs::memory::Memory;
 use std::alloc::Global;
 
 /// Whether a walk has not come to a place, has entered it, or has left it as one of a number.
-#[derive(Clone, Copy, Debug)]
+#[derive(Clone, Copy)]
 pub(crate) enum Mark {
     New,
     Entered,
@@ -19,7 +19,7 @@ pub(crate) enum Mark {
 
 /// The marks of places, how many were left, and the path to the place where the walk is, each place a
 /// part of the one before.
-#[derive(Debug, Drop)]
+#[derive(Drop)]
 struct Walk {
     marks: Vec<Mark>,
     left: usize,

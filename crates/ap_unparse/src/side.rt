@@ -1,7 +1,7 @@
 //! Where a goal stands in a text.
 
 /// By itself or behind `;`, on the left of `,` or `;`, or behind `,`.
-#[derive(Clone, Copy, Debug)]
+#[derive(Clone, Copy)]
 pub enum Side {
     Alone,
     OnLeft,

@@ -14,7 +14,7 @@ pub use reading::read;
 pub use table::{CommandName, OptionName};
 
 /// What the words ask for.
-#[derive(Clone, Copy, Debug, PartialEq, Eq)]
+#[derive(Clone, Copy, PartialEq, Eq)]
 pub enum Asked {
     /// Answer the queries of a text.
     Run {

@@ -12,7 +12,7 @@ use ap_defs::memory::Memory;
 use std::alloc::Global;
 
 /// An option, and the number that it is set to.
-#[derive(Clone, Copy, Debug)]
+#[derive(Clone, Copy)]
 pub(crate) struct Setting {
     pub(crate) option: OptionName,
     pub(crate) number: u64,

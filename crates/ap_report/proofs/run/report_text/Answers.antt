@@ -1,7 +1,7 @@
 use Rattle.std.proofs.Common.{subst}
 use Rattle.std.proofs.lemmas.Result.{IfOk-weaker}
 use Rattle.ap_defs.specs.Goals.{program_of}
-use Rattle.ap_report.specs.Texts.{IsRefusedText}
+use Rattle.ap_text.specs.Texts.{IsRefusedText}
 use Rattle.ap_report.specs.TextReport.{run_report}
 use Rattle.ap_report.proofs.Texts.{answered_report, refused_report, report_one}
 use Rattle.ap_report.proofs.run.report_text.Goals as goal

@@ -17,7 +17,7 @@ pub enum TextError {
 }
 
 impl From<LexError> for TextError {
-    ghost use Rattle.ap_report.specs.Texts.{of_tokens};
+    ghost use Rattle.ap_text.specs.Texts.{of_tokens};
 
     ghost from_gives = { λ e t. t ≡ of_tokens e };
 
@@ -30,7 +30,7 @@ impl From<LexError> for TextError {
 }
 
 impl From<SynError> for TextError {
-    ghost use Rattle.ap_report.specs.Texts.{of_items};
+    ghost use Rattle.ap_text.specs.Texts.{of_items};
 
     ghost from_gives = { λ e t. t ≡ of_items e };
 
@@ -43,7 +43,7 @@ impl From<SynError> for TextError {
 }
 
 impl From<TypeError> for TextError {
-    ghost use Rattle.ap_report.specs.Texts.{of_types};
+    ghost use Rattle.ap_text.specs.Texts.{of_types};
 
     ghost from_gives = { λ e t. t ≡ of_types e };
 
@@ -56,7 +56,7 @@ impl From<TypeError> for TextError {
 }
 
 impl From<NameError> for TextError {
-    ghost use Rattle.ap_report.specs.Texts.{of_names};
+    ghost use Rattle.ap_text.specs.Texts.{of_names};
 
     ghost from_gives = { λ e t. t ≡ of_names e };
 

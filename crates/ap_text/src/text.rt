@@ -2,7 +2,7 @@
 ghost use Rattle.std.specs.Prelude.{◌≤◌, IfOk, IfErr, length};
 ghost use Rattle.ap_defs.specs.Goals.{program_of};
 ghost use Rattle.ap_defs.specs.Limits.{size_limit};
-ghost use Rattle.ap_report.specs.Texts.{IsProgramOfText, IsRefusedText};
+ghost use Rattle.ap_text.specs.Texts.{IsProgramOfText, IsRefusedText};
 
 use crate::error::TextError;
 use ap_lexer::lex;

@@ -6,9 +6,9 @@ use Rattle.ap_lexer.specs.Tokens.{lexemes}
 use Rattle.ap_trees.specs.Trees.{items_of}
 use Rattle.ap_syntax.specs.Reading.{Reads}
 use Rattle.ap_typecheck.specs.Checking.{IsProgramOf}
-use Rattle.ap_report.specs.Texts.{HasItems}
-use Rattle.ap_report.proofs.Texts.{names_refused}
-use Rattle.ap_report.proofs.text.program_of_text.Goals as goal
+use Rattle.ap_text.specs.Texts.{HasItems}
+use Rattle.ap_text.proofs.Texts.{names_refused}
+use Rattle.ap_text.proofs.text.program_of_text.Goals as goal
 
 pub returns-in_err-restricted-clause-fault : goal.returns-in_err-restricted-clause-fault
 returns-in_err-restricted-clause-fault c =

@@ -22,8 +22,8 @@ use Rattle.ap_program.specs.CarryingOut.{carried_out_program}
 use Rattle.ap_program.specs.NameRestriction.{items_of, AllPass, IsNameFault}
 use Rattle.ap_restrict.specs.declared.errors.NameError.{NameError}
 use Rattle.ap_restrict.specs.declared.errors.NameError.TheVariants as names
-use Rattle.ap_report.specs.declared.error.TextError.{TextError}
-use Rattle.ap_report.specs.declared.error.TextError.TheVariants as errors
+use Rattle.ap_text.specs.declared.error.TextError.{TextError}
+use Rattle.ap_text.specs.declared.error.TextError.TheVariants as errors
 
 -- the text splits into tokens, and these are its items
 abbrev pub HasItems : List ℕ → List ItemOf → Type 0

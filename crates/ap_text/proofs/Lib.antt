@@ -1,0 +1,3 @@
+mod NameFaults
+mod TokenCounts
+pub mod Texts
