@@ -1,12 +1,10 @@
 -- The last of layers is innermost.
-use Rattle.std.proofs.Common.{◌≡◌, ◌≤◌, ◌+◌, ℕ, List, [], ◌∷◌, ◌++◌, refl, sym, ap, ◌∙◌, arith}
+use Rattle.std.proofs.Common.{◌≡◌, ◌+◌, ℕ, List, [], ◌∷◌, ◌++◌, refl, ap}
 use Rattle.ap_defs.specs.RawTerms as raw
 use Rattle.ap_defs.specs.RawTerms.{RawTerm}
 use Rattle.ap_defs.specs.Goals.{GoalOver, succeed, atom, equal, fresh, both, either, exists, new}
 use Rattle.ap_spines.specs.declared.RawLayer.{RawLayer}
-use Rattle.ap_spines.specs.declared.RawLayer.TheVariants as around_term
 use Rattle.ap_spines.specs.declared.GoalLayer.{GoalLayer}
-use Rattle.ap_spines.specs.declared.GoalLayer.TheVariants as around_goal
 use Rattle.ap_spines.specs.Spines.{raw_in, raw_within, goal_in, goal_within}
 
 pub raw_within_last : (ls : List RawLayer) (l : RawLayer) (t : RawTerm) → raw_within (ls ++ l ∷ []) t ≡ raw_within ls (raw_in l t)

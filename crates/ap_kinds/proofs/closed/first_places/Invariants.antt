@@ -1,5 +1,4 @@
 -- The places so far are those of holes.
-use Rattle.std.proofs.Common.{◌≤◌}
 use Rattle.ap_types.specs.Walking.{AreBelow}
 use Rattle.ap_kinds.proofs.closed.first_places.Given as goal
 
