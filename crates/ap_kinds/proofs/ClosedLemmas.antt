@@ -1,8 +1,7 @@
 -- Closed and declared shapes, by the table that they are read off.
-use Rattle.std.proofs.Common.{◌≡◌, ◌<◌, ◌≤◌, ◌⊎◌, ◌∙◌, ◌+◌, ℕ, zero, suc, Bool, true, false, ◌&&◌, ◌||◌, List, [], ◌∷◌, length, get_or, set, refl, sym, ap, subst, inl, inr, arith, Option, Some, None}
+use Rattle.std.proofs.Common.{◌≡◌, ◌<◌, ◌≤◌, ◌⊎◌, ◌∙◌, ◌+◌, ℕ, zero, suc, Bool, true, false, ◌&&◌, ◌||◌, List, length, get_or, refl, sym, ap, subst, inl, inr, arith}
 use Rattle.std.specs.Prelude.{◌==◌, not}
 use Rattle.std.proofs.lemmas.Bool.Decides.{eqb_tells}
-use Rattle.std.proofs.lemmas.List.{get_or-set_same, get_or-set_other}
 use Rattle.ap_defs.specs.Types.{TypeShape, hole, unit, names, base, pair, list, abs}
 use Rattle.ap_types.specs.declared.nodes.Node.{Node}
 use Rattle.ap_types.specs.declared.nodes.Node.TheVariants as nodes
@@ -13,7 +12,7 @@ use Rattle.ap_types.specs.Triangular.{layer_of, table_of, value_of, assignment_o
 use Rattle.ap_types.proofs.TableLemmas.{at_past, layer_at, length_table}
 use Rattle.ap_types.proofs.WalkLemmas.{weight, part_less, open_or_parts}
 use Rattle.ap_types.proofs.SettledLemmas.{open_value, past_value, length_values, value_at}
-use Rattle.ap_kinds.specs.Reading.{is_declared, is_closed, AllDeclared, SomeOpen, AreKnown, AreDeclaredPlaces}
+use Rattle.ap_kinds.specs.Reading.{is_declared, is_closed, AllDeclared, SomeOpen, AreDeclaredPlaces}
 
 below_or_past : (i j : ℕ) → (i < j) ⊎ (j ≤ i)
 below_or_past i j = grind arith
@@ -98,26 +97,6 @@ open_here ns x y l e same = open_value (table_of ns) x (sym (layer_at ns x l) �
 
 pub open_after : (ns : List Node) (x : ℕ) → length ns ≤ x → value_of (table_of ns) x ≡ hole x
 open_after ns x l = let long = length_table ns in past_value (table_of ns) x (omega arith)
-
--- what is known of a place
-pub known_there : (ts : List TypeShape) (known : List (Option Bool)) (x : ℕ) (b : Bool) (k : Option Bool) → x < length known → k ≡ get_or known x k → k ≡ Some b → AreKnown ts known → b ≡ is_closed (value_of ts x)
-known_there ts known x b k l e s h = h x b (any_default known x l ∙ sym e ∙ s)
-  where
-    any_default : (ks : List (Option Bool)) (y : ℕ) → y < length ks → get_or ks y None ≡ get_or ks y k
-    any_default [] y m = absurd (omega arith)
-    any_default (j ∷ ks) zero m = refl
-    any_default (j ∷ ks) (suc y) m = any_default ks y (omega arith)
-
-pub known_more : (ts : List TypeShape) (known : List (Option Bool)) (x : ℕ) (b : Bool) → x < length known → b ≡ is_closed (value_of ts x) → AreKnown ts known → AreKnown ts (set known x (Some b))
-known_more ts known x b l e h y c i = elim (eqb_tells y x) [
-  | inl w ↦
-      let put : get_or (set known x (Some b)) x None ≡ Some b = get_or-set_same known x (Some b) None l in
-      let at : get_or (set known x (Some b)) x None ≡ Some c = subst (λ z. get_or (set known x (Some b)) z None ≡ Some c) w.1 i in
-      let same : Some b ≡ Some c = sym put ∙ at in
-      let eq : b ≡ c = cc in
-      subst (λ z. c ≡ is_closed (value_of ts z)) (sym w.1) (sym eq ∙ e)
-  | inr w ↦ h y c (sym (get_or-set_other known x y (Some b) None w.1) ∙ i)
-]
 
 pub not_closed : (b : Bool) → not b ≡ true → b ≡ false
 not_closed true e = cc

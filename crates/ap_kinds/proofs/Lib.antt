@@ -1,3 +1,4 @@
+pub mod LayerLemmas
 pub mod Lookups
 pub mod Walks
 pub mod Assignments
@@ -15,3 +16,4 @@ pub mod Findings
 pub mod SolvedLemmas
 pub mod InhabitedLemmas
 pub mod ClosedLemmas
+pub mod OpenLemmas

@@ -142,6 +142,16 @@ abbrev pub inside_abstraction : ℕ → Wanting → EquationSystem → Inside
 inside_abstraction n (whole (abs l b)) s = record { want = whole b; system = equate l (hole n) s }
 inside_abstraction n w s = new_body n w s
 
+-- the binder's hole and what is wanted of the body
+abbrev pub inside_place : Wanting → Place → Inside
+inside_place w p = inside_abstraction p.hole w p.system
+
+abbrev pub inside_binder : List IdentKind → Id → Inside → Inside
+inside_binder idents i at = inside_place at.want (name_place idents i at.system)
+
+abbrev pub inside_swapping : List IdentKind → Id → Id → Inside → Inside
+inside_swapping idents i j at = record { want = at.want; system = meet_swapped at.want (one_sort idents i j at.system) }
+
 abbrev pub gather_term : List NominalConstructor → List IdentKind → RawTerm → Wanting → EquationSystem → EquationSystem
 gather_term cs idents raw.unit w s = meet_unit w s
 gather_term cs idents (raw.name a) w s = meet_name idents a.num w s
@@ -154,6 +164,13 @@ gather_term cs idents (raw.abs i t) w s =
     gather_term cs idents t (inside_abstraction (name_place idents i s).hole w (name_place idents i s).system).want
     (inside_abstraction (name_place idents i s).hole w (name_place idents i s).system).system
 gather_term cs idents (raw.swapped i j t) w s = gather_term cs idents t w (meet_swapped w (one_sort idents i j s))
+
+-- what is wanted of the right side of a pair, with the equations of its left side
+abbrev pub right_of_pair : List NominalConstructor → List IdentKind → RawTerm → Inside → Inside
+right_of_pair cs idents t at = record {
+  want = (sides at.want at.system).right;
+  system = gather_term cs idents t (sides at.want at.system).left (sides at.want at.system).system;
+}
 
 -- terms with types, one each
 abbrev pub gather_terms : List NominalConstructor → List IdentKind → List RawTerm → List NominalType → EquationSystem → EquationSystem

@@ -2,5 +2,6 @@ pub mod Sorts
 pub mod ItemKinds
 pub mod Reading
 pub mod Systems
+pub mod Layers
 pub mod Gathering
 pub mod Views

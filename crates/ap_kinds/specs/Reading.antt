@@ -1,5 +1,5 @@
 -- Kinds that are read off the shapes of holes.
-use Rattle.std.specs.Prelude.{◌≡◌, ◌<◌, ◌↔◌, ℕ, ◌+◌, Bool, true, false, ◌&&◌, ◌⊎◌, nat_lt, List, [], ◌∷◌, length, slice_index_or, Option, None, Some}
+use Rattle.std.specs.Prelude.{◌≡◌, ◌<◌, ◌↔◌, ℕ, ◌+◌, Bool, true, false, ◌&&◌, ◌⊎◌, nat_lt, List, [], ◌∷◌, length}
 use Rattle.ap_defs.specs.Types.{NominalType, NominalKind, NominalSignature, TypeShape, hole, unit, names, base, pair, list, abs, name, var}
 use Rattle.ap_defs.specs.Types as types
 use Rattle.ap_types.specs.Equations.{Filling, GivesNames, IsSolution, IsInstance}
@@ -114,9 +114,10 @@ IsUnsolved errors.Memory sig s = Unit {0}
 abbrev pub IsNotFound : KindsError → NominalSignature → List IdentKind → EquationSystem → Type 0
 IsNotFound e sig idents s = IsUnsolved e sig s ⊎ ((ts : List TypeShape) × IsSolved (name_count sig) s ts × IsUnread e sig idents ts)
 
--- what is known of places is right
-abbrev pub AreKnown : List TypeShape → List (Option Bool) → Type 0
-AreKnown ts known = (x : ℕ) (b : Bool) → slice_index_or known x None ≡ Some b → b ≡ is_closed (value_of ts x)
+-- one of the places is open
+abbrev pub SomeOpenPlace : List TypeShape → List ℕ → Type 0
+SomeOpenPlace ts [] = ⊥
+SomeOpenPlace ts (x ∷ xs) = (is_closed (value_of ts x) ≡ false) ⊎ SomeOpenPlace ts xs
 
 -- each place of the table is declared
 abbrev pub AreDeclaredPlaces : ℕ → ℕ → List TypeShape → Type 0

@@ -1,10 +1,11 @@
 //! Whether the shapes of holes are closed, by the table that they are read off. Each place is looked at
 //! once, so it costs as much as the table is long, where the shapes written out may be exponentially
-//! larger.
+//! larger. Places that are still to be looked at wait in a list, however deep they stand.
 
-ghost use Rattle.std.specs.Prelude.{◌≡◌, ◌≤◌, true, false, length, IfOk};
+ghost use Rattle.std.specs.Prelude.{◌≡◌, ◌<◌, ◌≤◌, ◌+◌, ◌++◌, ◌∷◌, [], true, false, length, IfOk, OnOk};
 ghost use Rattle.ap_types.specs.Triangular.{layer_of, table_of, value_of, assignment_of, IsSettled};
-ghost use Rattle.ap_kinds.specs.Reading.{is_declared, is_sort, is_closed, AllDeclared, SomeOpen, AreKnown, AreDeclaredPlaces, IsAmbiguous};
+ghost use Rattle.ap_types.specs.Walking.{AreBelow};
+ghost use Rattle.ap_kinds.specs.Reading.{is_declared, is_sort, is_closed, AllDeclared, SomeOpen, SomeOpenPlace, AreDeclaredPlaces, IsAmbiguous};
 
 use ap_defs::memory::Memory;
 use ap_types::nodes::Node;
@@ -16,74 +17,88 @@ fn is_sort_in(nodes: &[Node], x: usize) -> bool
     requires { IsSettled (table_of nodes.now) }
     ensures { result ≡ is_sort (value_of (table_of nodes.now) x) }
 {
-    if x >= nodes.len() {
-        return false;
-    }
-    match nodes[x] {
-        Node::Place(y) => {
-            if y == x {
-                return false;
-            }
-            is_sort_in(nodes, y)
+    let mut at = x;
+    loop {
+        if at >= nodes.len() {
+            return false;
         }
-        Node::Names(_) => true,
-        _ => false,
+        match nodes[at] {
+            Node::Place(y) => {
+                if y == at {
+                    return false;
+                }
+                at = y;
+            }
+            Node::Names(_) => return true,
+            _ => return false,
+        }
     }
 }
 
-/// Whether the shape of a place is closed, by what stands there.
-#[cycle(closed)]
-fn is_closed_by(nodes: &[Node], known: &mut Vec<Option<bool>>, x: usize) -> bool
+/// Whether a place is closed if its parts are, which are to be looked at.
+fn add_parts(nodes: &[Node], x: usize, places: &mut Vec<usize>) -> Result<bool, Memory>
     requires settled { IsSettled (table_of nodes.now) }
-    requires known { AreKnown (table_of nodes.now) known.old.items }
-    ensures closed { result ≡ is_closed (value_of (table_of nodes.now) x) }
-    ensures known { AreKnown (table_of nodes.now) known.new.items }
+    requires within { x < length nodes.now }
+    ensures closed { IfOk result (λ b. b ≡ false → is_closed (value_of (table_of nodes.now) x) ≡ false) }
+    ensures parts { OnOk result (SomeOpenPlace (table_of nodes.now) places.new.items → SomeOpenPlace (table_of nodes.now) (places.old.items ++ x ∷ [])) }
+    ensures few { OnOk result (length places.new.items ≤ length places.old.items + 2) }
 {
-    if x >= nodes.len() {
-        return false;
-    }
     match nodes[x] {
         Node::Place(y) => {
             if y == x {
-                return false;
+                return Ok(false);
             }
-            is_closed_in(nodes, known, y)
+            places.push(y)?;
+            Ok(true)
         }
-        Node::Unit | Node::Names(_) | Node::Base(_) => true,
+        Node::Unit | Node::Names(_) | Node::Base(_) => Ok(true),
+        Node::List(y) => {
+            places.push(y)?;
+            Ok(true)
+        }
         Node::Pair(y, z) => {
-            if !is_closed_in(nodes, known, y) {
-                return false;
-            }
-            is_closed_in(nodes, known, z)
+            places.push(y)?;
+            places.push(z)?;
+            Ok(true)
         }
-        Node::List(y) => is_closed_in(nodes, known, y),
         Node::Abs(y, z) => {
-            if !is_sort_in(nodes, y) {
-                return false;
-            }
-            is_closed_in(nodes, known, z)
+            places.push(z)?;
+            Ok(is_sort_in(nodes, y))
         }
     }
 }
 
-/// Whether the shape of a place is closed. What is found is kept.
-#[cycle(closed)]
-fn is_closed_in(nodes: &[Node], known: &mut Vec<Option<bool>>, x: usize) -> bool
-    requires settled { IsSettled (table_of nodes.now) }
-    requires known { AreKnown (table_of nodes.now) known.old.items }
-    ensures closed { result ≡ is_closed (value_of (table_of nodes.now) x) }
-    ensures known { AreKnown (table_of nodes.now) known.new.items }
+/// Whether each of some places is closed, by the table. Each place that stands in them is looked at once.
+fn are_closed_places(alloc: Global, nodes: &[Node], places: Vec<usize>) -> Result<bool, Memory>
+    requires { IsSettled (table_of nodes.now) }
+    ensures { IfOk result (λ b. b ≡ false → SomeOpenPlace (table_of nodes.now) places.items) }
 {
-    if x < known.len() {
-        if let Some(closed) = known[x] {
-            return closed;
+    let mut seen = vec![in alloc; false; nodes.len()]?;
+    let mut waiting = places;
+    while let Some(x) = waiting.pop() {
+        if x >= nodes.len() {
+            return Ok(false);
+        }
+        if seen[x] {
+            continue;
+        }
+        seen[x] = true;
+        if !add_parts(nodes, x, &mut waiting)? {
+            return Ok(false);
         }
     }
-    let closed = is_closed_by(nodes, known, x);
-    if x < known.len() {
-        known[x] = Some(closed);
+    Ok(true)
+}
+
+/// The places of the first holes.
+fn first_places(alloc: Global, count: usize) -> Result<Vec<usize>, Memory>
+    ensures { IfOk result (λ v. AreBelow count v.items) }
+{
+    let mut places = Vec::new(alloc);
+    for x in 0..count {
+        places.push(x)?;
     }
-    closed
+    Ok(places)
 }
 
 /// Whether the shapes of the first holes are closed.
@@ -91,16 +106,11 @@ fn are_closed_in(alloc: Global, table: &Solved, count: usize) -> Result<bool, Me
     requires { IsSettled (table_of table.now.nodes.items) }
     ensures { IfOk result (λ b. b ≡ false → SomeOpen count (assignment_of table.now)) }
 {
-    let mut known = vec![in alloc; None; table.nodes.len()]?;
-    for x in 0..count {
-        if x >= table.holes {
-            return Ok(false);
-        }
-        if !is_closed_in(table.nodes.as_slice(), &mut known, x) {
-            return Ok(false);
-        }
+    if count > table.holes {
+        return Ok(false);
     }
-    Ok(true)
+    let places = first_places(alloc, count)?;
+    are_closed_places(alloc, table.nodes.as_slice(), places)
 }
 
 /// Whether what stands at a place is declared.

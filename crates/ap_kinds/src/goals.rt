@@ -9,7 +9,8 @@ ghost use Rattle.ap_kinds.specs.Gathering.{gather_terms, gather_atom, gather_equ
 ghost use Rattle.ap_program.specs.Typed.{predicate_at};
 
 use crate::kinds::IdentKind;
-use crate::systems::{System, is_name_at, is_var_at, opened, refused, with_hole, with_name};
+use crate::shapes::opened;
+use crate::systems::{System, is_name_at, is_var_at, refused, with_hole, with_name};
 use crate::terms::gather_term;
 use crate::wants::Wanted;
 use ap_defs::goals::{Constructor, Goal, Signature};
@@ -131,6 +132,9 @@ fn unless_refused(holds: bool, system: System) -> Result<System, Memory>
 }
 
 /// The system with the equations of a goal.
+///
+/// It goes on along what is right of `,` and `;` and inside `exists` and `new`, and calls itself on what
+/// is left of them alone.
 pub(crate) fn gather_goal(
     alloc: Global,
     sig: &Signature,
@@ -141,22 +145,32 @@ pub(crate) fn gather_goal(
     ensures { IfOk result (λ s. system_of s ≡ gather_goal (signature_of sig.now) idents.now (goal_over raw_of goal.now) (system_of system)) }
 {
     let constructors = sig.constructors.items();
-    match goal {
-        Goal::True => Ok(system),
-        Goal::Atom(pred, terms) => { gather_atom(alloc, sig, idents, *pred, terms.items(), system) }
-        Goal::Equal(t, u) => gather_equal(alloc, constructors, idents, t, u, system),
-        Goal::Fresh(t, u) => gather_fresh(alloc, constructors, idents, t, u, system),
-        Goal::Both(left, right) | Goal::Either(left, right) => {
-            let system = gather_goal(alloc, sig, idents, left, system)?;
-            gather_goal(alloc, sig, idents, right, system)
-        }
-        Goal::Exists(x, inner) => {
-            let system = unless_refused(is_var_at(idents, x.num), system)?;
-            gather_goal(alloc, sig, idents, inner, system)
-        }
-        Goal::New(a, inner) => {
-            let system = unless_refused(is_name_at(idents, a.num), system)?;
-            gather_goal(alloc, sig, idents, inner, system)
+    let mut gathered = system;
+    let mut rest = goal;
+    loop {
+        match rest {
+            Goal::True => return Ok(gathered),
+            Goal::Atom(pred, terms) => {
+                return gather_atom(alloc, sig, idents, *pred, terms.items(), gathered);
+            }
+            Goal::Equal(t, u) => return gather_equal(alloc, constructors, idents, t, u, gathered),
+            Goal::Fresh(t, u) => return gather_fresh(alloc, constructors, idents, t, u, gathered),
+            Goal::Both(left, right) => {
+                gathered = gather_goal(alloc, sig, idents, left, gathered)?;
+                rest = right;
+            }
+            Goal::Either(left, right) => {
+                gathered = gather_goal(alloc, sig, idents, left, gathered)?;
+                rest = right;
+            }
+            Goal::Exists(x, inner) => {
+                gathered = unless_refused(is_var_at(idents, x.num), gathered)?;
+                rest = inner;
+            }
+            Goal::New(a, inner) => {
+                gathered = unless_refused(is_name_at(idents, a.num), gathered)?;
+                rest = inner;
+            }
         }
     }
 }

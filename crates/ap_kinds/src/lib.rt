@@ -11,6 +11,7 @@ mod inside;
 mod kinds;
 mod places;
 mod reading;
+mod shapes;
 mod sorts;
 mod systems;
 mod terms;

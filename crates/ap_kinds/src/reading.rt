@@ -11,6 +11,7 @@ use crate::errors::KindsError;
 use crate::kinds::IdentKind;
 use ap_defs::goals::{Kind, Signature};
 use ap_defs::memory::Memory;
+use ap_defs::spines::{TypeLayer, close_type};
 use ap_defs::terms::{Shape, Ty};
 use ap_types::inhabitants::{Inhabitants, is_inhabited};
 use std::alloc::Global;
@@ -19,14 +20,20 @@ use std::alloc::Global;
 fn is_declared(name_types: usize, data_types: usize, t: &Shape) -> bool
     ensures { result ≡ is_declared name_types data_types (shape_of t.now) }
 {
-    match t {
-        Shape::Hole(_) | Shape::Unit => true,
-        Shape::Names(sort) => (*sort as usize) < name_types,
-        Shape::Base(data) => (*data as usize) < data_types,
-        Shape::Pair(left, right) | Shape::Abs(left, right) => {
-            is_declared(name_types, data_types, left) && is_declared(name_types, data_types, right)
+    let mut rest = t;
+    loop {
+        match rest {
+            Shape::Hole(_) | Shape::Unit => return true,
+            Shape::Names(sort) => return (*sort as usize) < name_types,
+            Shape::Base(data) => return (*data as usize) < data_types,
+            Shape::Pair(left, right) | Shape::Abs(left, right) => {
+                if !is_declared(name_types, data_types, left) {
+                    return false;
+                }
+                rest = right;
+            }
+            Shape::List(element) => rest = element,
         }
-        Shape::List(element) => is_declared(name_types, data_types, element),
     }
 }
 
@@ -44,12 +51,25 @@ fn is_sort(t: &Shape) -> bool
 fn is_closed(t: &Shape) -> bool
     ensures { result ≡ is_closed (shape_of t.now) }
 {
-    match t {
-        Shape::Hole(_) => false,
-        Shape::Unit | Shape::Names(_) | Shape::Base(_) => true,
-        Shape::Pair(left, right) => is_closed(left) && is_closed(right),
-        Shape::List(element) => is_closed(element),
-        Shape::Abs(left, body) => is_sort(left) && is_closed(body),
+    let mut rest = t;
+    loop {
+        match rest {
+            Shape::Hole(_) => return false,
+            Shape::Unit | Shape::Names(_) | Shape::Base(_) => return true,
+            Shape::Pair(left, right) => {
+                if !is_closed(left) {
+                    return false;
+                }
+                rest = right;
+            }
+            Shape::List(element) => rest = element,
+            Shape::Abs(left, body) => {
+                if !is_sort(left) {
+                    return false;
+                }
+                rest = body;
+            }
+        }
     }
 }
 
@@ -104,25 +124,32 @@ fn sort_in_shape(t: &Shape) -> u32
 }
 
 /// The type that a closed shape is.
+///
+/// It goes on along the right part of a pair, the elements of a list and the body of an abstraction, and
+/// calls itself on left parts of pairs alone.
+#[tactic(auto, using(ap_defs::proofs::SpineLemmas::type_within_last))]
 fn read_type(alloc: Global, t: &Shape) -> Result<Ty, Memory>
     ensures { IfOk result (λ u. type_of u ≡ read_type (shape_of t.now)) }
 {
-    match t {
-        Shape::Hole(_) | Shape::Unit => Ok(Ty::Unit),
-        Shape::Names(sort) => Ok(Ty::Names(*sort)),
-        Shape::Base(data) => Ok(Ty::Base(*data)),
-        Shape::Pair(left, right) => {
-            let left = Box::new(alloc, read_type(alloc, left)?)?;
-            let right = Box::new(alloc, read_type(alloc, right)?)?;
-            Ok(Ty::Pair(left, right))
-        }
-        Shape::List(element) => {
-            let element = Box::new(alloc, read_type(alloc, element)?)?;
-            Ok(Ty::List(element))
-        }
-        Shape::Abs(left, body) => {
-            let body = Box::new(alloc, read_type(alloc, body)?)?;
-            Ok(Ty::Abs(sort_in_shape(left), body))
+    let mut layers = Vec::new(alloc);
+    let mut rest = t;
+    loop {
+        match rest {
+            Shape::Hole(_) | Shape::Unit => return close_type(alloc, layers, Ty::Unit),
+            Shape::Names(sort) => return close_type(alloc, layers, Ty::Names(*sort)),
+            Shape::Base(data) => return close_type(alloc, layers, Ty::Base(*data)),
+            Shape::Pair(left, right) => {
+                layers.push(TypeLayer::Left(read_type(alloc, left)?))?;
+                rest = right;
+            }
+            Shape::List(element) => {
+                layers.push(TypeLayer::List)?;
+                rest = element;
+            }
+            Shape::Abs(left, body) => {
+                layers.push(TypeLayer::Abs(sort_in_shape(left)))?;
+                rest = body;
+            }
         }
     }
 }

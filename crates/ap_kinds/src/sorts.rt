@@ -4,13 +4,14 @@ ghost use Rattle.std.specs.Prelude.{◌≡◌, map, IfOk, MatchOption, Some, Non
 ghost use Rattle.ap_defs.specs.RawTerms.{raw_of};
 ghost use Rattle.ap_defs.specs.Types.{kind_of};
 ghost use Rattle.ap_defs.specs.Answers.{kind_at};
-ghost use Rattle.ap_defs.specs.Goals.{goal_over};
+ghost use Rattle.ap_defs.specs.Goals.{goal_over, equal, fresh};
 ghost use Rattle.ap_kinds.specs.Sorts.{name_with_sort, id_with_sort, with_sorts, terms_with_sorts, goal_with_sorts};
 
 use ap_defs::goals::{Goal, Kind};
 use ap_defs::lists::List;
 use ap_defs::memory::Memory;
 use ap_defs::terms::{Id, Name, Raw};
+use ap_spines::{GoalLayer, RawLayer, close_goal, close_raw};
 use std::alloc::Global;
 
 /// The kind with a number.
@@ -49,29 +50,39 @@ fn id_with_sort(kinds: &[Kind], ident: Id) -> Id
 }
 
 /// A term whose names have the sorts of their kinds.
+///
+/// It goes on along the right part of a pair, the argument of a constructor, the body of an abstraction
+/// and what is swapped, and calls itself on left parts of pairs alone.
+#[tactic(auto, using(ap_spines::proofs::SpineLemmas::raw_within_last))]
 fn with_sorts(alloc: Global, kinds: &[Kind], t: &Raw) -> Result<Raw, Memory>
     ensures { IfOk result (λ u. raw_of u ≡ with_sorts (map kind_of kinds.now) (raw_of t.now)) }
 {
-    match t {
-        Raw::Unit => Ok(Raw::Unit),
-        Raw::Name(a) => Ok(Raw::Name(name_with_sort(kinds, *a))),
-        Raw::Var(x) => Ok(Raw::Var(*x)),
-        Raw::Pair(left, right) => {
-            let left = Box::new(alloc, with_sorts(alloc, kinds, left)?)?;
-            let right = Box::new(alloc, with_sorts(alloc, kinds, right)?)?;
-            Ok(Raw::Pair(left, right))
-        }
-        Raw::App(f, argument) => {
-            let argument = Box::new(alloc, with_sorts(alloc, kinds, argument)?)?;
-            Ok(Raw::App(*f, argument))
-        }
-        Raw::Abs(i, body) => {
-            let body = Box::new(alloc, with_sorts(alloc, kinds, body)?)?;
-            Ok(Raw::Abs(id_with_sort(kinds, *i), body))
-        }
-        Raw::Swapped(i, j, body) => {
-            let body = Box::new(alloc, with_sorts(alloc, kinds, body)?)?;
-            Ok(Raw::Swapped(id_with_sort(kinds, *i), id_with_sort(kinds, *j), body))
+    let mut layers = Vec::new(alloc);
+    let mut rest = t;
+    loop {
+        match rest {
+            Raw::Unit => return close_raw(alloc, layers, Raw::Unit),
+            Raw::Name(a) => {
+                return close_raw(alloc, layers, Raw::Name(name_with_sort(kinds, *a)));
+            }
+            Raw::Var(x) => return close_raw(alloc, layers, Raw::Var(*x)),
+            Raw::Pair(left, right) => {
+                layers.push(RawLayer::Left(with_sorts(alloc, kinds, left)?))?;
+                rest = right;
+            }
+            Raw::App(f, argument) => {
+                layers.push(RawLayer::App(*f))?;
+                rest = argument;
+            }
+            Raw::Abs(i, body) => {
+                layers.push(RawLayer::Abs(id_with_sort(kinds, *i)))?;
+                rest = body;
+            }
+            Raw::Swapped(i, j, body) => {
+                let layer = RawLayer::Swapped(id_with_sort(kinds, *i), id_with_sort(kinds, *j));
+                layers.push(layer)?;
+                rest = body;
+            }
         }
     }
 }
@@ -87,46 +98,66 @@ pub fn terms_with_sorts(alloc: Global, kinds: &[Kind], terms: &[Raw]) -> Result<
     Ok(List::of(sorted))
 }
 
+/// `t = u`, whose names have the sorts of their kinds.
+fn equal_with_sorts(alloc: Global, kinds: &[Kind], t: &Raw, u: &Raw) -> Result<Goal<Raw>, Memory>
+    ensures { IfOk result (λ g. goal_over raw_of g ≡ goal_with_sorts (map kind_of kinds.now) (equal (raw_of t.now) (raw_of u.now))) }
+{
+    let left = with_sorts(alloc, kinds, t)?;
+    let right = with_sorts(alloc, kinds, u)?;
+    Ok(Goal::Equal(left, right))
+}
+
+/// `t # u`, whose names have the sorts of their kinds.
+fn fresh_with_sorts(alloc: Global, kinds: &[Kind], t: &Raw, u: &Raw) -> Result<Goal<Raw>, Memory>
+    ensures { IfOk result (λ g. goal_over raw_of g ≡ goal_with_sorts (map kind_of kinds.now) (fresh (raw_of t.now) (raw_of u.now))) }
+{
+    let left = with_sorts(alloc, kinds, t)?;
+    let right = with_sorts(alloc, kinds, u)?;
+    Ok(Goal::Fresh(left, right))
+}
+
 /// A goal whose names have the sorts of their kinds.
 ///
 /// Each name whose number is that of a name among the kinds has its sort, and all else stays. `Err` is
-/// want of memory.
+/// want of memory. It goes on along what is right of `,` and `;` and inside `exists` and `new`, and calls
+/// itself on what is left of them alone.
+#[tactic(auto, using(ap_spines::proofs::SpineLemmas::goal_within_last))]
 pub fn goal_with_sorts(alloc: Global, kinds: &[Kind], goal: &Goal<Raw>) -> Result<Goal<Raw>, Memory>
     ensures { IfOk result (λ g. goal_over raw_of g ≡ goal_with_sorts (map kind_of kinds.now) (goal_over raw_of goal.now)) }
 {
-    match goal {
-        Goal::True => Ok(Goal::True),
-        Goal::Atom(pred, terms) => {
-            let terms = terms_with_sorts(alloc, kinds, terms.items())?;
-            Ok(Goal::Atom(*pred, terms))
-        }
-        Goal::Equal(t, u) => {
-            let left = with_sorts(alloc, kinds, t)?;
-            let right = with_sorts(alloc, kinds, u)?;
-            Ok(Goal::Equal(left, right))
-        }
-        Goal::Fresh(t, u) => {
-            let left = with_sorts(alloc, kinds, t)?;
-            let right = with_sorts(alloc, kinds, u)?;
-            Ok(Goal::Fresh(left, right))
-        }
-        Goal::Both(left, right) => {
-            let left = Box::new(alloc, goal_with_sorts(alloc, kinds, left)?)?;
-            let right = Box::new(alloc, goal_with_sorts(alloc, kinds, right)?)?;
-            Ok(Goal::Both(left, right))
-        }
-        Goal::Either(left, right) => {
-            let left = Box::new(alloc, goal_with_sorts(alloc, kinds, left)?)?;
-            let right = Box::new(alloc, goal_with_sorts(alloc, kinds, right)?)?;
-            Ok(Goal::Either(left, right))
-        }
-        Goal::Exists(x, inner) => {
-            let inner = Box::new(alloc, goal_with_sorts(alloc, kinds, inner)?)?;
-            Ok(Goal::Exists(*x, inner))
-        }
-        Goal::New(a, inner) => {
-            let inner = Box::new(alloc, goal_with_sorts(alloc, kinds, inner)?)?;
-            Ok(Goal::New(name_with_sort(kinds, *a), inner))
+    let mut layers = Vec::new(alloc);
+    let mut rest = goal;
+    loop {
+        match rest {
+            Goal::True => return close_goal(alloc, layers, Goal::True),
+            Goal::Atom(pred, terms) => {
+                let terms = terms_with_sorts(alloc, kinds, terms.items())?;
+                return close_goal(alloc, layers, Goal::Atom(*pred, terms));
+            }
+            Goal::Equal(t, u) => {
+                let equal = equal_with_sorts(alloc, kinds, t, u)?;
+                return close_goal(alloc, layers, equal);
+            }
+            Goal::Fresh(t, u) => {
+                let fresh = fresh_with_sorts(alloc, kinds, t, u)?;
+                return close_goal(alloc, layers, fresh);
+            }
+            Goal::Both(left, right) => {
+                layers.push(GoalLayer::Both(goal_with_sorts(alloc, kinds, left)?))?;
+                rest = right;
+            }
+            Goal::Either(left, right) => {
+                layers.push(GoalLayer::Either(goal_with_sorts(alloc, kinds, left)?))?;
+                rest = right;
+            }
+            Goal::Exists(x, inner) => {
+                layers.push(GoalLayer::Exists(*x))?;
+                rest = inner;
+            }
+            Goal::New(a, inner) => {
+                layers.push(GoalLayer::New(name_with_sort(kinds, *a)))?;
+                rest = inner;
+            }
         }
     }
 }

@@ -1,12 +1,12 @@
 //! Systems of type equations, as they grow.
 
 ghost use Rattle.std.specs.Prelude.{◌≡◌, ℕ, ◌+◌, ◌++◌, ◌∷◌, [], length, IfOk};
-ghost use Rattle.ap_defs.specs.Types.{shape_of, type_of};
-ghost use Rattle.ap_kinds.specs.Systems.{system_of, equate, with_name, with_hole, refused, opened, is_name_at, is_var_at, name_holes, started};
+ghost use Rattle.ap_defs.specs.Types.{shape_of};
+ghost use Rattle.ap_kinds.specs.Systems.{system_of, equate, with_name, with_hole, refused, is_name_at, is_var_at, name_holes, started};
 
 use crate::kinds::IdentKind;
 use ap_defs::memory::Memory;
-use ap_defs::terms::{Shape, Ty};
+use ap_defs::terms::Shape;
 use std::alloc::Global;
 
 /// Type equations, the holes that must be name types, and the number of the next hole.
@@ -76,31 +76,6 @@ pub(crate) fn refused(system: System) -> Result<System, Memory>
     ensures { IfOk result (λ s. system_of s ≡ refused (system_of system)) }
 {
     equate(system, Shape::Unit, Shape::Names(0))
-}
-
-/// A type as a shape without holes.
-pub(crate) fn opened(alloc: Global, t: &Ty) -> Result<Shape, Memory>
-    ensures { IfOk result (λ s. shape_of s ≡ opened (type_of t.now)) }
-{
-    match t {
-        Ty::Unit => Ok(Shape::Unit),
-        Ty::Names(sort) => Ok(Shape::Names(*sort)),
-        Ty::Base(data) => Ok(Shape::Base(*data)),
-        Ty::Pair(left, right) => {
-            let left = Box::new(alloc, opened(alloc, left)?)?;
-            let right = Box::new(alloc, opened(alloc, right)?)?;
-            Ok(Shape::Pair(left, right))
-        }
-        Ty::List(element) => {
-            let element = Box::new(alloc, opened(alloc, element)?)?;
-            Ok(Shape::List(element))
-        }
-        Ty::Abs(sort, body) => {
-            let sort = Box::new(alloc, Shape::Names(*sort))?;
-            let body = Box::new(alloc, opened(alloc, body)?)?;
-            Ok(Shape::Abs(sort, body))
-        }
-    }
 }
 
 /// Whether a number is that of an identifier that is a name.

@@ -4,17 +4,18 @@ ghost use Rattle.std.specs.Prelude.{◌≡◌, map, IfOk};
 ghost use Rattle.ap_defs.specs.RawTerms.{raw_of};
 ghost use Rattle.ap_defs.specs.Types.{shape_of, constructor_of};
 ghost use Rattle.ap_kinds.specs.Systems.{system_of};
-ghost use Rattle.ap_kinds.specs.Gathering.{wanting_of, whole, new_sides, sides, gather_term};
-ghost use Rattle.ap_kinds.specs.Views.{sides_of};
+ghost use Rattle.ap_kinds.specs.Gathering.{wanting_of, whole, new_sides, sides, right_of_pair, inside_binder, inside_swapping, gather_term};
+ghost use Rattle.ap_kinds.specs.Views.{sides_of, inside_of};
 
 use crate::inside::{Inside, inside_abstraction, inside_application};
 use crate::kinds::IdentKind;
-use crate::places::{Place, name_place, one_sort};
-use crate::systems::{System, equate, opened, refused, with_hole};
+use crate::places::{name_place, one_sort};
+use crate::shapes::opened;
+use crate::systems::{System, equate, refused, with_hole};
 use crate::wants::{Wanted, meet_name, meet_swapped, meet_unit, meet_var, wanted_all};
 use ap_defs::goals::Constructor;
 use ap_defs::memory::Memory;
-use ap_defs::terms::{Raw, Shape};
+use ap_defs::terms::{Id, Raw, Shape};
 use std::alloc::Global;
 
 /// What is wanted of the two sides of a pair.
@@ -84,7 +85,67 @@ fn pair_sides<'a>(alloc: Global, want: Wanted<'a>, system: System) -> Result<Sid
     }
 }
 
+/// What is wanted of the right side of a pair, and the system with the equations of its left side.
+#[cycle(terms)]
+fn right_of_pair<'a>(
+    alloc: Global,
+    constructors: &'a [Constructor],
+    idents: &[IdentKind],
+    left: &Raw,
+    at: Inside<'a>,
+) -> Result<Inside<'a>, Memory>
+    ensures { IfOk result (λ b. inside_of b ≡ right_of_pair (map constructor_of constructors.now) idents.now (raw_of left.now) (inside_of at.entry)) }
+{
+    let wanted = pair_sides(alloc, at.want, at.system)?;
+    let system = gather_term(
+        alloc,
+        constructors,
+        idents,
+        left,
+        wanted.left,
+        wanted.system,
+    )?;
+    Ok(Inside {
+        want: wanted.right,
+        system,
+    })
+}
+
+/// What is wanted of the body of an abstraction with a binder.
+fn inside_binder<'a>(
+    alloc: Global,
+    idents: &[IdentKind],
+    binder: Id,
+    at: Inside<'a>,
+) -> Result<Inside<'a>, Memory>
+    ensures { IfOk result (λ b. inside_of b ≡ inside_binder idents.now binder (inside_of at.entry)) }
+{
+    let place = name_place(idents, binder, at.system)?;
+    inside_abstraction(alloc, place.hole, at.want, place.system)
+}
+
+/// What is wanted of the term that is swapped.
+fn inside_swapping<'a>(
+    idents: &[IdentKind],
+    i: Id,
+    j: Id,
+    at: Inside<'a>,
+) -> Result<Inside<'a>, Memory>
+    ensures { IfOk result (λ b. inside_of b ≡ inside_swapping idents.now i j (inside_of at.entry)) }
+{
+    let system = one_sort(idents, i, j, at.system)?;
+    let system = meet_swapped(&at.want, system)?;
+    Ok(Inside {
+        want: at.want,
+        system,
+    })
+}
+
 /// The system with the equations of a term, of which something is wanted.
+///
+/// It goes on along the right part of a pair, the argument of a constructor, the body of an abstraction
+/// and what is swapped, and comes to itself on left parts of pairs alone.
+#[cycle(terms)]
 pub(crate) fn gather_term<'a>(
     alloc: Global,
     constructors: &'a [Constructor],
@@ -95,38 +156,29 @@ pub(crate) fn gather_term<'a>(
 ) -> Result<System, Memory>
     ensures { IfOk result (λ s. system_of s ≡ gather_term (map constructor_of constructors.now) idents.now (raw_of t.now) (wanting_of want.entry) (system_of system)) }
 {
-    match t {
-        Raw::Unit => meet_unit(want, system),
-        Raw::Name(a) => meet_name(idents, a.num, want, system),
-        Raw::Var(x) => meet_var(idents, x.num, want, system),
-        Raw::Pair(t, u) => {
-            let Sides {
-                left,
-                right,
-                system,
-            } = pair_sides(alloc, want, system)?;
-            let system = gather_term(alloc, constructors, idents, t, left, system)?;
-            gather_term(alloc, constructors, idents, u, right, system)
-        }
-        Raw::App(f, argument) => {
-            let Inside { want, system } = inside_application(
-                alloc,
-                constructors,
-                *f,
-                want,
-                system,
-            )?;
-            gather_term(alloc, constructors, idents, argument, want, system)
-        }
-        Raw::Abs(i, body) => {
-            let Place { hole, system } = name_place(idents, *i, system)?;
-            let Inside { want, system } = inside_abstraction(alloc, hole, want, system)?;
-            gather_term(alloc, constructors, idents, body, want, system)
-        }
-        Raw::Swapped(i, j, body) => {
-            let system = one_sort(idents, *i, *j, system)?;
-            let system = meet_swapped(&want, system)?;
-            gather_term(alloc, constructors, idents, body, want, system)
+    let mut at = Inside { want, system };
+    let mut rest = t;
+    loop {
+        match rest {
+            Raw::Unit => return meet_unit(at.want, at.system),
+            Raw::Name(a) => return meet_name(idents, a.num, at.want, at.system),
+            Raw::Var(x) => return meet_var(idents, x.num, at.want, at.system),
+            Raw::Pair(left, right) => {
+                at = right_of_pair(alloc, constructors, idents, left, at)?;
+                rest = right;
+            }
+            Raw::App(f, argument) => {
+                at = inside_application(alloc, constructors, *f, at.want, at.system)?;
+                rest = argument;
+            }
+            Raw::Abs(i, body) => {
+                at = inside_binder(alloc, idents, *i, at)?;
+                rest = body;
+            }
+            Raw::Swapped(i, j, body) => {
+                at = inside_swapping(idents, *i, *j, at)?;
+                rest = body;
+            }
         }
     }
 }

@@ -6,7 +6,8 @@ ghost use Rattle.ap_kinds.specs.Systems.{system_of};
 ghost use Rattle.ap_kinds.specs.Gathering.{wanting_of, wanting_all, meet, meet_unit, meet_swapped, meet_name, meet_var};
 
 use crate::kinds::IdentKind;
-use crate::systems::{System, equate, is_name_at, is_var_at, opened, refused};
+use crate::shapes::opened;
+use crate::systems::{System, equate, is_name_at, is_var_at, refused};
 use ap_defs::memory::Memory;
 use ap_defs::terms::{Shape, Ty};
 use std::alloc::Global;

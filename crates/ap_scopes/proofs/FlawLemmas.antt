@@ -7,7 +7,7 @@ use Rattle.ap_trees.specs.declared.trees.TypeTree.{TypeTree}
 use Rattle.ap_trees.specs.Trees.{term_of, trees_of, type_of, types_of}
 use Rattle.ap_scopes.specs.Declarations.{Declared}
 use Rattle.ap_scopes.specs.Flaws.{least, term_flaw, terms_flaw, type_flaw, types_flaw}
-use Rattle.ap_scopes.proofs.LeastLemmas.{least-assoc}
+use Rattle.ap_scopes.proofs.LeastLemmas.{least_assoc}
 
 terms_left : (d : Declared) (ts : List Tree) (i : ℕ) (t e : Tree) → i < length ts → t ≡ get_or ts i e
     → terms_flaw d (trees_of (drop i ts)) ≡ least (term_flaw d (term_of t)) (terms_flaw d (trees_of (drop (suc i) ts)))
@@ -21,7 +21,7 @@ terms_next d ts i t e old new l is made before =
     let next : i + 1 ≡ suc i = omega arith in
     let rest = terms_flaw d (trees_of (drop (suc i) ts)) in
     ap (λ j. least new (terms_flaw d (trees_of (drop j ts)))) next
-    ∙ ap (λ k. least k rest) made ∙ least-assoc old (term_flaw d (term_of t)) rest ∙ ap (least old) (sym (terms_left d ts i t e l is)) ∙ before
+    ∙ ap (λ k. least k rest) made ∙ least_assoc old (term_flaw d (term_of t)) rest ∙ ap (least old) (sym (terms_left d ts i t e l is)) ∙ before
 
 types_left : (s : NominalSignature) (ts : List TypeTree) (i : ℕ) (t e : TypeTree) → i < length ts → t ≡ get_or ts i e
     → types_flaw s (types_of (drop i ts)) ≡ least (type_flaw s (type_of t)) (types_flaw s (types_of (drop (suc i) ts)))
@@ -35,4 +35,4 @@ types_next s ts i t e old new l is made before =
     let next : i + 1 ≡ suc i = omega arith in
     let rest = types_flaw s (types_of (drop (suc i) ts)) in
     ap (λ j. least new (types_flaw s (types_of (drop j ts)))) next
-    ∙ ap (λ k. least k rest) made ∙ least-assoc old (type_flaw s (type_of t)) rest ∙ ap (least old) (sym (types_left s ts i t e l is)) ∙ before
+    ∙ ap (λ k. least k rest) made ∙ least_assoc old (type_flaw s (type_of t)) rest ∙ ap (least old) (sym (types_left s ts i t e l is)) ∙ before

@@ -16,12 +16,12 @@ lesser-assoc a b c = by_first (nat_le (type_number a) (type_number b)) (nat_le (
     by_first false true e f = rw (e, f) refl
     by_first false false e f = let g : nat_le (type_number a) (type_number c) ≡ false = grind (arith, nat_tests) in rw (f, g) refl
 
-pub least-assoc : (a b c : Option TypeKind) → least (least a b) c ≡ least a (least b c)
-least-assoc None b c = refl
-least-assoc (Some k) None c = refl
-least-assoc (Some k) (Some m) None = refl
-least-assoc (Some k) (Some m) (Some n) = ap (λ x. Some x) (lesser-assoc k m n)
+pub least_assoc : (a b c : Option TypeKind) → least (least a b) c ≡ least a (least b c)
+least_assoc None b c = refl
+least_assoc (Some k) None c = refl
+least_assoc (Some k) (Some m) None = refl
+least_assoc (Some k) (Some m) (Some n) = ap (λ x. Some x) (lesser-assoc k m n)
 
-pub least-none : (a : Option TypeKind) → least a None ≡ a
-least-none None = refl
-least-none (Some k) = refl
+pub least_none : (a : Option TypeKind) → least a None ≡ a
+least_none None = refl
+least_none (Some k) = refl

@@ -3,3 +3,5 @@ pub mod LeastLemmas
 pub mod FlawLemmas
 pub mod Numbering
 pub mod Orders
+pub mod TreeSizes
+pub mod LayerLemmas

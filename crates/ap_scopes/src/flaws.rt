@@ -76,40 +76,61 @@ pub fn binder_flaw(declared: &Declarations<'_>, binder: Binder<'_>) -> Option<Ty
 }
 
 /// The least kind of a term's faults.
+///
+/// It goes on along what is last in a term, and comes to itself on left parts and arguments alone.
 #[cycle(term_flaws)]
+#[tactic(auto, using(crate::proofs::LeastLemmas::least_assoc, crate::proofs::LeastLemmas::least_none))]
 pub fn term_flaw(declared: &Declarations<'_>, tree: &Tree<'_>) -> Option<TypeKind>
     requires { IsIndexed declared.now }
     ensures { result ≡ spec.term_flaw (declared_of declared.now) (term_of tree.now) }
 {
-    match tree {
-        Tree::Unit | Tree::Nil | Tree::Var(_) => None,
-        Tree::Word(word) => word_flaw(declared.constructor_arity(word)),
-        Tree::Apply(word, args) => {
-            let flaw = application_flaw(declared.constructor_arity(word), args);
-            least(flaw, arguments_flaw(declared, args))
-        }
-        Tree::Pair(left, right) => least(term_flaw(declared, left), term_flaw(declared, right)),
-        Tree::Cell(head, tail) => least(term_flaw(declared, head), term_flaw(declared, tail)),
-        Tree::Abs(binder, body) => {
-            least(binder_flaw(declared, *binder), term_flaw(declared, body))
-        }
-        Tree::Swapped(left, right, body) => {
-            let ends = least(binder_flaw(declared, *left), binder_flaw(declared, *right));
-            least(ends, term_flaw(declared, body))
+    let mut flaw = None;
+    let mut rest = tree;
+    loop {
+        match rest {
+            Tree::Unit | Tree::Nil | Tree::Var(_) => return flaw,
+            Tree::Word(word) => return least(flaw, word_flaw(declared.constructor_arity(word))),
+            Tree::Apply(word, args) => {
+                let head = application_flaw(declared.constructor_arity(word), args);
+                return least(flaw, least(head, arguments_flaw(declared, args)));
+            }
+            Tree::Pair(left, right) => {
+                flaw = least(flaw, term_flaw(declared, left));
+                rest = right;
+            }
+            Tree::Cell(head, tail) => {
+                flaw = least(flaw, term_flaw(declared, head));
+                rest = tail;
+            }
+            Tree::Abs(binder, body) => {
+                flaw = least(flaw, binder_flaw(declared, *binder));
+                rest = body;
+            }
+            Tree::Swapped(left, right, body) => {
+                let ends = least(binder_flaw(declared, *left), binder_flaw(declared, *right));
+                flaw = least(flaw, ends);
+                rest = body;
+            }
         }
     }
 }
 
 /// The least kind of the faults of arguments.
 #[cycle(term_flaws)]
+#[tactic(auto, using(crate::proofs::LeastLemmas::least_assoc))]
 fn arguments_flaw(declared: &Declarations<'_>, args: &Args<'_>) -> Option<TypeKind>
     requires { IsIndexed declared.now }
     ensures { result ≡ spec.arguments_flaw (declared_of declared.now) (terms_of args.now) }
 {
-    match args {
-        Args::Last(last) => term_flaw(declared, last),
-        Args::More(first, rest) => {
-            least(term_flaw(declared, first), arguments_flaw(declared, rest))
+    let mut flaw = None;
+    let mut rest = args;
+    loop {
+        match rest {
+            Args::Last(last) => return least(flaw, term_flaw(declared, last)),
+            Args::More(first, more) => {
+                flaw = least(flaw, term_flaw(declared, first));
+                rest = more;
+            }
         }
     }
 }
@@ -118,9 +139,19 @@ fn arguments_flaw(declared: &Declarations<'_>, args: &Args<'_>) -> Option<TypeKi
 fn are_as_many(declared: usize, args: &Args<'_>) -> bool
     ensures { result ≡ (declared == spec.count (terms_of args.now)) }
 {
-    match args {
-        Args::Last(_) => declared == 1,
-        Args::More(_, rest) => declared != 0 && are_as_many(declared - 1, rest),
+    let mut left = declared;
+    let mut rest = args;
+    loop {
+        match rest {
+            Args::Last(_) => return left == 1,
+            Args::More(_, more) => {
+                if left == 0 {
+                    return false;
+                }
+                left -= 1;
+                rest = more;
+            }
+        }
     }
 }
 

@@ -20,29 +20,43 @@ pub fn atom_flaw(declared: &Declarations<'_>, word: &str, args: &[Tree<'_>]) -> 
 }
 
 /// The least kind of a goal's faults.
+///
+/// It goes on along what is right of `,` and `;` and inside `exists` and `new`, and calls itself on what
+/// is left of them alone.
+#[tactic(auto, using(crate::proofs::LeastLemmas::least_assoc, crate::proofs::LeastLemmas::least_none))]
 pub fn goal_flaw(declared: &Declarations<'_>, goal: &GoalTree<'_>) -> Option<TypeKind>
     requires { IsIndexed declared.now }
     ensures { result ≡ spec.goal_flaw (declared_of declared.now) (goal_of goal.now) }
 {
-    match goal {
-        GoalTree::Atom(word, args) => atom_flaw(declared, word, args.items()),
-        GoalTree::Equal(left, right) => {
-            least(term_flaw(declared, left), term_flaw(declared, right))
+    let mut flaw = None;
+    let mut rest = goal;
+    loop {
+        match rest {
+            GoalTree::Atom(word, args) => {
+                return least(flaw, atom_flaw(declared, word, args.items()));
+            }
+            GoalTree::Equal(left, right) => {
+                let both = least(term_flaw(declared, left), term_flaw(declared, right));
+                return least(flaw, both);
+            }
+            GoalTree::Fresh(left, right) => {
+                let both = least(term_flaw(declared, left), term_flaw(declared, right));
+                return least(flaw, both);
+            }
+            GoalTree::Both(left, right) => {
+                flaw = least(flaw, goal_flaw(declared, left));
+                rest = right;
+            }
+            GoalTree::Either(left, right) => {
+                flaw = least(flaw, goal_flaw(declared, left));
+                rest = right;
+            }
+            GoalTree::Exists(_, inner) => rest = inner,
+            GoalTree::New(word, inner) => {
+                flaw = least(flaw, binder_flaw(declared, Binder::Word(word)));
+                rest = inner;
+            }
         }
-        GoalTree::Fresh(left, right) => {
-            least(term_flaw(declared, left), term_flaw(declared, right))
-        }
-        GoalTree::Both(left, right) => {
-            least(goal_flaw(declared, left), goal_flaw(declared, right))
-        }
-        GoalTree::Either(left, right) => {
-            least(goal_flaw(declared, left), goal_flaw(declared, right))
-        }
-        GoalTree::Exists(_, inner) => goal_flaw(declared, inner),
-        GoalTree::New(word, inner) => least(
-            binder_flaw(declared, Binder::Word(word)),
-            goal_flaw(declared, inner),
-        ),
     }
 }
 

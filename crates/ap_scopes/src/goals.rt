@@ -4,7 +4,8 @@ ghost use Rattle.std.specs.Option.{option_map};
 ghost use Rattle.ap_defs.specs.RawTerms.{raw_of};
 ghost use Rattle.ap_defs.specs.Goals.{goal_over};
 ghost use Rattle.ap_defs.specs.Limits.{size_limit};
-ghost use Rattle.ap_trees.specs.Trees.{goal_of, trees_of, name_of};
+ghost use Rattle.ap_trees.specs.Goals.{Atom, Equation, Freshness};
+ghost use Rattle.ap_trees.specs.Trees.{goal_of, term_of, trees_of, name_of};
 ghost use Rattle.ap_scopes.specs.Resolution as spec;
 ghost use Rattle.ap_scopes.specs.Declarations.{predicate_place};
 ghost use Rattle.ap_scopes.specs.Views.{IsIndexed, IsSmall, IsNumbered, declared_of, found_of, scope_of};
@@ -15,7 +16,8 @@ use crate::terms::{resolved_term, resolved_terms};
 use ap_defs::goals::Goal;
 use ap_defs::memory::Memory;
 use ap_defs::terms::{Name, Raw, Var};
-use ap_trees::{Binder, GoalTree};
+use ap_spines::{GoalLayer, close_goal};
+use ap_trees::{Binder, GoalTree, Tree};
 use std::alloc::Global;
 
 /// The number of the predicate at a place.
@@ -29,8 +31,72 @@ pub fn predicate_number(place: Option<usize>) -> u32
     }
 }
 
-/// A goal with numbers for its words. `Err` is want of memory.
+/// An atom with numbers for its words.
+fn resolved_atom<'a>(
+    alloc: Global,
+    declared: &Declarations<'_>,
+    scope: &Brought<'_, 'a>,
+    word: &'a str,
+    args: &[Tree<'a>],
+    found: &mut Identifiers<'a>,
+) -> Result<Goal<Raw>, Memory>
+    requires indexed { IsIndexed declared.now }
+    requires small { IsSmall declared.now }
+    requires numbered { IsNumbered found.old }
+    ensures value { IfOk result (λ g. (goal_over raw_of g, found_of found.new) ≡ spec.resolved_goal (declared_of declared.now) (scope_of scope.now) (Atom word.now (trees_of args.now)) (found_of found.old)) }
+    ensures numbered { OnOk result (IsNumbered found.new) }
+{
+    let args = resolved_terms(alloc, declared, scope, args, found)?;
+    let number = predicate_number(declared.predicate_place(word));
+    Ok(Goal::Atom(number, args))
+}
+
+/// `t = u` with numbers for its words.
 #[tactic(auto, using(crate::proofs::Orders::made_is, crate::proofs::Orders::in_order_is))]
+fn resolved_equal<'a>(
+    alloc: Global,
+    declared: &Declarations<'_>,
+    scope: &Brought<'_, 'a>,
+    left: &Tree<'a>,
+    right: &Tree<'a>,
+    found: &mut Identifiers<'a>,
+) -> Result<Goal<Raw>, Memory>
+    requires indexed { IsIndexed declared.now }
+    requires small { IsSmall declared.now }
+    requires numbered { IsNumbered found.old }
+    ensures value { IfOk result (λ g. (goal_over raw_of g, found_of found.new) ≡ spec.resolved_goal (declared_of declared.now) (scope_of scope.now) (Equation (term_of left.now) (term_of right.now)) (found_of found.old)) }
+    ensures numbered { OnOk result (IsNumbered found.new) }
+{
+    let left = resolved_term(alloc, declared, scope, left, found)?;
+    let right = resolved_term(alloc, declared, scope, right, found)?;
+    Ok(Goal::Equal(left, right))
+}
+
+/// `t # u` with numbers for its words.
+#[tactic(auto, using(crate::proofs::Orders::made_is, crate::proofs::Orders::in_order_is))]
+fn resolved_fresh<'a>(
+    alloc: Global,
+    declared: &Declarations<'_>,
+    scope: &Brought<'_, 'a>,
+    left: &Tree<'a>,
+    right: &Tree<'a>,
+    found: &mut Identifiers<'a>,
+) -> Result<Goal<Raw>, Memory>
+    requires indexed { IsIndexed declared.now }
+    requires small { IsSmall declared.now }
+    requires numbered { IsNumbered found.old }
+    ensures value { IfOk result (λ g. (goal_over raw_of g, found_of found.new) ≡ spec.resolved_goal (declared_of declared.now) (scope_of scope.now) (Freshness (term_of left.now) (term_of right.now)) (found_of found.old)) }
+    ensures numbered { OnOk result (IsNumbered found.new) }
+{
+    let left = resolved_term(alloc, declared, scope, left, found)?;
+    let right = resolved_term(alloc, declared, scope, right, found)?;
+    Ok(Goal::Fresh(left, right))
+}
+
+/// A goal with numbers for its words. `Err` is want of memory.
+///
+/// It goes on along what is right of `,` and `;`, and calls itself on what is left of them and inside
+/// `exists` and `new`.
 pub fn resolved_goal<'a>(
     alloc: Global,
     declared: &Declarations<'_>,
@@ -44,43 +110,46 @@ pub fn resolved_goal<'a>(
     ensures value { IfOk result (λ g. (goal_over raw_of g, found_of found.new) ≡ spec.resolved_goal (declared_of declared.now) (scope_of scope.now) (goal_of goal.now) (found_of found.old)) }
     ensures numbered { OnOk result (IsNumbered found.new) }
 {
-    match goal {
-        GoalTree::Atom(word, args) => {
-            let args = resolved_terms(alloc, declared, scope, args.items(), found)?;
-            let number = predicate_number(declared.predicate_place(word));
-            Ok(Goal::Atom(number, args))
-        }
-        GoalTree::Equal(left, right) => {
-            let left = resolved_term(alloc, declared, scope, left, found)?;
-            let right = resolved_term(alloc, declared, scope, right, found)?;
-            Ok(Goal::Equal(left, right))
-        }
-        GoalTree::Fresh(left, right) => {
-            let left = resolved_term(alloc, declared, scope, left, found)?;
-            let right = resolved_term(alloc, declared, scope, right, found)?;
-            Ok(Goal::Fresh(left, right))
-        }
-        GoalTree::Both(left, right) => {
-            let left = resolved_goal(alloc, declared, scope, left, found)?;
-            let right = resolved_goal(alloc, declared, scope, right, found)?;
-            Ok(Goal::Both(Box::new(alloc, left)?, Box::new(alloc, right)?))
-        }
-        GoalTree::Either(left, right) => {
-            let left = resolved_goal(alloc, declared, scope, left, found)?;
-            let right = resolved_goal(alloc, declared, scope, right, found)?;
-            Ok(Goal::Either(Box::new(alloc, left)?, Box::new(alloc, right)?))
-        }
-        GoalTree::Exists(word, inner) => {
-            let num = found.bring(Binder::Var(word))?;
-            let around = Brought::Inner(Binder::Var(word), num, scope);
-            let inner = resolved_goal(alloc, declared, &around, inner, found)?;
-            Ok(Goal::Exists(Var { num }, Box::new(alloc, inner)?))
-        }
-        GoalTree::New(word, inner) => {
-            let num = found.bring(Binder::Word(word))?;
-            let around = Brought::Inner(Binder::Word(word), num, scope);
-            let inner = resolved_goal(alloc, declared, &around, inner, found)?;
-            Ok(Goal::New(Name { sort: 0, num }, Box::new(alloc, inner)?))
+    let mut layers = Vec::new(alloc);
+    let mut rest = goal;
+    loop {
+        match rest {
+            GoalTree::Atom(word, args) => {
+                let atom = resolved_atom(alloc, declared, scope, word, args.items(), found)?;
+                return close_goal(alloc, layers, atom);
+            }
+            GoalTree::Equal(left, right) => {
+                let equal = resolved_equal(alloc, declared, scope, left, right, found)?;
+                return close_goal(alloc, layers, equal);
+            }
+            GoalTree::Fresh(left, right) => {
+                let fresh = resolved_fresh(alloc, declared, scope, left, right, found)?;
+                return close_goal(alloc, layers, fresh);
+            }
+            GoalTree::Both(left, right) => {
+                layers.push(GoalLayer::Both(resolved_goal(alloc, declared, scope, left, found)?))?;
+                rest = right;
+            }
+            GoalTree::Either(left, right) => {
+                layers.push(GoalLayer::Either(resolved_goal(
+                    alloc, declared, scope, left, found,
+                )?))?;
+                rest = right;
+            }
+            GoalTree::Exists(word, inner) => {
+                let num = found.bring(Binder::Var(word))?;
+                let around = Brought::Inner(Binder::Var(word), num, scope);
+                layers.push(GoalLayer::Exists(Var { num }))?;
+                let inner = resolved_goal(alloc, declared, &around, inner, found)?;
+                return close_goal(alloc, layers, inner);
+            }
+            GoalTree::New(word, inner) => {
+                let num = found.bring(Binder::Word(word))?;
+                let around = Brought::Inner(Binder::Word(word), num, scope);
+                layers.push(GoalLayer::New(Name { sort: 0, num }))?;
+                let inner = resolved_goal(alloc, declared, &around, inner, found)?;
+                return close_goal(alloc, layers, inner);
+            }
         }
     }
 }

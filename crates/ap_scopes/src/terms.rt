@@ -13,6 +13,7 @@ use crate::identifiers::{Brought, Identifiers};
 use ap_defs::lists::List;
 use ap_defs::memory::Memory;
 use ap_defs::terms::{Id, Name, Raw, Var};
+use ap_spines::{RawLayer, close_raw};
 use ap_trees::{Args, Binder, Tree};
 use std::alloc::Global;
 
@@ -82,8 +83,9 @@ fn word_alone<'a>(
 }
 
 /// A term with numbers for its words. `Err` is want of memory.
+///
+/// It goes on along what is last in a term, and comes to itself on left parts and arguments alone.
 #[cycle(terms)]
-#[tactic(auto, using(crate::proofs::Orders::made_is, crate::proofs::Orders::in_order_is))]
 pub fn resolved_term<'a>(
     alloc: Global,
     declared: &Declarations<'_>,
@@ -97,44 +99,54 @@ pub fn resolved_term<'a>(
     ensures value { IfOk result (λ t. (raw_of t, found_of found.new) ≡ spec.resolved_term (declared_of declared.now) (scope_of scope.now) (term_of tree.now) (found_of found.old)) }
     ensures numbered { OnOk result (IsNumbered found.new) }
 {
-    match tree {
-        Tree::Unit => Ok(Raw::Unit),
-        Tree::Nil => Ok(Raw::App(0, Box::new(alloc, Raw::Unit)?)),
-        Tree::Var(word) => identifier(scope, Binder::Var(word), found),
-        Tree::Word(word) => word_alone(alloc, declared, scope, word, found),
-        Tree::Apply(word, args) => {
-            let args = resolved_arguments(alloc, declared, scope, args, found)?;
-            let number = constructor_number(declared.constructor_place(word));
-            Ok(Raw::App(number, Box::new(alloc, args)?))
-        }
-        Tree::Pair(left, right) => {
-            let left = resolved_term(alloc, declared, scope, left, found)?;
-            let right = resolved_term(alloc, declared, scope, right, found)?;
-            Ok(Raw::Pair(Box::new(alloc, left)?, Box::new(alloc, right)?))
-        }
-        Tree::Cell(head, tail) => {
-            let head = resolved_term(alloc, declared, scope, head, found)?;
-            let tail = resolved_term(alloc, declared, scope, tail, found)?;
-            let parts = Raw::Pair(Box::new(alloc, head)?, Box::new(alloc, tail)?);
-            Ok(Raw::App(1, Box::new(alloc, parts)?))
-        }
-        Tree::Abs(spelling, body) => {
-            let id = binder(scope, *spelling, found)?;
-            let body = resolved_term(alloc, declared, scope, body, found)?;
-            Ok(Raw::Abs(id, Box::new(alloc, body)?))
-        }
-        Tree::Swapped(left, right, body) => {
-            let left = binder(scope, *left, found)?;
-            let right = binder(scope, *right, found)?;
-            let body = resolved_term(alloc, declared, scope, body, found)?;
-            Ok(Raw::Swapped(left, right, Box::new(alloc, body)?))
+    let mut layers = Vec::new(alloc);
+    let mut rest = tree;
+    loop {
+        match rest {
+            Tree::Unit => return close_raw(alloc, layers, Raw::Unit),
+            Tree::Nil => {
+                let nil = Raw::App(0, Box::new(alloc, Raw::Unit)?);
+                return close_raw(alloc, layers, nil);
+            }
+            Tree::Var(word) => {
+                let variable = identifier(scope, Binder::Var(word), found)?;
+                return close_raw(alloc, layers, variable);
+            }
+            Tree::Word(word) => {
+                let alone = word_alone(alloc, declared, scope, word, found)?;
+                return close_raw(alloc, layers, alone);
+            }
+            Tree::Apply(word, args) => {
+                let number = constructor_number(declared.constructor_place(word));
+                layers.push(RawLayer::App(number))?;
+                let args = resolved_arguments(alloc, declared, scope, args, found)?;
+                return close_raw(alloc, layers, args);
+            }
+            Tree::Pair(left, right) => {
+                layers.push(RawLayer::Left(resolved_term(alloc, declared, scope, left, found)?))?;
+                rest = right;
+            }
+            Tree::Cell(head, tail) => {
+                layers.push(RawLayer::App(1))?;
+                layers.push(RawLayer::Left(resolved_term(alloc, declared, scope, head, found)?))?;
+                rest = tail;
+            }
+            Tree::Abs(spelling, body) => {
+                layers.push(RawLayer::Abs(binder(scope, *spelling, found)?))?;
+                rest = body;
+            }
+            Tree::Swapped(left, right, body) => {
+                let left = binder(scope, *left, found)?;
+                let right = binder(scope, *right, found)?;
+                layers.push(RawLayer::Swapped(left, right))?;
+                rest = body;
+            }
         }
     }
 }
 
 /// Arguments as one term: their tuple, written out as pairs.
 #[cycle(terms)]
-#[tactic(auto, using(crate::proofs::Orders::made_is, crate::proofs::Orders::in_order_is))]
 fn resolved_arguments<'a>(
     alloc: Global,
     declared: &Declarations<'_>,
@@ -148,12 +160,18 @@ fn resolved_arguments<'a>(
     ensures value { IfOk result (λ t. (raw_of t, found_of found.new) ≡ spec.resolved_arguments (declared_of declared.now) (scope_of scope.now) (terms_of args.now) (found_of found.old)) }
     ensures numbered { OnOk result (IsNumbered found.new) }
 {
-    match args {
-        Args::Last(last) => resolved_term(alloc, declared, scope, last, found),
-        Args::More(first, rest) => {
-            let first = resolved_term(alloc, declared, scope, first, found)?;
-            let rest = resolved_arguments(alloc, declared, scope, rest, found)?;
-            Ok(Raw::Pair(Box::new(alloc, first)?, Box::new(alloc, rest)?))
+    let mut layers = Vec::new(alloc);
+    let mut rest = args;
+    loop {
+        match rest {
+            Args::Last(last) => {
+                let last = resolved_term(alloc, declared, scope, last, found)?;
+                return close_raw(alloc, layers, last);
+            }
+            Args::More(first, more) => {
+                layers.push(RawLayer::Left(resolved_term(alloc, declared, scope, first, found)?))?;
+                rest = more;
+            }
         }
     }
 }

@@ -1,5 +1,5 @@
 //! The words and variables of a text.
-ghost use Rattle.std.specs.Prelude.{◌≡◌, OnOk, IfOk};
+ghost use Rattle.std.specs.Prelude.{◌≡◌, ◌++◌, OnOk, IfOk};
 ghost use Rattle.ap_trees.specs.Trees as trees;
 ghost use Rattle.ap_trees.specs.Trees.{term_of, terms_of, trees_of, goal_of, types_of, form_of, items_of, name_of};
 ghost use Rattle.ap_scopes.specs.Words as spec;
@@ -26,17 +26,20 @@ fn spelled<'a>(binder: Binder<'a>) -> &'a str
 fn add_type<'a>(words: &mut Words<'a>, tree: &TypeTree<'a>) -> Result<(), Memory>
     ensures { OnOk result (words_in words.new ≡ with_words (words_in words.old) (spec.type_words (trees.type_of tree.now))) }
 {
-    match tree {
-        TypeTree::Unit => Ok(()),
-        TypeTree::Word(word) => words.add(word),
-        TypeTree::Pair(left, right) => {
-            add_type(words, left)?;
-            add_type(words, right)
-        }
-        TypeTree::List(element) => add_type(words, element),
-        TypeTree::Abs(word, body) => {
-            words.add(word)?;
-            add_type(words, body)
+    let mut rest = tree;
+    loop {
+        match rest {
+            TypeTree::Unit => return Ok(()),
+            TypeTree::Word(word) => return words.add(word),
+            TypeTree::Pair(left, right) => {
+                add_type(words, left)?;
+                rest = right;
+            }
+            TypeTree::List(element) => rest = element,
+            TypeTree::Abs(word, body) => {
+                words.add(word)?;
+                rest = body;
+            }
         }
     }
 }
@@ -53,35 +56,40 @@ fn add_types<'a>(words: &mut Words<'a>, trees: &[TypeTree<'a>]) -> Result<(), Me
 }
 
 /// The words of a term.
+///
+/// It goes on along what is last in a term, and comes to itself on left parts and arguments alone.
 #[cycle(term_words)]
 #[tactic(auto, using(crate::proofs::Tables::with_words_append))]
 fn add_term<'a>(words: &mut Words<'a>, tree: &Tree<'a>) -> Result<(), Memory>
     ensures { OnOk result (words_in words.new ≡ with_words (words_in words.old) (spec.term_words (term_of tree.now))) }
 {
-    match tree {
-        Tree::Unit | Tree::Nil => Ok(()),
-        Tree::Var(word) => words.add(word),
-        Tree::Word(word) => words.add(word),
-        Tree::Apply(word, args) => {
-            words.add(word)?;
-            add_arguments(words, args)
-        }
-        Tree::Pair(left, right) => {
-            add_term(words, left)?;
-            add_term(words, right)
-        }
-        Tree::Cell(head, tail) => {
-            add_term(words, head)?;
-            add_term(words, tail)
-        }
-        Tree::Abs(binder, body) => {
-            words.add(spelled(*binder))?;
-            add_term(words, body)
-        }
-        Tree::Swapped(left, right, body) => {
-            words.add(spelled(*left))?;
-            words.add(spelled(*right))?;
-            add_term(words, body)
+    let mut rest = tree;
+    loop {
+        match rest {
+            Tree::Unit | Tree::Nil => return Ok(()),
+            Tree::Var(word) => return words.add(word),
+            Tree::Word(word) => return words.add(word),
+            Tree::Apply(word, args) => {
+                words.add(word)?;
+                return add_arguments(words, args);
+            }
+            Tree::Pair(left, right) => {
+                add_term(words, left)?;
+                rest = right;
+            }
+            Tree::Cell(head, tail) => {
+                add_term(words, head)?;
+                rest = tail;
+            }
+            Tree::Abs(binder, body) => {
+                words.add(spelled(*binder))?;
+                rest = body;
+            }
+            Tree::Swapped(left, right, body) => {
+                words.add(spelled(*left))?;
+                words.add(spelled(*right))?;
+                rest = body;
+            }
         }
     }
 }
@@ -92,11 +100,14 @@ fn add_term<'a>(words: &mut Words<'a>, tree: &Tree<'a>) -> Result<(), Memory>
 fn add_arguments<'a>(words: &mut Words<'a>, args: &Args<'a>) -> Result<(), Memory>
     ensures { OnOk result (words_in words.new ≡ with_words (words_in words.old) (spec.arguments_words (terms_of args.now))) }
 {
-    match args {
-        Args::Last(last) => add_term(words, last),
-        Args::More(first, rest) => {
-            add_term(words, first)?;
-            add_arguments(words, rest)
+    let mut rest = args;
+    loop {
+        match rest {
+            Args::Last(last) => return add_term(words, last),
+            Args::More(first, more) => {
+                add_term(words, first)?;
+                rest = more;
+            }
         }
     }
 }
@@ -112,39 +123,48 @@ fn add_terms<'a>(words: &mut Words<'a>, trees: &[Tree<'a>]) -> Result<(), Memory
     Ok(())
 }
 
+/// The words of two terms.
+#[tactic(auto, using(crate::proofs::Tables::with_words_append))]
+fn add_two<'a>(words: &mut Words<'a>, left: &Tree<'a>, right: &Tree<'a>) -> Result<(), Memory>
+    ensures { OnOk result (words_in words.new ≡ with_words (words_in words.old) (spec.term_words (term_of left.now) ++ spec.term_words (term_of right.now))) }
+{
+    add_term(words, left)?;
+    add_term(words, right)
+}
+
 /// The words of a goal.
+///
+/// It goes on along what is right of `,` and `;` and inside `exists` and `new`, and calls itself on what
+/// is left of them alone.
 #[tactic(auto, using(crate::proofs::Tables::with_words_append))]
 fn add_goal<'a>(words: &mut Words<'a>, goal: &GoalTree<'a>) -> Result<(), Memory>
     ensures { OnOk result (words_in words.new ≡ with_words (words_in words.old) (spec.goal_words (goal_of goal.now))) }
 {
-    match goal {
-        GoalTree::Atom(word, args) => {
-            words.add(word)?;
-            add_terms(words, args.items())
-        }
-        GoalTree::Equal(left, right) => {
-            add_term(words, left)?;
-            add_term(words, right)
-        }
-        GoalTree::Fresh(left, right) => {
-            add_term(words, left)?;
-            add_term(words, right)
-        }
-        GoalTree::Both(left, right) => {
-            add_goal(words, left)?;
-            add_goal(words, right)
-        }
-        GoalTree::Either(left, right) => {
-            add_goal(words, left)?;
-            add_goal(words, right)
-        }
-        GoalTree::Exists(word, inner) => {
-            words.add(word)?;
-            add_goal(words, inner)
-        }
-        GoalTree::New(word, inner) => {
-            words.add(word)?;
-            add_goal(words, inner)
+    let mut rest = goal;
+    loop {
+        match rest {
+            GoalTree::Atom(word, args) => {
+                words.add(word)?;
+                return add_terms(words, args.items());
+            }
+            GoalTree::Equal(left, right) => return add_two(words, left, right),
+            GoalTree::Fresh(left, right) => return add_two(words, left, right),
+            GoalTree::Both(left, right) => {
+                add_goal(words, left)?;
+                rest = right;
+            }
+            GoalTree::Either(left, right) => {
+                add_goal(words, left)?;
+                rest = right;
+            }
+            GoalTree::Exists(word, inner) => {
+                words.add(word)?;
+                rest = inner;
+            }
+            GoalTree::New(word, inner) => {
+                words.add(word)?;
+                rest = inner;
+            }
         }
     }
 }

@@ -13,6 +13,7 @@ use crate::flaws::least;
 use ap_defs::faults::TypeKind;
 use ap_defs::lists::List;
 use ap_defs::memory::Memory;
+use ap_defs::spines::{TypeLayer, close_type};
 use ap_defs::terms::Ty;
 use ap_trees::TypeTree;
 use std::alloc::Global;
@@ -28,6 +29,10 @@ fn abstraction_over(alloc: Global, over: Option<Ty>, body: Ty) -> Result<Ty, Mem
 }
 
 /// The type that a tree of a type stands for. `Err` is want of memory.
+///
+/// It goes on along the right part of a pair and the elements of a list, and calls itself on left parts
+/// of pairs and on what is right of `\` alone.
+#[tactic(auto, using(ap_defs::proofs::SpineLemmas::type_within_last))]
 pub fn resolved_type(
     alloc: Global,
     declared: &Declarations<'_>,
@@ -37,21 +42,28 @@ pub fn resolved_type(
     requires small { IsSmall declared.now }
     ensures { IfOk result (λ t. type_of t ≡ spec.resolved_type (declared_of declared.now).signature (trees.type_of tree.now)) }
 {
-    match tree {
-        TypeTree::Unit => Ok(Ty::Unit),
-        TypeTree::Word(word) => Ok(declared.type_named(word).unwrap_or(Ty::Unit)),
-        TypeTree::Pair(left, right) => {
-            let left = resolved_type(alloc, declared, left)?;
-            let right = resolved_type(alloc, declared, right)?;
-            Ok(Ty::Pair(Box::new(alloc, left)?, Box::new(alloc, right)?))
-        }
-        TypeTree::List(element) => {
-            let element = resolved_type(alloc, declared, element)?;
-            Ok(Ty::List(Box::new(alloc, element)?))
-        }
-        TypeTree::Abs(word, body) => {
-            let body = resolved_type(alloc, declared, body)?;
-            abstraction_over(alloc, declared.type_named(word), body)
+    let mut layers = Vec::new(alloc);
+    let mut rest = tree;
+    loop {
+        match rest {
+            TypeTree::Unit => return close_type(alloc, layers, Ty::Unit),
+            TypeTree::Word(word) => {
+                let named = declared.type_named(word).unwrap_or(Ty::Unit);
+                return close_type(alloc, layers, named);
+            }
+            TypeTree::Pair(left, right) => {
+                layers.push(TypeLayer::Left(resolved_type(alloc, declared, left)?))?;
+                rest = right;
+            }
+            TypeTree::List(element) => {
+                layers.push(TypeLayer::List)?;
+                rest = element;
+            }
+            TypeTree::Abs(word, body) => {
+                let body = resolved_type(alloc, declared, body)?;
+                let made = abstraction_over(alloc, declared.type_named(word), body)?;
+                return close_type(alloc, layers, made);
+            }
         }
     }
 }
@@ -106,20 +118,30 @@ pub fn result_flaw(found: Option<Ty>) -> Option<TypeKind>
 }
 
 /// The least kind of a type's faults.
+#[tactic(auto, using(crate::proofs::LeastLemmas::least_assoc, crate::proofs::LeastLemmas::least_none))]
 pub fn type_flaw(declared: &Declarations<'_>, tree: &TypeTree<'_>) -> Option<TypeKind>
     requires indexed { IsIndexed declared.now }
     requires small { IsSmall declared.now }
     ensures { result ≡ flaws.type_flaw (declared_of declared.now).signature (trees.type_of tree.now) }
 {
-    match tree {
-        TypeTree::Unit => None,
-        TypeTree::Word(word) => type_word_flaw(declared.type_named(word)),
-        TypeTree::Pair(left, right) => least(type_flaw(declared, left), type_flaw(declared, right)),
-        TypeTree::List(element) => type_flaw(declared, element),
-        TypeTree::Abs(word, body) => least(
-            name_type_flaw(declared.type_named(word)),
-            type_flaw(declared, body),
-        ),
+    let mut flaw = None;
+    let mut rest = tree;
+    loop {
+        match rest {
+            TypeTree::Unit => return flaw,
+            TypeTree::Word(word) => {
+                return least(flaw, type_word_flaw(declared.type_named(word)));
+            }
+            TypeTree::Pair(left, right) => {
+                flaw = least(flaw, type_flaw(declared, left));
+                rest = right;
+            }
+            TypeTree::List(element) => rest = element,
+            TypeTree::Abs(word, body) => {
+                flaw = least(flaw, name_type_flaw(declared.type_named(word)));
+                rest = body;
+            }
+        }
     }
 }
 

@@ -1,15 +1,12 @@
-use Rattle.std.proofs.Common.{◌≡◌, ◌∙◌, false, List, ap, sym}
-use Rattle.ap_types.specs.declared.nodes.Node.{Node}
-use Rattle.ap_types.specs.Triangular.{table_of, value_of}
-use Rattle.ap_kinds.specs.Reading.{is_closed}
-use Rattle.ap_kinds.proofs.ClosedLemmas.{open_past, open_there}
+use Rattle.std.proofs.Common.{arith}
+use Rattle.ap_kinds.proofs.ClosedLemmas.{open_past}
+use Rattle.ap_kinds.proofs.OpenLemmas.{some_open}
 use Rattle.ap_kinds.proofs.closed.are_closed_in.Goals as goal
 
-pub returns-then-x-table : goal.returns-then-x-table
-returns-then-x-table c e = open_past c.args.table.now c.args.count c.loop-x.x c.loop-x-test.true c.if-x-table.true
+pub returns-then-count-table : goal.returns-then-count-table
+returns-then-count-table c e = open_past c.args.table.now c.args.count c.args.table.now.holes c.if-count-table.true (omega arith)
 
-pub returns-then-not-is_closed_in : goal.returns-then-not-is_closed_in
-returns-then-not-is_closed_in c e =
-    let here : is_closed (value_of (table_of c.args.table.now.nodes.items) c.loop-x.x) ≡ false =
-    ap (λ (ns : List Node). is_closed (value_of (table_of ns) c.loop-x.x)) (sym c.as_slice.ensures.value) ∙ sym c.is_closed_in.ensures.closed ∙ c.if-not-is_closed_in.true in
-    open_there c.args.table.now c.args.count c.loop-x.x c.loop-x-test.true c.if-x-table.false here
+pub returns : goal.returns
+returns c =
+    some_open c.are_closed_places.result c.args.table.now c.as_slice.result.now c.args.count c.in_ok-places.places.items c.as_slice.ensures.value c.if-count-table.false
+    c.in_ok-places.ensures c.are_closed_places.ensures

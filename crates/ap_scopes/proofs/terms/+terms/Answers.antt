@@ -1,0 +1,123 @@
+use Rattle.std.proofs.Common.{◌≡◌, ◌≤◌, sym, ap, ◌∙◌, arith}
+use Rattle.ap_defs.specs.RawTerms.{raw_of, pair, app, abs}
+use Rattle.ap_spines.specs.declared.RawLayer.TheVariants as around
+use Rattle.ap_trees.specs.declared.trees.Tree.{Tree}
+use Rattle.ap_trees.specs.declared.trees.Args.{Args}
+use Rattle.ap_trees.specs.Terms as terms
+use Rattle.ap_trees.specs.Trees.{term_of, terms_of, name_of}
+use Rattle.ap_scopes.specs.Declarations.{constructor_place}
+use Rattle.ap_scopes.specs.Resolution.{made, binder, resolved_term, resolved_arguments, constructor_number, swapped_by, two_ids, in_order}
+use Rattle.ap_scopes.specs.Views.{declared_of, scope_of, found_of}
+use Rattle.ap_scopes.proofs.LayerLemmas.{then_is, raw_goes_in, raw_end}
+use Rattle.ap_scopes.proofs.TreeSizes.{term_size, terms_size}
+use Rattle.ap_scopes.proofs.Orders.{in_order_is}
+use Rattle.ap_scopes.proofs.terms.+terms.Goals as goal
+
+pub resolved_arguments-loop-rest-preserved : goal.resolved_arguments-loop-rest-preserved
+resolved_arguments-loop-rest-preserved t c =
+    let d = declared_of c.args.declared.now in
+    let s = scope_of c.args.scope.now in
+    let first = c.in_ok-resolved_term-in-More.field-0 in
+    let more = terms_of c.deref-rest.result.now in
+    let before = found_of c.loop-rest.found in
+    let after = found_of c.resolved_term-in-More.new.found in
+    let is : terms_of c.loop-rest.rest.now ≡ terms.More (term_of c.in-More.first) more = ap terms_of c.in-More.is ∙ ap (λ (u : Args). terms.More (term_of c.in-More.first) (terms_of u)) (sym c.deref-rest.ensures) in
+    record {
+      all = raw_goes_in c.loop-rest.layers.items c.push.new.self.items (around.Left first) (resolved_arguments d s (terms_of c.loop-rest.rest.now) before) (resolved_arguments d s more after) _ c.in_ok-push-in-More.ensures.items
+          (ap (λ u. resolved_arguments d s u before) is ∙ then_is pair (resolved_term d s (term_of c.in-More.first)) (resolved_arguments d s more) before after (raw_of first) c.in_ok-resolved_term-in-More.ensures.value)
+          c.loop-rest.invariant.all;
+      numbered = c.in_ok-resolved_term-in-More.ensures.numbered;
+      smaller = let k : terms_size (terms.More (term_of c.in-More.first) more) ≤ terms_size (terms_of c.args.args.now) = rw is at c.loop-rest.invariant.smaller in omega arith;
+    }
+
+pub resolved_term-returns-in-Apply-clause-value : goal.resolved_term-returns-in-Apply-clause-value
+resolved_term-returns-in-Apply-clause-value t c =
+    let d = declared_of c.args.declared.now in
+    let s = scope_of c.args.scope.now in
+    let before = found_of c.loop-rest.found in
+    let word = c.in-Apply.word.now in
+    let number = c.constructor_number-number.result in
+    let rest = terms_of c.in-Apply.args.value in
+    let place : number ≡ constructor_number (constructor_place d word) = c.constructor_number-number.ensures ∙ ap constructor_number c.constructor_place.ensures in
+    let whole : resolved_term d s (term_of c.loop-rest.rest.now) before ≡ made (app number) (resolved_arguments d s rest before) =
+    ap (λ (u : Tree). resolved_term d s (term_of u) before) c.in-Apply.is ∙ ap (λ n. made (app n) (resolved_arguments d s rest before)) (sym place) in
+    let value : (raw_of c.in_ok-args-in-Apply.args, found_of c.resolved_arguments.new.found) ≡ resolved_arguments d s rest before =
+    c.in_ok-args-in-Apply.ensures.value ∙ ap (λ (u : Args). resolved_arguments d s (terms_of u) before) c.deref.ensures in
+    raw_end c.close_raw-in-Apply.result c.push.new.self.items (raw_of c.in_ok-args-in-Apply.args) (found_of c.resolved_arguments.new.found) (resolved_arguments d s rest before) _ c.close_raw-in-Apply.ensures value
+    (raw_goes_in c.loop-rest.layers.items c.push.new.self.items (around.App number) (resolved_term d s (term_of c.loop-rest.rest.now) before) (resolved_arguments d s rest before) _ c.in_ok-push-in-Apply.ensures.items whole c.loop-rest.invariant.all)
+
+pub resolved_term-loop-rest-preserved-in-Pair : goal.resolved_term-loop-rest-preserved-in-Pair
+resolved_term-loop-rest-preserved-in-Pair t c =
+    let d = declared_of c.args.declared.now in
+    let s = scope_of c.args.scope.now in
+    let first = c.in_ok-resolved_term-in-Pair.field-0 in
+    let left = term_of c.in-Pair.left.value in
+    let right = term_of c.deref-rest.result.now in
+    let before = found_of c.loop-rest.found in
+    let after = found_of c.resolved_term.new.found in
+    let is : term_of c.loop-rest.rest.now ≡ terms.Pair left right = ap term_of c.in-Pair.is ∙ ap (λ (u : Tree). terms.Pair left (term_of u)) (sym c.deref-rest.ensures) in
+    let value : (raw_of first, after) ≡ resolved_term d s left before = c.in_ok-resolved_term-in-Pair.ensures.value ∙ ap (λ (u : Tree). resolved_term d s (term_of u) before) c.deref-in-Pair.ensures in
+    record {
+      all = raw_goes_in c.loop-rest.layers.items c.push-in-Pair.new.self.items (around.Left first) (resolved_term d s (term_of c.loop-rest.rest.now) before) (resolved_term d s right after) _ c.in_ok-push-in-Pair.ensures.items
+          (ap (λ u. resolved_term d s u before) is ∙ then_is pair (resolved_term d s left) (resolved_term d s right) before after (raw_of first) value) c.loop-rest.invariant.all;
+      numbered = c.in_ok-resolved_term-in-Pair.ensures.numbered;
+      smaller = let k : term_size (terms.Pair left right) ≤ term_size (term_of c.args.tree.now) = rw is at c.loop-rest.invariant.smaller in omega arith;
+    }
+
+pub resolved_term-loop-rest-preserved-in-Cell : goal.resolved_term-loop-rest-preserved-in-Cell
+resolved_term-loop-rest-preserved-in-Cell t c =
+    let d = declared_of c.args.declared.now in
+    let s = scope_of c.args.scope.now in
+    let first = c.in_ok-resolved_term-in-Cell.field-0 in
+    let head = term_of c.in-Cell.head.value in
+    let tail = term_of c.deref-rest-in-Cell.result.now in
+    let before = found_of c.loop-rest.found in
+    let after = found_of c.resolved_term-in-Cell.new.found in
+    let is : term_of c.loop-rest.rest.now ≡ terms.Cell head tail = ap term_of c.in-Cell.is ∙ ap (λ (u : Tree). terms.Cell head (term_of u)) (sym c.deref-rest-in-Cell.ensures) in
+    let value : (raw_of first, after) ≡ resolved_term d s head before = c.in_ok-resolved_term-in-Cell.ensures.value ∙ ap (λ (u : Tree). resolved_term d s (term_of u) before) c.deref-in-Cell.ensures in
+    let parts = in_order pair (resolved_term d s head) (resolved_term d s tail) before in
+    record {
+      all = raw_goes_in c.push-in-Cell.new.self.items c.push-in-Cell-2.new.self.items (around.Left first) parts (resolved_term d s tail after) _ c.in_ok-push-in-Cell-2.ensures.items
+          (then_is pair (resolved_term d s head) (resolved_term d s tail) before after (raw_of first) value)
+          (raw_goes_in c.loop-rest.layers.items c.push-in-Cell.new.self.items (around.App 1) (resolved_term d s (term_of c.loop-rest.rest.now) before) parts _ c.in_ok-push-in-Cell.ensures.items (ap (λ u. resolved_term d s u before) is) c.loop-rest.invariant.all);
+      numbered = c.in_ok-resolved_term-in-Cell.ensures.numbered;
+      smaller = let k : term_size (terms.Cell head tail) ≤ term_size (term_of c.args.tree.now) = rw is at c.loop-rest.invariant.smaller in omega arith;
+    }
+
+pub resolved_term-loop-rest-preserved-in-Abs : goal.resolved_term-loop-rest-preserved-in-Abs
+resolved_term-loop-rest-preserved-in-Abs t c =
+    let d = declared_of c.args.declared.now in
+    let s = scope_of c.args.scope.now in
+    let id = c.in_ok-binder-in-Abs.field-0 in
+    let spelling = name_of c.in-Abs.spelling in
+    let body = term_of c.deref-rest-in-Abs.result.now in
+    let before = found_of c.loop-rest.found in
+    let after = found_of c.binder.new.found in
+    let is : term_of c.loop-rest.rest.now ≡ terms.Abs spelling body = ap term_of c.in-Abs.is ∙ ap (λ (u : Tree). terms.Abs spelling (term_of u)) (sym c.deref-rest-in-Abs.ensures) in
+    record {
+      all = raw_goes_in c.loop-rest.layers.items c.push-in-Abs.new.self.items (around.Abs id) (resolved_term d s (term_of c.loop-rest.rest.now) before) (resolved_term d s body after) _ c.in_ok-push-in-Abs.ensures.items
+          (ap (λ u. resolved_term d s u before) is ∙ then_is abs (binder s spelling) (resolved_term d s body) before after id c.in_ok-binder-in-Abs.ensures.value) c.loop-rest.invariant.all;
+      numbered = c.in_ok-binder-in-Abs.ensures.numbered;
+      smaller = let k : term_size (terms.Abs spelling body) ≤ term_size (term_of c.args.tree.now) = rw is at c.loop-rest.invariant.smaller in omega arith;
+    }
+
+pub resolved_term-loop-rest-preserved : goal.resolved_term-loop-rest-preserved
+resolved_term-loop-rest-preserved t c =
+    let d = declared_of c.args.declared.now in
+    let s = scope_of c.args.scope.now in
+    let i = c.in_ok-left-in-Swapped.left in
+    let j = c.in_ok-right-in-Swapped.right in
+    let left = name_of c.in-Swapped.left in
+    let right = name_of c.in-Swapped.right in
+    let body = term_of c.deref-rest-in-Swapped.result.now in
+    let before = found_of c.loop-rest.found in
+    let between = found_of c.binder-in-Swapped.new.found in
+    let after = found_of c.binder-in-Swapped-2.new.found in
+    let is : term_of c.loop-rest.rest.now ≡ terms.Swapped left right body = ap term_of c.in-Swapped.is ∙ ap (λ (u : Tree). terms.Swapped left right (term_of u)) (sym c.deref-rest-in-Swapped.ensures) in
+    let ends = in_order_is two_ids (binder s left) (binder s right) before between after i j c.in_ok-left-in-Swapped.ensures.value c.in_ok-right-in-Swapped.ensures.value in
+    record {
+      all = raw_goes_in c.loop-rest.layers.items c.push-in-Swapped.new.self.items (around.Swapped i j) (resolved_term d s (term_of c.loop-rest.rest.now) before) (resolved_term d s body after) _ c.in_ok-push-in-Swapped.ensures.items
+          (ap (λ u. resolved_term d s u before) is ∙ then_is swapped_by (in_order two_ids (binder s left) (binder s right)) (resolved_term d s body) before after (i, j) ends) c.loop-rest.invariant.all;
+      numbered = c.in_ok-right-in-Swapped.ensures.numbered;
+      smaller = let k : term_size (terms.Swapped left right body) ≤ term_size (term_of c.args.tree.now) = rw is at c.loop-rest.invariant.smaller in omega arith;
+    }

@@ -1,0 +1,96 @@
+//! Terms and goals as they are read, made from the outside in.
+//!
+//! One can be as deep to the right as its text is long. Who makes it keeps what stands round the part
+//! that is still to be made as a list of layers, of which the first is outermost, and then closes them.
+#![tactic(auto)]
+
+ghost use Rattle.std.specs.Prelude.{◌≡◌, IfOk};
+ghost use Rattle.ap_defs.specs.RawTerms.{raw_of};
+ghost use Rattle.ap_defs.specs.Goals.{goal_over};
+ghost use Rattle.ap_spines.specs.Spines.{raw_in, raw_within, goal_in, goal_within};
+
+use ap_defs::goals::Goal;
+use ap_defs::memory::Memory;
+use ap_defs::terms::{Id, Name, Raw, Var};
+use std::alloc::Global;
+
+/// What stands round a part of a term: the part is right of a term in a pair, the argument of a
+/// constructor, the body of an abstraction, or what is swapped.
+#[derive(Debug, Drop)]
+pub enum RawLayer {
+    Left(Raw),
+    App(u32),
+    Abs(Id),
+    Swapped(Id, Id),
+}
+
+/// What stands round a part of a goal: the part is right of a goal and `,` or `;`, or the body of
+/// `exists` or `new`.
+#[derive(Debug, Drop)]
+pub enum GoalLayer {
+    Both(Goal<Raw>),
+    Either(Goal<Raw>),
+    Exists(Var),
+    New(Name),
+}
+
+/// A term in a layer.
+fn raw_in(alloc: Global, layer: RawLayer, t: Raw) -> Result<Raw, Memory>
+    ensures { IfOk result (λ u. raw_of u ≡ raw_in layer (raw_of t)) }
+{
+    match layer {
+        RawLayer::Left(left) => {
+            let left = Box::new(alloc, left)?;
+            Ok(Raw::Pair(left, Box::new(alloc, t)?))
+        }
+        RawLayer::App(f) => Ok(Raw::App(f, Box::new(alloc, t)?)),
+        RawLayer::Abs(i) => Ok(Raw::Abs(i, Box::new(alloc, t)?)),
+        RawLayer::Swapped(i, j) => Ok(Raw::Swapped(i, j, Box::new(alloc, t)?)),
+    }
+}
+
+/// A term within layers. `Err` is want of memory.
+#[tactic(auto, using(crate::proofs::SpineLemmas::raw_within_last))]
+pub fn close_raw(alloc: Global, mut layers: Vec<RawLayer>, t: Raw) -> Result<Raw, Memory>
+    ensures { IfOk result (λ u. raw_of u ≡ raw_within layers.items (raw_of t)) }
+{
+    let mut made = t;
+    while let Some(layer) = layers.pop() {
+        made = raw_in(alloc, layer, made)?;
+    }
+    Ok(made)
+}
+
+/// A goal in a layer.
+fn goal_in(alloc: Global, layer: GoalLayer, g: Goal<Raw>) -> Result<Goal<Raw>, Memory>
+    ensures { IfOk result (λ h. goal_over raw_of h ≡ goal_in layer (goal_over raw_of g)) }
+{
+    match layer {
+        GoalLayer::Both(left) => {
+            let left = Box::new(alloc, left)?;
+            Ok(Goal::Both(left, Box::new(alloc, g)?))
+        }
+        GoalLayer::Either(left) => {
+            let left = Box::new(alloc, left)?;
+            Ok(Goal::Either(left, Box::new(alloc, g)?))
+        }
+        GoalLayer::Exists(x) => Ok(Goal::Exists(x, Box::new(alloc, g)?)),
+        GoalLayer::New(a) => Ok(Goal::New(a, Box::new(alloc, g)?)),
+    }
+}
+
+/// A goal within layers. `Err` is want of memory.
+#[tactic(auto, using(crate::proofs::SpineLemmas::goal_within_last))]
+pub fn close_goal(
+    alloc: Global,
+    mut layers: Vec<GoalLayer>,
+    g: Goal<Raw>,
+) -> Result<Goal<Raw>, Memory>
+    ensures { IfOk result (λ h. goal_over raw_of h ≡ goal_within layers.items (goal_over raw_of g)) }
+{
+    let mut made = g;
+    while let Some(layer) = layers.pop() {
+        made = goal_in(alloc, layer, made)?;
+    }
+    Ok(made)
+}
