@@ -1,8 +1,8 @@
 //! Where branches stand.
 
-ghost use Rattle.std.specs.Prelude.{◌≡◌, ◌^◌, ◌<◌, IfOk, length, map};
-ghost use Rattle.ap_defs.specs.Goals.{clause_of};
-ghost use Rattle.ap_defs.specs.Types.{locals_of};
+ghost use Rattle.std.specs.Prelude.{◌≡◌, ◌^◌, ◌<◌, [], IfOk, List as list, length, map, take};
+ghost use Rattle.ap_defs.specs.Goals.{Clauses, clause_of};
+ghost use Rattle.ap_defs.specs.Types.{NominalLocal, locals_of};
 ghost use Rattle.ap_backchain.specs.Below.{AreClausesBelow};
 ghost use Rattle.ap_backchain.specs.Branches.{IsChoosing, marks_of_standing, path_of_standing};
 ghost use Rattle.ap_backchain.specs.Marks.{marks_from};
@@ -42,6 +42,18 @@ pub fn path_of<'s>(standing: &'s Standing<'_>) -> &'s [u32]
     }
 }
 
+/// The search failed with the first so many of the choices on the way to a place.
+fn failed_at<'a>(place: Place<'a>, made: usize) -> Standing<'a>
+    ensures marks { (program : Clauses) (locals : list NominalLocal) →
+        marks_of_standing program locals result ≡ [] }
+    ensures path { path_of_standing result ≡ take made place.entry.path.items }
+    ensures choosing { (program : Clauses) → IsChoosing program result }
+{
+    let mut path = place.path;
+    path.truncate(made);
+    Standing::Failed(path)
+}
+
 /// The search from a place up to its first choice or its end.
 pub fn advance<'a>(
     alloc: Global,
@@ -55,14 +67,14 @@ pub fn advance<'a>(
     ensures path { IfOk result (λ s. path_of_standing s ≡ place.entry.path.items) }
     ensures choosing { IfOk result (λ s. IsChoosing (map (map clause_of) clauses.now) s) }
 {
-    let path = place.path.to_vec(alloc)?;
+    let made = place.path.len();
     let mut here = place;
     'advancing: loop {
         match choice_at(clauses, &here) {
             Some(width) => return Ok(Standing::Choosing(width, here)),
             None => match take_turn(alloc, clauses, locals, &mut here)? {
                 Turn::Ends(out) => return Ok(Standing::Ended(out)),
-                Turn::Fails => return Ok(Standing::Failed(path)),
+                Turn::Fails => return Ok(failed_at(here, made)),
                 Turn::Goes => {}
             },
         }

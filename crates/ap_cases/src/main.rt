@@ -1,9 +1,10 @@
 //! Whole texts, one after the other, and what the top call writes for each.
 //!
 //! The files `.cases` of the folder that this program is run in have texts, which are run by one worker and by
-//! several. The file `words` has command lines. The other texts are read as streams, as the program reads them: each of
-//! the folders `examples` and `bytes` has a file `runs`, of a line for each text with the depth and its name. The files
-//! of `searched` are told in `searched.rt`, and those of `bundles` in `bundles.rt`.
+//! several; those of `sampled_to_0.cases` and so on were made at random, and what is wanted of them is from an
+//! implementation that was written apart. The file `words` has command lines. The other texts are read as streams, as
+//! the program reads them: each of the folders `examples` and `bytes` has a file `runs`, of a line for each text with the
+//! depth and its name. The files of `searched` are told in `searched.rt`, and those of `bundles` in `bundles.rt`.
 #![tactic(auto)]
 
 mod bundles;
@@ -16,7 +17,7 @@ mod streams;
 
 use std::io;
 
-const FILES: [&str; 22] = [
+const FILES: [&str; 27] = [
     "substituted.cases",
     "substituted_to_2.cases",
     "substituted_to_0.cases",
@@ -39,6 +40,11 @@ const FILES: [&str; 22] = [
     "name_faults.cases",
     "nested.cases",
     "grammar.cases",
+    "sampled_to_0.cases",
+    "sampled_to_1.cases",
+    "sampled_to_2.cases",
+    "sampled_to_3.cases",
+    "sampled_to_4.cases",
 ];
 
 fn main(rt: HostRuntime) -> io::Result<()> {

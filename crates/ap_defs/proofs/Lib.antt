@@ -1,1 +1,2 @@
 pub mod SpineLemmas
+mod WeightLemmas

@@ -1,6 +1,6 @@
 -- Derivations: a node for each goal that was selected, over terms of some form. Over ground terms
 -- they are the ground proofs of nominal logic.
-use Rattle.std.specs.Prelude.{ℕ, suc, max, List, [], ◌∷◌, ◌++◌, map}
+use Rattle.std.specs.Prelude.{ℕ, suc, ◌+◌, max, List, [], ◌∷◌, ◌++◌, map}
 use Rattle.ap_defs.specs.declared.terms.Name.{Name}
 use Rattle.ap_defs.specs.declared.outcomes.Derivation as code
 use Rattle.ap_defs.specs.Terms.{NominalTerm, GroundTerm, term_of}
@@ -70,6 +70,18 @@ height (left d) = height d
 height (right d) = height d
 height (exists t d) = height d
 height (new a d) = height d
+
+-- how many nodes it has, where those of a left part of a conjunction count twice
+abbrev pub weight : {T : Type 0} → DerivationOver T → ℕ
+weight (atom k as' ts d) = suc (weight d)
+weight equal = 1
+weight fresh = 1
+weight succeed = 1
+weight (both d e) = suc (weight d + weight d + weight e)
+weight (left d) = suc (weight d)
+weight (right d) = suc (weight d)
+weight (exists t d) = suc (weight d)
+weight (new a d) = suc (weight d)
 
 -- the numbers of its clauses and the sides of its disjunctions, from the left
 abbrev pub path : {T : Type 0} → DerivationOver T → List ℕ

@@ -1,6 +1,5 @@
 -- Terms, types and goals inside layers, of which the first is outermost.
 use Rattle.std.specs.Prelude.{List, [], ◌∷◌}
-use Rattle.ap_defs.specs.declared.terms.Term.{Term}
 use Rattle.ap_defs.specs.declared.spines.TermLayer.{TermLayer}
 use Rattle.ap_defs.specs.declared.spines.TermLayer.TheVariants as around_term
 use Rattle.ap_defs.specs.declared.spines.TypeLayer.{TypeLayer}

@@ -1,7 +1,13 @@
 //! Answers, what is shown of them, and derivations.
+//!
+//! A derivation can be as deep as the search went, on either side, so it is dropped in a loop.
+
+ghost use Rattle.std.specs.Prelude.{◌≡◌, ◌<◌, true, false};
+ghost use Rattle.ap_defs.specs.Derivations.{both, derivation_of, weight};
 
 use crate::lists::{List, Text};
 use crate::terms::{Cond, Name, Term, Ty, Var};
+use std::mem;
 
 /// An answer: the bindings of the query's free variables in order, the conditions ascending, and
 /// the unbound variables with their types, ascending.
@@ -13,7 +19,6 @@ pub struct Answer {
 }
 
 /// How a goal was solved: a node for each goal that was selected.
-#[derive(Drop)]
 pub enum Derivation {
     /// The clause's number from 1, the names and terms for its free names and variables, its body.
     Atom(u32, List<Name>, List<Term>, Box<Derivation>),
@@ -25,6 +30,69 @@ pub enum Derivation {
     Right(Box<Derivation>),
     Exists(Term, Box<Derivation>),
     New(Name, Box<Derivation>),
+}
+
+/// Turns the part of the left derivation, or its first one, to the right, and puts what was right in its
+/// place. It answers whether the left one has a part.
+fn turn_part(left: &mut Derivation, right: &mut Box<Derivation>) -> bool
+    ensures turned { result ≡ true →
+        weight (both (derivation_of right.new.value) (derivation_of left.new))
+        < weight (both (derivation_of left.old) (derivation_of right.old.value)) }
+    ensures leaf { result ≡ false →
+        (right.new ≡ right.old) × (weight (derivation_of left.new) ≡ 1) }
+{
+    match left {
+        Derivation::Eq => false,
+        Derivation::Fresh => false,
+        Derivation::True => false,
+        Derivation::Atom(_, _, _, body) => {
+            mem::swap(body, right);
+            true
+        }
+        Derivation::Both(first, second) => {
+            mem::swap(first, right);
+            mem::swap(first, second);
+            true
+        }
+        Derivation::Left(side) => {
+            mem::swap(side, right);
+            true
+        }
+        Derivation::Right(side) => {
+            mem::swap(side, right);
+            true
+        }
+        Derivation::Exists(_, body) => {
+            mem::swap(body, right);
+            true
+        }
+        Derivation::New(_, body) => {
+            mem::swap(body, right);
+            true
+        }
+    }
+}
+
+impl Drop for Derivation {
+    fn drop(mut self) {
+        loop {
+            match self {
+                Derivation::Eq | Derivation::Fresh | Derivation::True => return,
+                Derivation::Atom(_, _names, _terms, body) => self = Box::into_inner(body),
+                Derivation::Both(mut left, mut right) => {
+                    if turn_part(&mut left, &mut right) {
+                        self = Derivation::Both(right, left);
+                    } else {
+                        self = Box::into_inner(right);
+                    }
+                }
+                Derivation::Left(side) => self = Box::into_inner(side),
+                Derivation::Right(side) => self = Box::into_inner(side),
+                Derivation::Exists(_term, body) => self = Box::into_inner(body),
+                Derivation::New(_, body) => self = Box::into_inner(body),
+            }
+        }
+    }
 }
 
 /// An answer to the query of this number, from 1, with its derivation.

@@ -22,3 +22,6 @@ advancing-preserved c =
       marks = went_marks program ls (position_of c.advancing.here) c.in-None.ensures r e ∙ c.advancing.invariant.marks;
       path = went_path program ls (position_of c.advancing.here) c.in-None.ensures r e ∙ c.advancing.invariant.path;
     }
+
+pub returns-in-Fails-clause-choosing : goal.returns-in-Fails-clause-choosing
+returns-in-Fails-clause-choosing c = c.failed_at.ensures.choosing (map (map clause_of) c.args.clauses.now)
