@@ -11,7 +11,7 @@ use std::alloc::Global;
 
 /// What stands round a part of a shape: the part is right of a shape in a pair, the elements of a list,
 /// or the body of an abstraction over a name type.
-#[derive(Debug, Drop)]
+#[derive(Drop)]
 pub(crate) enum ShapeLayer {
     Left(Shape),
     List,

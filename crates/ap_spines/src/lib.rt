@@ -16,7 +16,7 @@ use std::alloc::Global;
 
 /// What stands round a part of a term: the part is right of a term in a pair, the argument of a
 /// constructor, the body of an abstraction, or what is swapped.
-#[derive(Debug, Drop)]
+#[derive(Drop)]
 pub enum RawLayer {
     Left(Raw),
     App(u32),
@@ -26,7 +26,7 @@ pub enum RawLayer {
 
 /// What stands round a part of a goal: the part is right of a goal and `,` or `;`, or the body of
 /// `exists` or `new`.
-#[derive(Debug, Drop)]
+#[derive(Drop)]
 pub enum GoalLayer {
     Both(Goal<Raw>),
     Either(Goal<Raw>),
