@@ -35,12 +35,12 @@ then_names (susp p x) as' = ap (λ z. z ++ as') (sym (nothing_more (names_of p))
     nothing_more [] = refl
     nothing_more (b ∷ bs) = ap (λ z. b ∷ z) (nothing_more bs)
 
-pub pair_names : (t u : NominalTerm) (as' bs cs : List Name) → bs ≡ as' ++ names_then t [] → cs ≡ bs ++ names_then u [] → cs ≡ as' ++ names_then (pair t u) []
-pair_names t u as' bs cs h k =
-    k ∙ ap (λ z. z ++ names_then u []) h ∙ append_assoc as' (names_then t []) (names_then u []) ∙ ap (λ z. as' ++ z) (sym (then_names t (names_then u [])))
+pub pair_names : (t u : NominalTerm) (as' bs : List Name) → bs ≡ as' ++ names_then t [] → bs ++ names_then u [] ≡ as' ++ names_then (pair t u) []
+pair_names t u as' bs h =
+    ap (λ z. z ++ names_then u []) h ∙ append_assoc as' (names_then t []) (names_then u []) ∙ ap (λ z. as' ++ z) (sym (then_names t (names_then u [])))
 
-pub abs_names : (a : Name) (t : NominalTerm) (as' bs cs : List Name) → bs ≡ as' ++ (a ∷ []) → cs ≡ bs ++ names_then t [] → cs ≡ as' ++ names_then (abs a t) []
-abs_names a t as' bs cs h k = k ∙ ap (λ z. z ++ names_then t []) h ∙ append_assoc as' (a ∷ []) (names_then t [])
+pub abs_names : (a : Name) (t : NominalTerm) (as' bs : List Name) → bs ≡ as' ++ (a ∷ []) → bs ++ names_then t [] ≡ as' ++ names_then (abs a t) []
+abs_names a t as' bs h = ap (λ z. z ++ names_then t []) h ∙ append_assoc as' (a ∷ []) (names_then t [])
 
 then_vars : (t : NominalTerm) (xs : List Var) → vars_then t xs ≡ vars_then t [] ++ xs
 then_vars unit xs = refl
@@ -52,9 +52,9 @@ then_vars (app f t) xs = then_vars t xs
 then_vars (abs a t) xs = then_vars t xs
 then_vars (susp p x) xs = refl
 
-pub pair_vars : (t u : NominalTerm) (xs ys zs : List Var) → ys ≡ xs ++ vars_then t [] → zs ≡ ys ++ vars_then u [] → zs ≡ xs ++ vars_then (pair t u) []
-pair_vars t u xs ys zs h k =
-    k ∙ ap (λ z. z ++ vars_then u []) h ∙ append_assoc xs (vars_then t []) (vars_then u []) ∙ ap (λ z. xs ++ z) (sym (then_vars t (vars_then u [])))
+pub pair_vars : (t u : NominalTerm) (xs ys : List Var) → ys ≡ xs ++ vars_then t [] → ys ++ vars_then u [] ≡ xs ++ vars_then (pair t u) []
+pair_vars t u xs ys h =
+    ap (λ z. z ++ vars_then u []) h ∙ append_assoc xs (vars_then t []) (vars_then u []) ∙ ap (λ z. xs ++ z) (sym (then_vars t (vars_then u [])))
 
 pub two_names : (t u : NominalTerm) (bs cs : List Name) → bs ≡ [] ++ names_then t [] → cs ≡ bs ++ names_then u [] → cs ≡ names_then t (names_then u [])
 two_names t u bs cs h k = k ∙ ap (λ z. z ++ names_then u []) h ∙ sym (then_names t (names_then u []))
@@ -101,3 +101,14 @@ pub without_var_keep : (x : Var) (vars : List Var) (i : ℕ) (d : Var) (xs ys : 
 without_var_keep x vars i d xs ys h e k =
     ap₂ (λ z n. z ++ without_var x (drop n vars)) k (add-one i) ∙ append_assoc xs (get_or vars i d ∷ []) (without_var x (drop (suc i) vars))
     ∙ ap (λ z. xs ++ z) (sym (ap (without_var x) (drop-cons vars i d h) ∙ ap (λ v. if v then without_var x (drop (suc i) vars) else (get_or vars i d ∷ without_var x (drop (suc i) vars))) e))
+
+-- what is right of what was added
+module _ {A : Type 0} where
+  added : (xs ys gs hs : List A) → ys ≡ xs ++ gs → ys ++ hs ≡ xs ++ (gs ++ hs)
+  added xs ys gs hs h = ap (λ z. z ++ hs) h ∙ append_assoc xs gs hs
+
+pub both_names : (as' bs gs hs : List Name) → bs ≡ as' ++ gs → bs ++ hs ≡ as' ++ (gs ++ hs)
+both_names = added
+
+pub both_vars : (xs ys gs hs : List Var) → ys ≡ xs ++ gs → ys ++ hs ≡ xs ++ (gs ++ hs)
+both_vars = added

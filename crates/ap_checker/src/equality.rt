@@ -1,9 +1,9 @@
 //! Freshness and equality of nominal terms under conditions, after Urban, Pitts and Gabbay.
 
-ghost use Rattle.std.specs.Prelude.{◌≡◌, ◌&&◌, ◌||◌, IfOk};
+ghost use Rattle.std.specs.Prelude.{◌≡◌, ◌==◌, ◌&&◌, ◌||◌, [], ◌∷◌, true, false, IfOk, MatchOption};
 ghost use Rattle.ap_defs.specs.Freshness.{all_fresh, alpha_under, cond_eq, fresh_under, has_cond};
-ghost use Rattle.ap_defs.specs.Permutations.{act_name, disagreement, name_eq};
-ghost use Rattle.ap_defs.specs.Terms.{term_of};
+ghost use Rattle.ap_defs.specs.Permutations.{act_name, disagreement, name_eq, swap_of};
+ghost use Rattle.ap_defs.specs.Terms.{act_term, term_of};
 ghost use Rattle.ap_checker.specs.Settled.{are_settled, is_settled};
 
 use crate::swappings::{image, moved, preimage};
@@ -37,17 +37,28 @@ fn has(conds: &[Cond], c: &Cond) -> bool
 pub fn is_fresh_under(conds: &[Cond], a: Name, t: &Term) -> bool
     ensures { result ≡ fresh_under conds.now a (term_of t.now) }
 {
-    match t {
-        Term::Unit => true,
-        Term::Name(b) => a != *b,
-        Term::Pair(left, right) => {
-            is_fresh_under(conds, a, left) && is_fresh_under(conds, a, right)
-        }
-        Term::App(_, argument) => is_fresh_under(conds, a, argument),
-        Term::Abs(b, body) => a == *b || is_fresh_under(conds, a, body),
-        Term::Susp(swaps, x) => {
-            let name = preimage(swaps.items(), a);
-            has(conds, &Cond { name, var: *x })
+    let mut rest = t;
+    loop {
+        match rest {
+            Term::Unit => return true,
+            Term::Name(b) => return a != *b,
+            Term::Susp(swaps, x) => {
+                let name = preimage(swaps.items(), a);
+                return has(conds, &Cond { name, var: *x });
+            }
+            Term::Pair(left, right) => {
+                if !is_fresh_under(conds, a, left) {
+                    return false;
+                }
+                rest = right;
+            }
+            Term::App(_, argument) => rest = argument,
+            Term::Abs(b, body) => {
+                if a == *b {
+                    return true;
+                }
+                rest = body;
+            }
         }
     }
 }
@@ -88,39 +99,75 @@ fn differ_freshly(conds: &[Cond], p: &[Swap], q: &[Swap], var: Var) -> bool
     settles_each(conds, p, q, p, var) && settles_each(conds, p, q, q, var)
 }
 
+/// The body of an abstraction of `b` with `a` for its binder, which is another name, if it can be that.
+#[tactic(auto, unfolding(ap_defs::specs::Permutations::name_eq))]
+fn with_binder(
+    alloc: Global,
+    conds: &[Cond],
+    a: Name,
+    b: Name,
+    body: &Term,
+) -> Result<Option<Term>, Memory>
+    ensures { IfOk result (λ o. MatchOption o
+        ((a.sort == b.sort) && fresh_under conds.now a (term_of body.now) ≡ false)
+        (λ u. ((a.sort == b.sort) && fresh_under conds.now a (term_of body.now) ≡ true)
+        × (term_of u ≡ act_term (swap_of a b ∷ []) (term_of body.now)))) }
+{
+    if a.sort != b.sort || !is_fresh_under(conds, a, body) {
+        return Ok(None);
+    }
+    let swap = [Swap {
+        sort: a.sort,
+        left: a.num,
+        right: b.num,
+    }];
+    let swapped = moved(alloc, &swap, body)?;
+    Ok(Some(swapped))
+}
+
 /// Whether two terms are equal under the conditions. A binder is renamed by a swapping, so this
 /// answers `Memory` where there is none for the term that is swapped.
+///
+/// It goes on along the right parts of pairs, the arguments of constructors and the bodies of
+/// abstractions with one binder, and calls itself elsewhere.
 #[tactic(auto, unfolding(ap_defs::specs::Permutations::name_eq))]
 pub fn are_equal_under(alloc: Global, conds: &[Cond], t: &Term, u: &Term) -> Result<bool, Memory>
     ensures { IfOk result (λ yes. yes ≡ alpha_under conds.now (term_of t.now) (term_of u.now)) }
 {
-    match (t, u) {
-        (Term::Unit, Term::Unit) => Ok(true),
-        (Term::Name(a), Term::Name(b)) => Ok(a == b),
-        (Term::Pair(t, u), Term::Pair(v, w)) => {
-            Ok(are_equal_under(alloc, conds, t, v)? && are_equal_under(alloc, conds, u, w)?)
-        }
-        (Term::App(f, t), Term::App(g, u)) => {
-            Ok(*f == *g && are_equal_under(alloc, conds, t, u)?)
-        }
-        (Term::Abs(a, t), Term::Abs(b, u)) => {
-            if a == b {
-                return are_equal_under(alloc, conds, t, u);
+    let mut left = t;
+    let mut right = u;
+    loop {
+        match (left, right) {
+            (Term::Unit, Term::Unit) => return Ok(true),
+            (Term::Name(a), Term::Name(b)) => return Ok(a == b),
+            (Term::Susp(p, x), Term::Susp(q, y)) => {
+                return Ok(x == y && differ_freshly(conds, p.items(), q.items(), *x));
             }
-            if a.sort != b.sort || !is_fresh_under(conds, *a, u) {
-                return Ok(false);
+            (Term::Pair(t, u), Term::Pair(v, w)) => {
+                if !are_equal_under(alloc, conds, t, v)? {
+                    return Ok(false);
+                }
+                left = u;
+                right = w;
             }
-            let swap = [Swap {
-                sort: a.sort,
-                left: a.num,
-                right: b.num,
-            }];
-            let swapped = moved(alloc, &swap, u)?;
-            are_equal_under(alloc, conds, t, &swapped)
+            (Term::App(f, t), Term::App(g, u)) => {
+                if *f != *g {
+                    return Ok(false);
+                }
+                left = t;
+                right = u;
+            }
+            (Term::Abs(a, t), Term::Abs(b, u)) => {
+                if a != b {
+                    return match with_binder(alloc, conds, *a, *b, u)? {
+                        None => Ok(false),
+                        Some(u) => are_equal_under(alloc, conds, t, &u),
+                    };
+                }
+                left = t;
+                right = u;
+            }
+            _ => return Ok(false),
         }
-        (Term::Susp(p, x), Term::Susp(q, y)) => {
-            Ok(x == y && differ_freshly(conds, p.items(), q.items(), *x))
-        }
-        _ => Ok(false),
     }
 }

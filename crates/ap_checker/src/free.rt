@@ -39,19 +39,22 @@ fn add_swaps(names: &mut Vec<Name>, swaps: &[Swap]) -> Result<(), Memory>
 fn add_names(names: &mut Vec<Name>, t: &Term) -> Result<(), Memory>
     ensures { OnOk result (names.new.items ≡ names.old.items ++ names_then (term_of t.now) []) }
 {
-    match t {
-        Term::Unit => Ok(()),
-        Term::Name(a) => Ok(names.push(*a)?),
-        Term::Pair(left, right) => {
-            add_names(names, left)?;
-            add_names(names, right)
+    let mut rest = t;
+    loop {
+        match rest {
+            Term::Unit => return Ok(()),
+            Term::Name(a) => return Ok(names.push(*a)?),
+            Term::Susp(swaps, _) => return add_swaps(names, swaps.items()),
+            Term::Pair(left, right) => {
+                add_names(names, left)?;
+                rest = right;
+            }
+            Term::App(_, argument) => rest = argument,
+            Term::Abs(a, body) => {
+                names.push(*a)?;
+                rest = body;
+            }
         }
-        Term::App(_, argument) => add_names(names, argument),
-        Term::Abs(a, body) => {
-            names.push(*a)?;
-            add_names(names, body)
-        }
-        Term::Susp(swaps, _) => add_swaps(names, swaps.items()),
     }
 }
 
@@ -60,15 +63,18 @@ fn add_names(names: &mut Vec<Name>, t: &Term) -> Result<(), Memory>
 fn add_vars(vars: &mut Vec<Var>, t: &Term) -> Result<(), Memory>
     ensures { OnOk result (vars.new.items ≡ vars.old.items ++ vars_then (term_of t.now) []) }
 {
-    match t {
-        Term::Unit | Term::Name(_) => Ok(()),
-        Term::Pair(left, right) => {
-            add_vars(vars, left)?;
-            add_vars(vars, right)
+    let mut rest = t;
+    loop {
+        match rest {
+            Term::Unit | Term::Name(_) => return Ok(()),
+            Term::Susp(_, x) => return Ok(vars.push(*x)?),
+            Term::Pair(left, right) => {
+                add_vars(vars, left)?;
+                rest = right;
+            }
+            Term::App(_, argument) => rest = argument,
+            Term::Abs(_, body) => rest = body,
         }
-        Term::App(_, argument) => add_vars(vars, argument),
-        Term::Abs(_, body) => add_vars(vars, body),
-        Term::Susp(_, x) => Ok(vars.push(*x)?),
     }
 }
 
@@ -144,21 +150,82 @@ fn other_vars(alloc: Global, x: Var, vars: &[Var]) -> Result<Vec<Var>, Memory>
     Ok(others)
 }
 
+/// Adds the names that occur in a goal and that no `new` inside it brings.
+///
+/// It goes on along the right part of a goal, and calls itself on left parts and inside `new`.
+#[tactic(auto, using(crate::proofs::FreeLemmas::both_names))]
+fn add_free_names(alloc: Global, names: &mut Vec<Name>, goal: &Goal<Term>) -> Result<(), Memory>
+    ensures { OnOk result (names.new.items ≡ names.old.items ++ free_names_of (goal_of goal.now)) }
+{
+    let mut rest = goal;
+    loop {
+        match rest {
+            Goal::True => return Ok(()),
+            Goal::Atom(_, terms) => {
+                return Ok(names.extend_from_slice(&names_of_each(alloc, terms.items())?)?);
+            }
+            Goal::Equal(t, u) | Goal::Fresh(t, u) => {
+                return Ok(names.extend_from_slice(&names_of_two(alloc, t, u)?)?);
+            }
+            Goal::Both(left, right) => {
+                add_free_names(alloc, names, left)?;
+                rest = right;
+            }
+            Goal::Either(left, right) => {
+                add_free_names(alloc, names, left)?;
+                rest = right;
+            }
+            Goal::Exists(_, inner) => rest = inner,
+            Goal::New(a, inner) => {
+                let mut inside = Vec::new(alloc);
+                add_free_names(alloc, &mut inside, inner)?;
+                return Ok(names.extend_from_slice(&other_names(alloc, a, &inside)?)?);
+            }
+        }
+    }
+}
+
 /// The names that occur in a goal and that no `new` inside it brings.
 pub(crate) fn free_names(alloc: Global, goal: &Goal<Term>) -> Result<Vec<Name>, Memory>
     ensures { IfOk result (λ v. v.items ≡ free_names_of (goal_of goal.now)) }
 {
-    match goal {
-        Goal::True => Ok(Vec::new(alloc)),
-        Goal::Atom(_, terms) => names_of_each(alloc, terms.items()),
-        Goal::Equal(t, u) | Goal::Fresh(t, u) => names_of_two(alloc, t, u),
-        Goal::Both(left, right) | Goal::Either(left, right) => {
-            let mut names = free_names(alloc, left)?;
-            names.extend_from_slice(&free_names(alloc, right)?)?;
-            Ok(names)
+    let mut names = Vec::new(alloc);
+    add_free_names(alloc, &mut names, goal)?;
+    Ok(names)
+}
+
+/// Adds the variables that occur in a goal and that no `exists` inside it brings.
+///
+/// It goes on along the right part of a goal, and calls itself on left parts and inside `exists`.
+#[tactic(auto, using(crate::proofs::FreeLemmas::both_vars))]
+fn add_free_vars(alloc: Global, vars: &mut Vec<Var>, goal: &Goal<Term>) -> Result<(), Memory>
+    ensures { OnOk result (vars.new.items ≡ vars.old.items ++ free_vars_of (goal_of goal.now)) }
+{
+    let mut rest = goal;
+    loop {
+        match rest {
+            Goal::True => return Ok(()),
+            Goal::Atom(_, terms) => {
+                return Ok(vars.extend_from_slice(&vars_of_each(alloc, terms.items())?)?);
+            }
+            Goal::Equal(t, u) | Goal::Fresh(t, u) => {
+                return Ok(vars.extend_from_slice(&vars_of_two(alloc, t, u)?)?);
+            }
+            Goal::Both(left, right) => {
+                add_free_vars(alloc, vars, left)?;
+                rest = right;
+            }
+            Goal::Either(left, right) => {
+                add_free_vars(alloc, vars, left)?;
+                rest = right;
+            }
+            Goal::Exists(x, inner) => {
+                let mut inside = Vec::new(alloc);
+                add_free_vars(alloc, &mut inside, inner)?;
+                return Ok(vars.extend_from_slice(&other_vars(alloc, *x, &inside)?)?);
+            }
+            Goal::New(_, inner) => rest = inner,
         }
-        Goal::Exists(_, inner) => free_names(alloc, inner),
-        Goal::New(a, inner) => other_names(alloc, a, &free_names(alloc, inner)?),
     }
 }
 
@@ -166,16 +233,7 @@ pub(crate) fn free_names(alloc: Global, goal: &Goal<Term>) -> Result<Vec<Name>, 
 pub(crate) fn free_vars(alloc: Global, goal: &Goal<Term>) -> Result<Vec<Var>, Memory>
     ensures { IfOk result (λ v. v.items ≡ free_vars_of (goal_of goal.now)) }
 {
-    match goal {
-        Goal::True => Ok(Vec::new(alloc)),
-        Goal::Atom(_, terms) => vars_of_each(alloc, terms.items()),
-        Goal::Equal(t, u) | Goal::Fresh(t, u) => vars_of_two(alloc, t, u),
-        Goal::Both(left, right) | Goal::Either(left, right) => {
-            let mut vars = free_vars(alloc, left)?;
-            vars.extend_from_slice(&free_vars(alloc, right)?)?;
-            Ok(vars)
-        }
-        Goal::Exists(x, inner) => other_vars(alloc, *x, &free_vars(alloc, inner)?),
-        Goal::New(_, inner) => free_vars(alloc, inner),
-    }
+    let mut vars = Vec::new(alloc);
+    add_free_vars(alloc, &mut vars, goal)?;
+    Ok(vars)
 }

@@ -1,7 +1,7 @@
 //! What stands for the identifiers of an item at a place in its goal, and terms with it put in.
 
 ghost use Rattle.std.specs.Prelude.{◌≡◌, map, IfOk, MatchOption, None, Some};
-ghost use Rattle.ap_defs.specs.Terms.{term_of, unit};
+ghost use Rattle.ap_defs.specs.Terms.{susp, term_of, unit};
 ghost use Rattle.ap_defs.specs.Types.{locals_of};
 ghost use Rattle.ap_checks.specs.OpenEnvironments.{put_in, swap_in};
 ghost use Rattle.ap_checker.specs.Scopes.{environment_of, item_terms, name_stood, term_brought};
@@ -10,6 +10,7 @@ use crate::lookups::{name_for, term_for};
 use crate::swappings::{is_same, moved};
 use ap_defs::goals::Local;
 use ap_defs::memory::Memory;
+use ap_defs::spines::{TermLayer, close_term};
 use ap_defs::terms::{Name, Swap, Term, Var};
 use std::alloc::Global;
 
@@ -112,33 +113,55 @@ fn put_swaps(alloc: Global, scope: &[Standing<'_>], swaps: &[Swap]) -> Result<Ve
     Ok(all)
 }
 
+/// The term for a suspended variable, with the swappings carried out.
+fn put_suspension(
+    alloc: Global,
+    scope: &[Standing<'_>],
+    swaps: &[Swap],
+    x: Var,
+) -> Result<Term, Memory>
+    ensures { IfOk result (λ u. term_of u ≡ put_in (environment_of scope.now) (susp swaps.now x)) }
+{
+    match term_in(scope, x) {
+        None => Ok(Term::Unit),
+        Some(t) => {
+            let swaps = put_swaps(alloc, scope, swaps)?;
+            moved(alloc, &swaps, t)
+        }
+    }
+}
+
 /// The term with its names and variables replaced at once.
+///
+/// It goes on along the right part of a pair, the argument of a constructor and the body of an
+/// abstraction, and calls itself on left parts of pairs alone.
+#[tactic(auto, using(ap_defs::proofs::SpineLemmas::term_within_last))]
 pub(crate) fn put(alloc: Global, scope: &[Standing<'_>], t: &Term) -> Result<Term, Memory>
     ensures { IfOk result (λ u. term_of u ≡ put_in (environment_of scope.now) (term_of t.now)) }
 {
-    match t {
-        Term::Unit => Ok(Term::Unit),
-        Term::Name(a) => Ok(Term::Name(name_in(scope, *a))),
-        Term::Pair(left, right) => {
-            let left = Box::new(alloc, put(alloc, scope, left)?)?;
-            let right = Box::new(alloc, put(alloc, scope, right)?)?;
-            Ok(Term::Pair(left, right))
-        }
-        Term::App(f, argument) => {
-            let argument = Box::new(alloc, put(alloc, scope, argument)?)?;
-            Ok(Term::App(*f, argument))
-        }
-        Term::Abs(a, body) => {
-            let body = Box::new(alloc, put(alloc, scope, body)?)?;
-            Ok(Term::Abs(name_in(scope, *a), body))
-        }
-        Term::Susp(swaps, x) => match term_in(scope, *x) {
-            None => Ok(Term::Unit),
-            Some(t) => {
-                let swaps = put_swaps(alloc, scope, swaps.items())?;
-                moved(alloc, &swaps, t)
+    let mut layers = Vec::new(alloc);
+    let mut rest = t;
+    loop {
+        match rest {
+            Term::Unit => return close_term(alloc, layers, Term::Unit),
+            Term::Name(a) => return close_term(alloc, layers, Term::Name(name_in(scope, *a))),
+            Term::Susp(swaps, x) => {
+                let stood = put_suspension(alloc, scope, swaps.items(), *x)?;
+                return close_term(alloc, layers, stood);
             }
-        },
+            Term::Pair(left, right) => {
+                layers.push(TermLayer::Left(put(alloc, scope, left)?))?;
+                rest = right;
+            }
+            Term::App(f, argument) => {
+                layers.push(TermLayer::App(*f))?;
+                rest = argument;
+            }
+            Term::Abs(a, body) => {
+                layers.push(TermLayer::Abs(name_in(scope, *a)))?;
+                rest = body;
+            }
+        }
     }
 }
 

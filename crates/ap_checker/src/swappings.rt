@@ -6,6 +6,7 @@ ghost use Rattle.ap_defs.specs.Terms.{act_term, term_of};
 
 use ap_defs::lists::List;
 use ap_defs::memory::Memory;
+use ap_defs::spines::{TermLayer, close_term};
 use ap_defs::terms::{Name, Swap, Term};
 use std::alloc::Global;
 
@@ -66,29 +67,33 @@ pub fn preimage(swaps: &[Swap], a: Name) -> Name
 
 /// A copy of a term on which swappings act: they are carried out on its names, and wait in front of
 /// each suspension. `Err` is want of memory.
+#[tactic(auto, using(ap_defs::proofs::SpineLemmas::term_within_last))]
 pub fn moved(alloc: Global, swaps: &[Swap], t: &Term) -> Result<Term, Memory>
     ensures { IfOk result (λ u. term_of u ≡ act_term swaps.now (term_of t.now)) }
 {
-    match t {
-        Term::Unit => Ok(Term::Unit),
-        Term::Name(a) => Ok(Term::Name(image(swaps, *a))),
-        Term::Pair(left, right) => {
-            let left = Box::new(alloc, moved(alloc, swaps, left)?)?;
-            let right = Box::new(alloc, moved(alloc, swaps, right)?)?;
-            Ok(Term::Pair(left, right))
-        }
-        Term::App(f, argument) => {
-            let argument = Box::new(alloc, moved(alloc, swaps, argument)?)?;
-            Ok(Term::App(*f, argument))
-        }
-        Term::Abs(a, body) => {
-            let body = Box::new(alloc, moved(alloc, swaps, body)?)?;
-            Ok(Term::Abs(image(swaps, *a), body))
-        }
-        Term::Susp(more, x) => {
-            let mut all = swaps.to_vec(alloc)?;
-            all.extend_from_slice(more.items())?;
-            Ok(Term::Susp(List::of(all), *x))
+    let mut layers = Vec::new(alloc);
+    let mut rest = t;
+    loop {
+        match rest {
+            Term::Unit => return close_term(alloc, layers, Term::Unit),
+            Term::Name(a) => return close_term(alloc, layers, Term::Name(image(swaps, *a))),
+            Term::Susp(more, x) => {
+                let mut all = swaps.to_vec(alloc)?;
+                all.extend_from_slice(more.items())?;
+                return close_term(alloc, layers, Term::Susp(List::of(all), *x));
+            }
+            Term::Pair(left, right) => {
+                layers.push(TermLayer::Left(moved(alloc, swaps, left)?))?;
+                rest = right;
+            }
+            Term::App(f, argument) => {
+                layers.push(TermLayer::App(*f))?;
+                rest = argument;
+            }
+            Term::Abs(a, body) => {
+                layers.push(TermLayer::Abs(image(swaps, *a)))?;
+                rest = body;
+            }
         }
     }
 }

@@ -1,4 +1,7 @@
 //! Types of terms with variables.
+//!
+//! A list or a type can be as deep to the right as its text is long: tests go on along the right part
+//! of a pair in a loop, and call themselves on left parts alone.
 
 ghost use Rattle.std.specs.Prelude.{◌≡◌, map, MatchOption, Some, None};
 ghost use Rattle.ap_defs.specs.Answers.{typed_var_of};
@@ -6,7 +9,7 @@ ghost use Rattle.ap_defs.specs.Printing.{constructor_in};
 ghost use Rattle.ap_defs.specs.Terms.{term_of};
 ghost use Rattle.ap_defs.specs.Types.{base, constructor_of, type_of};
 ghost use Rattle.ap_defs.specs.Typing.{arguments as wanted_arguments, one};
-ghost use Rattle.ap_checks.specs.TypeTests.{is_typed, type_beside as beside, type_eq};
+ghost use Rattle.ap_checks.specs.TypeTests.{is_type, is_typed, type_beside as beside, type_eq};
 ghost use Rattle.ap_checker.specs.Wanted.{inside_of, parts_of, want_of};
 
 use ap_defs::goals::Constructor;
@@ -29,14 +32,33 @@ pub(crate) enum Wanted<'a> {
 fn is_same(a: &Ty, b: &Ty) -> bool
     ensures { result ≡ type_eq (type_of a.now) (type_of b.now) }
 {
-    match (a, b) {
-        (Ty::Unit, Ty::Unit) => true,
-        (Ty::Names(s), Ty::Names(r)) => *s == *r,
-        (Ty::Base(d), Ty::Base(e)) => *d == *e,
-        (Ty::Pair(a, b), Ty::Pair(c, d)) => is_same(a, c) && is_same(b, d),
-        (Ty::List(a), Ty::List(b)) => is_same(a, b),
-        (Ty::Abs(s, a), Ty::Abs(r, b)) => *s == *r && is_same(a, b),
-        _ => false,
+    let mut left = a;
+    let mut right = b;
+    loop {
+        match (left, right) {
+            (Ty::Unit, Ty::Unit) => return true,
+            (Ty::Names(s), Ty::Names(r)) => return *s == *r,
+            (Ty::Base(d), Ty::Base(e)) => return *d == *e,
+            (Ty::Pair(a, b), Ty::Pair(c, d)) => {
+                if !is_same(a, c) {
+                    return false;
+                }
+                left = b;
+                right = d;
+            }
+            (Ty::List(a), Ty::List(b)) => {
+                left = a;
+                right = b;
+            }
+            (Ty::Abs(s, a), Ty::Abs(r, b)) => {
+                if *s != *r {
+                    return false;
+                }
+                left = a;
+                right = b;
+            }
+            _ => return false,
+        }
     }
 }
 
@@ -51,6 +73,16 @@ fn type_beside<'a>(vars: &'a [(Var, Ty)], x: Var) -> Option<&'a Ty>
         }
     }
     None
+}
+
+/// Whether the type beside the variable is this one.
+fn has_type_beside(vars: &[(Var, Ty)], x: Var, ty: &Ty) -> bool
+    ensures { result ≡ is_type (beside (map typed_var_of vars.now) x) (type_of ty.now) }
+{
+    match type_beside(vars, x) {
+        None => false,
+        Some(found) => is_same(found, ty),
+    }
 }
 
 /// What the arguments of a constructor are to be.
@@ -118,28 +150,39 @@ fn inside<'a>(constructors: &'a [Constructor], f: u32, want: Wanted<'a>) -> Opti
 fn is_wanted(constructors: &[Constructor], vars: &[(Var, Ty)], t: &Term, want: Wanted<'_>) -> bool
     ensures { result ≡ is_typed (map constructor_of constructors.now) (beside (map typed_var_of vars.now)) (term_of t.now) (want_of want.entry) }
 {
-    match (t, want) {
-        (Term::Unit, Wanted::Nothing | Wanted::One(Ty::Unit)) => true,
-        (Term::Name(a), Wanted::One(Ty::Names(sort))) => a.sort == *sort,
-        (Term::Pair(left, right), _) => match parts(want) {
-            None => false,
-            Some((first, second)) => {
-                is_wanted(constructors, vars, left, first)
-                    && is_wanted(constructors, vars, right, second)
+    let mut rest = t;
+    let mut wanted = want;
+    loop {
+        match (rest, wanted) {
+            (Term::Unit, Wanted::Nothing | Wanted::One(Ty::Unit)) => return true,
+            (Term::Name(a), Wanted::One(Ty::Names(sort))) => return a.sort == *sort,
+            (Term::Pair(left, right), _) => {
+                let Some((first, second)) = parts(wanted) else {
+                    return false;
+                };
+                if !is_wanted(constructors, vars, left, first) {
+                    return false;
+                }
+                rest = right;
+                wanted = second;
             }
-        },
-        (Term::App(f, argument), _) => match inside(constructors, *f, want) {
-            None => false,
-            Some(inner) => is_wanted(constructors, vars, argument, inner),
-        },
-        (Term::Abs(a, body), Wanted::One(Ty::Abs(sort, ty))) => {
-            a.sort == *sort && is_wanted(constructors, vars, body, Wanted::One(ty))
+            (Term::App(f, argument), _) => {
+                let Some(inner) = inside(constructors, *f, wanted) else {
+                    return false;
+                };
+                rest = argument;
+                wanted = inner;
+            }
+            (Term::Abs(a, body), Wanted::One(Ty::Abs(sort, ty))) => {
+                if a.sort != *sort {
+                    return false;
+                }
+                rest = body;
+                wanted = Wanted::One(ty);
+            }
+            (Term::Susp(_, x), Wanted::One(ty)) => return has_type_beside(vars, *x, ty),
+            _ => return false,
         }
-        (Term::Susp(_, x), Wanted::One(ty)) => match type_beside(vars, *x) {
-            None => false,
-            Some(found) => is_same(found, ty),
-        },
-        _ => false,
     }
 }
 
