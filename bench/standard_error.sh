@@ -1,6 +1,7 @@
 #!/bin/sh
-# Runs the examples and the texts with faults while standard error is closed, full or slow, and tests that standard
-# output and the status are those of a run whose standard error is read. usage: bench/standard_error.sh PROGRAM
+# Tests what is said of statuses that have no place in the text, and runs the examples and the texts with faults while
+# standard error is closed, full or slow, where standard output and the status must be those of a run whose standard
+# error is read. usage: bench/standard_error.sh PROGRAM
 program=$1
 top=$(dirname -- "$(readlink -f -- "$0")")/..
 work=$(mktemp -d)
@@ -14,6 +15,30 @@ compare() {
         failures=$((failures + 1))
     fi
 }
+
+# Compares a run's status, its output and how its standard error begins with what is wanted.
+said() {
+    if [ "$1" != "$2" ] || [ "$(cat "$work/out")" != "$3" ] || [ "$(head -n 1 "$work/said")" != "$4" ]; then
+        echo "status $1 in place of $2: $(cat "$work/out") / $(head -n 1 "$work/said")"
+        failures=$((failures + 1))
+    fi
+}
+
+usage='usage: alphaprolog run --depth D [--workers W] < FILE'
+for words in '' help --help --version run 'run --depth' 'run --depth x' 'run --depth 1 --workers 65' 'walk --depth 1'; do
+    # shellcheck disable=SC2086
+    "$program" $words < /dev/null > "$work/out" 2> "$work/said"
+    said $? 1 '% usage fault' "$usage"
+    [ "$(wc -l < "$work/said")" -ge 9 ] || { echo "the usage text is cut"; failures=$((failures + 1)); }
+done
+"$program" run --depth 1 < / > "$work/out" 2> "$work/said"
+said $? 5 '% read fault' 'error: standard input could not be read'
+"$program" run --depth 9 < "$top/examples/first.apl" > /dev/full 2> "$work/said"
+status=$?
+: > "$work/out"
+said $status 6 '' 'error: the report could not be written whole to standard output'
+head -c 16777217 /dev/zero | "$program" run --depth 1 > "$work/out" 2> "$work/said"
+said $? 9 '% text too large' 'error: the text has more than 16777216 bytes'
 
 for text in "$top"/examples/faults/*.apl "$top"/examples/first.apl "$top"/examples/substitution.apl; do
     "$program" run --depth 4 < "$text" > "$work/wanted" 2> "$work/said"

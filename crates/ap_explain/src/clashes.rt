@@ -1,60 +1,43 @@
 //! What is said where no types fit.
 ghost use Rattle.std.specs.Prelude.{◌≡◌};
 
-use crate::declared::{Entry, Table};
-use crate::subject::{COMPARED, Subject, declared_note, with_note};
-use crate::types::{Shape, type_text};
-use crate::typing::{Cause, Clash, Typing};
+use crate::declared::{Declared, Entry};
+use crate::subject::{COMPARED, Subject, note_declared, say_declared};
+use crate::types::Shape;
+use crate::typing::{Cause, Clash, Typing, applied_space};
+use crate::written::say_kind;
 use ap_defs::memory::Memory;
+use ap_lexer::Token;
 use ap_located::items::{span_at, span_between, text_at};
-use ap_located::messages::Message;
+use ap_located::messages::{Message, Piece};
 use ap_located::nearest::Nearest;
-use ap_located::nodes::{Form, Node, node_at};
-use ap_located::spots::{shown_word, spot_of};
+use ap_located::nodes::{Form, LEVELS, Node, node_at};
+use ap_located::spots::spot_of;
 use std::alloc::Global;
 
-/// The spellings of the declared types.
-pub fn type_words<'a>(alloc: Global, table: &Table<'a>) -> Result<Vec<&'a str>, Memory> {
-    let mut words = Vec::new(alloc);
-    for entry in table.entries() {
-        words.push(entry.word)?;
+// Says what a node is.
+fn say_what(message: &mut Message, tokens: &[Token<'_>], node: Node) {
+    let what = match node.form {
+        Form::Tuple if node.count == 0 => "this",
+        Form::Tuple => "this tuple",
+        Form::List | Form::ListTail => "this list",
+        Form::Abs => "this abstraction",
+        _ => "",
+    };
+    if !what.is_empty() {
+        message.say(&[Piece::Text(what)]);
+        return;
     }
-    Ok(words)
-}
-
-/// The type with a number, as it is written.
-pub fn written_type(
-    alloc: Global,
-    typing: &mut Typing<'_, '_>,
-    number: usize,
-) -> Result<String, Memory> {
-    let words = type_words(alloc, &typing.declared.type_words)?;
-    type_text(alloc, &mut typing.declared.types, words.as_slice(), number)
-}
-
-// A type in words.
-fn in_words(alloc: Global, typing: &mut Typing<'_, '_>, number: usize) -> Result<String, Memory> {
-    let written = written_type(alloc, typing, number)?;
-    let text = match typing.declared.types.shape(number) {
-        Shape::OpenName => String::from_str(alloc, "a name type")?,
-        Shape::Open => String::from_str(alloc, "any type")?,
-        _ => format!(in alloc; "the type `{written}`")?,
+    let end = if node.form == Form::Apply {
+        "(..)`"
+    } else {
+        "`"
     };
-    Ok(text)
-}
-
-// What a node is.
-fn what(alloc: Global, typing: &Typing<'_, '_>, node: Node) -> Result<String, Memory> {
-    let word = shown_word(alloc, text_at(typing.tokens, node.first))?;
-    let text = match node.form {
-        Form::Tuple if node.count == 0 => String::from_str(alloc, "this")?,
-        Form::Tuple => String::from_str(alloc, "this tuple")?,
-        Form::List | Form::ListTail => String::from_str(alloc, "this list")?,
-        Form::Abs => String::from_str(alloc, "this abstraction")?,
-        Form::Apply => format!(in alloc; "`{word}(..)`")?,
-        _ => format!(in alloc; "`{word}`")?,
-    };
-    Ok(text)
+    message.say(&[
+        Piece::Text("`"),
+        Piece::Word(text_at(tokens, node.first)),
+        Piece::Text(end),
+    ]);
 }
 
 // Whether a node is a name: a word that is no constructor.
@@ -63,134 +46,150 @@ fn is_name(typing: &Typing<'_, '_>, node: Node) -> bool {
     node.form == Form::Word && typing.declared.constructors.get(word).is_none()
 }
 
-// The word whose argument a node is, with its declaration, and which argument.
+// The node, or the largest one round it of which it is a part by abstractions, tuples and lists alone.
+fn argument_round(nodes: &[Node], node: Node) -> Node {
+    let mut at = node;
+    for _ in 0..LEVELS {
+        let above = node_at(nodes, at.parent);
+        match above.form {
+            Form::Abs | Form::Tuple | Form::List | Form::ListTail | Form::Swap => at = above,
+            _ => return at,
+        }
+    }
+    at
+}
+
+// The word whose argument a node is, with its declaration.
 fn argument_of<'a>(typing: &Typing<'_, 'a>, nodes: &[Node], node: Node) -> Option<Entry<'a>> {
     let above = node_at(nodes, node.parent);
     if above.form != Form::Apply {
         return None;
     }
-    let word = text_at(typing.tokens, above.first);
     let over = node_at(nodes, above.parent).form;
-    let table = if over == Form::Atom || over == Form::Head {
-        &typing.declared.predicates
-    } else {
-        &typing.declared.constructors
-    };
-    match table.get(word) {
-        Some((_, entry)) => Some(entry),
-        None => None,
-    }
+    let space = applied_space(over == Form::Atom || over == Form::Head);
+    typing
+        .declared
+        .entry(space, text_at(typing.tokens, above.first))
 }
 
-// Why a type is wanted at a node, where it isn't an argument.
-fn place_note(above: Node, rank: usize) -> Option<&'static str> {
-    match above.form {
+// Why a type is wanted at a part of a node, where it isn't an argument.
+fn place_note(above: Form, rank: usize) -> Option<&'static str> {
+    match above {
         Form::Equal => Some("both sides of `=` are of one type"),
         Form::Fresh if rank == 0 => Some("left of `#` stands a term of a name type"),
         Form::Abs if rank == 0 => Some("left of `\\` stands a name, which has a name type"),
-        Form::List => Some("the elements of a list are of one type"),
-        Form::ListTail => Some(
+        Form::List if rank > 0 => Some("the elements of a list are of one type"),
+        Form::ListTail if rank > 0 => Some(
             "the elements of a list are of one type, and behind `|` stands a list of them",
         ),
-        Form::Swap => Some("the first two parts of `swap` are names of one type"),
+        Form::Swap if rank < 2 => Some("the first two parts of `swap` are names of one type"),
         Form::New => Some("`new` brings a name, which has a name type"),
         _ => None,
     }
 }
 
-// Why a type is wanted at a node.
-fn wanted_note(
-    alloc: Global,
+// Notes which argument a node is, or stands in.
+fn note_argument(
+    message: &mut Message,
     subject: Subject<'_, '_>,
     typing: &Typing<'_, '_>,
     nodes: &[Node],
     node: Node,
-) -> Result<Option<String>, Memory> {
-    if let Some(entry) = argument_of(typing, nodes, node) {
-        let number = node.rank.saturating_add(1);
-        let declared = declared_note(alloc, subject, entry)?;
-        return Ok(Some(format!(in alloc; "this is argument {number}; {declared}")?));
-    }
-    match place_note(node_at(nodes, node.parent), node.rank) {
-        Some(note) => Ok(Some(String::from_str(alloc, note)?)),
-        None => Ok(None),
+) {
+    let part = argument_round(nodes, node);
+    if let Some(entry) = argument_of(typing, nodes, part) {
+        let begin = if part.first == node.first && part.last == node.last {
+            "this is argument "
+        } else {
+            "this stands in argument "
+        };
+        message.note(&[
+            Piece::Text(begin),
+            Piece::Number(part.rank.saturating_add(1) as u64),
+            Piece::Text("; "),
+        ]);
+        say_declared(message, subject, entry);
     }
 }
 
-// Where a variable or name stood first.
-fn first_note(
-    alloc: Global,
+// Notes why a type is wanted at a node.
+fn note_wanted(
+    message: &mut Message,
+    subject: Subject<'_, '_>,
+    typing: &Typing<'_, '_>,
+    nodes: &[Node],
+    node: Node,
+) {
+    match place_note(node_at(nodes, node.parent).form, node.rank) {
+        Some(note) => message.note(&[Piece::Text(note)]),
+        None => note_argument(message, subject, typing, nodes, node),
+    }
+}
+
+// Notes where a variable or name stood first.
+fn note_first(
+    message: &mut Message,
     subject: Subject<'_, '_>,
     typing: &Typing<'_, '_>,
     nodes: &[Node],
     place: usize,
-) -> Result<Option<String>, Memory> {
+) {
     let Some(ident) = typing.idents.find(typing.tokens, nodes, place) else {
-        return Ok(None);
+        return;
     };
     if ident.node == place {
-        return Ok(None);
+        return;
     }
     let token = node_at(nodes, ident.node).first;
-    let word = shown_word(alloc, text_at(typing.tokens, token))?;
     let spot = spot_of(subject.text, span_at(typing.tokens, token).start);
-    let (line, column) = (spot.line, spot.column);
-    Ok(Some(format!(in alloc; "`{word}` stands first in line {line}, column {column}")?))
+    message.note(&[
+        Piece::Text("`"),
+        Piece::Word(text_at(typing.tokens, token)),
+        Piece::Text("` stands first in line "),
+        Piece::Number(spot.line as u64),
+        Piece::Text(", column "),
+        Piece::Number(spot.column as u64),
+    ]);
 }
 
-// Where the type of a node comes from.
-fn given_note(
-    alloc: Global,
+// Notes where the type of a node comes from.
+fn note_given(
+    message: &mut Message,
     subject: Subject<'_, '_>,
     typing: &Typing<'_, '_>,
     nodes: &[Node],
     place: usize,
-) -> Result<Option<String>, Memory> {
+) {
     let node = node_at(nodes, place);
-    match node.form {
-        Form::Variable | Form::Binder => first_note(alloc, subject, typing, nodes, place),
-        Form::Word | Form::Apply => {
-            match typing
-                .declared
-                .constructors
-                .get(text_at(typing.tokens, node.first))
-            {
-                Some((_, entry)) => Ok(Some(declared_note(alloc, subject, entry)?)),
-                None => first_note(alloc, subject, typing, nodes, place),
-            }
+    let is_word = node.form == Form::Word || node.form == Form::Apply;
+    let word = text_at(typing.tokens, node.first);
+    match typing.declared.constructors.get(word) {
+        Some((_, entry)) if is_word => note_declared(message, subject, entry),
+        _ if is_word || node.form == Form::Variable || node.form == Form::Binder => {
+            note_first(message, subject, typing, nodes, place);
         }
-        _ => Ok(None),
+        _ => {}
     }
 }
 
-// The constructor that is spelled most like a name, of those that make terms of a type.
-fn meant<'a>(
-    alloc: Global,
-    typing: &mut Typing<'_, 'a>,
-    word: &'a str,
-    wanted: usize,
-) -> Result<Option<&'a str>, Memory> {
-    let wanted = typing.declared.types.shape(wanted);
+// The constructor that is spelled most like a name, of those that make terms of a type alone.
+fn meant<'a>(declared: &mut Declared<'a>, word: &'a str, wanted: Shape) -> Option<&'a str> {
     let mut nearest = Nearest::new(word);
     let mut only = None;
     let mut count: usize = 0;
-    for place in 0..typing.declared.constructors.entries().len() {
-        let Some(entry) = typing.declared.constructors.at(place) else {
-            break;
-        };
-        if count >= COMPARED {
-            break;
-        }
-        if entry.count == 0 && typing.declared.types.shape(entry.result) == wanted {
-            nearest.compare(alloc, entry.word)?;
-            only = Some(entry.word);
-            count = count.saturating_add(1);
+    for place in 0..declared.constructors.entries().len() {
+        if let Some(entry) = declared.constructors.at(place) {
+            let fits = entry.count == 0 && declared.types.shape(entry.result) == wanted;
+            if fits && count < COMPARED {
+                nearest.compare(entry.word);
+                only = Some(entry.word);
+                count = count.saturating_add(1);
+            }
         }
     }
     match nearest.found() {
-        Some(near) => Ok(Some(near)),
-        None if count == 1 => Ok(only),
-        None => Ok(None),
+        None if count == 1 => only,
+        found => found,
     }
 }
 
@@ -201,114 +200,120 @@ fn begins_ascii(word: &str) -> bool {
     }
 }
 
-// The label of a name where a term of a data type is wanted, and what may be meant.
-fn name_message<'a>(
-    alloc: Global,
-    typing: &mut Typing<'_, 'a>,
-    message: Message,
-    token: usize,
-    wanted: usize,
-) -> Result<Message, Memory> {
+// Labels a name where a term of a data type is wanted, and notes what may be meant.
+fn label_name<'a>(message: &mut Message, typing: &mut Typing<'_, 'a>, token: usize, wanted: Shape) {
     let word = text_at(typing.tokens, token);
-    let shown = shown_word(alloc, word)?;
-    let label = format!(in alloc; "no constructor `{shown}` is declared")?;
-    let message = message.label(alloc, label.as_str())?;
-    match meant(alloc, typing, word, wanted)? {
+    message.label(&[
+        Piece::Text("no constructor `"),
+        Piece::Word(word),
+        Piece::Text("` is declared"),
+    ]);
+    match meant(&mut typing.declared, word, wanted) {
         Some(near) => {
-            let near = shown_word(alloc, near)?;
-            message.note(alloc, format!(in alloc; "is `{near}` meant?")?.as_str())
+            message.note(&[
+                Piece::Text("is `"),
+                Piece::Word(near),
+                Piece::Text("` meant?"),
+            ]);
         }
-        None if !begins_ascii(word) => message.note(
-            alloc,
+        None if !begins_ascii(word) => message.note(&[Piece::Text(
             "a variable begins with `A` to `Z` or `_`; a word with another letter is a name or a constructor",
-        ),
-        None => Ok(message),
+        )]),
+        None => {}
     }
 }
 
-fn explain_types<'a>(
+// What is said where the types with two numbers differ at a node.
+fn types_message(
     alloc: Global,
-    subject: Subject<'_, 'a>,
-    typing: &mut Typing<'_, 'a>,
-    nodes: &[Node],
-    place: usize,
+    typing: &mut Typing<'_, '_>,
+    node: Node,
     wanted: usize,
     given: usize,
-) -> Result<Message, Memory> {
-    let node = node_at(nodes, place);
-    let what = what(alloc, typing, node)?;
-    let wants = in_words(alloc, typing, wanted)?;
-    let sentence = if is_name(typing, node) {
-        format!(in alloc; "a term of {wants} is wanted here, and {what} is a name")?
-    } else {
-        let has = in_words(alloc, typing, given)?;
-        format!(in alloc; "a term of {wants} is wanted here, and {what} is of {has}")?
-    };
-    let span = span_between(typing.tokens, node.first, node.last);
-    let mut message = Message::new(alloc, span, sentence.as_str())?;
+) -> Message {
+    let mut message = Message::new(alloc, span_between(typing.tokens, node.first, node.last));
+    message.say(&[Piece::Text("a term of ")]);
+    say_kind(&mut message, alloc, &mut typing.declared, wanted);
+    message.say(&[Piece::Text(" is wanted here, and ")]);
+    say_what(&mut message, typing.tokens, node);
     if is_name(typing, node) {
-        message = name_message(alloc, typing, message, node.first, wanted)?;
+        message.say(&[Piece::Text(" is a name")]);
+        let shape = typing.declared.types.shape(wanted);
+        label_name(&mut message, typing, node.first, shape);
+    } else {
+        message.say(&[Piece::Text(" is of ")]);
+        say_kind(&mut message, alloc, &mut typing.declared, given);
     }
-    let wanted = wanted_note(alloc, subject, typing, nodes, node)?;
-    let message = with_note(alloc, message, wanted)?;
-    let given = given_note(alloc, subject, typing, nodes, place)?;
-    with_note(alloc, message, given)
+    message
 }
 
-fn explain_constructor(
+// What is said where a constructor stands in the place of a name.
+fn constructor_message(
     alloc: Global,
     subject: Subject<'_, '_>,
     typing: &Typing<'_, '_>,
     node: Node,
-) -> Result<Message, Memory> {
+) -> Message {
     let word = text_at(typing.tokens, node.first);
-    let shown = shown_word(alloc, word)?;
-    let sentence = format!(in alloc; "a name is wanted here, and `{shown}` is a constructor")?;
-    let message = Message::new(alloc, span_at(typing.tokens, node.first), sentence.as_str())?;
-    match typing.declared.constructors.get(word) {
-        Some((_, entry)) => { message.note(alloc, declared_note(alloc, subject, entry)?.as_str()) }
-        None => Ok(message),
+    let mut message = Message::new(alloc, span_at(typing.tokens, node.first));
+    message.say(&[
+        Piece::Text("a name is wanted here, and `"),
+        Piece::Word(word),
+        Piece::Text("` is a constructor"),
+    ]);
+    if let Some((_, entry)) = typing.declared.constructors.get(word) {
+        note_declared(&mut message, subject, entry);
     }
+    message
+}
+
+// The first token of the first variable or name whose type is a part of itself, or the item's.
+fn endless_token(
+    alloc: Global,
+    typing: &mut Typing<'_, '_>,
+    nodes: &[Node],
+) -> Result<usize, Memory> {
+    for ident in typing.idents.all() {
+        if typing.declared.types.is_endless(alloc, ident.slot)? {
+            return Ok(node_at(nodes, ident.node).first);
+        }
+    }
+    Ok(0)
 }
 
 // What is said where types would contain themselves.
-fn explain_endless(
+fn endless_message(
     alloc: Global,
     typing: &mut Typing<'_, '_>,
     nodes: &[Node],
 ) -> Result<Message, Memory> {
-    let mut token = 0;
-    for ident in typing.idents.all() {
-        if typing.declared.types.is_endless(alloc, ident.slot)? {
-            token = node_at(nodes, ident.node).first;
-            break;
-        }
-    }
-    let sentence = "no types fit: a type would be a part of itself";
-    let note = "no term is equal to a list or a tuple that has it as a part, as in `X = [X]`";
-    Message::new(alloc, span_at(typing.tokens, token), sentence)?.note(alloc, note)
+    let token = endless_token(alloc, typing, nodes)?;
+    let mut message = Message::new(alloc, span_at(typing.tokens, token));
+    message.say(&[Piece::Text("no types fit: a type would be a part of itself")]);
+    message.note(&[Piece::Text(
+        "no term is equal to a list or a tuple that has it as a part, as in `X = [X]`",
+    )]);
+    Ok(message)
 }
 
 /// What is said of an item for which no types fit.
-pub fn explain_clash<'a>(
+pub fn explain_clash(
     alloc: Global,
-    subject: Subject<'_, 'a>,
-    typing: &mut Typing<'_, 'a>,
+    subject: Subject<'_, '_>,
+    typing: &mut Typing<'_, '_>,
     nodes: &[Node],
 ) -> Result<Message, Memory> {
-    match typing.clash {
-        Some(
-            Clash {
-                node,
-                cause: Cause::Types(wanted, given),
-            },
-        ) => explain_types(alloc, subject, typing, nodes, node, wanted, given),
-        Some(
-            Clash {
-                node,
-                cause: Cause::Constructor,
-            },
-        ) => explain_constructor(alloc, subject, typing, node_at(nodes, node)),
-        None => explain_endless(alloc, typing, nodes),
+    let Some(Clash { node: place, cause }) = typing.clash else {
+        return endless_message(alloc, typing, nodes);
+    };
+    let node = node_at(nodes, place);
+    match cause {
+        Cause::Types(wanted, given) => {
+            let mut message = types_message(alloc, typing, node, wanted, given);
+            note_wanted(&mut message, subject, typing, nodes, node);
+            note_given(&mut message, subject, typing, nodes, place);
+            Ok(message)
+        }
+        Cause::Constructor => Ok(constructor_message(alloc, subject, typing, node)),
     }
 }

@@ -92,6 +92,14 @@ impl<'a> Declared<'a> {
         }
     }
 
+    /// What is declared of a word of a space.
+    pub fn entry(&self, space: Space, word: &str) -> Option<Entry<'a>> {
+        match self.table(space).get(word) {
+            Some((_, entry)) => Some(entry),
+            None => None,
+        }
+    }
+
     /// The shape of a type that is one word.
     pub fn word_shape(&self, word: &str) -> Shape {
         match self.type_words.get(word) {

@@ -12,7 +12,7 @@ use crate::kinds::{explain_empty, explain_open};
 use crate::marks::{in_item, in_line};
 use crate::names::{explain_binder, explain_head, explain_swap};
 use crate::subject::Subject;
-use crate::typing::{Typing, type_item};
+use crate::typing::type_item;
 use crate::words::explain_word;
 use ap_defs::faults::{Fault, NameFault, NameKind, SyntaxKind, TypeKind};
 use ap_defs::memory::Memory;
@@ -20,34 +20,36 @@ use ap_lexer::{LexError, Token, lex};
 use ap_located::characters::{explain_bytes, explain_character};
 use ap_located::grammar::explain_grammar;
 use ap_located::items::{Range, ranges_of, tokens_in};
-use ap_located::messages::{Message, message_text};
+use ap_located::messages::{Message, add_message};
 use ap_located::nesting::{explain_depth, explain_unended};
 use ap_located::nodes::Node;
 use ap_located::reader::read_item;
 use ap_text::{TextError, program_of_text};
 use std::alloc::Global;
 
-// The types of the faulty item's parts.
-fn typing_of<'t, 'a>(
+// What is said of an item that breaks the name restriction by a head.
+fn head_message<'t, 'a>(
     alloc: Global,
     subject: Subject<'t, 'a>,
     tokens: &'t [Token<'a>],
     nodes: &[Node],
-) -> Result<Typing<'t, 'a>, Memory> {
+    name: &str,
+) -> Result<Message, Memory> {
     let declared = declared_by(alloc, subject.tokens, subject.ranges, subject.item)?;
-    type_item(alloc, declared, tokens, nodes)
+    let mut typing = type_item(alloc, declared, tokens, nodes)?;
+    explain_head(alloc, &mut typing, nodes, name)
 }
 
+// What is said of an item with a type fault.
 fn type_message<'t, 'a>(
     alloc: Global,
     subject: Subject<'t, 'a>,
     tokens: &'t [Token<'a>],
+    nodes: &[Node],
     kind: TypeKind,
 ) -> Result<Message, Memory> {
-    let reading = read_item(alloc, tokens)?;
-    let nodes = reading.nodes.all();
     let declared = declared_by(alloc, subject.tokens, subject.ranges, subject.item)?;
-    match explain_word(alloc, subject, &declared, nodes, kind)? {
+    match explain_word(alloc, subject, &declared, nodes, kind) {
         Some(message) => Ok(message),
         None => typed_message(alloc, subject, tokens, nodes, declared, kind),
     }
@@ -74,18 +76,30 @@ fn name_message<'t, 'a>(
     alloc: Global,
     subject: Subject<'t, 'a>,
     tokens: &'t [Token<'a>],
+    nodes: &[Node],
     fault: &NameFault,
+) -> Result<Message, Memory> {
+    let name = fault.name.as_str();
+    match fault.kind {
+        NameKind::VariableBinder => Ok(explain_binder(alloc, tokens, nodes, name)),
+        NameKind::VariableSwap => Ok(explain_swap(alloc, tokens, nodes, name)),
+        NameKind::HeadName => head_message(alloc, subject, tokens, nodes, name),
+    }
+}
+
+// What is said of an item that is in the grammar.
+fn read_message<'t, 'a>(
+    alloc: Global,
+    subject: Subject<'t, 'a>,
+    tokens: &'t [Token<'a>],
+    fault: &Fault,
 ) -> Result<Message, Memory> {
     let reading = read_item(alloc, tokens)?;
     let nodes = reading.nodes.all();
-    let name = fault.name.as_str();
-    match fault.kind {
-        NameKind::VariableBinder => explain_binder(alloc, tokens, nodes, name),
-        NameKind::VariableSwap => explain_swap(alloc, tokens, nodes, name),
-        NameKind::HeadName => {
-            let mut typing = typing_of(alloc, subject, tokens, nodes)?;
-            explain_head(alloc, &mut typing, nodes, name)
-        }
+    match fault {
+        Fault::Types(found) => type_message(alloc, subject, tokens, nodes, found.kind),
+        Fault::Names(found) => name_message(alloc, subject, tokens, nodes, found),
+        Fault::Syntax(_) => explain_grammar(alloc, tokens),
     }
 }
 
@@ -97,12 +111,11 @@ fn item_message<'t, 'a>(
 ) -> Result<Message, Memory> {
     match fault {
         Fault::Syntax(found) => match found.kind {
-            SyntaxKind::Unended => explain_unended(alloc, tokens),
+            SyntaxKind::Unended => Ok(explain_unended(alloc, tokens)),
             SyntaxKind::TooDeep => explain_depth(alloc, tokens),
             _ => explain_grammar(alloc, tokens),
         },
-        Fault::Types(found) => type_message(alloc, subject, tokens, found.kind),
-        Fault::Names(found) => name_message(alloc, subject, tokens, found),
+        _ => read_message(alloc, subject, tokens, fault),
     }
 }
 
@@ -171,11 +184,11 @@ fn message_of(alloc: Global, text: &[u8], fault: &Fault) -> Result<Option<Messag
     match fault {
         Fault::Syntax(found) => match found.kind {
             SyntaxKind::NotUtf8 => {
-                let message = explain_bytes(alloc, text)?;
+                let message = explain_bytes(alloc, text);
                 Ok(in_line(text, found.place.line, message))
             }
             SyntaxKind::Character => {
-                let message = explain_character(alloc, text, found.place.line)?;
+                let message = explain_character(alloc, text, found.place.line);
                 Ok(in_line(text, found.place.line, message))
             }
             _ => message_of_item(alloc, text, fault),
@@ -200,16 +213,27 @@ pub fn explain(alloc: Global, text: &[u8]) -> Result<Option<Explanation>, Memory
     }
 }
 
+// Adds what is said of a fault, if its place was found.
+fn add_explanation(
+    alloc: Global,
+    out: &mut String,
+    text: &[u8],
+    explanation: &Explanation,
+) -> Result<(), Memory> {
+    match &explanation.message {
+        Some(message) => add_message(alloc, out, text, "error", message),
+        None => Ok(()),
+    }
+}
+
 /// What is written of the first fault of a text, or nothing where it has none, or no place of it was found. `Err` is
 /// want of memory.
 pub fn explain_text(alloc: Global, text: &[u8]) -> Result<String, Memory>
     requires { length text.now ≤ size_limit }
 {
-    let Some(explanation) = explain(alloc, text)? else {
-        return Ok(String::new(alloc));
-    };
-    match &explanation.message {
-        Some(message) => message_text(alloc, text, "error", message),
-        None => Ok(String::new(alloc)),
+    let mut out = String::new(alloc);
+    if let Some(explanation) = explain(alloc, text)? {
+        add_explanation(alloc, &mut out, text, &explanation)?;
     }
+    Ok(out)
 }

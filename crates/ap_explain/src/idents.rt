@@ -4,7 +4,7 @@ ghost use Rattle.std.specs.Prelude.{◌≡◌};
 use ap_defs::memory::Memory;
 use ap_lexer::Token;
 use ap_located::items::text_at;
-use ap_located::nodes::{Form, Node, node_at};
+use ap_located::nodes::{Form, LEVELS, Node, node_at};
 use ap_scopes::words::Words;
 use std::alloc::Global;
 
@@ -27,9 +27,6 @@ pub struct Idents<'a> {
     brought: Vec<(usize, usize)>,
     all: Vec<Ident>,
 }
-
-// The most levels that are walked up.
-const LEVELS: usize = 1024;
 
 impl<'a> Idents<'a> {
     pub fn new(alloc: Global) -> Idents<'a> {

@@ -6,6 +6,7 @@
 #![tactic(auto)]
 
 mod clashes;
+mod closures;
 mod declared;
 mod explaining;
 mod explanation;
@@ -17,6 +18,7 @@ mod subject;
 mod types;
 mod typing;
 mod words;
+mod written;
 
 pub use explaining::{explain, explain_text};
 pub use explanation::Explanation;

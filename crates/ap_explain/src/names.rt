@@ -1,75 +1,66 @@
 //! What is said where an item breaks the name restriction.
 ghost use Rattle.std.specs.Prelude.{◌≡◌};
 
-use crate::declared::{Declared, Entry};
-use crate::types::{Shape, Types};
+use crate::closures::Question;
+use crate::subject::say_word;
+use crate::types::Shape;
 use crate::typing::Typing;
 use ap_defs::memory::Memory;
 use ap_lexer::Token;
 use ap_located::items::{span_at, text_at};
-use ap_located::messages::Message;
-use ap_located::nodes::{Form, Node, node_at};
-use ap_located::spots::shown_word;
+use ap_located::messages::{Message, Piece};
+use ap_located::nodes::{Form, LEVELS, Node, node_at};
 use ap_scopes::words::Words;
 use std::alloc::Global;
 
-/// The rounds in which types are found to hold names, at most.
-const ROUNDS: usize = 100;
-
-/// The most levels that are walked up.
-const LEVELS: usize = 1024;
-
-// The first node of a spelling that stands as a binder or in one of the first two places of a swapping.
-fn find_place(tokens: &[Token<'_>], nodes: &[Node], word: &str, above: Form) -> Option<Node> {
+// The token of the first node of a spelling that stands as a binder or in one of the first two places of a
+// swapping.
+fn find_place(tokens: &[Token<'_>], nodes: &[Node], word: &str, above: Form) -> usize {
     for node in nodes {
         let is_place = node_at(nodes, node.parent).form == above && node.rank < 2;
         let is_kind = node.form == Form::Binder || node.form == Form::Variable;
         if is_place && is_kind && text_at(tokens, node.first) == word {
-            return Some(*node);
+            return node.first;
         }
     }
-    None
+    0
 }
 
 /// What is said of a variable left of `\`.
-pub fn explain_binder(
-    alloc: Global,
-    tokens: &[Token<'_>],
-    nodes: &[Node],
-    word: &str,
-) -> Result<Message, Memory> {
-    let token = find_place(tokens, nodes, word, Form::Abs).map_or(0, |node| node.first);
-    let shown = shown_word(alloc, word)?;
-    let sentence = format!(in alloc; "left of `\\` stands a name, and `{shown}` is a variable")?;
-    Message::new(alloc, span_at(tokens, token), sentence.as_str())?
-        .note(
-            alloc,
-            "a name is spelled with a small letter: `x\\t`; each name of a clause stands for any name that is different from its other names",
-        )?
-        .note(
-            alloc,
-            format!(in alloc;
-                "how it stands to `{shown}` is said by goals: `x # {shown}`, or `x = {shown}`"
-            )?.as_str(),
-        )
+pub fn explain_binder(alloc: Global, tokens: &[Token<'_>], nodes: &[Node], word: &str) -> Message {
+    let token = find_place(tokens, nodes, word, Form::Abs);
+    let mut message = Message::new(alloc, span_at(tokens, token));
+    message.say(&[
+        Piece::Text("left of `\\` stands a name, and `"),
+        Piece::Word(word),
+        Piece::Text("` is a variable"),
+    ]);
+    message.note(&[Piece::Text(
+        "a name is spelled with a small letter: `x\\t`; each name of a clause stands for any name that is different from its other names",
+    )]);
+    message.note(&[
+        Piece::Text("how it stands to `"),
+        Piece::Word(word),
+        Piece::Text("` is said by goals: `x # "),
+        Piece::Word(word),
+        Piece::Text("`, or `x = "),
+        Piece::Word(word),
+        Piece::Text("`"),
+    ]);
+    message
 }
 
 /// What is said of a variable in one of the first two places of a swapping.
-pub fn explain_swap(
-    alloc: Global,
-    tokens: &[Token<'_>],
-    nodes: &[Node],
-    word: &str,
-) -> Result<Message, Memory> {
-    let token = find_place(tokens, nodes, word, Form::Swap).map_or(0, |node| node.first);
-    let shown = shown_word(alloc, word)?;
-    let sentence = format!(in alloc;
-        "the first two parts of `swap` are names, and `{shown}` is a variable"
-    )?;
-    Message::new(alloc, span_at(tokens, token), sentence.as_str())?.note(
-        alloc,
-        "a name is spelled with a small letter: `swap(a, b, t)`",
-    )
+pub fn explain_swap(alloc: Global, tokens: &[Token<'_>], nodes: &[Node], word: &str) -> Message {
+    let token = find_place(tokens, nodes, word, Form::Swap);
+    let mut message = Message::new(alloc, span_at(tokens, token));
+    message.say(&[
+        Piece::Text("the first two parts of `swap` are names, and `"),
+        Piece::Word(word),
+        Piece::Text("` is a variable"),
+    ]);
+    message.note(&[Piece::Text("a name is spelled with a small letter: `swap(a, b, t)`")]);
+    message
 }
 
 // Whether a node stands inside a head.
@@ -103,94 +94,6 @@ fn is_bound(tokens: &[Token<'_>], nodes: &[Node], place: usize, word: &str) -> b
         at = parent;
     }
     false
-}
-
-// Whether a data type with a place may hold a name, by what is known of others.
-fn is_in(holding: &[bool], word: usize) -> bool {
-    holding.get(word).copied().unwrap_or(true)
-}
-
-// Whether a term of a type may hold a name of a name type, where these data types may.
-fn may_hold(
-    alloc: Global,
-    types: &mut Types,
-    holding: &[bool],
-    name: usize,
-    number: usize,
-) -> Result<bool, Memory> {
-    let mut work = Vec::new(alloc);
-    work.push(number)?;
-    for _ in 0..10_000 {
-        let Some(next) = work.pop() else {
-            return Ok(false);
-        };
-        match types.shape(next) {
-            Shape::Name(word) if word == name => return Ok(true),
-            Shape::Data(word) if is_in(holding, word) => return Ok(true),
-            Shape::Pair(left, right) => {
-                work.push(left)?;
-                work.push(right)?;
-            }
-            Shape::List(part) | Shape::Abs(_, part) => work.push(part)?,
-            _ => {}
-        }
-    }
-    Ok(true)
-}
-
-fn any_may_hold(
-    alloc: Global,
-    types: &mut Types,
-    holding: &[bool],
-    name: usize,
-    entry: Entry<'_>,
-) -> Result<bool, Memory> {
-    for part in 0..entry.count {
-        if may_hold(alloc, types, holding, name, entry.args.saturating_add(part))? {
-            return Ok(true);
-        }
-    }
-    Ok(false)
-}
-
-fn one_round(
-    alloc: Global,
-    declared: &mut Declared<'_>,
-    holding: &mut Vec<bool>,
-    name: usize,
-) -> Result<bool, Memory> {
-    let mut changed = false;
-    for entry in declared.constructors.entries() {
-        if let Shape::Data(word) = declared.types.shape(entry.result) {
-            if !is_in(holding, word)
-                && any_may_hold(alloc, &mut declared.types, holding, name, *entry)?
-            {
-                if let Some(place) = holding.get_mut(word) {
-                    *place = true;
-                    changed = true;
-                }
-            }
-        }
-    }
-    Ok(changed)
-}
-
-/// For each declared data type whether its terms may hold a name of a name type.
-fn holding_by(
-    alloc: Global,
-    declared: &mut Declared<'_>,
-    name: usize,
-) -> Result<Vec<bool>, Memory> {
-    let mut holding = Vec::new(alloc);
-    for _ in declared.type_words.entries() {
-        holding.push(false)?;
-    }
-    for _ in 0..ROUNDS {
-        if !one_round(alloc, declared, &mut holding, name)? {
-            break;
-        }
-    }
-    Ok(holding)
 }
 
 // Whether the node at a place is a goal that must hold: it stands under `,` alone.
@@ -266,27 +169,57 @@ fn free_in_head(tokens: &[Token<'_>], nodes: &[Node], name: &str) -> Option<usiz
     None
 }
 
-// The first variable of a head that may hold a name and for which no goal says that the name is fresh.
-fn open_variable(
+// Whether a node is a variable of a head that the binder of a name doesn't stand over.
+fn is_open(tokens: &[Token<'_>], nodes: &[Node], place: usize, name: &str) -> bool {
+    node_at(nodes, place).form == Form::Variable
+        && is_in_head(nodes, place)
+        && !is_bound(tokens, nodes, place, name)
+}
+
+// The variables of a head that the binder of a name doesn't stand over, and for which no goal says that the name is
+// fresh.
+fn open_variables(
     alloc: Global,
-    typing: &mut Typing<'_, '_>,
+    tokens: &[Token<'_>],
     nodes: &[Node],
     name: &str,
-    holding: &[bool],
+) -> Result<Vec<Node>, Memory> {
+    let covered = covered_by(alloc, tokens, nodes, name)?;
+    let mut open = Vec::new(alloc);
+    for (place, node) in nodes.iter().enumerate() {
+        if is_open(tokens, nodes, place, name)
+            && covered.place(text_at(tokens, node.first)).is_none()
+        {
+            open.push(*node)?;
+        }
+    }
+    Ok(open)
+}
+
+// The token of the first of these variables whose type may hold a name of a name type.
+fn first_holding(
+    alloc: Global,
+    typing: &mut Typing<'_, '_>,
+    variables: &[Node],
     name_type: usize,
 ) -> Result<Option<usize>, Memory> {
-    let covered = covered_by(alloc, typing.tokens, nodes, name)?;
-    for (place, node) in nodes.iter().enumerate() {
-        if node.form == Form::Variable
-            && is_in_head(nodes, place)
-            && !is_bound(typing.tokens, nodes, place, name)
-        {
-            let slot = typing.slot_of(*node);
-            let variable = text_at(typing.tokens, node.first);
-            let holds = may_hold(alloc, &mut typing.declared.types, holding, name_type, slot)?;
-            if holds && covered.place(variable).is_none() {
-                return Ok(Some(node.first));
-            }
+    let question = Question::HoldsName(name_type);
+    let answers = question.answers(alloc, &mut typing.declared)?;
+    first_of(alloc, typing, variables, question, answers.as_slice())
+}
+
+// The token of the first of some variables for whose type the answer is yes.
+fn first_of(
+    alloc: Global,
+    typing: &mut Typing<'_, '_>,
+    variables: &[Node],
+    question: Question,
+    answers: &[bool],
+) -> Result<Option<usize>, Memory> {
+    for node in variables {
+        let slot = typing.slot_of(*node);
+        if question.answer(alloc, &mut typing.declared.types, answers, slot)? {
+            return Ok(Some(node.first));
         }
     }
     Ok(None)
@@ -305,62 +238,67 @@ fn type_of_name(typing: &mut Typing<'_, '_>, nodes: &[Node], name: &str) -> usiz
     usize::MAX
 }
 
-fn explain_free(
-    alloc: Global,
-    tokens: &[Token<'_>],
-    token: usize,
-    name: &str,
-) -> Result<Message, Memory> {
-    let shown = shown_word(alloc, name)?;
-    let sentence = format!(in alloc; "the name `{shown}` stands free in the head of its clause")?;
-    Message::new(alloc, span_at(tokens, token), sentence.as_str())?
-        .label(
-            alloc,
-            "a name, since no constructor of this spelling is declared",
-        )?
-        .note(
-            alloc,
-            "a name of a clause stands for any name, so a head can't tell one from another: write a variable, or declare a constructor",
-        )
+// What is said of a name that stands free in a head itself.
+fn free_message(alloc: Global, tokens: &[Token<'_>], token: usize, name: &str) -> Message {
+    let mut message = Message::new(alloc, span_at(tokens, token));
+    message.say(&[
+        Piece::Text("the name `"),
+        Piece::Word(name),
+        Piece::Text("` stands free in the head of its clause"),
+    ]);
+    message.label(&[Piece::Text("a name, since no constructor of this spelling is declared")]);
+    message.note(&[Piece::Text(
+        "a name of a clause stands for any name, so a head can't tell one from another: write a variable, or declare a constructor",
+    )]);
+    message
 }
 
 // What a goal that a name is fresh for a variable of the head is for.
 const NO_FORMALITY: &str =
     "this is no formality: where the name is free in what the variable stands for, the clause would hold for one choice of the name and not for another, and the goal makes it fail there";
 
-fn variable_sentence(alloc: Global, name: &str, variable: &str) -> Result<String, Memory> {
-    let shown = shown_word(alloc, name)?;
-    let variable = shown_word(alloc, variable)?;
-    Ok(format!(in alloc; "the name `{shown}` may stand free in the head, through `{variable}`")?)
-}
-
-// The goal to add.
-fn goal_note(alloc: Global, name: &str, variable: &str) -> Result<String, Memory> {
-    let shown = shown_word(alloc, name)?;
+// Notes the goal to add.
+fn note_goal(message: &mut Message, name: &str, variable: &str) {
     if variable == "_" {
-        return Ok(format!(in alloc;
-            "give `_` a spelling, as `T`, and add the goal `{shown} # T`"
-        )?);
+        message.note(&[Piece::Text("give `_` a spelling, as `T`, and add the goal `")]);
+        say_word(message, name, " # T`");
+        return;
     }
-    let variable = shown_word(alloc, variable)?;
-    Ok(format!(in alloc; "add the goal `{shown} # {variable}` to the body, under `,` alone")?)
+    message.note(&[Piece::Text("add the goal `")]);
+    say_word(message, name, " # ");
+    say_word(message, variable, "` to the body, under `,` alone");
+    message.note(&[Piece::Text(NO_FORMALITY)]);
 }
 
-fn explain_variable(
-    alloc: Global,
-    tokens: &[Token<'_>],
-    token: usize,
-    name: &str,
-) -> Result<Message, Memory> {
+// What is said of a name that a variable of the head may hold.
+fn variable_message(alloc: Global, tokens: &[Token<'_>], token: usize, name: &str) -> Message {
     let variable = text_at(tokens, token);
-    let sentence = variable_sentence(alloc, name, variable)?;
-    let message = Message::new(alloc, span_at(tokens, token), sentence.as_str())?;
-    let goal = goal_note(alloc, name, variable)?;
-    let message = message.note(alloc, goal.as_str())?;
-    if variable == "_" {
-        return Ok(message);
-    }
-    message.note(alloc, NO_FORMALITY)
+    let mut message = Message::new(alloc, span_at(tokens, token));
+    message.say(&[Piece::Text("the name `")]);
+    say_word(
+        &mut message,
+        name,
+        "` may stand free in the head, through `",
+    );
+    say_word(&mut message, variable, "`");
+    note_goal(&mut message, name, variable);
+    message
+}
+
+// What is said of a name where no such variable is found.
+fn vague_message(alloc: Global, tokens: &[Token<'_>], name: &str) -> Message {
+    let mut message = Message::new(alloc, span_at(tokens, 0));
+    message.say(&[
+        Piece::Text("the name `"),
+        Piece::Word(name),
+        Piece::Text("` isn't known to be fresh for the head of its clause"),
+    ]);
+    message.note(&[
+        Piece::Text("add goals `"),
+        Piece::Word(name),
+        Piece::Text(" # X` for the variables of the head, under `,` alone"),
+    ]);
+    message
 }
 
 /// What is said of a name of a clause that isn't fresh for its head.
@@ -372,23 +310,12 @@ pub fn explain_head(
 ) -> Result<Message, Memory> {
     let tokens = typing.tokens;
     if let Some(token) = free_in_head(tokens, nodes, name) {
-        return explain_free(alloc, tokens, token, name);
+        return Ok(free_message(alloc, tokens, token, name));
     }
+    let variables = open_variables(alloc, tokens, nodes, name)?;
     let name_type = type_of_name(typing, nodes, name);
-    let holding = holding_by(alloc, &mut typing.declared, name_type)?;
-    match open_variable(alloc, typing, nodes, name, holding.as_slice(), name_type)? {
-        Some(token) => explain_variable(alloc, tokens, token, name),
-        None => {
-            let shown = shown_word(alloc, name)?;
-            let sentence = format!(in alloc;
-                "the name `{shown}` isn't known to be fresh for the head of its clause"
-            )?;
-            Message::new(alloc, span_at(tokens, 0), sentence.as_str())?.note(
-                alloc,
-                format!(in alloc;
-                    "add goals `{shown} # X` for the variables of the head, under `,` alone"
-                )?.as_str(),
-            )
-        }
+    match first_holding(alloc, typing, variables.as_slice(), name_type)? {
+        Some(token) => Ok(variable_message(alloc, tokens, token, name)),
+        None => Ok(vague_message(alloc, tokens, name)),
     }
 }

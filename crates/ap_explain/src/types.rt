@@ -21,6 +21,19 @@ pub enum Shape {
     Abs(usize, usize),
 }
 
+/// Which parts of a type are meant.
+#[derive(Clone, Copy, PartialEq, Eq)]
+pub enum Parts {
+    All,
+    /// Those that are no binder's.
+    Inner,
+    /// Those of which each term of the type has a term as a part: no elements of lists.
+    Needed,
+}
+
+/// The parts of a type that are looked at, at most.
+const MOST_PARTS: usize = 10_000;
+
 /// Types by their numbers.
 #[derive(Drop)]
 pub struct Types {
@@ -199,23 +212,41 @@ impl Types {
         Ok(true)
     }
 
+    /// Makes the name types of which nothing else is known the one with this place.
+    pub fn close_names(&mut self, alloc: Global, word: usize) -> Result<(), Memory> {
+        let name = self.add(Shape::Name(word))?;
+        for number in 0..name {
+            if self.shape(number) == Shape::OpenName {
+                let _fits = self.equate(alloc, number, name)?;
+            }
+        }
+        Ok(())
+    }
+
+    /// The numbers of a type and of its parts of a kind, from the outside in; of a very large type only a beginning.
+    pub fn parts(
+        &mut self,
+        alloc: Global,
+        number: usize,
+        kind: Parts,
+    ) -> Result<Vec<usize>, Memory> {
+        let mut parts = Vec::new(alloc);
+        parts.push(number)?;
+        for at in 0..MOST_PARTS {
+            let Some(next) = parts.get(at).copied() else {
+                break;
+            };
+            add_parts(&mut parts, self.shape(next), kind)?;
+        }
+        Ok(parts)
+    }
+
     /// Whether a part of a type isn't known. Of a very large type only a beginning is seen.
     pub fn is_open(&mut self, alloc: Global, number: usize) -> Result<bool, Memory> {
-        let mut work = Vec::new(alloc);
-        work.push(number)?;
-        let rounds = self.shapes.len().saturating_mul(2).saturating_add(64);
-        for _ in 0..rounds.min(10_000) {
-            let Some(next) = work.pop() else {
-                return Ok(false);
-            };
-            match self.shape(next) {
-                Shape::Open | Shape::OpenName => return Ok(true),
-                Shape::Pair(left, right) | Shape::Abs(left, right) => {
-                    work.push(left)?;
-                    work.push(right)?;
-                }
-                Shape::List(element) => work.push(element)?,
-                Shape::Link(_) | Shape::Unit | Shape::Name(_) | Shape::Data(_) => {}
+        let parts = self.parts(alloc, number, Parts::All)?;
+        for part in &parts {
+            if matches!(self.shape(*part), Shape::Open | Shape::OpenName) {
+                return Ok(true);
             }
         }
         Ok(false)
@@ -223,115 +254,26 @@ impl Types {
 
     /// Whether a type is a part of itself, or very large.
     pub fn is_endless(&mut self, alloc: Global, number: usize) -> Result<bool, Memory> {
-        let mut work = Vec::new(alloc);
-        work.push(number)?;
-        for _ in 0..10_000 {
-            let Some(next) = work.pop() else {
-                return Ok(false);
-            };
-            match self.shape(next) {
-                Shape::Pair(left, right) | Shape::Abs(left, right) => {
-                    work.push(left)?;
-                    work.push(right)?;
-                }
-                Shape::List(element) => work.push(element)?,
-                _ => {}
-            }
-        }
-        Ok(true)
+        let parts = self.parts(alloc, number, Parts::All)?;
+        Ok(parts.len() > MOST_PARTS)
     }
 }
 
-/// A part of a type that is still to be written.
-#[derive(Clone, Copy)]
-enum Piece {
-    Type(usize),
-    /// The right part of a tuple, and its closing bracket.
-    Rest(usize),
-    Sign(&'static str),
-}
-
-/// The pieces of a type that are written, at most.
-const PIECES: usize = 60;
-
-/// A type as it is written, with `_` for what is not known, cut where it is long.
-pub fn type_text(
-    alloc: Global,
-    types: &mut Types,
-    words: &[&str],
-    number: usize,
-) -> Result<String, Memory> {
-    let mut out = String::new(alloc);
-    let mut work = Vec::new(alloc);
-    work.push(Piece::Type(number))?;
-    for _ in 0..PIECES {
-        let Some(piece) = work.pop() else {
-            return Ok(out);
-        };
-        write_piece(&mut out, &mut work, words, types, piece)?;
-    }
-    out.push_str("..")?;
-    Ok(out)
-}
-
-fn write_piece(
-    out: &mut String,
-    work: &mut Vec<Piece>,
-    words: &[&str],
-    types: &mut Types,
-    piece: Piece,
-) -> Result<(), Memory> {
-    match piece {
-        Piece::Sign(sign) => {
-            out.push_str(sign)?;
-            Ok(())
-        }
-        Piece::Type(part) => write_shape(out, work, words, types.shape(part)),
-        Piece::Rest(part) => add_rest(work, types.shape(part), part),
-    }
-}
-
-// The pieces of the right part of a tuple.
-fn add_rest(work: &mut Vec<Piece>, shape: Shape, part: usize) -> Result<(), Memory> {
-    if let Shape::Pair(left, right) = shape {
-        work.push(Piece::Rest(right))?;
-        work.push(Piece::Sign(", "))?;
-        work.push(Piece::Type(left))?;
-    } else {
-        work.push(Piece::Sign(")"))?;
-        work.push(Piece::Type(part))?;
-    }
-    Ok(())
-}
-
-fn write_shape(
-    out: &mut String,
-    work: &mut Vec<Piece>,
-    words: &[&str],
-    shape: Shape,
-) -> Result<(), Memory> {
+// Adds the parts of a kind that a type with this shape has.
+fn add_parts(parts: &mut Vec<usize>, shape: Shape, kind: Parts) -> Result<(), Memory> {
     match shape {
-        Shape::Open | Shape::OpenName | Shape::Link(_) => out.push('_')?,
-        Shape::Unit => out.push_str("()")?,
-        Shape::Name(word) | Shape::Data(word) => {
-            out.push_str(words.get(word).copied().unwrap_or("_"))?;
-        }
         Shape::Pair(left, right) => {
-            out.push('(')?;
-            work.push(Piece::Rest(right))?;
-            work.push(Piece::Sign(", "))?;
-            work.push(Piece::Type(left))?;
-        }
-        Shape::List(element) => {
-            out.push('[')?;
-            work.push(Piece::Sign("]"))?;
-            work.push(Piece::Type(element))?;
+            parts.push(left)?;
+            parts.push(right)?;
         }
         Shape::Abs(name, body) => {
-            work.push(Piece::Type(body))?;
-            work.push(Piece::Sign("\\"))?;
-            work.push(Piece::Type(name))?;
+            if kind == Parts::All {
+                parts.push(name)?;
+            }
+            parts.push(body)?;
         }
+        Shape::List(element) if kind != Parts::Needed => parts.push(element)?,
+        _ => {}
     }
     Ok(())
 }

@@ -6,7 +6,7 @@ use crate::idents::{Ident, Idents};
 use crate::types::Shape;
 use ap_defs::memory::Memory;
 use ap_lexer::{Token, TokenKind};
-use ap_located::items::text_at;
+use ap_located::items::{Space, text_at};
 use ap_located::nodes::{Form, Node, node_at};
 use std::alloc::Global;
 
@@ -176,24 +176,23 @@ impl<'t, 'a> Typing<'t, 'a> {
         Ok(base)
     }
 
+    fn give_open(&mut self, node: Node) -> Result<(), Memory> {
+        let _base = self.give_own(node)?;
+        Ok(())
+    }
+
     fn type_apply(&mut self, alloc: Global, place: usize, nodes: &[Node]) -> Result<(), Memory> {
         let node = node_at(nodes, place);
         let above = node_at(nodes, node.parent).form;
+        let is_call = above == Form::Atom || above == Form::Head;
         let word = text_at(self.tokens, node.first);
-        if above == Form::Atom || above == Form::Head {
-            return match self.declared.predicates.get(word) {
-                Some((_, entry)) => self.give_parts(node, entry),
-                None => self.give_own(node).map(|_| ()),
-            };
+        let Some(entry) = self.declared.entry(applied_space(is_call), word) else {
+            return self.give_open(node);
+        };
+        if !is_call {
+            self.equate(alloc, place, self.slot_of(node), entry.result)?;
         }
-        match self.declared.constructors.get(word) {
-            Some((_, entry)) => {
-                let own = self.slot_of(node);
-                self.equate(alloc, place, own, entry.result)?;
-                self.give_parts(node, entry)
-            }
-            None => self.give_own(node).map(|_| ()),
-        }
+        self.give_parts(node, entry)
     }
 
     fn type_tuple(&mut self, alloc: Global, place: usize, node: Node) -> Result<(), Memory> {
@@ -249,6 +248,17 @@ impl<'t, 'a> Typing<'t, 'a> {
         Ok(())
     }
 
+    // Types a node that has no rule for its parts.
+    fn type_part(&mut self, alloc: Global, place: usize, nodes: &[Node]) -> Result<(), Memory> {
+        let node = node_at(nodes, place);
+        self.give_open(node)?;
+        match node.form {
+            Form::Word | Form::Binder => self.type_word(alloc, place, nodes),
+            Form::Variable => self.type_ident(alloc, place, nodes),
+            _ => Ok(()),
+        }
+    }
+
     // Types the node at a place.
     fn type_node(&mut self, alloc: Global, place: usize, nodes: &[Node]) -> Result<(), Memory> {
         let node = node_at(nodes, place);
@@ -259,37 +269,40 @@ impl<'t, 'a> Typing<'t, 'a> {
             Form::Abs => self.type_abs(alloc, place, node),
             Form::Swap => self.type_swap(node),
             Form::Equal | Form::Fresh => self.type_relation(node),
-            _ => {
-                let _base = self.give_own(node)?;
-                match node.form {
-                    Form::Word | Form::Binder => self.type_word(alloc, place, nodes),
-                    Form::Variable => self.type_ident(alloc, place, nodes),
-                    _ => Ok(()),
-                }
-            }
+            _ => self.type_part(alloc, place, nodes),
         }
     }
 
     // Gives names of which nothing else is known the only name type, if there is only one.
     fn give_names(&mut self, alloc: Global) -> Result<(), Memory> {
-        let mut only = None;
-        for (place, entry) in self.declared.type_words.entries().iter().enumerate() {
-            if entry.is_name {
-                if only.is_some() {
-                    return Ok(());
-                }
-                only = Some(place);
-            }
+        match only_name_type(self.declared.type_words.entries()) {
+            Some(only) => self.declared.types.close_names(alloc, only),
+            None => Ok(()),
         }
-        let Some(only) = only else { return Ok(()) };
-        let name = self.declared.types.add(Shape::Name(only))?;
-        for number in 0..name {
-            if self.declared.types.shape(number) == Shape::OpenName {
-                let _fits = self.declared.types.equate(alloc, number, name)?;
-            }
-        }
-        Ok(())
     }
+}
+
+/// The space of the word of an application: a predicate, where it is a call.
+pub fn applied_space(is_call: bool) -> Space {
+    if is_call {
+        Space::Predicates
+    } else {
+        Space::Constructors
+    }
+}
+
+// The place of the only name type, if there is only one.
+fn only_name_type(entries: &[Entry<'_>]) -> Option<usize> {
+    let mut only = None;
+    for (place, entry) in entries.iter().enumerate() {
+        if entry.is_name {
+            if only.is_some() {
+                return None;
+            }
+            only = Some(place);
+        }
+    }
+    only
 }
 
 // Whether the token at a place is a word, and not a variable.

@@ -2,14 +2,12 @@
 ghost use Rattle.std.specs.Prelude.{◌≡◌};
 
 use crate::declared::{Declared, Entry};
-use crate::subject::{Subject, declared_note, later_line, nearest_entry, space_word, with_note};
+use crate::subject::{Subject, later_line, nearest_entry, note_declared, space_word};
 use ap_defs::faults::TypeKind;
-use ap_defs::memory::Memory;
 use ap_lexer::Token;
 use ap_located::items::{Space, declared_word, span_at, text_at, tokens_in};
-use ap_located::messages::Message;
+use ap_located::messages::{Message, Piece};
 use ap_located::nodes::{Form, Node, node_at};
-use ap_located::spots::shown_word;
 use std::alloc::Global;
 
 /// What is wrong with a word: the kind, its token, the space in which it is looked for, and how many arguments
@@ -43,13 +41,6 @@ fn application_flaw<'a>(
     })
 }
 
-fn entry_of<'a>(declared: &Declared<'a>, space: Space, word: &str) -> Option<Entry<'a>> {
-    match declared.table(space).get(word) {
-        Some((_, entry)) => Some(entry),
-        None => None,
-    }
-}
-
 // What is wrong with a word in a clause or a query, if anything.
 fn term_flaw<'a>(
     declared: &Declared<'a>,
@@ -63,10 +54,10 @@ fn term_flaw<'a>(
     let word = text_at(tokens, node.first);
     let above = node_at(nodes, node.parent).form;
     if above == Form::Atom || above == Form::Head {
-        let entry = entry_of(declared, Space::Predicates, word);
+        let entry = declared.entry(Space::Predicates, word);
         return application_flaw(entry, Space::Predicates, node);
     }
-    let entry = entry_of(declared, Space::Constructors, word);
+    let entry = declared.entry(Space::Constructors, word);
     let is_name = above == Form::Swap && node.rank < 2;
     if node.form == Form::Word && (entry.is_none() || is_name) {
         return None;
@@ -89,7 +80,7 @@ fn declaration_flaw<'a>(
     if is_result && node.rank < 2 {
         return None;
     }
-    let entry = entry_of(declared, Space::Types, word);
+    let entry = declared.entry(Space::Types, word);
     let flaw = WordFlaw {
         kind: TypeKind::Undeclared,
         token: node.first,
@@ -123,7 +114,7 @@ fn repeated<'a>(
     space: Space,
     token: usize,
 ) -> Option<WordFlaw<'a>> {
-    let entry = entry_of(declared, space, text_at(tokens, token))?;
+    let entry = declared.entry(space, text_at(tokens, token))?;
     Some(WordFlaw {
         kind: TypeKind::Redeclared,
         token,
@@ -161,7 +152,11 @@ pub fn word_flaw<'a>(
 }
 
 fn plural(count: usize) -> &'static str {
-    if count == 1 { "argument" } else { "arguments" }
+    if count == 1 {
+        " argument"
+    } else {
+        " arguments"
+    }
 }
 
 // What those may have meant who call a predicate that has no declaration.
@@ -191,30 +186,37 @@ fn known_word(space: Space, word: &str) -> &'static str {
     }
 }
 
-fn how_to_declare(alloc: Global, flaw: WordFlaw<'_>, word: &str) -> Result<String, Memory> {
-    let given = flaw.given;
-    let arguments = plural(given);
-    let text = match flaw.space {
-        Space::Types => {
-            format!(in alloc;
-                "declare it in an item before: `{word} : type.` or `{word} : name_type.`"
-            )?
-        }
-        Space::Constructors => {
-            format!(in alloc;
-                "declare it in an item before, with the types of its {given} {arguments}: `{word} : .. -> ..`"
-            )?
-        }
-        Space::Predicates if given == 0 => format!(in alloc;
-            "declare it in an item before: `pred {word}.`"
-        )?,
-        Space::Predicates => {
-            format!(in alloc;
-                "declare it in an item before, with the types of its {given} {arguments}: `pred {word}(..).`"
-            )?
-        }
-    };
-    Ok(text)
+// Notes how a word is declared.
+fn note_how(message: &mut Message, flaw: WordFlaw<'_>, word: &str) {
+    message.note(&[Piece::Text("declare it in an item before")]);
+    if flaw.space == Space::Types {
+        message.say(&[
+            Piece::Text(": `"),
+            Piece::Word(word),
+            Piece::Text(" : type.` or `"),
+            Piece::Word(word),
+            Piece::Text(" : name_type.`"),
+        ]);
+        return;
+    }
+    if flaw.given > 0 {
+        message.say(&[
+            Piece::Text(", with the types of its "),
+            Piece::Number(flaw.given as u64),
+            Piece::Text(plural(flaw.given)),
+        ]);
+    }
+    let (begin, end) = form_of(flaw);
+    message.say(&[Piece::Text(begin), Piece::Word(word), Piece::Text(end)]);
+}
+
+// What stands round the word in its declaration.
+fn form_of(flaw: WordFlaw<'_>) -> (&'static str, &'static str) {
+    match flaw.space {
+        Space::Predicates if flaw.given == 0 => (": `pred ", ".`"),
+        Space::Predicates => (": `pred ", "(..).`"),
+        _ => (": `", " : .. -> ..`"),
+    }
 }
 
 // The space in which a word is declared that is looked for in another.
@@ -227,121 +229,147 @@ fn other_space(declared: &Declared<'_>, space: Space, word: &str) -> Option<Spac
     None
 }
 
-// The way out for a word that is not declared.
-fn way_out<'a>(
-    alloc: Global,
+// Notes the way out for a word that is declared elsewhere, or may be misspelt. Tells whether there is one.
+fn note_other<'a>(
+    message: &mut Message,
+    declared: &Declared<'a>,
+    flaw: WordFlaw<'a>,
+    word: &'a str,
+) -> bool {
+    if let Some(near) = nearest_entry(declared.table(flaw.space).entries(), word) {
+        message.note(&[
+            Piece::Text("is `"),
+            Piece::Word(near),
+            Piece::Text("` meant?"),
+        ]);
+        return true;
+    }
+    if let Some(other) = other_space(declared, flaw.space, word) {
+        message.note(&[
+            Piece::Text("it is declared as a "),
+            Piece::Text(space_word(other)),
+            Piece::Text(", and here stands a "),
+            Piece::Text(space_word(flaw.space)),
+        ]);
+        return true;
+    }
+    false
+}
+
+// Notes the way out for a word that is not declared.
+fn note_way_out<'a>(
+    message: &mut Message,
     subject: Subject<'_, 'a>,
     declared: &Declared<'a>,
     flaw: WordFlaw<'a>,
     word: &'a str,
-) -> Result<String, Memory> {
+) {
     if let Some(line) = later_line(subject, flaw.space, word) {
-        return Ok(format!(in alloc;
-            "it is declared later, in line {line}; an item sees what the items before it declare"
-        )?);
+        message.note(&[
+            Piece::Text("it is declared later, in line "),
+            Piece::Number(line),
+            Piece::Text("; an item sees what the items before it declare"),
+        ]);
+        return;
     }
     let known = known_word(flaw.space, word);
     if !known.is_empty() {
-        return Ok(String::from_str(alloc, known)?);
+        message.note(&[Piece::Text(known)]);
+    } else if !note_other(message, declared, flaw, word) {
+        note_how(message, flaw, word);
     }
-    if let Some(near) = nearest_entry(alloc, declared.table(flaw.space).entries(), word)? {
-        let near = shown_word(alloc, near)?;
-        return Ok(format!(in alloc; "is `{near}` meant?")?);
-    }
-    if let Some(other) = other_space(declared, flaw.space, word) {
-        let (is, wanted) = (space_word(other), space_word(flaw.space));
-        return Ok(format!(in alloc; "it is declared as a {is}, and here stands a {wanted}")?);
-    }
-    let word = shown_word(alloc, word)?;
-    how_to_declare(alloc, flaw, word.as_str())
 }
 
-fn explain_undeclared<'a>(
+fn undeclared_message<'a>(
     alloc: Global,
     subject: Subject<'_, 'a>,
     declared: &Declared<'a>,
     tokens: &[Token<'a>],
     flaw: WordFlaw<'a>,
-) -> Result<Message, Memory> {
+) -> Message {
     let word = text_at(tokens, flaw.token);
-    let shown = shown_word(alloc, word)?;
-    let what = space_word(flaw.space);
-    let sentence = format!(in alloc; "no {what} `{shown}` is declared")?;
-    let note = way_out(alloc, subject, declared, flaw, word)?;
-    Message::new(alloc, span_at(tokens, flaw.token), sentence.as_str())?.note(alloc, note.as_str())
+    let mut message = Message::new(alloc, span_at(tokens, flaw.token));
+    message.say(&[
+        Piece::Text("no "),
+        Piece::Text(space_word(flaw.space)),
+        Piece::Text(" `"),
+        Piece::Word(word),
+        Piece::Text("` is declared"),
+    ]);
+    note_way_out(&mut message, subject, declared, flaw, word);
+    message
 }
 
-fn explain_repeated(
-    alloc: Global,
-    subject: Subject<'_, '_>,
-    tokens: &[Token<'_>],
-    flaw: WordFlaw<'_>,
-    entry: Entry<'_>,
-) -> Result<Message, Memory> {
-    let word = shown_word(alloc, entry.word)?;
-    let what = space_word(flaw.space);
-    let sentence = format!(in alloc; "the {what} `{word}` is declared twice")?;
-    let note = declared_note(alloc, subject, entry)?;
-    Message::new(alloc, span_at(tokens, flaw.token), sentence.as_str())?
-        .label(alloc, "declared again here")?
-        .note(alloc, note.as_str())
+fn say_repeated(message: &mut Message, space: Space, word: &str) {
+    message.say(&[
+        Piece::Text("the "),
+        Piece::Text(space_word(space)),
+        Piece::Text(" `"),
+        Piece::Word(word),
+        Piece::Text("` is declared twice"),
+    ]);
+    message.label(&[Piece::Text("declared again here")]);
 }
 
-fn explain_count(
-    alloc: Global,
-    subject: Subject<'_, '_>,
-    tokens: &[Token<'_>],
-    flaw: WordFlaw<'_>,
-    entry: Entry<'_>,
-) -> Result<Message, Memory> {
-    let word = shown_word(alloc, entry.word)?;
-    let (has, given) = (entry.count, flaw.given);
-    let arguments = plural(has);
-    let sentence = format!(in alloc; "`{word}` has {has} {arguments} and is given {given}")?;
-    let note = declared_note(alloc, subject, entry)?;
-    let message = Message::new(alloc, span_at(tokens, flaw.token), sentence.as_str())?.note(
-        alloc,
-        note.as_str(),
-    )?;
-    let pair = has == 1 && given > 1;
-    let hint = if pair {
-        Some(String::from_str(
-            alloc,
-            "one argument that is a tuple is written in parentheses of its own: `f((t, u))`",
-        )?)
+fn say_count(message: &mut Message, has: usize, given: usize, word: &str) {
+    message.say(&[
+        Piece::Text("`"),
+        Piece::Word(word),
+        Piece::Text("` has "),
+        Piece::Number(has as u64),
+        Piece::Text(plural(has)),
+        Piece::Text(" and is given "),
+        Piece::Number(given as u64),
+    ]);
+}
+
+fn say_type_word(message: &mut Message, is_name: bool, word: &str) {
+    let (begin, end) = if is_name {
+        (
+            "the result of a constructor is of a data type, and `",
+            "` is a name type",
+        )
     } else {
-        None
+        ("left of `\\` stands a name type, and `", "` is a data type")
     };
-    with_note(alloc, message, hint)
+    message.say(&[Piece::Text(begin), Piece::Word(word), Piece::Text(end)]);
 }
 
-fn explain_type_word(
-    alloc: Global,
-    subject: Subject<'_, '_>,
-    tokens: &[Token<'_>],
-    flaw: WordFlaw<'_>,
-    entry: Entry<'_>,
-) -> Result<Message, Memory> {
-    let word = shown_word(alloc, entry.word)?;
-    let sentence = if entry.is_name {
-        format!(in alloc;
-            "the result of a constructor is of a data type, and `{word}` is a name type"
-        )?
-    } else {
-        format!(in alloc; "left of `\\` stands a name type, and `{word}` is a data type")?
-    };
-    let note = declared_note(alloc, subject, entry)?;
-    let message = Message::new(alloc, span_at(tokens, flaw.token), sentence.as_str())?.note(
-        alloc,
-        note.as_str(),
-    )?;
-    if entry.is_name {
-        return message.note(
-            alloc,
-            "names aren't declared: each word that is no constructor is one",
-        );
+// Says what is wrong with a word that is declared.
+fn say_flaw(message: &mut Message, flaw: WordFlaw<'_>, entry: Entry<'_>) {
+    match flaw.kind {
+        TypeKind::Redeclared => say_repeated(message, flaw.space, entry.word),
+        TypeKind::Arity => say_count(message, entry.count, flaw.given, entry.word),
+        _ => say_type_word(message, entry.is_name, entry.word),
     }
-    Ok(message)
+}
+
+// Notes what else may help with it.
+fn note_flaw(message: &mut Message, flaw: WordFlaw<'_>, entry: Entry<'_>) {
+    match flaw.kind {
+        TypeKind::Arity if entry.count == 1 && flaw.given > 1 => message.note(&[Piece::Text(
+            "one argument that is a tuple is written in parentheses of its own: `f((t, u))`",
+        )]),
+        TypeKind::Clash if entry.is_name => message.note(&[Piece::Text(
+            "names aren't declared: each word that is no constructor is one",
+        )]),
+        _ => {}
+    }
+}
+
+// What is said of a flaw of a word that is declared.
+fn declared_message(
+    alloc: Global,
+    subject: Subject<'_, '_>,
+    tokens: &[Token<'_>],
+    flaw: WordFlaw<'_>,
+    entry: Entry<'_>,
+) -> Message {
+    let mut message = Message::new(alloc, span_at(tokens, flaw.token));
+    say_flaw(&mut message, flaw, entry);
+    note_declared(&mut message, subject, entry);
+    note_flaw(&mut message, flaw, entry);
+    message
 }
 
 /// What is said of the first word of an item at which a kind of fault shows, if there is one.
@@ -351,21 +379,14 @@ pub fn explain_word<'a>(
     declared: &Declared<'a>,
     nodes: &[Node],
     kind: TypeKind,
-) -> Result<Option<Message>, Memory> {
-    let Some(range) = subject.ranges.get(subject.item) else {
-        return Ok(None);
-    };
+) -> Option<Message> {
+    let range = subject.ranges.get(subject.item)?;
     let tokens = tokens_in(subject.tokens, *range);
-    let Some(flaw) = word_flaw(declared, tokens, nodes, kind) else {
-        return Ok(None);
-    };
-    let message = match (flaw.kind, flaw.entry) {
-        (TypeKind::Redeclared, Some(entry)) => {
-            explain_repeated(alloc, subject, tokens, flaw, entry)?
+    let flaw = word_flaw(declared, tokens, nodes, kind)?;
+    match flaw.entry {
+        Some(entry) if flaw.kind != TypeKind::Undeclared => {
+            Some(declared_message(alloc, subject, tokens, flaw, entry))
         }
-        (TypeKind::Arity, Some(entry)) => explain_count(alloc, subject, tokens, flaw, entry)?,
-        (TypeKind::Clash, Some(entry)) => explain_type_word(alloc, subject, tokens, flaw, entry)?,
-        _ => explain_undeclared(alloc, subject, declared, tokens, flaw)?,
-    };
-    Ok(Some(message))
+        _ => Some(undeclared_message(alloc, subject, declared, tokens, flaw)),
+    }
 }

@@ -1,9 +1,8 @@
 //! What is said where no token begins.
 ghost use Rattle.std.specs.Prelude.{◌≡◌};
 
-use crate::messages::Message;
+use crate::messages::{Message, Piece};
 use crate::spots::Span;
-use ap_defs::memory::Memory;
 use std::alloc::Global;
 use unicode_ident::{is_xid_continue, is_xid_start};
 
@@ -27,7 +26,7 @@ fn line_span(text: &[u8], line: u64) -> Span {
 }
 
 /// The longest front that is UTF-8.
-fn valid_front(bytes: &[u8]) -> &str {
+pub fn valid_front(bytes: &[u8]) -> &str {
     match std::str::from_utf8(bytes) {
         Ok(text) => text,
         Err(error) => match std::str::from_utf8(bytes.get(..error.valid_up_to()).unwrap_or(&[])) {
@@ -170,44 +169,65 @@ fn stray_note(line: &str, stray: Stray) -> &'static str {
     }
 }
 
-fn stray_sentence(alloc: Global, c: char) -> Result<String, Memory> {
-    let code = c as u32;
+fn say_stray(message: &mut Message, c: char, shown: &str) {
     let name = name_of(c);
     if name.is_empty() {
-        return Ok(format!(in alloc; "no token begins with the character `{c}` (U+{code:04X})")?);
+        message.say(&[
+            Piece::Text("no token begins with the character `"),
+            Piece::Word(shown),
+            Piece::Text("` ("),
+            Piece::Code(c),
+            Piece::Text(")"),
+        ]);
+    } else {
+        message.say(&[
+            Piece::Text(name),
+            Piece::Text(" ("),
+            Piece::Code(c),
+            Piece::Text(") stands where no token begins with it"),
+        ]);
     }
-    Ok(format!(in alloc; "{name} (U+{code:04X}) stands where no token begins with it")?)
+}
+
+// What is said of a stray character of a line that begins at a place of the text.
+fn stray_message(alloc: Global, line: &str, start: usize, stray: Stray) -> Message {
+    let end = stray.place.saturating_add(stray.c.len_utf8());
+    let span = Span {
+        start: start.saturating_add(stray.place),
+        end: start.saturating_add(end),
+    };
+    let mut message = Message::new(alloc, span);
+    say_stray(
+        &mut message,
+        stray.c,
+        line.get(stray.place..end).unwrap_or(""),
+    );
+    message.note(&[Piece::Text(stray_note(line, stray))]);
+    message
 }
 
 /// What is said of the first character of a line at which no token begins.
-pub fn explain_character(alloc: Global, text: &[u8], line: u64) -> Result<Message, Memory> {
+pub fn explain_character(alloc: Global, text: &[u8], line: u64) -> Message {
     let whole = line_span(text, line);
     let front = valid_front(text.get(whole.start..whole.end).unwrap_or(&[]));
-    let Some(stray) = stray_in(front) else {
-        return Message::new(alloc, whole, "no token begins here");
-    };
-    let start = whole.start.saturating_add(stray.place);
-    let span = Span {
-        start,
-        end: start.saturating_add(stray.c.len_utf8()),
-    };
-    let sentence = stray_sentence(alloc, stray.c)?;
-    Message::new(alloc, span, sentence.as_str())?.note(alloc, stray_note(front, stray))
+    if let Some(stray) = stray_in(front) {
+        return stray_message(alloc, front, whole.start, stray);
+    }
+    let mut message = Message::new(alloc, whole);
+    message.say(&[Piece::Text("no token begins here")]);
+    message
 }
 
 /// What is said of bytes that are not UTF-8.
-pub fn explain_bytes(alloc: Global, text: &[u8]) -> Result<Message, Memory> {
+pub fn explain_bytes(alloc: Global, text: &[u8]) -> Message {
     let start = valid_front(text).len();
-    let span = Span {
-        start,
-        end: start.saturating_add(1),
-    };
-    let byte = text.get(start).copied().unwrap_or(0);
-    let sentence = format!(in alloc;
-        "the byte {byte} (hexadecimal {byte:02X}) begins no character of UTF-8"
-    )?;
-    Message::new(alloc, span, sentence.as_str())?.note(
-        alloc,
-        "save the text in the encoding UTF-8, comments too",
-    )
+    let end = start.saturating_add(1);
+    let mut message = Message::new(alloc, Span { start, end });
+    message.say(&[
+        Piece::Text("the byte "),
+        Piece::Byte(text.get(start).copied().unwrap_or(0)),
+        Piece::Text(" begins no character of UTF-8"),
+    ]);
+    message.note(&[Piece::Text("save the text in the encoding UTF-8, comments too")]);
+    message
 }

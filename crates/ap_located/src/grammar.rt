@@ -3,11 +3,11 @@ ghost use Rattle.std.specs.Prelude.{◌≡◌};
 
 use crate::habits::habit;
 use crate::items::{line_at, span_at, text_at};
-use crate::messages::Message;
+use crate::messages::{Message, Piece};
 use crate::nodes::{Form, Node, node_at};
 use crate::reader::read_item;
 use crate::slips::{Slip, Wanted};
-use crate::spots::{Span, shown_word};
+use crate::spots::Span;
 use ap_defs::memory::Memory;
 use ap_lexer::{Token, TokenKind};
 use std::alloc::Global;
@@ -60,74 +60,79 @@ fn begins_item(tokens: &[Token<'_>], slip: Slip) -> bool {
     slip.token > 0 && ends && begins && token.line > before
 }
 
-fn missing_end(alloc: Global, tokens: &[Token<'_>], slip: Slip) -> Result<Message, Memory> {
-    let end = span_at(tokens, slip.token.saturating_sub(1)).end;
-    let span = Span {
-        start: end,
-        end: end.saturating_add(1),
-    };
+fn missing_end(alloc: Global, tokens: &[Token<'_>], slip: Slip) -> Message {
+    let start = span_at(tokens, slip.token.saturating_sub(1)).end;
+    let end = start.saturating_add(1);
+    let mut message = Message::new(alloc, Span { start, end });
+    message.say(&[Piece::Text("a `.` is missing before the next item")]);
+    message.label(&[Piece::Text("the item ends here by a `.`")]);
     let line = line_at(tokens, slip.token);
-    Message::new(alloc, span, "a `.` is missing before the next item")?
-        .label(alloc, "the item ends here by a `.`")?
-        .note(
-            alloc,
-            format!(in alloc; "the next item begins in line {line}")?.as_str(),
-        )
+    message.note(&[
+        Piece::Text("the next item begins in line "),
+        Piece::Number(line),
+    ]);
+    message
 }
 
-fn slip_sentence(alloc: Global, tokens: &[Token<'_>], slip: Slip) -> Result<String, Memory> {
-    if slip.token >= tokens.len() {
-        return Ok(String::from_str(alloc, "the item can't end here")?);
+fn say_slip(message: &mut Message, tokens: &[Token<'_>], place: usize) {
+    if place >= tokens.len() {
+        message.say(&[Piece::Text("the item can't end here")]);
+    } else {
+        message.say(&[
+            Piece::Text("the item can't go on with `"),
+            Piece::Word(text_at(tokens, place)),
+            Piece::Text("`"),
+        ]);
     }
-    let word = shown_word(alloc, text_at(tokens, slip.token))?;
-    Ok(format!(in alloc; "the item can't go on with `{word}`")?)
 }
 
-// Where the bracket that is open begins, if one is.
-fn open_note(alloc: Global, tokens: &[Token<'_>], node: Node) -> Result<Option<String>, Memory> {
-    let brackets = matches!(
+// Whether a node is one that a bracket opens.
+fn has_bracket(node: Node) -> bool {
+    matches!(
         node.form,
         Form::Apply | Form::Tuple | Form::List | Form::ListTail | Form::Group | Form::Predicate
-    );
-    if !brackets {
-        return Ok(None);
-    }
-    let line = line_at(tokens, node.first);
-    let word = shown_word(alloc, text_at(tokens, node.first))?;
-    Ok(Some(format!(in alloc; "what `{word}` opens in line {line} is not closed")?))
+    )
 }
 
-fn slip_message(
-    alloc: Global,
-    tokens: &[Token<'_>],
-    nodes: &[Node],
-    slip: Slip,
-) -> Result<Message, Memory> {
+// Where the bracket that is open begins.
+fn note_open(message: &mut Message, tokens: &[Token<'_>], node: Node) {
+    message.note(&[
+        Piece::Text("what `"),
+        Piece::Word(text_at(tokens, node.first)),
+        Piece::Text("` opens in line "),
+        Piece::Number(line_at(tokens, node.first)),
+        Piece::Text(" is not closed"),
+    ]);
+}
+
+fn slip_message(alloc: Global, tokens: &[Token<'_>], nodes: &[Node], slip: Slip) -> Message {
     let open = node_at(nodes, slip.open);
-    let sentence = slip_sentence(alloc, tokens, slip)?;
-    let mut message = Message::new(alloc, span_at(tokens, slip.token), sentence.as_str())?.label(
-        alloc,
-        wanted_text(slip.wanted, open.form),
-    )?;
+    let mut message = Message::new(alloc, span_at(tokens, slip.token));
+    say_slip(&mut message, tokens, slip.token);
+    message.label(&[Piece::Text(wanted_text(slip.wanted, open.form))]);
     match habit(tokens, nodes, slip) {
-        Some(note) => message = message.note(alloc, note)?,
-        None => {
-            if slip.wanted == Wanted::Close {
-                if let Some(note) = open_note(alloc, tokens, open)? {
-                    message = message.note(alloc, note.as_str())?;
-                }
-            }
+        Some(note) => message.note(&[Piece::Text(note)]),
+        None if slip.wanted == Wanted::Close && has_bracket(open) => {
+            note_open(&mut message, tokens, open);
         }
+        None => {}
     }
-    Ok(message)
+    message
+}
+
+fn vague_message(alloc: Global, tokens: &[Token<'_>]) -> Message {
+    let mut message = Message::new(alloc, span_at(tokens, 0));
+    message.say(&[Piece::Text("the item is not in the grammar")]);
+    message
 }
 
 /// What is said of an item, without its `.`, that isn't in the grammar.
 pub fn explain_grammar(alloc: Global, tokens: &[Token<'_>]) -> Result<Message, Memory> {
     let reading = read_item(alloc, tokens)?;
-    match reading.slip {
+    let message = match reading.slip {
         Some(slip) if begins_item(tokens, slip) => missing_end(alloc, tokens, slip),
         Some(slip) => slip_message(alloc, tokens, reading.nodes.all(), slip),
-        None => Message::new(alloc, span_at(tokens, 0), "the item is not in the grammar"),
-    }
+        None => vague_message(alloc, tokens),
+    };
+    Ok(message)
 }

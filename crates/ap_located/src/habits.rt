@@ -52,7 +52,7 @@ fn around_of<'a>(tokens: &[Token<'a>], nodes: &[Node], slip: Slip) -> Around<'a>
 fn ends_term(kind: Option<TokenKind>, text: &str) -> bool {
     match kind {
         Some(TokenKind::Ident | TokenKind::Var) => true,
-        Some(TokenKind::Sign) => text == ")" || text == "]",
+        Some(TokenKind::Sign) => matches!(text, ")" | "]"),
         _ => false,
     }
 }
@@ -61,7 +61,7 @@ fn ends_term(kind: Option<TokenKind>, text: &str) -> bool {
 fn begins_term(kind: Option<TokenKind>, text: &str) -> bool {
     match kind {
         Some(TokenKind::Ident | TokenKind::Var) => true,
-        Some(TokenKind::Sign) => text == "(" || text == "[",
+        Some(TokenKind::Sign) => matches!(text, "(" | "["),
         _ => false,
     }
 }
@@ -154,50 +154,55 @@ fn in_binders(at: Around<'_>) -> Option<&'static str> {
     }
 }
 
-// Slips in goals, by the token.
-fn in_goals(at: Around<'_>) -> Option<&'static str> {
-    if at.text == "is" {
-        return Some("there is no arithmetic and no `is`; `t = u` makes two terms equal");
-    }
-    if at.open == Form::Apply && at.opener == "not" {
-        return Some(
+// Slips in goals, by the token alone.
+fn at_token(at: Around<'_>) -> Option<&'static str> {
+    match at.text {
+        "is" => Some("there is no arithmetic and no `is`; `t = u` makes two terms equal"),
+        _ if at.open == Form::Apply && at.opener == "not" => Some(
             "there is no negation: that a name is not in a term is `a # t`; else write a predicate for the contrary",
-        );
+        ),
+        "->" => Some(
+            "there is no if-then-else: write a clause for each case, or `G1, H1 ; G2, H2`",
+        ),
+        "(" if at.kind_before == Some(TokenKind::Var) => {
+            Some("a variable stands for a term; it can't be called and has no arguments")
+        }
+        ":" => Some("two terms are made equal by one `=`"),
+        "=" if at.before == "=" => Some("two terms are made equal by one `=`"),
+        _ => None,
     }
-    if at.text == "->" {
-        return Some("there is no if-then-else: write a clause for each case, or `G1, H1 ; G2, H2`");
-    }
-    if at.text == "(" && at.kind_before == Some(TokenKind::Var) {
-        return Some("a variable stands for a term; it can't be called and has no arguments");
-    }
-    if at.text == ":" || (at.before == "=" && at.text == "=") {
-        return Some("two terms are made equal by one `=`");
-    }
-    if at.text == "|" && at.wanted != Wanted::Close {
-        return Some("goals of which one must hold stand with `;` between");
-    }
-    if at.wanted == Wanted::NextGoal && begins_term(at.kind, at.text) {
-        return Some("goals that must all hold stand with `,` between");
-    }
-    if at.text == ":-" || at.text == "?-" {
-        return Some("is a `.` missing before this item?");
-    }
-    None
 }
 
-// Slips in terms.
-fn in_terms(at: Around<'_>) -> Option<&'static str> {
-    if at.text == ")" && at.before == "(" && at.open == Form::Apply {
-        return Some("without arguments no parentheses stand behind the word");
+// Slips in how goals follow one another.
+fn between_goals(at: Around<'_>) -> Option<&'static str> {
+    match at.text {
+        "|" if at.wanted != Wanted::Close => {
+            Some("goals of which one must hold stand with `;` between")
+        }
+        _ if at.wanted == Wanted::NextGoal && begins_term(at.kind, at.text) => {
+            Some("goals that must all hold stand with `,` between")
+        }
+        ":-" | "?-" => Some("is a `.` missing before this item?"),
+        _ => None,
     }
-    if at.text == "\\" {
-        return Some("left of `\\` stands a name alone: `x\\t`");
+}
+
+// Slips with marks in terms.
+fn at_mark(at: Around<'_>) -> Option<&'static str> {
+    match at.text {
+        ")" if at.before == "(" && at.open == Form::Apply => {
+            Some("without arguments no parentheses stand behind the word")
+        }
+        "\\" => Some("left of `\\` stands a name alone: `x\\t`"),
+        ")" | "]" if matches!(at.wanted, Wanted::NextGoal | Wanted::Body | Wanted::End) => {
+            Some("no bracket is open that it could close")
+        }
+        _ => None,
     }
-    if (at.text == ")" || at.text == "]")
-        && matches!(at.wanted, Wanted::NextGoal | Wanted::Body | Wanted::End)
-    {
-        return Some("no bracket is open that it could close");
-    }
+}
+
+// Slips with words in terms.
+fn at_word(at: Around<'_>) -> Option<&'static str> {
     let in_arguments = matches!(at.open, Form::Apply | Form::Tuple | Form::List);
     if in_arguments && begins_term(at.kind, at.text) && ends_term(at.kind_before, at.before) {
         return Some("arguments stand in parentheses with commas between: `f(t, u)`");
@@ -211,17 +216,11 @@ fn in_terms(at: Around<'_>) -> Option<&'static str> {
 /// What those who wrote this may not know.
 pub fn habit(tokens: &[Token<'_>], nodes: &[Node], slip: Slip) -> Option<&'static str> {
     let at = around_of(tokens, nodes, slip);
-    if let Some(note) = at_begin(at) {
-        return Some(note);
-    }
-    if let Some(note) = in_types(at) {
-        return Some(note);
-    }
-    if let Some(note) = in_binders(at) {
-        return Some(note);
-    }
-    if let Some(note) = in_goals(at) {
-        return Some(note);
-    }
-    in_terms(at)
+    at_begin(at)
+        .or(in_types(at))
+        .or(in_binders(at))
+        .or(at_token(at))
+        .or(between_goals(at))
+        .or(at_mark(at))
+        .or(at_word(at))
 }

@@ -1,117 +1,189 @@
 //! What is said of a place of a text.
 ghost use Rattle.std.specs.Prelude.{◌≡◌};
 
-use crate::spots::{Excerpt, Span, Spot, excerpt_of, spot_of};
+use crate::spots::{Excerpt, Span, Spot, excerpt_of, push_word, spot_of};
 use ap_defs::memory::Memory;
-use std::alloc::Global;
+use std::alloc::{AllocError, Global};
+
+/// A piece of what is said.
+#[derive(Clone, Copy)]
+pub enum Piece<'a> {
+    /// As it stands.
+    Text(&'a str),
+    /// A word of the text, without control characters, and cut where it is long.
+    Word(&'a str),
+    Number(u64),
+    /// A character by its code.
+    Code(char),
+    Byte(u8),
+}
+
+/// The parts of a message.
+#[derive(Clone, Copy)]
+enum Part {
+    Sentence,
+    Label,
+    Note,
+}
 
 /// What is said of one place of a text: a sentence, the place that is marked, a label beside the mark, and
-/// notes.
+/// notes. Where memory is wanting for a piece, that is lost, and the message is not whole.
 #[derive(Drop)]
 pub struct Message {
-    pub sentence: String,
     pub span: Span,
-    pub label: String,
-    pub notes: Vec<String>,
+    sentence: String,
+    label: String,
+    // each behind a line feed
+    notes: String,
+    part: Part,
+    is_whole: bool,
+}
+
+// Adds a piece to what is said.
+fn add_piece(out: &mut String, piece: Piece<'_>) -> Result<(), AllocError> {
+    match piece {
+        Piece::Text(text) => out.push_str(text),
+        Piece::Word(word) => push_word(out, word),
+        Piece::Number(number) => write!(out, "{number}"),
+        Piece::Code(c) => {
+            let code = c as u32;
+            write!(out, "U+{code:04X}")
+        }
+        Piece::Byte(byte) => write!(out, "{byte} (hexadecimal {byte:02X})"),
+    }
 }
 
 impl Message {
-    /// A message without a label and without notes.
-    pub fn new(alloc: Global, span: Span, sentence: &str) -> Result<Message, Memory> {
-        Ok(Message {
-            sentence: String::from_str(alloc, sentence)?,
+    /// A message about a place, in which nothing is said yet. It takes no memory.
+    pub fn new(alloc: Global, span: Span) -> Message {
+        Message {
             span,
+            sentence: String::new(alloc),
             label: String::new(alloc),
-            notes: Vec::new(alloc),
-        })
-    }
-
-    /// Gives it a label.
-    pub fn label(mut self, alloc: Global, label: &str) -> Result<Message, Memory> {
-        self.label = String::from_str(alloc, label)?;
-        Ok(self)
-    }
-
-    /// Adds a note.
-    pub fn note(mut self, alloc: Global, note: &str) -> Result<Message, Memory> {
-        self.notes.push(String::from_str(alloc, note)?)?;
-        Ok(self)
-    }
-}
-
-// As many spaces as a number has digits.
-fn margin(alloc: Global, number: usize) -> Result<String, Memory> {
-    let mut out = String::new(alloc);
-    out.push(' ')?;
-    let mut rest = number / 10;
-    for _ in 0..20 {
-        if rest > 0 {
-            out.push(' ')?;
-            rest /= 10;
+            notes: String::new(alloc),
+            part: Part::Sentence,
+            is_whole: true,
         }
     }
-    Ok(out)
+
+    fn add(&mut self, piece: Piece<'_>) -> Result<(), AllocError> {
+        match self.part {
+            Part::Sentence => add_piece(&mut self.sentence, piece),
+            Part::Label => add_piece(&mut self.label, piece),
+            Part::Note => add_piece(&mut self.notes, piece),
+        }
+    }
+
+    /// Goes on with the part that was begun last; at first that is the sentence.
+    pub fn say(&mut self, pieces: &[Piece<'_>]) {
+        for piece in pieces {
+            if self.add(*piece).is_err() {
+                self.is_whole = false;
+            }
+        }
+    }
+
+    /// Begins the label.
+    pub fn label(&mut self, pieces: &[Piece<'_>]) {
+        self.part = Part::Label;
+        self.say(pieces);
+    }
+
+    /// Begins a note.
+    pub fn note(&mut self, pieces: &[Piece<'_>]) {
+        self.part = Part::Note;
+        self.say(&[Piece::Text("\n")]);
+        self.say(pieces);
+    }
+
+    /// Tells that memory was wanting for something that was to be said.
+    pub fn lose(&mut self) {
+        self.is_whole = false;
+    }
 }
 
-// Adds the sentence and the place.
-fn add_head(
-    alloc: Global,
-    out: &mut String,
-    word: &str,
-    sentence: &str,
-    spot: Spot,
-) -> Result<(), Memory> {
-    let (line, column) = (spot.line, spot.column);
-    let head = format!(in alloc; "{word}: {sentence}\n  line {line}, column {column}\n")?;
-    out.push_str(head.as_str())?;
+// Adds as many spaces as a number has digits.
+fn add_margin(out: &mut String, number: &str) -> Result<(), Memory> {
+    for _ in 0..number.len() {
+        out.push(' ')?;
+    }
     Ok(())
 }
 
-// Adds the line and the marks below it, with a label.
+// Adds the sentence and the place.
+fn add_head(out: &mut String, word: &str, sentence: &str, spot: Spot) -> Result<(), Memory> {
+    add_piece(out, Piece::Text(word))?;
+    add_piece(out, Piece::Text(": "))?;
+    add_piece(out, Piece::Text(sentence))?;
+    add_piece(out, Piece::Text("\n  line "))?;
+    add_piece(out, Piece::Number(spot.line as u64))?;
+    add_piece(out, Piece::Text(", column "))?;
+    add_piece(out, Piece::Number(spot.column as u64))?;
+    add_piece(out, Piece::Text("\n"))?;
+    Ok(())
+}
+
+// Adds the line with a number and the marks below it, with a label.
 fn add_excerpt(
-    alloc: Global,
     out: &mut String,
-    number: usize,
+    number: &str,
     excerpt: &Excerpt,
     label: &str,
 ) -> Result<(), Memory> {
-    let (line, marks) = (excerpt.line.as_str(), excerpt.marks.as_str());
-    let shown = format!(in alloc; "{number} | {line}\n")?;
-    out.push_str(shown.as_str())?;
-    out.push_str(margin(alloc, number)?.as_str())?;
+    out.push_str(number)?;
     out.push_str(" | ")?;
-    out.push_str(marks)?;
+    out.push_str(excerpt.line.as_str())?;
+    out.push('\n')?;
+    add_margin(out, number)?;
+    out.push_str(" | ")?;
+    out.push_str(excerpt.marks.as_str())?;
     if !label.is_empty() {
         out.push(' ')?;
         out.push_str(label)?;
+    }
+    Ok(())
+}
+
+// Adds the notes, each of which stands behind a line feed.
+fn add_notes(out: &mut String, number: &str, notes: &str) -> Result<(), Memory> {
+    for c in notes.chars() {
+        out.push(c)?;
+        if c == '\n' {
+            add_margin(out, number)?;
+            out.push_str(" = ")?;
+        }
     }
     out.push('\n')?;
     Ok(())
 }
 
-fn add_notes(out: &mut String, margin: &str, notes: &[String]) -> Result<(), Memory> {
-    for note in notes {
-        out.push_str(margin)?;
-        out.push_str(" = ")?;
-        out.push_str(note.as_str())?;
-        out.push('\n')?;
-    }
-    Ok(())
+// Adds what stands below the sentence: the line with a number, and the notes.
+fn add_body(
+    alloc: Global,
+    out: &mut String,
+    text: &[u8],
+    number: &str,
+    message: &Message,
+) -> Result<(), Memory> {
+    let excerpt = excerpt_of(alloc, text, message.span)?;
+    add_excerpt(out, number, &excerpt, message.label.as_str())?;
+    add_notes(out, number, message.notes.as_str())
 }
 
-/// A message as it is written, under a word such as `error`.
-pub fn message_text(
+/// Adds a message as it is written, under a word such as `error`. `Err` is want of memory.
+pub fn add_message(
     alloc: Global,
+    out: &mut String,
     text: &[u8],
     word: &str,
     message: &Message,
-) -> Result<String, Memory> {
+) -> Result<(), Memory> {
+    if !message.is_whole {
+        return Err(Memory);
+    }
     let spot = spot_of(text, message.span.start);
-    let excerpt = excerpt_of(alloc, text, message.span)?;
-    let mut out = String::new(alloc);
-    add_head(alloc, &mut out, word, message.sentence.as_str(), spot)?;
-    add_excerpt(alloc, &mut out, spot.line, &excerpt, message.label.as_str())?;
-    let margin = margin(alloc, spot.line)?;
-    add_notes(&mut out, margin.as_str(), message.notes.as_slice())?;
-    Ok(out)
+    add_head(out, word, message.sentence.as_str(), spot)?;
+    let mut number = String::new(alloc);
+    add_piece(&mut number, Piece::Number(spot.line as u64))?;
+    add_body(alloc, out, text, number.as_str(), message)
 }

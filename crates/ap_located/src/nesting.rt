@@ -1,8 +1,8 @@
 //! What is said of an item that no `.` ends, or that is nested too deep.
 ghost use Rattle.std.specs.Prelude.{◌≡◌};
 
-use crate::items::{line_at, span_at};
-use crate::messages::Message;
+use crate::items::{line_at, span_at, text_at};
+use crate::messages::{Message, Piece};
 use crate::spots::Span;
 use ap_defs::memory::Memory;
 use ap_lexer::Token;
@@ -46,57 +46,49 @@ fn deepest(alloc: Global, tokens: &[Token<'_>]) -> Result<usize, Memory> {
 /// What is said of an item that is nested too deep.
 pub fn explain_depth(alloc: Global, tokens: &[Token<'_>]) -> Result<Message, Memory> {
     let place = deepest(alloc, tokens)?;
-    let line = line_at(tokens, 0);
-    let sentence = "the item is nested more than 256 deep";
-    Message::new(alloc, span_at(tokens, place), sentence)?
-        .label(alloc, "this opens level 257; `(`, `[` and `\\` count")?
-        .note(
-            alloc,
-            format!(in alloc; "the item begins in line {line}")?.as_str(),
-        )
+    let mut message = Message::new(alloc, span_at(tokens, place));
+    message.say(&[Piece::Text("the item is nested more than 256 deep")]);
+    message.label(&[Piece::Text("this opens level 257; `(`, `[` and `\\` count")]);
+    note_begin(&mut message, tokens);
+    Ok(message)
 }
 
-/// The brackets that are open at the end.
-fn open_brackets(alloc: Global, tokens: &[Token<'_>]) -> Result<Vec<usize>, Memory> {
-    let mut open = Vec::new(alloc);
-    for (place, token) in tokens.iter().enumerate() {
-        match token.text {
-            "(" | "[" => open.push(place)?,
-            ")" | "]" => {
-                let _closed = open.pop();
-            }
+// The note that tells where an item begins.
+fn note_begin(message: &mut Message, tokens: &[Token<'_>]) {
+    let line = line_at(tokens, 0);
+    message.note(&[Piece::Text("the item begins in line "), Piece::Number(line)]);
+}
+
+// The last bracket that is open at the end.
+fn last_open(tokens: &[Token<'_>]) -> Option<usize> {
+    let mut closed: usize = 0;
+    for place in (0..tokens.len()).rev() {
+        match text_at(tokens, place) {
+            ")" | "]" => closed = closed.saturating_add(1),
+            "(" | "[" if closed == 0 => return Some(place),
+            "(" | "[" => closed = closed.saturating_sub(1),
             _ => {}
         }
     }
-    Ok(open)
+    None
 }
 
 /// What is said of an item that no `.` ends.
-pub fn explain_unended(alloc: Global, tokens: &[Token<'_>]) -> Result<Message, Memory> {
-    let last = span_at(tokens, tokens.len().saturating_sub(1));
-    let span = Span {
-        start: last.end,
-        end: last.end.saturating_add(1),
-    };
-    let line = line_at(tokens, 0);
-    let mut message = Message::new(alloc, span, "the text ends before the item's `.`")?
-        .label(alloc, "a `.` is missing here")?
-        .note(
-            alloc,
-            format!(in alloc; "the item begins in line {line}")?.as_str(),
-        )?;
-    let open = open_brackets(alloc, tokens)?;
-    if let Some(place) = open.last() {
-        let line = line_at(tokens, *place);
-        let sign = if tokens.get(*place).is_some_and(|token| token.text == "[") {
-            "["
-        } else {
-            "("
-        };
-        message = message.note(
-            alloc,
-            format!(in alloc; "a `{sign}` of line {line} is not closed")?.as_str(),
-        )?;
+pub fn explain_unended(alloc: Global, tokens: &[Token<'_>]) -> Message {
+    let start = span_at(tokens, tokens.len().saturating_sub(1)).end;
+    let end = start.saturating_add(1);
+    let mut message = Message::new(alloc, Span { start, end });
+    message.say(&[Piece::Text("the text ends before the item's `.`")]);
+    message.label(&[Piece::Text("a `.` is missing here")]);
+    note_begin(&mut message, tokens);
+    if let Some(place) = last_open(tokens) {
+        message.note(&[
+            Piece::Text("a `"),
+            Piece::Text(text_at(tokens, place)),
+            Piece::Text("` of line "),
+            Piece::Number(line_at(tokens, place)),
+            Piece::Text(" is not closed"),
+        ]);
     }
-    Ok(message)
+    message
 }

@@ -149,6 +149,9 @@ impl Nodes {
     }
 }
 
+/// The most levels that are walked up from a node.
+pub const LEVELS: usize = 1024;
+
 /// The node at a place, or a whole item without parts.
 pub fn node_at(nodes: &[Node], place: usize) -> Node {
     match nodes.get(place) {

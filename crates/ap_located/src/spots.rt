@@ -2,7 +2,7 @@
 ghost use Rattle.std.specs.Prelude.{◌≡◌};
 
 use ap_defs::memory::Memory;
-use std::alloc::Global;
+use std::alloc::{AllocError, Global};
 use unicode_width::UnicodeWidthChar;
 
 /// The columns of a line that are shown before a place, at most.
@@ -10,6 +10,9 @@ const BEFORE: usize = 120;
 
 /// The columns of a line that are shown, at most.
 const SHOWN: usize = 200;
+
+/// The characters of a word that are shown, at most.
+const LONGEST: usize = 60;
 
 /// The bytes that so many columns may take, at most, where no characters without width stand between.
 const WINDOW: usize = 1600;
@@ -88,7 +91,7 @@ fn window_start(text: &[u8], place: usize) -> usize {
         if at <= start {
             return start;
         }
-        if text.get(at).is_some_and(|byte| begins_character(*byte)) {
+        if begins_character(text.get(at).copied().unwrap_or(0)) {
             seen = seen.saturating_add(1);
         }
         if seen >= BEFORE {
@@ -128,17 +131,15 @@ fn width(c: char) -> usize {
     c.width().unwrap_or(1).min(2)
 }
 
-/// A text of at most so many characters without control characters, with two dots where it is cut.
-pub fn shown_word(alloc: Global, word: &str) -> Result<String, Memory> {
-    let mut out = String::new(alloc);
+/// Adds a word without control characters, with two dots where it is cut.
+pub fn push_word(out: &mut String, word: &str) -> Result<(), AllocError> {
     for (count, c) in word.chars().enumerate() {
-        if count >= 60 {
-            out.push_str("..")?;
-            return Ok(out);
+        if count >= LONGEST {
+            return out.push_str("..");
         }
         out.push(visible(c))?;
     }
-    Ok(out)
+    Ok(())
 }
 
 /// A line as it is shown, and below it the marks of a span.
@@ -146,35 +147,52 @@ pub fn shown_word(alloc: Global, word: &str) -> Result<String, Memory> {
 pub struct Excerpt {
     pub line: String,
     pub marks: String,
-}
-
-// What is shown so far.
-#[derive(Drop)]
-struct Shown {
-    line: String,
-    marks: String,
     columns: usize,
     marked: bool,
 }
 
-impl Shown {
-    // Adds a character that stands at a place of the text.
+impl Excerpt {
+    // The mark below a character that stands at a place of the text, if any.
+    fn mark_at(&self, place: usize, span: Span) -> Option<char> {
+        if place < span.start {
+            Some(' ')
+        } else if place < span.end || !self.marked {
+            Some('^')
+        } else {
+            None
+        }
+    }
+
+    fn add_marks(&mut self, mark: char, wide: usize) -> Result<(), Memory> {
+        for _ in 0..wide {
+            self.marks.push(mark)?;
+            self.marked = mark == '^';
+        }
+        Ok(())
+    }
+
+    // Adds a character that stands at a place of the text, if there is room for it.
     fn add(&mut self, c: char, place: usize, span: Span) -> Result<(), Memory> {
         let c = visible(c);
         let wide = width(c);
-        self.line.push(c)?;
         self.columns = self.columns.saturating_add(wide);
-        let mark = if place < span.start {
-            ' '
-        } else if place < span.end || !self.marked {
-            self.marked = true;
-            '^'
-        } else {
+        if self.columns > SHOWN {
             return Ok(());
-        };
-        let columns = if mark == '^' { wide.max(1) } else { wide };
-        for _ in 0..columns {
-            self.marks.push(mark)?;
+        }
+        self.line.push(c)?;
+        match self.mark_at(place, span) {
+            Some(mark) => self.add_marks(mark, wide),
+            None => Ok(()),
+        }
+    }
+
+    // Adds the characters of a line from a place of the text on.
+    fn add_all(&mut self, line: &str, start: usize, span: Span) -> Result<(), Memory> {
+        for (at, c) in line.char_indices() {
+            self.add(c, start.saturating_add(at), span)?;
+        }
+        if !self.marked {
+            self.marks.push('^')?;
         }
         Ok(())
     }
@@ -183,29 +201,13 @@ impl Shown {
 /// The line of a span's begin, cut to 200 columns, with the span marked.
 pub fn excerpt_of(alloc: Global, text: &[u8], span: Span) -> Result<Excerpt, Memory> {
     let start = window_start(text, span.start);
-    let bytes = String::from_utf8_lossy(alloc, window(text, start))?;
-    let mut out = Shown {
+    let line = String::from_utf8_lossy(alloc, window(text, start))?;
+    let mut out = Excerpt {
         line: String::new(alloc),
         marks: String::new(alloc),
         columns: 0,
         marked: false,
     };
-    let mut place = start;
-    for c in bytes.chars() {
-        if out.columns >= SHOWN {
-            break;
-        }
-        out.add(c, place, span)?;
-        place = place.saturating_add(c.len_utf8());
-    }
-    let Shown {
-        line,
-        mut marks,
-        marked,
-        ..
-    } = out;
-    if !marked {
-        marks.push('^')?;
-    }
-    Ok(Excerpt { line, marks })
+    out.add_all(line.as_str(), start, span)?;
+    Ok(out)
 }

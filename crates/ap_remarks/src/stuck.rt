@@ -6,10 +6,9 @@ use crate::tally::Tally;
 use ap_defs::memory::Memory;
 use ap_lexer::{LexError, Token, lex};
 use ap_located::items::{declared_word, ranges_of, span_between, text_at, tokens_in};
-use ap_located::messages::{Message, message_text};
+use ap_located::messages::{Message, Piece, add_message};
 use ap_located::nodes::{Form, Node, node_at};
 use ap_located::reader::read_item;
-use ap_located::spots::shown_word;
 use std::alloc::Global;
 
 /// The goals that are shown, at most.
@@ -23,23 +22,6 @@ struct Goals<'t> {
     out: String,
 }
 
-// How a goal with this variable on its left goes on.
-fn way_out(
-    alloc: Global,
-    tokens: &[Token<'_>],
-    variable: &str,
-    right: Node,
-) -> Result<String, Memory> {
-    let other = shown_word(alloc, text_at(tokens, right.first))?;
-    let note = match right.form {
-        Form::Word => format!(in alloc;
-            "put the name on the left, `{other} # {variable}`, or the goal behind those that make `{variable}` a name"
-        )?,
-        _ => format!(in alloc; "put the goal behind those that make `{variable}` a name")?,
-    };
-    Ok(note)
-}
-
 // The part of the goal at a place with this rank.
 fn right_part(nodes: &[Node], place: usize) -> Node {
     for node in nodes {
@@ -48,6 +30,36 @@ fn right_part(nodes: &[Node], place: usize) -> Node {
         }
     }
     node_at(nodes, place)
+}
+
+// Notes how the goal at a place with a variable on its left is turned.
+fn note_way_out<'a>(message: &mut Message, tokens: &[Token<'a>], variable: &'a str, right: Node) {
+    message.note(&[]);
+    if right.form == Form::Word {
+        message.say(&[
+            Piece::Text("put the name on the left, `"),
+            Piece::Word(text_at(tokens, right.first)),
+            Piece::Text(" # "),
+        ]);
+        message.say(&[
+            Piece::Word(variable),
+            Piece::Text("`, or the goal behind those that make `"),
+        ]);
+    } else {
+        message.say(&[Piece::Text("put the goal behind those that make `")]);
+    }
+    message.say(&[Piece::Word(variable), Piece::Text("` a name")]);
+}
+
+fn stuck_message(alloc: Global, tokens: &[Token<'_>], nodes: &[Node], place: usize) -> Message {
+    let goal = node_at(nodes, place);
+    let mut message = Message::new(alloc, span_between(tokens, goal.first, goal.last));
+    message.say(&[Piece::Text(
+        "a branch is stuck where the left side of this goal is still a variable",
+    )]);
+    let variable = text_at(tokens, goal.first);
+    note_way_out(&mut message, tokens, variable, right_part(nodes, place));
+    message
 }
 
 impl<'t> Goals<'t> {
@@ -59,15 +71,8 @@ impl<'t> Goals<'t> {
         place: usize,
     ) -> Result<(), Memory> {
         self.count = self.count.saturating_add(1);
-        let goal = node_at(nodes, place);
-        let variable = shown_word(alloc, text_at(tokens, goal.first))?;
-        let note = way_out(alloc, tokens, variable.as_str(), right_part(nodes, place))?;
-        let span = span_between(tokens, goal.first, goal.last);
-        let sentence = "a branch is stuck where the left side of this goal is still a variable";
-        let message = Message::new(alloc, span, sentence)?.note(alloc, note.as_str())?;
-        let said = message_text(alloc, self.text, "note", &message)?;
-        self.out.push_str(said.as_str())?;
-        Ok(())
+        let message = stuck_message(alloc, tokens, nodes, place);
+        add_message(alloc, &mut self.out, self.text, "note", &message)
     }
 
     fn add_item(&mut self, alloc: Global, tokens: &[Token<'_>]) -> Result<(), Memory> {
@@ -114,22 +119,26 @@ fn stuck_remarks(alloc: Global, text: &[u8]) -> Result<String, Memory>
     }
 }
 
+fn add_cut(out: &mut String, cut: u64) -> Result<(), Memory> {
+    write!(
+        out,
+        "note: branches that were cut at the depth: {cut}; a run with a greater number behind `--depth` follows them further\n"
+    )?;
+    Ok(())
+}
+
 /// What is written where branches of a text's queries were cut or stuck: how to go deeper, and the first freshness
 /// goals whose left side is a variable, since a branch is stuck at one of these. `Err` is want of memory.
 pub fn branch_remarks(alloc: Global, text: &[u8], tally: Tally) -> Result<String, Memory>
     requires { length text.now ≤ size_limit }
 {
-    let mut out = String::new(alloc);
-    if tally.stuck() > 0 {
-        let said = stuck_remarks(alloc, text)?;
-        out.push_str(said.as_str())?;
-    }
+    let mut out = if tally.stuck() > 0 {
+        stuck_remarks(alloc, text)?
+    } else {
+        String::new(alloc)
+    };
     if tally.cut() > 0 {
-        let cut = tally.cut();
-        let line = format!(in alloc;
-            "note: branches that were cut at the depth: {cut}; a run with a greater number behind `--depth` follows them further\n"
-        )?;
-        out.push_str(line.as_str())?;
+        add_cut(&mut out, tally.cut())?;
     }
     Ok(out)
 }

@@ -1,4 +1,4 @@
-//! Warner about a text that has a program.
+//! Warnings about a text that has a program.
 ghost use Rattle.std.specs.Prelude.{◌≡◌, ◌≤◌, length};
 ghost use Rattle.ap_defs.specs.Limits.{size_limit};
 
@@ -7,10 +7,9 @@ use crate::uses::Uses;
 use ap_defs::memory::Memory;
 use ap_lexer::{LexError, Token, lex};
 use ap_located::items::{declared_word, ranges_of, span_at, text_at, tokens_in};
-use ap_located::messages::{Message, message_text};
+use ap_located::messages::{Message, Piece, add_message};
 use ap_located::nodes::{Form, Node, node_at};
 use ap_located::reader::read_item;
-use ap_located::spots::{Span, shown_word};
 use ap_scopes::words::Words;
 use std::alloc::Global;
 
@@ -28,19 +27,55 @@ struct Warner<'t, 'a> {
     out: String,
 }
 
+fn single_message(alloc: Global, tokens: &[Token<'_>], token: usize) -> Message {
+    let word = text_at(tokens, token);
+    let mut message = Message::new(alloc, span_at(tokens, token));
+    message.say(&[
+        Piece::Text("the variable `"),
+        Piece::Word(word),
+        Piece::Text("` stands once in its clause"),
+    ]);
+    message.note(&[
+        Piece::Text("where any term will do it is spelled `_` or `_"),
+        Piece::Word(word),
+        Piece::Text("`; else is it misspelt?"),
+    ]);
+    message
+}
+
+fn empty_message(alloc: Global, tokens: &[Token<'_>], token: usize) -> Message {
+    let mut message = Message::new(alloc, span_at(tokens, token));
+    message.say(&[
+        Piece::Text("no clause has the predicate `"),
+        Piece::Word(text_at(tokens, token)),
+        Piece::Text("`"),
+    ]);
+    message.note(&[Piece::Text("this goal never holds")]);
+    message
+}
+
+fn unmet_message(alloc: Global, tokens: &[Token<'_>], head: Node, node: Node) -> Message {
+    let word = text_at(tokens, head.first);
+    let mut message = Message::new(alloc, span_at(tokens, node.first));
+    message.say(&[
+        Piece::Text("no goal of this text can use this clause of `"),
+        Piece::Word(word),
+        Piece::Text("`"),
+    ]);
+    message.note(&[
+        Piece::Text("each goal `"),
+        Piece::Word(word),
+        Piece::Text("(..)` has another constructor as argument "),
+        Piece::Number(node.rank.saturating_add(1) as u64),
+    ]);
+    message
+}
+
 impl<'t, 'a> Warner<'t, 'a> {
     // Adds a warning; behind the last that is written it is only counted.
-    fn warn(
-        &mut self,
-        alloc: Global,
-        span: Span,
-        sentence: &str,
-        note: &str,
-    ) -> Result<(), Memory> {
+    fn warn(&mut self, alloc: Global, message: &Message) -> Result<(), Memory> {
         if self.count < MOST {
-            let message = Message::new(alloc, span, sentence)?.note(alloc, note)?;
-            let said = message_text(alloc, self.text, "warning", &message)?;
-            self.out.push_str(said.as_str())?;
+            add_message(alloc, &mut self.out, self.text, "warning", message)?;
         }
         self.count = self.count.saturating_add(1);
         Ok(())
@@ -52,17 +87,8 @@ impl<'t, 'a> Warner<'t, 'a> {
         tokens: &[Token<'a>],
         token: usize,
     ) -> Result<(), Memory> {
-        let word = shown_word(alloc, text_at(tokens, token))?;
-        let sentence = format!(in alloc; "the variable `{word}` stands once in its clause")?;
-        let note = format!(in alloc;
-            "where any term will do it is spelled `_` or `_{word}`; else is it misspelt?"
-        )?;
-        self.warn(
-            alloc,
-            span_at(tokens, token),
-            sentence.as_str(),
-            note.as_str(),
-        )
+        let message = single_message(alloc, tokens, token);
+        self.warn(alloc, &message)
     }
 
     fn warn_empty(
@@ -76,10 +102,8 @@ impl<'t, 'a> Warner<'t, 'a> {
             return Ok(());
         }
         self.told.add(word)?;
-        let shown = shown_word(alloc, word)?;
-        let sentence = format!(in alloc; "no clause has the predicate `{shown}`")?;
-        let note = "this goal never holds";
-        self.warn(alloc, span_at(tokens, token), sentence.as_str(), note)
+        let message = empty_message(alloc, tokens, token);
+        self.warn(alloc, &message)
     }
 
     fn warn_unmet(
@@ -92,19 +116,8 @@ impl<'t, 'a> Warner<'t, 'a> {
         if self.uses.may_meet(tokens, head, node) {
             return Ok(());
         }
-        let word = shown_word(alloc, text_at(tokens, head.first))?;
-        let number = node.rank.saturating_add(1);
-        let sentence = format!(in alloc; "no goal of this text can use this clause of `{word}`")?;
-        let note = format!(in alloc;
-            "each goal `{word}(..)` has another constructor as argument {number}"
-        )?;
-        let token = node.first;
-        self.warn(
-            alloc,
-            span_at(tokens, token),
-            sentence.as_str(),
-            note.as_str(),
-        )
+        let message = unmet_message(alloc, tokens, head, node);
+        self.warn(alloc, &message)
     }
 
     // Looks at a node of a clause or a query.
@@ -154,11 +167,10 @@ impl<'t, 'a> Warner<'t, 'a> {
     }
 
     // Tells how many warnings are not written.
-    fn end(&mut self, alloc: Global) -> Result<(), Memory> {
+    fn end(&mut self) -> Result<(), Memory> {
         if self.count > MOST {
             let more = self.count.saturating_sub(MOST);
-            let line = format!(in alloc; "warnings that are not shown: {more}\n")?;
-            self.out.push_str(line.as_str())?;
+            write!(&mut self.out, "warnings that are not shown: {more}\n")?;
         }
         Ok(())
     }
@@ -176,7 +188,7 @@ fn warnings_of(alloc: Global, text: &[u8], tokens: &[Token<'_>]) -> Result<Strin
     for range in &ranges {
         warnings.look_at_item(alloc, tokens_in(tokens, *range))?;
     }
-    warnings.end(alloc)?;
+    warnings.end()?;
     let Warner { out, .. } = warnings;
     Ok(out)
 }
