@@ -1,5 +1,5 @@
 use Rattle.ap_report.proofs.Texts.{report_one}
 use Rattle.ap_report.proofs.laws.a_text_has_one_report.Goals as goal
 
-pub returns-clause-report : goal.returns-clause-report
-returns-clause-report c = report_one
+pub returns : goal.returns
+returns c = report_one
