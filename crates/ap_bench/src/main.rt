@@ -7,14 +7,18 @@
 //! - `types`: 20 equations whose answers double at each step are solved
 //! - `steal1`, `steal2`, `steal4`: so many workers search a tree with a million leaves and some work at each
 //! - `recursion`: a plain recursion goes through the same tree
+//! - `derived`, `written`, `read`, `verified`: a derivation of a million nodes in one chain is made, and then written, read
+//!   again and verified, each after the ones before
 #![tactic(auto)]
 
 mod book;
 mod deques;
+mod derivations;
 mod steal;
 mod turns;
 mod types;
 
+use crate::derivations::Stage;
 use std::sync::Wait;
 use std::thread::Threads;
 use std::{env, io};
@@ -31,6 +35,10 @@ fn measured<R: Threads + Wait + Sync + AllocGlobal>(rt: &R, word: &str) -> io::R
         "steal2" => steal::report(rt, alloc, 2),
         "steal4" => steal::report(rt, alloc, 4),
         "recursion" => steal::report_recursion(alloc),
+        "derived" => derivations::report(alloc, Stage::Derived),
+        "written" => derivations::report(alloc, Stage::Written),
+        "read" => derivations::report(alloc, Stage::Read),
+        "verified" => derivations::report(alloc, Stage::Verified),
         _ => "nothing is measured so".to_string(alloc),
     };
     Ok(line?)
