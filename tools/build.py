@@ -224,7 +224,7 @@ def build():
         f"about {estimate(left, below, jobs)} minutes. The log is {LOG}"
     )
     say("to look sooner, without proofs: ./alphaprolog-unproved with the same words")
-    say("first the sources are read, which takes a minute")
+    say("the lowest crate comes first; then the sources are read, which takes two minutes")
     open(LOG, "w", encoding="utf-8").close()
     # All crates wait for the lowest: it gets all processors.
     steps = [(crates[0], ["rt", "lib", "--jobs", str(processors())])] if crates[0] in left else []
