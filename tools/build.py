@@ -20,6 +20,8 @@ PROGRAM = "ap_cli"
 ROOM = f"{TOP}/.build"
 LOG = f"{ROOM}/log"
 NOT_BUILT = 70
+# The status of tools/libraries.py where the kit is made otherwise than it expects.
+LIBRARIES_BY_RT = 3
 # The memory that one check may take.
 BYTES_A_CHECK = 3 << 30
 
@@ -104,10 +106,10 @@ def processors():
 
 
 def jobs_at_once():
-    """Three checks for two processors, where memory allows: of those that `rt` begins some wait for a crate below them."""
+    """One check a processor, where memory allows."""
     found = re.search(r"MemAvailable:\s+(\d+) kB", text_of("/proc/meminfo"))
     memory = int(found[1]) * 1024 if found else BYTES_A_CHECK
-    return max(1, min(processors() * 3 // 2, memory // BYTES_A_CHECK))
+    return max(1, min(processors(), memory // BYTES_A_CHECK))
 
 
 def being_proved(names):
@@ -162,11 +164,11 @@ def last_lines(count):
     return "\n".join("    " + line[:160] for line in text_of(LOG).splitlines()[-count:])
 
 
-def run(name, words, progress):
-    """Runs a command in a crate's folder, with its output in the log; gives its status."""
+def run(words, progress):
+    """Runs a command in the program's folder, with its output in the log; gives its status."""
     with open(LOG, "a", encoding="utf-8") as log, open(f"{TOP}/crates/{PROGRAM}/stdin", "rb") as given:
         process = subprocess.Popen(
-            words, cwd=f"{TOP}/crates/{name}", stdin=given, stdout=log, stderr=log, start_new_session=True
+            words, cwd=f"{TOP}/crates/{PROGRAM}", stdin=given, stdout=log, stderr=log, start_new_session=True
         )
         try:
             while process.poll() is None:
@@ -224,17 +226,14 @@ def build():
         f"about {estimate(left, below, jobs)} minutes. The log is {LOG}"
     )
     say("to look sooner, without proofs: ./alphaprolog-unproved with the same words")
-    say("the lowest crate comes first; then the sources are read, which takes two minutes")
     open(LOG, "w", encoding="utf-8").close()
-    # All crates wait for the lowest: it gets all processors.
-    steps = [(crates[0], ["rt", "lib", "--jobs", str(processors())])] if crates[0] in left else []
-    steps += [(PROGRAM, ["rt", "all", "check", "--jobs", str(jobs)])]
-    steps += [(PROGRAM, ["rt", "run", "--", "run", "--depth", "1"])]
-    for name, words in steps:
-        if run(name, words, progress):
-            say(f"{progress.clock()} the program was not built; the log is {LOG}, and ends with")
-            say("\n" + last_lines(15))
-            fail("what was proved is kept: a second start goes on from there")
+    status = run([sys.executable, "-B", f"{TOP}/tools/libraries.py", str(jobs)], progress)
+    if status == LIBRARIES_BY_RT:
+        status = run(["rt", "all", "check", "--jobs", str(jobs)], progress)
+    if status or run(["rt", "run", "--jobs", str(jobs), "--", "run", "--depth", "1"], progress):
+        say(f"{progress.clock()} the program was not built; the log is {LOG}, and ends with")
+        say("\n" + last_lines(15))
+        fail("what was proved is kept: a second start goes on from there")
     say(f"{progress.clock()} proved and built")
 
 
