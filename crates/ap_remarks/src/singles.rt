@@ -4,7 +4,7 @@ ghost use Rattle.std.specs.Prelude.{◌≡◌};
 use ap_defs::memory::Memory;
 use ap_lexer::{Token, TokenKind};
 use ap_located::nodes::{Form, Node};
-use ap_scopes::words::Words;
+use indexmap::IndexSet;
 use std::alloc::Global;
 
 /// A variable of an item: where it stands first, and how often it stands.
@@ -28,19 +28,19 @@ fn variable_at<'a>(tokens: &[Token<'a>], node: Node) -> Option<&'a str> {
 }
 
 fn count_word<'a>(
-    words: &mut Words<'a>,
+    words: &mut IndexSet<&'a str>,
     variables: &mut Vec<Variable>,
     word: &'a str,
     token: usize,
 ) -> Result<(), Memory> {
-    match words.place(word) {
+    match words.get_index_of(word) {
         Some(place) => {
             if let Some(variable) = variables.get_mut(place) {
                 variable.count = variable.count.saturating_add(1);
             }
         }
         None => {
-            words.add(word)?;
+            words.insert(word)?;
             variables.push(Variable { token, count: 1 })?;
         }
     }
@@ -53,7 +53,7 @@ pub fn single_variables(
     tokens: &[Token<'_>],
     nodes: &[Node],
 ) -> Result<Vec<usize>, Memory> {
-    let mut words = Words::new(alloc);
+    let mut words = IndexSet::new(alloc);
     let mut variables = Vec::new(alloc);
     for node in nodes {
         if let Some(word) = variable_at(tokens, *node) {

@@ -6,7 +6,7 @@ use ap_lexer::Token;
 use ap_located::items::{Range, declared_word, text_at, tokens_in};
 use ap_located::nodes::{Form, Node, node_at};
 use ap_located::reader::read_item;
-use ap_scopes::words::Words;
+use indexmap::IndexSet;
 use std::alloc::Global;
 
 /// An argument of a call: the place of its predicate among those that are called, its own place among the
@@ -25,9 +25,9 @@ const LIST: usize = 2;
 /// The predicates that have clauses, those that are called, and their arguments.
 #[derive(Drop)]
 pub struct Uses<'a> {
-    heads: Words<'a>,
-    called: Words<'a>,
-    constructors: Words<'a>,
+    heads: IndexSet<&'a str>,
+    called: IndexSet<&'a str>,
+    constructors: IndexSet<&'a str>,
     // in order
     arguments: Vec<Argument>,
 }
@@ -41,9 +41,9 @@ impl<'a> Uses<'a> {
     /// Those of items.
     pub fn of(alloc: Global, tokens: &[Token<'a>], ranges: &[Range]) -> Result<Uses<'a>, Memory> {
         let mut uses = Uses {
-            heads: Words::new(alloc),
-            called: Words::new(alloc),
-            constructors: Words::new(alloc),
+            heads: IndexSet::new(alloc),
+            called: IndexSet::new(alloc),
+            constructors: IndexSet::new(alloc),
             arguments: Vec::new(alloc),
         };
         for range in ranges {
@@ -68,19 +68,24 @@ impl<'a> Uses<'a> {
     fn add_node(&mut self, tokens: &[Token<'a>], nodes: &[Node], node: Node) -> Result<(), Memory> {
         let above = node_at(nodes, node.parent);
         match above.form {
-            Form::Head => self.heads.add(text_at(tokens, node.first)),
-            Form::Atom => self.called.add(text_at(tokens, node.first)),
-            Form::Apply if is_call(nodes, above) => self.add_argument(tokens, above, node),
-            _ => Ok(()),
+            Form::Head => {
+                self.heads.insert(text_at(tokens, node.first))?;
+            }
+            Form::Atom => {
+                self.called.insert(text_at(tokens, node.first))?;
+            }
+            Form::Apply if is_call(nodes, above) => self.add_argument(tokens, above, node)?,
+            _ => {}
         }
+        Ok(())
     }
 
     fn add_argument(&mut self, tokens: &[Token<'a>], call: Node, node: Node) -> Result<(), Memory> {
-        let Some(predicate) = self.called.place(text_at(tokens, call.first)) else {
+        let Some(predicate) = self.called.get_index_of(text_at(tokens, call.first)) else {
             return Ok(());
         };
         if matches!(node.form, Form::Word | Form::Apply) {
-            self.constructors.add(text_at(tokens, node.first))?;
+            self.constructors.insert(text_at(tokens, node.first))?;
         }
         let begin = self.begin_of(tokens, node);
         self.arguments.push((predicate, node.rank, begin))?;
@@ -93,7 +98,7 @@ impl<'a> Uses<'a> {
             Form::List if node.count == 0 => EMPTY,
             Form::List | Form::ListTail => LIST,
             Form::Word | Form::Apply => {
-                match self.constructors.place(text_at(tokens, node.first)) {
+                match self.constructors.get_index_of(text_at(tokens, node.first)) {
                     Some(place) => place.saturating_add(3),
                     None => usize::MAX,
                 }
@@ -108,14 +113,14 @@ impl<'a> Uses<'a> {
 
     /// Whether a clause has the word as the predicate of its head.
     pub fn has_clauses(&self, predicate: &str) -> bool {
-        self.heads.place(predicate).is_some()
+        self.heads.contains(predicate)
     }
 
     /// Whether a call may have the argument of a head at its place: one has a term that begins so there, or one
     /// that may be equal to any.
     pub fn may_meet(&self, tokens: &[Token<'a>], head: Node, node: Node) -> bool {
         let begin = self.begin_of(tokens, node);
-        match self.called.place(text_at(tokens, head.first)) {
+        match self.called.get_index_of(text_at(tokens, head.first)) {
             Some(predicate) if begin != ANY => {
                 self.has_argument((predicate, node.rank, ANY))
                     || self.has_argument((predicate, node.rank, begin))

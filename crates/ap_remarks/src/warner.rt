@@ -10,7 +10,7 @@ use ap_located::items::{declared_word, ranges_of, span_at, text_at, tokens_in};
 use ap_located::messages::{Message, Piece, add_message};
 use ap_located::nodes::{Form, Node, node_at};
 use ap_located::reader::read_item;
-use ap_scopes::words::Words;
+use indexmap::IndexSet;
 use std::alloc::Global;
 
 /// The warnings that are written, at most.
@@ -22,7 +22,7 @@ struct Warner<'t, 'a> {
     text: &'t [u8],
     uses: Uses<'a>,
     // the predicates without clauses that were told
-    told: Words<'a>,
+    told: IndexSet<&'a str>,
     count: usize,
     out: String,
 }
@@ -98,10 +98,10 @@ impl<'t, 'a> Warner<'t, 'a> {
         token: usize,
     ) -> Result<(), Memory> {
         let word = text_at(tokens, token);
-        if self.uses.has_clauses(word) || self.told.place(word).is_some() {
+        if self.uses.has_clauses(word) || self.told.contains(word) {
             return Ok(());
         }
-        self.told.add(word)?;
+        self.told.insert(word)?;
         let message = empty_message(alloc, tokens, token);
         self.warn(alloc, &message)
     }
@@ -181,7 +181,7 @@ fn warnings_of(alloc: Global, text: &[u8], tokens: &[Token<'_>]) -> Result<Strin
     let mut warnings = Warner {
         text,
         uses: Uses::of(alloc, tokens, ranges.as_slice())?,
-        told: Words::new(alloc),
+        told: IndexSet::new(alloc),
         count: 0,
         out: String::new(alloc),
     };

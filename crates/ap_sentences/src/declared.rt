@@ -7,7 +7,7 @@ use ap_lexer::Token;
 use ap_located::items::{Range, Space, declared_word, line_at, text_at, tokens_in};
 use ap_located::nodes::{Form, Node, first_part, node_at};
 use ap_located::reader::read_item;
-use ap_scopes::words::Words;
+use indexmap::IndexSet;
 use std::alloc::Global;
 
 /// A declared word: the first token of its declaration and its line, how many arguments it has, and the
@@ -27,14 +27,14 @@ pub struct Entry<'a> {
 /// The declared words of one space.
 #[derive(Drop)]
 pub struct Table<'a> {
-    words: Words<'a>,
+    words: IndexSet<&'a str>,
     entries: Vec<Entry<'a>>,
 }
 
 impl<'a> Table<'a> {
     pub fn new(alloc: Global) -> Table<'a> {
         Table {
-            words: Words::new(alloc),
+            words: IndexSet::new(alloc),
             entries: Vec::new(alloc),
         }
     }
@@ -50,14 +50,13 @@ impl<'a> Table<'a> {
 
     /// The place of a word, and what is declared of it.
     pub fn get(&self, word: &str) -> Option<(usize, Entry<'a>)> {
-        let place = self.words.place(word)?;
+        let place = self.words.get_index_of(word)?;
         let entry = self.entries.get(place)?;
         Some((place, *entry))
     }
 
     fn add(&mut self, entry: Entry<'a>) -> Result<(), Memory> {
-        if self.words.place(entry.word).is_none() {
-            self.words.add(entry.word)?;
+        if self.words.insert(entry.word)? {
             self.entries.push(entry)?;
         }
         Ok(())

@@ -10,7 +10,7 @@ use ap_lexer::Token;
 use ap_located::items::{span_at, text_at};
 use ap_located::messages::{Message, Piece};
 use ap_located::nodes::{Form, LEVELS, Node, node_at};
-use ap_scopes::words::Words;
+use indexmap::IndexSet;
 use std::alloc::Global;
 
 // The token of the first node of a spelling that stands as a binder or in one of the first two places of a
@@ -143,11 +143,11 @@ fn covered_by<'a>(
     tokens: &[Token<'a>],
     nodes: &[Node],
     name: &str,
-) -> Result<Words<'a>, Memory> {
-    let mut covered = Words::new(alloc);
+) -> Result<IndexSet<&'a str>, Memory> {
+    let mut covered = IndexSet::new(alloc);
     for (place, node) in nodes.iter().enumerate() {
         if node.form == Form::Variable && is_in_fresh_goal(tokens, nodes, place, name) {
-            covered.add(text_at(tokens, node.first))?;
+            covered.insert(text_at(tokens, node.first))?;
         }
     }
     Ok(covered)
@@ -187,9 +187,7 @@ fn open_variables(
     let covered = covered_by(alloc, tokens, nodes, name)?;
     let mut open = Vec::new(alloc);
     for (place, node) in nodes.iter().enumerate() {
-        if is_open(tokens, nodes, place, name)
-            && covered.place(text_at(tokens, node.first)).is_none()
-        {
+        if is_open(tokens, nodes, place, name) && !covered.contains(text_at(tokens, node.first)) {
             open.push(*node)?;
         }
     }

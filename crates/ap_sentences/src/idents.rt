@@ -5,7 +5,7 @@ use ap_defs::memory::Memory;
 use ap_lexer::Token;
 use ap_located::items::text_at;
 use ap_located::nodes::{Form, LEVELS, Node, node_at};
-use ap_scopes::words::Words;
+use indexmap::IndexSet;
 use std::alloc::Global;
 
 /// A name or a variable: its first node, and the number of its type.
@@ -20,7 +20,7 @@ pub struct Ident {
 /// The names and variables of an item.
 #[derive(Drop)]
 pub struct Idents<'a> {
-    words: Words<'a>,
+    words: IndexSet<&'a str>,
     // for each word the place of the identifier that no goal brings
     free: Vec<usize>,
     // for each node that brings an identifier the place of that and the node
@@ -31,7 +31,7 @@ pub struct Idents<'a> {
 impl<'a> Idents<'a> {
     pub fn new(alloc: Global) -> Idents<'a> {
         Idents {
-            words: Words::new(alloc),
+            words: IndexSet::new(alloc),
             free: Vec::new(alloc),
             brought: Vec::new(alloc),
             all: Vec::new(alloc),
@@ -60,8 +60,7 @@ impl<'a> Idents<'a> {
     /// Adds one that no goal brings.
     pub fn add_free(&mut self, word: &'a str, ident: Ident) -> Result<(), Memory> {
         let place = self.add(ident)?;
-        if self.words.place(word).is_none() {
-            self.words.add(word)?;
+        if self.words.insert(word)? {
             self.free.push(place)?;
         }
         Ok(())
@@ -81,7 +80,7 @@ impl<'a> Idents<'a> {
 
     // The identifier of a word that no goal brings.
     fn free_of(&self, word: &str) -> Option<Ident> {
-        let number = self.words.place(word)?;
+        let number = self.words.get_index_of(word)?;
         let place = self.free.get(number).copied()?;
         self.all.get(place).copied()
     }
