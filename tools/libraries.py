@@ -2,11 +2,11 @@
 """Builds the libraries below the program, each as `rt lib` builds it, with all processors at work.
 
 `rt all check` takes crates by how many are below them and gives each one process, so that a chain of dear crates ends
-alone. Here those come first that have the most minutes behind them, and a crate gets a second process where its chain
-would else end last, or where nothing else waits. The functions of the kit's own `rt` do the work, under its locks and
-with its stamps, so that each command of `rt` goes on from there. tools/build.py runs this script, with the number of
-processes to use; its output is that of `rt all check`. Exit status: 0 where all libraries stand, 1 where one was
-refused, 3 where this kit hasn't the functions that are called here.
+alone. Here those come first that have the most minutes behind them, and a crate gets the processors for which nothing
+else is ready. The functions of the kit's own `rt` do the work, under its locks and with its stamps, so that each command
+of `rt` goes on from there. tools/build.py runs this script, with the number of processes to use; its output is that of
+`rt all check`. Exit status: 0 where all libraries stand, 1 where one was refused, 3 where this kit hasn't the functions
+that are called here.
 """
 import concurrent.futures
 import importlib.machinery
@@ -62,16 +62,16 @@ class Plan:
 
     def __init__(self, names, below, minutes, lanes):
         self.below, self.lanes = below, lanes
-        self.minutes = {name: minutes.get(name, 1) for name in names}
+        self.names = set(names)
         self.behind = {}
         for name in reversed(names):
             above = [self.behind[other] for other in self.behind if name in below[other]]
-            self.behind[name] = self.minutes[name] + max(above, default=0)
+            self.behind[name] = minutes.get(name, 1) + max(above, default=0)
         self.left = sorted(names, key=lambda name: -self.behind[name])
         self.running, self.done = {}, set()
 
     def is_ready(self, name):
-        return all(library in self.done for library in self.below[name] if library in self.minutes)
+        return all(library in self.done for library in self.below[name] if library in self.names)
 
     def next(self):
         """The next library and its processes, or none where all lanes are taken or each library waits for others."""
@@ -80,10 +80,6 @@ class Plan:
         if not ready or idle <= 0:
             return None
         name, processes = ready[0], max(1, min(MOST_PROCESSES, idle // len(ready)))
-        # Those at work are half done, as a mean.
-        minutes_left = sum(map(self.minutes.get, self.left)) + sum(map(self.minutes.get, self.running)) / 2
-        if self.behind[name] > minutes_left / self.lanes:
-            processes = max(processes, min(2, idle))
         self.left.remove(name)
         self.running[name] = processes
         return name, processes
