@@ -1,0 +1,3 @@
+mod UseLemmas
+mod TableLemmas
+mod WaitingLemmas

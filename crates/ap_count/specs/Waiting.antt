@@ -1,0 +1,24 @@
+-- Goals that wait with their derivations, the next one last.
+use Rattle.std.specs.Prelude.{ℕ, ◌+◌, List, [], ◌∷◌, ◌++◌, Option, None, Some}
+use Rattle.ap_defs.specs.Derivations.{derivation_of, weight}
+use Rattle.ap_defs.specs.Goals.{Clauses, goal_of}
+use Rattle.ap_count.specs.declared.walk.Waiting.{Waiting}
+use Rattle.ap_count.specs.Uses.{ClauseUse, uses}
+
+abbrev pub uses_waiting : Clauses → Waiting → List ClauseUse
+uses_waiting program w = uses program (derivation_of w.derivation.now) (goal_of w.goal.now)
+
+-- the uses in all of them, those of the last one first
+abbrev pub uses_of_all : Clauses → List Waiting → List ClauseUse
+uses_of_all program [] = []
+uses_of_all program (w ∷ ws) = uses_of_all program ws ++ uses_waiting program w
+
+-- those of what there is, if there is any
+abbrev pub if_any : {A : Type 0} → Option A → (A → List ClauseUse) → List ClauseUse
+if_any None uses_of = []
+if_any (Some a) uses_of = uses_of a
+
+-- how many nodes are left at most
+abbrev pub weight_of_all : List Waiting → ℕ
+weight_of_all [] = 0
+weight_of_all (w ∷ ws) = weight (derivation_of w.derivation.now) + weight_of_all ws
