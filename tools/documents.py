@@ -6,7 +6,8 @@ usage: tools/documents.py [PROGRAM]
 Each fenced block of README.md, docs/LANGUAGE.md, docs/TUTORIAL.md and docs/FROM_PROLOG.md is one of these:
 
 - commands `./alphaprolog run ..`, each with what it shows: a run of examples/runs with all that the gate has for it
-  in crates/ap_cases/stdout; below it may stand what is said on standard error;
+  in crates/ap_cases/stdout; below it may stand what is said on standard error. Other commands that end with the program are
+  tried with the built one alone (below);
 - a report: lines that stand together in crates/ap_cases/stdout;
 - messages (`error:`, `warning:`, `note:`): each stands in crates/ap_explained/stdout;
 - a program: a text of examples/, byte for byte. Where the words before it say "in part", each of its paragraphs
@@ -25,10 +26,13 @@ import os
 import re
 import subprocess
 import sys
+import tempfile
 
 TOP = os.path.dirname(os.path.dirname(os.path.realpath(__file__)))
 DOCUMENTS = "README.md", "docs/LANGUAGE.md", "docs/TUTORIAL.md", "docs/FROM_PROLOG.md"
 COMMAND = re.compile(r"\./alphaprolog run --depth (\d+)(?: --workers \d+)? < examples/(\S+)$")
+COMMAND_LINE = re.compile(r"(?:sed .* \| )?\./alphaprolog \w")
+HOLES = re.compile(r"\b(?:FILE|TEXT|BUNDLE)\b")
 MESSAGE = re.compile(r"(?:error|warning|note): ")
 REPORT = re.compile(r"% (?:query \d+: |cut |stuck |\w+ fault: )|yes$|[A-Z]\w* = ")
 DEPTH = re.compile(r"[Dd]epth ([\d,]+) or more")
@@ -91,7 +95,7 @@ def commands_of(lines):
     """The commands of a block, each with the lines that it shows."""
     commands = []
     for line in lines:
-        if line.startswith("./alphaprolog "):
+        if COMMAND_LINE.match(line):
             commands.append((line, []))
         else:
             commands[-1][1].append(line)
@@ -99,8 +103,12 @@ def commands_of(lines):
 
 
 class Checker:
-    def __init__(self, program):
+    def __init__(self, program, room):
+        """With a program, or none, and a room in which commands run as they would in the repository."""
         self.program = program
+        self.room = room
+        os.symlink(program or "/nowhere", f"{room}/alphaprolog")
+        os.symlink(f"{TOP}/examples", f"{room}/examples")
         self.texts = example_texts()
         self.reports = gate_reports()
         self.all_reports = text_of("crates/ap_cases/stdout")
@@ -114,13 +122,13 @@ class Checker:
 
     def shown_by(self, words):
         """What a command shows on standard output and standard error."""
-        command = words.replace("./alphaprolog", self.program, 1)
-        ran = subprocess.run(command, shell=True, cwd=TOP, capture_output=True, check=False)
+        ran = subprocess.run(words, shell=True, cwd=self.room, capture_output=True, check=False)
         return ran.stdout.decode(), ran.stderr.decode()
 
     def command(self, path, line, words, shown):
         match = COMMAND.match(words)
         if not match:
+            self.other_command(path, line, words, shown)
             return
         counts["commands"] += 1
         report = self.reports.get(match.groups())
@@ -141,6 +149,13 @@ class Checker:
             if self.shown_by(words) != (report, said):
                 differ(path, line, f"the program shows something else for {words}")
 
+    def other_command(self, path, line, words, shown):
+        """Tries a command that is not a run of an example."""
+        if self.program and not HOLES.search(words):
+            counts["commands run"] += 1
+            if "".join(self.shown_by(words)) != "".join(f"{it}\n" for it in shown):
+                differ(path, line, f"the program shows something else for {words}")
+
     def program_text(self, path, line, words, lines):
         text = "".join(f"{it}\n" for it in lines)
         if text in self.texts.values():
@@ -154,7 +169,7 @@ class Checker:
             differ(path, line, "no text of examples/ has these parts")
 
     def block(self, path, line, words, lines):
-        if lines[0].startswith("./alphaprolog "):
+        if COMMAND_LINE.match(lines[0]):
             for command, shown in commands_of(lines):
                 self.command(path, line, command, [it for it in shown if it != "rt ci"])
         elif MESSAGE.match(lines[0]):
@@ -206,14 +221,15 @@ class Checker:
 
 
 def main():
-    checker = Checker(os.path.abspath(sys.argv[1]) if len(sys.argv) > 1 else "")
-    for path in DOCUMENTS:
-        checker.document(path)
-    for depth, name in checker.reports:
-        if name.startswith("faults/"):
-            checker.fault(name)
-        elif checker.program:
-            checker.example(depth, name)
+    with tempfile.TemporaryDirectory() as room:
+        checker = Checker(os.path.abspath(sys.argv[1]) if len(sys.argv) > 1 else "", room)
+        for path in DOCUMENTS:
+            checker.document(path)
+        for depth, name in checker.reports:
+            if name.startswith("faults/"):
+                checker.fault(name)
+            elif checker.program:
+                checker.example(depth, name)
     print(", ".join(f"{count} {what}" for what, count in counts.items() if what != "differ") + f"; {counts['differ']} differ")
     return 1 if counts["differ"] else 0
 
