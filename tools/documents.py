@@ -121,9 +121,9 @@ class Checker:
             differ(path, line, f"the gate says nowhere: {message.splitlines()[0]}")
 
     def shown_by(self, words):
-        """What a command shows on standard output and standard error."""
+        """What a command shows on standard output and standard error, and its status."""
         ran = subprocess.run(words, shell=True, cwd=self.room, capture_output=True, check=False)
-        return ran.stdout.decode(), ran.stderr.decode()
+        return ran.stdout.decode(), ran.stderr.decode(), ran.returncode
 
     def command(self, path, line, words, shown):
         match = COMMAND.match(words)
@@ -146,14 +146,15 @@ class Checker:
             self.said(path, line, message, cut)
         if self.program:
             counts["commands run"] += 1
-            if self.shown_by(words) != (report, said):
+            if self.shown_by(words)[:2] != (report, said):
                 differ(path, line, f"the program shows something else for {words}")
 
     def other_command(self, path, line, words, shown):
-        """Tries a command that is not a run of an example."""
+        """Tries a command that is not a run of an example. Where nothing is shown below it, it must end with status 0."""
         if self.program and not HOLES.search(words):
             counts["commands run"] += 1
-            if "".join(self.shown_by(words)) != "".join(f"{it}\n" for it in shown):
+            report, said, status = self.shown_by(words)
+            if report + said != "".join(f"{it}\n" for it in shown) if shown else status != 0:
                 differ(path, line, f"the program shows something else for {words}")
 
     def program_text(self, path, line, words, lines):
@@ -207,7 +208,7 @@ class Checker:
                 self.said(path, 1, message)
         if self.program:
             counts["texts run"] += 1
-            if self.shown_by(f"./alphaprolog run --depth 10 < {path}") != (report, said):
+            if self.shown_by(f"./alphaprolog run --depth 10 < {path}")[:2] != (report, said):
                 differ(path, 1, "the program shows something else for it")
 
     def example(self, depth, name):
@@ -215,7 +216,7 @@ class Checker:
         claim = DEPTH.search(self.texts[name])
         for at in {depth, claim[1].replace(",", "") if claim else depth}:
             counts["texts run"] += 1
-            report, said = self.shown_by(f"./alphaprolog run --depth {at} < examples/{name}")
+            report, said, _ = self.shown_by(f"./alphaprolog run --depth {at} < examples/{name}")
             if report != self.reports[(depth, name)] or "warning: " in said:
                 differ(f"examples/{name}", 1, f"the program has another report, or a warning, at depth {at}")
 
