@@ -1,9 +1,9 @@
 #!/usr/bin/env python3
-"""Tries the highlighting of each editor on all examples, without a screen.
+"""Tries the highlighting of each editor on all examples and tokens.apl, without a screen.
 
     editors/try.py [vim] [emacs] [textmate]
 
-Splits each example into tokens, says of each which class it has, and asks the editor what it shows at the token's first and
+Splits each text into tokens, says of each which class it has, and asks the editor what it shows at the token's first and
 last character. Prints for each class how many tokens were found, and each token that is shown as something else; the status is 1
 where there is one, or where a class has no token. It needs vim, emacs and, for the grammar of TextMate, ruby.
 """
@@ -121,6 +121,7 @@ def fits(editor, kind, shown):
 
 def main():
     files = sorted(str(it) for it in (HERE.parent / "examples").resolve().rglob("*.apl") if it.name != "syntax_not_utf8.apl")
+    files.append(str(HERE / "tokens.apl"))
     bad = False
     for editor in sys.argv[1:] or ["vim", "emacs", "textmate"]:
         counts = collections.Counter()

@@ -11,7 +11,7 @@
     (modify-syntax-entry ?% "<" table)
     (modify-syntax-entry ?\n ">" table)
     (modify-syntax-entry ?_ "w" table)
-    (dolist (mark '(?\\ ?# ?= ?| ?\; ?: ?? ?- ?> ?. ?, ?\" ?' ?` ?~))
+    (dolist (mark '(?\\ ?# ?= ?| ?\; ?: ?? ?- ?> ?. ?, ?\" ?' ?` ?~ ?$))
       (modify-syntax-entry mark "." table))
     table)
   "Syntax table of `alphaprolog-mode'.")

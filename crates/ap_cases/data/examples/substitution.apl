@@ -1,15 +1,15 @@
 % Capture-avoiding substitution in the lambda calculus (Cheney and Urban, Nominal Logic Programming, 2008):
 % subst(T, X, E, R) says that R is T with E for X. Depth 3 or more: nothing is cut.
 
-id : name_type.
-exp : type.
+id : name_type.                     % a type of names
+exp : type.                         % a data type, and its constructors
 var : id -> exp.
 app : (exp, exp) -> exp.
-lam : id\exp -> exp.
+lam : id\exp -> exp.                % its argument binds a name in an expression
 
-pred subst(exp, id, exp, exp).
+pred subst(exp, id, exp, exp).      % a predicate and the types of its arguments
 
-subst(var(X), X, E, E).
+subst(var(X), X, E, E).             % clauses
 subst(var(Y), X, _, var(Y)) :- X # Y.
 subst(app(M,N), X, E, app(M2,N2)) :- subst(M,X,E,M2), subst(N,X,E,N2).
 subst(lam(y\M), X, E, lam(y\M2)) :- y # X, y # E, subst(M,X,E,M2).
