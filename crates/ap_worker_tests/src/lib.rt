@@ -1,9 +1,11 @@
 //! Tests of streams, `ap_io`, of paths, books and workers, `ap_paths`, `ap_book`, `ap_core`, `ap_tasks`, `ap_lock` and
-//! `ap_steal`, and of the top call, `ap_top`.
+//! `ap_steal`, of counts of uses, `ap_count`, and of the top call, `ap_top`.
 #![tactic(auto)]
 
 #[cfg(test)]
 mod book;
+#[cfg(test)]
+mod clause_uses;
 #[cfg(test)]
 mod events;
 #[cfg(test)]
