@@ -13,7 +13,11 @@ fn last_line(text: &[u8]) -> &[u8] {
 fn small_seeds_ask_for_their_terms(rt: HostRuntime) {
     let alloc = rt.alloc();
     let first = b"?- subst(M,a,var(b),lam(c\\lam(c\\lam(b\\var(b))))).\n";
-    assert!(rt; matches!(&program_of(alloc, 1, 1), Ok(text) if last_line(text) == first));
+    assert!(rt;
+        matches!(&program_of(alloc, 1, 1), Ok(text) if last_line(text) == first.as_slice())
+    );
     let second = b"?- subst(M,a,var(b),app(app(var(b),app(var(c),var(d))),var(c))).\n";
-    assert!(rt; matches!(&program_of(alloc, 2, 1), Ok(text) if last_line(text) == second));
+    assert!(rt;
+        matches!(&program_of(alloc, 2, 1), Ok(text) if last_line(text) == second.as_slice())
+    );
 }
