@@ -3,7 +3,8 @@
 use ap_book::{Book, merge};
 use ap_defs::lists::List;
 use ap_defs::memory::Memory;
-use ap_defs::paths::{Closed, Out, Path};
+use ap_defs::paths::{Out, Path};
+use ap_paths::Closed;
 use std::alloc::{AllocError, Global};
 
 const LEVELS: usize = 16;

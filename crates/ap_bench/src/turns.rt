@@ -5,6 +5,7 @@ ghost use Rattle.ap_lock.specs.Seats.{book_id};
 
 use ap_defs::memory::Memory;
 use ap_lock::{Seat, SharedBook};
+use ap_paths::Limit;
 use std::alloc::{AllocError, Global};
 use std::sync::Wait;
 
@@ -13,7 +14,7 @@ const TURNS: u32 = 1_000_000;
 fn made(alloc: Global) -> Result<(SharedBook, Seat), Memory>
     ensures { IfOk result (λ r. r.1.book ≡ book_id r.0) }
 {
-    let (book, mut seats) = SharedBook::make(alloc, 1)?;
+    let (book, mut seats) = SharedBook::make(alloc, 1, Limit::All)?;
     let Some(seat) = seats.pop() else {
         return Err(Memory);
     };

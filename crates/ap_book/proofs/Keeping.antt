@@ -1,12 +1,13 @@
 -- A book keeps what it keeps after each entry.
-use Rattle.std.proofs.Common.{◌≡◌, ℕ, ◌+◌, ◌<◌, ◌≤◌, Bool, true, false, not, ◌||◌, List, [], ◌∷◌, ◌++◌, length, refl, sym, ap, subst, ◌∙◌, arith}
-use Rattle.ap_defs.specs.declared.paths.Entry.{Entry}
-use Rattle.ap_defs.specs.declared.paths.Entry.TheVariants.{Split, Done, Stop}
+use Rattle.std.proofs.Common.{◌≡◌, ℕ, ◌+◌, ◌<◌, ◌≤◌, Bool, true, false, not, ◌||◌, nat_le, le-leb, List, [], ◌∷◌, ◌++◌, length, refl, sym, ap, subst, ◌∙◌, arith}
+use Rattle.ap_paths.specs.declared.entries.Entry.{Entry}
+use Rattle.ap_paths.specs.declared.entries.Entry.TheVariants.{Split, Done, Skip, Stop}
 use Rattle.ap_defs.specs.declared.paths.Out.{Out}
 use Rattle.ap_defs.specs.declared.paths.Progress.TheVariants.{Left, Finished}
 use Rattle.ap_defs.specs.Answers.{outs_of}
-use Rattle.ap_paths.specs.Entries.{TreeEntry, split, done, stop, entry_of, entries_of}
-use Rattle.ap_paths.specs.History.{is_open, without, kids_of, open_after, open_of, has_stop, is_stop, may_enter, left_of, progress_of}
+use Rattle.ap_paths.specs.Entries.{TreeEntry, split, done, skip, stop, entry_of, entries_of}
+use Rattle.ap_paths.specs.Merging.{ends_from}
+use Rattle.ap_paths.specs.History.{is_open, without, kids_of, open_after, open_of, has_stop, is_stop, may_enter, is_reached, answers_before, left_of, progress_of}
 use Rattle.ap_paths.specs.Trees.{Ascends}
 use Rattle.ap_paths.specs.Weights.{weigh, is_it, times_in, HaveSame}
 use Rattle.ap_paths.proofs.Histories.{open_of-last, has_stop-last, is_legal-last, or_false}
@@ -23,12 +24,12 @@ pub kept_same : (history : List TreeEntry) (opened later : List (List ℕ)) (sto
 kept_same history opened later stopped kept same = record { opens = λ h. same h ∙ kept.opens h; stops = kept.stops; legal = kept.legal; apart = kept.apart }
 
 -- what is kept after an entry, by the weight of the open paths after it
-kept_after : (history : List TreeEntry) (e : TreeEntry) (opened later : List (List ℕ)) (stopped now : Bool) → IsKept history opened stopped → may_enter (open_of history) (has_stop history) e ≡ true
+kept_after : (history : List TreeEntry) (e : TreeEntry) (opened later : List (List ℕ)) (stopped now : Bool) → IsKept history opened stopped → may_enter (open_of history) (has_stop history) e ≡ true → is_reached (ends_from [] history) e ≡ true
     → now ≡ stopped || is_stop e → all_part (open_after (open_of history) e) ≡ true → HaveSame later (open_after (open_of history) e) → IsKept (history ++ e ∷ []) later now
-kept_after history e opened later stopped now kept may stops apart same = record {
+kept_after history e opened later stopped now kept may reached stops apart same = record {
   opens = λ h. same h ∙ ap (weigh h) (sym (open_of-last history e));
   stops = stops ∙ ap (λ b. b || is_stop e) kept.stops ∙ sym (has_stop-last history e);
-  legal = is_legal-last history e kept.legal may;
+  legal = is_legal-last history e kept.legal may reached;
   apart = ap all_part (open_of-last history e) ∙ apart;
 }
 
@@ -37,7 +38,15 @@ pub kept_done : (history new : List Entry) (seat : ℕ) (p : List ℕ) (os : Lis
 kept_done history new seat p os opened later stopped kept is there moved =
     let o : is_open p (open_of (entries_of history)) ≡ true = sym (same_open p opened (open_of (entries_of history)) kept.opens) ∙ there in
     subst (λ (l : List TreeEntry). IsKept l later stopped) (sym (ap entries_of is ∙ entries_of-last history (Done seat p os)))
-    (kept_after (entries_of history) (done seat p (outs_of os)) opened later stopped stopped kept o (or_false stopped) (part_after_done p (open_of (entries_of history)) kept.apart)
+    (kept_after (entries_of history) (done seat p (outs_of os)) opened later stopped stopped kept o refl (or_false stopped) (part_after_done p (open_of (entries_of history)) kept.apart)
+    (λ h. let a = moved h in let b = kept.opens h in let w = weigh_without h p (open_of (entries_of history)) o in omega arith))
+
+pub kept_skip : (history new : List Entry) (seat : ℕ) (p : List ℕ) (n : ℕ) (opened later : List (List ℕ)) (stopped : Bool) → IsKept (entries_of history) opened stopped → new ≡ history ++ Skip seat p n ∷ []
+    → is_open p opened ≡ true → n ≤ answers_before p (entries_of history) → ((h : List ℕ → ℕ) → weigh h later + h p ≡ weigh h opened) → IsKept (entries_of new) later stopped
+kept_skip history new seat p n opened later stopped kept is there enough moved =
+    let o : is_open p (open_of (entries_of history)) ≡ true = sym (same_open p opened (open_of (entries_of history)) kept.opens) ∙ there in
+    subst (λ (l : List TreeEntry). IsKept l later stopped) (sym (ap entries_of is ∙ entries_of-last history (Skip seat p n)))
+    (kept_after (entries_of history) (skip seat p n) opened later stopped stopped kept o (le-leb n (answers_before p (entries_of history)) enough) (or_false stopped) (part_after_done p (open_of (entries_of history)) kept.apart)
     (λ h. let a = moved h in let b = kept.opens h in let w = weigh_without h p (open_of (entries_of history)) o in omega arith))
 
 pub kept_split : (history new : List Entry) (seat : ℕ) (p ks : List ℕ) (opened later : List (List ℕ)) (stopped : Bool) → IsKept (entries_of history) opened stopped → new ≡ history ++ Split seat p ks ∷ []
@@ -45,13 +54,13 @@ pub kept_split : (history new : List Entry) (seat : ℕ) (p ks : List ℕ) (open
 kept_split history new seat p ks opened later stopped kept is there ascending moved =
     let o : is_open p (open_of (entries_of history)) ≡ true = sym (same_open p opened (open_of (entries_of history)) kept.opens) ∙ there in
     subst (λ (l : List TreeEntry). IsKept l later stopped) (sym (ap entries_of is ∙ entries_of-last history (Split seat p ks)))
-    (kept_after (entries_of history) (split seat p ks) opened later stopped stopped kept o (or_false stopped) (part_after_split p 1 ks (open_of (entries_of history)) ascending kept.apart o)
+    (kept_after (entries_of history) (split seat p ks) opened later stopped stopped kept o refl (or_false stopped) (part_after_split p 1 ks (open_of (entries_of history)) ascending kept.apart o)
     (λ h. let a = moved h in let b = kept.opens h in let w = weigh_split p ks (open_of (entries_of history)) o h in omega arith))
 
 pub kept_stop : (history new : List Entry) (seat : ℕ) (opened : List (List ℕ)) → IsKept (entries_of history) opened false → new ≡ history ++ Stop seat ∷ [] → IsKept (entries_of new) opened true
 kept_stop history new seat opened kept is =
     subst (λ (l : List TreeEntry). IsKept l opened true) (sym (ap entries_of is ∙ entries_of-last history (Stop seat)))
-    (kept_after (entries_of history) (stop seat) opened opened false true kept (ap not (sym kept.stops)) refl kept.apart kept.opens)
+    (kept_after (entries_of history) (stop seat) opened opened false true kept (ap not (sym kept.stops)) refl refl kept.apart kept.opens)
 
 nothing_left : (ps : List (List ℕ)) → length ps ≡ 0 → left_of ps ≡ Finished
 nothing_left [] e = refl

@@ -2,3 +2,4 @@ pub mod Parting
 pub mod Opening
 pub mod Keeping
 pub mod Merges
+pub mod Additions

@@ -1,7 +1,7 @@
 -- The merged outputs as values, and as the definition has them.
 use Rattle.std.proofs.Common.{◌≡◌, ℕ, true, false, if◌then◌else◌, List, [], ◌∷◌, ◌++◌, refl, ap, ◌∙◌}
-use Rattle.ap_defs.specs.declared.paths.Entry.{Entry}
-use Rattle.ap_defs.specs.declared.paths.Entry.TheVariants.{Split, Done, Stop}
+use Rattle.ap_paths.specs.declared.entries.Entry.{Entry}
+use Rattle.ap_paths.specs.declared.entries.Entry.TheVariants.{Split, Done, Skip, Stop}
 use Rattle.ap_defs.specs.declared.paths.Out.{Out}
 use Rattle.ap_defs.specs.Answers.{NominalOut, out_of, outs_of}
 use Rattle.ap_paths.specs.Entries.{entries_of}
@@ -25,6 +25,7 @@ unfolding viewed
 viewed_ends ends [] = refl
 viewed_ends ends (Split seat p ks ∷ es) = viewed_ends ends es
 viewed_ends ends (Done seat p os ∷ es) = viewed_ends (insert p os ends) es ∙ ap (λ l. ends_from l (entries_of es)) (viewed_insert p os ends)
+viewed_ends ends (Skip seat p n ∷ es) = viewed_ends ends es
 viewed_ends ends (Stop seat ∷ es) = viewed_ends ends es
 
 outs_both : (xs ys : List Out) → outs_of (xs ++ ys) ≡ outs_of xs ++ outs_of ys
@@ -43,4 +44,5 @@ merged_view history = viewed_outs (ended_from [] history) ∙ ap all_outs (viewe
 pub ended_more : (ends : List (List ℕ × List Out)) (e : Entry) (es : List Entry) → ended_from ends (e ∷ es) ≡ ended_from (ended_from ends (e ∷ [])) es
 ended_more ends (Split seat p ks) es = refl
 ended_more ends (Done seat p os) es = refl
+ended_more ends (Skip seat p n) es = refl
 ended_more ends (Stop seat) es = refl

@@ -1,7 +1,7 @@
 -- The outputs of a history's ends in path order, as the program's own values.
 use Rattle.std.specs.Prelude.{ℕ, List, [], ◌∷◌, ◌++◌}
-use Rattle.ap_defs.specs.declared.paths.Entry.{Entry}
-use Rattle.ap_defs.specs.declared.paths.Entry.TheVariants.{Split, Done, Stop}
+use Rattle.ap_paths.specs.declared.entries.Entry.{Entry}
+use Rattle.ap_paths.specs.declared.entries.Entry.TheVariants.{Split, Done, Skip, Stop}
 use Rattle.ap_defs.specs.declared.paths.Out.{Out}
 use Rattle.ap_paths.specs.Merging.{insert}
 
@@ -10,6 +10,7 @@ abbrev pub ended_from : List (List ℕ × List Out) → List Entry → List (Lis
 ended_from ends [] = ends
 ended_from ends (Split seat p ks ∷ es) = ended_from ends es
 ended_from ends (Done seat p os ∷ es) = ended_from (insert p os ends) es
+ended_from ends (Skip seat p n ∷ es) = ended_from ends es
 ended_from ends (Stop seat ∷ es) = ended_from ends es
 
 abbrev pub all_values : List (List ℕ × List Out) → List Out

@@ -1,27 +1,29 @@
 //! The book: its history, with the open paths beside it.
 
 ghost use Rattle.std.specs.Prelude.{◌≡◌, ℕ, List as list, true, ◌∷◌, ◌++◌, [], if◌then◌else◌, IfOk, IfErr};
-ghost use Rattle.ap_defs.specs.declared.paths.Entry.TheVariants.{Split, Done, Stop};
+ghost use Rattle.ap_paths.specs.declared.entries.Entry.TheVariants.{Split, Done, Stop};
 ghost use Rattle.ap_paths.specs.Entries.{entries_of};
 ghost use Rattle.ap_paths.specs.History.{has_stop, is_legal, progress_of};
 ghost use Rattle.ap_paths.specs.Trees.{Ascends};
-ghost use Rattle.ap_book.specs.Answers.{Enters, EntersDone};
+ghost use Rattle.ap_book.specs.Answers.{Enters, EntersDone, Skips};
 ghost use Rattle.ap_book.specs.Kept.{AreKidsOf};
 
-use crate::error::{BookError, DoneError};
+use crate::counting::{answers_before, reached};
+use crate::error::{BookError, DoneError, SkipError};
 use crate::kids::Kids;
 use crate::opened::{has, make_room, only_root, replace, take_out};
 use ap_defs::lists::List;
 use ap_defs::memory::Memory;
-use ap_defs::paths::{Entry, Out, Path, Progress};
+use ap_defs::paths::{Out, Path, Progress};
+use ap_paths::{Entry, Limit};
 use std::alloc::Global;
 use std::collections::HashSet;
 use std::marker::Model;
 
-/// Which paths of a search were split, and which have ended. At first the empty path is open.
+/// Which paths of a search were split, have ended or were left out. At first the empty path is open.
 ///
-/// Contracts see a book as its history. That is always legal: each path was open at its entry, and
-/// at most one Stop stands there.
+/// Contracts see a book as its history. That is always legal: each path was open at its entry, before
+/// each that was left out so many answers had ended, and at most one Stop stands there.
 #[derive(Drop)]
 pub struct Book {
     history: Vec<Entry>,
@@ -31,11 +33,11 @@ pub struct Book {
 
 impl Model for Book {
     ghost use Rattle.std.specs.Prelude.{List as list};
-    ghost use Rattle.ap_defs.specs.declared.paths.Entry.{Entry};
+    ghost use Rattle.ap_paths.specs.declared.entries.Entry.{Entry};
 
     ghost Value = { list Entry };
 
-    ghost use Rattle.ap_defs.specs.contracts.paths.Entry as e;
+    ghost use Rattle.ap_paths.specs.contracts.entries.Entry as e;
     ghost use Rattle.std.specs.Coded.{coded_list};
 
     ghost coded = { coded_list e.the_row.coded };
@@ -134,6 +136,32 @@ impl Book {
             seat,
             path: Path::of(taken),
             outs,
+        });
+        Ok(())
+    }
+
+    /// Leaves out an open path, where so many answers have ended before it as are wanted.
+    ///
+    /// `NotOpen` comes exactly where the path is not open, and `Needed` exactly where it is and fewer
+    /// have ended before it, with their number. After an error the book is unchanged.
+    pub fn skip(&mut self, seat: u32, path: &Path, limit: Limit) -> Result<(), SkipError>
+        ensures { Skips self.old path.now limit seat result self.new }
+    {
+        if !has(&self.opened, path) {
+            return Err(SkipError::NotOpen);
+        }
+        let found = answers_before(path, self.history.as_slice());
+        let Some(wanted) = reached(limit, found) else {
+            return Err(SkipError::Needed(found));
+        };
+        if self.history.reserve(2).is_err() {
+            return Err(SkipError::Memory);
+        }
+        let taken = take_out(&mut self.opened, path);
+        self.history.push_reserved(Entry::Skip {
+            seat,
+            path: Path::of(taken),
+            found: wanted,
         });
         Ok(())
     }

@@ -10,6 +10,15 @@ pub enum BookError {
     Memory,
 }
 
+/// Why a path is not left out: it is not open, only so many answers have ended before it, or memory is
+/// wanting.
+#[derive(Clone, Copy, Debug, PartialEq, Eq)]
+pub enum SkipError {
+    NotOpen,
+    Needed(u64),
+    Memory,
+}
+
 /// Why an end is refused, with its outputs, which come back.
 #[derive(Drop)]
 pub struct DoneError {

@@ -8,8 +8,8 @@ ghost use Rattle.ap_book.specs.Values.{ended_from, all_values, merged_values};
 
 use ap_defs::lists::List;
 use ap_defs::memory::Memory;
-use ap_defs::paths::{Closed, Entry, Out, Path};
-use ap_paths::Endings;
+use ap_defs::paths::{Out, Path};
+use ap_paths::{Closed, Endings, Entry};
 use std::alloc::Global;
 
 /// The outputs of a closed book's ends, in path order. The outputs themselves are moved.
@@ -52,6 +52,11 @@ fn enter(alloc: Global, endings: &mut Endings, entry: Entry) -> Result<(), Memor
             seat: _seat,
             path: _path,
             kids: _kids,
+        } => Ok(()),
+        Entry::Skip {
+            seat: _seat,
+            path: _path,
+            found: _found,
         } => Ok(()),
         Entry::Stop { seat: _seat } => Ok(()),
     }

@@ -3,15 +3,15 @@ use Rattle.std.proofs.Common.{◌≡◌, ◌≢◌, ℕ, zero, suc, ◌+◌, ◌
 use Rattle.std.specs.Prelude.{slice_get}
 use mathlib.Core.Logic.{dite}
 use native.Mathlib.Decide.{ℕ_discrete}
-use Rattle.ap_paths.specs.Entries.{TreeEntry, split, done}
-use Rattle.ap_defs.specs.declared.paths.Event.{Event}
-use Rattle.ap_defs.specs.declared.paths.Event.TheVariants.{Push, Steal, Split, Done}
+use Rattle.ap_paths.specs.Entries.{TreeEntry, split, done, skip}
+use Rattle.ap_core.specs.declared.events.Event.{Event}
+use Rattle.ap_core.specs.declared.events.Event.TheVariants.{Push, Steal, Split, Done, Skip}
 use Rattle.ap_paths.specs.History.{kids_of}
 use Rattle.ap_paths.specs.Trees.{Choices, Outputs, AreKids}
 use Rattle.ap_paths.specs.Weights.{weigh}
-use Rattle.ap_paths.specs.Merging.{Ending, insert}
+use Rattle.ap_paths.specs.Merging.{insert, found_before}
 use Rattle.ap_paths.proofs.Frontiers.{weigh_both}
-use Rattle.ap_core.specs.States.{State, state, nones, start}
+use Rattle.ap_core.specs.States.{State, Past, over, state, nones, start}
 use Rattle.ap_core.specs.Steps.{IsStep}
 use Rattle.ap_core.specs.Traces.{Makes, Leads}
 use Rattle.ap_core.proofs.Places.{set_here, set_else, set_again, set_length, set_twice, set_swap}
@@ -54,21 +54,21 @@ hand_back : (n w : ℕ) (x : Paths) → w < n → set (set (nones n) w x) w [] �
 hand_back n w x l = set_twice (nones n) w x [] ∙ set_again (nones n) w [] (nones_at n w l)
 
 -- w steals the first path of u
-steals : (c : Choices) (at : Outputs) (n u w : ℕ) (p : List ℕ) (a b : Paths) (ends : List Ending) → u < n → w < n → u ≢ w
-    → IsStep c at (state (nones n) (pair n u w (p ∷ a) b) ends) (Steal w u) (state (set (nones n) w (p ∷ [])) (pair n u w a b) ends)
-steals c at n u w p a b ends lu lw ne =
-    (a, p, nones_at n w lw, pair_first n u w (p ∷ a) b lu ne, ne, ap (λ d. state (set (nones n) w (p ∷ [])) d ends) (sym (pair_set_first n u w (p ∷ a) b a ne)))
+steals : (c : Choices) (at : Outputs) (n u w : ℕ) (p : List ℕ) (a b : Paths) (past : Past) → u < n → w < n → u ≢ w
+    → IsStep c at (state (nones n) (pair n u w (p ∷ a) b) past) (Steal w u) (state (set (nones n) w (p ∷ [])) (pair n u w a b) past)
+steals c at n u w p a b past lu lw ne =
+    (a, p, nones_at n w lw, pair_first n u w (p ∷ a) b lu ne, ne, ap (λ d. state (set (nones n) w (p ∷ [])) d past) (sym (pair_set_first n u w (p ∷ a) b a ne)))
 
 -- w pushes the last path of its hand
-pushed : (c : Choices) (at : Outputs) (n u w : ℕ) (rest : Paths) (p : List ℕ) (a b : Paths) (ends : List Ending) → w < n
-    → IsStep c at (state (set (nones n) w (rest ++ p ∷ [])) (pair n u w a b) ends) (Push w) (state (set (nones n) w rest) (pair n u w a (b ++ p ∷ [])) ends)
-pushed c at n u w rest p a b ends lw = (
+pushed : (c : Choices) (at : Outputs) (n u w : ℕ) (rest : Paths) (p : List ℕ) (a b : Paths) (past : Past) → w < n
+    → IsStep c at (state (set (nones n) w (rest ++ p ∷ [])) (pair n u w a b) past) (Push w) (state (set (nones n) w rest) (pair n u w a (b ++ p ∷ [])) past)
+pushed c at n u w rest p a b past lw = (
   rest,
   p,
   b,
   set_here (nones n) w (rest ++ p ∷ []) (let k = nones_length n in omega arith),
   pair_second n u w a b lw,
-  λ i. state (sym (set_twice (nones n) w (rest ++ p ∷ []) rest) i) (sym (pair_set_second n u w a b (b ++ p ∷ [])) i) ends,
+  λ i. state (sym (set_twice (nones n) w (rest ++ p ∷ []) rest) i) (sym (pair_set_second n u w a b (b ++ p ∷ [])) i) past,
 )
 
 abbrev pub Reaches : Choices → Outputs → State → State → List TreeEntry → Type 0
@@ -84,19 +84,19 @@ pub stays : (c : Choices) (at : Outputs) (s t : State) → t ≡ s → Reaches c
 stays c at s t e = ([], (e, refl))
 
 -- all of xs go from the deque of u to that of w
-moves : (c : Choices) (at : Outputs) (n u w : ℕ) (xs ys b : Paths) (ends : List Ending) → u < n → w < n → u ≢ w
-    → Reaches c at (state (nones n) (pair n u w (xs ++ ys) b) ends) (state (nones n) (pair n u w ys (b ++ xs)) ends) []
-moves c at n u w [] ys b ends lu lw ne = stays c at _ _ (ap (λ x. state (nones n) (pair n u w ys x) ends) (append-nil b))
-moves c at n u w (x ∷ xs) ys b ends lu lw ne =
-    let s = state (nones n) (pair n u w (x ∷ (xs ++ ys)) b) ends in
-    let m = state (set (nones n) w (x ∷ [])) (pair n u w (xs ++ ys) b) ends in
-    let t = state (set (nones n) w []) (pair n u w (xs ++ ys) (b ++ x ∷ [])) ends in
-    let t' = state (nones n) (pair n u w (xs ++ ys) (b ++ x ∷ [])) ends in
-    let z = state (nones n) (pair n u w ys (b ++ x ∷ xs)) ends in
-    let back : t ≡ t' = ap (λ hs. state hs (pair n u w (xs ++ ys) (b ++ x ∷ [])) ends) (set_again (nones n) w [] (nones_at n w lw)) in
-    let first = one_step c at s m (Steal w u) [] (steals c at n u w x (xs ++ ys) b ends lu lw ne) refl in
-    let second = subst (λ (k : State). Reaches c at m k []) back (one_step c at m t (Push w) [] (pushed c at n u w [] x (xs ++ ys) b ends lw) refl) in
-    let rest = subst (λ (l : Paths). Reaches c at t' (state (nones n) (pair n u w ys l) ends) []) (append_assoc b (x ∷ []) xs) (moves c at n u w xs ys (b ++ x ∷ []) ends lu lw ne) in
+moves : (c : Choices) (at : Outputs) (n u w : ℕ) (xs ys b : Paths) (past : Past) → u < n → w < n → u ≢ w
+    → Reaches c at (state (nones n) (pair n u w (xs ++ ys) b) past) (state (nones n) (pair n u w ys (b ++ xs)) past) []
+moves c at n u w [] ys b past lu lw ne = stays c at _ _ (ap (λ x. state (nones n) (pair n u w ys x) past) (append-nil b))
+moves c at n u w (x ∷ xs) ys b past lu lw ne =
+    let s = state (nones n) (pair n u w (x ∷ (xs ++ ys)) b) past in
+    let m = state (set (nones n) w (x ∷ [])) (pair n u w (xs ++ ys) b) past in
+    let t = state (set (nones n) w []) (pair n u w (xs ++ ys) (b ++ x ∷ [])) past in
+    let t' = state (nones n) (pair n u w (xs ++ ys) (b ++ x ∷ [])) past in
+    let z = state (nones n) (pair n u w ys (b ++ x ∷ xs)) past in
+    let back : t ≡ t' = ap (λ hs. state hs (pair n u w (xs ++ ys) (b ++ x ∷ [])) past) (set_again (nones n) w [] (nones_at n w lw)) in
+    let first = one_step c at s m (Steal w u) [] (steals c at n u w x (xs ++ ys) b past lu lw ne) refl in
+    let second = subst (λ (k : State). Reaches c at m k []) back (one_step c at m t (Push w) [] (pushed c at n u w [] x (xs ++ ys) b past lw) refl) in
+    let rest = subst (λ (l : Paths). Reaches c at t' (state (nones n) (pair n u w ys l) past) []) (append_assoc b (x ∷ []) xs) (moves c at n u w xs ys (b ++ x ∷ []) past lu lw ne) in
     then_reaches c at s m z [] [] first (then_reaches c at m t' z [] [] second rest)
 
 unsnoc : (x : List ℕ) (xs : Paths) → (front : Paths) × (k : List ℕ) × (x ∷ xs ≡ front ++ k ∷ []) × (length front ≡ length xs)
@@ -104,20 +104,20 @@ unsnoc x [] = ([], x, refl, refl)
 unsnoc x (y ∷ ys) = let r = unsnoc y ys in (x ∷ r.0, r.1, ap (λ l. x ∷ l) r.2, ap suc r.3)
 
 -- w pushes all that it has in its hand
-pushes_all : (c : Choices) (at : Outputs) (n u w m : ℕ) (ks a b : Paths) (ends : List Ending) → w < n → length ks ≡ m
-    → (d : Paths) × ((h : List ℕ → ℕ) → weigh h d ≡ weigh h b + weigh h ks) × Reaches c at (state (set (nones n) w ks) (pair n u w a b) ends) (state (nones n) (pair n u w a d) ends) []
-pushes_all c at n u w m [] a b ends lw e = (b, (λ h. omega arith), stays c at _ _ (ap (λ hs. state hs (pair n u w a b) ends) (sym (set_again (nones n) w [] (nones_at n w lw)))))
-pushes_all c at n u w zero (k ∷ ks) a b ends lw e = absurd (omega arith)
-pushes_all c at n u w (suc m) (k ∷ ks) a b ends lw e =
+pushes_all : (c : Choices) (at : Outputs) (n u w m : ℕ) (ks a b : Paths) (past : Past) → w < n → length ks ≡ m
+    → (d : Paths) × ((h : List ℕ → ℕ) → weigh h d ≡ weigh h b + weigh h ks) × Reaches c at (state (set (nones n) w ks) (pair n u w a b) past) (state (nones n) (pair n u w a d) past) []
+pushes_all c at n u w m [] a b past lw e = (b, (λ h. omega arith), stays c at _ _ (ap (λ hs. state hs (pair n u w a b) past) (sym (set_again (nones n) w [] (nones_at n w lw)))))
+pushes_all c at n u w zero (k ∷ ks) a b past lw e = absurd (omega arith)
+pushes_all c at n u w (suc m) (k ∷ ks) a b past lw e =
     let r = unsnoc k ks in
-    let s = state (set (nones n) w (r.0 ++ r.1 ∷ [])) (pair n u w a b) ends in
-    let t = state (set (nones n) w r.0) (pair n u w a (b ++ r.1 ∷ [])) ends in
-    let later = pushes_all c at n u w m r.0 a (b ++ r.1 ∷ []) ends lw (let z = r.3 in omega arith) in
-    let z = state (nones n) (pair n u w a later.0) ends in
-    let first = one_step c at s t (Push w) [] (pushed c at n u w r.0 r.1 a b ends lw) refl in (
+    let s = state (set (nones n) w (r.0 ++ r.1 ∷ [])) (pair n u w a b) past in
+    let t = state (set (nones n) w r.0) (pair n u w a (b ++ r.1 ∷ [])) past in
+    let later = pushes_all c at n u w m r.0 a (b ++ r.1 ∷ []) past lw (let z = r.3 in omega arith) in
+    let z = state (nones n) (pair n u w a later.0) past in
+    let first = one_step c at s t (Push w) [] (pushed c at n u w r.0 r.1 a b past lw) refl in (
       later.0,
       (λ h. let x = later.1 h in let y = ap (weigh h) r.2 in omega (arith, weigh_both h b (r.1 ∷ []), weigh_both h r.0 (r.1 ∷ []))),
-      subst (λ (l : Paths). Reaches c at (state (set (nones n) w l) (pair n u w a b) ends) z []) (sym r.2) (then_reaches c at s t z [] [] first later.2),
+      subst (λ (l : Paths). Reaches c at (state (set (nones n) w l) (pair n u w a b) past) z []) (sym r.2) (then_reaches c at s t z [] [] first later.2),
     )
 
 abbrev pub single : ℕ → ℕ → Paths → List Paths
@@ -130,50 +130,50 @@ pair_single : (n u w : ℕ) (b : Paths) → u < n → pair n u w [] b ≡ single
 pair_single n u w b lu = ap (λ l. set l w b) (set_again (nones n) u [] (nones_at n u lu))
 
 -- all goes from the deque of u to that of w
-all_over : (c : Choices) (at : Outputs) (n u w : ℕ) (a b : Paths) (ends : List Ending) → u < n → w < n → u ≢ w → Reaches c at (state (nones n) (pair n u w a b) ends) (state (nones n) (single n w (b ++ a)) ends) []
-all_over c at n u w a b ends lu lw ne =
-    let r = moves c at n u w a [] b ends lu lw ne in
-    let r' = subst (λ (l : Paths). Reaches c at (state (nones n) (pair n u w l b) ends) (state (nones n) (pair n u w [] (b ++ a)) ends) []) (append-nil a) r in
-    subst (λ (ds : List Paths). Reaches c at (state (nones n) (pair n u w a b) ends) (state (nones n) ds ends) []) (pair_single n u w (b ++ a) lu) r'
+all_over : (c : Choices) (at : Outputs) (n u w : ℕ) (a b : Paths) (past : Past) → u < n → w < n → u ≢ w → Reaches c at (state (nones n) (pair n u w a b) past) (state (nones n) (single n w (b ++ a)) past) []
+all_over c at n u w a b past lu lw ne =
+    let r = moves c at n u w a [] b past lu lw ne in
+    let r' = subst (λ (l : Paths). Reaches c at (state (nones n) (pair n u w l b) past) (state (nones n) (pair n u w [] (b ++ a)) past) []) (append-nil a) r in
+    subst (λ (ds : List Paths). Reaches c at (state (nones n) (pair n u w a b) past) (state (nones n) ds past) []) (pair_single n u w (b ++ a) lu) r'
 
 -- the path p comes into the hand of w
-comes : (c : Choices) (at : Outputs) (n u w : ℕ) (xs ys : Paths) (p : List ℕ) (ends : List Ending) → u < n → w < n → u ≢ w
-    → Reaches c at (state (nones n) (single n u (xs ++ p ∷ ys)) ends) (state (set (nones n) w (p ∷ [])) (pair n u w ys xs) ends) []
-comes c at n u w xs ys p ends lu lw ne =
-    let s = state (nones n) (pair n u w (xs ++ p ∷ ys) []) ends in
-    let m = state (nones n) (pair n u w (p ∷ ys) xs) ends in
-    let t = state (set (nones n) w (p ∷ [])) (pair n u w ys xs) ends in
-    let r = then_reaches c at s m t [] [] (moves c at n u w xs (p ∷ ys) [] ends lu lw ne) (one_step c at m t (Steal w u) [] (steals c at n u w p ys xs ends lu lw ne) refl) in
-    subst (λ (ds : List Paths). Reaches c at (state (nones n) ds ends) t []) (sym (single_pair n u w (xs ++ p ∷ ys) lw ne)) r
+comes : (c : Choices) (at : Outputs) (n u w : ℕ) (xs ys : Paths) (p : List ℕ) (past : Past) → u < n → w < n → u ≢ w
+    → Reaches c at (state (nones n) (single n u (xs ++ p ∷ ys)) past) (state (set (nones n) w (p ∷ [])) (pair n u w ys xs) past) []
+comes c at n u w xs ys p past lu lw ne =
+    let s = state (nones n) (pair n u w (xs ++ p ∷ ys) []) past in
+    let m = state (nones n) (pair n u w (p ∷ ys) xs) past in
+    let t = state (set (nones n) w (p ∷ [])) (pair n u w ys xs) past in
+    let r = then_reaches c at s m t [] [] (moves c at n u w xs (p ∷ ys) [] past lu lw ne) (one_step c at m t (Steal w u) [] (steals c at n u w p ys xs past lu lw ne) refl) in
+    subst (λ (ds : List Paths). Reaches c at (state (nones n) ds past) t []) (sym (single_pair n u w (xs ++ p ∷ ys) lw ne)) r
 
 -- an entry of w at p, from a deque of another worker: afterwards all lies in the deque of w
-pub splits_there : (c : Choices) (at : Outputs) (n u w : ℕ) (xs ys : Paths) (p ks : List ℕ) (ends : List Ending) → u < n → w < n → u ≢ w → AreKids c at p ks
-    → (d : Paths) × ((h : List ℕ → ℕ) → weigh h d + h p ≡ weigh h (xs ++ p ∷ ys) + weigh h (kids_of p ks)) × Reaches c at (state (nones n) (single n u (xs ++ p ∷ ys)) ends) (state (nones n) (single n w d) ends) (split w p ks ∷ [])
-splits_there c at n u w xs ys p ks ends lu lw ne kids =
-    let s = state (nones n) (single n u (xs ++ p ∷ ys)) ends in
+pub splits_there : (c : Choices) (at : Outputs) (n u w : ℕ) (xs ys : Paths) (p ks : List ℕ) (past : Past) → u < n → w < n → u ≢ w → AreKids c at p ks
+    → (d : Paths) × ((h : List ℕ → ℕ) → weigh h d + h p ≡ weigh h (xs ++ p ∷ ys) + weigh h (kids_of p ks)) × Reaches c at (state (nones n) (single n u (xs ++ p ∷ ys)) past) (state (nones n) (single n w d) past) (split w p ks ∷ [])
+splits_there c at n u w xs ys p ks past lu lw ne kids =
+    let s = state (nones n) (single n u (xs ++ p ∷ ys)) past in
     let hands = set (nones n) w (p ∷ []) in
-    let m = state hands (pair n u w ys xs) ends in
-    let t = state (set hands w (kids_of p ks ++ [])) (pair n u w ys xs) ends in
-    let t' = state (set (nones n) w (kids_of p ks)) (pair n u w ys xs) ends in
+    let m = state hands (pair n u w ys xs) past in
+    let t = state (set hands w (kids_of p ks ++ [])) (pair n u w ys xs) past in
+    let t' = state (set (nones n) w (kids_of p ks)) (pair n u w ys xs) past in
     let here : slice_get hands w ≡ Some (p ∷ []) = set_here (nones n) w (p ∷ []) (let k = nones_length n in omega arith) in
-    let same : t ≡ t' = λ i. state ((set_twice (nones n) w (p ∷ []) (kids_of p ks ++ []) ∙ ap (λ l. set (nones n) w l) (append-nil (kids_of p ks))) i) (pair n u w ys xs) ends in
+    let same : t ≡ t' = λ i. state ((set_twice (nones n) w (p ∷ []) (kids_of p ks ++ []) ∙ ap (λ l. set (nones n) w l) (append-nil (kids_of p ks))) i) (pair n u w ys xs) past in
     let made = subst (λ (k : State). Reaches c at m k (split w p ks ∷ [])) same (one_step c at m t (Split w ks) (split w p ks ∷ []) ([], p, here, kids, refl) (p, [], here, refl)) in
-    let all = pushes_all c at n u w (length (kids_of p ks)) (kids_of p ks) ys xs ends lw refl in
-    let q = state (nones n) (pair n u w ys all.0) ends in
-    let z = state (nones n) (single n w (all.0 ++ ys)) ends in (
+    let all = pushes_all c at n u w (length (kids_of p ks)) (kids_of p ks) ys xs past lw refl in
+    let q = state (nones n) (pair n u w ys all.0) past in
+    let z = state (nones n) (single n w (all.0 ++ ys)) past in (
       all.0 ++ ys,
       (λ h. let a = all.1 h in omega (arith, weigh_both h all.0 ys, weigh_both h xs (p ∷ ys))),
-      then_reaches c at s m z [] (split w p ks ∷ []) (comes c at n u w xs ys p ends lu lw ne)
-          (then_reaches c at m t' z (split w p ks ∷ []) [] made (then_reaches c at t' q z [] [] all.2 (all_over c at n u w ys all.0 ends lu lw ne))),
+      then_reaches c at s m z [] (split w p ks ∷ []) (comes c at n u w xs ys p past lu lw ne)
+          (then_reaches c at m t' z (split w p ks ∷ []) [] made (then_reaches c at t' q z [] [] all.2 (all_over c at n u w ys all.0 past lu lw ne))),
     )
 
-pub ends_there : (c : Choices) (at : Outputs) (n u w : ℕ) (xs ys : Paths) (p : List ℕ) (ends : List Ending) → u < n → w < n → u ≢ w
-    → (d : Paths) × ((h : List ℕ → ℕ) → weigh h d + h p ≡ weigh h (xs ++ p ∷ ys)) × Reaches c at (state (nones n) (single n u (xs ++ p ∷ ys)) ends) (state (nones n) (single n w d) (insert p (at p) ends)) (done w p (at p) ∷ [])
-ends_there c at n u w xs ys p ends lu lw ne =
-    let s = state (nones n) (single n u (xs ++ p ∷ ys)) ends in
+pub ends_there : (c : Choices) (at : Outputs) (n u w : ℕ) (xs ys : Paths) (p : List ℕ) (past : Past) → u < n → w < n → u ≢ w
+    → (d : Paths) × ((h : List ℕ → ℕ) → weigh h d + h p ≡ weigh h (xs ++ p ∷ ys)) × Reaches c at (state (nones n) (single n u (xs ++ p ∷ ys)) past) (state (nones n) (single n w d) (over (insert p (at p) past.ends) past.skipped)) (done w p (at p) ∷ [])
+ends_there c at n u w xs ys p past lu lw ne =
+    let s = state (nones n) (single n u (xs ++ p ∷ ys)) past in
     let hands = set (nones n) w (p ∷ []) in
-    let later = insert p (at p) ends in
-    let m = state hands (pair n u w ys xs) ends in
+    let later = over (insert p (at p) past.ends) past.skipped in
+    let m = state hands (pair n u w ys xs) past in
     let t = state (set hands w []) (pair n u w ys xs) later in
     let t' = state (nones n) (pair n u w ys xs) later in
     let here : slice_get hands w ≡ Some (p ∷ []) = set_here (nones n) w (p ∷ []) (let k = nones_length n in omega arith) in
@@ -182,8 +182,27 @@ ends_there c at n u w xs ys p ends lu lw ne =
     let z = state (nones n) (single n w (xs ++ ys)) later in (
       xs ++ ys,
       (λ h. omega (arith, weigh_both h xs ys, weigh_both h xs (p ∷ ys))),
-      then_reaches c at s m z [] (done w p (at p) ∷ []) (comes c at n u w xs ys p ends lu lw ne)
+      then_reaches c at s m z [] (done w p (at p) ∷ []) (comes c at n u w xs ys p past lu lw ne)
           (then_reaches c at m t' z (done w p (at p) ∷ []) [] end (all_over c at n u w ys xs later lu lw ne)),
+    )
+
+pub skips_there : (c : Choices) (at : Outputs) (n u w : ℕ) (xs ys : Paths) (p : List ℕ) (k : ℕ) (past : Past) → u < n → w < n → u ≢ w → k ≤ found_before p past.ends
+    → (d : Paths) × ((h : List ℕ → ℕ) → weigh h d + h p ≡ weigh h (xs ++ p ∷ ys)) × Reaches c at (state (nones n) (single n u (xs ++ p ∷ ys)) past) (state (nones n) (single n w d) (over past.ends (past.skipped ++ p ∷ []))) (skip w p k ∷ [])
+skips_there c at n u w xs ys p k past lu lw ne enough =
+    let s = state (nones n) (single n u (xs ++ p ∷ ys)) past in
+    let hands = set (nones n) w (p ∷ []) in
+    let later = over past.ends (past.skipped ++ p ∷ []) in
+    let m = state hands (pair n u w ys xs) past in
+    let t = state (set hands w []) (pair n u w ys xs) later in
+    let t' = state (nones n) (pair n u w ys xs) later in
+    let here : slice_get hands w ≡ Some (p ∷ []) = set_here (nones n) w (p ∷ []) (let k = nones_length n in omega arith) in
+    let same : t ≡ t' = ap (λ hs. state hs (pair n u w ys xs) later) (hand_back n w (p ∷ []) lw) in
+    let end = subst (λ (q : State). Reaches c at m q (skip w p k ∷ [])) same (one_step c at m t (Skip w k) (skip w p k ∷ []) ([], p, here, enough, refl) (p, [], here, refl)) in
+    let z = state (nones n) (single n w (xs ++ ys)) later in (
+      xs ++ ys,
+      (λ h. omega (arith, weigh_both h xs ys, weigh_both h xs (p ∷ ys))),
+      then_reaches c at s m z [] (skip w p k ∷ []) (comes c at n u w xs ys p past lu lw ne)
+          (then_reaches c at m t' z (skip w p k ∷ []) [] end (all_over c at n u w ys xs later lu lw ne)),
     )
 
 another : (w : ℕ) → (z : ℕ) × (z ≢ w) × (z ≤ 1)
@@ -191,20 +210,20 @@ another zero = (1, (λ e. omega arith), omega arith)
 another (suc w) = (0, (λ e. omega arith), omega arith)
 
 -- all lies, or is brought, into the deque of another worker
-pub elsewhere : (c : Choices) (at : Outputs) (n v w : ℕ) (ds : List (List ℕ)) (ends : List Ending) → 1 < n → v < n → w < n
-    → (u : ℕ) × (u < n) × (u ≢ w) × Reaches c at (state (nones n) (single n v ds) ends) (state (nones n) (single n u ds) ends) []
-elsewhere c at n v w ds ends two lv lw =
+pub elsewhere : (c : Choices) (at : Outputs) (n v w : ℕ) (ds : List (List ℕ)) (past : Past) → 1 < n → v < n → w < n
+    → (u : ℕ) × (u < n) × (u ≢ w) × Reaches c at (state (nones n) (single n v ds) past) (state (nones n) (single n u ds) past) []
+elsewhere c at n v w ds past two lv lw =
     dite (ℕ_discrete v w)
     (λ same.
     let z = another w in
-    let s = state (nones n) (pair n v z.0 ds []) ends in
+    let s = state (nones n) (pair n v z.0 ds []) past in
     let ne : v ≢ z.0 = λ e. z.1 (sym e ∙ same) in
     let lz : z.0 < n = (let y = z.2 in omega arith) in
-    (z.0, lz, z.1, subst (λ (d : List Paths). Reaches c at (state (nones n) d ends) (state (nones n) (single n z.0 ds) ends) []) (sym (single_pair n v z.0 ds lz ne)) (all_over c at n v z.0 ds [] ends lv lz ne)))
+    (z.0, lz, z.1, subst (λ (d : List Paths). Reaches c at (state (nones n) d past) (state (nones n) (single n z.0 ds) past) []) (sym (single_pair n v z.0 ds lz ne)) (all_over c at n v z.0 ds [] past lv lz ne)))
     (λ ne. (v, lv, ne, stays c at _ _ refl))
 
-pub starts : (c : Choices) (at : Outputs) (n : ℕ) → 0 < n → Reaches c at (start n) (state (nones n) (single n 0 ([] ∷ [])) []) []
+pub starts : (c : Choices) (at : Outputs) (n : ℕ) → 0 < n → Reaches c at (start n) (state (nones n) (single n 0 ([] ∷ [])) (over [] [])) []
 starts c at n l =
-    one_step c at (start n) (state (nones n) (single n 0 ([] ∷ [])) []) (Push 0) []
-    ([], [], [], set_here (nones n) 0 ([] ∷ []) (let k = nones_length n in omega arith), nones_at n 0 l, ap (λ hs. state hs (single n 0 ([] ∷ [])) []) (sym (hand_back n 0 ([] ∷ []) l)))
+    one_step c at (start n) (state (nones n) (single n 0 ([] ∷ [])) (over [] [])) (Push 0) []
+    ([], [], [], set_here (nones n) 0 ([] ∷ []) (let k = nones_length n in omega arith), nones_at n 0 l, ap (λ hs. state hs (single n 0 ([] ∷ [])) (over [] [])) (sym (hand_back n 0 ([] ∷ []) l)))
     refl

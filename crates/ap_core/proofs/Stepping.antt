@@ -5,12 +5,13 @@ use Rattle.ap_defs.specs.declared.paths.Out.{Out}
 use Rattle.ap_defs.specs.Answers.{outs_of}
 use Rattle.ap_paths.specs.History.{kids_of}
 use Rattle.ap_paths.specs.Trees.{Choices, Outputs, AreKids}
-use Rattle.ap_paths.specs.Merging.{Ending, is_before, insert}
+use Rattle.ap_paths.specs.Ends.{ends_of}
+use Rattle.ap_paths.specs.Merging.{is_before, insert, found_before}
 use Rattle.ap_core.specs.declared.workers.Worker.{Worker}
-use Rattle.ap_defs.specs.declared.paths.Event.{Event}
-use Rattle.ap_core.specs.States.{State, state, joined_all, nones, start}
-use Rattle.ap_core.specs.Steps.{Pushes, Pops, Steals, Splits, Ends, IsStep, AreSteps}
-use Rattle.ap_core.specs.Stages.{hands_of, deques_of, ends_of, state_of, Answered}
+use Rattle.ap_core.specs.declared.events.Event.{Event}
+use Rattle.ap_core.specs.States.{State, Past, over, state, joined_all, nones, start}
+use Rattle.ap_core.specs.Steps.{Pushes, Pops, Steals, Splits, Ends, Skips, IsStep, AreSteps}
+use Rattle.ap_core.specs.Stages.{hands_of, deques_of, state_of, past_of, Answered}
 use Rattle.ap_core.specs.Single.{Pushed, Popped, Gave, Began}
 use Rattle.ap_core.proofs.Places.{same_some, some_there, set_else, set_again}
 
@@ -74,35 +75,35 @@ hands_same ws i v w at e = hands_now ws i w v.hand.items e ∙ set_again (hands_
 deques_same : (ws : List Worker) (i : ℕ) (v w : Worker) → slice_get ws i ≡ Some v → w.deque.items ≡ v.deque.items → deques_of (set ws i w) ≡ deques_of ws
 deques_same ws i v w at e = deques_now ws i w v.deque.items e ∙ set_again (deques_of ws) i v.deque.items (deques_get ws i v at)
 
-pub pushed : {E : Type 0} (r : Result Bool E) (ws : List Worker) (i : ℕ) (v w : Worker) (ends : List Ending) → slice_get ws i ≡ Some v → IfOk r (λ b. Pushed v b w)
-    → IfOk r (λ b. Answered (Pushes (state_of ws ends) i) b (state_of (set ws i w) ends))
-pushed (Ok true) ws i v w ends at h = (
+pub pushed : {E : Type 0} (r : Result Bool E) (ws : List Worker) (i : ℕ) (v w : Worker) (past : Past) → slice_get ws i ≡ Some v → IfOk r (λ b. Pushed v b w)
+    → IfOk r (λ b. Answered (Pushes (state_of ws past) i) b (state_of (set ws i w) past))
+pushed (Ok true) ws i v w past at h = (
   h.0,
   h.1,
   v.deque.items,
   hands_get ws i v at ∙ ap Some h.2,
   deques_get ws i v at,
-  λ k. state (hands_now ws i w h.0 h.3 k) (deques_now ws i w (v.deque.items ++ h.1 ∷ []) h.4 k) ends,
+  λ k. state (hands_now ws i w h.0 h.3 k) (deques_now ws i w (v.deque.items ++ h.1 ∷ []) h.4 k) past,
 )
-pushed (Ok false) ws i v w ends at h = λ u s. no_last s.0 s.1 (sym h ∙ hand_is ws i v (s.0 ++ s.1 ∷ []) at s.3)
-pushed (Err e) ws i v w ends at h = h
+pushed (Ok false) ws i v w past at h = λ u s. no_last s.0 s.1 (sym h ∙ hand_is ws i v (s.0 ++ s.1 ∷ []) at s.3)
+pushed (Err e) ws i v w past at h = h
 
-pub popped : {E : Type 0} (r : Result Bool E) (ws : List Worker) (i : ℕ) (v w : Worker) (ends : List Ending) → slice_get ws i ≡ Some v → IfOk r (λ b. Popped v b w)
-    → IfOk r (λ b. Answered (Pops (state_of ws ends) i) b (state_of (set ws i w) ends))
-popped (Ok true) ws i v w ends at h = (
+pub popped : {E : Type 0} (r : Result Bool E) (ws : List Worker) (i : ℕ) (v w : Worker) (past : Past) → slice_get ws i ≡ Some v → IfOk r (λ b. Popped v b w)
+    → IfOk r (λ b. Answered (Pops (state_of ws past) i) b (state_of (set ws i w) past))
+popped (Ok true) ws i v w past at h = (
   h.0,
   h.1,
   hands_get ws i v at ∙ ap Some h.2,
   deques_get ws i v at ∙ ap Some h.3,
-  λ k. state (hands_now ws i w (h.1 ∷ []) h.4 k) (deques_now ws i w h.0 h.5 k) ends,
+  λ k. state (hands_now ws i w (h.1 ∷ []) h.4 k) (deques_now ws i w h.0 h.5 k) past,
 )
-popped (Ok false) ws i v w ends at h = λ u s. h s.0 s.1 (hand_is ws i v [] at s.2) (deque_is ws i v (s.0 ++ s.1 ∷ []) at s.3)
-popped (Err e) ws i v w ends at h = h
+popped (Ok false) ws i v w past at h = λ u s. h s.0 s.1 (hand_is ws i v [] at s.2) (deque_is ws i v (s.0 ++ s.1 ∷ []) at s.3)
+popped (Err e) ws i v w past at h = h
 
 -- worker w takes p, which worker j gave
-pub stolen : (ws : List Worker) (i j : ℕ) (v o o' x v' : Worker) (p : List ℕ) (ends : List Ending) → j ≢ i → slice_get ws i ≡ Some v → v.hand.items ≡ [] → slice_get ws j ≡ Some o → Gave o (Some p) o'
-    → slice_get (set ws j o') i ≡ Some x → v'.hand.items ≡ x.hand.items ++ p ∷ [] → v'.deque.items ≡ x.deque.items → Steals (state_of ws ends) i j (state_of (set (set ws j o') i v') ends)
-stolen ws i j v o o' x v' p ends ne mine idle other gave there hand deque =
+pub stolen : (ws : List Worker) (i j : ℕ) (v o o' x v' : Worker) (p : List ℕ) (past : Past) → j ≢ i → slice_get ws i ≡ Some v → v.hand.items ≡ [] → slice_get ws j ≡ Some o → Gave o (Some p) o'
+    → slice_get (set ws j o') i ≡ Some x → v'.hand.items ≡ x.hand.items ++ p ∷ [] → v'.deque.items ≡ x.deque.items → Steals (state_of ws past) i j (state_of (set (set ws j o') i v') past)
+stolen ws i j v o o' x v' p past ne mine idle other gave there hand deque =
     let same : v ≡ x = same_some v x (sym mine ∙ sym (set_else ws j i o' (λ e. ne (sym e))) ∙ there) in
     let hand' : v'.hand.items ≡ p ∷ [] = hand ∙ ap (λ l. l ++ p ∷ []) (ap (λ y. y.hand.items) (sym same) ∙ idle) in (
       o'.deque.items,
@@ -111,31 +112,31 @@ stolen ws i j v o o' x v' p ends ne mine idle other gave there hand deque =
       deques_get ws j o other ∙ ap Some gave.0,
       ne,
       λ k. state ((hands_now (set ws j o') i v' (p ∷ []) hand' ∙ ap (λ l. set l i (p ∷ [])) (hands_same ws j o o' other gave.1)) k)
-          ((deques_same (set ws j o') i x v' there deque ∙ deques_set ws j o') k) ends,
+          ((deques_same (set ws j o') i x v' there deque ∙ deques_set ws j o') k) past,
     )
 
-pub not_stolen : (ws : List Worker) (i j : ℕ) (o o' : Worker) (ends : List Ending) → slice_get ws j ≡ Some o → Gave o None o' → (u : State) → Steals (state_of ws ends) i j u → ⊥
-not_stolen ws i j o o' ends other none u s = let e : [] ≡ s.1 ∷ s.0 = sym none ∙ deque_is ws j o (s.1 ∷ s.0) other s.3 in cc
+pub not_stolen : (ws : List Worker) (i j : ℕ) (o o' : Worker) (past : Past) → slice_get ws j ≡ Some o → Gave o None o' → (u : State) → Steals (state_of ws past) i j u → ⊥
+not_stolen ws i j o o' past other none u s = let e : [] ≡ s.1 ∷ s.0 = sym none ∙ deque_is ws j o (s.1 ∷ s.0) other s.3 in cc
 
-pub busy : (ws : List Worker) (i j : ℕ) (v : Worker) (ends : List Ending) → slice_get ws i ≡ Some v → (v.hand.items ≡ [] → ⊥) → (u : State) → Steals (state_of ws ends) i j u → ⊥
-busy ws i j v ends mine some u s = some (hand_is ws i v [] mine s.2)
+pub busy : (ws : List Worker) (i j : ℕ) (v : Worker) (past : Past) → slice_get ws i ≡ Some v → (v.hand.items ≡ [] → ⊥) → (u : State) → Steals (state_of ws past) i j u → ⊥
+busy ws i j v past mine some u s = some (hand_is ws i v [] mine s.2)
 
-pub split_made : (c : Choices) (at : Outputs) (ws : List Worker) (i : ℕ) (v v1 v2 : Worker) (p ks : List ℕ) (ends : List Ending) → slice_get ws i ≡ Some v → Began v (Some p) v1 → AreKids c at p ks
-    → v2.hand.items ≡ kids_of p ks ++ v1.hand.items → v2.deque.items ≡ v1.deque.items → Splits c at (state_of ws ends) i ks (state_of (set ws i v2) ends)
-split_made c at ws i v v1 v2 p ks ends mine began kids hand deque = (
+pub split_made : (c : Choices) (at : Outputs) (ws : List Worker) (i : ℕ) (v v1 v2 : Worker) (p ks : List ℕ) (past : Past) → slice_get ws i ≡ Some v → Began v (Some p) v1 → AreKids c at p ks
+    → v2.hand.items ≡ kids_of p ks ++ v1.hand.items → v2.deque.items ≡ v1.deque.items → Splits c at (state_of ws past) i ks (state_of (set ws i v2) past)
+split_made c at ws i v v1 v2 p ks past mine began kids hand deque = (
   v1.hand.items,
   p,
   hands_get ws i v mine ∙ ap Some began.0,
   kids,
-  λ k. state (hands_now ws i v2 (kids_of p ks ++ v1.hand.items) hand k) (deques_same ws i v v2 mine (deque ∙ began.1) k) ends,
+  λ k. state (hands_now ws i v2 (kids_of p ks ++ v1.hand.items) hand k) (deques_same ws i v v2 mine (deque ∙ began.1) k) past,
 )
 
 first_of : (ws : List Worker) (i : ℕ) (v v1 : Worker) (p q : List ℕ) (rest : Paths) → slice_get ws i ≡ Some v → Began v (Some p) v1 → slice_get (hands_of ws) i ≡ Some (q ∷ rest) → q ≡ p
 first_of ws i v v1 p q rest mine began there = let e : p ∷ v1.hand.items ≡ q ∷ rest = sym began.0 ∙ hand_is ws i v (q ∷ rest) mine there in cc
 
-pub not_split : (c : Choices) (at : Outputs) (ws : List Worker) (i : ℕ) (v v1 : Worker) (p ks : List ℕ) (ends : List Ending) → slice_get ws i ≡ Some v → Began v (Some p) v1 → (AreKids c at p ks → ⊥)
-    → (u : State) → Splits c at (state_of ws ends) i ks u → ⊥
-not_split c at ws i v v1 p ks ends mine began none u s = none (subst (λ (q : List ℕ). AreKids c at q ks) (first_of ws i v v1 p s.1 s.0 mine began s.2) s.3)
+pub not_split : (c : Choices) (at : Outputs) (ws : List Worker) (i : ℕ) (v v1 : Worker) (p ks : List ℕ) (past : Past) → slice_get ws i ≡ Some v → Began v (Some p) v1 → (AreKids c at p ks → ⊥)
+    → (u : State) → Splits c at (state_of ws past) i ks u → ⊥
+not_split c at ws i v v1 p ks past mine began none u s = none (subst (λ (q : List ℕ). AreKids c at q ks) (first_of ws i v v1 p s.1 s.0 mine began s.2) s.3)
 
 pub nothing_begun : (ws : List Worker) (i : ℕ) (v v1 : Worker) (p : List ℕ) (rest : Paths) → slice_get ws i ≡ Some v → Began v None v1 → slice_get (hands_of ws) i ≡ Some (p ∷ rest) → ⊥
 nothing_begun ws i v v1 p rest mine none there = let e : [] ≡ p ∷ rest = sym none ∙ hand_is ws i v (p ∷ rest) mine there in cc
@@ -149,14 +150,32 @@ ends_insert p os (e ∷ es) =
     elim (is_before p e.0) as (λ b. ends_of (if b then (p, os) ∷ e ∷ es else e ∷ insert p os es) ≡ (if b then (p, outs_of os) ∷ (e.0, outs_of e.1) ∷ ends_of es else (e.0, outs_of e.1) ∷ insert p (outs_of os) (ends_of es)))
     [ true ↦ refl | false ↦ ap (λ l. (e.0, outs_of e.1) ∷ l) (ends_insert p os es) ]
 
-pub end_made : (at : Outputs) (ws : List Worker) (i : ℕ) (v v1 : Worker) (p : List ℕ) (os : List Out) (ends later : List (List ℕ × List Out)) → slice_get ws i ≡ Some v → Began v (Some p) v1 → outs_of os ≡ at p
-    → later ≡ insert p os ends → Ends at (state_of ws (ends_of ends)) i (state_of (set ws i v1) (ends_of later))
-end_made at ws i v v1 p os ends later mine began outs is = (
+pub end_made : (at : Outputs) (ws : List Worker) (i : ℕ) (v v1 : Worker) (p : List ℕ) (os : List Out) (ends later : List (List ℕ × List Out)) (skipped : Paths) → slice_get ws i ≡ Some v → Began v (Some p) v1 → outs_of os ≡ at p
+    → later ≡ insert p os ends → Ends at (state_of ws (past_of ends skipped)) i (state_of (set ws i v1) (past_of later skipped))
+end_made at ws i v v1 p os ends later skipped mine began outs is = (
   v1.hand.items,
   p,
   hands_get ws i v mine ∙ ap Some began.0,
-  λ k. state (hands_set ws i v1 k) (deques_same ws i v v1 mine began.1 k) ((ap ends_of is ∙ ends_insert p os ends ∙ ap (λ o. insert p o (ends_of ends)) outs) k),
+  λ k. state (hands_set ws i v1 k) (deques_same ws i v v1 mine began.1 k) (over ((ap ends_of is ∙ ends_insert p os ends ∙ ap (λ o. insert p o (ends_of ends)) outs) k) skipped),
 )
+
+pub skip_made : (ws : List Worker) (i : ℕ) (v v1 : Worker) (p : List ℕ) (n : ℕ) (ends : List (List ℕ × List Out)) (skipped later : Paths) → slice_get ws i ≡ Some v → Began v (Some p) v1 → n ≤ found_before p (ends_of ends)
+    → later ≡ skipped ++ p ∷ [] → Skips (state_of ws (past_of ends skipped)) i n (state_of (set ws i v1) (past_of ends later))
+skip_made ws i v v1 p n ends skipped later mine began enough is = (
+  v1.hand.items,
+  p,
+  hands_get ws i v mine ∙ ap Some began.0,
+  enough,
+  λ k. state (hands_set ws i v1 k) (deques_same ws i v v1 mine began.1 k) (over (ends_of ends) (is k)),
+)
+
+pub not_skipped : (ws : List Worker) (i : ℕ) (v v1 : Worker) (p : List ℕ) (n : ℕ) (ends : List (List ℕ × List Out)) (skipped : Paths) → slice_get ws i ≡ Some v → Began v (Some p) v1 → found_before p (ends_of ends) < n
+    → (u : State) → Skips (state_of ws (past_of ends skipped)) i n u → ⊥
+not_skipped ws i v v1 p n ends skipped mine began short u s =
+    let e = first_of ws i v v1 p s.1 s.0 mine began s.2 in
+    let z = s.3 in
+    let y = ap (λ (q : List ℕ). found_before q (ends_of ends)) e in
+    omega arith
 
 hands_both : (ws vs : List Worker) → hands_of (ws ++ vs) ≡ hands_of ws ++ hands_of vs
 hands_both [] vs = refl
@@ -175,11 +194,11 @@ first_more zero x l = absurd (omega arith)
 first_more (suc n) x l = ap (λ l. x ∷ l) (nones_more n)
 
 -- one more worker with nothing
-pub one_more : (ws : List Worker) (w : Worker) (n : ℕ) → 1 ≤ n → w.hand.items ≡ [] → w.deque.items ≡ [] → state_of ws [] ≡ start n → state_of (ws ++ w ∷ []) [] ≡ start (n + 1)
+pub one_more : (ws : List Worker) (w : Worker) (n : ℕ) → 1 ≤ n → w.hand.items ≡ [] → w.deque.items ≡ [] → state_of ws (over [] []) ≡ start n → state_of (ws ++ w ∷ []) (over [] []) ≡ start (n + 1)
 one_more ws w n l hand deque is =
     let hands : hands_of (ws ++ w ∷ []) ≡ set (nones (suc n)) 0 ([] ∷ []) = hands_both ws (w ∷ []) ∙ ap (λ x. hands_of ws ++ x ∷ []) hand ∙ ap (λ (s : State). s.hands ++ [] ∷ []) is ∙ first_more n ([] ∷ []) l in
     let deques : deques_of (ws ++ w ∷ []) ≡ nones (suc n) = deques_both ws (w ∷ []) ∙ ap (λ x. deques_of ws ++ x ∷ []) deque ∙ ap (λ (s : State). s.deques ++ [] ∷ []) is ∙ nones_more n in
-    subst (λ (m : ℕ). state_of (ws ++ w ∷ []) [] ≡ start m) (sym (add-one n)) (λ k. state (hands k) (deques k) [])
+    subst (λ (m : ℕ). state_of (ws ++ w ∷ []) (over [] []) ≡ start m) (sym (add-one n)) (λ k. state (hands k) (deques k) (over [] []))
 
 pub steps_more : (c : Choices) (at : Outputs) (s : State) (es : List Event) (u : State) (e : Event) (t : State) → AreSteps c at s es u → IsStep c at u e t → AreSteps c at s (es ++ e ∷ []) t
 steps_more c at s [] u e t h step = (t, subst (λ (x : State). IsStep c at x e t) h step, refl)

@@ -1,13 +1,12 @@
 -- The program's workers and its Core, as states.
 use Rattle.std.specs.Prelude.{◌≡◌, ℕ, Bool, true, false, List, [], ◌∷◌, slice_get, Some}
-use Rattle.ap_defs.specs.declared.paths.Core.{Core}
-use Rattle.ap_defs.specs.declared.paths.Event.{Event}
+use Rattle.ap_core.specs.declared.events.Core.{Core}
+use Rattle.ap_core.specs.declared.events.Event.{Event}
 use Rattle.ap_defs.specs.declared.paths.Out.{Out}
-use Rattle.ap_defs.specs.Answers.{outs_of}
 use Rattle.ap_paths.specs.Trees.{Choices, Outputs, InTree}
-use Rattle.ap_paths.specs.Merging.{Ending}
+use Rattle.ap_paths.specs.Ends.{ends_of}
 use Rattle.ap_core.specs.declared.workers.Worker.{Worker}
-use Rattle.ap_core.specs.States.{State, state, pending, start}
+use Rattle.ap_core.specs.States.{State, Past, over, state, pending, start}
 use Rattle.ap_core.specs.Steps.{AreSteps}
 
 abbrev pub hands_of : List Worker → List (List (List ℕ))
@@ -18,17 +17,16 @@ abbrev pub deques_of : List Worker → List (List (List ℕ))
 deques_of [] = []
 deques_of (w ∷ ws) = w.deque.items ∷ deques_of ws
 
--- ends, with their outputs without where they lie in memory
-abbrev pub ends_of : List (List ℕ × List Out) → List Ending
-ends_of [] = []
-ends_of (e ∷ es) = (e.0, outs_of e.1) ∷ ends_of es
+abbrev pub state_of : List Worker → Past → State
+state_of ws past = state (hands_of ws) (deques_of ws) past
 
-abbrev pub state_of : List Worker → List Ending → State
-state_of ws ends = state (hands_of ws) (deques_of ws) ends
+-- what is over, as the program has it
+abbrev pub past_of : List (List ℕ × List Out) → List (List ℕ) → Past
+past_of ends skipped = over (ends_of ends) skipped
 
 -- what a Core says of the state
 abbrev pub core_state : Core → State
-core_state k = state k.hands k.deques (ends_of k.done)
+core_state k = state k.hands k.deques (past_of k.done k.skipped)
 
 -- a step is made, or none can be
 abbrev pub Answered : (State → Type 0) → Bool → State → Type 0

@@ -1,14 +1,22 @@
--- The state of all workers between two events: a hand and a deque for each, and what has ended.
+-- The state of all workers between two events: a hand and a deque for each, and what is over.
 use Rattle.std.specs.Prelude.{ℕ, zero, suc, List, [], ◌∷◌, ◌++◌, slice_set}
 use Rattle.ap_paths.specs.Merging.{Ending}
+
+-- the paths that have ended, with their outputs, in path order, and those that were left out
+pub record Past : Type 0 where
+  pub ends : List Ending
+  pub skipped : List (List ℕ)
+
+abbrev pub over : List Ending → List (List ℕ) → Past
+over ends skipped = record { ends = ends; skipped = skipped }
 
 pub record State : Type 0 where
   pub hands : List (List (List ℕ))
   pub deques : List (List (List ℕ))
-  pub ends : List Ending
+  pub past : Past
 
-abbrev pub state : List (List (List ℕ)) → List (List (List ℕ)) → List Ending → State
-state hands deques ends = record { hands = hands; deques = deques; ends = ends }
+abbrev pub state : List (List (List ℕ)) → List (List (List ℕ)) → Past → State
+state hands deques past = record { hands = hands; deques = deques; past = past }
 
 abbrev pub joined_all : List (List (List ℕ)) → List (List ℕ)
 joined_all [] = []
@@ -25,4 +33,4 @@ nones (suc n) = [] ∷ nones n
 
 -- at the start worker 0 has the empty path in its hand
 abbrev pub start : ℕ → State
-start n = state (slice_set (nones n) 0 ([] ∷ [])) (nones n) []
+start n = state (slice_set (nones n) 0 ([] ∷ [])) (nones n) (over [] [])

@@ -1,41 +1,49 @@
 -- The events: where each is permitted, and what it does.
-use Rattle.std.specs.Prelude.{◌≡◌, ◌≢◌, ℕ, Some, List, [], ◌∷◌, ◌++◌, slice_get, slice_set}
-use Rattle.ap_defs.specs.declared.paths.Event.{Event}
-use Rattle.ap_defs.specs.declared.paths.Event.TheVariants.{Push, Pop, Steal, Split, Done}
+use Rattle.std.specs.Prelude.{◌≡◌, ◌≢◌, ℕ, ◌≤◌, Some, List, [], ◌∷◌, ◌++◌, slice_get, slice_set}
+use Rattle.ap_core.specs.declared.events.Event.{Event}
+use Rattle.ap_core.specs.declared.events.Event.TheVariants.{Push, Pop, Steal, Split, Done, Skip}
+use Rattle.ap_paths.specs.declared.limits.Limit.{Limit}
+use Rattle.ap_paths.specs.declared.limits.Limit.TheVariants as limits
 use Rattle.ap_paths.specs.History.{kids_of}
 use Rattle.ap_paths.specs.Trees.{Choices, Outputs, AreKids}
-use Rattle.ap_paths.specs.Merging.{insert}
-use Rattle.ap_core.specs.States.{State, state}
+use Rattle.ap_paths.specs.Merging.{insert, found_before}
+use Rattle.ap_core.specs.States.{State, state, over}
 
 -- the last path in the hand of w goes to the back of its deque
 abbrev pub Pushes : State → ℕ → State → Type 0
 Pushes s w t =
     (rest : List (List ℕ)) × (p : List ℕ) × (deque : List (List ℕ)) × (slice_get s.hands w ≡ Some (rest ++ p ∷ [])) × (slice_get s.deques w ≡ Some deque)
-    × (t ≡ state (slice_set s.hands w rest) (slice_set s.deques w (deque ++ p ∷ [])) s.ends)
+    × (t ≡ state (slice_set s.hands w rest) (slice_set s.deques w (deque ++ p ∷ [])) s.past)
 
 -- the hand of w is empty, and the path at the back of its deque comes there
 abbrev pub Pops : State → ℕ → State → Type 0
 Pops s w t =
     (rest : List (List ℕ)) × (p : List ℕ) × (slice_get s.hands w ≡ Some []) × (slice_get s.deques w ≡ Some (rest ++ p ∷ []))
-    × (t ≡ state (slice_set s.hands w (p ∷ [])) (slice_set s.deques w rest) s.ends)
+    × (t ≡ state (slice_set s.hands w (p ∷ [])) (slice_set s.deques w rest) s.past)
 
 -- the hand of w is empty, and the path at the front of another deque comes there
 abbrev pub Steals : State → ℕ → ℕ → State → Type 0
 Steals s w from t =
     (rest : List (List ℕ)) × (p : List ℕ) × (slice_get s.hands w ≡ Some []) × (slice_get s.deques from ≡ Some (p ∷ rest)) × (from ≢ w)
-    × (t ≡ state (slice_set s.hands w (p ∷ [])) (slice_set s.deques from rest) s.ends)
+    × (t ≡ state (slice_set s.hands w (p ∷ [])) (slice_set s.deques from rest) s.past)
 
 -- the first path in the hand of w is replaced by its kids, which leave out only choices with no outputs
 abbrev pub Splits : Choices → Outputs → State → ℕ → List ℕ → State → Type 0
 Splits c at s w ks t =
     (rest : List (List ℕ)) × (p : List ℕ) × (slice_get s.hands w ≡ Some (p ∷ rest)) × AreKids c at p ks
-    × (t ≡ state (slice_set s.hands w (kids_of p ks ++ rest)) s.deques s.ends)
+    × (t ≡ state (slice_set s.hands w (kids_of p ks ++ rest)) s.deques s.past)
 
 -- the first path in the hand of w ends, with the outputs below it
 abbrev pub Ends : Outputs → State → ℕ → State → Type 0
 Ends at s w t =
     (rest : List (List ℕ)) × (p : List ℕ) × (slice_get s.hands w ≡ Some (p ∷ rest))
-    × (t ≡ state (slice_set s.hands w rest) s.deques (insert p (at p) s.ends))
+    × (t ≡ state (slice_set s.hands w rest) s.deques (over (insert p (at p) s.past.ends) s.past.skipped))
+
+-- the first path in the hand of w is left out, since n answers have ended before it
+abbrev pub Skips : State → ℕ → ℕ → State → Type 0
+Skips s w n t =
+    (rest : List (List ℕ)) × (p : List ℕ) × (slice_get s.hands w ≡ Some (p ∷ rest)) × (n ≤ found_before p s.past.ends)
+    × (t ≡ state (slice_set s.hands w rest) s.deques (over s.past.ends (s.past.skipped ++ p ∷ [])))
 
 -- the event is permitted, and leads from one state to the next
 abbrev pub IsStep : Choices → Outputs → State → Event → State → Type 0
@@ -44,6 +52,20 @@ IsStep c at s (Pop w) t = Pops s w t
 IsStep c at s (Steal w from) t = Steals s w from t
 IsStep c at s (Split w ks) t = Splits c at s w ks t
 IsStep c at s (Done w) t = Ends at s w t
+IsStep c at s (Skip w n) t = Skips s w n t
+
+-- a path is left out only where so many answers are wanted
+abbrev pub Wants : Limit → Event → Type 0
+Wants l (Push w) = Unit {0}
+Wants l (Pop w) = Unit {0}
+Wants l (Steal w from) = Unit {0}
+Wants l (Split w ks) = Unit {0}
+Wants l (Done w) = Unit {0}
+Wants l (Skip w n) = l ≡ limits.First n
+
+abbrev pub AllWant : Limit → List Event → Type 0
+AllWant l [] = Unit {0}
+AllWant l (e ∷ es) = Wants l e × AllWant l es
 
 -- the events are permitted, one after another, and lead from one state to another
 abbrev pub AreSteps : Choices → Outputs → State → List Event → State → Type 0

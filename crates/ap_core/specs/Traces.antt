@@ -1,20 +1,21 @@
 -- The entries that a list of events makes.
 use Rattle.std.specs.Prelude.{◌≡◌, ℕ, ◌<◌, Some, List, [], ◌∷◌, ◌++◌, slice_get}
-use Rattle.ap_defs.specs.declared.paths.Event.{Event}
-use Rattle.ap_defs.specs.declared.paths.Event.TheVariants.{Push, Pop, Steal, Split, Done}
-use Rattle.ap_paths.specs.Entries.{TreeEntry, split, done, stop}
+use Rattle.ap_core.specs.declared.events.Event.{Event}
+use Rattle.ap_core.specs.declared.events.Event.TheVariants.{Push, Pop, Steal, Split, Done, Skip}
+use Rattle.ap_paths.specs.Entries.{TreeEntry, split, done, skip, stop}
 use Rattle.ap_paths.specs.History.{kids_of, seat_of}
 use Rattle.ap_paths.specs.Trees.{Choices, Outputs}
 use Rattle.ap_core.specs.States.{State}
 use Rattle.ap_core.specs.Steps.{IsStep}
 
--- the entries that an event makes at this state: one where a path is split or ends
+-- the entries that an event makes at this state: one where a path is split, ends or is left out
 abbrev pub Makes : Outputs → State → Event → List TreeEntry → Type 0
 Makes at s (Push w) es = es ≡ []
 Makes at s (Pop w) es = es ≡ []
 Makes at s (Steal w from) es = es ≡ []
 Makes at s (Split w ks) es = (p : List ℕ) × (rest : List (List ℕ)) × (slice_get s.hands w ≡ Some (p ∷ rest)) × (es ≡ split w p ks ∷ [])
 Makes at s (Done w) es = (p : List ℕ) × (rest : List (List ℕ)) × (slice_get s.hands w ≡ Some (p ∷ rest)) × (es ≡ done w p (at p) ∷ [])
+Makes at s (Skip w n) es = (p : List ℕ) × (rest : List (List ℕ)) × (slice_get s.hands w ≡ Some (p ∷ rest)) × (es ≡ skip w p n ∷ [])
 
 -- the events are permitted, lead from s to t, and make these entries, in order
 abbrev pub Leads : Choices → Outputs → State → List Event → State → List TreeEntry → Type 0
@@ -32,4 +33,5 @@ IsInOrder ps [] = Unit {0}
 IsInOrder [] (e ∷ es) = ⊥
 IsInOrder (p ∷ ps) (split seat q ks ∷ es) = (q ≡ p) × IsInOrder (kids_of p ks ++ ps) es
 IsInOrder (p ∷ ps) (done seat q os ∷ es) = (q ≡ p) × IsInOrder ps es
+IsInOrder (p ∷ ps) (skip seat q n ∷ es) = (q ≡ p) × IsInOrder ps es
 IsInOrder (p ∷ ps) (stop seat ∷ es) = ⊥

@@ -1,15 +1,16 @@
 //! A list of events, played from the start.
 
 ghost use Rattle.std.specs.Prelude.{◌≡◌, ◌≤◌, [], ◌++◌, IfOk, MatchOption};
-ghost use Rattle.ap_core.specs.States.{joined_all, pending, start};
+ghost use Rattle.ap_core.specs.States.{joined_all, over, pending, start};
 ghost use Rattle.ap_core.specs.Steps.{StopsAt};
-ghost use Rattle.ap_core.specs.Stages.{state_of, hands_of, deques_of, ends_of, core_state, IsCoreAfter};
+ghost use Rattle.ap_core.specs.Stages.{state_of, hands_of, deques_of, past_of, core_state, IsCoreAfter};
 
+use crate::events::{Core, Event};
 use crate::steps::take;
 use crate::workers::Worker;
 use ap_defs::lists::List;
 use ap_defs::memory::Memory;
-use ap_defs::paths::{Core, Event, Path};
+use ap_defs::paths::Path;
 use ap_paths::{Endings, Tree};
 use std::alloc::Global;
 use std::collections::VecDeque;
@@ -17,7 +18,8 @@ use std::collections::VecDeque;
 /// The core after these events of so many workers, from the start, where worker 0 has the empty
 /// path in its hand. None exactly where an event is not permitted.
 ///
-/// Pending are the paths in the hands, then those in the deques. What is done stands in path order.
+/// Pending are the paths in the hands, then those in the deques. What is done stands in path order, and
+/// what was left out in the order of its events.
 pub fn play<T: Tree>(
     alloc: Global,
     tree: &T,
@@ -30,20 +32,28 @@ pub fn play<T: Tree>(
 {
     let mut team = gather(alloc, workers)?;
     let mut endings = Endings::new(alloc);
+    let mut skipped = Vec::new(alloc);
     for event in events {
-        let permitted = take(alloc, tree, team.as_mut_slice(), &mut endings, event)?;
+        let permitted = take(
+            alloc,
+            tree,
+            team.as_mut_slice(),
+            &mut endings,
+            &mut skipped,
+            event,
+        )?;
         if !permitted {
             return Ok(None);
         }
     }
-    let core = core_of(alloc, team, endings)?;
+    let core = core_of(alloc, team, endings, skipped)?;
     Ok(Some(core))
 }
 
 /// So many workers, the first one with the empty path in its hand.
 fn gather(alloc: Global, workers: u32) -> Result<Vec<Worker>, Memory>
     requires { 1 ≤ workers }
-    ensures { IfOk result (λ v. state_of v.items [] ≡ start workers) }
+    ensures { IfOk result (λ v. state_of v.items (over [] []) ≡ start workers) }
 {
     let mut first = Worker::new(alloc);
     first.take(Path::root(alloc))?;
@@ -55,8 +65,13 @@ fn gather(alloc: Global, workers: u32) -> Result<Vec<Worker>, Memory>
     Ok(team)
 }
 
-fn core_of(alloc: Global, team: Vec<Worker>, endings: Endings) -> Result<Core, Memory>
-    ensures state { IfOk result (λ k. core_state k ≡ state_of team.items (ends_of endings)) }
+fn core_of(
+    alloc: Global,
+    team: Vec<Worker>,
+    endings: Endings,
+    skipped: Vec<Path>,
+) -> Result<Core, Memory>
+    ensures state { IfOk result (λ k. core_state k ≡ state_of team.items (past_of endings skipped.items)) }
     ensures pending { IfOk result (λ k. k.pending ≡ pending (core_state k)) }
 {
     let (hands, deques) = rows_of(alloc, team)?;
@@ -69,6 +84,7 @@ fn core_of(alloc: Global, team: Vec<Worker>, endings: Endings) -> Result<Core, M
         hands: List::of(hands),
         deques: List::of(deques),
         done: List::of(done),
+        skipped: List::of(skipped),
     })
 }
 

@@ -1,8 +1,8 @@
 //! The workers, each with a hand and a deque of paths.
 
-ghost use Rattle.std.specs.Prelude.{◌≡◌, ℕ, [], ◌∷◌, ◌++◌, List as list, IfOk, IsTrue, ◌↔◌};
-ghost use Rattle.ap_paths.specs.Merging.{Ending};
+ghost use Rattle.std.specs.Prelude.{◌≡◌, [], ◌∷◌, ◌++◌, IfOk, IsTrue, ◌↔◌};
 ghost use Rattle.ap_paths.specs.History.{kids_of};
+ghost use Rattle.ap_core.specs.States.{Past};
 ghost use Rattle.ap_core.specs.Single.{Pushed, Popped, Gave, Began};
 ghost use Rattle.ap_core.specs.Steps.{Pushes, Pops, Steals};
 ghost use Rattle.ap_core.specs.Stages.{state_of, Answered};
@@ -101,7 +101,7 @@ impl Worker {
 
 /// Whether a worker may put a path from its hand into its deque. If so, it does.
 pub fn push(workers: &mut [Worker], w: usize) -> Result<bool, Memory>
-    ensures { (ends : list Ending) → IfOk result (λ b. Answered (Pushes (state_of workers.old ends) w) b (state_of workers.new ends)) }
+    ensures { (past : Past) → IfOk result (λ b. Answered (Pushes (state_of workers.old past) w) b (state_of workers.new past)) }
 {
     if w >= workers.len() {
         return Ok(false);
@@ -112,7 +112,7 @@ pub fn push(workers: &mut [Worker], w: usize) -> Result<bool, Memory>
 
 /// Whether a worker may take a path back from its deque. If so, it does.
 pub fn pop(workers: &mut [Worker], w: usize) -> Result<bool, Memory>
-    ensures { (ends : list Ending) → IfOk result (λ b. Answered (Pops (state_of workers.old ends) w) b (state_of workers.new ends)) }
+    ensures { (past : Past) → IfOk result (λ b. Answered (Pops (state_of workers.old past) w) b (state_of workers.new past)) }
 {
     if w >= workers.len() {
         return Ok(false);
@@ -123,7 +123,7 @@ pub fn pop(workers: &mut [Worker], w: usize) -> Result<bool, Memory>
 
 /// Whether a worker may take a path from the deque of another. If so, it does.
 pub fn steal(workers: &mut [Worker], w: usize, from: usize) -> Result<bool, Memory>
-    ensures { (ends : list Ending) → IfOk result (λ b. Answered (Steals (state_of workers.old ends) w from) b (state_of workers.new ends)) }
+    ensures { (past : Past) → IfOk result (λ b. Answered (Steals (state_of workers.old past) w from) b (state_of workers.new past)) }
 {
     if w == from {
         return Ok(false);

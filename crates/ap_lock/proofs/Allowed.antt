@@ -7,7 +7,7 @@ use native.Mathlib.Decide.{ℕ_discrete}
 use lib.ListN.{get_elem?}
 use Rattle.atomic_table.specs.Table.{State, Me, keeps, takes, gives, rest, Allows}
 use Rattle.atomic_table.proofs.Lists.{set_again, one_turn}
-use Rattle.ap_defs.specs.declared.paths.Entry.{Entry}
+use Rattle.ap_paths.specs.declared.entries.Entry.{Entry}
 use Rattle.ap_lock.specs.declared.view.Stage.TheVariants.{Idle, Waiting, Turn}
 use Rattle.ap_lock.specs.declared.view.Own.{Own}
 use Rattle.ap_lock.specs.declared.view.View.{View}

@@ -4,7 +4,7 @@ use mathlib.Core.Option.{some, none, some-injective}
 use lib.ListN.{get_elem?}
 use Rattle.atomic_table.specs.Table.{Me, Final, Seen}
 use Rattle.atomic_table.specs.Seated.{TableId}
-use Rattle.ap_defs.specs.declared.paths.Entry.{Entry}
+use Rattle.ap_paths.specs.declared.entries.Entry.{Entry}
 use Rattle.ap_lock.specs.declared.view.Stage.TheVariants.{Idle}
 use Rattle.ap_lock.specs.declared.view.Own.{Own}
 use Rattle.ap_lock.specs.declared.view.View.{View}

@@ -1,7 +1,7 @@
 -- The logs of seats, entry by entry.
 use Rattle.std.proofs.Common.{◌≡◌, ℕ, zero, suc, ◌+◌, ◌<◌, ◌≤◌, List, Vec, [], ◌∷◌, ◌++◌, length, take, get_or, set, refl, sym, ap, ◌∙◌, add-one, zero-add, arith}
 use Rattle.std.proofs.lemmas.List.{take_more}
-use Rattle.ap_defs.specs.declared.paths.Entry.{Entry}
+use Rattle.ap_paths.specs.declared.entries.Entry.{Entry}
 use Rattle.ap_lock.specs.Turns.{maker_of, places_of}
 use Rattle.ap_lock.specs.Seats.{logs_from, logs_of}
 use Rattle.ap_lock.specs.Noting.{lists_of, noted}

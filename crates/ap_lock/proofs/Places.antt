@@ -1,6 +1,6 @@
 -- The places of a seat's entries in a history.
 use Rattle.std.proofs.Common.{◌≡◌, ◌≢◌, ℕ, suc, ◌+◌, true, false, eqb, if◌then◌else◌, List, [], ◌∷◌, ◌++◌, length, sym, refl, ap, ◌∙◌, append-nil, length-append, eq-eqb, ne_eqb, arith}
-use Rattle.ap_defs.specs.declared.paths.Entry.{Entry}
+use Rattle.ap_paths.specs.declared.entries.Entry.{Entry}
 use Rattle.ap_lock.specs.Turns.{maker_of, places_from, places_of, AreBy}
 
 pub places_from-append : (i n : ℕ) (xs ys : List Entry) → places_from i n (xs ++ ys) ≡ places_from i n xs ++ places_from (i + length xs) n ys

@@ -13,7 +13,7 @@ use Rattle.ap_defs.proofs.terms.Var.TheSendSync.{the_send as var}
 use Rattle.ap_defs.proofs.terms.Term.TheLaws.TheKnot.{crosses as term}
 use Rattle.ap_defs.proofs.terms.Ty.TheLaws.TheKnot.{crosses as ty}
 use Rattle.std.proofs.collections.HashSet.TheSendSync.{the_send as set}
-use Rattle.ap_defs.specs.contracts.paths.Entry as E
+use Rattle.ap_paths.specs.contracts.entries.Entry as E
 use Rattle.ap_defs.specs.contracts.paths.Out as O
 use Rattle.ap_book.specs.contracts.book.Book as B
 use Rattle.ap_lock.specs.contracts.view.View as V

@@ -1,11 +1,14 @@
 -- A seat may end its turn with what the book answered.
-use Rattle.std.proofs.Common.{◌≡◌, ℕ, Bool, true, false, if◌then◌else◌, None, Result, Ok, Err, List, [], ◌∷◌, ◌++◌, sym, ap, ◌∙◌, subst, append-nil}
+use Rattle.std.proofs.Common.{◌≡◌, ℕ, Bool, true, false, if◌then◌else◌, None, Result, Ok, Err, List, [], ◌∷◌, ◌++◌, refl, sym, ap, ◌∙◌, subst, append-nil}
 use Rattle.atomic_table.specs.Table.{Me}
-use Rattle.ap_defs.specs.declared.paths.Entry.{Entry}
+use Rattle.ap_paths.specs.declared.entries.Entry.{Entry}
+use Rattle.ap_paths.specs.declared.entries.Entry.TheVariants.{Skip}
 use Rattle.ap_defs.specs.declared.paths.Out.{Out}
 use Rattle.ap_book.specs.declared.error.BookError.{BookError}
 use Rattle.ap_book.specs.declared.error.DoneError.{DoneError}
-use Rattle.ap_book.specs.Answers.{Enters, EntersDone}
+use Rattle.ap_book.specs.declared.error.SkipError.{SkipError}
+use Rattle.ap_book.specs.Answers.{Enters, EntersDone, Skips}
+use Rattle.ap_paths.specs.declared.limits.Limit.{Limit}
 use Rattle.ap_lock.specs.declared.view.Stage.TheVariants.{Idle, Turn}
 use Rattle.ap_lock.specs.declared.view.View.{View}
 use Rattle.ap_lock.specs.Turns.{maker_of, Slot, lone, number_of, seen_of, Holds, Adds, MayShut, AreBy}
@@ -34,6 +37,10 @@ may_shut n before m seen turn history is holds adds =
 pub adds_ended : {X : Type 0} (n : ℕ) (turn history : List Entry) (path : List ℕ) (outs : List Out) (e : Entry) (r : Result X DoneError) → maker_of e ≡ n → EntersDone turn path outs e r history → Adds n turn history
 adds_ended n turn history path outs e (Ok x) by enters = adds_one n turn history e by enters.1
 adds_ended n turn history path outs e (Err d) by enters = ([], enters.2 ∙ sym (append-nil turn), tt)
+
+pub adds_skipped : {X : Type 0} (n : ℕ) (turn history : List Entry) (path : List ℕ) (l : Limit) (r : Result X SkipError) → Skips turn path l n r history → Adds n turn history
+adds_skipped n turn history path l (Ok x) skips = adds_one n turn history (Skip n path skips.1.0) refl skips.1.2
+adds_skipped n turn history path l (Err cause) skips = ([], skips.1 ∙ sym (append-nil turn), tt)
 
 pub adds_stop : (n : ℕ) (turn history : List Entry) (stands : Bool) (e : Entry) → maker_of e ≡ n → history ≡ (if stands then turn else turn ++ e ∷ []) → Adds n turn history
 adds_stop n turn history true e by is = ([], is ∙ sym (append-nil turn), tt)

@@ -6,7 +6,7 @@ use native.Mathlib.Decide.{ℕ_discrete}
 use lib.ListN.{get_elem?}
 use Rattle.atomic_table.specs.Table.{State, Splits, Joins}
 use Rattle.atomic_table.proofs.Lists.{at_set, at_snoc}
-use Rattle.ap_defs.specs.declared.paths.Entry.{Entry}
+use Rattle.ap_paths.specs.declared.entries.Entry.{Entry}
 use Rattle.ap_lock.specs.declared.view.Stage.{Stage}
 use Rattle.ap_lock.specs.declared.view.Stage.TheVariants.{Idle, Waiting, Turn}
 use Rattle.ap_lock.specs.declared.view.Own.{Own}

@@ -3,7 +3,8 @@ use Rattle.std.specs.Prelude.{◌≡◌, refl, ℕ, ◌+◌, ◌≤◌, eqb, zer
 use Rattle.std.specs.Coded.{Coded, code_by, coded×, coded_ℕ, coded_list}
 use Rattle.atomic_table.specs.Seated.{TableId, table_id_coded}
 use Rattle.atomic_table.specs.declared.shared.Seat.{Seat as TableSeat}
-use Rattle.ap_defs.specs.declared.paths.Entry.{Entry}
+use Rattle.ap_paths.specs.declared.entries.Entry.{Entry}
+use Rattle.ap_paths.specs.declared.limits.Limit.{Limit}
 use Rattle.ap_book.specs.declared.book.Book.{Book}
 use Rattle.ap_lock.specs.declared.view.View.{View}
 use Rattle.ap_lock.specs.declared.view.Stage.TheVariants.{Idle}
@@ -37,6 +38,10 @@ IsSeat n raw = raw.me ≡ (lone Idle n (seen_of raw.me.0), [])
 -- which book it is
 abbrev pub book_id : SharedBook → TableId
 book_id d = d.table.shared.table_id
+
+-- how many answers are wanted of it
+abbrev pub limit_of : SharedBook → Limit
+limit_of d = d.limit
 
 -- how many seats it has
 abbrev pub seats_of : SharedBook → ℕ

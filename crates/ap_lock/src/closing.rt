@@ -1,12 +1,13 @@
 //! How a shared book is made, and what it leaves at the end.
 
 ghost use Rattle.std.specs.Prelude.{◌≡◌, ℕ, true, ◌+◌, ◌-◌, ◌<◌, ◌≤◌, List as list, [], ◌∷◌, ◌++◌, length, vec_capacity, IfOk};
-ghost use Rattle.ap_defs.specs.declared.paths.Entry.{Entry};
+ghost use Rattle.ap_paths.specs.declared.entries.Entry.{Entry};
 ghost use Rattle.ap_paths.specs.Entries.{entries_of};
+ghost use Rattle.ap_paths.specs.Limits.{is_limited};
 ghost use Rattle.ap_paths.specs.History.{is_legal};
 ghost use Rattle.ap_lock.specs.declared.view.Stage.TheVariants.{Idle};
 ghost use Rattle.ap_lock.specs.Turns.{view, fresh, AreKnown, times, places_of};
-ghost use Rattle.ap_lock.specs.Seats.{book_id, seats_of, AreOf, AreLogged, AreMadeBy, IsUnited, new_seats, logs_of};
+ghost use Rattle.ap_lock.specs.Seats.{book_id, seats_of, limit_of, AreOf, AreLogged, AreMadeBy, IsUnited, new_seats, logs_of};
 
 use crate::logs::make_logs;
 use crate::plays::{Cut, Unite};
@@ -15,34 +16,50 @@ use crate::shared::{Raw, SharedBook};
 use ap_book::Book;
 use ap_defs::lists::List;
 use ap_defs::memory::Memory;
-use ap_defs::paths::Closed;
+use ap_paths::{Closed, Limit};
 use atomic_table::Table;
 use std::alloc::Global;
 
 impl SharedBook {
-    /// A new book with 1 to 64 seats, which have the numbers from 0 on. The only error is want of
-    /// memory.
-    pub fn make(alloc: Global, seats: u32) -> Result<(SharedBook, Vec<Seat>), Memory>
+    /// A new book with 1 to 64 seats, which have the numbers from 0 on, of which so many answers are
+    /// wanted. The only error is want of memory.
+    pub fn make(
+        alloc: Global,
+        seats: u32,
+        limit: Limit,
+    ) -> Result<(SharedBook, Vec<Seat>), Memory>
         requires { (0 < seats) × (seats ≤ 64) }
-        ensures { IfOk result (λ r. (seats_of r.0 ≡ seats) × (r.1.items ≡ new_seats (book_id r.0) 0 seats)) }
+        ensures made { IfOk result (λ r. (seats_of r.0 ≡ seats) × (r.1.items ≡ new_seats (book_id r.0) 0 seats)) }
+        ensures limit { IfOk result (λ r. limit_of r.0 ≡ limit) }
     {
         let list = Vec::with_capacity(alloc, seats as usize)?;
-        let (desk, first) = SharedBook::with_all(alloc, seats)?;
+        let (desk, first) = SharedBook::with_all(alloc, seats, limit)?;
         let list = desk.cut_seats(first, list, seats);
         Ok((desk, list))
     }
 
+    /// Whether fewer than all answers may be wanted.
+    pub fn has_limit(&self) -> bool
+        ensures { result ≡ is_limited (limit_of self.now) }
+    {
+        match self.limit {
+            Limit::All => false,
+            Limit::First(_count) => true,
+        }
+    }
+
     /// A book, and the one seat that stands for all.
-    fn with_all(alloc: Global, seats: u32) -> Result<(SharedBook, Raw), Memory>
+    fn with_all(alloc: Global, seats: u32, limit: Limit) -> Result<(SharedBook, Raw), Memory>
         requires { (0 < seats) × (seats ≤ 64) }
-        ensures { IfOk result (λ r. (seats_of r.0 ≡ seats) × (r.1.table_id ≡ book_id r.0) × (r.1.me ≡ (view Idle (fresh 0 seats), []))) }
+        ensures made { IfOk result (λ r. (seats_of r.0 ≡ seats) × (r.1.table_id ≡ book_id r.0) × (r.1.me ≡ (view Idle (fresh 0 seats), []))) }
+        ensures limit { IfOk result (λ r. limit_of r.0 ≡ limit) }
     {
         let mut slots = Vec::with_capacity(alloc, 1)?;
         slots.push(Some(Book::new(alloc)?))?;
         let Ok((table, first)) = Table::new(alloc, &[0, 0], slots, &(seats as u64)) else {
             return Err(Memory);
         };
-        Ok((SharedBook { table }, first))
+        Ok((SharedBook { table, limit }, first))
     }
 
     /// The seats, each with one number.
@@ -84,7 +101,7 @@ impl SharedBook {
         ensures known { AreKnown result first.me.0.owns }
         ensures makers { ((n : ℕ) → times n first.me.0.owns ≡ 0 → places_of n result ≡ []) × ((n : ℕ) → seats_of self ≤ n → places_of n result ≡ []) }
     {
-        let SharedBook { table } = self;
+        let SharedBook { table, limit: _ } = self;
         let mut closed = table.close_with(first);
         let found = closed.take(0);
         closed.free();

@@ -7,7 +7,7 @@ ghost use Rattle.ap_lock.specs.Noting.{lists_of, noted};
 
 use ap_defs::lists::List;
 use ap_defs::memory::Memory;
-use ap_defs::paths::Entry;
+use ap_paths::Entry;
 use std::alloc::Global;
 
 /// The number of the seat that made an entry.
@@ -24,6 +24,11 @@ fn maker(entry: &Entry) -> u32
             seat,
             path: _path,
             outs: _outs,
+        } => *seat,
+        Entry::Skip {
+            seat,
+            path: _path,
+            found: _found,
         } => *seat,
         Entry::Stop { seat } => *seat,
     }

@@ -1,17 +1,17 @@
 //! The seats of a shared book, and what they ask of it.
 
 ghost use Rattle.std.specs.Prelude.{◌≡◌, List as list, [], ◌∷◌, ◌++◌, if◌then◌else◌};
-ghost use Rattle.ap_defs.specs.declared.paths.Entry.{Entry};
-ghost use Rattle.ap_defs.specs.declared.paths.Entry.TheVariants.{Split, Done, Stop};
+ghost use Rattle.ap_paths.specs.declared.entries.Entry.{Entry};
+ghost use Rattle.ap_paths.specs.declared.entries.Entry.TheVariants.{Split, Done, Stop};
 ghost use Rattle.ap_paths.specs.Entries.{entries_of};
 ghost use Rattle.ap_paths.specs.Trees.{Ascends};
 ghost use Rattle.ap_paths.specs.History.{has_stop, progress_of};
-ghost use Rattle.ap_book.specs.Answers.{Enters, EntersDone};
+ghost use Rattle.ap_book.specs.Answers.{Enters, EntersDone, Skips};
 ghost use Rattle.ap_lock.specs.Turns.{Begins};
-ghost use Rattle.ap_lock.specs.Seats.{book_id, SameSeat, IsTurn};
+ghost use Rattle.ap_lock.specs.Seats.{book_id, limit_of, SameSeat, IsTurn};
 
 use crate::shared::{Raw, SharedBook};
-use ap_book::{BookError, DoneError, Kids};
+use ap_book::{BookError, DoneError, Kids, SkipError};
 use ap_defs::paths::{Out, Path, Progress};
 use std::alloc::Global;
 use std::marker::Model;
@@ -30,7 +30,7 @@ impl Model for Seat {
 
     ghost Value = { SeatView };
 
-    ghost use Rattle.ap_defs.specs.contracts.paths.Entry as e;
+    ghost use Rattle.ap_paths.specs.contracts.entries.Entry as e;
     ghost use Rattle.ap_lock.specs.Seats.{seat_code};
 
     ghost coded = { seat_code e.the_row.coded };
@@ -107,6 +107,22 @@ impl SharedBook {
     {
         let mut book = self.open(rt, &mut seat.raw);
         let answer = book.done(seat.number, path, outs);
+        self.shut(&mut seat.raw, book);
+        answer
+    }
+
+    /// Leaves out an open path in one turn, where as many answers have ended before it as are wanted. It
+    /// may wait.
+    ///
+    /// `NotOpen` comes exactly where the path is not open at that turn, and `Needed` exactly where it is
+    /// and fewer have ended before it, with their number. After an error no entry was made.
+    pub fn skip<R: Wait>(&self, rt: &R, seat: &mut Seat, path: &Path) -> Result<(), SkipError>
+        requires { seat.old.book ≡ book_id self.now }
+        ensures same { SameSeat seat.old seat.new }
+        ensures turn { (turn : list Entry) × IsTurn seat.old turn × Skips turn path.now (limit_of self.now) seat.old.number result seat.new.seen }
+    {
+        let mut book = self.open(rt, &mut seat.raw);
+        let answer = book.skip(seat.number, path, self.limit);
         self.shut(&mut seat.raw, book);
         answer
     }

@@ -1,13 +1,14 @@
 //! The book behind the lock.
 
 ghost use Rattle.std.specs.Prelude.{◌≡◌, ◌<◌, ◌≤◌, List as list, []};
-ghost use Rattle.ap_defs.specs.declared.paths.Entry.{Entry};
+ghost use Rattle.ap_paths.specs.declared.entries.Entry.{Entry};
 ghost use Rattle.ap_lock.specs.Turns.{lone, number_of, IsIdle, IsWaiting, HasTurn, MayEnd, Ended, Holds, MayShut};
 ghost use Rattle.ap_lock.specs.declared.view.Stage.TheVariants.{Idle};
 
 use crate::plays::{Draw, End, Look, Rule};
 use crate::view::View;
 use ap_book::Book;
+use ap_paths::Limit;
 use atomic_table::{Seat, Table};
 use crossbeam_utils::Backoff;
 use std::alloc::Global;
@@ -43,6 +44,8 @@ fn pause(looks: u32, backoff: &Backoff) -> u32 {
 #[derive(Drop)]
 pub struct SharedBook {
     pub(crate) table: Table<Option<Book>, View, u64, Rule, Global>,
+    // How many answers are wanted.
+    pub(crate) limit: Limit,
     pub ghost words: { table.shared.table_id.words ≡ 2 },
     pub ghost slots: { table.shared.table_id.slots ≡ 1 },
     pub ghost some: { 0 < table.shared.key },

@@ -1,6 +1,6 @@
 //! What a seat knows. No value of it is made: it stands in contracts alone.
 
-use ap_defs::paths::Entry;
+use ap_paths::Entry;
 use std::collections::LinkedList;
 
 /// Where a seat is: it asks nothing, it has drawn this ticket, or this ticket is served.

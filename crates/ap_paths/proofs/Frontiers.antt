@@ -1,6 +1,6 @@
--- The merged outputs of a legal and true history with nothing open are those below the empty path.
--- The proof keeps a frontier: all paths that are open or ended, in path order.
-use Rattle.std.proofs.Common.{◌≡◌, ◌≢◌, ℕ, zero, suc, ◌+◌, ◌<◌, ◌≤◌, Bool, true, false, ◌&&◌, ◌||◌, eqb, if◌then◌else◌, Option, Some, List, [], ◌∷◌, ◌++◌, sym, refl, ap, ◌∙◌, subst, inl, inr, ⊎_elim, true≢false, not, eq-eqb, ne_eqb, append_assoc, append-nil, arith}
+-- The merged outputs of a legal and true history with nothing open are those below the empty path, as far as they are wanted.
+-- The proof keeps a frontier: all paths that are open, have ended or were left out, in path order.
+use Rattle.std.proofs.Common.{◌≡◌, ◌≢◌, ℕ, zero, suc, ◌+◌, ◌<◌, ◌≤◌, Bool, true, false, ◌&&◌, ◌||◌, eqb, if◌then◌else◌, Option, Some, nat_le, leb-true, List, [], ◌∷◌, ◌++◌, sym, refl, ap, ◌∙◌, subst, inl, inr, ⊎_elim, true≢false, not, eq-eqb, ne_eqb, append_assoc, append-nil, arith}
 use mathlib.Core.Logic.{dite}
 use native.Mathlib.Decide.{ℕ_discrete}
 use Rattle.std.proofs.lemmas.Bool.Decides.{nat_tests}
@@ -10,12 +10,17 @@ use Rattle.std.specs.Cmp.Lexicographic.{slice_cmp}
 use Rattle.std.specs.declared.cmp.Ordering.{Ordering}
 use Rattle.std.specs.declared.cmp.Ordering.TheVariants.{Less, Greater}
 use Rattle.ap_defs.specs.Answers.{NominalOut}
-use Rattle.ap_paths.specs.Entries.{TreeEntry, split, done, stop}
-use Rattle.ap_paths.specs.History.{same_path, is_open, without, kids_of, open_from, legal_from, is_legal, open_of}
+use Rattle.ap_paths.specs.declared.limits.Limit.{Limit}
+use Rattle.ap_paths.specs.declared.limits.Limit.TheVariants as limits
+use Rattle.ap_paths.specs.Entries.{TreeEntry, split, done, skip, stop}
+use Rattle.ap_paths.specs.Limits.{found_in, first_part, part, AreWithin}
+use Rattle.ap_paths.specs.History.{same_path, is_open, without, kids_of, open_from, legal_from, are_reached, is_legal, open_of}
 use Rattle.ap_paths.specs.Trees.{Choices, Outputs, IsChoice, GoesOn, InTree, joined, IsTree, times, Ascends, AreAtMost, AreKids, AreTrue}
-use Rattle.ap_paths.specs.Frontier.{Before, Item, AllAfter, Sorted, outs_in, ended_in, open_in}
+use Rattle.ap_paths.specs.Frontier.{Before, Mark, still_open, has_ended, was_skipped, is_waiting, is_ended, is_skipped, Item, AllAfter, Sorted, outs_in, outs_left, ended_in, open_in, skipped_in}
 use Rattle.ap_paths.specs.Weights.{weigh, one_if, is_it}
-use Rattle.ap_paths.specs.Merging.{is_before, Ending, insert, ends_from, all_outs, merged}
+use Rattle.ap_paths.specs.Merging.{is_before, Ending, insert, ends_from, all_outs, found_before, merged}
+use Rattle.ap_paths.proofs.Histories.{legal_parts}
+use Rattle.ap_paths.proofs.Limiting.{found_both, part_full}
 
 pub before_left : (p q r : List ℕ) → Before p q → Before (p ++ r) q
 before_left [] q r h = absurd h
@@ -84,29 +89,30 @@ AllIn c (x ∷ xs) = InTree c x.0 × AllIn c xs
 
 abbrev pub kid_items : List ℕ → List ℕ → List Item
 kid_items p [] = []
-kid_items p (k ∷ ks) = (p ++ k ∷ [], false) ∷ kid_items p ks
+kid_items p (k ∷ ks) = (p ++ k ∷ [], still_open) ∷ kid_items p ks
 
 abbrev pub hits : List ℕ → Item → Bool
-hits p x = if x.1 then false else same_path p x.0
+hits p x = if is_waiting x.1 then same_path p x.0 else false
 
 abbrev pub grow : List ℕ → List ℕ → List Item → List Item
 grow p ks [] = []
 grow p ks (x ∷ xs) = if hits p x then kid_items p ks ++ xs else x ∷ grow p ks xs
 
-abbrev pub mark : List ℕ → List Item → List Item
-mark p [] = []
-mark p (x ∷ xs) = if hits p x then (x.0, true) ∷ xs else x ∷ mark p xs
+abbrev pub mark : Mark → List ℕ → List Item → List Item
+mark m p [] = []
+mark m p (x ∷ xs) = if hits p x then (x.0, m) ∷ xs else x ∷ mark m p xs
 
 abbrev pub undone : (List ℕ → ℕ) → List Item → ℕ
 undone h [] = 0
-undone h (x ∷ xs) = (if x.1 then 0 else h x.0) + undone h xs
+undone h (x ∷ xs) = (if is_waiting x.1 then h x.0 else 0) + undone h xs
 
-hit_is : (p : List ℕ) (x : Item) → hits p x ≡ true → (p ≡ x.0) × (x.1 ≡ false)
-hit_is p (q, true) e = absurd (true≢false (sym e))
-hit_is p (q, false) e = (path_same p q e, refl)
+hit_is : (p : List ℕ) (x : Item) → hits p x ≡ true → (p ≡ x.0) × (x.1 ≡ still_open)
+hit_is p (q, still_open) e = (path_same p q e, refl)
+hit_is p (q, has_ended) e = absurd (true≢false (sym e))
+hit_is p (q, was_skipped) e = absurd (true≢false (sym e))
 
 -- the item is one that is open at p, or not
-cases : (P : List Item → Type 0) (p : List ℕ) (x : Item) (hit miss : List Item) → ((p ≡ x.0) → (x.1 ≡ false) → P hit) → (hits p x ≡ false → P miss) → P (if hits p x then hit else miss)
+cases : (P : List Item → Type 0) (p : List ℕ) (x : Item) (hit miss : List Item) → ((p ≡ x.0) → (x.1 ≡ still_open) → P hit) → (hits p x ≡ false → P miss) → P (if hits p x then hit else miss)
 cases P p x hit miss yes_hit no_hit =
     let step : (b : Bool) → hits p x ≡ b → P (if b then hit else miss) = λ b.
     elim b as (λ b. hits p x ≡ b → P (if b then hit else miss)) [ true ↦ λ e. (let r = hit_is p x e in yes_hit r.0 r.1) | false ↦ λ e. no_hit e ] in
@@ -147,13 +153,13 @@ grow_sorted p i ks (x ∷ xs) a s =
     (λ e _. sorted_kids p i ks xs a (subst (λ q. AllAfter q xs) (sym e) s.0) s.1)
     (λ _. (grow_after x.0 p ks xs s.0, grow_sorted p i ks xs a s.1))
 
-mark_after : (r p : List ℕ) (xs : List Item) → AllAfter r xs → AllAfter r (mark p xs)
-mark_after r p [] h = tt
-mark_after r p (x ∷ xs) h = cases (AllAfter r) p x ((x.0, true) ∷ xs) (x ∷ mark p xs) (λ _ _. h) (λ _. (h.0, mark_after r p xs h.1))
+mark_after : (m : Mark) (r p : List ℕ) (xs : List Item) → AllAfter r xs → AllAfter r (mark m p xs)
+mark_after m r p [] h = tt
+mark_after m r p (x ∷ xs) h = cases (AllAfter r) p x ((x.0, m) ∷ xs) (x ∷ mark m p xs) (λ _ _. h) (λ _. (h.0, mark_after m r p xs h.1))
 
-mark_sorted : (p : List ℕ) (xs : List Item) → Sorted xs → Sorted (mark p xs)
-mark_sorted p [] s = tt
-mark_sorted p (x ∷ xs) s = cases Sorted p x ((x.0, true) ∷ xs) (x ∷ mark p xs) (λ _ _. s) (λ _. (mark_after x.0 p xs s.0, mark_sorted p xs s.1))
+mark_sorted : (m : Mark) (p : List ℕ) (xs : List Item) → Sorted xs → Sorted (mark m p xs)
+mark_sorted m p [] s = tt
+mark_sorted m p (x ∷ xs) s = cases Sorted p x ((x.0, m) ∷ xs) (x ∷ mark m p xs) (λ _ _. s) (λ _. (mark_after m x.0 p xs s.0, mark_sorted m p xs s.1))
 
 in_both : (c : Choices) (xs ys : List Item) → AllIn c xs → AllIn c ys → AllIn c (xs ++ ys)
 in_both c [] ys h g = g
@@ -163,9 +169,9 @@ grow_in : (c : Choices) (p ks : List ℕ) (xs : List Item) → AllIn c (kid_item
 grow_in c p ks [] kids h = tt
 grow_in c p ks (x ∷ xs) kids h = cases (AllIn c) p x (kid_items p ks ++ xs) (x ∷ grow p ks xs) (λ _ _. in_both c (kid_items p ks) xs kids h.1) (λ _. (h.0, grow_in c p ks xs kids h.1))
 
-mark_in : (c : Choices) (p : List ℕ) (xs : List Item) → AllIn c xs → AllIn c (mark p xs)
-mark_in c p [] h = tt
-mark_in c p (x ∷ xs) h = cases (AllIn c) p x ((x.0, true) ∷ xs) (x ∷ mark p xs) (λ _ _. h) (λ _. (h.0, mark_in c p xs h.1))
+mark_in : (c : Choices) (m : Mark) (p : List ℕ) (xs : List Item) → AllIn c xs → AllIn c (mark m p xs)
+mark_in c m p [] h = tt
+mark_in c m p (x ∷ xs) h = cases (AllIn c) p x ((x.0, m) ∷ xs) (x ∷ mark m p xs) (λ _ _. h) (λ _. (h.0, mark_in c m p xs h.1))
 
 outs_both : (at : Outputs) (xs ys : List Item) → outs_in at (xs ++ ys) ≡ outs_in at xs ++ outs_in at ys
 outs_both at [] ys = refl
@@ -178,9 +184,9 @@ grow_outs at p ks (x ∷ xs) e =
     (λ is _. outs_both at (kid_items p ks) xs ∙ ap (λ l. l ++ outs_in at xs) (sym e ∙ ap at is))
     (λ _. ap (λ l. at x.0 ++ l) (grow_outs at p ks xs e))
 
-mark_outs : (at : Outputs) (p : List ℕ) (xs : List Item) → outs_in at (mark p xs) ≡ outs_in at xs
-mark_outs at p [] = refl
-mark_outs at p (x ∷ xs) = cases (λ l. outs_in at l ≡ at x.0 ++ outs_in at xs) p x ((x.0, true) ∷ xs) (x ∷ mark p xs) (λ _ _. refl) (λ _. ap (λ l. at x.0 ++ l) (mark_outs at p xs))
+mark_outs : (at : Outputs) (m : Mark) (p : List ℕ) (xs : List Item) → outs_in at (mark m p xs) ≡ outs_in at xs
+mark_outs at m p [] = refl
+mark_outs at m p (x ∷ xs) = cases (λ l. outs_in at l ≡ at x.0 ++ outs_in at xs) p x ((x.0, m) ∷ xs) (x ∷ mark m p xs) (λ _ _. refl) (λ _. ap (λ l. at x.0 ++ l) (mark_outs at m p xs))
 
 doned_kids : (at : Outputs) (p ks : List ℕ) (xs : List Item) → ended_in at (kid_items p ks ++ xs) ≡ ended_in at xs
 doned_kids at p [] xs = refl
@@ -189,9 +195,17 @@ doned_kids at p (k ∷ ks) xs = doned_kids at p ks xs
 grow_doned : (at : Outputs) (p ks : List ℕ) (xs : List Item) → ended_in at (grow p ks xs) ≡ ended_in at xs
 grow_doned at p ks [] = refl
 grow_doned at p ks (x ∷ xs) =
-    cases (λ l. ended_in at l ≡ (if x.1 then (x.0, at x.0) ∷ ended_in at xs else ended_in at xs)) p x (kid_items p ks ++ xs) (x ∷ grow p ks xs)
-    (λ _ open_yet. doned_kids at p ks xs ∙ sym (ap (λ b. if b then (x.0, at x.0) ∷ ended_in at xs else ended_in at xs) open_yet))
-    (λ _. ap (λ l. if x.1 then (x.0, at x.0) ∷ l else l) (grow_doned at p ks xs))
+    cases (λ l. ended_in at l ≡ (if is_ended x.1 then (x.0, at x.0) ∷ ended_in at xs else ended_in at xs)) p x (kid_items p ks ++ xs) (x ∷ grow p ks xs)
+    (λ _ open_yet. doned_kids at p ks xs ∙ sym (ap (λ (k : Mark). if is_ended k then (x.0, at x.0) ∷ ended_in at xs else ended_in at xs) open_yet))
+    (λ _. ap (λ l. if is_ended x.1 then (x.0, at x.0) ∷ l else l) (grow_doned at p ks xs))
+
+-- leaving a path out ends nothing
+skip_doned : (at : Outputs) (p : List ℕ) (xs : List Item) → ended_in at (mark was_skipped p xs) ≡ ended_in at xs
+skip_doned at p [] = refl
+skip_doned at p (x ∷ xs) =
+    cases (λ l. ended_in at l ≡ (if is_ended x.1 then (x.0, at x.0) ∷ ended_in at xs else ended_in at xs)) p x ((x.0, was_skipped) ∷ xs) (x ∷ mark was_skipped p xs)
+    (λ _ open_yet. sym (ap (λ (k : Mark). if is_ended k then (x.0, at x.0) ∷ ended_in at xs else ended_in at xs) open_yet))
+    (λ _. ap (λ l. if is_ended x.1 then (x.0, at x.0) ∷ l else l) (skip_doned at p xs))
 
 pub same_itself : (p : List ℕ) → same_path p p ≡ true
 same_itself [] = refl
@@ -207,23 +221,27 @@ undone_both h (x ∷ xs) ys = omega (arith, undone_both h xs ys)
 
 -- where an item is no hit, an open p stands behind it
 has_later : (p : List ℕ) (x : Item) (xs : List Item) → hits p x ≡ false → Has p (x ∷ xs) → Has p xs
-has_later p (q, true) xs e h = omega arith
-has_later p (q, false) xs e h = let z = ap one_if e in omega arith
+has_later p (q, still_open) xs e h = let z = ap one_if e in omega arith
+has_later p (q, has_ended) xs e h = omega arith
+has_later p (q, was_skipped) xs e h = omega arith
 
 -- what is open after p went, and its kids came
 grow_undone : (h : List ℕ → ℕ) (p ks : List ℕ) (xs : List Item) → Has p xs → undone h (grow p ks xs) + h p ≡ undone h xs + undone h (kid_items p ks)
 grow_undone h p ks [] has = absurd (omega arith)
 grow_undone h p ks (x ∷ xs) has =
     cases (λ l. undone h l + h p ≡ undone h (x ∷ xs) + undone h (kid_items p ks)) p x (kid_items p ks ++ xs) (x ∷ grow p ks xs)
-    (λ e open_yet. (let a = undone_both h (kid_items p ks) xs in let b : (if x.1 then 0 else h x.0) ≡ h p = ap (λ b. if b then 0 else h x.0) open_yet ∙ ap h (sym e) in omega arith))
+    (λ e open_yet. (let a = undone_both h (kid_items p ks) xs in let b : (if is_waiting x.1 then h x.0 else 0) ≡ h p = ap (λ (k : Mark). if is_waiting k then h x.0 else 0) open_yet ∙ ap h (sym e) in omega arith))
     (λ miss. (let a = grow_undone h p ks xs (has_later p x xs miss has) in omega arith))
 
-mark_undone : (h : List ℕ → ℕ) (p : List ℕ) (xs : List Item) → Has p xs → undone h (mark p xs) + h p ≡ undone h xs
-mark_undone h p [] has = absurd (omega arith)
-mark_undone h p (x ∷ xs) has =
-    cases (λ l. undone h l + h p ≡ undone h (x ∷ xs)) p x ((x.0, true) ∷ xs) (x ∷ mark p xs)
-    (λ e open_yet. (let b : (if x.1 then 0 else h x.0) ≡ h p = ap (λ b. if b then 0 else h x.0) open_yet ∙ ap h (sym e) in omega arith))
-    (λ miss. (let a = mark_undone h p xs (has_later p x xs miss has) in omega arith))
+mark_undone : (m : Mark) (h : List ℕ → ℕ) (p : List ℕ) (xs : List Item) → is_waiting m ≡ false → Has p xs → undone h (mark m p xs) + h p ≡ undone h xs
+mark_undone m h p [] gone has = absurd (omega arith)
+mark_undone m h p (x ∷ xs) gone has =
+    cases (λ l. undone h l + h p ≡ undone h (x ∷ xs)) p x ((x.0, m) ∷ xs) (x ∷ mark m p xs)
+    (λ e open_yet.
+    (let b : (if is_waiting x.1 then h x.0 else 0) ≡ h p = ap (λ (k : Mark). if is_waiting k then h x.0 else 0) open_yet ∙ ap h (sym e) in
+    let d : (if is_waiting m then h x.0 else 0) ≡ 0 = ap (λ (b : Bool). if b then h x.0 else 0) gone in
+    omega arith))
+    (λ miss. (let a = mark_undone m h p xs gone (has_later p x xs miss has) in omega arith))
 
 -- an open p behind q comes after it
 before_it : (q p : List ℕ) (xs : List Item) → AllAfter q xs → Has p xs → Before q p
@@ -233,19 +251,22 @@ before_it q p (x ∷ xs) all has =
 
 insert_front : (at : Outputs) (p : List ℕ) (xs : List Item) → AllAfter p xs → insert p (at p) (ended_in at xs) ≡ (p, at p) ∷ ended_in at xs
 insert_front at p [] all = refl
-insert_front at p ((q, true) ∷ xs) all = rw (less_there p q all.0) refl
-insert_front at p ((q, false) ∷ xs) all = insert_front at p xs all.1
+insert_front at p ((q, still_open) ∷ xs) all = insert_front at p xs all.1
+insert_front at p ((q, has_ended) ∷ xs) all = rw (less_there p q all.0) refl
+insert_front at p ((q, was_skipped) ∷ xs) all = insert_front at p xs all.1
 
-miss_doned : (at : Outputs) (p : List ℕ) (x : Item) (xs : List Item) → ended_in at (mark p xs) ≡ insert p (at p) (ended_in at xs) → is_before p x.0 ≡ false → ended_in at (x ∷ mark p xs) ≡ insert p (at p) (ended_in at (x ∷ xs))
-miss_doned at p (q, true) xs r less = rw less (ap (λ l. (q, at q) ∷ l) r)
-miss_doned at p (q, false) xs r less = r
+miss_doned : (at : Outputs) (p : List ℕ) (x : Item) (xs : List Item) → ended_in at (mark has_ended p xs) ≡ insert p (at p) (ended_in at xs) → is_before p x.0 ≡ false
+    → ended_in at (x ∷ mark has_ended p xs) ≡ insert p (at p) (ended_in at (x ∷ xs))
+miss_doned at p (q, still_open) xs r less = r
+miss_doned at p (q, has_ended) xs r less = rw less (ap (λ l. (q, at q) ∷ l) r)
+miss_doned at p (q, was_skipped) xs r less = r
 
-mark_doned : (at : Outputs) (p : List ℕ) (xs : List Item) → Sorted xs → Has p xs → ended_in at (mark p xs) ≡ insert p (at p) (ended_in at xs)
+mark_doned : (at : Outputs) (p : List ℕ) (xs : List Item) → Sorted xs → Has p xs → ended_in at (mark has_ended p xs) ≡ insert p (at p) (ended_in at xs)
 mark_doned at p [] s has = absurd (omega arith)
 mark_doned at p (x ∷ xs) s has =
-    cases (λ l. ended_in at l ≡ insert p (at p) (ended_in at (x ∷ xs))) p x ((x.0, true) ∷ xs) (x ∷ mark p xs)
+    cases (λ l. ended_in at l ≡ insert p (at p) (ended_in at (x ∷ xs))) p x ((x.0, has_ended) ∷ xs) (x ∷ mark has_ended p xs)
     (λ e open_yet.
-    ap (λ q. (q, at q) ∷ ended_in at xs) (sym e) ∙ sym (insert_front at p xs (subst (λ q. AllAfter q xs) (sym e) s.0)) ∙ ap (insert p (at p)) (sym (ap (λ b. if b then (x.0, at x.0) ∷ ended_in at xs else ended_in at xs) open_yet)))
+    ap (λ q. (q, at q) ∷ ended_in at xs) (sym e) ∙ sym (insert_front at p xs (subst (λ q. AllAfter q xs) (sym e) s.0)) ∙ ap (insert p (at p)) (sym (ap (λ (k : Mark). if is_ended k then (x.0, at x.0) ∷ ended_in at xs else ended_in at xs) open_yet)))
     (λ miss. let later = has_later p x xs miss has in let r = mark_doned at p xs s.1 later in let less = less_not p x.0 (before_it x.0 p xs s.0 later) in miss_doned at p x xs r less)
 
 -- left out numbers
@@ -306,8 +327,9 @@ kids_in c p w i (k ∷ ks) there is one a m =
 
 pub weigh_open_in : (h : List ℕ → ℕ) (xs : List Item) → undone h xs ≡ weigh h (open_in xs)
 weigh_open_in h [] = refl
-weigh_open_in h ((q, true) ∷ xs) = omega (arith, weigh_open_in h xs)
-weigh_open_in h ((q, false) ∷ xs) = omega (arith, weigh_open_in h xs)
+weigh_open_in h ((q, still_open) ∷ xs) = omega (arith, weigh_open_in h xs)
+weigh_open_in h ((q, has_ended) ∷ xs) = omega (arith, weigh_open_in h xs)
+weigh_open_in h ((q, was_skipped) ∷ xs) = omega (arith, weigh_open_in h xs)
 
 pub weigh_both : (h : List ℕ → ℕ) (xs ys : List (List ℕ)) → weigh h (xs ++ ys) ≡ weigh h xs + weigh h ys
 weigh_both h [] ys = omega arith
@@ -328,11 +350,136 @@ weigh_without h p (q ∷ qs) e =
 pub weigh_open : (p : List ℕ) (ps : List (List ℕ)) → is_open p ps ≡ true → 0 < weigh (is_it p) ps
 weigh_open p ps e = let z = weigh_without (is_it p) p ps e in let s = ap one_if (same_itself p) in omega arith
 
--- where no item is open, all have ended
-pub all_doned : (at : Outputs) (xs : List Item) → undone (λ _. 1) xs ≡ 0 → all_outs (ended_in at xs) ≡ outs_in at xs
+-- where no item is open, all have ended or were left out
+pub all_doned : (at : Outputs) (xs : List Item) → undone (λ _. 1) xs ≡ 0 → all_outs (ended_in at xs) ≡ outs_left at xs
 all_doned at [] e = refl
-all_doned at ((q, true) ∷ xs) e = ap (λ l. at q ++ l) (all_doned at xs (omega arith))
-all_doned at ((q, false) ∷ xs) e = absurd (omega arith)
+all_doned at ((q, still_open) ∷ xs) e = absurd (omega arith)
+all_doned at ((q, has_ended) ∷ xs) e = ap (λ l. at q ++ l) (all_doned at xs (omega arith))
+all_doned at ((q, was_skipped) ∷ xs) e = all_doned at xs (omega arith)
+
+-- what was left out is as it was, but where a path is left out
+skipped_kids : (p ks : List ℕ) (xs : List Item) → skipped_in (kid_items p ks ++ xs) ≡ skipped_in xs
+skipped_kids p [] xs = refl
+skipped_kids p (k ∷ ks) xs = skipped_kids p ks xs
+
+pub skipped_grow : (p ks : List ℕ) (xs : List Item) → skipped_in (grow p ks xs) ≡ skipped_in xs
+skipped_grow p ks [] = refl
+skipped_grow p ks (x ∷ xs) =
+    cases (λ l. skipped_in l ≡ (if is_skipped x.1 then x.0 ∷ skipped_in xs else skipped_in xs)) p x (kid_items p ks ++ xs) (x ∷ grow p ks xs)
+    (λ _ open_yet. skipped_kids p ks xs ∙ sym (ap (λ (k : Mark). if is_skipped k then x.0 ∷ skipped_in xs else skipped_in xs) open_yet))
+    (λ _. ap (λ l. if is_skipped x.1 then x.0 ∷ l else l) (skipped_grow p ks xs))
+
+pub skipped_ended : (p : List ℕ) (xs : List Item) → skipped_in (mark has_ended p xs) ≡ skipped_in xs
+skipped_ended p [] = refl
+skipped_ended p (x ∷ xs) =
+    cases (λ l. skipped_in l ≡ (if is_skipped x.1 then x.0 ∷ skipped_in xs else skipped_in xs)) p x ((x.0, has_ended) ∷ xs) (x ∷ mark has_ended p xs)
+    (λ _ open_yet. sym (ap (λ (k : Mark). if is_skipped k then x.0 ∷ skipped_in xs else skipped_in xs) open_yet))
+    (λ _. ap (λ l. if is_skipped x.1 then x.0 ∷ l else l) (skipped_ended p xs))
+
+skipped_next : (h : List ℕ → ℕ) (n : ℕ) (x : Item) (xs ys : List Item) → weigh h (skipped_in ys) ≡ n + weigh h (skipped_in xs) → weigh h (skipped_in (x ∷ ys)) ≡ n + weigh h (skipped_in (x ∷ xs))
+skipped_next h n (q, still_open) xs ys e = e
+skipped_next h n (q, has_ended) xs ys e = e
+skipped_next h n (q, was_skipped) xs ys e = omega (arith, e)
+
+pub skipped_more : (h : List ℕ → ℕ) (p : List ℕ) (xs : List Item) → Has p xs → weigh h (skipped_in (mark was_skipped p xs)) ≡ h p + weigh h (skipped_in xs)
+skipped_more h p [] has = absurd (omega arith)
+skipped_more h p (x ∷ xs) has =
+    cases (λ l. weigh h (skipped_in l) ≡ h p + weigh h (skipped_in (x ∷ xs))) p x ((x.0, was_skipped) ∷ xs) (x ∷ mark was_skipped p xs)
+    (λ e open_yet. (let a = ap h e in let b = ap (λ (k : Mark). weigh h (if is_skipped k then x.0 ∷ skipped_in xs else skipped_in xs)) open_yet in omega arith))
+    (λ miss. skipped_next h (h p) x xs (mark was_skipped p xs) (skipped_more h p xs (has_later p x xs miss has)))
+
+-- what an item adds to the answers that have ended
+abbrev pub counts : Mark → ℕ → ℕ
+counts still_open n = 0
+counts has_ended n = n
+counts was_skipped n = 0
+
+-- where a path was left out, answers enough have ended before it
+abbrev pub MayLack : Limit → ℕ → Mark → Type 0
+MayLack l k still_open = Unit {0}
+MayLack l k has_ended = Unit {0}
+MayLack l k was_skipped = (n : ℕ) × (l ≡ limits.First n) × (n ≤ k)
+
+abbrev pub AreCovered : Limit → Outputs → ℕ → List Item → Type 0
+AreCovered l at k [] = Unit {0}
+AreCovered l at k (x ∷ xs) = MayLack l k x.1 × AreCovered l at (counts x.1 (found_in (at x.0)) + k) xs
+
+lack_more : (l : Limit) (m : Mark) (k j : ℕ) → k ≤ j → MayLack l k m → MayLack l j m
+lack_more l still_open k j le h = tt
+lack_more l has_ended k j le h = tt
+lack_more l was_skipped k j le h = (h.0, h.1, (let z = h.2 in omega arith))
+
+covered_more : (l : Limit) (at : Outputs) (k j : ℕ) (xs : List Item) → k ≤ j → AreCovered l at k xs → AreCovered l at j xs
+covered_more l at k j [] le h = tt
+covered_more l at k j (x ∷ xs) le h =
+    (lack_more l x.1 k j le h.0, covered_more l at (counts x.1 (found_in (at x.0)) + k) (counts x.1 (found_in (at x.0)) + j) xs (omega arith) h.1)
+
+covered_kids : (l : Limit) (at : Outputs) (k : ℕ) (p ks : List ℕ) (xs : List Item) → AreCovered l at k xs → AreCovered l at k (kid_items p ks ++ xs)
+covered_kids l at k p [] xs h = h
+covered_kids l at k p (i ∷ ks) xs h = (tt, covered_more l at k (0 + k) (kid_items p ks ++ xs) (omega arith) (covered_kids l at k p ks xs h))
+
+pub covered_grow : (l : Limit) (at : Outputs) (k : ℕ) (p ks : List ℕ) (xs : List Item) → AreCovered l at k xs → AreCovered l at k (grow p ks xs)
+covered_grow l at k p ks [] h = tt
+covered_grow l at k p ks (x ∷ xs) h =
+    cases (AreCovered l at k) p x (kid_items p ks ++ xs) (x ∷ grow p ks xs)
+    (λ _ open_yet.
+    covered_kids l at k p ks xs
+    (covered_more l at (counts x.1 (found_in (at x.0)) + k) k xs (let z : counts x.1 (found_in (at x.0)) ≡ 0 = ap (λ (m : Mark). counts m (found_in (at x.0))) open_yet in omega arith) h.1))
+    (λ _. (h.0, covered_grow l at (counts x.1 (found_in (at x.0)) + k) p ks xs h.1))
+
+pub covered_ended : (l : Limit) (at : Outputs) (k : ℕ) (p : List ℕ) (xs : List Item) → AreCovered l at k xs → AreCovered l at k (mark has_ended p xs)
+covered_ended l at k p [] h = tt
+covered_ended l at k p (x ∷ xs) h =
+    cases (AreCovered l at k) p x ((x.0, has_ended) ∷ xs) (x ∷ mark has_ended p xs)
+    (λ _ open_yet. (
+      tt,
+      covered_more l at (counts x.1 (found_in (at x.0)) + k) (found_in (at x.0) + k) xs (let z : counts x.1 (found_in (at x.0)) ≡ 0 = ap (λ (m : Mark). counts m (found_in (at x.0))) open_yet in omega arith) h.1,
+    ))
+    (λ _. (h.0, covered_ended l at (counts x.1 (found_in (at x.0)) + k) p xs h.1))
+
+-- nothing behind p counts before it
+none_before : (at : Outputs) (p : List ℕ) (xs : List Item) → AllAfter p xs → found_before p (ended_in at xs) ≡ 0
+none_before at p [] all = refl
+none_before at p ((q, still_open) ∷ xs) all = none_before at p xs all.1
+none_before at p ((q, has_ended) ∷ xs) all =
+    let z : (if is_before q p then found_in (at q) else 0) ≡ 0 = ap (λ (b : Bool). if b then found_in (at q) else 0) (less_not q p all.0) in omega (arith, none_before at p xs all.1)
+none_before at p ((q, was_skipped) ∷ xs) all = none_before at p xs all.1
+
+at_most : (b : Bool) (n m : ℕ) → (if b then n else 0) + m ≤ n + m
+at_most true n m = omega arith
+at_most false n m = omega arith
+
+before_next : (at : Outputs) (p : List ℕ) (x : Item) (xs : List Item) → found_before p (ended_in at (x ∷ xs)) ≤ counts x.1 (found_in (at x.0)) + found_before p (ended_in at xs)
+before_next at p (q, still_open) xs = omega arith
+before_next at p (q, has_ended) xs = at_most (is_before q p) (found_in (at q)) (found_before p (ended_in at xs))
+before_next at p (q, was_skipped) xs = omega arith
+
+covered_skipped : (l : Limit) (at : Outputs) (k : ℕ) (p : List ℕ) (n : ℕ) (xs : List Item) → l ≡ limits.First n → Sorted xs → Has p xs → n ≤ found_before p (ended_in at xs) + k → AreCovered l at k xs → AreCovered l at k (mark was_skipped p xs)
+covered_skipped l at k p n [] is s has le h = tt
+covered_skipped l at k p n (x ∷ xs) is s has le h =
+    let next = before_next at p x xs in
+    cases (AreCovered l at k) p x ((x.0, was_skipped) ∷ xs) (x ∷ mark was_skipped p xs)
+    (λ e open_yet.
+    (let z : counts x.1 (found_in (at x.0)) ≡ 0 = ap (λ (m : Mark). counts m (found_in (at x.0))) open_yet in
+    let none_yet = none_before at p xs (subst (λ q. AllAfter q xs) (sym e) s.0) in
+    ((n, is, omega arith), covered_more l at (counts x.1 (found_in (at x.0)) + k) (0 + k) xs (omega arith) h.1)))
+    (λ miss. (h.0, covered_skipped l at (counts x.1 (found_in (at x.0)) + k) p n xs is s.1 (has_later p x xs miss has) (omega arith) h.1))
+
+-- what is wanted is not below a path that was left out
+cut_left : (l : Limit) (at : Outputs) (k : ℕ) (front : List NominalOut) (xs : List Item) → k ≤ found_in front → AreCovered l at k xs → part l (front ++ outs_left at xs) ≡ part l (front ++ outs_in at xs)
+cut_left l at k front [] le h = refl
+cut_left l at k front ((q, still_open) ∷ xs) le h =
+    ap (part l) (sym (append_assoc front (at q) (outs_left at xs))) ∙ cut_left l at (0 + k) (front ++ at q) xs (omega (arith, found_both front (at q))) h.1 ∙ ap (part l) (append_assoc front (at q) (outs_in at xs))
+cut_left l at k front ((q, has_ended) ∷ xs) le h =
+    ap (part l) (sym (append_assoc front (at q) (outs_left at xs))) ∙ cut_left l at (found_in (at q) + k) (front ++ at q) xs (omega (arith, found_both front (at q))) h.1 ∙ ap (part l) (append_assoc front (at q) (outs_in at xs))
+cut_left l at k front ((q, was_skipped) ∷ xs) le h =
+    let n = h.0.0 in
+    let enough : n ≤ found_in front = (let z = h.0.2 in omega arith) in
+    part_full l n front (outs_left at xs) h.0.1 enough ∙ sym (part_full l n front (at q ++ outs_in at xs) h.0.1 enough)
+
+-- what is wanted of the outputs below all paths is below those that were not left out
+pub wanted_left : (l : Limit) (at : Outputs) (xs : List Item) → AreCovered l at 0 xs → part l (outs_left at xs) ≡ part l (outs_in at xs)
+wanted_left l at xs h = cut_left l at 0 [] xs (omega arith) h
 
 -- the frontier of a history so far
 pub record IsFrontier (c : Choices) (at : Outputs) (whole : List NominalOut) (ps : List (List ℕ)) (ends : List Ending) (xs : List Item) : Type 0 where
@@ -368,45 +515,73 @@ frontier_split c at whole ps qs ends xs p ks tree f open_yet kids moved =
     }
 
 pub frontier_done : (c : Choices) (at : Outputs) (whole : List NominalOut) (ps qs : List (List ℕ)) (ends : List Ending) (xs : List Item) (p : List ℕ) → IsFrontier c at whole ps ends xs → 0 < weigh (is_it p) ps
-    → ((h : List ℕ → ℕ) → weigh h qs + h p ≡ weigh h ps) → IsFrontier c at whole qs (insert p (at p) ends) (mark p xs)
+    → ((h : List ℕ → ℕ) → weigh h qs + h p ≡ weigh h ps) → IsFrontier c at whole qs (insert p (at p) ends) (mark has_ended p xs)
 frontier_done c at whole ps qs ends xs p f open_yet moved =
     let has : Has p xs = (let a = f.opens (is_it p) in omega arith) in
     record {
-      sorted = mark_sorted p xs f.sorted;
-      outs = mark_outs at p xs ∙ f.outs;
-      opens = λ h. (let g = mark_undone h p xs has in let a = f.opens h in let m = moved h in omega arith);
+      sorted = mark_sorted has_ended p xs f.sorted;
+      outs = mark_outs at has_ended p xs ∙ f.outs;
+      opens = λ h. (let g = mark_undone has_ended h p xs refl has in let a = f.opens h in let m = moved h in omega arith);
       ended = ap (insert p (at p)) f.ended ∙ sym (mark_doned at p xs f.sorted has);
-      inside = mark_in c p xs f.inside;
+      inside = mark_in c has_ended p xs f.inside;
     }
+
+pub frontier_skip : (c : Choices) (at : Outputs) (whole : List NominalOut) (ps qs : List (List ℕ)) (ends : List Ending) (xs : List Item) (p : List ℕ) → IsFrontier c at whole ps ends xs → 0 < weigh (is_it p) ps
+    → ((h : List ℕ → ℕ) → weigh h qs + h p ≡ weigh h ps) → IsFrontier c at whole qs ends (mark was_skipped p xs)
+frontier_skip c at whole ps qs ends xs p f open_yet moved =
+    let has : Has p xs = (let a = f.opens (is_it p) in omega arith) in
+    record {
+      sorted = mark_sorted was_skipped p xs f.sorted;
+      outs = mark_outs at was_skipped p xs ∙ f.outs;
+      opens = λ h. (let g = mark_undone was_skipped h p xs refl has in let a = f.opens h in let m = moved h in omega arith);
+      ended = f.ended ∙ sym (skip_doned at p xs);
+      inside = mark_in c was_skipped p xs f.inside;
+    }
+
+-- a path that is left out has answers enough before it
+pub skip_covered : (c : Choices) (at : Outputs) (l : Limit) (whole : List NominalOut) (ps : List (List ℕ)) (ends : List Ending) (xs : List Item) (p : List ℕ) (n : ℕ) → IsFrontier c at whole ps ends xs → 0 < weigh (is_it p) ps → l ≡ limits.First n
+    → n ≤ found_before p ends → AreCovered l at 0 xs → AreCovered l at 0 (mark was_skipped p xs)
+skip_covered c at l whole ps ends xs p n f open_yet is enough covered =
+    let has : Has p xs = (let a = f.opens (is_it p) in omega arith) in
+    covered_skipped l at 0 p n xs is f.sorted has (let z = ap (found_before p) f.ended in omega arith) covered
 
 pub frontier_moved : (c : Choices) (at : Outputs) (whole : List NominalOut) (ps qs : List (List ℕ)) (ends : List Ending) (xs : List Item) → IsFrontier c at whole ps ends xs → ((h : List ℕ → ℕ) → weigh h qs ≡ weigh h ps) → IsFrontier c at whole qs ends xs
 frontier_moved c at whole ps qs ends xs f moved = record { sorted = f.sorted; outs = f.outs; opens = λ h. f.opens h ∙ sym (moved h); ended = f.ended; inside = f.inside }
 
-merges : (c : Choices) (at : Outputs) (whole : List NominalOut) (ps : List (List ℕ)) (b : Bool) (ends : List Ending) (xs : List Item) (es : List TreeEntry) → IsTree c at → IsFrontier c at whole ps ends xs → legal_from ps b es ≡ true → AreTrue c at es → open_from ps es ≡ [] → all_outs (ends_from ends es) ≡ whole
-merges c at whole ps b ends xs [] tree f legal true_of closed =
+merges : (c : Choices) (at : Outputs) (l : Limit) (whole : List NominalOut) (ps : List (List ℕ)) (b : Bool) (ends : List Ending) (xs : List Item) (es : List TreeEntry) → IsTree c at → IsFrontier c at whole ps ends xs → AreCovered l at 0 xs → legal_from ps b es ≡ true
+    → are_reached ends es ≡ true → AreTrue c at es → AreWithin l es → open_from ps es ≡ [] → part l (all_outs (ends_from ends es)) ≡ part l whole
+merges c at l whole ps b ends xs [] tree f covered legal reached true_of within closed =
     let none_open : undone (λ _. 1) xs ≡ 0 = f.opens (λ _. 1) ∙ ap (weigh (λ _. 1)) closed in
-    ap all_outs f.ended ∙ all_doned at xs none_open ∙ f.outs
-merges c at whole ps b ends xs (split s p ks ∷ es) tree f legal true_of closed =
-    let l = both_true (is_open p ps) (legal_from (without p ps ++ kids_of p ks) (b || false) es) legal in
-    let g = frontier_split c at whole ps (without p ps ++ kids_of p ks) ends xs p ks tree f (weigh_open p ps l.0) true_of.0 (weigh_split p ks ps l.0) in
-    merges c at whole (without p ps ++ kids_of p ks) (b || false) ends (grow p ks xs) es tree g l.1 true_of.1 closed
-merges c at whole ps b ends xs (done s p os ∷ es) tree f legal true_of closed =
-    let l = both_true (is_open p ps) (legal_from (without p ps) (b || false) es) legal in
-    let g = frontier_done c at whole ps (without p ps) ends xs p f (weigh_open p ps l.0) (λ h. weigh_without h p ps l.0) in
-    let g' = subst (λ (o : List NominalOut). IsFrontier c at whole (without p ps) (insert p o ends) (mark p xs)) (sym true_of.0) g in
-    merges c at whole (without p ps) (b || false) (insert p os ends) (mark p xs) es tree g' l.1 true_of.1 closed
-merges c at whole ps b ends xs (stop s ∷ es) tree f legal true_of closed =
-    let l = both_true (not b) (legal_from ps (b || true) es) legal in
-    merges c at whole ps (b || true) ends xs es tree f l.1 true_of.1 closed
+    ap (λ (e : List Ending). part l (all_outs e)) f.ended ∙ ap (part l) (all_doned at xs none_open) ∙ wanted_left l at xs covered ∙ ap (part l) f.outs
+merges c at l whole ps b ends xs (split s p ks ∷ es) tree f covered legal reached true_of within closed =
+    let o = both_true (is_open p ps) (legal_from (without p ps ++ kids_of p ks) (b || false) es) legal in
+    let g = frontier_split c at whole ps (without p ps ++ kids_of p ks) ends xs p ks tree f (weigh_open p ps o.0) true_of.0 (weigh_split p ks ps o.0) in
+    merges c at l whole (without p ps ++ kids_of p ks) (b || false) ends (grow p ks xs) es tree g (covered_grow l at 0 p ks xs covered) o.1 reached true_of.1 within.1 closed
+merges c at l whole ps b ends xs (done s p os ∷ es) tree f covered legal reached true_of within closed =
+    let o = both_true (is_open p ps) (legal_from (without p ps) (b || false) es) legal in
+    let g = frontier_done c at whole ps (without p ps) ends xs p f (weigh_open p ps o.0) (λ h. weigh_without h p ps o.0) in
+    let g' = subst (λ (o : List NominalOut). IsFrontier c at whole (without p ps) (insert p o ends) (mark has_ended p xs)) (sym true_of.0) g in
+    merges c at l whole (without p ps) (b || false) (insert p os ends) (mark has_ended p xs) es tree g' (covered_ended l at 0 p xs covered) o.1 reached true_of.1 within.1 closed
+merges c at l whole ps b ends xs (skip s p n ∷ es) tree f covered legal reached true_of within closed =
+    let o = both_true (is_open p ps) (legal_from (without p ps) (b || false) es) legal in
+    let e = both_true (nat_le n (found_before p ends)) (are_reached ends es) reached in
+    let enough = leb-true n (found_before p ends) e.0 in
+    let g = frontier_skip c at whole ps (without p ps) ends xs p f (weigh_open p ps o.0) (λ h. weigh_without h p ps o.0) in
+    let k = skip_covered c at l whole ps ends xs p n f (weigh_open p ps o.0) within.0 enough covered in
+    merges c at l whole (without p ps) (b || false) ends (mark was_skipped p xs) es tree g k o.1 e.1 true_of.1 within.1 closed
+merges c at l whole ps b ends xs (stop s ∷ es) tree f covered legal reached true_of within closed =
+    let o = both_true (not b) (legal_from ps (b || true) es) legal in
+    merges c at l whole ps (b || true) ends xs es tree f covered o.1 reached true_of.1 within.1 closed
 
--- the merged outputs of a legal and true history with nothing open are those below the empty path
-pub merged_whole : (c : Choices) (at : Outputs) (history : List TreeEntry) → IsTree c at → is_legal history ≡ true → AreTrue c at history → open_of history ≡ [] → merged history ≡ at []
-merged_whole c at history tree legal true_of closed =
-    merges c at (at []) ([] ∷ []) false [] (([], false) ∷ []) history tree
+-- the merged outputs of a legal and true history with nothing open are those below the empty path, as far as they are wanted
+pub merged_whole : (c : Choices) (at : Outputs) (l : Limit) (history : List TreeEntry) → IsTree c at → is_legal history ≡ true → AreTrue c at history → AreWithin l history → open_of history ≡ [] → part l (merged history) ≡ part l (at [])
+merged_whole c at l history tree legal true_of within closed =
+    let parts = legal_parts history legal in
+    merges c at l (at []) ([] ∷ []) false [] (([], still_open) ∷ []) history tree
     record {
       sorted = (tt, tt);
       outs = append-nil (at []);
       opens = λ h. refl;
       ended = refl;
       inside = (tt, tt);
-    } legal true_of closed
+    } (tt, tt) parts.0 parts.1 true_of within closed

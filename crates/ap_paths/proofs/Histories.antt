@@ -1,7 +1,8 @@
 -- A history that is one entry longer.
 use Rattle.std.proofs.Common.{◌≡◌, ℕ, Bool, true, false, ◌&&◌, ◌||◌, List, [], ◌∷◌, ◌++◌, refl, sym, ap, ◌∙◌, true≢false}
 use Rattle.ap_paths.specs.Entries.{TreeEntry}
-use Rattle.ap_paths.specs.History.{open_after, open_from, open_of, is_stop, has_stop, may_enter, legal_from, is_legal}
+use Rattle.ap_paths.specs.Merging.{Ending, ends_after, ends_from}
+use Rattle.ap_paths.specs.History.{open_after, open_from, open_of, is_stop, has_stop, may_enter, legal_from, is_reached, are_reached, is_legal}
 
 or-false : (b : Bool) → b || false ≡ b
 or-false true = refl
@@ -34,17 +35,27 @@ legal_from-last ps b (x ∷ xs) e h may =
     let later = legal_from-last (open_after ps x) (b || is_stop x) xs e parts.1 (rw (sym same) may) in
     rw (parts.0, later) refl
 
-pub is_legal-last : (es : List TreeEntry) (e : TreeEntry) → is_legal es ≡ true → may_enter (open_of es) (has_stop es) e ≡ true → is_legal (es ++ e ∷ []) ≡ true
-is_legal-last es e h may = legal_from-last ([] ∷ []) false es e h may
+pub ends_from-last : (ends : List Ending) (es : List TreeEntry) (e : TreeEntry) → ends_from ends (es ++ e ∷ []) ≡ ends_after (ends_from ends es) e
+ends_from-last ends [] e = refl
+ends_from-last ends (x ∷ xs) e = ends_from-last (ends_after ends x) xs e
 
--- what a book owes after an entry
-pub entered : (old new : List TreeEntry) (e : TreeEntry) (ps : List (List ℕ)) (b : Bool) → new ≡ old ++ e ∷ [] → ps ≡ open_after (open_of old) e → b ≡ has_stop old || is_stop e → is_legal old ≡ true → may_enter (open_of old) (has_stop old) e ≡ true
-    → (ps ≡ open_of new) × (b ≡ has_stop new) × (is_legal new ≡ true)
-entered old new e ps b is opens stops legal may = (
-  opens ∙ sym (open_of-last old e) ∙ ap open_of (sym is),
-  stops ∙ sym (has_stop-last old e) ∙ ap has_stop (sym is),
-  ap is_legal is ∙ is_legal-last old e legal may,
-)
+are_reached-last : (ends : List Ending) (es : List TreeEntry) (e : TreeEntry) → are_reached ends es ≡ true → is_reached (ends_from ends es) e ≡ true → are_reached ends (es ++ e ∷ []) ≡ true
+are_reached-last ends [] e h reached = rw reached refl
+are_reached-last ends (x ∷ xs) e h reached =
+    let parts = both_true (is_reached ends x) (are_reached (ends_after ends x) xs) h in
+    let later = are_reached-last (ends_after ends x) xs e parts.1 reached in
+    rw (parts.0, later) refl
+
+-- each path of a legal history was open, and before each that was left out so many answers had ended
+pub legal_parts : (es : List TreeEntry) → is_legal es ≡ true → (legal_from ([] ∷ []) false es ≡ true) × (are_reached [] es ≡ true)
+legal_parts es h = both_true (legal_from ([] ∷ []) false es) (are_reached [] es) h
+
+pub is_legal-last : (es : List TreeEntry) (e : TreeEntry) → is_legal es ≡ true → may_enter (open_of es) (has_stop es) e ≡ true → is_reached (ends_from [] es) e ≡ true → is_legal (es ++ e ∷ []) ≡ true
+is_legal-last es e h may reached =
+    let parts = legal_parts es h in
+    let opened = legal_from-last ([] ∷ []) false es e parts.0 may in
+    let enough = are_reached-last [] es e parts.1 reached in
+    rw (opened, enough) refl
 
 pub or_false : (b : Bool) → b ≡ b || false
 or_false true = refl

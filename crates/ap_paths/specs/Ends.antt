@@ -1,5 +1,8 @@
 -- The map in which ends are put in order: a key is a path and a number, which tells apart ends of one path.
 use Rattle.std.specs.Prelude.{ℕ, ◌<◌, List, [], ◌∷◌, Vec}
+use Rattle.ap_defs.specs.declared.paths.Out.{Out}
+use Rattle.ap_defs.specs.Answers.{outs_of}
+use Rattle.ap_paths.specs.Merging.{Ending}
 
 -- the paths and what stands beside them
 abbrev pub ends_in : {Z X : Type 0} → List ((Vec ℕ Z × ℕ) × X) → List (List ℕ × X)
@@ -10,3 +13,8 @@ ends_in (e ∷ es) = (e.0.0.items, e.1) ∷ ends_in es
 abbrev pub AreBelow : {Z X : Type 0} → ℕ → List ((Vec ℕ Z × ℕ) × X) → Type 0
 AreBelow n [] = Unit {0}
 AreBelow n (e ∷ es) = (e.0.1 < n) × AreBelow n es
+
+-- ends, with their outputs without where they lie in memory
+abbrev pub ends_of : List (List ℕ × List Out) → List Ending
+ends_of [] = []
+ends_of (e ∷ es) = (e.0, outs_of e.1) ∷ ends_of es

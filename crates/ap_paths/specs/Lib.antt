@@ -1,4 +1,5 @@
 pub mod Entries
+pub mod Limits
 pub mod History
 pub mod Trees
 pub mod Weights

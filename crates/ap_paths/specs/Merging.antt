@@ -1,9 +1,10 @@
 -- The outputs of the ends of a history, in path order.
-use Rattle.std.specs.Prelude.{ℕ, Bool, if◌then◌else◌, List, [], ◌∷◌, ◌++◌}
+use Rattle.std.specs.Prelude.{ℕ, ◌+◌, Bool, if◌then◌else◌, List, [], ◌∷◌, ◌++◌}
 use Rattle.std.specs.Ordering.{is_lt, nat_cmp}
 use Rattle.std.specs.Cmp.Lexicographic.{slice_cmp}
 use Rattle.ap_defs.specs.Answers.{NominalOut}
-use Rattle.ap_paths.specs.Entries.{TreeEntry, split, done, stop}
+use Rattle.ap_paths.specs.Entries.{TreeEntry, split, done, skip, stop}
+use Rattle.ap_paths.specs.Limits.{found_in}
 
 -- the order of paths: that of lists of numbers, where a beginning comes first
 abbrev pub is_before : List ℕ → List ℕ → Bool
@@ -18,12 +19,22 @@ abbrev pub insert : {X : Type 0} → List ℕ → X → List (List ℕ × X) →
 insert p os [] = (p, os) ∷ []
 insert p os (e ∷ es) = if is_before p e.0 then (p, os) ∷ e ∷ es else e ∷ insert p os es
 
+-- the ends after an entry
+abbrev pub ends_after : List Ending → TreeEntry → List Ending
+ends_after ends (split seat p ks) = ends
+ends_after ends (done seat p os) = insert p os ends
+ends_after ends (skip seat p n) = ends
+ends_after ends (stop seat) = ends
+
 -- the ends of a history, in path order, beside those that stand there
 abbrev pub ends_from : List Ending → List TreeEntry → List Ending
 ends_from ends [] = ends
-ends_from ends (split seat p ks ∷ es) = ends_from ends es
-ends_from ends (done seat p os ∷ es) = ends_from (insert p os ends) es
-ends_from ends (stop seat ∷ es) = ends_from ends es
+ends_from ends (e ∷ es) = ends_from (ends_after ends e) es
+
+-- how many answers have ended with paths before p
+abbrev pub found_before : List ℕ → List Ending → ℕ
+found_before p [] = 0
+found_before p (e ∷ es) = (if is_before e.0 p then found_in e.1 else 0) + found_before p es
 
 abbrev pub all_outs : List Ending → List NominalOut
 all_outs [] = []

@@ -2,7 +2,7 @@
 use Rattle.std.specs.Prelude.{◌≡◌, ℕ, zero, suc, ◌+◌, ◌≤◌, ◌==◌, if◌then◌else◌, Option, Some, None, List, [], ◌∷◌, ◌++◌}
 use Rattle.ap_defs.specs.Answers.{NominalOut}
 use Rattle.ap_paths.specs.Entries as entries
-use Rattle.ap_paths.specs.Entries.{TreeEntry, split, done, stop, Plan}
+use Rattle.ap_paths.specs.Entries.{TreeEntry, split, done, skip, stop, Plan}
 
 -- how many choices a path has, or none where it ends without one
 abbrev pub Choices : Type 0
@@ -62,6 +62,7 @@ IsPlan c at p (entries.outs os) = os ≡ at p
 abbrev pub IsTrueOf : Choices → Outputs → TreeEntry → Type 0
 IsTrueOf c at (split seat p ks) = AreKids c at p ks
 IsTrueOf c at (done seat p os) = os ≡ at p
+IsTrueOf c at (skip seat p n) = Unit {0}
 IsTrueOf c at (stop seat) = Unit {0}
 
 abbrev pub AreTrue : Choices → Outputs → List TreeEntry → Type 0
@@ -72,4 +73,5 @@ AreTrue c at (e ∷ es) = IsTrueOf c at e × AreTrue c at es
 abbrev pub FollowsPlan : (List ℕ → Plan) → TreeEntry → Type 0
 FollowsPlan plan (split seat p ks) = plan p ≡ entries.kids ks
 FollowsPlan plan (done seat p os) = plan p ≡ entries.outs os
+FollowsPlan plan (skip seat p n) = Unit {0}
 FollowsPlan plan (stop seat) = Unit {0}

@@ -1,8 +1,10 @@
 //! What has ended in a search, by path.
 
-ghost use Rattle.std.specs.Prelude.{◌≡◌, [], IfOk, OnOk, OnErr};
-ghost use Rattle.ap_paths.specs.Merging.{insert};
+ghost use Rattle.std.specs.Prelude.{◌≡◌, ◌-◌, ◌^◌, min, [], IfOk, OnOk, OnErr};
+ghost use Rattle.ap_paths.specs.Ends.{ends_of};
+ghost use Rattle.ap_paths.specs.Merging.{insert, found_before};
 
+use crate::limits::answers_in;
 use ap_defs::lists::List;
 use ap_defs::memory::Memory;
 use ap_defs::paths::{Out, Path};
@@ -56,6 +58,20 @@ impl Endings {
         let number = self.ends.len();
         self.ends.insert((choices, number), outs)?;
         Ok(())
+    }
+
+    /// How many answers have ended with paths before this one, or the greatest count where there are
+    /// more.
+    pub fn answers_before(&self, path: &Path) -> u64
+        ensures { result ≡ min (found_before path.now (ends_of self.now)) (2 ^ 64 - 1) }
+    {
+        let mut count: u64 = 0;
+        for (key, outs) in self.ends.iter() {
+            if key.0.as_slice().cmp(path.choices()).is_lt() {
+                count = count.saturating_add(answers_in(outs.items()));
+            }
+        }
+        count
     }
 
     /// The paths that have ended and their outputs, in path order. The outputs are moved.

@@ -1,17 +1,21 @@
 -- One worker alone: its entries are in order.
 use Rattle.std.proofs.Common.{◌≡◌, ℕ, zero, suc, ◌+◌, ◌<◌, Bool, true, false, ◌||◌, eqb, if◌then◌else◌, Result, Ok, Err, IfOk, List, [], ◌∷◌, ◌++◌, length, sym, refl, ap, ◌∙◌, subst, eq-eqb, true≢false, append-nil, arith}
-use Rattle.ap_defs.specs.declared.paths.Entry.{Entry}
-use Rattle.ap_defs.specs.declared.paths.Entry.TheVariants.{Split, Done}
+use Rattle.ap_paths.specs.declared.entries.Entry.{Entry}
+use Rattle.ap_paths.specs.declared.entries.Entry.TheVariants.{Split, Done, Skip}
 use Rattle.ap_defs.specs.declared.paths.Out.{Out}
 use Rattle.ap_defs.specs.Answers.{NominalOut, outs_of}
-use Rattle.ap_paths.specs.Entries.{TreeEntry, split, done, stop, entry_of, entries_of}
+use Rattle.ap_paths.specs.Entries.{TreeEntry, split, done, skip, stop, entry_of, entries_of}
 use Rattle.ap_paths.specs.History.{is_legal, kids_of, has_stop, is_open, open_of, open_from, without, same_path}
 use Rattle.ap_paths.specs.Weights.{weigh, is_it, one_if}
 use Rattle.ap_paths.proofs.Frontiers.{same_itself, weigh_both, weigh_without}
 use Rattle.ap_book.specs.declared.error.BookError.{BookError}
 use Rattle.ap_book.specs.declared.error.BookError.TheVariants.{NotOpen}
 use Rattle.ap_book.specs.declared.error.DoneError.{DoneError}
-use Rattle.ap_book.specs.Answers.{Refuses, Enters, EntersDone}
+use Rattle.ap_book.specs.declared.error.SkipError.{SkipError}
+use Rattle.ap_book.specs.declared.error.SkipError.TheVariants as refused
+use Rattle.ap_book.specs.Answers.{Refuses, RefusesSkip, Enters, EntersDone, Skips}
+use Rattle.ap_paths.specs.declared.limits.Limit.{Limit}
+use Rattle.ap_paths.proofs.Histories.{legal_parts}
 use Rattle.ap_core.specs.Traces.{AreSeats, IsInOrder, Leads}
 use Rattle.ap_lock.specs.Turns.{AreBy, maker_of, places_from, places_of}
 use Rattle.ap_lock.specs.Seats.{SeatView, IsTurn, AreLogged, AreMadeBy, logs_of}
@@ -21,8 +25,8 @@ use Rattle.ap_steal.proofs.Own.{same_front}
 use Rattle.ap_steal.specs.Planned.{Plans, ArePlanned}
 use Rattle.ap_steal.proofs.Whole.{entries_of-append, has_stop-append, either_false, AllEnded, nothing_open, are_seats, planned_true}
 use Rattle.atomic_table.specs.Seated.{TableId}
-use Rattle.ap_defs.specs.declared.paths.Closed.{Closed}
-use Rattle.ap_defs.specs.declared.paths.Event.{Event}
+use Rattle.ap_paths.specs.declared.entries.Closed.{Closed}
+use Rattle.ap_core.specs.declared.events.Event.{Event}
 use Rattle.ap_paths.specs.Trees.{Choices, Outputs, InTree, IsPlan, AreTrue}
 use Rattle.ap_core.specs.States.{State, start}
 use Rattle.ap_core.proofs.Permitted.{is_permitted}
@@ -36,6 +40,7 @@ runs_split ps [] p rest s ks r = subst (λ (qs : List (List ℕ)). Runs qs (spli
 runs_split [] (e ∷ es) p rest s ks r = absurd r
 runs_split (q ∷ ps) (split s' q' ks' ∷ es) p rest s ks r = (r.0, runs_split (kids_of q ks' ++ ps) es p rest s ks r.1)
 runs_split (q ∷ ps) (done s' q' os ∷ es) p rest s ks r = (r.0, runs_split ps es p rest s ks r.1)
+runs_split (q ∷ ps) (skip s' q' n' ∷ es) p rest s ks r = (r.0, runs_split ps es p rest s ks r.1)
 runs_split (q ∷ ps) (stop s' ∷ es) p rest s ks r = absurd r
 
 pub runs_done : (ps : List (List ℕ)) (es : List TreeEntry) (p : List ℕ) (rest : List (List ℕ)) (s : ℕ) (os : List NominalOut) → Runs ps es (p ∷ rest) → Runs ps (es ++ done s p os ∷ []) rest
@@ -43,13 +48,23 @@ runs_done ps [] p rest s os r = subst (λ (qs : List (List ℕ)). Runs qs (done 
 runs_done [] (e ∷ es) p rest s os r = absurd r
 runs_done (q ∷ ps) (split s' q' ks' ∷ es) p rest s os r = (r.0, runs_done (kids_of q ks' ++ ps) es p rest s os r.1)
 runs_done (q ∷ ps) (done s' q' os' ∷ es) p rest s os r = (r.0, runs_done ps es p rest s os r.1)
+runs_done (q ∷ ps) (skip s' q' n' ∷ es) p rest s os r = (r.0, runs_done ps es p rest s os r.1)
 runs_done (q ∷ ps) (stop s' ∷ es) p rest s os r = absurd r
+
+pub runs_skip : (ps : List (List ℕ)) (es : List TreeEntry) (p : List ℕ) (rest : List (List ℕ)) (s n : ℕ) → Runs ps es (p ∷ rest) → Runs ps (es ++ skip s p n ∷ []) rest
+runs_skip ps [] p rest s n r = subst (λ (qs : List (List ℕ)). Runs qs (skip s p n ∷ []) rest) r (refl, refl)
+runs_skip [] (e ∷ es) p rest s n r = absurd r
+runs_skip (q ∷ ps) (split s' q' ks' ∷ es) p rest s n r = (r.0, runs_skip (kids_of q ks' ++ ps) es p rest s n r.1)
+runs_skip (q ∷ ps) (done s' q' os' ∷ es) p rest s n r = (r.0, runs_skip ps es p rest s n r.1)
+runs_skip (q ∷ ps) (skip s' q' n' ∷ es) p rest s n r = (r.0, runs_skip ps es p rest s n r.1)
+runs_skip (q ∷ ps) (stop s' ∷ es) p rest s n r = absurd r
 
 pub runs_in_order : (ps : List (List ℕ)) (es : List TreeEntry) (qs : List (List ℕ)) → Runs ps es qs → IsInOrder ps es
 runs_in_order ps [] qs r = tt
 runs_in_order [] (e ∷ es) qs r = absurd r
 runs_in_order (p ∷ ps) (split s q ks ∷ es) qs r = (r.0, runs_in_order (kids_of p ks ++ ps) es qs r.1)
 runs_in_order (p ∷ ps) (done s q os ∷ es) qs r = (r.0, runs_in_order ps es qs r.1)
+runs_in_order (p ∷ ps) (skip s q n ∷ es) qs r = (r.0, runs_in_order ps es qs r.1)
 runs_in_order (p ∷ ps) (stop s ∷ es) qs r = absurd r
 
 -- a path that weighs something is open
@@ -82,6 +97,14 @@ runs_open (p ∷ ps) os (split s q ks ∷ es) qs r same h =
     omega arith in
     runs_open (kids_of p ks ++ ps) (without q os ++ kids_of q ks) es qs r.1 step h
 runs_open (p ∷ ps) os (done s q ends ∷ es) qs r same h =
+    let there = subst (λ (x : List ℕ). is_open x os ≡ true) (sym r.0) (first_open p ps os same) in
+    let step : (g : List ℕ → ℕ) → weigh g ps ≡ weigh g (without q os) = λ g.
+    let c = weigh_without g q os there in
+    let d = same g in
+    let e : g q ≡ g p = ap g r.0 in
+    omega arith in
+    runs_open ps (without q os) es qs r.1 step h
+runs_open (p ∷ ps) os (skip s q n ∷ es) qs r same h =
     let there = subst (λ (x : List ℕ). is_open x os ≡ true) (sym r.0) (first_open p ps os same) in
     let step : (g : List ℕ → ℕ) → weigh g ps ≡ weigh g (without q os) = λ g.
     let c = weigh_without g q os there in
@@ -149,6 +172,11 @@ pub sole_done : {X : Type 0} (old : SeatView) (n : ℕ) (turn after : List Entry
 sole_done old n turn after p os hand x same is enters sole =
     sole_entered old n turn after (Done old.number p os) (p ∷ hand) hand same is enters.1 (λ r. runs_done ([] ∷ []) (entries_of turn) p hand old.number (outs_of os) r) sole
 
+pub sole_skipped : {X : Type 0} (old : SeatView) (n : ℕ) (turn after : List Entry) (p : List ℕ) (l : Limit) (hand : List (List ℕ)) (x : X) → n ≡ old.number → IsTurn old turn → Skips turn p l old.number (Ok x) after
+    → IsSole (p ∷ hand) old.number old.seen → IsSole hand n after
+sole_skipped old n turn after p l hand x same is skips sole =
+    sole_entered old n turn after (Skip old.number p skips.1.0) (p ∷ hand) hand same is skips.1.2 (λ r. runs_skip ([] ∷ []) (entries_of turn) p hand old.number skips.1.0 r) sole
+
 pub sole_refused : (old : SeatView) (n : ℕ) (turn after : List Entry) (p : List ℕ) (rest hand : List (List ℕ)) → n ≡ old.number → IsTurn old turn → (is_open p (open_of (entries_of turn)) ≡ false) × (after ≡ turn) → IsSole (p ∷ rest) old.number old.seen → IsSole hand n after
 sole_refused old n turn after p rest hand same is refused sole = sole_not_open old n turn after p rest hand same is refused.1 refused.0 sole
 
@@ -162,6 +190,18 @@ pub sole_not_done : {X : Type 0} (old : SeatView) (n : ℕ) (turn after : List E
 sole_not_done {X} old n turn after p os e rest r d not cause same is enters sole =
     let f = subst (λ (x : Result X DoneError). EntersDone turn p os e x after) not enters in
     sole_refused old n turn after p rest rest same is (subst (Refuses turn p) cause f.0, f.2) sole
+
+pub sole_not_skipped : {X : Type 0} (old : SeatView) (n : ℕ) (turn after : List Entry) (p : List ℕ) (l : Limit) (rest : List (List ℕ)) (r : Result X SkipError) → r ≡ Err refused.NotOpen → n ≡ old.number → IsTurn old turn → Skips turn p l old.number r after
+    → IsSole (p ∷ rest) old.number old.seen → IsSole rest n after
+sole_not_skipped {X} old n turn after p l rest r not same is skips sole =
+    sole_refused old n turn after p rest rest same is (subst (λ (x : Result X SkipError). Skips turn p l old.number x after) not skips) sole
+
+-- the path is still to be visited
+pub sole_needed : {X : Type 0} (old : SeatView) (n : ℕ) (turn after : List Entry) (p : List ℕ) (l : Limit) (hand : List (List ℕ)) (r : Result X SkipError) (k : ℕ) → r ≡ Err (refused.Needed k) → n ≡ old.number → IsTurn old turn → Skips turn p l old.number r after
+    → IsSole hand old.number old.seen → IsSole hand n after
+sole_needed {X} old n turn after p l hand r k needed same is skips sole =
+    let s = subst (λ (x : Result X SkipError). Skips turn p l old.number x after) needed skips in
+    subst (λ (h : List Entry). IsSole hand n h) (sym s.1) (sole_seen old n turn hand same is sole)
 
 pub if_ok_map : {X E : Type 0} (P Q : Type 0) (r : Result X E) → IfOk r (λ _. P) → (P → Q) → IfOk r (λ _. Q)
 if_ok_map P Q (Ok x) h f = f h
@@ -187,11 +227,11 @@ seats_by [] h = tt
 seats_by (e ∷ es) h = (less_zero (maker_of e) h.0, seats_by es h.1)
 
 -- the whole history is in order where one worker made it
-pub ordered_whole : (c : Choices) (plan : Plans) (book : TableId) (count : ℕ) (ss : List SeatView) (s : SeatView) (H : List Entry) → AllEnded c plan book ss → AreLogged H ss → AreMadeBy count ss H → is_legal (entries_of H) ≡ true → has_stop (entries_of H) ≡ false
+pub ordered_whole : (c : Choices) (plan : Plans) (l : Limit) (book : TableId) (count : ℕ) (ss : List SeatView) (s : SeatView) (H : List Entry) → AllEnded c plan l book ss → AreLogged H ss → AreMadeBy count ss H → is_legal (entries_of H) ≡ true → has_stop (entries_of H) ≡ false
     → ss ≡ s ∷ [] → s.number ≡ 0 → count ≡ 1 → IsOrdered s.number s.seen → IsInOrder ([] ∷ []) (entries_of H)
-ordered_whole c plan book count ss s H all logged made legal quiet is zeroth one ordered =
-    let a = subst (λ (l : List SeatView). AllEnded c plan book l) is all in
-    let k = subst (λ (l : List SeatView). AreLogged H l) is logged in
+ordered_whole c plan l book count ss s H all logged made legal quiet is zeroth one ordered =
+    let a = subst (λ (v : List SeatView). AllEnded c plan l book v) is all in
+    let k = subst (λ (v : List SeatView). AreLogged H v) is logged in
     let w = nothing_open s.seen H a.0.2 k.0.0 legal quiet in
     let seats = subst (λ (l : List TreeEntry). AreSeats 1 l) w.0 (subst (λ (n : ℕ). AreSeats n (entries_of H)) one (are_seats count ss H made)) in
     let by = subst (λ (n : ℕ). AreBy n s.seen) (sym zeroth) (seats_by s.seen seats) in
@@ -199,7 +239,7 @@ ordered_whole c plan book count ss s H all logged made legal quiet is zeroth one
 
 permitted_at : (c : Choices) (at : Outputs) (n : ℕ) (h : List TreeEntry) → 0 < n → is_legal h ≡ true → has_stop h ≡ false → AreTrue c at h → AreSeats n h → (n ≡ 1 → IsInOrder ([] ∷ []) h) → (t : State) × (events : List Event) × Leads c at (start n) events t h
 permitted_at c at zero h some legal quiet true_of seats order = absurd (omega arith)
-permitted_at c at (suc zero) h some legal quiet true_of seats order = (are_in_order c at h).1 seats true_of (order refl)
+permitted_at c at (suc zero) h some legal quiet true_of seats order = (are_in_order c at h).1 seats true_of (order refl) (legal_parts h legal).1
 permitted_at c at (suc (suc m)) h some legal quiet true_of seats order = is_permitted c at (suc (suc m)) h (omega arith) legal true_of quiet seats
 
 -- the history is that of a permitted list of events

@@ -3,15 +3,18 @@ use Rattle.std.proofs.Common.{◌≡◌, ◌≢◌, ℕ, zero, suc, ◌+◌, ◌
 use mathlib.Core.Logic.{dite}
 use native.Mathlib.Decide.{ℕ_discrete}
 use Rattle.atomic_table.specs.Seated.{TableId}
-use Rattle.ap_defs.specs.declared.paths.Entry.{Entry}
+use Rattle.ap_paths.specs.declared.entries.Entry.{Entry}
 use Rattle.ap_defs.specs.declared.paths.Progress.{Progress}
 use Rattle.ap_defs.specs.declared.paths.Progress.TheVariants.{Left, Finished, Stopped}
-use Rattle.ap_paths.specs.Entries.{TreeEntry, split, done, stop, entry_of, entries_of}
+use Rattle.ap_paths.specs.Entries.{TreeEntry, split, done, skip, stop, entry_of, entries_of}
 use Rattle.ap_paths.specs.History.{has_stop, is_stop, is_legal, legal_from, may_enter, open_after, open_from, open_of, left_of, progress_of}
 use Rattle.ap_paths.specs.Trees.{Choices, Outputs, InTree, IsTree, IsPlan, AreTrue}
+use Rattle.ap_paths.specs.declared.limits.Limit.{Limit}
+use Rattle.ap_paths.specs.Limits.{part, IsWithin, AreWithin}
 use Rattle.ap_paths.specs.Merging.{merged}
+use Rattle.ap_paths.proofs.Histories.{legal_parts}
 use Rattle.ap_paths.proofs.Frontiers.{merged_whole}
-use Rattle.ap_defs.specs.declared.paths.Closed.{Closed}
+use Rattle.ap_paths.specs.declared.entries.Closed.{Closed}
 use Rattle.ap_core.specs.Traces.{AreSeats}
 use Rattle.ap_lock.specs.Turns.{Begins, maker_of, places_from, one_if}
 use Rattle.ap_lock.specs.Seats.{SeatView, AreOf, AreLogged, AreMadeBy, seats_with, new_seats}
@@ -20,56 +23,56 @@ use Rattle.ap_steal.specs.Planned.{Plans, IsPlanned, ArePlanned, OwnPlanned, IsO
 use Rattle.ap_steal.proofs.Own.{own_turn, other}
 
 -- the seats one by one
-abbrev pub AllEnded : Choices → Plans → TableId → List SeatView → Type 0
-AllEnded c plan book [] = Unit {0}
-AllEnded c plan book (s ∷ ss) = Ended c plan book s × AllEnded c plan book ss
+abbrev pub AllEnded : Choices → Plans → Limit → TableId → List SeatView → Type 0
+AllEnded c plan l book [] = Unit {0}
+AllEnded c plan l book (s ∷ ss) = Ended c plan l book s × AllEnded c plan l book ss
 
-pub one_by_one : (c : Choices) (plan : Plans) (book : TableId) (ss : List SeatView) → All (λ s. Ended c plan book s) ss → AllEnded c plan book ss
-one_by_one c plan book [] all = tt
-one_by_one c plan book (s ∷ ss) all = (all 0 s (omega arith), one_by_one c plan book ss (λ k d lt. all (suc k) d (omega arith)))
+pub one_by_one : (c : Choices) (plan : Plans) (l : Limit) (book : TableId) (ss : List SeatView) → All (λ s. Ended c plan l book s) ss → AllEnded c plan l book ss
+one_by_one c plan l book [] all = tt
+one_by_one c plan l book (s ∷ ss) all = (all 0 s (omega arith), one_by_one c plan l book ss (λ k d lt. all (suc k) d (omega arith)))
 
-pub are_of : (c : Choices) (plan : Plans) (book : TableId) (ss : List SeatView) → AllEnded c plan book ss → AreOf book ss
-are_of c plan book [] all = tt
-are_of c plan book (s ∷ ss) all = (all.0.0, are_of c plan book ss all.1)
+pub are_of : (c : Choices) (plan : Plans) (l : Limit) (book : TableId) (ss : List SeatView) → AllEnded c plan l book ss → AreOf book ss
+are_of c plan l book [] all = tt
+are_of c plan l book (s ∷ ss) all = (all.0.0, are_of c plan l book ss all.1)
 
-AllOwn : Choices → Plans → List SeatView → List Entry → Type 0
-AllOwn c plan [] es = Unit {0}
-AllOwn c plan (s ∷ ss) es = OwnPlanned c plan s.number es × AllOwn c plan ss es
+AllOwn : Choices → Plans → Limit → List SeatView → List Entry → Type 0
+AllOwn c plan l [] es = Unit {0}
+AllOwn c plan l (s ∷ ss) es = OwnPlanned c plan l s.number es × AllOwn c plan l ss es
 
 NotBy : ℕ → List Entry → Type 0
 NotBy n [] = Unit {0}
 NotBy n (e ∷ es) = (maker_of e ≢ n) × NotBy n es
 
-all_own : (c : Choices) (plan : Plans) (book : TableId) (ss : List SeatView) (H : List Entry) → AllEnded c plan book ss → AreLogged H ss → AllOwn c plan ss H
+all_own : (c : Choices) (plan : Plans) (l : Limit) (book : TableId) (ss : List SeatView) (H : List Entry) → AllEnded c plan l book ss → AreLogged H ss → AllOwn c plan l ss H
 unfolding AllOwn
-all_own c plan book [] H all logged = tt
-all_own c plan book (s ∷ ss) H all logged = (own_turn c plan s.number s.seen H logged.0.0 logged.0.1 all.0.1, all_own c plan book ss H all.1 logged.1)
+all_own c plan l book [] H all logged = tt
+all_own c plan l book (s ∷ ss) H all logged = (own_turn c plan l s.number s.seen H logged.0.0 logged.0.1 all.0.1, all_own c plan l book ss H all.1 logged.1)
 
-own_rest : (c : Choices) (plan : Plans) (ss : List SeatView) (e : Entry) (es : List Entry) → AllOwn c plan ss (e ∷ es) → AllOwn c plan ss es
+own_rest : (c : Choices) (plan : Plans) (l : Limit) (ss : List SeatView) (e : Entry) (es : List Entry) → AllOwn c plan l ss (e ∷ es) → AllOwn c plan l ss es
 unfolding AllOwn
-own_rest c plan [] e es h = tt
-own_rest c plan (s ∷ ss) e es h = (h.0.1, own_rest c plan ss e es h.1)
+own_rest c plan l [] e es h = tt
+own_rest c plan l (s ∷ ss) e es h = (h.0.1, own_rest c plan l ss e es h.1)
 
 -- an entry that bears a seat's number
-pick : (c : Choices) (plan : Plans) (ss : List SeatView) (e : Entry) (es : List Entry) → 0 < seats_with (maker_of e) ss → AllOwn c plan ss (e ∷ es) → IsPlanned c plan (entry_of e)
+pick : (c : Choices) (plan : Plans) (l : Limit) (ss : List SeatView) (e : Entry) (es : List Entry) → 0 < seats_with (maker_of e) ss → AllOwn c plan l ss (e ∷ es) → IsPlanned c plan (entry_of e) × IsWithin l (entry_of e)
 unfolding AllOwn
-pick c plan [] e es some h = absurd (omega arith)
-pick c plan (s ∷ ss) e es some h =
+pick c plan l [] e es some h = absurd (omega arith)
+pick c plan l (s ∷ ss) e es some h =
     dite (ℕ_discrete s.number (maker_of e))
     (λ same. h.0.0 (sym same))
-    (λ ne. let z = ap one_if (ne_eqb s.number (maker_of e) ne) in pick c plan ss e es (omega arith) h.1)
+    (λ ne. let z = ap one_if (ne_eqb s.number (maker_of e) ne) in pick c plan l ss e es (omega arith) h.1)
 
 zero_or : (n : ℕ) → (n ≡ 0) ⊎ (0 < n)
 zero_or zero = inl refl
 zero_or (suc n) = inr (omega arith)
 
-all_planned : (c : Choices) (plan : Plans) (ss : List SeatView) (es : List Entry) → AllOwn c plan ss es → ((n : ℕ) → seats_with n ss ≡ 0 → NotBy n es) → ArePlanned c plan (entries_of es)
+all_planned : (c : Choices) (plan : Plans) (l : Limit) (ss : List SeatView) (es : List Entry) → AllOwn c plan l ss es → ((n : ℕ) → seats_with n ss ≡ 0 → NotBy n es) → ArePlanned c plan (entries_of es) × AreWithin l (entries_of es)
 unfolding NotBy
-all_planned c plan ss [] own others = tt
-all_planned c plan ss (e ∷ es) own others = (
-  ⊎_elim (λ z. absurd ((others (maker_of e) z).0 refl)) (λ some. pick c plan ss e es some own) (zero_or (seats_with (maker_of e) ss)),
-  all_planned c plan ss es (own_rest c plan ss e es own) (λ n z. (others n z).1),
-)
+all_planned c plan l ss [] own others = (tt, tt)
+all_planned c plan l ss (e ∷ es) own others =
+    let here : IsPlanned c plan (entry_of e) × IsWithin l (entry_of e) = ⊎_elim (λ z. absurd ((others (maker_of e) z).0 refl)) (λ some. pick c plan l ss e es some own) (zero_or (seats_with (maker_of e) ss)) in
+    let rest = all_planned c plan l ss es (own_rest c plan l ss e es own) (λ n z. (others n z).1) in
+    ((here.0, rest.0), (here.1, rest.1))
 
 not_by : (i n : ℕ) (es : List Entry) → places_from i n es ≡ [] → NotBy n es
 unfolding NotBy
@@ -80,9 +83,9 @@ not_by i n (x ∷ xs) e =
     [ true ↦ λ is nil. absurd (let k = ap length nil in omega arith) | false ↦ λ is nil. ((λ same. other (maker_of x) n is same), not_by (suc i) n xs nil) ] in
     step (eqb (maker_of x) n) refl e
 
--- all entries follow the plans
-pub planned_all : (c : Choices) (plan : Plans) (book : TableId) (count : ℕ) (ss : List SeatView) (H : List Entry) → AllEnded c plan book ss → AreLogged H ss → AreMadeBy count ss H → ArePlanned c plan (entries_of H)
-planned_all c plan book count ss H all logged made = all_planned c plan ss H (all_own c plan book ss H all logged) (λ n z. not_by 0 n H (made.0 n z))
+-- all entries follow the plans, and leave out only what is not wanted
+pub planned_all : (c : Choices) (plan : Plans) (l : Limit) (book : TableId) (count : ℕ) (ss : List SeatView) (H : List Entry) → AllEnded c plan l book ss → AreLogged H ss → AreMadeBy count ss H → ArePlanned c plan (entries_of H) × AreWithin l (entries_of H)
+planned_all c plan l book count ss H all logged made = all_planned c plan l ss H (all_own c plan l book ss H all logged) (λ n z. not_by 0 n H (made.0 n z))
 
 least : (a n : ℕ) → (n ≤ a → ⊥) → a < n
 least a zero h = absurd (h (omega arith))
@@ -123,6 +126,7 @@ ends_there : (d : Bool) (ys : List TreeEntry) → legal_from [] d ys ≡ true �
 ends_there d [] h none_stands = refl
 ends_there d (split s p ks ∷ ys) h none_stands = absurd (true≢false (sym h))
 ends_there d (done s p os ∷ ys) h none_stands = absurd (true≢false (sym h))
+ends_there d (skip s p n ∷ ys) h none_stands = absurd (true≢false (sym h))
 ends_there d (stop s ∷ ys) h none_stands = absurd (true≢false none_stands)
 
 is_finished : Progress → Bool
@@ -151,7 +155,7 @@ seen_whole seen rest over legal none_stands =
     let quiet = either_false (has_stop seen) (has_stop rest) (sym (has_stop-append seen rest) ∙ none_stands) in
     let progress : progress_of seen ≡ left_of (open_of seen) = rw quiet.0 refl in
     let closed : open_of seen ≡ [] = ⊎_elim (λ e. finished (open_of seen) (sym progress ∙ e)) (λ e. absurd (not_stopped (open_of seen) (sym progress ∙ e))) over in
-    let after = legal_rest ([] ∷ []) false seen rest legal in
+    let after = legal_rest ([] ∷ []) false seen rest (legal_parts (seen ++ rest) legal).0 in
     let last : rest ≡ [] = ends_there after.0 rest (subst (λ (ps : List (List ℕ)). legal_from ps after.0 rest ≡ true) closed after.1) quiet.1 in
     (last, ap open_of (ap (λ r. seen ++ r) last ∙ append-nil seen) ∙ closed)
 
@@ -176,9 +180,9 @@ pub no_stop_yet : (xs : List Entry) (i : ℕ) (d : Entry) → i < length xs → 
 no_stop_yet xs i d lt none_yet is = ap (λ k. has_stop (entries_of (take k xs))) (add-one i) ∙ stop_later xs i d lt none_yet is
 
 -- of at least one seat, what it knows at the end
-pub open_at_end : (c : Choices) (plan : Plans) (book : TableId) (ss : List SeatView) (H : List Entry) → 0 < length ss → AllEnded c plan book ss → AreLogged H ss → is_legal (entries_of H) ≡ true → has_stop (entries_of H) ≡ false → open_of (entries_of H) ≡ []
-open_at_end c plan book [] H some all logged legal quiet = absurd (omega arith)
-open_at_end c plan book (s ∷ ss) H some all logged legal quiet = (nothing_open s.seen H all.0.2 logged.0.0 legal quiet).1
+pub open_at_end : (c : Choices) (plan : Plans) (l : Limit) (book : TableId) (ss : List SeatView) (H : List Entry) → 0 < length ss → AllEnded c plan l book ss → AreLogged H ss → is_legal (entries_of H) ≡ true → has_stop (entries_of H) ≡ false → open_of (entries_of H) ≡ []
+open_at_end c plan l book [] H some all logged legal quiet = absurd (omega arith)
+open_at_end c plan l book (s ∷ ss) H some all logged legal quiet = (nothing_open s.seen H all.0.2 logged.0.0 legal quiet).1
 
 all_cons : {X : Type 0} (P : X → Type 0) (y : X) (ys : List X) → P y → All P ys → All P (y ∷ ys)
 all_cons P y ys p h zero d lt = p
@@ -206,10 +210,12 @@ pub planned_true : (c : Choices) (at : Outputs) (plan : Plans) (es : List TreeEn
 planned_true c at plan [] good h = tt
 planned_true c at plan (split s p ks ∷ es) good h = (subst (IsPlan c at p) h.0.1 (good p h.0.0), planned_true c at plan es good h.1)
 planned_true c at plan (done s p os ∷ es) good h = (subst (IsPlan c at p) h.0.1 (good p h.0.0), planned_true c at plan es good h.1)
+planned_true c at plan (skip s p n ∷ es) good h = (tt, planned_true c at plan es good h.1)
 planned_true c at plan (stop s ∷ es) good h = (tt, planned_true c at plan es good h.1)
 
--- so the merged outputs of such a history are those of the tree
-pub whole_of : {E : Type 0} (c : Choices) (at : Outputs) (plan : Plans) (r : Result Closed E) → IsTree c at → ((p : List ℕ) → InTree c p → IsPlan c at p (plan p))
-    → IfOk r (λ x. (is_legal (entries_of x.history) ≡ true) × (has_stop (entries_of x.history) ≡ false) × (open_of (entries_of x.history) ≡ [])) → IfOk r (λ x. ArePlanned c plan (entries_of x.history)) → IfOk r (λ x. merged (entries_of x.history) ≡ at [])
-whole_of c at plan (Ok x) tree good legal planned = merged_whole c at (entries_of x.history) tree legal.0 (planned_true c at plan (entries_of x.history) good planned) legal.2
-whole_of c at plan (Err e) tree good legal planned = tt
+-- so the merged outputs of such a history are those of the tree, as far as they are wanted
+pub whole_of : {E : Type 0} (c : Choices) (at : Outputs) (plan : Plans) (l : Limit) (r : Result Closed E) → IsTree c at → ((p : List ℕ) → InTree c p → IsPlan c at p (plan p))
+    → IfOk r (λ x. (is_legal (entries_of x.history) ≡ true) × (has_stop (entries_of x.history) ≡ false) × (open_of (entries_of x.history) ≡ [])) → IfOk r (λ x. ArePlanned c plan (entries_of x.history)) → IfOk r (λ x. AreWithin l (entries_of x.history))
+    → IfOk r (λ x. part l (merged (entries_of x.history)) ≡ part l (at []))
+whole_of c at plan l (Ok x) tree good legal planned within = merged_whole c at l (entries_of x.history) tree legal.0 (planned_true c at plan (entries_of x.history) good planned) within legal.2
+whole_of c at plan l (Err e) tree good legal planned within = tt

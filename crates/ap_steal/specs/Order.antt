@@ -1,7 +1,7 @@
 -- The order of one worker alone: each entry is of the first path of its hand, whose kids take its place.
 use Rattle.std.specs.Prelude.{◌≡◌, ℕ, true, false, Option, Some, None, List, [], ◌∷◌, ◌++◌}
-use Rattle.ap_defs.specs.declared.paths.Entry.{Entry}
-use Rattle.ap_paths.specs.Entries.{TreeEntry, split, done, stop, entries_of}
+use Rattle.ap_paths.specs.declared.entries.Entry.{Entry}
+use Rattle.ap_paths.specs.Entries.{TreeEntry, split, done, skip, stop, entries_of}
 use Rattle.ap_paths.specs.History.{kids_of, has_stop}
 use Rattle.ap_core.specs.Traces.{IsInOrder}
 use Rattle.ap_lock.specs.Turns.{AreBy}
@@ -13,6 +13,7 @@ Runs ps [] qs = qs ≡ ps
 Runs [] (e ∷ es) qs = ⊥
 Runs (p ∷ ps) (split seat q ks ∷ es) qs = (q ≡ p) × Runs (kids_of p ks ++ ps) es qs
 Runs (p ∷ ps) (done seat q os ∷ es) qs = (q ≡ p) × Runs ps es qs
+Runs (p ∷ ps) (skip seat q n ∷ es) qs = (q ≡ p) × Runs ps es qs
 Runs (p ∷ ps) (stop seat ∷ es) qs = ⊥
 
 -- where all that was seen is the worker's own, with no stop, it led to this hand

@@ -1,8 +1,10 @@
 -- Entries that follow the plans of a tree, and when a worker may end.
 use Rattle.std.specs.Prelude.{◌≡◌, ℕ, ◌⊎◌, Option, List, [], ◌∷◌}
-use Rattle.ap_defs.specs.declared.paths.Entry.{Entry}
+use Rattle.ap_paths.specs.declared.entries.Entry.{Entry}
 use Rattle.ap_defs.specs.declared.paths.Progress.TheVariants.{Finished, Stopped}
-use Rattle.ap_paths.specs.Entries.{TreeEntry, split, done, stop, Plan, kids, outs, entry_of, entries_of}
+use Rattle.ap_paths.specs.Entries.{TreeEntry, split, done, skip, stop, Plan, kids, outs, entry_of, entries_of}
+use Rattle.ap_paths.specs.declared.limits.Limit.{Limit}
+use Rattle.ap_paths.specs.Limits.{IsWithin}
 use Rattle.ap_paths.specs.History.{progress_of}
 use Rattle.ap_paths.specs.Trees.{Choices, InTree, IsChoice}
 use Rattle.atomic_table.specs.Seated.{TableId}
@@ -16,16 +18,17 @@ Plans = List ℕ → Plan
 abbrev pub IsPlanned : Choices → Plans → TreeEntry → Type 0
 IsPlanned c plan (split seat p ks) = InTree c p × (plan p ≡ kids ks)
 IsPlanned c plan (done seat p os) = InTree c p × (plan p ≡ outs os)
+IsPlanned c plan (skip seat p n) = InTree c p
 IsPlanned c plan (stop seat) = Unit {0}
 
 abbrev pub ArePlanned : Choices → Plans → List TreeEntry → Type 0
 ArePlanned c plan [] = Unit {0}
 ArePlanned c plan (e ∷ es) = IsPlanned c plan e × ArePlanned c plan es
 
--- the entries of this number are
-abbrev pub OwnPlanned : Choices → Plans → ℕ → List Entry → Type 0
-OwnPlanned c plan n [] = Unit {0}
-OwnPlanned c plan n (e ∷ es) = (maker_of e ≡ n → IsPlanned c plan (entry_of e)) × OwnPlanned c plan n es
+-- the entries of this number are, and leave out only what is not wanted
+abbrev pub OwnPlanned : Choices → Plans → Limit → ℕ → List Entry → Type 0
+OwnPlanned c plan l n [] = Unit {0}
+OwnPlanned c plan l n (e ∷ es) = (maker_of e ≡ n → IsPlanned c plan (entry_of e) × IsWithin l (entry_of e)) × OwnPlanned c plan l n es
 
 -- each number is a choice
 abbrev pub AreChoices : Option ℕ → List ℕ → Type 0
@@ -41,5 +44,5 @@ abbrev pub IsNew : TableId → SeatView → Type 0
 IsNew book s = (s.book ≡ book) × (s.seen ≡ [])
 
 -- a worker's seat at its end
-abbrev pub Ended : Choices → Plans → TableId → SeatView → Type 0
-Ended c plan book s = (s.book ≡ book) × OwnPlanned c plan s.number s.seen × IsOver s.seen
+abbrev pub Ended : Choices → Plans → Limit → TableId → SeatView → Type 0
+Ended c plan l book s = (s.book ≡ book) × OwnPlanned c plan l s.number s.seen × IsOver s.seen

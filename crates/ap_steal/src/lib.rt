@@ -15,5 +15,5 @@ mod tools;
 mod work;
 
 pub use jobs::Job;
-pub use searching::search;
+pub use searching::{search, search_within};
 pub use tools::Tools;

@@ -2,19 +2,19 @@
 
 ghost use Rattle.std.specs.Prelude.{◌≡◌, true, false, All, [], ◌∷◌, vec_len, IfOk};
 ghost use Rattle.ap_paths.specs.Entries.{entries_of, entry_of};
+ghost use Rattle.ap_paths.specs.Limits.{AreWithin};
 ghost use Rattle.ap_paths.specs.History.{is_legal, has_stop, is_stop, open_of};
 ghost use Rattle.ap_core.specs.Traces.{AreSeats, IsInOrder};
-ghost use Rattle.ap_lock.specs.Seats.{SeatView, book_id, seats_of, logs_of};
+ghost use Rattle.ap_lock.specs.Seats.{SeatView, book_id, limit_of, seats_of, logs_of};
 ghost use Rattle.ap_steal.specs.Planned.{ArePlanned, IsNew, Ended};
 ghost use Rattle.ap_steal.specs.Order.{IsOrdered};
 
 use crate::jobs::Job;
 use crate::work::work;
 use ap_defs::memory::Memory;
-use ap_defs::paths::{Closed, Entry};
 use ap_io::Gate;
 use ap_lock::{Seat, SharedBook};
-use ap_paths::Tree;
+use ap_paths::{Closed, Entry, Tree};
 use ap_tasks::Shape;
 use std::alloc::Global;
 use std::sync::Wait;
@@ -33,14 +33,14 @@ pub fn run_all<W: Shape + Send, R: Threads + Wait + Sync, T: Tree, G: Gate>(
     requires shape { T.choices tree.now ≡ W.choices }
     requires new { All (λ j. IsNew (book_id book.now) j.seat) jobs.items }
     ensures len { IfOk result (λ v. vec_len v ≡ vec_len jobs) }
-    ensures each { IfOk result (λ v. All (λ s. Ended (T.choices tree.now) (T.plan tree.now) (book_id book.now) s) v.items) }
+    ensures each { IfOk result (λ v. All (λ s. Ended (T.choices tree.now) (T.plan tree.now) (limit_of book.now) (book_id book.now) s) v.items) }
 {
     let seats = thread::map_vec(
         rt,
         jobs,
         &|job: Job<W>| -> Seat
             requires { (T.choices tree.now ≡ W.choices) × IsNew (book_id book.now) job.seat }
-            ensures { Ended (T.choices tree.entry.now) (T.plan tree.entry.now) (book_id book.entry.now) result }
+            ensures { Ended (T.choices tree.entry.now) (T.plan tree.entry.now) (limit_of book.entry.now) (book_id book.entry.now) result }
         { work(rt, alloc, tree, gate, book, job) },
     )?;
     Ok(seats)
@@ -73,6 +73,11 @@ fn is_stop_entry(entry: &Entry) -> bool
             path: _path,
             outs: _outs,
         } => false,
+        Entry::Skip {
+            seat: _seat,
+            path: _path,
+            found: _found,
+        } => false,
     }
 }
 
@@ -83,10 +88,11 @@ pub fn finish<T: Tree>(
     book: SharedBook,
     seats: Vec<Seat>,
 ) -> Result<Closed, Memory>
-    requires ended { All (λ s. Ended (T.choices tree.now) (T.plan tree.now) (book_id book) s) seats.items }
+    requires ended { All (λ s. Ended (T.choices tree.now) (T.plan tree.now) (limit_of book) (book_id book) s) seats.items }
     requires all { vec_len seats ≡ seats_of book }
     ensures legal { IfOk result (λ c. (is_legal (entries_of c.history) ≡ true) × (has_stop (entries_of c.history) ≡ false) × (open_of (entries_of c.history) ≡ [])) }
     ensures planned { IfOk result (λ c. ArePlanned (T.choices tree.now) (T.plan tree.now) (entries_of c.history)) }
+    ensures within { IfOk result (λ c. AreWithin (limit_of book) (entries_of c.history)) }
     ensures seats { IfOk result (λ c. (c.logs ≡ logs_of (seats_of book) c.history) × AreSeats (seats_of book) (entries_of c.history)) }
     ensures order { (s : SeatView) → seats.items ≡ s ∷ [] → s.number ≡ 0 → seats_of book ≡ 1 → IsOrdered s.number s.seen → IfOk result (λ c. IsInOrder ([] ∷ []) (entries_of c.history)) }
 {

@@ -2,9 +2,10 @@
 
 ghost use Rattle.std.specs.Prelude.{◌≡◌, ℕ, true, false, ◌<◌, ◌≤◌, [], ◌∷◌, List as list, vec_len, IfOk};
 ghost use Rattle.ap_paths.specs.Entries.{entries_of};
+ghost use Rattle.ap_paths.specs.Limits.{AreWithin, part};
 ghost use Rattle.ap_paths.specs.History.{is_legal, has_stop, open_of};
 ghost use Rattle.ap_paths.specs.Merging.{merged};
-ghost use Rattle.ap_defs.specs.declared.paths.Event.{Event};
+ghost use Rattle.ap_core.specs.declared.events.Event.{Event};
 ghost use Rattle.ap_core.specs.States.{State, start};
 ghost use Rattle.ap_core.specs.Traces.{AreSeats, IsInOrder, Leads};
 ghost use Rattle.ap_lock.specs.Seats.{logs_of};
@@ -14,10 +15,9 @@ use crate::jobs::{Job, lone_tools, make_jobs, make_tools, turned};
 use crate::run::{finish, run_all};
 use crate::work::work;
 use ap_defs::memory::Memory;
-use ap_defs::paths::Closed;
 use ap_io::Gate;
 use ap_lock::SharedBook;
-use ap_paths::Tree;
+use ap_paths::{Closed, Limit, Tree};
 use ap_tasks::Shape;
 use std::alloc::Global;
 use std::marker::Brand;
@@ -29,16 +29,18 @@ fn search_alone<W: Shape, R: Wait, T: Tree, G: Gate>(
     rt: &R,
     alloc: Global,
     tree: &T,
+    limit: Limit,
     gate: &G,
 ) -> Result<Closed, Memory>
     requires { T.choices tree.now ≡ W.choices }
     ensures legal { IfOk result (λ c. (is_legal (entries_of c.history) ≡ true) × (has_stop (entries_of c.history) ≡ false) × (open_of (entries_of c.history) ≡ [])) }
     ensures planned { IfOk result (λ c. ArePlanned (T.choices tree.now) (T.plan tree.now) (entries_of c.history)) }
+    ensures within { IfOk result (λ c. AreWithin limit (entries_of c.history)) }
     ensures seats { IfOk result (λ c. (c.logs ≡ logs_of 1 c.history) × AreSeats 1 (entries_of c.history)) }
     ensures order { IfOk result (λ c. IsInOrder ([] ∷ []) (entries_of c.history)) }
 {
     let tools = lone_tools::<W>(alloc)?;
-    let (book, mut seats) = SharedBook::make(alloc, 1)?;
+    let (book, mut seats) = SharedBook::make(alloc, 1, limit)?;
     let Some(seat) = seats.pop() else {
         unreachable!()
     };
@@ -53,16 +55,18 @@ fn search_beside<W: Shape + Send, R: Threads + Wait + Sync, T: Tree, G: Gate>(
     alloc: Global,
     tree: &T,
     workers: u32,
+    limit: Limit,
     gate: &G,
 ) -> Result<Closed, Memory>
     requires count { (0 < workers) × (workers ≤ 64) }
     requires shape { T.choices tree.now ≡ W.choices }
     ensures legal { IfOk result (λ c. (is_legal (entries_of c.history) ≡ true) × (has_stop (entries_of c.history) ≡ false) × (open_of (entries_of c.history) ≡ [])) }
     ensures planned { IfOk result (λ c. ArePlanned (T.choices tree.now) (T.plan tree.now) (entries_of c.history)) }
+    ensures within { IfOk result (λ c. AreWithin limit (entries_of c.history)) }
     ensures seats { IfOk result (λ c. (c.logs ≡ logs_of workers c.history) × AreSeats workers (entries_of c.history)) }
 {
     let tools = make_tools::<W>(alloc, workers)?;
-    let (book, seats) = SharedBook::make(alloc, workers)?;
+    let (book, seats) = SharedBook::make(alloc, workers, limit)?;
     let jobs = make_jobs(alloc, seats, tools)?;
     let seats = run_all(rt, alloc, tree, gate, &book, turned(jobs))?;
     finish(alloc, tree, book, seats)
@@ -74,31 +78,56 @@ fn search_in<W: Shape + Send, R: Threads + Wait + Sync, T: Tree, G: Gate>(
     alloc: Global,
     tree: &T,
     workers: u32,
+    limit: Limit,
     gate: &G,
 ) -> Result<Closed, Memory>
     requires count { (0 < workers) × (workers ≤ 64) }
     requires shape { T.choices tree.now ≡ W.choices }
     ensures legal { IfOk result (λ c. (is_legal (entries_of c.history) ≡ true) × (has_stop (entries_of c.history) ≡ false) × (open_of (entries_of c.history) ≡ [])) }
     ensures planned { IfOk result (λ c. ArePlanned (T.choices tree.now) (T.plan tree.now) (entries_of c.history)) }
+    ensures within { IfOk result (λ c. AreWithin limit (entries_of c.history)) }
     ensures seats { IfOk result (λ c. (c.logs ≡ logs_of workers c.history) × AreSeats workers (entries_of c.history)) }
     ensures order { workers ≡ 1 → IfOk result (λ c. IsInOrder ([] ∷ []) (entries_of c.history)) }
 {
     if workers == 1 {
-        search_alone::<W, R, T, G>(rt, alloc, tree, gate)
+        search_alone::<W, R, T, G>(rt, alloc, tree, limit, gate)
     } else {
-        search_beside::<W, R, T, G>(rt, alloc, tree, workers, gate)
+        search_beside::<W, R, T, G>(rt, alloc, tree, workers, limit, gate)
     }
 }
 
-/// The history of a search of the tree by 1 to 64 workers.
+/// The history of a search of the tree by 1 to 64 workers, of which so many answers are wanted.
 ///
 /// It is legal, has no Stop, and nothing is open at its end. Each Split has just the kids that the
-/// tree answers at its path, and each Done is of a path where it answers outputs, with these. So the
-/// outputs in path order are those of the tree at the empty path, however many workers there are. Each entry
+/// tree answers at its path, each Done is of a path where it answers outputs, with these, and each Skip
+/// is of a path before which as many answers had ended as are wanted. So the outputs in path order, as far
+/// as they are wanted, are those of the tree at the empty path, however many workers there are. Each entry
 /// has the number of the seat that made it. The history is that of some permitted list of events; of
 /// one worker it is in the order of the least open paths. Before each path a worker passes the gate. It may wait.
 ///
 /// The only error is want of memory, in a worker too: the others then stop.
+pub fn search_within<R: Threads + Wait + Sync, T: Tree, G: Gate>(
+    rt: &R,
+    alloc: Global,
+    tree: &T,
+    workers: u32,
+    limit: Limit,
+    gate: &G,
+) -> Result<Closed, Memory>
+    requires { (0 < workers) × (workers ≤ 64) }
+    ensures legal { IfOk result (λ c. (is_legal (entries_of c.history) ≡ true) × (has_stop (entries_of c.history) ≡ false) × (open_of (entries_of c.history) ≡ [])) }
+    ensures planned { IfOk result (λ c. ArePlanned (T.choices tree.now) (T.plan tree.now) (entries_of c.history)) }
+    ensures within { IfOk result (λ c. AreWithin limit (entries_of c.history)) }
+    ensures whole { IfOk result (λ c. part limit (merged (entries_of c.history)) ≡ part limit (T.at tree.now [])) }
+    ensures seats { IfOk result (λ c. (c.logs ≡ logs_of workers c.history) × AreSeats workers (entries_of c.history)) }
+    ensures order { workers ≡ 1 → IfOk result (λ c. IsInOrder ([] ∷ []) (entries_of c.history)) }
+    ensures permitted { IfOk result (λ c. (t : State) × (events : list Event) × Leads (T.choices tree.now) (T.at tree.now) (start workers) events t (entries_of c.history)) }
+{
+    search_in::<Brand, R, T, G>(rt, alloc, tree, workers, limit, gate)
+}
+
+/// The same, where all answers are wanted: no path is left out, and the outputs in path order are all
+/// those of the tree.
 pub fn search<R: Threads + Wait + Sync, T: Tree, G: Gate>(
     rt: &R,
     alloc: Global,
@@ -114,5 +143,5 @@ pub fn search<R: Threads + Wait + Sync, T: Tree, G: Gate>(
     ensures order { workers ≡ 1 → IfOk result (λ c. IsInOrder ([] ∷ []) (entries_of c.history)) }
     ensures permitted { IfOk result (λ c. (t : State) × (events : list Event) × Leads (T.choices tree.now) (T.at tree.now) (start workers) events t (entries_of c.history)) }
 {
-    search_in::<Brand, R, T, G>(rt, alloc, tree, workers, gate)
+    search_within(rt, alloc, tree, workers, Limit::All, gate)
 }

@@ -1,18 +1,18 @@
 //! One path of a worker.
 
-ghost use Rattle.std.specs.Prelude.{◌≡◌, ℕ, true, ◌∷◌, List as list, IfOk};
-ghost use Rattle.ap_defs.specs.declared.paths.Entry.{Entry};
-ghost use Rattle.ap_defs.specs.declared.paths.Entry.TheVariants.{Split, Done};
+ghost use Rattle.std.specs.Prelude.{◌≡◌, ℕ, true, ◌∷◌, if◌then◌else◌, List as list, IfOk};
+ghost use Rattle.ap_paths.specs.declared.entries.Entry.{Entry};
+ghost use Rattle.ap_paths.specs.declared.entries.Entry.TheVariants.{Split, Done};
 ghost use Rattle.ap_defs.specs.Answers.{outs_of};
 ghost use Rattle.ap_paths.specs.Entries.{kids, outs, visit_of};
 ghost use Rattle.ap_paths.specs.Trees.{InTree, Ascends};
-ghost use Rattle.ap_book.specs.Answers.{Enters, EntersDone};
-ghost use Rattle.ap_lock.specs.Seats.{book_id, SameSeat, IsTurn};
+ghost use Rattle.ap_book.specs.Answers.{Enters, EntersDone, Skips};
+ghost use Rattle.ap_lock.specs.Seats.{book_id, limit_of, SameSeat, IsTurn};
 ghost use Rattle.ap_steal.specs.Planned.{OwnPlanned, AreChoices};
 ghost use Rattle.ap_steal.specs.Order.{IsSole};
 
 use crate::tools::Tools;
-use ap_book::{BookError, DoneError};
+use ap_book::{BookError, DoneError, SkipError};
 use ap_defs::lists::List;
 use ap_defs::memory::Memory;
 use ap_defs::paths::{Out, Path, Visit};
@@ -33,11 +33,11 @@ fn split_planned<R: Wait, T: Tree>(
     given: &[u32],
 ) -> Result<(), BookError>
     requires book { seat.old.book ≡ book_id book.now }
-    requires own { OwnPlanned (T.choices tree.now) (T.plan tree.now) seat.old.number seat.old.seen }
+    requires own { OwnPlanned (T.choices tree.now) (T.plan tree.now) (limit_of book.now) seat.old.number seat.old.seen }
     requires planned { InTree (T.choices tree.now) path.now × (T.plan tree.now path.now ≡ kids given.now) }
     requires ascends { Ascends 1 given.now }
     ensures same { SameSeat seat.old seat.new }
-    ensures own { OwnPlanned (T.choices tree.now) (T.plan tree.now) seat.new.number seat.new.seen }
+    ensures own { OwnPlanned (T.choices tree.now) (T.plan tree.now) (limit_of book.now) seat.new.number seat.new.seen }
     ensures turn { (turn : list Entry) × IsTurn seat.old turn × Enters turn path.now (Split seat.old.number path.now given.now) result seat.new.seen }
 {
     let _tree = tree;
@@ -54,14 +54,56 @@ fn done_planned<R: Wait, T: Tree>(
     given: Vec<Out>,
 ) -> Result<(), DoneError>
     requires book { seat.old.book ≡ book_id book.now }
-    requires own { OwnPlanned (T.choices tree.now) (T.plan tree.now) seat.old.number seat.old.seen }
+    requires own { OwnPlanned (T.choices tree.now) (T.plan tree.now) (limit_of book.now) seat.old.number seat.old.seen }
     requires planned { InTree (T.choices tree.now) path.now × (T.plan tree.now path.now ≡ outs (outs_of given.items)) }
     ensures same { SameSeat seat.old seat.new }
-    ensures own { OwnPlanned (T.choices tree.now) (T.plan tree.now) seat.new.number seat.new.seen }
+    ensures own { OwnPlanned (T.choices tree.now) (T.plan tree.now) (limit_of book.now) seat.new.number seat.new.seen }
     ensures turn { (turn : list Entry) × IsTurn seat.old turn × EntersDone turn path.now given.items (Done seat.old.number path.now given.items) result seat.new.seen }
 {
     let _tree = tree;
     book.done(rt, seat, path, given)
+}
+
+/// One turn, in which a path is left out, where as many answers have ended before it as are wanted.
+fn skip_planned<R: Wait, T: Tree>(
+    rt: &R,
+    tree: &T,
+    book: &SharedBook,
+    seat: &mut Seat,
+    path: &Path,
+) -> Result<(), SkipError>
+    requires book { seat.old.book ≡ book_id book.now }
+    requires own { OwnPlanned (T.choices tree.now) (T.plan tree.now) (limit_of book.now) seat.old.number seat.old.seen }
+    requires there { InTree (T.choices tree.now) path.now }
+    ensures same { SameSeat seat.old seat.new }
+    ensures own { OwnPlanned (T.choices tree.now) (T.plan tree.now) (limit_of book.now) seat.new.number seat.new.seen }
+    ensures turn { (turn : list Entry) × IsTurn seat.old turn × Skips turn path.now (limit_of book.now) seat.old.number result seat.new.seen }
+{
+    let _tree = tree;
+    book.skip(rt, seat, path)
+}
+
+/// Whether a path is to be visited: not where it was left out, or where it is not open.
+fn is_needed<R: Wait, T: Tree>(
+    rt: &R,
+    tree: &T,
+    book: &SharedBook,
+    seat: &mut Seat,
+    path: &Path,
+) -> Result<bool, Memory>
+    requires book { seat.old.book ≡ book_id book.now }
+    requires own { OwnPlanned (T.choices tree.now) (T.plan tree.now) (limit_of book.now) seat.old.number seat.old.seen }
+    requires there { InTree (T.choices tree.now) path.now }
+    ensures same { SameSeat seat.old seat.new }
+    ensures own { OwnPlanned (T.choices tree.now) (T.plan tree.now) (limit_of book.now) seat.new.number seat.new.seen }
+    ensures order { (hand : list (list ℕ)) → IsSole (path.now ∷ hand) seat.old.number seat.old.seen → IfOk result (λ b. IsSole (if b then path.now ∷ hand else hand) seat.new.number seat.new.seen) }
+{
+    match skip_planned(rt, tree, book, seat, path) {
+        Ok(()) => Ok(false),
+        Err(SkipError::NotOpen) => Ok(false),
+        Err(SkipError::Needed(_found)) => Ok(true),
+        Err(SkipError::Memory) => Err(Memory),
+    }
 }
 
 /// What the tree answers at a path of it. Its kids ascend, and are choices of the path.
@@ -86,11 +128,11 @@ fn run_kids<W: Shape, R: Wait, T: Tree>(
 ) -> Result<(), Memory>
     requires book { seat.old.book ≡ book_id book.now }
     requires shape { T.choices tree.now ≡ W.choices }
-    requires own { OwnPlanned (T.choices tree.now) (T.plan tree.now) seat.old.number seat.old.seen }
+    requires own { OwnPlanned (T.choices tree.now) (T.plan tree.now) (limit_of book.now) seat.old.number seat.old.seen }
     requires planned { InTree (T.choices tree.now) path.now × (T.plan tree.now path.now ≡ kids given.now) }
     requires kids { Ascends 1 given.now × AreChoices (T.choices tree.now path.now) given.now }
     ensures same { SameSeat seat.old seat.new }
-    ensures own { OwnPlanned (T.choices tree.now) (T.plan tree.now) seat.new.number seat.new.seen }
+    ensures own { OwnPlanned (T.choices tree.now) (T.plan tree.now) (limit_of book.now) seat.new.number seat.new.seen }
     ensures alone { tools.new.alone ≡ tools.old.alone }
     ensures order { tools.old.alone ≡ true → IsSole (path.now ∷ tools.old.hand.items) seat.old.number seat.old.seen → IfOk result (λ _. IsSole tools.new.hand.items seat.new.number seat.new.seen) }
 {
@@ -111,10 +153,10 @@ fn run_outs<R: Wait, T: Tree>(
     given: List<Out>,
 ) -> Result<(), Memory>
     requires book { seat.old.book ≡ book_id book.now }
-    requires own { OwnPlanned (T.choices tree.now) (T.plan tree.now) seat.old.number seat.old.seen }
+    requires own { OwnPlanned (T.choices tree.now) (T.plan tree.now) (limit_of book.now) seat.old.number seat.old.seen }
     requires planned { InTree (T.choices tree.now) path.now × (T.plan tree.now path.now ≡ outs (outs_of given)) }
     ensures same { SameSeat seat.old seat.new }
-    ensures own { OwnPlanned (T.choices tree.now) (T.plan tree.now) seat.new.number seat.new.seen }
+    ensures own { OwnPlanned (T.choices tree.now) (T.plan tree.now) (limit_of book.now) seat.new.number seat.new.seen }
     ensures order { (hand : list (list ℕ)) → IsSole (path.now ∷ hand) seat.old.number seat.old.seen → IfOk result (λ _. IsSole hand seat.new.number seat.new.seen) }
 {
     match done_planned(rt, tree, book, seat, path, given.into_vec()) {
@@ -127,6 +169,31 @@ fn run_outs<R: Wait, T: Tree>(
 }
 
 /// Visits a path, and enters what it is in the book. Its kids are the worker's own.
+fn visit_path<W: Shape, R: Wait, T: Tree>(
+    rt: &R,
+    alloc: Global,
+    tree: &T,
+    book: &SharedBook,
+    seat: &mut Seat,
+    tools: &mut Tools<W>,
+    path: &Placed<W>,
+) -> Result<(), Memory>
+    requires book { seat.old.book ≡ book_id book.now }
+    requires shape { T.choices tree.now ≡ W.choices }
+    requires own { OwnPlanned (T.choices tree.now) (T.plan tree.now) (limit_of book.now) seat.old.number seat.old.seen }
+    ensures same { SameSeat seat.old seat.new }
+    ensures own { OwnPlanned (T.choices tree.now) (T.plan tree.now) (limit_of book.now) seat.new.number seat.new.seen }
+    ensures alone { tools.new.alone ≡ tools.old.alone }
+    ensures order { tools.old.alone ≡ true → IsSole (path.now ∷ tools.old.hand.items) seat.old.number seat.old.seen → IfOk result (λ _. IsSole tools.new.hand.items seat.new.number seat.new.seen) }
+{
+    match visit_planned(alloc, tree, path.path()) {
+        Ok(Visit::Kids(list)) => run_kids(rt, alloc, tree, book, seat, tools, path, list.items()),
+        Ok(Visit::Outs(list)) => run_outs(rt, tree, book, seat, path.path(), list),
+        Err(error) => Err(error),
+    }
+}
+
+/// Runs a path. Where a limit is set, it is left out if as many answers have ended before it.
 pub fn run_path<W: Shape, R: Wait, T: Tree>(
     rt: &R,
     alloc: Global,
@@ -138,15 +205,18 @@ pub fn run_path<W: Shape, R: Wait, T: Tree>(
 ) -> Result<(), Memory>
     requires book { seat.old.book ≡ book_id book.now }
     requires shape { T.choices tree.now ≡ W.choices }
-    requires own { OwnPlanned (T.choices tree.now) (T.plan tree.now) seat.old.number seat.old.seen }
+    requires own { OwnPlanned (T.choices tree.now) (T.plan tree.now) (limit_of book.now) seat.old.number seat.old.seen }
     ensures same { SameSeat seat.old seat.new }
-    ensures own { OwnPlanned (T.choices tree.now) (T.plan tree.now) seat.new.number seat.new.seen }
+    ensures own { OwnPlanned (T.choices tree.now) (T.plan tree.now) (limit_of book.now) seat.new.number seat.new.seen }
     ensures alone { tools.new.alone ≡ tools.old.alone }
     ensures order { tools.old.alone ≡ true → IsSole (path.now ∷ tools.old.hand.items) seat.old.number seat.old.seen → IfOk result (λ _. IsSole tools.new.hand.items seat.new.number seat.new.seen) }
 {
-    match visit_planned(alloc, tree, path.path()) {
-        Ok(Visit::Kids(list)) => run_kids(rt, alloc, tree, book, seat, tools, path, list.items()),
-        Ok(Visit::Outs(list)) => run_outs(rt, tree, book, seat, path.path(), list),
-        Err(error) => Err(error),
+    if !book.has_limit() {
+        return visit_path(rt, alloc, tree, book, seat, tools, path);
     }
+    let needed = is_needed(rt, tree, book, seat, path.path())?;
+    if !needed {
+        return Ok(());
+    }
+    visit_path(rt, alloc, tree, book, seat, tools, path)
 }

@@ -1,8 +1,10 @@
 use crate::pairs::{are_both_cuts, cut_at};
-use ap_book::{Book, BookError, Kids, merge};
+use ap_book::{Book, BookError, Kids, SkipError, merge};
 use ap_defs::lists::List;
 use ap_defs::memory::Memory;
-use ap_defs::paths::{Closed, Out, Path, Progress};
+use ap_defs::outcomes::Answer;
+use ap_defs::paths::{Out, Path, Progress};
+use ap_paths::{Closed, Limit};
 use std::alloc::Global;
 
 fn path_of(alloc: Global, k: u32) -> Result<Path, Memory> {
@@ -109,4 +111,48 @@ fn merged(alloc: Global) -> Result<Vec<Out>, Memory> {
 fn outputs_are_merged_in_path_order(rt: HostRuntime) {
     let outs = merged(rt.alloc());
     assert!(rt; matches!(&outs, Ok(outs) if are_both_cuts(outs.as_slice())));
+}
+
+/// An answer that says nothing, at a path.
+fn answer_at(alloc: Global, path: &Path) -> Result<Vec<Out>, Memory> {
+    let answer = Answer {
+        binds: List::of(Vec::new(alloc)),
+        conds: List::of(Vec::new(alloc)),
+        vars: List::of(Vec::new(alloc)),
+    };
+    let mut outs = Vec::new(alloc);
+    outs.push(Out::Found(path.copy(alloc)?, answer))?;
+    Ok(outs)
+}
+
+/// Ends a path with an answer.
+fn answer(alloc: Global, book: &mut Book, path: &Path) -> Result<bool, Memory> {
+    let outs = answer_at(alloc, path)?;
+    Ok(book.done(0, path, outs).is_ok())
+}
+
+/// Whether [2] is left out once, as soon as there is an answer before it.
+fn skips_once(alloc: Global, book: &mut Book) -> Result<bool, Memory> {
+    let (left, right) = (path_of(alloc, 1)?, path_of(alloc, 2)?);
+    let one = Limit::First(1);
+    let early = book.skip(0, &right, one) == Err(SkipError::Needed(0));
+    let answered = answer(alloc, book, &left)?;
+    let all = book.skip(0, &right, Limit::All) == Err(SkipError::Needed(1));
+    let enough = book.skip(0, &right, one) == Ok(());
+    let finished = book.status() == Progress::Finished;
+    let again = book.skip(0, &right, one) == Err(SkipError::NotOpen);
+    Ok(early && answered && all && enough && finished && again)
+}
+
+fn skips(alloc: Global) -> Result<bool, Memory> {
+    let mut book = Book::new(alloc)?;
+    if split_root(alloc, &mut book).is_err() {
+        return Ok(false);
+    }
+    skips_once(alloc, &mut book)
+}
+
+#[test]
+fn a_path_is_left_out_behind_answers_enough(rt: HostRuntime) {
+    assert!(rt; matches!(skips(rt.alloc()), Ok(true)));
 }

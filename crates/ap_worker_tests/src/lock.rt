@@ -4,8 +4,9 @@ ghost use Rattle.ap_lock.specs.Seats.{book_id, seats_of};
 use crate::pairs::cut_at;
 use ap_book::BookError;
 use ap_defs::memory::Memory;
-use ap_defs::paths::{Closed, Path, Progress};
+use ap_defs::paths::{Path, Progress};
 use ap_lock::{Seat, SharedBook};
+use ap_paths::{Closed, Limit};
 use std::alloc::Global;
 use std::sync::Wait;
 use std::thread;
@@ -15,7 +16,7 @@ use std::thread::Threads;
 fn pair(alloc: Global) -> Result<(SharedBook, Seat, Seat), Memory>
     ensures { IfOk result (λ r. (r.1.book ≡ book_id r.0) × (r.2.book ≡ book_id r.0) × (seats_of r.0 ≡ 2)) }
 {
-    let (book, mut seats) = SharedBook::make(alloc, 2)?;
+    let (book, mut seats) = SharedBook::make(alloc, 2, Limit::All)?;
     let Some(second) = seats.pop() else {
         return Err(Memory);
     };
@@ -204,7 +205,7 @@ fn run_all<R: Threads + Wait + Sync>(
 fn five(alloc: Global) -> Result<(SharedBook, Seat, Vec<Seat>), Memory>
     ensures { IfOk result (λ r. (r.1.book ≡ book_id r.0) × All (λ s. s.book ≡ book_id r.0) r.2.items × (vec_len r.2 ≡ 4) × (seats_of r.0 ≡ 5)) }
 {
-    let (book, mut seats) = SharedBook::make(alloc, 5)?;
+    let (book, mut seats) = SharedBook::make(alloc, 5, Limit::All)?;
     let Some(own) = seats.pop() else {
         return Err(Memory);
     };

@@ -4,22 +4,22 @@ use Rattle.ap_core.proofs.Stepping.{stolen, not_stolen, busy, at_get, hand_beyon
 use Rattle.ap_core.proofs.workers.steal.Goals as goal
 
 pub returns-then-w-workers : goal.returns-then-w-workers
-returns-then-w-workers c = λ ends u s. hand_beyond c.args.workers.now c.args.w _ c.if-w-workers.true s.2
+returns-then-w-workers c = λ past u s. hand_beyond c.args.workers.now c.args.w _ c.if-w-workers.true s.2
 
 pub returns-then-from-workers : goal.returns-then-from-workers
-returns-then-from-workers c = λ ends u s. deque_beyond c.args.workers.now c.args.from _ c.if-from-workers.true s.3
+returns-then-from-workers c = λ past u s. deque_beyond c.args.workers.now c.args.from _ c.if-from-workers.true s.3
 
 pub returns-then-not-is_idle : goal.returns-then-not-is_idle
 returns-then-not-is_idle c =
     let ws = c.args.workers.now in
     let d = c.index-workers-w.result in
-    λ ends. busy ws c.args.w c.args.from (get_or ws c.args.w d) ends (at_get ws c.args.w d c.if-w-workers.false) (λ e. true≢false (sym (c.is_idle.ensures.1 e) ∙ c.if-not-is_idle.true))
+    λ past. busy ws c.args.w c.args.from (get_or ws c.args.w d) past (at_get ws c.args.w d c.if-w-workers.false) (λ e. true≢false (sym (c.is_idle.ensures.1 e) ∙ c.if-not-is_idle.true))
 
 pub returns-in_default : goal.returns-in_default
 returns-in_default c =
     let ws = c.args.workers.now in
     let d = c.index-workers-from.result in
-    λ ends. not_stolen ws c.args.w c.args.from (get_or ws c.args.from d) c.give.new.self ends (at_get ws c.args.from d c.if-from-workers.false) c.in_default.ensures
+    λ past. not_stolen ws c.args.w c.args.from (get_or ws c.args.from d) c.give.new.self past (at_get ws c.args.from d c.if-from-workers.false) c.in_default.ensures
 
 pub returns : goal.returns
 returns c =
@@ -31,5 +31,5 @@ returns c =
     let o = c.give.new.self in
     let x = c.index-workers-w-2.result in
     let longer : i < length (set ws j o) = (let z = set_length ws j o in let y = c.if-w-workers.false in omega arith) in
-    λ ends. stolen ws i j (get_or ws i d) (get_or ws j e) o (get_or (set ws j o) i x) c.take.new.self c.in-Some.path ends (λ s. c.if-w-from.false (sym s)) (at_get ws i d c.if-w-workers.false)
+    λ past. stolen ws i j (get_or ws i d) (get_or ws j e) o (get_or (set ws j o) i x) c.take.new.self c.in-Some.path past (λ s. c.if-w-from.false (sym s)) (at_get ws i d c.if-w-workers.false)
     (c.is_idle.ensures.0 c.if-not-is_idle.false) (at_get ws j e c.if-from-workers.false) c.in-Some.ensures (at_get (set ws j o) i x longer) c.in_ok-take.ensures.hand c.in_ok-take.ensures.deque

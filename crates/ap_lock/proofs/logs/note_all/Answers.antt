@@ -1,5 +1,5 @@
 use Rattle.std.proofs.Common.{arith, ◌∙◌, ℕ, take, ap, sym}
-use Rattle.ap_defs.specs.declared.paths.Entry.{Entry}
+use Rattle.ap_paths.specs.declared.entries.Entry.{Entry}
 use Rattle.ap_lock.specs.Turns.{maker_of}
 use Rattle.ap_lock.specs.Seats.{logs_of}
 use Rattle.ap_lock.specs.Noting.{noted}

@@ -5,4 +5,4 @@ pub returns : goal.returns
 returns g c =
     let laws = g.met.T.Tree g.world.𝓛 g.world.𝓜 g.world.𝓡 ((λ s x. x), (λ x. x), (λ x. x), λ x. x) in
     let t = c.args.tree.now in
-    λ history legal true_of closed. merged_whole (g.T.Tree.choices t) (g.T.Tree.at t) history (laws.branches t) legal true_of closed
+    λ l history legal true_of within closed. merged_whole (g.T.Tree.choices t) (g.T.Tree.at t) l history (laws.branches t) legal true_of within closed

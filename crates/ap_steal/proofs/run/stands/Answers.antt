@@ -1,5 +1,5 @@
 use Rattle.std.proofs.Common.{rules, ◌≡◌, ◌∙◌, true, false, sym, ap}
-use Rattle.ap_defs.specs.declared.paths.Entry.{Entry}
+use Rattle.ap_paths.specs.declared.entries.Entry.{Entry}
 use Rattle.ap_paths.specs.Entries.{entry_of}
 use Rattle.ap_paths.specs.History.{is_stop}
 use Rattle.ap_steal.proofs.Whole.{stop_at, no_stop_yet}

@@ -1,4 +1,7 @@
-use Rattle.std.proofs.Common.{rules, ◌≡◌, ◌∙◌, length, sym, vec_len}
+use Rattle.std.proofs.Common.{rules, ◌≡◌, ◌∙◌, length, sym, subst, IfOk, vec_len}
+use Rattle.ap_paths.specs.declared.limits.Limit.{Limit}
+use Rattle.ap_paths.specs.Entries.{entries_of}
+use Rattle.ap_paths.specs.Limits.{AreWithin}
 use Rattle.ap_lock.specs.Seats.{book_id, seats_of, new_seats}
 use Rattle.ap_steal.proofs.Whole.{of_new}
 use Rattle.ap_steal.proofs.searching.search_beside.Goals as goal
@@ -28,3 +31,6 @@ finish-requires-clause-all g c κs within =
     let a : vec_len c.in_ok-jobs.jobs ≡ vec_len c.in_ok-book.seats = search rules in
     let b : vec_len c.in_ok-seats.seats ≡ vec_len c.turned.result = search rules in
     b ∙ c.turned.ensures.len ∙ a ∙ k ∙ n ∙ sym s
+
+pub returns-clause-within : goal.returns-clause-within
+returns-clause-within g c = subst (λ (l : Limit). IfOk c.finish.result (λ x. AreWithin l (entries_of x.history))) c.in_ok-book.ensures.limit c.finish.ensures.within

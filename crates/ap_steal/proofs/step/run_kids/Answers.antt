@@ -1,5 +1,5 @@
 use Rattle.std.proofs.Common.{rules, ◌≡◌, ◌∙◌, ◌++◌, ◌∷◌, ℕ, List, Err, sym, ap, subst}
-use Rattle.ap_defs.specs.declared.paths.Entry.TheVariants.{Split}
+use Rattle.ap_paths.specs.declared.entries.Entry.TheVariants.{Split}
 use Rattle.ap_paths.specs.History.{kids_of}
 use Rattle.ap_book.specs.declared.error.BookError.TheVariants.{NotOpen}
 use Rattle.ap_steal.specs.Order.{IsSole}

@@ -1,5 +1,5 @@
 use Rattle.std.proofs.Common.{rules, ◌≡◌, Err}
-use Rattle.ap_defs.specs.declared.paths.Entry.TheVariants.{Done}
+use Rattle.ap_paths.specs.declared.entries.Entry.TheVariants.{Done}
 use Rattle.ap_book.specs.declared.error.BookError.TheVariants.{NotOpen}
 use Rattle.ap_steal.proofs.Sole.{sole_done, sole_not_done}
 use Rattle.ap_steal.proofs.step.run_outs.Goals as goal

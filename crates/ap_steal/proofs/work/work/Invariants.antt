@@ -1,5 +1,5 @@
 use Rattle.std.proofs.Common.{◌≡◌, true}
-use Rattle.ap_lock.specs.Seats.{book_id, SameSeat}
+use Rattle.ap_lock.specs.Seats.{book_id, limit_of, SameSeat}
 use Rattle.ap_steal.specs.Planned.{OwnPlanned}
 use Rattle.ap_steal.specs.Order.{IsSole}
 use Rattle.ap_steal.proofs.work.work.Given as goal
@@ -8,5 +8,5 @@ abbrev pub invariant-loop : goal.invariant-loop
 invariant-loop g l =
     (l.seat.book ≡ book_id l.book)
     × SameSeat l.fn.job.seat l.seat
-    × OwnPlanned (g.T.Tree.choices l.tree) (g.T.Tree.plan l.tree) l.seat.number l.seat.seen
+    × OwnPlanned (g.T.Tree.choices l.tree) (g.T.Tree.plan l.tree) (limit_of l.book) l.seat.number l.seat.seen
     × (l.fn.job.tools.alone ≡ true → IsSole l.fn.job.tools.hand.items l.fn.job.seat.number l.fn.job.seat.seen → (l.tools.alone ≡ true) × IsSole l.tools.hand.items l.seat.number l.seat.seen)

@@ -1,5 +1,5 @@
 use Rattle.std.proofs.Common.{rules, ◌≡◌, ◌∙◌, ◌<◌, ◌++◌, ◌∷◌, [], true, false, sym, ap, subst, refl, vec_len, vec_capacity}
-use Rattle.ap_defs.specs.declared.paths.Entry.TheVariants.{Done}
+use Rattle.ap_paths.specs.declared.entries.Entry.TheVariants.{Done}
 use Rattle.ap_paths.specs.History.{is_open, open_of}
 use Rattle.ap_paths.specs.Entries.{entries_of}
 use Rattle.ap_book.specs.Kept.{paths_of}

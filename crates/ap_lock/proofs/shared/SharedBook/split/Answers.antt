@@ -1,5 +1,5 @@
 use Rattle.std.proofs.Common.{rules, refl}
-use Rattle.ap_defs.specs.declared.paths.Entry.TheVariants.{Split}
+use Rattle.ap_paths.specs.declared.entries.Entry.TheVariants.{Split}
 use Rattle.ap_book.specs.Answers.{Enters}
 use Rattle.ap_lock.proofs.Shutting.{may_shut, adds_entered}
 use Rattle.ap_lock.proofs.shared.SharedBook.split.Goals as goal

@@ -1,5 +1,5 @@
 use Rattle.std.proofs.Common.{rules, refl}
-use Rattle.ap_defs.specs.declared.paths.Entry.TheVariants.{Stop}
+use Rattle.ap_paths.specs.declared.entries.Entry.TheVariants.{Stop}
 use Rattle.ap_paths.specs.Entries.{entries_of}
 use Rattle.ap_paths.specs.History.{has_stop}
 use Rattle.ap_lock.proofs.Shutting.{may_shut, adds_stop}

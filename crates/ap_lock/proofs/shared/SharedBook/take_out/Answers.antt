@@ -1,5 +1,5 @@
 use Rattle.std.proofs.Common.{◌≡◌, ◌∙◌, ◌≤◌, sym, subst, ℕ, List, []}
-use Rattle.ap_defs.specs.declared.paths.Entry.{Entry}
+use Rattle.ap_paths.specs.declared.entries.Entry.{Entry}
 use Rattle.ap_lock.specs.Seats.{seats_of}
 use Rattle.ap_lock.specs.Turns.{AreKnown, times, places_of}
 use Rattle.ap_lock.proofs.Endings.{taken_out, none_is, some_is}

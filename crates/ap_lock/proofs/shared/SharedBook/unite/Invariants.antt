@@ -1,5 +1,5 @@
 use Rattle.std.proofs.Common.{◌≡◌, ℕ, ◌+◌, List, [], ◌∷◌, ◌++◌, length}
-use Rattle.ap_defs.specs.declared.paths.Entry.{Entry}
+use Rattle.ap_paths.specs.declared.entries.Entry.{Entry}
 use Rattle.ap_lock.specs.declared.view.Stage.TheVariants.{Idle}
 use Rattle.ap_lock.specs.Turns.{AreKnown, times}
 use Rattle.ap_lock.specs.Seats.{book_id, AreOf, AreLogged, seats_with}

@@ -1,0 +1,22 @@
+use Rattle.std.proofs.Common.{◌≡◌, ◌∷◌, if◌then◌else◌, Bool, List, ℕ, sym, subst}
+use Rattle.ap_steal.specs.Order.{IsSole}
+use Rattle.ap_steal.proofs.step.run_path.Goals as goal
+
+pub returns-then-not-needed-clause-order : goal.returns-then-not-needed-clause-order
+returns-then-not-needed-clause-order g c alone sole =
+    let p = c.path.result.now in
+    let hand = c.args.tools.now.hand.items in
+    let seat = c.args.seat.now in
+    let new = c.is_needed.new.seat in
+    let here = subst (λ (x : List ℕ). IsSole (x ∷ hand) seat.number seat.seen) (sym c.path.ensures.same) sole in
+    subst (λ (b : Bool). IsSole (if b then p ∷ hand else hand) new.number new.seen) c.if-not-needed.true (c.in_ok-needed.ensures.order hand here)
+
+pub returns-clause-order : goal.returns-clause-order
+returns-clause-order g c alone sole =
+    let p = c.path.result.now in
+    let hand = c.args.tools.now.hand.items in
+    let seat = c.args.seat.now in
+    let new = c.is_needed.new.seat in
+    let here = subst (λ (x : List ℕ). IsSole (x ∷ hand) seat.number seat.seen) (sym c.path.ensures.same) sole in
+    let after = subst (λ (b : Bool). IsSole (if b then p ∷ hand else hand) new.number new.seen) c.if-not-needed.false (c.in_ok-needed.ensures.order hand here) in
+    c.visit_path-2.ensures.order alone (subst (λ (x : List ℕ). IsSole (x ∷ hand) new.number new.seen) c.path.ensures.same after)
