@@ -6,6 +6,7 @@ pub mod DisplayLemmas
 pub mod LineLemmas
 pub mod MembershipLemmas
 pub mod QueryLemmas
+pub mod SoundlyShownLemmas
 pub mod SeparatedLemmas
 pub mod TextLemmas
 pub mod WordLemmas

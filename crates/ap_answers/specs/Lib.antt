@@ -10,3 +10,4 @@ pub mod Displays
 pub mod Separated
 pub mod Runs
 pub mod Queries
+pub mod SoundlyShown

@@ -6,7 +6,9 @@ ghost use Rattle.ap_defs.specs.Goals.{program_of};
 ghost use Rattle.ap_defs.specs.Answers.{answer_of, outs_of};
 ghost use Rattle.ap_defs.specs.Lines.{shown_in, query_lines};
 ghost use Rattle.ap_defs.specs.Printing.{has_word};
+ghost use Rattle.ap_program.specs.NameRestriction.{IsRestricted};
 ghost use Rattle.ap_answers.specs.Queries.{query_locals, nominal_shown};
+ghost use Rattle.ap_answers.specs.SoundlyShown.{IsSoundlyShown};
 ghost use Rattle.ap_answers.specs.Words.{knows};
 
 use crate::copying::shown_of;
@@ -21,11 +23,12 @@ use ap_program::restricted::Restricted;
 use std::alloc::Global;
 use std::collections::HashSet;
 
-/// The identifiers of the query of this number, from 1.
+/// The identifiers of the query of this number, from 1, and that the program is restricted.
 fn locals_in(program: &Restricted, query: u32) -> &[Local]
     requires from_one { 1 ≤ query }
     requires exists { query ≤ length (program_of program.now).queries }
-    ensures { locals_of result.now ≡ query_locals (program_of program.now) query }
+    ensures locals { locals_of result.now ≡ query_locals (program_of program.now) query }
+    ensures restricted { IsRestricted (program_of program.now) }
 {
     let query = &program.program().queries.items()[(query - 1) as usize];
     query.locals.items()
@@ -33,7 +36,9 @@ fn locals_in(program: &Restricted, query: u32) -> &[Local]
 
 /// What is shown of an answer to the query of this number, from 1: the bindings of variables other than
 /// `_`, the conditions whose variable occurs in these and whose name does or is a free name of the query,
-/// and the names and variables that print as generated.
+/// and the names and variables that print as generated. Where the query is derivable in each instance of
+/// the answer, whoever made it, it is in each instance of what is shown, if each of the answer's variables
+/// has one type, and that is inhabited.
 pub fn canonical(
     alloc: Global,
     program: &Restricted,
@@ -42,7 +47,10 @@ pub fn canonical(
 ) -> Result<Shown, Memory>
     requires from_one { 1 ≤ query }
     requires exists { query ≤ length (program_of program.now).queries }
-    ensures { IfOk result (λ shown. nominal_shown shown ≡ shown_in (query_locals (program_of program.now) query) (answer_of answer.now)) }
+    ensures shown { IfOk result (λ shown. nominal_shown shown ≡
+        shown_in (query_locals (program_of program.now) query) (answer_of answer.now)) }
+    ensures sound { IfOk result (λ shown.
+        IsSoundlyShown (program_of program.now) query (answer_of answer.now) (nominal_shown shown)) }
 {
     let locals = locals_in(program, query);
     let display = display_of(alloc, locals, answer)?;

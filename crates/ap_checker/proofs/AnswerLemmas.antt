@@ -1,44 +1,22 @@
--- Steps of the loops over the typed variables and the conditions of an answer.
-use Rattle.std.proofs.Common.{◌≡◌, ◌<◌, ◌+◌, ℕ, suc, true, false, ◌&&◌, ◌||◌, not, List, map, length, get_or, drop, sym, ap, ◌∙◌, add-one, arith}
+-- Steps of the loop over the conditions of an answer, and its tests together.
+use Rattle.std.proofs.Common.{◌≡◌, ◌<◌, ◌+◌, ℕ, Bool, true, false, ◌&&◌, List, map, length, get_or, drop, refl, sym, ap, ◌∙◌, add-one}
 use Rattle.std.proofs.Math.Seq.{drop-cons}
-use Rattle.std.proofs.lemmas.Bool.Decides.{nat_tests}
 use Rattle.std.specs.List.{list_all}
 use Rattle.ap_defs.specs.declared.terms.Cond.{Cond}
 use Rattle.ap_defs.specs.declared.terms.Ty.{Ty}
 use Rattle.ap_defs.specs.declared.terms.Var.{Var}
-use Rattle.ap_defs.specs.Answers.{typed_var_of}
-use Rattle.ap_defs.specs.Freshness.{Conds, var_eq}
+use Rattle.ap_defs.specs.Answers.{NominalAnswer, typed_var_of}
+use Rattle.ap_defs.specs.Derivations.{NominalDerivation}
+use Rattle.ap_defs.specs.Goals.{NominalProgram, NominalQuery}
+use Rattle.ap_defs.specs.Renaming.{local_names}
+use Rattle.ap_defs.specs.Resolution.{kinds_of}
+use Rattle.ap_checks.specs.Checks.{at, is_answer, no, refusal, test, verdict, verdict_on}
+use Rattle.ap_checks.specs.OpenEnvironments.{open_environment}
+use Rattle.ap_defs.specs.Freshness.{Conds}
 use Rattle.ap_defs.specs.Unification.{has_var}
-use Rattle.ap_checks.specs.Checks.{each_once}
 
 abbrev pub firsts : List (Var × Ty) → List Var
 firsts vs = map (λ v. v.0) (map typed_var_of vs)
-
-number_eq : (x y : Var) → x.num ≡ y.num → var_eq x y ≡ true
-number_eq x y h = grind (arith, nat_tests)
-
-number_ne : (x y : Var) → (x.num ≡ y.num → ⊥) → var_eq x y ≡ false
-number_ne x y h = grind (arith, nat_tests)
-
-module _ (vs : List (Var × Ty)) (i : ℕ) (d : Var × Ty) (h : i < length vs) where
-  pub typed_here : (x : Var) → x.num ≡ (get_or vs i d).0.num → has_var x (map (λ v. v.0) (map typed_var_of (drop i vs))) ≡ true
-  typed_here x e = ap (λ ws. has_var x (firsts ws)) (drop-cons vs i d h) ∙ ap (λ v. v || has_var x (firsts (drop (suc i) vs))) (number_eq x (get_or vs i d).0 e)
-
-  pub typed_later : (x : Var) → (x.num ≡ (get_or vs i d).0.num → ⊥) → has_var x (map (λ v. v.0) (map typed_var_of (drop (i + 1) vs))) ≡ has_var x (map (λ v. v.0) (map typed_var_of (drop i vs)))
-  typed_later x e =
-      ap (λ n. has_var x (firsts (drop n vs))) (add-one i)
-      ∙ sym (ap (λ ws. has_var x (firsts ws)) (drop-cons vs i d h) ∙ ap (λ v. v || has_var x (firsts (drop (suc i) vs))) (number_ne x (get_or vs i d).0 e))
-
-  once_split : each_once (map typed_var_of (drop i vs)) ≡ (not (has_var (get_or vs i d).0 (firsts (drop (i + 1) vs))) && each_once (map typed_var_of (drop (i + 1) vs)))
-  once_split =
-      ap (λ ws. each_once (map typed_var_of ws)) (drop-cons vs i d h)
-      ∙ ap (λ n. not (has_var (get_or vs i d).0 (firsts (drop n vs))) && each_once (map typed_var_of (drop n vs))) (sym (add-one i))
-
-  pub twice_here : has_var (get_or vs i d).0 (map (λ v. v.0) (map typed_var_of (drop (i + 1) vs))) ≡ true → each_once (map typed_var_of (drop i vs)) ≡ false
-  twice_here e = once_split ∙ ap (λ v. not v && each_once (map typed_var_of (drop (i + 1) vs))) e
-
-  pub once_later : has_var (get_or vs i d).0 (map (λ v. v.0) (map typed_var_of (drop (i + 1) vs))) ≡ false → each_once (map typed_var_of (drop (i + 1) vs)) ≡ each_once (map typed_var_of (drop i vs))
-  once_later e = sym (once_split ∙ ap (λ v. not v && each_once (map typed_var_of (drop (i + 1) vs))) e)
 
 module _ (vs : List (Var × Ty)) (cs : Conds) (i : ℕ) (d : Cond) (h : i < length cs) where
   conds_split : list_all (λ c. has_var c.var (firsts vs)) (drop i cs) ≡ (has_var (get_or cs i d).var (firsts vs) && list_all (λ c. has_var c.var (firsts vs)) (drop (i + 1) cs))
@@ -52,3 +30,15 @@ module _ (vs : List (Var × Ty)) (cs : Conds) (i : ℕ) (d : Cond) (h : i < leng
   pub conds_later : has_var (get_or cs i d).var (map (λ v. v.0) (map typed_var_of vs)) ≡ true
       → list_all (λ c. has_var c.var (map (λ v. v.0) (map typed_var_of vs))) (drop (i + 1) cs) ≡ list_all (λ c. has_var c.var (map (λ v. v.0) (map typed_var_of vs))) (drop i cs)
   conds_later e = sym (conds_split ∙ ap (λ v. v && list_all (λ c. has_var c.var (firsts vs)) (drop (i + 1) cs)) e)
+
+-- an answer none of whose variables stands twice
+pub fits_once : (binds once conds : Bool) → once ≡ true → (binds && conds) ≡ (binds && (once && conds))
+fits_once binds once conds h = ap (λ v. binds && (v && conds)) (sym h)
+
+pub twice_fits_not : (binds once conds : Bool) → once ≡ false → (binds && (once && conds)) ≡ false
+twice_fits_not true once conds h = ap (λ v. v && conds) h
+twice_fits_not false once conds h = refl
+
+pub answer_refused : (p : NominalProgram) (q : NominalQuery) (a : NominalAnswer) (d : NominalDerivation) → is_answer p q a ≡ false → no 0 10 ≡ verdict_on p q a d
+answer_refused p q a d h =
+    sym (ap (λ v. verdict (test v (at 0 10) (refusal p a (kinds_of q.locals) 1 d q.goal (open_environment q.locals (local_names 0 q.locals) a.binds)))) h)

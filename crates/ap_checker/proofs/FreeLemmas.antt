@@ -1,14 +1,12 @@
 -- The names and variables of terms, one after another.
-use Rattle.std.proofs.Common.{◌≡◌, ◌<◌, ◌+◌, ℕ, suc, true, false, List, [], ◌∷◌, ◌++◌, length, map, get_or, drop, take, refl, sym, ap, ap₂, ◌∙◌, append_assoc, add-one}
+use Rattle.std.proofs.Common.{◌≡◌, ◌<◌, ◌+◌, ℕ, List, [], ◌∷◌, ◌++◌, length, map, get_or, drop, take, refl, sym, ap, ◌∙◌, append_assoc, add-one}
 use Rattle.std.proofs.Math.Seq.{drop-cons, take-suc}
-use Rattle.std.specs.Prelude.{if◌then◌else◌}
 use Rattle.ap_defs.specs.declared.terms.Name.{Name}
 use Rattle.ap_defs.specs.declared.terms.Swap.{Swap}
 use Rattle.ap_defs.specs.declared.terms.Term.{Term}
 use Rattle.ap_defs.specs.declared.terms.Var.{Var}
-use Rattle.ap_defs.specs.Occurrences.{names_of_terms, names_then, vars_of_terms, without_name, without_var}
-use Rattle.ap_defs.specs.Freshness.{var_eq}
-use Rattle.ap_defs.specs.Permutations.{left_name, name_eq, names_of, right_name}
+use Rattle.ap_defs.specs.Occurrences.{names_of_terms, names_then, vars_of_terms}
+use Rattle.ap_defs.specs.Permutations.{left_name, names_of, right_name}
 use Rattle.ap_defs.specs.Terms.{NominalTerm, abs, app, name, pair, susp, term_of, unit}
 use Rattle.ap_defs.specs.Unification.{vars_then}
 
@@ -78,37 +76,3 @@ each_vars ts i d xs ys h e =
     let rest = vars_of_terms (map term_of (drop (i + 1) ts)) in
     ap (λ z. z ++ rest) e ∙ append_assoc xs (vars_then t []) rest ∙ ap (λ z. xs ++ z) (sym (then_vars t rest)
     ∙ sym (ap (λ us. vars_of_terms (map term_of us)) (drop-cons ts i d h ∙ ap (λ n. get_or ts i d ∷ drop n ts) (sym (add-one i)))))
-
--- one more name or variable
-pub without_drop : (a : Name) (names : List Name) (i : ℕ) (d : Name) → i < length names → name_eq a (get_or names i d) ≡ true → without_name a (drop (i + 1) names) ≡ without_name a (drop i names)
-without_drop a names i d h e =
-    ap (λ n. without_name a (drop n names)) (add-one i)
-    ∙ sym (ap (without_name a) (drop-cons names i d h) ∙ ap (λ v. if v then without_name a (drop (suc i) names) else (get_or names i d ∷ without_name a (drop (suc i) names))) e)
-
-pub without_keep : (a : Name) (names : List Name) (i : ℕ) (d : Name) (as' bs : List Name) → i < length names → name_eq a (get_or names i d) ≡ false → bs ≡ as' ++ (get_or names i d ∷ [])
-    → bs ++ without_name a (drop (i + 1) names) ≡ as' ++ without_name a (drop i names)
-without_keep a names i d as' bs h e k =
-    ap₂ (λ z n. z ++ without_name a (drop n names)) k (add-one i) ∙ append_assoc as' (get_or names i d ∷ []) (without_name a (drop (suc i) names))
-    ∙ ap (λ z. as' ++ z) (sym (ap (without_name a) (drop-cons names i d h) ∙ ap (λ v. if v then without_name a (drop (suc i) names) else (get_or names i d ∷ without_name a (drop (suc i) names))) e))
-
-pub without_var_drop : (x : Var) (vars : List Var) (i : ℕ) (d : Var) → i < length vars → var_eq x (get_or vars i d) ≡ true → without_var x (drop (i + 1) vars) ≡ without_var x (drop i vars)
-without_var_drop x vars i d h e =
-    ap (λ n. without_var x (drop n vars)) (add-one i)
-    ∙ sym (ap (without_var x) (drop-cons vars i d h) ∙ ap (λ v. if v then without_var x (drop (suc i) vars) else (get_or vars i d ∷ without_var x (drop (suc i) vars))) e)
-
-pub without_var_keep : (x : Var) (vars : List Var) (i : ℕ) (d : Var) (xs ys : List Var) → i < length vars → var_eq x (get_or vars i d) ≡ false → ys ≡ xs ++ (get_or vars i d ∷ [])
-    → ys ++ without_var x (drop (i + 1) vars) ≡ xs ++ without_var x (drop i vars)
-without_var_keep x vars i d xs ys h e k =
-    ap₂ (λ z n. z ++ without_var x (drop n vars)) k (add-one i) ∙ append_assoc xs (get_or vars i d ∷ []) (without_var x (drop (suc i) vars))
-    ∙ ap (λ z. xs ++ z) (sym (ap (without_var x) (drop-cons vars i d h) ∙ ap (λ v. if v then without_var x (drop (suc i) vars) else (get_or vars i d ∷ without_var x (drop (suc i) vars))) e))
-
--- what is right of what was added
-module _ {A : Type 0} where
-  added : (xs ys gs hs : List A) → ys ≡ xs ++ gs → ys ++ hs ≡ xs ++ (gs ++ hs)
-  added xs ys gs hs h = ap (λ z. z ++ hs) h ∙ append_assoc xs gs hs
-
-pub both_names : (as' bs gs hs : List Name) → bs ≡ as' ++ gs → bs ++ hs ≡ as' ++ (gs ++ hs)
-both_names = added
-
-pub both_vars : (xs ys gs hs : List Var) → ys ≡ xs ++ gs → ys ++ hs ≡ xs ++ (gs ++ hs)
-both_vars = added

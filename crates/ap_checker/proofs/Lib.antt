@@ -1,5 +1,4 @@
 pub mod SwappingLemmas
-pub mod ConditionLemmas
 pub mod SettledLemmas
 pub mod TypeLemmas
 pub mod LocalLemmas
@@ -10,3 +9,6 @@ pub mod NewNameLemmas
 pub mod AnswerLemmas
 pub mod ClauseLemmas
 pub mod WalkLemmas
+pub mod StackLemmas
+pub mod IndexLemmas
+pub mod ComparisonLemmas

@@ -1,30 +1,11 @@
--- Steps of the loops over the names and the terms of a node.
-use Rattle.std.proofs.Common.{◌≡◌, ◌<◌, ◌+◌, ℕ, suc, Bool, true, false, ◌&&◌, ◌||◌, not, List, [], ◌∷◌, length, get_or, drop, map, refl, sym, ap, ap₂, ◌∙◌, add-one}
+-- Steps of the loop over the terms of a node.
+use Rattle.std.proofs.Common.{◌≡◌, ◌<◌, ◌+◌, ℕ, suc, Bool, true, false, ◌&&◌, List, [], ◌∷◌, length, get_or, drop, map, refl, sym, ap, ap₂, ◌∙◌, add-one}
 use Rattle.std.proofs.Math.Seq.{drop-cons}
-use Rattle.ap_defs.specs.declared.terms.Name.{Name}
 use Rattle.ap_defs.specs.declared.terms.Term.{Term}
 use Rattle.ap_defs.specs.Freshness.{Conds, alpha_under}
-use Rattle.ap_defs.specs.Permutations.{has_name, name_eq}
 use Rattle.ap_defs.specs.Terms.{term_of}
 use Rattle.std.specs.Prelude.{Option, Some}
-use Rattle.ap_checks.specs.Checks.{Refusal, are_different, equal_each, test}
-
-pub among_here : (a : Name) (names : List Name) (i : ℕ) (d : Name) → i < length names → name_eq a (get_or names i d) ≡ true → has_name a (drop i names) ≡ true
-among_here a names i d h e = ap (has_name a) (drop-cons names i d h) ∙ ap (λ v. v || has_name a (drop (suc i) names)) e
-
-pub among_later : (a : Name) (names : List Name) (i : ℕ) (d : Name) → i < length names → name_eq a (get_or names i d) ≡ false → has_name a (drop (i + 1) names) ≡ has_name a (drop i names)
-among_later a names i d h e =
-    ap (λ n. has_name a (drop n names)) (add-one i) ∙ sym (ap (has_name a) (drop-cons names i d h) ∙ ap (λ v. v || has_name a (drop (suc i) names)) e)
-
-differ_split : (names : List Name) (i : ℕ) (d : Name) → i < length names → are_different (drop i names) ≡ (not (has_name (get_or names i d) (drop (i + 1) names)) && are_different (drop (i + 1) names))
-differ_split names i d h =
-    ap are_different (drop-cons names i d h) ∙ ap (λ n. not (has_name (get_or names i d) (drop n names)) && are_different (drop n names)) (sym (add-one i))
-
-pub differ_not : (names : List Name) (i : ℕ) (d : Name) → i < length names → has_name (get_or names i d) (drop (i + 1) names) ≡ true → are_different (drop i names) ≡ false
-differ_not names i d h e = differ_split names i d h ∙ ap (λ v. not v && are_different (drop (i + 1) names)) e
-
-pub differ_later : (names : List Name) (i : ℕ) (d : Name) → i < length names → has_name (get_or names i d) (drop (i + 1) names) ≡ false → are_different (drop (i + 1) names) ≡ are_different (drop i names)
-differ_later names i d h e = sym (differ_split names i d h ∙ ap (λ v. not v && are_different (drop (i + 1) names)) e)
+use Rattle.ap_checks.specs.Checks.{Refusal, equal_each, test}
 
 pub lengths_differ : (ds : Conds) (ts us : List Term) → (length ts ≡ length us → ⊥) → equal_each ds (map term_of ts) (map term_of us) ≡ false
 lengths_differ ds [] [] h = absurd (h refl)

@@ -1,15 +1,8 @@
--- Looking up constructors by number, and types beside variables.
-use Rattle.std.proofs.Common.{◌≡◌, ◌<◌, ◌≤◌, ◌+◌, ◌-◌, ◌∙◌, ℕ, zero, suc, true, false, List, [], ◌∷◌, map, length, drop, refl, sym, ap, arith, get_or, Some, None, add-one}
-use Rattle.std.proofs.Math.Seq.{drop-cons}
-use Rattle.std.specs.Prelude.{if◌then◌else◌}
+-- Looking up constructors by number.
+use Rattle.std.proofs.Common.{◌≡◌, ◌<◌, ◌≤◌, ◌-◌, ◌∙◌, ℕ, zero, suc, List, [], ◌∷◌, map, length, refl, sym, ap, arith, get_or, Some, None}
 use Rattle.ap_defs.specs.declared.goals.Constructor.{Constructor}
-use Rattle.ap_defs.specs.declared.terms.Ty.{Ty}
-use Rattle.ap_defs.specs.declared.terms.Var.{Var}
-use Rattle.ap_defs.specs.Answers.{typed_var_of}
-use Rattle.ap_defs.specs.Freshness.{var_eq}
-use Rattle.ap_defs.specs.Types.{NominalConstructor, constructor_of, type_of}
+use Rattle.ap_defs.specs.Types.{NominalConstructor, constructor_of}
 use Rattle.ap_defs.specs.Printing.{constructor_in}
-use Rattle.ap_checks.specs.TypeTests.{type_beside}
 
 pub constructor_low : (cs : List NominalConstructor) (f : ℕ) → f < 2 → constructor_in cs f ≡ None
 constructor_low [] f l = refl
@@ -36,13 +29,3 @@ pub constructor_past : (cs : List Constructor) (f : ℕ) → 2 ≤ f → length 
 constructor_past cs f h l =
     let s : f ≡ suc (suc (f - 2)) = omega arith in
     ap (constructor_in (map constructor_of cs)) s ∙ past_two_more cs (f - 2) l
-
-pub beside_here : (vs : List (Var × Ty)) (x : Var) (i : ℕ) (d : Var × Ty) → i < length vs → var_eq (get_or vs i d).0 x ≡ true → type_beside (map typed_var_of (drop i vs)) x ≡ Some (type_of (get_or vs i d).1)
-beside_here vs x i d h e =
-    ap (λ ws. type_beside (map typed_var_of ws) x) (drop-cons vs i d h)
-    ∙ ap (λ b. if b then Some (type_of (get_or vs i d).1) else type_beside (map typed_var_of (drop (suc i) vs)) x) e
-
-pub beside_later : (vs : List (Var × Ty)) (x : Var) (i : ℕ) (d : Var × Ty) → i < length vs → var_eq (get_or vs i d).0 x ≡ false → type_beside (map typed_var_of (drop (i + 1) vs)) x ≡ type_beside (map typed_var_of (drop i vs)) x
-beside_later vs x i d h e =
-    sym (ap (λ ws. type_beside (map typed_var_of ws) x) (drop-cons vs i d h ∙ ap (λ n. get_or vs i d ∷ drop n vs) (sym (add-one i)))
-    ∙ ap (λ b. if b then Some (type_of (get_or vs i d).1) else type_beside (map typed_var_of (drop (i + 1) vs)) x) e)

@@ -4,3 +4,7 @@ pub mod FreeLocals
 pub mod Scopes
 pub mod Rules
 pub mod Walks
+pub mod Indexes
+pub mod Stacks
+pub mod Comparisons
+pub mod NewNames

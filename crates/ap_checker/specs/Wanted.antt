@@ -1,9 +1,13 @@
 -- What an application's argument is to be: of the program's values, and of the parts of a pair and the argument of an application.
-use Rattle.std.specs.Prelude.{ℕ, zero, suc, ◌==◌, if◌then◌else◌, List, map, Option, Some, None}
+use Rattle.std.specs.Prelude.{ℕ, zero, suc, Bool, ◌==◌, if◌then◌else◌, List, map, Option, Some, None}
 use Rattle.ap_defs.specs.Printing.{constructor_in}
 use Rattle.ap_defs.specs.Types as types
 use Rattle.ap_defs.specs.Types.{NominalConstructor, type_of}
-use Rattle.ap_defs.specs.Typing.{Want, arguments, more, nothing, one}
+use Rattle.ap_defs.specs.Terms.{term_of}
+use Rattle.ap_defs.specs.Typing.{VarTypes, Want, arguments, more, nothing, one}
+use Rattle.ap_defs.specs.Unification.{size}
+use Rattle.ap_checks.specs.TypeTests.{is_typed}
+use Rattle.ap_checker.specs.declared.types.Expected.{Expected}
 use Rattle.ap_checker.specs.declared.types.Wanted.{Wanted}
 use Rattle.ap_checker.specs.declared.types.Wanted.TheVariants as code
 
@@ -29,3 +33,10 @@ inside_of cs zero (one (types.list a)) = Some nothing
 inside_of cs (suc zero) (one (types.list a)) = Some (more a (one (types.list a)))
 inside_of cs f (one (types.base d)) = declared_inside (constructor_in cs f) d
 inside_of cs f _ = None
+
+-- a term is what it is to be
+abbrev pub is_expected : List NominalConstructor → VarTypes → Expected → Bool
+is_expected cs vars e = is_typed cs vars (term_of e.term.now) (want_of e.wanted)
+
+abbrev pub expected_size : Expected → ℕ
+expected_size e = size (term_of e.term.now)

@@ -1,79 +1,77 @@
-//! Freshness and equality of nominal terms under conditions, after Urban, Pitts and Gabbay.
+//! Equality of nominal terms under conditions, after Urban, Pitts and Gabbay.
+//!
+//! Where two binders differ, no copy of a body is made: the swapping of the two acts on all that is below
+//! it, and is kept beside the terms. What is left to compare stands on a stack, so no term is too deep.
 
-ghost use Rattle.std.specs.Prelude.{◌≡◌, ◌==◌, ◌&&◌, ◌||◌, [], ◌∷◌, true, false, IfOk, MatchOption};
-ghost use Rattle.ap_defs.specs.Freshness.{all_fresh, alpha_under, cond_eq, fresh_under, has_cond};
-ghost use Rattle.ap_defs.specs.Permutations.{act_name, disagreement, name_eq, swap_of};
-ghost use Rattle.ap_defs.specs.Terms.{act_term, term_of};
+ghost use Rattle.std.specs.Prelude.{◌≡◌, ◌++◌, [], ◌∷◌, ◌||◌, length, reverse, IfOk, OnOk};
+ghost use Rattle.ap_defs.specs.Freshness.{all_fresh, alpha_under};
+ghost use Rattle.ap_defs.specs.Permutations.{disagreement, inverse, swap_of};
+ghost use Rattle.ap_defs.specs.Terms.{abs, susp, term_of};
+ghost use Rattle.ap_checker.specs.declared.equality.Compared.{Compared};
+ghost use Rattle.ap_checker.specs.Comparisons.{are_alike, mark_of, size_of};
 ghost use Rattle.ap_checker.specs.Settled.{are_settled, is_settled};
+ghost use Rattle.ap_checker.specs.Stacks.{AreWithin, IsTestedThere};
 
-use crate::swappings::{image, moved, preimage};
+use crate::freshness::is_fresh_under;
+use crate::index::IndexedAnswer;
+use crate::swappings::{image, is_same, preimage};
 use ap_defs::memory::Memory;
 use ap_defs::terms::{Cond, Name, Swap, Term, Var};
 use std::alloc::Global;
 
-/// Whether two conditions are one.
-#[tactic(auto, unfolding(ap_defs::specs::Permutations::name_eq))]
-fn is_same(c: &Cond, d: &Cond) -> bool
-    ensures { result ≡ cond_eq c.now d.now }
-{
-    c == d
+/// Two terms that are yet to be compared, and how many of the swappings act on the second.
+#[derive(Clone, Copy)]
+pub(crate) struct Compared<'a> {
+    pub left: &'a Term,
+    pub right: &'a Term,
+    pub mark: usize,
 }
 
-/// Whether the condition is among the conditions.
-#[tactic(auto, using(crate::proofs::ConditionLemmas::not_yet, crate::proofs::ConditionLemmas::found_here))]
-fn has(conds: &[Cond], c: &Cond) -> bool
-    ensures { result ≡ has_cond c.now conds.now }
-{
-    for d in conds {
-        if is_same(c, d) {
-            return true;
-        }
+/// The swappings that act on second terms, of which the last acts last, and the terms that are left to
+/// compare, the next ones last.
+#[derive(Drop)]
+pub(crate) struct Comparison<'a> {
+    pub swaps: Vec<Swap>,
+    pub pending: Vec<Compared<'a>>,
+}
+
+impl<'a> Comparison<'a> {
+    /// The two terms come next, the second with all swappings.
+    fn put(&mut self, left: &'a Term, right: &'a Term) -> Result<(), Memory>
+        ensures swaps { self.new.swaps.items ≡ self.old.swaps.items }
+        ensures pending { OnOk result (self.new.pending.items ≡ self.old.pending.items
+            ++ (record { left = left.entry; right = right.entry; mark = length self.old.swaps.items }) ∷ []) }
+    {
+        let mark = self.swaps.len();
+        self.pending.push(Compared { left, right, mark })?;
+        Ok(())
     }
-    false
-}
 
-/// Whether the name is fresh for the term under the conditions. It takes no memory.
-#[tactic(auto, unfolding(ap_defs::specs::Permutations::name_eq))]
-pub fn is_fresh_under(conds: &[Cond], a: Name, t: &Term) -> bool
-    ensures { result ≡ fresh_under conds.now a (term_of t.now) }
-{
-    let mut rest = t;
-    loop {
-        match rest {
-            Term::Unit => return true,
-            Term::Name(b) => return a != *b,
-            Term::Susp(swaps, x) => {
-                let name = preimage(swaps.items(), a);
-                return has(conds, &Cond { name, var: *x });
-            }
-            Term::Pair(left, right) => {
-                if !is_fresh_under(conds, a, left) {
-                    return false;
-                }
-                rest = right;
-            }
-            Term::App(_, argument) => rest = argument,
-            Term::Abs(b, body) => {
-                if a == *b {
-                    return true;
-                }
-                rest = body;
-            }
-        }
+    /// One more swapping acts, after all others.
+    fn swap(&mut self, a: Name, b: Name) -> Result<(), Memory>
+        ensures swaps { OnOk result (self.new.swaps.items ≡ self.old.swaps.items ++ swap_of a b ∷ []) }
+        ensures pending { self.new.pending.items ≡ self.old.pending.items }
+    {
+        self.swaps.push(Swap {
+            sort: a.sort,
+            left: a.num,
+            right: b.num,
+        })?;
+        Ok(())
     }
 }
 
 /// Whether the two lists of swappings agree on the name, or it is known to be fresh for the variable.
 #[tactic(auto, unfolding(ap_defs::specs::Permutations::name_eq))]
-fn settles(conds: &[Cond], p: &[Swap], q: &[Swap], name: Name, var: Var) -> bool
-    ensures { result ≡ is_settled conds.now p.now q.now var name }
+fn settles(answer: &IndexedAnswer<'_>, p: &[Swap], q: &[Swap], name: Name, var: Var) -> bool
+    ensures { result ≡ is_settled answer.now.conds p.now q.now var name }
 {
-    image(p, name) == image(q, name) || has(conds, &Cond { name, var })
+    image(p, name) == image(q, name) || answer.has(&Cond { name, var })
 }
 
 /// Whether they do so on each name of some swappings.
-fn settles_each(conds: &[Cond], p: &[Swap], q: &[Swap], of: &[Swap], var: Var) -> bool
-    ensures { result ≡ are_settled conds.now p.now q.now var of.now }
+fn settles_each(answer: &IndexedAnswer<'_>, p: &[Swap], q: &[Swap], of: &[Swap], var: Var) -> bool
+    ensures { result ≡ are_settled answer.now.conds p.now q.now var of.now }
 {
     for s in of {
         let left = Name {
@@ -84,7 +82,7 @@ fn settles_each(conds: &[Cond], p: &[Swap], q: &[Swap], of: &[Swap], var: Var) -
             sort: s.sort,
             num: s.right,
         };
-        if !settles(conds, p, q, left, var) || !settles(conds, p, q, right, var) {
+        if !settles(answer, p, q, left, var) || !settles(answer, p, q, right, var) {
             return false;
         }
     }
@@ -93,81 +91,135 @@ fn settles_each(conds: &[Cond], p: &[Swap], q: &[Swap], of: &[Swap], var: Var) -
 
 /// Whether each name on which the two lists of swappings differ is known to be fresh for the variable.
 #[tactic(auto, using(crate::proofs::SettledLemmas::settled_then, crate::proofs::SettledLemmas::settled_else))]
-fn differ_freshly(conds: &[Cond], p: &[Swap], q: &[Swap], var: Var) -> bool
-    ensures { result ≡ all_fresh conds.now (disagreement p.now q.now) var }
+fn differ_freshly(answer: &IndexedAnswer<'_>, p: &[Swap], q: &[Swap], var: Var) -> bool
+    ensures { result ≡ all_fresh answer.now.conds (disagreement p.now q.now) var }
 {
-    settles_each(conds, p, q, p, var) && settles_each(conds, p, q, q, var)
+    settles_each(answer, p, q, p, var) && settles_each(answer, p, q, q, var)
 }
 
-/// The body of an abstraction of `b` with `a` for its binder, which is another name, if it can be that.
-#[tactic(auto, unfolding(ap_defs::specs::Permutations::name_eq))]
-fn with_binder(
-    alloc: Global,
-    conds: &[Cond],
-    a: Name,
-    b: Name,
-    body: &Term,
-) -> Result<Option<Term>, Memory>
-    ensures { IfOk result (λ o. MatchOption o
-        ((a.sort == b.sort) && fresh_under conds.now a (term_of body.now) ≡ false)
-        (λ u. ((a.sort == b.sort) && fresh_under conds.now a (term_of body.now) ≡ true)
-        × (term_of u ≡ act_term (swap_of a b ∷ []) (term_of body.now)))) }
+/// The swappings, the last one first, in front of others.
+fn in_front(alloc: Global, swaps: &[Swap], others: &[Swap]) -> Result<Vec<Swap>, Memory>
+    ensures { IfOk result (λ v. v.items ≡ inverse swaps.now ++ others.now) }
 {
-    if a.sort != b.sort || !is_fresh_under(conds, a, body) {
-        return Ok(None);
+    let mut all = Vec::new(alloc);
+    for i in (0..swaps.len()).rev() {
+        all.push(swaps[i])?;
     }
-    let swap = [Swap {
-        sort: a.sort,
-        left: a.num,
-        right: b.num,
-    }];
-    let swapped = moved(alloc, &swap, body)?;
-    Ok(Some(swapped))
+    all.extend_from_slice(others)?;
+    Ok(all)
 }
 
-/// Whether two terms are equal under the conditions. A binder is renamed by a swapping, so this
-/// answers `Memory` where there is none for the term that is swapped.
-///
-/// It goes on along the right parts of pairs, the arguments of constructors and the bodies of
-/// abstractions with one binder, and calls itself elsewhere.
-#[tactic(auto, unfolding(ap_defs::specs::Permutations::name_eq))]
-pub fn are_equal_under(alloc: Global, conds: &[Cond], t: &Term, u: &Term) -> Result<bool, Memory>
-    ensures { IfOk result (λ yes. yes ≡ alpha_under conds.now (term_of t.now) (term_of u.now)) }
+/// Compares the heads of two abstractions: their bodies come next, and where the binders differ, the
+/// second body with one more swapping.
+fn compare_bodies<'a>(
+    alloc: Global,
+    answer: &IndexedAnswer<'_>,
+    walk: &mut Comparison<'a>,
+    binders: (Name, Name),
+    left: &'a Term,
+    right: &'a Term,
+) -> Result<bool, Memory>
+    requires { AreWithin mark_of (length walk.old.swaps.items) (reverse walk.old.pending.items) }
+    ensures { IfOk result (λ yes. (c : Compared) →
+        term_of c.left.now ≡ abs binders.0 (term_of left.now) →
+        term_of c.right.now ≡ abs binders.1 (term_of right.now) →
+        IsTestedThere mark_of (are_alike answer.now.conds) size_of c
+        walk.old.swaps.items walk.old.pending.items walk.new.swaps.items walk.new.pending.items yes) }
 {
-    let mut left = t;
-    let mut right = u;
-    loop {
-        match (left, right) {
-            (Term::Unit, Term::Unit) => return Ok(true),
-            (Term::Name(a), Term::Name(b)) => return Ok(a == b),
-            (Term::Susp(p, x), Term::Susp(q, y)) => {
-                return Ok(x == y && differ_freshly(conds, p.items(), q.items(), *x));
+    let (a, b) = binders;
+    let b = preimage(&walk.swaps, b);
+    if is_same(&a, &b) {
+        walk.put(left, right)?;
+        return Ok(true);
+    }
+    if a.sort != b.sort {
+        return Ok(false);
+    }
+    let name = image(&walk.swaps, a);
+    if !is_fresh_under(alloc, answer, name, right)? {
+        return Ok(false);
+    }
+    walk.swap(a, b)?;
+    walk.put(left, right)?;
+    Ok(true)
+}
+
+/// Compares two suspensions, the second with all swappings.
+fn are_suspended_alike(
+    alloc: Global,
+    answer: &IndexedAnswer<'_>,
+    swaps: &[Swap],
+    p: &[Swap],
+    x: Var,
+    q: &[Swap],
+    y: Var,
+) -> Result<bool, Memory>
+    ensures { IfOk result (λ yes. yes ≡
+        alpha_under answer.now.conds (susp p.now x) (susp (inverse swaps.now ++ q.now) y)) }
+{
+    if x.num != y.num {
+        return Ok(false);
+    }
+    let all = in_front(alloc, swaps, q)?;
+    Ok(differ_freshly(answer, p, &all, x))
+}
+
+/// Compares the heads of two terms, the second with all swappings: their parts come next.
+fn compare<'a>(
+    alloc: Global,
+    answer: &IndexedAnswer<'_>,
+    walk: &mut Comparison<'a>,
+    at: Compared<'a>,
+) -> Result<bool, Memory>
+    requires { AreWithin mark_of (length walk.old.swaps.items) (reverse walk.old.pending.items) }
+    ensures { IfOk result (λ yes.
+        IsTestedThere mark_of (are_alike answer.now.conds) size_of at.entry
+        walk.old.swaps.items walk.old.pending.items walk.new.swaps.items walk.new.pending.items yes) }
+{
+    match (at.left, at.right) {
+        (Term::Unit, Term::Unit) => Ok(true),
+        (Term::Name(a), Term::Name(b)) => Ok(is_same(a, &preimage(&walk.swaps, *b))),
+        (Term::Susp(p, x), Term::Susp(q, y)) => {
+            are_suspended_alike(alloc, answer, &walk.swaps, p.items(), *x, q.items(), *y)
+        }
+        (Term::Pair(t, u), Term::Pair(v, w)) => {
+            walk.put(u, w)?;
+            walk.put(t, v)?;
+            Ok(true)
+        }
+        (Term::App(f, t), Term::App(g, u)) => {
+            if *f != *g {
+                return Ok(false);
             }
-            (Term::Pair(t, u), Term::Pair(v, w)) => {
-                if !are_equal_under(alloc, conds, t, v)? {
-                    return Ok(false);
-                }
-                left = u;
-                right = w;
-            }
-            (Term::App(f, t), Term::App(g, u)) => {
-                if *f != *g {
-                    return Ok(false);
-                }
-                left = t;
-                right = u;
-            }
-            (Term::Abs(a, t), Term::Abs(b, u)) => {
-                if a != b {
-                    return match with_binder(alloc, conds, *a, *b, u)? {
-                        None => Ok(false),
-                        Some(u) => are_equal_under(alloc, conds, t, &u),
-                    };
-                }
-                left = t;
-                right = u;
-            }
-            _ => return Ok(false),
+            walk.put(t, u)?;
+            Ok(true)
+        }
+        (Term::Abs(a, t), Term::Abs(b, u)) => {
+            compare_bodies(alloc, answer, walk, (*a, *b), t, u)
+        }
+        _ => Ok(false),
+    }
+}
+
+/// Whether two terms are equal under the answer's conditions. `Err` is want of memory.
+pub fn are_equal_under(
+    alloc: Global,
+    answer: &IndexedAnswer<'_>,
+    t: &Term,
+    u: &Term,
+) -> Result<bool, Memory>
+    ensures { IfOk result (λ yes. yes ≡ alpha_under answer.now.conds (term_of t.now) (term_of u.now)) }
+{
+    let mut walk = Comparison {
+        swaps: Vec::new(alloc),
+        pending: Vec::new(alloc),
+    };
+    walk.put(t, u)?;
+    'terms: while let Some(next) = walk.pending.pop() {
+        walk.swaps.truncate(next.mark);
+        if !compare(alloc, answer, &mut walk, next)? {
+            return Ok(false);
         }
     }
+    Ok(true)
 }

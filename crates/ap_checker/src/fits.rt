@@ -1,6 +1,6 @@
 //! Whether the names and terms of a node fit the identifiers of a clause or a query.
 
-ghost use Rattle.std.specs.Prelude.{◌≡◌, zero, map, MatchOption, None, Some};
+ghost use Rattle.std.specs.Prelude.{◌≡◌, zero, map, IfOk, MatchOption, None, Some};
 ghost use Rattle.ap_defs.specs.Answers.{kind_at, typed_var_of};
 ghost use Rattle.ap_defs.specs.Renaming.{local_names, local_vars};
 ghost use Rattle.ap_defs.specs.Resolution.{kinds_of};
@@ -10,10 +10,13 @@ ghost use Rattle.ap_checks.specs.Checks.{have_counts};
 ghost use Rattle.ap_checks.specs.TypeTests.{has_kind, have_kinds, have_sorts, type_beside};
 ghost use Rattle.ap_checker.specs.FreeLocals.{free_type};
 
+use crate::index::IndexedAnswer;
 use crate::lookups::{count_names, count_vars, sort_of};
 use crate::types::has_type;
 use ap_defs::goals::{Constructor, Kind, Local};
+use ap_defs::memory::Memory;
 use ap_defs::terms::{Name, Term, Ty, Var};
+use std::alloc::Global;
 
 /// The type of an identifier that is a free variable.
 fn type_of_free(local: &Local) -> Option<&Ty>
@@ -51,43 +54,49 @@ pub(crate) fn names_fit(locals: &[Local], names: &[Name]) -> bool
 
 /// Whether each term has the type of the free variable at its place.
 pub(crate) fn terms_fit(
+    alloc: Global,
     constructors: &[Constructor],
-    vars: &[(Var, Ty)],
+    answer: &IndexedAnswer<'_>,
     locals: &[Local],
     terms: &[Term],
-) -> bool
-    ensures { result ≡ have_kinds (map constructor_of constructors.now) (type_beside (map typed_var_of vars.now)) (kinds_of (locals_of locals.now)) (local_vars zero (locals_of locals.now)) (map term_of terms.now) }
+) -> Result<bool, Memory>
+    ensures { IfOk result (λ yes. yes ≡
+        have_kinds (map constructor_of constructors.now) (type_beside (map typed_var_of answer.now.vars))
+        (kinds_of (locals_of locals.now)) (local_vars zero (locals_of locals.now)) (map term_of terms.now)) }
 {
     let mut place = 0;
     for (i, local) in locals.iter().enumerate() {
         let Some(ty) = type_of_free(local) else {
             continue;
         };
-        if place >= terms.len() || !has_type(constructors, vars, &terms[place], ty) {
-            return false;
+        if place >= terms.len() || !has_type(alloc, constructors, answer, &terms[place], ty)? {
+            return Ok(false);
         }
         place += 1;
     }
-    place == terms.len()
+    Ok(place == terms.len())
 }
 
 /// Whether the term has the type of the variable with this number.
 #[tactic(auto, using(crate::proofs::LocalLemmas::kind_past))]
 pub(crate) fn term_fits(
+    alloc: Global,
     constructors: &[Constructor],
-    vars: &[(Var, Ty)],
+    answer: &IndexedAnswer<'_>,
     locals: &[Local],
     x: Var,
     term: &Term,
-) -> bool
-    ensures { result ≡ has_kind (map constructor_of constructors.now) (type_beside (map typed_var_of vars.now)) (kind_at (kinds_of (locals_of locals.now)) x.num) (term_of term.now) }
+) -> Result<bool, Memory>
+    ensures { IfOk result (λ yes. yes ≡
+        has_kind (map constructor_of constructors.now) (type_beside (map typed_var_of answer.now.vars))
+        (kind_at (kinds_of (locals_of locals.now)) x.num) (term_of term.now)) }
 {
     let place = x.num as usize;
     if place >= locals.len() {
-        return false;
+        return Ok(false);
     }
     match &locals[place].kind {
-        Kind::Name(_) => false,
-        Kind::Var(ty) => has_type(constructors, vars, term, ty),
+        Kind::Name(_) => Ok(false),
+        Kind::Var(ty) => has_type(alloc, constructors, answer, term, ty),
     }
 }

@@ -2,15 +2,17 @@
 //! types and how terms are put together (`ap_defs`): its freshness and its equality under conditions
 //! are its own, on terms.
 //!
-//! A list, a tuple or a conjunction can be as long as its text, and a derivation as deep as the search
-//! went: the nodes stand on a stack of their own, and what walks a term, a type or a goal goes on along
-//! the right in a loop and calls itself on left parts and inside some binders.
+//! A derivation and its terms are as deep as whoever made them wants: the nodes stand on a stack of their
+//! own, and so does what is left of a term or a goal that is tested. What copies a term or lists its names
+//! goes on along the right in a loop and calls itself on left parts, as the drop of a term does.
 #![tactic(auto)]
 
 mod answers;
 pub mod equality;
 mod fits;
 mod free;
+pub mod freshness;
+pub mod index;
 mod lookups;
 mod new_names;
 mod nodes;

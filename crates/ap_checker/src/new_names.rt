@@ -1,29 +1,114 @@
 //! The names of `new` nodes.
+//!
+//! The parts of a goal stand on a stack, each told how much of what `new` and `exists` bring round it.
 
-ghost use Rattle.std.specs.Prelude.{◌≡◌, ◌&&◌, not, IfOk};
-ghost use Rattle.std.specs.List.{list_all};
+ghost use Rattle.std.specs.Prelude.{◌≡◌, ◌&&◌, ◌++◌, [], ◌∷◌, length, reverse, IfOk, OnOk};
+ghost use Rattle.std.specs.List.{list_any};
 ghost use Rattle.ap_defs.specs.Freshness.{fresh_under};
 ghost use Rattle.ap_defs.specs.Goals.{goal_of};
-ghost use Rattle.ap_defs.specs.Permutations.{name_eq};
 ghost use Rattle.ap_checks.specs.Checks.{is_new as is_new_under};
+ghost use Rattle.ap_checker.specs.NewNames.{are_apart, are_fresh, is_name, is_new_inside, is_var, mark_of_part, size_of_part};
 ghost use Rattle.ap_checker.specs.Scopes.{environment_of};
+ghost use Rattle.ap_checker.specs.Stacks.{AreWithin, IsTestedThere};
 
-use crate::equality::is_fresh_under;
-use crate::free::{free_names, free_vars};
+use crate::free::{names_of_each, names_of_two, vars_of_each, vars_of_two};
+use crate::freshness::is_fresh_under;
+use crate::index::IndexedAnswer;
 use crate::scope::{Standing, name_in, term_in};
 use crate::swappings::is_same;
 use ap_defs::goals::Goal;
 use ap_defs::memory::Memory;
-use ap_defs::terms::{Cond, Name, Term, Var};
+use ap_defs::terms::{Id, Name, Term, Var};
 use std::alloc::Global;
 
-/// Whether the name stands for none of the names.
-#[tactic(auto, using(crate::proofs::NewNameLemmas::apart_not, crate::proofs::NewNameLemmas::apart_later))]
-fn stands_for_none(scope: &[Standing<'_>], c: &Name, names: &[Name]) -> bool
-    ensures { result ≡ list_all (λ b. not (name_eq ((environment_of scope.now).names b) c.now)) names.now }
+/// A part of a goal, and how much is brought round it.
+#[derive(Clone, Copy)]
+pub(crate) struct Part<'a> {
+    pub goal: &'a Goal<Term>,
+    pub mark: usize,
+}
+
+/// What is brought round parts of a goal, the innermost last, and the parts that are left, the next one last.
+#[derive(Drop)]
+pub(crate) struct Parts<'a> {
+    pub brought: Vec<Id>,
+    pub pending: Vec<Part<'a>>,
+}
+
+impl<'a> Parts<'a> {
+    /// The part comes next, where all is brought.
+    fn put(&mut self, goal: &'a Goal<Term>) -> Result<(), Memory>
+        ensures brought { self.new.brought.items ≡ self.old.brought.items }
+        ensures pending { OnOk result (self.new.pending.items ≡ self.old.pending.items
+            ++ (record { goal = goal.entry; mark = length self.old.brought.items }) ∷ []) }
+    {
+        let mark = self.brought.len();
+        self.pending.push(Part { goal, mark })?;
+        Ok(())
+    }
+
+    /// A name or a variable is brought innermost.
+    fn bring(&mut self, what: Id) -> Result<(), Memory>
+        ensures brought { OnOk result (self.new.brought.items ≡ self.old.brought.items ++ what ∷ []) }
+        ensures pending { self.new.pending.items ≡ self.old.pending.items }
+    {
+        self.brought.push(what)?;
+        Ok(())
+    }
+}
+
+/// Whether what is brought is this name.
+fn brings_name(what: &Id, b: &Name) -> bool
+    ensures { result ≡ is_name b.now what.now }
+{
+    match what {
+        Id::Name(a) => is_same(a, b),
+        Id::Var(_) => false,
+    }
+}
+
+/// Whether what is brought is this variable.
+fn brings_var(what: &Id, y: Var) -> bool
+    ensures { result ≡ is_var y what.now }
+{
+    match what {
+        Id::Name(_) => false,
+        Id::Var(x) => x.num == y.num,
+    }
+}
+
+/// Whether the name is brought.
+#[tactic(auto, using(crate::proofs::NewNameLemmas::any_here, crate::proofs::NewNameLemmas::any_later))]
+fn is_name_brought(brought: &[Id], b: &Name) -> bool
+    ensures { result ≡ list_any (is_name b.now) brought.now }
+{
+    for what in brought {
+        if brings_name(what, b) {
+            return true;
+        }
+    }
+    false
+}
+
+/// Whether the variable is brought.
+#[tactic(auto, using(crate::proofs::NewNameLemmas::any_here, crate::proofs::NewNameLemmas::any_later))]
+fn is_var_brought(brought: &[Id], y: Var) -> bool
+    ensures { result ≡ list_any (is_var y) brought.now }
+{
+    for what in brought {
+        if brings_var(what, y) {
+            return true;
+        }
+    }
+    false
+}
+
+/// Whether the name stands for none of the names but those that are brought.
+fn stands_for_none(scope: &[Standing<'_>], c: &Name, brought: &[Id], names: &[Name]) -> bool
+    ensures { result ≡ are_apart c.now (environment_of scope.now) brought.now names.now }
 {
     for b in names {
-        if is_same(&name_in(scope, *b), c) {
+        if is_same(&name_in(scope, *b), c) && !is_name_brought(brought, b) {
             return false;
         }
     }
@@ -31,40 +116,129 @@ fn stands_for_none(scope: &[Standing<'_>], c: &Name, names: &[Name]) -> bool
 }
 
 /// Whether the name is fresh for what stands for the variable.
-fn is_fresh_for(conds: &[Cond], scope: &[Standing<'_>], c: Name, x: Var) -> bool
-    ensures { result ≡ fresh_under conds.now c ((environment_of scope.now).terms x) }
+fn is_fresh_for(
+    alloc: Global,
+    answer: &IndexedAnswer<'_>,
+    scope: &[Standing<'_>],
+    c: Name,
+    x: Var,
+) -> Result<bool, Memory>
+    ensures { IfOk result (λ yes. yes ≡
+        fresh_under answer.now.conds c ((environment_of scope.now).terms x)) }
 {
     match term_in(scope, x) {
-        None => true,
-        Some(t) => is_fresh_under(conds, c, t),
+        None => Ok(true),
+        Some(t) => is_fresh_under(alloc, answer, c, t),
     }
 }
 
-/// Whether the name is fresh for what stands for each of the variables.
-#[tactic(auto, using(crate::proofs::NewNameLemmas::fresh_not, crate::proofs::NewNameLemmas::fresh_later))]
-fn is_fresh_for_each(conds: &[Cond], scope: &[Standing<'_>], c: Name, vars: &[Var]) -> bool
-    ensures { result ≡ list_all (λ x. fresh_under conds.now c ((environment_of scope.now).terms x)) vars.now }
+/// Whether the name is fresh for what stands for each of the variables but those that are brought.
+fn is_fresh_for_each(
+    alloc: Global,
+    answer: &IndexedAnswer<'_>,
+    scope: &[Standing<'_>],
+    c: Name,
+    brought: &[Id],
+    vars: &[Var],
+) -> Result<bool, Memory>
+    ensures { IfOk result (λ yes. yes ≡
+        are_fresh answer.now.conds c (environment_of scope.now) brought.now vars.now) }
 {
     for x in vars {
-        if !is_fresh_for(conds, scope, c, *x) {
-            return false;
+        if !is_var_brought(brought, *x) && !is_fresh_for(alloc, answer, scope, c, *x)? {
+            return Ok(false);
         }
     }
-    true
+    Ok(true)
 }
 
-/// Whether the name stands for no free name of the goal, and is fresh under the conditions for what
-/// stands for each free variable of it.
+/// Whether it does both.
+fn is_new_for(
+    alloc: Global,
+    answer: &IndexedAnswer<'_>,
+    scope: &[Standing<'_>],
+    c: Name,
+    brought: &[Id],
+    names: &[Name],
+    vars: &[Var],
+) -> Result<bool, Memory>
+    ensures { IfOk result (λ yes. yes ≡ (are_apart c (environment_of scope.now) brought.now names.now
+        && are_fresh answer.now.conds c (environment_of scope.now) brought.now vars.now)) }
+{
+    if !stands_for_none(scope, &c, brought, names) {
+        return Ok(false);
+    }
+    is_fresh_for_each(alloc, answer, scope, c, brought, vars)
+}
+
+/// Looks at a part of a goal for which the name is to be new: its parts come next.
+fn look<'a>(
+    alloc: Global,
+    answer: &IndexedAnswer<'_>,
+    scope: &[Standing<'_>],
+    c: Name,
+    parts: &mut Parts<'a>,
+    at: Part<'a>,
+) -> Result<bool, Memory>
+    requires { AreWithin mark_of_part (length parts.old.brought.items) (reverse parts.old.pending.items) }
+    ensures { IfOk result (λ yes.
+        IsTestedThere mark_of_part (is_new_inside answer.now.conds c (environment_of scope.now))
+        size_of_part at.entry
+        parts.old.brought.items parts.old.pending.items
+        parts.new.brought.items parts.new.pending.items yes) }
+{
+    match at.goal {
+        Goal::True => Ok(true),
+        Goal::Atom(_, terms) => {
+            let names = names_of_each(alloc, terms.items())?;
+            let vars = vars_of_each(alloc, terms.items())?;
+            is_new_for(alloc, answer, scope, c, &parts.brought, &names, &vars)
+        }
+        Goal::Equal(t, u) | Goal::Fresh(t, u) => {
+            let names = names_of_two(alloc, t, u)?;
+            let vars = vars_of_two(alloc, t, u)?;
+            is_new_for(alloc, answer, scope, c, &parts.brought, &names, &vars)
+        }
+        Goal::Both(left, right) | Goal::Either(left, right) => {
+            parts.put(right)?;
+            parts.put(left)?;
+            Ok(true)
+        }
+        Goal::Exists(x, inner) => {
+            parts.bring(Id::Var(*x))?;
+            parts.put(inner)?;
+            Ok(true)
+        }
+        Goal::New(a, inner) => {
+            parts.bring(Id::Name(*a))?;
+            parts.put(inner)?;
+            Ok(true)
+        }
+    }
+}
+
+/// Whether the name stands for no free name of the goal, and is fresh under the answer's conditions for
+/// what stands for each free variable of it.
 pub(crate) fn is_new(
     alloc: Global,
-    conds: &[Cond],
+    answer: &IndexedAnswer<'_>,
     scope: &[Standing<'_>],
     c: Name,
     goal: &Goal<Term>,
 ) -> Result<bool, Memory>
-    ensures { IfOk result (λ yes. yes ≡ is_new_under conds.now c (goal_of goal.now) (environment_of scope.now)) }
+    ensures { IfOk result (λ yes. yes ≡
+        is_new_under answer.now.conds c (goal_of goal.now) (environment_of scope.now)) }
 {
-    let names = free_names(alloc, goal)?;
-    let vars = free_vars(alloc, goal)?;
-    Ok(stands_for_none(scope, &c, &names) && is_fresh_for_each(conds, scope, c, &vars))
+    let mut parts = Parts {
+        brought: Vec::new(alloc),
+        pending: Vec::new(alloc),
+    };
+    parts.put(goal)?;
+    'parts: while let Some(next) = parts.pending.pop() {
+        parts.brought.truncate(next.mark);
+        if !look(alloc, answer, scope, c, &mut parts, next)? {
+            return Ok(false);
+        }
+    }
+    Ok(true)
 }

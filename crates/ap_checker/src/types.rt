@@ -1,19 +1,24 @@
 //! Types of terms with variables.
 //!
-//! A list or a type can be as deep to the right as its text is long: tests go on along the right part
-//! of a pair in a loop, and call themselves on left parts alone.
+//! A type can be as deep to the right as its text is long: what compares two goes on along the right part
+//! of a pair in a loop, and calls itself on left parts alone, which are no deeper than those of a type of
+//! the program.
 
-ghost use Rattle.std.specs.Prelude.{◌≡◌, map, MatchOption, Some, None};
+ghost use Rattle.std.specs.Prelude.{◌≡◌, map, IfOk, MatchOption, Some, None};
 ghost use Rattle.ap_defs.specs.Answers.{typed_var_of};
 ghost use Rattle.ap_defs.specs.Printing.{constructor_in};
 ghost use Rattle.ap_defs.specs.Terms.{term_of};
 ghost use Rattle.ap_defs.specs.Types.{base, constructor_of, type_of};
 ghost use Rattle.ap_defs.specs.Typing.{arguments as wanted_arguments, one};
 ghost use Rattle.ap_checks.specs.TypeTests.{is_type, is_typed, type_beside as beside, type_eq};
-ghost use Rattle.ap_checker.specs.Wanted.{inside_of, parts_of, want_of};
+ghost use Rattle.ap_checker.specs.Stacks.{IsTested};
+ghost use Rattle.ap_checker.specs.Wanted.{expected_size, inside_of, is_expected, parts_of, want_of};
 
+use crate::index::IndexedAnswer;
 use ap_defs::goals::Constructor;
+use ap_defs::memory::Memory;
 use ap_defs::terms::{Term, Ty, Var};
+use std::alloc::Global;
 
 /// What an application's argument is to be.
 #[derive(Clone, Copy)]
@@ -26,6 +31,13 @@ pub(crate) enum Wanted<'a> {
     More(&'a Ty, &'a [Ty]),
     /// A term of the first type, and then one of the second, which is a list.
     Cell(&'a Ty, &'a Ty),
+}
+
+/// A term, and what it is to be.
+#[derive(Clone, Copy)]
+pub(crate) struct Expected<'a> {
+    pub term: &'a Term,
+    pub wanted: Wanted<'a>,
 }
 
 /// Whether two types are one.
@@ -62,24 +74,11 @@ fn is_same(a: &Ty, b: &Ty) -> bool
     }
 }
 
-/// The type beside the variable, if it is there.
-#[tactic(auto, using(crate::proofs::TypeLemmas::beside_here, crate::proofs::TypeLemmas::beside_later))]
-fn type_beside<'a>(vars: &'a [(Var, Ty)], x: Var) -> Option<&'a Ty>
-    ensures { MatchOption result (beside (map typed_var_of vars.now) x ≡ None) (λ t. beside (map typed_var_of vars.now) x ≡ Some (type_of t.now)) }
-{
-    for (var, ty) in vars {
-        if *var == x {
-            return Some(ty);
-        }
-    }
-    None
-}
-
 /// Whether the type beside the variable is this one.
-fn has_type_beside(vars: &[(Var, Ty)], x: Var, ty: &Ty) -> bool
-    ensures { result ≡ is_type (beside (map typed_var_of vars.now) x) (type_of ty.now) }
+fn has_type_beside(answer: &IndexedAnswer<'_>, x: Var, ty: &Ty) -> bool
+    ensures { result ≡ is_type (beside (map typed_var_of answer.now.vars) x) (type_of ty.now) }
 {
-    match type_beside(vars, x) {
+    match answer.type_beside(x) {
         None => false,
         Some(found) => is_same(found, ty),
     }
@@ -146,50 +145,83 @@ fn inside<'a>(constructors: &'a [Constructor], f: u32, want: Wanted<'a>) -> Opti
     }
 }
 
-/// Whether the term is what is wanted, where variables have the types beside them.
-fn is_wanted(constructors: &[Constructor], vars: &[(Var, Ty)], t: &Term, want: Wanted<'_>) -> bool
-    ensures { result ≡ is_typed (map constructor_of constructors.now) (beside (map typed_var_of vars.now)) (term_of t.now) (want_of want.entry) }
+/// Looks at the head of a term that is to be what is wanted: its parts wait to be looked at.
+fn look<'a>(
+    constructors: &'a [Constructor],
+    answer: &IndexedAnswer<'_>,
+    pending: &mut Vec<Expected<'a>>,
+    at: Expected<'a>,
+) -> Result<bool, Memory>
+    ensures { IfOk result (λ yes.
+        IsTested (is_expected (map constructor_of constructors.now)
+        (beside (map typed_var_of answer.now.vars))) expected_size at.entry
+        pending.old.items pending.new.items yes) }
 {
-    let mut rest = t;
-    let mut wanted = want;
-    loop {
-        match (rest, wanted) {
-            (Term::Unit, Wanted::Nothing | Wanted::One(Ty::Unit)) => return true,
-            (Term::Name(a), Wanted::One(Ty::Names(sort))) => return a.sort == *sort,
-            (Term::Pair(left, right), _) => {
-                let Some((first, second)) = parts(wanted) else {
-                    return false;
-                };
-                if !is_wanted(constructors, vars, left, first) {
-                    return false;
-                }
-                rest = right;
-                wanted = second;
-            }
-            (Term::App(f, argument), _) => {
-                let Some(inner) = inside(constructors, *f, wanted) else {
-                    return false;
-                };
-                rest = argument;
-                wanted = inner;
-            }
-            (Term::Abs(a, body), Wanted::One(Ty::Abs(sort, ty))) => {
-                if a.sort != *sort {
-                    return false;
-                }
-                rest = body;
-                wanted = Wanted::One(ty);
-            }
-            (Term::Susp(_, x), Wanted::One(ty)) => return has_type_beside(vars, *x, ty),
-            _ => return false,
+    let Expected { term, wanted } = at;
+    match (term, wanted) {
+        (Term::Unit, Wanted::Nothing | Wanted::One(Ty::Unit)) => Ok(true),
+        (Term::Name(a), Wanted::One(Ty::Names(sort))) => Ok(a.sort == *sort),
+        (Term::Pair(left, right), _) => {
+            let Some((first, second)) = parts(wanted) else {
+                return Ok(false);
+            };
+            pending.push(Expected {
+                term: right,
+                wanted: second,
+            })?;
+            pending.push(Expected {
+                term: left,
+                wanted: first,
+            })?;
+            Ok(true)
         }
+        (Term::App(f, argument), _) => {
+            let Some(inner) = inside(constructors, *f, wanted) else {
+                return Ok(false);
+            };
+            pending.push(Expected {
+                term: argument,
+                wanted: inner,
+            })?;
+            Ok(true)
+        }
+        (Term::Abs(a, body), Wanted::One(Ty::Abs(sort, ty))) => {
+            if a.sort != *sort {
+                return Ok(false);
+            }
+            pending.push(Expected {
+                term: body,
+                wanted: Wanted::One(ty),
+            })?;
+            Ok(true)
+        }
+        (Term::Susp(_, x), Wanted::One(ty)) => Ok(has_type_beside(answer, *x, ty)),
+        _ => Ok(false),
     }
 }
 
-/// Whether the term has the type, where variables have the types beside them, and a variable without
-/// one has no type. It takes no memory.
-pub fn has_type(constructors: &[Constructor], vars: &[(Var, Ty)], t: &Term, ty: &Ty) -> bool
-    ensures { result ≡ is_typed (map constructor_of constructors.now) (beside (map typed_var_of vars.now)) (term_of t.now) (one (type_of ty.now)) }
+/// Whether the term has the type, where the answer's variables have the types beside them, and another
+/// variable has no type. The parts of the term that are left stand on a stack, so none is too deep.
+pub fn has_type(
+    alloc: Global,
+    constructors: &[Constructor],
+    answer: &IndexedAnswer<'_>,
+    t: &Term,
+    ty: &Ty,
+) -> Result<bool, Memory>
+    ensures { IfOk result (λ yes. yes ≡
+        is_typed (map constructor_of constructors.now) (beside (map typed_var_of answer.now.vars))
+        (term_of t.now) (one (type_of ty.now))) }
 {
-    is_wanted(constructors, vars, t, Wanted::One(ty))
+    let mut pending = Vec::new(alloc);
+    pending.push(Expected {
+        term: t,
+        wanted: Wanted::One(ty),
+    })?;
+    while let Some(next) = pending.pop() {
+        if !look(constructors, answer, &mut pending, next)? {
+            return Ok(false);
+        }
+    }
+    Ok(true)
 }

@@ -9,6 +9,7 @@ ghost use Rattle.ap_checker.specs.Rules.{verdict_said};
 ghost use Rattle.ap_checker.specs.Walks.{IsOnWay, refusal_on};
 
 use crate::answers::answer_fits;
+use crate::index::IndexedAnswer;
 use crate::lookups::query_at;
 use crate::rules::Rule;
 use crate::scope::Standing;
@@ -49,17 +50,17 @@ fn verdict_on_nodes(
     alloc: Global,
     program: &Program<Term>,
     query: &Query<Term>,
-    answer: &Answer,
+    indexed: &IndexedAnswer<'_>,
     derivation: &Derivation,
 ) -> Result<Verdict, Memory>
-    ensures { IfOk result (λ v. verdict_said v ≡ verdict (refusal_on (program_of program.now) (query_of query.now) (answer_of answer.now) (derivation_of derivation.now))) }
+    ensures { IfOk result (λ v. verdict_said v ≡ verdict (refusal_on (program_of program.now) (query_of query.now) (answer_of indexed.now) (derivation_of derivation.now))) }
 {
-    let mut walk = walk_from(alloc, query, answer, derivation)?;
+    let mut walk = walk_from(alloc, query, indexed.answer(), derivation)?;
     let mut node: u64 = 0;
     'nodes: while let Some(next) = walk.pending.pop() {
         node = node.saturating_add(1);
         walk.standing.truncate(next.mark);
-        if let Some(rule) = visit(alloc, program, answer, &mut walk, next.place)? {
+        if let Some(rule) = visit(alloc, program, indexed, &mut walk, next.place)? {
             let rule = rule.number();
             return Ok(Verdict::No { node, rule });
         }
@@ -84,8 +85,11 @@ pub fn verify(
     let Some(query) = query_at(program, query) else {
         return Ok(Verdict::No { node: 0, rule });
     };
-    if !answer_fits(program, query, answer) {
+    let Some(indexed) = IndexedAnswer::of(alloc, answer)? else {
+        return Ok(Verdict::No { node: 0, rule });
+    };
+    if !answer_fits(alloc, program, query, &indexed)? {
         return Ok(Verdict::No { node: 0, rule });
     }
-    verdict_on_nodes(alloc, program, query, answer, derivation)
+    verdict_on_nodes(alloc, program, query, &indexed, derivation)
 }

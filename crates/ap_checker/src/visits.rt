@@ -14,6 +14,7 @@ ghost use Rattle.ap_checker.specs.Walks.{AreMarked, IsVisited, derivation_at, go
 
 use crate::equality::are_equal_under;
 use crate::fits::{counts_fit, names_fit, term_fits, terms_fit};
+use crate::index::IndexedAnswer;
 use crate::lookups::clause_at;
 use crate::new_names::is_new;
 use crate::nodes::{all_differ, all_equal, is_name_fresh};
@@ -22,7 +23,7 @@ use crate::scope::{Standing, put, put_each};
 use crate::walk::{Place, Walk};
 use ap_defs::goals::{Clause, Goal, Program};
 use ap_defs::memory::Memory;
-use ap_defs::outcomes::{Answer, Derivation};
+use ap_defs::outcomes::Derivation;
 use ap_defs::terms::{Name, Term, Var};
 use std::alloc::Global;
 
@@ -40,7 +41,7 @@ struct Use<'a> {
 fn rule_of_clause(
     alloc: Global,
     program: &Program<Term>,
-    answer: &Answer,
+    answer: &IndexedAnswer<'_>,
     args: &[Term],
     used: &Use<'_>,
     clause: &Clause<Term>,
@@ -51,19 +52,19 @@ fn rule_of_clause(
     if !counts_fit(locals, used.names, used.terms) {
         return Ok(Some(Rule::Count));
     }
-    if !all_differ(used.names) {
+    if !all_differ(alloc, used.names)? {
         return Ok(Some(Rule::Distinct));
     }
     if !names_fit(locals, used.names) {
         return Ok(Some(Rule::Typing));
     }
     let constructors = program.signature.constructors.items();
-    if !terms_fit(constructors, answer.vars.items(), locals, used.terms) {
+    if !terms_fit(alloc, constructors, answer, locals, used.terms)? {
         return Ok(Some(Rule::Typing));
     }
     let scope = [Standing::Clause(locals, used.names, used.terms)];
     let head = put_each(alloc, &scope, clause.args.items())?;
-    if !all_equal(alloc, answer.conds.items(), args, &head)? {
+    if !all_equal(alloc, answer, args, &head)? {
         return Ok(Some(Rule::Head));
     }
     Ok(None)
@@ -73,7 +74,7 @@ fn rule_of_clause(
 fn visit_atom<'a>(
     alloc: Global,
     program: &'a Program<Term>,
-    answer: &Answer,
+    answer: &IndexedAnswer<'_>,
     walk: &mut Walk<'a>,
     used: &Use<'a>,
     pred: u32,
@@ -102,7 +103,7 @@ fn visit_atom<'a>(
 /// An equation's node.
 fn visit_equation(
     alloc: Global,
-    answer: &Answer,
+    answer: &IndexedAnswer<'_>,
     walk: &Walk<'_>,
     left: &Term,
     right: &Term,
@@ -113,7 +114,7 @@ fn visit_equation(
     let scope = walk.standing.as_slice();
     let left = put(alloc, scope, left)?;
     let right = put(alloc, scope, right)?;
-    if !are_equal_under(alloc, answer.conds.items(), &left, &right)? {
+    if !are_equal_under(alloc, answer, &left, &right)? {
         return Ok(Some(Rule::Equal));
     }
     Ok(None)
@@ -122,7 +123,7 @@ fn visit_equation(
 /// The node of a freshness goal.
 fn visit_freshness(
     alloc: Global,
-    answer: &Answer,
+    answer: &IndexedAnswer<'_>,
     walk: &Walk<'_>,
     left: &Term,
     right: &Term,
@@ -133,7 +134,7 @@ fn visit_freshness(
     let scope = walk.standing.as_slice();
     let left = put(alloc, scope, left)?;
     let right = put(alloc, scope, right)?;
-    if !is_name_fresh(answer.conds.items(), &left, &right) {
+    if !is_name_fresh(alloc, answer, &left, &right)? {
         return Ok(Some(Rule::Fresh));
     }
     Ok(None)
@@ -141,8 +142,9 @@ fn visit_freshness(
 
 /// The node of an `exists`, which brings a term for its variable.
 fn visit_exists<'a>(
+    alloc: Global,
     program: &Program<Term>,
-    answer: &Answer,
+    answer: &IndexedAnswer<'_>,
     walk: &mut Walk<'a>,
     x: Var,
     term: &'a Term,
@@ -152,7 +154,7 @@ fn visit_exists<'a>(
     ensures { IfOk result (λ r. IsVisited (program_of program.now) (answer_of answer.now) (kinds_at below.entry) (derivations.exists (term_of term.now) (derivation_at below.entry)) (goals.exists x (goal_at below.entry)) walk.old walk.new r) }
 {
     let constructors = program.signature.constructors.items();
-    if !term_fits(constructors, answer.vars.items(), below.locals, x, term) {
+    if !term_fits(alloc, constructors, answer, below.locals, x, term)? {
         return Ok(Some(Rule::Typing));
     }
     walk.bring(Standing::Term(x, term))?;
@@ -163,7 +165,7 @@ fn visit_exists<'a>(
 /// The node of a `new` goal, which brings a name for its own.
 fn visit_new<'a>(
     alloc: Global,
-    answer: &Answer,
+    answer: &IndexedAnswer<'_>,
     walk: &mut Walk<'a>,
     goal: &Goal<Term>,
     names: (Name, Name),
@@ -177,8 +179,7 @@ fn visit_new<'a>(
     if name.sort != own.sort {
         return Ok(Some(Rule::Typing));
     }
-    let conds = answer.conds.items();
-    if !is_new(alloc, conds, &walk.standing, name, goal)? {
+    if !is_new(alloc, answer, &walk.standing, name, goal)? {
         return Ok(Some(Rule::NewName));
     }
     walk.bring(Standing::Name(own, name))?;
@@ -190,7 +191,7 @@ fn visit_new<'a>(
 pub(crate) fn visit<'a>(
     alloc: Global,
     program: &'a Program<Term>,
-    answer: &Answer,
+    answer: &IndexedAnswer<'_>,
     walk: &mut Walk<'a>,
     at: Place<'a>,
 ) -> Result<Option<Rule>, Memory>
@@ -228,7 +229,8 @@ pub(crate) fn visit<'a>(
             Ok(None)
         }
         (Derivation::Exists(term, below), Goal::Exists(x, goal)) => {
-            visit_exists(program, answer, walk, *x, term, at.below(below, goal))
+            let below = at.below(below, goal);
+            visit_exists(alloc, program, answer, walk, *x, term, below)
         }
         (Derivation::New(name, below), Goal::New(own, goal)) => {
             let below = at.below(below, goal);

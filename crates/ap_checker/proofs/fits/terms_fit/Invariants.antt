@@ -10,7 +10,7 @@ use Rattle.ap_checker.proofs.fits.terms_fit.Given as goal
 abbrev pub invariant-loop-i : goal.invariant-loop-i
 invariant-loop-i l = record {
   same :
-      have_kinds (map constructor_of l.constructors) (type_beside (map typed_var_of l.vars)) (kinds_of (locals_of l.locals)) (local_vars l.i (locals_of (drop l.i l.locals))) (map term_of (drop l.place l.terms))
-      ≡ have_kinds (map constructor_of l.constructors) (type_beside (map typed_var_of l.vars)) (kinds_of (locals_of l.locals)) (local_vars zero (locals_of l.locals)) (map term_of l.terms);
+      have_kinds (map constructor_of l.constructors) (type_beside (map typed_var_of l.answer.vars)) (kinds_of (locals_of l.locals)) (local_vars l.i (locals_of (drop l.i l.locals))) (map term_of (drop l.place l.terms))
+      ≡ have_kinds (map constructor_of l.constructors) (type_beside (map typed_var_of l.answer.vars)) (kinds_of (locals_of l.locals)) (local_vars zero (locals_of l.locals)) (map term_of l.terms);
   within : l.place ≤ length l.terms;
 }

@@ -11,7 +11,7 @@ use Rattle.ap_checker.proofs.verify.verdict_on_nodes.Goals as goal
 pub returns-in-Some-2 : goal.returns-in-Some-2
 returns-in-Some-2 c =
     let p = program_of c.args.program.now in
-    let a = answer_of c.args.answer.now in
+    let a = answer_of c.args.indexed.now in
     let before : Walk = record { standing = c.truncate.new.self; pending = c.pop.new.self } in
     ap (no c.saturating_add-node.result) c.number-rule.ensures
     ∙ turn_refuses p a (refusal_on p (query_of c.args.query.now) a (derivation_of c.args.derivation.now)) c.nodes.node c.saturating_add-node.result c.nodes.walk before c.visit.new.walk c.in-Some.next c.nodes.invariant
@@ -20,7 +20,7 @@ returns-in-Some-2 c =
 pub nodes-preserved : goal.nodes-preserved
 nodes-preserved c =
     let p = program_of c.args.program.now in
-    let a = answer_of c.args.answer.now in
+    let a = answer_of c.args.indexed.now in
     let before : Walk = record { standing = c.truncate.new.self; pending = c.pop.new.self } in
     turn_goes_on p a (refusal_on p (query_of c.args.query.now) a (derivation_of c.args.derivation.now)) c.nodes.node c.saturating_add-node.result c.nodes.walk before c.visit.new.walk c.in-Some.next c.nodes.invariant
     c.in-Some.ensures.items c.truncate.ensures.items c.saturating_add-node.ensures c.in_ok-rule.field-0 c.in_default-2.is c.in_ok-rule.ensures

@@ -7,7 +7,7 @@ use Rattle.ap_checker.proofs.verify.verdict_on_nodes.Given as goal
 
 abbrev pub invariant-nodes : goal.invariant-nodes
 invariant-nodes l =
-    IsOnWay (program_of l.program) (answer_of l.answer) (refusal_on (program_of l.program) (query_of l.query) (answer_of l.answer) (derivation_of l.derivation)) l.node l.walk
+    IsOnWay (program_of l.program) (answer_of l.indexed) (refusal_on (program_of l.program) (query_of l.query) (answer_of l.indexed) (derivation_of l.derivation)) l.node l.walk
 
 abbrev pub decreases-nodes : goal.decreases-nodes
 decreases-nodes l = nodes_left (left_of l.walk)

@@ -9,5 +9,5 @@ returns-in-Atom-Atom c =
 
 pub returns-in-Exists-Exists : goal.returns-in-Exists-Exists
 returns-in-Exists-Exists c =
-    let h = rw (c.below-in-Exists-Exists.ensures, c.deref-in-Exists-Exists.ensures, c.deref-in-Exists-Exists-2.ensures) at c.visit_exists.ensures in
+    let h = rw (c.below-below.ensures, c.deref-in-Exists-Exists.ensures, c.deref-in-Exists-Exists-2.ensures) at c.visit_exists.ensures in
     rw (c.in-Exists-Exists.is-0, c.in-Exists-Exists.is-1) h

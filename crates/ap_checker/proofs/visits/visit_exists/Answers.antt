@@ -1,4 +1,4 @@
-use Rattle.std.proofs.Common.{◌≡◌, true, map, sym, refl, ap₂, ◌∙◌}
+use Rattle.std.proofs.Common.{◌≡◌, true, map, sym, refl, ap, ◌∙◌}
 use Rattle.ap_defs.specs.Answers.{answer_of, kind_at, typed_var_of}
 use Rattle.ap_defs.specs.Derivations as derivations
 use Rattle.ap_defs.specs.Goals as goals
@@ -16,8 +16,8 @@ pub returns : goal.returns
 returns c =
     let below = c.args.below in
     let fits : has_kind (map constructor_of c.args.program.now.signature.constructors) (type_beside (map typed_var_of c.args.answer.now.vars)) (kind_at (kinds_at below) c.args.x.num) (term_of c.args.term.now) ≡ true =
-    ap₂ (λ cs vars. has_kind (map constructor_of cs) (type_beside (map typed_var_of vars)) (kind_at (kinds_at below) c.args.x.num) (term_of c.args.term.now)) (sym c.items-constructors.ensures) (sym c.items.ensures)
-    ∙ sym c.term_fits.ensures ∙ c.if-not-term_fits.false in
+    ap (λ cs. has_kind (map constructor_of cs) (type_beside (map typed_var_of c.args.answer.now.vars)) (kind_at (kinds_at below) c.args.x.num) (term_of c.args.term.now)) (sym c.items-constructors.ensures)
+    ∙ sym c.in_ok-term_fits.ensures ∙ c.if-not-branch.false in
     goes_brought (program_of c.args.program.now) (answer_of c.args.answer.now) (kinds_at below) (derivations.exists (term_of c.args.term.now) (derivation_at below)) (goals.exists c.args.x (goal_at below)) c.args.walk.now c.put.new.self
     below (code.Term c.args.x c.args.term) c.bring.new.self c.requires c.in_ok-bring.ensures.standing c.bring.ensures.pending c.put.ensures.standing c.in_ok-put.ensures.pending
     (λ n. test_goes_on _ _ _ fits) refl

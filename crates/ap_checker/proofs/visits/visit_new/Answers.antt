@@ -1,4 +1,4 @@
-use Rattle.std.proofs.Common.{◌≡◌, nat_eq, true, sym, refl, ap, ap₂, ◌∙◌, arith}
+use Rattle.std.proofs.Common.{◌≡◌, nat_eq, true, sym, refl, ap, ◌∙◌, arith}
 use Rattle.std.proofs.lemmas.Bool.Decides.{nat_tests}
 use Rattle.ap_defs.specs.Answers.{answer_of}
 use Rattle.ap_defs.specs.Derivations as derivations
@@ -22,7 +22,7 @@ returns c = λ p.
     let node = derivations.new name (derivation_at below) in
     let sorts : nat_eq name.sort own.sort ≡ true = grind (arith, nat_tests, c.if-name-own.false) in
     let news : is_new a.conds name (goals.new own (goal_at below)) e ≡ true =
-    ap (λ g. is_new a.conds name g e) (sym c.requires.goal) ∙ ap₂ (λ ds ss. is_new ds name (goal_of c.args.goal.now) (environment_of ss)) (sym c.items-conds.ensures) (sym c.deref.ensures.value)
+    ap (λ g. is_new a.conds name g e) (sym c.requires.goal) ∙ ap (λ ss. is_new a.conds name (goal_of c.args.goal.now) (environment_of ss)) (sym c.deref.ensures.value)
     ∙ sym c.in_ok-is_new.ensures ∙ c.if-not-branch.false in
     goes_brought p a (kinds_at below) node (goal_of c.args.goal.now) c.args.walk.now c.put.new.self
     below (code.Name own name) c.bring.new.self c.requires.marked c.in_ok-bring.ensures.standing c.bring.ensures.pending c.put.ensures.standing c.in_ok-put.ensures.pending

@@ -1,0 +1,36 @@
+use Rattle.std.proofs.Common.{◌++◌, [], ◌∷◌, length, ap, ◌∙◌}
+use Rattle.ap_defs.specs.Freshness.{alpha_under}
+use Rattle.ap_defs.specs.Terms.{term_of}
+use Rattle.ap_checker.specs.declared.equality.Compared.{Compared}
+use Rattle.ap_checker.specs.Comparisons.{are_alike, mark_of, size_of}
+use Rattle.ap_checker.proofs.ComparisonLemmas.{no_swaps}
+use Rattle.ap_checker.proofs.StackLemmas.{first_waits, first_within, turn_keeps, turn_true}
+use Rattle.ap_checker.proofs.equality.are_equal_under.Goals as goal
+
+pub terms-init : goal.terms-init
+terms-init c =
+    let ds = c.args.answer.now.conds in
+    let first : Compared = record { left = c.args.t; right = c.args.u; mark = length c.new.result.items } in
+    let mark = ap length c.new.ensures.items in
+    let one = c.in_ok-put.ensures.pending ∙ ap (λ zs. zs ++ first ∷ []) c.new-2.ensures.items in
+    record {
+      all =
+          first_waits mark_of (are_alike ds) first c.put.new.self.swaps.items c.put.new.self.pending.items mark one (c.put.ensures.swaps ∙ c.new.ensures.items)
+          ∙ no_swaps ds (term_of c.args.t.now) (term_of c.args.u.now);
+      within = first_within mark_of (are_alike ds) first c.put.new.self.swaps.items c.put.new.self.pending.items mark one;
+    }
+
+pub terms-preserved : goal.terms-preserved
+terms-preserved c =
+    let ds = c.args.answer.now.conds in
+    let whole = alpha_under ds (term_of c.args.t.now) (term_of c.args.u.now) in
+    record {
+      all =
+          turn_true mark_of (are_alike ds) size_of whole c.in-Some.next c.terms.walk.swaps.items c.truncate.new.self.items c.compare.new.walk.swaps.items
+          c.terms.walk.pending.items c.pop.new.self.items c.compare.new.walk.pending.items c.terms.invariant.all c.terms.invariant.within c.in-Some.ensures.items c.truncate.ensures.items
+          c.in_ok-compare.field-0 c.if-not-branch.false c.in_ok-compare.ensures;
+      within =
+          turn_keeps mark_of (are_alike ds) size_of whole c.in-Some.next c.terms.walk.swaps.items c.truncate.new.self.items c.compare.new.walk.swaps.items
+          c.terms.walk.pending.items c.pop.new.self.items c.compare.new.walk.pending.items c.terms.invariant.all c.terms.invariant.within c.in-Some.ensures.items c.truncate.ensures.items
+          c.in_ok-compare.field-0 c.if-not-branch.false c.in_ok-compare.ensures;
+    }
