@@ -2,8 +2,8 @@
 use Rattle.std.proofs.Common.{◌≡◌, ℕ, zero, suc, ◌+◌, ◌-◌, ◌<◌, ◌≤◌, List, [], ◌∷◌, ◌++◌, length, map, refl, sym, ap, ◌∙◌, subst, arith}
 use Rattle.std.proofs.lemmas.List.{append-nil}
 use Rattle.std.specs.Global.{Global}
-use Rattle.std.specs.Prelude.{Option, Some, None, Result, Ok, Err, IfOk, Vec, slice_get}
-use Rattle.ap_defs.specs.Answers.{NominalAnswer, NominalOut, answer_of, found, out_path, outs_at, outs_of}
+use Rattle.std.specs.Prelude.{Option, Some, None, Result, Ok, Err, IfOk, IfSome, Vec, slice_get}
+use Rattle.ap_defs.specs.Answers.{NominalAnswer, NominalOut, answer_of, found, out_path, outs_at, outs_of, query_outs}
 use Rattle.ap_defs.specs.declared.outcomes.Answer.{Answer}
 use Rattle.ap_defs.specs.Goals.{NominalGoal, atom, either, Clauses, NominalQuery, clauses_of}
 use Rattle.ap_defs.specs.Paths.{marked_query}
@@ -12,23 +12,25 @@ use Rattle.ap_defs.specs.declared.paths.Node.{Node}
 use Rattle.ap_defs.specs.declared.paths.Node.TheVariants as nodes
 use Rattle.ap_defs.specs.declared.paths.Out.{Out}
 use Rattle.ap_defs.specs.declared.paths.Out.TheVariants as code
+use Rattle.ap_program.specs.Typed.{IsTypedProgram, IsTypedQuery, term_form}
 use Rattle.ap_search.specs.Continuations.{Waiting}
 use Rattle.ap_search.specs.MarkedContinuations.{MarkedContinuation, NominalMark, choice, mark_in, mark_path, marked_calls_then, marked_clauses_then, marked_stack_then, marked_then, out, outs_among}
 use Rattle.ap_search.specs.PathTrees.{query_choices, width_at}
 use Rattle.ap_search.specs.Prefixes.{beginning}
 use Rattle.ap_search.proofs.MarkLemmas.{marked_stack_begins}
-use Rattle.ap_search.proofs.MarkedLemmas.{marked_stack_is_query}
 use Rattle.ap_search.proofs.PrefixLemmas.{beginning_deeper, beginning_whole}
 use Rattle.ap_search.proofs.QueryTreeLemmas.{outs_at_marks, place_choice, width_choice}
 use Rattle.ap_backchain.proofs.MarkLemmas.{marks_turned, settled}
 use Rattle.ap_backchain.proofs.TurnLemmas.{turns_turned}
+use Rattle.ap_backchain.proofs.UnboundLemmas.{marked_stack_by_unbound, stack_by_unbound}
 use Rattle.ap_backchain.specs.Branches.{IsBranchFor, IsBranchOf, IsChoiceAt, IsChoiceOfNode, IsChoosing, IsNamed, IsNodeAt, marks_of_standing, path_of_branch, path_of_standing}
 use Rattle.ap_backchain.specs.Marks.{IsSettled, choice_of, choice_of_atom, choice_of_goal, marks_from, marks_of_turned}
 use Rattle.ap_backchain.specs.Places.{position_of}
-use Rattle.ap_backchain.specs.Positions.{Position, Turned, ends, goes, turned}
-use Rattle.ap_backchain.specs.Problems.{clauses_in, queries_in}
+use Rattle.ap_backchain.specs.Positions.{Position, Turned, ends, goes, outs_from, turned}
+use Rattle.ap_backchain.specs.Problems.{clauses_in, program_in, queries_in}
 use Rattle.ap_backchain.specs.Starts.{first_position}
 use Rattle.ap_backchain.specs.Turns.{turns_from, turns_of_turned}
+use Rattle.ap_backchain.specs.Unbound.{answer_by_unbound}
 use Rattle.ap_backchain.specs.declared.branch.Branch.{Branch}
 use Rattle.ap_backchain.specs.declared.standing.Standing.{Standing}
 use Rattle.ap_backchain.specs.declared.standing.Standing.TheVariants as standings
@@ -76,9 +78,9 @@ choosing_goal program d (either f g) m p s xs v h =
 choosing_goal program d _ m p s xs v h = absurd cc
 
 choosing_by : (program : Clauses) (locals : List NominalLocal) (ws : List Waiting) (p : List ℕ) (s : _) (xs : List _) (v : ℕ) → choice_of program ws ≡ Some v
-    → (rest : List NominalMark) × (marked_stack_then program locals ws p s xs ≡ choice p v ∷ rest)
+    → (rest : List NominalMark) × (marked_stack_then program (answer_by_unbound locals) ws p s xs ≡ choice p v ∷ rest)
 choosing_by program locals [] p s xs v h = absurd cc
-choosing_by program locals (w ∷ ws) p s xs v h = choosing_goal program w.depth w.goal (marked_stack_then program locals ws) p s xs v h
+choosing_by program locals (w ∷ ws) p s xs v h = choosing_goal program w.depth w.goal (marked_stack_then program (answer_by_unbound locals) ws) p s xs v h
 
 pub choosing_marks : (program : Clauses) (locals : List NominalLocal) (p : Position) (v : ℕ) → choice_of program p.waiting ≡ Some v
     → (rest : List NominalMark) × (marks_from program locals p ≡ choice p.path v ∷ rest)
@@ -106,13 +108,13 @@ module _ (program : Clauses) (d : ℕ) (q : NominalQuery) where
       → outs_among (marks_of_standing program q.locals s) ≡ outs_at program d q (path_of_standing s)
   run_at s h = ap outs_among (sym h) ∙ sym (outs_at_marks program d q (path_of_standing s))
 
-  pub root_marks : (s : Standing) → path_of_standing s ≡ [] → marks_of_standing program q.locals s ≡ marks_from program q.locals (first_position d q)
+  pub root_marks : (s : Standing) → marks_from program q.locals (first_position d q) ≡ map (mark_in q.locals) (marked_query program d q) → path_of_standing s ≡ [] → marks_of_standing program q.locals s ≡ marks_from program q.locals (first_position d q)
       → beginning mark_path (path_of_standing s) (map (mark_in q.locals) (marked_query program d q)) ≡ marks_of_standing program q.locals s
-  root_marks s e m =
+  root_marks s first_marks e m =
       let first = first_position d q in
       ap (λ p. beginning mark_path p (map (mark_in q.locals) (marked_query program d q))) e
-      ∙ ap (beginning mark_path []) (sym (marked_stack_is_query program d q))
-      ∙ beginning_whole mark_path [] (marks_from program q.locals first) (marked_stack_begins program q.locals first.waiting [] first.state [])
+      ∙ ap (beginning mark_path []) (sym first_marks)
+      ∙ beginning_whole mark_path [] (marks_from program q.locals first) (marked_stack_begins program (answer_by_unbound q.locals) first.waiting [] first.state [])
       ∙ sym m
 
   pub step_marks : (s t : Standing) (k : ℕ) → beginning mark_path (path_of_standing s) (map (mark_in q.locals) (marked_query program d q)) ≡ marks_of_standing program q.locals s
@@ -128,13 +130,37 @@ module _ (program : Clauses) (d : ℕ) (q : NominalQuery) where
 asked_once : {X : Type 0} (o : Option X) (x y : X) → o ≡ Some x → o ≡ Some y → x ≡ y
 asked_once o x y h k = cc
 
+-- The outputs of a problem.
+module _ (p : Problem) (query : NominalQuery) (asked : slice_get (queries_in p) (p.query - 1) ≡ Some query) (program_typed : IsTypedProgram (program_in p))
+    (typed : IsTypedQuery term_form (program_in p).signature query) where
+  abbrev AreTheOutputs : Vec Out Global → Type 0
+  AreTheOutputs v = (q : NominalQuery) → slice_get (queries_in p) (p.query - 1) ≡ Some q → outs_of v.items ≡ query_outs (clauses_in p) p.depth q
+
+  outputs_are : (v : Vec Out Global) → outs_of v.items ≡ outs_from (clauses_in p) query.locals (first_position p.depth query) → AreTheOutputs v
+  outputs_are v h = λ q k.
+      subst (λ (x : NominalQuery). outs_of v.items ≡ query_outs (clauses_in p) p.depth x) (asked_once (slice_get (queries_in p) (p.query - 1)) query q asked k)
+      (h ∙ stack_by_unbound (program_in p) program_typed p.depth query typed)
+
+  pub all_outputs : {E : Type 0} (r : Result (Vec Out Global) E) → IfOk r (λ v. outs_of v.items ≡ outs_from (clauses_in p) query.locals (first_position p.depth query)) → IfOk r AreTheOutputs
+  all_outputs (Ok v) h = outputs_are v h
+  all_outputs (Err e) h = tt
+
+  some_outputs : (o : Option (Vec Out Global)) → IfSome o (λ v. outs_of v.items ≡ outs_from (clauses_in p) query.locals (first_position p.depth query)) → IfSome o AreTheOutputs
+  some_outputs None h = tt
+  some_outputs (Some v) h = outputs_are v h
+
+  pub few_outputs : {E : Type 0} (r : Result (Option (Vec Out Global)) E) → IfOk r (λ o. IfSome o (λ v. outs_of v.items ≡ outs_from (clauses_in p) query.locals (first_position p.depth query)))
+      → IfOk r (λ o. IfSome o AreTheOutputs)
+  few_outputs (Ok o) h = some_outputs o h
+  few_outputs (Err e) h = tt
+
 pub root_is : (p : Problem) (query : NominalQuery) (s : Standing) (b : Branch) → slice_get (queries_in p) (p.query - 1) ≡ Some query
-    → b.standing ≡ s → IsNamed b.node b.standing → path_of_standing s ≡ []
+    → IsTypedProgram (program_in p) → IsTypedQuery term_form (program_in p).signature query → b.standing ≡ s → IsNamed b.node b.standing → path_of_standing s ≡ []
     → marks_of_standing (clauses_in p) query.locals s ≡ marks_from (clauses_in p) query.locals (first_position p.depth query) → IsChoosing (clauses_in p) s → IsBranchOf p b
-root_is p query s b asked e named path marks choosing = λ q h.
+root_is p query s b asked program_typed typed e named path marks choosing = λ q h.
     subst (λ (x : NominalQuery). IsBranchFor (clauses_in p) p.depth x b) (asked_once (slice_get (queries_in p) (p.query - 1)) query q asked h)
     (subst (λ (r : Standing). (IsNamed b.node r → IsBranchFor (clauses_in p) p.depth query (record b { standing = r }))) (sym e)
-    (λ k. record { marks = root_marks (clauses_in p) p.depth query s path marks; choosing = choosing; named = k }) named)
+    (λ k. record { marks = root_marks (clauses_in p) p.depth query s (marked_stack_by_unbound (program_in p) program_typed p.depth query typed) path marks; choosing = choosing; named = k }) named)
 
 pub atom_chooses : (program : Clauses) (d c : ℕ) → (d ≡ 0 → ⊥) → choice_of_atom program d c ≡ Some (length (clauses_of program c))
 atom_chooses program zero c h = absurd (h refl)

@@ -19,6 +19,7 @@ use Rattle.ap_search.proofs.PrefixLemmas.{beginning_other, beginning_whole, pref
 use Rattle.ap_backchain.proofs.MarkLemmas.{marks_unified}
 use Rattle.ap_backchain.specs.Marks.{IsAmong, choice_of_goal, clauses_marks, goal_marks, marks_from, marks_from_each}
 use Rattle.ap_backchain.specs.Positions.{Position, by_clause, each_position, entered, with_choice, with_goal}
+use Rattle.ap_backchain.specs.Unbound.{answer_by_unbound}
 
 past_choice : (p : List ℕ) (k w : ℕ) (ms : List NominalMark) → beginning mark_path (p ++ k ∷ []) (choice p w ∷ ms) ≡ beginning mark_path (p ++ k ∷ []) ms
 past_choice p k w ms =
@@ -40,10 +41,10 @@ module _ (program : Clauses) (locals : List NominalLocal) (d : ℕ) where
   pub clause_way : (ts : List NominalTerm) (p : Position) (k : ℕ) (c : NominalClause) (cs : List NominalClause) → 1 ≤ k → k - 1 < length cs → c ≡ get_or cs (k - 1) c
       → marks_from_each program locals (by_clause d ts p k c)
       ≡ beginning mark_path (p.path ++ k ∷ [])
-      (marked_clauses_then (marked_then (marked_calls_then program d)) ts (marked_stack_then program locals p.waiting) 1 cs p.path p.state p.brought)
+      (marked_clauses_then (marked_then (marked_calls_then program d)) ts (marked_stack_then program (answer_by_unbound locals) p.waiting) 1 cs p.path p.state p.brought)
   clause_way ts p k c cs low high e =
       let f : 1 + (k - 1) ≡ k = omega arith in
-      let m = marked_stack_then program locals p.waiting in
+      let m = marked_stack_then program (answer_by_unbound locals) p.waiting in
       marks_unified program locals (entered d p k c) (record (p.state) { kinds = p.state.kinds ++ kinds_of c.locals })
       (unify p.state.bindings p.state.conditions ts (map (rename_term (next_number p.state)) c.args))
       ∙ ap (λ (x : NominalClause). marked_clause_then (marked_then (marked_calls_then program d)) ts m k x p.path p.state p.brought) e
@@ -51,7 +52,7 @@ module _ (program : Clauses) (locals : List NominalLocal) (d : ℕ) where
       (subst
       (λ (j : ℕ). beginning mark_path (p.path ++ j ∷ []) (marked_clauses_then (marked_then (marked_calls_then program d)) ts m 1 cs p.path p.state p.brought)
       ≡ marked_clause_then (marked_then (marked_calls_then program d)) ts m j (get_or cs (k - 1) c) p.path p.state p.brought) f
-      (mark_way (marked_calls_then program d) (calls_begin program d) ts m (marked_stack_begins program locals p.waiting) p.path p.state p.brought 1 (k - 1) c cs high))
+      (mark_way (marked_calls_then program d) (calls_begin program d) ts m (marked_stack_begins program (answer_by_unbound locals) p.waiting) p.path p.state p.brought 1 (k - 1) c cs high))
 
   pub entered_path : (p : Position) (k : ℕ) (c : NominalClause) (o : Option State) (r : Position) → r ∷ [] ≡ each_position (entered d p k c) o → r.path ≡ p.path ++ k ∷ []
   entered_path p k c None r h = cc
@@ -60,23 +61,23 @@ module _ (program : Clauses) (locals : List NominalLocal) (d : ℕ) where
   -- below a side of a disjunction
   pub left_way : (g h : NominalGoal) (p : Position)
       → marks_from program locals (with_goal d g (with_choice 1 p))
-      ≡ beginning mark_path (p.path ++ 1 ∷ []) (marked_then (marked_calls_then program d) (either g h) (marked_stack_then program locals p.waiting) p.path p.state p.brought)
+      ≡ beginning mark_path (p.path ++ 1 ∷ []) (marked_then (marked_calls_then program d) (either g h) (marked_stack_then program (answer_by_unbound locals) p.waiting) p.path p.state p.brought)
   left_way g h p =
       let first = marks_from program locals (with_goal d g (with_choice 1 p)) in
       let second = marks_from program locals (with_goal d h (with_choice 2 p)) in
       sym (past_choice p.path 1 2 (first ++ second)
-      ∙ beginning_first mark_path p.path 1 first second (marked_stack_begins program locals (record { goal = g; depth = d } ∷ p.waiting) (p.path ++ 1 ∷ []) p.state p.brought)
-      (beginning_other mark_path p.path 2 1 second (λ e. omega arith) (marked_stack_begins program locals (record { goal = h; depth = d } ∷ p.waiting) (p.path ++ 2 ∷ []) p.state p.brought)))
+      ∙ beginning_first mark_path p.path 1 first second (marked_stack_begins program (answer_by_unbound locals) (record { goal = g; depth = d } ∷ p.waiting) (p.path ++ 1 ∷ []) p.state p.brought)
+      (beginning_other mark_path p.path 2 1 second (λ e. omega arith) (marked_stack_begins program (answer_by_unbound locals) (record { goal = h; depth = d } ∷ p.waiting) (p.path ++ 2 ∷ []) p.state p.brought)))
 
   pub right_way : (g h : NominalGoal) (p : Position)
       → marks_from program locals (with_goal d h (with_choice 2 p))
-      ≡ beginning mark_path (p.path ++ 2 ∷ []) (marked_then (marked_calls_then program d) (either g h) (marked_stack_then program locals p.waiting) p.path p.state p.brought)
+      ≡ beginning mark_path (p.path ++ 2 ∷ []) (marked_then (marked_calls_then program d) (either g h) (marked_stack_then program (answer_by_unbound locals) p.waiting) p.path p.state p.brought)
   right_way g h p =
       let first = marks_from program locals (with_goal d g (with_choice 1 p)) in
       let second = marks_from program locals (with_goal d h (with_choice 2 p)) in
       sym (past_choice p.path 2 2 (first ++ second)
-      ∙ beginning_second mark_path p.path 1 2 first second (λ e. omega arith) (marked_stack_begins program locals (record { goal = g; depth = d } ∷ p.waiting) (p.path ++ 1 ∷ []) p.state p.brought)
-      ∙ beginning_whole mark_path (p.path ++ 2 ∷ []) second (marked_stack_begins program locals (record { goal = h; depth = d } ∷ p.waiting) (p.path ++ 2 ∷ []) p.state p.brought))
+      ∙ beginning_second mark_path p.path 1 2 first second (λ e. omega arith) (marked_stack_begins program (answer_by_unbound locals) (record { goal = g; depth = d } ∷ p.waiting) (p.path ++ 1 ∷ []) p.state p.brought)
+      ∙ beginning_whole mark_path (p.path ++ 2 ∷ []) second (marked_stack_begins program (answer_by_unbound locals) (record { goal = h; depth = d } ∷ p.waiting) (p.path ++ 2 ∷ []) p.state p.brought))
 
   -- the branch of a clause, and where there is none
   pub kid_marks : (ts : List NominalTerm) (p : Position) (k : ℕ) (c : NominalClause) (cs : List NominalClause) → 1 ≤ k → k - 1 < length cs → c ≡ get_or cs (k - 1) c

@@ -15,6 +15,6 @@ pub mod StoreTurnLemmas
 pub mod PlaceLemmas
 pub mod TurnLemmas
 pub mod VarLemmas
-pub mod VisitLemmas
+pub mod UnboundLemmas
 pub mod SetLemmas
 pub mod AnswerLemmas

@@ -16,6 +16,7 @@ use Rattle.ap_search.specs.Continuations.{Waiting}
 use Rattle.ap_search.specs.MarkedContinuations.{marked_calls_then, marked_stack_then, marked_then, marks_if_reduced, marks_if_unified, marks_test_fresh}
 use Rattle.ap_backchain.specs.Marks.{IsSettled, choice_of, choice_of_atom, choice_of_goal, marks_from, marks_from_each, marks_of_turned}
 use Rattle.ap_backchain.specs.Positions.{Position, Turned, each_position, ends, goes, reduced_state, turned, turned_atom, turned_by, turned_fresh, turned_goal, unified_state, with_state}
+use Rattle.ap_backchain.specs.Unbound.{answer_by_unbound}
 
 pub marks_unified : (program : Clauses) (locals : List NominalLocal) (f : State → Position) (s : State) (o : Option Unified)
     → marks_from_each program locals (each_position f (unified_state s o)) ≡ marks_if_unified (λ r. marks_from program locals (f r)) s o
@@ -37,13 +38,13 @@ marks_fresh program locals p (terms.app _ _) u = refl
 marks_fresh program locals p (terms.abs _ _) u = refl
 
 marks_atom : (program : Clauses) (locals : List NominalLocal) (d c : ℕ) (ts : List NominalTerm) (p : Position) → choice_of_atom program d c ≡ None
-    → marks_of_turned program locals (turned_atom program d c ts p) ≡ marked_calls_then program d c ts (marked_stack_then program locals p.waiting) p.path p.state p.brought
+    → marks_of_turned program locals (turned_atom program d c ts p) ≡ marked_calls_then program d c ts (marked_stack_then program (answer_by_unbound locals) p.waiting) p.path p.state p.brought
 marks_atom program locals zero c ts p h = refl
 marks_atom program locals (suc d) c ts p h = cc
 
 marks_goal : (program : Clauses) (locals : List NominalLocal) (d : ℕ) (g : NominalGoal) (p : Position) → choice_of_goal program d g ≡ None
     → marks_of_turned program locals (turned_goal program d g p)
-    ≡ marked_then (marked_calls_then program d) g (marked_stack_then program locals p.waiting) p.path p.state p.brought
+    ≡ marked_then (marked_calls_then program d) g (marked_stack_then program (answer_by_unbound locals) p.waiting) p.path p.state p.brought
 marks_goal program locals d succeed p h = append-nil _
 marks_goal program locals d (atom c ts) p h = marks_atom program locals d c ts p h
 marks_goal program locals d (equal t u) p h =
@@ -57,7 +58,7 @@ marks_goal program locals d (new a g) p h =
     (reduce_all p.state.bindings (fresh_for_each a (free_vars g)))
 
 marks_by : (program : Clauses) (locals : List NominalLocal) (ws : List Waiting) (p : Position) → choice_of program ws ≡ None
-    → marks_of_turned program locals (turned_by program locals ws p) ≡ marked_stack_then program locals ws p.path p.state p.brought
+    → marks_of_turned program locals (turned_by program locals ws p) ≡ marked_stack_then program (answer_by_unbound locals) ws p.path p.state p.brought
 marks_by program locals [] p h = refl
 marks_by program locals (w ∷ ws) p h = marks_goal program locals w.depth w.goal (record p { waiting = ws }) h
 

@@ -16,6 +16,7 @@ use Rattle.ap_defs.specs.Unification.{Unified, reduce_all, unify}
 use Rattle.ap_search.specs.Continuations.{Waiting, calls_then, clause_then, clauses_then, goal_then, stack_then, then_if_reduced, then_if_unified, then_test_fresh}
 use Rattle.ap_backchain.specs.Positions.{Position, by_clause, by_clauses, clause_state, each_position, entered, outs_from, outs_from_each, outs_of_turned, reduced_state, turned, turned_atom, turned_by, turned_fresh, turned_goal, unified_state, with_state}
 use Rattle.ap_backchain.specs.Turns.{call_turns, clauses_turns, fresh_turns, goal_turns, stack_turns, turns_from, turns_from_each, turns_if, turns_of_turned}
+use Rattle.ap_backchain.specs.Unbound.{answer_by_unbound}
 
 -- Outputs.
 pub outs_append : (program : Clauses) (locals : List NominalLocal) (ps qs : List Position)
@@ -46,28 +47,28 @@ outs_fresh program locals p (terms.abs _ _) u = refl
 
 pub outs_clause : (program : Clauses) (locals : List NominalLocal) (d : ℕ) (ts : List NominalTerm) (p : Position) (i : ℕ) (c : NominalClause)
     → outs_from_each program locals (by_clause d ts p i c)
-    ≡ clause_then (goal_then (calls_then program d)) ts (stack_then program locals p.waiting) i c p.path p.state p.brought
+    ≡ clause_then (goal_then (calls_then program d)) ts (stack_then program (answer_by_unbound locals) p.waiting) i c p.path p.state p.brought
 outs_clause program locals d ts p i c =
     outs_unified program locals (entered d p i c) (record (p.state) { kinds = p.state.kinds ++ kinds_of c.locals })
     (unify p.state.bindings p.state.conditions ts (map (rename_term (next_number p.state)) c.args))
 
 pub outs_clauses : (program : Clauses) (locals : List NominalLocal) (d : ℕ) (ts : List NominalTerm) (p : Position) (i : ℕ) (cs : List NominalClause)
     → outs_from_each program locals (by_clauses d ts p i cs)
-    ≡ clauses_then (goal_then (calls_then program d)) ts (stack_then program locals p.waiting) i cs p.path p.state p.brought
+    ≡ clauses_then (goal_then (calls_then program d)) ts (stack_then program (answer_by_unbound locals) p.waiting) i cs p.path p.state p.brought
 outs_clauses program locals d ts p i [] = refl
 outs_clauses program locals d ts p i (c ∷ cs) =
     outs_append program locals (by_clause d ts p i c) (by_clauses d ts p (suc i) cs)
     ∙ ap (λ os. os ++ outs_from_each program locals (by_clauses d ts p (suc i) cs)) (outs_clause program locals d ts p i c)
-    ∙ ap (λ os. clause_then (goal_then (calls_then program d)) ts (stack_then program locals p.waiting) i c p.path p.state p.brought ++ os) (outs_clauses program locals d ts p (suc i) cs)
+    ∙ ap (λ os. clause_then (goal_then (calls_then program d)) ts (stack_then program (answer_by_unbound locals) p.waiting) i c p.path p.state p.brought ++ os) (outs_clauses program locals d ts p (suc i) cs)
 
 outs_atom : (program : Clauses) (locals : List NominalLocal) (d c : ℕ) (ts : List NominalTerm) (p : Position)
-    → outs_of_turned program locals (turned_atom program d c ts p) ≡ calls_then program d c ts (stack_then program locals p.waiting) p.path p.state p.brought
+    → outs_of_turned program locals (turned_atom program d c ts p) ≡ calls_then program d c ts (stack_then program (answer_by_unbound locals) p.waiting) p.path p.state p.brought
 outs_atom program locals zero c ts p = refl
 outs_atom program locals (suc d) c ts p = outs_clauses program locals d ts p 1 (clauses_of program c)
 
 pub outs_goal : (program : Clauses) (locals : List NominalLocal) (d : ℕ) (g : NominalGoal) (p : Position)
     → outs_of_turned program locals (turned_goal program d g p)
-    ≡ goal_then (calls_then program d) g (stack_then program locals p.waiting) p.path p.state p.brought
+    ≡ goal_then (calls_then program d) g (stack_then program (answer_by_unbound locals) p.waiting) p.path p.state p.brought
 outs_goal program locals d succeed p = append-nil (outs_from program locals p)
 outs_goal program locals d (atom c ts) p = outs_atom program locals d c ts p
 outs_goal program locals d (equal t u) p =
@@ -75,15 +76,15 @@ outs_goal program locals d (equal t u) p =
 outs_goal program locals d (fresh t u) p = outs_fresh program locals p (under p.state.bindings t) u
 outs_goal program locals d (both g h) p = append-nil _
 outs_goal program locals d (either g h) p =
-    ap (λ os. goal_then (calls_then program d) g (stack_then program locals p.waiting) (p.path ++ 1 ∷ []) p.state p.brought ++ os)
-    (append-nil (goal_then (calls_then program d) h (stack_then program locals p.waiting) (p.path ++ 2 ∷ []) p.state p.brought))
+    ap (λ os. goal_then (calls_then program d) g (stack_then program (answer_by_unbound locals) p.waiting) (p.path ++ 1 ∷ []) p.state p.brought ++ os)
+    (append-nil (goal_then (calls_then program d) h (stack_then program (answer_by_unbound locals) p.waiting) (p.path ++ 2 ∷ []) p.state p.brought))
 outs_goal program locals d (exists x g) p = append-nil _
 outs_goal program locals d (new a g) p =
     outs_reduced program locals (λ s. with_state s (record p { waiting = record { goal = g; depth = d } ∷ p.waiting })) p.state
     (reduce_all p.state.bindings (fresh_for_each a (free_vars g)))
 
 outs_by : (program : Clauses) (locals : List NominalLocal) (ws : List Waiting) (p : Position)
-    → outs_of_turned program locals (turned_by program locals ws p) ≡ stack_then program locals ws p.path p.state p.brought
+    → outs_of_turned program locals (turned_by program locals ws p) ≡ stack_then program (answer_by_unbound locals) ws p.path p.state p.brought
 outs_by program locals [] p = refl
 outs_by program locals (w ∷ ws) p = outs_goal program locals w.depth w.goal (record p { waiting = ws })
 

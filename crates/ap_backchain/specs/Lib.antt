@@ -1,4 +1,4 @@
-pub mod Reached
+pub mod Unbound
 pub mod Searches
 pub mod Heads
 pub mod Tracks

@@ -7,10 +7,11 @@ use Rattle.ap_defs.specs.Types.{NominalLocal}
 use Rattle.ap_search.specs.Continuations.{Waiting}
 use Rattle.ap_search.specs.MarkedContinuations.{NominalMark, marked_calls_then, marked_clauses_then, marked_stack_then, marked_then, out}
 use Rattle.ap_backchain.specs.Positions.{Position, Turned, ends, goes}
+use Rattle.ap_backchain.specs.Unbound.{answer_by_unbound}
 
 -- the marks of the goals that wait
 abbrev pub marks_from : Clauses → List NominalLocal → Position → List NominalMark
-marks_from program locals p = marked_stack_then program locals p.waiting p.path p.state p.brought
+marks_from program locals p = marked_stack_then program (answer_by_unbound locals) p.waiting p.path p.state p.brought
 
 abbrev pub marks_from_each : Clauses → List NominalLocal → List Position → List NominalMark
 marks_from_each program locals [] = []
@@ -36,11 +37,11 @@ IsAmong k (Some w) = (1 ≤ k) × (k ≤ w)
 
 -- the marks of a goal in front of those that wait, and of clauses that an atom can enter
 abbrev pub goal_marks : Clauses → List NominalLocal → ℕ → NominalGoal → Position → List NominalMark
-goal_marks program locals d g p = marked_then (marked_calls_then program d) g (marked_stack_then program locals p.waiting) p.path p.state p.brought
+goal_marks program locals d g p = marked_then (marked_calls_then program d) g (marked_stack_then program (answer_by_unbound locals) p.waiting) p.path p.state p.brought
 
 abbrev pub clauses_marks : Clauses → List NominalLocal → ℕ → List NominalTerm → List NominalClause → Position → List NominalMark
 clauses_marks program locals d ts cs p =
-    marked_clauses_then (marked_then (marked_calls_then program d)) ts (marked_stack_then program locals p.waiting) 1 cs p.path p.state p.brought
+    marked_clauses_then (marked_then (marked_calls_then program d)) ts (marked_stack_then program (answer_by_unbound locals) p.waiting) 1 cs p.path p.state p.brought
 
 abbrev pub choice_of : Clauses → List Waiting → Option ℕ
 choice_of program [] = None

@@ -14,7 +14,7 @@ use Rattle.ap_defs.specs.Terms.{NominalTerm}
 use Rattle.ap_defs.specs.Types.{NominalLocal}
 use Rattle.ap_defs.specs.Unification.{Unified, reduce_all, unify}
 use Rattle.ap_search.specs.Continuations.{Waiting, stack_then}
-use Rattle.ap_search.specs.Records.{answer_with}
+use Rattle.ap_backchain.specs.Unbound.{answer_by_unbound}
 
 -- The goals that wait, the first one first; the path and the state; and the variables that clauses and `exists` brought.
 pub record Position : Type 0 where
@@ -99,7 +99,7 @@ turned_goal program d (new a g) p =
     goes_with (with_goal d g p) (reduced_state p.state (reduce_all p.state.bindings (fresh_for_each a (free_vars g))))
 
 abbrev pub turned_by : Clauses → List NominalLocal → List Waiting → Position → Turned
-turned_by program locals [] p = ends (found p.path (answer_with locals p.state p.brought))
+turned_by program locals [] p = ends (found p.path (answer_by_unbound locals p.state p.brought))
 turned_by program locals (w ∷ ws) p = turned_goal program w.depth w.goal (record p { waiting = ws })
 
 -- what the first goal that waits makes of a place; where none waits, the search has found its state
@@ -108,7 +108,7 @@ turned program locals p = turned_by program locals p.waiting p
 
 -- the outputs of the goals that wait
 abbrev pub outs_from : Clauses → List NominalLocal → Position → List NominalOut
-outs_from program locals p = stack_then program locals p.waiting p.path p.state p.brought
+outs_from program locals p = stack_then program (answer_by_unbound locals) p.waiting p.path p.state p.brought
 
 abbrev pub outs_from_each : Clauses → List NominalLocal → List Position → List NominalOut
 outs_from_each program locals [] = []

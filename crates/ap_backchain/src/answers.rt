@@ -6,13 +6,13 @@ ghost use Rattle.ap_defs.specs.Answers.{answer_of, closed_term, kind_at, typed_v
 ghost use Rattle.ap_defs.specs.Canonical.{canonical_term};
 ghost use Rattle.ap_defs.specs.Terms.{susp, term_of};
 ghost use Rattle.ap_defs.specs.Types.{locals_of};
-ghost use Rattle.ap_search.specs.Records.{answer_with, closed_vars};
+ghost use Rattle.ap_search.specs.Records.{closed_vars};
+ghost use Rattle.ap_backchain.specs.Unbound.{answer_by_unbound, vars_besides};
 ghost use Rattle.ap_backchain.specs.Views.{state_in};
-ghost use Rattle.ap_backchain.specs.Reached.{vars_reached};
 ghost use Rattle.ap_store.specs.Views.{kinds};
 
-use crate::reached::reached;
 use crate::renaming::vars_of_locals;
+use crate::unbound::unbound_of;
 use crate::vars::{add_vars_of_conds, add_vars_of_terms, make_ascending};
 use ap_defs::copies::copy_type;
 use ap_defs::goals::{Kind, Local};
@@ -92,7 +92,7 @@ fn vars_among(
     conds: &[Cond],
     others: &[Var],
 ) -> Result<Vec<Var>, Memory>
-    ensures { IfOk result (λ v. v.items ≡ vars_reached (map term_of binds.now) conds.now others.now) }
+    ensures { IfOk result (λ v. v.items ≡ vars_besides (map term_of binds.now) conds.now others.now) }
 {
     let mut vars = Vec::new(alloc);
     add_vars_of_terms(&mut vars, binds)?;
@@ -141,11 +141,11 @@ pub fn answer_in(
     brought: &[Var],
 ) -> Result<Answer, Memory>
     requires { length locals.now < 2 ^ 64 }
-    ensures { IfOk result (λ a. answer_of a ≡ answer_with (locals_of locals.now) (state_in store.now) brought.now) }
+    ensures { IfOk result (λ a. answer_of a ≡ answer_by_unbound (locals_of locals.now) (state_in store.now) brought.now) }
 {
     let free = vars_of_locals(alloc, 0, locals)?;
     let binds = closed(alloc, store, &free)?;
-    let others = reached(alloc, store, brought)?;
+    let others = unbound_of(alloc, store, brought)?;
     let vars = vars_among(alloc, &binds, store.conditions(), &others)?;
     let vars = typed_of(alloc, store, &vars)?;
     let conds = store.conds(alloc)?;

@@ -4,7 +4,8 @@ ghost use Rattle.std.specs.Prelude.{◌≡◌, ◌-◌, Some, IfOk, IfSome, map,
 ghost use Rattle.ap_defs.specs.Answers.{outs_of, query_outs};
 ghost use Rattle.ap_defs.specs.Goals.{NominalQuery, clause_of, query_of};
 ghost use Rattle.ap_backchain.specs.Below.{AreClausesBelow, IsQueryBelow};
-ghost use Rattle.ap_backchain.specs.Problems.{HasQuery, clauses_in, queries_in};
+ghost use Rattle.ap_backchain.specs.Problems.{HasQuery, clauses_in, program_in, queries_in};
+ghost use Rattle.ap_program.specs.Typed.{IsTypedProgram, IsTypedQuery, term_form};
 
 use crate::run::{outputs_of_query, outputs_of_short_query};
 use ap_defs::goals::{Clause, Query};
@@ -28,6 +29,7 @@ pub struct Problem<'a> {
 pub fn clauses_of_problem<'a>(p: &Problem<'a>) -> &'a [List<Clause<Term>>]
     ensures clauses { map (map clause_of) result.now ≡ clauses_in p.now }
     ensures below { AreClausesBelow (map (map clause_of) result.now) }
+    ensures typed { IsTypedProgram (program_in p.now) }
 {
     p.program.program().clauses.items()
 }
@@ -37,6 +39,7 @@ pub fn query_of_problem<'a>(p: &Problem<'a>) -> &'a Query<Term>
     requires { HasQuery p.now }
     ensures query { slice_get (queries_in p.now) (p.now.query - 1) ≡ Some (query_of result.now) }
     ensures below { IsQueryBelow (query_of result.now) }
+    ensures typed { IsTypedQuery term_form (program_in p.now).signature (query_of result.now) }
 {
     let queries = p.program.program().queries.items();
     &queries[p.query as usize - 1]

@@ -1,7 +1,7 @@
 //! Whole searches.
 
 ghost use Rattle.std.specs.Prelude.{◌≡◌, ℕ, ◌<◌, ◌≤◌, ◌^◌, ◌++◌, [], ◌∷◌, false, true, Some, IfOk, IfSome, List as list, OnOk, length, map};
-ghost use Rattle.ap_defs.specs.Answers.{outs_of, query_outs};
+ghost use Rattle.ap_defs.specs.Answers.{outs_of};
 ghost use Rattle.ap_defs.specs.Goals.{clause_of, either, goal_of, query_of};
 ghost use Rattle.ap_defs.specs.Renaming.{IsGoalBelow, rename_goal};
 ghost use Rattle.ap_defs.specs.Types.{NominalLocal, locals_of};
@@ -329,7 +329,7 @@ fn outputs_soon<'a>(
     Ok(None)
 }
 
-/// The outputs of a query to a depth, as `outputs_of_query`, where the search takes few turns.
+/// The outputs from where the search of a query begins, as `outputs_of_query`, where it takes few turns.
 pub fn outputs_of_short_query(
     alloc: Global,
     clauses: &[List<Clause<Term>>],
@@ -338,15 +338,13 @@ pub fn outputs_of_short_query(
 ) -> Result<Option<Vec<Out>>, Memory>
     requires clauses { AreClausesBelow (map (map clause_of) clauses.now) }
     requires query { IsQueryBelow (query_of query.now) }
-    ensures { IfOk result (λ o. IfSome o (λ v. outs_of v.items ≡ query_outs (map (map clause_of) clauses.now) depth (query_of query.now))) }
+    ensures { IfOk result (λ o. IfSome o (λ v. outs_of v.items ≡ outs_from (map (map clause_of) clauses.now) (query_of query.now).locals (first_position depth (query_of query.now)))) }
 {
     let first = first_place(alloc, depth, query)?;
     outputs_soon(alloc, clauses, query.locals.items(), first)
 }
 
-/// The outputs of a query to a depth, in order, each with its path and its answer: all answers of
-/// sequential nominal resolution, and a note wherever a branch was cut or is stuck (Cheney and
-/// Urban, "Nominal Logic Programming").
+/// The outputs from where the search of a query to a depth begins, in order.
 pub fn outputs_of_query(
     alloc: Global,
     clauses: &[List<Clause<Term>>],
@@ -355,7 +353,7 @@ pub fn outputs_of_query(
 ) -> Result<Vec<Out>, Memory>
     requires clauses { AreClausesBelow (map (map clause_of) clauses.now) }
     requires query { IsQueryBelow (query_of query.now) }
-    ensures { IfOk result (λ v. outs_of v.items ≡ query_outs (map (map clause_of) clauses.now) depth (query_of query.now)) }
+    ensures { IfOk result (λ v. outs_of v.items ≡ outs_from (map (map clause_of) clauses.now) (query_of query.now).locals (first_position depth (query_of query.now))) }
 {
     let first = first_place(alloc, depth, query)?;
     outputs_from(alloc, clauses, query.locals.items(), first)

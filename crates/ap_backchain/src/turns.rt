@@ -11,7 +11,7 @@ ghost use Rattle.ap_backchain.specs.Marks.{choice_of, choice_of_goal};
 ghost use Rattle.ap_backchain.specs.Places.{next_of, position_of, track_of, turned_of};
 ghost use Rattle.ap_backchain.specs.Positions.{turned, turned_goal};
 ghost use Rattle.ap_backchain.specs.Tracks.{GoesFrom};
-ghost use Rattle.ap_search.specs.Records.{answer_with};
+ghost use Rattle.ap_backchain.specs.Unbound.{answer_by_unbound};
 
 use crate::answers::answer_in;
 use crate::frames::Frame;
@@ -182,7 +182,7 @@ pub fn turn_of_goal<'a>(
 /// The output of a place in which no goal waits.
 fn found<'a>(alloc: Global, locals: &[Local], place: &Place<'a>) -> Result<Out, Memory>
     requires { length locals.now < 2 ^ 64 }
-    ensures { IfOk result (λ o. out_of o ≡ found_at place.now.path.items (answer_with (locals_of locals.now) (position_of place.now).state place.now.brought.items)) }
+    ensures { IfOk result (λ o. out_of o ≡ found_at place.now.path.items (answer_by_unbound (locals_of locals.now) (position_of place.now).state place.now.brought.items)) }
 {
     let answer = answer_in(alloc, locals, &place.store, &place.brought)?;
     let path = place.path.to_vec(alloc)?;

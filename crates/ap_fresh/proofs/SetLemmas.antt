@@ -25,7 +25,7 @@ pub add_between : (c : Cond) (ds : Conds) (i : ℕ) (d : Cond) → i < length ds
 add_between c ds i d h e k =
     sym (ap (λ es. take i ds ++ add_cond c es) (drop-cons ds i d h) ∙ rw (e, k) (ap (λ es. take i ds ++ c ∷ es) (sym (drop-cons ds i d h))))
 
-add_conds-append : (cs ds es : List Cond) → add_conds (cs ++ ds) es ≡ add_conds cs (add_conds ds es)
+pub add_conds-append : (cs ds es : List Cond) → add_conds (cs ++ ds) es ≡ add_conds cs (add_conds ds es)
 add_conds-append [] ds es = refl
 add_conds-append (c ∷ cs) ds es = ap (add_cond c) (add_conds-append cs ds es)
 

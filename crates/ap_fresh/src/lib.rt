@@ -2,4 +2,5 @@
 #![tactic(auto)]
 
 pub mod error;
+mod pending;
 pub mod reduction;

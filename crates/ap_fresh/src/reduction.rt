@@ -8,14 +8,15 @@ ghost use Rattle.ap_defs.specs.Terms.{susp, term_of};
 ghost use Rattle.ap_theory.specs.StatementsOnConditions.{collected, is_free};
 ghost use Rattle.ap_perm.specs.Closures.{closure_term};
 ghost use Rattle.ap_perm.specs.Lookups.{carried_out};
-ghost use Rattle.ap_fresh.specs.Reduction.{added, IsLeast};
+ghost use Rattle.ap_fresh.specs.Reduction.{added, pending_term, IsLeast};
 
 use crate::error::FreshError;
+use crate::pending::Pending;
 use ap_defs::terms::{Cond, Name, Swap, Term, Var};
 use ap_perm::closures::Closure;
 use ap_perm::joining::numbered;
 use ap_perm::look::Look;
-use ap_perm::swappings::{preimage, swapped};
+use ap_perm::swappings::swapped;
 use std::alloc::Global;
 
 /// Whether two conditions are one.
@@ -71,53 +72,45 @@ fn preimage_from(base: u64, end: u64, swaps: &[Swap], a: Name) -> Name
     moved
 }
 
-/// Adds the conditions to which `a # t` reduces under the bindings, from the last to the first. The
-/// identifiers of the term are numbered from `base` on, below `end`.
-fn collect<L: Look>(
-    a: Name,
-    base: u64,
-    end: u64,
-    t: &Term,
-    look: &L,
-    conds: &mut Vec<Cond>,
-) -> Result<(), FreshError>
-    requires { IsBelow end (rename_term base (term_of t.now)) }
-    ensures added { OnOk result (added (by_rules a (carried_out (L.bound look.now) (L.rank look.now) (rename_term base (term_of t.now)))) conds.old.items ≡ Some conds.new.items) }
-    ensures refuted { IsErrOf result FreshError.Refuted → by_rules a (carried_out (L.bound look.now) (L.rank look.now) (rename_term base (term_of t.now))) ≡ None }
+/// Adds the conditions to which a problem reduces under the bindings, from the last to the first. What
+/// is left to be reduced lies on a stack.
+fn collect<L: Look>(first: Pending<'_>, look: &L, conds: &mut Vec<Cond>) -> Result<(), FreshError>
+    ensures added { OnOk result (added (by_rules first.entry.name (carried_out (L.bound look.now) (L.rank look.now) (pending_term first.entry))) conds.old.items ≡ Some conds.new.items) }
+    ensures refuted { IsErrOf result FreshError.Refuted → by_rules first.entry.name (carried_out (L.bound look.now) (L.rank look.now) (pending_term first.entry)) ≡ None }
 {
-    match t {
-        Term::Unit => Ok(()),
-        Term::Name(b) => {
-            if numbered(base, *b) == a {
-                Err(FreshError::Refuted)
-            } else {
-                Ok(())
+    let mut left = Vec::new(*conds.allocator());
+    left.push(first)?;
+    'collecting: while let Some(p) = left.pop() {
+        match p.term {
+            Term::Unit => {}
+            Term::Name(b) => {
+                if numbered(p.base, *b) == p.name {
+                    return Err(FreshError::Refuted);
+                }
             }
-        }
-        Term::Pair(left, right) => {
-            collect(a, base, end, right, look, conds)?;
-            collect(a, base, end, left, look, conds)
-        }
-        Term::App(_, argument) => collect(a, base, end, argument, look, conds),
-        Term::Abs(b, body) => {
-            if a == numbered(base, *b) {
-                Ok(())
-            } else {
-                collect(a, base, end, body, look, conds)
+            Term::Pair(t, u) => {
+                left.push(p.within(t))?;
+                left.push(p.within(u))?;
             }
-        }
-        Term::Susp(swaps, x) => {
-            let name = preimage_from(base, end, swaps.items(), a);
-            let var = Var { num: base + x.num };
-            match look.look(var) {
-                None => add(conds, Cond { name, var }),
-                Some(c) => {
-                    let name = preimage(&c.swaps, name);
-                    collect(name, c.base, c.end, c.term, look, conds)
+            Term::App(_, argument) => left.push(p.within(argument))?,
+            Term::Abs(b, body) => {
+                if p.name != numbered(p.base, *b) {
+                    left.push(p.within(body))?;
+                }
+            }
+            Term::Susp(swaps, x) => {
+                let name = preimage_from(p.base, p.end, swaps.items(), p.name);
+                let var = Var {
+                    num: p.base + x.num,
+                };
+                match look.look(var) {
+                    None => add(conds, Cond { name, var })?,
+                    Some(c) => left.push(Pending::bound(name, c))?,
                 }
             }
         }
     }
+    Ok(())
 }
 
 /// Adds the conditions to which `a # t` reduces under the bindings to a set, from the last to the
@@ -131,7 +124,7 @@ pub fn add_reduced<L: Look>(
     ensures added { OnOk result (added (by_rules a (carried_out (L.bound look.now) (L.rank look.now) (closure_term t.now))) conds.old.items ≡ Some conds.new.items) }
     ensures refuted { IsErrOf result FreshError.Refuted → by_rules a (carried_out (L.bound look.now) (L.rank look.now) (closure_term t.now)) ≡ None }
 {
-    collect(preimage(&t.swaps, a), t.base, t.end, t.term, look, conds)
+    collect(Pending::bound(a, t), look, conds)
 }
 
 /// Adds the conditions to which `a # x` reduces under the bindings to a set. `Refuted` comes exactly

@@ -6,12 +6,12 @@ use Rattle.ap_defs.specs.Goals.{NominalGoal, NominalClause, Clauses}
 use Rattle.ap_defs.specs.PathOrder.{has_prefix}
 use Rattle.ap_defs.specs.Resolution.{State}
 use Rattle.ap_defs.specs.Terms.{NominalTerm}
-use Rattle.ap_defs.specs.Types.{NominalLocal}
 use Rattle.ap_defs.specs.declared.terms.Var.{Var}
 use Rattle.ap_theory.proofs.BooleanLemmas.{and_false}
 use Rattle.ap_search.specs.Continuations.{Waiting, calls_then, clause_then, clauses_then, goal_then, stack_then}
 use Rattle.ap_search.specs.MarkedContinuations.{MarkedCallThen, MarkedContinuation, NominalMark, choice, mark_path, marked_calls_then, marked_clause_then, marked_clauses_then, marked_stack_then, marked_then, out, outs_among, widths_at}
 use Rattle.ap_search.specs.Prefixes.{AllBegin, beginning}
+use Rattle.ap_search.specs.Records.{Answering}
 use Rattle.ap_search.proofs.MarkLemmas.{Begins, CallBegins, begin_among, beginning_among, calls_begin, clause_begins, goal_begins, marked_stack_begins, marks_calls, marks_clause, marks_clauses, marks_goal, marks_stack}
 use Rattle.ap_search.proofs.PrefixLemmas.{beginning-append, beginning_other, beginning_whole, prefix_longer}
 
@@ -53,46 +53,46 @@ module _ (mcall : MarkedCallThen) (begins : CallBegins mcall) (ts : List Nominal
       rw e (beginning_second mark_path p n (suc n + i) (way n c) (ways (suc n) cs) (λ f. omega arith) (clause_begins mcall begins ts m h n c p s xs) ∙ mark_way (suc n) i d cs (omega arith))
 
 -- The ways of an atom, of outputs.
-module _ (program : Clauses) (d : ℕ) (locals : List NominalLocal) (ws : List Waiting) (ts : List NominalTerm) (p : List ℕ) (s : State) (xs : List Var) where
+module _ (program : Clauses) (d : ℕ) (answering : Answering) (ws : List Waiting) (ts : List NominalTerm) (p : List ℕ) (s : State) (xs : List Var) where
   abbrev out_way : ℕ → NominalClause → List NominalOut
-  out_way i c = clause_then (goal_then (calls_then program d)) ts (stack_then program locals ws) i c p s xs
+  out_way i c = clause_then (goal_then (calls_then program d)) ts (stack_then program answering ws) i c p s xs
 
   abbrev out_ways : ℕ → List NominalClause → List NominalOut
-  out_ways i cs = clauses_then (goal_then (calls_then program d)) ts (stack_then program locals ws) i cs p s xs
+  out_ways i cs = clauses_then (goal_then (calls_then program d)) ts (stack_then program answering ws) i cs p s xs
 
   -- below the i-th clause there is what it has
   pub clause_at : (n i : ℕ) (c : NominalClause) (cs : List NominalClause) → i < length cs
       → beginning out_path (p ++ (n + i) ∷ []) (out_ways n cs) ≡ out_way (n + i) (get_or cs i c)
   clause_at n i c cs l =
       let mcall = marked_calls_then program d in
-      let k = marked_stack_then program locals ws in
-      ap (beginning out_path (p ++ (n + i) ∷ [])) (sym (marks_clauses mcall (calls_then program d) (marks_calls program d) ts k (stack_then program locals ws) (marks_stack program locals ws) n cs p s xs))
+      let k = marked_stack_then program answering ws in
+      ap (beginning out_path (p ++ (n + i) ∷ [])) (sym (marks_clauses mcall (calls_then program d) (marks_calls program d) ts k (stack_then program answering ws) (marks_stack program answering ws) n cs p s xs))
       ∙ sym (beginning_among (p ++ (n + i) ∷ []) (marked_clauses_then (marked_then mcall) ts k n cs p s xs))
-      ∙ ap outs_among (mark_way mcall (calls_begin program d) ts k (marked_stack_begins program locals ws) p s xs n i c cs l)
-      ∙ marks_clause mcall (calls_then program d) (marks_calls program d) ts k (stack_then program locals ws) (marks_stack program locals ws) (n + i) (get_or cs i c) p s xs
+      ∙ ap outs_among (mark_way mcall (calls_begin program d) ts k (marked_stack_begins program answering ws) p s xs n i c cs l)
+      ∙ marks_clause mcall (calls_then program d) (marks_calls program d) ts k (stack_then program answering ws) (marks_stack program answering ws) (n + i) (get_or cs i c) p s xs
 
 -- the outputs of a goal in front of a stack begin with the path
-pub goal_outs_begin : (program : Clauses) (d : ℕ) (locals : List NominalLocal) (ws : List Waiting) (g : NominalGoal) (p : List ℕ) (s : State) (xs : List Var)
-    → AllBegin out_path p (goal_then (calls_then program d) g (stack_then program locals ws) p s xs)
-goal_outs_begin program d locals ws g p s xs =
-    let k = marked_stack_then program locals ws in
-    subst (AllBegin out_path p) (marks_goal (marked_calls_then program d) (calls_then program d) (marks_calls program d) g k (stack_then program locals ws) (marks_stack program locals ws) p s xs)
-    (begin_among p (marked_then (marked_calls_then program d) g k p s xs) (goal_begins (marked_calls_then program d) (calls_begin program d) g k (marked_stack_begins program locals ws) p s xs))
+pub goal_outs_begin : (program : Clauses) (d : ℕ) (answering : Answering) (ws : List Waiting) (g : NominalGoal) (p : List ℕ) (s : State) (xs : List Var)
+    → AllBegin out_path p (goal_then (calls_then program d) g (stack_then program answering ws) p s xs)
+goal_outs_begin program d answering ws g p s xs =
+    let k = marked_stack_then program answering ws in
+    subst (AllBegin out_path p) (marks_goal (marked_calls_then program d) (calls_then program d) (marks_calls program d) g k (stack_then program answering ws) (marks_stack program answering ws) p s xs)
+    (begin_among p (marked_then (marked_calls_then program d) g k p s xs) (goal_begins (marked_calls_then program d) (calls_begin program d) g k (marked_stack_begins program answering ws) p s xs))
 
 -- The ways of a disjunction.
-module _ (program : Clauses) (d : ℕ) (locals : List NominalLocal) (ws : List Waiting) (g h : NominalGoal) (p : List ℕ) (s : State) (xs : List Var) where
+module _ (program : Clauses) (d : ℕ) (answering : Answering) (ws : List Waiting) (g h : NominalGoal) (p : List ℕ) (s : State) (xs : List Var) where
   abbrev side : NominalGoal → ℕ → List NominalOut
-  side f i = goal_then (calls_then program d) f (stack_then program locals ws) (p ++ i ∷ []) s xs
+  side f i = goal_then (calls_then program d) f (stack_then program answering ws) (p ++ i ∷ []) s xs
 
   pub left_at : beginning out_path (p ++ 1 ∷ []) (side g 1 ++ side h 2) ≡ side g 1
   left_at =
-      beginning_first out_path p 1 (side g 1) (side h 2) (goal_outs_begin program d locals ws g (p ++ 1 ∷ []) s xs)
-      (beginning_other out_path p 2 1 (side h 2) (λ e. omega arith) (goal_outs_begin program d locals ws h (p ++ 2 ∷ []) s xs))
+      beginning_first out_path p 1 (side g 1) (side h 2) (goal_outs_begin program d answering ws g (p ++ 1 ∷ []) s xs)
+      (beginning_other out_path p 2 1 (side h 2) (λ e. omega arith) (goal_outs_begin program d answering ws h (p ++ 2 ∷ []) s xs))
 
   pub right_at : beginning out_path (p ++ 2 ∷ []) (side g 1 ++ side h 2) ≡ side h 2
   right_at =
-      beginning_second out_path p 1 2 (side g 1) (side h 2) (λ e. omega arith) (goal_outs_begin program d locals ws g (p ++ 1 ∷ []) s xs)
-      ∙ beginning_whole out_path (p ++ 2 ∷ []) (side h 2) (goal_outs_begin program d locals ws h (p ++ 2 ∷ []) s xs)
+      beginning_second out_path p 1 2 (side g 1) (side h 2) (λ e. omega arith) (goal_outs_begin program d answering ws g (p ++ 1 ∷ []) s xs)
+      ∙ beginning_whole out_path (p ++ 2 ∷ []) (side h 2) (goal_outs_begin program d answering ws h (p ++ 2 ∷ []) s xs)
 
 -- Widths of choices at a path.
 pub widths_none : (p : List ℕ) (i : ℕ) (ms : List NominalMark) → AllBegin mark_path (p ++ i ∷ []) ms → widths_at p ms ≡ []

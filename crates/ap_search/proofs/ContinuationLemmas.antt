@@ -18,7 +18,7 @@ use Rattle.ap_defs.specs.Unification.{Unified, reduce_all, unify}
 use Rattle.ap_defs.specs.declared.terms.Cond.{Cond}
 use Rattle.ap_defs.specs.declared.terms.Var.{Var}
 use Rattle.ap_search.specs.Continuations.{CallThen, Continuation, answer_then, calls_then, clause_then, clauses_then, goal_then, stack_then, then_if_reduced, then_if_unified, then_test_fresh}
-use Rattle.ap_search.specs.Records.{vars_brought}
+use Rattle.ap_search.specs.Records.{answer_with, vars_brought}
 use Rattle.ap_search.proofs.RecordLemmas.{answer_by_vars, vars_of_terms-append}
 
 -- a continuation after each state that was found
@@ -157,7 +157,7 @@ pub solve_follows : (program : Clauses) (d : ℕ) (g : NominalGoal) (k : Continu
     → goal_then (calls_then program d) g k p s xs ≡ follow k p xs (solve program d g s)
 solve_follows program d = goal_follows (calls_then program d) (calls program d) (calls_follow program d)
 
-follow_answers : (locals : List NominalLocal) (os : List Output) → follow (answer_then locals) [] [] os ≡ map (out_in locals) os
+follow_answers : (locals : List NominalLocal) (os : List Output) → follow (answer_then (answer_with locals)) [] [] os ≡ map (out_in locals) os
 follow_answers locals [] = refl
 follow_answers locals (found q s d ∷ os) = ap₂ (λ a l. answers.found q a ∷ l) (sym (answer_by_vars locals s d)) (follow_answers locals os)
 follow_answers locals (cut q ∷ os) = ap (λ l. answers.cut q ∷ l) (follow_answers locals os)
@@ -165,5 +165,5 @@ follow_answers locals (stuck q ∷ os) = ap (λ l. answers.stuck q ∷ l) (follo
 
 -- a stack of the one goal of a query has its outputs
 pub stack_is_query : (program : Clauses) (d : ℕ) (q : NominalQuery)
-    → stack_then program q.locals (record { goal = q.goal; depth = d } ∷ []) [] (first_state q) [] ≡ query_outs program d q
-stack_is_query program d q = solve_follows program d q.goal (answer_then q.locals) [] (first_state q) [] ∙ follow_answers q.locals (solve program d q.goal (first_state q))
+    → stack_then program (answer_with q.locals) (record { goal = q.goal; depth = d } ∷ []) [] (first_state q) [] ≡ query_outs program d q
+stack_is_query program d q = solve_follows program d q.goal (answer_then (answer_with q.locals)) [] (first_state q) [] ∙ follow_answers q.locals (solve program d q.goal (first_state q))

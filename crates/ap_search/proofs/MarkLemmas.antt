@@ -11,13 +11,13 @@ use Rattle.ap_defs.specs.Resolution.{State, fresh_for_each, kinds_of, next_numbe
 use Rattle.ap_defs.specs.Substitution.{under}
 use Rattle.ap_defs.specs.Terms as terms
 use Rattle.ap_defs.specs.Terms.{NominalTerm}
-use Rattle.ap_defs.specs.Types.{NominalLocal}
 use Rattle.ap_defs.specs.Unification.{Unified, reduce_all, unify}
 use Rattle.ap_defs.specs.declared.terms.Cond.{Cond}
 use Rattle.ap_defs.specs.declared.terms.Var.{Var}
 use Rattle.ap_search.specs.Continuations.{CallThen, Continuation, Waiting, calls_then, clause_then, clauses_then, goal_then, stack_then, then_if_reduced, then_if_unified, then_test_fresh}
 use Rattle.ap_search.specs.MarkedContinuations.{MarkedCallThen, MarkedContinuation, NominalMark, choice, mark_path, marked_calls_then, marked_clause_then, marked_clauses_then, marked_stack_then, marked_then, marks_if_reduced, marks_if_unified, marks_test_fresh, out, outs_among}
 use Rattle.ap_search.specs.Prefixes.{AllBegin, beginning}
+use Rattle.ap_search.specs.Records.{Answering}
 use Rattle.ap_search.proofs.PrefixLemmas.{begin-append, begin_shorter, prefix_itself}
 
 pub outs_among-append : (ms ns : List NominalMark) → outs_among (ms ++ ns) ≡ outs_among ms ++ outs_among ns
@@ -103,10 +103,10 @@ marks_calls program (suc d) c ts m k h p s xs =
     marks_clauses (marked_calls_then program d) (calls_then program d) (marks_calls program d) ts m k h 1 (clauses_of program c) p s xs
 
 -- without the choices, the marks of a stack are its outputs
-pub marks_stack : (program : Clauses) (locals : List NominalLocal) (ws : List Waiting) → Marks (marked_stack_then program locals ws) (stack_then program locals ws)
-marks_stack program locals [] p s xs = refl
-marks_stack program locals (w ∷ ws) p s xs =
-    marks_goal (marked_calls_then program w.depth) (calls_then program w.depth) (marks_calls program w.depth) w.goal (marked_stack_then program locals ws) (stack_then program locals ws) (marks_stack program locals ws) p s xs
+pub marks_stack : (program : Clauses) (answering : Answering) (ws : List Waiting) → Marks (marked_stack_then program answering ws) (stack_then program answering ws)
+marks_stack program answering [] p s xs = refl
+marks_stack program answering (w ∷ ws) p s xs =
+    marks_goal (marked_calls_then program w.depth) (calls_then program w.depth) (marks_calls program w.depth) w.goal (marked_stack_then program answering ws) (stack_then program answering ws) (marks_stack program answering ws) p s xs
 
 -- A continuation whose marks all begin with the path.
 abbrev pub Begins : MarkedContinuation → Type 0
@@ -168,13 +168,13 @@ pub calls_begin : (program : Clauses) (d : ℕ) → CallBegins (marked_calls_the
 calls_begin program zero c ts m h p s xs = (prefix_itself p, tt)
 calls_begin program (suc d) c ts m h p s xs = (prefix_itself p, clauses_begin (marked_calls_then program d) (calls_begin program d) ts m h 1 (clauses_of program c) p s xs)
 
-pub marked_stack_begins : (program : Clauses) (locals : List NominalLocal) (ws : List Waiting) → Begins (marked_stack_then program locals ws)
-marked_stack_begins program locals [] p s xs = (prefix_itself p, tt)
-marked_stack_begins program locals (w ∷ ws) p s xs =
-    goal_begins (marked_calls_then program w.depth) (calls_begin program w.depth) w.goal (marked_stack_then program locals ws) (marked_stack_begins program locals ws) p s xs
+pub marked_stack_begins : (program : Clauses) (answering : Answering) (ws : List Waiting) → Begins (marked_stack_then program answering ws)
+marked_stack_begins program answering [] p s xs = (prefix_itself p, tt)
+marked_stack_begins program answering (w ∷ ws) p s xs =
+    goal_begins (marked_calls_then program w.depth) (calls_begin program w.depth) w.goal (marked_stack_then program answering ws) (marked_stack_begins program answering ws) p s xs
 
 -- the outputs of a stack begin with the path
-pub stack_begins : (program : Clauses) (locals : List NominalLocal) (ws : List Waiting) (p : List ℕ) (s : State) (xs : List Var)
-    → AllBegin out_path p (stack_then program locals ws p s xs)
-stack_begins program locals ws p s xs =
-    subst (AllBegin out_path p) (marks_stack program locals ws p s xs) (begin_among p (marked_stack_then program locals ws p s xs) (marked_stack_begins program locals ws p s xs))
+pub stack_begins : (program : Clauses) (answering : Answering) (ws : List Waiting) (p : List ℕ) (s : State) (xs : List Var)
+    → AllBegin out_path p (stack_then program answering ws p s xs)
+stack_begins program answering ws p s xs =
+    subst (AllBegin out_path p) (marks_stack program answering ws p s xs) (begin_among p (marked_stack_then program answering ws p s xs) (marked_stack_begins program answering ws p s xs))

@@ -19,7 +19,7 @@ use Rattle.ap_defs.specs.Unification.{Unified, reduce_all, unify}
 use Rattle.ap_defs.specs.declared.terms.Cond.{Cond}
 use Rattle.ap_defs.specs.declared.terms.Var.{Var}
 use Rattle.ap_search.specs.MarkedContinuations.{MarkedCallThen, MarkedContinuation, NominalMark, choice, mark_in, marked_answer_then, marked_calls_then, marked_clause_then, marked_clauses_then, marked_stack_then, marked_then, marks_if_reduced, marks_if_unified, marks_test_fresh, out}
-use Rattle.ap_search.specs.Records.{vars_brought}
+use Rattle.ap_search.specs.Records.{answer_with, vars_brought}
 use Rattle.ap_search.proofs.ContinuationLemmas.{brought_both, brought_clause}
 use Rattle.ap_search.proofs.RecordLemmas.{answer_by_vars}
 
@@ -164,7 +164,7 @@ pub marked_solve_follows : (program : Clauses) (d : ℕ) (g : NominalGoal) (k : 
     → marked_then (marked_calls_then program d) g k p s xs ≡ follow k p xs (marked_solve program d g s)
 marked_solve_follows program d = marked_follows (marked_calls_then program d) (marked_calls program d) (calls_follow program d)
 
-follow_answers : (locals : List NominalLocal) (os : List Mark) → follow (marked_answer_then locals) [] [] os ≡ map (mark_in locals) os
+follow_answers : (locals : List NominalLocal) (os : List Mark) → follow (marked_answer_then (answer_with locals)) [] [] os ≡ map (mark_in locals) os
 follow_answers locals [] = refl
 follow_answers locals (end (found q s d) ∷ os) = ap₂ (λ a l. out (answers.found q a) ∷ l) (sym (answer_by_vars locals s d)) (follow_answers locals os)
 follow_answers locals (end (cut q) ∷ os) = ap (λ l. out (answers.cut q) ∷ l) (follow_answers locals os)
@@ -173,6 +173,6 @@ follow_answers locals (tree.choice q w ∷ os) = ap (λ l. choice q w ∷ l) (fo
 
 -- a stack of the one goal of a query has its marks
 pub marked_stack_is_query : (program : Clauses) (d : ℕ) (q : NominalQuery)
-    → marked_stack_then program q.locals (record { goal = q.goal; depth = d } ∷ []) [] (first_state q) [] ≡ map (mark_in q.locals) (marked_query program d q)
+    → marked_stack_then program (answer_with q.locals) (record { goal = q.goal; depth = d } ∷ []) [] (first_state q) [] ≡ map (mark_in q.locals) (marked_query program d q)
 marked_stack_is_query program d q =
-    marked_solve_follows program d q.goal (marked_answer_then q.locals) [] (first_state q) [] ∙ follow_answers q.locals (marked_query program d q)
+    marked_solve_follows program d q.goal (marked_answer_then (answer_with q.locals)) [] (first_state q) [] ∙ follow_answers q.locals (marked_query program d q)

@@ -9,6 +9,7 @@ use Rattle.ap_paths.specs.Trees.{Outputs, joined}
 use Rattle.ap_search.specs.MarkedContinuations.{NominalMark, choice, mark_in, mark_path, outs_among, widths_at}
 use Rattle.ap_search.specs.PathTrees.{AreInPathOrder, first_of, flat, query_choices, width_at}
 use Rattle.ap_search.specs.Prefixes.{beginning}
+use Rattle.ap_search.specs.Records.{answer_with}
 use Rattle.ap_search.specs.StatementsOnTrees.{marks_at}
 use Rattle.ap_search.proofs.ContinuationLemmas.{stack_is_query}
 use Rattle.ap_search.proofs.MarkLemmas.{beginning_among, marks_stack}
@@ -30,13 +31,13 @@ module _ (program : Clauses) (d : ℕ) (q : NominalQuery) where
 
   pub query_grows : Grows [] query_marks
   query_grows =
-      let grown = stack_grows program q.locals (record { goal = q.goal; depth = d } ∷ []) [] (first_state q) [] in
+      let grown = stack_grows program (answer_with q.locals) (record { goal = q.goal; depth = d } ∷ []) [] (first_state q) [] in
       (grown.0, sym (marked_stack_is_query program d q) ∙ grown.1)
 
   -- the outputs are those among the marks
   pub outs_among_marks : query_outs program d q ≡ outs_among query_marks
   outs_among_marks =
-      sym (stack_is_query program d q) ∙ sym (marks_stack program q.locals (record { goal = q.goal; depth = d } ∷ []) [] (first_state q) [])
+      sym (stack_is_query program d q) ∙ sym (marks_stack program (answer_with q.locals) (record { goal = q.goal; depth = d } ∷ []) [] (first_state q) [])
       ∙ ap outs_among (marked_stack_is_query program d q)
 
   pub outs_at_marks : (p : List ℕ) → outs_at program d q p ≡ outs_among (beginning mark_path p query_marks)

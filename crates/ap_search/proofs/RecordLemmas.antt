@@ -123,7 +123,8 @@ pub append_same_vars : (xs ys zs ws : List Var) → SameVars xs ys → SameVars 
 append_same_vars xs ys zs ws h k x = has_var-append x xs zs ∙ ap₂ ◌||◌ (h x) (k x) ∙ sym (has_var-append x ys ws)
 
 module _ (s : State) where
-  has_closed : (y x : Var) (xs : List Var) → has_var x xs ≡ true → has_var y (vars_then (closed_term s (terms.susp [] x)) []) ≡ true
+  -- what stands for a variable has its variables among those of all
+  pub has_closed : (y x : Var) (xs : List Var) → has_var x xs ≡ true → has_var y (vars_then (closed_term s (terms.susp [] x)) []) ≡ true
       → has_var y (vars_of_terms (closed_vars s xs)) ≡ true
   has_closed y x [] h k = absurd (true≢false (sym h))
   has_closed y x (z ∷ xs) h k =
@@ -135,7 +136,7 @@ module _ (s : State) where
         | inr i ↦ f ∙ or_if_right _ _ (has_closed y x xs i k)
       ]
 
-  closed_has : (y : Var) (xs ys : List Var) → ((x : Var) → has_var x xs ≡ true → has_var x ys ≡ true) → has_var y (vars_of_terms (closed_vars s xs)) ≡ true
+  pub closed_has : (y : Var) (xs ys : List Var) → ((x : Var) → has_var x xs ≡ true → has_var x ys ≡ true) → has_var y (vars_of_terms (closed_vars s xs)) ≡ true
       → has_var y (vars_of_terms (closed_vars s ys)) ≡ true
   closed_has y [] ys h k = absurd (true≢false (sym k))
   closed_has y (x ∷ xs) ys h k =

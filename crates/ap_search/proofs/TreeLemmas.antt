@@ -11,7 +11,6 @@ use Rattle.ap_defs.specs.Resolution.{State, fresh_for_each, kinds_of, next_numbe
 use Rattle.ap_defs.specs.Substitution.{under}
 use Rattle.ap_defs.specs.Terms as terms
 use Rattle.ap_defs.specs.Terms.{NominalTerm}
-use Rattle.ap_defs.specs.Types.{NominalLocal}
 use Rattle.ap_defs.specs.Unification.{Unified, reduce_all, unify}
 use Rattle.ap_defs.specs.declared.terms.Cond.{Cond}
 use Rattle.ap_defs.specs.declared.terms.Var.{Var}
@@ -19,6 +18,7 @@ use Rattle.ap_search.specs.Continuations.{Waiting}
 use Rattle.ap_search.specs.MarkedContinuations.{MarkedCallThen, MarkedContinuation, NominalMark, choice, mark_path, marked_calls_then, marked_clause_then, marked_clauses_then, marked_stack_then, marked_then, marks_if_reduced, marks_if_unified, marks_test_fresh}
 use Rattle.ap_search.specs.PathTrees.{Forest, Leaf, PathTree, answer, at_path, cut, flat, flat_from, grow, leaf, node, none, nothing, stuck, width}
 use Rattle.ap_search.specs.Prefixes.{AllBegin}
+use Rattle.ap_search.specs.Records.{Answering}
 use Rattle.ap_search.proofs.PrefixLemmas.{begin-append, begin_shorter, prefix_itself}
 
 abbrev pub Grows : List ℕ → List NominalMark → Type 0
@@ -88,10 +88,10 @@ calls_grow program zero c ts m h p s xs = (leaf cut, refl)
 calls_grow program (suc d) c ts m h p s xs =
     grows_choice p (length (clauses_of program c)) _ (clauses_grow (marked_calls_then program d) (calls_grow program d) ts m h 1 (clauses_of program c) p s xs)
 
-pub stack_grows : (program : Clauses) (locals : List NominalLocal) (ws : List Waiting) → AllGrow (marked_stack_then program locals ws)
-stack_grows program locals [] p s xs = (leaf (answer _), refl)
-stack_grows program locals (w ∷ ws) p s xs =
-    goal_grows (marked_calls_then program w.depth) (calls_grow program w.depth) w.goal (marked_stack_then program locals ws) (stack_grows program locals ws) p s xs
+pub stack_grows : (program : Clauses) (answering : Answering) (ws : List Waiting) → AllGrow (marked_stack_then program answering ws)
+stack_grows program answering [] p s xs = (leaf (answer _), refl)
+stack_grows program answering (w ∷ ws) p s xs =
+    goal_grows (marked_calls_then program w.depth) (calls_grow program w.depth) w.goal (marked_stack_then program answering ws) (stack_grows program answering ws) p s xs
 
 -- Subtrees.
 abbrev mutual

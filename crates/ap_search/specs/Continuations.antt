@@ -11,9 +11,8 @@ use Rattle.ap_defs.specs.Resolution.{State, next_number, fresh_for_each, kinds_o
 use Rattle.ap_defs.specs.Substitution.{under}
 use Rattle.ap_defs.specs.Terms as terms
 use Rattle.ap_defs.specs.Terms.{NominalTerm}
-use Rattle.ap_defs.specs.Types.{NominalLocal}
 use Rattle.ap_defs.specs.Unification.{unify, Unified, reduce_all}
-use Rattle.ap_search.specs.Records.{answer_with}
+use Rattle.ap_search.specs.Records.{Answering}
 
 -- what follows from a path, a state and the variables that clauses and `exists` brought
 abbrev pub Continuation : Type 0
@@ -66,8 +65,8 @@ calls_then program zero c ts k p s xs = cut p ∷ []
 calls_then program (suc d) c ts k p s xs = clauses_then (goal_then (calls_then program d)) ts k 1 (clauses_of program c) p s xs
 
 -- no goal is left
-abbrev pub answer_then : List NominalLocal → Continuation
-answer_then locals p s xs = found p (answer_with locals s xs) ∷ []
+abbrev pub answer_then : Answering → Continuation
+answer_then answering p s xs = found p (answering s xs) ∷ []
 
 -- a goal that waits, and its depth
 pub record Waiting : Type 0 where
@@ -75,6 +74,6 @@ pub record Waiting : Type 0 where
   pub depth : ℕ
 
 -- the outputs of goals that wait, the first one first
-abbrev pub stack_then : Clauses → List NominalLocal → List Waiting → Continuation
-stack_then program locals [] p s xs = answer_then locals p s xs
-stack_then program locals (w ∷ ws) p s xs = goal_then (calls_then program w.depth) w.goal (stack_then program locals ws) p s xs
+abbrev pub stack_then : Clauses → Answering → List Waiting → Continuation
+stack_then program answering [] p s xs = answer_then answering p s xs
+stack_then program answering (w ∷ ws) p s xs = goal_then (calls_then program w.depth) w.goal (stack_then program answering ws) p s xs

@@ -18,7 +18,7 @@ use Rattle.ap_defs.specs.Terms.{NominalTerm}
 use Rattle.ap_defs.specs.Types.{NominalLocal}
 use Rattle.ap_defs.specs.Unification.{unify, Unified, reduce_all}
 use Rattle.ap_search.specs.Continuations.{Waiting}
-use Rattle.ap_search.specs.Records.{answer_with}
+use Rattle.ap_search.specs.Records.{Answering}
 
 -- An output with its answer, or a place where the search chooses among so many.
 pub data NominalMark : Type 0 where
@@ -91,13 +91,13 @@ marked_calls_then program (suc d) c ts k p s xs =
     choice p (length (clauses_of program c)) ∷ marked_clauses_then (marked_then (marked_calls_then program d)) ts k 1 (clauses_of program c) p s xs
 
 -- no goal is left
-abbrev pub marked_answer_then : List NominalLocal → MarkedContinuation
-marked_answer_then locals p s xs = out (answers.found p (answer_with locals s xs)) ∷ []
+abbrev pub marked_answer_then : Answering → MarkedContinuation
+marked_answer_then answering p s xs = out (answers.found p (answering s xs)) ∷ []
 
 -- the marks of goals that wait, the first one first
-abbrev pub marked_stack_then : Clauses → List NominalLocal → List Waiting → MarkedContinuation
-marked_stack_then program locals [] p s xs = marked_answer_then locals p s xs
-marked_stack_then program locals (w ∷ ws) p s xs = marked_then (marked_calls_then program w.depth) w.goal (marked_stack_then program locals ws) p s xs
+abbrev pub marked_stack_then : Clauses → Answering → List Waiting → MarkedContinuation
+marked_stack_then program answering [] p s xs = marked_answer_then answering p s xs
+marked_stack_then program answering (w ∷ ws) p s xs = marked_then (marked_calls_then program w.depth) w.goal (marked_stack_then program answering ws) p s xs
 
 -- the widths of the choices at just this path
 abbrev pub widths_at : List ℕ → List NominalMark → List ℕ

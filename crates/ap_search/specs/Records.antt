@@ -22,8 +22,12 @@ closed_vars s xs = map (λ x. closed_term s (susp [] x)) xs
 abbrev pub vars_with : List NominalTerm → Conds → List NominalTerm → List Var
 vars_with binds conds ts = ascending_vars (vars_of_terms binds ++ map (λ c. c.var) conds ++ vars_of_terms ts)
 
+-- what is answered in a state, where clauses and `exists` brought these variables
+abbrev pub Answering : Type 0
+Answering = State → List Var → NominalAnswer
+
 -- the answer of a state to a query with these identifiers, where clauses and `exists` brought the variables xs
-abbrev pub answer_with : List NominalLocal → State → List Var → NominalAnswer
+abbrev pub answer_with : List NominalLocal → Answering
 answer_with locals s xs = record {
   binds = binds_in locals s;
   conds = s.conditions;

@@ -4,7 +4,7 @@ use Rattle.ap_defs.specs.Terms.{term_of}
 use Rattle.ap_defs.specs.Types.{locals_of}
 use Rattle.ap_search.specs.Records.{closed_vars}
 use Rattle.ap_store.specs.Views.{kinds}
-use Rattle.ap_backchain.specs.Reached.{vars_reached}
+use Rattle.ap_backchain.specs.Unbound.{vars_besides}
 use Rattle.ap_backchain.specs.Views.{state_in}
 use Rattle.ap_backchain.proofs.AnswerLemmas.{answer_is}
 use Rattle.ap_backchain.proofs.answers.answer_in.Goals as goal
@@ -19,6 +19,6 @@ returns c =
     (ap (map typed_var_of) c.of-3.ensures ∙ c.in_ok-vars-2.ensures
     ∙ ap (typed_vars (kinds c.args.store.now))
     (c.deref-4.ensures.value ∙ c.in_ok-vars.ensures
-    ∙ ap (λ bs. vars_reached (map term_of bs) c.conditions.result.now c.deref-3.result.now) (c.deref-2.ensures.value ∙ sym c.of.ensures)
-    ∙ ap (λ cs. vars_reached (map term_of c.of.result) cs c.deref-3.result.now) c.conditions.ensures
-    ∙ ap (λ os. vars_reached (map term_of c.of.result) s.conditions os) c.deref-3.ensures.value))
+    ∙ ap (λ bs. vars_besides (map term_of bs) c.conditions.result.now c.deref-3.result.now) (c.deref-2.ensures.value ∙ sym c.of.ensures)
+    ∙ ap (λ cs. vars_besides (map term_of c.of.result) cs c.deref-3.result.now) c.conditions.ensures
+    ∙ ap (λ os. vars_besides (map term_of c.of.result) s.conditions os) c.deref-3.ensures.value))

@@ -2,6 +2,9 @@ use Rattle.ap_defs.specs.Goals.{program_of}
 use Rattle.ap_search.proofs.TypedBelowLemmas.{bounded_short, typed_fits}
 use Rattle.ap_backchain.proofs.problem.clauses_of_problem.Goals as goal
 
+pub returns-clause-typed : goal.returns-clause-typed
+returns-clause-typed c = c.program.ensures.restricted.typed
+
 pub returns-clause-below : goal.returns-clause-below
 returns-clause-below c =
     let restricted = c.program.ensures.restricted in

@@ -4,11 +4,11 @@ use Rattle.ap_defs.specs.Answers.{found}
 use Rattle.ap_defs.specs.Goals.{clause_of}
 use Rattle.ap_defs.specs.Types.{locals_of}
 use Rattle.ap_search.specs.Continuations.{Waiting}
-use Rattle.ap_search.specs.Records.{answer_with}
 use Rattle.ap_backchain.specs.Marks.{choice_of}
 use Rattle.ap_backchain.specs.Places.{position_of, track_of, turned_of}
 use Rattle.ap_backchain.specs.Positions.{Position, Turned, ends, turned, turned_by}
 use Rattle.ap_backchain.specs.Tracks.{GoesFrom, Track}
+use Rattle.ap_backchain.specs.Unbound.{answer_by_unbound}
 use Rattle.ap_backchain.proofs.TrackLemmas.{goes_same}
 use Rattle.ap_backchain.proofs.turns.take_turn.Goals as goal
 
@@ -36,7 +36,7 @@ returns-in_ok-out-in-None-clause-turned c =
     let program = map (map clause_of) c.args.clauses.now in let ls = locals_of c.args.locals.now in
     let p = position_of c.args.place.now in
     ap ends c.in_ok-out-in-None.ensures
-    ∙ ap (λ (r : Position). ends (found r.path (answer_with ls r.state r.brought))) c.in-None.ensures.none.1
+    ∙ ap (λ (r : Position). ends (found r.path (answer_by_unbound ls r.state r.brought))) c.in-None.ensures.none.1
     ∙ sym (ap (λ (ws : List Waiting). turned_by program ls ws p) c.in-None.ensures.none.0)
 
 pub returns-in_ok-out-in-None-clause-goes : goal.returns-in_ok-out-in-None-clause-goes
