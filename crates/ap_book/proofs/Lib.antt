@@ -3,3 +3,4 @@ pub mod Opening
 pub mod Keeping
 pub mod Merges
 pub mod Additions
+pub mod Tallying

@@ -8,7 +8,7 @@ ghost use Rattle.ap_paths.specs.Trees.{Ascends};
 ghost use Rattle.ap_book.specs.Answers.{Enters, EntersDone, Skips};
 ghost use Rattle.ap_book.specs.Kept.{AreKidsOf};
 
-use crate::counting::{answers_before, reached};
+use crate::counting::{Answered, reached};
 use crate::error::{BookError, DoneError, SkipError};
 use crate::kids::Kids;
 use crate::opened::{has, make_room, only_root, replace, take_out};
@@ -29,6 +29,8 @@ pub struct Book {
     history: Vec<Entry>,
     opened: HashSet<Vec<u32>>,
     stopped: bool,
+    // What `skip` has looked at.
+    answered: Answered,
 }
 
 impl Model for Book {
@@ -45,10 +47,11 @@ impl Model for Book {
     ghost use Rattle.std.specs.Prelude.{◌≡◌, false, ◌<◌, vec_len, vec_capacity};
     ghost use Rattle.ap_paths.specs.Entries.{entries_of};
     ghost use Rattle.ap_book.specs.Kept.{paths_of, IsKept};
+    ghost use Rattle.ap_book.specs.Counts.{IsTallied};
 
     ghost view = { λ b. b.history.items };
 
-    ghost invariant = { λ b. IsKept (entries_of b.history.items) (paths_of b.opened.keys) b.stopped × (b.stopped ≡ false → vec_len b.history < vec_capacity b.history) };
+    ghost invariant = { λ b. IsKept (entries_of b.history.items) (paths_of b.opened.keys) b.stopped × (b.stopped ≡ false → vec_len b.history < vec_capacity b.history) × IsTallied b.history.items b.answered.places.items b.answered.seen };
 }
 
 impl Book {
@@ -60,6 +63,7 @@ impl Book {
             history: Vec::with_capacity(alloc, 1)?,
             opened: only_root(alloc)?,
             stopped: false,
+            answered: Answered::new(alloc),
         })
     }
 
@@ -150,7 +154,8 @@ impl Book {
         if !has(&self.opened, path) {
             return Err(SkipError::NotOpen);
         }
-        let found = answers_before(path, self.history.as_slice());
+        self.answered.look(self.history.as_slice());
+        let found = self.answered.before(path, self.history.as_slice());
         let Some(wanted) = reached(limit, found) else {
             return Err(SkipError::Needed(found));
         };
@@ -200,8 +205,10 @@ impl Book {
             history,
             opened,
             stopped: _,
+            answered,
         } = self;
         drop(opened);
+        drop(answered);
         List::of(history)
     }
 }

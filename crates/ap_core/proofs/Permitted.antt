@@ -6,7 +6,7 @@ use Rattle.ap_paths.specs.Entries.{TreeEntry, split, done, skip, stop}
 use Rattle.ap_paths.specs.History.{same_path, is_open, without, kids_of, has_stop, legal_from, are_reached, is_legal}
 use Rattle.ap_paths.specs.Trees.{Choices, Outputs, AreTrue}
 use Rattle.ap_paths.specs.Weights.{weigh, one_if, is_it}
-use Rattle.ap_paths.specs.Merging.{Ending, insert, found_before}
+use Rattle.ap_paths.specs.Merging.{insert, found_before}
 use Rattle.ap_paths.proofs.Histories.{legal_parts}
 use Rattle.ap_paths.proofs.Frontiers.{both_true, path_same, same_itself, weigh_both, weigh_without}
 use Rattle.ap_core.specs.States.{State, Past, over, state, nones, start}

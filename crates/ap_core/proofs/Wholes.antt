@@ -1,5 +1,5 @@
 -- After permitted events the frontier of pending and ended paths is whole.
-use Rattle.std.proofs.Common.{◌≡◌, ℕ, zero, suc, ◌+◌, ◌<◌, false, Some, List, [], ◌∷◌, ◌++◌, sym, refl, ap, ◌∙◌, subst, append-nil, arith}
+use Rattle.std.proofs.Common.{◌≡◌, ℕ, zero, suc, ◌+◌, ◌<◌, Some, List, [], ◌∷◌, ◌++◌, sym, refl, ap, ◌∙◌, subst, append-nil, arith}
 use Rattle.std.specs.Prelude.{slice_get, slice_set}
 use Rattle.ap_core.specs.declared.events.Event.{Event}
 use Rattle.ap_core.specs.declared.events.Event.TheVariants.{Push, Pop, Steal, Split, Done, Skip}

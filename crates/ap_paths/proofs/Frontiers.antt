@@ -13,7 +13,7 @@ use Rattle.ap_defs.specs.Answers.{NominalOut}
 use Rattle.ap_paths.specs.declared.limits.Limit.{Limit}
 use Rattle.ap_paths.specs.declared.limits.Limit.TheVariants as limits
 use Rattle.ap_paths.specs.Entries.{TreeEntry, split, done, skip, stop}
-use Rattle.ap_paths.specs.Limits.{found_in, first_part, part, AreWithin}
+use Rattle.ap_paths.specs.Limits.{found_in, part, AreWithin}
 use Rattle.ap_paths.specs.History.{same_path, is_open, without, kids_of, open_from, legal_from, are_reached, is_legal, open_of}
 use Rattle.ap_paths.specs.Trees.{Choices, Outputs, IsChoice, GoesOn, InTree, joined, IsTree, times, Ascends, AreAtMost, AreKids, AreTrue}
 use Rattle.ap_paths.specs.Frontier.{Before, Mark, still_open, has_ended, was_skipped, is_waiting, is_ended, is_skipped, Item, AllAfter, Sorted, outs_in, outs_left, ended_in, open_in, skipped_in}

@@ -1,4 +1,4 @@
-use Rattle.std.proofs.Common.{◌≡◌, ◌-◌, ◌^◌, ◌<◌, ◌≤◌, min, get_or, arith}
+use Rattle.std.proofs.Common.{◌<◌, ◌≤◌, get_or, arith}
 use Rattle.ap_paths.specs.Ends.{ends_of}
 use Rattle.ap_paths.specs.Merging.{found_before}
 use Rattle.ap_core.proofs.Stepping.{skip_made, not_skipped, nothing_begun, at_get, hand_beyond}

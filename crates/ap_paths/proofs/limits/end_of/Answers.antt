@@ -1,4 +1,4 @@
-use Rattle.std.proofs.Common.{◌≡◌, ◌∙◌, ◌+◌, ◌++◌, if◌then◌else◌, get_or, take, drop, sym, ap, append-nil, ℕ, arith}
+use Rattle.std.proofs.Common.{◌∙◌, ◌+◌, ◌++◌, if◌then◌else◌, take, drop, sym, ap, append-nil, ℕ, arith}
 use Rattle.ap_defs.specs.declared.paths.Out.{Out}
 use Rattle.ap_defs.specs.Answers.{out_of, outs_of}
 use Rattle.ap_paths.specs.Limits.{is_found, first_part}

@@ -4,6 +4,7 @@ use Rattle.ap_paths.specs.History.{is_open, open_of}
 use Rattle.ap_paths.specs.Entries.{entries_of}
 use Rattle.ap_book.specs.Kept.{paths_of}
 use Rattle.ap_book.proofs.Keeping.{kept_done, open_there}
+use Rattle.ap_book.proofs.Tallying.{tallied_more}
 use Rattle.ap_book.proofs.book.Book.done.Goals as goal
 
 pub returns-then-not-has : goal.returns-then-not-has
@@ -30,7 +31,7 @@ invariant_of-self-2 c =
     let p = c.args.path.now in
     let is : c.push_reserved.new.self.items ≡ b.history.items ++ Done c.args.seat p c.args.outs.items ∷ [] = search rules in
     let room : vec_len c.push_reserved.new.self < vec_capacity c.push_reserved.new.self = search rules in
-    (kept_done b.history.items c.push_reserved.new.self.items c.args.seat p c.args.outs.items (paths_of b.opened.keys) (paths_of c.take_out-taken.new.opened.keys) b.stopped c.self.invariant.0 is (sym c.has.ensures ∙ c.if-not-has.false) c.take_out-taken.ensures.taken, λ _. room)
+    (kept_done b.history.items c.push_reserved.new.self.items c.args.seat p c.args.outs.items (paths_of b.opened.keys) (paths_of c.take_out-taken.new.opened.keys) b.stopped c.self.invariant.0 is (sym c.has.ensures ∙ c.if-not-has.false) c.take_out-taken.ensures.taken, (λ _. room), tallied_more b.history.items c.push_reserved.new.self.items (Done c.args.seat p c.args.outs.items) b.answered.places.items b.answered.seen is c.self.invariant.2)
 
 pub returns : goal.returns
 returns c =

@@ -8,6 +8,7 @@ use Rattle.ap_paths.specs.Trees.{Ascends}
 use Rattle.ap_book.specs.Kept.{paths_of, AreKidsOf}
 use Rattle.ap_book.proofs.Opening.{same_open}
 use Rattle.ap_book.proofs.Keeping.{kept_split, kids_once, open_there}
+use Rattle.ap_book.proofs.Tallying.{tallied_more}
 use Rattle.ap_book.proofs.book.Book.enter_split.Goals as goal
 
 pub returns-then-not-has : goal.returns-then-not-has
@@ -70,7 +71,8 @@ invariant_of-self-2 c =
     let room : vec_len c.push_reserved.new.self < vec_capacity c.push_reserved.new.self = search rules in (
       kept_split b.history.items c.push_reserved.new.self.items c.args.seat p kids.choices.items (paths_of b.opened.keys) (paths_of c.replace-taken.new.opened.keys) b.stopped c.self.invariant.0 is (sym c.has.ensures ∙ c.if-not-has.false) ascending
           (λ h. let r = c.replace-taken.ensures.replaced h in let same = c.make_room.ensures.same h in let m = ap (weigh h) ready.1 in omega arith),
-      λ _. room,
+      (λ _. room),
+      tallied_more b.history.items c.push_reserved.new.self.items (Split c.args.seat p kids.choices.items) b.answered.places.items b.answered.seen is c.self.invariant.2,
     )
 
 pub returns : goal.returns
