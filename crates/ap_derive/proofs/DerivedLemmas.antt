@@ -1,4 +1,4 @@
--- The derivation at the path of a branch that stands at an answer.
+-- The derivation to which a path leads, and that of a branch which stands at an answer.
 use Rattle.std.proofs.Common.{subst, ◌≡◌, ◌-◌, ℕ, zero, suc, Bool, true, false, List, [], ◌∷◌, map, refl, sym, ap, ◌∙◌, inl, inr}
 use Rattle.std.proofs.lemmas.List.{append-nil}
 use Rattle.std.specs.Prelude.{if◌then◌else◌, Option, Some, filter, slice_get}
@@ -23,7 +23,7 @@ use Rattle.ap_checks.specs.Checks.{Checks}
 use Rattle.ap_checks.specs.Traces.{Finds, Traced, traced_query}
 use Rattle.ap_checks.proofs.FoundCheckLemmas.{found_check}
 use Rattle.ap_checks.proofs.TraceLemmas.{paths_lead}
-use Rattle.ap_derive.specs.Derived.{IsDerivationAt}
+use Rattle.ap_derive.specs.Derived.{IsDerivationAt, LeadsOn}
 use Rattle.ap_derive.specs.Nodes.{DerivationNode, preorder}
 use Rattle.ap_derive.specs.Solved.{Solved, others_solved, solved, solved_at}
 
@@ -82,10 +82,31 @@ module _ (program : Clauses) (depth : ℕ) (q : NominalQuery) (path : List ℕ) 
         refl,
       )
 
-  -- what the goals of the query are solved to, along the whole path
-  pub query_solved : (r : Traced) → traced_query program depth q path ≡ Some r → r.rest ≡ []
-      → solved_at program path (first_position depth q) ≡ Some (record { state = r.state; nodes = preorder r.derivation []; rest = [] })
-  query_solved r leads done = ap (others_solved (solved program [])) leads ∙ ap (λ p. Some (record { state = r.state; nodes = preorder r.derivation []; rest = p })) done
+pub same_some : {X : Type 0} (o : Option X) (x y : X) → o ≡ Some x → o ≡ Some y → x ≡ y
+same_some o x y h k = cc
+
+-- Where a whole path leads.
+module _ (program : Clauses) (depth : ℕ) (q : NominalQuery) (path : List ℕ) (l : LeadsOn program depth q path)
+    (same : Clauses) (here : Position) (same_program : same ≡ program) (begins : here ≡ first_position depth q) where
+  -- what the goals of the query are solved to, along it
+  pub path_solved : solved_at same path here ≡ Some (record { state = l.traced.state; nodes = preorder l.traced.derivation []; rest = [] })
+  path_solved =
+      ap (λ x. solved_at x path here) same_program
+      ∙ ap (λ x. solved_at program path x) begins
+      ∙ ap (others_solved (solved program [])) l.leads
+      ∙ ap (λ p. Some (record { state = l.traced.state; nodes = preorder l.traced.derivation []; rest = p })) l.whole
+
+  module _ (s : State) (ns : List DerivationNode) (rest : List ℕ) (to : solved_at same path here ≡ Some (record { state = s; nodes = ns; rest = rest })) where
+    reached : ◌≡◌ {A = Solved} (record { state = s; nodes = ns; rest = rest }) (record { state = l.traced.state; nodes = preorder l.traced.derivation []; rest = [] })
+    reached = same_some (solved_at same path here) (record { state = s; nodes = ns; rest = rest }) (record { state = l.traced.state; nodes = preorder l.traced.derivation []; rest = [] }) to path_solved
+
+    pub path_nodes : ns ≡ preorder l.traced.derivation []
+    path_nodes = ap (λ (x : Solved). x.nodes) reached
+
+    pub path_derivation : (d : NominalDerivation) → d ≡ derivation_in s l.traced.derivation → (r : Traced) → traced_query program depth q path ≡ Some r → d ≡ derivation_in r.state r.derivation
+    path_derivation d e r leads =
+        e ∙ ap (λ (x : Solved). derivation_in x.state l.traced.derivation) reached
+        ∙ ap (λ (x : Traced). derivation_in x.state x.derivation) (same_some (traced_query program depth q path) l.traced r l.leads leads)
 
 -- a property of each state that was found holds of one
 each_has : (P : State → NominalDerivation → Type 0) (os : List Output) (path : List ℕ) (s : State) (d : NominalDerivation) → EachFound P os → Finds os path s d → P s d
@@ -118,36 +139,18 @@ module _ (p : Problem) (b : Branch) (of : IsBranchOf p b) (answering : IsAnsweri
   abbrev there : (a : NominalAnswer) × (outs_at (clauses_in p) p.depth q (path_of_branch b) ≡ answers.found (path_of_branch b) a ∷ [])
   there = answer_there p b of answering q asked
 
-  abbrev pub branch_trace : Traced
-  branch_trace = (answer_derived (clauses_in p) p.depth q (path_of_branch b) there.0 there.1).0
+  -- its path leads to the state of its answer
+  pub branch_leads : LeadsOn (clauses_in p) p.depth q (path_of_branch b)
+  branch_leads =
+      let its = answer_derived (clauses_in p) p.depth q (path_of_branch b) there.0 there.1 in
+      record { traced = its.0; leads = its.2; whole = its.3 }
 
-  module _ (program : Clauses) (path : List ℕ) (here : Position) (same_program : program ≡ clauses_in p) (same_path : path ≡ path_of_branch b) (begins : here ≡ first_position p.depth q) where
-    pub branch_solved : solved_at program path here ≡ Some (record { state = branch_trace.state; nodes = preorder branch_trace.derivation []; rest = [] })
-    branch_solved =
-        let its = answer_derived (clauses_in p) p.depth q (path_of_branch b) there.0 there.1 in
-        ap (λ x. solved_at x path here) same_program
-        ∙ ap (λ x. solved_at (clauses_in p) x here) same_path
-        ∙ ap (λ x. solved_at (clauses_in p) (path_of_branch b) x) begins
-        ∙ query_solved (clauses_in p) p.depth q (path_of_branch b) its.0 its.2 its.3
-
-    module _ (s : State) (ns : List DerivationNode) (rest : List ℕ) (to : solved_at program path here ≡ Some (record { state = s; nodes = ns; rest = rest })) where
-      same_solved : (x y : Solved) → Some x ≡ Some y → x ≡ y
-      same_solved x y e = cc
-
-      reached : ◌≡◌ {A = Solved} (record { state = s; nodes = ns; rest = rest }) (record { state = branch_trace.state; nodes = preorder branch_trace.derivation []; rest = [] })
-      reached = same_solved (record { state = s; nodes = ns; rest = rest }) (record { state = branch_trace.state; nodes = preorder branch_trace.derivation []; rest = [] }) (sym to ∙ branch_solved)
-
-      pub branch_nodes : ns ≡ preorder branch_trace.derivation []
-      branch_nodes = ap (λ (r : Solved). r.nodes) reached
-
-      pub branch_derived : (d : NominalDerivation) → d ≡ derivation_in s branch_trace.derivation → IsDerivationAt (clauses_in p) p.depth q (path_of_branch b) d
-      branch_derived d e =
-          subst (λ (x : NominalDerivation). IsDerivationAt (clauses_in p) p.depth q (path_of_branch b) x)
-          (sym (e ∙ ap (λ (r : Solved). derivation_in r.state branch_trace.derivation) reached))
-          (answer_derived (clauses_in p) p.depth q (path_of_branch b) there.0 there.1).1
-
-pub asked_once : {X : Type 0} (o : Option X) (x y : X) → o ≡ Some x → o ≡ Some y → x ≡ y
-asked_once o x y h k = cc
+  -- and this is its derivation
+  pub branch_derived : (d : NominalDerivation) → ((r : Traced) → traced_query (clauses_in p) p.depth q (path_of_branch b) ≡ Some r → d ≡ derivation_in r.state r.derivation)
+      → IsDerivationAt (clauses_in p) p.depth q (path_of_branch b) d
+  branch_derived d h =
+      let its = answer_derived (clauses_in p) p.depth q (path_of_branch b) there.0 there.1 in
+      subst (λ (x : NominalDerivation). IsDerivationAt (clauses_in p) p.depth q (path_of_branch b) x) (sym (h its.0 its.2)) its.1
 
 pub typed_at : (sig : NominalSignature) (qs : List NominalQuery) (n : ℕ) (q : NominalQuery) → slice_get qs n ≡ Some q → AreTypedQueries term_form sig qs → IsTypedQuery term_form sig q
 typed_at sig [] n q e h = cc

@@ -4,7 +4,13 @@ use Rattle.ap_defs.specs.Answers.{answer_in, derivation_in, found, outs_at}
 use Rattle.ap_defs.specs.Derivations.{NominalDerivation}
 use Rattle.ap_defs.specs.Goals.{Clauses, NominalQuery}
 use Rattle.ap_defs.specs.Resolution.{State, solve_query}
-use Rattle.ap_checks.specs.Traces.{Finds, traced_query}
+use Rattle.ap_checks.specs.Traces.{Finds, Traced, traced_query}
+
+-- The whole path leads to a state, with a derivation in which variables stand for themselves.
+pub record LeadsOn (program : Clauses) (depth : ℕ) (q : NominalQuery) (path : List ℕ) : Type 0 where
+  pub traced : Traced
+  pub leads : traced_query program depth q path ≡ Some traced
+  pub whole : traced.rest ≡ []
 
 -- The whole path leads to a state, with a derivation in which variables stand for themselves. The search finds both there, and has
 -- no other output at the path; and this is the derivation with what the variables stand for in the end.

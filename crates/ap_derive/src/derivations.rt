@@ -1,13 +1,14 @@
 //! The derivations of the answers of branches.
 
 ghost use Rattle.std.specs.Prelude.{◌≡◌, ◌-◌, [], ◌∷◌, Some, IfOk, slice_get};
-ghost use Rattle.ap_defs.specs.Answers.{NominalAnswer, found, outs_at};
+ghost use Rattle.ap_defs.specs.Answers.{NominalAnswer, derivation_in, found, outs_at};
 ghost use Rattle.ap_defs.specs.Derivations.{derivation_of};
 ghost use Rattle.ap_defs.specs.Goals.{NominalQuery, program_of};
 ghost use Rattle.ap_backchain.specs.Branches.{IsAnswering, IsBranchOf, path_of_branch};
 ghost use Rattle.ap_backchain.specs.Problems.{HasQuery, clauses_in, queries_in};
 ghost use Rattle.ap_checks.specs.Checks.{Checks};
-ghost use Rattle.ap_derive.specs.Derived.{IsDerivationAt};
+ghost use Rattle.ap_checks.specs.Traces.{Traced, traced_query};
+ghost use Rattle.ap_derive.specs.Derived.{IsDerivationAt, LeadsOn};
 
 use crate::assembling::assemble;
 use crate::selecting::select_along;
@@ -17,6 +18,29 @@ use ap_backchain::run::first_place;
 use ap_defs::memory::Memory;
 use ap_defs::outcomes::Derivation;
 use std::alloc::Global;
+
+/// The derivation to which a whole path leads, with what its variables stand for in the end. Where the search has an
+/// answer at the path, it checks against that.
+pub fn derive_along(alloc: Global, p: &Problem<'_>, path: &[u32]) -> Result<Derivation, Memory>
+    requires query { HasQuery p.now }
+    requires leads { (q : NominalQuery) →
+        slice_get (queries_in p.now) (p.now.query - 1) ≡ Some q →
+        LeadsOn (clauses_in p.now) p.now.depth q path.now }
+    ensures derivation { IfOk result (λ d. (q : NominalQuery) (r : Traced) →
+        slice_get (queries_in p.now) (p.now.query - 1) ≡ Some q →
+        traced_query (clauses_in p.now) p.now.depth q path.now ≡ Some r →
+        derivation_of d ≡ derivation_in r.state r.derivation) }
+    ensures checks { IfOk result (λ d. (q : NominalQuery) (a : NominalAnswer) →
+        slice_get (queries_in p.now) (p.now.query - 1) ≡ Some q →
+        outs_at (clauses_in p.now) p.now.depth q path.now ≡ found path.now a ∷ [] →
+        Checks (program_of p.now.program.now) q a (derivation_of d)) }
+{
+    let program = p.program.program();
+    let query = query_of_problem(p);
+    let mut place = first_place(alloc, p.depth, query)?;
+    let nodes = select_along(alloc, program.clauses.items(), &mut place, path)?;
+    assemble(alloc, &place.store, nodes)
+}
 
 /// The derivation of the answer at which a branch stands: the one of the state that the search
 /// found at the branch's path, with what its variables stand for in the end. It checks against the
@@ -35,9 +59,5 @@ pub fn derive<'a>(alloc: Global, p: &Problem<'a>, branch: &Branch<'a>) -> Result
         ≡ found (path_of_branch branch.now) a ∷ [] →
         Checks (program_of p.now.program.now) q a (derivation_of d)) }
 {
-    let program = p.program.program();
-    let query = query_of_problem(p);
-    let mut place = first_place(alloc, p.depth, query)?;
-    let nodes = select_along(alloc, program.clauses.items(), &mut place, branch.path())?;
-    assemble(alloc, &place.store, nodes)
+    derive_along(alloc, p, branch.path())
 }

@@ -5,7 +5,7 @@ use Rattle.ap_defs.specs.Goals.{Clauses, NominalProgram, NominalQuery}
 use Rattle.ap_defs.specs.Resolution as search
 use Rattle.ap_defs.specs.Resolution.{Output, solve_query}
 use Rattle.ap_defs.specs.Types.{NominalLocal}
-use Rattle.ap_bundle.specs.Bundles.{NominalProved}
+use Rattle.ap_bundle.specs.Bundles.{NominalBundle, NominalProved}
 
 -- the answer and the derivation of each state that was found, for the query with this number and these identifiers
 abbrev pub proofs_among : ℕ → List NominalLocal → List Output → List NominalProved
@@ -27,3 +27,7 @@ proofs_from program depth k (q ∷ qs) = query_proofs program depth k q ++ proof
 -- those of a program, query by query
 abbrev pub program_proofs : ℕ → NominalProgram → List NominalProved
 program_proofs depth p = proofs_from p.clauses depth 1 p.queries
+
+-- a text with those of its program to a depth
+abbrev pub proofs_bundle : ℕ → List ℕ → NominalProgram → NominalBundle
+proofs_bundle depth text p = record { text = text; proved = program_proofs depth p }
