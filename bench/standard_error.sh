@@ -38,7 +38,20 @@ status=$?
 : > "$work/out"
 said $status 6 '' 'error: the report could not be written whole to standard output'
 head -c 16777217 /dev/zero | "$program" run --depth 1 > "$work/out" 2> "$work/said"
-said $? 9 '% text too large' 'error: the text has more than 16777216 bytes'
+said $? 9 '% text too large' 'error: the input has more than 16777216 bytes'
+"$program" prove --depth 10 < "$top/examples/first.apl" > "$work/bundle" 2> "$work/said"
+status=$?
+: > "$work/out"
+said $status 0 '' ''
+"$program" check < "$work/bundle" > "$work/out" 2> "$work/said"
+said $? 0 '% 2 derivations checked' ''
+bundles=$top/crates/ap_cases/data/bundles
+"$program" check < "$bundles/forged_count" > "$work/out" 2> "$work/said"
+said $? 8 '% derivation 1: node 10, rule 3 Count' 'error: a derivation of the bundle does not check'
+"$program" check < "$bundles/unended" > "$work/out" 2> "$work/said"
+said $? 2 '% bundle fault: line 12, kind 4 Unended' 'error: the input has a fault; the report tells where'
+"$program" check < "$bundles/faulty_text" > "$work/out" 2> "$work/said"
+said $? 2 '% syntax fault: item 2, line 2, kind 5 Unended' 'error: the input has a fault; the report tells where'
 
 for text in "$top"/examples/faults/*.apl "$top"/examples/first.apl "$top"/examples/substitution.apl; do
     "$program" run --depth 4 < "$text" > "$work/wanted" 2> "$work/said"

@@ -1,8 +1,9 @@
 //! Bundles of the folder `bundles`: what is wrong with their bytes, or what each derivation in them comes to.
 //!
 //! The file `names` of the folder has a line for each. Of a bundle that is read it is told, too, whether the bytes that
-//! are written of it are those that were read.
+//! are written of it are those that were read. Then comes what `check` writes.
 
+use crate::proving::tell_check;
 use ap_bundle_read::{BundleError, read_bundle};
 use ap_bundle_write::write_bundle;
 use ap_checker::verify::verify;
@@ -13,6 +14,8 @@ use ap_program::restricted::Restricted;
 use ap_text::program_of_text;
 use std::alloc::{AllocError, Global};
 use std::fs::Files;
+use std::sync::Wait;
+use std::thread::Threads;
 use std::{fs, io};
 
 /// The program of a text with no fault.
@@ -44,7 +47,9 @@ fn tell_verdict<R: AllocGlobal + Print>(rt: &R, query: u32, verdict: Verdict) ->
 
 /// Writes what each derivation of a bundle comes to.
 fn tell_derivations<R: AllocGlobal + Print>(rt: &R, bundle: &Bundle) -> io::Result<()> {
-    let program = program_of_bytes(rt.alloc(), bundle.text.items()).map_err(|_| AllocError)?;
+    let Ok(program) = program_of_bytes(rt.alloc(), bundle.text.items()) else {
+        return Ok(());
+    };
     for proved in bundle.proved.items() {
         let verdict = verdict_on(rt.alloc(), &program, proved).map_err(|_| AllocError)?;
         tell_verdict(rt, proved.query, verdict)?;
@@ -75,12 +80,15 @@ fn tell_bundle<R: AllocGlobal + Print>(rt: &R, bytes: &[u8]) -> io::Result<()> {
 }
 
 /// Writes what each bundle of the folder comes to.
-pub fn tell_bundles<R: AllocGlobal + Files + Print>(rt: &R) -> io::Result<()> {
+pub fn tell_bundles<R: Threads + Wait + Sync + AllocGlobal + Files + Print>(
+    rt: &R,
+) -> io::Result<()> {
     let names = fs::read_to_string(rt, "bundles/names")?;
     for name in names.lines() {
         println!(rt; "% {name}")?;
         let bytes = fs::read(rt, &format!(in rt.alloc(); "bundles/{name}")?)?;
         tell_bundle(rt, &bytes)?;
+        tell_check(rt, &bytes)?;
     }
     Ok(())
 }

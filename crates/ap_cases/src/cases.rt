@@ -2,10 +2,9 @@
 //! what follows it in each. Each text is run by one worker and by several, and a line tells where these write different
 //! bytes.
 
-use crate::call::call;
+use crate::call::answer;
 use ap_io::MemSink;
 use ap_top::Status;
-use std::alloc::{AllocError, Global};
 use std::fs::Files;
 use std::io::Write;
 use std::sync::Wait;
@@ -17,14 +16,6 @@ pub const DIVIDER: &str = "\n----\n";
 
 const SEVERAL: [&str; 3] = ["2", "8", "64"];
 
-fn words(alloc: Global, depth: &str, workers: &str) -> Result<Vec<String>, AllocError> {
-    let mut words = Vec::new(alloc);
-    for word in ["run", "--depth", depth, "--workers", workers] {
-        words.push(word.to_string(alloc)?)?;
-    }
-    Ok(words)
-}
-
 // What so many workers write for a text.
 fn run_by<R: Threads + Wait + Sync + AllocGlobal>(
     rt: &R,
@@ -32,8 +23,8 @@ fn run_by<R: Threads + Wait + Sync + AllocGlobal>(
     text: &str,
     workers: &str,
 ) -> io::Result<(Status, MemSink)> {
-    let words = words(rt.alloc(), depth, workers)?;
-    call(rt, &words, text, Vec::new(rt.alloc()))
+    let words = ["run", "--depth", depth, "--workers", workers];
+    answer(rt, &words, text.as_bytes())
 }
 
 // Whether so many workers write these bytes with this status.

@@ -1,7 +1,7 @@
-//! Command lines. A line has its words with a space between each two, and with nothing in it there are none.
+//! Command lines, each on one text; and the file `commands.cases`, in which each command line has an input of its own.
 
-use crate::call::call;
-use std::alloc::{AllocError, Global};
+use crate::call::{call, words_in};
+use crate::cases::DIVIDER;
 use std::fs::Files;
 use std::io::Write;
 use std::sync::Wait;
@@ -11,23 +11,12 @@ use std::{fs, io};
 /// A text with two answers.
 const TEXT: &str = "nat : type. z : nat. s : nat -> nat. pred p(nat). p(z). p(s(z)). ?- p(X).";
 
-fn words_of(alloc: Global, line: &str) -> Result<Vec<String>, AllocError> {
-    let mut words = Vec::new(alloc);
-    if line.is_empty() {
-        return Ok(words);
-    }
-    for word in line.split(' ') {
-        words.push(word.to_string(alloc)?)?;
-    }
-    Ok(words)
-}
-
 // Writes a line and what the top call writes for its words, with the status, and the status where the first read fails.
 fn run_line<R: Threads + Wait + Sync + AllocGlobal + Print>(rt: &R, line: &str) -> io::Result<()> {
     let alloc = rt.alloc();
-    let words = words_of(alloc, line)?;
-    let (failed, _) = call(rt, &words, TEXT, vec![in alloc; 1]?)?;
-    let (status, sink) = call(rt, &words, TEXT, Vec::new(alloc))?;
+    let words = words_in(alloc, line)?;
+    let (failed, _) = call(rt, &words, TEXT.as_bytes(), vec![in alloc; 1]?)?;
+    let (status, sink) = call(rt, &words, TEXT.as_bytes(), Vec::new(alloc))?;
     println!(rt; "{line}")?;
     io::writer(rt).write_all(sink.bytes())?;
     println!(rt;
@@ -37,12 +26,41 @@ fn run_line<R: Threads + Wait + Sync + AllocGlobal + Print>(rt: &R, line: &str) 
     )
 }
 
-/// Runs the command lines of the file.
+/// Runs the command lines of the file `words`.
 pub fn run_lines<R: Threads + Wait + Sync + AllocGlobal + Files + Print>(rt: &R) -> io::Result<()> {
     println!(rt; "% words")?;
     let all = fs::read_to_string(rt, "words")?;
     for line in all.lines() {
         run_line(rt, line)?;
+    }
+    Ok(())
+}
+
+// Writes a line and what the top call writes for its words and an input, with the status.
+fn run_on<R: Threads + Wait + Sync + AllocGlobal + Print>(
+    rt: &R,
+    line: &str,
+    input: &str,
+) -> io::Result<()> {
+    let words = words_in(rt.alloc(), line)?;
+    let (status, sink) = call(rt, &words, input.as_bytes(), Vec::new(rt.alloc()))?;
+    println!(rt; "{line}")?;
+    io::writer(rt).write_all(sink.bytes())?;
+    println!(rt; "% status {}", status.code())
+}
+
+/// Runs the parts of the file `commands.cases`, which lines of four dashes divide. The first line of a part is a command
+/// line, and those after it are its input, a text or a bundle. Where there are none the input is empty.
+pub fn run_commands<R: Threads + Wait + Sync + AllocGlobal + Files + Print>(
+    rt: &R,
+) -> io::Result<()> {
+    println!(rt; "% commands.cases")?;
+    let all = fs::read_to_string(rt, "commands.cases")?;
+    for part in all.trim_end().split(DIVIDER) {
+        match part.split_once('\n') {
+            Some((line, input)) => run_on(rt, line, &format!(in rt.alloc(); "{input}\n")?)?,
+            None => run_on(rt, part, "")?,
+        }
     }
     Ok(())
 }

@@ -1,5 +1,5 @@
 //! The derivations of the answers of texts: each is made again from its path, and all of a text are written as a bundle,
-//! which is read again and checked.
+//! which is read again and checked. `prove` writes the same bundle, and `check` the number of its derivations.
 ghost use Rattle.std.specs.Prelude.{◌≡◌, length};
 ghost use Rattle.ap_defs.specs.Goals.{program_of};
 ghost use Rattle.ap_backchain.specs.Branches.{IsBranchOf};
@@ -7,6 +7,7 @@ ghost use Rattle.ap_backchain.specs.Problems.{HasQuery};
 
 use crate::bundles::{program_of_bytes, verdict_on};
 use crate::cases::DIVIDER;
+use crate::proving::are_proved;
 use ap_backchain::branch::Branch;
 use ap_backchain::problem::{Problem, outputs};
 use ap_bundle_read::read_bundle;
@@ -20,6 +21,8 @@ use ap_program::restricted::Restricted;
 use ap_replay::replay::at;
 use std::alloc::{AllocError, Global};
 use std::fs::Files;
+use std::sync::Wait;
+use std::thread::Threads;
 use std::{fs, io};
 
 /// The answer at which a branch stands, with its derivation, or none at another branch.
@@ -120,8 +123,9 @@ impl Tally {
     }
 }
 
-/// How many derivations of a bundle check.
-fn checked_in(alloc: Global, bundle: &Bundle, program: &Restricted) -> Result<usize, Memory> {
+/// How many derivations check in the bundle that the bytes are.
+fn checked_in(alloc: Global, bytes: &[u8], program: &Restricted) -> Result<usize, Memory> {
+    let bundle = read_bundle(alloc, bytes).or(Err(Memory))?;
     let mut count: usize = 0;
     for proved in bundle.proved.items() {
         if verdict_on(alloc, program, proved)? == Verdict::Yes {
@@ -131,30 +135,42 @@ fn checked_in(alloc: Global, bundle: &Bundle, program: &Restricted) -> Result<us
     Ok(count)
 }
 
-/// How many derivations check in the bundle of a text that is written and read again.
-fn checked_again(
-    alloc: Global,
-    text: &str,
-    proved: Vec<Proved>,
-    program: &Restricted,
-) -> Result<usize, Memory> {
+/// The bundle of a text and of answers with their derivations.
+fn bundle_bytes(alloc: Global, text: &str, proved: Vec<Proved>) -> Result<Vec<u8>, Memory> {
     let bundle = Bundle {
         text: List::of(text.as_bytes().to_vec(alloc)?),
         proved: List::of(proved),
     };
-    let bytes = write_bundle(alloc, &bundle)?;
-    let again = read_bundle(alloc, &bytes).or(Err(Memory))?;
-    checked_in(alloc, &again, program)
+    write_bundle(alloc, &bundle)
 }
 
-/// The answers of a text. A text with a fault has none.
-fn tally_of(alloc: Global, text: &str, depth: u32) -> Result<Tally, Memory> {
+/// How many answers a text's program has, and their bundle.
+fn proved_text(
+    alloc: Global,
+    text: &str,
+    program: &Restricted,
+    depth: u32,
+) -> Result<(usize, Vec<u8>), Memory> {
+    let proved = prove_program(alloc, program, depth)?;
+    let answers = proved.len();
+    Ok((answers, bundle_bytes(alloc, text, proved)?))
+}
+
+/// The answers of a text, and a line where `prove` or `check` write anything else. A text with a fault has none.
+fn tally_of<R: Threads + Wait + Sync + AllocGlobal + Print>(
+    rt: &R,
+    text: &str,
+    depth: u32,
+) -> io::Result<Tally> {
+    let alloc = rt.alloc();
     let Ok(program) = program_of_bytes(alloc, text.as_bytes()) else {
         return Ok(NONE);
     };
-    let proved = prove_program(alloc, &program, depth)?;
-    let answers = proved.len();
-    let checked = checked_again(alloc, text, proved, &program)?;
+    let (answers, bytes) = proved_text(alloc, text, &program, depth).map_err(|_| AllocError)?;
+    let checked = checked_in(alloc, &bytes, &program).map_err(|_| AllocError)?;
+    if !are_proved(rt, text.as_bytes(), depth, &bytes, answers)? {
+        println!(rt; "% prove or check writes otherwise")?;
+    }
     Ok(Tally { answers, checked })
 }
 
@@ -167,13 +183,16 @@ fn tell<R: Print>(rt: &R, name: &str, tally: Tally) -> io::Result<()> {
 
 /// Writes how many answers each text of a folder has, and how many derivations of them check. The file `proofs` of the
 /// folder has a line for each, with the depth and its name.
-pub fn check_folder<R: AllocGlobal + Files + Print>(rt: &R, folder: &str) -> io::Result<()> {
+pub fn check_folder<R: Threads + Wait + Sync + AllocGlobal + Files + Print>(
+    rt: &R,
+    folder: &str,
+) -> io::Result<()> {
     let runs = fs::read_to_string(rt, &format!(in rt.alloc(); "{folder}/proofs")?)?;
     for line in runs.lines() {
         if let Some((depth, name)) = line.split_once(' ') {
             let text = fs::read_to_string(rt, &format!(in rt.alloc(); "{folder}/{name}")?)?;
             let depth = depth.parse::<u32>().unwrap_or(1);
-            let tally = tally_of(rt.alloc(), &text, depth).map_err(|_| AllocError)?;
+            let tally = tally_of(rt, &text, depth)?;
             tell(rt, name, tally)?;
         }
     }
@@ -181,7 +200,10 @@ pub fn check_folder<R: AllocGlobal + Files + Print>(rt: &R, folder: &str) -> io:
 }
 
 /// Writes the same of all texts of a file of texts together.
-pub fn check_file<R: AllocGlobal + Files + Print>(rt: &R, name: &str) -> io::Result<()> {
+pub fn check_file<R: Threads + Wait + Sync + AllocGlobal + Files + Print>(
+    rt: &R,
+    name: &str,
+) -> io::Result<()> {
     let all = fs::read_to_string(rt, name)?;
     let mut parts = all.trim_end().split(DIVIDER);
     let depth = parts.next().unwrap_or("").parse::<u32>().unwrap_or(1);
@@ -189,7 +211,7 @@ pub fn check_file<R: AllocGlobal + Files + Print>(rt: &R, name: &str) -> io::Res
     let mut tally = NONE;
     for end in parts {
         let text = format!(in rt.alloc(); "{begin}{end}")?;
-        let more = tally_of(rt.alloc(), &text, depth).map_err(|_| AllocError)?;
+        let more = tally_of(rt, &text, depth)?;
         tally = tally.plus(more);
     }
     tell(rt, name, tally)

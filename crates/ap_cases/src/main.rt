@@ -2,9 +2,10 @@
 //!
 //! The files `.cases` of the folder that this program is run in have texts, which are run by one worker and by
 //! several; those of `sampled_to_0.cases` and so on were made at random, and what is wanted of them is from an
-//! implementation that was written apart. The file `words` has command lines. The other texts are read as streams, as
-//! the program reads them: each of the folders `examples` and `bytes` has a file `runs`, of a line for each text with the
-//! depth and its name. The files of `searched` are told in `searched.rt`, and those of `bundles` in `bundles.rt`.
+//! implementation that was written apart. The file `words` has command lines, and `commands.cases` some with an input
+//! each. The other texts are read as streams, as the program reads them: each of the folders `examples` and `bytes` has a
+//! file `runs`, of a line for each text with the depth and its name. The files of `searched` are told in `searched.rt`, and
+//! those of `bundles` in `bundles.rt`.
 #![tactic(auto)]
 
 mod bundles;
@@ -12,6 +13,7 @@ mod call;
 mod cases;
 mod command_lines;
 mod derivations;
+mod proving;
 mod searched;
 mod streams;
 
@@ -52,6 +54,7 @@ fn main(rt: HostRuntime) -> io::Result<()> {
         cases::run_file(&rt, name)?;
     }
     command_lines::run_lines(&rt)?;
+    command_lines::run_commands(&rt)?;
     searched::write_outputs(&rt)?;
     searched::write_branches(&rt)?;
     streams::run_folder(&rt, "bytes")?;

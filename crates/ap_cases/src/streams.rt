@@ -1,20 +1,12 @@
 //! Texts that are read as streams. The file `runs` of a folder has a line for each, with the depth and its name.
 
+use crate::call::words_of;
 use ap_io::{NoGate, StdSink, StdSource};
 use ap_top::top;
-use std::alloc::{AllocError, Global};
 use std::fs::{File, Files};
 use std::sync::Wait;
 use std::thread::Threads;
 use std::{fs, io};
-
-fn words(alloc: Global, depth: &str) -> Result<Vec<String>, AllocError> {
-    let mut words = Vec::new(alloc);
-    for word in ["run", "--depth", depth] {
-        words.push(word.to_string(alloc)?)?;
-    }
-    Ok(words)
-}
 
 // Runs a text, and writes its name before what it writes and the status after.
 fn run<R: Threads + Wait + Sync + AllocGlobal + Files + Print>(
@@ -23,7 +15,7 @@ fn run<R: Threads + Wait + Sync + AllocGlobal + Files + Print>(
     path: &str,
 ) -> io::Result<()> {
     println!(rt; "% {path}")?;
-    let words = words(rt.alloc(), depth)?;
+    let words = words_of(rt.alloc(), &["run", "--depth", depth])?;
     let mut source = StdSource::new(File::open(rt, path)?);
     let mut sink = StdSink::new(io::writer(rt));
     let status = top(rt, rt.alloc(), &words, &mut source, &mut sink, &NoGate);

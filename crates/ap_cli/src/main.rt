@@ -7,6 +7,7 @@ mod remembering;
 mod saying;
 
 use ap_io::{NoGate, StdSink, StdSource};
+use ap_remarks::Tally;
 use ap_top::{Status, top};
 use counting::Counting;
 use remembering::Remembering;
@@ -31,6 +32,24 @@ fn words(rt: &(impl Env + AllocGlobal)) -> Result<Vec<String>, AllocError> {
     }
 }
 
+// The word that names the command.
+fn command(words: &[String]) -> &str {
+    match words.first() {
+        Some(word) => word.as_str(),
+        None => "",
+    }
+}
+
+// Whether the input is a text, and not a bundle.
+fn reads_text(words: &[String]) -> bool {
+    command(words) != "check"
+}
+
+// Whether the report has lines of totals. A bundle has none of its own.
+fn writes_totals(words: &[String]) -> bool {
+    command(words) == "run"
+}
+
 // Runs the interpreter on standard input and output, and says on standard error what helps.
 fn run<R: Threads + Wait + Sync + AllocGlobal + Input + Print + Eprint>(
     rt: &R,
@@ -40,7 +59,17 @@ fn run<R: Threads + Wait + Sync + AllocGlobal + Input + Print + Eprint>(
     let mut source = Remembering::new(alloc, StdSource::new(rt.reader()));
     let mut sink = Counting::new(StdSink::new(io::writer(rt)));
     let status = top(rt, alloc, words, &mut source, &mut sink, &NoGate);
-    say(rt, alloc, status, source.read_so_far(), sink.tally());
+    let text = if reads_text(words) {
+        source.read_so_far()
+    } else {
+        None
+    };
+    let tally = if writes_totals(words) {
+        sink.tally()
+    } else {
+        Tally::new()
+    };
+    say(rt, alloc, status, text, tally);
     status
 }
 

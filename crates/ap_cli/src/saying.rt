@@ -8,14 +8,18 @@ use std::alloc::Global;
 
 /// How the program is called.
 const USAGE: &str = "usage: alphaprolog run --depth D [--workers W] < FILE
+       alphaprolog prove --depth D [--workers W] < FILE > BUNDLE
+       alphaprolog check < BUNDLE
 
   run           answers the queries of the text on standard input
+  prove         writes the text with each answer and its derivation, as a bundle
+  check         checks each derivation of a bundle
   --depth D     how many clauses may be used one inside another, from 0 to 1000000
   --workers W   how many workers search side by side, from 1 to 64; 1 where it isn't given
 
 Options come in any order, each once. The report goes to standard output, and what is said
 of a fault of the text to standard error. Exit status: 0 report, 1 usage, 2 syntax, 3 types,
-4 names, 5 input can't be read, 6 output can't be written, 7 memory, 9 text too large.
+4 names, 5 input can't be read, 6 output can't be written, 7 memory, 8 not checked, 9 too large.
 ";
 
 /// What is said of a status that has no place in the text.
@@ -25,8 +29,12 @@ fn status_text(status: Status) -> &'static str {
         Status::Read => "error: standard input could not be read\n",
         Status::Write => "error: the report could not be written whole to standard output\n",
         Status::Memory => "error: there was not enough memory; nothing was written\n",
-        Status::TooLarge => "error: the text has more than 16777216 bytes\n",
-        _ => "",
+        Status::NotChecked => "error: a derivation of the bundle does not check\n",
+        Status::Syntax | Status::Types | Status::Names => {
+            "error: the input has a fault; the report tells where\n"
+        }
+        Status::TooLarge => "error: the input has more than 16777216 bytes\n",
+        Status::Ok => "",
     }
 }
 

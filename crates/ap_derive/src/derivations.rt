@@ -21,11 +21,7 @@ use std::alloc::Global;
 
 /// The derivation to which a whole path leads, with what its variables stand for in the end. Where the search has an
 /// answer at the path, it checks against that.
-pub fn derive_along(
-    alloc: Global,
-    p: &Problem<'_>,
-    path: &[u32],
-) -> Result<Derivation, Memory>
+pub fn derive_along(alloc: Global, p: &Problem<'_>, path: &[u32]) -> Result<Derivation, Memory>
     requires query { HasQuery p.now }
     requires leads { (q : NominalQuery) →
         slice_get (queries_in p.now) (p.now.query - 1) ≡ Some q →

@@ -5,6 +5,7 @@ use Rattle.ap_program.specs.Typed.{AreTypedQueries, IsTypedProgram, term_form}
 use Rattle.ap_report.specs.SoundAnswers.{HaveSoundAnswers, IsSoundProgram, IsSoundText}
 use Rattle.ap_restrict.proofs.KeepingLemmas.{kept_typed}
 use Rattle.ap_soundness.proofs.AnswerLemmas.{shown_sound}
+use Rattle.ap_text.specs.Texts.{IsProgramOfText}
 use Rattle.ap_typecheck.proofs.TypedPrograms.{program_typed}
 
 sound_queries : (p : NominalProgram) → IsTypedProgram p → (depth : ℕ) (qs : List NominalQuery) → AreTypedQueries term_form p.signature qs → HaveSoundAnswers p depth qs
@@ -14,5 +15,9 @@ sound_queries p typed depth (q ∷ qs) h = (shown_sound p typed depth q h.0, sou
 pub sound_program : (p : NominalProgram) → IsTypedProgram p → (depth : ℕ) → IsSoundProgram p depth
 sound_program p typed depth = sound_queries p typed depth p.queries typed.1
 
+-- the program of a text is typed
+pub text_typed : (text : List ℕ) (p : NominalProgram) → IsProgramOfText text p → IsTypedProgram p
+text_typed text p is = rw is.carried (kept_typed is.raw (program_typed is.items is.raw is.typed) is.kept)
+
 pub sound_text : (depth : ℕ) (text : List ℕ) → IsSoundText depth text
-sound_text depth text p is = sound_program p (rw is.carried (kept_typed is.raw (program_typed is.items is.raw is.typed) is.kept)) depth
+sound_text depth text p is = sound_program p (text_typed text p is) depth

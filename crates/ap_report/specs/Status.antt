@@ -12,4 +12,5 @@ code_of status.Names = 4
 code_of status.Read = 5
 code_of status.Write = 6
 code_of status.Memory = 7
+code_of status.NotChecked = 8
 code_of status.TooLarge = 9

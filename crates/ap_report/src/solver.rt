@@ -37,7 +37,7 @@ fn search_beside<R: Threads + Wait + Sync, G: Gate>(
 /// nominal resolution (Cheney and Urban, "Nominal Logic Programming"), whoever finds them. One worker
 /// alone searches without the gate; so it is where there are several, as long as few turns are enough
 /// and the gate holds none. The only error is want of memory.
-pub(crate) fn solve<R: Threads + Wait + Sync, G: Gate>(
+pub fn solve<R: Threads + Wait + Sync, G: Gate>(
     rt: &R,
     alloc: Global,
     gate: &G,

@@ -21,6 +21,8 @@ pub enum Status {
     Write,
     /// Memory was wanting. Nothing was written.
     Memory,
+    /// A derivation of a bundle doesn't check.
+    NotChecked,
     /// The input has more bytes than the limit.
     TooLarge,
 }
@@ -39,6 +41,7 @@ impl Status {
             Status::Read => 5,
             Status::Write => 6,
             Status::Memory => 7,
+            Status::NotChecked => 8,
             Status::TooLarge => 9,
         }
     }

@@ -11,6 +11,10 @@ complete_for None input = tt
 complete_for (Some (asked.Run depth workers)) (Whole text) = complete_text depth text
 complete_for (Some (asked.Run depth workers)) Over = tt
 complete_for (Some (asked.Run depth workers)) Broken = tt
+complete_for (Some (asked.Prove depth workers)) (Whole text) = complete_text depth text
+complete_for (Some (asked.Prove depth workers)) Over = tt
+complete_for (Some (asked.Prove depth workers)) Broken = tt
+complete_for (Some asked.Check) input = tt
 
 pub complete_input : (words : List (List ℕ)) (input : Input) → HasCompleteAnswers words input
 complete_input words input = complete_for (asked_of words) input

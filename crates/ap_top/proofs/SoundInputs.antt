@@ -1,6 +1,8 @@
 -- The answers in the report on any input are sound.
 use Rattle.std.proofs.Common.{ℕ, List, Option, Some, None}
 use Rattle.ap_report.proofs.SoundTexts.{sound_text}
+use Rattle.ap_bundle_prove.proofs.SoundProofs.{sound_proofs}
+use Rattle.ap_bundle_check.proofs.SoundVerdicts.{sound_verdicts}
 use Rattle.ap_top.specs.Report.{IsSoundFor, Broken, HasSoundAnswers, Input, Over, Whole}
 use Rattle.ap_words.specs.declared.Asked.{Asked}
 use Rattle.ap_words.specs.declared.Asked.TheVariants as asked
@@ -11,6 +13,12 @@ sound_for None input = tt
 sound_for (Some (asked.Run depth workers)) (Whole text) = sound_text depth text
 sound_for (Some (asked.Run depth workers)) Over = tt
 sound_for (Some (asked.Run depth workers)) Broken = tt
+sound_for (Some (asked.Prove depth workers)) (Whole text) = (sound_text depth text, sound_proofs depth text)
+sound_for (Some (asked.Prove depth workers)) Over = tt
+sound_for (Some (asked.Prove depth workers)) Broken = tt
+sound_for (Some asked.Check) (Whole bundle) = sound_verdicts bundle
+sound_for (Some asked.Check) Over = tt
+sound_for (Some asked.Check) Broken = tt
 
 pub sound_input : (words : List (List ℕ)) (input : Input) → HasSoundAnswers words input
 sound_input words input = sound_for (asked_of words) input

@@ -6,6 +6,8 @@ use Rattle.ap_report.specs.declared.status.Status.TheVariants as status
 use Rattle.ap_report.specs.CompleteTexts.{IsCompleteText}
 use Rattle.ap_report.specs.SoundAnswers.{IsSoundText}
 use Rattle.ap_report.specs.TextReport.{IsTextReport, run_report}
+use Rattle.ap_bundle_prove.specs.Reports.{HasSoundProofs, IsProveReport}
+use Rattle.ap_bundle_check.specs.Reports.{HasSoundVerdicts, IsCheckReport}
 use Rattle.ap_words.specs.declared.Asked.{Asked}
 use Rattle.ap_words.specs.declared.Asked.TheVariants as asked
 use Rattle.ap_words.specs.Words.{asked_of}
@@ -20,7 +22,7 @@ pub data Input : Type 0 where
 abbrev pub line : List ℕ → Status → Report
 line text status = record { bytes = text; status = status }
 
--- the report on an input, of a command with this report on a text
+-- the report on an input, of a command with this report on the bytes
 abbrev pub IsReportOn : (List ℕ → Report → Type 0) → Input → Report → Type 0
 IsReportOn IsReportOnText (Whole text) r = IsReportOnText text r
 IsReportOn IsReportOnText Over r = r ≡ line (codes "% text too large\n") status.TooLarge
@@ -29,6 +31,8 @@ IsReportOn IsReportOnText Broken r = r ≡ line (codes "% read fault\n") status.
 -- the report of what is asked for, command by command
 abbrev pub IsReportFor : Asked → Input → Report → Type 0
 IsReportFor (asked.Run depth workers) input r = IsReportOn (IsTextReport (run_report depth)) input r
+IsReportFor (asked.Prove depth workers) input r = IsReportOn (IsProveReport depth) input r
+IsReportFor asked.Check input r = IsReportOn IsCheckReport input r
 
 -- the same, or the refusal of words that ask for nothing
 abbrev pub IsReportOf : Option Asked → Input → Report → Type 0
@@ -42,6 +46,8 @@ IsReport words input r = IsReportOf (asked_of words) input r
 -- the answers in the report are sound
 abbrev pub IsSoundFor : Option Asked → Input → Type 0
 IsSoundFor (Some (asked.Run depth workers)) (Whole text) = IsSoundText depth text
+IsSoundFor (Some (asked.Prove depth workers)) (Whole text) = IsSoundText depth text × HasSoundProofs depth text
+IsSoundFor (Some asked.Check) (Whole bundle) = HasSoundVerdicts bundle
 IsSoundFor _ _ = Unit {0}
 
 abbrev pub HasSoundAnswers : List (List ℕ) → Input → Type 0
@@ -54,6 +60,7 @@ IsOnly P r = P r × ((s : Report) → P s → s ≡ r)
 -- and complete
 abbrev pub IsCompleteFor : Option Asked → Input → Type 0
 IsCompleteFor (Some (asked.Run depth workers)) (Whole text) = IsCompleteText depth text
+IsCompleteFor (Some (asked.Prove depth workers)) (Whole text) = IsCompleteText depth text
 IsCompleteFor _ _ = Unit {0}
 
 abbrev pub HasCompleteAnswers : List (List ℕ) → Input → Type 0

@@ -44,17 +44,22 @@ fn report<R: Threads + Wait + Sync, S: Source, G: Gate>(
 ///
 /// | Status | Comes | Written is |
 /// |---|---|---|
-/// | `Ok` | exactly where the text has no fault | the report of its queries |
+/// | `Ok` | exactly where the text has no fault, and each derivation of a bundle checks | the command's report |
 /// | `Usage` | exactly where the words are refused: they aren't a command and numbers for its options, each in its range, none set twice and no required one left out; then nothing is read | its line |
-/// | `Syntax` | exactly where the text doesn't split into tokens, or an item isn't in the grammar | the line of the first fault |
+/// | `Syntax` | exactly where the bytes of a bundle are faulty, or else the text doesn't split into tokens, or an item isn't in the grammar | the line of the first fault |
 /// | `Types` | exactly where an item isn't well typed | the line of the first fault |
 /// | `Names` | exactly where an item breaks the name restriction | the line of the first fault |
 /// | `Read` | only where the source's count of failures rose | its line |
 /// | `Write` | only where the sink's count of failures rose | the first bytes of the report |
 /// | `Memory` | where memory is wanting | nothing |
+/// | `NotChecked` | exactly where a derivation of a bundle doesn't check, and its text has no fault | the line of the first such derivation, with its first refused node and the rule |
 /// | `TooLarge` | exactly where the input has a byte past 16,777,216 | its line |
 ///
 /// The statuses on the text come in this order, and a `Write` stands in place of any other.
+///
+/// `prove` writes the text with each answer and its derivation, in order, as a bundle; each derivation in it
+/// checks. `check` writes how many derivations a bundle has, where each of them checks: so its answer is sound,
+/// whoever made it. `run` writes the reports of the text's queries, one after the other.
 ///
 /// The report of a query is what sequential nominal resolution finds to the depth (Cheney and Urban,
 /// "Nominal Logic Programming"): a line for each answer, in order, once for each derivation, with notes

@@ -4,6 +4,8 @@ ghost use Rattle.ap_report.specs.declared.report.Report.{Report};
 ghost use Rattle.ap_top.specs.Report.{Input, IsOnly, IsReportFor};
 ghost use Rattle.ap_top.specs.Run.{IsRead};
 
+mod check;
+mod prove;
 mod run;
 
 use ap_defs::memory::Memory;
@@ -28,5 +30,7 @@ pub(crate) fn report_of<R: Threads + Wait + Sync, S: Source, G: Gate>(
 {
     match asked {
         Asked::Run { depth, workers } => run::report(rt, alloc, gate, depth, workers, source),
+        Asked::Prove { depth, workers } => prove::report(rt, alloc, gate, depth, workers, source),
+        Asked::Check => check::report(alloc, source),
     }
 }

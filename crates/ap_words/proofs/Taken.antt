@@ -222,14 +222,30 @@ unfolding walk_passes walked
 stopped_passes s names w name before [] = refl
 stopped_passes s names w name before (word ∷ words) = stopped_passes s names w name (before ++ word ∷ []) words
 
+-- the names by which clap knows the commands
+abbrev all_names : Names
+all_names = (codes "run", []) ∷ (codes "prove", []) ∷ (codes "check", []) ∷ []
+
 command_taken : (c : CommandName) (words : List Text) (ss : List Setting) → settings_of (options_of c) words ≡ Some ss → are_complete (options_of c) ss ≡ true → takes program (command_name c ∷ words) ≡ true
 unfolding walked walk_passes
 command_taken command.Run words ss read e =
     rw (
-      stopped [] ((codes "run", []) ∷ []) (walk_from nothing_held) (codes "run") [] words,
-      stopped_passes (built program).top ((codes "run", []) ∷ []) (walk_from nothing_held) (codes "run") [] words,
+      stopped [] all_names (walk_from nothing_held) (codes "run") [] words,
+      stopped_passes (built program).top all_names (walk_from nothing_held) (codes "run") [] words,
     )
     (both_true _ _ (level (codes "run") (options_of command.Run) words ss read e) refl)
+command_taken command.Prove words ss read e =
+    rw (
+      stopped [] all_names (walk_from nothing_held) (codes "prove") [] words,
+      stopped_passes (built program).top all_names (walk_from nothing_held) (codes "prove") [] words,
+    )
+    (both_true _ _ (level (codes "prove") (options_of command.Prove) words ss read e) refl)
+command_taken command.Check words ss read e =
+    rw (
+      stopped [] all_names (walk_from nothing_held) (codes "check") [] words,
+      stopped_passes (built program).top all_names (walk_from nothing_held) (codes "check") [] words,
+    )
+    (both_true _ _ (level (codes "check") (options_of command.Check) words ss read e) refl)
 
 with_taken : (c : CommandName) (words : List Text) (a : Asked) → asked_with c words ≡ Some a → takes program (command_name c ∷ words) ≡ true
 with_taken c words a e = go (settings_of (options_of c) words) refl e

@@ -68,13 +68,16 @@ depth_in ss = option_and_then (within 0 greatest_depth) (number_in option.Depth 
 abbrev pub workers_in : List Setting → Option ℕ
 workers_in ss = within 1 most_workers (unwrap_or (number_in option.Workers ss) 1)
 
-abbrev pub run_of : Option ℕ → Option ℕ → Option Asked
-run_of (Some depth) (Some workers) = Some (asked.Run depth workers)
-run_of _ _ = None
+-- what is asked for by a depth and a number of workers
+abbrev pub searched_by : (ℕ → ℕ → Asked) → Option ℕ → Option ℕ → Option Asked
+searched_by asked (Some depth) (Some workers) = Some (asked depth workers)
+searched_by asked _ _ = None
 
 -- what the settings of a command's options ask for
 abbrev pub asked_by : CommandName → List Setting → Option Asked
-asked_by command.Run ss = run_of (depth_in ss) (workers_in ss)
+asked_by command.Run ss = searched_by asked.Run (depth_in ss) (workers_in ss)
+asked_by command.Prove ss = searched_by asked.Prove (depth_in ss) (workers_in ss)
+asked_by command.Check ss = Some asked.Check
 
 abbrev pub asked_together : CommandName → List Setting → Option Asked
 asked_together c ss = if are_complete (options_of c) ss then asked_by c ss else None

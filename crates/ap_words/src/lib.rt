@@ -23,4 +23,13 @@ pub enum Asked {
         /// how many workers search each of them
         workers: Workers,
     },
+    /// Write the bundle of a text and of its answers with their derivations.
+    Prove {
+        /// the depth to which the queries are searched
+        depth: Depth,
+        /// how many workers search each of them
+        workers: Workers,
+    },
+    /// Check the derivations of a bundle.
+    Check,
 }

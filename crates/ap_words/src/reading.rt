@@ -37,6 +37,11 @@ fn asked_by(command: CommandName, settings: &[Setting]) -> Option<Asked>
             depth: depth(settings)?,
             workers: workers(settings)?,
         }),
+        CommandName::Prove => Some(Asked::Prove {
+            depth: depth(settings)?,
+            workers: workers(settings)?,
+        }),
+        CommandName::Check => Some(Asked::Check),
     }
 }
 

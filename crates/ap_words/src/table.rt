@@ -8,6 +8,10 @@ ghost use Rattle.ap_words.specs.Table.{commands, command_name, is_required, opti
 pub enum CommandName {
     /// `run`, which answers the queries of a text
     Run,
+    /// `prove`, which writes the answers with their derivations as a bundle
+    Prove,
+    /// `check`, which checks the derivations of a bundle
+    Check,
 }
 
 /// An option of a command.
@@ -19,9 +23,11 @@ pub enum OptionName {
     Workers,
 }
 
-static COMMANDS: [CommandName; 1] = [CommandName::Run];
+static COMMANDS: [CommandName; 3] = [CommandName::Run, CommandName::Prove, CommandName::Check];
 
-static RUN_OPTIONS: [OptionName; 2] = [OptionName::Depth, OptionName::Workers];
+static SEARCH_OPTIONS: [OptionName; 2] = [OptionName::Depth, OptionName::Workers];
+
+static NO_OPTIONS: [OptionName; 0] = [];
 
 impl CommandName {
     /// All commands.
@@ -37,6 +43,8 @@ impl CommandName {
     {
         match self {
             CommandName::Run => "run",
+            CommandName::Prove => "prove",
+            CommandName::Check => "check",
         }
     }
 
@@ -45,7 +53,9 @@ impl CommandName {
         ensures { result.now ≡ options_of self }
     {
         match self {
-            CommandName::Run => RUN_OPTIONS.as_slice(),
+            CommandName::Run => SEARCH_OPTIONS.as_slice(),
+            CommandName::Prove => SEARCH_OPTIONS.as_slice(),
+            CommandName::Check => NO_OPTIONS.as_slice(),
         }
     }
 }

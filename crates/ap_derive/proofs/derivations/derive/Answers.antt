@@ -1,7 +1,7 @@
 use Rattle.std.proofs.Common.{◌≡◌, ◌∷◌, [], ℕ, List, sym, subst}
 use Rattle.std.specs.Prelude.{Some}
 use Rattle.std.proofs.lemmas.Result.{IfOk-weaker}
-use Rattle.ap_defs.specs.Answers.{NominalAnswer, found, outs_at}
+use Rattle.ap_defs.specs.Answers.{found, outs_at}
 use Rattle.ap_defs.specs.Derivations.{derivation_of}
 use Rattle.ap_backchain.specs.Problems.{clauses_in}
 use Rattle.ap_checks.specs.Traces.{traced_query}

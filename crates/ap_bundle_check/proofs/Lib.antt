@@ -1,0 +1,4 @@
+mod VerdictLemmas
+mod TextLemmas
+pub mod SoundVerdicts
+mod AgainLemmas

@@ -1,0 +1,3 @@
+mod OutLemmas
+mod ProgramLemmas
+pub mod SoundProofs

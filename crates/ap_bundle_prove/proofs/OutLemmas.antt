@@ -1,0 +1,58 @@
+-- The answers among a query's outputs, with the derivations to which their paths lead, are those of the states that were found.
+use Rattle.std.proofs.Common.{◌≡◌, ℕ, List, [], ◌∷◌, ◌++◌, map, Some, refl, sym, ap, ◌∙◌, inl, inr}
+use Rattle.std.proofs.lemmas.List.{append-nil, map-append}
+use Rattle.std.specs.List.{AllByRecursion}
+use Rattle.std.specs.Prelude.{flat_map}
+use Rattle.ap_defs.specs.Answers as answers
+use Rattle.ap_defs.specs.Answers.{NominalAnswer, answer_in, derivation_in, out_in, query_outs}
+use Rattle.ap_defs.specs.Derivations.{NominalDerivation}
+use Rattle.ap_defs.specs.Goals.{Clauses, NominalQuery}
+use Rattle.ap_defs.specs.Resolution.{Output, State, cut, first_state, found, solve_query, stuck}
+use Rattle.ap_defs.specs.declared.outcomes.Proved.{Proved}
+use Rattle.ap_bundle.specs.Bundles.{NominalProved, proved_of}
+use Rattle.ap_checks.specs.Traces.{Finds, Traced, traced_query}
+use Rattle.ap_checks.proofs.TraceLemmas.{paths_lead}
+use Rattle.ap_derive.specs.Derived.{LeadsOn}
+use Rattle.ap_bundle_prove.specs.Paths.{IsLed, proof_at, with_traced}
+use Rattle.ap_verdicts.specs.Proofs.{proofs_among, query_proofs}
+
+module _ (program : Clauses) (depth : ℕ) (q : NominalQuery) where
+  -- the path of a state that was found leads to it
+  found_leads : (path : List ℕ) (s : State) (d : NominalDerivation) → Finds (solve_query program depth q) path s d
+      → traced_query program depth q path ≡ Some (record { state = s; derivation = d; rest = [] })
+  found_leads path s d there = (paths_lead program depth q.goal (first_state q) path (record { state = s; derivation = d; rest = [] })).1 (path, sym (append-nil path), there)
+
+  leads_on : (path : List ℕ) (s : State) (d : NominalDerivation) → Finds (solve_query program depth q) path s d → LeadsOn program depth q path
+  leads_on path s d there = record { traced = record { state = s; derivation = d; rest = [] }; leads = found_leads path s d there; whole = refl }
+
+  each_led : (os : List Output) → ((path : List ℕ) (s : State) (d : NominalDerivation) → Finds os path s d → Finds (solve_query program depth q) path s d)
+      → AllByRecursion (IsLed program depth q) (map (out_in q.locals) os)
+  each_led [] among = tt
+  each_led (found path s d ∷ os) among = (leads_on path s d (among path s d (inl (refl, refl, refl))), each_led os (λ p r e f. among p r e (inr f)))
+  each_led (cut path ∷ os) among = (tt, each_led os among)
+  each_led (stuck path ∷ os) among = (tt, each_led os among)
+
+  pub outs_led : AllByRecursion (IsLed program depth q) (query_outs program depth q)
+  outs_led = each_led (solve_query program depth q) (λ p r e f. f)
+
+  each_proof : (k : ℕ) (os : List Output) → ((path : List ℕ) (s : State) (d : NominalDerivation) → Finds os path s d → Finds (solve_query program depth q) path s d)
+      → flat_map (proof_at program depth k q) (map (out_in q.locals) os) ≡ proofs_among k q.locals os
+  each_proof k [] among = refl
+  each_proof k (found path s d ∷ os) among =
+      ap (λ o. with_traced k (answer_in q.locals s d) o ++ flat_map (proof_at program depth k q) (map (out_in q.locals) os)) (found_leads path s d (among path s d (inl (refl, refl, refl))))
+      ∙ ap (λ l. record { query = k; answer = answer_in q.locals s d; derivation = derivation_in s d } ∷ l) (each_proof k os (λ p r e f. among p r e (inr f)))
+  each_proof k (cut path ∷ os) among = each_proof k os among
+  each_proof k (stuck path ∷ os) among = each_proof k os among
+
+  pub outs_proofs : (k : ℕ) → flat_map (proof_at program depth k q) (query_outs program depth q) ≡ query_proofs program depth k q
+  outs_proofs k = each_proof k (solve_query program depth q) (λ p r e f. f)
+
+  -- one more answer, with its derivation
+  pub one_proof : (k : ℕ) (path : List ℕ) (a : NominalAnswer) (d : NominalDerivation) → LeadsOn program depth q path
+      → ((r : Traced) → traced_query program depth q path ≡ Some r → d ≡ derivation_in r.state r.derivation)
+      → record { query = k; answer = a; derivation = d } ∷ [] ≡ proof_at program depth k q (answers.found path a)
+  one_proof k path a d l is =
+      ap (λ e. record { query = k; answer = a; derivation = e } ∷ []) (is l.traced l.leads) ∙ ap (with_traced k a) (sym l.leads)
+
+pub added : (old new : List Proved) (more : Proved) (proof : List NominalProved) → new ≡ old ++ more ∷ [] → proved_of more ∷ [] ≡ proof → map proved_of new ≡ map proved_of old ++ proof
+added old new more proof grown is = ap (map proved_of) grown ∙ map-append proved_of old (more ∷ []) ∙ ap (λ l. map proved_of old ++ l) is

@@ -1,0 +1,23 @@
+-- Each derivation that is written for a text checks, and is sound.
+use Rattle.std.proofs.Common.{◌≡◌, ℕ, List, [], ◌∷◌}
+use Rattle.std.specs.List.{AllByRecursion}
+use Rattle.ap_defs.specs.Goals.{NominalProgram}
+use Rattle.ap_program.specs.Typed.{IsTypedProgram}
+use Rattle.ap_bundle.specs.Bundles.{NominalProved}
+use Rattle.ap_checks.specs.Checks.{yes}
+use Rattle.ap_report.proofs.SoundTexts.{text_typed}
+use Rattle.ap_verdicts.specs.Proofs.{program_proofs}
+use Rattle.ap_verdicts.specs.Soundness.{IsSoundProof}
+use Rattle.ap_verdicts.specs.Verdicts.{verdict_on_proved}
+use Rattle.ap_verdicts.proofs.SoundnessLemmas.{checked_sound, proofs_check}
+use Rattle.ap_bundle_prove.specs.Reports.{HasSoundProofs}
+
+both : (p : NominalProgram) → IsTypedProgram p → (ds : List NominalProved) → AllByRecursion (λ d. verdict_on_proved p d ≡ yes) ds
+    → AllByRecursion (λ d. (verdict_on_proved p d ≡ yes) × IsSoundProof p d) ds
+both p typed [] h = tt
+both p typed (d ∷ ds) h = ((h.0, checked_sound p typed d h.0), both p typed ds h.1)
+
+pub sound_proofs : (depth : ℕ) (text : List ℕ) → HasSoundProofs depth text
+sound_proofs depth text p is =
+    let typed = text_typed text p is in
+    both p typed (program_proofs depth p) (proofs_check p typed depth)
