@@ -1,6 +1,6 @@
 -- Steps of branches.
 use Rattle.std.proofs.Common.{◌≡◌, ℕ, zero, suc, ◌+◌, ◌-◌, ◌<◌, ◌≤◌, List, [], ◌∷◌, ◌++◌, length, map, refl, sym, ap, ◌∙◌, subst, arith}
-use Rattle.std.proofs.lemmas.List.{append-nil}
+use Rattle.std.proofs.lemmas.List.{append-nil, map-id}
 use Rattle.std.specs.Global.{Global}
 use Rattle.std.specs.Prelude.{Option, Some, None, Result, Ok, Err, IfOk, IfSome, Vec, slice_get}
 use Rattle.ap_defs.specs.Answers.{NominalAnswer, NominalOut, answer_of, found, out_path, outs_at, outs_of, query_outs}
@@ -24,6 +24,8 @@ use Rattle.ap_backchain.proofs.MarkLemmas.{marks_turned, settled}
 use Rattle.ap_backchain.proofs.TurnLemmas.{turns_turned}
 use Rattle.ap_backchain.proofs.UnboundLemmas.{marked_stack_by_unbound, stack_by_unbound}
 use Rattle.ap_backchain.specs.Branches.{IsBranchFor, IsBranchOf, IsChoiceAt, IsChoiceOfNode, IsChoosing, IsNamed, IsNodeAt, marks_of_standing, path_of_branch, path_of_standing}
+use Rattle.ap_backchain.specs.Ends.{kept_out, without_path}
+use Rattle.ap_backchain.specs.declared.run.Paths.TheVariants as paths
 use Rattle.ap_backchain.specs.Marks.{IsSettled, choice_of, choice_of_atom, choice_of_goal, marks_from, marks_of_turned}
 use Rattle.ap_backchain.specs.Places.{position_of}
 use Rattle.ap_backchain.specs.Positions.{Position, Turned, ends, goes, outs_from, turned}
@@ -133,24 +135,36 @@ asked_once o x y h k = cc
 -- The outputs of a problem.
 module _ (p : Problem) (query : NominalQuery) (asked : slice_get (queries_in p) (p.query - 1) ≡ Some query) (program_typed : IsTypedProgram (program_in p))
     (typed : IsTypedQuery term_form (program_in p).signature query) where
+  abbrev first_outs : List NominalOut
+  first_outs = outs_from (clauses_in p) query.locals (first_position p.depth query)
+
   abbrev AreTheOutputs : Vec Out Global → Type 0
   AreTheOutputs v = (q : NominalQuery) → slice_get (queries_in p) (p.query - 1) ≡ Some q → outs_of v.items ≡ query_outs (clauses_in p) p.depth q
 
-  outputs_are : (v : Vec Out Global) → outs_of v.items ≡ outs_from (clauses_in p) query.locals (first_position p.depth query) → AreTheOutputs v
-  outputs_are v h = λ q k.
-      subst (λ (x : NominalQuery). outs_of v.items ≡ query_outs (clauses_in p) p.depth x) (asked_once (slice_get (queries_in p) (p.query - 1)) query q asked k)
-      (h ∙ stack_by_unbound (program_in p) program_typed p.depth query typed)
+  abbrev AreWithoutPaths : Vec Out Global → Type 0
+  AreWithoutPaths v = (q : NominalQuery) → slice_get (queries_in p) (p.query - 1) ≡ Some q → outs_of v.items ≡ map without_path (query_outs (clauses_in p) p.depth q)
 
-  pub all_outputs : {E : Type 0} (r : Result (Vec Out Global) E) → IfOk r (λ v. outs_of v.items ≡ outs_from (clauses_in p) query.locals (first_position p.depth query)) → IfOk r AreTheOutputs
+  first_are : (q : NominalQuery) → slice_get (queries_in p) (p.query - 1) ≡ Some q → first_outs ≡ query_outs (clauses_in p) p.depth q
+  first_are q k =
+      subst (λ (x : NominalQuery). first_outs ≡ query_outs (clauses_in p) p.depth x) (asked_once (slice_get (queries_in p) (p.query - 1)) query q asked k)
+      (stack_by_unbound (program_in p) program_typed p.depth query typed)
+
+  outputs_are : (v : Vec Out Global) → outs_of v.items ≡ map (kept_out paths.Kept) first_outs → AreTheOutputs v
+  outputs_are v h = λ q k. h ∙ map-id first_outs ∙ first_are q k
+
+  pub all_outputs : {E : Type 0} (r : Result (Vec Out Global) E) → IfOk r (λ v. outs_of v.items ≡ map (kept_out paths.Kept) first_outs) → IfOk r AreTheOutputs
   all_outputs (Ok v) h = outputs_are v h
   all_outputs (Err e) h = tt
 
-  some_outputs : (o : Option (Vec Out Global)) → IfSome o (λ v. outs_of v.items ≡ outs_from (clauses_in p) query.locals (first_position p.depth query)) → IfSome o AreTheOutputs
+  pub outputs_left : {E : Type 0} (r : Result (Vec Out Global) E) → IfOk r (λ v. outs_of v.items ≡ map (kept_out paths.Left) first_outs) → IfOk r AreWithoutPaths
+  outputs_left (Ok v) h = λ q k. h ∙ ap (map without_path) (first_are q k)
+  outputs_left (Err e) h = tt
+
+  some_outputs : (o : Option (Vec Out Global)) → IfSome o (λ v. outs_of v.items ≡ map (kept_out paths.Kept) first_outs) → IfSome o AreTheOutputs
   some_outputs None h = tt
   some_outputs (Some v) h = outputs_are v h
 
-  pub few_outputs : {E : Type 0} (r : Result (Option (Vec Out Global)) E) → IfOk r (λ o. IfSome o (λ v. outs_of v.items ≡ outs_from (clauses_in p) query.locals (first_position p.depth query)))
-      → IfOk r (λ o. IfSome o AreTheOutputs)
+  pub few_outputs : {E : Type 0} (r : Result (Option (Vec Out Global)) E) → IfOk r (λ o. IfSome o (λ v. outs_of v.items ≡ map (kept_out paths.Kept) first_outs)) → IfOk r (λ o. IfSome o AreTheOutputs)
   few_outputs (Ok o) h = some_outputs o h
   few_outputs (Err e) h = tt
 

@@ -1,5 +1,6 @@
 -- One turn of a search keeps the outputs so far and those to come, and leaves fewer turns.
-use Rattle.std.proofs.Common.{◌≡◌, suc, ◌+◌, ◌<◌, List, ◌∷◌, ◌++◌, refl, ap, ◌∙◌, append_assoc, arith}
+use Rattle.std.proofs.Common.{◌≡◌, suc, ◌+◌, ◌<◌, List, ◌∷◌, ◌++◌, map, refl, sym, ap, ◌∙◌, append_assoc, arith}
+use Rattle.std.proofs.lemmas.List.{map-append}
 use Rattle.ap_defs.specs.Answers.{NominalOut}
 use Rattle.ap_defs.specs.Goals.{Clauses}
 use Rattle.ap_defs.specs.Types.{NominalLocal}
@@ -8,20 +9,23 @@ use Rattle.ap_backchain.specs.Searches.{ended, followed}
 use Rattle.ap_backchain.specs.Turns.{turns_from, turns_from_each, turns_of_turned}
 use Rattle.ap_backchain.proofs.TurnLemmas.{outs_append, outs_turned, turns_append, turns_turned}
 
-module _ (program : Clauses) (locals : List NominalLocal) where
+module _ (program : Clauses) (locals : List NominalLocal) (kept : NominalOut → NominalOut) where
   outs_followed : (t : Turned) (ps : List Position) → ended t ++ outs_from_each program locals (followed t ps) ≡ outs_of_turned program locals t ++ outs_from_each program locals ps
   outs_followed (ends o) ps = refl
   outs_followed (goes rs) ps = outs_append program locals rs ps
 
   pub turn_keeps : (p : Position) (ps qs : List Position) (outs more all : List NominalOut) → qs ≡ followed (turned program locals p) ps
-      → more ≡ outs ++ ended (turned program locals p) → outs ++ outs_from_each program locals (p ∷ ps) ≡ all → more ++ outs_from_each program locals qs ≡ all
+      → more ≡ outs ++ map kept (ended (turned program locals p)) → outs ++ map kept (outs_from_each program locals (p ∷ ps)) ≡ all → more ++ map kept (outs_from_each program locals qs) ≡ all
   turn_keeps p ps qs outs more all e f h =
-      ap (λ os. os ++ outs_from_each program locals qs) f
-      ∙ append_assoc outs (ended (turned program locals p)) (outs_from_each program locals qs)
+      let t = turned program locals p in
+      ap (λ os. os ++ map kept (outs_from_each program locals qs)) f
+      ∙ append_assoc outs (map kept (ended t)) (map kept (outs_from_each program locals qs))
       ∙ ap (λ os. outs ++ os)
-      (ap (λ rs. ended (turned program locals p) ++ outs_from_each program locals rs) e
-      ∙ outs_followed (turned program locals p) ps
-      ∙ ap (λ os. os ++ outs_from_each program locals ps) (outs_turned program locals p))
+      (sym (map-append kept (ended t) (outs_from_each program locals qs))
+      ∙ ap (map kept)
+      (ap (λ rs. ended t ++ outs_from_each program locals rs) e
+      ∙ outs_followed t ps
+      ∙ ap (λ os. os ++ outs_from_each program locals ps) (outs_turned program locals p)))
       ∙ h
 
   turns_followed : (t : Turned) (ps : List Position) → turns_from_each program (followed t ps) ≡ turns_of_turned program t + turns_from_each program ps

@@ -10,6 +10,7 @@ pub mod Below
 pub mod BelowProps
 pub mod Branches
 pub mod Marks
+pub mod Ends
 pub mod Places
 pub mod Starts
 pub mod Positions

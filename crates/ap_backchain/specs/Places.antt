@@ -1,7 +1,7 @@
 -- The places for which branches stand.
 use Rattle.std.specs.Prelude.{ℕ, Bool, true, false, List, [], ◌∷◌}
-use Rattle.ap_defs.specs.Answers.{out_of}
 use Rattle.ap_store.specs.Views.{kinds, present, versions}
+use Rattle.ap_backchain.specs.Ends.{end_out}
 use Rattle.ap_backchain.specs.Positions.{Position, Turned, ends, goes}
 use Rattle.ap_backchain.specs.Stacks.{cells_of, waiting_in}
 use Rattle.ap_backchain.specs.Tracks.{Track}
@@ -29,4 +29,4 @@ position_if false p = []
 abbrev pub turned_of : Turn → Position → Turned
 turned_of turns.Goes p = goes (p ∷ [])
 turned_of turns.Fails p = goes []
-turned_of (turns.Ends o) p = ends (out_of o)
+turned_of (turns.Ends e) p = ends (end_out p.path e)

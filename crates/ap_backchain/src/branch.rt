@@ -13,7 +13,7 @@ ghost use Rattle.ap_backchain.specs.Problems.{HasQuery, clauses_in, queries_in};
 
 use crate::answer_copies::copy_answer;
 use crate::problem::{Problem, clauses_of_problem, query_of_problem};
-use crate::run::{first_place, outputs_from};
+use crate::run::{Paths, first_place, outputs_from};
 use crate::standing::{Standing, advance, path_of};
 use crate::step::choose;
 use ap_defs::goals::{Clause, Goal, Local};
@@ -81,7 +81,7 @@ fn outs_of_standing<'a>(
     ensures { IfOk result (λ v. outs_of v.items ≡ outs_among (marks_of_standing (map (map clause_of) clauses.now) (locals_of locals.now) standing.entry)) }
 {
     match standing {
-        Standing::Choosing(_, place) => outputs_from(alloc, clauses, locals, place),
+        Standing::Choosing(_, place) => outputs_from(alloc, clauses, locals, Paths::Kept, place),
         Standing::Ended(out) => {
             let mut outs = Vec::new(alloc);
             outs.push(out)?;

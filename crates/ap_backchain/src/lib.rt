@@ -14,6 +14,7 @@ pub mod branch;
 pub mod choices;
 pub mod clauses;
 pub mod closures;
+pub mod ends;
 pub mod frames;
 pub mod free_vars;
 mod heads;

@@ -4,10 +4,11 @@ ghost use Rattle.std.specs.Prelude.{◌≡◌, ◌-◌, Some, IfOk, IfSome, map,
 ghost use Rattle.ap_defs.specs.Answers.{outs_of, query_outs};
 ghost use Rattle.ap_defs.specs.Goals.{NominalQuery, clause_of, query_of};
 ghost use Rattle.ap_backchain.specs.Below.{AreClausesBelow, IsQueryBelow};
+ghost use Rattle.ap_backchain.specs.Ends.{without_path};
 ghost use Rattle.ap_backchain.specs.Problems.{HasQuery, clauses_in, program_in, queries_in};
 ghost use Rattle.ap_program.specs.Typed.{IsTypedProgram, IsTypedQuery, term_form};
 
-use crate::run::{outputs_of_query, outputs_of_short_query};
+use crate::run::{Paths, outputs_of_query, outputs_of_short_query};
 use ap_defs::goals::{Clause, Query};
 use ap_defs::lists::List;
 use ap_defs::memory::Memory;
@@ -54,7 +55,18 @@ pub fn outputs(alloc: Global, p: &Problem<'_>) -> Result<Vec<Out>, Memory>
 {
     let clauses = clauses_of_problem(p);
     let query = query_of_problem(p);
-    outputs_of_query(alloc, clauses, p.depth, query)
+    outputs_of_query(alloc, clauses, p.depth, query, Paths::Kept)
+}
+
+/// The outputs of a query to a depth, as `outputs`, without their paths, which would take memory for
+/// each.
+pub fn outputs_without_paths(alloc: Global, p: &Problem<'_>) -> Result<Vec<Out>, Memory>
+    requires { HasQuery p.now }
+    ensures { IfOk result (λ v. (q : NominalQuery) → slice_get (queries_in p.now) (p.now.query - 1) ≡ Some q → outs_of v.items ≡ map without_path (query_outs (clauses_in p.now) p.now.depth q)) }
+{
+    let clauses = clauses_of_problem(p);
+    let query = query_of_problem(p);
+    outputs_of_query(alloc, clauses, p.depth, query, Paths::Left)
 }
 
 /// The outputs of a query to a depth, as `outputs`, where the search takes few turns: none says that it
@@ -65,5 +77,5 @@ pub fn short_outputs(alloc: Global, p: &Problem<'_>) -> Result<Option<Vec<Out>>,
 {
     let clauses = clauses_of_problem(p);
     let query = query_of_problem(p);
-    outputs_of_short_query(alloc, clauses, p.depth, query)
+    outputs_of_short_query(alloc, clauses, p.depth, query, Paths::Kept)
 }

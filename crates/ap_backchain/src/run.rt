@@ -1,11 +1,12 @@
 //! Whole searches.
 
 ghost use Rattle.std.specs.Prelude.{◌≡◌, ℕ, ◌<◌, ◌≤◌, ◌^◌, ◌++◌, [], ◌∷◌, false, true, Some, IfOk, IfSome, List as list, OnOk, length, map};
-ghost use Rattle.ap_defs.specs.Answers.{outs_of};
+ghost use Rattle.ap_defs.specs.Answers.{out_of, outs_of};
 ghost use Rattle.ap_defs.specs.Goals.{clause_of, either, goal_of, query_of};
 ghost use Rattle.ap_defs.specs.Renaming.{IsGoalBelow, rename_goal};
 ghost use Rattle.ap_defs.specs.Types.{NominalLocal, locals_of};
 ghost use Rattle.ap_backchain.specs.Below.{AreClausesBelow, IsQueryBelow};
+ghost use Rattle.ap_backchain.specs.Ends.{end_out, kept_out};
 ghost use Rattle.ap_backchain.specs.Marks.{choice_of, choice_of_goal};
 ghost use Rattle.ap_backchain.specs.Places.{next_of, position_of};
 ghost use Rattle.ap_backchain.specs.Points.{IsFitRest, positions_left};
@@ -15,6 +16,7 @@ ghost use Rattle.ap_backchain.specs.Starts.{first_position};
 
 use crate::choices::choice_at;
 use crate::clauses::{clauses_at, enter_clause};
+use crate::ends::{End, out_at};
 use crate::frames::Frame;
 use crate::heads::{key_of_atom, next_clause};
 use crate::place::Place;
@@ -27,6 +29,13 @@ use ap_defs::paths::Out;
 use ap_defs::terms::Term;
 use ap_store::store::Store;
 use std::alloc::Global;
+
+/// Whether outputs have their paths, which take memory for each.
+#[derive(Clone, Copy)]
+pub enum Paths {
+    Kept,
+    Left,
+}
 
 // A search of so many turns is over sooner than a thread is started.
 const FEW_TURNS: u32 = 1_000;
@@ -185,12 +194,24 @@ fn choose<'a>(
     }
 }
 
+/// The output of an end to which these choices led, with its path or without.
+fn out_kept(alloc: Global, paths: Paths, path: &[u32], end: End) -> Result<Out, Memory>
+    ensures { IfOk result (λ o. out_of o ≡ kept_out paths (end_out path.now end)) }
+{
+    let path = match paths {
+        Paths::Kept => path.to_vec(alloc)?,
+        Paths::Left => Vec::new(alloc),
+    };
+    Ok(out_at(path, end))
+}
+
 /// One turn of a search, which adds the output with which it ends. It answers whether the search goes
 /// on from the place.
 fn turn_on<'a>(
     alloc: Global,
     clauses: &'a [List<Clause<Term>>],
     locals: &[Local],
+    paths: Paths,
     place: &mut Place<'a>,
     points: &mut Vec<Point<'a>>,
     outs: &mut Vec<Out>,
@@ -199,7 +220,7 @@ fn turn_on<'a>(
     requires locals { length locals.now < 2 ^ 64 }
     requires points { HasPoints place.old points.old }
     ensures left { IfOk result (λ b. positions_with b place.new points.new ≡ followed (turned (map (map clause_of) clauses.now) (locals_of locals.now) (position_of place.old)) (pending_of place.old points.old)) }
-    ensures outs { OnOk result (outs_of outs.new.items ≡ outs_of outs.old.items ++ ended (turned (map (map clause_of) clauses.now) (locals_of locals.now) (position_of place.old))) }
+    ensures outs { OnOk result (outs_of outs.new.items ≡ outs_of outs.old.items ++ map (kept_out paths) (ended (turned (map (map clause_of) clauses.now) (locals_of locals.now) (position_of place.old)))) }
     ensures points { OnOk result (HasPoints place.new points.new) }
 {
     match choice_at(clauses, place) {
@@ -207,7 +228,8 @@ fn turn_on<'a>(
         None => match take_turn(alloc, clauses, locals, place)? {
             Turn::Goes => Ok(true),
             Turn::Fails => Ok(false),
-            Turn::Ends(out) => {
+            Turn::Ends(end) => {
+                let out = out_kept(alloc, paths, place.path.as_slice(), end)?;
                 outs.push(out)?;
                 Ok(false)
             }
@@ -266,6 +288,7 @@ fn go_on<'a>(
     alloc: Global,
     clauses: &'a [List<Clause<Term>>],
     locals: &[Local],
+    paths: Paths,
     place: &mut Place<'a>,
     points: &mut Vec<Point<'a>>,
     outs: &mut Vec<Out>,
@@ -274,11 +297,11 @@ fn go_on<'a>(
     requires locals { length locals.now < 2 ^ 64 }
     requires points { HasPoints place.old points.old }
     ensures left { IfOk result (λ b. positions_with b place.new points.new ≡ followed (turned (map (map clause_of) clauses.now) (locals_of locals.now) (position_of place.old)) (pending_of place.old points.old)) }
-    ensures outs { OnOk result (outs_of outs.new.items ≡ outs_of outs.old.items ++ ended (turned (map (map clause_of) clauses.now) (locals_of locals.now) (position_of place.old))) }
+    ensures outs { OnOk result (outs_of outs.new.items ≡ outs_of outs.old.items ++ map (kept_out paths) (ended (turned (map (map clause_of) clauses.now) (locals_of locals.now) (position_of place.old)))) }
     ensures points { OnOk result (HasPoints place.new points.new) }
     ensures none { IfOk result (λ b. b ≡ false → points.new.items ≡ []) }
 {
-    if turn_on(alloc, clauses, locals, place, points, outs)? {
+    if turn_on(alloc, clauses, locals, paths, place, points, outs)? {
         Ok(true)
     } else {
         resume(alloc, place, points)
@@ -291,17 +314,26 @@ pub fn outputs_from<'a>(
     alloc: Global,
     clauses: &'a [List<Clause<Term>>],
     locals: &[Local],
+    paths: Paths,
     first: Place<'a>,
 ) -> Result<Vec<Out>, Memory>
     requires clauses { AreClausesBelow (map (map clause_of) clauses.now) }
     requires locals { length locals.now < 2 ^ 64 }
-    ensures { IfOk result (λ v. outs_of v.items ≡ outs_from (map (map clause_of) clauses.now) (locals_of locals.now) (position_of first.entry)) }
+    ensures { IfOk result (λ v. outs_of v.items ≡ map (kept_out paths) (outs_from (map (map clause_of) clauses.now) (locals_of locals.now) (position_of first.entry))) }
 {
     let mut outs = Vec::new(alloc);
     let mut points = Vec::new(alloc);
     let mut place = first;
     'searching: loop {
-        if !go_on(alloc, clauses, locals, &mut place, &mut points, &mut outs)? {
+        if !go_on(
+            alloc,
+            clauses,
+            locals,
+            paths,
+            &mut place,
+            &mut points,
+            &mut outs,
+        )? {
             return Ok(outs);
         }
     }
@@ -312,17 +344,26 @@ fn outputs_soon<'a>(
     alloc: Global,
     clauses: &'a [List<Clause<Term>>],
     locals: &[Local],
+    paths: Paths,
     first: Place<'a>,
 ) -> Result<Option<Vec<Out>>, Memory>
     requires clauses { AreClausesBelow (map (map clause_of) clauses.now) }
     requires locals { length locals.now < 2 ^ 64 }
-    ensures { IfOk result (λ o. IfSome o (λ v. outs_of v.items ≡ outs_from (map (map clause_of) clauses.now) (locals_of locals.now) (position_of first.entry))) }
+    ensures { IfOk result (λ o. IfSome o (λ v. outs_of v.items ≡ map (kept_out paths) (outs_from (map (map clause_of) clauses.now) (locals_of locals.now) (position_of first.entry)))) }
 {
     let mut outs = Vec::new(alloc);
     let mut points = Vec::new(alloc);
     let mut place = first;
     'searching: for _ in 0..FEW_TURNS {
-        if !go_on(alloc, clauses, locals, &mut place, &mut points, &mut outs)? {
+        if !go_on(
+            alloc,
+            clauses,
+            locals,
+            paths,
+            &mut place,
+            &mut points,
+            &mut outs,
+        )? {
             return Ok(Some(outs));
         }
     }
@@ -335,13 +376,14 @@ pub fn outputs_of_short_query(
     clauses: &[List<Clause<Term>>],
     depth: u32,
     query: &Query<Term>,
+    paths: Paths,
 ) -> Result<Option<Vec<Out>>, Memory>
     requires clauses { AreClausesBelow (map (map clause_of) clauses.now) }
     requires query { IsQueryBelow (query_of query.now) }
-    ensures { IfOk result (λ o. IfSome o (λ v. outs_of v.items ≡ outs_from (map (map clause_of) clauses.now) (query_of query.now).locals (first_position depth (query_of query.now)))) }
+    ensures { IfOk result (λ o. IfSome o (λ v. outs_of v.items ≡ map (kept_out paths) (outs_from (map (map clause_of) clauses.now) (query_of query.now).locals (first_position depth (query_of query.now))))) }
 {
     let first = first_place(alloc, depth, query)?;
-    outputs_soon(alloc, clauses, query.locals.items(), first)
+    outputs_soon(alloc, clauses, query.locals.items(), paths, first)
 }
 
 /// The outputs from where the search of a query to a depth begins, in order.
@@ -350,11 +392,12 @@ pub fn outputs_of_query(
     clauses: &[List<Clause<Term>>],
     depth: u32,
     query: &Query<Term>,
+    paths: Paths,
 ) -> Result<Vec<Out>, Memory>
     requires clauses { AreClausesBelow (map (map clause_of) clauses.now) }
     requires query { IsQueryBelow (query_of query.now) }
-    ensures { IfOk result (λ v. outs_of v.items ≡ outs_from (map (map clause_of) clauses.now) (query_of query.now).locals (first_position depth (query_of query.now))) }
+    ensures { IfOk result (λ v. outs_of v.items ≡ map (kept_out paths) (outs_from (map (map clause_of) clauses.now) (query_of query.now).locals (first_position depth (query_of query.now)))) }
 {
     let first = first_place(alloc, depth, query)?;
-    outputs_from(alloc, clauses, query.locals.items(), first)
+    outputs_from(alloc, clauses, query.locals.items(), paths, first)
 }

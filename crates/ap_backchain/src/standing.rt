@@ -9,6 +9,7 @@ ghost use Rattle.ap_backchain.specs.Marks.{marks_from};
 ghost use Rattle.ap_backchain.specs.Places.{position_of};
 
 use crate::choices::choice_at;
+use crate::ends::out_at;
 use crate::place::Place;
 use crate::turns::{Turn, take_turn};
 use ap_defs::goals::{Clause, Local};
@@ -73,7 +74,7 @@ pub fn advance<'a>(
         match choice_at(clauses, &here) {
             Some(width) => return Ok(Standing::Choosing(width, here)),
             None => match take_turn(alloc, clauses, locals, &mut here)? {
-                Turn::Ends(out) => return Ok(Standing::Ended(out)),
+                Turn::Ends(end) => return Ok(Standing::Ended(out_at(here.path, end))),
                 Turn::Fails => return Ok(failed_at(here, made)),
                 Turn::Goes => {}
             },

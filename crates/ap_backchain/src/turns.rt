@@ -1,12 +1,13 @@
 //! What the first goal that waits makes of a place, where it does not choose.
 
 ghost use Rattle.std.specs.Prelude.{◌≡◌, ◌<◌, ◌^◌, [], ◌∷◌, if◌then◌else◌, None, IfOk, OnOk, length, map};
-ghost use Rattle.ap_defs.specs.Answers.{found as found_at, out_of};
+ghost use Rattle.ap_defs.specs.Answers.{found as found_at};
 ghost use Rattle.ap_defs.specs.Goals.{both, clause_of, equal, exists, fresh, goal_of, new};
 ghost use Rattle.ap_defs.specs.Renaming.{IsBelow, IsGoalBelow, rename_goal, rename_name, rename_term as renamed, rename_var};
 ghost use Rattle.ap_defs.specs.Terms.{term_of};
 ghost use Rattle.ap_defs.specs.Types.{locals_of};
 ghost use Rattle.ap_backchain.specs.Below.{AreClausesBelow};
+ghost use Rattle.ap_backchain.specs.Ends.{end_out};
 ghost use Rattle.ap_backchain.specs.Marks.{choice_of, choice_of_goal};
 ghost use Rattle.ap_backchain.specs.Places.{next_of, position_of, track_of, turned_of};
 ghost use Rattle.ap_backchain.specs.Positions.{turned, turned_goal};
@@ -14,25 +15,25 @@ ghost use Rattle.ap_backchain.specs.Tracks.{GoesFrom};
 ghost use Rattle.ap_backchain.specs.Unbound.{answer_by_unbound};
 
 use crate::answers::answer_in;
+use crate::ends::End;
 use crate::frames::Frame;
 use crate::free_vars::free_vars_of;
 use crate::place::Place;
 use ap_defs::goals::{Clause, Goal, Local};
 use ap_defs::lists::List;
 use ap_defs::memory::Memory;
-use ap_defs::paths::{Out, Path};
 use ap_defs::terms::{Name, Term, Var};
 use ap_perm::closures::{Closure, Opened};
 use ap_unify::fresh::{make_fresh, make_fresh_for_each};
 use ap_unify::unify::unify;
 use std::alloc::Global;
 
-/// A search goes on from the place, fails there, or ends with an output.
+/// A search goes on from the place, fails there, or ends.
 #[derive(Drop)]
 pub enum Turn {
     Goes,
     Fails,
-    Ends(Out),
+    Ends(End),
 }
 
 /// The search goes on where something has a solution.
@@ -83,10 +84,7 @@ fn turn_of_fresh<'a>(
             let solved = make_fresh(alloc, &mut place.store, a, &right)?;
             Ok(goes_where(solved))
         }
-        Opened::Susp(_, _) => {
-            let path = place.path.to_vec(alloc)?;
-            Ok(Turn::Ends(Out::Stuck(Path::of(path))))
-        }
+        Opened::Susp(_, _) => Ok(Turn::Ends(End::Stuck)),
         _ => Ok(Turn::Fails),
     }
 }
@@ -172,21 +170,19 @@ pub fn turn_of_goal<'a>(
         Goal::New(a, g) => turn_of_new(alloc, place, depth, base, *a, g),
         Goal::Atom(_, _) => {
             prove!(depth == 0);
-            let path = place.path.to_vec(alloc)?;
-            Ok(Turn::Ends(Out::Cut(Path::of(path))))
+            Ok(Turn::Ends(End::Cut))
         }
         Goal::Either(_, _) => unreachable!(),
     }
 }
 
-/// The output of a place in which no goal waits.
-fn found<'a>(alloc: Global, locals: &[Local], place: &Place<'a>) -> Result<Out, Memory>
+/// The end at a place in which no goal waits.
+fn found<'a>(alloc: Global, locals: &[Local], place: &Place<'a>) -> Result<End, Memory>
     requires { length locals.now < 2 ^ 64 }
-    ensures { IfOk result (λ o. out_of o ≡ found_at place.now.path.items (answer_by_unbound (locals_of locals.now) (position_of place.now).state place.now.brought.items)) }
+    ensures { IfOk result (λ e. end_out place.now.path.items e ≡ found_at place.now.path.items (answer_by_unbound (locals_of locals.now) (position_of place.now).state place.now.brought.items)) }
 {
     let answer = answer_in(alloc, locals, &place.store, &place.brought)?;
-    let path = place.path.to_vec(alloc)?;
-    Ok(Out::Found(Path::of(path), answer))
+    Ok(End::Found(answer))
 }
 
 /// One turn of the search of a query with these identifiers: the first goal that waits, which does
@@ -204,8 +200,8 @@ pub fn take_turn<'a>(
 {
     match place.pop_goal() {
         None => {
-            let out = found(alloc, locals, place)?;
-            Ok(Turn::Ends(out))
+            let end = found(alloc, locals, place)?;
+            Ok(Turn::Ends(end))
         }
         Some(frame) => turn_of_goal(alloc, clauses, frame, place),
     }

@@ -1,25 +1,89 @@
 -- The report on a program is that of its queries, one after the other.
-use Rattle.std.proofs.Common.{◌≡◌, ◌<◌, ◌≤◌, ◌+◌, ◌-◌, ℕ, zero, suc, List, [], ◌∷◌, ◌++◌, Some, length, drop, slice_get, refl, sym, ap, ◌∙◌, arith}
+use Rattle.std.proofs.Common.{◌≡◌, ◌<◌, ◌≤◌, ◌+◌, ◌-◌, ℕ, zero, suc, Bool, true, false, List, [], ◌∷◌, ◌++◌, Some, length, drop, slice_get, map, refl, sym, ap, ◌∙◌, arith}
+use Rattle.std.specs.Prelude.{if◌then◌else◌, codes, filter}
+use Rattle.std.specs.Fmt.{decimal}
 use Rattle.std.proofs.lemmas.List.{append_assoc}
 use Rattle.ap_defs.specs.Goals.{NominalQuery, NominalProgram}
-use Rattle.ap_defs.specs.Answers.{NominalOut, query_outs}
-use Rattle.ap_defs.specs.Lines.{query_lines, report_from, program_report}
+use Rattle.ap_defs.specs.Answers.{NominalOut, cut, found, query_outs, stuck}
+use Rattle.ap_defs.specs.Types.{NominalLocal}
+use Rattle.ap_defs.specs.Lines.{Line, answer, count_of, cuts, ended, is_cut, is_found, is_stuck, line_before, line_text, lines_of, program_report, query_lines, report_from, stucks}
+use Rattle.ap_backchain.specs.Ends.{without_path}
 use Rattle.ap_answers.specs.Queries.{locals_at, query_locals}
 use Rattle.ap_report.specs.Queries.{report_at, query_report}
 
+-- Lines do not tell the paths of outputs.
+line_sees_no_path : (o : NominalOut) (ls : List Line) → line_before (without_path o) ls ≡ line_before o ls
+line_sees_no_path (found p a) ls = refl
+line_sees_no_path (cut p) [] = refl
+line_sees_no_path (cut p) (answer a ∷ ls) = refl
+line_sees_no_path (cut p) (cuts n ∷ ls) = refl
+line_sees_no_path (cut p) (stucks n ∷ ls) = refl
+line_sees_no_path (stuck p) [] = refl
+line_sees_no_path (stuck p) (answer a ∷ ls) = refl
+line_sees_no_path (stuck p) (cuts n ∷ ls) = refl
+line_sees_no_path (stuck p) (stucks n ∷ ls) = refl
+
+lines_without : (os : List NominalOut) → lines_of (map without_path os) ≡ lines_of os
+lines_without [] = refl
+lines_without (o ∷ os) = line_sees_no_path o (lines_of (map without_path os)) ∙ ap (line_before o) (lines_without os)
+
+count_without : (test : NominalOut → Bool) → ((o : NominalOut) → test (without_path o) ≡ test o) → (os : List NominalOut) → count_of test (map without_path os) ≡ count_of test os
+count_without test same [] = refl
+count_without test same (o ∷ os) =
+    ap (λ (b : Bool). length (if b then (without_path o ∷ filter test (map without_path os)) else filter test (map without_path os))) (same o)
+    ∙ elim (test o) as (λ b. length (if b then (without_path o ∷ filter test (map without_path os)) else filter test (map without_path os))
+    ≡ length (if b then (o ∷ filter test os) else filter test os)) [ true ↦ ap suc (count_without test same os) | false ↦ count_without test same os ]
+
+found_without : (o : NominalOut) → is_found (without_path o) ≡ is_found o
+found_without (found p a) = refl
+found_without (cut p) = refl
+found_without (stuck p) = refl
+
+cut_without : (o : NominalOut) → is_cut (without_path o) ≡ is_cut o
+cut_without (found p a) = refl
+cut_without (cut p) = refl
+cut_without (stuck p) = refl
+
+stuck_without : (o : NominalOut) → is_stuck (without_path o) ≡ is_stuck o
+stuck_without (found p a) = refl
+stuck_without (cut p) = refl
+stuck_without (stuck p) = refl
+
+-- the lines of a query by what its lines and its totals are
+abbrev lines_by : NominalProgram → ℕ → List NominalLocal → List Line → ℕ → ℕ → ℕ → List ℕ
+lines_by program k locals ls n c s =
+    ended (map (line_text program locals) ls ++ (codes "% query " ++ decimal k ++ codes ": " ++ decimal n ++ codes " answers, " ++ decimal c ++ codes " cut, " ++ decimal s ++ codes " stuck") ∷ [])
+
+lines_alone : (program : NominalProgram) (k : ℕ) (locals : List NominalLocal) (os : List NominalOut) → query_lines program k locals (map without_path os) ≡ query_lines program k locals os
+lines_alone program k locals os =
+    ap (λ ls. lines_by program k locals ls (count_of is_found (map without_path os)) (count_of is_cut (map without_path os)) (count_of is_stuck (map without_path os))) (lines_without os)
+    ∙ ap (λ n. lines_by program k locals (lines_of os) n (count_of is_cut (map without_path os)) (count_of is_stuck (map without_path os))) (count_without is_found found_without os)
+    ∙ ap (λ n. lines_by program k locals (lines_of os) (count_of is_found os) n (count_of is_stuck (map without_path os))) (count_without is_cut cut_without os)
+    ∙ ap (λ n. lines_by program k locals (lines_of os) (count_of is_found os) (count_of is_cut os) n) (count_without is_stuck stuck_without os)
+
+lines_see_no_paths : (program : NominalProgram) (k : ℕ) (locals : List NominalLocal) (os qs : List NominalOut) → map without_path os ≡ map without_path qs
+    → query_lines program k locals os ≡ query_lines program k locals qs
+lines_see_no_paths program k locals os qs e = sym (lines_alone program k locals os) ∙ ap (query_lines program k locals) e ∙ lines_alone program k locals qs
+
+pub without_twice : (os : List NominalOut) → map without_path (map without_path os) ≡ map without_path os
+without_twice [] = refl
+without_twice (found p a ∷ os) = ap (λ l. found [] a ∷ l) (without_twice os)
+without_twice (cut p ∷ os) = ap (λ l. cut [] ∷ l) (without_twice os)
+without_twice (stuck p ∷ os) = ap (λ l. stuck [] ∷ l) (without_twice os)
+
 -- the lines of the query at a place, where these are its outputs
 lines_at : (program : NominalProgram) (depth k : ℕ) (qs : List NominalQuery) (place : ℕ) (os : List NominalOut) → place < length qs
-    → ((q : NominalQuery) → slice_get qs place ≡ Some q → os ≡ query_outs program.clauses depth q)
+    → ((q : NominalQuery) → slice_get qs place ≡ Some q → map without_path os ≡ map without_path (query_outs program.clauses depth q))
     → query_lines program (k + place) (locals_at qs place) os ≡ report_at program depth k qs place
 lines_at program depth k [] place os l are = absurd (omega arith)
 lines_at program depth k (q ∷ qs) zero os l are =
-    ap (query_lines program (k + 0) q.locals) (are q refl) ∙ ap (λ n. query_lines program n q.locals (query_outs program.clauses depth q)) (let e : k + 0 ≡ k = omega arith in e)
+    lines_see_no_paths program (k + 0) q.locals os (query_outs program.clauses depth q) (are q refl) ∙ ap (λ n. query_lines program n q.locals (query_outs program.clauses depth q)) (let e : k + 0 ≡ k = omega arith in e)
 lines_at program depth k (q ∷ qs) (suc place) os l are =
     ap (λ n. query_lines program n (locals_at qs place) os) (let e : k + suc place ≡ suc k + place = omega arith in e)
     ∙ lines_at program depth (suc k) qs place os (omega arith) are
 
 pub lines_of_query : (program : NominalProgram) (depth query : ℕ) (os : List NominalOut) → 1 ≤ query → query ≤ length program.queries
-    → ((q : NominalQuery) → slice_get program.queries (query - 1) ≡ Some q → os ≡ query_outs program.clauses depth q)
+    → ((q : NominalQuery) → slice_get program.queries (query - 1) ≡ Some q → map without_path os ≡ map without_path (query_outs program.clauses depth q))
     → query_lines program query (query_locals program query) os ≡ query_report program depth (query - 1)
 lines_of_query program depth zero os l m are = absurd (omega arith)
 lines_of_query program depth (suc place) os l m are =

@@ -1,11 +1,12 @@
 //! The outputs of a query, by one worker or by several.
 
-ghost use Rattle.std.specs.Prelude.{◌≡◌, ◌-◌, Some, IfOk, slice_get};
+ghost use Rattle.std.specs.Prelude.{◌≡◌, ◌-◌, Some, IfOk, map, slice_get};
 ghost use Rattle.ap_defs.specs.Answers.{outs_of, query_outs};
 ghost use Rattle.ap_defs.specs.Goals.{NominalQuery};
+ghost use Rattle.ap_backchain.specs.Ends.{without_path};
 ghost use Rattle.ap_backchain.specs.Problems.{HasQuery, clauses_in, queries_in};
 
-use ap_backchain::problem::{Problem, outputs, short_outputs};
+use ap_backchain::problem::{Problem, outputs_without_paths, short_outputs};
 use ap_book::merge;
 use ap_defs::limits::Workers;
 use ap_defs::memory::Memory;
@@ -33,9 +34,9 @@ fn search_beside<R: Threads + Wait + Sync, G: Gate>(
     merge(alloc, closed)
 }
 
-/// The outputs of a query to a depth, in order, each with its path and its answer: those of sequential
-/// nominal resolution (Cheney and Urban, "Nominal Logic Programming"), whoever finds them. One worker
-/// alone searches without the gate; so it is where there are several, as long as few turns are enough
+/// The outputs of a query to a depth, in order, each with its answer, the paths aside: those of
+/// sequential nominal resolution (Cheney and Urban, "Nominal Logic Programming"), whoever finds them.
+/// One worker alone searches without the gate; so it is where there are several, as long as few turns are enough
 /// and the gate holds none. The only error is want of memory.
 pub fn solve<R: Threads + Wait + Sync, G: Gate>(
     rt: &R,
@@ -45,10 +46,10 @@ pub fn solve<R: Threads + Wait + Sync, G: Gate>(
     problem: &Problem<'_>,
 ) -> Result<Vec<Out>, Memory>
     requires query { HasQuery problem.now }
-    ensures { IfOk result (λ v. (q : NominalQuery) → slice_get (queries_in problem.now) (problem.now.query - 1) ≡ Some q → outs_of v.items ≡ query_outs (clauses_in problem.now) problem.now.depth q) }
+    ensures { IfOk result (λ v. (q : NominalQuery) → slice_get (queries_in problem.now) (problem.now.query - 1) ≡ Some q → map without_path (outs_of v.items) ≡ map without_path (query_outs (clauses_in problem.now) problem.now.depth q)) }
 {
     if workers.get() == 1 {
-        return outputs(alloc, problem);
+        return outputs_without_paths(alloc, problem);
     }
     if !gate.may_hold() {
         if let Some(outs) = short_outputs(alloc, problem)? {

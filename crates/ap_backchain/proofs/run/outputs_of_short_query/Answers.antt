@@ -3,6 +3,7 @@ use Rattle.std.specs.Prelude.{IfOk, IfSome}
 use Rattle.ap_defs.specs.Answers.{NominalOut, outs_of}
 use Rattle.ap_defs.specs.Goals.{clause_of, query_of}
 use Rattle.ap_defs.specs.Types.{locals_of}
+use Rattle.ap_backchain.specs.Ends.{kept_out}
 use Rattle.ap_backchain.specs.Places.{position_of}
 use Rattle.ap_backchain.specs.Positions.{Position, outs_from}
 use Rattle.ap_backchain.proofs.run.outputs_of_short_query.Goals as goal
@@ -11,5 +12,5 @@ pub returns : goal.returns
 returns c =
     let program = map (map clause_of) c.args.clauses.now in
     subst (λ (os : List NominalOut). IfOk c.outputs_soon.result (λ o. IfSome o (λ v. outs_of v.items ≡ os)))
-    (ap (λ ls. outs_from program (locals_of ls) (position_of c.in_ok-first.first)) c.items.ensures
-    ∙ ap (λ (p : Position). outs_from program (locals_of c.args.query.now.locals) p) c.in_ok-first.ensures) c.outputs_soon.ensures
+    (ap (λ ls. map (kept_out c.args.paths) (outs_from program (locals_of ls) (position_of c.in_ok-first.first))) c.items.ensures
+    ∙ ap (λ (p : Position). map (kept_out c.args.paths) (outs_from program (locals_of c.args.query.now.locals) p)) c.in_ok-first.ensures) c.outputs_soon.ensures

@@ -4,6 +4,7 @@ use Rattle.std.specs.Prelude.{reverse}
 use Rattle.ap_defs.specs.Answers.{outs_of}
 use Rattle.ap_defs.specs.Goals.{clause_of}
 use Rattle.ap_defs.specs.Types.{locals_of}
+use Rattle.ap_backchain.specs.Ends.{kept_out}
 use Rattle.ap_backchain.specs.Places.{position_of, track_of}
 use Rattle.ap_backchain.specs.Points.{positions_pending}
 use Rattle.ap_backchain.specs.Positions.{outs_from, turned}
@@ -22,7 +23,7 @@ returns-then-not-branch c =
     ∙ ap (λ b. positions_with b c.go_on.new.place c.go_on.new.points) (sym c.if-not-branch.true)
     ∙ c.in_ok-go_on.ensures.left in
     sym (append-nil (outs_of c.go_on.new.outs.items))
-    ∙ turn_keeps program locals p ps [] (outs_of c.searching.outs.items) (outs_of c.go_on.new.outs.items) (outs_from program locals (position_of c.args.first))
+    ∙ turn_keeps program locals (kept_out c.args.paths) p ps [] (outs_of c.searching.outs.items) (outs_of c.go_on.new.outs.items) (map (kept_out c.args.paths) (outs_from program locals (position_of c.args.first)))
     left c.in_ok-go_on.ensures.outs c.searching.invariant.all
 
 pub searching-preserved : goal.searching-preserved
@@ -30,9 +31,9 @@ searching-preserved c =
     let program = map (map clause_of) c.args.clauses.now in
     let locals = locals_of c.args.locals.now in
     record {
-      all = turn_keeps program locals (position_of c.searching.place) (pending_of c.searching.place c.searching.points)
+      all = turn_keeps program locals (kept_out c.args.paths) (position_of c.searching.place) (pending_of c.searching.place c.searching.points)
           (positions_with true c.go_on.new.place c.go_on.new.points)
-          (outs_of c.searching.outs.items) (outs_of c.go_on.new.outs.items) (outs_from program locals (position_of c.args.first))
+          (outs_of c.searching.outs.items) (outs_of c.go_on.new.outs.items) (map (kept_out c.args.paths) (outs_from program locals (position_of c.args.first)))
           (ap (λ b. positions_with b c.go_on.new.place c.go_on.new.points) (sym c.if-not-branch.false) ∙ c.in_ok-go_on.ensures.left)
           c.in_ok-go_on.ensures.outs c.searching.invariant.all;
       points = c.in_ok-go_on.ensures.points;

@@ -4,6 +4,7 @@ use Rattle.std.proofs.lemmas.Result.{IfOk-weaker}
 use Rattle.ap_defs.specs.Answers.{NominalOut, out_of, outs_of}
 use Rattle.ap_defs.specs.Goals.{clause_of}
 use Rattle.ap_defs.specs.Types.{NominalLocal, locals_of}
+use Rattle.ap_backchain.specs.Ends.{end_out, kept_out}
 use Rattle.ap_backchain.specs.Places.{position_of}
 use Rattle.ap_backchain.specs.Positions.{Position, Turned, turned}
 use Rattle.ap_backchain.specs.Searches.{ended, followed, pending_of, positions_with}
@@ -25,7 +26,7 @@ returns-in-Some-clause-outs c =
     let outs = outs_of c.args.outs.now.items in
     on_ok c.choose.result
     (sym (append-nil outs)
-    ∙ ap (λ (os : List NominalOut). outs ++ os)
+    ∙ ap (λ (os : List NominalOut). outs ++ map (kept_out c.args.paths) os)
     (ended_choice (map (map clause_of) c.args.clauses.now) (locals_of c.args.locals.now) (position_of c.args.place.now) c.in-Some.field-0 c.in-Some.ensures))
 
 pub returns-in-Goes-clause-left : goal.returns-in-Goes-clause-left
@@ -39,7 +40,7 @@ pub returns-in-Goes-clause-outs : goal.returns-in-Goes-clause-outs
 returns-in-Goes-clause-outs c =
     let outs = outs_of c.args.outs.now.items in
     let turn = rw c.in-Goes.is at c.in_ok-take_turn-in-None.ensures.turned in
-    sym (append-nil outs) ∙ ap (λ (t : Turned). outs ++ ended t) turn
+    sym (append-nil outs) ∙ ap (λ (t : Turned). outs ++ map (kept_out c.args.paths) (ended t)) turn
 
 pub returns-in-Goes-clause-points : goal.returns-in-Goes-clause-points
 returns-in-Goes-clause-points c =
@@ -55,7 +56,7 @@ pub returns-in-Fails-clause-outs : goal.returns-in-Fails-clause-outs
 returns-in-Fails-clause-outs c =
     let outs = outs_of c.args.outs.now.items in
     let turn = rw c.in-Fails.is at c.in_ok-take_turn-in-None.ensures.turned in
-    sym (append-nil outs) ∙ ap (λ (t : Turned). outs ++ ended t) turn
+    sym (append-nil outs) ∙ ap (λ (t : Turned). outs ++ map (kept_out c.args.paths) (ended t)) turn
 
 pub returns-in-Fails-clause-points : goal.returns-in-Fails-clause-points
 returns-in-Fails-clause-points c =
@@ -71,7 +72,8 @@ pub returns-in_ok-push-in-Ends-clause-outs : goal.returns-in_ok-push-in-Ends-cla
 returns-in_ok-push-in-Ends-clause-outs c =
     let outs = c.args.outs.now.items in
     let turn = rw c.in-Ends.is at c.in_ok-take_turn-in-None.ensures.turned in
-    ap outs_of c.in_ok-push-in-Ends.ensures.items ∙ map-append out_of outs (c.in-Ends.out ∷ []) ∙ ap (λ (t : Turned). outs_of outs ++ ended t) turn
+    ap outs_of c.in_ok-push-in-Ends.ensures.items ∙ map-append out_of outs (c.in_ok-out-in-Ends.out ∷ []) ∙ ap (λ (o : NominalOut). outs_of outs ++ o ∷ []) (c.in_ok-out-in-Ends.ensures ∙ ap (λ p. kept_out c.args.paths (end_out p c.in-Ends.end)) c.as_slice.ensures.value)
+    ∙ ap (λ (t : Turned). outs_of outs ++ map (kept_out c.args.paths) (ended t)) turn
 
 pub returns-in_ok-push-in-Ends-clause-points : goal.returns-in_ok-push-in-Ends-clause-points
 returns-in_ok-push-in-Ends-clause-points c =

@@ -11,13 +11,13 @@ pub advancing-smaller : goal.advancing-smaller
 advancing-smaller c =
     let r = position_of c.take_turn.new.place in
     went_fewer (map (map clause_of) c.args.clauses.now) (locals_of c.args.locals.now) (position_of c.advancing.here) c.in-None.ensures r
-    (sym (ap (λ (t : Turn). turned_of t r) c.in-Goes.is) ∙ c.in_ok-out-in-None.ensures.turned)
+    (sym (ap (λ (t : Turn). turned_of t r) c.in-Goes.is) ∙ c.in_ok-end-in-None.ensures.turned)
 
 pub advancing-preserved : goal.advancing-preserved
 advancing-preserved c =
     let program = map (map clause_of) c.args.clauses.now in let ls = locals_of c.args.locals.now in
     let r = position_of c.take_turn.new.place in
-    let e = sym (ap (λ (t : Turn). turned_of t r) c.in-Goes.is) ∙ c.in_ok-out-in-None.ensures.turned in
+    let e = sym (ap (λ (t : Turn). turned_of t r) c.in-Goes.is) ∙ c.in_ok-end-in-None.ensures.turned in
     record {
       marks = went_marks program ls (position_of c.advancing.here) c.in-None.ensures r e ∙ c.advancing.invariant.marks;
       path = went_path program ls (position_of c.advancing.here) c.in-None.ensures r e ∙ c.advancing.invariant.path;

@@ -31,13 +31,13 @@ returns-in-Some-clause-goes c =
     let u = track_of c.turn_of_goal.new.place in
     subst (λ (t : Track). OnOk c.turn_of_goal.result (GoesFrom t u)) c.pop_goal.ensures.track c.turn_of_goal.ensures.goes
 
-pub returns-in_ok-out-in-None-clause-turned : goal.returns-in_ok-out-in-None-clause-turned
-returns-in_ok-out-in-None-clause-turned c =
+pub returns-in_ok-end-in-None-clause-turned : goal.returns-in_ok-end-in-None-clause-turned
+returns-in_ok-end-in-None-clause-turned c =
     let program = map (map clause_of) c.args.clauses.now in let ls = locals_of c.args.locals.now in
     let p = position_of c.args.place.now in
-    ap ends c.in_ok-out-in-None.ensures
+    ap ends c.in_ok-end-in-None.ensures
     ∙ ap (λ (r : Position). ends (found r.path (answer_by_unbound ls r.state r.brought))) c.in-None.ensures.none.1
     ∙ sym (ap (λ (ws : List Waiting). turned_by program ls ws p) c.in-None.ensures.none.0)
 
-pub returns-in_ok-out-in-None-clause-goes : goal.returns-in_ok-out-in-None-clause-goes
-returns-in_ok-out-in-None-clause-goes c = goes_same (track_of c.args.place.now) (track_of c.pop_goal.new.self) c.pop_goal.ensures.track
+pub returns-in_ok-end-in-None-clause-goes : goal.returns-in_ok-end-in-None-clause-goes
+returns-in_ok-end-in-None-clause-goes c = goes_same (track_of c.args.place.now) (track_of c.pop_goal.new.self) c.pop_goal.ensures.track
