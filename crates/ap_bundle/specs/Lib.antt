@@ -10,4 +10,3 @@ pub mod Readers
 pub mod LineForms
 pub mod TableForms
 pub mod Reading
-pub mod Versioned

@@ -1,5 +1,5 @@
 -- Bundles of version 2 are read as they are written, and their prefixes are unended.
-use Rattle.std.proofs.Common.{◌≡◌, ℕ, ◌+◌, ◌-◌, ◌<◌, ◌^◌, false, nat_lt, List, [], ◌∷◌, ◌++◌, length, Some, Ok, Err, refl, ap, sym, subst, ◌∙◌, append_assoc, arith, rules, flat_map, length-append}
+use Rattle.std.proofs.Common.{◌≡◌, ℕ, ◌+◌, ◌-◌, ◌<◌, ◌≤◌, ◌^◌, false, nat_lt, List, [], ◌∷◌, ◌++◌, length, slice_get, Option, Some, Ok, Err, refl, ap, sym, subst, ◌∙◌, append_assoc, arith, rules, flat_map, length-append}
 use Rattle.std.specs.Prelude.{codes}
 use Rattle.std.proofs.lemmas.Bool.{le-ltb}
 use Rattle.std.proofs.lemmas.List.{append-nil}
@@ -9,18 +9,18 @@ use Rattle.ap_defs.specs.Terms.{NominalTerm}
 use Rattle.ap_bundle.specs.declared.faults.BundleKind.TheVariants.{Header, Term}
 use Rattle.ap_bundle.specs.declared.version.Version.TheVariants.{Two}
 use Rattle.ap_bundle.specs.declared.words.Head.TheVariants as head
+use Rattle.ap_bundle.specs.declared.words.Word.{Word}
 use Rattle.ap_bundle.specs.declared.words.Word.TheVariants as word
-use Rattle.ap_bundle.specs.Forms.{swap_words}
-use Rattle.ap_bundle.specs.LineForms.{after_head}
-use Rattle.ap_bundle.specs.Bundles.{NominalBundle}
-use Rattle.ap_bundle.specs.Tables.{expanded_size, size_of_all, line_of, Has, HasParts, entry_words, terms_of, table_of}
+use Rattle.ap_bundle.specs.Forms.{swap_words, swaps}
+use Rattle.ap_bundle.specs.LineForms.{after_head, first_form}
+use Rattle.ap_bundle.specs.Bundles.{NominalProved, NominalBundle}
+use Rattle.ap_bundle.specs.Tables.{expanded_size, size_of_all, grown, line_of, Has, HasParts, entry_words, terms_of, table_of}
 use Rattle.ap_bundle.specs.TableForms.{numbers, earlier, name_entry, pair_entry, app_entry, abs_entry, susp_entry, entry_form, read_entries, shared_form, read_shared}
-use Rattle.ap_bundle.specs.Readers.{◌>>=◌, unended, read_form}
-use Rattle.ap_bundle.specs.Written.{head_line, counted, entry_line, shared_line, proved_part, shared_part, written_shared}
-use Rattle.ap_bundle.specs.Reading.{read_count, read_rest}
-use Rattle.ap_bundle.specs.Versioned.{version_form, read_shared_rest, read_versioned, room_at_first}
+use Rattle.ap_bundle.specs.Readers.{Place, ◌>>=◌, unended, read_line, read_form}
+use Rattle.ap_bundle.specs.Written.{head_line, counted, listed, entry_line, shared_line, proved_part, shared_part, written_shared}
+use Rattle.ap_bundle.specs.Reading.{read_count, read_rest, read_shared_rest, read_at, room_at_first}
 use Rattle.ap_bundle.proofs.TableLemmas.{has_at, words_more}
-use Rattle.ap_bundle_laws.specs.Laws.{Each, FitsTerm, FitsBundle, HasRoom}
+use Rattle.ap_bundle_laws.specs.Laws.{Each, FitsTerm, FitsBundle, FitsProved, IsListOf, HasRoom}
 use Rattle.ap_bundle_laws.proofs.GoodLemmas.{at, IsGood, good_then, room_for}
 use Rattle.ap_bundle_laws.proofs.WordLemmas.{Fits}
 use Rattle.ap_bundle_laws.proofs.FormLemmas.{small_again, name_again, swaps_again, swap_numbers}
@@ -118,14 +118,14 @@ last_shared b h fits =
     let all = last_then (read_count head.Terms) (λ n p. read_entries n [] p >>= λ us. read_rest (read_shared us.0) us.1) room room (counted head.Terms (length table)) (flat_map (entry_line table) table ++ proved_part (shared_line table) b.proved) (length table) b.proved count behind in
     subst (λ w. IsLast read_shared_rest room w b.proved) (sym (append_assoc (counted head.Terms (length table)) (flat_map (entry_line table) table) (proved_part (shared_line table) b.proved))) all
 
-last_bundle : (b : NominalBundle) → FitsBundle b → HasRoom b → IsLast read_versioned room_at_first (written_shared b) b
-unfolding version_form
+last_bundle : (b : NominalBundle) → FitsBundle b → HasRoom b → IsLast read_at room_at_first (written_shared b) b
+unfolding first_form
 last_bundle b h fits =
-    let version = good_line Header version_form room_at_first (codes "alphaprolog bundle 2") Two (search rules) refl in
+    let version = good_line Header first_form room_at_first (codes "alphaprolog bundle 2") Two (search rules) refl in
     last_at Two room_at_first b (shared_part (table_of b.proved) b.proved) h (last_shared b h fits) version
 
-pub again : (b : NominalBundle) → FitsBundle b → HasRoom b → read_versioned (at (written_shared b) room_at_first) ≡ Ok b
+pub again : (b : NominalBundle) → FitsBundle b → HasRoom b → read_at (at (written_shared b) room_at_first) ≡ Ok b
 again b h fits = let last = last_bundle b h fits in last.whole
 
-pub prefix : (b : NominalBundle) (v u : List ℕ) → FitsBundle b → HasRoom b → written_shared b ≡ v ++ u → 0 < length u → read_versioned (at v room_at_first) ≡ Err unended
+pub prefix : (b : NominalBundle) (v u : List ℕ) → FitsBundle b → HasRoom b → written_shared b ≡ v ++ u → 0 < length u → read_at (at v room_at_first) ≡ Err unended
 prefix b v u h fits e some = let last = last_bundle b h fits in last.part v u e some

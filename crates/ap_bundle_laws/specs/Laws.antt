@@ -1,5 +1,5 @@
 -- What holds of what is written and read.
-use Rattle.std.specs.Prelude.{ℕ, ◌+◌, ◌<◌, ◌≤◌, ◌^◌, ◌≡◌, flat_map, List, ◌++◌, length, count_by, Ok, Err}
+use Rattle.std.specs.Prelude.{ℕ, ◌+◌, ◌<◌, ◌≤◌, ◌^◌, ◌≡◌, flat_map, List, [], ◌∷◌, ◌++◌, length, count_by, Ok, Err}
 pub use Rattle.std.specs.List.{AllByRecursion as Each}
 use Rattle.ap_defs.specs.declared.terms.Name.{Name}
 use Rattle.ap_defs.specs.declared.terms.Var.{Var}
@@ -16,11 +16,8 @@ use Rattle.ap_bundle.specs.declared.faults.BundleKind.TheVariants.{Unended}
 use Rattle.ap_bundle.specs.Bundles.{NominalProved, NominalBundle}
 use Rattle.ap_bundle.specs.Readers.{is_lf}
 use Rattle.ap_bundle.specs.Tables.{size_of_all, terms_of}
-use Rattle.ap_bundle.specs.declared.version.Version.{Version}
-use Rattle.ap_bundle.specs.declared.version.Version.TheVariants.{Two}
-use Rattle.ap_bundle.specs.Written.{written, written_as}
-use Rattle.ap_bundle.specs.Reading.{reading}
-use Rattle.ap_bundle.specs.Versioned.{reading_versioned, room_at_first}
+use Rattle.ap_bundle.specs.Written.{written, written_shared}
+use Rattle.ap_bundle.specs.Reading.{reading, room_at_first}
 
 -- The numbers of a bundle of the program are in the ranges of their types, and so are the lengths of its lists.
 
@@ -88,11 +85,10 @@ PrefixesAreUnended = (b : NominalBundle) (v u : List ℕ) → FitsBundle b → w
 abbrev pub HasRoom : NominalBundle → Type 0
 HasRoom b = size_of_all (flat_map terms_of b.proved) ≤ room_at_first
 
--- what is written in either version is read again, where the terms of version 2 are not too large
-abbrev pub VersionedIsRead : Type 0
-VersionedIsRead = (v : Version) (b : NominalBundle) → FitsBundle b → (v ≡ Two → HasRoom b) → reading_versioned (written_as v b) ≡ Ok b
+-- the same of version 2, where the terms are not too large
+abbrev pub SharedIsRead : Type 0
+SharedIsRead = (b : NominalBundle) → FitsBundle b → HasRoom b → reading (written_shared b) ≡ Ok b
 
--- and each proper prefix of it is unended, at the line at which it ends
-abbrev pub VersionedPrefixesAreUnended : Type 0
-VersionedPrefixesAreUnended = (v : Version) (b : NominalBundle) (w u : List ℕ) → FitsBundle b → (v ≡ Two → HasRoom b) → written_as v b ≡ w ++ u → 0 < length u
-    → reading_versioned w ≡ Err (record { line = 1 + count_by is_lf w; kind = Unended })
+abbrev pub SharedPrefixesAreUnended : Type 0
+SharedPrefixesAreUnended = (b : NominalBundle) (v u : List ℕ) → FitsBundle b → HasRoom b → written_shared b ≡ v ++ u → 0 < length u
+    → reading v ≡ Err (record { line = 1 + count_by is_lf v; kind = Unended })

@@ -1,6 +1,6 @@
 //! Laws of what is written and read.
 
-ghost use Rattle.ap_bundle_laws.specs.Laws.{PrefixesAreUnended, VersionedIsRead, VersionedPrefixesAreUnended, WrittenIsRead};
+ghost use Rattle.ap_bundle_laws.specs.Laws.{WrittenIsRead, PrefixesAreUnended, SharedIsRead, SharedPrefixesAreUnended};
 
 /// What is written of a bundle is read again, and of what is written each proper prefix is refused as
 /// unended, at the line at which it ends.
@@ -9,9 +9,9 @@ pub fn written_is_read()
     ensures prefixes { PrefixesAreUnended }
 {}
 
-/// The same of what is written in either version, and read by what reads both. In version 2 the terms
-/// together, each in full, are no larger than may be read.
-pub fn versioned_is_read()
-    ensures again { VersionedIsRead }
-    ensures prefixes { VersionedPrefixesAreUnended }
+/// The same of what is written in version 2, where the terms together, each in full, are no larger than may
+/// be read.
+pub fn shared_is_read()
+    ensures again { SharedIsRead }
+    ensures prefixes { SharedPrefixesAreUnended }
 {}
