@@ -1,9 +1,12 @@
 pub mod FaultKinds
 pub mod Words
+pub mod Versions
 pub mod Forms
 pub mod Bundles
 pub mod Nodes
+pub mod Tables
 pub mod Written
 pub mod Readers
 pub mod LineForms
+pub mod TableForms
 pub mod Reading

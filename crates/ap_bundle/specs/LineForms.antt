@@ -1,5 +1,5 @@
 -- The forms of lines.
-use Rattle.std.specs.Prelude.{ℕ, ◌^◌, nat_lt, if◌then◌else◌, List, [], ◌∷◌, Option, None, Some, option_map, codes}
+use Rattle.std.specs.Prelude.{ℕ, ◌^◌, nat_lt, if◌then◌else◌, List, [], ◌∷◌, Option, None, Some, option_map}
 use Rattle.std.specs.Str.{bytes_eq}
 use Rattle.ap_defs.specs.declared.terms.Name.{Name}
 use Rattle.ap_defs.specs.declared.terms.Var.{Var}
@@ -12,6 +12,9 @@ use Rattle.ap_bundle.specs.declared.words.Head.{Head}
 use Rattle.ap_bundle.specs.declared.words.Head.TheVariants as head
 use Rattle.ap_bundle.specs.declared.words.Word.{Word}
 use Rattle.ap_bundle.specs.declared.words.Word.TheVariants as words
+use Rattle.ap_bundle.specs.declared.version.Version.{Version}
+use Rattle.ap_bundle.specs.declared.version.Version.TheVariants.{One, Two}
+use Rattle.ap_bundle.specs.Versions.{first_line}
 use Rattle.ap_bundle.specs.Words.{head_text}
 use Rattle.ap_bundle.specs.Forms.{◌>>=◌, form, term_onto, type_onto}
 use Rattle.ap_bundle.specs.Nodes as nodes
@@ -130,6 +133,6 @@ end_form ws = do
   rest ← after_head head.End ws
   at_end [] rest
 
--- the first line
-unfoldable pub first_form : List ℕ → Option (List Word)
-first_form bytes = if bytes_eq bytes (codes "alphaprolog bundle 1") then Some [] else None
+-- the first line, by the version that it tells
+unfoldable pub first_form : List ℕ → Option Version
+first_form bytes = if bytes_eq bytes (first_line One) then Some One else (if bytes_eq bytes (first_line Two) then Some Two else None)

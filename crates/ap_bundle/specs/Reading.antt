@@ -12,6 +12,9 @@ use Rattle.ap_bundle.specs.declared.words.Head.{Head}
 use Rattle.ap_bundle.specs.declared.words.Head.TheVariants as head
 use Rattle.ap_bundle.specs.declared.words.Word.{Word}
 use Rattle.ap_bundle.specs.Readers.{Place, Wrong, Reader, ◌>>=◌, unended, wrong, found, is_lf, read_line, read_form, with_front, repeated, fault_in}
+use Rattle.ap_bundle.specs.declared.version.Version.{Version}
+use Rattle.ap_bundle.specs.declared.version.Version.TheVariants.{One, Two}
+use Rattle.ap_bundle.specs.TableForms.{read_entries, read_shared}
 use Rattle.ap_bundle.specs.LineForms as forms
 use Rattle.ap_bundle.specs.LineForms.{NodeLine}
 use Rattle.ap_bundle.specs.Nodes as nodes
@@ -108,22 +111,38 @@ read_rest term p = do
   end ← read_last all.1
   Ok all.0
 
+-- the table, and what follows it
+unfoldable pub read_shared_rest : Place → Result (List NominalProved) Wrong
+read_shared_rest p = do
+  n ← read_count head.Terms p
+  table ← read_entries n.0 [] n.1
+  read_rest (read_shared table.0) table.1
+
+-- what follows the text in this version
+abbrev pub read_version : Version → Place → Result (List NominalProved) Wrong
+read_version One p = read_rest read_term p
+read_version Two p = read_shared_rest p
+
 unfoldable pub read_at : Place → Result NominalBundle Wrong
 read_at p = do
-  first ← read_line Header forms.first_form p
-  n ← read_count head.Text first.1
+  version ← read_line Header forms.first_form p
+  n ← read_count head.Text version.1
   text ← read_text n.0 n.1
-  proved ← read_rest read_term text.1
+  proved ← read_version version.0 text.1
   Ok (record { text = text.0; proved = proved })
+
+-- how large the shared terms of a bundle may be together, each written in full
+abbrev pub room_at_first : ℕ
+room_at_first = 16777216
 
 -- the beginning of the bytes
 abbrev pub start : List ℕ → Place
-start bytes = record { rest = bytes; room = 0 }
+start bytes = record { rest = bytes; room = room_at_first }
 
 abbrev pub at_line : {A : Type 0} → List ℕ → Result A Wrong → Result A BundleFault
 at_line bytes (Ok x) = Ok x
 at_line bytes (Err w) = Err (fault_in bytes w)
 
--- the bundle of version 1 that the bytes are, or their first fault
+-- the bundle of either version that the bytes are, or their first fault
 abbrev pub reading : List ℕ → Result NominalBundle BundleFault
 reading bytes = at_line bytes (read_at (start bytes))

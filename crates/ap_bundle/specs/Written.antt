@@ -12,10 +12,13 @@ use Rattle.ap_bundle.specs.declared.words.Head.{Head}
 use Rattle.ap_bundle.specs.declared.words.Head.TheVariants as head
 use Rattle.ap_bundle.specs.declared.words.Word.{Word}
 use Rattle.ap_bundle.specs.declared.words.Word.TheVariants as words
+use Rattle.ap_bundle.specs.declared.version.Version.{Version}
+use Rattle.ap_bundle.specs.declared.version.Version.TheVariants.{One, Two}
 use Rattle.ap_bundle.specs.Words.{line}
 use Rattle.ap_bundle.specs.Forms.{name_words, term_words, type_words}
 use Rattle.ap_bundle.specs.Nodes.{Node, atom, equal, fresh, succeed, both, left, right, exists, new, preorder}
 use Rattle.ap_bundle.specs.Bundles.{NominalProved, NominalBundle}
+use Rattle.ap_bundle.specs.Tables.{entry_words, line_of, table_of}
 
 -- a line that begins with this word
 abbrev pub head_line : Head → List Word → List ℕ
@@ -75,3 +78,29 @@ proved_part text ps = listed head.Derivations (proved_lines text) ps ++ head_lin
 -- a bundle of version 1
 abbrev pub written : NominalBundle → List ℕ
 written b = codes "alphaprolog bundle 1\n" ++ (text_lines b.text ++ proved_part term_line b.proved)
+
+-- a line of the table
+abbrev pub entry_line : List NominalTerm → NominalTerm → List ℕ
+entry_line table t = head_line head.T (entry_words table t)
+
+-- the line of a term that stands in the table
+abbrev pub shared_line : List NominalTerm → NominalTerm → List ℕ
+shared_line table t = counted head.R (line_of table t)
+
+-- how a term is written, beside this table
+abbrev pub line_as : Version → List NominalTerm → NominalTerm → List ℕ
+line_as One table t = term_line t
+line_as Two table t = shared_line table t
+
+-- a table, and what follows it
+abbrev pub shared_part : List NominalTerm → List NominalProved → List ℕ
+shared_part table ps = listed head.Terms (entry_line table) table ++ proved_part (shared_line table) ps
+
+-- a bundle of version 2
+abbrev pub written_shared : NominalBundle → List ℕ
+written_shared b = codes "alphaprolog bundle 2\n" ++ (text_lines b.text ++ shared_part (table_of b.proved) b.proved)
+
+-- a bundle of either version
+abbrev pub written_as : Version → NominalBundle → List ℕ
+written_as One b = written b
+written_as Two b = written_shared b

@@ -5,4 +5,5 @@
 #![tactic(auto)]
 
 pub mod faults;
+pub mod version;
 pub mod words;

@@ -13,11 +13,11 @@ use Rattle.ap_bundle.specs.declared.words.Word.TheVariants as word
 use Rattle.ap_bundle.specs.Forms.{term_words, type_words, swap_words, Forms, small, a_name, a_swap, swaps, name_onto, pair_onto, app_onto, abs_onto, susp_onto, term_onto, names_onto, base_onto, pair_type_onto, list_onto, abs_type_onto, type_onto, forms, form}
 use Rattle.ap_bundle_laws.specs.Laws.{Each, FitsName, FitsSwap, FitsTerm, FitsType}
 
-small_again : (n : ℕ) (ns : List ℕ) → n < 2 ^ 32 → small (n ∷ ns) ≡ Some (n, ns)
+pub small_again : (n : ℕ) (ns : List ℕ) → n < 2 ^ 32 → small (n ∷ ns) ≡ Some (n, ns)
 unfolding small
 small_again n ns h = let yes : nat_lt n (2 ^ 32) ≡ true = lt-ltb n (2 ^ 32) h in rw yes refl
 
-name_again : (a : Name) (ns : List ℕ) → FitsName a → a_name (a.sort ∷ a.num ∷ ns) ≡ Some (a, ns)
+pub name_again : (a : Name) (ns : List ℕ) → FitsName a → a_name (a.sort ∷ a.num ∷ ns) ≡ Some (a, ns)
 unfolding a_name
 name_again a ns h = rw (small_again a.sort (a.num ∷ ns) h.0) refl
 
@@ -25,11 +25,11 @@ swap_again : (s : Swap) (ns : List ℕ) → FitsSwap s → a_swap (s.sort ∷ s.
 unfolding a_swap
 swap_again s ns h = rw (small_again s.sort (s.left ∷ s.right ∷ ns) h.0) refl
 
-abbrev swap_numbers : List Swap → List ℕ
+abbrev pub swap_numbers : List Swap → List ℕ
 swap_numbers [] = []
 swap_numbers (s ∷ ss) = s.sort ∷ s.left ∷ s.right ∷ swap_numbers ss
 
-swaps_again : (ss : List Swap) (ns : List ℕ) → Each FitsSwap ss → swaps (length ss) (swap_numbers ss ++ ns) ≡ Some (ss, ns)
+pub swaps_again : (ss : List Swap) (ns : List ℕ) → Each FitsSwap ss → swaps (length ss) (swap_numbers ss ++ ns) ≡ Some (ss, ns)
 swaps_again [] ns h = refl
 swaps_again (s ∷ ss) ns h = rw (swap_again s (swap_numbers ss ++ ns) h.0, swaps_again ss ns h.1) refl
 

@@ -4,4 +4,6 @@ pub mod FormLemmas
 pub mod LineLemmas
 pub mod NodeLemmas
 pub mod BundleLemmas
+pub mod OrderLemmas
+pub mod SharedLemmas
 pub mod Examples

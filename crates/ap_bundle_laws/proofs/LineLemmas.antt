@@ -46,7 +46,7 @@ prefix_lacks (b ∷ bs) (c ∷ v) u h e some =
     (ap (λ (z : ℕ). z == 10) (sym heads) ∙ h.0, prefix_lacks bs v u h.1 tails some)
 
 pub good_line : {A : Type 0} (kind : BundleKind) (form : List ℕ → Option A) (room : ℕ) (bs : List ℕ) (x : A) → lacks 10 bs → form bs ≡ Some x
-    → IsGood (read_line kind form) room (bs ++ 10 ∷ []) x
+    → IsGood (read_line kind form) room room (bs ++ 10 ∷ []) x
 unfolding read_line
 good_line kind form room bs x h e = record {
   whole = λ rest. rw (append_assoc bs (10 ∷ []) rest, cut_off bs rest h, e) refl;
@@ -54,7 +54,7 @@ good_line kind form room bs x h e = record {
 }
 
 pub good_form : {A : Type 0} (kind : BundleKind) (form : List Word → Option A) (room : ℕ) (w : Word) (ws : List Word) (x : A) → Each Fits (w ∷ ws) → form (w ∷ ws) ≡ Some x
-    → IsGood (read_form kind form) room (line (w ∷ ws)) x
+    → IsGood (read_form kind form) room room (line (w ∷ ws)) x
 unfolding read_form line
 good_form kind form room w ws x h e =
     let words = good_line kind line_words room (join_with_byte 32 (map word_text (w ∷ ws))) (w ∷ ws) (joined_lacks_lf w ws h) (line_words_again w ws h) in
@@ -78,19 +78,19 @@ pub name_read : (a : Name) (ws : List Word) → FitsName a → name (name_words 
 unfolding name
 name_read a ws h = rw (small_read a.sort (word.Number a.num ∷ ws) h.0) refl
 
-pub good_count : (h : Head) (room n : ℕ) → n < 2 ^ 64 → after_head h (word.Head h ∷ word.Number n ∷ []) ≡ Some (word.Number n ∷ []) → IsGood (read_count h) room (counted h n) n
+pub good_count : (h : Head) (room n : ℕ) → n < 2 ^ 64 → after_head h (word.Head h ∷ word.Number n ∷ []) ≡ Some (word.Number n ∷ []) → IsGood (read_count h) room room (counted h n) n
 unfolding count_form
 good_count h room n small e = good_form Header (count_form h) room (word.Head h) (word.Number n ∷ []) n (tt, (small, tt)) (rw e refl)
 
-pub good_query : (room n : ℕ) → n < 2 ^ 32 → IsGood (read_form Header query_form) room (counted head.Derivation n) n
+pub good_query : (room n : ℕ) → n < 2 ^ 32 → IsGood (read_form Header query_form) room room (counted head.Derivation n) n
 unfolding query_form after_head
 good_query room n h = good_form Header query_form room (word.Head head.Derivation) (word.Number n ∷ []) n (tt, (omega arith, tt)) (rw (small_read n [] h) refl)
 
-pub good_name : (room : ℕ) (a : Name) → FitsName a → IsGood read_name room (name_line a) a
+pub good_name : (room : ℕ) (a : Name) → FitsName a → IsGood read_name room room (name_line a) a
 unfolding name_form after_head
 good_name room a h = good_form Term name_form room (word.Head head.M) (name_words a) a (tt, name_fits a h) (rw (name_read a [] h) refl)
 
-pub good_cond : (room : ℕ) (c : Cond) → FitsCond c → IsGood (read_form Term cond_form) room (cond_line c) c
+pub good_cond : (room : ℕ) (c : Cond) → FitsCond c → IsGood (read_form Term cond_form) room room (cond_line c) c
 unfolding cond_form after_head
 good_cond room c h =
     good_form Term cond_form room (word.Head head.C) (name_words c.name ++ word.Number c.var.num ∷ []) c (tt, each_append (name_words c.name) (word.Number c.var.num ∷ []) (name_fits c.name h.0) (h.1, tt))
@@ -116,15 +116,15 @@ term_fits (terms.app f t) h = (tt, (omega (arith, h.0), term_fits t h.1))
 term_fits (terms.abs a t) h = (tt, each_append (name_words a) (term_words t) (name_fits a h.0) (term_fits t h.1))
 term_fits (terms.susp ss x) h = (tt, (h.0.0, each_append (flat_map swap_words ss) (word.Number x.num ∷ []) (swaps_fit ss h.0.1) (h.1, tt)))
 
-pub good_var : (room : ℕ) (v : Var × NominalType) → FitsVar v → IsGood (read_form Term var_form) room (var_line v) v
+pub good_var : (room : ℕ) (v : Var × NominalType) → FitsVar v → IsGood (read_form Term var_form) room room (var_line v) v
 unfolding var_form after_head
 good_var room v h =
     good_form Term var_form room (word.Head head.V) (word.Number v.0.num ∷ type_words v.1) v (tt, (h.0, type_fits v.1 h.1)) (rw (type_again v.1 h.1) refl)
 
-pub good_term : (room : ℕ) (t : NominalTerm) → FitsTerm t → IsGood read_term room (term_line t) t
+pub good_term : (room : ℕ) (t : NominalTerm) → FitsTerm t → IsGood read_term room room (term_line t) t
 unfolding term_form after_head
 good_term room t h = good_form Term term_form room (word.Head head.T) (term_words t) t (tt, term_fits t h) (rw (term_again t h) refl)
 
-pub good_end : (room : ℕ) → IsGood (read_form Header end_form) room (head_line head.End []) []
+pub good_end : (room : ℕ) → IsGood (read_form Header end_form) room room (head_line head.End []) []
 unfolding end_form after_head
 good_end room = good_form Header end_form room (word.Head head.End) [] [] (tt, tt) refl

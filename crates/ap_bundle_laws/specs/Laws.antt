@@ -1,5 +1,6 @@
 -- What holds of what is written and read.
-use Rattle.std.specs.Prelude.{ℕ, ◌+◌, ◌<◌, ◌^◌, ◌≡◌, List, [], ◌∷◌, ◌++◌, length, count_by, Ok, Err}
+use Rattle.std.specs.Prelude.{ℕ, ◌+◌, ◌<◌, ◌≤◌, ◌^◌, ◌≡◌, flat_map, List, [], ◌∷◌, ◌++◌, length, count_by, Ok, Err}
+pub use Rattle.std.specs.List.{AllByRecursion as Each}
 use Rattle.ap_defs.specs.declared.terms.Name.{Name}
 use Rattle.ap_defs.specs.declared.terms.Var.{Var}
 use Rattle.ap_defs.specs.declared.terms.Swap.{Swap}
@@ -14,14 +15,11 @@ use Rattle.ap_defs.specs.Derivations.{NominalDerivation}
 use Rattle.ap_bundle.specs.declared.faults.BundleKind.TheVariants.{Unended}
 use Rattle.ap_bundle.specs.Bundles.{NominalProved, NominalBundle}
 use Rattle.ap_bundle.specs.Readers.{is_lf}
-use Rattle.ap_bundle.specs.Written.{written}
-use Rattle.ap_bundle.specs.Reading.{reading}
+use Rattle.ap_bundle.specs.Tables.{size_of_all, terms_of}
+use Rattle.ap_bundle.specs.Written.{written, written_shared}
+use Rattle.ap_bundle.specs.Reading.{reading, room_at_first}
 
 -- The numbers of a bundle of the program are in the ranges of their types, and so are the lengths of its lists.
-
-abbrev pub Each : {A : Type 0} → (A → Type 0) → List A → Type 0
-Each P [] = Unit {0}
-Each P (x ∷ xs) = P x × Each P xs
 
 abbrev pub IsListOf : {A : Type 0} → (A → Type 0) → List A → Type 0
 IsListOf P xs = (length xs < 2 ^ 64) × Each P xs
@@ -81,4 +79,16 @@ WrittenIsRead = (b : NominalBundle) → FitsBundle b → reading (written b) ≡
 -- each proper prefix of what is written is unended, at the line at which it ends
 abbrev pub PrefixesAreUnended : Type 0
 PrefixesAreUnended = (b : NominalBundle) (v u : List ℕ) → FitsBundle b → written b ≡ v ++ u → 0 < length u
+    → reading v ≡ Err (record { line = 1 + count_by is_lf v; kind = Unended })
+
+-- the terms of the bundle, each in full, are as large together as may be read
+abbrev pub HasRoom : NominalBundle → Type 0
+HasRoom b = size_of_all (flat_map terms_of b.proved) ≤ room_at_first
+
+-- the same of version 2, where the terms are not too large
+abbrev pub SharedIsRead : Type 0
+SharedIsRead = (b : NominalBundle) → FitsBundle b → HasRoom b → reading (written_shared b) ≡ Ok b
+
+abbrev pub SharedPrefixesAreUnended : Type 0
+SharedPrefixesAreUnended = (b : NominalBundle) (v u : List ℕ) → FitsBundle b → HasRoom b → written_shared b ≡ v ++ u → 0 < length u
     → reading v ≡ Err (record { line = 1 + count_by is_lf v; kind = Unended })

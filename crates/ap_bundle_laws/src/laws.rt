@@ -1,10 +1,17 @@
 //! Laws of what is written and read.
 
-ghost use Rattle.ap_bundle_laws.specs.Laws.{WrittenIsRead, PrefixesAreUnended};
+ghost use Rattle.ap_bundle_laws.specs.Laws.{WrittenIsRead, PrefixesAreUnended, SharedIsRead, SharedPrefixesAreUnended};
 
 /// What is written of a bundle is read again, and of what is written each proper prefix is refused as
 /// unended, at the line at which it ends.
 pub fn written_is_read()
     ensures again { WrittenIsRead }
     ensures prefixes { PrefixesAreUnended }
+{}
+
+/// The same of what is written in version 2, where the terms together, each in full, are no larger than may
+/// be read.
+pub fn shared_is_read()
+    ensures again { SharedIsRead }
+    ensures prefixes { SharedPrefixesAreUnended }
 {}

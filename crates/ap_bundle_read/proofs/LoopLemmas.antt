@@ -1,5 +1,5 @@
 -- Steps of the loops that read.
-use Rattle.std.proofs.Common.{◌≡◌, ℕ, zero, suc, ◌+◌, List, [], ◌∷◌, ◌++◌, Option, None, Some, Ok, Err, refl, ap, sym, append_assoc, drop}
+use Rattle.std.proofs.Common.{◌≡◌, ℕ, zero, suc, ◌+◌, List, [], ◌∷◌, ◌++◌, Option, None, Some, Ok, Err, refl, ap, sym, append_assoc, drop, drop-cons, get_or, length, ◌<◌}
 use Rattle.std.proofs.lemmas.List.{append-nil}
 use Rattle.std.specs.Option.{option_map}
 use Rattle.ap_defs.specs.declared.terms.Swap.{Swap}
@@ -8,7 +8,10 @@ use Rattle.ap_bundle.specs.declared.words.Word.{Word}
 use Rattle.ap_bundle.specs.Words.{word_of, words_of}
 use Rattle.ap_bundle.specs.Forms.{a_swap, swaps, with_swaps, Onto, forms}
 use Rattle.ap_bundle.specs.Nodes.{Node, children}
-use Rattle.ap_bundle.specs.Readers.{Place, Wrong, Reader, with_front, unended}
+use Rattle.ap_bundle.specs.declared.faults.BundleKind.TheVariants.{Term}
+use Rattle.ap_bundle.specs.declared.words.Word.TheVariants as words
+use Rattle.ap_bundle.specs.TableForms.{numbers, entry_form, read_entries}
+use Rattle.ap_bundle.specs.Readers.{Place, Wrong, Reader, with_front, unended, read_form}
 use Rattle.ap_bundle.specs.Reading.{read_node, read_nodes}
 use Rattle.ap_bundle_read.proofs.RepeatLemmas.{with_front-append}
 
@@ -70,3 +73,28 @@ nodes_short term k front p = refl
 
 pub nodes_unended : (term : Reader NominalTerm) (bound wanted k : ℕ) (front : List (Node NominalTerm)) (p : Place) → bound ≡ 0 → wanted ≡ suc k → with_front front (read_nodes term bound wanted p) ≡ Err unended
 nodes_unended term bound wanted k front p e d = rw (e, d) (nodes_short term k front p)
+
+-- a line of the table
+pub entries_on : (n k : ℕ) (table : List NominalTerm) (p q : Place) (t : NominalTerm) → n ≡ suc k → read_form Term (entry_form table) p ≡ Ok (t, q) → read_entries k (table ++ t ∷ []) q ≡ read_entries n table p
+unfolding read_entries
+entries_on n k table p q t e got = rw (e, read_entries, got) refl
+
+pub entries_fail : (n k : ℕ) (table : List NominalTerm) (p : Place) (w : Wrong) → n ≡ suc k → read_form Term (entry_form table) p ≡ Err w → read_entries n table p ≡ Err w
+unfolding read_entries
+entries_fail n k table p w e got = rw (e, read_entries, got) refl
+
+pub entries_end : (n : ℕ) (table : List NominalTerm) (p : Place) → n ≡ 0 → read_entries n table p ≡ Ok (table, p)
+unfolding read_entries
+entries_end n table p e = rw e refl
+
+-- where words at the end are no numbers, all of them are none
+pub numbers_none : (i : ℕ) (ws : List Word) → numbers (drop i ws) ≡ None → numbers ws ≡ None
+numbers_none zero ws h = h
+numbers_none (suc i) [] h = h
+numbers_none (suc i) (words.Number n ∷ ws) h = rw (numbers_none i ws h) refl
+numbers_none (suc i) (words.Letter l ∷ ws) h = refl
+numbers_none (suc i) (words.Node k ∷ ws) h = refl
+numbers_none (suc i) (words.Head h' ∷ ws) h = refl
+
+pub numbers_stop : (i : ℕ) (ws : List Word) (d w : Word) → i < length ws → get_or ws i d ≡ w → numbers (w ∷ drop (suc i) ws) ≡ None → numbers ws ≡ None
+numbers_stop i ws d w h e none = numbers_none i ws (rw (drop-cons ws i d, e) none)

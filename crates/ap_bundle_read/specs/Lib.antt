@@ -1,3 +1,4 @@
 pub mod Outcomes
 pub mod Stacks
 pub mod Nodes
+pub mod Tables

@@ -7,11 +7,13 @@ ghost use Rattle.ap_bundle.specs.LineForms as lines;
 ghost use Rattle.ap_bundle.specs.Readers.{read_form, repeated};
 ghost use Rattle.ap_bundle.specs.Reading as spec;
 ghost use Rattle.ap_bundle_read.specs.Outcomes.{Gives, place_of};
+ghost use Rattle.ap_bundle_read.specs.Tables.{AreReady, reader_of};
 
 use crate::error::ReadError;
 use crate::line_forms::{cond_form, count_form, query_form, var_form};
 use crate::nodes::{read_derivation, read_terms};
 use crate::place::{Place, words_at, wrong};
+use crate::table::Terms;
 use ap_bundle::faults::BundleKind;
 use ap_bundle::words::Head;
 use ap_defs::lists::List;
@@ -112,21 +114,31 @@ fn read_conds<'a>(alloc: Global, place: Place<'a>) -> Result<(Vec<Cond>, Place<'
 }
 
 #[tactic(auto, unfolding(ap_bundle::specs::Reading::read_listed))]
-fn read_binds<'a>(alloc: Global, place: Place<'a>) -> Result<(Vec<Term>, Place<'a>), ReadError>
-    ensures { Gives (λ r. (map term_of r.0.items, place_of r.1)) result (spec.read_listed Head.Binds spec.read_term (place_of place.entry)) }
+fn read_binds<'a>(
+    alloc: Global,
+    terms: &Terms,
+    place: Place<'a>,
+) -> Result<(Vec<Term>, Place<'a>), ReadError>
+    requires { AreReady terms.now }
+    ensures { Gives (λ r. (map term_of r.0.items, place_of r.1)) result (spec.read_listed Head.Binds (reader_of terms.now) (place_of place.entry)) }
 {
     let (count, rest) = read_count(alloc, Head::Binds, place)?;
-    read_terms(alloc, count, rest)
+    read_terms(alloc, terms, count, rest)
 }
 
 /// An answer: its variables, its conditions and its bindings.
 #[tactic(auto, unfolding(ap_bundle::specs::Reading::read_answer))]
-fn read_answer<'a>(alloc: Global, place: Place<'a>) -> Result<(Answer, Place<'a>), ReadError>
-    ensures { Gives (λ r. (answer_of r.0, place_of r.1)) result (spec.read_answer spec.read_term (place_of place.entry)) }
+fn read_answer<'a>(
+    alloc: Global,
+    terms: &Terms,
+    place: Place<'a>,
+) -> Result<(Answer, Place<'a>), ReadError>
+    requires { AreReady terms.now }
+    ensures { Gives (λ r. (answer_of r.0, place_of r.1)) result (spec.read_answer (reader_of terms.now) (place_of place.entry)) }
 {
     let (vars, rest) = read_vars(alloc, place)?;
     let (conds, rest) = read_conds(alloc, rest)?;
-    let (binds, rest) = read_binds(alloc, rest)?;
+    let (binds, rest) = read_binds(alloc, terms, rest)?;
     Ok((
         Answer {
             binds: List::of(binds),
@@ -151,12 +163,17 @@ fn read_query<'a>(alloc: Global, place: Place<'a>) -> Result<(u32, Place<'a>), R
 
 /// An answer with its derivation.
 #[tactic(auto, unfolding(ap_bundle::specs::Reading::read_proved))]
-fn read_proved<'a>(alloc: Global, place: Place<'a>) -> Result<(Proved, Place<'a>), ReadError>
-    ensures { Gives (λ r. (proved_of r.0, place_of r.1)) result (spec.read_proved spec.read_term (place_of place.entry)) }
+fn read_proved<'a>(
+    alloc: Global,
+    terms: &Terms,
+    place: Place<'a>,
+) -> Result<(Proved, Place<'a>), ReadError>
+    requires { AreReady terms.now }
+    ensures { Gives (λ r. (proved_of r.0, place_of r.1)) result (spec.read_proved (reader_of terms.now) (place_of place.entry)) }
 {
     let (query, rest) = read_query(alloc, place)?;
-    let (answer, rest) = read_answer(alloc, rest)?;
-    let (derivation, rest) = read_derivation(alloc, rest)?;
+    let (answer, rest) = read_answer(alloc, terms, rest)?;
+    let (derivation, rest) = read_derivation(alloc, terms, rest)?;
     Ok((
         Proved {
             query,
@@ -170,15 +187,17 @@ fn read_proved<'a>(alloc: Global, place: Place<'a>) -> Result<(Proved, Place<'a>
 /// So many answers with their derivations.
 fn read_each_proved<'a>(
     alloc: Global,
+    terms: &Terms,
     count: u64,
     place: Place<'a>,
 ) -> Result<(Vec<Proved>, Place<'a>), ReadError>
-    ensures { Gives (λ r. (map proved_of r.0.items, place_of r.1)) result (repeated (spec.read_proved spec.read_term) count (place_of place.entry)) }
+    requires { AreReady terms.now }
+    ensures { Gives (λ r. (map proved_of r.0.items, place_of r.1)) result (repeated (spec.read_proved (reader_of terms.now)) count (place_of place.entry)) }
 {
     let mut all = Vec::new(alloc);
     let mut place = place;
     for _ in 0..count {
-        let (proved, rest) = read_proved(alloc, place)?;
+        let (proved, rest) = read_proved(alloc, terms, place)?;
         all.push(proved)?;
         place = rest;
     }
@@ -189,10 +208,12 @@ fn read_each_proved<'a>(
 #[tactic(auto, unfolding(ap_bundle::specs::Reading::read_listed))]
 pub(crate) fn read_all<'a>(
     alloc: Global,
+    terms: &Terms,
     place: Place<'a>,
 ) -> Result<(Vec<Proved>, Place<'a>), ReadError>
-    ensures { Gives (λ r. (map proved_of r.0.items, place_of r.1)) result (spec.read_listed Head.Derivations (spec.read_proved spec.read_term) (place_of place.entry)) }
+    requires { AreReady terms.now }
+    ensures { Gives (λ r. (map proved_of r.0.items, place_of r.1)) result (spec.read_listed Head.Derivations (spec.read_proved (reader_of terms.now)) (place_of place.entry)) }
 {
     let (count, rest) = read_count(alloc, Head::Derivations, place)?;
-    read_each_proved(alloc, count, rest)
+    read_each_proved(alloc, terms, count, rest)
 }

@@ -8,6 +8,7 @@ mod nodes;
 mod numbers;
 mod place;
 mod read;
+mod table;
 mod terms;
 mod types;
 mod words;

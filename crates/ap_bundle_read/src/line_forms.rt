@@ -9,6 +9,7 @@ ghost use Rattle.ap_bundle_read.specs.Nodes.{node_line_of};
 use crate::nodes::{Node, NodeLine};
 use crate::terms::term_from;
 use crate::types::type_from;
+use ap_bundle::version::Version;
 use ap_bundle::words::{Head, NodeWord, Word};
 use ap_defs::memory::Memory;
 use ap_defs::terms::{Cond, Name, Term, Ty, Var};
@@ -16,7 +17,7 @@ use std::alloc::Global;
 
 /// The words behind this one, if it comes first.
 #[tactic(auto, unfolding(ap_bundle::specs::LineForms::after_head))]
-fn after_head(head: Head, words: &[Word]) -> Option<&[Word]>
+pub(crate) fn after_head(head: Head, words: &[Word]) -> Option<&[Word]>
     ensures { option_map (λ r. r.now) result ≡ spec.after_head head words.now }
 {
     match words {
@@ -212,10 +213,16 @@ pub(crate) fn is_end(words: &[Word]) -> bool
     false
 }
 
-/// Whether this is the first line.
+/// The version that the first line tells.
 #[tactic(auto, unfolding(ap_bundle::specs::LineForms::first_form))]
-pub(crate) fn is_first(line: &[u8]) -> bool
-    ensures { (if result then Some [] else None) ≡ spec.first_form line.now }
+pub(crate) fn first_form(line: &[u8]) -> Option<Version>
+    ensures { result ≡ spec.first_form line.now }
 {
-    line == b"alphaprolog bundle 1".as_slice()
+    if line == Version::One.first_line().as_bytes() {
+        Some(Version::One)
+    } else if line == Version::Two.first_line().as_bytes() {
+        Some(Version::Two)
+    } else {
+        None
+    }
 }

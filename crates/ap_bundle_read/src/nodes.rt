@@ -13,10 +13,12 @@ ghost use Rattle.ap_bundle.specs.Reading as spec;
 ghost use Rattle.ap_bundle_read.specs.Nodes.{node_of, node_line_of};
 ghost use Rattle.ap_bundle_read.specs.Outcomes.{Gives, place_of};
 ghost use Rattle.ap_bundle_read.specs.Stacks.{stacked};
+ghost use Rattle.ap_bundle_read.specs.Tables.{AreReady, reader_of};
 
 use crate::error::ReadError;
-use crate::line_forms::{name_form, node_form, term_form};
+use crate::line_forms::{name_form, node_form};
 use crate::place::{Place, words_at, wrong};
+use crate::table::{Terms, read_term};
 use ap_bundle::faults::BundleKind;
 use ap_defs::lists::List;
 use ap_defs::memory::Memory;
@@ -77,30 +79,20 @@ fn read_names<'a>(
     Ok((names, place))
 }
 
-/// The term at the place.
-#[tactic(auto, unfolding(ap_bundle::specs::Readers::read_form))]
-fn read_term<'a>(alloc: Global, place: Place<'a>) -> Result<(Term, Place<'a>), ReadError>
-    ensures { Gives (λ r. (term_of r.0, place_of r.1)) result (spec.read_term (place_of place.entry)) }
-{
-    let (words, rest) = words_at(alloc, BundleKind::Term, place)?;
-    let Some(term) = term_form(alloc, &words)? else {
-        return Err(wrong(BundleKind::Term, place));
-    };
-    Ok((term, rest))
-}
-
 /// So many terms.
 pub(crate) fn read_terms<'a>(
     alloc: Global,
+    terms: &Terms,
     count: u64,
     place: Place<'a>,
 ) -> Result<(Vec<Term>, Place<'a>), ReadError>
-    ensures { Gives (λ r. (map term_of r.0.items, place_of r.1)) result (repeated spec.read_term count (place_of place.entry)) }
+    requires { AreReady terms.now }
+    ensures { Gives (λ r. (map term_of r.0.items, place_of r.1)) result (repeated (reader_of terms.now) count (place_of place.entry)) }
 {
     let mut all = Vec::new(alloc);
     let mut place = place;
     for _ in 0..count {
-        let (term, rest) = read_term(alloc, place)?;
+        let (term, rest) = read_term(alloc, terms, place)?;
         all.push(term)?;
         place = rest;
     }
@@ -111,38 +103,47 @@ pub(crate) fn read_terms<'a>(
 #[tactic(auto, unfolding(ap_bundle::specs::Reading::read_atom))]
 fn read_atom<'a>(
     alloc: Global,
+    terms: &Terms,
     clause: u32,
     name_count: u64,
     term_count: u64,
     place: Place<'a>,
 ) -> Result<(Node, Place<'a>), ReadError>
-    ensures { Gives (λ r. (node_of r.0, place_of r.1)) result (spec.read_atom spec.read_term clause name_count term_count (place_of place.entry)) }
+    requires { AreReady terms.now }
+    ensures { Gives (λ r. (node_of r.0, place_of r.1)) result (spec.read_atom (reader_of terms.now) clause name_count term_count (place_of place.entry)) }
 {
     let (names, rest) = read_names(alloc, name_count, place)?;
-    let (all, rest) = read_terms(alloc, term_count, rest)?;
+    let (all, rest) = read_terms(alloc, terms, term_count, rest)?;
     Ok((Node::Atom(clause, names, all), rest))
 }
 
 /// The term of an `exists`.
 #[tactic(auto, unfolding(ap_bundle::specs::Reading::read_exists))]
-fn read_exists<'a>(alloc: Global, place: Place<'a>) -> Result<(Node, Place<'a>), ReadError>
-    ensures { Gives (λ r. (node_of r.0, place_of r.1)) result (spec.read_exists spec.read_term (place_of place.entry)) }
+fn read_exists<'a>(
+    alloc: Global,
+    terms: &Terms,
+    place: Place<'a>,
+) -> Result<(Node, Place<'a>), ReadError>
+    requires { AreReady terms.now }
+    ensures { Gives (λ r. (node_of r.0, place_of r.1)) result (spec.read_exists (reader_of terms.now) (place_of place.entry)) }
 {
-    let (term, rest) = read_term(alloc, place)?;
+    let (term, rest) = read_term(alloc, terms, place)?;
     Ok((Node::Exists(term), rest))
 }
 
 /// What follows the line of a node.
 fn read_behind<'a>(
     alloc: Global,
+    terms: &Terms,
     line: NodeLine,
     place: Place<'a>,
 ) -> Result<(Node, Place<'a>), ReadError>
-    ensures { Gives (λ r. (node_of r.0, place_of r.1)) result (spec.read_behind spec.read_term (node_line_of line) (place_of place.entry)) }
+    requires { AreReady terms.now }
+    ensures { Gives (λ r. (node_of r.0, place_of r.1)) result (spec.read_behind (reader_of terms.now) (node_line_of line) (place_of place.entry)) }
 {
     match line {
-        NodeLine::Atom(clause, names, all) => read_atom(alloc, clause, names, all, place),
-        NodeLine::Exists => read_exists(alloc, place),
+        NodeLine::Atom(clause, names, all) => read_atom(alloc, terms, clause, names, all, place),
+        NodeLine::Exists => read_exists(alloc, terms, place),
         NodeLine::Whole(node) => Ok((node, place)),
     }
 }
@@ -161,11 +162,16 @@ fn read_node_line<'a>(alloc: Global, place: Place<'a>) -> Result<(NodeLine, Plac
 
 /// The node at the place.
 #[tactic(auto, unfolding(ap_bundle::specs::Reading::read_node))]
-fn read_node<'a>(alloc: Global, place: Place<'a>) -> Result<(Node, Place<'a>), ReadError>
-    ensures { Gives (λ r. (node_of r.0, place_of r.1)) result (spec.read_node spec.read_term (place_of place.entry)) }
+fn read_node<'a>(
+    alloc: Global,
+    terms: &Terms,
+    place: Place<'a>,
+) -> Result<(Node, Place<'a>), ReadError>
+    requires { AreReady terms.now }
+    ensures { Gives (λ r. (node_of r.0, place_of r.1)) result (spec.read_node (reader_of terms.now) (place_of place.entry)) }
 {
     let (line, rest) = read_node_line(alloc, place)?;
-    read_behind(alloc, line, rest)
+    read_behind(alloc, terms, line, rest)
 }
 
 /// How many children a node has.
@@ -181,8 +187,13 @@ fn children(node: &Node) -> u64
 }
 
 /// Nodes in preorder, until no derivation is wanted any more. Each takes a byte at least.
-fn read_nodes<'a>(alloc: Global, place: Place<'a>) -> Result<(Vec<Node>, Place<'a>), ReadError>
-    ensures { Gives (λ r. (map node_of r.0.items, place_of r.1)) result (spec.read_nodes spec.read_term (length place.entry.rest.now) 1 (place_of place.entry)) }
+fn read_nodes<'a>(
+    alloc: Global,
+    terms: &Terms,
+    place: Place<'a>,
+) -> Result<(Vec<Node>, Place<'a>), ReadError>
+    requires { AreReady terms.now }
+    ensures { Gives (λ r. (map node_of r.0.items, place_of r.1)) result (spec.read_nodes (reader_of terms.now) (length place.entry.rest.now) 1 (place_of place.entry)) }
 {
     let mut all = Vec::new(alloc);
     let mut wanted = 1;
@@ -192,7 +203,7 @@ fn read_nodes<'a>(alloc: Global, place: Place<'a>) -> Result<(Vec<Node>, Place<'
         if wanted == 0 {
             return Ok((all, place));
         }
-        let (node, rest) = read_node(alloc, place)?;
+        let (node, rest) = read_node(alloc, terms, place)?;
         wanted = wanted - 1 + children(&node);
         all.push(node)?;
         place = rest;
@@ -356,11 +367,13 @@ fn derivation_from(alloc: Global, nodes: Vec<Node>) -> Result<Option<Derivation>
 #[tactic(auto, unfolding(ap_bundle::specs::Reading::read_derivation))]
 pub(crate) fn read_derivation<'a>(
     alloc: Global,
+    terms: &Terms,
     place: Place<'a>,
 ) -> Result<(Derivation, Place<'a>), ReadError>
-    ensures { Gives (λ r. (derivation_of r.0, place_of r.1)) result (spec.read_derivation spec.read_term (place_of place.entry)) }
+    requires { AreReady terms.now }
+    ensures { Gives (λ r. (derivation_of r.0, place_of r.1)) result (spec.read_derivation (reader_of terms.now) (place_of place.entry)) }
 {
-    let (nodes, rest) = read_nodes(alloc, place)?;
+    let (nodes, rest) = read_nodes(alloc, terms, place)?;
     let Some(derivation) = derivation_from(alloc, nodes)? else {
         return Err(wrong(BundleKind::Node, place));
     };

@@ -5,32 +5,41 @@ ghost use Rattle.ap_bundle.specs.LineForms as lines;
 ghost use Rattle.ap_bundle.specs.Readers as readers;
 ghost use Rattle.ap_bundle.specs.Reading as spec;
 ghost use Rattle.ap_bundle_read.specs.Outcomes.{Answers, Gives, place_of};
+ghost use Rattle.ap_bundle_read.specs.Tables.{AreReady, reader_of};
 
 use crate::answers::{read_all, read_count};
 use crate::error::{BundleError, ReadError};
-use crate::line_forms::{is_end, is_first};
+use crate::line_forms::{first_form, is_end};
 use crate::place::{Place, first_line, words_at, wrong};
+use crate::table::{Terms, read_entries};
 use ap_bundle::faults::{BundleFault, BundleKind};
+use ap_bundle::version::Version;
 use ap_bundle::words::Head;
 use ap_defs::lists::List;
 use ap_defs::outcomes::{Bundle, Proved};
 use std::alloc::Global;
 
-/// The place behind the first line.
+/// How large the shared terms of a bundle may be together, each in full.
+const ROOM: u64 = 16_777_216;
+
+/// The version that the first line tells, and the place behind it.
 #[tactic(auto, unfolding(ap_bundle::specs::Readers::read_line))]
-fn read_first(place: Place<'_>) -> Result<Place<'_>, ReadError>
-    ensures { Gives (λ r. ([], place_of r)) result (readers.read_line BundleKind.Header lines.first_form (place_of place.entry)) }
+fn read_first(place: Place<'_>) -> Result<(Version, Place<'_>), ReadError>
+    ensures { Gives (λ r. (r.0, place_of r.1)) result (readers.read_line BundleKind.Header lines.first_form (place_of place.entry)) }
 {
     let Some((line, rest)) = first_line(place.rest) else {
         return Err(ReadError::Wrong(BundleKind::Unended, 0));
     };
-    if !is_first(line) {
+    let Some(version) = first_form(line) else {
         return Err(wrong(BundleKind::Header, place));
-    }
-    Ok(Place {
-        rest,
-        room: place.room,
-    })
+    };
+    Ok((
+        version,
+        Place {
+            rest,
+            room: place.room,
+        },
+    ))
 }
 
 /// A text of this length, and the place behind its LF.
@@ -75,14 +84,35 @@ fn read_last(alloc: Global, place: Place<'_>) -> Result<(), ReadError>
     Ok(())
 }
 
-/// What follows the text.
+/// What follows the text, and the table if there is one.
 #[tactic(auto, unfolding(ap_bundle::specs::Reading::read_rest))]
-fn read_rest(alloc: Global, place: Place<'_>) -> Result<Vec<Proved>, ReadError>
-    ensures { Gives (λ v. map proved_of v.items) result (spec.read_rest spec.read_term (place_of place.entry)) }
+fn read_rest(alloc: Global, terms: &Terms, place: Place<'_>) -> Result<Vec<Proved>, ReadError>
+    requires { AreReady terms.now }
+    ensures { Gives (λ v. map proved_of v.items) result (spec.read_rest (reader_of terms.now) (place_of place.entry)) }
 {
-    let (all, rest) = read_all(alloc, place)?;
+    let (all, rest) = read_all(alloc, terms, place)?;
     read_last(alloc, rest)?;
     Ok(all)
+}
+
+/// The table, and what follows it.
+#[tactic(auto, unfolding(ap_bundle::specs::Reading::read_shared_rest))]
+fn read_shared_rest(alloc: Global, place: Place<'_>) -> Result<Vec<Proved>, ReadError>
+    ensures { Gives (λ v. map proved_of v.items) result (spec.read_shared_rest (place_of place.entry)) }
+{
+    let (count, rest) = read_count(alloc, Head::Terms, place)?;
+    let (table, rest) = read_entries(alloc, count, rest)?;
+    read_rest(alloc, &Terms::Shared(table), rest)
+}
+
+/// What follows the text in this version.
+fn read_version(alloc: Global, version: Version, place: Place<'_>) -> Result<Vec<Proved>, ReadError>
+    ensures { Gives (λ v. map proved_of v.items) result (spec.read_version version (place_of place.entry)) }
+{
+    match version {
+        Version::One => read_rest(alloc, &Terms::InFull, place),
+        Version::Two => read_shared_rest(alloc, place),
+    }
 }
 
 /// The bundle that begins at a place.
@@ -90,10 +120,10 @@ fn read_rest(alloc: Global, place: Place<'_>) -> Result<Vec<Proved>, ReadError>
 fn read_at(alloc: Global, place: Place<'_>) -> Result<Bundle, ReadError>
     ensures { Gives bundle_of result (spec.read_at (place_of place.entry)) }
 {
-    let place = read_first(place)?;
+    let (version, place) = read_first(place)?;
     let (length, place) = read_count(alloc, Head::Text, place)?;
     let (text, place) = read_text(alloc, length, place)?;
-    let proved = read_rest(alloc, place)?;
+    let proved = read_version(alloc, version, place)?;
     Ok(Bundle {
         text: List::of(text),
         proved: List::of(proved),
@@ -119,7 +149,7 @@ fn fault_in(bytes: &[u8], kind: BundleKind, left: usize) -> BundleFault
     }
 }
 
-/// The bundle that the bytes are, with each term written in full.
+/// The bundle of either version that the bytes are.
 ///
 /// The lines and the text are read in order, and `Fault` tells the first of them that is wrong. `Memory` is
 /// want of memory.
@@ -128,7 +158,7 @@ pub fn read_bundle(alloc: Global, bytes: &[u8]) -> Result<Bundle, BundleError>
 {
     let start = Place {
         rest: bytes,
-        room: 0,
+        room: ROOM,
     };
     match read_at(alloc, start) {
         Ok(bundle) => Ok(bundle),

@@ -13,7 +13,7 @@ use ap_defs::terms::{Term, Var};
 use std::alloc::Global;
 
 /// The first term, taken off.
-fn first_term(terms: &mut Vec<Term>) -> Option<Term>
+pub(crate) fn first_term(terms: &mut Vec<Term>) -> Option<Term>
     ensures { option_map (λ t. (term_of t, stacked term_of terms.new.items)) result ≡ spec.first (stacked term_of terms.old.items) }
 {
     terms.pop()

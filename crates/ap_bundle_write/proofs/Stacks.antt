@@ -1,7 +1,8 @@
 -- What is left to write: the parts on a stack, of which the last is written first. And steps of loops that write.
-use Rattle.std.proofs.Common.{◌≡◌, ℕ, ◌+◌, ◌<◌, List, [], ◌∷◌, ◌++◌, map, length, drop, ap, sym, ◌∙◌, append_assoc, arith, length-append, Bor}
+use Rattle.std.proofs.Common.{◌≡◌, ℕ, ◌+◌, ◌<◌, List, [], ◌∷◌, ◌++◌, length, drop, ap, sym, ◌∙◌, append_assoc, arith, length-append, Bor}
 use Rattle.std.proofs.lemmas.List.{append-nil, map-append}
 use Rattle.std.specs.List.{flat_map}
+pub use Rattle.ap_bundle_write.specs.Nodes.{seen}
 
 module _ {A B : Type 0} where
   -- the texts of the parts, from the last
@@ -13,9 +14,10 @@ module _ {A B : Type 0} where
   later_last f [] y = sym (append-nil (f y))
   later_last f (x ∷ xs) y = ap (λ z. z ++ f x) (later_last f xs y) ∙ append_assoc (f y) (later f xs) (f x)
 
--- the parts that references on a stack stand for
-abbrev pub seen : {A B : Type 0} → (A → B) → List (Bor A) → List B
-seen view rs = map (λ r. view r.now) rs
+  -- parts on top of others
+  pub later_append : (f : A → List B) (xs ys : List A) → later f (xs ++ ys) ≡ later f ys ++ later f xs
+  later_append f [] ys = sym (append-nil (later f ys))
+  later_append f (x ∷ xs) ys = ap (λ z. z ++ f x) (later_append f xs ys) ∙ append_assoc (later f ys) (later f xs) (f x)
 
 -- a step of a loop that writes one after another
 pub written_on : {A B : Type 0} (f : A → List B) (xs : List A) (x : A) (i : ℕ) (out mid : List B) (all : List B) → i < length xs

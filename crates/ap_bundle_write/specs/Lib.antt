@@ -1,1 +1,3 @@
 pub mod Spaces
+pub mod Tables
+pub mod Nodes

@@ -1,22 +1,26 @@
-// The lines of derivations.
-ghost use Rattle.std.specs.Prelude.{◌≡◌, [], ◌++◌, flat_map, map, OnOk};
+// The lines of terms and derivations.
+ghost use Rattle.std.specs.Prelude.{◌≡◌, [], ◌∷◌, ◌++◌, flat_map, map, OnOk};
 ghost use Rattle.ap_bundle.specs.Forms.{name_words};
 ghost use Rattle.ap_defs.specs.Terms.{term_of};
-ghost use Rattle.ap_defs.specs.Derivations.{derivation_of};
+ghost use Rattle.ap_defs.specs.Derivations.{derivation_of, terms_in};
 ghost use Rattle.ap_bundle.specs.Nodes as nodes;
 ghost use Rattle.ap_bundle.specs.Nodes.{preorder};
 ghost use Rattle.ap_bundle.specs.Written.{node_line, node_lines, name_line, term_line};
+ghost use Rattle.ap_bundle_write.specs.Nodes.{children_back, first_node, node_terms, seen};
+ghost use Rattle.ap_bundle_write.specs.Tables.{IsTable, Writes, held};
 
 use crate::forms::{push_name, push_term};
-use crate::lines::write_line;
+use crate::lines::{write_count, write_line};
+use crate::table::Table;
+use ap_bundle::version::Version;
 use ap_bundle::words::{Head, NodeWord, Word};
 use ap_defs::memory::Memory;
 use ap_defs::outcomes::Derivation;
 use ap_defs::terms::{Name, Term};
 use std::alloc::Global;
 
-/// Writes the line of a term.
-fn write_term(alloc: Global, out: &mut Vec<u8>, term: &Term) -> Result<(), Memory>
+/// Writes the line of a term in full.
+fn write_full_term(alloc: Global, out: &mut Vec<u8>, term: &Term) -> Result<(), Memory>
     ensures { OnOk result (out.new.items ≡ out.old.items ++ term_line (term_of term.now)) }
 {
     let mut words = Vec::new(alloc);
@@ -25,12 +29,53 @@ fn write_term(alloc: Global, out: &mut Vec<u8>, term: &Term) -> Result<(), Memor
     write_line(alloc, out, &words)
 }
 
+/// Enters a term, and writes its number.
+fn write_shared_term<'a>(
+    alloc: Global,
+    out: &mut Vec<u8>,
+    table: &mut Table<'a>,
+    term: &'a Term,
+) -> Result<(), Memory>
+    requires { IsTable table.old }
+    ensures table { OnOk result (IsTable table.new) }
+    ensures text { OnOk result (Writes Version.Two (held table.old) (held table.new) out.old.items out.new.items (term_of term.now ∷ []) (λ way. way (term_of term.now))) }
+{
+    let line = table.enter(alloc, term)?;
+    write_count(alloc, out, Head::R, line)
+}
+
+/// Writes the line of a term.
+fn write_term<'a>(
+    alloc: Global,
+    out: &mut Vec<u8>,
+    version: Version,
+    table: &mut Table<'a>,
+    term: &'a Term,
+) -> Result<(), Memory>
+    requires { IsTable table.old }
+    ensures table { OnOk result (IsTable table.new) }
+    ensures text { OnOk result (Writes version (held table.old) (held table.new) out.old.items out.new.items (term_of term.now ∷ []) (λ way. way (term_of term.now))) }
+{
+    match version {
+        Version::One => write_full_term(alloc, out, term),
+        Version::Two => write_shared_term(alloc, out, table, term),
+    }
+}
+
 /// Writes the lines of terms.
-pub fn write_terms(alloc: Global, out: &mut Vec<u8>, terms: &[Term]) -> Result<(), Memory>
-    ensures { OnOk result (out.new.items ≡ out.old.items ++ flat_map term_line (map term_of terms.now)) }
+pub(crate) fn write_terms<'a>(
+    alloc: Global,
+    out: &mut Vec<u8>,
+    version: Version,
+    table: &mut Table<'a>,
+    terms: &'a [Term],
+) -> Result<(), Memory>
+    requires { IsTable table.old }
+    ensures table { OnOk result (IsTable table.new) }
+    ensures text { OnOk result (Writes version (held table.old) (held table.new) out.old.items out.new.items (map term_of terms.now) (λ way. flat_map way (map term_of terms.now))) }
 {
     for term in terms {
-        write_term(alloc, out, term)?;
+        write_term(alloc, out, version, table, term)?;
     }
     Ok(())
 }
@@ -61,33 +106,58 @@ fn write_node(alloc: Global, out: &mut Vec<u8>, word: NodeWord) -> Result<(), Me
     write_line(alloc, out, &[Word::Node(word)])
 }
 
-/// Writes the lines of an atom.
-fn write_atom(
+/// Writes the first line of an atom.
+fn write_atom_line(
     alloc: Global,
     out: &mut Vec<u8>,
     clause: u32,
-    names: &[Name],
-    terms: &[Term],
+    names: usize,
+    terms: usize,
 ) -> Result<(), Memory>
-    ensures { OnOk result (out.new.items ≡ out.old.items ++ node_lines term_line (nodes.atom clause names.now (map term_of terms.now))) }
+    ensures { OnOk result (out.new.items ≡ out.old.items ++ node_line NodeWord.Atom (Word.Number clause ∷ Word.Number names ∷ Word.Number terms ∷ [])) }
 {
     let line = [
         Word::Node(NodeWord::Atom),
         Word::Number(u64::from(clause)),
-        Word::Number(names.len() as u64),
-        Word::Number(terms.len() as u64),
+        Word::Number(names as u64),
+        Word::Number(terms as u64),
     ];
-    write_line(alloc, out, &line)?;
+    write_line(alloc, out, &line)
+}
+
+/// Writes the lines of an atom.
+fn write_atom<'a>(
+    alloc: Global,
+    out: &mut Vec<u8>,
+    version: Version,
+    table: &mut Table<'a>,
+    clause: u32,
+    names: &[Name],
+    terms: &'a [Term],
+) -> Result<(), Memory>
+    requires { IsTable table.old }
+    ensures table { OnOk result (IsTable table.new) }
+    ensures text { OnOk result (Writes version (held table.old) (held table.new) out.old.items out.new.items (map term_of terms.now) (λ way. node_lines way (nodes.atom clause names.now (map term_of terms.now)))) }
+{
+    write_atom_line(alloc, out, clause, names.len(), terms.len())?;
     write_names(alloc, out, names)?;
-    write_terms(alloc, out, terms)
+    write_terms(alloc, out, version, table, terms)
 }
 
 /// Writes the lines of an `exists`.
-fn write_exists(alloc: Global, out: &mut Vec<u8>, term: &Term) -> Result<(), Memory>
-    ensures { OnOk result (out.new.items ≡ out.old.items ++ node_lines term_line (nodes.exists (term_of term.now))) }
+fn write_exists<'a>(
+    alloc: Global,
+    out: &mut Vec<u8>,
+    version: Version,
+    table: &mut Table<'a>,
+    term: &'a Term,
+) -> Result<(), Memory>
+    requires { IsTable table.old }
+    ensures table { OnOk result (IsTable table.new) }
+    ensures text { OnOk result (Writes version (held table.old) (held table.new) out.old.items out.new.items (term_of term.now ∷ []) (λ way. node_lines way (nodes.exists (term_of term.now)))) }
 {
     write_node(alloc, out, NodeWord::Exists)?;
-    write_term(alloc, out, term)
+    write_term(alloc, out, version, table, term)
 }
 
 /// Writes the line of a `new`.
@@ -100,47 +170,73 @@ fn write_new(alloc: Global, out: &mut Vec<u8>, name: Name) -> Result<(), Memory>
     write_line(alloc, out, &words)
 }
 
-/// Writes the nodes of a derivation in preorder. Those that are still to be written stand on a stack.
-pub fn write_derivation(
+/// Writes the lines of the first node of a derivation.
+fn write_first<'a>(
     alloc: Global,
     out: &mut Vec<u8>,
-    derivation: &Derivation,
+    version: Version,
+    table: &mut Table<'a>,
+    derivation: &'a Derivation,
 ) -> Result<(), Memory>
-    ensures { OnOk result (out.new.items ≡ out.old.items ++ flat_map (node_lines term_line) (preorder (derivation_of derivation.now))) }
+    requires { IsTable table.old }
+    ensures table { OnOk result (IsTable table.new) }
+    ensures text { OnOk result (Writes version (held table.old) (held table.new) out.old.items out.new.items (node_terms (first_node (derivation_of derivation.now))) (λ way. node_lines way (first_node (derivation_of derivation.now)))) }
+{
+    match derivation {
+        Derivation::Atom(clause, names, terms, _) => {
+            let (names, terms) = (names.items(), terms.items());
+            write_atom(alloc, out, version, table, *clause, names, terms)
+        }
+        Derivation::Eq => write_node(alloc, out, NodeWord::Eq),
+        Derivation::Fresh => write_node(alloc, out, NodeWord::Fresh),
+        Derivation::True => write_node(alloc, out, NodeWord::True),
+        Derivation::Both(_, _) => write_node(alloc, out, NodeWord::And),
+        Derivation::Left(_) => write_node(alloc, out, NodeWord::Left),
+        Derivation::Right(_) => write_node(alloc, out, NodeWord::Right),
+        Derivation::Exists(term, _) => write_exists(alloc, out, version, table, term),
+        Derivation::New(name, _) => write_new(alloc, out, *name),
+    }
+}
+
+/// Puts the children of a derivation on a stack, the first of them last.
+fn push_children<'a>(
+    pending: &mut Vec<&'a Derivation>,
+    derivation: &'a Derivation,
+) -> Result<(), Memory>
+    ensures { OnOk result (seen derivation_of pending.new.items ≡ seen derivation_of pending.old.items ++ children_back (derivation_of derivation.now)) }
+{
+    match derivation {
+        Derivation::Eq | Derivation::Fresh | Derivation::True => {}
+        Derivation::Both(left, right) => {
+            pending.push(right)?;
+            pending.push(left)?;
+        }
+        Derivation::Atom(_, _, _, child) => pending.push(child)?,
+        Derivation::Left(child) => pending.push(child)?,
+        Derivation::Right(child) => pending.push(child)?,
+        Derivation::Exists(_, child) => pending.push(child)?,
+        Derivation::New(_, child) => pending.push(child)?,
+    }
+    Ok(())
+}
+
+/// Writes the nodes of a derivation in preorder. Those that are still to be written stand on a stack.
+pub(crate) fn write_derivation<'a>(
+    alloc: Global,
+    out: &mut Vec<u8>,
+    version: Version,
+    table: &mut Table<'a>,
+    derivation: &'a Derivation,
+) -> Result<(), Memory>
+    requires { IsTable table.old }
+    ensures table { OnOk result (IsTable table.new) }
+    ensures text { OnOk result (Writes version (held table.old) (held table.new) out.old.items out.new.items (terms_in (derivation_of derivation.now)) (λ way. flat_map (node_lines way) (preorder (derivation_of derivation.now)))) }
 {
     let mut pending = Vec::new(alloc);
     pending.push(derivation)?;
     while let Some(next) = pending.pop() {
-        match next {
-            Derivation::Atom(clause, names, terms, body) => {
-                write_atom(alloc, out, *clause, names.items(), terms.items())?;
-                pending.push(body)?;
-            }
-            Derivation::Eq => write_node(alloc, out, NodeWord::Eq)?,
-            Derivation::Fresh => write_node(alloc, out, NodeWord::Fresh)?,
-            Derivation::True => write_node(alloc, out, NodeWord::True)?,
-            Derivation::Both(left, right) => {
-                write_node(alloc, out, NodeWord::And)?;
-                pending.push(right)?;
-                pending.push(left)?;
-            }
-            Derivation::Left(child) => {
-                write_node(alloc, out, NodeWord::Left)?;
-                pending.push(child)?;
-            }
-            Derivation::Right(child) => {
-                write_node(alloc, out, NodeWord::Right)?;
-                pending.push(child)?;
-            }
-            Derivation::Exists(term, child) => {
-                write_exists(alloc, out, term)?;
-                pending.push(child)?;
-            }
-            Derivation::New(name, child) => {
-                write_new(alloc, out, *name)?;
-                pending.push(child)?;
-            }
-        }
+        write_first(alloc, out, version, table, next)?;
+        push_children(&mut pending, next)?;
     }
     Ok(())
 }

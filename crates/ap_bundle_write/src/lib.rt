@@ -4,6 +4,7 @@
 mod derivations;
 mod forms;
 mod lines;
+mod table;
 mod write;
 
-pub use write::write_bundle;
+pub use write::{write_bundle, write_version};

@@ -1,17 +1,23 @@
 // A bundle as bytes.
-ghost use Rattle.std.specs.Prelude.{◌≡◌, ◌++◌, flat_map, map, IfOk, OnOk};
+ghost use Rattle.std.specs.Prelude.{◌≡◌, [], ◌∷◌, ◌++◌, flat_map, map, IfOk, OnOk};
 ghost use Rattle.ap_defs.specs.Answers.{answer_of, typed_var_of};
+ghost use Rattle.ap_defs.specs.Terms.{term_of};
 ghost use Rattle.ap_bundle.specs.Bundles.{bundle_of, proved_of};
+ghost use Rattle.ap_bundle.specs.Tables.{terms_of};
+ghost use Rattle.ap_bundle.specs.Versions.{first_line};
 ghost use Rattle.ap_bundle.specs.Written as spec;
-ghost use Rattle.ap_bundle.specs.Written.{cond_line, listed, proved_lines, term_line, text_lines, var_line, written};
+ghost use Rattle.ap_bundle.specs.Written.{cond_line, entry_line, head_line, line_as, listed, proved_lines, text_lines, var_line, written, written_as, written_shared};
+ghost use Rattle.ap_bundle_write.specs.Tables.{IsTable, Writes, grown_as, held};
 
 use crate::derivations::{write_derivation, write_terms};
 use crate::forms::{push_name, push_type};
 use crate::lines::{write_count, write_line};
+use crate::table::Table;
+use ap_bundle::version::Version;
 use ap_bundle::words::{Head, Word};
 use ap_defs::memory::Memory;
 use ap_defs::outcomes::{Answer, Bundle, Proved};
-use ap_defs::terms::{Cond, Ty, Var};
+use ap_defs::terms::{Cond, Term, Ty, Var};
 use std::alloc::Global;
 
 /// Writes the line of a variable.
@@ -55,32 +61,85 @@ fn write_conds(alloc: Global, out: &mut Vec<u8>, conds: &[Cond]) -> Result<(), M
     Ok(())
 }
 
-/// Writes an answer: its variables, its conditions and its bindings.
-fn write_answer(alloc: Global, out: &mut Vec<u8>, answer: &Answer) -> Result<(), Memory>
-    ensures { OnOk result (out.new.items ≡ out.old.items ++ spec.answer_lines term_line (answer_of answer.now)) }
+/// Writes how many variables there are, and each.
+fn write_listed_vars(alloc: Global, out: &mut Vec<u8>, vars: &[(Var, Ty)]) -> Result<(), Memory>
+    ensures { OnOk result (out.new.items ≡ out.old.items ++ listed Head.Vars var_line (map typed_var_of vars.now)) }
 {
-    write_count(alloc, out, Head::Vars, answer.vars.items().len())?;
-    write_vars(alloc, out, answer.vars.items())?;
-    write_count(alloc, out, Head::Conds, answer.conds.items().len())?;
-    write_conds(alloc, out, answer.conds.items())?;
-    write_count(alloc, out, Head::Binds, answer.binds.items().len())?;
-    write_terms(alloc, out, answer.binds.items())
+    write_count(alloc, out, Head::Vars, vars.len())?;
+    write_vars(alloc, out, vars)
+}
+
+/// Writes how many conditions there are, and each.
+fn write_listed_conds(alloc: Global, out: &mut Vec<u8>, conds: &[Cond]) -> Result<(), Memory>
+    ensures { OnOk result (out.new.items ≡ out.old.items ++ listed Head.Conds cond_line conds.now) }
+{
+    write_count(alloc, out, Head::Conds, conds.len())?;
+    write_conds(alloc, out, conds)
+}
+
+/// Writes how many bindings there are, and each.
+fn write_listed_binds<'a>(
+    alloc: Global,
+    out: &mut Vec<u8>,
+    version: Version,
+    table: &mut Table<'a>,
+    binds: &'a [Term],
+) -> Result<(), Memory>
+    requires { IsTable table.old }
+    ensures table { OnOk result (IsTable table.new) }
+    ensures text { OnOk result (Writes version (held table.old) (held table.new) out.old.items out.new.items (map term_of binds.now) (λ way. listed Head.Binds way (map term_of binds.now))) }
+{
+    write_count(alloc, out, Head::Binds, binds.len())?;
+    write_terms(alloc, out, version, table, binds)
+}
+
+/// Writes an answer: its variables, its conditions and its bindings.
+fn write_answer<'a>(
+    alloc: Global,
+    out: &mut Vec<u8>,
+    version: Version,
+    table: &mut Table<'a>,
+    answer: &'a Answer,
+) -> Result<(), Memory>
+    requires { IsTable table.old }
+    ensures table { OnOk result (IsTable table.new) }
+    ensures text { OnOk result (Writes version (held table.old) (held table.new) out.old.items out.new.items (answer_of answer.now).binds (λ way. spec.answer_lines way (answer_of answer.now))) }
+{
+    write_listed_vars(alloc, out, answer.vars.items())?;
+    write_listed_conds(alloc, out, answer.conds.items())?;
+    write_listed_binds(alloc, out, version, table, answer.binds.items())
 }
 
 /// Writes an answer with its derivation.
-fn write_proved(alloc: Global, out: &mut Vec<u8>, proved: &Proved) -> Result<(), Memory>
-    ensures { OnOk result (out.new.items ≡ out.old.items ++ proved_lines term_line (proved_of proved.now)) }
+fn write_proved<'a>(
+    alloc: Global,
+    out: &mut Vec<u8>,
+    version: Version,
+    table: &mut Table<'a>,
+    proved: &'a Proved,
+) -> Result<(), Memory>
+    requires { IsTable table.old }
+    ensures table { OnOk result (IsTable table.new) }
+    ensures text { OnOk result (Writes version (held table.old) (held table.new) out.old.items out.new.items (terms_of (proved_of proved.now)) (λ way. proved_lines way (proved_of proved.now))) }
 {
     write_count(alloc, out, Head::Derivation, proved.query as usize)?;
-    write_answer(alloc, out, &proved.answer)?;
-    write_derivation(alloc, out, &proved.derivation)
+    write_answer(alloc, out, version, table, &proved.answer)?;
+    write_derivation(alloc, out, version, table, &proved.derivation)
 }
 
-fn write_each(alloc: Global, out: &mut Vec<u8>, all: &[Proved]) -> Result<(), Memory>
-    ensures { OnOk result (out.new.items ≡ out.old.items ++ flat_map (proved_lines term_line) (map proved_of all.now)) }
+fn write_each<'a>(
+    alloc: Global,
+    out: &mut Vec<u8>,
+    version: Version,
+    table: &mut Table<'a>,
+    all: &'a [Proved],
+) -> Result<(), Memory>
+    requires { IsTable table.old }
+    ensures table { OnOk result (IsTable table.new) }
+    ensures text { OnOk result (Writes version (held table.old) (held table.new) out.old.items out.new.items (flat_map terms_of (map proved_of all.now)) (λ way. flat_map (proved_lines way) (map proved_of all.now))) }
 {
     for proved in all {
-        write_proved(alloc, out, proved)?;
+        write_proved(alloc, out, version, table, proved)?;
     }
     Ok(())
 }
@@ -95,16 +154,94 @@ fn write_text(alloc: Global, out: &mut Vec<u8>, text: &[u8]) -> Result<(), Memor
     Ok(())
 }
 
+/// What follows the text and the table. The table grows by its terms.
+fn proved_part<'a>(
+    alloc: Global,
+    version: Version,
+    table: &mut Table<'a>,
+    proved: &'a [Proved],
+) -> Result<Vec<u8>, Memory>
+    requires { IsTable table.old }
+    ensures table { OnOk result (IsTable table.new) }
+    ensures held { OnOk result (held table.new ≡ grown_as version (held table.old) (flat_map terms_of (map proved_of proved.now))) }
+    ensures text { IfOk result (λ bytes. bytes.items ≡ spec.proved_part (line_as version (held table.new)) (map proved_of proved.now)) }
+{
+    let mut out = Vec::new(alloc);
+    write_count(alloc, &mut out, Head::Derivations, proved.len())?;
+    write_each(alloc, &mut out, version, table, proved)?;
+    write_line(alloc, &mut out, &[Word::Head(Head::End)])?;
+    Ok(out)
+}
+
+/// Writes a line of the table.
+fn write_entry(alloc: Global, out: &mut Vec<u8>, words: &[Word]) -> Result<(), Memory>
+    ensures { OnOk result (out.new.items ≡ out.old.items ++ head_line Head.T words.now) }
+{
+    let mut line = Vec::new(alloc);
+    line.push(Word::Head(Head::T))?;
+    line.extend_from_slice(words)?;
+    write_line(alloc, out, &line)
+}
+
+fn write_entries(alloc: Global, out: &mut Vec<u8>, lines: &[Vec<Word>]) -> Result<(), Memory>
+    ensures { OnOk result (out.new.items ≡ out.old.items ++ flat_map (head_line Head.T) (map (λ v. v.items) lines.now)) }
+{
+    for words in lines {
+        write_entry(alloc, out, words)?;
+    }
+    Ok(())
+}
+
+/// Writes the table.
+fn write_table(alloc: Global, out: &mut Vec<u8>, table: &Table<'_>) -> Result<(), Memory>
+    requires { IsTable table.now }
+    ensures { OnOk result (out.new.items ≡ out.old.items ++ listed Head.Terms (entry_line (held table.now)) (held table.now)) }
+{
+    let lines = table.lines();
+    write_count(alloc, out, Head::Terms, lines.len())?;
+    write_entries(alloc, out, lines)
+}
+
+/// The first line, and the text.
+fn start_of(alloc: Global, version: Version, text: &[u8]) -> Result<Vec<u8>, Memory>
+    ensures { IfOk result (λ out. out.items ≡ (first_line version ++ 10 ∷ []) ++ text_lines text.now) }
+{
+    let mut out = Vec::new(alloc);
+    out.extend_from_slice(version.first_line().as_bytes())?;
+    out.push(b'\n')?;
+    write_text(alloc, &mut out, text)?;
+    Ok(out)
+}
+
 /// The bytes of a bundle of version 1, in which each term is written in full.
 pub fn write_bundle(alloc: Global, bundle: &Bundle) -> Result<Vec<u8>, Memory>
     ensures { IfOk result (λ bytes. bytes.items ≡ written (bundle_of bundle.now)) }
 {
-    let mut out = Vec::new(alloc);
-    out.extend_from_slice(b"alphaprolog bundle 1\n")?;
-    write_text(alloc, &mut out, bundle.text.items())?;
-    let proved = bundle.proved.items();
-    write_count(alloc, &mut out, Head::Derivations, proved.len())?;
-    write_each(alloc, &mut out, proved)?;
-    write_line(alloc, &mut out, &[Word::Head(Head::End)])?;
+    let mut table = Table::new(alloc);
+    let part = proved_part(alloc, Version::One, &mut table, bundle.proved.items())?;
+    let mut out = start_of(alloc, Version::One, bundle.text.items())?;
+    out.extend_from_slice(&part)?;
     Ok(out)
+}
+
+/// The bytes of a bundle of version 2, in which each different term stands once, in a table.
+fn write_shared(alloc: Global, bundle: &Bundle) -> Result<Vec<u8>, Memory>
+    ensures { IfOk result (λ bytes. bytes.items ≡ written_shared (bundle_of bundle.now)) }
+{
+    let mut table = Table::new(alloc);
+    let part = proved_part(alloc, Version::Two, &mut table, bundle.proved.items())?;
+    let mut out = start_of(alloc, Version::Two, bundle.text.items())?;
+    write_table(alloc, &mut out, &table)?;
+    out.extend_from_slice(&part)?;
+    Ok(out)
+}
+
+/// The bytes of a bundle of this version.
+pub fn write_version(alloc: Global, bundle: &Bundle, version: Version) -> Result<Vec<u8>, Memory>
+    ensures { IfOk result (λ bytes. bytes.items ≡ written_as version (bundle_of bundle.now)) }
+{
+    match version {
+        Version::One => write_bundle(alloc, bundle),
+        Version::Two => write_shared(alloc, bundle),
+    }
 }

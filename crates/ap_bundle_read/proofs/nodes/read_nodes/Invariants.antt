@@ -1,13 +1,14 @@
 -- The nodes that have been read, and those that are left, are all.
 use Rattle.std.proofs.Common.{◌≡◌, ◌≤◌, ◌+◌, ◌-◌, map, length}
 use Rattle.ap_bundle.specs.Readers.{with_front}
-use Rattle.ap_bundle.specs.Reading.{read_nodes, read_term}
+use Rattle.ap_bundle.specs.Reading.{read_nodes}
+use Rattle.ap_bundle_read.specs.Tables.{reader_of}
 use Rattle.ap_bundle_read.specs.Nodes.{node_of}
 use Rattle.ap_bundle_read.specs.Outcomes.{place_of}
 use Rattle.ap_bundle_read.proofs.nodes.read_nodes.Given as goal
 
 abbrev pub invariant-loop : goal.invariant-loop
 invariant-loop l = record {
-  read : with_front (map node_of l.all.items) (read_nodes read_term (l.bound - l.counter) l.wanted (place_of l.place)) ≡ read_nodes read_term (length l.fn.place.rest.now) 1 (place_of l.fn.place);
+  read : with_front (map node_of l.all.items) (read_nodes (reader_of l.terms) (l.bound - l.counter) l.wanted (place_of l.place)) ≡ read_nodes (reader_of l.terms) (length l.fn.place.rest.now) 1 (place_of l.fn.place);
   few : l.wanted ≤ 1 + l.counter;
 }

@@ -1,0 +1,131 @@
+-- Bundles of version 2 are read as they are written, and their prefixes are unended.
+use Rattle.std.proofs.Common.{◌≡◌, ℕ, ◌+◌, ◌-◌, ◌<◌, ◌≤◌, ◌^◌, false, nat_lt, List, [], ◌∷◌, ◌++◌, length, slice_get, Option, Some, Ok, Err, refl, ap, sym, subst, ◌∙◌, append_assoc, arith, rules, flat_map, length-append}
+use Rattle.std.specs.Prelude.{codes}
+use Rattle.std.proofs.lemmas.Bool.{le-ltb}
+use Rattle.std.proofs.lemmas.List.{append-nil}
+use Rattle.ap_defs.specs.declared.terms.Swap.{Swap}
+use Rattle.ap_defs.specs.Terms as terms
+use Rattle.ap_defs.specs.Terms.{NominalTerm}
+use Rattle.ap_bundle.specs.declared.faults.BundleKind.TheVariants.{Header, Term}
+use Rattle.ap_bundle.specs.declared.version.Version.TheVariants.{Two}
+use Rattle.ap_bundle.specs.declared.words.Head.TheVariants as head
+use Rattle.ap_bundle.specs.declared.words.Word.{Word}
+use Rattle.ap_bundle.specs.declared.words.Word.TheVariants as word
+use Rattle.ap_bundle.specs.Forms.{swap_words, swaps}
+use Rattle.ap_bundle.specs.LineForms.{after_head, first_form}
+use Rattle.ap_bundle.specs.Bundles.{NominalProved, NominalBundle}
+use Rattle.ap_bundle.specs.Tables.{expanded_size, size_of_all, grown, line_of, Has, HasParts, entry_words, terms_of, table_of}
+use Rattle.ap_bundle.specs.TableForms.{numbers, earlier, name_entry, pair_entry, app_entry, abs_entry, susp_entry, entry_form, read_entries, shared_form, read_shared}
+use Rattle.ap_bundle.specs.Readers.{Place, ◌>>=◌, unended, read_line, read_form}
+use Rattle.ap_bundle.specs.Written.{head_line, counted, listed, entry_line, shared_line, proved_part, shared_part, written_shared}
+use Rattle.ap_bundle.specs.Reading.{read_count, read_rest, read_shared_rest, read_at, room_at_first}
+use Rattle.ap_bundle.proofs.TableLemmas.{has_at, words_more}
+use Rattle.ap_bundle_laws.specs.Laws.{Each, FitsTerm, FitsBundle, FitsProved, IsListOf, HasRoom}
+use Rattle.ap_bundle_laws.proofs.GoodLemmas.{at, IsGood, good_then, room_for}
+use Rattle.ap_bundle_laws.proofs.WordLemmas.{Fits}
+use Rattle.ap_bundle_laws.proofs.FormLemmas.{small_again, name_again, swaps_again, swap_numbers}
+use Rattle.ap_bundle_laws.proofs.LineLemmas.{good_line, good_form, good_count, term_fits}
+use Rattle.ap_bundle_laws.proofs.BundleLemmas.{IsLast, last_then, last_rest, last_at, each_proved}
+use Rattle.ap_bundle_laws.proofs.OrderLemmas.{Ordered, ordered_all, line_within, table_fits, table_length}
+
+swap_values : (ss : List Swap) (n : ℕ) → numbers (flat_map swap_words ss ++ word.Number n ∷ []) ≡ Some (swap_numbers ss ++ n ∷ [])
+swap_values [] n = refl
+swap_values (s ∷ ss) n = rw (swap_values ss n) refl
+
+earlier_again : (table : List NominalTerm) (t : NominalTerm) (ns : List ℕ) → Has table t → earlier table (line_of table t ∷ ns) ≡ Some (t, ns)
+unfolding earlier
+earlier_again table t ns h = rw (has_at table t h) refl
+
+-- a line of the table is read as its term
+entry_again : (table : List NominalTerm) (t : NominalTerm) → HasParts table t → FitsTerm t → entry_form table (word.Head head.T ∷ entry_words table t) ≡ Some t
+unfolding entry_form after_head name_entry pair_entry app_entry abs_entry susp_entry
+entry_again table terms.unit p h = refl
+entry_again table (terms.name a) p h = rw (name_again a [] h) refl
+entry_again table (terms.pair t u) p h = rw (earlier_again table t (line_of table u ∷ []) p.0, earlier_again table u [] p.1) refl
+entry_again table (terms.app f t) p h = rw (small_again f (line_of table t ∷ []) h.0, earlier_again table t [] p) refl
+entry_again table (terms.abs a t) p h = rw (name_again a (line_of table t ∷ []) h.0, earlier_again table t [] p) refl
+entry_again table (terms.susp ss x) p h = rw (swap_values ss x.num, swaps_again ss (x.num ∷ []) h.0.1) refl
+
+entry_fits : (table : List NominalTerm) (t : NominalTerm) → length table < 2 ^ 64 → HasParts table t → FitsTerm t → Each Fits (entry_words table t)
+entry_fits table terms.unit l p h = term_fits terms.unit h
+entry_fits table (terms.name a) l p h = term_fits (terms.name a) h
+entry_fits table (terms.pair t u) l p h = (tt, (omega (arith, line_within table t p.0), (omega (arith, line_within table u p.1), tt)))
+entry_fits table (terms.app f t) l p h = (tt, (omega (arith, h.0), (omega (arith, line_within table t p), tt)))
+entry_fits table (terms.abs a t) l p h = (tt, (omega (arith, h.0.0), (h.0.1, (omega (arith, line_within table t p), tt))))
+entry_fits table (terms.susp ss x) l p h = term_fits (terms.susp ss x) h
+
+good_entry : (table : List NominalTerm) (room : ℕ) (t : NominalTerm) → length table < 2 ^ 64 → HasParts table t → FitsTerm t → IsGood (read_form Term (entry_form table)) room room (entry_line table t) t
+good_entry table room t l p h = good_form Term (entry_form table) room (word.Head head.T) (entry_words table t) t (tt, entry_fits table t l p h) (entry_again table t p h)
+
+-- the table, line by line
+good_entries : (room : ℕ) (front ts : List NominalTerm) → length (front ++ ts) < 2 ^ 64 → Ordered front ts → Each FitsTerm ts
+    → IsGood (read_entries (length ts) front) room room (flat_map (entry_line (front ++ ts)) ts) (front ++ ts)
+unfolding read_entries
+good_entries room front [] l o h = record {
+  whole = λ rest. ap (λ z. Ok (z, at rest room)) (sym (append-nil front));
+  part = λ v u e some. absurd (omega (arith, ap length e, length-append v u));
+}
+good_entries room front (t ∷ ts) l o h =
+    let regroup = append_assoc front (t ∷ []) ts in
+    let long : length front < 2 ^ 64 = omega (arith, l, ap length regroup, length-append front (t ∷ ts)) in
+    let words : entry_words (front ++ (t ∷ ts)) t ≡ entry_words front t = words_more front (t ∷ ts) t o.0 in
+    let first : IsGood (read_form Term (entry_form front)) room room (entry_line (front ++ (t ∷ ts)) t) t =
+    subst (λ ws. IsGood (read_form Term (entry_form front)) room room (head_line head.T ws) t) (sym words) (good_entry front room t long o.0 h.0) in
+    let more = good_entries room (front ++ t ∷ []) ts (subst (λ us. length us < 2 ^ 64) (sym regroup) l) o.1 h.1 in
+    let others : IsGood (read_entries (length ts) (front ++ t ∷ [])) room room (flat_map (entry_line (front ++ (t ∷ ts))) ts) (front ++ (t ∷ ts)) =
+    subst (λ us. IsGood (read_entries (length ts) (front ++ t ∷ [])) room room (flat_map (entry_line us) ts) us) regroup more in
+    good_then (read_form Term (entry_form front)) (λ u p. read_entries (length ts) (front ++ u ∷ []) p) room room room (entry_line (front ++ (t ∷ ts)) t) (flat_map (entry_line (front ++ (t ∷ ts))) ts) t (front ++ (t ∷ ts)) first others
+
+-- the line of a term is read as the term, and takes its room
+abbrev before : NominalTerm → ℕ → ℕ
+before t left = expanded_size t + left
+
+shared_again : (table : List NominalTerm) (t : NominalTerm) → Has table t → shared_form table (word.Head head.R ∷ word.Number (line_of table t) ∷ []) ≡ Some t
+unfolding shared_form after_head
+shared_again table t h = rw (has_at table t h) refl
+
+good_shared : (table : List NominalTerm) → length table < 2 ^ 64 → (left : ℕ) (t : NominalTerm) → Has table t → IsGood (read_shared table) (before t left) left (shared_line table t) t
+unfolding read_shared
+good_shared table l left t h =
+    let small : line_of table t < 2 ^ 64 = omega (arith, line_within table t h) in
+    let good = good_form Term (shared_form table) (before t left) (word.Head head.R) (word.Number (line_of table t) ∷ []) t (tt, (small, tt)) (shared_again table t h) in
+    let fits : nat_lt (expanded_size t + left) (expanded_size t) ≡ false = le-ltb (expanded_size t + left) (expanded_size t) (omega arith) in
+    let less : expanded_size t + left - expanded_size t ≡ left = omega arith in
+    record {
+      whole = λ rest. rw (good.whole rest, fits, less) refl;
+      part = λ v u e some. rw (good.part v u e some) refl;
+    }
+
+room_sum : (ts : List NominalTerm) (left : ℕ) → room_for before ts left ≡ size_of_all ts + left
+room_sum [] left = omega arith
+room_sum (t ∷ ts) left = omega (arith, room_sum ts left)
+
+last_shared : (b : NominalBundle) → FitsBundle b → HasRoom b → IsLast read_shared_rest room_at_first (shared_part (table_of b.proved) b.proved) b.proved
+unfolding read_shared_rest after_head
+last_shared b h fits =
+    let ts = flat_map terms_of b.proved in
+    let table = table_of b.proved in
+    let room = room_at_first in
+    let left = room_at_first - size_of_all ts in
+    let ordered = ordered_all ts [] tt in
+    let few : length table < 2 ^ 64 = omega (arith, table_length ts, fits) in
+    let enough : room_for before ts left ≡ room_at_first = room_sum ts left ∙ omega (arith, fits) in
+    let count = good_count head.Terms room (length table) few refl in
+    let entries = good_entries room [] table few ordered.0 (table_fits ts (each_proved b.proved h.1.1)) in
+    let rest = subst (λ n. IsLast (read_rest (read_shared table)) n (proved_part (shared_line table) b.proved) b.proved) enough
+    (last_rest (read_shared table) (shared_line table) before (Has table) (good_shared table few) left b.proved h.1 ordered.1) in
+    let behind = last_then (read_entries (length table) []) (λ us p. read_rest (read_shared us) p) room room (flat_map (entry_line table) table) (proved_part (shared_line table) b.proved) table b.proved entries rest in
+    let all = last_then (read_count head.Terms) (λ n p. read_entries n [] p >>= λ us. read_rest (read_shared us.0) us.1) room room (counted head.Terms (length table)) (flat_map (entry_line table) table ++ proved_part (shared_line table) b.proved) (length table) b.proved count behind in
+    subst (λ w. IsLast read_shared_rest room w b.proved) (sym (append_assoc (counted head.Terms (length table)) (flat_map (entry_line table) table) (proved_part (shared_line table) b.proved))) all
+
+last_bundle : (b : NominalBundle) → FitsBundle b → HasRoom b → IsLast read_at room_at_first (written_shared b) b
+unfolding first_form
+last_bundle b h fits =
+    let version = good_line Header first_form room_at_first (codes "alphaprolog bundle 2") Two (search rules) refl in
+    last_at Two room_at_first b (shared_part (table_of b.proved) b.proved) h (last_shared b h fits) version
+
+pub again : (b : NominalBundle) → FitsBundle b → HasRoom b → read_at (at (written_shared b) room_at_first) ≡ Ok b
+again b h fits = let last = last_bundle b h fits in last.whole
+
+pub prefix : (b : NominalBundle) (v u : List ℕ) → FitsBundle b → HasRoom b → written_shared b ≡ v ++ u → 0 < length u → read_at (at v room_at_first) ≡ Err unended
+prefix b v u h fits e some = let last = last_bundle b h fits in last.part v u e some

@@ -1,0 +1,110 @@
+-- The table of the code: the term of each line, by the terms of the lines before it.
+use Rattle.std.specs.Prelude.{◌≡◌, ℕ, ◌<◌, ◌+◌, ◌^◌, nat_lt, if◌then◌else◌, List, [], ◌∷◌, ◌++◌, length, reverse, map, slice_index_or, Option, None, Some}
+use Rattle.ap_defs.specs.Terms as terms
+use Rattle.ap_defs.specs.Terms.{NominalTerm}
+use Rattle.ap_bundle.specs.Forms.{◌>>=◌, first}
+use Rattle.ap_bundle.specs.Tables.{expanded_size}
+use Rattle.ap_bundle.specs.TableForms.{read_shared}
+use Rattle.ap_bundle.specs.Readers.{Reader}
+use Rattle.ap_bundle.specs.Reading.{read_term}
+use Rattle.ap_bundle_read.specs.declared.table.Entry.{Entry}
+use Rattle.ap_bundle_read.specs.declared.table.Entry.TheVariants as entry
+use Rattle.ap_bundle_read.specs.declared.table.Layer.{Layer}
+use Rattle.ap_bundle_read.specs.declared.table.Layer.TheVariants as layer
+use Rattle.ap_bundle_read.specs.declared.table.Line.{Line}
+use Rattle.ap_bundle_read.specs.declared.table.Table.{Table}
+use Rattle.ap_bundle_read.specs.declared.table.Task.{Task}
+use Rattle.ap_bundle_read.specs.declared.table.Task.TheVariants as task
+use Rattle.ap_bundle_read.specs.declared.table.Terms.{Terms}
+use Rattle.ap_bundle_read.specs.declared.table.Terms.TheVariants as way
+
+abbrev pub at : List NominalTerm → ℕ → NominalTerm
+at table i = slice_index_or table i terms.unit
+
+-- the term of an entry behind these terms
+abbrev pub entry_term : List NominalTerm → Entry → NominalTerm
+entry_term table entry.Unit = terms.unit
+entry_term table (entry.Name a) = terms.name a
+entry_term table (entry.Pair i j) = terms.pair (at table i) (at table j)
+entry_term table (entry.App f i) = terms.app f (at table i)
+entry_term table (entry.Abs a i) = terms.abs a (at table i)
+entry_term table (entry.Susp p x) = terms.susp p x
+
+-- its parts are among so many lines
+abbrev pub IsBehind : ℕ → Entry → Type 0
+IsBehind n entry.Unit = Unit {0}
+IsBehind n (entry.Name a) = Unit {0}
+IsBehind n (entry.Pair i j) = (i < n) × (j < n)
+IsBehind n (entry.App f i) = i < n
+IsBehind n (entry.Abs a i) = i < n
+IsBehind n (entry.Susp p x) = Unit {0}
+
+-- the terms of lines, of which the last comes first
+abbrev pub terms_back : List Line → List NominalTerm
+terms_back [] = []
+terms_back (l ∷ ls) = terms_back ls ++ entry_term (terms_back ls) l.entry ∷ []
+
+-- a size, where it is below 2 ^ 64
+abbrev pub exact_size : ℕ → Option ℕ
+exact_size n = if nat_lt n (2 ^ 64) then Some n else None
+
+-- each line has its parts before it, and its size
+abbrev pub AreLines : List Line → Type 0
+AreLines [] = Unit {0}
+AreLines (l ∷ ls) = AreLines ls × IsBehind (length ls) l.entry × (l.size ≡ exact_size (expanded_size (entry_term (terms_back ls) l.entry)))
+
+abbrev pub terms_in : Table → List NominalTerm
+terms_in t = terms_back (reverse t.lines.items)
+
+abbrev pub IsTable : Table → Type 0
+IsTable t = AreLines (reverse t.lines.items)
+
+-- how terms are read
+abbrev pub reader_of : Terms → Reader NominalTerm
+reader_of way.InFull = read_term
+reader_of (way.Shared t) = read_shared (terms_in t)
+
+abbrev pub AreReady : Terms → Type 0
+AreReady way.InFull = Unit {0}
+AreReady (way.Shared t) = IsTable t
+
+-- a layer round the first of these terms, or the first two
+abbrev pub closed : Layer → List NominalTerm → Option (List NominalTerm)
+closed layer.Pair ts = first ts >>= λ right. first right.1 >>= λ left. Some (terms.pair left.0 right.0 ∷ left.1)
+closed (layer.App f) ts = first ts >>= λ part. Some (terms.app f part.0 ∷ part.1)
+closed (layer.Abs a) ts = first ts >>= λ part. Some (terms.abs a part.0 ∷ part.1)
+
+-- the terms that tasks, the next one first, make on top of others
+abbrev pub made_by : List NominalTerm → List Task → List NominalTerm → Option (List NominalTerm)
+made_by table [] ts = Some ts
+made_by table (task.Line i ∷ ks) ts = made_by table ks (at table i ∷ ts)
+made_by table (task.Close l ∷ ks) ts = closed l ts >>= made_by table ks
+
+-- the lines that tasks name are among so many
+abbrev pub AreWithin : ℕ → List Task → Type 0
+AreWithin n [] = Unit {0}
+AreWithin n (task.Line i ∷ ks) = (i < n) × AreWithin n ks
+AreWithin n (task.Close l ∷ ks) = AreWithin n ks
+
+-- how much the tasks have to do
+abbrev pub weigh : List NominalTerm → List Task → ℕ
+weigh table [] = 0
+weigh table (task.Line i ∷ ks) = expanded_size (at table i) + expanded_size (at table i) + weigh table ks
+weigh table (task.Close l ∷ ks) = 1 + weigh table ks
+
+-- what is to be done for the term of an entry, and what is made of it at once
+abbrev pub begun : Entry → List Task
+begun entry.Unit = []
+begun (entry.Name a) = []
+begun (entry.Pair i j) = task.Line i ∷ task.Line j ∷ task.Close layer.Pair ∷ []
+begun (entry.App f i) = task.Line i ∷ task.Close (layer.App f) ∷ []
+begun (entry.Abs a i) = task.Line i ∷ task.Close (layer.Abs a) ∷ []
+begun (entry.Susp p x) = []
+
+abbrev pub ready : Entry → List NominalTerm
+ready entry.Unit = terms.unit ∷ []
+ready (entry.Name a) = terms.name a ∷ []
+ready (entry.Pair i j) = []
+ready (entry.App f i) = []
+ready (entry.Abs a i) = []
+ready (entry.Susp p x) = terms.susp p x ∷ []
