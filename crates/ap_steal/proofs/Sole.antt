@@ -13,7 +13,7 @@ use Rattle.ap_book.specs.declared.error.BookError.TheVariants.{NotOpen}
 use Rattle.ap_book.specs.declared.error.DoneError.{DoneError}
 use Rattle.ap_book.specs.declared.error.SkipError.{SkipError}
 use Rattle.ap_book.specs.declared.error.SkipError.TheVariants as refused
-use Rattle.ap_book.specs.Answers.{Refuses, RefusesSkip, Enters, EntersDone, Skips}
+use Rattle.ap_book.specs.Answers.{Refuses, Enters, EntersDone, Skips}
 use Rattle.ap_paths.specs.declared.limits.Limit.{Limit}
 use Rattle.ap_paths.proofs.Histories.{legal_parts}
 use Rattle.ap_core.specs.Traces.{AreSeats, IsInOrder, Leads}

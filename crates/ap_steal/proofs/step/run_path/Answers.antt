@@ -1,4 +1,4 @@
-use Rattle.std.proofs.Common.{◌≡◌, ◌∷◌, if◌then◌else◌, Bool, List, ℕ, sym, subst}
+use Rattle.std.proofs.Common.{◌∷◌, if◌then◌else◌, Bool, List, ℕ, sym, subst}
 use Rattle.ap_steal.specs.Order.{IsSole}
 use Rattle.ap_steal.proofs.step.run_path.Goals as goal
 
