@@ -9,12 +9,12 @@ use Rattle.ap_defs.specs.Derivations as nodes
 use Rattle.ap_defs.specs.Derivations.{NominalDerivation}
 use Rattle.ap_defs.specs.Freshness.{add_conds, both as both_lists, reduce, var_eq}
 use Rattle.ap_defs.specs.Goals.{NominalGoal, succeed, atom, equal, fresh, both, either, exists, new, NominalClause, NominalProgram, NominalQuery, Clauses, clauses_of}
-use Rattle.ap_defs.specs.Occurrences.{free_vars, vars_of_terms, without_var}
+use Rattle.ap_defs.specs.Occurrences.{free_vars, vars_of_terms}
 use Rattle.ap_defs.specs.Paths as tree
 use Rattle.ap_defs.specs.Paths.{Mark, each_found_mark, end, mark_below, marked, marked_calls, marked_clause, marked_clauses, marked_query, marks_if_reduced, marks_if_unified, marks_of}
 use Rattle.ap_defs.specs.Renaming.{local_vars, rename_goal, rename_term, rename_var}
 use Rattle.ap_defs.specs.Resolution.{State, clause_node, cut, first_state, found, fresh_for_each, if_reduced, if_unified, just_found, kinds_of, next_number, stuck, test_fresh}
-use Rattle.ap_defs.specs.Substitution.{Binding, Problem, moved, occurs, under, ◌#◌, ◌:=◌}
+use Rattle.ap_defs.specs.Substitution.{Binding, moved, occurs, under, ◌#◌, ◌:=◌}
 use Rattle.ap_defs.specs.Terms as terms
 use Rattle.ap_defs.specs.Terms.{NominalTerm}
 use Rattle.ap_defs.specs.Types.{NominalLocal, NominalSignature}

@@ -1,7 +1,7 @@
 use Rattle.std.proofs.Common.{List, map, ap, ◌∙◌, ◌≡◌, subst}
 use Rattle.std.specs.Prelude.{IfOk, IfSome}
 use Rattle.ap_defs.specs.Answers.{NominalOut, outs_of}
-use Rattle.ap_defs.specs.Goals.{clause_of, query_of}
+use Rattle.ap_defs.specs.Goals.{clause_of}
 use Rattle.ap_defs.specs.Types.{locals_of}
 use Rattle.ap_backchain.specs.Ends.{kept_out}
 use Rattle.ap_backchain.specs.Places.{position_of}

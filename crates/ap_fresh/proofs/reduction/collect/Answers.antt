@@ -1,12 +1,8 @@
-use Rattle.std.proofs.Common.{rules, map, ◌≡◌, true, false, None, Some, OnOk, IsErrOf, ◌<◌, ◌+◌, subst, sym, ap, ap₂, ◌∙◌, List, [], ◌∷◌, ◌++◌, append_assoc, append-nil, arith, refl}
-use Rattle.std.specs.Prelude.{Option}
-use Rattle.ap_defs.specs.Freshness.{add_cond, both, reduce as by_rules}
+use Rattle.std.proofs.Common.{rules, map, ◌≡◌, true, false, Some, ◌+◌, sym, ap, ap₂, ◌∙◌, [], ◌∷◌, ◌++◌, append_assoc, append-nil, arith, refl}
+use Rattle.ap_defs.specs.Freshness.{add_cond, both}
 use Rattle.ap_defs.specs.Permutations.{act_name, inverse, name_eq}
-use Rattle.ap_defs.specs.Renaming.{IsBelow, rename_name, rename_swap, rename_term, rename_var}
-use Rattle.ap_defs.specs.Terms.{NominalTerm, abs, app, pair, susp, term_of}
-use Rattle.ap_defs.specs.declared.terms.Cond.{Cond}
-use Rattle.ap_defs.specs.declared.terms.Name.{Name}
-use Rattle.ap_perm.specs.Lookups.{carried_out}
+use Rattle.ap_defs.specs.Renaming.{rename_name, rename_swap, rename_term, rename_var}
+use Rattle.ap_defs.specs.Terms.{abs, app, pair, susp, term_of}
 use Rattle.ap_fresh.specs.Reduction.{added, pending_term}
 use Rattle.ap_fresh.proofs.PendingLemmas.{added_none, fewer, fewer_part, kept, last_refuted, one_added, problem_of, two_added, all_left}
 use Rattle.ap_fresh.proofs.StepLemmas.{abs_added, abs_problem, app_problem, bound_problem, name_added, name_refuted, pair_problem, problem, unbound_problem, unit_added}
