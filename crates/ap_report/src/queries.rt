@@ -7,7 +7,7 @@ ghost use Rattle.ap_answers.specs.Words.{knows};
 ghost use Rattle.ap_backchain.specs.Problems.{HasQuery};
 ghost use Rattle.ap_report.specs.Queries.{query_report};
 
-use crate::solver::solve;
+use crate::solver::solve_without_paths;
 use ap_answers::printing::{lines_among, words_in};
 use ap_backchain::problem::Problem;
 use ap_defs::limits::{Depth, Workers};
@@ -39,7 +39,7 @@ fn report_query<R: Threads + Wait + Sync, G: Gate>(
     requires query { HasQuery problem.now }
     ensures { IfOk result (λ v. v.items ≡ query_report (program_of problem.now.program.now) problem.now.depth (problem.now.query - 1)) }
 {
-    let outs = solve(rt, alloc, gate, workers, problem)?;
+    let outs = solve_without_paths(rt, alloc, gate, workers, problem)?;
     lines_among(alloc, problem.program, taken, problem.query, &outs)
 }
 

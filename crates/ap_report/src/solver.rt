@@ -6,7 +6,7 @@ ghost use Rattle.ap_defs.specs.Goals.{NominalQuery};
 ghost use Rattle.ap_backchain.specs.Ends.{without_path};
 ghost use Rattle.ap_backchain.specs.Problems.{HasQuery, clauses_in, queries_in};
 
-use ap_backchain::problem::{Problem, outputs_without_paths, short_outputs};
+use ap_backchain::problem::{Problem, outputs, outputs_without_paths, short_outputs};
 use ap_book::merge;
 use ap_defs::limits::Workers;
 use ap_defs::memory::Memory;
@@ -34,11 +34,34 @@ fn search_beside<R: Threads + Wait + Sync, G: Gate>(
     merge(alloc, closed)
 }
 
-/// The outputs of a query to a depth, in order, each with its answer, the paths aside: those of
-/// sequential nominal resolution (Cheney and Urban, "Nominal Logic Programming"), whoever finds them.
-/// One worker alone searches without the gate; so it is where there are several, as long as few turns are enough
+/// The outputs of a query to a depth, in order, each with its path and its answer: those of sequential
+/// nominal resolution (Cheney and Urban, "Nominal Logic Programming"), whoever finds them. One worker
+/// alone searches without the gate; so it is where there are several, as long as few turns are enough
 /// and the gate holds none. The only error is want of memory.
 pub fn solve<R: Threads + Wait + Sync, G: Gate>(
+    rt: &R,
+    alloc: Global,
+    gate: &G,
+    workers: Workers,
+    problem: &Problem<'_>,
+) -> Result<Vec<Out>, Memory>
+    requires query { HasQuery problem.now }
+    ensures { IfOk result (λ v. (q : NominalQuery) → slice_get (queries_in problem.now) (problem.now.query - 1) ≡ Some q → outs_of v.items ≡ query_outs (clauses_in problem.now) problem.now.depth q) }
+{
+    if workers.get() == 1 {
+        return outputs(alloc, problem);
+    }
+    if !gate.may_hold() {
+        if let Some(outs) = short_outputs(alloc, problem)? {
+            return Ok(outs);
+        }
+    }
+    search_beside(rt, alloc, gate, workers, problem)
+}
+
+/// The same as [`solve`], where no path is asked for: one worker keeps none, since each is as long as its
+/// output is deep.
+pub(crate) fn solve_without_paths<R: Threads + Wait + Sync, G: Gate>(
     rt: &R,
     alloc: Global,
     gate: &G,
@@ -51,10 +74,5 @@ pub fn solve<R: Threads + Wait + Sync, G: Gate>(
     if workers.get() == 1 {
         return outputs_without_paths(alloc, problem);
     }
-    if !gate.may_hold() {
-        if let Some(outs) = short_outputs(alloc, problem)? {
-            return Ok(outs);
-        }
-    }
-    search_beside(rt, alloc, gate, workers, problem)
+    solve(rt, alloc, gate, workers, problem)
 }

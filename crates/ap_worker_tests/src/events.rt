@@ -52,7 +52,9 @@ fn left_out(alloc: Global, found: u64) -> Result<Option<Core>, Memory> {
 }
 
 fn has_left_out(core: &Core) -> bool {
-    core.pending.items().is_empty() && core.done.items().len() == 1 && core.skipped.items().len() == 1
+    core.pending.items().is_empty()
+        && core.done.items().len() == 1
+        && core.skipped.items().len() == 1
 }
 
 #[test]
