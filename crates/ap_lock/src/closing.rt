@@ -23,11 +23,7 @@ use std::alloc::Global;
 impl SharedBook {
     /// A new book with 1 to 64 seats, which have the numbers from 0 on, of which so many answers are
     /// wanted. The only error is want of memory.
-    pub fn make(
-        alloc: Global,
-        seats: u32,
-        limit: Limit,
-    ) -> Result<(SharedBook, Vec<Seat>), Memory>
+    pub fn make(alloc: Global, seats: u32, limit: Limit) -> Result<(SharedBook, Vec<Seat>), Memory>
         requires { (0 < seats) × (seats ≤ 64) }
         ensures made { IfOk result (λ r. (seats_of r.0 ≡ seats) × (r.1.items ≡ new_seats (book_id r.0) 0 seats)) }
         ensures limit { IfOk result (λ r. limit_of r.0 ≡ limit) }
