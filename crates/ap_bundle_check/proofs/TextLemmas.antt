@@ -10,7 +10,7 @@ use Rattle.ap_bundle.specs.Bundles.{NominalBundle, NominalProved}
 use Rattle.ap_bundle.specs.LineForms.{count_form, first_form}
 use Rattle.ap_bundle.specs.Readers.{Place, Wrong, ◌>>=◌, after_line, first_line, found, is_lf, line_as, read_form, read_line, read_words, unended, wrong}
 use Rattle.ap_bundle.specs.Words.{line_words}
-use Rattle.ap_bundle.specs.Reading.{at_line, read_at, read_rest, read_term, read_text, reading, start}
+use Rattle.ap_bundle.specs.Reading.{at_line, read_at, read_text, read_version, reading, start}
 
 -- the bytes behind the first line are no more
 later_line : (b : ℕ) (o : Option (List ℕ × List ℕ)) (l : List ℕ × List ℕ) (n : ℕ) → option_map (λ m. (b ∷ m.0, m.1)) o ≡ Some l
@@ -81,7 +81,7 @@ bundle_short p b e =
     let first = both_read _ _ b e in
     let count = both_read _ _ b first.2 in
     let text = both_read _ _ b count.2 in
-    let rest = both_read (read_rest read_term text.0.1) (λ (ds : List NominalProved). Ok (record { text = text.0.0; proved = ds })) b text.2 in
+    let rest = both_read (read_version first.0.0 text.0.1) (λ (ds : List NominalProved). Ok (record { text = text.0.0; proved = ds })) b text.2 in
     let same : text.0.0 ≡ b.text = ap (λ (z : NominalBundle). z.text) (same_ok (record { text = text.0.0; proved = rest.0 }) b rest.2) in
     let one = line_short Header first_form p first.0 first.1 in
     let two = form_short Header (count_form head.Text) first.0.1 count.0 count.1 in
