@@ -4,8 +4,9 @@
 //! are written of it are those that were read. Then comes what `check` writes.
 
 use crate::proving::tell_check;
+use ap_bundle::version::Version;
 use ap_bundle_read::{BundleError, read_bundle};
-use ap_bundle_write::write_bundle;
+use ap_bundle_write::write_version;
 use ap_checker::verify::verify;
 use ap_defs::limits::SIZE_LIMIT;
 use ap_defs::memory::Memory;
@@ -57,10 +58,11 @@ fn tell_derivations<R: AllocGlobal + Print>(rt: &R, bundle: &Bundle) -> io::Resu
     Ok(())
 }
 
-/// Whether a bundle is written as these bytes.
+/// Whether a bundle is written as these bytes, in either version.
 fn is_written_as(alloc: Global, bundle: &Bundle, bytes: &[u8]) -> Result<bool, Memory> {
-    let written = write_bundle(alloc, bundle)?;
-    Ok(written.as_slice() == bytes)
+    let full = write_version(alloc, bundle, Version::One)?;
+    let shared = write_version(alloc, bundle, Version::Two)?;
+    Ok(full.as_slice() == bytes || shared.as_slice() == bytes)
 }
 
 /// Writes what bytes come to as a bundle.
