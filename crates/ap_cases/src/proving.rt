@@ -5,7 +5,18 @@ use std::io::{self, Write};
 use std::sync::Wait;
 use std::thread::Threads;
 
-const WORKERS: [&str; 3] = ["1", "2", "64"];
+/// Whether `prove` writes these bytes for a text, by so many workers.
+fn is_bundle_by<R: Threads + Wait + Sync + AllocGlobal>(
+    rt: &R,
+    text: &[u8],
+    depth: &str,
+    workers: &str,
+    bytes: &[u8],
+) -> io::Result<bool> {
+    let words = ["prove", "--depth", depth, "--workers", workers];
+    let (_, sink) = answer(rt, &words, text)?;
+    Ok(sink.bytes() == bytes)
+}
 
 /// Whether `prove` writes these bytes for a text, by one worker and by several.
 fn is_bundle_of<R: Threads + Wait + Sync + AllocGlobal>(
@@ -15,14 +26,8 @@ fn is_bundle_of<R: Threads + Wait + Sync + AllocGlobal>(
     bytes: &[u8],
 ) -> io::Result<bool> {
     let depth = format!(in rt.alloc(); "{depth}")?;
-    for workers in &WORKERS {
-        let words = ["prove", "--depth", depth.as_str(), "--workers", workers];
-        let (_, sink) = answer(rt, &words, text)?;
-        if sink.bytes() != bytes {
-            return Ok(false);
-        }
-    }
-    Ok(true)
+    let alone = is_bundle_by(rt, text, depth.as_str(), "1", bytes)?;
+    Ok(alone && is_bundle_by(rt, text, depth.as_str(), "8", bytes)?)
 }
 
 /// Whether `check` writes for a bundle that so many derivations check.
