@@ -59,17 +59,18 @@ fn run<R: Threads + Wait + Sync + AllocGlobal + Input + Print + Eprint>(
     let mut source = Remembering::new(alloc, StdSource::new(rt.reader()));
     let mut sink = Counting::new(StdSink::new(io::writer(rt)));
     let status = top(rt, alloc, words, &mut source, &mut sink, &NoGate);
-    let text = if reads_text(words) {
-        source.read_so_far()
-    } else {
-        None
-    };
+    let counted = sink.tally();
     let tally = if writes_totals(words) {
-        sink.tally()
+        counted
     } else {
         Tally::new()
     };
-    say(rt, alloc, status, text, tally);
+    let text = source.read_so_far();
+    if reads_text(words) {
+        say(rt, alloc, status, text, tally);
+    } else {
+        say(rt, alloc, status, None, tally);
+    }
     status
 }
 
