@@ -37,11 +37,10 @@ fn fact(alloc: Global) -> Clause<Term> {
     }
 }
 
-/// The uses of two facts of a predicate in the derivations at so many paths.
+/// The uses of two facts of a predicate in the derivations at three paths.
 fn uses_of_facts<R: Threads + Sync>(
     rt: &R,
     alloc: Global,
-    count: usize,
     workers: u32,
 ) -> Result<Vec<Vec<u64>>, Memory> {
     let mut clauses = Vec::new(alloc);
@@ -49,15 +48,11 @@ fn uses_of_facts<R: Threads + Sync>(
     clauses.push(fact(alloc))?;
     let mut program = Vec::new(alloc);
     program.push(List::of(clauses))?;
-    let goal = Goal::Atom(0, List::of(Vec::new(alloc)));
-    let mut paths = Vec::new(alloc);
-    while paths.len() < count {
-        paths.push(Path::root(alloc))?;
-    }
     let question = Question {
         program: program.as_slice(),
-        goal: &goal,
+        goal: &Goal::Atom(0, List::of(Vec::new(alloc))),
     };
+    let paths = [Path::root(alloc), Path::root(alloc), Path::root(alloc)];
     uses(rt, alloc, question, paths.as_slice(), &FirstFact, workers)
 }
 
@@ -71,9 +66,7 @@ fn are_counts(table: &[Vec<u64>], first: u64) -> bool {
 #[test]
 fn each_use_counts_once(rt: HostRuntime) {
     for workers in [1, 2, 8, 64] {
-        for count in [0, 1, 5, 100] {
-            let table = uses_of_facts(&rt, rt.alloc(), count, workers);
-            assert!(rt; matches!(&table, Ok(found) if are_counts(found, count as u64)));
-        }
+        let table = uses_of_facts(&rt, rt.alloc(), workers);
+        assert!(rt; matches!(&table, Ok(found) if are_counts(found, 3)));
     }
 }
