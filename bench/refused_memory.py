@@ -29,17 +29,22 @@ WRAPPED = r"""
 #include <dlfcn.h>
 #include <errno.h>
 #include <stdatomic.h>
+#include <fcntl.h>
 #include <stddef.h>
 #include <stdlib.h>
+#include <sys/mman.h>
 
-static atomic_long count;
+/* The count lies in a file, since the program ends without any destructor. */
+static atomic_long *count;
+static long wanted;
+__attribute__((constructor)) static void begin(void) {
+    const char *text = getenv("REFUSED");
+    int file = open(getenv("COUNTED"), O_RDWR);
+    wanted = text ? atol(text) : 0;
+    count = mmap(NULL, sizeof *count, PROT_READ | PROT_WRITE, MAP_SHARED, file, 0);
+}
 static long refused(void) {
-    static atomic_long wanted = -1;
-    if (wanted < 0) {
-        const char *text = getenv("REFUSED");
-        wanted = text ? atol(text) : 0;
-    }
-    return atomic_fetch_add(&count, 1) + 1 == wanted;
+    return count && atomic_fetch_add(count, 1) + 1 == wanted;
 }
 void *malloc(size_t size) {
     static void *(*plain)(size_t);
@@ -61,24 +66,14 @@ int posix_memalign(void **out, size_t alignment, size_t size) {
     if (!plain) plain = dlsym(RTLD_NEXT, "posix_memalign");
     return refused() ? ENOMEM : plain(out, alignment, size);
 }
-__attribute__((destructor)) static void tell(void) {
-    const char *path = getenv("COUNTED");
-    if (path) {
-        FILE *file = fopen(path, "w");
-        if (file) {
-            fprintf(file, "%ld", atomic_load(&count));
-            fclose(file);
-        }
-    }
-}
-""".replace("#include <stdlib.h>", "#include <stdio.h>\n#include <stdlib.h>")
+"""
 
 
-def run(program, words, given, library, refused, counted=None):
-    """The status and the output of a run of which one allocation is refused, or none."""
-    env = dict(os.environ, LD_PRELOAD=library, REFUSED=str(refused))
-    if counted:
-        env["COUNTED"] = counted
+def run(program, words, given, library, refused, counted):
+    """The status and the output of a run of which one allocation is refused, or none; the count of them lies in a file."""
+    with open(counted, "wb") as file:
+        file.write(bytes(8))
+    env = dict(os.environ, LD_PRELOAD=library, REFUSED=str(refused), COUNTED=counted)
     done = subprocess.run([program, *words], input=given, env=env, capture_output=True, check=False)
     return done.returncode, done.stdout
 
@@ -87,11 +82,11 @@ def try_each(program, words, given, library, folder):
     """Refuses each allocation in turn. Gives the output with ample memory, and how many runs went wrong."""
     counted = f"{folder}/counted"
     whole = run(program, words, given, library, 0, counted)
-    with open(counted, encoding="ascii") as file:
-        count = int(file.read())
+    with open(counted, "rb") as file:
+        count = int.from_bytes(file.read(), sys.byteorder)
     wrong, refused = 0, 0
     for number in range(1, count + 1):
-        got = run(program, words, given, library, number)
+        got = run(program, words, given, library, number, counted)
         if got == (7, b""):
             refused += 1
         elif got != whole:
