@@ -7,6 +7,7 @@ The shapes:
            abstraction in the pair of the term below with itself
   facts    a table of SIZE facts, of which one in the middle is asked 65,536 times by its first argument
   types    the clauses of examples/types.apl, asked for the type of a numeral: a function that is used SIZE times
+  choices  20,000 choices, after each of which the substitution of `subst` to SIZE levels is made
 """
 
 import os
@@ -61,7 +62,14 @@ def facts(size):
     return "\n".join(lines) + "\n?- c16.\n"
 
 
-SHAPES = {"reverse": reverse, "subst": subst, "types": types, "facts": facts}
+def choices(size):
+    lines = ["key : type."] + [f"k{i} : key." for i in range(10)] + ["pred one(key).", "pred side(key)."]
+    lines += [f"one(k{i})." for i in range(10)] + ["side(k0).", "side(k1)."]
+    goals = ["one(A)", "one(B)", "one(C)", "one(D)", "side(E)", f"subst({term(size)}, a, var(b), R)"]
+    return clauses("substitution.apl") + "\n".join(lines) + "\n?- " + ", ".join(goals) + ".\n"
+
+
+SHAPES = {"reverse": reverse, "subst": subst, "types": types, "facts": facts, "choices": choices}
 
 
 def main():

@@ -1,5 +1,6 @@
 #!/usr/bin/env python3
-"""Refuses each allocation of a run in turn: of `run` and `prove` on a text, and of `check` on the bundle of it.
+"""Refuses each allocation of a run in turn: of `run` and `prove` on a text, of `check` and `convert` on the bundle of it, and of
+`work`.
 
 usage: bench/refused_memory.py PROGRAM
 
@@ -109,7 +110,10 @@ def main():
             wrong += try_each(program, ["run", *words], TEXT.encode(), library, folder)[1]
             bundle, more = try_each(program, ["prove", *words], TEXT.encode(), library, folder)
             wrong += more
+            wrong += try_each(program, ["work", "--seed", "2", "--size", "3", "--workers", workers], b"", library, folder)[1]
         wrong += try_each(program, ["check"], bundle, library, folder)[1]
+        for version in ("1", "2"):
+            wrong += try_each(program, ["convert", "--to", version], bundle, library, folder)[1]
     sys.exit(1 if wrong else 0)
 
 

@@ -32,7 +32,7 @@ TOP = os.path.dirname(os.path.dirname(os.path.realpath(__file__)))
 DOCUMENTS = "README.md", "docs/LANGUAGE.md", "docs/TUTORIAL.md", "docs/FROM_PROLOG.md"
 COMMAND = re.compile(r"\./alphaprolog run --depth (\d+)(?: --workers \d+)? < examples/(\S+)$")
 COMMAND_LINE = re.compile(r"(?:sed .* \| )?\./alphaprolog \w")
-HOLES = re.compile(r"\b(?:FILE|TEXT|BUNDLE)\b")
+HOLES = re.compile(r"\b(?:FILE|TEXT|BUNDLE|N)\b")
 MESSAGE = re.compile(r"(?:error|warning|note): ")
 REPORT = re.compile(r"% (?:query \d+: |cut |stuck |\w+ fault: )|yes$|[A-Z]\w* = ")
 DEPTH = re.compile(r"[Dd]epth ([\d,]+) or more")

@@ -13,6 +13,8 @@ use Rattle.ap_defs.specs.declared.paths.Node.TheVariants as nodes
 use Rattle.ap_defs.specs.declared.paths.Out.{Out}
 use Rattle.ap_defs.specs.declared.paths.Out.TheVariants as code
 use Rattle.ap_program.specs.Typed.{IsTypedProgram, IsTypedQuery, term_form}
+use Rattle.ap_paths.specs.Limits.{part}
+use Rattle.ap_paths.specs.declared.limits.Limit.{Limit}
 use Rattle.ap_search.specs.Continuations.{Waiting}
 use Rattle.ap_search.specs.MarkedContinuations.{MarkedContinuation, NominalMark, choice, mark_in, mark_path, marked_calls_then, marked_clauses_then, marked_stack_then, marked_then, out, outs_among}
 use Rattle.ap_search.specs.PathTrees.{query_choices, width_at}
@@ -132,22 +134,22 @@ module _ (program : Clauses) (d : ℕ) (q : NominalQuery) where
 asked_once : {X : Type 0} (o : Option X) (x y : X) → o ≡ Some x → o ≡ Some y → x ≡ y
 asked_once o x y h k = cc
 
--- The outputs of a problem.
-module _ (p : Problem) (query : NominalQuery) (asked : slice_get (queries_in p) (p.query - 1) ≡ Some query) (program_typed : IsTypedProgram (program_in p))
+-- The outputs of a problem, as far as they are wanted.
+module _ (p : Problem) (limit : Limit) (query : NominalQuery) (asked : slice_get (queries_in p) (p.query - 1) ≡ Some query) (program_typed : IsTypedProgram (program_in p))
     (typed : IsTypedQuery term_form (program_in p).signature query) where
   abbrev first_outs : List NominalOut
-  first_outs = outs_from (clauses_in p) query.locals (first_position p.depth query)
+  first_outs = part limit (outs_from (clauses_in p) query.locals (first_position p.depth query))
 
   abbrev AreTheOutputs : Vec Out Global → Type 0
-  AreTheOutputs v = (q : NominalQuery) → slice_get (queries_in p) (p.query - 1) ≡ Some q → outs_of v.items ≡ query_outs (clauses_in p) p.depth q
+  AreTheOutputs v = (q : NominalQuery) → slice_get (queries_in p) (p.query - 1) ≡ Some q → outs_of v.items ≡ part limit (query_outs (clauses_in p) p.depth q)
 
   abbrev AreWithoutPaths : Vec Out Global → Type 0
-  AreWithoutPaths v = (q : NominalQuery) → slice_get (queries_in p) (p.query - 1) ≡ Some q → outs_of v.items ≡ map without_path (query_outs (clauses_in p) p.depth q)
+  AreWithoutPaths v = (q : NominalQuery) → slice_get (queries_in p) (p.query - 1) ≡ Some q → outs_of v.items ≡ map without_path (part limit (query_outs (clauses_in p) p.depth q))
 
-  first_are : (q : NominalQuery) → slice_get (queries_in p) (p.query - 1) ≡ Some q → first_outs ≡ query_outs (clauses_in p) p.depth q
+  first_are : (q : NominalQuery) → slice_get (queries_in p) (p.query - 1) ≡ Some q → first_outs ≡ part limit (query_outs (clauses_in p) p.depth q)
   first_are q k =
-      subst (λ (x : NominalQuery). first_outs ≡ query_outs (clauses_in p) p.depth x) (asked_once (slice_get (queries_in p) (p.query - 1)) query q asked k)
-      (stack_by_unbound (program_in p) program_typed p.depth query typed)
+      subst (λ (x : NominalQuery). first_outs ≡ part limit (query_outs (clauses_in p) p.depth x)) (asked_once (slice_get (queries_in p) (p.query - 1)) query q asked k)
+      (ap (part limit) (stack_by_unbound (program_in p) program_typed p.depth query typed))
 
   outputs_are : (v : Vec Out Global) → outs_of v.items ≡ map (kept_out paths.Kept) first_outs → AreTheOutputs v
   outputs_are v h = λ q k. h ∙ map-id first_outs ∙ first_are q k

@@ -9,6 +9,7 @@ pub mod ArenaLemmas
 pub mod BranchLemmas
 pub mod FitLemmas
 pub mod MarkLemmas
+pub mod WantedLemmas
 pub mod SearchLemmas
 pub mod RunLemmas
 pub mod StoreTurnLemmas

@@ -17,3 +17,4 @@ pub mod Positions
 pub mod Problems
 pub mod Turns
 pub mod Views
+pub mod Wanted

@@ -146,9 +146,9 @@ pub fn answer_in(
     let free = vars_of_locals(alloc, 0, locals)?;
     let binds = closed(alloc, store, &free)?;
     let others = unbound_of(alloc, store, brought)?;
-    let vars = vars_among(alloc, &binds, store.conditions(), &others)?;
-    let vars = typed_of(alloc, store, &vars)?;
     let conds = store.conds(alloc)?;
+    let vars = vars_among(alloc, &binds, &conds, &others)?;
+    let vars = typed_of(alloc, store, &vars)?;
     Ok(Answer {
         binds: List::of(binds),
         conds: List::of(conds),

@@ -22,6 +22,7 @@ use ap_defs::memory::Memory;
 use ap_defs::outcomes::Answer;
 use ap_defs::paths::{Node, Out};
 use ap_defs::terms::Term;
+use ap_paths::Limit;
 use std::alloc::Global;
 
 /// A branch of a search, which has been run up to a choice or to its end.
@@ -81,7 +82,9 @@ fn outs_of_standing<'a>(
     ensures { IfOk result (λ v. outs_of v.items ≡ outs_among (marks_of_standing (map (map clause_of) clauses.now) (locals_of locals.now) standing.entry)) }
 {
     match standing {
-        Standing::Choosing(_, place) => outputs_from(alloc, clauses, locals, Paths::Kept, place),
+        Standing::Choosing(_, place) => {
+            outputs_from(alloc, clauses, locals, Paths::Kept, Limit::All, place)
+        }
         Standing::Ended(out) => {
             let mut outs = Vec::new(alloc);
             outs.push(out)?;

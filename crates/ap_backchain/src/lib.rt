@@ -28,3 +28,4 @@ pub mod step;
 pub mod turns;
 pub mod unbound;
 pub mod vars;
+mod wanted;

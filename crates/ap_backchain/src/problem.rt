@@ -6,6 +6,7 @@ ghost use Rattle.ap_defs.specs.Goals.{NominalQuery, clause_of, query_of};
 ghost use Rattle.ap_backchain.specs.Below.{AreClausesBelow, IsQueryBelow};
 ghost use Rattle.ap_backchain.specs.Ends.{without_path};
 ghost use Rattle.ap_backchain.specs.Problems.{HasQuery, clauses_in, program_in, queries_in};
+ghost use Rattle.ap_paths.specs.Limits.{part};
 ghost use Rattle.ap_program.specs.Typed.{IsTypedProgram, IsTypedQuery, term_form};
 
 use crate::run::{Paths, outputs_of_query, outputs_of_short_query};
@@ -14,6 +15,7 @@ use ap_defs::lists::List;
 use ap_defs::memory::Memory;
 use ap_defs::paths::Out;
 use ap_defs::terms::Term;
+use ap_paths::Limit;
 use ap_program::restricted::Restricted;
 use std::alloc::Global;
 
@@ -46,36 +48,44 @@ pub fn query_of_problem<'a>(p: &Problem<'a>) -> &'a Query<Term>
     &queries[p.query as usize - 1]
 }
 
-/// The outputs of a query to a depth, in order, each with its path and its answer: all answers of
-/// sequential nominal resolution, and a note wherever a branch was cut or is stuck (Cheney and
-/// Urban, "Nominal Logic Programming").
-pub fn outputs(alloc: Global, p: &Problem<'_>) -> Result<Vec<Out>, Memory>
+/// The outputs of a query to a depth up to the last answer that is wanted, in order, each with its path
+/// and its answer: the answers of sequential nominal resolution, and a note wherever a branch was cut or
+/// is stuck (Cheney and Urban, "Nominal Logic Programming"). The search ends with the last of them.
+pub fn outputs(alloc: Global, p: &Problem<'_>, limit: Limit) -> Result<Vec<Out>, Memory>
     requires { HasQuery p.now }
-    ensures { IfOk result (λ v. (q : NominalQuery) → slice_get (queries_in p.now) (p.now.query - 1) ≡ Some q → outs_of v.items ≡ query_outs (clauses_in p.now) p.now.depth q) }
+    ensures { IfOk result (λ v. (q : NominalQuery) → slice_get (queries_in p.now) (p.now.query - 1) ≡ Some q → outs_of v.items ≡ part limit (query_outs (clauses_in p.now) p.now.depth q)) }
 {
     let clauses = clauses_of_problem(p);
     let query = query_of_problem(p);
-    outputs_of_query(alloc, clauses, p.depth, query, Paths::Kept)
+    outputs_of_query(alloc, clauses, p.depth, query, Paths::Kept, limit)
 }
 
 /// The outputs of a query to a depth, as `outputs`, without their paths, which would take memory for
 /// each.
-pub fn outputs_without_paths(alloc: Global, p: &Problem<'_>) -> Result<Vec<Out>, Memory>
+pub fn outputs_without_paths(
+    alloc: Global,
+    p: &Problem<'_>,
+    limit: Limit,
+) -> Result<Vec<Out>, Memory>
     requires { HasQuery p.now }
-    ensures { IfOk result (λ v. (q : NominalQuery) → slice_get (queries_in p.now) (p.now.query - 1) ≡ Some q → outs_of v.items ≡ map without_path (query_outs (clauses_in p.now) p.now.depth q)) }
+    ensures { IfOk result (λ v. (q : NominalQuery) → slice_get (queries_in p.now) (p.now.query - 1) ≡ Some q → outs_of v.items ≡ map without_path (part limit (query_outs (clauses_in p.now) p.now.depth q))) }
 {
     let clauses = clauses_of_problem(p);
     let query = query_of_problem(p);
-    outputs_of_query(alloc, clauses, p.depth, query, Paths::Left)
+    outputs_of_query(alloc, clauses, p.depth, query, Paths::Left, limit)
 }
 
 /// The outputs of a query to a depth, as `outputs`, where the search takes few turns: none says that it
 /// takes more.
-pub fn short_outputs(alloc: Global, p: &Problem<'_>) -> Result<Option<Vec<Out>>, Memory>
+pub fn short_outputs(
+    alloc: Global,
+    p: &Problem<'_>,
+    limit: Limit,
+) -> Result<Option<Vec<Out>>, Memory>
     requires { HasQuery p.now }
-    ensures { IfOk result (λ o. IfSome o (λ v. (q : NominalQuery) → slice_get (queries_in p.now) (p.now.query - 1) ≡ Some q → outs_of v.items ≡ query_outs (clauses_in p.now) p.now.depth q)) }
+    ensures { IfOk result (λ o. IfSome o (λ v. (q : NominalQuery) → slice_get (queries_in p.now) (p.now.query - 1) ≡ Some q → outs_of v.items ≡ part limit (query_outs (clauses_in p.now) p.now.depth q))) }
 {
     let clauses = clauses_of_problem(p);
     let query = query_of_problem(p);
-    outputs_of_short_query(alloc, clauses, p.depth, query, Paths::Kept)
+    outputs_of_short_query(alloc, clauses, p.depth, query, Paths::Kept, limit)
 }

@@ -13,6 +13,8 @@ ghost use Rattle.ap_backchain.specs.Points.{IsFitRest, positions_left};
 ghost use Rattle.ap_backchain.specs.Positions.{outs_from, turned, turned_goal};
 ghost use Rattle.ap_backchain.specs.Searches.{HasPoints, ended, followed, pending_of, positions_with};
 ghost use Rattle.ap_backchain.specs.Starts.{first_position};
+ghost use Rattle.ap_backchain.specs.Wanted as limits;
+ghost use Rattle.ap_paths.specs.Limits.{part};
 
 use crate::choices::choice_at;
 use crate::clauses::{clauses_at, enter_clause};
@@ -22,11 +24,13 @@ use crate::heads::{key_of_atom, next_clause};
 use crate::place::Place;
 use crate::points::{Point, Rest, Save, Untried};
 use crate::turns::{Turn, take_turn};
+use crate::wanted::{is_wanting, wanted_after};
 use ap_defs::goals::{Clause, Goal, Local, Query};
 use ap_defs::lists::List;
 use ap_defs::memory::Memory;
 use ap_defs::paths::Out;
 use ap_defs::terms::Term;
+use ap_paths::Limit;
 use ap_store::store::Store;
 use std::alloc::Global;
 
@@ -282,8 +286,8 @@ fn resume<'a>(
     Ok(false)
 }
 
-/// One turn of a search, which adds the output with which it ends; where it does not go on from
-/// there, the search resumes. It answers whether it goes on.
+/// One turn of a search, which adds the output with which it ends, so that fewer may be wanted; where
+/// it does not go on from there, the search resumes. It answers whether it goes on.
 fn go_on<'a>(
     alloc: Global,
     clauses: &'a [List<Clause<Term>>],
@@ -292,6 +296,7 @@ fn go_on<'a>(
     place: &mut Place<'a>,
     points: &mut Vec<Point<'a>>,
     outs: &mut Vec<Out>,
+    wanted: &mut Limit,
 ) -> Result<bool, Memory>
     requires clauses { AreClausesBelow (map (map clause_of) clauses.now) }
     requires locals { length locals.now < 2 ^ 64 }
@@ -300,31 +305,37 @@ fn go_on<'a>(
     ensures outs { OnOk result (outs_of outs.new.items ≡ outs_of outs.old.items ++ map (kept_out paths) (ended (turned (map (map clause_of) clauses.now) (locals_of locals.now) (position_of place.old)))) }
     ensures points { OnOk result (HasPoints place.new points.new) }
     ensures none { IfOk result (λ b. b ≡ false → points.new.items ≡ []) }
+    ensures wanted { OnOk result (wanted.new ≡ limits.wanted_after wanted.old (ended (turned (map (map clause_of) clauses.now) (locals_of locals.now) (position_of place.old)))) }
 {
-    if turn_on(alloc, clauses, locals, paths, place, points, outs)? {
+    let before = outs.len();
+    let goes = turn_on(alloc, clauses, locals, paths, place, points, outs)?;
+    *wanted = wanted_after(*wanted, &outs[before..]);
+    if goes {
         Ok(true)
     } else {
         resume(alloc, place, points)
     }
 }
 
-/// The outputs from a place, in order, depth first: where the search does not go on from a place, it
-/// goes back to the latest choice that has a way left.
+/// The outputs from a place up to the last answer that is wanted, in order, depth first: where the search
+/// does not go on from a place, it goes back to the latest choice that has a way left.
 pub fn outputs_from<'a>(
     alloc: Global,
     clauses: &'a [List<Clause<Term>>],
     locals: &[Local],
     paths: Paths,
+    limit: Limit,
     first: Place<'a>,
 ) -> Result<Vec<Out>, Memory>
     requires clauses { AreClausesBelow (map (map clause_of) clauses.now) }
     requires locals { length locals.now < 2 ^ 64 }
-    ensures { IfOk result (λ v. outs_of v.items ≡ map (kept_out paths) (outs_from (map (map clause_of) clauses.now) (locals_of locals.now) (position_of first.entry))) }
+    ensures { IfOk result (λ v. outs_of v.items ≡ map (kept_out paths) (part limit (outs_from (map (map clause_of) clauses.now) (locals_of locals.now) (position_of first.entry)))) }
 {
     let mut outs = Vec::new(alloc);
     let mut points = Vec::new(alloc);
     let mut place = first;
-    'searching: loop {
+    let mut wanted = limit;
+    'searching: while is_wanting(wanted) {
         if !go_on(
             alloc,
             clauses,
@@ -333,10 +344,12 @@ pub fn outputs_from<'a>(
             &mut place,
             &mut points,
             &mut outs,
+            &mut wanted,
         )? {
             return Ok(outs);
         }
     }
+    Ok(outs)
 }
 
 /// The outputs from a place, as `outputs_from`, where the search takes few turns.
@@ -345,16 +358,21 @@ fn outputs_soon<'a>(
     clauses: &'a [List<Clause<Term>>],
     locals: &[Local],
     paths: Paths,
+    limit: Limit,
     first: Place<'a>,
 ) -> Result<Option<Vec<Out>>, Memory>
     requires clauses { AreClausesBelow (map (map clause_of) clauses.now) }
     requires locals { length locals.now < 2 ^ 64 }
-    ensures { IfOk result (λ o. IfSome o (λ v. outs_of v.items ≡ map (kept_out paths) (outs_from (map (map clause_of) clauses.now) (locals_of locals.now) (position_of first.entry)))) }
+    ensures { IfOk result (λ o. IfSome o (λ v. outs_of v.items ≡ map (kept_out paths) (part limit (outs_from (map (map clause_of) clauses.now) (locals_of locals.now) (position_of first.entry))))) }
 {
     let mut outs = Vec::new(alloc);
     let mut points = Vec::new(alloc);
     let mut place = first;
+    let mut wanted = limit;
     'searching: for _ in 0..FEW_TURNS {
+        if !is_wanting(wanted) {
+            return Ok(Some(outs));
+        }
         if !go_on(
             alloc,
             clauses,
@@ -363,6 +381,7 @@ fn outputs_soon<'a>(
             &mut place,
             &mut points,
             &mut outs,
+            &mut wanted,
         )? {
             return Ok(Some(outs));
         }
@@ -377,27 +396,30 @@ pub fn outputs_of_short_query(
     depth: u32,
     query: &Query<Term>,
     paths: Paths,
+    limit: Limit,
 ) -> Result<Option<Vec<Out>>, Memory>
     requires clauses { AreClausesBelow (map (map clause_of) clauses.now) }
     requires query { IsQueryBelow (query_of query.now) }
-    ensures { IfOk result (λ o. IfSome o (λ v. outs_of v.items ≡ map (kept_out paths) (outs_from (map (map clause_of) clauses.now) (query_of query.now).locals (first_position depth (query_of query.now))))) }
+    ensures { IfOk result (λ o. IfSome o (λ v. outs_of v.items ≡ map (kept_out paths) (part limit (outs_from (map (map clause_of) clauses.now) (query_of query.now).locals (first_position depth (query_of query.now)))))) }
 {
     let first = first_place(alloc, depth, query)?;
-    outputs_soon(alloc, clauses, query.locals.items(), paths, first)
+    outputs_soon(alloc, clauses, query.locals.items(), paths, limit, first)
 }
 
-/// The outputs from where the search of a query to a depth begins, in order.
+/// The outputs from where the search of a query to a depth begins up to the last answer that is wanted,
+/// in order.
 pub fn outputs_of_query(
     alloc: Global,
     clauses: &[List<Clause<Term>>],
     depth: u32,
     query: &Query<Term>,
     paths: Paths,
+    limit: Limit,
 ) -> Result<Vec<Out>, Memory>
     requires clauses { AreClausesBelow (map (map clause_of) clauses.now) }
     requires query { IsQueryBelow (query_of query.now) }
-    ensures { IfOk result (λ v. outs_of v.items ≡ map (kept_out paths) (outs_from (map (map clause_of) clauses.now) (query_of query.now).locals (first_position depth (query_of query.now)))) }
+    ensures { IfOk result (λ v. outs_of v.items ≡ map (kept_out paths) (part limit (outs_from (map (map clause_of) clauses.now) (query_of query.now).locals (first_position depth (query_of query.now))))) }
 {
     let first = first_place(alloc, depth, query)?;
-    outputs_from(alloc, clauses, query.locals.items(), paths, first)
+    outputs_from(alloc, clauses, query.locals.items(), paths, limit, first)
 }

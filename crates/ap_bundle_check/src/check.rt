@@ -95,7 +95,7 @@ pub fn check_bytes(alloc: Global, bytes: &[u8]) -> Result<Report, Memory>
 {
     match read_bundle(alloc, bytes) {
         Ok(bundle) => report_bundle(alloc, &bundle),
-        Err(BundleError::Fault(fault)) => lines::fault_report(alloc, fault),
+        Err(BundleError::Fault(fault)) => lines::bundle_fault_report(alloc, fault),
         Err(BundleError::Memory) => Err(Memory),
     }
 }

@@ -1,7 +1,8 @@
 //! The report on a bundle: whether each derivation in it checks.
 //!
 //! [`check_bytes`] reads a bundle, takes the program of its text, and asks the checker for the verdict on each
-//! derivation. It shares no code with the search that makes them.
+//! derivation. It shares no code with the search that makes them. [`bundle_fault_report`] is the report on a
+//! bundle that has a fault of its own.
 #![tactic(auto)]
 
 mod check;
@@ -9,3 +10,4 @@ pub mod laws;
 mod lines;
 
 pub use check::check_bytes;
+pub use lines::bundle_fault_report;

@@ -19,8 +19,8 @@ pub(crate) struct Refusal {
     pub rule: u32,
 }
 
-/// The report of a bundle's fault.
-pub(crate) fn fault_report(alloc: Global, fault: BundleFault) -> Result<Report, Memory>
+/// The report of a bundle's fault: its line. `Err` is want of memory.
+pub fn bundle_fault_report(alloc: Global, fault: BundleFault) -> Result<Report, Memory>
     ensures { IfOk result (λ r. r ≡ reports.bundle_fault_report fault) }
 {
     let line = fault.line;

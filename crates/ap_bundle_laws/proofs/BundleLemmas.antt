@@ -9,7 +9,7 @@ use Rattle.ap_defs.specs.Answers.{NominalAnswer}
 use Rattle.ap_defs.specs.Derivations as derivation
 use Rattle.ap_defs.specs.Derivations.{NominalDerivation, terms_in}
 use Rattle.ap_bundle.specs.declared.version.Version.{Version}
-use Rattle.ap_bundle.specs.declared.version.Version.TheVariants.{One, Two}
+use Rattle.ap_bundle.specs.declared.version.Version.TheVariants.{One}
 use Rattle.ap_bundle.specs.Versions.{first_line}
 use Rattle.ap_bundle.specs.Tables.{terms_of}
 use Rattle.ap_bundle.proofs.TableLemmas.{each_append}

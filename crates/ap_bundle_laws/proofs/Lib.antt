@@ -6,4 +6,7 @@ pub mod NodeLemmas
 pub mod BundleLemmas
 pub mod OrderLemmas
 pub mod SharedLemmas
+pub mod VersionLemmas
+pub mod RangedForms
+pub mod RangedLemmas
 pub mod Examples

@@ -1,5 +1,5 @@
 -- Bundles of version 2 are read as they are written, and their prefixes are unended.
-use Rattle.std.proofs.Common.{◌≡◌, ℕ, ◌+◌, ◌-◌, ◌<◌, ◌≤◌, ◌^◌, false, nat_lt, List, [], ◌∷◌, ◌++◌, length, slice_get, Option, Some, Ok, Err, refl, ap, sym, subst, ◌∙◌, append_assoc, arith, rules, flat_map, length-append}
+use Rattle.std.proofs.Common.{◌≡◌, ℕ, ◌+◌, ◌-◌, ◌<◌, ◌^◌, false, nat_lt, List, [], ◌∷◌, ◌++◌, length, Some, Ok, Err, refl, ap, sym, subst, ◌∙◌, append_assoc, arith, rules, flat_map, length-append}
 use Rattle.std.specs.Prelude.{codes}
 use Rattle.std.proofs.lemmas.Bool.{le-ltb}
 use Rattle.std.proofs.lemmas.List.{append-nil}
@@ -9,18 +9,17 @@ use Rattle.ap_defs.specs.Terms.{NominalTerm}
 use Rattle.ap_bundle.specs.declared.faults.BundleKind.TheVariants.{Header, Term}
 use Rattle.ap_bundle.specs.declared.version.Version.TheVariants.{Two}
 use Rattle.ap_bundle.specs.declared.words.Head.TheVariants as head
-use Rattle.ap_bundle.specs.declared.words.Word.{Word}
 use Rattle.ap_bundle.specs.declared.words.Word.TheVariants as word
-use Rattle.ap_bundle.specs.Forms.{swap_words, swaps}
+use Rattle.ap_bundle.specs.Forms.{swap_words}
 use Rattle.ap_bundle.specs.LineForms.{after_head, first_form}
-use Rattle.ap_bundle.specs.Bundles.{NominalProved, NominalBundle}
-use Rattle.ap_bundle.specs.Tables.{expanded_size, size_of_all, grown, line_of, Has, HasParts, entry_words, terms_of, table_of}
+use Rattle.ap_bundle.specs.Bundles.{NominalBundle}
+use Rattle.ap_bundle.specs.Tables.{expanded_size, size_of_all, line_of, Has, HasParts, entry_words, terms_of, table_of}
 use Rattle.ap_bundle.specs.TableForms.{numbers, earlier, name_entry, pair_entry, app_entry, abs_entry, susp_entry, entry_form, read_entries, shared_form, read_shared}
-use Rattle.ap_bundle.specs.Readers.{Place, ◌>>=◌, unended, read_line, read_form}
-use Rattle.ap_bundle.specs.Written.{head_line, counted, listed, entry_line, shared_line, proved_part, shared_part, written_shared}
+use Rattle.ap_bundle.specs.Readers.{◌>>=◌, unended, read_form}
+use Rattle.ap_bundle.specs.Written.{head_line, counted, entry_line, shared_line, proved_part, shared_part, written_shared}
 use Rattle.ap_bundle.specs.Reading.{read_count, read_rest, read_shared_rest, read_at, room_at_first}
 use Rattle.ap_bundle.proofs.TableLemmas.{has_at, words_more}
-use Rattle.ap_bundle_laws.specs.Laws.{Each, FitsTerm, FitsBundle, FitsProved, IsListOf, HasRoom}
+use Rattle.ap_bundle_laws.specs.Laws.{Each, FitsTerm, FitsBundle, HasRoom}
 use Rattle.ap_bundle_laws.proofs.GoodLemmas.{at, IsGood, good_then, room_for}
 use Rattle.ap_bundle_laws.proofs.WordLemmas.{Fits}
 use Rattle.ap_bundle_laws.proofs.FormLemmas.{small_again, name_again, swaps_again, swap_numbers}

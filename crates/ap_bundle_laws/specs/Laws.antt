@@ -1,5 +1,5 @@
 -- What holds of what is written and read.
-use Rattle.std.specs.Prelude.{ℕ, ◌+◌, ◌<◌, ◌≤◌, ◌^◌, ◌≡◌, flat_map, List, [], ◌∷◌, ◌++◌, length, count_by, Ok, Err}
+use Rattle.std.specs.Prelude.{ℕ, ◌+◌, ◌<◌, ◌≤◌, ◌^◌, ◌≡◌, flat_map, List, ◌++◌, length, count_by, Ok, Err}
 pub use Rattle.std.specs.List.{AllByRecursion as Each}
 use Rattle.ap_defs.specs.declared.terms.Name.{Name}
 use Rattle.ap_defs.specs.declared.terms.Var.{Var}
@@ -13,6 +13,8 @@ use Rattle.ap_defs.specs.Answers.{NominalAnswer}
 use Rattle.ap_defs.specs.Derivations as derivations
 use Rattle.ap_defs.specs.Derivations.{NominalDerivation}
 use Rattle.ap_bundle.specs.declared.faults.BundleKind.TheVariants.{Unended}
+use Rattle.ap_bundle.specs.declared.version.Version.{Version}
+use Rattle.ap_bundle.specs.declared.version.Version.TheVariants.{One, Two}
 use Rattle.ap_bundle.specs.Bundles.{NominalProved, NominalBundle}
 use Rattle.ap_bundle.specs.Readers.{is_lf}
 use Rattle.ap_bundle.specs.Tables.{size_of_all, terms_of}
@@ -92,3 +94,12 @@ SharedIsRead = (b : NominalBundle) → FitsBundle b → HasRoom b → reading (w
 abbrev pub SharedPrefixesAreUnended : Type 0
 SharedPrefixesAreUnended = (b : NominalBundle) (v u : List ℕ) → FitsBundle b → HasRoom b → written_shared b ≡ v ++ u → 0 < length u
     → reading v ≡ Err (record { line = 1 + count_by is_lf v; kind = Unended })
+
+-- the terms of the bundle are as large as may be read in this version
+abbrev pub HasRoomIn : Version → NominalBundle → Type 0
+HasRoomIn One b = Unit {0}
+HasRoomIn Two b = HasRoom b
+
+-- what is read is in these ranges
+abbrev pub ReadFits : Type 0
+ReadFits = (bytes : List ℕ) (b : NominalBundle) → reading bytes ≡ Ok b → FitsBundle b

@@ -3,7 +3,7 @@
 ghost use Rattle.std.specs.Prelude.{◌≡◌, IfOk, length, map};
 ghost use Rattle.ap_defs.specs.Goals.{program_of};
 ghost use Rattle.ap_bundle.specs.Bundles.{proved_of};
-ghost use Rattle.ap_verdicts.specs.Proofs.{program_proofs};
+ghost use Rattle.ap_verdicts.specs.Proofs.{limited_proofs};
 
 use crate::query::prove_query;
 use ap_backchain::problem::Problem;
@@ -11,6 +11,7 @@ use ap_defs::limits::{Depth, Workers};
 use ap_defs::memory::Memory;
 use ap_defs::outcomes::Proved;
 use ap_io::Gate;
+use ap_paths::Limit;
 use ap_program::restricted::Restricted;
 use std::alloc::Global;
 use std::sync::Wait;
@@ -23,19 +24,20 @@ fn query_count(program: &Restricted) -> u32
     program.program().queries.items().len() as u32
 }
 
-/// The answers of a program's queries to a depth, in order, each with its derivation. So many workers
-/// search each query; two or more pass the gate before each path that they take up. The answers do not
-/// depend on how many there are. `Err` is want of memory.
+/// The answers of a program's queries to a depth that are wanted, in order, each with its derivation. So
+/// many workers search each query; two or more pass the gate before each path that they take up. The
+/// answers do not depend on how many there are. `Err` is want of memory.
 pub fn prove_program<R: Threads + Wait + Sync, G: Gate>(
     rt: &R,
     alloc: Global,
     gate: &G,
     depth: Depth,
     workers: Workers,
+    limit: Limit,
     program: &Restricted,
 ) -> Result<Vec<Proved>, Memory>
     ensures { IfOk result (λ v. map proved_of v.items
-        ≡ program_proofs depth (program_of program.now)) }
+        ≡ limited_proofs depth limit (program_of program.now)) }
 {
     let count = query_count(program);
     let mut all = Vec::new(alloc);
@@ -45,7 +47,7 @@ pub fn prove_program<R: Threads + Wait + Sync, G: Gate>(
             query: place + 1,
             depth: depth.get(),
         };
-        prove_query(rt, alloc, gate, workers, &problem, &mut all)?;
+        prove_query(rt, alloc, gate, workers, limit, &problem, &mut all)?;
     }
     Ok(all)
 }

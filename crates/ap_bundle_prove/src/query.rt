@@ -7,7 +7,7 @@ ghost use Rattle.ap_defs.specs.Goals.{NominalQuery};
 ghost use Rattle.ap_backchain.specs.Problems.{HasQuery, clauses_in, queries_in};
 ghost use Rattle.ap_bundle.specs.Bundles.{proved_of};
 ghost use Rattle.ap_bundle_prove.specs.Paths.{IsLed, proof_at};
-ghost use Rattle.ap_verdicts.specs.Proofs.{query_proofs};
+ghost use Rattle.ap_verdicts.specs.Proofs.{query_proofs, wanted_proofs};
 
 use ap_backchain::problem::Problem;
 use ap_defs::limits::Workers;
@@ -16,6 +16,7 @@ use ap_defs::outcomes::Proved;
 use ap_defs::paths::Out;
 use ap_derive::derivations::derive_along;
 use ap_io::Gate;
+use ap_paths::Limit;
 use ap_report::solve;
 use std::alloc::Global;
 use std::sync::Wait;
@@ -70,12 +71,14 @@ fn prove_outs(
     Ok(())
 }
 
-/// Adds the answers of a query, which so many workers find between them, with their derivations.
+/// Adds the answers of a query that are wanted, which so many workers find between them, with their
+/// derivations.
 pub(crate) fn prove_query<R: Threads + Wait + Sync, G: Gate>(
     rt: &R,
     alloc: Global,
     gate: &G,
     workers: Workers,
+    limit: Limit,
     p: &Problem<'_>,
     all: &mut Vec<Proved>,
 ) -> Result<(), Memory>
@@ -83,8 +86,8 @@ pub(crate) fn prove_query<R: Threads + Wait + Sync, G: Gate>(
     ensures { OnOk result ((q : NominalQuery) →
         slice_get (queries_in p.now) (p.now.query - 1) ≡ Some q →
         map proved_of all.new.items ≡ map proved_of all.old.items
-        ++ query_proofs (clauses_in p.now) p.now.depth p.now.query q) }
+        ++ wanted_proofs limit (query_proofs (clauses_in p.now) p.now.depth p.now.query q)) }
 {
-    let outs = solve(rt, alloc, gate, workers, p)?;
+    let outs = solve(rt, alloc, gate, workers, limit, p)?;
     prove_outs(alloc, p, outs, all)
 }

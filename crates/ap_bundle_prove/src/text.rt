@@ -4,17 +4,19 @@ ghost use Rattle.std.specs.Prelude.{◌≡◌, ◌≤◌, IfOk, length, map};
 ghost use Rattle.ap_defs.specs.Goals.{program_of};
 ghost use Rattle.ap_defs.specs.Limits.{size_limit};
 ghost use Rattle.ap_bundle.specs.Bundles.{proved_of};
-ghost use Rattle.ap_bundle.specs.Written.{written};
+ghost use Rattle.ap_bundle.specs.Written.{written_as};
 ghost use Rattle.ap_report.specs.declared.report.Report.{Report};
 ghost use Rattle.ap_bundle_prove.specs.Reports.{HasSoundProofs, IsProveReport, prove_report};
 
 use crate::program::prove_program;
-use ap_bundle_write::write_bundle;
+use ap_bundle::version::Version;
+use ap_bundle_write::write_version;
 use ap_defs::limits::{Depth, Workers};
 use ap_defs::lists::List;
 use ap_defs::memory::Memory;
 use ap_defs::outcomes::{Bundle, Proved};
 use ap_io::Gate;
+use ap_paths::Limit;
 use ap_program::restricted::Restricted;
 use ap_report::{Report, Status, fault_report};
 use ap_text::{TextError, program_of_text};
@@ -22,17 +24,18 @@ use std::alloc::Global;
 use std::sync::Wait;
 use std::thread::Threads;
 
-/// The bundle of a text and of answers with their derivations, as a report.
+/// The bundle, of version 2, of a text and of answers with their derivations, as a report.
 fn report_bundle(alloc: Global, text: &[u8], proved: Vec<Proved>) -> Result<Report, Memory>
     ensures bytes { IfOk result (λ r. r.bytes
-        ≡ written (record { text = text.now; proved = map proved_of proved.items })) }
+        ≡ written_as Version.Two
+        (record { text = text.now; proved = map proved_of proved.items })) }
     ensures status { IfOk result (λ r. r.status ≡ Status.Ok) }
 {
     let bundle = Bundle {
         text: List::of(text.to_vec(alloc)?),
         proved: List::of(proved),
     };
-    let bytes = write_bundle(alloc, &bundle)?;
+    let bytes = write_version(alloc, &bundle, Version::Two)?;
     Ok(Report {
         bytes: List::of(bytes),
         status: Status::Ok,
@@ -46,41 +49,61 @@ fn report_proofs<R: Threads + Wait + Sync, G: Gate>(
     gate: &G,
     depth: Depth,
     workers: Workers,
+    limit: Limit,
     text: &[u8],
     program: &Restricted,
 ) -> Result<Report, Memory>
-    ensures { IfOk result (λ r. r ≡ prove_report depth text.now (program_of program.now)) }
+    ensures { IfOk result (λ r. r ≡ prove_report depth limit text.now (program_of program.now)) }
 {
-    let proved = prove_program(rt, alloc, gate, depth, workers, program)?;
+    let proved = prove_program(rt, alloc, gate, depth, workers, limit, program)?;
     report_bundle(alloc, text, proved)
 }
 
+/// The line of a text's first fault, or the bundle of it and of its answers that are wanted.
+#[tactic(auto, using(ap_report::proofs::Texts::refused_report, ap_report::proofs::Texts::answered_report))]
+fn report<R: Threads + Wait + Sync, G: Gate>(
+    rt: &R,
+    alloc: Global,
+    gate: &G,
+    depth: Depth,
+    workers: Workers,
+    limit: Limit,
+    text: &[u8],
+) -> Result<Report, Memory>
+    requires { length text.now ≤ size_limit }
+    ensures made { IfOk result (λ r. IsProveReport depth limit text.now r) }
+    ensures only { IfOk result (λ r. (s : Report) → IsProveReport depth limit text.now s → s ≡ r) }
+{
+    match program_of_text(alloc, text) {
+        Ok(program) => report_proofs(rt, alloc, gate, depth, workers, limit, text, &program),
+        Err(TextError::Fault(fault)) => fault_report(alloc, &fault),
+        Err(TextError::Memory) => Err(Memory),
+    }
+}
+
 /// The report of `prove` on a text, to a depth: the line of the first fault, or the bundle of the text
-/// and of all answers of its queries, each with its derivation. So many workers search each query; two or
-/// more pass the gate before each path that they take up. What the report is does not depend on how many
-/// there are. Each derivation in it checks, and so its answer is sound.
+/// and of the answers of its queries that are wanted, each with its derivation, in version 2. So many
+/// workers search each query; two or more pass the gate before each path that they take up. What the
+/// report is does not depend on how many there are. Each derivation in it checks, and so its answer is
+/// sound.
 ///
 /// `Err` is want of memory.
-#[tactic(auto, using(ap_report::proofs::Texts::refused_report, ap_report::proofs::Texts::answered_report))]
 pub fn prove_text<R: Threads + Wait + Sync, G: Gate>(
     rt: &R,
     alloc: Global,
     gate: &G,
     depth: Depth,
     workers: Workers,
+    limit: Limit,
     text: &[u8],
 ) -> Result<Report, Memory>
     requires { length text.now ≤ size_limit }
     // What is answered is the report on the text.
-    ensures made { IfOk result (λ r. IsProveReport depth text.now r) }
+    ensures made { IfOk result (λ r. IsProveReport depth limit text.now r) }
     // No other is.
-    ensures only { IfOk result (λ r. (s : Report) → IsProveReport depth text.now s → s ≡ r) }
+    ensures only { IfOk result (λ r. (s : Report) → IsProveReport depth limit text.now s → s ≡ r) }
     // What is proved in it is derivable.
-    ensures sound { HasSoundProofs depth text.now }
+    ensures sound { HasSoundProofs depth limit text.now }
 {
-    match program_of_text(alloc, text) {
-        Ok(program) => report_proofs(rt, alloc, gate, depth, workers, text, &program),
-        Err(TextError::Fault(fault)) => fault_report(alloc, &fault),
-        Err(TextError::Memory) => Err(Memory),
-    }
+    report(rt, alloc, gate, depth, workers, limit, text)
 }

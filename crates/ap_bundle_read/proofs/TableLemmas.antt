@@ -8,10 +8,10 @@ use Rattle.ap_bundle.specs.Forms.{◌>>=◌}
 use Rattle.ap_bundle.specs.Tables.{expanded_size}
 use Rattle.ap_bundle_read.specs.declared.table.Entry.{Entry}
 use Rattle.ap_bundle_read.specs.declared.table.Entry.TheVariants as entry
-use Rattle.ap_bundle_read.specs.declared.table.Layer.TheVariants as layer
+use Rattle.ap_bundle_read.specs.declared.table.expanding.Layer.TheVariants as layer
 use Rattle.ap_bundle_read.specs.declared.table.Line.{Line}
-use Rattle.ap_bundle_read.specs.declared.table.Task.{Task}
-use Rattle.ap_bundle_read.specs.declared.table.Task.TheVariants as task
+use Rattle.ap_bundle_read.specs.declared.table.expanding.Task.{Task}
+use Rattle.ap_bundle_read.specs.declared.table.expanding.Task.TheVariants as task
 use Rattle.ap_bundle_read.specs.Tables.{at, entry_term, IsBehind, terms_back, exact_size, AreLines, made_by, AreWithin, weigh, begun, ready}
 
 pub length_back : (ls : List Line) → length (terms_back ls) ≡ length ls

@@ -9,14 +9,14 @@ use Rattle.ap_bundle.specs.Readers.{Reader}
 use Rattle.ap_bundle.specs.Reading.{read_term}
 use Rattle.ap_bundle_read.specs.declared.table.Entry.{Entry}
 use Rattle.ap_bundle_read.specs.declared.table.Entry.TheVariants as entry
-use Rattle.ap_bundle_read.specs.declared.table.Layer.{Layer}
-use Rattle.ap_bundle_read.specs.declared.table.Layer.TheVariants as layer
+use Rattle.ap_bundle_read.specs.declared.table.expanding.Layer.{Layer}
+use Rattle.ap_bundle_read.specs.declared.table.expanding.Layer.TheVariants as layer
 use Rattle.ap_bundle_read.specs.declared.table.Line.{Line}
 use Rattle.ap_bundle_read.specs.declared.table.Table.{Table}
-use Rattle.ap_bundle_read.specs.declared.table.Task.{Task}
-use Rattle.ap_bundle_read.specs.declared.table.Task.TheVariants as task
-use Rattle.ap_bundle_read.specs.declared.table.Terms.{Terms}
-use Rattle.ap_bundle_read.specs.declared.table.Terms.TheVariants as way
+use Rattle.ap_bundle_read.specs.declared.table.expanding.Task.{Task}
+use Rattle.ap_bundle_read.specs.declared.table.expanding.Task.TheVariants as task
+use Rattle.ap_bundle_read.specs.declared.table.term_lines.Terms.{Terms}
+use Rattle.ap_bundle_read.specs.declared.table.term_lines.Terms.TheVariants as way
 
 abbrev pub at : List NominalTerm → ℕ → NominalTerm
 at table i = slice_index_or table i terms.unit

@@ -13,7 +13,7 @@ use crate::error::ReadError;
 use crate::line_forms::{cond_form, count_form, query_form, var_form};
 use crate::nodes::{read_derivation, read_terms};
 use crate::place::{Place, words_at, wrong};
-use crate::table::Terms;
+use crate::table::term_lines::Terms;
 use ap_bundle::faults::BundleKind;
 use ap_bundle::words::Head;
 use ap_defs::lists::List;
@@ -28,7 +28,8 @@ pub(crate) fn read_count<'a>(
     head: Head,
     place: Place<'a>,
 ) -> Result<(u64, Place<'a>), ReadError>
-    ensures { Gives (λ r. (r.0, place_of r.1)) result (spec.read_count head (place_of place.entry)) }
+    ensures { Gives (λ r. (r.0, place_of r.1)) result
+        (spec.read_count head (place_of place.entry)) }
 {
     let (words, rest) = words_at(alloc, BundleKind::Header, place)?;
     let Some(count) = count_form(head, &words) else {
@@ -40,7 +41,8 @@ pub(crate) fn read_count<'a>(
 /// The variable with its type at the place.
 #[tactic(auto, unfolding(ap_bundle::specs::Readers::read_form))]
 fn read_var<'a>(alloc: Global, place: Place<'a>) -> Result<((Var, Ty), Place<'a>), ReadError>
-    ensures { Gives (λ r. (typed_var_of r.0, place_of r.1)) result (read_form BundleKind.Term lines.var_form (place_of place.entry)) }
+    ensures { Gives (λ r. (typed_var_of r.0, place_of r.1)) result
+        (read_form BundleKind.Term lines.var_form (place_of place.entry)) }
 {
     let (words, rest) = words_at(alloc, BundleKind::Term, place)?;
     let Some(var) = var_form(alloc, &words)? else {
@@ -55,7 +57,8 @@ fn read_each_var<'a>(
     count: u64,
     place: Place<'a>,
 ) -> Result<(Vec<(Var, Ty)>, Place<'a>), ReadError>
-    ensures { Gives (λ r. (map typed_var_of r.0.items, place_of r.1)) result (repeated (read_form BundleKind.Term lines.var_form) count (place_of place.entry)) }
+    ensures { Gives (λ r. (map typed_var_of r.0.items, place_of r.1)) result
+        (repeated (read_form BundleKind.Term lines.var_form) count (place_of place.entry)) }
 {
     let mut vars = Vec::new(alloc);
     let mut place = place;
@@ -69,7 +72,9 @@ fn read_each_var<'a>(
 
 #[tactic(auto, unfolding(ap_bundle::specs::Reading::read_listed))]
 fn read_vars<'a>(alloc: Global, place: Place<'a>) -> Result<(Vec<(Var, Ty)>, Place<'a>), ReadError>
-    ensures { Gives (λ r. (map typed_var_of r.0.items, place_of r.1)) result (spec.read_listed Head.Vars (read_form BundleKind.Term lines.var_form) (place_of place.entry)) }
+    ensures { Gives (λ r. (map typed_var_of r.0.items, place_of r.1)) result
+        (spec.read_listed Head.Vars (read_form BundleKind.Term lines.var_form)
+        (place_of place.entry)) }
 {
     let (count, rest) = read_count(alloc, Head::Vars, place)?;
     read_each_var(alloc, count, rest)
@@ -78,7 +83,8 @@ fn read_vars<'a>(alloc: Global, place: Place<'a>) -> Result<(Vec<(Var, Ty)>, Pla
 /// The condition at the place.
 #[tactic(auto, unfolding(ap_bundle::specs::Readers::read_form))]
 fn read_cond<'a>(alloc: Global, place: Place<'a>) -> Result<(Cond, Place<'a>), ReadError>
-    ensures { Gives (λ r. (r.0, place_of r.1)) result (read_form BundleKind.Term lines.cond_form (place_of place.entry)) }
+    ensures { Gives (λ r. (r.0, place_of r.1)) result
+        (read_form BundleKind.Term lines.cond_form (place_of place.entry)) }
 {
     let (words, rest) = words_at(alloc, BundleKind::Term, place)?;
     let Some(cond) = cond_form(&words) else {
@@ -93,7 +99,8 @@ fn read_each_cond<'a>(
     count: u64,
     place: Place<'a>,
 ) -> Result<(Vec<Cond>, Place<'a>), ReadError>
-    ensures { Gives (λ r. (r.0.items, place_of r.1)) result (repeated (read_form BundleKind.Term lines.cond_form) count (place_of place.entry)) }
+    ensures { Gives (λ r. (r.0.items, place_of r.1)) result
+        (repeated (read_form BundleKind.Term lines.cond_form) count (place_of place.entry)) }
 {
     let mut conds = Vec::new(alloc);
     let mut place = place;
@@ -107,7 +114,9 @@ fn read_each_cond<'a>(
 
 #[tactic(auto, unfolding(ap_bundle::specs::Reading::read_listed))]
 fn read_conds<'a>(alloc: Global, place: Place<'a>) -> Result<(Vec<Cond>, Place<'a>), ReadError>
-    ensures { Gives (λ r. (r.0.items, place_of r.1)) result (spec.read_listed Head.Conds (read_form BundleKind.Term lines.cond_form) (place_of place.entry)) }
+    ensures { Gives (λ r. (r.0.items, place_of r.1)) result
+        (spec.read_listed Head.Conds (read_form BundleKind.Term lines.cond_form)
+        (place_of place.entry)) }
 {
     let (count, rest) = read_count(alloc, Head::Conds, place)?;
     read_each_cond(alloc, count, rest)
@@ -120,7 +129,8 @@ fn read_binds<'a>(
     place: Place<'a>,
 ) -> Result<(Vec<Term>, Place<'a>), ReadError>
     requires { AreReady terms.now }
-    ensures { Gives (λ r. (map term_of r.0.items, place_of r.1)) result (spec.read_listed Head.Binds (reader_of terms.now) (place_of place.entry)) }
+    ensures { Gives (λ r. (map term_of r.0.items, place_of r.1)) result
+        (spec.read_listed Head.Binds (reader_of terms.now) (place_of place.entry)) }
 {
     let (count, rest) = read_count(alloc, Head::Binds, place)?;
     read_terms(alloc, terms, count, rest)
@@ -134,7 +144,8 @@ fn read_answer<'a>(
     place: Place<'a>,
 ) -> Result<(Answer, Place<'a>), ReadError>
     requires { AreReady terms.now }
-    ensures { Gives (λ r. (answer_of r.0, place_of r.1)) result (spec.read_answer (reader_of terms.now) (place_of place.entry)) }
+    ensures { Gives (λ r. (answer_of r.0, place_of r.1)) result
+        (spec.read_answer (reader_of terms.now) (place_of place.entry)) }
 {
     let (vars, rest) = read_vars(alloc, place)?;
     let (conds, rest) = read_conds(alloc, rest)?;
@@ -152,7 +163,8 @@ fn read_answer<'a>(
 /// The number of the query at the place.
 #[tactic(auto, unfolding(ap_bundle::specs::Readers::read_form))]
 fn read_query<'a>(alloc: Global, place: Place<'a>) -> Result<(u32, Place<'a>), ReadError>
-    ensures { Gives (λ r. (r.0, place_of r.1)) result (read_form BundleKind.Header lines.query_form (place_of place.entry)) }
+    ensures { Gives (λ r. (r.0, place_of r.1)) result
+        (read_form BundleKind.Header lines.query_form (place_of place.entry)) }
 {
     let (words, rest) = words_at(alloc, BundleKind::Header, place)?;
     let Some(query) = query_form(&words) else {
@@ -169,7 +181,8 @@ fn read_proved<'a>(
     place: Place<'a>,
 ) -> Result<(Proved, Place<'a>), ReadError>
     requires { AreReady terms.now }
-    ensures { Gives (λ r. (proved_of r.0, place_of r.1)) result (spec.read_proved (reader_of terms.now) (place_of place.entry)) }
+    ensures { Gives (λ r. (proved_of r.0, place_of r.1)) result
+        (spec.read_proved (reader_of terms.now) (place_of place.entry)) }
 {
     let (query, rest) = read_query(alloc, place)?;
     let (answer, rest) = read_answer(alloc, terms, rest)?;
@@ -192,7 +205,8 @@ fn read_each_proved<'a>(
     place: Place<'a>,
 ) -> Result<(Vec<Proved>, Place<'a>), ReadError>
     requires { AreReady terms.now }
-    ensures { Gives (λ r. (map proved_of r.0.items, place_of r.1)) result (repeated (spec.read_proved (reader_of terms.now)) count (place_of place.entry)) }
+    ensures { Gives (λ r. (map proved_of r.0.items, place_of r.1)) result
+        (repeated (spec.read_proved (reader_of terms.now)) count (place_of place.entry)) }
 {
     let mut all = Vec::new(alloc);
     let mut place = place;
@@ -212,7 +226,9 @@ pub(crate) fn read_all<'a>(
     place: Place<'a>,
 ) -> Result<(Vec<Proved>, Place<'a>), ReadError>
     requires { AreReady terms.now }
-    ensures { Gives (λ r. (map proved_of r.0.items, place_of r.1)) result (spec.read_listed Head.Derivations (spec.read_proved (reader_of terms.now)) (place_of place.entry)) }
+    ensures { Gives (λ r. (map proved_of r.0.items, place_of r.1)) result
+        (spec.read_listed Head.Derivations (spec.read_proved (reader_of terms.now))
+        (place_of place.entry)) }
 {
     let (count, rest) = read_count(alloc, Head::Derivations, place)?;
     read_each_proved(alloc, terms, count, rest)

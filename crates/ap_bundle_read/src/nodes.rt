@@ -18,7 +18,7 @@ ghost use Rattle.ap_bundle_read.specs.Tables.{AreReady, reader_of};
 use crate::error::ReadError;
 use crate::line_forms::{name_form, node_form};
 use crate::place::{Place, words_at, wrong};
-use crate::table::{Terms, read_term};
+use crate::table::term_lines::{Terms, read_term};
 use ap_bundle::faults::BundleKind;
 use ap_defs::lists::List;
 use ap_defs::memory::Memory;
@@ -67,7 +67,8 @@ fn read_names<'a>(
     count: u64,
     place: Place<'a>,
 ) -> Result<(Vec<Name>, Place<'a>), ReadError>
-    ensures { Gives (λ r. (r.0.items, place_of r.1)) result (repeated spec.read_name count (place_of place.entry)) }
+    ensures { Gives (λ r. (r.0.items, place_of r.1)) result
+        (repeated spec.read_name count (place_of place.entry)) }
 {
     let mut names = Vec::new(alloc);
     let mut place = place;
@@ -87,7 +88,8 @@ pub(crate) fn read_terms<'a>(
     place: Place<'a>,
 ) -> Result<(Vec<Term>, Place<'a>), ReadError>
     requires { AreReady terms.now }
-    ensures { Gives (λ r. (map term_of r.0.items, place_of r.1)) result (repeated (reader_of terms.now) count (place_of place.entry)) }
+    ensures { Gives (λ r. (map term_of r.0.items, place_of r.1)) result
+        (repeated (reader_of terms.now) count (place_of place.entry)) }
 {
     let mut all = Vec::new(alloc);
     let mut place = place;
@@ -110,7 +112,8 @@ fn read_atom<'a>(
     place: Place<'a>,
 ) -> Result<(Node, Place<'a>), ReadError>
     requires { AreReady terms.now }
-    ensures { Gives (λ r. (node_of r.0, place_of r.1)) result (spec.read_atom (reader_of terms.now) clause name_count term_count (place_of place.entry)) }
+    ensures { Gives (λ r. (node_of r.0, place_of r.1)) result
+        (spec.read_atom (reader_of terms.now) clause name_count term_count (place_of place.entry)) }
 {
     let (names, rest) = read_names(alloc, name_count, place)?;
     let (all, rest) = read_terms(alloc, terms, term_count, rest)?;
@@ -125,7 +128,8 @@ fn read_exists<'a>(
     place: Place<'a>,
 ) -> Result<(Node, Place<'a>), ReadError>
     requires { AreReady terms.now }
-    ensures { Gives (λ r. (node_of r.0, place_of r.1)) result (spec.read_exists (reader_of terms.now) (place_of place.entry)) }
+    ensures { Gives (λ r. (node_of r.0, place_of r.1)) result
+        (spec.read_exists (reader_of terms.now) (place_of place.entry)) }
 {
     let (term, rest) = read_term(alloc, terms, place)?;
     Ok((Node::Exists(term), rest))
@@ -139,7 +143,8 @@ fn read_behind<'a>(
     place: Place<'a>,
 ) -> Result<(Node, Place<'a>), ReadError>
     requires { AreReady terms.now }
-    ensures { Gives (λ r. (node_of r.0, place_of r.1)) result (spec.read_behind (reader_of terms.now) (node_line_of line) (place_of place.entry)) }
+    ensures { Gives (λ r. (node_of r.0, place_of r.1)) result
+        (spec.read_behind (reader_of terms.now) (node_line_of line) (place_of place.entry)) }
 {
     match line {
         NodeLine::Atom(clause, names, all) => read_atom(alloc, terms, clause, names, all, place),
@@ -151,7 +156,8 @@ fn read_behind<'a>(
 /// The line of a node.
 #[tactic(auto, unfolding(ap_bundle::specs::Readers::read_form))]
 fn read_node_line<'a>(alloc: Global, place: Place<'a>) -> Result<(NodeLine, Place<'a>), ReadError>
-    ensures { Gives (λ r. (node_line_of r.0, place_of r.1)) result (readers.read_form BundleKind.Node lines.node_form (place_of place.entry)) }
+    ensures { Gives (λ r. (node_line_of r.0, place_of r.1)) result
+        (readers.read_form BundleKind.Node lines.node_form (place_of place.entry)) }
 {
     let (words, rest) = words_at(alloc, BundleKind::Node, place)?;
     let Some(line) = node_form(&words) else {
@@ -168,7 +174,8 @@ fn read_node<'a>(
     place: Place<'a>,
 ) -> Result<(Node, Place<'a>), ReadError>
     requires { AreReady terms.now }
-    ensures { Gives (λ r. (node_of r.0, place_of r.1)) result (spec.read_node (reader_of terms.now) (place_of place.entry)) }
+    ensures { Gives (λ r. (node_of r.0, place_of r.1)) result
+        (spec.read_node (reader_of terms.now) (place_of place.entry)) }
 {
     let (line, rest) = read_node_line(alloc, place)?;
     read_behind(alloc, terms, line, rest)
@@ -193,7 +200,9 @@ fn read_nodes<'a>(
     place: Place<'a>,
 ) -> Result<(Vec<Node>, Place<'a>), ReadError>
     requires { AreReady terms.now }
-    ensures { Gives (λ r. (map node_of r.0.items, place_of r.1)) result (spec.read_nodes (reader_of terms.now) (length place.entry.rest.now) 1 (place_of place.entry)) }
+    ensures { Gives (λ r. (map node_of r.0.items, place_of r.1)) result
+        (spec.read_nodes (reader_of terms.now) (length place.entry.rest.now) 1
+        (place_of place.entry)) }
 {
     let mut all = Vec::new(alloc);
     let mut wanted = 1;
@@ -217,14 +226,16 @@ fn read_nodes<'a>(
 
 /// The first derivation, taken off.
 fn first_derivation(stack: &mut Vec<Derivation>) -> Option<Derivation>
-    ensures { option_map (λ d. (derivation_of d, stacked derivation_of stack.new.items)) result ≡ forms.first (stacked derivation_of stack.old.items) }
+    ensures { option_map (λ d. (derivation_of d, stacked derivation_of stack.new.items)) result
+        ≡ forms.first (stacked derivation_of stack.old.items) }
 {
     stack.pop()
 }
 
 /// A node above the first derivation, by what it makes of that in its box.
 fn left_onto(alloc: Global, stack: Vec<Derivation>) -> Result<Option<Vec<Derivation>>, Memory>
-    ensures { IfOk result (λ r. option_map (λ v. stacked derivation_of v.items) r ≡ tree.over_first derivation.left (stacked derivation_of stack.items)) }
+    ensures { IfOk result (λ r. option_map (λ v. stacked derivation_of v.items) r
+        ≡ tree.over_first derivation.left (stacked derivation_of stack.items)) }
 {
     let mut stack = stack;
     let Some(child) = first_derivation(&mut stack) else {
@@ -236,7 +247,8 @@ fn left_onto(alloc: Global, stack: Vec<Derivation>) -> Result<Option<Vec<Derivat
 }
 
 fn right_onto(alloc: Global, stack: Vec<Derivation>) -> Result<Option<Vec<Derivation>>, Memory>
-    ensures { IfOk result (λ r. option_map (λ v. stacked derivation_of v.items) r ≡ tree.over_first derivation.right (stacked derivation_of stack.items)) }
+    ensures { IfOk result (λ r. option_map (λ v. stacked derivation_of v.items) r
+        ≡ tree.over_first derivation.right (stacked derivation_of stack.items)) }
 {
     let mut stack = stack;
     let Some(child) = first_derivation(&mut stack) else {
@@ -254,7 +266,9 @@ fn atom_onto(
     terms: Vec<Term>,
     stack: Vec<Derivation>,
 ) -> Result<Option<Vec<Derivation>>, Memory>
-    ensures { IfOk result (λ r. option_map (λ v. stacked derivation_of v.items) r ≡ tree.over_first (derivation.atom clause names.items (map term_of terms.items)) (stacked derivation_of stack.items)) }
+    ensures { IfOk result (λ r. option_map (λ v. stacked derivation_of v.items) r
+        ≡ tree.over_first (derivation.atom clause names.items (map term_of terms.items))
+        (stacked derivation_of stack.items)) }
 {
     let mut stack = stack;
     let Some(body) = first_derivation(&mut stack) else {
@@ -270,7 +284,8 @@ fn exists_onto(
     term: Term,
     stack: Vec<Derivation>,
 ) -> Result<Option<Vec<Derivation>>, Memory>
-    ensures { IfOk result (λ r. option_map (λ v. stacked derivation_of v.items) r ≡ tree.over_first (derivation.exists (term_of term)) (stacked derivation_of stack.items)) }
+    ensures { IfOk result (λ r. option_map (λ v. stacked derivation_of v.items) r
+        ≡ tree.over_first (derivation.exists (term_of term)) (stacked derivation_of stack.items)) }
 {
     let mut stack = stack;
     let Some(child) = first_derivation(&mut stack) else {
@@ -286,7 +301,8 @@ fn new_onto(
     name: Name,
     stack: Vec<Derivation>,
 ) -> Result<Option<Vec<Derivation>>, Memory>
-    ensures { IfOk result (λ r. option_map (λ v. stacked derivation_of v.items) r ≡ tree.over_first (derivation.new name) (stacked derivation_of stack.items)) }
+    ensures { IfOk result (λ r. option_map (λ v. stacked derivation_of v.items) r
+        ≡ tree.over_first (derivation.new name) (stacked derivation_of stack.items)) }
 {
     let mut stack = stack;
     let Some(child) = first_derivation(&mut stack) else {
@@ -298,7 +314,8 @@ fn new_onto(
 }
 
 fn both_onto(alloc: Global, stack: Vec<Derivation>) -> Result<Option<Vec<Derivation>>, Memory>
-    ensures { IfOk result (λ r. option_map (λ v. stacked derivation_of v.items) r ≡ tree.over_two (stacked derivation_of stack.items)) }
+    ensures { IfOk result (λ r. option_map (λ v. stacked derivation_of v.items) r
+        ≡ tree.over_two (stacked derivation_of stack.items)) }
 {
     let mut stack = stack;
     let Some(left) = first_derivation(&mut stack) else {
@@ -315,7 +332,8 @@ fn both_onto(alloc: Global, stack: Vec<Derivation>) -> Result<Option<Vec<Derivat
 
 /// A derivation without children, before the others.
 fn leaf_onto(leaf: Derivation, stack: Vec<Derivation>) -> Result<Option<Vec<Derivation>>, Memory>
-    ensures { IfOk result (λ r. option_map (λ v. stacked derivation_of v.items) r ≡ Some (derivation_of leaf ∷ stacked derivation_of stack.items)) }
+    ensures { IfOk result (λ r. option_map (λ v. stacked derivation_of v.items) r
+        ≡ Some (derivation_of leaf ∷ stacked derivation_of stack.items)) }
 {
     let mut stack = stack;
     stack.push(leaf)?;
@@ -328,7 +346,8 @@ fn node_onto(
     node: Node,
     stack: Vec<Derivation>,
 ) -> Result<Option<Vec<Derivation>>, Memory>
-    ensures { IfOk result (λ r. option_map (λ v. stacked derivation_of v.items) r ≡ tree.node_onto (node_of node) (stacked derivation_of stack.items)) }
+    ensures { IfOk result (λ r. option_map (λ v. stacked derivation_of v.items) r
+        ≡ tree.node_onto (node_of node) (stacked derivation_of stack.items)) }
 {
     match node {
         Node::Atom(clause, names, terms) => atom_onto(alloc, clause, names, terms, stack),
@@ -346,7 +365,8 @@ fn node_onto(
 /// The one derivation whose nodes these are.
 #[tactic(auto, unfolding(ap_bundle::specs::Nodes::derivation_from))]
 fn derivation_from(alloc: Global, nodes: Vec<Node>) -> Result<Option<Derivation>, Memory>
-    ensures { IfOk result (λ r. option_map derivation_of r ≡ tree.derivation_from (map node_of nodes.items)) }
+    ensures { IfOk result (λ r. option_map derivation_of r
+        ≡ tree.derivation_from (map node_of nodes.items)) }
 {
     let mut nodes = nodes;
     let mut stack = Vec::new(alloc);
@@ -371,7 +391,8 @@ pub(crate) fn read_derivation<'a>(
     place: Place<'a>,
 ) -> Result<(Derivation, Place<'a>), ReadError>
     requires { AreReady terms.now }
-    ensures { Gives (λ r. (derivation_of r.0, place_of r.1)) result (spec.read_derivation (reader_of terms.now) (place_of place.entry)) }
+    ensures { Gives (λ r. (derivation_of r.0, place_of r.1)) result
+        (spec.read_derivation (reader_of terms.now) (place_of place.entry)) }
 {
     let (nodes, rest) = read_nodes(alloc, terms, place)?;
     let Some(derivation) = derivation_from(alloc, nodes)? else {

@@ -9,7 +9,8 @@ use std::alloc::Global;
 
 /// The first number, taken off.
 pub(crate) fn first_number(numbers: &mut Vec<u64>) -> Option<u64>
-    ensures { option_map (λ n. (n, reverse numbers.new.items)) result ≡ spec.first (reverse numbers.old.items) }
+    ensures { option_map (λ n. (n, reverse numbers.new.items)) result
+        ≡ spec.first (reverse numbers.old.items) }
 {
     numbers.pop()
 }
@@ -17,7 +18,8 @@ pub(crate) fn first_number(numbers: &mut Vec<u64>) -> Option<u64>
 /// A number below 2 ^ 32.
 #[tactic(auto, unfolding(ap_bundle::specs::Forms::small))]
 pub(crate) fn small(numbers: &mut Vec<u64>) -> Option<u32>
-    ensures { option_map (λ n. (n, reverse numbers.new.items)) result ≡ spec.small (reverse numbers.old.items) }
+    ensures { option_map (λ n. (n, reverse numbers.new.items)) result
+        ≡ spec.small (reverse numbers.old.items) }
 {
     let number = first_number(numbers)?;
     u32::try_from(number).ok()
@@ -25,7 +27,8 @@ pub(crate) fn small(numbers: &mut Vec<u64>) -> Option<u32>
 
 #[tactic(auto, unfolding(ap_bundle::specs::Forms::a_name))]
 pub(crate) fn a_name(numbers: &mut Vec<u64>) -> Option<Name>
-    ensures { option_map (λ a. (a, reverse numbers.new.items)) result ≡ spec.a_name (reverse numbers.old.items) }
+    ensures { option_map (λ a. (a, reverse numbers.new.items)) result
+        ≡ spec.a_name (reverse numbers.old.items) }
 {
     let sort = small(numbers)?;
     let num = first_number(numbers)?;
@@ -34,7 +37,8 @@ pub(crate) fn a_name(numbers: &mut Vec<u64>) -> Option<Name>
 
 #[tactic(auto, unfolding(ap_bundle::specs::Forms::a_swap))]
 fn a_swap(numbers: &mut Vec<u64>) -> Option<Swap>
-    ensures { option_map (λ s. (s, reverse numbers.new.items)) result ≡ spec.a_swap (reverse numbers.old.items) }
+    ensures { option_map (λ s. (s, reverse numbers.new.items)) result
+        ≡ spec.a_swap (reverse numbers.old.items) }
 {
     let sort = small(numbers)?;
     let left = first_number(numbers)?;
@@ -48,7 +52,8 @@ pub(crate) fn swaps(
     count: u64,
     numbers: &mut Vec<u64>,
 ) -> Result<Option<Vec<Swap>>, Memory>
-    ensures { IfOk result (λ r. option_map (λ v. (v.items, reverse numbers.new.items)) r ≡ spec.swaps count (reverse numbers.old.items)) }
+    ensures { IfOk result (λ r. option_map (λ v. (v.items, reverse numbers.new.items)) r
+        ≡ spec.swaps count (reverse numbers.old.items)) }
 {
     let mut all = Vec::new(alloc);
     for _ in 0..count {

@@ -43,7 +43,8 @@ pub(crate) fn words_at<'a>(
     kind: BundleKind,
     place: Place<'a>,
 ) -> Result<(Vec<Word>, Place<'a>), ReadError>
-    ensures { Gives (λ r. (r.0.items, place_of r.1)) result (spec.read_words kind (place_of place.entry)) }
+    ensures { Gives (λ r. (r.0.items, place_of r.1)) result
+        (spec.read_words kind (place_of place.entry)) }
 {
     let Some((line, rest)) = first_line(place.rest) else {
         return Err(ReadError::Wrong(BundleKind::Unended, 0));

@@ -11,7 +11,8 @@ use crate::answers::{read_all, read_count};
 use crate::error::{BundleError, ReadError};
 use crate::line_forms::{first_form, is_end};
 use crate::place::{Place, first_line, words_at, wrong};
-use crate::table::{Terms, read_entries};
+use crate::table::entries::read_entries;
+use crate::table::term_lines::Terms;
 use ap_bundle::faults::{BundleFault, BundleKind};
 use ap_bundle::version::Version;
 use ap_bundle::words::Head;
@@ -25,7 +26,8 @@ const ROOM: u64 = 16_777_216;
 /// The version that the first line tells, and the place behind it.
 #[tactic(auto, unfolding(ap_bundle::specs::Readers::read_line))]
 fn read_first(place: Place<'_>) -> Result<(Version, Place<'_>), ReadError>
-    ensures { Gives (λ r. (r.0, place_of r.1)) result (readers.read_line BundleKind.Header lines.first_form (place_of place.entry)) }
+    ensures { Gives (λ r. (r.0, place_of r.1)) result
+        (readers.read_line BundleKind.Header lines.first_form (place_of place.entry)) }
 {
     let Some((line, rest)) = first_line(place.rest) else {
         return Err(ReadError::Wrong(BundleKind::Unended, 0));
@@ -49,7 +51,8 @@ fn read_text<'a>(
     length: u64,
     place: Place<'a>,
 ) -> Result<(Vec<u8>, Place<'a>), ReadError>
-    ensures { Gives (λ r. (r.0.items, place_of r.1)) result (spec.read_text length (place_of place.entry)) }
+    ensures { Gives (λ r. (r.0.items, place_of r.1)) result
+        (spec.read_text length (place_of place.entry)) }
 {
     let bytes = place.rest;
     if bytes.len() as u64 <= length {
@@ -88,7 +91,8 @@ fn read_last(alloc: Global, place: Place<'_>) -> Result<(), ReadError>
 #[tactic(auto, unfolding(ap_bundle::specs::Reading::read_rest))]
 fn read_rest(alloc: Global, terms: &Terms, place: Place<'_>) -> Result<Vec<Proved>, ReadError>
     requires { AreReady terms.now }
-    ensures { Gives (λ v. map proved_of v.items) result (spec.read_rest (reader_of terms.now) (place_of place.entry)) }
+    ensures { Gives (λ v. map proved_of v.items) result
+        (spec.read_rest (reader_of terms.now) (place_of place.entry)) }
 {
     let (all, rest) = read_all(alloc, terms, place)?;
     read_last(alloc, rest)?;
@@ -98,7 +102,8 @@ fn read_rest(alloc: Global, terms: &Terms, place: Place<'_>) -> Result<Vec<Prove
 /// The table, and what follows it.
 #[tactic(auto, unfolding(ap_bundle::specs::Reading::read_shared_rest))]
 fn read_shared_rest(alloc: Global, place: Place<'_>) -> Result<Vec<Proved>, ReadError>
-    ensures { Gives (λ v. map proved_of v.items) result (spec.read_shared_rest (place_of place.entry)) }
+    ensures { Gives (λ v. map proved_of v.items) result
+        (spec.read_shared_rest (place_of place.entry)) }
 {
     let (count, rest) = read_count(alloc, Head::Terms, place)?;
     let (table, rest) = read_entries(alloc, count, rest)?;
@@ -107,7 +112,8 @@ fn read_shared_rest(alloc: Global, place: Place<'_>) -> Result<Vec<Proved>, Read
 
 /// What follows the text in this version.
 fn read_version(alloc: Global, version: Version, place: Place<'_>) -> Result<Vec<Proved>, ReadError>
-    ensures { Gives (λ v. map proved_of v.items) result (spec.read_version version (place_of place.entry)) }
+    ensures { Gives (λ v. map proved_of v.items) result
+        (spec.read_version version (place_of place.entry)) }
 {
     match version {
         Version::One => read_rest(alloc, &Terms::InFull, place),

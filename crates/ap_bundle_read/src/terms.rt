@@ -14,14 +14,16 @@ use std::alloc::Global;
 
 /// The first term, taken off.
 pub(crate) fn first_term(terms: &mut Vec<Term>) -> Option<Term>
-    ensures { option_map (λ t. (term_of t, stacked term_of terms.new.items)) result ≡ spec.first (stacked term_of terms.old.items) }
+    ensures { option_map (λ t. (term_of t, stacked term_of terms.new.items)) result
+        ≡ spec.first (stacked term_of terms.old.items) }
 {
     terms.pop()
 }
 
 /// The terms, with another before them, where no number is left.
 fn at_end(numbers: Vec<u64>, terms: Vec<Term>, first: Term) -> Result<Option<Vec<Term>>, Memory>
-    ensures { IfOk result (λ r. option_map (λ v. stacked term_of v.items) r ≡ spec.at_end (term_of first ∷ stacked term_of terms.items) (reverse numbers.items)) }
+    ensures { IfOk result (λ r. option_map (λ v. stacked term_of v.items) r
+        ≡ spec.at_end (term_of first ∷ stacked term_of terms.items) (reverse numbers.items)) }
 {
     if !numbers.is_empty() {
         return Ok(None);
@@ -33,7 +35,8 @@ fn at_end(numbers: Vec<u64>, terms: Vec<Term>, first: Term) -> Result<Option<Vec
 
 #[tactic(auto, unfolding(ap_bundle::specs::Forms::name_onto))]
 fn name_onto(numbers: Vec<u64>, terms: Vec<Term>) -> Result<Option<Vec<Term>>, Memory>
-    ensures { IfOk result (λ r. option_map (λ v. stacked term_of v.items) r ≡ spec.name_onto (reverse numbers.items) (stacked term_of terms.items)) }
+    ensures { IfOk result (λ r. option_map (λ v. stacked term_of v.items) r
+        ≡ spec.name_onto (reverse numbers.items) (stacked term_of terms.items)) }
 {
     let mut numbers = numbers;
     let Some(name) = a_name(&mut numbers) else {
@@ -48,7 +51,8 @@ fn pair_onto(
     numbers: Vec<u64>,
     terms: Vec<Term>,
 ) -> Result<Option<Vec<Term>>, Memory>
-    ensures { IfOk result (λ r. option_map (λ v. stacked term_of v.items) r ≡ spec.pair_onto (reverse numbers.items) (stacked term_of terms.items)) }
+    ensures { IfOk result (λ r. option_map (λ v. stacked term_of v.items) r
+        ≡ spec.pair_onto (reverse numbers.items) (stacked term_of terms.items)) }
 {
     let mut terms = terms;
     let Some(left) = first_term(&mut terms) else {
@@ -64,7 +68,8 @@ fn pair_onto(
 
 #[tactic(auto, unfolding(ap_bundle::specs::Forms::app_onto))]
 fn app_onto(alloc: Global, numbers: Vec<u64>, terms: Vec<Term>) -> Result<Option<Vec<Term>>, Memory>
-    ensures { IfOk result (λ r. option_map (λ v. stacked term_of v.items) r ≡ spec.app_onto (reverse numbers.items) (stacked term_of terms.items)) }
+    ensures { IfOk result (λ r. option_map (λ v. stacked term_of v.items) r
+        ≡ spec.app_onto (reverse numbers.items) (stacked term_of terms.items)) }
 {
     let mut numbers = numbers;
     let mut terms = terms;
@@ -80,7 +85,8 @@ fn app_onto(alloc: Global, numbers: Vec<u64>, terms: Vec<Term>) -> Result<Option
 
 #[tactic(auto, unfolding(ap_bundle::specs::Forms::abs_onto))]
 fn abs_onto(alloc: Global, numbers: Vec<u64>, terms: Vec<Term>) -> Result<Option<Vec<Term>>, Memory>
-    ensures { IfOk result (λ r. option_map (λ v. stacked term_of v.items) r ≡ spec.abs_onto (reverse numbers.items) (stacked term_of terms.items)) }
+    ensures { IfOk result (λ r. option_map (λ v. stacked term_of v.items) r
+        ≡ spec.abs_onto (reverse numbers.items) (stacked term_of terms.items)) }
 {
     let mut numbers = numbers;
     let mut terms = terms;
@@ -100,7 +106,8 @@ fn susp_onto(
     numbers: Vec<u64>,
     terms: Vec<Term>,
 ) -> Result<Option<Vec<Term>>, Memory>
-    ensures { IfOk result (λ r. option_map (λ v. stacked term_of v.items) r ≡ spec.susp_onto (reverse numbers.items) (stacked term_of terms.items)) }
+    ensures { IfOk result (λ r. option_map (λ v. stacked term_of v.items) r
+        ≡ spec.susp_onto (reverse numbers.items) (stacked term_of terms.items)) }
 {
     let mut numbers = numbers;
     let Some(count) = first_number(&mut numbers) else {
@@ -122,7 +129,8 @@ fn term_onto(
     numbers: Vec<u64>,
     terms: Vec<Term>,
 ) -> Result<Option<Vec<Term>>, Memory>
-    ensures { IfOk result (λ r. option_map (λ v. stacked term_of v.items) r ≡ spec.term_onto letter (reverse numbers.items) (stacked term_of terms.items)) }
+    ensures { IfOk result (λ r. option_map (λ v. stacked term_of v.items) r
+        ≡ spec.term_onto letter (reverse numbers.items) (stacked term_of terms.items)) }
 {
     match letter {
         Letter::U => at_end(numbers, terms, Term::Unit),
@@ -144,7 +152,8 @@ struct TermForms {
 
 /// A word before numbers and terms.
 fn word_onto(alloc: Global, word: Word, terms: TermForms) -> Result<Option<TermForms>, Memory>
-    ensures { IfOk result (λ r. option_map term_forms r ≡ spec.word_onto spec.term_onto word (term_forms terms)) }
+    ensures { IfOk result (λ r. option_map term_forms r
+        ≡ spec.word_onto spec.term_onto word (term_forms terms)) }
 {
     let TermForms { mut numbers, whole } = terms;
     match word {
@@ -165,7 +174,8 @@ fn word_onto(alloc: Global, word: Word, terms: TermForms) -> Result<Option<TermF
 
 /// The one term, where there is one and no number.
 fn only(terms: TermForms) -> Option<Term>
-    ensures { option_map term_of result ≡ spec.only (term_forms terms).numbers (term_forms terms).whole }
+    ensures { option_map term_of result
+        ≡ spec.only (term_forms terms).numbers (term_forms terms).whole }
 {
     let TermForms { numbers, mut whole } = terms;
     if whole.len() == 1 && numbers.is_empty() {

@@ -13,14 +13,16 @@ use std::alloc::Global;
 
 /// The first type, taken off.
 fn first_type(types: &mut Vec<Ty>) -> Option<Ty>
-    ensures { option_map (λ t. (type_of t, stacked type_of types.new.items)) result ≡ spec.first (stacked type_of types.old.items) }
+    ensures { option_map (λ t. (type_of t, stacked type_of types.new.items)) result
+        ≡ spec.first (stacked type_of types.old.items) }
 {
     types.pop()
 }
 
 /// The types, with another before them, where no number is left.
 fn at_end(numbers: Vec<u64>, types: Vec<Ty>, first: Ty) -> Result<Option<Vec<Ty>>, Memory>
-    ensures { IfOk result (λ r. option_map (λ v. stacked type_of v.items) r ≡ spec.at_end (type_of first ∷ stacked type_of types.items) (reverse numbers.items)) }
+    ensures { IfOk result (λ r. option_map (λ v. stacked type_of v.items) r
+        ≡ spec.at_end (type_of first ∷ stacked type_of types.items) (reverse numbers.items)) }
 {
     if !numbers.is_empty() {
         return Ok(None);
@@ -32,7 +34,8 @@ fn at_end(numbers: Vec<u64>, types: Vec<Ty>, first: Ty) -> Result<Option<Vec<Ty>
 
 #[tactic(auto, unfolding(ap_bundle::specs::Forms::names_onto))]
 fn names_onto(numbers: Vec<u64>, types: Vec<Ty>) -> Result<Option<Vec<Ty>>, Memory>
-    ensures { IfOk result (λ r. option_map (λ v. stacked type_of v.items) r ≡ spec.names_onto (reverse numbers.items) (stacked type_of types.items)) }
+    ensures { IfOk result (λ r. option_map (λ v. stacked type_of v.items) r
+        ≡ spec.names_onto (reverse numbers.items) (stacked type_of types.items)) }
 {
     let mut numbers = numbers;
     let Some(sort) = small(&mut numbers) else {
@@ -43,7 +46,8 @@ fn names_onto(numbers: Vec<u64>, types: Vec<Ty>) -> Result<Option<Vec<Ty>>, Memo
 
 #[tactic(auto, unfolding(ap_bundle::specs::Forms::base_onto))]
 fn base_onto(numbers: Vec<u64>, types: Vec<Ty>) -> Result<Option<Vec<Ty>>, Memory>
-    ensures { IfOk result (λ r. option_map (λ v. stacked type_of v.items) r ≡ spec.base_onto (reverse numbers.items) (stacked type_of types.items)) }
+    ensures { IfOk result (λ r. option_map (λ v. stacked type_of v.items) r
+        ≡ spec.base_onto (reverse numbers.items) (stacked type_of types.items)) }
 {
     let mut numbers = numbers;
     let Some(base) = small(&mut numbers) else {
@@ -54,7 +58,8 @@ fn base_onto(numbers: Vec<u64>, types: Vec<Ty>) -> Result<Option<Vec<Ty>>, Memor
 
 #[tactic(auto, unfolding(ap_bundle::specs::Forms::pair_type_onto))]
 fn pair_onto(alloc: Global, numbers: Vec<u64>, types: Vec<Ty>) -> Result<Option<Vec<Ty>>, Memory>
-    ensures { IfOk result (λ r. option_map (λ v. stacked type_of v.items) r ≡ spec.pair_type_onto (reverse numbers.items) (stacked type_of types.items)) }
+    ensures { IfOk result (λ r. option_map (λ v. stacked type_of v.items) r
+        ≡ spec.pair_type_onto (reverse numbers.items) (stacked type_of types.items)) }
 {
     let mut types = types;
     let Some(left) = first_type(&mut types) else {
@@ -70,7 +75,8 @@ fn pair_onto(alloc: Global, numbers: Vec<u64>, types: Vec<Ty>) -> Result<Option<
 
 #[tactic(auto, unfolding(ap_bundle::specs::Forms::list_onto))]
 fn list_onto(alloc: Global, numbers: Vec<u64>, types: Vec<Ty>) -> Result<Option<Vec<Ty>>, Memory>
-    ensures { IfOk result (λ r. option_map (λ v. stacked type_of v.items) r ≡ spec.list_onto (reverse numbers.items) (stacked type_of types.items)) }
+    ensures { IfOk result (λ r. option_map (λ v. stacked type_of v.items) r
+        ≡ spec.list_onto (reverse numbers.items) (stacked type_of types.items)) }
 {
     let mut types = types;
     let Some(element) = first_type(&mut types) else {
@@ -82,7 +88,8 @@ fn list_onto(alloc: Global, numbers: Vec<u64>, types: Vec<Ty>) -> Result<Option<
 
 #[tactic(auto, unfolding(ap_bundle::specs::Forms::abs_type_onto))]
 fn abs_onto(alloc: Global, numbers: Vec<u64>, types: Vec<Ty>) -> Result<Option<Vec<Ty>>, Memory>
-    ensures { IfOk result (λ r. option_map (λ v. stacked type_of v.items) r ≡ spec.abs_type_onto (reverse numbers.items) (stacked type_of types.items)) }
+    ensures { IfOk result (λ r. option_map (λ v. stacked type_of v.items) r
+        ≡ spec.abs_type_onto (reverse numbers.items) (stacked type_of types.items)) }
 {
     let mut numbers = numbers;
     let mut types = types;
@@ -103,7 +110,8 @@ fn type_onto(
     numbers: Vec<u64>,
     types: Vec<Ty>,
 ) -> Result<Option<Vec<Ty>>, Memory>
-    ensures { IfOk result (λ r. option_map (λ v. stacked type_of v.items) r ≡ spec.type_onto letter (reverse numbers.items) (stacked type_of types.items)) }
+    ensures { IfOk result (λ r. option_map (λ v. stacked type_of v.items) r
+        ≡ spec.type_onto letter (reverse numbers.items) (stacked type_of types.items)) }
 {
     match letter {
         Letter::U => at_end(numbers, types, Ty::Unit),
@@ -125,7 +133,8 @@ struct TypeForms {
 
 /// A word before numbers and types.
 fn word_onto(alloc: Global, word: Word, types: TypeForms) -> Result<Option<TypeForms>, Memory>
-    ensures { IfOk result (λ r. option_map type_forms r ≡ spec.word_onto spec.type_onto word (type_forms types)) }
+    ensures { IfOk result (λ r. option_map type_forms r
+        ≡ spec.word_onto spec.type_onto word (type_forms types)) }
 {
     let TypeForms { mut numbers, whole } = types;
     match word {
@@ -146,7 +155,8 @@ fn word_onto(alloc: Global, word: Word, types: TypeForms) -> Result<Option<TypeF
 
 /// The one type, where there is one and no number.
 fn only(types: TypeForms) -> Option<Ty>
-    ensures { option_map type_of result ≡ spec.only (type_forms types).numbers (type_forms types).whole }
+    ensures { option_map type_of result
+        ≡ spec.only (type_forms types).numbers (type_forms types).whole }
 {
     let TypeForms { numbers, mut whole } = types;
     if whole.len() == 1 && numbers.is_empty() {

@@ -1,9 +1,10 @@
 //! Bundles of the folder `bundles`: what is wrong with their bytes, or what each derivation in them comes to.
 //!
 //! The file `names` of the folder has a line for each. Of a bundle that is read it is told, too, whether the bytes that
-//! are written of it are those that were read. Then comes what `check` writes.
+//! are written of it are those that were read, and whether `check` writes the same for both of its versions. Then comes
+//! what `check` writes.
 
-use crate::proving::tell_check;
+use crate::proving::{Written, are_checked_alike, tell_check};
 use ap_bundle::version::Version;
 use ap_bundle_read::{BundleError, read_bundle};
 use ap_bundle_write::write_version;
@@ -58,21 +59,34 @@ fn tell_derivations<R: AllocGlobal + Print>(rt: &R, bundle: &Bundle) -> io::Resu
     Ok(())
 }
 
-/// Whether a bundle is written as these bytes, in either version.
-fn is_written_as(alloc: Global, bundle: &Bundle, bytes: &[u8]) -> Result<bool, Memory> {
+/// Both versions of a bundle.
+pub fn both_versions(alloc: Global, bundle: &Bundle) -> Result<Written, Memory> {
     let full = write_version(alloc, bundle, Version::One)?;
     let shared = write_version(alloc, bundle, Version::Two)?;
-    Ok(full.as_slice() == bytes || shared.as_slice() == bytes)
+    Ok(Written { full, shared })
+}
+
+/// Writes what a bundle comes to that was read of these bytes.
+fn tell_read<R: Threads + Wait + Sync + AllocGlobal + Print>(
+    rt: &R,
+    bundle: &Bundle,
+    bytes: &[u8],
+) -> io::Result<()> {
+    let written = both_versions(rt.alloc(), bundle).map_err(|_| AllocError)?;
+    let same = written.full.as_slice() == bytes || written.shared.as_slice() == bytes;
+    println!(rt; "written again the same: {same}")?;
+    let alike = are_checked_alike(rt, &written)?;
+    println!(rt; "checked alike in both versions: {alike}")?;
+    tell_derivations(rt, bundle)
 }
 
 /// Writes what bytes come to as a bundle.
-fn tell_bundle<R: AllocGlobal + Print>(rt: &R, bytes: &[u8]) -> io::Result<()> {
+fn tell_bundle<R: Threads + Wait + Sync + AllocGlobal + Print>(
+    rt: &R,
+    bytes: &[u8],
+) -> io::Result<()> {
     match read_bundle(rt.alloc(), bytes) {
-        Ok(bundle) => {
-            let same = is_written_as(rt.alloc(), &bundle, bytes).map_err(|_| AllocError)?;
-            println!(rt; "written again the same: {same}")?;
-            tell_derivations(rt, &bundle)
-        }
+        Ok(bundle) => tell_read(rt, &bundle, bytes),
         Err(BundleError::Fault(fault)) => {
             let (number, word) = (fault.kind.number(), fault.kind.word());
             println!(rt; "line {}, kind {number} {word}", fault.line)

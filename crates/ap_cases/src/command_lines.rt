@@ -1,4 +1,4 @@
-//! Command lines, each on one text; and the file `commands.cases`, in which each command line has an input of its own.
+//! Command lines, each on one text; and files in which each command line has an input of its own.
 
 use crate::call::{call, words_in};
 use crate::cases::DIVIDER;
@@ -49,13 +49,14 @@ fn run_on<R: Threads + Wait + Sync + AllocGlobal + Print>(
     println!(rt; "% status {}", status.code())
 }
 
-/// Runs the parts of the file `commands.cases`, which lines of four dashes divide. The first line of a part is a command
-/// line, and those after it are its input, a text or a bundle. Where there are none the input is empty.
+/// Runs the parts of a file, which lines of four dashes divide. The first line of a part is a command line, and those
+/// after it are its input, a text or a bundle. Where there are none the input is empty.
 pub fn run_commands<R: Threads + Wait + Sync + AllocGlobal + Files + Print>(
     rt: &R,
+    name: &str,
 ) -> io::Result<()> {
-    println!(rt; "% commands.cases")?;
-    let all = fs::read_to_string(rt, "commands.cases")?;
+    println!(rt; "% {name}")?;
+    let all = fs::read_to_string(rt, name)?;
     for part in all.trim_end().split(DIVIDER) {
         match part.split_once('\n') {
             Some((line, input)) => run_on(rt, line, &format!(in rt.alloc(); "{input}\n")?)?,

@@ -1,21 +1,22 @@
 //! The derivations of the answers of texts: each is made again from its path, and all of a text are written as a bundle,
-//! which is read again and checked. `prove` writes the same bundle, and `check` the number of its derivations.
+//! which is read again and checked. `prove` writes the same bundle, `check` the number of its derivations in each of its
+//! versions, and `convert` each version for each.
 ghost use Rattle.std.specs.Prelude.{◌≡◌, length};
 ghost use Rattle.ap_defs.specs.Goals.{program_of};
 ghost use Rattle.ap_backchain.specs.Branches.{IsBranchOf};
 ghost use Rattle.ap_backchain.specs.Problems.{HasQuery};
 
-use crate::bundles::{program_of_bytes, verdict_on};
+use crate::bundles::{both_versions, program_of_bytes, verdict_on};
 use crate::cases::DIVIDER;
-use crate::proving::are_proved;
+use crate::proving::{Written, are_proved};
 use ap_backchain::branch::Branch;
 use ap_backchain::problem::{Problem, outputs};
 use ap_bundle_read::read_bundle;
-use ap_bundle_write::write_bundle;
 use ap_defs::lists::List;
 use ap_defs::memory::Memory;
 use ap_defs::outcomes::{Bundle, Proved, Verdict};
 use ap_defs::paths::{Node, Out, Path};
+use ap_paths::Limit;
 use ap_derive::derivations::derive;
 use ap_program::restricted::Restricted;
 use ap_replay::replay::at;
@@ -72,7 +73,7 @@ fn prove_at(
 fn prove_query(alloc: Global, problem: &Problem<'_>, all: &mut Vec<Proved>) -> Result<(), Memory>
     requires { HasQuery problem.now }
 {
-    for out in &outputs(alloc, problem)? {
+    for out in &outputs(alloc, problem, Limit::All)? {
         if let Out::Found(path, _) = out {
             prove_at(alloc, problem, path, all)?;
         }
@@ -135,13 +136,13 @@ fn checked_in(alloc: Global, bytes: &[u8], program: &Restricted) -> Result<usize
     Ok(count)
 }
 
-/// The bundle of a text and of answers with their derivations.
-fn bundle_bytes(alloc: Global, text: &str, proved: Vec<Proved>) -> Result<Vec<u8>, Memory> {
+/// The bundle of a text and of answers with their derivations, in both versions.
+fn bundle_bytes(alloc: Global, text: &str, proved: Vec<Proved>) -> Result<Written, Memory> {
     let bundle = Bundle {
         text: List::of(text.as_bytes().to_vec(alloc)?),
         proved: List::of(proved),
     };
-    write_bundle(alloc, &bundle)
+    both_versions(alloc, &bundle)
 }
 
 /// How many answers a text's program has, and their bundle.
@@ -150,13 +151,14 @@ fn proved_text(
     text: &str,
     program: &Restricted,
     depth: u32,
-) -> Result<(usize, Vec<u8>), Memory> {
+) -> Result<(usize, Written), Memory> {
     let proved = prove_program(alloc, program, depth)?;
     let answers = proved.len();
     Ok((answers, bundle_bytes(alloc, text, proved)?))
 }
 
-/// The answers of a text, and a line where `prove` or `check` write anything else. A text with a fault has none.
+/// The answers of a text, and a line where `prove`, `check` or `convert` write anything else. A text with a fault has
+/// none.
 fn tally_of<R: Threads + Wait + Sync + AllocGlobal + Print>(
     rt: &R,
     text: &str,
@@ -166,10 +168,10 @@ fn tally_of<R: Threads + Wait + Sync + AllocGlobal + Print>(
     let Ok(program) = program_of_bytes(alloc, text.as_bytes()) else {
         return Ok(NONE);
     };
-    let (answers, bytes) = proved_text(alloc, text, &program, depth).map_err(|_| AllocError)?;
-    let checked = checked_in(alloc, &bytes, &program).map_err(|_| AllocError)?;
-    if !are_proved(rt, text.as_bytes(), depth, &bytes, answers)? {
-        println!(rt; "% prove or check writes otherwise")?;
+    let (answers, written) = proved_text(alloc, text, &program, depth).map_err(|_| AllocError)?;
+    let checked = checked_in(alloc, &written.shared, &program).map_err(|_| AllocError)?;
+    if !are_proved(rt, text.as_bytes(), depth, &written, answers)? {
+        println!(rt; "% prove, check or convert writes otherwise")?;
     }
     Ok(Tally { answers, checked })
 }

@@ -2,10 +2,10 @@
 //!
 //! The files `.cases` of the folder that this program is run in have texts, which are run by one worker and by
 //! several; those of `sampled_to_0.cases` and so on were made at random, and what is wanted of them is from an
-//! implementation that was written apart. The file `words` has command lines, and `commands.cases` some with an input
+//! implementation that was written apart. The file `words` has command lines, and those of `COMMANDS` some with an input
 //! each. The other texts are read as streams, as the program reads them: each of the folders `examples` and `bytes` has a
 //! file `runs`, of a line for each text with the depth and its name. The files of `searched` are told in `searched.rt`, and
-//! those of `bundles` in `bundles.rt`.
+//! those of `bundles` in `bundles.rt` and `prefixes.rt`.
 #![tactic(auto)]
 
 mod bundles;
@@ -13,6 +13,7 @@ mod call;
 mod cases;
 mod command_lines;
 mod derivations;
+mod prefixes;
 mod proving;
 mod searched;
 mod streams;
@@ -49,17 +50,30 @@ const FILES: [&str; 27] = [
     "sampled_to_4.cases",
 ];
 
+const COMMANDS: [&str; 5] = [
+    "commands.cases",
+    "convert.cases",
+    "work.cases",
+    "count.cases",
+    "answers.cases",
+];
+
 fn main(rt: HostRuntime) -> io::Result<()> {
     for name in &FILES {
         cases::run_file(&rt, name)?;
     }
     command_lines::run_lines(&rt)?;
-    command_lines::run_commands(&rt)?;
+    for name in &COMMANDS {
+        command_lines::run_commands(&rt, name)?;
+    }
     searched::write_outputs(&rt)?;
     searched::write_branches(&rt)?;
     streams::run_folder(&rt, "bytes")?;
     streams::run_folder(&rt, "examples")?;
     bundles::tell_bundles(&rt)?;
+    println!(rt; "% prefixes")?;
+    prefixes::tell_prefixes(&rt, "small")?;
+    prefixes::tell_prefixes(&rt, "shared")?;
     println!(rt; "% derivations")?;
     derivations::check_folder(&rt, "examples")?;
     for name in &FILES {

@@ -12,6 +12,7 @@ use ap_backchain::problem::{Problem, outputs};
 use ap_defs::limits::SIZE_LIMIT;
 use ap_defs::memory::Memory;
 use ap_defs::paths::{Node, Out, Path};
+use ap_paths::Limit;
 use ap_program::restricted::Restricted;
 use ap_replay::error::ReplayError;
 use ap_replay::replay::at;
@@ -75,7 +76,7 @@ fn spell(word: &mut String, out: &Out) -> Result<(), Memory> {
 fn spelled(alloc: Global, problem: &Problem<'_>) -> Result<String, Memory>
     requires { HasQuery problem.now }
 {
-    let outs = outputs(alloc, problem)?;
+    let outs = outputs(alloc, problem, Limit::All)?;
     let mut word = String::new(alloc);
     for out in &outs {
         spell(&mut word, out)?;
@@ -177,7 +178,7 @@ fn words_at<'a>(alloc: Global, problem: &Problem<'a>) -> Result<String, Memory>
 fn lines_of<'a>(alloc: Global, problem: &Problem<'a>) -> Result<String, Memory>
     requires { HasQuery problem.now }
 {
-    let outs = outputs(alloc, problem)?;
+    let outs = outputs(alloc, problem, Limit::All)?;
     let bytes = lines(alloc, problem.program, problem.query, &outs)?;
     String::from_utf8(bytes).or(Err(Memory))
 }

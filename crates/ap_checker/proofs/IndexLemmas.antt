@@ -156,7 +156,7 @@ cond_more ds i j d s h c holds new put inv =
 
 -- NAMES THAT ARE TO DIFFER
 
-sought_name_eq : (a b : Name) → is_eq (sought_name_cmp (sought_name b) (sought_name a)) ≡ name_eq a b
+pub sought_name_eq : (a b : Name) → is_eq (sought_name_cmp (sought_name b) (sought_name a)) ≡ name_eq a b
 unfolding name_eq
 sought_name_eq a b =
     eq_then (nat_cmp b.sort a.sort) (nat_cmp b.num a.num)

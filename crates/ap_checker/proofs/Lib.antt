@@ -12,3 +12,5 @@ pub mod WalkLemmas
 pub mod StackLemmas
 pub mod IndexLemmas
 pub mod ComparisonLemmas
+pub mod OutsideLemmas
+pub mod ImageLemmas

@@ -4,9 +4,11 @@ use Rattle.std.specs.Ordering.{nat_cmp, ordering_then}
 use Rattle.std.specs.declared.cmp.Ordering.{Ordering}
 use Rattle.ap_defs.specs.declared.terms.Cond.{Cond}
 use Rattle.ap_defs.specs.declared.terms.Name.{Name}
+use Rattle.ap_defs.specs.declared.terms.Swap.{Swap}
 use Rattle.ap_defs.specs.declared.terms.Ty.{Ty}
 use Rattle.ap_defs.specs.declared.terms.Var.{Var}
 use Rattle.ap_defs.specs.Freshness.{Conds, has_cond}
+use Rattle.ap_defs.specs.Permutations.{act_name}
 
 -- the place of the first variable with this number, in a list that begins at a place
 abbrev pub place_from : ℕ → List (Var × Ty) → ℕ → Option ℕ
@@ -26,6 +28,17 @@ sought_name a = (a.sort, a.num)
 
 abbrev pub sought_name_cmp : ℕ × ℕ → ℕ × ℕ → Ordering
 sought_name_cmp p q = ordering_then (nat_cmp p.0 q.0) (nat_cmp p.1 q.1)
+
+-- the image of a name, in a table of the numbers of images
+abbrev pub image_or : Option ℕ → Name → Name
+image_or None a = a
+image_or (Some n) a = record { sort = a.sort; num = n }
+
+abbrev pub image_by : (ℕ × ℕ → Option ℕ) → Name → Name
+image_by f a = image_or (f (sought_name a)) a
+
+abbrev pub AreImages : List Swap → (ℕ × ℕ → Option ℕ) → Type 0
+AreImages p f = (a : Name) → image_by f a ≡ act_name p a
 
 -- A table of places and a set of conditions are those of an answer with these typed variables and these conditions.
 pub record IsIndex (vs : List (Var × Ty)) (ds : Conds) (place : ℕ → Option ℕ) (holds : ℕ × (ℕ × ℕ) → Bool) : Type 0 where

@@ -8,3 +8,4 @@ pub mod Indexes
 pub mod Stacks
 pub mod Comparisons
 pub mod NewNames
+pub mod Outsides

@@ -13,6 +13,7 @@ ghost use Rattle.ap_checker.specs.Settled.{are_settled, is_settled};
 ghost use Rattle.ap_checker.specs.Stacks.{AreWithin, IsTestedThere};
 
 use crate::freshness::is_fresh_under;
+use crate::images::Images;
 use crate::index::IndexedAnswer;
 use crate::swappings::{image, is_same, preimage};
 use ap_defs::memory::Memory;
@@ -63,14 +64,20 @@ impl<'a> Comparison<'a> {
 
 /// Whether the two lists of swappings agree on the name, or it is known to be fresh for the variable.
 #[tactic(auto, unfolding(ap_defs::specs::Permutations::name_eq))]
-fn settles(answer: &IndexedAnswer<'_>, p: &[Swap], q: &[Swap], name: Name, var: Var) -> bool
+fn settles(answer: &IndexedAnswer<'_>, p: &Images<'_>, q: &Images<'_>, name: Name, var: Var) -> bool
     ensures { result ≡ is_settled answer.now.conds p.now q.now var name }
 {
-    image(p, name) == image(q, name) || answer.has(&Cond { name, var })
+    p.image(name) == q.image(name) || answer.has(&Cond { name, var })
 }
 
 /// Whether they do so on each name of some swappings.
-fn settles_each(answer: &IndexedAnswer<'_>, p: &[Swap], q: &[Swap], of: &[Swap], var: Var) -> bool
+fn settles_each(
+    answer: &IndexedAnswer<'_>,
+    p: &Images<'_>,
+    q: &Images<'_>,
+    of: &[Swap],
+    var: Var,
+) -> bool
     ensures { result ≡ are_settled answer.now.conds p.now q.now var of.now }
 {
     for s in of {
@@ -91,10 +98,10 @@ fn settles_each(answer: &IndexedAnswer<'_>, p: &[Swap], q: &[Swap], of: &[Swap],
 
 /// Whether each name on which the two lists of swappings differ is known to be fresh for the variable.
 #[tactic(auto, using(crate::proofs::SettledLemmas::settled_then, crate::proofs::SettledLemmas::settled_else))]
-fn differ_freshly(answer: &IndexedAnswer<'_>, p: &[Swap], q: &[Swap], var: Var) -> bool
+fn differ_freshly(answer: &IndexedAnswer<'_>, p: &Images<'_>, q: &Images<'_>, var: Var) -> bool
     ensures { result ≡ all_fresh answer.now.conds (disagreement p.now q.now) var }
 {
-    settles_each(answer, p, q, p, var) && settles_each(answer, p, q, q, var)
+    settles_each(answer, p, q, p.swaps(), var) && settles_each(answer, p, q, q.swaps(), var)
 }
 
 /// The swappings, the last one first, in front of others.
@@ -161,7 +168,9 @@ fn are_suspended_alike(
         return Ok(false);
     }
     let all = in_front(alloc, swaps, q)?;
-    Ok(differ_freshly(answer, p, &all, x))
+    let p = Images::of(alloc, p)?;
+    let q = Images::of(alloc, &all)?;
+    Ok(differ_freshly(answer, &p, &q, x))
 }
 
 /// Compares the heads of two terms, the second with all swappings: their parts come next.

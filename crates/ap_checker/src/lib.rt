@@ -3,8 +3,9 @@
 //! are its own, on terms.
 //!
 //! A derivation and its terms are as deep as whoever made them wants: the nodes stand on a stack of their
-//! own, and so does what is left of a term or a goal that is tested. What copies a term or lists its names
-//! goes on along the right in a loop and calls itself on left parts, as the drop of a term does.
+//! own, and so does what is left of a term that is tested or copied. What lists the names and variables of a
+//! term of the program, or compares a type with one of the program, calls itself on left parts: these are as
+//! deep as the text is nested.
 #![tactic(auto)]
 
 mod answers;
@@ -12,10 +13,12 @@ pub mod equality;
 mod fits;
 mod free;
 pub mod freshness;
+mod images;
 pub mod index;
 mod lookups;
 mod new_names;
 mod nodes;
+mod outside;
 pub mod rules;
 mod scope;
 pub mod swappings;

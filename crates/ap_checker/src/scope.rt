@@ -3,14 +3,17 @@
 ghost use Rattle.std.specs.Prelude.{◌≡◌, map, IfOk, MatchOption, None, Some};
 ghost use Rattle.ap_defs.specs.Terms.{susp, term_of, unit};
 ghost use Rattle.ap_defs.specs.Types.{locals_of};
+ghost use Rattle.ap_defs.specs.Unification.{size};
 ghost use Rattle.ap_checks.specs.OpenEnvironments.{put_in, swap_in};
+ghost use Rattle.ap_checker.specs.Outsides.{IsNext};
 ghost use Rattle.ap_checker.specs.Scopes.{environment_of, item_terms, name_stood, term_brought};
 
 use crate::lookups::{name_for, term_for};
+use crate::outside::{Next, Outside};
 use crate::swappings::{is_same, moved};
 use ap_defs::goals::Local;
 use ap_defs::memory::Memory;
-use ap_defs::spines::{TermLayer, close_term};
+use ap_defs::spines::TermLayer;
 use ap_defs::terms::{Name, Swap, Term, Var};
 use std::alloc::Global;
 
@@ -131,36 +134,48 @@ fn put_suspension(
     }
 }
 
+/// What comes next, where a part of a term is to be made with its names and variables replaced.
+fn put_part<'a>(
+    alloc: Global,
+    scope: &[Standing<'_>],
+    outside: &mut Outside<'a>,
+    t: &'a Term,
+) -> Result<Next<'a>, Memory>
+    ensures { IfOk result (λ next. IsNext (put_in (environment_of scope.now)) (size (term_of t.now)) outside.old
+        (put_in (environment_of scope.now) (term_of t.now)) outside.new next) }
+{
+    match t {
+        Term::Unit => outside.close(alloc, Term::Unit),
+        Term::Name(a) => outside.close(alloc, Term::Name(name_in(scope, *a))),
+        Term::Susp(swaps, x) => {
+            let part = put_suspension(alloc, scope, swaps.items(), *x)?;
+            outside.close(alloc, part)
+        }
+        Term::Pair(left, right) => {
+            outside.halve(alloc, right)?;
+            Ok(Next::Part(left))
+        }
+        Term::App(f, argument) => {
+            outside.wrap(TermLayer::App(*f))?;
+            Ok(Next::Part(argument))
+        }
+        Term::Abs(a, body) => {
+            outside.wrap(TermLayer::Abs(name_in(scope, *a)))?;
+            Ok(Next::Part(body))
+        }
+    }
+}
+
 /// The term with its names and variables replaced at once.
-///
-/// It goes on along the right part of a pair, the argument of a constructor and the body of an
-/// abstraction, and calls itself on left parts of pairs alone.
-#[tactic(auto, using(ap_defs::proofs::SpineLemmas::term_within_last))]
 pub(crate) fn put(alloc: Global, scope: &[Standing<'_>], t: &Term) -> Result<Term, Memory>
     ensures { IfOk result (λ u. term_of u ≡ put_in (environment_of scope.now) (term_of t.now)) }
 {
-    let mut layers = Vec::new(alloc);
+    let mut outside = Outside::new(alloc);
     let mut rest = t;
-    loop {
-        match rest {
-            Term::Unit => return close_term(alloc, layers, Term::Unit),
-            Term::Name(a) => return close_term(alloc, layers, Term::Name(name_in(scope, *a))),
-            Term::Susp(swaps, x) => {
-                let stood = put_suspension(alloc, scope, swaps.items(), *x)?;
-                return close_term(alloc, layers, stood);
-            }
-            Term::Pair(left, right) => {
-                layers.push(TermLayer::Left(put(alloc, scope, left)?))?;
-                rest = right;
-            }
-            Term::App(f, argument) => {
-                layers.push(TermLayer::App(*f))?;
-                rest = argument;
-            }
-            Term::Abs(a, body) => {
-                layers.push(TermLayer::Abs(name_in(scope, *a)))?;
-                rest = body;
-            }
+    'parts: loop {
+        match put_part(alloc, scope, &mut outside, rest)? {
+            Next::Part(part) => rest = part,
+            Next::Whole(made) => return Ok(made),
         }
     }
 }

@@ -40,9 +40,10 @@ fn command(words: &[String]) -> &str {
     }
 }
 
-// Whether the input is a text, and not a bundle.
-fn reads_text(words: &[String]) -> bool {
-    command(words) != "check"
+// Whether the input is a bundle, and not a text.
+fn reads_bundle(words: &[String]) -> bool {
+    let command = command(words);
+    command == "check" || command == "convert"
 }
 
 // Whether the report has lines of totals. A bundle has none of its own.
@@ -66,10 +67,10 @@ fn run<R: Threads + Wait + Sync + AllocGlobal + Input + Print + Eprint>(
         Tally::new()
     };
     let text = source.read_so_far();
-    if reads_text(words) {
-        say(rt, alloc, status, text, tally);
-    } else {
+    if reads_bundle(words) {
         say(rt, alloc, status, None, tally);
+    } else {
+        say(rt, alloc, status, text, tally);
     }
     status
 }

@@ -7,15 +7,25 @@ use ap_top::Status;
 use std::alloc::Global;
 
 /// How the program is called.
-const USAGE: &str = "usage: alphaprolog run --depth D [--workers W] < FILE
-       alphaprolog prove --depth D [--workers W] < FILE > BUNDLE
+const USAGE: &str = "usage: alphaprolog run --depth D [--workers W] [--answers N] < FILE
+       alphaprolog prove --depth D [--workers W] [--answers N] < FILE > BUNDLE
        alphaprolog check < BUNDLE
+       alphaprolog convert --to V < BUNDLE > BUNDLE
+       alphaprolog count --depth D [--workers W] < FILE
+       alphaprolog work --seed N --size K [--workers W]
 
   run           answers the queries of the text on standard input
   prove         writes the text with each answer and its derivation, as a bundle
   check         checks each derivation of a bundle
+  convert       writes a bundle in another version
+  count         counts how often each clause is used in the derivations of the answers
+  work          runs a text that is made from a number, and writes its totals
   --depth D     how many clauses may be used one inside another, from 0 to 1000000
   --workers W   how many workers search side by side, from 1 to 64; 1 where it isn't given
+  --answers N   how many answers of each query are wanted, from 1 to 1000000; all where it isn't given
+  --to V        the version of the bundle that is written, 1 or 2
+  --seed N      the number from which the text is made, from 0 to 18446744073709551615
+  --size K      how many queries the text has, from 1 to 1000
 
 Options come in any order, each once. The report goes to standard output, and what is said
 of a fault of the text to standard error. Exit status: 0 report, 1 usage, 2 syntax, 3 types,

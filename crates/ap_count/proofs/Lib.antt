@@ -1,3 +1,3 @@
-mod UseLemmas
+pub mod UseLemmas
 mod TableLemmas
 mod WaitingLemmas

@@ -1,3 +1,4 @@
 pub mod Uses
 pub mod Tables
 pub mod Waiting
+pub mod Laws

@@ -5,6 +5,7 @@
 //! on a stack of their own, and `uses` those of many, which it parts among workers.
 #![tactic(auto)]
 
+pub mod laws;
 pub mod tables;
 pub mod uses;
 pub mod walk;

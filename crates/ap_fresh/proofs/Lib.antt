@@ -1,4 +1,5 @@
 pub mod SetLemmas
+pub mod SortLemmas
 pub mod VisitLemmas
 pub mod StepLemmas
 pub mod RenamedLemmas

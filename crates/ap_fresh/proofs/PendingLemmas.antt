@@ -9,7 +9,7 @@ use Rattle.ap_defs.specs.declared.terms.Var.{Var}
 use Rattle.ap_perm.specs.Lookups.{Bound, IsRanked}
 use Rattle.ap_fresh.specs.Reduction.{added, pending_term}
 use Rattle.ap_fresh.specs.declared.pending.Pending.{Pending}
-use Rattle.ap_fresh.proofs.SetLemmas.{add_conds-append}
+use Rattle.ap_fresh.proofs.SetLemmas.{behind-append}
 use Rattle.ap_fresh.proofs.StepLemmas.{problem}
 use Rattle.ap_fresh.proofs.VisitLemmas.{visits}
 
@@ -23,8 +23,8 @@ both_nothing : (x : Option (List Cond)) → both x (Some []) ≡ x
 both_nothing None = refl
 both_nothing (Some cs) = ap Some (append-nil cs)
 
--- the conditions of a problem, added to those that were added before, if these are
-abbrev then_added : Option (List Cond) → Option Conds → Option Conds
+-- the conditions of a problem, behind those that came before, if these are
+abbrev then_added : Option (List Cond) → Option (List Cond) → Option (List Cond)
 then_added x None = None
 then_added x (Some ds) = added x ds
 
@@ -32,7 +32,7 @@ added_then : (x y : Option (List Cond)) (ds : Conds) → added (both x y) ds ≡
 added_then None None ds = refl
 added_then None (Some cs) ds = refl
 added_then (Some bs) None ds = refl
-added_then (Some bs) (Some cs) ds = ap Some (add_conds-append bs cs ds)
+added_then (Some bs) (Some cs) ds = ap Some (behind-append bs cs ds)
 
 pub added_none : (x : Option (List Cond)) (ds : Conds) → added x ds ≡ None → x ≡ None
 added_none None ds h = refl

@@ -1,41 +1,43 @@
--- Conditions that are added to an ascending set, one after the other.
-use Rattle.std.proofs.Common.{◌≡◌, ◌<◌, ℕ, Bool, true, false, ◌&&◌, List, [], ◌∷◌, ◌++◌, length, get_or, take, drop, refl, sym, ap, ◌∙◌}
-use Rattle.std.proofs.Math.Seq.{drop-cons}
-use Rattle.std.proofs.lemmas.List.{take-append-drop}
-use Rattle.std.specs.List.{insert, list_all}
+-- Conditions that are put behind one another, and their set.
+use Rattle.std.proofs.Common.{◌≡◌, Bool, true, false, ◌&&◌, ◌||◌, List, [], ◌∷◌, ◌++◌, refl, sym, ap, ◌∙◌}
+use Rattle.std.specs.List.{list_all}
 use Rattle.std.specs.Prelude.{Option, Some, None, if◌then◌else◌, is_none}
 use Rattle.ap_defs.specs.Freshness.{Conds, add_cond, add_conds, both, cond_before, cond_eq, has_cond, reduce}
 use Rattle.ap_defs.specs.Terms.{NominalTerm}
 use Rattle.ap_defs.specs.declared.terms.Cond.{Cond}
 use Rattle.ap_defs.specs.declared.terms.Name.{Name}
-use Rattle.ap_theory.proofs.ConditionSetLemmas.{cond_eq_tells}
+use Rattle.ap_theory.proofs.BooleanLemmas.{or_nothing}
+use Rattle.ap_theory.proofs.ConditionSetLemmas.{add_conds_same, cond_eq_tells, has_cond-append}
 use Rattle.ap_theory.proofs.ReductionLemmas.{is_none_reduce}
 use Rattle.ap_theory.proofs.UnderLemmas.{fresh_under_reduce}
 use Rattle.ap_theory.specs.StatementsOnConditions.{collected, is_free}
 use Rattle.ap_theory.specs.StatementsOnTests.{all_in}
-use Rattle.ap_fresh.specs.Reduction.{IsLeast, added}
+use Rattle.ap_fresh.specs.Reduction.{IsLeast, added, put_behind}
 
-pub add_there : (c : Cond) (ds : Conds) (i : ℕ) (d : Cond) → i < length ds → cond_eq c (get_or ds i d) ≡ true
-    → take i ds ++ add_cond c (drop i ds) ≡ ds
-add_there c ds i d h e =
-    ap (λ es. take i ds ++ add_cond c es) (drop-cons ds i d h) ∙ rw e (ap (λ es. take i ds ++ es) (sym (drop-cons ds i d h)) ∙ take-append-drop i ds)
+pub behind-append : (cs ds es : List Cond) → put_behind (cs ++ ds) es ≡ put_behind cs (put_behind ds es)
+behind-append [] ds es = refl
+behind-append (c ∷ cs) ds es = ap (λ (bs : List Cond). bs ++ c ∷ []) (behind-append cs ds es)
 
-pub add_between : (c : Cond) (ds : Conds) (i : ℕ) (d : Cond) → i < length ds → cond_eq c (get_or ds i d) ≡ false → cond_before c (get_or ds i d) ≡ true
-    → insert ds i c ≡ take i ds ++ add_cond c (drop i ds)
-add_between c ds i d h e k =
-    sym (ap (λ es. take i ds ++ add_cond c es) (drop-cons ds i d h) ∙ rw (e, k) (ap (λ es. take i ds ++ c ∷ es) (sym (drop-cons ds i d h))))
+last_first : (x y z : Bool) → ((y || z) || (x || false)) ≡ ((x || y) || z)
+last_first true true z = refl
+last_first true false true = refl
+last_first true false false = refl
+last_first false true z = refl
+last_first false false true = refl
+last_first false false false = refl
 
-pub add_conds-append : (cs ds es : List Cond) → add_conds (cs ++ ds) es ≡ add_conds cs (add_conds ds es)
-add_conds-append [] ds es = refl
-add_conds-append (c ∷ cs) ds es = ap (add_cond c) (add_conds-append cs ds es)
+members_behind : (b : Cond) (cs ds : List Cond) → has_cond b (put_behind cs ds) ≡ (has_cond b cs || has_cond b ds)
+members_behind b [] ds = refl
+members_behind b (c ∷ cs) ds =
+    has_cond-append b (put_behind cs ds) (c ∷ []) ∙ ap (λ x. x || (cond_eq b c || false)) (members_behind b cs ds) ∙ last_first (cond_eq b c) (has_cond b cs) (has_cond b ds)
 
--- the conditions of both parts, where those of the second one were added before
-pub added_both : (o p : Option (List Cond)) (ds es fs : Conds) → added p ds ≡ Some es → added o es ≡ Some fs → added (both o p) ds ≡ Some fs
+-- the conditions of both parts, where those of the second one came before
+pub added_both : (o p : Option (List Cond)) (ds es fs : List Cond) → added p ds ≡ Some es → added o es ≡ Some fs → added (both o p) ds ≡ Some fs
 added_both None p ds es fs h k = cc
 added_both (Some cs) None ds es fs h k = cc
-added_both (Some cs) (Some bs) ds es fs h k = ap Some (add_conds-append cs bs ds ∙ ap (add_conds cs) (some_same h)) ∙ k
+added_both (Some cs) (Some bs) ds es fs h k = ap Some (behind-append cs bs ds ∙ ap (put_behind cs) (some_same h)) ∙ k
   where
-    some_same : {v w : Conds} → Some v ≡ Some w → v ≡ w
+    some_same : {v w : List Cond} → Some v ≡ Some w → v ≡ w
     some_same e = cc
 
 pub both_left : (o p : Option (List Cond)) → o ≡ None → both o p ≡ None
@@ -101,6 +103,11 @@ collected_fresh a t cs h = sym (is_none_reduce a t) ∙ fresh_added (reduce a t)
 pub refuted_free : (a : Name) (t : NominalTerm) → reduce a t ≡ None → is_free a t ≡ true
 refuted_free a t h = sym (is_none_reduce a t) ∙ ap is_none h
 
-pub added_none : (o : Option (List Cond)) (cs : Conds) → added o [] ≡ Some cs → collected o ≡ Some cs
-added_none None cs h = cc
-added_none (Some bs) cs h = h
+-- the set of the conditions that were put behind one another
+pub collected_set : (o : Option (List Cond)) (cs : List Cond) → added o [] ≡ Some cs → collected o ≡ Some (add_conds cs [])
+collected_set None cs h = cc
+collected_set (Some bs) cs h =
+    ap Some (add_conds_same bs cs (λ c. sym (ap (has_cond c) (sym (some_same h)) ∙ members_behind c bs [] ∙ or_nothing (has_cond c bs))))
+  where
+    some_same : {v w : List Cond} → Some v ≡ Some w → v ≡ w
+    some_same e = cc

@@ -1,7 +1,7 @@
 //! Freshness problems, reduced to conditions on unbound variables.
 
 ghost use Rattle.std.specs.Prelude.{◌≡◌, [], true, false, None, Some, IfOk, OnOk, IsErrOf, IsOkUnless, map};
-ghost use Rattle.ap_defs.specs.Freshness.{add_cond, cond_before, cond_eq, reduce as by_rules};
+ghost use Rattle.ap_defs.specs.Freshness.{reduce as by_rules};
 ghost use Rattle.ap_defs.specs.Permutations.{act_name, inverse};
 ghost use Rattle.ap_defs.specs.Renaming.{AreSwapsBelow, IsBelow, rename_swap, rename_term};
 ghost use Rattle.ap_defs.specs.Terms.{susp, term_of};
@@ -12,47 +12,13 @@ ghost use Rattle.ap_fresh.specs.Reduction.{added, pending_term, IsLeast};
 
 use crate::error::FreshError;
 use crate::pending::Pending;
+use crate::sets::make_set;
 use ap_defs::terms::{Cond, Name, Swap, Term, Var};
 use ap_perm::closures::Closure;
 use ap_perm::joining::numbered;
 use ap_perm::look::Look;
 use ap_perm::swappings::swapped;
 use std::alloc::Global;
-
-/// Whether two conditions are one.
-#[tactic(auto, unfolding(ap_defs::specs::Permutations::name_eq))]
-fn is_same(c: &Cond, d: &Cond) -> bool
-    ensures { result ≡ cond_eq c.now d.now }
-{
-    c == d
-}
-
-/// Whether a condition comes before another one: by the variable, then by the number of the name,
-/// and then by its sort.
-fn is_before(c: &Cond, d: &Cond) -> bool
-    ensures { result ≡ cond_before c.now d.now }
-{
-    (c.var, c.name.num, c.name.sort) < (d.var, d.name.num, d.name.sort)
-}
-
-/// Adds a condition to a set of conditions, ascending.
-#[tactic(auto, using(crate::proofs::SetLemmas::add_there, crate::proofs::SetLemmas::add_between))]
-fn add(conds: &mut Vec<Cond>, c: Cond) -> Result<(), FreshError>
-    ensures added { OnOk result (conds.new.items ≡ add_cond c conds.old.items) }
-    ensures refusal { IsOkUnless result FreshError.Memory }
-{
-    for place in 0..conds.len() {
-        if is_same(&c, &conds[place]) {
-            return Ok(());
-        }
-        if is_before(&c, &conds[place]) {
-            conds.insert(place, c)?;
-            return Ok(());
-        }
-    }
-    conds.push(c)?;
-    Ok(())
-}
 
 /// The name of which a list of swappings makes `a`, once their numbers are higher by `base`, and then
 /// below `end`.
@@ -72,8 +38,8 @@ fn preimage_from(base: u64, end: u64, swaps: &[Swap], a: Name) -> Name
     moved
 }
 
-/// Adds the conditions to which a problem reduces under the bindings, from the last to the first. What
-/// is left to be reduced lies on a stack.
+/// Puts the conditions to which a problem reduces under the bindings behind others, from the last to the
+/// first. What is left to be reduced lies on a stack.
 fn collect<L: Look>(first: Pending<'_>, look: &L, conds: &mut Vec<Cond>) -> Result<(), FreshError>
     ensures added { OnOk result (added (by_rules first.entry.name (carried_out (L.bound look.now) (L.rank look.now) (pending_term first.entry))) conds.old.items ≡ Some conds.new.items) }
     ensures refuted { IsErrOf result FreshError.Refuted → by_rules first.entry.name (carried_out (L.bound look.now) (L.rank look.now) (pending_term first.entry)) ≡ None }
@@ -104,7 +70,7 @@ fn collect<L: Look>(first: Pending<'_>, look: &L, conds: &mut Vec<Cond>) -> Resu
                     num: p.base + x.num,
                 };
                 match look.look(var) {
-                    None => add(conds, Cond { name, var })?,
+                    None => conds.push(Cond { name, var })?,
                     Some(c) => left.push(Pending::bound(name, c))?,
                 }
             }
@@ -113,8 +79,8 @@ fn collect<L: Look>(first: Pending<'_>, look: &L, conds: &mut Vec<Cond>) -> Resu
     Ok(())
 }
 
-/// Adds the conditions to which `a # t` reduces under the bindings to a set, from the last to the
-/// first. `Refuted` comes exactly where there are none.
+/// Puts the conditions to which `a # t` reduces under the bindings behind others, from the last to the
+/// first, each as often as it comes. `Refuted` comes exactly where there are none.
 pub fn add_reduced<L: Look>(
     a: Name,
     t: &Closure<'_>,
@@ -127,8 +93,8 @@ pub fn add_reduced<L: Look>(
     collect(Pending::bound(a, t), look, conds)
 }
 
-/// Adds the conditions to which `a # x` reduces under the bindings to a set. `Refuted` comes exactly
-/// where there are none.
+/// Puts the conditions to which `a # x` reduces under the bindings behind others, from the last to the
+/// first, each as often as it comes. `Refuted` comes exactly where there are none.
 pub fn add_reduced_var<L: Look>(
     a: Name,
     x: Var,
@@ -139,7 +105,7 @@ pub fn add_reduced_var<L: Look>(
     ensures refuted { IsErrOf result FreshError.Refuted → by_rules a (carried_out (L.bound look.now) (L.rank look.now) (susp [] x)) ≡ None }
 {
     match look.look(x) {
-        None => add(conds, Cond { name: a, var: x }),
+        None => Ok(conds.push(Cond { name: a, var: x })?),
         Some(c) => add_reduced(a, c, look, conds),
     }
 }
@@ -163,5 +129,6 @@ pub fn reduce<L: Look>(
 {
     let mut conds = Vec::new(alloc);
     add_reduced(a, t, look, &mut conds)?;
+    make_set(&mut conds);
     Ok(conds)
 }

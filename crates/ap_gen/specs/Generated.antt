@@ -1,6 +1,6 @@
 -- Texts that are made from a number: the calculus of substitution on lambda terms, and queries for the terms in which the
 -- substitution of `var(b)` for `a` gives a term that is drawn.
-use Rattle.std.specs.Prelude.{ℕ, zero, suc, ◌+◌, ◌*◌, ◌/◌, ◌%◌, List, [], ◌∷◌, ◌++◌, codes}
+use Rattle.std.specs.Prelude.{ℕ, zero, suc, ◌+◌, ◌*◌, ◌/◌, ◌%◌, List, [], ◌++◌, codes}
 
 -- the state after a draw, and what is drawn of so many
 abbrev pub next : ℕ → ℕ

@@ -6,6 +6,8 @@
 
 mod draws;
 mod programs;
+mod sizes;
 mod terms;
 
 pub use programs::program_of;
+pub use sizes::{MOST_QUERIES, Size};

@@ -1,4 +1,5 @@
 pub mod Texts
 mod QueryReports
+mod Limiting
 pub mod SoundTexts
 pub mod CompleteTexts

@@ -8,8 +8,11 @@ use Rattle.ap_defs.specs.Answers.{NominalOut, cut, found, query_outs, stuck}
 use Rattle.ap_defs.specs.Types.{NominalLocal}
 use Rattle.ap_defs.specs.Lines.{Line, answer, count_of, cuts, ended, is_cut, is_found, is_stuck, line_before, line_text, lines_of, program_report, query_lines, report_from, stucks}
 use Rattle.ap_backchain.specs.Ends.{without_path}
+use Rattle.ap_paths.specs.Limits.{part}
+use Rattle.ap_paths.specs.declared.limits.Limit.{Limit}
+use Rattle.ap_paths.specs.declared.limits.Limit.TheVariants as limits
 use Rattle.ap_answers.specs.Queries.{locals_at, query_locals}
-use Rattle.ap_report.specs.Queries.{report_at, query_report}
+use Rattle.ap_report.specs.Queries.{limited_from, limited_lines, limited_report, query_report, report_at}
 
 -- Lines do not tell the paths of outputs.
 line_sees_no_path : (o : NominalOut) (ls : List Line) → line_before (without_path o) ls ≡ line_before o ls
@@ -71,50 +74,61 @@ without_twice (found p a ∷ os) = ap (λ l. found [] a ∷ l) (without_twice os
 without_twice (cut p ∷ os) = ap (λ l. cut [] ∷ l) (without_twice os)
 without_twice (stuck p ∷ os) = ap (λ l. stuck [] ∷ l) (without_twice os)
 
--- the lines of the query at a place, where these are its outputs
-lines_at : (program : NominalProgram) (depth k : ℕ) (qs : List NominalQuery) (place : ℕ) (os : List NominalOut) → place < length qs
-    → ((q : NominalQuery) → slice_get qs place ≡ Some q → map without_path os ≡ map without_path (query_outs program.clauses depth q))
-    → query_lines program (k + place) (locals_at qs place) os ≡ report_at program depth k qs place
-lines_at program depth k [] place os l are = absurd (omega arith)
-lines_at program depth k (q ∷ qs) zero os l are =
-    lines_see_no_paths program (k + 0) q.locals os (query_outs program.clauses depth q) (are q refl) ∙ ap (λ n. query_lines program n q.locals (query_outs program.clauses depth q)) (let e : k + 0 ≡ k = omega arith in e)
-lines_at program depth k (q ∷ qs) (suc place) os l are =
+-- the lines of the query at a place, where these are its outputs as far as they are wanted
+lines_at : (program : NominalProgram) (depth : ℕ) (limit : Limit) (k : ℕ) (qs : List NominalQuery) (place : ℕ) (os : List NominalOut) → place < length qs
+    → ((q : NominalQuery) → slice_get qs place ≡ Some q → map without_path os ≡ map without_path (part limit (query_outs program.clauses depth q)))
+    → query_lines program (k + place) (locals_at qs place) os ≡ report_at program depth limit k qs place
+lines_at program depth limit k [] place os l are = absurd (omega arith)
+lines_at program depth limit k (q ∷ qs) zero os l are =
+    lines_see_no_paths program (k + 0) q.locals os (part limit (query_outs program.clauses depth q)) (are q refl)
+    ∙ ap (λ n. query_lines program n q.locals (part limit (query_outs program.clauses depth q))) (let e : k + 0 ≡ k = omega arith in e)
+lines_at program depth limit k (q ∷ qs) (suc place) os l are =
     ap (λ n. query_lines program n (locals_at qs place) os) (let e : k + suc place ≡ suc k + place = omega arith in e)
-    ∙ lines_at program depth (suc k) qs place os (omega arith) are
+    ∙ lines_at program depth limit (suc k) qs place os (omega arith) are
 
-pub lines_of_query : (program : NominalProgram) (depth query : ℕ) (os : List NominalOut) → 1 ≤ query → query ≤ length program.queries
-    → ((q : NominalQuery) → slice_get program.queries (query - 1) ≡ Some q → map without_path os ≡ map without_path (query_outs program.clauses depth q))
-    → query_lines program query (query_locals program query) os ≡ query_report program depth (query - 1)
-lines_of_query program depth zero os l m are = absurd (omega arith)
-lines_of_query program depth (suc place) os l m are =
+pub lines_of_query : (program : NominalProgram) (depth : ℕ) (limit : Limit) (query : ℕ) (os : List NominalOut) → 1 ≤ query → query ≤ length program.queries
+    → ((q : NominalQuery) → slice_get program.queries (query - 1) ≡ Some q → map without_path os ≡ map without_path (part limit (query_outs program.clauses depth q)))
+    → query_lines program query (query_locals program query) os ≡ query_report program depth limit (query - 1)
+lines_of_query program depth limit zero os l m are = absurd (omega arith)
+lines_of_query program depth limit (suc place) os l m are =
     let here : suc place - 1 ≡ place = omega arith in
     let number : 1 + place ≡ suc place = omega arith in
-    rw here (rw number at (lines_at program depth 1 program.queries place os (omega arith) (λ q found. are q (rw here found))))
+    rw here (rw number at (lines_at program depth limit 1 program.queries place os (omega arith) (λ q found. are q (rw here found))))
 
 -- the reports from a place on are that of the query there, and those after it
-next_report : (program : NominalProgram) (depth k : ℕ) (qs : List NominalQuery) (place : ℕ) → place < length qs
-    → report_from program depth (k + place) (drop place qs) ≡ report_at program depth k qs place ++ report_from program depth (k + suc place) (drop (suc place) qs)
-next_report program depth k [] place l = absurd (omega arith)
-next_report program depth k (q ∷ qs) zero l =
+next_report : (program : NominalProgram) (depth : ℕ) (limit : Limit) (k : ℕ) (qs : List NominalQuery) (place : ℕ) → place < length qs
+    → limited_from program depth limit (k + place) (drop place qs)
+    ≡ report_at program depth limit k qs place ++ limited_from program depth limit (k + suc place) (drop (suc place) qs)
+next_report program depth limit k [] place l = absurd (omega arith)
+next_report program depth limit k (q ∷ qs) zero l =
     let e : k + 0 ≡ k = omega arith in
     let f : k + 1 ≡ suc k = omega arith in
     rw e (rw f refl)
-next_report program depth k (q ∷ qs) (suc place) l =
+next_report program depth limit k (q ∷ qs) (suc place) l =
     let e : k + suc place ≡ suc k + place = omega arith in
     let f : k + suc (suc place) ≡ suc k + suc place = omega arith in
-    rw e (rw f (next_report program depth (suc k) qs place (omega arith)))
+    rw e (rw f (next_report program depth limit (suc k) qs place (omega arith)))
 
-pub reports_go_on : (program : NominalProgram) (depth place : ℕ) → place < length program.queries
-    → report_from program depth (1 + place) (drop place program.queries) ≡ query_report program depth place ++ report_from program depth (1 + suc place) (drop (suc place) program.queries)
-reports_go_on program depth place l = next_report program depth 1 program.queries place l
+reports_go_on : (program : NominalProgram) (depth : ℕ) (limit : Limit) (place : ℕ) → place < length program.queries
+    → limited_from program depth limit (1 + place) (drop place program.queries)
+    ≡ query_report program depth limit place ++ limited_from program depth limit (1 + suc place) (drop (suc place) program.queries)
+reports_go_on program depth limit place l = next_report program depth limit 1 program.queries place l
 
-pub one_more : (program : NominalProgram) (depth place : ℕ) (old report new : List ℕ) → place < length program.queries
-    → new ≡ old ++ report → report ≡ query_report program depth (place + 1 - 1)
-    → old ++ report_from program depth (1 + place) (drop place program.queries) ≡ program_report program depth
-    → new ++ report_from program depth (1 + (place + 1)) (drop (place + 1) program.queries) ≡ program_report program depth
-one_more program depth place old report new l grown is before =
+pub one_more : (program : NominalProgram) (depth : ℕ) (limit : Limit) (place : ℕ) (old report new : List ℕ) → place < length program.queries
+    → new ≡ old ++ report → report ≡ query_report program depth limit (place + 1 - 1)
+    → old ++ limited_from program depth limit (1 + place) (drop place program.queries) ≡ limited_report program depth limit
+    → new ++ limited_from program depth limit (1 + (place + 1)) (drop (place + 1) program.queries) ≡ limited_report program depth limit
+one_more program depth limit place old report new l grown is before =
     let here : place + 1 - 1 ≡ place = omega arith in
     let next : place + 1 ≡ suc place = omega arith in
-    let rest = report_from program depth (1 + suc place) (drop (suc place) program.queries) in
+    let rest = limited_from program depth limit (1 + suc place) (drop (suc place) program.queries) in
     rw next (rw grown (rw is (rw here
-    (append_assoc old (query_report program depth place) rest ∙ ap (λ w. old ++ w) (sym (reports_go_on program depth place l)) ∙ before))))
+    (append_assoc old (query_report program depth limit place) rest ∙ ap (λ w. old ++ w) (sym (reports_go_on program depth limit place l)) ∙ before))))
+
+-- where all answers are wanted, these are the reports of all outputs
+all_from : (program : NominalProgram) (depth k : ℕ) (qs : List NominalQuery) → limited_from program depth limits.All k qs ≡ report_from program depth k qs
+all_from program depth k [] = refl
+all_from program depth k (q ∷ qs) = ap (λ w. limited_lines program depth limits.All k q ++ w) (all_from program depth (suc k) qs)
+
+pub all_reported : (program : NominalProgram) (depth : ℕ) → limited_report program depth limits.All ≡ program_report program depth
+all_reported program depth = all_from program depth 1 program.queries

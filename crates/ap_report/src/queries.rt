@@ -2,10 +2,9 @@
 ghost use Rattle.std.specs.Prelude.{◌≡◌, ◌-◌, ℕ, List as list, IfOk, length};
 ghost use Rattle.ap_defs.specs.Goals.{program_of};
 ghost use Rattle.ap_defs.specs.Printing.{has_word};
-ghost use Rattle.ap_defs.specs.Lines.{program_report};
 ghost use Rattle.ap_answers.specs.Words.{knows};
 ghost use Rattle.ap_backchain.specs.Problems.{HasQuery};
-ghost use Rattle.ap_report.specs.Queries.{query_report};
+ghost use Rattle.ap_report.specs.Queries.{limited_report, query_report};
 
 use crate::solver::solve_without_paths;
 use ap_answers::printing::{lines_among, words_in};
@@ -13,6 +12,7 @@ use ap_backchain::problem::Problem;
 use ap_defs::limits::{Depth, Workers};
 use ap_defs::memory::Memory;
 use ap_io::Gate;
+use ap_paths::Limit;
 use ap_program::restricted::Restricted;
 use std::alloc::Global;
 use std::collections::HashSet;
@@ -32,27 +32,30 @@ fn report_query<R: Threads + Wait + Sync, G: Gate>(
     alloc: Global,
     gate: &G,
     workers: Workers,
+    limit: Limit,
     taken: &HashSet<&str>,
     problem: &Problem<'_>,
 ) -> Result<Vec<u8>, Memory>
     requires words { (w : list ℕ) → knows taken.now w ≡ has_word w problem.now.program.now.words }
     requires query { HasQuery problem.now }
-    ensures { IfOk result (λ v. v.items ≡ query_report (program_of problem.now.program.now) problem.now.depth (problem.now.query - 1)) }
+    ensures { IfOk result (λ v. v.items ≡ query_report (program_of problem.now.program.now) problem.now.depth limit (problem.now.query - 1)) }
 {
-    let outs = solve_without_paths(rt, alloc, gate, workers, problem)?;
+    let outs = solve_without_paths(rt, alloc, gate, workers, limit, problem)?;
     lines_among(alloc, problem.program, taken, problem.query, &outs)
 }
 
-/// The report on each query of the program, to a depth, one after the other.
+/// The report on each query of the program, to a depth, one after the other: the lines of its outputs up
+/// to the last answer that is wanted.
 pub(crate) fn report_program<R: Threads + Wait + Sync, G: Gate>(
     rt: &R,
     alloc: Global,
     gate: &G,
     depth: Depth,
     workers: Workers,
+    limit: Limit,
     program: &Restricted,
 ) -> Result<Vec<u8>, Memory>
-    ensures { IfOk result (λ v. v.items ≡ program_report (program_of program.now) depth) }
+    ensures { IfOk result (λ v. v.items ≡ limited_report (program_of program.now) depth limit) }
 {
     let count = query_count(program);
     let taken = words_in(alloc, program)?;
@@ -63,7 +66,7 @@ pub(crate) fn report_program<R: Threads + Wait + Sync, G: Gate>(
             query: place + 1,
             depth: depth.get(),
         };
-        let report = report_query(rt, alloc, gate, workers, &taken, &problem)?;
+        let report = report_query(rt, alloc, gate, workers, limit, &taken, &problem)?;
         bytes.extend_from_slice(&report)?;
     }
     Ok(bytes)

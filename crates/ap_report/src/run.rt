@@ -11,6 +11,7 @@ use ap_defs::limits::{Depth, Workers};
 use ap_defs::lists::List;
 use ap_defs::memory::Memory;
 use ap_io::Gate;
+use ap_paths::Limit;
 use ap_program::restricted::Restricted;
 use ap_text::{TextError, program_of_text};
 use std::alloc::Global;
@@ -24,11 +25,12 @@ fn report_restricted<R: Threads + Wait + Sync, G: Gate>(
     gate: &G,
     depth: Depth,
     workers: Workers,
+    limit: Limit,
     program: &Restricted,
 ) -> Result<Report, Memory>
-    ensures { IfOk result (λ r. r ≡ run_report depth (program_of program.now)) }
+    ensures { IfOk result (λ r. r ≡ run_report depth limit (program_of program.now)) }
 {
-    let bytes = report_program(rt, alloc, gate, depth, workers, program)?;
+    let bytes = report_program(rt, alloc, gate, depth, workers, limit, program)?;
     Ok(Report {
         bytes: List::of(bytes),
         status: Status::Ok,
@@ -36,9 +38,9 @@ fn report_restricted<R: Threads + Wait + Sync, G: Gate>(
 }
 
 /// The report on a text, to a depth: the line of the first fault, or what the program's queries are
-/// answered. So many workers search each query that few turns don't answer, or each query where the gate
-/// may hold them; two or more pass the gate before each path that they take up. What the report is does
-/// not depend on how many there are.
+/// answered, each up to the last answer that is wanted. So many workers search each query that few turns
+/// don't answer, or each query where the gate may hold them; two or more pass the gate before each path
+/// that they take up. What the report is does not depend on how many there are.
 ///
 /// `Err` is want of memory.
 #[tactic(auto, using(crate::proofs::Texts::refused_report, crate::proofs::Texts::answered_report, crate::proofs::Texts::report_one))]
@@ -48,16 +50,17 @@ pub fn report_text<R: Threads + Wait + Sync, G: Gate>(
     gate: &G,
     depth: Depth,
     workers: Workers,
+    limit: Limit,
     text: &[u8],
 ) -> Result<Report, Memory>
     requires { length text.now ≤ size_limit }
     // What is answered is the report on the text.
-    ensures made { IfOk result (λ r. IsTextReport (run_report depth) text.now r) }
+    ensures made { IfOk result (λ r. IsTextReport (run_report depth limit) text.now r) }
     // No other is.
-    ensures only { IfOk result (λ r. (s : Report) → IsTextReport (run_report depth) text.now s → s ≡ r) }
+    ensures only { IfOk result (λ r. (s : Report) → IsTextReport (run_report depth limit) text.now s → s ≡ r) }
 {
     match program_of_text(alloc, text) {
-        Ok(program) => report_restricted(rt, alloc, gate, depth, workers, &program),
+        Ok(program) => report_restricted(rt, alloc, gate, depth, workers, limit, &program),
         Err(TextError::Fault(fault)) => fault_report(alloc, &fault),
         Err(TextError::Memory) => Err(Memory),
     }

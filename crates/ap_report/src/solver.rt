@@ -5,6 +5,7 @@ ghost use Rattle.ap_defs.specs.Answers.{outs_of, query_outs};
 ghost use Rattle.ap_defs.specs.Goals.{NominalQuery};
 ghost use Rattle.ap_backchain.specs.Ends.{without_path};
 ghost use Rattle.ap_backchain.specs.Problems.{HasQuery, clauses_in, queries_in};
+ghost use Rattle.ap_paths.specs.Limits as limits;
 
 use ap_backchain::problem::{Problem, outputs, outputs_without_paths, short_outputs};
 use ap_book::merge;
@@ -12,51 +13,62 @@ use ap_defs::limits::Workers;
 use ap_defs::memory::Memory;
 use ap_defs::paths::Out;
 use ap_io::Gate;
+use ap_paths::{Limit, part};
 use ap_replay::problem_tree::ProblemTree;
-use ap_steal::search;
+use ap_steal::search_within;
 use std::alloc::Global;
 use std::sync::Wait;
 use std::thread::Threads;
 
-/// The outputs of a query, which so many workers find between them.
+/// The outputs of a query up to the last answer that is wanted, which so many workers find between them.
 fn search_beside<R: Threads + Wait + Sync, G: Gate>(
     rt: &R,
     alloc: Global,
     gate: &G,
     workers: Workers,
+    limit: Limit,
     problem: &Problem<'_>,
 ) -> Result<Vec<Out>, Memory>
     requires query { HasQuery problem.now }
-    ensures { IfOk result (λ v. (q : NominalQuery) → slice_get (queries_in problem.now) (problem.now.query - 1) ≡ Some q → outs_of v.items ≡ query_outs (clauses_in problem.now) problem.now.depth q) }
+    ensures { IfOk result (λ v. (q : NominalQuery) →
+        slice_get (queries_in problem.now) (problem.now.query - 1) ≡ Some q →
+        outs_of v.items
+        ≡ limits.part limit (query_outs (clauses_in problem.now) problem.now.depth q)) }
 {
     let tree = ProblemTree::of(*problem);
-    let closed = search(rt, alloc, &tree, workers.get(), gate)?;
-    merge(alloc, closed)
+    let closed = search_within(rt, alloc, &tree, workers.get(), limit, gate)?;
+    let outs = merge(alloc, closed)?;
+    Ok(part(outs, limit))
 }
 
-/// The outputs of a query to a depth, in order, each with its path and its answer: those of sequential
-/// nominal resolution (Cheney and Urban, "Nominal Logic Programming"), whoever finds them. One worker
-/// alone searches without the gate; so it is where there are several, as long as few turns are enough
-/// and the gate holds none. The only error is want of memory.
+/// The outputs of a query to a depth up to the last answer that is wanted, in order, each with its path
+/// and its answer: those of sequential nominal resolution (Cheney and Urban, "Nominal Logic
+/// Programming"), whoever finds them. One worker alone searches without the gate; so it is where there
+/// are several, as long as few turns are enough and the gate holds none. The only error is want of
+/// memory.
 pub fn solve<R: Threads + Wait + Sync, G: Gate>(
     rt: &R,
     alloc: Global,
     gate: &G,
     workers: Workers,
+    limit: Limit,
     problem: &Problem<'_>,
 ) -> Result<Vec<Out>, Memory>
     requires query { HasQuery problem.now }
-    ensures { IfOk result (λ v. (q : NominalQuery) → slice_get (queries_in problem.now) (problem.now.query - 1) ≡ Some q → outs_of v.items ≡ query_outs (clauses_in problem.now) problem.now.depth q) }
+    ensures { IfOk result (λ v. (q : NominalQuery) →
+        slice_get (queries_in problem.now) (problem.now.query - 1) ≡ Some q →
+        outs_of v.items
+        ≡ limits.part limit (query_outs (clauses_in problem.now) problem.now.depth q)) }
 {
     if workers.get() == 1 {
-        return outputs(alloc, problem);
+        return outputs(alloc, problem, limit);
     }
     if !gate.may_hold() {
-        if let Some(outs) = short_outputs(alloc, problem)? {
+        if let Some(outs) = short_outputs(alloc, problem, limit)? {
             return Ok(outs);
         }
     }
-    search_beside(rt, alloc, gate, workers, problem)
+    search_beside(rt, alloc, gate, workers, limit, problem)
 }
 
 /// The same as [`solve`], where no path is asked for: one worker keeps none, since each is as long as its
@@ -66,13 +78,17 @@ pub(crate) fn solve_without_paths<R: Threads + Wait + Sync, G: Gate>(
     alloc: Global,
     gate: &G,
     workers: Workers,
+    limit: Limit,
     problem: &Problem<'_>,
 ) -> Result<Vec<Out>, Memory>
     requires query { HasQuery problem.now }
-    ensures { IfOk result (λ v. (q : NominalQuery) → slice_get (queries_in problem.now) (problem.now.query - 1) ≡ Some q → map without_path (outs_of v.items) ≡ map without_path (query_outs (clauses_in problem.now) problem.now.depth q)) }
+    ensures { IfOk result (λ v. (q : NominalQuery) →
+        slice_get (queries_in problem.now) (problem.now.query - 1) ≡ Some q →
+        map without_path (outs_of v.items) ≡ map without_path
+        (limits.part limit (query_outs (clauses_in problem.now) problem.now.depth q))) }
 {
     if workers.get() == 1 {
-        return outputs_without_paths(alloc, problem);
+        return outputs_without_paths(alloc, problem, limit);
     }
-    solve(rt, alloc, gate, workers, problem)
+    solve(rt, alloc, gate, workers, limit, problem)
 }

@@ -1,10 +1,10 @@
-pub mod ConditionLemmas
 pub mod TrailLemmas
 pub mod BindLemmas
 pub mod BelowLemmas
 pub mod AscendingLemmas
 pub mod SoundLemmas
 pub mod StoredLemmas
+pub mod HeldLemmas
 pub mod StoreLemmas
 pub mod FollowLemmas
 pub mod ReachLemmas

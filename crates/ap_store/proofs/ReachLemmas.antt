@@ -17,7 +17,7 @@ use Rattle.ap_store.specs.Trails.{Kept, keep, kept_after, nothing_kept}
 use Rattle.ap_store.specs.Triples.{Triple}
 use Rattle.ap_store.specs.Views.{present}
 use Rattle.ap_store.specs.declared.changes.Change.{Change}
-use Rattle.ap_store.specs.declared.changes.Change.TheVariants.{Made, Bound, Replaced}
+use Rattle.ap_store.specs.declared.changes.Change.TheVariants.{Made, Bound, Added, Taken}
 use Rattle.ap_store.specs.declared.store.Store.{Store}
 
 var_below : (m : ℕ) (t : NominalTerm) → IsBelow m t → (y : Var) → occurs y t ≡ true → y.num < m
@@ -65,7 +65,8 @@ module _ (n : ℕ) where
   reach_rises [] k l = l
   reach_rises (Made m ∷ cs) k l = reach_rises cs (keep (Made m) k) l
   reach_rises (Bound x c m ∷ cs) k l = let h : max k.reach c.end ≤ n = reach_rises cs (keep (Bound x c m) k) l in omega arith
-  reach_rises (Replaced ds m ∷ cs) k l = reach_rises cs (keep (Replaced ds m) k) l
+  reach_rises (Added c ∷ cs) k l = reach_rises cs (keep (Added c) k) l
+  reach_rises (Taken x es ∷ cs) k l = reach_rises cs (keep (Taken x es) k) l
 
   older_after : (cs : List Change) (a : Triple) (k : Kept) → (kept_after cs k).reach ≤ n → BindsOlder a.bindings → BindsOlder (present_after cs a).bindings
   older_after [] a k l h = h
@@ -75,12 +76,13 @@ module _ (n : ℕ) where
       let end : c.end ≤ n = omega arith in
       let v : EachVar IsOlder (under a.bindings (closure_term c)) = under_older a.bindings h (closure_term c) (closure_older c end) in
       older_after cs (after (Bound x c m) a) (keep (Bound x c m) k) l (v, put_older x (under a.bindings (closure_term c)) v a.bindings h)
-  older_after (Replaced ds m ∷ cs) a k l h = older_after cs (after (Replaced ds m) a) (keep (Replaced ds m) k) l h
+  older_after (Added c ∷ cs) a k l h = older_after cs (after (Added c) a) (keep (Added c) k) l h
+  older_after (Taken x es ∷ cs) a k l h = older_after cs (after (Taken x es) a) (keep (Taken x es) k) l h
 
 -- a variable that is not below what was bound nor below the closure's end does not occur
 pub new_is_absent : (s : Store) (x : Var) (c : Closure) → s.reach ≤ x.num → c.end ≤ x.num → occurs x (under (present s).bindings (closure_term c)) ≡ false
 new_is_absent s x c l k =
-    let m : (kept_after s.trail.items nothing_kept).reach ≤ x.num = omega (arith, s.stored.5, l) in
+    let m : (kept_after s.trail.items nothing_kept).reach ≤ x.num = omega (arith, s.stored.4, l) in
     let h = older_after x.num s.trail.items empty nothing_kept m tt in
     let each = under_older x.num (present s).bindings h (closure_term c) (closure_older x.num c k) in
     false_if_not (occurs x (under (present s).bindings (closure_term c))) (λ o. let e : x.num < x.num = each x o in absurd (omega arith))

@@ -1,6 +1,6 @@
 -- What the changes of a store keep: its triples are well formed, and bound variables stand for what their closures stand for.
 use Rattle.std.proofs.Common.{◌≡◌, ◌<◌, ◌≤◌, ◌+◌, ℕ, zero, suc, Bool, true, false, ◌||◌, List, [], ◌∷◌, refl, sym, ap, ap₂, ◌∙◌, subst, arith, true≢false}
-use Rattle.std.specs.Prelude.{◌≢◌, Option, Some, None, is_some, if◌then◌else◌}
+use Rattle.std.specs.Prelude.{Option, Some, None, is_some, if◌then◌else◌}
 use Rattle.ap_defs.specs.Freshness.{Conds, var_eq}
 use Rattle.ap_defs.specs.Renaming.{IsBelow}
 use Rattle.ap_defs.specs.Substitution.{Binding, bound_term, moved, occurs, put, under}
@@ -19,10 +19,11 @@ use Rattle.ap_theory.specs.Substitutions.{applied, bound_or_itself, substitution
 use Rattle.ap_theory.specs.Variables.{IsIdempotent, IsUnbound, is_bound}
 use Rattle.ap_store.specs.Changes.{AreChanges, IsChange, after, empty, has_on, is_ascending, present_after, with_bound}
 use Rattle.ap_store.specs.Trails.{no_rank, nothing_bound, rank_after, rank_step, raw_after, raw_step}
-use Rattle.ap_store.specs.Triples.{AreOnUnbound, Triple}
+use Rattle.ap_store.specs.Triples.{AreOnUnbound, Triple, is_apart}
 use Rattle.ap_store.specs.WellFormed.{AreBindingsBelow, IsWellFormed}
 use Rattle.ap_store.specs.declared.changes.Change.{Change}
-use Rattle.ap_store.specs.declared.changes.Change.TheVariants.{Made, Bound, Replaced}
+use Rattle.ap_store.specs.declared.changes.Change.TheVariants.{Made, Bound, Added, Taken}
+use Rattle.ap_store.proofs.AscendingLemmas.{ascending_add_all, ascending_filter, on_unbound_add_all, on_unbound_filter}
 use Rattle.ap_store.proofs.BelowLemmas.{below_more, bindings_below_more, bindings_below_put, under_below}
 use Rattle.ap_store.proofs.BindLemmas.{bound_in, idempotent_bind, is_bound_put, occurs_through, under_bind}
 
@@ -167,7 +168,10 @@ module _ (b : lookups.Bound) (a : Triple) (r : Var → ℕ) (s : IsSound b a r) 
 pub sound_step : (c : Change) (b : lookups.Bound) (a : Triple) (r : Var → ℕ) → IsChange c a → IsSound b a r → IsSound (raw_step c b) (after c a) (rank_step c a r)
 sound_step (Made n) b a r h s = sound_made b a r n s
 sound_step (Bound x c n) b a r h s = sound_bound b a r s x (closure_term c) h.0 h.1 h.2 h.3 h.4
-sound_step (Replaced ds n) b a r h s = sound_replaced b a (after (Replaced ds n) a) r refl refl h.0 h.1 s
+sound_step (Added c) b a r h s =
+    sound_replaced b a (after (Added c) a) r refl refl (on_unbound_add_all a (c ∷ []) a.conditions h s.well_formed.unbound) (ascending_add_all (c ∷ []) a.conditions s.well_formed.ascending) s
+sound_step (Taken x cs) b a r h s =
+    sound_replaced b a (after (Taken x cs) a) r refl refl (on_unbound_filter (is_apart x) a a.conditions s.well_formed.unbound) (ascending_filter (is_apart x) a.conditions s.well_formed.ascending) s
 
 pub sound_after : (cs : List Change) (b : lookups.Bound) (a : Triple) (r : Var → ℕ) → AreChanges cs a → IsSound b a r → IsSound (raw_after cs b) (present_after cs a) (rank_after cs a r)
 sound_after [] b a r h s = s

@@ -1,27 +1,29 @@
 -- What holds of each store, from its changes.
-use Rattle.std.proofs.Common.{◌≡◌, ◌<◌, ◌≤◌, ℕ, zero, suc, true, false, List, [], ◌∷◌, ◌||◌, length, get_or, refl, sym, ap, ◌∙◌, subst, arith}
-use Rattle.std.proofs.lemmas.List.{length-map}
+use Rattle.std.proofs.Common.{◌≡◌, ◌<◌, ◌≤◌, ◌+◌, ℕ, zero, suc, false, List, [], ◌∷◌, ◌||◌, ◌++◌, drop, length, take, get_or, refl, sym, ap, ap₂, ◌∙◌, arith, add-one}
+use Rattle.std.proofs.Math.Seq.{drop-cons}
+use Rattle.std.proofs.lemmas.List.{length-append, length-map}
 use Rattle.std.specs.Prelude.{filter}
 use Rattle.std.proofs.lemmas.Bool.Decides.{nat_tests}
 use Rattle.ap_defs.specs.Freshness.{Conds, add_conds, var_eq}
 use Rattle.ap_defs.specs.Substitution.{Binding, under, ◌:=◌}
 use Rattle.ap_defs.specs.Terms.{NominalTerm}
+use Rattle.ap_defs.specs.Types.{NominalKind}
 use Rattle.ap_defs.specs.declared.terms.Cond.{Cond}
 use Rattle.ap_defs.specs.declared.terms.Var.{Var}
 use Rattle.ap_perm.specs.Lookups.{IsRanked, carried_out}
 use Rattle.ap_theory.specs.Variables.{IsUnbound, is_bound}
-use Rattle.ap_store.specs.Changes.{AreChanges, after, empty, is_ascending, present_after, replace_conditions}
+use Rattle.ap_store.specs.Changes.{after, empty, present_after, replace_conditions}
 use Rattle.ap_store.specs.Slots.{slot_kind}
-use Rattle.ap_store.specs.Triples.{AreOnUnbound, Triple, is_apart, is_on}
-use Rattle.ap_store.specs.Views.{kinds, present, rank, raw_bound, versions}
+use Rattle.ap_store.specs.Triples.{AreOnUnbound, GoesOn, Triple, is_apart, is_on, with_conditions}
+use Rattle.ap_store.specs.Views.{IsUnchanged, kinds, past, present, rank, raw_bound, versions}
 use Rattle.ap_store.specs.WellFormed.{AreBindingsBelow, IsWellFormed}
 use Rattle.ap_store.specs.declared.changes.Change.{Change}
-use Rattle.ap_store.specs.declared.changes.Change.TheVariants.{Made, Bound, Replaced}
+use Rattle.ap_store.specs.declared.changes.Change.TheVariants.{Made, Bound, Added, Taken}
 use Rattle.ap_store.specs.declared.store.Store.{Store}
-use Rattle.ap_store.proofs.AscendingLemmas.{all_apart, ascending_add_all, ascending_filter, ascending_is_set, on_unbound_add_all, on_unbound_filter}
+use Rattle.ap_store.proofs.AscendingLemmas.{all_apart, ascending_is_set}
 use Rattle.ap_store.proofs.SoundLemmas as soundness
 use Rattle.ap_store.proofs.SoundLemmas.{IsSound, sound}
-use Rattle.ap_store.proofs.TrailLemmas.{versions_after}
+use Rattle.ap_store.proofs.TrailLemmas.{prefix_is, take_whole, versions_after}
 
 pub store_sound : (s : Store) → IsSound (raw_bound s) (present s) (rank s)
 store_sound s = sound s.trail.items s.stored.0
@@ -58,7 +60,8 @@ unbound_past s x l = unbound_beyond (present s).next x (present s).bindings (wel
 next_rises : (c : Change) (a : Triple) → a.next ≤ (after c a).next
 next_rises (Made n) a = omega arith
 next_rises (Bound x b n) a = omega arith
-next_rises (Replaced ds n) a = omega arith
+next_rises (Added c) a = omega arith
+next_rises (Taken x cs) a = omega arith
 
 first_is_least : (cs : List Change) (a : Triple) → a.next ≤ (present_after cs a).next
 first_is_least [] a = omega arith
@@ -74,31 +77,37 @@ version_is_less (c ∷ cs) a (suc n) d l = version_is_less cs (after c a) n d (o
 pub versions_have_less : (s : Store) (n : ℕ) (d : Triple) → n < length (versions s) → (get_or (versions s) n d).next ≤ (present s).next
 versions_have_less s n d l = version_is_less s.trail.items empty n d l
 
--- Conditions that are left, and conditions that are added.
-module _ (cs ts : List Change) (changes : AreChanges cs empty) (same : ts ≡ cs) where
-  now_formed : IsWellFormed (present_after ts empty)
-  now_formed = subst (λ (ds : List Change). IsWellFormed (present_after ds empty)) (sym same) (sound cs changes).well_formed
+-- One more condition is added.
+fits_at : (a : Triple) (ds : Conds) (i : ℕ) (d : Cond) → i < length ds → AreOnUnbound a ds → AreOnUnbound a (get_or ds i d ∷ [])
+fits_at a [] i d l h = absurd (omega arith)
+fits_at a (c ∷ ds) zero d l h = (h.0, tt)
+fits_at a (c ∷ ds) (suc i) d l h = fits_at a ds i d (omega arith) h.1
 
-  pub left_unbound : (p : Cond → _) (ds es : Conds) → ds ≡ filter p es → es ≡ (present_after ts empty).conditions → AreOnUnbound (present_after ts empty) ds
-  left_unbound p ds es e f =
-      subst (λ (fs : Conds). AreOnUnbound (present_after ts empty) fs) (sym (e ∙ ap (filter p) f)) (on_unbound_filter p (present_after ts empty) (present_after ts empty).conditions now_formed.unbound)
+pub one_fits : (a b : Triple) (ds : Conds) (i : ℕ) (d : Cond) → i < length ds → b.next ≡ a.next → b.bindings ≡ a.bindings → AreOnUnbound a ds → AreOnUnbound b (get_or ds i d ∷ [])
+one_fits a b ds i d l n f h =
+    let k = (fits_at a ds i d l h).0 in
+    ((omega (arith, k.0, n), omega (arith, k.1, n), ap (is_bound (get_or ds i d).var) f ∙ k.2), tt)
 
-  pub left_ascending : (p : Cond → _) (ds es : Conds) → ds ≡ filter p es → es ≡ (present_after ts empty).conditions → is_ascending ds ≡ true
-  left_ascending p ds es e f = ap is_ascending (e ∙ ap (filter p) f) ∙ ascending_filter p (present_after ts empty).conditions now_formed.ascending
-
-  pub added_unbound : (more ds es : Conds) → ds ≡ add_conds more es → es ≡ (present_after ts empty).conditions → AreOnUnbound (present_after ts empty) more → AreOnUnbound (present_after ts empty) ds
-  added_unbound more ds es e f h =
-      subst (λ (fs : Conds). AreOnUnbound (present_after ts empty) fs) (sym (e ∙ ap (add_conds more) f)) (on_unbound_add_all (present_after ts empty) more (present_after ts empty).conditions h now_formed.unbound)
-
-  pub added_ascending : (more ds es : Conds) → ds ≡ add_conds more es → es ≡ (present_after ts empty).conditions → is_ascending ds ≡ true
-  added_ascending more ds es e f = ap is_ascending (e ∙ ap (add_conds more) f) ∙ ascending_add_all more (present_after ts empty).conditions now_formed.ascending
-
-no_length : {A : Type 0} (xs : List A) → length xs ≡ 0 → xs ≡ []
-no_length [] h = refl
-no_length (x ∷ xs) h = absurd (omega (arith, h))
+pub one_more_added : (a b c : Triple) (ds : Conds) (i j : ℕ) (d : Cond) → i ≡ j + 1 → j < length ds → b ≡ with_conditions (drop i ds) a → c ≡ with_conditions (get_or ds j d ∷ []) b → c ≡ with_conditions (drop j ds) a
+one_more_added a b c ds i j d e l h k =
+    k ∙ ap (with_conditions (get_or ds j d ∷ [])) (h ∙ ap (λ n. with_conditions (drop n ds) a) (e ∙ add-one j)) ∙ ap (λ es. with_conditions es a) (sym (drop-cons ds j d l))
 
 -- where no condition is on x, none is taken out
-pub none_taken : (a b : Triple) (x : Var) (ds es : Conds) → b ≡ a → ds ≡ filter (is_on x) es → es ≡ b.conditions → length ds ≡ 0 → b ≡ replace_conditions (filter (is_apart x) a.conditions) a
-none_taken a b x ds es e f g h =
-    let k : filter (is_on x) a.conditions ≡ [] = sym (f ∙ ap (filter (is_on x)) (g ∙ ap (λ (c : Triple). c.conditions) e)) ∙ no_length ds h in
-    e ∙ ap (λ (fs : Conds). replace_conditions fs a) (sym (all_apart x a.conditions k))
+pub none_taken : (a b : Triple) (x : Var) → b ≡ a → filter (is_on x) a.conditions ≡ [] → b ≡ replace_conditions (filter (is_apart x) a.conditions) a
+none_taken a b x e k = e ∙ ap (λ (fs : Conds). replace_conditions fs a) (sym (all_apart x a.conditions k))
+
+abbrev last_or : Triple → List Triple → Triple
+last_or d [] = d
+last_or d (a ∷ as') = last_or a as'
+
+last_is : (d : Triple) (as' : List Triple) (a : Triple) → last_or d (as' ++ a ∷ []) ≡ a
+last_is d [] a = refl
+last_is d (b ∷ as') a = last_is b as' a
+
+-- a store that went back to where s was
+pub gone_back : (s d f : Store) (m : ℕ) → GoesOn (versions s) (versions d) → kinds d ≡ kinds s → m ≡ length (past s) → versions f ≡ take (m + 1) (versions d) → kinds f ≡ take (present f).next (kinds d) → IsUnchanged s f
+gone_back s d f m goes same mark back left =
+    let l : length (versions s) ≡ m + 1 = omega (arith, length-append (past s) (present s ∷ []), mark) in
+    let v : versions f ≡ versions s = back ∙ sym (prefix_is (versions s) (versions d) (m + 1) goes l) in
+    let p : present f ≡ present s = sym (last_is empty (past f) (present f)) ∙ ap (last_or empty) v ∙ last_is empty (past s) (present s) in
+    (v, left ∙ ap₂ (λ (a : Triple) (ks : List NominalKind). take a.next ks) p same ∙ ap (λ n. take n (kinds s)) (sym (next_counts s)) ∙ take_whole (kinds s))

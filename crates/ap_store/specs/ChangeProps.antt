@@ -9,7 +9,7 @@ use Rattle.ap_perm.specs.Closures.{closure_term}
 use Rattle.ap_store.specs.Changes.{AreChanges, IsChange, after}
 use Rattle.ap_store.specs.Triples.{AreOnUnbound, Triple}
 use Rattle.ap_store.specs.declared.changes.Change.{Change}
-use Rattle.ap_store.specs.declared.changes.Change.TheVariants.{Made, Bound, Replaced}
+use Rattle.ap_store.specs.declared.changes.Change.TheVariants.{Made, Bound, Added, Taken}
 
 on_unbound_prop : (a : Triple) (cs : List Cond) → IsProp (AreOnUnbound a cs)
 on_unbound_prop a [] = Unit-prop
@@ -18,7 +18,8 @@ on_unbound_prop a (c ∷ cs) = let h : IsProp (AreOnUnbound a cs) = on_unbound_p
 change_prop : (c : Change) (a : Triple) → IsProp (IsChange c a)
 change_prop (Made n) a = Unit-prop
 change_prop (Bound x c n) a = let h : IsProp (IsBelow a.next (closure_term c)) = below_prop a.next (closure_term c) in hlevel (props, h)
-change_prop (Replaced ds n) a = let h : IsProp (AreOnUnbound a ds.items) = on_unbound_prop a ds.items in hlevel (props, h)
+change_prop (Added c) a = on_unbound_prop a (c ∷ [])
+change_prop (Taken x cs) a = hlevel props
 
 pub changes_prop : (cs : List Change) (a : Triple) → IsProp (AreChanges cs a)
 changes_prop [] a = Unit-prop

@@ -1,5 +1,5 @@
 -- What changes make of a triple, and which changes may follow one another.
-use Rattle.std.specs.Prelude.{◌≡◌, ◌+◌, ◌<◌, ◌||◌, Bool, true, false, ◌&&◌, List, [], ◌∷◌, map}
+use Rattle.std.specs.Prelude.{◌≡◌, ◌+◌, ◌<◌, ◌||◌, Bool, true, false, ◌&&◌, List, [], ◌∷◌, filter, map}
 use Rattle.ap_defs.specs.Freshness.{Conds, cond_before}
 use Rattle.ap_defs.specs.Renaming.{IsBelow}
 use Rattle.ap_defs.specs.Substitution.{◌:=◌, occurs, put_binding, under}
@@ -8,9 +8,9 @@ use Rattle.ap_defs.specs.declared.terms.Cond.{Cond}
 use Rattle.ap_defs.specs.declared.terms.Var.{Var}
 use Rattle.ap_perm.specs.Closures.{closure_term}
 use Rattle.ap_theory.specs.Variables.{IsUnbound}
-use Rattle.ap_store.specs.Triples.{AreOnUnbound, Triple, is_on, with_next}
+use Rattle.ap_store.specs.Triples.{AreOnUnbound, Triple, is_apart, is_on, with_conditions, with_next}
 use Rattle.ap_store.specs.declared.changes.Change.{Change}
-use Rattle.ap_store.specs.declared.changes.Change.TheVariants.{Made, Bound, Replaced}
+use Rattle.ap_store.specs.declared.changes.Change.TheVariants.{Made, Bound, Added, Taken}
 
 -- nothing is bound, and no number given
 abbrev pub empty : Triple
@@ -26,7 +26,8 @@ replace_conditions ds a = record { bindings = a.bindings; conditions = ds; next 
 abbrev pub after : Change → Triple → Triple
 after (Made n) a = with_next (a.next + n) a
 after (Bound x c n) a = with_bound x (under a.bindings (closure_term c)) a
-after (Replaced ds n) a = replace_conditions ds.items a
+after (Added c) a = with_conditions (c ∷ []) a
+after (Taken x cs) a = replace_conditions (filter (is_apart x) a.conditions) a
 
 -- the triple after changes, the first one first
 abbrev pub present_after : List Change → Triple → Triple
@@ -56,7 +57,8 @@ IsChange (Made n) a = Unit {0}
 IsChange (Bound x c n) a =
     (x.num < a.next) × IsUnbound a.bindings x × IsBelow a.next (closure_term c)
     × (occurs x (under a.bindings (closure_term c)) ≡ false) × (has_on x a.conditions ≡ false)
-IsChange (Replaced ds n) a = AreOnUnbound a ds.items × (is_ascending ds.items ≡ true)
+IsChange (Added c) a = AreOnUnbound a (c ∷ [])
+IsChange (Taken x cs) a = x.num < a.next
 
 -- each change may be made in the triple before it
 abbrev pub AreChanges : List Change → Triple → Type 0

@@ -1,8 +1,9 @@
 -- What is kept beside the changes, to find bindings and conditions at once and to go back.
-use Rattle.std.specs.Prelude.{◌≡◌, ℕ, zero, suc, ◌+◌, max, ◌==◌, List, [], ◌∷◌, Option, Some, None, if◌then◌else◌}
-use Rattle.ap_defs.specs.Freshness.{Conds, var_eq}
+use Rattle.std.specs.Prelude.{◌≡◌, ℕ, zero, suc, ◌+◌, max, ◌==◌, List, [], ◌∷◌, ◌++◌, Option, Some, None, if◌then◌else◌}
+use Rattle.ap_defs.specs.Freshness.{var_eq}
 use Rattle.ap_defs.specs.Substitution.{occurs, under}
 use Rattle.ap_defs.specs.Terms.{NominalTerm, susp}
+use Rattle.ap_defs.specs.declared.terms.Cond.{Cond}
 use Rattle.ap_defs.specs.declared.terms.Var.{Var}
 use Rattle.ap_perm.specs.Closures.{closure_term}
 use Rattle.ap_perm.specs.Lookups as lookups
@@ -10,7 +11,7 @@ use Rattle.ap_perm.specs.Lookups.{depth_of}
 use Rattle.ap_store.specs.Changes.{after}
 use Rattle.ap_store.specs.Triples.{Triple}
 use Rattle.ap_store.specs.declared.changes.Change.{Change}
-use Rattle.ap_store.specs.declared.changes.Change.TheVariants.{Made, Bound, Replaced}
+use Rattle.ap_store.specs.declared.changes.Change.TheVariants.{Made, Bound, Added, Taken}
 
 abbrev pub nothing_bound : lookups.Bound
 nothing_bound x = None
@@ -18,7 +19,8 @@ nothing_bound x = None
 abbrev pub raw_step : Change → lookups.Bound → lookups.Bound
 raw_step (Made n) b = b
 raw_step (Bound y c n) b = λ x. if var_eq x y then Some (closure_term c) else b x
-raw_step (Replaced ds n) b = b
+raw_step (Added c) b = b
+raw_step (Taken x cs) b = b
 
 -- the terms of the closures themselves, in which no binding is carried out
 abbrev pub raw_after : List Change → lookups.Bound → lookups.Bound
@@ -32,27 +34,29 @@ no_rank x = 0
 abbrev pub rank_step : Change → Triple → (Var → ℕ) → Var → ℕ
 rank_step (Made n) a r = r
 rank_step (Bound y c n) a r = λ x. if occurs y (under a.bindings (susp [] x)) then (r x + suc (depth_of r (closure_term c))) else r x
-rank_step (Replaced ds n) a r = r
+rank_step (Added c) a r = r
+rank_step (Taken x cs) a r = r
 
 abbrev pub rank_after : List Change → Triple → (Var → ℕ) → Var → ℕ
 rank_after [] a r = r
 rank_after (c ∷ cs) a r = rank_after cs (after c a) (rank_step c a r)
 
--- The number of changes; for each number the count of changes up to its binding, and that up to the present conditions, or 0;
--- and the greatest end of a bound closure.
+-- The number of changes; for each number the count of changes up to its binding, or 0; the conditions on each number's variable
+-- in the order in which they came; and the greatest end of a bound closure.
 pub record Kept : Type 0 where
   pub count : ℕ
   pub place : ℕ → ℕ
-  pub latest : ℕ
+  pub conds : ℕ → List Cond
   pub reach : ℕ
 
 abbrev pub nothing_kept : Kept
-nothing_kept = record { count = 0; place = λ i. 0; latest = 0; reach = 0 }
+nothing_kept = record { count = 0; place = λ i. 0; conds = λ i. []; reach = 0 }
 
 abbrev pub keep : Change → Kept → Kept
-keep (Made n) k = record { count = suc k.count; place = k.place; latest = k.latest; reach = k.reach }
-keep (Bound x c n) k = record { count = suc k.count; place = λ i. if i == x.num then suc k.count else k.place i; latest = k.latest; reach = max k.reach c.end }
-keep (Replaced ds n) k = record { count = suc k.count; place = k.place; latest = suc k.count; reach = k.reach }
+keep (Made n) k = record { count = suc k.count; place = k.place; conds = k.conds; reach = k.reach }
+keep (Bound x c n) k = record { count = suc k.count; place = λ i. if i == x.num then suc k.count else k.place i; conds = k.conds; reach = max k.reach c.end }
+keep (Added c) k = record { count = suc k.count; place = k.place; conds = λ i. if i == c.var.num then k.conds i ++ c ∷ [] else k.conds i; reach = k.reach }
+keep (Taken x cs) k = record { count = suc k.count; place = k.place; conds = λ i. if i == x.num then [] else k.conds i; reach = k.reach }
 
 abbrev pub kept_after : List Change → Kept → Kept
 kept_after [] k = k
@@ -62,7 +66,8 @@ kept_after (c ∷ cs) k = kept_after cs (keep c k)
 abbrev pub IsLinked : Change → Kept → Type 0
 IsLinked (Made n) k = Unit {0}
 IsLinked (Bound x c n) k = n ≡ k.reach
-IsLinked (Replaced ds n) k = n ≡ k.latest
+IsLinked (Added c) k = Unit {0}
+IsLinked (Taken x cs) k = cs.items ≡ k.conds x.num
 
 abbrev pub AreLinked : List Change → Kept → Type 0
 AreLinked [] k = Unit {0}
@@ -71,12 +76,8 @@ AreLinked (c ∷ cs) k = IsLinked c k × AreLinked cs (keep c k)
 abbrev pub change_term : Change → Option NominalTerm
 change_term (Made n) = None
 change_term (Bound x c n) = Some (closure_term c)
-change_term (Replaced ds n) = None
-
-abbrev pub change_conds : Change → Conds
-change_conds (Made n) = []
-change_conds (Bound x c n) = []
-change_conds (Replaced ds n) = ds.items
+change_term (Added c) = None
+change_term (Taken x cs) = None
 
 -- the term of the change up to which there are so many
 abbrev pub term_at : List Change → ℕ → Option NominalTerm
@@ -84,9 +85,3 @@ term_at [] n = None
 term_at (c ∷ cs) zero = None
 term_at (c ∷ cs) (suc zero) = change_term c
 term_at (c ∷ cs) (suc (suc n)) = term_at cs (suc n)
-
-abbrev pub conds_at : List Change → ℕ → Conds
-conds_at [] n = []
-conds_at (c ∷ cs) zero = []
-conds_at (c ∷ cs) (suc zero) = change_conds c
-conds_at (c ∷ cs) (suc (suc n)) = conds_at cs (suc n)

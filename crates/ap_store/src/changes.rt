@@ -6,12 +6,13 @@ ghost use Rattle.ap_perm.specs.Closures.{closure_term};
 use ap_defs::terms::{Cond, Var};
 use ap_perm::closures::Closure;
 
-/// A change: so many numbers were given, a variable was bound, or other conditions hold from now on.
-/// With a binding comes the greatest end of the closures that were bound before, and with conditions
-/// the number of changes up to the earlier ones.
+/// A change: so many numbers were given, a variable was bound, a condition came, or those on a variable
+/// were taken out. With a binding comes the greatest end of the closures that were bound before, and
+/// with conditions that were taken out what was held of the variable.
 #[derive(Drop)]
 pub enum Change<'a> {
     Made(usize),
     Bound(Var, Closure<'a>, u64),
-    Replaced(Vec<Cond>, usize),
+    Added(Cond),
+    Taken(Var, Vec<Cond>),
 }

@@ -3,9 +3,9 @@
 #![tactic(auto)]
 
 pub mod changes;
-mod conditions;
 mod following;
 pub mod heads;
+mod held;
 mod lookups;
 mod occurrences;
 mod searches;

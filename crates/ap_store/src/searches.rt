@@ -2,10 +2,9 @@
 
 ghost use Rattle.std.specs.Prelude.{◌≡◌, Some, None, MatchOption};
 ghost use Rattle.ap_perm.specs.Closures.{closure_term};
-ghost use Rattle.ap_store.specs.Trails.{conds_at, term_at};
+ghost use Rattle.ap_store.specs.Trails.{term_at};
 
 use crate::changes::Change;
-use ap_defs::terms::Cond;
 use ap_perm::closures::Closure;
 
 /// The closure of the change up to which there are so many, if it is a binding.
@@ -18,20 +17,7 @@ pub fn closure_at<'s, 'a>(trail: &'s [Change<'a>], place: usize) -> Option<&'s C
     match &trail[place - 1] {
         Change::Made(_) => None,
         Change::Bound(_, closure, _) => Some(closure),
-        Change::Replaced(_, _) => None,
-    }
-}
-
-/// The conditions of the change up to which there are so many, or none.
-pub fn conditions_at<'s, 'a>(trail: &'s [Change<'a>], place: usize) -> &'s [Cond]
-    ensures { result.now ≡ conds_at trail.now place }
-{
-    if place == 0 || trail.len() < place {
-        return &[];
-    }
-    match &trail[place - 1] {
-        Change::Made(_) => &[],
-        Change::Bound(_, _, _) => &[],
-        Change::Replaced(conditions, _) => conditions.as_slice(),
+        Change::Added(_) => None,
+        Change::Taken(_, _) => None,
     }
 }

@@ -2,17 +2,18 @@
 
 ghost use Rattle.ap_perm.specs.Lookups.{IsRanked};
 ghost use Rattle.ap_store.specs.Changes.{empty};
-ghost use Rattle.ap_store.specs.Slots.{IsStored, stored_prop};
+ghost use Rattle.ap_store.specs.Slots.{AreHeld, IsStored, held_prop, stored_prop};
 ghost use Rattle.ap_store.specs.Trails.{no_rank, nothing_bound, rank_after, raw_after};
 
 use crate::changes::Change;
-use crate::conditions::{apart_from, on_var, with_conds};
-use crate::searches::{closure_at, conditions_at};
+use crate::held::{add_numbers, all_of, hold, let_go, put_back, take_out};
+use crate::searches::closure_at;
 use crate::slots::Slot;
 use crate::tables::add_slots;
 use ap_defs::goals::{Kind, Local};
 use ap_defs::memory::Memory;
 use ap_defs::terms::{Cond, Var};
+use ap_fresh::sets::make_set;
 use ap_perm::closures::Closure;
 use std::alloc::Global;
 
@@ -31,10 +32,11 @@ pub struct Mark {
 #[derive(Drop)]
 pub struct Store<'a> {
     table: Vec<Slot<'a>>,
+    held: Vec<Vec<Cond>>,
     trail: Vec<Change<'a>>,
-    latest: usize,
     reach: u64,
-    pub ghost stored: { IsStored table.items trail.items latest reach } by { stored_prop table.items trail.items latest reach },
+    pub ghost stored: { IsStored table.items trail.items reach } by { stored_prop table.items trail.items reach },
+    pub ghost holds: { AreHeld held.items trail.items } by { held_prop held.items trail.items },
     pub ghost ranked: { IsRanked (raw_after trail.items nothing_bound) (rank_after trail.items empty no_rank) },
 }
 
@@ -46,7 +48,7 @@ impl<'a> Store<'a> {
     ghost use Rattle.ap_defs.specs.Types.{kind_of, locals_of};
     ghost use Rattle.ap_perm.specs.Closures.{closure_term};
     ghost use Rattle.ap_theory.specs.Variables.{IsUnbound};
-    ghost use Rattle.ap_store.specs.Changes.{has_on, is_ascending, replace_conditions, with_bound};
+    ghost use Rattle.ap_store.specs.Changes.{has_on, replace_conditions, with_bound};
     ghost use Rattle.ap_store.specs.Triples.{AreOnUnbound, GoesOn, is_apart, is_on, with_binding, with_conditions, with_next};
     ghost use Rattle.ap_store.specs.Views.{IsUnchanged, kinds, past, present, raw_bound, versions};
 
@@ -58,8 +60,8 @@ impl<'a> Store<'a> {
     {
         Store {
             table: Vec::new(alloc),
+            held: Vec::new(alloc),
             trail: Vec::new(alloc),
-            latest: 0,
             reach: 0,
         }
     }
@@ -75,9 +77,11 @@ impl<'a> Store<'a> {
     {
         let count = locals.len();
         self.table.reserve(count)?;
+        self.held.reserve(count)?;
         self.trail.reserve(1)?;
         let first = self.table.len() as u64;
         add_slots(&mut self.table, locals);
+        add_numbers(&mut self.held, count);
         self.trail.push_reserved(Change::Made(count));
         Ok(first)
     }
@@ -101,31 +105,21 @@ impl<'a> Store<'a> {
     }
 
     /// Adds conditions on unbound variables. After want of memory the store is as before.
-    pub fn add(&mut self, alloc: Global, conds: &[Cond]) -> Result<(), Memory>
+    pub fn add(&mut self, conds: &[Cond]) -> Result<(), Memory>
         requires { AreOnUnbound (present self.old) conds.now }
         ensures present { OnOk result (present self.new ≡ with_conditions conds.now (present self.old)) }
         ensures past { OnOk result (GoesOn (versions self.old) (versions self.new)) }
         ensures kinds { kinds self.new ≡ kinds self.old }
         ensures unchanged { OnErr result (IsUnchanged self.old self.new) }
     {
-        let held = self.conditions();
-        let all = with_conds(alloc, conds, held)?;
-        self.replace_conditions(all)
-    }
-
-    /// Puts these conditions on unbound variables, which ascend, in place of the present ones. After
-    /// want of memory the store is as before.
-    pub fn replace_conditions(&mut self, conds: Vec<Cond>) -> Result<(), Memory>
-        requires unbound { AreOnUnbound (present self.old) conds.items }
-        requires ascending { is_ascending conds.items ≡ true }
-        ensures present { OnOk result (present self.new ≡ replace_conditions conds.items (present self.old)) }
-        ensures past { OnOk result (GoesOn (versions self.old) (versions self.new)) }
-        ensures kinds { kinds self.new ≡ kinds self.old }
-        ensures unchanged { OnErr result (IsUnchanged self.old self.new) }
-    {
-        self.trail.reserve(1)?;
-        self.note_conditions(conds);
-        Ok(())
+        let start = self.mark();
+        match self.add_each(conds) {
+            Ok(()) => Ok(()),
+            Err(refusal) => {
+                self.undo_to(start);
+                Err(refusal)
+            }
+        }
     }
 
     /// The place of the present version. It takes no memory.
@@ -172,14 +166,9 @@ impl<'a> Store<'a> {
     pub fn conds(&self, alloc: Global) -> Result<Vec<Cond>, Memory>
         ensures { IfOk result (λ conds. conds.items ≡ (present self.now).conditions) }
     {
-        Ok(self.conditions().to_vec(alloc)?)
-    }
-
-    /// The conditions, as they are held. It takes no memory.
-    pub fn conditions(&self) -> &[Cond]
-        ensures { result.now ≡ (present self.now).conditions }
-    {
-        conditions_at(&self.trail, self.latest)
+        let mut conds = all_of(alloc, &self.held)?;
+        make_set(&mut conds);
+        Ok(conds)
     }
 
     /// The next number. It takes no memory.
@@ -199,6 +188,7 @@ impl<'a> Store<'a> {
 
     /// Takes the conditions on a variable out, and leaves room for one more change.
     fn take_conditions(&mut self, alloc: Global, x: Var) -> Result<Vec<Cond>, Memory>
+        requires made { x.num < (present self.old).next }
         ensures taken { IfOk result (λ conds. conds.items ≡ filter (is_on x) (present self.old).conditions) }
         ensures present { OnOk result (present self.new ≡ replace_conditions (filter (is_apart x) (present self.old).conditions) (present self.old)) }
         ensures room { OnOk result (vec_len self.new.trail < vec_capacity self.new.trail) }
@@ -207,14 +197,40 @@ impl<'a> Store<'a> {
         ensures unchanged { OnErr result (IsUnchanged self.old self.new) }
     {
         self.trail.reserve(2)?;
-        let held = self.conditions();
-        let taken = on_var(alloc, x, held)?;
+        let mut taken = self.held[x.num as usize].to_vec(alloc)?;
         if taken.is_empty() {
             return Ok(taken);
         }
-        let left = apart_from(alloc, x, held)?;
-        self.note_conditions(left);
+        make_set(&mut taken);
+        self.note_taken(x);
         Ok(taken)
+    }
+
+    /// Adds conditions on unbound variables, from the last to the first.
+    fn add_each(&mut self, conds: &[Cond]) -> Result<(), Memory>
+        requires { AreOnUnbound (present self.old) conds.now }
+        ensures present { OnOk result (present self.new ≡ with_conditions conds.now (present self.old)) }
+        ensures past { GoesOn (versions self.old) (versions self.new) }
+        ensures kinds { kinds self.new ≡ kinds self.old }
+    {
+        'adding: for i in (0..conds.len()).rev() {
+            self.add_one(conds[i])?;
+        }
+        Ok(())
+    }
+
+    /// Adds a condition on an unbound variable. After want of memory the store is as before.
+    fn add_one(&mut self, c: Cond) -> Result<(), Memory>
+        requires { AreOnUnbound (present self.old) (c ∷ []) }
+        ensures present { OnOk result (present self.new ≡ with_conditions (c ∷ []) (present self.old)) }
+        ensures past { GoesOn (versions self.old) (versions self.new) }
+        ensures kinds { kinds self.new ≡ kinds self.old }
+        ensures unchanged { OnErr result (IsUnchanged self.old self.new) }
+    {
+        self.trail.reserve(1)?;
+        hold(&mut self.held, c)?;
+        self.trail.push_reserved(Change::Added(c));
+        Ok(())
     }
 
     /// Notes that a variable is bound.
@@ -236,19 +252,17 @@ impl<'a> Store<'a> {
         self.trail.push_reserved(Change::Bound(x, c, reach));
     }
 
-    /// Notes that other conditions hold.
-    fn note_conditions(&mut self, conds: Vec<Cond>)
+    /// Notes that the conditions on a variable are taken out.
+    fn note_taken(&mut self, x: Var)
         requires room { vec_len self.old.trail < vec_capacity self.old.trail }
-        requires unbound { AreOnUnbound (present self.old) conds.items }
-        requires ascending { is_ascending conds.items ≡ true }
-        ensures present { present self.new ≡ replace_conditions conds.items (present self.old) }
+        requires made { x.num < (present self.old).next }
+        ensures present { present self.new ≡ replace_conditions (filter (is_apart x) (present self.old).conditions) (present self.old) }
         ensures versions { versions self.new ≡ versions self.old ++ present self.new ∷ [] }
         ensures kinds { kinds self.new ≡ kinds self.old }
         ensures room { vec_capacity self.new.trail + vec_len self.old.trail + 1 ≡ vec_capacity self.old.trail + vec_len self.new.trail }
     {
-        let earlier = self.latest;
-        self.latest = self.trail.len() + 1;
-        self.trail.push_reserved(Change::Replaced(conds, earlier));
+        let conds = take_out(&mut self.held, x.num as usize);
+        self.trail.push_reserved(Change::Taken(x, conds));
     }
 
     /// Undoes the last change.
@@ -263,12 +277,14 @@ impl<'a> Store<'a> {
             Some(Change::Made(count)) => {
                 let left = self.table.len() - count;
                 self.table.truncate(left);
+                self.held.truncate(left);
             }
             Some(Change::Bound(x, _, reach)) => {
                 self.reach = reach;
                 self.table[x.num as usize].place = 0;
             }
-            Some(Change::Replaced(_, earlier)) => self.latest = earlier,
+            Some(Change::Added(c)) => let_go(&mut self.held, c.var.num as usize),
+            Some(Change::Taken(x, conds)) => put_back(&mut self.held, x.num as usize, conds),
         }
     }
 }

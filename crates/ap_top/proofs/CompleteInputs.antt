@@ -8,13 +8,16 @@ use Rattle.ap_words.specs.Words.{asked_of}
 
 complete_for : (a : Option Asked) (input : Input) → IsCompleteFor a input
 complete_for None input = tt
-complete_for (Some (asked.Run depth workers)) (Whole text) = complete_text depth text
-complete_for (Some (asked.Run depth workers)) Over = tt
-complete_for (Some (asked.Run depth workers)) Broken = tt
-complete_for (Some (asked.Prove depth workers)) (Whole text) = complete_text depth text
-complete_for (Some (asked.Prove depth workers)) Over = tt
-complete_for (Some (asked.Prove depth workers)) Broken = tt
+complete_for (Some (asked.Run depth workers limit)) (Whole text) = complete_text depth limit text
+complete_for (Some (asked.Run depth workers limit)) Over = tt
+complete_for (Some (asked.Run depth workers limit)) Broken = tt
+complete_for (Some (asked.Prove depth workers limit)) (Whole text) = complete_text depth limit text
+complete_for (Some (asked.Prove depth workers limit)) Over = tt
+complete_for (Some (asked.Prove depth workers limit)) Broken = tt
 complete_for (Some asked.Check) input = tt
+complete_for (Some (asked.Convert to)) input = tt
+complete_for (Some (asked.Count depth workers)) input = tt
+complete_for (Some (asked.Work seed size workers)) input = tt
 
 pub complete_input : (words : List (List ℕ)) (input : Input) → HasCompleteAnswers words input
 complete_input words input = complete_for (asked_of words) input

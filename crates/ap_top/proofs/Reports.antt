@@ -1,5 +1,5 @@
 -- A report never has one of the two statuses that tell how it came to the sink.
-use Rattle.std.proofs.Common.{◌≡◌, refl, sym, ap, subst, ℕ, List, length, Option, Some, None, Result, Ok, Err, IfOk}
+use Rattle.std.proofs.Common.{◌≡◌, ◌∙◌, refl, sym, ap, subst, inl, inr, ℕ, List, length, Option, Some, None, Result, Ok, Err, IfOk}
 use Rattle.std.specs.Io.KnownBytes.{Appends}
 use Rattle.ap_defs.specs.Goals.{NominalProgram}
 use Rattle.ap_defs.specs.declared.faults.Fault.TheVariants as faults
@@ -13,10 +13,15 @@ use Rattle.ap_bundle.specs.declared.faults.BundleFault.{BundleFault}
 use Rattle.ap_verdicts.specs.Verdicts.{RefusedProof, first_refused}
 use Rattle.ap_bundle_prove.specs.Reports.{prove_report}
 use Rattle.ap_bundle_check.specs.Reports.{IsReadReport, check_report, verdicts_report}
+use Rattle.ap_bundle.specs.declared.version.Version.{Version}
+use Rattle.ap_bundle_convert.specs.Reports.{convert_report}
+use Rattle.ap_gen.specs.Generated.{generated}
+use Rattle.ap_uses.specs.Reports.{count_report}
+use Rattle.ap_work.specs.Reports.{summary_report, work_depth}
 use Rattle.ap_words.specs.declared.Asked.{Asked}
 use Rattle.ap_words.specs.declared.Asked.TheVariants as asked
 use Rattle.ap_top.specs.Report.{Input, Whole, Over, Broken, IsOnly, IsReportOf}
-use Rattle.ap_top.specs.Run.{Change, IsWritten}
+use Rattle.ap_top.specs.Run.{Change, IsPut, IsUnwritten, IsWritten}
 
 -- the status of a report
 abbrev pub IsTold : Status → Type 0
@@ -38,17 +43,28 @@ told_read : (read : Result NominalBundle BundleFault) (r : Report) → IsReadRep
 told_read (Ok b) r is = told_text (check_report b.proved) (λ p. told_verdicts (length b.proved) (first_refused p 1 b.proved)) b.text r is
 told_read (Err f) r is = subst (λ x. IsTold x.status) (sym is) tt
 
+told_converted : (to : Version) (read : Result NominalBundle BundleFault) → IsTold (convert_report to read).status
+told_converted to (Ok b) = tt
+told_converted to (Err f) = tt
+
 pub told_report : (a : Option Asked) (input : Input) (r : Report) → IsReportOf a input r → IsTold r.status
 told_report None input r is = subst (λ x. IsTold x.status) (sym is) tt
-told_report (Some (asked.Run depth workers)) (Whole text) r is = told_text (run_report depth) (λ p. tt) text r is
-told_report (Some (asked.Run depth workers)) Over r is = subst (λ x. IsTold x.status) (sym is) tt
-told_report (Some (asked.Run depth workers)) Broken r is = subst (λ x. IsTold x.status) (sym is) tt
-told_report (Some (asked.Prove depth workers)) (Whole text) r is = told_text (prove_report depth text) (λ p. tt) text r is
-told_report (Some (asked.Prove depth workers)) Over r is = subst (λ x. IsTold x.status) (sym is) tt
-told_report (Some (asked.Prove depth workers)) Broken r is = subst (λ x. IsTold x.status) (sym is) tt
+told_report (Some (asked.Run depth workers limit)) (Whole text) r is = told_text (run_report depth limit) (λ p. tt) text r is
+told_report (Some (asked.Run depth workers limit)) Over r is = subst (λ x. IsTold x.status) (sym is) tt
+told_report (Some (asked.Run depth workers limit)) Broken r is = subst (λ x. IsTold x.status) (sym is) tt
+told_report (Some (asked.Prove depth workers limit)) (Whole text) r is = told_text (prove_report depth limit text) (λ p. tt) text r is
+told_report (Some (asked.Prove depth workers limit)) Over r is = subst (λ x. IsTold x.status) (sym is) tt
+told_report (Some (asked.Prove depth workers limit)) Broken r is = subst (λ x. IsTold x.status) (sym is) tt
 told_report (Some asked.Check) (Whole bundle) r is = told_read (reading bundle) r is
 told_report (Some asked.Check) Over r is = subst (λ x. IsTold x.status) (sym is) tt
 told_report (Some asked.Check) Broken r is = subst (λ x. IsTold x.status) (sym is) tt
+told_report (Some (asked.Convert to)) (Whole bundle) r is = subst (λ x. IsTold x.status) (sym is) (told_converted to (reading bundle))
+told_report (Some (asked.Convert to)) Over r is = subst (λ x. IsTold x.status) (sym is) tt
+told_report (Some (asked.Convert to)) Broken r is = subst (λ x. IsTold x.status) (sym is) tt
+told_report (Some (asked.Count depth workers)) (Whole text) r is = told_text (count_report depth) (λ p. tt) text r is
+told_report (Some (asked.Count depth workers)) Over r is = subst (λ x. IsTold x.status) (sym is) tt
+told_report (Some (asked.Count depth workers)) Broken r is = subst (λ x. IsTold x.status) (sym is) tt
+told_report (Some (asked.Work seed size workers)) input r is = told_text (summary_report work_depth) (λ p. tt) (generated seed size) r is
 
 pub written_report : (sink : Change) (r : Report) (s : Status) → IsTold s → s ≡ r.status → sink.faults' ≡ sink.faults → Appends sink.bytes sink.bytes' r.bytes → IsWritten sink r s
 written_report sink r status.Ok told is steady whole = (steady, is, whole)
@@ -62,8 +78,17 @@ written_report sink r status.Memory told is steady whole = absurd told
 written_report sink r status.NotChecked told is steady whole = (steady, is, whole)
 written_report sink r status.TooLarge told is steady whole = (steady, is, whole)
 
-pub never_memory : (r : Report) → IsTold r.status → r.status ≡ status.Memory → ⊥
-never_memory r told is = subst (λ (s : Status). IsTold s) is told
+-- how a report was put tells how it is written
+pub put_written : (sink : Change) (r : Report) (s : Status) → IsTold r.status → IsPut sink r s → IsWritten sink r s
+put_written sink r s told (inl h) = written_report sink r s (subst IsTold (sym h.0) told) h.0 h.1 h.2
+put_written sink r s told (inr h) = subst (IsWritten sink r) (sym h.0) (h.1, h.2, h.3)
+
+put_told : (sink : Change) (r : Report) (s : Status) → IsTold r.status → IsPut sink r s → s ≡ status.Memory → ⊥
+put_told sink r s told (inl h) is = subst (λ (x : Status). IsTold x) (sym h.0 ∙ is) told
+put_told sink r s told (inr h) is = let k : status.Write ≡ status.Memory = sym h.0 ∙ is in cc
+
+pub put_unwritten : (sink : Change) (r : Report) (s : Status) → IsTold r.status → IsPut sink r s → s ≡ status.Memory → IsUnwritten sink
+put_unwritten sink r s told put is = absurd (put_told sink r s told put is)
 
 -- two things that are known of what is returned
 pub both_known : {A E : Type 0} (P Q R : A → Type 0) (x : Result A E) → ((a : A) → P a → Q a → R a) → IfOk x P → IfOk x Q → IfOk x R

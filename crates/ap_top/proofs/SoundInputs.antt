@@ -10,15 +10,18 @@ use Rattle.ap_words.specs.Words.{asked_of}
 
 sound_for : (a : Option Asked) (input : Input) → IsSoundFor a input
 sound_for None input = tt
-sound_for (Some (asked.Run depth workers)) (Whole text) = sound_text depth text
-sound_for (Some (asked.Run depth workers)) Over = tt
-sound_for (Some (asked.Run depth workers)) Broken = tt
-sound_for (Some (asked.Prove depth workers)) (Whole text) = (sound_text depth text, sound_proofs depth text)
-sound_for (Some (asked.Prove depth workers)) Over = tt
-sound_for (Some (asked.Prove depth workers)) Broken = tt
+sound_for (Some (asked.Run depth workers limit)) (Whole text) = sound_text depth limit text
+sound_for (Some (asked.Run depth workers limit)) Over = tt
+sound_for (Some (asked.Run depth workers limit)) Broken = tt
+sound_for (Some (asked.Prove depth workers limit)) (Whole text) = (sound_text depth limit text, sound_proofs depth limit text)
+sound_for (Some (asked.Prove depth workers limit)) Over = tt
+sound_for (Some (asked.Prove depth workers limit)) Broken = tt
 sound_for (Some asked.Check) (Whole bundle) = sound_verdicts bundle
 sound_for (Some asked.Check) Over = tt
 sound_for (Some asked.Check) Broken = tt
+sound_for (Some (asked.Convert to)) input = tt
+sound_for (Some (asked.Count depth workers)) input = tt
+sound_for (Some (asked.Work seed size workers)) input = tt
 
 pub sound_input : (words : List (List ℕ)) (input : Input) → HasSoundAnswers words input
 sound_input words input = sound_for (asked_of words) input

@@ -1,5 +1,5 @@
 -- The report: what is written for the words and the input, and the status.
-use Rattle.std.specs.Prelude.{◌≡◌, ℕ, List, Option, None, Some, codes}
+use Rattle.std.specs.Prelude.{◌≡◌, ℕ, Bool, true, false, List, Option, None, Some, codes}
 use Rattle.ap_report.specs.declared.report.Report.{Report}
 use Rattle.ap_report.specs.declared.status.Status.{Status}
 use Rattle.ap_report.specs.declared.status.Status.TheVariants as status
@@ -8,6 +8,9 @@ use Rattle.ap_report.specs.SoundAnswers.{IsSoundText}
 use Rattle.ap_report.specs.TextReport.{IsTextReport, run_report}
 use Rattle.ap_bundle_prove.specs.Reports.{HasSoundProofs, IsProveReport}
 use Rattle.ap_bundle_check.specs.Reports.{HasSoundVerdicts, IsCheckReport}
+use Rattle.ap_bundle_convert.specs.Reports.{IsConvertReport}
+use Rattle.ap_uses.specs.Reports.{IsCountReport}
+use Rattle.ap_work.specs.Reports.{IsWorkReport}
 use Rattle.ap_words.specs.declared.Asked.{Asked}
 use Rattle.ap_words.specs.declared.Asked.TheVariants as asked
 use Rattle.ap_words.specs.Words.{asked_of}
@@ -17,6 +20,12 @@ pub data Input : Type 0 where
   Whole : List ℕ → Input
   Over : Input
   Broken : Input
+
+-- whether the input is read: not where the words are refused, nor for `work`, which makes a text itself
+abbrev pub is_reading : Option Asked → Bool
+is_reading None = false
+is_reading (Some (asked.Work seed size workers)) = false
+is_reading (Some other) = true
 
 -- one line is all that is written
 abbrev pub line : List ℕ → Status → Report
@@ -30,9 +39,12 @@ IsReportOn IsReportOnText Broken r = r ≡ line (codes "% read fault\n") status.
 
 -- the report of what is asked for, command by command
 abbrev pub IsReportFor : Asked → Input → Report → Type 0
-IsReportFor (asked.Run depth workers) input r = IsReportOn (IsTextReport (run_report depth)) input r
-IsReportFor (asked.Prove depth workers) input r = IsReportOn (IsProveReport depth) input r
+IsReportFor (asked.Run depth workers limit) input r = IsReportOn (IsTextReport (run_report depth limit)) input r
+IsReportFor (asked.Prove depth workers limit) input r = IsReportOn (IsProveReport depth limit) input r
 IsReportFor asked.Check input r = IsReportOn IsCheckReport input r
+IsReportFor (asked.Convert to) input r = IsReportOn (IsConvertReport to) input r
+IsReportFor (asked.Count depth workers) input r = IsReportOn (IsCountReport depth) input r
+IsReportFor (asked.Work seed size workers) input r = IsWorkReport seed size r
 
 -- the same, or the refusal of words that ask for nothing
 abbrev pub IsReportOf : Option Asked → Input → Report → Type 0
@@ -45,8 +57,8 @@ IsReport words input r = IsReportOf (asked_of words) input r
 
 -- the answers in the report are sound
 abbrev pub IsSoundFor : Option Asked → Input → Type 0
-IsSoundFor (Some (asked.Run depth workers)) (Whole text) = IsSoundText depth text
-IsSoundFor (Some (asked.Prove depth workers)) (Whole text) = IsSoundText depth text × HasSoundProofs depth text
+IsSoundFor (Some (asked.Run depth workers limit)) (Whole text) = IsSoundText depth limit text
+IsSoundFor (Some (asked.Prove depth workers limit)) (Whole text) = IsSoundText depth limit text × HasSoundProofs depth limit text
 IsSoundFor (Some asked.Check) (Whole bundle) = HasSoundVerdicts bundle
 IsSoundFor _ _ = Unit {0}
 
@@ -59,8 +71,8 @@ IsOnly P r = P r × ((s : Report) → P s → s ≡ r)
 
 -- and complete
 abbrev pub IsCompleteFor : Option Asked → Input → Type 0
-IsCompleteFor (Some (asked.Run depth workers)) (Whole text) = IsCompleteText depth text
-IsCompleteFor (Some (asked.Prove depth workers)) (Whole text) = IsCompleteText depth text
+IsCompleteFor (Some (asked.Run depth workers limit)) (Whole text) = IsCompleteText depth limit text
+IsCompleteFor (Some (asked.Prove depth workers limit)) (Whole text) = IsCompleteText depth limit text
 IsCompleteFor _ _ = Unit {0}
 
 abbrev pub HasCompleteAnswers : List (List ℕ) → Input → Type 0

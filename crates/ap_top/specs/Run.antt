@@ -1,5 +1,5 @@
 -- What a call does to its source and its sink.
-use Rattle.std.specs.Prelude.{◌≡◌, ℕ, ◌<◌, ◌≤◌, List, length, take, Option, IfSome}
+use Rattle.std.specs.Prelude.{◌≡◌, ◌⊎◌, ℕ, ◌<◌, ◌≤◌, List, length, take, Option, IfSome}
 use Rattle.std.specs.Io.KnownBytes.{Appends, Keeps}
 use Rattle.ap_defs.specs.Limits.{size_limit}
 use Rattle.ap_io.specs.Causes.{Rose}
@@ -27,6 +27,12 @@ pub record Change : Type 0 where
 abbrev pub IsWritten : Change → Report → Status → Type 0
 IsWritten sink report status.Write = Rose sink.faults sink.faults' × (n : ℕ) × Appends sink.bytes sink.bytes' (take n report.bytes)
 IsWritten sink report other = (sink.faults' ≡ sink.faults) × (other ≡ report.status) × Appends sink.bytes sink.bytes' report.bytes
+
+-- a report was put: whole, with its status, or its first bytes, with the status of a failure
+abbrev pub IsPut : Change → Report → Status → Type 0
+IsPut sink report s =
+    ((s ≡ report.status) × (sink.faults' ≡ sink.faults) × Appends sink.bytes sink.bytes' report.bytes)
+    ⊎ ((s ≡ status.Write) × Rose sink.faults sink.faults' × (n : ℕ) × Appends sink.bytes sink.bytes' (take n report.bytes))
 
 -- nothing was written
 abbrev pub IsUnwritten : Change → Type 0

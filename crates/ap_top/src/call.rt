@@ -1,9 +1,9 @@
 // From the words and the bytes that come in to the bytes that go out.
-ghost use Rattle.std.specs.Prelude.{◌≡◌, ◌≢◌, None, IfOk, IsSome, map, string_bytes};
+ghost use Rattle.std.specs.Prelude.{◌≡◌, ◌≢◌, IfOk, false, map, string_bytes, true};
 ghost use Rattle.ap_report.specs.declared.report.Report.{Report};
 ghost use Rattle.ap_words.specs.Words.{asked_of};
-ghost use Rattle.ap_top.specs.Report.{Input, IsTheReport};
-ghost use Rattle.ap_top.specs.Run.{IsRead, IsUnwritten, IsWritten};
+ghost use Rattle.ap_top.specs.Report.{Input, IsTheReport, is_reading};
+ghost use Rattle.ap_top.specs.Run.{IsPut, IsRead, IsUnwritten, IsWritten};
 
 use crate::commands::report_of;
 use crate::lines::line;
@@ -16,7 +16,7 @@ use std::sync::Wait;
 use std::thread::Threads;
 
 /// The report for the words and what the source has left, which is read only where the words are
-/// accepted.
+/// accepted and ask for a report on it.
 #[tactic(auto, using(crate::proofs::SoundInputs::sound_input, crate::proofs::CompleteInputs::complete_input))]
 fn report<R: Threads + Wait + Sync, S: Source, G: Gate>(
     rt: &R,
@@ -25,15 +25,30 @@ fn report<R: Threads + Wait + Sync, S: Source, G: Gate>(
     words: &[String],
     source: &mut S,
 ) -> Result<Report, Memory>
-    ensures unread { asked_of (map string_bytes words.now) ≡ None → source.new ≡ source.old }
+    ensures unread { is_reading (asked_of (map string_bytes words.now)) ≡ false → source.new ≡ source.old }
     ensures made { IfOk result (λ r. (input : Input)
-        × (IsSome (asked_of (map string_bytes words.now)) →
+        × (is_reading (asked_of (map string_bytes words.now)) ≡ true →
         IsRead (S.left source.old) (S.faults source.old) (S.faults source.new) input)
         × IsTheReport (map string_bytes words.now) input r) }
 {
     match ap_words::read(alloc, words)? {
         Some(asked) => report_of(rt, alloc, gate, asked, source),
         None => line(alloc, "% usage fault\n", Status::Usage),
+    }
+}
+
+/// Writes a report to the sink, and tells the status with which this ends. It takes no memory.
+fn put<K: Sink>(sink: &mut K, report: &Report) -> Status
+    ensures { IsPut (record {
+      bytes = K.held sink.old;
+      bytes' = K.held sink.new;
+      faults = K.faults sink.old;
+      faults' = K.faults sink.new;
+    }) report.now result }
+{
+    match write_whole(sink, report.bytes.items()) {
+        Ok(()) => report.status,
+        Err(Failed) => Status::Write,
     }
 }
 
@@ -59,7 +74,10 @@ fn report<R: Threads + Wait + Sync, S: Source, G: Gate>(
 ///
 /// `prove` writes the text with each answer and its derivation, in order, as a bundle; each derivation in it
 /// checks. `check` writes how many derivations a bundle has, where each of them checks: so its answer is sound,
-/// whoever made it. `run` writes the reports of the text's queries, one after the other.
+/// whoever made it. `convert` writes the bundle that it reads in the version that is asked for. `run` writes the
+/// reports of the text's queries, one after the other; where so many answers are wanted, `run` and `prove` end
+/// each query with the last of them. `count` writes how often each clause is used in the derivations of all
+/// answers. `work` reads nothing: it makes a text from a number, and writes the totals of its run.
 ///
 /// The report of a query is what sequential nominal resolution finds to the depth (Cheney and Urban,
 /// "Nominal Logic Programming"): a line for each answer, in order, once for each derivation, with notes
@@ -75,12 +93,12 @@ pub fn top<R: Threads + Wait + Sync, S: Source, K: Sink, G: Gate>(
     sink: &mut K,
     gate: &G,
 ) -> Status
-    // Nothing is read where the words are refused.
-    ensures unread { asked_of (map string_bytes words.now) ≡ None → source.new ≡ source.old }
+    // Nothing is read where the words are refused, and for `work`.
+    ensures unread { is_reading (asked_of (map string_bytes words.now)) ≡ false → source.new ≡ source.old }
     // The bytes and the status are those of the one report of the words and of what was read; the ground
     // instances of its answers are derivable, and what is derivable is among them.
     ensures run { result ≢ Status.Memory → (input : Input) × (report : Report)
-        × (IsSome (asked_of (map string_bytes words.now)) →
+        × (is_reading (asked_of (map string_bytes words.now)) ≡ true →
         IsRead (S.left source.old) (S.faults source.old) (S.faults source.new) input)
         × IsTheReport (map string_bytes words.now) input report
         × IsWritten (record {
@@ -98,10 +116,7 @@ pub fn top<R: Threads + Wait + Sync, S: Source, K: Sink, G: Gate>(
     }) }
 {
     match report(rt, alloc, gate, words, source) {
-        Ok(report) => match write_whole(sink, report.bytes.items()) {
-            Ok(()) => report.status,
-            Err(Failed) => Status::Write,
-        },
+        Ok(report) => put(sink, &report),
         Err(Memory) => Status::Memory,
     }
 }

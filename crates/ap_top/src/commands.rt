@@ -1,10 +1,12 @@
 // The commands, each with a module of its own.
-ghost use Rattle.std.specs.Prelude.{IfOk};
+ghost use Rattle.std.specs.Prelude.{◌≡◌, IfOk, Some, false, true};
 ghost use Rattle.ap_report.specs.declared.report.Report.{Report};
-ghost use Rattle.ap_top.specs.Report.{Input, IsOnly, IsReportFor};
+ghost use Rattle.ap_top.specs.Report.{Input, IsOnly, IsReportFor, is_reading};
 ghost use Rattle.ap_top.specs.Run.{IsRead};
 
 mod check;
+mod convert;
+mod count;
 mod prove;
 mod run;
 
@@ -12,11 +14,12 @@ use ap_defs::memory::Memory;
 use ap_io::{Gate, Source};
 use ap_report::Report;
 use ap_words::Asked;
+use ap_work::report_work;
 use std::alloc::Global;
 use std::sync::Wait;
 use std::thread::Threads;
 
-/// The report of what is asked for, on what the source has left.
+/// The report of what is asked for, on what the source has left. `work` leaves the source as it is.
 pub(crate) fn report_of<R: Threads + Wait + Sync, S: Source, G: Gate>(
     rt: &R,
     alloc: Global,
@@ -24,13 +27,30 @@ pub(crate) fn report_of<R: Threads + Wait + Sync, S: Source, G: Gate>(
     asked: Asked,
     source: &mut S,
 ) -> Result<Report, Memory>
-    ensures { IfOk result (λ r. (input : Input)
-        × IsRead (S.left source.old) (S.faults source.old) (S.faults source.new) input
+    ensures unread { is_reading (Some asked) ≡ false → source.new ≡ source.old }
+    ensures made { IfOk result (λ r. (input : Input)
+        × (is_reading (Some asked) ≡ true →
+        IsRead (S.left source.old) (S.faults source.old) (S.faults source.new) input)
         × IsOnly (IsReportFor asked input) r) }
 {
     match asked {
-        Asked::Run { depth, workers } => run::report(rt, alloc, gate, depth, workers, source),
-        Asked::Prove { depth, workers } => prove::report(rt, alloc, gate, depth, workers, source),
+        Asked::Run {
+            depth,
+            workers,
+            limit,
+        } => run::report(rt, alloc, gate, depth, workers, limit, source),
+        Asked::Prove {
+            depth,
+            workers,
+            limit,
+        } => prove::report(rt, alloc, gate, depth, workers, limit, source),
         Asked::Check => check::report(alloc, source),
+        Asked::Convert { to } => convert::report(alloc, to, source),
+        Asked::Count { depth, workers } => count::report(rt, alloc, gate, depth, workers, source),
+        Asked::Work {
+            seed,
+            size,
+            workers,
+        } => report_work(rt, alloc, gate, seed, size, workers),
     }
 }

@@ -3,11 +3,11 @@ use Rattle.std.proofs.Common.{◌≡◌, ◌<◌, ◌+◌, ℕ, suc, List, [], �
 use Rattle.std.proofs.Math.Seq.{drop-cons}
 use Rattle.std.proofs.lemmas.List.{map-append, take-append-drop}
 use Rattle.std.specs.Prelude.{Option, Some, None}
-use Rattle.ap_defs.specs.Freshness.{Conds, both}
+use Rattle.ap_defs.specs.Freshness.{Conds, add_conds, both}
 use Rattle.ap_defs.specs.Substitution.{Binding, Problem, ◌#◌}
 use Rattle.ap_defs.specs.Unification.{reduce_all}
 use Rattle.ap_defs.specs.declared.terms.Cond.{Cond}
-use Rattle.ap_fresh.proofs.SetLemmas.{added_both, added_none, both_left, both_right}
+use Rattle.ap_fresh.proofs.SetLemmas.{added_both, both_left, both_right, collected_set}
 use Rattle.ap_fresh.specs.Reduction.{added}
 use Rattle.ap_theory.proofs.ReductionLemmas.{reduce_all-append}
 use Rattle.ap_theory.specs.StatementsOnConditions.{collected}
@@ -48,7 +48,7 @@ module _ (s : List Binding) (cs ps : List Problem) (es : Conds) where
   pub conditions_refuted : added (reduce_all s cs) es ≡ None → collected (reduce_all s (cs ++ ps)) ≡ None
   conditions_refuted h = ap collected (reduce_all-append s cs ps ∙ both_left (reduce_all s cs) (reduce_all s ps) (none_added (reduce_all s cs) es h))
 
-  pub all_collected : (fs : Conds) → added (reduce_all s ps) [] ≡ Some es → added (reduce_all s cs) es ≡ Some fs → collected (reduce_all s (cs ++ ps)) ≡ Some fs
+  pub all_collected : (fs : Conds) → added (reduce_all s ps) [] ≡ Some es → added (reduce_all s cs) es ≡ Some fs → collected (reduce_all s (cs ++ ps)) ≡ Some (add_conds fs [])
   all_collected fs h k =
       ap collected (reduce_all-append s cs ps)
-      ∙ added_none (both (reduce_all s cs) (reduce_all s ps)) fs (added_both (reduce_all s cs) (reduce_all s ps) [] es fs h k)
+      ∙ collected_set (both (reduce_all s cs) (reduce_all s ps)) fs (added_both (reduce_all s cs) (reduce_all s ps) [] es fs h k)

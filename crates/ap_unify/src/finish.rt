@@ -14,10 +14,11 @@ use crate::pairs::{FreshFor, Work};
 use crate::reducing::{reduce_closure, reduce_var};
 use ap_defs::memory::Memory;
 use ap_defs::terms::Cond;
+use ap_fresh::sets::make_set;
 use ap_store::store::Store;
 use std::alloc::Global;
 
-/// Adds the conditions to which a problem reduces, unless it is refuted.
+/// Puts the conditions to which a problem reduces behind others, unless it is refuted.
 fn reduce_one<'a>(
     store: &Store<'a>,
     p: &FreshFor<'a>,
@@ -31,7 +32,8 @@ fn reduce_one<'a>(
     }
 }
 
-/// Adds the conditions to which problems reduce, from the last to the first, unless one is refuted.
+/// Puts the conditions to which problems reduce behind others, from the last to the first, unless one is
+/// refuted.
 fn reduce_each<'a>(
     store: &Store<'a>,
     problems: &[FreshFor<'a>],
@@ -47,7 +49,8 @@ fn reduce_each<'a>(
     Ok(true)
 }
 
-/// Adds the conditions to which conditions reduce, from the last to the first, unless one is refuted.
+/// Puts the conditions to which conditions reduce behind others, from the last to the first, unless one
+/// is refuted.
 fn reduce_taken<'a>(
     store: &Store<'a>,
     taken: &[Cond],
@@ -63,8 +66,8 @@ fn reduce_taken<'a>(
     Ok(true)
 }
 
-/// The conditions to which the problems that were met reduce, and those that were taken, or none
-/// where one is refuted.
+/// The set of the conditions to which the problems that were met reduce, and those that were taken, or
+/// none where one is refuted.
 fn reduce_met<'a>(
     alloc: Global,
     store: &Store<'a>,
@@ -79,6 +82,7 @@ fn reduce_met<'a>(
     if !reduce_taken(store, &work.taken, &mut conds)? {
         return Ok(None);
     }
+    make_set(&mut conds);
     Ok(Some(conds))
 }
 
@@ -96,7 +100,7 @@ pub fn finish<'a>(alloc: Global, store: &mut Store<'a>, work: &Work<'a>) -> Resu
         None => Ok(false),
         Some(conds) => {
             if !conds.is_empty() {
-                store.add(alloc, &conds)?;
+                store.add(&conds)?;
             }
             Ok(true)
         }

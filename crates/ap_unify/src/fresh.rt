@@ -14,6 +14,7 @@ ghost use Rattle.ap_unify.specs.Unified.{AreVarsBelow, IsReduced};
 use crate::reducing::{reduce_closure, reduce_vars};
 use ap_defs::memory::Memory;
 use ap_defs::terms::{Name, Var};
+use ap_fresh::sets::make_set;
 use ap_perm::closures::Closure;
 use ap_store::store::Store;
 use std::alloc::Global;
@@ -42,7 +43,8 @@ pub fn make_fresh<'a>(
     if !reduce_closure(store, a, t, &mut conds)? {
         return Ok(false);
     }
-    store.add(alloc, &conds)?;
+    make_set(&mut conds);
+    store.add(&conds)?;
     Ok(true)
 }
 
@@ -69,6 +71,7 @@ pub fn make_fresh_for_each<'a>(
     if !reduce_vars(store, a, vars, &mut conds)? {
         return Ok(false);
     }
-    store.add(alloc, &conds)?;
+    make_set(&mut conds);
+    store.add(&conds)?;
     Ok(true)
 }

@@ -18,8 +18,8 @@ use ap_fresh::reduction::{add_reduced, add_reduced_var};
 use ap_perm::closures::Closure;
 use ap_store::store::Store;
 
-/// Adds the conditions under which a name is fresh for what a closure stands for, unless it is free
-/// there.
+/// Puts the conditions under which a name is fresh for what a closure stands for behind others, unless it
+/// is free there.
 #[tactic(auto, using(crate::proofs::WellLemmas::looked))]
 pub fn reduce_closure<'a>(
     store: &Store<'a>,
@@ -36,8 +36,8 @@ pub fn reduce_closure<'a>(
     }
 }
 
-/// Adds the conditions under which a name is fresh for what a variable stands for, unless it is free
-/// there.
+/// Puts the conditions under which a name is fresh for what a variable stands for behind others, unless it
+/// is free there.
 #[tactic(auto, using(crate::proofs::WellLemmas::looked))]
 pub fn reduce_var<'a>(
     store: &Store<'a>,
@@ -54,8 +54,8 @@ pub fn reduce_var<'a>(
     }
 }
 
-/// Adds the conditions under which a name is fresh for what each of the variables stands for, from the
-/// last to the first, unless it is free in one.
+/// Puts the conditions under which a name is fresh for what each of the variables stands for behind
+/// others, from the last to the first, unless it is free in one.
 pub fn reduce_vars<'a>(
     store: &Store<'a>,
     a: Name,

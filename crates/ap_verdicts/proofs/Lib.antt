@@ -1,1 +1,2 @@
 pub mod SoundnessLemmas
+pub mod LimitedLemmas

@@ -55,7 +55,7 @@ from_first : (all : List NominalQuery) → IsFrom all 1 all
 from_first [] = tt
 from_first (q ∷ qs) = (refl, from_next q qs 0 qs (from_first qs))
 
-all-append : {X : Type 0} (P : X → Type 0) (xs ys : List X) → AllByRecursion P xs → AllByRecursion P ys → AllByRecursion P (xs ++ ys)
+pub all-append : {X : Type 0} (P : X → Type 0) (xs ys : List X) → AllByRecursion P xs → AllByRecursion P ys → AllByRecursion P (xs ++ ys)
 all-append P [] ys h k = k
 all-append P (x ∷ xs) ys h k = (h.0, all-append P xs ys h.1 k)
 

@@ -24,22 +24,42 @@ dashes = codes "--"
 pub long_joined : (o : OptionName) (text : List ℕ) → long_of (joined_word o text) ≡ Some (option_name o, Some text)
 long_joined option.Depth text = refl
 long_joined option.Workers text = refl
+long_joined option.Answers text = refl
+long_joined option.To text = refl
+long_joined option.Seed text = refl
+long_joined option.Size text = refl
 
 pub long_alone : (o : OptionName) → long_of (option_word o) ≡ Some (option_name o, None)
 long_alone option.Depth = refl
 long_alone option.Workers = refl
+long_alone option.Answers = refl
+long_alone option.To = refl
+long_alone option.Seed = refl
+long_alone option.Size = refl
 
 pub joined_no_dashes : (o : OptionName) (text : List ℕ) → bytes_eq (joined_word o text) dashes ≡ false
 joined_no_dashes option.Depth text = refl
 joined_no_dashes option.Workers text = refl
+joined_no_dashes option.Answers text = refl
+joined_no_dashes option.To text = refl
+joined_no_dashes option.Seed text = refl
+joined_no_dashes option.Size text = refl
 
 pub alone_no_dashes : (o : OptionName) → bytes_eq (option_word o) dashes ≡ false
 alone_no_dashes option.Depth = refl
 alone_no_dashes option.Workers = refl
+alone_no_dashes option.Answers = refl
+alone_no_dashes option.To = refl
+alone_no_dashes option.Seed = refl
+alone_no_dashes option.Size = refl
 
 pub name_same : (o : OptionName) → bytes_eq (option_name o) (option_name o) ≡ true
 name_same option.Depth = refl
 name_same option.Workers = refl
+name_same option.Answers = refl
+name_same option.To = refl
+name_same option.Seed = refl
+name_same option.Size = refl
 
 -- a word with `=` is what stands before the first, `=`, and what stands after it
 pub parted : (word : List ℕ) → list_any is_equals word ≡ true → word ≡ before_first is_equals word ++ 61 ∷ after_first is_equals word

@@ -224,7 +224,7 @@ stopped_passes s names w name before (word ∷ words) = stopped_passes s names w
 
 -- the names by which clap knows the commands
 abbrev all_names : Names
-all_names = (codes "run", []) ∷ (codes "prove", []) ∷ (codes "check", []) ∷ []
+all_names = (codes "run", []) ∷ (codes "prove", []) ∷ (codes "check", []) ∷ (codes "convert", []) ∷ (codes "count", []) ∷ (codes "work", []) ∷ []
 
 command_taken : (c : CommandName) (words : List Text) (ss : List Setting) → settings_of (options_of c) words ≡ Some ss → are_complete (options_of c) ss ≡ true → takes program (command_name c ∷ words) ≡ true
 unfolding walked walk_passes
@@ -246,6 +246,24 @@ command_taken command.Check words ss read e =
       stopped_passes (built program).top all_names (walk_from nothing_held) (codes "check") [] words,
     )
     (both_true _ _ (level (codes "check") (options_of command.Check) words ss read e) refl)
+command_taken command.Convert words ss read e =
+    rw (
+      stopped [] all_names (walk_from nothing_held) (codes "convert") [] words,
+      stopped_passes (built program).top all_names (walk_from nothing_held) (codes "convert") [] words,
+    )
+    (both_true _ _ (level (codes "convert") (options_of command.Convert) words ss read e) refl)
+command_taken command.Count words ss read e =
+    rw (
+      stopped [] all_names (walk_from nothing_held) (codes "count") [] words,
+      stopped_passes (built program).top all_names (walk_from nothing_held) (codes "count") [] words,
+    )
+    (both_true _ _ (level (codes "count") (options_of command.Count) words ss read e) refl)
+command_taken command.Work words ss read e =
+    rw (
+      stopped [] all_names (walk_from nothing_held) (codes "work") [] words,
+      stopped_passes (built program).top all_names (walk_from nothing_held) (codes "work") [] words,
+    )
+    (both_true _ _ (level (codes "work") (options_of command.Work) words ss read e) refl)
 
 with_taken : (c : CommandName) (words : List Text) (a : Asked) → asked_with c words ≡ Some a → takes program (command_name c ∷ words) ≡ true
 with_taken c words a e = go (settings_of (options_of c) words) refl e

@@ -5,7 +5,12 @@ use Rattle.std.specs.Char.{is_ascii_digit}
 use Rattle.std.specs.List.{list_all, list_any, before_first, after_first}
 use Rattle.std.specs.Str.{bytes_eq}
 use Rattle.std.specs.Str.Parse.{digits_value}
+use Rattle.ap_bundle.specs.declared.version.Version.{Version}
+use Rattle.ap_bundle.specs.declared.version.Version.TheVariants as version
 use Rattle.ap_defs.specs.Limits.{greatest_depth, most_workers, within}
+use Rattle.ap_gen.specs.Sizes.{most_queries}
+use Rattle.ap_paths.specs.declared.limits.Limit.{Limit}
+use Rattle.ap_paths.specs.declared.limits.Limit.TheVariants as limits
 use Rattle.ap_words.specs.declared.Asked.{Asked}
 use Rattle.ap_words.specs.declared.Asked.TheVariants as asked
 use Rattle.ap_words.specs.declared.settings.Setting.{Setting}
@@ -68,16 +73,48 @@ depth_in ss = option_and_then (within 0 greatest_depth) (number_in option.Depth 
 abbrev pub workers_in : List Setting → Option ℕ
 workers_in ss = within 1 most_workers (unwrap_or (number_in option.Workers ss) 1)
 
--- what is asked for by a depth and a number of workers
-abbrev pub searched_by : (ℕ → ℕ → Asked) → Option ℕ → Option ℕ → Option Asked
-searched_by asked (Some depth) (Some workers) = Some (asked depth workers)
-searched_by asked _ _ = None
+-- how many answers are asked for, from 1 to 1,000,000, and all where nothing is said
+abbrev pub most_answers : ℕ
+most_answers = 1000000
+
+abbrev pub limit_of : Option ℕ → Option Limit
+limit_of None = Some limits.All
+limit_of (Some n) = option_map limits.First (within 1 most_answers n)
+
+abbrev pub limit_in : List Setting → Option Limit
+limit_in ss = limit_of (number_in option.Answers ss)
+
+-- the version that is asked for, 1 or 2
+abbrev pub version_of : ℕ → Option Version
+version_of n = if n == 1 then Some version.One else (if n == 2 then Some version.Two else None)
+
+abbrev pub version_in : List Setting → Option Version
+version_in ss = option_and_then version_of (number_in option.To ss)
+
+-- the number from which a text is made, which is any, and how many queries it has, from 1 to 1,000
+abbrev pub seed_in : List Setting → Option ℕ
+seed_in ss = number_in option.Seed ss
+
+abbrev pub size_in : List Setting → Option ℕ
+size_in ss = option_and_then (within 1 most_queries) (number_in option.Size ss)
+
+-- what is asked for by two values, and by three, where each is there
+abbrev pub with_both : {A B : Type 0} → (A → B → Asked) → Option A → Option B → Option Asked
+with_both asked (Some a) (Some b) = Some (asked a b)
+with_both asked _ _ = None
+
+abbrev pub with_all : {A B C : Type 0} → (A → B → C → Asked) → Option A → Option B → Option C → Option Asked
+with_all asked (Some a) (Some b) (Some c) = Some (asked a b c)
+with_all asked _ _ _ = None
 
 -- what the settings of a command's options ask for
 abbrev pub asked_by : CommandName → List Setting → Option Asked
-asked_by command.Run ss = searched_by asked.Run (depth_in ss) (workers_in ss)
-asked_by command.Prove ss = searched_by asked.Prove (depth_in ss) (workers_in ss)
+asked_by command.Run ss = with_all asked.Run (depth_in ss) (workers_in ss) (limit_in ss)
+asked_by command.Prove ss = with_all asked.Prove (depth_in ss) (workers_in ss) (limit_in ss)
 asked_by command.Check ss = Some asked.Check
+asked_by command.Convert ss = option_map asked.Convert (version_in ss)
+asked_by command.Count ss = with_both asked.Count (depth_in ss) (workers_in ss)
+asked_by command.Work ss = with_all asked.Work (seed_in ss) (size_in ss) (workers_in ss)
 
 abbrev pub asked_together : CommandName → List Setting → Option Asked
 asked_together c ss = if are_complete (options_of c) ss then asked_by c ss else None

@@ -9,12 +9,15 @@ mod reading;
 mod settings;
 mod table;
 
+use ap_bundle::version::Version;
 use ap_defs::limits::{Depth, Workers};
+use ap_gen::Size;
+use ap_paths::Limit;
 pub use reading::read;
 pub use table::{CommandName, OptionName};
 
 /// What the words ask for.
-#[derive(Clone, Copy, PartialEq, Eq)]
+#[derive(Clone, Copy)]
 pub enum Asked {
     /// Answer the queries of a text.
     Run {
@@ -22,6 +25,8 @@ pub enum Asked {
         depth: Depth,
         /// how many workers search each of them
         workers: Workers,
+        /// how many answers of each of them are wanted
+        limit: Limit,
     },
     /// Write the bundle of a text and of its answers with their derivations.
     Prove {
@@ -29,7 +34,30 @@ pub enum Asked {
         depth: Depth,
         /// how many workers search each of them
         workers: Workers,
+        /// how many answers of each of them are wanted
+        limit: Limit,
     },
     /// Check the derivations of a bundle.
     Check,
+    /// Write a bundle in a version.
+    Convert {
+        /// the version
+        to: Version,
+    },
+    /// Count how often each clause of a text is used in the derivations of its answers.
+    Count {
+        /// the depth to which the queries are searched
+        depth: Depth,
+        /// how many workers search each of them
+        workers: Workers,
+    },
+    /// Run the text that is made from a number, and write its totals.
+    Work {
+        /// the number
+        seed: u64,
+        /// how many queries the text has
+        size: Size,
+        /// how many workers search each of them
+        workers: Workers,
+    },
 }

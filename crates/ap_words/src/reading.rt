@@ -1,13 +1,16 @@
 // From the words to what they ask for.
 ghost use Rattle.std.specs.Prelude.{◌≡◌, IfOk, map, string_bytes};
-ghost use Rattle.ap_words.specs.Words.{asked_by, asked_of, asked_together, asked_with, command_of, depth_in, workers_in};
+ghost use Rattle.ap_words.specs.Words.{asked_by, asked_of, asked_together, asked_with, command_of, depth_in, limit_in, seed_in, size_in, version_in, workers_in};
 
 use crate::Asked;
 use crate::program::is_taken;
 use crate::settings::{Setting, complete, number_of, read_settings};
 use crate::table::{CommandName, OptionName};
+use ap_bundle::version::Version;
 use ap_defs::limits::{Depth, Workers};
 use ap_defs::memory::Memory;
+use ap_gen::Size;
+use ap_paths::Limit;
 use std::alloc::Global;
 
 /// The depth that is asked for.
@@ -28,6 +31,46 @@ fn workers(settings: &[Setting]) -> Option<Workers>
     }
 }
 
+/// The most answers of a query that may be asked for. All may be.
+const MOST_ANSWERS: u64 = 1_000_000;
+
+/// How many answers are asked for.
+fn limit(settings: &[Setting]) -> Option<Limit>
+    ensures { result ≡ limit_in settings.now }
+{
+    match number_of(OptionName::Answers, settings) {
+        None => Some(Limit::All),
+        Some(count) if 1 <= count && count <= MOST_ANSWERS => Some(Limit::First(count)),
+        Some(_) => None,
+    }
+}
+
+/// The version that is asked for.
+fn version(settings: &[Setting]) -> Option<Version>
+    ensures { result ≡ version_in settings.now }
+{
+    match number_of(OptionName::To, settings)? {
+        1 => Some(Version::One),
+        2 => Some(Version::Two),
+        _ => None,
+    }
+}
+
+/// The number from which a text is made.
+fn seed(settings: &[Setting]) -> Option<u64>
+    ensures { result ≡ seed_in settings.now }
+{
+    number_of(OptionName::Seed, settings)
+}
+
+/// How many queries the text has.
+fn size(settings: &[Setting]) -> Option<Size>
+    ensures { result ≡ size_in settings.now }
+{
+    let number = number_of(OptionName::Size, settings)?;
+    Size::of(u32::try_from(number).ok()?)
+}
+
 /// What the settings of a command's options ask for.
 fn asked_by(command: CommandName, settings: &[Setting]) -> Option<Asked>
     ensures { result ≡ asked_by command settings.now }
@@ -36,12 +79,26 @@ fn asked_by(command: CommandName, settings: &[Setting]) -> Option<Asked>
         CommandName::Run => Some(Asked::Run {
             depth: depth(settings)?,
             workers: workers(settings)?,
+            limit: limit(settings)?,
         }),
         CommandName::Prove => Some(Asked::Prove {
             depth: depth(settings)?,
             workers: workers(settings)?,
+            limit: limit(settings)?,
         }),
         CommandName::Check => Some(Asked::Check),
+        CommandName::Convert => Some(Asked::Convert {
+            to: version(settings)?,
+        }),
+        CommandName::Count => Some(Asked::Count {
+            depth: depth(settings)?,
+            workers: workers(settings)?,
+        }),
+        CommandName::Work => Some(Asked::Work {
+            seed: seed(settings)?,
+            size: size(settings)?,
+            workers: workers(settings)?,
+        }),
     }
 }
 

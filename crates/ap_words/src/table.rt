@@ -12,6 +12,12 @@ pub enum CommandName {
     Prove,
     /// `check`, which checks the derivations of a bundle
     Check,
+    /// `convert`, which writes a bundle in another version
+    Convert,
+    /// `count`, which counts how often each clause is used
+    Count,
+    /// `work`, which runs a text that is made from a number
+    Work,
 }
 
 /// An option of a command.
@@ -21,11 +27,36 @@ pub enum OptionName {
     Depth,
     /// `--workers`, how many workers search
     Workers,
+    /// `--answers`, how many answers of each query are wanted
+    Answers,
+    /// `--to`, the version in which a bundle is written
+    To,
+    /// `--seed`, the number from which a text is made
+    Seed,
+    /// `--size`, how many queries such a text has
+    Size,
 }
 
-static COMMANDS: [CommandName; 3] = [CommandName::Run, CommandName::Prove, CommandName::Check];
+static COMMANDS: [CommandName; 6] = [
+    CommandName::Run,
+    CommandName::Prove,
+    CommandName::Check,
+    CommandName::Convert,
+    CommandName::Count,
+    CommandName::Work,
+];
+
+static ANSWER_OPTIONS: [OptionName; 3] = [
+    OptionName::Depth,
+    OptionName::Workers,
+    OptionName::Answers,
+];
 
 static SEARCH_OPTIONS: [OptionName; 2] = [OptionName::Depth, OptionName::Workers];
+
+static VERSION_OPTIONS: [OptionName; 1] = [OptionName::To];
+
+static WORK_OPTIONS: [OptionName; 3] = [OptionName::Seed, OptionName::Size, OptionName::Workers];
 
 static NO_OPTIONS: [OptionName; 0] = [];
 
@@ -45,6 +76,9 @@ impl CommandName {
             CommandName::Run => "run",
             CommandName::Prove => "prove",
             CommandName::Check => "check",
+            CommandName::Convert => "convert",
+            CommandName::Count => "count",
+            CommandName::Work => "work",
         }
     }
 
@@ -53,9 +87,12 @@ impl CommandName {
         ensures { result.now ≡ options_of self }
     {
         match self {
-            CommandName::Run => SEARCH_OPTIONS.as_slice(),
-            CommandName::Prove => SEARCH_OPTIONS.as_slice(),
+            CommandName::Run => ANSWER_OPTIONS.as_slice(),
+            CommandName::Prove => ANSWER_OPTIONS.as_slice(),
             CommandName::Check => NO_OPTIONS.as_slice(),
+            CommandName::Convert => VERSION_OPTIONS.as_slice(),
+            CommandName::Count => SEARCH_OPTIONS.as_slice(),
+            CommandName::Work => WORK_OPTIONS.as_slice(),
         }
     }
 }
@@ -68,6 +105,10 @@ impl OptionName {
         match self {
             OptionName::Depth => "depth",
             OptionName::Workers => "workers",
+            OptionName::Answers => "answers",
+            OptionName::To => "to",
+            OptionName::Seed => "seed",
+            OptionName::Size => "size",
         }
     }
 
@@ -78,6 +119,10 @@ impl OptionName {
         match self {
             OptionName::Depth => true,
             OptionName::Workers => false,
+            OptionName::Answers => false,
+            OptionName::To => true,
+            OptionName::Seed => true,
+            OptionName::Size => true,
         }
     }
 }

@@ -114,7 +114,7 @@ fn outputs_are_merged_in_path_order(rt: HostRuntime) {
 }
 
 /// An answer that says nothing, at a path.
-fn answer_at(alloc: Global, path: &Path) -> Result<Vec<Out>, Memory> {
+pub fn answer_at(alloc: Global, path: &Path) -> Result<Vec<Out>, Memory> {
     let answer = Answer {
         binds: List::of(Vec::new(alloc)),
         conds: List::of(Vec::new(alloc)),

@@ -1,8 +1,9 @@
 ghost use Rattle.std.specs.Prelude.{◌≡◌, ◌∷◌, [], All, vec_len, IfOk};
 ghost use Rattle.ap_lock.specs.Seats.{book_id, seats_of};
 
+use crate::book::answer_at;
 use crate::pairs::cut_at;
-use ap_book::BookError;
+use ap_book::{BookError, SkipError};
 use ap_defs::memory::Memory;
 use ap_defs::paths::{Path, Progress};
 use ap_lock::{Seat, SharedBook};
@@ -131,6 +132,76 @@ fn find_entries<R: Wait>(rt: &R, alloc: Global) -> Result<bool, Memory> {
 #[test]
 fn seats_find_their_own_entries(rt: HostRuntime) {
     assert!(rt; matches!(find_entries(&rt, rt.alloc()), Ok(true)));
+}
+
+// A book with one seat, of which one answer is wanted.
+fn alone(alloc: Global) -> Result<(SharedBook, Seat), Memory>
+    ensures { IfOk result (λ r. r.1.book ≡ book_id r.0) }
+{
+    let (book, mut seats) = SharedBook::make(alloc, 1, Limit::First(1))?;
+    let Some(seat) = seats.pop() else {
+        return Err(Memory);
+    };
+    Ok((book, seat))
+}
+
+/// What comes of leaving out [2].
+fn skip_second<R: Wait>(
+    rt: &R,
+    alloc: Global,
+    book: &SharedBook,
+    seat: &mut Seat,
+) -> Result<(), SkipError>
+    requires { seat.old.book ≡ book_id book.now }
+    ensures { seat.new.book ≡ seat.old.book }
+{
+    let Ok(path) = kid(alloc, 2) else {
+        return Err(SkipError::Memory);
+    };
+    book.skip(rt, seat, &path)
+}
+
+/// Whether [1] ends with an answer.
+fn answers<R: Wait>(
+    rt: &R,
+    alloc: Global,
+    book: &SharedBook,
+    seat: &mut Seat,
+) -> Result<bool, Memory>
+    requires { seat.old.book ≡ book_id book.now }
+    ensures { seat.new.book ≡ seat.old.book }
+{
+    let path = kid(alloc, 1)?;
+    Ok(book.done(rt, seat, &path, answer_at(alloc, &path)?).is_ok())
+}
+
+/// Whether a seat alone leaves [2] out once, as soon as an answer has ended before it.
+fn skips_once<R: Wait>(
+    rt: &R,
+    alloc: Global,
+    book: &SharedBook,
+    seat: &mut Seat,
+) -> Result<bool, Memory>
+    requires { seat.old.book ≡ book_id book.now }
+    ensures { seat.new.book ≡ seat.old.book }
+{
+    let opened = split_root(rt, alloc, book, seat) == Ok(());
+    let early = skip_second(rt, alloc, book, seat) == Err(SkipError::Needed(0));
+    let answered = answers(rt, alloc, book, seat)?;
+    let enough = skip_second(rt, alloc, book, seat) == Ok(());
+    let finished = book.status(rt, seat) == Progress::Finished;
+    let again = skip_second(rt, alloc, book, seat) == Err(SkipError::NotOpen);
+    Ok(opened && early && answered && enough && finished && again)
+}
+
+fn skips<R: Wait>(rt: &R, alloc: Global) -> Result<bool, Memory> {
+    let (book, mut seat) = alone(alloc)?;
+    skips_once(rt, alloc, &book, &mut seat)
+}
+
+#[test]
+fn a_seat_leaves_a_path_out_behind_answers_enough(rt: HostRuntime) {
+    assert!(rt; matches!(skips(&rt, rt.alloc()), Ok(true)));
 }
 
 // Splits a path of fewer than five choices into ten, and ends a longer one.

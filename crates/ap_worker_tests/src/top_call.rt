@@ -80,25 +80,43 @@ fn ends<R: Threads + Wait + Sync>(
 ) -> Result<bool, Memory>
     requires { 1 ≤ fails.most }
 {
-    let words = words_of(alloc, "run --depth 1")?;
+    let words = words_of(alloc, "run --depth 5")?;
     let (status, sink) = call(rt, alloc, &words, text, fails, &NoGate)?;
     Ok(status == want.0 && sink.bytes() == want.1)
 }
 
-// An answer with a new name.
-const NAMED: &[u8] = b"id : name_type. e : type. v : id -> e. l : id\\e -> e. ?- R = l(x\\v(x)).";
+/// Substitution on lambda terms, in which a bound name is renamed.
+const RENAMED: &[u8] = b"id : name_type.\n\
+exp : type.\n\
+var : id -> exp.\n\
+app : (exp, exp) -> exp.\n\
+lam : id\\exp -> exp.\n\
+pred subst(exp, id, exp, exp).\n\
+subst(var(X), X, E, E).\n\
+subst(var(Y), X, E, var(Y)) :- X # Y.\n\
+subst(app(M,N), X, E, app(M2,N2)) :- subst(M,X,E,M2), subst(N,X,E,N2).\n\
+subst(lam(y\\M), X, E, lam(y\\M2)) :- y # X, y # E, subst(M,X,E,M2).\n\
+?- subst(lam(b\\app(var(a),var(b))), a, var(b), R).\n";
 
-// A text, the read and the write that fail, the most bytes of a write, the status and what is written. The third read and
-// the nineteenth write aren't made, and a write fault stands in place of a read fault.
-const FAILING: [(&[u8], u64, u64, usize, u8, &[u8]); 8] = [
+/// What is written for it, in 23 writes of three bytes.
+const RENAMED_REPORT: &[u8] =
+    b"R = lam(n1\\app(var(b),var(n1)))\n% query 1: 1 answers, 0 cut, 0 stuck\n";
+
+// A text, the read and the write that fail, the most bytes of a write, the status and what is written. Each text is read by
+// two reads: the third, and the write after the last, aren't made. A write fault stands in place of a read fault.
+const FAILING: [(&[u8], u64, u64, usize, u8, &[u8]); 12] = [
     (TEXT, 1, 0, 3, 5, b"% read fault\n"),
     (TEXT, 2, 0, 3, 5, b"% read fault\n"),
     (TEXT, 3, 0, 3, 0, REPORT),
     (TEXT, 0, 19, 3, 0, REPORT),
     (TEXT, 0, 2, 10, 6, b"X = z\nX = "),
     (TEXT, 1, 1, 10, 6, b""),
-    (NAMED, 0, 2, 10, 6, b"R = l(x\\v("),
-    (NAMED, 1, 0, 10, 5, b"% read fault\n"),
+    (RENAMED, 1, 0, 10, 5, b"% read fault\n"),
+    (RENAMED, 2, 0, 10, 5, b"% read fault\n"),
+    (RENAMED, 3, 0, 10, 0, RENAMED_REPORT),
+    (RENAMED, 0, 24, 3, 0, RENAMED_REPORT),
+    (RENAMED, 0, 2, 10, 6, b"R = lam(n1"),
+    (RENAMED, 1, 1, 10, 6, b""),
 ];
 
 #[test]
@@ -118,22 +136,22 @@ fn stops_after<R: Threads + Wait + Sync>(
     alloc: Global,
     written: usize,
 ) -> Result<bool, Memory>
-    requires { written ≤ 18 }
+    requires { written ≤ 23 }
 {
     let fails = Fails {
         read: 0,
         write: written as u64 + 1,
         most: 3,
     };
-    let words = words_of(alloc, "run --depth 1")?;
-    let (status, sink) = call(rt, alloc, &words, TEXT, fails, &NoGate)?;
+    let words = words_of(alloc, "run --depth 5")?;
+    let (status, sink) = call(rt, alloc, &words, RENAMED, fails, &NoGate)?;
     let bytes = sink.bytes();
-    Ok(status == 6 && bytes.len() == 3 * written && REPORT.starts_with(bytes))
+    Ok(status == 6 && bytes.len() == 3 * written && RENAMED_REPORT.starts_with(bytes))
 }
 
 #[test]
 fn each_write_fails_in_turn(rt: HostRuntime) {
-    for written in 0..18usize {
+    for written in 0..23usize {
         let stops = stops_after(&rt, rt.alloc(), written);
         assert!(rt; matches!(stops, Ok(true)), "after {written}");
     }

@@ -11,6 +11,7 @@ use ap_bundle_prove::prove_text;
 use ap_defs::limits::{Depth, Workers};
 use ap_defs::memory::Memory;
 use ap_io::{Gate, Source};
+use ap_paths::Limit;
 use ap_report::{Report, Status};
 use std::alloc::Global;
 use std::sync::Wait;
@@ -23,14 +24,15 @@ pub(crate) fn report<R: Threads + Wait + Sync, S: Source, G: Gate>(
     gate: &G,
     depth: Depth,
     workers: Workers,
+    limit: Limit,
     source: &mut S,
 ) -> Result<Report, Memory>
     ensures { IfOk result (λ r. (input : Input)
         × IsRead (S.left source.old) (S.faults source.old) (S.faults source.new) input
-        × IsOnly (IsReportOn (IsProveReport depth) input) r) }
+        × IsOnly (IsReportOn (IsProveReport depth limit) input) r) }
 {
     match read_whole(alloc, source) {
-        Ok(text) => prove_text(rt, alloc, gate, depth, workers, &text),
+        Ok(text) => prove_text(rt, alloc, gate, depth, workers, limit, &text),
         Err(ReadError::Failed) => line(alloc, "% read fault\n", Status::Read),
         Err(ReadError::TooLarge) => line(alloc, "% text too large\n", Status::TooLarge),
         Err(ReadError::Memory) => Err(Memory),

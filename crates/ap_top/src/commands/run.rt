@@ -10,6 +10,7 @@ use crate::reading::{ReadError, read_whole};
 use ap_defs::limits::{Depth, Workers};
 use ap_defs::memory::Memory;
 use ap_io::{Gate, Source};
+use ap_paths::Limit;
 use ap_report::{Report, Status, report_text};
 use std::alloc::Global;
 use std::sync::Wait;
@@ -22,14 +23,15 @@ pub(crate) fn report<R: Threads + Wait + Sync, S: Source, G: Gate>(
     gate: &G,
     depth: Depth,
     workers: Workers,
+    limit: Limit,
     source: &mut S,
 ) -> Result<Report, Memory>
     ensures { IfOk result (λ r. (input : Input)
         × IsRead (S.left source.old) (S.faults source.old) (S.faults source.new) input
-        × IsOnly (IsReportOn (IsTextReport (run_report depth)) input) r) }
+        × IsOnly (IsReportOn (IsTextReport (run_report depth limit)) input) r) }
 {
     match read_whole(alloc, source) {
-        Ok(text) => report_text(rt, alloc, gate, depth, workers, &text),
+        Ok(text) => report_text(rt, alloc, gate, depth, workers, limit, &text),
         Err(ReadError::Failed) => line(alloc, "% read fault\n", Status::Read),
         Err(ReadError::TooLarge) => line(alloc, "% text too large\n", Status::TooLarge),
         Err(ReadError::Memory) => Err(Memory),

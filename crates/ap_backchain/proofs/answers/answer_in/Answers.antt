@@ -18,7 +18,7 @@ returns c =
     (c.of-2.ensures ∙ c.in_ok-conds.ensures)
     (ap (map typed_var_of) c.of-3.ensures ∙ c.in_ok-vars-2.ensures
     ∙ ap (typed_vars (kinds c.args.store.now))
-    (c.deref-4.ensures.value ∙ c.in_ok-vars.ensures
-    ∙ ap (λ bs. vars_besides (map term_of bs) c.conditions.result.now c.deref-3.result.now) (c.deref-2.ensures.value ∙ sym c.of.ensures)
-    ∙ ap (λ cs. vars_besides (map term_of c.of.result) cs c.deref-3.result.now) c.conditions.ensures
-    ∙ ap (λ os. vars_besides (map term_of c.of.result) s.conditions os) c.deref-3.ensures.value))
+    (c.deref-5.ensures.value ∙ c.in_ok-vars.ensures
+    ∙ ap (λ bs. vars_besides (map term_of bs) c.deref-3.result.now c.deref-4.result.now) (c.deref-2.ensures.value ∙ sym c.of.ensures)
+    ∙ ap (λ cs. vars_besides (map term_of c.of.result) cs c.deref-4.result.now) (c.deref-3.ensures.value ∙ c.in_ok-conds.ensures)
+    ∙ ap (λ os. vars_besides (map term_of c.of.result) s.conditions os) c.deref-4.ensures.value))

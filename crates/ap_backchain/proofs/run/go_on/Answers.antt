@@ -1,17 +1,44 @@
-use Rattle.std.proofs.Common.{◌≡◌, List, subst}
+use Rattle.std.proofs.Common.{◌≡◌, ℕ, List, length, drop, map, arith, ap, ap₂, ◌∙◌, subst}
 use Rattle.std.specs.Prelude.{IfOk}
-use Rattle.ap_backchain.specs.Positions.{Position}
-use Rattle.ap_backchain.specs.Searches.{positions_with}
+use Rattle.ap_defs.specs.Answers.{outs_of}
+use Rattle.ap_defs.specs.Goals.{clause_of}
+use Rattle.ap_defs.specs.Types.{locals_of}
+use Rattle.ap_defs.specs.declared.paths.Out.{Out}
+use Rattle.ap_backchain.specs.Places.{position_of}
+use Rattle.ap_backchain.specs.Positions.{Position, turned}
+use Rattle.ap_backchain.specs.Searches.{ended, positions_with}
+use Rattle.ap_backchain.specs.Wanted.{wanted_after}
 use Rattle.ap_backchain.proofs.RunLemmas.{on_ok}
+use Rattle.ap_backchain.proofs.WantedLemmas.{rest_taken, wanted_since}
 use Rattle.ap_backchain.proofs.run.go_on.Goals as goal
 
-pub returns-then-branch-clause-left : goal.returns-then-branch-clause-left
-returns-then-branch-clause-left c = rw c.if-branch.true at c.in_ok-turn_on.ensures.left
+pub returns-then-goes-clause-left : goal.returns-then-goes-clause-left
+returns-then-goes-clause-left c = rw c.if-goes.true at c.in_ok-goes.ensures.left
 
-pub returns-else-branch-clause-left : goal.returns-else-branch-clause-left
-returns-else-branch-clause-left c =
-    let left = rw c.if-branch.false at c.in_ok-turn_on.ensures.left in
+pub returns-else-goes-clause-left : goal.returns-else-goes-clause-left
+returns-else-goes-clause-left c =
+    let left = rw c.if-goes.false at c.in_ok-goes.ensures.left in
     subst (λ (ps : List Position). IfOk c.resume.result (λ b. positions_with b c.resume.new.place c.resume.new.points ≡ ps)) left c.resume.ensures.left
 
-pub returns-else-branch-clause-outs : goal.returns-else-branch-clause-outs
-returns-else-branch-clause-outs c = on_ok c.resume.result c.in_ok-turn_on.ensures.outs
+pub returns-else-goes-clause-outs : goal.returns-else-goes-clause-outs
+returns-else-goes-clause-outs c = on_ok c.resume.result c.in_ok-goes.ensures.outs
+
+-- the outputs that the turn added
+pub returns-then-goes-clause-wanted : goal.returns-then-goes-clause-wanted
+returns-then-goes-clause-wanted c =
+    let before : c.len-before.result ≡ length c.args.outs.now.items = omega (arith, c.len-before.ensures) in
+    c.wanted_after.ensures
+    ∙ ap (λ (xs : List Out). wanted_after c.args.wanted.now (outs_of xs)) (rest_taken c.len-before.result c.deref.result.now)
+    ∙ ap₂ (λ (n : ℕ) (xs : List Out). wanted_after c.args.wanted.now (outs_of (drop n xs))) before c.deref.ensures.value
+    ∙ wanted_since c.args.wanted.now c.args.paths c.args.outs.now.items c.turn_on.new.outs.items
+    (ended (turned (map (map clause_of) c.args.clauses.now) (locals_of c.args.locals.now) (position_of c.args.place.now))) c.in_ok-goes.ensures.outs
+
+pub returns-else-goes-clause-wanted : goal.returns-else-goes-clause-wanted
+returns-else-goes-clause-wanted c =
+    let before : c.len-before.result ≡ length c.args.outs.now.items = omega (arith, c.len-before.ensures) in
+    on_ok c.resume.result
+    (c.wanted_after.ensures
+    ∙ ap (λ (xs : List Out). wanted_after c.args.wanted.now (outs_of xs)) (rest_taken c.len-before.result c.deref.result.now)
+    ∙ ap₂ (λ (n : ℕ) (xs : List Out). wanted_after c.args.wanted.now (outs_of (drop n xs))) before c.deref.ensures.value
+    ∙ wanted_since c.args.wanted.now c.args.paths c.args.outs.now.items c.turn_on.new.outs.items
+    (ended (turned (map (map clause_of) c.args.clauses.now) (locals_of c.args.locals.now) (position_of c.args.place.now))) c.in_ok-goes.ensures.outs)

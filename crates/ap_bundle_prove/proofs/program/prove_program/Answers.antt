@@ -1,7 +1,7 @@
 use Rattle.std.proofs.Common.{◌≡◌, ◌+◌, ◌++◌, map, rules, subst}
 use Rattle.ap_defs.specs.Goals.{program_of}
 use Rattle.ap_bundle.specs.Bundles.{proved_of}
-use Rattle.ap_verdicts.specs.Proofs.{query_proofs}
+use Rattle.ap_verdicts.specs.Proofs.{query_proofs, wanted_proofs}
 use Rattle.ap_bundle_prove.proofs.ProgramLemmas.{one_more}
 use Rattle.ap_bundle_prove.proofs.program.prove_program.Goals as goal
 
@@ -11,6 +11,6 @@ loop-place-preserved g c =
     let place = c.loop-place.place in
     let old = map proved_of c.loop-place.all.items in
     let new = map proved_of c.prove_query.new.all.items in
-    one_more p c.args.depth place old new (search rules)
-    (λ q found. subst (λ d. new ≡ old ++ query_proofs p.clauses d (place + 1) q) c.get.ensures.number (c.in_ok-prove_query.ensures q found))
+    one_more p c.args.depth c.args.limit place old new (search rules)
+    (λ q found. subst (λ d. new ≡ old ++ wanted_proofs c.args.limit (query_proofs p.clauses d (place + 1) q)) c.get.ensures.number (c.in_ok-prove_query.ensures q found))
     c.loop-place.invariant

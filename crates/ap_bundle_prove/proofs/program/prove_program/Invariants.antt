@@ -2,10 +2,10 @@
 use Rattle.std.proofs.Common.{◌≡◌, ◌+◌, ◌++◌, drop, map}
 use Rattle.ap_defs.specs.Goals.{program_of}
 use Rattle.ap_bundle.specs.Bundles.{proved_of}
-use Rattle.ap_verdicts.specs.Proofs.{program_proofs, proofs_from}
+use Rattle.ap_verdicts.specs.Proofs.{limited_proofs, limited_proofs_from}
 use Rattle.ap_bundle_prove.proofs.program.prove_program.Given as goal
 
 abbrev pub invariant-loop-place : goal.invariant-loop-place
 invariant-loop-place g l =
-    map proved_of l.all.items ++ proofs_from (program_of l.program).clauses l.depth (1 + l.place) (drop l.place (program_of l.program).queries)
-    ≡ program_proofs l.depth (program_of l.program)
+    map proved_of l.all.items ++ limited_proofs_from (program_of l.program).clauses l.depth l.limit (1 + l.place) (drop l.place (program_of l.program).queries)
+    ≡ limited_proofs l.depth l.limit (program_of l.program)

@@ -9,7 +9,7 @@ use Rattle.ap_bundle_prove.proofs.query.prove_query.Goals as goal
 
 pub prove_outs-requires-clause-led : goal.prove_outs-requires-clause-led
 prove_outs-requires-clause-led g c = λ q asked.
-    subst (λ (os : _). AllByRecursion (IsLed (clauses_in c.args.p.now) c.args.p.now.depth q) os) (sym (c.in_ok-outs.ensures q asked)) (outs_led (clauses_in c.args.p.now) c.args.p.now.depth q)
+    subst (λ (os : _). AllByRecursion (IsLed (clauses_in c.args.p.now) c.args.p.now.depth q) os) (sym (c.in_ok-outs.ensures q asked)) (outs_led (clauses_in c.args.p.now) c.args.p.now.depth q c.args.limit)
 
 -- what is known of a success, by what more is known of it
 weaker : {A E : Type 0} (P Q : Type 0) (r : Result A E) → (P → Q) → OnOk r P → OnOk r Q
@@ -24,5 +24,5 @@ returns g c =
     weaker _ _ c.prove_outs.result
     (λ h q asked.
     h q asked ∙ ap (λ os. old ++ flat_map (proof_at (clauses_in p) p.depth p.query q) os) (c.in_ok-outs.ensures q asked)
-    ∙ ap (λ xs. old ++ xs) (outs_proofs (clauses_in p) p.depth q p.query))
+    ∙ ap (λ xs. old ++ xs) (outs_proofs (clauses_in p) p.depth q p.query c.args.limit))
     c.prove_outs.ensures

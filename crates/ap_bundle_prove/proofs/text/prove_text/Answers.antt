@@ -1,34 +1,5 @@
-use Rattle.std.proofs.Common.{subst}
-use Rattle.std.proofs.lemmas.Result.{IfOk-weaker}
-use Rattle.ap_defs.specs.Goals.{program_of}
-use Rattle.ap_text.specs.Texts.{IsRefusedText}
-use Rattle.ap_report.proofs.Texts.{answered_report, refused_report, report_one}
-use Rattle.ap_bundle_prove.specs.Reports.{prove_report}
 use Rattle.ap_bundle_prove.proofs.SoundProofs.{sound_proofs}
 use Rattle.ap_bundle_prove.proofs.text.prove_text.Goals as goal
 
-pub returns-in-Ok-clause-only : goal.returns-in-Ok-clause-only
-returns-in-Ok-clause-only g c =
-    let text = c.args.text.now in
-    let answer = prove_report c.args.depth text in
-    IfOk-weaker c.report_proofs.result _ _
-    (λ r is s h. report_one answer text r s (answered_report answer text (program_of c.in-Ok.program) r c.in-Ok.ensures.program is) h)
-    c.report_proofs.ensures
-
-pub returns-in-Err-Fault-clause-only : goal.returns-in-Err-Fault-clause-only
-returns-in-Err-Fault-clause-only g c =
-    let text = c.args.text.now in
-    let answer = prove_report c.args.depth text in
-    let first = subst (λ e. IsRefusedText e text) c.in-Err-Fault.field-0-is c.in-Err-Fault.ensures.fault in
-    IfOk-weaker c.fault_report.result _ _
-    (λ r is s h. report_one answer text r s (refused_report answer text c.in-Err-Fault.fault r first is) h)
-    (rw c.in-Err-Fault.fault-is at c.fault_report.ensures)
-
-pub returns-in-Ok-clause-sound : goal.returns-in-Ok-clause-sound
-returns-in-Ok-clause-sound g c = sound_proofs c.args.depth c.args.text.now
-
-pub returns-in-Err-Fault-clause-sound : goal.returns-in-Err-Fault-clause-sound
-returns-in-Err-Fault-clause-sound g c = sound_proofs c.args.depth c.args.text.now
-
-pub returns-in-Err-Memory-clause-sound : goal.returns-in-Err-Memory-clause-sound
-returns-in-Err-Memory-clause-sound g c = sound_proofs c.args.depth c.args.text.now
+pub returns-clause-sound : goal.returns-clause-sound
+returns-clause-sound g c = sound_proofs c.args.depth c.args.limit c.args.text.now

@@ -1,4 +1,4 @@
-use Rattle.std.proofs.Common.{refl, arith}
+use Rattle.std.proofs.Common.{arith}
 use Rattle.ap_count.proofs.TableLemmas.{more_at, more_past}
 use Rattle.ap_count.proofs.tables.add_to_row.Goals as goal
 

@@ -1,5 +1,5 @@
-use Rattle.std.proofs.Common.{◌≡◌, ◌++◌, length, map}
-use Rattle.ap_count.specs.Tables.{added_row, added_rows, table_of}
+use Rattle.std.proofs.Common.{◌≡◌, ◌++◌, length}
+use Rattle.ap_count.specs.Tables.{added_row}
 use Rattle.ap_count.proofs.tables.sum_of_rows.Given as goal
 
 -- the sums of what is left come behind those that are there

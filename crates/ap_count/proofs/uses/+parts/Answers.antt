@@ -1,4 +1,4 @@
-use Rattle.std.proofs.Common.{sym, ap, ap₂, map, ◌≡◌, ◌∙◌, ◌++◌}
+use Rattle.std.proofs.Common.{ap, ap₂, map, ◌≡◌, ◌∙◌, ◌++◌}
 use Rattle.std.specs.Global.{Global}
 use Rattle.std.specs.Prelude.{ℕ, Vec}
 use Rattle.std.proofs.lemmas.List.{take-append-drop}

@@ -4,15 +4,13 @@ use Rattle.ap_defs.specs.Terms.{susp}
 use Rattle.ap_defs.specs.declared.terms.Cond.{Cond}
 use Rattle.ap_perm.specs.Closures.{closure_term}
 use Rattle.ap_fresh.specs.Reduction.{added}
-use Rattle.ap_fresh.proofs.StepLemmas.{on_ok, unbound_problem, var_problem}
+use Rattle.ap_fresh.proofs.StepLemmas.{unbound_problem, var_problem}
 use Rattle.ap_fresh.proofs.reduction.add_reduced_var.Goals as goal
 
-pub returns-in-None-clause-added : goal.returns-in-None-clause-added
-returns-in-None-clause-added g c =
-    on_ok c.add.result
-    (λ h. ap (λ o. added o c.args.conds.now.items) (unbound_problem (g.L.Look.bound c.args.look.now) (g.L.Look.rank c.args.look.now) (g.met.L.Look.ranked c.args.look.now) c.args.a [] c.args.x (susp [] c.args.x) refl c.in-None.ensures)
-    ∙ ap Some (sym h))
-    c.add.ensures.added
+pub returns-in_ok-push-in-None-clause-added : goal.returns-in_ok-push-in-None-clause-added
+returns-in_ok-push-in-None-clause-added g c =
+    ap (λ o. added o c.args.conds.now.items) (unbound_problem (g.L.Look.bound c.args.look.now) (g.L.Look.rank c.args.look.now) (g.met.L.Look.ranked c.args.look.now) c.args.a [] c.args.x (susp [] c.args.x) refl c.in-None.ensures)
+    ∙ ap Some (sym c.in_ok-push-in-None.ensures.items)
 
 pub returns-in-Some-clause-added : goal.returns-in-Some-clause-added
 returns-in-Some-clause-added g c =

@@ -1,8 +1,9 @@
 use Rattle.std.proofs.Common.{rules, map, ◌≡◌, true, false, Some, ◌+◌, sym, ap, ap₂, ◌∙◌, [], ◌∷◌, ◌++◌, append_assoc, append-nil, arith, refl}
-use Rattle.ap_defs.specs.Freshness.{add_cond, both}
+use Rattle.ap_defs.specs.Freshness.{both}
 use Rattle.ap_defs.specs.Permutations.{act_name, inverse, name_eq}
 use Rattle.ap_defs.specs.Renaming.{rename_name, rename_swap, rename_term, rename_var}
 use Rattle.ap_defs.specs.Terms.{abs, app, pair, susp, term_of}
+use Rattle.ap_defs.specs.declared.terms.Cond.{Cond}
 use Rattle.ap_fresh.specs.Reduction.{added, pending_term}
 use Rattle.ap_fresh.proofs.PendingLemmas.{added_none, fewer, fewer_part, kept, last_refuted, one_added, problem_of, two_added, all_left}
 use Rattle.ap_fresh.proofs.StepLemmas.{abs_added, abs_problem, app_problem, bound_problem, name_added, name_refuted, pair_problem, problem, unbound_problem, unit_added}
@@ -127,8 +128,8 @@ collecting-preserved-in-Continue-branch-6 g c =
     let e : c.preimage_from-name.result ≡ act_name (inverse q) c.in-Some.p.name =
     c.preimage_from-name.ensures ∙ ap (λ r. act_name (inverse (map (rename_swap c.in-Some.p.base) r)) c.in-Some.p.name) c.items.ensures in
     let ds = c.collecting.conds.items in
-    kept (g.L.Look.bound c.args.look.now) (g.L.Look.rank c.args.look.now) (g.met.L.Look.ranked c.args.look.now) c.pop.new.self.items [] c.pop.new.self.items c.collecting.left.items c.in-Some.p c.in-Some.ensures.items (sym (append-nil c.pop.new.self.items)) ds c.add.new.conds.items _
-    (ap Some (c.in_ok-add-in-None.ensures.added ∙ ap (λ b. add_cond (record { name = b; var = x }) ds) e)
+    kept (g.L.Look.bound c.args.look.now) (g.L.Look.rank c.args.look.now) (g.met.L.Look.ranked c.args.look.now) c.pop.new.self.items [] c.pop.new.self.items c.collecting.left.items c.in-Some.p c.in-Some.ensures.items (sym (append-nil c.pop.new.self.items)) ds c.push-in-None.new.self.items _
+    (ap Some (c.in_ok-push-in-None.ensures.items ∙ ap (λ b. let n : Cond = record { name = b; var = x } in ds ++ n ∷ []) e)
     ∙ sym (ap (λ o. added o ds) (unbound_problem (g.L.Look.bound c.args.look.now) (g.L.Look.rank c.args.look.now) (g.met.L.Look.ranked c.args.look.now) c.in-Some.p.name q x (pending_term c.in-Some.p) (ap (λ z. rename_term c.in-Some.p.base (term_of z)) c.in-Susp.is) c.in-None.ensures)))
     c.collecting.invariant
 

@@ -9,7 +9,7 @@ loop-place-preserved g c =
     let program = program_of c.args.program.now in
     let place = c.loop-place.place in
     let report = c.in_ok-report.report.items in
-    let made : report ≡ query_report program c.args.depth (place + 1 - 1) =
-    subst (λ d. report ≡ query_report program d (place + 1 - 1)) c.get.ensures.number c.in_ok-report.ensures in
-    one_more program c.args.depth place c.loop-place.bytes.items c.deref.result.now c.extend_from_slice.new.self.items
+    let made : report ≡ query_report program c.args.depth c.args.limit (place + 1 - 1) =
+    subst (λ d. report ≡ query_report program d c.args.limit (place + 1 - 1)) c.get.ensures.number c.in_ok-report.ensures in
+    one_more program c.args.depth c.args.limit place c.loop-place.bytes.items c.deref.result.now c.extend_from_slice.new.self.items
     (search rules) c.in_ok-extend_from_slice.ensures.items (rw c.deref.ensures.value made) c.loop-place.invariant

@@ -8,7 +8,7 @@ use Rattle.ap_report.proofs.run.report_text.Goals as goal
 
 pub returns-in-Ok-clause-only : goal.returns-in-Ok-clause-only
 returns-in-Ok-clause-only g c =
-    let answer = run_report c.args.depth in
+    let answer = run_report c.args.depth c.args.limit in
     let text = c.args.text.now in
     IfOk-weaker c.report_restricted.result _ _
     (λ r is s h. report_one answer text r s (answered_report answer text (program_of c.in-Ok.program) r c.in-Ok.ensures.program is) h)
@@ -16,7 +16,7 @@ returns-in-Ok-clause-only g c =
 
 pub returns-in-Err-Fault-clause-only : goal.returns-in-Err-Fault-clause-only
 returns-in-Err-Fault-clause-only g c =
-    let answer = run_report c.args.depth in
+    let answer = run_report c.args.depth c.args.limit in
     let text = c.args.text.now in
     let first = subst (λ e. IsRefusedText e text) c.in-Err-Fault.field-0-is c.in-Err-Fault.ensures.fault in
     IfOk-weaker c.fault_report.result _ _

@@ -23,8 +23,14 @@ returns-in-Bound c =
     let m : c.args.place ≤ length c.args.trail.now = omega arith in
     term_at_index c.args.trail.now c.args.place c.index-trail-place.result _ l m c.index-trail-place.is c.in-Bound.is
 
-pub returns-in-Replaced : goal.returns-in-Replaced
-returns-in-Replaced c =
+pub returns-in-Added : goal.returns-in-Added
+returns-in-Added c =
     let l : 0 < c.args.place = omega arith in
     let m : c.args.place ≤ length c.args.trail.now = omega arith in
-    term_at_index c.args.trail.now c.args.place c.index-trail-place.result _ l m c.index-trail-place.is c.in-Replaced.is
+    term_at_index c.args.trail.now c.args.place c.index-trail-place.result _ l m c.index-trail-place.is c.in-Added.is
+
+pub returns-in-Taken : goal.returns-in-Taken
+returns-in-Taken c =
+    let l : 0 < c.args.place = omega arith in
+    let m : c.args.place ≤ length c.args.trail.now = omega arith in
+    term_at_index c.args.trail.now c.args.place c.index-trail-place.result _ l m c.index-trail-place.is c.in-Taken.is

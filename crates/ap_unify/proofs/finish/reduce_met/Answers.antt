@@ -1,4 +1,4 @@
-use Rattle.std.proofs.Common.{map, sym, ap, ◌∙◌}
+use Rattle.std.proofs.Common.{map, Some, sym, ap, ◌∙◌}
 use Rattle.ap_defs.specs.Unification.{problem_of, reduce_all}
 use Rattle.ap_fresh.specs.Reduction.{added}
 use Rattle.ap_store.specs.Views.{present}
@@ -30,3 +30,4 @@ returns c =
     ∙ c.in_ok-reduce_each.ensures ∙ ap (λ v. some_if v c.reduce_each.new.conds.items) c.if-not-branch.false)
     (ap (λ cs. added (reduce_all s (map problem_of cs)) c.reduce_each.new.conds.items) (sym c.deref-2.ensures.value)
     ∙ c.in_ok-reduce_taken.ensures ∙ ap (λ v. some_if v c.reduce_taken.new.conds.items) c.if-not-branch-2.false)
+    ∙ ap Some (sym c.make_set.ensures)

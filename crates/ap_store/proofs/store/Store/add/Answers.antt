@@ -1,13 +1,11 @@
-use Rattle.std.proofs.Common.{refl}
-use Rattle.ap_store.proofs.StoreLemmas.{added_ascending, added_unbound}
+use Rattle.ap_store.proofs.StoreLemmas.{gone_back}
 use Rattle.ap_store.proofs.store.Store.add.Goals as goal
 
-pub replace_conditions-requires-clause-unbound : goal.replace_conditions-requires-clause-unbound
-replace_conditions-requires-clause-unbound c =
-    let s = c.args.self.now in
-    added_unbound s.trail.items s.trail.items s.stored.0 refl c.args.conds.now c.in_ok-all.all.items c.conditions-held.result.now c.in_ok-all.ensures c.conditions-held.ensures c.requires
+pub returns-in-Err-clause-unchanged : goal.returns-in-Err-clause-unchanged
+returns-in-Err-clause-unchanged c =
+    gone_back c.args.self.now c.add_each.new.self c.undo_to.new.self c.mark-start.result.place c.add_each.ensures.past c.add_each.ensures.kinds c.mark-start.ensures c.undo_to.ensures.versions c.undo_to.ensures.kinds
 
-pub replace_conditions-requires-clause-ascending : goal.replace_conditions-requires-clause-ascending
-replace_conditions-requires-clause-ascending c =
-    let s = c.args.self.now in
-    added_ascending s.trail.items s.trail.items s.stored.0 refl c.args.conds.now c.in_ok-all.all.items c.conditions-held.result.now c.in_ok-all.ensures c.conditions-held.ensures
+pub returns-in-Err-clause-kinds : goal.returns-in-Err-clause-kinds
+returns-in-Err-clause-kinds c =
+    (gone_back c.args.self.now c.add_each.new.self c.undo_to.new.self c.mark-start.result.place c.add_each.ensures.past c.add_each.ensures.kinds c.mark-start.ensures c.undo_to.ensures.versions
+    c.undo_to.ensures.kinds).1

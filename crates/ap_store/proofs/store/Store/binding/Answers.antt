@@ -15,11 +15,11 @@ returns-then-x-len c =
     let l : x.num < length s.table.items = omega (arith, c.len.ensures) in
     let e : place_in s.table.items x.num ≡ c.index.result.now.place = place_in_get s.table.items x.num c.index.result.now l ∙ ap (λ (t : Slot). t.place) (sym c.index.ensures) in
     option_found (λ b. closure_term b.now) c.closure_at.result (term_at c.deref.result.now c.index.result.now.place) (raw_bound s x) c.closure_at.ensures
-    (term_found s.table.items s.trail.items s.latest s.reach s.stored x ∙ ap (term_at s.trail.items) e ∙ ap (λ (cs : List Change). term_at cs c.index.result.now.place) (sym c.deref.ensures.value))
+    (term_found s.table.items s.trail.items s.reach s.stored x ∙ ap (term_at s.trail.items) e ∙ ap (λ (cs : List Change). term_at cs c.index.result.now.place) (sym c.deref.ensures.value))
 
 pub returns-else-x-len : goal.returns-else-x-len
 returns-else-x-len c =
     let s = c.args.self.now in
     let x = c.args.x in
     let l : length s.table.items ≤ x.num = omega (arith, c.len.ensures) in
-    term_found s.table.items s.trail.items s.latest s.reach s.stored x ∙ ap (term_at s.trail.items) (place_in_beyond s.table.items x.num l) ∙ term_at_outside s.trail.items 0 (inl refl)
+    term_found s.table.items s.trail.items s.reach s.stored x ∙ ap (term_at s.trail.items) (place_in_beyond s.table.items x.num l) ∙ term_at_outside s.trail.items 0 (inl refl)

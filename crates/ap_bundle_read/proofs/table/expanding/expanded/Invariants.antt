@@ -1,0 +1,16 @@
+-- The tasks that are left make the term of the line, on what was made.
+use Rattle.std.proofs.Common.{◌≡◌, [], ◌∷◌, length, Some}
+use Rattle.std.specs.Prelude.{reverse}
+use Rattle.ap_defs.specs.Terms.{term_of}
+use Rattle.ap_bundle_read.specs.Stacks.{stacked}
+use Rattle.ap_bundle_read.specs.Tables.{terms_in, at, made_by, AreWithin, weigh}
+use Rattle.ap_bundle_read.proofs.table.expanding.expanded.Given as goal
+
+abbrev pub invariant-loop-task : goal.invariant-loop-task
+invariant-loop-task l = record {
+  made : made_by (terms_in l.table) (reverse l.tasks.items) (stacked term_of l.made.items) ≡ Some (at (terms_in l.table) l.line ∷ []);
+  within : AreWithin (length (terms_in l.table)) (reverse l.tasks.items);
+}
+
+abbrev pub decreases-loop-task : goal.decreases-loop-task
+decreases-loop-task l = weigh (terms_in l.table) (reverse l.tasks.items)

@@ -1,0 +1,174 @@
+// The term of a line of the table, made in full without recursion.
+ghost use Rattle.std.specs.Prelude.{◌≡◌, ◌<◌, ◌++◌, ◌∷◌, length, reverse, IfOk, OnOk};
+ghost use Rattle.std.specs.Option.{option_map};
+ghost use Rattle.ap_defs.specs.Terms.{term_of};
+ghost use Rattle.ap_bundle_read.specs.Stacks.{stacked};
+ghost use Rattle.ap_bundle_read.specs.Tables.{AreWithin, IsTable, at, begun, closed, made_by, ready, terms_in, weigh};
+ghost use Rattle.ap_bundle_read.specs.declared.table.expanding.Task.TheVariants as tasks_of;
+
+use crate::table::{Entry, Table};
+use crate::terms::first_term;
+use ap_defs::lists::List;
+use ap_defs::memory::Memory;
+use ap_defs::terms::{Name, Term};
+use std::alloc::Global;
+
+/// What stands round one term or two.
+#[derive(Clone, Copy)]
+enum Layer {
+    Pair,
+    App(u32),
+    Abs(Name),
+}
+
+/// A step of the making of a term: the term of a line, or a layer round the last that were made.
+#[derive(Clone, Copy)]
+enum Task {
+    Line(usize),
+    Close(Layer),
+}
+
+/// Puts what is to be done for the term of an entry before what is left.
+fn push_tasks(entry: &Entry, tasks: &mut Vec<Task>) -> Result<(), Memory>
+    ensures { OnOk result (reverse tasks.new.items ≡ begun entry.now ++ reverse tasks.old.items) }
+{
+    match entry {
+        Entry::Unit | Entry::Name(_) | Entry::Susp(_, _) => {}
+        Entry::Pair(left, right) => {
+            tasks.push(Task::Close(Layer::Pair))?;
+            tasks.push(Task::Line(*right))?;
+            tasks.push(Task::Line(*left))?;
+        }
+        Entry::App(constructor, part) => {
+            tasks.push(Task::Close(Layer::App(*constructor)))?;
+            tasks.push(Task::Line(*part))?;
+        }
+        Entry::Abs(name, part) => {
+            tasks.push(Task::Close(Layer::Abs(*name)))?;
+            tasks.push(Task::Line(*part))?;
+        }
+    }
+    Ok(())
+}
+
+/// Makes the term of an entry that has no parts.
+fn push_ready(alloc: Global, entry: &Entry, made: &mut Vec<Term>) -> Result<(), Memory>
+    ensures { OnOk result (stacked term_of made.new.items
+        ≡ ready entry.now ++ stacked term_of made.old.items) }
+{
+    match entry {
+        Entry::Unit => made.push(Term::Unit)?,
+        Entry::Name(name) => made.push(Term::Name(*name))?,
+        Entry::Susp(swaps, var) => {
+            let swaps = List::of(swaps.items().to_vec(alloc)?);
+            made.push(Term::Susp(swaps, *var))?;
+        }
+        Entry::Pair(_, _) | Entry::App(_, _) | Entry::Abs(_, _) => {}
+    }
+    Ok(())
+}
+
+/// A pair of the last two terms.
+fn close_pair(alloc: Global, made: Vec<Term>) -> Result<Option<Vec<Term>>, Memory>
+    ensures { IfOk result (λ r. option_map (λ v. stacked term_of v.items) r
+        ≡ closed Layer.Pair (stacked term_of made.items)) }
+{
+    let mut made = made;
+    let Some(right) = first_term(&mut made) else {
+        return Ok(None);
+    };
+    let Some(left) = first_term(&mut made) else {
+        return Ok(None);
+    };
+    let left = Box::new(alloc, left)?;
+    let right = Box::new(alloc, right)?;
+    made.push(Term::Pair(left, right))?;
+    Ok(Some(made))
+}
+
+fn close_app(alloc: Global, constructor: u32, made: Vec<Term>) -> Result<Option<Vec<Term>>, Memory>
+    ensures { IfOk result (λ r. option_map (λ v. stacked term_of v.items) r
+        ≡ closed (Layer.App constructor) (stacked term_of made.items)) }
+{
+    let mut made = made;
+    let Some(part) = first_term(&mut made) else {
+        return Ok(None);
+    };
+    let part = Box::new(alloc, part)?;
+    made.push(Term::App(constructor, part))?;
+    Ok(Some(made))
+}
+
+fn close_abs(alloc: Global, name: Name, made: Vec<Term>) -> Result<Option<Vec<Term>>, Memory>
+    ensures { IfOk result (λ r. option_map (λ v. stacked term_of v.items) r
+        ≡ closed (Layer.Abs name) (stacked term_of made.items)) }
+{
+    let mut made = made;
+    let Some(part) = first_term(&mut made) else {
+        return Ok(None);
+    };
+    let part = Box::new(alloc, part)?;
+    made.push(Term::Abs(name, part))?;
+    Ok(Some(made))
+}
+
+/// A layer round the last terms that were made.
+fn close(alloc: Global, layer: Layer, made: Vec<Term>) -> Result<Option<Vec<Term>>, Memory>
+    ensures { IfOk result (λ r. option_map (λ v. stacked term_of v.items) r
+        ≡ closed layer (stacked term_of made.items)) }
+{
+    match layer {
+        Layer::Pair => close_pair(alloc, made),
+        Layer::App(constructor) => close_app(alloc, constructor, made),
+        Layer::Abs(name) => close_abs(alloc, name, made),
+    }
+}
+
+/// What is to be done for the term of a line: it is made, or its parts come first.
+fn begin(
+    alloc: Global,
+    table: &Table,
+    line: usize,
+    tasks: &mut Vec<Task>,
+    made: &mut Vec<Term>,
+) -> Result<(), Memory>
+    requires table { IsTable table.now }
+    requires line { line < length (terms_in table.now) }
+    requires within { AreWithin (length (terms_in table.now)) (reverse tasks.old.items) }
+    ensures within { OnOk result
+        (AreWithin (length (terms_in table.now)) (reverse tasks.new.items)) }
+    ensures made { OnOk result
+        (made_by (terms_in table.now) (reverse tasks.new.items) (stacked term_of made.new.items)
+        ≡ made_by (terms_in table.now) (tasks_of.Line line ∷ reverse tasks.old.items)
+        (stacked term_of made.old.items)) }
+    ensures lighter { OnOk result (weigh (terms_in table.now) (reverse tasks.new.items)
+        < weigh (terms_in table.now) (tasks_of.Line line ∷ reverse tasks.old.items)) }
+{
+    let entry = &table.lines[line].entry;
+    push_tasks(entry, tasks)?;
+    push_ready(alloc, entry, made)
+}
+
+/// The term of a line in full.
+pub(crate) fn expanded(alloc: Global, table: &Table, line: usize) -> Result<Term, Memory>
+    requires table { IsTable table.now }
+    requires within { line < length (terms_in table.now) }
+    ensures { IfOk result (λ t. term_of t ≡ at (terms_in table.now) line) }
+{
+    let mut made = Vec::new(alloc);
+    let mut tasks = Vec::new(alloc);
+    tasks.push(Task::Line(line))?;
+    while let Some(task) = tasks.pop() {
+        match task {
+            Task::Line(next) => begin(alloc, table, next, &mut tasks, &mut made)?,
+            Task::Close(layer) => match close(alloc, layer, made)? {
+                Some(more) => made = more,
+                None => unreachable!(),
+            },
+        }
+    }
+    let Some(term) = made.pop() else {
+        unreachable!();
+    };
+    Ok(term)
+}

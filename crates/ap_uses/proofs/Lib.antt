@@ -1,0 +1,6 @@
+mod Shared
+mod PathLemmas
+mod SumLemmas
+mod RowLemmas
+mod OrderLemmas
+mod DepthLemmas

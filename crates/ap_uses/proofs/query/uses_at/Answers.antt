@@ -1,0 +1,24 @@
+use denote.Param.Send.{sendable}
+use Rattle.std.proofs.Common.{◌-◌, map}
+use Rattle.std.proofs.lemmas.Result.{IfOk-weaker}
+use Rattle.std.specs.Prelude.{slice_get}
+use Rattle.ap_defs.specs.Goals.{query_of}
+use Rattle.ap_backchain.specs.Problems.{clauses_in, queries_in}
+use Rattle.ap_count.specs.Tables.{table_of}
+use Rattle.ap_count.specs.Uses.{program_in}
+use Rattle.ap_uses.specs.Paths.{derivation_at}
+use Rattle.ap_uses.proofs.PathLemmas.{table_there}
+use Rattle.ap_uses.proofs.Shared.{answers_sync}
+use Rattle.ap_uses.proofs.query.uses_at.Goals as goal
+
+pub uses-requires-sync-D : goal.uses-requires-sync-D
+uses-requires-sync-D g c κs within = search (sendable, answers_sync)
+
+pub returns : goal.returns
+returns g c =
+    let p = c.args.p.now in
+    IfOk-weaker c.uses.result _ _
+    (λ t is q asked.
+    table_there (table_of t) (program_in c.clauses_of_problem.result.now) (clauses_in p) (slice_get (queries_in p) (p.query - 1)) (query_of c.query_of_problem-query.result.now) q
+    (map (derivation_at p) c.args.paths.now) c.clauses_of_problem.ensures.clauses c.query_of_problem-query.ensures.query asked is)
+    c.uses.ensures

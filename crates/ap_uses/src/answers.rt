@@ -1,0 +1,27 @@
+//! The derivations of a query's answers, by the paths at which they were found.
+
+use ap_backchain::problem::Problem;
+use ap_count::uses::Derive;
+use ap_defs::memory::Memory;
+use ap_defs::outcomes::Derivation;
+use ap_defs::paths::Path;
+use ap_derive::derivations::derive_along;
+use std::alloc::Global;
+
+/// The answers of a problem, of which each is made again from its path.
+#[derive(Clone, Copy)]
+pub struct Answers<'a> {
+    pub problem: Problem<'a>,
+}
+
+impl<'a> Derive for Answers<'a> {
+    ghost use Rattle.ap_uses.specs.Paths.{LeadsToAnswer, derivation_at};
+
+    ghost leads = { λ a. LeadsToAnswer a.problem };
+
+    ghost at = { λ a. derivation_at a.problem };
+
+    fn derivation(&self, alloc: Global, path: &Path) -> Result<Derivation, Memory> {
+        derive_along(alloc, &self.problem, path.choices())
+    }
+}

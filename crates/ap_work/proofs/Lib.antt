@@ -1,0 +1,2 @@
+mod OutLemmas
+mod SumLemmas
