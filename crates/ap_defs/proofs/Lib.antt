@@ -1,2 +1,4 @@
 pub mod SpineLemmas
 mod WeightLemmas
+mod TermWeights
+mod TypeWeights

@@ -24,3 +24,4 @@ pub mod GroundProofs
 pub mod FaultKinds
 pub mod Limits
 pub mod Spines
+pub mod Weights

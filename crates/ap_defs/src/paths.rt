@@ -121,54 +121,10 @@ pub enum Node {
     Failed,
 }
 
-/// An entry of a book, with the number of the seat that made it.
-#[derive(Drop)]
-pub enum Entry {
-    Split {
-        seat: u32,
-        path: Path,
-        kids: List<u32>,
-    },
-    Done {
-        seat: u32,
-        path: Path,
-        outs: List<Out>,
-    },
-    Stop {
-        seat: u32,
-    },
-}
-
-/// A closed book: its history in order, and for each seat the positions of its own entries.
-#[derive(Drop)]
-pub struct Closed {
-    pub history: List<Entry>,
-    pub logs: List<List<u64>>,
-}
-
 /// How far a search is: so many paths are open, none is, or it was stopped.
 #[derive(Clone, Copy, PartialEq, Eq)]
 pub enum Progress {
     Left(u64),
     Finished,
     Stopped,
-}
-
-/// An atomic step of one worker, by the worker's number.
-#[derive(Drop)]
-pub enum Event {
-    Push(u32),
-    Pop(u32),
-    Steal(u32, u32),
-    Split(u32, List<u32>),
-    Done(u32),
-}
-
-/// The state of all workers between two events.
-#[derive(Drop)]
-pub struct Core {
-    pub pending: List<Path>,
-    pub hands: List<List<Path>>,
-    pub deques: List<List<Path>>,
-    pub done: List<(Path, List<Out>)>,
 }

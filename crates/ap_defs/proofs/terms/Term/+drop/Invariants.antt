@@ -1,7 +1,11 @@
--- What is left is no larger than what is dropped.
+-- What is left weighs no more than what is dropped.
 use Rattle.std.proofs.Common.{◌≤◌}
-use Rattle.ap_defs.specs.declared.terms.Term.TheViews.{size-Term}
+use Rattle.ap_defs.specs.Terms.{term_of}
+use Rattle.ap_defs.specs.Weights.{weight}
 use Rattle.ap_defs.proofs.terms.Term.+drop.Given as goal
 
 abbrev pub invariant-loop-self : goal.invariant-loop-self
-invariant-loop-self l = size-Term l.self ≤ size-Term l.fn.self
+invariant-loop-self l = weight (term_of l.self) ≤ weight (term_of l.fn.self)
+
+abbrev pub decreases-loop-self : goal.decreases-loop-self
+decreases-loop-self l = weight (term_of l.self)
