@@ -54,4 +54,12 @@ impl Restricted {
     {
         &self.program
     }
+
+    /// The program, to be changed, and that it is restricted as it stands. It takes no memory.
+    pub fn into_program(self) -> Program<Term>
+        ensures same { result ≡ self }
+        ensures restricted { IsRestricted (program_of self) }
+    {
+        self.program
+    }
 }
