@@ -3,3 +3,5 @@ pub mod PermLemmas
 pub mod LookupLemmas
 pub mod ClosureLemmas
 pub mod VisitLemmas
+pub mod ImageLemmas
+pub mod ExchangeLemmas

@@ -3,10 +3,11 @@
 //! The only error here is want of memory.
 
 ghost use Rattle.std.specs.Prelude.{◌≡◌, IfOk, OnOk};
-ghost use Rattle.ap_defs.specs.Canonical.{canonical, num_before, least as least_name, moved_names};
+ghost use Rattle.ap_defs.specs.Canonical.{canonical};
 ghost use Rattle.ap_defs.specs.Permutations.{swap_name, act_name, inverse, add_name, disagreement, name_eq, name_before};
-ghost use Rattle.ap_perm.specs.Names.{add_differing, least_exchanged};
+ghost use Rattle.ap_perm.specs.Names.{add_differing};
 
+use crate::images::{image_in, images_of, names_in, origins_of, swap_after};
 use ap_defs::memory::Memory;
 use ap_defs::terms::{Name, Swap};
 use std::alloc::Global;
@@ -66,13 +67,6 @@ fn is_before(a: &Name, b: &Name) -> bool
     a < b
 }
 
-/// Whether a name comes before another one, by number and then by sort.
-fn has_less_number(a: &Name, b: &Name) -> bool
-    ensures { result ≡ num_before a.now b.now }
-{
-    (a.num, a.sort) < (b.num, b.sort)
-}
-
 /// Whether two names are one.
 #[tactic(auto, unfolding(ap_defs::specs::Permutations::name_eq))]
 fn is_same(a: &Name, b: &Name) -> bool
@@ -125,53 +119,27 @@ pub fn differing(alloc: Global, p: &[Swap], q: &[Swap]) -> Result<Vec<Name>, Mem
     Ok(names)
 }
 
-/// The least of the names, by number and then by sort, of which `first` is one.
-fn least(first: Name, others: &[Name]) -> Name
-    ensures { result ≡ least_name first others.now }
-{
-    let mut least = first;
-    for b in others {
-        if has_less_number(b, &least) {
-            least = *b;
-        }
-    }
-    least
-}
-
-/// The swapping of the least name that is moved, by number and then by sort, with its image.
-fn first_exchange(alloc: Global, p: &[Swap]) -> Result<Option<Swap>, Memory>
-    ensures { IfOk result (λ swap. swap ≡ least_exchanged p.now (moved_names p.now)) }
-{
-    let moved = differing(alloc, p, &[])?;
-    match moved.as_slice() {
-        [] => Ok(None),
-        [first, others @ ..] => {
-            let a = least(*first, others);
-            Ok(Some(Swap {
-                sort: a.sort,
-                left: a.num,
-                right: image(p, a).num,
-            }))
-        }
-    }
-}
-
 /// The canonical list of a permutation: the least name that is moved is exchanged with its image,
 /// and then what is left is exchanged.
-#[tactic(auto, unfolding(ap_defs::specs::Canonical::canonical))]
+///
+/// Names are exchanged in ascending order, and those that come before are moved no more.
 pub fn canonical_list(alloc: Global, p: &[Swap]) -> Result<Vec<Swap>, Memory>
     ensures { IfOk result (λ swaps. swaps.items ≡ canonical p.now) }
 {
-    let at_most = differing(alloc, p, &[])?.len();
-    let mut left = p.to_vec(alloc)?;
+    let mut images = images_of(alloc, p)?;
+    let mut origins = origins_of(alloc, p)?;
+    let names = names_in(alloc, &images)?;
     let mut swaps = Vec::new(alloc);
-    for _ in 0..at_most {
-        match first_exchange(alloc, &left)? {
-            None => return Ok(swaps),
-            Some(swap) => {
-                swaps.push(swap)?;
-                left.insert(0, swap)?;
-            }
+    for a in &names {
+        let b = image_in(&images, *a);
+        if !is_same(&b, a) {
+            let swap = Swap {
+                sort: a.sort,
+                left: a.num,
+                right: b.num,
+            };
+            swap_after(&mut images, &mut origins, &swap)?;
+            swaps.push(swap)?;
         }
     }
     Ok(swaps)
