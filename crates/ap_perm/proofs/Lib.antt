@@ -5,3 +5,4 @@ pub mod ClosureLemmas
 pub mod VisitLemmas
 pub mod ImageLemmas
 pub mod ExchangeLemmas
+pub mod DifferenceLemmas

@@ -1,9 +1,7 @@
--- Steps of the loops over lists of swappings and over sets of names.
-use Rattle.std.proofs.Common.{◌≡◌, ◌<◌, ◌+◌, ◌-◌, ℕ, true, false, List, [], ◌∷◌, ◌++◌, length, get_or, take, drop, refl, sym, ap, ◌∙◌, add-one}
+-- Steps of the loops over lists of swappings.
+use Rattle.std.proofs.Common.{◌≡◌, ◌<◌, ◌+◌, ℕ, List, [], ◌∷◌, ◌++◌, length, get_or, take, drop, refl, sym, ap, ◌∙◌, add-one}
 use Rattle.std.proofs.Math.Seq.{drop-cons, take-suc}
-use Rattle.std.proofs.lemmas.List.{take-append-drop}
-use Rattle.std.specs.List.{insert}
-use Rattle.ap_defs.specs.Permutations.{act_name, add_name, differing, disagreement, inverse, name_before, name_eq, names_of, swap_name}
+use Rattle.ap_defs.specs.Permutations.{act_name, differing, disagreement, inverse, names_of, swap_name}
 use Rattle.ap_defs.specs.declared.terms.Name.{Name}
 use Rattle.ap_defs.specs.declared.terms.Swap.{Swap}
 use Rattle.ap_theory.proofs.PermutationLemmas.{act-append}
@@ -18,16 +16,6 @@ pub undo_first : (p : List Swap) (j : ℕ) (d : Swap) (a b : Name) → j < lengt
 undo_first p j d a b h k =
     ap (act_name (inverse (drop (j + 1) p))) k ∙ sym (act-append (inverse (drop (j + 1) p)) (get_or p j d ∷ []) a)
     ∙ ap (λ q. act_name (inverse q) a) (ap (λ n. get_or p j d ∷ drop n p) (add-one j) ∙ sym (drop-cons p j d h))
-
-pub add_there : (a : Name) (bs : List Name) (i : ℕ) (d : Name) → i < length bs → name_eq a (get_or bs i d) ≡ true
-    → take i bs ++ add_name a (drop i bs) ≡ bs
-add_there a bs i d h e =
-    ap (λ cs. take i bs ++ add_name a cs) (drop-cons bs i d h) ∙ rw e (ap (λ cs. take i bs ++ cs) (sym (drop-cons bs i d h)) ∙ take-append-drop i bs)
-
-pub add_between : (a : Name) (bs : List Name) (i : ℕ) (d : Name) → i < length bs → name_eq a (get_or bs i d) ≡ false → name_before a (get_or bs i d) ≡ true
-    → insert bs i a ≡ take i bs ++ add_name a (drop i bs)
-add_between a bs i d h e k =
-    sym (ap (λ cs. take i bs ++ add_name a cs) (drop-cons bs i d h) ∙ rw (e, k) (ap (λ cs. take i bs ++ a ∷ cs) (sym (drop-cons bs i d h))))
 
 pub names_of-append : (p q : List Swap) → names_of (p ++ q) ≡ names_of p ++ names_of q
 names_of-append [] q = refl

@@ -13,6 +13,11 @@ key_of a = (a.num, a.sort)
 abbrev pub name_of : ℕ × ℕ → Name
 name_of k = record { sort = k.1; num = k.0 }
 
+-- the same by sort and then by number
+abbrev pub name_at : ℕ × ℕ → Name
+name_at k = record { sort = k.0; num = k.1 }
+
+-- the first parts are compared, and then the second ones
 abbrev pub key_cmp : ℕ × ℕ → ℕ × ℕ → Ordering
 key_cmp p q = ordering_then (nat_cmp p.0 q.0) (nat_cmp p.1 q.1)
 
