@@ -43,8 +43,8 @@ fn swap_before(images: &mut Images, s: &Swap) -> Result<(), Memory>
     Ok(())
 }
 
-/// The images under one more swapping, which acts after the others: before them the two names act of which
-/// they make its own. `origins` has the images under the inverse.
+/// The images under one more swapping, which acts after the others, and those under the inverse. It does
+/// what a swapping does that acts before the others, of the names of which they make its two names.
 pub(crate) fn swap_after(images: &mut Images, origins: &mut Images, s: &Swap) -> Result<(), Memory>
     ensures { OnOk result ((p : List Swap) → AreImages p (tree.get key_cmp images.old)
         → AreImages (inverse p) (tree.get key_cmp origins.old)

@@ -76,7 +76,8 @@ fn is_same(a: &Name, b: &Name) -> bool
 
 /// Adds a name to a set, where two lists of swappings, whose images are these, differ on it.
 fn add_if_differing(p: &Images, q: &Images, a: Name, names: &mut Names) -> Result<(), Memory>
-    ensures { OnOk result ((r s : List Swap) → AreImages r (tree.get key_cmp p.now) → AreImages s (tree.get key_cmp q.now)
+    ensures { OnOk result ((r s : List Swap) → AreImages r (tree.get key_cmp p.now)
+        → AreImages s (tree.get key_cmp q.now)
         → map name_at names.new.keys ≡ add_differing r s a (map name_at names.old.keys)) }
 {
     if is_same(&image_in(p, a), &image_in(q, a)) {
