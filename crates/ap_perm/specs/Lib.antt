@@ -1,4 +1,5 @@
 pub mod Names
+pub mod Images
 pub mod Lookups
 pub mod StatementsOnLookups
 pub mod BelowProps

@@ -2,6 +2,7 @@
 #![tactic(auto)]
 
 pub mod closures;
+mod images;
 pub mod joining;
 pub mod laws;
 pub mod look;

@@ -2,14 +2,22 @@
 //!
 //! The only error here is want of memory.
 
-ghost use Rattle.std.specs.Prelude.{◌≡◌, IfOk, OnOk};
-ghost use Rattle.ap_defs.specs.Canonical.{canonical, num_before, least as least_name, moved_names};
-ghost use Rattle.ap_defs.specs.Permutations.{swap_name, act_name, inverse, add_name, disagreement, name_eq, name_before};
-ghost use Rattle.ap_perm.specs.Names.{add_differing, least_exchanged};
+ghost use Rattle.std.specs.Prelude.{◌≡◌, List, map, IfOk, OnOk};
+ghost use Rattle.std.specs.BTreeMap as tree;
+ghost use Rattle.ap_defs.specs.Canonical.{canonical};
+ghost use Rattle.ap_defs.specs.Permutations.{swap_name, act_name, inverse, disagreement, name_eq};
+ghost use Rattle.ap_defs.specs.declared.terms.Swap.{Swap};
+ghost use Rattle.ap_perm.specs.Images.{AreImages, key_cmp, name_at};
+ghost use Rattle.ap_perm.specs.Names.{add_differing};
 
+use crate::images::{Images, image_in, images_of, names_in, origins_of, swap_after};
 use ap_defs::memory::Memory;
 use ap_defs::terms::{Name, Swap};
 use std::alloc::Global;
+use std::collections::BTreeSet;
+
+/// Names by their sorts and numbers.
+type Names = BTreeSet<(u32, u64)>;
 
 /// What a swapping makes of a name. It takes no memory.
 #[tactic(auto, unfolding(ap_defs::specs::Permutations::swap_name, ap_defs::specs::Permutations::name_eq))]
@@ -58,21 +66,6 @@ pub fn preimage(swaps: &[Swap], a: Name) -> Name
     moved
 }
 
-/// Whether a name comes before another one, by sort and then by number.
-#[tactic(auto, unfolding(ap_defs::specs::Permutations::name_before))]
-fn is_before(a: &Name, b: &Name) -> bool
-    ensures { result ≡ name_before a.now b.now }
-{
-    a < b
-}
-
-/// Whether a name comes before another one, by number and then by sort.
-fn has_less_number(a: &Name, b: &Name) -> bool
-    ensures { result ≡ num_before a.now b.now }
-{
-    (a.num, a.sort) < (b.num, b.sort)
-}
-
 /// Whether two names are one.
 #[tactic(auto, unfolding(ap_defs::specs::Permutations::name_eq))]
 fn is_same(a: &Name, b: &Name) -> bool
@@ -81,32 +74,31 @@ fn is_same(a: &Name, b: &Name) -> bool
     a == b
 }
 
-/// Adds a name to a set of names, ascending by sort and then by number.
-#[tactic(auto, using(crate::proofs::SwappingLemmas::add_there, crate::proofs::SwappingLemmas::add_between))]
-fn add(names: &mut Vec<Name>, a: Name) -> Result<(), Memory>
-    ensures { OnOk result (names.new.items ≡ add_name a names.old.items) }
+/// Adds a name to a set, where two lists of swappings, whose images are these, differ on it.
+fn add_if_differing(p: &Images, q: &Images, a: Name, names: &mut Names) -> Result<(), Memory>
+    ensures { OnOk result ((r s : List Swap) → AreImages r (tree.get key_cmp p.now)
+        → AreImages s (tree.get key_cmp q.now)
+        → map name_at names.new.keys ≡ add_differing r s a (map name_at names.old.keys)) }
 {
-    for place in 0..names.len() {
-        if is_same(&a, &names[place]) {
-            return Ok(());
-        }
-        if is_before(&a, &names[place]) {
-            names.insert(place, a)?;
-            return Ok(());
-        }
+    if is_same(&image_in(p, a), &image_in(q, a)) {
+        return Ok(());
     }
-    names.push(a)?;
+    names.insert((a.sort, a.num))?;
     Ok(())
 }
 
-/// Adds a name to a set of names, where two lists of swappings differ on it.
-fn add_if_differing(p: &[Swap], q: &[Swap], a: Name, names: &mut Vec<Name>) -> Result<(), Memory>
-    ensures { OnOk result (names.new.items ≡ add_differing p.now q.now a names.old.items) }
+/// The names of a set, in order.
+fn names_in_order(alloc: Global, names: &Names) -> Result<Vec<Name>, Memory>
+    ensures { IfOk result (λ v. v.items ≡ map name_at names.now.keys) }
 {
-    if is_same(&image(p, a), &image(q, a)) {
-        return Ok(());
-    }
-    add(names, a)
+    let ordered = names
+        .iter()
+        .map(|k| Name {
+            sort: k.0,
+            num: k.1,
+        })
+        .collect(alloc)?;
+    Ok(ordered)
 }
 
 /// The names on which two lists of swappings differ, ascending by sort and then by number.
@@ -116,62 +108,39 @@ pub fn differing(alloc: Global, p: &[Swap], q: &[Swap]) -> Result<Vec<Name>, Mem
 {
     let mut swaps = p.to_vec(alloc)?;
     swaps.extend_from_slice(q)?;
-    let mut names = Vec::new(alloc);
+    let by_p = images_of(alloc, p)?;
+    let by_q = images_of(alloc, q)?;
+    let mut names = BTreeSet::new(alloc);
     for i in (0..swaps.len()).rev() {
         let Swap { sort, left, right } = swaps[i];
-        add_if_differing(p, q, Name { sort, num: right }, &mut names)?;
-        add_if_differing(p, q, Name { sort, num: left }, &mut names)?;
+        add_if_differing(&by_p, &by_q, Name { sort, num: right }, &mut names)?;
+        add_if_differing(&by_p, &by_q, Name { sort, num: left }, &mut names)?;
     }
-    Ok(names)
-}
-
-/// The least of the names, by number and then by sort, of which `first` is one.
-fn least(first: Name, others: &[Name]) -> Name
-    ensures { result ≡ least_name first others.now }
-{
-    let mut least = first;
-    for b in others {
-        if has_less_number(b, &least) {
-            least = *b;
-        }
-    }
-    least
-}
-
-/// The swapping of the least name that is moved, by number and then by sort, with its image.
-fn first_exchange(alloc: Global, p: &[Swap]) -> Result<Option<Swap>, Memory>
-    ensures { IfOk result (λ swap. swap ≡ least_exchanged p.now (moved_names p.now)) }
-{
-    let moved = differing(alloc, p, &[])?;
-    match moved.as_slice() {
-        [] => Ok(None),
-        [first, others @ ..] => {
-            let a = least(*first, others);
-            Ok(Some(Swap {
-                sort: a.sort,
-                left: a.num,
-                right: image(p, a).num,
-            }))
-        }
-    }
+    let ordered = names_in_order(alloc, &names)?;
+    Ok(ordered)
 }
 
 /// The canonical list of a permutation: the least name that is moved is exchanged with its image,
 /// and then what is left is exchanged.
-#[tactic(auto, unfolding(ap_defs::specs::Canonical::canonical))]
+///
+/// Names are exchanged in ascending order, and those that come before are moved no more.
 pub fn canonical_list(alloc: Global, p: &[Swap]) -> Result<Vec<Swap>, Memory>
     ensures { IfOk result (λ swaps. swaps.items ≡ canonical p.now) }
 {
-    let at_most = differing(alloc, p, &[])?.len();
-    let mut left = p.to_vec(alloc)?;
+    let mut images = images_of(alloc, p)?;
+    let mut origins = origins_of(alloc, p)?;
+    let names = names_in(alloc, &images)?;
     let mut swaps = Vec::new(alloc);
-    for _ in 0..at_most {
-        match first_exchange(alloc, &left)? {
-            None => return Ok(swaps),
-            Some(swap) => {
-                swaps.push(swap)?;
-                left.insert(0, swap)?;
-            }
+    for a in &names {
+        let b = image_in(&images, *a);
+        if !is_same(&b, a) {
+            let swap = Swap {
+                sort: a.sort,
+                left: a.num,
+                right: b.num,
+            };
+            swap_after(&mut images, &mut origins, &swap)?;
+            swaps.push(swap)?;
         }
     }
     Ok(swaps)

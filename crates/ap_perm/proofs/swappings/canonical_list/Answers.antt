@@ -1,22 +1,30 @@
-use Rattle.std.proofs.Common.{◌≡◌, ◌+◌, ◌-◌, ◌++◌, [], ◌∷◌, ap, ap₂, sym, ◌∙◌, append_assoc, append-nil}
-use Rattle.std.specs.Prelude.{None, Some}
-use Rattle.ap_defs.specs.Canonical.{canonical_within, moved_names}
-use Rattle.ap_perm.specs.Names.{least_exchanged}
-use Rattle.ap_perm.proofs.SwappingLemmas.{canonical_go, canonical_stop}
+use Rattle.std.proofs.Common.{sym, ◌∙◌}
+use Rattle.std.specs.BTreeMap.{get}
+use Rattle.ap_perm.specs.Images.{key_cmp}
+use Rattle.ap_perm.proofs.ExchangeLemmas.{stands_first, stands_past, stands_further, stands_last}
 use Rattle.ap_perm.proofs.swappings.canonical_list.Goals as goal
+use Rattle.ap_perm.proofs.swappings.canonical_list.Goals.{then-not-is_same+in_ok-swap_after+in_ok-push, else-not-is_same}
 
-pub returns-in-None : goal.returns-in-None
-returns-in-None c =
-    let e : least_exchanged c.loop.left.items (moved_names c.loop.left.items) ≡ None =
-    ap (λ q. least_exchanged q (moved_names q)) (sym c.deref.ensures.value) ∙ sym c.in_ok-first_exchange.ensures ∙ c.in-None.is in
-    sym (append-nil c.loop.swaps.items) ∙ ap (λ q. c.loop.swaps.items ++ q) (sym (canonical_stop (c.len-at_most.result - c.loop.counter) c.loop.left.items e)) ∙ sym c.loop.invariant
+pub loop-a-init : goal.loop-a-init
+loop-a-init c =
+    stands_first c.args.p.now c.new-swaps.result.items c.deref-a-items.result.now c.in_ok-images.images.entries (get key_cmp c.in_ok-origins.origins)
+    c.new-swaps.ensures.items (c.deref-a-items.ensures.value ∙ c.in_ok-names.ensures.names) c.in_ok-names.ensures.ordered c.in_ok-images.ensures c.in_ok-origins.ensures
 
-pub loop-preserved : goal.loop-preserved
-loop-preserved c =
-    let e : least_exchanged c.loop.left.items (moved_names c.loop.left.items) ≡ Some c.in-Some.swap =
-    ap (λ q. least_exchanged q (moved_names q)) (sym c.deref.ensures.value) ∙ sym c.in_ok-first_exchange.ensures ∙ c.in-Some.is in
-    let rest = canonical_within (c.len-at_most.result - (c.loop.counter + 1)) (c.in-Some.swap ∷ c.loop.left.items) in
-    c.loop.invariant
-    ∙ ap (λ q. c.loop.swaps.items ++ q) (canonical_go c.len-at_most.result c.loop.counter c.loop.left.items c.in-Some.swap c.loop-test.true e)
-    ∙ sym (append_assoc c.loop.swaps.items (c.in-Some.swap ∷ []) rest)
-    ∙ sym (ap₂ (λ p q. p ++ canonical_within (c.len-at_most.result - (c.loop.counter + 1)) q) c.in_ok-push-in-Some.ensures.items c.in_ok-insert-in-Some.ensures.items)
+pub loop-a-preserved : goal.loop-a-preserved
+loop-a-preserved c =
+    let p = c.args.p.now in
+    let names = c.deref-a-items.result.now in
+    let f = get key_cmp c.loop-a.images in
+    let g = get key_cmp c.loop-a.origins in
+    elim c.if-not-is_same.branch [
+      | then-not-is_same+in_ok-swap_after+in_ok-push w ↦ rw (w.images-is, w.origins-is, w.swaps-is)
+          (stands_further p c.loop-a.swaps.items names c.loop-a.a-index _ c.image_in-b.result f g c.loop-a-test.true c.image_in-b.ensures c.loop-a.invariant
+          w.push.new.self.items (get key_cmp w.swap_after.new.images) (get key_cmp w.swap_after.new.origins)
+          (sym c.is_same.ensures ∙ w.if-not-is_same.true) w.in_ok-push.ensures.items w.in_ok-swap_after.ensures)
+      | else-not-is_same w ↦ rw (w.images-is, w.origins-is, w.swaps-is)
+          (stands_past p c.loop-a.swaps.items names c.loop-a.a-index _ c.image_in-b.result f g c.loop-a-test.true c.image_in-b.ensures c.loop-a.invariant
+          (sym c.is_same.ensures ∙ w.if-not-is_same.false))
+    ]
+
+pub returns : goal.returns
+returns c = stands_last c.args.p.now c.loop-a.swaps.items c.deref-a-items.result.now c.loop-a.a-index (get key_cmp c.loop-a.images) (get key_cmp c.loop-a.origins) c.loop-a-test.false c.loop-a.invariant
