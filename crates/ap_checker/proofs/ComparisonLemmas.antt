@@ -1,54 +1,55 @@
--- Heads of terms that are tested for freshness or compared.
-use Rattle.std.proofs.Common.{◌≡◌, ◌<◌, ◌+◌, ℕ, suc, Bool, true, false, ◌==◌, ◌&&◌, if◌then◌else◌, List, [], ◌∷◌, ◌++◌, length, get_or, drop, sym, ap, ap₂, ◌∙◌, add-one, arith}
+-- Heads of terms that are tested for freshness, or compared within binders.
+use Rattle.std.proofs.Common.{◌≡◌, ◌<◌, ◌+◌, ℕ, suc, Bool, true, false, ◌==◌, ◌&&◌, List, [], ◌∷◌, ◌++◌, length, get_or, drop, refl, sym, ap, ap₂, ◌∙◌, add-one, arith}
 use Rattle.std.proofs.Math.Seq.{drop-cons}
 use Rattle.ap_defs.specs.declared.terms.Name.{Name}
 use Rattle.ap_defs.specs.declared.terms.Swap.{Swap}
-use Rattle.ap_defs.specs.Freshness.{Conds, alpha_under, fresh_under}
-use Rattle.ap_defs.specs.Permutations.{act_name, inverse, name_eq, swap_of}
-use Rattle.ap_defs.specs.Terms.{NominalTerm, abs, act_term}
+use Rattle.ap_defs.specs.Freshness.{Conds, alpha_under}
+use Rattle.ap_defs.specs.Permutations.{inverse}
+use Rattle.ap_defs.specs.Terms.{NominalTerm, abs, app, name, pair, unit}
 use Rattle.ap_defs.specs.Unification.{size}
-use Rattle.ap_theory.proofs.PermutationLemmas.{inverse-append, inverse_act}
-use Rattle.ap_theory.proofs.TermLemmas.{act_term-append, act_term_none, size_pos}
-use Rattle.ap_theory.proofs.UnderLemmas.{fresh_under_act}
+use Rattle.ap_theory.proofs.PermutationLemmas.{same_name_parts}
+use Rattle.ap_theory.proofs.TermLemmas.{act_term_none, size_pos}
+use Rattle.ap_checker.specs.Binders.{mean_same, within_left, within_right}
+use Rattle.ap_checker.proofs.BinderLemmas.{alike_from, app_alike, known_alike, left_last, names_alike, pair_alike, right_last, shape, shapes_alike, sorts_alike, unit_alike}
 
--- one more swapping acts after all others
-pub swapped_more : (ss : List Swap) (s : Swap) (t : NominalTerm) → act_term (s ∷ []) (act_term (inverse ss) t) ≡ act_term (inverse (ss ++ s ∷ [])) t
-swapped_more ss s t = sym (act_term-append (s ∷ []) (inverse ss) t) ∙ ap (λ p. act_term p t) (sym (inverse-append ss (s ∷ [])))
+module _ (ds : Conds) (ss : List Swap) where
+  abbrev pub alike : NominalTerm → NominalTerm → Bool
+  alike t u = alpha_under ds (within_left ss t) (within_right ss u)
 
-fresh_swapped : (ds : Conds) (ss : List Swap) (a : Name) (t : NominalTerm) → fresh_under ds a (act_term (inverse ss) t) ≡ fresh_under ds (act_name ss a) t
-fresh_swapped ds ss a t = ap (λ b. fresh_under ds b (act_term (inverse ss) t)) (sym (inverse_act ss a)) ∙ fresh_under_act ds (inverse ss) (act_name ss a) t
+  none_moved : (t u : NominalTerm) → alike_from ds ss [] t u ≡ alike t u
+  none_moved t u = ap (alpha_under ds (within_left ss t)) (act_term_none (within_right ss u))
 
-module _ (ds : Conds) (ss : List Swap) (a b c : Name) (t u : NominalTerm) (is : c ≡ act_name (inverse ss) b) where
-  abbrev alike : Bool
-  alike = alpha_under ds (abs a t) (act_term (inverse ss) (abs b u))
+  pub units : alike unit unit ≡ true
+  units = sym (none_moved unit unit) ∙ unit_alike ds ss []
 
-  heads : alike ≡ (if name_eq a c then alpha_under ds t (act_term (inverse ss) u)
-      else ((a.sort == c.sort) && (fresh_under ds a (act_term (inverse ss) u) && alpha_under ds t (act_term (swap_of a c ∷ []) (act_term (inverse ss) u)))))
-  heads = ap (λ d. alpha_under ds (abs a t) (abs d (act_term (inverse ss) u))) (sym is)
+  pub names : (a b : Name) → alike (name a) (name b) ≡ mean_same ss a b
+  names a b = sym (none_moved (name a) (name b)) ∙ names_alike ds 0 ss [] a b
 
-  pub binders_same : name_eq a c ≡ true → alike ≡ alpha_under ds t (act_term (inverse ss) u)
-  binders_same h = heads ∙ ap (λ v. if v then alpha_under ds t (act_term (inverse ss) u)
-      else ((a.sort == c.sort) && (fresh_under ds a (act_term (inverse ss) u) && alpha_under ds t (act_term (swap_of a c ∷ []) (act_term (inverse ss) u))))) h
+  pub pairs : (t u v w : NominalTerm) → alike (pair t u) (pair v w) ≡ (alike t v && alike u w)
+  pairs t u v w = sym (none_moved (pair t u) (pair v w)) ∙ pair_alike ds ss [] t u v w ∙ ap₂ ◌&&◌ (none_moved t v) (none_moved u w)
 
-  apart : name_eq a c ≡ false → alike ≡ ((a.sort == c.sort) && (fresh_under ds a (act_term (inverse ss) u) && alpha_under ds t (act_term (swap_of a c ∷ []) (act_term (inverse ss) u))))
-  apart h = heads ∙ ap (λ v. if v then alpha_under ds t (act_term (inverse ss) u)
-      else ((a.sort == c.sort) && (fresh_under ds a (act_term (inverse ss) u) && alpha_under ds t (act_term (swap_of a c ∷ []) (act_term (inverse ss) u))))) h
+  pub apps : (f g : ℕ) (t u : NominalTerm) → alike (app f t) (app g u) ≡ ((f == g) && alike t u)
+  apps f g t u = sym (none_moved (app f t) (app g u)) ∙ app_alike ds ss [] f g t u ∙ ap (λ v. (f == g) && v) (none_moved t u)
 
-  pub sorts_differ : name_eq a c ≡ false → (a.sort == c.sort) ≡ false → alike ≡ false
-  sorts_differ h k = apart h ∙ ap (λ v. v && (fresh_under ds a (act_term (inverse ss) u) && alpha_under ds t (act_term (swap_of a c ∷ []) (act_term (inverse ss) u)))) k
+  pub others : (t u : NominalTerm) → (shape t == shape u) ≡ false → alike t u ≡ false
+  others t u h = sym (none_moved t u) ∙ shapes_alike ds ss [] t u h
 
-  pub not_fresh : name_eq a c ≡ false → (a.sort == c.sort) ≡ true → fresh_under ds (act_name ss a) u ≡ false → alike ≡ false
-  not_fresh h k f = apart h
-      ∙ ap₂ (λ v w. v && (w && alpha_under ds t (act_term (swap_of a c ∷ []) (act_term (inverse ss) u)))) k (fresh_swapped ds ss a u ∙ f)
+  module _ (a b : Name) (t u : NominalTerm) where
+    pub other_sorts : (a.sort == b.sort) ≡ false → alike (abs a t) (abs b u) ≡ false
+    other_sorts h = sym (none_moved (abs a t) (abs b u)) ∙ sorts_alike ds ss [] a b t u h
 
-  pub binders_swapped : name_eq a c ≡ false → (a.sort == c.sort) ≡ true → fresh_under ds (act_name ss a) u ≡ true → alike ≡ alpha_under ds t (act_term (inverse (ss ++ swap_of a c ∷ [])) u)
-  binders_swapped h k f = apart h
-      ∙ ap₂ (λ v w. v && (w && alpha_under ds t (act_term (swap_of a c ∷ []) (act_term (inverse ss) u)))) k (fresh_swapped ds ss a u ∙ f)
-      ∙ ap (alpha_under ds t) (swapped_more ss (swap_of a c) u)
+    pub known_binders : mean_same ss a b ≡ true → alike (abs a t) (abs b u) ≡ alike t u
+    known_binders h = sym (none_moved (abs a t) (abs b u)) ∙ known_alike ds 0 ss [] a b t u h ∙ none_moved t u
 
--- the two terms at the beginning
-pub no_swaps : (ds : Conds) (t u : NominalTerm) → alpha_under ds t (act_term (inverse []) u) ≡ alpha_under ds t u
-no_swaps ds t u = ap (alpha_under ds t) (act_term_none u)
+    -- they are one more pair
+    pub new_binders : (s : Swap) → s ≡ record { sort = a.sort; left = a.num; right = b.num } → a.sort ≡ b.sort
+        → alike (abs a t) (abs b u) ≡ alpha_under ds (within_left (ss ++ s ∷ []) t) (within_right (ss ++ s ∷ []) u)
+    new_binders s e h =
+        let c : Name = record { sort = a.sort; num = b.num } in
+        let same : c ≡ b = same_name_parts c b h refl in
+        ap (λ n. alike (abs a t) (abs n u)) (sym same)
+        ∙ ap₂ (alpha_under ds) (sym (left_last ss (record { sort = a.sort; left = a.num; right = b.num }) t)) (sym (right_last ss (record { sort = a.sort; left = a.num; right = b.num }) u))
+        ∙ ap (λ (z : Swap). alpha_under ds (within_left (ss ++ z ∷ []) t) (within_right (ss ++ z ∷ []) u)) (sym e)
 
 -- the swappings so far, the last one first
 pub in_front_more : (ss : List Swap) (i j : ℕ) (d : Swap) (before after : List Swap) → i ≡ j + 1 → j < length ss → d ≡ get_or ss j d → before ≡ inverse (drop i ss) → after ≡ before ++ d ∷ []

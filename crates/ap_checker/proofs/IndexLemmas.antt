@@ -29,7 +29,7 @@ at_number k x = grind (arith, nat_tests)
 turned : (a b : ℕ) → (a == b) ≡ (b == a)
 turned a b = grind (arith, nat_tests)
 
-eq_then : (a b : Ordering) → is_eq (ordering_then a b) ≡ (is_eq a && is_eq b)
+pub eq_then : (a b : Ordering) → is_eq (ordering_then a b) ≡ (is_eq a && is_eq b)
 eq_then Less b = refl
 eq_then Equal b = refl
 eq_then Greater b = refl
@@ -132,7 +132,7 @@ module _ (vs : List (Var × Ty)) (i j : ℕ) (d : Var × Ty) (s : i ≡ suc j) (
 
 -- CONDITIONS
 
-sought_eq : (c d : Cond) → is_eq (sought_cmp (sought d) (sought c)) ≡ cond_eq c d
+pub sought_eq : (c d : Cond) → is_eq (sought_cmp (sought d) (sought c)) ≡ cond_eq c d
 unfolding name_eq
 sought_eq c d =
     eq_then (nat_cmp d.var.num c.var.num) (ordering_then (nat_cmp d.name.sort c.name.sort) (nat_cmp d.name.num c.name.num))

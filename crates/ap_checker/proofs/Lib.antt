@@ -1,7 +1,11 @@
 pub mod SwappingLemmas
+pub mod MeaningLemmas
+pub mod BinderLemmas
 pub mod SettledLemmas
+pub mod LatestLemmas
 pub mod TypeLemmas
 pub mod LocalLemmas
+pub mod PlaceLemmas
 pub mod ScopeLemmas
 pub mod NodeLemmas
 pub mod FreeLemmas

@@ -28,7 +28,7 @@ drop-past [] (suc n) h = refl
 drop-past (x ∷ xs) zero h = absurd (omega arith)
 drop-past (x ∷ xs) (suc n) h = drop-past xs n (omega arith)
 
-locals_left : (ls : List Local) (i : ℕ) (d : Local) → i < length ls → locals_of (drop i ls) ≡ local_of (get_or ls i d) ∷ locals_of (drop (i + 1) ls)
+pub locals_left : (ls : List Local) (i : ℕ) (d : Local) → i < length ls → locals_of (drop i ls) ≡ local_of (get_or ls i d) ∷ locals_of (drop (i + 1) ls)
 locals_left ls i d h = ap locals_of (drop-cons ls i d h ∙ ap (λ n. get_or ls i d ∷ drop n ls) (sym (add-one i)))
 
 no_name : (b : Bool) (k : NominalKind) (n : ℕ) (as' : List Name) → free.sort_unless b k ≡ None → name_unless b k n as' ≡ as'

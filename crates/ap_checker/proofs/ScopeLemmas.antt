@@ -1,20 +1,22 @@
 -- Looking back through what stands for identifiers.
 use Rattle.std.proofs.Common.{◌≡◌, ◌<◌, ◌+◌, ℕ, true, false, List, [], ◌∷◌, ◌++◌, length, get_or, take, map, refl, sym, ap, ◌∙◌, add-one}
 use Rattle.std.proofs.Math.Seq.{take-suc}
-use Rattle.std.specs.Prelude.{if◌then◌else◌, Some, None}
+use denote.Ref.{Bor}
+use Rattle.std.specs.Prelude.{if◌then◌else◌, MatchOption, Option, Some, None}
+use Rattle.ap_defs.specs.declared.terms.Term.{Term}
 use Rattle.ap_defs.specs.declared.terms.Name.{Name}
 use Rattle.ap_defs.specs.declared.terms.Var.{Var}
 use Rattle.ap_defs.specs.Freshness.{var_eq}
 use Rattle.ap_defs.specs.GroundProofs.{name_for}
 use Rattle.ap_defs.specs.Permutations.{name_eq}
 use Rattle.ap_defs.specs.Renaming.{local_names, local_vars}
-use Rattle.ap_defs.specs.Terms.{NominalTerm, term_of}
-use Rattle.ap_defs.specs.Types.{NominalLocal, locals_of}
+use Rattle.ap_defs.specs.Terms.{NominalTerm, term_of, unit}
+use Rattle.ap_defs.specs.Types.{locals_of}
 use Rattle.ap_theory.proofs.PermutationLemmas.{name_eq_same}
 use Rattle.ap_checks.specs.OpenEnvironments.{OpenEnvironment, open_term_for}
 use Rattle.ap_checker.specs.declared.scope.Standing.{Standing}
 use Rattle.ap_checker.specs.declared.scope.Standing.TheVariants as code
-use Rattle.ap_checker.specs.Scopes.{environment_from, environment_with, item_terms, name_stood, term_brought}
+use Rattle.ap_checker.specs.Scopes.{environment_from, environment_with, item_term, name_stood, term_brought}
 
 pub environment_append : (ss us : List Standing) (e : OpenEnvironment) → environment_from (ss ++ us) e ≡ environment_from us (environment_from ss e)
 environment_append [] us e = refl
@@ -26,7 +28,7 @@ name_for_itself (a ∷ as') b =
     elim (name_eq a b) as (λ v. name_eq a b ≡ v → (if v then a else name_for as' as' b) ≡ b) [ true ↦ λ h. name_eq_same a b h | false ↦ λ h. name_for_itself as' b ] refl
 
 name_taken : (s : Standing) (e : OpenEnvironment) (b c : Name) → name_stood s b ≡ Some c → (environment_with s e).names b ≡ c
-name_taken (code.Query ls ts) e b c h = let same : b ≡ c = cc in name_for_itself (local_names 0 (locals_of ls.now)) b ∙ same
+name_taken (code.Query ls ts) e b c h = let same : b ≡ c = cc in name_for_itself (local_names 0 (locals_of ls)) b ∙ same
 name_taken (code.Clause ls names ts) e b c h = cc
 name_taken (code.Name a d) e b c h =
     elim (name_eq a b) as (λ v. (if v then Some d else None) ≡ Some c → (if v then d else e.names b) ≡ c) [ true ↦ λ k. cc | false ↦ λ k. cc ] h
@@ -46,16 +48,13 @@ term_taken (code.Name a c) e x t h = cc
 term_taken (code.Term y u) e x t h =
     elim (var_eq y x) as (λ v. (if v then Some (term_of u.now) else None) ≡ Some t → (if v then term_of u.now else e.terms x) ≡ t) [ true ↦ λ k. cc | false ↦ λ k. cc ] h
 
-item_taken : (s : Standing) (e : OpenEnvironment) (x : Var) (locals : List NominalLocal) (ts : List NominalTerm) → item_terms s ≡ Some (locals, ts)
-    → (environment_with s e).terms x ≡ open_term_for (local_vars 0 locals) ts x
-item_taken (code.Query ls us) e x locals ts h =
-    let same : (locals_of ls.now, map term_of us.now) ≡ (locals, ts) = cc in ap (λ (q : List NominalLocal × List NominalTerm). open_term_for (local_vars 0 q.0) q.1 x) same
-item_taken (code.Clause ls names us) e x locals ts h =
-    let same : (locals_of ls.now, map term_of us.now) ≡ (locals, ts) = cc in ap (λ (q : List NominalLocal × List NominalTerm). open_term_for (local_vars 0 q.0) q.1 x) same
-item_taken (code.Name a c) e x locals ts h = cc
-item_taken (code.Term y u) e x locals ts h = cc
+item_taken : (s : Standing) (e : OpenEnvironment) (x : Var) (t : NominalTerm) → item_term s x ≡ Some t → (environment_with s e).terms x ≡ t
+item_taken (code.Query ls us) e x t h = cc
+item_taken (code.Clause ls names us) e x t h = cc
+item_taken (code.Name a c) e x t h = cc
+item_taken (code.Term y u) e x t h = cc
 
-term_kept : (s : Standing) (e : OpenEnvironment) (x : Var) → term_brought s x ≡ None → item_terms s ≡ None → (environment_with s e).terms x ≡ e.terms x
+term_kept : (s : Standing) (e : OpenEnvironment) (x : Var) → term_brought s x ≡ None → item_term s x ≡ None → (environment_with s e).terms x ≡ e.terms x
 term_kept (code.Query ls ts) e x h k = cc
 term_kept (code.Clause ls names ts) e x h k = cc
 term_kept (code.Name a c) e x h k = refl
@@ -77,9 +76,13 @@ module _ (ss : List Standing) (i j : ℕ) (s : Standing) (e : OpenEnvironment) (
   pub term_here : (x : Var) (t : NominalTerm) → term_brought s x ≡ Some t → (environment_from (take i ss) e).terms x ≡ t
   term_here x t f = ap (λ (z : OpenEnvironment). z.terms x) with_last ∙ term_taken s (environment_from (take j ss) e) x t f
 
-  pub item_here : (x : Var) (locals : List NominalLocal) (ts : List NominalTerm) → item_terms s ≡ Some (locals, ts)
-      → (environment_from (take i ss) e).terms x ≡ open_term_for (local_vars 0 locals) ts x
-  item_here x locals ts f = ap (λ (z : OpenEnvironment). z.terms x) with_last ∙ item_taken s (environment_from (take j ss) e) x locals ts f
+  item_there : (x : Var) (t : NominalTerm) → item_term s x ≡ Some t → (environment_from (take i ss) e).terms x ≡ t
+  item_there x t f = ap (λ (z : OpenEnvironment). z.terms x) with_last ∙ item_taken s (environment_from (take j ss) e) x t f
 
-  pub term_further : (x : Var) → term_brought s x ≡ None → item_terms s ≡ None → (environment_from (take j ss) e).terms x ≡ (environment_from (take i ss) e).terms x
+  pub item_here : (x : Var) (o : Option (Bor Term)) → MatchOption o (item_term s x ≡ Some unit) (λ t. item_term s x ≡ Some (term_of t.now))
+      → MatchOption o ((environment_from (take i ss) e).terms x ≡ unit) (λ t. (environment_from (take i ss) e).terms x ≡ term_of t.now)
+  item_here x None h = item_there x unit h
+  item_here x (Some t) h = item_there x (term_of t.now) h
+
+  pub term_further : (x : Var) → term_brought s x ≡ None → item_term s x ≡ None → (environment_from (take j ss) e).terms x ≡ (environment_from (take i ss) e).terms x
   term_further x f g = sym (ap (λ (z : OpenEnvironment). z.terms x) with_last ∙ term_kept s (environment_from (take j ss) e) x f g)

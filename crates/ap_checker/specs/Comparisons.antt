@@ -5,10 +5,10 @@ use Rattle.ap_defs.specs.declared.terms.Name.{Name}
 use Rattle.ap_defs.specs.declared.terms.Swap.{Swap}
 use Rattle.ap_defs.specs.declared.terms.Term.{Term}
 use Rattle.ap_defs.specs.Freshness.{Conds, alpha_under, fresh_under}
-use Rattle.ap_defs.specs.Permutations.{inverse}
-use Rattle.ap_defs.specs.Terms.{act_term, term_of}
+use Rattle.ap_defs.specs.Terms.{term_of}
 use Rattle.ap_defs.specs.Unification.{size}
 use Rattle.ap_checker.specs.declared.equality.Compared.{Compared}
+use Rattle.ap_checker.specs.Binders.{within_left, within_right}
 
 abbrev pub is_fresh_for : Conds → Name → Bor Term → Bool
 is_fresh_for ds a t = fresh_under ds a (term_of t.now)
@@ -22,6 +22,6 @@ mark_of c = c.mark
 abbrev pub size_of : Compared → ℕ
 size_of c = size (term_of c.left.now)
 
--- the first equals the second with the swappings, of which the last acts last
+-- the first equals the second, each within its binders
 abbrev pub are_alike : Conds → List Swap → Compared → Bool
-are_alike ds ss c = alpha_under ds (term_of c.left.now) (act_term (inverse ss) (term_of c.right.now))
+are_alike ds ss c = alpha_under ds (within_left ss (term_of c.left.now)) (within_right ss (term_of c.right.now))

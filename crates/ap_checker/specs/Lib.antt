@@ -1,11 +1,14 @@
-pub mod Settled
 pub mod Wanted
 pub mod FreeLocals
+pub mod Places
 pub mod Scopes
 pub mod Rules
 pub mod Walks
 pub mod Indexes
 pub mod Stacks
+pub mod Latest
+pub mod Binders
+pub mod Settled
 pub mod Comparisons
 pub mod NewNames
 pub mod Outsides

@@ -5,17 +5,17 @@ use Rattle.ap_defs.specs.declared.terms.Var.{Var}
 use Rattle.ap_defs.specs.Freshness.{var_eq}
 use Rattle.ap_defs.specs.GroundProofs.{name_for}
 use Rattle.ap_defs.specs.Permutations.{name_eq}
-use Rattle.ap_defs.specs.Renaming.{local_names}
+use Rattle.ap_defs.specs.Renaming.{local_names, local_vars}
 use Rattle.ap_defs.specs.Terms.{NominalTerm, term_of, unit}
-use Rattle.ap_defs.specs.Types.{NominalLocal, locals_of}
-use Rattle.ap_checks.specs.OpenEnvironments.{OpenEnvironment, open_environment, with_open_name, with_open_term}
+use Rattle.ap_defs.specs.Types.{locals_of}
+use Rattle.ap_checks.specs.OpenEnvironments.{OpenEnvironment, open_environment, open_term_for, with_open_name, with_open_term}
 use Rattle.ap_checker.specs.declared.scope.Standing.{Standing}
 use Rattle.ap_checker.specs.declared.scope.Standing.TheVariants as code
 
 -- An item's free identifiers stand for what they are given, whatever stood before; one that was brought hides another.
 abbrev pub environment_with : Standing → OpenEnvironment → OpenEnvironment
-environment_with (code.Query ls ts) e = open_environment (locals_of ls.now) (local_names 0 (locals_of ls.now)) (map term_of ts.now)
-environment_with (code.Clause ls names ts) e = open_environment (locals_of ls.now) names.now (map term_of ts.now)
+environment_with (code.Query ls ts) e = open_environment (locals_of ls) (local_names 0 (locals_of ls)) (map term_of ts.now)
+environment_with (code.Clause ls names ts) e = open_environment (locals_of ls) names.now (map term_of ts.now)
 environment_with (code.Name a c) e = with_open_name e a c
 environment_with (code.Term x t) e = with_open_term e x (term_of t.now)
 
@@ -33,7 +33,7 @@ environment_of ss = environment_from ss nothing_put
 -- the name for a name, where it is told
 abbrev pub name_stood : Standing → Name → Option Name
 name_stood (code.Query ls ts) b = Some b
-name_stood (code.Clause ls names ts) b = Some (name_for (local_names 0 (locals_of ls.now)) names.now b)
+name_stood (code.Clause ls names ts) b = Some (name_for (local_names 0 (locals_of ls)) names.now b)
 name_stood (code.Name a c) b = if name_eq a b then Some c else None
 name_stood (code.Term x t) b = None
 
@@ -43,9 +43,9 @@ term_brought (code.Clause ls names ts) y = None
 term_brought (code.Name a c) y = None
 term_brought (code.Term x t) y = if var_eq x y then Some (term_of t.now) else None
 
--- an item's identifiers, and the terms for its free variables
-abbrev pub item_terms : Standing → Option (List NominalLocal × List NominalTerm)
-item_terms (code.Query ls ts) = Some (locals_of ls.now, map term_of ts.now)
-item_terms (code.Clause ls names ts) = Some (locals_of ls.now, map term_of ts.now)
-item_terms (code.Name a c) = None
-item_terms (code.Term x t) = None
+-- what an item has for a variable
+abbrev pub item_term : Standing → Var → Option NominalTerm
+item_term (code.Query ls ts) y = Some (open_term_for (local_vars 0 (locals_of ls)) (map term_of ts.now) y)
+item_term (code.Clause ls names ts) y = Some (open_term_for (local_vars 0 (locals_of ls)) (map term_of ts.now) y)
+item_term (code.Name a c) y = None
+item_term (code.Term x t) y = None

@@ -9,18 +9,22 @@
 #![tactic(auto)]
 
 mod answers;
+mod binders;
 pub mod equality;
 mod fits;
 mod free;
 pub mod freshness;
+mod identifiers;
 mod images;
 pub mod index;
+mod latest;
 mod lookups;
 mod new_names;
 mod nodes;
 mod outside;
 pub mod rules;
 mod scope;
+mod suspensions;
 pub mod swappings;
 pub mod types;
 pub mod verify;

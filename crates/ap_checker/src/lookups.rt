@@ -1,18 +1,15 @@
-//! What stands for the free identifiers of an item, one for each, in order; clauses and queries by number.
+//! Which identifiers of an item are free names and free variables; clauses and queries by number.
 
-ghost use Rattle.std.specs.Prelude.{◌≡◌, zero, length, map, MatchOption, None, Some};
+ghost use Rattle.std.specs.Prelude.{◌≡◌, zero, length, MatchOption, None, Some};
 ghost use Rattle.ap_defs.specs.Goals.{clause_of, clauses_of, program_of, query_of};
-ghost use Rattle.ap_defs.specs.GroundProofs.{clause_at as clause_numbered, name_for as name_beside};
+ghost use Rattle.ap_defs.specs.GroundProofs.{clause_at as clause_numbered};
 ghost use Rattle.ap_defs.specs.Renaming.{local_names, local_vars};
-ghost use Rattle.ap_defs.specs.Terms.{term_of, unit};
 ghost use Rattle.ap_defs.specs.Types.{local_of, locals_of};
 ghost use Rattle.ap_checks.specs.Checks.{query_at as query_numbered};
-ghost use Rattle.ap_checks.specs.OpenEnvironments.{open_term_for};
 ghost use Rattle.ap_checker.specs.FreeLocals.{free_sort, is_free_var};
 
-use crate::swappings::is_same;
 use ap_defs::goals::{Clause, Kind, Local, Program, Query};
-use ap_defs::terms::{Name, Term, Var};
+use ap_defs::terms::Term;
 
 /// The sort of an identifier that is a free name.
 pub(crate) fn sort_of(local: &Local) -> Option<u32>
@@ -60,50 +57,6 @@ pub(crate) fn count_vars(locals: &[Local]) -> usize
         }
     }
     count
-}
-
-/// The name for a free name, and any other name itself.
-pub(crate) fn name_for(locals: &[Local], names: &[Name], b: Name) -> Name
-    ensures { result ≡ name_beside (local_names zero (locals_of locals.now)) names.now b }
-{
-    let mut place = 0;
-    for (i, local) in locals.iter().enumerate() {
-        let Some(sort) = sort_of(local) else {
-            continue;
-        };
-        if place >= names.len() {
-            return b;
-        }
-        let own = Name {
-            sort,
-            num: i as u64,
-        };
-        if is_same(&own, &b) {
-            return names[place];
-        }
-        place += 1;
-    }
-    b
-}
-
-/// The term for a free variable.
-pub(crate) fn term_for<'a>(locals: &[Local], terms: &'a [Term], x: Var) -> Option<&'a Term>
-    ensures { MatchOption result (open_term_for (local_vars zero (locals_of locals.now)) (map term_of terms.now) x ≡ unit) (λ t. open_term_for (local_vars zero (locals_of locals.now)) (map term_of terms.now) x ≡ term_of t.now) }
-{
-    let mut place = 0;
-    for (i, local) in locals.iter().enumerate() {
-        if !is_variable(local) {
-            continue;
-        }
-        if place >= terms.len() {
-            return None;
-        }
-        if x.num == i as u64 {
-            return Some(&terms[place]);
-        }
-        place += 1;
-    }
-    None
 }
 
 /// The clause of a predicate with this number, from 1.

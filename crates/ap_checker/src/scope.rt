@@ -2,28 +2,26 @@
 
 ghost use Rattle.std.specs.Prelude.{◌≡◌, map, IfOk, MatchOption, None, Some};
 ghost use Rattle.ap_defs.specs.Terms.{susp, term_of, unit};
-ghost use Rattle.ap_defs.specs.Types.{locals_of};
 ghost use Rattle.ap_defs.specs.Unification.{size};
 ghost use Rattle.ap_checks.specs.OpenEnvironments.{put_in, swap_in};
 ghost use Rattle.ap_checker.specs.Outsides.{IsNext};
-ghost use Rattle.ap_checker.specs.Scopes.{environment_of, item_terms, name_stood, term_brought};
+ghost use Rattle.ap_checker.specs.Scopes.{environment_of, item_term, name_stood, term_brought};
 
-use crate::lookups::{name_for, term_for};
+use crate::identifiers::Identifiers;
 use crate::outside::{Next, Outside};
 use crate::swappings::{is_same, moved};
-use ap_defs::goals::Local;
 use ap_defs::memory::Memory;
 use ap_defs::spines::TermLayer;
 use ap_defs::terms::{Name, Swap, Term, Var};
 use std::alloc::Global;
 
 /// What stands for the free identifiers of an item, or for one that its goal brought.
-#[derive(Clone, Copy)]
+#[derive(Drop)]
 pub(crate) enum Standing<'a> {
     /// The terms for the free variables of a query, in order; each free name stands for itself.
-    Query(&'a [Local], &'a [Term]),
+    Query(Identifiers<'a>, &'a [Term]),
     /// The names for the free names of a clause and the terms for its free variables, in order.
-    Clause(&'a [Local], &'a [Name], &'a [Term]),
+    Clause(Identifiers<'a>, &'a [Name], &'a [Term]),
     /// The name for a name that `new` brought.
     Name(Name, Name),
     /// The term for a variable that `exists` brought.
@@ -36,7 +34,7 @@ fn name_at(standing: &Standing<'_>, b: Name) -> Option<Name>
 {
     match standing {
         Standing::Query(_, _) => Some(b),
-        Standing::Clause(locals, names, _) => Some(name_for(locals, names, b)),
+        Standing::Clause(own, names, _) => Some(own.name_for(names, b)),
         Standing::Name(a, c) if is_same(a, &b) => Some(*c),
         _ => None,
     }
@@ -52,13 +50,14 @@ fn term_at<'a>(standing: &Standing<'a>, x: Var) -> Option<&'a Term>
     }
 }
 
-/// The identifiers of an item, and the terms for its free variables.
-fn item_at<'a>(standing: &Standing<'a>) -> Option<(&'a [Local], &'a [Term])>
-    ensures { MatchOption result (item_terms standing.now ≡ None) (λ p. item_terms standing.now ≡ Some (locals_of p.0.now, map term_of p.1.now)) }
+/// What an item has for a variable, if this is what stands for an item's identifiers.
+fn item_term_at<'a>(standing: &Standing<'a>, x: Var) -> Option<Option<&'a Term>>
+    ensures { MatchOption result (item_term standing.now x ≡ None) (λ found. MatchOption found
+        (item_term standing.now x ≡ Some unit) (λ t. item_term standing.now x ≡ Some (term_of t.now))) }
 {
     match standing {
-        Standing::Query(locals, terms) => Some((*locals, *terms)),
-        Standing::Clause(locals, _, terms) => Some((*locals, *terms)),
+        Standing::Query(own, terms) => Some(own.term_for(terms, x)),
+        Standing::Clause(own, _, terms) => Some(own.term_for(terms, x)),
         _ => None,
     }
 }
@@ -84,8 +83,8 @@ pub(crate) fn term_in<'a>(scope: &[Standing<'a>], x: Var) -> Option<&'a Term>
         if let Some(t) = term_at(innermost, x) {
             return Some(t);
         }
-        if let Some((locals, terms)) = item_at(innermost) {
-            return term_for(locals, terms, x);
+        if let Some(found) = item_term_at(innermost, x) {
+            return found;
         }
     }
     None

@@ -9,6 +9,7 @@ ghost use Rattle.ap_checker.specs.Rules.{verdict_said};
 ghost use Rattle.ap_checker.specs.Walks.{IsOnWay, refusal_on};
 
 use crate::answers::answer_fits;
+use crate::identifiers::Identifiers;
 use crate::index::IndexedAnswer;
 use crate::lookups::query_at;
 use crate::rules::Rule;
@@ -36,7 +37,8 @@ fn walk_from<'a>(
         standing: Vec::new(alloc),
         pending: Vec::new(alloc),
     };
-    walk.bring(Standing::Query(locals, answer.binds.items()))?;
+    let own = Identifiers::of(alloc, locals)?;
+    walk.bring(Standing::Query(own, answer.binds.items()))?;
     walk.put(Place {
         derivation,
         goal: &query.goal,

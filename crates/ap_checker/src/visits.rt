@@ -14,6 +14,7 @@ ghost use Rattle.ap_checker.specs.Walks.{AreMarked, IsVisited, derivation_at, go
 
 use crate::equality::are_equal_under;
 use crate::fits::{counts_fit, names_fit, term_fits, terms_fit};
+use crate::identifiers::Identifiers;
 use crate::index::IndexedAnswer;
 use crate::lookups::clause_at;
 use crate::new_names::is_new;
@@ -62,7 +63,8 @@ fn rule_of_clause(
     if !terms_fit(alloc, constructors, answer, locals, used.terms)? {
         return Ok(Some(Rule::Typing));
     }
-    let scope = [Standing::Clause(locals, used.names, used.terms)];
+    let own = Identifiers::of(alloc, locals)?;
+    let scope = [Standing::Clause(own, used.names, used.terms)];
     let head = put_each(alloc, &scope, clause.args.items())?;
     if !all_equal(alloc, answer, args, &head)? {
         return Ok(Some(Rule::Head));
@@ -91,7 +93,8 @@ fn visit_atom<'a>(
         return Ok(Some(rule));
     }
     let locals = clause.locals.items();
-    walk.bring(Standing::Clause(locals, used.names, used.terms))?;
+    let own = Identifiers::of(alloc, locals)?;
+    walk.bring(Standing::Clause(own, used.names, used.terms))?;
     walk.put(Place {
         derivation: used.body,
         goal: &clause.body,

@@ -1,23 +1,25 @@
-use Rattle.std.proofs.Common.{◌++◌, [], ◌∷◌, length, ap, ◌∙◌}
+use Rattle.std.proofs.Common.{◌++◌, [], ◌∷◌, length, sym, ap, ◌∙◌, subst}
 use Rattle.ap_defs.specs.Freshness.{alpha_under}
 use Rattle.ap_defs.specs.Terms.{term_of}
+use Rattle.ap_checker.specs.declared.binders.Binders.{Binders}
 use Rattle.ap_checker.specs.declared.equality.Compared.{Compared}
+use Rattle.ap_checker.specs.Binders.{AreBinders}
 use Rattle.ap_checker.specs.Comparisons.{are_alike, mark_of, size_of}
-use Rattle.ap_checker.proofs.ComparisonLemmas.{no_swaps}
 use Rattle.ap_checker.proofs.StackLemmas.{first_waits, first_within, turn_keeps, turn_true}
 use Rattle.ap_checker.proofs.equality.are_equal_under.Goals as goal
 
 pub terms-init : goal.terms-init
 terms-init c =
     let ds = c.args.answer.now.conds in
-    let first : Compared = record { left = c.args.t; right = c.args.u; mark = length c.new.result.items } in
-    let mark = ap length c.new.ensures.items in
+    let first : Compared = record { left = c.args.t; right = c.args.u; mark = length c.new.result.pairs.items } in
+    let mark = ap length c.new.ensures.none in
     let one = c.in_ok-put.ensures.pending ∙ ap (λ zs. zs ++ first ∷ []) c.new-2.ensures.items in
     record {
       all =
-          first_waits mark_of (are_alike ds) first c.put.new.self.swaps.items c.put.new.self.pending.items mark one (c.put.ensures.swaps ∙ c.new.ensures.items)
-          ∙ no_swaps ds (term_of c.args.t.now) (term_of c.args.u.now);
-      within = first_within mark_of (are_alike ds) first c.put.new.self.swaps.items c.put.new.self.pending.items mark one;
+          first_waits mark_of (are_alike ds) first c.put.new.self.binders.pairs.items c.put.new.self.pending.items mark one
+          (ap (λ (z : Binders). z.pairs.items) c.put.ensures.binders ∙ c.new.ensures.none);
+      within = first_within mark_of (are_alike ds) first c.put.new.self.binders.pairs.items c.put.new.self.pending.items mark one;
+      found = subst AreBinders (sym c.put.ensures.binders) c.new.ensures.found;
     }
 
 pub terms-preserved : goal.terms-preserved
@@ -26,11 +28,12 @@ terms-preserved c =
     let whole = alpha_under ds (term_of c.args.t.now) (term_of c.args.u.now) in
     record {
       all =
-          turn_true mark_of (are_alike ds) size_of whole c.in-Some.next c.terms.walk.swaps.items c.truncate.new.self.items c.compare.new.walk.swaps.items
-          c.terms.walk.pending.items c.pop.new.self.items c.compare.new.walk.pending.items c.terms.invariant.all c.terms.invariant.within c.in-Some.ensures.items c.truncate.ensures.items
-          c.in_ok-compare.field-0 c.if-not-branch.false c.in_ok-compare.ensures;
+          turn_true mark_of (are_alike ds) size_of whole c.in-Some.next c.terms.walk.binders.pairs.items c.truncate.new.self.pairs.items c.compare.new.walk.binders.pairs.items
+          c.terms.walk.pending.items c.pop.new.self.items c.compare.new.walk.pending.items c.terms.invariant.all c.terms.invariant.within c.in-Some.ensures.items c.in_ok-truncate.ensures.pairs
+          c.in_ok-compare.field-0 c.if-not-branch.false c.in_ok-compare.ensures.tested;
       within =
-          turn_keeps mark_of (are_alike ds) size_of whole c.in-Some.next c.terms.walk.swaps.items c.truncate.new.self.items c.compare.new.walk.swaps.items
-          c.terms.walk.pending.items c.pop.new.self.items c.compare.new.walk.pending.items c.terms.invariant.all c.terms.invariant.within c.in-Some.ensures.items c.truncate.ensures.items
-          c.in_ok-compare.field-0 c.if-not-branch.false c.in_ok-compare.ensures;
+          turn_keeps mark_of (are_alike ds) size_of whole c.in-Some.next c.terms.walk.binders.pairs.items c.truncate.new.self.pairs.items c.compare.new.walk.binders.pairs.items
+          c.terms.walk.pending.items c.pop.new.self.items c.compare.new.walk.pending.items c.terms.invariant.all c.terms.invariant.within c.in-Some.ensures.items c.in_ok-truncate.ensures.pairs
+          c.in_ok-compare.field-0 c.if-not-branch.false c.in_ok-compare.ensures.tested;
+      found = c.in_ok-compare.ensures.found;
     }

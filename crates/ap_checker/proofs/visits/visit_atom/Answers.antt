@@ -42,8 +42,9 @@ returns c = λ kinds.
     let v : vs ≡ map (put_in e) us = ap (map term_of) c.deref-2.ensures.value ∙ c.in_ok-args.ensures ∙ ap (λ ss. map (put_in (environment_of ss)) us) c.deref.ensures.value in
     let node = derivations.atom used.number used.names.now ts (derivation_of used.body.now) in
     goes_brought p a kinds node (goals.atom c.args.pred us) c.args.walk.now c.put.new.self
-    _ (code.Clause c.items-locals.result used.names used.terms) c.bring.new.self c.requires c.in_ok-bring.ensures.standing c.bring.ensures.pending c.put.ensures.standing c.in_ok-put.ensures.pending
+    _ (code.Clause c.in_ok-own.own used.names used.terms) c.bring.new.self c.requires c.in_ok-bring.ensures.standing c.bring.ensures.pending c.put.ensures.standing c.in_ok-put.ensures.pending
     (λ n.
     atom_by p a kinds n used.number c.args.pred used.names.now ts us vs (derivation_of used.body.now) e (clause_of clause) None c.in-Some.ensures v
     (λ rest. c.in_ok-rule.ensures n rest ∙ ap (λ r. first_of (refused n r) rest) c.in_default-2.is)
-    ∙ ap (λ (ls : List Local). refusal p a (kinds_of (locals_of ls)) (suc n) (derivation_of used.body.now) (goal_of clause.body) (open_environment (locals_of ls) used.names.now ts)) (sym c.items-locals.ensures)) refl
+    ∙ ap (λ (ls : List Local). refusal p a (kinds_of (locals_of ls)) (suc n) (derivation_of used.body.now) (goal_of clause.body) (open_environment (locals_of ls) used.names.now ts)) (sym c.items-locals.ensures)
+    ∙ ap (λ (ls : List Local). refusal p a (kinds_of (locals_of c.items-locals.result.now)) (suc n) (derivation_of used.body.now) (goal_of clause.body) (open_environment (locals_of ls) used.names.now ts)) (sym c.in_ok-own.ensures)) refl
