@@ -25,10 +25,10 @@ use Rattle.ap_search.proofs.QueryTreeLemmas.{outs_at_marks, place_choice, width_
 use Rattle.ap_backchain.proofs.MarkLemmas.{marks_turned, settled}
 use Rattle.ap_backchain.proofs.TurnLemmas.{turns_turned}
 use Rattle.ap_backchain.proofs.UnboundLemmas.{marked_stack_by_unbound, stack_by_unbound}
-use Rattle.ap_backchain.specs.Branches.{IsBranchFor, IsBranchOf, IsChoiceAt, IsChoiceOfNode, IsChoosing, IsNamed, IsNodeAt, marks_of_standing, path_of_branch, path_of_standing}
+use Rattle.ap_backchain.specs.Branches.{IsBranchFor, IsBranchOf, IsChoiceAt, IsChoiceOfNode, IsChoosing, IsNamed, IsNodeAt, choices_at, marks_of_standing, path_of_branch, path_of_standing}
 use Rattle.ap_backchain.specs.Ends.{kept_out, without_path}
 use Rattle.ap_backchain.specs.declared.run.Paths.TheVariants as paths
-use Rattle.ap_backchain.specs.Marks.{IsSettled, choice_of, choice_of_atom, choice_of_goal, marks_from, marks_of_turned}
+use Rattle.ap_backchain.specs.Marks.{IsSettled, choice_of, choice_of_atom, choice_of_goal, choices_among, marks_from, marks_of_turned}
 use Rattle.ap_backchain.specs.Places.{position_of}
 use Rattle.ap_backchain.specs.Positions.{Position, Turned, ends, goes, outs_from, turned}
 use Rattle.ap_backchain.specs.Problems.{clauses_in, program_in, queries_in}
@@ -189,6 +189,29 @@ run_is p query b (Ok v) asked of h = λ q k.
     subst (λ (x : NominalQuery). outs_of v.items ≡ outs_at (clauses_in p) p.depth x (path_of_branch b)) (asked_once (slice_get (queries_in p) (p.query - 1)) query q asked k)
     (h ∙ run_at (clauses_in p) p.depth query b.standing (of query asked).marks)
 run_is p query b (Err e) asked of h = tt
+
+-- The same of a run that makes so many choices at most.
+pub if_some : {A E : Type 0} (P Q : A → Type 0) → ((x : A) → P x → Q x) → (r : Result (Option A) E) → IfOk r (λ o. IfSome o P) → IfOk r (λ o. IfSome o Q)
+if_some P Q f (Ok None) h = tt
+if_some P Q f (Ok (Some x)) h = f x h
+if_some P Q f (Err e) h = tt
+
+pub if_none : {A E : Type 0} (P Q : Type 0) → (P → Q) → (r : Result (Option A) E) → IfOk r (λ o. o ≡ None → P) → IfOk r (λ o. o ≡ None → Q)
+if_none P Q f (Ok o) h = λ e. f (h e)
+if_none P Q f (Err e) h = tt
+
+module _ (p : Problem) (query : NominalQuery) (b : Branch) (asked : slice_get (queries_in p) (p.query - 1) ≡ Some query) (of : IsBranchOf p b) where
+  pub outs_below : (os : List NominalOut) → os ≡ outs_among (marks_of_standing (clauses_in p) query.locals b.standing)
+      → (q : NominalQuery) → slice_get (queries_in p) (p.query - 1) ≡ Some q → os ≡ outs_at (clauses_in p) p.depth q (path_of_branch b)
+  outs_below os h q k =
+      subst (λ (x : NominalQuery). os ≡ outs_at (clauses_in p) p.depth x (path_of_branch b)) (asked_once (slice_get (queries_in p) (p.query - 1)) query q asked k)
+      (h ∙ run_at (clauses_in p) p.depth query b.standing (of query asked).marks)
+
+  pub choices_below : (q : NominalQuery) → slice_get (queries_in p) (p.query - 1) ≡ Some q
+      → choices_among (marks_of_standing (clauses_in p) query.locals b.standing) ≡ choices_at (clauses_in p) p.depth q (path_of_branch b)
+  choices_below q k =
+      subst (λ (x : NominalQuery). choices_among (marks_of_standing (clauses_in p) query.locals b.standing) ≡ choices_at (clauses_in p) p.depth x (path_of_branch b))
+      (asked_once (slice_get (queries_in p) (p.query - 1)) query q asked k) (sym (ap choices_among (of query asked).marks))
 
 pub step_is : (p : Problem) (query : NominalQuery) (b c : Branch) (t : Standing) (k : ℕ) → slice_get (queries_in p) (p.query - 1) ≡ Some query → IsBranchOf p b
     → c.standing ≡ t → IsNamed c.node c.standing → path_of_standing t ≡ path_of_branch b ++ k ∷ []

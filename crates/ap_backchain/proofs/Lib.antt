@@ -10,6 +10,7 @@ pub mod BranchLemmas
 pub mod FitLemmas
 pub mod MarkLemmas
 pub mod WantedLemmas
+pub mod CountLemmas
 pub mod SearchLemmas
 pub mod RunLemmas
 pub mod StoreTurnLemmas

@@ -12,7 +12,7 @@ use Rattle.ap_defs.specs.declared.paths.Out.TheVariants as code
 use Rattle.ap_search.specs.MarkedContinuations.{NominalMark, mark_in, mark_path, out}
 use Rattle.ap_search.specs.PathTrees.{query_choices}
 use Rattle.ap_search.specs.Prefixes.{beginning}
-use Rattle.ap_backchain.specs.Marks.{choice_of, marks_from}
+use Rattle.ap_backchain.specs.Marks.{choice_of, choices_among, marks_from}
 use Rattle.ap_backchain.specs.Places.{position_of}
 use Rattle.ap_backchain.specs.Problems.{clauses_in, queries_in}
 use Rattle.ap_backchain.specs.declared.branch.Branch.{Branch}
@@ -51,6 +51,10 @@ IsNamed nodes.Cut (standings.Ended (code.Cut p)) = Unit {0}
 IsNamed nodes.Stuck (standings.Ended (code.Stuck p)) = Unit {0}
 IsNamed nodes.Failed (standings.Failed path) = Unit {0}
 IsNamed _ _ = ⊥
+
+-- how many choices the search of a query makes at a path and below it
+abbrev pub choices_at : Clauses → ℕ → NominalQuery → List ℕ → ℕ
+choices_at program d q p = choices_among (beginning mark_path p (map (mark_in q.locals) (marked_query program d q)))
 
 abbrev pub path_of_branch : Branch → List ℕ
 path_of_branch b = path_of_standing b.standing

@@ -5,7 +5,7 @@ use Rattle.ap_defs.specs.Goals.{NominalGoal, NominalClause, atom, either, Clause
 use Rattle.ap_defs.specs.Terms.{NominalTerm}
 use Rattle.ap_defs.specs.Types.{NominalLocal}
 use Rattle.ap_search.specs.Continuations.{Waiting}
-use Rattle.ap_search.specs.MarkedContinuations.{NominalMark, marked_calls_then, marked_clauses_then, marked_stack_then, marked_then, out}
+use Rattle.ap_search.specs.MarkedContinuations.{NominalMark, choice, marked_calls_then, marked_clauses_then, marked_stack_then, marked_then, out}
 use Rattle.ap_backchain.specs.Positions.{Position, Turned, ends, goes}
 use Rattle.ap_backchain.specs.Unbound.{answer_by_unbound}
 
@@ -20,6 +20,16 @@ marks_from_each program locals (p ∷ ps) = marks_from program locals p ++ marks
 abbrev pub marks_of_turned : Clauses → List NominalLocal → Turned → List NominalMark
 marks_of_turned program locals (ends o) = out o ∷ []
 marks_of_turned program locals (goes ps) = marks_from_each program locals ps
+
+-- how many choices are among the marks
+abbrev pub choices_among : List NominalMark → ℕ
+choices_among [] = 0
+choices_among (out o ∷ ms) = choices_among ms
+choices_among (choice p w ∷ ms) = suc (choices_among ms)
+
+-- how many choices a search makes from a place
+abbrev pub choices_from : Clauses → List NominalLocal → Position → ℕ
+choices_from program locals p = choices_among (marks_from program locals p)
 
 -- among how many the first goal chooses, if it chooses: an atom that isn't cut among clauses, and a disjunction between its sides
 abbrev pub choice_of_atom : Clauses → ℕ → ℕ → Option ℕ
@@ -46,6 +56,14 @@ clauses_marks program locals d ts cs p =
 abbrev pub choice_of : Clauses → List Waiting → Option ℕ
 choice_of program [] = None
 choice_of program (w ∷ ws) = choice_of_goal program w.depth w.goal
+
+-- how many choices the first goal makes
+abbrev pub one_if : Option ℕ → ℕ
+one_if None = 0
+one_if (Some w) = 1
+
+abbrev pub choices_here : Clauses → Position → ℕ
+choices_here program p = one_if (choice_of program p.waiting)
 
 -- a search that doesn't choose ends, or goes on from one place with the same path
 abbrev pub IsSettled : Position → Turned → Type 0

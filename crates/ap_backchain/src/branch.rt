@@ -1,6 +1,6 @@
 //! Branches of the search of a problem, from choice to choice.
 
-ghost use Rattle.std.specs.Prelude.{◌≡◌, ◌-◌, ◌^◌, ◌<◌, ◌++◌, [], ◌∷◌, Some, IfOk, length, map, slice_get};
+ghost use Rattle.std.specs.Prelude.{◌≡◌, ◌-◌, ◌^◌, ◌<◌, ◌≤◌, ◌++◌, [], ◌∷◌, None, Some, IfOk, IfSome, length, map, slice_get};
 ghost use Rattle.std.specs.List.{range_with_len};
 ghost use Rattle.ap_defs.specs.Answers.{answer_of, found, outs_at, outs_of};
 ghost use Rattle.ap_defs.specs.Goals.{NominalQuery, clause_of};
@@ -8,10 +8,12 @@ ghost use Rattle.ap_search.specs.MarkedContinuations.{outs_among};
 ghost use Rattle.ap_backchain.specs.declared.problem.Problem.{Problem};
 ghost use Rattle.ap_defs.specs.Types.{locals_of};
 ghost use Rattle.ap_backchain.specs.Below.{AreClausesBelow};
-ghost use Rattle.ap_backchain.specs.Branches.{IsAnswering, IsBranchOf, IsChoiceOf, IsNamed, IsNodeAt, marks_of_standing, path_of_branch};
+ghost use Rattle.ap_backchain.specs.Branches.{IsAnswering, IsBranchOf, IsChoiceOf, IsNamed, IsNodeAt, choices_at, marks_of_standing, path_of_branch};
+ghost use Rattle.ap_backchain.specs.Marks.{choices_among};
 ghost use Rattle.ap_backchain.specs.Problems.{HasQuery, clauses_in, queries_in};
 
 use crate::answer_copies::copy_answer;
+use crate::counted::outputs_by_choices;
 use crate::problem::{Problem, clauses_of_problem, query_of_problem};
 use crate::run::{Paths, first_place, outputs_from};
 use crate::standing::{Standing, advance, path_of};
@@ -94,6 +96,38 @@ fn outs_of_standing<'a>(
     }
 }
 
+/// The outputs of where a search stands, where it makes at most so many choices: none says that it makes
+/// more.
+fn outs_by_choices<'a>(
+    alloc: Global,
+    clauses: &'a [List<Clause<Term>>],
+    locals: &[Local],
+    most: u64,
+    standing: Standing<'a>,
+) -> Result<Option<Vec<Out>>, Memory>
+    requires clauses { AreClausesBelow (map (map clause_of) clauses.now) }
+    requires locals { length locals.now < 2 ^ 64 }
+    ensures outs { IfOk result (λ o. IfSome o (λ v. outs_of v.items
+        ≡ outs_among (marks_of_standing (map (map clause_of) clauses.now)
+        (locals_of locals.now) standing.entry))) }
+    ensures few { IfOk result (λ o. IfSome o (λ v.
+        choices_among (marks_of_standing (map (map clause_of) clauses.now)
+        (locals_of locals.now) standing.entry) ≤ most)) }
+    ensures many { IfOk result (λ o. o ≡ None →
+        most < choices_among (marks_of_standing (map (map clause_of) clauses.now)
+        (locals_of locals.now) standing.entry)) }
+{
+    match standing {
+        Standing::Choosing(_, place) => outputs_by_choices(alloc, clauses, locals, most, place),
+        Standing::Ended(out) => {
+            let mut outs = Vec::new(alloc);
+            outs.push(out)?;
+            Ok(Some(outs))
+        }
+        Standing::Failed(_) => Ok(Some(Vec::new(alloc))),
+    }
+}
+
 impl<'a> Branch<'a> {
     /// The branch of the empty path, run up to its first choice or its end.
     pub fn root(alloc: Global, p: &Problem<'a>) -> Result<Branch<'a>, Memory>
@@ -170,5 +204,31 @@ impl<'a> Branch<'a> {
         let clauses = clauses_of_problem(p);
         let query = query_of_problem(p);
         outs_of_standing(alloc, clauses, query.locals.items(), self.standing)
+    }
+
+    /// The outputs of the query whose paths begin with the branch's path, in order, as `run`, where the
+    /// search makes at most so many choices at the path and below it: none says that it makes more.
+    pub fn run_within(
+        self,
+        alloc: Global,
+        p: &Problem<'a>,
+        most: u64,
+    ) -> Result<Option<Vec<Out>>, Memory>
+        requires query { HasQuery p.now }
+        requires of { IsBranchOf p.now self }
+        ensures outs { IfOk result (λ o. IfSome o (λ v. (q : NominalQuery) →
+            slice_get (queries_in p.now) (p.now.query - 1) ≡ Some q →
+            outs_of v.items
+            ≡ outs_at (clauses_in p.now) p.now.depth q (path_of_branch self.entry))) }
+        ensures few { IfOk result (λ o. IfSome o (λ v. (q : NominalQuery) →
+            slice_get (queries_in p.now) (p.now.query - 1) ≡ Some q →
+            choices_at (clauses_in p.now) p.now.depth q (path_of_branch self.entry) ≤ most)) }
+        ensures many { IfOk result (λ o. o ≡ None → (q : NominalQuery) →
+            slice_get (queries_in p.now) (p.now.query - 1) ≡ Some q →
+            most < choices_at (clauses_in p.now) p.now.depth q (path_of_branch self.entry)) }
+    {
+        let clauses = clauses_of_problem(p);
+        let query = query_of_problem(p);
+        outs_by_choices(alloc, clauses, query.locals.items(), most, self.standing)
     }
 }

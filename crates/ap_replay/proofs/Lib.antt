@@ -1,3 +1,4 @@
+pub mod BoundLemmas
 pub mod ReplayLemmas
 pub mod WholeLemmas
 pub mod Shared

@@ -10,7 +10,7 @@ use Rattle.ap_paths.specs.Entries as entries
 use Rattle.ap_search.proofs.QueryTreeLemmas.{query_tree}
 use Rattle.ap_backchain.specs.Problems.{clauses_in}
 use Rattle.ap_backchain.specs.declared.problem.Problem.{Problem}
-use Rattle.ap_replay.specs.ProblemTrees.{choices_of, outs_of_query, problem_choices, problem_outs, problem_plan, query_in, shared_out}
+use Rattle.ap_replay.specs.ProblemTrees.{choices_of, is_shared, outs_of_query, problem_choices, problem_outs, problem_plan, query_in, shared_out}
 
 next : (i : ℕ) → suc i ≡ i + 1
 next i = omega arith
@@ -61,5 +61,5 @@ planned_if : (p : Problem) (path : List ℕ) (b : Bool)
 planned_if p path true = shared_planned p path (problem_choices p path) refl
 planned_if p path false = refl
 
-pub problem_planned : (p : Problem) (path : List ℕ) → InTree (problem_choices p) path → IsPlan (problem_choices p) (problem_outs p) path (problem_plan p path)
-problem_planned p path there = planned_if p path (nat_lt (length path) 16)
+pub problem_planned : (bounded : Bool) (p : Problem) (path : List ℕ) → InTree (problem_choices p) path → IsPlan (problem_choices p) (problem_outs p) path (problem_plan bounded p path)
+problem_planned bounded p path there = planned_if p path (is_shared bounded p path)

@@ -1,5 +1,6 @@
 -- The tree of paths of a problem.
-use Rattle.std.specs.Prelude.{◌-◌, ℕ, nat_lt, if◌then◌else◌, List, [], length, Option, Some, None, Vec, slice_get}
+use Rattle.std.specs.Prelude.{◌+◌, ◌-◌, ◌*◌, ◌^◌, ℕ, Bool, ◌&&◌, ◌||◌, min, nat_lt, if◌then◌else◌, List, [], length, Option, Some, None, Vec, slice_get}
+use Rattle.std.specs.Int.{trailing_zeros, w64}
 use Rattle.std.specs.List.{range_with_len}
 use Rattle.ap_defs.specs.Answers.{NominalOut, outs_at}
 use Rattle.ap_defs.specs.Goals.{Clauses, NominalQuery}
@@ -8,6 +9,7 @@ use Rattle.ap_defs.specs.declared.paths.Node.TheVariants as nodes
 use Rattle.ap_paths.specs.Entries as entries
 use Rattle.ap_paths.specs.Entries.{Plan}
 use Rattle.ap_search.specs.PathTrees.{query_choices}
+use Rattle.ap_backchain.specs.Branches.{choices_at}
 use Rattle.ap_backchain.specs.Problems.{clauses_in, queries_in}
 use Rattle.ap_backchain.specs.declared.problem.Problem.{Problem}
 
@@ -30,19 +32,41 @@ problem_choices p = choices_of (clauses_in p) p.depth (query_in p)
 abbrev pub problem_outs : Problem → List ℕ → List NominalOut
 problem_outs p = outs_of_query (clauses_in p) p.depth (query_in p)
 
+abbrev pub choices_below_of : Clauses → ℕ → Option NominalQuery → List ℕ → ℕ
+choices_below_of program d None path = 0
+choices_below_of program d (Some q) path = choices_at program d q path
+
+-- how many choices the search of the problem makes at a path and below it
+abbrev pub choices_below : Problem → List ℕ → ℕ
+choices_below p path = choices_below_of (clauses_in p) p.depth (query_in p) path
+
+-- So many choices may be made by one worker alone: some 256, one more for each on the way, and twice as many with each two that divides
+-- the number of those. So each bound comes after as many smaller ones as make it cheap (Luby, Sinclair and Zuckerman, 1993).
+abbrev pub bound_at : List ℕ → ℕ
+bound_at path = (256 + min (length path) (2 ^ 20)) * 2 ^ min (trailing_zeros w64 (length path)) 40
+
 -- a choice has each of its ways as a kid
 abbrev pub shared_out : Option ℕ → List NominalOut → Plan
 shared_out None os = entries.outs os
 shared_out (Some w) os = entries.kids (range_with_len 1 w)
 
--- choices with fewer than 16 others on the way are shared out; all else is searched whole
-abbrev pub problem_plan : Problem → List ℕ → Plan
-problem_plan p path = if nat_lt (length path) 16 then shared_out (problem_choices p path) (problem_outs p path) else entries.outs (problem_outs p path)
+-- choices with fewer than 16 others on the way are shared out, and in a bounded search those that lead to too many
+abbrev pub is_shared : Bool → Problem → List ℕ → Bool
+is_shared bounded p path = nat_lt (length path) 16 || (bounded && nat_lt (bound_at path) (choices_below p path))
+
+-- all else is searched whole
+abbrev pub problem_plan : Bool → Problem → List ℕ → Plan
+problem_plan bounded p path = if is_shared bounded p path then shared_out (problem_choices p path) (problem_outs p path) else entries.outs (problem_outs p path)
 
 -- the kids of a branch at a path that is shared out, where it is at a choice
 abbrev pub kids_shared : List ℕ → Node → Option (List ℕ)
 kids_shared path (nodes.Choice w kept) = if nat_lt (length path) 16 then Some kept else None
 kids_shared path _ = None
+
+-- the kids of a branch, where it is at a choice
+abbrev pub kids_of : Node → Option (List ℕ)
+kids_of (nodes.Choice w kept) = Some kept
+kids_of _ = None
 
 -- the answer of a visit: these kids, or else these outputs
 abbrev pub kids_or : List NominalOut → Option (List ℕ) → Plan

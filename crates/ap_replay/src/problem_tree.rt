@@ -1,25 +1,30 @@
 //! The search of a problem as a tree of paths.
 
-ghost use Rattle.std.specs.Prelude.{◌≡◌, IfOk};
+ghost use Rattle.std.specs.Prelude.{◌≡◌, None, true, IfOk};
+ghost use Rattle.ap_backchain.specs.Branches.{IsBranchOf, path_of_branch};
 ghost use Rattle.ap_backchain.specs.Problems.{HasQuery};
-ghost use Rattle.ap_replay.specs.ProblemTrees.{items_in, kids_shared};
+ghost use Rattle.ap_paths.specs.Entries.{visit_of};
+ghost use Rattle.ap_replay.specs.ProblemTrees.{bound_at, items_in, kids_of, kids_shared, problem_plan};
 
 use crate::replay::branch_at;
+use ap_backchain::branch::Branch;
 use ap_backchain::problem::Problem;
 use ap_defs::lists::List;
 use ap_defs::memory::Memory;
 use ap_defs::paths::{Node, Out, Path, Visit};
-use ap_paths::Tree;
+use ap_paths::{Limit, Tree};
 use std::alloc::Global;
 
 /// So many choices on the way to a branch, and it is searched whole, by one worker.
 const SHARED: usize = 16;
 
 /// The tree of paths of a problem. Its choices with fewer than 16 others on the way are shared out
-/// among workers; what lies further down is searched whole.
+/// among workers. What lies further down is searched whole; but where fewer than all answers may be
+/// wanted, only if few choices are made for that, so that no worker is held by what is needless.
 #[derive(Clone, Copy)]
 pub struct ProblemTree<'a> {
     problem: Problem<'a>,
+    bounded: bool,
     ghost query: { HasQuery problem },
 }
 
@@ -39,15 +44,73 @@ fn shared_kids(alloc: Global, path: &Path, node: &Node) -> Result<Option<Vec<u32
     }
 }
 
+/// The kids of a branch, if it is at a choice.
+fn kids_at(alloc: Global, node: &Node) -> Result<Option<Vec<u32>>, Memory>
+    ensures { IfOk result (λ o. items_in o ≡ kids_of node.now) }
+{
+    match node {
+        Node::Choice(_, kept) => Ok(Some(kept.items().to_vec(alloc)?)),
+        _ => Ok(None),
+    }
+}
+
+/// How many choices a worker alone may make at a path and below it.
+fn bound_of(path: &Path) -> u64
+    ensures { result ≡ bound_at path.now }
+{
+    let way = path.choices().len();
+    let doublings = way.trailing_zeros().min(40);
+    let once = 256 + way.min(1 << 20) as u64;
+    once << doublings
+}
+
+/// What a visit of a long path answers: the outputs, where few choices are to be made, and else the kids.
+fn visit_bounded<'a>(
+    alloc: Global,
+    problem: &Problem<'a>,
+    branch: Branch<'a>,
+    path: &Path,
+) -> Result<Visit, Memory>
+    requires query { HasQuery problem.now }
+    requires of { IsBranchOf problem.now branch }
+    requires path { path_of_branch branch ≡ path.now }
+    requires long { kids_shared path.now branch.node ≡ None }
+    ensures { IfOk result (λ v. visit_of v ≡ problem_plan true problem.now path.now) }
+{
+    let Some(kids) = kids_at(alloc, branch.node())? else {
+        let outs = branch.run(alloc, problem)?;
+        return Ok(Visit::Outs(List::of(outs)));
+    };
+    match branch.run_within(alloc, problem, bound_of(path))? {
+        Some(outs) => Ok(Visit::Outs(List::of(outs))),
+        None => Ok(Visit::Kids(List::of(kids))),
+    }
+}
+
 impl<'a> ProblemTree<'a> {
     ghost use Rattle.std.specs.Prelude.{◌≡◌};
 
-    /// The tree of the problem. It takes no memory.
+    /// The tree of the problem, of which all answers are wanted. It takes no memory.
     pub fn of(problem: Problem<'a>) -> ProblemTree<'a>
         requires { HasQuery problem }
         ensures { result.problem ≡ problem.entry }
     {
-        ProblemTree { problem }
+        ProblemTree {
+            problem,
+            bounded: false,
+        }
+    }
+
+    /// The same, where so many are. It takes no memory.
+    pub fn within(problem: Problem<'a>, limit: Limit) -> ProblemTree<'a>
+        requires { HasQuery problem }
+        ensures { result.problem ≡ problem.entry }
+    {
+        let bounded = match limit {
+            Limit::All => false,
+            Limit::First(_) => true,
+        };
+        ProblemTree { problem, bounded }
     }
 }
 
@@ -59,7 +122,7 @@ impl<'a> Tree for ProblemTree<'a> {
 
     ghost at = { λ t. problem_outs t.problem };
 
-    ghost plan = { λ t. problem_plan t.problem };
+    ghost plan = { λ t. problem_plan t.bounded t.problem };
 
     fn width(&self, alloc: Global, path: &Path) -> Result<Option<u32>, Memory> {
         let branch = branch_at(alloc, &self.problem, path)?;
@@ -78,6 +141,9 @@ impl<'a> Tree for ProblemTree<'a> {
         match shared_kids(alloc, path, branch.node())? {
             Some(kids) => Ok(Visit::Kids(List::of(kids))),
             None => {
+                if self.bounded {
+                    return visit_bounded(alloc, &self.problem, branch, path);
+                }
                 let outs = branch.run(alloc, &self.problem)?;
                 Ok(Visit::Outs(List::of(outs)))
             }
@@ -86,5 +152,5 @@ impl<'a> Tree for ProblemTree<'a> {
 
     ghost branches = { λ t. problem_branches t.problem };
 
-    ghost planned = { λ t. problem_planned t.problem };
+    ghost planned = { λ t. problem_planned t.bounded t.problem };
 }

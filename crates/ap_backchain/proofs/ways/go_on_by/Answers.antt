@@ -6,8 +6,8 @@ use Rattle.ap_backchain.specs.Positions.{Position, with_goal}
 use Rattle.ap_backchain.specs.Tracks.{GoesFrom}
 use Rattle.ap_backchain.proofs.RunLemmas.{pending_goes, points_goes}
 use Rattle.ap_backchain.proofs.TrackLemmas.{goes_trans}
-use Rattle.ap_backchain.proofs.run.go_on_by.Goals as goal
-use Rattle.ap_backchain.proofs.run.go_on_by.Goals.{In_ok-push_goal-in-Right}
+use Rattle.ap_backchain.proofs.ways.go_on_by.Goals as goal
+use Rattle.ap_backchain.proofs.ways.go_on_by.Goals.{In_ok-push_goal-in-Right}
 
 pub push_goal-requires : goal.push_goal-requires
 push_goal-requires c =

@@ -8,7 +8,7 @@ use Rattle.ap_backchain.specs.declared.points.Rest.{Rest}
 use Rattle.ap_backchain.specs.declared.points.Rest.TheVariants as rests
 use Rattle.ap_backchain.proofs.RunLemmas.{pending_with, points_with}
 use Rattle.ap_backchain.proofs.TrackLemmas.{goes_trans}
-use Rattle.ap_backchain.proofs.run.take_left.Goals as goal
+use Rattle.ap_backchain.proofs.ways.take_left.Goals as goal
 
 pub push_goal-requires : goal.push_goal-requires
 push_goal-requires c =

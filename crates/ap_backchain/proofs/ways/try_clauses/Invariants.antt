@@ -2,7 +2,7 @@ use Rattle.std.proofs.Common.{◌≡◌, ◌-◌, length}
 use Rattle.ap_backchain.specs.Places.{position_of, track_of}
 use Rattle.ap_backchain.specs.Points.{positions_left}
 use Rattle.ap_backchain.specs.declared.points.Rest.TheVariants as rests
-use Rattle.ap_backchain.proofs.run.try_clauses.Given as goal
+use Rattle.ap_backchain.proofs.ways.try_clauses.Given as goal
 
 -- the clauses so far have no solution, and all is as before
 abbrev pub invariant-trying : goal.invariant-trying

@@ -13,7 +13,7 @@ use Rattle.ap_backchain.proofs.ApartLemmas.{left_skipped}
 use Rattle.ap_backchain.proofs.ChooseLemmas.{fit_here}
 use Rattle.ap_backchain.proofs.RunLemmas.{clause_left, next_same, no_clause_left, pending_rest, pending_goes, points_goes, points_rest}
 use Rattle.ap_backchain.proofs.TrackLemmas.{goes_same}
-use Rattle.ap_backchain.proofs.run.try_clauses.Goals as goal
+use Rattle.ap_backchain.proofs.ways.try_clauses.Goals as goal
 
 pub enter_clause-requires-clause-args : goal.enter_clause-requires-clause-args
 enter_clause-requires-clause-args c =

@@ -9,7 +9,7 @@ use Rattle.ap_backchain.specs.Places.{position_of}
 use Rattle.ap_backchain.specs.Positions.{Position, turned, turned_goal}
 use Rattle.ap_backchain.specs.Searches.{followed, pending_of, positions_with}
 use Rattle.ap_backchain.proofs.RunLemmas.{pending_same, points_same}
-use Rattle.ap_backchain.proofs.run.choose.Goals as goal
+use Rattle.ap_backchain.proofs.ways.choose.Goals as goal
 
 pub choose_by-requires-clause-goal : goal.choose_by-requires-clause-goal
 choose_by-requires-clause-goal c = c.in-Some.ensures.some.1

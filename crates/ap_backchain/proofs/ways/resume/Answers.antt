@@ -4,7 +4,7 @@ use Rattle.ap_backchain.specs.Places.{track_of}
 use Rattle.ap_backchain.specs.Points.{ArePoints, IsFitRest, positions_pending}
 use Rattle.ap_backchain.specs.declared.points.Point.{Point}
 use Rattle.ap_backchain.proofs.RunLemmas.{latest_points, pending_back, points_back}
-use Rattle.ap_backchain.proofs.run.resume.Goals as goal
+use Rattle.ap_backchain.proofs.ways.resume.Goals as goal
 
 pub go_back-requires-clause-within : goal.go_back-requires-clause-within
 go_back-requires-clause-within c = (latest_points c.resuming.place c.pop.new.self c.resuming.points c.in-Some.field-0 c.in-Some.ensures.items c.resuming.invariant.points).0.within

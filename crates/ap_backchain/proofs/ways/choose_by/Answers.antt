@@ -7,7 +7,7 @@ use Rattle.ap_backchain.specs.Places.{position_of}
 use Rattle.ap_backchain.specs.Positions.{Position, by_clauses, turned_goal}
 use Rattle.ap_backchain.specs.Searches.{followed, pending_of, positions_with}
 use Rattle.ap_backchain.proofs.RunLemmas.{atom_goes, deep_atom}
-use Rattle.ap_backchain.proofs.run.choose_by.Goals as goal
+use Rattle.ap_backchain.proofs.ways.choose_by.Goals as goal
 
 pub overflow_sub-untried : goal.overflow_sub-untried
 overflow_sub-untried c =

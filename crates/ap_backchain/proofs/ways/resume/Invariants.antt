@@ -1,6 +1,6 @@
 use Rattle.std.proofs.Common.{◌≡◌, length}
 use Rattle.ap_backchain.specs.Searches.{HasPoints, pending_of}
-use Rattle.ap_backchain.proofs.run.resume.Given as goal
+use Rattle.ap_backchain.proofs.ways.resume.Given as goal
 
 -- the choices so far had no way left, so that the others have all
 abbrev pub invariant-resuming : goal.invariant-resuming

@@ -1,0 +1,83 @@
+//! Searches that make at most so many choices.
+
+ghost use Rattle.std.specs.Prelude.{◌≡◌, ◌+◌, ◌<◌, ◌≤◌, ◌^◌, None, Some, IfOk, IfSome, length, map};
+ghost use Rattle.ap_defs.specs.Answers.{outs_of};
+ghost use Rattle.ap_defs.specs.Goals.{clause_of};
+ghost use Rattle.ap_defs.specs.Types.{locals_of};
+ghost use Rattle.ap_backchain.specs.Below.{AreClausesBelow};
+ghost use Rattle.ap_backchain.specs.Ends.{kept_out};
+ghost use Rattle.ap_backchain.specs.Marks.{choices_from, choices_here};
+ghost use Rattle.ap_backchain.specs.Places.{position_of};
+ghost use Rattle.ap_backchain.specs.Positions.{outs_from};
+
+use crate::choices::choice_at;
+use crate::place::Place;
+use crate::run::{Paths, go_on};
+use ap_defs::goals::{Clause, Local};
+use ap_defs::lists::List;
+use ap_defs::memory::Memory;
+use ap_defs::paths::Out;
+use ap_defs::terms::Term;
+use ap_paths::Limit;
+use std::alloc::Global;
+
+/// How many more choices may be made after the one at a place, if there is one, where so many may: none
+/// says that it is one too many.
+fn left_after<'a>(clauses: &'a [List<Clause<Term>>], place: &Place<'a>, left: u64) -> Option<u64>
+    requires { AreClausesBelow (map (map clause_of) clauses.now) }
+    ensures some { IfSome result (λ n.
+        n + choices_here (map (map clause_of) clauses.now) (position_of place.now) ≡ left) }
+    ensures none { result ≡ None → (left ≡ 0)
+        × (choices_here (map (map clause_of) clauses.now) (position_of place.now) ≡ 1) }
+{
+    match choice_at(clauses, place) {
+        Some(_) => left.checked_sub(1),
+        None => Some(left),
+    }
+}
+
+/// The outputs from a place, in order, where the search makes at most so many choices: none says that it
+/// makes more.
+pub fn outputs_by_choices<'a>(
+    alloc: Global,
+    clauses: &'a [List<Clause<Term>>],
+    locals: &[Local],
+    most: u64,
+    first: Place<'a>,
+) -> Result<Option<Vec<Out>>, Memory>
+    requires clauses { AreClausesBelow (map (map clause_of) clauses.now) }
+    requires locals { length locals.now < 2 ^ 64 }
+    ensures outs { IfOk result (λ o. IfSome o (λ v. outs_of v.items
+        ≡ map (kept_out Paths.Kept) (outs_from (map (map clause_of) clauses.now)
+        (locals_of locals.now) (position_of first.entry)))) }
+    ensures few { IfOk result (λ o. IfSome o (λ v.
+        choices_from (map (map clause_of) clauses.now) (locals_of locals.now)
+        (position_of first.entry) ≤ most)) }
+    ensures many { IfOk result (λ o. o ≡ None →
+        most < choices_from (map (map clause_of) clauses.now) (locals_of locals.now)
+        (position_of first.entry)) }
+{
+    let mut outs = Vec::new(alloc);
+    let mut points = Vec::new(alloc);
+    let mut place = first;
+    let mut wanted = Limit::All;
+    let mut left = most;
+    'searching: loop {
+        let Some(fewer) = left_after(clauses, &place, left) else {
+            return Ok(None);
+        };
+        left = fewer;
+        if !go_on(
+            alloc,
+            clauses,
+            locals,
+            Paths::Kept,
+            &mut place,
+            &mut points,
+            &mut outs,
+            &mut wanted,
+        )? {
+            return Ok(Some(outs));
+        }
+    }
+}

@@ -1,0 +1,12 @@
+-- The bound of a visit is a number of the machine.
+use Rattle.std.proofs.Common.{◌≡◌, ◌+◌, ◌*◌, ◌%◌, ◌<◌, ◌≤◌, ℕ, arith}
+use Rattle.std.proofs.Math.Nat.{mod-eq_of_lt}
+use Rattle.std.proofs.Math.Pow.{pow_mono}
+use Rattle.std.proofs.lemmas.Nat.{mul-le}
+use Rattle.std.specs.Prelude.{◌^◌}
+
+pub doubled : (m d : ℕ) → m ≤ 1048576 → d ≤ 40 → (256 + m) * 2 ^ d % 2 ^ 64 ≡ (256 + m) * 2 ^ d
+doubled m d h k =
+    let once : 256 + m ≤ 1048832 = omega (arith, h) in
+    let most : (256 + m) * 2 ^ d ≤ 1048832 * 2 ^ 40 = mul-le (256 + m) (2 ^ d) 1048832 (2 ^ 40) once (pow_mono k) in
+    mod-eq_of_lt (omega (arith, most))
