@@ -19,7 +19,7 @@ use std::marker::Model;
 /// The identifiers of an item. What stands for a free one is found without going through those before it.
 /// Contracts see the identifiers.
 #[derive(Drop)]
-pub(crate) struct Identifiers<'a> {
+pub struct Identifiers<'a> {
     locals: &'a [Local],
     // How many free variables come before each free variable, and how many free names before each other one.
     places: Vec<usize>,
@@ -80,7 +80,7 @@ fn has_sort(local: &Local, sort: u32) -> bool
 
 impl<'a> Identifiers<'a> {
     /// The identifiers, with their places. `Err` is want of memory.
-    pub(crate) fn of(alloc: Global, locals: &'a [Local]) -> Result<Identifiers<'a>, Memory>
+    pub fn of(alloc: Global, locals: &'a [Local]) -> Result<Identifiers<'a>, Memory>
         ensures { IfOk result (λ i. i ≡ locals.now) }
     {
         let places = places_of(alloc, locals)?;
@@ -102,7 +102,7 @@ impl<'a> Identifiers<'a> {
     }
 
     /// The name for a free name, and any other name itself.
-    pub(crate) fn name_for(&self, names: &[Name], b: Name) -> Name
+    pub fn name_for(&self, names: &[Name], b: Name) -> Name
         ensures { result ≡ name_beside (local_names zero (locals_of self.now)) names.now b }
     {
         let Some((local, place)) = self.at(b.num) else {
@@ -116,7 +116,7 @@ impl<'a> Identifiers<'a> {
     }
 
     /// The term for a free variable.
-    pub(crate) fn term_for<'t>(&self, terms: &'t [Term], x: Var) -> Option<&'t Term>
+    pub fn term_for<'t>(&self, terms: &'t [Term], x: Var) -> Option<&'t Term>
         ensures { MatchOption result
             (open_term_for (local_vars zero (locals_of self.now)) (map term_of terms.now) x ≡ unit)
             (λ t. open_term_for (local_vars zero (locals_of self.now)) (map term_of terms.now) x

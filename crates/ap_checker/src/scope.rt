@@ -17,7 +17,7 @@ use std::alloc::Global;
 
 /// What stands for the free identifiers of an item, or for one that its goal brought.
 #[derive(Drop)]
-pub(crate) enum Standing<'a> {
+pub enum Standing<'a> {
     /// The terms for the free variables of a query, in order; each free name stands for itself.
     Query(Identifiers<'a>, &'a [Term]),
     /// The names for the free names of a clause and the terms for its free variables, in order.
@@ -166,7 +166,7 @@ fn put_part<'a>(
 }
 
 /// The term with its names and variables replaced at once.
-pub(crate) fn put(alloc: Global, scope: &[Standing<'_>], t: &Term) -> Result<Term, Memory>
+pub fn put(alloc: Global, scope: &[Standing<'_>], t: &Term) -> Result<Term, Memory>
     ensures { IfOk result (λ u. term_of u ≡ put_in (environment_of scope.now) (term_of t.now)) }
 {
     let mut outside = Outside::new(alloc);
@@ -180,11 +180,7 @@ pub(crate) fn put(alloc: Global, scope: &[Standing<'_>], t: &Term) -> Result<Ter
 }
 
 /// The terms with their names and variables replaced at once.
-pub(crate) fn put_each(
-    alloc: Global,
-    scope: &[Standing<'_>],
-    terms: &[Term],
-) -> Result<Vec<Term>, Memory>
+pub fn put_each(alloc: Global, scope: &[Standing<'_>], terms: &[Term]) -> Result<Vec<Term>, Memory>
     ensures { IfOk result (λ v. map term_of v.items ≡ map (put_in (environment_of scope.now)) (map term_of terms.now)) }
 {
     let mut all = Vec::new(alloc);
