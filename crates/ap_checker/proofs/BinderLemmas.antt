@@ -1,5 +1,5 @@
 -- Equality of terms within pairs of binders.
-use Rattle.std.proofs.Common.{◌≡◌, ℕ, suc, Bool, true, false, ◌==◌, ◌&&◌, ◌||◌, not, if◌then◌else◌, List, [], ◌∷◌, ◌++◌, refl, sym, ap, ap₂, ◌∙◌, arith, true≢false, inl, inr}
+use Rattle.std.proofs.Common.{◌≡◌, ℕ, suc, Bool, true, false, ◌==◌, ◌&&◌, ◌||◌, not, if◌then◌else◌, List, [], ◌∷◌, ◌++◌, refl, sym, ap, ap₂, ◌∙◌, true≢false, inl, inr}
 use Rattle.std.specs.Prelude.{Option, Some, None, is_some}
 use Rattle.ap_defs.specs.declared.terms.Name.{Name}
 use Rattle.ap_defs.specs.declared.terms.Swap.{Swap}
@@ -7,11 +7,11 @@ use Rattle.ap_defs.specs.Freshness.{Conds, alpha_under, fresh_under}
 use Rattle.ap_defs.specs.Permutations.{act_name, inverse, left_name, name_eq, right_name, swap_of}
 use Rattle.ap_defs.specs.Terms.{NominalTerm, abs, act_term, app, name, pair, susp, unit}
 use Rattle.ap_theory.proofs.BooleanLemmas.{and_left, and_right, false_if_not, or_assoc}
-use Rattle.ap_theory.proofs.PermutationLemmas.{act_inverse, act_sort, name_eq_itself, name_tells, same_name_parts}
+use Rattle.ap_theory.proofs.PermutationLemmas.{act_inverse, act_sort, name_tells}
 use Rattle.ap_theory.proofs.TermLemmas.{act_term-append, same_number}
 use Rattle.ap_theory.proofs.UnderLemmas.{fresh_under_act}
-use Rattle.ap_checker.specs.Binders.{left_place, means, right_place, within_left, within_right}
-use Rattle.ap_checker.specs.Latest.{last_from, or_here}
+use Rattle.ap_checker.specs.Binders.{right_place, within_left, within_right}
+use Rattle.ap_checker.specs.Latest.{or_here}
 use Rattle.ap_checker.proofs.MeaningLemmas.{mean_from, met_one, met_two}
 
 pub found_or : (o : Option ℕ) (b : Bool) (n : ℕ) → is_some (or_here o b n) ≡ (b || is_some o)

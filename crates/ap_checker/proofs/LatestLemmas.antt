@@ -1,17 +1,13 @@
 -- Keys that are put on a stack and taken from it, and where they stand last.
-use Rattle.std.proofs.Common.{◌≡◌, ◌+◌, ℕ, suc, Bool, true, false, ◌==◌, ◌&&◌, if◌then◌else◌, List, [], ◌∷◌, ◌++◌, length, map, reverse, refl, sym, ap, ap₂, ◌∙◌, arith, append_assoc, append-nil, length-append, subst}
-use Rattle.std.proofs.lemmas.Bool.Decides.{nat_tests}
+use Rattle.std.proofs.Common.{◌≡◌, ◌+◌, ℕ, suc, Bool, true, false, if◌then◌else◌, List, [], ◌∷◌, ◌++◌, length, map, reverse, refl, sym, ap, ap₂, ◌∙◌, arith, append_assoc, append-nil, length-append, subst}
 use Rattle.std.proofs.lemmas.List.{map-append, reverse-append, reverse-reverse}
 use Rattle.std.specs.BTreeMap.{get}
 use Rattle.std.specs.Ordering.{is_eq, nat_cmp, ordering_then}
 use Rattle.std.specs.Prelude.{Option, Some, None}
 use Rattle.ap_defs.specs.declared.terms.Name.{Name}
-use Rattle.ap_defs.specs.declared.terms.Cond.{Cond}
 use Rattle.ap_defs.specs.declared.terms.Swap.{Swap}
-use Rattle.ap_defs.specs.Freshness.{cond_eq}
 use Rattle.ap_defs.specs.Permutations.{left_name, name_eq, right_name}
 use Rattle.ap_theory.proofs.BooleanLemmas.{and_left, and_right}
-use Rattle.ap_theory.proofs.PermutationLemmas.{name_eq_same}
 use Rattle.ap_theory.proofs.TermLemmas.{number_same}
 use Rattle.ap_checker.specs.declared.latest.Latest.{Latest}
 use Rattle.ap_checker.specs.Indexes.{sought_cmp}

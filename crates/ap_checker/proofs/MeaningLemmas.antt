@@ -1,12 +1,12 @@
 -- What names mean within pairs of binders, the outermost first.
-use Rattle.std.proofs.Common.{◌≡◌, ◌≢◌, ◌≤◌, ℕ, suc, Bool, true, false, ◌==◌, ◌&&◌, ◌||◌, not, List, [], ◌∷◌, refl, sym, ap, ◌∙◌, arith, true≢false, inl, inr}
+use Rattle.std.proofs.Common.{◌≡◌, ◌≤◌, ℕ, suc, Bool, true, false, ◌==◌, ◌&&◌, ◌||◌, not, List, [], ◌∷◌, refl, sym, ap, ◌∙◌, arith, true≢false, inl, inr}
 use Rattle.std.proofs.lemmas.Bool.Decides.{nat_tests}
 use Rattle.std.specs.Prelude.{Option, Some, None, is_some, if◌then◌else◌}
 use Rattle.ap_defs.specs.declared.terms.Name.{Name}
 use Rattle.ap_defs.specs.declared.terms.Swap.{Swap}
 use Rattle.ap_defs.specs.Permutations.{act_name, inverse, left_name, name_eq, right_name, swap_name, swap_of}
-use Rattle.ap_theory.proofs.PermutationLemmas.{act_injective, act_inverse, act_sort, name_eq_act, name_eq_itself, name_eq_moved, name_eq_same, name_tells, not_name, swap_left, swap_other, swap_right}
-use Rattle.ap_checker.specs.Binders.{left_place, mean_same, means, right_place}
+use Rattle.ap_theory.proofs.PermutationLemmas.{act_injective, act_inverse, act_sort, name_eq_act, name_eq_itself, name_eq_moved, name_eq_same, name_tells, not_name, swap_other, swap_right}
+use Rattle.ap_checker.specs.Binders.{left_place, means, right_place}
 use Rattle.ap_checker.specs.Latest.{last_from, or_here}
 
 -- a place that is found is not below that at which the list begins

@@ -1,5 +1,5 @@
 -- Looking back through what stands for identifiers.
-use Rattle.std.proofs.Common.{◌≡◌, ◌<◌, ◌+◌, ℕ, true, false, List, [], ◌∷◌, ◌++◌, length, get_or, take, map, refl, sym, ap, ◌∙◌, add-one}
+use Rattle.std.proofs.Common.{◌≡◌, ◌<◌, ◌+◌, ℕ, true, false, List, [], ◌∷◌, ◌++◌, length, get_or, take, refl, sym, ap, ◌∙◌, add-one}
 use Rattle.std.proofs.Math.Seq.{take-suc}
 use denote.Ref.{Bor}
 use Rattle.std.specs.Prelude.{if◌then◌else◌, MatchOption, Option, Some, None}
@@ -9,11 +9,11 @@ use Rattle.ap_defs.specs.declared.terms.Var.{Var}
 use Rattle.ap_defs.specs.Freshness.{var_eq}
 use Rattle.ap_defs.specs.GroundProofs.{name_for}
 use Rattle.ap_defs.specs.Permutations.{name_eq}
-use Rattle.ap_defs.specs.Renaming.{local_names, local_vars}
+use Rattle.ap_defs.specs.Renaming.{local_names}
 use Rattle.ap_defs.specs.Terms.{NominalTerm, term_of, unit}
 use Rattle.ap_defs.specs.Types.{locals_of}
 use Rattle.ap_theory.proofs.PermutationLemmas.{name_eq_same}
-use Rattle.ap_checks.specs.OpenEnvironments.{OpenEnvironment, open_term_for}
+use Rattle.ap_checks.specs.OpenEnvironments.{OpenEnvironment}
 use Rattle.ap_checker.specs.declared.scope.Standing.{Standing}
 use Rattle.ap_checker.specs.declared.scope.Standing.TheVariants as code
 use Rattle.ap_checker.specs.Scopes.{environment_from, environment_with, item_term, name_stood, term_brought}

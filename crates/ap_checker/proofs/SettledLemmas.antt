@@ -1,5 +1,5 @@
 -- Two suspensions are equal within pairs of binders just where each name is settled.
-use Rattle.std.proofs.Common.{◌≡◌, ◌≢◌, ◌⊎◌, ◌<◌, ◌+◌, ℕ, suc, Bool, true, false, ◌==◌, ◌&&◌, ◌||◌, not, if◌then◌else◌, List, [], ◌∷◌, ◌++◌, length, get_or, drop, refl, sym, ap, ap₂, ◌∙◌, add-one, arith, true≢false, inl, inr}
+use Rattle.std.proofs.Common.{◌≡◌, ◌⊎◌, ◌<◌, ◌+◌, ℕ, suc, Bool, true, false, ◌&&◌, ◌||◌, not, List, [], ◌∷◌, ◌++◌, length, get_or, drop, refl, sym, ap, ap₂, ◌∙◌, add-one, true≢false, inl, inr}
 use Rattle.std.proofs.Math.Seq.{drop-cons}
 use Rattle.std.specs.Prelude.{Option, Some, None, is_some}
 use Rattle.ap_defs.specs.declared.terms.Name.{Name}
@@ -7,16 +7,15 @@ use Rattle.ap_defs.specs.declared.terms.Swap.{Swap}
 use Rattle.ap_defs.specs.declared.terms.Var.{Var}
 use Rattle.ap_defs.specs.Freshness.{Conds, alpha_under, has_cond, var_eq}
 use Rattle.ap_defs.specs.Permutations.{act_name, has_name, inverse, left_name, name_eq, names_of, right_name, swap_of}
-use Rattle.ap_defs.specs.Terms.{act_term, susp}
+use Rattle.ap_defs.specs.Terms.{susp}
 use Rattle.ap_theory.proofs.BooleanLemmas.{and_both, and_left, and_right, false_if_not, or_cases, same_test}
 use Rattle.ap_theory.proofs.DisagreementLemmas.{act_unnamed}
 use Rattle.ap_theory.proofs.PermutationLemmas.{act-append, act_inverse, inverse_act, name_eq_itself, name_eq_same, name_tells}
 use Rattle.ap_theory.proofs.TermLemmas.{act_term_none, same_var, var_same}
 use Rattle.ap_theory.proofs.TestLemmas.{Equal_alpha_under, alpha_under_Equal}
-use Rattle.ap_checker.specs.Binders.{left_place, mean_same, means, right_place, within_left, within_right}
-use Rattle.ap_checker.specs.Latest.{or_here}
+use Rattle.ap_checker.specs.Binders.{left_place, means, right_place, within_left, within_right}
 use Rattle.ap_checker.specs.Settled.{are_all_settled, are_bound_settled, are_settled, is_settled}
-use Rattle.ap_checker.proofs.BinderLemmas.{alike_from, and_false, found_or, or_true, step_one, step_two}
+use Rattle.ap_checker.proofs.BinderLemmas.{alike_from, found_or, or_true, step_one, step_two}
 use Rattle.ap_checker.proofs.MeaningLemmas.{mean_from, met_one, met_two}
 
 settle_two : (b nb m hc k : Bool) → (b || k) ≡ true → (m || hc) ≡ true → (nb ≡ true → k ≡ hc) → (((b || not nb) && m) || hc) ≡ true

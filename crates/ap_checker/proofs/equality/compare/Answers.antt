@@ -1,10 +1,8 @@
 use Rattle.std.proofs.Common.{◌≡◌, ◌==◌, ◌&&◌, true, refl, length, ◌+◌, sym, ap, ap₂, ◌∙◌, arith}
 use Rattle.std.proofs.lemmas.Bool.Decides.{nat_tests}
-use Rattle.ap_defs.specs.Freshness.{alpha_under}
 use Rattle.ap_defs.specs.Terms.{app, pair, term_of}
 use Rattle.ap_defs.specs.Unification.{size}
 use Rattle.ap_checker.specs.declared.binders.Binders.{Binders}
-use Rattle.ap_checker.specs.Binders.{within_left, within_right}
 use Rattle.ap_checker.specs.Comparisons.{are_alike, mark_of, size_of}
 use Rattle.ap_checker.proofs.ComparisonLemmas.{alike, apps, pairs}
 use Rattle.ap_checker.proofs.StackLemmas.{left_here, left_two}

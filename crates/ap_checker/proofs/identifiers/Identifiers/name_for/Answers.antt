@@ -1,4 +1,4 @@
-use Rattle.std.proofs.Common.{◌≡◌, ◌≤◌, get_or, sym, ap, ◌∙◌, arith, inl, inr, length}
+use Rattle.std.proofs.Common.{◌≤◌, get_or, sym, ap, ◌∙◌, arith, inl, inr, length}
 use Rattle.ap_defs.specs.declared.goals.Local.{Local}
 use Rattle.ap_defs.specs.Types.{local_of}
 use Rattle.ap_checker.specs.FreeLocals.{free_sort}

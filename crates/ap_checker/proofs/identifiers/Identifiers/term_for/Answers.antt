@@ -1,4 +1,4 @@
-use Rattle.std.proofs.Common.{◌≡◌, ◌≤◌, true, map, get_or, sym, ap, ◌∙◌, arith, inl, inr, true≢false, length}
+use Rattle.std.proofs.Common.{◌≡◌, ◌≤◌, true, map, get_or, sym, ap, ◌∙◌, arith, inl, inr, length}
 use Rattle.ap_defs.specs.declared.goals.Local.{Local}
 use Rattle.ap_defs.specs.declared.terms.Term.TheVariants as terms
 use Rattle.ap_defs.specs.Terms.{term_of}
