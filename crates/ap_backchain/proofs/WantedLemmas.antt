@@ -1,6 +1,6 @@
 -- What is wanted after the outputs that a turn of a search adds.
-use Rattle.std.proofs.Common.{◌≡◌, ℕ, zero, suc, ◌+◌, ◌-◌, ◌≤◌, ◌<◌, Bool, true, false, if◌then◌else◌, List, [], ◌∷◌, ◌++◌, length, take, drop, map, refl, sym, ap, ap₂, ◌∙◌, append-nil, arith}
-use Rattle.ap_defs.specs.Answers.{NominalOut, cut, found, out_of, outs_of, stuck}
+use Rattle.std.proofs.Common.{◌≡◌, ℕ, zero, suc, ◌+◌, ◌-◌, Bool, true, false, if◌then◌else◌, List, [], ◌∷◌, ◌++◌, length, take, drop, map, refl, sym, ap, ap₂, ◌∙◌, append-nil, arith}
+use Rattle.ap_defs.specs.Answers.{NominalOut, cut, found, outs_of, stuck}
 use Rattle.ap_defs.specs.declared.paths.Out.{Out}
 use Rattle.ap_paths.specs.Limits.{IsWanting, found_in, is_found, part}
 use Rattle.ap_paths.specs.declared.limits.Limit.{Limit}

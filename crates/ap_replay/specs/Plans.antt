@@ -1,8 +1,8 @@
 -- A problem has a tree of paths, and its plan is one that a tree may have.
-use Rattle.std.proofs.Common.{◌≡◌, ℕ, zero, suc, ◌+◌, ◌≤◌, List, length, refl, sym, ap, subst, eqb, eq-eqb, arith}
+use Rattle.std.proofs.Common.{◌≡◌, ℕ, zero, suc, ◌+◌, ◌≤◌, List, refl, sym, ap, subst, eqb, eq-eqb, arith}
 use mathlib.Core.Logic.{dite}
 use native.Mathlib.Decide.{ℕ_discrete}
-use Rattle.std.specs.Prelude.{Option, Some, None, nat_lt, true, false, Bool, if◌then◌else◌}
+use Rattle.std.specs.Prelude.{Option, Some, None, true, false, Bool, if◌then◌else◌}
 use Rattle.std.specs.List.{range_with_len}
 use Rattle.ap_defs.specs.Goals.{Clauses, NominalQuery}
 use Rattle.ap_paths.specs.Trees.{Ascends, AreAtMost, AreKids, InTree, IsPlan, IsTree, times}

@@ -2,7 +2,6 @@ use Rattle.std.proofs.Common.{map, sym, ap, ◌∙◌}
 use Rattle.ap_defs.specs.Goals.{clause_of}
 use Rattle.ap_defs.specs.Types.{locals_of}
 use Rattle.ap_backchain.specs.Places.{position_of, turned_of}
-use Rattle.ap_backchain.specs.Positions.{turned}
 use Rattle.ap_backchain.specs.declared.turns.Turn.{Turn}
 use Rattle.ap_backchain.proofs.BranchLemmas.{went_fewer, went_marks, went_path}
 use Rattle.ap_backchain.proofs.standing.advance.Goals as goal

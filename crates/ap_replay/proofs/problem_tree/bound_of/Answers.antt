@@ -1,4 +1,4 @@
-use Rattle.std.proofs.Common.{◌≡◌, ◌∙◌, ◌+◌, ◌*◌, ℕ, ap, ap₂, sym, subst, ◌≤◌}
+use Rattle.std.proofs.Common.{◌∙◌, ◌+◌, ◌*◌, ℕ, ap, ap₂, sym, subst, ◌≤◌}
 use Rattle.std.specs.Prelude.{◌^◌}
 use Rattle.ap_replay.specs.ProblemTrees.{bound_at}
 use Rattle.std.proofs.Math.Nat.{min-le_right}
