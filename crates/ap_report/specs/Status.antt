@@ -15,3 +15,4 @@ code_of status.Memory = 7
 code_of status.NotChecked = 8
 code_of status.TooLarge = 9
 code_of status.NotCovered = 11
+code_of status.NotAProperty = 12

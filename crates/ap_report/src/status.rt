@@ -27,6 +27,8 @@ pub enum Status {
     TooLarge,
     /// A proof of a bundle isn't ground, or is too high, so that it isn't to be covered.
     NotCovered,
+    /// A query is no property.
+    NotAProperty,
 }
 
 impl Status {
@@ -46,6 +48,7 @@ impl Status {
             Status::NotChecked => 8,
             Status::TooLarge => 9,
             Status::NotCovered => 11,
+            Status::NotAProperty => 12,
         }
     }
 }
