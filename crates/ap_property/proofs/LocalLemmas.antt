@@ -134,13 +134,17 @@ kinds_length (l ∷ ls) = let k = kinds_length ls in omega (arith, k)
 pub known_name : (ls : List NominalLocal) (ss : List ℕ) (a : Name) → IsKnown ls ss a → IsNameOf (kinds_of (with_names ls ss)) a a.sort
 known_name ls ss a (inl h) =
     let i = name_at 0 ls a h in
-    let n : i.place ≡ a.num = let e = i.number in omega (arith, e) in
-    (refl, ap (λ ks. kind_at ks a.num) (kinds_with ls ss)
-      ∙ kind_at_front (kinds_of ls) (map types.name ss) a.num (types.name a.sort) (ap (kind_at (kinds_of ls)) (sym n) ∙ i.kind))
+    let n : i.place ≡ a.num = let e = i.number in omega (arith, e) in (
+      refl,
+      ap (λ ks. kind_at ks a.num) (kinds_with ls ss)
+          ∙ kind_at_front (kinds_of ls) (map types.name ss) a.num (types.name a.sort) (ap (kind_at (kinds_of ls)) (sym n) ∙ i.kind),
+    )
 known_name ls ss a (inr (k, e, s)) =
-    let n : a.num ≡ length (kinds_of ls) + k = let l = kinds_length ls in omega (arith, e, l) in
-    (refl, ap (λ ks. kind_at ks a.num) (kinds_with ls ss) ∙ ap (kind_at (kinds_of ls ++ map types.name ss)) n
-      ∙ kind_at_back (kinds_of ls) (map types.name ss) k ∙ sort_kind ss k a.sort s)
+    let n : a.num ≡ length (kinds_of ls) + k = let l = kinds_length ls in omega (arith, e, l) in (
+      refl,
+      ap (λ ks. kind_at ks a.num) (kinds_with ls ss) ∙ ap (kind_at (kinds_of ls ++ map types.name ss)) n
+          ∙ kind_at_back (kinds_of ls) (map types.name ss) k ∙ sort_kind ss k a.sort s,
+    )
 
 pub known_unmarked : (ls : List NominalLocal) (ss : List ℕ) (a : Name) → IsKnown ls ss a → is_marked ls a.num ≡ false
 known_unmarked ls ss a (inl h) =

@@ -137,9 +137,10 @@ BesideTerms f _ _ = Unit {0}
 later_terms : (x : Var) (g : GroundTerm) (f : Var → GroundTerm) (xs : List Var) (gs : List GroundTerm) → AreAbove (suc x.num) xs → BesideTerms f xs gs
     → BesideTerms (λ y. if var_eq x y then g else f y) xs gs
 later_terms x g f (y ∷ ys) (u ∷ us) h k =
-    let e = differ x y (let l = h.0 in omega (arith, l)) in
-    (ap (λ b. if b then g else f y) e ∙ k.0,
-      later_terms x g f ys us (above_more (suc x.num) (suc y.num) (let l = h.0 in omega (arith, l)) ys h.1) k.1)
+    let e = differ x y (let l = h.0 in omega (arith, l)) in (
+      ap (λ b. if b then g else f y) e ∙ k.0,
+      later_terms x g f ys us (above_more (suc x.num) (suc y.num) (let l = h.0 in omega (arith, l)) ys h.1) k.1,
+    )
 later_terms x g f [] gs h k = tt
 later_terms x g f (y ∷ ys) [] h k = tt
 

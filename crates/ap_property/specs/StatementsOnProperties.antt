@@ -50,5 +50,5 @@ ConclusionsAreTyped = (p : NominalProgram) → IsTypedProgram p → (q : Nominal
 abbrev pub CountersHaveNoProof : Type 0
 CountersHaveNoProof = (p : NominalProgram) → KeepsRestriction p → (q : NominalQuery) → IsTypedQuery term_form p.signature q → (depth : ℕ)
     → EachAnswer (λ a. query_outs p.clauses depth (put_in q (stated p.signature.constructors q.locals a)) ≡ []
-        → (height : ℕ) → IsDerivable p (conclusion_query q) (stated p.signature.constructors q.locals a).terms height → ⊥)
-      (query_outs p.clauses depth (hypothesis_query q))
+    → (height : ℕ) → IsDerivable p (conclusion_query q) (stated p.signature.constructors q.locals a).terms height → ⊥)
+    (query_outs p.clauses depth (hypothesis_query q))
