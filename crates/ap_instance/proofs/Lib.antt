@@ -1,3 +1,4 @@
 mod NameLemmas
+mod StatingLemmas
 mod TableLemmas
 mod TermLemmas

@@ -130,7 +130,7 @@ module _ (locals : List NominalLocal) (a : NominalAnswer) where
     abbrev AreMentioned : List Name → Type 0
     AreMentioned as' = (c : Name) → has_name c as' ≡ true → has_name c mentioned ≡ true
 
-    swaps_leave : (q : List Swap) → AreMentioned (names_of q) → (c : Name) → IsNew c → act_name (map (replace_swap τ) q) c ≡ c
+    pub swaps_leave : (q : List Swap) → AreMentioned (names_of q) → (c : Name) → IsNew c → act_name (map (replace_swap τ) q) c ≡ c
     swaps_leave [] h c i = refl
     swaps_leave (s ∷ q) h c i =
         let rest = swaps_leave q (λ b k. h b (or_if_right (name_eq b (left_name s)) _ (or_if_right (name_eq b (right_name s)) (has_name b (names_of q)) k))) c i in

@@ -2,7 +2,8 @@ use Rattle.std.proofs.Common.{◌≡◌, ◌∙◌, ◌++◌, length, map, refl,
 use Rattle.ap_defs.specs.Occurrences.{names_of_terms}
 use Rattle.ap_defs.specs.Renaming.{local_names}
 use Rattle.ap_defs.specs.Terms.{term_of}
-use Rattle.ap_defs.specs.Types.{locals_of}
+use Rattle.ap_defs.specs.Types.{local_of, locals_of}
+use Rattle.std.proofs.lemmas.List.{length-map}
 use Rattle.ap_answers.specs.Occurring.{more_names}
 use Rattle.ap_answers.proofs.OccurrenceLemmas.{more_names_append}
 use Rattle.ap_instance.specs.Settled.{name_of_cond}
@@ -19,4 +20,4 @@ returns c =
     let all = d ∙ ap (λ ks. more_names ks (map name_of_cond c.items-2.result.now)) (b ∙ ap (λ ks. more_names ks (names_of_terms (map term_of c.items.result.now))) a) in
     let lists = ap (λ l. more_names (more_names free (names_of_terms (map term_of c.items.result.now))) (map name_of_cond l)) c.items-2.ensures
     ∙ ap (λ l. more_names (more_names free (names_of_terms (map term_of l))) ys) c.items.ensures in
-    record { known = all ∙ lists ∙ sym (more_names_append free xs ys); free = c.len-free.ensures.len ∙ ap length a; first = refl }
+    record { known = all ∙ lists ∙ sym (more_names_append free xs ys); free = c.len-free.ensures.len ∙ ap length a; first = sym (length-map c.args.locals.now local_of) }
