@@ -1,3 +1,4 @@
+mod GoalLemmas
 mod NameLemmas
 mod StatingLemmas
 mod TableLemmas

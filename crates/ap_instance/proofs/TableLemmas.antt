@@ -1,6 +1,6 @@
 -- The term beside a variable in two lists that grow.
-use Rattle.std.proofs.Common.{◌≡◌, ℕ, zero, suc, ◌+◌, Bool, true, false, cond, List, [], ◌∷◌, ◌++◌, length, nat_lt, refl, sym, ap, ◌∙◌, arith, inl, inr}
-use Rattle.std.specs.Prelude.{◌||◌, if◌then◌else◌, position, Option, Some, None, slice_get}
+use Rattle.std.proofs.Common.{◌≡◌, ℕ, suc, ◌+◌, Bool, true, false, cond, List, [], ◌∷◌, ◌++◌, length, nat_lt, refl, sym, ap, ◌∙◌, arith}
+use Rattle.std.specs.Prelude.{◌||◌, if◌then◌else◌, position, Some, None}
 use Rattle.std.specs.List.{list_any, position_or_len}
 use Rattle.std.proofs.lemmas.Bool.Decides.{nat_tests}
 use Rattle.ap_defs.specs.declared.terms.Term.{Term}
@@ -12,7 +12,7 @@ use Rattle.ap_defs.specs.Typing.{embedded}
 use Rattle.ap_theory.proofs.TermLemmas.{same_var, var_same}
 use Rattle.ap_pick.specs.Picks.{picked}
 use Rattle.ap_property.specs.Stated.{given, picks_from}
-use Rattle.ap_instance.specs.Tables.{term_at_place, term_beside, term_or}
+use Rattle.ap_instance.specs.Tables.{term_at_place, term_beside}
 
 later : (b : Bool) (t : Term) (ts : List Term) (other : NominalTerm) (n : ℕ) → term_at_place (t ∷ ts) other (cond b (Some (1 + n)) None) ≡ term_at_place ts other (cond b (Some n) None)
 later true t ts other n = let one : 1 + n ≡ suc n = omega arith in rw one refl

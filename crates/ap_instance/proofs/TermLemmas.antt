@@ -1,5 +1,5 @@
 -- Terms with names replaced, made from the outside in.
-use Rattle.std.proofs.Common.{◌≡◌, ◌∙◌, List, [], ◌∷◌, ◌++◌, refl, sym, ap}
+use Rattle.std.proofs.Common.{◌≡◌, ◌∙◌, List, [], ◌∷◌, ◌++◌, sym, ap}
 use Rattle.ap_defs.specs.declared.spines.TermLayer.{TermLayer}
 use Rattle.ap_defs.specs.Spines.{term_in, term_within}
 use Rattle.ap_defs.specs.Terms.{NominalTerm}

@@ -1,4 +1,4 @@
-use Rattle.std.proofs.Common.{◌≡◌, ◌∙◌, List, ◌∷◌, map, sym, ap, subst}
+use Rattle.std.proofs.Common.{◌∙◌, map, sym, ap}
 use Rattle.ap_answers.specs.Occurring.{more_names}
 use Rattle.ap_instance.specs.Settled.{name_of_cond}
 use Rattle.ap_instance.proofs.NameLemmas.{next_name}

@@ -1,8 +1,7 @@
-use Rattle.std.proofs.Common.{◌≡◌, ◌∙◌, ℕ, List, [], ◌∷◌, length, map, refl, sym, ap, ap₂, subst}
+use Rattle.std.proofs.Common.{◌≡◌, ◌∙◌, ◌∷◌, map, sym, ap, subst}
 use Rattle.ap_defs.specs.Answers.{typed_var_of}
-use Rattle.ap_defs.specs.Types.{NominalType, constructor_of, type_of}
+use Rattle.ap_defs.specs.Types.{constructor_of, type_of}
 use Rattle.ap_defs.specs.Typing.{embedded}
-use Rattle.ap_defs.specs.declared.terms.Ty.{Ty}
 use Rattle.ap_defs.specs.declared.terms.Var.{Var}
 use Rattle.ap_ground.specs.TypedGroundings.{HaveInhabitants}
 use Rattle.ap_property.specs.Stated.{given, picks_from}

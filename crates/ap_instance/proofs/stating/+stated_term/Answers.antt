@@ -1,4 +1,4 @@
-use Rattle.std.proofs.Common.{◌≡◌, ◌∙◌, refl, sym, ap}
+use Rattle.std.proofs.Common.{◌≡◌, ◌∙◌, sym, ap}
 use Rattle.ap_defs.specs.Terms.{abs, app, pair, term_of, unit}
 use Rattle.ap_defs.specs.declared.spines.TermLayer.TheVariants as around
 use Rattle.ap_defs.specs.declared.terms.Term.{Term}

@@ -1,4 +1,4 @@
-use Rattle.std.proofs.Common.{◌≡◌, ◌∙◌, ℕ, List, length, map, refl, sym, ap, subst}
+use Rattle.std.proofs.Common.{◌∙◌, ℕ, List, length, map, ap}
 use Rattle.ap_defs.specs.declared.terms.Var.{Var}
 use Rattle.ap_defs.specs.Answers.{answer_of, typed_var_of}
 use Rattle.ap_defs.specs.Terms.{term_of, unit}
@@ -6,7 +6,7 @@ use Rattle.ap_defs.specs.Types.{constructor_of, locals_of}
 use Rattle.ap_defs.specs.Typing.{embedded}
 use Rattle.ap_instance.specs.Settled.{replaced, settled_name}
 use Rattle.ap_instance.specs.Tables.{term_beside}
-use Rattle.ap_property.specs.Stated.{given, picks_from, stated}
+use Rattle.ap_property.specs.Stated.{given, picks_from}
 use Rattle.ap_instance.proofs.StatingLemmas.{answer_stated, sorts_stated}
 use Rattle.ap_instance.proofs.stating.stated_of.Goals as goal
 

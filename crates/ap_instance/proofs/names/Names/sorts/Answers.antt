@@ -1,4 +1,4 @@
-use Rattle.std.proofs.Common.{◌≡◌, ◌∙◌, ◌++◌, ◌+◌, ℕ, List, drop, length, map, refl, sym, ap, Vec, Global}
+use Rattle.std.proofs.Common.{◌≡◌, ◌∙◌, ◌++◌, ◌+◌, ℕ, drop, map, sym, ap, Vec, Global}
 use Rattle.ap_instance.specs.Settled.{sort_of}
 use Rattle.ap_instance.proofs.NameLemmas.{name_missing, next_sort}
 use Rattle.ap_instance.proofs.names.Names.sorts.Goals.{in-Some+in_ok-push, in_default}
