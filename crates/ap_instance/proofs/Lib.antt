@@ -1,0 +1,5 @@
+mod GoalLemmas
+mod NameLemmas
+mod StatingLemmas
+mod TableLemmas
+mod TermLemmas

@@ -1,0 +1,4 @@
+pub mod Equations
+pub mod Settled
+pub mod Tables
+pub mod Views

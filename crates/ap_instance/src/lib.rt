@@ -1,0 +1,16 @@
+//! The stated instance of an answer, and queries that are made of a property.
+#![tactic(auto)]
+
+mod asking;
+mod constructors;
+mod names;
+mod parts;
+mod picks;
+mod putting;
+mod stating;
+
+pub use asking::{Asked, ask};
+pub use constructors::copy_constructors;
+pub use parts::{hypothesis_of, is_property};
+pub use putting::put_in_of;
+pub use stating::{Stated, stated_of};

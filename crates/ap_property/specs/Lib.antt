@@ -1,0 +1,5 @@
+pub mod Properties
+pub mod Stated
+pub mod PutIn
+pub mod Fitting
+pub mod StatementsOnProperties
