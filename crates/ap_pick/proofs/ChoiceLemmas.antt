@@ -1,6 +1,6 @@
 -- The choices of one round.
-use Rattle.std.proofs.Common.{◌≡◌, ◌≢◌, ◌<◌, ◌≤◌, ◌+◌, ◌⊎◌, ◌∙◌, ℕ, zero, suc, Bool, true, false, ◌&&◌, if◌then◌else◌, List, [], ◌∷◌, ◌++◌, length, map, set, take, replicate, get_or, Option, Some, None, is_some, refl, sym, ap, subst, inl, inr, arith}
-use Rattle.std.specs.Prelude.{◌==◌, ◌||◌, not, nat_lt, max, slice_get, slice_index_or}
+use Rattle.std.proofs.Common.{◌≡◌, ◌<◌, ◌≤◌, ◌+◌, ◌∙◌, ℕ, zero, suc, Bool, true, false, ◌&&◌, if◌then◌else◌, List, [], ◌∷◌, ◌++◌, length, map, set, take, replicate, get_or, Option, Some, None, is_some, refl, sym, ap, subst, inl, inr, arith}
+use Rattle.std.specs.Prelude.{◌==◌, ◌||◌, not, nat_lt, slice_get}
 use Rattle.std.specs.Option.{option_map}
 use Rattle.std.proofs.Math.Nat.{le-max_left, le-max_right}
 use Rattle.std.proofs.lemmas.Option.{slice_get-get_or, slice_get-map}
@@ -16,9 +16,9 @@ use Rattle.ap_types.proofs.RoundLemmas.{reached_closed, reached_more}
 use Rattle.ap_types.proofs.RuleLemmas.{constructors_next}
 use Rattle.ap_types.proofs.StillLemmas.{still_least}
 use Rattle.ap_types.specs.Statements.{AreOf}
-use Rattle.ap_pick.specs.Choices.{AreChoices, IsChoice, IsChoiceFor, choice_in}
+use Rattle.ap_pick.specs.Choices.{AreChoices, IsChoiceFor, choice_in}
 use Rattle.ap_pick.specs.Picks.{data_bound, first_passing}
-use Rattle.ap_pick.specs.Rounds.{AreChoicesAfter, AreChoicesWithin, GoesRound, IsChoiceAfter, IsChoiceWithin, IsLookedAt, IsNewChoice, gives_choice}
+use Rattle.ap_pick.specs.Rounds.{AreChoicesAfter, AreChoicesWithin, GoesRound, IsChoiceAfter, IsChoiceWithin, IsLookedAt, gives_choice}
 use Rattle.ap_pick.specs.declared.choices.Choice.{Choice}
 
 same_if : (a b : Bool) → (a ≡ true → b ≡ true) → (b ≡ true → a ≡ true) → a ≡ b

@@ -1,10 +1,9 @@
 -- What is picked for a data type is an application of the constructor that is chosen for it.
-use Rattle.std.proofs.Common.{◌≡◌, ◌<◌, ◌≤◌, ◌⊎◌, ◌∙◌, ℕ, zero, suc, Bool, true, false, ◌&&◌, if◌then◌else◌, List, [], ◌∷◌, Option, Some, None, refl, sym, ap, subst, inl, inr, arith}
+use Rattle.std.proofs.Common.{◌≡◌, ◌<◌, ◌⊎◌, ◌∙◌, ℕ, zero, suc, Bool, true, false, ◌&&◌, if◌then◌else◌, List, [], ◌∷◌, Option, Some, None, refl, sym, ap, subst, inl, inr, arith}
 use Rattle.std.specs.Prelude.{◌==◌, ◌+◌, length, slice_get}
-use Rattle.ap_defs.specs.Terms.{GroundTerm}
 use Rattle.ap_defs.specs.Types.{NominalConstructor, NominalType}
 use Rattle.ap_types.specs.Inhabited.{all_inhabited}
-use Rattle.ap_types.specs.Rounds.{Within, reached}
+use Rattle.ap_types.specs.Rounds.{reached}
 use Rattle.ap_types.proofs.BooleanLemmas.{and_right}
 use Rattle.ap_types.proofs.QuestionLemmas.{all_inhabited_grows}
 use Rattle.ap_types.proofs.RoundLemmas.{reached_more}

@@ -9,7 +9,7 @@ use Rattle.ap_defs.specs.Terms.{GroundTerm}
 use Rattle.ap_defs.specs.Types.{NominalConstructor, NominalType, abs, base, list, names, pair, unit}
 use Rattle.ap_defs.specs.Typing.{IsApplication, IsTyped, Want, arguments, embedded, one}
 use Rattle.ap_types.specs.Inhabited.{all_inhabited, inhabited_if, inhabited_in}
-use Rattle.ap_types.specs.Rounds.{reached, some_passes}
+use Rattle.ap_types.specs.Rounds.{reached}
 use Rattle.ap_types.proofs.BooleanLemmas.{and_left, and_right}
 use Rattle.ap_types.proofs.StillLemmas.{inhabited_stands_still}
 use Rattle.ap_pick.specs.Picks.{Pick, applied, data_bound, first_passing, new_name, paired, pick_application, pick_arguments, pick_data, pick_type}

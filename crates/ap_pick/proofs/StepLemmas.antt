@@ -1,10 +1,10 @@
 -- Turns of the loop that picks a term.
-use Rattle.std.proofs.Common.{◌≡◌, ◌<◌, ◌≤◌, ◌∙◌, ℕ, List, [], ◌∷◌, ◌++◌, refl, sym, ap, ap₂, subst, arith}
+use Rattle.std.proofs.Common.{◌≡◌, ◌≤◌, ◌∙◌, ℕ, List, [], ◌∷◌, ◌++◌, sym, ap, ap₂, arith}
 use Rattle.ap_defs.specs.declared.spines.TermLayer.{TermLayer}
 use Rattle.ap_defs.specs.declared.spines.TermLayer.TheVariants as layers
 use Rattle.ap_defs.specs.declared.terms.Term.{Term}
 use Rattle.ap_defs.specs.Spines.{term_in, term_within}
-use Rattle.ap_defs.specs.Terms.{NominalTerm, pair, term_of}
+use Rattle.ap_defs.specs.Terms.{pair, term_of}
 use Rattle.ap_defs.specs.Types.{NominalConstructor}
 use Rattle.ap_defs.specs.Typing.{embedded}
 use Rattle.ap_defs.proofs.SpineLemmas.{term_within_last}

@@ -1,12 +1,10 @@
 -- Steps of picking.
-use Rattle.std.proofs.Common.{◌≡◌, ◌<◌, ◌∙◌, ◌+◌, ℕ, true, List, [], ◌∷◌, map, length, get_or, Option, Some, None, refl, sym, ap, ap₂, subst, arith}
-use Rattle.std.specs.Prelude.{slice_get}
+use Rattle.std.proofs.Common.{◌≡◌, ◌<◌, ◌∙◌, ◌+◌, ℕ, true, List, [], map, length, get_or, Option, Some, None, sym, ap, arith}
 use Rattle.std.proofs.lemmas.List.{length-map}
 use denote.Ref.{Bor}
 use Rattle.ap_defs.specs.declared.goals.Constructor.{Constructor}
 use Rattle.ap_defs.specs.declared.spines.TermLayer.TheVariants as layers
 use Rattle.ap_defs.specs.declared.terms.Ty.{Ty}
-use Rattle.ap_defs.specs.Limits.{size_limit}
 use Rattle.ap_defs.specs.Spines.{term_in}
 use Rattle.ap_defs.specs.Terms.{app}
 use Rattle.ap_defs.specs.Types.{NominalConstructor, NominalType, base, constructor_of, type_of}

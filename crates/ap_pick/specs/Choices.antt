@@ -1,6 +1,6 @@
 -- The constructor that is chosen for each data type.
 use Rattle.std.specs.Prelude.{◌≡◌, ◌+◌, ℕ, suc, true, false, List, Option, Some, None, slice_get, slice_index_or}
-use Rattle.ap_defs.specs.Types.{NominalConstructor, NominalType}
+use Rattle.ap_defs.specs.Types.{NominalConstructor}
 use Rattle.ap_types.specs.Inhabited.{all_inhabited}
 use Rattle.ap_types.specs.Rounds.{reached}
 use Rattle.ap_pick.specs.Picks.{first_passing}

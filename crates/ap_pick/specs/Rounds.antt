@@ -1,5 +1,5 @@
 -- Tables of choices between the rounds, and within one.
-use Rattle.std.specs.Prelude.{◌≡◌, ◌+◌, ◌<◌, ◌⊎◌, ℕ, Bool, true, false, ◌&&◌, not, nat_lt, if◌then◌else◌, List, length, set, Option, Some, None, is_some, slice_get}
+use Rattle.std.specs.Prelude.{◌≡◌, ◌+◌, ◌<◌, ◌⊎◌, ℕ, Bool, false, ◌&&◌, not, nat_lt, if◌then◌else◌, List, length, set, Option, Some, None, is_some, slice_get}
 use Rattle.ap_defs.specs.Types.{NominalConstructor}
 use Rattle.ap_types.specs.Inhabited.{all_inhabited}
 use Rattle.ap_types.specs.Rounds.{reached}

@@ -1,6 +1,6 @@
 -- The identifiers of a query with more free names.
-use Rattle.std.proofs.Common.{◌≡◌, ◌<◌, ◌∙◌, ◌+◌, ℕ, zero, suc, Bool, true, false, ◌||◌, List, [], ◌∷◌, ◌++◌, length, map, Option, Some, None, refl, sym, ap, subst, inl, inr, arith}
-use Rattle.std.specs.Prelude.{◌==◌, slice_get}
+use Rattle.std.proofs.Common.{◌≡◌, ◌<◌, ◌∙◌, ◌+◌, ℕ, zero, suc, Bool, true, false, List, [], ◌∷◌, ◌++◌, length, map, Option, Some, None, refl, sym, ap, subst, inl, inr, arith}
+use Rattle.std.specs.Prelude.{slice_get}
 use Rattle.ap_defs.specs.declared.terms.Name.{Name}
 use Rattle.ap_defs.specs.declared.terms.Var.{Var}
 use Rattle.ap_defs.specs.Answers.{kind_at}
@@ -9,7 +9,7 @@ use Rattle.ap_defs.specs.Renaming.{local_names, local_vars, name_unless, var_unl
 use Rattle.ap_defs.specs.Resolution.{kinds_of}
 use Rattle.ap_defs.specs.Types as types
 use Rattle.ap_defs.specs.Types.{NominalKind, NominalLocal, NominalType}
-use Rattle.ap_program.specs.RawTyping.{IsNameOf, IsVarOf}
+use Rattle.ap_program.specs.RawTyping.{IsNameOf}
 use Rattle.ap_program.specs.Typed.{AreInhabited, AreMarked, is_marked}
 use Rattle.ap_theory.proofs.BooleanLemmas.{or_cases}
 use Rattle.ap_theory.proofs.PermutationLemmas.{name_eq_same}

@@ -1,12 +1,11 @@
 -- A conclusion that comes to nothing with terms put in has no ground proof under them.
-use Rattle.std.proofs.Common.{◌≡◌, ◌<◌, ◌≤◌, ◌∙◌, ◌+◌, ℕ, zero, suc, Bool, true, false, List, [], ◌∷◌, ◌++◌, length, map, Option, Some, None, refl, sym, ap, ap₂, subst, inl, inr, arith}
-use Rattle.std.specs.Prelude.{if◌then◌else◌, max}
+use Rattle.std.proofs.Common.{◌≡◌, ◌<◌, ◌≤◌, ◌∙◌, ◌+◌, ℕ, suc, Bool, true, false, List, [], ◌∷◌, ◌++◌, map, Option, Some, None, refl, sym, ap, ap₂, subst, arith}
+use Rattle.std.specs.Prelude.{if◌then◌else◌}
 use Rattle.std.proofs.lemmas.Bool.Decides.{nat_tests}
 use Rattle.std.proofs.Math.Nat.{max-le}
 use Rattle.ap_defs.specs.declared.terms.Name.{Name}
 use Rattle.ap_defs.specs.declared.terms.Var.{Var}
 use Rattle.ap_defs.specs.Alpha.{alpha}
-use Rattle.ap_defs.specs.Answers as answers
 use Rattle.ap_defs.specs.Answers.{NominalOut, kind_at, query_outs}
 use Rattle.ap_defs.specs.Derivations.{GroundProof, atom, both, equal, exists, fresh, height, left, new, right, succeed}
 use Rattle.ap_defs.specs.Freshness.{var_eq}
@@ -30,7 +29,7 @@ use Rattle.ap_search.proofs.DepthLemmas.{query_deeper}
 use Rattle.ap_search.proofs.TypingLemmas.{kind_at_front}
 use Rattle.ap_ground.proofs.FreeIdentifierLemmas.{proofs_see_free}
 use Rattle.ap_ground.proofs.ProofActionLemmas.{same_environment}
-use Rattle.ap_complete.specs.Coverings.{IsCovered, answered, is_stuck}
+use Rattle.ap_complete.specs.Coverings.{answered, is_stuck}
 use Rattle.ap_complete.specs.NumberedProofs.{IsAmong}
 use Rattle.ap_complete.specs.Restriction.{KeepsRestriction}
 use Rattle.ap_complete.proofs.CoveringLemmas.{proofs_covered}

@@ -1,5 +1,5 @@
 -- The terms that are picked for typed variables.
-use Rattle.std.proofs.Common.{◌≡◌, ◌<◌, ◌≤◌, ◌∙◌, ◌+◌, ℕ, zero, suc, Bool, true, false, ◌||◌, not, List, [], ◌∷◌, ◌++◌, length, map, Option, Some, None, refl, sym, ap, ap₂, subst, inl, inr, arith}
+use Rattle.std.proofs.Common.{◌≡◌, ◌≤◌, ◌∙◌, ℕ, zero, suc, true, false, not, List, [], ◌∷◌, ◌++◌, length, Some, refl, sym, ap, ap₂, subst, inl, inr, arith}
 use Rattle.std.specs.Prelude.{if◌then◌else◌, slice_get}
 use Rattle.ap_defs.specs.declared.terms.Name.{Name}
 use Rattle.ap_defs.specs.declared.terms.Swap.{Swap}
@@ -19,7 +19,7 @@ use Rattle.ap_theory.proofs.TermLemmas.{same_var, var_same}
 use Rattle.ap_ground.specs.TypedGroundings.{GivesTypes, HaveInhabitants}
 use Rattle.ap_ground.proofs.FillerLemmas.{gives_types, only_vars}
 use Rattle.ap_pick.specs.Picks.{picked}
-use Rattle.ap_pick.specs.StatementsOnPicks.{EachName, IsNewName, IsPicked}
+use Rattle.ap_pick.specs.StatementsOnPicks.{EachName, IsNewName}
 use Rattle.ap_pick.proofs.PickLemmas.{each_name, picks_typed}
 use Rattle.ap_property.specs.Stated.{given, picks_from}
 

@@ -1,8 +1,7 @@
 -- The conclusion with terms put in is typed.
-use Rattle.std.proofs.Common.{◌≡◌, ◌∙◌, ◌+◌, ℕ, zero, suc, Bool, true, false, ◌||◌, List, [], ◌∷◌, ◌++◌, length, map, Option, Some, None, refl, sym, ap, ap₂, subst, inl, inr, arith}
+use Rattle.std.proofs.Common.{◌≡◌, ◌∙◌, ℕ, zero, suc, true, false, ◌||◌, List, [], ◌∷◌, ◌++◌, map, Option, Some, None, refl, sym, ap, ap₂, subst, inl, inr, arith}
 use Rattle.std.specs.Prelude.{◌==◌}
 use Rattle.std.proofs.lemmas.Bool.Decides.{eqb_tells}
-use Rattle.ap_defs.specs.declared.terms.Name.{Name}
 use Rattle.ap_defs.specs.declared.terms.Var.{Var}
 use Rattle.ap_defs.specs.Answers.{kind_at}
 use Rattle.ap_defs.specs.Goals as goals
@@ -15,13 +14,13 @@ use Rattle.ap_defs.specs.Terms.{GroundTerm, NominalTerm, abs, app, name, pair, s
 use Rattle.ap_defs.specs.Types as types
 use Rattle.ap_defs.specs.Types.{NominalConstructor, NominalKind, NominalLocal, NominalSignature, NominalType}
 use Rattle.ap_defs.specs.Typing.{IsApplication, IsTyped, Want, arguments, embedded, more, nothing, one}
-use Rattle.ap_program.specs.RawTyping.{HasTermType, IsNameOf, IsTypedTerm, IsVarOf}
-use Rattle.ap_program.specs.Typed.{AreArguments, HaveTypes, IsScoped, AreMarked, EachOnce, IsTypedGoal, IsTypedQuery, brought, is_marked, stands_free, stands_in_term, term_form}
+use Rattle.ap_program.specs.RawTyping.{HasTermType, IsNameOf, IsTypedTerm}
+use Rattle.ap_program.specs.Typed.{AreArguments, HaveTypes, AreMarked, EachOnce, IsTypedGoal, IsTypedQuery, brought, is_marked, stands_free, stands_in_term, term_form}
 use Rattle.ap_search.proofs.TypingLemmas.{kind_at_front, typed_front}
 use Rattle.ap_pick.specs.StatementsOnPicks.{EachName}
 use Rattle.ap_property.specs.Fitting.{Fits, HaveKnownNames, IsKnown}
 use Rattle.ap_property.specs.Properties.{conclusion, conclusion_query}
-use Rattle.ap_property.specs.PutIn.{name_local, put_in, with_terms}
+use Rattle.ap_property.specs.PutIn.{put_in, with_terms}
 use Rattle.ap_property.specs.Stated.{Instance}
 use Rattle.ap_property.proofs.LocalLemmas.{AreUnmarked, all_marked_with, inhabited_with, kinds_with, known_name, known_unmarked, local_vars_unmarked, marked_without, with_names}
 

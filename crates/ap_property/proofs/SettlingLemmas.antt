@@ -1,8 +1,7 @@
 -- The names of an answer, numbered on from a query's identifiers.
-use Rattle.std.proofs.Common.{◌≡◌, ◌≢◌, ◌<◌, ◌≤◌, ◌⊎◌, ◌∙◌, ◌+◌, ℕ, zero, suc, Bool, true, false, ◌&&◌, ◌||◌, not, List, [], ◌∷◌, ◌++◌, length, map, Option, Some, None, refl, sym, ap, ap₂, subst, inl, inr, arith}
+use Rattle.std.proofs.Common.{◌≡◌, ◌<◌, ◌≤◌, ◌⊎◌, ◌∙◌, ◌+◌, ℕ, zero, suc, Bool, true, false, ◌&&◌, ◌||◌, not, List, [], ◌∷◌, ◌++◌, length, map, Some, refl, sym, ap, ap₂, subst, inl, inr, arith}
 use Rattle.std.specs.Prelude.{slice_get}
 use Rattle.std.proofs.lemmas.List.{length-map}
-use Rattle.ap_defs.specs.declared.terms.Cond.{Cond}
 use Rattle.ap_defs.specs.declared.terms.Name.{Name}
 use Rattle.ap_defs.specs.declared.terms.Swap.{Swap}
 use Rattle.ap_defs.specs.declared.terms.Var.{Var}
@@ -12,15 +11,14 @@ use Rattle.ap_defs.specs.Freshness.{Conds}
 use Rattle.ap_defs.specs.Groundings.{Grounding, grounded, meets}
 use Rattle.ap_defs.specs.Occurrences.{names_of_terms, names_then}
 use Rattle.ap_defs.specs.Permutations.{act_name, has_name, left_name, name_eq, names_of, right_name, swap_name}
-use Rattle.ap_defs.specs.Printing.{first_names}
 use Rattle.ap_defs.specs.Renaming.{local_names, replace_names, replace_swap}
-use Rattle.ap_defs.specs.Terms.{GroundTerm, NominalTerm, abs, act_ground, app, name, pair, susp, unit}
+use Rattle.ap_defs.specs.Terms.{NominalTerm, abs, act_ground, app, name, pair, susp, unit}
 use Rattle.ap_defs.specs.Types.{NominalLocal}
-use Rattle.ap_theory.specs.Exchanges.{extension, renumbered}
+use Rattle.ap_theory.specs.Exchanges.{renumbered}
 use Rattle.ap_theory.proofs.BooleanLemmas.{and_both, false_if_not, or_cases, or_if_left, or_if_right}
 use Rattle.ap_theory.proofs.DisagreementLemmas.{has_name-append}
 use Rattle.ap_theory.proofs.ExchangeLemmas.{extension_goes, extension_other, new_names_different, new_names_high, new_names_sorts}
-use Rattle.ap_theory.proofs.PermutationLemmas.{act_sort, name_eq_same, name_tells, name_eq_itself, not_name, swap_name_fixes}
+use Rattle.ap_theory.proofs.PermutationLemmas.{act_sort, name_eq_same, name_eq_itself, not_name, swap_name_fixes}
 use Rattle.ap_ground.proofs.ListLemmas.{first_names_different, has_first_names}
 use Rattle.ap_complete.specs.Coverings.{replace_in_cond}
 use Rattle.ap_pick.specs.StatementsOnPicks.{EachName, IsNewName}

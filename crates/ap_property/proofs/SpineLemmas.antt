@@ -1,7 +1,7 @@
 -- The hypothesis and the conclusion of a query are typed and scoped as it is.
-use Rattle.std.proofs.Common.{◌≡◌, ◌∙◌, ℕ, Bool, true, false, ◌||◌, List, [], ◌∷◌, ◌++◌, refl, sym, ap, subst}
+use Rattle.std.proofs.Common.{◌≡◌, ◌∙◌, ℕ, true, false, ◌||◌, List, [], ◌∷◌, ◌++◌, refl, sym, ap, subst}
 use Rattle.std.specs.Prelude.{◌==◌}
-use Rattle.ap_defs.specs.Goals.{NominalGoal, NominalProgram, NominalQuery, atom, both, either, equal, exists, fresh, new, succeed}
+use Rattle.ap_defs.specs.Goals.{NominalGoal, atom, both, either, equal, exists, fresh, new, succeed}
 use Rattle.ap_defs.specs.Terms.{NominalTerm}
 use Rattle.ap_defs.specs.Types.{NominalKind, NominalLocal, NominalType}
 use Rattle.ap_program.specs.Typed.{AreMarked, EachOnce, IsScoped, IsTypedGoal, IsTypedQuery, Typing, brought, has_number, is_marked, stands_free, stands_in_term, term_form}

@@ -1,5 +1,5 @@
 -- A query is derivable for the stated instance of each of its answers.
-use Rattle.std.proofs.Common.{◌≡◌, ◌∙◌, ℕ, List, [], ◌∷◌, length, map, refl, sym, ap, ap₂, subst}
+use Rattle.std.proofs.Common.{◌≡◌, ◌∙◌, ℕ, List, [], ◌∷◌, length, map, refl, sym, ap₂, subst}
 use Rattle.ap_defs.specs.Answers as answers
 use Rattle.ap_defs.specs.Answers.{NominalAnswer, NominalOut, answer_in, binds_in, derivation_in, out_in, query_outs, vars_in}
 use Rattle.ap_defs.specs.Derivations.{NominalDerivation}
@@ -9,16 +9,14 @@ use Rattle.ap_defs.specs.Permutations.{inverse}
 use Rattle.ap_defs.specs.Renaming.{local_vars, replace_names}
 use Rattle.ap_defs.specs.Resolution.{Output, State, cut, found, kinds_of, solve_query, stuck}
 use Rattle.ap_defs.specs.Terms.{GroundTerm, NominalTerm, act_ground}
-use Rattle.ap_defs.specs.Types.{NominalConstructor, NominalKind}
+use Rattle.ap_defs.specs.Types.{NominalConstructor}
 use Rattle.ap_defs.specs.declared.terms.Swap.{Swap}
 use Rattle.ap_defs.specs.declared.terms.Var.{Var}
-use Rattle.ap_program.specs.RawTyping.{AreVarsOf}
 use Rattle.ap_program.specs.Typed.{IsTypedProgram, IsTypedQuery, term_form}
 use Rattle.ap_theory.proofs.GroundLemmas.{act_ground-append, act_ground_none, act_ground_same}
 use Rattle.ap_theory.proofs.PermutationLemmas.{act-append, act_inverse}
 use Rattle.ap_theory.proofs.ReplacementLemmas.{act_grounded}
 use Rattle.ap_ground.specs.ShownInstances.{InEachInstance, IsTypedDerivable}
-use Rattle.ap_ground.specs.TypedGroundings.{HaveInhabitants}
 use Rattle.ap_ground.proofs.DerivabilityLemmas.{derivable_act}
 use Rattle.ap_ground.proofs.FillerLemmas.{gives_types_act}
 use Rattle.ap_ground.proofs.GroundTypingLemmas.{types_act}

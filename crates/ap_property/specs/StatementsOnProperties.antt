@@ -1,9 +1,8 @@
 -- What is proved of properties.
-use Rattle.std.specs.Prelude.{◌≡◌, ℕ, List, [], ◌∷◌}
+use Rattle.std.specs.Prelude.{◌≡◌, ℕ, List, []}
 use Rattle.ap_defs.specs.Answers.{NominalAnswer, query_outs}
 use Rattle.ap_defs.specs.Goals.{NominalProgram, NominalQuery}
 use Rattle.ap_defs.specs.GroundProofs.{IsDerivable}
-use Rattle.ap_defs.specs.Terms.{GroundTerm}
 use Rattle.ap_defs.specs.Types.{NominalConstructor, NominalKind}
 use Rattle.ap_program.specs.RawTyping.{AreVarsOf}
 use Rattle.ap_program.specs.Typed.{IsTypedProgram, IsTypedQuery, term_form}

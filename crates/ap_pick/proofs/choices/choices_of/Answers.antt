@@ -1,10 +1,8 @@
-use Rattle.std.proofs.Common.{◌≡◌, ◌∙◌, ◌+◌, ℕ, suc, length, map, is_some, arith, subst, sym}
+use Rattle.std.proofs.Common.{◌≡◌, ◌∙◌, ◌+◌, suc, map, arith, subst, sym}
 use Rattle.ap_defs.specs.Types.{constructor_of}
-use Rattle.ap_types.specs.Inhabited.{all_inhabited}
-use Rattle.ap_types.specs.Rounds.{marked, reached}
-use Rattle.ap_pick.specs.Choices.{choice_in}
+use Rattle.ap_types.specs.Rounds.{marked}
 use Rattle.ap_pick.specs.Picks.{data_bound}
-use Rattle.ap_pick.specs.Rounds.{AreChoicesAfter, GoesRound}
+use Rattle.ap_pick.specs.Rounds.{AreChoicesAfter}
 use Rattle.ap_pick.proofs.ChoiceLemmas.{last_choices, round_after, still_choices}
 use Rattle.ap_pick.proofs.choices.choices_of.Goals as goal
 

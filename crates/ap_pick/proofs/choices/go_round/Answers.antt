@@ -1,4 +1,4 @@
-use Rattle.std.proofs.Common.{◌≡◌, ◌≤◌, ◌∙◌, Bool, true, false, List, Option, Some, length, map, set, if◌then◌else◌, refl, ap, arith, subst, sym}
+use Rattle.std.proofs.Common.{◌≡◌, ◌≤◌, ◌∙◌, true, false, length, map, refl, arith, sym}
 use Rattle.ap_defs.specs.Types.{constructor_of}
 use Rattle.ap_types.specs.Rounds.{marked}
 use Rattle.ap_pick.specs.Picks.{data_bound}

@@ -1,5 +1,5 @@
 -- The constructors so far were looked at.
-use Rattle.std.proofs.Common.{◌≡◌, ◌≤◌, ℕ, Bool, false, List, length, map, take}
+use Rattle.std.proofs.Common.{◌≡◌, ℕ, false, length, map, take}
 use Rattle.ap_defs.specs.Types.{constructor_of}
 use Rattle.ap_types.specs.Inhabited.{all_inhabited}
 use Rattle.ap_types.specs.Rounds.{marked, reached}

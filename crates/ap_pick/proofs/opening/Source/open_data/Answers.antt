@@ -1,10 +1,8 @@
-use Rattle.std.proofs.Common.{◌≡◌, ◌<◌, ◌≤◌, ◌∙◌, true, false, Some, None, map, length, refl, sym, ap, subst, arith}
+use Rattle.std.proofs.Common.{◌≡◌, ◌∙◌, true, false, None, map, sym, ap, subst, arith}
 use Rattle.std.proofs.lemmas.List.{get_or_past}
 use Rattle.ap_defs.specs.declared.goals.Constructor.{Constructor}
 use Rattle.ap_defs.specs.Types.{constructor_of, type_of}
-use Rattle.ap_types.specs.Inhabited.{all_inhabited}
-use Rattle.ap_types.specs.Rounds.{reached}
-use Rattle.ap_pick.specs.Choices.{IsChoice, IsChoiceFor, choice_in}
+use Rattle.ap_pick.specs.Choices.{IsChoice, IsChoiceFor}
 use Rattle.ap_pick.proofs.WantLemmas.{choice_arguments, choice_below, data_inside}
 use Rattle.ap_pick.proofs.opening.Source.open_data.Goals as goal
 
