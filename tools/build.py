@@ -16,7 +16,8 @@ import sys
 import time
 
 TOP = os.path.dirname(os.path.dirname(os.path.realpath(__file__)))
-PROGRAM = "ap_cli"
+# The crate of the program that is built. The words on which it is tried, once it stands, are those of its own run.
+PROGRAM = os.environ.get("ALPHAPROLOG_PROGRAM", "ap_cli")
 ROOM = f"{TOP}/.build"
 LOG = f"{ROOM}/log"
 NOT_BUILT = 70
@@ -32,6 +33,12 @@ def say(text):
         print(f"alphaprolog: {text}", file=sys.stderr, flush=True)
     except OSError:
         pass
+
+
+def words_of_its_run():
+    """The words on which the gate runs the program."""
+    place = f"{TOP}/crates/{PROGRAM}/args"
+    return text_of(place).split() if os.path.isfile(place) else []
 
 
 def fail(text):
@@ -225,12 +232,13 @@ def build():
         f"the program is proved and built first: {len(crates)} crates, {len(left)} of them not yet, {jobs} side by side; "
         f"about {estimate(left, below, jobs)} minutes. The log is {LOG}"
     )
-    say("to look sooner, without proofs: ./alphaprolog-unproved with the same words")
+    sooner = "./alphaprolog-unproved" if PROGRAM == "ap_cli" else "./alphaprolog-shell --unproved"
+    say(f"to look sooner, without proofs: {sooner} with the same words")
     open(LOG, "w", encoding="utf-8").close()
     status = run([sys.executable, "-B", f"{TOP}/tools/libraries.py", str(jobs)], progress)
     if status == LIBRARIES_BY_RT:
         status = run(["rt", "all", "check", "--jobs", str(jobs)], progress)
-    if status or run(["rt", "run", "--jobs", str(jobs), "--", "run", "--depth", "1"], progress):
+    if status or run(["rt", "run", "--jobs", str(jobs), "--", *words_of_its_run()], progress):
         say(f"{progress.clock()} the program was not built; the log is {LOG}, and ends with")
         say("\n" + last_lines(15))
         fail("what was proved is kept: a second start goes on from there")

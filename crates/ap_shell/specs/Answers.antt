@@ -1,0 +1,34 @@
+-- What is answered for a query: the report of the loaded text with that query alone.
+use Rattle.std.specs.Prelude.{◌≡◌, ◌<◌, ◌≤◌, ℕ, List, ◌++◌, length, codes, if◌then◌else◌}
+use Rattle.ap_defs.specs.Limits.{size_limit}
+use Rattle.ap_inputs.specs.Lines.{has_mark}
+use Rattle.ap_paths.specs.declared.limits.Limit.TheVariants as limits
+use Rattle.ap_report.specs.declared.report.Report.{Report}
+use Rattle.ap_report.specs.declared.status.Status.TheVariants as status
+use Rattle.ap_report.specs.TextReport.{IsTextReport, run_report}
+use Rattle.ap_shell.specs.declared.session.Settings.{Settings}
+
+-- a query as it stands in a text, with `?-` before it
+abbrev pub question_of : List ℕ → List ℕ
+question_of query = if has_mark query then query else (codes "?- " ++ query)
+
+-- the loaded text with a query
+abbrev pub text_with : List ℕ → List ℕ → List ℕ
+text_with loaded query = loaded ++ question_of query
+
+-- what is written for a text that is too large
+abbrev pub too_large : Report
+too_large = record { bytes = codes "% text too large\n"; status = status.TooLarge }
+
+-- The report on a text, of a command with this report on the texts that may be read.
+pub record IsReportWithin (IsReport : List ℕ → Report → Type 0) (text : List ℕ) (r : Report) : Type 0 where
+  pub fits : length text ≤ size_limit → IsReport text r
+  pub large : size_limit < length text → r ≡ too_large
+
+-- the report of a run of a text, with these settings
+abbrev pub IsRunReport : Settings → List ℕ → Report → Type 0
+IsRunReport s text r = IsReportWithin (IsTextReport (run_report s.depth (limits.First s.answers))) text r
+
+-- what is answered for a query: the report of a run of the loaded text with that query alone
+abbrev pub IsAnswer : Settings → List ℕ → List ℕ → Report → Type 0
+IsAnswer s loaded query r = IsRunReport s (text_with loaded query) r

@@ -1,0 +1,110 @@
+//! The reports on the loaded text with a query.
+ghost use Rattle.std.specs.Prelude.{◌≡◌, IfOk};
+ghost use Rattle.ap_bundle_prove.specs.Reports.{IsProveReport};
+ghost use Rattle.ap_paths.specs.declared.limits.Limit.TheVariants as limits;
+ghost use Rattle.ap_shell.specs.Answers as spec;
+ghost use Rattle.ap_shell.specs.Answers.{IsReportWithin, IsRunReport, text_with};
+ghost use Rattle.ap_uses.specs.Reports.{IsCountReport};
+
+use crate::session::Settings;
+use ap_bundle_prove::prove_text;
+use ap_defs::limits::SIZE_LIMIT;
+use ap_defs::lists::List;
+use ap_defs::memory::Memory;
+use ap_inputs::lines::has_mark;
+use ap_io::Gate;
+use ap_paths::Limit;
+use ap_report::{Report, Status, report_text};
+use ap_uses::count_text;
+use std::alloc::Global;
+use std::sync::Wait;
+use std::thread::Threads;
+
+/// The loaded text with a query.
+pub(crate) fn text_with(alloc: Global, loaded: &[u8], query: &[u8]) -> Result<Vec<u8>, Memory>
+    ensures { IfOk result (λ v. v.items ≡ text_with loaded.now query.now) }
+{
+    let mut text = loaded.to_vec(alloc)?;
+    if !has_mark(query) {
+        text.extend_from_slice(b"?- ")?;
+    }
+    text.extend_from_slice(query)?;
+    Ok(text)
+}
+
+/// The report on a text that is too large.
+fn too_large(alloc: Global) -> Result<Report, Memory>
+    ensures { IfOk result (λ r. r ≡ spec.too_large) }
+{
+    Ok(Report {
+        bytes: List::of(b"% text too large\n".to_vec(alloc)?),
+        status: Status::TooLarge,
+    })
+}
+
+/// The report of a run of a text.
+pub(crate) fn run_report<R: Threads + Wait + Sync, G: Gate>(
+    rt: &R,
+    alloc: Global,
+    gate: &G,
+    settings: &Settings,
+    text: &[u8],
+) -> Result<Report, Memory>
+    ensures { IfOk result (IsRunReport settings.now text.now) }
+{
+    if text.len() > SIZE_LIMIT {
+        return too_large(alloc);
+    }
+    let limit = Limit::First(settings.answers);
+    report_text(
+        rt,
+        alloc,
+        gate,
+        settings.depth,
+        settings.workers,
+        limit,
+        text,
+    )
+}
+
+/// The bundle of a text and of its answers with their derivations.
+pub(crate) fn prove_report<R: Threads + Wait + Sync, G: Gate>(
+    rt: &R,
+    alloc: Global,
+    gate: &G,
+    settings: &Settings,
+    text: &[u8],
+) -> Result<Report, Memory>
+    ensures { IfOk result
+        (IsReportWithin (IsProveReport settings.now.depth (limits.First settings.now.answers)) text.now) }
+{
+    if text.len() > SIZE_LIMIT {
+        return too_large(alloc);
+    }
+    let limit = Limit::First(settings.answers);
+    prove_text(
+        rt,
+        alloc,
+        gate,
+        settings.depth,
+        settings.workers,
+        limit,
+        text,
+    )
+}
+
+/// How often each clause of a text is used in the derivations of all answers.
+pub(crate) fn count_report<R: Threads + Wait + Sync, G: Gate>(
+    rt: &R,
+    alloc: Global,
+    gate: &G,
+    settings: &Settings,
+    text: &[u8],
+) -> Result<Report, Memory>
+    ensures { IfOk result (IsReportWithin (IsCountReport settings.now.depth) text.now) }
+{
+    if text.len() > SIZE_LIMIT {
+        return too_large(alloc);
+    }
+    count_text(rt, alloc, gate, settings.depth, settings.workers, text)
+}

@@ -1,0 +1,2 @@
+pred double(nat, nat).
+double(X, Y) :- add(X, X).

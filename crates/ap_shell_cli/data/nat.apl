@@ -1,0 +1,10 @@
+% Numbers.
+nat : type.
+z : nat.
+s : nat -> nat.
+
+pred add(nat, nat, nat).
+add(z, N, N).
+add(s(M), N, s(K)) :- add(M, N, K).
+
+?- add(s(z), s(z), R).
