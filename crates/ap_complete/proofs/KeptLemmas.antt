@@ -1,10 +1,12 @@
 -- The program of items that keep the name restriction keeps it once its swappings are carried out.
 use Rattle.std.proofs.Common.{List, [], ◌∷◌, ◌++◌, map}
-use Rattle.ap_defs.specs.Goals.{ClauseOver}
+use Rattle.ap_defs.specs.Goals.{ClauseOver, ProgramOver}
 use Rattle.ap_defs.specs.RawTerms.{RawTerm}
 use Rattle.ap_defs.specs.Types.{NominalConstructor}
-use Rattle.ap_program.specs.CarryingOut.{carried_out, map_clause}
-use Rattle.ap_program.specs.NameRestriction.{AllPass, AreRestrictedClauses, AreRestrictedLists, RawItem, clause, items_of_lists, query}
+use Rattle.ap_program.specs.CarryingOut.{carried_out, carried_out_program, map_clause}
+use Rattle.ap_program.specs.NameRestriction.{AllPass, AreRestrictedClauses, AreRestrictedLists, RawItem, clause, items_of, items_of_lists, query}
+use Rattle.ap_program.specs.Typed.{IsTypedProgram}
+use Rattle.ap_complete.specs.Restriction.{KeepsRestriction}
 use Rattle.ap_complete.specs.StatementsOnCompleteness.{KeptProgramsAreComplete}
 use Rattle.ap_complete.proofs.CompletenessLemmas.{programs_complete}
 
@@ -25,7 +27,10 @@ kept_lists cs [] h = tt
 kept_lists cs (list ∷ lists) h =
     (kept_clauses cs list (pass_left cs (map clause list) (items_of_lists lists) h), kept_lists cs lists (pass_right cs (map clause list) (items_of_lists lists) h))
 
-pub kept_complete : KeptProgramsAreComplete
-kept_complete p typed pass depth =
+pub kept_restriction : (p : ProgramOver RawTerm) → IsTypedProgram (carried_out_program p) → AllPass p.signature.constructors (items_of p) → KeepsRestriction (carried_out_program p)
+kept_restriction p typed pass =
     let cs = p.signature.constructors in
-    programs_complete _ (record { typed = typed; names = kept_lists cs p.clauses (pass_left cs (items_of_lists p.clauses) (map query p.queries) pass) }) depth
+    record { typed = typed; names = kept_lists cs p.clauses (pass_left cs (items_of_lists p.clauses) (map query p.queries) pass) }
+
+pub kept_complete : KeptProgramsAreComplete
+kept_complete p typed pass depth = programs_complete _ (kept_restriction p typed pass) depth

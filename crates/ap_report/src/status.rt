@@ -25,6 +25,8 @@ pub enum Status {
     NotChecked,
     /// The input has more bytes than the limit.
     TooLarge,
+    /// A query is no property.
+    NotAProperty,
 }
 
 impl Status {
@@ -43,6 +45,7 @@ impl Status {
             Status::Memory => 7,
             Status::NotChecked => 8,
             Status::TooLarge => 9,
+            Status::NotAProperty => 12,
         }
     }
 }

@@ -1,0 +1,4 @@
+mod VerdictLemmas
+mod LineLemmas
+mod StepLemmas
+mod RefutingLemmas
