@@ -1,4 +1,5 @@
 mod VerdictLemmas
 mod LineLemmas
+mod ProgramLemmas
 mod StepLemmas
 mod RefutingLemmas

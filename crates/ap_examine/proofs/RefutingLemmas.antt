@@ -1,5 +1,5 @@
 -- Counterexamples refute.
-use Rattle.std.proofs.Common.{◌≡◌, ◌∙◌, ℕ, suc, Bool, true, false, List, [], ◌∷◌, Option, Some, None, refl, sym, ap, subst}
+use Rattle.std.proofs.Common.{◌≡◌, ℕ, suc, Bool, true, false, List, [], ◌∷◌, Option, Some, None, refl, subst}
 use Rattle.std.specs.Prelude.{if◌then◌else◌}
 use Rattle.ap_defs.specs.Answers.{NominalAnswer, NominalOut, cut, found, query_outs, stuck}
 use Rattle.ap_defs.specs.Goals.{NominalProgram, NominalQuery}
@@ -7,7 +7,7 @@ use Rattle.ap_defs.specs.GroundProofs.{IsDerivable}
 use Rattle.ap_complete.specs.Restriction.{KeepsRestriction}
 use Rattle.ap_complete.proofs.KeptLemmas.{kept_restriction}
 use Rattle.ap_ground.specs.ShownInstances.{IsTypedDerivable}
-use Rattle.ap_program.specs.Typed.{AreTypedQueries, IsTypedQuery, term_form}
+use Rattle.ap_program.specs.Typed.{AreTypedQueries, term_form}
 use Rattle.ap_property.specs.Properties.{conclusion_query, hypothesis_query}
 use Rattle.ap_property.specs.PutIn.{put_in}
 use Rattle.ap_property.proofs.CounterLemmas.{counters_refuted}
@@ -18,7 +18,7 @@ use Rattle.ap_soundness.specs.FoundStates.{EachAnswer}
 use Rattle.ap_text.specs.Texts.{IsProgramOfText}
 use Rattle.ap_typecheck.proofs.TypedPrograms.{program_typed}
 use Rattle.ap_examine.specs.Counterexamples.{AreRefuted, CounterexamplesRefute, IsRefutedText, Refutes}
-use Rattle.ap_examine.specs.Exams.{Counterexample, NominalExam, clear, counter, counter_among, counter_if, exam, exam_with, instance_of, tally_of, verdict_on}
+use Rattle.ap_examine.specs.Exams.{Counterexample, counter, counter_among, counter_if, exam_with, instance_of, tally_of, verdict_on}
 use Rattle.ap_examine.specs.Verdicts.{has_answer, verdict_of}
 use Rattle.ap_examine.specs.declared.exam.Tally.{Tally}
 use Rattle.ap_examine.specs.declared.verdict.Verdict.{Verdict}

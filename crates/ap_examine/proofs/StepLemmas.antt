@@ -1,7 +1,7 @@
 -- Exams output by output.
-use Rattle.std.proofs.Common.{◌≡◌, ◌∙◌, ◌≤◌, ◌+◌, ℕ, suc, Bool, true, false, List, [], ◌∷◌, length, Option, Some, None, refl, sym, ap, subst, arith}
+use Rattle.std.proofs.Common.{◌≡◌, ◌∙◌, ◌+◌, ℕ, suc, Bool, true, false, List, [], ◌∷◌, length, refl, sym, ap, subst, arith}
 use Rattle.std.specs.Prelude.{if◌then◌else◌, filter}
-use Rattle.ap_defs.specs.Answers.{NominalAnswer, NominalOut, cut, found, query_outs, stuck}
+use Rattle.ap_defs.specs.Answers.{NominalOut, cut, found, query_outs, stuck}
 use Rattle.ap_defs.specs.Goals.{NominalProgram, NominalQuery}
 use Rattle.ap_defs.specs.Lines.{count_of, is_cut, is_stuck}
 use Rattle.ap_defs.specs.Types.{NominalSignature}
@@ -9,8 +9,8 @@ use Rattle.ap_ground.specs.TypedGroundings.{HaveInhabitants}
 use Rattle.ap_program.specs.Typed.{IsTypedQuery, term_form}
 use Rattle.ap_soundness.specs.FoundStates.{EachAnswer}
 use Rattle.ap_property.specs.PutIn.{asking, put_in}
-use Rattle.ap_property.specs.Stated.{Instance, stated}
-use Rattle.ap_examine.specs.Exams.{Counterexample, NominalExam, clear, counter, counter_among, counter_if, exam_of, exam_with, holds, instance_of, is_held, is_open, is_unsettled, tally_of, verdict_on}
+use Rattle.ap_property.specs.Stated.{stated}
+use Rattle.ap_examine.specs.Exams.{NominalExam, clear, counter, counter_among, counter_if, exam_of, exam_with, holds, instance_of, is_held, is_open, is_unsettled, tally_of, verdict_on}
 use Rattle.ap_examine.specs.Verdicts.{verdict_of}
 use Rattle.ap_examine.specs.Views.{IsExam}
 use Rattle.ap_examine.specs.declared.exam.Exam.{Exam}

@@ -1,5 +1,5 @@
 -- A verdict needs the outputs up to the first answer alone.
-use Rattle.std.proofs.Common.{◌≡◌, ◌∙◌, Bool, true, false, ◌||◌, List, [], ◌∷◌, refl, sym, ap}
+use Rattle.std.proofs.Common.{◌≡◌, List, [], ◌∷◌, refl, ap}
 use Rattle.std.specs.Prelude.{if◌then◌else◌}
 use Rattle.ap_defs.specs.Answers.{NominalOut, cut, found, stuck}
 use Rattle.ap_paths.specs.Limits.{first_part}

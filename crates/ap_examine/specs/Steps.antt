@@ -1,5 +1,5 @@
 -- Exams output by output.
-use Rattle.std.specs.Prelude.{◌≡◌, ◌≤◌, ◌<◌, ◌+◌, ◌^◌, ℕ, List, [], ◌∷◌, length}
+use Rattle.std.specs.Prelude.{◌≡◌, ◌≤◌, ◌<◌, ◌+◌, ◌^◌, ℕ, length}
 use Rattle.ap_defs.specs.Answers.{NominalAnswer, NominalOut, cut, found, stuck}
 use Rattle.ap_defs.specs.Goals.{NominalProgram, NominalQuery}
 use Rattle.ap_ground.specs.TypedGroundings.{HaveInhabitants}

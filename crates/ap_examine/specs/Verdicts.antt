@@ -1,5 +1,5 @@
 -- What the outputs of a conclusion tell.
-use Rattle.std.specs.Prelude.{Bool, true, false, ◌||◌, List, [], ◌∷◌, if◌then◌else◌}
+use Rattle.std.specs.Prelude.{Bool, false, ◌||◌, List, [], ◌∷◌, if◌then◌else◌}
 use Rattle.ap_defs.specs.Answers.{NominalOut}
 use Rattle.ap_defs.specs.Lines.{is_found}
 use Rattle.ap_examine.specs.declared.verdict.Verdict.{Verdict}

@@ -103,7 +103,16 @@ fn judge<R: Threads + Wait + Sync, G: Gate>(
         query: conclusion,
         stated,
     } = posed;
-    let searched = search(rt, alloc, gate, depth, workers, Limit::First(1), program, conclusion)?;
+    let searched = search(
+        rt,
+        alloc,
+        gate,
+        depth,
+        workers,
+        Limit::First(1),
+        program,
+        conclusion,
+    )?;
     Ok(Judged {
         program: searched.program,
         verdict: verdict_of(&searched.outs),

@@ -23,12 +23,7 @@ use std::alloc::Global;
 use std::collections::HashSet;
 
 /// Writes the line of a property.
-fn write_line(
-    alloc: Global,
-    out: &mut Vec<u8>,
-    number: u64,
-    said: &str,
-) -> Result<(), Memory>
+fn write_line(alloc: Global, out: &mut Vec<u8>, number: u64, said: &str) -> Result<(), Memory>
     ensures { OnOk result (out.new.items ≡ out.old.items ++ property_line number said.now) }
 {
     let text = format!(in alloc; "% property {number}: {said}\n")?;
@@ -37,12 +32,7 @@ fn write_line(
 }
 
 /// Writes the line of a property with totals.
-fn write_tally(
-    alloc: Global,
-    out: &mut Vec<u8>,
-    number: u64,
-    tally: Tally,
-) -> Result<(), Memory>
+fn write_tally(alloc: Global, out: &mut Vec<u8>, number: u64, tally: Tally) -> Result<(), Memory>
     ensures { OnOk result (out.new.items ≡ out.old.items ++ property_line number (tally_said tally)) }
 {
     let Tally {
@@ -51,7 +41,9 @@ fn write_tally(
         cut,
         stuck,
     } = tally;
-    let said = format!(in alloc; "no counterexample, {held} held, {unsettled} open, {cut} cut, {stuck} stuck")?;
+    let said = format!(in alloc;
+        "no counterexample, {held} held, {unsettled} open, {cut} cut, {stuck} stuck"
+    )?;
     write_line(alloc, out, number, &said)
 }
 
@@ -117,7 +109,15 @@ pub(crate) fn lines_of(
             return Ok(out);
         };
         let locals = query.locals.items();
-        write_exam(alloc, &mut out, program.program(), &taken, locals, number, exam)?;
+        write_exam(
+            alloc,
+            &mut out,
+            program.program(),
+            &taken,
+            locals,
+            number,
+            exam,
+        )?;
         number += 1;
         left = others;
         right = more;

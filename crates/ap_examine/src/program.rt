@@ -48,9 +48,28 @@ fn examine_query<R: Threads + Wait + Sync, G: Gate>(
         (exams.exam (program_of program) depth (query_of query.now))) }
 {
     let hypothesis = hypothesis_of(alloc, query)?;
-    let searched = search(rt, alloc, gate, depth, workers, Limit::All, program, hypothesis)?;
+    let searched = search(
+        rt,
+        alloc,
+        gate,
+        depth,
+        workers,
+        Limit::All,
+        program,
+        hypothesis,
+    )?;
     let asked = searched.program;
-    examine_outs(rt, alloc, gate, depth, workers, picker, asked, query, &searched.outs)
+    examine_outs(
+        rt,
+        alloc,
+        gate,
+        depth,
+        workers,
+        picker,
+        asked,
+        query,
+        &searched.outs,
+    )
 }
 
 /// A program, and exams of queries.

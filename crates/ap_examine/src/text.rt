@@ -78,13 +78,9 @@ fn report_exams<R: Threads + Wait + Sync, G: Gate>(
     })
 }
 
-/// The report of `examine` on a text, to a depth: the line of the first fault; or the number of the first query
-/// that is no property; or for each query the first counterexample among the stated instances of its hypothesis's
-/// answers, or else the totals. So many workers search; what the report is does not depend on how many there are.
-///
-/// `Err` is want of memory.
+/// The report on a text.
 #[tactic(auto, using(ap_report::proofs::Texts::refused_report, ap_report::proofs::Texts::answered_report))]
-pub fn examine_text<R: Threads + Wait + Sync, G: Gate>(
+fn report_of<R: Threads + Wait + Sync, G: Gate>(
     rt: &R,
     alloc: Global,
     gate: &G,
@@ -103,4 +99,28 @@ pub fn examine_text<R: Threads + Wait + Sync, G: Gate>(
         Err(TextError::Fault(fault)) => fault_report(alloc, &fault),
         Err(TextError::Memory) => Err(Memory),
     }
+}
+
+/// The report of `examine` on a text, to a depth: the line of the first fault; or the number of the first query
+/// that is no property; or for each query the first counterexample among the stated instances of its hypothesis's
+/// answers, or else the totals. So many workers search; what the report is does not depend on how many there are.
+///
+/// `Err` is want of memory.
+pub fn examine_text<R: Threads + Wait + Sync, G: Gate>(
+    rt: &R,
+    alloc: Global,
+    gate: &G,
+    depth: Depth,
+    workers: Workers,
+    text: &[u8],
+) -> Result<Report, Memory>
+    requires { length text.now ≤ size_limit }
+    // What is answered is the report on the text.
+    ensures made { IfOk result (λ r. IsExamReport depth text.now r) }
+    // No other is.
+    ensures only { IfOk result (λ r. (s : Report) → IsExamReport depth text.now s → s ≡ r) }
+    // For each counterexample the hypothesis is derivable to the depth, and the conclusion has no ground proof.
+    ensures refuted { IsRefutedText depth text.now }
+{
+    report_of(rt, alloc, gate, depth, workers, text)
 }

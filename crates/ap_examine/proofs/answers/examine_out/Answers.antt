@@ -1,4 +1,4 @@
-use Rattle.std.proofs.Common.{◌≡◌, subst, sym}
+use Rattle.std.proofs.Common.{subst, sym}
 use Rattle.ap_defs.specs.Answers.{answer_of, out_of}
 use Rattle.ap_defs.specs.Goals.{program_of, query_of}
 use Rattle.ap_defs.specs.declared.paths.Out.{Out}

@@ -1,5 +1,5 @@
-use Rattle.std.proofs.Common.{◌≡◌, ◌∙◌, List, [], ◌∷◌, length, map, refl, sym, ap, subst, arith}
-use Rattle.ap_defs.specs.Answers.{NominalOut, out_of, outs_of}
+use Rattle.std.proofs.Common.{◌≡◌, ◌∙◌, [], ◌∷◌, length, refl, sym, ap, subst, arith}
+use Rattle.ap_defs.specs.Answers.{out_of, outs_of}
 use Rattle.ap_defs.specs.Goals.{program_of, query_of}
 use Rattle.ap_soundness.specs.FoundStates.{EachAnswer}
 use Rattle.ap_examine.specs.Exams.{clear, exam_of}

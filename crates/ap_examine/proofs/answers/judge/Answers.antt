@@ -1,4 +1,4 @@
-use Rattle.std.proofs.Common.{◌≡◌, ◌∙◌, List, ap}
+use Rattle.std.proofs.Common.{◌∙◌, List, ap}
 use Rattle.ap_defs.specs.Answers.{answer_of, outs_of, query_outs}
 use Rattle.ap_defs.specs.Goals.{program_of, query_of}
 use Rattle.ap_defs.specs.declared.paths.Out.{Out}

@@ -1,4 +1,4 @@
-use Rattle.std.proofs.Common.{◌≡◌, ◌∙◌, ◌++◌, ◌+◌, List, ◌∷◌, length, map, refl, sym, ap, subst, arith}
+use Rattle.std.proofs.Common.{◌∙◌, ◌++◌, ◌+◌, List, ◌∷◌, length, map, refl, ap, subst, arith}
 use Rattle.ap_defs.specs.declared.goals.Local.{Local}
 use Rattle.ap_defs.specs.declared.goals.Program.{Program}
 use Rattle.ap_defs.specs.declared.goals.Query.{Query}
@@ -24,12 +24,12 @@ writing-preserved c =
     let small = c.writing.invariant.small in
     record {
       all = λ p depth asks are.
-      next_line p r asks depth out c.write_exam.new.out.items k (k + 1) x xs (query_of q) (map query_of qs) whole refl
-      (λ e is.
-      c.in_ok-write_exam.ensures e is
-      ∙ ap (λ (m : Program Term). out ++ exam_text (program_of m) (locals_of c.items-locals.result.now) k e) c.program.ensures.same
-      ∙ ap (λ (ls : List Local). out ++ exam_text r (locals_of ls) k e) c.items-locals.ensures)
-      (subst (λ (ys : List Exam). AreLeft p depth out k ys (map query_of (q ∷ qs)) whole) c.in-Some-split_first.ensures.cases.0
-      (subst (λ (ps : List (Query Term)). AreLeft p depth out k c.writing.right.now (map query_of ps) whole) c.in-Some.ensures.cases.0 (c.writing.invariant.all p depth asks are)));
+          next_line p r asks depth out c.write_exam.new.out.items k (k + 1) x xs (query_of q) (map query_of qs) whole refl
+          (λ e is.
+          c.in_ok-write_exam.ensures e is
+          ∙ ap (λ (m : Program Term). out ++ exam_text (program_of m) (locals_of c.items-locals.result.now) k e) c.program.ensures.same
+          ∙ ap (λ (ls : List Local). out ++ exam_text r (locals_of ls) k e) c.items-locals.ensures)
+          (subst (λ (ys : List Exam). AreLeft p depth out k ys (map query_of (q ∷ qs)) whole) c.in-Some-split_first.ensures.cases.0
+          (subst (λ (ps : List (Query Term)). AreLeft p depth out k c.writing.right.now (map query_of ps) whole) c.in-Some.ensures.cases.0 (c.writing.invariant.all p depth asks are)));
       small = omega (arith, long, small);
     }

@@ -1,7 +1,6 @@
 -- What is written so far, and what is to be said of the exams that are left, are all.
-use Rattle.std.proofs.Common.{◌≡◌, ◌++◌, ◌+◌, ℕ, length, map}
+use Rattle.std.proofs.Common.{◌≡◌, ◌+◌, ℕ, length, map}
 use Rattle.ap_defs.specs.Goals.{NominalProgram, program_of, query_of}
-use Rattle.ap_examine.specs.Reports.{exams_from}
 use Rattle.ap_examine.specs.Steps.{Asks}
 use Rattle.ap_examine.specs.Views.{AreExams}
 use Rattle.ap_examine.proofs.LineLemmas.{AreLeft}

@@ -1,5 +1,5 @@
 -- The exams so far, and those of the queries that are left, are all.
-use Rattle.std.proofs.Common.{◌≡◌, ◌++◌, List, length, map}
+use Rattle.std.proofs.Common.{◌++◌, List, length, map}
 use Rattle.ap_defs.specs.Goals.{program_of, query_of}
 use Rattle.ap_program.specs.Typed.{AreTypedQueries, term_form}
 use Rattle.ap_examine.specs.Steps.{Asks}

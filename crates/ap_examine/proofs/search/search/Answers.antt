@@ -1,4 +1,4 @@
-use Rattle.std.proofs.Common.{◌≡◌, ◌∙◌, ap}
+use Rattle.std.proofs.Common.{◌∙◌, ap}
 use Rattle.std.specs.Prelude.{slice_get}
 use Rattle.ap_defs.specs.Answers.{query_outs}
 use Rattle.ap_defs.specs.Goals.{NominalProgram, query_of}
