@@ -1,4 +1,4 @@
 mod VerdictLemmas
-mod TextLemmas
+pub mod TextLemmas
 pub mod SoundVerdicts
 mod AgainLemmas

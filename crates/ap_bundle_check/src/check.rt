@@ -8,7 +8,7 @@ ghost use Rattle.ap_defs.specs.Goals.{program_of};
 ghost use Rattle.ap_defs.specs.Limits.{size_limit};
 ghost use Rattle.ap_report.specs.declared.report.Report.{Report};
 ghost use Rattle.ap_bundle_check.specs.Refusals.{refusal_of};
-ghost use Rattle.ap_bundle_check.specs.Reports.{HasSoundVerdicts, IsCheckReport, IsReadReport, check_report};
+ghost use Rattle.ap_bundle_check.specs.Reports.{HasSoundVerdicts, IsCheckReport, IsReadReport, check_report, refused_report};
 ghost use Rattle.ap_verdicts.specs.Verdicts.{first_refused, verdict_on_proved};
 
 use crate::lines;
@@ -53,13 +53,28 @@ fn first_refused(
     Ok(None)
 }
 
+/// The report of the first derivation that is refused, if one is. `Err` is want of memory.
+pub fn report_of_refused(
+    alloc: Global,
+    program: &Restricted,
+    proved: &[Proved],
+) -> Result<Option<Report>, Memory>
+    ensures { IfOk result (λ o. o ≡ option_map refused_report
+        (first_refused (program_of program.now) 1 (map proved_of proved.now))) }
+{
+    match first_refused(alloc, program, proved)? {
+        Some(refusal) => Ok(Some(lines::refused_report(alloc, refusal)?)),
+        None => Ok(None),
+    }
+}
+
 /// The report on derivations for a program: the first that is refused, or how many there are.
 fn report_verdicts(alloc: Global, program: &Restricted, proved: &[Proved]) -> Result<Report, Memory>
     ensures { IfOk result (λ r. r
         ≡ check_report (map proved_of proved.now) (program_of program.now)) }
 {
-    match first_refused(alloc, program, proved)? {
-        Some(refusal) => lines::refused_report(alloc, refusal),
+    match report_of_refused(alloc, program, proved)? {
+        Some(report) => Ok(report),
         None => lines::checked_report(alloc, proved.len()),
     }
 }

@@ -2,12 +2,12 @@
 //!
 //! [`check_bytes`] reads a bundle, takes the program of its text, and asks the checker for the verdict on each
 //! derivation. It shares no code with the search that makes them. [`bundle_fault_report`] is the report on a
-//! bundle that has a fault of its own.
+//! bundle that has a fault of its own, and [`report_of_refused`] that of the first derivation that is refused.
 #![tactic(auto)]
 
 mod check;
 pub mod laws;
 mod lines;
 
-pub use check::check_bytes;
+pub use check::{check_bytes, report_of_refused};
 pub use lines::bundle_fault_report;

@@ -50,11 +50,12 @@ const FILES: [&str; 27] = [
     "sampled_to_4.cases",
 ];
 
-const COMMANDS: [&str; 5] = [
+const COMMANDS: [&str; 6] = [
     "commands.cases",
     "convert.cases",
     "work.cases",
     "count.cases",
+    "cover.cases",
     "answers.cases",
 ];
 

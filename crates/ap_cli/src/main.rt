@@ -43,7 +43,7 @@ fn command(words: &[String]) -> &str {
 // Whether the input is a bundle, and not a text.
 fn reads_bundle(words: &[String]) -> bool {
     let command = command(words);
-    command == "check" || command == "convert"
+    command == "check" || command == "convert" || command == "cover"
 }
 
 // Whether the report has lines of totals. A bundle has none of its own.

@@ -14,4 +14,5 @@ code_of status.Write = 6
 code_of status.Memory = 7
 code_of status.NotChecked = 8
 code_of status.TooLarge = 9
+code_of status.NotCovered = 11
 code_of status.NotAProperty = 12

@@ -25,6 +25,8 @@ pub enum Status {
     NotChecked,
     /// The input has more bytes than the limit.
     TooLarge,
+    /// A proof of a bundle isn't ground, or is too high, so that it isn't to be covered.
+    NotCovered,
     /// A query is no property.
     NotAProperty,
 }
@@ -45,6 +47,7 @@ impl Status {
             Status::Memory => 7,
             Status::NotChecked => 8,
             Status::TooLarge => 9,
+            Status::NotCovered => 11,
             Status::NotAProperty => 12,
         }
     }

@@ -1,6 +1,7 @@
 -- The answers in the report on any input are complete.
 use Rattle.std.proofs.Common.{ℕ, List, Option, Some, None}
 use Rattle.ap_report.proofs.CompleteTexts.{complete_text}
+use Rattle.ap_bundle_cover.proofs.CoveredProofs.{covered_proofs}
 use Rattle.ap_top.specs.Report.{IsCompleteFor, Broken, HasCompleteAnswers, Input, Over, Whole}
 use Rattle.ap_words.specs.declared.Asked.{Asked}
 use Rattle.ap_words.specs.declared.Asked.TheVariants as asked
@@ -17,6 +18,9 @@ complete_for (Some (asked.Prove depth workers limit)) Broken = tt
 complete_for (Some asked.Check) input = tt
 complete_for (Some (asked.Convert to)) input = tt
 complete_for (Some (asked.Count depth workers)) input = tt
+complete_for (Some (asked.Cover depth workers)) (Whole bundle) = covered_proofs depth bundle
+complete_for (Some (asked.Cover depth workers)) Over = tt
+complete_for (Some (asked.Cover depth workers)) Broken = tt
 complete_for (Some (asked.Work seed size workers)) input = tt
 
 pub complete_input : (words : List (List ℕ)) (input : Input) → HasCompleteAnswers words input

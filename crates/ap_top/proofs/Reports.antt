@@ -1,5 +1,5 @@
 -- A report never has one of the two statuses that tell how it came to the sink.
-use Rattle.std.proofs.Common.{◌≡◌, ◌∙◌, refl, sym, ap, subst, inl, inr, ℕ, List, length, Option, Some, None, Result, Ok, Err, IfOk}
+use Rattle.std.proofs.Common.{◌≡◌, ◌∙◌, sym, subst, inl, inr, ℕ, List, length, Option, Some, None, Result, Ok, Err, IfOk}
 use Rattle.std.specs.Io.KnownBytes.{Appends}
 use Rattle.ap_defs.specs.Goals.{NominalProgram}
 use Rattle.ap_defs.specs.declared.faults.Fault.TheVariants as faults
@@ -7,7 +7,7 @@ use Rattle.ap_report.specs.declared.report.Report.{Report}
 use Rattle.ap_report.specs.declared.status.Status.{Status}
 use Rattle.ap_report.specs.declared.status.Status.TheVariants as status
 use Rattle.ap_report.specs.TextReport.{IsTextReport, refused, answered, run_report}
-use Rattle.ap_bundle.specs.Bundles.{NominalBundle}
+use Rattle.ap_bundle.specs.Bundles.{NominalBundle, NominalProved}
 use Rattle.ap_bundle.specs.Reading.{reading}
 use Rattle.ap_bundle.specs.declared.faults.BundleFault.{BundleFault}
 use Rattle.ap_verdicts.specs.Verdicts.{RefusedProof, first_refused}
@@ -15,12 +15,15 @@ use Rattle.ap_bundle_prove.specs.Reports.{prove_report}
 use Rattle.ap_bundle_check.specs.Reports.{IsReadReport, check_report, verdicts_report}
 use Rattle.ap_bundle.specs.declared.version.Version.{Version}
 use Rattle.ap_bundle_convert.specs.Reports.{convert_report}
+use Rattle.ap_bundle_cover.specs.Reports as cover
+use Rattle.ap_bundle_cover.specs.Reports.{cover_report, covers_report, proofs_report}
+use Rattle.ap_bundle_cover.specs.Uncovered.{first_uncovered}
 use Rattle.ap_gen.specs.Generated.{generated}
 use Rattle.ap_uses.specs.Reports.{count_report}
 use Rattle.ap_work.specs.Reports.{summary_report, work_depth}
 use Rattle.ap_words.specs.declared.Asked.{Asked}
 use Rattle.ap_words.specs.declared.Asked.TheVariants as asked
-use Rattle.ap_top.specs.Report.{Input, Whole, Over, Broken, IsOnly, IsReportOf}
+use Rattle.ap_top.specs.Report.{Input, Whole, Over, Broken, IsReportOf}
 use Rattle.ap_top.specs.Run.{Change, IsPut, IsUnwritten, IsWritten}
 
 -- the status of a report
@@ -43,6 +46,17 @@ told_read : (read : Result NominalBundle BundleFault) (r : Report) → IsReadRep
 told_read (Ok b) r is = told_text (check_report b.proved) (λ p. told_verdicts (length b.proved) (first_refused p 1 b.proved)) b.text r is
 told_read (Err f) r is = subst (λ x. IsTold x.status) (sym is) tt
 
+told_covers : (depth : ℕ) (ds : List NominalProved) (p : NominalProgram) → IsTold (covers_report depth ds p (first_uncovered depth 1 ds)).status
+told_covers depth ds p = elim (first_uncovered depth 1 ds) as (λ o. IsTold (covers_report depth ds p o).status) [ None ↦ tt | Some u ↦ tt ]
+
+told_proofs : (depth : ℕ) (ds : List NominalProved) (p : NominalProgram) (o : Option RefusedProof) → IsTold (proofs_report depth ds p o).status
+told_proofs depth ds p None = told_covers depth ds p
+told_proofs depth ds p (Some r) = tt
+
+told_covered : (depth : ℕ) (read : Result NominalBundle BundleFault) (r : Report) → cover.IsReadReport depth read r → IsTold r.status
+told_covered depth (Ok b) r is = told_text (cover_report depth b.proved) (λ p. told_proofs depth b.proved p (first_refused p 1 b.proved)) b.text r is
+told_covered depth (Err f) r is = subst (λ x. IsTold x.status) (sym is) tt
+
 told_converted : (to : Version) (read : Result NominalBundle BundleFault) → IsTold (convert_report to read).status
 told_converted to (Ok b) = tt
 told_converted to (Err f) = tt
@@ -64,6 +78,9 @@ told_report (Some (asked.Convert to)) Broken r is = subst (λ x. IsTold x.status
 told_report (Some (asked.Count depth workers)) (Whole text) r is = told_text (count_report depth) (λ p. tt) text r is
 told_report (Some (asked.Count depth workers)) Over r is = subst (λ x. IsTold x.status) (sym is) tt
 told_report (Some (asked.Count depth workers)) Broken r is = subst (λ x. IsTold x.status) (sym is) tt
+told_report (Some (asked.Cover depth workers)) (Whole bundle) r is = told_covered depth (reading bundle) r is
+told_report (Some (asked.Cover depth workers)) Over r is = subst (λ x. IsTold x.status) (sym is) tt
+told_report (Some (asked.Cover depth workers)) Broken r is = subst (λ x. IsTold x.status) (sym is) tt
 told_report (Some (asked.Work seed size workers)) input r is = told_text (summary_report work_depth) (λ p. tt) (generated seed size) r is
 
 pub written_report : (sink : Change) (r : Report) (s : Status) → IsTold s → s ≡ r.status → sink.faults' ≡ sink.faults → Appends sink.bytes sink.bytes' r.bytes → IsWritten sink r s
@@ -77,6 +94,7 @@ written_report sink r status.Write told is steady whole = absurd told
 written_report sink r status.Memory told is steady whole = absurd told
 written_report sink r status.NotChecked told is steady whole = (steady, is, whole)
 written_report sink r status.TooLarge told is steady whole = (steady, is, whole)
+written_report sink r status.NotCovered told is steady whole = (steady, is, whole)
 
 -- how a report was put tells how it is written
 pub put_written : (sink : Change) (r : Report) (s : Status) → IsTold r.status → IsPut sink r s → IsWritten sink r s

@@ -21,6 +21,9 @@ sound_for (Some asked.Check) Over = tt
 sound_for (Some asked.Check) Broken = tt
 sound_for (Some (asked.Convert to)) input = tt
 sound_for (Some (asked.Count depth workers)) input = tt
+sound_for (Some (asked.Cover depth workers)) (Whole bundle) = sound_verdicts bundle
+sound_for (Some (asked.Cover depth workers)) Over = tt
+sound_for (Some (asked.Cover depth workers)) Broken = tt
 sound_for (Some (asked.Work seed size workers)) input = tt
 
 pub sound_input : (words : List (List ℕ)) (input : Input) → HasSoundAnswers words input

@@ -9,6 +9,7 @@ use Rattle.ap_report.specs.TextReport.{IsTextReport, run_report}
 use Rattle.ap_bundle_prove.specs.Reports.{HasSoundProofs, IsProveReport}
 use Rattle.ap_bundle_check.specs.Reports.{HasSoundVerdicts, IsCheckReport}
 use Rattle.ap_bundle_convert.specs.Reports.{IsConvertReport}
+use Rattle.ap_bundle_cover.specs.Reports.{HasCoveredProofs, IsCoverReport}
 use Rattle.ap_uses.specs.Reports.{IsCountReport}
 use Rattle.ap_work.specs.Reports.{IsWorkReport}
 use Rattle.ap_words.specs.declared.Asked.{Asked}
@@ -44,6 +45,7 @@ IsReportFor (asked.Prove depth workers limit) input r = IsReportOn (IsProveRepor
 IsReportFor asked.Check input r = IsReportOn IsCheckReport input r
 IsReportFor (asked.Convert to) input r = IsReportOn (IsConvertReport to) input r
 IsReportFor (asked.Count depth workers) input r = IsReportOn (IsCountReport depth) input r
+IsReportFor (asked.Cover depth workers) input r = IsReportOn (IsCoverReport depth) input r
 IsReportFor (asked.Work seed size workers) input r = IsWorkReport seed size r
 
 -- the same, or the refusal of words that ask for nothing
@@ -60,6 +62,7 @@ abbrev pub IsSoundFor : Option Asked → Input → Type 0
 IsSoundFor (Some (asked.Run depth workers limit)) (Whole text) = IsSoundText depth limit text
 IsSoundFor (Some (asked.Prove depth workers limit)) (Whole text) = IsSoundText depth limit text × HasSoundProofs depth limit text
 IsSoundFor (Some asked.Check) (Whole bundle) = HasSoundVerdicts bundle
+IsSoundFor (Some (asked.Cover depth workers)) (Whole bundle) = HasSoundVerdicts bundle
 IsSoundFor _ _ = Unit {0}
 
 abbrev pub HasSoundAnswers : List (List ℕ) → Input → Type 0
@@ -73,6 +76,7 @@ IsOnly P r = P r × ((s : Report) → P s → s ≡ r)
 abbrev pub IsCompleteFor : Option Asked → Input → Type 0
 IsCompleteFor (Some (asked.Run depth workers limit)) (Whole text) = IsCompleteText depth limit text
 IsCompleteFor (Some (asked.Prove depth workers limit)) (Whole text) = IsCompleteText depth limit text
+IsCompleteFor (Some (asked.Cover depth workers)) (Whole bundle) = HasCoveredProofs depth bundle
 IsCompleteFor _ _ = Unit {0}
 
 abbrev pub HasCompleteAnswers : List (List ℕ) → Input → Type 0

@@ -59,7 +59,7 @@ fn put<K: Sink>(sink: &mut K, report: &Report) -> Status
 ///
 /// | Status | Comes | Written is |
 /// |---|---|---|
-/// | `Ok` | exactly where the text has no fault, and each derivation of a bundle checks | the command's report |
+/// | `Ok` | exactly where the text has no fault, and each derivation of a bundle checks and, for `cover`, is a ground proof no higher than the depth | the command's report |
 /// | `Usage` | exactly where the words are refused: they aren't a command and numbers for its options, each in its range, none set twice and no required one left out; then nothing is read | its line |
 /// | `Syntax` | exactly where the bytes of a bundle are faulty, or else the text doesn't split into tokens, or an item isn't in the grammar | the line of the first fault |
 /// | `Types` | exactly where an item isn't well typed | the line of the first fault |
@@ -69,6 +69,7 @@ fn put<K: Sink>(sink: &mut K, report: &Report) -> Status
 /// | `Memory` | where memory is wanting | nothing |
 /// | `NotChecked` | exactly where a derivation of a bundle doesn't check, and its text has no fault | the line of the first such derivation, with its first refused node and the rule |
 /// | `TooLarge` | exactly where the input has a byte past 16,777,216 | its line |
+/// | `NotCovered` | exactly where `cover` reads a bundle whose derivations check, and one of them is no ground proof or is higher than the depth | the line of the first such proof |
 ///
 /// The statuses on the text come in this order, and a `Write` stands in place of any other.
 ///
@@ -77,7 +78,9 @@ fn put<K: Sink>(sink: &mut K, report: &Report) -> Status
 /// whoever made it. `convert` writes the bundle that it reads in the version that is asked for. `run` writes the
 /// reports of the text's queries, one after the other; where so many answers are wanted, `run` and `prove` end
 /// each query with the last of them. `count` writes how often each clause is used in the derivations of all
-/// answers. `work` reads nothing: it makes a text from a number, and writes the totals of its run.
+/// answers. `cover` writes which answer, or which stuck branch, covers each ground proof of a bundle: the answer
+/// at its path, of which what it proves is an instance. `work` reads nothing: it makes a text from a number, and
+/// writes the totals of its run.
 ///
 /// The report of a query is what sequential nominal resolution finds to the depth (Cheney and Urban,
 /// "Nominal Logic Programming"): a line for each answer, in order, once for each derivation, with notes

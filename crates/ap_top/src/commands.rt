@@ -7,6 +7,7 @@ ghost use Rattle.ap_top.specs.Run.{IsRead};
 mod check;
 mod convert;
 mod count;
+mod cover;
 mod prove;
 mod run;
 
@@ -47,6 +48,7 @@ pub(crate) fn report_of<R: Threads + Wait + Sync, S: Source, G: Gate>(
         Asked::Check => check::report(alloc, source),
         Asked::Convert { to } => convert::report(alloc, to, source),
         Asked::Count { depth, workers } => count::report(rt, alloc, gate, depth, workers, source),
+        Asked::Cover { depth, workers } => cover::report(rt, alloc, gate, depth, workers, source),
         Asked::Work {
             seed,
             size,

@@ -51,6 +51,13 @@ pub enum Asked {
         /// how many workers search each of them
         workers: Workers,
     },
+    /// Tell which answer, or which stuck branch, covers each ground proof of a bundle.
+    Cover {
+        /// the depth to which the queries are searched
+        depth: Depth,
+        /// how many workers search each of them
+        workers: Workers,
+    },
     /// Run the text that is made from a number, and write its totals.
     Work {
         /// the number

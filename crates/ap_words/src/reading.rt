@@ -94,6 +94,10 @@ fn asked_by(command: CommandName, settings: &[Setting]) -> Option<Asked>
             depth: depth(settings)?,
             workers: workers(settings)?,
         }),
+        CommandName::Cover => Some(Asked::Cover {
+            depth: depth(settings)?,
+            workers: workers(settings)?,
+        }),
         CommandName::Work => Some(Asked::Work {
             seed: seed(settings)?,
             size: size(settings)?,

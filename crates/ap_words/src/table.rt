@@ -16,6 +16,8 @@ pub enum CommandName {
     Convert,
     /// `count`, which counts how often each clause is used
     Count,
+    /// `cover`, which tells what covers each ground proof of a bundle
+    Cover,
     /// `work`, which runs a text that is made from a number
     Work,
 }
@@ -37,12 +39,13 @@ pub enum OptionName {
     Size,
 }
 
-static COMMANDS: [CommandName; 6] = [
+static COMMANDS: [CommandName; 7] = [
     CommandName::Run,
     CommandName::Prove,
     CommandName::Check,
     CommandName::Convert,
     CommandName::Count,
+    CommandName::Cover,
     CommandName::Work,
 ];
 
@@ -78,6 +81,7 @@ impl CommandName {
             CommandName::Check => "check",
             CommandName::Convert => "convert",
             CommandName::Count => "count",
+            CommandName::Cover => "cover",
             CommandName::Work => "work",
         }
     }
@@ -92,6 +96,7 @@ impl CommandName {
             CommandName::Check => NO_OPTIONS.as_slice(),
             CommandName::Convert => VERSION_OPTIONS.as_slice(),
             CommandName::Count => SEARCH_OPTIONS.as_slice(),
+            CommandName::Cover => SEARCH_OPTIONS.as_slice(),
             CommandName::Work => WORK_OPTIONS.as_slice(),
         }
     }

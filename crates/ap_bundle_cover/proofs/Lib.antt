@@ -1,0 +1,4 @@
+mod UncoveredLemmas
+mod SearchedLemmas
+mod LineLemmas
+pub mod CoveredProofs

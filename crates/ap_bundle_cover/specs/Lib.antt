@@ -1,0 +1,4 @@
+pub mod Uncovered
+pub mod Lines
+pub mod Reports
+pub mod Searched

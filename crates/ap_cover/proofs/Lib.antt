@@ -1,0 +1,3 @@
+mod PathLemmas
+mod OrderLemmas
+pub mod CoverLemmas

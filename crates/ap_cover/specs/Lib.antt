@@ -1,0 +1,5 @@
+pub mod Ground
+pub mod Covers
+pub mod Said
+pub mod Waiting
+pub mod Laws

@@ -1,0 +1,38 @@
+// `cover`, which tells what covers each ground proof of a bundle.
+ghost use Rattle.std.specs.Prelude.{IfOk};
+ghost use Rattle.ap_report.specs.declared.report.Report.{Report};
+ghost use Rattle.ap_bundle_cover.specs.Reports.{IsCoverReport};
+ghost use Rattle.ap_top.specs.Report.{Input, IsOnly, IsReportOn};
+ghost use Rattle.ap_top.specs.Run.{IsRead};
+
+use crate::lines::line;
+use crate::reading::{ReadError, read_whole};
+use ap_bundle_cover::cover_bytes;
+use ap_defs::limits::{Depth, Workers};
+use ap_defs::memory::Memory;
+use ap_io::{Gate, Source};
+use ap_report::{Report, Status};
+use std::alloc::Global;
+use std::sync::Wait;
+use std::thread::Threads;
+
+/// The report of `cover` on what the source has left.
+pub(crate) fn report<R: Threads + Wait + Sync, S: Source, G: Gate>(
+    rt: &R,
+    alloc: Global,
+    gate: &G,
+    depth: Depth,
+    workers: Workers,
+    source: &mut S,
+) -> Result<Report, Memory>
+    ensures { IfOk result (λ r. (input : Input)
+        × IsRead (S.left source.old) (S.faults source.old) (S.faults source.new) input
+        × IsOnly (IsReportOn (IsCoverReport depth) input) r) }
+{
+    match read_whole(alloc, source) {
+        Ok(bytes) => cover_bytes(rt, alloc, gate, depth, workers, &bytes),
+        Err(ReadError::Failed) => line(alloc, "% read fault\n", Status::Read),
+        Err(ReadError::TooLarge) => line(alloc, "% text too large\n", Status::TooLarge),
+        Err(ReadError::Memory) => Err(Memory),
+    }
+}
