@@ -11,6 +11,6 @@ mod stating;
 
 pub use asking::{Asked, ask};
 pub use constructors::copy_constructors;
-pub use parts::{hypothesis_of, is_property};
+pub use parts::{copy_query, hypothesis_of, is_property};
 pub use putting::put_in_of;
 pub use stating::{Stated, stated_of};

@@ -189,3 +189,17 @@ pub fn hypothesis_of(alloc: Global, query: &Query<Term>) -> Result<Query<Term>, 
         locals: List::of(locals),
     })
 }
+
+/// A copy of a query.
+pub fn copy_query(alloc: Global, query: &Query<Term>) -> Result<Query<Term>, Memory>
+    ensures { IfOk result (λ q. query_of q ≡ query_of query.now) }
+{
+    let goal = copy_goal(alloc, &query.goal)?;
+    let locals = copy_locals(alloc, query.locals.items())?;
+    Ok(Query {
+        item: query.item,
+        line: query.line,
+        goal,
+        locals: List::of(locals),
+    })
+}

@@ -1,0 +1,5 @@
+mod VerdictLemmas
+mod LineLemmas
+mod ProgramLemmas
+mod StepLemmas
+mod RefutingLemmas

@@ -1,0 +1,6 @@
+pub mod Verdicts
+pub mod Exams
+pub mod Reports
+pub mod Steps
+pub mod Views
+pub mod Counterexamples
