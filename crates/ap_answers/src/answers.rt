@@ -86,7 +86,7 @@ fn write_conds(out: &mut Vec<u8>, by: &Speller<'_>, conds: &[Cond]) -> Result<()
 }
 
 /// Writes the bindings and the conditions, or `yes` where no binding is shown.
-fn write_shown(
+pub fn write_shown(
     alloc: Global,
     out: &mut Vec<u8>,
     by: &Speller<'_>,

@@ -1,16 +1,16 @@
 //! What is shown of an answer, and the lines of a report.
 #![tactic(auto)]
 
-mod answers;
-mod bindings;
+pub mod answers;
+pub mod bindings;
 mod conditions;
 mod copying;
-mod locals;
-mod occurrences;
-mod place;
+pub mod locals;
+pub mod occurrences;
+pub mod place;
 pub mod printing;
 mod report;
 mod shown;
-mod speller;
-mod text;
+pub mod speller;
+pub mod text;
 mod words;

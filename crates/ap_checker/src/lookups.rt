@@ -107,7 +107,7 @@ pub(crate) fn term_for<'a>(locals: &[Local], terms: &'a [Term], x: Var) -> Optio
 }
 
 /// The clause of a predicate with this number, from 1.
-pub(crate) fn clause_at(program: &Program<Term>, pred: u32, number: u32) -> Option<&Clause<Term>>
+pub fn clause_at(program: &Program<Term>, pred: u32, number: u32) -> Option<&Clause<Term>>
     ensures { MatchOption result (clause_numbered (clauses_of (program_of program.now).clauses pred) number ≡ None) (λ c. clause_numbered (clauses_of (program_of program.now).clauses pred) number ≡ Some (clause_of c.now)) }
 {
     let clauses = program.clauses.items();
@@ -128,7 +128,7 @@ pub(crate) fn clause_at(program: &Program<Term>, pred: u32, number: u32) -> Opti
 
 /// The query with this number, from 1.
 #[tactic(auto, using(crate::proofs::ClauseLemmas::query_zero, crate::proofs::ClauseLemmas::query_past, crate::proofs::ClauseLemmas::query_there))]
-pub(crate) fn query_at(program: &Program<Term>, number: u32) -> Option<&Query<Term>>
+pub fn query_at(program: &Program<Term>, number: u32) -> Option<&Query<Term>>
     ensures { MatchOption result (query_numbered (program_of program.now).queries number ≡ None) (λ q. query_numbered (program_of program.now).queries number ≡ Some (query_of q.now)) }
 {
     let queries = program.queries.items();

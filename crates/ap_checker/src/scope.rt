@@ -19,7 +19,7 @@ use std::alloc::Global;
 
 /// What stands for the free identifiers of an item, or for one that its goal brought.
 #[derive(Clone, Copy)]
-pub(crate) enum Standing<'a> {
+pub enum Standing<'a> {
     /// The terms for the free variables of a query, in order; each free name stands for itself.
     Query(&'a [Local], &'a [Term]),
     /// The names for the free names of a clause and the terms for its free variables, in order.
@@ -167,7 +167,7 @@ fn put_part<'a>(
 }
 
 /// The term with its names and variables replaced at once.
-pub(crate) fn put(alloc: Global, scope: &[Standing<'_>], t: &Term) -> Result<Term, Memory>
+pub fn put(alloc: Global, scope: &[Standing<'_>], t: &Term) -> Result<Term, Memory>
     ensures { IfOk result (λ u. term_of u ≡ put_in (environment_of scope.now) (term_of t.now)) }
 {
     let mut outside = Outside::new(alloc);
@@ -181,7 +181,7 @@ pub(crate) fn put(alloc: Global, scope: &[Standing<'_>], t: &Term) -> Result<Ter
 }
 
 /// The terms with their names and variables replaced at once.
-pub(crate) fn put_each(
+pub fn put_each(
     alloc: Global,
     scope: &[Standing<'_>],
     terms: &[Term],
