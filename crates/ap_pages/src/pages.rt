@@ -28,7 +28,7 @@ pub const LATEX_HEAD: &str = "\\documentclass[a4paper,landscape]{article}
 \\usepackage{mathpartir}
 \\usepackage{graphicx}
 \\pagestyle{empty}
-\\newcommand{\\derive}[3]{\\inferrule*[Right={\\normalfont\\scriptsize #1}]{#3}{\\mbox{\\ttfamily #2}}}
+\\newcommand{\\derive}[3]{\\inferrule*[right={\\normalfont\\scriptsize #1}]{#3\\mbox{}}{\\mbox{\\ttfamily #2}}}
 \\newsavebox{\\derived}
 \\newenvironment{derivation}{\\begin{lrbox}{\\derived}$\\displaystyle}{$\\end{lrbox}\\begin{center}
 \\ifdim\\wd\\derived>\\linewidth\\resizebox{\\linewidth}{!}{\\usebox{\\derived}}\\else\\usebox{\\derived}\\fi
