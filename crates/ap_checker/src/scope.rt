@@ -181,11 +181,7 @@ pub fn put(alloc: Global, scope: &[Standing<'_>], t: &Term) -> Result<Term, Memo
 }
 
 /// The terms with their names and variables replaced at once.
-pub fn put_each(
-    alloc: Global,
-    scope: &[Standing<'_>],
-    terms: &[Term],
-) -> Result<Vec<Term>, Memory>
+pub fn put_each(alloc: Global, scope: &[Standing<'_>], terms: &[Term]) -> Result<Vec<Term>, Memory>
     ensures { IfOk result (λ v. map term_of v.items ≡ map (put_in (environment_of scope.now)) (map term_of terms.now)) }
 {
     let mut all = Vec::new(alloc);
