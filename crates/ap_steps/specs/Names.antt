@@ -1,0 +1,56 @@
+-- The names and variables of an answer with its derivation, in preorder.
+use Rattle.std.specs.Prelude.{ℕ, ◌+◌, List, [], ◌∷◌, ◌++◌, map}
+use Rattle.std.specs.List.{flat_map}
+use denote.Ref.{Bor}
+use Rattle.ap_defs.specs.declared.outcomes.Derivation as code
+use Rattle.ap_defs.specs.declared.terms.Cond.{Cond}
+use Rattle.ap_defs.specs.declared.terms.Name.{Name}
+use Rattle.ap_defs.specs.declared.terms.Var.{Var}
+use Rattle.ap_defs.specs.Answers.{NominalAnswer}
+use Rattle.ap_defs.specs.Derivations.{NominalDerivation, atom, equal, fresh, succeed, both, left, right, exists, new, derivation_of}
+use Rattle.ap_defs.specs.Occurrences.{names_of_terms, vars_of_terms}
+use Rattle.ap_checks.specs.Checks.{count}
+
+-- the nodes of a derivation, in preorder
+abbrev pub preorder : NominalDerivation → List NominalDerivation
+preorder (atom k as' ts d) = atom k as' ts d ∷ preorder d
+preorder equal = equal ∷ []
+preorder fresh = fresh ∷ []
+preorder succeed = succeed ∷ []
+preorder (both d e) = both d e ∷ (preorder d ++ preorder e)
+preorder (left d) = left d ∷ preorder d
+preorder (right d) = right d ∷ preorder d
+preorder (exists t d) = exists t d ∷ preorder d
+preorder (new a d) = new a d ∷ preorder d
+
+-- the names and the variables of a node
+abbrev pub own_names : NominalDerivation → List Name
+own_names (atom k as' ts d) = as' ++ names_of_terms ts
+own_names (exists t d) = names_of_terms (t ∷ [])
+own_names (new a d) = a ∷ []
+own_names _ = []
+
+abbrev pub own_vars : NominalDerivation → List Var
+own_vars (atom k as' ts d) = vars_of_terms ts
+own_vars (exists t d) = vars_of_terms (t ∷ [])
+own_vars _ = []
+
+-- those of an answer come first
+abbrev pub names_in : NominalAnswer → NominalDerivation → List Name
+names_in a d = names_of_terms a.binds ++ (map (λ (c : Cond). c.name) a.conds ++ flat_map own_names (preorder d))
+
+abbrev pub vars_in : NominalAnswer → NominalDerivation → List Var
+vars_in a d = vars_of_terms a.binds ++ (map (λ (c : Cond). c.var) a.conds ++ flat_map own_vars (preorder d))
+
+-- derivations without where they lie in memory
+abbrev pub derivations_of : List (Bor code.Derivation) → List NominalDerivation
+derivations_of = map (λ (d : Bor code.Derivation). derivation_of d.now)
+
+-- the nodes of derivations that wait, the next one last, and how many they are
+abbrev pub preorder_left : List (Bor code.Derivation) → List NominalDerivation
+preorder_left [] = []
+preorder_left (d ∷ ds) = preorder_left ds ++ preorder (derivation_of d.now)
+
+abbrev pub count_left : List (Bor code.Derivation) → ℕ
+count_left [] = 0
+count_left (d ∷ ds) = count (derivation_of d.now) + count_left ds
