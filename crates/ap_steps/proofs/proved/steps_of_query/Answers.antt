@@ -25,7 +25,7 @@ returns c =
     let a = answer_of c.args.proved.now.answer in
     let d = derivation_of c.args.proved.now.derivation in
     let its = c.in_ok-pieces.ensures
-    ∙ ap₂ (λ (ls : List Local) (ts : List Term). pieces w d q.goal (open_environment (locals_of ls) (local_names 0 (locals_of ls)) (map term_of ts))) c.items.ensures c.items-2.ensures in
+    ∙ ap₂ (λ (ls : List Local) (ts : List Term). pieces w d q.goal (open_environment (locals_of ls) (local_names 0 (locals_of ls)) (map term_of ts))) (c.in_ok-own.ensures ∙ c.items.ensures) c.items-2.ensures in
     c.in_ok-add_steps.ensures
     ∙ ap₂ (λ (xs ys : List NominalStep). xs ++ ys)
     (c.in_ok-steps.ensures ∙ ap (λ (ss : List (List ℕ)). root_step w q c.args.proved.now.query a ss ∷ []) (c.in_ok-sides.ensures.sides ∙ ap sides_in its))
