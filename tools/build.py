@@ -1,5 +1,5 @@
 #!/usr/bin/env python3
-"""Proves the crates below the program, several side by side, and builds it.
+"""Proves the crates below a program, several side by side, and builds it: ap_cli, or the one that the environment names.
 
 Progress goes to standard error, one line a crate; what `rt` prints goes to .build/log. Exit status: 0 where the
 program stands, 70 where it could not be built, 130 where the build was interrupted. A second start goes on where
@@ -16,7 +16,9 @@ import sys
 import time
 
 TOP = os.path.dirname(os.path.dirname(os.path.realpath(__file__)))
-PROGRAM = "ap_cli"
+# The words with which each program reads its crate's stdin.
+WORDS = {"ap_cli": ["run", "--depth", "1"], "ap_show_cli": ["--as", "text"]}
+PROGRAM = os.environ.get("ALPHAPROLOG_PROGRAM", "ap_cli")
 ROOM = f"{TOP}/.build"
 LOG = f"{ROOM}/log"
 NOT_BUILT = 70
@@ -225,12 +227,13 @@ def build():
         f"the program is proved and built first: {len(crates)} crates, {len(left)} of them not yet, {jobs} side by side; "
         f"about {estimate(left, below, jobs)} minutes. The log is {LOG}"
     )
-    say("to look sooner, without proofs: ./alphaprolog-unproved with the same words")
+    if PROGRAM == "ap_cli":
+        say("to look sooner, without proofs: ./alphaprolog-unproved with the same words")
     open(LOG, "w", encoding="utf-8").close()
     status = run([sys.executable, "-B", f"{TOP}/tools/libraries.py", str(jobs)], progress)
     if status == LIBRARIES_BY_RT:
         status = run(["rt", "all", "check", "--jobs", str(jobs)], progress)
-    if status or run(["rt", "run", "--jobs", str(jobs), "--", "run", "--depth", "1"], progress):
+    if status or run(["rt", "run", "--jobs", str(jobs), "--", *WORDS[PROGRAM]], progress):
         say(f"{progress.clock()} the program was not built; the log is {LOG}, and ends with")
         say("\n" + last_lines(15))
         fail("what was proved is kept: a second start goes on from there")
