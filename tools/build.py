@@ -1,5 +1,5 @@
 #!/usr/bin/env python3
-"""Proves the crates below the program, several side by side, and builds it.
+"""Proves the crates below a program, several side by side, and builds it: ap_cli, or the one that the environment names.
 
 Progress goes to standard error, one line a crate; what `rt` prints goes to .build/log. Exit status: 0 where the
 program stands, 70 where it could not be built, 130 where the build was interrupted. A second start goes on where
@@ -232,8 +232,9 @@ def build():
         f"the program is proved and built first: {len(crates)} crates, {len(left)} of them not yet, {jobs} side by side; "
         f"about {estimate(left, below, jobs)} minutes. The log is {LOG}"
     )
-    sooner = "./alphaprolog-unproved" if PROGRAM == "ap_cli" else "./alphaprolog-shell --unproved"
-    say(f"to look sooner, without proofs: {sooner} with the same words")
+    sooner = {"ap_cli": "./alphaprolog-unproved", "ap_shell_cli": "./alphaprolog-shell --unproved"}
+    if PROGRAM in sooner:
+        say(f"to look sooner, without proofs: {sooner[PROGRAM]} with the same words")
     open(LOG, "w", encoding="utf-8").close()
     status = run([sys.executable, "-B", f"{TOP}/tools/libraries.py", str(jobs)], progress)
     if status == LIBRARIES_BY_RT:

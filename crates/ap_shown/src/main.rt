@@ -1,0 +1,60 @@
+//! Bundles of files, and what is shown of them: as plain text, and of some as LaTeX and as HTML too.
+#![tactic(auto)]
+
+use ap_defs::limits::SIZE_LIMIT;
+use ap_pages::pages::Format;
+use ap_show::show_bytes;
+use std::fs::Files;
+use std::io::{ErrorKind, Write};
+use std::{fs, io};
+
+// Bundles that are shown as plain text alone.
+const TEXTS: [&str; 11] = [
+    "first",
+    "types",
+    "evaluation",
+    "system_f",
+    "processes",
+    "debruijn",
+    "hostile",
+    "forged_fresh",
+    "forged_head",
+    "faulty_text",
+    "unended",
+];
+
+// Bundles that are shown in each format.
+const PAGES: [&str; 2] = ["substitution", "hostile"];
+
+// Writes what is shown of a bundle in a format, behind its status.
+fn show<R: AllocGlobal + Print>(rt: &R, format: Format, bytes: &[u8]) -> io::Result<()> {
+    if bytes.len() > SIZE_LIMIT {
+        return Err(ErrorKind::InvalidInput.into());
+    }
+    match show_bytes(rt.alloc(), format, bytes) {
+        Ok(report) => {
+            let code = report.status.code();
+            println!(rt; "% status {code}")?;
+            io::writer(rt).write_all(report.bytes.items())
+        }
+        Err(_) => Err(ErrorKind::OutOfMemory.into()),
+    }
+}
+
+// Shows the bundle of a file in a format.
+fn show_file<R: AllocGlobal + Files + Print>(rt: &R, format: Format, name: &str) -> io::Result<()> {
+    println!(rt; "% {name}")?;
+    let bytes = fs::read(rt, name)?;
+    show(rt, format, bytes.as_slice())
+}
+
+fn main(rt: HostRuntime) -> io::Result<()> {
+    for name in &TEXTS {
+        show_file(&rt, Format::Text, name)?;
+    }
+    for name in &PAGES {
+        show_file(&rt, Format::Latex, name)?;
+        show_file(&rt, Format::Html, name)?;
+    }
+    Ok(())
+}
