@@ -1,5 +1,5 @@
 -- Steps of a walk over a body.
-use Rattle.std.proofs.Common.{◌≡◌, ◌<◌, ◌≤◌, ◌+◌, ℕ, suc, List, [], ◌∷◌, ◌++◌, length, map, reverse, take, refl, sym, ap, ap₂, ◌∙◌, arith, le_refl, append_assoc, length-append, subst}
+use Rattle.std.proofs.Common.{◌≡◌, ◌≤◌, ◌+◌, ℕ, suc, List, [], ◌∷◌, ◌++◌, length, map, reverse, take, refl, sym, ap, ap₂, ◌∙◌, arith, le_refl, append_assoc, length-append, subst}
 use Rattle.std.proofs.lemmas.List.{append-nil, length-take, reverse-append, take-append-le, take-take}
 use Rattle.ap_defs.specs.Derivations as nodes
 use Rattle.ap_defs.specs.Derivations.{NominalDerivation, derivation_of}

@@ -1,6 +1,5 @@
 -- Premises that wait, and the steps below a goal as those of its premises.
-use Rattle.std.proofs.Common.{◌≡◌, ◌<◌, ◌≤◌, ◌+◌, ℕ, List, [], ◌∷◌, ◌++◌, map, refl, sym, ap, ap₂, ◌∙◌, arith, append_assoc, reverse}
-use Rattle.std.specs.Prelude.{Option, Some, None}
+use Rattle.std.proofs.Common.{◌≡◌, ◌≤◌, ◌+◌, ℕ, List, [], ◌∷◌, ◌++◌, map, refl, sym, ap, ap₂, ◌∙◌, arith, append_assoc, reverse}
 use Rattle.std.proofs.lemmas.List.{append-nil, map-append, reverse-append}
 use Rattle.ap_defs.specs.declared.terms.Name.{Name}
 use Rattle.ap_defs.specs.Terms.{NominalTerm}
@@ -8,14 +7,13 @@ use Rattle.ap_defs.specs.Derivations as nodes
 use Rattle.ap_defs.specs.Derivations.{NominalDerivation, derivation_of}
 use Rattle.ap_defs.specs.Goals as goals
 use Rattle.ap_defs.specs.Goals.{NominalClause, NominalGoal, clauses_of}
-use Rattle.ap_defs.specs.GroundProofs.{clause_at}
 use Rattle.ap_checks.specs.Checks.{count}
 use Rattle.ap_checks.specs.OpenEnvironments.{OpenEnvironment, open_environment, with_open_name, with_open_term}
 use Rattle.ap_pages.specs.declared.steps.Phrase.{Phrase}
 use Rattle.ap_steps.specs.declared.bodies.Piece.{Piece}
 use Rattle.ap_steps.specs.declared.walk.Waiting.{Waiting}
 use Rattle.ap_steps.specs.Writers.{bare, piece_of, premise_of}
-use Rattle.ap_steps.specs.Steps.{NominalPiece, NominalPremise, NominalStep, Writing, by_clause, clause_steps, deeper, pieces, premise, premises_in, side, sides_in, step_by, steps_below}
+use Rattle.ap_steps.specs.Steps.{NominalPiece, NominalPremise, NominalStep, Writing, clause_steps, deeper, pieces, premise, premises_in, side, sides_in, step_by, steps_below}
 use Rattle.ap_steps.specs.Waits.{premise_nodes, premise_steps, premises_steps, steps_left, steps_of_waiting, waiting_nodes}
 
 pub premises_append : (ps qs : List NominalPiece) → premises_in (ps ++ qs) ≡ premises_in ps ++ premises_in qs

@@ -1,9 +1,7 @@
-use Rattle.std.proofs.Common.{refl, arith, ap, ◌∙◌}
-use Rattle.ap_defs.specs.Derivations.{derivation_of}
-use Rattle.ap_defs.specs.Goals.{goal_of}
+use Rattle.std.proofs.Common.{refl, arith}
 use Rattle.ap_steps.specs.declared.bodies.Body.{Body}
 use Rattle.ap_steps.specs.Writers.{writing_of}
-use Rattle.ap_steps.proofs.BodyLemmas.{first_on_way, turn_goes_on, turn_marked, turn_nodes}
+use Rattle.ap_steps.proofs.BodyLemmas.{turn_goes_on, turn_marked, turn_nodes}
 use Rattle.ap_steps.proofs.bodies.pieces_of.Goals as goal
 
 pub visit-requires : goal.visit-requires

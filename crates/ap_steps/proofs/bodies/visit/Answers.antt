@@ -1,4 +1,4 @@
-use Rattle.std.proofs.Common.{refl, ap, ap₂, ◌∙◌, sym}
+use Rattle.std.proofs.Common.{refl, ap}
 use Rattle.ap_defs.specs.Derivations as nodes
 use Rattle.ap_defs.specs.Derivations.{derivation_of}
 use Rattle.ap_defs.specs.Goals as goals

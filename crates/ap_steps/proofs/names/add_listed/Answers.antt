@@ -1,4 +1,4 @@
-use Rattle.std.proofs.Common.{List, [], ◌∷◌, map, refl}
+use Rattle.std.proofs.Common.{List, [], ◌∷◌, refl}
 use Rattle.ap_defs.specs.declared.terms.Name.{Name}
 use Rattle.ap_steps.proofs.NameLemmas.{names_next}
 use Rattle.ap_steps.proofs.names.add_listed.Goals as goal

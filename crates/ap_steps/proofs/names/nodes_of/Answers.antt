@@ -1,8 +1,6 @@
-use Rattle.std.proofs.Common.{◌≡◌, List, [], ◌∷◌, ◌++◌, map, sym, ap, ◌∙◌, arith, append_assoc}
-use Rattle.std.proofs.lemmas.List.{map-append}
-use Rattle.ap_defs.specs.Derivations.{NominalDerivation, derivation_of}
-use Rattle.ap_steps.specs.Names.{count_left, derivations_of, preorder, preorder_left}
-use Rattle.ap_steps.proofs.NameLemmas.{last_count, last_preorder, node_next}
+use Rattle.std.proofs.Common.{ap, ◌∙◌, arith}
+use Rattle.ap_steps.specs.Names.{count_left}
+use Rattle.ap_steps.proofs.NameLemmas.{last_count, node_next}
 use Rattle.ap_steps.proofs.names.nodes_of.Goals as goal
 
 pub nodes-smaller : goal.nodes-smaller

@@ -1,11 +1,11 @@
-use Rattle.std.proofs.Common.{◌≡◌, List, [], ◌∷◌, ◌++◌, map, sym, ap, ap₂, ◌∙◌}
+use Rattle.std.proofs.Common.{List, [], ◌∷◌, ◌++◌, map, sym, ap, ap₂, ◌∙◌}
 use Rattle.std.proofs.lemmas.List.{append-nil}
 use Rattle.std.specs.Prelude.{ℕ}
 use Rattle.ap_defs.specs.declared.goals.Local.{Local}
 use Rattle.ap_defs.specs.declared.terms.Term.{Term}
 use Rattle.ap_defs.specs.Answers.{answer_of}
 use Rattle.ap_defs.specs.Derivations.{derivation_of}
-use Rattle.ap_defs.specs.Goals.{goal_of, query_of}
+use Rattle.ap_defs.specs.Goals.{query_of}
 use Rattle.ap_defs.specs.Renaming.{local_names}
 use Rattle.ap_defs.specs.Terms.{term_of}
 use Rattle.ap_defs.specs.Types.{locals_of}

@@ -1,5 +1,4 @@
-use Rattle.std.proofs.Common.{◌++◌, map, refl, ap, ◌∙◌, sym}
-use Rattle.ap_steps.specs.Steps.{premises_in}
+use Rattle.std.proofs.Common.{refl}
 use Rattle.ap_steps.proofs.WaitLemmas.{premise_counts, premise_waits}
 use Rattle.ap_steps.proofs.walk.place_piece.Goals as goal
 

@@ -1,4 +1,4 @@
-use Rattle.std.proofs.Common.{◌≡◌, List, [], ◌∷◌, ◌++◌, map, ap, ap₂, ◌∙◌}
+use Rattle.std.proofs.Common.{List, [], ◌∷◌, ◌++◌, map, ap, ap₂, ◌∙◌}
 use Rattle.std.proofs.lemmas.List.{map-append}
 use Rattle.std.specs.Prelude.{ℕ}
 use Rattle.ap_defs.specs.declared.goals.Local.{Local}
@@ -25,7 +25,7 @@ returns-clause-steps c =
     (map step_of c.push.new.self.items) c.args.waiting.now.items c.place_pieces.new.waiting.items its
     (ap (map step_of) c.in_ok-push.ensures.items ∙ map-append step_of c.args.steps.now.items _
     ∙ ap₂ (λ (r : List ℕ) (ss : List (List ℕ)). old ++ (record { depth = c.args.depth; judgement = c.args.judgement.text; rule = r; sides = ss }) ∷ [])
-    c.in_ok-rule.ensures (ap (map bare) c.of.ensures ∙ c.in_ok-sides.ensures.sides ∙ ap sides_in its))
+    c.in_ok-rule.ensures (ap (map bare) c.of-2.ensures ∙ c.in_ok-sides.ensures.sides ∙ ap sides_in its))
     (c.in_ok-sides.ensures.steps w
     ∙ ap (λ n. premises_steps w n (premises_in (map piece_of c.in_ok-pieces.pieces.items)) ++ steps_left w c.args.waiting.now.items) c.saturating_add.ensures)
 
