@@ -13,6 +13,7 @@ const USAGE: &str = "usage: alphaprolog run --depth D [--workers W] [--answers N
        alphaprolog convert --to V < BUNDLE > BUNDLE
        alphaprolog count --depth D [--workers W] < FILE
        alphaprolog cover --depth D [--workers W] < BUNDLE
+       alphaprolog examine --depth D [--workers W] < FILE
        alphaprolog work --seed N --size K [--workers W]
 
   run           answers the queries of the text on standard input
@@ -21,6 +22,7 @@ const USAGE: &str = "usage: alphaprolog run --depth D [--workers W] [--answers N
   convert       writes a bundle in another version
   count         counts how often each clause is used in the derivations of the answers
   cover         tells which answer covers each ground proof of a bundle
+  examine       searches for counterexamples to the properties of the text
   work          runs a text that is made from a number, and writes its totals
   --depth D     how many clauses may be used one inside another, from 0 to 1000000
   --workers W   how many workers search side by side, from 1 to 64; 1 where it isn't given
@@ -32,7 +34,7 @@ const USAGE: &str = "usage: alphaprolog run --depth D [--workers W] [--answers N
 Options come in any order, each once. The report goes to standard output, and what is said
 of a fault of the text to standard error. Exit status: 0 report, 1 usage, 2 syntax, 3 types,
 4 names, 5 input can't be read, 6 output can't be written, 7 memory, 8 not checked, 9 too large,
-11 not covered.
+11 not covered, 12 not a property.
 ";
 
 /// What is said of a status that has no place in the text.
@@ -48,6 +50,7 @@ fn status_text(status: Status) -> &'static str {
         }
         Status::TooLarge => "error: the input has more than 16777216 bytes\n",
         Status::NotCovered => "error: a proof of the bundle is not ground or is too high\n",
+        Status::NotAProperty => "error: a query is not a property\n",
         Status::Ok => "",
     }
 }

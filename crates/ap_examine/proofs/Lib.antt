@@ -2,4 +2,4 @@ mod VerdictLemmas
 mod LineLemmas
 mod ProgramLemmas
 mod StepLemmas
-mod RefutingLemmas
+pub mod RefutingLemmas

@@ -21,6 +21,7 @@ complete_for (Some (asked.Count depth workers)) input = tt
 complete_for (Some (asked.Cover depth workers)) (Whole bundle) = covered_proofs depth bundle
 complete_for (Some (asked.Cover depth workers)) Over = tt
 complete_for (Some (asked.Cover depth workers)) Broken = tt
+complete_for (Some (asked.Examine depth workers)) input = tt
 complete_for (Some (asked.Work seed size workers)) input = tt
 
 pub complete_input : (words : List (List ℕ)) (input : Input) → HasCompleteAnswers words input

@@ -19,6 +19,7 @@ use Rattle.ap_bundle_cover.specs.Reports as cover
 use Rattle.ap_bundle_cover.specs.Reports.{cover_report, covers_report, proofs_report}
 use Rattle.ap_bundle_cover.specs.Uncovered.{first_uncovered}
 use Rattle.ap_gen.specs.Generated.{generated}
+use Rattle.ap_examine.specs.Reports.{exam_report, exams_from, first_other, other_or}
 use Rattle.ap_uses.specs.Reports.{count_report}
 use Rattle.ap_work.specs.Reports.{summary_report, work_depth}
 use Rattle.ap_words.specs.declared.Asked.{Asked}
@@ -61,6 +62,10 @@ told_converted : (to : Version) (read : Result NominalBundle BundleFault) → Is
 told_converted to (Ok b) = tt
 told_converted to (Err f) = tt
 
+told_exams : (o : Option ℕ) (bytes : List ℕ) → IsTold (other_or o bytes).status
+told_exams None bytes = tt
+told_exams (Some k) bytes = tt
+
 pub told_report : (a : Option Asked) (input : Input) (r : Report) → IsReportOf a input r → IsTold r.status
 told_report None input r is = subst (λ x. IsTold x.status) (sym is) tt
 told_report (Some (asked.Run depth workers limit)) (Whole text) r is = told_text (run_report depth limit) (λ p. tt) text r is
@@ -81,6 +86,9 @@ told_report (Some (asked.Count depth workers)) Broken r is = subst (λ x. IsTold
 told_report (Some (asked.Cover depth workers)) (Whole bundle) r is = told_covered depth (reading bundle) r is
 told_report (Some (asked.Cover depth workers)) Over r is = subst (λ x. IsTold x.status) (sym is) tt
 told_report (Some (asked.Cover depth workers)) Broken r is = subst (λ x. IsTold x.status) (sym is) tt
+told_report (Some (asked.Examine depth workers)) (Whole text) r is = told_text (exam_report depth) (λ p. told_exams (first_other 1 p.queries) (exams_from p depth 1 p.queries)) text r is
+told_report (Some (asked.Examine depth workers)) Over r is = subst (λ x. IsTold x.status) (sym is) tt
+told_report (Some (asked.Examine depth workers)) Broken r is = subst (λ x. IsTold x.status) (sym is) tt
 told_report (Some (asked.Work seed size workers)) input r is = told_text (summary_report work_depth) (λ p. tt) (generated seed size) r is
 
 pub written_report : (sink : Change) (r : Report) (s : Status) → IsTold s → s ≡ r.status → sink.faults' ≡ sink.faults → Appends sink.bytes sink.bytes' r.bytes → IsWritten sink r s
@@ -95,6 +103,7 @@ written_report sink r status.Memory told is steady whole = absurd told
 written_report sink r status.NotChecked told is steady whole = (steady, is, whole)
 written_report sink r status.TooLarge told is steady whole = (steady, is, whole)
 written_report sink r status.NotCovered told is steady whole = (steady, is, whole)
+written_report sink r status.NotAProperty told is steady whole = (steady, is, whole)
 
 -- how a report was put tells how it is written
 pub put_written : (sink : Change) (r : Report) (s : Status) → IsTold r.status → IsPut sink r s → IsWritten sink r s

@@ -10,6 +10,8 @@ use Rattle.ap_bundle_prove.specs.Reports.{HasSoundProofs, IsProveReport}
 use Rattle.ap_bundle_check.specs.Reports.{HasSoundVerdicts, IsCheckReport}
 use Rattle.ap_bundle_convert.specs.Reports.{IsConvertReport}
 use Rattle.ap_bundle_cover.specs.Reports.{HasCoveredProofs, IsCoverReport}
+use Rattle.ap_examine.specs.Counterexamples.{IsRefutedText}
+use Rattle.ap_examine.specs.Reports.{IsExamReport}
 use Rattle.ap_uses.specs.Reports.{IsCountReport}
 use Rattle.ap_work.specs.Reports.{IsWorkReport}
 use Rattle.ap_words.specs.declared.Asked.{Asked}
@@ -46,6 +48,7 @@ IsReportFor asked.Check input r = IsReportOn IsCheckReport input r
 IsReportFor (asked.Convert to) input r = IsReportOn (IsConvertReport to) input r
 IsReportFor (asked.Count depth workers) input r = IsReportOn (IsCountReport depth) input r
 IsReportFor (asked.Cover depth workers) input r = IsReportOn (IsCoverReport depth) input r
+IsReportFor (asked.Examine depth workers) input r = IsReportOn (IsExamReport depth) input r
 IsReportFor (asked.Work seed size workers) input r = IsWorkReport seed size r
 
 -- the same, or the refusal of words that ask for nothing
@@ -63,6 +66,7 @@ IsSoundFor (Some (asked.Run depth workers limit)) (Whole text) = IsSoundText dep
 IsSoundFor (Some (asked.Prove depth workers limit)) (Whole text) = IsSoundText depth limit text × HasSoundProofs depth limit text
 IsSoundFor (Some asked.Check) (Whole bundle) = HasSoundVerdicts bundle
 IsSoundFor (Some (asked.Cover depth workers)) (Whole bundle) = HasSoundVerdicts bundle
+IsSoundFor (Some (asked.Examine depth workers)) (Whole text) = IsRefutedText depth text
 IsSoundFor _ _ = Unit {0}
 
 abbrev pub HasSoundAnswers : List (List ℕ) → Input → Type 0

@@ -69,6 +69,7 @@ fn put<K: Sink>(sink: &mut K, report: &Report) -> Status
 /// | `Memory` | where memory is wanting | nothing |
 /// | `NotChecked` | exactly where a derivation of a bundle doesn't check, and its text has no fault | the line of the first such derivation, with its first refused node and the rule |
 /// | `TooLarge` | exactly where the input has a byte past 16,777,216 | its line |
+/// | `NotAProperty` | exactly where `examine` reads a text without a fault, and a query of it is no property | the line of the first such query |
 /// | `NotCovered` | exactly where `cover` reads a bundle whose derivations check, and one of them is no ground proof or is higher than the depth | the line of the first such proof |
 ///
 /// The statuses on the text come in this order, and a `Write` stands in place of any other.
@@ -79,8 +80,9 @@ fn put<K: Sink>(sink: &mut K, report: &Report) -> Status
 /// reports of the text's queries, one after the other; where so many answers are wanted, `run` and `prove` end
 /// each query with the last of them. `count` writes how often each clause is used in the derivations of all
 /// answers. `cover` writes which answer, or which stuck branch, covers each ground proof of a bundle: the answer
-/// at its path, of which what it proves is an instance. `work` reads nothing: it makes a text from a number, and
-/// writes the totals of its run.
+/// at its path, of which what it proves is an instance. `examine` writes for each query, which is to be a
+/// property, the first counterexample or the totals of the search for one. `work` reads nothing: it makes a text
+/// from a number, and writes the totals of its run.
 ///
 /// The report of a query is what sequential nominal resolution finds to the depth (Cheney and Urban,
 /// "Nominal Logic Programming"): a line for each answer, in order, once for each derivation, with notes

@@ -8,6 +8,7 @@ mod check;
 mod convert;
 mod count;
 mod cover;
+mod examine;
 mod prove;
 mod run;
 
@@ -49,6 +50,9 @@ pub(crate) fn report_of<R: Threads + Wait + Sync, S: Source, G: Gate>(
         Asked::Convert { to } => convert::report(alloc, to, source),
         Asked::Count { depth, workers } => count::report(rt, alloc, gate, depth, workers, source),
         Asked::Cover { depth, workers } => cover::report(rt, alloc, gate, depth, workers, source),
+        Asked::Examine { depth, workers } => {
+            examine::report(rt, alloc, gate, depth, workers, source)
+        }
         Asked::Work {
             seed,
             size,

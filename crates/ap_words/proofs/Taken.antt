@@ -224,7 +224,7 @@ stopped_passes s names w name before (word ∷ words) = stopped_passes s names w
 
 -- the names by which clap knows the commands
 abbrev all_names : Names
-all_names = (codes "run", []) ∷ (codes "prove", []) ∷ (codes "check", []) ∷ (codes "convert", []) ∷ (codes "count", []) ∷ (codes "cover", []) ∷ (codes "work", []) ∷ []
+all_names = (codes "run", []) ∷ (codes "prove", []) ∷ (codes "check", []) ∷ (codes "convert", []) ∷ (codes "count", []) ∷ (codes "cover", []) ∷ (codes "examine", []) ∷ (codes "work", []) ∷ []
 
 command_taken : (c : CommandName) (words : List Text) (ss : List Setting) → settings_of (options_of c) words ≡ Some ss → are_complete (options_of c) ss ≡ true → takes program (command_name c ∷ words) ≡ true
 unfolding walked walk_passes
@@ -264,6 +264,12 @@ command_taken command.Cover words ss read e =
       stopped_passes (built program).top all_names (walk_from nothing_held) (codes "cover") [] words,
     )
     (both_true _ _ (level (codes "cover") (options_of command.Cover) words ss read e) refl)
+command_taken command.Examine words ss read e =
+    rw (
+      stopped [] all_names (walk_from nothing_held) (codes "examine") [] words,
+      stopped_passes (built program).top all_names (walk_from nothing_held) (codes "examine") [] words,
+    )
+    (both_true _ _ (level (codes "examine") (options_of command.Examine) words ss read e) refl)
 command_taken command.Work words ss read e =
     rw (
       stopped [] all_names (walk_from nothing_held) (codes "work") [] words,

@@ -7,7 +7,7 @@ use Rattle.ap_words.specs.declared.table.OptionName.TheVariants as option
 
 -- each command: its name, and the options that it takes
 abbrev pub commands : List CommandName
-commands = command.Run ∷ command.Prove ∷ command.Check ∷ command.Convert ∷ command.Count ∷ command.Cover ∷ command.Work ∷ []
+commands = command.Run ∷ command.Prove ∷ command.Check ∷ command.Convert ∷ command.Count ∷ command.Cover ∷ command.Examine ∷ command.Work ∷ []
 
 abbrev pub command_name : CommandName → List ℕ
 command_name command.Run = codes "run"
@@ -16,6 +16,7 @@ command_name command.Check = codes "check"
 command_name command.Convert = codes "convert"
 command_name command.Count = codes "count"
 command_name command.Cover = codes "cover"
+command_name command.Examine = codes "examine"
 command_name command.Work = codes "work"
 
 abbrev pub options_of : CommandName → List OptionName
@@ -25,6 +26,7 @@ options_of command.Check = []
 options_of command.Convert = option.To ∷ []
 options_of command.Count = option.Depth ∷ option.Workers ∷ []
 options_of command.Cover = option.Depth ∷ option.Workers ∷ []
+options_of command.Examine = option.Depth ∷ option.Workers ∷ []
 options_of command.Work = option.Seed ∷ option.Size ∷ option.Workers ∷ []
 
 -- each option: its name, and whether it has to be there

@@ -115,6 +115,7 @@ asked_by command.Check ss = Some asked.Check
 asked_by command.Convert ss = option_map asked.Convert (version_in ss)
 asked_by command.Count ss = with_both asked.Count (depth_in ss) (workers_in ss)
 asked_by command.Cover ss = with_both asked.Cover (depth_in ss) (workers_in ss)
+asked_by command.Examine ss = with_both asked.Examine (depth_in ss) (workers_in ss)
 asked_by command.Work ss = with_all asked.Work (seed_in ss) (size_in ss) (workers_in ss)
 
 abbrev pub asked_together : CommandName → List Setting → Option Asked

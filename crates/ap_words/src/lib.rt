@@ -58,6 +58,13 @@ pub enum Asked {
         /// how many workers search each of them
         workers: Workers,
     },
+    /// Search for counterexamples to the properties of a text.
+    Examine {
+        /// the depth to which hypotheses and conclusions are searched
+        depth: Depth,
+        /// how many workers search each of them
+        workers: Workers,
+    },
     /// Run the text that is made from a number, and write its totals.
     Work {
         /// the number

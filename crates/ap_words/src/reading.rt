@@ -98,6 +98,10 @@ fn asked_by(command: CommandName, settings: &[Setting]) -> Option<Asked>
             depth: depth(settings)?,
             workers: workers(settings)?,
         }),
+        CommandName::Examine => Some(Asked::Examine {
+            depth: depth(settings)?,
+            workers: workers(settings)?,
+        }),
         CommandName::Work => Some(Asked::Work {
             seed: seed(settings)?,
             size: size(settings)?,

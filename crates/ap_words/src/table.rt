@@ -18,6 +18,8 @@ pub enum CommandName {
     Count,
     /// `cover`, which tells what covers each ground proof of a bundle
     Cover,
+    /// `examine`, which searches for counterexamples to the properties of a text
+    Examine,
     /// `work`, which runs a text that is made from a number
     Work,
 }
@@ -39,13 +41,14 @@ pub enum OptionName {
     Size,
 }
 
-static COMMANDS: [CommandName; 7] = [
+static COMMANDS: [CommandName; 8] = [
     CommandName::Run,
     CommandName::Prove,
     CommandName::Check,
     CommandName::Convert,
     CommandName::Count,
     CommandName::Cover,
+    CommandName::Examine,
     CommandName::Work,
 ];
 
@@ -82,6 +85,7 @@ impl CommandName {
             CommandName::Convert => "convert",
             CommandName::Count => "count",
             CommandName::Cover => "cover",
+            CommandName::Examine => "examine",
             CommandName::Work => "work",
         }
     }
@@ -97,6 +101,7 @@ impl CommandName {
             CommandName::Convert => VERSION_OPTIONS.as_slice(),
             CommandName::Count => SEARCH_OPTIONS.as_slice(),
             CommandName::Cover => SEARCH_OPTIONS.as_slice(),
+            CommandName::Examine => SEARCH_OPTIONS.as_slice(),
             CommandName::Work => WORK_OPTIONS.as_slice(),
         }
     }

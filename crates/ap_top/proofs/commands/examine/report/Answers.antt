@@ -1,0 +1,6 @@
+use Rattle.ap_top.specs.Report.{Whole}
+use Rattle.ap_top.proofs.Reports.{both_known}
+use Rattle.ap_top.proofs.commands.examine.report.Goals as goal
+
+pub returns-in-Ok : goal.returns-in-Ok
+returns-in-Ok g c = both_known _ _ _ c.examine_text.result (λ r made only. (Whole c.in-Ok.text.items, c.in-Ok.ensures.whole, (rw c.deref.ensures.value at made, rw c.deref.ensures.value at only))) c.examine_text.ensures.made c.examine_text.ensures.only
