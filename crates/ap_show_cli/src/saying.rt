@@ -13,10 +13,10 @@ Exit status: 0 shown, 1 usage, 2 syntax, 3 types, 4 names, 5 input can't be read
 written, 7 memory, 8 not checked, 9 too large.
 ";
 
-/// What is said of a status.
+/// What is said of a status. `NotCovered` and `NotAProperty` are of other commands.
 fn status_text(status: Status) -> &'static str {
     match status {
-        Status::Ok => "",
+        Status::Ok | Status::NotCovered | Status::NotAProperty => "",
         Status::Usage => USAGE,
         Status::Read => "error: standard input could not be read\n",
         Status::Write => "error: the document could not be written whole to standard output\n",
