@@ -50,12 +50,13 @@ const FILES: [&str; 27] = [
     "sampled_to_4.cases",
 ];
 
-const COMMANDS: [&str; 6] = [
+const COMMANDS: [&str; 7] = [
     "commands.cases",
     "convert.cases",
     "work.cases",
     "count.cases",
     "cover.cases",
+    "examine.cases",
     "answers.cases",
 ];
 
