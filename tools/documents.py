@@ -5,8 +5,9 @@ usage: tools/documents.py [PROGRAM]
 
 Each fenced block of README.md, docs/LANGUAGE.md, docs/TUTORIAL.md and docs/FROM_PROLOG.md is one of these:
 
-- commands `./alphaprolog run ..`, each with what it shows: a run of examples/runs with all that the gate has for it
-  in crates/ap_cases/stdout; below it may stand what is said on standard error. Other commands that end with the program are
+- commands `./alphaprolog run ..` and `./alphaprolog examine ..`, each with what it shows: a run of examples/runs or of
+  examples/examined with all that the gate has for it in crates/ap_cases/stdout; below it may stand what is said on
+  standard error. Other commands that end with the program are
   tried with the built one alone (below);
 - a report: lines that stand together in crates/ap_cases/stdout;
 - messages (`error:`, `warning:`, `note:`): each stands in crates/ap_explained/stdout;
@@ -30,11 +31,11 @@ import tempfile
 
 TOP = os.path.dirname(os.path.dirname(os.path.realpath(__file__)))
 DOCUMENTS = "README.md", "docs/LANGUAGE.md", "docs/TUTORIAL.md", "docs/FROM_PROLOG.md"
-COMMAND = re.compile(r"\./alphaprolog run --depth (\d+)(?: --workers \d+)? < examples/(\S+)$")
+COMMAND = re.compile(r"\./alphaprolog (run|examine) --depth (\d+)(?: --workers \d+)? < examples/(\S+)$")
 COMMAND_LINE = re.compile(r"(?:sed .* \| )?\./alphaprolog \w")
 HOLES = re.compile(r"\b(?:FILE|TEXT|BUNDLE|N)\b")
 MESSAGE = re.compile(r"(?:error|warning|note): ")
-REPORT = re.compile(r"% (?:query \d+: |cut |stuck |\w+ fault: )|yes$|[A-Z]\w* = ")
+REPORT = re.compile(r"% (?:query \d+: |property \d+: |cut |stuck |\w+ fault: )|yes$|[A-Z]\w* = ")
 DEPTH = re.compile(r"[Dd]epth ([\d,]+) or more")
 ROW = re.compile(r"\| .*`(\w+\.apl)`.*\| `(% .*)` \|$")
 CUT = "note: branches that were cut at the depth: %d; a run with a greater number behind `--depth` follows them further"
@@ -65,6 +66,14 @@ def gate_reports():
     runs = [it.split(" ") for it in text_of("examples/runs").splitlines()]
     assert [it for _, it in runs] == [it for it, _ in found], "examples/runs and crates/ap_cases/stdout differ in their texts"
     return {(depth, name): report for (depth, name), (_, report) in zip(runs, found)}
+
+
+def gate_exams():
+    """What the gate has for each run of examples/examined, by its depth and name."""
+    found = re.findall(r"^% examples/(\S+), depth (\d+)\n(.*?)^% status \d+$", text_of("crates/ap_cases/stdout"), re.M | re.S)
+    runs = [it.split(" ") for it in text_of("examples/examined").splitlines()]
+    assert runs == [[depth, name] for name, depth, _ in found], "examples/examined and crates/ap_cases/stdout differ in their texts"
+    return {(depth, name): report for name, depth, report in found}
 
 
 def messages_of(lines):
@@ -111,6 +120,7 @@ class Checker:
         os.symlink(f"{TOP}/examples", f"{room}/examples")
         self.texts = example_texts()
         self.reports = gate_reports()
+        self.exams = gate_exams()
         self.all_reports = text_of("crates/ap_cases/stdout")
         self.all_messages = text_of("crates/ap_explained/stdout")
 
@@ -131,7 +141,7 @@ class Checker:
             self.other_command(path, line, words, shown)
             return
         counts["commands"] += 1
-        report = self.reports.get(match.groups())
+        report = (self.reports if match[1] == "run" else self.exams).get(match.groups()[1:])
         if not shown:
             if report is None or self.program and self.shown_by(words)[0] != report:
                 differ(path, line, f"the gate has no report, or another one, for {words}")
@@ -220,6 +230,13 @@ class Checker:
             if report != self.reports[(depth, name)] or "warning: " in said:
                 differ(f"examples/{name}", 1, f"the program has another report, or a warning, at depth {at}")
 
+    def exam(self, depth, name):
+        """Whether a text that is examined has no warning, and the report of the gate."""
+        counts["texts run"] += 1
+        report, said, _ = self.shown_by(f"./alphaprolog examine --depth {depth} < examples/{name}")
+        if report != self.exams[(depth, name)] or "warning: " in said:
+            differ(f"examples/{name}", 1, f"the program has another report, or a warning, at depth {depth}")
+
 
 def main():
     with tempfile.TemporaryDirectory() as room:
@@ -231,6 +248,8 @@ def main():
                 checker.fault(name)
             elif checker.program:
                 checker.example(depth, name)
+        for depth, name in checker.exams if checker.program else ():
+            checker.exam(depth, name)
     print(", ".join(f"{count} {what}" for what, count in counts.items() if what != "differ") + f"; {counts['differ']} differ")
     return 1 if counts["differ"] else 0
 

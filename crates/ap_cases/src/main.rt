@@ -4,8 +4,8 @@
 //! several; those of `sampled_to_0.cases` and so on were made at random, and what is wanted of them is from an
 //! implementation that was written apart. The file `words` has command lines, and those of `COMMANDS` some with an input
 //! each. The other texts are read as streams, as the program reads them: each of the folders `examples` and `bytes` has a
-//! file `runs`, of a line for each text with the depth and its name. The files of `searched` are told in `searched.rt`, and
-//! those of `bundles` in `bundles.rt` and `prefixes.rt`.
+//! file `runs`, of a line for each text with the depth and its name. The files of `searched` are told in `searched.rt`, those
+//! of `bundles` in `bundles.rt` and `prefixes.rt`, and the texts of `examined` in `examined.rt`.
 #![tactic(auto)]
 
 mod bundles;
@@ -13,6 +13,7 @@ mod call;
 mod cases;
 mod command_lines;
 mod derivations;
+mod examined;
 mod prefixes;
 mod proving;
 mod searched;
@@ -72,6 +73,7 @@ fn main(rt: HostRuntime) -> io::Result<()> {
     searched::write_branches(&rt)?;
     streams::run_folder(&rt, "bytes")?;
     streams::run_folder(&rt, "examples")?;
+    examined::examine_folder(&rt, "examples")?;
     bundles::tell_bundles(&rt)?;
     println!(rt; "% prefixes")?;
     prefixes::tell_prefixes(&rt, "small")?;
