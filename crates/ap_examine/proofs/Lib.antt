@@ -1,4 +1,6 @@
 mod VerdictLemmas
+mod ClearanceLemmas
+mod SayingLemmas
 mod LineLemmas
 mod ProgramLemmas
 mod StepLemmas

@@ -4,3 +4,4 @@ pub mod Reports
 pub mod Steps
 pub mod Views
 pub mod Counterexamples
+pub mod Clearances
