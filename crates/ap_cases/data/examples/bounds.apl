@@ -67,10 +67,11 @@ of(D, G, inst(M,C), R) :- t # (D, G, M, C, R), of(D, G, M, F), shown(D, F, all(A
 % of t, _1 -> top for each type _1, since each is below top.
 ?- sub([(s,tvar(t)),(t,arr(top,top))], tvar(s), B).
 
-% 4. /\t <: top -> top. \x:t. x x has a type: x is a function by its bound, and t is below top.
+% 4. /\t <: top -> top. \x:t. x x has the type all t <: top -> top. t -> top: x is a function by its bound, and t is below top.
 ?- of([], [], gen(arr(top,top),t\lam(tvar(t),x\app(var(x),var(x)))), A).
 
-% 5. (/\t <: top -> top. \x:t. x) [top -> top -> top]: the instance knows that two arguments may be given to the result.
+% 5. (/\t <: top -> top. \x:t. x) [top -> top -> top] has the type (top -> top -> top) -> top -> top -> top: the instance knows
+% that two arguments may be given to the result.
 ?- of([], [], inst(gen(arr(top,top),t\lam(tvar(t),x\var(x))),arr(top,arr(top,top))), A).
 
 % 6. top is not within the bound, so there is no such instance.

@@ -35,5 +35,5 @@ nameless(L, lam(x\M), fn(D)) :- x # L, nameless([x|L], M, D).
 % by X # Y before it is known. So the branch is stuck, and the report says so.
 ?- nameless([], M, fn(fn(ap(ix(z),ix(s(z)))))).
 
-% A free name stands in the list, behind the bound one.
+% A free name stands in the list, behind the bound one, so its index is 1.
 ?- nameless([c], lam(a\app(var(c),var(a))), D).

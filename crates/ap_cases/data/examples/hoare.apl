@@ -87,7 +87,7 @@ holds(L, P, C, Q) :- pre(C, Q, R, K), all_valid(L, [imp(P,R)|K]).
 % and before the block x iff t must hold. That stands twice, for both values that the block's own t may have at first.
 ?- pre(local(t\seq(set(t,v(x)),seq(set(x,v(y)),set(y,v(t))))), iff(v(y),v(t)), P, L).
 
-% 5. while not (x iff y) do x := not x ends, if it does, with x iff y. Nothing need be kept, so tt is enough.
+% 5. while not (x iff y) do x := not x ends, if it does, with x iff y: yes. Nothing need be kept, so tt is enough.
 ?- holds([x,y], tt, loop(neg(iff(v(x),v(y))),tt,set(x,neg(v(x)))), iff(v(x),v(y))).
 
 % 6. That each turn keeps x is a wrong claim here: no answer, though {x and y} C {x} is true.

@@ -84,11 +84,11 @@ prove(Q, S, C) :- right(Q, S, [], [], C).
 ?- prove(s(z), [c], imp(ex(x\all(y\r(var(x),var(y)))), all(y\ex(x\r(var(x),var(y)))))).
 % 2. The converse doesn't: the x that fits may depend on y. The search of this budget ends without an answer.
 ?- prove(s(s(z)), [c], imp(all(y\ex(x\r(var(x),var(y)))), ex(x\all(y\r(var(x),var(y)))))).
-% 3. A symmetric relation that holds of c and f c holds of f c and c. This spends Q three times: forall, forall, ->.
+% 3. Yes: a symmetric relation that holds of c and f c holds of f c and c. This spends Q three times: forall, forall, ->.
 ?- prove(s(s(s(z))), [c,f(c)], imp(and(all(x\all(y\imp(r(var(x),var(y)),r(var(y),var(x))))),r(c,f(c))), r(f(c),c))).
-% 4. not exists x. p x gives forall x. not p x, where not A is A -> false.
+% 4. Yes: not exists x. p x gives forall x. not p x, where not A is A -> false.
 ?- prove(s(z), [], imp(imp(ex(x\p(var(x))),false), all(x\imp(p(var(x)),false)))).
 % 5. Peirce's law, ((p c -> r c c) -> p c) -> p c, doesn't hold in intuitionistic logic: no answer.
 ?- prove(s(s(z)), [c], imp(imp(imp(p(c),r(c,c)),p(c)),p(c))).
-% 6. Excluded middle holds under two negations.
+% 6. Yes: excluded middle holds under two negations.
 ?- prove(s(s(z)), [c], imp(imp(or(p(c),imp(p(c),false)),false),false)).

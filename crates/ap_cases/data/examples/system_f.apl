@@ -64,7 +64,8 @@ eval(inst(M,A), V) :- t # (M, A, V), eval(M, gen(t\K)), tsub(K, t, A, L), eval(L
 % 2. Two, /\t. \f:t->t. \x:t. f (f x), has the type of numerals, all t. (t -> t) -> t -> t.
 ?- of([], gen(t\lam(arr(tvar(t),tvar(t)),f\lam(tvar(t),x\app(var(f),app(var(f),var(x)))))), A).
 
-% 3. \x:(all t. t -> t). x [all t. t -> t] x: a polymorphic argument may be given to itself, at its own type.
+% 3. \x:(all t. t -> t). x [all t. t -> t] x has the type (all t. t -> t) -> all t. t -> t: a polymorphic argument may be given
+% to itself, at its own type.
 ?- of([], lam(all(t\arr(tvar(t),tvar(t))), x\app(inst(var(x),all(t\arr(tvar(t),tvar(t)))),var(x))), A).
 
 % 4. Without the instance it may not: x is no function. So there is no answer.
