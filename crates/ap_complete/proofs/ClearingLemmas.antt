@@ -39,7 +39,7 @@ absent_then a (abs b t) as' h =
     let l = absent_then a t as' k.1 in
     (or_if_right (name_eq a b) (fresh a t) l.0, l.1)
 
-absent_each : (a : Name) (gs : List GroundTerm) → has_name a (grounds_names gs) ≡ false → FreshForTerms a gs
+pub absent_each : (a : Name) (gs : List GroundTerm) → has_name a (grounds_names gs) ≡ false → FreshForTerms a gs
 absent_each a [] h = tt
 absent_each a (g ∷ gs) h = let k = absent_then a g (grounds_names gs) h in (k.0, absent_each a gs k.1)
 

@@ -14,6 +14,7 @@ pub mod PairLemmas
 pub mod TypedPairLemmas
 pub mod CoveringLemmas
 pub mod CompletenessLemmas
+pub mod ExchangeLemmas
 pub mod LostProofs
 pub mod ExactLemmas
 pub mod KeptLemmas

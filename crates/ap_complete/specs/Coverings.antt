@@ -1,5 +1,5 @@
 -- Ground terms that are an instance of an answer, up to names that are none of the query's.
-use Rattle.std.specs.Prelude.{◌≡◌, ◌⊎◌, ℕ, true, List, [], ◌∷◌, map}
+use Rattle.std.specs.Prelude.{◌≡◌, ◌⊎◌, ℕ, true, false, List, [], ◌∷◌, ◌++◌, map}
 use Rattle.ap_defs.specs.declared.terms.Cond.{Cond}
 use Rattle.ap_defs.specs.declared.terms.Name.{Name}
 use Rattle.ap_defs.specs.declared.terms.Swap.{Swap}
@@ -9,6 +9,7 @@ use Rattle.ap_defs.specs.Goals.{NominalProgram, NominalQuery}
 use Rattle.ap_defs.specs.GroundProofs.{AlphaEach}
 use Rattle.ap_defs.specs.Groundings.{Grounding, grounded, meets}
 use Rattle.ap_defs.specs.Lines.{shown_in, terms_of_binds, var_texts}
+use Rattle.ap_defs.specs.Occurrences.{names_of_terms}
 use Rattle.ap_defs.specs.PathOrder.{has_prefix}
 use Rattle.ap_defs.specs.Permutations.{act_name, has_name}
 use Rattle.ap_defs.specs.Renaming.{local_names, replace_names}
@@ -17,6 +18,7 @@ use Rattle.ap_defs.specs.Types.{NominalConstructor, NominalLocal}
 use Rattle.ap_ground.specs.ShownInstances.{shown_terms, vars_among}
 use Rattle.ap_ground.specs.TypedGroundings.{GivesTypes}
 use Rattle.ap_complete.specs.NumberedProofs.{IsAmong}
+use Rattle.ap_complete.specs.StatementsOnFreshness.{FreshForTerms}
 
 abbrev pub replace_in_cond : List Swap → Cond → Cond
 replace_in_cond s c = record { name = act_name s c.name; var = c.var }
@@ -34,6 +36,22 @@ pub record IsInstance (cs : List NominalConstructor) (locals : List NominalLocal
   pub types : GivesTypes cs a.vars grounding
   pub conditions : meets grounding (map (replace_in_cond swaps) a.conds) ≡ true
   pub equal : AlphaEach gs (map (λ t. grounded grounding (replace_names swaps t)) a.binds)
+
+-- These swappings make the terms an instance.
+pub record IsInstanceBy (cs : List NominalConstructor) (locals : List NominalLocal) (a : NominalAnswer) (gs : List GroundTerm) (swaps : List Swap) : Type 0 where
+  pub grounding : Grounding
+  pub types : GivesTypes cs a.vars grounding
+  pub conditions : meets grounding (map (replace_in_cond swaps) a.conds) ≡ true
+  pub equal : AlphaEach gs (map (λ t. grounded grounding (replace_names swaps t)) a.binds)
+
+-- the names of its bindings and conditions
+abbrev pub names_of_answer : NominalAnswer → List Name
+names_of_answer a = names_of_terms a.binds ++ map (λ c. c.name) a.conds
+
+-- Swappings that leave the query's names, and take the other names of the answer to names that are fresh for the terms.
+pub record TakesApart (locals : List NominalLocal) (a : NominalAnswer) (gs : List GroundTerm) (swaps : List Swap) : Type 0 where
+  pub leaves : LeavesNames locals swaps
+  pub apart : (b : Name) → has_name b (names_of_answer a) ≡ true → has_name b (local_names 0 locals) ≡ false → FreshForTerms (act_name swaps b) gs
 
 -- The same of what is shown of the answer: those of the terms that stand for variables that are shown.
 pub record IsShownInstance (cs : List NominalConstructor) (locals : List NominalLocal) (a : NominalAnswer) (gs : List GroundTerm) : Type 0 where

@@ -1,7 +1,8 @@
 -- What is proved of ground proofs and of the answers that a search finds.
 use Rattle.std.specs.Prelude.{◌≡◌, ◌⊎◌, ◌≤◌, ℕ, true, List, [], ◌∷◌}
 use Rattle.ap_defs.specs.Answers as answers
-use Rattle.ap_defs.specs.Answers.{NominalOut, out_path, outs_at, query_outs}
+use Rattle.ap_defs.specs.declared.terms.Swap.{Swap}
+use Rattle.ap_defs.specs.Answers.{NominalAnswer, NominalOut, out_path, outs_at, query_outs}
 use Rattle.ap_defs.specs.Derivations.{GroundProof, height, path}
 use Rattle.ap_defs.specs.Goals.{NominalProgram, NominalQuery, ProgramOver}
 use Rattle.ap_defs.specs.RawTerms.{RawTerm}
@@ -17,7 +18,7 @@ use Rattle.ap_program.specs.NameRestriction.{AllPass, items_of}
 use Rattle.ap_program.specs.Typed.{IsTypedProgram, IsTypedQuery, term_form}
 use Rattle.ap_search.specs.Depths.{HasNoCutOut}
 use Rattle.ap_complete.specs.CompleteAnswers.{HasCompleteAnswers, IsCompleteProgram}
-use Rattle.ap_complete.specs.Coverings.{HasNoStuckOut, IsCovered, IsInstance, SomeAnswer, SomeStuck}
+use Rattle.ap_complete.specs.Coverings.{HasNoStuckOut, IsCovered, IsInstance, IsInstanceBy, SomeAnswer, SomeStuck, TakesApart}
 use Rattle.ap_complete.specs.NumberedProofs.{IsAmong}
 
 -- every ground proof no higher than the depth is covered
@@ -26,6 +27,15 @@ ProofsAreCovered = (p : NominalProgram) → KeepsRestriction p → (q : NominalQ
     → (depth : ℕ) (gs : List GroundTerm) → AreOfTypes p.signature.constructors (kinds_of q.locals) (local_vars 0 q.locals) gs
     → (proof : GroundProof) → IsValid p (kinds_of q.locals) proof q.goal (environment q.locals (local_names 0 q.locals) gs) → height proof ≤ depth
     → IsCovered p q depth gs (path proof)
+
+-- The answer at the path of a ground proof covers it whatever its names are exchanged for: under all swappings that leave the query's
+-- names, and take the other ones to names that are fresh for the terms.
+abbrev pub EachExchangeCovers : Type 0
+EachExchangeCovers = (p : NominalProgram) → KeepsRestriction p → (q : NominalQuery) → IsTypedQuery term_form p.signature q
+    → (depth : ℕ) (gs : List GroundTerm) → AreOfTypes p.signature.constructors (kinds_of q.locals) (local_vars 0 q.locals) gs
+    → (proof : GroundProof) → IsValid p (kinds_of q.locals) proof q.goal (environment q.locals (local_names 0 q.locals) gs) → height proof ≤ depth
+    → (a : NominalAnswer) → IsAmong (answers.found (path proof) a) (query_outs p.clauses depth q)
+    → (swaps : List Swap) → TakesApart q.locals a gs swaps → IsInstanceBy p.signature.constructors q.locals a gs swaps
 
 -- no other output stands at the path of an output or below it, and none at a beginning of it: so it is covered in one way only
 abbrev pub OutputsStandAlone : Type 0

@@ -1,13 +1,15 @@
 //! Ground proofs and the answers of a search.
 
-ghost use Rattle.ap_complete.specs.StatementsOnCompleteness.{AnswersAreComplete, DerivableIsAnswered, InstancesAreDerivable, KeptProgramsAreComplete, OutputsStandAlone, ProgramsAreComplete, ProofsAreCovered, RestrictionIsNeeded, WholeAnswersAreAll};
+ghost use Rattle.ap_complete.specs.StatementsOnCompleteness.{AnswersAreComplete, DerivableIsAnswered, EachExchangeCovers, InstancesAreDerivable, KeptProgramsAreComplete, OutputsStandAlone, ProgramsAreComplete, ProofsAreCovered, RestrictionIsNeeded, WholeAnswersAreAll};
 
 /// In a program that keeps the name restriction every ground proof of a query, no higher than the depth of
 /// the search, is covered: at its path stands an answer of which the proof's terms are an instance, up to
 /// names that are none of the query's, or a branch is stuck at a beginning of the path; and only one of the
-/// two, since an output stands alone at its path.
+/// two, since an output stands alone at its path. It is an instance whatever the answer's names that are none
+/// of the query's are exchanged for, as long as those are fresh for the terms.
 pub fn proofs_are_covered()
     ensures covered { ProofsAreCovered }
+    ensures each { EachExchangeCovers }
     ensures alone { OutputsStandAlone }
 {}
 

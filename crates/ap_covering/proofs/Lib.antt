@@ -1,0 +1,2 @@
+pub mod AlphaTypeLemmas
+pub mod MatchedLemmas
