@@ -4,8 +4,9 @@
 //! several; those of `sampled_to_0.cases` and so on were made at random, and what is wanted of them is from an
 //! implementation that was written apart. The file `words` has command lines, and those of `COMMANDS` some with an input
 //! each. The other texts are read as streams, as the program reads them: each of the folders `examples` and `bytes` has a
-//! file `runs`, of a line for each text with the depth and its name. The files of `searched` are told in `searched.rt`, those
-//! of `bundles` in `bundles.rt` and `prefixes.rt`, and the texts of `examined` in `examined.rt`.
+//! file `runs`, of a line for each text with the depth and its name, and `examples` a file `commands`, of a line for each
+//! other command with what it reads. The files of `searched` are told in `searched.rt`, those of `bundles` in `bundles.rt`
+//! and `prefixes.rt`, and the texts of `examined` in `examined.rt`.
 #![tactic(auto)]
 
 mod bundles;
@@ -74,6 +75,7 @@ fn main(rt: HostRuntime) -> io::Result<()> {
     streams::run_folder(&rt, "bytes")?;
     streams::run_folder(&rt, "examples")?;
     examined::examine_folder(&rt, "examples")?;
+    streams::run_commands(&rt, "examples")?;
     bundles::tell_bundles(&rt)?;
     println!(rt; "% prefixes")?;
     prefixes::tell_prefixes(&rt, "small")?;

@@ -1,6 +1,7 @@
-//! Texts that are read as streams. The file `runs` of a folder has a line for each, with the depth and its name.
+//! Texts and bundles that are read as streams. The file `runs` of a folder has a line for each text, with the depth and its
+//! name, and the file `commands` one for each other command line, with what it reads.
 
-use crate::call::words_of;
+use crate::call::{words_in, words_of};
 use ap_io::{NoGate, StdSink, StdSource};
 use ap_top::top;
 use std::fs::{File, Files};
@@ -8,18 +9,43 @@ use std::sync::Wait;
 use std::thread::Threads;
 use std::{fs, io};
 
-// Runs a text, and writes its name before what it writes and the status after.
+// Writes a title, then what the top call writes for words and what a path has, and the status.
 fn run<R: Threads + Wait + Sync + AllocGlobal + Files + Print>(
+    rt: &R,
+    title: &str,
+    words: &[String],
+    path: &str,
+) -> io::Result<()> {
+    println!(rt; "% {title}")?;
+    let mut source = StdSource::new(File::open(rt, path)?);
+    let mut sink = StdSink::new(io::writer(rt));
+    let status = top(rt, rt.alloc(), words, &mut source, &mut sink, &NoGate);
+    println!(rt; "% status {}", status.code())
+}
+
+// Runs a text to a depth.
+fn run_text<R: Threads + Wait + Sync + AllocGlobal + Files + Print>(
     rt: &R,
     depth: &str,
     path: &str,
 ) -> io::Result<()> {
-    println!(rt; "% {path}")?;
     let words = words_of(rt.alloc(), &["run", "--depth", depth])?;
-    let mut source = StdSource::new(File::open(rt, path)?);
-    let mut sink = StdSink::new(io::writer(rt));
-    let status = top(rt, rt.alloc(), &words, &mut source, &mut sink, &NoGate);
-    println!(rt; "% status {}", status.code())
+    run(rt, path, &words, path)
+}
+
+// Runs a command on what a path has.
+fn run_command<R: Threads + Wait + Sync + AllocGlobal + Files + Print>(
+    rt: &R,
+    line: &str,
+    path: &str,
+) -> io::Result<()> {
+    let words = words_in(rt.alloc(), line)?;
+    run(
+        rt,
+        &format!(in rt.alloc(); "{line} < {path}")?,
+        &words,
+        path,
+    )
 }
 
 /// Runs the texts of a folder.
@@ -30,7 +56,21 @@ pub fn run_folder<R: Threads + Wait + Sync + AllocGlobal + Files + Print>(
     let runs = fs::read_to_string(rt, &format!(in rt.alloc(); "{folder}/runs")?)?;
     for line in runs.lines() {
         if let Some((depth, name)) = line.split_once(' ') {
-            run(rt, depth, &format!(in rt.alloc(); "{folder}/{name}")?)?;
+            run_text(rt, depth, &format!(in rt.alloc(); "{folder}/{name}")?)?;
+        }
+    }
+    Ok(())
+}
+
+/// Runs the command lines of a folder: what stands behind ` < ` is what the command reads.
+pub fn run_commands<R: Threads + Wait + Sync + AllocGlobal + Files + Print>(
+    rt: &R,
+    folder: &str,
+) -> io::Result<()> {
+    let commands = fs::read_to_string(rt, &format!(in rt.alloc(); "{folder}/commands")?)?;
+    for line in commands.lines() {
+        if let Some((words, name)) = line.split_once(" < ") {
+            run_command(rt, words, &format!(in rt.alloc(); "{folder}/{name}")?)?;
         }
     }
     Ok(())
