@@ -1,5 +1,5 @@
 -- Choices of a problem's search, and the branches that stand at them.
-use Rattle.std.proofs.Common.{◌≡◌, ℕ, zero, suc, ◌-◌, ◌<◌, ◌≤◌, ◌&&◌, ◌||◌, lt-ltb, le-ltb, List, [], ◌∷◌, length, refl, sym, ap, ◌∙◌, subst, Bool, true, false, arith}
+use Rattle.std.proofs.Common.{◌≡◌, ℕ, zero, suc, ◌-◌, ◌<◌, ◌≤◌, lt-ltb, le-ltb, List, [], ◌∷◌, length, refl, sym, ap, ◌∙◌, subst, Bool, true, false, arith}
 use Rattle.std.specs.Prelude.{Option, Some, None, Vec, nat_lt, if◌then◌else◌, slice_get}
 use Rattle.ap_defs.specs.Answers.{NominalOut, outs_at}
 use Rattle.ap_defs.specs.Goals.{NominalQuery}
@@ -14,7 +14,7 @@ use Rattle.ap_backchain.specs.declared.problem.Problem.{Problem}
 use Rattle.std.specs.List.{range_with_len}
 use Rattle.ap_paths.specs.Entries as entries
 use Rattle.ap_paths.specs.Entries.{Plan}
-use Rattle.ap_replay.specs.ProblemTrees.{bound_at, choices_below, choices_below_of, choices_of, is_shared, items_in, kids_of, kids_shared, outs_of_query, problem_choices, problem_outs, problem_plan, query_in, shared_out}
+use Rattle.ap_replay.specs.ProblemTrees.{bound_at, choices_below, choices_below_of, choices_of, is_shared, items_in, kids_of, outs_of_query, problem_choices, problem_outs, problem_plan, query_in, shared_out}
 
 there_is : (qs : List NominalQuery) (k : ℕ) → k < length qs → (q : NominalQuery) × (slice_get qs k ≡ Some q)
 there_is [] k h = absurd (omega arith)
@@ -75,69 +75,34 @@ module _ (p : Problem) (q : NominalQuery) (asked : query_in p ≡ Some q) (path 
       → entries.kids kept ≡ shared_out (problem_choices p path) (problem_outs p path)
   choosing w kept e k = ap entries.kids k ∙ ap (λ o. shared_out o (problem_outs p path)) (sym (same_choices p q asked path ∙ e))
 
-  -- a path with few others on the way
-  short_kids : (short c : Bool) (w : ℕ) (kept ks : List ℕ) → query_choices (clauses_in p) p.depth q path ≡ Some w → kept ≡ range_with_len 1 w → (if short then Some kept else None) ≡ Some ks
-      → entries.kids ks ≡ plan_by (short || c) (problem_choices p path) (problem_outs p path)
-  short_kids true c w kept ks e k h = let same : ks ≡ kept = cc in ap entries.kids same ∙ choosing w kept e k
-  short_kids false c w kept ks e k h = absurd cc
+  few_planned : (many : Bool) → many ≡ false → entries.outs (problem_outs p path) ≡ plan_by many (problem_choices p path) (problem_outs p path)
+  few_planned true few = absurd cc
+  few_planned false few = refl
 
-  kids_at : (bounded : Bool) (n : Node) (ks : List ℕ) → IsNodeAt (clauses_in p) p.depth q path n → kids_shared path n ≡ Some ks → entries.kids ks ≡ problem_plan bounded p path
-  kids_at bounded (nodes.Choice w kept) ks at h = short_kids (nat_lt (length path) 16) (bounded && nat_lt (bound_at path) (choices_below p path)) w kept ks at.0 at.1 h
-  kids_at bounded nodes.Answer ks at h = absurd cc
-  kids_at bounded nodes.Cut ks at h = absurd cc
-  kids_at bounded nodes.Stuck ks at h = absurd cc
-  kids_at bounded nodes.Failed ks at h = absurd cc
+  many_planned : (many : Bool) (w : ℕ) (kept : List ℕ) → query_choices (clauses_in p) p.depth q path ≡ Some w → kept ≡ range_with_len 1 w → many ≡ true
+      → entries.kids kept ≡ plan_by many (problem_choices p path) (problem_outs p path)
+  many_planned true w kept e k h = choosing w kept e k
+  many_planned false w kept e k h = absurd cc
 
-  -- a longer one, in a search that is not bounded
-  long_outs : (short : Bool) (kept : List ℕ) → (if short then Some kept else None) ≡ None → entries.outs (problem_outs p path) ≡ plan_by (short || false) (problem_choices p path) (problem_outs p path)
-  long_outs true kept h = absurd cc
-  long_outs false kept h = refl
+  few_outs : choices_below p path ≤ bound_at path → entries.outs (problem_outs p path) ≡ problem_plan p path
+  few_outs few = few_planned (nat_lt (bound_at path) (choices_below p path)) (le-ltb (bound_at path) (choices_below p path) few)
 
-  outs_at_path : (n : Node) → IsNodeAt (clauses_in p) p.depth q path n → kids_shared path n ≡ None → entries.outs (problem_outs p path) ≡ problem_plan false p path
-  outs_at_path (nodes.Choice w kept) at h = long_outs (nat_lt (length path) 16) kept h
-  outs_at_path nodes.Answer at h = not_choosing (is_shared false p path) at.0
-  outs_at_path nodes.Cut at h = not_choosing (is_shared false p path) at.0
-  outs_at_path nodes.Stuck at h = not_choosing (is_shared false p path) at.0
-  outs_at_path nodes.Failed at h = not_choosing (is_shared false p path) at.0
-
-  -- and in one that is
-  long_few : (short many : Bool) (kept : List ℕ) → (if short then Some kept else None) ≡ None → many ≡ false
-      → entries.outs (problem_outs p path) ≡ plan_by (short || (true && many)) (problem_choices p path) (problem_outs p path)
-  long_few true many kept h few = absurd cc
-  long_few false true kept h few = absurd cc
-  long_few false false kept h few = refl
-
-  long_many : (short many : Bool) (w : ℕ) (kept : List ℕ) → query_choices (clauses_in p) p.depth q path ≡ Some w → kept ≡ range_with_len 1 w → many ≡ true
-      → entries.kids kept ≡ plan_by (short || (true && many)) (problem_choices p path) (problem_outs p path)
-  long_many true many w kept e k h = choosing w kept e k
-  long_many false true w kept e k h = choosing w kept e k
-  long_many false false w kept e k h = absurd cc
-
-  few_outs : (n : Node) (ks : List ℕ) → kids_of n ≡ Some ks → kids_shared path n ≡ None → choices_below p path ≤ bound_at path → entries.outs (problem_outs p path) ≡ problem_plan true p path
-  few_outs (nodes.Choice w kept) ks h none few =
-      let no : nat_lt (bound_at path) (choices_below p path) ≡ false = le-ltb (bound_at path) (choices_below p path) few in
-      long_few (nat_lt (length path) 16) (nat_lt (bound_at path) (choices_below p path)) kept none no
-  few_outs nodes.Answer ks h none few = absurd cc
-  few_outs nodes.Cut ks h none few = absurd cc
-  few_outs nodes.Stuck ks h none few = absurd cc
-  few_outs nodes.Failed ks h none few = absurd cc
-
-  many_kids : (n : Node) (ks : List ℕ) → IsNodeAt (clauses_in p) p.depth q path n → kids_of n ≡ Some ks → bound_at path < choices_below p path → entries.kids ks ≡ problem_plan true p path
+  many_kids : (n : Node) (ks : List ℕ) → IsNodeAt (clauses_in p) p.depth q path n → kids_of n ≡ Some ks → bound_at path < choices_below p path → entries.kids ks ≡ problem_plan p path
   many_kids (nodes.Choice w kept) ks at h many =
       let same : ks ≡ kept = cc in
       let yes : nat_lt (bound_at path) (choices_below p path) ≡ true = lt-ltb (bound_at path) (choices_below p path) many in
-      ap entries.kids same ∙ long_many (nat_lt (length path) 16) (nat_lt (bound_at path) (choices_below p path)) w kept at.0 at.1 yes
+      ap entries.kids same ∙ many_planned (nat_lt (bound_at path) (choices_below p path)) w kept at.0 at.1 yes
   many_kids nodes.Answer ks at h many = absurd cc
   many_kids nodes.Cut ks at h many = absurd cc
   many_kids nodes.Stuck ks at h many = absurd cc
   many_kids nodes.Failed ks at h many = absurd cc
 
-  no_kids_at : (n : Node) → IsNodeAt (clauses_in p) p.depth q path n → kids_of n ≡ None → entries.outs (problem_outs p path) ≡ problem_plan true p path
+  no_kids_at : (n : Node) → IsNodeAt (clauses_in p) p.depth q path n → kids_of n ≡ None → entries.outs (problem_outs p path) ≡ problem_plan p path
   no_kids_at (nodes.Choice w kept) at h = absurd cc
-  no_kids_at nodes.Answer at h = not_choosing (is_shared true p path) at.0
-  no_kids_at nodes.Cut at h = not_choosing (is_shared true p path) at.0
-  no_kids_at nodes.Stuck at h = not_choosing (is_shared true p path) at.0
-  no_kids_at nodes.Failed at h = not_choosing (is_shared true p path) at.0
+  no_kids_at nodes.Answer at h = not_choosing (is_shared p path) at.0
+  no_kids_at nodes.Cut at h = not_choosing (is_shared p path) at.0
+  no_kids_at nodes.Stuck at h = not_choosing (is_shared p path) at.0
+  no_kids_at nodes.Failed at h = not_choosing (is_shared p path) at.0
 
   below_is : choices_below p path ≡ choices_at (clauses_in p) p.depth q path
   below_is = ap (λ o. choices_below_of (clauses_in p) p.depth o path) asked
@@ -150,25 +115,18 @@ module _ (p : Problem) (b : Branch) (n : Node) (path : List ℕ) (h : HasQuery p
   node_there : IsNodeAt (clauses_in p) p.depth asked.0 path n
   node_there = subst (λ (x : List ℕ). IsNodeAt (clauses_in p) p.depth asked.0 x n) same (node p asked.0 asked.1 of)
 
-  pub planned_kids : {Z : Type 0} (bounded : Bool) (o : Option (Vec ℕ Z)) (v : Vec ℕ Z) → o ≡ Some v → items_in o ≡ kids_shared path n → entries.kids v.items ≡ problem_plan bounded p path
-  planned_kids bounded o v e k = kids_at p asked.0 asked.1 path bounded n v.items node_there (sym k ∙ ap items_in e)
-
-  pub planned_outs : {Z : Type 0} (o : Option (Vec ℕ Z)) → o ≡ None → items_in o ≡ kids_shared path n → entries.outs (problem_outs p path) ≡ problem_plan false p path
-  planned_outs o e k = outs_at_path p asked.0 asked.1 path n node_there (sym k ∙ ap items_in e)
-
-  pub planned_end : {Z : Type 0} (o : Option (Vec ℕ Z)) → o ≡ None → items_in o ≡ kids_of n → entries.outs (problem_outs p path) ≡ problem_plan true p path
+  pub planned_end : {Z : Type 0} (o : Option (Vec ℕ Z)) → o ≡ None → items_in o ≡ kids_of n → entries.outs (problem_outs p path) ≡ problem_plan p path
   planned_end o e k = no_kids_at p asked.0 asked.1 path n node_there (sym k ∙ ap items_in e)
 
-  pub planned_few : {Z : Type 0} (o : Option (Vec ℕ Z)) (v : Vec ℕ Z) → o ≡ Some v → items_in o ≡ kids_of n → kids_shared path n ≡ None
-      → ((q : NominalQuery) → slice_get (queries_in p) (p.query - 1) ≡ Some q → choices_at (clauses_in p) p.depth q (path_of_branch b) ≤ bound_at path)
-      → entries.outs (problem_outs p path) ≡ problem_plan true p path
-  planned_few o v e k none few =
-      few_outs p asked.0 asked.1 path n v.items (sym k ∙ ap items_in e) none
+  pub planned_few : ((q : NominalQuery) → slice_get (queries_in p) (p.query - 1) ≡ Some q → choices_at (clauses_in p) p.depth q (path_of_branch b) ≤ bound_at path)
+      → entries.outs (problem_outs p path) ≡ problem_plan p path
+  planned_few few =
+      few_outs p asked.0 asked.1 path
       (subst (λ (c : ℕ). c ≤ bound_at path) (ap (choices_at (clauses_in p) p.depth asked.0) same ∙ sym (below_is p asked.0 asked.1 path)) (few asked.0 asked.1))
 
   pub planned_many : {Z : Type 0} (o : Option (Vec ℕ Z)) (v : Vec ℕ Z) → o ≡ Some v → items_in o ≡ kids_of n
       → ((q : NominalQuery) → slice_get (queries_in p) (p.query - 1) ≡ Some q → bound_at path < choices_at (clauses_in p) p.depth q (path_of_branch b))
-      → entries.kids v.items ≡ problem_plan true p path
+      → entries.kids v.items ≡ problem_plan p path
   planned_many o v e k many =
       many_kids p asked.0 asked.1 path n v.items node_there (sym k ∙ ap items_in e)
       (subst (λ (c : ℕ). bound_at path < c) (ap (choices_at (clauses_in p) p.depth asked.0) same ∙ sym (below_is p asked.0 asked.1 path)) (many asked.0 asked.1))

@@ -61,5 +61,5 @@ planned_if : (p : Problem) (path : List ℕ) (b : Bool)
 planned_if p path true = shared_planned p path (problem_choices p path) refl
 planned_if p path false = refl
 
-pub problem_planned : (bounded : Bool) (p : Problem) (path : List ℕ) → InTree (problem_choices p) path → IsPlan (problem_choices p) (problem_outs p) path (problem_plan bounded p path)
-problem_planned bounded p path there = planned_if p path (is_shared bounded p path)
+pub problem_planned : (p : Problem) (path : List ℕ) → InTree (problem_choices p) path → IsPlan (problem_choices p) (problem_outs p) path (problem_plan p path)
+problem_planned p path there = planned_if p path (is_shared p path)

@@ -1,5 +1,5 @@
 -- The tree of paths of a problem.
-use Rattle.std.specs.Prelude.{◌+◌, ◌-◌, ◌*◌, ◌^◌, ℕ, Bool, ◌&&◌, ◌||◌, min, nat_lt, if◌then◌else◌, List, [], length, Option, Some, None, Vec, slice_get}
+use Rattle.std.specs.Prelude.{◌+◌, ◌-◌, ◌*◌, ◌^◌, ℕ, Bool, min, nat_lt, if◌then◌else◌, List, [], length, Option, Some, None, Vec, slice_get}
 use Rattle.std.specs.Int.{trailing_zeros, w64}
 use Rattle.std.specs.List.{range_with_len}
 use Rattle.ap_defs.specs.Answers.{NominalOut, outs_at}
@@ -40,38 +40,30 @@ choices_below_of program d (Some q) path = choices_at program d q path
 abbrev pub choices_below : Problem → List ℕ → ℕ
 choices_below p path = choices_below_of (clauses_in p) p.depth (query_in p) path
 
--- So many choices may be made by one worker alone: some 256, one more for each on the way, and twice as many with each two that divides
--- the number of those. So each bound comes after as many smaller ones as make it cheap (Luby, Sinclair and Zuckerman, 1993).
+-- So many choices may be made by one worker alone: 16 for each of the first 16 on the way, one more for each, so that making the way
+-- again costs little beside them; and twice as many with each two that divides the number of those on the way, so that each bound comes
+-- after as many smaller ones as make it cheap (Luby, Sinclair and Zuckerman, 1993). None are made at the root.
 abbrev pub bound_at : List ℕ → ℕ
-bound_at path = (256 + min (length path) (2 ^ 20)) * 2 ^ min (trailing_zeros w64 (length path)) 40
+bound_at path = (16 * min (length path) 16 + min (length path) (2 ^ 20)) * 2 ^ min (trailing_zeros w64 (length path)) 40
 
 -- a choice has each of its ways as a kid
 abbrev pub shared_out : Option ℕ → List NominalOut → Plan
 shared_out None os = entries.outs os
 shared_out (Some w) os = entries.kids (range_with_len 1 w)
 
--- choices with fewer than 16 others on the way are shared out, and in a bounded search those that lead to too many
-abbrev pub is_shared : Bool → Problem → List ℕ → Bool
-is_shared bounded p path = nat_lt (length path) 16 || (bounded && nat_lt (bound_at path) (choices_below p path))
+-- a choice is shared out that leads to more
+abbrev pub is_shared : Problem → List ℕ → Bool
+is_shared p path = nat_lt (bound_at path) (choices_below p path)
 
 -- all else is searched whole
-abbrev pub problem_plan : Bool → Problem → List ℕ → Plan
-problem_plan bounded p path = if is_shared bounded p path then shared_out (problem_choices p path) (problem_outs p path) else entries.outs (problem_outs p path)
-
--- the kids of a branch at a path that is shared out, where it is at a choice
-abbrev pub kids_shared : List ℕ → Node → Option (List ℕ)
-kids_shared path (nodes.Choice w kept) = if nat_lt (length path) 16 then Some kept else None
-kids_shared path _ = None
+abbrev pub problem_plan : Problem → List ℕ → Plan
+problem_plan p path =
+    if is_shared p path then shared_out (problem_choices p path) (problem_outs p path) else entries.outs (problem_outs p path)
 
 -- the kids of a branch, where it is at a choice
 abbrev pub kids_of : Node → Option (List ℕ)
 kids_of (nodes.Choice w kept) = Some kept
 kids_of _ = None
-
--- the answer of a visit: these kids, or else these outputs
-abbrev pub kids_or : List NominalOut → Option (List ℕ) → Plan
-kids_or os None = entries.outs os
-kids_or os (Some ks) = entries.kids ks
 
 abbrev pub items_in : {Z : Type 0} → Option (Vec ℕ Z) → Option (List ℕ)
 items_in None = None

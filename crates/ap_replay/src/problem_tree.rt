@@ -1,10 +1,10 @@
 //! The search of a problem as a tree of paths.
 
-ghost use Rattle.std.specs.Prelude.{◌≡◌, None, true, IfOk};
+ghost use Rattle.std.specs.Prelude.{◌≡◌, IfOk};
 ghost use Rattle.ap_backchain.specs.Branches.{IsBranchOf, path_of_branch};
 ghost use Rattle.ap_backchain.specs.Problems.{HasQuery};
 ghost use Rattle.ap_paths.specs.Entries.{visit_of};
-ghost use Rattle.ap_replay.specs.ProblemTrees.{bound_at, items_in, kids_of, kids_shared, problem_plan};
+ghost use Rattle.ap_replay.specs.ProblemTrees.{bound_at, items_in, kids_of, problem_plan};
 
 use crate::replay::branch_at;
 use ap_backchain::branch::Branch;
@@ -12,36 +12,15 @@ use ap_backchain::problem::Problem;
 use ap_defs::lists::List;
 use ap_defs::memory::Memory;
 use ap_defs::paths::{Node, Out, Path, Visit};
-use ap_paths::{Limit, Tree};
+use ap_paths::Tree;
 use std::alloc::Global;
 
-/// So many choices on the way to a branch, and it is searched whole, by one worker.
-const SHARED: usize = 16;
-
-/// The tree of paths of a problem. Its choices with fewer than 16 others on the way are shared out
-/// among workers. What lies further down is searched whole; but where fewer than all answers may be
-/// wanted, only if few choices are made for that, so that no worker is held by what is needless.
+/// The tree of paths of a problem. A path is searched whole, by one worker, if few choices are made for
+/// that. Else its kids are shared out among workers, so that none is held by what another could do.
 #[derive(Clone, Copy)]
 pub struct ProblemTree<'a> {
     problem: Problem<'a>,
-    bounded: bool,
     ghost query: { HasQuery problem },
-}
-
-/// The kids of a choice with few others on the way, each of which is a task of its own.
-fn shared_kids(alloc: Global, path: &Path, node: &Node) -> Result<Option<Vec<u32>>, Memory>
-    ensures { IfOk result (λ o. items_in o ≡ kids_shared path.now node.now) }
-{
-    match node {
-        Node::Choice(_, kept) => {
-            if path.choices().len() < SHARED {
-                Ok(Some(kept.items().to_vec(alloc)?))
-            } else {
-                Ok(None)
-            }
-        }
-        _ => Ok(None),
-    }
 }
 
 /// The kids of a branch, if it is at a choice.
@@ -60,12 +39,12 @@ fn bound_of(path: &Path) -> u64
 {
     let way = path.choices().len();
     let doublings = way.trailing_zeros().min(40);
-    let once = 256 + way.min(1 << 20) as u64;
+    let once = 16 * way.min(16) as u64 + way.min(1 << 20) as u64;
     once << doublings
 }
 
-/// What a visit of a long path answers: the outputs, where few choices are to be made, and else the kids.
-fn visit_bounded<'a>(
+/// What a visit answers: the outputs, where few choices are to be made, and else the kids.
+fn visit_branch<'a>(
     alloc: Global,
     problem: &Problem<'a>,
     branch: Branch<'a>,
@@ -74,8 +53,7 @@ fn visit_bounded<'a>(
     requires query { HasQuery problem.now }
     requires of { IsBranchOf problem.now branch }
     requires path { path_of_branch branch ≡ path.now }
-    requires long { kids_shared path.now branch.node ≡ None }
-    ensures { IfOk result (λ v. visit_of v ≡ problem_plan true problem.now path.now) }
+    ensures { IfOk result (λ v. visit_of v ≡ problem_plan problem.now path.now) }
 {
     let Some(kids) = kids_at(alloc, branch.node())? else {
         let outs = branch.run(alloc, problem)?;
@@ -90,27 +68,12 @@ fn visit_bounded<'a>(
 impl<'a> ProblemTree<'a> {
     ghost use Rattle.std.specs.Prelude.{◌≡◌};
 
-    /// The tree of the problem, of which all answers are wanted. It takes no memory.
+    /// The tree of the problem. It takes no memory.
     pub fn of(problem: Problem<'a>) -> ProblemTree<'a>
         requires { HasQuery problem }
         ensures { result.problem ≡ problem.entry }
     {
-        ProblemTree {
-            problem,
-            bounded: false,
-        }
-    }
-
-    /// The same, where so many are. It takes no memory.
-    pub fn within(problem: Problem<'a>, limit: Limit) -> ProblemTree<'a>
-        requires { HasQuery problem }
-        ensures { result.problem ≡ problem.entry }
-    {
-        let bounded = match limit {
-            Limit::All => false,
-            Limit::First(_) => true,
-        };
-        ProblemTree { problem, bounded }
+        ProblemTree { problem }
     }
 }
 
@@ -122,7 +85,7 @@ impl<'a> Tree for ProblemTree<'a> {
 
     ghost at = { λ t. problem_outs t.problem };
 
-    ghost plan = { λ t. problem_plan t.bounded t.problem };
+    ghost plan = { λ t. problem_plan t.problem };
 
     fn width(&self, alloc: Global, path: &Path) -> Result<Option<u32>, Memory> {
         let branch = branch_at(alloc, &self.problem, path)?;
@@ -138,19 +101,10 @@ impl<'a> Tree for ProblemTree<'a> {
 
     fn visit(&self, alloc: Global, path: &Path) -> Result<Visit, Memory> {
         let branch = branch_at(alloc, &self.problem, path)?;
-        match shared_kids(alloc, path, branch.node())? {
-            Some(kids) => Ok(Visit::Kids(List::of(kids))),
-            None => {
-                if self.bounded {
-                    return visit_bounded(alloc, &self.problem, branch, path);
-                }
-                let outs = branch.run(alloc, &self.problem)?;
-                Ok(Visit::Outs(List::of(outs)))
-            }
-        }
+        visit_branch(alloc, &self.problem, branch, path)
     }
 
     ghost branches = { λ t. problem_branches t.problem };
 
-    ghost planned = { λ t. problem_planned t.bounded t.problem };
+    ghost planned = { λ t. problem_planned t.problem };
 }

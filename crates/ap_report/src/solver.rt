@@ -35,7 +35,7 @@ fn search_beside<R: Threads + Wait + Sync, G: Gate>(
         outs_of v.items
         ≡ limits.part limit (query_outs (clauses_in problem.now) problem.now.depth q)) }
 {
-    let tree = ProblemTree::within(*problem, limit);
+    let tree = ProblemTree::of(*problem);
     let closed = search_within(rt, alloc, &tree, workers.get(), limit, gate)?;
     let outs = merge(alloc, closed)?;
     Ok(part(outs, limit))

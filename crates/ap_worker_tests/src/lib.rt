@@ -1,5 +1,5 @@
 //! Tests of streams, `ap_io`, of paths, books and workers, `ap_paths`, `ap_book`, `ap_core`, `ap_tasks`, `ap_lock` and
-//! `ap_steal`, of counts of uses, `ap_count`, and of the top call, `ap_top`.
+//! `ap_steal`, of trees of queries, `ap_replay`, of counts of uses, `ap_count`, and of the top call, `ap_top`.
 #![tactic(auto)]
 
 #[cfg(test)]
@@ -8,6 +8,8 @@ mod book;
 mod clause_uses;
 #[cfg(test)]
 mod events;
+#[cfg(test)]
+mod first_answers;
 #[cfg(test)]
 mod lock;
 #[cfg(test)]
@@ -22,3 +24,5 @@ mod streams;
 mod tasks;
 #[cfg(test)]
 mod top_call;
+#[cfg(test)]
+mod visits;
