@@ -12,4 +12,4 @@ search_within-requires-sync-T g c κs within = search (sendable, tree_sync)
 pub returns : goal.returns
 returns g c = λ q asked.
     c.part.ensures ∙ ap (part c.args.limit) c.in_ok-outs.ensures.outputs ∙ c.in_ok-closed.ensures.whole
-    ∙ ap (part c.args.limit) (ap (λ x. problem_outs x []) c.within-tree.ensures ∙ whole_is_query c.args.problem.now q asked)
+    ∙ ap (part c.args.limit) (ap (λ x. problem_outs x []) c.of-tree.ensures ∙ whole_is_query c.args.problem.now q asked)
