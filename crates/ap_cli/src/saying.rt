@@ -31,6 +31,9 @@ const USAGE: &str = "usage: alphaprolog run --depth D [--workers W] [--answers N
   --seed N      the number from which the text is made, from 0 to 18446744073709551615
   --size K      how many queries the text has, from 1 to 1000
 
+Beside it, `alphaprolog-shell [FILE..]` is an interactive session, and `alphaprolog-show` shows the
+derivations of a bundle as text, LaTeX or HTML.
+
 Options come in any order, each once. The report goes to standard output, and what is said
 of a fault of the text to standard error. Exit status: 0 report, 1 usage, 2 syntax, 3 types,
 4 names, 5 input can't be read, 6 output can't be written, 7 memory, 8 not checked, 9 too large,
