@@ -22,6 +22,7 @@ pub enum Command {
     Count,
     Deeper,
     Depth,
+    Examine,
     Help,
     List,
     Load,
@@ -47,6 +48,8 @@ pub enum Order<'a> {
     Deeper,
     /// Search to this depth.
     Depth(Depth),
+    /// Search for a counterexample to the last query, as a property.
+    Examine,
     /// Tell the commands.
     Help,
     /// Show what the loaded text says of a word.
@@ -82,6 +85,7 @@ impl Command {
             Command::Count => ":count",
             Command::Deeper => ":deeper",
             Command::Depth => ":depth N, from 0 to 1000000",
+            Command::Examine => ":examine",
             Command::Help => ":help",
             Command::List => ":list WORD",
             Command::Load => ":load FILE..",
@@ -104,6 +108,7 @@ fn command_named(word: &str) -> Option<Command> {
         ":count" => Some(Command::Count),
         ":deeper" => Some(Command::Deeper),
         ":depth" => Some(Command::Depth),
+        ":examine" => Some(Command::Examine),
         ":help" => Some(Command::Help),
         ":list" => Some(Command::List),
         ":load" => Some(Command::Load),
@@ -178,6 +183,7 @@ fn without_words<'a>(command: Command) -> Option<Order<'a>> {
         Command::Add => Some(Order::Add),
         Command::Count => Some(Order::Count),
         Command::Deeper => Some(Order::Deeper),
+        Command::Examine => Some(Order::Examine),
         Command::Help => Some(Order::Help),
         Command::More => Some(Order::More),
         Command::Prove => Some(Order::Prove),
@@ -227,6 +233,8 @@ pub const HELP: &str = "GOAL.            answers a query, of one or more lines
 :deeper          asks the last query to twice the depth
 :prove           writes the loaded text with the last query, its answers and their derivations, as a bundle
 :count           counts how often each clause is used in the derivations of the last query's answers
+:examine         takes the last query as a property, its last goal to hold wherever the others do, and
+                 searches for a counterexample
 :list WORD       shows what the loaded text declares of a word, and its clauses
 :load FILE..     loads files, as one text, in place of what is loaded
 :reload          loads the same files again

@@ -1,12 +1,15 @@
--- What is answered for a query: the report of the loaded text with that query alone.
+-- What is answered for a query, or for a command about it: a report on the loaded text with that query alone.
 use Rattle.std.specs.Prelude.{◌≡◌, ◌<◌, ◌≤◌, ℕ, List, ◌++◌, length, codes, if◌then◌else◌}
+use Rattle.ap_bundle_prove.specs.Reports.{IsProveReport}
 use Rattle.ap_defs.specs.Limits.{size_limit}
+use Rattle.ap_examine.specs.Reports.{IsExamReport}
 use Rattle.ap_inputs.specs.Lines.{has_mark}
 use Rattle.ap_paths.specs.declared.limits.Limit.TheVariants as limits
 use Rattle.ap_report.specs.declared.report.Report.{Report}
 use Rattle.ap_report.specs.declared.status.Status.TheVariants as status
 use Rattle.ap_report.specs.TextReport.{IsTextReport, run_report}
 use Rattle.ap_shell.specs.declared.session.Settings.{Settings}
+use Rattle.ap_uses.specs.Reports.{IsCountReport}
 
 -- a query as it stands in a text, with `?-` before it
 abbrev pub question_of : List ℕ → List ℕ
@@ -32,3 +35,15 @@ IsRunReport s text r = IsReportWithin (IsTextReport (run_report s.depth (limits.
 -- what is answered for a query: the report of a run of the loaded text with that query alone
 abbrev pub IsAnswer : Settings → List ℕ → List ℕ → Report → Type 0
 IsAnswer s loaded query r = IsRunReport s (text_with loaded query) r
+
+-- its answers with their derivations, as a bundle of that text
+abbrev pub IsProved : Settings → List ℕ → List ℕ → Report → Type 0
+IsProved s loaded query r = IsReportWithin (IsProveReport s.depth (limits.First s.answers)) (text_with loaded query) r
+
+-- how often each clause is used in the derivations of all its answers
+abbrev pub IsCounted : Settings → List ℕ → List ℕ → Report → Type 0
+IsCounted s loaded query r = IsReportWithin (IsCountReport s.depth) (text_with loaded query) r
+
+-- the counterexample to it as a property, or the totals of the search for one
+abbrev pub IsExamined : Settings → List ℕ → List ℕ → Report → Type 0
+IsExamined s loaded query r = IsReportWithin (IsExamReport s.depth) (text_with loaded query) r

@@ -6,7 +6,7 @@ use Rattle.ap_inputs.specs.Lines.{kind_of, query_end}
 use Rattle.ap_shell.specs.declared.session.Session.{Session}
 use Rattle.ap_shell.specs.declared.replies.Reply.{Reply}
 use Rattle.ap_shell.specs.declared.replies.Reply.TheVariants as replies
-use Rattle.ap_shell.specs.Answers.{IsAnswer}
+use Rattle.ap_shell.specs.Answers.{IsAnswer, IsCounted, IsExamined, IsProved}
 
 -- the query that ends in a line of a kind, behind the lines before it
 abbrev pub query_in : List ℕ → LineKind → List ℕ → Option (List ℕ)
@@ -21,9 +21,12 @@ query_unless false waiting line = query_in waiting (kind_of line) line
 abbrev pub typed_query : Session → List ℕ → Option (List ℕ)
 typed_query s line = query_unless s.is_adding s.waiting.items line
 
--- an answer is that to the session's last query
+-- an answer is that to the session's last query, and a report that on it
 abbrev pub IsReplyOf : Session → Reply → Type 0
 IsReplyOf s (replies.Asked a) = IsAnswer s.settings s.loaded.items s.last.items a.report
+IsReplyOf s (replies.Proved a) = IsProved s.settings s.loaded.items s.last.items a.report
+IsReplyOf s (replies.Counted a) = IsCounted s.settings s.loaded.items s.last.items a.report
+IsReplyOf s (replies.Examined a) = IsExamined s.settings s.loaded.items s.last.items a.report
 IsReplyOf s other = Unit {0}
 
 abbrev pub IsAsked : Reply → Type 0

@@ -2,12 +2,10 @@
 ghost use Rattle.std.specs.Prelude.{◌≡◌, IfOk, length};
 ghost use Rattle.ap_shell.specs.Steps.{IsReplyOf};
 
-use crate::asking::ask;
+use crate::asking::{ask, count, examine, prove};
 use crate::replies::{Reply, Step};
 use crate::session::Session;
-use crate::telling::{
-    Told, nothing, tell_count, tell_derivations, tell_help, tell_items, tell_message, tell_usage,
-};
+use crate::telling::{Told, nothing, tell_help, tell_items, tell_message, tell_usage};
 use ap_defs::limits::{Depth, GREATEST_DEPTH};
 use ap_defs::memory::Memory;
 use ap_inputs::orders::{MOST_ANSWERS, Order, order_of};
@@ -87,20 +85,12 @@ fn set(session: &mut Session, order: &Order<'_>) {
 }
 
 // What is told for an order that asks no query.
-fn tell<R: Threads + Wait + Sync, G: Gate>(
-    rt: &R,
-    alloc: Global,
-    gate: &G,
-    session: &Session,
-    order: &Order<'_>,
-) -> Result<Told, Memory> {
+fn tell(alloc: Global, session: &Session, order: &Order<'_>) -> Result<Told, Memory> {
     match order {
         Order::Add => tell_message(alloc, ADDING),
-        Order::Count => tell_count(rt, alloc, gate, session),
         Order::Help => tell_help(alloc),
         Order::List(word) => tell_items(alloc, &session.loaded, word),
         Order::Misused(command) => tell_usage(alloc, *command),
-        Order::Prove => tell_derivations(rt, alloc, gate, session),
         Order::Unknown => tell_message(alloc, UNKNOWN),
         _ => Ok(nothing(alloc)),
     }
@@ -115,24 +105,18 @@ fn load_named(alloc: Global, session: &mut Session, names: &str) -> Result<Reply
 }
 
 /// What is answered to an order that asks no query.
-fn obey_quietly<R: Threads + Wait + Sync, G: Gate>(
-    rt: &R,
-    alloc: Global,
-    gate: &G,
-    session: &mut Session,
-    order: &Order<'_>,
-) -> Result<Reply, Memory>
+fn obey_quietly(alloc: Global, session: &mut Session, order: &Order<'_>) -> Result<Reply, Memory>
     ensures { IfOk result (λ r. IsReplyOf session.new r) }
 {
     set(session, order);
-    let told = tell(rt, alloc, gate, session, order)?;
+    let told = tell(alloc, session, order)?;
     Ok(Reply::Told(told))
 }
 
 // Whether an order is about the last query.
 fn is_about_last(order: &Order<'_>) -> bool {
     match order {
-        Order::More | Order::Deeper | Order::Count | Order::Prove => true,
+        Order::More | Order::Deeper | Order::Prove | Order::Count | Order::Examine => true,
         _ => false,
     }
 }
@@ -154,10 +138,13 @@ fn obey<R: Threads + Wait + Sync, G: Gate>(
     match order {
         Order::More => more(rt, alloc, gate, session),
         Order::Deeper => deeper(rt, alloc, gate, session),
+        Order::Prove => prove(rt, alloc, gate, session),
+        Order::Count => count(rt, alloc, gate, session),
+        Order::Examine => examine(rt, alloc, gate, session),
         Order::Load(names) => load_named(alloc, session, names),
         Order::Reload => Ok(Reply::Load),
         Order::Quit => Ok(Reply::Quit),
-        _ => obey_quietly(rt, alloc, gate, session, order),
+        _ => obey_quietly(alloc, session, order),
     }
 }
 

@@ -8,6 +8,12 @@ use crate::telling::Told;
 pub enum Reply {
     /// The answer to the session's last query.
     Asked(Answer),
+    /// Its answers with their derivations.
+    Proved(Answer),
+    /// How often each clause is used in the derivations of its answers.
+    Counted(Answer),
+    /// What was found of it as a property.
+    Examined(Answer),
     /// What a command tells.
     Told(Told),
     /// The session's files are to be loaded.
@@ -28,8 +34,8 @@ pub struct Step {
 }
 
 impl Step {
-    /// Whether a query was answered.
-    pub fn is_answer(&self) -> bool {
-        matches!(self.reply, Reply::Asked(_))
+    /// Whether a query was searched.
+    pub fn is_search(&self) -> bool {
+        !matches!(self.reply, Reply::Told(_) | Reply::Load | Reply::Quit)
     }
 }

@@ -1,6 +1,7 @@
 //! The reports on the loaded text with a query.
 ghost use Rattle.std.specs.Prelude.{◌≡◌, IfOk};
 ghost use Rattle.ap_bundle_prove.specs.Reports.{IsProveReport};
+ghost use Rattle.ap_examine.specs.Reports.{IsExamReport};
 ghost use Rattle.ap_paths.specs.declared.limits.Limit.TheVariants as limits;
 ghost use Rattle.ap_shell.specs.Answers as spec;
 ghost use Rattle.ap_shell.specs.Answers.{IsReportWithin, IsRunReport, text_with};
@@ -11,6 +12,7 @@ use ap_bundle_prove::prove_text;
 use ap_defs::limits::SIZE_LIMIT;
 use ap_defs::lists::List;
 use ap_defs::memory::Memory;
+use ap_examine::examine_text;
 use ap_inputs::lines::has_mark;
 use ap_io::Gate;
 use ap_paths::Limit;
@@ -107,4 +109,20 @@ pub(crate) fn count_report<R: Threads + Wait + Sync, G: Gate>(
         return too_large(alloc);
     }
     count_text(rt, alloc, gate, settings.depth, settings.workers, text)
+}
+
+/// For each query of a text, as a property, a counterexample or the totals of the search for one.
+pub(crate) fn exam_report<R: Threads + Wait + Sync, G: Gate>(
+    rt: &R,
+    alloc: Global,
+    gate: &G,
+    settings: &Settings,
+    text: &[u8],
+) -> Result<Report, Memory>
+    ensures { IfOk result (IsReportWithin (IsExamReport settings.now.depth) text.now) }
+{
+    if text.len() > SIZE_LIMIT {
+        return too_large(alloc);
+    }
+    examine_text(rt, alloc, gate, settings.depth, settings.workers, text)
 }

@@ -12,6 +12,10 @@ use std::alloc::Global;
 /// What is said of a text that is too large.
 pub(crate) const TOO_LARGE: &str = "error: the text has more than 16777216 bytes\n";
 
+// What is said of a query that is no property.
+const NOT_A_PROPERTY: &str =
+    "error: the query is no property\n  = a property has a `,`: its last goal is to hold wherever those before it do\n";
+
 /// A message of its own.
 pub(crate) fn message(alloc: Global, text: &str) -> Result<String, Memory> {
     let mut said = String::new(alloc);
@@ -102,6 +106,15 @@ pub(crate) fn beside_report(
 ) -> Result<String, Memory> {
     match report.status {
         Status::Ok => say_further(alloc, settings, report.bytes.items()),
+        status => beside_status(alloc, text, status),
+    }
+}
+
+/// What is said beside a report on a text that has this status.
+pub(crate) fn beside_status(alloc: Global, text: &[u8], status: Status) -> Result<String, Memory> {
+    match status {
+        Status::Ok => Ok(String::new(alloc)),
+        Status::NotAProperty => message(alloc, NOT_A_PROPERTY),
         _ => explained(alloc, text),
     }
 }

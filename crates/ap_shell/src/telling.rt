@@ -1,19 +1,12 @@
 //! What commands tell.
-ghost use Rattle.std.specs.Prelude.{◌≡◌};
 
-use crate::reports::{count_report, prove_report, text_with};
-use crate::saying::{TOO_LARGE, explained, message};
-use crate::session::Session;
+use crate::saying::{TOO_LARGE, message};
 use ap_defs::limits::SIZE_LIMIT;
 use ap_defs::memory::Memory;
 use ap_inputs::items::items_about;
 use ap_inputs::orders::{Command, HELP};
-use ap_io::Gate;
 use ap_lexer::{LexError, lex};
-use ap_report::{Report, Status};
 use std::alloc::Global;
-use std::sync::Wait;
-use std::thread::Threads;
 
 /// What a command tells.
 #[derive(Drop)]
@@ -86,40 +79,4 @@ pub(crate) fn tell_items(alloc: Global, loaded: &[u8], word: &str) -> Result<Tol
         return tell_message(alloc, "note: the loaded text has no item about that word\n");
     }
     Ok(wrote(alloc, items))
-}
-
-// The bytes of a report on a text, and what is said of the text's fault.
-fn tell_report(alloc: Global, text: &[u8], report: Report) -> Result<Told, Memory> {
-    let said = match report.status {
-        Status::Ok => String::new(alloc),
-        _ => explained(alloc, text)?,
-    };
-    Ok(Told {
-        written: report.bytes.into_vec(),
-        said,
-    })
-}
-
-/// How often each clause is used in the derivations of the last query's answers.
-pub(crate) fn tell_count<R: Threads + Wait + Sync, G: Gate>(
-    rt: &R,
-    alloc: Global,
-    gate: &G,
-    session: &Session,
-) -> Result<Told, Memory> {
-    let text = text_with(alloc, &session.loaded, &session.last)?;
-    let report = count_report(rt, alloc, gate, &session.settings, &text)?;
-    tell_report(alloc, &text, report)
-}
-
-/// The last query's answers with their derivations.
-pub(crate) fn tell_derivations<R: Threads + Wait + Sync, G: Gate>(
-    rt: &R,
-    alloc: Global,
-    gate: &G,
-    session: &Session,
-) -> Result<Told, Memory> {
-    let text = text_with(alloc, &session.loaded, &session.last)?;
-    let report = prove_report(rt, alloc, gate, &session.settings, &text)?;
-    tell_report(alloc, &text, report)
 }

@@ -37,7 +37,10 @@ fn put<R: Print + Eprint + Files + AllocGlobal>(
     reply: &Reply,
 ) -> io::Result<bool> {
     match reply {
-        Reply::Asked(answer) => {
+        Reply::Asked(answer)
+        | Reply::Proved(answer)
+        | Reply::Counted(answer)
+        | Reply::Examined(answer) => {
             write_bytes(rt, answer.report.bytes.items())?;
             say(rt, session.channel, answer.said.as_str())?;
         }
@@ -74,7 +77,7 @@ fn take_part<R: Threads + Wait + Sync + AllocGlobal + Print + Eprint + Files + C
     if !put(rt, session, &step.reply)? {
         return Ok(Next::Quit);
     }
-    if session.is_timed && step.is_answer() {
+    if session.is_timed && step.is_search() {
         say_time(rt, session, start)?;
     }
     Ok(Next::At(step.used))
