@@ -24,5 +24,5 @@ by_hand() {
     done
 }
 
-by_hand subst "$depth"
-by_hand steps 1000
+by_hand subst "$depth" 2> /dev/null
+by_hand steps 1000 2> /dev/null
