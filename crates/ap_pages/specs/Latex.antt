@@ -44,6 +44,9 @@ abbrev pub items : List Step → List ℕ
 items [] = []
 items (s ∷ ss) = item s ++ items ss
 
+-- a tree that a page holds
+abbrev pub page : List Step → List ℕ
+page steps = codes "\\derivation{" ++ (tree 0 steps ++ codes "}\n")
+
 abbrev pub steps_text : List Step → List ℕ
-steps_text steps =
-    if fits_page steps then codes "\\begin{derivation}" ++ tree 0 steps ++ codes "\n\\end{derivation}\n" else items steps
+steps_text steps = if fits_page steps then page steps else items steps

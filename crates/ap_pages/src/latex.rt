@@ -119,14 +119,22 @@ fn write_list(alloc: Global, out: &mut Vec<u8>, steps: &[Step]) -> Result<(), Me
     Ok(())
 }
 
+/// Writes a tree of rules that a page holds.
+fn write_page(out: &mut Vec<u8>, steps: &[Step]) -> Result<(), Memory>
+    ensures { OnOk result (out.new.items ≡ out.old.items ++ spec.page steps.now) }
+{
+    out.extend_from_slice(b"\\derivation{")?;
+    write_tree(out, steps)?;
+    out.extend_from_slice(b"}\n")?;
+    Ok(())
+}
+
 /// Writes steps as a tree of rules where a page holds it, and else as a list.
 pub fn write_latex_steps(alloc: Global, out: &mut Vec<u8>, steps: &[Step]) -> Result<(), Memory>
     ensures { OnOk result (out.new.items ≡ out.old.items ++ spec.steps_text steps.now) }
 {
     if fits_page(steps) {
-        out.extend_from_slice(b"\\begin{derivation}")?;
-        write_tree(out, steps)?;
-        out.extend_from_slice(b"\n\\end{derivation}\n")?;
+        write_page(out, steps)?;
     } else {
         write_list(alloc, out, steps)?;
     }

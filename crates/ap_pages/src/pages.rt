@@ -29,12 +29,15 @@ pub const LATEX_HEAD: &str = "\\documentclass[a4paper,landscape]{article}
 \\usepackage{graphicx}
 \\pagestyle{empty}
 \\newcommand{\\derive}[3]{\\inferrule*[right={\\normalfont\\scriptsize #1}]{#3\\mbox{}}{\\mbox{\\ttfamily #2}}}
-\\newsavebox{\\derived}
-\\newenvironment{derivation}{\\begin{lrbox}{\\derived}$\\displaystyle}{$\\end{lrbox}\\begin{center}
-\\ifdim\\wd\\derived>\\linewidth\\resizebox{\\linewidth}{!}{\\usebox{\\derived}}\\else\\usebox{\\derived}\\fi
-\\end{center}}
 \\newcommand{\\step}[4]{\\par\\noindent\\hangindent=#1em\\advance\\hangindent2em\\hspace*{#1em}#2{\\ttfamily #4}
 {\\scriptsize [#3]}}
+\\newcount\\level
+\\newcommand{\\under}[3]{\\step{\\number\\level}{}{#1}{#2}{\\advance\\level1 #3}}
+\\newsavebox{\\derived}
+\\newcommand{\\derivation}[1]{\\sbox{\\derived}{$\\displaystyle #1$}%
+\\ifdim\\wd\\derived>1.5\\linewidth{\\let\\derive\\under\\let\\\\\\relax\\medskip #1\\par\\medskip}%
+\\else\\begin{center}\\ifdim\\wd\\derived>\\linewidth\\resizebox{\\linewidth}{!}{\\usebox{\\derived}}%
+\\else\\usebox{\\derived}\\fi\\end{center}\\fi}
 \\begin{document}\\sloppy
 ";
 
@@ -52,6 +55,7 @@ pub const HTML_HEAD: &str = "<!DOCTYPE html>
 body { font: 15px/1.5 ui-monospace, \"DejaVu Sans Mono\", monospace; margin: 2em; }
 section { margin-bottom: 2em; }
 details, details > div { margin-left: 1.2em; border-left: 1px solid #ddd; padding-left: .6em; }
+details > div { padding-left: 1em; }
 section > details, section > div { margin-left: 0; border-left: 0; }
 summary { cursor: pointer; margin-left: -.6em; }
 span { color: #777; font-size: 80%; }

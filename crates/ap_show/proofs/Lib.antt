@@ -1,3 +1,2 @@
 pub mod ShowLemmas
-pub mod TextLengths
 pub mod TokenCounts

@@ -1,3 +1,4 @@
 pub mod BodyLemmas
 pub mod WaitLemmas
 pub mod NameLemmas
+pub mod GivenLemmas

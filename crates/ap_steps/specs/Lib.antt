@@ -3,4 +3,7 @@ pub mod Writers
 pub mod Walks
 pub mod Waits
 pub mod Names
+pub mod Givens
+pub mod Spelling
+pub mod Places
 pub mod Proofs

@@ -1,31 +1,20 @@
 -- What is shown of a derivation of an answer: the query with its answer, and below it the steps.
-use Rattle.std.specs.Prelude.{ℕ, zero, List, [], ◌∷◌, ◌++◌, codes, Option, Some, None}
+use Rattle.std.specs.Prelude.{ℕ, List, [], ◌∷◌, ◌++◌, codes, Option, Some, None}
 use Rattle.std.specs.Fmt.{decimal}
 use Rattle.ap_defs.specs.Answers.{NominalAnswer}
 use Rattle.ap_defs.specs.Derivations.{NominalDerivation}
 use Rattle.ap_defs.specs.Goals.{NominalProgram, NominalQuery}
-use Rattle.ap_defs.specs.Lines.{NominalShown, shown_binds, shown_text, spelling_for, var_texts}
-use Rattle.ap_defs.specs.Printing.{first_names, first_vars}
+use Rattle.ap_defs.specs.Lines.{shown_binds, shown_text, var_texts}
 use Rattle.ap_defs.specs.Renaming.{local_names}
-use Rattle.ap_defs.specs.Types.{NominalLocal}
 use Rattle.ap_bundle.specs.Bundles.{NominalProved}
 use Rattle.ap_checks.specs.Checks.{query_at}
 use Rattle.ap_checks.specs.OpenEnvironments.{OpenEnvironment, open_environment}
-use Rattle.ap_steps.specs.Names.{names_in, vars_in}
+use Rattle.ap_steps.specs.Spelling.{spelling_by, spelt}
 use Rattle.ap_steps.specs.Steps.{NominalStep, Writing, pieces, sides_in, steps_below}
 
--- The names and variables of the answer with its derivation are spelled as those of an answer are: the query's free names as they are
--- spelled there, and the others with words that the text has not.
-abbrev pub shown_with : List NominalLocal → NominalAnswer → NominalDerivation → NominalShown
-shown_with locals a d = record {
-  binds = shown_binds (var_texts locals) a.binds;
-  conds = a.conds;
-  names = first_names (local_names zero locals) (names_in a d);
-  vars = first_vars [] (vars_in a d);
-}
-
-abbrev pub writing : NominalProgram → List (List ℕ) → List NominalLocal → NominalAnswer → NominalDerivation → Writing
-writing p words locals a d = record { clauses = p.clauses; words = words; by = spelling_for p locals (shown_with locals a d) }
+-- how a derivation of an answer to a query is written
+abbrev pub writing : NominalProgram → List (List ℕ) → NominalQuery → NominalAnswer → NominalDerivation → Writing
+writing p words q a d = record { clauses = p.clauses; words = words; by = spelling_by p (spelt p q a d) }
 
 -- the rule of the query with this number at a line
 abbrev pub query_rule : ℕ → ℕ → List ℕ
@@ -56,4 +45,4 @@ on_query (Some q) steps = steps q
 -- the steps of a derivation of a bundle for a program, whose predicates have these words
 abbrev pub shown_steps : NominalProgram → List (List ℕ) → NominalProved → List NominalStep
 shown_steps p words d =
-    on_query (query_at p.queries d.query) (λ q. query_steps q d.query d.answer d.derivation (writing p words q.locals d.answer d.derivation))
+    on_query (query_at p.queries d.query) (λ q. query_steps q d.query d.answer d.derivation (writing p words q d.answer d.derivation))

@@ -8,8 +8,10 @@
 #![tactic(auto)]
 
 mod bodies;
+mod givens;
 mod judgements;
 mod names;
 pub mod proved;
+mod spellings;
 mod walk;
 pub mod writers;

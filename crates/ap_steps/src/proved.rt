@@ -1,29 +1,25 @@
 //! The steps of a derivation of a bundle.
 
-ghost use Rattle.std.specs.Prelude.{◌≡◌, ◌∷◌, [], zero, ℕ, List as list, map, IfOk};
+ghost use Rattle.std.specs.Prelude.{◌≡◌, ◌∷◌, [], ℕ, List as list, map, IfOk};
 ghost use Rattle.ap_defs.specs.Answers.{answer_of};
 ghost use Rattle.ap_defs.specs.Derivations.{derivation_of};
 ghost use Rattle.ap_defs.specs.Goals.{program_of, query_of};
 ghost use Rattle.ap_defs.specs.Lines.{shown_binds, shown_text, var_texts};
-ghost use Rattle.ap_defs.specs.Printing.{first_vars, has_word};
-ghost use Rattle.ap_defs.specs.Renaming.{local_names};
+ghost use Rattle.ap_defs.specs.Printing.{has_word};
 ghost use Rattle.ap_defs.specs.Terms.{term_of};
 ghost use Rattle.ap_defs.specs.Types.{locals_of};
-ghost use Rattle.ap_answers.specs.Occurring.{more_names};
 ghost use Rattle.ap_answers.specs.Words.{knows};
 ghost use Rattle.ap_bundle.specs.Bundles.{proved_of};
-ghost use Rattle.ap_steps.specs.Names.{names_in, vars_in};
 ghost use Rattle.ap_steps.specs.Proofs.{query_rule, query_steps, root_step, shown_steps};
 ghost use Rattle.ap_steps.specs.Writers.{bare, step_of, writing_of};
 
 use crate::bodies::pieces_of;
-use crate::names::{add_all_names, add_all_vars, nodes_of};
+use crate::spellings::spelt_in;
 use crate::walk::{add_steps, place_pieces};
 use crate::writers::Writer;
 use ap_answers::answers::write_shown;
 use ap_answers::bindings::shown_bindings;
-use ap_answers::locals::free_names;
-use ap_answers::speller::speller_for;
+use ap_answers::speller::Speller;
 use ap_checker::identifiers::Identifiers;
 use ap_checker::lookups::query_at;
 use ap_checker::scope::Standing;
@@ -31,10 +27,10 @@ use ap_defs::goals::{Local, Program, Query};
 use ap_defs::lists::{List, Text};
 use ap_defs::memory::Memory;
 use ap_defs::outcomes::{Answer, Proved};
-use ap_defs::terms::{Name, Term, Var};
+use ap_defs::terms::Term;
 use ap_pages::phrases::phrase_of;
 use ap_pages::steps::{Phrase, Step};
-use indexmap::IndexSet;
+use ap_spelling::spelt::Spelt;
 use std::alloc::Global;
 use std::collections::HashSet;
 
@@ -102,33 +98,11 @@ fn steps_of_query<'a>(
     Ok(steps)
 }
 
-/// The names of a derivation with its answer: the free names of the query, and then the others.
-fn names_shown(alloc: Global, locals: &[Local], proved: &Proved) -> Result<IndexSet<Name>, Memory>
-    ensures { IfOk result (λ names. names.keys ≡ more_names (local_names zero (locals_of locals.now))
-        (names_in (answer_of proved.now.answer) (derivation_of proved.now.derivation))) }
-{
-    let nodes = nodes_of(alloc, &proved.derivation)?;
-    let mut names = free_names(alloc, locals)?;
-    add_all_names(&mut names, &proved.answer, nodes.as_slice())?;
-    Ok(names)
-}
-
-/// The variables of a derivation with its answer.
-fn vars_shown(alloc: Global, proved: &Proved) -> Result<IndexSet<Var>, Memory>
-    ensures { IfOk result (λ vars. vars.keys ≡ first_vars []
-        (vars_in (answer_of proved.now.answer) (derivation_of proved.now.derivation))) }
-{
-    let nodes = nodes_of(alloc, &proved.derivation)?;
-    let mut vars = IndexSet::new(alloc);
-    add_all_vars(&mut vars, &proved.answer, nodes.as_slice())?;
-    Ok(vars)
-}
-
 /// The steps of a derivation of a bundle, in preorder: first its query with the answer, and below that a step
 /// for each atom that was solved. None, where the program has no such query.
 ///
-/// `words` are those of the predicates, by number, and `taken` the words of the program's text, which the
-/// words that are made for names and variables leave out. `Err` is want of memory.
+/// `words` are those of the predicates, by number, and `taken` the words of the program's text: names and
+/// variables are spelled as identifiers that stand for them, or else by words that the text has not. `Err` is want of memory.
 pub fn steps_of(
     alloc: Global,
     program: &Program<Term>,
@@ -143,10 +117,21 @@ pub fn steps_of(
     let Some(query) = query_at(program, proved.query) else {
         return Ok(Vec::new(alloc));
     };
-    let locals = query.locals.items();
-    let names = names_shown(alloc, locals, proved)?;
-    let vars = vars_shown(alloc, proved)?;
-    let by = speller_for(alloc, program, taken, locals, &names, &vars)?;
+    let spelt = spelt_in(alloc, program, taken, query, proved)?;
+    let Spelt {
+        names,
+        name_words,
+        vars,
+        var_words,
+        ..
+    } = spelt;
+    let by = Speller {
+        names: &names,
+        name_texts: name_words,
+        vars: &vars,
+        var_texts: var_words,
+        constructors: program.signature.constructors.items(),
+    };
     let writer = Writer {
         alloc,
         program,

@@ -1,6 +1,6 @@
 use Rattle.std.proofs.Common.{arith}
 use Rattle.ap_bundle.specs.Bundles.{bundle_of}
-use Rattle.ap_show.proofs.TextLengths.{reading_short}
+use Rattle.ap_bundle_check.proofs.TextLemmas.{reading_short}
 use Rattle.ap_show.proofs.show.document_of_bytes.Goals as goal
 
 pub document_of_bundle-requires-clause-short : goal.document_of_bundle-requires-clause-short
