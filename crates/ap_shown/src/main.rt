@@ -9,22 +9,26 @@ use std::io::{ErrorKind, Write};
 use std::{fs, io};
 
 // Bundles that are shown as plain text alone.
-const TEXTS: [&str; 11] = [
+const TEXTS: [&str; 6] = [
     "first",
     "types",
     "evaluation",
     "system_f",
     "processes",
     "debruijn",
+];
+
+// Bundles that are shown in each format: the last ones are refused.
+const PAGES: [&str; 8] = [
+    "substitution",
     "hostile",
     "forged_fresh",
     "forged_head",
     "faulty_text",
+    "faulty_types",
+    "faulty_names",
     "unended",
 ];
-
-// Bundles that are shown in each format.
-const PAGES: [&str; 2] = ["substitution", "hostile"];
 
 // Writes what is shown of a bundle in a format, behind its status.
 fn show<R: AllocGlobal + Print>(rt: &R, format: Format, bytes: &[u8]) -> io::Result<()> {
@@ -53,6 +57,7 @@ fn main(rt: HostRuntime) -> io::Result<()> {
         show_file(&rt, Format::Text, name)?;
     }
     for name in &PAGES {
+        show_file(&rt, Format::Text, name)?;
         show_file(&rt, Format::Latex, name)?;
         show_file(&rt, Format::Html, name)?;
     }
