@@ -1,6 +1,6 @@
 use Rattle.std.proofs.Common.{◌≡◌, ◌-◌, ◌+◌, ℕ, suc, List, true, false, length, sym, ap, ◌∙◌, subst, arith}
 use Rattle.ap_defs.specs.Printing.{has_word}
-use Rattle.ap_spelling.specs.Words.{joined, number_from}
+use Rattle.ap_spelling.specs.Words.{number_from}
 use Rattle.ap_spelling.proofs.SpeltLemmas.{number_free, number_taken}
 use Rattle.ap_spelling.proofs.spelt.number_from.Goals as goal
 
