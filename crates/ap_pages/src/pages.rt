@@ -23,22 +23,22 @@ pub enum Format {
 pub const LATEX_HEAD: &str = "\\documentclass[a4paper,landscape]{article}
 \\usepackage[margin=15mm]{geometry}
 \\usepackage{iftex}
-\\ifpdftex\\usepackage[T1]{fontenc}\\usepackage{textcomp}
+\\ifpdftex\\usepackage[T1]{fontenc}\\usepackage{lmodern}\\usepackage{textcomp}
 \\else\\usepackage{fontspec}\\setmonofont{DejaVu Sans Mono}[Scale=0.85]\\fi
 \\usepackage{mathpartir}
 \\usepackage{graphicx}
 \\pagestyle{empty}
-\\newcommand{\\derive}[3]{\\inferrule*[right={\\normalfont\\scriptsize #1}]{#3\\mbox{}}{\\mbox{\\ttfamily #2}}}
+\\newcommand{\\derive}[3]{\\inferrule*[right={\\normalfont\\scriptsize\\ttfamily #1}]{#3\\mbox{}}{\\mbox{\\ttfamily #2}}}
 \\newcommand{\\step}[4]{\\par\\noindent\\hangindent=#1em\\advance\\hangindent2em\\hspace*{#1em}#2{\\ttfamily #4}
-{\\scriptsize [#3]}}
+{\\scriptsize\\ttfamily [#3]}}
 \\newcount\\level
 \\newcommand{\\under}[3]{\\step{\\number\\level}{}{#1}{#2}{\\advance\\level1 #3}}
 \\newsavebox{\\derived}
-\\newcommand{\\derivation}[1]{\\sbox{\\derived}{$\\displaystyle #1$}%
+\\newcommand{\\derivation}[1]{\\sbox{\\derived}{\\hsize4\\linewidth\\linewidth\\hsize$\\displaystyle #1$}%
 \\ifdim\\wd\\derived>1.5\\linewidth{\\let\\derive\\under\\let\\\\\\relax\\medskip #1\\par\\medskip}%
 \\else\\begin{center}\\ifdim\\wd\\derived>\\linewidth\\resizebox{\\linewidth}{!}{\\usebox{\\derived}}%
 \\else\\usebox{\\derived}\\fi\\end{center}\\fi}
-\\begin{document}\\sloppy
+\\begin{document}\\raggedright
 ";
 
 /// What stands behind the derivations of a document in LaTeX.
