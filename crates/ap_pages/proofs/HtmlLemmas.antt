@@ -1,5 +1,5 @@
 -- A text whose bound names are marked, by its first mark.
-use Rattle.std.proofs.Common.{◌≡◌, ℕ, List, [], ◌∷◌, ◌++◌, drop, take, sym, ap, ◌∙◌, append_assoc}
+use Rattle.std.proofs.Common.{◌≡◌, ℕ, List, ◌∷◌, ◌++◌, drop, take, sym, ap, ◌∙◌, append_assoc}
 use Rattle.ap_pages.specs.declared.steps.Mark.{Mark}
 use Rattle.ap_pages.specs.Html.{coloured, marked_text}
 

@@ -1,5 +1,5 @@
 -- Steps as HTML: trees that fold, and bound names in the colour of their binder.
-use Rattle.std.specs.Prelude.{ℕ, zero, suc, ◌-◌, min, nat_lt, Bool, true, false, if◌then◌else◌, ◌==◌, List, [], ◌∷◌, ◌++◌, drop, take, codes}
+use Rattle.std.specs.Prelude.{ℕ, suc, ◌-◌, min, nat_lt, Bool, false, if◌then◌else◌, ◌==◌, List, [], ◌∷◌, ◌++◌, drop, take, codes}
 use Rattle.std.specs.Fmt.{decimal}
 use Rattle.ap_pages.specs.declared.steps.Mark.{Mark}
 use Rattle.ap_pages.specs.declared.steps.Phrase.{Phrase}

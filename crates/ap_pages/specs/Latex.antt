@@ -1,5 +1,5 @@
 -- Steps as LaTeX: a tree of rules where a page holds it, and else a list.
-use Rattle.std.specs.Prelude.{ℕ, zero, suc, ◌-◌, min, nat_lt, Bool, true, false, ◌==◌, ◌&&◌, not, if◌then◌else◌, List, [], ◌∷◌, ◌++◌, length, codes}
+use Rattle.std.specs.Prelude.{ℕ, suc, ◌-◌, min, nat_lt, Bool, ◌==◌, ◌&&◌, not, if◌then◌else◌, List, [], ◌∷◌, ◌++◌, length, codes}
 use Rattle.std.specs.List.{list_all}
 use Rattle.std.specs.Fmt.{decimal}
 use Rattle.ap_pages.specs.declared.steps.Phrase.{Phrase}
@@ -48,5 +48,9 @@ items (s ∷ ss) = item s ++ items ss
 abbrev pub page : List Step → List ℕ
 page steps = codes "\\derivation{" ++ (tree 0 steps ++ codes "}\n")
 
+-- TeX measures no more than some 3000 letters beside one another: a longer tree comes as a list
+abbrev pub short_page : List Step → List ℕ
+short_page steps = if nat_lt 2800 (length (page steps)) then items steps else page steps
+
 abbrev pub steps_text : List Step → List ℕ
-steps_text steps = if fits_page steps then page steps else items steps
+steps_text steps = if fits_page steps then short_page steps else items steps

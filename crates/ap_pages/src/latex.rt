@@ -15,6 +15,9 @@ const TREE_HEIGHT: usize = 12;
 /// A tree of rules has at most so many steps.
 const TREE_STEPS: usize = 60;
 
+/// A tree of rules has at most so many bytes: TeX can't measure what is much longer.
+const TREE_BYTES: usize = 2800;
+
 /// To this height the steps of a list are indented.
 const LIST_HEIGHT: usize = 30;
 
@@ -129,14 +132,26 @@ fn write_page(out: &mut Vec<u8>, steps: &[Step]) -> Result<(), Memory>
     Ok(())
 }
 
+/// Writes steps as a tree of rules where that is short, and else as a list.
+fn write_short_page(alloc: Global, out: &mut Vec<u8>, steps: &[Step]) -> Result<(), Memory>
+    ensures { OnOk result (out.new.items ≡ out.old.items ++ spec.short_page steps.now) }
+{
+    let mut page = Vec::new(alloc);
+    write_page(&mut page, steps)?;
+    if page.len() > TREE_BYTES {
+        return write_list(alloc, out, steps);
+    }
+    out.extend_from_slice(page.as_slice())?;
+    Ok(())
+}
+
 /// Writes steps as a tree of rules where a page holds it, and else as a list.
 pub fn write_latex_steps(alloc: Global, out: &mut Vec<u8>, steps: &[Step]) -> Result<(), Memory>
     ensures { OnOk result (out.new.items ≡ out.old.items ++ spec.steps_text steps.now) }
 {
     if fits_page(steps) {
-        write_page(out, steps)?;
+        write_short_page(alloc, out, steps)
     } else {
-        write_list(alloc, out, steps)?;
+        write_list(alloc, out, steps)
     }
-    Ok(())
 }

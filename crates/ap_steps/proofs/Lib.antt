@@ -2,3 +2,4 @@ pub mod BodyLemmas
 pub mod WaitLemmas
 pub mod NameLemmas
 pub mod GivenLemmas
+pub mod TellingLemmas

@@ -1,7 +1,6 @@
 -- What the identifiers of the items of a derivation stand for: names, and variables that stand there by themselves.
 use Rattle.std.specs.Prelude.{ℕ, List, [], ◌∷◌, ◌++◌, slice_get, Option, Some, None}
 use Rattle.ap_defs.specs.declared.terms.Name.{Name}
-use Rattle.ap_defs.specs.declared.terms.Var.{Var}
 use Rattle.ap_defs.specs.Derivations as nodes
 use Rattle.ap_defs.specs.Derivations.{NominalDerivation}
 use Rattle.ap_defs.specs.Goals as goals

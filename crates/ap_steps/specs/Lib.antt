@@ -7,3 +7,4 @@ pub mod Givens
 pub mod Spelling
 pub mod Places
 pub mod Proofs
+pub mod Telling

@@ -69,7 +69,7 @@ fn add_var_given<'a>(given: &mut Vec<Given<'a>>, term: &Term, word: &'a Text) ->
 }
 
 /// Adds the names that stand for identifiers with these words.
-fn add_names_given<'a>(
+pub(crate) fn add_names_given<'a>(
     given: &mut Vec<Given<'a>>,
     names: &[Name],
     words: &[&'a Text],

@@ -7,17 +7,19 @@ ghost use Rattle.ap_answers.specs.Words.{knows};
 ghost use Rattle.ap_defs.specs.Answers.{answer_of};
 ghost use Rattle.ap_defs.specs.Derivations.{derivation_of};
 ghost use Rattle.ap_defs.specs.Goals.{program_of, query_of};
+ghost use Rattle.ap_defs.specs.Lines.{name_texts};
 ghost use Rattle.ap_defs.specs.Printing.{first_vars, has_word};
 ghost use Rattle.ap_defs.specs.Renaming.{local_names};
 ghost use Rattle.ap_defs.specs.Types.{constructor_of, locals_of};
+ghost use Rattle.ap_steps.specs.Givens.{names_given};
 ghost use Rattle.ap_steps.specs.Names.{names_in, vars_in};
 ghost use Rattle.ap_spelling.specs.Spelt.{givens_of, last_of, spelt_of};
 ghost use Rattle.ap_spelling.specs.Words.{kept};
-ghost use Rattle.ap_steps.specs.Spelling.{all_givens, bare_names, bare_vars, first_numbered, first_spelt, spelt, text_of_constructor};
+ghost use Rattle.ap_steps.specs.Spelling.{all_givens, bare_names, bare_vars, first_numbered, first_spelt, other_givens, spelt, text_of_constructor};
 
-use crate::givens::{givens_in, lent_name_texts};
+use crate::givens::{add_names_given, givens_in, lent_name_texts};
 use crate::names::{add_all_names, add_all_vars, nodes_of};
-use ap_answers::locals::{free_name_texts, free_names, variable_texts};
+use ap_answers::locals::{free_names, variable_texts};
 use ap_defs::goals::{Constructor, Local, Program, Query};
 use ap_defs::lists::Text;
 use ap_defs::memory::Memory;
@@ -79,7 +81,50 @@ fn add_bare_vars<'a>(given: &mut Vec<Given<'a>>, vars: &[Var]) -> Result<(), Mem
     Ok(())
 }
 
-/// What an answer to a query with its derivation gives.
+/// The free names of a query.
+fn own_names<'a>(alloc: Global, locals: &'a [Local]) -> Result<Vec<Given<'a>>, Memory>
+    ensures { IfOk result (λ given. givens_of given.items ≡ names_given
+        (local_names zero (locals_of locals.entry.now)) (name_texts (locals_of locals.entry.now))) }
+{
+    let names = free_names(alloc, locals)?;
+    let words = lent_name_texts(alloc, locals)?;
+    let mut given = Vec::new(alloc);
+    add_names_given(&mut given, names.as_slice(), words.as_slice())?;
+    Ok(given)
+}
+
+/// What an answer to a query with its derivation gives besides.
+fn other_givens<'a>(
+    alloc: Global,
+    program: &'a Program<Term>,
+    query: &'a Query<Term>,
+    proved: &'a Proved,
+) -> Result<Vec<Given<'a>>, Memory>
+    ensures { IfOk result (λ given. givens_of given.items ≡ other_givens (program_of program.entry.now)
+        (query_of query.entry.now) (answer_of proved.entry.now.answer)
+        (derivation_of proved.entry.now.derivation)) }
+{
+    let locals = query.locals.items();
+    let mut given = givens_in(alloc, program, locals, &proved.derivation, &query.goal)?;
+    let names = names_shown(alloc, locals, proved)?;
+    add_bare_names(&mut given, names.as_slice())?;
+    let vars = vars_shown(alloc, proved)?;
+    add_bare_vars(&mut given, vars.as_slice())?;
+    Ok(given)
+}
+
+/// Adds all that others give.
+fn add_each<'a>(given: &mut Vec<Given<'a>>, others: &[Given<'a>]) -> Result<(), Memory>
+    ensures { OnOk result (givens_of given.new.items
+        ≡ givens_of given.old.items ++ givens_of others.now) }
+{
+    for i in 0..others.len() {
+        given.push(others[i])?;
+    }
+    Ok(())
+}
+
+/// What an answer to a query with its derivation gives: the query's free names come first.
 fn givens_of_query<'a>(
     alloc: Global,
     program: &'a Program<Term>,
@@ -90,12 +135,9 @@ fn givens_of_query<'a>(
         (query_of query.entry.now) (answer_of proved.entry.now.answer)
         (derivation_of proved.entry.now.derivation)) }
 {
-    let locals = query.locals.items();
-    let mut given = givens_in(alloc, program, locals, &proved.derivation, &query.goal)?;
-    let names = names_shown(alloc, locals, proved)?;
-    add_bare_names(&mut given, names.as_slice())?;
-    let vars = vars_shown(alloc, proved)?;
-    add_bare_vars(&mut given, vars.as_slice())?;
+    let mut given = own_names(alloc, query.locals.items())?;
+    let others = other_givens(alloc, program, query, proved)?;
+    add_each(&mut given, others.as_slice())?;
     Ok(given)
 }
 
@@ -135,8 +177,6 @@ fn kept_in<'a>(
         ≡ first_numbered (program_of program.entry.now) (locals_of locals.entry.now)) }
 {
     let mut last = Numbers::new(alloc);
-    let words = lent_name_texts(alloc, locals)?;
-    keep_each(&mut last, words.as_slice())?;
     let words = variable_texts(alloc, locals)?;
     keep_each(&mut last, words.as_slice())?;
     keep_constructors(&mut last, program.signature.constructors.items())?;
@@ -145,7 +185,7 @@ fn kept_in<'a>(
     Ok(last)
 }
 
-/// The spelling of a query's free names.
+/// Nothing is spelled, and some words are left to what has them in the text.
 fn first_of<'a>(
     alloc: Global,
     program: &'a Program<Term>,
@@ -155,11 +195,9 @@ fn first_of<'a>(
         ≡ first_spelt (program_of program.entry.now) (locals_of locals.entry.now)) }
 {
     let last = kept_in(alloc, program, locals)?;
-    let names = free_names(alloc, locals)?;
-    let name_words = free_name_texts(alloc, locals)?;
     Ok(Spelt {
-        names,
-        name_words,
+        names: IndexSet::new(alloc),
+        name_words: Vec::new(alloc),
         vars: IndexSet::new(alloc),
         var_words: Vec::new(alloc),
         last,

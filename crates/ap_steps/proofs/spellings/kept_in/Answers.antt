@@ -3,7 +3,7 @@ use Rattle.std.specs.Prelude.{None}
 use mathlib.Core.Path.{fun_ext}
 use Rattle.ap_answers.specs.Locals.{lent_texts}
 use Rattle.ap_defs.specs.declared.goals.Constructor.{Constructor}
-use Rattle.ap_defs.specs.Lines.{name_texts, var_texts}
+use Rattle.ap_defs.specs.Lines.{var_texts}
 use Rattle.ap_defs.specs.Types.{constructor_of, locals_of}
 use Rattle.ap_spelling.specs.Spelt.{last_of}
 use Rattle.ap_spelling.specs.Words.{Numbered, kept, numbered_next}
@@ -15,10 +15,8 @@ returns c =
     let ls = locals_of c.args.locals.now in
     let none : Numbered = λ w. None in
     let none_yet : last_of c.new-last.result ≡ none = fun_ext (λ w. c.new-last.ensures w) in
-    let names : last_of c.keep_each.new.last ≡ kept (name_texts ls) none =
+    let vars : last_of c.keep_each.new.last ≡ kept (var_texts ls) none =
     c.in_ok-keep_each.ensures ∙ ap₂ kept (ap lent_texts c.as_slice.ensures.value ∙ c.in_ok-words.ensures) none_yet in
-    let vars : last_of c.keep_each-2.new.last ≡ kept (var_texts ls) (kept (name_texts ls) none) =
-    c.in_ok-keep_each-2.ensures ∙ ap₂ kept (ap lent_texts c.as_slice-2.ensures.value ∙ c.in_ok-words-2.ensures) names in
     c.in_ok-set_last.ensures
     ∙ ap (numbered_next (95 ∷ []) 0)
     (c.in_ok-keep_constructors.ensures
