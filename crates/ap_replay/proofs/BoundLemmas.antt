@@ -6,14 +6,14 @@ use Rattle.std.specs.Prelude.{◌^◌, min}
 use Rattle.std.specs.Int.{trailing_zeros, w64}
 use Rattle.ap_replay.specs.ProblemTrees.{bound_after}
 
-shifted : (d : ℕ) → d ≤ 46 → 32 * 2 ^ d % 2 ^ 64 ≡ 32 * 2 ^ d
+shifted : (d : ℕ) → d ≤ 45 → 32 * 2 ^ d % 2 ^ 64 ≡ 32 * 2 ^ d
 shifted d h =
-    let most : 2 ^ d ≤ 2 ^ 46 = pow_mono h in
+    let most : 2 ^ d ≤ 2 ^ 45 = pow_mono h in
     mod-eq_of_lt (omega (arith, most))
 
-pub bound_of_way : (n d e : ℕ) → n ≢ 0 → d ≡ min (trailing_zeros w64 n) 40 → e ≡ min d 6 → 32 * 2 ^ (d + e) % 2 ^ 64 ≡ bound_after n
+pub bound_of_way : (n d e : ℕ) → n ≢ 0 → d ≡ min (trailing_zeros w64 n) 40 → e ≡ min d 5 → 32 * 2 ^ (d + e) % 2 ^ 64 ≡ bound_after n
 bound_of_way zero d e h p q = absurd (h refl)
 bound_of_way (suc n) d e h p q =
     let few : d ≤ 40 = subst (λ (x : ℕ). x ≤ 40) (sym p) (min-le_right _ _) in
-    let more : e ≤ 6 = subst (λ (x : ℕ). x ≤ 6) (sym q) (min-le_right _ _) in
-    shifted (d + e) (omega (arith, few, more)) ∙ ap₂ (λ (x y : ℕ). 32 * 2 ^ (x + y)) p (q ∙ ap (λ (x : ℕ). min x 6) p)
+    let more : e ≤ 5 = subst (λ (x : ℕ). x ≤ 5) (sym q) (min-le_right _ _) in
+    shifted (d + e) (omega (arith, few, more)) ∙ ap₂ (λ (x y : ℕ). 32 * 2 ^ (x + y)) p (q ∙ ap (λ (x : ℕ). min x 5) p)

@@ -40,11 +40,11 @@ choices_below_of program d (Some q) path = choices_at program d q path
 abbrev pub choices_below : Problem → List ℕ → ℕ
 choices_below p path = choices_below_of (clauses_in p) p.depth (query_in p) path
 
--- So many choices may be made by one worker alone after n on the way: 32, and four times as many with each two that divides n, up to
--- 64, and then twice as many. None are made at the root.
+-- So many choices may be made by one worker alone after n on the way: 32, and with each two that divides n four times as many, from the
+-- sixth on twice as many. None are made at the root.
 abbrev pub bound_after : ℕ → ℕ
 bound_after zero = 0
-bound_after (suc n) = let twos = min (trailing_zeros w64 (suc n)) 40 in 32 * 2 ^ (twos + min twos 6)
+bound_after (suc n) = let twos = min (trailing_zeros w64 (suc n)) 40 in 32 * 2 ^ (twos + min twos 5)
 
 abbrev pub bound_at : List ℕ → ℕ
 bound_at path = bound_after (length path)

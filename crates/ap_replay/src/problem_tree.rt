@@ -42,7 +42,7 @@ fn bound_of(path: &Path) -> u64
         return 0;
     }
     let twos = way.trailing_zeros().min(40);
-    32 << (twos + twos.min(6))
+    32 << (twos + twos.min(5))
 }
 
 /// What a visit answers: the outputs, where few choices are to be made, and else the kids.
