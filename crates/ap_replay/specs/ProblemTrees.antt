@@ -1,5 +1,5 @@
 -- The tree of paths of a problem.
-use Rattle.std.specs.Prelude.{◌+◌, ◌-◌, ◌*◌, ◌^◌, ℕ, Bool, min, nat_lt, if◌then◌else◌, List, [], length, Option, Some, None, Vec, slice_get}
+use Rattle.std.specs.Prelude.{◌+◌, ◌-◌, ◌*◌, ◌^◌, ℕ, zero, suc, Bool, min, nat_lt, if◌then◌else◌, List, [], length, Option, Some, None, Vec, slice_get}
 use Rattle.std.specs.Int.{trailing_zeros, w64}
 use Rattle.std.specs.List.{range_with_len}
 use Rattle.ap_defs.specs.Answers.{NominalOut, outs_at}
@@ -40,11 +40,14 @@ choices_below_of program d (Some q) path = choices_at program d q path
 abbrev pub choices_below : Problem → List ℕ → ℕ
 choices_below p path = choices_below_of (clauses_in p) p.depth (query_in p) path
 
--- So many choices may be made by one worker alone: 16 for each of the first 16 on the way, one more for each, so that making the way
--- again costs little beside them; and twice as many with each two that divides the number of those on the way, so that each bound comes
--- after as many smaller ones as make it cheap (Luby, Sinclair and Zuckerman, 1993). None are made at the root.
+-- So many choices may be made by one worker alone after n on the way: 32, and with each two that divides n four times as many, from the
+-- sixth on twice as many. None are made at the root.
+abbrev pub bound_after : ℕ → ℕ
+bound_after zero = 0
+bound_after (suc n) = let twos = min (trailing_zeros w64 (suc n)) 40 in 32 * 2 ^ (twos + min twos 5)
+
 abbrev pub bound_at : List ℕ → ℕ
-bound_at path = (16 * min (length path) 16 + min (length path) (2 ^ 20)) * 2 ^ min (trailing_zeros w64 (length path)) 40
+bound_at path = bound_after (length path)
 
 -- a choice has each of its ways as a kid
 abbrev pub shared_out : Option ℕ → List NominalOut → Plan

@@ -38,9 +38,11 @@ fn bound_of(path: &Path) -> u64
     ensures { result ≡ bound_at path.now }
 {
     let way = path.choices().len();
-    let doublings = way.trailing_zeros().min(40);
-    let once = 16 * way.min(16) as u64 + way.min(1 << 20) as u64;
-    once << doublings
+    if way == 0 {
+        return 0;
+    }
+    let twos = way.trailing_zeros().min(40);
+    32 << (twos + twos.min(5))
 }
 
 /// What a visit answers: the outputs, where few choices are to be made, and else the kids.

@@ -52,20 +52,20 @@ fn is_split(visit: &Visit) -> bool {
 
 #[test]
 fn few_choices_are_searched_whole(rt: HostRuntime) {
-    // 255 choices, where 272 may be made
-    let short = visit_after(rt.alloc(), &[1; 4], 12);
-    assert!(rt; matches!(&short, Ok(visit) if is_searched(visit, 256)));
-    // 4,095 choices, where 4,352 may be made
-    let long = visit_after(rt.alloc(), &[1; 16], 28);
-    assert!(rt; matches!(&long, Ok(visit) if is_searched(visit, 4_096)));
+    // 31 choices, where 32 may be made
+    let odd = visit_after(rt.alloc(), &[1; 7], 12);
+    assert!(rt; matches!(&odd, Ok(visit) if is_searched(visit, 32)));
+    // 511 choices, where 512 may be made
+    let even = visit_after(rt.alloc(), &[1; 12], 21);
+    assert!(rt; matches!(&even, Ok(visit) if is_searched(visit, 512)));
 }
 
 #[test]
 fn many_choices_are_split(rt: HostRuntime) {
-    let short = visit_after(rt.alloc(), &[1; 4], 13);
-    assert!(rt; matches!(&short, Ok(visit) if is_split(visit)));
-    let long = visit_after(rt.alloc(), &[1; 16], 29);
-    assert!(rt; matches!(&long, Ok(visit) if is_split(visit)));
+    let odd = visit_after(rt.alloc(), &[1; 7], 13);
+    assert!(rt; matches!(&odd, Ok(visit) if is_split(visit)));
+    let even = visit_after(rt.alloc(), &[1; 12], 22);
+    assert!(rt; matches!(&even, Ok(visit) if is_split(visit)));
 }
 
 #[test]
