@@ -6,3 +6,4 @@ pub mod PickedLemmas
 pub mod SettlingLemmas
 pub mod StatedLemmas
 pub mod CounterLemmas
+pub mod HeldLemmas

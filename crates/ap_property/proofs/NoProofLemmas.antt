@@ -69,7 +69,7 @@ valid_front p ks ls (new c d) (goals.new a g) e v = (v.0, v.1, valid_front p ks 
 valid_front p ks ls _ _ e v = absurd v
 
 -- An environment in which each name stands for itself.
-own_name : (as' : List Name) (b : Name) → name_for as' as' b ≡ b
+pub own_name : (as' : List Name) (b : Name) → name_for as' as' b ≡ b
 own_name [] b = refl
 own_name (a ∷ as') b =
     elim (name_eq a b) as (λ v. name_eq a b ≡ v → (if v then a else name_for as' as' b) ≡ b) [
@@ -78,7 +78,7 @@ own_name (a ∷ as') b =
     ] refl
 
 module _ (e : Environment) (own : (b : Name) → e.names b ≡ b) where
-  instance_ground : (g : GroundTerm) → instance e (embedded g) ≡ g
+  pub instance_ground : (g : GroundTerm) → instance e (embedded g) ≡ g
   instance_ground terms.unit = refl
   instance_ground (terms.name a) = ap terms.name (own a)
   instance_ground (terms.pair t u) = ap₂ terms.pair (instance_ground t) (instance_ground u)

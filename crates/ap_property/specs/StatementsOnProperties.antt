@@ -51,3 +51,10 @@ CountersHaveNoProof = (p : NominalProgram) → KeepsRestriction p → (q : Nomin
     → EachAnswer (λ a. query_outs p.clauses depth (put_in q (stated p.signature.constructors q.locals a)) ≡ []
     → (height : ℕ) → IsDerivable p (conclusion_query q) (stated p.signature.constructors q.locals a).terms height → ⊥)
     (query_outs p.clauses depth (hypothesis_query q))
+
+-- for each answer that it has there, the conclusion is derivable for the stated instance, no higher than the depth
+abbrev pub AnsweredConclusionsAreDerivable : Type 0
+AnsweredConclusionsAreDerivable = (p : NominalProgram) → IsTypedProgram p → (q : NominalQuery) → IsTypedQuery term_form p.signature q → (depth : ℕ)
+    → EachAnswer (λ a. EachAnswer (λ b. IsTypedDerivable p (conclusion_query q) depth (stated p.signature.constructors q.locals a).terms)
+    (query_outs p.clauses depth (put_in q (stated p.signature.constructors q.locals a))))
+    (query_outs p.clauses depth (hypothesis_query q))

@@ -1,6 +1,6 @@
 //! Laws of properties.
 
-ghost use Rattle.ap_property.specs.StatementsOnProperties.{AnswersHaveTypes, ConclusionsAreTyped, CountersHaveNoProof, PartsAreTyped, StatedInstancesAreDerivable, StatedInstancesFit};
+ghost use Rattle.ap_property.specs.StatementsOnProperties.{AnsweredConclusionsAreDerivable, AnswersHaveTypes, ConclusionsAreTyped, CountersHaveNoProof, PartsAreTyped, StatedInstancesAreDerivable, StatedInstancesFit};
 
 /// The hypothesis and the conclusion of a typed query are typed, and so is the conclusion with the stated
 /// instance of an answer of the hypothesis put in.
@@ -22,4 +22,10 @@ pub fn stated_instances_are_derivable()
 /// hypothesis put in, it has no ground proof under that instance, of any height.
 pub fn counters_have_no_proof()
     ensures { CountersHaveNoProof }
+{}
+
+/// For each answer that the conclusion has with the stated instance of an answer of the hypothesis put in, it is
+/// derivable for that instance, no higher than the depth.
+pub fn answered_conclusions_are_derivable()
+    ensures { AnsweredConclusionsAreDerivable }
 {}
