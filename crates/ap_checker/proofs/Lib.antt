@@ -16,5 +16,6 @@ pub mod WalkLemmas
 pub mod StackLemmas
 pub mod IndexLemmas
 pub mod ComparisonLemmas
+pub mod HeadLemmas
 pub mod OutsideLemmas
 pub mod ImageLemmas

@@ -1,27 +1,26 @@
 -- Terms that are yet to be tested: one for which a name is to be fresh, and two that are to be equal.
 use Rattle.std.specs.Prelude.{ℕ, Bool, List}
-use denote.Ref.{Bor}
 use Rattle.ap_defs.specs.declared.terms.Name.{Name}
 use Rattle.ap_defs.specs.declared.terms.Swap.{Swap}
-use Rattle.ap_defs.specs.declared.terms.Term.{Term}
 use Rattle.ap_defs.specs.Freshness.{Conds, alpha_under, fresh_under}
-use Rattle.ap_defs.specs.Terms.{term_of}
 use Rattle.ap_defs.specs.Unification.{size}
 use Rattle.ap_checker.specs.declared.equality.Compared.{Compared}
+use Rattle.ap_checker.specs.declared.placed.Placed.{Placed}
 use Rattle.ap_checker.specs.Binders.{within_left, within_right}
+use Rattle.ap_checker.specs.Placed.{placed_term}
 
-abbrev pub is_fresh_for : Conds → Name → Bor Term → Bool
-is_fresh_for ds a t = fresh_under ds a (term_of t.now)
+abbrev pub is_fresh_for : Conds → Name → Placed → Bool
+is_fresh_for ds a t = fresh_under ds a (placed_term t)
 
-abbrev pub size_at : Bor Term → ℕ
-size_at t = size (term_of t.now)
+abbrev pub size_at : Placed → ℕ
+size_at t = size (placed_term t)
 
 abbrev pub mark_of : Compared → ℕ
 mark_of c = c.mark
 
 abbrev pub size_of : Compared → ℕ
-size_of c = size (term_of c.left.now)
+size_of c = size (placed_term c.left)
 
 -- the first equals the second, each within its binders
 abbrev pub are_alike : Conds → List Swap → Compared → Bool
-are_alike ds ss c = alpha_under ds (within_left ss (term_of c.left.now)) (within_right ss (term_of c.right.now))
+are_alike ds ss c = alpha_under ds (within_left ss (placed_term c.left)) (within_right ss (placed_term c.right))

@@ -2,7 +2,7 @@
 //!
 //! The binders that were passed are kept in pairs beside the terms, so no copy of a body is made: a name means
 //! what another does where both are bound by one pair, or neither is bound and they are one. What is left to
-//! compare stands on a stack, so no term is too deep.
+//! compare stands on a stack, so no term is too deep, and of a term at a place no copy is made either.
 
 ghost use Rattle.std.specs.Prelude.{◌≡◌, ◌++◌, [], ◌∷◌, length, reverse, IfOk, OnOk};
 ghost use Rattle.ap_defs.specs.Freshness.{Conds, alpha_under};
@@ -10,20 +10,22 @@ ghost use Rattle.ap_defs.specs.Terms.{abs, susp, term_of};
 ghost use Rattle.ap_checker.specs.declared.equality.Compared.{Compared};
 ghost use Rattle.ap_checker.specs.Binders.{AreBinders, within_left, within_right};
 ghost use Rattle.ap_checker.specs.Comparisons.{are_alike, mark_of, size_of};
+ghost use Rattle.ap_checker.specs.Placed.{placed_term};
 ghost use Rattle.ap_checker.specs.Stacks.{AreWithin, IsTestedThere};
 
 use crate::binders::Binders;
 use crate::index::IndexedAnswer;
+use crate::placed::{Head, Placed, head_at};
 use crate::suspensions::are_all_settled;
 use ap_defs::memory::Memory;
 use ap_defs::terms::{Name, Swap, Term, Var};
 use std::alloc::Global;
 
 /// Two terms that are yet to be compared, and how many of the pairs of binders stand round them.
-#[derive(Clone, Copy)]
+#[derive(Drop)]
 pub(crate) struct Compared<'a> {
-    pub left: &'a Term,
-    pub right: &'a Term,
+    pub left: Placed<'a>,
+    pub right: Placed<'a>,
     pub mark: usize,
 }
 
@@ -36,7 +38,7 @@ pub(crate) struct Comparison<'a> {
 
 impl<'a> Comparison<'a> {
     /// The two terms come next, within all binders.
-    fn put(&mut self, left: &'a Term, right: &'a Term) -> Result<(), Memory>
+    fn put(&mut self, left: Placed<'a>, right: Placed<'a>) -> Result<(), Memory>
         ensures binders { self.new.binders ≡ self.old.binders }
         ensures pending { OnOk result (self.new.pending.items ≡ self.old.pending.items
             ++ (record {
@@ -56,14 +58,14 @@ impl<'a> Comparison<'a> {
 fn compare_bodies<'a>(
     walk: &mut Comparison<'a>,
     binders: (Name, Name),
-    left: &'a Term,
-    right: &'a Term,
+    left: Placed<'a>,
+    right: Placed<'a>,
 ) -> Result<bool, Memory>
     requires within { AreWithin mark_of (length walk.old.binders.pairs.items) (reverse walk.old.pending.items) }
     requires found { AreBinders walk.old.binders }
     ensures tested { IfOk result (λ yes. (ds : Conds) (c : Compared) →
-        term_of c.left.now ≡ abs binders.0 (term_of left.now) →
-        term_of c.right.now ≡ abs binders.1 (term_of right.now) →
+        placed_term c.left ≡ abs binders.0 (placed_term left.entry) →
+        placed_term c.right ≡ abs binders.1 (placed_term right.entry) →
         IsTestedThere mark_of (are_alike ds) size_of c
         walk.old.binders.pairs.items walk.old.pending.items
         walk.new.binders.pairs.items walk.new.pending.items yes) }
@@ -123,37 +125,39 @@ fn compare<'a>(
         walk.new.binders.pairs.items walk.new.pending.items yes) }
     ensures found { OnOk result (AreBinders walk.new.binders) }
 {
-    match (at.left, at.right) {
-        (Term::Unit, Term::Unit) => Ok(true),
-        (Term::Name(a), Term::Name(b)) => Ok(walk.binders.mean_same(*a, *b)),
-        (Term::Susp(p, x), Term::Susp(q, y)) => {
-            are_suspended_alike(alloc, answer, &walk.binders, p.items(), *x, q.items(), *y)
+    let left = head_at(alloc, &at.left)?;
+    let right = head_at(alloc, &at.right)?;
+    match (left, right) {
+        (Head::Unit, Head::Unit) => Ok(true),
+        (Head::Name(a), Head::Name(b)) => Ok(walk.binders.mean_same(a, b)),
+        (Head::Susp(p, x), Head::Susp(q, y)) => {
+            are_suspended_alike(alloc, answer, &walk.binders, &p, x, &q, y)
         }
-        (Term::Pair(t, u), Term::Pair(v, w)) => {
+        (Head::Pair(t, u), Head::Pair(v, w)) => {
             walk.put(u, w)?;
             walk.put(t, v)?;
             Ok(true)
         }
-        (Term::App(f, t), Term::App(g, u)) => {
-            if *f != *g {
+        (Head::App(f, t), Head::App(g, u)) => {
+            if f != g {
                 return Ok(false);
             }
             walk.put(t, u)?;
             Ok(true)
         }
-        (Term::Abs(a, t), Term::Abs(b, u)) => compare_bodies(walk, (*a, *b), t, u),
+        (Head::Abs(a, t), Head::Abs(b, u)) => compare_bodies(walk, (a, b), t, u),
         _ => Ok(false),
     }
 }
 
-/// Whether two terms are equal under the answer's conditions. `Err` is want of memory.
-pub fn are_equal_under(
+/// Whether two terms at places are equal under the answer's conditions.
+pub(crate) fn are_equal_at(
     alloc: Global,
     answer: &IndexedAnswer<'_>,
-    t: &Term,
-    u: &Term,
+    t: Placed<'_>,
+    u: Placed<'_>,
 ) -> Result<bool, Memory>
-    ensures { IfOk result (λ yes. yes ≡ alpha_under answer.now.conds (term_of t.now) (term_of u.now)) }
+    ensures { IfOk result (λ yes. yes ≡ alpha_under answer.now.conds (placed_term t.entry) (placed_term u.entry)) }
 {
     let mut walk = Comparison {
         binders: Binders::new(alloc),
@@ -167,4 +171,16 @@ pub fn are_equal_under(
         }
     }
     Ok(true)
+}
+
+/// Whether two terms are equal under the answer's conditions. `Err` is want of memory.
+pub fn are_equal_under(
+    alloc: Global,
+    answer: &IndexedAnswer<'_>,
+    t: &Term,
+    u: &Term,
+) -> Result<bool, Memory>
+    ensures { IfOk result (λ yes. yes ≡ alpha_under answer.now.conds (term_of t.now) (term_of u.now)) }
+{
+    are_equal_at(alloc, answer, Placed::Whole(t), Placed::Whole(u))
 }

@@ -5,9 +5,11 @@ ghost use Rattle.ap_defs.specs.Freshness.{fresh_under, has_cond};
 ghost use Rattle.ap_defs.specs.Permutations.{act_name, inverse};
 ghost use Rattle.ap_defs.specs.Terms.{term_of};
 ghost use Rattle.ap_checker.specs.Comparisons.{is_fresh_for, size_at};
+ghost use Rattle.ap_checker.specs.Placed.{placed_term};
 ghost use Rattle.ap_checker.specs.Stacks.{IsTested};
 
 use crate::index::IndexedAnswer;
+use crate::placed::{Head, Placed, head_at};
 use crate::swappings::{is_same, preimage};
 use ap_defs::memory::Memory;
 use ap_defs::terms::{Cond, Name, Swap, Term, Var};
@@ -25,29 +27,30 @@ fn is_fresh_for_var(answer: &IndexedAnswer<'_>, a: Name, swaps: &[Swap], var: Va
 /// Looks at the head of a term for which the name is to be fresh: its parts wait to be looked at.
 #[tactic(auto, using(crate::proofs::StackLemmas::replaced_none, crate::proofs::StackLemmas::replaced_one, crate::proofs::StackLemmas::replaced_two))]
 fn look<'a>(
+    alloc: Global,
     answer: &IndexedAnswer<'_>,
     a: Name,
-    pending: &mut Vec<&'a Term>,
-    t: &'a Term,
+    pending: &mut Vec<Placed<'a>>,
+    t: Placed<'a>,
 ) -> Result<bool, Memory>
     ensures { IfOk result (λ yes. IsTested (is_fresh_for answer.now.conds a) size_at t.entry
         pending.old.items pending.new.items yes) }
 {
-    match t {
-        Term::Unit => Ok(true),
-        Term::Name(b) => Ok(!is_same(&a, b)),
-        Term::Susp(swaps, x) => Ok(is_fresh_for_var(answer, a, swaps.items(), *x)),
-        Term::Pair(left, right) => {
+    match head_at(alloc, &t)? {
+        Head::Unit => Ok(true),
+        Head::Name(b) => Ok(!is_same(&a, &b)),
+        Head::Susp(swaps, x) => Ok(is_fresh_for_var(answer, a, &swaps, x)),
+        Head::Pair(left, right) => {
             pending.push(right)?;
             pending.push(left)?;
             Ok(true)
         }
-        Term::App(_, argument) => {
+        Head::App(_, argument) => {
             pending.push(argument)?;
             Ok(true)
         }
-        Term::Abs(b, body) => {
-            if is_same(&a, b) {
+        Head::Abs(b, body) => {
+            if is_same(&a, &b) {
                 return Ok(true);
             }
             pending.push(body)?;
@@ -56,8 +59,27 @@ fn look<'a>(
     }
 }
 
-/// Whether the name is fresh for the term under the answer's conditions. The parts of the term that are
-/// left stand on a stack, so none is too deep.
+/// Whether the name is fresh for the term at a place under the answer's conditions. The parts of the term
+/// that are left stand on a stack, so none is too deep.
+pub(crate) fn is_fresh_at(
+    alloc: Global,
+    answer: &IndexedAnswer<'_>,
+    a: Name,
+    t: Placed<'_>,
+) -> Result<bool, Memory>
+    ensures { IfOk result (λ yes. yes ≡ fresh_under answer.now.conds a (placed_term t.entry)) }
+{
+    let mut pending = Vec::new(alloc);
+    pending.push(t)?;
+    while let Some(next) = pending.pop() {
+        if !look(alloc, answer, a, &mut pending, next)? {
+            return Ok(false);
+        }
+    }
+    Ok(true)
+}
+
+/// Whether the name is fresh for the term under the answer's conditions. `Err` is want of memory.
 pub fn is_fresh_under(
     alloc: Global,
     answer: &IndexedAnswer<'_>,
@@ -66,12 +88,5 @@ pub fn is_fresh_under(
 ) -> Result<bool, Memory>
     ensures { IfOk result (λ yes. yes ≡ fresh_under answer.now.conds a (term_of t.now)) }
 {
-    let mut pending = Vec::new(alloc);
-    pending.push(t)?;
-    while let Some(next) = pending.pop() {
-        if !look(answer, a, &mut pending, next)? {
-            return Ok(false);
-        }
-    }
-    Ok(true)
+    is_fresh_at(alloc, answer, a, Placed::Whole(t))
 }

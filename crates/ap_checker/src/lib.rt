@@ -22,6 +22,7 @@ pub mod lookups;
 mod new_names;
 mod nodes;
 mod outside;
+mod placed;
 pub mod rules;
 pub mod scope;
 mod suspensions;

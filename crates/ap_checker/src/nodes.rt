@@ -1,14 +1,15 @@
 //! The rules of a node, each as a test.
 
-ghost use Rattle.std.specs.Prelude.{◌≡◌, map, IfOk};
-ghost use Rattle.ap_defs.specs.Terms.{term_of};
+ghost use Rattle.std.specs.Prelude.{◌≡◌, IfOk};
 ghost use Rattle.ap_checks.specs.Checks.{are_different, equal_each, is_fresh};
+ghost use Rattle.ap_checker.specs.Placed.{placed_term, placed_terms};
 
-use crate::equality::are_equal_under;
-use crate::freshness::is_fresh_under;
+use crate::equality::are_equal_at;
+use crate::freshness::is_fresh_at;
 use crate::index::IndexedAnswer;
+use crate::placed::{Head, Placed, PlacedTerms, head_at};
 use ap_defs::memory::Memory;
-use ap_defs::terms::{Name, Term};
+use ap_defs::terms::Name;
 use std::alloc::Global;
 use std::collections::BTreeSet;
 
@@ -30,17 +31,19 @@ pub(crate) fn all_differ(alloc: Global, names: &[Name]) -> Result<bool, Memory>
 pub(crate) fn all_equal(
     alloc: Global,
     answer: &IndexedAnswer<'_>,
-    terms: &[Term],
-    others: &[Term],
+    left: PlacedTerms<'_>,
+    right: PlacedTerms<'_>,
 ) -> Result<bool, Memory>
     ensures { IfOk result (λ yes. yes ≡
-        equal_each answer.now.conds (map term_of terms.now) (map term_of others.now)) }
+        equal_each answer.now.conds (placed_terms left.entry) (placed_terms right.entry)) }
 {
-    if terms.len() != others.len() {
+    if left.terms.len() != right.terms.len() {
         return Ok(false);
     }
-    for i in 0..terms.len() {
-        if !are_equal_under(alloc, answer, &terms[i], &others[i])? {
+    for i in 0..left.terms.len() {
+        let t = Placed::Within(left.scope, &left.terms[i]);
+        let u = Placed::Within(right.scope, &right.terms[i]);
+        if !are_equal_at(alloc, answer, t, u)? {
             return Ok(false);
         }
     }
@@ -51,14 +54,14 @@ pub(crate) fn all_equal(
 pub(crate) fn is_name_fresh(
     alloc: Global,
     answer: &IndexedAnswer<'_>,
-    left: &Term,
-    right: &Term,
+    left: Placed<'_>,
+    right: Placed<'_>,
 ) -> Result<bool, Memory>
     ensures { IfOk result (λ yes. yes ≡
-        is_fresh answer.now.conds (term_of left.now) (term_of right.now)) }
+        is_fresh answer.now.conds (placed_term left.entry) (placed_term right.entry)) }
 {
-    match left {
-        Term::Name(a) => is_fresh_under(alloc, answer, *a, right),
+    match head_at(alloc, &left)? {
+        Head::Name(a) => is_fresh_at(alloc, answer, a, right),
         _ => Ok(false),
     }
 }

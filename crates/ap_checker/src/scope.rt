@@ -1,17 +1,15 @@
 //! What stands for the identifiers of an item at a place in its goal, and terms with it put in.
 
 ghost use Rattle.std.specs.Prelude.{◌≡◌, map, IfOk, MatchOption, None, Some};
-ghost use Rattle.ap_defs.specs.Terms.{susp, term_of, unit};
-ghost use Rattle.ap_defs.specs.Unification.{size};
+ghost use Rattle.ap_defs.specs.Terms.{term_of, unit};
 ghost use Rattle.ap_checks.specs.OpenEnvironments.{put_in, swap_in};
-ghost use Rattle.ap_checker.specs.Outsides.{IsNext};
 ghost use Rattle.ap_checker.specs.Scopes.{environment_of, item_term, name_stood, term_brought};
 
 use crate::identifiers::Identifiers;
-use crate::outside::{Next, Outside};
-use crate::swappings::{is_same, moved};
+use crate::outside::copied;
+use crate::placed::{Placed, Scope};
+use crate::swappings::is_same;
 use ap_defs::memory::Memory;
-use ap_defs::spines::TermLayer;
 use ap_defs::terms::{Name, Swap, Term, Var};
 use std::alloc::Global;
 
@@ -105,7 +103,11 @@ fn put_swap(scope: &[Standing<'_>], s: &Swap) -> Swap
 }
 
 /// The swappings with the names for their names.
-fn put_swaps(alloc: Global, scope: &[Standing<'_>], swaps: &[Swap]) -> Result<Vec<Swap>, Memory>
+pub(crate) fn put_swaps(
+    alloc: Global,
+    scope: &[Standing<'_>],
+    swaps: &[Swap],
+) -> Result<Vec<Swap>, Memory>
     ensures { IfOk result (λ v. v.items ≡ map (swap_in (environment_of scope.now)) swaps.now) }
 {
     let mut all = Vec::new(alloc);
@@ -115,68 +117,12 @@ fn put_swaps(alloc: Global, scope: &[Standing<'_>], swaps: &[Swap]) -> Result<Ve
     Ok(all)
 }
 
-/// The term for a suspended variable, with the swappings carried out.
-fn put_suspension(
-    alloc: Global,
-    scope: &[Standing<'_>],
-    swaps: &[Swap],
-    x: Var,
-) -> Result<Term, Memory>
-    ensures { IfOk result (λ u. term_of u ≡ put_in (environment_of scope.now) (susp swaps.now x)) }
-{
-    match term_in(scope, x) {
-        None => Ok(Term::Unit),
-        Some(t) => {
-            let swaps = put_swaps(alloc, scope, swaps)?;
-            moved(alloc, &swaps, t)
-        }
-    }
-}
-
-/// What comes next, where a part of a term is to be made with its names and variables replaced.
-fn put_part<'a>(
-    alloc: Global,
-    scope: &[Standing<'_>],
-    outside: &mut Outside<'a>,
-    t: &'a Term,
-) -> Result<Next<'a>, Memory>
-    ensures { IfOk result (λ next. IsNext (put_in (environment_of scope.now)) (size (term_of t.now)) outside.old
-        (put_in (environment_of scope.now) (term_of t.now)) outside.new next) }
-{
-    match t {
-        Term::Unit => outside.close(alloc, Term::Unit),
-        Term::Name(a) => outside.close(alloc, Term::Name(name_in(scope, *a))),
-        Term::Susp(swaps, x) => {
-            let part = put_suspension(alloc, scope, swaps.items(), *x)?;
-            outside.close(alloc, part)
-        }
-        Term::Pair(left, right) => {
-            outside.halve(alloc, right)?;
-            Ok(Next::Part(left))
-        }
-        Term::App(f, argument) => {
-            outside.wrap(TermLayer::App(*f))?;
-            Ok(Next::Part(argument))
-        }
-        Term::Abs(a, body) => {
-            outside.wrap(TermLayer::Abs(name_in(scope, *a)))?;
-            Ok(Next::Part(body))
-        }
-    }
-}
-
 /// The term with its names and variables replaced at once.
 pub fn put(alloc: Global, scope: &[Standing<'_>], t: &Term) -> Result<Term, Memory>
     ensures { IfOk result (λ u. term_of u ≡ put_in (environment_of scope.now) (term_of t.now)) }
 {
-    let mut outside = Outside::new(alloc);
-    let mut rest = t;
-    'parts: loop {
-        match put_part(alloc, scope, &mut outside, rest)? {
-            Next::Part(part) => rest = part,
-            Next::Whole(made) => return Ok(made),
-        }
-    }
+    let scope = Scope { standing: scope };
+    copied(alloc, Placed::Within(scope, t))
 }
 
 /// The terms with their names and variables replaced at once.

@@ -1,17 +1,9 @@
 //! Lists of swappings, of which the first is outermost: the last one acts first.
 
-ghost use Rattle.std.specs.Prelude.{◌≡◌, IfOk};
+ghost use Rattle.std.specs.Prelude.{◌≡◌};
 ghost use Rattle.ap_defs.specs.Permutations.{act_name, inverse, name_eq, swap_name};
-ghost use Rattle.ap_defs.specs.Terms.{act_term, susp, term_of};
-ghost use Rattle.ap_defs.specs.Unification.{size};
-ghost use Rattle.ap_checker.specs.Outsides.{IsNext};
 
-use crate::outside::{Next, Outside};
-use ap_defs::lists::List;
-use ap_defs::memory::Memory;
-use ap_defs::spines::TermLayer;
-use ap_defs::terms::{Name, Swap, Term, Var};
-use std::alloc::Global;
+use ap_defs::terms::{Name, Swap};
 
 /// Whether two names are one.
 #[tactic(auto, unfolding(ap_defs::specs::Permutations::name_eq))]
@@ -66,60 +58,4 @@ pub fn preimage(swaps: &[Swap], a: Name) -> Name
         moved = swapped(swap, moved);
     }
     moved
-}
-
-/// A suspension on which swappings act: they wait in front of its own.
-fn moved_suspension(alloc: Global, swaps: &[Swap], more: &[Swap], x: Var) -> Result<Term, Memory>
-    ensures { IfOk result (λ u. term_of u ≡ act_term swaps.now (susp more.now x)) }
-{
-    let mut all = swaps.to_vec(alloc)?;
-    all.extend_from_slice(more)?;
-    Ok(Term::Susp(List::of(all), x))
-}
-
-/// What comes next, where a part of a term on which swappings act is to be made.
-fn move_part<'a>(
-    alloc: Global,
-    swaps: &[Swap],
-    outside: &mut Outside<'a>,
-    t: &'a Term,
-) -> Result<Next<'a>, Memory>
-    ensures { IfOk result (λ next. IsNext (act_term swaps.now) (size (term_of t.now)) outside.old
-        (act_term swaps.now (term_of t.now)) outside.new next) }
-{
-    match t {
-        Term::Unit => outside.close(alloc, Term::Unit),
-        Term::Name(a) => outside.close(alloc, Term::Name(image(swaps, *a))),
-        Term::Susp(more, x) => {
-            let part = moved_suspension(alloc, swaps, more.items(), *x)?;
-            outside.close(alloc, part)
-        }
-        Term::Pair(left, right) => {
-            outside.halve(alloc, right)?;
-            Ok(Next::Part(left))
-        }
-        Term::App(f, argument) => {
-            outside.wrap(TermLayer::App(*f))?;
-            Ok(Next::Part(argument))
-        }
-        Term::Abs(a, body) => {
-            outside.wrap(TermLayer::Abs(image(swaps, *a)))?;
-            Ok(Next::Part(body))
-        }
-    }
-}
-
-/// A copy of a term on which swappings act: they are carried out on its names, and wait in front of
-/// each suspension. `Err` is want of memory.
-pub fn moved(alloc: Global, swaps: &[Swap], t: &Term) -> Result<Term, Memory>
-    ensures { IfOk result (λ u. term_of u ≡ act_term swaps.now (term_of t.now)) }
-{
-    let mut outside = Outside::new(alloc);
-    let mut rest = t;
-    'parts: loop {
-        match move_part(alloc, swaps, &mut outside, rest)? {
-            Next::Part(part) => rest = part,
-            Next::Whole(made) => return Ok(made),
-        }
-    }
 }

@@ -9,18 +9,21 @@ ghost use Rattle.ap_defs.specs.Goals.{NominalProgram, clause_of, goal_of, progra
 ghost use Rattle.ap_defs.specs.Terms.{term_of};
 ghost use Rattle.ap_defs.specs.Types.{NominalKind};
 ghost use Rattle.ap_checks.specs.Checks.{Refusal, by_clause, first_of};
+ghost use Rattle.ap_checks.specs.OpenEnvironments.{put_in};
 ghost use Rattle.ap_checker.specs.Rules.{refused};
+ghost use Rattle.ap_checker.specs.Scopes.{environment_of};
 ghost use Rattle.ap_checker.specs.Walks.{AreMarked, IsVisited, derivation_at, goal_at, kinds_at, left_of};
 
-use crate::equality::are_equal_under;
+use crate::equality::are_equal_at;
 use crate::fits::{counts_fit, names_fit, term_fits, terms_fit};
 use crate::identifiers::Identifiers;
 use crate::index::IndexedAnswer;
 use crate::lookups::clause_at;
 use crate::new_names::is_new;
 use crate::nodes::{all_differ, all_equal, is_name_fresh};
+use crate::placed::{Placed, PlacedTerms, Scope};
 use crate::rules::Rule;
-use crate::scope::{Standing, put, put_each};
+use crate::scope::Standing;
 use crate::walk::{Place, Walk};
 use ap_defs::goals::{Clause, Goal, Program};
 use ap_defs::memory::Memory;
@@ -43,11 +46,12 @@ fn rule_of_clause(
     alloc: Global,
     program: &Program<Term>,
     answer: &IndexedAnswer<'_>,
+    standing: &[Standing<'_>],
     args: &[Term],
     used: &Use<'_>,
     clause: &Clause<Term>,
 ) -> Result<Option<Rule>, Memory>
-    ensures { IfOk result (λ r. (n : ℕ) (rest : option Refusal) → by_clause (program_of program.now) (answer_of answer.now) n used.now.names.now (map term_of used.now.terms.now) (map term_of args.now) (clause_of clause.now) rest ≡ first_of (refused n r) rest) }
+    ensures { IfOk result (λ r. (n : ℕ) (rest : option Refusal) → by_clause (program_of program.now) (answer_of answer.now) n used.now.names.now (map term_of used.now.terms.now) (map (put_in (environment_of standing.now)) (map term_of args.now)) (clause_of clause.now) rest ≡ first_of (refused n r) rest) }
 {
     let locals = clause.locals.items();
     if !counts_fit(locals, used.names, used.terms) {
@@ -65,8 +69,15 @@ fn rule_of_clause(
     }
     let own = Identifiers::of(alloc, locals)?;
     let scope = [Standing::Clause(own, used.names, used.terms)];
-    let head = put_each(alloc, &scope, clause.args.items())?;
-    if !all_equal(alloc, answer, args, &head)? {
+    let head = PlacedTerms {
+        scope: Scope { standing: &scope },
+        terms: clause.args.items(),
+    };
+    let args = PlacedTerms {
+        scope: Scope { standing },
+        terms: args,
+    };
+    if !all_equal(alloc, answer, args, head)? {
         return Ok(Some(Rule::Head));
     }
     Ok(None)
@@ -88,8 +99,8 @@ fn visit_atom<'a>(
     let Some(clause) = clause_at(program, pred, used.number) else {
         return Ok(Some(Rule::Clause));
     };
-    let args = put_each(alloc, &walk.standing, args)?;
-    if let Some(rule) = rule_of_clause(alloc, program, answer, &args, used, clause)? {
+    let standing = &walk.standing;
+    if let Some(rule) = rule_of_clause(alloc, program, answer, standing, args, used, clause)? {
         return Ok(Some(rule));
     }
     let locals = clause.locals.items();
@@ -115,9 +126,10 @@ fn visit_equation(
     ensures { IfOk result (λ r. (p : NominalProgram) (kinds : list NominalKind) → IsVisited p (answer_of answer.now) kinds derivations.equal (goals.equal (term_of left.now) (term_of right.now)) walk.now walk.now r) }
 {
     let scope = walk.standing.as_slice();
-    let left = put(alloc, scope, left)?;
-    let right = put(alloc, scope, right)?;
-    if !are_equal_under(alloc, answer, &left, &right)? {
+    let scope = Scope { standing: scope };
+    let left = Placed::Within(scope, left);
+    let right = Placed::Within(scope, right);
+    if !are_equal_at(alloc, answer, left, right)? {
         return Ok(Some(Rule::Equal));
     }
     Ok(None)
@@ -135,9 +147,10 @@ fn visit_freshness(
     ensures { IfOk result (λ r. (p : NominalProgram) (kinds : list NominalKind) → IsVisited p (answer_of answer.now) kinds derivations.fresh (goals.fresh (term_of left.now) (term_of right.now)) walk.now walk.now r) }
 {
     let scope = walk.standing.as_slice();
-    let left = put(alloc, scope, left)?;
-    let right = put(alloc, scope, right)?;
-    if !is_name_fresh(alloc, answer, &left, &right)? {
+    let scope = Scope { standing: scope };
+    let left = Placed::Within(scope, left);
+    let right = Placed::Within(scope, right);
+    if !is_name_fresh(alloc, answer, left, right)? {
         return Ok(Some(Rule::Fresh));
     }
     Ok(None)

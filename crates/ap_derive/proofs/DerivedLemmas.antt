@@ -152,6 +152,20 @@ module _ (p : Problem) (b : Branch) (of : IsBranchOf p b) (answering : IsAnsweri
       let its = answer_derived (clauses_in p) p.depth q (path_of_branch b) there.0 there.1 in
       subst (λ (x : NominalDerivation). IsDerivationAt (clauses_in p) p.depth q (path_of_branch b) x) (sym (h its.0 its.2)) its.1
 
+-- it has one
+pub branches_have : (p : Problem) (b : Branch) → IsBranchOf p b → IsAnswering b → (q : NominalQuery) → slice_get (queries_in p) (p.query - 1) ≡ Some q
+    → (d : NominalDerivation) × IsDerivationAt (clauses_in p) p.depth q (path_of_branch b) d
+branches_have p b of answering q asked =
+    let its = answer_derived (clauses_in p) p.depth q (path_of_branch b) (answer_there p b of answering q asked).0 (answer_there p b of answering q asked).1 in
+    (derivation_in its.0.state its.0.derivation, its.1)
+
+-- and no other
+pub derived_once : (program : Clauses) (depth : ℕ) (q : NominalQuery) (path : List ℕ) (d e : NominalDerivation) → IsDerivationAt program depth q path d → IsDerivationAt program depth q path e → d ≡ e
+derived_once program depth q path d e h k =
+    let same : ◌≡◌ {A = Traced} (record { state = h.state; derivation = h.plain; rest = [] }) (record { state = k.state; derivation = k.plain; rest = [] }) =
+    same_some (traced_query program depth q path) (record { state = h.state; derivation = h.plain; rest = [] }) (record { state = k.state; derivation = k.plain; rest = [] }) h.leads k.leads in
+    h.closed ∙ ap (λ (x : Traced). derivation_in x.state x.derivation) same ∙ sym k.closed
+
 pub typed_at : (sig : NominalSignature) (qs : List NominalQuery) (n : ℕ) (q : NominalQuery) → slice_get qs n ≡ Some q → AreTypedQueries term_form sig qs → IsTypedQuery term_form sig q
 typed_at sig [] n q e h = cc
 typed_at sig (r ∷ qs) zero q e h = let same : r ≡ q = cc in subst (λ (x : NominalQuery). IsTypedQuery term_form sig x) same h.0

@@ -1,3 +1,4 @@
 pub mod Nodes
 pub mod Solved
 pub mod Derived
+pub mod Laws

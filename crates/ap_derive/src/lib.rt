@@ -9,5 +9,6 @@
 
 pub mod assembling;
 pub mod derivations;
+pub mod laws;
 pub mod nodes;
 pub mod selecting;

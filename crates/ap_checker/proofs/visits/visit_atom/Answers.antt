@@ -23,9 +23,9 @@ returns-in-Some-2 c = λ kinds n.
     let used = c.args.used.now in
     let ts = map term_of used.terms.now in
     let us = map term_of c.args.args.now in
-    let vs = map term_of c.deref-2.result.now in
+    let vs = map (put_in (environment_of c.deref.result.now)) us in
     let e = environment_of c.args.walk.now.standing.items in
-    let v : vs ≡ map (put_in e) us = ap (map term_of) c.deref-2.ensures.value ∙ c.in_ok-args.ensures ∙ ap (λ ss. map (put_in (environment_of ss)) us) c.deref.ensures.value in
+    let v : vs ≡ map (put_in e) us = ap (λ ss. map (put_in (environment_of ss)) us) c.deref.ensures.value in
     atom_by p a kinds n used.number c.args.pred used.names.now ts us vs (derivation_of used.body.now) e (clause_of c.in-Some.clause.now) (Some c.in-Some-2.rule) c.in-Some.ensures v
     (λ rest. c.in_ok-rule.ensures n rest ∙ ap (λ r. first_of (refused n r) rest) c.in-Some-2.is)
 
@@ -37,9 +37,9 @@ returns c = λ kinds.
     let clause = c.in-Some.clause.now in
     let ts = map term_of used.terms.now in
     let us = map term_of c.args.args.now in
-    let vs = map term_of c.deref-2.result.now in
+    let vs = map (put_in (environment_of c.deref.result.now)) us in
     let e = environment_of c.args.walk.now.standing.items in
-    let v : vs ≡ map (put_in e) us = ap (map term_of) c.deref-2.ensures.value ∙ c.in_ok-args.ensures ∙ ap (λ ss. map (put_in (environment_of ss)) us) c.deref.ensures.value in
+    let v : vs ≡ map (put_in e) us = ap (λ ss. map (put_in (environment_of ss)) us) c.deref.ensures.value in
     let node = derivations.atom used.number used.names.now ts (derivation_of used.body.now) in
     goes_brought p a kinds node (goals.atom c.args.pred us) c.args.walk.now c.put.new.self
     _ (code.Clause c.in_ok-own.own used.names used.terms) c.bring.new.self c.requires c.in_ok-bring.ensures.standing c.bring.ensures.pending c.put.ensures.standing c.in_ok-put.ensures.pending

@@ -1,12 +1,12 @@
 use Rattle.std.proofs.Common.{◌++◌, [], ◌∷◌, length, sym, ap, ◌∙◌, subst}
 use Rattle.ap_defs.specs.Freshness.{alpha_under}
-use Rattle.ap_defs.specs.Terms.{term_of}
+use Rattle.ap_checker.specs.Placed.{placed_term}
 use Rattle.ap_checker.specs.declared.binders.Binders.{Binders}
 use Rattle.ap_checker.specs.declared.equality.Compared.{Compared}
 use Rattle.ap_checker.specs.Binders.{AreBinders}
 use Rattle.ap_checker.specs.Comparisons.{are_alike, mark_of, size_of}
 use Rattle.ap_checker.proofs.StackLemmas.{first_waits, first_within, turn_keeps, turn_true}
-use Rattle.ap_checker.proofs.equality.are_equal_under.Goals as goal
+use Rattle.ap_checker.proofs.equality.are_equal_at.Goals as goal
 
 pub terms-init : goal.terms-init
 terms-init c =
@@ -25,7 +25,7 @@ terms-init c =
 pub terms-preserved : goal.terms-preserved
 terms-preserved c =
     let ds = c.args.answer.now.conds in
-    let whole = alpha_under ds (term_of c.args.t.now) (term_of c.args.u.now) in
+    let whole = alpha_under ds (placed_term c.args.t) (placed_term c.args.u) in
     record {
       all =
           turn_true mark_of (are_alike ds) size_of whole c.in-Some.next c.terms.walk.binders.pairs.items c.truncate.new.self.pairs.items c.compare.new.walk.binders.pairs.items

@@ -1,0 +1,156 @@
+//! Terms as they stand at places of a derivation, looked at head by head.
+//!
+//! What stands for an identifier is as large as whoever made the derivation wants, and stands in a goal as
+//! often as the program names it. So it isn't copied: a term with it put in is the term of the program with
+//! what stands there beside it, and each part of it is one again.
+
+ghost use Rattle.std.specs.Prelude.{◌≡◌, IfOk};
+ghost use Rattle.ap_defs.specs.Terms.{act_term, pair, susp, term_of};
+ghost use Rattle.ap_checks.specs.OpenEnvironments.{put_in};
+ghost use Rattle.ap_checker.specs.Placed.{head_term, placed_term};
+ghost use Rattle.ap_checker.specs.Scopes.{environment_of};
+
+use crate::scope::{Standing, name_in, put_swaps, term_in};
+use crate::swappings::image;
+use ap_defs::memory::Memory;
+use ap_defs::terms::{Name, Swap, Term, Var};
+use std::alloc::Global;
+use std::rc::Rc;
+
+/// What stands for identifiers at a place.
+#[derive(Clone, Copy)]
+pub(crate) struct Scope<'a> {
+    pub standing: &'a [Standing<'a>],
+}
+
+/// A term at a place.
+#[derive(Drop)]
+pub(crate) enum Placed<'a> {
+    /// The term itself.
+    Whole(&'a Term),
+    /// The term of an item, with what stands there for its identifiers put in.
+    Within(Scope<'a>, &'a Term),
+    /// The term, on which swappings act.
+    Moved(Rc<Vec<Swap>>, &'a Term),
+}
+
+/// Terms of an item, with what stands there for its identifiers put in.
+#[derive(Clone, Copy)]
+pub(crate) struct PlacedTerms<'a> {
+    pub scope: Scope<'a>,
+    pub terms: &'a [Term],
+}
+
+/// The head of a term at a place, with the parts below it.
+#[derive(Drop)]
+pub(crate) enum Head<'a> {
+    Unit,
+    Name(Name),
+    Pair(Placed<'a>, Placed<'a>),
+    App(u32, Placed<'a>),
+    Abs(Name, Placed<'a>),
+    Susp(Vec<Swap>, Var),
+}
+
+/// The head of a term itself.
+fn head_of<'a>(alloc: Global, t: &'a Term) -> Result<Head<'a>, Memory>
+    ensures { IfOk result (λ h. head_term h ≡ term_of t.now) }
+{
+    match t {
+        Term::Unit => Ok(Head::Unit),
+        Term::Name(a) => Ok(Head::Name(*a)),
+        Term::Susp(swaps, x) => Ok(Head::Susp(swaps.items().to_vec(alloc)?, *x)),
+        Term::Pair(left, right) => Ok(Head::Pair(Placed::Whole(left), Placed::Whole(right))),
+        Term::App(f, argument) => Ok(Head::App(*f, Placed::Whole(argument))),
+        Term::Abs(a, body) => Ok(Head::Abs(*a, Placed::Whole(body))),
+    }
+}
+
+/// A suspension on which swappings act: they wait in front of its own.
+fn moved_suspension<'a>(
+    alloc: Global,
+    swaps: &[Swap],
+    more: &[Swap],
+    x: Var,
+) -> Result<Head<'a>, Memory>
+    ensures { IfOk result (λ h. head_term h ≡ act_term swaps.now (susp more.now x)) }
+{
+    let mut all = swaps.to_vec(alloc)?;
+    all.extend_from_slice(more)?;
+    Ok(Head::Susp(all, x))
+}
+
+/// The head of a pair on which swappings act.
+fn moved_pair<'a>(swaps: Rc<Vec<Swap>>, left: &'a Term, right: &'a Term) -> Result<Head<'a>, Memory>
+    ensures { IfOk result (λ h. head_term h
+        ≡ act_term swaps.value.items (pair (term_of left.now) (term_of right.now))) }
+{
+    let same = swaps.clone()?;
+    let left = Placed::Moved(same, left);
+    let right = Placed::Moved(swaps, right);
+    Ok(Head::Pair(left, right))
+}
+
+/// The head of a term on which swappings act.
+fn moved_head<'a>(alloc: Global, swaps: Rc<Vec<Swap>>, t: &'a Term) -> Result<Head<'a>, Memory>
+    ensures { IfOk result (λ h. head_term h ≡ act_term swaps.value.items (term_of t.now)) }
+{
+    match t {
+        Term::Unit => Ok(Head::Unit),
+        Term::Name(a) => Ok(Head::Name(image(&swaps, *a))),
+        Term::Susp(more, x) => moved_suspension(alloc, &swaps, more.items(), *x),
+        Term::Pair(left, right) => moved_pair(swaps, left, right),
+        Term::App(f, argument) => Ok(Head::App(*f, Placed::Moved(swaps, argument))),
+        Term::Abs(a, body) => {
+            let a = image(&swaps, *a);
+            Ok(Head::Abs(a, Placed::Moved(swaps, body)))
+        }
+    }
+}
+
+/// The head of what stands for a suspended variable.
+fn suspended_head<'a>(
+    alloc: Global,
+    scope: Scope<'a>,
+    swaps: &[Swap],
+    x: Var,
+) -> Result<Head<'a>, Memory>
+    ensures { IfOk result (λ h. head_term h ≡ put_in (environment_of scope.entry.standing.now) (susp swaps.now x)) }
+{
+    let Some(t) = term_in(scope.standing, x) else {
+        return Ok(Head::Unit);
+    };
+    let swaps = Rc::new(alloc, put_swaps(alloc, scope.standing, swaps)?)?;
+    moved_head(alloc, swaps, t)
+}
+
+/// The head of a term of an item, with what stands there for its identifiers put in.
+fn head_within<'a>(alloc: Global, scope: Scope<'a>, t: &'a Term) -> Result<Head<'a>, Memory>
+    ensures { IfOk result (λ h. head_term h ≡ put_in (environment_of scope.entry.standing.now) (term_of t.now)) }
+{
+    match t {
+        Term::Unit => Ok(Head::Unit),
+        Term::Name(a) => Ok(Head::Name(name_in(scope.standing, *a))),
+        Term::Susp(swaps, x) => suspended_head(alloc, scope, swaps.items(), *x),
+        Term::Pair(left, right) => {
+            let left = Placed::Within(scope, left);
+            Ok(Head::Pair(left, Placed::Within(scope, right)))
+        }
+        Term::App(f, argument) => Ok(Head::App(*f, Placed::Within(scope, argument))),
+        Term::Abs(a, body) => {
+            let a = name_in(scope.standing, *a);
+            Ok(Head::Abs(a, Placed::Within(scope, body)))
+        }
+    }
+}
+
+/// The head of a term at a place.
+pub(crate) fn head_at<'a>(alloc: Global, t: &Placed<'a>) -> Result<Head<'a>, Memory>
+    ensures { IfOk result (λ h. head_term h ≡ placed_term t.now) }
+{
+    match t {
+        Placed::Whole(t) => head_of(alloc, t),
+        Placed::Within(scope, t) => head_within(alloc, *scope, t),
+        Placed::Moved(swaps, t) => moved_head(alloc, swaps.clone()?, t),
+    }
+}
