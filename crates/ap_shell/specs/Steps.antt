@@ -69,6 +69,10 @@ waiting_added waiting line = if is_stop line then [] else with_line waiting line
 abbrev pub waiting_after : Session → List ℕ → List ℕ
 waiting_after s line = if s.is_adding then waiting_added s.waiting.items line else waiting_of (kind_of line) s.waiting.items line
 
+-- clauses are added up to a line that holds a full stop alone
+abbrev pub adding_after : Session → List ℕ → Bool
+adding_after s line = if is_stop line then false else s.is_adding
+
 -- a command drops the lines that wait
 abbrev pub drops : Session → List ℕ → Bool
 drops s line = commands s line && not (length s.waiting.items == 0)

@@ -1,7 +1,7 @@
 //! Clauses that are added at the prompt.
 ghost use Rattle.std.specs.Prelude.{◌≡◌, ◌<◌, ◌≤◌, ◌++◌, [], false, IfOk, OnErr, OnOk, length};
 ghost use Rattle.ap_inputs.specs.Lines as lines;
-ghost use Rattle.ap_shell.specs.Steps.{Adds, IsReplyOf, LoadsWhere, WritesNothing, waiting_added, with_line};
+ghost use Rattle.ap_shell.specs.Steps.{Adds, IsReplyOf, LoadsWhere, WritesNothing, adding_after, waiting_added, with_line};
 
 use crate::loading::load;
 use crate::replies::{Reply, Step};
@@ -28,6 +28,8 @@ fn end_adding(alloc: Global, session: &mut Session) -> Result<Told, Memory>
         (Adds session.old.waiting.items session.old.loaded.items session.new.loaded.items) }
     ensures quiet { IfOk result (λ t. t.written.items ≡ []) }
     ensures waits { OnOk result (session.new.waiting.items ≡ []) }
+    ensures ended { OnOk result (session.new.is_adding ≡ false) }
+    ensures last { session.new.last ≡ session.old.last }
     ensures kept { OnErr result (session.new.loaded ≡ session.old.loaded) }
 {
     session.is_adding = false;
@@ -74,6 +76,8 @@ pub(crate) fn add_line(alloc: Global, session: &mut Session, line: &[u8]) -> Res
     ensures quiet { IfOk result (λ s. WritesNothing s.reply) }
     ensures used { IfOk result (λ s. s.used ≡ length line.now) }
     ensures dropped { IfOk result (λ s. s.dropped ≡ false) }
+    ensures adding { OnOk result (session.new.is_adding ≡ adding_after session.old line.now) }
+    ensures last { session.new.last ≡ session.old.last }
     ensures waits { OnOk result
         (session.new.waiting.items ≡ waiting_added session.old.waiting.items line.now) }
     ensures loaded { OnOk result (LoadsWhere (lines.is_stop line.now)

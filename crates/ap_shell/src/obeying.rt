@@ -188,6 +188,7 @@ pub(crate) fn obey_line<R: Threads + Wait + Sync, G: Gate>(
     ensures dropped { IfOk result
         (λ s. s.dropped ≡ not (length session.old.waiting.items == 0)) }
     ensures waits { session.new.waiting.items ≡ [] }
+    ensures last { session.new.last ≡ session.old.last }
     ensures loaded { session.new.loaded ≡ session.old.loaded }
 {
     let dropped = !session.waiting.is_empty();

@@ -1,8 +1,8 @@
 //! A step of a session, from a line that is typed to what is answered.
-ghost use Rattle.std.specs.Prelude.{◌≡◌, ◌<◌, ◌≤◌, ◌++◌, [], ℕ, List as list, Some, false, IfOk, OnErr, OnOk, length};
+ghost use Rattle.std.specs.Prelude.{◌≡◌, ◌<◌, ◌≤◌, ◌++◌, [], ℕ, List as list, None, Some, false, IfOk, OnErr, OnOk, length};
 ghost use Rattle.ap_inputs.specs.declared.lines.LineKind.TheVariants as kinds;
 ghost use Rattle.ap_inputs.specs.Lines as lines;
-ghost use Rattle.ap_shell.specs.Steps.{IsQueryStep, IsReplyOf, LoadsBy, WritesUnless, commands, drops, query_in, typed_query, up_to, used_by, waiting_after, waiting_behind};
+ghost use Rattle.ap_shell.specs.Steps.{IsQueryStep, IsReplyOf, LoadsBy, WritesUnless, adding_after, commands, drops, query_in, typed_query, up_to, used_by, waiting_after, waiting_behind};
 
 use crate::adding::{add_line, keep_line, told_of};
 use crate::asking::ask;
@@ -24,6 +24,7 @@ fn take_query(alloc: Global, session: &mut Session, end: &[u8]) -> Result<(), Me
     ensures waits { OnOk result (session.new.waiting.items ≡ []) }
     ensures loaded { session.new.loaded ≡ session.old.loaded }
     ensures settings { session.new.settings ≡ session.old.settings }
+    ensures adding { session.new.is_adding ≡ session.old.is_adding }
 {
     session.waiting.extend_from_slice(end)?;
     session.last = mem::replace(&mut session.waiting, Vec::new(alloc));
@@ -49,6 +50,9 @@ fn query_line<R: Threads + Wait + Sync, G: Gate>(
     ensures waits { OnOk result (session.new.waiting.items
         ≡ waiting_behind (lines.query_end line.now) session.old.waiting.items line.now) }
     ensures loaded { session.new.loaded ≡ session.old.loaded }
+    ensures adding { session.new.is_adding ≡ session.old.is_adding }
+    ensures last { query_in session.old.waiting.items kinds.Text line.now ≡ None →
+        session.new.last ≡ session.old.last }
 {
     match query_end(line) {
         Some(end) => {
@@ -95,6 +99,10 @@ pub fn step<R: Threads + Wait + Sync, G: Gate>(
     // Lines wait for the end of their query, or of the clauses that are added; a command drops them.
     ensures waits { OnOk result (session.new.waiting.items ≡ waiting_after session.old line.now) }
     ensures dropped { IfOk result (λ s. s.dropped ≡ drops session.old line.now) }
+    // Clauses are added up to a full stop alone; the last query is the one that ended last.
+    ensures adding { commands session.old line.now ≡ false →
+        OnOk result (session.new.is_adding ≡ adding_after session.old line.now) }
+    ensures last { typed_query session.old line.now ≡ None → session.new.last ≡ session.old.last }
     // The end of clauses that are added loads them, where they have no fault. Nothing else changes what is loaded.
     ensures loaded { OnOk result (LoadsBy session.old session.new line.now) }
     ensures kept { OnErr result (session.new.loaded ≡ session.old.loaded) }
