@@ -1,5 +1,5 @@
 -- Lines as they are typed: which are commands, and where a query ends.
-use Rattle.std.specs.Prelude.{ℕ, suc, Bool, false, not, ◌==◌, ◌&&◌, List, [], ◌∷◌, drop, Option, None, Some, if◌then◌else◌}
+use Rattle.std.specs.Prelude.{ℕ, suc, Bool, false, not, ◌==◌, ◌&&◌, List, [], ◌∷◌, drop, length, Option, None, Some, if◌then◌else◌}
 use Rattle.std.specs.Char.{is_ascii_whitespace}
 use Rattle.ap_inputs.specs.declared.lines.LineKind.{LineKind}
 use Rattle.ap_inputs.specs.declared.lines.LineKind.TheVariants as kinds
@@ -20,6 +20,14 @@ kind_by_first (b ∷ bs) = kind_by b
 -- what a line holds, by its first byte that is no blank
 abbrev pub kind_of : List ℕ → LineKind
 kind_of line = kind_by_first (drop (leading_blanks line) line)
+
+-- whether a line holds a full stop alone: before and behind it are only blanks
+abbrev pub is_stop_first : List ℕ → Bool
+is_stop_first [] = false
+is_stop_first (b ∷ bs) = (b == 46) && (leading_blanks bs == length bs)
+
+abbrev pub is_stop : List ℕ → Bool
+is_stop line = is_stop_first (drop (leading_blanks line) line)
 
 -- whether bytes begin with `?-`
 abbrev pub begins_with_mark : List ℕ → Bool

@@ -51,6 +51,16 @@ fn kind_by(first: u8) -> LineKind
     }
 }
 
+/// Whether a line holds a full stop alone.
+pub fn is_stop(line: &[u8]) -> bool
+    ensures { result ≡ spec.is_stop line.now }
+{
+    match &line[leading_blanks(line)..] {
+        [] => false,
+        [first, rest @ ..] => *first == b'.' && leading_blanks(rest) == rest.len(),
+    }
+}
+
 /// Whether a query has its `?-` already.
 pub fn has_mark(query: &[u8]) -> bool
     ensures { result ≡ spec.has_mark query.now }

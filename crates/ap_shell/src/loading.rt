@@ -1,13 +1,15 @@
 //! Texts that are loaded.
-ghost use Rattle.std.specs.Prelude.{◌≡◌, ◌≢◌, ◌≤◌, IfOk, OnErr, length};
+ghost use Rattle.std.specs.Prelude.{◌≡◌, ◌≢◌, ◌≤◌, IfOk, OnErr, OnOk, length};
 ghost use Rattle.ap_defs.specs.Limits.{size_limit};
-ghost use Rattle.ap_shell.specs.Loads.{IsOutcome};
+ghost use Rattle.ap_inputs.specs.Items as items;
+ghost use Rattle.ap_lexer.specs.Tokens.{lexemes};
+ghost use Rattle.ap_shell.specs.Loads.{IsKeptOf, IsLoadedBy, IsOutcome};
 
 use crate::saying::{TOO_LARGE, explained, message};
 use crate::session::Session;
 use ap_defs::limits::SIZE_LIMIT;
 use ap_defs::memory::Memory;
-use ap_inputs::items::{count_queries, without_queries};
+use ap_inputs::items::{count_queries, kept_text};
 use ap_lexer::{LexError, Token, lex};
 use ap_remarks::warnings;
 use ap_text::{TextError, program_of_text};
@@ -31,16 +33,6 @@ pub struct Loading {
     pub said: String,
 }
 
-// The text without its queries; where there is any, it ends a line.
-fn kept(alloc: Global, text: &[u8], tokens: &[Token<'_>]) -> Result<Vec<u8>, Memory> {
-    let mut kept = without_queries(alloc, text, tokens)?;
-    match kept.last() {
-        None | Some(b'\n') => {}
-        Some(_) => kept.push(b'\n')?,
-    }
-    Ok(kept)
-}
-
 // What is said of a text that is loaded.
 fn said_of(alloc: Global, text: &[u8], tokens: &[Token<'_>]) -> Result<String, Memory> {
     let mut said = if text.len() <= SIZE_LIMIT {
@@ -57,24 +49,30 @@ fn said_of(alloc: Global, text: &[u8], tokens: &[Token<'_>]) -> Result<String, M
     Ok(said)
 }
 
-// Takes a text without a fault, of these tokens.
+/// Takes a text without a fault, of these tokens.
 fn take(
     alloc: Global,
     session: &mut Session,
     text: &[u8],
     tokens: &[Token<'_>],
 ) -> Result<String, Memory>
+    ensures loaded { OnOk result
+        (session.new.loaded.items ≡ items.kept_text text.now (lexemes tokens.now)) }
+    ensures others { session.new ≡ record session.old { loaded = session.new.loaded } }
     ensures kept { OnErr result (session.new ≡ session.old) }
 {
     let said = said_of(alloc, text, tokens)?;
-    let kept = kept(alloc, text, tokens)?;
+    let kept = kept_text(alloc, text, tokens)?;
     session.loaded = kept;
     Ok(said)
 }
 
-// Takes a text that has a program.
+/// Takes a text that has a program.
 fn take_text(alloc: Global, session: &mut Session, text: &[u8]) -> Result<String, Memory>
-    requires { length text.now ≤ size_limit }
+    requires fits { length text.now ≤ size_limit }
+    requires program { IsOutcome text.now Outcome.Loaded }
+    ensures loaded { OnOk result (IsKeptOf text.now session.new.loaded.items) }
+    ensures others { session.new ≡ record session.old { loaded = session.new.loaded } }
     ensures kept { OnErr result (session.new ≡ session.old) }
 {
     match lex(alloc, text) {
@@ -90,7 +88,10 @@ fn take_text(alloc: Global, session: &mut Session, text: &[u8]) -> Result<String
 pub fn load(alloc: Global, session: &mut Session, text: &[u8]) -> Result<Loading, Memory>
     // Each outcome comes for its cause.
     ensures outcome { IfOk result (λ l. IsOutcome text.now l.outcome) }
-    // Where the text isn't loaded, nothing has changed.
+    // What is loaded then is what is kept of the text. Where the text isn't loaded, nothing has changed.
+    ensures loaded { IfOk result
+        (λ l. IsLoadedBy l.outcome text.now session.old.loaded.items session.new.loaded.items) }
+    ensures others { session.new ≡ record session.old { loaded = session.new.loaded } }
     ensures refused { IfOk result (λ l. l.outcome ≢ Outcome.Loaded → session.new ≡ session.old) }
     ensures kept { OnErr result (session.new ≡ session.old) }
 {

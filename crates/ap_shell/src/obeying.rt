@@ -1,6 +1,6 @@
 //! Commands, carried out.
-ghost use Rattle.std.specs.Prelude.{◌≡◌, IfOk, length};
-ghost use Rattle.ap_shell.specs.Steps.{IsReplyOf};
+ghost use Rattle.std.specs.Prelude.{◌≡◌, ◌==◌, [], not, IfOk, length};
+ghost use Rattle.ap_shell.specs.Steps.{IsReplyOf, KeepsTexts};
 
 use crate::asking::{ask, count, examine, prove};
 use crate::replies::{Reply, Step};
@@ -39,7 +39,8 @@ fn deeper<R: Threads + Wait + Sync, G: Gate>(
     gate: &G,
     session: &mut Session,
 ) -> Result<Reply, Memory>
-    ensures { IfOk result (λ r. IsReplyOf session.new r) }
+    ensures reply { IfOk result (λ r. IsReplyOf session.new r) }
+    ensures keeps { KeepsTexts session.old session.new }
 {
     session.settings.depth = twice(session.settings.depth);
     ask(rt, alloc, gate, session)
@@ -52,7 +53,8 @@ fn more<R: Threads + Wait + Sync, G: Gate>(
     gate: &G,
     session: &mut Session,
 ) -> Result<Reply, Memory>
-    ensures { IfOk result (λ r. IsReplyOf session.new r) }
+    ensures reply { IfOk result (λ r. IsReplyOf session.new r) }
+    ensures keeps { KeepsTexts session.old session.new }
 {
     session.settings.answers = session
         .settings
@@ -71,8 +73,10 @@ fn words_of(alloc: Global, line: &str) -> Result<Vec<String>, Memory> {
     Ok(words)
 }
 
-// Sets what an order sets.
-fn set(session: &mut Session, order: &Order<'_>) {
+/// Sets what an order sets.
+fn set(session: &mut Session, order: &Order<'_>)
+    ensures { KeepsTexts session.old session.new }
+{
     match order {
         Order::Answers(answers) => session.settings.answers = *answers,
         Order::Depth(depth) => session.settings.depth = *depth,
@@ -98,7 +102,8 @@ fn tell(alloc: Global, session: &Session, order: &Order<'_>) -> Result<Told, Mem
 
 /// Loads the files of these names.
 fn load_named(alloc: Global, session: &mut Session, names: &str) -> Result<Reply, Memory>
-    ensures { IfOk result (λ r. IsReplyOf session.new r) }
+    ensures reply { IfOk result (λ r. IsReplyOf session.new r) }
+    ensures keeps { KeepsTexts session.old session.new }
 {
     session.files = words_of(alloc, names)?;
     Ok(Reply::Load)
@@ -106,7 +111,8 @@ fn load_named(alloc: Global, session: &mut Session, names: &str) -> Result<Reply
 
 /// What is answered to an order that asks no query.
 fn obey_quietly(alloc: Global, session: &mut Session, order: &Order<'_>) -> Result<Reply, Memory>
-    ensures { IfOk result (λ r. IsReplyOf session.new r) }
+    ensures reply { IfOk result (λ r. IsReplyOf session.new r) }
+    ensures keeps { KeepsTexts session.old session.new }
 {
     set(session, order);
     let told = tell(alloc, session, order)?;
@@ -129,7 +135,8 @@ fn obey<R: Threads + Wait + Sync, G: Gate>(
     session: &mut Session,
     order: &Order<'_>,
 ) -> Result<Reply, Memory>
-    ensures { IfOk result (λ r. IsReplyOf session.new r) }
+    ensures reply { IfOk result (λ r. IsReplyOf session.new r) }
+    ensures keeps { KeepsTexts session.old session.new }
 {
     if is_about_last(order) && session.last.is_empty() {
         let told = tell_message(alloc, NOTHING_ASKED)?;
@@ -156,7 +163,8 @@ fn obey_text<R: Threads + Wait + Sync, G: Gate>(
     session: &mut Session,
     line: &[u8],
 ) -> Result<Reply, Memory>
-    ensures { IfOk result (λ r. IsReplyOf session.new r) }
+    ensures reply { IfOk result (λ r. IsReplyOf session.new r) }
+    ensures keeps { KeepsTexts session.old session.new }
 {
     match str::from_utf8(line) {
         Ok(text) => obey(rt, alloc, gate, session, &order_of(text)),
@@ -177,6 +185,11 @@ pub(crate) fn obey_line<R: Threads + Wait + Sync, G: Gate>(
 ) -> Result<Step, Memory>
     ensures asked { IfOk result (λ s. IsReplyOf session.new s.reply) }
     ensures used { IfOk result (λ s. s.used ≡ length line.now) }
+    ensures dropped { IfOk result
+        (λ s. s.dropped ≡ not (length session.old.waiting.items == 0)) }
+    ensures waits { session.new.waiting.items ≡ [] }
+    ensures last { session.new.last ≡ session.old.last }
+    ensures loaded { session.new.loaded ≡ session.old.loaded }
 {
     let dropped = !session.waiting.is_empty();
     session.waiting.clear();

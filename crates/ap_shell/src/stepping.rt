@@ -1,9 +1,10 @@
 //! A step of a session, from a line that is typed to what is answered.
-ghost use Rattle.std.specs.Prelude.{◌≡◌, ◌<◌, ◌≤◌, ◌++◌, ℕ, List as list, Some, IfOk, OnOk, length};
+ghost use Rattle.std.specs.Prelude.{◌≡◌, ◌<◌, ◌≤◌, ◌++◌, [], ℕ, List as list, None, Some, false, IfOk, OnErr, OnOk, length};
 ghost use Rattle.ap_inputs.specs.declared.lines.LineKind.TheVariants as kinds;
-ghost use Rattle.ap_shell.specs.Steps.{IsQueryStep, IsReplyOf, query_in, typed_query};
+ghost use Rattle.ap_inputs.specs.Lines as lines;
+ghost use Rattle.ap_shell.specs.Steps.{IsQueryStep, IsReplyOf, LoadsBy, WritesUnless, adding_after, commands, drops, query_in, typed_query, up_to, used_by, waiting_after, waiting_behind};
 
-use crate::adding::{add_line, keep_line};
+use crate::adding::{add_line, keep_line, told_of};
 use crate::asking::ask;
 use crate::obeying::obey_line;
 use crate::replies::{Reply, Step};
@@ -20,8 +21,10 @@ use std::thread::Threads;
 /// Takes a query that ends in a line, behind the lines before it.
 fn take_query(alloc: Global, session: &mut Session, end: &[u8]) -> Result<(), Memory>
     ensures last { OnOk result (session.new.last.items ≡ session.old.waiting.items ++ end.now) }
+    ensures waits { OnOk result (session.new.waiting.items ≡ []) }
     ensures loaded { session.new.loaded ≡ session.old.loaded }
     ensures settings { session.new.settings ≡ session.old.settings }
+    ensures adding { session.new.is_adding ≡ session.old.is_adding }
 {
     session.waiting.extend_from_slice(end)?;
     session.last = mem::replace(&mut session.waiting, Vec::new(alloc));
@@ -39,7 +42,17 @@ fn query_line<R: Threads + Wait + Sync, G: Gate>(
     ensures asked { IfOk result (λ s. IsReplyOf session.new s.reply) }
     ensures typed { (q : list ℕ) → query_in session.old.waiting.items kinds.Text line.now ≡ Some q →
         IfOk result (λ s. IsQueryStep session.old session.new q s.reply) }
-    ensures used { IfOk result (λ s. (s.used ≤ length line.now) × (0 < length line.now → 0 < s.used)) }
+    ensures quiet { IfOk result (λ s. WritesUnless false
+        (query_in session.old.waiting.items kinds.Text line.now) s.reply) }
+    ensures used { IfOk result (λ s. s.used ≡ up_to (lines.query_end line.now) line.now) }
+    ensures within { IfOk result (λ s. (s.used ≤ length line.now) × (0 < length line.now → 0 < s.used)) }
+    ensures dropped { IfOk result (λ s. s.dropped ≡ false) }
+    ensures waits { OnOk result (session.new.waiting.items
+        ≡ waiting_behind (lines.query_end line.now) session.old.waiting.items line.now) }
+    ensures loaded { session.new.loaded ≡ session.old.loaded }
+    ensures adding { session.new.is_adding ≡ session.old.is_adding }
+    ensures last { query_in session.old.waiting.items kinds.Text line.now ≡ None →
+        session.new.last ≡ session.old.last }
 {
     match query_end(line) {
         Some(end) => {
@@ -53,11 +66,7 @@ fn query_line<R: Threads + Wait + Sync, G: Gate>(
         }
         None => {
             let told = keep_line(alloc, session, line)?;
-            Ok(Step {
-                used: line.len(),
-                dropped: false,
-                reply: Reply::Told(told),
-            })
+            Ok(told_of(line, told))
         }
     }
 }
@@ -81,17 +90,28 @@ pub fn step<R: Threads + Wait + Sync, G: Gate>(
     // Each query that ends in the line is answered, and leaves what is loaded and how queries are asked.
     ensures typed { (q : list ℕ) → typed_query session.old line.now ≡ Some q →
         IfOk result (λ s. IsQueryStep session.old session.new q s.reply) }
-    ensures used { IfOk result (λ s. (s.used ≤ length line.now) × (0 < length line.now → 0 < s.used)) }
+    // Any other line that is no command writes nothing.
+    ensures quiet { IfOk result (λ s. WritesUnless (commands session.old line.now)
+        (typed_query session.old line.now) s.reply) }
+    // A line is taken up to the end of its query, or else all of it.
+    ensures used { IfOk result (λ s. s.used ≡ used_by session.old line.now) }
+    ensures within { IfOk result (λ s. (s.used ≤ length line.now) × (0 < length line.now → 0 < s.used)) }
+    // Lines wait for the end of their query, or of the clauses that are added; a command drops them.
+    ensures waits { OnOk result (session.new.waiting.items ≡ waiting_after session.old line.now) }
+    ensures dropped { IfOk result (λ s. s.dropped ≡ drops session.old line.now) }
+    // Clauses are added up to a full stop alone; the last query is the one that ended last.
+    ensures adding { commands session.old line.now ≡ false →
+        OnOk result (session.new.is_adding ≡ adding_after session.old line.now) }
+    ensures last { typed_query session.old line.now ≡ None → session.new.last ≡ session.old.last }
+    // The end of clauses that are added loads them, where they have no fault. Nothing else changes what is loaded.
+    ensures loaded { OnOk result (LoadsBy session.old session.new line.now) }
+    ensures kept { OnErr result (session.new.loaded ≡ session.old.loaded) }
 {
     if session.is_adding {
         return add_line(alloc, session, line);
     }
     match kind_of(line) {
-        LineKind::Empty => Ok(Step {
-            used: line.len(),
-            dropped: false,
-            reply: Reply::Told(nothing(alloc)),
-        }),
+        LineKind::Empty => Ok(told_of(line, nothing(alloc))),
         LineKind::Command => obey_line(rt, alloc, gate, session, line),
         LineKind::Text => query_line(rt, alloc, gate, session, line),
     }

@@ -1,4 +1,5 @@
 //! What commands tell.
+ghost use Rattle.std.specs.Prelude.{◌≡◌, [], IfOk};
 
 use crate::saying::{TOO_LARGE, message};
 use ap_defs::limits::SIZE_LIMIT;
@@ -18,7 +19,9 @@ pub struct Told {
 }
 
 /// Nothing at all. It takes no memory.
-pub(crate) fn nothing(alloc: Global) -> Told {
+pub(crate) fn nothing(alloc: Global) -> Told
+    ensures { result.written.items ≡ [] }
+{
     Told {
         written: Vec::new(alloc),
         said: String::new(alloc),
@@ -26,7 +29,9 @@ pub(crate) fn nothing(alloc: Global) -> Told {
 }
 
 /// A message.
-pub(crate) fn tell_message(alloc: Global, said: &str) -> Result<Told, Memory> {
+pub(crate) fn tell_message(alloc: Global, said: &str) -> Result<Told, Memory>
+    ensures { IfOk result (λ t. t.written.items ≡ []) }
+{
     let said = message(alloc, said)?;
     Ok(Told {
         written: Vec::new(alloc),
@@ -43,7 +48,9 @@ fn wrote(alloc: Global, written: Vec<u8>) -> Told {
 }
 
 /// That a text is too large.
-pub(crate) fn tell_too_large(alloc: Global) -> Result<Told, Memory> {
+pub(crate) fn tell_too_large(alloc: Global) -> Result<Told, Memory>
+    ensures { IfOk result (λ t. t.written.items ≡ []) }
+{
     tell_message(alloc, TOO_LARGE)
 }
 
