@@ -4,4 +4,5 @@ mod SayingLemmas
 mod LineLemmas
 mod ProgramLemmas
 mod StepLemmas
+mod HeldLemmas
 pub mod RefutingLemmas

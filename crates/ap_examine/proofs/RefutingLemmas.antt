@@ -1,4 +1,4 @@
--- Counterexamples refute.
+-- Exams are sound: counterexamples refute, and what is held is derivable.
 use Rattle.std.proofs.Common.{◌≡◌, ℕ, suc, Bool, true, false, List, [], ◌∷◌, Option, Some, None, refl, subst}
 use Rattle.std.specs.Prelude.{if◌then◌else◌}
 use Rattle.ap_defs.specs.Answers.{NominalAnswer, NominalOut, cut, found, query_outs, stuck}
@@ -17,12 +17,13 @@ use Rattle.ap_restrict.proofs.KeepingLemmas.{kept_typed}
 use Rattle.ap_soundness.specs.FoundStates.{EachAnswer}
 use Rattle.ap_text.specs.Texts.{IsProgramOfText}
 use Rattle.ap_typecheck.proofs.TypedPrograms.{program_typed}
-use Rattle.ap_examine.specs.Counterexamples.{AreRefuted, CounterexamplesRefute, IsRefutedText, Refutes}
+use Rattle.ap_examine.specs.Counterexamples.{AreSoundExams, CounterexamplesRefute, HasSoundExams, Refutes}
 use Rattle.ap_examine.specs.Exams.{Counterexample, counter, counter_among, counter_if, exam_with, instance_of, tally_of, verdict_on}
 use Rattle.ap_examine.specs.Verdicts.{has_answer, verdict_of}
 use Rattle.ap_examine.specs.declared.exam.Tally.{Tally}
 use Rattle.ap_examine.specs.declared.verdict.Verdict.{Verdict}
 use Rattle.ap_examine.specs.declared.verdict.Verdict.TheVariants as verdict
+use Rattle.ap_examine.proofs.HeldLemmas.{held_derivable}
 
 -- refuted is what has no output
 no_output : (os : List NominalOut) → verdict_of os ≡ verdict.Refuted → os ≡ []
@@ -68,12 +69,13 @@ counters_refute p kept q t depth c e =
     among_refutes p depth q 1 outs (counters_refuted p kept q t depth) (stated_instances_derivable p kept.typed (hypothesis_query q) parts.0 depth) c
     (with_counter (counter_among p depth q 1 outs) (tally_of p depth q outs) c e)
 
-queries_refuted : (p : NominalProgram) → KeepsRestriction p → (depth : ℕ) (qs : List NominalQuery) → AreTypedQueries term_form p.signature qs → AreRefuted p depth qs
-queries_refuted p kept depth [] t = tt
-queries_refuted p kept depth (q ∷ qs) t = (counters_refute p kept q t.0 depth, queries_refuted p kept depth qs t.1)
+exams_sound : (p : NominalProgram) → KeepsRestriction p → (depth : ℕ) (qs : List NominalQuery) → AreTypedQueries term_form p.signature qs → AreSoundExams p depth qs
+exams_sound p kept depth [] t = tt
+exams_sound p kept depth (q ∷ qs) t =
+    (record { refuted = counters_refute p kept q t.0 depth; held = held_derivable p kept.typed q t.0 depth }, exams_sound p kept depth qs t.1)
 
 text_kept : (text : List ℕ) (p : NominalProgram) → IsProgramOfText text p → KeepsRestriction p
 text_kept text p is = rw is.carried (kept_restriction is.raw (kept_typed is.raw (program_typed is.items is.raw is.typed) is.kept) is.kept)
 
-pub text_refuted : (depth : ℕ) (text : List ℕ) → IsRefutedText depth text
-text_refuted depth text p is = let kept = text_kept text p is in queries_refuted p kept depth p.queries kept.typed.1
+pub text_sound : (depth : ℕ) (text : List ℕ) → HasSoundExams depth text
+text_sound depth text p is = let kept = text_kept text p is in exams_sound p kept depth p.queries kept.typed.1

@@ -4,7 +4,7 @@ ghost use Rattle.std.specs.Prelude.{◌≡◌, ◌≤◌, [], Some, IfOk, length
 ghost use Rattle.ap_defs.specs.Goals.{program_of, query_of};
 ghost use Rattle.ap_defs.specs.Limits.{size_limit};
 ghost use Rattle.ap_report.specs.declared.report.Report.{Report};
-ghost use Rattle.ap_examine.specs.Counterexamples.{IsRefutedText};
+ghost use Rattle.ap_examine.specs.Counterexamples.{HasSoundExams};
 ghost use Rattle.ap_examine.specs.Reports as reports;
 ghost use Rattle.ap_examine.specs.Reports.{IsExamReport, exam_report};
 
@@ -119,8 +119,9 @@ pub fn examine_text<R: Threads + Wait + Sync, G: Gate>(
     ensures made { IfOk result (λ r. IsExamReport depth text.now r) }
     // No other is.
     ensures only { IfOk result (λ r. (s : Report) → IsExamReport depth text.now s → s ≡ r) }
-    // For each counterexample the hypothesis is derivable to the depth, and the conclusion has no ground proof.
-    ensures refuted { IsRefutedText depth text.now }
+    // For each counterexample the hypothesis is derivable to the depth, and the conclusion has no ground proof;
+    // where an answer is held, the conclusion is derivable to the depth for its stated instance.
+    ensures sound { HasSoundExams depth text.now }
 {
     report_of(rt, alloc, gate, depth, workers, text)
 }

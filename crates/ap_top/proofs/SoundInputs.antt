@@ -3,7 +3,7 @@ use Rattle.std.proofs.Common.{ℕ, List, Option, Some, None}
 use Rattle.ap_report.proofs.SoundTexts.{sound_text}
 use Rattle.ap_bundle_prove.proofs.SoundProofs.{sound_proofs}
 use Rattle.ap_bundle_check.proofs.SoundVerdicts.{sound_verdicts}
-use Rattle.ap_examine.proofs.RefutingLemmas.{text_refuted}
+use Rattle.ap_examine.proofs.RefutingLemmas.{text_sound}
 use Rattle.ap_top.specs.Report.{IsSoundFor, Broken, HasSoundAnswers, Input, Over, Whole}
 use Rattle.ap_words.specs.declared.Asked.{Asked}
 use Rattle.ap_words.specs.declared.Asked.TheVariants as asked
@@ -25,7 +25,7 @@ sound_for (Some (asked.Count depth workers)) input = tt
 sound_for (Some (asked.Cover depth workers)) (Whole bundle) = sound_verdicts bundle
 sound_for (Some (asked.Cover depth workers)) Over = tt
 sound_for (Some (asked.Cover depth workers)) Broken = tt
-sound_for (Some (asked.Examine depth workers)) (Whole text) = text_refuted depth text
+sound_for (Some (asked.Examine depth workers)) (Whole text) = text_sound depth text
 sound_for (Some (asked.Examine depth workers)) Over = tt
 sound_for (Some (asked.Examine depth workers)) Broken = tt
 sound_for (Some (asked.Work seed size workers)) input = tt

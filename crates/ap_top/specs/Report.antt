@@ -10,7 +10,7 @@ use Rattle.ap_bundle_prove.specs.Reports.{HasSoundProofs, IsProveReport}
 use Rattle.ap_bundle_check.specs.Reports.{HasSoundVerdicts, IsCheckReport}
 use Rattle.ap_bundle_convert.specs.Reports.{IsConvertReport}
 use Rattle.ap_bundle_cover.specs.Reports.{HasCoveredProofs, IsCoverReport}
-use Rattle.ap_examine.specs.Counterexamples.{IsRefutedText}
+use Rattle.ap_examine.specs.Counterexamples.{HasSoundExams}
 use Rattle.ap_examine.specs.Reports.{IsExamReport}
 use Rattle.ap_uses.specs.Reports.{IsCountReport}
 use Rattle.ap_work.specs.Reports.{IsWorkReport}
@@ -66,7 +66,7 @@ IsSoundFor (Some (asked.Run depth workers limit)) (Whole text) = IsSoundText dep
 IsSoundFor (Some (asked.Prove depth workers limit)) (Whole text) = IsSoundText depth limit text × HasSoundProofs depth limit text
 IsSoundFor (Some asked.Check) (Whole bundle) = HasSoundVerdicts bundle
 IsSoundFor (Some (asked.Cover depth workers)) (Whole bundle) = HasSoundVerdicts bundle
-IsSoundFor (Some (asked.Examine depth workers)) (Whole text) = IsRefutedText depth text
+IsSoundFor (Some (asked.Examine depth workers)) (Whole text) = HasSoundExams depth text
 IsSoundFor _ _ = Unit {0}
 
 abbrev pub HasSoundAnswers : List (List ℕ) → Input → Type 0
