@@ -2,11 +2,11 @@
 use Rattle.std.proofs.Common.{◌≡◌, ℕ, zero, suc, ◌+◌, ◌-◌, ◌<◌, ◌≤◌, List, [], ◌∷◌, ◌++◌, length, map, refl, sym, ap, ◌∙◌, subst, arith}
 use Rattle.std.proofs.lemmas.List.{append-nil, map-id}
 use Rattle.std.specs.Global.{Global}
-use Rattle.std.specs.Prelude.{Option, Some, None, Result, Ok, Err, IfOk, IfSome, Vec, slice_get}
+use Rattle.std.specs.Prelude.{Option, Some, None, option_map, Result, Ok, Err, IfOk, IfSome, Vec, slice_get}
 use Rattle.ap_defs.specs.Answers.{NominalAnswer, NominalOut, answer_of, found, out_path, outs_at, outs_of, query_outs}
 use Rattle.ap_defs.specs.declared.outcomes.Answer.{Answer}
-use Rattle.ap_defs.specs.Goals.{NominalGoal, atom, either, Clauses, NominalQuery, clauses_of}
-use Rattle.ap_defs.specs.Paths.{marked_query}
+use Rattle.ap_defs.specs.Goals.{Clauses, NominalQuery, clauses_of}
+use Rattle.ap_defs.specs.Paths.{Choice, marked_query}
 use Rattle.ap_defs.specs.Types.{NominalLocal}
 use Rattle.ap_defs.specs.declared.paths.Node.{Node}
 use Rattle.ap_defs.specs.declared.paths.Node.TheVariants as nodes
@@ -15,20 +15,19 @@ use Rattle.ap_defs.specs.declared.paths.Out.TheVariants as code
 use Rattle.ap_program.specs.Typed.{IsTypedProgram, IsTypedQuery, term_form}
 use Rattle.ap_paths.specs.Limits.{part}
 use Rattle.ap_paths.specs.declared.limits.Limit.{Limit}
-use Rattle.ap_search.specs.Continuations.{Waiting}
-use Rattle.ap_search.specs.MarkedContinuations.{MarkedContinuation, NominalMark, choice, mark_in, mark_path, marked_calls_then, marked_clauses_then, marked_stack_then, marked_then, out, outs_among}
-use Rattle.ap_search.specs.PathTrees.{query_choices, width_at}
+use Rattle.ap_search.specs.Marks.{NominalMark, out, choice, mark_in, mark_path, outs_among, with_choices}
+use Rattle.ap_search.specs.PathTrees.{choice_at, query_choices}
 use Rattle.ap_search.specs.Prefixes.{beginning}
 use Rattle.ap_search.proofs.MarkLemmas.{marked_stack_begins}
 use Rattle.ap_search.proofs.PrefixLemmas.{beginning_deeper, beginning_whole}
 use Rattle.ap_search.proofs.QueryTreeLemmas.{outs_at_marks, place_choice, width_choice}
 use Rattle.ap_backchain.proofs.MarkLemmas.{marks_turned, settled}
-use Rattle.ap_backchain.proofs.TurnLemmas.{turns_turned}
+use Rattle.ap_backchain.proofs.TurnLemmas.{turns_turned, width_told, written_turned}
 use Rattle.ap_backchain.proofs.UnboundLemmas.{marked_stack_by_unbound, stack_by_unbound}
 use Rattle.ap_backchain.specs.Branches.{IsBranchFor, IsBranchOf, IsChoiceAt, IsChoiceOfNode, IsChoosing, IsNamed, IsNodeAt, choices_at, marks_of_standing, path_of_branch, path_of_standing}
 use Rattle.ap_backchain.specs.Ends.{kept_out, without_path}
 use Rattle.ap_backchain.specs.declared.run.Paths.TheVariants as paths
-use Rattle.ap_backchain.specs.Marks.{IsSettled, choice_of, choice_of_atom, choice_of_goal, choices_among, marks_from, marks_of_turned}
+use Rattle.ap_backchain.specs.Marks.{IsSettled, choice_of, choice_of_atom, choices_among, marks_from, marks_of_turned, told_of, written_here}
 use Rattle.ap_backchain.specs.Places.{position_of}
 use Rattle.ap_backchain.specs.Positions.{Position, Turned, ends, goes, outs_from, turned}
 use Rattle.ap_backchain.specs.Problems.{clauses_in, program_in, queries_in}
@@ -64,48 +63,37 @@ module _ (program : Clauses) (locals : List NominalLocal) (here : Position) (h :
       omega arith
 
 -- A place that chooses has a mark there.
-choosing_atom : (program : Clauses) (d c : ℕ) (ts : List _) (m : MarkedContinuation) (p : List ℕ) (s : _) (xs : List _) (v : ℕ) → choice_of_atom program d c ≡ Some v
-    → (rest : List NominalMark) × (marked_calls_then program d c ts m p s xs ≡ choice p v ∷ rest)
-choosing_atom program zero c ts m p s xs v h = absurd cc
-choosing_atom program (suc d) c ts m p s xs v h =
-    let rest = marked_clauses_then (marked_then (marked_calls_then program d)) ts m 1 (clauses_of program c) p s xs in
-    let e : length (clauses_of program c) ≡ v = cc in
-    (rest, ap (λ w. choice p w ∷ rest) e)
-
-choosing_goal : (program : Clauses) (d : ℕ) (g : NominalGoal) (m : MarkedContinuation) (p : List ℕ) (s : _) (xs : List _) (v : ℕ) → choice_of_goal program d g ≡ Some v
-    → (rest : List NominalMark) × (marked_then (marked_calls_then program d) g m p s xs ≡ choice p v ∷ rest)
-choosing_goal program d (atom c ts) m p s xs v h = choosing_atom program d c ts m p s xs v h
-choosing_goal program d (either f g) m p s xs v h =
-    let rest = marked_then (marked_calls_then program d) f m (p ++ 1 ∷ []) s xs ++ marked_then (marked_calls_then program d) g m (p ++ 2 ∷ []) s xs in
-    let e : 2 ≡ v = cc in
-    (rest, ap (λ w. choice p w ∷ rest) e)
-choosing_goal program d _ m p s xs v h = absurd cc
-
-choosing_by : (program : Clauses) (locals : List NominalLocal) (ws : List Waiting) (p : List ℕ) (s : _) (xs : List _) (v : ℕ) → choice_of program ws ≡ Some v
-    → (rest : List NominalMark) × (marked_stack_then program (answer_by_unbound locals) ws p s xs ≡ choice p v ∷ rest)
-choosing_by program locals [] p s xs v h = absurd cc
-choosing_by program locals (w ∷ ws) p s xs v h = choosing_goal program w.depth w.goal (marked_stack_then program (answer_by_unbound locals) ws) p s xs v h
-
-pub choosing_marks : (program : Clauses) (locals : List NominalLocal) (p : Position) (v : ℕ) → choice_of program p.waiting ≡ Some v
-    → (rest : List NominalMark) × (marks_from program locals p ≡ choice p.path v ∷ rest)
-choosing_marks program locals p v h = choosing_by program locals p.waiting p.path p.state p.brought v h
+pub choosing_marks : (program : Clauses) (locals : List NominalLocal) (p : Position) (o : Option Choice) → told_of program p.state p.waiting ≡ o
+    → marks_from program locals p ≡ written_here with_choices p.path o ++ marks_of_turned program locals (turned program locals p)
+choosing_marks program locals p o h =
+    sym (written_turned with_choices program locals p)
+    ∙ ap (λ x. written_here with_choices p.path x ++ marks_of_turned program locals (turned program locals p)) h
 
 -- The node of a branch is that of the search at its path.
 module _ (program : Clauses) (d : ℕ) (q : NominalQuery) where
   chooses : (w : ℕ) (p : Place) → beginning mark_path p.path.items (map (mark_in q.locals) (marked_query program d q)) ≡ marks_from program q.locals (position_of p)
       → choice_of program (position_of p).waiting ≡ Some w → query_choices program d q p.path.items ≡ Some w
-  chooses w p h c =
-      let m = choosing_marks program q.locals (position_of p) w c in
-      place_choice program d q p.path.items (marks_from program q.locals (position_of p)) h ∙ ap (width_at p.path.items) m.1 ∙ width_choice p.path.items w m.0
+  chooses w p h c = told (told_of program (position_of p).state (position_of p).waiting) refl
+    where
+      told : (o : Option Choice) → told_of program (position_of p).state (position_of p).waiting ≡ o → query_choices program d q p.path.items ≡ Some w
+      told None e = let k = ap (option_map (λ (v : Choice). v.width)) (sym e) ∙ width_told program (position_of p).state (position_of p).waiting ∙ c in cc
+      told (Some v) e =
+          let here = place_choice program d q p.path.items (marks_from program q.locals (position_of p)) h
+              ∙ ap (choice_at p.path.items) (choosing_marks program q.locals (position_of p) (Some v) e)
+              ∙ width_choice p.path.items v (marks_of_turned program q.locals (turned program q.locals (position_of p))) in
+          ap (option_map (λ (x : Choice). x.width)) (here ∙ sym e) ∙ width_told program (position_of p).state (position_of p).waiting ∙ c
+
+  no_choice : (p : List ℕ) (ms : List NominalMark) → beginning mark_path p (map (mark_in q.locals) (marked_query program d q)) ≡ ms → choice_at p ms ≡ None → query_choices program d q p ≡ None
+  no_choice p ms h e = ap (option_map (λ (v : Choice). v.width)) (place_choice program d q p ms h ∙ e)
 
   pub node_at : (n : Node) (s : Standing) → beginning mark_path (path_of_standing s) (map (mark_in q.locals) (marked_query program d q)) ≡ marks_of_standing program q.locals s
       → IsChoosing program s → IsNamed n s → IsNodeAt program d q (path_of_standing s) n
   node_at (nodes.Choice w kept) (standings.Choosing v p) h c k = (chooses v p h c ∙ ap Some (sym k.0), k.1)
   node_at nodes.Answer (standings.Ended (code.Found p a)) h c k =
-      (place_choice program d q p _ h, (_, outs_at_marks program d q p ∙ ap outs_among h))
-  node_at nodes.Cut (standings.Ended (code.Cut p)) h c k = (place_choice program d q p _ h, outs_at_marks program d q p ∙ ap outs_among h)
-  node_at nodes.Stuck (standings.Ended (code.Stuck p)) h c k = (place_choice program d q p _ h, outs_at_marks program d q p ∙ ap outs_among h)
-  node_at nodes.Failed (standings.Failed path) h c k = (place_choice program d q path.items _ h, outs_at_marks program d q path.items ∙ ap outs_among h)
+      (no_choice p _ h refl, (_, outs_at_marks program d q p ∙ ap outs_among h))
+  node_at nodes.Cut (standings.Ended (code.Cut p)) h c k = (no_choice p _ h refl, outs_at_marks program d q p ∙ ap outs_among h)
+  node_at nodes.Stuck (standings.Ended (code.Stuck p)) h c k = (no_choice p _ h refl, outs_at_marks program d q p ∙ ap outs_among h)
+  node_at nodes.Failed (standings.Failed path) h c k = (no_choice path.items _ h refl, outs_at_marks program d q path.items ∙ ap outs_among h)
   node_at _ _ h c k = absurd k
 
   pub run_at : (s : Standing) → beginning mark_path (path_of_standing s) (map (mark_in q.locals) (marked_query program d q)) ≡ marks_of_standing program q.locals s

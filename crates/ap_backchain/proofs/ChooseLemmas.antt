@@ -2,26 +2,27 @@
 use Rattle.std.proofs.Common.{◌≡◌, ℕ, zero, suc, ◌+◌, ◌-◌, ◌<◌, ◌≤◌, List, [], ◌∷◌, ◌++◌, length, get_or, map, refl, sym, ap, ◌∙◌, subst, arith}
 use Rattle.std.proofs.lemmas.List.{append-nil}
 use Rattle.std.specs.Prelude.{if◌then◌else◌, Option, Some, None}
+use Rattle.ap_defs.specs.HeadKeys.{kept_clauses}
+use Rattle.ap_defs.specs.Paths.{Choice}
 use Rattle.ap_defs.specs.Goals.{NominalGoal, NominalClause, atom, either, Clauses, clause_of, clauses_of}
-use Rattle.ap_defs.specs.Renaming.{rename_term}
-use Rattle.ap_defs.specs.Resolution.{State, kinds_of, next_number}
+use Rattle.ap_defs.specs.Resolution.{State}
 use Rattle.ap_defs.specs.Terms.{NominalTerm}
 use Rattle.ap_defs.specs.Types.{NominalLocal}
-use Rattle.ap_defs.specs.Unification.{unify}
 use Rattle.ap_defs.specs.declared.goals.Clause.{Clause}
 use Rattle.ap_defs.specs.declared.terms.Term.{Term}
 use Rattle.ap_search.specs.FitStates.{AreFitClauses, IsFitClause}
-use Rattle.ap_search.specs.MarkedContinuations.{NominalMark, choice, mark_path, marked_calls_then, marked_clause_then, marked_clauses_then, marked_stack_then, marked_then}
+use Rattle.ap_search.specs.Continuations.{calls_then, clause_then, clauses_then, goal_then}
+use Rattle.ap_search.specs.Marks.{NominalMark, choice, mark_path, with_choices, stack_marks}
 use Rattle.ap_search.specs.Prefixes.{beginning}
 use Rattle.ap_search.proofs.ChoiceLemmas.{beginning_first, beginning_second, mark_way}
 use Rattle.ap_search.proofs.MarkLemmas.{calls_begin, marked_stack_begins}
 use Rattle.ap_search.proofs.PrefixLemmas.{beginning_other, beginning_whole, prefix_itself, prefix_longer}
-use Rattle.ap_backchain.proofs.MarkLemmas.{marks_unified}
+use Rattle.ap_backchain.proofs.TurnLemmas.{written_clause}
 use Rattle.ap_backchain.specs.Marks.{IsAmong, choice_of_goal, clauses_marks, goal_marks, marks_from, marks_from_each}
 use Rattle.ap_backchain.specs.Positions.{Position, by_clause, each_position, entered, with_choice, with_goal}
 use Rattle.ap_backchain.specs.Unbound.{answer_by_unbound}
 
-past_choice : (p : List ℕ) (k w : ℕ) (ms : List NominalMark) → beginning mark_path (p ++ k ∷ []) (choice p w ∷ ms) ≡ beginning mark_path (p ++ k ∷ []) ms
+past_choice : (p : List ℕ) (k : ℕ) (w : Choice) (ms : List NominalMark) → beginning mark_path (p ++ k ∷ []) (choice p w ∷ ms) ≡ beginning mark_path (p ++ k ∷ []) ms
 past_choice p k w ms =
     ap (λ b. if b then (choice p w ∷ beginning mark_path (p ++ k ∷ []) ms) else beginning mark_path (p ++ k ∷ []) ms)
     (prefix_longer p k (p ++ k ∷ []) (prefix_itself (p ++ k ∷ [])))
@@ -41,18 +42,17 @@ module _ (program : Clauses) (locals : List NominalLocal) (d : ℕ) where
   pub clause_way : (ts : List NominalTerm) (p : Position) (k : ℕ) (c : NominalClause) (cs : List NominalClause) → 1 ≤ k → k - 1 < length cs → c ≡ get_or cs (k - 1) c
       → marks_from_each program locals (by_clause d ts p k c)
       ≡ beginning mark_path (p.path ++ k ∷ [])
-      (marked_clauses_then (marked_then (marked_calls_then program d)) ts (marked_stack_then program (answer_by_unbound locals) p.waiting) 1 cs p.path p.state p.brought)
+      (clauses_then (goal_then with_choices (calls_then with_choices program d)) ts (stack_marks program (answer_by_unbound locals) p.waiting) 1 cs p.path p.state p.brought)
   clause_way ts p k c cs low high e =
       let f : 1 + (k - 1) ≡ k = omega arith in
-      let m = marked_stack_then program (answer_by_unbound locals) p.waiting in
-      marks_unified program locals (entered d p k c) (record (p.state) { kinds = p.state.kinds ++ kinds_of c.locals })
-      (unify p.state.bindings p.state.conditions ts (map (rename_term (next_number p.state)) c.args))
-      ∙ ap (λ (x : NominalClause). marked_clause_then (marked_then (marked_calls_then program d)) ts m k x p.path p.state p.brought) e
+      let m = stack_marks program (answer_by_unbound locals) p.waiting in
+      written_clause with_choices program locals d ts p k c
+      ∙ ap (λ (x : NominalClause). clause_then (goal_then with_choices (calls_then with_choices program d)) ts m k x p.path p.state p.brought) e
       ∙ sym
       (subst
-      (λ (j : ℕ). beginning mark_path (p.path ++ j ∷ []) (marked_clauses_then (marked_then (marked_calls_then program d)) ts m 1 cs p.path p.state p.brought)
-      ≡ marked_clause_then (marked_then (marked_calls_then program d)) ts m j (get_or cs (k - 1) c) p.path p.state p.brought) f
-      (mark_way (marked_calls_then program d) (calls_begin program d) ts m (marked_stack_begins program (answer_by_unbound locals) p.waiting) p.path p.state p.brought 1 (k - 1) c cs high))
+      (λ (j : ℕ). beginning mark_path (p.path ++ j ∷ []) (clauses_then (goal_then with_choices (calls_then with_choices program d)) ts m 1 cs p.path p.state p.brought)
+      ≡ clause_then (goal_then with_choices (calls_then with_choices program d)) ts m j (get_or cs (k - 1) c) p.path p.state p.brought) f
+      (mark_way (calls_then with_choices program d) (calls_begin program d) ts m (marked_stack_begins program (answer_by_unbound locals) p.waiting) p.path p.state p.brought 1 (k - 1) c cs high))
 
   pub entered_path : (p : Position) (k : ℕ) (c : NominalClause) (o : Option State) (r : Position) → r ∷ [] ≡ each_position (entered d p k c) o → r.path ≡ p.path ++ k ∷ []
   entered_path p k c None r h = cc
@@ -61,21 +61,21 @@ module _ (program : Clauses) (locals : List NominalLocal) (d : ℕ) where
   -- below a side of a disjunction
   pub left_way : (g h : NominalGoal) (p : Position)
       → marks_from program locals (with_goal d g (with_choice 1 p))
-      ≡ beginning mark_path (p.path ++ 1 ∷ []) (marked_then (marked_calls_then program d) (either g h) (marked_stack_then program (answer_by_unbound locals) p.waiting) p.path p.state p.brought)
+      ≡ beginning mark_path (p.path ++ 1 ∷ []) (goal_then with_choices (calls_then with_choices program d) (either g h) (stack_marks program (answer_by_unbound locals) p.waiting) p.path p.state p.brought)
   left_way g h p =
       let first = marks_from program locals (with_goal d g (with_choice 1 p)) in
       let second = marks_from program locals (with_goal d h (with_choice 2 p)) in
-      sym (past_choice p.path 1 2 (first ++ second)
+      sym (past_choice p.path 1 (record { width = 2; kept = 1 ∷ 2 ∷ [] }) (first ++ second)
       ∙ beginning_first mark_path p.path 1 first second (marked_stack_begins program (answer_by_unbound locals) (record { goal = g; depth = d } ∷ p.waiting) (p.path ++ 1 ∷ []) p.state p.brought)
       (beginning_other mark_path p.path 2 1 second (λ e. omega arith) (marked_stack_begins program (answer_by_unbound locals) (record { goal = h; depth = d } ∷ p.waiting) (p.path ++ 2 ∷ []) p.state p.brought)))
 
   pub right_way : (g h : NominalGoal) (p : Position)
       → marks_from program locals (with_goal d h (with_choice 2 p))
-      ≡ beginning mark_path (p.path ++ 2 ∷ []) (marked_then (marked_calls_then program d) (either g h) (marked_stack_then program (answer_by_unbound locals) p.waiting) p.path p.state p.brought)
+      ≡ beginning mark_path (p.path ++ 2 ∷ []) (goal_then with_choices (calls_then with_choices program d) (either g h) (stack_marks program (answer_by_unbound locals) p.waiting) p.path p.state p.brought)
   right_way g h p =
       let first = marks_from program locals (with_goal d g (with_choice 1 p)) in
       let second = marks_from program locals (with_goal d h (with_choice 2 p)) in
-      sym (past_choice p.path 2 2 (first ++ second)
+      sym (past_choice p.path 2 (record { width = 2; kept = 1 ∷ 2 ∷ [] }) (first ++ second)
       ∙ beginning_second mark_path p.path 1 2 first second (λ e. omega arith) (marked_stack_begins program (answer_by_unbound locals) (record { goal = g; depth = d } ∷ p.waiting) (p.path ++ 1 ∷ []) p.state p.brought)
       ∙ beginning_whole mark_path (p.path ++ 2 ∷ []) second (marked_stack_begins program (answer_by_unbound locals) (record { goal = h; depth = d } ∷ p.waiting) (p.path ++ 2 ∷ []) p.state p.brought))
 
@@ -95,7 +95,7 @@ pub atom_marks : (program : Clauses) (locals : List NominalLocal) (d c : ℕ) (t
 atom_marks program locals zero c ts p k h = absurd (h refl)
 atom_marks program locals (suc d) c ts p k h =
     let e : d ≡ suc d - 1 = omega arith in
-    past_choice p.path k (length (clauses_of program c)) (clauses_marks program locals d ts (clauses_of program c) p)
+    past_choice p.path k (record { width = length (clauses_of program c); kept = kept_clauses p.state.bindings ts (clauses_of program c) }) (clauses_marks program locals d ts (clauses_of program c) p)
     ∙ ap (λ n. beginning mark_path (p.path ++ k ∷ []) (clauses_marks program locals n ts (clauses_of program c) p)) e
 
 pub deep_enough : (program : Clauses) (d c : ℕ) (ts : List NominalTerm) (k : ℕ) → IsAmong k (choice_of_goal program d (atom c ts)) → d ≡ 0 → ⊥

@@ -6,17 +6,18 @@ use Rattle.ap_defs.specs.Goals.{Clauses}
 use Rattle.ap_defs.specs.Types.{NominalLocal}
 use Rattle.ap_paths.specs.Limits.{IsWanting, part}
 use Rattle.ap_paths.specs.declared.limits.Limit.{Limit}
+use Rattle.ap_search.specs.Continuations.{outputs_alone}
 use Rattle.ap_backchain.specs.Positions.{Position, Turned, ends, goes, outs_from_each, outs_of_turned, turned}
 use Rattle.ap_backchain.specs.Searches.{ended, followed}
 use Rattle.ap_backchain.specs.Turns.{turns_from, turns_from_each, turns_of_turned}
 use Rattle.ap_backchain.specs.Wanted.{wanted_after}
-use Rattle.ap_backchain.proofs.TurnLemmas.{outs_append, outs_turned, turns_append, turns_turned}
+use Rattle.ap_backchain.proofs.TurnLemmas.{outs_turned, turns_append, turns_turned, written_append}
 use Rattle.ap_backchain.proofs.WantedLemmas.{part_ended}
 
 module _ (program : Clauses) (locals : List NominalLocal) (kept : NominalOut → NominalOut) where
   outs_followed : (t : Turned) (ps : List Position) → ended t ++ outs_from_each program locals (followed t ps) ≡ outs_of_turned program locals t ++ outs_from_each program locals ps
   outs_followed (ends o) ps = refl
-  outs_followed (goes rs) ps = outs_append program locals rs ps
+  outs_followed (goes rs) ps = written_append outputs_alone program locals rs ps
 
   pub turn_keeps : (l m : Limit) (p : Position) (ps qs : List Position) (outs more all : List NominalOut) → IsWanting l 0
       → qs ≡ followed (turned program locals p) ps → m ≡ wanted_after l (ended (turned program locals p))

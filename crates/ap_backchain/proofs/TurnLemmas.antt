@@ -1,10 +1,12 @@
 -- What a turn makes of a place has the outputs of the place, and fewer turns to go.
-use Rattle.std.proofs.Common.{◌≡◌, ℕ, zero, suc, ◌+◌, List, [], ◌∷◌, ◌++◌, refl, sym, ap, ◌∙◌, append_assoc, arith}
+use Rattle.std.proofs.Common.{◌≡◌, ℕ, zero, suc, ◌+◌, List, [], ◌∷◌, ◌++◌, refl, sym, ap, ap₂, ◌∙◌, append_assoc, arith}
 use Rattle.std.proofs.lemmas.List.{append-nil}
-use Rattle.std.specs.Prelude.{Option, Some, None, map}
+use Rattle.std.specs.Prelude.{Option, Some, None, map, length, option_map}
 use Rattle.ap_defs.specs.declared.terms.Cond.{Cond}
 use Rattle.ap_defs.specs.Goals.{NominalGoal, succeed, atom, equal, fresh, both, either, exists, new, NominalClause, Clauses, clauses_of}
+use Rattle.ap_defs.specs.HeadKeys.{kept_clauses}
 use Rattle.ap_defs.specs.Occurrences.{free_vars}
+use Rattle.ap_defs.specs.Paths.{Choice}
 use Rattle.ap_defs.specs.Freshness.{reduce}
 use Rattle.ap_defs.specs.Renaming.{rename_goal, rename_term}
 use Rattle.ap_defs.specs.Resolution.{State, fresh_for_each, kinds_of, next_number}
@@ -13,84 +15,129 @@ use Rattle.ap_defs.specs.Terms as terms
 use Rattle.ap_defs.specs.Terms.{NominalTerm}
 use Rattle.ap_defs.specs.Types.{NominalLocal}
 use Rattle.ap_defs.specs.Unification.{Unified, reduce_all, unify}
-use Rattle.ap_search.specs.Continuations.{Waiting, calls_then, clause_then, clauses_then, goal_then, stack_then, then_if_reduced, then_if_unified, then_test_fresh}
-use Rattle.ap_backchain.specs.Positions.{Position, by_clause, by_clauses, clause_state, each_position, entered, outs_from, outs_from_each, outs_of_turned, reduced_state, turned, turned_atom, turned_by, turned_fresh, turned_goal, unified_state, with_state}
+use Rattle.ap_search.specs.Continuations.{Continuation, Waiting, Writing, calls_then, clause_then, clauses_then, goal_then, outputs_alone, stack_then, then_if_reduced, then_if_unified, then_test_fresh}
+use Rattle.ap_backchain.specs.Marks.{choice_of, choice_of_atom, choice_of_goal, told_of, told_of_atom, told_of_goal, written_here}
+use Rattle.ap_backchain.specs.Positions.{Position, by_clause, by_clauses, clause_state, each_position, entered, outs_from, outs_of_turned, reduced_state, turned, turned_atom, turned_by, turned_fresh, turned_goal, unified_state, with_state, written_from, written_from_each, written_of_turned}
 use Rattle.ap_backchain.specs.Turns.{call_turns, clauses_turns, fresh_turns, goal_turns, stack_turns, turns_from, turns_from_each, turns_if, turns_of_turned}
 use Rattle.ap_backchain.specs.Unbound.{answer_by_unbound}
 
--- Outputs.
-pub outs_append : (program : Clauses) (locals : List NominalLocal) (ps qs : List Position)
-    → outs_from_each program locals (ps ++ qs) ≡ outs_from_each program locals ps ++ outs_from_each program locals qs
-outs_append program locals [] qs = refl
-outs_append program locals (p ∷ ps) qs =
-    ap (λ os. outs_from program locals p ++ os) (outs_append program locals ps qs)
-    ∙ sym (append_assoc (outs_from program locals p) (outs_from_each program locals ps) (outs_from_each program locals qs))
+-- What is written: that of the choice that the first goal makes, and what a turn makes of the place.
+module _ {R : Type 0} (w : Writing R) (program : Clauses) (locals : List NominalLocal) where
+  pub written_append : (ps qs : List Position)
+      → written_from_each w program locals (ps ++ qs) ≡ written_from_each w program locals ps ++ written_from_each w program locals qs
+  written_append [] qs = refl
+  written_append (p ∷ ps) qs =
+      ap (λ os. written_from w program locals p ++ os) (written_append ps qs)
+      ∙ sym (append_assoc (written_from w program locals p) (written_from_each w program locals ps) (written_from_each w program locals qs))
 
-outs_unified : (program : Clauses) (locals : List NominalLocal) (f : State → Position) (s : State) (o : Option Unified)
-    → outs_from_each program locals (each_position f (unified_state s o)) ≡ then_if_unified (λ r. outs_from program locals (f r)) s o
-outs_unified program locals f s None = refl
-outs_unified program locals f s (Some r) = append-nil (outs_from program locals (f (record s { bindings = r.bindings; conditions = r.conditions })))
+  written_unified : (f : State → Position) (s : State) (o : Option Unified)
+      → written_from_each w program locals (each_position f (unified_state s o)) ≡ then_if_unified (λ r. written_from w program locals (f r)) s o
+  written_unified f s None = refl
+  written_unified f s (Some r) = append-nil _
 
-outs_reduced : (program : Clauses) (locals : List NominalLocal) (f : State → Position) (s : State) (o : Option (List Cond))
-    → outs_from_each program locals (each_position f (reduced_state s o)) ≡ then_if_reduced (λ r. outs_from program locals (f r)) s o
-outs_reduced program locals f s None = refl
-outs_reduced program locals f s (Some cs) = append-nil _
+  written_reduced : (f : State → Position) (s : State) (o : Option (List Cond))
+      → written_from_each w program locals (each_position f (reduced_state s o)) ≡ then_if_reduced (λ r. written_from w program locals (f r)) s o
+  written_reduced f s None = refl
+  written_reduced f s (Some cs) = append-nil _
 
-outs_fresh : (program : Clauses) (locals : List NominalLocal) (p : Position) (t u : NominalTerm)
-    → outs_of_turned program locals (turned_fresh p t u) ≡ then_test_fresh (λ r. outs_from program locals (with_state r p)) p.path p.state t u
-outs_fresh program locals p (terms.name a) u = outs_reduced program locals (λ s. with_state s p) p.state (reduce a (under p.state.bindings u))
-outs_fresh program locals p (terms.susp q x) u = refl
-outs_fresh program locals p terms.unit u = refl
-outs_fresh program locals p (terms.pair _ _) u = refl
-outs_fresh program locals p (terms.app _ _) u = refl
-outs_fresh program locals p (terms.abs _ _) u = refl
+  written_fresh : (p : Position) (t u : NominalTerm)
+      → written_of_turned w program locals (turned_fresh p t u) ≡ then_test_fresh w (λ r. written_from w program locals (with_state r p)) p.path p.state t u
+  written_fresh p (terms.name a) u = written_reduced (λ s. with_state s p) p.state (reduce a (under p.state.bindings u))
+  written_fresh p (terms.susp q x) u = refl
+  written_fresh p terms.unit u = refl
+  written_fresh p (terms.pair _ _) u = refl
+  written_fresh p (terms.app _ _) u = refl
+  written_fresh p (terms.abs _ _) u = refl
 
-pub outs_clause : (program : Clauses) (locals : List NominalLocal) (d : ℕ) (ts : List NominalTerm) (p : Position) (i : ℕ) (c : NominalClause)
-    → outs_from_each program locals (by_clause d ts p i c)
-    ≡ clause_then (goal_then (calls_then program d)) ts (stack_then program (answer_by_unbound locals) p.waiting) i c p.path p.state p.brought
-outs_clause program locals d ts p i c =
-    outs_unified program locals (entered d p i c) (record (p.state) { kinds = p.state.kinds ++ kinds_of c.locals })
-    (unify p.state.bindings p.state.conditions ts (map (rename_term (next_number p.state)) c.args))
+  abbrev rest_of : Position → Continuation R
+  rest_of p = stack_then w program (answer_by_unbound locals) p.waiting
 
-pub outs_clauses : (program : Clauses) (locals : List NominalLocal) (d : ℕ) (ts : List NominalTerm) (p : Position) (i : ℕ) (cs : List NominalClause)
-    → outs_from_each program locals (by_clauses d ts p i cs)
-    ≡ clauses_then (goal_then (calls_then program d)) ts (stack_then program (answer_by_unbound locals) p.waiting) i cs p.path p.state p.brought
-outs_clauses program locals d ts p i [] = refl
-outs_clauses program locals d ts p i (c ∷ cs) =
-    outs_append program locals (by_clause d ts p i c) (by_clauses d ts p (suc i) cs)
-    ∙ ap (λ os. os ++ outs_from_each program locals (by_clauses d ts p (suc i) cs)) (outs_clause program locals d ts p i c)
-    ∙ ap (λ os. clause_then (goal_then (calls_then program d)) ts (stack_then program (answer_by_unbound locals) p.waiting) i c p.path p.state p.brought ++ os) (outs_clauses program locals d ts p (suc i) cs)
+  pub written_clause : (d : ℕ) (ts : List NominalTerm) (p : Position) (i : ℕ) (c : NominalClause)
+      → written_from_each w program locals (by_clause d ts p i c)
+      ≡ clause_then (goal_then w (calls_then w program d)) ts (rest_of p) i c p.path p.state p.brought
+  written_clause d ts p i c =
+      written_unified (entered d p i c) (record (p.state) { kinds = p.state.kinds ++ kinds_of c.locals })
+      (unify p.state.bindings p.state.conditions ts (map (rename_term (next_number p.state)) c.args))
 
-outs_atom : (program : Clauses) (locals : List NominalLocal) (d c : ℕ) (ts : List NominalTerm) (p : Position)
-    → outs_of_turned program locals (turned_atom program d c ts p) ≡ calls_then program d c ts (stack_then program (answer_by_unbound locals) p.waiting) p.path p.state p.brought
-outs_atom program locals zero c ts p = refl
-outs_atom program locals (suc d) c ts p = outs_clauses program locals d ts p 1 (clauses_of program c)
+  pub written_clauses : (d : ℕ) (ts : List NominalTerm) (p : Position) (i : ℕ) (cs : List NominalClause)
+      → written_from_each w program locals (by_clauses d ts p i cs)
+      ≡ clauses_then (goal_then w (calls_then w program d)) ts (rest_of p) i cs p.path p.state p.brought
+  written_clauses d ts p i [] = refl
+  written_clauses d ts p i (c ∷ cs) =
+      written_append (by_clause d ts p i c) (by_clauses d ts p (suc i) cs)
+      ∙ ap₂ ◌++◌ (written_clause d ts p i c) (written_clauses d ts p (suc i) cs)
 
-pub outs_goal : (program : Clauses) (locals : List NominalLocal) (d : ℕ) (g : NominalGoal) (p : Position)
-    → outs_of_turned program locals (turned_goal program d g p)
-    ≡ goal_then (calls_then program d) g (stack_then program (answer_by_unbound locals) p.waiting) p.path p.state p.brought
-outs_goal program locals d succeed p = append-nil (outs_from program locals p)
-outs_goal program locals d (atom c ts) p = outs_atom program locals d c ts p
-outs_goal program locals d (equal t u) p =
-    outs_unified program locals (λ s. with_state s p) p.state (unify p.state.bindings p.state.conditions (t ∷ []) (u ∷ []))
-outs_goal program locals d (fresh t u) p = outs_fresh program locals p (under p.state.bindings t) u
-outs_goal program locals d (both g h) p = append-nil _
-outs_goal program locals d (either g h) p =
-    ap (λ os. goal_then (calls_then program d) g (stack_then program (answer_by_unbound locals) p.waiting) (p.path ++ 1 ∷ []) p.state p.brought ++ os)
-    (append-nil (goal_then (calls_then program d) h (stack_then program (answer_by_unbound locals) p.waiting) (p.path ++ 2 ∷ []) p.state p.brought))
-outs_goal program locals d (exists x g) p = append-nil _
-outs_goal program locals d (new a g) p =
-    outs_reduced program locals (λ s. with_state s (record p { waiting = record { goal = g; depth = d } ∷ p.waiting })) p.state
-    (reduce_all p.state.bindings (fresh_for_each a (free_vars g)))
+  written_atom : (d c : ℕ) (ts : List NominalTerm) (p : Position)
+      → written_here w p.path (told_of_atom program p.state d c ts) ++ written_of_turned w program locals (turned_atom program d c ts p)
+      ≡ calls_then w program d c ts (rest_of p) p.path p.state p.brought
+  written_atom zero c ts p = refl
+  written_atom (suc d) c ts p =
+      let cs = clauses_of program c in
+      ap (λ os. w.choice p.path (length cs) (kept_clauses p.state.bindings ts cs) ++ os) (written_clauses d ts p 1 cs)
 
-outs_by : (program : Clauses) (locals : List NominalLocal) (ws : List Waiting) (p : Position)
-    → outs_of_turned program locals (turned_by program locals ws p) ≡ stack_then program (answer_by_unbound locals) ws p.path p.state p.brought
-outs_by program locals [] p = refl
-outs_by program locals (w ∷ ws) p = outs_goal program locals w.depth w.goal (record p { waiting = ws })
+  written_goal : (d : ℕ) (g : NominalGoal) (p : Position)
+      → written_here w p.path (told_of_goal program p.state d g) ++ written_of_turned w program locals (turned_goal program d g p)
+      ≡ goal_then w (calls_then w program d) g (rest_of p) p.path p.state p.brought
+  written_goal d succeed p = append-nil _
+  written_goal d (atom c ts) p = written_atom d c ts p
+  written_goal d (equal t u) p =
+      written_unified (λ s. with_state s p) p.state (unify p.state.bindings p.state.conditions (t ∷ []) (u ∷ []))
+  written_goal d (fresh t u) p = written_fresh p (under p.state.bindings t) u
+  written_goal d (both g h) p = append-nil _
+  written_goal d (either g h) p =
+      ap (λ os. w.choice p.path 2 (1 ∷ 2 ∷ []) ++ (goal_then w (calls_then w program d) g (rest_of p) (p.path ++ 1 ∷ []) p.state p.brought ++ os)) (append-nil _)
+  written_goal d (exists x g) p = append-nil _
+  written_goal d (new a g) p =
+      written_reduced (λ s. with_state s (record p { waiting = record { goal = g; depth = d } ∷ p.waiting })) p.state
+      (reduce_all p.state.bindings (fresh_for_each a (free_vars g)))
+
+  written_by : (ws : List Waiting) (p : Position)
+      → written_here w p.path (told_of program p.state ws) ++ written_of_turned w program locals (turned_by program locals ws p)
+      ≡ stack_then w program (answer_by_unbound locals) ws p.path p.state p.brought
+  written_by [] p = refl
+  written_by (v ∷ vs) p = written_goal v.depth v.goal (record p { waiting = vs })
+
+  pub written_turned : (p : Position)
+      → written_here w p.path (told_of program p.state p.waiting) ++ written_of_turned w program locals (turned program locals p)
+      ≡ written_from w program locals p
+  written_turned p = written_by p.waiting p
+
+-- among how many it chooses does not hang on the state
+width_told_atom : (program : Clauses) (s : State) (d c : ℕ) (ts : List NominalTerm) → option_map (λ (v : Choice). v.width) (told_of_atom program s d c ts) ≡ choice_of_atom program d c
+width_told_atom program s zero c ts = refl
+width_told_atom program s (suc d) c ts = refl
+
+width_told_goal : (program : Clauses) (s : State) (d : ℕ) (g : NominalGoal) → option_map (λ (v : Choice). v.width) (told_of_goal program s d g) ≡ choice_of_goal program d g
+width_told_goal program s d succeed = refl
+width_told_goal program s d (atom c ts) = width_told_atom program s d c ts
+width_told_goal program s d (equal t u) = refl
+width_told_goal program s d (fresh t u) = refl
+width_told_goal program s d (both g h) = refl
+width_told_goal program s d (either g h) = refl
+width_told_goal program s d (exists x g) = refl
+width_told_goal program s d (new a g) = refl
+
+pub width_told : (program : Clauses) (s : State) (ws : List Waiting) → option_map (λ (v : Choice). v.width) (told_of program s ws) ≡ choice_of program ws
+width_told program s [] = refl
+width_told program s (w ∷ ws) = width_told_goal program s w.depth w.goal
+
+pub nothing_chosen : (program : Clauses) (s : State) (ws : List Waiting) → choice_of program ws ≡ None → told_of program s ws ≡ None
+nothing_chosen program s ws h = of (told_of program s ws) refl
+  where
+    of : (o : Option Choice) → told_of program s ws ≡ o → told_of program s ws ≡ None
+    of None e = e
+    of (Some v) e = let k = ap (option_map (λ (c : Choice). c.width)) (sym e) ∙ width_told program s ws ∙ h in cc
+
+-- where outputs alone are written, nothing is of a choice
+none_here : (p : List ℕ) (o : Option Choice) → written_here outputs_alone p o ≡ []
+none_here p None = refl
+none_here p (Some v) = refl
 
 pub outs_turned : (program : Clauses) (locals : List NominalLocal) (p : Position)
     → outs_of_turned program locals (turned program locals p) ≡ outs_from program locals p
-outs_turned program locals p = outs_by program locals p.waiting p
+outs_turned program locals p =
+    ap (λ os. os ++ outs_of_turned program locals (turned program locals p)) (sym (none_here p.path (told_of program p.state p.waiting)))
+    ∙ written_turned outputs_alone program locals p
 
 -- Turns.
 pub turns_append : (program : Clauses) (ps qs : List Position) → turns_from_each program (ps ++ qs) ≡ turns_from_each program ps + turns_from_each program qs

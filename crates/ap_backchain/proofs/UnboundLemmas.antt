@@ -10,10 +10,9 @@ use Rattle.ap_defs.specs.Derivations.{NominalDerivation}
 use Rattle.ap_defs.specs.Freshness.{add_conds, both as both_lists, reduce, var_eq}
 use Rattle.ap_defs.specs.Goals.{NominalGoal, succeed, atom, equal, fresh, both, either, exists, new, NominalClause, NominalProgram, NominalQuery, Clauses, clauses_of}
 use Rattle.ap_defs.specs.Occurrences.{free_vars, vars_of_terms}
-use Rattle.ap_defs.specs.Paths as tree
-use Rattle.ap_defs.specs.Paths.{Mark, each_found_mark, end, mark_below, marked, marked_calls, marked_clause, marked_clauses, marked_query, marks_if_reduced, marks_if_unified, marks_of}
+use Rattle.ap_defs.specs.Paths.{Choice, Mark, marked_query, choices_told}
 use Rattle.ap_defs.specs.Renaming.{local_vars, rename_goal, rename_term, rename_var}
-use Rattle.ap_defs.specs.Resolution.{State, clause_node, cut, first_state, found, fresh_for_each, if_reduced, if_unified, just_found, kinds_of, next_number, stuck, test_fresh}
+use Rattle.ap_defs.specs.Resolution.{CallOf, State, below, by_clause, by_clauses, calls_at, chose, clause_node, cut, each_found, first_state, found, fresh_for_each, if_reduced, if_unified, just_found, kinds_of, next_number, outcomes, stuck, test_fresh}
 use Rattle.ap_defs.specs.Substitution.{Binding, moved, occurs, under, ◌#◌, ◌:=◌}
 use Rattle.ap_defs.specs.Terms as terms
 use Rattle.ap_defs.specs.Terms.{NominalTerm}
@@ -27,13 +26,12 @@ use Rattle.ap_ground.proofs.ItemEnvironmentLemmas.{goal_vars_local, vars_from}
 use Rattle.ap_ground.proofs.OccurrenceLemmas.{has_var_of_map}
 use Rattle.ap_ground.proofs.ShiftLemmas.{free_vars_renamed, has_renamed}
 use Rattle.ap_program.specs.Typed.{AreTypedClauses, AreTypedFrom, IsTypedClause, IsTypedProgram, IsTypedQuery, term_form}
-use Rattle.ap_search.proofs.ContinuationLemmas.{brought_both, brought_clause}
+use Rattle.ap_search.proofs.ContinuationLemmas.{brought_both, brought_clause, follow, marked_solve_follows}
 use Rattle.ap_search.proofs.MarkLemmas.{marks_stack}
-use Rattle.ap_search.proofs.MarkedLemmas.{follow, marked_solve_follows}
 use Rattle.ap_search.proofs.QueryTreeLemmas.{outs_among_marks}
 use Rattle.ap_search.proofs.RecordLemmas.{answer_by_vars, ascending_same, has_closed, has_var-append}
-use Rattle.ap_search.specs.Continuations.{stack_then}
-use Rattle.ap_search.specs.MarkedContinuations.{choice, mark_in, marked_answer_then, marked_stack_then, out, outs_among}
+use Rattle.ap_search.specs.Continuations.{answer_then, stack_outs, then_if_reduced, then_if_unified}
+use Rattle.ap_search.specs.Marks.{out, choice, mark_in, outs_among, with_choices, stack_marks}
 use Rattle.ap_search.specs.Records.{SameVars, answer_with, closed_vars, vars_brought}
 use Rattle.ap_theory.proofs.BooleanLemmas.{or_assoc, or_cases, or_if_left, or_if_right, same_test}
 use Rattle.ap_theory.proofs.IdempotenceLemmas.{EachSome, bound_term_unbound, each_add_all, each_reduce_all, under_each}
@@ -72,47 +70,47 @@ module _ (xs ys : List Var) where
 -- Each state that was found is over the variables xs and those that its derivation brought.
 abbrev AllOver : List Var → List Mark → Type 0
 AllOver xs [] = Unit {0}
-AllOver xs (end (found p s d) ∷ ms) = IsOver (xs ++ vars_brought d) s × AllOver xs ms
-AllOver xs (end (cut p) ∷ ms) = AllOver xs ms
-AllOver xs (end (stuck p) ∷ ms) = AllOver xs ms
-AllOver xs (tree.choice p w ∷ ms) = AllOver xs ms
+AllOver xs (found p s d ∷ ms) = IsOver (xs ++ vars_brought d) s × AllOver xs ms
+AllOver xs (cut p ∷ ms) = AllOver xs ms
+AllOver xs (stuck p ∷ ms) = AllOver xs ms
+AllOver xs (chose p w ∷ ms) = AllOver xs ms
 
 over-append : (xs : List Var) (ms ns : List Mark) → AllOver xs ms → AllOver xs ns → AllOver xs (ms ++ ns)
 over-append xs [] ns h k = k
-over-append xs (end (found p s d) ∷ ms) ns h k = (h.0, over-append xs ms ns h.1 k)
-over-append xs (end (cut p) ∷ ms) ns h k = over-append xs ms ns h k
-over-append xs (end (stuck p) ∷ ms) ns h k = over-append xs ms ns h k
-over-append xs (tree.choice p w ∷ ms) ns h k = over-append xs ms ns h k
+over-append xs (found p s d ∷ ms) ns h k = (h.0, over-append xs ms ns h.1 k)
+over-append xs (cut p ∷ ms) ns h k = over-append xs ms ns h k
+over-append xs (stuck p ∷ ms) ns h k = over-append xs ms ns h k
+over-append xs (chose p w ∷ ms) ns h k = over-append xs ms ns h k
 
 -- under a choice and a node that brings variables
 over_below : (xs ys : List Var) (q : List ℕ) (node : NominalDerivation → NominalDerivation) → ((d : NominalDerivation) → vars_brought (node d) ≡ ys ++ vars_brought d)
-    → (ms : List Mark) → AllOver (xs ++ ys) ms → AllOver xs (map (mark_below q node) ms)
+    → (ms : List Mark) → AllOver (xs ++ ys) ms → AllOver xs (map (below q node) ms)
 over_below xs ys q node e [] h = tt
-over_below xs ys q node e (end (found p s d) ∷ ms) h = (
+over_below xs ys q node e (found p s d ∷ ms) h = (
   subst (λ (zs : List Var). IsOver zs s) (append_assoc xs ys (vars_brought d) ∙ ap (λ zs. xs ++ zs) (sym (e d))) h.0,
   over_below xs ys q node e ms h.1,
 )
-over_below xs ys q node e (end (cut p) ∷ ms) h = over_below xs ys q node e ms h
-over_below xs ys q node e (end (stuck p) ∷ ms) h = over_below xs ys q node e ms h
-over_below xs ys q node e (tree.choice p w ∷ ms) h = over_below xs ys q node e ms h
+over_below xs ys q node e (cut p ∷ ms) h = over_below xs ys q node e ms h
+over_below xs ys q node e (stuck p ∷ ms) h = over_below xs ys q node e ms h
+over_below xs ys q node e (chose p w ∷ ms) h = over_below xs ys q node e ms h
 
 over_plain : (xs : List Var) (q : List ℕ) (node : NominalDerivation → NominalDerivation) → ((d : NominalDerivation) → vars_brought (node d) ≡ vars_brought d)
-    → (ms : List Mark) → AllOver xs ms → AllOver xs (map (mark_below q node) ms)
+    → (ms : List Mark) → AllOver xs ms → AllOver xs (map (below q node) ms)
 over_plain xs q node e ms h = over_below xs [] q node e ms (subst (λ (zs : List Var). AllOver zs ms) (sym (append-nil xs)) h)
 
 over_each : (xs : List Var) (go : State → List Mark) → ((s : State) (ys : List Var) → IsOver (xs ++ ys) s → AllOver (xs ++ ys) (go s)) → (ms : List Mark) → AllOver xs ms
-    → AllOver xs (each_found_mark go ms)
+    → AllOver xs (each_found go ms)
 over_each xs go k [] h = tt
-over_each xs go k (end (found p s d) ∷ ms) h =
-    over-append xs (map (mark_below p (nodes.both d)) (go s)) (each_found_mark go ms)
+over_each xs go k (found p s d ∷ ms) h =
+    over-append xs (map (below p (nodes.both d)) (go s)) (each_found go ms)
     (over_below xs (vars_brought d) p (nodes.both d) (brought_both d) (go s) (k s (vars_brought d) h.0)) (over_each xs go k ms h.1)
-over_each xs go k (end (cut p) ∷ ms) h = over_each xs go k ms h
-over_each xs go k (end (stuck p) ∷ ms) h = over_each xs go k ms h
-over_each xs go k (tree.choice p w ∷ ms) h = over_each xs go k ms h
+over_each xs go k (cut p ∷ ms) h = over_each xs go k ms h
+over_each xs go k (stuck p ∷ ms) h = over_each xs go k ms h
+over_each xs go k (chose p w ∷ ms) h = over_each xs go k ms h
 
 -- One step.
 module _ (xs : List Var) (s : State) (h : IsOver xs s) where
-  over_just : (d : NominalDerivation) → vars_brought d ≡ [] → AllOver xs (marks_of (just_found d s))
+  over_just : (d : NominalDerivation) → vars_brought d ≡ [] → AllOver xs (just_found d s)
   over_just d e = (subst (λ (zs : List Var). IsOver zs s) (sym (ap (λ zs. xs ++ zs) e ∙ append-nil xs)) h, tt)
 
   over_unified : (ts us : List NominalTerm) → EachTerm (Among xs) ts → EachTerm (Among xs) us → (r : Unified) → unify s.bindings s.conditions ts us ≡ Some r
@@ -122,42 +120,31 @@ module _ (xs : List Var) (s : State) (h : IsOver xs s) where
       record { idempotent = (unify_idempotent s.bindings s.conditions ts us r h.idempotent e).0; bindings = k.0; conditions = k.1 }
 
   over_if_unified : (go : State → List Mark) (ts us : List NominalTerm) → EachTerm (Among xs) ts → EachTerm (Among xs) us → ((r : State) → IsOver xs r → AllOver xs (go r))
-      → AllOver xs (marks_if_unified go s (unify s.bindings s.conditions ts us))
+      → AllOver xs (if_unified go s (unify s.bindings s.conditions ts us))
   over_if_unified go ts us t u k = after (unify s.bindings s.conditions ts us) refl
     where
-      after : (o : Option Unified) → unify s.bindings s.conditions ts us ≡ o → AllOver xs (marks_if_unified go s o)
+      after : (o : Option Unified) → unify s.bindings s.conditions ts us ≡ o → AllOver xs (if_unified go s o)
       after None e = tt
       after (Some r) e = k (record s { bindings = r.bindings; conditions = r.conditions }) (over_unified ts us t u r e)
 
   over_reduced : (cs : List Cond) → EachCond (Among xs) cs → IsOver xs (record s { conditions = add_conds cs s.conditions })
   over_reduced cs k = record { idempotent = h.idempotent; bindings = h.bindings; conditions = each_add_all (Among xs) cs s.conditions k h.conditions }
 
-  over_if_reduced : (go : State → List Mark) (o : Option (List Cond)) → EachSome (Among xs) o → ((r : State) → IsOver xs r → AllOver xs (go r)) → AllOver xs (marks_if_reduced go s o)
+  over_if_reduced : (go : State → List Mark) (o : Option (List Cond)) → EachSome (Among xs) o → ((r : State) → IsOver xs r → AllOver xs (go r)) → AllOver xs (if_reduced go s o)
   over_if_reduced go None e k = tt
   over_if_reduced go (Some cs) e k = k (record s { conditions = add_conds cs s.conditions }) (over_reduced cs e)
-
-just_unified : (xs : List Var) (s : State) → IsOver xs s → (ts us : List NominalTerm) → EachTerm (Among xs) ts → EachTerm (Among xs) us
-    → AllOver xs (marks_of (if_unified (just_found nodes.equal) s (unify s.bindings s.conditions ts us)))
-just_unified xs s h ts us t u = after (unify s.bindings s.conditions ts us) refl
-  where
-    after : (o : Option Unified) → unify s.bindings s.conditions ts us ≡ o → AllOver xs (marks_of (if_unified (just_found nodes.equal) s o))
-    after None e = tt
-    after (Some r) e = over_just xs (record s { bindings = r.bindings; conditions = r.conditions }) (over_unified xs s h ts us t u r e) nodes.equal refl
-
-just_reduced : (xs : List Var) (s : State) → IsOver xs s → (o : Option (List Cond)) → EachSome (Among xs) o → AllOver xs (marks_of (if_reduced (just_found nodes.fresh) s o))
-just_reduced xs s h None e = tt
-just_reduced xs s h (Some cs) e = over_just xs (record s { conditions = add_conds cs s.conditions }) (over_reduced xs s h cs e) nodes.fresh refl
 
 -- what is left of a freshness problem
 reduced_each : (P : Var → Type 0) (o : Option (List Cond)) → EachSome P (both_lists o (Some [])) → EachSome P o
 reduced_each P None k = tt
 reduced_each P (Some cs) k = subst (EachCond P) (append-nil cs) k
 
-fresh_over : (xs : List Var) (s : State) → IsOver xs s → (t u : NominalTerm) → EachVar (Among xs) u → AllOver xs (marks_of (test_fresh s t u))
+fresh_over : (xs : List Var) (s : State) → IsOver xs s → (t u : NominalTerm) → EachVar (Among xs) u → AllOver xs (test_fresh s t u)
 fresh_over xs s h (terms.name a) u k =
     let bs = s.bindings in
-    just_reduced xs s h (reduce a (under bs u))
+    over_if_reduced xs s h (just_found nodes.fresh) (reduce a (under bs u))
     (reduced_each (Among xs) (reduce a (under bs u)) (each_reduce_all (Among xs) bs ((a # u) ∷ []) (under_keeps (Among xs) bs h.bindings) (k, tt)))
+    (λ r i. over_just xs r i nodes.fresh refl)
 fresh_over xs s h (terms.susp p x) u k = tt
 fresh_over xs s h terms.unit u k = tt
 fresh_over xs s h (terms.pair t v) u k = tt
@@ -201,38 +188,35 @@ brought_among xs x g k y m =
       | false ↦ λ e. var_in_left y xs (x ∷ []) (k y (has_without_var x y (free_vars g) e m))
     ] refl
 
-abbrev MarkedCall : Type 0
-MarkedCall = ℕ → List NominalTerm → State → List Mark
-
-abbrev CallOver : MarkedCall → Type 0
+abbrev CallOver : CallOf Choice → Type 0
 CallOver call = (p : ℕ) (ts : List NominalTerm) (s : State) (xs : List Var) → IsOver xs s → EachTerm (Among xs) ts → AllOver xs (call p ts s)
 
-module _ (call : MarkedCall) (calls : CallOver call) where
-  goal_over : (g : NominalGoal) (s : State) (xs : List Var) → IsOver xs s → IsGoalAmong xs g → AllOver xs (marked call g s)
+module _ (call : CallOf Choice) (calls : CallOver call) where
+  goal_over : (g : NominalGoal) (s : State) (xs : List Var) → IsOver xs s → IsGoalAmong xs g → AllOver xs (outcomes choices_told call g s)
   goal_over succeed s xs h k = over_just xs s h nodes.succeed refl
   goal_over (atom p ts) s xs h k = calls p ts s xs h (each_among xs ts k)
   goal_over (equal t u) s xs h k =
       let e = each_among xs (t ∷ u ∷ []) k in
-      just_unified xs s h (t ∷ []) (u ∷ []) (e.0, tt) e.1
+      over_if_unified xs s h (just_found nodes.equal) (t ∷ []) (u ∷ []) (e.0, tt) e.1 (λ r i. over_just xs r i nodes.equal refl)
   goal_over (fresh t u) s xs h k =
       let e = each_among xs (t ∷ u ∷ []) k in
       fresh_over xs s h (under s.bindings t) u e.1.0
   goal_over (both f g) s xs h k =
-      over_each xs (marked call g)
+      over_each xs (outcomes choices_told call g)
       (λ r ys i. goal_over g r (xs ++ ys) i (λ x m. var_in_left x xs ys (k x (var_in_right x (free_vars f) (free_vars g) m))))
-      (marked call f s) (goal_over f s xs h (λ x m. k x (var_in_left x (free_vars f) (free_vars g) m)))
+      (outcomes choices_told call f s) (goal_over f s xs h (λ x m. k x (var_in_left x (free_vars f) (free_vars g) m)))
   goal_over (either f g) s xs h k =
-      over-append xs (map (mark_below (1 ∷ []) nodes.left) (marked call f s)) (map (mark_below (2 ∷ []) nodes.right) (marked call g s))
-      (over_plain xs (1 ∷ []) nodes.left (λ d. refl) (marked call f s) (goal_over f s xs h (λ x m. k x (var_in_left x (free_vars f) (free_vars g) m))))
-      (over_plain xs (2 ∷ []) nodes.right (λ d. refl) (marked call g s) (goal_over g s xs h (λ x m. k x (var_in_right x (free_vars f) (free_vars g) m))))
+      over-append xs (map (below (1 ∷ []) nodes.left) (outcomes choices_told call f s)) (map (below (2 ∷ []) nodes.right) (outcomes choices_told call g s))
+      (over_plain xs (1 ∷ []) nodes.left (λ d. refl) (outcomes choices_told call f s) (goal_over f s xs h (λ x m. k x (var_in_left x (free_vars f) (free_vars g) m))))
+      (over_plain xs (2 ∷ []) nodes.right (λ d. refl) (outcomes choices_told call g s) (goal_over g s xs h (λ x m. k x (var_in_right x (free_vars f) (free_vars g) m))))
   goal_over (exists x g) s xs h k =
-      over_below xs (x ∷ []) [] (nodes.exists (terms.susp [] x)) (λ d. refl) (marked call g s)
+      over_below xs (x ∷ []) [] (nodes.exists (terms.susp [] x)) (λ d. refl) (outcomes choices_told call g s)
       (goal_over g s (xs ++ x ∷ []) (over_more xs (x ∷ []) s h) (brought_among xs x g k))
   goal_over (new a g) s xs h k =
       let ps = fresh_for_each a (free_vars g) in
       let o = reduce_all s.bindings ps in
-      over_plain xs [] (nodes.new a) (λ d. refl) (marks_if_reduced (marked call g) s o)
-      (over_if_reduced xs s h (marked call g) o
+      over_plain xs [] (nodes.new a) (λ d. refl) (then_if_reduced (outcomes choices_told call g) s o)
+      (over_if_reduced xs s h (outcomes choices_told call g) o
       (each_reduce_all (Among xs) s.bindings ps (under_keeps (Among xs) s.bindings h.bindings) (problems_over (Among xs) a (free_vars g) k))
       (λ r i. goal_over g r xs i k))
 
@@ -256,8 +240,8 @@ renamed_among n locals ys zs e h x m =
     let own = local_vars 0 locals in
     ap (has_var x) (vars_from n locals) ∙ ap (λ z. has_var z (map (rename_var n) own)) r.2 ∙ has_renamed n r.0 own ∙ h r.0 r.1
 
-module _ (call : MarkedCall) (calls : CallOver call) (ts : List NominalTerm) (s : State) (xs : List Var) (h : IsOver xs s) (t : EachTerm (Among xs) ts) where
-  clause_over : (i : ℕ) (c : NominalClause) → HasOwnVars c → AllOver xs (marked_clause (marked call) ts s i c)
+module _ (call : CallOf Choice) (calls : CallOver call) (ts : List NominalTerm) (s : State) (xs : List Var) (h : IsOver xs s) (t : EachTerm (Among xs) ts) where
+  clause_over : (i : ℕ) (c : NominalClause) → HasOwnVars c → AllOver xs (by_clause (outcomes choices_told call) ts s i c)
   clause_over i c own =
       let n = next_number s in
       let ys = local_vars n c.locals in
@@ -266,30 +250,30 @@ module _ (call : MarkedCall) (calls : CallOver call) (ts : List NominalTerm) (s 
       let body = rename_goal n c.body in
       let more = over_more xs ys s h in
       let here : IsOver (xs ++ ys) from = record { idempotent = more.idempotent; bindings = more.bindings; conditions = more.conditions } in
-      over_below xs ys (i ∷ []) (clause_node i n c.locals) (brought_clause i n c.locals) (marks_if_unified (marked call body) from (unify s.bindings s.conditions ts args))
-      (over_if_unified (xs ++ ys) from here (marked call body) ts args (terms_more xs ys ts t)
+      over_below xs ys (i ∷ []) (clause_node i n c.locals) (brought_clause i n c.locals) (then_if_unified (outcomes choices_told call body) from (unify s.bindings s.conditions ts args))
+      (over_if_unified (xs ++ ys) from here (outcomes choices_told call body) ts args (terms_more xs ys ts t)
       (each_among (xs ++ ys) args
       (λ x m. var_in_right x xs ys (renamed_among n c.locals (vars_of_terms c.args) (vars_of_terms args) (free_vars_renamed n (atom c.pred c.args)) own.0 x m)))
       (λ r j. goal_over call calls body r (xs ++ ys) j
       (λ x m. var_in_right x xs ys (renamed_among n c.locals (free_vars c.body) (free_vars body) (free_vars_renamed n c.body) own.1 x m))))
 
-  clauses_over : (i : ℕ) (cs : List NominalClause) → HaveOwnVars cs → AllOver xs (marked_clauses (marked call) ts s i cs)
+  clauses_over : (i : ℕ) (cs : List NominalClause) → HaveOwnVars cs → AllOver xs (by_clauses (outcomes choices_told call) ts s i cs)
   clauses_over i [] own = tt
   clauses_over i (c ∷ cs) own =
-      over-append xs (marked_clause (marked call) ts s i c) (marked_clauses (marked call) ts s (suc i) cs) (clause_over i c own.0) (clauses_over (suc i) cs own.1)
+      over-append xs (by_clause (outcomes choices_told call) ts s i c) (by_clauses (outcomes choices_told call) ts s (suc i) cs) (clause_over i c own.0) (clauses_over (suc i) cs own.1)
 
 own_clauses_of : (program : Clauses) → AllHaveOwnVars program → (p : ℕ) → HaveOwnVars (clauses_of program p)
 own_clauses_of [] own p = tt
 own_clauses_of (cs ∷ css) own zero = own.0
 own_clauses_of (cs ∷ css) own (suc p) = own_clauses_of css own.1 p
 
-calls_over : (program : Clauses) → AllHaveOwnVars program → (d : ℕ) → CallOver (marked_calls program d)
+calls_over : (program : Clauses) → AllHaveOwnVars program → (d : ℕ) → CallOver (calls_at choices_told program d)
 calls_over program own zero p ts s xs h t = tt
-calls_over program own (suc d) p ts s xs h t = clauses_over (marked_calls program d) (calls_over program own d) ts s xs h t 1 (clauses_of program p) (own_clauses_of program own p)
+calls_over program own (suc d) p ts s xs h t = clauses_over (calls_at choices_told program d) (calls_over program own d) ts s xs h t 1 (clauses_of program p) (own_clauses_of program own p)
 
 query_over : (program : Clauses) → AllHaveOwnVars program → (d : ℕ) (q : NominalQuery) → IsGoalAmong (local_vars 0 q.locals) q.goal → AllOver (local_vars 0 q.locals) (marked_query program d q)
 query_over program own d q k =
-    goal_over (marked_calls program d) (calls_over program own d) q.goal (first_state q) (local_vars 0 q.locals) (record { idempotent = (tt, tt); bindings = tt; conditions = tt }) k
+    goal_over (calls_at choices_told program d) (calls_over program own d) q.goal (first_state q) (local_vars 0 q.locals) (record { idempotent = (tt, tt); bindings = tt; conditions = tt }) k
 
 -- Answers.
 has_canonical : (y : Var) (t : NominalTerm) (xs : List Var) → has_var y (vars_then (canonical_term t) xs) ≡ (occurs y t || has_var y xs)
@@ -392,13 +376,13 @@ module _ (locals : List NominalLocal) (s : State) (xs : List Var) (h : IsOver (l
       ap (λ vs. record { binds = binds_in locals s; conds = s.conditions; vars = typed_vars s.kinds vs }) (ascending_same (front ++ all) (front ++ unbound_vars s xs) same_seen)
 
 follow_unbound : (locals : List NominalLocal) (ms : List Mark) → AllOver (local_vars 0 locals) ms
-    → follow (marked_answer_then (answer_by_unbound locals)) [] [] ms ≡ map (mark_in locals) ms
+    → follow with_choices choice (answer_then with_choices (answer_by_unbound locals)) [] [] ms ≡ map (mark_in locals) ms
 follow_unbound locals [] h = refl
-follow_unbound locals (end (found q s d) ∷ ms) h =
+follow_unbound locals (found q s d ∷ ms) h =
     ap₂ (λ a l. out (answers.found q a) ∷ l) (sym (answer_by_vars locals s d ∙ unbound_suffice locals s (vars_brought d) h.0)) (follow_unbound locals ms h.1)
-follow_unbound locals (end (cut q) ∷ ms) h = ap (λ l. out (answers.cut q) ∷ l) (follow_unbound locals ms h)
-follow_unbound locals (end (stuck q) ∷ ms) h = ap (λ l. out (answers.stuck q) ∷ l) (follow_unbound locals ms h)
-follow_unbound locals (tree.choice q w ∷ ms) h = ap (λ l. choice q w ∷ l) (follow_unbound locals ms h)
+follow_unbound locals (cut q ∷ ms) h = ap (λ l. out (answers.cut q) ∷ l) (follow_unbound locals ms h)
+follow_unbound locals (stuck q ∷ ms) h = ap (λ l. out (answers.stuck q) ∷ l) (follow_unbound locals ms h)
+follow_unbound locals (chose q w ∷ ms) h = ap (λ l. choice q w ∷ l) (follow_unbound locals ms h)
 
 -- Typed programs.
 module _ (sig : NominalSignature) where
@@ -417,13 +401,13 @@ module _ (sig : NominalSignature) where
   own_program p (cs ∷ css) h = (own_clauses p cs h.0, own_program (suc p) css h.1)
 
 module _ (p : NominalProgram) (typed : IsTypedProgram p) (d : ℕ) (q : NominalQuery) (asked : IsTypedQuery term_form p.signature q) where
-  pub marked_stack_by_unbound : marked_stack_then p.clauses (answer_by_unbound q.locals) (record { goal = q.goal; depth = d } ∷ []) [] (first_state q) [] ≡ map (mark_in q.locals) (marked_query p.clauses d q)
+  pub marked_stack_by_unbound : stack_marks p.clauses (answer_by_unbound q.locals) (record { goal = q.goal; depth = d } ∷ []) [] (first_state q) [] ≡ map (mark_in q.locals) (marked_query p.clauses d q)
   marked_stack_by_unbound =
       let free = goal_vars_local p.signature.constructors p.signature.predicates q.locals q.goal asked.0 (λ i e. (asked.2.inside i e).1) in
-      marked_solve_follows p.clauses d q.goal (marked_answer_then (answer_by_unbound q.locals)) [] (first_state q) []
+      marked_solve_follows p.clauses d q.goal (answer_then with_choices (answer_by_unbound q.locals)) [] (first_state q) []
       ∙ follow_unbound q.locals (marked_query p.clauses d q) (query_over p.clauses (own_program p.signature 0 p.clauses typed.0) d q free)
 
-  pub stack_by_unbound : stack_then p.clauses (answer_by_unbound q.locals) (record { goal = q.goal; depth = d } ∷ []) [] (first_state q) [] ≡ query_outs p.clauses d q
+  pub stack_by_unbound : stack_outs p.clauses (answer_by_unbound q.locals) (record { goal = q.goal; depth = d } ∷ []) [] (first_state q) [] ≡ query_outs p.clauses d q
   stack_by_unbound =
       sym (marks_stack p.clauses (answer_by_unbound q.locals) (record { goal = q.goal; depth = d } ∷ []) [] (first_state q) [])
       ∙ ap outs_among marked_stack_by_unbound ∙ sym (outs_among_marks p.clauses d q)

@@ -9,7 +9,7 @@ use Rattle.ap_defs.specs.Types.{NominalLocal}
 use Rattle.ap_defs.specs.declared.paths.Node.{Node}
 use Rattle.ap_defs.specs.declared.paths.Node.TheVariants as nodes
 use Rattle.ap_defs.specs.declared.paths.Out.TheVariants as code
-use Rattle.ap_search.specs.MarkedContinuations.{NominalMark, mark_in, mark_path, out}
+use Rattle.ap_search.specs.Marks.{NominalMark, out, mark_in, mark_path}
 use Rattle.ap_search.specs.PathTrees.{query_choices}
 use Rattle.ap_search.specs.Prefixes.{beginning}
 use Rattle.ap_backchain.specs.Marks.{choice_of, choices_among, marks_from}

@@ -1,25 +1,26 @@
 -- The marks of a place, where it chooses, and what a turn makes of a place that doesn't choose.
-use Rattle.std.specs.Prelude.{◌≡◌, ◌≤◌, ℕ, zero, suc, List, [], ◌∷◌, ◌++◌, length, Option, Some, None}
+use Rattle.std.specs.Prelude.{◌≡◌, ◌≤◌, ℕ, zero, suc, List, [], ◌∷◌, length, Option, Some, None}
 use Rattle.ap_defs.specs.Answers.{out_path}
 use Rattle.ap_defs.specs.Goals.{NominalGoal, NominalClause, atom, either, Clauses, clauses_of}
+use Rattle.ap_defs.specs.HeadKeys.{kept_clauses}
+use Rattle.ap_defs.specs.Paths.{Choice}
+use Rattle.ap_defs.specs.Resolution.{State}
 use Rattle.ap_defs.specs.Terms.{NominalTerm}
 use Rattle.ap_defs.specs.Types.{NominalLocal}
-use Rattle.ap_search.specs.Continuations.{Waiting}
-use Rattle.ap_search.specs.MarkedContinuations.{NominalMark, choice, marked_calls_then, marked_clauses_then, marked_stack_then, marked_then, out}
-use Rattle.ap_backchain.specs.Positions.{Position, Turned, ends, goes}
+use Rattle.ap_search.specs.Continuations.{Waiting, Writing, calls_then, clauses_then, goal_then}
+use Rattle.ap_search.specs.Marks.{NominalMark, out, choice, with_choices, stack_marks}
+use Rattle.ap_backchain.specs.Positions.{Position, Turned, ends, goes, written_from, written_from_each, written_of_turned}
 use Rattle.ap_backchain.specs.Unbound.{answer_by_unbound}
 
 -- the marks of the goals that wait
 abbrev pub marks_from : Clauses → List NominalLocal → Position → List NominalMark
-marks_from program locals p = marked_stack_then program (answer_by_unbound locals) p.waiting p.path p.state p.brought
+marks_from = written_from with_choices
 
 abbrev pub marks_from_each : Clauses → List NominalLocal → List Position → List NominalMark
-marks_from_each program locals [] = []
-marks_from_each program locals (p ∷ ps) = marks_from program locals p ++ marks_from_each program locals ps
+marks_from_each = written_from_each with_choices
 
 abbrev pub marks_of_turned : Clauses → List NominalLocal → Turned → List NominalMark
-marks_of_turned program locals (ends o) = out o ∷ []
-marks_of_turned program locals (goes ps) = marks_from_each program locals ps
+marks_of_turned = written_of_turned with_choices
 
 -- how many choices are among the marks
 abbrev pub choices_among : List NominalMark → ℕ
@@ -47,15 +48,36 @@ IsAmong k (Some w) = (1 ≤ k) × (k ≤ w)
 
 -- the marks of a goal in front of those that wait, and of clauses that an atom can enter
 abbrev pub goal_marks : Clauses → List NominalLocal → ℕ → NominalGoal → Position → List NominalMark
-goal_marks program locals d g p = marked_then (marked_calls_then program d) g (marked_stack_then program (answer_by_unbound locals) p.waiting) p.path p.state p.brought
+goal_marks program locals d g p = goal_then with_choices (calls_then with_choices program d) g (stack_marks program (answer_by_unbound locals) p.waiting) p.path p.state p.brought
 
 abbrev pub clauses_marks : Clauses → List NominalLocal → ℕ → List NominalTerm → List NominalClause → Position → List NominalMark
 clauses_marks program locals d ts cs p =
-    marked_clauses_then (marked_then (marked_calls_then program d)) ts (marked_stack_then program (answer_by_unbound locals) p.waiting) 1 cs p.path p.state p.brought
+    clauses_then (goal_then with_choices (calls_then with_choices program d)) ts (stack_marks program (answer_by_unbound locals) p.waiting) 1 cs p.path p.state p.brought
 
 abbrev pub choice_of : Clauses → List Waiting → Option ℕ
 choice_of program [] = None
 choice_of program (w ∷ ws) = choice_of_goal program w.depth w.goal
+
+-- the choice that the first goal makes in a state, with the ways that it keeps
+abbrev pub told_of_atom : Clauses → State → ℕ → ℕ → List NominalTerm → Option Choice
+told_of_atom program s zero c ts = None
+told_of_atom program s (suc d) c ts =
+    let cs = clauses_of program c in
+    Some (record { width = length cs; kept = kept_clauses s.bindings ts cs })
+
+abbrev pub told_of_goal : Clauses → State → ℕ → NominalGoal → Option Choice
+told_of_goal program s d (atom c ts) = told_of_atom program s d c ts
+told_of_goal program s d (either g h) = Some (record { width = 2; kept = 1 ∷ 2 ∷ [] })
+told_of_goal program s d _ = None
+
+abbrev pub told_of : Clauses → State → List Waiting → Option Choice
+told_of program s [] = None
+told_of program s (w ∷ ws) = told_of_goal program s w.depth w.goal
+
+-- what is written of it
+abbrev pub written_here : {R : Type 0} → Writing R → List ℕ → Option Choice → List R
+written_here w p None = []
+written_here w p (Some c) = w.choice p c.width c.kept
 
 -- how many choices the first goal makes
 abbrev pub one_if : Option ℕ → ℕ

@@ -13,7 +13,7 @@ use Rattle.ap_defs.specs.Terms as terms
 use Rattle.ap_defs.specs.Terms.{NominalTerm}
 use Rattle.ap_defs.specs.Types.{NominalLocal}
 use Rattle.ap_defs.specs.Unification.{Unified, reduce_all, unify}
-use Rattle.ap_search.specs.Continuations.{Waiting, stack_then}
+use Rattle.ap_search.specs.Continuations.{Waiting, Writing, outputs_alone, stack_then}
 use Rattle.ap_backchain.specs.Unbound.{answer_by_unbound}
 
 -- The goals that wait, the first one first; the path and the state; and the variables that clauses and `exists` brought.
@@ -106,14 +106,24 @@ turned_by program locals (w ∷ ws) p = turned_goal program w.depth w.goal (reco
 abbrev pub turned : Clauses → List NominalLocal → Position → Turned
 turned program locals p = turned_by program locals p.waiting p
 
+-- what is written of the goals that wait, of several places, and of what a turn makes of one
+abbrev pub written_from : {R : Type 0} → Writing R → Clauses → List NominalLocal → Position → List R
+written_from w program locals p = stack_then w program (answer_by_unbound locals) p.waiting p.path p.state p.brought
+
+abbrev pub written_from_each : {R : Type 0} → Writing R → Clauses → List NominalLocal → List Position → List R
+written_from_each w program locals [] = []
+written_from_each w program locals (p ∷ ps) = written_from w program locals p ++ written_from_each w program locals ps
+
+abbrev pub written_of_turned : {R : Type 0} → Writing R → Clauses → List NominalLocal → Turned → List R
+written_of_turned w program locals (ends o) = w.output o ∷ []
+written_of_turned w program locals (goes ps) = written_from_each w program locals ps
+
 -- the outputs of the goals that wait
 abbrev pub outs_from : Clauses → List NominalLocal → Position → List NominalOut
-outs_from program locals p = stack_then program (answer_by_unbound locals) p.waiting p.path p.state p.brought
+outs_from = written_from outputs_alone
 
 abbrev pub outs_from_each : Clauses → List NominalLocal → List Position → List NominalOut
-outs_from_each program locals [] = []
-outs_from_each program locals (p ∷ ps) = outs_from program locals p ++ outs_from_each program locals ps
+outs_from_each = written_from_each outputs_alone
 
 abbrev pub outs_of_turned : Clauses → List NominalLocal → Turned → List NominalOut
-outs_of_turned program locals (ends o) = o ∷ []
-outs_of_turned program locals (goes ps) = outs_from_each program locals ps
+outs_of_turned = written_of_turned outputs_alone

@@ -4,7 +4,7 @@ ghost use Rattle.std.specs.Prelude.{◌≡◌, ◌-◌, ◌^◌, ◌<◌, ◌≤
 ghost use Rattle.std.specs.List.{range_with_len};
 ghost use Rattle.ap_defs.specs.Answers.{answer_of, found, outs_at, outs_of};
 ghost use Rattle.ap_defs.specs.Goals.{NominalQuery, clause_of};
-ghost use Rattle.ap_search.specs.MarkedContinuations.{outs_among};
+ghost use Rattle.ap_search.specs.Marks.{outs_among};
 ghost use Rattle.ap_backchain.specs.declared.problem.Problem.{Problem};
 ghost use Rattle.ap_defs.specs.Types.{locals_of};
 ghost use Rattle.ap_backchain.specs.Below.{AreClausesBelow};

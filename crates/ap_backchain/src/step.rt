@@ -6,7 +6,7 @@ ghost use Rattle.ap_defs.specs.Renaming.{AreBelow, IsGoalBelow, rename_goal, ren
 ghost use Rattle.ap_defs.specs.Terms.{term_of};
 ghost use Rattle.ap_defs.specs.Types.{NominalLocal, locals_of};
 ghost use Rattle.ap_search.specs.FitStates.{AreFitClauses};
-ghost use Rattle.ap_search.specs.MarkedContinuations.{mark_path};
+ghost use Rattle.ap_search.specs.Marks.{mark_path};
 ghost use Rattle.ap_search.specs.Prefixes.{beginning};
 ghost use Rattle.ap_backchain.specs.Below.{AreClausesBelow};
 ghost use Rattle.ap_backchain.specs.Branches.{IsChoiceAt, IsChoosing, marks_of_standing, path_of_standing};

@@ -7,7 +7,7 @@ use Rattle.ap_defs.specs.Answers as answers
 use Rattle.ap_defs.specs.Answers.{NominalAnswer, NominalOut, answer_in, derivation_in, out_in, query_outs}
 use Rattle.ap_defs.specs.Derivations.{NominalDerivation}
 use Rattle.ap_defs.specs.Goals.{Clauses, NominalQuery}
-use Rattle.ap_defs.specs.Resolution.{Output, State, cut, first_state, found, solve_query, stuck}
+use Rattle.ap_defs.specs.Resolution.{Output, State, cut, first_state, found, solve_query, chose, stuck}
 use Rattle.ap_defs.specs.declared.outcomes.Proved.{Proved}
 use Rattle.ap_paths.specs.Limits.{first_part, part}
 use Rattle.ap_paths.specs.declared.limits.Limit.{Limit}
@@ -36,6 +36,7 @@ module _ (program : Clauses) (depth : ℕ) (q : NominalQuery) where
   each_led [] among = tt
   each_led (found path s d ∷ os) among = (leads_on path s d (among path s d (inl (refl, refl, refl))), each_led os (λ p r e f. among p r e (inr f)))
   each_led (cut path ∷ os) among = (tt, each_led os among)
+  each_led (chose path c ∷ os) among = absurd c
   each_led (stuck path ∷ os) among = (tt, each_led os among)
 
   first_led : (n : ℕ) (os : List Output) → Among os → AllByRecursion (IsLed program depth q) (first_part n (map (out_in q.locals) os))
@@ -43,6 +44,7 @@ module _ (program : Clauses) (depth : ℕ) (q : NominalQuery) where
   first_led (suc n) [] among = tt
   first_led (suc n) (found path s d ∷ os) among = (leads_on path s d (among path s d (inl (refl, refl, refl))), first_led n os (λ p r e f. among p r e (inr f)))
   first_led (suc n) (cut path ∷ os) among = (tt, first_led (suc n) os among)
+  first_led (suc n) (chose path c ∷ os) among = absurd c
   first_led (suc n) (stuck path ∷ os) among = (tt, first_led (suc n) os among)
 
   pub outs_led : (limit : Limit) → AllByRecursion (IsLed program depth q) (part limit (query_outs program depth q))
@@ -62,6 +64,7 @@ module _ (program : Clauses) (depth : ℕ) (q : NominalQuery) where
   each_proof k (found path s d ∷ os) among =
       one_proof_more k path s d (among path s d (inl (refl, refl, refl))) (map (out_in q.locals) os) (proofs_among k q.locals os) (each_proof k os (λ p r e f. among p r e (inr f)))
   each_proof k (cut path ∷ os) among = each_proof k os among
+  each_proof k (chose path c ∷ os) among = absurd c
   each_proof k (stuck path ∷ os) among = each_proof k os among
 
   -- the proofs of the first n answers are the first n proofs
@@ -72,6 +75,7 @@ module _ (program : Clauses) (depth : ℕ) (q : NominalQuery) where
       one_proof_more k path s d (among path s d (inl (refl, refl, refl))) (first_part n (map (out_in q.locals) os)) (take n (proofs_among k q.locals os))
       (first_proofs k n os (λ p r e f. among p r e (inr f)))
   first_proofs k (suc n) (cut path ∷ os) among = first_proofs k (suc n) os among
+  first_proofs k (suc n) (chose path c ∷ os) among = absurd c
   first_proofs k (suc n) (stuck path ∷ os) among = first_proofs k (suc n) os among
 
   pub outs_proofs : (k : ℕ) (limit : Limit) → flat_map (proof_at program depth k q) (part limit (query_outs program depth q)) ≡ wanted_proofs limit (query_proofs program depth k q)

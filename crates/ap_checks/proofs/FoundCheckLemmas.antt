@@ -7,7 +7,7 @@ use Rattle.ap_defs.specs.Derivations.{NominalDerivation, terms_in}
 use Rattle.ap_defs.specs.Goals.{NominalProgram, NominalQuery}
 use Rattle.ap_defs.specs.Occurrences.{vars_of_terms}
 use Rattle.ap_defs.specs.Renaming.{local_names, local_vars}
-use Rattle.ap_defs.specs.Resolution.{Output, State, cut, first_state, found, kinds_of, solve, solve_query, stuck}
+use Rattle.ap_defs.specs.Resolution.{Output, State, cut, first_state, found, kinds_of, solve, solve_query, chose, stuck}
 use Rattle.ap_defs.specs.Substitution.{under}
 use Rattle.ap_defs.specs.Terms.{NominalTerm, susp}
 use Rattle.ap_defs.specs.Types as types
@@ -124,6 +124,7 @@ module _ (p : NominalProgram) (typed : IsTypedProgram p) (depth : ℕ) (q : Nomi
   outs_check [] h i j = tt
   outs_check (found r s d ∷ os) h i j = (state_checks s d h.0 i.0 j.0, outs_check os h.1 i.1 j.1)
   outs_check (cut r ∷ os) h i j = outs_check os h i j
+  outs_check (chose r c ∷ os) h i j = absurd c
   outs_check (stuck r ∷ os) h i j = outs_check os h i j
 
 pub found_check : FoundDerivationsCheck

@@ -10,7 +10,7 @@ use Rattle.ap_defs.specs.Goals.{NominalGoal, succeed, atom, equal, fresh, both, 
 use Rattle.ap_defs.specs.GroundProofs.{clause_at}
 use Rattle.ap_defs.specs.Occurrences.{free_vars}
 use Rattle.ap_defs.specs.Renaming.{rename_goal, rename_term}
-use Rattle.ap_defs.specs.Resolution.{Call, Output, State, below, by_clause, by_clauses, calls, clause_node, cut, each_found, found, fresh_for_each, if_reduced, if_unified, just_found, kinds_of, next_number, outputs, stuck, test_fresh}
+use Rattle.ap_defs.specs.Resolution.{Call, Output, State, below, by_clause, by_clauses, calls, clause_node, cut, each_found, found, fresh_for_each, if_reduced, if_unified, just_found, kinds_of, next_number, outputs, chose, stuck, test_fresh}
 use Rattle.ap_defs.specs.Substitution.{under}
 use Rattle.ap_defs.specs.Terms as terms
 use Rattle.ap_defs.specs.Terms.{NominalTerm}
@@ -25,12 +25,14 @@ finds_front [] qs p s d h = absurd h
 finds_front (found q r e ∷ os) qs p s d (inl h) = inl h
 finds_front (found q r e ∷ os) qs p s d (inr h) = inr (finds_front os qs p s d h)
 finds_front (cut q ∷ os) qs p s d h = finds_front os qs p s d h
+finds_front (chose q c ∷ os) qs p s d h = absurd c
 finds_front (stuck q ∷ os) qs p s d h = finds_front os qs p s d h
 
 finds_back : (os qs : List Output) (p : List ℕ) (s : State) (d : NominalDerivation) → Finds qs p s d → Finds (os ++ qs) p s d
 finds_back [] qs p s d h = h
 finds_back (found q r e ∷ os) qs p s d h = inr (finds_back os qs p s d h)
 finds_back (cut q ∷ os) qs p s d h = finds_back os qs p s d h
+finds_back (chose q c ∷ os) qs p s d h = absurd c
 finds_back (stuck q ∷ os) qs p s d h = finds_back os qs p s d h
 
 finds_append : (os qs : List Output) (p : List ℕ) (s : State) (d : NominalDerivation) → Finds (os ++ qs) p s d → Finds os p s d ⊎ Finds qs p s d
@@ -38,6 +40,7 @@ finds_append [] qs p s d h = inr h
 finds_append (found q r e ∷ os) qs p s d (inl h) = inl (inl h)
 finds_append (found q r e ∷ os) qs p s d (inr h) = elim (finds_append os qs p s d h) [ inl i ↦ inl (inr i) | inr i ↦ inr i ]
 finds_append (cut q ∷ os) qs p s d h = finds_append os qs p s d h
+finds_append (chose q c ∷ os) qs p s d h = absurd c
 finds_append (stuck q ∷ os) qs p s d h = finds_append os qs p s d h
 
 module _ (c : List ℕ) (node : NominalDerivation → NominalDerivation) where
@@ -46,6 +49,7 @@ module _ (c : List ℕ) (node : NominalDerivation → NominalDerivation) where
   finds_below (found q r e ∷ os) p s d (inl h) = inl (ap (λ z. c ++ z) h.0, h.1, ap node h.2)
   finds_below (found q r e ∷ os) p s d (inr h) = inr (finds_below os p s d h)
   finds_below (cut q ∷ os) p s d h = finds_below os p s d h
+  finds_below (chose q c ∷ os) p s d h = absurd c
   finds_below (stuck q ∷ os) p s d h = finds_below os p s d h
 
   -- what was found below a node
@@ -61,6 +65,7 @@ module _ (c : List ℕ) (node : NominalDerivation → NominalDerivation) where
   below_finds (found q r e ∷ os) p s d (inl h) = record { path = q; derivation = e; longer = h.0; made = h.2; there = inl (refl, h.1, refl) }
   below_finds (found q r e ∷ os) p s d (inr h) = let b = below_finds os p s d h in record { path = b.path; derivation = b.derivation; longer = b.longer; made = b.made; there = inr b.there }
   below_finds (cut q ∷ os) p s d h = let b = below_finds os p s d h in record { path = b.path; derivation = b.derivation; longer = b.longer; made = b.made; there = b.there }
+  below_finds (chose q c ∷ os) p s d h = absurd c
   below_finds (stuck q ∷ os) p s d h = let b = below_finds os p s d h in record { path = b.path; derivation = b.derivation; longer = b.longer; made = b.made; there = b.there }
 
 -- Following paths, and outputs that match it.
@@ -143,6 +148,7 @@ module _ (next : Trace) (go : State → List Output) (m : (s : State) → Matche
   finds_each (found p' s' d' ∷ os) p q s r d e (inr h) k =
       finds_back (map (below p' (nodes.both d')) (go s')) (each_found go os) (p ++ q) r (nodes.both d e) (finds_each os p q s r d e h k)
   finds_each (cut p' ∷ os) p q s r d e h k = finds_each os p q s r d e h k
+  finds_each (chose p' c ∷ os) p q s r d e h k = absurd c
   finds_each (stuck p' ∷ os) p q s r d e h k = finds_each os p q s r d e h k
 
   -- what was found by both goals
@@ -171,6 +177,7 @@ module _ (next : Trace) (go : State → List Output) (m : (s : State) → Matche
   both_finds (cut q ∷ os) p r c h =
       let b = both_finds os p r c h in
       record { before = b.before; after = b.after; state = b.state; first = b.first; second = b.second; longer = b.longer; made = b.made; found_first = b.found_first; found_second = b.found_second }
+  both_finds (chose q told ∷ os) p r c h = absurd told
   both_finds (stuck q ∷ os) p r c h =
       let b = both_finds os p r c h in
       record { before = b.before; after = b.after; state = b.state; first = b.first; second = b.second; longer = b.longer; made = b.made; found_first = b.found_first; found_second = b.found_second }

@@ -93,3 +93,4 @@ Finds [] path s d = ⊥
 Finds (search.found q r e ∷ os) path s d = ((q ≡ path) × (r ≡ s) × (e ≡ d)) ⊎ Finds os path s d
 Finds (search.cut q ∷ os) path s d = Finds os path s d
 Finds (search.stuck q ∷ os) path s d = Finds os path s d
+Finds (search.chose q c ∷ os) path s d = Finds os path s d

@@ -7,7 +7,7 @@ use Rattle.ap_defs.specs.Goals.{NominalClause, NominalGoal}
 use Rattle.ap_defs.specs.GroundProofs.{clause_at}
 use Rattle.ap_defs.specs.Groundings.{Grounding}
 use Rattle.ap_defs.specs.PathOrder.{has_prefix}
-use Rattle.ap_defs.specs.Resolution.{Output, State, below, by_clause, by_clauses, cut, each_found, found, stuck}
+use Rattle.ap_defs.specs.Resolution.{Output, State, below, by_clause, by_clauses, cut, each_found, found, chose, stuck}
 use Rattle.ap_defs.specs.Terms.{NominalTerm}
 use Rattle.ap_defs.specs.Types.{NominalKind}
 use Rattle.ap_theory.proofs.BooleanLemmas.{and_both, and_left, and_right}
@@ -38,6 +38,7 @@ among_each go (o' ∷ os) p r d o (inl e) k =
 among_each go (found p' r' d' ∷ os) p r d o (inr h) k =
     among_right (below p (nodes.both d) o) (map (below p' (nodes.both d')) (go r')) (each_found go os) (among_each go os p r d o h k)
 among_each go (cut q ∷ os) p r d o (inr h) k = inr (among_each go os p r d o h k)
+among_each go (chose q c ∷ os) p r d o (inr h) k = absurd c
 among_each go (stuck q ∷ os) p r d o (inr h) k = inr (among_each go os p r d o h k)
 
 -- a branch that is stuck stays
@@ -46,6 +47,7 @@ stuck_each go [] q h = absurd h
 stuck_each go (o ∷ os) q (inl e) = subst (λ (w : Output). IsAmong (stuck q) (each_found go (w ∷ os))) (sym e) (inl refl)
 stuck_each go (found p r d ∷ os) q (inr h) = among_right (stuck q) (map (below p (nodes.both d)) (go r)) (each_found go os) (stuck_each go os q h)
 stuck_each go (cut p ∷ os) q (inr h) = inr (stuck_each go os q h)
+stuck_each go (chose p c ∷ os) q (inr h) = absurd c
 stuck_each go (stuck p ∷ os) q (inr h) = inr (stuck_each go os q h)
 
 -- the outputs by one of the clauses

@@ -99,6 +99,7 @@ abbrev pub out_in : List NominalLocal → Output → NominalOut
 out_in locals (search.found p s d) = found p (answer_in locals s d)
 out_in locals (search.cut p) = cut p
 out_in locals (search.stuck p) = stuck p
+out_in locals (search.chose p c) = absurd c
 
 -- the outputs of a query at a depth, with their answers
 abbrev pub query_outs : Clauses → ℕ → NominalQuery → List NominalOut

@@ -14,6 +14,7 @@ pub mod PathOrder
 pub mod Occurrences
 pub mod Renaming
 pub mod Derivations
+pub mod HeadKeys
 pub mod Resolution
 pub mod Paths
 pub mod Answers

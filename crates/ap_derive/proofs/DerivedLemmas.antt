@@ -7,7 +7,7 @@ use Rattle.ap_defs.specs.Answers.{NominalAnswer, NominalOut, answer_in, derivati
 use Rattle.ap_defs.specs.Derivations.{NominalDerivation}
 use Rattle.ap_defs.specs.Goals.{Clauses, NominalProgram, NominalQuery}
 use Rattle.ap_defs.specs.PathOrder.{has_prefix}
-use Rattle.ap_defs.specs.Resolution.{Output, State, cut, first_state, found, solve_query, stuck}
+use Rattle.ap_defs.specs.Resolution.{Output, State, cut, first_state, found, solve_query, chose, stuck}
 use Rattle.ap_defs.specs.Types.{NominalLocal, NominalSignature}
 use Rattle.ap_program.specs.Typed.{AreTypedQueries, IsTypedProgram, IsTypedQuery, term_form}
 use Rattle.ap_soundness.specs.FoundStates.{EachFound}
@@ -58,6 +58,7 @@ module _ (locals : List NominalLocal) (path : List ℕ) where
       ] e
   found_among (cut q ∷ os) a e =
       let r = found_among os a (other_if (answers.cut q) (among os) a (has_prefix path q) (λ c r h. cc) e) in record { state = r.state; plain = r.plain; there = r.there; answer = r.answer }
+  found_among (chose q c ∷ os) a e = absurd c
   found_among (stuck q ∷ os) a e =
       let r = found_among os a (other_if (answers.stuck q) (among os) a (has_prefix path q) (λ c r h. cc) e) in record { state = r.state; plain = r.plain; there = r.there; answer = r.answer }
 
@@ -114,6 +115,7 @@ each_has P [] path s d h f = absurd f
 each_has P (found q r e ∷ os) path s d h (inl f) = subst (λ (x : State). P x d) f.1 (subst (λ (y : NominalDerivation). P r y) f.2 h.0)
 each_has P (found q r e ∷ os) path s d h (inr f) = each_has P os path s d h.1 f
 each_has P (cut q ∷ os) path s d h f = each_has P os path s d h f
+each_has P (chose q c ∷ os) path s d h f = absurd c
 each_has P (stuck q ∷ os) path s d h f = each_has P os path s d h f
 
 same_answer : (path : List ℕ) (os : List NominalOut) (a b : NominalAnswer) → os ≡ answers.found path a ∷ [] → os ≡ answers.found path b ∷ [] → a ≡ b

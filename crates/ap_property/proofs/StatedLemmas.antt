@@ -7,7 +7,7 @@ use Rattle.ap_defs.specs.Goals.{NominalProgram, NominalQuery}
 use Rattle.ap_defs.specs.Groundings.{Grounding, grounded}
 use Rattle.ap_defs.specs.Permutations.{inverse}
 use Rattle.ap_defs.specs.Renaming.{local_vars, replace_names}
-use Rattle.ap_defs.specs.Resolution.{Output, State, cut, found, kinds_of, solve_query, stuck}
+use Rattle.ap_defs.specs.Resolution.{Output, State, cut, found, kinds_of, solve_query, chose, stuck}
 use Rattle.ap_defs.specs.Terms.{GroundTerm, NominalTerm, act_ground}
 use Rattle.ap_defs.specs.Types.{NominalConstructor}
 use Rattle.ap_defs.specs.declared.terms.Swap.{Swap}
@@ -62,6 +62,7 @@ module _ (p : NominalProgram) (typed : IsTypedProgram p) (depth : ℕ) (q : Nomi
   outs_typed [] h = tt
   outs_typed (found r s d ∷ os) h = (vars_typed s d h.0, outs_typed os h.1)
   outs_typed (cut r ∷ os) h = outs_typed os h
+  outs_typed (chose r c ∷ os) h = absurd c
   outs_typed (stuck r ∷ os) h = outs_typed os h
 
   -- An answer that is sound in each of its instances.

@@ -8,8 +8,8 @@ use Rattle.ap_defs.specs.Resolution.{State}
 use Rattle.ap_defs.specs.Terms.{NominalTerm}
 use Rattle.ap_defs.specs.declared.terms.Var.{Var}
 use Rattle.ap_theory.proofs.BooleanLemmas.{and_false}
-use Rattle.ap_search.specs.Continuations.{Waiting, calls_then, clause_then, clauses_then, goal_then, stack_then}
-use Rattle.ap_search.specs.MarkedContinuations.{MarkedCallThen, MarkedContinuation, NominalMark, choice, mark_path, marked_calls_then, marked_clause_then, marked_clauses_then, marked_stack_then, marked_then, out, outs_among, widths_at}
+use Rattle.ap_search.specs.Continuations.{calls_then, CallThen, clause_then, clauses_then, Continuation, goal_then, outputs_alone, stack_outs, Waiting}
+use Rattle.ap_search.specs.Marks.{NominalMark, out, choice, mark_path, outs_among, with_choices, stack_marks, widths_at}
 use Rattle.ap_search.specs.Prefixes.{AllBegin, beginning}
 use Rattle.ap_search.specs.Records.{Answering}
 use Rattle.ap_search.proofs.MarkLemmas.{Begins, CallBegins, begin_among, beginning_among, calls_begin, clause_begins, goal_begins, marked_stack_begins, marks_calls, marks_clause, marks_clauses, marks_goal, marks_stack}
@@ -27,12 +27,12 @@ module _ {A : Type 0} (path : A → List ℕ) where
   beginning_second p i j os qs n h = beginning-append path (p ++ j ∷ []) os qs ∙ ap (λ l. l ++ beginning path (p ++ j ∷ []) qs) (beginning_other path p i j os n h)
 
 -- The ways of an atom, of marks.
-module _ (mcall : MarkedCallThen) (begins : CallBegins mcall) (ts : List NominalTerm) (m : MarkedContinuation) (h : Begins m) (p : List ℕ) (s : State) (xs : List Var) where
+module _ (mcall : CallThen NominalMark) (begins : CallBegins mcall) (ts : List NominalTerm) (m : Continuation NominalMark) (h : Begins m) (p : List ℕ) (s : State) (xs : List Var) where
   abbrev way : ℕ → NominalClause → List NominalMark
-  way i c = marked_clause_then (marked_then mcall) ts m i c p s xs
+  way i c = clause_then (goal_then with_choices mcall) ts m i c p s xs
 
   abbrev ways : ℕ → List NominalClause → List NominalMark
-  ways i cs = marked_clauses_then (marked_then mcall) ts m i cs p s xs
+  ways i cs = clauses_then (goal_then with_choices mcall) ts m i cs p s xs
 
   -- clauses from n on have nothing below an earlier one
   pub no_earlier_way : (i n : ℕ) (cs : List NominalClause) → i < n → beginning mark_path (p ++ i ∷ []) (ways n cs) ≡ []
@@ -55,34 +55,34 @@ module _ (mcall : MarkedCallThen) (begins : CallBegins mcall) (ts : List Nominal
 -- The ways of an atom, of outputs.
 module _ (program : Clauses) (d : ℕ) (answering : Answering) (ws : List Waiting) (ts : List NominalTerm) (p : List ℕ) (s : State) (xs : List Var) where
   abbrev out_way : ℕ → NominalClause → List NominalOut
-  out_way i c = clause_then (goal_then (calls_then program d)) ts (stack_then program answering ws) i c p s xs
+  out_way i c = clause_then (goal_then outputs_alone (calls_then outputs_alone program d)) ts (stack_outs program answering ws) i c p s xs
 
   abbrev out_ways : ℕ → List NominalClause → List NominalOut
-  out_ways i cs = clauses_then (goal_then (calls_then program d)) ts (stack_then program answering ws) i cs p s xs
+  out_ways i cs = clauses_then (goal_then outputs_alone (calls_then outputs_alone program d)) ts (stack_outs program answering ws) i cs p s xs
 
   -- below the i-th clause there is what it has
   pub clause_at : (n i : ℕ) (c : NominalClause) (cs : List NominalClause) → i < length cs
       → beginning out_path (p ++ (n + i) ∷ []) (out_ways n cs) ≡ out_way (n + i) (get_or cs i c)
   clause_at n i c cs l =
-      let mcall = marked_calls_then program d in
-      let k = marked_stack_then program answering ws in
-      ap (beginning out_path (p ++ (n + i) ∷ [])) (sym (marks_clauses mcall (calls_then program d) (marks_calls program d) ts k (stack_then program answering ws) (marks_stack program answering ws) n cs p s xs))
-      ∙ sym (beginning_among (p ++ (n + i) ∷ []) (marked_clauses_then (marked_then mcall) ts k n cs p s xs))
+      let mcall = calls_then with_choices program d in
+      let k = stack_marks program answering ws in
+      ap (beginning out_path (p ++ (n + i) ∷ [])) (sym (marks_clauses mcall (calls_then outputs_alone program d) (marks_calls program d) ts k (stack_outs program answering ws) (marks_stack program answering ws) n cs p s xs))
+      ∙ sym (beginning_among (p ++ (n + i) ∷ []) (clauses_then (goal_then with_choices mcall) ts k n cs p s xs))
       ∙ ap outs_among (mark_way mcall (calls_begin program d) ts k (marked_stack_begins program answering ws) p s xs n i c cs l)
-      ∙ marks_clause mcall (calls_then program d) (marks_calls program d) ts k (stack_then program answering ws) (marks_stack program answering ws) (n + i) (get_or cs i c) p s xs
+      ∙ marks_clause mcall (calls_then outputs_alone program d) (marks_calls program d) ts k (stack_outs program answering ws) (marks_stack program answering ws) (n + i) (get_or cs i c) p s xs
 
 -- the outputs of a goal in front of a stack begin with the path
 pub goal_outs_begin : (program : Clauses) (d : ℕ) (answering : Answering) (ws : List Waiting) (g : NominalGoal) (p : List ℕ) (s : State) (xs : List Var)
-    → AllBegin out_path p (goal_then (calls_then program d) g (stack_then program answering ws) p s xs)
+    → AllBegin out_path p (goal_then outputs_alone (calls_then outputs_alone program d) g (stack_outs program answering ws) p s xs)
 goal_outs_begin program d answering ws g p s xs =
-    let k = marked_stack_then program answering ws in
-    subst (AllBegin out_path p) (marks_goal (marked_calls_then program d) (calls_then program d) (marks_calls program d) g k (stack_then program answering ws) (marks_stack program answering ws) p s xs)
-    (begin_among p (marked_then (marked_calls_then program d) g k p s xs) (goal_begins (marked_calls_then program d) (calls_begin program d) g k (marked_stack_begins program answering ws) p s xs))
+    let k = stack_marks program answering ws in
+    subst (AllBegin out_path p) (marks_goal (calls_then with_choices program d) (calls_then outputs_alone program d) (marks_calls program d) g k (stack_outs program answering ws) (marks_stack program answering ws) p s xs)
+    (begin_among p (goal_then with_choices (calls_then with_choices program d) g k p s xs) (goal_begins (calls_then with_choices program d) (calls_begin program d) g k (marked_stack_begins program answering ws) p s xs))
 
 -- The ways of a disjunction.
 module _ (program : Clauses) (d : ℕ) (answering : Answering) (ws : List Waiting) (g h : NominalGoal) (p : List ℕ) (s : State) (xs : List Var) where
   abbrev side : NominalGoal → ℕ → List NominalOut
-  side f i = goal_then (calls_then program d) f (stack_then program answering ws) (p ++ i ∷ []) s xs
+  side f i = goal_then outputs_alone (calls_then outputs_alone program d) f (stack_outs program answering ws) (p ++ i ∷ []) s xs
 
   pub left_at : beginning out_path (p ++ 1 ∷ []) (side g 1 ++ side h 2) ≡ side g 1
   left_at =

@@ -7,7 +7,7 @@ use Rattle.ap_defs.specs.Derivations.{NominalDerivation}
 use Rattle.ap_defs.specs.Goals.{NominalGoal, succeed, atom, equal, fresh, both, either, exists, new, NominalClause, NominalQuery, Clauses, clauses_of}
 use Rattle.ap_defs.specs.Occurrences.{free_vars}
 use Rattle.ap_defs.specs.Renaming.{rename_goal, rename_term}
-use Rattle.ap_defs.specs.Resolution.{Call, Output, State, below, by_clause, by_clauses, calls, clause_node, cut, each_found, first_state, found, fresh_for_each, if_reduced, if_unified, kinds_of, next_number, outputs, solve, stuck}
+use Rattle.ap_defs.specs.Resolution.{Call, Output, State, below, by_clause, by_clauses, calls, clause_node, cut, each_found, first_state, found, fresh_for_each, if_reduced, if_unified, kinds_of, next_number, outputs, solve, chose, stuck}
 use Rattle.ap_defs.specs.Terms as terms
 use Rattle.ap_defs.specs.Terms.{NominalTerm}
 use Rattle.ap_defs.specs.Types.{NominalLocal}
@@ -19,18 +19,21 @@ uncut_left : (os qs : List Output) → HasNoCut (os ++ qs) → HasNoCut os
 uncut_left [] qs h = tt
 uncut_left (found p s d ∷ os) qs h = uncut_left os qs h
 uncut_left (cut p ∷ os) qs h = h
+uncut_left (chose p c ∷ os) qs h = absurd c
 uncut_left (stuck p ∷ os) qs h = uncut_left os qs h
 
 uncut_right : (os qs : List Output) → HasNoCut (os ++ qs) → HasNoCut qs
 uncut_right [] qs h = h
 uncut_right (found p s d ∷ os) qs h = uncut_right os qs h
 uncut_right (cut p ∷ os) qs h = absurd h
+uncut_right (chose p c ∷ os) qs h = absurd c
 uncut_right (stuck p ∷ os) qs h = uncut_right os qs h
 
 uncut_below : (p : List ℕ) (node : NominalDerivation → NominalDerivation) (os : List Output) → HasNoCut (map (below p node) os) → HasNoCut os
 uncut_below p node [] h = tt
 uncut_below p node (found q s d ∷ os) h = uncut_below p node os h
 uncut_below p node (cut q ∷ os) h = h
+uncut_below p node (chose q c ∷ os) h = absurd c
 uncut_below p node (stuck q ∷ os) h = uncut_below p node os h
 
 -- what was cut before is kept
@@ -38,6 +41,7 @@ uncut_each : (go : State → List Output) (os : List Output) → HasNoCut (each_
 uncut_each go [] h = tt
 uncut_each go (found p s d ∷ os) h = uncut_each go os (uncut_right (map (below p (nodes.both d)) (go s)) (each_found go os) h)
 uncut_each go (cut p ∷ os) h = h
+uncut_each go (chose p c ∷ os) h = absurd c
 uncut_each go (stuck p ∷ os) h = uncut_each go os h
 
 abbrev Settles : (State → List Output) → (State → List Output) → Type 0
@@ -50,6 +54,7 @@ each_settles go to k (found p s d ∷ os) h =
     (ap (map (below p (nodes.both d))) (k s (uncut_below p (nodes.both d) (go s) (uncut_left (map (below p (nodes.both d)) (go s)) (each_found go os) h))))
     (each_settles go to k os (uncut_right (map (below p (nodes.both d)) (go s)) (each_found go os) h))
 each_settles go to k (cut p ∷ os) h = absurd h
+each_settles go to k (chose p c ∷ os) h = absurd c
 each_settles go to k (stuck p ∷ os) h = ap (λ l. stuck p ∷ l) (each_settles go to k os h)
 
 reduced_settles : (go to : State → List Output) → Settles go to → (s : State) (o : Option (List Cond)) → HasNoCut (if_reduced go s o) → if_reduced to s o ≡ if_reduced go s o
@@ -108,6 +113,7 @@ uncut_outs : (locals : List NominalLocal) (os : List Output) → HasNoCutOut (ma
 uncut_outs locals [] h = tt
 uncut_outs locals (found p s d ∷ os) h = uncut_outs locals os h
 uncut_outs locals (cut p ∷ os) h = h
+uncut_outs locals (chose p c ∷ os) h = absurd c
 uncut_outs locals (stuck p ∷ os) h = uncut_outs locals os h
 
 pub query_deeper : (program : Clauses) (d e : ℕ) (q : NominalQuery) → d ≤ e → HasNoCutOut (query_outs program d q) → query_outs program e q ≡ query_outs program d q

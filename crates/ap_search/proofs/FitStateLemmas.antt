@@ -9,7 +9,7 @@ use Rattle.ap_defs.specs.Goals.{NominalGoal, succeed, atom, equal, fresh, both, 
 use Rattle.ap_defs.specs.Occurrences.{free_vars}
 use Rattle.ap_defs.specs.Permutations.{name_eq}
 use Rattle.ap_defs.specs.Renaming.{AreBelow, IsBelow, IsGoalBelow, rename_goal, rename_term}
-use Rattle.ap_defs.specs.Resolution.{Call, Output, State, below, by_clause, by_clauses, calls, clause_node, cut, each_found, first_state, found, fresh_for_each, if_reduced, if_unified, just_found, kinds_of, next_number, outputs, solve, solve_query, stuck, test_fresh}
+use Rattle.ap_defs.specs.Resolution.{Call, Output, State, below, by_clause, by_clauses, calls, clause_node, cut, each_found, first_state, found, fresh_for_each, if_reduced, if_unified, just_found, kinds_of, next_number, outputs, solve, solve_query, chose, stuck, test_fresh}
 use Rattle.ap_defs.specs.Substitution.{Binding, Problem, under, ◌#◌, ◌:=◌}
 use Rattle.ap_defs.specs.Terms as terms
 use Rattle.ap_defs.specs.Terms.{NominalTerm}
@@ -32,24 +32,28 @@ module _ (P : State → Type 0) where
   found-append [] qs h k = k
   found-append (found p s d ∷ os) qs h k = (h.0, found-append os qs h.1 k)
   found-append (cut p ∷ os) qs h k = found-append os qs h k
+  found-append (chose p c ∷ os) qs h k = absurd c
   found-append (stuck p ∷ os) qs h k = found-append os qs h k
 
   pub found_below : (p : List ℕ) (node : NominalDerivation → NominalDerivation) (os : List Output) → AllFound P os → AllFound P (map (below p node) os)
   found_below p node [] h = tt
   found_below p node (found q s d ∷ os) h = (h.0, found_below p node os h.1)
   found_below p node (cut q ∷ os) h = found_below p node os h
+  found_below p node (chose q c ∷ os) h = absurd c
   found_below p node (stuck q ∷ os) h = found_below p node os h
 
 pub found_weaken : (P Q : State → Type 0) → ((s : State) → P s → Q s) → (os : List Output) → AllFound P os → AllFound Q os
 found_weaken P Q w [] h = tt
 found_weaken P Q w (found p s d ∷ os) h = (w s h.0, found_weaken P Q w os h.1)
 found_weaken P Q w (cut p ∷ os) h = found_weaken P Q w os h
+found_weaken P Q w (chose p c ∷ os) h = absurd c
 found_weaken P Q w (stuck p ∷ os) h = found_weaken P Q w os h
 
 pub found_each : (P Q : State → Type 0) (go : State → List Output) → ((s : State) → P s → AllFound Q (go s)) → (os : List Output) → AllFound P os → AllFound Q (each_found go os)
 found_each P Q go k [] h = tt
 found_each P Q go k (found p s d ∷ os) h = found-append Q (map (below p (nodes.both d)) (go s)) (each_found go os) (found_below Q p (nodes.both d) (go s) (k s h.0)) (found_each P Q go k os h.1)
 found_each P Q go k (cut p ∷ os) h = found_each P Q go k os h
+found_each P Q go k (chose p c ∷ os) h = absurd c
 found_each P Q go k (stuck p ∷ os) h = found_each P Q go k os h
 
 -- Conditions on unbound variables.

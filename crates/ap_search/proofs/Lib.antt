@@ -1,8 +1,9 @@
 pub mod RecordLemmas
 pub mod ContinuationLemmas
+pub mod OutcomeLemmas
+pub mod HeadKeyLemmas
 pub mod PrefixLemmas
 pub mod MarkLemmas
-pub mod MarkedLemmas
 pub mod ChoiceLemmas
 pub mod TreeLemmas
 pub mod SubtreeLemmas

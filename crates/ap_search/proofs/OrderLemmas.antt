@@ -6,7 +6,7 @@ use Rattle.ap_defs.specs.Answers.{NominalOut, out_path}
 use Rattle.ap_defs.specs.PathOrder.{has_prefix}
 use Rattle.ap_theory.proofs.BooleanLemmas.{and_false, and_left, and_right}
 use Rattle.ap_theory.proofs.TermLemmas.{number_same, same_number}
-use Rattle.ap_search.specs.MarkedContinuations.{NominalMark, choice, mark_path, out, outs_among}
+use Rattle.ap_search.specs.Marks.{NominalMark, out, choice, mark_path, outs_among}
 use Rattle.ap_search.specs.PathTrees.{AllAfter, AreInPathOrder, Forest, PathTree, at_path, flat, flat_from, grow, is_before, leaf, node, none, nothing, width}
 use Rattle.ap_search.specs.Prefixes.{AllBegin, beginning}
 use Rattle.ap_search.specs.StatementsOnTrees.{marks_at}
@@ -76,7 +76,7 @@ mutual
   pub flat_in_order : (p : List ℕ) (t : PathTree) → AreInPathOrder (outs_among (flat p t))
   flat_in_order p nothing = tt
   flat_in_order p (leaf l) = (tt, tt)
-  flat_in_order p (node f) = flat_from_in_order p 1 f
+  flat_in_order p (node ks f) = flat_from_in_order p 1 f
 
   flat_from_in_order : (p : List ℕ) (i : ℕ) (f : Forest) → AreInPathOrder (outs_among (flat_from p i f))
   flat_from_in_order p i none = tt
@@ -123,7 +123,7 @@ one_flat : (p : List ℕ) (o : Option PathTree) → length (marks_at p (flat_som
 one_flat p None = omega arith
 one_flat p (Some nothing) = omega arith
 one_flat p (Some (leaf l)) = one_at_most p (out (at_path p l)) [] refl
-one_flat p (Some (node f)) = one_at_most p (choice p (width f)) (flat_from p 1 f) (marks_from p 1 f)
+one_flat p (Some (node ks f)) = one_at_most p (choice p (record { width = width f; kept = ks })) (flat_from p 1 f) (marks_from p 1 f)
 
 -- an output or a choice, and no two of them, stand at one path
 pub one_mark : (t : PathTree) (p : List ℕ) → length (marks_at p (flat [] t)) ≤ 1

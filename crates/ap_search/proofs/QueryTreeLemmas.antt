@@ -1,19 +1,19 @@
 -- The tree of paths of a query.
 use Rattle.std.proofs.Common.{subst, ◌≡◌, ◌≤◌, ℕ, zero, suc, List, [], ◌∷◌, ◌++◌, map, length, refl, sym, ap, ap₂, ◌∙◌, ◌↔◌}
-use Rattle.std.specs.Prelude.{Some, if◌then◌else◌}
+use Rattle.std.specs.Prelude.{Some, option_map, if◌then◌else◌}
 use Rattle.ap_defs.specs.Answers.{out_path, outs_at, query_outs}
 use Rattle.ap_defs.specs.Goals.{Clauses, NominalQuery}
-use Rattle.ap_defs.specs.Paths.{HasChoice, marked_query}
+use Rattle.ap_defs.specs.Paths.{Choice, HasChoice, marked_query}
 use Rattle.ap_defs.specs.Resolution.{first_state}
 use Rattle.ap_paths.specs.Trees.{Outputs, joined}
-use Rattle.ap_search.specs.MarkedContinuations.{NominalMark, choice, mark_in, mark_path, outs_among, widths_at}
-use Rattle.ap_search.specs.PathTrees.{AreInPathOrder, first_of, flat, query_choices, width_at}
+use Rattle.ap_search.specs.Marks.{NominalMark, choice, mark_in, mark_path, outs_among, widths_at}
+use Rattle.ap_search.specs.PathTrees.{AreInPathOrder, choice_at, first_of, flat, query_choice, query_choices}
 use Rattle.ap_search.specs.Prefixes.{beginning}
 use Rattle.ap_search.specs.Records.{answer_with}
 use Rattle.ap_search.specs.StatementsOnTrees.{marks_at}
 use Rattle.ap_search.proofs.ContinuationLemmas.{stack_is_query}
 use Rattle.ap_search.proofs.MarkLemmas.{beginning_among, marks_stack}
-use Rattle.ap_search.proofs.MarkedLemmas.{marked_stack_is_query}
+use Rattle.ap_search.proofs.ContinuationLemmas.{marked_stack_is_query}
 use Rattle.ap_search.proofs.PrefixLemmas.{prefix_itself}
 use Rattle.ap_theory.proofs.BooleanLemmas.{and_both}
 use Rattle.ap_defs.specs.PathOrder.{has_prefix}
@@ -49,10 +49,10 @@ module _ (program : Clauses) (d : ℕ) (q : NominalQuery) where
       let t = query_grows.0 in
       let e : query_marks ≡ flat [] t = query_grows.1 in
       let same : (r : List ℕ) → outs_at program d q r ≡ outs_among (beginning mark_path r (flat [] t)) = λ r. outs_at_marks r ∙ ap (λ ms. outs_among (beginning mark_path r ms)) e in
-      same p ∙ join_tree t p w (ap (width_at p) (sym e) ∙ h) ∙ joined_same _ _ (λ r. sym (same r)) p 1 w
+      same p ∙ join_tree t p w (ap (λ (ms : List NominalMark). option_map (λ (c : Choice). c.width) (choice_at p ms)) (sym e) ∙ h) ∙ joined_same _ _ (λ r. sym (same r)) p 1 w
 
-  pub query_choice : (p : List ℕ) (w : ℕ) → HasChoice (marked_query program d q) p w ↔ (query_choices program d q p ≡ Some w)
-  query_choice p w = choice_tells q.locals query_grows.0 (marked_query program d q) query_grows.1 p w
+  pub query_tells : (p : List ℕ) (c : Choice) → HasChoice (marked_query program d q) p c ↔ (query_choice program d q p ≡ Some c)
+  query_tells p c = choice_tells q.locals query_grows.0 (marked_query program d q) query_grows.1 p c
 
   pub query_in_order : AreInPathOrder (query_outs program d q)
   query_in_order = subst AreInPathOrder (sym (outs_among_marks ∙ ap outs_among query_grows.1)) (flat_in_order [] query_grows.0)
@@ -61,10 +61,10 @@ module _ (program : Clauses) (d : ℕ) (q : NominalQuery) where
   query_one_mark p = subst (λ (ms : List NominalMark). length (marks_at p ms) ≤ 1) (sym query_grows.1) (one_mark query_grows.0 p)
 
   -- among how many the search chooses at a path can be read off what is there
-  pub place_choice : (p : List ℕ) (ms : List NominalMark) → beginning mark_path p query_marks ≡ ms → query_choices program d q p ≡ width_at p ms
-  place_choice p ms h = ap first_of (sym (widths_below p query_marks)) ∙ ap (width_at p) h
+  pub place_choice : (p : List ℕ) (ms : List NominalMark) → beginning mark_path p query_marks ≡ ms → query_choice program d q p ≡ choice_at p ms
+  place_choice p ms h = ap first_of (sym (widths_below p query_marks)) ∙ ap (choice_at p) h
 
 -- where a choice stands first
-pub width_choice : (p : List ℕ) (w : ℕ) (ms : List NominalMark) → width_at p (choice p w ∷ ms) ≡ Some w
+pub width_choice : (p : List ℕ) (w : Choice) (ms : List NominalMark) → choice_at p (choice p w ∷ ms) ≡ Some w
 width_choice p w ms =
     ap (λ b. first_of (if b then (w ∷ widths_at p ms) else widths_at p ms)) (and_both (has_prefix p p) (has_prefix p p) (prefix_itself p) (prefix_itself p))

@@ -1,21 +1,25 @@
 -- What a tree of paths has below a path, and among how many it chooses there.
 use Rattle.std.proofs.Common.{subst, ◌≡◌, ◌≢◌, ◌⊎◌, ◌<◌, ◌≤◌, ℕ, suc, Bool, true, false, ◌&&◌, List, [], ◌∷◌, ◌++◌, map, refl, sym, ap, ap₂, ◌∙◌, append-nil, append_assoc, arith, inl, inr, true≢false, ◌↔◌}
-use Rattle.std.specs.Prelude.{Option, Some, None, if◌then◌else◌, ◌==◌}
+use Rattle.std.specs.Prelude.{Option, Some, None, option_map, if◌then◌else◌, ◌==◌}
 use Rattle.ap_defs.specs.Answers.{out_path}
 use Rattle.ap_defs.specs.PathOrder.{has_prefix}
-use Rattle.ap_defs.specs.Paths as tree
-use Rattle.ap_defs.specs.Paths.{HasChoice, Mark, here, later}
+use Rattle.ap_defs.specs.Paths.{Choice, HasChoice, Mark, here, later}
+use Rattle.ap_defs.specs.Resolution as search
 use Rattle.ap_defs.specs.Types.{NominalLocal}
 use Rattle.ap_paths.specs.Trees.{Outputs, joined}
 use Rattle.ap_theory.proofs.BooleanLemmas.{and_both, and_left, and_right}
 use Rattle.ap_theory.proofs.TermLemmas.{number_same, same_number}
-use Rattle.ap_search.specs.MarkedContinuations.{NominalMark, choice, mark_in, mark_path, out, outs_among, widths_at}
-use Rattle.ap_search.specs.PathTrees.{Forest, PathTree, at_path, first_of, flat, flat_from, grow, leaf, node, none, nothing, width, width_at}
+use Rattle.ap_search.specs.Marks.{NominalMark, out, choice, mark_in, mark_path, outs_among, widths_at}
+use Rattle.ap_search.specs.PathTrees.{Forest, PathTree, at_path, first_of, flat, flat_from, grow, leaf, node, none, nothing, width, choice_at}
 use Rattle.ap_search.specs.Prefixes.{AllBegin, beginning}
 use Rattle.ap_search.proofs.ChoiceLemmas.{beginning_first, beginning_second, widths-append, widths_none}
 use Rattle.ap_search.proofs.MarkLemmas.{outs_among-append}
 use Rattle.ap_search.proofs.PrefixLemmas.{beginning-append, beginning_deeper, beginning_other, beginning_whole, prefix_itself}
 use Rattle.ap_search.proofs.TreeLemmas.{flat_begins, flat_some, path_at, sub, sub_from}
+
+-- the choice of a node
+abbrev of_node : List ℕ → Forest → Choice
+of_node ks f = record { width = width f; kept = ks }
 
 prefix_too_long : (p : List ℕ) (k : ℕ) (q : List ℕ) → has_prefix (p ++ k ∷ q) p ≡ false
 prefix_too_long [] k q = refl
@@ -51,9 +55,9 @@ mutual
   flat_sub p nothing (k ∷ q) = refl
   flat_sub p (leaf l) [] = here_flat p (leaf l)
   flat_sub p (leaf l) (k ∷ q) = ap (λ b. if b then (out (at_path p l) ∷ []) else []) (ap (has_prefix (p ++ k ∷ q)) (path_at p l) ∙ prefix_too_long p k q)
-  flat_sub p (node f) [] = here_flat p (node f)
-  flat_sub p (node f) (k ∷ q) =
-      ap (λ b. if b then (choice p (width f) ∷ beginning mark_path (p ++ k ∷ q) (flat_from p 1 f)) else beginning mark_path (p ++ k ∷ q) (flat_from p 1 f)) (prefix_too_long p k q)
+  flat_sub p (node ks f) [] = here_flat p (node ks f)
+  flat_sub p (node ks f) (k ∷ q) =
+      ap (λ b. if b then (choice p (of_node ks f) ∷ beginning mark_path (p ++ k ∷ q) (flat_from p 1 f)) else beginning mark_path (p ++ k ∷ q) (flat_from p 1 f)) (prefix_too_long p k q)
       ∙ flat_sub_from p f 1 k q
 
   flat_sub_from : (p : List ℕ) (f : Forest) (i k : ℕ) (q : List ℕ) → beginning mark_path (p ++ k ∷ q) (flat_from p i f) ≡ flat_some (p ++ k ∷ q) (sub_from i f k q)
@@ -90,19 +94,19 @@ widths_from p i none = refl
 widths_from p i (grow t f) =
     widths-append p (flat (p ++ i ∷ []) t) (flat_from p (suc i) f) ∙ ap₂ ◌++◌ (widths_none p i (flat (p ++ i ∷ []) t) (flat_begins (p ++ i ∷ []) t)) (widths_from p (suc i) f)
 
-abbrev pub widths_of : Option PathTree → List ℕ
+abbrev pub widths_of : Option PathTree → List Choice
 widths_of None = []
 widths_of (Some nothing) = []
 widths_of (Some (leaf l)) = []
-widths_of (Some (node f)) = width f ∷ []
+widths_of (Some (node ks f)) = of_node ks f ∷ []
 
 widths_flat : (p : List ℕ) (o : Option PathTree) → widths_at p (flat_some p o) ≡ widths_of o
 widths_flat p None = refl
 widths_flat p (Some nothing) = refl
 widths_flat p (Some (leaf l)) = refl
-widths_flat p (Some (node f)) =
-    ap (λ b. if b then (width f ∷ widths_at p (flat_from p 1 f)) else widths_at p (flat_from p 1 f)) (and_both (has_prefix p p) (has_prefix p p) (prefix_itself p) (prefix_itself p))
-    ∙ ap (λ l. width f ∷ l) (widths_from p 1 f)
+widths_flat p (Some (node ks f)) =
+    ap (λ b. if b then (of_node ks f ∷ widths_at p (flat_from p 1 f)) else widths_at p (flat_from p 1 f)) (and_both (has_prefix p p) (has_prefix p p) (prefix_itself p) (prefix_itself p))
+    ∙ ap (λ l. of_node ks f ∷ l) (widths_from p 1 f)
 
 -- the widths at a path are that of the subtree there
 pub widths_sub : (t : PathTree) (p : List ℕ) → widths_at p (flat [] t) ≡ widths_of (sub t p)
@@ -119,61 +123,67 @@ join_from at p i (grow t f) h =
     (sym (h i (omega arith) ∙ ap outs_among (beginning_first mark_path p i (flat (p ++ i ∷ []) t) (flat_from p (suc i) f) begins (earlier_way p (suc i) i [] f (omega arith)))))
     (join_from at p (suc i) f (λ k l. h k (omega arith) ∙ ap outs_among (beginning_second mark_path p i k (flat (p ++ i ∷ []) t) (flat_from p (suc i) f) (λ e. omega arith) begins)))
 
-first_width : (o : Option PathTree) (w : ℕ) → first_of (widths_of o) ≡ Some w → (f : Forest) × (o ≡ Some (node f)) × (width f ≡ w)
+first_width : (o : Option PathTree) (w : ℕ) → option_map (λ (c : Choice). c.width) (first_of (widths_of o)) ≡ Some w
+    → (ks : List ℕ) × (f : Forest) × (o ≡ Some (node ks f)) × (width f ≡ w)
 first_width None w h = cc
 first_width (Some nothing) w h = cc
 first_width (Some (leaf l)) w h = cc
-first_width (Some (node f)) w h = (f, refl, (cc))
+first_width (Some (node ks f)) w h = (ks, f, refl, (cc))
 
-pub join_tree : (t : PathTree) (p : List ℕ) (w : ℕ) → width_at p (flat [] t) ≡ Some w
+pub join_tree : (t : PathTree) (p : List ℕ) (w : ℕ) → option_map (λ (c : Choice). c.width) (choice_at p (flat [] t)) ≡ Some w
     → outs_among (beginning mark_path p (flat [] t)) ≡ joined (λ r. outs_among (beginning mark_path r (flat [] t))) p 1 w
 join_tree t p w h =
-    let found = first_width (sub t p) w (ap first_of (sym (widths_sub t p)) ∙ h) in
-    let f = found.0 in
-    let below : beginning mark_path p (flat [] t) ≡ flat p (node f) = flat_sub [] t p ∙ ap (flat_some p) found.1 in
+    let found = first_width (sub t p) w (ap (λ (cs : List Choice). option_map (λ (c : Choice). c.width) (first_of cs)) (sym (widths_sub t p)) ∙ h) in
+    let ks = found.0 in
+    let f = found.1 in
+    let below : beginning mark_path p (flat [] t) ≡ flat p (node ks f) = flat_sub [] t p ∙ ap (flat_some p) found.2 in
     ap outs_among below
     ∙ join_from (λ r. outs_among (beginning mark_path r (flat [] t))) p 1 f
     (λ k l. ap outs_among (sym (beginning_deeper mark_path p (k ∷ []) (flat [] t)) ∙ ap (beginning mark_path (p ++ k ∷ [])) below
-    ∙ ap (λ b. if b then (choice p (width f) ∷ beginning mark_path (p ++ k ∷ []) (flat_from p 1 f)) else beginning mark_path (p ++ k ∷ []) (flat_from p 1 f)) (prefix_too_long p k [])))
-    ∙ ap (joined (λ r. outs_among (beginning mark_path r (flat [] t))) p 1) found.2
+    ∙ ap (λ b. if b then (choice p (of_node ks f) ∷ beginning mark_path (p ++ k ∷ []) (flat_from p 1 f)) else beginning mark_path (p ++ k ∷ []) (flat_from p 1 f)) (prefix_too_long p k [])))
+    ∙ ap (joined (λ r. outs_among (beginning mark_path r (flat [] t))) p 1) found.3
 
 -- Choices among marks.
-abbrev IsAmong : ℕ → List ℕ → Type 0
+abbrev IsAmong : Choice → List Choice → Type 0
 IsAmong w [] = ⊥
 IsAmong w (v ∷ vs) = (w ≡ v) ⊎ IsAmong w vs
 
 module _ (locals : List NominalLocal) where
-  among_widths : (p : List ℕ) (w : ℕ) (ms : List Mark) → HasChoice ms p w → IsAmong w (widths_at p (map (mark_in locals) ms))
+  among_widths : (p : List ℕ) (w : Choice) (ms : List Mark) → HasChoice ms p w → IsAmong w (widths_at p (map (mark_in locals) ms))
   among_widths p w _ (here {ms}) =
       subst (λ (b : Bool). IsAmong w (if b then (w ∷ widths_at p (map (mark_in locals) ms)) else widths_at p (map (mark_in locals) ms)))
       (sym (and_both (has_prefix p p) (has_prefix p p) (prefix_itself p) (prefix_itself p))) (inl refl)
-  among_widths p w _ (later {m = tree.end o} {ms} h) = among_widths p w ms h
-  among_widths p w _ (later {m = tree.choice q v} {ms} h) =
+  among_widths p w _ (later {m = search.found q s d} {ms} h) = among_widths p w ms h
+  among_widths p w _ (later {m = search.cut q} {ms} h) = among_widths p w ms h
+  among_widths p w _ (later {m = search.stuck q} {ms} h) = among_widths p w ms h
+  among_widths p w _ (later {m = search.chose q v} {ms} h) =
       elim (has_prefix p q && has_prefix q p) as (λ b. IsAmong w (if b then (v ∷ widths_at p (map (mark_in locals) ms)) else widths_at p (map (mark_in locals) ms))) [
         | true ↦ inr (among_widths p w ms h)
         | false ↦ among_widths p w ms h
       ]
 
-  pub choice_from : (p : List ℕ) (w : ℕ) (ms : List Mark) → width_at p (map (mark_in locals) ms) ≡ Some w → HasChoice ms p w
+  pub choice_from : (p : List ℕ) (w : Choice) (ms : List Mark) → choice_at p (map (mark_in locals) ms) ≡ Some w → HasChoice ms p w
   choice_from p w [] h = cc
-  choice_from p w (tree.end o ∷ ms) h = later (choice_from p w ms h)
-  choice_from p w (tree.choice q v ∷ ms) h =
-      elim (has_prefix p q && has_prefix q p) as (λ b. (has_prefix p q && has_prefix q p) ≡ b → first_of (if b then (v ∷ widths_at p (map (mark_in locals) ms)) else widths_at p (map (mark_in locals) ms)) ≡ Some w → HasChoice (tree.choice q v ∷ ms) p w) [
+  choice_from p w (search.found q s d ∷ ms) h = later (choice_from p w ms h)
+  choice_from p w (search.cut q ∷ ms) h = later (choice_from p w ms h)
+  choice_from p w (search.stuck q ∷ ms) h = later (choice_from p w ms h)
+  choice_from p w (search.chose q v ∷ ms) h =
+      elim (has_prefix p q && has_prefix q p) as (λ b. (has_prefix p q && has_prefix q p) ≡ b → first_of (if b then (v ∷ widths_at p (map (mark_in locals) ms)) else widths_at p (map (mark_in locals) ms)) ≡ Some w → HasChoice (search.chose q v ∷ ms) p w) [
         | true ↦ λ e k.
             let same : p ≡ q = prefix_both p q (and_left (has_prefix p q) (has_prefix q p) e) (and_right (has_prefix p q) (has_prefix q p) e) in
             let number : v ≡ w = cc in
-            subst (λ (n : ℕ). HasChoice (tree.choice q v ∷ ms) p n) number (subst (λ (r : List ℕ). HasChoice (tree.choice r v ∷ ms) p v) same here)
+            subst (λ (n : Choice). HasChoice (search.chose q v ∷ ms) p n) number (subst (λ (r : List ℕ). HasChoice (search.chose r v ∷ ms) p v) same here)
         | false ↦ λ e k. later (choice_from p w ms k)
       ] refl h
 
-  among_first : (w : ℕ) (o : Option PathTree) → IsAmong w (widths_of o) → first_of (widths_of o) ≡ Some w
+  among_first : (w : Choice) (o : Option PathTree) → IsAmong w (widths_of o) → first_of (widths_of o) ≡ Some w
   among_first w None h = absurd h
   among_first w (Some nothing) h = absurd h
   among_first w (Some (leaf l)) h = absurd h
-  among_first w (Some (node f)) (inl e) = ap Some (sym e)
-  among_first w (Some (node f)) (inr h) = absurd h
+  among_first w (Some (node ks f)) (inl e) = ap Some (sym e)
+  among_first w (Some (node ks f)) (inr h) = absurd h
 
-  pub choice_tells : (t : PathTree) (ms : List Mark) → map (mark_in locals) ms ≡ flat [] t → (p : List ℕ) (w : ℕ) → HasChoice ms p w ↔ (width_at p (map (mark_in locals) ms) ≡ Some w)
+  pub choice_tells : (t : PathTree) (ms : List Mark) → map (mark_in locals) ms ≡ flat [] t → (p : List ℕ) (w : Choice) → HasChoice ms p w ↔ (choice_at p (map (mark_in locals) ms) ≡ Some w)
   choice_tells t ms e p w =
       let known : widths_at p (map (mark_in locals) ms) ≡ widths_of (sub t p) = ap (widths_at p) e ∙ widths_sub t p in
       ((λ h. ap first_of known ∙ among_first w (sub t p) (subst (IsAmong w) known (among_widths p w ms h))), (λ h. choice_from p w ms h))

@@ -7,7 +7,7 @@ use Rattle.ap_defs.specs.Derivations.{NominalDerivation}
 use Rattle.ap_defs.specs.Goals.{NominalProgram, NominalQuery}
 use Rattle.ap_defs.specs.Permutations.{act_name, swap_of}
 use Rattle.ap_defs.specs.Renaming.{local_vars, var_unless}
-use Rattle.ap_defs.specs.Resolution.{Output, State, cut, found, kinds_of, solve_query, stuck}
+use Rattle.ap_defs.specs.Resolution.{Output, State, cut, found, kinds_of, solve_query, chose, stuck}
 use Rattle.ap_defs.specs.Substitution.{under}
 use Rattle.ap_defs.specs.Terms.{NominalTerm, abs, app, name, pair, susp, unit}
 use Rattle.ap_defs.specs.Types as types
@@ -111,6 +111,7 @@ pub outs_typed : (cs : List NominalConstructor) (locals : List NominalLocal) (os
 outs_typed cs locals [] h = tt
 outs_typed cs locals (found p s d ∷ os) h = (answer_typed cs locals s d h.0, outs_typed cs locals os h.1)
 outs_typed cs locals (cut p ∷ os) h = outs_typed cs locals os h
+outs_typed cs locals (chose p c ∷ os) h = absurd c
 outs_typed cs locals (stuck p ∷ os) h = outs_typed cs locals os h
 
 -- the answers of a typed query of a typed program are typed

@@ -6,7 +6,7 @@ use Rattle.ap_defs.specs.Answers.{kind_at, out_in, query_outs}
 use Rattle.ap_defs.specs.Goals.{NominalGoal, succeed, atom, equal, fresh, both, either, exists, new, NominalClause, NominalProgram, NominalQuery, Clauses}
 use Rattle.ap_defs.specs.Lines.{text_of_var, var_texts}
 use Rattle.ap_defs.specs.Renaming.{AreBelow, AreSwapsBelow, IsBelow, IsGoalBelow, local_vars, var_unless}
-use Rattle.ap_defs.specs.Resolution.{Output, cut, found, kinds_of, solve_query, stuck}
+use Rattle.ap_defs.specs.Resolution.{Output, cut, found, kinds_of, solve_query, chose, stuck}
 use Rattle.ap_defs.specs.Terms.{NominalTerm, abs, app, name, pair, susp, unit}
 use Rattle.ap_defs.specs.Types as types
 use Rattle.ap_defs.specs.Types.{NominalConstructor, NominalKind, NominalLocal, NominalSignature, NominalType}
@@ -104,6 +104,7 @@ outs_bind : (locals : List NominalLocal) (os : List Output) → HaveBindings (le
 outs_bind locals [] = tt
 outs_bind locals (found p s d ∷ os) = (length-map (local_vars zero locals) _ ∙ texts_count zero locals, outs_bind locals os)
 outs_bind locals (cut p ∷ os) = outs_bind locals os
+outs_bind locals (chose p c ∷ os) = absurd c
 outs_bind locals (stuck p ∷ os) = outs_bind locals os
 
 pub query_binds : (program : Clauses) (d : ℕ) (q : NominalQuery) → HaveBindings (length (var_texts q.locals)) (query_outs program d q)

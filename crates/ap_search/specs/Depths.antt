@@ -10,6 +10,7 @@ HasNoCut [] = Unit {0}
 HasNoCut (search.found p s d ∷ os) = HasNoCut os
 HasNoCut (search.cut p ∷ os) = ⊥
 HasNoCut (search.stuck p ∷ os) = HasNoCut os
+HasNoCut (search.chose p c ∷ os) = HasNoCut os
 
 abbrev pub HasNoCutOut : List NominalOut → Type 0
 HasNoCutOut [] = Unit {0}

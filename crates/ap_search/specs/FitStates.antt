@@ -4,7 +4,7 @@ use Rattle.std.specs.Prelude.{◌<◌, ◌^◌, ℕ, List, [], ◌∷◌, length
 use Rattle.ap_defs.specs.Freshness.{Conds}
 use Rattle.ap_defs.specs.Goals.{Clauses, NominalClause}
 use Rattle.ap_defs.specs.Renaming.{AreBelow, IsBelow, IsGoalBelow}
-use Rattle.ap_defs.specs.Resolution.{Output, State, cut, found, next_number, stuck}
+use Rattle.ap_defs.specs.Resolution.{Output, State, cut, found, next_number, chose, stuck}
 use Rattle.ap_defs.specs.Substitution.{Binding, ◌:=◌}
 use Rattle.ap_theory.specs.Variables.{EachCond, IsIdempotent, IsUnbound}
 
@@ -40,6 +40,7 @@ AllFound P [] = Unit {0}
 AllFound P (found p s d ∷ os) = P s × AllFound P os
 AllFound P (cut p ∷ os) = AllFound P os
 AllFound P (stuck p ∷ os) = AllFound P os
+AllFound P (chose p c ∷ os) = AllFound P os
 
 -- the clauses of each predicate can be numbered
 abbrev pub AreShort : Clauses → Type 0

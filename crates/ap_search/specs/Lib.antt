@@ -2,7 +2,7 @@ pub mod SameStates
 pub mod Records
 pub mod Continuations
 pub mod Prefixes
-pub mod MarkedContinuations
+pub mod Marks
 pub mod PathTrees
 pub mod Depths
 pub mod FitStates
@@ -15,3 +15,4 @@ pub mod StatementsOnDepths
 pub mod StatementsOnFitStates
 pub mod StatementsOnTypes
 pub mod StatementsOnContinuations
+pub mod StatementsOnOutcomes

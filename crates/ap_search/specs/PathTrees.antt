@@ -1,10 +1,10 @@
 -- Trees of paths: what a search has, with no paths written out.
-use Rattle.std.specs.Prelude.{◌≡◌, ℕ, suc, Bool, true, false, ◌==◌, nat_lt, if◌then◌else◌, List, [], ◌∷◌, ◌++◌, map, Option, Some, None}
+use Rattle.std.specs.Prelude.{◌≡◌, ℕ, suc, Bool, true, false, ◌==◌, nat_lt, if◌then◌else◌, List, [], ◌∷◌, ◌++◌, map, Option, Some, None, option_map}
 use Rattle.ap_defs.specs.Answers as answers
 use Rattle.ap_defs.specs.Answers.{NominalAnswer, NominalOut, out_path}
 use Rattle.ap_defs.specs.Goals.{Clauses, NominalQuery}
-use Rattle.ap_defs.specs.Paths.{marked_query}
-use Rattle.ap_search.specs.MarkedContinuations.{NominalMark, choice, mark_in, out, widths_at}
+use Rattle.ap_defs.specs.Paths.{Choice, marked_query}
+use Rattle.ap_search.specs.Marks.{NominalMark, out, choice, mark_in, widths_at}
 
 -- an output without its path
 pub data Leaf : Type 0 where
@@ -18,11 +18,11 @@ at_path p cut = answers.cut p
 at_path p stuck = answers.stuck p
 
 mutual
-  -- no output, an output, or a choice among trees
+  -- no output, an output, or a choice among trees, of which the ways with these numbers are kept
   pub data PathTree : Type 0 where
     nothing : PathTree
     leaf : Leaf → PathTree
-    node : Forest → PathTree
+    node : List ℕ → Forest → PathTree
 
   pub data Forest : Type 0 where
     none : Forest
@@ -37,25 +37,29 @@ abbrev mutual
   pub flat : List ℕ → PathTree → List NominalMark
   flat p nothing = []
   flat p (leaf l) = out (at_path p l) ∷ []
-  flat p (node f) = choice p (width f) ∷ flat_from p 1 f
+  flat p (node ks f) = choice p (record { width = width f; kept = ks }) ∷ flat_from p 1 f
 
   -- of trees that stand at the ways of a path, from the i-th on
   pub flat_from : List ℕ → ℕ → Forest → List NominalMark
   flat_from p i none = []
   flat_from p i (grow t f) = flat (p ++ i ∷ []) t ++ flat_from p (suc i) f
 
--- the first of some numbers
-abbrev pub first_of : List ℕ → Option ℕ
+-- the first of some
+abbrev pub first_of : {A : Type 0} → List A → Option A
 first_of [] = None
-first_of (n ∷ ns) = Some n
+first_of (x ∷ xs) = Some x
 
--- among how many a search chooses at a path, where it does
-abbrev pub width_at : List ℕ → List NominalMark → Option ℕ
-width_at p ms = first_of (widths_at p ms)
+-- the choice at a path, where there is one
+abbrev pub choice_at : List ℕ → List NominalMark → Option Choice
+choice_at p ms = first_of (widths_at p ms)
 
--- the choices of a query at a depth
+-- the choice of a query at a depth and a path
+abbrev pub query_choice : Clauses → ℕ → NominalQuery → List ℕ → Option Choice
+query_choice program d q p = choice_at p (map (mark_in q.locals) (marked_query program d q))
+
+-- among how many it chooses
 abbrev pub query_choices : Clauses → ℕ → NominalQuery → List ℕ → Option ℕ
-query_choices program d q p = width_at p (map (mark_in q.locals) (marked_query program d q))
+query_choices program d q p = option_map (λ c. c.width) (query_choice program d q p)
 
 -- the first path comes before the second, and neither begins with the other
 abbrev pub is_before : List ℕ → List ℕ → Bool

@@ -3,11 +3,11 @@ use Rattle.std.specs.Prelude.{◌≡◌, ℕ, ◌≤◌, ◌&&◌, List, Some, l
 use Rattle.ap_defs.specs.Answers.{outs_at, query_outs}
 use Rattle.ap_defs.specs.Goals.{Clauses, NominalQuery}
 use Rattle.ap_defs.specs.PathOrder.{has_prefix}
-use Rattle.ap_defs.specs.Paths.{HasChoice, InTree, marked_query}
+use Rattle.ap_defs.specs.Paths.{Choice, HasChoice, InTree, marked_query}
 use Rattle.ap_paths.specs.Trees as trees
 use Rattle.ap_paths.specs.Trees.{joined}
-use Rattle.ap_search.specs.MarkedContinuations.{NominalMark, mark_in, mark_path}
-use Rattle.ap_search.specs.PathTrees.{AreInPathOrder, query_choices}
+use Rattle.ap_search.specs.Marks.{NominalMark, mark_in, mark_path}
+use Rattle.ap_search.specs.PathTrees.{AreInPathOrder, query_choice, query_choices}
 
 -- what is below a choice is what is below each of its ways, in order
 abbrev pub ChoicesAreATree : Type 0
@@ -15,8 +15,8 @@ ChoicesAreATree = (program : Clauses) (d : ℕ) (q : NominalQuery) (p : List ℕ
     → outs_at program d q p ≡ joined (outs_at program d q) p 1 w
 
 -- the choices are those among the marks
-abbrev pub MarksHaveWidths : Type 0
-MarksHaveWidths = (program : Clauses) (d : ℕ) (q : NominalQuery) (p : List ℕ) (w : ℕ) → HasChoice (marked_query program d q) p w ↔ (query_choices program d q p ≡ Some w)
+abbrev pub MarksHaveChoices : Type 0
+MarksHaveChoices = (program : Clauses) (d : ℕ) (q : NominalQuery) (p : List ℕ) (c : Choice) → HasChoice (marked_query program d q) p c ↔ (query_choice program d q p ≡ Some c)
 
 -- outputs stand in path order, and no path begins with another
 abbrev pub OutputsAreInPathOrder : Type 0

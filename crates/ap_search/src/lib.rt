@@ -8,6 +8,7 @@ pub mod continuations;
 pub mod depths;
 pub mod equal_states;
 pub mod fit_states;
+pub mod outcomes;
 pub mod paths;
 pub mod records;
 pub mod trees;

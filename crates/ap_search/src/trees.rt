@@ -1,11 +1,11 @@
 //! The tree of paths of a query.
 
-ghost use Rattle.ap_search.specs.StatementsOnTrees.{ChoicesAreATree, MarksHaveWidths, OneMarkAtAPath, OutputsAreInPathOrder, TreeOfChoices};
+ghost use Rattle.ap_search.specs.StatementsOnTrees.{ChoicesAreATree, MarksHaveChoices, OneMarkAtAPath, OutputsAreInPathOrder, TreeOfChoices};
 
 /// What is below a choice is what is below each of its ways, in order.
 pub fn choices_are_a_tree()
     ensures tree { ChoicesAreATree }
-    ensures widths { MarksHaveWidths }
+    ensures widths { MarksHaveChoices }
     ensures paths { TreeOfChoices }
 {}
 

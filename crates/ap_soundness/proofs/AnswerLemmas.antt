@@ -8,7 +8,7 @@ use Rattle.ap_defs.specs.GroundProofs.{IsDerivable}
 use Rattle.ap_defs.specs.Groundings.{Grounding, grounded}
 use Rattle.ap_defs.specs.Occurrences.{vars_of_terms}
 use Rattle.ap_defs.specs.Renaming.{local_vars}
-use Rattle.ap_defs.specs.Resolution.{Output, State, cut, found, solve_query, stuck}
+use Rattle.ap_defs.specs.Resolution.{Output, State, cut, found, solve_query, chose, stuck}
 use Rattle.ap_defs.specs.Substitution.{under}
 use Rattle.ap_defs.specs.Terms.{susp}
 use Rattle.ap_defs.specs.Types.{NominalConstructor, NominalKind}
@@ -62,6 +62,7 @@ module _ (p : NominalProgram) (typed : IsTypedProgram p) (depth : ℕ) (q : Nomi
   outs_sound [] h i j = tt
   outs_sound (found r s d ∷ os) h i j = (answer_sound s d h.0 i.0 j.0, outs_sound os h.1 i.1 j.1)
   outs_sound (cut r ∷ os) h i j = outs_sound os h i j
+  outs_sound (chose r c ∷ os) h i j = absurd c
   outs_sound (stuck r ∷ os) h i j = outs_sound os h i j
 
   each_answer : (P : NominalAnswer → Type 0) → ((a : NominalAnswer) → IsSound p depth q a → P a) → (os : List NominalOut) → EachAnswer (IsSound p depth q) os → EachAnswer P os

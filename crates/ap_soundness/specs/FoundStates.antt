@@ -18,6 +18,7 @@ EachFound P [] = Unit {0}
 EachFound P (search.found p s d ∷ os) = P s d × EachFound P os
 EachFound P (search.cut p ∷ os) = EachFound P os
 EachFound P (search.stuck p ∷ os) = EachFound P os
+EachFound P (search.chose p c ∷ os) = EachFound P os
 
 -- each answer has the property
 abbrev pub EachAnswer : (NominalAnswer → Type 0) → List NominalOut → Type 0

@@ -2,7 +2,7 @@
 use Rattle.std.proofs.Common.{◌≡◌, ◌≤◌, ℕ, List, [], ◌∷◌, ◌++◌, map, refl, ap, ap₂}
 use Rattle.ap_defs.specs.Answers.{out_in}
 use Rattle.ap_defs.specs.Goals.{Clauses, NominalProgram, NominalQuery}
-use Rattle.ap_defs.specs.Resolution.{Output, cut, first_state, found, solve_query, stuck}
+use Rattle.ap_defs.specs.Resolution.{Output, cut, first_state, found, solve_query, chose, stuck}
 use Rattle.ap_defs.specs.Types.{NominalLocal}
 use Rattle.ap_count.specs.Uses.{ClauseUse, uses_in_each}
 use Rattle.ap_search.specs.Depths.{HasNoCut, HasNoCutOut}
@@ -14,6 +14,7 @@ uncut : (locals : List NominalLocal) (os : List Output) → HasNoCutOut (map (ou
 uncut locals [] h = tt
 uncut locals (found p s d ∷ os) h = uncut locals os h
 uncut locals (cut p ∷ os) h = h
+uncut locals (chose p c ∷ os) h = absurd c
 uncut locals (stuck p ∷ os) h = uncut locals os h
 
 uses_deeper : (program : Clauses) (d e : ℕ) (qs : List NominalQuery) → d ≤ e → HaveNoCuts program d qs → uses_of_queries program e qs ≡ uses_of_queries program d qs

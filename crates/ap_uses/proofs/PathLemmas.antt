@@ -5,7 +5,7 @@ use Rattle.std.specs.List.{AllByRecursion}
 use Rattle.ap_defs.specs.Answers.{NominalOut, derivation_in, out_in, query_outs}
 use Rattle.ap_defs.specs.Derivations.{NominalDerivation}
 use Rattle.ap_defs.specs.Goals.{Clauses, NominalGoal, NominalQuery}
-use Rattle.ap_defs.specs.Resolution.{Output, State, cut, first_state, found, solve_query, stuck}
+use Rattle.ap_defs.specs.Resolution.{Output, State, cut, first_state, found, solve_query, chose, stuck}
 use Rattle.ap_backchain.specs.Problems.{HasQuery, clauses_in, queries_in}
 use Rattle.ap_backchain.specs.declared.problem.Problem.{Problem}
 use Rattle.ap_checks.specs.Traces.{Finds, Traced, traced_query}
@@ -57,6 +57,7 @@ module _ (p : Problem) (has : HasQuery p) (q : NominalQuery) (asked : slice_get 
   each_leads [] among = tt
   each_leads (found path s d ∷ os) among = (leads_on path s d (among path s d (inl (refl, refl, refl))), each_leads os (λ l r e f. among l r e (inr f)))
   each_leads (cut path ∷ os) among = each_leads os (λ l r e f. among l r e f)
+  each_leads (chose path c ∷ os) among = absurd c
   each_leads (stuck path ∷ os) among = each_leads os (λ l r e f. among l r e f)
 
   here : (path : List ℕ) (s : State) (d : NominalDerivation) → Finds (solve_query (clauses_in p) p.depth q) path s d → derivation_at p path ≡ derivation_in s d
@@ -68,6 +69,7 @@ module _ (p : Problem) (has : HasQuery p) (q : NominalQuery) (asked : slice_get 
   each_derivation (found path s d ∷ os) among =
       ap₂ (λ e es. e ∷ es) (here path s d (among path s d (inl (refl, refl, refl)))) (each_derivation os (λ l r e f. among l r e (inr f)))
   each_derivation (cut path ∷ os) among = each_derivation os (λ l r e f. among l r e f)
+  each_derivation (chose path c ∷ os) among = absurd c
   each_derivation (stuck path ∷ os) among = each_derivation os (λ l r e f. among l r e f)
 
   answers_lead : AllByRecursion (LeadsToAnswer p) (answer_paths (query_outs (clauses_in p) p.depth q))

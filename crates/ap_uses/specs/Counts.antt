@@ -3,7 +3,7 @@ use Rattle.std.specs.Prelude.{ℕ, suc, nat_le, if◌then◌else◌, List, [], �
 use Rattle.ap_defs.specs.Answers.{derivation_in}
 use Rattle.ap_defs.specs.Derivations.{NominalDerivation}
 use Rattle.ap_defs.specs.Goals.{Clauses, NominalClause, NominalProgram, NominalQuery}
-use Rattle.ap_defs.specs.Resolution.{Output, cut, found, solve_query, stuck}
+use Rattle.ap_defs.specs.Resolution.{Output, cut, found, solve_query, chose, stuck}
 use Rattle.ap_count.specs.Uses.{ClauseUse, saturated, times_used, uses_in_each}
 use Rattle.ap_uses.specs.declared.counts.ClauseCount.{ClauseCount}
 
@@ -13,6 +13,7 @@ derivations_among [] = []
 derivations_among (found path s d ∷ os) = derivation_in s d ∷ derivations_among os
 derivations_among (cut path ∷ os) = derivations_among os
 derivations_among (stuck path ∷ os) = derivations_among os
+derivations_among (chose path c ∷ os) = derivations_among os
 
 -- the uses of clauses in the derivations of all answers of a query to a depth
 abbrev pub uses_of_query : Clauses → ℕ → NominalQuery → List ClauseUse

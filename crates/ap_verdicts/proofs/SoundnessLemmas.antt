@@ -3,7 +3,7 @@ use Rattle.std.proofs.Common.{◌≡◌, ℕ, zero, suc, List, [], ◌∷◌, �
 use Rattle.std.specs.List.{AllByRecursion}
 use Rattle.ap_defs.specs.Answers.{answer_in, derivation_in}
 use Rattle.ap_defs.specs.Goals.{NominalProgram, NominalQuery}
-use Rattle.ap_defs.specs.Resolution.{Output, cut, found, solve_query, stuck}
+use Rattle.ap_defs.specs.Resolution.{Output, cut, found, solve_query, chose, stuck}
 use Rattle.ap_defs.specs.Types.{NominalSignature}
 use Rattle.ap_program.specs.Typed.{AreTypedQueries, IsTypedProgram, IsTypedQuery, term_form}
 use Rattle.ap_soundness.specs.FoundStates.{EachFound}
@@ -66,6 +66,7 @@ among_check p k q asked [] h = tt
 among_check p k q asked (found path s d ∷ os) h =
     (ap (λ o. on_query o (λ r. verdict_on p r (answer_in q.locals s d) (derivation_in s d))) asked ∙ h.0, among_check p k q asked os h.1)
 among_check p k q asked (cut path ∷ os) h = among_check p k q asked os h
+among_check p k q asked (chose path c ∷ os) h = absurd c
 among_check p k q asked (stuck path ∷ os) h = among_check p k q asked os h
 
 from_check : (p : NominalProgram) → IsTypedProgram p → (depth k : ℕ) (qs : List NominalQuery) → IsFrom p.queries k qs → AreTypedQueries term_form p.signature qs

@@ -16,6 +16,7 @@ proofs_among k locals (search.found path s d ∷ os) =
     record { query = k; answer = answer_in locals s d; derivation = derivation_in s d } ∷ proofs_among k locals os
 proofs_among k locals (search.cut path ∷ os) = proofs_among k locals os
 proofs_among k locals (search.stuck path ∷ os) = proofs_among k locals os
+proofs_among k locals (search.chose path c ∷ os) = proofs_among k locals os
 
 -- those of the query with this number, to a depth
 abbrev pub query_proofs : Clauses → ℕ → ℕ → NominalQuery → List NominalProved

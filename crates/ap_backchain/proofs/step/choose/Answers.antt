@@ -2,7 +2,7 @@ use Rattle.std.proofs.Common.{◌≡◌, ℕ, List, [], ◌∷◌, ◌++◌, map
 use Rattle.std.specs.Prelude.{IfOk, Option}
 use Rattle.ap_defs.specs.Goals.{clause_of}
 use Rattle.ap_defs.specs.Types.{locals_of}
-use Rattle.ap_search.specs.MarkedContinuations.{NominalMark, mark_path}
+use Rattle.ap_search.specs.Marks.{NominalMark, mark_path}
 use Rattle.ap_search.specs.Prefixes.{beginning}
 use Rattle.ap_backchain.specs.Branches.{marks_of_standing, path_of_standing}
 use Rattle.ap_backchain.specs.Marks.{IsAmong, choice_of, marks_from}

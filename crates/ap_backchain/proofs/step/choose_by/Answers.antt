@@ -4,7 +4,7 @@ use Rattle.ap_defs.specs.Goals.{clause_of, either, goal_of}
 use Rattle.ap_defs.specs.Renaming.{rename_goal, rename_term}
 use Rattle.ap_defs.specs.Terms.{term_of}
 use Rattle.ap_defs.specs.Types.{locals_of}
-use Rattle.ap_search.specs.MarkedContinuations.{NominalMark, mark_path}
+use Rattle.ap_search.specs.Marks.{NominalMark, mark_path}
 use Rattle.ap_search.specs.Prefixes.{beginning}
 use Rattle.ap_backchain.specs.Branches.{marks_of_standing}
 use Rattle.ap_backchain.specs.Marks.{clauses_marks, goal_marks, marks_from}

@@ -1,4 +1,4 @@
-use Rattle.ap_search.proofs.MarkedLemmas as lemmas
+use Rattle.ap_search.proofs.ContinuationLemmas as lemmas
 use Rattle.ap_search.proofs.paths.marked_stack_is_query.Goals as goal
 
 pub returns : goal.returns

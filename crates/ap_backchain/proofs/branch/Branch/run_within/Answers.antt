@@ -3,7 +3,7 @@ use Rattle.std.specs.Prelude.{IfOk, IfSome, None}
 use Rattle.ap_defs.specs.Answers.{outs_of}
 use Rattle.ap_defs.specs.Goals.{Clauses, clause_of, query_of}
 use Rattle.ap_defs.specs.Types.{NominalLocal, locals_of}
-use Rattle.ap_search.specs.MarkedContinuations.{outs_among}
+use Rattle.ap_search.specs.Marks.{outs_among}
 use Rattle.ap_backchain.specs.Branches.{marks_of_standing}
 use Rattle.ap_backchain.specs.Marks.{choices_among}
 use Rattle.ap_backchain.proofs.BranchLemmas.{choices_below, if_none, if_some, outs_below}

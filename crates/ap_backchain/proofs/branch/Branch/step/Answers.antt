@@ -1,7 +1,7 @@
 use Rattle.std.proofs.Common.{◌≡◌, ◌∷◌, ◌++◌, [], List, map, ap, sym, subst}
 use Rattle.ap_defs.specs.Goals.{Clauses, clause_of, query_of}
 use Rattle.ap_defs.specs.Types.{NominalLocal, locals_of}
-use Rattle.ap_search.specs.MarkedContinuations.{mark_path}
+use Rattle.ap_search.specs.Marks.{mark_path}
 use Rattle.ap_search.specs.Prefixes.{beginning}
 use Rattle.ap_backchain.specs.Branches.{IsChoosing, marks_of_standing, path_of_branch}
 use Rattle.ap_backchain.proofs.BranchLemmas.{choice_stands, step_is}
