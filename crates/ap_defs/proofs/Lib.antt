@@ -2,3 +2,4 @@ pub mod SpineLemmas
 mod WeightLemmas
 mod TermWeights
 mod TypeWeights
+mod PathLemmas

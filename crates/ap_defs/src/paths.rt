@@ -80,19 +80,7 @@ impl Path {
     pub fn is_prefix(&self, other: &Path) -> bool
         ensures { result ≡ has_prefix self.now other.now }
     {
-        begins_with(self.choices.as_slice(), other.choices.as_slice())
-    }
-}
-
-fn begins_with(front: &[u32], whole: &[u32]) -> bool
-    ensures { result ≡ has_prefix front.now whole.now }
-{
-    match front {
-        [] => true,
-        [k, rest @ ..] => match whole {
-            [] => false,
-            [j, others @ ..] => k == j && begins_with(rest, others),
-        },
+        other.choices.starts_with(&self.choices)
     }
 }
 
