@@ -10,7 +10,12 @@ use Rattle.ap_defs.specs.Types as types
 use Rattle.ap_defs.specs.Types.{NominalSignature}
 use Rattle.ap_defs.specs.Goals as goals
 use Rattle.ap_defs.specs.Goals.{Clauses, NominalQuery}
-use Rattle.ap_defs.specs.Answers.{query_outs, found}
+use Rattle.ap_defs.specs.Answers.{derivation_in, found, query_outs}
+use Rattle.ap_defs.specs.Derivations as nodes
+use Rattle.ap_defs.specs.Derivations.{NominalDerivation}
+use Rattle.ap_defs.specs.Resolution as resolution
+use Rattle.ap_defs.specs.Resolution.{State, solve_query}
+use Rattle.ap_defs.specs.Substitution.{◌:=◌}
 use Rattle.ap_defs.specs.Lines.{program_report}
 use Rattle.ap_rows.proofs.Programs.{n, v, named, brought_name, variable, constructor, signature, clause, query, programs}
 
@@ -40,6 +45,29 @@ brought_answer : query_outs brought 1 of_one ≡ found (1 ∷ []) (record {
 }) ∷ []
 unfolding swap_name name_eq name_before unify ending canonical
 brought_answer = refl
+
+-- the state that is found, and its derivation, in which variables stand for themselves
+abbrev brought_state : State
+brought_state = record {
+  bindings = (record { num = 1 } := v 0) ∷ [];
+  conditions = record { name = n 0 2; var = record { num = 0 } } ∷ [];
+  kinds = types.var (types.base 0) ∷ types.var (types.base 0) ∷ types.name 0 ∷ [];
+}
+
+abbrev brought_derivation : NominalDerivation
+brought_derivation = nodes.atom 1 [] (v 1 ∷ []) (nodes.new (n 0 2) nodes.fresh)
+
+brought_state_found : solve_query brought 1 of_one ≡ resolution.found (1 ∷ []) brought_state brought_derivation ∷ []
+unfolding swap_name name_eq name_before unify ending
+brought_state_found = refl
+
+-- the answer's derivation has what stands for them, and the output's path
+brought_closed : derivation_in brought_state brought_derivation ≡ nodes.atom 1 [] (v 0 ∷ []) (nodes.new (n 0 2) nodes.fresh)
+unfolding swap_name name_eq name_before canonical
+brought_closed = refl
+
+brought_path : nodes.path brought_derivation ≡ 1 ∷ []
+brought_path = refl
 
 brought_report : program_report (programs expressions brought (of_one ∷ []) (codes "id" ∷ codes "exp" ∷ codes "var" ∷ codes "app" ∷ codes "lam" ∷ codes "p" ∷ codes "X" ∷ codes "c" ∷ [])) 1
     ≡ codes "X = _1\n% query 1: 1 answers, 0 cut, 0 stuck\n"
