@@ -8,6 +8,7 @@ use ap_backchain::problem::Problem;
 use ap_defs::limits::{Depth, Workers};
 use ap_defs::memory::Memory;
 use ap_defs::paths::Out;
+use ap_index::index::Index;
 use ap_io::Gate;
 use ap_paths::Limit;
 use ap_program::restricted::Restricted;
@@ -61,8 +62,9 @@ fn search_query<R: Threads + Wait + Sync, G: Gate>(
         let outs = Vec::new(alloc);
         return Ok(Searched { query, outs });
     }
+    let index = Index::of(alloc, program)?;
     let problem = Problem {
-        program,
+        program: &index,
         query,
         depth: depth.get(),
     };

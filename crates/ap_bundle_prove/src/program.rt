@@ -10,6 +10,7 @@ use ap_backchain::problem::Problem;
 use ap_defs::limits::{Depth, Workers};
 use ap_defs::memory::Memory;
 use ap_defs::outcomes::Proved;
+use ap_index::index::Index;
 use ap_io::Gate;
 use ap_paths::Limit;
 use ap_program::restricted::Restricted;
@@ -40,10 +41,11 @@ pub fn prove_program<R: Threads + Wait + Sync, G: Gate>(
         ≡ limited_proofs depth limit (program_of program.now)) }
 {
     let count = query_count(program);
+    let index = Index::of(alloc, program)?;
     let mut all = Vec::new(alloc);
     for place in 0..count {
         let problem = Problem {
-            program,
+            program: &index,
             query: place + 1,
             depth: depth.get(),
         };

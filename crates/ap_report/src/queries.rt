@@ -11,6 +11,7 @@ use ap_answers::printing::{lines_among, words_in};
 use ap_backchain::problem::Problem;
 use ap_defs::limits::{Depth, Workers};
 use ap_defs::memory::Memory;
+use ap_index::index::Index;
 use ap_io::Gate;
 use ap_paths::Limit;
 use ap_program::restricted::Restricted;
@@ -41,7 +42,13 @@ fn report_query<R: Threads + Wait + Sync, G: Gate>(
     ensures { IfOk result (λ v. v.items ≡ query_report (program_of problem.now.program.now) problem.now.depth limit (problem.now.query - 1)) }
 {
     let outs = solve_without_paths(rt, alloc, gate, workers, limit, problem)?;
-    lines_among(alloc, problem.program, taken, problem.query, &outs)
+    lines_among(
+        alloc,
+        problem.program.restricted(),
+        taken,
+        problem.query,
+        &outs,
+    )
 }
 
 /// The report on each query of the program, to a depth, one after the other: the lines of its outputs up
@@ -59,10 +66,11 @@ pub(crate) fn report_program<R: Threads + Wait + Sync, G: Gate>(
 {
     let count = query_count(program);
     let taken = words_in(alloc, program)?;
+    let index = Index::of(alloc, program)?;
     let mut bytes = Vec::new(alloc);
     for place in 0..count {
         let problem = Problem {
-            program,
+            program: &index,
             query: place + 1,
             depth: depth.get(),
         };

@@ -11,6 +11,7 @@ use ap_backchain::problem::Problem;
 use ap_count::tables::{sum_of_tables, unused_table};
 use ap_defs::limits::{Depth, Workers};
 use ap_defs::memory::Memory;
+use ap_index::index::Index;
 use ap_io::Gate;
 use ap_program::restricted::Restricted;
 use std::alloc::Global;
@@ -47,9 +48,10 @@ pub(crate) fn uses_of_program<R: Threads + Wait + Sync, G: Gate>(
 {
     let count = query_count(program);
     let mut table = unused(alloc, program)?;
+    let index = Index::of(alloc, program)?;
     for place in 0..count {
         let problem = Problem {
-            program,
+            program: &index,
             query: place + 1,
             depth: depth.get(),
         };

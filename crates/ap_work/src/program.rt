@@ -10,6 +10,7 @@ use ap_answers::printing::words_in;
 use ap_backchain::problem::Problem;
 use ap_defs::limits::Workers;
 use ap_defs::memory::Memory;
+use ap_index::index::Index;
 use ap_io::Gate;
 use ap_program::restricted::Restricted;
 use std::alloc::Global;
@@ -38,10 +39,11 @@ pub(crate) fn program_totals<R: Threads + Wait + Sync, G: Gate>(
 {
     let count = query_count(program);
     let taken = words_in(alloc, program)?;
+    let index = Index::of(alloc, program)?;
     let mut totals = Totals::none();
     for place in 0..count {
         let problem = Problem {
-            program,
+            program: &index,
             query: place + 1,
             depth: DEPTH,
         };

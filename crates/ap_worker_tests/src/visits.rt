@@ -6,6 +6,7 @@ use crate::first_answers::{only_query, program_of};
 use ap_backchain::problem::Problem;
 use ap_defs::memory::Memory;
 use ap_defs::paths::{Path, Visit};
+use ap_index::index::Index;
 use ap_paths::Tree;
 use ap_replay::problem_tree::ProblemTree;
 use ap_replay::replay::at;
@@ -27,8 +28,9 @@ fn visit_at(alloc: Global, problem: &Problem<'_>, path: &Path) -> Result<Visit, 
 /// What it answers at a path of so many choices, each of the first way.
 fn visit_after(alloc: Global, choices: &[u32], depth: u32) -> Result<Visit, Memory> {
     let program = program_of(alloc, TEXT)?;
+    let index = Index::of(alloc, &program)?;
     let path = Path::of(choices.to_vec(alloc)?);
-    match only_query(&program, depth) {
+    match only_query(&index, depth) {
         Some(problem) => visit_at(alloc, &problem, &path),
         None => Err(Memory),
     }
