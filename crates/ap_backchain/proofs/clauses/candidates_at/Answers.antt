@@ -1,4 +1,4 @@
-use Rattle.std.proofs.Common.{◌≡◌, ℕ, ◌<◌, ◌^◌, List, length, map, ap, ◌∙◌, sym, subst}
+use Rattle.std.proofs.Common.{ℕ, ◌<◌, ◌^◌, List, length, map, ap, ◌∙◌, sym, subst}
 use Rattle.std.proofs.lemmas.List.{length-map}
 use Rattle.ap_defs.specs.Goals.{NominalClause, clause_of}
 use Rattle.ap_search.specs.FitStates.{AreFitClauses}
