@@ -15,14 +15,14 @@ use Rattle.ap_defs.specs.declared.paths.Out.TheVariants as code
 use Rattle.ap_program.specs.Typed.{IsTypedProgram, IsTypedQuery, term_form}
 use Rattle.ap_paths.specs.Limits.{part}
 use Rattle.ap_paths.specs.declared.limits.Limit.{Limit}
-use Rattle.ap_search.specs.Marks.{NominalMark, out, choice, mark_in, mark_path, outs_among, with_choices}
+use Rattle.ap_search.specs.Marks.{NominalMark, out, mark_in, mark_path, outs_among, with_choices}
 use Rattle.ap_search.specs.PathTrees.{choice_at, query_choice, query_choices}
 use Rattle.ap_search.specs.Prefixes.{beginning}
 use Rattle.ap_search.proofs.TreeLemmas.{marked_stack_begins}
 use Rattle.ap_search.proofs.PrefixLemmas.{beginning_deeper, beginning_whole}
 use Rattle.ap_search.proofs.QueryTreeLemmas.{outs_at_marks, place_choice, width_choice}
 use Rattle.ap_backchain.proofs.MarkLemmas.{marks_turned, settled}
-use Rattle.ap_backchain.proofs.TurnLemmas.{turns_turned, width_told, written_turned}
+use Rattle.ap_backchain.proofs.TurnLemmas.{turns_turned, written_turned}
 use Rattle.ap_backchain.proofs.UnboundLemmas.{marked_stack_by_unbound, stack_by_unbound}
 use Rattle.ap_backchain.specs.Branches.{IsBranchFor, IsBranchOf, IsChoiceAt, IsChoiceOfNode, IsChoosing, IsNamed, IsNodeAt, choices_at, marks_of_standing, path_of_branch, path_of_standing}
 use Rattle.ap_backchain.specs.Ends.{kept_out, without_path}
