@@ -79,8 +79,8 @@ module _ (program : Clauses) (d : ℕ) (q : NominalQuery) where
       told None e = let k = ap (option_map (λ (v : Choice). v.width)) (sym e) ∙ width_told program (position_of p).state (position_of p).waiting ∙ c in cc
       told (Some v) e =
           let here = place_choice program d q p.path.items (marks_from program q.locals (position_of p)) h
-              ∙ ap (choice_at p.path.items) (choosing_marks program q.locals (position_of p) (Some v) e)
-              ∙ width_choice p.path.items v (marks_of_turned program q.locals (turned program q.locals (position_of p))) in
+          ∙ ap (choice_at p.path.items) (choosing_marks program q.locals (position_of p) (Some v) e)
+          ∙ width_choice p.path.items v (marks_of_turned program q.locals (turned program q.locals (position_of p))) in
           ap (option_map (λ (x : Choice). x.width)) (here ∙ sym e) ∙ width_told program (position_of p).state (position_of p).waiting ∙ c
 
   no_choice : (p : List ℕ) (ms : List NominalMark) → beginning mark_path p (map (mark_in q.locals) (marked_query program d q)) ≡ ms → choice_at p ms ≡ None → query_choices program d q p ≡ None
