@@ -62,7 +62,7 @@ fn search_query<R: Threads + Wait + Sync, G: Gate>(
         return Ok(Searched { query, outs });
     }
     let problem = Problem {
-        program,
+        program: &*program,
         query,
         depth: depth.get(),
     };
@@ -87,5 +87,5 @@ pub(crate) fn searched_for<R: Threads + Wait + Sync, G: Gate>(
     if last.query == query {
         return Ok(last);
     }
-    search_query(rt, alloc, gate, depth, workers, program, query)
+    search_query(rt, alloc, gate, depth, workers, &*program, query)
 }

@@ -43,7 +43,7 @@ pub fn prove_program<R: Threads + Wait + Sync, G: Gate>(
     let mut all = Vec::new(alloc);
     for place in 0..count {
         let problem = Problem {
-            program,
+            program: &*program,
             query: place + 1,
             depth: depth.get(),
         };

@@ -62,7 +62,7 @@ pub(crate) fn report_program<R: Threads + Wait + Sync, G: Gate>(
     let mut bytes = Vec::new(alloc);
     for place in 0..count {
         let problem = Problem {
-            program,
+            program: &*program,
             query: place + 1,
             depth: depth.get(),
         };

@@ -49,7 +49,7 @@ pub(crate) fn uses_of_program<R: Threads + Wait + Sync, G: Gate>(
     let mut table = unused(alloc, program)?;
     for place in 0..count {
         let problem = Problem {
-            program,
+            program: &*program,
             query: place + 1,
             depth: depth.get(),
         };

@@ -41,7 +41,7 @@ pub(crate) fn program_totals<R: Threads + Wait + Sync, G: Gate>(
     let mut totals = Totals::none();
     for place in 0..count {
         let problem = Problem {
-            program,
+            program: &*program,
             query: place + 1,
             depth: DEPTH,
         };
