@@ -7,4 +7,5 @@
 
 pub mod index;
 mod keys;
+pub mod places;
 pub mod predicate;

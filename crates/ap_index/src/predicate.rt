@@ -5,12 +5,13 @@ ghost use Rattle.std.specs.List.{position_or_len};
 ghost use Rattle.ap_defs.specs.Goals.{clause_of, clauses_of};
 ghost use Rattle.ap_defs.specs.HeadKeys.{agree, first_key, kept_from};
 ghost use Rattle.ap_index.specs.Keys.{AreNarrow, keys_of};
+ghost use Rattle.ap_index.specs.Places.{AreWithin};
 
 use crate::keys::keys_of_clauses;
+use crate::places::{Places, next_within, places_of};
 use ap_defs::goals::Clause;
 use ap_defs::memory::Memory;
 use ap_defs::terms::Term;
-use ap_lanes::matching::next_match;
 use std::alloc::Global;
 use std::marker::Model;
 
@@ -19,6 +20,7 @@ use std::marker::Model;
 pub struct Predicate<'a> {
     clauses: &'a [Clause<Term>],
     keys: Vec<u32>,
+    places: Places,
 }
 
 impl<'a> Model for Predicate<'a> {
@@ -34,20 +36,22 @@ impl<'a> Model for Predicate<'a> {
 
     ghost coded = { Prim.hlevel (codes, (c.the_row t.the_row).coded) };
 
-    ghost use Rattle.std.specs.Prelude.{◌≡◌, ◌<◌, ◌^◌, length, map};
-    ghost use Rattle.ap_defs.specs.Goals.{clause_of};
-    ghost use Rattle.ap_index.specs.Keys.{AreNarrow, keys_of};
+    ghost use Rattle.ap_index.specs.Keyed.{HasKeys};
 
     ghost view = { λ a. a.clauses.now };
 
-    ghost invariant = { λ a. (a.keys.items ≡ keys_of (map clause_of a.clauses.now))
-        × (AreNarrow (keys_of (map clause_of a.clauses.now)) × (length a.clauses.now < 2 ^ 32)) };
+    ghost invariant = { λ a. HasKeys a.clauses.now a.keys.items
+        a.places.starts.items a.places.ends.items };
 }
 
 /// The first place from a place on whose key agrees, the number of keys where there is none, or the place
 /// itself where that is behind them.
-fn next_place(keys: &[u32], key: u64, from: usize) -> usize
-    requires { AreNarrow keys.now }
+fn next_place(keys: &[u32], places: &Places, key: u64, from: usize) -> usize
+    requires narrow { AreNarrow keys.now }
+    requires few { length keys.now < 2 ^ 32 }
+    requires starts { length places.now.starts.items ≡ length keys.now + 1 }
+    requires ends { length places.now.ends.items ≡ length keys.now + 1 }
+    requires within { AreWithin keys.now places.now.starts.items places.now.ends.items }
     ensures { result ≡ from + position_or_len (λ k. agree key k) (drop from keys.now) }
 {
     if key == 0 {
@@ -62,7 +66,7 @@ fn next_place(keys: &[u32], key: u64, from: usize) -> usize
     } else {
         0
     };
-    next_match(keys, wanted, from)
+    next_within(keys, places, wanted, from)
 }
 
 impl<'a> Predicate<'a> {
@@ -73,7 +77,12 @@ impl<'a> Predicate<'a> {
         ensures { IfOk result (λ p. p ≡ clauses.now) }
     {
         let keys = keys_of_clauses(alloc, clauses)?;
-        Ok(Predicate { clauses, keys })
+        let places = places_of(alloc, keys.as_slice())?;
+        Ok(Predicate {
+            clauses,
+            keys,
+            places,
+        })
     }
 
     /// The clauses.
@@ -89,7 +98,7 @@ impl<'a> Predicate<'a> {
         ensures { result ≡ from + position_or_len (λ c. agree key (first_key c.args))
             (map clause_of (drop from self.now)) }
     {
-        next_place(self.keys.as_slice(), key, from)
+        next_place(self.keys.as_slice(), &self.places, key, from)
     }
 
     /// The numbers from 1 of the clauses that an atom with this key may enter, in place of what `out`

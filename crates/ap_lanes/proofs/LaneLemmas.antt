@@ -98,12 +98,12 @@ module _ (p : ℕ → Bool) (xs : List ℕ) (i n r all : ℕ) (room : i + n ≤ 
       let l : length (take n (drop i xs)) ≡ n = length-chunk i n xs room in
       omega (arith, h, k, l, skipped)
 
-  pub block_goes_on : n ≤ r → (i + r ≤ length xs) × (i + r + prefix_len p (drop (i + r) xs) ≡ all)
+  pub block_goes_on : n ≤ r → (i + n ≤ length xs) × (i + n + prefix_len p (drop (i + n) xs) ≡ all)
   block_goes_on h =
       let w : r ≡ n = whole h in
       let k : prefix_len p (drop i xs) ≡ n + prefix_len p (drop n (drop i xs)) = run_goes_on p (drop i xs) n behind (omega (arith, h, skipped)) in
-      let d : prefix_len p (drop n (drop i xs)) ≡ prefix_len p (drop (i + r) xs) = ap (prefix_len p) (drop-drop n i xs ∙ ap (λ (m : ℕ). drop m xs) (omega (arith, w))) in
-      (omega (arith, w, room), omega (arith, w, k, d, run))
+      let d : prefix_len p (drop n (drop i xs)) ≡ prefix_len p (drop (i + n) xs) = ap (prefix_len p) (drop-drop n i xs) in
+      (omega (arith, room), omega (arith, w, k, d, run))
 
 take_further : (i n : ℕ) (xs : List ℕ) → take i xs ++ take n (drop i xs) ≡ take (i + n) xs
 take_further i n xs =

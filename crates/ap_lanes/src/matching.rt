@@ -29,10 +29,11 @@ pub fn next_match(keys: &[u32], key: u32, from: usize) -> usize
     let mut at = from;
     'blocks: while keys.len() - at >= LANES {
         let skipped = skipped_in_block(keys, key, at) as usize;
-        at += skipped;
         if skipped < LANES {
-            return at;
+            return at + skipped;
         }
+        // By a number that is known, so that the next block is looked at while this one still is.
+        at += LANES;
     }
     next_in_rest(keys, key, at)
 }

@@ -18,9 +18,9 @@ returns-then-keys-from c =
 pub returns : goal.returns
 returns c =
     let rest = drop c.args.from c.args.keys.now in
-    let narrow = narrow_drop c.args.from c.args.keys.now c.requires in
+    let narrow = narrow_drop c.args.from c.args.keys.now c.requires.narrow in
     let with_key = λ (k : ℕ). c.args.from + prefix_len (λ x. not (agrees k x)) rest in
-    c.next_match.ensures
+    c.next_within.ensures
     ∙ elim c.if-key.branch [
       | then-key w ↦ ap with_key w.wanted-is ∙ ap (λ (n : ℕ). c.args.from + n) (narrow_match c.args.key rest narrow c.if-key-eq0.false)
       | else-key w ↦ ap with_key w.wanted-is ∙ ap (λ (n : ℕ). c.args.from + n) (wide_match c.args.key rest narrow (omega (arith, w.if-key.false)))

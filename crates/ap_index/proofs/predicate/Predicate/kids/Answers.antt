@@ -10,7 +10,7 @@ use Rattle.ap_index.proofs.predicate.Predicate.kids.Goals.{then-place-count+in_o
 pub overflow_add-from : goal.overflow_add-from
 overflow_add-from c =
     let v : length c.self.inside.clauses.now ≡ length c.args.self.now = ap (λ (cs : List (Clause Term)). length cs) c.self.view_is in
-    let few = c.self.invariant.1.1 in
+    let few = c.self.invariant.few in
     let small : c.next-place.result ≤ length c.args.self.now =
     place_small c.args.key c.keeping.from c.next-place.result c.args.self.now c.keeping.kept.items (kept_from c.args.key 1 (map clause_of c.args.self.now))
     c.next-place.ensures (omega (arith, v)) c.keeping.invariant in
