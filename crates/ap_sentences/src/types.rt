@@ -55,12 +55,32 @@ fn set_shape(shapes: &mut Vec<Shape>, number: usize, shape: Shape) {
     }
 }
 
-/// Whether a type with nothing but this known may be that of the shape.
+/// Whether nothing is known of a type with this shape, or that it is a name type alone.
+fn is_open(shape: Shape) -> bool {
+    matches!(shape, Shape::Open | Shape::OpenName)
+}
+
+/// Whether a type of which nothing but this is known may be that of the shape.
 fn may_become(open: Shape, shape: Shape) -> bool {
-    match (open, shape) {
-        (Shape::Open, _) => true,
-        (_, Shape::Name(_) | Shape::OpenName | Shape::Open) => true,
-        _ => false,
+    open == Shape::Open || is_open(shape) || matches!(shape, Shape::Name(_))
+}
+
+/// Whether a type with this shape is known whole.
+fn is_whole(shape: Shape) -> bool {
+    matches!(shape, Shape::Unit | Shape::Name(_) | Shape::Data(_))
+}
+
+/// What follows for the parts of two equal types.
+fn parts_of(first: Shape, second: Shape) -> Step {
+    match (first, second) {
+        (Shape::List(one), Shape::List(other)) => Step::Parts(one, other),
+        (Shape::Pair(one, two), Shape::Pair(other, last)) => {
+            Step::TwoParts((one, other), (two, last))
+        }
+        (Shape::Abs(one, two), Shape::Abs(other, last)) => {
+            Step::TwoParts((one, other), (two, last))
+        }
+        _ => Step::Differ,
     }
 }
 
@@ -130,25 +150,14 @@ impl Types {
         }
         let first = self.shape(left);
         let second = self.shape(right);
-        match (first, second) {
-            (Shape::Open | Shape::OpenName, _) if may_become(first, second) => match second {
-                Shape::Open => Step::Binds(right, left),
-                _ => Step::Binds(left, right),
-            },
-            (_, Shape::Open | Shape::OpenName) if may_become(second, first) => {
-                Step::Binds(right, left)
-            }
-            (Shape::Unit, Shape::Unit) => Step::Binds(left, right),
-            (Shape::Name(one), Shape::Name(other)) if one == other => Step::Binds(left, right),
-            (Shape::Data(one), Shape::Data(other)) if one == other => Step::Binds(left, right),
-            (Shape::List(one), Shape::List(other)) => Step::Parts(one, other),
-            (Shape::Pair(one, two), Shape::Pair(other, last)) => {
-                Step::TwoParts((one, other), (two, last))
-            }
-            (Shape::Abs(one, two), Shape::Abs(other, last)) => {
-                Step::TwoParts((one, other), (two, last))
-            }
-            _ => Step::Differ,
+        if is_open(first) && second != Shape::Open && may_become(first, second) {
+            Step::Binds(left, right)
+        } else if is_open(second) && may_become(second, first) {
+            Step::Binds(right, left)
+        } else if is_whole(first) && first == second {
+            Step::Binds(left, right)
+        } else {
+            parts_of(first, second)
         }
     }
 
