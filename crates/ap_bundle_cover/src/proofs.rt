@@ -56,16 +56,7 @@ pub(crate) fn lines_of_proofs<R: Threads + Wait + Sync, G: Gate>(
     let mut last = nothing_searched(alloc);
     for i in 0..proved.len() {
         let one = &proved[i];
-        let next = searched_for(
-            rt,
-            alloc,
-            gate,
-            depth,
-            workers,
-            &*program,
-            last,
-            one.query,
-        )?;
+        let next = searched_for(rt, alloc, gate, depth, workers, &*program, last, one.query)?;
         write_proof(alloc, &mut out, i + 1, one, &next.outs)?;
         last = next;
     }

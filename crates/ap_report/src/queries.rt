@@ -41,7 +41,13 @@ fn report_query<R: Threads + Wait + Sync, G: Gate>(
     ensures { IfOk result (λ v. v.items ≡ query_report (program_of problem.now.program.now) problem.now.depth limit (problem.now.query - 1)) }
 {
     let outs = solve_without_paths(rt, alloc, gate, workers, limit, problem)?;
-    lines_among(alloc, problem.program.restricted(), taken, problem.query, &outs)
+    lines_among(
+        alloc,
+        problem.program.restricted(),
+        taken,
+        problem.query,
+        &outs,
+    )
 }
 
 /// The report on each query of the program, to a depth, one after the other: the lines of its outputs up

@@ -6,7 +6,8 @@ use ap_index::index::Index;
 use std::alloc::Global;
 
 /// The constructors have the keys 7, 8 and 9.
-const TEXT: &str = "id : name_type. exp : type. var : id -> exp. app : (exp, exp) -> exp. lam : id\\exp -> exp.
+const TEXT: &str =
+    "id : name_type. exp : type. var : id -> exp. app : (exp, exp) -> exp. lam : id\\exp -> exp.
 pred subst(exp, id, exp, exp).
 subst(var(X), X, E, E).
 subst(var(Y), X, _, var(Y)) :- X # Y.
