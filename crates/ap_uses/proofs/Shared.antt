@@ -2,8 +2,8 @@
 use denote.Param.Send.{IsSync, sendable}
 use denote.Ref.{NamedLft}
 use Rattle.std.proofs.Crossing.{crosses}
-use Rattle.ap_program.proofs.Shared.{restricted_sync}
+use Rattle.ap_replay.proofs.Shared.{index_sync}
 use Rattle.ap_uses.specs.contracts.answers.Answers.{the_row}
 
 pub answers_sync : (a : NamedLft) → IsSync (the_row a)
-answers_sync a = search (sendable, crosses, restricted_sync) depth 30
+answers_sync a = search (sendable, crosses, index_sync) depth 30
