@@ -15,7 +15,7 @@ use Rattle.ap_defs.specs.declared.paths.Out.TheVariants as code
 use Rattle.ap_program.specs.Typed.{IsTypedProgram, IsTypedQuery, term_form}
 use Rattle.ap_paths.specs.Limits.{part}
 use Rattle.ap_paths.specs.declared.limits.Limit.{Limit}
-use Rattle.ap_search.specs.Marks.{NominalMark, out, choice, mark_in, mark_path, outs_among, with_choices}
+use Rattle.ap_search.specs.Marks.{NominalMark, out, mark_in, mark_path, outs_among, with_choices}
 use Rattle.ap_search.specs.PathTrees.{choice_at, query_choices}
 use Rattle.ap_search.specs.Prefixes.{beginning}
 use Rattle.ap_search.proofs.MarkLemmas.{marked_stack_begins}

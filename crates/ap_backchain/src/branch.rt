@@ -18,12 +18,12 @@ use crate::problem::{Problem, clauses_of_problem, query_of_problem};
 use crate::run::{Paths, first_place, outputs_from};
 use crate::standing::{Standing, advance, path_of};
 use crate::step::choose;
-use ap_defs::goals::{Clause, Goal, Local};
+use ap_defs::goals::{Goal, Local};
 use ap_defs::lists::List;
 use ap_defs::memory::Memory;
 use ap_defs::outcomes::Answer;
 use ap_defs::paths::{Node, Out};
-use ap_defs::terms::Term;
+use ap_index::predicate::Predicate;
 use ap_paths::Limit;
 use std::alloc::Global;
 
@@ -75,7 +75,7 @@ fn branch_at<'a>(alloc: Global, standing: Standing<'a>) -> Result<Branch<'a>, Me
 /// The outputs of where a search stands.
 fn outs_of_standing<'a>(
     alloc: Global,
-    clauses: &'a [List<Clause<Term>>],
+    clauses: &'a [Predicate<'a>],
     locals: &[Local],
     standing: Standing<'a>,
 ) -> Result<Vec<Out>, Memory>
@@ -100,7 +100,7 @@ fn outs_of_standing<'a>(
 /// more.
 fn outs_by_choices<'a>(
     alloc: Global,
-    clauses: &'a [List<Clause<Term>>],
+    clauses: &'a [Predicate<'a>],
     locals: &[Local],
     most: u64,
     standing: Standing<'a>,

@@ -83,7 +83,7 @@ fn prove_query(alloc: Global, problem: &Problem<'_>, all: &mut Vec<Proved>) -> R
 }
 
 /// How many queries a program has.
-fn query_count(program: &Restricted) -> u32
+fn query_count(program: &Index<'_>) -> u32
     ensures { result ≡ length (program_of program.now).queries }
 {
     program.program().queries.items().len() as u32
@@ -91,8 +91,8 @@ fn query_count(program: &Restricted) -> u32
 
 /// The answers of the queries of a program, with their derivations.
 fn prove_program(alloc: Global, program: &Restricted, depth: u32) -> Result<Vec<Proved>, Memory> {
-    let count = query_count(program);
     let index = Index::of(alloc, program)?;
+    let count = query_count(&index);
     let mut all = Vec::new(alloc);
     for place in 0..count {
         let problem = Problem {

@@ -14,10 +14,10 @@ use Rattle.ap_defs.specs.Resolution.{kinds_of}
 use Rattle.ap_defs.specs.Terms.{NominalTerm, unit, name, pair, app, abs, susp}
 use Rattle.ap_defs.specs.Types as types
 use Rattle.ap_defs.specs.Types.{NominalConstructor, NominalKind, NominalSignature, NominalType}
-use Rattle.ap_defs.specs.Typing.{Want, one, arguments, IsApplication}
+use Rattle.ap_defs.specs.Typing.{Want, IsApplication}
 use Rattle.ap_program.specs.NameRestriction.{IsRestricted, sum_of_lengths}
 use Rattle.ap_program.specs.RawTyping.{HasTermType, IsTypedTerm}
-use Rattle.ap_program.specs.Typed.{AreArguments, AreTypedClauses, AreTypedFrom, HaveTypes, predicate_at, term_form}
+use Rattle.ap_program.specs.Typed.{AreArguments, AreTypedClauses, AreTypedFrom, predicate_at, term_form}
 use Rattle.ap_lanes.specs.Matching.{agrees}
 use Rattle.ap_index.specs.Keys.{AreNarrow, AreNarrowLists, keys_of}
 

@@ -34,10 +34,13 @@ impl<'a> Model for Index<'a> {
     ghost coded = { (p.the_row t.the_row).coded };
 
     ghost use Rattle.std.specs.Prelude.{◌≡◌};
+    ghost use Rattle.ap_defs.specs.Goals.{program_of};
+    ghost use Rattle.ap_program.specs.NameRestriction.{IsRestricted};
 
     ghost view = { λ a. a.program.now };
 
-    ghost invariant = { λ a. a.predicates.items ≡ a.program.now.clauses };
+    ghost invariant = { λ a. (a.predicates.items ≡ a.program.now.clauses)
+        × IsRestricted (program_of a.program.now) };
 }
 
 /// The clauses of each predicate, with the key of each.
@@ -85,9 +88,10 @@ impl<'a> Index<'a> {
         self.program.program()
     }
 
-    /// The clauses of each predicate.
+    /// The clauses of each predicate, and that the program is restricted.
     pub fn predicates(&self) -> &[Predicate<'a>]
-        ensures { result.now ≡ self.now.clauses }
+        ensures clauses { result.now ≡ self.now.clauses }
+        ensures restricted { IsRestricted (program_of self.now) }
     {
         self.predicates.as_slice()
     }

@@ -28,8 +28,8 @@ fn visit_at(alloc: Global, problem: &Problem<'_>, path: &Path) -> Result<Visit, 
 /// What it answers at a path of so many choices, each of the first way.
 fn visit_after(alloc: Global, choices: &[u32], depth: u32) -> Result<Visit, Memory> {
     let program = program_of(alloc, TEXT)?;
-    let index = Index::of(alloc, &program)?;
     let path = Path::of(choices.to_vec(alloc)?);
+    let index = Index::of(alloc, &program)?;
     match only_query(&index, depth) {
         Some(problem) => visit_at(alloc, &problem, &path),
         None => Err(Memory),

@@ -4,7 +4,7 @@ use Rattle.std.proofs.lemmas.List.{map-append}
 use Rattle.ap_bundle.specs.Nodes.{derivation_from}
 use Rattle.ap_bundle_read.specs.Nodes.{node_of}
 use Rattle.ap_bundle_read.proofs.StackLemmas.{derivations_none, derivations_last}
-use Rattle.ap_bundle_read.proofs.nodes.derivation_from.Goals as goal
+use Rattle.ap_bundle_read.proofs.derivations.derivation_from.Goals as goal
 
 pub loop-node-init : goal.loop-node-init
 loop-node-init c = rw c.new-stack.ensures.items (derivations_none (map node_of c.args.nodes.items))

@@ -5,7 +5,7 @@ use Rattle.ap_bundle.specs.Nodes.{derivations}
 use Rattle.ap_bundle_read.specs.Nodes.{node_of}
 use Rattle.ap_bundle_read.specs.Stacks.{stacked}
 use Rattle.ap_bundle_read.proofs.StackLemmas.{derivations_onto}
-use Rattle.ap_bundle_read.proofs.nodes.derivation_from.Given as goal
+use Rattle.ap_bundle_read.proofs.derivations.derivation_from.Given as goal
 
 abbrev pub invariant-loop-node : goal.invariant-loop-node
 invariant-loop-node l = derivations_onto (map node_of l.nodes.items) (stacked derivation_of l.stack.items) ≡ derivations (map node_of l.fn.nodes.items)
