@@ -160,9 +160,9 @@ module _ (key from place : ℕ) (xs : List (Clause Term)) (kept all : List ℕ) 
       let m = place_in key cs in
       append_assoc kept ((place + 1) ∷ []) (kept_from key (place + 1 + 1) (map clause_of (drop (place + 1) xs)))
       ∙ ap (λ (ks : List ℕ). kept ++ ks) (sym (
-        kept_next key (from + 1) cs (omega (arith, h, next, count, here))
-        ∙ ap₂ (λ (a b : ℕ). a ∷ kept_from key b (drop (m + 1) cs)) (omega (arith, next)) (omega (arith, next))
-        ∙ ap (λ (ds : List NominalClause). (place + 1) ∷ kept_from key (place + 1 + 1) ds) (behind (m + 1) (omega (arith, next)))))
+      kept_next key (from + 1) cs (omega (arith, h, next, count, here))
+      ∙ ap₂ (λ (a b : ℕ). a ∷ kept_from key b (drop (m + 1) cs)) (omega (arith, next)) (omega (arith, next))
+      ∙ ap (λ (ds : List NominalClause). (place + 1) ∷ kept_from key (place + 1 + 1) ds) (behind (m + 1) (omega (arith, next)))))
       ∙ so_far
 
   pub none_kept : length xs ≤ place → kept ++ kept_from key (place + 1 + 1) (map clause_of (drop (place + 1) xs)) ≡ all

@@ -98,14 +98,9 @@ impl<'a> Index<'a> {
 
     /// The numbers from 1 of the clauses of a predicate that an atom with this key may enter, in place of
     /// what `out` holds; on want of memory that is as before.
-    pub fn kids(
-        &self,
-        alloc: Global,
-        pred: u32,
-        key: u64,
-        out: &mut Vec<u32>,
-    ) -> Result<(), Memory>
-        ensures kept { OnOk result (out.new.items ≡ kept_from key 1 (clauses_of (program_of self.now).clauses pred)) }
+    pub fn kids(&self, alloc: Global, pred: u32, key: u64, out: &mut Vec<u32>) -> Result<(), Memory>
+        ensures kept { OnOk result (out.new.items
+            ≡ kept_from key 1 (clauses_of (program_of self.now).clauses pred)) }
         ensures same { OnErr result (out.new ≡ out.old) }
     {
         match predicate_at(self.predicates.as_slice(), pred) {

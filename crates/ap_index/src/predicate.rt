@@ -57,7 +57,11 @@ fn next_place(keys: &[u32], key: u64, from: usize) -> usize
         return from;
     }
     // None of the keys has more than 32 bits, so with such a key only the wild ones agree.
-    let wanted = if key <= u32::MAX as u64 { key as u32 } else { 0 };
+    let wanted = if key <= u32::MAX as u64 {
+        key as u32
+    } else {
+        0
+    };
     next_match(keys, wanted, from)
 }
 
@@ -82,7 +86,8 @@ impl<'a> Predicate<'a> {
     /// The first place from a place on of a clause that an atom with this key may enter, the number of
     /// clauses where there is none, or the place itself where that is behind them. It takes no memory.
     pub fn next(&self, key: u64, from: usize) -> usize
-        ensures { result ≡ from + position_or_len (λ c. agree key (first_key c.args)) (map clause_of (drop from self.now)) }
+        ensures { result ≡ from + position_or_len (λ c. agree key (first_key c.args))
+            (map clause_of (drop from self.now)) }
     {
         next_place(self.keys.as_slice(), key, from)
     }
@@ -109,10 +114,7 @@ impl<'a> Predicate<'a> {
 }
 
 /// The clauses of the predicate with this number, if there is one.
-pub fn predicate_at<'s, 'a>(
-    predicates: &'s [Predicate<'a>],
-    pred: u32,
-) -> Option<&'s Predicate<'a>>
+pub fn predicate_at<'s, 'a>(predicates: &'s [Predicate<'a>], pred: u32) -> Option<&'s Predicate<'a>>
     ensures { MatchOption result ([] ≡ clauses_of (map (map clause_of) predicates.now) pred)
         (λ p. map clause_of p.now ≡ clauses_of (map (map clause_of) predicates.now) pred) }
 {

@@ -11,6 +11,21 @@ select_ones p [] n e = refl
 select_ones p (x ∷ xs) zero e = absurd (omega (arith, e))
 select_ones p (x ∷ xs) (suc n) e = ap (λ (ys : List ℕ). cond (p x) 1 0 ∷ ys) (select_ones p xs n (omega (arith, e)))
 
+-- lanes that are 1 by one of two tests
+pub select_further : (p q : ℕ → Bool) (xs : List ℕ) (n : ℕ) → length xs ≡ n
+    → sel_l {A = ℕ} (map q xs) (replicate n 1) (map (λ x. cond (p x) 1 0) xs) ≡ map (λ x. cond (p x || q x) 1 0) xs
+select_further p q [] n e = refl
+select_further p q (x ∷ xs) zero e = absurd (omega (arith, e))
+select_further p q (x ∷ xs) (suc n) e =
+    ap (λ y. y ∷ sel_l {A = ℕ} (map q xs) (replicate n 1) (map (λ z. cond (p z) 1 0) xs)) (at (p x) (q x))
+    ∙ ap (λ (ys : List ℕ). cond (p x || q x) 1 0 ∷ ys) (select_further p q xs n (omega (arith, e)))
+  where
+    at : (a b : Bool) → ◌≡◌ {A = ℕ} (cond b 1 (cond a 1 0)) (cond (a || b) 1 0)
+    at true true = refl
+    at true false = refl
+    at false true = refl
+    at false false = refl
+
 -- what holds of 1 and of 0 holds of each such lane
 pub ones_each : (P : ℕ → Type 0) → P 1 → P 0 → (p : ℕ → Bool) (xs : List ℕ) → Each1 P (map (λ x. cond (p x) 1 0) xs)
 ones_each P one none p [] = tt

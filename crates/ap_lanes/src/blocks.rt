@@ -29,13 +29,19 @@ pub fn skipped_in_block(keys: &[u32], key: u32, at: usize) -> u32
     before_key(keys, key, at).min(before_key(keys, 0, at))
 }
 
-/// Tells for each key of the block at a place whether it is the wanted one, by a byte that is 1 or 0.
+/// Tells for each key of the block at a place whether it agrees with the wanted one, by a byte that is 1
+/// or 0.
 pub fn match_block(keys: &[u32], key: u32, at: usize, out: &mut [u8])
     requires keys { at + 16 ≤ length keys.now }
     requires out { at + 16 ≤ length out.old }
     ensures { out.new ≡ put_chunk at out.old (matched key (chunk at 16 keys.now)) }
 {
-    let same = u32x16::from_slice(&keys[at..]).simd_eq(u32x16::splat(key));
-    let ones = same.select(u32x16::splat(1), u32x16::splat(0));
+    let block = u32x16::from_slice(&keys[at..]);
+    let same = block
+        .simd_eq(u32x16::splat(key))
+        .select(u32x16::splat(1), u32x16::splat(0));
+    let ones = block
+        .simd_eq(u32x16::splat(0))
+        .select(u32x16::splat(1), same);
     ones.cast::<u8>().copy_to_slice(&mut out[at..]);
 }

@@ -1,4 +1,4 @@
-//! Keys that are a wanted one, or agree with it.
+//! Keys that agree with a wanted one.
 
 ghost use Rattle.std.specs.Prelude.{◌≡◌, ◌+◌, ◌≤◌, not, drop, length, take};
 ghost use Rattle.std.specs.List.{prefix_len};
@@ -60,11 +60,12 @@ fn match_rest(keys: &[u32], key: u32, from: usize, out: &mut [u8])
     ensures { out.new ≡ matched key keys.now }
 {
     'filling: for i in from..keys.len() {
-        out[i] = if keys[i] == key { 1 } else { 0 };
+        let k = keys[i];
+        out[i] = if k == key || k == 0 { 1 } else { 0 };
     }
 }
 
-/// Tells for each key whether it is the wanted one, by a byte that is 1 or 0.
+/// Tells for each key whether it is the wanted one or the wild one, by a byte that is 1 or 0.
 pub fn matches(keys: &[u32], key: u32, out: &mut [u8])
     requires { length out.old ≡ length keys.now }
     ensures { out.new ≡ matched key keys.now }

@@ -11,14 +11,14 @@ fn keys_in_turn(alloc: Global, count: u32) -> Result<Vec<u32>, Memory> {
     Ok(keys)
 }
 
-/// Whether the ones are told that are 2, and no others.
+/// Whether the ones are told that are 2 or the wild 0, and no others.
 fn are_told(alloc: Global, count: u32) -> Result<bool, Memory> {
     let keys = keys_in_turn(alloc, count)?;
     let mut out = Vec::from_elem(alloc, 9, keys.len())?;
     matches(keys.as_slice(), 2, out.as_mut_slice());
     let mut told = true;
     for i in 0..keys.len() {
-        let wanted = if keys[i] == 2 { 1 } else { 0 };
+        let wanted = if keys[i] == 2 || keys[i] == 0 { 1 } else { 0 };
         told = told && out.get(i) == Some(&wanted);
     }
     Ok(told)
