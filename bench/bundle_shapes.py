@@ -4,7 +4,8 @@
 usage: bench/bundle_shapes.py PROGRAM [BYTES [SHAPE]]
 
 A shape is a bundle of one version or of both: many derivations, one large term, one long derivation, a table of one long chain,
-tables whose lines double. What `check` writes must be what the shape says. Exit status: 1 where it is not.
+tables whose lines double, the largest terms beside a long derivation. What `check` writes must be what the shape says.
+Exit status: 1 where it is not.
 """
 import os
 import subprocess
@@ -17,6 +18,7 @@ SIGNATURE = "id : name_type.\ne : type.\nz : e.\ns : e -> e.\nc : (e, e) -> e.\n
 NAMES = SIGNATURE + "?- X = a.\n"
 TERMS = SIGNATURE + "pred p(e).\np(X).\n?- p(X).\n"
 TREES = "pred p.\np.\np :- p, p.\n?- p.\n"
+BOTH = SIGNATURE + "pred q(e).\nq(X).\npred p.\np.\np :- p, p.\np :- " + 100 * "z = z, " + "p.\n?- q(X), p.\n"
 ANSWER = "derivation 1\nvars 0\nconds 0\nbinds "
 
 
@@ -111,6 +113,21 @@ def tree(nested):
     return bundle(1, TREES, [ANSWER + "0\n" + nodes]), "% 1 derivations checked\n"
 
 
+def largest(nested):
+    """The largest terms that may be read, and a derivation of as many nodes as there is room for beside them."""
+    table, leaf = doubled(21), "atom 1 0 0\ntrue\n"
+    last = f"r {len(table) - 1}\n"
+    parts = {
+        "right": ("atom 2 0 0\nand\n" + leaf, ""),
+        "left": ("atom 2 0 0\nand\n", leaf),
+        "short": ("atom 3 0 0\n" + 100 * "and\neq\n", ""),
+    }
+    front, back = parts[nested]
+    count = as_many(front + back, SIZE - len(BOTH) - len("".join(table)) - 200)
+    nodes = "and\natom 1 0 1\n" + last + "true\n" + front * count + leaf + back * count
+    return bundle(2, BOTH, [ANSWER + "1\n" + last + nodes], table), "% 1 derivations checked\n"
+
+
 SHAPES = {
     "many derivations, version 1": (many, 1),
     "many derivations, version 2": (many, 2),
@@ -122,6 +139,9 @@ SHAPES = {
     "doubled lines, not cited": (doubled_unused, None),
     "a derivation nested to the right": (tree, "right"),
     "a derivation nested to the left": (tree, "left"),
+    "largest terms, nested to the right": (largest, "right"),
+    "largest terms, nested to the left": (largest, "left"),
+    "largest terms, short nodes": (largest, "short"),
 }
 
 

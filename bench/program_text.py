@@ -5,7 +5,7 @@ The shapes:
   reverse  a list of SIZE parts is reversed, each part put behind the rest
   subst    the clauses of examples/substitution.apl, asked of a term of SIZE levels, each of which is an
            abstraction in the pair of the term below with itself
-  facts    a table of SIZE facts, of which one in the middle is asked 65,536 times by its first argument
+  facts    a table of SIZE facts, of which one in the middle is asked 262,144 times by its first argument
   types    the clauses of examples/types.apl, asked for the type of a numeral: a function that is used SIZE times
   choices  20,000 choices, after each of which the substitution of `subst` to SIZE levels is made
 """
@@ -57,9 +57,9 @@ def facts(size):
     lines = ["key : type."] + [f"k{i} : key." for i in range(size)]
     lines += ["pred next(key, key)."] + [f"next(k{i}, k{(i + 1) % size})." for i in range(size)]
     lines += ["pred c0.", f"c0 :- next(k{size // 2}, X)."]
-    for level in range(16):
+    for level in range(18):
         lines += [f"pred c{level + 1}.", f"c{level + 1} :- c{level}, c{level}."]
-    return "\n".join(lines) + "\n?- c16.\n"
+    return "\n".join(lines) + "\n?- c18.\n"
 
 
 def choices(size):

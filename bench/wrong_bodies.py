@@ -3,7 +3,8 @@
 
 usage: bench/wrong_bodies.py [CRATE..]     at the top of the repository or of a clone
 
-A crate that has must-fail edits costs the gate a second check of the whole crate. The dearest crates have theirs in
+A crate that has must-fail edits costs the gate a second check of the whole crate, and each further edit half a minute. So
+the gate has those that turn a crate's main promise, of the dearest crates none; all others stand in
 bench/wrong_bodies/CRATE/, and are tried by this script, which sets them into crates/CRATE/must-fail/ for as long as
 `rt must-fail` takes. Exit status: 0 where each was refused.
 """

@@ -52,23 +52,25 @@ def text_of(path):
 
 
 def wanted_kit():
-    """The kit's one-line identity, which README.md names under "What is trusted"."""
-    found = re.search(r"`(rattle-kit-\S+ logic \w+)`", text_of(f"{TOP}/README.md"))
+    """The kit's label and its logic, which README.md names under "What is trusted"."""
+    found = re.search(r"`(rattle-kit-\S+) logic (\w+)`", text_of(f"{TOP}/README.md"))
     if not found:
         fail("README.md doesn't name the kit any more (`rattle-kit-.. logic ..` under 'What is trusted')")
-    return found[1]
+    return found.groups()
 
 
 def stop_without_the_kit():
-    """Stops where `rt` isn't there, or belongs to another kit."""
-    kit = wanted_kit()
+    """Stops where `rt` isn't there, or has another logic: that is what proofs rest on, whatever the kit's label is."""
+    label, logic = wanted_kit()
     where = "(README.md, under 'What is trusted')"
     if not shutil.which("rt"):
-        fail(f"the command rt isn't on the PATH. The program is proved and built with {kit} {where}")
+        fail(f"the command rt isn't on the PATH. The program is proved and built with {label} logic {logic} {where}")
     said = subprocess.run(["rt", "version"], capture_output=True, text=True, errors="replace", check=False)
     found = " ".join((said.stdout.strip().splitlines() or ["no version"])[0].split())
-    if kit not in found:
-        fail(f"rt is of another kit: {found}. The program is proved with {kit} {where}")
+    if found.split()[1:] != ["logic", logic]:
+        fail(f"rt is of another kit: {found}. The program is proved with the logic {logic}, that of {label} {where}")
+    if found.split()[0] != label:
+        say(f"the kit {found} is labelled otherwise than {label}, with which the program was proved; its logic is the same")
 
 
 def crates_below():

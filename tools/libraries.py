@@ -32,7 +32,9 @@ def kit_functions():
     loader.exec_module(kit)
     # These belong to the main thread, before any other starts.
     kit.rtlib.guarded()
-    kit.share_work(True)
+    if hasattr(kit, "share_work"):
+        # A kit that has it takes over what was proved in another clone.
+        kit.share_work(True)
     return kit.rtlib
 
 

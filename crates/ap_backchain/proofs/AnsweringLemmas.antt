@@ -20,11 +20,11 @@ stands_there [] n h = absurd (omega arith)
 stands_there (x ∷ xs) zero h = (x, refl)
 stands_there (x ∷ xs) (suc n) h = stands_there xs n (omega arith)
 
-pub answering : (p : Problem) (b : Branch) (s : Standing) → HasQuery p → IsBranchOf p b → IsAnswering b → b.standing ≡ s → IsNamed nodes.Answer s
+pub answering : (p : Problem) (b : Branch) (s : Standing) → HasQuery p → IsBranchOf p b → IsAnswering b → b.standing ≡ s → IsNamed (clauses_in p) nodes.Answer s
 answering p b s h of e f =
     let low = h.0 in let high = h.1 in
     let there = stands_there (queries_in p) (p.query - 1) (omega (arith, low, high)) in
-    subst (λ (r : Standing). IsNamed nodes.Answer r) f (subst (λ (n : Node). IsNamed n b.standing) e (of there.0 there.1).named)
+    subst (λ (r : Standing). IsNamed (clauses_in p) nodes.Answer r) f (subst (λ (n : Node). IsNamed (clauses_in p) n b.standing) e (of there.0 there.1).named)
 
 pub answer_stands : {E : Type 0} (p : Problem) (b : Branch) (path : List ℕ) (a : Answer) (r : Result Answer E) → IsBranchOf p b → b.standing ≡ standings.Ended (code.Found path a)
     → IfOk r (λ x. answer_of x ≡ answer_of a)

@@ -5,13 +5,14 @@ use Rattle.ap_defs.specs.Goals.{NominalClause, clause_of}
 use Rattle.ap_defs.specs.Renaming.{rename_term}
 use Rattle.ap_defs.specs.Resolution.{kinds_of}
 use Rattle.ap_defs.specs.Substitution.{under}
-use Rattle.ap_defs.specs.Terms.{NominalTerm, term_of}
+use Rattle.ap_defs.specs.Terms.{NominalTerm, unit, name, pair, app, abs, susp, term_of}
 use Rattle.ap_defs.specs.declared.goals.Clause.{Clause}
 use Rattle.ap_defs.specs.declared.terms.Term.{Term}
 use Rattle.ap_store.specs.Views.{kinds, present}
 use Rattle.ap_store.specs.declared.store.Store.{Store}
 use Rattle.ap_store.proofs.StoreLemmas.{well_formed}
-use Rattle.ap_theory.specs.HeadKeys.{first_key, may_meet}
+use Rattle.ap_defs.specs.HeadKeys.{agree, first_key}
+use Rattle.ap_theory.specs.HeadKeys as theory
 use Rattle.ap_theory.proofs.HeadKeyLemmas.{first_differs, key_rename}
 use Rattle.ap_theory.proofs.RefusalLemmas.{unify_heads}
 use Rattle.ap_backchain.specs.Positions.{Position, by_clause, by_clauses, clause_state, each_position, entered, unified_state}
@@ -24,15 +25,26 @@ use Rattle.ap_backchain.specs.declared.points.Untried.{Untried}
 use Rattle.std.specs.List.{position_or_len}
 use Rattle.std.specs.Prelude.{None}
 
-first_rename : (n : ℕ) (us : List NominalTerm) → first_key (map (rename_term n) us) ≡ first_key us
+-- the key of a constructor is five and its number
+pub same_key : (ts : List NominalTerm) → theory.first_key ts ≡ first_key ts
+same_key [] = refl
+same_key (unit ∷ ts) = refl
+same_key (name a ∷ ts) = refl
+same_key (pair t u ∷ ts) = refl
+same_key (app f t ∷ ts) = omega arith
+same_key (abs a t ∷ ts) = refl
+same_key (susp q x ∷ ts) = refl
+
+first_rename : (n : ℕ) (us : List NominalTerm) → theory.first_key (map (rename_term n) us) ≡ theory.first_key us
 first_rename n [] = refl
 first_rename n (u ∷ us) = key_rename n u
 
-pub head_apart : (s : Store) (ts : List NominalTerm) (c : NominalClause) → may_meet (first_key (map (under (present s).bindings) ts)) (first_key c.args) ≡ false
+pub head_apart : (s : Store) (ts : List NominalTerm) (c : NominalClause) → agree (first_key (map (under (present s).bindings) ts)) (first_key c.args) ≡ false
     → clause_state ts (state_in s) c ≡ None
 head_apart s ts c h =
     let a = present s in let us = map (rename_term (length (kinds s))) c.args in
-    let k = ap (may_meet (first_key (map (under a.bindings) ts))) (first_rename (length (kinds s)) c.args) ∙ h in
+    let vs = map (under a.bindings) ts in
+    let k = ap₂ theory.may_meet (same_key vs) (first_rename (length (kinds s)) c.args ∙ same_key c.args) ∙ h in
     ap (unified_state (record { bindings = a.bindings; conditions = a.conditions; kinds = kinds s ++ kinds_of c.locals }))
     (unify_heads a.bindings a.conditions ts us (well_formed s).idempotent (first_differs a.bindings ts us k))
 
@@ -43,13 +55,13 @@ drop_map (suc n) (c ∷ cs) = drop_map n cs
 
 -- the search goes on from no place by such a clause
 module _ (s : Store) (d : ℕ) (ts : List NominalTerm) (p : Position) (here : p.state ≡ state_in s) (key : ℕ) (is : key ≡ first_key (map (under (present s).bindings) ts)) where
-  none_apart : (i : ℕ) (c : NominalClause) → may_meet key (first_key c.args) ≡ false → by_clause d ts p i c ≡ []
+  none_apart : (i : ℕ) (c : NominalClause) → agree key (first_key c.args) ≡ false → by_clause d ts p i c ≡ []
   none_apart i c h =
-      let k : may_meet (first_key (map (under (present s).bindings) ts)) (first_key c.args) ≡ false = ap (λ l. may_meet l (first_key c.args)) (sym is) ∙ h in
+      let k : agree (first_key (map (under (present s).bindings) ts)) (first_key c.args) ≡ false = ap (λ l. agree l (first_key c.args)) (sym is) ∙ h in
       ap (λ a. each_position (entered d p i c) (clause_state ts a c)) here ∙ ap (each_position (entered d p i c)) (head_apart s ts c k)
 
   abbrev meets : NominalClause → Bool
-  meets c = may_meet key (first_key c.args)
+  meets c = agree key (first_key c.args)
 
   -- so the clauses before the first that may be entered can be left out
   pub skipped : (i : ℕ) (cs : List NominalClause) → by_clauses d ts p i cs ≡ by_clauses d ts p (i + position_or_len meets cs) (drop (position_or_len meets cs) cs)
@@ -66,12 +78,12 @@ module _ (s : Store) (d : ℕ) (ts : List NominalTerm) (p : Position) (here : p.
 
 -- what is left is left after the clauses that cannot be entered
 pub left_skipped : (b : Place) (u : Untried) (key : ℕ) → key ≡ first_key (map (under (present b.store).bindings) (map (rename_term u.base) (map term_of u.args.now)))
-    → (from next : ℕ) → next ≡ from + position_or_len (λ c. may_meet key (first_key c.args)) (map clause_of (drop from u.clauses.now))
+    → (from next : ℕ) → next ≡ from + position_or_len (λ c. agree key (first_key c.args)) (map clause_of (drop from u.clauses.now))
     → positions_left (rests.Clauses (record u { tried = from })) (position_of b) ≡ positions_left (rests.Clauses (record u { tried = next })) (position_of b)
 left_skipped b u key is from next e =
     let ts = map (rename_term u.base) (map term_of u.args.now) in
     let cs = map clause_of (drop from u.clauses.now) in
-    let n = position_or_len (λ (c : NominalClause). may_meet key (first_key c.args)) cs in
+    let n = position_or_len (λ (c : NominalClause). agree key (first_key c.args)) cs in
     let k : suc from + n ≡ suc next = omega (arith, e) in
     let d : drop n cs ≡ map clause_of (drop next u.clauses.now) =
     drop_map n (drop from u.clauses.now) ∙ ap (map clause_of) (drop-drop n from u.clauses.now) ∙ ap (λ m. map clause_of (drop m u.clauses.now)) (sym e) in

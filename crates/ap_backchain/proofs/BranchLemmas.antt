@@ -15,14 +15,14 @@ use Rattle.ap_defs.specs.declared.paths.Out.TheVariants as code
 use Rattle.ap_program.specs.Typed.{IsTypedProgram, IsTypedQuery, term_form}
 use Rattle.ap_paths.specs.Limits.{part}
 use Rattle.ap_paths.specs.declared.limits.Limit.{Limit}
-use Rattle.ap_search.specs.Marks.{NominalMark, out, choice, mark_in, mark_path, outs_among, with_choices}
-use Rattle.ap_search.specs.PathTrees.{choice_at, query_choices}
+use Rattle.ap_search.specs.Marks.{NominalMark, out, mark_in, mark_path, outs_among, with_choices}
+use Rattle.ap_search.specs.PathTrees.{choice_at, query_choice, query_choices}
 use Rattle.ap_search.specs.Prefixes.{beginning}
-use Rattle.ap_search.proofs.MarkLemmas.{marked_stack_begins}
+use Rattle.ap_search.proofs.TreeLemmas.{marked_stack_begins}
 use Rattle.ap_search.proofs.PrefixLemmas.{beginning_deeper, beginning_whole}
 use Rattle.ap_search.proofs.QueryTreeLemmas.{outs_at_marks, place_choice, width_choice}
 use Rattle.ap_backchain.proofs.MarkLemmas.{marks_turned, settled}
-use Rattle.ap_backchain.proofs.TurnLemmas.{turns_turned, width_told, written_turned}
+use Rattle.ap_backchain.proofs.TurnLemmas.{turns_turned, written_turned}
 use Rattle.ap_backchain.proofs.UnboundLemmas.{marked_stack_by_unbound, stack_by_unbound}
 use Rattle.ap_backchain.specs.Branches.{IsBranchFor, IsBranchOf, IsChoiceAt, IsChoiceOfNode, IsChoosing, IsNamed, IsNodeAt, choices_at, marks_of_standing, path_of_branch, path_of_standing}
 use Rattle.ap_backchain.specs.Ends.{kept_out, without_path}
@@ -71,30 +71,25 @@ choosing_marks program locals p o h =
 
 -- The node of a branch is that of the search at its path.
 module _ (program : Clauses) (d : ℕ) (q : NominalQuery) where
-  chooses : (w : ℕ) (p : Place) → beginning mark_path p.path.items (map (mark_in q.locals) (marked_query program d q)) ≡ marks_from program q.locals (position_of p)
-      → choice_of program (position_of p).waiting ≡ Some w → query_choices program d q p.path.items ≡ Some w
-  chooses w p h c = told (told_of program (position_of p).state (position_of p).waiting) refl
-    where
-      told : (o : Option Choice) → told_of program (position_of p).state (position_of p).waiting ≡ o → query_choices program d q p.path.items ≡ Some w
-      told None e = let k = ap (option_map (λ (v : Choice). v.width)) (sym e) ∙ width_told program (position_of p).state (position_of p).waiting ∙ c in cc
-      told (Some v) e =
-          let here = place_choice program d q p.path.items (marks_from program q.locals (position_of p)) h
-              ∙ ap (choice_at p.path.items) (choosing_marks program q.locals (position_of p) (Some v) e)
-              ∙ width_choice p.path.items v (marks_of_turned program q.locals (turned program q.locals (position_of p))) in
-          ap (option_map (λ (x : Choice). x.width)) (here ∙ sym e) ∙ width_told program (position_of p).state (position_of p).waiting ∙ c
+  chooses : (c : Choice) (p : Place) → beginning mark_path p.path.items (map (mark_in q.locals) (marked_query program d q)) ≡ marks_from program q.locals (position_of p)
+      → told_of program (position_of p).state (position_of p).waiting ≡ Some c → query_choice program d q p.path.items ≡ Some c
+  chooses c p h e =
+      place_choice program d q p.path.items (marks_from program q.locals (position_of p)) h
+      ∙ ap (choice_at p.path.items) (choosing_marks program q.locals (position_of p) (Some c) e)
+      ∙ width_choice p.path.items c (marks_of_turned program q.locals (turned program q.locals (position_of p)))
 
   no_choice : (p : List ℕ) (ms : List NominalMark) → beginning mark_path p (map (mark_in q.locals) (marked_query program d q)) ≡ ms → choice_at p ms ≡ None → query_choices program d q p ≡ None
   no_choice p ms h e = ap (option_map (λ (v : Choice). v.width)) (place_choice program d q p ms h ∙ e)
 
   pub node_at : (n : Node) (s : Standing) → beginning mark_path (path_of_standing s) (map (mark_in q.locals) (marked_query program d q)) ≡ marks_of_standing program q.locals s
-      → IsChoosing program s → IsNamed n s → IsNodeAt program d q (path_of_standing s) n
-  node_at (nodes.Choice w kept) (standings.Choosing v p) h c k = (chooses v p h c ∙ ap Some (sym k.0), k.1)
-  node_at nodes.Answer (standings.Ended (code.Found p a)) h c k =
+      → IsNamed program n s → IsNodeAt program d q (path_of_standing s) n
+  node_at (nodes.Choice w kept) (standings.Choosing v p) h k = chooses (record { width = w; kept = kept }) p h k.1
+  node_at nodes.Answer (standings.Ended (code.Found p a)) h k =
       (no_choice p _ h refl, (_, outs_at_marks program d q p ∙ ap outs_among h))
-  node_at nodes.Cut (standings.Ended (code.Cut p)) h c k = (no_choice p _ h refl, outs_at_marks program d q p ∙ ap outs_among h)
-  node_at nodes.Stuck (standings.Ended (code.Stuck p)) h c k = (no_choice p _ h refl, outs_at_marks program d q p ∙ ap outs_among h)
-  node_at nodes.Failed (standings.Failed path) h c k = (no_choice path.items _ h refl, outs_at_marks program d q path.items ∙ ap outs_among h)
-  node_at _ _ h c k = absurd k
+  node_at nodes.Cut (standings.Ended (code.Cut p)) h k = (no_choice p _ h refl, outs_at_marks program d q p ∙ ap outs_among h)
+  node_at nodes.Stuck (standings.Ended (code.Stuck p)) h k = (no_choice p _ h refl, outs_at_marks program d q p ∙ ap outs_among h)
+  node_at nodes.Failed (standings.Failed path) h k = (no_choice path.items _ h refl, outs_at_marks program d q path.items ∙ ap outs_among h)
+  node_at _ _ h k = absurd k
 
   pub run_at : (s : Standing) → beginning mark_path (path_of_standing s) (map (mark_in q.locals) (marked_query program d q)) ≡ marks_of_standing program q.locals s
       → outs_among (marks_of_standing program q.locals s) ≡ outs_at program d q (path_of_standing s)
@@ -159,11 +154,11 @@ module _ (p : Problem) (limit : Limit) (query : NominalQuery) (asked : slice_get
   few_outputs (Err e) h = tt
 
 pub root_is : (p : Problem) (query : NominalQuery) (s : Standing) (b : Branch) → slice_get (queries_in p) (p.query - 1) ≡ Some query
-    → IsTypedProgram (program_in p) → IsTypedQuery term_form (program_in p).signature query → b.standing ≡ s → IsNamed b.node b.standing → path_of_standing s ≡ []
+    → IsTypedProgram (program_in p) → IsTypedQuery term_form (program_in p).signature query → b.standing ≡ s → IsNamed (clauses_in p) b.node b.standing → path_of_standing s ≡ []
     → marks_of_standing (clauses_in p) query.locals s ≡ marks_from (clauses_in p) query.locals (first_position p.depth query) → IsChoosing (clauses_in p) s → IsBranchOf p b
 root_is p query s b asked program_typed typed e named path marks choosing = λ q h.
     subst (λ (x : NominalQuery). IsBranchFor (clauses_in p) p.depth x b) (asked_once (slice_get (queries_in p) (p.query - 1)) query q asked h)
-    (subst (λ (r : Standing). (IsNamed b.node r → IsBranchFor (clauses_in p) p.depth query (record b { standing = r }))) (sym e)
+    (subst (λ (r : Standing). (IsNamed (clauses_in p) b.node r → IsBranchFor (clauses_in p) p.depth query (record b { standing = r }))) (sym e)
     (λ k. record { marks = root_marks (clauses_in p) p.depth query s (marked_stack_by_unbound (program_in p) program_typed p.depth query typed) path marks; choosing = choosing; named = k }) named)
 
 pub atom_chooses : (program : Clauses) (d c : ℕ) → (d ≡ 0 → ⊥) → choice_of_atom program d c ≡ Some (length (clauses_of program c))
@@ -202,23 +197,23 @@ module _ (p : Problem) (query : NominalQuery) (b : Branch) (asked : slice_get (q
       (asked_once (slice_get (queries_in p) (p.query - 1)) query q asked k) (sym (ap choices_among (of query asked).marks))
 
 pub step_is : (p : Problem) (query : NominalQuery) (b c : Branch) (t : Standing) (k : ℕ) → slice_get (queries_in p) (p.query - 1) ≡ Some query → IsBranchOf p b
-    → c.standing ≡ t → IsNamed c.node c.standing → path_of_standing t ≡ path_of_branch b ++ k ∷ []
+    → c.standing ≡ t → IsNamed (clauses_in p) c.node c.standing → path_of_standing t ≡ path_of_branch b ++ k ∷ []
     → marks_of_standing (clauses_in p) query.locals t ≡ beginning mark_path (path_of_branch b ++ k ∷ []) (marks_of_standing (clauses_in p) query.locals b.standing)
     → IsChoosing (clauses_in p) t → IsBranchOf p c
 step_is p query b c t k asked of e named path marks choosing = λ q h.
     subst (λ (x : NominalQuery). IsBranchFor (clauses_in p) p.depth x c) (asked_once (slice_get (queries_in p) (p.query - 1)) query q asked h)
-    (subst (λ (r : Standing). (IsNamed c.node r → IsBranchFor (clauses_in p) p.depth query (record c { standing = r }))) (sym e)
+    (subst (λ (r : Standing). (IsNamed (clauses_in p) c.node r → IsBranchFor (clauses_in p) p.depth query (record c { standing = r }))) (sym e)
     (λ n. record { marks = step_marks (clauses_in p) p.depth query b.standing t k (of query asked).marks path marks; choosing = choosing; named = n }) named)
 
 -- a node that is a choice stands before one
-pub choice_stands : (n : Node) (s : Standing) (k : ℕ) → IsNamed n s → IsChoiceOfNode k n → IsChoiceAt k s
-choice_stands (nodes.Choice w kept) (standings.Choosing v p) k h c = (c.0, subst (λ (m : ℕ). k ≤ m) h.0 c.1)
-choice_stands (nodes.Choice w kept) (standings.Ended o) k h c = absurd h
-choice_stands (nodes.Choice w kept) (standings.Failed path) k h c = absurd h
-choice_stands nodes.Answer s k h c = absurd c
-choice_stands nodes.Cut s k h c = absurd c
-choice_stands nodes.Stuck s k h c = absurd c
-choice_stands nodes.Failed s k h c = absurd c
+pub choice_stands : (program : Clauses) (n : Node) (s : Standing) (k : ℕ) → IsNamed program n s → IsChoiceOfNode k n → IsChoiceAt k s
+choice_stands program (nodes.Choice w kept) (standings.Choosing v p) k h c = (c.0, subst (λ (m : ℕ). k ≤ m) h.0 c.1)
+choice_stands program (nodes.Choice w kept) (standings.Ended o) k h c = absurd h
+choice_stands program (nodes.Choice w kept) (standings.Failed path) k h c = absurd h
+choice_stands program nodes.Answer s k h c = absurd c
+choice_stands program nodes.Cut s k h c = absurd c
+choice_stands program nodes.Stuck s k h c = absurd c
+choice_stands program nodes.Failed s k h c = absurd c
 
 -- the answer of a branch
 pub answer_at : (p : Problem) (b : Branch) (path : List ℕ) (a : Answer) (r : NominalAnswer) → IsBranchOf p b → b.standing ≡ standings.Ended (code.Found path a) → r ≡ answer_of a

@@ -15,7 +15,7 @@ use Rattle.ap_search.specs.Continuations.{calls_then, clause_then, clauses_then,
 use Rattle.ap_search.specs.Marks.{NominalMark, choice, mark_path, with_choices, stack_marks}
 use Rattle.ap_search.specs.Prefixes.{beginning}
 use Rattle.ap_search.proofs.ChoiceLemmas.{beginning_first, beginning_second, mark_way}
-use Rattle.ap_search.proofs.MarkLemmas.{calls_begin, marked_stack_begins}
+use Rattle.ap_search.proofs.TreeLemmas.{calls_grow, marked_stack_begins, stack_grows}
 use Rattle.ap_search.proofs.PrefixLemmas.{beginning_other, beginning_whole, prefix_itself, prefix_longer}
 use Rattle.ap_backchain.proofs.TurnLemmas.{written_clause}
 use Rattle.ap_backchain.specs.Marks.{IsAmong, choice_of_goal, clauses_marks, goal_marks, marks_from, marks_from_each}
@@ -52,7 +52,7 @@ module _ (program : Clauses) (locals : List NominalLocal) (d : ℕ) where
       (subst
       (λ (j : ℕ). beginning mark_path (p.path ++ j ∷ []) (clauses_then (goal_then with_choices (calls_then with_choices program d)) ts m 1 cs p.path p.state p.brought)
       ≡ clause_then (goal_then with_choices (calls_then with_choices program d)) ts m j (get_or cs (k - 1) c) p.path p.state p.brought) f
-      (mark_way (calls_then with_choices program d) (calls_begin program d) ts m (marked_stack_begins program (answer_by_unbound locals) p.waiting) p.path p.state p.brought 1 (k - 1) c cs high))
+      (mark_way (calls_then with_choices program d) (calls_grow program d) ts m (stack_grows program (answer_by_unbound locals) p.waiting) p.path p.state p.brought 1 (k - 1) c cs high))
 
   pub entered_path : (p : Position) (k : ℕ) (c : NominalClause) (o : Option State) (r : Position) → r ∷ [] ≡ each_position (entered d p k c) o → r.path ≡ p.path ++ k ∷ []
   entered_path p k c None r h = cc

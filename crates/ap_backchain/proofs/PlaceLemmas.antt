@@ -1,6 +1,6 @@
 -- Kinds and clauses at their places.
 use Rattle.std.proofs.Common.{◌≡◌, ℕ, zero, suc, ◌<◌, ◌≤◌, ◌^◌, List, [], ◌∷◌, length, get_or, map, refl, sym, ap, arith, subst}
-use Rattle.std.specs.Prelude.{Some, None}
+use Rattle.std.specs.Prelude.{Some, None, Option, IfSome, MatchOption}
 use Rattle.ap_defs.specs.Answers.{kind_at}
 use Rattle.ap_defs.specs.Goals.{clause_of, clauses_of, query_of, Clauses}
 use Rattle.ap_defs.specs.Types.{NominalSignature, kind_of}
@@ -47,3 +47,7 @@ pub typed_query_here : (sig : NominalSignature) (qs : List (Query Term)) (n : �
 typed_query_here sig [] n q h e k = absurd (omega arith)
 typed_query_here sig (r ∷ qs) zero q h e k = subst (λ (x : Query Term). IsTypedQuery term_form sig (query_of x)) (sym e) k.0
 typed_query_here sig (r ∷ qs) (suc n) q h e k = typed_query_here sig qs n q (omega arith) e k.1
+
+pub some_is : {X : Type 0} (N : Type 0) {P Q : X → Type 0} (o : Option X) → MatchOption o N P → ((x : X) → P x → Q x) → IfSome o Q
+some_is N None h f = tt
+some_is N (Some x) h f = f x h

@@ -1,6 +1,5 @@
 -- Branches, and what it is for one to be of a problem.
 use Rattle.std.specs.Prelude.{◌≡◌, ◌≤◌, ◌-◌, ℕ, List, [], ◌∷◌, Some, None, map, slice_get}
-use Rattle.std.specs.List.{range_with_len}
 use Rattle.ap_defs.specs.Answers as answers
 use Rattle.ap_defs.specs.Answers.{NominalAnswer, out_of, out_path, outs_at}
 use Rattle.ap_defs.specs.Goals.{Clauses, NominalQuery}
@@ -10,9 +9,9 @@ use Rattle.ap_defs.specs.declared.paths.Node.{Node}
 use Rattle.ap_defs.specs.declared.paths.Node.TheVariants as nodes
 use Rattle.ap_defs.specs.declared.paths.Out.TheVariants as code
 use Rattle.ap_search.specs.Marks.{NominalMark, out, mark_in, mark_path}
-use Rattle.ap_search.specs.PathTrees.{query_choices}
+use Rattle.ap_search.specs.PathTrees.{query_choice, query_choices}
 use Rattle.ap_search.specs.Prefixes.{beginning}
-use Rattle.ap_backchain.specs.Marks.{choice_of, choices_among, marks_from}
+use Rattle.ap_backchain.specs.Marks.{choice_of, choices_among, marks_from, told_of}
 use Rattle.ap_backchain.specs.Places.{position_of}
 use Rattle.ap_backchain.specs.Problems.{clauses_in, queries_in}
 use Rattle.ap_backchain.specs.declared.branch.Branch.{Branch}
@@ -43,14 +42,15 @@ IsChoiceAt k (standings.Choosing w p) = (1 ≤ k) × (k ≤ w)
 IsChoiceAt k (standings.Ended o) = ⊥
 IsChoiceAt k (standings.Failed path) = ⊥
 
--- the node says where it stands; each choice is kept
-abbrev pub IsNamed : Node → Standing → Type 0
-IsNamed (nodes.Choice w kept) (standings.Choosing v p) = (w ≡ v) × (kept ≡ range_with_len 1 w)
-IsNamed nodes.Answer (standings.Ended (code.Found p a)) = Unit {0}
-IsNamed nodes.Cut (standings.Ended (code.Cut p)) = Unit {0}
-IsNamed nodes.Stuck (standings.Ended (code.Stuck p)) = Unit {0}
-IsNamed nodes.Failed (standings.Failed path) = Unit {0}
-IsNamed _ _ = ⊥
+-- the node says where it stands, and of a choice what its goal keeps
+abbrev pub IsNamed : Clauses → Node → Standing → Type 0
+IsNamed program (nodes.Choice w kept) (standings.Choosing v p) =
+    (w ≡ v) × (told_of program (position_of p).state (position_of p).waiting ≡ Some (record { width = w; kept = kept }))
+IsNamed program nodes.Answer (standings.Ended (code.Found p a)) = Unit {0}
+IsNamed program nodes.Cut (standings.Ended (code.Cut p)) = Unit {0}
+IsNamed program nodes.Stuck (standings.Ended (code.Stuck p)) = Unit {0}
+IsNamed program nodes.Failed (standings.Failed path) = Unit {0}
+IsNamed program _ _ = ⊥
 
 -- how many choices the search of a query makes at a path and below it
 abbrev pub choices_at : Clauses → ℕ → NominalQuery → List ℕ → ℕ
@@ -74,15 +74,15 @@ IsAnswering b = b.node ≡ nodes.Answer
 pub record IsBranchFor (program : Clauses) (depth : ℕ) (q : NominalQuery) (b : Branch) : Type 0 where
   pub marks : beginning mark_path (path_of_branch b) (map (mark_in q.locals) (marked_query program depth q)) ≡ marks_of_standing program q.locals b.standing
   pub choosing : IsChoosing program b.standing
-  pub named : IsNamed b.node b.standing
+  pub named : IsNamed program b.node b.standing
 
 abbrev pub IsBranchOf : Problem → Branch → Type 0
 IsBranchOf p b = (q : NominalQuery) → slice_get (queries_in p) (p.query - 1) ≡ Some q → IsBranchFor (clauses_in p) p.depth q b
 
--- The node of the search at a path: a choice where it chooses there, and there keeps each choice; an answer, cut or stuck where
--- that is its one output with just this path; and failed where it has nothing at all.
+-- The node of the search at a path: a choice where it chooses there among so many ways, and keeps these of them; an answer, cut or
+-- stuck where that is its one output with just this path; and failed where it has nothing at all.
 abbrev pub IsNodeAt : Clauses → ℕ → NominalQuery → List ℕ → Node → Type 0
-IsNodeAt program d q p (nodes.Choice w kept) = (query_choices program d q p ≡ Some w) × (kept ≡ range_with_len 1 w)
+IsNodeAt program d q p (nodes.Choice w kept) = query_choice program d q p ≡ Some (record { width = w; kept = kept })
 IsNodeAt program d q p nodes.Answer = (query_choices program d q p ≡ None) × ((a : NominalAnswer) × (outs_at program d q p ≡ answers.found p a ∷ []))
 IsNodeAt program d q p nodes.Cut = (query_choices program d q p ≡ None) × (outs_at program d q p ≡ answers.cut p ∷ [])
 IsNodeAt program d q p nodes.Stuck = (query_choices program d q p ≡ None) × (outs_at program d q p ≡ answers.stuck p ∷ [])

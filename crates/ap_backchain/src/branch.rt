@@ -1,29 +1,29 @@
 //! Branches of the search of a problem, from choice to choice.
 
 ghost use Rattle.std.specs.Prelude.{◌≡◌, ◌-◌, ◌^◌, ◌<◌, ◌≤◌, ◌++◌, [], ◌∷◌, None, Some, IfOk, IfSome, length, map, slice_get};
-ghost use Rattle.std.specs.List.{range_with_len};
 ghost use Rattle.ap_defs.specs.Answers.{answer_of, found, outs_at, outs_of};
 ghost use Rattle.ap_defs.specs.Goals.{NominalQuery, clause_of};
 ghost use Rattle.ap_search.specs.Marks.{outs_among};
 ghost use Rattle.ap_backchain.specs.declared.problem.Problem.{Problem};
 ghost use Rattle.ap_defs.specs.Types.{locals_of};
 ghost use Rattle.ap_backchain.specs.Below.{AreClausesBelow};
-ghost use Rattle.ap_backchain.specs.Branches.{IsAnswering, IsBranchOf, IsChoiceOf, IsNamed, IsNodeAt, choices_at, marks_of_standing, path_of_branch};
+ghost use Rattle.ap_backchain.specs.Branches.{IsAnswering, IsBranchOf, IsChoiceOf, IsChoosing, IsNamed, IsNodeAt, choices_at, marks_of_standing, path_of_branch};
 ghost use Rattle.ap_backchain.specs.Marks.{choices_among};
 ghost use Rattle.ap_backchain.specs.Problems.{HasQuery, clauses_in, queries_in};
 
 use crate::answer_copies::copy_answer;
 use crate::counted::outputs_by_choices;
+use crate::kept::kept_at;
 use crate::problem::{Problem, clauses_of_problem, query_of_problem};
 use crate::run::{Paths, first_place, outputs_from};
 use crate::standing::{Standing, advance, path_of};
 use crate::step::choose;
-use ap_defs::goals::{Clause, Goal, Local};
+use ap_defs::goals::{Goal, Local};
 use ap_defs::lists::List;
 use ap_defs::memory::Memory;
 use ap_defs::outcomes::Answer;
 use ap_defs::paths::{Node, Out};
-use ap_defs::terms::Term;
+use ap_index::predicate::Predicate;
 use ap_paths::Limit;
 use std::alloc::Global;
 
@@ -34,24 +34,19 @@ pub struct Branch<'a> {
     standing: Standing<'a>,
 }
 
-/// The choices 1, 2 and so on up to a width.
-fn choices_to(alloc: Global, width: u32) -> Result<Vec<u32>, Memory>
-    ensures { IfOk result (λ v. v.items ≡ range_with_len 1 width) }
-{
-    let mut kept = Vec::new(alloc);
-    'counting: for k in 0..width {
-        kept.push(k + 1)?;
-    }
-    Ok(kept)
-}
-
 /// The node of where a search stands.
-fn node_of<'a>(alloc: Global, standing: &Standing<'a>) -> Result<Node, Memory>
-    ensures { IfOk result (λ n. IsNamed n standing.now) }
+fn node_of<'a>(
+    alloc: Global,
+    clauses: &'a [Predicate<'a>],
+    standing: &Standing<'a>,
+) -> Result<Node, Memory>
+    requires clauses { AreClausesBelow (map (map clause_of) clauses.now) }
+    requires choosing { IsChoosing (map (map clause_of) clauses.now) standing.now }
+    ensures { IfOk result (λ n. IsNamed (map (map clause_of) clauses.now) n standing.now) }
 {
     match standing {
-        Standing::Choosing(width, _) => {
-            let kept = choices_to(alloc, *width)?;
+        Standing::Choosing(width, place) => {
+            let kept = kept_at(alloc, clauses, place)?;
             Ok(Node::Choice(*width, List::of(kept)))
         }
         Standing::Ended(out) => match out {
@@ -64,18 +59,24 @@ fn node_of<'a>(alloc: Global, standing: &Standing<'a>) -> Result<Node, Memory>
 }
 
 /// The branch that stands there.
-fn branch_at<'a>(alloc: Global, standing: Standing<'a>) -> Result<Branch<'a>, Memory>
+fn branch_at<'a>(
+    alloc: Global,
+    clauses: &'a [Predicate<'a>],
+    standing: Standing<'a>,
+) -> Result<Branch<'a>, Memory>
+    requires clauses { AreClausesBelow (map (map clause_of) clauses.now) }
+    requires choosing { IsChoosing (map (map clause_of) clauses.now) standing }
     ensures standing { IfOk result (λ b. b.standing ≡ standing.entry) }
-    ensures named { IfOk result (λ b. IsNamed b.node b.standing) }
+    ensures named { IfOk result (λ b. IsNamed (map (map clause_of) clauses.now) b.node b.standing) }
 {
-    let node = node_of(alloc, &standing)?;
+    let node = node_of(alloc, clauses, &standing)?;
     Ok(Branch { node, standing })
 }
 
 /// The outputs of where a search stands.
 fn outs_of_standing<'a>(
     alloc: Global,
-    clauses: &'a [List<Clause<Term>>],
+    clauses: &'a [Predicate<'a>],
     locals: &[Local],
     standing: Standing<'a>,
 ) -> Result<Vec<Out>, Memory>
@@ -100,7 +101,7 @@ fn outs_of_standing<'a>(
 /// more.
 fn outs_by_choices<'a>(
     alloc: Global,
-    clauses: &'a [List<Clause<Term>>],
+    clauses: &'a [Predicate<'a>],
     locals: &[Local],
     most: u64,
     standing: Standing<'a>,
@@ -139,11 +140,11 @@ impl<'a> Branch<'a> {
         let query = query_of_problem(p);
         let place = first_place(alloc, p.depth, query)?;
         let standing = advance(alloc, clauses, query.locals.items(), place)?;
-        let branch = branch_at(alloc, standing)?;
+        let branch = branch_at(alloc, clauses, standing)?;
         Ok(branch)
     }
 
-    /// What the branch stands at: a choice, with its width and each of its choices, exactly where the
+    /// What the branch stands at: a choice, with its width and the ways that it keeps, exactly where the
     /// search of its problem chooses at its path; an answer, cut or stuck exactly where that is its
     /// output with just this path; and failed otherwise. It takes no memory.
     pub fn node(&self) -> &Node
@@ -172,7 +173,7 @@ impl<'a> Branch<'a> {
         let clauses = clauses_of_problem(p);
         let query = query_of_problem(p);
         let standing = choose(alloc, clauses, query.locals.items(), self.standing, choice)?;
-        let branch = branch_at(alloc, standing)?;
+        let branch = branch_at(alloc, clauses, standing)?;
         Ok(branch)
     }
 

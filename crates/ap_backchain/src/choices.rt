@@ -10,12 +10,11 @@ ghost use Rattle.ap_backchain.specs.Views.{waiting_of};
 use crate::clauses::clauses_at;
 use crate::frames::Frame;
 use crate::place::Place;
-use ap_defs::goals::{Clause, Goal};
-use ap_defs::lists::List;
-use ap_defs::terms::Term;
+use ap_defs::goals::Goal;
+use ap_index::predicate::Predicate;
 
 /// Among how many the goal of a frame chooses, if it chooses.
-fn choice_of_frame<'a>(clauses: &'a [List<Clause<Term>>], frame: &Frame<'a>) -> Option<u32>
+fn choice_of_frame<'a>(clauses: &'a [Predicate<'a>], frame: &Frame<'a>) -> Option<u32>
     requires { AreClausesBelow (map (map clause_of) clauses.now) }
     ensures { MatchOption result (choice_of_goal (map (map clause_of) clauses.now) frame.now.depth (waiting_of frame.now).goal ≡ None) (λ w. choice_of_goal (map (map clause_of) clauses.now) frame.now.depth (waiting_of frame.now).goal ≡ Some w) }
 {
@@ -38,7 +37,7 @@ fn choice_of_frame<'a>(clauses: &'a [List<Clause<Term>>], frame: &Frame<'a>) -> 
 }
 
 /// Among how many the first goal that waits chooses, if it chooses.
-pub fn choice_at<'a>(clauses: &'a [List<Clause<Term>>], place: &Place<'a>) -> Option<u32>
+pub fn choice_at<'a>(clauses: &'a [Predicate<'a>], place: &Place<'a>) -> Option<u32>
     requires { AreClausesBelow (map (map clause_of) clauses.now) }
     ensures { MatchOption result (choice_of (map (map clause_of) clauses.now) (position_of place.now).waiting ≡ None) (λ w. choice_of (map (map clause_of) clauses.now) (position_of place.now).waiting ≡ Some w) }
 {

@@ -1,6 +1,6 @@
 //! Clauses that an atom enters.
 
-ghost use Rattle.std.specs.Prelude.{◌≡◌, ◌<◌, ◌^◌, false, None, IfOk, OnOk, length, map};
+ghost use Rattle.std.specs.Prelude.{◌≡◌, ◌<◌, ◌^◌, [], false, None, IfOk, IfSome, MatchOption, OnOk, length, map};
 ghost use Rattle.ap_defs.specs.Goals.{clause_of, clauses_of};
 ghost use Rattle.ap_defs.specs.Renaming.{AreBelow, rename_term as renamed};
 ghost use Rattle.ap_defs.specs.Terms.{term_of};
@@ -15,23 +15,33 @@ use crate::closures::closures;
 use crate::place::Place;
 use crate::renaming::vars_of_locals;
 use ap_defs::goals::Clause;
-use ap_defs::lists::List;
 use ap_defs::memory::Memory;
 use ap_defs::terms::Term;
+use ap_index::predicate::{Predicate, predicate_at};
 use ap_unify::unify::unify;
 use std::alloc::Global;
 
+/// The clauses of a predicate with their keys, if there is such a predicate.
+pub fn candidates_at<'a>(clauses: &'a [Predicate<'a>], pred: u32) -> Option<&'a Predicate<'a>>
+    requires { AreClausesBelow (map (map clause_of) clauses.now) }
+    ensures clauses { MatchOption result ([] ≡ clauses_of (map (map clause_of) clauses.now) pred)
+        (λ p. map clause_of p.now ≡ clauses_of (map (map clause_of) clauses.now) pred) }
+    ensures below { IfSome result (λ p. AreFitClauses (map clause_of p.now)) }
+    ensures few { IfSome result (λ p. length p.now < 2 ^ 32) }
+{
+    predicate_at(clauses, pred)
+}
+
 /// The clauses of a predicate.
-pub fn clauses_at<'a>(clauses: &'a [List<Clause<Term>>], pred: u32) -> &'a [Clause<Term>]
+pub fn clauses_at<'a>(clauses: &'a [Predicate<'a>], pred: u32) -> &'a [Clause<Term>]
     requires { AreClausesBelow (map (map clause_of) clauses.now) }
     ensures clauses { map clause_of result.now ≡ clauses_of (map (map clause_of) clauses.now) pred }
     ensures below { AreFitClauses (map clause_of result.now) }
     ensures few { length result.now < 2 ^ 32 }
 {
-    if (pred as usize) < clauses.len() {
-        clauses[pred as usize].items()
-    } else {
-        &[]
+    match candidates_at(clauses, pred) {
+        Some(predicate) => predicate.clauses(),
+        None => &[],
     }
 }
 

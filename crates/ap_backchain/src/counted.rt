@@ -13,17 +13,16 @@ ghost use Rattle.ap_backchain.specs.Positions.{outs_from};
 use crate::choices::choice_at;
 use crate::place::Place;
 use crate::run::{Paths, go_on};
-use ap_defs::goals::{Clause, Local};
-use ap_defs::lists::List;
+use ap_defs::goals::Local;
 use ap_defs::memory::Memory;
 use ap_defs::paths::Out;
-use ap_defs::terms::Term;
+use ap_index::predicate::Predicate;
 use ap_paths::Limit;
 use std::alloc::Global;
 
 /// How many more choices may be made after the one at a place, if there is one, where so many may: none
 /// says that it is one too many.
-fn left_after<'a>(clauses: &'a [List<Clause<Term>>], place: &Place<'a>, left: u64) -> Option<u64>
+fn left_after<'a>(clauses: &'a [Predicate<'a>], place: &Place<'a>, left: u64) -> Option<u64>
     requires { AreClausesBelow (map (map clause_of) clauses.now) }
     ensures some { IfSome result (λ n.
         n + choices_here (map (map clause_of) clauses.now) (position_of place.now) ≡ left) }
@@ -40,7 +39,7 @@ fn left_after<'a>(clauses: &'a [List<Clause<Term>>], place: &Place<'a>, left: u6
 /// makes more.
 pub fn outputs_by_choices<'a>(
     alloc: Global,
-    clauses: &'a [List<Clause<Term>>],
+    clauses: &'a [Predicate<'a>],
     locals: &[Local],
     most: u64,
     first: Place<'a>,

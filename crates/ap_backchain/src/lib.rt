@@ -19,6 +19,7 @@ pub mod ends;
 pub mod frames;
 pub mod free_vars;
 mod heads;
+mod kept;
 pub mod place;
 pub mod points;
 pub mod problem;

@@ -1,8 +1,8 @@
 //! Choices of which some ways are still to be tried.
 
 use crate::frames::Frame;
-use ap_defs::goals::Clause;
 use ap_defs::terms::Term;
+use ap_index::predicate::Predicate;
 use ap_store::store::Mark;
 
 /// How far a search had come: the version of the store, and how many cells, choices and variables
@@ -23,7 +23,7 @@ pub struct Untried<'a> {
     pub args: &'a [Term],
     pub base: u64,
     pub depth: u32,
-    pub clauses: &'a [Clause<Term>],
+    pub clauses: &'a Predicate<'a>,
     pub tried: usize,
 }
 

@@ -10,31 +10,31 @@ ghost use Rattle.ap_paths.specs.Limits.{part};
 ghost use Rattle.ap_program.specs.Typed.{IsTypedProgram, IsTypedQuery, term_form};
 
 use crate::run::{Paths, outputs_of_query, outputs_of_short_query};
-use ap_defs::goals::{Clause, Query};
-use ap_defs::lists::List;
+use ap_defs::goals::Query;
 use ap_defs::memory::Memory;
 use ap_defs::paths::Out;
 use ap_defs::terms::Term;
+use ap_index::index::Index;
+use ap_index::predicate::Predicate;
 use ap_paths::Limit;
-use ap_program::restricted::Restricted;
 use std::alloc::Global;
 
 /// A query of a program, by its number from 1, that is searched to a depth: so many clauses may be
 /// used one inside another.
 #[derive(Clone, Copy)]
 pub struct Problem<'a> {
-    pub program: &'a Restricted,
+    pub program: &'a Index<'a>,
     pub query: u32,
     pub depth: u32,
 }
 
 /// The clauses of each predicate.
-pub fn clauses_of_problem<'a>(p: &Problem<'a>) -> &'a [List<Clause<Term>>]
+pub fn clauses_of_problem<'a>(p: &Problem<'a>) -> &'a [Predicate<'a>]
     ensures clauses { map (map clause_of) result.now ≡ clauses_in p.now }
     ensures below { AreClausesBelow (map (map clause_of) result.now) }
     ensures typed { IsTypedProgram (program_in p.now) }
 {
-    p.program.program().clauses.items()
+    p.program.predicates()
 }
 
 /// The query.

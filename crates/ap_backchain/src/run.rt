@@ -20,11 +20,11 @@ use crate::points::Point;
 use crate::turns::{Turn, take_turn};
 use crate::wanted::{is_wanting, wanted_after};
 use crate::ways::{choose, resume};
-use ap_defs::goals::{Clause, Local, Query};
-use ap_defs::lists::List;
+use ap_defs::goals::{Local, Query};
 use ap_defs::memory::Memory;
 use ap_defs::paths::Out;
 use ap_defs::terms::Term;
+use ap_index::predicate::Predicate;
 use ap_paths::Limit;
 use ap_store::store::Store;
 use std::alloc::Global;
@@ -70,7 +70,7 @@ fn out_kept(alloc: Global, paths: Paths, path: &[u32], end: End) -> Result<Out, 
 /// on from the place.
 fn turn_on<'a>(
     alloc: Global,
-    clauses: &'a [List<Clause<Term>>],
+    clauses: &'a [Predicate<'a>],
     locals: &[Local],
     paths: Paths,
     place: &mut Place<'a>,
@@ -102,7 +102,7 @@ fn turn_on<'a>(
 /// it does not go on from there, the search resumes. It answers whether it goes on.
 pub fn go_on<'a>(
     alloc: Global,
-    clauses: &'a [List<Clause<Term>>],
+    clauses: &'a [Predicate<'a>],
     locals: &[Local],
     paths: Paths,
     place: &mut Place<'a>,
@@ -133,7 +133,7 @@ pub fn go_on<'a>(
 /// does not go on from a place, it goes back to the latest choice that has a way left.
 pub fn outputs_from<'a>(
     alloc: Global,
-    clauses: &'a [List<Clause<Term>>],
+    clauses: &'a [Predicate<'a>],
     locals: &[Local],
     paths: Paths,
     limit: Limit,
@@ -167,7 +167,7 @@ pub fn outputs_from<'a>(
 /// The outputs from a place, as `outputs_from`, where the search takes few turns.
 fn outputs_soon<'a>(
     alloc: Global,
-    clauses: &'a [List<Clause<Term>>],
+    clauses: &'a [Predicate<'a>],
     locals: &[Local],
     paths: Paths,
     limit: Limit,
@@ -202,11 +202,11 @@ fn outputs_soon<'a>(
 }
 
 /// The outputs from where the search of a query begins, as `outputs_of_query`, where it takes few turns.
-pub fn outputs_of_short_query(
+pub fn outputs_of_short_query<'a>(
     alloc: Global,
-    clauses: &[List<Clause<Term>>],
+    clauses: &'a [Predicate<'a>],
     depth: u32,
-    query: &Query<Term>,
+    query: &'a Query<Term>,
     paths: Paths,
     limit: Limit,
 ) -> Result<Option<Vec<Out>>, Memory>
@@ -220,11 +220,11 @@ pub fn outputs_of_short_query(
 
 /// The outputs from where the search of a query to a depth begins up to the last answer that is wanted,
 /// in order.
-pub fn outputs_of_query(
+pub fn outputs_of_query<'a>(
     alloc: Global,
-    clauses: &[List<Clause<Term>>],
+    clauses: &'a [Predicate<'a>],
     depth: u32,
-    query: &Query<Term>,
+    query: &'a Query<Term>,
     paths: Paths,
     limit: Limit,
 ) -> Result<Vec<Out>, Memory>

@@ -12,11 +12,10 @@ use crate::choices::choice_at;
 use crate::ends::out_at;
 use crate::place::Place;
 use crate::turns::{Turn, take_turn};
-use ap_defs::goals::{Clause, Local};
-use ap_defs::lists::List;
+use ap_defs::goals::Local;
 use ap_defs::memory::Memory;
 use ap_defs::paths::Out;
-use ap_defs::terms::Term;
+use ap_index::predicate::Predicate;
 use std::alloc::Global;
 
 /// Where a branch stands: before a choice among so many, at an output, or where the search fails,
@@ -58,7 +57,7 @@ fn failed_at<'a>(place: Place<'a>, made: usize) -> Standing<'a>
 /// The search from a place up to its first choice or its end.
 pub fn advance<'a>(
     alloc: Global,
-    clauses: &'a [List<Clause<Term>>],
+    clauses: &'a [Predicate<'a>],
     locals: &[Local],
     place: Place<'a>,
 ) -> Result<Standing<'a>, Memory>

@@ -19,9 +19,9 @@ use crate::frames::Frame;
 use crate::place::Place;
 use crate::standing::{Standing, advance};
 use ap_defs::goals::{Clause, Goal, Local};
-use ap_defs::lists::List;
 use ap_defs::memory::Memory;
 use ap_defs::terms::Term;
+use ap_index::predicate::Predicate;
 use std::alloc::Global;
 
 /// The search failed after one more choice.
@@ -38,7 +38,7 @@ fn failed_after<'a>(path: Vec<u32>, choice: u32) -> Result<Standing<'a>, Memory>
 /// Where the search stands once an atom has chosen one of the clauses.
 fn choose_clause<'a>(
     alloc: Global,
-    clauses: &'a [List<Clause<Term>>],
+    clauses: &'a [Predicate<'a>],
     locals: &[Local],
     place: Place<'a>,
     frame: Frame<'a>,
@@ -79,7 +79,7 @@ fn choose_clause<'a>(
 /// Where the search stands once a disjunction has chosen a side.
 fn choose_side<'a>(
     alloc: Global,
-    clauses: &'a [List<Clause<Term>>],
+    clauses: &'a [Predicate<'a>],
     locals: &[Local],
     place: Place<'a>,
     frame: Frame<'a>,
@@ -103,7 +103,7 @@ fn choose_side<'a>(
 /// Where the search stands once the goal of a frame has chosen, from a place in which the others wait.
 fn choose_by<'a>(
     alloc: Global,
-    clauses: &'a [List<Clause<Term>>],
+    clauses: &'a [Predicate<'a>],
     locals: &[Local],
     frame: Frame<'a>,
     place: Place<'a>,
@@ -150,7 +150,7 @@ fn choose_by<'a>(
 /// Where the search stands once it has chosen, run up to its next choice or its end.
 pub fn choose<'a>(
     alloc: Global,
-    clauses: &'a [List<Clause<Term>>],
+    clauses: &'a [Predicate<'a>],
     locals: &[Local],
     standing: Standing<'a>,
     choice: u32,

@@ -19,10 +19,10 @@ use crate::ends::End;
 use crate::frames::Frame;
 use crate::free_vars::free_vars_of;
 use crate::place::Place;
-use ap_defs::goals::{Clause, Goal, Local};
-use ap_defs::lists::List;
+use ap_defs::goals::{Goal, Local};
 use ap_defs::memory::Memory;
 use ap_defs::terms::{Name, Term, Var};
+use ap_index::predicate::Predicate;
 use ap_perm::closures::{Closure, Opened};
 use ap_unify::fresh::{make_fresh, make_fresh_for_each};
 use ap_unify::unify::unify;
@@ -151,7 +151,7 @@ fn turn_of_both<'a>(
 /// The turn of the goal of a frame, which does not choose, from a place in which the others wait.
 pub fn turn_of_goal<'a>(
     alloc: Global,
-    clauses: &'a [List<Clause<Term>>],
+    clauses: &'a [Predicate<'a>],
     frame: Frame<'a>,
     place: &mut Place<'a>,
 ) -> Result<Turn, Memory>
@@ -189,7 +189,7 @@ fn found<'a>(alloc: Global, locals: &[Local], place: &Place<'a>) -> Result<End, 
 /// not choose, is taken, or the state is found where none waits.
 pub fn take_turn<'a>(
     alloc: Global,
-    clauses: &'a [List<Clause<Term>>],
+    clauses: &'a [Predicate<'a>],
     locals: &[Local],
     place: &mut Place<'a>,
 ) -> Result<Turn, Memory>

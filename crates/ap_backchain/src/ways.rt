@@ -11,15 +11,15 @@ ghost use Rattle.ap_backchain.specs.Points.{IsFitRest, positions_left};
 ghost use Rattle.ap_backchain.specs.Positions.{turned, turned_goal};
 ghost use Rattle.ap_backchain.specs.Searches.{HasPoints, followed, pending_of, positions_with};
 
-use crate::clauses::{clauses_at, enter_clause};
+use crate::clauses::{candidates_at, enter_clause};
 use crate::frames::Frame;
-use crate::heads::{key_of_atom, next_clause};
+use crate::heads::key_of_atom;
 use crate::place::Place;
 use crate::points::{Point, Rest, Save, Untried};
-use ap_defs::goals::{Clause, Goal};
-use ap_defs::lists::List;
+use ap_defs::goals::Goal;
 use ap_defs::memory::Memory;
 use ap_defs::terms::Term;
+use ap_index::predicate::Predicate;
 use std::alloc::Global;
 
 /// Keeps the clauses of an atom that follow the one that was entered, if there are any.
@@ -32,7 +32,7 @@ fn keep_rest<'a>(
     ensures kept { OnOk result (tried < length untried.entry.clauses.now → points.new.items ≡ points.old.items ++ record { save = save; rest = Rest.Clauses (record untried.entry { tried = tried }) } ∷ []) }
     ensures none { OnOk result (length untried.entry.clauses.now ≤ tried → points.new.items ≡ points.old.items) }
 {
-    if tried < untried.clauses.len() {
+    if tried < untried.clauses.clauses().len() {
         let rest = Rest::Clauses(Untried { tried, ..untried });
         points.push(Point { save, rest })?;
     }
@@ -58,13 +58,14 @@ fn try_clauses<'a>(
         args,
         base,
         depth,
-        clauses,
+        clauses: predicate,
         tried,
     } = untried;
+    let clauses = predicate.clauses();
     let key = key_of_atom(alloc, &place.store, args, base);
-    let mut i = next_clause(clauses, key, tried);
+    let mut i = predicate.next(key, tried);
     'trying: while i < clauses.len() {
-        let next = next_clause(clauses, key, i + 1);
+        let next = predicate.next(key, i + 1);
         let choice = i as u32 + 1;
         if enter_clause(alloc, place, args, base, depth, choice, &clauses[i])? {
             keep_rest(points, save, untried, next)?;
@@ -104,7 +105,7 @@ fn take_left<'a>(
 /// the other ways. It answers whether there is a way.
 fn choose_by<'a>(
     alloc: Global,
-    clauses: &'a [List<Clause<Term>>],
+    clauses: &'a [Predicate<'a>],
     frame: Frame<'a>,
     place: &mut Place<'a>,
     points: &mut Vec<Point<'a>>,
@@ -117,16 +118,19 @@ fn choose_by<'a>(
     ensures points { OnOk result (HasPoints place.new points.new) }
 {
     match frame.goal {
-        Goal::Atom(pred, args) => {
-            let untried = Untried {
-                args: args.items(),
-                base: frame.base,
-                depth: frame.depth - 1,
-                clauses: clauses_at(clauses, *pred),
-                tried: 0,
-            };
-            try_clauses(alloc, place, points, untried)
-        }
+        Goal::Atom(pred, args) => match candidates_at(clauses, *pred) {
+            None => Ok(false),
+            Some(candidates) => {
+                let untried = Untried {
+                    args: args.items(),
+                    base: frame.base,
+                    depth: frame.depth - 1,
+                    clauses: candidates,
+                    tried: 0,
+                };
+                try_clauses(alloc, place, points, untried)
+            }
+        },
         Goal::Either(left, right) => {
             take_left(place, points, frame, left, right)?;
             Ok(true)
@@ -144,7 +148,7 @@ fn choose_by<'a>(
 /// answers whether there is a way.
 pub fn choose<'a>(
     alloc: Global,
-    clauses: &'a [List<Clause<Term>>],
+    clauses: &'a [Predicate<'a>],
     place: &mut Place<'a>,
     points: &mut Vec<Point<'a>>,
 ) -> Result<bool, Memory>

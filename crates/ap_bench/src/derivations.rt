@@ -14,6 +14,7 @@ use ap_defs::memory::Memory;
 use ap_defs::outcomes::{Bundle, Proved, Verdict};
 use ap_defs::paths::{Node, Path};
 use ap_derive::derivations::derive;
+use ap_index::index::Index;
 use ap_program::restricted::Restricted;
 use ap_replay::replay::at;
 use ap_text::program_of_text;
@@ -44,7 +45,7 @@ fn program_of(alloc: Global, text: &[u8]) -> Result<Restricted, Memory> {
 }
 
 /// The query of a program that has one.
-fn only_query(program: &Restricted) -> Option<Problem<'_>>
+fn only_query<'a>(program: &'a Index<'a>) -> Option<Problem<'a>>
     ensures { IfSome result (λ p. HasQuery p) }
 {
     if program.program().queries.items().len() == 1 {
@@ -93,7 +94,8 @@ fn proved_at<'a>(
 
 /// The answer at the long path, with its derivation.
 fn proved(alloc: Global, program: &Restricted) -> Result<Proved, Memory> {
-    match only_query(program) {
+    let index = Index::of(alloc, program)?;
+    match only_query(&index) {
         None => Err(Memory),
         Some(problem) => match at(alloc, &problem, &long_path(alloc)?) {
             Ok(branch) => proved_at(alloc, &problem, &branch),

@@ -18,6 +18,7 @@ use ap_defs::limits::{Depth, Workers};
 use ap_defs::lists::List;
 use ap_defs::memory::Memory;
 use ap_defs::outcomes::{Bundle, Proved};
+use ap_index::index::Index;
 use ap_io::Gate;
 use ap_program::restricted::Restricted;
 use ap_report::{Report, Status, fault_report};
@@ -45,7 +46,8 @@ fn report_covers<R: Threads + Wait + Sync, G: Gate>(
             status: Status::NotCovered,
         });
     }
-    let bytes = lines_of_proofs(rt, alloc, gate, depth, workers, program, proved)?;
+    let index = Index::of(alloc, program)?;
+    let bytes = lines_of_proofs(rt, alloc, gate, depth, workers, &index, proved)?;
     Ok(Report {
         bytes: List::of(bytes),
         status: Status::Ok,

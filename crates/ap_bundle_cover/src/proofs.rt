@@ -17,8 +17,8 @@ use ap_defs::limits::{Depth, Workers};
 use ap_defs::memory::Memory;
 use ap_defs::outcomes::Proved;
 use ap_defs::paths::Out;
+use ap_index::index::Index;
 use ap_io::Gate;
-use ap_program::restricted::Restricted;
 use std::alloc::Global;
 use std::sync::Wait;
 use std::thread::Threads;
@@ -46,7 +46,7 @@ pub(crate) fn lines_of_proofs<R: Threads + Wait + Sync, G: Gate>(
     gate: &G,
     depth: Depth,
     workers: Workers,
-    program: &Restricted,
+    program: &Index<'_>,
     proved: &[Proved],
 ) -> Result<Vec<u8>, Memory>
     ensures { IfOk result (λ v. v.items

@@ -8,9 +8,9 @@ use ap_backchain::problem::Problem;
 use ap_defs::limits::{Depth, Workers};
 use ap_defs::memory::Memory;
 use ap_defs::paths::Out;
+use ap_index::index::Index;
 use ap_io::Gate;
 use ap_paths::Limit;
-use ap_program::restricted::Restricted;
 use ap_report::solve;
 use std::alloc::Global;
 use std::sync::Wait;
@@ -34,7 +34,7 @@ pub(crate) fn nothing_searched(alloc: Global) -> Searched
 }
 
 /// How many queries a program has.
-fn query_count(program: &Restricted) -> usize
+fn query_count(program: &Index<'_>) -> usize
     ensures { result ≡ length (program_of program.now).queries }
 {
     program.program().queries.items().len()
@@ -47,7 +47,7 @@ fn search_query<R: Threads + Wait + Sync, G: Gate>(
     gate: &G,
     depth: Depth,
     workers: Workers,
-    program: &Restricted,
+    program: &Index<'_>,
     query: u32,
 ) -> Result<Searched, Memory>
     ensures { IfOk result (λ s. HasSearched (program_of program.now) depth query s) }
@@ -77,7 +77,7 @@ pub(crate) fn searched_for<R: Threads + Wait + Sync, G: Gate>(
     gate: &G,
     depth: Depth,
     workers: Workers,
-    program: &Restricted,
+    program: &Index<'_>,
     last: Searched,
     query: u32,
 ) -> Result<Searched, Memory>

@@ -10,15 +10,15 @@ use ap_backchain::problem::Problem;
 use ap_defs::limits::{Depth, Workers};
 use ap_defs::memory::Memory;
 use ap_defs::outcomes::Proved;
+use ap_index::index::Index;
 use ap_io::Gate;
 use ap_paths::Limit;
-use ap_program::restricted::Restricted;
 use std::alloc::Global;
 use std::sync::Wait;
 use std::thread::Threads;
 
 /// How many queries a program has.
-fn query_count(program: &Restricted) -> u32
+fn query_count(program: &Index<'_>) -> u32
     ensures { result ≡ length (program_of program.now).queries }
 {
     program.program().queries.items().len() as u32
@@ -34,7 +34,7 @@ pub fn prove_program<R: Threads + Wait + Sync, G: Gate>(
     depth: Depth,
     workers: Workers,
     limit: Limit,
-    program: &Restricted,
+    program: &Index<'_>,
 ) -> Result<Vec<Proved>, Memory>
     ensures { IfOk result (λ v. map proved_of v.items
         ≡ limited_proofs depth limit (program_of program.now)) }

@@ -15,6 +15,7 @@ use ap_defs::limits::{Depth, Workers};
 use ap_defs::lists::List;
 use ap_defs::memory::Memory;
 use ap_defs::outcomes::{Bundle, Proved};
+use ap_index::index::Index;
 use ap_io::Gate;
 use ap_paths::Limit;
 use ap_program::restricted::Restricted;
@@ -55,7 +56,8 @@ fn report_proofs<R: Threads + Wait + Sync, G: Gate>(
 ) -> Result<Report, Memory>
     ensures { IfOk result (λ r. r ≡ prove_report depth limit text.now (program_of program.now)) }
 {
-    let proved = prove_program(rt, alloc, gate, depth, workers, limit, program)?;
+    let index = Index::of(alloc, program)?;
+    let proved = prove_program(rt, alloc, gate, depth, workers, limit, &index)?;
     report_bundle(alloc, text, proved)
 }
 

@@ -1,14 +1,11 @@
 -- The lines of the table, and the terms that are made of them.
-use Rattle.std.proofs.Common.{◌≡◌, ℕ, zero, suc, ◌+◌, ◌<◌, ◌^◌, List, [], ◌∷◌, ◌++◌, length, Option, Some, slice_get, refl, ap, sym, subst, ◌∙◌, arith, length-append, nat_lt, ◌⊎◌, inl, inr}
+use Rattle.std.proofs.Common.{◌≡◌, ℕ, zero, suc, ◌+◌, ◌<◌, List, [], ◌∷◌, ◌++◌, length, Some, slice_get, refl, ap, sym, subst, ◌∙◌, arith, length-append, ◌⊎◌, inl, inr}
 use Rattle.std.specs.Prelude.{reverse}
 use Rattle.std.proofs.lemmas.List.{reverse-append, length-reverse, reverse-reverse}
-use Rattle.ap_defs.specs.Terms as terms
 use Rattle.ap_defs.specs.Terms.{NominalTerm}
-use Rattle.ap_bundle.specs.Forms.{◌>>=◌}
 use Rattle.ap_bundle.specs.Tables.{expanded_size}
 use Rattle.ap_bundle_read.specs.declared.table.Entry.{Entry}
 use Rattle.ap_bundle_read.specs.declared.table.Entry.TheVariants as entry
-use Rattle.ap_bundle_read.specs.declared.table.expanding.Layer.TheVariants as layer
 use Rattle.ap_bundle_read.specs.declared.table.Line.{Line}
 use Rattle.ap_bundle_read.specs.declared.table.expanding.Task.{Task}
 use Rattle.ap_bundle_read.specs.declared.table.expanding.Task.TheVariants as task

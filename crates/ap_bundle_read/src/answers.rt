@@ -9,9 +9,10 @@ ghost use Rattle.ap_bundle.specs.Reading as spec;
 ghost use Rattle.ap_bundle_read.specs.Outcomes.{Gives, place_of};
 ghost use Rattle.ap_bundle_read.specs.Tables.{AreReady, reader_of};
 
+use crate::derivations::read_derivation;
 use crate::error::ReadError;
 use crate::line_forms::{cond_form, count_form, query_form, var_form};
-use crate::nodes::{read_derivation, read_terms};
+use crate::nodes::read_terms;
 use crate::place::{Place, words_at, wrong};
 use crate::table::term_lines::Terms;
 use ap_bundle::faults::BundleKind;

@@ -2,6 +2,7 @@
 #![tactic(auto)]
 
 mod answers;
+mod derivations;
 mod error;
 mod line_forms;
 mod nodes;

@@ -17,6 +17,7 @@ use ap_defs::memory::Memory;
 use ap_defs::outcomes::{Bundle, Proved, Verdict};
 use ap_defs::paths::{Node, Out, Path};
 use ap_derive::derivations::derive;
+use ap_index::index::Index;
 use ap_paths::Limit;
 use ap_program::restricted::Restricted;
 use ap_replay::replay::at;
@@ -82,7 +83,7 @@ fn prove_query(alloc: Global, problem: &Problem<'_>, all: &mut Vec<Proved>) -> R
 }
 
 /// How many queries a program has.
-fn query_count(program: &Restricted) -> u32
+fn query_count(program: &Index<'_>) -> u32
     ensures { result ≡ length (program_of program.now).queries }
 {
     program.program().queries.items().len() as u32
@@ -90,11 +91,12 @@ fn query_count(program: &Restricted) -> u32
 
 /// The answers of the queries of a program, with their derivations.
 fn prove_program(alloc: Global, program: &Restricted, depth: u32) -> Result<Vec<Proved>, Memory> {
-    let count = query_count(program);
+    let index = Index::of(alloc, program)?;
+    let count = query_count(&index);
     let mut all = Vec::new(alloc);
     for place in 0..count {
         let problem = Problem {
-            program,
+            program: &index,
             query: place + 1,
             depth,
         };

@@ -12,6 +12,7 @@ use ap_backchain::problem::{Problem, outputs};
 use ap_defs::limits::SIZE_LIMIT;
 use ap_defs::memory::Memory;
 use ap_defs::paths::{Node, Out, Path};
+use ap_index::index::Index;
 use ap_paths::Limit;
 use ap_program::restricted::Restricted;
 use ap_replay::error::ReplayError;
@@ -32,7 +33,7 @@ fn program_of(alloc: Global, text: &str) -> Result<Restricted, Memory> {
 }
 
 /// The query of a program that has one.
-fn only_query<'a>(program: &'a Restricted, depth: u32) -> Option<Problem<'a>>
+fn only_query<'a>(program: &'a Index<'a>, depth: u32) -> Option<Problem<'a>>
     ensures { IfSome result (λ p. HasQuery p) }
 {
     if program.program().queries.items().len() == 1 {
@@ -87,7 +88,8 @@ fn spelled(alloc: Global, problem: &Problem<'_>) -> Result<String, Memory>
 /// The outputs of a text.
 fn outputs_of(alloc: Global, depth: u32, text: &str) -> Result<String, Memory> {
     let program = program_of(alloc, text)?;
-    match only_query(&program, depth) {
+    let index = Index::of(alloc, &program)?;
+    match only_query(&index, depth) {
         Some(problem) => spelled(alloc, &problem),
         None => Err(Memory),
     }
@@ -118,7 +120,7 @@ fn answer_word<'a>(
     match branch.node() {
         Node::Answer => {
             let answer = branch.answer(alloc, problem)?;
-            let shown = canonical(alloc, problem.program, problem.query, &answer)?;
+            let shown = canonical(alloc, problem.program.restricted(), problem.query, &answer)?;
             let shows_all = shown.binds.items().len() == answer.binds.items().len();
             Ok(if shows_all {
                 "answer"
@@ -179,14 +181,15 @@ fn lines_of<'a>(alloc: Global, problem: &Problem<'a>) -> Result<String, Memory>
     requires { HasQuery problem.now }
 {
     let outs = outputs(alloc, problem, Limit::All)?;
-    let bytes = lines(alloc, problem.program, problem.query, &outs)?;
+    let bytes = lines(alloc, problem.program.restricted(), problem.query, &outs)?;
     String::from_utf8(bytes).or(Err(Memory))
 }
 
 /// The branches of a text, and its lines.
 fn branches_of(alloc: Global, text: &str) -> Result<(String, String), Memory> {
     let program = program_of(alloc, text)?;
-    match only_query(&program, 1) {
+    let index = Index::of(alloc, &program)?;
+    match only_query(&index, 1) {
         Some(problem) => Ok((words_at(alloc, &problem)?, lines_of(alloc, &problem)?)),
         None => Err(Memory),
     }

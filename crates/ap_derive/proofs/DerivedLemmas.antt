@@ -134,7 +134,7 @@ pub answer_there : (p : Problem) (b : Branch) → IsBranchOf p b → IsAnswering
     → (a : NominalAnswer) × (outs_at (clauses_in p) p.depth q (path_of_branch b) ≡ answers.found (path_of_branch b) a ∷ [])
 answer_there p b of answering q asked =
     let f = of q asked in
-    let n = node_at (clauses_in p) p.depth q b.node b.standing f.marks f.choosing f.named in
+    let n = node_at (clauses_in p) p.depth q b.node b.standing f.marks f.named in
     (subst (λ (m : Node). IsNodeAt (clauses_in p) p.depth q (path_of_branch b) m) answering n).1
 
 module _ (p : Problem) (b : Branch) (of : IsBranchOf p b) (answering : IsAnswering b) (q : NominalQuery) (asked : slice_get (queries_in p) (p.query - 1) ≡ Some q) where

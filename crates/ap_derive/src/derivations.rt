@@ -35,10 +35,10 @@ pub fn derive_along(alloc: Global, p: &Problem<'_>, path: &[u32]) -> Result<Deri
         outs_at (clauses_in p.now) p.now.depth q path.now ≡ found path.now a ∷ [] →
         Checks (program_of p.now.program.now) q a (derivation_of d)) }
 {
-    let program = p.program.program();
+    let clauses = p.program.predicates();
     let query = query_of_problem(p);
     let mut place = first_place(alloc, p.depth, query)?;
-    let nodes = select_along(alloc, program.clauses.items(), &mut place, path)?;
+    let nodes = select_along(alloc, clauses, &mut place, path)?;
     assemble(alloc, &place.store, nodes)
 }
 

@@ -15,10 +15,10 @@ use ap_backchain::clauses::{clauses_at, enter_clause};
 use ap_backchain::frames::Frame;
 use ap_backchain::place::Place;
 use ap_backchain::turns::{Turn, turn_of_goal};
-use ap_defs::goals::{Clause, Goal};
-use ap_defs::lists::List;
+use ap_defs::goals::Goal;
 use ap_defs::memory::Memory;
 use ap_defs::terms::{Name, Term, Var};
+use ap_index::predicate::Predicate;
 use std::alloc::Global;
 
 /// The choice of the path that follows those on the way to the place.
@@ -33,7 +33,7 @@ fn next_choice(place: &Place<'_>, path: &[u32]) -> u32
 /// wait, where all of them are solved along some path.
 fn settle<'a>(
     alloc: Global,
-    clauses: &'a [List<Clause<Term>>],
+    clauses: &'a [Predicate<'a>],
     frame: Frame<'a>,
     place: &mut Place<'a>,
 ) -> Result<(), Memory>
@@ -78,7 +78,7 @@ fn settled_goal(frame: &Frame<'_>, next: u64) -> Option<SelectedGoal>
 /// choice.
 fn select_clause<'a>(
     alloc: Global,
-    clauses: &'a [List<Clause<Term>>],
+    clauses: &'a [Predicate<'a>],
     frame: Frame<'a>,
     pred: u32,
     args: &'a [Term],
@@ -152,7 +152,7 @@ fn select_side<'a>(
 /// has it: all of them are solved along the path.
 fn select_choice<'a>(
     alloc: Global,
-    clauses: &'a [List<Clause<Term>>],
+    clauses: &'a [Predicate<'a>],
     frame: Frame<'a>,
     place: &mut Place<'a>,
     path: &[u32],
@@ -183,7 +183,7 @@ fn select_choice<'a>(
 /// them are solved along the path.
 fn select<'a>(
     alloc: Global,
-    clauses: &'a [List<Clause<Term>>],
+    clauses: &'a [Predicate<'a>],
     frame: Frame<'a>,
     place: &mut Place<'a>,
     path: &[u32],
@@ -208,7 +208,7 @@ fn select<'a>(
 /// lead.
 pub fn select_along<'a>(
     alloc: Global,
-    clauses: &'a [List<Clause<Term>>],
+    clauses: &'a [Predicate<'a>],
     place: &mut Place<'a>,
     path: &[u32],
 ) -> Result<Vec<SelectedGoal>, Memory>

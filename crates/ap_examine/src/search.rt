@@ -13,6 +13,7 @@ use ap_defs::limits::{Depth, Workers};
 use ap_defs::memory::Memory;
 use ap_defs::paths::Out;
 use ap_defs::terms::Term;
+use ap_index::index::Index;
 use ap_instance::ask;
 use ap_io::Gate;
 use ap_paths::Limit;
@@ -50,8 +51,9 @@ fn first_outputs<R: Threads + Wait + Sync, G: Gate>(
     ensures { IfOk result (λ v. (q : NominalQuery) → slice_get (program_of program.now).queries 0 ≡ Some q →
         outs_of v.items ≡ part limit (query_outs (program_of program.now).clauses depth q)) }
 {
+    let index = Index::of(alloc, program)?;
     let problem = Problem {
-        program,
+        program: &index,
         query: 1,
         depth: depth.get(),
     };

@@ -45,23 +45,55 @@ enum Before {
     Sign(char),
 }
 
+// The signs of one character that no other goes on with.
+const SIGNS: [char; 11] = ['.', ',', ';', '(', ')', '[', ']', '|', '\\', '#', '='];
+
+// What is between tokens.
+const SPACES: [char; 4] = [' ', '\t', '\r', '\n'];
+
+fn is_one_of(c: char, characters: &[char]) -> bool {
+    for one in characters {
+        if *one == c {
+            return true;
+        }
+    }
+    false
+}
+
+// Whether a character ends the sign that stands before it.
+fn ends_sign(sign: char, c: char) -> bool {
+    if c == '-' {
+        sign == ':' || sign == '?'
+    } else {
+        sign == '-' && c == '>'
+    }
+}
+
+// Whether a character may begin a sign of two.
+fn begins_sign(c: char, after: Option<char>) -> bool {
+    match c {
+        ':' => true,
+        '?' => after == Some('-'),
+        '-' => after == Some('>'),
+        _ => false,
+    }
+}
+
 // What stands before the next character, or `None` where this one begins no token.
 fn next(before: Before, c: char, after: Option<char>) -> Option<Before> {
-    if matches!(before, Before::Word) && is_xid_continue(c) {
-        return Some(Before::Word);
-    }
-    match (before, c) {
-        (_, ' ' | '\t' | '\r' | '\n') => Some(Before::Nothing),
-        (Before::Sign(':' | '?'), '-') | (Before::Sign('-'), '>') => Some(Before::Nothing),
-        (_, ':') => Some(Before::Sign(':')),
-        (_, '?') if after == Some('-') => Some(Before::Sign('?')),
-        (_, '-') if after == Some('>') => Some(Before::Sign('-')),
-        (_, '.' | ',' | ';' | '(' | ')' | '[' | ']' | '|' | '\\' | '#' | '=') => {
-            Some(Before::Nothing)
-        }
-        (_, 'A'..='Z' | '_') => Some(Before::Word),
-        _ if is_xid_start(c) => Some(Before::Word),
-        _ => None,
+    let is_end = match before {
+        Before::Word if is_xid_continue(c) => return Some(Before::Word),
+        Before::Sign(sign) => ends_sign(sign, c),
+        _ => false,
+    };
+    if is_end || is_one_of(c, &SPACES) || is_one_of(c, &SIGNS) {
+        Some(Before::Nothing)
+    } else if begins_sign(c, after) {
+        Some(Before::Sign(c))
+    } else if c == '_' || is_xid_start(c) {
+        Some(Before::Word)
+    } else {
+        None
     }
 }
 
@@ -100,20 +132,39 @@ fn stray_in(line: &str) -> Option<Stray> {
     None
 }
 
-/// What a character is called, where its shape doesn't show it.
-fn name_of(c: char) -> &'static str {
-    match c {
-        '\u{FEFF}' => "a byte order mark",
-        '\u{A0}' => "a space that allows no break",
-        '\u{200B}'..='\u{200D}' | '\u{2060}' => "a character without width",
-        '\u{2028}' | '\u{2029}' => "a separator of lines",
-        '\u{61C}' | '\u{200E}' | '\u{200F}' | '\u{202A}'..='\u{202E}' | '\u{2066}'..='\u{2069}' => {
-            "a mark of the writing direction"
+// What is said of the characters from one to another.
+type Said = (char, char, &'static str);
+
+const NO_WIDTH: &str = "a character without width";
+
+const DIRECTION: &str = "a mark of the writing direction";
+
+const CONTROL: &str = "a control character";
+
+// What characters are called whose shape doesn't show it.
+const NAMES: [Said; 12] = [
+    ('\u{FEFF}', '\u{FEFF}', "a byte order mark"),
+    ('\u{A0}', '\u{A0}', "a space that allows no break"),
+    ('\u{200B}', '\u{200D}', NO_WIDTH),
+    ('\u{2060}', '\u{2060}', NO_WIDTH),
+    ('\u{2028}', '\u{2029}', "a separator of lines"),
+    ('\u{61C}', '\u{61C}', DIRECTION),
+    ('\u{200E}', '\u{200F}', DIRECTION),
+    ('\u{202A}', '\u{202E}', DIRECTION),
+    ('\u{2066}', '\u{2069}', DIRECTION),
+    ('\u{300}', '\u{36F}', "an accent without a letter before it"),
+    ('\u{0}', '\u{1F}', CONTROL),
+    ('\u{7F}', '\u{9F}', CONTROL),
+];
+
+// What a table says of a character.
+fn said_of(table: &[Said], c: char) -> Option<&'static str> {
+    for (first, last, said) in table {
+        if *first <= c && c <= *last {
+            return Some(*said);
         }
-        '\u{300}'..='\u{36F}' => "an accent without a letter before it",
-        '\u{0}'..='\u{1F}' | '\u{7F}'..='\u{9F}' => "a control character",
-        _ => "",
     }
+    None
 }
 
 const COMMENT: &str = "a comment begins with `%` and goes to the end of the line";
@@ -131,32 +182,53 @@ fn pair_advice(stray: Stray) -> Option<&'static str> {
     }
 }
 
+const NUMBERS: &str =
+    "there are no numbers: declare `nat : type.`, `z : nat.`, `s : nat -> nat.` and write `s(z)`";
+
+const QUOTES: &str =
+    "there are no quoted words: a word begins with a letter and goes on with letters, digits and `_`";
+
+const CUT: &str =
+    "there is no cut: clauses are tried in order, and each that fits counts; say in each when it holds";
+
+const ARITHMETIC: &str =
+    "there is no arithmetic: write predicates over constructors such as `z` and `s(t)`";
+
+const BRACKETS: &str = "brackets are `(` and `)`, and `[` and `]` for lists";
+
 // What is not in the language where a character stands, and what to write.
-fn advice(c: char) -> &'static str {
-    match c {
-        '0'..='9' => {
-            "there are no numbers: declare `nat : type.`, `z : nat.`, `s : nat -> nat.` and write `s(z)`"
-        }
-        '"' => "there are no strings: declare constructors for what they stand for",
-        '\'' | '`' => {
-            "there are no quoted words: a word begins with a letter and goes on with letters, digits and `_`"
-        }
-        '!' => {
-            "there is no cut: clauses are tried in order, and each that fits counts; say in each when it holds"
-        }
-        '&' => "goals that must all hold stand with `,` between",
-        '+' | '-' | '*' | '/' | '<' | '>' | '^' => {
-            "there is no arithmetic: write predicates over constructors such as `z` and `s(t)`"
-        }
-        '{' | '}' => "brackets are `(` and `)`, and `[` and `]` for lists",
-        '~' => NEGATION,
-        '?' => "a query begins with `?-`",
-        '\u{2018}'..='\u{201F}' => "there are no strings and no quoted words",
-        '\u{FEFF}' => "save the text without it",
-        '\u{A0}' => "write a plain space",
-        _ => "what a text may hold stands in docs/LANGUAGE.md, under `Tokens`",
-    }
-}
+const ADVICE: [Said; 19] = [
+    ('0', '9', NUMBERS),
+    (
+        '"',
+        '"',
+        "there are no strings: declare constructors for what they stand for",
+    ),
+    ('\'', '\'', QUOTES),
+    ('`', '`', QUOTES),
+    ('!', '!', CUT),
+    ('&', '&', "goals that must all hold stand with `,` between"),
+    ('*', '+', ARITHMETIC),
+    ('-', '-', ARITHMETIC),
+    ('/', '/', ARITHMETIC),
+    ('<', '<', ARITHMETIC),
+    ('>', '>', ARITHMETIC),
+    ('^', '^', ARITHMETIC),
+    ('{', '{', BRACKETS),
+    ('}', '}', BRACKETS),
+    ('~', '~', NEGATION),
+    ('?', '?', "a query begins with `?-`"),
+    (
+        '\u{2018}',
+        '\u{201F}',
+        "there are no strings and no quoted words",
+    ),
+    ('\u{FEFF}', '\u{FEFF}', "save the text without it"),
+    ('\u{A0}', '\u{A0}', "write a plain space"),
+];
+
+// What helps with each other character.
+const TOKENS: &str = "what a text may hold stands in docs/LANGUAGE.md, under `Tokens`";
 
 // What helps with a character in this line.
 fn stray_note(line: &str, stray: Stray) -> &'static str {
@@ -165,27 +237,25 @@ fn stray_note(line: &str, stray: Stray) -> &'static str {
     }
     match pair_advice(stray) {
         Some(note) => note,
-        None => advice(stray.c),
+        None => said_of(&ADVICE, stray.c).unwrap_or(TOKENS),
     }
 }
 
 fn say_stray(message: &mut Message, c: char, shown: &str) {
-    let name = name_of(c);
-    if name.is_empty() {
-        message.say(&[
+    match said_of(&NAMES, c) {
+        None => message.say(&[
             Piece::Text("no token begins with the character `"),
             Piece::Word(shown),
             Piece::Text("` ("),
             Piece::Code(c),
             Piece::Text(")"),
-        ]);
-    } else {
-        message.say(&[
+        ]),
+        Some(name) => message.say(&[
             Piece::Text(name),
             Piece::Text(" ("),
             Piece::Code(c),
             Piece::Text(") stands where no token begins with it"),
-        ]);
+        ]),
     }
 }
 

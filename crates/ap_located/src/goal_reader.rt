@@ -29,19 +29,13 @@ impl<'t, 'a> Reader<'t, 'a> {
 
     pub(crate) fn take_goal(&mut self, place: usize, token: &Token<'a>) -> Result<(), Stop> {
         if token.kind == TokenKind::Reserved && token.text == "new" {
-            self.nodes.enter(Form::New, place)?;
-            self.expect = Expect::NewName;
-            return Ok(());
+            return self.enter(Form::New, place, Expect::NewName);
         }
         if token.kind == TokenKind::Reserved && token.text == "exists" {
-            self.nodes.enter(Form::Exists, place)?;
-            self.expect = Expect::ExistsName;
-            return Ok(());
+            return self.enter(Form::Exists, place, Expect::ExistsName);
         }
         if is_sign(token, "(") && !self.begins_term(place) {
-            self.nodes.enter(Form::Group, place)?;
-            self.expect = Expect::Goal;
-            return Ok(());
+            return self.enter(Form::Group, place, Expect::Goal);
         }
         if !begins_any_term(token) {
             return Err(self.stop(place, Wanted::Goal));
@@ -87,30 +81,44 @@ impl<'t, 'a> Reader<'t, 'a> {
             Form::Swap => self.take_in_swap(place, token, open.count),
             Form::List => self.take_in_list(place, token),
             Form::ListTail => self.take_close(place, token, "]"),
-            Form::Atom if is_sign(token, "=") => {
-                self.nodes.change(Form::Equal);
-                self.expect = Expect::Term;
-                Ok(())
-            }
-            Form::Atom if is_sign(token, "#") => {
-                self.nodes.change(Form::Fresh);
-                self.expect = Expect::Term;
-                Ok(())
-            }
-            Form::Head if is_sign(token, ":-") => {
-                self.leave_goal(place)?;
-                self.expect = Expect::Goal;
-                Ok(())
-            }
-            Form::Domain if is_sign(token, "->") => {
-                self.nodes.leave(place.saturating_sub(1));
-                self.expect = Expect::ResultWord;
-                Ok(())
-            }
-            Form::Head => Err(self.stop(place, Wanted::Body)),
-            Form::Domain => Err(self.stop(place, Wanted::Arrow)),
+            Form::Atom => self.take_behind_atom(place, token),
+            Form::Head => self.take_neck(place, token),
+            Form::Domain => self.take_arrow(place, token),
             _ => self.take_after_goal(place, token),
         }
+    }
+
+    // Takes the token behind a goal that may be the left side of an equation or of a freshness goal.
+    fn take_behind_atom(&mut self, place: usize, token: &Token<'a>) -> Result<(), Stop> {
+        let form = if is_sign(token, "=") {
+            Form::Equal
+        } else if is_sign(token, "#") {
+            Form::Fresh
+        } else {
+            return self.take_after_goal(place, token);
+        };
+        self.nodes.change(form);
+        self.expect = Expect::Term;
+        Ok(())
+    }
+
+    // Takes the `:-` behind a head.
+    fn take_neck(&mut self, place: usize, token: &Token<'a>) -> Result<(), Stop> {
+        if !is_sign(token, ":-") {
+            return Err(self.stop(place, Wanted::Body));
+        }
+        self.expect = Expect::Goal;
+        self.leave_goal(place)
+    }
+
+    // Takes the `->` behind the types of a constructor's arguments.
+    fn take_arrow(&mut self, place: usize, token: &Token<'a>) -> Result<(), Stop> {
+        if !is_sign(token, "->") {
+            return Err(self.stop(place, Wanted::Arrow));
+        }
+        self.nodes.leave(place.saturating_sub(1));
+        self.expect = Expect::ResultWord;
+        Ok(())
     }
 
     pub(crate) fn take_after_goal(&mut self, place: usize, token: &Token<'a>) -> Result<(), Stop> {

@@ -20,9 +20,7 @@ impl<'t, 'a> Reader<'t, 'a> {
             return Err(self.stop(place, Wanted::Item));
         }
         if sign_at(self.tokens, place.saturating_add(1), ":") {
-            self.nodes.add(Form::Word, place)?;
-            self.expect = Expect::Known(Known::Colon);
-            return Ok(());
+            return self.add(Form::Word, place, Expect::Known(Known::Colon));
         }
         self.nodes.enter(Form::Head, place)?;
         self.take_term(place, token)
@@ -57,18 +55,14 @@ impl<'t, 'a> Reader<'t, 'a> {
         if token.kind != TokenKind::Ident {
             return Err(self.stop(place, Wanted::Name));
         }
-        self.nodes.add(Form::Binder, place)?;
-        self.expect = Expect::Known(Known::OpenGoals);
-        Ok(())
+        self.add(Form::Binder, place, Expect::Known(Known::OpenGoals))
     }
 
     pub(crate) fn take_exists_name(&mut self, place: usize, token: &Token<'a>) -> Result<(), Stop> {
         if token.kind != TokenKind::Var || token.text == "_" {
             return Err(self.stop(place, Wanted::Variable));
         }
-        self.nodes.add(Form::Binder, place)?;
-        self.expect = Expect::Known(Known::OpenGoals);
-        Ok(())
+        self.add(Form::Binder, place, Expect::Known(Known::OpenGoals))
     }
 
     pub(crate) fn take_predicate_word(
@@ -79,10 +73,8 @@ impl<'t, 'a> Reader<'t, 'a> {
         if token.kind != TokenKind::Ident {
             return Err(self.stop(place, Wanted::Word));
         }
-        self.nodes.enter(Form::Predicate, place)?;
         self.in_type = true;
-        self.expect = Expect::PredicateOpen;
-        Ok(())
+        self.enter(Form::Predicate, place, Expect::PredicateOpen)
     }
 
     pub(crate) fn take_predicate_open(
@@ -105,9 +97,7 @@ impl<'t, 'a> Reader<'t, 'a> {
         if token.kind == TokenKind::Reserved
             && (token.text == "type" || token.text == "name_type")
         {
-            self.nodes.add(Form::Word, place)?;
-            self.expect = Expect::End;
-            return Ok(());
+            return self.add(Form::Word, place, Expect::End);
         }
         self.in_type = true;
         self.nodes.enter(Form::Domain, place)?;
@@ -118,9 +108,7 @@ impl<'t, 'a> Reader<'t, 'a> {
         if token.kind != TokenKind::Ident {
             return Err(self.stop(place, Wanted::ResultWord));
         }
-        self.nodes.add(Form::Word, place)?;
-        self.expect = Expect::End;
-        Ok(())
+        self.add(Form::Word, place, Expect::End)
     }
 
     // What is wanted where the item ends at a place, if it may not end there.

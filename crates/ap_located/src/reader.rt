@@ -1,7 +1,7 @@
 //! Reading the tokens of an item, up to the first at which no item can go on.
 ghost use Rattle.std.specs.Prelude.{◌≡◌};
 
-use crate::nodes::Nodes;
+use crate::nodes::{Form, Nodes};
 use crate::slips::{Slip, Wanted};
 use ap_defs::memory::Memory;
 use ap_lexer::{Token, TokenKind};
@@ -127,6 +127,20 @@ impl<'t, 'a> Reader<'t, 'a> {
             wanted,
             open: self.nodes.open_place(),
         })
+    }
+
+    // Opens a node at a place. Tells what comes next.
+    pub(crate) fn enter(&mut self, form: Form, place: usize, next: Expect) -> Result<(), Stop> {
+        self.nodes.enter(form, place)?;
+        self.expect = next;
+        Ok(())
+    }
+
+    // Adds a node of one token at a place. Tells what comes next.
+    pub(crate) fn add(&mut self, form: Form, place: usize, next: Expect) -> Result<(), Stop> {
+        self.nodes.add(form, place)?;
+        self.expect = next;
+        Ok(())
     }
 
     // Takes the token at a place.

@@ -113,15 +113,35 @@ fn window(text: &[u8], start: usize) -> &[u8] {
     cut
 }
 
+// The characters that have no shape of their own or change the order of others: from each first to its last.
+const HIDDEN: [(char, char); 10] = [
+    ('\u{0}', '\u{1F}'),
+    ('\u{7F}', '\u{9F}'),
+    ('\u{AD}', '\u{AD}'),
+    ('\u{61C}', '\u{61C}'),
+    ('\u{200B}', '\u{200F}'),
+    ('\u{2028}', '\u{202E}'),
+    ('\u{2060}', '\u{206F}'),
+    ('\u{FEFF}', '\u{FEFF}'),
+    ('\u{FFF9}', '\u{FFFB}'),
+    ('\u{E0000}', '\u{E0FFF}'),
+];
+
+fn is_hidden(c: char) -> bool {
+    for (first, last) in &HIDDEN {
+        if *first <= c && c <= *last {
+            return true;
+        }
+    }
+    false
+}
+
 /// What is shown for a character: itself, a space for white space, and a sign in place of what has no
 /// shape of its own or changes the order of others.
 fn visible(c: char) -> char {
     match c {
         '\t' | '\r' | '\n' => ' ',
-        '\u{0}'..='\u{1F}' | '\u{7F}'..='\u{9F}' => '\u{FFFD}',
-        '\u{AD}' | '\u{61C}' | '\u{200B}'..='\u{200F}' | '\u{2028}'..='\u{202E}' => '\u{FFFD}',
-        '\u{2060}'..='\u{206F}' | '\u{FEFF}' | '\u{FFF9}'..='\u{FFFB}' => '\u{FFFD}',
-        '\u{E0000}'..='\u{E0FFF}' => '\u{FFFD}',
+        _ if is_hidden(c) => '\u{FFFD}',
         _ => c,
     }
 }

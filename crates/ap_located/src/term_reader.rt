@@ -27,25 +27,24 @@ impl<'t, 'a> Reader<'t, 'a> {
             TokenKind::Var => Form::Variable,
             _ => return Err(self.stop(place, Wanted::Name)),
         };
-        self.nodes.add(form, place)?;
-        self.expect = Expect::After;
-        Ok(())
+        self.add(form, place, Expect::After)
+    }
+
+    // Opens an abstraction, and takes what stands before its `\`.
+    fn take_binder(&mut self, place: usize) -> Result<(), Stop> {
+        self.nodes.enter(Form::Abs, place)?;
+        self.add(Form::Binder, place, Expect::Known(Known::Lambda))
     }
 
     pub(crate) fn take_word(&mut self, place: usize) -> Result<(), Stop> {
         let next = place.saturating_add(1);
         if sign_at(self.tokens, next, "\\") {
-            self.nodes.enter(Form::Abs, place)?;
-            self.nodes.add(Form::Binder, place)?;
-            self.expect = Expect::Known(Known::Lambda);
+            self.take_binder(place)
         } else if !self.in_type && sign_at(self.tokens, next, "(") {
-            self.nodes.enter(Form::Apply, place)?;
-            self.expect = Expect::Known(Known::Open);
+            self.enter(Form::Apply, place, Expect::Known(Known::Open))
         } else {
-            self.nodes.add(Form::Word, place)?;
-            self.expect = Expect::After;
+            self.add(Form::Word, place, Expect::After)
         }
-        Ok(())
     }
 
     pub(crate) fn take_variable(&mut self, place: usize) -> Result<(), Stop> {
@@ -53,23 +52,17 @@ impl<'t, 'a> Reader<'t, 'a> {
             return Err(self.stop(place, Wanted::Type));
         }
         if sign_at(self.tokens, place.saturating_add(1), "\\") {
-            self.nodes.enter(Form::Abs, place)?;
-            self.nodes.add(Form::Binder, place)?;
-            self.expect = Expect::Known(Known::Lambda);
+            self.take_binder(place)
         } else {
-            self.nodes.add(Form::Variable, place)?;
-            self.expect = Expect::After;
+            self.add(Form::Variable, place, Expect::After)
         }
-        Ok(())
     }
 
     pub(crate) fn take_swap(&mut self, place: usize, token: &Token<'a>) -> Result<(), Stop> {
         if token.text != "swap" || self.in_type {
             return Err(self.stop(place, self.wanted_term()));
         }
-        self.nodes.enter(Form::Swap, place)?;
-        self.expect = Expect::Known(Known::Open);
-        Ok(())
+        self.enter(Form::Swap, place, Expect::Known(Known::Open))
     }
 
     pub(crate) fn wanted_term(&self) -> Wanted {
@@ -82,17 +75,14 @@ impl<'t, 'a> Reader<'t, 'a> {
 
     pub(crate) fn take_opening(&mut self, place: usize, token: &Token<'a>) -> Result<(), Stop> {
         if is_sign(token, "(") {
-            self.nodes.enter(Form::Tuple, place)?;
-            self.expect = Expect::TermOrClose;
-            Ok(())
+            self.enter(Form::Tuple, place, Expect::TermOrClose)
         } else if is_sign(token, "[") {
-            self.nodes.enter(Form::List, place)?;
-            self.expect = if self.in_type {
+            let next = if self.in_type {
                 Expect::Term
             } else {
                 Expect::TermOrClose
             };
-            Ok(())
+            self.enter(Form::List, place, next)
         } else {
             Err(self.stop(place, self.wanted_term()))
         }

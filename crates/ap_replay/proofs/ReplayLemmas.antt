@@ -1,20 +1,20 @@
 -- Choices of a problem's search, and the branches that stand at them.
 use Rattle.std.proofs.Common.{◌≡◌, ℕ, zero, suc, ◌-◌, ◌<◌, ◌≤◌, lt-ltb, le-ltb, List, [], ◌∷◌, length, refl, sym, ap, ◌∙◌, subst, Bool, true, false, arith}
-use Rattle.std.specs.Prelude.{Option, Some, None, Vec, nat_lt, if◌then◌else◌, slice_get}
+use Rattle.std.specs.Prelude.{Option, Some, None, option_map, Vec, nat_lt, if◌then◌else◌, slice_get}
 use Rattle.ap_defs.specs.Answers.{NominalOut, outs_at}
 use Rattle.ap_defs.specs.Goals.{NominalQuery}
+use Rattle.ap_defs.specs.Paths.{Choice}
 use Rattle.ap_defs.specs.declared.paths.Node.{Node}
 use Rattle.ap_defs.specs.declared.paths.Node.TheVariants as nodes
 use Rattle.ap_paths.specs.Trees.{IsChoice}
-use Rattle.ap_search.specs.PathTrees.{query_choices}
+use Rattle.ap_search.specs.PathTrees.{query_choice, query_choices, query_kept}
 use Rattle.ap_backchain.specs.Branches.{IsBranchOf, IsChoiceOfNode, IsNodeAt, choices_at, path_of_branch}
 use Rattle.ap_backchain.specs.Problems.{HasQuery, clauses_in, queries_in}
 use Rattle.ap_backchain.specs.declared.branch.Branch.{Branch}
 use Rattle.ap_backchain.specs.declared.problem.Problem.{Problem}
-use Rattle.std.specs.List.{range_with_len}
 use Rattle.ap_paths.specs.Entries as entries
 use Rattle.ap_paths.specs.Entries.{Plan}
-use Rattle.ap_replay.specs.ProblemTrees.{bound_at, choices_below, choices_below_of, choices_of, is_shared, items_in, kids_of, outs_of_query, problem_choices, problem_outs, problem_plan, query_in, shared_out}
+use Rattle.ap_replay.specs.ProblemTrees.{bound_at, choices_below, choices_below_of, choices_of, is_shared, items_in, kept_of, kids_of, outs_of_query, problem_choices, problem_kept, problem_outs, problem_plan, query_in, shared_out}
 
 there_is : (qs : List NominalQuery) (k : ℕ) → k < length qs → (q : NominalQuery) × (slice_get qs k ≡ Some q)
 there_is [] k h = absurd (omega arith)
@@ -32,11 +32,11 @@ module _ (p : Problem) (q : NominalQuery) (asked : query_in p ≡ Some q) where
   same_choices path = ap (λ o. choices_of (clauses_in p) p.depth o path) asked
 
   taken_at : (path : List ℕ) (n : Node) (k : ℕ) → IsNodeAt (clauses_in p) p.depth q path n → IsChoiceOfNode k n → IsChoice (query_choices (clauses_in p) p.depth q path) k
-  taken_at path (nodes.Choice w kept) k at h = subst (λ (o : Option ℕ). IsChoice o k) (sym at.0) h
+  taken_at path (nodes.Choice w kept) k at h = subst (λ (o : Option ℕ). IsChoice o k) (sym (ap (option_map (λ (c : Choice). c.width)) at)) h
   taken_at path _ k at h = absurd h
 
   given_at : (path : List ℕ) (n : Node) (k : ℕ) → IsNodeAt (clauses_in p) p.depth q path n → IsChoice (query_choices (clauses_in p) p.depth q path) k → IsChoiceOfNode k n
-  given_at path (nodes.Choice w kept) k at h = subst (λ (o : Option ℕ). IsChoice o k) at.0 h
+  given_at path (nodes.Choice w kept) k at h = subst (λ (o : Option ℕ). IsChoice o k) (ap (option_map (λ (c : Choice). c.width)) at) h
   given_at path nodes.Answer k at h = chosen_of _ nodes.Answer k at.0 h
   given_at path nodes.Cut k at h = chosen_of _ nodes.Cut k at.0 h
   given_at path nodes.Stuck k at h = chosen_of _ nodes.Stuck k at.0 h
@@ -60,7 +60,7 @@ given p b n k h of node chosen =
 abbrev pub ExactNode : Branch → Node → Type 0
 ExactNode b n = (p : Problem) (q : NominalQuery) → slice_get (queries_in p) (p.query - 1) ≡ Some q → IsBranchOf p b → IsNodeAt (clauses_in p) p.depth q (path_of_branch b) n
 
-abbrev plan_by : Bool → Option ℕ → List NominalOut → Plan
+abbrev plan_by : Bool → Option (List ℕ) → List NominalOut → Plan
 plan_by shared o os = if shared then shared_out o os else entries.outs os
 
 no_choice : (b : Bool) (os : List NominalOut) → entries.outs os ≡ plan_by b None os
@@ -68,21 +68,26 @@ no_choice true os = refl
 no_choice false os = refl
 
 module _ (p : Problem) (q : NominalQuery) (asked : query_in p ≡ Some q) (path : List ℕ) where
-  not_choosing : (b : Bool) → query_choices (clauses_in p) p.depth q path ≡ None → entries.outs (problem_outs p path) ≡ plan_by b (problem_choices p path) (problem_outs p path)
-  not_choosing b e = no_choice b (problem_outs p path) ∙ ap (λ o. plan_by b o (problem_outs p path)) (sym (same_choices p q asked path ∙ e))
+  same_kept : problem_kept p path ≡ query_kept (clauses_in p) p.depth q path
+  same_kept = ap (λ o. kept_of (clauses_in p) p.depth o path) asked
 
-  choosing : (w : ℕ) (kept : List ℕ) → query_choices (clauses_in p) p.depth q path ≡ Some w → kept ≡ range_with_len 1 w
-      → entries.kids kept ≡ shared_out (problem_choices p path) (problem_outs p path)
-  choosing w kept e k = ap entries.kids k ∙ ap (λ o. shared_out o (problem_outs p path)) (sym (same_choices p q asked path ∙ e))
+  -- where it does not choose it keeps nothing
+  none_kept : (o : Option Choice) → option_map (λ (c : Choice). c.width) o ≡ None → option_map (λ (c : Choice). c.kept) o ≡ None
+  none_kept None e = refl
+  none_kept (Some c) e = cc
 
-  few_planned : (many : Bool) → many ≡ false → entries.outs (problem_outs p path) ≡ plan_by many (problem_choices p path) (problem_outs p path)
+  not_choosing : (b : Bool) → query_choices (clauses_in p) p.depth q path ≡ None → entries.outs (problem_outs p path) ≡ plan_by b (problem_kept p path) (problem_outs p path)
+  not_choosing b e =
+      no_choice b (problem_outs p path) ∙ ap (λ o. plan_by b o (problem_outs p path)) (sym (same_kept ∙ none_kept (query_choice (clauses_in p) p.depth q path) e))
+
+  few_planned : (many : Bool) → many ≡ false → entries.outs (problem_outs p path) ≡ plan_by many (problem_kept p path) (problem_outs p path)
   few_planned true few = absurd cc
   few_planned false few = refl
 
-  many_planned : (many : Bool) (w : ℕ) (kept : List ℕ) → query_choices (clauses_in p) p.depth q path ≡ Some w → kept ≡ range_with_len 1 w → many ≡ true
-      → entries.kids kept ≡ plan_by many (problem_choices p path) (problem_outs p path)
-  many_planned true w kept e k h = choosing w kept e k
-  many_planned false w kept e k h = absurd cc
+  many_planned : (many : Bool) (ks : List ℕ) → query_kept (clauses_in p) p.depth q path ≡ Some ks → many ≡ true
+      → entries.kids ks ≡ plan_by many (problem_kept p path) (problem_outs p path)
+  many_planned true ks e h = ap (λ o. shared_out o (problem_outs p path)) (sym (same_kept ∙ e))
+  many_planned false ks e h = absurd cc
 
   few_outs : choices_below p path ≤ bound_at path → entries.outs (problem_outs p path) ≡ problem_plan p path
   few_outs few = few_planned (nat_lt (bound_at path) (choices_below p path)) (le-ltb (bound_at path) (choices_below p path) few)
@@ -91,7 +96,7 @@ module _ (p : Problem) (q : NominalQuery) (asked : query_in p ≡ Some q) (path 
   many_kids (nodes.Choice w kept) ks at h many =
       let same : ks ≡ kept = cc in
       let yes : nat_lt (bound_at path) (choices_below p path) ≡ true = lt-ltb (bound_at path) (choices_below p path) many in
-      ap entries.kids same ∙ many_planned (nat_lt (bound_at path) (choices_below p path)) w kept at.0 at.1 yes
+      ap entries.kids same ∙ many_planned (nat_lt (bound_at path) (choices_below p path)) kept (ap (option_map (λ (c : Choice). c.kept)) at) yes
   many_kids nodes.Answer ks at h many = absurd cc
   many_kids nodes.Cut ks at h many = absurd cc
   many_kids nodes.Stuck ks at h many = absurd cc

@@ -1,14 +1,13 @@
 -- The tree of paths of a problem.
 use Rattle.std.specs.Prelude.{◌+◌, ◌-◌, ◌*◌, ◌^◌, ℕ, zero, suc, Bool, min, nat_lt, if◌then◌else◌, List, [], length, Option, Some, None, Vec, slice_get}
 use Rattle.std.specs.Int.{trailing_zeros, w64}
-use Rattle.std.specs.List.{range_with_len}
 use Rattle.ap_defs.specs.Answers.{NominalOut, outs_at}
 use Rattle.ap_defs.specs.Goals.{Clauses, NominalQuery}
 use Rattle.ap_defs.specs.declared.paths.Node.{Node}
 use Rattle.ap_defs.specs.declared.paths.Node.TheVariants as nodes
 use Rattle.ap_paths.specs.Entries as entries
 use Rattle.ap_paths.specs.Entries.{Plan}
-use Rattle.ap_search.specs.PathTrees.{query_choices}
+use Rattle.ap_search.specs.PathTrees.{query_choices, query_kept}
 use Rattle.ap_backchain.specs.Branches.{choices_at}
 use Rattle.ap_backchain.specs.Problems.{clauses_in, queries_in}
 use Rattle.ap_backchain.specs.declared.problem.Problem.{Problem}
@@ -20,6 +19,10 @@ abbrev pub choices_of : Clauses → ℕ → Option NominalQuery → List ℕ →
 choices_of program d None path = None
 choices_of program d (Some q) path = query_choices program d q path
 
+abbrev pub kept_of : Clauses → ℕ → Option NominalQuery → List ℕ → Option (List ℕ)
+kept_of program d None path = None
+kept_of program d (Some q) path = query_kept program d q path
+
 abbrev pub outs_of_query : Clauses → ℕ → Option NominalQuery → List ℕ → List NominalOut
 outs_of_query program d None path = []
 outs_of_query program d (Some q) path = outs_at program d q path
@@ -27,6 +30,10 @@ outs_of_query program d (Some q) path = outs_at program d q path
 -- among how many the search of the problem chooses at a path, where it does
 abbrev pub problem_choices : Problem → List ℕ → Option ℕ
 problem_choices p = choices_of (clauses_in p) p.depth (query_in p)
+
+-- and which of the ways it keeps there
+abbrev pub problem_kept : Problem → List ℕ → Option (List ℕ)
+problem_kept p = kept_of (clauses_in p) p.depth (query_in p)
 
 -- the outputs of the problem below a path
 abbrev pub problem_outs : Problem → List ℕ → List NominalOut
@@ -49,10 +56,10 @@ bound_after (suc n) = let twos = min (trailing_zeros w64 (suc n)) 40 in 32 * 2 ^
 abbrev pub bound_at : List ℕ → ℕ
 bound_at path = bound_after (length path)
 
--- a choice has each of its ways as a kid
-abbrev pub shared_out : Option ℕ → List NominalOut → Plan
+-- a choice has the ways that it keeps as kids
+abbrev pub shared_out : Option (List ℕ) → List NominalOut → Plan
 shared_out None os = entries.outs os
-shared_out (Some w) os = entries.kids (range_with_len 1 w)
+shared_out (Some ks) os = entries.kids ks
 
 -- a choice is shared out that leads to more
 abbrev pub is_shared : Problem → List ℕ → Bool
@@ -61,7 +68,7 @@ is_shared p path = nat_lt (bound_at path) (choices_below p path)
 -- all else is searched whole
 abbrev pub problem_plan : Problem → List ℕ → Plan
 problem_plan p path =
-    if is_shared p path then shared_out (problem_choices p path) (problem_outs p path) else entries.outs (problem_outs p path)
+    if is_shared p path then shared_out (problem_kept p path) (problem_outs p path) else entries.outs (problem_outs p path)
 
 -- the kids of a branch, where it is at a choice
 abbrev pub kids_of : Node → Option (List ℕ)

@@ -11,16 +11,16 @@ use ap_answers::printing::{lines_among, words_in};
 use ap_backchain::problem::Problem;
 use ap_defs::limits::{Depth, Workers};
 use ap_defs::memory::Memory;
+use ap_index::index::Index;
 use ap_io::Gate;
 use ap_paths::Limit;
-use ap_program::restricted::Restricted;
 use std::alloc::Global;
 use std::collections::HashSet;
 use std::sync::Wait;
 use std::thread::Threads;
 
 /// How many queries a program has.
-fn query_count(program: &Restricted) -> u32
+fn query_count(program: &Index<'_>) -> u32
     ensures { result ≡ length (program_of program.now).queries }
 {
     program.program().queries.items().len() as u32
@@ -41,7 +41,7 @@ fn report_query<R: Threads + Wait + Sync, G: Gate>(
     ensures { IfOk result (λ v. v.items ≡ query_report (program_of problem.now.program.now) problem.now.depth limit (problem.now.query - 1)) }
 {
     let outs = solve_without_paths(rt, alloc, gate, workers, limit, problem)?;
-    lines_among(alloc, problem.program, taken, problem.query, &outs)
+    lines_among(alloc, problem.program.restricted(), taken, problem.query, &outs)
 }
 
 /// The report on each query of the program, to a depth, one after the other: the lines of its outputs up
@@ -53,12 +53,12 @@ pub(crate) fn report_program<R: Threads + Wait + Sync, G: Gate>(
     depth: Depth,
     workers: Workers,
     limit: Limit,
-    program: &Restricted,
+    program: &Index<'_>,
 ) -> Result<Vec<u8>, Memory>
     ensures { IfOk result (λ v. v.items ≡ limited_report (program_of program.now) depth limit) }
 {
     let count = query_count(program);
-    let taken = words_in(alloc, program)?;
+    let taken = words_in(alloc, program.restricted())?;
     let mut bytes = Vec::new(alloc);
     for place in 0..count {
         let problem = Problem {

@@ -10,6 +10,7 @@ use crate::{Report, Status};
 use ap_defs::limits::{Depth, Workers};
 use ap_defs::lists::List;
 use ap_defs::memory::Memory;
+use ap_index::index::Index;
 use ap_io::Gate;
 use ap_paths::Limit;
 use ap_program::restricted::Restricted;
@@ -30,7 +31,8 @@ fn report_restricted<R: Threads + Wait + Sync, G: Gate>(
 ) -> Result<Report, Memory>
     ensures { IfOk result (λ r. r ≡ run_report depth limit (program_of program.now)) }
 {
-    let bytes = report_program(rt, alloc, gate, depth, workers, limit, program)?;
+    let index = Index::of(alloc, program)?;
+    let bytes = report_program(rt, alloc, gate, depth, workers, limit, &index)?;
     Ok(Report {
         bytes: List::of(bytes),
         status: Status::Ok,

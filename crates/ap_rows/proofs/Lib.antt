@@ -3,5 +3,6 @@ mod GroundRows
 mod Programs
 mod Rows
 mod SampledPrograms
+mod UnshownConditions
 mod RefusedProofs
 mod DerivationRows

@@ -1,8 +1,8 @@
 -- The ways of a choice: what a stack has below each, and that the choice is the only one at its path.
-use Rattle.std.proofs.Common.{subst, ◌≡◌, ◌≢◌, ◌+◌, ◌<◌, ℕ, zero, suc, true, false, ◌&&◌, List, [], ◌∷◌, ◌++◌, length, get_or, refl, sym, ap, ap₂, ◌∙◌, append-nil, arith}
+use Rattle.std.proofs.Common.{◌≡◌, ◌≢◌, ◌+◌, ◌<◌, ℕ, zero, suc, true, false, ◌&&◌, List, [], ◌∷◌, ◌++◌, length, get_or, refl, sym, ap, ap₂, ◌∙◌, append-nil, arith}
 use Rattle.std.specs.Prelude.{if◌then◌else◌}
 use Rattle.ap_defs.specs.Answers.{NominalOut, out_path}
-use Rattle.ap_defs.specs.Goals.{NominalGoal, NominalClause, Clauses}
+use Rattle.ap_defs.specs.Goals.{NominalClause, Clauses}
 use Rattle.ap_defs.specs.PathOrder.{has_prefix}
 use Rattle.ap_defs.specs.Resolution.{State}
 use Rattle.ap_defs.specs.Terms.{NominalTerm}
@@ -12,7 +12,8 @@ use Rattle.ap_search.specs.Continuations.{calls_then, CallThen, clause_then, cla
 use Rattle.ap_search.specs.Marks.{NominalMark, out, choice, mark_path, outs_among, with_choices, stack_marks, widths_at}
 use Rattle.ap_search.specs.Prefixes.{AllBegin, beginning}
 use Rattle.ap_search.specs.Records.{Answering}
-use Rattle.ap_search.proofs.MarkLemmas.{Begins, CallBegins, begin_among, beginning_among, calls_begin, clause_begins, goal_begins, marked_stack_begins, marks_calls, marks_clause, marks_clauses, marks_goal, marks_stack}
+use Rattle.ap_search.proofs.MarkLemmas.{beginning_among, marks_clauses, marks_stack}
+use Rattle.ap_search.proofs.TreeLemmas.{AllGrow, CallGrows, calls_grow, clause_grows, grown_begins, stack_grows}
 use Rattle.ap_search.proofs.PrefixLemmas.{beginning-append, beginning_other, beginning_whole, prefix_longer}
 
 module _ {A : Type 0} (path : A → List ℕ) where
@@ -27,18 +28,21 @@ module _ {A : Type 0} (path : A → List ℕ) where
   beginning_second p i j os qs n h = beginning-append path (p ++ j ∷ []) os qs ∙ ap (λ l. l ++ beginning path (p ++ j ∷ []) qs) (beginning_other path p i j os n h)
 
 -- The ways of an atom, of marks.
-module _ (mcall : CallThen NominalMark) (begins : CallBegins mcall) (ts : List NominalTerm) (m : Continuation NominalMark) (h : Begins m) (p : List ℕ) (s : State) (xs : List Var) where
+module _ (mcall : CallThen NominalMark) (grows : CallGrows mcall) (ts : List NominalTerm) (m : Continuation NominalMark) (h : AllGrow m) (p : List ℕ) (s : State) (xs : List Var) where
   abbrev way : ℕ → NominalClause → List NominalMark
   way i c = clause_then (goal_then with_choices mcall) ts m i c p s xs
 
   abbrev ways : ℕ → List NominalClause → List NominalMark
   ways i cs = clauses_then (goal_then with_choices mcall) ts m i cs p s xs
 
+  way_begins : (i : ℕ) (c : NominalClause) → AllBegin mark_path (p ++ i ∷ []) (way i c)
+  way_begins i c = grown_begins (p ++ i ∷ []) s (way i c) (clause_grows mcall grows ts m h p s xs i c)
+
   -- clauses from n on have nothing below an earlier one
   pub no_earlier_way : (i n : ℕ) (cs : List NominalClause) → i < n → beginning mark_path (p ++ i ∷ []) (ways n cs) ≡ []
   no_earlier_way i n [] l = refl
   no_earlier_way i n (c ∷ cs) l =
-      beginning_second mark_path p n i (way n c) (ways (suc n) cs) (λ e. omega arith) (clause_begins mcall begins ts m h n c p s xs)
+      beginning_second mark_path p n i (way n c) (ways (suc n) cs) (λ e. omega arith) (way_begins n c)
       ∙ no_earlier_way i (suc n) cs (omega arith)
 
   -- below the i-th clause there is what it has
@@ -47,10 +51,10 @@ module _ (mcall : CallThen NominalMark) (begins : CallBegins mcall) (ts : List N
   mark_way n i d [] l = absurd (omega arith)
   mark_way n zero d (c ∷ cs) l =
       let e : n + zero ≡ n = omega arith in
-      rw e (beginning_first mark_path p n (way n c) (ways (suc n) cs) (clause_begins mcall begins ts m h n c p s xs) (no_earlier_way n (suc n) cs (omega arith)))
+      rw e (beginning_first mark_path p n (way n c) (ways (suc n) cs) (way_begins n c) (no_earlier_way n (suc n) cs (omega arith)))
   mark_way n (suc i) d (c ∷ cs) l =
       let e : n + suc i ≡ suc n + i = omega arith in
-      rw e (beginning_second mark_path p n (suc n + i) (way n c) (ways (suc n) cs) (λ f. omega arith) (clause_begins mcall begins ts m h n c p s xs) ∙ mark_way (suc n) i d cs (omega arith))
+      rw e (beginning_second mark_path p n (suc n + i) (way n c) (ways (suc n) cs) (λ f. omega arith) (way_begins n c) ∙ mark_way (suc n) i d cs (omega arith))
 
 -- The ways of an atom, of outputs.
 module _ (program : Clauses) (d : ℕ) (answering : Answering) (ws : List Waiting) (ts : List NominalTerm) (p : List ℕ) (s : State) (xs : List Var) where
@@ -65,34 +69,13 @@ module _ (program : Clauses) (d : ℕ) (answering : Answering) (ws : List Waitin
       → beginning out_path (p ++ (n + i) ∷ []) (out_ways n cs) ≡ out_way (n + i) (get_or cs i c)
   clause_at n i c cs l =
       let mcall = calls_then with_choices program d in
-      let k = stack_marks program answering ws in
-      ap (beginning out_path (p ++ (n + i) ∷ [])) (sym (marks_clauses mcall (calls_then outputs_alone program d) (marks_calls program d) ts k (stack_outs program answering ws) (marks_stack program answering ws) n cs p s xs))
-      ∙ sym (beginning_among (p ++ (n + i) ∷ []) (clauses_then (goal_then with_choices mcall) ts k n cs p s xs))
-      ∙ ap outs_among (mark_way mcall (calls_begin program d) ts k (marked_stack_begins program answering ws) p s xs n i c cs l)
-      ∙ marks_clause mcall (calls_then outputs_alone program d) (marks_calls program d) ts k (stack_outs program answering ws) (marks_stack program answering ws) (n + i) (get_or cs i c) p s xs
-
--- the outputs of a goal in front of a stack begin with the path
-pub goal_outs_begin : (program : Clauses) (d : ℕ) (answering : Answering) (ws : List Waiting) (g : NominalGoal) (p : List ℕ) (s : State) (xs : List Var)
-    → AllBegin out_path p (goal_then outputs_alone (calls_then outputs_alone program d) g (stack_outs program answering ws) p s xs)
-goal_outs_begin program d answering ws g p s xs =
-    let k = stack_marks program answering ws in
-    subst (AllBegin out_path p) (marks_goal (calls_then with_choices program d) (calls_then outputs_alone program d) (marks_calls program d) g k (stack_outs program answering ws) (marks_stack program answering ws) p s xs)
-    (begin_among p (goal_then with_choices (calls_then with_choices program d) g k p s xs) (goal_begins (calls_then with_choices program d) (calls_begin program d) g k (marked_stack_begins program answering ws) p s xs))
-
--- The ways of a disjunction.
-module _ (program : Clauses) (d : ℕ) (answering : Answering) (ws : List Waiting) (g h : NominalGoal) (p : List ℕ) (s : State) (xs : List Var) where
-  abbrev side : NominalGoal → ℕ → List NominalOut
-  side f i = goal_then outputs_alone (calls_then outputs_alone program d) f (stack_outs program answering ws) (p ++ i ∷ []) s xs
-
-  pub left_at : beginning out_path (p ++ 1 ∷ []) (side g 1 ++ side h 2) ≡ side g 1
-  left_at =
-      beginning_first out_path p 1 (side g 1) (side h 2) (goal_outs_begin program d answering ws g (p ++ 1 ∷ []) s xs)
-      (beginning_other out_path p 2 1 (side h 2) (λ e. omega arith) (goal_outs_begin program d answering ws h (p ++ 2 ∷ []) s xs))
-
-  pub right_at : beginning out_path (p ++ 2 ∷ []) (side g 1 ++ side h 2) ≡ side h 2
-  right_at =
-      beginning_second out_path p 1 2 (side g 1) (side h 2) (λ e. omega arith) (goal_outs_begin program d answering ws g (p ++ 1 ∷ []) s xs)
-      ∙ beginning_whole out_path (p ++ 2 ∷ []) (side h 2) (goal_outs_begin program d answering ws h (p ++ 2 ∷ []) s xs)
+      let m = stack_marks program answering ws in
+      let one = clause_then (goal_then with_choices mcall) ts m (n + i) (get_or cs i c) p s xs in
+      let among = marks_clauses m (stack_outs program answering ws) (marks_stack program answering ws) program d ts in
+      ap (beginning out_path (p ++ (n + i) ∷ [])) (sym (among n cs p s xs))
+      ∙ sym (beginning_among (p ++ (n + i) ∷ []) (clauses_then (goal_then with_choices mcall) ts m n cs p s xs))
+      ∙ ap outs_among (mark_way mcall (calls_grow program d) ts m (stack_grows program answering ws) p s xs n i c cs l ∙ sym (append-nil one))
+      ∙ among (n + i) (get_or cs i c ∷ []) p s xs ∙ append-nil (out_way (n + i) (get_or cs i c))
 
 -- Widths of choices at a path.
 pub widths_none : (p : List ℕ) (i : ℕ) (ms : List NominalMark) → AllBegin mark_path (p ++ i ∷ []) ms → widths_at p ms ≡ []

@@ -184,6 +184,10 @@ module _ {C R : Type 0} (w : Writing R) (told : List ℕ → C → R) where
         → goal_then w (calls_then w program d) g k p s xs ≡ follow k p xs (outcomes tell (calls_at tell program d) g s)
     search_follows program d = goal_follows (calls_then w program d) (calls_at tell program d) (calls_follow program d)
 
+    pub ways_follow : (program : Clauses) (d : ℕ) (ts : List NominalTerm) (k : Continuation R) (i : ℕ) (cs : List NominalClause) (p : List ℕ) (s : State) (xs : List Var)
+        → clauses_then (goal_then w (calls_then w program d)) ts k i cs p s xs ≡ follow k p xs (by_clauses (outcomes tell (calls_at tell program d)) ts s i cs)
+    ways_follow program d = clauses_follow (calls_then w program d) (calls_at tell program d) (calls_follow program d)
+
 -- Nothing is told of choices.
 abbrev pub no_mark : List ℕ → ⊥ → NominalOut
 no_mark p c = absurd c

@@ -112,3 +112,7 @@ among_calls tell program (suc d) c ts s =
 
 pub outputs_among : (program : Clauses) (d : ℕ) (g : NominalGoal) (s : State) → unmarked (marked_solve program d g s) ≡ solve program d g s
 outputs_among program d g s = among_goal choices_told (calls_at choices_told program d) (calls program d) (among_calls choices_told program d) g s
+
+pub ways_among : (program : Clauses) (d : ℕ) (ts : List NominalTerm) (s : State) (i : ℕ) (cs : List NominalClause)
+    → unmarked (by_clauses (outcomes choices_told (calls_at choices_told program d)) ts s i cs) ≡ by_clauses (outputs (calls program d)) ts s i cs
+ways_among program d = among_clauses choices_told (calls_at choices_told program d) (calls program d) (among_calls choices_told program d)

@@ -5,9 +5,9 @@ use Rattle.ap_defs.specs.Answers.{out_path, outs_at, query_outs}
 use Rattle.ap_defs.specs.Goals.{Clauses, NominalQuery}
 use Rattle.ap_defs.specs.Paths.{Choice, HasChoice, marked_query}
 use Rattle.ap_defs.specs.Resolution.{first_state}
-use Rattle.ap_paths.specs.Trees.{Outputs, joined}
+use Rattle.ap_paths.specs.Trees.{AreKids, Outputs, joined, times}
 use Rattle.ap_search.specs.Marks.{NominalMark, choice, mark_in, mark_path, outs_among, widths_at}
-use Rattle.ap_search.specs.PathTrees.{AreInPathOrder, choice_at, first_of, flat, query_choice, query_choices}
+use Rattle.ap_search.specs.PathTrees.{AreInPathOrder, choice_at, first_of, flat, query_choice, query_choices, query_kept}
 use Rattle.ap_search.specs.Prefixes.{beginning}
 use Rattle.ap_search.specs.Records.{answer_with}
 use Rattle.ap_search.specs.StatementsOnTrees.{marks_at}
@@ -18,7 +18,7 @@ use Rattle.ap_search.proofs.PrefixLemmas.{prefix_itself}
 use Rattle.ap_theory.proofs.BooleanLemmas.{and_both}
 use Rattle.ap_defs.specs.PathOrder.{has_prefix}
 use Rattle.ap_search.proofs.OrderLemmas.{flat_in_order, one_mark}
-use Rattle.ap_search.proofs.SubtreeLemmas.{choice_tells, join_tree, widths_below}
+use Rattle.ap_search.proofs.SubtreeLemmas.{choice_tells, join_tree, kept_in_order, left_out_below, widths_below}
 use Rattle.ap_search.proofs.TreeLemmas.{Grows, stack_grows}
 
 joined_same : (at to : Outputs) → ((p : List ℕ) → at p ≡ to p) → (p : List ℕ) (i n : ℕ) → joined at p i n ≡ joined to p i n
@@ -29,10 +29,10 @@ module _ (program : Clauses) (d : ℕ) (q : NominalQuery) where
   abbrev query_marks : List NominalMark
   query_marks = map (mark_in q.locals) (marked_query program d q)
 
-  pub query_grows : Grows [] query_marks
+  pub query_grows : Grows [] (first_state q) query_marks
   query_grows =
       let grown = stack_grows program (answer_with q.locals) (record { goal = q.goal; depth = d } ∷ []) [] (first_state q) [] in
-      (grown.0, sym (marked_stack_is_query program d q) ∙ grown.1)
+      (grown.0, sym (marked_stack_is_query program d q) ∙ grown.1, grown.2)
 
   -- the outputs are those among the marks
   pub outs_among_marks : query_outs program d q ≡ outs_among query_marks
@@ -50,6 +50,24 @@ module _ (program : Clauses) (d : ℕ) (q : NominalQuery) where
       let e : query_marks ≡ flat [] t = query_grows.1 in
       let same : (r : List ℕ) → outs_at program d q r ≡ outs_among (beginning mark_path r (flat [] t)) = λ r. outs_at_marks r ∙ ap (λ ms. outs_among (beginning mark_path r ms)) e in
       same p ∙ join_tree t p w (ap (λ (ms : List NominalMark). option_map (λ (c : Choice). c.width) (choice_at p ms)) (sym e) ∙ h) ∙ joined_same _ _ (λ r. sym (same r)) p 1 w
+
+  -- of a choice the ways that are kept ascend, and the others have nothing
+  pub query_left_out : (p ks : List ℕ) → query_kept program d q p ≡ Some ks → (k : ℕ) → times k ks ≡ 0 → beginning mark_path (p ++ k ∷ []) query_marks ≡ []
+  query_left_out p ks h k left =
+      let e : query_marks ≡ flat [] query_grows.0 = query_grows.1 in
+      ap (beginning mark_path (p ++ k ∷ [])) e
+      ∙ left_out_below query_grows.0 (query_grows.2 (tt, tt)) p ks (ap (λ (ms : List NominalMark). option_map (λ (c : Choice). c.kept) (choice_at p ms)) (sym e) ∙ h) k left
+
+  pub query_kids : (p ks : List ℕ) → query_kept program d q p ≡ Some ks → AreKids (query_choices program d q) (outs_at program d q) p ks
+  query_kids p ks h =
+      let e : query_marks ≡ flat [] query_grows.0 = query_grows.1 in
+      let kept = kept_in_order query_grows.0 (query_grows.2 (tt, tt)) p ks (ap (λ (ms : List NominalMark). option_map (λ (c : Choice). c.kept) (choice_at p ms)) (sym e) ∙ h) in (
+        kept.0,
+        ap (λ (ms : List NominalMark). option_map (λ (c : Choice). c.width) (choice_at p ms)) e ∙ kept.1,
+        kept.2,
+        kept.3,
+        λ k low high left. outs_at_marks (p ++ k ∷ []) ∙ ap outs_among (query_left_out p ks h k left),
+      )
 
   pub query_tells : (p : List ℕ) (c : Choice) → HasChoice (marked_query program d q) p c ↔ (query_choice program d q p ≡ Some c)
   query_tells p c = choice_tells q.locals query_grows.0 (marked_query program d q) query_grows.1 p c

@@ -6,11 +6,11 @@ use Rattle.ap_defs.specs.PathOrder.{has_prefix}
 use Rattle.ap_defs.specs.Paths.{Choice, HasChoice, Mark, here, later}
 use Rattle.ap_defs.specs.Resolution as search
 use Rattle.ap_defs.specs.Types.{NominalLocal}
-use Rattle.ap_paths.specs.Trees.{Outputs, joined}
+use Rattle.ap_paths.specs.Trees.{Ascends, AreAtMost, Outputs, joined, times}
 use Rattle.ap_theory.proofs.BooleanLemmas.{and_both, and_left, and_right}
 use Rattle.ap_theory.proofs.TermLemmas.{number_same, same_number}
 use Rattle.ap_search.specs.Marks.{NominalMark, out, choice, mark_in, mark_path, outs_among, widths_at}
-use Rattle.ap_search.specs.PathTrees.{Forest, PathTree, at_path, first_of, flat, flat_from, grow, leaf, node, none, nothing, width, choice_at}
+use Rattle.ap_search.specs.PathTrees.{Forest, HasKept, IsPruned, PathTree, at_path, first_of, flat, flat_from, grow, leaf, node, none, nothing, width, choice_at}
 use Rattle.ap_search.specs.Prefixes.{AllBegin, beginning}
 use Rattle.ap_search.proofs.ChoiceLemmas.{beginning_first, beginning_second, widths-append, widths_none}
 use Rattle.ap_search.proofs.MarkLemmas.{outs_among-append}
@@ -47,6 +47,12 @@ earlier_way p i k q (grow t f) l =
 
 here_flat : (p : List ℕ) (t : PathTree) → beginning mark_path (p ++ []) (flat p t) ≡ flat (p ++ []) t
 here_flat p t = ap (λ r. beginning mark_path r (flat p t)) (append-nil p) ∙ beginning_whole mark_path p (flat p t) (flat_begins p t) ∙ ap (λ r. flat r t) (sym (append-nil p))
+
+-- the subtree at the root is the tree
+root_sub : (t u : PathTree) → sub t [] ≡ Some u → t ≡ u
+root_sub nothing u e = cc
+root_sub (leaf l) u e = cc
+root_sub (node ks f) u e = cc
 
 -- what is below a path is the subtree there
 mutual
@@ -142,6 +148,57 @@ join_tree t p w h =
     (λ k l. ap outs_among (sym (beginning_deeper mark_path p (k ∷ []) (flat [] t)) ∙ ap (beginning mark_path (p ++ k ∷ [])) below
     ∙ ap (λ b. if b then (choice p (of_node ks f) ∷ beginning mark_path (p ++ k ∷ []) (flat_from p 1 f)) else beginning mark_path (p ++ k ∷ []) (flat_from p 1 f)) (prefix_too_long p k [])))
     ∙ ap (joined (λ r. outs_among (beginning mark_path r (flat [] t))) p 1) found.3
+
+-- What is left out.
+mutual
+  pruned_sub : (t : PathTree) (p : List ℕ) (u : PathTree) → IsPruned t → sub t p ≡ Some u → IsPruned u
+  pruned_sub t [] u h e = subst IsPruned (root_sub t u e) h
+  pruned_sub nothing (k ∷ p) u h e = absurd cc
+  pruned_sub (leaf l) (k ∷ p) u h e = absurd cc
+  pruned_sub (node ks f) (k ∷ p) u h e = pruned_sub_from ks 1 f k p u h.2 e
+
+  pruned_sub_from : (ks : List ℕ) (i : ℕ) (f : Forest) (k : ℕ) (p : List ℕ) (u : PathTree) → HasKept ks i f → sub_from i f k p ≡ Some u → IsPruned u
+  pruned_sub_from ks i none k p u h e = absurd cc
+  pruned_sub_from ks i (grow t f) k p u h e =
+      elim (k == i) as (λ b. (if b then sub t p else sub_from (suc i) f k p) ≡ Some u → IsPruned u) [
+        | true ↦ pruned_sub t p u h.1
+        | false ↦ pruned_sub_from ks (suc i) f k p u h.2
+      ] e
+
+-- below a way that is left out there is nothing
+nothing_below : (p ks : List ℕ) (i : ℕ) (f : Forest) (k : ℕ) → HasKept ks i f → times k ks ≡ 0 → flat_some p (sub_from i f k []) ≡ []
+nothing_below p ks i none k h e = refl
+nothing_below p ks i (grow t f) k h e =
+    elim (k == i) as (λ b. (k == i) ≡ b → flat_some p (if b then sub t [] else sub_from (suc i) f k []) ≡ []) [
+      | true ↦ λ same. ap (λ u. flat_some p (sub u [])) (h.0 (ap (λ j. times j ks) (sym (number_same k i same)) ∙ e))
+      | false ↦ λ other. nothing_below p ks (suc i) f k h.2 e
+    ] refl
+
+module _ (t : PathTree) (pruned : IsPruned t) (p ks : List ℕ) (e : option_map (λ (c : Choice). c.kept) (choice_at p (flat [] t)) ≡ Some ks) where
+  -- the node at a choice
+  kept_node : (f : Forest) × (sub t p ≡ Some (node ks f)) × IsPruned (node ks f)
+  kept_node = of (sub t p) refl (ap (λ (cs : List Choice). option_map (λ (c : Choice). c.kept) (first_of cs)) (sym (widths_sub t p)) ∙ e)
+    where
+      of : (o : Option PathTree) → sub t p ≡ o → option_map (λ (c : Choice). c.kept) (first_of (widths_of o)) ≡ Some ks → (f : Forest) × (sub t p ≡ Some (node ks f)) × IsPruned (node ks f)
+      of None there h = absurd cc
+      of (Some nothing) there h = absurd cc
+      of (Some (leaf l)) there h = absurd cc
+      of (Some (node js f)) there h =
+          let same : js ≡ ks = cc in
+          let it = there ∙ ap (λ (l : List ℕ). Some (node l f)) same in
+          (f, it, pruned_sub t p (node ks f) pruned it)
+
+  pub left_out_below : (k : ℕ) → times k ks ≡ 0 → beginning mark_path (p ++ k ∷ []) (flat [] t) ≡ []
+  left_out_below k left =
+      let it = kept_node in
+      sym (beginning_deeper mark_path p (k ∷ []) (flat [] t))
+      ∙ ap (beginning mark_path (p ++ k ∷ [])) (flat_sub [] t p ∙ ap (flat_some p) it.1)
+      ∙ flat_sub p (node ks it.0) (k ∷ []) ∙ nothing_below (p ++ k ∷ []) ks 1 it.0 k it.2.2 left
+
+  pub kept_in_order : (w : ℕ) × (option_map (λ (c : Choice). c.width) (choice_at p (flat [] t)) ≡ Some w) × Ascends 1 ks × AreAtMost w ks
+  kept_in_order =
+      let it = kept_node in
+      (width it.0, ap (λ (cs : List Choice). option_map (λ (c : Choice). c.width) (first_of cs)) (widths_sub t p ∙ ap widths_of it.1), it.2.0, it.2.1)
 
 -- Choices among marks.
 abbrev IsAmong : Choice → List Choice → Type 0

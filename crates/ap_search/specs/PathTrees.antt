@@ -4,6 +4,7 @@ use Rattle.ap_defs.specs.Answers as answers
 use Rattle.ap_defs.specs.Answers.{NominalAnswer, NominalOut, out_path}
 use Rattle.ap_defs.specs.Goals.{Clauses, NominalQuery}
 use Rattle.ap_defs.specs.Paths.{Choice, marked_query}
+use Rattle.ap_paths.specs.Trees.{Ascends, AreAtMost, times}
 use Rattle.ap_search.specs.Marks.{NominalMark, out, choice, mark_in, widths_at}
 
 -- an output without its path
@@ -44,6 +45,18 @@ abbrev mutual
   flat_from p i none = []
   flat_from p i (grow t f) = flat (p ++ i ∷ []) t ++ flat_from p (suc i) f
 
+-- Each choice keeps some of its ways, in order, and has nothing below the others.
+abbrev mutual
+  pub IsPruned : PathTree → Type 0
+  IsPruned nothing = Unit {0}
+  IsPruned (leaf l) = Unit {0}
+  IsPruned (node ks f) = Ascends 1 ks × AreAtMost (width f) ks × HasKept ks 1 f
+
+  -- ways that are numbered from i on
+  pub HasKept : List ℕ → ℕ → Forest → Type 0
+  HasKept ks i none = Unit {0}
+  HasKept ks i (grow t f) = (times i ks ≡ 0 → t ≡ nothing) × IsPruned t × HasKept ks (suc i) f
+
 -- the first of some
 abbrev pub first_of : {A : Type 0} → List A → Option A
 first_of [] = None
@@ -60,6 +73,10 @@ query_choice program d q p = choice_at p (map (mark_in q.locals) (marked_query p
 -- among how many it chooses
 abbrev pub query_choices : Clauses → ℕ → NominalQuery → List ℕ → Option ℕ
 query_choices program d q p = option_map (λ c. c.width) (query_choice program d q p)
+
+-- which of its ways are kept
+abbrev pub query_kept : Clauses → ℕ → NominalQuery → List ℕ → Option (List ℕ)
+query_kept program d q p = option_map (λ c. c.kept) (query_choice program d q p)
 
 -- the first path comes before the second, and neither begins with the other
 abbrev pub is_before : List ℕ → List ℕ → Bool

@@ -1,18 +1,28 @@
 -- What is proved of the tree of paths of a query.
-use Rattle.std.specs.Prelude.{◌≡◌, ℕ, ◌≤◌, ◌&&◌, List, Some, length, filter, map, ◌↔◌}
+use Rattle.std.specs.Prelude.{◌≡◌, ℕ, ◌≤◌, ◌&&◌, List, [], ◌∷◌, ◌++◌, Some, length, filter, map, ◌↔◌}
 use Rattle.ap_defs.specs.Answers.{outs_at, query_outs}
 use Rattle.ap_defs.specs.Goals.{Clauses, NominalQuery}
 use Rattle.ap_defs.specs.PathOrder.{has_prefix}
 use Rattle.ap_defs.specs.Paths.{Choice, HasChoice, InTree, marked_query}
 use Rattle.ap_paths.specs.Trees as trees
-use Rattle.ap_paths.specs.Trees.{joined}
+use Rattle.ap_paths.specs.Trees.{AreKids, joined, times}
 use Rattle.ap_search.specs.Marks.{NominalMark, mark_in, mark_path}
-use Rattle.ap_search.specs.PathTrees.{AreInPathOrder, query_choice, query_choices}
+use Rattle.ap_search.specs.PathTrees.{AreInPathOrder, query_choice, query_choices, query_kept}
+use Rattle.ap_search.specs.Prefixes.{beginning}
 
 -- what is below a choice is what is below each of its ways, in order
 abbrev pub ChoicesAreATree : Type 0
 ChoicesAreATree = (program : Clauses) (d : ℕ) (q : NominalQuery) (p : List ℕ) (w : ℕ) → query_choices program d q p ≡ Some w
     → outs_at program d q p ≡ joined (outs_at program d q) p 1 w
+
+-- of a choice the ways that are kept ascend, and below the others there is no mark, and so no output
+abbrev pub LeftOutHasNothing : Type 0
+LeftOutHasNothing = (program : Clauses) (d : ℕ) (q : NominalQuery) (p ks : List ℕ) → query_kept program d q p ≡ Some ks → (k : ℕ) → times k ks ≡ 0
+    → beginning mark_path (p ++ k ∷ []) (map (mark_in q.locals) (marked_query program d q)) ≡ []
+
+abbrev pub KeptAreKids : Type 0
+KeptAreKids = (program : Clauses) (d : ℕ) (q : NominalQuery) (p ks : List ℕ) → query_kept program d q p ≡ Some ks
+    → AreKids (query_choices program d q) (outs_at program d q) p ks
 
 -- the choices are those among the marks
 abbrev pub MarksHaveChoices : Type 0

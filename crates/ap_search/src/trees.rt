@@ -1,6 +1,6 @@
 //! The tree of paths of a query.
 
-ghost use Rattle.ap_search.specs.StatementsOnTrees.{ChoicesAreATree, MarksHaveChoices, OneMarkAtAPath, OutputsAreInPathOrder, TreeOfChoices};
+ghost use Rattle.ap_search.specs.StatementsOnTrees.{ChoicesAreATree, KeptAreKids, LeftOutHasNothing, MarksHaveChoices, OneMarkAtAPath, OutputsAreInPathOrder, TreeOfChoices};
 
 /// What is below a choice is what is below each of its ways, in order.
 pub fn choices_are_a_tree()
@@ -13,4 +13,11 @@ pub fn choices_are_a_tree()
 pub fn outputs_are_in_path_order()
     ensures order { OutputsAreInPathOrder }
     ensures one { OneMarkAtAPath }
+{}
+
+/// Of a choice those ways are kept whose head key agrees. They ascend, and below the others there is
+/// nothing.
+pub fn left_out_has_nothing()
+    ensures nothing { LeftOutHasNothing }
+    ensures kids { KeptAreKids }
 {}

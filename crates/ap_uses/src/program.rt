@@ -11,21 +11,21 @@ use ap_backchain::problem::Problem;
 use ap_count::tables::{sum_of_tables, unused_table};
 use ap_defs::limits::{Depth, Workers};
 use ap_defs::memory::Memory;
+use ap_index::index::Index;
 use ap_io::Gate;
-use ap_program::restricted::Restricted;
 use std::alloc::Global;
 use std::sync::Wait;
 use std::thread::Threads;
 
 /// How many queries a program has.
-fn query_count(program: &Restricted) -> u32
+fn query_count(program: &Index<'_>) -> u32
     ensures { result ≡ length (program_of program.now).queries }
 {
     program.program().queries.items().len() as u32
 }
 
 /// The table of a program of which nothing is used.
-fn unused(alloc: Global, program: &Restricted) -> Result<Vec<Vec<u64>>, Memory>
+fn unused(alloc: Global, program: &Index<'_>) -> Result<Vec<Vec<u64>>, Memory>
     ensures { IfOk result (λ t. table_of t ≡ use_table (program_of program.now).clauses []) }
 {
     unused_table(alloc, program.program().clauses.items())
@@ -39,7 +39,7 @@ pub(crate) fn uses_of_program<R: Threads + Wait + Sync, G: Gate>(
     gate: &G,
     depth: Depth,
     workers: Workers,
-    program: &Restricted,
+    program: &Index<'_>,
 ) -> Result<Vec<Vec<u64>>, Memory>
     ensures { IfOk result (λ t. table_of t ≡ use_table (program_of program.now).clauses
         (spec.uses_of_queries (program_of program.now).clauses depth

@@ -11,7 +11,7 @@ ghost use Rattle.ap_uses.specs.Counts as spec;
 ghost use Rattle.ap_uses.specs.Paths.{LeadsToAnswer, answer_path, answer_paths, derivation_at};
 
 use crate::answers::Answers;
-use ap_backchain::problem::{Problem, clauses_of_problem, query_of_problem};
+use ap_backchain::problem::{Problem, query_of_problem};
 use ap_count::uses::{Question, uses};
 use ap_defs::limits::Workers;
 use ap_defs::memory::Memory;
@@ -65,7 +65,7 @@ fn uses_at<R: Threads + Sync>(
 {
     let query = query_of_problem(p);
     let question = Question {
-        program: clauses_of_problem(p),
+        program: p.program.program().clauses.items(),
         goal: &query.goal,
     };
     let answers = Answers { problem: *p };

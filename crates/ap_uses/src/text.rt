@@ -14,6 +14,7 @@ use crate::program::uses_of_program;
 use ap_defs::limits::{Depth, Workers};
 use ap_defs::lists::List;
 use ap_defs::memory::Memory;
+use ap_index::index::Index;
 use ap_io::Gate;
 use ap_program::restricted::Restricted;
 use ap_report::{Report, Status, fault_report};
@@ -34,7 +35,8 @@ fn clause_counts<R: Threads + Wait + Sync, G: Gate>(
 ) -> Result<Vec<ClauseCount>, Memory>
     ensures { IfOk result (λ v. v.items ≡ spec.clause_counts depth (program_of program.now)) }
 {
-    let table = uses_of_program(rt, alloc, gate, depth, workers, program)?;
+    let index = Index::of(alloc, program)?;
+    let table = uses_of_program(rt, alloc, gate, depth, workers, &index)?;
     let counts = counts_of(alloc, program.program().clauses.items(), &table)?;
     in_order_of_items(alloc, &counts)
 }

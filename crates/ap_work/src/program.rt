@@ -10,8 +10,8 @@ use ap_answers::printing::words_in;
 use ap_backchain::problem::Problem;
 use ap_defs::limits::Workers;
 use ap_defs::memory::Memory;
+use ap_index::index::Index;
 use ap_io::Gate;
-use ap_program::restricted::Restricted;
 use std::alloc::Global;
 use std::sync::Wait;
 use std::thread::Threads;
@@ -20,7 +20,7 @@ use std::thread::Threads;
 const DEPTH: u32 = 4;
 
 /// How many queries a program has.
-pub(crate) fn query_count(program: &Restricted) -> u32
+pub(crate) fn query_count(program: &Index<'_>) -> u32
     ensures { result ≡ length (program_of program.now).queries }
 {
     program.program().queries.items().len() as u32
@@ -32,12 +32,12 @@ pub(crate) fn program_totals<R: Threads + Wait + Sync, G: Gate>(
     alloc: Global,
     gate: &G,
     workers: Workers,
-    program: &Restricted,
+    program: &Index<'_>,
 ) -> Result<Totals, Memory>
     ensures { IfOk result (λ t. t ≡ totals_of (program_of program.now) work_depth) }
 {
     let count = query_count(program);
-    let taken = words_in(alloc, program)?;
+    let taken = words_in(alloc, program.restricted())?;
     let mut totals = Totals::none();
     for place in 0..count {
         let problem = Problem {

@@ -37,6 +37,6 @@ pub(crate) fn query_totals<R: Threads + Wait + Sync, G: Gate>(
     ensures few { IfOk result (λ t. AreAtMost (2 ^ 64) t) }
 {
     let outs = solve(rt, alloc, gate, workers, Limit::All, problem)?;
-    let report = lines_among(alloc, problem.program, taken, problem.query, &outs)?;
+    let report = lines_among(alloc, problem.program.restricted(), taken, problem.query, &outs)?;
     Ok(Totals::of_query(&outs, report.len()))
 }

@@ -13,6 +13,7 @@ use ap_defs::limits::Workers;
 use ap_defs::lists::List;
 use ap_defs::memory::Memory;
 use ap_gen::{Size, program_of};
+use ap_index::index::Index;
 use ap_io::Gate;
 use ap_program::restricted::Restricted;
 use ap_report::{Report, Status, fault_report};
@@ -47,8 +48,9 @@ fn report_program<R: Threads + Wait + Sync, G: Gate>(
 ) -> Result<Report, Memory>
     ensures { IfOk result (λ r. r ≡ summary_report work_depth (nominal_program_of program.now)) }
 {
-    let totals = program_totals(rt, alloc, gate, workers, program)?;
-    let bytes = summary_line(alloc, query_count(program), totals)?;
+    let index = Index::of(alloc, program)?;
+    let totals = program_totals(rt, alloc, gate, workers, &index)?;
+    let bytes = summary_line(alloc, query_count(&index), totals)?;
     Ok(Report {
         bytes,
         status: Status::Ok,

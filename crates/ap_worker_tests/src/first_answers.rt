@@ -8,6 +8,7 @@ use ap_core::{Core, Event, play};
 use ap_defs::limits::SIZE_LIMIT;
 use ap_defs::lists::List;
 use ap_defs::memory::Memory;
+use ap_index::index::Index;
 use ap_program::restricted::Restricted;
 use ap_replay::problem_tree::ProblemTree;
 use ap_text::program_of_text;
@@ -25,7 +26,7 @@ pub fn program_of(alloc: Global, text: &str) -> Result<Restricted, Memory> {
 }
 
 /// The query of a program that has one, to a depth.
-pub fn only_query<'a>(program: &'a Restricted, depth: u32) -> Option<Problem<'a>>
+pub fn only_query<'a>(program: &'a Index<'a>, depth: u32) -> Option<Problem<'a>>
     ensures { IfSome result (λ p. HasQuery p) }
 {
     if program.program().queries.items().len() == 1 {
@@ -42,7 +43,8 @@ pub fn only_query<'a>(program: &'a Restricted, depth: u32) -> Option<Problem<'a>
 /// The core after these events.
 fn played(alloc: Global, events: &[Event]) -> Result<Option<Core>, Memory> {
     let program = program_of(alloc, TEXT)?;
-    match only_query(&program, 5) {
+    let index = Index::of(alloc, &program)?;
+    match only_query(&index, 5) {
         Some(problem) => play(alloc, &ProblemTree::of(problem), 2, events),
         None => Err(Memory),
     }

@@ -6,6 +6,7 @@ use crate::first_answers::{only_query, program_of};
 use ap_backchain::problem::Problem;
 use ap_defs::memory::Memory;
 use ap_defs::paths::{Path, Visit};
+use ap_index::index::Index;
 use ap_paths::Tree;
 use ap_replay::problem_tree::ProblemTree;
 use ap_replay::replay::at;
@@ -28,7 +29,8 @@ fn visit_at(alloc: Global, problem: &Problem<'_>, path: &Path) -> Result<Visit, 
 fn visit_after(alloc: Global, choices: &[u32], depth: u32) -> Result<Visit, Memory> {
     let program = program_of(alloc, TEXT)?;
     let path = Path::of(choices.to_vec(alloc)?);
-    match only_query(&program, depth) {
+    let index = Index::of(alloc, &program)?;
+    match only_query(&index, depth) {
         Some(problem) => visit_at(alloc, &problem, &path),
         None => Err(Memory),
     }

@@ -1,6 +1,6 @@
 use Rattle.std.proofs.Common.{◌≡◌, ◌-◌, List, ◌++◌, map, ap, ap₂, ◌∙◌, subst}
 use Rattle.std.specs.Prelude.{IfOk}
-use Rattle.ap_defs.specs.Goals.{clause_of, either, goal_of}
+use Rattle.ap_defs.specs.Goals.{NominalClause, clause_of, either, goal_of}
 use Rattle.ap_defs.specs.Renaming.{rename_goal, rename_term}
 use Rattle.ap_defs.specs.Terms.{term_of}
 use Rattle.ap_backchain.specs.Places.{position_of}
@@ -17,7 +17,7 @@ overflow_sub-untried c =
 pub try_clauses-requires-clause-rest : goal.try_clauses-requires-clause-rest
 try_clauses-requires-clause-rest c =
     let fit = rw c.in-Atom.is at c.requires.goal in
-    (rw c.items.ensures fit, c.clauses_at.ensures.below, c.clauses_at.ensures.few)
+    (rw c.items.ensures fit, c.in-Some.ensures.below, c.in-Some.ensures.few)
 
 pub take_left-requires-clause-left : goal.take_left-requires-clause-left
 take_left-requires-clause-left c =
@@ -29,15 +29,25 @@ take_left-requires-clause-right c =
     let fit = rw c.in-Either.is at c.requires.goal in
     rw c.deref-in-Either.ensures fit.1
 
-pub returns-in-Atom-clause-left : goal.returns-in-Atom-clause-left
-returns-in-Atom-clause-left c =
+pub returns-in-None-clause-left : goal.returns-in-None-clause-left
+returns-in-None-clause-left c =
+    let program = map (map clause_of) c.args.clauses.now in let d = c.args.frame.depth in let p = position_of c.args.place.now in
+    let ps = pending_of c.args.place.now c.args.points.now in
+    let ts = map (rename_term c.args.frame.base) (map term_of c.in-Atom.args) in
+    let choosing = rw c.in-Atom.is at c.requires.choosing in
+    rw c.in-Atom.is
+    (ap (λ (cs : List NominalClause). by_clauses (d - 1) ts p 1 cs ++ ps) c.in-None.ensures.clauses
+    ∙ ap (λ t. followed t ps) (atom_goes program d c.in-Atom.pred ts p choosing.0 choosing.1))
+
+pub returns-in-Some-clause-left : goal.returns-in-Some-clause-left
+returns-in-Some-clause-left c =
     let program = map (map clause_of) c.args.clauses.now in let d = c.args.frame.depth in let p = position_of c.args.place.now in
     let ps = pending_of c.args.place.now c.args.points.now in
     let ts = map (rename_term c.args.frame.base) (map term_of c.in-Atom.args) in
     let choosing = rw c.in-Atom.is at c.requires.choosing in
     let e =
-    ap (λ us. by_clauses (d - 1) (map (rename_term c.args.frame.base) (map term_of us)) p 1 (map clause_of c.clauses_at.result.now) ++ ps) c.items.ensures
-    ∙ ap (λ cs. by_clauses (d - 1) ts p 1 cs ++ ps) c.clauses_at.ensures.clauses
+    ap (λ us. by_clauses (d - 1) (map (rename_term c.args.frame.base) (map term_of us)) p 1 (map clause_of c.in-Some.candidates.now) ++ ps) c.items.ensures
+    ∙ ap (λ (cs : List NominalClause). by_clauses (d - 1) ts p 1 cs ++ ps) c.in-Some.ensures.clauses
     ∙ ap (λ t. followed t ps) (atom_goes program d c.in-Atom.pred ts p choosing.0 choosing.1) in
     rw c.in-Atom.is (subst (λ (qs : List Position). IfOk c.try_clauses.result (λ b. positions_with b c.try_clauses.new.place c.try_clauses.new.points ≡ qs)) e c.try_clauses.ensures.left)
 

@@ -1,7 +1,9 @@
-use Rattle.std.proofs.Common.{◌≡◌, ℕ, ◌+◌, ◌<◌, ◌≤◌, Bool, List, [], ◌∷◌, ◌++◌, length, map, ap, ◌∙◌, refl, sym, subst, arith}
+use Rattle.std.proofs.Common.{◌≡◌, ℕ, ◌+◌, ◌<◌, ◌≤◌, Bool, List, [], ◌∷◌, ◌++◌, length, get_or, map, ap, ◌∙◌, refl, sym, subst, arith}
 use Rattle.ap_defs.specs.Goals.{clause_of}
 use Rattle.ap_defs.specs.Renaming.{AreBelow, rename_term}
 use Rattle.ap_defs.specs.Terms.{term_of}
+use Rattle.ap_defs.specs.declared.goals.Clause.{Clause}
+use Rattle.ap_defs.specs.declared.terms.Term.{Term}
 use Rattle.ap_backchain.specs.Places.{position_if, position_of, track_of}
 use Rattle.ap_backchain.specs.Points.{positions_left}
 use Rattle.ap_backchain.specs.Positions.{Position, by_clause}
@@ -22,7 +24,9 @@ enter_clause-requires-clause-args c =
 
 pub enter_clause-requires-clause-clause : goal.enter_clause-requires-clause-clause
 enter_clause-requires-clause-clause c =
-    fit_here c.args.untried.clauses.now c.trying.i c.index-clauses-i.result (omega arith) c.index-clauses-i.is c.requires.rest.1
+    let n : length c.clauses-clauses.result.now ≡ length c.args.untried.clauses.now = ap (λ (cs : List (Clause Term)). length cs) c.clauses-clauses.ensures in
+    fit_here c.args.untried.clauses.now c.trying.i c.index-clauses-i.result (omega (arith, n))
+    (c.index-clauses-i.is ∙ ap (λ (cs : List (Clause Term)). get_or cs c.trying.i c.index-clauses-i.result) c.clauses-clauses.ensures) c.requires.rest.1
 
 -- what entering a clause gave, where it is known whether that has a solution
 entered : (b d : Bool) (p : Position) (ps : List Position) → position_if b p ≡ ps → b ≡ d → position_if d p ≡ ps
@@ -33,13 +37,15 @@ trying-init c = record {
   track = refl;
   position = refl;
   points = refl;
-  left = left_skipped c.args.place.now c.args.untried c.key_of_atom-key.result c.key_of_atom-key.ensures c.args.untried.tried c.next_clause-i.result c.next_clause-i.ensures;
+  left = left_skipped c.args.place.now c.args.untried c.key_of_atom-key.result c.key_of_atom-key.ensures c.args.untried.tried c.next-i.result c.next-i.ensures;
 }
 
 pub trying-preserved : goal.trying-preserved
 trying-preserved c =
     let u = c.args.untried in let i = c.trying.i in let p = position_of c.args.place.now in
-    let h : i < length u.clauses.now = omega arith in
+    let n : length c.clauses-clauses.result.now ≡ length u.clauses.now = ap (λ (cs : List (Clause Term)). length cs) c.clauses-clauses.ensures in
+    let h : i < length u.clauses.now = omega (arith, n) in
+    let is = c.index-clauses-i.is ∙ ap (λ (cs : List (Clause Term)). get_or cs i c.index-clauses-i.result) c.clauses-clauses.ensures in
     let before = c.trying.invariant in
     let same = c.in_ok-enter_clause.ensures.none c.if-branch.false in
     let none = entered c.in_ok-enter_clause.field-0 _ (position_of c.enter_clause.new.place) _ c.in_ok-enter_clause.ensures.entered c.if-branch.false
@@ -49,9 +55,9 @@ trying-preserved c =
       position = same.1 ∙ before.position;
       points = before.points;
       left =
-          before.left ∙ clause_left u i c.index-clauses-i.result p h c.index-clauses-i.is
+          before.left ∙ clause_left u i c.index-clauses-i.result p h is
           ∙ ap (λ (ps : List Position). ps ++ positions_left (rests.Clauses (record u { tried = i + 1 })) p) (sym none)
-          ∙ left_skipped c.args.place.now u c.key_of_atom-key.result c.key_of_atom-key.ensures (i + 1) c.next_clause-next.result c.next_clause-next.ensures;
+          ∙ left_skipped c.args.place.now u c.key_of_atom-key.result c.key_of_atom-key.ensures (i + 1) c.next-next.result c.next-next.ensures;
     }
 
 -- the search has gone on from where it stood before the clauses were tried
@@ -60,15 +66,17 @@ goes c = subst (λ (t : Track). GoesFrom t (track_of c.enter_clause.new.place)) 
 
 pub returns-then-branch-clause-left : goal.returns-then-branch-clause-left
 returns-then-branch-clause-left c =
-    let u = c.args.untried in let i = c.trying.i in let n = c.next_clause-next.result in let b = c.args.place.now in let d = c.enter_clause.new.place in
+    let u = c.args.untried in let i = c.trying.i in let n = c.next-next.result in let b = c.args.place.now in let d = c.enter_clause.new.place in
     let us = c.args.points.now in let vs = c.keep_rest.new.points in
-    let h : i < length u.clauses.now = omega arith in
+    let m : length c.clauses-clauses.result.now ≡ length u.clauses.now = ap (λ (cs : List (Clause Term)). length cs) c.clauses-clauses.ensures in
+    let h : i < length u.clauses.now = omega (arith, m) in
+    let is = c.index-clauses-i.is ∙ ap (λ (cs : List (Clause Term)). get_or cs i c.index-clauses-i.result) c.clauses-clauses.ensures in
     let before = c.trying.invariant in
     let others = positions_left (rests.Clauses (record u { tried = i + 1 })) (position_of b) in
     let one = entered c.in_ok-enter_clause.field-0 _ (position_of d) _ c.in_ok-enter_clause.ensures.entered c.if-branch.true
     ∙ ap (λ (q : Position). by_clause u.depth (map (rename_term u.base) (map term_of u.args.now)) q (i + 1) (clause_of c.index-clauses-i.result)) before.position in
     let after : positions_left (rests.Clauses (record u { tried = n })) (position_of b) ≡ others =
-    sym (left_skipped b u c.key_of_atom-key.result c.key_of_atom-key.ensures (i + 1) n c.next_clause-next.ensures) in
+    sym (left_skipped b u c.key_of_atom-key.result c.key_of_atom-key.ensures (i + 1) n c.next-next.ensures) in
     let rest : pending_of d vs ≡ others ++ pending_of b us =
     pending_rest c.save-save.result b d c.save-save.ensures.within c.save-save.ensures.track c.save-save.ensures.position (goes c) u n us vs
     (λ k. c.in_ok-keep_rest.ensures.kept k ∙ ap (λ (ps : List Point). ps ++ record { save = c.save-save.result; rest = rests.Clauses (record u { tried = n }) } ∷ []) before.points)
@@ -76,11 +84,11 @@ returns-then-branch-clause-left c =
     ∙ ap (λ (ps : List Position). ps ++ pending_of b us) after in
     ap (λ (ps : List Position). position_of d ∷ ps) rest
     ∙ ap (λ (ps : List Position). (ps ++ others) ++ pending_of b us) one
-    ∙ ap (λ (ps : List Position). ps ++ pending_of b us) (sym (before.left ∙ clause_left u i c.index-clauses-i.result (position_of b) h c.index-clauses-i.is))
+    ∙ ap (λ (ps : List Position). ps ++ pending_of b us) (sym (before.left ∙ clause_left u i c.index-clauses-i.result (position_of b) h is))
 
 pub returns-then-branch-clause-points : goal.returns-then-branch-clause-points
 returns-then-branch-clause-points c =
-    let u = c.args.untried in let n = c.next_clause-next.result in let before = c.trying.invariant in
+    let u = c.args.untried in let n = c.next-next.result in let before = c.trying.invariant in
     points_rest c.save-save.result c.args.place.now c.enter_clause.new.place c.save-save.ensures.within c.save-save.ensures.track c.save-save.ensures.position (goes c)
     u n c.args.points.now c.keep_rest.new.points
     (λ k. c.in_ok-keep_rest.ensures.kept k ∙ ap (λ (ps : List Point). ps ++ record { save = c.save-save.result; rest = rests.Clauses (record u { tried = n }) } ∷ []) before.points)
@@ -89,7 +97,8 @@ returns-then-branch-clause-points c =
 pub returns-clause-left : goal.returns-clause-left
 returns-clause-left c =
     let u = c.args.untried in let i = c.trying.i in let b = c.args.place.now in let d = c.trying.place in let before = c.trying.invariant in
-    let l : length u.clauses.now ≤ i = omega arith in
+    let n : length c.clauses-clauses.result.now ≡ length u.clauses.now = ap (λ (cs : List (Clause Term)). length cs) c.clauses-clauses.ensures in
+    let l : length u.clauses.now ≤ i = omega (arith, n) in
     pending_goes b d c.args.points.now c.trying.points before.points c.requires.points (goes_same (track_of b) (track_of d) before.track)
     ∙ ap (λ (ps : List Position). ps ++ pending_of b c.args.points.now) (sym (before.left ∙ no_clause_left u i (position_of b) l))
 

@@ -7,7 +7,7 @@ use Rattle.ap_bundle_read.proofs.nodes.read_names.Goals as goal
 
 pub returns-in_err-name : goal.returns-in_err-name
 returns-in_err-name c =
-    let p = err_from_is_err_and c.from_residual.result c.from_residual.ensures.1 in
+    let p = err_from_is_err_and c.from_residual-in_err-name.result c.from_residual-in_err-name.ensures.1 in
     rw (p.1, p.2) (fails_on c.in_err-name.field-0.0 _ _ (λ w got. sym c.loop.invariant ∙ repeated_fails read_name (c.args.count - c.loop.counter) (c.args.count - (c.loop.counter + 1)) c.loop.names.items (place_of c.loop.place) w (omega arith) got) c.in_err-name.ensures)
 
 pub loop-preserved : goal.loop-preserved

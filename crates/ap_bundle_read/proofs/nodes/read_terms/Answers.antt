@@ -9,7 +9,7 @@ use Rattle.ap_bundle_read.proofs.nodes.read_terms.Goals as goal
 
 pub returns-in_err-term : goal.returns-in_err-term
 returns-in_err-term c =
-    let p = err_from_is_err_and c.from_residual.result c.from_residual.ensures.1 in
+    let p = err_from_is_err_and c.from_residual-in_err-term.result c.from_residual-in_err-term.ensures.1 in
     rw (p.1, p.2) (fails_on c.in_err-term.field-0.0 _ _ (λ w got. sym c.loop.invariant ∙ repeated_fails (reader_of c.args.terms.now) (c.args.count - c.loop.counter) (c.args.count - (c.loop.counter + 1)) (map term_of c.loop.all.items) (place_of c.loop.place) w (omega arith) got) c.in_err-term.ensures)
 
 pub loop-preserved : goal.loop-preserved

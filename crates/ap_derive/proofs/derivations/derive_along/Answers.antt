@@ -1,12 +1,10 @@
-use Rattle.std.proofs.Common.{◌≡◌, ◌-◌, [], ◌∷◌, map, ap, sym, ◌∙◌, subst}
+use Rattle.std.proofs.Common.{◌≡◌, ◌-◌, [], ◌∷◌, map, ap, sym, subst}
 use Rattle.std.specs.Prelude.{Some, slice_get}
 use Rattle.std.proofs.lemmas.Result.{IfOk-weaker}
 use Rattle.ap_defs.specs.Answers.{NominalAnswer, derivation_in, found, outs_at}
 use Rattle.ap_defs.specs.Derivations.{NominalDerivation, derivation_of}
 use Rattle.ap_defs.specs.Goals.{NominalQuery, clause_of, program_of, query_of}
-use Rattle.ap_defs.specs.declared.goals.Program.{Program}
 use Rattle.ap_defs.specs.declared.outcomes.Derivation.{Derivation}
-use Rattle.ap_defs.specs.declared.terms.Term.{Term}
 use Rattle.ap_search.proofs.TypedBelowLemmas.{bounded_short, typed_fits}
 use Rattle.ap_backchain.specs.Places.{position_of}
 use Rattle.ap_backchain.specs.Problems.{clauses_in, queries_in}
@@ -20,8 +18,8 @@ use Rattle.ap_derive.proofs.derivations.derive_along.Goals.{After-drop-place-7}
 
 pub select_along-requires-clause-clauses : goal.select_along-requires-clause-clauses
 select_along-requires-clause-clauses c =
-    let restricted = c.program-program.ensures.restricted in
-    rw (c.items.ensures, c.program-program.ensures.same)
+    let restricted = c.predicates-clauses.ensures.restricted in
+    rw c.predicates-clauses.ensures.clauses
     (typed_fits (program_of c.args.p.now.program.now) restricted.typed, bounded_short (program_of c.args.p.now.program.now) restricted.bounded)
 
 pub select_along-requires-clause-solved : goal.select_along-requires-clause-solved
@@ -29,18 +27,18 @@ select_along-requires-clause-solved c =
     let p = c.args.p.now in
     let q = query_of c.query_of_problem-query.result.now in
     let l = c.requires.leads q c.query_of_problem-query.ensures.query in
-    let same_program : map (map clause_of) c.items.result.now ≡ clauses_in p = ap (map (map clause_of)) (c.items.ensures ∙ ap (λ (r : Program Term). r.clauses) c.program-program.ensures.same) in
-    (_, path_solved (clauses_in p) p.depth q c.args.path.now l (map (map clause_of) c.items.result.now) (position_of c.in_ok-place.place) same_program c.in_ok-place.ensures)
+    let same_program : map (map clause_of) c.predicates-clauses.result.now ≡ clauses_in p = ap (map (map clause_of)) (c.predicates-clauses.ensures.clauses) in
+    (_, path_solved (clauses_in p) p.depth q c.args.path.now l (map (map clause_of) c.predicates-clauses.result.now) (position_of c.in_ok-place.place) same_program c.in_ok-place.ensures)
 
 pub assemble-requires : goal.assemble-requires
 assemble-requires c =
     let p = c.args.p.now in
     let q = query_of c.query_of_problem-query.result.now in
     let l = c.requires.leads q c.query_of_problem-query.ensures.query in
-    let same_program : map (map clause_of) c.items.result.now ≡ clauses_in p = ap (map (map clause_of)) (c.items.ensures ∙ ap (λ (r : Program Term). r.clauses) c.program-program.ensures.same) in
+    let same_program : map (map clause_of) c.predicates-clauses.result.now ≡ clauses_in p = ap (map (map clause_of)) (c.predicates-clauses.ensures.clauses) in
     let to = position_of c.select_along.new.place in (
       l.traced.derivation,
-      path_nodes (clauses_in p) p.depth q c.args.path.now l (map (map clause_of) c.items.result.now) (position_of c.in_ok-place.place) same_program c.in_ok-place.ensures
+      path_nodes (clauses_in p) p.depth q c.args.path.now l (map (map clause_of) c.predicates-clauses.result.now) (position_of c.in_ok-place.place) same_program c.in_ok-place.ensures
           to.state (map node_of c.in_ok-nodes.nodes.items) (rest_of c.args.path.now to) c.in_ok-nodes.ensures,
     )
 
@@ -51,14 +49,14 @@ derived c d h x r k leads =
     let p = c.args.p.now in
     let q = query_of c.query_of_problem-query.result.now in let asked = c.query_of_problem-query.ensures.query in
     let l = c.requires.leads q asked in
-    let same_program : map (map clause_of) c.items.result.now ≡ clauses_in p = ap (map (map clause_of)) (c.items.ensures ∙ ap (λ (s : Program Term). s.clauses) c.program-program.ensures.same) in
+    let same_program : map (map clause_of) c.predicates-clauses.result.now ≡ clauses_in p = ap (map (map clause_of)) (c.predicates-clauses.ensures.clauses) in
     let to = position_of c.select_along.new.place in
     let one : x ≡ q = same_some (slice_get (queries_in p) (p.query - 1)) x q k asked in
     let here : traced_query (clauses_in p) p.depth q c.args.path.now ≡ Some r = subst (λ (y : NominalQuery). traced_query (clauses_in p) p.depth y c.args.path.now ≡ Some r) one leads in
     let nodes =
-    path_nodes (clauses_in p) p.depth q c.args.path.now l (map (map clause_of) c.items.result.now) (position_of c.in_ok-place.place) same_program c.in_ok-place.ensures
+    path_nodes (clauses_in p) p.depth q c.args.path.now l (map (map clause_of) c.predicates-clauses.result.now) (position_of c.in_ok-place.place) same_program c.in_ok-place.ensures
     to.state (map node_of c.in_ok-nodes.nodes.items) (rest_of c.args.path.now to) c.in_ok-nodes.ensures in
-    path_derivation (clauses_in p) p.depth q c.args.path.now l (map (map clause_of) c.items.result.now) (position_of c.in_ok-place.place) same_program c.in_ok-place.ensures
+    path_derivation (clauses_in p) p.depth q c.args.path.now l (map (map clause_of) c.predicates-clauses.result.now) (position_of c.in_ok-place.place) same_program c.in_ok-place.ensures
     to.state (map node_of c.in_ok-nodes.nodes.items) (rest_of c.args.path.now to) c.in_ok-nodes.ensures (derivation_of d) (h l.traced.derivation nodes) r here
 
 pub returns-clause-derivation : goal.returns-clause-derivation
@@ -75,7 +73,7 @@ returns-clause-checks c =
     let p = c.args.p.now in
     let s = (position_of c.select_along.new.place).state in
     let program = program_of p.program.now in
-    let typed = c.program-program.ensures.restricted.typed in
+    let typed = c.predicates-clauses.ensures.restricted.typed in
     IfOk-weaker c.assemble.result (λ d. (e : NominalDerivation) → map node_of c.in_ok-nodes.nodes.items ≡ preorder e [] → derivation_of d ≡ derivation_in s e)
     (λ d. (q : NominalQuery) (a : NominalAnswer) → slice_get (queries_in p) (p.query - 1) ≡ Some q → outs_at (clauses_in p) p.depth q c.args.path.now ≡ found c.args.path.now a ∷ []
     → Checks program q a (derivation_of d))

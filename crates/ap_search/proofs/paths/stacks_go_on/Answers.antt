@@ -1,4 +1,5 @@
-use Rattle.ap_search.proofs.MarkLemmas.{marked_stack_begins, marks_stack, stack_begins}
+use Rattle.ap_search.proofs.MarkLemmas.{marks_stack, stack_begins}
+use Rattle.ap_search.proofs.TreeLemmas.{marked_stack_begins}
 use Rattle.ap_search.proofs.paths.stacks_go_on.Goals as goal
 
 pub returns-clause-outputs : goal.returns-clause-outputs

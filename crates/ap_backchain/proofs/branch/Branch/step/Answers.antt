@@ -3,7 +3,8 @@ use Rattle.ap_defs.specs.Goals.{Clauses, clause_of, query_of}
 use Rattle.ap_defs.specs.Types.{NominalLocal, locals_of}
 use Rattle.ap_search.specs.Marks.{mark_path}
 use Rattle.ap_search.specs.Prefixes.{beginning}
-use Rattle.ap_backchain.specs.Branches.{IsChoosing, marks_of_standing, path_of_branch}
+use Rattle.ap_backchain.specs.Branches.{IsChoosing, IsNamed, marks_of_standing, path_of_branch}
+use Rattle.ap_backchain.specs.Problems.{clauses_in}
 use Rattle.ap_backchain.proofs.BranchLemmas.{choice_stands, step_is}
 use Rattle.ap_backchain.proofs.branch.Branch.step.Goals as goal
 
@@ -15,7 +16,7 @@ choose-requires-clause-choosing c =
 pub choose-requires-clause-choice : goal.choose-requires-clause-choice
 choose-requires-clause-choice c =
     let query = query_of c.query_of_problem-query.result.now in
-    choice_stands c.args.self.node c.args.self.standing c.args.choice (c.requires.of query c.query_of_problem-query.ensures.query).named c.requires.choice
+    choice_stands (clauses_in c.args.p.now) c.args.self.node c.args.self.standing c.args.choice (c.requires.of query c.query_of_problem-query.ensures.query).named c.requires.choice
 
 pub returns-clause-of : goal.returns-clause-of
 returns-clause-of c =
@@ -28,5 +29,6 @@ returns-clause-of c =
     let given = map (map clause_of) c.clauses_of_problem-clauses.result.now in
     let marks = subst (λ (x : Clauses). marks_of_standing x query.locals s ≡ beginning mark_path (path_of_branch b ++ k ∷ []) (marks_of_standing x query.locals b.standing)) same
     (subst (λ (ls : List NominalLocal). marks_of_standing given ls s ≡ beginning mark_path (path_of_branch b ++ k ∷ []) (marks_of_standing given ls b.standing)) (ap locals_of c.items.ensures) c.in_ok-standing.ensures.marks) in
-    step_is p query b c.in_ok-branch.branch s k c.query_of_problem-query.ensures.query c.requires.of c.in_ok-branch.ensures.standing c.in_ok-branch.ensures.named
+    step_is p query b c.in_ok-branch.branch s k c.query_of_problem-query.ensures.query c.requires.of c.in_ok-branch.ensures.standing
+    (subst (λ (x : Clauses). IsNamed x c.in_ok-branch.branch.node c.in_ok-branch.branch.standing) same c.in_ok-branch.ensures.named)
     c.in_ok-standing.ensures.path marks (subst (λ (x : Clauses). IsChoosing x s) same c.in_ok-standing.ensures.choosing)

@@ -1,4 +1,4 @@
-use Rattle.std.proofs.Common.{◌≡◌, ◌<◌, [], ◌∷◌, ◌++◌, ◌∙◌, ap, ap₂, sym, refl, subst, length, arith}
+use Rattle.std.proofs.Common.{◌<◌, ◌∷◌, ◌∙◌, ap₂, sym, refl, subst, length, arith}
 use Rattle.std.specs.Prelude.{reverse}
 use Rattle.std.proofs.lemmas.Option.{slice_get_read}
 use Rattle.std.proofs.lemmas.Result.{on_ok_weaker}

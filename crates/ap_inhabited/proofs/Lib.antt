@@ -1,0 +1,3 @@
+pub mod RuleLemmas
+pub mod LeastLemmas
+pub mod TermLemmas
