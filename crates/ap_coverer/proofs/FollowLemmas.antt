@@ -1,14 +1,15 @@
 -- Where a search covers a path, following the path ends at what covers it.
 use Rattle.std.proofs.Common.{subst, ◌≡◌, ◌⊎◌, ◌+◌, ◌-◌, ◌<◌, ◌≤◌, ℕ, zero, suc, Bool, true, false, List, [], ◌∷◌, ◌++◌, length, refl, sym, ap, ◌∙◌, append_assoc, append-nil, inl, inr, arith, true≢false}
-use Rattle.std.specs.Prelude.{◌==◌, if◌then◌else◌, filter, Option, Some, None, slice_get}
+use Rattle.std.specs.Prelude.{◌==◌, if◌then◌else◌, filter, Option, Some, None, slice_get, option_map}
 use Rattle.ap_defs.specs.Answers as answers
 use Rattle.ap_defs.specs.Answers.{NominalAnswer, NominalOut, out_path, outs_at, query_outs}
 use Rattle.ap_defs.specs.Goals.{Clauses, NominalQuery}
 use Rattle.ap_defs.specs.PathOrder.{has_prefix}
+use Rattle.ap_defs.specs.Paths.{Choice}
 use Rattle.ap_defs.specs.declared.paths.Node.{Node}
 use Rattle.ap_defs.specs.declared.paths.Node.TheVariants as nodes
 use Rattle.ap_paths.specs.Trees.{Choices, GoesOn, InTree, IsChoice, joined}
-use Rattle.ap_search.specs.PathTrees.{query_choices}
+use Rattle.ap_search.specs.PathTrees.{query_choice, query_choices}
 use Rattle.ap_search.proofs.PrefixLemmas.{prefix_itself, prefix_longer, prefix_shorter}
 use Rattle.ap_search.proofs.QueryTreeLemmas.{query_tree}
 use Rattle.ap_theory.proofs.BooleanLemmas.{and_both, and_left, and_right}
@@ -125,6 +126,10 @@ module _ (program : Clauses) (depth : ℕ) (q : NominalQuery) where
       only : (w : NominalOut) → at l ≡ w ∷ [] → w ≡ o
       only w e = elim (subst (IsAmong o) e (among_at l begun)) [ inl i ↦ i | inr i ↦ absurd i ]
 
+-- a choice has its width
+width_there : (program : Clauses) (depth : ℕ) (q : NominalQuery) (l : List ℕ) (w : ℕ) (kept : List ℕ) → query_choice program depth q l ≡ Some (record { width = w; kept = kept }) → query_choices program depth q l ≡ Some w
+width_there program depth q l w kept h = ap (option_map (λ (c : Choice). c.width)) h
+
 -- where it stops it stands at the answer of the path, or is stuck at a beginning of it
 module _ (program : Clauses) (depth : ℕ) (q : NominalQuery) (path l rest : List ℕ) (whole : l ++ rest ≡ path) (tree : InTree (query_choices program depth q) l) where
   abbrev Refused : Node → Type 0
@@ -134,7 +139,7 @@ module _ (program : Clauses) (depth : ℕ) (q : NominalQuery) (path l rest : Lis
   answers_differ m a b e = cc
 
   at_answer : (a : NominalAnswer) → IsAmong (answers.found path a) (query_outs program depth q) → (n : Node) → IsNodeAt program depth q l n → Refused n → IsEnd n l path
-  at_answer a i (nodes.Choice w kept) h r = no_choice program depth q (answers.found path a) i path (prefix_itself path) l rest whole tree w h.0 r
+  at_answer a i (nodes.Choice w kept) h r = no_choice program depth q (answers.found path a) i path (prefix_itself path) l rest whole tree w (width_there program depth q l w kept h) r
   at_answer a i nodes.Answer h r = answers_differ l h.1.0 a (only program depth q (answers.found path a) i path (prefix_itself path) l rest whole tree (answers.found l h.1.0) h.1.1)
   at_answer a i nodes.Cut h r = absurd (let e = only program depth q (answers.found path a) i path (prefix_itself path) l rest whole tree (answers.cut l) h.1 in cc)
   at_answer a i nodes.Stuck h r = absurd (let e = only program depth q (answers.found path a) i path (prefix_itself path) l rest whole tree (answers.stuck l) h.1 in cc)
@@ -142,7 +147,7 @@ module _ (program : Clauses) (depth : ℕ) (q : NominalQuery) (path l rest : Lis
       (begun program depth q (answers.found path a) i path (prefix_itself path) l rest whole tree)))
 
   at_stuck : (m : List ℕ) → IsAmong (answers.stuck m) (query_outs program depth q) → has_prefix m path ≡ true → (n : Node) → IsNodeAt program depth q l n → Refused n → IsEnd n l path
-  at_stuck m i b (nodes.Choice w kept) h r = no_choice program depth q (answers.stuck m) i path b l rest whole tree w h.0 r
+  at_stuck m i b (nodes.Choice w kept) h r = no_choice program depth q (answers.stuck m) i path b l rest whole tree w (width_there program depth q l w kept h) r
   at_stuck m i b nodes.Answer h r = absurd (let e = only program depth q (answers.stuck m) i path b l rest whole tree (answers.found l h.1.0) h.1.1 in cc)
   at_stuck m i b nodes.Cut h r = absurd (let e = only program depth q (answers.stuck m) i path b l rest whole tree (answers.cut l) h.1 in cc)
   at_stuck m i b nodes.Stuck h r =
@@ -162,10 +167,10 @@ there_is (q ∷ qs) zero h = (q, refl)
 there_is (q ∷ qs) (suc k) h = there_is qs k (omega arith)
 
 pub branch_node : (p : Problem) (b : Branch) → IsBranchOf p b → (q : NominalQuery) → slice_get (queries_in p) (p.query - 1) ≡ Some q → IsNodeAt (clauses_in p) p.depth q (path_of_branch b) b.node
-branch_node p b of q asked = let w = of q asked in node_at (clauses_in p) p.depth q b.node b.standing w.marks w.choosing w.named
+branch_node p b of q asked = let w = of q asked in node_at (clauses_in p) p.depth q b.node b.standing w.marks w.named
 
 choice_there : (program : Clauses) (depth : ℕ) (q : NominalQuery) (l : List ℕ) (n : Node) (k : ℕ) → IsNodeAt program depth q l n → IsChoiceOfNode k n → IsChoice (query_choices program depth q l) k
-choice_there program depth q l (nodes.Choice w kept) k h c = subst (λ (o : Option ℕ). IsChoice o k) (sym h.0) c
+choice_there program depth q l (nodes.Choice w kept) k h c = subst (λ (o : Option ℕ). IsChoice o k) (sym (width_there program depth q l w kept h)) c
 choice_there program depth q l _ k h c = absurd c
 
 pub in_search_next : (p : Problem) (b : Branch) (k : ℕ) (l : List ℕ) → IsBranchOf p b → IsChoiceOfNode k b.node → IsInSearch p (path_of_branch b) → l ≡ path_of_branch b ++ k ∷ [] → IsInSearch p l
