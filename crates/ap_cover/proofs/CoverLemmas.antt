@@ -48,7 +48,7 @@ typed_query_at sig (r ∷ qs) zero q e h = absurd (let n : None ≡ Some q = e i
 typed_query_at sig (r ∷ qs) (suc zero) q e h = let same : r ≡ q = cc in subst (λ (x : NominalQuery). IsTypedQuery term_form sig x) same h.0
 typed_query_at sig (r ∷ qs) (suc (suc k)) q e h = typed_query_at sig qs (suc k) q e h.1
 
-path_mapped : {S T : Type 0} (f : S → T) (d : DerivationOver S) → path (map_terms f d) ≡ path d
+pub path_mapped : {S T : Type 0} (f : S → T) (d : DerivationOver S) → path (map_terms f d) ≡ path d
 path_mapped f (nodes.atom k as' ts d) = ap (λ l. k ∷ l) (path_mapped f d)
 path_mapped f nodes.equal = refl
 path_mapped f nodes.fresh = refl
@@ -84,7 +84,7 @@ module _ (p : NominalProgram) (keeps : KeepsRestriction p) (depth : ℕ) (d : No
   abbrev none : Grounding
   none = λ x. terms.unit
 
-  ground_answer : is_ground_answer a ≡ true
+  pub ground_answer : is_ground_answer a ≡ true
   ground_answer = and_left (is_ground_answer a) (is_ground_derivation e) closed
 
   no_vars : a.vars ≡ []
@@ -102,23 +102,23 @@ module _ (p : NominalProgram) (keeps : KeepsRestriction p) (depth : ℕ) (d : No
   parts : (is_answer p q a ≡ true) × (refusal p a (kinds_of q.locals) 1 e q.goal (open_environment q.locals (local_names 0 q.locals) a.binds) ≡ None)
   parts = checks_both p q a e checks
 
-  typed : IsTypedQuery term_form p.signature q
+  pub typed : IsTypedQuery term_form p.signature q
   typed = typed_query_at p.signature p.queries d.query q asked keeps.typed.1
 
-  types : AreOfTypes p.signature.constructors (kinds_of q.locals) (local_vars 0 q.locals) (ground_terms a.binds)
+  pub types : AreOfTypes p.signature.constructors (kinds_of q.locals) (local_vars 0 q.locals) (ground_terms a.binds)
   types =
       kinds_instance p.signature.constructors (type_beside a.vars) none (given_beside p.signature.constructors none a.vars instance_there.types) (kinds_of q.locals) (local_vars 0 q.locals) a.binds
       (and_left (have_kinds p.signature.constructors (type_beside a.vars) (kinds_of q.locals) (local_vars 0 q.locals) a.binds) _ parts.0)
 
-  valid : IsValid p (kinds_of q.locals) (ground_proof none e) q.goal (environment q.locals (local_names 0 q.locals) (ground_terms a.binds))
+  pub valid : IsValid p (kinds_of q.locals) (ground_proof none e) q.goal (environment q.locals (local_names 0 q.locals) (ground_terms a.binds))
   valid =
       subst (λ v. IsValid p (kinds_of q.locals) (ground_proof none e) q.goal v) (closed_item none q.locals (local_names 0 q.locals) a.binds)
       (checked_valid p a none instance_there (kinds_of q.locals) 1 e q.goal (open_environment q.locals (local_names 0 q.locals) a.binds) parts.1)
 
-  low_ground : height (ground_proof none e) ≤ depth
+  pub low_ground : height (ground_proof none e) ≤ depth
   low_ground = let same = height_mapped (grounded none) e in omega arith
 
-  found : IsCovered p q depth (ground_terms a.binds) (path e)
+  pub found : IsCovered p q depth (ground_terms a.binds) (path e)
   found = subst (IsCovered p q depth (ground_terms a.binds)) (path_mapped (grounded none) e) (proofs_covered p keeps q typed depth (ground_terms a.binds) types (ground_proof none e) valid low_ground)
 
   from_zero : (n : ℕ) → 0 + suc n ≡ suc n

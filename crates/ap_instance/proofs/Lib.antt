@@ -1,5 +1,5 @@
 mod GoalLemmas
-mod NameLemmas
+pub mod NameLemmas
 mod StatingLemmas
-mod TableLemmas
+pub mod TableLemmas
 mod TermLemmas

@@ -30,7 +30,7 @@ term_first x xs t ts other y false e =
     let lower : nat_lt (1 + position_or_len p xs) (suc (length xs)) ≡ nat_lt (position_or_len p xs) (length xs) = grind (arith, nat_tests) in
     rw (e, lower) (later (nat_lt (position_or_len p xs) (length xs)) t ts (other y) (position_or_len p xs))
 
-flipped : (x y : Var) → var_eq x y ≡ var_eq y x
+pub flipped : (x y : Var) → var_eq x y ≡ var_eq y x
 flipped x y = elim (var_eq x y) as (λ b. var_eq x y ≡ b → b ≡ var_eq y x) [
   | true ↦ λ e. sym (same_var y x (sym (var_same x y e)))
   | false ↦ λ e. elim (var_eq y x) as (λ b. var_eq y x ≡ b → false ≡ b) [

@@ -3,9 +3,9 @@
 
 mod asking;
 mod constructors;
-mod names;
+pub mod names;
 mod parts;
-mod picks;
+pub mod picks;
 mod putting;
 mod stating;
 

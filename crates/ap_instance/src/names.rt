@@ -22,14 +22,14 @@ use std::alloc::Global;
 /// The names that are known: so many free names of a query first, and then the others, which are numbered from
 /// `first` on.
 #[derive(Drop)]
-pub(crate) struct Names {
+pub struct Names {
     pub known: IndexSet<Name>,
     pub free: usize,
     pub first: u64,
 }
 
 /// Adds the names of terms.
-fn add_names_of_terms(names: &mut IndexSet<Name>, terms: &[Term]) -> Result<(), Memory>
+pub fn add_names_of_terms(names: &mut IndexSet<Name>, terms: &[Term]) -> Result<(), Memory>
     ensures { OnOk result (names.new.keys
         ≡ more_names names.old.keys (names_of_terms (map term_of terms.now))) }
 {
@@ -55,7 +55,7 @@ fn add_names_of_conds(names: &mut IndexSet<Name>, conds: &[Cond]) -> Result<(), 
 }
 
 /// The names of an answer to a query with these identifiers.
-pub(crate) fn names_of_answer(
+pub fn names_of_answer(
     alloc: Global,
     locals: &[Local],
     answer: &Answer,

@@ -20,7 +20,7 @@ use std::alloc::Global;
 
 /// Variables, each with a term at the same place.
 #[derive(Drop)]
-pub(crate) struct Picks {
+pub struct Picks {
     pub vars: IndexSet<Var>,
     pub terms: Vec<Term>,
 }
@@ -28,7 +28,7 @@ pub(crate) struct Picks {
 impl Picks {
     /// A copy of the variable's term, and unit for others.
 
-    pub(crate) fn of(&self, alloc: Global, x: Var) -> Result<Term, Memory>
+    pub fn of(&self, alloc: Global, x: Var) -> Result<Term, Memory>
         ensures { IfOk result (λ t. term_of t
             ≡ term_beside self.now.vars.keys self.now.terms.items (λ y. unit) x) }
     {
@@ -43,7 +43,7 @@ impl Picks {
 
     /// A variable gets a term, unless it has one.
     #[tactic(auto, using(crate::proofs::TableLemmas::added_last, crate::proofs::TableLemmas::added_none))]
-    fn add(&mut self, x: Var, term: Term) -> Result<(), Memory>
+    pub fn add(&mut self, x: Var, term: Term) -> Result<(), Memory>
         requires { length self.old.vars.keys ≡ length self.old.terms.items }
         ensures as_many { OnOk result (length self.new.vars.keys ≡ length self.new.terms.items) }
         ensures added { OnOk result ((other : Var → NominalTerm) (y : Var) →
@@ -61,7 +61,7 @@ impl Picks {
 
 /// Picks a term for each of the typed variables, in order. The first new name has the number `first`, if `sorts`
 /// is empty.
-pub(crate) fn picks_of(
+pub fn picks_of(
     alloc: Global,
     picker: &Picker<'_>,
     first: u64,

@@ -1,0 +1,5 @@
+mod ClearsLemmas
+mod CovererLemmas
+mod FillLemmas
+mod FollowLemmas
+mod MatchLemmas

@@ -1,0 +1,5 @@
+pub mod Clearing
+pub mod Coverer
+pub mod Covering
+pub mod Followed
+pub mod Matches
