@@ -55,11 +55,7 @@ fn add_names_of_conds(names: &mut IndexSet<Name>, conds: &[Cond]) -> Result<(), 
 }
 
 /// The names of an answer to a query with these identifiers.
-pub fn names_of_answer(
-    alloc: Global,
-    locals: &[Local],
-    answer: &Answer,
-) -> Result<Names, Memory>
+pub fn names_of_answer(alloc: Global, locals: &[Local], answer: &Answer) -> Result<Names, Memory>
     ensures { IfOk result (λ n. IsNames (locals_of locals.now) (answer_of answer.now) n) }
 {
     let mut known = free_names(alloc, locals)?;

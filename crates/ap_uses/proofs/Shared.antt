@@ -2,7 +2,7 @@
 use denote.Param.Send.{IsSync, sendable}
 use denote.Ref.{NamedLft}
 use Rattle.std.proofs.Crossing.{crosses}
-use Rattle.ap_replay.proofs.Shared.{index_sync}
+use Rattle.ap_index.proofs.Shared.{index_sync}
 use Rattle.ap_uses.specs.contracts.answers.Answers.{the_row}
 
 pub answers_sync : (a : NamedLft) → IsSync (the_row a)
