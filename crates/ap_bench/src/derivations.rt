@@ -45,12 +45,12 @@ fn program_of(alloc: Global, text: &[u8]) -> Result<Restricted, Memory> {
 }
 
 /// The query of a program that has one.
-fn only_query<'a>(program: &'a Index<'a>) -> Option<Problem<'a>>
+fn only_query<'a>(program: &'a Index<'_>) -> Option<Problem<'a>>
     ensures { IfSome result (λ p. HasQuery p) }
 {
     if program.program().queries.items().len() == 1 {
         Some(Problem {
-            program,
+            program: &*program,
             query: 1,
             depth: DEPTH,
         })

@@ -89,20 +89,25 @@ fn query_count(program: &Index<'_>) -> u32
     program.program().queries.items().len() as u32
 }
 
-/// The answers of the queries of a program, with their derivations.
-fn prove_program(alloc: Global, program: &Restricted, depth: u32) -> Result<Vec<Proved>, Memory> {
-    let index = Index::of(alloc, program)?;
-    let count = query_count(&index);
+/// The answers of the queries of a program with its index, with their derivations.
+fn prove_queries(alloc: Global, program: &Index<'_>, depth: u32) -> Result<Vec<Proved>, Memory> {
+    let count = query_count(program);
     let mut all = Vec::new(alloc);
     for place in 0..count {
         let problem = Problem {
-            program: &index,
+            program: &*program,
             query: place + 1,
             depth,
         };
         prove_query(alloc, &problem, &mut all)?;
     }
     Ok(all)
+}
+
+/// The answers of the queries of a program, with their derivations.
+fn prove_program(alloc: Global, program: &Restricted, depth: u32) -> Result<Vec<Proved>, Memory> {
+    let index = Index::of(alloc, program)?;
+    prove_queries(alloc, &index, depth)
 }
 
 /// How many answers there are, and how many derivations of them check.

@@ -37,6 +37,28 @@ fn typed(program: &Restricted)
     let _program = program.program();
 }
 
+/// The outputs of the first query of a program with its index.
+fn first_outputs_by<R: Threads + Wait + Sync, G: Gate>(
+    rt: &R,
+    alloc: Global,
+    gate: &G,
+    depth: Depth,
+    workers: Workers,
+    limit: Limit,
+    program: &Index<'_>,
+) -> Result<Vec<Out>, Memory>
+    requires { 1 ≤ length (program_of program.now).queries }
+    ensures { IfOk result (λ v. (q : NominalQuery) → slice_get (program_of program.now).queries 0 ≡ Some q →
+        outs_of v.items ≡ part limit (query_outs (program_of program.now).clauses depth q)) }
+{
+    let problem = Problem {
+        program: &*program,
+        query: 1,
+        depth: depth.get(),
+    };
+    solve(rt, alloc, gate, workers, limit, &problem)
+}
+
 /// The outputs of a program's first query.
 fn first_outputs<R: Threads + Wait + Sync, G: Gate>(
     rt: &R,
@@ -52,12 +74,7 @@ fn first_outputs<R: Threads + Wait + Sync, G: Gate>(
         outs_of v.items ≡ part limit (query_outs (program_of program.now).clauses depth q)) }
 {
     let index = Index::of(alloc, program)?;
-    let problem = Problem {
-        program: &index,
-        query: 1,
-        depth: depth.get(),
-    };
-    solve(rt, alloc, gate, workers, limit, &problem)
+    first_outputs_by(rt, alloc, gate, depth, workers, limit, &index)
 }
 
 /// The outputs of a query in place of a program's, up to the last answer that is wanted.

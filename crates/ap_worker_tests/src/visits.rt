@@ -15,6 +15,15 @@ use std::alloc::Global;
 /// Each path has two ways, down to the depth.
 const TEXT: &str = "pred loop. loop :- loop. loop :- loop. ?- loop.";
 
+/// Substitution, where the query's term is an abstraction: of its clauses the fourth alone has that head.
+const SUBSTITUTION: &str = "id : name_type. exp : type. var : id -> exp.
+    app : (exp, exp) -> exp. lam : id\\exp -> exp. pred subst(exp, id, exp, exp).
+    subst(var(X), X, E, E).
+    subst(var(Y), X, _, var(Y)) :- X # Y.
+    subst(app(M,N), X, E, app(M2,N2)) :- subst(M,X,E,M2), subst(N,X,E,N2).
+    subst(lam(y\\M), X, E, lam(y\\M2)) :- y # X, y # E, subst(M,X,E,M2).
+    ?- subst(lam(b\\app(var(a),var(b))), a, var(b), R).";
+
 /// What a visit of a path answers.
 fn visit_at(alloc: Global, problem: &Problem<'_>, path: &Path) -> Result<Visit, Memory>
     requires { HasQuery problem.now }
@@ -25,15 +34,20 @@ fn visit_at(alloc: Global, problem: &Problem<'_>, path: &Path) -> Result<Visit, 
     }
 }
 
-/// What it answers at a path of so many choices, each of the first way.
-fn visit_after(alloc: Global, choices: &[u32], depth: u32) -> Result<Visit, Memory> {
-    let program = program_of(alloc, TEXT)?;
-    let path = Path::of(choices.to_vec(alloc)?);
+/// What it answers after these choices in the search of a text's query.
+fn visit_of(alloc: Global, text: &str, choices: &[u32], depth: u32) -> Result<Visit, Memory> {
+    let program = program_of(alloc, text)?;
     let index = Index::of(alloc, &program)?;
+    let path = Path::of(choices.to_vec(alloc)?);
     match only_query(&index, depth) {
         Some(problem) => visit_at(alloc, &problem, &path),
         None => Err(Memory),
     }
+}
+
+/// The same for two ways at each path.
+fn visit_after(alloc: Global, choices: &[u32], depth: u32) -> Result<Visit, Memory> {
+    visit_of(alloc, TEXT, choices, depth)
 }
 
 /// Whether it is the outputs, so many.
@@ -44,12 +58,17 @@ fn is_searched(visit: &Visit, outs: usize) -> bool {
     }
 }
 
-/// Whether it is both ways.
-fn is_split(visit: &Visit) -> bool {
+/// Whether it is these ways.
+fn has_kids(visit: &Visit, ways: &[u32]) -> bool {
     match visit {
         Visit::Outs(_) => false,
-        Visit::Kids(kids) => kids.items() == [1, 2].as_slice(),
+        Visit::Kids(kids) => kids.items() == ways,
     }
+}
+
+/// Whether it is both ways.
+fn is_split(visit: &Visit) -> bool {
+    has_kids(visit, &[1, 2])
 }
 
 #[test]
@@ -76,4 +95,10 @@ fn endless_choices_are_split(rt: HostRuntime) {
     assert!(rt; matches!(&root, Ok(visit) if is_split(visit)));
     let below = visit_after(rt.alloc(), &[1; 16], 1_000_000);
     assert!(rt; matches!(&below, Ok(visit) if is_split(visit)));
+}
+
+#[test]
+fn clauses_with_another_head_are_left_out(rt: HostRuntime) {
+    let root = visit_of(rt.alloc(), SUBSTITUTION, &[], 5);
+    assert!(rt; matches!(&root, Ok(visit) if has_kids(visit, &[4])));
 }
