@@ -10,6 +10,7 @@ mod declared;
 mod idents;
 mod items;
 mod kinds;
+mod known;
 mod names;
 mod subject;
 mod types;
