@@ -2,6 +2,7 @@
 use Rattle.std.proofs.Common.{◌≡◌, ℕ, zero, suc, ◌+◌, Bool, true, false, List, drop, [], ◌∷◌, ◌++◌, map, length, refl, sym, ap, ap₂, ◌∙◌, arith}
 use Rattle.std.proofs.lemmas.List.{drop-drop}
 use Rattle.ap_defs.specs.Goals.{NominalClause, clause_of}
+use Rattle.ap_defs.specs.HeadKeys.{agree, first_key}
 use Rattle.ap_defs.specs.Renaming.{rename_term}
 use Rattle.ap_defs.specs.Resolution.{kinds_of}
 use Rattle.ap_defs.specs.Substitution.{under}
@@ -11,9 +12,7 @@ use Rattle.ap_defs.specs.declared.terms.Term.{Term}
 use Rattle.ap_store.specs.Views.{kinds, present}
 use Rattle.ap_store.specs.declared.store.Store.{Store}
 use Rattle.ap_store.proofs.StoreLemmas.{well_formed}
-use Rattle.ap_defs.specs.HeadKeys.{agree, first_key}
-use Rattle.ap_theory.specs.HeadKeys as theory
-use Rattle.ap_theory.proofs.HeadKeyLemmas.{first_differs, key_rename}
+use Rattle.ap_theory.proofs.HeadKeyLemmas.{first_differs, first_renamed}
 use Rattle.ap_theory.proofs.RefusalLemmas.{unify_heads}
 use Rattle.ap_backchain.specs.Positions.{Position, by_clause, by_clauses, clause_state, each_position, entered, unified_state}
 use Rattle.ap_backchain.specs.Places.{position_of}
@@ -25,26 +24,11 @@ use Rattle.ap_backchain.specs.declared.points.Untried.{Untried}
 use Rattle.std.specs.List.{position_or_len}
 use Rattle.std.specs.Prelude.{None}
 
--- the key of a constructor is five and its number
-pub same_key : (ts : List NominalTerm) → theory.first_key ts ≡ first_key ts
-same_key [] = refl
-same_key (unit ∷ ts) = refl
-same_key (name a ∷ ts) = refl
-same_key (pair t u ∷ ts) = refl
-same_key (app f t ∷ ts) = omega arith
-same_key (abs a t ∷ ts) = refl
-same_key (susp q x ∷ ts) = refl
-
-first_rename : (n : ℕ) (us : List NominalTerm) → theory.first_key (map (rename_term n) us) ≡ theory.first_key us
-first_rename n [] = refl
-first_rename n (u ∷ us) = key_rename n u
-
 pub head_apart : (s : Store) (ts : List NominalTerm) (c : NominalClause) → agree (first_key (map (under (present s).bindings) ts)) (first_key c.args) ≡ false
     → clause_state ts (state_in s) c ≡ None
 head_apart s ts c h =
     let a = present s in let us = map (rename_term (length (kinds s))) c.args in
-    let vs = map (under a.bindings) ts in
-    let k = ap₂ theory.may_meet (same_key vs) (first_rename (length (kinds s)) c.args ∙ same_key c.args) ∙ h in
+    let k = ap (agree (first_key (map (under a.bindings) ts))) (first_renamed (length (kinds s)) c.args) ∙ h in
     ap (unified_state (record { bindings = a.bindings; conditions = a.conditions; kinds = kinds s ++ kinds_of c.locals }))
     (unify_heads a.bindings a.conditions ts us (well_formed s).idempotent (first_differs a.bindings ts us k))
 

@@ -20,7 +20,7 @@ use crate::table::term_lines::Terms;
 use ap_bundle::faults::BundleKind;
 use ap_defs::lists::List;
 use ap_defs::memory::Memory;
-use ap_defs::outcomes::Derivation;
+use ap_defs::outcomes::{ClauseUse, Derivation};
 use ap_defs::terms::{Name, Term};
 use std::alloc::Global;
 
@@ -74,8 +74,13 @@ fn atom_onto(
     let Some(body) = first_derivation(&mut stack) else {
         return Ok(None);
     };
+    let used = Box::new(alloc, ClauseUse {
+        clause,
+        names: List::of(names),
+        terms: List::of(terms),
+    })?;
     let body = Box::new(alloc, body)?;
-    stack.push(Derivation::Atom(clause, List::of(names), List::of(terms), body))?;
+    stack.push(Derivation::Atom(used, body))?;
     Ok(Some(stack))
 }
 
@@ -91,6 +96,7 @@ fn exists_onto(
     let Some(child) = first_derivation(&mut stack) else {
         return Ok(None);
     };
+    let term = Box::new(alloc, term)?;
     let child = Box::new(alloc, child)?;
     stack.push(Derivation::Exists(term, child))?;
     Ok(Some(stack))
@@ -108,6 +114,7 @@ fn new_onto(
     let Some(child) = first_derivation(&mut stack) else {
         return Ok(None);
     };
+    let name = Box::new(alloc, name)?;
     let child = Box::new(alloc, child)?;
     stack.push(Derivation::New(name, child))?;
     Ok(Some(stack))

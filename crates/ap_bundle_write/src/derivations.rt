@@ -183,9 +183,9 @@ fn write_first<'a>(
     ensures text { OnOk result (Writes version (held table.old) (held table.new) out.old.items out.new.items (node_terms (first_node (derivation_of derivation.now))) (λ way. node_lines way (first_node (derivation_of derivation.now)))) }
 {
     match derivation {
-        Derivation::Atom(clause, names, terms, _) => {
-            let (names, terms) = (names.items(), terms.items());
-            write_atom(alloc, out, version, table, *clause, names, terms)
+        Derivation::Atom(used, _) => {
+            let (names, terms) = (used.names.items(), used.terms.items());
+            write_atom(alloc, out, version, table, used.clause, names, terms)
         }
         Derivation::Eq => write_node(alloc, out, NodeWord::Eq),
         Derivation::Fresh => write_node(alloc, out, NodeWord::Fresh),
@@ -194,7 +194,7 @@ fn write_first<'a>(
         Derivation::Left(_) => write_node(alloc, out, NodeWord::Left),
         Derivation::Right(_) => write_node(alloc, out, NodeWord::Right),
         Derivation::Exists(term, _) => write_exists(alloc, out, version, table, term),
-        Derivation::New(name, _) => write_new(alloc, out, *name),
+        Derivation::New(name, _) => write_new(alloc, out, **name),
     }
 }
 
@@ -211,7 +211,7 @@ fn push_children<'a>(
             pending.push(right)?;
             pending.push(left)?;
         }
-        Derivation::Atom(_, _, _, child) => pending.push(child)?,
+        Derivation::Atom(_, child) => pending.push(child)?,
         Derivation::Left(child) => pending.push(child)?,
         Derivation::Right(child) => pending.push(child)?,
         Derivation::Exists(_, child) => pending.push(child)?,

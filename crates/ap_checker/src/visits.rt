@@ -215,11 +215,11 @@ pub(crate) fn visit<'a>(
     ensures { IfOk result (λ r. IsVisited (program_of program.now) (answer_of answer.now) (kinds_at at.entry) (derivation_at at.entry) (goal_at at.entry) walk.old walk.new r) }
 {
     match (at.derivation, at.goal) {
-        (Derivation::Atom(number, names, terms, body), Goal::Atom(pred, args)) => {
+        (Derivation::Atom(used, body), Goal::Atom(pred, args)) => {
             let used = Use {
-                number: *number,
-                names: names.items(),
-                terms: terms.items(),
+                number: used.clause,
+                names: used.names.items(),
+                terms: used.terms.items(),
                 body,
             };
             visit_atom(alloc, program, answer, walk, &used, *pred, args.items())
@@ -250,7 +250,7 @@ pub(crate) fn visit<'a>(
         }
         (Derivation::New(name, below), Goal::New(own, goal)) => {
             let below = at.below(below, goal);
-            visit_new(alloc, answer, walk, at.goal, (*own, *name), below)
+            visit_new(alloc, answer, walk, at.goal, (*own, **name), below)
         }
         _ => Ok(Some(Rule::Shape)),
     }

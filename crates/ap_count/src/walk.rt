@@ -238,8 +238,8 @@ fn count_node<'a>(
         Derivation::Eq => Ok(()),
         Derivation::Fresh => Ok(()),
         Derivation::True => Ok(()),
-        Derivation::Atom(number, _, _, below) => match pred_of_atom(node.goal) {
-            Some(pred) => count_clause(program, pred, *number, below, waiting, table),
+        Derivation::Atom(used, below) => match pred_of_atom(node.goal) {
+            Some(pred) => count_clause(program, pred, used.clause, below, waiting, table),
             None => Ok(()),
         },
         Derivation::Both(left, right) => {

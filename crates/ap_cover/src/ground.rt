@@ -55,8 +55,8 @@ fn is_ground_derivation(derivation: &Derivation) -> bool
     loop {
         match rest {
             Derivation::Eq | Derivation::Fresh | Derivation::True => return true,
-            Derivation::Atom(_, _, terms, body) => {
-                if !are_ground(terms.items()) {
+            Derivation::Atom(used, body) => {
+                if !are_ground(used.terms.items()) {
                     return false;
                 }
                 rest = body;

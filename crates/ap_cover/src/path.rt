@@ -76,7 +76,7 @@ fn add_node<'a>(
         Derivation::Eq => Ok(()),
         Derivation::Fresh => Ok(()),
         Derivation::True => Ok(()),
-        Derivation::Atom(number, _, _, body) => choose_then(*number, body, waiting, choices),
+        Derivation::Atom(used, body) => choose_then(used.clause, body, waiting, choices),
         Derivation::Both(left, right) => wait_for_both(left, right, waiting),
         Derivation::Left(side) => choose_then(1, side, waiting, choices),
         Derivation::Right(side) => choose_then(2, side, waiting, choices),

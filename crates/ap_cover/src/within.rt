@@ -16,7 +16,7 @@ pub fn within(derivation: &Derivation, depth: u32) -> bool
     loop {
         match rest {
             Derivation::Eq | Derivation::Fresh | Derivation::True => return true,
-            Derivation::Atom(_, _, _, body) => {
+            Derivation::Atom(_, body) => {
                 if left == 0 {
                     return false;
                 }

@@ -17,7 +17,7 @@ weight_some (nodes.exists t d) = omega arith
 weight_some (nodes.new a d) = omega arith
 
 size_some : (d : code.Derivation) → 0 < size-Derivation d
-size_some (code.Atom' k as' ts p d) = let h = deep-Atom' k as' ts p d in omega (arith, h)
+size_some (code.Atom' u p d) = let h = deep-Atom' u p d in omega (arith, h)
 size_some code.Eq = let h = deep-Eq in omega (arith, h)
 size_some code.Fresh = let h = deep-Fresh in omega (arith, h)
 size_some code.True = let h = deep-True in omega (arith, h)
@@ -28,7 +28,7 @@ size_some (code.Exists' t p d) = let h = deep-Exists' t p d in omega (arith, h)
 size_some (code.New' a p d) = let h = deep-New' a p d in omega (arith, h)
 
 leaf_size : (d : code.Derivation) → weight (derivation_of d) ≡ 1 → size-Derivation d ≡ 1
-leaf_size (code.Atom' k as' ts p d) e = let h = weight_some (derivation_of d) in absurd (omega (arith, h, e))
+leaf_size (code.Atom' u p d) e = let h = weight_some (derivation_of d) in absurd (omega (arith, h, e))
 leaf_size code.Eq e = deep-Eq
 leaf_size code.Fresh e = deep-Fresh
 leaf_size code.True e = deep-True
@@ -39,7 +39,7 @@ leaf_size (code.Exists' t p d) e = let h = weight_some (derivation_of d) in absu
 leaf_size (code.New' a p d) e = let h = weight_some (derivation_of d) in absurd (omega (arith, h, e))
 
 parts_size : (d : code.Derivation) → 1 < weight (derivation_of d) → 1 < size-Derivation d
-parts_size (code.Atom' k as' ts p d) l = let h = deep-Atom' k as' ts p d in let s = size_some d in omega (arith, h, s)
+parts_size (code.Atom' u p d) l = let h = deep-Atom' u p d in let s = size_some d in omega (arith, h, s)
 parts_size code.Eq l = absurd (omega (arith, l))
 parts_size code.Fresh l = absurd (omega (arith, l))
 parts_size code.True l = absurd (omega (arith, l))

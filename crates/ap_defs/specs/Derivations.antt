@@ -25,15 +25,15 @@ GroundProof = DerivationOver GroundTerm
 
 -- a derivation of the program, without where it lies in memory
 abbrev pub derivation_of : code.Derivation → NominalDerivation
-derivation_of (code.Atom' k as' ts p d) = atom k as' (map term_of ts) (derivation_of d)
+derivation_of (code.Atom' u p d) = atom u.value.clause u.value.names (map term_of u.value.terms) (derivation_of d)
 derivation_of code.Eq = equal
 derivation_of code.Fresh = fresh
 derivation_of code.True = succeed
 derivation_of (code.Both' p d q e) = both (derivation_of d) (derivation_of e)
 derivation_of (code.Left' p d) = left (derivation_of d)
 derivation_of (code.Right' p d) = right (derivation_of d)
-derivation_of (code.Exists' t p d) = exists (term_of t) (derivation_of d)
-derivation_of (code.New' a p d) = new a (derivation_of d)
+derivation_of (code.Exists' t p d) = exists (term_of t.value) (derivation_of d)
+derivation_of (code.New' a p d) = new a.value (derivation_of d)
 
 -- each term replaced
 abbrev pub map_terms : {S T : Type 0} → (S → T) → DerivationOver S → DerivationOver T

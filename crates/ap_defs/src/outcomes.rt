@@ -18,18 +18,28 @@ pub struct Answer {
     pub vars: List<(Var, Ty)>,
 }
 
-/// How a goal was solved: a node for each goal that was selected.
+/// How an atom used a clause: the clause's number from 1 among those of its predicate, and the names and
+/// the terms for its free names and variables, in the order of its identifiers.
+#[derive(Drop)]
+pub struct ClauseUse {
+    pub clause: u32,
+    pub names: List<Name>,
+    pub terms: List<Term>,
+}
+
+/// How a goal was solved: a node for each goal that was selected. A node takes 24 bytes, and what it brings
+/// stands in a box of its own.
 pub enum Derivation {
-    /// The clause's number from 1, the names and terms for its free names and variables, its body.
-    Atom(u32, List<Name>, List<Term>, Box<Derivation>),
+    /// How the clause was used, and the derivation of its body.
+    Atom(Box<ClauseUse>, Box<Derivation>),
     Eq,
     Fresh,
     True,
     Both(Box<Derivation>, Box<Derivation>),
     Left(Box<Derivation>),
     Right(Box<Derivation>),
-    Exists(Term, Box<Derivation>),
-    New(Name, Box<Derivation>),
+    Exists(Box<Term>, Box<Derivation>),
+    New(Box<Name>, Box<Derivation>),
 }
 
 /// Turns the part of the left derivation, or its first one, to the right, and puts what was right in its
@@ -45,7 +55,7 @@ fn turn_part(left: &mut Derivation, right: &mut Box<Derivation>) -> bool
         Derivation::Eq => false,
         Derivation::Fresh => false,
         Derivation::True => false,
-        Derivation::Atom(_, _, _, body) => {
+        Derivation::Atom(_, body) => {
             mem::swap(body, right);
             true
         }
@@ -78,7 +88,7 @@ impl Drop for Derivation {
         loop {
             match self {
                 Derivation::Eq | Derivation::Fresh | Derivation::True => return,
-                Derivation::Atom(_, _names, _terms, body) => self = Box::into_inner(body),
+                Derivation::Atom(_used, body) => self = Box::into_inner(body),
                 Derivation::Both(mut left, mut right) => {
                     if turn_part(&mut left, &mut right) {
                         self = Derivation::Both(right, left);
@@ -89,7 +99,7 @@ impl Drop for Derivation {
                 Derivation::Left(side) => self = Box::into_inner(side),
                 Derivation::Right(side) => self = Box::into_inner(side),
                 Derivation::Exists(_term, body) => self = Box::into_inner(body),
-                Derivation::New(_, body) => self = Box::into_inner(body),
+                Derivation::New(_name, body) => self = Box::into_inner(body),
             }
         }
     }

@@ -10,7 +10,7 @@ use crate::nodes::SelectedGoal;
 use ap_backchain::answers::{closed, closed_var};
 use ap_defs::lists::List;
 use ap_defs::memory::Memory;
-use ap_defs::outcomes::Derivation;
+use ap_defs::outcomes::{ClauseUse, Derivation};
 use ap_store::store::Store;
 use std::alloc::Global;
 
@@ -44,8 +44,13 @@ fn derivation_with(
     match node {
         SelectedGoal::Atom(number, names, vars) => {
             let terms = List::of(closed(alloc, store, vars.items())?);
+            let used = Box::new(alloc, ClauseUse {
+                clause: number,
+                names,
+                terms,
+            })?;
             let body = Box::new(alloc, take_last(made))?;
-            Ok(Derivation::Atom(number, names, terms, body))
+            Ok(Derivation::Atom(used, body))
         }
         SelectedGoal::Equal => Ok(Derivation::Eq),
         SelectedGoal::Fresh => Ok(Derivation::Fresh),
@@ -64,13 +69,14 @@ fn derivation_with(
             Ok(Derivation::Right(side))
         }
         SelectedGoal::Exists(x) => {
-            let term = closed_var(alloc, store, x)?;
+            let term = Box::new(alloc, closed_var(alloc, store, x)?)?;
             let body = Box::new(alloc, take_last(made))?;
             Ok(Derivation::Exists(term, body))
         }
         SelectedGoal::New(a) => {
+            let name = Box::new(alloc, a)?;
             let body = Box::new(alloc, take_last(made))?;
-            Ok(Derivation::New(a, body))
+            Ok(Derivation::New(name, body))
         }
     }
 }

@@ -1,36 +1,18 @@
 -- A clause that is left out by its key has no outcome, and those that are kept stand in order.
-use Rattle.std.proofs.Common.{◌≡◌, ◌+◌, ◌≤◌, ℕ, suc, Bool, true, false, List, [], ◌∷◌, ◌++◌, length, map, refl, ap, ap₂, ◌∙◌, arith}
+use Rattle.std.proofs.Common.{◌≡◌, ◌+◌, ◌≤◌, ℕ, suc, Bool, true, false, List, [], ◌∷◌, ◌++◌, length, map, refl, ap, ◌∙◌, arith}
 use Rattle.std.specs.Prelude.{◌==◌, if◌then◌else◌, None}
 use Rattle.ap_defs.specs.Goals.{NominalClause, NominalGoal}
-use Rattle.ap_defs.specs.HeadKeys.{agree, first_key, head_key, kept_from}
+use Rattle.ap_defs.specs.HeadKeys.{agree, first_key, kept_from}
 use Rattle.ap_defs.specs.Renaming.{rename_goal, rename_term}
 use Rattle.ap_defs.specs.Resolution.{Outcome, State, by_clause, below, clause_node, if_unified, kinds_of, next_number}
 use Rattle.ap_defs.specs.Substitution.{under}
 use Rattle.ap_defs.specs.Terms.{NominalTerm, unit, name, pair, app, abs, susp}
 use Rattle.ap_defs.specs.Unification.{unify}
 use Rattle.ap_paths.specs.Trees.{Ascends, AreAtMost, times}
-use Rattle.ap_theory.proofs.HeadKeyLemmas.{first_differs, key_rename}
+use Rattle.ap_theory.proofs.HeadKeyLemmas.{first_differs, first_renamed}
 use Rattle.ap_theory.proofs.RefusalLemmas.{unify_heads}
 use Rattle.ap_theory.proofs.TermLemmas.{same_number}
-use Rattle.ap_theory.specs.HeadKeys as theory
 use Rattle.ap_theory.specs.Variables.{IsIdempotent}
-
--- the keys are those by which unification tells that heads differ
-key_same : (t : NominalTerm) → theory.head_key t ≡ head_key t
-key_same unit = refl
-key_same (name a) = refl
-key_same (pair t u) = refl
-key_same (app f t) = omega arith
-key_same (abs a t) = refl
-key_same (susp p x) = refl
-
-first_same : (ts : List NominalTerm) → theory.first_key ts ≡ first_key ts
-first_same [] = refl
-first_same (t ∷ ts) = key_same t
-
-first_renamed : (n : ℕ) (us : List NominalTerm) → theory.first_key (map (rename_term n) us) ≡ first_key us
-first_renamed n [] = refl
-first_renamed n (u ∷ us) = key_rename n u ∙ key_same u
 
 -- where the keys do not agree an atom is not unified with a clause's head
 pub keys_refuse : (s : State) → IsIdempotent s.bindings → (ts us : List NominalTerm) → agree (first_key (map (under s.bindings) ts)) (first_key us) ≡ false
@@ -38,7 +20,7 @@ pub keys_refuse : (s : State) → IsIdempotent s.bindings → (ts us : List Nomi
 keys_refuse s idempotent ts us h =
     let vs = map (rename_term (next_number s)) us in
     unify_heads s.bindings s.conditions ts vs idempotent
-    (first_differs s.bindings ts vs (ap₂ theory.may_meet (first_same (map (under s.bindings) ts)) (first_renamed (next_number s) us) ∙ h))
+    (first_differs s.bindings ts vs (ap (agree (first_key (map (under s.bindings) ts))) (first_renamed (next_number s) us) ∙ h))
 
 pub left_out : {C : Type 0} (go : NominalGoal → State → List (Outcome C)) (s : State) → IsIdempotent s.bindings → (ts : List NominalTerm) (i : ℕ) (c : NominalClause)
     → agree (first_key (map (under s.bindings) ts)) (first_key c.args) ≡ false → by_clause go ts s i c ≡ []

@@ -143,7 +143,7 @@ fn visit<'a>(
         (goal_of goal.now) body.old body.new) }
 {
     match (derivation, goal) {
-        (Derivation::Atom(_, _, _, _), Goal::Atom(pred, args)) => {
+        (Derivation::Atom(_, _), Goal::Atom(pred, args)) => {
             visit_atom(writer, body, derivation, *pred, args.items())?;
             Ok(())
         }
@@ -174,7 +174,7 @@ fn visit<'a>(
             Ok(())
         }
         (Derivation::New(name, below), Goal::New(own, goal)) => {
-            body.bring(Standing::Name(*own, *name))?;
+            body.bring(Standing::Name(*own, **name))?;
             body.put(below, goal)?;
             Ok(())
         }

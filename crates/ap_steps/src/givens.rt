@@ -204,11 +204,11 @@ fn look_at<'a>(
 {
     let locals = place.locals;
     match (place.derivation, place.goal) {
-        (Derivation::Atom(number, names, terms, below), Goal::Atom(pred, _)) => {
-            let Some(clause) = clause_at(program, *pred, *number) else {
+        (Derivation::Atom(used, below), Goal::Atom(pred, _)) => {
+            let Some(clause) = clause_at(program, *pred, used.clause) else {
                 return Ok(());
             };
-            let (names, terms) = (names.items(), terms.items());
+            let (names, terms) = (used.names.items(), used.terms.items());
             take_clause(alloc, given, waiting, clause, names, terms, below)
         }
         (Derivation::Both(first, second), Goal::Both(left, right)) => {
@@ -224,7 +224,7 @@ fn look_at<'a>(
             wait_at(waiting, below, goal, locals)
         }
         (Derivation::New(name, below), Goal::New(own, goal)) => {
-            add_name_at(given, locals, own.num, *name)?;
+            add_name_at(given, locals, own.num, **name)?;
             wait_at(waiting, below, goal, locals)
         }
         _ => Ok(()),

@@ -107,7 +107,7 @@ fn wait_below<'a>(
         Derivation::Eq => Ok(()),
         Derivation::Fresh => Ok(()),
         Derivation::True => Ok(()),
-        Derivation::Atom(_, _, _, below) => wait_for(waiting, below),
+        Derivation::Atom(_, below) => wait_for(waiting, below),
         Derivation::Both(left, right) => {
             wait_for(waiting, right)?;
             wait_for(waiting, left)
@@ -140,12 +140,12 @@ fn add_own_names(names: &mut IndexSet<Name>, node: &Derivation) -> Result<(), Me
         ≡ more_names names.old.keys (own_names (derivation_of node.now))) }
 {
     match node {
-        Derivation::Atom(_, own, terms, _) => {
-            add_listed(names, own.items())?;
-            add_names_of(names, terms.items())
+        Derivation::Atom(used, _) => {
+            add_listed(names, used.names.items())?;
+            add_names_of(names, used.terms.items())
         }
         Derivation::Exists(term, _) => add_names(names, term),
-        Derivation::New(own, _) => add_name(names, *own),
+        Derivation::New(own, _) => add_name(names, **own),
         Derivation::Eq | Derivation::Fresh | Derivation::True => Ok(()),
         Derivation::Both(_, _) | Derivation::Left(_) | Derivation::Right(_) => Ok(()),
     }
@@ -157,7 +157,7 @@ fn add_own_vars(vars: &mut IndexSet<Var>, node: &Derivation) -> Result<(), Memor
         ≡ more_vars vars.old.keys (own_vars (derivation_of node.now))) }
 {
     match node {
-        Derivation::Atom(_, _, terms, _) => add_vars_of(vars, terms.items()),
+        Derivation::Atom(used, _) => add_vars_of(vars, used.terms.items()),
         Derivation::Exists(term, _) => add_vars(vars, term),
         Derivation::New(_, _) => Ok(()),
         Derivation::Eq | Derivation::Fresh | Derivation::True => Ok(()),

@@ -105,10 +105,10 @@ fn use_of(derivation: &Derivation) -> Option<Use<'_>>
         ≡ nodes.atom u.number u.names.now (map term_of u.terms.now) (derivation_of u.body.now)) }
 {
     match derivation {
-        Derivation::Atom(number, names, terms, body) => Some(Use {
-            number: *number,
-            names: names.items(),
-            terms: terms.items(),
+        Derivation::Atom(used, body) => Some(Use {
+            number: used.clause,
+            names: used.names.items(),
+            terms: used.terms.items(),
             body,
         }),
         Derivation::Eq => None,

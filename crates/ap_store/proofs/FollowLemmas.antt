@@ -18,7 +18,7 @@ use Rattle.ap_theory.proofs.HeadKeyLemmas.{key_act}
 use Rattle.ap_theory.proofs.IdempotenceLemmas.{bound_term_unbound}
 use Rattle.ap_theory.proofs.SubstitutionLemmas.{under_act}
 use Rattle.ap_theory.proofs.TermLemmas.{act_term-append, occurs_act}
-use Rattle.ap_theory.specs.HeadKeys.{head_key}
+use Rattle.ap_defs.specs.HeadKeys.{head_key}
 use Rattle.ap_theory.specs.Variables.{IsUnbound}
 use Rattle.ap_store.specs.Heads.{IsHeadOf, IsHeadUnbound}
 use Rattle.ap_store.specs.Views.{present, rank, raw_bound}

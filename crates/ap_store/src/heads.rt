@@ -8,7 +8,7 @@ ghost use Rattle.ap_perm.specs.Closures.{closure_term};
 ghost use Rattle.ap_perm.specs.Lookups.{depth_of};
 ghost use Rattle.ap_store.specs.Heads.{IsHeadOf, IsHeadUnbound};
 ghost use Rattle.ap_store.specs.Views.{present, rank};
-ghost use Rattle.ap_theory.specs.HeadKeys.{head_key};
+ghost use Rattle.ap_defs.specs.HeadKeys.{head_key};
 
 use crate::store::Store;
 use ap_defs::terms::{Term, Var};

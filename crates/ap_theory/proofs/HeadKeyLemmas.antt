@@ -1,12 +1,12 @@
 -- Terms whose keys differ are not made equal.
-use Rattle.std.proofs.Common.{◌≡◌, ℕ, ◌+◌, true, false, List, [], ◌∷◌, map, refl, sym, ◌∙◌, ap, true≢false, arith}
+use Rattle.std.proofs.Common.{◌≡◌, ℕ, true, false, List, [], ◌∷◌, map, refl, sym, ◌∙◌, ap, true≢false, arith}
 use Rattle.std.proofs.lemmas.Bool.Decides.{nat_tests}
 use Rattle.std.specs.Prelude.{◌==◌, ◌||◌, ◌&&◌, Bool}
+use Rattle.ap_defs.specs.HeadKeys.{agree, first_key, head_key}
 use Rattle.ap_defs.specs.Renaming.{rename_term}
 use Rattle.ap_defs.specs.Substitution.{Binding, under}
 use Rattle.ap_defs.specs.Terms.{NominalTerm, unit, name, pair, app, abs, susp, act_term}
 use Rattle.ap_defs.specs.declared.terms.Swap.{Swap}
-use Rattle.ap_theory.specs.HeadKeys.{first_key, head_key, may_meet}
 use Rattle.ap_theory.specs.StatementsOnResults.{has_same_head, have_same_heads}
 
 pub key_act : (p : List Swap) (t : NominalTerm) → head_key (act_term p t) ≡ head_key t
@@ -25,8 +25,12 @@ key_rename n (app f t) = refl
 key_rename n (abs a t) = refl
 key_rename n (susp q x) = refl
 
--- a key of 0 may meet each
-wild : (k : ℕ) → may_meet k 0 ≡ true
+pub first_renamed : (n : ℕ) (us : List NominalTerm) → first_key (map (rename_term n) us) ≡ first_key us
+first_renamed n [] = refl
+first_renamed n (u ∷ us) = key_rename n u
+
+-- a key of 0 agrees with each
+wild : (k : ℕ) → agree k 0 ≡ true
 wild k = or_true (k == 0)
   where
     or_true : (b : Bool) → (b || true) ≡ true
@@ -34,7 +38,7 @@ wild k = or_true (k == 0)
     or_true true = refl
 
 -- bindings change only what a suspension stands for
-pub key_under : (bs : List Binding) (t : NominalTerm) (k : ℕ) → may_meet k (head_key t) ≡ false → may_meet k (head_key (under bs t)) ≡ false
+pub key_under : (bs : List Binding) (t : NominalTerm) (k : ℕ) → agree k (head_key t) ≡ false → agree k (head_key (under bs t)) ≡ false
 key_under bs unit k h = h
 key_under bs (name a) k h = h
 key_under bs (pair t u) k h = h
@@ -46,23 +50,24 @@ last_false : (x y : Bool) → (x || y) ≡ false → y ≡ false
 last_false false y h = h
 last_false true y h = absurd (true≢false h)
 
-same_constructor : (f g : ℕ) → may_meet (5 + f) (5 + g) ≡ false → (f == g) ≡ false
-same_constructor f g h =
-    let k : ((5 + f) == (5 + g)) ≡ false = last_false ((5 + g) == 0) ((5 + f) == (5 + g)) (last_false ((5 + f) == 0) (((5 + g) == 0) || ((5 + f) == (5 + g))) h) in
-    grind (arith, nat_tests)
+not_same : (k l : ℕ) → agree k l ≡ false → (k == l) ≡ false
+not_same k l h = last_false (l == 0) (k == l) (last_false (k == 0) ((l == 0) || (k == l)) h)
 
-pub keys_differ : (t u : NominalTerm) → may_meet (head_key t) (head_key u) ≡ false → has_same_head t u ≡ false
+same_constructor : (f g : ℕ) (t u : NominalTerm) → agree (head_key (app f t)) (head_key (app g u)) ≡ false → (f == g) ≡ false
+same_constructor f g t u h = let k = not_same (head_key (app f t)) (head_key (app g u)) h in grind (arith, nat_tests)
+
+pub keys_differ : (t u : NominalTerm) → agree (head_key t) (head_key u) ≡ false → has_same_head t u ≡ false
 keys_differ (susp p x) u h = absurd (true≢false h)
 keys_differ unit (susp q y) h = absurd (true≢false h)
 keys_differ (name a) (susp q y) h = absurd (true≢false h)
 keys_differ (pair t v) (susp q y) h = absurd (true≢false h)
-keys_differ (app f t) (susp q y) h = absurd (true≢false (sym (wild (5 + f)) ∙ h))
+keys_differ (app f t) (susp q y) h = absurd (true≢false (sym (wild (head_key (app f t))) ∙ h))
 keys_differ (abs a t) (susp q y) h = absurd (true≢false h)
 keys_differ unit unit h = absurd (true≢false h)
 keys_differ (name a) (name b) h = absurd (true≢false h)
 keys_differ (pair t v) (pair u w) h = absurd (true≢false h)
 keys_differ (abs a t) (abs b u) h = absurd (true≢false h)
-keys_differ (app f t) (app g u) h = same_constructor f g h
+keys_differ (app f t) (app g u) h = same_constructor f g t u h
 keys_differ unit (name b) h = refl
 keys_differ unit (pair u w) h = refl
 keys_differ unit (app g u) h = refl
@@ -88,7 +93,7 @@ first_unlike : (bs : List Binding) (t u : NominalTerm) (ts us : List NominalTerm
 first_unlike bs t u ts us h = ap (λ b. b && have_same_heads bs ts us) h
 
 -- where the first of the one under the bindings begins otherwise than the first of the other, a head differs
-pub first_differs : (bs : List Binding) (ts us : List NominalTerm) → may_meet (first_key (map (under bs) ts)) (first_key us) ≡ false → have_same_heads bs ts us ≡ false
+pub first_differs : (bs : List Binding) (ts us : List NominalTerm) → agree (first_key (map (under bs) ts)) (first_key us) ≡ false → have_same_heads bs ts us ≡ false
 first_differs bs [] us h = absurd (true≢false h)
 first_differs bs (t ∷ ts) [] h = absurd (true≢false (sym (wild (head_key (under bs t))) ∙ h))
 first_differs bs (t ∷ ts) (u ∷ us) h = first_unlike bs t u ts us (keys_differ (under bs t) (under bs u) (key_under bs u (head_key (under bs t)) h))

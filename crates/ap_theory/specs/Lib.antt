@@ -7,7 +7,6 @@ pub mod Variables
 pub mod StatementsOnEquality
 pub mod StatementsOnSubstitution
 pub mod StatementsOnResults
-pub mod HeadKeys
 pub mod Exchanges
 pub mod StatementsOnExchanges
 pub mod StatementsOnConditions

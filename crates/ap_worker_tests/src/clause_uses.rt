@@ -2,7 +2,7 @@ use ap_count::uses::{Derive, Question, uses};
 use ap_defs::goals::{Clause, Goal};
 use ap_defs::lists::List;
 use ap_defs::memory::Memory;
-use ap_defs::outcomes::Derivation;
+use ap_defs::outcomes::{ClauseUse, Derivation};
 use ap_defs::paths::Path;
 use ap_defs::terms::Term;
 use std::alloc::Global;
@@ -20,9 +20,13 @@ impl Derive for FirstFact {
     ghost at = { λ f p. atom 1 [] [] succeed };
 
     fn derivation(&self, alloc: Global, _path: &Path) -> Result<Derivation, Memory> {
+        let used = Box::new(alloc, ClauseUse {
+            clause: 1,
+            names: List::of(Vec::new(alloc)),
+            terms: List::of(Vec::new(alloc)),
+        })?;
         let body = Box::new(alloc, Derivation::True)?;
-        let names = List::of(Vec::new(alloc));
-        Ok(Derivation::Atom(1, names, List::of(Vec::new(alloc)), body))
+        Ok(Derivation::Atom(used, body))
     }
 }
 

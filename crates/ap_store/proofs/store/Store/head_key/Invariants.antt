@@ -5,7 +5,7 @@ use Rattle.ap_defs.specs.Terms.{term_of}
 use Rattle.ap_perm.specs.Closures.{closure_term}
 use Rattle.ap_perm.specs.Lookups.{depth_of}
 use Rattle.ap_store.specs.Views.{present, rank}
-use Rattle.ap_theory.specs.HeadKeys.{head_key}
+use Rattle.ap_defs.specs.HeadKeys.{head_key}
 use Rattle.ap_store.proofs.store.Store.head_key.Given as goal
 
 -- the term begins as what the closure stands for
