@@ -74,11 +74,14 @@ fn atom_onto(
     let Some(body) = first_derivation(&mut stack) else {
         return Ok(None);
     };
-    let used = Box::new(alloc, ClauseUse {
-        clause,
-        names: List::of(names),
-        terms: List::of(terms),
-    })?;
+    let used = Box::new(
+        alloc,
+        ClauseUse {
+            clause,
+            names: List::of(names),
+            terms: List::of(terms),
+        },
+    )?;
     let body = Box::new(alloc, body)?;
     stack.push(Derivation::Atom(used, body))?;
     Ok(Some(stack))

@@ -44,11 +44,14 @@ fn derivation_with(
     match node {
         SelectedGoal::Atom(number, names, vars) => {
             let terms = List::of(closed(alloc, store, vars.items())?);
-            let used = Box::new(alloc, ClauseUse {
-                clause: number,
-                names,
-                terms,
-            })?;
+            let used = Box::new(
+                alloc,
+                ClauseUse {
+                    clause: number,
+                    names,
+                    terms,
+                },
+            )?;
             let body = Box::new(alloc, take_last(made))?;
             Ok(Derivation::Atom(used, body))
         }

@@ -6,7 +6,7 @@ use Rattle.ap_defs.specs.HeadKeys.{agree, first_key, kept_from}
 use Rattle.ap_defs.specs.Renaming.{rename_goal, rename_term}
 use Rattle.ap_defs.specs.Resolution.{Outcome, State, by_clause, below, clause_node, if_unified, kinds_of, next_number}
 use Rattle.ap_defs.specs.Substitution.{under}
-use Rattle.ap_defs.specs.Terms.{NominalTerm, unit, name, pair, app, abs, susp}
+use Rattle.ap_defs.specs.Terms.{NominalTerm}
 use Rattle.ap_defs.specs.Unification.{unify}
 use Rattle.ap_paths.specs.Trees.{Ascends, AreAtMost, times}
 use Rattle.ap_theory.proofs.HeadKeyLemmas.{first_differs, first_renamed}

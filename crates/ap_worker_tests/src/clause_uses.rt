@@ -20,11 +20,14 @@ impl Derive for FirstFact {
     ghost at = { λ f p. atom 1 [] [] succeed };
 
     fn derivation(&self, alloc: Global, _path: &Path) -> Result<Derivation, Memory> {
-        let used = Box::new(alloc, ClauseUse {
-            clause: 1,
-            names: List::of(Vec::new(alloc)),
-            terms: List::of(Vec::new(alloc)),
-        })?;
+        let used = Box::new(
+            alloc,
+            ClauseUse {
+                clause: 1,
+                names: List::of(Vec::new(alloc)),
+                terms: List::of(Vec::new(alloc)),
+            },
+        )?;
         let body = Box::new(alloc, Derivation::True)?;
         Ok(Derivation::Atom(used, body))
     }
