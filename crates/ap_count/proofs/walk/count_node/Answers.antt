@@ -1,4 +1,6 @@
 use Rattle.std.proofs.Common.{sym, ap, ap₂, ◌++◌, ◌∙◌, map}
+use Rattle.ap_defs.specs.declared.outcomes.ClauseUse.{ClauseUse}
+use Rattle.ap_defs.specs.declared.outcomes.Derivation.{Derivation}
 use Rattle.ap_defs.specs.Derivations.{derivation_of}
 use Rattle.ap_defs.specs.Goals.{goal_of}
 use Rattle.ap_defs.specs.Terms.{term_of}
@@ -11,20 +13,22 @@ use Rattle.ap_count.proofs.walk.count_node.Goals as goal
 pub returns-in-Some-clause-uses : goal.returns-in-Some-clause-uses
 returns-in-Some-clause-uses c =
     let program = program_in c.args.program.now in
+    let u = c.in-Atom.used.value in
     let d = derivation_of c.in-Atom.below.value in
     let here = ap (λ e. uses program (derivation_of e) (goal_of c.args.node.goal.now)) c.in-Atom.is
-    ∙ c.pred_of_atom.ensures program c.in-Atom.number c.in-Atom.field-1 (map term_of c.in-Atom.field-2) d
-    ∙ ap (λ o. if_any o (λ p. uses_of_clause program p c.in-Atom.number d)) c.in-Some.is
-    ∙ ap (λ e. uses_of_clause program c.in-Some.pred c.in-Atom.number (derivation_of e)) (sym c.deref.ensures) in
+    ∙ c.pred_of_atom.ensures program u.clause u.names (map term_of u.terms) d
+    ∙ ap (λ o. if_any o (λ p. uses_of_clause program p u.clause d)) c.in-Some.is
+    ∙ ap₂ (λ (v : ClauseUse) (e : Derivation). uses_of_clause program c.in-Some.pred v.clause (derivation_of e)) (sym c.deref.ensures) (sym c.deref-in-Some.ensures) in
     node_counts c.count_clause.result program c.args.node _ c.args.waiting.now.items (with_uses (uses_of_all program c.count_clause.new.waiting.items) (table_of c.count_clause.new.table)) (table_of c.args.table.now) here c.count_clause.ensures.uses
 
 pub returns-in-None-clause-uses : goal.returns-in-None-clause-uses
 returns-in-None-clause-uses c =
     let program = program_in c.args.program.now in
+    let u = c.in-Atom.used.value in
     let d = derivation_of c.in-Atom.below.value in
     let none = ap (λ e. uses program (derivation_of e) (goal_of c.args.node.goal.now)) c.in-Atom.is
-    ∙ c.pred_of_atom.ensures program c.in-Atom.number c.in-Atom.field-1 (map term_of c.in-Atom.field-2) d
-    ∙ ap (λ o. if_any o (λ p. uses_of_clause program p c.in-Atom.number d)) c.in-None.is in
+    ∙ c.pred_of_atom.ensures program u.clause u.names (map term_of u.terms) d
+    ∙ ap (λ o. if_any o (λ p. uses_of_clause program p u.clause d)) c.in-None.is in
     ap (λ us. with_uses (us ++ uses_of_all program c.args.waiting.now.items) (table_of c.args.table.now)) (sym none)
 
 pub returns-in-Both-clause-uses : goal.returns-in-Both-clause-uses
@@ -56,7 +60,7 @@ pub returns-in-Exists-clause-uses : goal.returns-in-Exists-clause-uses
 returns-in-Exists-clause-uses c =
     let program = program_in c.args.program.now in
     let here = ap (λ e. uses program (derivation_of e) (goal_of c.args.node.goal.now)) c.in-Exists.is
-    ∙ c.below_exists.ensures program (term_of c.in-Exists.field-0) (derivation_of c.in-Exists.below.value)
+    ∙ c.below_exists.ensures program (term_of c.in-Exists.field-0.value) (derivation_of c.in-Exists.below.value)
     ∙ ap (λ e. if_any c.below_exists.result (λ g. uses program (derivation_of e) (goal_of g.now))) (sym c.deref-in-Exists.ensures) in
     node_waits c.wait_for-in-Exists.result program c.args.node _ c.args.waiting.now.items c.wait_for-in-Exists.new.waiting.items (table_of c.args.table.now) here (c.wait_for-in-Exists.ensures.uses program)
 
@@ -64,6 +68,6 @@ pub returns-in-New-clause-uses : goal.returns-in-New-clause-uses
 returns-in-New-clause-uses c =
     let program = program_in c.args.program.now in
     let here = ap (λ e. uses program (derivation_of e) (goal_of c.args.node.goal.now)) c.in-New.is
-    ∙ c.below_new.ensures program c.in-New.field-0 (derivation_of c.in-New.below.value)
+    ∙ c.below_new.ensures program c.in-New.field-0.value (derivation_of c.in-New.below.value)
     ∙ ap (λ e. if_any c.below_new.result (λ g. uses program (derivation_of e) (goal_of g.now))) (sym c.deref-in-New.ensures) in
     node_waits c.wait_for-in-New.result program c.args.node _ c.args.waiting.now.items c.wait_for-in-New.new.waiting.items (table_of c.args.table.now) here (c.wait_for-in-New.ensures.uses program)
