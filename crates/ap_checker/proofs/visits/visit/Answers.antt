@@ -4,8 +4,15 @@ use Rattle.ap_checker.proofs.visits.visit.Goals as goal
 
 pub returns-in-Atom-Atom : goal.returns-in-Atom-Atom
 returns-in-Atom-Atom c =
-    let h = rw (c.items.ensures, c.items-in-Atom-Atom.ensures, c.items-in-Atom-Atom-2.ensures,
-    c.deref.ensures, c.deref-in-Atom-Atom.ensures, c.deref-in-Atom-Atom-2.ensures, c.deref-in-Atom-Atom-3.ensures) at c.visit_atom.ensures in
+    let h = rw (
+      c.items.ensures,
+      c.items-in-Atom-Atom.ensures,
+      c.items-in-Atom-Atom-2.ensures,
+      c.deref.ensures,
+      c.deref-in-Atom-Atom.ensures,
+      c.deref-in-Atom-Atom-2.ensures,
+      c.deref-in-Atom-Atom-3.ensures,
+    ) at c.visit_atom.ensures in
     rw (c.in-Atom-Atom.is-0, c.in-Atom-Atom.is-1) (MatchResult-weaker c.visit_atom.result h (λ r f. f (kinds_at c.args.at)) (λ e k. k))
 
 pub returns-in-Exists-Exists : goal.returns-in-Exists-Exists
