@@ -30,7 +30,7 @@ entry_front table more entry.Unit h = refl
 entry_front table more (entry.Name a) h = refl
 entry_front table more (entry.Pair i j) h = rw (at_front table more i h.0, at_front table more j h.1) refl
 entry_front table more (entry.App f i) h = rw (at_front table more i h) refl
-entry_front table more (entry.Abs a i) h = rw (at_front table more i h) refl
+entry_front table more (entry.Abs s b i) h = rw (at_front table more i h) refl
 entry_front table more (entry.Susp p x) h = refl
 
 pub behind_more : (m n : ℕ) (e : Entry) → m < n → IsBehind m e → IsBehind n e
@@ -38,7 +38,7 @@ behind_more m n entry.Unit l h = tt
 behind_more m n (entry.Name a) l h = tt
 behind_more m n (entry.Pair i j) l h = (omega (arith, h.0), omega (arith, h.1))
 behind_more m n (entry.App f i) l h = omega arith
-behind_more m n (entry.Abs a i) l h = omega arith
+behind_more m n (entry.Abs s b i) l h = omega arith
 behind_more m n (entry.Susp p x) l h = tt
 
 -- what is known of a line of the table
@@ -100,7 +100,7 @@ entry_made table ts ks entry.Unit = refl
 entry_made table ts ks (entry.Name a) = refl
 entry_made table ts ks (entry.Pair i j) = refl
 entry_made table ts ks (entry.App f i) = refl
-entry_made table ts ks (entry.Abs a i) = refl
+entry_made table ts ks (entry.Abs s b i) = refl
 entry_made table ts ks (entry.Susp p x) = refl
 
 pub line_made : (table ts : List NominalTerm) (ks : List Task) (k : ℕ) (l : Line) (e : Entry) → IsLine table k l → l.entry ≡ e → made_by table (begun e ++ ks) (ready e ++ ts) ≡ made_by table (task.Line k ∷ ks) ts
@@ -111,7 +111,7 @@ entry_within n ks entry.Unit h w = w
 entry_within n ks (entry.Name a) h w = w
 entry_within n ks (entry.Pair i j) h w = (h.0, (h.1, w))
 entry_within n ks (entry.App f i) h w = (h, w)
-entry_within n ks (entry.Abs a i) h w = (h, w)
+entry_within n ks (entry.Abs s b i) h w = (h, w)
 entry_within n ks (entry.Susp p x) h w = w
 
 pub line_within : (table : List NominalTerm) (ks : List Task) (k : ℕ) (l : Line) (e : Entry) → IsLine table k l → l.entry ≡ e → AreWithin (length table) ks → AreWithin (length table) (begun e ++ ks)
@@ -122,7 +122,7 @@ entry_lighter table ks entry.Unit = omega arith
 entry_lighter table ks (entry.Name a) = omega arith
 entry_lighter table ks (entry.Pair i j) = omega arith
 entry_lighter table ks (entry.App f i) = omega arith
-entry_lighter table ks (entry.Abs a i) = omega arith
+entry_lighter table ks (entry.Abs s b i) = omega arith
 entry_lighter table ks (entry.Susp p x) = omega arith
 
 pub line_lighter : (table : List NominalTerm) (ks : List Task) (k : ℕ) (l : Line) (e : Entry) → IsLine table k l → l.entry ≡ e → weigh table (begun e ++ ks) < weigh table (task.Line k ∷ ks)

@@ -27,8 +27,8 @@ entry_term table entry.Unit = terms.unit
 entry_term table (entry.Name a) = terms.name a
 entry_term table (entry.Pair i j) = terms.pair (at table i) (at table j)
 entry_term table (entry.App f i) = terms.app f (at table i)
-entry_term table (entry.Abs a i) = terms.abs a (at table i)
-entry_term table (entry.Susp p x) = terms.susp p x
+entry_term table (entry.Abs s n i) = terms.abs (record { sort = s; num = n }) (at table i)
+entry_term table (entry.Susp p x) = terms.susp p.value x
 
 -- its parts are among so many lines
 abbrev pub IsBehind : ℕ → Entry → Type 0
@@ -36,7 +36,7 @@ IsBehind n entry.Unit = Unit {0}
 IsBehind n (entry.Name a) = Unit {0}
 IsBehind n (entry.Pair i j) = (i < n) × (j < n)
 IsBehind n (entry.App f i) = i < n
-IsBehind n (entry.Abs a i) = i < n
+IsBehind n (entry.Abs s m i) = i < n
 IsBehind n (entry.Susp p x) = Unit {0}
 
 -- the terms of lines, of which the last comes first
@@ -98,7 +98,7 @@ begun entry.Unit = []
 begun (entry.Name a) = []
 begun (entry.Pair i j) = task.Line i ∷ task.Line j ∷ task.Close layer.Pair ∷ []
 begun (entry.App f i) = task.Line i ∷ task.Close (layer.App f) ∷ []
-begun (entry.Abs a i) = task.Line i ∷ task.Close (layer.Abs a) ∷ []
+begun (entry.Abs s n i) = task.Line i ∷ task.Close (layer.Abs (record { sort = s; num = n })) ∷ []
 begun (entry.Susp p x) = []
 
 abbrev pub ready : Entry → List NominalTerm
@@ -106,5 +106,5 @@ ready entry.Unit = terms.unit ∷ []
 ready (entry.Name a) = terms.name a ∷ []
 ready (entry.Pair i j) = []
 ready (entry.App f i) = []
-ready (entry.Abs a i) = []
-ready (entry.Susp p x) = terms.susp p x ∷ []
+ready (entry.Abs s n i) = []
+ready (entry.Susp p x) = terms.susp p.value x ∷ []

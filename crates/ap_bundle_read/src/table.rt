@@ -14,15 +14,16 @@ use ap_defs::memory::Memory;
 use ap_defs::terms::{Name, Swap, Var};
 use std::alloc::Global;
 
-/// A term by the lines of its parts.
+/// A term by the lines of its parts. It takes 24 bytes: a binder stands as its sort and its number, and the
+/// swappings of a suspension stand in a box of their own.
 #[derive(Drop)]
 pub(crate) enum Entry {
     Unit,
     Name(Name),
     Pair(usize, usize),
     App(u32, usize),
-    Abs(Name, usize),
-    Susp(List<Swap>, Var),
+    Abs(u32, u64, usize),
+    Susp(Box<List<Swap>>, Var),
 }
 
 /// A line of the table, and how large its term is, where that is below 2 ^ 64.
@@ -86,7 +87,7 @@ impl Table {
                 sum_of(Some(1), sum_of(self.size(*left), self.size(*right)))
             }
             Entry::App(_, part) => sum_of(Some(1), self.size(*part)),
-            Entry::Abs(_, part) => sum_of(Some(1), self.size(*part)),
+            Entry::Abs(_, _, part) => sum_of(Some(1), self.size(*part)),
             Entry::Susp(swaps, _) => sum_of(Some(1), Some(swaps.items().len() as u64)),
         }
     }

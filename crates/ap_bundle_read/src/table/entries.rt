@@ -90,7 +90,7 @@ fn abs_entry(table: &Table, numbers: Vec<u64>) -> Option<Entry>
     let name = a_name(&mut numbers)?;
     let part = earlier(table, &mut numbers)?;
     if numbers.is_empty() {
-        Some(Entry::Abs(name, part))
+        Some(Entry::Abs(name.sort, name.num, part))
     } else {
         None
     }
@@ -113,7 +113,8 @@ fn susp_entry(alloc: Global, table: &Table, numbers: Vec<u64>) -> Result<Option<
         return Ok(None);
     };
     if numbers.is_empty() {
-        Ok(Some(Entry::Susp(List::of(front), Var { num })))
+        let front = Box::new(alloc, List::of(front))?;
+        Ok(Some(Entry::Susp(front, Var { num })))
     } else {
         Ok(None)
     }

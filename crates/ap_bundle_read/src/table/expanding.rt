@@ -43,8 +43,12 @@ fn push_tasks(entry: &Entry, tasks: &mut Vec<Task>) -> Result<(), Memory>
             tasks.push(Task::Close(Layer::App(*constructor)))?;
             tasks.push(Task::Line(*part))?;
         }
-        Entry::Abs(name, part) => {
-            tasks.push(Task::Close(Layer::Abs(*name)))?;
+        Entry::Abs(sort, num, part) => {
+            let name = Name {
+                sort: *sort,
+                num: *num,
+            };
+            tasks.push(Task::Close(Layer::Abs(name)))?;
             tasks.push(Task::Line(*part))?;
         }
     }
@@ -63,7 +67,7 @@ fn push_ready(alloc: Global, entry: &Entry, made: &mut Vec<Term>) -> Result<(), 
             let swaps = List::of(swaps.items().to_vec(alloc)?);
             made.push(Term::Susp(swaps, *var))?;
         }
-        Entry::Pair(_, _) | Entry::App(_, _) | Entry::Abs(_, _) => {}
+        Entry::Pair(_, _) | Entry::App(_, _) | Entry::Abs(_, _, _) => {}
     }
     Ok(())
 }
