@@ -1,4 +1,6 @@
 use Rattle.std.proofs.Common.{suc, ◌+◌, ◌∷◌, ◌++◌, sym, ap, ap₂, ◌∙◌}
+use Rattle.ap_defs.specs.declared.outcomes.ClauseUse.{ClauseUse}
+use Rattle.ap_defs.specs.declared.outcomes.Derivation.{Derivation}
 use Rattle.ap_defs.specs.Derivations.{derivation_of, path, weight}
 use Rattle.ap_cover.specs.Waiting.{paths_waiting, weight_waiting}
 use Rattle.ap_cover.proofs.PathLemmas.{both_lighter, both_wait, node_chosen, node_waits, one_lighter}
@@ -6,13 +8,14 @@ use Rattle.ap_cover.proofs.path.add_node.Goals as goal
 
 pub returns-in-Atom-clause-weight : goal.returns-in-Atom-clause-weight
 returns-in-Atom-clause-weight c =
-    one_lighter c.choose_then.result _ (weight (derivation_of c.deref.result.now)) (weight_waiting c.args.waiting.now.items) (weight (derivation_of c.args.node.derivation.now))
-    (ap (λ e. weight (derivation_of e)) c.in-Atom.is ∙ ap (λ e. suc (weight (derivation_of e))) (sym c.deref.ensures)) c.choose_then.ensures.weight
+    one_lighter c.choose_then.result _ (weight (derivation_of c.deref-in-Atom.result.now)) (weight_waiting c.args.waiting.now.items) (weight (derivation_of c.args.node.derivation.now))
+    (ap (λ e. weight (derivation_of e)) c.in-Atom.is ∙ ap (λ e. suc (weight (derivation_of e))) (sym c.deref-in-Atom.ensures)) c.choose_then.ensures.weight
 
 pub returns-in-Atom-clause-path : goal.returns-in-Atom-clause-path
 returns-in-Atom-clause-path c =
-    node_chosen c.choose_then.result _ c.args.choices.now.items (c.in-Atom.number ∷ path (derivation_of c.deref.result.now)) (paths_waiting c.args.waiting.now.items) (path (derivation_of c.args.node.derivation.now))
-    (ap (λ e. path (derivation_of e)) c.in-Atom.is ∙ ap (λ e. c.in-Atom.number ∷ path (derivation_of e)) (sym c.deref.ensures)) c.choose_then.ensures.path
+    node_chosen c.choose_then.result _ c.args.choices.now.items (c.deref.result.now.clause ∷ path (derivation_of c.deref-in-Atom.result.now)) (paths_waiting c.args.waiting.now.items) (path (derivation_of c.args.node.derivation.now))
+    (ap (λ e. path (derivation_of e)) c.in-Atom.is
+    ∙ ap₂ (λ (u : ClauseUse) (e : Derivation). u.clause ∷ path (derivation_of e)) (sym c.deref.ensures) (sym c.deref-in-Atom.ensures)) c.choose_then.ensures.path
 
 pub returns-in-Left-clause-weight : goal.returns-in-Left-clause-weight
 returns-in-Left-clause-weight c =

@@ -1,6 +1,8 @@
-use Rattle.std.proofs.Common.{◌≡◌, [], ◌∷◌, map, ap, ◌∙◌, sym}
+use Rattle.std.proofs.Common.{◌≡◌, [], ◌∷◌, map, ap, ap₂, ◌∙◌, sym}
 use Rattle.std.specs.Prelude.{Some}
 use Rattle.ap_defs.specs.Answers.{closed_term}
+use Rattle.ap_defs.specs.declared.outcomes.ClauseUse.{ClauseUse}
+use Rattle.ap_defs.specs.declared.outcomes.Derivation.{Derivation}
 use Rattle.ap_defs.specs.Derivations as derivations
 use Rattle.ap_defs.specs.Derivations.{derivation_of}
 use Rattle.ap_defs.specs.Terms.{susp, term_of}
@@ -21,4 +23,4 @@ returns-in_ok-body-in-Atom c =
     ap (λ n. with_below (closed_node s (node_of n)) (made_in c.args.made.now)) c.in-Atom.is
     ∙ ap (with_below (atom k as' ts)) c.take_last.ensures
     ∙ ap (λ us. Some (derivations.atom k as' us (derivation_of c.take_last.result) ∷ others)) (sym terms)
-    ∙ ap (λ d. Some (derivations.atom k as' (map term_of c.of-terms.result) (derivation_of d) ∷ others)) (sym c.in_ok-body-in-Atom.ensures.ok)
+    ∙ ap₂ (λ (u : ClauseUse) (d : Derivation). Some (derivations.atom u.clause u.names (map term_of u.terms) (derivation_of d) ∷ others)) (sym c.in_ok-used-in-Atom.ensures.ok) (sym c.in_ok-body-in-Atom.ensures.ok)
