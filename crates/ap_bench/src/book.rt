@@ -9,7 +9,7 @@ use std::alloc::{AllocError, Global};
 
 const LEVELS: usize = 16;
 
-// Splits a path in two, or ends it with one output at the last level.
+/// Splits a path in two, or ends it with one output at the last level.
 fn visit(alloc: Global, book: &mut Book, open: &mut Vec<Path>, path: Path) -> Result<(), Memory> {
     if path.choices().len() < LEVELS {
         if book.split(alloc, 0, &path, &[1, 2]).is_err() {
@@ -46,6 +46,7 @@ fn merged(alloc: Global) -> Result<usize, Memory> {
     Ok(merge(alloc, Closed { history, logs })?.len())
 }
 
+/// A book is filled, closed and merged.
 pub fn report(alloc: Global) -> Result<String, AllocError> {
     match merged(alloc) {
         Ok(count) => format!(in alloc; "{count} outputs"),

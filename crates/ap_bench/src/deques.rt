@@ -14,6 +14,7 @@ fn made(alloc: Global) -> Result<u32, Memory> {
     Ok(DEQUES)
 }
 
+/// Deques are made and dropped.
 pub fn report(alloc: Global) -> Result<String, AllocError> {
     match made(alloc) {
         Ok(count) => format!(in alloc; "{count} deques"),

@@ -133,25 +133,25 @@ fn checked(alloc: Global, program: &Restricted, bundle: &Bundle) -> Result<usize
     Ok(count)
 }
 
-// Of what query the derivation is, once it is made.
+/// Of what query the derivation is, once it is made.
 fn derived_line(alloc: Global, program: &Restricted) -> Result<String, Memory> {
     let query = proved(alloc, program)?.query;
     Ok(format!(in alloc; "derived for query {query}")?)
 }
 
-// How many bytes are written.
+/// How many bytes are written.
 fn written_line(alloc: Global, program: &Restricted) -> Result<String, Memory> {
     let count = written(alloc, program)?.len();
     Ok(format!(in alloc; "{count} bytes")?)
 }
 
-// How many derivations are read again.
+/// How many derivations are read again.
 fn read_line(alloc: Global, program: &Restricted) -> Result<String, Memory> {
     let count = read(alloc, program)?.proved.items().len();
     Ok(format!(in alloc; "{count} read")?)
 }
 
-// How many derivations are read again and check.
+/// How many derivations are read again and check.
 fn verified_line(alloc: Global, program: &Restricted) -> Result<String, Memory> {
     let bundle = read(alloc, program)?;
     let count = checked(alloc, program, &bundle)?;

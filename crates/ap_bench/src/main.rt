@@ -23,7 +23,7 @@ use std::sync::Wait;
 use std::thread::Threads;
 use std::{env, io};
 
-// What is measured.
+/// What is measured.
 fn measured<R: Threads + Wait + Sync + AllocGlobal>(rt: &R, word: &str) -> io::Result<String> {
     let alloc = rt.alloc();
     let line = match word {

@@ -18,7 +18,7 @@ const LEVELS: usize = 20;
 /// Rounds of work at each leaf, which take about 10 microseconds.
 const ROUNDS: u64 = 6_000;
 
-// Some work: rounds of a mixer of bits, each of which waits for the one before it. It is 0 for 0 alone.
+/// Some work: rounds of a mixer of bits, each of which waits for the one before it. It is 0 for 0 alone.
 fn worked(seed: u64) -> u64 {
     let mut state = seed;
     for _ in 0..ROUNDS {
@@ -33,7 +33,7 @@ fn cut_at(alloc: Global, path: &Path) -> Result<Out, Memory>
     Ok(Out::Cut(path.copy(alloc)?))
 }
 
-// The work at a leaf. Its result is looked at, so that no compiler leaves it out.
+/// The work at a leaf. Its result is looked at, so that no compiler leaves it out.
 fn work_at(path: &Path) -> Result<(), Memory> {
     let mut seed = 1;
     for k in path.choices() {
@@ -51,7 +51,8 @@ struct Pairs {
 }
 
 impl Tree for Pairs {
-    ghost use Rattle.ap_steal.specs.Meet.{pair_choices, pair_at, pair_plan, pair_branches, pair_planned};
+    ghost use Rattle.ap_pairs.specs.Pairs.{pair_choices, pair_at, pair_plan};
+    ghost use Rattle.ap_pairs.proofs.Laws.{pair_branches, pair_planned};
 
     ghost choices = { λ t. pair_choices t.depth };
 
@@ -86,7 +87,7 @@ impl Tree for Pairs {
     ghost planned = { λ t. pair_planned t.depth };
 }
 
-// The outputs below a path, by recursion over the levels that are left.
+/// The outputs below a path, by recursion over the levels that are left.
 fn gather(alloc: Global, levels: &[u8], path: &Path, outs: &mut Vec<Out>) -> Result<(), Memory> {
     match levels {
         [] => {

@@ -29,6 +29,7 @@ fn taken<R: Wait>(rt: &R, alloc: Global) -> Result<u32, Memory> {
     Ok(TURNS)
 }
 
+/// Turns of a book are taken.
 pub fn report<R: Wait>(rt: &R, alloc: Global) -> Result<String, AllocError> {
     match taken(rt, alloc) {
         Ok(count) => format!(in alloc; "{count} turns"),

@@ -8,7 +8,7 @@ use std::alloc::{AllocError, Global};
 
 const STEPS: u64 = 20;
 
-// A hole is the pair of the hole before it with itself.
+/// A hole is the pair of the hole before it with itself.
 fn doubled(alloc: Global, hole: u64, before: u64) -> Result<(Shape, Shape), Memory> {
     let left = Box::new(alloc, Shape::Hole(before))?;
     let right = Box::new(alloc, Shape::Hole(before))?;
@@ -31,6 +31,7 @@ fn solved(alloc: Global) -> Result<usize, Memory> {
     }
 }
 
+/// Equations of types are solved.
 pub fn report(alloc: Global) -> Result<String, AllocError> {
     match solved(alloc) {
         Ok(count) => format!(in alloc; "{count} shapes"),

@@ -16,7 +16,7 @@ pub const DIVIDER: &str = "\n----\n";
 
 const SEVERAL: [&str; 3] = ["2", "8", "64"];
 
-// What so many workers write for a text.
+/// What so many workers write for a text.
 fn run_by<R: Threads + Wait + Sync + AllocGlobal>(
     rt: &R,
     depth: &str,
@@ -27,7 +27,7 @@ fn run_by<R: Threads + Wait + Sync + AllocGlobal>(
     answer(rt, &words, text.as_bytes())
 }
 
-// Whether so many workers write these bytes with this status.
+/// Whether so many workers write these bytes with this status.
 fn write_same<R: Threads + Wait + Sync + AllocGlobal>(
     rt: &R,
     depth: &str,
@@ -39,7 +39,7 @@ fn write_same<R: Threads + Wait + Sync + AllocGlobal>(
     Ok(status.code() == first.0 && sink.bytes() == first.1)
 }
 
-// Writes a line for each number of workers that write otherwise.
+/// Writes a line for each number of workers that write otherwise.
 fn compare<R: Threads + Wait + Sync + AllocGlobal + Print>(
     rt: &R,
     depth: &str,
@@ -54,7 +54,7 @@ fn compare<R: Threads + Wait + Sync + AllocGlobal + Print>(
     Ok(())
 }
 
-// Writes the text's last part, and what the top call writes for the text, with the status.
+/// Writes the text's last part, and what the top call writes for the text, with the status.
 fn run<R: Threads + Wait + Sync + AllocGlobal + Print>(
     rt: &R,
     depth: &str,
@@ -69,7 +69,7 @@ fn run<R: Threads + Wait + Sync + AllocGlobal + Print>(
     println!(rt; "% status {}", status.code())
 }
 
-// Runs the texts of a file.
+/// Runs the texts of a file.
 pub fn run_file<R: Threads + Wait + Sync + AllocGlobal + Files + Print>(
     rt: &R,
     name: &str,

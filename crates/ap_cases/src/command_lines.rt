@@ -11,7 +11,7 @@ use std::{fs, io};
 /// A text with two answers.
 const TEXT: &str = "nat : type. z : nat. s : nat -> nat. pred p(nat). p(z). p(s(z)). ?- p(X).";
 
-// Writes a line and what the top call writes for its words, with the status, and the status where the first read fails.
+/// Writes a line and what the top call writes for its words, with the status, and the status where the first read fails.
 fn run_line<R: Threads + Wait + Sync + AllocGlobal + Print>(rt: &R, line: &str) -> io::Result<()> {
     let alloc = rt.alloc();
     let words = words_in(alloc, line)?;
@@ -36,7 +36,7 @@ pub fn run_lines<R: Threads + Wait + Sync + AllocGlobal + Files + Print>(rt: &R)
     Ok(())
 }
 
-// Writes a line and what the top call writes for its words and an input, with the status.
+/// Writes a line and what the top call writes for its words and an input, with the status.
 fn run_on<R: Threads + Wait + Sync + AllocGlobal + Print>(
     rt: &R,
     line: &str,

@@ -10,7 +10,7 @@ use std::sync::Wait;
 use std::thread::Threads;
 use std::{fs, io};
 
-// What so many workers write for the properties of a text.
+/// What so many workers write for the properties of a text.
 fn examine_by<R: Threads + Wait + Sync + AllocGlobal>(
     rt: &R,
     depth: &str,
@@ -21,7 +21,7 @@ fn examine_by<R: Threads + Wait + Sync + AllocGlobal>(
     answer(rt, &words, text)
 }
 
-// Examines a text, and writes its name and the depth before what is written, and the status after.
+/// Examines a text, and writes its name and the depth before what is written, and the status after.
 fn examine<R: Threads + Wait + Sync + AllocGlobal + Print>(
     rt: &R,
     depth: &str,

@@ -9,7 +9,7 @@ use std::sync::Wait;
 use std::thread::Threads;
 use std::{fs, io};
 
-// Writes a title, then what the top call writes for words and what a path has, and the status.
+/// Writes a title, then what the top call writes for words and what a path has, and the status.
 fn run<R: Threads + Wait + Sync + AllocGlobal + Files + Print>(
     rt: &R,
     title: &str,
@@ -23,7 +23,7 @@ fn run<R: Threads + Wait + Sync + AllocGlobal + Files + Print>(
     println!(rt; "% status {}", status.code())
 }
 
-// Runs a text to a depth.
+/// Runs a text to a depth.
 fn run_text<R: Threads + Wait + Sync + AllocGlobal + Files + Print>(
     rt: &R,
     depth: &str,
@@ -33,7 +33,7 @@ fn run_text<R: Threads + Wait + Sync + AllocGlobal + Files + Print>(
     run(rt, path, &words, path)
 }
 
-// Runs a command on what a path has.
+/// Runs a command on what a path has.
 fn run_command<R: Threads + Wait + Sync + AllocGlobal + Files + Print>(
     rt: &R,
     line: &str,

@@ -23,7 +23,7 @@ use std::{env, io, thread};
 // a walk down it, or its drop, takes a frame a level. Memory is taken only for what is used of it.
 const STACK: usize = 1 << 30;
 
-// The words after the program's name. Where one isn't UTF-8 there are none, which is refused too.
+/// The words after the program's name. Where one isn't UTF-8 there are none, which is refused too.
 fn words(rt: &(impl Env + AllocGlobal)) -> Result<Vec<String>, AllocError> {
     match env::args(rt) {
         Ok(args) => args.skip(1).collect(rt.alloc()),
@@ -32,7 +32,7 @@ fn words(rt: &(impl Env + AllocGlobal)) -> Result<Vec<String>, AllocError> {
     }
 }
 
-// The word that names the command.
+/// The word that names the command.
 fn command(words: &[String]) -> &str {
     match words.first() {
         Some(word) => word.as_str(),
@@ -40,18 +40,18 @@ fn command(words: &[String]) -> &str {
     }
 }
 
-// Whether the input is a bundle, and not a text.
+/// Whether the input is a bundle, and not a text.
 fn reads_bundle(words: &[String]) -> bool {
     let command = command(words);
     command == "check" || command == "convert" || command == "cover"
 }
 
-// Whether the report has lines of totals. A bundle has none of its own.
+/// Whether the report has lines of totals. A bundle has none of its own.
 fn writes_totals(words: &[String]) -> bool {
     command(words) == "run"
 }
 
-// Runs the interpreter on standard input and output, and says on standard error what helps.
+/// Runs the interpreter on standard input and output, and says on standard error what helps.
 fn run<R: Threads + Wait + Sync + AllocGlobal + Input + Print + Eprint>(
     rt: &R,
     words: &[String],

@@ -58,14 +58,14 @@ fn status_text(status: Status) -> &'static str {
     }
 }
 
-// Writes to standard error. Where it can't be written, nothing comes of it.
+/// Writes to standard error. Where it can't be written, nothing comes of it.
 fn put<R: Eprint>(rt: &R, said: &str) {
     if !said.is_empty() {
         let _ = eprint!(rt; "{said}");
     }
 }
 
-// What is said of the fault of a text.
+/// What is said of the fault of a text.
 fn say_fault<R: Eprint>(rt: &R, alloc: Global, text: &[u8]) {
     if text.len() <= SIZE_LIMIT {
         if let Ok(said) = explain_text(alloc, text) {
@@ -74,7 +74,7 @@ fn say_fault<R: Eprint>(rt: &R, alloc: Global, text: &[u8]) {
     }
 }
 
-// What is said of a text beside its report.
+/// What is said of a text beside its report.
 fn say_remarks<R: Eprint>(rt: &R, alloc: Global, text: &[u8], tally: Tally) {
     if text.len() <= SIZE_LIMIT {
         if let Ok(said) = warnings(alloc, text) {

@@ -17,7 +17,7 @@ use ap_sentences::{Subject, item_message};
 use ap_text::{TextError, program_of_text};
 use std::alloc::Global;
 
-// The item of a fault, from 1.
+/// The item of a fault, from 1.
 fn item_of(fault: &Fault) -> u32
     ensures { result ≡ fault_item fault.now }
 {
@@ -28,7 +28,7 @@ fn item_of(fault: &Fault) -> u32
     }
 }
 
-// The tokens of an item; of an item without any its `.`.
+/// The tokens of an item; of an item without any its `.`.
 fn item_tokens<'t, 'a>(tokens: &'t [Token<'a>], range: Range) -> &'t [Token<'a>] {
     if range.first < range.end {
         return tokens_in(tokens, range);
@@ -37,7 +37,7 @@ fn item_tokens<'t, 'a>(tokens: &'t [Token<'a>], range: Range) -> &'t [Token<'a>]
     tokens_in(tokens, Range { end, ..range })
 }
 
-// What is said of a fault of an item of these tokens, if the item is found.
+/// What is said of a fault of an item of these tokens, if the item is found.
 fn message_of_tokens(
     alloc: Global,
     text: &[u8],
@@ -62,7 +62,7 @@ fn message_of_tokens(
     Ok(in_item(tokens, number, message))
 }
 
-// What is said of a fault of an item of the text.
+/// What is said of a fault of an item of the text.
 fn message_of_item(alloc: Global, text: &[u8], fault: &Fault) -> Result<Option<Message>, Memory>
     requires { length text.now ≤ size_limit }
     ensures { IfOk result (λ m. IfSome m (λ m. StandsInItem text.now (fault_item fault.now) m.span.start)) }
@@ -74,7 +74,7 @@ fn message_of_item(alloc: Global, text: &[u8], fault: &Fault) -> Result<Option<M
     }
 }
 
-// What is said of a fault, if its place is found.
+/// What is said of a fault, if its place is found.
 fn message_of(alloc: Global, text: &[u8], fault: &Fault) -> Result<Option<Message>, Memory>
     requires { length text.now ≤ size_limit }
     ensures { IfOk result (λ m. IfSome m (λ m. IsMarkOf text.now fault.now m.span.start)) }
@@ -111,7 +111,7 @@ pub fn explain(alloc: Global, text: &[u8]) -> Result<Option<Explanation>, Memory
     }
 }
 
-// Adds what is said of a fault, if its place was found.
+/// Adds what is said of a fault, if its place was found.
 fn add_explanation(
     alloc: Global,
     out: &mut String,

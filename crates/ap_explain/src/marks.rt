@@ -13,7 +13,7 @@ fn count_lines(text: &[u8]) -> usize
     text.iter().filter(|byte| **byte == b'\n').count()
 }
 
-// The line of a byte of a text, from 1.
+/// The line of a byte of a text, from 1.
 fn line_of(text: &[u8], byte: usize) -> usize
     requires { byte ≤ length text.now }
     ensures { result ≡ line_at text.now byte }
@@ -40,7 +40,7 @@ fn count_dots(tokens: &[Token<'_>]) -> usize
     tokens.iter().filter(|token| token.text == ".").count()
 }
 
-// The item of the token with a number, from 1.
+/// The item of the token with a number, from 1.
 #[tactic(auto, using(crate::proofs::MarkLemmas::dots_before))]
 fn item_of_token(tokens: &[Token<'_>], number: usize) -> usize
     requires { number ≤ length tokens.now }
@@ -49,13 +49,13 @@ fn item_of_token(tokens: &[Token<'_>], number: usize) -> usize
     1 + count_dots(&tokens[..number])
 }
 
-// The last token that begins at a byte or before it.
+/// The last token that begins at a byte or before it.
 fn token_before(tokens: &[Token<'_>], byte: u64) -> usize {
     let begun = tokens.iter().filter(|token| token.start <= byte).count();
     begun.saturating_sub(1)
 }
 
-// Whether the byte stands at the token with a number, and that in the item.
+/// Whether the byte stands at the token with a number, and that in the item.
 fn stands_at(tokens: &[Token<'_>], number: usize, item: u32, byte: u64) -> bool
     ensures { IsTrue result → StandsIn (lexemes tokens.now) item byte }
 {

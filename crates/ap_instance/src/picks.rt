@@ -27,7 +27,6 @@ pub struct Picks {
 
 impl Picks {
     /// A copy of the variable's term, and unit for others.
-
     pub fn of(&self, alloc: Global, x: Var) -> Result<Term, Memory>
         ensures { IfOk result (λ t. term_of t
             ≡ term_beside self.now.vars.keys self.now.terms.items (λ y. unit) x) }

@@ -32,7 +32,7 @@ const FILES: [(&str, Kind); 9] = [
 
 const DIVIDER: &str = "\n----\n";
 
-// Writes each text of a file, and what it is read as.
+/// Writes each text of a file, and what it is read as.
 fn read_file<R: AllocGlobal + Files + Print>(rt: &R, name: &str, kind: Kind) -> io::Result<()> {
     println!(rt; "% {name}")?;
     let all = fs::read_to_string(rt, name)?;
@@ -43,7 +43,7 @@ fn read_file<R: AllocGlobal + Files + Print>(rt: &R, name: &str, kind: Kind) -> 
     Ok(())
 }
 
-// Writes what becomes of each large text.
+/// Writes what becomes of each large text.
 fn go_round<R: AllocGlobal + Print>(rt: &R) -> io::Result<()> {
     for shape in &SHAPES {
         let goal = goal_of_shape(rt.alloc(), shape)?;

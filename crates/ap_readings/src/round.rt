@@ -20,6 +20,7 @@ pub enum Outcome {
 }
 
 impl Outcome {
+    /// What is printed of it.
     pub fn text(self) -> &'static str {
         match self {
             Outcome::NotRead => "not read",

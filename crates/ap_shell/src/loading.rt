@@ -33,7 +33,7 @@ pub struct Loading {
     pub said: String,
 }
 
-// What is said of a text that is loaded.
+/// What is said of a text that is loaded.
 fn said_of(alloc: Global, text: &[u8], tokens: &[Token<'_>]) -> Result<String, Memory> {
     let mut said = if text.len() <= SIZE_LIMIT {
         warnings(alloc, text)?

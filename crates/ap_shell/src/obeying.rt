@@ -22,7 +22,7 @@ const NOTHING_ASKED: &str = "error: no query has been asked\n";
 
 const ADDING: &str = "add clauses, and end them with a line `.`\n";
 
-// Twice a depth, where there is so great a one.
+/// Twice a depth, where there is so great a one.
 fn twice(depth: Depth) -> Depth {
     let number = depth.get();
     let twice = if number == 0 { 1 } else { number * 2 };
@@ -64,7 +64,7 @@ fn more<R: Threads + Wait + Sync, G: Gate>(
     ask(rt, alloc, gate, session)
 }
 
-// The words of a line.
+/// The words of a line.
 fn words_of(alloc: Global, line: &str) -> Result<Vec<String>, Memory> {
     let mut words = Vec::new(alloc);
     for word in line.split_ascii_whitespace() {
@@ -88,7 +88,7 @@ fn set(session: &mut Session, order: &Order<'_>)
     }
 }
 
-// What is told for an order that asks no query.
+/// What is told for an order that asks no query.
 fn tell(alloc: Global, session: &Session, order: &Order<'_>) -> Result<Told, Memory> {
     match order {
         Order::Add => tell_message(alloc, ADDING),
@@ -119,7 +119,7 @@ fn obey_quietly(alloc: Global, session: &mut Session, order: &Order<'_>) -> Resu
     Ok(Reply::Told(told))
 }
 
-// Whether an order is about the last query.
+/// Whether an order is about the last query.
 fn is_about_last(order: &Order<'_>) -> bool {
     match order {
         Order::More | Order::Deeper | Order::Prove | Order::Count | Order::Examine => true,

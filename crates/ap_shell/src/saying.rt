@@ -23,7 +23,7 @@ pub(crate) fn message(alloc: Global, text: &str) -> Result<String, Memory> {
     Ok(said)
 }
 
-// How many lines of a report are answers.
+/// How many lines of a report are answers.
 fn count_answers(report: &[u8]) -> u64 {
     let mut count: u64 = 0;
     let mut begins = true;
@@ -36,7 +36,7 @@ fn count_answers(report: &[u8]) -> u64 {
     count
 }
 
-// What is said where branches were cut.
+/// What is said where branches were cut.
 fn say_cut(said: &mut String, settings: &Settings, cut: u64) -> Result<(), Memory> {
     let depth = settings.depth.get();
     if cut > 0 && depth < GREATEST_DEPTH {
@@ -48,7 +48,7 @@ fn say_cut(said: &mut String, settings: &Settings, cut: u64) -> Result<(), Memor
     Ok(())
 }
 
-// What is said where branches are stuck.
+/// What is said where branches are stuck.
 fn say_stuck(said: &mut String, stuck: u64) -> Result<(), Memory> {
     if stuck > 0 {
         write!(
@@ -59,7 +59,7 @@ fn say_stuck(said: &mut String, stuck: u64) -> Result<(), Memory> {
     Ok(())
 }
 
-// What is said where there may be more answers.
+/// What is said where there may be more answers.
 fn say_more(said: &mut String, settings: &Settings, report: &[u8]) -> Result<(), Memory> {
     let wanted = settings.answers;
     if count_answers(report) >= wanted && wanted < MOST_ANSWERS {
@@ -71,14 +71,14 @@ fn say_more(said: &mut String, settings: &Settings, report: &[u8]) -> Result<(),
     Ok(())
 }
 
-// The sums over a report's lines of totals.
+/// The sums over a report's lines of totals.
 fn tally_of(report: &[u8]) -> Tally {
     let mut tally = Tally::new();
     tally.add(report);
     tally
 }
 
-// What is said of how to ask further.
+/// What is said of how to ask further.
 fn say_further(alloc: Global, settings: &Settings, report: &[u8]) -> Result<String, Memory> {
     let tally = tally_of(report);
     let mut said = String::new(alloc);

@@ -1,5 +1,8 @@
 //! What a session holds.
 
+ghost use Rattle.std.specs.Prelude.{◌≡◌, [], false};
+ghost use Rattle.ap_inputs.specs.declared.orders.Channel.TheVariants.{Beside};
+
 use ap_defs::limits::{Depth, Workers};
 use ap_inputs::orders::Channel;
 use std::alloc::Global;
@@ -42,8 +45,10 @@ const FIRST_DEPTH: u32 = 20;
 /// How many answers of each query a new session asks for.
 const FIRST_ANSWERS: u64 = 10;
 
-// The settings of a new session.
-fn first_settings(depth: Depth) -> Settings {
+/// The settings of a new session.
+fn first_settings(depth: Depth) -> Settings
+    ensures { (result.depth ≡ depth) × (result.workers ≡ 1) × (result.answers ≡ 10) }
+{
     Settings {
         depth,
         workers: Workers::one(),
@@ -52,8 +57,16 @@ fn first_settings(depth: Depth) -> Settings {
 }
 
 impl Session {
-    /// A session without a text. It takes no memory.
-    pub fn new(alloc: Global) -> Session {
+    /// A session without a text, in which queries are searched to depth 20 by one worker, for ten
+    /// answers. It takes no memory.
+    pub fn new(alloc: Global) -> Session
+        ensures texts { (result.loaded.items ≡ []) × (result.last.items ≡ []) }
+        ensures waits { (result.waiting.items ≡ []) × (result.is_adding ≡ false) }
+        ensures settings { (result.settings.depth ≡ 20) × (result.settings.workers ≡ 1)
+            × (result.settings.answers ≡ 10) }
+        ensures messages { (result.files.items ≡ []) × (result.channel ≡ Beside)
+            × (result.is_timed ≡ false) }
+    {
         Session {
             loaded: Vec::new(alloc),
             settings: first_settings(Depth::of(FIRST_DEPTH).unwrap()),

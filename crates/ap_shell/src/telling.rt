@@ -39,7 +39,7 @@ pub(crate) fn tell_message(alloc: Global, said: &str) -> Result<Told, Memory>
     })
 }
 
-// What is written.
+/// What is written.
 fn wrote(alloc: Global, written: Vec<u8>) -> Told {
     Told {
         written,
@@ -67,7 +67,7 @@ pub(crate) fn tell_usage(alloc: Global, command: Command) -> Result<Told, Memory
     Ok(told)
 }
 
-// The items about a word.
+/// The items about a word.
 fn items_of(alloc: Global, loaded: &[u8], word: &str) -> Result<Vec<u8>, Memory> {
     if loaded.len() > SIZE_LIMIT {
         return Ok(Vec::new(alloc));

@@ -14,12 +14,12 @@ struct Joined {
     firsts: Vec<usize>,
 }
 
-// How many ends of lines there are.
+/// How many ends of lines there are.
 fn count_lines(text: &[u8]) -> usize {
     text.iter().filter(|byte| **byte == b'\n').count()
 }
 
-// Adds what a reader has, up to a chunk past the limit.
+/// Adds what a reader has, up to a chunk past the limit.
 fn read_into<R: Read>(reader: &mut R, text: &mut Vec<u8>) -> io::Result<()> {
     let mut chunk = [0u8; 4096];
     for _ in 0..u64::MAX {
@@ -32,7 +32,7 @@ fn read_into<R: Read>(reader: &mut R, text: &mut Vec<u8>) -> io::Result<()> {
     Ok(())
 }
 
-// Adds the end of a line, where the text doesn't end with one.
+/// Adds the end of a line, where the text doesn't end with one.
 fn end_line(text: &mut Vec<u8>) -> Result<(), AllocError> {
     match text.last() {
         None | Some(b'\n') => Ok(()),
@@ -43,7 +43,7 @@ fn end_line(text: &mut Vec<u8>) -> Result<(), AllocError> {
     }
 }
 
-// Adds a file.
+/// Adds a file.
 fn add_file<R: Files>(rt: &R, name: &str, joined: &mut Joined) -> io::Result<()> {
     let mut file = File::open(rt, name)?;
     joined
@@ -54,7 +54,7 @@ fn add_file<R: Files>(rt: &R, name: &str, joined: &mut Joined) -> io::Result<()>
     Ok(())
 }
 
-// The texts of files, or what is said of the first that can't be read.
+/// The texts of files, or what is said of the first that can't be read.
 fn join<R: Files>(rt: &R, alloc: Global, names: &[String]) -> io::Result<Result<Joined, String>> {
     let mut joined = Joined {
         text: Vec::new(alloc),
@@ -72,7 +72,7 @@ fn join<R: Files>(rt: &R, alloc: Global, names: &[String]) -> io::Result<Result<
     Ok(Ok(joined))
 }
 
-// Says where each file begins.
+/// Says where each file begins.
 fn say_places<R: Print + Eprint + AllocGlobal>(
     rt: &R,
     session: &Session,
@@ -85,7 +85,7 @@ fn say_places<R: Print + Eprint + AllocGlobal>(
     Ok(())
 }
 
-// Loads texts.
+/// Loads texts.
 fn load_joined<R: Print + Eprint + AllocGlobal>(
     rt: &R,
     session: &mut Session,

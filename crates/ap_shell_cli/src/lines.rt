@@ -15,7 +15,7 @@ pub struct Lines<R> {
     end: usize,
 }
 
-// Adds bytes to a line. What a line has past the limit is left out, but for a byte.
+/// Adds bytes to a line. What a line has past the limit is left out, but for a byte.
 fn add(line: &mut Vec<u8>, bytes: &[u8]) -> Result<(), AllocError> {
     let room = (SIZE_LIMIT + 1).saturating_sub(line.len());
     line.extend_from_slice(&bytes[..bytes.len().min(room)])
@@ -33,7 +33,7 @@ impl<R: Read + Drop> Lines<R> {
         })
     }
 
-    // Reads further bytes, and tells whether there were any.
+    /// Reads further bytes, and tells whether there were any.
     fn refill(&mut self) -> io::Result<bool> {
         self.at = 0;
         self.end = 0;
@@ -46,7 +46,7 @@ impl<R: Read + Drop> Lines<R> {
         }
     }
 
-    // Moves the bytes that were read up to the end of a line, and tells whether that was there.
+    /// Moves the bytes that were read up to the end of a line, and tells whether that was there.
     fn take(&mut self, line: &mut Vec<u8>) -> io::Result<bool> {
         let Some(rest) = self.chunk.get(self.at..self.end) else {
             return Ok(false);

@@ -32,7 +32,7 @@ Loads the files, as one text, and answers queries that are typed: `GOAL.`; `:hel
 
 const GREETING: &str = "alphaprolog: a query ends with a full stop; `:help` tells the commands\n";
 
-// The words after the program's name. Where one isn't UTF-8 there are none.
+/// The words after the program's name. Where one isn't UTF-8 there are none.
 fn words(rt: &(impl Env + AllocGlobal)) -> Result<Option<Vec<String>>, AllocError> {
     match env::args(rt) {
         Ok(args) => {
@@ -44,12 +44,12 @@ fn words(rt: &(impl Env + AllocGlobal)) -> Result<Option<Vec<String>>, AllocErro
     }
 }
 
-// Whether the words name files.
+/// Whether the words name files.
 fn are_files(words: &[String]) -> bool {
     words.iter().all(|word| !word.as_str().starts_with('-'))
 }
 
-// A session, up to its end.
+/// A session, up to its end.
 fn session<R: Threads + Wait + Sync + AllocGlobal + Input + Print + Eprint + Files + Clock>(
     rt: &R,
     files: &[String],
@@ -68,7 +68,7 @@ fn session<R: Threads + Wait + Sync + AllocGlobal + Input + Print + Eprint + Fil
     converse(rt, &mut session, prompts)
 }
 
-// A session, and the status with which it ends.
+/// A session, and the status with which it ends.
 fn run<R: Threads + Wait + Sync + AllocGlobal + Input + Print + Eprint + Files + Clock>(
     rt: &R,
     files: &[String],

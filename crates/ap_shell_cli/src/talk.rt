@@ -17,7 +17,7 @@ const UNENDED: &str = "error: the input ends before the full stop\n";
 
 const NO_MEMORY: &str = "error: there was not enough memory\n";
 
-// Says how long a query took.
+/// Says how long a query took.
 fn say_time<R: Print + Eprint + Clock>(
     rt: &R,
     session: &Session,
@@ -30,7 +30,7 @@ fn say_time<R: Print + Eprint + Clock>(
     Ok(())
 }
 
-// Writes what is answered, and tells whether the session goes on.
+/// Writes what is answered, and tells whether the session goes on.
 fn put<R: Print + Eprint + Files + AllocGlobal>(
     rt: &R,
     session: &mut Session,
@@ -60,7 +60,7 @@ enum Next {
     Quit,
 }
 
-// Takes the first part of a line.
+/// Takes the first part of a line.
 fn take_part<R: Threads + Wait + Sync + AllocGlobal + Print + Eprint + Files + Clock>(
     rt: &R,
     session: &mut Session,
@@ -83,7 +83,7 @@ fn take_part<R: Threads + Wait + Sync + AllocGlobal + Print + Eprint + Files + C
     Ok(Next::At(step.used))
 }
 
-// Takes a line, and tells whether the session goes on.
+/// Takes a line, and tells whether the session goes on.
 fn take_line<R: Threads + Wait + Sync + AllocGlobal + Print + Eprint + Files + Clock>(
     rt: &R,
     session: &mut Session,
@@ -106,7 +106,7 @@ fn take_line<R: Threads + Wait + Sync + AllocGlobal + Print + Eprint + Files + C
     Ok(true)
 }
 
-// Shows that a line is waited for.
+/// Shows that a line is waited for.
 fn prompt<R: Print>(rt: &R, session: &Session) -> io::Result<()> {
     if session.is_adding || !session.waiting.is_empty() {
         print!(rt; "|  ")
@@ -115,7 +115,7 @@ fn prompt<R: Print>(rt: &R, session: &Session) -> io::Result<()> {
     }
 }
 
-// Ends a session whose input ends.
+/// Ends a session whose input ends.
 fn end<R: Print + Eprint>(rt: &R, session: &Session, prompts: bool) -> io::Result<()> {
     if prompts {
         println!(rt; "")?;

@@ -23,7 +23,7 @@ use words::format_asked;
 // walk down it takes a frame a level. Memory is taken only for what is used of it.
 const STACK: usize = 1 << 30;
 
-// The words after the program's name. Where one isn't UTF-8 there are none, which is refused too.
+/// The words after the program's name. Where one isn't UTF-8 there are none, which is refused too.
 fn given_words(rt: &(impl Env + AllocGlobal)) -> Result<Vec<String>, AllocError> {
     match env::args(rt) {
         Ok(args) => args.skip(1).collect(rt.alloc()),
@@ -32,7 +32,7 @@ fn given_words(rt: &(impl Env + AllocGlobal)) -> Result<Vec<String>, AllocError>
     }
 }
 
-// Writes a report to standard output.
+/// Writes a report to standard output.
 fn put<R: AllocGlobal + Print>(rt: &R, bytes: &[u8], status: Status) -> Status {
     let mut sink = StdSink::new(io::writer(rt));
     match write_whole(&mut sink, bytes) {
@@ -41,7 +41,7 @@ fn put<R: AllocGlobal + Print>(rt: &R, bytes: &[u8], status: Status) -> Status {
     }
 }
 
-// Shows what standard input holds.
+/// Shows what standard input holds.
 fn show<R: AllocGlobal + Input + Print>(rt: &R, format: ap_pages::pages::Format) -> Status {
     let alloc = rt.alloc();
     let mut source = StdSource::new(rt.reader());
@@ -56,7 +56,7 @@ fn show<R: AllocGlobal + Input + Print>(rt: &R, format: ap_pages::pages::Format)
     }
 }
 
-// Shows standard input in the format that the words ask for.
+/// Shows standard input in the format that the words ask for.
 fn run<R: AllocGlobal + Input + Print + Eprint>(rt: &R, words: &[String]) -> Status {
     let status = match format_asked(rt.alloc(), words) {
         Ok(Some(format)) => show(rt, format),

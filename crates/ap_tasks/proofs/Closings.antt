@@ -4,9 +4,10 @@ use Rattle.std.specs.declared.alloc.Global.{Global}
 use Rattle.atomic_blocks.specs.Lent.{RowsId}
 use Rattle.crossbeam_deque.specs.Tasks.{Pops, Forks, Merges, Finds}
 use Rattle.ap_tasks.specs.declared.hand.Hand.{Hand}
-use Rattle.ap_tasks.specs.Rule.{hand, weigh, Balanced, PermitsEmpty, Popped}
+use Rattle.ap_paths.specs.Weights.{weigh}
+use Rattle.ap_tasks.specs.Rule.{hand, Balanced, PermitsEmpty, Popped}
 use Rattle.ap_tasks.specs.Ends.{ThiefView}
-use Rattle.ap_tasks.specs.Owners.{parts_of, stolen_of, AreOf}
+use Rattle.ap_tasks.specs.Owners.{parts_of, stolen_of, AreThievesOf}
 use Rattle.ap_tasks.proofs.Moves.{forks, merges, settles, pops, weigh-append}
 
 pub forks_at : (port : ℕ) (v : Hand) → port ≡ 0 → 0 < v.parts → v.stolen ≡ [] → Forks Balanced port v (hand (v.parts - 1) v.pushed v.popped v.stolen) (hand 1 [] [] [])
@@ -42,12 +43,12 @@ parts_of-last all xs t is = rw is (omega (arith, parts_of-append xs (t ∷ [])))
 pub stolen_of-last : (h : List ℕ → ℕ) (all xs : List ThiefView) (t : ThiefView) → all ≡ xs ++ t ∷ [] → stolen_of h all ≡ stolen_of h xs + weigh h t.stolen
 stolen_of-last h all xs t is = rw is (omega (arith, stolen_of-append h xs (t ∷ [])))
 
-of_both : (d : RowsId × Global) (xs : List ThiefView) (t : ThiefView) → AreOf d (xs ++ t ∷ []) → AreOf d xs × (t.deque ≡ d)
+of_both : (d : RowsId × Global) (xs : List ThiefView) (t : ThiefView) → AreThievesOf d (xs ++ t ∷ []) → AreThievesOf d xs × (t.deque ≡ d)
 of_both d [] t h = (tt, h.0)
 of_both d (x ∷ xs) t h = let r = of_both d xs t h.1 in ((h.0, r.0), r.1)
 
-pub of_last : (d : RowsId × Global) (all xs : List ThiefView) (t : ThiefView) → all ≡ xs ++ t ∷ [] → AreOf d all → AreOf d xs × (t.deque ≡ d)
-of_last d all xs t is h = of_both d xs t (subst (AreOf d) is h)
+pub of_last : (d : RowsId × Global) (all xs : List ThiefView) (t : ThiefView) → all ≡ xs ++ t ∷ [] → AreThievesOf d all → AreThievesOf d xs × (t.deque ≡ d)
+of_last d all xs t is h = of_both d xs t (subst (AreThievesOf d) is h)
 
 pub absorbed : (v u w : Hand) → w ≡ hand (v.parts + u.parts) v.pushed v.popped (v.stolen ++ u.stolen) → u ≡ hand 1 [] [] [] → w ≡ hand (v.parts + 1) v.pushed v.popped v.stolen
 absorbed v u w is one = is ∙ ap (λ (y : Hand). hand (v.parts + y.parts) v.pushed v.popped (v.stolen ++ y.stolen)) one ∙ ap (λ s. hand (v.parts + 1) v.pushed v.popped s) (append-nil v.stolen)

@@ -2,3 +2,4 @@ pub mod Moves
 pub mod Spares
 pub mod Closings
 pub mod Placing
+pub mod Outcomes

@@ -1,11 +1,13 @@
 -- Each move keeps the rule.
 use Rattle.std.proofs.Common.{◌≡◌, ◌≢◌, ℕ, zero, suc, ◌+◌, ◌-◌, ◌<◌, ◌≤◌, ◌⊎◌, List, [], ◌∷◌, ◌++◌, length, set, sym, refl, ap, ◌∙◌, subst, inl, inr, ⊎_elim, length-append, arith}
+use Rattle.std.specs.Prelude.{min}
 use mathlib.Core.Option.{some, some-injective, some-ne-none}
 use lib.ListN.{get_elem?}
 use Rattle.crossbeam_deque.specs.Tasks.{Pushes, Takes, Pops, Finds, FindsFew, Forks, Merges}
 use Rattle.crossbeam_deque.proofs.Lists.{at_set}
 use Rattle.ap_tasks.specs.declared.hand.Hand.{Hand}
-use Rattle.ap_tasks.specs.Rule.{hand, weigh, total, IsQuiet, AreQuiet, Balanced, PermitsEmpty, PermitsFew, Pushed, Popped, Robbed}
+use Rattle.ap_paths.specs.Weights.{weigh}
+use Rattle.ap_tasks.specs.Rule.{hand, thief_hand, total, IsQuiet, AreQuiet, Balanced, PermitsEmpty, PermitsFew, Pushed, Popped, Robbed}
 
 pub weigh-append : (h : List ℕ → ℕ) (xs ys : List (List ℕ)) → weigh h (xs ++ ys) ≡ weigh h xs + weigh h ys
 weigh-append h [] ys = omega arith
@@ -145,8 +147,8 @@ robs port v some_part xs items views _ _ b at =
 pub finds : (v : Hand) → Finds Balanced 0 v (PermitsEmpty v)
 finds v views b at = (views, at, b)
 
-pub finds_few : (most port : ℕ) (v : Hand) → most ≤ 1 → FindsFew Balanced most port v (PermitsFew v)
-finds_few most port v few items views n b at = (items, omega arith, (views, port, at, b))
+pub finds_few : (flavor port : ℕ) (v : Hand) → flavor ≡ 1 → v ≡ thief_hand v.stolen → FindsFew Balanced (min flavor 1) port v (PermitsFew v.stolen)
+finds_few flavor port v is known items views few b at = (items, subst (λ k. length items ≤ min k 1) is few, (views, port, at ∙ ap some known, b))
 
 pub forks : (v : Hand) → 0 < v.parts → v.stolen ≡ [] → Forks Balanced 0 v (hand (v.parts - 1) v.pushed v.popped v.stolen) (hand 1 [] [] [])
 forks v some_part none items views b at =

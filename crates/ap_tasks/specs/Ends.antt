@@ -9,7 +9,7 @@ use Rattle.crossbeam_deque.specs.declared.handles.Stealer.{Stealer}
 use Rattle.ap_defs.specs.declared.paths.Path.{Path}
 use Rattle.ap_tasks.specs.declared.hand.Hand.{Hand}
 use Rattle.ap_tasks.specs.declared.rule.Fair.{Fair}
-use Rattle.ap_tasks.specs.Rule.{hand}
+use Rattle.ap_tasks.specs.Rule.{thief_hand}
 
 abbrev pub Ticket : Type 0
 Ticket = Pass Path Hand Global
@@ -29,7 +29,7 @@ thief_view s p spare = record { deque = stealer_deque s; parts = 1 + length spar
 
 -- passes of this deque with one part each, which have stolen nothing
 abbrev pub AreSpare : RowsId × Global → List Ticket → Type 0
-AreSpare deque passes = (k : ℕ) (p : Ticket) → get_elem? passes k ≡ some p → IsPassOf deque p × (view p ≡ hand 1 [] [] [])
+AreSpare deque passes = (k : ℕ) (p : Ticket) → get_elem? passes k ≡ some p → IsPassOf deque p × (view p ≡ thief_hand [])
 
 abbrev pub IsThief : Robber → Ticket → List Ticket → Type 0
-IsThief s p spare = (stealer_flavor s ≡ 1) × IsPassOf (stealer_deque s) p × ((view p).parts ≡ 1) × AreSpare (stealer_deque s) spare
+IsThief s p spare = (stealer_flavor s ≡ 1) × IsPassOf (stealer_deque s) p × (view p ≡ thief_hand (view p).stolen) × AreSpare (stealer_deque s) spare

@@ -9,7 +9,8 @@ use Rattle.ap_tasks.specs.declared.rule.Fair.{Fair}
 use Rattle.ap_tasks.specs.Ends.{ThiefView}
 use Rattle.ap_tasks.specs.declared.hand.Hand.{Hand}
 use Rattle.ap_tasks.specs.declared.owner.Owner.{Owner}
-use Rattle.ap_tasks.specs.Rule.{hand, weigh, PermitsEmpty}
+use Rattle.ap_paths.specs.Weights.{weigh}
+use Rattle.ap_tasks.specs.Rule.{hand, PermitsEmpty}
 
 abbrev pub Deque : Type 0
 Deque = Worker Path Global Hand Fair
@@ -35,10 +36,10 @@ abbrev pub stolen_of : (List ℕ → ℕ) → List ThiefView → ℕ
 stolen_of h [] = 0
 stolen_of h (t ∷ ts) = weigh h t.stolen + stolen_of h ts
 
-abbrev pub AreOf : RowsId × Global → List ThiefView → Type 0
-AreOf deque [] = Unit {0}
-AreOf deque (t ∷ ts) = (t.deque ≡ deque) × AreOf deque ts
+abbrev pub AreThievesOf : RowsId × Global → List ThiefView → Type 0
+AreThievesOf deque [] = Unit {0}
+AreThievesOf deque (t ∷ ts) = (t.deque ≡ deque) × AreThievesOf deque ts
 
--- what stays of a worker
-abbrev pub IsFirst : Deque → Type 0
-IsFirst w = (worker_port w ≡ 0) × (worker_flavor w ≡ 1)
+-- what stays of an owner: its port, and that it pops what it pushed last
+abbrev pub IsLifoOwner : Deque → Type 0
+IsLifoOwner w = (worker_port w ≡ 0) × (worker_flavor w ≡ 1)

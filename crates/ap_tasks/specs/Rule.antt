@@ -2,15 +2,11 @@
 use Rattle.std.specs.Prelude.{◌≡◌, ◌≢◌, ℕ, ◌+◌, ◌≤◌, List, [], ◌∷◌, ◌++◌, length}
 use mathlib.Core.Option.{some}
 use lib.ListN.{get_elem?}
+use Rattle.ap_paths.specs.Weights.{weigh}
 use Rattle.ap_tasks.specs.declared.hand.Hand.{Hand}
 
 abbrev pub hand : ℕ → List (List ℕ) → List (List ℕ) → List (List ℕ) → Hand
 hand p a b c = record { parts = p; pushed = a; popped = b; stolen = c }
-
--- the weights of the paths, added up
-abbrev pub weigh : (List ℕ → ℕ) → List (List ℕ) → ℕ
-weigh h [] = 0
-weigh h (x ∷ xs) = h x + weigh h xs
 
 -- f of each view, added up
 abbrev pub total : (Hand → ℕ) → List Hand → ℕ
@@ -38,9 +34,13 @@ Permits v items = (views : List Hand) × (port : ℕ) × (get_elem? views port �
 abbrev pub PermitsEmpty : Hand → Type 0
 PermitsEmpty v = (views : List Hand) × (get_elem? views 0 ≡ some v) × Balanced [] views
 
--- at most one path
-abbrev pub PermitsFew : Hand → Type 0
-PermitsFew v = (items : List (List ℕ)) × (length items ≤ 1) × Permits v items
+-- what a pass with one part knows that has stolen these, and has neither pushed nor popped
+abbrev pub thief_hand : List (List ℕ) → Hand
+thief_hand stolen = hand 1 [] [] stolen
+
+-- at most one path, beside what a thief has stolen
+abbrev pub PermitsFew : List (List ℕ) → Type 0
+PermitsFew stolen = (items : List (List ℕ)) × (length items ≤ 1) × Permits (thief_hand stolen) items
 
 abbrev pub Pushed : Hand → List (List ℕ) → Hand → Type 0
 Pushed v xs w = w ≡ hand v.parts (v.pushed ++ xs) v.popped v.stolen

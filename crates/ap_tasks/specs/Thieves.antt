@@ -1,14 +1,13 @@
 -- What a try to steal says.
 use Rattle.std.specs.Prelude.{◌≡◌, ◌<◌, ◌⊎◌, [], ◌∷◌, ◌++◌}
-use Rattle.ap_tasks.specs.declared.hand.Hand.{Hand}
 use Rattle.ap_tasks.specs.declared.thief.Stolen.{Stolen}
 use Rattle.ap_tasks.specs.declared.thief.Stolen.TheVariants.{Got, Empty, Again}
 use Rattle.ap_tasks.specs.Ends.{ThiefView}
 use Rattle.ap_tasks.specs.Rule.{PermitsFew}
 
--- the rule permits a deque of at most one path beside a view that has stolen these
+-- the rule permits a deque of at most one path beside what this thief has stolen
 abbrev pub FewBeside : ThiefView → Type 0
-FewBeside t = (v : Hand) × (v.stolen ≡ t.stolen) × PermitsFew v
+FewBeside t = PermitsFew t.stolen
 
 abbrev pub Stole : {W : Type 0} → ThiefView → Stolen W → ThiefView → Type 0
 Stole old (Got p) new = new.stolen ≡ old.stolen ++ p ∷ []

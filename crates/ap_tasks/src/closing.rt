@@ -2,9 +2,10 @@
 
 ghost use Rattle.std.specs.Prelude.{◌≡◌, ℕ, ◌+◌, ◌-◌, ◌≤◌, List as list, [], ◌++◌, length, vec_len, vec_capacity, IfOk};
 ghost use Rattle.crossbeam_deque.specs.Handles.{view, IsPassOf, worker_deque, worker_view, worker_flavor, worker_port, worker_capacity, worker_index};
-ghost use Rattle.ap_tasks.specs.Rule.{hand, weigh};
+ghost use Rattle.ap_paths.specs.Weights.{weigh};
+ghost use Rattle.ap_tasks.specs.Rule.{hand};
 ghost use Rattle.ap_tasks.specs.Ends.{AreSpare};
-ghost use Rattle.ap_tasks.specs.Owners.{owner_deque, owner_view, parts_of, stolen_of, AreOf, IsFirst};
+ghost use Rattle.ap_tasks.specs.Owners.{owner_deque, owner_view, parts_of, stolen_of, AreThievesOf, IsLifoOwner};
 
 use crate::hand::Hand;
 use crate::owner::{Deque, Owner, ROOM};
@@ -29,7 +30,8 @@ pub struct Left<W: Shape> {
 /// right to close it. The only error is want of memory.
 pub fn tasks<W: Shape>(alloc: Global) -> Result<(Owner<W>, Thief<W>), Memory>
     ensures owner { IfOk result (λ t. owner_view t.0 ≡ hand 0 [] [] []) }
-    ensures thief { IfOk result (λ t. (t.1.deque ≡ owner_deque t.0) × (t.1.parts ≡ 1024) × (t.1.stolen ≡ [])) }
+    ensures thief { IfOk result (λ t. (t.1.deque ≡ owner_deque t.0) × (t.1.parts ≡ 1024)
+        × (t.1.stolen ≡ [])) }
 {
     let left = Vec::with_capacity(alloc, ROOM)?;
     let spare = Vec::with_capacity(alloc, SPARE)?;
@@ -55,8 +57,12 @@ fn cut_spare<W: Shape>(
     mut deque: Deque<W>,
     mut spare: Vec<Pass<Placed<W>, Hand>>,
 ) -> (Deque<W>, Vec<Pass<Placed<W>, Hand>>)
-    requires { IsFirst deque × (worker_view deque ≡ hand 1023 [] [] []) × (spare.items ≡ []) × (1023 ≤ vec_capacity spare) }
-    ensures deque { (worker_deque result.0 ≡ worker_deque deque) × IsFirst result.0 × (worker_view result.0 ≡ hand 0 [] [] []) × (worker_capacity deque ≤ worker_capacity result.0) × (worker_index result.0 ≡ worker_index deque) }
+    requires { IsLifoOwner deque × (worker_view deque ≡ hand 1023 [] [] []) × (spare.items ≡ [])
+        × (1023 ≤ vec_capacity spare) }
+    ensures deque { (worker_deque result.0 ≡ worker_deque deque) × IsLifoOwner result.0
+        × (worker_view result.0 ≡ hand 0 [] [] [])
+        × (worker_capacity deque ≤ worker_capacity result.0)
+        × (worker_index result.0 ≡ worker_index deque) }
     ensures spare { AreSpare (worker_deque deque) result.1.items × (length result.1.items ≡ 1023) }
 {
     for _ in 0..SPARE {
@@ -66,9 +72,13 @@ fn cut_spare<W: Shape>(
 }
 
 fn absorb_spare<W: Shape>(deque: &mut Deque<W>, mut spare: Vec<Pass<Placed<W>, Hand>>)
-    requires { IsFirst deque.old × AreSpare (worker_deque deque.old) spare.items }
-    ensures same { IsFirst deque.new × (worker_deque deque.new ≡ worker_deque deque.old) }
-    ensures view { ((worker_view deque.new).parts ≡ (worker_view deque.old).parts + length spare.items) × ((worker_view deque.new).pushed ≡ (worker_view deque.old).pushed) × ((worker_view deque.new).popped ≡ (worker_view deque.old).popped) × ((worker_view deque.new).stolen ≡ (worker_view deque.old).stolen) }
+    requires { IsLifoOwner deque.old × AreSpare (worker_deque deque.old) spare.items }
+    ensures same { IsLifoOwner deque.new × (worker_deque deque.new ≡ worker_deque deque.old) }
+    ensures view { ((worker_view deque.new).parts
+        ≡ (worker_view deque.old).parts + length spare.items)
+        × ((worker_view deque.new).pushed ≡ (worker_view deque.old).pushed)
+        × ((worker_view deque.new).popped ≡ (worker_view deque.old).popped)
+        × ((worker_view deque.new).stolen ≡ (worker_view deque.old).stolen) }
 {
     while let Some(pass) = spare.pop() {
         deque.absorb::<Unite>(pass);
@@ -77,9 +87,12 @@ fn absorb_spare<W: Shape>(deque: &mut Deque<W>, mut spare: Vec<Pass<Placed<W>, H
 
 /// A thief comes back to the owner.
 fn absorb_thief<W: Shape>(deque: &mut Deque<W>, thief: Thief<W>)
-    requires { IsFirst deque.old × (thief.deque ≡ worker_deque deque.old) }
-    ensures same { IsFirst deque.new × (worker_deque deque.new ≡ worker_deque deque.old) }
-    ensures view { ((worker_view deque.new).parts ≡ (worker_view deque.old).parts + thief.parts) × ((worker_view deque.new).pushed ≡ (worker_view deque.old).pushed) × ((worker_view deque.new).popped ≡ (worker_view deque.old).popped) × ((worker_view deque.new).stolen ≡ (worker_view deque.old).stolen ++ thief.stolen) }
+    requires { IsLifoOwner deque.old × (thief.deque ≡ worker_deque deque.old) }
+    ensures same { IsLifoOwner deque.new × (worker_deque deque.new ≡ worker_deque deque.old) }
+    ensures view { ((worker_view deque.new).parts ≡ (worker_view deque.old).parts + thief.parts)
+        × ((worker_view deque.new).pushed ≡ (worker_view deque.old).pushed)
+        × ((worker_view deque.new).popped ≡ (worker_view deque.old).popped)
+        × ((worker_view deque.new).stolen ≡ (worker_view deque.old).stolen ++ thief.stolen) }
 {
     let Thief {
         stealer,
@@ -92,10 +105,15 @@ fn absorb_thief<W: Shape>(deque: &mut Deque<W>, thief: Thief<W>)
 }
 
 fn absorb_all<W: Shape>(deque: &mut Deque<W>, mut thieves: Vec<Thief<W>>)
-    requires { IsFirst deque.old × AreOf (worker_deque deque.old) thieves.items }
-    ensures same { IsFirst deque.new × (worker_deque deque.new ≡ worker_deque deque.old) }
-    ensures view { ((worker_view deque.new).parts ≡ (worker_view deque.old).parts + parts_of thieves.items) × ((worker_view deque.new).pushed ≡ (worker_view deque.old).pushed) × ((worker_view deque.new).popped ≡ (worker_view deque.old).popped) }
-    ensures stolen { (h : list ℕ → ℕ) → weigh h (worker_view deque.new).stolen ≡ weigh h (worker_view deque.old).stolen + stolen_of h thieves.items }
+    requires { IsLifoOwner deque.old × AreThievesOf (worker_deque deque.old) thieves.items }
+    ensures same { IsLifoOwner deque.new × (worker_deque deque.new ≡ worker_deque deque.old) }
+    ensures view { ((worker_view deque.new).parts
+        ≡ (worker_view deque.old).parts + parts_of thieves.items)
+        × ((worker_view deque.new).pushed ≡ (worker_view deque.old).pushed)
+        × ((worker_view deque.new).popped ≡ (worker_view deque.old).popped) }
+    ensures stolen { (h : list ℕ → ℕ) →
+        weigh h (worker_view deque.new).stolen
+        ≡ weigh h (worker_view deque.old).stolen + stolen_of h thieves.items }
 {
     while let Some(thief) = thieves.pop() {
         absorb_thief(deque, thief);
@@ -104,9 +122,14 @@ fn absorb_all<W: Shape>(deque: &mut Deque<W>, mut thieves: Vec<Thief<W>>)
 
 /// Takes out what is there.
 fn drain<W: Shape>(deque: &mut Deque<W>, left: &mut Vec<Placed<W>>)
-    requires view { IsFirst deque.old × ((worker_view deque.old).parts ≡ 1024) }
-    requires room { (left.old.items ≡ []) × (length (worker_view deque.old).pushed ≤ length (worker_view deque.old).popped + vec_capacity left.old) }
-    ensures { (h : list ℕ → ℕ) → weigh h (worker_view deque.old).pushed ≡ (weigh h (worker_view deque.old).popped + weigh h (worker_view deque.old).stolen) + weigh h left.new.items }
+    requires view { IsLifoOwner deque.old × ((worker_view deque.old).parts ≡ 1024) }
+    requires room { (left.old.items ≡ [])
+        × (length (worker_view deque.old).pushed
+        ≤ length (worker_view deque.old).popped + vec_capacity left.old) }
+    ensures { (h : list ℕ → ℕ) →
+        weigh h (worker_view deque.old).pushed
+        ≡ (weigh h (worker_view deque.old).popped + weigh h (worker_view deque.old).stolen)
+        + weigh h left.new.items }
 {
     while let Some(path) = deque.pop_as::<Pops>() {
         left.push_reserved(path);
@@ -115,15 +138,19 @@ fn drain<W: Shape>(deque: &mut Deque<W>, left: &mut Vec<Placed<W>>)
 
 impl<W: Shape> Owner<W> {
     ghost use Rattle.std.specs.Prelude.{◌≡◌, ℕ, ◌+◌, List as list};
-    ghost use Rattle.ap_tasks.specs.Rule.{weigh};
-    ghost use Rattle.ap_tasks.specs.Owners.{owner_deque, owner_view, parts_of, stolen_of, AreOf};
+    ghost use Rattle.ap_paths.specs.Weights.{weigh};
+    ghost use Rattle.ap_tasks.specs.Owners.{owner_deque, owner_view, parts_of, stolen_of, AreThievesOf};
 
     /// The paths that are left, where all thieves of this deque are given: those whose parts add up
     /// to 1,024. What was popped, stolen and is left is what was pushed, each path as often. It
     /// takes no memory.
     pub fn close(self, thieves: Vec<Thief<W>>) -> Left<W>
-        requires all { AreOf (owner_deque self) thieves.items × (parts_of thieves.items ≡ 1024) }
-        ensures { (h : list ℕ → ℕ) → weigh h (owner_view self).pushed ≡ (weigh h (owner_view self).popped + stolen_of h thieves.items) + weigh h result.paths }
+        requires all { AreThievesOf (owner_deque self) thieves.items
+            × (parts_of thieves.items ≡ 1024) }
+        ensures { (h : list ℕ → ℕ) →
+            weigh h (owner_view self).pushed
+            ≡ (weigh h (owner_view self).popped + stolen_of h thieves.items)
+            + weigh h result.paths }
     {
         let Owner {
             mut deque,

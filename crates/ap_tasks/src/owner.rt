@@ -30,7 +30,8 @@ pub struct Owner<W: Shape> {
     // Room for all paths that may be left.
     pub(crate) left: Vec<Placed<W>>,
     pub ghost is_first: { (worker_port deque ≡ 0) × (worker_flavor deque ≡ 1) },
-    pub ghost counts: { held + length (worker_view deque).popped ≡ length (worker_view deque).pushed },
+    pub ghost counts: { held + length (worker_view deque).popped
+        ≡ length (worker_view deque).pushed },
     pub ghost index: { worker_index deque ≤ length (worker_view deque).pushed },
     pub ghost reserved: { (left.items ≡ []) × (held ≤ vec_capacity left) },
     pub ghost none_stolen: { ((worker_view deque).parts ≡ 0) × ((worker_view deque).stolen ≡ []) },
@@ -45,7 +46,9 @@ impl<W: Shape> Owner<W> {
     /// unchanged; the first 64 pushes have room.
     pub fn push(&mut self, path: Placed<W>) -> Result<(), Kept<W>>
         ensures same { owner_deque self.new ≡ owner_deque self.old }
-        ensures pushed { MatchResult result (λ _. PushedOne (owner_view self.old) path (owner_view self.new)) (λ k. (k.path ≡ path) × (owner_view self.new ≡ owner_view self.old)) }
+        ensures pushed { MatchResult result (λ _. PushedOne (owner_view self.old) path
+            (owner_view self.new)) (λ k. (k.path ≡ path)
+            × (owner_view self.new ≡ owner_view self.old)) }
         ensures room { IfErr result (λ _. 64 ≤ length (owner_view self.old).pushed) }
     {
         let Some(more) = self.held.checked_add(1) else {

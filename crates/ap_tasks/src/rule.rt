@@ -58,5 +58,5 @@ pub struct Robs;
 impl<W: Shape> Outcome<Placed<W>, Hand> for Robs {
     ghost then = { Robbed };
 
-    ghost empty = { PermitsFew };
+    ghost empty = { λ v. PermitsFew v.stolen };
 }

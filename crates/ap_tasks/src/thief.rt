@@ -72,8 +72,10 @@ impl<W: Shape> Thief<W> {
     /// it this thief is unchanged.
     pub fn split(&mut self, alloc: Global) -> Result<Thief<W>, Memory>
         requires { 1 < self.old.parts }
-        ensures same { (self.new.deque ≡ self.old.deque) × (self.new.stolen ≡ self.old.stolen) × (self.new.known ≡ self.old.known) }
-        ensures parts { IfOk result (λ t. (t.deque ≡ self.old.deque) × (t.parts ≡ 1) × (t.stolen ≡ []) × (self.new.parts + 1 ≡ self.old.parts)) }
+        ensures same { (self.new.deque ≡ self.old.deque) × (self.new.stolen ≡ self.old.stolen)
+            × (self.new.known ≡ self.old.known) }
+        ensures parts { IfOk result (λ t. (t.deque ≡ self.old.deque) × (t.parts ≡ 1)
+            × (t.stolen ≡ []) × (self.new.parts + 1 ≡ self.old.parts)) }
         ensures err { OnErr result (self.new ≡ self.old) }
     {
         let stealer = self.stealer.clone()?;

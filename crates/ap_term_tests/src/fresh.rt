@@ -20,7 +20,7 @@ fn reduced(alloc: Global, a: Name, closure: &Closure<'_>) -> Result<Option<Vec<C
     }
 }
 
-// What stands for (0 1)(1 2) Y reduces to a condition on Y.
+/// What stands for (0 1)(1 2) Y reduces to a condition on Y.
 fn reduces(alloc: Global) -> Result<bool, Memory> {
     let term = Term::Susp(List::of(Vec::new(alloc)), Y);
     let closure = Closure::of(alloc, 0, 4, &term).moved_by(alloc, &[swap(0, 1), swap(1, 2)])?;
@@ -29,7 +29,7 @@ fn reduces(alloc: Global) -> Result<bool, Memory> {
     Ok(matches!(&conds, Some(conds) if conds.as_slice() == wanted.as_slice()))
 }
 
-// The name 2 becomes the name 0.
+/// The name 2 becomes the name 0.
 fn is_refuted(alloc: Global) -> Result<bool, Memory> {
     let term = Term::Name(C);
     let closure = Closure::of(alloc, 0, 4, &term).moved_by(alloc, &[swap(0, 1), swap(1, 2)])?;

@@ -10,10 +10,12 @@ use std::alloc::Global;
 
 const A: Name = Name { sort: 0, num: 0 };
 
+/// The name of this number.
 pub const fn name(num: u64) -> Name {
     Name { sort: 0, num }
 }
 
+/// The swapping of these two names.
 pub const fn swap(left: u64, right: u64) -> Swap {
     Swap {
         sort: 0,
@@ -22,7 +24,7 @@ pub const fn swap(left: u64, right: u64) -> Swap {
     }
 }
 
-// First 1 and 2 are exchanged, then 0 and 1.
+/// First 1 and 2 are exchanged, then 0 and 1.
 fn cycle(alloc: Global) -> Result<Perm, Memory> {
     Perm::of(alloc, &[swap(0, 1), swap(1, 2)])
 }

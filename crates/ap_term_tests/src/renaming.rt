@@ -41,7 +41,7 @@ fn argument(alloc: Global) -> Result<Vec<Term>, Memory>
     Ok(arguments)
 }
 
-// p(var(Y)) :- X # Y.
+/// p(var(Y)) :- X # Y.
 fn renamed(alloc: Global) -> Result<Fresh, Memory> {
     let args = List::of(argument(alloc)?);
     let locals = List::of(locals(alloc)?);

@@ -43,7 +43,7 @@ fn binders_are_fresh(rt: HostRuntime) {
     assert!(rt; matches!(is_fresh(alloc, B, A, B), Ok(false)));
 }
 
-// (a b) X and b
+/// (a b) X and b
 fn parts(alloc: Global) -> Result<(Term, Term), Memory> {
     let swap = Swap {
         sort: 0,

@@ -146,7 +146,7 @@ fn a_hole_is_filled(rt: HostRuntime) {
     assert!(rt; is_clash(filled(alloc, Shape::Unit, Shape::Names(0))));
 }
 
-// Hole 1 is hole 0, which is a pair with hole 1.
+/// Hole 1 is hole 0, which is a pair with hole 1.
 fn endless(alloc: Global) -> Result<Vec<(Shape, Shape)>, Memory> {
     let around = pair(alloc, Shape::Unit, Shape::Hole(1))?;
     Ok(vec![in alloc; (Shape::Hole(1), Shape::Hole(0)), (Shape::Hole(0), around)]?)
@@ -189,7 +189,7 @@ fn holes_that_must_be_name_types(rt: HostRuntime) {
     assert!(rt; is_clash(unit_for_name_type(alloc)));
 }
 
-// Hole x is a pair of hole x - 1 with itself, for each x from 1 on.
+/// Hole x is a pair of hole x - 1 with itself, for each x from 1 on.
 fn doublings(alloc: Global, count: u64) -> Result<Vec<(Shape, Shape)>, Memory> {
     let mut equations = Vec::new(alloc);
     for x in 0..count {
@@ -220,7 +220,7 @@ fn shapes_that_double_stand_once(rt: HostRuntime) {
     assert!(rt; is_clash(doubled_unit(rt.alloc())));
 }
 
-// Data type x is made of data types x + 1 and x + 1, for each x below 50.
+/// Data type x is made of data types x + 1 and x + 1, for each x below 50.
 fn chain(alloc: Global) -> Result<Inhabitants, Memory> {
     let mut table = no_inhabitants(alloc);
     for x in 0..50 {

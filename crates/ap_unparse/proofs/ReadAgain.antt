@@ -6,7 +6,7 @@ use Rattle.unicode_ident.proofs.Computing.{unicode_ident}
 use Rattle.ap_lexer.specs.declared.token.TokenKind.TheVariants.{Reserved, Sign}
 use Rattle.ap_trees.specs.Symbols.{Sym, Ask, Close, Open, Equal, spelled}
 use Rattle.ap_trees.specs.Types.{Ty}
-use Rattle.ap_trees.specs.TypeGrammar.{sole}
+use Rattle.ap_trees.specs.TypeGrammar.{IsType, sole}
 use Rattle.ap_trees.specs.Terms.{Term, Unit as unit}
 use Rattle.ap_trees.specs.Goals.{Goal, Equation}
 use Rattle.ap_trees.specs.Items.{AQuery, APredicate}
@@ -17,15 +17,15 @@ use Rattle.ap_unparse.specs.WrittenTypes.{written_type}
 use Rattle.ap_unparse.specs.WrittenTerms.{written_term}
 use Rattle.ap_unparse.specs.WrittenGoals.{written_goal}
 use Rattle.ap_unparse.specs.declared.side.Side.TheVariants.{Alone}
-use Rattle.ap_unparse.specs.Writable.{IsWritten}
+use Rattle.ap_unparse.specs.Writable.{IsWritten, Reads}
 use Rattle.ap_unparse.specs.Worded.{IsIdentifier, IsWordedType, IsWordedTerm, IsWordedGoal}
-use Rattle.ap_unparse.specs.Again.{ReadsAs, predicate_of}
+use Rattle.ap_unparse.specs.Again.{ReadsAs, SpellsType, predicate_of}
 use Rattle.ap_unparse.proofs.ByteLemmas.{bytes_of-append}
 use Rattle.ap_unparse.proofs.TypeReadings as types
 use Rattle.ap_unparse.proofs.TermReadings.{term_is_read}
 use Rattle.ap_unparse.proofs.GoalReadings.{goal_is_read}
 use Rattle.ap_unparse.proofs.Lexing.{ascii_text}
-use Rattle.ap_unparse.proofs.WordedLemmas.{open_mark, dot_mark, ask_mark, behind_close, writes_type}
+use Rattle.ap_unparse.proofs.WordedLemmas.{open_mark, dot_mark, ask_mark, behind_close, writes_type, type_is_lexed}
 use Rattle.ap_unparse.proofs.WordedGoals.{goes, none_goes, writes_goal}
 use Rattle.ap_unparse.proofs.KeptLevels.{equation_shallow}
 use Rattle.ap_unparse.proofs.WholeItems.{one_item}
@@ -85,3 +85,10 @@ type_read_again t bytes e v named w shallow =
     ap bytes_of (append_assoc (written_type t) (round_close ∷ []) (dot ∷ [])) ∙ bytes_of-append (written_type t) (round_close ∷ dot ∷ []) ∙ ap (λ bs. bs ++ codes ").") (sym e)
     in
     subst (λ bs. ReadsAs (codes "pred " ++ (v ++ (codes "(" ++ bs))) (APredicate v (t ∷ []))) inner (type_again t v named w shallow)
+
+-- a type by itself
+type_lexed : (t : Ty) (bytes : List ℕ) → Reads bytes (symbols_of (written_type t)) → SpellsType bytes t
+type_lexed t bytes r = record { tokens = r.tokens; all = r.all; whole = subst (λ ts. IsType ts t []) (sym r.same) (types.type_is_read t) }
+
+pub type_spelled : (t : Ty) (bytes : List ℕ) → bytes ≡ bytes_of (written_type t) → IsWordedType t → SpellsType bytes t
+type_spelled t bytes e w = subst (λ bs. SpellsType bs t) (sym e) (type_lexed t (bytes_of (written_type t)) (type_is_lexed t w))

@@ -16,7 +16,8 @@ use std::alloc::Global;
 
 /// Writes further terms, each behind a comma.
 fn write_further(alloc: Global, out: &mut Vec<u8>, terms: &[Tree<'_>]) -> Result<(), Memory>
-    ensures { OnOk result (out.new.items ≡ out.old.items ++ bytes_of (further_terms (trees_of terms.now))) }
+    ensures { OnOk result (out.new.items
+        ≡ out.old.items ++ bytes_of (further_terms (trees_of terms.now))) }
 {
     for t in terms {
         out.push(b',')?;
@@ -27,7 +28,8 @@ fn write_further(alloc: Global, out: &mut Vec<u8>, terms: &[Tree<'_>]) -> Result
 
 /// Writes arguments in parentheses, if there are any.
 fn write_arguments(alloc: Global, out: &mut Vec<u8>, terms: &[Tree<'_>]) -> Result<(), Memory>
-    ensures { OnOk result (out.new.items ≡ out.old.items ++ bytes_of (arguments_of (trees_of terms.now))) }
+    ensures { OnOk result (out.new.items
+        ≡ out.old.items ++ bytes_of (arguments_of (trees_of terms.now))) }
 {
     let [first, others @ ..] = terms else {
         return Ok(());
@@ -47,7 +49,10 @@ fn write_relation(
     sign: &[u8],
     right: &Tree<'_>,
 ) -> Result<(), Memory>
-    ensures { OnOk result (out.new.items ≡ out.old.items ++ (bytes_of (written_term (term_of left.now)) ++ (sign.now ++ bytes_of (written_term (term_of right.now))))) }
+    ensures { OnOk result (out.new.items
+        ≡ out.old.items
+        ++ (bytes_of (written_term (term_of left.now))
+        ++ (sign.now ++ bytes_of (written_term (term_of right.now))))) }
 {
     write_tree(alloc, out, left, Place::Whole)?;
     out.extend_from_slice(sign)?;
@@ -81,7 +86,8 @@ fn begin_either(out: &mut Vec<u8>, closers: &mut Vec<u8>, side: Side) -> Result<
 
 /// Writes what stands before the goal inside `new` or `exists`.
 fn begin_binder(out: &mut Vec<u8>, keyword: &[u8], word: &str) -> Result<(), Memory>
-    ensures { OnOk result (out.new.items ≡ out.old.items ++ (keyword.now ++ (word.now ++ codes " ("))) }
+    ensures { OnOk result (out.new.items
+        ≡ out.old.items ++ (keyword.now ++ (word.now ++ codes " ("))) }
 {
     out.extend_from_slice(keyword)?;
     out.extend_from_slice(word.as_bytes())?;
@@ -99,7 +105,8 @@ pub fn write_goal(
     g: &GoalTree<'_>,
     mut side: Side,
 ) -> Result<(), Memory>
-    ensures { OnOk result (out.new.items ≡ out.old.items ++ bytes_of (goal_at side (goal_of g.now))) }
+    ensures { OnOk result (out.new.items
+        ≡ out.old.items ++ bytes_of (goal_at side (goal_of g.now))) }
 {
     let mut closers = Vec::new(alloc);
     let mut rest = g;

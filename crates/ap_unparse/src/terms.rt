@@ -75,7 +75,8 @@ fn begin_swap(
     right: &Binder<'_>,
     place: Place,
 ) -> Result<(), Memory>
-    ensures { OnOk result (out.new.items ≡ out.old.items ++ swap_opening place (name_of left.now) (name_of right.now)) }
+    ensures { OnOk result (out.new.items
+        ≡ out.old.items ++ swap_opening place (name_of left.now) (name_of right.now)) }
 {
     write_bar(out, place)?;
     out.extend_from_slice(b"swap(")?;
@@ -98,7 +99,8 @@ fn begin_apply(out: &mut Vec<u8>, word: &str, place: Place) -> Result<(), Memory
 
 /// Writes a term that has no parts.
 fn write_leaf(out: &mut Vec<u8>, text: &[u8], place: Place) -> Result<(), Memory>
-    ensures { OnOk result (out.new.items ≡ out.old.items ++ (bytes_of (barred place []) ++ text.now)) }
+    ensures { OnOk result (out.new.items
+        ≡ out.old.items ++ (bytes_of (barred place []) ++ text.now)) }
 {
     write_bar(out, place)?;
     out.extend_from_slice(text)?;
@@ -119,7 +121,8 @@ fn write_nil(out: &mut Vec<u8>, place: Place) -> Result<(), Memory>
 /// Writes one term or more, with commas between them.
 #[cycle(writing)]
 fn write_arguments(alloc: Global, out: &mut Vec<u8>, args: &Args<'_>) -> Result<(), Memory>
-    ensures { OnOk result (out.new.items ≡ out.old.items ++ bytes_of (arguments_of (terms_of args.now))) }
+    ensures { OnOk result (out.new.items
+        ≡ out.old.items ++ bytes_of (arguments_of (terms_of args.now))) }
 {
     let mut rest = args;
     loop {
@@ -145,7 +148,8 @@ pub fn write_tree(
     t: &Tree<'_>,
     mut place: Place,
 ) -> Result<(), Memory>
-    ensures { OnOk result (out.new.items ≡ out.old.items ++ bytes_of (term_at place (term_of t.now))) }
+    ensures { OnOk result (out.new.items
+        ≡ out.old.items ++ bytes_of (term_at place (term_of t.now))) }
 {
     let mut closers = Vec::new(alloc);
     let mut rest = t;

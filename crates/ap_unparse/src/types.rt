@@ -12,8 +12,10 @@ use std::alloc::Global;
 
 /// Writes what stands before the parts of a tuple, and keeps what will stand behind them.
 fn begin_tuple(out: &mut Vec<u8>, closers: &mut Vec<u8>, part: bool) -> Result<(), Memory>
-    ensures written { OnOk result (out.new.items ≡ out.old.items ++ (if part then [] else codes "(")) }
-    ensures kept { OnOk result (closers.new.items ≡ closers.old.items ++ (if part then [] else codes ")")) }
+    ensures written { OnOk result (out.new.items
+        ≡ out.old.items ++ (if part then [] else codes "(")) }
+    ensures kept { OnOk result (closers.new.items
+        ≡ closers.old.items ++ (if part then [] else codes ")")) }
 {
     if !part {
         out.push(b'(')?;
@@ -29,7 +31,8 @@ pub fn write_type(
     t: &TypeTree<'_>,
     mut part: bool,
 ) -> Result<(), Memory>
-    ensures { OnOk result (out.new.items ≡ out.old.items ++ bytes_of (type_at part (type_of t.now))) }
+    ensures { OnOk result (out.new.items
+        ≡ out.old.items ++ bytes_of (type_at part (type_of t.now))) }
 {
     let mut closers = Vec::new(alloc);
     let mut rest = t;

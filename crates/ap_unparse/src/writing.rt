@@ -16,7 +16,7 @@ ghost use Rattle.ap_trees.specs.Goals.{Equation};
 ghost use Rattle.ap_trees.specs.Items.{AQuery, APredicate};
 ghost use Rattle.ap_syntax.specs.Nesting.{is_too_deep};
 ghost use Rattle.ap_unparse.specs.Worded.{IsIdentifier};
-ghost use Rattle.ap_unparse.specs.Again.{ReadsAs, predicate_of};
+ghost use Rattle.ap_unparse.specs.Again.{ReadsAs, SpellsType, predicate_of};
 
 use crate::goals::write_goal;
 use crate::place::Place;
@@ -31,10 +31,14 @@ use std::alloc::Global;
 #[tactic(auto, using(crate::proofs::TermReadings::term_is_read, crate::proofs::WordedLemmas::term_is_lexed, crate::proofs::ReadAgain::term_read_again))]
 pub fn term_text(alloc: Global, t: &Tree<'_>) -> Result<Vec<u8>, Memory>
     ensures text { IfOk result (λ bytes. bytes.items ≡ bytes_of (written_term (term_of t.now))) }
-    ensures tokens { IfOk result (λ bytes. IsWordedTerm (term_of t.now) → Reads bytes.items (symbols_of (written_term (term_of t.now)))) }
+    ensures tokens { IfOk result (λ bytes. IsWordedTerm (term_of t.now) →
+        Reads bytes.items (symbols_of (written_term (term_of t.now)))) }
     ensures grammar { IsTerm (symbols_of (written_term (term_of t.now))) (term_of t.now) [] }
     // With nesting at most 256 it is read again, on the left of an equation.
-    ensures again { IfOk result (λ bytes. IsWordedTerm (term_of t.now) → is_too_deep (symbols_of (written_term (term_of t.now))) ≡ false → ReadsAs (codes "?- " ++ (bytes.items ++ codes " = ().")) (AQuery (Equation (term_of t.now) unit_term))) }
+    ensures again { IfOk result (λ bytes. IsWordedTerm (term_of t.now) →
+        is_too_deep (symbols_of (written_term (term_of t.now))) ≡ false →
+        ReadsAs (codes "?- " ++ (bytes.items ++ codes " = ().")) (AQuery
+        (Equation (term_of t.now) unit_term))) }
 {
     let mut out = Vec::new(alloc);
     write_tree(alloc, &mut out, t, Place::Whole)?;
@@ -45,10 +49,14 @@ pub fn term_text(alloc: Global, t: &Tree<'_>) -> Result<Vec<u8>, Memory>
 #[tactic(auto, using(crate::proofs::GoalReadings::goal_is_read, crate::proofs::WordedGoals::goal_is_lexed, crate::proofs::ReadAgain::goal_read_again))]
 pub fn goal_text(alloc: Global, g: &GoalTree<'_>) -> Result<Vec<u8>, Memory>
     ensures text { IfOk result (λ bytes. bytes.items ≡ bytes_of (written_goal (goal_of g.now))) }
-    ensures tokens { IfOk result (λ bytes. IsWordedGoal (goal_of g.now) → Reads bytes.items (symbols_of (written_goal (goal_of g.now)))) }
-    ensures grammar { IsWordedGoal (goal_of g.now) → IsGoal (symbols_of (written_goal (goal_of g.now))) (goal_of g.now) [] }
+    ensures tokens { IfOk result (λ bytes. IsWordedGoal (goal_of g.now) →
+        Reads bytes.items (symbols_of (written_goal (goal_of g.now)))) }
+    ensures grammar { IsWordedGoal (goal_of g.now) →
+        IsGoal (symbols_of (written_goal (goal_of g.now))) (goal_of g.now) [] }
     // With nesting at most 256 it is read again, as a query.
-    ensures again { IfOk result (λ bytes. IsWordedGoal (goal_of g.now) → is_too_deep (symbols_of (written_goal (goal_of g.now))) ≡ false → ReadsAs (codes "?- " ++ (bytes.items ++ codes ".")) (AQuery (goal_of g.now))) }
+    ensures again { IfOk result (λ bytes. IsWordedGoal (goal_of g.now) →
+        is_too_deep (symbols_of (written_goal (goal_of g.now))) ≡ false →
+        ReadsAs (codes "?- " ++ (bytes.items ++ codes ".")) (AQuery (goal_of g.now))) }
 {
     let mut out = Vec::new(alloc);
     write_goal(alloc, &mut out, g, Side::Alone)?;
@@ -56,13 +64,21 @@ pub fn goal_text(alloc: Global, g: &GoalTree<'_>) -> Result<Vec<u8>, Memory>
 }
 
 /// The text of a type.
-#[tactic(auto, using(crate::proofs::TypeReadings::type_is_read, crate::proofs::WordedLemmas::type_is_lexed, crate::proofs::ReadAgain::type_read_again))]
+#[tactic(auto, using(crate::proofs::TypeReadings::type_is_read, crate::proofs::WordedLemmas::type_is_lexed, crate::proofs::ReadAgain::type_spelled, crate::proofs::ReadAgain::type_read_again))]
 pub fn type_text(alloc: Global, t: &TypeTree<'_>) -> Result<Vec<u8>, Memory>
     ensures text { IfOk result (λ bytes. bytes.items ≡ bytes_of (written_type (type_of t.now))) }
-    ensures tokens { IfOk result (λ bytes. IsWordedType (type_of t.now) → Reads bytes.items (symbols_of (written_type (type_of t.now)))) }
+    ensures tokens { IfOk result (λ bytes. IsWordedType (type_of t.now) →
+        Reads bytes.items (symbols_of (written_type (type_of t.now)))) }
     ensures grammar { IsType (symbols_of (written_type (type_of t.now))) (type_of t.now) [] }
-    // With nesting at most 256 it is read again, as what a predicate is of.
-    ensures again { IfOk result (λ bytes. (w : list ℕ) → IsIdentifier w → IsWordedType (type_of t.now) → is_too_deep (symbols_of (predicate_of w (written_type (type_of t.now)))) ≡ false → ReadsAs (codes "pred " ++ (w ++ (codes "(" ++ (bytes.items ++ codes ").")))) (APredicate w (type_of t.now ∷ []))) }
+    // By itself it is read again, however deep its nesting.
+    ensures whole { IfOk result (λ bytes. IsWordedType (type_of t.now) →
+        SpellsType bytes.items (type_of t.now)) }
+    // With nesting at most 256, that of the parentheses with it, it is read again as what a predicate is of.
+    ensures again { IfOk result (λ bytes. (w : list ℕ) → IsIdentifier w →
+        IsWordedType (type_of t.now) →
+        is_too_deep (symbols_of (predicate_of w (written_type (type_of t.now)))) ≡ false →
+        ReadsAs (codes "pred " ++ (w ++ (codes "(" ++ (bytes.items ++ codes ")."))))
+        (APredicate w (type_of t.now ∷ []))) }
 {
     let mut out = Vec::new(alloc);
     write_type(alloc, &mut out, t, false)?;

@@ -13,7 +13,7 @@ use std::sync::Wait;
 use std::thread;
 use std::thread::Threads;
 
-// A book with two seats.
+/// A book with two seats.
 fn pair(alloc: Global) -> Result<(SharedBook, Seat, Seat), Memory>
     ensures { IfOk result (λ r. (r.1.book ≡ book_id r.0) × (r.2.book ≡ book_id r.0) × (seats_of r.0 ≡ 2)) }
 {
@@ -134,7 +134,7 @@ fn seats_find_their_own_entries(rt: HostRuntime) {
     assert!(rt; matches!(find_entries(&rt, rt.alloc()), Ok(true)));
 }
 
-// A book with one seat, of which one answer is wanted.
+/// A book with one seat, of which one answer is wanted.
 fn alone(alloc: Global) -> Result<(SharedBook, Seat), Memory>
     ensures { IfOk result (λ r. r.1.book ≡ book_id r.0) }
 {
@@ -204,7 +204,7 @@ fn a_seat_leaves_a_path_out_behind_answers_enough(rt: HostRuntime) {
     assert!(rt; matches!(skips(&rt, rt.alloc()), Ok(true)));
 }
 
-// Splits a path of fewer than five choices into ten, and ends a longer one.
+/// Splits a path of fewer than five choices into ten, and ends a longer one.
 fn visit<R: Wait>(
     rt: &R,
     alloc: Global,
@@ -230,7 +230,7 @@ fn visit<R: Wait>(
     Ok(())
 }
 
-// Visits all paths below one choice of the root: 1,111 are split, and 10,000 end.
+/// Visits all paths below one choice of the root: 1,111 are split, and 10,000 end.
 fn enter_all<R: Wait>(rt: &R, alloc: Global, book: &SharedBook, mut seat: Seat) -> Seat
     requires { seat.book ≡ book_id book.now }
     ensures { result.book ≡ book_id book.now }
@@ -272,7 +272,7 @@ fn run_all<R: Threads + Wait + Sync>(
     Ok(seats)
 }
 
-// A book with one seat and four more.
+/// A book with one seat and four more.
 fn five(alloc: Global) -> Result<(SharedBook, Seat, Vec<Seat>), Memory>
     ensures { IfOk result (λ r. (r.1.book ≡ book_id r.0) × All (λ s. s.book ≡ book_id r.0) r.2.items × (vec_len r.2 ≡ 4) × (seats_of r.0 ≡ 5)) }
 {

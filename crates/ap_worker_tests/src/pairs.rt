@@ -23,6 +23,7 @@ pub struct Meeting {
 }
 
 impl Meeting {
+    /// Neither has come yet.
     pub fn new() -> Meeting {
         Meeting {
             first: AtomicBool::new(false),
@@ -61,6 +62,7 @@ pub struct Hold {
 }
 
 impl Hold {
+    /// No call has passed yet.
     pub fn new() -> Hold {
         Hold {
             passed: AtomicBool::new(false),
@@ -145,7 +147,8 @@ pub fn are_both_cuts(outs: &[Out]) -> bool {
 }
 
 impl Tree for Pairs {
-    ghost use Rattle.ap_steal.specs.Meet.{pair_choices, pair_at, pair_plan, pair_branches, pair_planned};
+    ghost use Rattle.ap_pairs.specs.Pairs.{pair_choices, pair_at, pair_plan};
+    ghost use Rattle.ap_pairs.proofs.Laws.{pair_branches, pair_planned};
 
     ghost choices = { λ t. pair_choices t.depth };
 

@@ -70,7 +70,7 @@ fn sources_in_memory_are_read(rt: HostRuntime) {
     assert!(rt; matches!(steady_source_never_fails(rt.alloc()), Ok(true)));
 }
 
-// It takes two bytes at a write, and three in all, and its second write fails.
+/// It takes two bytes at a write, and three in all, and its second write fails.
 fn sink_takes_what_it_has_room_for(alloc: Global) -> Result<bool, AllocError> {
     let fails = vec![in alloc; 2]?;
     let mut sink = MemSink::new(alloc, 2, 3, fails).or(Err(AllocError))?;
@@ -115,7 +115,7 @@ impl Read for Halting {
 }
 
 impl Write for Halting {
-    // From its third call on it takes no bytes.
+    /// From its third call on it takes no bytes.
     fn write(&mut self, piece: &[u8]) -> io::Result<usize> {
         self.turn()?;
         Ok(if self.calls > 2 { 0 } else { piece.len() })

@@ -1,6 +1,6 @@
 use Rattle.std.proofs.Common.{arith, ◌∙◌, ap, sym}
 use Rattle.crossbeam_deque.specs.Handles.{worker_view}
-use Rattle.ap_tasks.specs.Rule.{weigh}
+use Rattle.ap_paths.specs.Weights.{weigh}
 use Rattle.ap_tasks.proofs.Moves.{weigh-append}
 use Rattle.ap_tasks.proofs.Closings.{parts_of-last, stolen_of-last, of_last}
 use Rattle.ap_tasks.proofs.closing.absorb_all.Goals as goal

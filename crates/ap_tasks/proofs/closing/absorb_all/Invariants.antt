@@ -1,14 +1,14 @@
 use Rattle.std.proofs.Common.{◌≡◌, ℕ, ◌+◌, List}
 use Rattle.crossbeam_deque.specs.Handles.{worker_deque, worker_view}
-use Rattle.ap_tasks.specs.Rule.{weigh}
-use Rattle.ap_tasks.specs.Owners.{IsFirst, AreOf, parts_of, stolen_of}
+use Rattle.ap_paths.specs.Weights.{weigh}
+use Rattle.ap_tasks.specs.Owners.{IsLifoOwner, AreThievesOf, parts_of, stolen_of}
 use Rattle.ap_tasks.proofs.closing.absorb_all.Given as goal
 
 abbrev pub invariant-loop-thief : goal.invariant-loop-thief
 invariant-loop-thief g l =
-    IsFirst l.deque
+    IsLifoOwner l.deque
     × (worker_deque l.deque ≡ worker_deque l.initial.deque)
-    × AreOf (worker_deque l.initial.deque) l.thieves.items
+    × AreThievesOf (worker_deque l.initial.deque) l.thieves.items
     × ((worker_view l.deque).parts + parts_of l.thieves.items ≡ (worker_view l.initial.deque).parts + parts_of l.initial.thieves.items)
     × ((worker_view l.deque).pushed ≡ (worker_view l.initial.deque).pushed)
     × ((worker_view l.deque).popped ≡ (worker_view l.initial.deque).popped)

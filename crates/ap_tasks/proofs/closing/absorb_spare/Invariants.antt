@@ -1,12 +1,12 @@
 use Rattle.std.proofs.Common.{◌≡◌, ◌+◌, length}
 use Rattle.crossbeam_deque.specs.Handles.{worker_deque, worker_view}
 use Rattle.ap_tasks.specs.Ends.{AreSpare}
-use Rattle.ap_tasks.specs.Owners.{IsFirst}
+use Rattle.ap_tasks.specs.Owners.{IsLifoOwner}
 use Rattle.ap_tasks.proofs.closing.absorb_spare.Given as goal
 
 abbrev pub invariant-loop-pass : goal.invariant-loop-pass
 invariant-loop-pass g l =
-    IsFirst l.deque
+    IsLifoOwner l.deque
     × (worker_deque l.deque ≡ worker_deque l.initial.deque)
     × AreSpare (worker_deque l.initial.deque) l.spare.items
     × ((worker_view l.deque).parts + length l.spare.items ≡ (worker_view l.initial.deque).parts + length l.initial.spare.items)

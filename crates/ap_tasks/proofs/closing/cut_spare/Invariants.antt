@@ -2,12 +2,12 @@ use Rattle.std.proofs.Common.{◌≡◌, ◌-◌, ◌≤◌, [], vec_len, vec_ca
 use Rattle.crossbeam_deque.specs.Handles.{worker_deque, worker_view, worker_capacity, worker_index}
 use Rattle.ap_tasks.specs.Rule.{hand}
 use Rattle.ap_tasks.specs.Ends.{AreSpare}
-use Rattle.ap_tasks.specs.Owners.{IsFirst}
+use Rattle.ap_tasks.specs.Owners.{IsLifoOwner}
 use Rattle.ap_tasks.proofs.closing.cut_spare.Given as goal
 
 abbrev pub invariant-loop : goal.invariant-loop
 invariant-loop g l =
-    IsFirst l.deque
+    IsLifoOwner l.deque
     × (worker_deque l.deque ≡ worker_deque l.initial.deque)
     × (worker_capacity l.initial.deque ≤ worker_capacity l.deque)
     × (worker_index l.deque ≡ worker_index l.initial.deque)

@@ -1,12 +1,12 @@
 use Rattle.std.proofs.Common.{◌≡◌, ◌≤◌, ◌+◌, ◌-◌, ◌++◌, length, vec_capacity}
 use Rattle.crossbeam_deque.specs.Handles.{worker_view}
 use Rattle.ap_tasks.specs.Rule.{hand}
-use Rattle.ap_tasks.specs.Owners.{IsFirst}
+use Rattle.ap_tasks.specs.Owners.{IsLifoOwner}
 use Rattle.ap_tasks.proofs.closing.drain.Given as goal
 
 abbrev pub invariant-loop-path : goal.invariant-loop-path
 invariant-loop-path g l =
-    IsFirst l.deque
+    IsLifoOwner l.deque
     × (worker_view l.deque ≡ hand 1024 (worker_view l.initial.deque).pushed ((worker_view l.initial.deque).popped ++ l.left.items) (worker_view l.initial.deque).stolen)
     × (length (worker_view l.initial.deque).pushed ≤ length (worker_view l.initial.deque).popped + vec_capacity l.left)
 

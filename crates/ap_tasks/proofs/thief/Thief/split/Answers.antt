@@ -4,7 +4,7 @@ use Rattle.atomic_blocks.specs.Lent.{RowsId}
 use Rattle.crossbeam_deque.specs.Handles.{IsPassOf, stealer_deque, stealer_flavor}
 use Rattle.ap_tasks.specs.declared.hand.Hand.{Hand}
 use Rattle.ap_tasks.specs.Ends.{ThiefView}
-use Rattle.ap_tasks.proofs.Spares.{spare_rest, spare_last, no_spare}
+use Rattle.ap_tasks.proofs.Spares.{spare_rest, spare_last, no_spare, thief_knows}
 use Rattle.ap_tasks.proofs.thief.Thief.split.Goals as goal
 
 pub with_one-requires : goal.with_one-requires
@@ -13,7 +13,7 @@ with_one-requires g c =
     let last = spare_last (stealer_deque c.self.inside.stealer) _ _ _ c.in-Some.ensures.items c.self.invariant.3 in (
       s.1 ∙ c.self.invariant.0,
       subst (λ (d : RowsId × Global). IsPassOf d c.in-Some.pass) (sym s.0) last.0,
-      ap (λ (v : Hand). v.parts) last.1,
+      thief_knows _ [] last.1,
       no_spare (stealer_deque c.in_ok-stealer.stealer),
     )
 
