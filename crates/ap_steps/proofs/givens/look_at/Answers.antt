@@ -3,6 +3,7 @@ use Rattle.std.proofs.lemmas.Result.{on_ok_weaker}
 use Rattle.std.specs.Prelude.{slice_get}
 use Rattle.ap_defs.specs.declared.goals.Goal as code_goals
 use Rattle.ap_defs.specs.declared.outcomes.Derivation as code_nodes
+use Rattle.ap_defs.specs.declared.terms.Name.{Name}
 use Rattle.ap_defs.specs.declared.terms.Term.{Term}
 use Rattle.ap_defs.specs.Derivations.{derivation_of}
 use Rattle.ap_defs.specs.Goals.{goal_of, program_of}
@@ -64,12 +65,14 @@ returns-in_ok-add_term_at-in-Exists-Exists-clause-givens c =
     let ls = locals_of c.args.place.locals.now in
     let rest = givens_left cs c.args.waiting.now.items in
     let below : code_nodes.Derivation → code_goals.Goal Term → List NominalGiven = λ d g. givens cs ls (derivation_of d) (goal_of g) in
-    let own = by_local (slice_get ls v.x.num) (var_given (term_of v.term)) in
-    let at : givens_at cs c.args.place ≡ own ++ below v.below.value v.goal.value = ap₂ below v.is-0 v.is-1 in
+    let of_term : Term → List NominalGiven = λ t. by_local (slice_get ls v.x.num) (var_given (term_of t)) in
+    let own = of_term c.deref-in-Exists-Exists.result.now in
+    let at : givens_at cs c.args.place ≡ own ++ below v.below.value v.goal.value =
+    ap₂ below v.is-0 v.is-1 ∙ ap (λ (t : Term). of_term t ++ below v.below.value v.goal.value) (sym c.deref-in-Exists-Exists.ensures) in
     on_ok_weaker c.wait_at-in-Exists-Exists.result
     (λ h. given_next (givens_of c.args.given.now.items) (givens_of c.add_term_at.new.given.items) own (below v.below.value v.goal.value) rest
     (givens_left cs c.wait_at-in-Exists-Exists.new.waiting.items) c.in_ok-add_term_at-in-Exists-Exists.ensures
-    (h ∙ ap (λ xs. xs ++ rest) (ap₂ below c.deref-in-Exists-Exists.ensures c.deref-in-Exists-Exists-2.ensures))
+    (h ∙ ap (λ xs. xs ++ rest) (ap₂ below c.deref-in-Exists-Exists-2.ensures c.deref-in-Exists-Exists-3.ensures))
     ∙ ap (λ xs. givens_of c.args.given.now.items ++ (xs ++ rest)) (sym at))
     (c.wait_at-in-Exists-Exists.ensures.givens cs)
 
@@ -80,11 +83,13 @@ returns-in_ok-add_name_at-in-New-New-clause-givens c =
     let ls = locals_of c.args.place.locals.now in
     let rest = givens_left cs c.args.waiting.now.items in
     let below : code_nodes.Derivation → code_goals.Goal Term → List NominalGiven = λ d g. givens cs ls (derivation_of d) (goal_of g) in
-    let own = by_local (slice_get ls v.own.num) (λ w. name v.name w ∷ []) in
-    let at : givens_at cs c.args.place ≡ own ++ below v.below.value v.goal.value = ap₂ below v.is-0 v.is-1 in
+    let of_name : Name → List NominalGiven = λ a. by_local (slice_get ls v.own.num) (λ w. name a w ∷ []) in
+    let own = of_name c.deref-in-New-New.result.now in
+    let at : givens_at cs c.args.place ≡ own ++ below v.below.value v.goal.value =
+    ap₂ below v.is-0 v.is-1 ∙ ap (λ (a : Name). of_name a ++ below v.below.value v.goal.value) (sym c.deref-in-New-New.ensures) in
     on_ok_weaker c.wait_at-in-New-New.result
     (λ h. given_next (givens_of c.args.given.now.items) (givens_of c.add_name_at.new.given.items) own (below v.below.value v.goal.value) rest
     (givens_left cs c.wait_at-in-New-New.new.waiting.items) c.in_ok-add_name_at-in-New-New.ensures
-    (h ∙ ap (λ xs. xs ++ rest) (ap₂ below c.deref-in-New-New.ensures c.deref-in-New-New-2.ensures))
+    (h ∙ ap (λ xs. xs ++ rest) (ap₂ below c.deref-in-New-New-2.ensures c.deref-in-New-New-3.ensures))
     ∙ ap (λ xs. givens_of c.args.given.now.items ++ (xs ++ rest)) (sym at))
     (c.wait_at-in-New-New.ensures.givens cs)
