@@ -1,7 +1,8 @@
 -- Swappings of closures.
-use Rattle.std.proofs.Common.{◌≡◌, ◌≤◌, ℕ, List, [], ◌∷◌, map, subst, sym, arith}
+use Rattle.std.proofs.Common.{◌≡◌, ◌≤◌, ℕ, List, [], ◌∷◌, length, map, subst, sym, arith}
+use Rattle.ap_theory.proofs.TermLemmas.{act_term_none}
 use Rattle.ap_defs.specs.Renaming.{AreSwapsBelow, IsBelow, rename_swap, rename_term}
-use Rattle.ap_defs.specs.Terms.{susp, term_of}
+use Rattle.ap_defs.specs.Terms.{NominalTerm, act_term, susp, term_of}
 use Rattle.ap_defs.specs.declared.terms.Swap.{Swap}
 use Rattle.ap_defs.specs.declared.terms.Term.{Term}
 use Rattle.ap_defs.specs.declared.terms.Term.TheVariants as code
@@ -17,3 +18,8 @@ pub waiting_below : (m n base : ℕ) (t : Term) (q r : List Swap) (x : Var) → 
 waiting_below m n base t q r x l h e f =
     let k : IsBelow n (rename_term base (susp q x)) = subst (λ (u : Term). IsBelow n (rename_term base (term_of u))) e h in
     subst (λ (p : List Swap). AreSwapsBelow m (map (rename_swap base) p)) (sym f) (swaps_below_more m n l (map (rename_swap base) q) k.0)
+
+-- no swapping moves a term
+pub moved_by_none : (t : NominalTerm) (p : List Swap) → length p ≡ 0 → t ≡ act_term p t
+moved_by_none t [] e = sym (act_term_none t)
+moved_by_none t (s ∷ p) e = cc

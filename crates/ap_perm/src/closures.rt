@@ -5,7 +5,7 @@ ghost use Rattle.ap_defs.specs.Renaming.{IsBelow, rename_term};
 ghost use Rattle.ap_defs.specs.Terms.{term_of};
 ghost use Rattle.ap_perm.specs.BelowProps.{below_prop};
 
-use crate::joining::{joined, numbered, with_numbered};
+use crate::joining::{copied, joined, numbered, with_numbered};
 use crate::swappings::image;
 use ap_defs::memory::Memory;
 use ap_defs::terms::{Name, Swap, Term, Var};
@@ -57,7 +57,7 @@ impl<'a> Closure<'a> {
     pub fn copy(&self, alloc: Global) -> Result<Closure<'a>, Memory>
         ensures { IfOk result (λ c. closure_term c ≡ closure_term self.now) }
     {
-        let swaps = self.swaps.to_vec(alloc)?;
+        let swaps = copied(alloc, &self.swaps)?;
         Ok(Closure {
             swaps,
             base: self.base,
@@ -70,6 +70,9 @@ impl<'a> Closure<'a> {
     pub fn moved_by(self, alloc: Global, p: &[Swap]) -> Result<Closure<'a>, Memory>
         ensures { IfOk result (λ c. closure_term c ≡ act_term p.now (closure_term self.entry)) }
     {
+        if p.is_empty() {
+            return Ok(self);
+        }
         let Closure {
             swaps,
             base,
@@ -140,10 +143,10 @@ impl<'a> Closure<'a> {
         requires right { IsBelow end (rename_term base (term_of right.now)) }
         ensures { IfOk result (λ o. opened_term o ≡ pair (act_term swaps.items (rename_term base (term_of left.now))) (act_term swaps.items (rename_term base (term_of right.now)))) }
     {
-        let copied = swaps.to_vec(alloc)?;
+        let own = copied(alloc, &swaps)?;
         Ok(Opened::Pair(
             Closure {
-                swaps: copied,
+                swaps: own,
                 base,
                 end,
                 term: left,

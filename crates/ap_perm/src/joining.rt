@@ -7,11 +7,25 @@ use ap_defs::memory::Memory;
 use ap_defs::terms::{Name, Swap};
 use std::alloc::Global;
 
+/// A copy of a list of swappings. An empty one, as nearly all are, takes no time.
+pub fn copied(alloc: Global, p: &[Swap]) -> Result<Vec<Swap>, Memory>
+    ensures { IfOk result (λ r. r.items ≡ p.now) }
+{
+    if p.is_empty() {
+        return Ok(Vec::new(alloc));
+    }
+    let copied = p.to_vec(alloc)?;
+    Ok(copied)
+}
+
 /// One list of swappings, and then the other.
 pub fn joined(alloc: Global, p: &[Swap], q: &[Swap]) -> Result<Vec<Swap>, Memory>
     ensures { IfOk result (λ r. r.items ≡ p.now ++ q.now) }
 {
-    let mut joined = p.to_vec(alloc)?;
+    let mut joined = copied(alloc, p)?;
+    if q.is_empty() {
+        return Ok(joined);
+    }
     joined.extend_from_slice(q)?;
     Ok(joined)
 }
