@@ -3,22 +3,22 @@ use Rattle.std.proofs.Common.{◌≡◌, ◌<◌, ◌≤◌, ◌+◌, ◌-◌, �
 use Rattle.std.specs.Global.{Global}
 use Rattle.std.specs.Prelude.{◌==◌, Vec, filter, nat_lt, slice_set, if◌then◌else◌, Result, Ok, Err, OnErr}
 use Rattle.std.proofs.lemmas.Bool.Decides.{nat_tests}
-use Rattle.std.proofs.lemmas.List.{append-nil, length-append, length-take-le, take-append-le, take_more}
+use Rattle.std.proofs.lemmas.List.{append-nil, length-append, take-append-le, take_more}
 use Rattle.ap_defs.specs.Freshness.{Conds, add_conds, cond_eq, has_cond}
 use Rattle.ap_defs.specs.declared.terms.Cond.{Cond}
 use Rattle.ap_defs.specs.declared.terms.Var.{Var}
 use Rattle.ap_theory.proofs.BooleanLemmas.{and_both, and_false, and_right, or_cases, or_if_left, or_if_right, same_test}
 use Rattle.ap_theory.proofs.ConditionSetLemmas.{add_conds_same, cond_eq_tells, has_cond-append, has_cond_add}
 use Rattle.ap_theory.proofs.TermLemmas.{number_same, same_number, same_var}
-use Rattle.ap_store.specs.Changes.{AreChanges, IsChange, after, empty, present_after}
-use Rattle.ap_store.specs.Slots.{AreHeld, all_held, held_in}
+use Rattle.ap_store.specs.Changes.{AreChanges, after, empty, present_after}
+use Rattle.ap_store.specs.Slots.{AreHeld, AreTakenBelow, IsTakenBelow, all_held, held_in}
 use Rattle.ap_store.specs.Trails.{AreLinked, Kept, keep, kept_after, nothing_kept}
 use Rattle.ap_store.specs.Triples.{Triple, is_apart, is_on}
 use Rattle.ap_store.specs.declared.changes.Change.{Change}
 use Rattle.ap_store.specs.declared.changes.Change.TheVariants.{Made, Bound, Added, Taken}
 use Rattle.ap_store.proofs.AscendingLemmas.{ascending_filter, ascending_is_set}
 use Rattle.ap_store.proofs.SoundLemmas.{sound}
-use Rattle.ap_store.proofs.TrailLemmas.{changes_less, kept_more, linked_less, present_new, take_whole}
+use Rattle.ap_store.proofs.TrailLemmas.{kept_more, linked_less, take_whole}
 
 -- what follows where a call fails
 pub on_err : {T E : Type 0} (r : Result T E) {P : Type 0} → P → OnErr r P
@@ -31,7 +31,7 @@ held_in_get [] i d l = absurd (omega arith)
 held_in_get (v ∷ vs) zero d l = refl
 held_in_get (v ∷ vs) (suc i) d l = held_in_get vs i d (omega arith)
 
-held_in_beyond : (vs : List (Vec Cond Global)) (i : ℕ) → length vs ≤ i → held_in vs i ≡ []
+pub held_in_beyond : (vs : List (Vec Cond Global)) (i : ℕ) → length vs ≤ i → held_in vs i ≡ []
 held_in_beyond [] i l = refl
 held_in_beyond (v ∷ vs) zero l = absurd (omega arith)
 held_in_beyond (v ∷ vs) (suc i) l = held_in_beyond vs i (omega arith)
@@ -110,73 +110,82 @@ kept cs = kept_after cs nothing_kept
 abbrev now : List Change → Triple
 now cs = present_after cs empty
 
+-- Taken numbers below a bound.
+taken_more : (m n : ℕ) (cs : List Change) → m ≤ n → AreTakenBelow m cs → AreTakenBelow n cs
+taken_more m n [] l h = tt
+taken_more m n (Made k ∷ cs) l h = (tt, taken_more m n cs l h.1)
+taken_more m n (Bound x b k ∷ cs) l h = (tt, taken_more m n cs l h.1)
+taken_more m n (Added c ∷ cs) l h = (tt, taken_more m n cs l h.1)
+taken_more m n (Taken x es ∷ cs) l h = let k : x.num < m = h.0 in (omega (arith, k), taken_more m n cs l h.1)
+
+taken_new : (n : ℕ) (cs : List Change) (d : Change) → AreTakenBelow n cs → IsTakenBelow n d → AreTakenBelow n (cs ++ d ∷ [])
+taken_new n [] d h k = (k, tt)
+taken_new n (c ∷ cs) d h k = (h.0, taken_new n cs d h.1 k)
+
+taken_less : (n : ℕ) (cs : List Change) (d : Change) → AreTakenBelow n (cs ++ d ∷ []) → AreTakenBelow n cs × IsTakenBelow n d
+taken_less n [] d h = (tt, h.0)
+taken_less n (c ∷ cs) d h = let k = taken_less n cs d h.1 in ((h.0, k.0), k.1)
+
 -- Changes that are made.
 module _ (vs us : List (Vec Cond Global)) (cs ts : List Change) (d : Change) (e : ts ≡ cs ++ d ∷ []) (h : AreHeld vs cs) where
-  held_new : length us ≡ (after d (now cs)).next → ((i : ℕ) → held_in us i ≡ (keep d (kept cs)).conds i) → AreHeld us ts
-  held_new f g =
-      let k : kept ts ≡ keep d (kept cs) = ap kept e ∙ kept_more cs d nothing_kept in
-      (f ∙ ap (λ (a : Triple). a.next) (sym (present_new cs ts d empty e)), λ i. g i ∙ ap (λ (q : Kept). q.conds i) (sym k))
+  held_new : length vs ≤ length us → IsTakenBelow (length us) d → ((i : ℕ) → held_in us i ≡ (keep d (kept cs)).conds i) → AreHeld us ts
+  held_new l p g =
+      let k : kept ts ≡ keep d (kept cs) = ap kept e ∙ kept_more cs d nothing_kept in (
+        subst (AreTakenBelow (length us)) (sym e) (taken_new (length us) cs d (taken_more (length vs) (length us) cs l h.0) p),
+        λ i. g i ∙ ap (λ (q : Kept). q.conds i) (sym k),
+      )
 
-pub held_made : (vs us : List (Vec Cond Global)) (cs ts : List Change) (n : ℕ) → AreHeld vs cs → length us ≡ length vs + n → ((i : ℕ) → held_in us i ≡ held_in vs i) → ts ≡ cs ++ Made n ∷ [] → AreHeld us ts
-held_made vs us cs ts n h e f g = held_new vs us cs ts (Made n) g h (e ∙ ap (λ m. m + n) h.0) (λ i. f i ∙ h.1 i)
+pub held_made : (vs : List (Vec Cond Global)) (cs ts : List Change) (n : ℕ) → AreHeld vs cs → ts ≡ cs ++ Made n ∷ [] → AreHeld vs ts
+held_made vs cs ts n h e = held_new vs vs cs ts (Made n) e h (omega arith) tt h.1
 
 pub held_bound : (vs : List (Vec Cond Global)) (cs ts : List Change) (x : Var) (b : _) (q : ℕ) → AreHeld vs cs → ts ≡ cs ++ Bound x b q ∷ [] → AreHeld vs ts
-held_bound vs cs ts x b q h g = held_new vs vs cs ts (Bound x b q) g h h.0 h.1
+held_bound vs cs ts x b q h g = held_new vs vs cs ts (Bound x b q) g h (omega arith) tt h.1
 
-pub held_added : (vs us : List (Vec Cond Global)) (cs ts : List Change) (c : Cond) → AreHeld vs cs → length us ≡ length vs → ((i : ℕ) → held_in us i ≡ (if i == c.var.num then held_in vs i ++ c ∷ [] else held_in vs i)) → ts ≡ cs ++ Added c ∷ []
+pub held_added : (vs us : List (Vec Cond Global)) (cs ts : List Change) (c : Cond) → AreHeld vs cs → length vs ≤ length us → ((i : ℕ) → held_in us i ≡ (if i == c.var.num then held_in vs i ++ c ∷ [] else held_in vs i)) → ts ≡ cs ++ Added c ∷ []
     → AreHeld us ts
 held_added vs us cs ts c h e f g =
-    held_new vs us cs ts (Added c) g h (e ∙ h.0) (λ i. f i ∙ ap (λ (es : List Cond). if i == c.var.num then es ++ c ∷ [] else es) (h.1 i))
+    held_new vs us cs ts (Added c) g h e tt (λ i. f i ∙ ap (λ (es : List Cond). if i == c.var.num then es ++ c ∷ [] else es) (h.1 i))
 
-pub held_taken : (vs us : List (Vec Cond Global)) (cs ts : List Change) (x : Var) (es : _) → AreHeld vs cs → length us ≡ length vs → ((i : ℕ) → held_in us i ≡ (if i == x.num then [] else held_in vs i)) → ts ≡ cs ++ Taken x es ∷ []
+pub held_taken : (vs us : List (Vec Cond Global)) (cs ts : List Change) (x : Var) (es : _) → AreHeld vs cs → x.num < length vs → length us ≡ length vs → ((i : ℕ) → held_in us i ≡ (if i == x.num then [] else held_in vs i)) → ts ≡ cs ++ Taken x es ∷ []
     → AreHeld us ts
-held_taken vs us cs ts x es h e f g =
+held_taken vs us cs ts x es h l e f g =
     let nothing : List Cond = [] in
-    held_new vs us cs ts (Taken x es) g h (e ∙ h.0) (λ i. f i ∙ ap (λ (fs : List Cond). if i == x.num then nothing else fs) (h.1 i))
+    held_new vs us cs ts (Taken x es) g h (omega (arith, e)) (omega (arith, l, e)) (λ i. f i ∙ ap (λ (fs : List Cond). if i == x.num then nothing else fs) (h.1 i))
+
+-- more places, of which nothing is held
+pub held_kept : (vs us : List (Vec Cond Global)) (cs : List Change) → AreHeld vs cs → length vs ≤ length us → ((i : ℕ) → held_in us i ≡ held_in vs i) → AreHeld us cs
+held_kept vs us cs h l f = (taken_more (length vs) (length us) cs l h.0, λ i. f i ∙ h.1 i)
+
+pub some_more : (n : ℕ) → (n == 0) ≡ false → 0 < n
+some_more n h = grind (arith, nat_tests)
+
+-- something is held of places alone
+pub held_within : (vs : List (Vec Cond Global)) (i : ℕ) (cs : List Cond) → held_in vs i ≡ cs → 0 < length cs → i < length vs
+held_within vs i cs e l =
+    elim (nat_lt i (length vs)) as (λ b. nat_lt i (length vs) ≡ b → i < length vs) [
+      | true ↦ λ k. grind (arith, nat_tests)
+      | false ↦ λ k.
+          let m : length vs ≤ i = grind (arith, nat_tests) in
+          let n : length cs ≡ 0 = ap length (sym e ∙ held_in_beyond vs i m) in
+          absurd (omega (arith, l, n))
+    ] refl
 
 pub held_as : (vs : List (Vec Cond Global)) (us : List (Vec Cond Global)) (cs ts : List Change) → AreHeld vs cs → us ≡ vs → ts ≡ cs → AreHeld us ts
 held_as vs us cs ts h e f = subst (λ (ws : List (Vec Cond Global)). AreHeld ws ts) (sym e) (subst (AreHeld vs) (sym f) h)
 
--- nothing is held of numbers that were not given
-nothing_beyond_step : (c : Change) (a : Triple) (k : Kept) → IsChange c a → ((i : ℕ) → a.next ≤ i → k.conds i ≡ []) → (i : ℕ) → (after c a).next ≤ i → (keep c k).conds i ≡ []
-nothing_beyond_step (Made n) a k h f i l = f i (omega arith)
-nothing_beyond_step (Bound x c n) a k h f i l = f i l
-nothing_beyond_step (Added c) a k h f i l =
-    let made : c.var.num < a.next = h.0.1 in
-    let e : (i == c.var.num) ≡ false = grind (arith, nat_tests) in
-    ap (λ (b : Bool). if b then k.conds i ++ c ∷ [] else k.conds i) e ∙ f i l
-nothing_beyond_step (Taken x cs) a k h f i l = elim (i == x.num) as (λ b. (if b then [] else k.conds i) ≡ []) [ true ↦ refl | false ↦ f i l ]
-
-nothing_beyond_after : (cs : List Change) (a : Triple) (k : Kept) → AreChanges cs a → ((i : ℕ) → a.next ≤ i → k.conds i ≡ []) → (i : ℕ) → (present_after cs a).next ≤ i → (kept_after cs k).conds i ≡ []
-nothing_beyond_after [] a k h f = f
-nothing_beyond_after (c ∷ cs) a k h f = nothing_beyond_after cs (after c a) (keep c k) h.1 (nothing_beyond_step c a k h.0 f)
-
-nothing_beyond : (cs : List Change) → AreChanges cs empty → (i : ℕ) → (now cs).next ≤ i → (kept cs).conds i ≡ []
-nothing_beyond cs h = nothing_beyond_after cs empty nothing_kept h (λ i l. refl)
-
 -- Changes that are undone.
 module _ (vs : List (Vec Cond Global)) (cs ds : List Change) (d : Change) (e : ds ≡ cs ++ d ∷ []) (h : AreHeld vs ds) where
-  length_before : length vs ≡ (after d (now cs)).next
-  length_before = h.0 ∙ ap (λ (a : Triple). a.next) (present_new cs ds d empty e)
+  taken_before : AreTakenBelow (length vs) cs × IsTakenBelow (length vs) d
+  taken_before = taken_less (length vs) cs d (subst (AreTakenBelow (length vs)) e h.0)
 
   held_before : (i : ℕ) → held_in vs i ≡ (keep d (kept cs)).conds i
   held_before i = h.1 i ∙ ap (λ (q : Kept). q.conds i) (ap kept e ∙ kept_more cs d nothing_kept)
 
-pub unheld_made : (vs us : List (Vec Cond Global)) (cs ds : List Change) (n m : ℕ) → AreChanges ds empty → AreHeld vs ds → ds ≡ cs ++ Made n ∷ [] → us ≡ take m vs → m ≡ length vs - n → AreHeld us cs
-unheld_made vs us cs ds n m ch h e f g =
-    let changes = (changes_less cs (Made n) empty (subst (λ (es : List Change). AreChanges es empty) e ch)).0 in
-    let len : length vs ≡ (now cs).next + n = length_before vs cs ds (Made n) e h in
-    let left : m ≡ (now cs).next = omega (arith, len, g) in
-    let short : length us ≡ m = ap length f ∙ length-take-le m vs (omega arith) in (
-      short ∙ left,
-      λ i. elim (nat_lt i m) as (λ b. nat_lt i m ≡ b → held_in us i ≡ (kept cs).conds i) [
-        | true ↦ λ k. let l : i < m = grind (arith, nat_tests) in ap (λ ws. held_in ws i) f ∙ held_in_take vs m i l ∙ held_before vs cs ds (Made n) e h i
-        | false ↦ λ k. let l : m ≤ i = grind (arith, nat_tests) in held_in_beyond us i (omega (arith, short)) ∙ sym (nothing_beyond cs changes i (omega (arith, left)))
-      ] refl,
-    )
+pub unheld_made : (vs : List (Vec Cond Global)) (cs ds : List Change) (n : ℕ) → AreHeld vs ds → ds ≡ cs ++ Made n ∷ [] → AreHeld vs cs
+unheld_made vs cs ds n h e = let k = taken_before vs cs ds (Made n) e h in (k.0, held_before vs cs ds (Made n) e h)
 
 pub unheld_bound : (vs : List (Vec Cond Global)) (cs ds : List Change) (x : Var) (b : _) (q : ℕ) → AreHeld vs ds → ds ≡ cs ++ Bound x b q ∷ [] → AreHeld vs cs
-unheld_bound vs cs ds x b q h e = (length_before vs cs ds (Bound x b q) e h, held_before vs cs ds (Bound x b q) e h)
+unheld_bound vs cs ds x b q h e = let k = taken_before vs cs ds (Bound x b q) e h in (k.0, held_before vs cs ds (Bound x b q) e h)
 
 without_last : (cs : List Cond) (c : Cond) → take (length (cs ++ c ∷ []) - 1) (cs ++ c ∷ []) ≡ cs
 without_last cs c =
@@ -186,7 +195,7 @@ without_last cs c =
 pub unheld_added : (vs us : List (Vec Cond Global)) (cs ds : List Change) (c : Cond) → AreHeld vs ds → ds ≡ cs ++ Added c ∷ [] → length us ≡ length vs
     → ((i : ℕ) → held_in us i ≡ (if i == c.var.num then take (length (held_in vs i) - 1) (held_in vs i) else held_in vs i)) → AreHeld us cs
 unheld_added vs us cs ds c h e f g = (
-  f ∙ length_before vs cs ds (Added c) e h,
+  let k = taken_before vs cs ds (Added c) e h in taken_more (length vs) (length us) cs (omega (arith, f)) k.0,
   λ i. g i
       ∙ (elim (i == c.var.num) as (λ b. held_in vs i ≡ (if b then (kept cs).conds i ++ c ∷ [] else (kept cs).conds i) → (if b then take (length (held_in vs i) - 1) (held_in vs i) else held_in vs i) ≡ (kept cs).conds i) [
         | true ↦ λ k. ap (λ (es : List Cond). take (length es - 1) es) k ∙ without_last ((kept cs).conds i) c
@@ -197,7 +206,7 @@ unheld_added vs us cs ds c h e f g = (
 pub unheld_taken : (vs us : List (Vec Cond Global)) (cs ds : List Change) (x : Var) (es : _) → AreHeld vs ds → ds ≡ cs ++ Taken x es ∷ [] → es.items ≡ (kept cs).conds x.num → length us ≡ length vs
     → ((i : ℕ) → held_in us i ≡ (if i == x.num then es.items else held_in vs i)) → AreHeld us cs
 unheld_taken vs us cs ds x es h e k f g = (
-  f ∙ length_before vs cs ds (Taken x es) e h,
+  let t = taken_before vs cs ds (Taken x es) e h in taken_more (length vs) (length us) cs (omega (arith, f)) t.0,
   λ i. g i
       ∙ (elim (i == x.num) as (λ b. (i == x.num) ≡ b → held_in vs i ≡ (if b then [] else (kept cs).conds i) → (if b then es.items else held_in vs i) ≡ (kept cs).conds i) [
         | true ↦ λ m l. k ∙ ap (kept cs).conds (sym (number_same i x.num m))
@@ -205,17 +214,16 @@ unheld_taken vs us cs ds x es h e k f g = (
       ] refl (held_before vs cs ds (Taken x es) e h i)),
 )
 
-pub added_fits : (vs : List (Vec Cond Global)) (cs ds : List Change) (c : Cond) → AreChanges ds empty → AreHeld vs ds → ds ≡ cs ++ Added c ∷ [] → c.var.num < length vs
-added_fits vs cs ds c ch h e =
-    let k = (changes_less cs (Added c) empty (subst (λ (es : List Change). AreChanges es empty) e ch)).1 in
-    let len : length vs ≡ (now cs).next = length_before vs cs ds (Added c) e h in
-    omega (arith, len, k.0.1)
+pub added_fits : (vs : List (Vec Cond Global)) (cs ds : List Change) (c : Cond) → AreHeld vs ds → ds ≡ cs ++ Added c ∷ [] → c.var.num < length vs
+added_fits vs cs ds c h e =
+    let i = c.var.num in
+    let es = (kept cs).conds i in
+    let same : (i == i) ≡ true = same_number i i refl in
+    let l : 0 < length (es ++ c ∷ []) = omega (arith, length-append es (c ∷ [])) in
+    held_within vs i (es ++ c ∷ []) (held_before vs cs ds (Added c) e h i ∙ ap (λ (b : Bool). if b then es ++ c ∷ [] else es) same) l
 
-pub taken_fits : (vs : List (Vec Cond Global)) (cs ds : List Change) (x : Var) (es : _) → AreChanges ds empty → AreHeld vs ds → ds ≡ cs ++ Taken x es ∷ [] → x.num < length vs
-taken_fits vs cs ds x es ch h e =
-    let k : x.num < (now cs).next = (changes_less cs (Taken x es) empty (subst (λ (fs : List Change). AreChanges fs empty) e ch)).1 in
-    let len : length vs ≡ (now cs).next = length_before vs cs ds (Taken x es) e h in
-    omega (arith, len, k)
+pub taken_fits : (vs : List (Vec Cond Global)) (cs ds : List Change) (x : Var) (es : _) → AreHeld vs ds → ds ≡ cs ++ Taken x es ∷ [] → x.num < length vs
+taken_fits vs cs ds x es h e = let k = taken_before vs cs ds (Taken x es) e h in k.1
 
 pub taken_link : (cs ds : List Change) (x : Var) (es : _) → AreLinked ds nothing_kept → ds ≡ cs ++ Taken x es ∷ [] → es.items ≡ (kept cs).conds x.num
 taken_link cs ds x es h e = (linked_less cs (Taken x es) nothing_kept (subst (λ (fs : List Change). AreLinked fs nothing_kept) e h)).1

@@ -1,6 +1,6 @@
 -- What is kept of each number.
 use Rattle.std.specs.Global.{Global}
-use Rattle.std.specs.Prelude.{◌≡◌, ℕ, zero, suc, List, [], ◌∷◌, ◌++◌, Vec, length}
+use Rattle.std.specs.Prelude.{◌≡◌, ◌<◌, ℕ, zero, suc, List, [], ◌∷◌, ◌++◌, Vec, length}
 use mathlib.Core.HLevel.{Unit-prop}
 use Rattle.std.proofs.Props.{props}
 use Rattle.ap_defs.specs.Types.{NominalKind, kind_of}
@@ -38,9 +38,18 @@ IsStored table cs reach =
     × (length table ≡ (present_after cs empty).next) × ((i : ℕ) → place_in table i ≡ (kept_after cs nothing_kept).place i)
     × (reach ≡ (kept_after cs nothing_kept).reach)
 
--- of each number the conditions are held that came by the changes
+-- the number whose conditions are taken out is below n
+abbrev pub IsTakenBelow : ℕ → Change → Type 0
+IsTakenBelow n (Taken x cs) = x.num < n
+IsTakenBelow n _ = Unit {0}
+
+abbrev pub AreTakenBelow : ℕ → List Change → Type 0
+AreTakenBelow n [] = Unit {0}
+AreTakenBelow n (c ∷ cs) = IsTakenBelow n c × AreTakenBelow n cs
+
+-- of each number the conditions are held that came by the changes; what was taken out can be put back
 abbrev pub AreHeld : List (Vec Cond Global) → List Change → Type 0
-AreHeld held cs = (length held ≡ (present_after cs empty).next) × ((i : ℕ) → held_in held i ≡ (kept_after cs nothing_kept).conds i)
+AreHeld held cs = AreTakenBelow (length held) cs × ((i : ℕ) → held_in held i ≡ (kept_after cs nothing_kept).conds i)
 
 link_prop : (c : Change) (k : Kept) → IsProp (IsLinked c k)
 link_prop (Made n) k = Unit-prop
@@ -56,5 +65,15 @@ pub stored_prop : (table : List Slot) (cs : List Change) (reach : ℕ) → IsPro
 stored_prop table cs reach =
     let h : IsProp (AreChanges cs empty) = changes_prop cs empty in let k : IsProp (AreLinked cs nothing_kept) = links_prop cs nothing_kept in hlevel (props, h, k)
 
+taken_prop : (n : ℕ) (c : Change) → IsProp (IsTakenBelow n c)
+taken_prop n (Made m) = Unit-prop
+taken_prop n (Bound x c m) = Unit-prop
+taken_prop n (Added c) = Unit-prop
+taken_prop n (Taken x cs) = hlevel props
+
+all_taken_prop : (n : ℕ) (cs : List Change) → IsProp (AreTakenBelow n cs)
+all_taken_prop n [] = Unit-prop
+all_taken_prop n (c ∷ cs) = let h : IsProp (IsTakenBelow n c) = taken_prop n c in let k : IsProp (AreTakenBelow n cs) = all_taken_prop n cs in hlevel (props, h, k)
+
 pub held_prop : (held : List (Vec Cond Global)) (cs : List Change) → IsProp (AreHeld held cs)
-held_prop held cs = hlevel props
+held_prop held cs = let h : IsProp (AreTakenBelow (length held) cs) = all_taken_prop (length held) cs in hlevel (props, h)

@@ -1,7 +1,8 @@
 //! What conditions are held of each number: those on its variable, in the order in which they came,
-//! each as often as it came.
+//! each as often as it came. Of numbers behind the last list nothing is held, so that a search without
+//! conditions has no lists.
 
-ghost use Rattle.std.specs.Prelude.{◌≡◌, ℕ, ◌+◌, ◌-◌, ◌<◌, ◌≤◌, ◌==◌, ◌++◌, ◌∷◌, [], IfOk, OnOk, OnErr, if◌then◌else◌, length, take, vec_len, vec_capacity};
+ghost use Rattle.std.specs.Prelude.{◌≡◌, ℕ, ◌+◌, ◌-◌, ◌<◌, ◌≤◌, ◌==◌, ◌++◌, ◌∷◌, [], IfOk, OnOk, OnErr, if◌then◌else◌, length, take};
 ghost use Rattle.ap_store.specs.Slots.{all_held, held_in};
 
 use ap_defs::memory::Memory;
@@ -9,29 +10,50 @@ use ap_defs::terms::Cond;
 use std::alloc::Global;
 use std::mem;
 
-/// Adds that nothing is held of so many further numbers, where there is room.
-pub fn add_numbers(held: &mut Vec<Vec<Cond>>, count: usize)
-    requires { vec_len held.old + count ≤ vec_capacity held.old }
+/// Makes room for the conditions of a number, where nothing was held of it or of higher ones so far.
+fn make_place(held: &mut Vec<Vec<Cond>>, place: usize) -> Result<(), Memory>
     ensures held { (i : ℕ) → held_in held.new.items i ≡ held_in held.old.items i }
-    ensures length { length held.new.items ≡ length held.old.items + count }
+    ensures place { OnOk result (place < length held.new.items) }
+    ensures length { length held.old.items ≤ length held.new.items }
 {
     let alloc = *held.allocator();
-    let mut left = count;
-    'adding: while 0 < left {
-        held.push_reserved(Vec::new(alloc));
-        left -= 1;
+    'adding: while held.len() <= place {
+        held.push(Vec::new(alloc))?;
     }
+    Ok(())
 }
 
 /// Puts a condition behind those that are held of its variable.
 pub fn hold(held: &mut Vec<Vec<Cond>>, c: Cond) -> Result<(), Memory>
-    requires { c.var.num < length held.old.items }
     ensures held { OnOk result ((i : ℕ) → held_in held.new.items i ≡ (if i == c.var.num then held_in held.old.items i ++ c ∷ [] else held_in held.old.items i)) }
+    ensures unchanged { OnErr result ((i : ℕ) → held_in held.new.items i ≡ held_in held.old.items i) }
+    ensures length { length held.old.items ≤ length held.new.items }
+{
+    let place = c.var.num as usize;
+    make_place(held, place)?;
+    push_at(held, place, c)
+}
+
+/// Puts a condition behind those that are held of a number.
+fn push_at(held: &mut Vec<Vec<Cond>>, place: usize, c: Cond) -> Result<(), Memory>
+    requires { place < length held.old.items }
+    ensures held { OnOk result ((i : ℕ) → held_in held.new.items i ≡ (if i == place then held_in held.old.items i ++ c ∷ [] else held_in held.old.items i)) }
     ensures unchanged { OnErr result ((i : ℕ) → held_in held.new.items i ≡ held_in held.old.items i) }
     ensures length { length held.new.items ≡ length held.old.items }
 {
-    held[c.var.num as usize].push(c)?;
+    held[place].push(c)?;
     Ok(())
+}
+
+/// What is held of a number. It takes no memory.
+pub fn held_of(held: &[Vec<Cond>], place: usize) -> &[Cond]
+    ensures { result.now ≡ held_in held.now place }
+{
+    if place < held.len() {
+        held[place].as_slice()
+    } else {
+        &[]
+    }
 }
 
 /// Lets the last condition go that is held of a number.

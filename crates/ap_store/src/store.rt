@@ -6,7 +6,7 @@ ghost use Rattle.ap_store.specs.Slots.{AreHeld, IsStored, held_prop, stored_prop
 ghost use Rattle.ap_store.specs.Trails.{no_rank, nothing_bound, rank_after, raw_after};
 
 use crate::changes::Change;
-use crate::held::{add_numbers, all_of, hold, let_go, put_back, take_out};
+use crate::held::{all_of, held_of, hold, let_go, put_back, take_out};
 use crate::searches::closure_at;
 use crate::slots::Slot;
 use crate::tables::add_slots;
@@ -77,11 +77,9 @@ impl<'a> Store<'a> {
     {
         let count = locals.len();
         self.table.reserve(count)?;
-        self.held.reserve(count)?;
         self.trail.reserve(1)?;
         let first = self.table.len() as u64;
         add_slots(&mut self.table, locals);
-        add_numbers(&mut self.held, count);
         self.trail.push_reserved(Change::Made(count));
         Ok(first)
     }
@@ -197,10 +195,11 @@ impl<'a> Store<'a> {
         ensures unchanged { OnErr result (IsUnchanged self.old self.new) }
     {
         self.trail.reserve(2)?;
-        let mut taken = self.held[x.num as usize].to_vec(alloc)?;
-        if taken.is_empty() {
-            return Ok(taken);
+        let conds = held_of(&self.held, x.num as usize);
+        if conds.is_empty() {
+            return Ok(Vec::new(alloc));
         }
+        let mut taken = conds.to_vec(alloc)?;
         make_set(&mut taken);
         self.note_taken(x);
         Ok(taken)
@@ -256,6 +255,7 @@ impl<'a> Store<'a> {
     fn note_taken(&mut self, x: Var)
         requires room { vec_len self.old.trail < vec_capacity self.old.trail }
         requires made { x.num < (present self.old).next }
+        requires held { x.num < length self.old.held.items }
         ensures present { present self.new ≡ replace_conditions (filter (is_apart x) (present self.old).conditions) (present self.old) }
         ensures versions { versions self.new ≡ versions self.old ++ present self.new ∷ [] }
         ensures kinds { kinds self.new ≡ kinds self.old }
@@ -277,7 +277,6 @@ impl<'a> Store<'a> {
             Some(Change::Made(count)) => {
                 let left = self.table.len() - count;
                 self.table.truncate(left);
-                self.held.truncate(left);
             }
             Some(Change::Bound(x, _, reach)) => {
                 self.reach = reach;

@@ -23,8 +23,7 @@ invariant_of-self-in-Some-Made c =
     let m : c.len.result ≡ length s.table.items = omega (arith, c.len.ensures) in
     let kept = unmade_as s.table.items c.truncate.new.self.items c.pop.new.self.items s.trail.items s.reach c.in-Some-Made.count s.stored e
     (c.truncate.ensures.items ∙ ap (λ n. take (n - c.in-Some-Made.count) s.table.items) m) in
-    let held = unheld_made s.held.items c.truncate-in-Some-Made.new.self.items c.pop.new.self.items s.trail.items c.in-Some-Made.count (c.len.result - c.in-Some-Made.count) s.stored.0 s.holds e c.truncate-in-Some-Made.ensures.items
-    (omega (arith, m, s.stored.2, s.holds.0)) in
+    let held = unheld_made s.held.items c.pop.new.self.items s.trail.items c.in-Some-Made.count s.holds e in
     record { stored = kept; holds = held; ranked = ranked_after c.pop.new.self.items kept.0 }
 
 pub returns-in-Some-Made-clause-versions : goal.returns-in-Some-Made-clause-versions
@@ -74,7 +73,7 @@ pub let_go-requires : goal.let_go-requires
 let_go-requires c =
     let s = c.args.self.now in
     let e : s.trail.items ≡ c.pop.new.self.items ++ Added c.in-Some-Added.c ∷ [] = c.in-Some-Added.ensures.items ∙ ap (λ (d : Change). c.pop.new.self.items ++ d ∷ []) c.in-Some-Added.field-0-is in
-    added_fits s.held.items c.pop.new.self.items s.trail.items c.in-Some-Added.c s.stored.0 s.holds e
+    added_fits s.held.items c.pop.new.self.items s.trail.items c.in-Some-Added.c s.holds e
 
 pub invariant_of-self-in-Some-Added : goal.invariant_of-self-in-Some-Added
 invariant_of-self-in-Some-Added c =
@@ -91,7 +90,7 @@ pub put_back-requires : goal.put_back-requires
 put_back-requires c =
     let s = c.args.self.now in
     let e : s.trail.items ≡ c.pop.new.self.items ++ Taken c.in-Some-Taken.x c.in-Some-Taken.conds ∷ [] = c.in-Some-Taken.ensures.items ∙ ap (λ (d : Change). c.pop.new.self.items ++ d ∷ []) c.in-Some-Taken.field-0-is in
-    taken_fits s.held.items c.pop.new.self.items s.trail.items c.in-Some-Taken.x c.in-Some-Taken.conds s.stored.0 s.holds e
+    taken_fits s.held.items c.pop.new.self.items s.trail.items c.in-Some-Taken.x c.in-Some-Taken.conds s.holds e
 
 pub invariant_of-self-in-Some-Taken : goal.invariant_of-self-in-Some-Taken
 invariant_of-self-in-Some-Taken c =
