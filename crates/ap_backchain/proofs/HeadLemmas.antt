@@ -4,7 +4,7 @@ use Rattle.std.proofs.lemmas.List.{length-map, take-append-le, take_all}
 use Rattle.std.specs.Prelude.{Bool, Option, Some, None}
 use Rattle.ap_defs.specs.Freshness.{Conds}
 use Rattle.ap_defs.specs.Goals.{NominalClause}
-use Rattle.ap_defs.specs.Renaming.{AreBelow, rename_term}
+use Rattle.ap_defs.specs.Renaming.{AreBelow, IsBelow, rename_term}
 use Rattle.ap_defs.specs.Resolution.{State, kinds_of}
 use Rattle.ap_defs.specs.Substitution.{Binding, ◌≐◌, under}
 use Rattle.ap_defs.specs.Terms.{NominalTerm, term_of}
@@ -13,8 +13,6 @@ use Rattle.ap_defs.specs.declared.goals.Local.{Local}
 use Rattle.ap_defs.specs.Unification.{Unified, ending, equations_of, finish, unify}
 use Rattle.ap_defs.specs.declared.terms.Term.{Term}
 use Rattle.ap_defs.specs.declared.terms.Var.{Var}
-use Rattle.ap_perm.specs.Closures.{closure_term}
-use Rattle.ap_perm.specs.declared.closures.Closure.{Closure}
 use Rattle.ap_program.proofs.RenamingLemmas.{are_below_more, are_renamed_below}
 use Rattle.ap_search.specs.Continuations.{Waiting}
 use Rattle.ap_store.specs.Triples.{GoesOn, Triple, with_next}
@@ -66,16 +64,10 @@ head_below m n base ts us k l e h =
     subst (λ (vs : List Term). AreBelow m (map (rename_term base) (map term_of (take k vs)))) (sym e)
     (args_below m (base + n) base ts k l (are_renamed_below base n (map term_of ts) h))
 
--- closures of such terms
-module _ (cs ds : List Closure) (base : ℕ) (ts : List Term) (same : cs ≡ ds) (closed : map closure_term ds ≡ map (rename_term base) (map term_of ts)) where
-  pub closed_terms : map closure_term cs ≡ map (rename_term base) (map term_of ts)
-  closed_terms = ap (map closure_term) same ∙ closed
-
-  pub closed_length : length cs ≡ length ts
-  closed_length = sym (length-map cs closure_term) ∙ ap length closed_terms ∙ length-map (map term_of ts) (rename_term base) ∙ length-map ts term_of
-
-  pub closed_below : (m : ℕ) → AreBelow m (map (rename_term base) (map term_of ts)) → AreBelow m (map closure_term cs)
-  closed_below m h = subst (AreBelow m) (sym closed_terms) h
+-- a list of one term
+pub one_below : (m n base : ℕ) (ts : List Term) (t : Term) → ts ≡ t ∷ [] → m ≡ n → IsBelow n (rename_term base (term_of t)) → AreBelow m (map (rename_term base) (map term_of ts))
+one_below m n base ts t e f h =
+    subst (λ (us : List Term). AreBelow m (map (rename_term base) (map term_of us))) (sym e) (subst (λ k. IsBelow k (rename_term base (term_of t))) (sym f) h, tt)
 
 -- a clause's identifiers, from the list of them that was given numbers
 pub made_next : (s r : Store) (ls ms : List Local) → present r ≡ with_next ((present s).next + length ls) (present s) → ls ≡ ms → (present r).next ≡ (present s).next + length (locals_of ms)

@@ -11,13 +11,12 @@ ghost use Rattle.ap_backchain.specs.Positions.{by_clause};
 ghost use Rattle.ap_backchain.specs.Tracks.{GoesFrom};
 ghost use Rattle.ap_backchain.specs.Heads.{HasHead};
 
-use crate::closures::closures;
 use crate::place::Place;
-use crate::renaming::vars_of_locals;
 use ap_defs::goals::Clause;
 use ap_defs::memory::Memory;
 use ap_defs::terms::Term;
 use ap_index::predicate::{Predicate, predicate_at};
+use ap_unify::terms::Terms;
 use ap_unify::unify::unify;
 use std::alloc::Global;
 
@@ -67,9 +66,17 @@ fn unify_head<'a>(
     let head = clause.args.items();
     let count = args.len().min(head.len());
     // The arguments have none of the new numbers, so that these need not be looked for in them.
-    let left = closures(alloc, base, start, &args[..count])?;
-    let right = closures(alloc, start, end, &head[..count])?;
-    if unify(alloc, &mut place.store, &left, &right)? {
+    let left = Terms {
+        base,
+        end: start,
+        terms: &args[..count],
+    };
+    let right = Terms {
+        base: start,
+        end,
+        terms: &head[..count],
+    };
+    if unify(alloc, &mut place.store, left, right)? {
         Ok(Some(start))
     } else {
         place.store.undo_to(mark);
@@ -97,9 +104,8 @@ pub fn enter_clause<'a>(
     match unify_head(alloc, place, args, base, clause)? {
         None => Ok(false),
         Some(start) => {
-            let vars = vars_of_locals(alloc, start, clause.locals.items())?;
             place.push_choice(choice)?;
-            place.push_vars(&vars)?;
+            place.push_locals(start, clause.locals.items())?;
             place.push_goal(&clause.body, start, depth)?;
             Ok(true)
         }

@@ -13,7 +13,6 @@ pub mod arena;
 pub mod branch;
 pub mod choices;
 pub mod clauses;
-pub mod closures;
 pub mod counted;
 pub mod ends;
 pub mod frames;

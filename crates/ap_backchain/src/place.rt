@@ -8,7 +8,8 @@ ghost use Rattle.ap_store.specs.Views.{present};
 use crate::arena::Arena;
 use crate::frames::Frame;
 use crate::points::Save;
-use ap_defs::goals::Goal;
+use crate::renaming::add_vars_of_locals;
+use ap_defs::goals::{Goal, Local};
 use ap_defs::memory::Memory;
 use ap_defs::terms::{Term, Var};
 use ap_store::store::Store;
@@ -27,9 +28,10 @@ pub struct Place<'a> {
 }
 
 impl<'a> Place<'a> {
-    ghost use Rattle.std.specs.Prelude.{◌≡◌, ◌∷◌, [], IfNone, IfSome, OnErr, OnOk, length};
+    ghost use Rattle.std.specs.Prelude.{◌≡◌, ◌+◌, ◌<◌, ◌^◌, ◌∷◌, [], IfNone, IfSome, OnErr, OnOk, length};
     ghost use Rattle.ap_defs.specs.Goals.{goal_of};
-    ghost use Rattle.ap_defs.specs.Renaming.{IsGoalBelow, rename_goal};
+    ghost use Rattle.ap_defs.specs.Renaming.{IsGoalBelow, local_vars, rename_goal};
+    ghost use Rattle.ap_defs.specs.Types.{locals_of};
     ghost use Rattle.ap_backchain.specs.Places.{next_of, position_of, track_of};
     ghost use Rattle.ap_backchain.specs.Positions.{with_choice, with_goal, with_vars};
     ghost use Rattle.ap_backchain.specs.Tracks.{GoesFrom, IsWithin, back_to, next_in, position_at};
@@ -76,6 +78,17 @@ impl<'a> Place<'a> {
     {
         self.brought.extend_from_slice(vars)?;
         Ok(())
+    }
+
+    /// The variables among identifiers were brought that are not marked as bound, the first number
+    /// being `base`.
+    pub fn push_locals(&mut self, base: u64, locals: &[Local]) -> Result<(), Memory>
+        requires { base + length locals.now < 2 ^ 64 }
+        ensures position { OnOk result (position_of self.new ≡ with_vars (local_vars base (locals_of locals.now)) (position_of self.old)) }
+        ensures goes { OnOk result (GoesFrom (track_of self.old) (track_of self.new)) }
+        ensures next { OnOk result (next_of self.new ≡ next_of self.old) }
+    {
+        add_vars_of_locals(&mut self.brought, base, locals)
     }
 
     /// The first goal, which waits no longer.

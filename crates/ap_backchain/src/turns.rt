@@ -25,8 +25,10 @@ use ap_defs::terms::{Name, Term, Var};
 use ap_index::predicate::Predicate;
 use ap_perm::closures::{Closure, Opened};
 use ap_unify::fresh::{make_fresh, make_fresh_for_each};
+use ap_unify::terms::Terms;
 use ap_unify::unify::unify;
 use std::alloc::Global;
+use std::slice;
 
 /// A search goes on from the place, fails there, or ends.
 #[derive(Drop)]
@@ -57,9 +59,17 @@ fn turn_of_equation<'a>(
     ensures goes { OnOk result (GoesFrom (track_of place.old) (track_of place.new)) }
 {
     let end = place.store.next();
-    let left = [Closure::of(alloc, base, end, t)];
-    let right = [Closure::of(alloc, base, end, u)];
-    let solved = unify(alloc, &mut place.store, &left, &right)?;
+    let left = Terms {
+        base,
+        end,
+        terms: slice::from_ref(t),
+    };
+    let right = Terms {
+        base,
+        end,
+        terms: slice::from_ref(u),
+    };
+    let solved = unify(alloc, &mut place.store, left, right)?;
     Ok(goes_where(solved))
 }
 

@@ -5,5 +5,6 @@ pub mod ReducingLemmas
 pub mod ResultLemmas
 pub mod RunLemmas
 pub mod SolutionLemmas
+pub mod SuspensionLemmas
 pub mod WellLemmas
 pub mod WorkLemmas

@@ -1,17 +1,17 @@
 -- The work that is left, where equations and problems are put to it.
-use Rattle.std.proofs.Common.{subst, ◌≡◌, ◌<◌, ◌+◌, ℕ, List, [], ◌∷◌, ◌++◌, drop, get_or, length, map, refl, reverse, sym, ap, ap₂, ◌∙◌, add-one, append_assoc}
+use Rattle.std.proofs.Common.{subst, ◌≡◌, ◌<◌, ◌+◌, ℕ, zero, suc, arith, List, [], ◌∷◌, ◌++◌, drop, get_or, length, map, refl, reverse, sym, ap, ap₂, ◌∙◌, add-one, append_assoc}
 use Rattle.std.proofs.Math.Seq.{drop-cons}
-use Rattle.std.proofs.lemmas.List.{append-nil, reverse-append, reverse-reverse}
+use Rattle.std.proofs.lemmas.List.{append-nil, length-map, reverse-append, reverse-reverse}
 use Rattle.std.specs.Prelude.{filter, IfOk, Result, Ok, Err}
 use Rattle.ap_defs.specs.Freshness.{has_cond}
-use Rattle.ap_defs.specs.Renaming.{AreBelow, IsBelow}
+use Rattle.ap_defs.specs.Renaming.{AreBelow, IsBelow, rename_term}
 use Rattle.ap_defs.specs.Substitution.{Binding, Equation, Problem, moved, put_binding, under, ◌#◌, ◌:=◌, ◌≐◌}
-use Rattle.ap_defs.specs.Terms.{NominalTerm}
+use Rattle.ap_defs.specs.Terms.{NominalTerm, term_of}
 use Rattle.ap_defs.specs.Unification.{Progress, Rule, apply_rule, bind, done, fresh_for, next, replace, step}
 use Rattle.ap_defs.specs.declared.terms.Name.{Name}
+use Rattle.ap_defs.specs.declared.terms.Term.{Term}
 use Rattle.ap_defs.specs.declared.terms.Var.{Var}
 use Rattle.ap_perm.specs.Closures.{closure_term, opened_term}
-use Rattle.ap_perm.specs.declared.closures.Closure.{Closure}
 use Rattle.ap_perm.specs.declared.closures.Opened.{Opened}
 use Rattle.ap_perm.specs.declared.closures.Opened.TheVariants as parts
 use Rattle.ap_store.specs.Heads.{IsHeadUnbound}
@@ -130,14 +130,14 @@ pub no_equation : (s : List Binding) (w : Work) → w.equations.items ≡ [] →
 no_equation s w e = ap (λ es. step (stage_under s (map pair_equation (reverse es)) (problems_met w))) e
 
 -- one place more, in front of the later ones
-pub paired_more : (es : List ClosurePair) (cs ds : List Closure) (i j : ℕ) (c d : Closure) (e : ClosurePair) → i ≡ j + 1 → j < length cs → j < length ds
-    → closure_term e.left ≡ closure_term (get_or cs j c) → closure_term e.right ≡ closure_term (get_or ds j d)
-    → map pair_equation (reverse es) ≡ paired (map closure_term (drop i cs)) (map closure_term (drop i ds))
-    → map pair_equation (reverse (es ++ e ∷ [])) ≡ paired (map closure_term (drop j cs)) (map closure_term (drop j ds))
-paired_more es cs ds i j c d e n l m f g h =
+pub paired_more : (es : List ClosurePair) (ts us : List NominalTerm) (i j : ℕ) (t u : NominalTerm) (e : ClosurePair) → i ≡ j + 1 → j < length ts → j < length us
+    → closure_term e.left ≡ get_or ts j t → closure_term e.right ≡ get_or us j u
+    → map pair_equation (reverse es) ≡ paired (drop i ts) (drop i us)
+    → map pair_equation (reverse (es ++ e ∷ [])) ≡ paired (drop j ts) (drop j us)
+paired_more es ts us i j t u e n l m f g h =
     put_last es e
-    ∙ ap₂ ◌∷◌ (ap₂ ◌≐◌ f g) (h ∙ ap (λ k. paired (map closure_term (drop k cs)) (map closure_term (drop k ds))) (n ∙ add-one j))
-    ∙ sym (ap₂ (λ xs ys. paired (map closure_term xs) (map closure_term ys)) (drop-cons cs j c l) (drop-cons ds j d m))
+    ∙ ap₂ ◌∷◌ (ap₂ ◌≐◌ f g) (h ∙ ap (λ k. paired (drop k ts) (drop k us)) (n ∙ add-one j))
+    ∙ sym (ap₂ paired (drop-cons ts j t l) (drop-cons us j u m))
 
 -- terms below are pairs below
 pub below_paired : (n : ℕ) (es : List ClosurePair) (ts us : List NominalTerm) → AreBelow n ts → AreBelow n us → map pair_equation es ≡ paired ts us → ArePairsBelow n es
@@ -162,3 +162,17 @@ pairs_below n es ts us h k e = subst (ArePairsBelow n) (reverse-reverse es) (pai
 pub if_ok : {T E : Type 0} (r : Result T E) {P Q : T → Type 0} → ((x : T) → P x → Q x) → IfOk r P → IfOk r Q
 if_ok (Ok x) f h = f x h
 if_ok (Err e) f h = h
+
+-- terms of a list that is shared
+pub terms_length : (base : ℕ) (ts : List Term) → length (map (rename_term base) (map term_of ts)) ≡ length ts
+terms_length base ts = length-map (map term_of ts) (rename_term base) ∙ length-map ts term_of
+
+pub term_below_at : (n base : ℕ) (ts : List Term) (j : ℕ) (d : Term) → j < length ts → AreBelow n (map (rename_term base) (map term_of ts)) → IsBelow n (rename_term base (term_of (get_or ts j d)))
+term_below_at n base [] j d l h = absurd (omega arith)
+term_below_at n base (u ∷ ts) zero d l h = h.0
+term_below_at n base (u ∷ ts) (suc j) d l h = term_below_at n base ts j d (omega arith) h.1
+
+pub term_at_place : (base : ℕ) (ts : List Term) (j : ℕ) (d : Term) → j < length ts → rename_term base (term_of (get_or ts j d)) ≡ get_or (map (rename_term base) (map term_of ts)) j (rename_term base (term_of d))
+term_at_place base [] j d l = absurd (omega arith)
+term_at_place base (u ∷ ts) zero d l = refl
+term_at_place base (u ∷ ts) (suc j) d l = term_at_place base ts j d (omega arith)

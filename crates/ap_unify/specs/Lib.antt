@@ -1,4 +1,5 @@
 pub mod Finishing
+pub mod Lists
 pub mod Runs
 pub mod Unified
 pub mod Work

@@ -6,5 +6,6 @@ pub mod fresh;
 mod moves;
 mod pairs;
 mod reducing;
+pub mod terms;
 pub mod unify;
 mod work;

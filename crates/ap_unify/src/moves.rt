@@ -10,12 +10,13 @@ ghost use Rattle.ap_perm.specs.Closures.{closure_term, opened_term};
 ghost use Rattle.ap_store.specs.Heads.{IsHeadUnbound};
 ghost use Rattle.ap_store.specs.Views.{present};
 ghost use Rattle.ap_theory.specs.Variables.{IsUnbound};
-ghost use Rattle.ap_unify.specs.Work.{IsMoveFit, move_under, opened_under};
+ghost use Rattle.ap_unify.specs.Work.{HasForm, IsMoveFit, IsSuspension, move_under, opened_under};
 
 use crate::pairs::ClosurePair;
 use ap_defs::memory::Memory;
-use ap_defs::terms::{Name, Swap, Var};
+use ap_defs::terms::{Name, Swap, Term, Var};
 use ap_perm::closures::{Closure, Opened};
+use ap_perm::joining::with_numbered;
 use ap_perm::swappings::differing;
 use ap_store::store::Store;
 use std::alloc::Global;
@@ -33,6 +34,35 @@ pub enum Move<'a> {
     Clash,
 }
 
+/// A suspension: swappings that wait, the first outermost, and the variable.
+#[derive(Drop)]
+pub struct Suspension {
+    pub swaps: Vec<Swap>,
+    pub var: Var,
+}
+
+/// The suspension that a closure is, or none where no variable stands at its head.
+fn suspension_of(alloc: Global, c: &Closure<'_>) -> Result<Option<Suspension>, Memory>
+    ensures { IfOk result (λ o. IsSuspension o (closure_term c.now)) }
+{
+    let _end = c.end;
+    match c.term {
+        Term::Unit => Ok(None),
+        Term::Name(_) => Ok(None),
+        Term::Pair(_, _) => Ok(None),
+        Term::App(_, _) => Ok(None),
+        Term::Abs(_, _) => Ok(None),
+        Term::Susp(q, x) => {
+            let own = c.swaps.to_vec(alloc)?;
+            let swaps = with_numbered(own, c.base, q.items())?;
+            let var = Var {
+                num: c.base + x.num,
+            };
+            Ok(Some(Suspension { swaps, var }))
+        }
+    }
+}
+
 /// The inverse of a permutation.
 #[tactic(auto, using(ap_perm::proofs::PermLemmas::reverse_inverse))]
 fn inverse_of(alloc: Global, p: &[Swap]) -> Result<Vec<Swap>, Memory>
@@ -47,6 +77,9 @@ fn inverse_of(alloc: Global, p: &[Swap]) -> Result<Vec<Swap>, Memory>
 fn moved_back<'a>(alloc: Global, p: &[Swap], c: Closure<'a>) -> Result<Closure<'a>, Memory>
     ensures { IfOk result (λ d. closure_term d ≡ act_term (inverse p.now) (closure_term c.entry)) }
 {
+    if p.is_empty() {
+        return Ok(c);
+    }
     let back = inverse_of(alloc, p)?;
     c.moved_by(alloc, &back)
 }
@@ -178,28 +211,22 @@ fn abstractions<'a>(
     }
 }
 
-/// The rule for two closures that were taken apart.
+/// The rule for two closures that were taken apart, neither of them a suspension.
 #[tactic(auto, unfolding(ap_defs::specs::Permutations::name_eq))]
 fn rule_for_opened<'a>(
     alloc: Global,
     store: &Store<'a>,
-    left: Closure<'a>,
-    opened_left: Opened<'a>,
-    right: Closure<'a>,
-    opened_right: Opened<'a>,
+    left: Opened<'a>,
+    right: Opened<'a>,
 ) -> Result<Move<'a>, Memory>
-    requires left { under (present store.now).bindings (closure_term left) ≡ opened_under (present store.now).bindings opened_left }
-    requires right { under (present store.now).bindings (closure_term right) ≡ opened_under (present store.now).bindings opened_right }
-    requires left_unbound { IsHeadUnbound (present store.now).bindings (opened_term opened_left) }
-    requires right_unbound { IsHeadUnbound (present store.now).bindings (opened_term opened_right) }
-    requires left_below { IsBelow (present store.now).next (closure_term left) }
-    requires right_below { IsBelow (present store.now).next (closure_term right) }
-    requires opened_left_below { IsBelow (present store.now).next (opened_term opened_left) }
-    requires opened_right_below { IsBelow (present store.now).next (opened_term opened_right) }
-    ensures rule { IfOk result (λ m. move_under (present store.now).bindings m ≡ rule (opened_under (present store.now).bindings opened_left.entry) (opened_under (present store.now).bindings opened_right.entry)) }
+    requires left_form { HasForm (opened_term left) }
+    requires right_form { HasForm (opened_term right) }
+    requires left_below { IsBelow (present store.now).next (opened_term left) }
+    requires right_below { IsBelow (present store.now).next (opened_term right) }
+    ensures rule { IfOk result (λ m. move_under (present store.now).bindings m ≡ rule (opened_under (present store.now).bindings left.entry) (opened_under (present store.now).bindings right.entry)) }
     ensures fit { IfOk result (λ m. IsMoveFit (present store.now).bindings (present store.now).next m) }
 {
-    match (opened_left, opened_right) {
+    match (left, right) {
         (Opened::Unit, Opened::Unit) => Ok(Move::Done),
         (Opened::Name(a), Opened::Name(b)) => {
             if a == b {
@@ -220,13 +247,49 @@ fn rule_for_opened<'a>(
             }
         }
         (Opened::Abs(a, t), Opened::Abs(b, u)) => abstractions(alloc, store, a, t, b, u),
-        (Opened::Susp(p, x), Opened::Susp(q, y)) => {
-            suspensions(alloc, store, &p, x, left, &q, y, right)
-        }
-        (Opened::Susp(p, x), _) => bind_unless_occurs(alloc, store, &p, x, right),
-        (_, Opened::Susp(q, y)) => bind_unless_occurs(alloc, store, &q, y, left),
+        (Opened::Susp(_, _), _) => unreachable!(),
+        (_, Opened::Susp(_, _)) => unreachable!(),
         _ => Ok(Move::Clash),
     }
+}
+
+/// The rule for two closures, neither of them a suspension.
+fn rule_for_parts<'a>(
+    alloc: Global,
+    store: &Store<'a>,
+    left: Closure<'a>,
+    right: Closure<'a>,
+) -> Result<Move<'a>, Memory>
+    requires left_form { HasForm (closure_term left) }
+    requires right_form { HasForm (closure_term right) }
+    requires left_below { IsBelow (present store.now).next (closure_term left) }
+    requires right_below { IsBelow (present store.now).next (closure_term right) }
+    ensures rule { IfOk result (λ m. move_under (present store.now).bindings m ≡ rule (under (present store.now).bindings (closure_term left.entry)) (under (present store.now).bindings (closure_term right.entry))) }
+    ensures fit { IfOk result (λ m. IsMoveFit (present store.now).bindings (present store.now).next m) }
+{
+    let opened_left = left.open(alloc)?;
+    let opened_right = right.open(alloc)?;
+    rule_for_opened(alloc, store, opened_left, opened_right)
+}
+
+/// The rule for a suspension of an unbound variable and a closure that is no suspension, whichever
+/// is the left one.
+fn rule_for_one<'a>(
+    alloc: Global,
+    store: &Store<'a>,
+    s: &Suspension,
+    c: Closure<'a>,
+) -> Result<Move<'a>, Memory>
+    requires made { s.now.var.num < (present store.now).next }
+    requires unbound { IsUnbound (present store.now).bindings s.now.var }
+    requires swaps { AreSwapsBelow (present store.now).next s.now.swaps.items }
+    requires form { HasForm (closure_term c) }
+    requires below { IsBelow (present store.now).next (closure_term c) }
+    ensures left { IfOk result (λ m. move_under (present store.now).bindings m ≡ rule (susp s.now.swaps.items s.now.var) (under (present store.now).bindings (closure_term c.entry))) }
+    ensures right { IfOk result (λ m. move_under (present store.now).bindings m ≡ rule (under (present store.now).bindings (closure_term c.entry)) (susp s.now.swaps.items s.now.var)) }
+    ensures fit { IfOk result (λ m. IsMoveFit (present store.now).bindings (present store.now).next m) }
+{
+    bind_unless_occurs(alloc, store, &s.swaps, s.var, c)
 }
 
 /// The rule for two closures, neither of them a suspension of a bound variable.
@@ -243,7 +306,14 @@ pub fn rule_for<'a>(
     ensures rule { IfOk result (λ m. move_under (present store.now).bindings m ≡ rule (under (present store.now).bindings (closure_term left.entry)) (under (present store.now).bindings (closure_term right.entry))) }
     ensures fit { IfOk result (λ m. IsMoveFit (present store.now).bindings (present store.now).next m) }
 {
-    let opened_left = left.copy(alloc)?.open(alloc)?;
-    let opened_right = right.copy(alloc)?.open(alloc)?;
-    rule_for_opened(alloc, store, left, opened_left, right, opened_right)
+    let on_left = suspension_of(alloc, &left)?;
+    let on_right = suspension_of(alloc, &right)?;
+    match (&on_left, &on_right) {
+        (None, None) => rule_for_parts(alloc, store, left, right),
+        (Some(s), None) => rule_for_one(alloc, store, s, right),
+        (None, Some(s)) => rule_for_one(alloc, store, s, left),
+        (Some(s), Some(r)) => {
+            suspensions(alloc, store, &s.swaps, s.var, left, &r.swaps, r.var, right)
+        }
+    }
 }

@@ -4,15 +4,16 @@ ghost use Rattle.std.specs.Prelude.{◌≡◌, ◌&&◌, [], false, true, IfOk, 
 ghost use Rattle.ap_defs.specs.Groundings.{Grounding};
 ghost use Rattle.ap_defs.specs.Renaming.{AreBelow};
 ghost use Rattle.ap_defs.specs.Unification.{unify as unify_lem};
-ghost use Rattle.ap_perm.specs.Closures.{closure_term};
 ghost use Rattle.ap_store.specs.Triples.{GoesOn};
 ghost use Rattle.ap_store.specs.Views.{IsUnchanged, kinds, present, versions};
+ghost use Rattle.ap_unify.specs.Lists.{terms_in};
 ghost use Rattle.ap_unify.specs.Runs.{paired};
 ghost use Rattle.ap_unify.specs.Unified.{IsResult, is_of, solves};
 ghost use Rattle.ap_unify.specs.Work.{ArePairsBelow, equations_left};
 
 use crate::finish::finish;
 use crate::pairs::{ClosurePair, Work};
+use crate::terms::Terms;
 use crate::work::run;
 use ap_defs::memory::Memory;
 use ap_perm::closures::Closure;
@@ -20,20 +21,18 @@ use ap_store::store::Store;
 use std::alloc::Global;
 
 /// The equations of the terms at each place of two lists.
-fn first_work<'a>(
-    alloc: Global,
-    left: &[Closure<'a>],
-    right: &[Closure<'a>],
-) -> Result<Work<'a>, Memory>
-    requires { length left.now ≡ length right.now }
-    ensures equations { IfOk result (λ w. equations_left w ≡ paired (map closure_term left.now) (map closure_term right.now)) }
+fn first_work<'a>(alloc: Global, left: Terms<'a>, right: Terms<'a>) -> Result<Work<'a>, Memory>
+    requires lengths { length left.terms.now ≡ length right.terms.now }
+    requires left { AreBelow left.end (terms_in left) }
+    requires right { AreBelow right.end (terms_in right) }
+    ensures equations { IfOk result (λ w. equations_left w ≡ paired (terms_in left.entry) (terms_in right.entry)) }
     ensures problems { IfOk result (λ w. w.problems.items ≡ []) }
     ensures taken { IfOk result (λ w. w.taken.items ≡ []) }
 {
     let mut equations = Vec::new(alloc);
-    'pairing: for i in (0..left.len()).rev() {
-        let left = left[i].copy(alloc)?;
-        let right = right[i].copy(alloc)?;
+    'pairing: for i in (0..left.terms.len()).rev() {
+        let left = Closure::of(alloc, left.base, left.end, &left.terms[i]);
+        let right = Closure::of(alloc, right.base, right.end, &right.terms[i]);
         equations.push(ClosurePair { left, right })?;
     }
     Ok(Work {
@@ -47,13 +46,15 @@ fn first_work<'a>(
 fn unify_forward<'a>(
     alloc: Global,
     store: &mut Store<'a>,
-    left: &[Closure<'a>],
-    right: &[Closure<'a>],
+    left: Terms<'a>,
+    right: Terms<'a>,
 ) -> Result<bool, Memory>
-    requires lengths { length left.now ≡ length right.now }
-    requires left { AreBelow (present store.old).next (map closure_term left.now) }
-    requires right { AreBelow (present store.old).next (map closure_term right.now) }
-    ensures defined { IfOk result (λ solved. IsResult (unify_lem (present store.old).bindings (present store.old).conditions (map closure_term left.now) (map closure_term right.now)) (present store.old) solved (present store.new)) }
+    requires lengths { length left.terms.now ≡ length right.terms.now }
+    requires left { AreBelow left.end (terms_in left) }
+    requires right { AreBelow right.end (terms_in right) }
+    requires left_made { AreBelow (present store.old).next (terms_in left) }
+    requires right_made { AreBelow (present store.old).next (terms_in right) }
+    ensures defined { IfOk result (λ solved. IsResult (unify_lem (present store.old).bindings (present store.old).conditions (terms_in left.entry) (terms_in right.entry)) (present store.old) solved (present store.new)) }
     ensures past { GoesOn (versions store.old) (versions store.new) }
     ensures kinds { kinds store.new ≡ kinds store.old }
 {
@@ -72,16 +73,18 @@ fn unify_forward<'a>(
 pub fn unify<'a>(
     alloc: Global,
     store: &mut Store<'a>,
-    left: &[Closure<'a>],
-    right: &[Closure<'a>],
+    left: Terms<'a>,
+    right: Terms<'a>,
 ) -> Result<bool, Memory>
-    requires lengths { length left.now ≡ length right.now }
-    requires left { AreBelow (present store.old).next (map closure_term left.now) }
-    requires right { AreBelow (present store.old).next (map closure_term right.now) }
+    requires lengths { length left.terms.now ≡ length right.terms.now }
+    requires left { AreBelow left.end (terms_in left) }
+    requires right { AreBelow right.end (terms_in right) }
+    requires left_made { AreBelow (present store.old).next (terms_in left) }
+    requires right_made { AreBelow (present store.old).next (terms_in right) }
     // The answer and the bindings, conditions and next number are those of the rules.
-    ensures defined { IfOk result (λ solved. IsResult (unify_lem (present store.old).bindings (present store.old).conditions (map closure_term left.now) (map closure_term right.now)) (present store.old) solved (present store.new)) }
+    ensures defined { IfOk result (λ solved. IsResult (unify_lem (present store.old).bindings (present store.old).conditions (terms_in left.entry) (terms_in right.entry)) (present store.old) solved (present store.new)) }
     // The groundings of the new bindings and conditions are those of the old ones that make the two sides at each place equal.
-    ensures instances { IfOk result (λ solved. (g : Grounding) → solves g (present store.old) (map closure_term left.now) (map closure_term right.now) ≡ (solved && is_of g (present store.new))) }
+    ensures instances { IfOk result (λ solved. (g : Grounding) → solves g (present store.old) (terms_in left.entry) (terms_in right.entry) ≡ (solved && is_of g (present store.new))) }
     ensures past { GoesOn (versions store.old) (versions store.new) }
     ensures kinds { kinds store.new ≡ kinds store.old }
     ensures failed { IfOk result (λ solved. solved ≡ false → IsUnchanged store.old store.new) }

@@ -1,77 +1,55 @@
-use Rattle.std.proofs.Common.{◌≡◌, ℕ, ◌≤◌, min, List, ◌++◌, length, take, map, refl, sym, ap, ◌∙◌, subst, arith}
+use Rattle.std.proofs.Common.{◌≡◌, ◌≤◌, min, List, ◌++◌, length, take, map, refl, sym, ap, ◌∙◌, subst, arith}
 use Rattle.std.proofs.lemmas.List.{length-map, length-take-le}
 use Rattle.ap_defs.specs.Goals.{clause_of}
-use Rattle.ap_defs.specs.Renaming.{AreBelow, rename_term}
+use Rattle.ap_defs.specs.Renaming.{rename_term}
 use Rattle.ap_defs.specs.Resolution.{kinds_of}
 use Rattle.ap_defs.specs.Terms.{term_of}
 use Rattle.ap_defs.specs.Types.{NominalKind, local_of, locals_of}
 use Rattle.ap_defs.specs.declared.terms.Term.{Term}
-use Rattle.ap_perm.specs.Closures.{closure_term}
 use Rattle.ap_store.specs.Triples.{GoesOn, Triple}
 use Rattle.ap_store.specs.Views.{kinds, present, versions}
 use Rattle.ap_store.proofs.TrailLemmas.{goes_on_both}
 use Rattle.ap_backchain.specs.Below.{AreWaitingBelow}
 use Rattle.ap_backchain.specs.Places.{position_of, track_of}
 use Rattle.ap_backchain.specs.Stacks.{cells_of, waiting_in}
-use Rattle.ap_backchain.proofs.HeadLemmas.{args_below, closed_below, closed_length, closed_terms, head_below, head_next, head_none, head_some, made_kinds, made_next, position_back, present_back, terms_cut, track_back, waiting_made}
+use Rattle.ap_backchain.proofs.HeadLemmas.{args_below, head_below, head_next, head_none, head_some, made_kinds, made_next, position_back, present_back, terms_cut, track_back, waiting_made}
 use Rattle.ap_backchain.proofs.StoreTurnLemmas.{store_goes, waiting_kept}
 use Rattle.ap_backchain.proofs.TrackLemmas.{goes_same}
 use Rattle.ap_backchain.proofs.clauses.unify_head.Goals as goal
 
-pub closures-requires : goal.closures-requires
-closures-requires c =
-    args_below c.in_ok-start.start (present c.args.place.now.store).next c.args.base c.args.args.now c.min-count.result (omega (arith, c.in_ok-start.ensures.first)) c.requires.args
-
-pub invariant_of-place-in-Break-branch-2 : goal.invariant_of-place-in-Break-branch-2
-invariant_of-place-in-Break-branch-2 c =
-    let s = c.args.place.now.store in let r = c.make.new.self in
-    record { below = waiting_made s r c.items.result.now (waiting_in c.args.place.now.goals) c.in_ok-start.ensures.present c.args.place.now.below }
-
-pub invariant_of-place-in-Break-branch-3 : goal.invariant_of-place-in-Break-branch-3
-invariant_of-place-in-Break-branch-3 c =
-    let s = c.args.place.now.store in let r = c.make.new.self in
-    record { below = waiting_made s r c.items.result.now (waiting_in c.args.place.now.goals) c.in_ok-start.ensures.present c.args.place.now.below }
-
-pub closures-requires-2 : goal.closures-requires-2
-closures-requires-2 c =
-    let s = c.args.place.now.store in let r = c.make.new.self in
-    let made = made_next s r c.items.result.now c.args.clause.now.locals c.in_ok-start.ensures.present c.items.ensures in
-    let k = c.min-count.result in let n = c.in_ok-start.start in let heads = c.items-head.result.now in
-    let below_right : AreBelow c.next-end.result (map (rename_term n) (map term_of (take k heads))) =
-    head_below c.next-end.result (length (locals_of c.args.clause.now.locals)) n c.args.clause.now.args heads k (omega (arith, made, c.next-end.ensures, c.in_ok-start.ensures.first)) c.items-head.ensures c.requires.clause.0 in
-    below_right
-
 pub unify-requires-clause-lengths : goal.unify-requires-clause-lengths
 unify-requires-clause-lengths c =
     let k = c.min-count.result in
-    let left : length c.deref.result.now ≡ length (take k c.args.args.now) = closed_length c.deref.result.now c.in_ok-left.left.items c.args.base (take k c.args.args.now) c.deref.ensures.value c.in_ok-left.ensures in
-    let right : length c.deref-2.result.now ≡ length (take k c.items-head.result.now) =
-    closed_length c.deref-2.result.now c.in_ok-right.right.items c.in_ok-start.start (take k c.items-head.result.now) c.deref-2.ensures.value c.in_ok-right.ensures in
     let l : k ≤ length c.args.args.now = omega (arith, c.min-count.ensures) in
     let m : k ≤ length c.items-head.result.now = omega (arith, c.min-count.ensures) in
-    left ∙ length-take-le k c.args.args.now l ∙ sym (right ∙ length-take-le k c.items-head.result.now m)
+    length-take-le k c.args.args.now l ∙ sym (length-take-le k c.items-head.result.now m)
 
 pub unify-requires-clause-left : goal.unify-requires-clause-left
 unify-requires-clause-left c =
-    let s = c.args.place.now.store in let r = c.make.new.self in
-    let made = made_next s r c.items.result.now c.args.clause.now.locals c.in_ok-start.ensures.present c.items.ensures in
-    let k = c.min-count.result in let base = c.args.base in let args = c.args.args.now in
-    let below_left : AreBelow c.next-end.result (map (rename_term base) (map term_of (take k args))) = args_below c.next-end.result (present s).next base args k (omega (arith, made, c.next-end.ensures)) c.requires.args in
-    closed_below c.deref.result.now c.in_ok-left.left.items base (take k args) c.deref.ensures.value c.in_ok-left.ensures (present r).next
-    (subst (λ (e : ℕ). AreBelow e (map (rename_term base) (map term_of (take k args)))) c.next-end.ensures below_left)
+    args_below c.in_ok-start.start (present c.args.place.now.store).next c.args.base c.args.args.now c.min-count.result (omega (arith, c.in_ok-start.ensures.first)) c.requires.args
 
 pub unify-requires-clause-right : goal.unify-requires-clause-right
 unify-requires-clause-right c =
     let s = c.args.place.now.store in let r = c.make.new.self in
     let made = made_next s r c.items.result.now c.args.clause.now.locals c.in_ok-start.ensures.present c.items.ensures in
     let k = c.min-count.result in let n = c.in_ok-start.start in let heads = c.items-head.result.now in
-    let below_right : AreBelow c.next-end.result (map (rename_term n) (map term_of (take k heads))) =
-    head_below c.next-end.result (length (locals_of c.args.clause.now.locals)) n c.args.clause.now.args heads k (omega (arith, made, c.next-end.ensures, c.in_ok-start.ensures.first)) c.items-head.ensures c.requires.clause.0 in
-    closed_below c.deref-2.result.now c.in_ok-right.right.items n (take k heads) c.deref-2.ensures.value c.in_ok-right.ensures (present r).next
-    (subst (λ (e : ℕ). AreBelow e (map (rename_term n) (map term_of (take k heads)))) c.next-end.ensures below_right)
+    head_below c.next-end.result (length (locals_of c.args.clause.now.locals)) n c.args.clause.now.args heads k (omega (arith, made, c.next-end.ensures, c.in_ok-start.ensures.first)) c.items-head.ensures c.requires.clause.0
 
-pub invariant_of-place-in-Break-branch-4 : goal.invariant_of-place-in-Break-branch-4
-invariant_of-place-in-Break-branch-4 c =
+pub unify-requires-clause-left_made : goal.unify-requires-clause-left_made
+unify-requires-clause-left_made c =
+    let s = c.args.place.now.store in let r = c.make.new.self in
+    let made = made_next s r c.items.result.now c.args.clause.now.locals c.in_ok-start.ensures.present c.items.ensures in
+    args_below (present r).next (present s).next c.args.base c.args.args.now c.min-count.result (omega (arith, made)) c.requires.args
+
+pub unify-requires-clause-right_made : goal.unify-requires-clause-right_made
+unify-requires-clause-right_made c =
+    let s = c.args.place.now.store in let r = c.make.new.self in
+    let made = made_next s r c.items.result.now c.args.clause.now.locals c.in_ok-start.ensures.present c.items.ensures in
+    let k = c.min-count.result in let n = c.in_ok-start.start in let heads = c.items-head.result.now in
+    head_below (present r).next (length (locals_of c.args.clause.now.locals)) n c.args.clause.now.args heads k (omega (arith, made, c.in_ok-start.ensures.first)) c.items-head.ensures c.requires.clause.0
+
+pub invariant_of-place-in-Break-branch-2 : goal.invariant_of-place-in-Break-branch-2
+invariant_of-place-in-Break-branch-2 c =
     let s = c.args.place.now.store in let r = c.make.new.self in
     record { below = waiting_kept r c.unify.new.store (waiting_in c.args.place.now.goals) c.unify.ensures.kinds (waiting_made s r c.items.result.now (waiting_in c.args.place.now.goals) c.in_ok-start.ensures.present c.args.place.now.below) }
 
@@ -89,16 +67,15 @@ returns-then-branch-clause-state c =
     let ts = map (rename_term c.args.base) (map term_of c.args.args.now) in
     let k = c.min-count.result in let n = c.in_ok-start.start in let heads = c.items-head.result.now in
     let many : length c.items.result.now ≡ length cl.locals = ap length c.items.ensures ∙ sym (length-map c.args.clause.now.locals local_of) in
-    let left : map closure_term c.deref.result.now ≡ take k ts = closed_terms c.deref.result.now c.in_ok-left.left.items c.args.base (take k c.args.args.now) c.deref.ensures.value c.in_ok-left.ensures ∙ terms_cut c.args.base c.args.args.now k in
-    let right : map closure_term c.deref-2.result.now ≡ take k (map (rename_term n) cl.args) =
-    closed_terms c.deref-2.result.now c.in_ok-right.right.items n (take k heads) c.deref-2.ensures.value c.in_ok-right.ensures
-    ∙ ap (λ (us : List Term). map (rename_term n) (map term_of (take k us))) c.items-head.ensures ∙ terms_cut n c.args.clause.now.args k in
+    let left : map (rename_term c.args.base) (map term_of (take k c.args.args.now)) ≡ take k ts = terms_cut c.args.base c.args.args.now k in
+    let right : map (rename_term n) (map term_of (take k heads)) ≡ take k (map (rename_term n) cl.args) =
+    ap (λ (us : List Term). map (rename_term n) (map term_of (take k us))) c.items-head.ensures ∙ terms_cut n c.args.clause.now.args k in
     let enough : min (length ts) (length cl.args) ≤ k =
     omega (arith, length-map (map term_of c.args.args.now) (rename_term c.args.base), length-map c.args.args.now term_of, length-map c.args.clause.now.args term_of, ap length c.items-head.ensures, c.min-count.ensures) in (
       c.in_ok-start.ensures.first,
       head_next s r d ts cl (length c.items.result.now) many c.in_ok-start.ensures.present more c.unify.ensures.kinds n c.in_ok-start.ensures.first,
       head_some s r d ts cl (length c.items.result.now) many c.in_ok-start.ensures.present more c.unify.ensures.kinds
-          n c.in_ok-start.ensures.first (map closure_term c.deref.result.now) (map closure_term c.deref-2.result.now) k left right enough c.in_ok-unify.field-0 c.in_ok-unify.ensures.defined c.if-branch.true,
+          n c.in_ok-start.ensures.first (map (rename_term c.args.base) (map term_of (take k c.args.args.now))) (map (rename_term n) (map term_of (take k heads))) k left right enough c.in_ok-unify.field-0 c.in_ok-unify.ensures.defined c.if-branch.true,
       refl,
     )
 
@@ -119,8 +96,8 @@ invariant_of-place-else-branch c =
     let longer : (ks : List NominalKind) × (kinds d ≡ kinds s ++ ks) = (kinds_of (locals_of c.items.result.now), c.unify.ensures.kinds ∙ c.in_ok-start.ensures.kinds) in
     record { below = subst (λ (a : Triple). AreWaitingBelow a.next (waiting_in c.args.place.now.goals)) (sym (present_back s d c.undo_to.new.self c.mark-mark.result.place on longer c.mark-mark.ensures c.undo_to.ensures.versions c.undo_to.ensures.kinds)) c.args.place.now.below }
 
-pub returns-clause-state : goal.returns-clause-state
-returns-clause-state c =
+pub returns-else-branch-clause-state : goal.returns-else-branch-clause-state
+returns-else-branch-clause-state c =
     let s = c.args.place.now.store in let r = c.make.new.self in
     let more = made_kinds s r c.items.result.now c.args.clause.now.locals c.in_ok-start.ensures.kinds c.items.ensures in
     let d = c.unify.new.store in
@@ -128,17 +105,16 @@ returns-clause-state c =
     let ts = map (rename_term c.args.base) (map term_of c.args.args.now) in
     let k = c.min-count.result in let n = c.in_ok-start.start in let heads = c.items-head.result.now in
     let many : length c.items.result.now ≡ length cl.locals = ap length c.items.ensures ∙ sym (length-map c.args.clause.now.locals local_of) in
-    let left : map closure_term c.deref.result.now ≡ take k ts = closed_terms c.deref.result.now c.in_ok-left.left.items c.args.base (take k c.args.args.now) c.deref.ensures.value c.in_ok-left.ensures ∙ terms_cut c.args.base c.args.args.now k in
-    let right : map closure_term c.deref-2.result.now ≡ take k (map (rename_term n) cl.args) =
-    closed_terms c.deref-2.result.now c.in_ok-right.right.items n (take k heads) c.deref-2.ensures.value c.in_ok-right.ensures
-    ∙ ap (λ (us : List Term). map (rename_term n) (map term_of (take k us))) c.items-head.ensures ∙ terms_cut n c.args.clause.now.args k in
+    let left : map (rename_term c.args.base) (map term_of (take k c.args.args.now)) ≡ take k ts = terms_cut c.args.base c.args.args.now k in
+    let right : map (rename_term n) (map term_of (take k heads)) ≡ take k (map (rename_term n) cl.args) =
+    ap (λ (us : List Term). map (rename_term n) (map term_of (take k us))) c.items-head.ensures ∙ terms_cut n c.args.clause.now.args k in
     let enough : min (length ts) (length cl.args) ≤ k =
     omega (arith, length-map (map term_of c.args.args.now) (rename_term c.args.base), length-map c.args.args.now term_of, length-map c.args.clause.now.args term_of, ap length c.items-head.ensures, c.min-count.ensures) in
     head_none s r d ts cl (length c.items.result.now) many c.in_ok-start.ensures.present more c.unify.ensures.kinds
-    n c.in_ok-start.ensures.first (map closure_term c.deref.result.now) (map closure_term c.deref-2.result.now) k left right enough c.in_ok-unify.field-0 c.in_ok-unify.ensures.defined c.if-branch.false
+    n c.in_ok-start.ensures.first (map (rename_term c.args.base) (map term_of (take k c.args.args.now))) (map (rename_term n) (map term_of (take k heads))) k left right enough c.in_ok-unify.field-0 c.in_ok-unify.ensures.defined c.if-branch.false
 
-pub returns-clause-goes : goal.returns-clause-goes
-returns-clause-goes c =
+pub returns-else-branch-clause-goes : goal.returns-else-branch-clause-goes
+returns-else-branch-clause-goes c =
     let b = c.args.place.now in
     let s = c.args.place.now.store in let r = c.make.new.self in
     let d = c.unify.new.store in
@@ -146,8 +122,8 @@ returns-clause-goes c =
     let longer : (ks : List NominalKind) × (kinds d ≡ kinds s ++ ks) = (kinds_of (locals_of c.items.result.now), c.unify.ensures.kinds ∙ c.in_ok-start.ensures.kinds) in
     goes_same (track_of b) _ (track_back s d c.undo_to.new.self c.mark-mark.result.place on longer c.mark-mark.ensures c.undo_to.ensures.versions c.undo_to.ensures.kinds (cells_of b.goals) b.path.items b.brought.items)
 
-pub returns-clause-none : goal.returns-clause-none
-returns-clause-none c =
+pub returns-else-branch-clause-none : goal.returns-else-branch-clause-none
+returns-else-branch-clause-none c =
     let b = c.args.place.now in
     let s = c.args.place.now.store in let r = c.make.new.self in
     let d = c.unify.new.store in

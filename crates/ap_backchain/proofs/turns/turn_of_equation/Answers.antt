@@ -1,28 +1,32 @@
-use Rattle.std.proofs.Common.{[], ◌∷◌, refl, ap, ◌∙◌}
+use Rattle.std.proofs.Common.{List, [], ◌∷◌, map, refl, sym, ap, ◌∙◌}
 use Rattle.ap_defs.specs.Renaming.{rename_term}
-use Rattle.ap_defs.specs.Terms.{NominalTerm, term_of}
+use Rattle.ap_defs.specs.Terms.{term_of}
 use Rattle.ap_defs.specs.Unification.{unify}
-use Rattle.ap_perm.specs.Closures.{closure_term}
+use Rattle.ap_defs.specs.declared.terms.Term.{Term}
 use Rattle.ap_store.specs.Views.{kinds, present}
-use Rattle.ap_backchain.specs.Places.{position_of}
+use Rattle.ap_backchain.specs.Places.{next_of, position_of}
 use Rattle.ap_backchain.specs.Positions.{goes_with, unified_state}
 use Rattle.ap_backchain.specs.Stacks.{cells_of, waiting_in}
 use Rattle.ap_backchain.specs.Views.{state_in}
+use Rattle.ap_backchain.proofs.HeadLemmas.{one_below}
 use Rattle.ap_backchain.proofs.StoreTurnLemmas.{store_goes, turned_unified, waiting_kept}
 use Rattle.ap_backchain.proofs.TrackLemmas.{longer_same}
 use Rattle.ap_backchain.proofs.turns.turn_of_equation.Goals as goal
 
-pub of-requires : goal.of-requires
-of-requires c = rw c.next-end.ensures c.requires.left
-
-pub of-requires-2 : goal.of-requires-2
-of-requires-2 c = rw c.next-end.ensures c.requires.right
+pub unify-requires-clause-lengths : goal.unify-requires-clause-lengths
+unify-requires-clause-lengths c = c.from_ref.ensures.len ∙ sym c.from_ref-2.ensures.len
 
 pub unify-requires-clause-left : goal.unify-requires-clause-left
-unify-requires-clause-left c = (rw c.of.ensures c.requires.left, tt)
+unify-requires-clause-left c = one_below c.next-end.result (next_of c.args.place.now) c.args.base c.from_ref.result.now c.args.t.now c.from_ref.ensures.value c.next-end.ensures c.requires.left
 
 pub unify-requires-clause-right : goal.unify-requires-clause-right
-unify-requires-clause-right c = (rw c.of-2.ensures c.requires.right, tt)
+unify-requires-clause-right c = one_below c.next-end.result (next_of c.args.place.now) c.args.base c.from_ref-2.result.now c.args.u.now c.from_ref-2.ensures.value c.next-end.ensures c.requires.right
+
+pub unify-requires-clause-left_made : goal.unify-requires-clause-left_made
+unify-requires-clause-left_made c = one_below (next_of c.args.place.now) (next_of c.args.place.now) c.args.base c.from_ref.result.now c.args.t.now c.from_ref.ensures.value refl c.requires.left
+
+pub unify-requires-clause-right_made : goal.unify-requires-clause-right_made
+unify-requires-clause-right_made c = one_below (next_of c.args.place.now) (next_of c.args.place.now) c.args.base c.from_ref-2.result.now c.args.u.now c.from_ref-2.ensures.value refl c.requires.right
 
 pub invariant_of-place : goal.invariant_of-place
 invariant_of-place c = record {
@@ -35,11 +39,11 @@ returns-clause-turned c =
     let r = c.unify.new.store in
     let p = position_of c.args.place.now in
     let a = present s in
-    let t = rename_term c.args.base (term_of c.args.t.now) in
-    let u = rename_term c.args.base (term_of c.args.u.now) in
+    let n = c.args.base in
+    let us = c.from_ref-2.result.now in
     turned_unified s r p _ c.unify.ensures.kinds refl _ c.goes_where.result c.in_ok-solved.solved c.in_ok-solved.ensures.defined c.goes_where.ensures
-    ∙ ap (λ (v : NominalTerm). goes_with p (unified_state (state_in s) (unify a.bindings a.conditions (v ∷ []) (closure_term c.of-2.result ∷ [])))) c.of.ensures
-    ∙ ap (λ (v : NominalTerm). goes_with p (unified_state (state_in s) (unify a.bindings a.conditions (t ∷ []) (v ∷ [])))) c.of-2.ensures
+    ∙ ap (λ (vs : List Term). goes_with p (unified_state (state_in s) (unify a.bindings a.conditions (map (rename_term n) (map term_of vs)) (map (rename_term n) (map term_of us))))) c.from_ref.ensures.value
+    ∙ ap (λ (vs : List Term). goes_with p (unified_state (state_in s) (unify a.bindings a.conditions (rename_term n (term_of c.args.t.now) ∷ []) (map (rename_term n) (map term_of vs))))) c.from_ref-2.ensures.value
 
 pub returns-clause-goes : goal.returns-clause-goes
 returns-clause-goes c =
