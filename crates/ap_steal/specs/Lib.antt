@@ -1,3 +1,4 @@
 pub mod Planned
 pub mod Order
 pub mod Meet
+pub mod Hands
