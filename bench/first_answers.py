@@ -12,6 +12,8 @@ import subprocess
 import sys
 import time
 
+from program_text import number, queens
+
 WIDE = """t : type.
 a : t.
 b : t.
@@ -46,33 +48,8 @@ reach(z).
 reach(s(N)) :- reach(N).
 reach(s(N)) :- loop.
 """
-QUEENS = """nat : type.
-z : nat.
-s : nat -> nat.
-pred add(nat, nat, nat).
-add(z, N, N).
-add(s(M), N, s(K)) :- add(M, N, K).
-pred differ(nat, nat).
-differ(z, s(N)).
-differ(s(N), z).
-differ(s(M), s(N)) :- differ(M, N).
-pred select(nat, [nat], [nat]).
-select(X, [X|L], L).
-select(X, [Y|L], [Y|M]) :- select(X, L, M).
-pred safe(nat, nat, [nat]).
-safe(Q, D, []).
-safe(Q, D, [P|L]) :- add(Q, D, S), differ(S, P), add(P, D, T), differ(T, Q), safe(Q, s(D), L).
-pred place([nat], [nat], [nat]).
-place([], L, L).
-place([Q|L], P, R) :- select(X, [Q|L], M), safe(X, s(z), P), place(M, [X|P], R).
-"""
 WORKERS = (1, 2, 4, 8, 64)
 PATIENCE = 60
-
-
-def number(n):
-    """A number as a term."""
-    return "s(" * n + "z" + ")" * n
 
 
 def run(program, text, depth, workers, answers=None):
@@ -138,8 +115,7 @@ def time_endless(program):
 
 def time_queens(program):
     size = 9
-    columns = ",".join(number(n) for n in range(size))
-    text = QUEENS + f"?- place([{columns}], [], R).\n"
+    text = queens(size)
     print(f"{size} queens")
     for wanted in (1, 10, None):
         line = []

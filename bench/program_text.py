@@ -3,6 +3,8 @@
 
 The shapes:
   reverse  a list of SIZE parts is reversed, each part put behind the rest
+  queens   SIZE queens on a board of as many rows and columns, none of which attacks another: all answers
+  subsets  the subsets of a list of SIZE constants, each an answer
   subst    the clauses of examples/substitution.apl, asked of a term of SIZE levels, each of which is an
            abstraction in the pair of the term below with itself
   facts    a table of SIZE facts, of which one in the middle is asked 262,144 times by its first argument
@@ -25,6 +27,36 @@ pred reverse([nat], [nat]).
 reverse([], []).
 reverse([X|L], R) :- reverse(L, M), append(M, [X], R).
 """
+QUEENS = """nat : type.
+z : nat.
+s : nat -> nat.
+pred add(nat, nat, nat).
+add(z, N, N).
+add(s(M), N, s(K)) :- add(M, N, K).
+pred differ(nat, nat).
+differ(z, s(N)).
+differ(s(N), z).
+differ(s(M), s(N)) :- differ(M, N).
+pred select(nat, [nat], [nat]).
+select(X, [X|L], L).
+select(X, [Y|L], [Y|M]) :- select(X, L, M).
+pred safe(nat, nat, [nat]).
+safe(Q, D, []).
+safe(Q, D, [P|L]) :- add(Q, D, S), differ(S, P), add(P, D, T), differ(T, Q), safe(Q, s(D), L).
+pred place([nat], [nat], [nat]).
+place([], L, L).
+place([Q|L], P, R) :- select(X, [Q|L], M), safe(X, s(z), P), place(M, [X|P], R).
+"""
+SUBSETS = """pred subset([key], [key]).
+subset([], []).
+subset([X|L], [X|M]) :- subset(L, M).
+subset([X|L], M) :- subset(L, M).
+"""
+
+
+def number(n):
+    """A number as a term."""
+    return "s(" * n + "z" + ")" * n
 
 
 def clauses(name):
@@ -35,6 +67,15 @@ def clauses(name):
 
 def reverse(size):
     return REVERSE + "?- reverse([" + ",".join(["z"] * size) + "], R).\n"
+
+
+def queens(size):
+    return QUEENS + "?- place([" + ",".join(number(n) for n in range(size)) + "], [], R).\n"
+
+
+def subsets(size):
+    keys = [f"k{i}" for i in range(size)]
+    return "key : type.\n" + "".join(f"{key} : key.\n" for key in keys) + SUBSETS + f"?- subset([{','.join(keys)}], R).\n"
 
 
 def term(levels):
@@ -69,11 +110,12 @@ def choices(size):
     return clauses("substitution.apl") + "\n".join(lines) + "\n?- " + ", ".join(goals) + ".\n"
 
 
-SHAPES = {"reverse": reverse, "subst": subst, "types": types, "facts": facts, "choices": choices}
+SHAPES = {"reverse": reverse, "queens": queens, "subsets": subsets, "subst": subst, "types": types, "facts": facts, "choices": choices}
 
 
 def main():
     sys.stdout.write(SHAPES[sys.argv[1]](int(sys.argv[2])))
 
 
-main()
+if __name__ == "__main__":
+    main()

@@ -2,3 +2,4 @@ pub mod Own
 pub mod Whole
 pub mod Sent
 pub mod Sole
+pub mod Fresh

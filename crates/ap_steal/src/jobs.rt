@@ -1,8 +1,9 @@
 //! What the workers start with.
 
-ghost use Rattle.std.specs.Prelude.{◌≡◌, true, [], ◌∷◌, All, ◌≤◌, reverse, vec_len, IfOk};
+ghost use Rattle.std.specs.Prelude.{◌≡◌, ℕ, true, [], ◌∷◌, All, ◌<◌, ◌≤◌, map, reverse, vec_len, IfOk};
 ghost use Rattle.atomic_table.specs.Seated.{TableId};
 ghost use Rattle.ap_steal.specs.Planned.{IsNew};
+ghost use Rattle.ap_steal.specs.Hands.{IsFresh, AreFresh};
 
 use crate::tools::Tools;
 use ap_defs::memory::Memory;
@@ -20,7 +21,7 @@ pub struct Job<W: Shape> {
 
 /// Tools with an empty hand and no thieves.
 fn bare<W: Shape>(alloc: Global, number: u32, alone: bool, own: Owner<W>) -> Tools<W>
-    ensures { (result.alone ≡ alone) × (result.hand.items ≡ []) }
+    ensures { (result.number ≡ number) × (result.alone ≡ alone) × (result.hand.items ≡ []) × (result.own ≡ own) }
 {
     Tools {
         number,
@@ -30,6 +31,16 @@ fn bare<W: Shape>(alloc: Global, number: u32, alone: bool, own: Owner<W>) -> Too
         others: Vec::new(alloc),
         at: 0,
         hand: VecDeque::new(alloc),
+    }
+}
+
+impl<W: Shape> Tools<W> {
+    /// One more thief.
+    fn add(&mut self, thief: Thief<W>) -> Result<(), Memory>
+        ensures { (n : ℕ) → IsFresh n self.old → IsFresh n self.new }
+    {
+        self.others.push(thief)?;
+        Ok(())
     }
 }
 
@@ -44,19 +55,28 @@ pub fn lone_tools<W: Shape>(alloc: Global) -> Result<Tools<W>, Memory>
     Ok(tools)
 }
 
+/// Tools of a worker of this number, and a thief of its deque.
+fn fresh_tools<W: Shape>(alloc: Global, number: u32) -> Result<(Tools<W>, Thief<W>), Memory>
+    ensures { IfOk result (λ t. IsFresh number t.0) }
+{
+    let (own, thief) = tasks(alloc)?;
+    let mut tools = bare(alloc, number, false, own);
+    if number == 0 {
+        tools.hand.push_back(Placed::root(alloc))?;
+    }
+    Ok((tools, thief))
+}
+
 /// Tools for each of the workers, of which the first has the empty path in its hand.
 pub fn make_tools<W: Shape>(alloc: Global, workers: u32) -> Result<Vec<Tools<W>>, Memory>
     requires { workers ≤ 64 }
-    ensures { IfOk result (λ v. vec_len v ≡ workers) }
+    ensures len { IfOk result (λ v. vec_len v ≡ workers) }
+    ensures fresh { IfOk result (λ v. AreFresh 0 v.items) }
 {
     let mut all = Vec::with_capacity(alloc, workers as usize)?;
     let mut thieves = Vec::with_capacity(alloc, workers as usize)?;
     for number in 0..workers {
-        let (own, thief) = tasks(alloc)?;
-        let mut tools = bare(alloc, number, false, own);
-        if number == 0 {
-            tools.hand.push_back(Placed::root(alloc))?;
-        }
+        let (tools, thief) = fresh_tools(alloc, number)?;
         all.push(tools)?;
         thieves.push(thief)?;
     }
@@ -69,13 +89,24 @@ fn give_all<W: Shape>(
     mut all: Vec<Tools<W>>,
     mut thieves: Vec<Thief<W>>,
 ) -> Result<Vec<Tools<W>>, Memory>
-    ensures { IfOk result (λ v. vec_len v ≡ vec_len all) }
+    requires { AreFresh 0 all.items }
+    ensures len { IfOk result (λ v. vec_len v ≡ vec_len all) }
+    ensures fresh { IfOk result (λ v. AreFresh 0 v.items) }
 {
     while let Some(thief) = thieves.pop() {
         let number = thieves.len();
         all = give(alloc, all, thief, number)?;
     }
     Ok(all)
+}
+
+/// One more thief for one of the workers.
+fn add_at<W: Shape>(all: &mut Vec<Tools<W>>, at: usize, thief: Thief<W>) -> Result<(), Memory>
+    requires { at < vec_len all.old }
+    ensures len { vec_len all.new ≡ vec_len all.old }
+    ensures fresh { AreFresh 0 all.old.items → AreFresh 0 all.new.items }
+{
+    all[at].add(thief)
 }
 
 /// A part of the thief for each of the workers but this one, as far as there are parts.
@@ -85,13 +116,14 @@ fn give<W: Shape>(
     mut thief: Thief<W>,
     number: usize,
 ) -> Result<Vec<Tools<W>>, Memory>
-    ensures { IfOk result (λ v. vec_len v ≡ vec_len all) }
+    requires { AreFresh 0 all.items }
+    ensures len { IfOk result (λ v. vec_len v ≡ vec_len all) }
+    ensures fresh { IfOk result (λ v. AreFresh 0 v.items) }
 {
     for i in 0..all.len() {
         if i != number && thief.parts() > 1 {
             let part = thief.split(alloc)?;
-            let tools = &mut all[i];
-            tools.others.push(part)?;
+            add_at(&mut all, i, part)?;
         }
     }
     Ok(all)
@@ -115,6 +147,7 @@ pub fn make_jobs<W: Shape>(
 ) -> Result<Vec<Job<W>>, Memory>
     requires { vec_len seats ≡ vec_len tools }
     ensures len { IfOk result (λ v. vec_len v ≡ vec_len seats) }
+    ensures tools { IfOk result (λ v. map (λ j. j.tools) v.items ≡ reverse tools.items) }
     ensures new { (book : TableId) → All (λ s. IsNew book s) seats.items → IfOk result (λ v. All (λ j. IsNew book j.seat) v.items) }
 {
     let mut jobs = Vec::with_capacity(alloc, seats.len())?;

@@ -1,6 +1,6 @@
 //! Workers in threads, and the history that they leave.
 
-ghost use Rattle.std.specs.Prelude.{◌≡◌, true, false, All, [], ◌∷◌, vec_len, IfOk};
+ghost use Rattle.std.specs.Prelude.{◌≡◌, true, false, All, [], ◌∷◌, map, vec_len, IfOk};
 ghost use Rattle.ap_paths.specs.Entries.{entries_of, entry_of};
 ghost use Rattle.ap_paths.specs.Limits.{AreWithin};
 ghost use Rattle.ap_paths.specs.History.{is_legal, has_stop, is_stop, open_of};
@@ -8,6 +8,7 @@ ghost use Rattle.ap_core.specs.Traces.{AreSeats, IsInOrder};
 ghost use Rattle.ap_lock.specs.Seats.{SeatView, book_id, limit_of, seats_of, logs_of};
 ghost use Rattle.ap_steal.specs.Planned.{ArePlanned, IsNew, Ended};
 ghost use Rattle.ap_steal.specs.Order.{IsOrdered};
+ghost use Rattle.ap_steal.specs.Hands.{AreFresh};
 
 use crate::jobs::Job;
 use crate::work::work;
@@ -21,7 +22,7 @@ use std::sync::Wait;
 use std::thread;
 use std::thread::Threads;
 
-/// Runs all jobs, each in a thread of its own where one can be made.
+/// Runs all jobs, each in a thread of its own where one can be made. The first has the empty path.
 pub fn run_all<W: Shape + Send, R: Threads + Wait + Sync, T: Tree, G: Gate>(
     rt: &R,
     alloc: Global,
@@ -32,6 +33,7 @@ pub fn run_all<W: Shape + Send, R: Threads + Wait + Sync, T: Tree, G: Gate>(
 ) -> Result<Vec<Seat>, Memory>
     requires shape { T.choices tree.now ≡ W.choices }
     requires new { All (λ j. IsNew (book_id book.now) j.seat) jobs.items }
+    requires fresh { AreFresh 0 (map (λ j. j.tools) jobs.items) }
     ensures len { IfOk result (λ v. vec_len v ≡ vec_len jobs) }
     ensures each { IfOk result (λ v. All (λ s. Ended (T.choices tree.now) (T.plan tree.now) (limit_of book.now) (book_id book.now) s) v.items) }
 {

@@ -1,9 +1,11 @@
 //! What a worker keeps: a hand of paths, a deque of its own, and thieves of the others' deques.
 
-ghost use Rattle.std.specs.Prelude.{◌≡◌, true, None, [], ◌∷◌, ◌++◌, IfOk};
+ghost use Rattle.std.specs.Prelude.{◌≡◌, ℕ, ◌+◌, true, None, List as list, [], ◌∷◌, ◌++◌, IfOk};
+ghost use Rattle.ap_tasks.specs.Rule.{weigh};
 ghost use Rattle.ap_paths.specs.History.{kids_of};
 ghost use Rattle.ap_steal.specs.Planned.{AreChoices};
 ghost use Rattle.ap_steal.specs.Order.{KeepsWho, TookFirst};
+ghost use Rattle.ap_steal.specs.Hands.{held};
 
 use ap_defs::memory::Memory;
 use ap_tasks::{Owner, Placed, Shape, Stolen, Thief};
@@ -86,6 +88,7 @@ impl<W: Shape> Tools<W> {
         requires { AreChoices (W.choices path.now) kids.now }
         ensures kept { KeepsWho self.old self.new }
         ensures kids { self.old.alone ≡ true → IfOk result (λ _. self.new.hand.items ≡ kids_of path.now kids.now ++ self.old.hand.items) }
+        ensures held { (h : list ℕ → ℕ) → IfOk result (λ _. held h self.new ≡ weigh h (kids_of path.now kids.now) + held h self.old) }
     {
         for i in 0..kids.len() {
             let kid = path.child(alloc, kids[kids.len() - 1 - i])?;
@@ -98,6 +101,7 @@ impl<W: Shape> Tools<W> {
     fn put(&mut self, path: Placed<W>, stays: bool) -> Result<(), Memory>
         ensures kept { KeepsWho self.old self.new }
         ensures first { self.old.alone ≡ true → IfOk result (λ _. self.new.hand.items ≡ path ∷ self.old.hand.items) }
+        ensures held { (h : list ℕ → ℕ) → IfOk result (λ _. held h self.new ≡ h path + held h self.old) }
     {
         if stays || self.alone {
             self.hand.push_front(path)?;

@@ -3,6 +3,9 @@ use Rattle.ap_paths.specs.declared.limits.Limit.{Limit}
 use Rattle.ap_paths.specs.Entries.{entries_of}
 use Rattle.ap_paths.specs.Limits.{AreWithin}
 use Rattle.ap_lock.specs.Seats.{book_id, seats_of, new_seats}
+use Rattle.ap_steal.specs.declared.jobs.Job.{Job}
+use Rattle.ap_steal.specs.Hands.{AreFresh}
+use Rattle.ap_steal.proofs.Fresh.{turned_back}
 use Rattle.ap_steal.proofs.Whole.{of_new}
 use Rattle.ap_steal.proofs.searching.search_beside.Goals as goal
 
@@ -20,6 +23,11 @@ run_all-requires-clause-new g c κs within =
     let book = c.in_ok-book.book in
     let is : c.in_ok-book.seats.items ≡ new_seats (book_id book) 0 c.args.workers = search rules in
     c.turned.ensures.new (book_id book) (c.in_ok-jobs.ensures.new (book_id book) (of_new _ _ _ is).0)
+
+pub run_all-requires-clause-fresh : goal.run_all-requires-clause-fresh
+run_all-requires-clause-fresh g c κs within =
+    let back = turned_back (λ (j : Job g.row.W.Denot). j.tools) c.in_ok-tools.tools.items c.in_ok-jobs.jobs.items c.turned.result.items c.turned.ensures.order c.in_ok-jobs.ensures.tools in
+    subst (AreFresh 0) (sym back) c.in_ok-tools.ensures.fresh
 
 pub finish-requires-clause-all : goal.finish-requires-clause-all
 finish-requires-clause-all g c κs within =
