@@ -2,7 +2,7 @@
 use Rattle.std.proofs.Common.{◌≡◌, ℕ, zero, suc, ◌+◌, ◌-◌, ◌<◌, List, [], ◌∷◌, ◌++◌, length, get_or, set, drop, map, reverse, sym, refl, ap, ◌∙◌, subst, append_assoc, arith}
 use Rattle.std.proofs.lemmas.List.{map-append, reverse-append, reverse-reverse, drop_more}
 use Rattle.ap_paths.specs.History.{kids_of}
-use Rattle.ap_tasks.specs.Rule.{weigh}
+use Rattle.ap_paths.specs.Weights.{weigh}
 use Rattle.ap_tasks.proofs.Moves.{weigh-append}
 use Rattle.ap_steal.specs.declared.tools.Tools.{Tools}
 use Rattle.ap_steal.specs.Hands.{IsFresh, AreFresh}

@@ -1,6 +1,7 @@
 -- What the workers have before anything was run, and what a worker holds.
 use Rattle.std.specs.Prelude.{◌≡◌, ℕ, zero, suc, ◌+◌, false, List, [], ◌∷◌}
-use Rattle.ap_tasks.specs.Rule.{hand, weigh}
+use Rattle.ap_paths.specs.Weights.{weigh}
+use Rattle.ap_tasks.specs.Rule.{hand}
 use Rattle.ap_tasks.specs.Owners.{owner_view}
 use Rattle.ap_steal.specs.declared.tools.Tools.{Tools}
 

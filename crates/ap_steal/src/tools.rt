@@ -1,7 +1,7 @@
 //! What a worker keeps: a hand of paths, a deque of its own, and thieves of the others' deques.
 
 ghost use Rattle.std.specs.Prelude.{◌≡◌, ℕ, ◌+◌, true, None, List as list, [], ◌∷◌, ◌++◌, IfOk};
-ghost use Rattle.ap_tasks.specs.Rule.{weigh};
+ghost use Rattle.ap_paths.specs.Weights.{weigh};
 ghost use Rattle.ap_paths.specs.History.{kids_of};
 ghost use Rattle.ap_steal.specs.Planned.{AreChoices};
 ghost use Rattle.ap_steal.specs.Order.{KeepsWho, TookFirst};

@@ -1,6 +1,6 @@
 use Rattle.std.proofs.Common.{◌≡◌, ◌∷◌, ◌++◌, [], ap}
 use Rattle.ap_tasks.specs.declared.hand.Hand.{Hand}
-use Rattle.ap_tasks.specs.Rule.{weigh}
+use Rattle.ap_paths.specs.Weights.{weigh}
 use Rattle.ap_tasks.specs.Owners.{owner_view}
 use Rattle.ap_steal.proofs.Fresh.{held_pushed}
 use Rattle.ap_steal.proofs.tools.Tools.put.Goals as goal

@@ -1,5 +1,5 @@
 use Rattle.std.proofs.Common.{◌≡◌, ℕ, ◌+◌, ◌-◌, List, ◌++◌, drop, length, true}
-use Rattle.ap_tasks.specs.Rule.{weigh}
+use Rattle.ap_paths.specs.Weights.{weigh}
 use Rattle.ap_paths.specs.History.{kids_of}
 use Rattle.ap_steal.proofs.tools.Tools.take_kids.Given as goal
 use Rattle.ap_steal.specs.Order.{KeepsWho}
