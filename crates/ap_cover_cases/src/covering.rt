@@ -1,6 +1,7 @@
 //! The ground proofs among the derivations of a text's answers, and what `cover` is to write for them.
 
 use crate::call::is_written;
+use crate::calls::are_answered;
 use crate::renamed::renamed;
 use ap_bundle::version::Version;
 use ap_bundle_read::read_bundle;
@@ -33,7 +34,7 @@ fn next_place(last: Place, query: u32) -> Place {
 }
 
 /// A path with dots.
-fn path_text(alloc: Global, choices: &[u32]) -> Result<String, AllocError> {
+pub fn path_text(alloc: Global, choices: &[u32]) -> Result<String, AllocError> {
     let mut text = String::new(alloc);
     for choice in choices {
         if !text.is_empty() {
@@ -116,7 +117,7 @@ pub fn grounds_of(alloc: Global, bytes: &[u8]) -> io::Result<Grounds> {
 }
 
 /// Whether `cover` writes of each of these proofs, in both versions and with its names exchanged, that the answer
-/// covers it that it is of.
+/// covers it that it is of, and the library's call gives values by which it does.
 pub fn are_covered<R: Threads + Wait + Sync + AllocGlobal>(
     rt: &R,
     depth: &str,
@@ -127,5 +128,8 @@ pub fn are_covered<R: Threads + Wait + Sync + AllocGlobal>(
     let full = is_written(rt, &alone, &grounds.full, wanted)?;
     let many = ["cover", "--depth", depth, "--workers", "8"];
     let shared = is_written(rt, &many, &grounds.shared, wanted)?;
-    Ok(full && shared && is_written(rt, &many, &grounds.renamed, wanted)?)
+    let renamed = is_written(rt, &many, &grounds.renamed, wanted)?;
+    let number = depth.parse::<u32>().unwrap_or(0);
+    let called = are_answered(rt.alloc(), number, &grounds.shared)?;
+    Ok(full && shared && renamed && called && are_answered(rt.alloc(), number, &grounds.renamed)?)
 }

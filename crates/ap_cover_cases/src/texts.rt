@@ -1,6 +1,7 @@
 //! Texts of folders and files.
 
 use crate::call::answer;
+use crate::calls::lines_of_calls;
 use crate::covering::{are_covered, grounds_of};
 use ap_top::Status;
 use std::fs::Files;
@@ -65,4 +66,20 @@ pub fn cover_file<R: Threads + Wait + Sync + AllocGlobal + Files + Print>(
     }
     println!(rt; "{name}: {all} ground proofs")?;
     Ok(all)
+}
+
+/// Writes what the call gives for each proof of a file's bundles, each of which stands behind a line with a depth.
+pub fn call_file<R: Threads + Wait + Sync + AllocGlobal + Files + Print>(
+    rt: &R,
+    name: &str,
+) -> io::Result<()> {
+    let file = fs::read_to_string(rt, name)?;
+    for part in file.split(DIVIDER) {
+        if let Some((depth, bundle)) = part.split_once('\n') {
+            let depth = depth.parse::<u32>().unwrap_or(0);
+            let lines = lines_of_calls(rt.alloc(), depth, bundle.as_bytes())?;
+            print!(rt; "{lines}")?;
+        }
+    }
+    Ok(())
 }
