@@ -30,7 +30,8 @@ fn write_bind(
     by: &Speller<'_>,
     bind: &Binding<'_>,
 ) -> Result<(), Memory>
-    ensures { OnOk result (out.new.items ≡ out.old.items ++ bind_text (spelling_in by.now) (bind_of bind.now)) }
+    ensures { OnOk result (out.new.items
+        ≡ out.old.items ++ bind_text (spelling_in by.now) (bind_of bind.now)) }
 {
     out.extend_from_slice(bind.text.as_str().as_bytes())?;
     out.extend_from_slice(b" = ")?;
@@ -44,7 +45,8 @@ fn write_further_binds(
     by: &Speller<'_>,
     binds: &[Binding<'_>],
 ) -> Result<(), Memory>
-    ensures { OnOk result (out.new.items ≡ out.old.items ++ further_binds (spelling_in by.now) (binds_of binds.now)) }
+    ensures { OnOk result (out.new.items
+        ≡ out.old.items ++ further_binds (spelling_in by.now) (binds_of binds.now)) }
 {
     for bind in binds {
         out.extend_from_slice(b", ")?;
@@ -55,7 +57,8 @@ fn write_further_binds(
 
 /// Writes a condition.
 fn write_cond(out: &mut Vec<u8>, by: &Speller<'_>, cond: &Cond) -> Result<(), Memory>
-    ensures { OnOk result (out.new.items ≡ out.old.items ++ cond_text (spelling_in by.now) cond.now) }
+    ensures { OnOk result (out.new.items
+        ≡ out.old.items ++ cond_text (spelling_in by.now) cond.now) }
 {
     by.write_name(out, cond.name)?;
     out.extend_from_slice(b" # ")?;
@@ -64,7 +67,8 @@ fn write_cond(out: &mut Vec<u8>, by: &Speller<'_>, cond: &Cond) -> Result<(), Me
 
 /// Writes further conditions, each behind a comma.
 fn write_further_conds(out: &mut Vec<u8>, by: &Speller<'_>, conds: &[Cond]) -> Result<(), Memory>
-    ensures { OnOk result (out.new.items ≡ out.old.items ++ further_conds (spelling_in by.now) conds.now) }
+    ensures { OnOk result (out.new.items
+        ≡ out.old.items ++ further_conds (spelling_in by.now) conds.now) }
 {
     for cond in conds {
         out.extend_from_slice(b", ")?;
@@ -75,7 +79,8 @@ fn write_further_conds(out: &mut Vec<u8>, by: &Speller<'_>, conds: &[Cond]) -> R
 
 /// Writes the conditions, if there are any.
 fn write_conds(out: &mut Vec<u8>, by: &Speller<'_>, conds: &[Cond]) -> Result<(), Memory>
-    ensures { OnOk result (out.new.items ≡ out.old.items ++ where_text (spelling_in by.now) conds.now) }
+    ensures { OnOk result (out.new.items
+        ≡ out.old.items ++ where_text (spelling_in by.now) conds.now) }
 {
     if let [first, rest @ ..] = conds {
         out.extend_from_slice(b" where ")?;
@@ -93,7 +98,8 @@ pub fn write_shown(
     binds: &[Binding<'_>],
     conds: &[Cond],
 ) -> Result<(), Memory>
-    ensures { OnOk result (out.new.items ≡ out.old.items ++ shown_text (spelling_in by.now) (binds_of binds.now) conds.now) }
+    ensures { OnOk result (out.new.items
+        ≡ out.old.items ++ shown_text (spelling_in by.now) (binds_of binds.now) conds.now) }
 {
     let [first, rest @ ..] = binds else {
         out.extend_from_slice(b"yes")?;
@@ -114,7 +120,9 @@ pub fn write_answer(
     answer: &Answer,
 ) -> Result<(), Memory>
     requires { (w : list ℕ) → knows taken.now w ≡ has_word w program.now.words }
-    ensures { OnOk result (out.new.items ≡ out.old.items ++ answer_text (program_of program.now) (locals_of locals.now) (answer_of answer.now)) }
+    ensures { OnOk result (out.new.items
+        ≡ out.old.items
+        ++ answer_text (program_of program.now) (locals_of locals.now) (answer_of answer.now)) }
 {
     let shown = display_of(alloc, locals, answer)?;
     let by = speller_for(alloc, program, taken, locals, &shown.names, &shown.vars)?;

@@ -22,7 +22,8 @@ pub struct Binding<'a> {
 
 /// Keeps a binding, unless its variable is `_`.
 fn keep<'a>(binds: &mut Vec<Binding<'a>>, text: &'a Text, term: &'a Term) -> Result<(), Memory>
-    ensures { OnOk result (binds_of binds.new.items ≡ binds_of binds.old.items ++ shown_binds (text.now ∷ []) (term_of term.now ∷ [])) }
+    ensures { OnOk result (binds_of binds.new.items
+        ≡ binds_of binds.old.items ++ shown_binds (text.now ∷ []) (term_of term.now ∷ [])) }
 {
     if text.as_str() != "_" {
         binds.push(Binding { text, term })?;
@@ -36,7 +37,8 @@ pub fn shown_bindings<'a>(
     locals: &'a [Local],
     terms: &'a [Term],
 ) -> Result<Vec<Binding<'a>>, Memory>
-    ensures { IfOk result (λ binds. binds_of binds.items ≡ shown_binds (var_texts (locals_of locals.now)) (map term_of terms.now)) }
+    ensures { IfOk result (λ binds. binds_of binds.items
+        ≡ shown_binds (var_texts (locals_of locals.now)) (map term_of terms.now)) }
 {
     let texts = variable_texts(alloc, locals)?;
     let mut binds = Vec::new(alloc);

@@ -17,7 +17,8 @@ type Placed = BTreeMap<(usize, usize, usize), Cond>;
 
 /// Keeps a condition at its two places under a number that is above those so far.
 fn keep(placed: &mut Placed, key: (usize, usize, usize), cond: Cond) -> Result<(), Memory>
-    ensures { OnOk result (placed.new.entries ≡ insert_entry placed_cmp placed.old.entries key cond) }
+    ensures { OnOk result (placed.new.entries
+        ≡ insert_entry placed_cmp placed.old.entries key cond) }
 {
     placed.insert(key, cond)?;
     Ok(())
@@ -26,7 +27,8 @@ fn keep(placed: &mut Placed, key: (usize, usize, usize), cond: Cond) -> Result<(
 /// The places of a condition's variable and of its name, if both occur.
 #[tactic(auto, unfolding(ap_defs::specs::Permutations::name_eq))]
 fn places(names: &IndexSet<Name>, vars: &IndexSet<Var>, cond: &Cond) -> Option<(usize, usize)>
-    ensures { MatchOption result (occurs_in names.now.keys vars.now.keys cond.now ≡ false) (λ at. Occurs names.now.keys vars.now.keys cond.now at.0 at.1) }
+    ensures { MatchOption result (occurs_in names.now.keys vars.now.keys cond.now ≡ false) (λ at.
+        Occurs names.now.keys vars.now.keys cond.now at.0 at.1) }
 {
     let var = vars.get_index_of(&cond.var)?;
     let name = names.get_index_of(&cond.name)?;
@@ -40,7 +42,9 @@ pub fn shown_conditions(
     vars: &IndexSet<Var>,
     conds: &[Cond],
 ) -> Result<Vec<Cond>, Memory>
-    ensures { IfOk result (λ shown. shown.items ≡ sort_conds (printed_before names.now.keys vars.now.keys) (filter (occurs_in names.now.keys vars.now.keys) conds.now)) }
+    ensures { IfOk result (λ shown. shown.items
+        ≡ sort_conds (printed_before names.now.keys vars.now.keys) (filter
+        (occurs_in names.now.keys vars.now.keys) conds.now)) }
 {
     let mut placed = BTreeMap::new(alloc);
     let mut left = conds.len();

@@ -31,7 +31,8 @@ fn copied_bindings(alloc: Global, binds: &[Binding<'_>]) -> Result<Vec<(Text, Te
 
 /// What a display shows, without the free names of the query, whose identifiers these are.
 pub fn shown_of(alloc: Global, locals: &[Local], display: &Display<'_>) -> Result<Shown, Memory>
-    ensures { IfOk result (λ shown. (s : NominalShown) → Shows (locals_of locals.now) display.now s → nominal_shown shown ≡ s) }
+    ensures { IfOk result (λ shown. (s : NominalShown) →
+        Shows (locals_of locals.now) display.now s → nominal_shown shown ≡ s) }
 {
     let own = free_names(alloc, locals)?.len().min(display.names.len());
     let binds = copied_bindings(alloc, display.binds.as_slice())?;

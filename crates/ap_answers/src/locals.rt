@@ -63,7 +63,8 @@ pub fn free_name_texts(alloc: Global, locals: &[Local]) -> Result<Vec<Text>, Mem
 /// Adds the identifier with this number, if it is a free name and the names so far have lower numbers.
 fn add_free(names: &mut IndexSet<Name>, num: u64, local: &Local) -> Result<(), Memory>
     requires { AllBelow num names.old.keys }
-    ensures names { OnOk result (names.new.keys ≡ names.old.keys ++ name_unless local.now.bound (kind_of local.now.kind) num []) }
+    ensures names { OnOk result (names.new.keys
+        ≡ names.old.keys ++ name_unless local.now.bound (kind_of local.now.kind) num []) }
     ensures below { OnOk result (AllBelow (num + 1) names.new.keys) }
 {
     if let Some(sort) = sort_of(local) {

@@ -63,7 +63,8 @@ fn add_swapped(names: &mut IndexSet<Name>, swaps: &[Swap]) -> Result<(), Memory>
 
 /// Adds the names of a term, as they are read.
 pub fn add_names(names: &mut IndexSet<Name>, term: &Term) -> Result<(), Memory>
-    ensures { OnOk result (names.new.keys ≡ more_names names.old.keys (names_then (term_of term.now) [])) }
+    ensures { OnOk result (names.new.keys
+        ≡ more_names names.old.keys (names_then (term_of term.now) [])) }
 {
     let mut rest = term;
     loop {
@@ -86,7 +87,8 @@ pub fn add_names(names: &mut IndexSet<Name>, term: &Term) -> Result<(), Memory>
 
 /// Adds the variables of a term, as they are read.
 pub fn add_vars(vars: &mut IndexSet<Var>, term: &Term) -> Result<(), Memory>
-    ensures { OnOk result (vars.new.keys ≡ more_vars vars.old.keys (vars_then (term_of term.now) [])) }
+    ensures { OnOk result (vars.new.keys
+        ≡ more_vars vars.old.keys (vars_then (term_of term.now) [])) }
 {
     let mut rest = term;
     loop {

@@ -49,8 +49,8 @@ pub fn canonical(
     requires exists { query ≤ length (program_of program.now).queries }
     ensures shown { IfOk result (λ shown. nominal_shown shown ≡
         shown_in (query_locals (program_of program.now) query) (answer_of answer.now)) }
-    ensures sound { IfOk result (λ shown.
-        IsSoundlyShown (program_of program.now) query (answer_of answer.now) (nominal_shown shown)) }
+    ensures sound { IfOk result (λ shown. IsSoundlyShown (program_of program.now) query
+        (answer_of answer.now) (nominal_shown shown)) }
 {
     let locals = locals_in(program, query);
     let display = display_of(alloc, locals, answer)?;
@@ -77,7 +77,9 @@ pub fn lines_among(
     requires words { (w : list ℕ) → knows taken.now w ≡ has_word w program.now.words }
     requires from_one { 1 ≤ query }
     requires exists { query ≤ length (program_of program.now).queries }
-    ensures { IfOk result (λ bytes. bytes.items ≡ query_lines (program_of program.now) query (query_locals (program_of program.now) query) (outs_of outs.now)) }
+    ensures { IfOk result (λ bytes. bytes.items
+        ≡ query_lines (program_of program.now) query (query_locals (program_of program.now) query)
+        (outs_of outs.now)) }
 {
     let locals = locals_in(program, query);
     report(alloc, program.program(), taken, query, locals, outs)
@@ -93,7 +95,9 @@ pub fn lines(
 ) -> Result<Vec<u8>, Memory>
     requires from_one { 1 ≤ query }
     requires exists { query ≤ length (program_of program.now).queries }
-    ensures { IfOk result (λ bytes. bytes.items ≡ query_lines (program_of program.now) query (query_locals (program_of program.now) query) (outs_of outs.now)) }
+    ensures { IfOk result (λ bytes. bytes.items
+        ≡ query_lines (program_of program.now) query (query_locals (program_of program.now) query)
+        (outs_of outs.now)) }
 {
     let taken = words_in(alloc, program)?;
     lines_among(alloc, program, &taken, query, outs)

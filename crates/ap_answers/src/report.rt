@@ -104,7 +104,8 @@ fn leading_stuck(outs: &[Out]) -> usize
 
 /// Writes the line of the totals.
 fn write_totals(alloc: Global, out: &mut Vec<u8>, query: u32, outs: &[Out]) -> Result<(), Memory>
-    ensures { OnOk result (out.new.items ≡ out.old.items ++ (totals_text query (outs_of outs.now) ++ codes "\n")) }
+    ensures { OnOk result (out.new.items
+        ≡ out.old.items ++ (totals_text query (outs_of outs.now) ++ codes "\n")) }
 {
     let answers = count_answers(outs);
     let cuts = count_cuts(outs);
@@ -118,7 +119,8 @@ fn write_totals(alloc: Global, out: &mut Vec<u8>, query: u32, outs: &[Out]) -> R
 
 /// Writes the line of a run of cuts.
 fn write_cuts(alloc: Global, out: &mut Vec<u8>, count: usize) -> Result<(), Memory>
-    ensures { OnOk result (out.new.items ≡ out.old.items ++ (codes "% cut " ++ decimal count ++ codes "\n")) }
+    ensures { OnOk result (out.new.items
+        ≡ out.old.items ++ (codes "% cut " ++ decimal count ++ codes "\n")) }
 {
     let line = format!(in alloc; "% cut {count}\n")?;
     out.extend_from_slice(line.as_bytes())?;
@@ -127,7 +129,8 @@ fn write_cuts(alloc: Global, out: &mut Vec<u8>, count: usize) -> Result<(), Memo
 
 /// Writes the line of a run of stuck branches.
 fn write_stuck(alloc: Global, out: &mut Vec<u8>, count: usize) -> Result<(), Memory>
-    ensures { OnOk result (out.new.items ≡ out.old.items ++ (codes "% stuck " ++ decimal count ++ codes "\n")) }
+    ensures { OnOk result (out.new.items
+        ≡ out.old.items ++ (codes "% stuck " ++ decimal count ++ codes "\n")) }
 {
     let line = format!(in alloc; "% stuck {count}\n")?;
     out.extend_from_slice(line.as_bytes())?;
@@ -145,7 +148,8 @@ fn write_line(
 ) -> Result<usize, Memory>
     requires taken { (w : list ℕ) → knows taken.now w ≡ has_word w program.now.words }
     requires some { 1 ≤ length outs.now }
-    ensures { IfOk result (λ n. IsLineFor (line_text (program_of program.now) (locals_of locals.now)) (outs_of outs.now) n out.old.items out.new.items) }
+    ensures { IfOk result (λ n. IsLineFor (line_text (program_of program.now)
+        (locals_of locals.now)) (outs_of outs.now) n out.old.items out.new.items) }
 {
     match &outs[0] {
         Out::Found(_, answer) => {
@@ -176,7 +180,10 @@ fn write_lines(
     outs: &[Out],
 ) -> Result<(), Memory>
     requires { (w : list ℕ) → knows taken.now w ≡ has_word w program.now.words }
-    ensures { OnOk result (out.new.items ≡ out.old.items ++ ended (map (line_text (program_of program.now) (locals_of locals.now)) (lines_of (outs_of outs.now)))) }
+    ensures { OnOk result (out.new.items
+        ≡ out.old.items
+        ++ ended (map (line_text (program_of program.now) (locals_of locals.now))
+        (lines_of (outs_of outs.now)))) }
 {
     let mut rest = outs;
     while !rest.is_empty() {
@@ -197,7 +204,8 @@ pub fn report(
     outs: &[Out],
 ) -> Result<Vec<u8>, Memory>
     requires { (w : list ℕ) → knows taken.now w ≡ has_word w program.now.words }
-    ensures { IfOk result (λ bytes. bytes.items ≡ query_lines (program_of program.now) query (locals_of locals.now) (outs_of outs.now)) }
+    ensures { IfOk result (λ bytes. bytes.items
+        ≡ query_lines (program_of program.now) query (locals_of locals.now) (outs_of outs.now)) }
 {
     let mut out = Vec::new(alloc);
     write_lines(alloc, &mut out, program, taken, locals, outs)?;

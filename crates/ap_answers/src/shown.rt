@@ -38,7 +38,9 @@ pub fn names_of_bindings(
     locals: &[Local],
     binds: &[Binding<'_>],
 ) -> Result<IndexSet<Name>, Memory>
-    ensures { IfOk result (λ names. names.keys ≡ more_names (local_names zero (locals_of locals.now)) (names_of_terms (terms_of_binds (binds_of binds.now)))) }
+    ensures { IfOk result (λ names. names.keys
+        ≡ more_names (local_names zero (locals_of locals.now)) (names_of_terms
+        (terms_of_binds (binds_of binds.now)))) }
 {
     let mut names = free_names(alloc, locals)?;
     for bind in binds {
@@ -49,7 +51,8 @@ pub fn names_of_bindings(
 
 /// The variables of the bindings, by first occurrence.
 pub fn vars_of_bindings(alloc: Global, binds: &[Binding<'_>]) -> Result<IndexSet<Var>, Memory>
-    ensures { IfOk result (λ vars. vars.keys ≡ first_vars [] (vars_of_terms (terms_of_binds (binds_of binds.now)))) }
+    ensures { IfOk result (λ vars. vars.keys
+        ≡ first_vars [] (vars_of_terms (terms_of_binds (binds_of binds.now)))) }
 {
     let mut vars = IndexSet::new(alloc);
     for bind in binds {
@@ -64,7 +67,8 @@ pub fn display_of<'a>(
     locals: &'a [Local],
     answer: &'a Answer,
 ) -> Result<Display<'a>, Memory>
-    ensures { IfOk result (λ d. Shows (locals_of locals.now) d (shown_in (locals_of locals.now) (answer_of answer.now))) }
+    ensures { IfOk result (λ d. Shows (locals_of locals.now) d (shown_in (locals_of locals.now)
+        (answer_of answer.now))) }
 {
     let binds = shown_bindings(alloc, locals, answer.binds.items())?;
     let names = names_of_bindings(alloc, locals, binds.as_slice())?;

@@ -74,7 +74,10 @@ pub fn speller_for<'a>(
     vars: &'a IndexSet<Var>,
 ) -> Result<Speller<'a>, Memory>
     requires { (w : list ℕ) → knows taken.now w ≡ has_word w program.now.words }
-    ensures { IfOk result (λ by. (s : NominalShown) → names.now.keys ≡ local_names zero (locals_of locals.now) ++ s.names → vars.now.keys ≡ s.vars → spelling_in by ≡ spelling_for (program_of program.now) (locals_of locals.now) s) }
+    ensures { IfOk result (λ by. (s : NominalShown) →
+        names.now.keys ≡ local_names zero (locals_of locals.now) ++ s.names →
+        vars.now.keys ≡ s.vars →
+        spelling_in by ≡ spelling_for (program_of program.now) (locals_of locals.now) s) }
 {
     let words = program.words.items();
     let mut name_texts = free_name_texts(alloc, locals)?;

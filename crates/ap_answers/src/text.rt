@@ -18,7 +18,8 @@ use std::alloc::Global;
 
 /// Writes the beginnings of swappings.
 fn write_heads(out: &mut Vec<u8>, by: &Speller<'_>, swaps: &[Swap]) -> Result<(), Memory>
-    ensures { OnOk result (out.new.items ≡ out.old.items ++ heads_text (spelling_in by.now).names swaps.now) }
+    ensures { OnOk result (out.new.items
+        ≡ out.old.items ++ heads_text (spelling_in by.now).names swaps.now) }
 {
     for swap in swaps {
         write_head(out, by, swap)?;
@@ -28,7 +29,8 @@ fn write_heads(out: &mut Vec<u8>, by: &Speller<'_>, swaps: &[Swap]) -> Result<()
 
 /// Writes the beginning of a swapping.
 fn write_head(out: &mut Vec<u8>, by: &Speller<'_>, swap: &Swap) -> Result<(), Memory>
-    ensures { OnOk result (out.new.items ≡ out.old.items ++ heads_text (spelling_in by.now).names (swap.now ∷ [])) }
+    ensures { OnOk result (out.new.items
+        ≡ out.old.items ++ heads_text (spelling_in by.now).names (swap.now ∷ [])) }
 {
     let sort = swap.sort;
     out.extend_from_slice(b"swap(")?;
@@ -58,7 +60,9 @@ fn write_suspension(
     swaps: &[Swap],
     var: Var,
 ) -> Result<(), Memory>
-    ensures { OnOk result (out.new.items ≡ out.old.items ++ swaps_text (spelling_in by.now).names swaps.now ((spelling_in by.now).vars var)) }
+    ensures { OnOk result (out.new.items
+        ≡ out.old.items
+        ++ swaps_text (spelling_in by.now).names swaps.now ((spelling_in by.now).vars var)) }
 {
     write_heads(out, by, swaps)?;
     by.write_var(out, var)?;
@@ -71,7 +75,8 @@ fn write_suspension(
 /// Writes what stands before the left part of a pair, and keeps what will stand behind the right one.
 fn begin_pair(out: &mut Vec<u8>, closers: &mut Vec<u8>, place: Place) -> Result<(), Memory>
     ensures written { OnOk result (out.new.items ≡ out.old.items ++ pair_opening (place_of place)) }
-    ensures kept { OnOk result (closers.new.items ≡ closers.old.items ++ pair_closing (place_of place)) }
+    ensures kept { OnOk result (closers.new.items
+        ≡ closers.old.items ++ pair_closing (place_of place)) }
 {
     if parenthesized(place) {
         write_bar(out, place)?;
@@ -84,7 +89,8 @@ fn begin_pair(out: &mut Vec<u8>, closers: &mut Vec<u8>, place: Place) -> Result<
 /// Writes what stands before the parts of a list cell, and keeps what will stand behind them.
 fn begin_cell(out: &mut Vec<u8>, closers: &mut Vec<u8>, place: Place) -> Result<(), Memory>
     ensures written { OnOk result (out.new.items ≡ out.old.items ++ cell_opening (place_of place)) }
-    ensures kept { OnOk result (closers.new.items ≡ closers.old.items ++ cell_closing (place_of place)) }
+    ensures kept { OnOk result (closers.new.items
+        ≡ closers.old.items ++ cell_closing (place_of place)) }
 {
     if let Place::Rest = place {
         out.push(b',')?;
@@ -103,9 +109,13 @@ fn begin_declared(
     constructor: &Constructor,
     place: Place,
 ) -> Result<Option<Place>, Memory>
-    ensures written { OnOk result (out.new.items ≡ out.old.items ++ declared_opening (Some (constructor_of constructor.now)) (place_of place)) }
-    ensures kept { OnOk result (closers.new.items ≡ closers.old.items ++ declared_closing (Some (constructor_of constructor.now))) }
-    ensures place { IfOk result (λ next. option_map place_of next ≡ declared_place (Some (constructor_of constructor.now))) }
+    ensures written { OnOk result (out.new.items
+        ≡ out.old.items
+        ++ declared_opening (Some (constructor_of constructor.now)) (place_of place)) }
+    ensures kept { OnOk result (closers.new.items
+        ≡ closers.old.items ++ declared_closing (Some (constructor_of constructor.now))) }
+    ensures place { IfOk result (λ next. option_map place_of next
+        ≡ declared_place (Some (constructor_of constructor.now))) }
 {
     write_bar(out, place)?;
     out.extend_from_slice(constructor.text.as_str().as_bytes())?;
@@ -127,9 +137,12 @@ fn begin_application(
     f: u32,
     place: Place,
 ) -> Result<Option<Place>, Memory>
-    ensures written { OnOk result (out.new.items ≡ out.old.items ++ opening (map constructor_of constructors.now) f (place_of place)) }
-    ensures kept { OnOk result (closers.new.items ≡ closers.old.items ++ closing (map constructor_of constructors.now) f (place_of place)) }
-    ensures place { IfOk result (λ next. option_map place_of next ≡ argument_place (map constructor_of constructors.now) f) }
+    ensures written { OnOk result (out.new.items
+        ≡ out.old.items ++ opening (map constructor_of constructors.now) f (place_of place)) }
+    ensures kept { OnOk result (closers.new.items
+        ≡ closers.old.items ++ closing (map constructor_of constructors.now) f (place_of place)) }
+    ensures place { IfOk result (λ next. option_map place_of next
+        ≡ argument_place (map constructor_of constructors.now) f) }
 {
     if f == 0 {
         write_nil(out, place)?;
@@ -154,7 +167,9 @@ fn begin_abstraction(
     name: Name,
     place: Place,
 ) -> Result<(), Memory>
-    ensures { OnOk result (out.new.items ≡ out.old.items ++ barred (place_of place) ((spelling_in by.now).names name ++ codes "\\")) }
+    ensures { OnOk result (out.new.items
+        ≡ out.old.items
+        ++ barred (place_of place) ((spelling_in by.now).names name ++ codes "\\")) }
 {
     write_bar(out, place)?;
     by.write_name(out, name)?;
@@ -183,7 +198,8 @@ pub fn write_term(
     term: &Term,
     mut place: Place,
 ) -> Result<(), Memory>
-    ensures { OnOk result (out.new.items ≡ out.old.items ++ term_at (spelling_in by.now) (term_of term.now) (place_of place)) }
+    ensures { OnOk result (out.new.items
+        ≡ out.old.items ++ term_at (spelling_in by.now) (term_of term.now) (place_of place)) }
 {
     let mut closers = Vec::new(alloc);
     let mut rest = term;

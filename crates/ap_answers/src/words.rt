@@ -28,7 +28,9 @@ fn keep_word(
     number: u128,
     taken: &HashSet<&str>,
 ) -> Result<(), Memory>
-    ensures { OnOk result (made.new.items ≡ made.old.items ++ filter (λ w. not (knows taken.now w)) ((letter.now ++ decimal number) ∷ [])) }
+    ensures { OnOk result (made.new.items
+        ≡ made.old.items
+        ++ filter (λ w. not (knows taken.now w)) ((letter.now ++ decimal number) ∷ [])) }
 {
     let word = format!(in alloc; "{letter}{number}")?;
     if !taken.contains(word.as_str()) {

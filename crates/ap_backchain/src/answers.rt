@@ -92,7 +92,8 @@ fn vars_among(
     conds: &[Cond],
     others: &[Var],
 ) -> Result<Vec<Var>, Memory>
-    ensures { IfOk result (λ v. v.items ≡ vars_besides (map term_of binds.now) conds.now others.now) }
+    ensures { IfOk result (λ v. v.items
+        ≡ vars_besides (map term_of binds.now) conds.now others.now) }
 {
     let mut vars = Vec::new(alloc);
     add_vars_of_terms(&mut vars, binds)?;
@@ -104,7 +105,8 @@ fn vars_among(
 
 /// A variable with its type, or none where its number is no variable's.
 fn typed(alloc: Global, store: &Store<'_>, x: Var) -> Result<Option<(Var, Ty)>, Memory>
-    ensures { IfOk result (λ o. map typed_var_of (option_to_list o) ≡ with_type x (kind_at (kinds store.now) x.num) []) }
+    ensures { IfOk result (λ o. map typed_var_of (option_to_list o)
+        ≡ with_type x (kind_at (kinds store.now) x.num) []) }
 {
     if x.num < store.next() {
         match store.kind(x.num) {
@@ -141,7 +143,8 @@ pub fn answer_in(
     brought: &[Var],
 ) -> Result<Answer, Memory>
     requires { length locals.now < 2 ^ 64 }
-    ensures { IfOk result (λ a. answer_of a ≡ answer_by_unbound (locals_of locals.now) (state_in store.now) brought.now) }
+    ensures { IfOk result (λ a. answer_of a
+        ≡ answer_by_unbound (locals_of locals.now) (state_in store.now) brought.now) }
 {
     let free = vars_of_locals(alloc, 0, locals)?;
     let binds = closed(alloc, store, &free)?;

@@ -38,7 +38,8 @@ impl<'a> Arena<'a> {
 
     /// A goal waits in front of the others.
     pub fn push(&mut self, frame: Frame<'a>) -> Result<(), Memory>
-        ensures waiting { OnOk result (waiting_in self.new ≡ waiting_of frame.entry ∷ waiting_in self.old) }
+        ensures waiting { OnOk result (waiting_in self.new
+            ≡ waiting_of frame.entry ∷ waiting_in self.old) }
         ensures longer { OnOk result (IsLonger (cells_of self.old) (cells_of self.new)) }
         ensures unchanged { OnErr result (waiting_in self.new ≡ waiting_in self.old) }
     {
@@ -50,7 +51,8 @@ impl<'a> Arena<'a> {
 
     /// The first goal, which stays.
     pub fn peek(&self) -> Option<Frame<'a>>
-        ensures first { IfSome result (λ f. (others : list Waiting) × (waiting_in self.now ≡ waiting_of f ∷ others)) }
+        ensures first { IfSome result (λ f. (others : list Waiting)
+            × (waiting_in self.now ≡ waiting_of f ∷ others)) }
         ensures none { IfNone result (waiting_in self.now ≡ []) }
     {
         if self.first == 0 {
@@ -62,7 +64,8 @@ impl<'a> Arena<'a> {
 
     /// The first goal, which waits no longer.
     pub fn pop(&mut self) -> Option<Frame<'a>>
-        ensures first { IfSome result (λ f. waiting_in self.old ≡ waiting_of f ∷ waiting_in self.new) }
+        ensures first { IfSome result (λ f. waiting_in self.old
+            ≡ waiting_of f ∷ waiting_in self.new) }
         ensures none { IfNone result ((waiting_in self.old ≡ []) × (waiting_in self.new ≡ [])) }
         ensures cells { cells_of self.new ≡ cells_of self.old }
     {

@@ -82,7 +82,9 @@ fn outs_of_standing<'a>(
 ) -> Result<Vec<Out>, Memory>
     requires clauses { AreClausesBelow (map (map clause_of) clauses.now) }
     requires locals { length locals.now < 2 ^ 64 }
-    ensures { IfOk result (λ v. outs_of v.items ≡ outs_among (marks_of_standing (map (map clause_of) clauses.now) (locals_of locals.now) standing.entry)) }
+    ensures { IfOk result (λ v. outs_of v.items
+        ≡ outs_among (marks_of_standing (map (map clause_of) clauses.now) (locals_of locals.now)
+        standing.entry)) }
 {
     match standing {
         Standing::Choosing(_, place) => {
@@ -149,7 +151,9 @@ impl<'a> Branch<'a> {
     /// output with just this path; and failed otherwise. It takes no memory.
     pub fn node(&self) -> &Node
         ensures node { result.now ≡ self.now.node }
-        ensures exact { (p : Problem) (q : NominalQuery) → slice_get (queries_in p) (p.query - 1) ≡ Some q → IsBranchOf p self.now → IsNodeAt (clauses_in p) p.depth q (path_of_branch self.now) result.now }
+        ensures exact { (p : Problem) (q : NominalQuery) →
+            slice_get (queries_in p) (p.query - 1) ≡ Some q → IsBranchOf p self.now →
+            IsNodeAt (clauses_in p) p.depth q (path_of_branch self.now) result.now }
     {
         &self.node
     }
@@ -168,7 +172,8 @@ impl<'a> Branch<'a> {
         requires of { IsBranchOf p.now self }
         requires choice { IsChoiceOf choice self }
         ensures of { IfOk result (λ b. IsBranchOf p.now b) }
-        ensures path { IfOk result (λ b. path_of_branch b ≡ path_of_branch self.entry ++ choice ∷ []) }
+        ensures path { IfOk result (λ b. path_of_branch b
+            ≡ path_of_branch self.entry ++ choice ∷ []) }
     {
         let clauses = clauses_of_problem(p);
         let query = query_of_problem(p);
@@ -183,7 +188,10 @@ impl<'a> Branch<'a> {
         requires query { HasQuery p.now }
         requires of { IsBranchOf p.now self.now }
         requires answer { IsAnswering self.now }
-        ensures { IfOk result (λ a. (q : NominalQuery) → slice_get (queries_in p.now) (p.now.query - 1) ≡ Some q → outs_at (clauses_in p.now) p.now.depth q (path_of_branch self.now) ≡ found (path_of_branch self.now) (answer_of a) ∷ []) }
+        ensures { IfOk result (λ a. (q : NominalQuery) →
+            slice_get (queries_in p.now) (p.now.query - 1) ≡ Some q →
+            outs_at (clauses_in p.now) p.now.depth q (path_of_branch self.now)
+            ≡ found (path_of_branch self.now) (answer_of a) ∷ []) }
     {
         match &self.standing {
             Standing::Ended(out) => match out {
@@ -200,7 +208,10 @@ impl<'a> Branch<'a> {
     pub fn run(self, alloc: Global, p: &Problem<'a>) -> Result<Vec<Out>, Memory>
         requires query { HasQuery p.now }
         requires of { IsBranchOf p.now self }
-        ensures { IfOk result (λ v. (q : NominalQuery) → slice_get (queries_in p.now) (p.now.query - 1) ≡ Some q → outs_of v.items ≡ outs_at (clauses_in p.now) p.now.depth q (path_of_branch self.entry)) }
+        ensures { IfOk result (λ v. (q : NominalQuery) →
+            slice_get (queries_in p.now) (p.now.query - 1) ≡ Some q →
+            outs_of v.items
+            ≡ outs_at (clauses_in p.now) p.now.depth q (path_of_branch self.entry)) }
     {
         let clauses = clauses_of_problem(p);
         let query = query_of_problem(p);

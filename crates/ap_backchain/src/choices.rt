@@ -16,7 +16,9 @@ use ap_index::predicate::Predicate;
 /// Among how many the goal of a frame chooses, if it chooses.
 fn choice_of_frame<'a>(clauses: &'a [Predicate<'a>], frame: &Frame<'a>) -> Option<u32>
     requires { AreClausesBelow (map (map clause_of) clauses.now) }
-    ensures { MatchOption result (choice_of_goal (map (map clause_of) clauses.now) frame.now.depth (waiting_of frame.now).goal ≡ None) (λ w. choice_of_goal (map (map clause_of) clauses.now) frame.now.depth (waiting_of frame.now).goal ≡ Some w) }
+    ensures { MatchOption result (choice_of_goal (map (map clause_of) clauses.now) frame.now.depth
+        (waiting_of frame.now).goal ≡ None) (λ w. choice_of_goal (map (map clause_of) clauses.now)
+        frame.now.depth (waiting_of frame.now).goal ≡ Some w) }
 {
     match frame.goal {
         Goal::Atom(pred, _) => {
@@ -39,7 +41,9 @@ fn choice_of_frame<'a>(clauses: &'a [Predicate<'a>], frame: &Frame<'a>) -> Optio
 /// Among how many the first goal that waits chooses, if it chooses.
 pub fn choice_at<'a>(clauses: &'a [Predicate<'a>], place: &Place<'a>) -> Option<u32>
     requires { AreClausesBelow (map (map clause_of) clauses.now) }
-    ensures { MatchOption result (choice_of (map (map clause_of) clauses.now) (position_of place.now).waiting ≡ None) (λ w. choice_of (map (map clause_of) clauses.now) (position_of place.now).waiting ≡ Some w) }
+    ensures { MatchOption result (choice_of (map (map clause_of) clauses.now)
+        (position_of place.now).waiting ≡ None) (λ w. choice_of (map (map clause_of) clauses.now)
+        (position_of place.now).waiting ≡ Some w) }
 {
     match place.goals.peek() {
         None => None,

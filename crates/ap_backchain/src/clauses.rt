@@ -56,9 +56,12 @@ fn unify_head<'a>(
 ) -> Result<Option<u64>, Memory>
     requires args { AreBelow (next_of place.old) (map (renamed base) (map term_of args.now)) }
     requires clause { IsFitClause (clause_of clause.now) }
-    ensures state { IfOk result (λ o. HasHead (map (renamed base) (map term_of args.now)) (clause_of clause.now) place.old o place.new) }
+    ensures state { IfOk result (λ o. HasHead (map (renamed base) (map term_of args.now))
+        (clause_of clause.now) place.old o place.new) }
     ensures goes { OnOk result (GoesFrom (track_of place.old) (track_of place.new)) }
-    ensures none { IfOk result (λ o. o ≡ None → (track_of place.new ≡ track_of place.old) × (position_of place.new ≡ position_of place.old)) }
+    ensures none { IfOk result (λ o. o ≡ None →
+        (track_of place.new ≡ track_of place.old)
+        × (position_of place.new ≡ position_of place.old)) }
 {
     let mark = place.store.mark();
     let start = place.store.make(clause.locals.items())?;
@@ -97,9 +100,13 @@ pub fn enter_clause<'a>(
 ) -> Result<bool, Memory>
     requires args { AreBelow (next_of place.old) (map (renamed base) (map term_of args.now)) }
     requires clause { IsFitClause (clause_of clause.now) }
-    ensures entered { IfOk result (λ b. position_if b (position_of place.new) ≡ by_clause depth (map (renamed base) (map term_of args.now)) (position_of place.old) choice (clause_of clause.now)) }
+    ensures entered { IfOk result (λ b. position_if b (position_of place.new)
+        ≡ by_clause depth (map (renamed base) (map term_of args.now)) (position_of place.old) choice
+        (clause_of clause.now)) }
     ensures goes { OnOk result (GoesFrom (track_of place.old) (track_of place.new)) }
-    ensures none { IfOk result (λ b. b ≡ false → (track_of place.new ≡ track_of place.old) × (position_of place.new ≡ position_of place.old)) }
+    ensures none { IfOk result (λ b. b ≡ false →
+        (track_of place.new ≡ track_of place.old)
+        × (position_of place.new ≡ position_of place.old)) }
 {
     match unify_head(alloc, place, args, base, clause)? {
         None => Ok(false),

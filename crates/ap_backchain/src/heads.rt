@@ -16,7 +16,9 @@ use std::alloc::Global;
 /// none.
 pub fn key_of_atom<'a>(alloc: Global, store: &Store<'a>, args: &'a [Term], base: u64) -> u64
     requires { AreBelow (present store.now).next (map (renamed base) (map term_of args.now)) }
-    ensures { result ≡ first_key (map (under (present store.now).bindings) (map (renamed base) (map term_of args.now))) }
+    ensures { result
+        ≡ first_key (map (under (present store.now).bindings) (map (renamed base)
+        (map term_of args.now))) }
 {
     match args.first() {
         None => 0,

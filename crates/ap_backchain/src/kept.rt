@@ -28,7 +28,8 @@ fn kept_of_predicate<'a>(
     key: u64,
 ) -> Result<Vec<u32>, Memory>
     requires { AreClausesBelow (map (map clause_of) clauses.now) }
-    ensures { IfOk result (λ v. v.items ≡ kept_from key 1 (clauses_of (map (map clause_of) clauses.now) pred)) }
+    ensures { IfOk result (λ v. v.items
+        ≡ kept_from key 1 (clauses_of (map (map clause_of) clauses.now) pred)) }
 {
     let mut kept = Vec::new(alloc);
     if let Some(candidates) = candidates_at(clauses, pred) {

@@ -39,7 +39,8 @@ impl<'a> Place<'a> {
 
     /// A place with a store in which no goal waits. It takes no memory.
     pub fn of(alloc: Global, store: Store<'a>) -> Place<'a>
-        ensures position { position_of result ≡ record { waiting = []; path = []; state = state_in store.entry; brought = [] } }
+        ensures position { position_of result
+            ≡ record { waiting = []; path = []; state = state_in store.entry; brought = [] } }
         ensures store { result.store ≡ store.entry }
     {
         Place {
@@ -53,7 +54,8 @@ impl<'a> Place<'a> {
     /// One more goal waits, in front of the others.
     pub fn push_goal(&mut self, goal: &'a Goal<Term>, base: u64, depth: u32) -> Result<(), Memory>
         requires { IsGoalBelow (next_of self.old) (rename_goal base (goal_of goal.now)) }
-        ensures position { OnOk result (position_of self.new ≡ with_goal depth (rename_goal base (goal_of goal.now)) (position_of self.old)) }
+        ensures position { OnOk result (position_of self.new
+            ≡ with_goal depth (rename_goal base (goal_of goal.now)) (position_of self.old)) }
         ensures goes { OnOk result (GoesFrom (track_of self.old) (track_of self.new)) }
         ensures next { OnOk result (next_of self.new ≡ next_of self.old) }
     {
@@ -62,7 +64,8 @@ impl<'a> Place<'a> {
 
     /// One more choice.
     pub fn push_choice(&mut self, choice: u32) -> Result<(), Memory>
-        ensures position { OnOk result (position_of self.new ≡ with_choice choice (position_of self.old)) }
+        ensures position { OnOk result (position_of self.new
+            ≡ with_choice choice (position_of self.old)) }
         ensures goes { OnOk result (GoesFrom (track_of self.old) (track_of self.new)) }
         ensures next { OnOk result (next_of self.new ≡ next_of self.old) }
     {
@@ -72,7 +75,8 @@ impl<'a> Place<'a> {
 
     /// More variables that were brought.
     pub fn push_vars(&mut self, vars: &[Var]) -> Result<(), Memory>
-        ensures position { OnOk result (position_of self.new ≡ with_vars vars.now (position_of self.old)) }
+        ensures position { OnOk result (position_of self.new
+            ≡ with_vars vars.now (position_of self.old)) }
         ensures goes { OnOk result (GoesFrom (track_of self.old) (track_of self.new)) }
         ensures next { OnOk result (next_of self.new ≡ next_of self.old) }
     {
@@ -84,7 +88,8 @@ impl<'a> Place<'a> {
     /// being `base`.
     pub fn push_locals(&mut self, base: u64, locals: &[Local]) -> Result<(), Memory>
         requires { base + length locals.now < 2 ^ 64 }
-        ensures position { OnOk result (position_of self.new ≡ with_vars (local_vars base (locals_of locals.now)) (position_of self.old)) }
+        ensures position { OnOk result (position_of self.new
+            ≡ with_vars (local_vars base (locals_of locals.now)) (position_of self.old)) }
         ensures goes { OnOk result (GoesFrom (track_of self.old) (track_of self.new)) }
         ensures next { OnOk result (next_of self.new ≡ next_of self.old) }
     {
@@ -93,8 +98,12 @@ impl<'a> Place<'a> {
 
     /// The first goal, which waits no longer.
     pub fn pop_goal(&mut self) -> Option<Frame<'a>>
-        ensures some { IfSome result (λ f. (position_of self.old ≡ record (position_of self.new) { waiting = waiting_of f ∷ (position_of self.new).waiting }) × IsGoalBelow (next_of self.new) (waiting_of f).goal) }
-        ensures none { IfNone result (((position_of self.old).waiting ≡ []) × (position_of self.new ≡ position_of self.old)) }
+        ensures some { IfSome result (λ f. (position_of self.old
+            ≡ record (position_of self.new)
+            { waiting = waiting_of f ∷ (position_of self.new).waiting })
+            × IsGoalBelow (next_of self.new) (waiting_of f).goal) }
+        ensures none { IfNone result (((position_of self.old).waiting ≡ [])
+            × (position_of self.new ≡ position_of self.old)) }
         ensures track { track_of self.new ≡ track_of self.old }
     {
         self.goals.pop()
@@ -119,9 +128,11 @@ impl<'a> Place<'a> {
     /// Goes back to where the search had come. It takes no memory.
     pub fn go_back(&mut self, save: Save)
         requires within { IsWithin save (track_of self.old) }
-        requires waiting { AreWaitingBelow (next_in (back_to save (track_of self.old))) (position_at (back_to save (track_of self.old)) save.first).waiting }
+        requires waiting { AreWaitingBelow (next_in (back_to save (track_of self.old))) (position_at
+            (back_to save (track_of self.old)) save.first).waiting }
         ensures track { track_of self.new ≡ back_to save (track_of self.old) }
-        ensures position { position_of self.new ≡ position_at (back_to save (track_of self.old)) save.first }
+        ensures position { position_of self.new
+            ≡ position_at (back_to save (track_of self.old)) save.first }
         ensures next { next_of self.new ≡ next_in (back_to save (track_of self.old)) }
     {
         self.store.undo_to(save.mark);

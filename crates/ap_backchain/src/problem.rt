@@ -53,7 +53,9 @@ pub fn query_of_problem<'a>(p: &Problem<'a>) -> &'a Query<Term>
 /// is stuck (Cheney and Urban, "Nominal Logic Programming"). The search ends with the last of them.
 pub fn outputs(alloc: Global, p: &Problem<'_>, limit: Limit) -> Result<Vec<Out>, Memory>
     requires { HasQuery p.now }
-    ensures { IfOk result (λ v. (q : NominalQuery) → slice_get (queries_in p.now) (p.now.query - 1) ≡ Some q → outs_of v.items ≡ part limit (query_outs (clauses_in p.now) p.now.depth q)) }
+    ensures { IfOk result (λ v. (q : NominalQuery) →
+        slice_get (queries_in p.now) (p.now.query - 1) ≡ Some q →
+        outs_of v.items ≡ part limit (query_outs (clauses_in p.now) p.now.depth q)) }
 {
     let clauses = clauses_of_problem(p);
     let query = query_of_problem(p);
@@ -68,7 +70,10 @@ pub fn outputs_without_paths(
     limit: Limit,
 ) -> Result<Vec<Out>, Memory>
     requires { HasQuery p.now }
-    ensures { IfOk result (λ v. (q : NominalQuery) → slice_get (queries_in p.now) (p.now.query - 1) ≡ Some q → outs_of v.items ≡ map without_path (part limit (query_outs (clauses_in p.now) p.now.depth q))) }
+    ensures { IfOk result (λ v. (q : NominalQuery) →
+        slice_get (queries_in p.now) (p.now.query - 1) ≡ Some q →
+        outs_of v.items
+        ≡ map without_path (part limit (query_outs (clauses_in p.now) p.now.depth q))) }
 {
     let clauses = clauses_of_problem(p);
     let query = query_of_problem(p);
@@ -83,7 +88,9 @@ pub fn short_outputs(
     limit: Limit,
 ) -> Result<Option<Vec<Out>>, Memory>
     requires { HasQuery p.now }
-    ensures { IfOk result (λ o. IfSome o (λ v. (q : NominalQuery) → slice_get (queries_in p.now) (p.now.query - 1) ≡ Some q → outs_of v.items ≡ part limit (query_outs (clauses_in p.now) p.now.depth q))) }
+    ensures { IfOk result (λ o. IfSome o (λ v. (q : NominalQuery) →
+        slice_get (queries_in p.now) (p.now.query - 1) ≡ Some q →
+        outs_of v.items ≡ part limit (query_outs (clauses_in p.now) p.now.depth q))) }
 {
     let clauses = clauses_of_problem(p);
     let query = query_of_problem(p);

@@ -14,7 +14,8 @@ use std::alloc::Global;
 /// being `base`.
 pub fn add_vars_of_locals(vars: &mut Vec<Var>, base: u64, locals: &[Local]) -> Result<(), Memory>
     requires { base + length locals.now < 2 ^ 64 }
-    ensures { OnOk result (vars.new.items ≡ vars.old.items ++ local_vars base (locals_of locals.now)) }
+    ensures { OnOk result (vars.new.items
+        ≡ vars.old.items ++ local_vars base (locals_of locals.now)) }
 {
     'choosing: for i in 0..locals.len() {
         if is_free_var(&locals[i]) {
@@ -38,7 +39,9 @@ pub fn vars_of_locals(alloc: Global, base: u64, locals: &[Local]) -> Result<Vec<
 
 /// Whether an identifier is a variable that isn't marked as bound.
 fn is_free_var(local: &Local) -> bool
-    ensures { (n : ℕ) (xs : list variable) → var_unless local.now.bound (kind_of local.now.kind) n xs ≡ (if result then (record { num = n } ∷ xs) else xs) }
+    ensures { (n : ℕ) (xs : list variable) →
+        var_unless local.now.bound (kind_of local.now.kind) n xs
+        ≡ (if result then (record { num = n } ∷ xs) else xs) }
 {
     match local.kind {
         Kind::Name(_) => false,

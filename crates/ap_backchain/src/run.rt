@@ -80,8 +80,13 @@ fn turn_on<'a>(
     requires clauses { AreClausesBelow (map (map clause_of) clauses.now) }
     requires locals { length locals.now < 2 ^ 64 }
     requires points { HasPoints place.old points.old }
-    ensures left { IfOk result (λ b. positions_with b place.new points.new ≡ followed (turned (map (map clause_of) clauses.now) (locals_of locals.now) (position_of place.old)) (pending_of place.old points.old)) }
-    ensures outs { OnOk result (outs_of outs.new.items ≡ outs_of outs.old.items ++ map (kept_out paths) (ended (turned (map (map clause_of) clauses.now) (locals_of locals.now) (position_of place.old)))) }
+    ensures left { IfOk result (λ b. positions_with b place.new points.new
+        ≡ followed (turned (map (map clause_of) clauses.now) (locals_of locals.now)
+        (position_of place.old)) (pending_of place.old points.old)) }
+    ensures outs { OnOk result (outs_of outs.new.items
+        ≡ outs_of outs.old.items
+        ++ map (kept_out paths) (ended (turned (map (map clause_of) clauses.now)
+        (locals_of locals.now) (position_of place.old)))) }
     ensures points { OnOk result (HasPoints place.new points.new) }
 {
     match choice_at(clauses, place) {
@@ -113,11 +118,18 @@ pub fn go_on<'a>(
     requires clauses { AreClausesBelow (map (map clause_of) clauses.now) }
     requires locals { length locals.now < 2 ^ 64 }
     requires points { HasPoints place.old points.old }
-    ensures left { IfOk result (λ b. positions_with b place.new points.new ≡ followed (turned (map (map clause_of) clauses.now) (locals_of locals.now) (position_of place.old)) (pending_of place.old points.old)) }
-    ensures outs { OnOk result (outs_of outs.new.items ≡ outs_of outs.old.items ++ map (kept_out paths) (ended (turned (map (map clause_of) clauses.now) (locals_of locals.now) (position_of place.old)))) }
+    ensures left { IfOk result (λ b. positions_with b place.new points.new
+        ≡ followed (turned (map (map clause_of) clauses.now) (locals_of locals.now)
+        (position_of place.old)) (pending_of place.old points.old)) }
+    ensures outs { OnOk result (outs_of outs.new.items
+        ≡ outs_of outs.old.items
+        ++ map (kept_out paths) (ended (turned (map (map clause_of) clauses.now)
+        (locals_of locals.now) (position_of place.old)))) }
     ensures points { OnOk result (HasPoints place.new points.new) }
     ensures none { IfOk result (λ b. b ≡ false → points.new.items ≡ []) }
-    ensures wanted { OnOk result (wanted.new ≡ limits.wanted_after wanted.old (ended (turned (map (map clause_of) clauses.now) (locals_of locals.now) (position_of place.old)))) }
+    ensures wanted { OnOk result (wanted.new
+        ≡ limits.wanted_after wanted.old (ended (turned (map (map clause_of) clauses.now)
+        (locals_of locals.now) (position_of place.old)))) }
 {
     let before = outs.len();
     let goes = turn_on(alloc, clauses, locals, paths, place, points, outs)?;
@@ -141,7 +153,9 @@ pub fn outputs_from<'a>(
 ) -> Result<Vec<Out>, Memory>
     requires clauses { AreClausesBelow (map (map clause_of) clauses.now) }
     requires locals { length locals.now < 2 ^ 64 }
-    ensures { IfOk result (λ v. outs_of v.items ≡ map (kept_out paths) (part limit (outs_from (map (map clause_of) clauses.now) (locals_of locals.now) (position_of first.entry)))) }
+    ensures { IfOk result (λ v. outs_of v.items
+        ≡ map (kept_out paths) (part limit (outs_from (map (map clause_of) clauses.now)
+        (locals_of locals.now) (position_of first.entry)))) }
 {
     let mut outs = Vec::new(alloc);
     let mut points = Vec::new(alloc);
@@ -175,7 +189,9 @@ fn outputs_soon<'a>(
 ) -> Result<Option<Vec<Out>>, Memory>
     requires clauses { AreClausesBelow (map (map clause_of) clauses.now) }
     requires locals { length locals.now < 2 ^ 64 }
-    ensures { IfOk result (λ o. IfSome o (λ v. outs_of v.items ≡ map (kept_out paths) (part limit (outs_from (map (map clause_of) clauses.now) (locals_of locals.now) (position_of first.entry))))) }
+    ensures { IfOk result (λ o. IfSome o (λ v. outs_of v.items
+        ≡ map (kept_out paths) (part limit (outs_from (map (map clause_of) clauses.now)
+        (locals_of locals.now) (position_of first.entry))))) }
 {
     let mut outs = Vec::new(alloc);
     let mut points = Vec::new(alloc);
@@ -212,7 +228,9 @@ pub fn outputs_of_short_query<'a>(
 ) -> Result<Option<Vec<Out>>, Memory>
     requires clauses { AreClausesBelow (map (map clause_of) clauses.now) }
     requires query { IsQueryBelow (query_of query.now) }
-    ensures { IfOk result (λ o. IfSome o (λ v. outs_of v.items ≡ map (kept_out paths) (part limit (outs_from (map (map clause_of) clauses.now) (query_of query.now).locals (first_position depth (query_of query.now)))))) }
+    ensures { IfOk result (λ o. IfSome o (λ v. outs_of v.items
+        ≡ map (kept_out paths) (part limit (outs_from (map (map clause_of) clauses.now)
+        (query_of query.now).locals (first_position depth (query_of query.now)))))) }
 {
     let first = first_place(alloc, depth, query)?;
     outputs_soon(alloc, clauses, query.locals.items(), paths, limit, first)
@@ -230,7 +248,9 @@ pub fn outputs_of_query<'a>(
 ) -> Result<Vec<Out>, Memory>
     requires clauses { AreClausesBelow (map (map clause_of) clauses.now) }
     requires query { IsQueryBelow (query_of query.now) }
-    ensures { IfOk result (λ v. outs_of v.items ≡ map (kept_out paths) (part limit (outs_from (map (map clause_of) clauses.now) (query_of query.now).locals (first_position depth (query_of query.now))))) }
+    ensures { IfOk result (λ v. outs_of v.items
+        ≡ map (kept_out paths) (part limit (outs_from (map (map clause_of) clauses.now)
+        (query_of query.now).locals (first_position depth (query_of query.now))))) }
 {
     let first = first_place(alloc, depth, query)?;
     outputs_from(alloc, clauses, query.locals.items(), paths, limit, first)

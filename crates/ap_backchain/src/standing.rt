@@ -63,7 +63,10 @@ pub fn advance<'a>(
 ) -> Result<Standing<'a>, Memory>
     requires clauses { AreClausesBelow (map (map clause_of) clauses.now) }
     requires locals { length locals.now < 2 ^ 64 }
-    ensures marks { IfOk result (λ s. marks_of_standing (map (map clause_of) clauses.now) (locals_of locals.now) s ≡ marks_from (map (map clause_of) clauses.now) (locals_of locals.now) (position_of place.entry)) }
+    ensures marks { IfOk result (λ s. marks_of_standing (map (map clause_of) clauses.now)
+        (locals_of locals.now) s
+        ≡ marks_from (map (map clause_of) clauses.now) (locals_of locals.now)
+        (position_of place.entry)) }
     ensures path { IfOk result (λ s. path_of_standing s ≡ place.entry.path.items) }
     ensures choosing { IfOk result (λ s. IsChoosing (map (map clause_of) clauses.now) s) }
 {

@@ -26,7 +26,8 @@ use std::alloc::Global;
 
 /// The search failed after one more choice.
 fn failed_after<'a>(path: Vec<u32>, choice: u32) -> Result<Standing<'a>, Memory>
-    ensures marks { IfOk result (λ s. (program : Clauses) (locals : list NominalLocal) → marks_of_standing program locals s ≡ []) }
+    ensures marks { IfOk result (λ s. (program : Clauses) (locals : list NominalLocal) →
+        marks_of_standing program locals s ≡ []) }
     ensures path { IfOk result (λ s. path_of_standing s ≡ path.items ++ choice ∷ []) }
     ensures choosing { IfOk result (λ s. (program : Clauses) → IsChoosing program s) }
 {
@@ -53,7 +54,12 @@ fn choose_clause<'a>(
     requires depth { 1 ≤ frame.depth }
     requires low { 1 ≤ choice }
     requires high { choice ≤ length candidates.now }
-    ensures marks { IfOk result (λ s. marks_of_standing (map (map clause_of) clauses.now) (locals_of locals.now) s ≡ beginning mark_path (place.entry.path.items ++ choice ∷ []) (clauses_marks (map (map clause_of) clauses.now) (locals_of locals.now) (frame.entry.depth - 1) (map (renamed frame.entry.base) (map term_of args.now)) (map clause_of candidates.now) (position_of place.entry))) }
+    ensures marks { IfOk result (λ s. marks_of_standing (map (map clause_of) clauses.now)
+        (locals_of locals.now) s
+        ≡ beginning mark_path (place.entry.path.items ++ choice ∷ []) (clauses_marks
+        (map (map clause_of) clauses.now) (locals_of locals.now) (frame.entry.depth - 1) (map
+        (renamed frame.entry.base) (map term_of args.now)) (map clause_of candidates.now)
+        (position_of place.entry))) }
     ensures path { IfOk result (λ s. path_of_standing s ≡ place.entry.path.items ++ choice ∷ []) }
     ensures choosing { IfOk result (λ s. IsChoosing (map (map clause_of) clauses.now) s) }
 {
@@ -89,7 +95,11 @@ fn choose_side<'a>(
     requires clauses { AreClausesBelow (map (map clause_of) clauses.now) }
     requires locals { length locals.now < 2 ^ 64 }
     requires below { IsGoalBelow (next_of place) (rename_goal frame.base (goal_of side.now)) }
-    ensures marks { IfOk result (λ s. marks_of_standing (map (map clause_of) clauses.now) (locals_of locals.now) s ≡ marks_from (map (map clause_of) clauses.now) (locals_of locals.now) (with_goal frame.entry.depth (rename_goal frame.entry.base (goal_of side.now)) (with_choice choice (position_of place.entry)))) }
+    ensures marks { IfOk result (λ s. marks_of_standing (map (map clause_of) clauses.now)
+        (locals_of locals.now) s
+        ≡ marks_from (map (map clause_of) clauses.now) (locals_of locals.now) (with_goal
+        frame.entry.depth (rename_goal frame.entry.base (goal_of side.now)) (with_choice choice
+        (position_of place.entry)))) }
     ensures path { IfOk result (λ s. path_of_standing s ≡ place.entry.path.items ++ choice ∷ []) }
     ensures choosing { IfOk result (λ s. IsChoosing (map (map clause_of) clauses.now) s) }
 {
@@ -112,8 +122,13 @@ fn choose_by<'a>(
     requires clauses { AreClausesBelow (map (map clause_of) clauses.now) }
     requires locals { length locals.now < 2 ^ 64 }
     requires goal { IsGoalBelow (next_of place) (rename_goal frame.base (goal_of frame.goal.now)) }
-    requires choice { IsAmong choice (choice_of_goal (map (map clause_of) clauses.now) frame.depth (rename_goal frame.base (goal_of frame.goal.now))) }
-    ensures marks { IfOk result (λ s. marks_of_standing (map (map clause_of) clauses.now) (locals_of locals.now) s ≡ beginning mark_path (place.entry.path.items ++ choice ∷ []) (goal_marks (map (map clause_of) clauses.now) (locals_of locals.now) frame.entry.depth (rename_goal frame.entry.base (goal_of frame.entry.goal.now)) (position_of place.entry))) }
+    requires choice { IsAmong choice (choice_of_goal (map (map clause_of) clauses.now) frame.depth
+        (rename_goal frame.base (goal_of frame.goal.now))) }
+    ensures marks { IfOk result (λ s. marks_of_standing (map (map clause_of) clauses.now)
+        (locals_of locals.now) s
+        ≡ beginning mark_path (place.entry.path.items ++ choice ∷ []) (goal_marks
+        (map (map clause_of) clauses.now) (locals_of locals.now) frame.entry.depth (rename_goal
+        frame.entry.base (goal_of frame.entry.goal.now)) (position_of place.entry))) }
     ensures path { IfOk result (λ s. path_of_standing s ≡ place.entry.path.items ++ choice ∷ []) }
     ensures choosing { IfOk result (λ s. IsChoosing (map (map clause_of) clauses.now) s) }
 {
@@ -159,8 +174,12 @@ pub fn choose<'a>(
     requires locals { length locals.now < 2 ^ 64 }
     requires choosing { IsChoosing (map (map clause_of) clauses.now) standing }
     requires choice { IsChoiceAt choice standing }
-    ensures marks { IfOk result (λ s. marks_of_standing (map (map clause_of) clauses.now) (locals_of locals.now) s ≡ beginning mark_path (path_of_standing standing.entry ++ choice ∷ []) (marks_of_standing (map (map clause_of) clauses.now) (locals_of locals.now) standing.entry)) }
-    ensures path { IfOk result (λ s. path_of_standing s ≡ path_of_standing standing.entry ++ choice ∷ []) }
+    ensures marks { IfOk result (λ s. marks_of_standing (map (map clause_of) clauses.now)
+        (locals_of locals.now) s
+        ≡ beginning mark_path (path_of_standing standing.entry ++ choice ∷ []) (marks_of_standing
+        (map (map clause_of) clauses.now) (locals_of locals.now) standing.entry)) }
+    ensures path { IfOk result (λ s. path_of_standing s
+        ≡ path_of_standing standing.entry ++ choice ∷ []) }
     ensures choosing { IfOk result (λ s. IsChoosing (map (map clause_of) clauses.now) s) }
 {
     match standing {

@@ -55,7 +55,9 @@ fn turn_of_equation<'a>(
 ) -> Result<Turn, Memory>
     requires left { IsBelow (next_of place.old) (renamed base (term_of t.now)) }
     requires right { IsBelow (next_of place.old) (renamed base (term_of u.now)) }
-    ensures turned { IfOk result (λ r. turned_of r (position_of place.new) ≡ turned_goal [] 0 (equal (renamed base (term_of t.now)) (renamed base (term_of u.now))) (position_of place.old)) }
+    ensures turned { IfOk result (λ r. turned_of r (position_of place.new)
+        ≡ turned_goal [] 0 (equal (renamed base (term_of t.now)) (renamed base (term_of u.now)))
+        (position_of place.old)) }
     ensures goes { OnOk result (GoesFrom (track_of place.old) (track_of place.new)) }
 {
     let end = place.store.next();
@@ -83,7 +85,9 @@ fn turn_of_fresh<'a>(
 ) -> Result<Turn, Memory>
     requires left { IsBelow (next_of place.old) (renamed base (term_of t.now)) }
     requires right { IsBelow (next_of place.old) (renamed base (term_of u.now)) }
-    ensures turned { IfOk result (λ r. turned_of r (position_of place.new) ≡ turned_goal [] 0 (fresh (renamed base (term_of t.now)) (renamed base (term_of u.now))) (position_of place.old)) }
+    ensures turned { IfOk result (λ r. turned_of r (position_of place.new)
+        ≡ turned_goal [] 0 (fresh (renamed base (term_of t.now)) (renamed base (term_of u.now)))
+        (position_of place.old)) }
     ensures goes { OnOk result (GoesFrom (track_of place.old) (track_of place.new)) }
 {
     let end = place.store.next();
@@ -108,8 +112,11 @@ fn turn_of_new<'a>(
     a: Name,
     goal: &'a Goal<Term>,
 ) -> Result<Turn, Memory>
-    requires { IsGoalBelow (next_of place.old) (new (rename_name base a) (rename_goal base (goal_of goal.now))) }
-    ensures turned { IfOk result (λ r. turned_of r (position_of place.new) ≡ turned_goal [] depth (new (rename_name base a) (rename_goal base (goal_of goal.now))) (position_of place.old)) }
+    requires { IsGoalBelow (next_of place.old) (new (rename_name base a)
+        (rename_goal base (goal_of goal.now))) }
+    ensures turned { IfOk result (λ r. turned_of r (position_of place.new)
+        ≡ turned_goal [] depth (new (rename_name base a) (rename_goal base (goal_of goal.now)))
+        (position_of place.old)) }
     ensures goes { OnOk result (GoesFrom (track_of place.old) (track_of place.new)) }
 {
     let vars = free_vars_of(alloc, base, goal)?;
@@ -130,8 +137,11 @@ fn turn_of_exists<'a>(
     x: Var,
     goal: &'a Goal<Term>,
 ) -> Result<Turn, Memory>
-    requires { IsGoalBelow (next_of place.old) (exists (rename_var base x) (rename_goal base (goal_of goal.now))) }
-    ensures turned { IfOk result (λ r. turned_of r (position_of place.new) ≡ turned_goal [] depth (exists (rename_var base x) (rename_goal base (goal_of goal.now))) (position_of place.old)) }
+    requires { IsGoalBelow (next_of place.old) (exists (rename_var base x)
+        (rename_goal base (goal_of goal.now))) }
+    ensures turned { IfOk result (λ r. turned_of r (position_of place.new)
+        ≡ turned_goal [] depth (exists (rename_var base x) (rename_goal base (goal_of goal.now)))
+        (position_of place.old)) }
     ensures goes { OnOk result (GoesFrom (track_of place.old) (track_of place.new)) }
 {
     let brought = [Var { num: base + x.num }];
@@ -150,7 +160,9 @@ fn turn_of_both<'a>(
 ) -> Result<Turn, Memory>
     requires left { IsGoalBelow (next_of place.old) (rename_goal base (goal_of left.now)) }
     requires right { IsGoalBelow (next_of place.old) (rename_goal base (goal_of right.now)) }
-    ensures turned { IfOk result (λ r. turned_of r (position_of place.new) ≡ turned_goal [] depth (both (rename_goal base (goal_of left.now)) (rename_goal base (goal_of right.now))) (position_of place.old)) }
+    ensures turned { IfOk result (λ r. turned_of r (position_of place.new)
+        ≡ turned_goal [] depth (both (rename_goal base (goal_of left.now))
+        (rename_goal base (goal_of right.now))) (position_of place.old)) }
     ensures goes { OnOk result (GoesFrom (track_of place.old) (track_of place.new)) }
 {
     place.push_goal(right, base, depth)?;
@@ -165,9 +177,13 @@ pub fn turn_of_goal<'a>(
     frame: Frame<'a>,
     place: &mut Place<'a>,
 ) -> Result<Turn, Memory>
-    requires goal { IsGoalBelow (next_of place.old) (rename_goal frame.base (goal_of frame.goal.now)) }
-    requires settled { choice_of_goal (map (map clause_of) clauses.now) frame.depth (rename_goal frame.base (goal_of frame.goal.now)) ≡ None }
-    ensures turned { IfOk result (λ r. turned_of r (position_of place.new) ≡ turned_goal (map (map clause_of) clauses.now) frame.entry.depth (rename_goal frame.entry.base (goal_of frame.entry.goal.now)) (position_of place.old)) }
+    requires goal { IsGoalBelow (next_of place.old) (rename_goal frame.base
+        (goal_of frame.goal.now)) }
+    requires settled { choice_of_goal (map (map clause_of) clauses.now) frame.depth (rename_goal
+        frame.base (goal_of frame.goal.now)) ≡ None }
+    ensures turned { IfOk result (λ r. turned_of r (position_of place.new)
+        ≡ turned_goal (map (map clause_of) clauses.now) frame.entry.depth (rename_goal
+        frame.entry.base (goal_of frame.entry.goal.now)) (position_of place.old)) }
     ensures goes { OnOk result (GoesFrom (track_of place.old) (track_of place.new)) }
 {
     let Frame { goal, base, depth } = frame;
@@ -189,7 +205,9 @@ pub fn turn_of_goal<'a>(
 /// The end at a place in which no goal waits.
 fn found<'a>(alloc: Global, locals: &[Local], place: &Place<'a>) -> Result<End, Memory>
     requires { length locals.now < 2 ^ 64 }
-    ensures { IfOk result (λ e. end_out place.now.path.items e ≡ found_at place.now.path.items (answer_by_unbound (locals_of locals.now) (position_of place.now).state place.now.brought.items)) }
+    ensures { IfOk result (λ e. end_out place.now.path.items e
+        ≡ found_at place.now.path.items (answer_by_unbound (locals_of locals.now)
+        (position_of place.now).state place.now.brought.items)) }
 {
     let answer = answer_in(alloc, locals, &place.store, &place.brought)?;
     Ok(End::Found(answer))
@@ -203,9 +221,11 @@ pub fn take_turn<'a>(
     locals: &[Local],
     place: &mut Place<'a>,
 ) -> Result<Turn, Memory>
-    requires settled { choice_of (map (map clause_of) clauses.now) (position_of place.old).waiting ≡ None }
+    requires settled { choice_of (map (map clause_of) clauses.now) (position_of place.old).waiting
+        ≡ None }
     requires locals { length locals.now < 2 ^ 64 }
-    ensures turned { IfOk result (λ r. turned_of r (position_of place.new) ≡ turned (map (map clause_of) clauses.now) (locals_of locals.now) (position_of place.old)) }
+    ensures turned { IfOk result (λ r. turned_of r (position_of place.new)
+        ≡ turned (map (map clause_of) clauses.now) (locals_of locals.now) (position_of place.old)) }
     ensures goes { OnOk result (GoesFrom (track_of place.old) (track_of place.new)) }
 {
     match place.pop_goal() {

@@ -37,7 +37,8 @@ fn add_vars_of(vars: &mut Vec<Var>, t: &Term) -> Result<(), Memory>
 
 /// Adds the variables of terms after others.
 pub fn add_vars_of_terms(vars: &mut Vec<Var>, terms: &[Term]) -> Result<(), Memory>
-    ensures { OnOk result (vars.new.items ≡ vars.old.items ++ vars_of_terms (map term_of terms.now)) }
+    ensures { OnOk result (vars.new.items
+        ≡ vars.old.items ++ vars_of_terms (map term_of terms.now)) }
 {
     'adding: for t in terms {
         add_vars_of(vars, t)?;
@@ -79,7 +80,8 @@ pub fn without(alloc: Global, x: Var, vars: &[Var]) -> Result<Vec<Var>, Memory>
 /// The variables of a term whose numbers are raised, as they are read, after others.
 pub fn push_vars_of(vars: &mut Vec<Var>, base: u64, t: &Term) -> Result<(), Memory>
     requires { IsBelow (2 ^ 64) (renamed base (term_of t.now)) }
-    ensures { OnOk result (vars.new.items ≡ vars.old.items ++ vars_then (renamed base (term_of t.now)) []) }
+    ensures { OnOk result (vars.new.items
+        ≡ vars.old.items ++ vars_then (renamed base (term_of t.now)) []) }
 {
     let mut rest = t;
     loop {
@@ -102,7 +104,8 @@ pub fn push_vars_of(vars: &mut Vec<Var>, base: u64, t: &Term) -> Result<(), Memo
 /// The variables of terms whose numbers are raised, as they are read, after others.
 pub fn push_vars_of_terms(vars: &mut Vec<Var>, base: u64, terms: &[Term]) -> Result<(), Memory>
     requires { AreBelow (2 ^ 64) (map (renamed base) (map term_of terms.now)) }
-    ensures { OnOk result (vars.new.items ≡ vars.old.items ++ vars_of_terms (map (renamed base) (map term_of terms.now))) }
+    ensures { OnOk result (vars.new.items
+        ≡ vars.old.items ++ vars_of_terms (map (renamed base) (map term_of terms.now))) }
 {
     'reading: for t in terms {
         push_vars_of(vars, base, t)?;

@@ -29,8 +29,13 @@ fn keep_rest<'a>(
     untried: Untried<'a>,
     tried: usize,
 ) -> Result<(), Memory>
-    ensures kept { OnOk result (tried < length untried.entry.clauses.now → points.new.items ≡ points.old.items ++ record { save = save; rest = Rest.Clauses (record untried.entry { tried = tried }) } ∷ []) }
-    ensures none { OnOk result (length untried.entry.clauses.now ≤ tried → points.new.items ≡ points.old.items) }
+    ensures kept { OnOk result (tried < length untried.entry.clauses.now →
+        points.new.items
+        ≡ points.old.items
+        ++ record { save = save; rest = Rest.Clauses (record untried.entry { tried = tried }) }
+        ∷ []) }
+    ensures none { OnOk result (length untried.entry.clauses.now ≤ tried →
+        points.new.items ≡ points.old.items) }
 {
     if tried < untried.clauses.clauses().len() {
         let rest = Rest::Clauses(Untried { tried, ..untried });
@@ -49,7 +54,9 @@ fn try_clauses<'a>(
 ) -> Result<bool, Memory>
     requires rest { IsFitRest (next_of place.old) (Rest.Clauses untried) }
     requires points { HasPoints place.old points.old }
-    ensures left { IfOk result (λ b. positions_with b place.new points.new ≡ positions_left (Rest.Clauses untried.entry) (position_of place.old) ++ pending_of place.old points.old) }
+    ensures left { IfOk result (λ b. positions_with b place.new points.new
+        ≡ positions_left (Rest.Clauses untried.entry) (position_of place.old)
+        ++ pending_of place.old points.old) }
     ensures points { OnOk result (HasPoints place.new points.new) }
     ensures none { IfOk result (λ b. b ≡ false → points.new.items ≡ points.old.items) }
 {
@@ -87,7 +94,10 @@ fn take_left<'a>(
     requires left { IsGoalBelow (next_of place.old) (rename_goal frame.base (goal_of left.now)) }
     requires right { IsGoalBelow (next_of place.old) (rename_goal frame.base (goal_of right.now)) }
     requires points { HasPoints place.old points.old }
-    ensures left { OnOk result (positions_with true place.new points.new ≡ followed (turned_goal [] frame.entry.depth (either (rename_goal frame.entry.base (goal_of left.now)) (rename_goal frame.entry.base (goal_of right.now))) (position_of place.old)) (pending_of place.old points.old)) }
+    ensures left { OnOk result (positions_with true place.new points.new
+        ≡ followed (turned_goal [] frame.entry.depth (either (rename_goal frame.entry.base
+        (goal_of left.now)) (rename_goal frame.entry.base (goal_of right.now)))
+        (position_of place.old)) (pending_of place.old points.old)) }
     ensures points { OnOk result (HasPoints place.new points.new) }
 {
     let save = place.save();
@@ -111,10 +121,16 @@ fn choose_by<'a>(
     points: &mut Vec<Point<'a>>,
 ) -> Result<bool, Memory>
     requires clauses { AreClausesBelow (map (map clause_of) clauses.now) }
-    requires goal { IsGoalBelow (next_of place.old) (rename_goal frame.base (goal_of frame.goal.now)) }
-    requires choosing { (w : ℕ) × (choice_of_goal (map (map clause_of) clauses.now) frame.depth (rename_goal frame.base (goal_of frame.goal.now)) ≡ Some w) }
+    requires goal { IsGoalBelow (next_of place.old) (rename_goal frame.base
+        (goal_of frame.goal.now)) }
+    requires choosing { (w : ℕ)
+        × (choice_of_goal (map (map clause_of) clauses.now) frame.depth (rename_goal frame.base
+        (goal_of frame.goal.now)) ≡ Some w) }
     requires points { HasPoints place.old points.old }
-    ensures left { IfOk result (λ b. positions_with b place.new points.new ≡ followed (turned_goal (map (map clause_of) clauses.now) frame.entry.depth (rename_goal frame.entry.base (goal_of frame.entry.goal.now)) (position_of place.old)) (pending_of place.old points.old)) }
+    ensures left { IfOk result (λ b. positions_with b place.new points.new
+        ≡ followed (turned_goal (map (map clause_of) clauses.now) frame.entry.depth (rename_goal
+        frame.entry.base (goal_of frame.entry.goal.now)) (position_of place.old))
+        (pending_of place.old points.old)) }
     ensures points { OnOk result (HasPoints place.new points.new) }
 {
     match frame.goal {
@@ -153,9 +169,13 @@ pub fn choose<'a>(
     points: &mut Vec<Point<'a>>,
 ) -> Result<bool, Memory>
     requires clauses { AreClausesBelow (map (map clause_of) clauses.now) }
-    requires choosing { (w : ℕ) × (choice_of (map (map clause_of) clauses.now) (position_of place.old).waiting ≡ Some w) }
+    requires choosing { (w : ℕ)
+        × (choice_of (map (map clause_of) clauses.now) (position_of place.old).waiting ≡ Some w) }
     requires points { HasPoints place.old points.old }
-    ensures left { IfOk result (λ b. (locals : list NominalLocal) → positions_with b place.new points.new ≡ followed (turned (map (map clause_of) clauses.now) locals (position_of place.old)) (pending_of place.old points.old)) }
+    ensures left { IfOk result (λ b. (locals : list NominalLocal) →
+        positions_with b place.new points.new
+        ≡ followed (turned (map (map clause_of) clauses.now) locals (position_of place.old))
+        (pending_of place.old points.old)) }
     ensures points { OnOk result (HasPoints place.new points.new) }
 {
     match place.pop_goal() {
@@ -174,7 +194,8 @@ fn go_on_by<'a>(
 ) -> Result<bool, Memory>
     requires rest { IsFitRest (next_of place.old) rest }
     requires points { HasPoints place.old points.old }
-    ensures left { IfOk result (λ b. positions_with b place.new points.new ≡ positions_left rest.entry (position_of place.old) ++ pending_of place.old points.old) }
+    ensures left { IfOk result (λ b. positions_with b place.new points.new
+        ≡ positions_left rest.entry (position_of place.old) ++ pending_of place.old points.old) }
     ensures points { OnOk result (HasPoints place.new points.new) }
     ensures none { IfOk result (λ b. b ≡ false → points.new.items ≡ points.old.items) }
 {
@@ -196,7 +217,8 @@ pub fn resume<'a>(
     points: &mut Vec<Point<'a>>,
 ) -> Result<bool, Memory>
     requires points { HasPoints place.old points.old }
-    ensures left { IfOk result (λ b. positions_with b place.new points.new ≡ pending_of place.old points.old) }
+    ensures left { IfOk result (λ b. positions_with b place.new points.new
+        ≡ pending_of place.old points.old) }
     ensures points { OnOk result (HasPoints place.new points.new) }
     ensures none { IfOk result (λ b. b ≡ false → points.new.items ≡ []) }
 {

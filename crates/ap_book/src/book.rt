@@ -92,7 +92,8 @@ impl Book {
     ) -> Result<(), BookError>
         requires ready { IfOk kids (λ k. AreKidsOf path.now k.choices.items k) }
         requires ascends { IfOk kids (λ k. Ascends 1 k.choices.items) }
-        ensures { (ks : list ℕ) → IfOk kids (λ k. k.choices.items ≡ ks) → Enters self.old path.now (Split seat path.now ks) result self.new }
+        ensures { (ks : list ℕ) → IfOk kids (λ k. k.choices.items ≡ ks) →
+            Enters self.old path.now (Split seat path.now ks) result self.new }
     {
         if !has(&self.opened, path) {
             return Err(BookError::NotOpen);
@@ -120,7 +121,8 @@ impl Book {
     /// `NotOpen` comes exactly where the path is not open. After an error the book is unchanged,
     /// and the outputs come back.
     pub fn done(&mut self, seat: u32, path: &Path, outs: Vec<Out>) -> Result<(), DoneError>
-        ensures { EntersDone self.old path.now outs.items (Done seat path.now outs.items) result self.new }
+        ensures { EntersDone self.old path.now outs.items (Done seat path.now outs.items) result
+            self.new }
     {
         let outs = List::of(outs);
         if !has(&self.opened, path) {
@@ -173,7 +175,8 @@ impl Book {
 
     /// Adds a Stop, unless one stands. It takes no memory.
     pub fn stop(&mut self, seat: u32)
-        ensures { self.new ≡ (if has_stop (entries_of self.old) then self.old else self.old ++ Stop seat ∷ []) }
+        ensures { self.new
+            ≡ (if has_stop (entries_of self.old) then self.old else self.old ++ Stop seat ∷ []) }
     {
         if !self.stopped {
             self.history.push_reserved(Entry::Stop { seat });

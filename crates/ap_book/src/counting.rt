@@ -77,7 +77,8 @@ impl Answered {
     /// where there are more.
     pub fn before(&self, path: &Path, history: &[Entry]) -> u64
         requires { IsTallied history.now self.now.places.items self.now.seen }
-        ensures { result ≡ min (said.answers_before path.now (entries_of history.now)) (2 ^ 64 - 1) }
+        ensures { result
+            ≡ min (said.answers_before path.now (entries_of history.now)) (2 ^ 64 - 1) }
     {
         let mut count = self.at_places(path, history);
         for i in self.seen..history.len() {
@@ -153,7 +154,8 @@ fn answers_of(path: &Path, entry: &Entry) -> u64
 
 /// How many are wanted, where so many are there.
 pub fn reached(limit: Limit, found: u64) -> Option<u64>
-    ensures { MatchOption result (IsWanting limit found) (λ w. (limit ≡ limits.First w) × (w ≤ found)) }
+    ensures { MatchOption result (IsWanting limit found) (λ w. (limit ≡ limits.First w)
+        × (w ≤ found)) }
 {
     match limit {
         Limit::All => None,

@@ -40,7 +40,8 @@ pub fn make_room(opened: &mut HashSet<Vec<u32>>, more: usize) -> Result<(), Memo
 pub fn take_out(opened: &mut HashSet<Vec<u32>>, path: &Path) -> Vec<u32>
     requires { is_open path.now (paths_of opened.old.keys) ≡ true }
     ensures path { result.items ≡ path.now }
-    ensures taken { (h : list ℕ → ℕ) → weigh h (paths_of opened.new.keys) + h path.now ≡ weigh h (paths_of opened.old.keys) }
+    ensures taken { (h : list ℕ → ℕ) →
+        weigh h (paths_of opened.new.keys) + h path.now ≡ weigh h (paths_of opened.old.keys) }
     ensures room { spare opened.old ≤ spare opened.new }
 {
     let Some(taken) = opened.take(path.choices()) else {
@@ -53,9 +54,13 @@ pub fn take_out(opened: &mut HashSet<Vec<u32>>, path: &Path) -> Vec<u32>
 pub fn replace(opened: &mut HashSet<Vec<u32>>, path: &Path, kids: Vec<Vec<u32>>) -> Vec<u32>
     requires there { is_open path.now (paths_of opened.old.keys) ≡ true }
     requires room { vec_len kids ≤ spare opened.old }
-    requires once { (q : list ℕ) → times_in (paths_of kids.items) q + times_in (paths_of opened.old.keys) q ≤ 1 + is_it q path.now }
+    requires once { (q : list ℕ) →
+        times_in (paths_of kids.items) q + times_in (paths_of opened.old.keys) q
+        ≤ 1 + is_it q path.now }
     ensures path { result.items ≡ path.now }
-    ensures replaced { (h : list ℕ → ℕ) → weigh h (paths_of opened.new.keys) + h path.now ≡ weigh h (paths_of opened.old.keys) + weigh h (paths_of kids.items) }
+    ensures replaced { (h : list ℕ → ℕ) →
+        weigh h (paths_of opened.new.keys) + h path.now
+        ≡ weigh h (paths_of opened.old.keys) + weigh h (paths_of kids.items) }
 {
     let taken = take_out(opened, path);
     add_all(opened, kids);
@@ -65,8 +70,11 @@ pub fn replace(opened: &mut HashSet<Vec<u32>>, path: &Path, kids: Vec<Vec<u32>>)
 /// Adds paths that are not there, for which there is room.
 fn add_all(opened: &mut HashSet<Vec<u32>>, mut paths: Vec<Vec<u32>>)
     requires room { vec_len paths ≤ spare opened.old }
-    requires once { (q : list ℕ) → times_in (paths_of paths.items) q + times_in (paths_of opened.old.keys) q ≤ 1 }
-    ensures { (h : list ℕ → ℕ) → weigh h (paths_of opened.new.keys) ≡ weigh h (paths_of opened.old.keys) + weigh h (paths_of paths.items) }
+    requires once { (q : list ℕ) →
+        times_in (paths_of paths.items) q + times_in (paths_of opened.old.keys) q ≤ 1 }
+    ensures { (h : list ℕ → ℕ) →
+        weigh h (paths_of opened.new.keys)
+        ≡ weigh h (paths_of opened.old.keys) + weigh h (paths_of paths.items) }
 {
     while let Some(path) = paths.pop() {
         let _added = opened.insert(path);

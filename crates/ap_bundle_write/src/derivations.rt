@@ -38,7 +38,8 @@ fn write_shared_term<'a>(
 ) -> Result<(), Memory>
     requires { IsTable table.old }
     ensures table { OnOk result (IsTable table.new) }
-    ensures text { OnOk result (Writes Version.Two (held table.old) (held table.new) out.old.items out.new.items (term_of term.now ∷ []) (λ way. way (term_of term.now))) }
+    ensures text { OnOk result (Writes Version.Two (held table.old) (held table.new) out.old.items
+        out.new.items (term_of term.now ∷ []) (λ way. way (term_of term.now))) }
 {
     let line = table.enter(alloc, term)?;
     write_count(alloc, out, Head::R, line)
@@ -54,7 +55,8 @@ fn write_term<'a>(
 ) -> Result<(), Memory>
     requires { IsTable table.old }
     ensures table { OnOk result (IsTable table.new) }
-    ensures text { OnOk result (Writes version (held table.old) (held table.new) out.old.items out.new.items (term_of term.now ∷ []) (λ way. way (term_of term.now))) }
+    ensures text { OnOk result (Writes version (held table.old) (held table.new) out.old.items
+        out.new.items (term_of term.now ∷ []) (λ way. way (term_of term.now))) }
 {
     match version {
         Version::One => write_full_term(alloc, out, term),
@@ -72,7 +74,8 @@ pub(crate) fn write_terms<'a>(
 ) -> Result<(), Memory>
     requires { IsTable table.old }
     ensures table { OnOk result (IsTable table.new) }
-    ensures text { OnOk result (Writes version (held table.old) (held table.new) out.old.items out.new.items (map term_of terms.now) (λ way. flat_map way (map term_of terms.now))) }
+    ensures text { OnOk result (Writes version (held table.old) (held table.new) out.old.items
+        out.new.items (map term_of terms.now) (λ way. flat_map way (map term_of terms.now))) }
 {
     for term in terms {
         write_term(alloc, out, version, table, term)?;
@@ -114,7 +117,10 @@ fn write_atom_line(
     names: usize,
     terms: usize,
 ) -> Result<(), Memory>
-    ensures { OnOk result (out.new.items ≡ out.old.items ++ node_line NodeWord.Atom (Word.Number clause ∷ Word.Number names ∷ Word.Number terms ∷ [])) }
+    ensures { OnOk result (out.new.items
+        ≡ out.old.items
+        ++ node_line NodeWord.Atom (Word.Number clause ∷ Word.Number names ∷ Word.Number terms
+        ∷ [])) }
 {
     let line = [
         Word::Node(NodeWord::Atom),
@@ -137,7 +143,9 @@ fn write_atom<'a>(
 ) -> Result<(), Memory>
     requires { IsTable table.old }
     ensures table { OnOk result (IsTable table.new) }
-    ensures text { OnOk result (Writes version (held table.old) (held table.new) out.old.items out.new.items (map term_of terms.now) (λ way. node_lines way (nodes.atom clause names.now (map term_of terms.now)))) }
+    ensures text { OnOk result (Writes version (held table.old) (held table.new) out.old.items
+        out.new.items (map term_of terms.now) (λ way. node_lines way (nodes.atom clause names.now
+        (map term_of terms.now)))) }
 {
     write_atom_line(alloc, out, clause, names.len(), terms.len())?;
     write_names(alloc, out, names)?;
@@ -154,7 +162,9 @@ fn write_exists<'a>(
 ) -> Result<(), Memory>
     requires { IsTable table.old }
     ensures table { OnOk result (IsTable table.new) }
-    ensures text { OnOk result (Writes version (held table.old) (held table.new) out.old.items out.new.items (term_of term.now ∷ []) (λ way. node_lines way (nodes.exists (term_of term.now)))) }
+    ensures text { OnOk result (Writes version (held table.old) (held table.new) out.old.items
+        out.new.items (term_of term.now ∷ []) (λ way. node_lines way
+        (nodes.exists (term_of term.now)))) }
 {
     write_node(alloc, out, NodeWord::Exists)?;
     write_term(alloc, out, version, table, term)
@@ -162,7 +172,8 @@ fn write_exists<'a>(
 
 /// Writes the line of a `new`.
 fn write_new(alloc: Global, out: &mut Vec<u8>, name: Name) -> Result<(), Memory>
-    ensures { OnOk result (out.new.items ≡ out.old.items ++ node_line NodeWord.New (name_words name)) }
+    ensures { OnOk result (out.new.items
+        ≡ out.old.items ++ node_line NodeWord.New (name_words name)) }
 {
     let mut words = Vec::new(alloc);
     words.push(Word::Node(NodeWord::New))?;
@@ -180,7 +191,9 @@ fn write_first<'a>(
 ) -> Result<(), Memory>
     requires { IsTable table.old }
     ensures table { OnOk result (IsTable table.new) }
-    ensures text { OnOk result (Writes version (held table.old) (held table.new) out.old.items out.new.items (node_terms (first_node (derivation_of derivation.now))) (λ way. node_lines way (first_node (derivation_of derivation.now)))) }
+    ensures text { OnOk result (Writes version (held table.old) (held table.new) out.old.items
+        out.new.items (node_terms (first_node (derivation_of derivation.now))) (λ way. node_lines
+        way (first_node (derivation_of derivation.now)))) }
 {
     match derivation {
         Derivation::Atom(used, _) => {
@@ -203,7 +216,8 @@ fn push_children<'a>(
     pending: &mut Vec<&'a Derivation>,
     derivation: &'a Derivation,
 ) -> Result<(), Memory>
-    ensures { OnOk result (seen derivation_of pending.new.items ≡ seen derivation_of pending.old.items ++ children_back (derivation_of derivation.now)) }
+    ensures { OnOk result (seen derivation_of pending.new.items
+        ≡ seen derivation_of pending.old.items ++ children_back (derivation_of derivation.now)) }
 {
     match derivation {
         Derivation::Eq | Derivation::Fresh | Derivation::True => {}
@@ -230,7 +244,9 @@ pub(crate) fn write_derivation<'a>(
 ) -> Result<(), Memory>
     requires { IsTable table.old }
     ensures table { OnOk result (IsTable table.new) }
-    ensures text { OnOk result (Writes version (held table.old) (held table.new) out.old.items out.new.items (terms_in (derivation_of derivation.now)) (λ way. flat_map (node_lines way) (preorder (derivation_of derivation.now)))) }
+    ensures text { OnOk result (Writes version (held table.old) (held table.new) out.old.items
+        out.new.items (terms_in (derivation_of derivation.now)) (λ way. flat_map (node_lines way)
+        (preorder (derivation_of derivation.now)))) }
 {
     let mut pending = Vec::new(alloc);
     pending.push(derivation)?;

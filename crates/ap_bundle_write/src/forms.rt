@@ -33,7 +33,10 @@ fn push_swaps(words: &mut Vec<Word>, swaps: &[Swap]) -> Result<(), Memory>
 
 /// Adds the words of a suspension behind its letter.
 fn push_susp(words: &mut Vec<Word>, swaps: &[Swap], num: u64) -> Result<(), Memory>
-    ensures { OnOk result (words.new.items ≡ words.old.items ++ (Word.Number (length swaps.now) ∷ (flat_map swap_words swaps.now ++ Word.Number num ∷ []))) }
+    ensures { OnOk result (words.new.items
+        ≡ words.old.items
+        ++ (Word.Number (length swaps.now)
+        ∷ (flat_map swap_words swaps.now ++ Word.Number num ∷ []))) }
 {
     words.push(Word::Number(swaps.len() as u64))?;
     push_swaps(words, swaps)?;

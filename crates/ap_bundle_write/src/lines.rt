@@ -45,7 +45,8 @@ fn write_spaced(alloc: Global, out: &mut Vec<u8>, words: &[Word]) -> Result<(), 
 
 /// Writes words with a space between each two.
 fn write_words(alloc: Global, out: &mut Vec<u8>, words: &[Word]) -> Result<(), Memory>
-    ensures { OnOk result (out.new.items ≡ out.old.items ++ join_with_byte 32 (map word_text words.now)) }
+    ensures { OnOk result (out.new.items
+        ≡ out.old.items ++ join_with_byte 32 (map word_text words.now)) }
 {
     let Some((first, others)) = words.split_first() else {
         return Ok(());

@@ -32,7 +32,8 @@ enum Task<'a> {
 
 /// The number that comes first, taken off.
 fn first_number(numbers: &mut Vec<usize>) -> Option<usize>
-    ensures { option_map (λ n. (n, reverse numbers.new.items)) result ≡ forms.first (reverse numbers.old.items) }
+    ensures { option_map (λ n. (n, reverse numbers.new.items)) result
+        ≡ forms.first (reverse numbers.old.items) }
 {
     numbers.pop()
 }
@@ -48,7 +49,8 @@ fn words_in_full(alloc: Global, term: &Term) -> Result<Vec<Word>, Memory>
 
 /// The words of a pair, by the numbers of its parts.
 fn pair_words(alloc: Global, left: usize, right: usize) -> Result<Vec<Word>, Memory>
-    ensures { IfOk result (λ w. w.items ≡ Word.Letter Letter.P ∷ Word.Number left ∷ Word.Number right ∷ []) }
+    ensures { IfOk result (λ w. w.items
+        ≡ Word.Letter Letter.P ∷ Word.Number left ∷ Word.Number right ∷ []) }
 {
     let mut words = Vec::new(alloc);
     words.push(Word::Letter(Letter::P))?;
@@ -59,7 +61,8 @@ fn pair_words(alloc: Global, left: usize, right: usize) -> Result<Vec<Word>, Mem
 
 /// The words of an application, by the number of its part.
 fn app_words(alloc: Global, constructor: u32, part: usize) -> Result<Vec<Word>, Memory>
-    ensures { IfOk result (λ w. w.items ≡ Word.Letter Letter.A ∷ Word.Number constructor ∷ Word.Number part ∷ []) }
+    ensures { IfOk result (λ w. w.items
+        ≡ Word.Letter Letter.A ∷ Word.Number constructor ∷ Word.Number part ∷ []) }
 {
     let mut words = Vec::new(alloc);
     words.push(Word::Letter(Letter::A))?;
@@ -70,7 +73,8 @@ fn app_words(alloc: Global, constructor: u32, part: usize) -> Result<Vec<Word>, 
 
 /// The words of an abstraction, by the number of its part.
 fn abs_words(alloc: Global, name: Name, part: usize) -> Result<Vec<Word>, Memory>
-    ensures { IfOk result (λ w. w.items ≡ Word.Letter Letter.L ∷ (forms.name_words name ++ Word.Number part ∷ [])) }
+    ensures { IfOk result (λ w. w.items
+        ≡ Word.Letter Letter.L ∷ (forms.name_words name ++ Word.Number part ∷ [])) }
 {
     let mut words = Vec::new(alloc);
     words.push(Word::Letter(Letter::L))?;
@@ -85,7 +89,8 @@ fn words_of(
     term: &Term,
     numbers: &mut Vec<usize>,
 ) -> Result<Option<Vec<Word>>, Memory>
-    ensures { IfOk result (λ r. option_map (λ w. (w.items, reverse numbers.new.items)) r ≡ words_by (term_of term.now) (reverse numbers.old.items)) }
+    ensures { IfOk result (λ r. option_map (λ w. (w.items, reverse numbers.new.items)) r
+        ≡ words_by (term_of term.now) (reverse numbers.old.items)) }
 {
     match term {
         Term::Unit | Term::Name(_) | Term::Susp(_, _) => Ok(Some(words_in_full(alloc, term)?)),
@@ -115,7 +120,8 @@ fn words_of(
 
 /// Puts the steps of a term before those that are left.
 fn push_steps<'a>(tasks: &mut Vec<Task<'a>>, term: &'a Term) -> Result<(), Memory>
-    ensures { OnOk result (steps_of tasks.new.items ≡ steps_in (term_of term.now) ++ steps_of tasks.old.items) }
+    ensures { OnOk result (steps_of tasks.new.items
+        ≡ steps_in (term_of term.now) ++ steps_of tasks.old.items) }
 {
     tasks.push(Task::Leave(term))?;
     match term {

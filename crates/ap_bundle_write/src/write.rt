@@ -33,7 +33,8 @@ fn write_var(alloc: Global, out: &mut Vec<u8>, var: &(Var, Ty)) -> Result<(), Me
 }
 
 fn write_vars(alloc: Global, out: &mut Vec<u8>, vars: &[(Var, Ty)]) -> Result<(), Memory>
-    ensures { OnOk result (out.new.items ≡ out.old.items ++ flat_map var_line (map typed_var_of vars.now)) }
+    ensures { OnOk result (out.new.items
+        ≡ out.old.items ++ flat_map var_line (map typed_var_of vars.now)) }
 {
     for var in vars {
         write_var(alloc, out, var)?;
@@ -63,7 +64,8 @@ fn write_conds(alloc: Global, out: &mut Vec<u8>, conds: &[Cond]) -> Result<(), M
 
 /// Writes how many variables there are, and each.
 fn write_listed_vars(alloc: Global, out: &mut Vec<u8>, vars: &[(Var, Ty)]) -> Result<(), Memory>
-    ensures { OnOk result (out.new.items ≡ out.old.items ++ listed Head.Vars var_line (map typed_var_of vars.now)) }
+    ensures { OnOk result (out.new.items
+        ≡ out.old.items ++ listed Head.Vars var_line (map typed_var_of vars.now)) }
 {
     write_count(alloc, out, Head::Vars, vars.len())?;
     write_vars(alloc, out, vars)
@@ -87,7 +89,9 @@ fn write_listed_binds<'a>(
 ) -> Result<(), Memory>
     requires { IsTable table.old }
     ensures table { OnOk result (IsTable table.new) }
-    ensures text { OnOk result (Writes version (held table.old) (held table.new) out.old.items out.new.items (map term_of binds.now) (λ way. listed Head.Binds way (map term_of binds.now))) }
+    ensures text { OnOk result (Writes version (held table.old) (held table.new) out.old.items
+        out.new.items (map term_of binds.now) (λ way. listed Head.Binds way
+        (map term_of binds.now))) }
 {
     write_count(alloc, out, Head::Binds, binds.len())?;
     write_terms(alloc, out, version, table, binds)
@@ -103,7 +107,9 @@ fn write_answer<'a>(
 ) -> Result<(), Memory>
     requires { IsTable table.old }
     ensures table { OnOk result (IsTable table.new) }
-    ensures text { OnOk result (Writes version (held table.old) (held table.new) out.old.items out.new.items (answer_of answer.now).binds (λ way. spec.answer_lines way (answer_of answer.now))) }
+    ensures text { OnOk result (Writes version (held table.old) (held table.new) out.old.items
+        out.new.items (answer_of answer.now).binds (λ way. spec.answer_lines way
+        (answer_of answer.now))) }
 {
     write_listed_vars(alloc, out, answer.vars.items())?;
     write_listed_conds(alloc, out, answer.conds.items())?;
@@ -120,7 +126,9 @@ fn write_proved<'a>(
 ) -> Result<(), Memory>
     requires { IsTable table.old }
     ensures table { OnOk result (IsTable table.new) }
-    ensures text { OnOk result (Writes version (held table.old) (held table.new) out.old.items out.new.items (terms_of (proved_of proved.now)) (λ way. proved_lines way (proved_of proved.now))) }
+    ensures text { OnOk result (Writes version (held table.old) (held table.new) out.old.items
+        out.new.items (terms_of (proved_of proved.now)) (λ way. proved_lines way
+        (proved_of proved.now))) }
 {
     write_count(alloc, out, Head::Derivation, proved.query as usize)?;
     write_answer(alloc, out, version, table, &proved.answer)?;
@@ -136,7 +144,9 @@ fn write_each<'a>(
 ) -> Result<(), Memory>
     requires { IsTable table.old }
     ensures table { OnOk result (IsTable table.new) }
-    ensures text { OnOk result (Writes version (held table.old) (held table.new) out.old.items out.new.items (flat_map terms_of (map proved_of all.now)) (λ way. flat_map (proved_lines way) (map proved_of all.now))) }
+    ensures text { OnOk result (Writes version (held table.old) (held table.new) out.old.items
+        out.new.items (flat_map terms_of (map proved_of all.now)) (λ way. flat_map
+        (proved_lines way) (map proved_of all.now))) }
 {
     for proved in all {
         write_proved(alloc, out, version, table, proved)?;
@@ -163,8 +173,10 @@ fn proved_part<'a>(
 ) -> Result<Vec<u8>, Memory>
     requires { IsTable table.old }
     ensures table { OnOk result (IsTable table.new) }
-    ensures held { OnOk result (held table.new ≡ grown_as version (held table.old) (flat_map terms_of (map proved_of proved.now))) }
-    ensures text { IfOk result (λ bytes. bytes.items ≡ spec.proved_part (line_as version (held table.new)) (map proved_of proved.now)) }
+    ensures held { OnOk result (held table.new
+        ≡ grown_as version (held table.old) (flat_map terms_of (map proved_of proved.now))) }
+    ensures text { IfOk result (λ bytes. bytes.items
+        ≡ spec.proved_part (line_as version (held table.new)) (map proved_of proved.now)) }
 {
     let mut out = Vec::new(alloc);
     write_count(alloc, &mut out, Head::Derivations, proved.len())?;
@@ -184,7 +196,8 @@ fn write_entry(alloc: Global, out: &mut Vec<u8>, words: &[Word]) -> Result<(), M
 }
 
 fn write_entries(alloc: Global, out: &mut Vec<u8>, lines: &[Vec<Word>]) -> Result<(), Memory>
-    ensures { OnOk result (out.new.items ≡ out.old.items ++ flat_map (head_line Head.T) (map (λ v. v.items) lines.now)) }
+    ensures { OnOk result (out.new.items
+        ≡ out.old.items ++ flat_map (head_line Head.T) (map (λ v. v.items) lines.now)) }
 {
     for words in lines {
         write_entry(alloc, out, words)?;
@@ -195,7 +208,8 @@ fn write_entries(alloc: Global, out: &mut Vec<u8>, lines: &[Vec<Word>]) -> Resul
 /// Writes the table.
 fn write_table(alloc: Global, out: &mut Vec<u8>, table: &Table<'_>) -> Result<(), Memory>
     requires { IsTable table.now }
-    ensures { OnOk result (out.new.items ≡ out.old.items ++ listed Head.Terms (entry_line (held table.now)) (held table.now)) }
+    ensures { OnOk result (out.new.items
+        ≡ out.old.items ++ listed Head.Terms (entry_line (held table.now)) (held table.now)) }
 {
     let lines = table.lines();
     write_count(alloc, out, Head::Terms, lines.len())?;
@@ -204,7 +218,8 @@ fn write_table(alloc: Global, out: &mut Vec<u8>, table: &Table<'_>) -> Result<()
 
 /// The first line, and the text.
 fn start_of(alloc: Global, version: Version, text: &[u8]) -> Result<Vec<u8>, Memory>
-    ensures { IfOk result (λ out. out.items ≡ (first_line version ++ 10 ∷ []) ++ text_lines text.now) }
+    ensures { IfOk result (λ out. out.items
+        ≡ (first_line version ++ 10 ∷ []) ++ text_lines text.now) }
 {
     let mut out = Vec::new(alloc);
     out.extend_from_slice(version.first_line().as_bytes())?;

@@ -17,8 +17,9 @@ use std::alloc::Global;
 /// Whether each condition is on a variable that has a type.
 #[tactic(auto, using(crate::proofs::AnswerLemmas::conds_not, crate::proofs::AnswerLemmas::conds_later))]
 fn are_on_typed(answer: &IndexedAnswer<'_>, conds: &[Cond]) -> bool
-    ensures { result ≡
-        list_all (λ c. has_var c.var (map (λ v. v.0) (map typed_var_of answer.now.vars))) conds.now }
+    ensures { result
+        ≡ list_all (λ c. has_var c.var (map (λ v. v.0) (map typed_var_of answer.now.vars)))
+        conds.now }
 {
     for c in conds {
         if !answer.is_typed(c.var) {

@@ -91,7 +91,8 @@ impl Binders {
     fn pop(&mut self) -> Result<(), Memory>
         requires some { 0 < length self.old.pairs.items }
         requires found { AreBinders self.old }
-        ensures pairs { OnOk result ((s : Swap) × (self.old.pairs.items ≡ self.new.pairs.items ++ s ∷ [])) }
+        ensures pairs { OnOk result ((s : Swap)
+            × (self.old.pairs.items ≡ self.new.pairs.items ++ s ∷ [])) }
         ensures found { OnOk result (AreBinders self.new) }
     {
         if let Some(s) = self.pairs.pop() {

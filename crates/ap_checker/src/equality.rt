@@ -61,7 +61,8 @@ fn compare_bodies<'a>(
     left: Placed<'a>,
     right: Placed<'a>,
 ) -> Result<bool, Memory>
-    requires within { AreWithin mark_of (length walk.old.binders.pairs.items) (reverse walk.old.pending.items) }
+    requires within { AreWithin mark_of (length walk.old.binders.pairs.items)
+        (reverse walk.old.pending.items) }
     requires found { AreBinders walk.old.binders }
     ensures tested { IfOk result (λ yes. (ds : Conds) (c : Compared) →
         placed_term c.left ≡ abs binders.0 (placed_term left.entry) →
@@ -117,7 +118,8 @@ fn compare<'a>(
     walk: &mut Comparison<'a>,
     at: Compared<'a>,
 ) -> Result<bool, Memory>
-    requires within { AreWithin mark_of (length walk.old.binders.pairs.items) (reverse walk.old.pending.items) }
+    requires within { AreWithin mark_of (length walk.old.binders.pairs.items)
+        (reverse walk.old.pending.items) }
     requires found { AreBinders walk.old.binders }
     ensures tested { IfOk result (λ yes.
         IsTestedThere mark_of (are_alike answer.now.conds) size_of at.entry
@@ -157,7 +159,8 @@ pub(crate) fn are_equal_at(
     t: Placed<'_>,
     u: Placed<'_>,
 ) -> Result<bool, Memory>
-    ensures { IfOk result (λ yes. yes ≡ alpha_under answer.now.conds (placed_term t.entry) (placed_term u.entry)) }
+    ensures { IfOk result (λ yes. yes
+        ≡ alpha_under answer.now.conds (placed_term t.entry) (placed_term u.entry)) }
 {
     let mut walk = Comparison {
         binders: Binders::new(alloc),
@@ -180,7 +183,8 @@ pub fn are_equal_under(
     t: &Term,
     u: &Term,
 ) -> Result<bool, Memory>
-    ensures { IfOk result (λ yes. yes ≡ alpha_under answer.now.conds (term_of t.now) (term_of u.now)) }
+    ensures { IfOk result (λ yes. yes
+        ≡ alpha_under answer.now.conds (term_of t.now) (term_of u.now)) }
 {
     are_equal_at(alloc, answer, Placed::Whole(t), Placed::Whole(u))
 }

@@ -20,7 +20,8 @@ use std::alloc::Global;
 
 /// The type of an identifier that is a free variable.
 fn type_of_free(local: &Local) -> Option<&Ty>
-    ensures { MatchOption result (free_type (local_of local.now) ≡ None) (λ t. free_type (local_of local.now) ≡ Some (type_of t.now)) }
+    ensures { MatchOption result (free_type (local_of local.now) ≡ None) (λ t. free_type
+        (local_of local.now) ≡ Some (type_of t.now)) }
 {
     match &local.kind {
         Kind::Var(ty) if !local.bound => Some(ty),
@@ -60,9 +61,10 @@ pub(crate) fn terms_fit(
     locals: &[Local],
     terms: &[Term],
 ) -> Result<bool, Memory>
-    ensures { IfOk result (λ yes. yes ≡
-        have_kinds (map constructor_of constructors.now) (type_beside (map typed_var_of answer.now.vars))
-        (kinds_of (locals_of locals.now)) (local_vars zero (locals_of locals.now)) (map term_of terms.now)) }
+    ensures { IfOk result (λ yes. yes
+        ≡ have_kinds (map constructor_of constructors.now) (type_beside
+        (map typed_var_of answer.now.vars)) (kinds_of (locals_of locals.now))
+        (local_vars zero (locals_of locals.now)) (map term_of terms.now)) }
 {
     let mut place = 0;
     for (i, local) in locals.iter().enumerate() {
@@ -87,9 +89,10 @@ pub(crate) fn term_fits(
     x: Var,
     term: &Term,
 ) -> Result<bool, Memory>
-    ensures { IfOk result (λ yes. yes ≡
-        has_kind (map constructor_of constructors.now) (type_beside (map typed_var_of answer.now.vars))
-        (kind_at (kinds_of (locals_of locals.now)) x.num) (term_of term.now)) }
+    ensures { IfOk result (λ yes. yes
+        ≡ has_kind (map constructor_of constructors.now) (type_beside
+        (map typed_var_of answer.now.vars)) (kind_at (kinds_of (locals_of locals.now)) x.num)
+        (term_of term.now)) }
 {
     let place = x.num as usize;
     if place >= locals.len() {

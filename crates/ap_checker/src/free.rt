@@ -100,7 +100,8 @@ pub(crate) fn vars_of_each(alloc: Global, terms: &[Term]) -> Result<Vec<Var>, Me
 /// The names of two terms, as they are read.
 #[tactic(auto, using(crate::proofs::FreeLemmas::two_names))]
 pub(crate) fn names_of_two(alloc: Global, t: &Term, u: &Term) -> Result<Vec<Name>, Memory>
-    ensures { IfOk result (λ v. v.items ≡ names_then (term_of t.now) (names_then (term_of u.now) [])) }
+    ensures { IfOk result (λ v. v.items
+        ≡ names_then (term_of t.now) (names_then (term_of u.now) [])) }
 {
     let mut names = Vec::new(alloc);
     add_names(&mut names, t)?;
@@ -111,7 +112,8 @@ pub(crate) fn names_of_two(alloc: Global, t: &Term, u: &Term) -> Result<Vec<Name
 /// The variables of two terms, as they are read.
 #[tactic(auto, using(crate::proofs::FreeLemmas::two_vars))]
 pub(crate) fn vars_of_two(alloc: Global, t: &Term, u: &Term) -> Result<Vec<Var>, Memory>
-    ensures { IfOk result (λ v. v.items ≡ vars_then (term_of t.now) (vars_then (term_of u.now) [])) }
+    ensures { IfOk result (λ v. v.items
+        ≡ vars_then (term_of t.now) (vars_then (term_of u.now) [])) }
 {
     let mut vars = Vec::new(alloc);
     add_vars(&mut vars, t)?;

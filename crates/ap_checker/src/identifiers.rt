@@ -70,7 +70,8 @@ fn places_of(alloc: Global, locals: &[Local]) -> Result<Vec<usize>, Memory>
 /// Whether an identifier is a free name of the sort.
 fn has_sort(local: &Local, sort: u32) -> bool
     ensures yes { result ≡ true → free_sort (local_of local.now) ≡ Some sort }
-    ensures no { result ≡ false → (s : ℕ) → free_sort (local_of local.now) ≡ Some s → (s == sort) ≡ false }
+    ensures no { result ≡ false → (s : ℕ) → free_sort (local_of local.now) ≡ Some s →
+        (s == sort) ≡ false }
 {
     match sort_of(local) {
         Some(own) => own == sort,

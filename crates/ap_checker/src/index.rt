@@ -78,7 +78,8 @@ fn sought_key(c: &Cond) -> (u64, (u32, u64))
 
 /// The conditions as they are sought.
 fn conds_of(alloc: Global, conds: &[Cond]) -> Result<BTreeSet<(u64, (u32, u64))>, Memory>
-    ensures { IfOk result (λ s. (c : Cond) → bag.contains sought_cmp s (sought c) ≡ has_cond c conds.now) }
+    ensures { IfOk result (λ s. (c : Cond) →
+        bag.contains sought_cmp s (sought c) ≡ has_cond c conds.now) }
 {
     let mut sought = BTreeSet::new(alloc);
     for i in (0..conds.len()).rev() {

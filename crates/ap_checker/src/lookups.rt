@@ -61,7 +61,9 @@ pub(crate) fn count_vars(locals: &[Local]) -> usize
 
 /// The clause of a predicate with this number, from 1.
 pub fn clause_at(program: &Program<Term>, pred: u32, number: u32) -> Option<&Clause<Term>>
-    ensures { MatchOption result (clause_numbered (clauses_of (program_of program.now).clauses pred) number ≡ None) (λ c. clause_numbered (clauses_of (program_of program.now).clauses pred) number ≡ Some (clause_of c.now)) }
+    ensures { MatchOption result (clause_numbered (clauses_of (program_of program.now).clauses pred)
+        number ≡ None) (λ c. clause_numbered (clauses_of (program_of program.now).clauses pred)
+        number ≡ Some (clause_of c.now)) }
 {
     let clauses = program.clauses.items();
     let place = pred as usize;
@@ -82,7 +84,8 @@ pub fn clause_at(program: &Program<Term>, pred: u32, number: u32) -> Option<&Cla
 /// The query with this number, from 1.
 #[tactic(auto, using(crate::proofs::ClauseLemmas::query_zero, crate::proofs::ClauseLemmas::query_past, crate::proofs::ClauseLemmas::query_there))]
 pub fn query_at(program: &Program<Term>, number: u32) -> Option<&Query<Term>>
-    ensures { MatchOption result (query_numbered (program_of program.now).queries number ≡ None) (λ q. query_numbered (program_of program.now).queries number ≡ Some (query_of q.now)) }
+    ensures { MatchOption result (query_numbered (program_of program.now).queries number ≡ None) (λ q.
+        query_numbered (program_of program.now).queries number ≡ Some (query_of q.now)) }
 {
     let queries = program.queries.items();
     let number = number as usize;

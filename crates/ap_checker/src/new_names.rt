@@ -49,7 +49,8 @@ impl<'a> Parts<'a> {
 
     /// A name or a variable is brought innermost.
     fn bring(&mut self, what: Id) -> Result<(), Memory>
-        ensures brought { OnOk result (self.new.brought.items ≡ self.old.brought.items ++ what ∷ []) }
+        ensures brought { OnOk result (self.new.brought.items
+            ≡ self.old.brought.items ++ what ∷ []) }
         ensures pending { self.new.pending.items ≡ self.old.pending.items }
     {
         self.brought.push(what)?;
@@ -162,7 +163,8 @@ fn is_new_for(
     names: &[Name],
     vars: &[Var],
 ) -> Result<bool, Memory>
-    ensures { IfOk result (λ yes. yes ≡ (are_apart c (environment_of scope.now) brought.now names.now
+    ensures { IfOk result (λ yes. yes
+        ≡ (are_apart c (environment_of scope.now) brought.now names.now
         && are_fresh answer.now.conds c (environment_of scope.now) brought.now vars.now)) }
 {
     if !stands_for_none(scope, &c, brought, names) {
@@ -180,7 +182,8 @@ fn look<'a>(
     parts: &mut Parts<'a>,
     at: Part<'a>,
 ) -> Result<bool, Memory>
-    requires { AreWithin mark_of_part (length parts.old.brought.items) (reverse parts.old.pending.items) }
+    requires { AreWithin mark_of_part (length parts.old.brought.items)
+        (reverse parts.old.pending.items) }
     ensures { IfOk result (λ yes.
         IsTestedThere mark_of_part (is_new_inside answer.now.conds c (environment_of scope.now))
         size_of_part at.entry

@@ -115,7 +115,8 @@ fn suspended_head<'a>(
     swaps: &[Swap],
     x: Var,
 ) -> Result<Head<'a>, Memory>
-    ensures { IfOk result (λ h. head_term h ≡ put_in (environment_of scope.entry.standing.now) (susp swaps.now x)) }
+    ensures { IfOk result (λ h. head_term h
+        ≡ put_in (environment_of scope.entry.standing.now) (susp swaps.now x)) }
 {
     let Some(t) = term_in(scope.standing, x) else {
         return Ok(Head::Unit);
@@ -126,7 +127,8 @@ fn suspended_head<'a>(
 
 /// The head of a term of an item, with what stands there for its identifiers put in.
 fn head_within<'a>(alloc: Global, scope: Scope<'a>, t: &'a Term) -> Result<Head<'a>, Memory>
-    ensures { IfOk result (λ h. head_term h ≡ put_in (environment_of scope.entry.standing.now) (term_of t.now)) }
+    ensures { IfOk result (λ h. head_term h
+        ≡ put_in (environment_of scope.entry.standing.now) (term_of t.now)) }
 {
     match t {
         Term::Unit => Ok(Head::Unit),

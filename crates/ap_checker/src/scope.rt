@@ -40,7 +40,8 @@ fn name_at(standing: &Standing<'_>, b: Name) -> Option<Name>
 
 /// The term that `exists` brought for a variable, if this is what says it.
 fn term_at<'a>(standing: &Standing<'a>, x: Var) -> Option<&'a Term>
-    ensures { MatchOption result (term_brought standing.now x ≡ None) (λ t. term_brought standing.now x ≡ Some (term_of t.now)) }
+    ensures { MatchOption result (term_brought standing.now x ≡ None) (λ t. term_brought
+        standing.now x ≡ Some (term_of t.now)) }
 {
     match standing {
         Standing::Term(y, t) if y.num == x.num => Some(*t),
@@ -51,7 +52,8 @@ fn term_at<'a>(standing: &Standing<'a>, x: Var) -> Option<&'a Term>
 /// What an item has for a variable, if this is what stands for an item's identifiers.
 fn item_term_at<'a>(standing: &Standing<'a>, x: Var) -> Option<Option<&'a Term>>
     ensures { MatchOption result (item_term standing.now x ≡ None) (λ found. MatchOption found
-        (item_term standing.now x ≡ Some unit) (λ t. item_term standing.now x ≡ Some (term_of t.now))) }
+        (item_term standing.now x ≡ Some unit) (λ t. item_term standing.now x
+        ≡ Some (term_of t.now))) }
 {
     match standing {
         Standing::Query(own, terms) => Some(own.term_for(terms, x)),
@@ -74,7 +76,8 @@ pub(crate) fn name_in(scope: &[Standing<'_>], b: Name) -> Name
 
 /// The term for a variable; where there is none, unit stands for it.
 pub(crate) fn term_in<'a>(scope: &[Standing<'a>], x: Var) -> Option<&'a Term>
-    ensures { MatchOption result ((environment_of scope.now).terms x ≡ unit) (λ t. (environment_of scope.now).terms x ≡ term_of t.now) }
+    ensures { MatchOption result ((environment_of scope.now).terms x ≡ unit) (λ t.
+        (environment_of scope.now).terms x ≡ term_of t.now) }
 {
     for i in (0..scope.len()).rev() {
         let innermost = &scope[i];
@@ -127,7 +130,8 @@ pub fn put(alloc: Global, scope: &[Standing<'_>], t: &Term) -> Result<Term, Memo
 
 /// The terms with their names and variables replaced at once.
 pub fn put_each(alloc: Global, scope: &[Standing<'_>], terms: &[Term]) -> Result<Vec<Term>, Memory>
-    ensures { IfOk result (λ v. map term_of v.items ≡ map (put_in (environment_of scope.now)) (map term_of terms.now)) }
+    ensures { IfOk result (λ v. map term_of v.items
+        ≡ map (put_in (environment_of scope.now)) (map term_of terms.now)) }
 {
     let mut all = Vec::new(alloc);
     for t in terms {

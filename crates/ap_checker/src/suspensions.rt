@@ -113,7 +113,8 @@ pub(crate) fn are_all_settled(
     var: Var,
 ) -> Result<bool, Memory>
     requires { AreBinders binders.now }
-    ensures { IfOk result (λ yes. yes ≡ all_settled answer.now.conds binders.now.pairs.items p.now q.now var) }
+    ensures { IfOk result (λ yes. yes
+        ≡ all_settled answer.now.conds binders.now.pairs.items p.now q.now var) }
 {
     let before_p = reversed(alloc, p)?;
     let before_q = reversed(alloc, q)?;

@@ -97,7 +97,8 @@ fn arguments(types: &[Ty]) -> Wanted<'_>
 
 /// What the parts of a pair are to be.
 fn parts(want: Wanted<'_>) -> Option<(Wanted<'_>, Wanted<'_>)>
-    ensures { MatchOption result (parts_of (want_of want.entry) ≡ None) (λ p. parts_of (want_of want.entry) ≡ Some (want_of p.0, want_of p.1)) }
+    ensures { MatchOption result (parts_of (want_of want.entry) ≡ None) (λ p. parts_of
+        (want_of want.entry) ≡ Some (want_of p.0, want_of p.1)) }
 {
     match want {
         Wanted::One(Ty::Pair(left, right)) => Some((Wanted::One(left), Wanted::One(right))),
@@ -110,7 +111,8 @@ fn parts(want: Wanted<'_>) -> Option<(Wanted<'_>, Wanted<'_>)>
 /// The declared constructor with a number, of which 0 and 1 are none.
 #[tactic(auto, using(crate::proofs::TypeLemmas::constructor_found, crate::proofs::TypeLemmas::constructor_low, crate::proofs::TypeLemmas::constructor_past))]
 fn declared_at(constructors: &[Constructor], f: u32) -> Option<&Constructor>
-    ensures { MatchOption result (constructor_in (map constructor_of constructors.now) f ≡ None) (λ c. constructor_in (map constructor_of constructors.now) f ≡ Some (constructor_of c.now)) }
+    ensures { MatchOption result (constructor_in (map constructor_of constructors.now) f ≡ None) (λ c.
+        constructor_in (map constructor_of constructors.now) f ≡ Some (constructor_of c.now)) }
 {
     let place = f as usize;
     if place < 2 || place - 2 >= constructors.len() {
@@ -121,7 +123,9 @@ fn declared_at(constructors: &[Constructor], f: u32) -> Option<&Constructor>
 
 /// What the argument of a declared constructor is to be, where the application has this data type.
 fn declared_inside(constructors: &[Constructor], f: u32, declared: u32) -> Option<Wanted<'_>>
-    ensures { MatchOption result (inside_of (map constructor_of constructors.now) f (one (base declared)) ≡ None) (λ w. inside_of (map constructor_of constructors.now) f (one (base declared)) ≡ Some (want_of w)) }
+    ensures { MatchOption result (inside_of (map constructor_of constructors.now) f
+        (one (base declared)) ≡ None) (λ w. inside_of (map constructor_of constructors.now) f
+        (one (base declared)) ≡ Some (want_of w)) }
 {
     let constructor = declared_at(constructors, f)?;
     if constructor.result != declared {
@@ -132,7 +136,9 @@ fn declared_inside(constructors: &[Constructor], f: u32, declared: u32) -> Optio
 
 /// What the argument of an application is to be.
 fn inside<'a>(constructors: &'a [Constructor], f: u32, want: Wanted<'a>) -> Option<Wanted<'a>>
-    ensures { MatchOption result (inside_of (map constructor_of constructors.now) f (want_of want.entry) ≡ None) (λ w. inside_of (map constructor_of constructors.now) f (want_of want.entry) ≡ Some (want_of w)) }
+    ensures { MatchOption result (inside_of (map constructor_of constructors.now) f
+        (want_of want.entry) ≡ None) (λ w. inside_of (map constructor_of constructors.now) f
+        (want_of want.entry) ≡ Some (want_of w)) }
 {
     let Wanted::One(ty) = want else {
         return None;

@@ -30,7 +30,9 @@ fn walk_from<'a>(
     answer: &'a Answer,
     derivation: &'a Derivation,
 ) -> Result<Walk<'a>, Memory>
-    ensures { (p : NominalProgram) → IfOk result (λ w. IsOnWay p (answer_of answer.now) (refusal_on p (query_of query.now) (answer_of answer.now) (derivation_of derivation.now)) 0 w) }
+    ensures { (p : NominalProgram) →
+        IfOk result (λ w. IsOnWay p (answer_of answer.now) (refusal_on p (query_of query.now)
+        (answer_of answer.now) (derivation_of derivation.now)) 0 w) }
 {
     let locals = query.locals.items();
     let mut walk = Walk {
@@ -55,7 +57,9 @@ fn verdict_on_nodes(
     indexed: &IndexedAnswer<'_>,
     derivation: &Derivation,
 ) -> Result<Verdict, Memory>
-    ensures { IfOk result (λ v. verdict_said v ≡ verdict (refusal_on (program_of program.now) (query_of query.now) (answer_of indexed.now) (derivation_of derivation.now))) }
+    ensures { IfOk result (λ v. verdict_said v
+        ≡ verdict (refusal_on (program_of program.now) (query_of query.now) (answer_of indexed.now)
+        (derivation_of derivation.now))) }
 {
     let mut walk = walk_from(alloc, query, indexed.answer(), derivation)?;
     let mut node: u64 = 0;
@@ -80,7 +84,9 @@ pub fn verify(
     answer: &Answer,
     derivation: &Derivation,
 ) -> Result<Verdict, Memory>
-    ensures { IfOk result (λ v. verdict_said v ≡ verdict_of (program_of program.now) query (answer_of answer.now) (derivation_of derivation.now)) }
+    ensures { IfOk result (λ v. verdict_said v
+        ≡ verdict_of (program_of program.now) query (answer_of answer.now)
+        (derivation_of derivation.now)) }
 {
     let program = program.program();
     let rule = Rule::Answer.number();

@@ -51,7 +51,10 @@ fn rule_of_clause(
     used: &Use<'_>,
     clause: &Clause<Term>,
 ) -> Result<Option<Rule>, Memory>
-    ensures { IfOk result (λ r. (n : ℕ) (rest : option Refusal) → by_clause (program_of program.now) (answer_of answer.now) n used.now.names.now (map term_of used.now.terms.now) (map (put_in (environment_of standing.now)) (map term_of args.now)) (clause_of clause.now) rest ≡ first_of (refused n r) rest) }
+    ensures { IfOk result (λ r. (n : ℕ) (rest : option Refusal) →
+        by_clause (program_of program.now) (answer_of answer.now) n used.now.names.now
+        (map term_of used.now.terms.now) (map (put_in (environment_of standing.now))
+        (map term_of args.now)) (clause_of clause.now) rest ≡ first_of (refused n r) rest) }
 {
     let locals = clause.locals.items();
     if !counts_fit(locals, used.names, used.terms) {
@@ -94,7 +97,11 @@ fn visit_atom<'a>(
     args: &[Term],
 ) -> Result<Option<Rule>, Memory>
     requires { AreMarked (length walk.old.standing.items) (left_of walk.old) }
-    ensures { IfOk result (λ r. (kinds : list NominalKind) → IsVisited (program_of program.now) (answer_of answer.now) kinds (derivations.atom used.now.number used.now.names.now (map term_of used.now.terms.now) (derivation_of used.now.body.now)) (goals.atom pred (map term_of args.now)) walk.old walk.new r) }
+    ensures { IfOk result (λ r. (kinds : list NominalKind) →
+        IsVisited (program_of program.now) (answer_of answer.now) kinds (derivations.atom
+        used.now.number used.now.names.now (map term_of used.now.terms.now)
+        (derivation_of used.now.body.now)) (goals.atom pred (map term_of args.now)) walk.old
+        walk.new r) }
 {
     let Some(clause) = clause_at(program, pred, used.number) else {
         return Ok(Some(Rule::Clause));
@@ -123,7 +130,9 @@ fn visit_equation(
     right: &Term,
 ) -> Result<Option<Rule>, Memory>
     requires { AreMarked (length walk.now.standing.items) (left_of walk.now) }
-    ensures { IfOk result (λ r. (p : NominalProgram) (kinds : list NominalKind) → IsVisited p (answer_of answer.now) kinds derivations.equal (goals.equal (term_of left.now) (term_of right.now)) walk.now walk.now r) }
+    ensures { IfOk result (λ r. (p : NominalProgram) (kinds : list NominalKind) →
+        IsVisited p (answer_of answer.now) kinds derivations.equal (goals.equal (term_of left.now)
+        (term_of right.now)) walk.now walk.now r) }
 {
     let scope = walk.standing.as_slice();
     let scope = Scope { standing: scope };
@@ -144,7 +153,9 @@ fn visit_freshness(
     right: &Term,
 ) -> Result<Option<Rule>, Memory>
     requires { AreMarked (length walk.now.standing.items) (left_of walk.now) }
-    ensures { IfOk result (λ r. (p : NominalProgram) (kinds : list NominalKind) → IsVisited p (answer_of answer.now) kinds derivations.fresh (goals.fresh (term_of left.now) (term_of right.now)) walk.now walk.now r) }
+    ensures { IfOk result (λ r. (p : NominalProgram) (kinds : list NominalKind) →
+        IsVisited p (answer_of answer.now) kinds derivations.fresh (goals.fresh (term_of left.now)
+        (term_of right.now)) walk.now walk.now r) }
 {
     let scope = walk.standing.as_slice();
     let scope = Scope { standing: scope };
@@ -167,7 +178,9 @@ fn visit_exists<'a>(
     below: Place<'a>,
 ) -> Result<Option<Rule>, Memory>
     requires { AreMarked (length walk.old.standing.items) (left_of walk.old) }
-    ensures { IfOk result (λ r. IsVisited (program_of program.now) (answer_of answer.now) (kinds_at below.entry) (derivations.exists (term_of term.now) (derivation_at below.entry)) (goals.exists x (goal_at below.entry)) walk.old walk.new r) }
+    ensures { IfOk result (λ r. IsVisited (program_of program.now) (answer_of answer.now)
+        (kinds_at below.entry) (derivations.exists (term_of term.now) (derivation_at below.entry))
+        (goals.exists x (goal_at below.entry)) walk.old walk.new r) }
 {
     let constructors = program.signature.constructors.items();
     if !term_fits(alloc, constructors, answer, below.locals, x, term)? {
@@ -189,7 +202,9 @@ fn visit_new<'a>(
 ) -> Result<Option<Rule>, Memory>
     requires marked { AreMarked (length walk.old.standing.items) (left_of walk.old) }
     requires goal { goal_of goal.now ≡ goals.new names.0 (goal_at below) }
-    ensures { IfOk result (λ r. (p : NominalProgram) → IsVisited p (answer_of answer.now) (kinds_at below.entry) (derivations.new names.1 (derivation_at below.entry)) (goal_of goal.now) walk.old walk.new r) }
+    ensures { IfOk result (λ r. (p : NominalProgram) →
+        IsVisited p (answer_of answer.now) (kinds_at below.entry) (derivations.new names.1
+        (derivation_at below.entry)) (goal_of goal.now) walk.old walk.new r) }
 {
     let (own, name) = names;
     if name.sort != own.sort {
@@ -212,7 +227,8 @@ pub(crate) fn visit<'a>(
     at: Place<'a>,
 ) -> Result<Option<Rule>, Memory>
     requires { AreMarked (length walk.old.standing.items) (left_of walk.old) }
-    ensures { IfOk result (λ r. IsVisited (program_of program.now) (answer_of answer.now) (kinds_at at.entry) (derivation_at at.entry) (goal_at at.entry) walk.old walk.new r) }
+    ensures { IfOk result (λ r. IsVisited (program_of program.now) (answer_of answer.now)
+        (kinds_at at.entry) (derivation_at at.entry) (goal_at at.entry) walk.old walk.new r) }
 {
     match (at.derivation, at.goal) {
         (Derivation::Atom(used, body), Goal::Atom(pred, args)) => {

@@ -34,7 +34,9 @@ pub(crate) struct Walk<'a> {
 impl<'a> Place<'a> {
     /// A node below this one, for a goal in this one's goal.
     pub(crate) fn below(self, derivation: &'a Derivation, goal: &'a Goal<Term>) -> Place<'a>
-        ensures { result ≡ record { derivation = derivation.entry; goal = goal.entry; locals = self.entry.locals } }
+        ensures { result
+            ≡ record
+            { derivation = derivation.entry; goal = goal.entry; locals = self.entry.locals } }
     {
         Place {
             derivation,
@@ -47,7 +49,8 @@ impl<'a> Place<'a> {
 impl<'a> Walk<'a> {
     /// Something stands innermost.
     pub(crate) fn bring(&mut self, what: Standing<'a>) -> Result<(), Memory>
-        ensures standing { OnOk result (self.new.standing.items ≡ self.old.standing.items ++ what.entry ∷ []) }
+        ensures standing { OnOk result (self.new.standing.items
+            ≡ self.old.standing.items ++ what.entry ∷ []) }
         ensures pending { self.new.pending.items ≡ self.old.pending.items }
     {
         self.standing.push(what)?;
@@ -57,7 +60,9 @@ impl<'a> Walk<'a> {
     /// The node comes next, where all stands that stands now.
     pub(crate) fn put(&mut self, place: Place<'a>) -> Result<(), Memory>
         ensures standing { self.new.standing.items ≡ self.old.standing.items }
-        ensures pending { OnOk result (self.new.pending.items ≡ self.old.pending.items ++ pending_at place.entry (length self.old.standing.items) ∷ []) }
+        ensures pending { OnOk result (self.new.pending.items
+            ≡ self.old.pending.items ++ pending_at place.entry (length self.old.standing.items)
+            ∷ []) }
     {
         let mark = self.standing.len();
         self.pending.push(Pending { place, mark })?;

@@ -14,7 +14,8 @@ use std::alloc::Global;
 /// outputs below it.
 pub fn are_kids<T: Tree>(alloc: Global, tree: &T, path: &Path, kids: &[u32]) -> Result<bool, Memory>
     requires { InTree (T.choices tree.now) path.now }
-    ensures { IfOk result (λ b. MatchBool b (AreKids (T.choices tree.now) (T.at tree.now) path.now kids.now) (AreKids (T.choices tree.now) (T.at tree.now) path.now kids.now → ⊥)) }
+    ensures { IfOk result (λ b. MatchBool b (AreKids (T.choices tree.now) (T.at tree.now) path.now
+        kids.now) (AreKids (T.choices tree.now) (T.at tree.now) path.now kids.now → ⊥)) }
 {
     let Some(width) = tree.width(alloc, path)? else {
         return Ok(false);

@@ -28,7 +28,9 @@ pub fn play<T: Tree>(
 ) -> Result<Option<Core>, Memory>
     requires some { 1 ≤ workers }
     requires few { workers ≤ 64 }
-    ensures { IfOk result (λ o. MatchOption o (StopsAt (T.choices tree.now) (T.at tree.now) (start workers) events.now) (IsCoreAfter (T.choices tree.now) (T.at tree.now) workers events.now)) }
+    ensures { IfOk result (λ o. MatchOption o (StopsAt (T.choices tree.now) (T.at tree.now)
+        (start workers) events.now) (IsCoreAfter (T.choices tree.now) (T.at tree.now) workers
+        events.now)) }
 {
     let mut team = gather(alloc, workers)?;
     let mut endings = Endings::new(alloc);
@@ -71,7 +73,8 @@ fn core_of(
     endings: Endings,
     skipped: Vec<Path>,
 ) -> Result<Core, Memory>
-    ensures state { IfOk result (λ k. core_state k ≡ state_of team.items (past_of endings skipped.items)) }
+    ensures state { IfOk result (λ k. core_state k
+        ≡ state_of team.items (past_of endings skipped.items)) }
     ensures pending { IfOk result (λ k. k.pending ≡ pending (core_state k)) }
 {
     let (hands, deques) = rows_of(alloc, team)?;

@@ -23,7 +23,9 @@ fn split<T: Tree>(
     kids: &[u32],
 ) -> Result<bool, Memory>
     requires { AreFirstsInTree (T.choices tree.now) (hands_of workers.old) }
-    ensures { (past : Past) → IfOk result (λ b. Answered (Splits (T.choices tree.now) (T.at tree.now) (state_of workers.old past) w kids.now) b (state_of workers.new past)) }
+    ensures { (past : Past) →
+        IfOk result (λ b. Answered (Splits (T.choices tree.now) (T.at tree.now)
+        (state_of workers.old past) w kids.now) b (state_of workers.new past)) }
 {
     if w >= workers.len() {
         return Ok(false);
@@ -49,7 +51,9 @@ fn done<T: Tree>(
     w: usize,
 ) -> Result<bool, Memory>
     requires { AreFirstsInTree (T.choices tree.now) (hands_of workers.old) }
-    ensures { (skipped : list (list ℕ)) → IfOk result (λ b. Answered (Ends (T.at tree.now) (state_of workers.old (past_of endings.old skipped)) w) b (state_of workers.new (past_of endings.new skipped))) }
+    ensures { (skipped : list (list ℕ)) →
+        IfOk result (λ b. Answered (Ends (T.at tree.now) (state_of workers.old
+        (past_of endings.old skipped)) w) b (state_of workers.new (past_of endings.new skipped))) }
 {
     if w >= workers.len() {
         return Ok(false);
@@ -71,7 +75,9 @@ fn skip(
     w: usize,
     found: u64,
 ) -> Result<bool, Memory>
-    ensures { IfOk result (λ b. Answered (Skips (state_of workers.old (past_of endings.now skipped.old.items)) w found) b (state_of workers.new (past_of endings.now skipped.new.items))) }
+    ensures { IfOk result (λ b. Answered (Skips (state_of workers.old
+        (past_of endings.now skipped.old.items)) w found) b (state_of workers.new
+        (past_of endings.now skipped.new.items))) }
 {
     if w >= workers.len() {
         return Ok(false);
@@ -98,7 +104,9 @@ pub fn take<T: Tree>(
     event: &Event,
 ) -> Result<bool, Memory>
     requires { AreFirstsInTree (T.choices tree.now) (hands_of workers.old) }
-    ensures { IfOk result (λ b. Answered (IsStep (T.choices tree.now) (T.at tree.now) (state_of workers.old (past_of endings.old skipped.old.items)) event.now) b (state_of workers.new (past_of endings.new skipped.new.items))) }
+    ensures { IfOk result (λ b. Answered (IsStep (T.choices tree.now) (T.at tree.now) (state_of
+        workers.old (past_of endings.old skipped.old.items)) event.now) b (state_of workers.new
+        (past_of endings.new skipped.new.items))) }
 {
     match event {
         Event::Push(w) => push(workers, *w as usize),

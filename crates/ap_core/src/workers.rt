@@ -88,7 +88,8 @@ impl Worker {
 
     /// Takes the kids of a path into the hand, before the others.
     pub fn take_kids(&mut self, alloc: Global, path: &Path, kids: &[u32]) -> Result<(), Memory>
-        ensures hand { IfOk result (λ _. self.new.hand.items ≡ kids_of path.now kids.now ++ self.old.hand.items) }
+        ensures hand { IfOk result (λ _. self.new.hand.items
+            ≡ kids_of path.now kids.now ++ self.old.hand.items) }
         ensures deque { IfOk result (λ _. self.new.deque.items ≡ self.old.deque.items) }
     {
         for i in 0..kids.len() {
@@ -101,7 +102,9 @@ impl Worker {
 
 /// Whether a worker may put a path from its hand into its deque. If so, it does.
 pub fn push(workers: &mut [Worker], w: usize) -> Result<bool, Memory>
-    ensures { (past : Past) → IfOk result (λ b. Answered (Pushes (state_of workers.old past) w) b (state_of workers.new past)) }
+    ensures { (past : Past) →
+        IfOk result (λ b. Answered (Pushes (state_of workers.old past) w) b
+        (state_of workers.new past)) }
 {
     if w >= workers.len() {
         return Ok(false);
@@ -112,7 +115,9 @@ pub fn push(workers: &mut [Worker], w: usize) -> Result<bool, Memory>
 
 /// Whether a worker may take a path back from its deque. If so, it does.
 pub fn pop(workers: &mut [Worker], w: usize) -> Result<bool, Memory>
-    ensures { (past : Past) → IfOk result (λ b. Answered (Pops (state_of workers.old past) w) b (state_of workers.new past)) }
+    ensures { (past : Past) →
+        IfOk result (λ b. Answered (Pops (state_of workers.old past) w) b
+        (state_of workers.new past)) }
 {
     if w >= workers.len() {
         return Ok(false);
@@ -123,7 +128,9 @@ pub fn pop(workers: &mut [Worker], w: usize) -> Result<bool, Memory>
 
 /// Whether a worker may take a path from the deque of another. If so, it does.
 pub fn steal(workers: &mut [Worker], w: usize, from: usize) -> Result<bool, Memory>
-    ensures { (past : Past) → IfOk result (λ b. Answered (Steals (state_of workers.old past) w from) b (state_of workers.new past)) }
+    ensures { (past : Past) →
+        IfOk result (λ b. Answered (Steals (state_of workers.old past) w from) b
+        (state_of workers.new past)) }
 {
     if w == from {
         return Ok(false);

@@ -70,7 +70,8 @@ fn pred_of_atom(goal: &Goal<Term>) -> Option<u32>
 fn parts_of_both(goal: &Goal<Term>) -> Option<(&Goal<Term>, &Goal<Term>)>
     ensures { (program : Clauses) (d e : NominalDerivation) →
         uses program (nodes.both d e) (goal_of goal.now)
-        ≡ if_any result (λ p. uses program d (goal_of p.0.now) ++ uses program e (goal_of p.1.now)) }
+        ≡ if_any result (λ p. uses program d (goal_of p.0.now)
+        ++ uses program e (goal_of p.1.now)) }
 {
     match goal {
         Goal::Both(left, right) => Some((left, right)),

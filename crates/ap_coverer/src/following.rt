@@ -34,7 +34,8 @@ fn go_on<'a>(
     requires choice { IsChoiceOf choice branch }
     requires there { IsInSearch p.now (path_of_branch branch) }
     ensures of { IfOk result (λ b. IsBranchOf p.now b) }
-    ensures path { IfOk result (λ b. path_of_branch b ≡ path_of_branch branch.entry ++ choice ∷ []) }
+    ensures path { IfOk result (λ b. path_of_branch b
+        ≡ path_of_branch branch.entry ++ choice ∷ []) }
     ensures there { IfOk result (λ b. IsInSearch p.now (path_of_branch b)) }
 {
     branch.step(alloc, p, choice)

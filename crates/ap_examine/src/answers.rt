@@ -91,7 +91,8 @@ fn judge<R: Threads + Wait + Sync, G: Gate>(
     requires constructors { map constructor_of picker.now.constructors.now
         ≡ (program_of program).signature.constructors }
     requires some { 1 ≤ length (program_of program).queries }
-    requires answer { IsExaminable (program_of program) (query_of query.now) (answer_of answer.now) }
+    requires answer { IsExaminable (program_of program) (query_of query.now)
+        (answer_of answer.now) }
     ensures program { IfOk result (λ r. Asks (program_of program) (program_of r.program)) }
     ensures verdict { IfOk result (λ r. r.verdict
         ≡ verdict_on (program_of program) depth (query_of query.now) (answer_of answer.now)) }
@@ -246,7 +247,8 @@ pub(crate) fn examine_outs<R: Threads + Wait + Sync, G: Gate>(
     requires constructors { map constructor_of picker.now.constructors.now
         ≡ (program_of program).signature.constructors }
     requires some { 1 ≤ length (program_of program).queries }
-    requires outs { EachAnswer (IsExaminable (program_of program) (query_of query.now)) (outs_of outs.now) }
+    requires outs { EachAnswer (IsExaminable (program_of program) (query_of query.now))
+        (outs_of outs.now) }
     ensures program { IfOk result (λ r. Asks (program_of program) (program_of r.program)) }
     ensures exam { IfOk result (λ r. IsExam r.exam
         (exam_of (program_of program) depth (query_of query.now) (outs_of outs.now))) }

@@ -33,7 +33,8 @@ fn write_line(alloc: Global, out: &mut Vec<u8>, number: u64, said: &str) -> Resu
 
 /// Writes the line of a property with totals.
 fn write_tally(alloc: Global, out: &mut Vec<u8>, number: u64, tally: Tally) -> Result<(), Memory>
-    ensures { OnOk result (out.new.items ≡ out.old.items ++ property_line number (tally_said tally)) }
+    ensures { OnOk result (out.new.items
+        ≡ out.old.items ++ property_line number (tally_said tally)) }
 {
     let Tally {
         held,

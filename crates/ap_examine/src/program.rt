@@ -94,7 +94,8 @@ fn examine_queries<R: Threads + Wait + Sync, G: Gate>(
     requires constructors { map constructor_of picker.now.constructors.now
         ≡ (program_of program).signature.constructors }
     requires some { 1 ≤ length (program_of program).queries }
-    requires typed { AreTypedQueries term_form (program_of program).signature (map query_of queries.now) }
+    requires typed { AreTypedQueries term_form (program_of program).signature
+        (map query_of queries.now) }
     ensures program { IfOk result (λ r. Asks (program_of program) (program_of r.program)) }
     ensures exams { IfOk result (λ r. AreExams (program_of program) depth r.exams.items
         (map query_of queries.now)) }

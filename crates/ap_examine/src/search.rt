@@ -48,7 +48,8 @@ fn first_outputs_by<R: Threads + Wait + Sync, G: Gate>(
     program: &Index<'_>,
 ) -> Result<Vec<Out>, Memory>
     requires { 1 ≤ length (program_of program.now).queries }
-    ensures { IfOk result (λ v. (q : NominalQuery) → slice_get (program_of program.now).queries 0 ≡ Some q →
+    ensures { IfOk result (λ v. (q : NominalQuery) →
+        slice_get (program_of program.now).queries 0 ≡ Some q →
         outs_of v.items ≡ part limit (query_outs (program_of program.now).clauses depth q)) }
 {
     let problem = Problem {
@@ -70,7 +71,8 @@ fn first_outputs<R: Threads + Wait + Sync, G: Gate>(
     program: &Restricted,
 ) -> Result<Vec<Out>, Memory>
     requires { 1 ≤ length (program_of program.now).queries }
-    ensures { IfOk result (λ v. (q : NominalQuery) → slice_get (program_of program.now).queries 0 ≡ Some q →
+    ensures { IfOk result (λ v. (q : NominalQuery) →
+        slice_get (program_of program.now).queries 0 ≡ Some q →
         outs_of v.items ≡ part limit (query_outs (program_of program.now).clauses depth q)) }
 {
     let index = Index::of(alloc, program)?;

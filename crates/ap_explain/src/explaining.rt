@@ -44,7 +44,8 @@ fn message_of_tokens(
     tokens: &[Token<'_>],
     fault: &Fault,
 ) -> Result<Option<Message>, Memory>
-    ensures { IfOk result (λ m. IfSome m (λ m. StandsIn (lexemes tokens.now) (fault_item fault.now) m.span.start)) }
+    ensures { IfOk result (λ m. IfSome m (λ m. StandsIn (lexemes tokens.now) (fault_item fault.now)
+        m.span.start)) }
 {
     let ranges = ranges_of(alloc, tokens)?;
     let number = item_of(fault);
@@ -65,7 +66,8 @@ fn message_of_tokens(
 /// What is said of a fault of an item of the text.
 fn message_of_item(alloc: Global, text: &[u8], fault: &Fault) -> Result<Option<Message>, Memory>
     requires { length text.now ≤ size_limit }
-    ensures { IfOk result (λ m. IfSome m (λ m. StandsInItem text.now (fault_item fault.now) m.span.start)) }
+    ensures { IfOk result (λ m. IfSome m (λ m. StandsInItem text.now (fault_item fault.now)
+        m.span.start)) }
 {
     match lex(alloc, text) {
         Ok(tokens) => message_of_tokens(alloc, text, &tokens, fault),

@@ -41,8 +41,11 @@ fn preimage_from(base: u64, end: u64, swaps: &[Swap], a: Name) -> Name
 /// Puts the conditions to which a problem reduces under the bindings behind others, from the last to the
 /// first. What is left to be reduced lies on a stack.
 fn collect<L: Look>(first: Pending<'_>, look: &L, conds: &mut Vec<Cond>) -> Result<(), FreshError>
-    ensures added { OnOk result (added (by_rules first.entry.name (carried_out (L.bound look.now) (L.rank look.now) (pending_term first.entry))) conds.old.items ≡ Some conds.new.items) }
-    ensures refuted { IsErrOf result FreshError.Refuted → by_rules first.entry.name (carried_out (L.bound look.now) (L.rank look.now) (pending_term first.entry)) ≡ None }
+    ensures added { OnOk result (added (by_rules first.entry.name (carried_out (L.bound look.now)
+        (L.rank look.now) (pending_term first.entry))) conds.old.items ≡ Some conds.new.items) }
+    ensures refuted { IsErrOf result FreshError.Refuted →
+        by_rules first.entry.name (carried_out (L.bound look.now) (L.rank look.now)
+        (pending_term first.entry)) ≡ None }
 {
     let mut left = Vec::new(*conds.allocator());
     left.push(first)?;
@@ -87,8 +90,10 @@ pub fn add_reduced<L: Look>(
     look: &L,
     conds: &mut Vec<Cond>,
 ) -> Result<(), FreshError>
-    ensures added { OnOk result (added (by_rules a (carried_out (L.bound look.now) (L.rank look.now) (closure_term t.now))) conds.old.items ≡ Some conds.new.items) }
-    ensures refuted { IsErrOf result FreshError.Refuted → by_rules a (carried_out (L.bound look.now) (L.rank look.now) (closure_term t.now)) ≡ None }
+    ensures added { OnOk result (added (by_rules a (carried_out (L.bound look.now) (L.rank look.now)
+        (closure_term t.now))) conds.old.items ≡ Some conds.new.items) }
+    ensures refuted { IsErrOf result FreshError.Refuted →
+        by_rules a (carried_out (L.bound look.now) (L.rank look.now) (closure_term t.now)) ≡ None }
 {
     collect(Pending::bound(a, t), look, conds)
 }
@@ -101,8 +106,10 @@ pub fn add_reduced_var<L: Look>(
     look: &L,
     conds: &mut Vec<Cond>,
 ) -> Result<(), FreshError>
-    ensures added { OnOk result (added (by_rules a (carried_out (L.bound look.now) (L.rank look.now) (susp [] x))) conds.old.items ≡ Some conds.new.items) }
-    ensures refuted { IsErrOf result FreshError.Refuted → by_rules a (carried_out (L.bound look.now) (L.rank look.now) (susp [] x)) ≡ None }
+    ensures added { OnOk result (added (by_rules a (carried_out (L.bound look.now) (L.rank look.now)
+        (susp [] x))) conds.old.items ≡ Some conds.new.items) }
+    ensures refuted { IsErrOf result FreshError.Refuted →
+        by_rules a (carried_out (L.bound look.now) (L.rank look.now) (susp [] x)) ≡ None }
 {
     match look.look(x) {
         None => Ok(conds.push(Cond { name: a, var: x })?),
@@ -122,10 +129,14 @@ pub fn reduce<L: Look>(
     t: &Closure<'_>,
     look: &L,
 ) -> Result<Vec<Cond>, FreshError>
-    ensures conditions { IfOk result (λ conds. collected (by_rules a (carried_out (L.bound look.now) (L.rank look.now) (closure_term t.now))) ≡ Some conds.items) }
-    ensures least { IfOk result (λ conds. IsLeast a (carried_out (L.bound look.now) (L.rank look.now) (closure_term t.now)) conds.items) }
-    ensures fresh { OnOk result (is_free a (carried_out (L.bound look.now) (L.rank look.now) (closure_term t.now)) ≡ false) }
-    ensures refuted { IsErrOf result FreshError.Refuted → is_free a (carried_out (L.bound look.now) (L.rank look.now) (closure_term t.now)) ≡ true }
+    ensures conditions { IfOk result (λ conds. collected (by_rules a (carried_out (L.bound look.now)
+        (L.rank look.now) (closure_term t.now))) ≡ Some conds.items) }
+    ensures least { IfOk result (λ conds. IsLeast a (carried_out (L.bound look.now)
+        (L.rank look.now) (closure_term t.now)) conds.items) }
+    ensures fresh { OnOk result (is_free a (carried_out (L.bound look.now) (L.rank look.now)
+        (closure_term t.now)) ≡ false) }
+    ensures refuted { IsErrOf result FreshError.Refuted →
+        is_free a (carried_out (L.bound look.now) (L.rank look.now) (closure_term t.now)) ≡ true }
 {
     let mut conds = Vec::new(alloc);
     add_reduced(a, t, look, &mut conds)?;

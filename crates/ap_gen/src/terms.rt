@@ -8,7 +8,8 @@ use ap_defs::memory::Memory;
 
 /// Writes a name that is drawn.
 fn write_name(draws: &mut Draws, out: &mut Vec<u8>) -> Result<(), Memory>
-    ensures text { OnOk result (out.new.items ≡ out.old.items ++ name_text (drawn 3 draws.old.state)) }
+    ensures text { OnOk result (out.new.items
+        ≡ out.old.items ++ name_text (drawn 3 draws.old.state)) }
     ensures state { OnOk result (draws.new.state ≡ next draws.old.state) }
 {
     match draws.draw(3) {
@@ -65,7 +66,8 @@ fn write_application(draws: &mut Draws, height: u32, out: &mut Vec<u8>) -> Resul
 /// Writes a term of at most this height. The calls go no deeper than that.
 #[cycle(terms)]
 pub fn write_term(draws: &mut Draws, height: u32, out: &mut Vec<u8>) -> Result<(), Memory>
-    ensures text { OnOk result (out.new.items ≡ out.old.items ++ (term height draws.old.state).text) }
+    ensures text { OnOk result (out.new.items
+        ≡ out.old.items ++ (term height draws.old.state).text) }
     ensures state { OnOk result (draws.new.state ≡ (term height draws.old.state).state) }
 {
     if height == 0 {

@@ -107,7 +107,8 @@ fn first_item<'t, 'a>(tokens: &'t [Token<'a>]) -> &'t [Token<'a>]
 
 /// Puts blanks in place of an item, where it is a query.
 fn leave_out(text: &mut [u8], item: &[Token<'_>])
-    ensures { text.new ≡ fold spec.without_item text.old (filter spec.is_query (lexemes item.now ∷ [])) }
+    ensures { text.new
+        ≡ fold spec.without_item text.old (filter spec.is_query (lexemes item.now ∷ [])) }
 {
     if is_query(item) {
         blank_between(text, start_of(item), end_of(item));
@@ -130,7 +131,8 @@ fn without_queries(alloc: Global, text: &[u8], tokens: &[Token<'_>]) -> Result<V
 
 /// Whether bytes end with the end of a line, or there are none.
 fn are_lines(bytes: &[u8]) -> bool
-    ensures { result ≡ option_map_or (λ b. b == 10) (slice_get bytes.now (length bytes.now - 1)) true }
+    ensures { result
+        ≡ option_map_or (λ b. b == 10) (slice_get bytes.now (length bytes.now - 1)) true }
 {
     match bytes.last() {
         Some(last) => *last == b'\n',

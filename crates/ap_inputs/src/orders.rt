@@ -100,7 +100,7 @@ impl Command {
     }
 }
 
-// The command of that name.
+/// The command of that name.
 fn command_named(word: &str) -> Option<Command> {
     match word {
         ":add" => Some(Command::Add),
@@ -123,7 +123,7 @@ fn command_named(word: &str) -> Option<Command> {
     }
 }
 
-// The first word, and the rest without the blanks round it.
+/// The first word, and the rest without the blanks round it.
 fn word_and_rest(text: &str) -> (&str, &str) {
     match text.split_once(' ') {
         Some((word, rest)) => (word, rest.trim()),
@@ -131,7 +131,7 @@ fn word_and_rest(text: &str) -> (&str, &str) {
     }
 }
 
-// The number that a word spells.
+/// The number that a word spells.
 fn number(word: &str) -> Option<u32> {
     if !word.as_bytes().iter().all(|byte| byte.is_ascii_digit()) {
         return None;
@@ -177,7 +177,7 @@ fn messages<'a>(rest: &str) -> Option<Order<'a>> {
     }
 }
 
-// What a command that takes no words asks for, where there are none behind it.
+/// What a command that takes no words asks for, where there are none behind it.
 fn without_words<'a>(command: Command) -> Option<Order<'a>> {
     match command {
         Command::Add => Some(Order::Add),
@@ -193,7 +193,7 @@ fn without_words<'a>(command: Command) -> Option<Order<'a>> {
     }
 }
 
-// What a command asks for with these words behind it.
+/// What a command asks for with these words behind it.
 fn with_words<'a>(command: Command, rest: &'a str) -> Option<Order<'a>> {
     match command {
         Command::Answers => answers(rest),

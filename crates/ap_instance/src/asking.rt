@@ -31,7 +31,8 @@ fn only(alloc: Global, query: Query<Term>) -> Result<List<Query<Term>>, Memory>
 
 /// The program with queries in place of its own.
 fn with_queries(program: Restricted, queries: List<Query<Term>>) -> Asked
-    requires restricted { IsRestricted (record (program_of program) { queries = map query_of queries }) }
+    requires restricted { IsRestricted (record (program_of program)
+        { queries = map query_of queries }) }
     ensures asked { program_of result.program
         ≡ record (program_of program) { queries = map query_of queries } }
     ensures former { map query_of result.former ≡ (program_of program).queries }

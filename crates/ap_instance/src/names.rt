@@ -74,7 +74,8 @@ impl Names {
     /// is.
     #[tactic(auto, unfolding(ap_defs::specs::Permutations::name_eq))]
     pub(crate) fn settled(&self, name: Name) -> Result<Name, Memory>
-        ensures { IfOk result (λ a. a ≡ settled_name self.now.free self.now.first self.now.known.keys name) }
+        ensures { IfOk result (λ a. a
+            ≡ settled_name self.now.free self.now.first self.now.known.keys name) }
     {
         let Some(place) = self.known.get_index_of(&name) else {
             return Ok(name);
@@ -93,7 +94,8 @@ impl Names {
 
     /// The sorts of the others, in order.
     pub(crate) fn sorts(&self, alloc: Global) -> Result<Vec<u32>, Memory>
-        ensures { IfOk result (λ v. v.items ≡ map sort_of (drop self.now.free self.now.known.keys)) }
+        ensures { IfOk result (λ v. v.items
+            ≡ map sort_of (drop self.now.free self.now.known.keys)) }
     {
         let mut sorts = Vec::new(alloc);
         for place in self.free..self.known.len() {

@@ -68,11 +68,13 @@ pub fn picks_of(
     sorts: &mut Vec<u32>,
 ) -> Result<Picks, Memory>
     requires picker { IsPicker picker.now }
-    requires inhabited { HaveInhabitants (map constructor_of picker.now.constructors.now) (map typed_var_of vars.now) }
-    ensures terms { IfOk result (λ p. IsTableOf p (picks_from (map constructor_of picker.now.constructors.now)
-        first (map typed_var_of vars.now) sorts.old.items).0) }
-    ensures sorts { OnOk result (sorts.new.items ≡ (picks_from (map constructor_of picker.now.constructors.now)
-        first (map typed_var_of vars.now) sorts.old.items).1) }
+    requires inhabited { HaveInhabitants (map constructor_of picker.now.constructors.now)
+        (map typed_var_of vars.now) }
+    ensures terms { IfOk result (λ p. IsTableOf p (picks_from (map constructor_of
+        picker.now.constructors.now) first (map typed_var_of vars.now) sorts.old.items).0) }
+    ensures sorts { OnOk result (sorts.new.items
+        ≡ (picks_from (map constructor_of picker.now.constructors.now) first
+        (map typed_var_of vars.now) sorts.old.items).1) }
 {
     let mut picks = Picks {
         vars: IndexSet::new(alloc),

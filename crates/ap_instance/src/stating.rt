@@ -70,9 +70,10 @@ fn stated_terms(
     picks: &Picks,
     terms: &[Term],
 ) -> Result<Vec<Term>, Memory>
-    ensures { IfOk result (λ v. map term_of v.items ≡ map (replaced
-        (settled_name names.now.free names.now.first names.now.known.keys)
-        (term_beside picks.now.vars.keys picks.now.terms.items (λ y. unit))) (map term_of terms.now)) }
+    ensures { IfOk result (λ v. map term_of v.items
+        ≡ map (replaced (settled_name names.now.free names.now.first names.now.known.keys)
+        (term_beside picks.now.vars.keys picks.now.terms.items (λ y. unit)))
+        (map term_of terms.now)) }
 {
     let mut stated = Vec::new(alloc);
     for term in terms {
@@ -92,8 +93,8 @@ pub fn stated_of(
     requires picker { IsPicker picker.now }
     requires inhabited { HaveInhabitants (map constructor_of picker.now.constructors.now)
         (answer_of answer.now).vars }
-    ensures { IfOk result (λ s. IsStated s (stated
-        (map constructor_of picker.now.constructors.now) (locals_of locals.now) (answer_of answer.now))) }
+    ensures { IfOk result (λ s. IsStated s (stated (map constructor_of picker.now.constructors.now)
+        (locals_of locals.now) (answer_of answer.now))) }
 {
     let names = names_of_answer(alloc, locals, answer)?;
     let mut sorts = names.sorts(alloc)?;

@@ -37,7 +37,8 @@ impl MemSource {
     /// A source of these bytes. The calls of `read` whose numbers stand in `fails` fail. It takes no
     /// memory.
     pub fn new(bytes: Vec<u8>, fails: Vec<u64>) -> Self
-        ensures { result ≡ record { left = bytes.items; calls = 0; faults = 0; fails = fails.items } }
+        ensures { result
+            ≡ record { left = bytes.items; calls = 0; faults = 0; fails = fails.items } }
     {
         MemSource {
             bytes,
@@ -158,8 +159,9 @@ impl Sink for MemSink {
         ensures bound { IfOk result (λ n. (0 < n) × (n ≤ length piece.now)) }
         ensures bytes { WriteAppends (Some self.old.held) (Some self.new.held) result piece.now }
         ensures cause { HasCause self.old.faults self.new.faults result }
-        ensures fails { IsErr result ↔
-            (Contains self.old.fails (next self.old.calls) ⊎ (length self.old.held ≡ self.old.room)) }
+        ensures fails { IsErr result
+            ↔ (Contains self.old.fails (next self.old.calls)
+            ⊎ (length self.old.held ≡ self.old.room)) }
         ensures count { IfOk result (λ n.
             n ≡ min (min self.old.most (self.old.room - length self.old.held)) (length piece.now)) }
         ensures ok { IfOk result (λ n. self.new ≡ record self.old {

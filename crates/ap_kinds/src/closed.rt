@@ -39,8 +39,10 @@ fn is_sort_in(nodes: &[Node], x: usize) -> bool
 fn add_parts(nodes: &[Node], x: usize, places: &mut Vec<usize>) -> Result<bool, Memory>
     requires settled { IsSettled (table_of nodes.now) }
     requires within { x < length nodes.now }
-    ensures closed { IfOk result (λ b. b ≡ false → is_closed (value_of (table_of nodes.now) x) ≡ false) }
-    ensures parts { OnOk result (SomeOpenPlace (table_of nodes.now) places.new.items → SomeOpenPlace (table_of nodes.now) (places.old.items ++ x ∷ [])) }
+    ensures closed { IfOk result (λ b. b ≡ false →
+        is_closed (value_of (table_of nodes.now) x) ≡ false) }
+    ensures parts { OnOk result (SomeOpenPlace (table_of nodes.now) places.new.items →
+        SomeOpenPlace (table_of nodes.now) (places.old.items ++ x ∷ [])) }
     ensures few { OnOk result (length places.new.items ≤ length places.old.items + 2) }
 {
     match nodes[x] {
@@ -145,7 +147,8 @@ pub(crate) fn is_ambiguous(
     count: usize,
 ) -> Result<bool, Memory>
     requires { IsSettled (table_of table.now.nodes.items) }
-    ensures { IfOk result (λ b. b ≡ true → IsAmbiguous name_types data_types count (assignment_of table.now)) }
+    ensures { IfOk result (λ b. b ≡ true →
+        IsAmbiguous name_types data_types count (assignment_of table.now)) }
 {
     if !are_declared_in(name_types, data_types, table.nodes.as_slice()) {
         return Ok(false);

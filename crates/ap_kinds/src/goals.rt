@@ -29,7 +29,9 @@ fn gather_terms(
     types: &[Ty],
     system: System,
 ) -> Result<System, Memory>
-    ensures { IfOk result (λ s. system_of s ≡ gather_terms (map constructor_of constructors.now) idents.now (map raw_of terms.now) (map type_of types.now) (system_of system)) }
+    ensures { IfOk result (λ s. system_of s
+        ≡ gather_terms (map constructor_of constructors.now) idents.now (map raw_of terms.now)
+        (map type_of types.now) (system_of system)) }
 {
     let mut gathered = system;
     for (i, t) in terms.iter().enumerate() {
@@ -48,7 +50,8 @@ fn gather_terms(
 /// The types of the arguments of a declared predicate.
 #[tactic(auto, using(crate::proofs::Lookups::predicate_found, crate::proofs::Lookups::predicate_past))]
 fn types_at(predicates: &[List<Ty>], pred: u32) -> Option<&[Ty]>
-    ensures { MatchOption result (predicate_at (map (map type_of) predicates.now) pred ≡ None) (λ ts. predicate_at (map (map type_of) predicates.now) pred ≡ Some (map type_of ts.now)) }
+    ensures { MatchOption result (predicate_at (map (map type_of) predicates.now) pred ≡ None) (λ ts.
+        predicate_at (map (map type_of) predicates.now) pred ≡ Some (map type_of ts.now)) }
 {
     let place = pred as usize;
     if place >= predicates.len() {
@@ -66,7 +69,9 @@ pub(crate) fn gather_atom(
     terms: &[Raw],
     system: System,
 ) -> Result<System, Memory>
-    ensures { IfOk result (λ s. system_of s ≡ gather_atom (signature_of sig.now) idents.now pred (map raw_of terms.now) (system_of system)) }
+    ensures { IfOk result (λ s. system_of s
+        ≡ gather_atom (signature_of sig.now) idents.now pred (map raw_of terms.now)
+        (system_of system)) }
 {
     match types_at(sig.predicates.items(), pred) {
         None => refused(system),
@@ -92,7 +97,9 @@ fn gather_equal(
     u: &Raw,
     system: System,
 ) -> Result<System, Memory>
-    ensures { IfOk result (λ s. system_of s ≡ gather_equal (map constructor_of constructors.now) idents.now (raw_of t.now) (raw_of u.now) (system_of system)) }
+    ensures { IfOk result (λ s. system_of s
+        ≡ gather_equal (map constructor_of constructors.now) idents.now (raw_of t.now)
+        (raw_of u.now) (system_of system)) }
 {
     let hole = system.next;
     let system = with_hole(system)?;
@@ -111,7 +118,9 @@ fn gather_fresh(
     u: &Raw,
     system: System,
 ) -> Result<System, Memory>
-    ensures { IfOk result (λ s. system_of s ≡ gather_fresh (map constructor_of constructors.now) idents.now (raw_of t.now) (raw_of u.now) (system_of system)) }
+    ensures { IfOk result (λ s. system_of s
+        ≡ gather_fresh (map constructor_of constructors.now) idents.now (raw_of t.now)
+        (raw_of u.now) (system_of system)) }
 {
     let left = system.next;
     let system = with_hole(system)?;
@@ -126,7 +135,8 @@ fn gather_fresh(
 
 /// The system as it is, or one that nothing solves.
 fn unless_refused(holds: bool, system: System) -> Result<System, Memory>
-    ensures { IfOk result (λ s. system_of s ≡ (if holds then system_of system else refused (system_of system))) }
+    ensures { IfOk result (λ s. system_of s
+        ≡ (if holds then system_of system else refused (system_of system))) }
 {
     if holds { Ok(system) } else { refused(system) }
 }
@@ -142,7 +152,9 @@ pub(crate) fn gather_goal(
     goal: &Goal<Raw>,
     system: System,
 ) -> Result<System, Memory>
-    ensures { IfOk result (λ s. system_of s ≡ gather_goal (signature_of sig.now) idents.now (goal_over raw_of goal.now) (system_of system)) }
+    ensures { IfOk result (λ s. system_of s
+        ≡ gather_goal (signature_of sig.now) idents.now (goal_over raw_of goal.now)
+        (system_of system)) }
 {
     let constructors = sig.constructors.items();
     let mut gathered = system;

@@ -23,7 +23,8 @@ pub(crate) struct Inside<'a> {
 
 /// What is wanted of the parts of a list cell with elements of a new hole.
 fn new_element<'a>(alloc: Global, want: Wanted<'_>, system: System) -> Result<Inside<'a>, Memory>
-    ensures { IfOk result (λ b. inside_of b ≡ new_element (wanting_of want.entry) (system_of system)) }
+    ensures { IfOk result (λ b. inside_of b
+        ≡ new_element (wanting_of want.entry) (system_of system)) }
 {
     let element = system.next;
     let system = with_hole(system)?;
@@ -50,7 +51,8 @@ fn listed_hole(want: &Wanted<'_>) -> Option<u64>
 
 /// What is wanted of the parts of a list cell.
 fn inside_cell<'a>(alloc: Global, want: Wanted<'_>, system: System) -> Result<Inside<'a>, Memory>
-    ensures { IfOk result (λ b. inside_of b ≡ inside_cell (wanting_of want.entry) (system_of system)) }
+    ensures { IfOk result (λ b. inside_of b
+        ≡ inside_cell (wanting_of want.entry) (system_of system)) }
 {
     match listed_hole(&want) {
         Some(x) => Ok(Inside {
@@ -64,7 +66,8 @@ fn inside_cell<'a>(alloc: Global, want: Wanted<'_>, system: System) -> Result<In
 /// The declared constructor with a number, of which 0 and 1 are none.
 #[tactic(auto, using(crate::proofs::Lookups::constructor_found, crate::proofs::Lookups::constructor_low, crate::proofs::Lookups::constructor_past))]
 fn declared_at(constructors: &[Constructor], f: u32) -> Option<&Constructor>
-    ensures { MatchOption result (constructor_in (map constructor_of constructors.now) f ≡ None) (λ c. constructor_in (map constructor_of constructors.now) f ≡ Some (constructor_of c.now)) }
+    ensures { MatchOption result (constructor_in (map constructor_of constructors.now) f ≡ None) (λ c.
+        constructor_in (map constructor_of constructors.now) f ≡ Some (constructor_of c.now)) }
 {
     let place = f as usize;
     if place < 2 || place - 2 >= constructors.len() {
@@ -81,7 +84,9 @@ fn inside_declared<'a>(
     want: Wanted<'_>,
     system: System,
 ) -> Result<Inside<'a>, Memory>
-    ensures { IfOk result (λ b. inside_of b ≡ inside_declared (constructor_in (map constructor_of constructors.now) f) (wanting_of want.entry) (system_of system)) }
+    ensures { IfOk result (λ b. inside_of b
+        ≡ inside_declared (constructor_in (map constructor_of constructors.now) f)
+        (wanting_of want.entry) (system_of system)) }
 {
     match declared_at(constructors, f) {
         None => Ok(Inside {
@@ -107,7 +112,9 @@ pub(crate) fn inside_application<'a>(
     want: Wanted<'_>,
     system: System,
 ) -> Result<Inside<'a>, Memory>
-    ensures { IfOk result (λ b. inside_of b ≡ inside_application (map constructor_of constructors.now) f (wanting_of want.entry) (system_of system)) }
+    ensures { IfOk result (λ b. inside_of b
+        ≡ inside_application (map constructor_of constructors.now) f (wanting_of want.entry)
+        (system_of system)) }
 {
     match f {
         0 => {
@@ -129,7 +136,8 @@ fn new_body<'a>(
     want: Wanted<'_>,
     system: System,
 ) -> Result<Inside<'a>, Memory>
-    ensures { IfOk result (λ b. inside_of b ≡ new_body binder (wanting_of want.entry) (system_of system)) }
+    ensures { IfOk result (λ b. inside_of b
+        ≡ new_body binder (wanting_of want.entry) (system_of system)) }
 {
     let body = system.next;
     let system = with_hole(system)?;
@@ -149,7 +157,8 @@ fn body_of_shape<'a>(
     want: Shape,
     system: System,
 ) -> Result<Inside<'a>, Memory>
-    ensures { IfOk result (λ b. inside_of b ≡ inside_abstraction binder (whole (shape_of want)) (system_of system)) }
+    ensures { IfOk result (λ b. inside_of b
+        ≡ inside_abstraction binder (whole (shape_of want)) (system_of system)) }
 {
     match want {
         Shape::Abs(left, body) => Ok(Inside {
@@ -167,7 +176,8 @@ pub(crate) fn inside_abstraction<'a>(
     want: Wanted<'_>,
     system: System,
 ) -> Result<Inside<'a>, Memory>
-    ensures { IfOk result (λ b. inside_of b ≡ inside_abstraction binder (wanting_of want.entry) (system_of system)) }
+    ensures { IfOk result (λ b. inside_of b
+        ≡ inside_abstraction binder (wanting_of want.entry) (system_of system)) }
 {
     match want {
         Wanted::Whole(shape) => body_of_shape(alloc, binder, shape, system),

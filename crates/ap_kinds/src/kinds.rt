@@ -39,8 +39,11 @@ pub enum IdentKind {
 /// so more name types than that count as want of memory.
 fn table_of_holes(alloc: Global, sig: &Signature, system: &System) -> Result<Solved, TypesError>
     ensures settled { IfOk result (λ s. IsSettled (table_of s.nodes.items)) }
-    ensures ok { IfOk result (λ s. IsSolved (name_count (signature_of sig.now)) (system_of system.now) (assignment_of s)) }
-    ensures clash { IfErr result (λ e. e ≡ TypesError.Clash → IsUnsolvable (system_of system.now).equations (system_of system.now).names (name_count (signature_of sig.now))) }
+    ensures ok { IfOk result (λ s. IsSolved (name_count (signature_of sig.now))
+        (system_of system.now) (assignment_of s)) }
+    ensures clash { IfErr result (λ e. e ≡ TypesError.Clash →
+        IsUnsolvable (system_of system.now).equations (system_of system.now).names
+        (name_count (signature_of sig.now))) }
 {
     let name_types = sig.name_types.items().len();
     if name_types > u32::MAX as usize {
@@ -73,9 +76,12 @@ fn read_table(
 ) -> Result<Vec<Kind>, KindsError>
     requires inhabited { AreInhabitants (signature_of sig.now).constructors inhabitants.now }
     requires settled { IsSettled (table_of table.now.nodes.items) }
-    ensures read { IfOk result (λ ks. IsRead (signature_of sig.now) idents.now (assignment_of table.now) (map kind_of ks.items)) }
-    ensures inhabited { IfOk result (λ ks. AreInhabited (signature_of sig.now).constructors (map kind_of ks.items)) }
-    ensures unread { IfErr result (λ e. IsUnread e (signature_of sig.now) idents.now (assignment_of table.now)) }
+    ensures read { IfOk result (λ ks. IsRead (signature_of sig.now) idents.now
+        (assignment_of table.now) (map kind_of ks.items)) }
+    ensures inhabited { IfOk result (λ ks. AreInhabited (signature_of sig.now).constructors
+        (map kind_of ks.items)) }
+    ensures unread { IfErr result (λ e. IsUnread e (signature_of sig.now) idents.now
+        (assignment_of table.now)) }
 {
     let name_types = sig.name_types.items().len();
     let data_types = sig.data_types.items().len();
@@ -96,8 +102,10 @@ fn settle(
     system: &System,
 ) -> Result<Vec<Kind>, KindsError>
     requires { AreInhabitants (signature_of sig.now).constructors inhabitants.now }
-    ensures ok { IfOk result (λ ks. IsFound (signature_of sig.now) idents.now (system_of system.now) (map kind_of ks.items)) }
-    ensures err { IfErr result (λ e. IsNotFound e (signature_of sig.now) idents.now (system_of system.now)) }
+    ensures ok { IfOk result (λ ks. IsFound (signature_of sig.now) idents.now (system_of system.now)
+        (map kind_of ks.items)) }
+    ensures err { IfErr result (λ e. IsNotFound e (signature_of sig.now) idents.now
+        (system_of system.now)) }
 {
     match table_of_holes(alloc, sig, system) {
         Ok(table) => read_table(alloc, sig, inhabitants, idents, &table),
@@ -113,7 +121,9 @@ fn system_of_query(
     goal: &Goal<Raw>,
     idents: &[IdentKind],
 ) -> Result<System, Memory>
-    ensures { IfOk result (λ s. system_of s ≡ gather_goal (signature_of sig.now) idents.now (goal_over raw_of goal.now) (started idents.now)) }
+    ensures { IfOk result (λ s. system_of s
+        ≡ gather_goal (signature_of sig.now) idents.now (goal_over raw_of goal.now)
+        (started idents.now)) }
 {
     let system = started(alloc, idents)?;
     gather_goal(alloc, sig, idents, goal, system)
@@ -128,7 +138,9 @@ fn system_of_clause(
     body: &Goal<Raw>,
     idents: &[IdentKind],
 ) -> Result<System, Memory>
-    ensures { IfOk result (λ s. system_of s ≡ gather_goal (signature_of sig.now) idents.now (goal_over raw_of body.now) (gather_atom (signature_of sig.now) idents.now pred (map raw_of args.now) (started idents.now))) }
+    ensures { IfOk result (λ s. system_of s
+        ≡ gather_goal (signature_of sig.now) idents.now (goal_over raw_of body.now) (gather_atom
+        (signature_of sig.now) idents.now pred (map raw_of args.now) (started idents.now))) }
 {
     let system = started(alloc, idents)?;
     let system = gather_atom(alloc, sig, idents, pred, args.items(), system)?;
@@ -156,8 +168,10 @@ pub fn kinds_of_query(
     idents: &[IdentKind],
 ) -> Result<Vec<Kind>, KindsError>
     requires { AreInhabitants (signature_of sig.now).constructors inhabitants.now }
-    ensures ok { IfOk result (λ ks. IsInferred (signature_of sig.now).constructors (TypesQuery (signature_of sig.now) idents.now (goal_over raw_of goal.now)) (map kind_of ks.items)) }
-    ensures err { IfErr result (λ e. IsRefused e (signature_of sig.now).constructors (TypesQuery (signature_of sig.now) idents.now (goal_over raw_of goal.now))) }
+    ensures ok { IfOk result (λ ks. IsInferred (signature_of sig.now).constructors (TypesQuery
+        (signature_of sig.now) idents.now (goal_over raw_of goal.now)) (map kind_of ks.items)) }
+    ensures err { IfErr result (λ e. IsRefused e (signature_of sig.now).constructors (TypesQuery
+        (signature_of sig.now) idents.now (goal_over raw_of goal.now))) }
 {
     let system = system_of_query(alloc, sig, goal, idents)?;
     settle(alloc, sig, inhabitants, idents, &system)
@@ -177,8 +191,11 @@ pub fn kinds_of_clause(
     idents: &[IdentKind],
 ) -> Result<Vec<Kind>, KindsError>
     requires { AreInhabitants (signature_of sig.now).constructors inhabitants.now }
-    ensures ok { IfOk result (λ ks. IsInferred (signature_of sig.now).constructors (TypesClause (signature_of sig.now) idents.now pred (map raw_of args.now) (goal_over raw_of body.now)) (map kind_of ks.items)) }
-    ensures err { IfErr result (λ e. IsRefused e (signature_of sig.now).constructors (TypesClause (signature_of sig.now) idents.now pred (map raw_of args.now) (goal_over raw_of body.now))) }
+    ensures ok { IfOk result (λ ks. IsInferred (signature_of sig.now).constructors (TypesClause
+        (signature_of sig.now) idents.now pred (map raw_of args.now) (goal_over raw_of body.now))
+        (map kind_of ks.items)) }
+    ensures err { IfErr result (λ e. IsRefused e (signature_of sig.now).constructors (TypesClause
+        (signature_of sig.now) idents.now pred (map raw_of args.now) (goal_over raw_of body.now))) }
 {
     let system = system_of_clause(alloc, sig, pred, args, body, idents)?;
     settle(alloc, sig, inhabitants, idents, &system)

@@ -90,7 +90,8 @@ fn is_closed_at(holes: &[Shape], x: usize) -> bool
 /// Whether the shapes of the holes below a number are declared.
 fn are_declared(name_types: usize, data_types: usize, holes: &[Shape], count: usize) -> bool
     ensures all { result ≡ true → AllDeclared name_types data_types count (map shape_of holes.now) }
-    ensures some { result ≡ false → SomeUndeclared name_types data_types count (map shape_of holes.now) }
+    ensures some { result ≡ false →
+        SomeUndeclared name_types data_types count (map shape_of holes.now) }
 {
     for x in 0..count {
         if !is_declared_at(name_types, data_types, holes, x) {
@@ -177,7 +178,8 @@ fn read_kind_at(alloc: Global, ident: IdentKind, holes: &[Shape], x: usize) -> R
 
 /// The kinds of identifiers, by the shapes of the holes.
 fn read_kinds(alloc: Global, idents: &[IdentKind], holes: &[Shape]) -> Result<Vec<Kind>, Memory>
-    ensures { IfOk result (λ ks. map kind_of ks.items ≡ read_kinds (map shape_of holes.now) 0 idents.now) }
+    ensures { IfOk result (λ ks. map kind_of ks.items
+        ≡ read_kinds (map shape_of holes.now) 0 idents.now) }
 {
     let mut kinds = Vec::new(alloc);
     for (i, ident) in idents.iter().enumerate() {
@@ -188,7 +190,8 @@ fn read_kinds(alloc: Global, idents: &[IdentKind], holes: &[Shape]) -> Result<Ve
 
 /// Whether an identifier is a name, or a variable of an inhabited type.
 fn is_name_or_inhabited(inhabitants: &Inhabitants, kind: &Kind) -> bool
-    ensures { (cs : list NominalConstructor) → AreInhabitants cs inhabitants.now → IsTrue result ↔ AreInhabited cs (kind_of kind.now ∷ []) }
+    ensures { (cs : list NominalConstructor) → AreInhabitants cs inhabitants.now →
+        IsTrue result ↔ AreInhabited cs (kind_of kind.now ∷ []) }
 {
     match kind {
         Kind::Name(_) => true,
@@ -198,7 +201,8 @@ fn is_name_or_inhabited(inhabitants: &Inhabitants, kind: &Kind) -> bool
 
 /// Whether the type of each variable is inhabited. It costs as much as the types are long.
 fn are_inhabited(inhabitants: &Inhabitants, kinds: &[Kind]) -> bool
-    ensures { (cs : list NominalConstructor) → AreInhabitants cs inhabitants.now → IsTrue result ↔ AreInhabited cs (map kind_of kinds.now) }
+    ensures { (cs : list NominalConstructor) → AreInhabitants cs inhabitants.now →
+        IsTrue result ↔ AreInhabited cs (map kind_of kinds.now) }
 {
     for kind in kinds {
         if !is_name_or_inhabited(inhabitants, kind) {
@@ -217,9 +221,12 @@ pub(crate) fn read_inhabited(
     holes: &[Shape],
 ) -> Result<Vec<Kind>, KindsError>
     requires { AreInhabitants (signature_of sig.now).constructors inhabitants.now }
-    ensures read { IfOk result (λ ks. IsRead (signature_of sig.now) idents.now (map shape_of holes.now) (map kind_of ks.items)) }
-    ensures inhabited { IfOk result (λ ks. AreInhabited (signature_of sig.now).constructors (map kind_of ks.items)) }
-    ensures unread { IfErr result (λ e. IsUnread e (signature_of sig.now) idents.now (map shape_of holes.now)) }
+    ensures read { IfOk result (λ ks. IsRead (signature_of sig.now) idents.now
+        (map shape_of holes.now) (map kind_of ks.items)) }
+    ensures inhabited { IfOk result (λ ks. AreInhabited (signature_of sig.now).constructors
+        (map kind_of ks.items)) }
+    ensures unread { IfErr result (λ e. IsUnread e (signature_of sig.now) idents.now
+        (map shape_of holes.now)) }
 {
     let name_types = sig.name_types.items().len();
     let data_types = sig.data_types.items().len();

@@ -17,7 +17,8 @@ use std::alloc::Global;
 /// The kind with a number.
 #[tactic(auto, using(crate::proofs::Lookups::kind_found, crate::proofs::Lookups::kind_past))]
 fn kind_at(kinds: &[Kind], number: u64) -> Option<&Kind>
-    ensures { MatchOption result (kind_at (map kind_of kinds.now) number ≡ None) (λ k. kind_at (map kind_of kinds.now) number ≡ Some (kind_of k.now)) }
+    ensures { MatchOption result (kind_at (map kind_of kinds.now) number ≡ None) (λ k. kind_at
+        (map kind_of kinds.now) number ≡ Some (kind_of k.now)) }
 {
     let place = number as usize;
     if place >= kinds.len() {
@@ -89,7 +90,8 @@ fn with_sorts(alloc: Global, kinds: &[Kind], t: &Raw) -> Result<Raw, Memory>
 
 /// Terms whose names have the sorts of their kinds.
 pub fn terms_with_sorts(alloc: Global, kinds: &[Kind], terms: &[Raw]) -> Result<List<Raw>, Memory>
-    ensures { IfOk result (λ ts. map raw_of ts ≡ terms_with_sorts (map kind_of kinds.now) (map raw_of terms.now)) }
+    ensures { IfOk result (λ ts. map raw_of ts
+        ≡ terms_with_sorts (map kind_of kinds.now) (map raw_of terms.now)) }
 {
     let mut sorted = Vec::new(alloc);
     for t in terms {
@@ -100,7 +102,8 @@ pub fn terms_with_sorts(alloc: Global, kinds: &[Kind], terms: &[Raw]) -> Result<
 
 /// `t = u`, whose names have the sorts of their kinds.
 fn equal_with_sorts(alloc: Global, kinds: &[Kind], t: &Raw, u: &Raw) -> Result<Goal<Raw>, Memory>
-    ensures { IfOk result (λ g. goal_over raw_of g ≡ goal_with_sorts (map kind_of kinds.now) (equal (raw_of t.now) (raw_of u.now))) }
+    ensures { IfOk result (λ g. goal_over raw_of g
+        ≡ goal_with_sorts (map kind_of kinds.now) (equal (raw_of t.now) (raw_of u.now))) }
 {
     let left = with_sorts(alloc, kinds, t)?;
     let right = with_sorts(alloc, kinds, u)?;
@@ -109,7 +112,8 @@ fn equal_with_sorts(alloc: Global, kinds: &[Kind], t: &Raw, u: &Raw) -> Result<G
 
 /// `t # u`, whose names have the sorts of their kinds.
 fn fresh_with_sorts(alloc: Global, kinds: &[Kind], t: &Raw, u: &Raw) -> Result<Goal<Raw>, Memory>
-    ensures { IfOk result (λ g. goal_over raw_of g ≡ goal_with_sorts (map kind_of kinds.now) (fresh (raw_of t.now) (raw_of u.now))) }
+    ensures { IfOk result (λ g. goal_over raw_of g
+        ≡ goal_with_sorts (map kind_of kinds.now) (fresh (raw_of t.now) (raw_of u.now))) }
 {
     let left = with_sorts(alloc, kinds, t)?;
     let right = with_sorts(alloc, kinds, u)?;
@@ -123,7 +127,8 @@ fn fresh_with_sorts(alloc: Global, kinds: &[Kind], t: &Raw, u: &Raw) -> Result<G
 /// itself on what is left of them alone.
 #[tactic(auto, using(ap_spines::proofs::SpineLemmas::goal_within_last))]
 pub fn goal_with_sorts(alloc: Global, kinds: &[Kind], goal: &Goal<Raw>) -> Result<Goal<Raw>, Memory>
-    ensures { IfOk result (λ g. goal_over raw_of g ≡ goal_with_sorts (map kind_of kinds.now) (goal_over raw_of goal.now)) }
+    ensures { IfOk result (λ g. goal_over raw_of g
+        ≡ goal_with_sorts (map kind_of kinds.now) (goal_over raw_of goal.now)) }
 {
     let mut layers = Vec::new(alloc);
     let mut rest = goal;

@@ -19,7 +19,8 @@ pub(crate) struct System {
 
 /// The system with one more equation.
 pub(crate) fn equate(system: System, left: Shape, right: Shape) -> Result<System, Memory>
-    ensures { IfOk result (λ s. system_of s ≡ equate (shape_of left) (shape_of right) (system_of system)) }
+    ensures { IfOk result (λ s. system_of s
+        ≡ equate (shape_of left) (shape_of right) (system_of system)) }
 {
     let System {
         mut equations,

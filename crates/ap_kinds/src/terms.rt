@@ -94,7 +94,9 @@ fn right_of_pair<'a>(
     left: &Raw,
     at: Inside<'a>,
 ) -> Result<Inside<'a>, Memory>
-    ensures { IfOk result (λ b. inside_of b ≡ right_of_pair (map constructor_of constructors.now) idents.now (raw_of left.now) (inside_of at.entry)) }
+    ensures { IfOk result (λ b. inside_of b
+        ≡ right_of_pair (map constructor_of constructors.now) idents.now (raw_of left.now)
+        (inside_of at.entry)) }
 {
     let wanted = pair_sides(alloc, at.want, at.system)?;
     let system = gather_term(
@@ -118,7 +120,8 @@ fn inside_binder<'a>(
     binder: Id,
     at: Inside<'a>,
 ) -> Result<Inside<'a>, Memory>
-    ensures { IfOk result (λ b. inside_of b ≡ inside_binder idents.now binder (inside_of at.entry)) }
+    ensures { IfOk result (λ b. inside_of b
+        ≡ inside_binder idents.now binder (inside_of at.entry)) }
 {
     let place = name_place(idents, binder, at.system)?;
     inside_abstraction(alloc, place.hole, at.want, place.system)
@@ -154,7 +157,9 @@ pub(crate) fn gather_term<'a>(
     want: Wanted<'a>,
     system: System,
 ) -> Result<System, Memory>
-    ensures { IfOk result (λ s. system_of s ≡ gather_term (map constructor_of constructors.now) idents.now (raw_of t.now) (wanting_of want.entry) (system_of system)) }
+    ensures { IfOk result (λ s. system_of s
+        ≡ gather_term (map constructor_of constructors.now) idents.now (raw_of t.now)
+        (wanting_of want.entry) (system_of system)) }
 {
     let mut at = Inside { want, system };
     let mut rest = t;

@@ -35,7 +35,8 @@ pub(crate) fn wanted_all<'a>(alloc: Global, types: &'a [Ty]) -> Result<Wanted<'a
 
 /// A term of the shape stands where something is wanted.
 pub(crate) fn meet(want: Wanted<'_>, shape: Shape, system: System) -> Result<System, Memory>
-    ensures { IfOk result (λ s. system_of s ≡ meet (wanting_of want.entry) (shape_of shape) (system_of system)) }
+    ensures { IfOk result (λ s. system_of s
+        ≡ meet (wanting_of want.entry) (shape_of shape) (system_of system)) }
 {
     match want {
         Wanted::Whole(wanted) => equate(system, wanted, shape),
@@ -45,7 +46,8 @@ pub(crate) fn meet(want: Wanted<'_>, shape: Shape, system: System) -> Result<Sys
 
 /// Unit stands where something is wanted.
 pub(crate) fn meet_unit(want: Wanted<'_>, system: System) -> Result<System, Memory>
-    ensures { IfOk result (λ s. system_of s ≡ meet_unit (wanting_of want.entry) (system_of system)) }
+    ensures { IfOk result (λ s. system_of s
+        ≡ meet_unit (wanting_of want.entry) (system_of system)) }
 {
     match want {
         Wanted::Nothing => Ok(system),
@@ -56,7 +58,8 @@ pub(crate) fn meet_unit(want: Wanted<'_>, system: System) -> Result<System, Memo
 
 /// A swapped term stands where something is wanted.
 pub(crate) fn meet_swapped(want: &Wanted<'_>, system: System) -> Result<System, Memory>
-    ensures { IfOk result (λ s. system_of s ≡ meet_swapped (wanting_of want.now) (system_of system)) }
+    ensures { IfOk result (λ s. system_of s
+        ≡ meet_swapped (wanting_of want.now) (system_of system)) }
 {
     match want {
         Wanted::Whole(_) => Ok(system),
@@ -71,7 +74,8 @@ pub(crate) fn meet_name(
     want: Wanted<'_>,
     system: System,
 ) -> Result<System, Memory>
-    ensures { IfOk result (λ s. system_of s ≡ meet_name idents.now number (wanting_of want.entry) (system_of system)) }
+    ensures { IfOk result (λ s. system_of s
+        ≡ meet_name idents.now number (wanting_of want.entry) (system_of system)) }
 {
     if is_name_at(idents, number) {
         meet(want, Shape::Hole(number), system)
@@ -87,7 +91,8 @@ pub(crate) fn meet_var(
     want: Wanted<'_>,
     system: System,
 ) -> Result<System, Memory>
-    ensures { IfOk result (λ s. system_of s ≡ meet_var idents.now number (wanting_of want.entry) (system_of system)) }
+    ensures { IfOk result (λ s. system_of s
+        ≡ meet_var idents.now number (wanting_of want.entry) (system_of system)) }
 {
     if is_var_at(idents, number) {
         meet(want, Shape::Hole(number), system)

@@ -32,7 +32,8 @@ fn count_lines(text: &str) -> usize
 fn scan(alloc: Global, text: &str) -> Result<Scanned<'_>, AllocError>
     requires { length text.now ≤ size_limit }
     ensures tokens { IfOk result (λ s. lexemes s.tokens.items ≡ lexemes_of text.now) }
-    ensures place { IfOk result (λ s. (s.place ≡ (scan_from 0 0 text.now).stop) × (s.place ≤ length text.now)) }
+    ensures place { IfOk result (λ s. (s.place ≡ (scan_from 0 0 text.now).stop)
+        × (s.place ≤ length text.now)) }
     ensures line { IfOk result (λ s. s.line ≡ line_at text.now s.place) }
     ensures few { IfOk result (λ s. length s.tokens.items ≤ length text.now) }
     ensures longest { IfOk result (λ s. AreTokensOf text.now (lexemes s.tokens.items)) }

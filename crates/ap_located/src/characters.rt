@@ -60,7 +60,7 @@ fn is_one_of(c: char, characters: &[char]) -> bool {
     false
 }
 
-// Whether a character ends the sign that stands before it.
+/// Whether a character ends the sign that stands before it.
 fn ends_sign(sign: char, c: char) -> bool {
     if c == '-' {
         sign == ':' || sign == '?'
@@ -69,7 +69,7 @@ fn ends_sign(sign: char, c: char) -> bool {
     }
 }
 
-// Whether a character may begin a sign of two.
+/// Whether a character may begin a sign of two.
 fn begins_sign(c: char, after: Option<char>) -> bool {
     match c {
         ':' => true,
@@ -79,7 +79,7 @@ fn begins_sign(c: char, after: Option<char>) -> bool {
     }
 }
 
-// What stands before the next character, or `None` where this one begins no token.
+/// What stands before the next character, or `None` where this one begins no token.
 fn next(before: Before, c: char, after: Option<char>) -> Option<Before> {
     let is_end = match before {
         Before::Word if is_xid_continue(c) => return Some(Before::Word),
@@ -157,7 +157,7 @@ const NAMES: [Said; 12] = [
     ('\u{7F}', '\u{9F}', CONTROL),
 ];
 
-// What a table says of a character.
+/// What a table says of a character.
 fn said_of(table: &[Said], c: char) -> Option<&'static str> {
     for (first, last, said) in table {
         if *first <= c && c <= *last {
@@ -172,7 +172,7 @@ const COMMENT: &str = "a comment begins with `%` and goes to the end of the line
 const NEGATION: &str =
     "there is no negation: that a name is not in a term is `a # t`; else write a predicate for the contrary";
 
-// What is meant by signs of other languages that have two characters.
+/// What is meant by signs of other languages that have two characters.
 fn pair_advice(stray: Stray) -> Option<&'static str> {
     match (stray.c, stray.before, stray.after) {
         ('+', Some('\\'), _) => Some(NEGATION),
@@ -230,7 +230,7 @@ const ADVICE: [Said; 19] = [
 // What helps with each other character.
 const TOKENS: &str = "what a text may hold stands in docs/LANGUAGE.md, under `Tokens`";
 
-// What helps with a character in this line.
+/// What helps with a character in this line.
 fn stray_note(line: &str, stray: Stray) -> &'static str {
     if line.starts_with('#') {
         return "there is no `include` and there are no modules: all of a program stands in one text";
@@ -259,7 +259,7 @@ fn say_stray(message: &mut Message, c: char, shown: &str) {
     }
 }
 
-// What is said of a stray character of a line that begins at a place of the text.
+/// What is said of a stray character of a line that begins at a place of the text.
 fn stray_message(alloc: Global, line: &str, start: usize, stray: Stray) -> Message {
     let end = stray.place.saturating_add(stray.c.len_utf8());
     let span = Span {

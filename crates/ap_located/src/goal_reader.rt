@@ -16,7 +16,7 @@ fn begins_any_term(token: &Token<'_>) -> bool {
 }
 
 impl<'t, 'a> Reader<'t, 'a> {
-    // Whether the `(` at a place begins a term of an equation or a freshness goal.
+    /// Whether the `(` at a place begins a term of an equation or a freshness goal.
     pub(crate) fn begins_term(&self, place: usize) -> bool {
         match self.closes.get(place) {
             Some(close) => {
@@ -44,7 +44,7 @@ impl<'t, 'a> Reader<'t, 'a> {
         self.take_term(place, token)
     }
 
-    // Closes the abstractions that end before the token at a place.
+    /// Closes the abstractions that end before the token at a place.
     pub(crate) fn leave_abstractions(&mut self, place: usize) {
         for _ in 0..place {
             if self.nodes.open_node().form != Form::Abs {
@@ -54,7 +54,7 @@ impl<'t, 'a> Reader<'t, 'a> {
         }
     }
 
-    // Closes a goal or a head that ends before the token at a place, if one is open.
+    /// Closes a goal or a head that ends before the token at a place, if one is open.
     pub(crate) fn leave_goal(&mut self, place: usize) -> Result<(), Stop> {
         let open = self.nodes.open_place();
         let part = node_at(self.nodes.all(), open.saturating_add(1)).form;
@@ -71,7 +71,7 @@ impl<'t, 'a> Reader<'t, 'a> {
         Ok(())
     }
 
-    // Takes the token behind a term or a goal.
+    /// Takes the token behind a term or a goal.
     pub(crate) fn take_after(&mut self, place: usize, token: &Token<'a>) -> Result<(), Stop> {
         self.leave_abstractions(place);
         let open = self.nodes.open_node();
@@ -88,7 +88,7 @@ impl<'t, 'a> Reader<'t, 'a> {
         }
     }
 
-    // Takes the token behind a goal that may be the left side of an equation or of a freshness goal.
+    /// Takes the token behind a goal that may be the left side of an equation or of a freshness goal.
     fn take_behind_atom(&mut self, place: usize, token: &Token<'a>) -> Result<(), Stop> {
         let form = if is_sign(token, "=") {
             Form::Equal
@@ -102,7 +102,7 @@ impl<'t, 'a> Reader<'t, 'a> {
         Ok(())
     }
 
-    // Takes the `:-` behind a head.
+    /// Takes the `:-` behind a head.
     fn take_neck(&mut self, place: usize, token: &Token<'a>) -> Result<(), Stop> {
         if !is_sign(token, ":-") {
             return Err(self.stop(place, Wanted::Body));
@@ -111,7 +111,7 @@ impl<'t, 'a> Reader<'t, 'a> {
         self.leave_goal(place)
     }
 
-    // Takes the `->` behind the types of a constructor's arguments.
+    /// Takes the `->` behind the types of a constructor's arguments.
     fn take_arrow(&mut self, place: usize, token: &Token<'a>) -> Result<(), Stop> {
         if !is_sign(token, "->") {
             return Err(self.stop(place, Wanted::Arrow));

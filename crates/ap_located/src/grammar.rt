@@ -12,7 +12,7 @@ use ap_defs::memory::Memory;
 use ap_lexer::{Token, TokenKind};
 use std::alloc::Global;
 
-// What closes or goes on with an open node.
+/// What closes or goes on with an open node.
 fn wanted_in(form: Form) -> &'static str {
     match form {
         Form::List => "`,`, `|` or `]` is wanted here",
@@ -22,7 +22,7 @@ fn wanted_in(form: Form) -> &'static str {
     }
 }
 
-// What could stand where an item can't go on.
+/// What could stand where an item can't go on.
 fn wanted_text(wanted: Wanted, open: Form) -> &'static str {
     match wanted {
         Wanted::Item => "an item begins with a word, `pred` or `?-`",
@@ -46,7 +46,7 @@ fn wanted_text(wanted: Wanted, open: Form) -> &'static str {
     }
 }
 
-// Whether the token begins an item in a line of its own, where one could end before it.
+/// Whether the token begins an item in a line of its own, where one could end before it.
 fn begins_item(tokens: &[Token<'_>], slip: Slip) -> bool {
     let Some(token) = tokens.get(slip.token) else {
         return false;
@@ -86,7 +86,7 @@ fn say_slip(message: &mut Message, tokens: &[Token<'_>], place: usize) {
     }
 }
 
-// Whether a node is one that a bracket opens.
+/// Whether a node is one that a bracket opens.
 fn has_bracket(node: Node) -> bool {
     matches!(
         node.form,
@@ -94,7 +94,7 @@ fn has_bracket(node: Node) -> bool {
     )
 }
 
-// Where the bracket that is open begins.
+/// Where the bracket that is open begins.
 fn note_open(message: &mut Message, tokens: &[Token<'_>], node: Node) {
     message.note(&[
         Piece::Text("what `"),

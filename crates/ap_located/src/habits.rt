@@ -48,7 +48,7 @@ fn around_of<'a>(tokens: &[Token<'a>], nodes: &[Node], slip: Slip) -> Around<'a>
     }
 }
 
-// Whether a term may end with the token.
+/// Whether a term may end with the token.
 fn ends_term(kind: Option<TokenKind>, text: &str) -> bool {
     match kind {
         Some(TokenKind::Ident | TokenKind::Var) => true,
@@ -57,7 +57,7 @@ fn ends_term(kind: Option<TokenKind>, text: &str) -> bool {
     }
 }
 
-// Whether a term may begin with the token.
+/// Whether a term may begin with the token.
 fn begins_term(kind: Option<TokenKind>, text: &str) -> bool {
     match kind {
         Some(TokenKind::Ident | TokenKind::Var) => true,
@@ -66,7 +66,7 @@ fn begins_term(kind: Option<TokenKind>, text: &str) -> bool {
     }
 }
 
-// Slips in how an item begins.
+/// Slips in how an item begins.
 fn at_begin(at: Around<'_>) -> Option<&'static str> {
     if at.wanted == Wanted::Item && at.kind == Some(TokenKind::Reserved) {
         return Some("this is a reserved word; it can't be declared and can't be called");
@@ -93,7 +93,7 @@ fn at_begin(at: Around<'_>) -> Option<&'static str> {
     None
 }
 
-// Slips in declarations.
+/// Slips in declarations.
 fn in_types(at: Around<'_>) -> Option<&'static str> {
     if at.wanted == Wanted::PredicateTypes {
         return Some("the types of a predicate stand in parentheses: `pred p(t, u).`");
@@ -128,7 +128,7 @@ fn in_types(at: Around<'_>) -> Option<&'static str> {
     None
 }
 
-// Slips in what `new` and `exists` bring.
+/// Slips in what `new` and `exists` bring.
 fn in_binders(at: Around<'_>) -> Option<&'static str> {
     match at.wanted {
         Wanted::Name if at.open == Form::Swap => {
@@ -154,7 +154,7 @@ fn in_binders(at: Around<'_>) -> Option<&'static str> {
     }
 }
 
-// Slips in goals, by the token alone.
+/// Slips in goals, by the token alone.
 fn at_token(at: Around<'_>) -> Option<&'static str> {
     match at.text {
         "is" => Some("there is no arithmetic and no `is`; `t = u` makes two terms equal"),
@@ -173,7 +173,7 @@ fn at_token(at: Around<'_>) -> Option<&'static str> {
     }
 }
 
-// Slips in how goals follow one another.
+/// Slips in how goals follow one another.
 fn between_goals(at: Around<'_>) -> Option<&'static str> {
     match at.text {
         "|" if at.wanted != Wanted::Close => {
@@ -187,7 +187,7 @@ fn between_goals(at: Around<'_>) -> Option<&'static str> {
     }
 }
 
-// Slips with marks in terms.
+/// Slips with marks in terms.
 fn at_mark(at: Around<'_>) -> Option<&'static str> {
     match at.text {
         ")" if at.before == "(" && at.open == Form::Apply => {
@@ -201,7 +201,7 @@ fn at_mark(at: Around<'_>) -> Option<&'static str> {
     }
 }
 
-// Slips with words in terms.
+/// Slips with words in terms.
 fn at_word(at: Around<'_>) -> Option<&'static str> {
     let in_arguments = matches!(at.open, Form::Apply | Form::Tuple | Form::List);
     if in_arguments && begins_term(at.kind, at.text) && ends_term(at.kind_before, at.before) {

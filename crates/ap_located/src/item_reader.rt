@@ -111,7 +111,7 @@ impl<'t, 'a> Reader<'t, 'a> {
         self.add(Form::Word, place, Expect::End)
     }
 
-    // What is wanted where the item ends at a place, if it may not end there.
+    /// What is wanted where the item ends at a place, if it may not end there.
     pub(crate) fn ends(&mut self, place: usize) -> Result<(), Stop> {
         match self.expect {
             Expect::End | Expect::PredicateOpen => return Ok(()),

@@ -39,7 +39,7 @@ pub struct Message {
     is_whole: bool,
 }
 
-// Adds a piece to what is said.
+/// Adds a piece to what is said.
 fn add_piece(out: &mut String, piece: Piece<'_>) -> Result<(), AllocError> {
     match piece {
         Piece::Text(text) => out.push_str(text),
@@ -102,7 +102,7 @@ impl Message {
     }
 }
 
-// Adds as many spaces as a number has digits.
+/// Adds as many spaces as a number has digits.
 fn add_margin(out: &mut String, number: &str) -> Result<(), Memory> {
     for _ in 0..number.len() {
         out.push(' ')?;
@@ -110,7 +110,7 @@ fn add_margin(out: &mut String, number: &str) -> Result<(), Memory> {
     Ok(())
 }
 
-// Adds the sentence and the place.
+/// Adds the sentence and the place.
 fn add_head(out: &mut String, word: &str, sentence: &str, spot: Spot) -> Result<(), Memory> {
     add_piece(out, Piece::Text(word))?;
     add_piece(out, Piece::Text(": "))?;
@@ -123,7 +123,7 @@ fn add_head(out: &mut String, word: &str, sentence: &str, spot: Spot) -> Result<
     Ok(())
 }
 
-// Adds the line with a number and the marks below it, with a label.
+/// Adds the line with a number and the marks below it, with a label.
 fn add_excerpt(
     out: &mut String,
     number: &str,
@@ -144,7 +144,7 @@ fn add_excerpt(
     Ok(())
 }
 
-// Adds the notes, each of which stands behind a line feed.
+/// Adds the notes, each of which stands behind a line feed.
 fn add_notes(out: &mut String, number: &str, notes: &str) -> Result<(), Memory> {
     for c in notes.chars() {
         out.push(c)?;
@@ -157,7 +157,7 @@ fn add_notes(out: &mut String, number: &str, notes: &str) -> Result<(), Memory> 
     Ok(())
 }
 
-// Adds what stands below the sentence: the line with a number, and the notes.
+/// Adds what stands below the sentence: the line with a number, and the notes.
 fn add_body(
     alloc: Global,
     out: &mut String,

@@ -11,7 +11,7 @@ use std::alloc::Global;
 /// The most levels that an item may have.
 const MOST_LEVELS: usize = 256;
 
-// Drops the levels of abstractions at the end.
+/// Drops the levels of abstractions at the end.
 fn to_bracket(levels: &mut Vec<bool>) {
     for _ in 0..levels.len() {
         if levels.last().copied().unwrap_or(true) {
@@ -53,13 +53,13 @@ pub fn explain_depth(alloc: Global, tokens: &[Token<'_>]) -> Result<Message, Mem
     Ok(message)
 }
 
-// The note that tells where an item begins.
+/// The note that tells where an item begins.
 fn note_begin(message: &mut Message, tokens: &[Token<'_>]) {
     let line = line_at(tokens, 0);
     message.note(&[Piece::Text("the item begins in line "), Piece::Number(line)]);
 }
 
-// The last bracket that is open at the end.
+/// The last bracket that is open at the end.
 fn last_open(tokens: &[Token<'_>]) -> Option<usize> {
     let mut closed: usize = 0;
     for place in (0..tokens.len()).rev() {

@@ -129,21 +129,21 @@ impl<'t, 'a> Reader<'t, 'a> {
         })
     }
 
-    // Opens a node at a place. Tells what comes next.
+    /// Opens a node at a place. Tells what comes next.
     pub(crate) fn enter(&mut self, form: Form, place: usize, next: Expect) -> Result<(), Stop> {
         self.nodes.enter(form, place)?;
         self.expect = next;
         Ok(())
     }
 
-    // Adds a node of one token at a place. Tells what comes next.
+    /// Adds a node of one token at a place. Tells what comes next.
     pub(crate) fn add(&mut self, form: Form, place: usize, next: Expect) -> Result<(), Stop> {
         self.nodes.add(form, place)?;
         self.expect = next;
         Ok(())
     }
 
-    // Takes the token at a place.
+    /// Takes the token at a place.
     fn take(&mut self, place: usize, token: &Token<'a>) -> Result<(), Stop> {
         match self.expect {
             Expect::Start => self.take_start(place, token),

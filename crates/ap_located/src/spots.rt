@@ -31,7 +31,7 @@ pub struct Span {
     pub end: usize,
 }
 
-// Whether a byte begins a character.
+/// Whether a byte begins a character.
 fn begins_character(byte: u8) -> bool {
     byte & 0xC0 != 0x80
 }
@@ -172,7 +172,7 @@ pub struct Excerpt {
 }
 
 impl Excerpt {
-    // The mark below a character that stands at a place of the text, if any.
+    /// The mark below a character that stands at a place of the text, if any.
     fn mark_at(&self, place: usize, span: Span) -> Option<char> {
         if place < span.start {
             Some(' ')
@@ -191,7 +191,7 @@ impl Excerpt {
         Ok(())
     }
 
-    // Adds a character that stands at a place of the text, if there is room for it.
+    /// Adds a character that stands at a place of the text, if there is room for it.
     fn add(&mut self, c: char, place: usize, span: Span) -> Result<(), Memory> {
         let c = visible(c);
         let wide = width(c);
@@ -206,7 +206,7 @@ impl Excerpt {
         }
     }
 
-    // Adds the characters of a line from a place of the text on.
+    /// Adds the characters of a line from a place of the text on.
     fn add_all(&mut self, line: &str, start: usize, span: Span) -> Result<(), Memory> {
         for (at, c) in line.char_indices() {
             self.add(c, start.saturating_add(at), span)?;

@@ -20,7 +20,7 @@ impl<'t, 'a> Reader<'t, 'a> {
         }
     }
 
-    // One of the two identifiers of a swapping.
+    /// One of the two identifiers of a swapping.
     pub(crate) fn take_side(&mut self, place: usize, token: &Token<'a>) -> Result<(), Stop> {
         let form = match token.kind {
             TokenKind::Ident => Form::Word,
@@ -30,7 +30,7 @@ impl<'t, 'a> Reader<'t, 'a> {
         self.add(form, place, Expect::After)
     }
 
-    // Opens an abstraction, and takes what stands before its `\`.
+    /// Opens an abstraction, and takes what stands before its `\`.
     fn take_binder(&mut self, place: usize) -> Result<(), Stop> {
         self.nodes.enter(Form::Abs, place)?;
         self.add(Form::Binder, place, Expect::Known(Known::Lambda))

@@ -25,7 +25,8 @@ impl SharedBook {
     /// wanted. The only error is want of memory.
     pub fn make(alloc: Global, seats: u32, limit: Limit) -> Result<(SharedBook, Vec<Seat>), Memory>
         requires { (0 < seats) × (seats ≤ 64) }
-        ensures made { IfOk result (λ r. (seats_of r.0 ≡ seats) × (r.1.items ≡ new_seats (book_id r.0) 0 seats)) }
+        ensures made { IfOk result (λ r. (seats_of r.0 ≡ seats)
+            × (r.1.items ≡ new_seats (book_id r.0) 0 seats)) }
         ensures limit { IfOk result (λ r. limit_of r.0 ≡ limit) }
     {
         let list = Vec::with_capacity(alloc, seats as usize)?;
@@ -47,7 +48,8 @@ impl SharedBook {
     /// A book, and the one seat that stands for all.
     fn with_all(alloc: Global, seats: u32, limit: Limit) -> Result<(SharedBook, Raw), Memory>
         requires { (0 < seats) × (seats ≤ 64) }
-        ensures made { IfOk result (λ r. (seats_of r.0 ≡ seats) × (r.1.table_id ≡ book_id r.0) × (r.1.me ≡ (view Idle (fresh 0 seats), []))) }
+        ensures made { IfOk result (λ r. (seats_of r.0 ≡ seats) × (r.1.table_id ≡ book_id r.0)
+            × (r.1.me ≡ (view Idle (fresh 0 seats), []))) }
         ensures limit { IfOk result (λ r. limit_of r.0 ≡ limit) }
     {
         let mut slots = Vec::with_capacity(alloc, 1)?;
@@ -60,7 +62,8 @@ impl SharedBook {
 
     /// The seats, each with one number.
     fn cut_seats(&self, mut first: Raw, mut list: Vec<Seat>, seats: u32) -> Vec<Seat>
-        requires seats { (0 < seats) × (first.table_id ≡ book_id self.now) × (first.me ≡ (view Idle (fresh 0 seats), [])) }
+        requires seats { (0 < seats) × (first.table_id ≡ book_id self.now)
+            × (first.me ≡ (view Idle (fresh 0 seats), [])) }
         requires list { (list.items ≡ []) × (seats ≤ vec_capacity list) }
         ensures { result.items ≡ new_seats (book_id self.now) 0 seats }
     {
@@ -78,7 +81,8 @@ impl SharedBook {
     /// One seat that stands for all.
     fn unite(&self, last: Seat, mut seats: Vec<Seat>) -> Raw
         requires { (last.book ≡ book_id self.now) × AreOf (book_id self.now) seats.items }
-        ensures { (result.table_id ≡ book_id self.now) × IsUnited result (seats.items ++ last ∷ []) }
+        ensures { (result.table_id ≡ book_id self.now)
+            × IsUnited result (seats.items ++ last ∷ []) }
     {
         let Seat {
             number: _,
@@ -93,9 +97,11 @@ impl SharedBook {
 
     /// The book, where the one seat that stands for all is given.
     fn take_out(self, first: Raw) -> Book
-        requires { (first.table_id ≡ book_id self) × (first.me.0.stage ≡ Idle) × (length first.me.0.owns ≡ seats_of self) }
+        requires { (first.table_id ≡ book_id self) × (first.me.0.stage ≡ Idle)
+            × (length first.me.0.owns ≡ seats_of self) }
         ensures known { AreKnown result first.me.0.owns }
-        ensures makers { ((n : ℕ) → times n first.me.0.owns ≡ 0 → places_of n result ≡ []) × ((n : ℕ) → seats_of self ≤ n → places_of n result ≡ []) }
+        ensures makers { ((n : ℕ) → times n first.me.0.owns ≡ 0 → places_of n result ≡ [])
+            × ((n : ℕ) → seats_of self ≤ n → places_of n result ≡ []) }
     {
         let SharedBook { table, limit: _ } = self;
         let mut closed = table.close_with(first);

@@ -36,7 +36,8 @@ fn maker(entry: &Entry) -> u32
 
 /// Adds the place of an entry to the log of its number, if there is one.
 fn note(entry: &Entry, place: u64, logs: &mut Vec<Vec<u64>>) -> Result<(), Memory>
-    ensures { IfOk result (λ _. lists_of logs.new.items ≡ noted (maker_of entry.now) place (lists_of logs.old.items)) }
+    ensures { IfOk result (λ _. lists_of logs.new.items
+        ≡ noted (maker_of entry.now) place (lists_of logs.old.items)) }
 {
     let number = maker(entry) as usize;
     if number < logs.len() {

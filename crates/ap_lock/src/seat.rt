@@ -81,7 +81,8 @@ impl SharedBook {
         requires seat { seat.old.book ≡ book_id self.now }
         requires kids { Ascends 1 kids.now }
         ensures same { SameSeat seat.old seat.new }
-        ensures turn { (turn : list Entry) × IsTurn seat.old turn × Enters turn path.now (Split seat.old.number path.now kids.now) result seat.new.seen }
+        ensures turn { (turn : list Entry) × IsTurn seat.old turn
+            × Enters turn path.now (Split seat.old.number path.now kids.now) result seat.new.seen }
     {
         let ready = Kids::of(alloc, path, kids);
         let mut book = self.open(rt, &mut seat.raw);
@@ -103,7 +104,9 @@ impl SharedBook {
     ) -> Result<(), DoneError>
         requires { seat.old.book ≡ book_id self.now }
         ensures same { SameSeat seat.old seat.new }
-        ensures turn { (turn : list Entry) × IsTurn seat.old turn × EntersDone turn path.now outs.items (Done seat.old.number path.now outs.items) result seat.new.seen }
+        ensures turn { (turn : list Entry) × IsTurn seat.old turn
+            × EntersDone turn path.now outs.items (Done seat.old.number path.now outs.items) result
+            seat.new.seen }
     {
         let mut book = self.open(rt, &mut seat.raw);
         let answer = book.done(seat.number, path, outs);
@@ -119,7 +122,8 @@ impl SharedBook {
     pub fn skip<R: Wait>(&self, rt: &R, seat: &mut Seat, path: &Path) -> Result<(), SkipError>
         requires { seat.old.book ≡ book_id self.now }
         ensures same { SameSeat seat.old seat.new }
-        ensures turn { (turn : list Entry) × IsTurn seat.old turn × Skips turn path.now (limit_of self.now) seat.old.number result seat.new.seen }
+        ensures turn { (turn : list Entry) × IsTurn seat.old turn
+            × Skips turn path.now (limit_of self.now) seat.old.number result seat.new.seen }
     {
         let mut book = self.open(rt, &mut seat.raw);
         let answer = book.skip(seat.number, path, self.limit);
@@ -131,7 +135,9 @@ impl SharedBook {
     pub fn stop<R: Wait>(&self, rt: &R, seat: &mut Seat)
         requires { seat.old.book ≡ book_id self.now }
         ensures same { SameSeat seat.old seat.new }
-        ensures turn { (turn : list Entry) × IsTurn seat.old turn × (seat.new.seen ≡ (if has_stop (entries_of turn) then turn else turn ++ Stop seat.old.number ∷ [])) }
+        ensures turn { (turn : list Entry) × IsTurn seat.old turn
+            × (seat.new.seen
+            ≡ (if has_stop (entries_of turn) then turn else turn ++ Stop seat.old.number ∷ [])) }
     {
         let mut book = self.open(rt, &mut seat.raw);
         book.stop(seat.number);

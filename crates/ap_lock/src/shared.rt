@@ -68,7 +68,8 @@ impl SharedBook {
     /// The ticket that was drawn, as the word has it.
     fn draw(&self, seat: &mut Raw) -> u64
         requires { (seat.old.table_id ≡ self.now.table.shared.table_id) × IsIdle seat.old.me }
-        ensures { (seat.new.table_id ≡ seat.old.table_id) × IsWaiting seat.old.me.0 result seat.new.me }
+        ensures { (seat.new.table_id ≡ seat.old.table_id)
+            × IsWaiting seat.old.me.0 result seat.new.me }
     {
         self.table.shared.fetch_add::<Draw>(seat, TICKET, 1)
     }
@@ -76,7 +77,8 @@ impl SharedBook {
     /// Waits for the turn.
     pub(crate) fn take<R: Wait>(&self, rt: &R, seat: &mut Raw)
         requires { (seat.old.table_id ≡ self.now.table.shared.table_id) × IsIdle seat.old.me }
-        ensures { (seat.new.table_id ≡ seat.old.table_id) × ((history : list Entry) × HasTurn seat.old.me.0 history seat.new.me) }
+        ensures { (seat.new.table_id ≡ seat.old.table_id)
+            × ((history : list Entry) × HasTurn seat.old.me.0 history seat.new.me) }
     {
         self.stand_off();
         let ticket = self.draw(seat);
@@ -113,7 +115,8 @@ impl SharedBook {
     /// Puts the book back, and ends the turn.
     pub(crate) fn shut(&self, seat: &mut Raw, book: Book)
         requires { (seat.old.table_id ≡ self.now.table.shared.table_id) × MayShut seat.old.me book }
-        ensures { (seat.new.table_id ≡ seat.old.table_id) × (seat.new.me ≡ (lone Idle (number_of seat.old.me.0) book, [])) }
+        ensures { (seat.new.table_id ≡ seat.old.table_id)
+            × (seat.new.me ≡ (lone Idle (number_of seat.old.me.0) book, [])) }
     {
         let found = self.table.shared.exchange(seat, BOOK, Some(book));
         drop(found);

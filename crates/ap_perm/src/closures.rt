@@ -141,7 +141,9 @@ impl<'a> Closure<'a> {
     ) -> Result<Opened<'a>, Memory>
         requires left { IsBelow end (rename_term base (term_of left.now)) }
         requires right { IsBelow end (rename_term base (term_of right.now)) }
-        ensures { IfOk result (λ o. opened_term o ≡ pair (act_term swaps.items (rename_term base (term_of left.now))) (act_term swaps.items (rename_term base (term_of right.now)))) }
+        ensures { IfOk result (λ o. opened_term o
+            ≡ pair (act_term swaps.items (rename_term base (term_of left.now))) (act_term
+            swaps.items (rename_term base (term_of right.now)))) }
     {
         let own = copied(alloc, &swaps)?;
         Ok(Opened::Pair(

@@ -97,7 +97,8 @@ fn choose(
     choice: Choice,
     choices: &mut Vec<Option<Choice>>,
 ) -> bool
-    ensures { IsLookedAt (marked found.now) (constructor_of constructor.now) choice choices.old.items choices.new.items result }
+    ensures { IsLookedAt (marked found.now) (constructor_of constructor.now) choice
+        choices.old.items choices.new.items result }
 {
     let base = constructor.result as usize;
     if base >= choices.len() {

@@ -58,11 +58,14 @@ fn new_name(first: u64, sort: u32, sorts: &mut Vec<u32>) -> Result<Name, Memory>
 impl<'a> Source<'a> {
     /// What is picked next for a data type, by the data types that so many rounds find.
     fn open_data(&self, rounds: usize, base: u32) -> Next<'a>
-        requires chosen { AreChoices (map constructor_of self.now.constructors.now) self.now.choices.now }
+        requires chosen { AreChoices (map constructor_of self.now.constructors.now)
+            self.now.choices.now }
         requires bounded { length self.now.constructors.now ≤ size_limit }
-        requires well { reached all_inhabited (map constructor_of self.now.constructors.now) rounds base ≡ true }
+        requires well { reached all_inhabited (map constructor_of self.now.constructors.now) rounds
+            base ≡ true }
         ensures { (n : ℕ) (sorts : list ℕ) (ty : Bor Ty) → type_of ty.now ≡ types.base base →
-            IsNext (map constructor_of self.now.constructors.now) n sorts (wants.Type rounds ty) sorts result }
+            IsNext (map constructor_of self.now.constructors.now) n sorts (wants.Type rounds ty)
+            sorts result }
     {
         let place = base as usize;
         if place >= self.choices.len() {
@@ -79,11 +82,13 @@ impl<'a> Source<'a> {
 
     /// What is picked next for a type.
     fn open_type(&self, rounds: usize, ty: &'a Ty, sorts: &mut Vec<u32>) -> Result<Next<'a>, Memory>
-        requires chosen { AreChoices (map constructor_of self.now.constructors.now) self.now.choices.now }
+        requires chosen { AreChoices (map constructor_of self.now.constructors.now)
+            self.now.choices.now }
         requires bounded { length self.now.constructors.now ≤ size_limit }
-        requires well { IsWell (map constructor_of self.now.constructors.now) (wants.Type rounds ty) }
-        ensures { IfOk result (λ next. IsNext (map constructor_of self.now.constructors.now) self.now.first
-            sorts.old.items (wants.Type rounds ty.entry) sorts.new.items next) }
+        requires well { IsWell (map constructor_of self.now.constructors.now)
+            (wants.Type rounds ty) }
+        ensures { IfOk result (λ next. IsNext (map constructor_of self.now.constructors.now)
+            self.now.first sorts.old.items (wants.Type rounds ty.entry) sorts.new.items next) }
     {
         match ty {
             Ty::Unit => Ok(Next::Leaf(Term::Unit)),
@@ -108,11 +113,14 @@ impl<'a> Source<'a> {
         args: &'a [Ty],
         sorts: &mut Vec<u32>,
     ) -> Result<Next<'a>, Memory>
-        requires chosen { AreChoices (map constructor_of self.now.constructors.now) self.now.choices.now }
+        requires chosen { AreChoices (map constructor_of self.now.constructors.now)
+            self.now.choices.now }
         requires bounded { length self.now.constructors.now ≤ size_limit }
-        requires well { IsWell (map constructor_of self.now.constructors.now) (wants.Arguments rounds args) }
-        ensures { IfOk result (λ next. IsNext (map constructor_of self.now.constructors.now) self.now.first
-            sorts.old.items (wants.Arguments rounds args.entry) sorts.new.items next) }
+        requires well { IsWell (map constructor_of self.now.constructors.now)
+            (wants.Arguments rounds args) }
+        ensures { IfOk result (λ next. IsNext (map constructor_of self.now.constructors.now)
+            self.now.first sorts.old.items (wants.Arguments rounds args.entry) sorts.new.items
+            next) }
     {
         match args {
             [] => Ok(Next::Leaf(Term::Unit)),
@@ -126,11 +134,12 @@ impl<'a> Source<'a> {
 
     /// What is picked next.
     pub(crate) fn open(&self, want: Want<'a>, sorts: &mut Vec<u32>) -> Result<Next<'a>, Memory>
-        requires chosen { AreChoices (map constructor_of self.now.constructors.now) self.now.choices.now }
+        requires chosen { AreChoices (map constructor_of self.now.constructors.now)
+            self.now.choices.now }
         requires bounded { length self.now.constructors.now ≤ size_limit }
         requires well { IsWell (map constructor_of self.now.constructors.now) want }
-        ensures { IfOk result (λ next. IsNext (map constructor_of self.now.constructors.now) self.now.first
-            sorts.old.items want.entry sorts.new.items next) }
+        ensures { IfOk result (λ next. IsNext (map constructor_of self.now.constructors.now)
+            self.now.first sorts.old.items want.entry sorts.new.items next) }
     {
         match want {
             Want::Type(rounds, ty) => self.open_type(rounds, ty, sorts),

@@ -27,13 +27,16 @@ fn pick_want<'a>(
     want: Want<'a>,
     sorts: &mut Vec<u32>,
 ) -> Result<Term, Memory>
-    requires chosen { AreChoices (map constructor_of source.now.constructors.now) source.now.choices.now }
+    requires chosen { AreChoices (map constructor_of source.now.constructors.now)
+        source.now.choices.now }
     requires bounded { length source.now.constructors.now ≤ size_limit }
     requires well { IsWell (map constructor_of source.now.constructors.now) want }
-    ensures term { IfOk result (λ t. term_of t ≡ embedded (pick_for
-        (map constructor_of source.now.constructors.now) source.now.first want.entry sorts.old.items).0) }
-    ensures sorts { OnOk result (sorts.new.items ≡ (pick_for
-        (map constructor_of source.now.constructors.now) source.now.first want.entry sorts.old.items).1) }
+    ensures term { IfOk result (λ t. term_of t
+        ≡ embedded (pick_for (map constructor_of source.now.constructors.now) source.now.first
+        want.entry sorts.old.items).0) }
+    ensures sorts { OnOk result (sorts.new.items
+        ≡ (pick_for (map constructor_of source.now.constructors.now) source.now.first want.entry
+        sorts.old.items).1) }
 {
     let mut layers = Vec::new(alloc);
     let mut rest = want;
@@ -87,11 +90,14 @@ impl<'a> Picker<'a> {
         sorts: &mut Vec<u32>,
     ) -> Result<Term, Memory>
         requires picker { IsPicker self.now }
-        requires inhabited { IsInhabited (map constructor_of self.now.constructors.now) (type_of ty.now) }
-        ensures term { IfOk result (λ t. term_of t ≡ embedded (picked
-            (map constructor_of self.now.constructors.now) first (type_of ty.now) sorts.old.items).0) }
-        ensures sorts { OnOk result (sorts.new.items ≡ (picked
-            (map constructor_of self.now.constructors.now) first (type_of ty.now) sorts.old.items).1) }
+        requires inhabited { IsInhabited (map constructor_of self.now.constructors.now)
+            (type_of ty.now) }
+        ensures term { IfOk result (λ t. term_of t
+            ≡ embedded (picked (map constructor_of self.now.constructors.now) first (type_of ty.now)
+            sorts.old.items).0) }
+        ensures sorts { OnOk result (sorts.new.items
+            ≡ (picked (map constructor_of self.now.constructors.now) first (type_of ty.now)
+            sorts.old.items).1) }
     {
         let source = Source {
             constructors: self.constructors,

@@ -18,7 +18,8 @@ pub fn rename(alloc: Global, clause: &Clause<Term>, n: u64) -> Result<Fresh, Mem
     requires args { AreBelow (length clause.now.locals) (map term_of clause.now.args) }
     requires body { IsGoalBelow (length clause.now.locals) (goal_of clause.now.body) }
     requires fits { n + length clause.now.locals < 2 ^ 64 }
-    ensures args { IfOk result (λ f. map term_of f.args ≡ map (renamed_term n) (map term_of clause.now.args)) }
+    ensures args { IfOk result (λ f. map term_of f.args
+        ≡ map (renamed_term n) (map term_of clause.now.args)) }
     ensures body { IfOk result (λ f. goal_of f.body ≡ renamed_goal n (goal_of clause.now.body)) }
     ensures next { IfOk result (λ f. f.next ≡ n + length clause.now.locals) }
 {
@@ -73,7 +74,8 @@ pub fn rename_goal(alloc: Global, base: u64, goal: &Goal<Term>) -> Result<Goal<T
 /// The terms with each number higher by `base`.
 pub fn rename_terms(alloc: Global, base: u64, terms: &[Term]) -> Result<Vec<Term>, Memory>
     requires { AreBelow (2 ^ 64) (map (renamed_term base) (map term_of terms.now)) }
-    ensures { IfOk result (λ v. map term_of v.items ≡ map (renamed_term base) (map term_of terms.now)) }
+    ensures { IfOk result (λ v. map term_of v.items
+        ≡ map (renamed_term base) (map term_of terms.now)) }
 {
     let mut renamed = Vec::new(alloc);
     for t in terms {

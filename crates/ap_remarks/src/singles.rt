@@ -14,7 +14,7 @@ struct Variable {
     count: usize,
 }
 
-// The word of a node that is a variable, unless it begins with `_`.
+/// The word of a node that is a variable, unless it begins with `_`.
 fn variable_at<'a>(tokens: &[Token<'a>], node: Node) -> Option<&'a str> {
     if !matches!(node.form, Form::Variable | Form::Binder) {
         return None;

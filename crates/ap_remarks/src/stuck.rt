@@ -22,7 +22,7 @@ struct Goals<'t> {
     out: String,
 }
 
-// The part of the goal at a place with this rank.
+/// The part of the goal at a place with this rank.
 fn right_part(nodes: &[Node], place: usize) -> Node {
     for node in nodes {
         if node.parent == place && node.rank == 1 {
@@ -32,7 +32,7 @@ fn right_part(nodes: &[Node], place: usize) -> Node {
     node_at(nodes, place)
 }
 
-// Notes how the goal at a place with a variable on its left is turned.
+/// Notes how the goal at a place with a variable on its left is turned.
 fn note_way_out<'a>(message: &mut Message, tokens: &[Token<'a>], variable: &'a str, right: Node) {
     message.note(&[]);
     if right.form == Form::Word {
@@ -92,7 +92,7 @@ impl<'t> Goals<'t> {
     }
 }
 
-// The first goals of a text that may be stuck.
+/// The first goals of a text that may be stuck.
 fn stuck_goals(alloc: Global, text: &[u8], tokens: &[Token<'_>]) -> Result<String, Memory> {
     let ranges = ranges_of(alloc, tokens)?;
     let mut goals = Goals {

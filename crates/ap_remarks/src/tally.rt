@@ -23,7 +23,7 @@ pub struct Tally {
     stuck: u64,
 }
 
-// What is seen of a line behind one byte more.
+/// What is seen of a line behind one byte more.
 fn begun(count: usize, byte: u8) -> Seen {
     match BEGIN.get(count) {
         Some(next) if *next == byte => {
@@ -82,7 +82,7 @@ impl Tally {
         }
     }
 
-    // A number has ended, or a word behind one.
+    /// A number has ended, or a word behind one.
     fn end_word(&mut self, count: usize) {
         match count {
             4 => self.cut = self.cut.saturating_add(self.number),

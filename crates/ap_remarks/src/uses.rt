@@ -92,7 +92,7 @@ impl<'a> Uses<'a> {
         Ok(())
     }
 
-    // How the term at a node begins.
+    /// How the term at a node begins.
     fn begin_of(&self, tokens: &[Token<'a>], node: Node) -> usize {
         match node.form {
             Form::List if node.count == 0 => EMPTY,

@@ -72,7 +72,7 @@ fn unmet_message(alloc: Global, tokens: &[Token<'_>], head: Node, node: Node) ->
 }
 
 impl<'t, 'a> Warner<'t, 'a> {
-    // Adds a warning; behind the last that is written it is only counted.
+    /// Adds a warning; behind the last that is written it is only counted.
     fn warn(&mut self, alloc: Global, message: &Message) -> Result<(), Memory> {
         if self.count < MOST {
             add_message(alloc, &mut self.out, self.text, "warning", message)?;
@@ -120,7 +120,7 @@ impl<'t, 'a> Warner<'t, 'a> {
         self.warn(alloc, &message)
     }
 
-    // Looks at a node of a clause or a query.
+    /// Looks at a node of a clause or a query.
     fn look_at(
         &mut self,
         alloc: Global,
@@ -166,7 +166,7 @@ impl<'t, 'a> Warner<'t, 'a> {
         Ok(())
     }
 
-    // Tells how many warnings are not written.
+    /// Tells how many warnings are not written.
     fn end(&mut self) -> Result<(), Memory> {
         if self.count > MOST {
             let more = self.count.saturating_sub(MOST);

@@ -34,9 +34,12 @@ fn step_to<'a>(
     requires query { HasQuery p.now }
     requires of { IsBranchOf p.now branch }
     ensures of { IfOk result (λ b. IsBranchOf p.now b) }
-    ensures path { IfOk result (λ b. path_of_branch b ≡ path_of_branch branch.entry ++ choice ∷ []) }
-    ensures taken { IfOk result (λ b. IsChoice (problem_choices p.now (path_of_branch branch.entry)) choice) }
-    ensures refused { IsErrOf result ReplayError.NotABranch → IsChoice (problem_choices p.now (path_of_branch branch.entry)) choice → ⊥ }
+    ensures path { IfOk result (λ b. path_of_branch b
+        ≡ path_of_branch branch.entry ++ choice ∷ []) }
+    ensures taken { IfOk result (λ b. IsChoice (problem_choices p.now (path_of_branch branch.entry))
+        choice) }
+    ensures refused { IsErrOf result ReplayError.NotABranch →
+        IsChoice (problem_choices p.now (path_of_branch branch.entry)) choice → ⊥ }
 {
     if offers(branch.node(), choice) {
         Ok(branch.step(alloc, p, choice)?)
@@ -52,7 +55,8 @@ pub fn at<'a>(alloc: Global, p: &Problem<'a>, path: &Path) -> Result<Branch<'a>,
     ensures of { IfOk result (λ b. IsBranchOf p.now b) }
     ensures path { IfOk result (λ b. path_of_branch b ≡ path.now) }
     ensures there { IfOk result (λ b. InTree (problem_choices p.now) path.now) }
-    ensures refused { IsErrOf result ReplayError.NotABranch → InTree (problem_choices p.now) path.now → ⊥ }
+    ensures refused { IsErrOf result ReplayError.NotABranch →
+        InTree (problem_choices p.now) path.now → ⊥ }
 {
     let choices = path.choices();
     let mut branch = Branch::root(alloc, p)?;

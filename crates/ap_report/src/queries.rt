@@ -38,7 +38,9 @@ fn report_query<R: Threads + Wait + Sync, G: Gate>(
 ) -> Result<Vec<u8>, Memory>
     requires words { (w : list ℕ) → knows taken.now w ≡ has_word w problem.now.program.now.words }
     requires query { HasQuery problem.now }
-    ensures { IfOk result (λ v. v.items ≡ query_report (program_of problem.now.program.now) problem.now.depth limit (problem.now.query - 1)) }
+    ensures { IfOk result (λ v. v.items
+        ≡ query_report (program_of problem.now.program.now) problem.now.depth limit
+        (problem.now.query - 1)) }
 {
     let outs = solve_without_paths(rt, alloc, gate, workers, limit, problem)?;
     lines_among(

@@ -59,7 +59,8 @@ pub fn report_text<R: Threads + Wait + Sync, G: Gate>(
     // What is answered is the report on the text.
     ensures made { IfOk result (λ r. IsTextReport (run_report depth limit) text.now r) }
     // No other is.
-    ensures only { IfOk result (λ r. (s : Report) → IsTextReport (run_report depth limit) text.now s → s ≡ r) }
+    ensures only { IfOk result (λ r. (s : Report) →
+        IsTextReport (run_report depth limit) text.now s → s ≡ r) }
 {
     match program_of_text(alloc, text) {
         Ok(program) => report_restricted(rt, alloc, gate, depth, workers, limit, &program),

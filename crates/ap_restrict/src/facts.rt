@@ -62,7 +62,8 @@ fn fact_at(a: Name, swaps: &[Swap], x: Var) -> Fact
 /// Adds what a freshness problem leaves.
 #[tactic(auto, unfolding(ap_defs::specs::Permutations::name_eq))]
 fn add_left(a: Name, t: &Term, facts: &mut Vec<Fact>) -> Result<(), Memory>
-    ensures { OnOk result (facts.new.items ≡ facts.old.items ++ map (fact_of a) (left_by a (term_of t.now))) }
+    ensures { OnOk result (facts.new.items
+        ≡ facts.old.items ++ map (fact_of a) (left_by a (term_of t.now))) }
 {
     let mut rest = t;
     loop {
@@ -89,7 +90,8 @@ fn add_left(a: Name, t: &Term, facts: &mut Vec<Fact>) -> Result<(), Memory>
 
 /// Adds what a freshness goal leaves.
 fn add_fresh(t: &Term, u: &Term, facts: &mut Vec<Fact>) -> Result<(), Memory>
-    ensures { OnOk result (facts.new.items ≡ facts.old.items ++ facts_of (fresh (term_of t.now) (term_of u.now))) }
+    ensures { OnOk result (facts.new.items
+        ≡ facts.old.items ++ facts_of (fresh (term_of t.now) (term_of u.now))) }
 {
     match t {
         Term::Name(a) => {

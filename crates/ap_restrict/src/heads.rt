@@ -40,7 +40,9 @@ pub struct Head<'a> {
 /// Whether the variable's type can't hold names of the table's sort.
 #[tactic(auto, using(crate::proofs::KindLemmas::kind_past, crate::proofs::KindLemmas::kind_there))]
 fn is_barred(table: &Holding, locals: &[Local], x: Var) -> bool
-    ensures { result ≡ bars table.now.sort (marked table.now.table.items) (kind_at (kinds_of (locals_of locals.now)) x.num) }
+    ensures { result
+        ≡ bars table.now.sort (marked table.now.table.items) (kind_at
+        (kinds_of (locals_of locals.now)) x.num) }
 {
     let place = x.num as usize;
     if place >= locals.len() {
@@ -61,7 +63,9 @@ fn is_known_of(
     name: Name,
     x: Var,
 ) -> bool
-    ensures { result ≡ is_known facts.now.keys table.now.sort (marked table.now.table.items) (kinds_of (locals_of locals.now)) a name x }
+    ensures { result
+        ≡ is_known facts.now.keys table.now.sort (marked table.now.table.items)
+        (kinds_of (locals_of locals.now)) a name x }
 {
     let fact = Fact {
         left: a,
@@ -74,7 +78,9 @@ fn is_known_of(
 /// Whether the name is fresh for the term by what is known.
 #[tactic(auto, unfolding(ap_defs::specs::Permutations::name_eq))]
 fn is_fresh(facts: &HashSet<Fact>, table: &Holding, locals: &[Local], a: Name, t: &Term) -> bool
-    ensures { result ≡ fresh_by (is_known facts.now.keys table.now.sort (marked table.now.table.items) (kinds_of (locals_of locals.now)) a) a (term_of t.now) }
+    ensures { result
+        ≡ fresh_by (is_known facts.now.keys table.now.sort (marked table.now.table.items)
+        (kinds_of (locals_of locals.now)) a) a (term_of t.now) }
 {
     let mut rest = t;
     loop {
@@ -104,7 +110,9 @@ fn is_fresh(facts: &HashSet<Fact>, table: &Holding, locals: &[Local], a: Name, t
 
 /// Whether the name is fresh for each of the terms by what is known.
 fn are_fresh(facts: &HashSet<Fact>, table: &Holding, locals: &[Local], a: Name, ts: &[Term]) -> bool
-    ensures { result ≡ fresh_by_each (is_known facts.now.keys table.now.sort (marked table.now.table.items) (kinds_of (locals_of locals.now)) a) a (map term_of ts.now) }
+    ensures { result
+        ≡ fresh_by_each (is_known facts.now.keys table.now.sort (marked table.now.table.items)
+        (kinds_of (locals_of locals.now)) a) a (map term_of ts.now) }
 {
     for t in ts {
         if !is_fresh(facts, table, locals, a, t) {
@@ -122,9 +130,13 @@ fn is_fresh_for_head(
     facts: &HashSet<Fact>,
     a: Name,
 ) -> Result<bool, Memory>
-    requires tables { AreTables (signature_of setting.now.sig.now).constructors setting.now.tables.now }
+    requires tables { AreTables (signature_of setting.now.sig.now).constructors
+        setting.now.tables.now }
     requires facts { HasSame facts.now.keys (facts_of (goal_of head.now.body.now)) }
-    ensures { IfOk result (λ b. IsTrue b ↔ IsFreshForHead (signature_of setting.now.sig.now).constructors (clause_with (map term_of head.now.args.now) (goal_of head.now.body.now) (locals_of head.now.locals.now)) a) }
+    ensures { IfOk result (λ b. IsTrue b
+        ↔ IsFreshForHead (signature_of setting.now.sig.now).constructors (clause_with
+        (map term_of head.now.args.now) (goal_of head.now.body.now) (locals_of head.now.locals.now))
+        a) }
 {
     match table_of(setting.sig, setting.tables, a.sort) {
         Some(table) => Ok(are_fresh(facts, table, head.locals, a, head.args)),
@@ -152,7 +164,9 @@ pub fn first_not_fresh(
     head: &Head<'_>,
 ) -> Result<Option<Name>, Memory>
     requires { AreTables (signature_of setting.now.sig.now).constructors setting.now.tables.now }
-    ensures { IfOk result (λ o. IsAnswer (signature_of setting.now.sig.now).constructors (clause_with (map term_of head.now.args.now) (goal_of head.now.body.now) (locals_of head.now.locals.now)) (local_names 0 (locals_of head.now.locals.now)) o) }
+    ensures { IfOk result (λ o. IsAnswer (signature_of setting.now.sig.now).constructors
+        (clause_with (map term_of head.now.args.now) (goal_of head.now.body.now)
+        (locals_of head.now.locals.now)) (local_names 0 (locals_of head.now.locals.now)) o) }
 {
     let facts = known_facts(alloc, head.body)?;
     let mut num = 0;

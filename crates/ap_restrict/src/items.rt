@@ -62,7 +62,9 @@ fn fault(
 /// The first variable at such a place of a clause.
 #[tactic(auto, using(crate::proofs::PlaceLemmas::first_append, crate::proofs::PlaceLemmas::in_each_append))]
 fn first_in_clause(place: NamePlace, clause: &Clause<Raw>) -> Option<Var>
-    ensures { result ≡ first_of (in_each (variables_at place) (item_terms (clause_item (clause_over raw_of clause.now)))) }
+    ensures { result
+        ≡ first_of (in_each (variables_at place) (item_terms (clause_item
+        (clause_over raw_of clause.now)))) }
 {
     match first_in_terms(place, clause.args.items()) {
         Some(x) => Some(x),
@@ -77,7 +79,9 @@ fn head_name(
     clause: &Clause<Raw>,
 ) -> Result<Option<Name>, Memory>
     requires { AreTables (signature_of setting.now.sig.now).constructors setting.now.tables.now }
-    ensures { IfOk result (λ o. IsAnswer (signature_of setting.now.sig.now).constructors (map_clause carried_out (clause_over raw_of clause.now)) (local_names 0 (locals_of clause.now.locals)) o) }
+    ensures { IfOk result (λ o. IsAnswer (signature_of setting.now.sig.now).constructors (map_clause
+        carried_out (clause_over raw_of clause.now)) (local_names 0 (locals_of clause.now.locals))
+        o) }
 {
     let args = carry_terms(alloc, clause.args.items())?;
     let body = carry_goal(alloc, &clause.body)?;
@@ -96,7 +100,8 @@ pub fn clause_fault(
     clause: &Clause<Raw>,
 ) -> Result<Option<NameFault>, Memory>
     requires { AreTables (signature_of setting.now.sig.now).constructors setting.now.tables.now }
-    ensures { IfOk result (IsVerdict (signature_of setting.now.sig.now).constructors (clause_item (clause_over raw_of clause.now))) }
+    ensures { IfOk result (IsVerdict (signature_of setting.now.sig.now).constructors (clause_item
+        (clause_over raw_of clause.now))) }
 {
     let position = Position {
         place: Place {
@@ -123,7 +128,8 @@ pub fn query_fault(
     sig: &Signature,
     query: &Query<Raw>,
 ) -> Result<Option<NameFault>, Memory>
-    ensures { IfOk result (IsVerdict (signature_of sig.now).constructors (query_item (query_over raw_of query.now))) }
+    ensures { IfOk result (IsVerdict (signature_of sig.now).constructors (query_item
+        (query_over raw_of query.now))) }
 {
     let position = Position {
         place: Place {

@@ -107,7 +107,8 @@ pub fn first_in_terms(place: NamePlace, ts: &[Raw]) -> Option<Var>
 /// The first variable at such a place of two terms.
 #[tactic(auto, using(crate::proofs::PlaceLemmas::first_append))]
 fn first_in_two(place: NamePlace, t: &Raw, u: &Raw) -> Option<Var>
-    ensures { result ≡ first_of (variables_at place (raw_of t.now) ++ variables_at place (raw_of u.now)) }
+    ensures { result
+        ≡ first_of (variables_at place (raw_of t.now) ++ variables_at place (raw_of u.now)) }
 {
     match first_in_term(place, t) {
         Some(x) => Some(x),
@@ -118,7 +119,8 @@ fn first_in_two(place: NamePlace, t: &Raw, u: &Raw) -> Option<Var>
 /// The first variable at such a place of a goal.
 #[tactic(auto, using(crate::proofs::PlaceLemmas::first_append, crate::proofs::PlaceLemmas::in_each_append, crate::proofs::PlaceLemmas::append_none))]
 pub fn first_in_goal(place: NamePlace, g: &Goal<Raw>) -> Option<Var>
-    ensures { result ≡ first_of (in_each (variables_at place) (terms_of_goal (goal_over raw_of g.now))) }
+    ensures { result
+        ≡ first_of (in_each (variables_at place) (terms_of_goal (goal_over raw_of g.now))) }
 {
     let mut rest = g;
     loop {

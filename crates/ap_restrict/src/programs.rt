@@ -47,7 +47,10 @@ fn scan_clauses(
     before: Option<NameFault>,
 ) -> Result<Option<NameFault>, Memory>
     requires { AreTables (signature_of setting.now.sig.now).constructors setting.now.tables.now }
-    ensures { IfOk result (λ o. (items : list RawItem) → IsScan (signature_of setting.now.sig.now).constructors items before → IsScan (signature_of setting.now.sig.now).constructors (items ++ map clause_item (map (clause_over raw_of) clauses.now)) o) }
+    ensures { IfOk result (λ o. (items : list RawItem) →
+        IsScan (signature_of setting.now.sig.now).constructors items before →
+        IsScan (signature_of setting.now.sig.now).constructors (items
+        ++ map clause_item (map (clause_over raw_of) clauses.now)) o) }
 {
     let mut best = before;
     for clause in clauses {
@@ -64,7 +67,8 @@ fn scan_lists(
     lists: &[List<Clause<Raw>>],
 ) -> Result<Option<NameFault>, Memory>
     requires { AreTables (signature_of setting.now.sig.now).constructors setting.now.tables.now }
-    ensures { IfOk result (IsScan (signature_of setting.now.sig.now).constructors (items_of_lists (map (map (clause_over raw_of)) lists.now))) }
+    ensures { IfOk result (IsScan (signature_of setting.now.sig.now).constructors (items_of_lists
+        (map (map (clause_over raw_of)) lists.now))) }
 {
     let mut best = None;
     for clauses in lists {
@@ -81,7 +85,10 @@ fn scan_queries(
     queries: &[Query<Raw>],
     before: Option<NameFault>,
 ) -> Result<Option<NameFault>, Memory>
-    ensures { IfOk result (λ o. (items : list RawItem) → IsScan (signature_of sig.now).constructors items before → IsScan (signature_of sig.now).constructors (items ++ map query_item (map (query_over raw_of) queries.now)) o) }
+    ensures { IfOk result (λ o. (items : list RawItem) →
+        IsScan (signature_of sig.now).constructors items before →
+        IsScan (signature_of sig.now).constructors (items
+        ++ map query_item (map (query_over raw_of) queries.now)) o) }
 {
     let mut best = before;
     for query in queries {
@@ -93,7 +100,8 @@ fn scan_queries(
 
 /// The first fault of a program.
 pub fn first_fault(alloc: Global, program: &Program<Raw>) -> Result<Option<NameFault>, Memory>
-    ensures { IfOk result (IsScan (signature_of program.now.signature).constructors (items_of (program_over raw_of program.now))) }
+    ensures { IfOk result (IsScan (signature_of program.now.signature).constructors (items_of
+        (program_over raw_of program.now))) }
 {
     let tables = make_tables(alloc, program)?;
     let setting = Setting {
@@ -130,7 +138,8 @@ fn carry_clause(alloc: Global, clause: Clause<Raw>) -> Result<Clause<Term>, Memo
 
 /// Clauses with their swappings carried out.
 fn carry_clauses(alloc: Global, clauses: List<Clause<Raw>>) -> Result<List<Clause<Term>>, Memory>
-    ensures { IfOk result (λ cs. map clause_of cs ≡ map (map_clause carried_out) (map (clause_over raw_of) clauses)) }
+    ensures { IfOk result (λ cs. map clause_of cs
+        ≡ map (map_clause carried_out) (map (clause_over raw_of) clauses)) }
 {
     let clauses = clauses.into_vec();
     let mut carried = Vec::with_capacity(alloc, clauses.len())?;
@@ -145,7 +154,8 @@ fn carry_lists(
     alloc: Global,
     lists: List<List<Clause<Raw>>>,
 ) -> Result<List<List<Clause<Term>>>, Memory>
-    ensures { IfOk result (λ css. map (map clause_of) css ≡ map (map (map_clause carried_out)) (map (map (clause_over raw_of)) lists)) }
+    ensures { IfOk result (λ css. map (map clause_of) css
+        ≡ map (map (map_clause carried_out)) (map (map (clause_over raw_of)) lists)) }
 {
     let lists = lists.into_vec();
     let mut carried = Vec::with_capacity(alloc, lists.len())?;
@@ -176,7 +186,8 @@ fn carry_query(alloc: Global, query: Query<Raw>) -> Result<Query<Term>, Memory>
 
 /// Queries with their swappings carried out.
 fn carry_queries(alloc: Global, queries: List<Query<Raw>>) -> Result<List<Query<Term>>, Memory>
-    ensures { IfOk result (λ qs. map query_of qs ≡ map (map_query carried_out) (map (query_over raw_of) queries)) }
+    ensures { IfOk result (λ qs. map query_of qs
+        ≡ map (map_query carried_out) (map (query_over raw_of) queries)) }
 {
     let queries = queries.into_vec();
     let mut carried = Vec::with_capacity(alloc, queries.len())?;

@@ -24,8 +24,10 @@ use std::alloc::Global;
 pub fn restrict(alloc: Global, program: Program<Raw>) -> Result<Restricted, NameError>
     requires typed { IsTypedRawProgram (program_over raw_of program) }
     requires bounded { item_count (program_over raw_of program) ≤ size_limit }
-    ensures passes { IfOk result (λ r. AllPass (program_over raw_of program).signature.constructors (items_of (program_over raw_of program))) }
-    ensures carried { IfOk result (λ r. program_of r ≡ carried_out_program (program_over raw_of program)) }
+    ensures passes { IfOk result (λ r. AllPass (program_over raw_of program).signature.constructors
+        (items_of (program_over raw_of program))) }
+    ensures carried { IfOk result (λ r. program_of r
+        ≡ carried_out_program (program_over raw_of program)) }
     ensures fault { IfErr result (IsRefusal (program_over raw_of program)) }
 {
     match first_fault(alloc, &program)? {

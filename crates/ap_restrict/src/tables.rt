@@ -54,7 +54,8 @@ fn tables_of(alloc: Global, sig: &Signature, sorts: &[u32]) -> Result<Vec<Holdin
 /// The tables of a program, ascending by sort. They spare work: one that is not there is made where it is
 /// wanted.
 pub(crate) fn make_tables(alloc: Global, program: &Program<Raw>) -> Result<Vec<Holding>, Memory>
-    ensures { IfOk result (λ v. AreTables (signature_of program.now.signature).constructors v.items) }
+    ensures { IfOk result (λ v. AreTables (signature_of program.now.signature).constructors
+        v.items) }
 {
     let sorts = sorts_of(alloc, program.clauses.items())?;
     tables_of(alloc, &program.signature, sorts.as_slice())

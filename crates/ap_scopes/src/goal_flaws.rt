@@ -68,7 +68,9 @@ pub fn clause_flaw(
     body: &Option<GoalTree<'_>>,
 ) -> Option<TypeKind>
     requires { IsIndexed declared.now }
-    ensures { result ≡ spec.clause_flaw (declared_of declared.now) word.now (trees_of args.now) (option_map goal_of body.now) }
+    ensures { result
+        ≡ spec.clause_flaw (declared_of declared.now) word.now (trees_of args.now)
+        (option_map goal_of body.now) }
 {
     match body {
         None => atom_flaw(declared, word, args),

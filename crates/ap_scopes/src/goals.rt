@@ -43,7 +43,9 @@ fn resolved_atom<'a>(
     requires indexed { IsIndexed declared.now }
     requires small { IsSmall declared.now }
     requires numbered { IsNumbered found.old }
-    ensures value { IfOk result (λ g. (goal_over raw_of g, found_of found.new) ≡ spec.resolved_goal (declared_of declared.now) (scope_of scope.now) (Atom word.now (trees_of args.now)) (found_of found.old)) }
+    ensures value { IfOk result (λ g. (goal_over raw_of g, found_of found.new)
+        ≡ spec.resolved_goal (declared_of declared.now) (scope_of scope.now)
+        (Atom word.now (trees_of args.now)) (found_of found.old)) }
     ensures numbered { OnOk result (IsNumbered found.new) }
 {
     let args = resolved_terms(alloc, declared, scope, args, found)?;
@@ -64,7 +66,9 @@ fn resolved_equal<'a>(
     requires indexed { IsIndexed declared.now }
     requires small { IsSmall declared.now }
     requires numbered { IsNumbered found.old }
-    ensures value { IfOk result (λ g. (goal_over raw_of g, found_of found.new) ≡ spec.resolved_goal (declared_of declared.now) (scope_of scope.now) (Equation (term_of left.now) (term_of right.now)) (found_of found.old)) }
+    ensures value { IfOk result (λ g. (goal_over raw_of g, found_of found.new)
+        ≡ spec.resolved_goal (declared_of declared.now) (scope_of scope.now) (Equation
+        (term_of left.now) (term_of right.now)) (found_of found.old)) }
     ensures numbered { OnOk result (IsNumbered found.new) }
 {
     let left = resolved_term(alloc, declared, scope, left, found)?;
@@ -85,7 +89,9 @@ fn resolved_fresh<'a>(
     requires indexed { IsIndexed declared.now }
     requires small { IsSmall declared.now }
     requires numbered { IsNumbered found.old }
-    ensures value { IfOk result (λ g. (goal_over raw_of g, found_of found.new) ≡ spec.resolved_goal (declared_of declared.now) (scope_of scope.now) (Freshness (term_of left.now) (term_of right.now)) (found_of found.old)) }
+    ensures value { IfOk result (λ g. (goal_over raw_of g, found_of found.new)
+        ≡ spec.resolved_goal (declared_of declared.now) (scope_of scope.now) (Freshness
+        (term_of left.now) (term_of right.now)) (found_of found.old)) }
     ensures numbered { OnOk result (IsNumbered found.new) }
 {
     let left = resolved_term(alloc, declared, scope, left, found)?;
@@ -107,7 +113,9 @@ pub fn resolved_goal<'a>(
     requires indexed { IsIndexed declared.now }
     requires small { IsSmall declared.now }
     requires numbered { IsNumbered found.old }
-    ensures value { IfOk result (λ g. (goal_over raw_of g, found_of found.new) ≡ spec.resolved_goal (declared_of declared.now) (scope_of scope.now) (goal_of goal.now) (found_of found.old)) }
+    ensures value { IfOk result (λ g. (goal_over raw_of g, found_of found.new)
+        ≡ spec.resolved_goal (declared_of declared.now) (scope_of scope.now) (goal_of goal.now)
+        (found_of found.old)) }
     ensures numbered { OnOk result (IsNumbered found.new) }
 {
     let mut layers = Vec::new(alloc);
@@ -164,7 +172,9 @@ pub fn resolved_body<'a>(
     requires indexed { IsIndexed declared.now }
     requires small { IsSmall declared.now }
     requires numbered { IsNumbered found.old }
-    ensures value { IfOk result (λ g. (goal_over raw_of g, found_of found.new) ≡ spec.resolved_body (declared_of declared.now) (option_map goal_of body.now) (found_of found.old)) }
+    ensures value { IfOk result (λ g. (goal_over raw_of g, found_of found.new)
+        ≡ spec.resolved_body (declared_of declared.now) (option_map goal_of body.now)
+        (found_of found.old)) }
     ensures numbered { OnOk result (IsNumbered found.new) }
 {
     match body {

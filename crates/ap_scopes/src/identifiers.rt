@@ -94,7 +94,9 @@ impl<'a> Identifiers<'a> {
 
     /// A new identifier is found.
     fn push(&mut self, spelling: Binder<'a>, bound: bool) -> Result<u64, Memory>
-        ensures value { IfOk result (λ n. (n, found_of self.new) ≡ spec.number_new (found_of self.old) (record { spelling = name_of spelling.entry; bound = bound })) }
+        ensures value { IfOk result (λ n. (n, found_of self.new)
+            ≡ spec.number_new (found_of self.old) (record
+            { spelling = name_of spelling.entry; bound = bound })) }
         ensures names { OnOk result (self.new.names ≡ self.old.names) }
         ensures variables { OnOk result (self.new.variables ≡ self.old.variables) }
     {
@@ -106,7 +108,8 @@ impl<'a> Identifiers<'a> {
     /// `new` or `exists` brings a new identifier.
     pub fn bring(&mut self, spelling: Binder<'a>) -> Result<u64, Memory>
         requires { IsNumbered self.old }
-        ensures value { IfOk result (λ n. (n, found_of self.new) ≡ spec.number_new (found_of self.old) (spec.bound_one (name_of spelling.entry))) }
+        ensures value { IfOk result (λ n. (n, found_of self.new)
+            ≡ spec.number_new (found_of self.old) (spec.bound_one (name_of spelling.entry))) }
         ensures numbered { OnOk result (IsNumbered self.new) }
     {
         self.push(spelling, true)
@@ -116,7 +119,8 @@ impl<'a> Identifiers<'a> {
     fn blank(&mut self, spelling: Binder<'a>) -> Result<u64, Memory>
         requires numbered { IsNumbered self.old }
         requires blank { spec.is_blank (name_of spelling) ≡ true }
-        ensures value { IfOk result (λ n. (n, found_of self.new) ≡ spec.number_new (found_of self.old) (spec.free_one (name_of spelling.entry))) }
+        ensures value { IfOk result (λ n. (n, found_of self.new)
+            ≡ spec.number_new (found_of self.old) (spec.free_one (name_of spelling.entry))) }
         ensures numbered { OnOk result (IsNumbered self.new) }
     {
         let number = self.push(spelling, false)?;
@@ -126,7 +130,8 @@ impl<'a> Identifiers<'a> {
     /// The number of a name that belongs to the whole clause or query.
     fn free_name(&mut self, word: &'a str) -> Result<u64, Memory>
         requires { IsNumbered self.old }
-        ensures value { IfOk result (λ n. (n, found_of self.new) ≡ spec.free_number (found_of self.old) (OfWord word.entry.now)) }
+        ensures value { IfOk result (λ n. (n, found_of self.new)
+            ≡ spec.free_number (found_of self.old) (OfWord word.entry.now)) }
         ensures numbered { OnOk result (IsNumbered self.new) }
     {
         match self.names.get(word) {
@@ -143,7 +148,8 @@ impl<'a> Identifiers<'a> {
     fn free_variable(&mut self, word: &'a str) -> Result<u64, Memory>
         requires numbered { IsNumbered self.old }
         requires named { spec.is_blank (OfVar word.now) ≡ false }
-        ensures value { IfOk result (λ n. (n, found_of self.new) ≡ spec.free_number (found_of self.old) (OfVar word.entry.now)) }
+        ensures value { IfOk result (λ n. (n, found_of self.new)
+            ≡ spec.free_number (found_of self.old) (OfVar word.entry.now)) }
         ensures numbered { OnOk result (IsNumbered self.new) }
     {
         match self.variables.get(word) {
@@ -159,7 +165,8 @@ impl<'a> Identifiers<'a> {
     /// The number of the identifier that stands at an occurrence. `Err` is want of memory.
     pub fn number(&mut self, scope: &Brought<'_, 'a>, spelling: Binder<'a>) -> Result<u64, Memory>
         requires { IsNumbered self.old }
-        ensures value { IfOk result (λ n. (n, found_of self.new) ≡ spec.numbered (scope_of scope.now) (name_of spelling.entry) (found_of self.old)) }
+        ensures value { IfOk result (λ n. (n, found_of self.new)
+            ≡ spec.numbered (scope_of scope.now) (name_of spelling.entry) (found_of self.old)) }
         ensures numbered { OnOk result (IsNumbered self.new) }
     {
         if is_blank(spelling) {

@@ -43,7 +43,9 @@ fn constructor_flaw(
 ) -> Option<TypeKind>
     requires indexed { IsIndexed declared.now }
     requires small { IsSmall declared.now }
-    ensures { result ≡ spec.constructor_flaw (declared_of declared.now) word.now (types_of args.now) data_type.now }
+    ensures { result
+        ≡ spec.constructor_flaw (declared_of declared.now) word.now (types_of args.now)
+        data_type.now }
 {
     let types = least(
         types_flaw(declared, args),

@@ -32,7 +32,9 @@ impl<'a> Numbers<'a> {
 
     /// A word gets a number. `Err` is want of memory.
     pub fn set(&mut self, word: &'a str, number: u64) -> Result<(), Memory>
-        ensures { OnOk result ((w : List ℕ) → number_at self.new w ≡ (if bytes_eq word.entry.now w then Some number else number_at self.old w)) }
+        ensures { OnOk result ((w : List ℕ) →
+            number_at self.new w
+            ≡ (if bytes_eq word.entry.now w then Some number else number_at self.old w)) }
     {
         self.places.insert(word, number)?;
         Ok(())

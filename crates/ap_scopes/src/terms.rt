@@ -24,7 +24,8 @@ fn binder<'a>(
     found: &mut Identifiers<'a>,
 ) -> Result<Id, Memory>
     requires { IsNumbered found.old }
-    ensures value { IfOk result (λ i. (i, found_of found.new) ≡ spec.binder (scope_of scope.now) (name_of spelling.entry) (found_of found.old)) }
+    ensures value { IfOk result (λ i. (i, found_of found.new)
+        ≡ spec.binder (scope_of scope.now) (name_of spelling.entry) (found_of found.old)) }
     ensures numbered { OnOk result (IsNumbered found.new) }
 {
     let num = found.number(scope, spelling)?;
@@ -41,7 +42,8 @@ fn identifier<'a>(
     found: &mut Identifiers<'a>,
 ) -> Result<Raw, Memory>
     requires { IsNumbered found.old }
-    ensures value { IfOk result (λ t. (raw_of t, found_of found.new) ≡ spec.identifier (scope_of scope.now) (name_of spelling.entry) (found_of found.old)) }
+    ensures value { IfOk result (λ t. (raw_of t, found_of found.new)
+        ≡ spec.identifier (scope_of scope.now) (name_of spelling.entry) (found_of found.old)) }
     ensures numbered { OnOk result (IsNumbered found.new) }
 {
     let num = found.number(scope, spelling)?;
@@ -73,7 +75,9 @@ fn word_alone<'a>(
     requires indexed { IsIndexed declared.now }
     requires small { IsSmall declared.now }
     requires numbered { IsNumbered found.old }
-    ensures value { IfOk result (λ t. (raw_of t, found_of found.new) ≡ spec.word_alone (scope_of scope.now) word.entry.now (constructor_place (declared_of declared.now) word.entry.now) (found_of found.old)) }
+    ensures value { IfOk result (λ t. (raw_of t, found_of found.new)
+        ≡ spec.word_alone (scope_of scope.now) word.entry.now (constructor_place
+        (declared_of declared.now) word.entry.now) (found_of found.old)) }
     ensures numbered { OnOk result (IsNumbered found.new) }
 {
     match declared.constructor_place(word) {
@@ -96,7 +100,9 @@ pub fn resolved_term<'a>(
     requires indexed { IsIndexed declared.now }
     requires small { IsSmall declared.now }
     requires numbered { IsNumbered found.old }
-    ensures value { IfOk result (λ t. (raw_of t, found_of found.new) ≡ spec.resolved_term (declared_of declared.now) (scope_of scope.now) (term_of tree.now) (found_of found.old)) }
+    ensures value { IfOk result (λ t. (raw_of t, found_of found.new)
+        ≡ spec.resolved_term (declared_of declared.now) (scope_of scope.now) (term_of tree.now)
+        (found_of found.old)) }
     ensures numbered { OnOk result (IsNumbered found.new) }
 {
     let mut layers = Vec::new(alloc);
@@ -157,7 +163,9 @@ fn resolved_arguments<'a>(
     requires indexed { IsIndexed declared.now }
     requires small { IsSmall declared.now }
     requires numbered { IsNumbered found.old }
-    ensures value { IfOk result (λ t. (raw_of t, found_of found.new) ≡ spec.resolved_arguments (declared_of declared.now) (scope_of scope.now) (terms_of args.now) (found_of found.old)) }
+    ensures value { IfOk result (λ t. (raw_of t, found_of found.new)
+        ≡ spec.resolved_arguments (declared_of declared.now) (scope_of scope.now)
+        (terms_of args.now) (found_of found.old)) }
     ensures numbered { OnOk result (IsNumbered found.new) }
 {
     let mut layers = Vec::new(alloc);
@@ -187,7 +195,9 @@ pub fn resolved_terms<'a>(
     requires indexed { IsIndexed declared.now }
     requires small { IsSmall declared.now }
     requires numbered { IsNumbered found.old }
-    ensures value { IfOk result (λ ts. (map raw_of ts, found_of found.new) ≡ spec.resolved_terms (declared_of declared.now) (scope_of scope.now) (trees_of trees.now) (found_of found.old)) }
+    ensures value { IfOk result (λ ts. (map raw_of ts, found_of found.new)
+        ≡ spec.resolved_terms (declared_of declared.now) (scope_of scope.now) (trees_of trees.now)
+        (found_of found.old)) }
     ensures numbered { OnOk result (IsNumbered found.new) }
 {
     let mut terms = Vec::new(alloc);

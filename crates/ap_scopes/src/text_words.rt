@@ -24,7 +24,8 @@ fn spelled<'a>(binder: Binder<'a>) -> &'a str
 /// The words of a type.
 #[tactic(auto, using(crate::proofs::Tables::with_words_append))]
 fn add_type<'a>(words: &mut Words<'a>, tree: &TypeTree<'a>) -> Result<(), Memory>
-    ensures { OnOk result (words_in words.new ≡ with_words (words_in words.old) (spec.type_words (trees.type_of tree.now))) }
+    ensures { OnOk result (words_in words.new
+        ≡ with_words (words_in words.old) (spec.type_words (trees.type_of tree.now))) }
 {
     let mut rest = tree;
     loop {
@@ -47,7 +48,8 @@ fn add_type<'a>(words: &mut Words<'a>, tree: &TypeTree<'a>) -> Result<(), Memory
 /// The words of types.
 #[tactic(auto, using(crate::proofs::Tables::with_words_append, std::proofs::lemmas::Grind::common_steps))]
 fn add_types<'a>(words: &mut Words<'a>, trees: &[TypeTree<'a>]) -> Result<(), Memory>
-    ensures { OnOk result (words_in words.new ≡ with_words (words_in words.old) (spec.types_words (types_of trees.now))) }
+    ensures { OnOk result (words_in words.new
+        ≡ with_words (words_in words.old) (spec.types_words (types_of trees.now))) }
 {
     for tree in trees {
         add_type(words, tree)?;
@@ -61,7 +63,8 @@ fn add_types<'a>(words: &mut Words<'a>, trees: &[TypeTree<'a>]) -> Result<(), Me
 #[cycle(term_words)]
 #[tactic(auto, using(crate::proofs::Tables::with_words_append))]
 fn add_term<'a>(words: &mut Words<'a>, tree: &Tree<'a>) -> Result<(), Memory>
-    ensures { OnOk result (words_in words.new ≡ with_words (words_in words.old) (spec.term_words (term_of tree.now))) }
+    ensures { OnOk result (words_in words.new
+        ≡ with_words (words_in words.old) (spec.term_words (term_of tree.now))) }
 {
     let mut rest = tree;
     loop {
@@ -98,7 +101,8 @@ fn add_term<'a>(words: &mut Words<'a>, tree: &Tree<'a>) -> Result<(), Memory>
 #[cycle(term_words)]
 #[tactic(auto, using(crate::proofs::Tables::with_words_append))]
 fn add_arguments<'a>(words: &mut Words<'a>, args: &Args<'a>) -> Result<(), Memory>
-    ensures { OnOk result (words_in words.new ≡ with_words (words_in words.old) (spec.arguments_words (terms_of args.now))) }
+    ensures { OnOk result (words_in words.new
+        ≡ with_words (words_in words.old) (spec.arguments_words (terms_of args.now))) }
 {
     let mut rest = args;
     loop {
@@ -115,7 +119,8 @@ fn add_arguments<'a>(words: &mut Words<'a>, args: &Args<'a>) -> Result<(), Memor
 /// The words of terms.
 #[tactic(auto, using(crate::proofs::Tables::with_words_append, std::proofs::lemmas::Grind::common_steps))]
 fn add_terms<'a>(words: &mut Words<'a>, trees: &[Tree<'a>]) -> Result<(), Memory>
-    ensures { OnOk result (words_in words.new ≡ with_words (words_in words.old) (spec.terms_words (trees_of trees.now))) }
+    ensures { OnOk result (words_in words.new
+        ≡ with_words (words_in words.old) (spec.terms_words (trees_of trees.now))) }
 {
     for tree in trees {
         add_term(words, tree)?;
@@ -126,7 +131,9 @@ fn add_terms<'a>(words: &mut Words<'a>, trees: &[Tree<'a>]) -> Result<(), Memory
 /// The words of two terms.
 #[tactic(auto, using(crate::proofs::Tables::with_words_append))]
 fn add_two<'a>(words: &mut Words<'a>, left: &Tree<'a>, right: &Tree<'a>) -> Result<(), Memory>
-    ensures { OnOk result (words_in words.new ≡ with_words (words_in words.old) (spec.term_words (term_of left.now) ++ spec.term_words (term_of right.now))) }
+    ensures { OnOk result (words_in words.new
+        ≡ with_words (words_in words.old) (spec.term_words (term_of left.now)
+        ++ spec.term_words (term_of right.now))) }
 {
     add_term(words, left)?;
     add_term(words, right)
@@ -138,7 +145,8 @@ fn add_two<'a>(words: &mut Words<'a>, left: &Tree<'a>, right: &Tree<'a>) -> Resu
 /// is left of them alone.
 #[tactic(auto, using(crate::proofs::Tables::with_words_append))]
 fn add_goal<'a>(words: &mut Words<'a>, goal: &GoalTree<'a>) -> Result<(), Memory>
-    ensures { OnOk result (words_in words.new ≡ with_words (words_in words.old) (spec.goal_words (goal_of goal.now))) }
+    ensures { OnOk result (words_in words.new
+        ≡ with_words (words_in words.old) (spec.goal_words (goal_of goal.now))) }
 {
     let mut rest = goal;
     loop {
@@ -172,7 +180,8 @@ fn add_goal<'a>(words: &mut Words<'a>, goal: &GoalTree<'a>) -> Result<(), Memory
 /// The words of what an item says.
 #[tactic(auto, using(crate::proofs::Tables::with_words_append))]
 fn add_form<'a>(words: &mut Words<'a>, form: &Form<'a>) -> Result<(), Memory>
-    ensures { OnOk result (words_in words.new ≡ with_words (words_in words.old) (spec.saying_words (form_of form.now))) }
+    ensures { OnOk result (words_in words.new
+        ≡ with_words (words_in words.old) (spec.saying_words (form_of form.now))) }
 {
     match form {
         Form::NameType(word) => words.add(word),

@@ -20,7 +20,8 @@ use std::alloc::Global;
 
 /// The abstraction over a name type. Over anything else it is a fault, and its type never counts.
 fn abstraction_over(alloc: Global, over: Option<Ty>, body: Ty) -> Result<Ty, Memory>
-    ensures { IfOk result (λ t. type_of t ≡ spec.abstraction_over (option_map type_of over) (type_of body)) }
+    ensures { IfOk result (λ t. type_of t
+        ≡ spec.abstraction_over (option_map type_of over) (type_of body)) }
 {
     match &over {
         Some(Ty::Names(sort)) => Ok(Ty::Abs(*sort, Box::new(alloc, body)?)),
@@ -40,7 +41,8 @@ pub fn resolved_type(
 ) -> Result<Ty, Memory>
     requires indexed { IsIndexed declared.now }
     requires small { IsSmall declared.now }
-    ensures { IfOk result (λ t. type_of t ≡ spec.resolved_type (declared_of declared.now).signature (trees.type_of tree.now)) }
+    ensures { IfOk result (λ t. type_of t
+        ≡ spec.resolved_type (declared_of declared.now).signature (trees.type_of tree.now)) }
 {
     let mut layers = Vec::new(alloc);
     let mut rest = tree;
@@ -76,7 +78,8 @@ pub fn resolved_types(
 ) -> Result<List<Ty>, Memory>
     requires indexed { IsIndexed declared.now }
     requires small { IsSmall declared.now }
-    ensures { IfOk result (λ ts. map type_of ts ≡ spec.resolved_types (declared_of declared.now).signature (types_of trees.now)) }
+    ensures { IfOk result (λ ts. map type_of ts
+        ≡ spec.resolved_types (declared_of declared.now).signature (types_of trees.now)) }
 {
     let mut types = Vec::new(alloc);
     for tree in trees {
@@ -122,7 +125,8 @@ pub fn result_flaw(found: Option<Ty>) -> Option<TypeKind>
 pub fn type_flaw(declared: &Declarations<'_>, tree: &TypeTree<'_>) -> Option<TypeKind>
     requires indexed { IsIndexed declared.now }
     requires small { IsSmall declared.now }
-    ensures { result ≡ flaws.type_flaw (declared_of declared.now).signature (trees.type_of tree.now) }
+    ensures { result
+        ≡ flaws.type_flaw (declared_of declared.now).signature (trees.type_of tree.now) }
 {
     let mut flaw = None;
     let mut rest = tree;

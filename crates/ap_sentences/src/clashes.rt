@@ -15,7 +15,7 @@ use ap_located::nodes::{Form, LEVELS, Node, node_at};
 use ap_located::spots::spot_of;
 use std::alloc::Global;
 
-// Says what a node is.
+/// Says what a node is.
 fn say_what(message: &mut Message, tokens: &[Token<'_>], node: Node) {
     let what = match node.form {
         Form::Tuple if node.count == 0 => "this",
@@ -40,13 +40,13 @@ fn say_what(message: &mut Message, tokens: &[Token<'_>], node: Node) {
     ]);
 }
 
-// Whether a node is a name: a word that is no constructor.
+/// Whether a node is a name: a word that is no constructor.
 fn is_name(typing: &Typing<'_, '_>, node: Node) -> bool {
     let word = text_at(typing.tokens, node.first);
     node.form == Form::Word && typing.declared.constructors.get(word).is_none()
 }
 
-// The node, or the largest one round it of which it is a part by abstractions, tuples and lists alone.
+/// The node, or the largest one round it of which it is a part by abstractions, tuples and lists alone.
 fn argument_round(nodes: &[Node], node: Node) -> Node {
     let mut at = node;
     for _ in 0..LEVELS {
@@ -59,7 +59,7 @@ fn argument_round(nodes: &[Node], node: Node) -> Node {
     at
 }
 
-// The word whose argument a node is, with its declaration.
+/// The word whose argument a node is, with its declaration.
 fn argument_of<'a>(typing: &Typing<'_, 'a>, nodes: &[Node], node: Node) -> Option<Entry<'a>> {
     let above = node_at(nodes, node.parent);
     if above.form != Form::Apply {
@@ -72,7 +72,7 @@ fn argument_of<'a>(typing: &Typing<'_, 'a>, nodes: &[Node], node: Node) -> Optio
         .entry(space, text_at(typing.tokens, above.first))
 }
 
-// Why a type is wanted at a part of a node, where it isn't an argument.
+/// Why a type is wanted at a part of a node, where it isn't an argument.
 fn place_note(above: Form, rank: usize) -> Option<&'static str> {
     match above {
         Form::Equal => Some("both sides of `=` are of one type"),
@@ -88,7 +88,7 @@ fn place_note(above: Form, rank: usize) -> Option<&'static str> {
     }
 }
 
-// Notes which argument a node is, or stands in.
+/// Notes which argument a node is, or stands in.
 fn note_argument(
     message: &mut Message,
     subject: Subject<'_, '_>,
@@ -112,7 +112,7 @@ fn note_argument(
     }
 }
 
-// Notes why a type is wanted at a node.
+/// Notes why a type is wanted at a node.
 fn note_wanted(
     message: &mut Message,
     subject: Subject<'_, '_>,
@@ -126,7 +126,7 @@ fn note_wanted(
     }
 }
 
-// Notes where a variable or name stood first.
+/// Notes where a variable or name stood first.
 fn note_first(
     message: &mut Message,
     subject: Subject<'_, '_>,
@@ -152,7 +152,7 @@ fn note_first(
     ]);
 }
 
-// Notes where the type of a node comes from.
+/// Notes where the type of a node comes from.
 fn note_given(
     message: &mut Message,
     subject: Subject<'_, '_>,
@@ -172,7 +172,7 @@ fn note_given(
     }
 }
 
-// The constructor that is spelled most like a name, of those that make terms of a type alone.
+/// The constructor that is spelled most like a name, of those that make terms of a type alone.
 fn meant<'a>(declared: &mut Declared<'a>, word: &'a str, wanted: Shape) -> Option<&'a str> {
     let mut nearest = Nearest::new(word);
     let mut only = None;
@@ -200,7 +200,7 @@ fn begins_ascii(word: &str) -> bool {
     }
 }
 
-// Labels a name where a term of a data type is wanted, and notes what may be meant.
+/// Labels a name where a term of a data type is wanted, and notes what may be meant.
 fn label_name<'a>(message: &mut Message, typing: &mut Typing<'_, 'a>, token: usize, wanted: Shape) {
     let word = text_at(typing.tokens, token);
     message.label(&[
@@ -223,7 +223,7 @@ fn label_name<'a>(message: &mut Message, typing: &mut Typing<'_, 'a>, token: usi
     }
 }
 
-// What is said where the types with two numbers differ at a node.
+/// What is said where the types with two numbers differ at a node.
 fn types_message(
     alloc: Global,
     typing: &mut Typing<'_, '_>,
@@ -247,7 +247,7 @@ fn types_message(
     message
 }
 
-// What is said where a constructor stands in the place of a name.
+/// What is said where a constructor stands in the place of a name.
 fn constructor_message(
     alloc: Global,
     subject: Subject<'_, '_>,
@@ -267,7 +267,7 @@ fn constructor_message(
     message
 }
 
-// The first token of the first variable or name whose type is a part of itself, or the item's.
+/// The first token of the first variable or name whose type is a part of itself, or the item's.
 fn endless_token(
     alloc: Global,
     typing: &mut Typing<'_, '_>,
@@ -281,7 +281,7 @@ fn endless_token(
     Ok(0)
 }
 
-// What is said where types would contain themselves.
+/// What is said where types would contain themselves.
 fn endless_message(
     alloc: Global,
     typing: &mut Typing<'_, '_>,

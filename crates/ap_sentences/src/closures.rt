@@ -19,12 +19,12 @@ pub enum Question {
 }
 
 impl Question {
-    // The answer where nothing speaks against it, or for it.
+    /// The answer where nothing speaks against it, or for it.
     fn default(self) -> bool {
         self == Question::HasTerm
     }
 
-    // What the shape of a part says for a type, if it decides.
+    /// What the shape of a part says for a type, if it decides.
     fn decides(self, answers: &[bool], shape: Shape) -> Option<bool> {
         match shape {
             Shape::Data(word) => self.unless_default(answers.get(word).copied().unwrap_or(true)),
@@ -65,7 +65,7 @@ impl Question {
         Ok(self.default())
     }
 
-    // The answer for the result of a constructor, as far as that has a say.
+    /// The answer for the result of a constructor, as far as that has a say.
     fn by_constructor(
         self,
         alloc: Global,
@@ -82,7 +82,7 @@ impl Question {
         Ok(self.default())
     }
 
-    // Answers yes for the data type of a constructor, if that makes it so. Tells whether this is new.
+    /// Answers yes for the data type of a constructor, if that makes it so. Tells whether this is new.
     fn add_constructor(
         self,
         alloc: Global,
@@ -103,7 +103,7 @@ impl Question {
         Ok(answer)
     }
 
-    // Answers yes for the data types that are so by one constructor more. Tells whether there are new ones.
+    /// Answers yes for the data types that are so by one constructor more. Tells whether there are new ones.
     fn one_round(
         self,
         alloc: Global,

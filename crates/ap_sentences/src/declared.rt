@@ -32,6 +32,7 @@ pub struct Table<'a> {
 }
 
 impl<'a> Table<'a> {
+    /// A space without words.
     pub fn new(alloc: Global) -> Table<'a> {
         Table {
             words: IndexSet::new(alloc),
@@ -39,6 +40,7 @@ impl<'a> Table<'a> {
         }
     }
 
+    /// What is declared, in order.
     pub fn entries(&self) -> &[Entry<'a>] {
         self.entries.as_slice()
     }
@@ -73,6 +75,7 @@ pub struct Declared<'a> {
 }
 
 impl<'a> Declared<'a> {
+    /// Nothing is declared yet.
     pub fn new(alloc: Global) -> Declared<'a> {
         Declared {
             type_words: Table::new(alloc),
@@ -143,7 +146,7 @@ impl<'a> Declared<'a> {
         }
     }
 
-    // The entry with the types of its arguments and its result.
+    /// The entry with the types of its arguments and its result.
     fn typed(
         &mut self,
         alloc: Global,
@@ -156,7 +159,7 @@ impl<'a> Declared<'a> {
         Ok(with_types(nodes, bases.as_slice(), entry))
     }
 
-    // The types that the nodes of a declaration spell: for each node the number of that of its first part.
+    /// The types that the nodes of a declaration spell: for each node the number of that of its first part.
     fn type_nodes(
         &mut self,
         alloc: Global,
@@ -176,7 +179,7 @@ impl<'a> Declared<'a> {
         Ok(bases)
     }
 
-    // Gives the type of a node its shape.
+    /// Gives the type of a node its shape.
     fn type_node(
         &mut self,
         tokens: &[Token<'a>],
@@ -219,7 +222,7 @@ pub fn tuple_shape(types: &mut Types, base: usize, count: usize) -> Result<Shape
     Ok(Shape::Pair(base, rest))
 }
 
-// The entry with the types of the nodes of its declaration.
+/// The entry with the types of the nodes of its declaration.
 fn with_types<'a>(nodes: &[Node], bases: &[usize], entry: Entry<'a>) -> Entry<'a> {
     let whole = bases.first().copied().unwrap_or(0);
     let first = node_at(nodes, 1);

@@ -29,6 +29,7 @@ pub struct Idents<'a> {
 }
 
 impl<'a> Idents<'a> {
+    /// No identifiers yet.
     pub fn new(alloc: Global) -> Idents<'a> {
         Idents {
             words: IndexSet::new(alloc),
@@ -66,7 +67,7 @@ impl<'a> Idents<'a> {
         Ok(())
     }
 
-    // The identifier that the goal of a node brings.
+    /// The identifier that the goal of a node brings.
     fn brought_by(&self, goal: usize) -> Option<Ident> {
         let at = self.brought.binary_search_by_key(&goal, |pair| pair.0);
         match at {
@@ -78,7 +79,7 @@ impl<'a> Idents<'a> {
         }
     }
 
-    // The identifier of a word that no goal brings.
+    /// The identifier of a word that no goal brings.
     fn free_of(&self, word: &str) -> Option<Ident> {
         let number = self.words.get_index_of(word)?;
         let place = self.free.get(number).copied()?;

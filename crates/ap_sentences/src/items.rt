@@ -17,7 +17,7 @@ use ap_located::nodes::Node;
 use ap_located::reader::read_item;
 use std::alloc::Global;
 
-// What is said of an item that breaks the name restriction by a head.
+/// What is said of an item that breaks the name restriction by a head.
 fn head_message<'t, 'a>(
     alloc: Global,
     subject: Subject<'t, 'a>,
@@ -30,7 +30,7 @@ fn head_message<'t, 'a>(
     explain_head(alloc, &mut typing, nodes, name)
 }
 
-// What is said of an item with a type fault.
+/// What is said of an item with a type fault.
 fn type_message<'t, 'a>(
     alloc: Global,
     subject: Subject<'t, 'a>,
@@ -45,7 +45,7 @@ fn type_message<'t, 'a>(
     }
 }
 
-// What is said of an item whose words are all right.
+/// What is said of an item whose words are all right.
 fn typed_message<'t, 'a>(
     alloc: Global,
     subject: Subject<'t, 'a>,
@@ -77,7 +77,7 @@ fn name_message<'t, 'a>(
     }
 }
 
-// What is said of an item that is in the grammar.
+/// What is said of an item that is in the grammar.
 fn read_message<'t, 'a>(
     alloc: Global,
     subject: Subject<'t, 'a>,

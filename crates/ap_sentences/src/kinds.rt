@@ -14,7 +14,7 @@ use ap_located::messages::{Message, Piece};
 use ap_located::nodes::{Node, node_at};
 use std::alloc::Global;
 
-// Labels a variable or a name with what is known of its type.
+/// Labels a variable or a name with what is known of its type.
 fn label_type(message: &mut Message, alloc: Global, declared: &mut Declared<'_>, slot: usize) {
     match declared.types.shape(slot) {
         Shape::Open => message.label(&[Piece::Text("nothing is known of its type")]),
@@ -29,7 +29,7 @@ fn label_type(message: &mut Message, alloc: Global, declared: &mut Declared<'_>,
     }
 }
 
-// What is said of the type of a variable or a name.
+/// What is said of the type of a variable or a name.
 fn ident_message(
     alloc: Global,
     typing: &mut Typing<'_, '_>,
@@ -50,14 +50,14 @@ fn ident_message(
     message
 }
 
-// What is said where no variable or name is found to which it applies.
+/// What is said where no variable or name is found to which it applies.
 fn vague_message(alloc: Global, typing: &Typing<'_, '_>, sentence: &str) -> Message {
     let mut message = Message::new(alloc, span_at(typing.tokens, 0));
     message.say(&[Piece::Text(sentence)]);
     message
 }
 
-// The first variable or name whose type is open.
+/// The first variable or name whose type is open.
 fn open_ident(alloc: Global, typing: &mut Typing<'_, '_>) -> Result<Option<Ident>, Memory> {
     for ident in typing.idents.all() {
         if typing.declared.types.is_open(alloc, ident.slot)? {
@@ -83,7 +83,7 @@ pub fn explain_open(
     Ok(message)
 }
 
-// A constructor of a data type.
+/// A constructor of a data type.
 fn constructor_of<'a>(declared: &mut Declared<'a>, word: usize) -> Option<Entry<'a>> {
     for place in 0..declared.constructors.entries().len() {
         let entry = declared.constructors.at(place)?;
@@ -94,7 +94,7 @@ fn constructor_of<'a>(declared: &mut Declared<'a>, word: usize) -> Option<Entry<
     None
 }
 
-// Notes what the constructors of a type without terms need.
+/// Notes what the constructors of a type without terms need.
 fn note_constructors(
     message: &mut Message,
     subject: Subject<'_, '_>,
@@ -114,7 +114,7 @@ fn note_constructors(
     }
 }
 
-// The first variable whose type has no terms.
+/// The first variable whose type has no terms.
 fn empty_ident(
     alloc: Global,
     typing: &mut Typing<'_, '_>,

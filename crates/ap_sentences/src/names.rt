@@ -13,8 +13,8 @@ use ap_located::nodes::{Form, LEVELS, Node, node_at};
 use indexmap::IndexSet;
 use std::alloc::Global;
 
-// The token of the first node of a spelling that stands as a binder or in one of the first two places of a
-// swapping.
+/// The token of the first node of a spelling that stands as a binder or in one of the first two places of a
+/// swapping.
 fn find_place(tokens: &[Token<'_>], nodes: &[Node], word: &str, above: Form) -> usize {
     for node in nodes {
         let is_place = node_at(nodes, node.parent).form == above && node.rank < 2;
@@ -63,7 +63,7 @@ pub fn explain_swap(alloc: Global, tokens: &[Token<'_>], nodes: &[Node], word: &
     message
 }
 
-// Whether a node stands inside a head.
+/// Whether a node stands inside a head.
 fn is_in_head(nodes: &[Node], place: usize) -> bool {
     let mut at = place;
     for _ in 0..LEVELS {
@@ -79,7 +79,7 @@ fn is_in_head(nodes: &[Node], place: usize) -> bool {
     false
 }
 
-// Whether a node stands in an abstraction of a name.
+/// Whether a node stands in an abstraction of a name.
 fn is_bound(tokens: &[Token<'_>], nodes: &[Node], place: usize, word: &str) -> bool {
     let mut at = place;
     for _ in 0..LEVELS {
@@ -96,7 +96,7 @@ fn is_bound(tokens: &[Token<'_>], nodes: &[Node], place: usize, word: &str) -> b
     false
 }
 
-// Whether the node at a place is a goal that must hold: it stands under `,` alone.
+/// Whether the node at a place is a goal that must hold: it stands under `,` alone.
 fn must_hold(nodes: &[Node], place: usize) -> bool {
     let mut at = place;
     for _ in 0..LEVELS {
@@ -113,7 +113,7 @@ fn must_hold(nodes: &[Node], place: usize) -> bool {
     false
 }
 
-// Whether the node at a place is a goal that a name is fresh, and must hold.
+/// Whether the node at a place is a goal that a name is fresh, and must hold.
 fn is_fresh_goal(tokens: &[Token<'_>], nodes: &[Node], place: usize, word: &str) -> bool {
     let left = node_at(nodes, place.saturating_add(1));
     node_at(nodes, place).form == Form::Fresh
@@ -122,7 +122,7 @@ fn is_fresh_goal(tokens: &[Token<'_>], nodes: &[Node], place: usize, word: &str)
         && must_hold(nodes, place)
 }
 
-// Whether a node stands in a goal that a name is fresh, and that must hold.
+/// Whether a node stands in a goal that a name is fresh, and that must hold.
 fn is_in_fresh_goal(tokens: &[Token<'_>], nodes: &[Node], place: usize, name: &str) -> bool {
     let mut at = place;
     for _ in 0..LEVELS {
@@ -137,7 +137,7 @@ fn is_in_fresh_goal(tokens: &[Token<'_>], nodes: &[Node], place: usize, name: &s
     false
 }
 
-// The variables for which goals say that a name is fresh.
+/// The variables for which goals say that a name is fresh.
 fn covered_by<'a>(
     alloc: Global,
     tokens: &[Token<'a>],
@@ -153,7 +153,7 @@ fn covered_by<'a>(
     Ok(covered)
 }
 
-// A name that stands free in a head itself.
+/// A name that stands free in a head itself.
 fn free_in_head(tokens: &[Token<'_>], nodes: &[Node], name: &str) -> Option<usize> {
     for (place, node) in nodes.iter().enumerate() {
         let is_name = node.form == Form::Word && text_at(tokens, node.first) == name;
@@ -169,15 +169,15 @@ fn free_in_head(tokens: &[Token<'_>], nodes: &[Node], name: &str) -> Option<usiz
     None
 }
 
-// Whether a node is a variable of a head that the binder of a name doesn't stand over.
+/// Whether a node is a variable of a head that the binder of a name doesn't stand over.
 fn is_open(tokens: &[Token<'_>], nodes: &[Node], place: usize, name: &str) -> bool {
     node_at(nodes, place).form == Form::Variable
         && is_in_head(nodes, place)
         && !is_bound(tokens, nodes, place, name)
 }
 
-// The variables of a head that the binder of a name doesn't stand over, and for which no goal says that the name is
-// fresh.
+/// The variables of a head that the binder of a name doesn't stand over, and for which no goal says that the name is
+/// fresh.
 fn open_variables(
     alloc: Global,
     tokens: &[Token<'_>],
@@ -194,7 +194,7 @@ fn open_variables(
     Ok(open)
 }
 
-// The token of the first of these variables whose type may hold a name of a name type.
+/// The token of the first of these variables whose type may hold a name of a name type.
 fn first_holding(
     alloc: Global,
     typing: &mut Typing<'_, '_>,
@@ -206,7 +206,7 @@ fn first_holding(
     first_of(alloc, typing, variables, question, answers.as_slice())
 }
 
-// The token of the first of some variables for whose type the answer is yes.
+/// The token of the first of some variables for whose type the answer is yes.
 fn first_of(
     alloc: Global,
     typing: &mut Typing<'_, '_>,
@@ -223,7 +223,7 @@ fn first_of(
     Ok(None)
 }
 
-// The place of the name type of a name of an item.
+/// The place of the name type of a name of an item.
 fn type_of_name(typing: &mut Typing<'_, '_>, nodes: &[Node], name: &str) -> usize {
     for ident in typing.idents.all() {
         let token = node_at(nodes, ident.node).first;
@@ -236,7 +236,7 @@ fn type_of_name(typing: &mut Typing<'_, '_>, nodes: &[Node], name: &str) -> usiz
     usize::MAX
 }
 
-// What is said of a name that stands free in a head itself.
+/// What is said of a name that stands free in a head itself.
 fn free_message(alloc: Global, tokens: &[Token<'_>], token: usize, name: &str) -> Message {
     let mut message = Message::new(alloc, span_at(tokens, token));
     message.say(&[
@@ -255,7 +255,7 @@ fn free_message(alloc: Global, tokens: &[Token<'_>], token: usize, name: &str) -
 const NO_FORMALITY: &str =
     "this is no formality: where the name is free in what the variable stands for, the clause would hold for one choice of the name and not for another, and the goal makes it fail there";
 
-// Notes the goal to add.
+/// Notes the goal to add.
 fn note_goal(message: &mut Message, name: &str, variable: &str) {
     if variable == "_" {
         message.note(&[Piece::Text("give `_` a spelling, as `T`, and add the goal `")]);
@@ -268,7 +268,7 @@ fn note_goal(message: &mut Message, name: &str, variable: &str) {
     message.note(&[Piece::Text(NO_FORMALITY)]);
 }
 
-// What is said of a name that a variable of the head may hold.
+/// What is said of a name that a variable of the head may hold.
 fn variable_message(alloc: Global, tokens: &[Token<'_>], token: usize, name: &str) -> Message {
     let variable = text_at(tokens, token);
     let mut message = Message::new(alloc, span_at(tokens, token));
@@ -283,7 +283,7 @@ fn variable_message(alloc: Global, tokens: &[Token<'_>], token: usize, name: &st
     message
 }
 
-// What is said of a name where no such variable is found.
+/// What is said of a name where no such variable is found.
 fn vague_message(alloc: Global, tokens: &[Token<'_>], name: &str) -> Message {
     let mut message = Message::new(alloc, span_at(tokens, 0));
     message.say(&[

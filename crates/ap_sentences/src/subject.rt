@@ -32,7 +32,7 @@ pub fn space_word(space: Space) -> &'static str {
     }
 }
 
-// The declaration of a word, as it is written in the text.
+/// The declaration of a word, as it is written in the text.
 fn declaration<'t>(subject: Subject<'t, '_>, item: Range) -> &'t str {
     let span = span_between(subject.tokens, item.first, item.end.saturating_sub(1));
     let bytes = subject.text.get(span.start..span.end).unwrap_or(&[]);
@@ -74,7 +74,7 @@ pub fn nearest_entry<'a>(entries: &[Entry<'a>], word: &'a str) -> Option<&'a str
     nearest.found()
 }
 
-// The line in which an item declares a word, if it does.
+/// The line in which an item declares a word, if it does.
 fn line_of(part: &[Token<'_>], space: Space, word: &str) -> Option<u64> {
     let (found, at) = declared_word(part)?;
     if found == space && text_at(part, at) == word {

@@ -95,6 +95,7 @@ enum Step {
 }
 
 impl Types {
+    /// No types yet.
     pub fn new(alloc: Global) -> Types {
         Types {
             shapes: Vec::new(alloc),
@@ -195,7 +196,7 @@ impl Types {
         Ok(true)
     }
 
-    // Makes two types equal but for their parts, which are added to the work.
+    /// Makes two types equal but for their parts, which are added to the work.
     fn equate_once(
         &mut self,
         work: &mut Vec<(usize, usize)>,
@@ -268,7 +269,7 @@ impl Types {
     }
 }
 
-// Adds the parts of a kind that a type with this shape has.
+/// Adds the parts of a kind that a type with this shape has.
 fn add_parts(parts: &mut Vec<usize>, shape: Shape, kind: Parts) -> Result<(), Memory> {
     match shape {
         Shape::Pair(left, right) => {

@@ -44,7 +44,7 @@ impl<'t, 'a> Typing<'t, 'a> {
         base.saturating_add(node.rank)
     }
 
-    // Asks a node's type to be equal to another.
+    /// Asks a node's type to be equal to another.
     fn equate(
         &mut self,
         alloc: Global,
@@ -61,7 +61,7 @@ impl<'t, 'a> Typing<'t, 'a> {
         Ok(())
     }
 
-    // Asks a node to have a type of this shape.
+    /// Asks a node to have a type of this shape.
     fn give(
         &mut self,
         alloc: Global,
@@ -73,7 +73,7 @@ impl<'t, 'a> Typing<'t, 'a> {
         self.equate(alloc, place, own, other)
     }
 
-    // Adds a name or a variable that stands first at a node.
+    /// Adds a name or a variable that stands first at a node.
     fn add_ident(&mut self, place: usize, node: Node, brought: bool) -> Result<Ident, Memory> {
         let word = text_at(self.tokens, node.first);
         let is_name = is_word(self.tokens, node.first);
@@ -98,7 +98,7 @@ impl<'t, 'a> Typing<'t, 'a> {
         Ok(ident)
     }
 
-    // A name or a variable.
+    /// A name or a variable.
     fn type_ident(&mut self, alloc: Global, place: usize, nodes: &[Node]) -> Result<(), Memory> {
         let node = node_at(nodes, place);
         let word = text_at(self.tokens, node.first);
@@ -117,7 +117,7 @@ impl<'t, 'a> Typing<'t, 'a> {
         self.equate(alloc, place, own, ident.slot)
     }
 
-    // Whether a node stands where a name belongs.
+    /// Whether a node stands where a name belongs.
     fn is_name_place(&self, node: Node, nodes: &[Node]) -> bool {
         let above = node_at(nodes, node.parent).form;
         node.form == Form::Binder || (above == Form::Swap && node.rank < 2)
@@ -151,7 +151,7 @@ impl<'t, 'a> Typing<'t, 'a> {
         }
     }
 
-    // The types of the parts of a node are those of the arguments of a declared word.
+    /// The types of the parts of a node are those of the arguments of a declared word.
     fn give_parts(&mut self, node: Node, entry: Entry<'a>) -> Result<(), Memory> {
         let base = self.declared.types.add_many(node.count, Shape::Open)?;
         for part in 0..node.count.min(entry.count) {
@@ -162,14 +162,14 @@ impl<'t, 'a> Typing<'t, 'a> {
         Ok(())
     }
 
-    // All parts of a node have one type.
+    /// All parts of a node have one type.
     fn give_same(&mut self, node: Node, slot: usize) -> Result<(), Memory> {
         let base = self.declared.types.add_many(node.count, Shape::Link(slot))?;
         self.bases.push(base)?;
         Ok(())
     }
 
-    // The parts of a node have types of their own.
+    /// The parts of a node have types of their own.
     fn give_own(&mut self, node: Node) -> Result<usize, Memory> {
         let base = self.declared.types.add_many(node.count, Shape::Open)?;
         self.bases.push(base)?;
@@ -248,7 +248,7 @@ impl<'t, 'a> Typing<'t, 'a> {
         Ok(())
     }
 
-    // Types a node that has no rule for its parts.
+    /// Types a node that has no rule for its parts.
     fn type_part(&mut self, alloc: Global, place: usize, nodes: &[Node]) -> Result<(), Memory> {
         let node = node_at(nodes, place);
         self.give_open(node)?;
@@ -259,7 +259,7 @@ impl<'t, 'a> Typing<'t, 'a> {
         }
     }
 
-    // Types the node at a place.
+    /// Types the node at a place.
     fn type_node(&mut self, alloc: Global, place: usize, nodes: &[Node]) -> Result<(), Memory> {
         let node = node_at(nodes, place);
         match node.form {
@@ -273,7 +273,7 @@ impl<'t, 'a> Typing<'t, 'a> {
         }
     }
 
-    // Gives names of which nothing else is known the only name type, if there is only one.
+    /// Gives names of which nothing else is known the only name type, if there is only one.
     fn give_names(&mut self, alloc: Global) -> Result<(), Memory> {
         match only_name_type(self.declared.type_words.entries()) {
             Some(only) => self.declared.types.close_names(alloc, only),
@@ -291,7 +291,7 @@ pub fn applied_space(is_call: bool) -> Space {
     }
 }
 
-// The place of the only name type, if there is only one.
+/// The place of the only name type, if there is only one.
 fn only_name_type(entries: &[Entry<'_>]) -> Option<usize> {
     let mut only = None;
     for (place, entry) in entries.iter().enumerate() {
@@ -305,7 +305,7 @@ fn only_name_type(entries: &[Entry<'_>]) -> Option<usize> {
     only
 }
 
-// Whether the token at a place is a word, and not a variable.
+/// Whether the token at a place is a word, and not a variable.
 fn is_word(tokens: &[Token<'_>], place: usize) -> bool {
     match tokens.get(place) {
         Some(token) => token.kind == TokenKind::Ident,

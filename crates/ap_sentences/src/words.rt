@@ -22,7 +22,7 @@ pub struct WordFlaw<'a> {
     pub entry: Option<Entry<'a>>,
 }
 
-// What is wrong with an applied word, if anything.
+/// What is wrong with an applied word, if anything.
 fn application_flaw<'a>(
     entry: Option<Entry<'a>>,
     space: Space,
@@ -42,7 +42,7 @@ fn application_flaw<'a>(
     })
 }
 
-// What is wrong with a word in a clause or a query, if anything.
+/// What is wrong with a word in a clause or a query, if anything.
 fn term_flaw<'a>(
     declared: &Declared<'a>,
     tokens: &[Token<'a>],
@@ -66,7 +66,7 @@ fn term_flaw<'a>(
     application_flaw(entry, Space::Constructors, node)
 }
 
-// What is wrong with a word in a declaration, if anything.
+/// What is wrong with a word in a declaration, if anything.
 fn declaration_flaw<'a>(
     declared: &Declared<'a>,
     tokens: &[Token<'a>],
@@ -103,12 +103,12 @@ fn declaration_flaw<'a>(
     }
 }
 
-// Whether a node is the type of a constructor without arguments.
+/// Whether a node is the type of a constructor without arguments.
 fn is_constant(nodes: &[Node], node: Node) -> bool {
     node_at(nodes, node.parent).form == Form::Domain && node_at(nodes, 0).count < 3
 }
 
-// What is wrong with the word that an item declares, if anything.
+/// What is wrong with the word that an item declares, if anything.
 fn repeated<'a>(
     declared: &Declared<'a>,
     tokens: &[Token<'a>],
@@ -160,7 +160,7 @@ fn plural(count: usize) -> &'static str {
     }
 }
 
-// Notes how a word is declared.
+/// Notes how a word is declared.
 fn note_how(message: &mut Message, flaw: WordFlaw<'_>, word: &str) {
     message.note(&[Piece::Text("declare it in an item before")]);
     if flaw.space == Space::Types {
@@ -184,7 +184,7 @@ fn note_how(message: &mut Message, flaw: WordFlaw<'_>, word: &str) {
     message.say(&[Piece::Text(begin), Piece::Word(word), Piece::Text(end)]);
 }
 
-// What stands round the word in its declaration.
+/// What stands round the word in its declaration.
 fn form_of(flaw: WordFlaw<'_>) -> (&'static str, &'static str) {
     match flaw.space {
         Space::Predicates if flaw.given == 0 => (": `pred ", ".`"),
@@ -193,7 +193,7 @@ fn form_of(flaw: WordFlaw<'_>) -> (&'static str, &'static str) {
     }
 }
 
-// The space in which a word is declared that is looked for in another.
+/// The space in which a word is declared that is looked for in another.
 fn other_space(declared: &Declared<'_>, space: Space, word: &str) -> Option<Space> {
     for other in [Space::Types, Space::Constructors, Space::Predicates] {
         if other != space && declared.table(other).get(word).is_some() {
@@ -203,7 +203,7 @@ fn other_space(declared: &Declared<'_>, space: Space, word: &str) -> Option<Spac
     None
 }
 
-// Notes the way out for a word that is declared elsewhere, or may be misspelt. Tells whether there is one.
+/// Notes the way out for a word that is declared elsewhere, or may be misspelt. Tells whether there is one.
 fn note_other<'a>(
     message: &mut Message,
     declared: &Declared<'a>,
@@ -230,7 +230,7 @@ fn note_other<'a>(
     false
 }
 
-// Notes the way out for a word that is not declared.
+/// Notes the way out for a word that is not declared.
 fn note_way_out<'a>(
     message: &mut Message,
     subject: Subject<'_, 'a>,
@@ -308,7 +308,7 @@ fn say_type_word(message: &mut Message, is_name: bool, word: &str) {
     message.say(&[Piece::Text(begin), Piece::Word(word), Piece::Text(end)]);
 }
 
-// Says what is wrong with a word that is declared.
+/// Says what is wrong with a word that is declared.
 fn say_flaw(message: &mut Message, flaw: WordFlaw<'_>, entry: Entry<'_>) {
     match flaw.kind {
         TypeKind::Redeclared => say_repeated(message, flaw.space, entry.word),
@@ -317,7 +317,7 @@ fn say_flaw(message: &mut Message, flaw: WordFlaw<'_>, entry: Entry<'_>) {
     }
 }
 
-// Notes what else may help with it.
+/// Notes what else may help with it.
 fn note_flaw(message: &mut Message, flaw: WordFlaw<'_>, entry: Entry<'_>) {
     match flaw.kind {
         TypeKind::Arity if entry.count == 1 && flaw.given > 1 => message.note(&[Piece::Text(
@@ -330,7 +330,7 @@ fn note_flaw(message: &mut Message, flaw: WordFlaw<'_>, entry: Entry<'_>) {
     }
 }
 
-// What is said of a flaw of a word that is declared.
+/// What is said of a flaw of a word that is declared.
 fn declared_message(
     alloc: Global,
     subject: Subject<'_, '_>,

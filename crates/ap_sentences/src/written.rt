@@ -19,7 +19,7 @@ enum Rest {
 /// The parts of a type that are written, at most.
 const PARTS: usize = 60;
 
-// The part that is written next, if any, and what is left behind it.
+/// The part that is written next, if any, and what is left behind it.
 fn write_next(
     message: &mut Message,
     work: &mut Vec<Rest>,
@@ -40,7 +40,7 @@ fn write_next(
     }
 }
 
-// The right part of a tuple.
+/// The right part of a tuple.
 fn add_right(work: &mut Vec<Rest>, shape: Shape, part: usize) -> Result<(), Memory> {
     if let Shape::Pair(left, right) = shape {
         work.push(Rest::Right(right))?;
@@ -53,7 +53,7 @@ fn add_right(work: &mut Vec<Rest>, shape: Shape, part: usize) -> Result<(), Memo
     Ok(())
 }
 
-// How a type begins.
+/// How a type begins.
 fn write_begin(message: &mut Message, declared: &Declared<'_>, shape: Shape) {
     match shape {
         Shape::Open | Shape::OpenName | Shape::Link(_) => message.say(&[Piece::Text("_")]),
@@ -69,7 +69,7 @@ fn write_begin(message: &mut Message, declared: &Declared<'_>, shape: Shape) {
     }
 }
 
-// How a type goes on.
+/// How a type goes on.
 fn add_parts(work: &mut Vec<Rest>, shape: Shape) -> Result<(), Memory> {
     match shape {
         Shape::Pair(left, right) => {

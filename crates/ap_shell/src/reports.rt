@@ -77,8 +77,8 @@ pub(crate) fn prove_report<R: Threads + Wait + Sync, G: Gate>(
     settings: &Settings,
     text: &[u8],
 ) -> Result<Report, Memory>
-    ensures { IfOk result
-        (IsReportWithin (IsProveReport settings.now.depth (limits.First settings.now.answers)) text.now) }
+    ensures { IfOk result (IsReportWithin (IsProveReport settings.now.depth
+        (limits.First settings.now.answers)) text.now) }
 {
     if text.len() > SIZE_LIMIT {
         return too_large(alloc);

@@ -45,7 +45,8 @@ fn query_line<R: Threads + Wait + Sync, G: Gate>(
     ensures quiet { IfOk result (λ s. WritesUnless false
         (query_in session.old.waiting.items kinds.Text line.now) s.reply) }
     ensures used { IfOk result (λ s. s.used ≡ up_to (lines.query_end line.now) line.now) }
-    ensures within { IfOk result (λ s. (s.used ≤ length line.now) × (0 < length line.now → 0 < s.used)) }
+    ensures within { IfOk result (λ s. (s.used ≤ length line.now)
+        × (0 < length line.now → 0 < s.used)) }
     ensures dropped { IfOk result (λ s. s.dropped ≡ false) }
     ensures waits { OnOk result (session.new.waiting.items
         ≡ waiting_behind (lines.query_end line.now) session.old.waiting.items line.now) }
@@ -95,7 +96,8 @@ pub fn step<R: Threads + Wait + Sync, G: Gate>(
         (typed_query session.old line.now) s.reply) }
     // A line is taken up to the end of its query, or else all of it.
     ensures used { IfOk result (λ s. s.used ≡ used_by session.old line.now) }
-    ensures within { IfOk result (λ s. (s.used ≤ length line.now) × (0 < length line.now → 0 < s.used)) }
+    ensures within { IfOk result (λ s. (s.used ≤ length line.now)
+        × (0 < length line.now → 0 < s.used)) }
     // Lines wait for the end of their query, or of the clauses that are added; a command drops them.
     ensures waits { OnOk result (session.new.waiting.items ≡ waiting_after session.old line.now) }
     ensures dropped { IfOk result (λ s. s.dropped ≡ drops session.old line.now) }

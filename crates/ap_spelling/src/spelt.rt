@@ -24,7 +24,8 @@ pub enum Given<'a> {
 
 /// A number is the last that was put behind a word, or 0, where the word was used as it is.
 pub fn set_last<'a>(last: &mut Numbers<'a>, word: &'a str, number: u64) -> Result<(), Memory>
-    ensures { OnOk result (last_of last.new ≡ numbered_next word.entry.now number (last_of last.old)) }
+    ensures { OnOk result (last_of last.new
+        ≡ numbered_next word.entry.now number (last_of last.old)) }
 {
     last.set(word, number)
 }

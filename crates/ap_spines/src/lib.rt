@@ -86,7 +86,8 @@ pub fn close_goal(
     mut layers: Vec<GoalLayer>,
     g: Goal<Raw>,
 ) -> Result<Goal<Raw>, Memory>
-    ensures { IfOk result (λ h. goal_over raw_of h ≡ goal_within layers.items (goal_over raw_of g)) }
+    ensures { IfOk result (λ h. goal_over raw_of h
+        ≡ goal_within layers.items (goal_over raw_of g)) }
 {
     let mut made = g;
     while let Some(layer) = layers.pop() {

@@ -21,7 +21,8 @@ pub struct Job<W: Shape> {
 
 /// Tools with an empty hand and no thieves.
 fn bare<W: Shape>(alloc: Global, number: u32, alone: bool, own: Owner<W>) -> Tools<W>
-    ensures { (result.number ≡ number) × (result.alone ≡ alone) × (result.hand.items ≡ []) × (result.own ≡ own) }
+    ensures { (result.number ≡ number) × (result.alone ≡ alone) × (result.hand.items ≡ [])
+        × (result.own ≡ own) }
 {
     Tools {
         number,
@@ -133,7 +134,8 @@ fn give<W: Shape>(
 pub fn turned<W: Shape>(mut jobs: Vec<Job<W>>) -> Vec<Job<W>>
     ensures order { result.items ≡ reverse jobs.items }
     ensures len { vec_len result ≡ vec_len jobs }
-    ensures new { (book : TableId) → All (λ j. IsNew book j.seat) jobs.items → All (λ j. IsNew book j.seat) result.items }
+    ensures new { (book : TableId) → All (λ j. IsNew book j.seat) jobs.items →
+        All (λ j. IsNew book j.seat) result.items }
 {
     jobs.reverse();
     jobs
@@ -148,7 +150,8 @@ pub fn make_jobs<W: Shape>(
     requires { vec_len seats ≡ vec_len tools }
     ensures len { IfOk result (λ v. vec_len v ≡ vec_len seats) }
     ensures tools { IfOk result (λ v. map (λ j. j.tools) v.items ≡ reverse tools.items) }
-    ensures new { (book : TableId) → All (λ s. IsNew book s) seats.items → IfOk result (λ v. All (λ j. IsNew book j.seat) v.items) }
+    ensures new { (book : TableId) → All (λ s. IsNew book s) seats.items →
+        IfOk result (λ v. All (λ j. IsNew book j.seat) v.items) }
 {
     let mut jobs = Vec::with_capacity(alloc, seats.len())?;
     while let Some(seat) = seats.pop() {

@@ -35,14 +35,16 @@ pub fn run_all<W: Shape + Send, R: Threads + Wait + Sync, T: Tree, G: Gate>(
     requires new { All (λ j. IsNew (book_id book.now) j.seat) jobs.items }
     requires fresh { AreFresh 0 (map (λ j. j.tools) jobs.items) }
     ensures len { IfOk result (λ v. vec_len v ≡ vec_len jobs) }
-    ensures each { IfOk result (λ v. All (λ s. Ended (T.choices tree.now) (T.plan tree.now) (limit_of book.now) (book_id book.now) s) v.items) }
+    ensures each { IfOk result (λ v. All (λ s. Ended (T.choices tree.now) (T.plan tree.now)
+        (limit_of book.now) (book_id book.now) s) v.items) }
 {
     let seats = thread::map_vec(
         rt,
         jobs,
         &|job: Job<W>| -> Seat
             requires { (T.choices tree.now ≡ W.choices) × IsNew (book_id book.now) job.seat }
-            ensures { Ended (T.choices tree.entry.now) (T.plan tree.entry.now) (limit_of book.entry.now) (book_id book.entry.now) result }
+            ensures { Ended (T.choices tree.entry.now) (T.plan tree.entry.now)
+                (limit_of book.entry.now) (book_id book.entry.now) result }
         { work(rt, alloc, tree, gate, book, job) },
     )?;
     Ok(seats)
@@ -90,13 +92,18 @@ pub fn finish<T: Tree>(
     book: SharedBook,
     seats: Vec<Seat>,
 ) -> Result<Closed, Memory>
-    requires ended { All (λ s. Ended (T.choices tree.now) (T.plan tree.now) (limit_of book) (book_id book) s) seats.items }
+    requires ended { All (λ s. Ended (T.choices tree.now) (T.plan tree.now) (limit_of book)
+        (book_id book) s) seats.items }
     requires all { vec_len seats ≡ seats_of book }
-    ensures legal { IfOk result (λ c. (is_legal (entries_of c.history) ≡ true) × (has_stop (entries_of c.history) ≡ false) × (open_of (entries_of c.history) ≡ [])) }
-    ensures planned { IfOk result (λ c. ArePlanned (T.choices tree.now) (T.plan tree.now) (entries_of c.history)) }
+    ensures legal { IfOk result (λ c. (is_legal (entries_of c.history) ≡ true)
+        × (has_stop (entries_of c.history) ≡ false) × (open_of (entries_of c.history) ≡ [])) }
+    ensures planned { IfOk result (λ c. ArePlanned (T.choices tree.now) (T.plan tree.now)
+        (entries_of c.history)) }
     ensures within { IfOk result (λ c. AreWithin (limit_of book) (entries_of c.history)) }
-    ensures seats { IfOk result (λ c. (c.logs ≡ logs_of (seats_of book) c.history) × AreSeats (seats_of book) (entries_of c.history)) }
-    ensures order { (s : SeatView) → seats.items ≡ s ∷ [] → s.number ≡ 0 → seats_of book ≡ 1 → IsOrdered s.number s.seen → IfOk result (λ c. IsInOrder ([] ∷ []) (entries_of c.history)) }
+    ensures seats { IfOk result (λ c. (c.logs ≡ logs_of (seats_of book) c.history)
+        × AreSeats (seats_of book) (entries_of c.history)) }
+    ensures order { (s : SeatView) → seats.items ≡ s ∷ [] → s.number ≡ 0 → seats_of book ≡ 1 →
+        IsOrdered s.number s.seen → IfOk result (λ c. IsInOrder ([] ∷ []) (entries_of c.history)) }
 {
     let _tree = tree;
     let closed = book.close(alloc, seats)?;

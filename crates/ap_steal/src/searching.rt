@@ -33,10 +33,13 @@ fn search_alone<W: Shape, R: Wait, T: Tree, G: Gate>(
     gate: &G,
 ) -> Result<Closed, Memory>
     requires { T.choices tree.now ≡ W.choices }
-    ensures legal { IfOk result (λ c. (is_legal (entries_of c.history) ≡ true) × (has_stop (entries_of c.history) ≡ false) × (open_of (entries_of c.history) ≡ [])) }
-    ensures planned { IfOk result (λ c. ArePlanned (T.choices tree.now) (T.plan tree.now) (entries_of c.history)) }
+    ensures legal { IfOk result (λ c. (is_legal (entries_of c.history) ≡ true)
+        × (has_stop (entries_of c.history) ≡ false) × (open_of (entries_of c.history) ≡ [])) }
+    ensures planned { IfOk result (λ c. ArePlanned (T.choices tree.now) (T.plan tree.now)
+        (entries_of c.history)) }
     ensures within { IfOk result (λ c. AreWithin limit (entries_of c.history)) }
-    ensures seats { IfOk result (λ c. (c.logs ≡ logs_of 1 c.history) × AreSeats 1 (entries_of c.history)) }
+    ensures seats { IfOk result (λ c. (c.logs ≡ logs_of 1 c.history)
+        × AreSeats 1 (entries_of c.history)) }
     ensures order { IfOk result (λ c. IsInOrder ([] ∷ []) (entries_of c.history)) }
 {
     let tools = lone_tools::<W>(alloc)?;
@@ -60,10 +63,13 @@ fn search_beside<W: Shape + Send, R: Threads + Wait + Sync, T: Tree, G: Gate>(
 ) -> Result<Closed, Memory>
     requires count { (0 < workers) × (workers ≤ 64) }
     requires shape { T.choices tree.now ≡ W.choices }
-    ensures legal { IfOk result (λ c. (is_legal (entries_of c.history) ≡ true) × (has_stop (entries_of c.history) ≡ false) × (open_of (entries_of c.history) ≡ [])) }
-    ensures planned { IfOk result (λ c. ArePlanned (T.choices tree.now) (T.plan tree.now) (entries_of c.history)) }
+    ensures legal { IfOk result (λ c. (is_legal (entries_of c.history) ≡ true)
+        × (has_stop (entries_of c.history) ≡ false) × (open_of (entries_of c.history) ≡ [])) }
+    ensures planned { IfOk result (λ c. ArePlanned (T.choices tree.now) (T.plan tree.now)
+        (entries_of c.history)) }
     ensures within { IfOk result (λ c. AreWithin limit (entries_of c.history)) }
-    ensures seats { IfOk result (λ c. (c.logs ≡ logs_of workers c.history) × AreSeats workers (entries_of c.history)) }
+    ensures seats { IfOk result (λ c. (c.logs ≡ logs_of workers c.history)
+        × AreSeats workers (entries_of c.history)) }
 {
     let tools = make_tools::<W>(alloc, workers)?;
     let (book, seats) = SharedBook::make(alloc, workers, limit)?;
@@ -83,10 +89,13 @@ fn search_in<W: Shape + Send, R: Threads + Wait + Sync, T: Tree, G: Gate>(
 ) -> Result<Closed, Memory>
     requires count { (0 < workers) × (workers ≤ 64) }
     requires shape { T.choices tree.now ≡ W.choices }
-    ensures legal { IfOk result (λ c. (is_legal (entries_of c.history) ≡ true) × (has_stop (entries_of c.history) ≡ false) × (open_of (entries_of c.history) ≡ [])) }
-    ensures planned { IfOk result (λ c. ArePlanned (T.choices tree.now) (T.plan tree.now) (entries_of c.history)) }
+    ensures legal { IfOk result (λ c. (is_legal (entries_of c.history) ≡ true)
+        × (has_stop (entries_of c.history) ≡ false) × (open_of (entries_of c.history) ≡ [])) }
+    ensures planned { IfOk result (λ c. ArePlanned (T.choices tree.now) (T.plan tree.now)
+        (entries_of c.history)) }
     ensures within { IfOk result (λ c. AreWithin limit (entries_of c.history)) }
-    ensures seats { IfOk result (λ c. (c.logs ≡ logs_of workers c.history) × AreSeats workers (entries_of c.history)) }
+    ensures seats { IfOk result (λ c. (c.logs ≡ logs_of workers c.history)
+        × AreSeats workers (entries_of c.history)) }
     ensures order { workers ≡ 1 → IfOk result (λ c. IsInOrder ([] ∷ []) (entries_of c.history)) }
 {
     if workers == 1 {
@@ -115,13 +124,19 @@ pub fn search_within<R: Threads + Wait + Sync, T: Tree, G: Gate>(
     gate: &G,
 ) -> Result<Closed, Memory>
     requires { (0 < workers) × (workers ≤ 64) }
-    ensures legal { IfOk result (λ c. (is_legal (entries_of c.history) ≡ true) × (has_stop (entries_of c.history) ≡ false) × (open_of (entries_of c.history) ≡ [])) }
-    ensures planned { IfOk result (λ c. ArePlanned (T.choices tree.now) (T.plan tree.now) (entries_of c.history)) }
+    ensures legal { IfOk result (λ c. (is_legal (entries_of c.history) ≡ true)
+        × (has_stop (entries_of c.history) ≡ false) × (open_of (entries_of c.history) ≡ [])) }
+    ensures planned { IfOk result (λ c. ArePlanned (T.choices tree.now) (T.plan tree.now)
+        (entries_of c.history)) }
     ensures within { IfOk result (λ c. AreWithin limit (entries_of c.history)) }
-    ensures whole { IfOk result (λ c. part limit (merged (entries_of c.history)) ≡ part limit (T.at tree.now [])) }
-    ensures seats { IfOk result (λ c. (c.logs ≡ logs_of workers c.history) × AreSeats workers (entries_of c.history)) }
+    ensures whole { IfOk result (λ c. part limit (merged (entries_of c.history))
+        ≡ part limit (T.at tree.now [])) }
+    ensures seats { IfOk result (λ c. (c.logs ≡ logs_of workers c.history)
+        × AreSeats workers (entries_of c.history)) }
     ensures order { workers ≡ 1 → IfOk result (λ c. IsInOrder ([] ∷ []) (entries_of c.history)) }
-    ensures permitted { IfOk result (λ c. (t : State) × (events : list Event) × Leads (T.choices tree.now) (T.at tree.now) (start workers) events t (entries_of c.history)) }
+    ensures permitted { IfOk result (λ c. (t : State) × (events : list Event)
+        × Leads (T.choices tree.now) (T.at tree.now) (start workers) events t
+        (entries_of c.history)) }
 {
     search_in::<Brand, R, T, G>(rt, alloc, tree, workers, limit, gate)
 }
@@ -136,12 +151,17 @@ pub fn search<R: Threads + Wait + Sync, T: Tree, G: Gate>(
     gate: &G,
 ) -> Result<Closed, Memory>
     requires { (0 < workers) × (workers ≤ 64) }
-    ensures legal { IfOk result (λ c. (is_legal (entries_of c.history) ≡ true) × (has_stop (entries_of c.history) ≡ false) × (open_of (entries_of c.history) ≡ [])) }
-    ensures planned { IfOk result (λ c. ArePlanned (T.choices tree.now) (T.plan tree.now) (entries_of c.history)) }
+    ensures legal { IfOk result (λ c. (is_legal (entries_of c.history) ≡ true)
+        × (has_stop (entries_of c.history) ≡ false) × (open_of (entries_of c.history) ≡ [])) }
+    ensures planned { IfOk result (λ c. ArePlanned (T.choices tree.now) (T.plan tree.now)
+        (entries_of c.history)) }
     ensures whole { IfOk result (λ c. merged (entries_of c.history) ≡ T.at tree.now []) }
-    ensures seats { IfOk result (λ c. (c.logs ≡ logs_of workers c.history) × AreSeats workers (entries_of c.history)) }
+    ensures seats { IfOk result (λ c. (c.logs ≡ logs_of workers c.history)
+        × AreSeats workers (entries_of c.history)) }
     ensures order { workers ≡ 1 → IfOk result (λ c. IsInOrder ([] ∷ []) (entries_of c.history)) }
-    ensures permitted { IfOk result (λ c. (t : State) × (events : list Event) × Leads (T.choices tree.now) (T.at tree.now) (start workers) events t (entries_of c.history)) }
+    ensures permitted { IfOk result (λ c. (t : State) × (events : list Event)
+        × Leads (T.choices tree.now) (T.at tree.now) (start workers) events t
+        (entries_of c.history)) }
 {
     search_within(rt, alloc, tree, workers, Limit::All, gate)
 }

@@ -33,12 +33,16 @@ fn split_planned<R: Wait, T: Tree>(
     given: &[u32],
 ) -> Result<(), BookError>
     requires book { seat.old.book ≡ book_id book.now }
-    requires own { OwnPlanned (T.choices tree.now) (T.plan tree.now) (limit_of book.now) seat.old.number seat.old.seen }
-    requires planned { InTree (T.choices tree.now) path.now × (T.plan tree.now path.now ≡ kids given.now) }
+    requires own { OwnPlanned (T.choices tree.now) (T.plan tree.now) (limit_of book.now)
+        seat.old.number seat.old.seen }
+    requires planned { InTree (T.choices tree.now) path.now
+        × (T.plan tree.now path.now ≡ kids given.now) }
     requires ascends { Ascends 1 given.now }
     ensures same { SameSeat seat.old seat.new }
-    ensures own { OwnPlanned (T.choices tree.now) (T.plan tree.now) (limit_of book.now) seat.new.number seat.new.seen }
-    ensures turn { (turn : list Entry) × IsTurn seat.old turn × Enters turn path.now (Split seat.old.number path.now given.now) result seat.new.seen }
+    ensures own { OwnPlanned (T.choices tree.now) (T.plan tree.now) (limit_of book.now)
+        seat.new.number seat.new.seen }
+    ensures turn { (turn : list Entry) × IsTurn seat.old turn
+        × Enters turn path.now (Split seat.old.number path.now given.now) result seat.new.seen }
 {
     let _tree = tree;
     book.split(rt, alloc, seat, path, given)
@@ -54,11 +58,16 @@ fn done_planned<R: Wait, T: Tree>(
     given: Vec<Out>,
 ) -> Result<(), DoneError>
     requires book { seat.old.book ≡ book_id book.now }
-    requires own { OwnPlanned (T.choices tree.now) (T.plan tree.now) (limit_of book.now) seat.old.number seat.old.seen }
-    requires planned { InTree (T.choices tree.now) path.now × (T.plan tree.now path.now ≡ outs (outs_of given.items)) }
+    requires own { OwnPlanned (T.choices tree.now) (T.plan tree.now) (limit_of book.now)
+        seat.old.number seat.old.seen }
+    requires planned { InTree (T.choices tree.now) path.now
+        × (T.plan tree.now path.now ≡ outs (outs_of given.items)) }
     ensures same { SameSeat seat.old seat.new }
-    ensures own { OwnPlanned (T.choices tree.now) (T.plan tree.now) (limit_of book.now) seat.new.number seat.new.seen }
-    ensures turn { (turn : list Entry) × IsTurn seat.old turn × EntersDone turn path.now given.items (Done seat.old.number path.now given.items) result seat.new.seen }
+    ensures own { OwnPlanned (T.choices tree.now) (T.plan tree.now) (limit_of book.now)
+        seat.new.number seat.new.seen }
+    ensures turn { (turn : list Entry) × IsTurn seat.old turn
+        × EntersDone turn path.now given.items (Done seat.old.number path.now given.items) result
+        seat.new.seen }
 {
     let _tree = tree;
     book.done(rt, seat, path, given)
@@ -73,11 +82,14 @@ fn skip_planned<R: Wait, T: Tree>(
     path: &Path,
 ) -> Result<(), SkipError>
     requires book { seat.old.book ≡ book_id book.now }
-    requires own { OwnPlanned (T.choices tree.now) (T.plan tree.now) (limit_of book.now) seat.old.number seat.old.seen }
+    requires own { OwnPlanned (T.choices tree.now) (T.plan tree.now) (limit_of book.now)
+        seat.old.number seat.old.seen }
     requires there { InTree (T.choices tree.now) path.now }
     ensures same { SameSeat seat.old seat.new }
-    ensures own { OwnPlanned (T.choices tree.now) (T.plan tree.now) (limit_of book.now) seat.new.number seat.new.seen }
-    ensures turn { (turn : list Entry) × IsTurn seat.old turn × Skips turn path.now (limit_of book.now) seat.old.number result seat.new.seen }
+    ensures own { OwnPlanned (T.choices tree.now) (T.plan tree.now) (limit_of book.now)
+        seat.new.number seat.new.seen }
+    ensures turn { (turn : list Entry) × IsTurn seat.old turn
+        × Skips turn path.now (limit_of book.now) seat.old.number result seat.new.seen }
 {
     let _tree = tree;
     book.skip(rt, seat, path)
@@ -92,11 +104,16 @@ fn is_needed<R: Wait, T: Tree>(
     path: &Path,
 ) -> Result<bool, Memory>
     requires book { seat.old.book ≡ book_id book.now }
-    requires own { OwnPlanned (T.choices tree.now) (T.plan tree.now) (limit_of book.now) seat.old.number seat.old.seen }
+    requires own { OwnPlanned (T.choices tree.now) (T.plan tree.now) (limit_of book.now)
+        seat.old.number seat.old.seen }
     requires there { InTree (T.choices tree.now) path.now }
     ensures same { SameSeat seat.old seat.new }
-    ensures own { OwnPlanned (T.choices tree.now) (T.plan tree.now) (limit_of book.now) seat.new.number seat.new.seen }
-    ensures order { (hand : list (list ℕ)) → IsSole (path.now ∷ hand) seat.old.number seat.old.seen → IfOk result (λ b. IsSole (if b then path.now ∷ hand else hand) seat.new.number seat.new.seen) }
+    ensures own { OwnPlanned (T.choices tree.now) (T.plan tree.now) (limit_of book.now)
+        seat.new.number seat.new.seen }
+    ensures order { (hand : list (list ℕ)) →
+        IsSole (path.now ∷ hand) seat.old.number seat.old.seen →
+        IfOk result (λ b. IsSole (if b then path.now ∷ hand else hand) seat.new.number
+        seat.new.seen) }
 {
     match skip_planned(rt, tree, book, seat, path) {
         Ok(()) => Ok(false),
@@ -110,7 +127,8 @@ fn is_needed<R: Wait, T: Tree>(
 fn visit_planned<T: Tree>(alloc: Global, tree: &T, path: &Path) -> Result<Visit, Memory>
     requires { InTree (T.choices tree.now) path.now }
     ensures plan { IfOk result (λ v. visit_of v ≡ T.plan tree.now path.now) }
-    ensures kids { (ks : list ℕ) → T.plan tree.now path.now ≡ kids ks → Ascends 1 ks × AreChoices (T.choices tree.now path.now) ks }
+    ensures kids { (ks : list ℕ) → T.plan tree.now path.now ≡ kids ks →
+        Ascends 1 ks × AreChoices (T.choices tree.now path.now) ks }
 {
     tree.visit(alloc, path)
 }
@@ -128,13 +146,18 @@ fn run_kids<W: Shape, R: Wait, T: Tree>(
 ) -> Result<(), Memory>
     requires book { seat.old.book ≡ book_id book.now }
     requires shape { T.choices tree.now ≡ W.choices }
-    requires own { OwnPlanned (T.choices tree.now) (T.plan tree.now) (limit_of book.now) seat.old.number seat.old.seen }
-    requires planned { InTree (T.choices tree.now) path.now × (T.plan tree.now path.now ≡ kids given.now) }
+    requires own { OwnPlanned (T.choices tree.now) (T.plan tree.now) (limit_of book.now)
+        seat.old.number seat.old.seen }
+    requires planned { InTree (T.choices tree.now) path.now
+        × (T.plan tree.now path.now ≡ kids given.now) }
     requires kids { Ascends 1 given.now × AreChoices (T.choices tree.now path.now) given.now }
     ensures same { SameSeat seat.old seat.new }
-    ensures own { OwnPlanned (T.choices tree.now) (T.plan tree.now) (limit_of book.now) seat.new.number seat.new.seen }
+    ensures own { OwnPlanned (T.choices tree.now) (T.plan tree.now) (limit_of book.now)
+        seat.new.number seat.new.seen }
     ensures alone { tools.new.alone ≡ tools.old.alone }
-    ensures order { tools.old.alone ≡ true → IsSole (path.now ∷ tools.old.hand.items) seat.old.number seat.old.seen → IfOk result (λ _. IsSole tools.new.hand.items seat.new.number seat.new.seen) }
+    ensures order { tools.old.alone ≡ true →
+        IsSole (path.now ∷ tools.old.hand.items) seat.old.number seat.old.seen →
+        IfOk result (λ _. IsSole tools.new.hand.items seat.new.number seat.new.seen) }
 {
     match split_planned(rt, alloc, tree, book, seat, path.path(), given) {
         Ok(()) => tools.take_kids(alloc, path, given),
@@ -153,11 +176,16 @@ fn run_outs<R: Wait, T: Tree>(
     given: List<Out>,
 ) -> Result<(), Memory>
     requires book { seat.old.book ≡ book_id book.now }
-    requires own { OwnPlanned (T.choices tree.now) (T.plan tree.now) (limit_of book.now) seat.old.number seat.old.seen }
-    requires planned { InTree (T.choices tree.now) path.now × (T.plan tree.now path.now ≡ outs (outs_of given)) }
+    requires own { OwnPlanned (T.choices tree.now) (T.plan tree.now) (limit_of book.now)
+        seat.old.number seat.old.seen }
+    requires planned { InTree (T.choices tree.now) path.now
+        × (T.plan tree.now path.now ≡ outs (outs_of given)) }
     ensures same { SameSeat seat.old seat.new }
-    ensures own { OwnPlanned (T.choices tree.now) (T.plan tree.now) (limit_of book.now) seat.new.number seat.new.seen }
-    ensures order { (hand : list (list ℕ)) → IsSole (path.now ∷ hand) seat.old.number seat.old.seen → IfOk result (λ _. IsSole hand seat.new.number seat.new.seen) }
+    ensures own { OwnPlanned (T.choices tree.now) (T.plan tree.now) (limit_of book.now)
+        seat.new.number seat.new.seen }
+    ensures order { (hand : list (list ℕ)) →
+        IsSole (path.now ∷ hand) seat.old.number seat.old.seen →
+        IfOk result (λ _. IsSole hand seat.new.number seat.new.seen) }
 {
     match done_planned(rt, tree, book, seat, path, given.into_vec()) {
         Ok(()) => Ok(()),
@@ -180,11 +208,15 @@ fn visit_path<W: Shape, R: Wait, T: Tree>(
 ) -> Result<(), Memory>
     requires book { seat.old.book ≡ book_id book.now }
     requires shape { T.choices tree.now ≡ W.choices }
-    requires own { OwnPlanned (T.choices tree.now) (T.plan tree.now) (limit_of book.now) seat.old.number seat.old.seen }
+    requires own { OwnPlanned (T.choices tree.now) (T.plan tree.now) (limit_of book.now)
+        seat.old.number seat.old.seen }
     ensures same { SameSeat seat.old seat.new }
-    ensures own { OwnPlanned (T.choices tree.now) (T.plan tree.now) (limit_of book.now) seat.new.number seat.new.seen }
+    ensures own { OwnPlanned (T.choices tree.now) (T.plan tree.now) (limit_of book.now)
+        seat.new.number seat.new.seen }
     ensures alone { tools.new.alone ≡ tools.old.alone }
-    ensures order { tools.old.alone ≡ true → IsSole (path.now ∷ tools.old.hand.items) seat.old.number seat.old.seen → IfOk result (λ _. IsSole tools.new.hand.items seat.new.number seat.new.seen) }
+    ensures order { tools.old.alone ≡ true →
+        IsSole (path.now ∷ tools.old.hand.items) seat.old.number seat.old.seen →
+        IfOk result (λ _. IsSole tools.new.hand.items seat.new.number seat.new.seen) }
 {
     match visit_planned(alloc, tree, path.path()) {
         Ok(Visit::Kids(list)) => run_kids(rt, alloc, tree, book, seat, tools, path, list.items()),
@@ -205,11 +237,15 @@ pub fn run_path<W: Shape, R: Wait, T: Tree>(
 ) -> Result<(), Memory>
     requires book { seat.old.book ≡ book_id book.now }
     requires shape { T.choices tree.now ≡ W.choices }
-    requires own { OwnPlanned (T.choices tree.now) (T.plan tree.now) (limit_of book.now) seat.old.number seat.old.seen }
+    requires own { OwnPlanned (T.choices tree.now) (T.plan tree.now) (limit_of book.now)
+        seat.old.number seat.old.seen }
     ensures same { SameSeat seat.old seat.new }
-    ensures own { OwnPlanned (T.choices tree.now) (T.plan tree.now) (limit_of book.now) seat.new.number seat.new.seen }
+    ensures own { OwnPlanned (T.choices tree.now) (T.plan tree.now) (limit_of book.now)
+        seat.new.number seat.new.seen }
     ensures alone { tools.new.alone ≡ tools.old.alone }
-    ensures order { tools.old.alone ≡ true → IsSole (path.now ∷ tools.old.hand.items) seat.old.number seat.old.seen → IfOk result (λ _. IsSole tools.new.hand.items seat.new.number seat.new.seen) }
+    ensures order { tools.old.alone ≡ true →
+        IsSole (path.now ∷ tools.old.hand.items) seat.old.number seat.old.seen →
+        IfOk result (λ _. IsSole tools.new.hand.items seat.new.number seat.new.seen) }
 {
     if !book.has_limit() {
         return visit_path(rt, alloc, tree, book, seat, tools, path);

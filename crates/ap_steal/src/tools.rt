@@ -43,7 +43,8 @@ impl<W: Shape> Tools<W> {
     /// A path from the own deque, or another's.
     fn fetch(&mut self) -> Option<Placed<W>>
         ensures kept { KeepsWho self.old self.new }
-        ensures none { self.old.alone ≡ true → (result ≡ None) × (self.new.hand.items ≡ self.old.hand.items) }
+        ensures none { self.old.alone ≡ true →
+            (result ≡ None) × (self.new.hand.items ≡ self.old.hand.items) }
     {
         if self.alone {
             return None;
@@ -87,8 +88,12 @@ impl<W: Shape> Tools<W> {
     pub fn take_kids(&mut self, alloc: Global, path: &Placed<W>, kids: &[u32]) -> Result<(), Memory>
         requires { AreChoices (W.choices path.now) kids.now }
         ensures kept { KeepsWho self.old self.new }
-        ensures kids { self.old.alone ≡ true → IfOk result (λ _. self.new.hand.items ≡ kids_of path.now kids.now ++ self.old.hand.items) }
-        ensures held { (h : list ℕ → ℕ) → IfOk result (λ _. held h self.new ≡ weigh h (kids_of path.now kids.now) + held h self.old) }
+        ensures kids { self.old.alone ≡ true →
+            IfOk result (λ _. self.new.hand.items
+            ≡ kids_of path.now kids.now ++ self.old.hand.items) }
+        ensures held { (h : list ℕ → ℕ) →
+            IfOk result (λ _. held h self.new
+            ≡ weigh h (kids_of path.now kids.now) + held h self.old) }
     {
         for i in 0..kids.len() {
             let kid = path.child(alloc, kids[kids.len() - 1 - i])?;
@@ -100,8 +105,10 @@ impl<W: Shape> Tools<W> {
     /// Takes one path.
     fn put(&mut self, path: Placed<W>, stays: bool) -> Result<(), Memory>
         ensures kept { KeepsWho self.old self.new }
-        ensures first { self.old.alone ≡ true → IfOk result (λ _. self.new.hand.items ≡ path ∷ self.old.hand.items) }
-        ensures held { (h : list ℕ → ℕ) → IfOk result (λ _. held h self.new ≡ h path + held h self.old) }
+        ensures first { self.old.alone ≡ true →
+            IfOk result (λ _. self.new.hand.items ≡ path ∷ self.old.hand.items) }
+        ensures held { (h : list ℕ → ℕ) →
+            IfOk result (λ _. held h self.new ≡ h path + held h self.old) }
     {
         if stays || self.alone {
             self.hand.push_front(path)?;

@@ -26,11 +26,14 @@ const LOOKS: u64 = 64;
 /// Whether the search is over.
 fn is_over<R: Wait, T: Tree>(rt: &R, tree: &T, book: &SharedBook, seat: &mut Seat) -> bool
     requires book { seat.old.book ≡ book_id book.now }
-    requires own { OwnPlanned (T.choices tree.now) (T.plan tree.now) (limit_of book.now) seat.old.number seat.old.seen }
+    requires own { OwnPlanned (T.choices tree.now) (T.plan tree.now) (limit_of book.now)
+        seat.old.number seat.old.seen }
     ensures same { SameSeat seat.old seat.new }
-    ensures own { OwnPlanned (T.choices tree.now) (T.plan tree.now) (limit_of book.now) seat.new.number seat.new.seen }
+    ensures own { OwnPlanned (T.choices tree.now) (T.plan tree.now) (limit_of book.now)
+        seat.new.number seat.new.seen }
     ensures over { result ≡ true → IsOver seat.new.seen }
-    ensures order { (hand : list (list ℕ)) → IsSole hand seat.old.number seat.old.seen → IsSole hand seat.new.number seat.new.seen }
+    ensures order { (hand : list (list ℕ)) → IsSole hand seat.old.number seat.old.seen →
+        IsSole hand seat.new.number seat.new.seen }
 {
     let _tree = tree;
     match book.status(rt, seat) {
@@ -43,9 +46,11 @@ fn is_over<R: Wait, T: Tree>(rt: &R, tree: &T, book: &SharedBook, seat: &mut Sea
 /// Ends the search.
 fn stop<R: Wait, T: Tree>(rt: &R, tree: &T, book: &SharedBook, seat: &mut Seat)
     requires book { seat.old.book ≡ book_id book.now }
-    requires own { OwnPlanned (T.choices tree.now) (T.plan tree.now) (limit_of book.now) seat.old.number seat.old.seen }
+    requires own { OwnPlanned (T.choices tree.now) (T.plan tree.now) (limit_of book.now)
+        seat.old.number seat.old.seen }
     ensures same { SameSeat seat.old seat.new }
-    ensures own { OwnPlanned (T.choices tree.now) (T.plan tree.now) (limit_of book.now) seat.new.number seat.new.seen }
+    ensures own { OwnPlanned (T.choices tree.now) (T.plan tree.now) (limit_of book.now)
+        seat.new.number seat.new.seen }
     ensures stands { has_stop (entries_of seat.new.seen) ≡ true }
 {
     let _tree = tree;
@@ -64,11 +69,15 @@ fn run_or_stop<W: Shape, R: Wait, T: Tree>(
 ) -> bool
     requires book { seat.old.book ≡ book_id book.now }
     requires shape { T.choices tree.now ≡ W.choices }
-    requires own { OwnPlanned (T.choices tree.now) (T.plan tree.now) (limit_of book.now) seat.old.number seat.old.seen }
+    requires own { OwnPlanned (T.choices tree.now) (T.plan tree.now) (limit_of book.now)
+        seat.old.number seat.old.seen }
     ensures same { SameSeat seat.old seat.new }
-    ensures own { OwnPlanned (T.choices tree.now) (T.plan tree.now) (limit_of book.now) seat.new.number seat.new.seen }
+    ensures own { OwnPlanned (T.choices tree.now) (T.plan tree.now) (limit_of book.now)
+        seat.new.number seat.new.seen }
     ensures alone { tools.new.alone ≡ tools.old.alone }
-    ensures order { tools.old.alone ≡ true → IsSole (path.now ∷ tools.old.hand.items) seat.old.number seat.old.seen → IsSole tools.new.hand.items seat.new.number seat.new.seen }
+    ensures order { tools.old.alone ≡ true →
+        IsSole (path.now ∷ tools.old.hand.items) seat.old.number seat.old.seen →
+        IsSole tools.new.hand.items seat.new.number seat.new.seen }
 {
     match run_path(rt, alloc, tree, book, seat, tools, path) {
         Ok(()) => true,
@@ -91,11 +100,15 @@ fn run_next<W: Shape, R: Wait, T: Tree, G: Gate>(
 ) -> bool
     requires book { seat.old.book ≡ book_id book.now }
     requires shape { T.choices tree.now ≡ W.choices }
-    requires own { OwnPlanned (T.choices tree.now) (T.plan tree.now) (limit_of book.now) seat.old.number seat.old.seen }
+    requires own { OwnPlanned (T.choices tree.now) (T.plan tree.now) (limit_of book.now)
+        seat.old.number seat.old.seen }
     ensures same { SameSeat seat.old seat.new }
-    ensures own { OwnPlanned (T.choices tree.now) (T.plan tree.now) (limit_of book.now) seat.new.number seat.new.seen }
+    ensures own { OwnPlanned (T.choices tree.now) (T.plan tree.now) (limit_of book.now)
+        seat.new.number seat.new.seen }
     ensures alone { tools.new.alone ≡ tools.old.alone }
-    ensures order { tools.old.alone ≡ true → IsSole tools.old.hand.items seat.old.number seat.old.seen → IsSole tools.new.hand.items seat.new.number seat.new.seen }
+    ensures order { tools.old.alone ≡ true →
+        IsSole tools.old.hand.items seat.old.number seat.old.seen →
+        IsSole tools.new.hand.items seat.new.number seat.new.seen }
 {
     match tools.next() {
         Some(path) => {
@@ -120,12 +133,16 @@ fn go_on<W: Shape, R: Wait, T: Tree, G: Gate>(
 ) -> bool
     requires book { seat.old.book ≡ book_id book.now }
     requires shape { T.choices tree.now ≡ W.choices }
-    requires own { OwnPlanned (T.choices tree.now) (T.plan tree.now) (limit_of book.now) seat.old.number seat.old.seen }
+    requires own { OwnPlanned (T.choices tree.now) (T.plan tree.now) (limit_of book.now)
+        seat.old.number seat.old.seen }
     ensures same { SameSeat seat.old seat.new }
-    ensures own { OwnPlanned (T.choices tree.now) (T.plan tree.now) (limit_of book.now) seat.new.number seat.new.seen }
+    ensures own { OwnPlanned (T.choices tree.now) (T.plan tree.now) (limit_of book.now)
+        seat.new.number seat.new.seen }
     ensures alone { tools.new.alone ≡ tools.old.alone }
     ensures over { result ≡ true → IsOver seat.new.seen }
-    ensures order { tools.old.alone ≡ true → IsSole tools.old.hand.items seat.old.number seat.old.seen → IsSole tools.new.hand.items seat.new.number seat.new.seen }
+    ensures order { tools.old.alone ≡ true →
+        IsSole tools.old.hand.items seat.old.number seat.old.seen →
+        IsSole tools.new.hand.items seat.new.number seat.new.seen }
 {
     if run_next(rt, alloc, tree, gate, book, seat, tools) {
         if tools.count % LOOKS != 0 {
@@ -152,11 +169,15 @@ pub fn work<W: Shape, R: Wait, T: Tree, G: Gate>(
 ) -> Seat
     requires book { job.seat.book ≡ book_id book.now }
     requires shape { T.choices tree.now ≡ W.choices }
-    requires own { OwnPlanned (T.choices tree.now) (T.plan tree.now) (limit_of book.now) job.seat.number job.seat.seen }
+    requires own { OwnPlanned (T.choices tree.now) (T.plan tree.now) (limit_of book.now)
+        job.seat.number job.seat.seen }
     ensures same { SameSeat job.seat result }
-    ensures own { OwnPlanned (T.choices tree.now) (T.plan tree.now) (limit_of book.now) result.number result.seen }
+    ensures own { OwnPlanned (T.choices tree.now) (T.plan tree.now) (limit_of book.now)
+        result.number result.seen }
     ensures over { IsOver result.seen }
-    ensures order { job.tools.alone ≡ true → IsSole job.tools.hand.items job.seat.number job.seat.seen → IsOrdered result.number result.seen }
+    ensures order { job.tools.alone ≡ true →
+        IsSole job.tools.hand.items job.seat.number job.seat.seen →
+        IsOrdered result.number result.seen }
 {
     let Job {
         mut seat,

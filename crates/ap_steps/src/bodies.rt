@@ -83,7 +83,8 @@ impl<'a> Body<'a> {
     fn keep(&mut self, piece: Piece<'a>) -> Result<(), Memory>
         ensures standing { self.new.standing.items ≡ self.old.standing.items }
         ensures pending { self.new.pending.items ≡ self.old.pending.items }
-        ensures pieces { OnOk result (self.new.pieces.items ≡ self.old.pieces.items ++ piece.entry ∷ []) }
+        ensures pieces { OnOk result (self.new.pieces.items
+            ≡ self.old.pieces.items ++ piece.entry ∷ []) }
     {
         self.pieces.push(piece)?;
         Ok(())

@@ -155,8 +155,10 @@ fn add_term_at<'a>(
     number: u64,
     term: &Term,
 ) -> Result<(), Memory>
-    ensures { OnOk result (givens_of given.new.items ≡ givens_of given.old.items
-        ++ by_local (slice_get (locals_of locals.entry.now) number) (var_given (term_of term.now))) }
+    ensures { OnOk result (givens_of given.new.items
+        ≡ givens_of given.old.items
+        ++ by_local (slice_get (locals_of locals.entry.now) number)
+        (var_given (term_of term.now))) }
 {
     let place = number as usize;
     if place >= locals.len() {
@@ -239,8 +241,9 @@ pub(crate) fn givens_in<'a>(
     derivation: &'a Derivation,
     goal: &'a Goal<Term>,
 ) -> Result<Vec<Given<'a>>, Memory>
-    ensures { IfOk result (λ given. givens_of given.items ≡ givens (program_of program.entry.now).clauses
-        (locals_of locals.entry.now) (derivation_of derivation.entry.now) (goal_of goal.entry.now)) }
+    ensures { IfOk result (λ given. givens_of given.items
+        ≡ givens (program_of program.entry.now).clauses (locals_of locals.entry.now)
+        (derivation_of derivation.entry.now) (goal_of goal.entry.now)) }
 {
     let mut given = Vec::new(alloc);
     let mut waiting = Vec::new(alloc);

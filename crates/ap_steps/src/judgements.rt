@@ -20,7 +20,8 @@ use ap_pages::steps::Phrase;
 
 /// Writes the word of a predicate, if it has one.
 fn write_word(out: &mut Vec<u8>, words: &[Text], pred: u32) -> Result<(), Memory>
-    ensures { OnOk result (out.new.items ≡ out.old.items ++ unwrap_or (slice_get words.now pred) []) }
+    ensures { OnOk result (out.new.items
+        ≡ out.old.items ++ unwrap_or (slice_get words.now pred) []) }
 {
     if let Some(word) = words.get(pred as usize) {
         out.extend_from_slice(word.as_str().as_bytes())?;

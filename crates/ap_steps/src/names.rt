@@ -121,7 +121,8 @@ fn wait_below<'a>(
 
 /// The nodes of a derivation, in preorder.
 pub(crate) fn nodes_of(alloc: Global, derivation: &Derivation) -> Result<Vec<&Derivation>, Memory>
-    ensures { IfOk result (λ nodes. derivations_of nodes.items ≡ preorder (derivation_of derivation.now)) }
+    ensures { IfOk result (λ nodes. derivations_of nodes.items
+        ≡ preorder (derivation_of derivation.now)) }
 {
     let mut nodes = Vec::new(alloc);
     let mut waiting = Vec::new(alloc);

@@ -33,8 +33,9 @@ use std::collections::HashSet;
 
 /// The names of a derivation with its answer: the free names of the query, and then the others.
 fn names_shown(alloc: Global, locals: &[Local], proved: &Proved) -> Result<IndexSet<Name>, Memory>
-    ensures { IfOk result (λ names. names.keys ≡ more_names (local_names zero (locals_of locals.now))
-        (names_in (answer_of proved.now.answer) (derivation_of proved.now.derivation))) }
+    ensures { IfOk result (λ names. names.keys
+        ≡ more_names (local_names zero (locals_of locals.now)) (names_in
+        (answer_of proved.now.answer) (derivation_of proved.now.derivation))) }
 {
     let nodes = nodes_of(alloc, &proved.derivation)?;
     let mut names = free_names(alloc, locals)?;
@@ -100,9 +101,9 @@ fn other_givens<'a>(
     query: &'a Query<Term>,
     proved: &'a Proved,
 ) -> Result<Vec<Given<'a>>, Memory>
-    ensures { IfOk result (λ given. givens_of given.items ≡ other_givens (program_of program.entry.now)
-        (query_of query.entry.now) (answer_of proved.entry.now.answer)
-        (derivation_of proved.entry.now.derivation)) }
+    ensures { IfOk result (λ given. givens_of given.items
+        ≡ other_givens (program_of program.entry.now) (query_of query.entry.now)
+        (answer_of proved.entry.now.answer) (derivation_of proved.entry.now.derivation)) }
 {
     let locals = query.locals.items();
     let mut given = givens_in(alloc, program, locals, &proved.derivation, &query.goal)?;
@@ -131,9 +132,9 @@ fn givens_of_query<'a>(
     query: &'a Query<Term>,
     proved: &'a Proved,
 ) -> Result<Vec<Given<'a>>, Memory>
-    ensures { IfOk result (λ given. givens_of given.items ≡ all_givens (program_of program.entry.now)
-        (query_of query.entry.now) (answer_of proved.entry.now.answer)
-        (derivation_of proved.entry.now.derivation)) }
+    ensures { IfOk result (λ given. givens_of given.items
+        ≡ all_givens (program_of program.entry.now) (query_of query.entry.now)
+        (answer_of proved.entry.now.answer) (derivation_of proved.entry.now.derivation)) }
 {
     let mut given = own_names(alloc, query.locals.items())?;
     let others = other_givens(alloc, program, query, proved)?;

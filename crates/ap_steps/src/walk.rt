@@ -44,7 +44,8 @@ fn place_piece<'a>(
         ≡ premises_steps w depth (premises_in (piece_of piece.entry ∷ []))
         ++ steps_left w waiting.old.items) }
     ensures nodes { OnOk result (waiting_nodes waiting.new.items
-        ≡ premise_nodes (premises_in (piece_of piece.entry ∷ [])) + waiting_nodes waiting.old.items) }
+        ≡ premise_nodes (premises_in (piece_of piece.entry ∷ []))
+        + waiting_nodes waiting.old.items) }
 {
     match piece {
         Piece::Side(side) => sides.push(side)?,

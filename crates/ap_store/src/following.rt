@@ -21,7 +21,8 @@ fn step<'a>(
     store: &Store<'a>,
     c: &Closure<'a>,
 ) -> Result<Option<Closure<'a>>, Memory>
-    ensures { IfOk result (λ o. IsStep (present store.now) (rank store.now) (closure_term c.now) o) }
+    ensures { IfOk result (λ o. IsStep (present store.now) (rank store.now) (closure_term c.now)
+        o) }
 {
     let _end = c.end;
     match c.term {
@@ -56,9 +57,12 @@ impl<'a> Store<'a> {
     /// A closure that stands for the same term under the bindings, and whose head is no bound
     /// variable.
     pub fn follow(&self, alloc: Global, c: Closure<'a>) -> Result<Closure<'a>, Memory>
-        ensures term { IfOk result (λ d. under (present self.now).bindings (closure_term d) ≡ under (present self.now).bindings (closure_term c.entry)) }
-        ensures head { IfOk result (λ d. IsHeadUnbound (present self.now).bindings (closure_term d)) }
-        ensures below { IfOk result (λ d. IsBelow (present self.now).next (closure_term c.entry) → IsBelow (present self.now).next (closure_term d)) }
+        ensures term { IfOk result (λ d. under (present self.now).bindings (closure_term d)
+            ≡ under (present self.now).bindings (closure_term c.entry)) }
+        ensures head { IfOk result (λ d. IsHeadUnbound (present self.now).bindings
+            (closure_term d)) }
+        ensures below { IfOk result (λ d. IsBelow (present self.now).next (closure_term c.entry) →
+            IsBelow (present self.now).next (closure_term d)) }
     {
         let mut closure = c;
         'following: loop {

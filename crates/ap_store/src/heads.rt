@@ -38,7 +38,9 @@ fn bound_at_head<'s, 'a>(
     t: &Term,
 ) -> Option<&'s Closure<'a>>
     requires { IsBelow end (rename_term base (term_of t.now)) }
-    ensures { MatchOption result (IsHeadUnbound (present store.now).bindings (rename_term base (term_of t.now))) (λ d. IsHeadOf (present store.now) (rank store.now) (rename_term base (term_of t.now)) (rename_term d.now.base (term_of d.now.term.now))) }
+    ensures { MatchOption result (IsHeadUnbound (present store.now).bindings
+        (rename_term base (term_of t.now))) (λ d. IsHeadOf (present store.now) (rank store.now)
+        (rename_term base (term_of t.now)) (rename_term d.now.base (term_of d.now.term.now))) }
 {
     let _end = end;
     match t {

@@ -25,8 +25,12 @@ fn make_place(held: &mut Vec<Vec<Cond>>, place: usize) -> Result<(), Memory>
 
 /// Puts a condition behind those that are held of its variable.
 pub fn hold(held: &mut Vec<Vec<Cond>>, c: Cond) -> Result<(), Memory>
-    ensures held { OnOk result ((i : ℕ) → held_in held.new.items i ≡ (if i == c.var.num then held_in held.old.items i ++ c ∷ [] else held_in held.old.items i)) }
-    ensures unchanged { OnErr result ((i : ℕ) → held_in held.new.items i ≡ held_in held.old.items i) }
+    ensures held { OnOk result ((i : ℕ) →
+        held_in held.new.items i
+        ≡ (if i == c.var.num then held_in held.old.items i ++ c
+        ∷ [] else held_in held.old.items i)) }
+    ensures unchanged { OnErr result ((i : ℕ) →
+        held_in held.new.items i ≡ held_in held.old.items i) }
     ensures length { length held.old.items ≤ length held.new.items }
 {
     let place = c.var.num as usize;
@@ -37,8 +41,11 @@ pub fn hold(held: &mut Vec<Vec<Cond>>, c: Cond) -> Result<(), Memory>
 /// Puts a condition behind those that are held of a number.
 fn push_at(held: &mut Vec<Vec<Cond>>, place: usize, c: Cond) -> Result<(), Memory>
     requires { place < length held.old.items }
-    ensures held { OnOk result ((i : ℕ) → held_in held.new.items i ≡ (if i == place then held_in held.old.items i ++ c ∷ [] else held_in held.old.items i)) }
-    ensures unchanged { OnErr result ((i : ℕ) → held_in held.new.items i ≡ held_in held.old.items i) }
+    ensures held { OnOk result ((i : ℕ) →
+        held_in held.new.items i
+        ≡ (if i == place then held_in held.old.items i ++ c ∷ [] else held_in held.old.items i)) }
+    ensures unchanged { OnErr result ((i : ℕ) →
+        held_in held.new.items i ≡ held_in held.old.items i) }
     ensures length { length held.new.items ≡ length held.old.items }
 {
     held[place].push(c)?;
@@ -59,7 +66,10 @@ pub fn held_of(held: &[Vec<Cond>], place: usize) -> &[Cond]
 /// Lets the last condition go that is held of a number.
 pub fn let_go(held: &mut Vec<Vec<Cond>>, place: usize)
     requires { place < length held.old.items }
-    ensures held { (i : ℕ) → held_in held.new.items i ≡ (if i == place then take (length (held_in held.old.items i) - 1) (held_in held.old.items i) else held_in held.old.items i) }
+    ensures held { (i : ℕ) →
+        held_in held.new.items i
+        ≡ (if i == place then take (length (held_in held.old.items i) - 1)
+        (held_in held.old.items i) else held_in held.old.items i) }
     ensures length { length held.new.items ≡ length held.old.items }
 {
     let _last = held[place].pop();
@@ -69,7 +79,8 @@ pub fn let_go(held: &mut Vec<Vec<Cond>>, place: usize)
 pub fn take_out(held: &mut Vec<Vec<Cond>>, place: usize) -> Vec<Cond>
     requires { place < length held.old.items }
     ensures taken { result.items ≡ held_in held.old.items place }
-    ensures held { (i : ℕ) → held_in held.new.items i ≡ (if i == place then [] else held_in held.old.items i) }
+    ensures held { (i : ℕ) →
+        held_in held.new.items i ≡ (if i == place then [] else held_in held.old.items i) }
     ensures length { length held.new.items ≡ length held.old.items }
 {
     let nothing = Vec::new(*held.allocator());
@@ -79,7 +90,8 @@ pub fn take_out(held: &mut Vec<Vec<Cond>>, place: usize) -> Vec<Cond>
 /// Puts back what was held of a number, of which nothing is held.
 pub fn put_back(held: &mut Vec<Vec<Cond>>, place: usize, conds: Vec<Cond>)
     requires { place < length held.old.items }
-    ensures held { (i : ℕ) → held_in held.new.items i ≡ (if i == place then conds.items else held_in held.old.items i) }
+    ensures held { (i : ℕ) →
+        held_in held.new.items i ≡ (if i == place then conds.items else held_in held.old.items i) }
     ensures length { length held.new.items ≡ length held.old.items }
 {
     held[place] = conds;

@@ -25,7 +25,8 @@ fn end_of(c: &Closure<'_>) -> u64
 /// alone.
 fn occurs_below(store: &Store<'_>, x: Var, mut base: u64, mut end: u64, t: &Term) -> bool
     requires { IsBelow end (rename_term base (term_of t.now)) }
-    ensures { result ≡ occurs x (under (present store.now).bindings (rename_term base (term_of t.now))) }
+    ensures { result
+        ≡ occurs x (under (present store.now).bindings (rename_term base (term_of t.now))) }
 {
     let mut rest = t;
     loop {

@@ -37,7 +37,8 @@ pub struct Store<'a> {
     reach: u64,
     pub ghost stored: { IsStored table.items trail.items reach } by { stored_prop table.items trail.items reach },
     pub ghost holds: { AreHeld held.items trail.items } by { held_prop held.items trail.items },
-    pub ghost ranked: { IsRanked (raw_after trail.items nothing_bound) (rank_after trail.items empty no_rank) },
+    pub ghost ranked: { IsRanked (raw_after trail.items nothing_bound)
+        (rank_after trail.items empty no_rank) },
 }
 
 impl<'a> Store<'a> {
@@ -70,8 +71,10 @@ impl<'a> Store<'a> {
     /// memory the store is as before.
     pub fn make(&mut self, locals: &'a [Local]) -> Result<u64, Memory>
         ensures first { IfOk result (λ n. n ≡ (present self.old).next) }
-        ensures kinds { OnOk result (kinds self.new ≡ kinds self.old ++ kinds_of (locals_of locals.now)) }
-        ensures present { OnOk result (present self.new ≡ with_next ((present self.old).next + length locals.now) (present self.old)) }
+        ensures kinds { OnOk result (kinds self.new
+            ≡ kinds self.old ++ kinds_of (locals_of locals.now)) }
+        ensures present { OnOk result (present self.new
+            ≡ with_next ((present self.old).next + length locals.now) (present self.old)) }
         ensures past { OnOk result (GoesOn (versions self.old) (versions self.new)) }
         ensures unchanged { OnErr result (IsUnchanged self.old self.new) }
     {
@@ -91,8 +94,11 @@ impl<'a> Store<'a> {
         requires unbound { IsUnbound (present self.old).bindings x }
         requires term { IsBelow (present self.old).next (closure_term c) }
         requires absent { occurs x (under (present self.old).bindings (closure_term c)) ≡ false }
-        ensures taken { IfOk result (λ conds. conds.items ≡ filter (is_on x) (present self.old).conditions) }
-        ensures present { OnOk result (present self.new ≡ with_binding x (under (present self.old).bindings (closure_term c.entry)) (present self.old)) }
+        ensures taken { IfOk result (λ conds. conds.items
+            ≡ filter (is_on x) (present self.old).conditions) }
+        ensures present { OnOk result (present self.new
+            ≡ with_binding x (under (present self.old).bindings (closure_term c.entry))
+            (present self.old)) }
         ensures past { OnOk result (GoesOn (versions self.old) (versions self.new)) }
         ensures kinds { kinds self.new ≡ kinds self.old }
         ensures unchanged { OnErr result (IsUnchanged self.old self.new) }
@@ -105,7 +111,8 @@ impl<'a> Store<'a> {
     /// Adds conditions on unbound variables. After want of memory the store is as before.
     pub fn add(&mut self, conds: &[Cond]) -> Result<(), Memory>
         requires { AreOnUnbound (present self.old) conds.now }
-        ensures present { OnOk result (present self.new ≡ with_conditions conds.now (present self.old)) }
+        ensures present { OnOk result (present self.new
+            ≡ with_conditions conds.now (present self.old)) }
         ensures past { OnOk result (GoesOn (versions self.old) (versions self.new)) }
         ensures kinds { kinds self.new ≡ kinds self.old }
         ensures unchanged { OnErr result (IsUnchanged self.old self.new) }
@@ -143,7 +150,8 @@ impl<'a> Store<'a> {
 
     /// The closure to which a variable is bound, or none where it is unbound. It takes no memory.
     pub fn binding(&self, x: Var) -> Option<&Closure<'a>>
-        ensures { MatchOption result (raw_bound self.now x ≡ None) (λ c. raw_bound self.now x ≡ Some (closure_term c.now)) }
+        ensures { MatchOption result (raw_bound self.now x ≡ None) (λ c. raw_bound self.now x
+            ≡ Some (closure_term c.now)) }
     {
         if x.num < self.table.len() as u64 {
             closure_at(&self.trail, self.table[x.num as usize].place)
@@ -154,7 +162,8 @@ impl<'a> Store<'a> {
 
     /// Whether the variable is so new that neither the closure nor any bound one can have it.
     pub(crate) fn is_new(&self, x: Var, c: &Closure<'_>) -> bool
-        ensures { result ≡ true → occurs x (under (present self.now).bindings (closure_term c.now)) ≡ false }
+        ensures { result ≡ true →
+            occurs x (under (present self.now).bindings (closure_term c.now)) ≡ false }
     {
         self.reach <= x.num && c.end <= x.num
     }
@@ -187,8 +196,11 @@ impl<'a> Store<'a> {
     /// Takes the conditions on a variable out, and leaves room for one more change.
     fn take_conditions(&mut self, alloc: Global, x: Var) -> Result<Vec<Cond>, Memory>
         requires made { x.num < (present self.old).next }
-        ensures taken { IfOk result (λ conds. conds.items ≡ filter (is_on x) (present self.old).conditions) }
-        ensures present { OnOk result (present self.new ≡ replace_conditions (filter (is_apart x) (present self.old).conditions) (present self.old)) }
+        ensures taken { IfOk result (λ conds. conds.items
+            ≡ filter (is_on x) (present self.old).conditions) }
+        ensures present { OnOk result (present self.new
+            ≡ replace_conditions (filter (is_apart x) (present self.old).conditions)
+            (present self.old)) }
         ensures room { OnOk result (vec_len self.new.trail < vec_capacity self.new.trail) }
         ensures past { OnOk result (GoesOn (versions self.old) (versions self.new)) }
         ensures kinds { kinds self.new ≡ kinds self.old }
@@ -208,7 +220,8 @@ impl<'a> Store<'a> {
     /// Adds conditions on unbound variables, from the last to the first.
     fn add_each(&mut self, conds: &[Cond]) -> Result<(), Memory>
         requires { AreOnUnbound (present self.old) conds.now }
-        ensures present { OnOk result (present self.new ≡ with_conditions conds.now (present self.old)) }
+        ensures present { OnOk result (present self.new
+            ≡ with_conditions conds.now (present self.old)) }
         ensures past { GoesOn (versions self.old) (versions self.new) }
         ensures kinds { kinds self.new ≡ kinds self.old }
     {
@@ -221,7 +234,8 @@ impl<'a> Store<'a> {
     /// Adds a condition on an unbound variable. After want of memory the store is as before.
     fn add_one(&mut self, c: Cond) -> Result<(), Memory>
         requires { AreOnUnbound (present self.old) (c ∷ []) }
-        ensures present { OnOk result (present self.new ≡ with_conditions (c ∷ []) (present self.old)) }
+        ensures present { OnOk result (present self.new
+            ≡ with_conditions (c ∷ []) (present self.old)) }
         ensures past { GoesOn (versions self.old) (versions self.new) }
         ensures kinds { kinds self.new ≡ kinds self.old }
         ensures unchanged { OnErr result (IsUnchanged self.old self.new) }
@@ -240,7 +254,9 @@ impl<'a> Store<'a> {
         requires term { IsBelow (present self.old).next (closure_term c) }
         requires absent { occurs x (under (present self.old).bindings (closure_term c)) ≡ false }
         requires apart { has_on x (present self.old).conditions ≡ false }
-        ensures present { present self.new ≡ with_bound x (under (present self.old).bindings (closure_term c.entry)) (present self.old) }
+        ensures present { present self.new
+            ≡ with_bound x (under (present self.old).bindings (closure_term c.entry))
+            (present self.old) }
         ensures versions { versions self.new ≡ versions self.old ++ present self.new ∷ [] }
         ensures kinds { kinds self.new ≡ kinds self.old }
     {
@@ -256,10 +272,13 @@ impl<'a> Store<'a> {
         requires room { vec_len self.old.trail < vec_capacity self.old.trail }
         requires made { x.num < (present self.old).next }
         requires held { x.num < length self.old.held.items }
-        ensures present { present self.new ≡ replace_conditions (filter (is_apart x) (present self.old).conditions) (present self.old) }
+        ensures present { present self.new
+            ≡ replace_conditions (filter (is_apart x) (present self.old).conditions)
+            (present self.old) }
         ensures versions { versions self.new ≡ versions self.old ++ present self.new ∷ [] }
         ensures kinds { kinds self.new ≡ kinds self.old }
-        ensures room { vec_capacity self.new.trail + vec_len self.old.trail + 1 ≡ vec_capacity self.old.trail + vec_len self.new.trail }
+        ensures room { vec_capacity self.new.trail + vec_len self.old.trail + 1
+            ≡ vec_capacity self.old.trail + vec_len self.new.trail }
     {
         let conds = take_out(&mut self.held, x.num as usize);
         self.trail.push_reserved(Change::Taken(x, conds));

@@ -20,7 +20,8 @@ use std::alloc::Global;
 /// abstraction, and calls itself on left parts of pairs alone.
 #[tactic(auto, using(ap_defs::proofs::SpineLemmas::term_within_last, crate::proofs::WalkLemmas::head_stays))]
 fn walk_from<'a>(alloc: Global, store: &Store<'a>, first: Closure<'a>) -> Result<Term, Memory>
-    ensures { IfOk result (λ t. term_of t ≡ under (present store.now).bindings (closure_term first.entry)) }
+    ensures { IfOk result (λ t. term_of t
+        ≡ under (present store.now).bindings (closure_term first.entry)) }
 {
     let mut layers = Vec::new(alloc);
     let mut rest = first;
@@ -52,7 +53,8 @@ fn walk_from<'a>(alloc: Global, store: &Store<'a>, first: Closure<'a>) -> Result
 impl Store<'_> {
     /// What a closure stands for under the bindings.
     pub fn walk(&self, alloc: Global, c: &Closure<'_>) -> Result<Term, Memory>
-        ensures { IfOk result (λ t. term_of t ≡ under (present self.now).bindings (closure_term c.now)) }
+        ensures { IfOk result (λ t. term_of t
+            ≡ under (present self.now).bindings (closure_term c.now)) }
     {
         walk_from(alloc, self, c.copy(alloc)?)
     }

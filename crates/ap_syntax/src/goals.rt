@@ -25,7 +25,8 @@ fn terms_inside<'a, 's>(
     alloc: Global,
     symbols: &'s [Symbol<'a>],
 ) -> Result<(Vec<Tree<'a>>, &'s [Symbol<'a>]), ReadError>
-    ensures value { Gives (λ r. (trees_of r.0.items, syms r.1.now)) result (spec.terms_inside (syms symbols.now)) }
+    ensures value { Gives (λ r. (trees_of r.0.items, syms r.1.now)) result
+        (spec.terms_inside (syms symbols.now)) }
     ensures shorter { IfOk result (λ r. length r.1.now ≤ length symbols.now) }
 {
     let (parts, rest) = term_list(alloc, symbols.len(), symbols)?;
@@ -39,7 +40,8 @@ fn atom_arguments<'a, 's>(
     alloc: Global,
     symbols: &'s [Symbol<'a>],
 ) -> Result<(Vec<Tree<'a>>, &'s [Symbol<'a>]), ReadError>
-    ensures value { Gives (λ r. (trees_of r.0.items, syms r.1.now)) result (spec.atom_arguments (syms symbols.now)) }
+    ensures value { Gives (λ r. (trees_of r.0.items, syms r.1.now)) result
+        (spec.atom_arguments (syms symbols.now)) }
     ensures shorter { IfOk result (λ r. length r.1.now ≤ length symbols.now) }
 {
     match after_open(symbols) {
@@ -60,7 +62,8 @@ pub fn atom<'a, 's>(
     alloc: Global,
     symbols: &'s [Symbol<'a>],
 ) -> Result<(Head<'a>, &'s [Symbol<'a>]), ReadError>
-    ensures value { Gives (λ r. ((r.0.word.now, trees_of r.0.args.items), syms r.1.now)) result (spec.read_atom (syms symbols.now)) }
+    ensures value { Gives (λ r. ((r.0.word.now, trees_of r.0.args.items), syms r.1.now)) result
+        (spec.read_atom (syms symbols.now)) }
     ensures shorter { IfOk result (λ r. length r.1.now < length symbols.now) }
 {
     let (word, rest) = ident(symbols).ok_or(ReadError::Grammar)?;
@@ -74,7 +77,8 @@ fn atom_goal<'a, 's>(
     alloc: Global,
     symbols: &'s [Symbol<'a>],
 ) -> Result<(GoalTree<'a>, &'s [Symbol<'a>]), ReadError>
-    ensures value { Gives (λ r. (goal_of r.0, syms r.1.now)) result (spec.atom_goal (syms symbols.now)) }
+    ensures value { Gives (λ r. (goal_of r.0, syms r.1.now)) result
+        (spec.atom_goal (syms symbols.now)) }
     ensures shorter { IfOk result (λ r. length r.1.now < length symbols.now) }
 {
     let (Head { word, args }, rest) = atom(alloc, symbols)?;
@@ -88,7 +92,8 @@ fn equation<'a, 's>(
     left: Tree<'a>,
     symbols: &'s [Symbol<'a>],
 ) -> Result<(GoalTree<'a>, &'s [Symbol<'a>]), ReadError>
-    ensures value { Gives (λ r. (goal_of r.0, syms r.1.now)) result (spec.right_side trees.Equation (term_of left.entry) (syms symbols.now)) }
+    ensures value { Gives (λ r. (goal_of r.0, syms r.1.now)) result (spec.right_side trees.Equation
+        (term_of left.entry) (syms symbols.now)) }
     ensures shorter { IfOk result (λ r. length r.1.now < length symbols.now) }
 {
     let (right, rest) = term(alloc, symbols.len(), symbols)?;
@@ -102,7 +107,8 @@ fn freshness<'a, 's>(
     left: Tree<'a>,
     symbols: &'s [Symbol<'a>],
 ) -> Result<(GoalTree<'a>, &'s [Symbol<'a>]), ReadError>
-    ensures value { Gives (λ r. (goal_of r.0, syms r.1.now)) result (spec.right_side trees.Freshness (term_of left.entry) (syms symbols.now)) }
+    ensures value { Gives (λ r. (goal_of r.0, syms r.1.now)) result (spec.right_side trees.Freshness
+        (term_of left.entry) (syms symbols.now)) }
     ensures shorter { IfOk result (λ r. length r.1.now < length symbols.now) }
 {
     let (right, rest) = term(alloc, symbols.len(), symbols)?;
@@ -115,7 +121,8 @@ fn flat<'a, 's>(
     alloc: Global,
     symbols: &'s [Symbol<'a>],
 ) -> Result<(GoalTree<'a>, &'s [Symbol<'a>]), ReadError>
-    ensures value { Gives (λ r. (goal_of r.0, syms r.1.now)) result (spec.read_flat (syms symbols.now)) }
+    ensures value { Gives (λ r. (goal_of r.0, syms r.1.now)) result
+        (spec.read_flat (syms symbols.now)) }
     ensures shorter { IfOk result (λ r. length r.1.now < length symbols.now) }
 {
     let (left, rest) = term(alloc, symbols.len(), symbols)?;
@@ -162,7 +169,8 @@ pub fn goal<'a, 's>(
     levels: usize,
     symbols: &'s [Symbol<'a>],
 ) -> Result<(GoalTree<'a>, &'s [Symbol<'a>]), ReadError>
-    ensures value { Gives (λ r. (goal_of r.0, syms r.1.now)) result (spec.read_goal levels (syms symbols.now)) }
+    ensures value { Gives (λ r. (goal_of r.0, syms r.1.now)) result (spec.read_goal levels
+        (syms symbols.now)) }
     ensures shorter { IfOk result (λ r. length r.1.now < length symbols.now) }
 {
     if levels == 0 {
@@ -180,7 +188,8 @@ fn any_of<'a, 's>(
     levels: usize,
     symbols: &'s [Symbol<'a>],
 ) -> Result<(GoalTree<'a>, &'s [Symbol<'a>]), ReadError>
-    ensures value { Gives (λ r. (goal_of r.0, syms r.1.now)) result (spec.read_disj (read_goal levels) (syms symbols.now)) }
+    ensures value { Gives (λ r. (goal_of r.0, syms r.1.now)) result (spec.read_disj
+        (read_goal levels) (syms symbols.now)) }
     ensures shorter { IfOk result (λ r. length r.1.now < length symbols.now) }
 {
     let (parts, rest) = conjunctions(alloc, levels, symbols)?;
@@ -195,7 +204,8 @@ fn all_of<'a, 's>(
     levels: usize,
     symbols: &'s [Symbol<'a>],
 ) -> Result<(GoalTree<'a>, &'s [Symbol<'a>]), ReadError>
-    ensures value { Gives (λ r. (goal_of r.0, syms r.1.now)) result (spec.read_conj (read_goal levels) (syms symbols.now)) }
+    ensures value { Gives (λ r. (goal_of r.0, syms r.1.now)) result (spec.read_conj
+        (read_goal levels) (syms symbols.now)) }
     ensures shorter { IfOk result (λ r. length r.1.now < length symbols.now) }
 {
     let (parts, rest) = simple_goals(alloc, levels, symbols)?;
@@ -209,7 +219,8 @@ fn conjunctions<'a, 's>(
     levels: usize,
     symbols: &'s [Symbol<'a>],
 ) -> Result<(Vec<GoalTree<'a>>, &'s [Symbol<'a>]), ReadError>
-    ensures value { Gives (λ r. (goals_of r.0.items, syms r.1.now)) result (separated after_semicolon (read_conj (read_goal levels)) (length symbols.now) (syms symbols.now)) }
+    ensures value { Gives (λ r. (goals_of r.0.items, syms r.1.now)) result (separated
+        after_semicolon (read_conj (read_goal levels)) (length symbols.now) (syms symbols.now)) }
     ensures shorter { IfOk result (λ r. length r.1.now < length symbols.now) }
 {
     let mut all = Vec::new(alloc);
@@ -230,7 +241,8 @@ fn simple_goals<'a, 's>(
     levels: usize,
     symbols: &'s [Symbol<'a>],
 ) -> Result<(Vec<GoalTree<'a>>, &'s [Symbol<'a>]), ReadError>
-    ensures value { Gives (λ r. (goals_of r.0.items, syms r.1.now)) result (separated after_comma (read_simple (read_goal levels)) (length symbols.now) (syms symbols.now)) }
+    ensures value { Gives (λ r. (goals_of r.0.items, syms r.1.now)) result (separated after_comma
+        (read_simple (read_goal levels)) (length symbols.now) (syms symbols.now)) }
     ensures shorter { IfOk result (λ r. length r.1.now < length symbols.now) }
 {
     let mut all = Vec::new(alloc);
@@ -252,7 +264,8 @@ fn simple<'a, 's>(
     levels: usize,
     symbols: &'s [Symbol<'a>],
 ) -> Result<(GoalTree<'a>, &'s [Symbol<'a>]), ReadError>
-    ensures value { Gives (λ r. (goal_of r.0, syms r.1.now)) result (spec.read_simple (read_goal levels) (syms symbols.now)) }
+    ensures value { Gives (λ r. (goal_of r.0, syms r.1.now)) result (spec.read_simple
+        (read_goal levels) (syms symbols.now)) }
     ensures shorter { IfOk result (λ r. length r.1.now < length symbols.now) }
 {
     match after_new(symbols) {
@@ -275,7 +288,8 @@ fn new_goal<'a, 's>(
     levels: usize,
     symbols: &'s [Symbol<'a>],
 ) -> Result<(GoalTree<'a>, &'s [Symbol<'a>]), ReadError>
-    ensures value { Gives (λ r. (goal_of r.0, syms r.1.now)) result (spec.new_goal (read_goal levels) (syms symbols.now)) }
+    ensures value { Gives (λ r. (goal_of r.0, syms r.1.now)) result (spec.new_goal
+        (read_goal levels) (syms symbols.now)) }
     ensures shorter { IfOk result (λ r. length r.1.now < length symbols.now) }
 {
     let (word, rest) = ident(symbols).ok_or(ReadError::Grammar)?;
@@ -292,7 +306,8 @@ fn exists_goal<'a, 's>(
     levels: usize,
     symbols: &'s [Symbol<'a>],
 ) -> Result<(GoalTree<'a>, &'s [Symbol<'a>]), ReadError>
-    ensures value { Gives (λ r. (goal_of r.0, syms r.1.now)) result (spec.exists_goal (read_goal levels) (syms symbols.now)) }
+    ensures value { Gives (λ r. (goal_of r.0, syms r.1.now)) result (spec.exists_goal
+        (read_goal levels) (syms symbols.now)) }
     ensures shorter { IfOk result (λ r. length r.1.now < length symbols.now) }
 {
     let (word, rest) = bound(symbols).ok_or(ReadError::Grammar)?;
@@ -309,7 +324,8 @@ fn goal_inside<'a, 's>(
     levels: usize,
     symbols: &'s [Symbol<'a>],
 ) -> Result<(GoalTree<'a>, &'s [Symbol<'a>]), ReadError>
-    ensures value { Gives (λ r. (goal_of r.0, syms r.1.now)) result (spec.goal_inside (read_goal levels) (syms symbols.now)) }
+    ensures value { Gives (λ r. (goal_of r.0, syms r.1.now)) result (spec.goal_inside
+        (read_goal levels) (syms symbols.now)) }
     ensures shorter { IfOk result (λ r. length r.1.now < length symbols.now) }
 {
     let (goal, rest) = goal(alloc, levels, symbols)?;

@@ -21,7 +21,8 @@ fn types_inside<'a, 's>(
     alloc: Global,
     symbols: &'s [Symbol<'a>],
 ) -> Result<(Vec<TypeTree<'a>>, &'s [Symbol<'a>]), ReadError>
-    ensures value { Gives (λ r. (types_of r.0.items, syms r.1.now)) result (spec.types_inside (syms symbols.now)) }
+    ensures value { Gives (λ r. (types_of r.0.items, syms r.1.now)) result
+        (spec.types_inside (syms symbols.now)) }
     ensures shorter { IfOk result (λ r. length r.1.now ≤ length symbols.now) }
 {
     let (parts, rest) = type_list(alloc, symbols.len(), symbols)?;
@@ -35,7 +36,8 @@ fn sole_argument<'a, 's>(
     alloc: Global,
     symbols: &'s [Symbol<'a>],
 ) -> Result<(Vec<TypeTree<'a>>, &'s [Symbol<'a>]), ReadError>
-    ensures value { Gives (λ r. (types_of r.0.items, syms r.1.now)) result (spec.sole_argument (syms symbols.now)) }
+    ensures value { Gives (λ r. (types_of r.0.items, syms r.1.now)) result
+        (spec.sole_argument (syms symbols.now)) }
     ensures shorter { IfOk result (λ r. length r.1.now ≤ length symbols.now) }
 {
     let (tree, rest) = type_tree(alloc, symbols.len(), symbols)?;
@@ -57,7 +59,8 @@ fn listed_arguments<'a, 's>(
     alloc: Global,
     symbols: &'s [Symbol<'a>],
 ) -> Result<(Vec<TypeTree<'a>>, &'s [Symbol<'a>]), ReadError>
-    ensures value { Gives (λ r. (types_of r.0.items, syms r.1.now)) result (spec.listed_arguments (syms symbols.now)) }
+    ensures value { Gives (λ r. (types_of r.0.items, syms r.1.now)) result (spec.listed_arguments
+        (syms symbols.now)) }
     ensures shorter { IfOk result (λ r. length r.1.now ≤ length symbols.now) }
 {
     match after_close(symbols) {
@@ -72,7 +75,8 @@ fn arguments<'a, 's>(
     alloc: Global,
     symbols: &'s [Symbol<'a>],
 ) -> Result<(Vec<TypeTree<'a>>, &'s [Symbol<'a>]), ReadError>
-    ensures value { Gives (λ r. (types_of r.0.items, syms r.1.now)) result (spec.read_arguments (syms symbols.now)) }
+    ensures value { Gives (λ r. (types_of r.0.items, syms r.1.now)) result
+        (spec.read_arguments (syms symbols.now)) }
     ensures shorter { IfOk result (λ r. length r.1.now ≤ length symbols.now) }
 {
     match after_open(symbols) {
@@ -143,7 +147,8 @@ fn declared_types<'a, 's>(
     alloc: Global,
     symbols: &'s [Symbol<'a>],
 ) -> Result<(Vec<TypeTree<'a>>, &'s [Symbol<'a>]), ReadError>
-    ensures value { Gives (λ r. (types_of r.0.items, syms r.1.now)) result (spec.declared_types (syms symbols.now)) }
+    ensures value { Gives (λ r. (types_of r.0.items, syms r.1.now)) result
+        (spec.declared_types (syms symbols.now)) }
     ensures shorter { IfOk result (λ r. length r.1.now ≤ length symbols.now) }
 {
     match after_open(symbols) {

@@ -118,7 +118,8 @@ pub fn after_colon<'a, 's>(symbols: &'s [Symbol<'a>]) -> Option<&'s [Symbol<'a>]
 
 /// An IDENT that comes first.
 pub fn ident<'a, 's>(symbols: &'s [Symbol<'a>]) -> Option<(&'a str, &'s [Symbol<'a>])>
-    ensures value { option_map (λ r. (r.0.now, syms r.1.now)) result ≡ spec.read_ident (syms symbols.now) }
+    ensures value { option_map (λ r. (r.0.now, syms r.1.now)) result
+        ≡ spec.read_ident (syms symbols.now) }
     ensures shorter { IfSome result (λ r. length r.1.now < length symbols.now) }
 {
     match symbols {
@@ -129,7 +130,8 @@ pub fn ident<'a, 's>(symbols: &'s [Symbol<'a>]) -> Option<(&'a str, &'s [Symbol<
 
 /// A VAR that comes first.
 fn var<'a, 's>(symbols: &'s [Symbol<'a>]) -> Option<(&'a str, &'s [Symbol<'a>])>
-    ensures value { option_map (λ r. (r.0.now, syms r.1.now)) result ≡ spec.read_var (syms symbols.now) }
+    ensures value { option_map (λ r. (r.0.now, syms r.1.now)) result
+        ≡ spec.read_var (syms symbols.now) }
     ensures shorter { IfSome result (λ r. length r.1.now < length symbols.now) }
 {
     match symbols {
@@ -141,7 +143,8 @@ fn var<'a, 's>(symbols: &'s [Symbol<'a>]) -> Option<(&'a str, &'s [Symbol<'a>])>
 /// A VAR other than `_` that comes first.
 #[tactic(auto, unfolding(crate::specs::Marks::read_bound))]
 pub fn bound<'a, 's>(symbols: &'s [Symbol<'a>]) -> Option<(&'a str, &'s [Symbol<'a>])>
-    ensures value { option_map (λ r. (r.0.now, syms r.1.now)) result ≡ spec.read_bound (syms symbols.now) }
+    ensures value { option_map (λ r. (r.0.now, syms r.1.now)) result
+        ≡ spec.read_bound (syms symbols.now) }
     ensures shorter { IfSome result (λ r. length r.1.now < length symbols.now) }
 {
     let (word, rest) = var(symbols)?;
@@ -154,7 +157,8 @@ pub fn bound<'a, 's>(symbols: &'s [Symbol<'a>]) -> Option<(&'a str, &'s [Symbol<
 /// An IDENT and a colon that come first.
 #[tactic(auto, unfolding(crate::specs::Marks::read_declared))]
 pub fn declared<'a, 's>(symbols: &'s [Symbol<'a>]) -> Option<(&'a str, &'s [Symbol<'a>])>
-    ensures value { option_map (λ r. (r.0.now, syms r.1.now)) result ≡ spec.read_declared (syms symbols.now) }
+    ensures value { option_map (λ r. (r.0.now, syms r.1.now)) result
+        ≡ spec.read_declared (syms symbols.now) }
     ensures shorter { IfSome result (λ r. length r.1.now < length symbols.now) }
 {
     let (word, rest) = ident(symbols)?;

@@ -29,7 +29,8 @@ fn after_match<'a, 's>(symbols: &'s [Symbol<'a>]) -> Option<&'s [Symbol<'a>]>
 
 /// Where the bracket before these symbols is closed.
 fn close_place(symbols: &[Symbol<'_>]) -> Option<usize>
-    ensures value { option_map (λ place. syms (drop (place + 1) symbols.now)) result ≡ spec.after_match 0 (syms symbols.now) }
+    ensures value { option_map (λ place. syms (drop (place + 1) symbols.now)) result
+        ≡ spec.after_match 0 (syms symbols.now) }
     ensures inside { IfSome result (λ place. place < length symbols.now) }
 {
     let mut depth = 0;

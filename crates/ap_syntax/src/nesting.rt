@@ -41,7 +41,8 @@ fn bracket_place(levels: &[Level]) -> usize
 
 /// How many levels are left after a bracket of a kind is closed.
 fn after_closing(levels: &[Level], bracket: Level) -> usize
-    ensures value { reverse (take result levels.now) ≡ spec.closed bracket (spec.to_bracket (reverse levels.now)) (reverse levels.now) }
+    ensures value { reverse (take result levels.now)
+        ≡ spec.closed bracket (spec.to_bracket (reverse levels.now)) (reverse levels.now) }
     ensures bound { result ≤ length levels.now }
 {
     let place = bracket_place(levels);
@@ -86,7 +87,8 @@ fn step_of(symbol: Symbol<'_>) -> Step
 
 /// The levels after a step.
 fn take_step(levels: &mut Vec<Level>, step: Step) -> Result<(), AllocError>
-    ensures { IfOk result (λ _. reverse levels.new.items ≡ spec.next_levels (reverse levels.old.items) step) }
+    ensures { IfOk result (λ _. reverse levels.new.items
+        ≡ spec.next_levels (reverse levels.old.items) step) }
 {
     match step {
         Step::Opens(level) => levels.push(level)?,

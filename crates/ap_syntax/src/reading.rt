@@ -50,7 +50,8 @@ fn symbols_before<'a>(
 
 /// The fault of an item.
 fn fault(item: u32, line: u64, kind: SyntaxKind) -> SynError
-    ensures { result ≡ SynError.Fault (record { place = record { item = item; line = line }; kind = kind }) }
+    ensures { result
+        ≡ SynError.Fault (record { place = record { item = item; line = line }; kind = kind }) }
 {
     let place = Place { item, line };
     SynError::Fault(SyntaxFault { place, kind })
@@ -63,7 +64,8 @@ fn first_item<'a>(
     tokens: &[Token<'a>],
 ) -> Result<(Item<'a>, usize), SynError>
     requires { 0 < length tokens.now }
-    ensures read { Gives (λ r. (item_of r.0, drop r.1 (lexemes tokens.now))) result (FirstOf item (lexemes tokens.now)) }
+    ensures read { Gives (λ r. (item_of r.0, drop r.1 (lexemes tokens.now))) result
+        (FirstOf item (lexemes tokens.now)) }
     ensures some { IfOk result (λ r. (0 < r.1) × (r.1 ≤ length tokens.now)) }
 {
     let line = tokens[0].line;
@@ -107,7 +109,8 @@ pub fn parse<'a>(alloc: Global, tokens: &[Token<'a>]) -> Result<Vec<Item<'a>>, S
     // What is returned is a reading of the tokens.
     ensures read { Gives (λ v. items_of v.items) result (Reads 1 (lexemes tokens.now)) }
     // Each reading of the tokens is what is returned.
-    ensures only { (r : spec.Outcome) → Reads 1 (lexemes tokens.now) r → Gives (λ v. items_of v.items) result (λ s. s ≡ r) }
+    ensures only { (r : spec.Outcome) → Reads 1 (lexemes tokens.now) r →
+        Gives (λ v. items_of v.items) result (λ s. s ≡ r) }
 {
     read_items(alloc, tokens)
 }

@@ -25,7 +25,8 @@ fn report<R: Threads + Wait + Sync, S: Source, G: Gate>(
     words: &[String],
     source: &mut S,
 ) -> Result<Report, Memory>
-    ensures unread { is_reading (asked_of (map string_bytes words.now)) ≡ false → source.new ≡ source.old }
+    ensures unread { is_reading (asked_of (map string_bytes words.now)) ≡ false →
+        source.new ≡ source.old }
     ensures made { IfOk result (λ r. (input : Input)
         × (is_reading (asked_of (map string_bytes words.now)) ≡ true →
         IsRead (S.left source.old) (S.faults source.old) (S.faults source.new) input)
@@ -99,7 +100,8 @@ pub fn top<R: Threads + Wait + Sync, S: Source, K: Sink, G: Gate>(
     gate: &G,
 ) -> Status
     // Nothing is read where the words are refused, and for `work`.
-    ensures unread { is_reading (asked_of (map string_bytes words.now)) ≡ false → source.new ≡ source.old }
+    ensures unread { is_reading (asked_of (map string_bytes words.now)) ≡ false →
+        source.new ≡ source.old }
     // The bytes and the status are those of the one report of the words and of what was read; the ground
     // instances of its answers are derivable, and what is derivable is among them.
     ensures run { result ≢ Status.Memory → (input : Input) × (report : Report)

@@ -47,7 +47,8 @@ fn tuple<'a>(alloc: Global, mut parts: Vec<Tree<'a>>) -> Result<Tree<'a>, AllocE
 
 /// The list of these terms and of the end.
 fn cells<'a>(alloc: Global, mut parts: Vec<Tree<'a>>, end: Tree<'a>) -> Result<Tree<'a>, AllocError>
-    ensures { IfOk result (λ t. term_of t ≡ trees.cells (trees_of parts.entry.items) (term_of end.entry)) }
+    ensures { IfOk result (λ t. term_of t
+        ≡ trees.cells (trees_of parts.entry.items) (term_of end.entry)) }
 {
     let mut whole = end;
     while let Some(part) = parts.pop() {
@@ -64,7 +65,8 @@ pub fn term<'a, 's>(
     levels: usize,
     symbols: &'s [Symbol<'a>],
 ) -> Result<(Tree<'a>, &'s [Symbol<'a>]), ReadError>
-    ensures value { Gives (λ r. (term_of r.0, syms r.1.now)) result (read_term levels (syms symbols.now)) }
+    ensures value { Gives (λ r. (term_of r.0, syms r.1.now)) result
+        (read_term levels (syms symbols.now)) }
     ensures shorter { IfOk result (λ r. length r.1.now < length symbols.now) }
 {
     if levels == 0 {
@@ -104,7 +106,8 @@ fn variable<'a, 's>(
     word: &'a str,
     symbols: &'s [Symbol<'a>],
 ) -> Result<(Tree<'a>, &'s [Symbol<'a>]), ReadError>
-    ensures value { Gives (λ r. (term_of r.0, syms r.1.now)) result (spec.variable (read_term levels) word.entry.now (syms symbols.now)) }
+    ensures value { Gives (λ r. (term_of r.0, syms r.1.now)) result (spec.variable
+        (read_term levels) word.entry.now (syms symbols.now)) }
     ensures shorter { IfOk result (λ r. length r.1.now ≤ length symbols.now) }
 {
     match after_lambda(symbols) {
@@ -122,7 +125,8 @@ fn word_term<'a, 's>(
     word: &'a str,
     symbols: &'s [Symbol<'a>],
 ) -> Result<(Tree<'a>, &'s [Symbol<'a>]), ReadError>
-    ensures value { Gives (λ r. (term_of r.0, syms r.1.now)) result (spec.word_term (read_term levels) word.entry.now (syms symbols.now)) }
+    ensures value { Gives (λ r. (term_of r.0, syms r.1.now)) result (spec.word_term
+        (read_term levels) word.entry.now (syms symbols.now)) }
     ensures shorter { IfOk result (λ r. length r.1.now ≤ length symbols.now) }
 {
     match after_lambda(symbols) {
@@ -143,7 +147,8 @@ fn abstraction<'a, 's>(
     binder: Binder<'a>,
     symbols: &'s [Symbol<'a>],
 ) -> Result<(Tree<'a>, &'s [Symbol<'a>]), ReadError>
-    ensures value { Gives (λ r. (term_of r.0, syms r.1.now)) result (spec.abstraction (read_term levels) (name_of binder.entry) (syms symbols.now)) }
+    ensures value { Gives (λ r. (term_of r.0, syms r.1.now)) result (spec.abstraction
+        (read_term levels) (name_of binder.entry) (syms symbols.now)) }
     ensures shorter { IfOk result (λ r. length r.1.now ≤ length symbols.now) }
 {
     let (body, rest) = term(alloc, levels, symbols)?;
@@ -159,7 +164,8 @@ fn application<'a, 's>(
     word: &'a str,
     symbols: &'s [Symbol<'a>],
 ) -> Result<(Tree<'a>, &'s [Symbol<'a>]), ReadError>
-    ensures value { Gives (λ r. (term_of r.0, syms r.1.now)) result (spec.application (read_term levels) word.entry.now (syms symbols.now)) }
+    ensures value { Gives (λ r. (term_of r.0, syms r.1.now)) result (spec.application
+        (read_term levels) word.entry.now (syms symbols.now)) }
     ensures shorter { IfOk result (λ r. length r.1.now ≤ length symbols.now) }
 {
     let (parts, rest) = term_list(alloc, levels, symbols)?;
@@ -176,7 +182,8 @@ fn group<'a, 's>(
     levels: usize,
     symbols: &'s [Symbol<'a>],
 ) -> Result<(Tree<'a>, &'s [Symbol<'a>]), ReadError>
-    ensures value { Gives (λ r. (term_of r.0, syms r.1.now)) result (spec.group (read_term levels) (syms symbols.now)) }
+    ensures value { Gives (λ r. (term_of r.0, syms r.1.now)) result (spec.group (read_term levels)
+        (syms symbols.now)) }
     ensures shorter { IfOk result (λ r. length r.1.now ≤ length symbols.now) }
 {
     match after_close(symbols) {
@@ -197,7 +204,8 @@ fn list<'a, 's>(
     levels: usize,
     symbols: &'s [Symbol<'a>],
 ) -> Result<(Tree<'a>, &'s [Symbol<'a>]), ReadError>
-    ensures value { Gives (λ r. (term_of r.0, syms r.1.now)) result (spec.list_of (read_term levels) (syms symbols.now)) }
+    ensures value { Gives (λ r. (term_of r.0, syms r.1.now)) result (spec.list_of (read_term levels)
+        (syms symbols.now)) }
     ensures shorter { IfOk result (λ r. length r.1.now ≤ length symbols.now) }
 {
     match after_close_list(symbols) {
@@ -214,7 +222,8 @@ fn full_list<'a, 's>(
     levels: usize,
     symbols: &'s [Symbol<'a>],
 ) -> Result<(Tree<'a>, &'s [Symbol<'a>]), ReadError>
-    ensures value { Gives (λ r. (term_of r.0, syms r.1.now)) result (spec.full_list (read_term levels) (syms symbols.now)) }
+    ensures value { Gives (λ r. (term_of r.0, syms r.1.now)) result (spec.full_list
+        (read_term levels) (syms symbols.now)) }
     ensures shorter { IfOk result (λ r. length r.1.now ≤ length symbols.now) }
 {
     let (parts, rest) = term_list(alloc, levels, symbols)?;
@@ -231,7 +240,8 @@ fn list_end<'a, 's>(
     levels: usize,
     symbols: &'s [Symbol<'a>],
 ) -> Result<(Tree<'a>, &'s [Symbol<'a>]), ReadError>
-    ensures value { Gives (λ r. (term_of r.0, syms r.1.now)) result (spec.list_end (read_term levels) (syms symbols.now)) }
+    ensures value { Gives (λ r. (term_of r.0, syms r.1.now)) result (spec.list_end
+        (read_term levels) (syms symbols.now)) }
     ensures shorter { IfOk result (λ r. length r.1.now ≤ length symbols.now) }
 {
     match after_bar(symbols) {
@@ -242,7 +252,8 @@ fn list_end<'a, 's>(
 
 /// An identifier that comes first, and the symbols after it.
 fn id<'a, 's>(symbols: &'s [Symbol<'a>]) -> Option<(Binder<'a>, &'s [Symbol<'a>])>
-    ensures value { option_map (λ r. (name_of r.0, syms r.1.now)) result ≡ spec.read_id (syms symbols.now) }
+    ensures value { option_map (λ r. (name_of r.0, syms r.1.now)) result
+        ≡ spec.read_id (syms symbols.now) }
     ensures shorter { IfSome result (λ r. length r.1.now < length symbols.now) }
 {
     match symbols {
@@ -255,7 +266,8 @@ fn id<'a, 's>(symbols: &'s [Symbol<'a>]) -> Option<(Binder<'a>, &'s [Symbol<'a>]
 /// An identifier and a comma that come first, and the symbols after them.
 #[tactic(auto, unfolding(crate::specs::TermReader::side))]
 fn side<'a, 's>(symbols: &'s [Symbol<'a>]) -> Option<(Binder<'a>, &'s [Symbol<'a>])>
-    ensures value { option_map (λ r. (name_of r.0, syms r.1.now)) result ≡ spec.side (syms symbols.now) }
+    ensures value { option_map (λ r. (name_of r.0, syms r.1.now)) result
+        ≡ spec.side (syms symbols.now) }
     ensures shorter { IfSome result (λ r. length r.1.now < length symbols.now) }
 {
     let (name, rest) = id(symbols)?;
@@ -271,7 +283,8 @@ fn swapped<'a, 's>(
     levels: usize,
     symbols: &'s [Symbol<'a>],
 ) -> Result<(Tree<'a>, &'s [Symbol<'a>]), ReadError>
-    ensures value { Gives (λ r. (term_of r.0, syms r.1.now)) result (spec.swapped (read_term levels) (syms symbols.now)) }
+    ensures value { Gives (λ r. (term_of r.0, syms r.1.now)) result (spec.swapped (read_term levels)
+        (syms symbols.now)) }
     ensures shorter { IfOk result (λ r. length r.1.now ≤ length symbols.now) }
 {
     let rest = after_open(symbols).ok_or(ReadError::Grammar)?;
@@ -289,7 +302,8 @@ pub fn term_list<'a, 's>(
     levels: usize,
     symbols: &'s [Symbol<'a>],
 ) -> Result<(Vec<Tree<'a>>, &'s [Symbol<'a>]), ReadError>
-    ensures value { Gives (λ r. (trees_of r.0.items, syms r.1.now)) result (separated after_comma (read_term levels) (length symbols.now) (syms symbols.now)) }
+    ensures value { Gives (λ r. (trees_of r.0.items, syms r.1.now)) result (separated after_comma
+        (read_term levels) (length symbols.now) (syms symbols.now)) }
     ensures shorter { IfOk result (λ r. length r.1.now < length symbols.now) }
 {
     let mut all = Vec::new(alloc);
@@ -321,9 +335,11 @@ pub fn whole_term<'a>(alloc: Global, symbols: &[Symbol<'a>]) -> Result<Tree<'a>,
     // What is read is in the grammar.
     ensures found { IfOk result (λ t. IsTerm (syms symbols.now) (term_of t) []) }
     // What is in the grammar is read.
-    ensures only { (t : trees.Term) → IsTerm (syms symbols.now) t [] → Gives term_of result (Some t) }
+    ensures only { (t : trees.Term) → IsTerm (syms symbols.now) t [] →
+        Gives term_of result (Some t) }
     // It has no other reading.
-    ensures one { IfOk result (λ t. (u : trees.Term) → IsTerm (syms symbols.now) u [] → u ≡ term_of t) }
+    ensures one { IfOk result (λ t. (u : trees.Term) → IsTerm (syms symbols.now) u [] →
+        u ≡ term_of t) }
 {
     exact_term(alloc, symbols)
 }

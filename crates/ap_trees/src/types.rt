@@ -35,7 +35,8 @@ pub fn type_tree<'a, 's>(
     levels: usize,
     symbols: &'s [Symbol<'a>],
 ) -> Result<(TypeTree<'a>, &'s [Symbol<'a>]), ReadError>
-    ensures value { Gives (λ r. (type_of r.0, syms r.1.now)) result (read_type levels (syms symbols.now)) }
+    ensures value { Gives (λ r. (type_of r.0, syms r.1.now)) result
+        (read_type levels (syms symbols.now)) }
     ensures shorter { IfOk result (λ r. length r.1.now < length symbols.now) }
 {
     if levels == 0 {
@@ -73,7 +74,8 @@ pub fn type_list<'a, 's>(
     levels: usize,
     symbols: &'s [Symbol<'a>],
 ) -> Result<(Vec<TypeTree<'a>>, &'s [Symbol<'a>]), ReadError>
-    ensures value { Gives (λ r. (types_of r.0.items, syms r.1.now)) result (separated after_comma (read_type levels) (length symbols.now) (syms symbols.now)) }
+    ensures value { Gives (λ r. (types_of r.0.items, syms r.1.now)) result (separated after_comma
+        (read_type levels) (length symbols.now) (syms symbols.now)) }
     ensures shorter { IfOk result (λ r. length r.1.now < length symbols.now) }
 {
     let mut all = Vec::new(alloc);
@@ -107,7 +109,8 @@ pub fn whole_type<'a>(alloc: Global, symbols: &[Symbol<'a>]) -> Result<TypeTree<
     // What is in the grammar is read.
     ensures only { (t : trees.Ty) → IsType (syms symbols.now) t [] → Gives type_of result (Some t) }
     // It has no other reading.
-    ensures one { IfOk result (λ t. (u : trees.Ty) → IsType (syms symbols.now) u [] → u ≡ type_of t) }
+    ensures one { IfOk result (λ t. (u : trees.Ty) → IsType (syms symbols.now) u [] →
+        u ≡ type_of t) }
 {
     exact_type(alloc, symbols)
 }

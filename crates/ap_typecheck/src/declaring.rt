@@ -43,7 +43,8 @@ pub fn declare_name_type<'a>(
 ) -> Result<(), Memory>
     requires kept { IsKept state.old }
     requires new { type_named (made_of state.old).declared.signature word.now ≡ None }
-    ensures made { OnOk result (made_of state.new ≡ spec.with_name_type word.entry.now (made_of state.old)) }
+    ensures made { OnOk result (made_of state.new
+        ≡ spec.with_name_type word.entry.now (made_of state.old)) }
     ensures kept { OnOk result (IsKept state.new) }
 {
     let text = text_of(alloc, word)?;
@@ -60,7 +61,8 @@ pub fn declare_data_type<'a>(
 ) -> Result<(), Memory>
     requires kept { IsKept state.old }
     requires new { type_named (made_of state.old).declared.signature word.now ≡ None }
-    ensures made { OnOk result (made_of state.new ≡ spec.with_data_type word.entry.now (made_of state.old)) }
+    ensures made { OnOk result (made_of state.new
+        ≡ spec.with_data_type word.entry.now (made_of state.old)) }
     ensures kept { OnOk result (IsKept state.new) }
 {
     let text = text_of(alloc, word)?;
@@ -90,7 +92,9 @@ pub fn declare_constructor<'a>(
     requires kept { IsKept state.old }
     requires small { IsSmall state.old.declared }
     requires new { constructor_place (made_of state.old).declared word.now ≡ None }
-    ensures made { OnOk result (made_of state.new ≡ spec.with_constructor word.entry.now (types_of args.now) data_type.now (made_of state.old)) }
+    ensures made { OnOk result (made_of state.new
+        ≡ spec.with_constructor word.entry.now (types_of args.now) data_type.now
+        (made_of state.old)) }
     ensures kept { OnOk result (IsKept state.new) }
 {
     let constructor = Constructor {
@@ -118,7 +122,8 @@ pub fn declare_predicate<'a>(
     requires kept { IsKept state.old }
     requires small { IsSmall state.old.declared }
     requires new { predicate_place (made_of state.old).declared word.now ≡ None }
-    ensures made { OnOk result (made_of state.new ≡ spec.with_predicate word.entry.now (types_of args.now) (made_of state.old)) }
+    ensures made { OnOk result (made_of state.new
+        ≡ spec.with_predicate word.entry.now (types_of args.now) (made_of state.old)) }
     ensures kept { OnOk result (IsKept state.new) }
 {
     let types = resolved_types(alloc, &state.declared, args)?;

@@ -27,7 +27,8 @@ use std::alloc::Global;
 fn put_clause(state: &mut State<'_>, clause: Clause<Raw>) -> Result<(), Memory>
     requires kept { IsKept state.old }
     requires declared { clause.pred < length state.old.declared.signature.predicates }
-    ensures made { OnOk result (made_of state.new ≡ with_clause (clause_over raw_of clause) (made_of state.old)) }
+    ensures made { OnOk result (made_of state.new
+        ≡ with_clause (clause_over raw_of clause) (made_of state.old)) }
     ensures kept { OnOk result (IsKept state.new) }
 {
     let pred = clause.pred as usize;
@@ -45,9 +46,11 @@ fn add_item<'a>(
     requires kept { IsKept state.old }
     requires small { IsSmall state.old.declared }
     requires flawless { item_flaw (made_of state.old).declared (form_of form.now) ≡ None }
-    ensures made { OnOk result (Says (made_of state.old) place.item place.line (form_of form.now) (made_of state.new)) }
+    ensures made { OnOk result (Says (made_of state.old) place.item place.line (form_of form.now)
+        (made_of state.new)) }
     ensures kept { OnOk result (IsKept state.new) }
-    ensures err { IfErr result (λ e. IsRefusedItem e (made_of state.old).declared (form_of form.now)) }
+    ensures err { IfErr result (λ e. IsRefusedItem e (made_of state.old).declared
+        (form_of form.now)) }
 {
     match form {
         Form::NameType(word) => declare_name_type(alloc, state, word)?,
@@ -85,10 +88,13 @@ pub fn check_item<'a>(
 ) -> Result<(), Refusal>
     requires kept { IsKept state.old }
     requires small { IsSmall state.old.declared }
-    ensures flawless { OnOk result (item_flaw (made_of state.old).declared (form_of form.now) ≡ None) }
-    ensures made { OnOk result (Says (made_of state.old) place.item place.line (form_of form.now) (made_of state.new)) }
+    ensures flawless { OnOk result (item_flaw (made_of state.old).declared (form_of form.now)
+        ≡ None) }
+    ensures made { OnOk result (Says (made_of state.old) place.item place.line (form_of form.now)
+        (made_of state.new)) }
     ensures kept { OnOk result (IsKept state.new) }
-    ensures err { IfErr result (λ e. IsRefusedItem e (made_of state.old).declared (form_of form.now)) }
+    ensures err { IfErr result (λ e. IsRefusedItem e (made_of state.old).declared
+        (form_of form.now)) }
 {
     match item_flaws::item_flaw(&state.declared, form) {
         Some(kind) => Err(Refusal::Kind(kind)),

@@ -38,7 +38,8 @@ pub fn classes_of(alloc: Global, found: &[Identifier<'_>]) -> Result<Vec<IdentKi
 
 /// An identifier with its kind.
 fn local(alloc: Global, identifier: &Identifier<'_>, kind: &Kind) -> Result<Local, Memory>
-    ensures { IfOk result (λ l. local_of l ≡ made.with_kind (identifier_of identifier.now) (kind_of kind.now)) }
+    ensures { IfOk result (λ l. local_of l
+        ≡ made.with_kind (identifier_of identifier.now) (kind_of kind.now)) }
 {
     let word = match identifier.spelling {
         Binder::Word(word) => word,
@@ -58,7 +59,8 @@ pub fn with_kinds(
     found: &[Identifier<'_>],
     kinds: &[Kind],
 ) -> Result<List<Local>, Memory>
-    ensures { IfOk result (λ ls. locals_of ls ≡ made.with_kinds (map identifier_of found.now) (map kind_of kinds.now)) }
+    ensures { IfOk result (λ ls. locals_of ls
+        ≡ made.with_kinds (map identifier_of found.now) (map kind_of kinds.now)) }
 {
     let mut locals = Vec::new(alloc);
     let mut rest = kinds;

@@ -43,7 +43,8 @@ fn lists_of(
     alloc: Global,
     clauses: Vec<Vec<Clause<Raw>>>,
 ) -> Result<List<List<Clause<Raw>>>, Memory>
-    ensures { IfOk result (λ css. map (map (clause_over raw_of)) css ≡ map (λ cs. map (clause_over raw_of) cs.items) clauses.items) }
+    ensures { IfOk result (λ css. map (map (clause_over raw_of)) css
+        ≡ map (λ cs. map (clause_over raw_of) cs.items) clauses.items) }
 {
     let mut lists = Vec::new(alloc);
     for of_one in clauses {

@@ -53,7 +53,9 @@ fn clause_parts<'a>(
 ) -> Result<ClauseParts<'a>, Memory>
     requires indexed { IsIndexed declared.now }
     requires small { IsSmall declared.now }
-    ensures { IfOk result (λ r. clause_parts_of r ≡ resolved_clause (declared_of declared.now) (trees_of args.now) (option_map goal_of body.now)) }
+    ensures { IfOk result (λ r. clause_parts_of r
+        ≡ resolved_clause (declared_of declared.now) (trees_of args.now)
+        (option_map goal_of body.now)) }
 {
     let mut found = Identifiers::new(alloc);
     let args = resolved_terms(alloc, declared, &Brought::Nothing, args, &mut found)?;
@@ -72,7 +74,8 @@ fn query_parts<'a>(
 ) -> Result<QueryParts<'a>, Memory>
     requires indexed { IsIndexed declared.now }
     requires small { IsSmall declared.now }
-    ensures { IfOk result (λ r. query_parts_of r ≡ resolved_query (declared_of declared.now) (goal_of goal.now)) }
+    ensures { IfOk result (λ r. query_parts_of r
+        ≡ resolved_query (declared_of declared.now) (goal_of goal.now)) }
 {
     let mut found = Identifiers::new(alloc);
     let goal = resolved_goal(alloc, declared, &Brought::Nothing, goal, &mut found)?;
@@ -91,8 +94,11 @@ fn clause_kinds(
     parts: &ClauseParts<'_>,
 ) -> Result<Vec<Kind>, Refusal>
     requires { AreInhabitants (declared_of declared.now).signature.constructors inhabitants.now }
-    ensures ok { IfOk result (λ ks. IsInferred (declared_of declared.now).signature.constructors (TypesParts (declared_of declared.now) pred (clause_parts_of parts.now)) (map kind_of ks.items)) }
-    ensures err { IfErr result (λ e. IsRefusedBy e (declared_of declared.now) (TypesParts (declared_of declared.now) pred (clause_parts_of parts.now))) }
+    ensures ok { IfOk result (λ ks. IsInferred (declared_of declared.now).signature.constructors
+        (TypesParts (declared_of declared.now) pred (clause_parts_of parts.now))
+        (map kind_of ks.items)) }
+    ensures err { IfErr result (λ e. IsRefusedBy e (declared_of declared.now) (TypesParts
+        (declared_of declared.now) pred (clause_parts_of parts.now))) }
 {
     let classes = classes_of(alloc, parts.found.as_slice())?;
     let signature = &declared.signature;
@@ -118,8 +124,11 @@ fn query_kinds(
     parts: &QueryParts<'_>,
 ) -> Result<Vec<Kind>, Refusal>
     requires { AreInhabitants (declared_of declared.now).signature.constructors inhabitants.now }
-    ensures ok { IfOk result (λ ks. IsInferred (declared_of declared.now).signature.constructors (TypesGoalParts (declared_of declared.now) (query_parts_of parts.now)) (map kind_of ks.items)) }
-    ensures err { IfErr result (λ e. IsRefusedBy e (declared_of declared.now) (TypesGoalParts (declared_of declared.now) (query_parts_of parts.now))) }
+    ensures ok { IfOk result (λ ks. IsInferred (declared_of declared.now).signature.constructors
+        (TypesGoalParts (declared_of declared.now) (query_parts_of parts.now))
+        (map kind_of ks.items)) }
+    ensures err { IfErr result (λ e. IsRefusedBy e (declared_of declared.now) (TypesGoalParts
+        (declared_of declared.now) (query_parts_of parts.now))) }
 {
     let classes = classes_of(alloc, parts.found.as_slice())?;
     match kinds_of_query(
@@ -141,7 +150,9 @@ fn clause_with(
     parts: &ClauseParts<'_>,
     kinds: &[Kind],
 ) -> Result<Clause<Raw>, Memory>
-    ensures { IfOk result (λ c. clause_over raw_of c ≡ spec.clause_with_kinds place.item place.line pred (clause_parts_of parts.now) (map kind_of kinds.now)) }
+    ensures { IfOk result (λ c. clause_over raw_of c
+        ≡ spec.clause_with_kinds place.item place.line pred (clause_parts_of parts.now)
+        (map kind_of kinds.now)) }
 {
     Ok(Clause {
         item: place.item,
@@ -159,7 +170,9 @@ fn query_with(
     parts: &QueryParts<'_>,
     kinds: &[Kind],
 ) -> Result<Query<Raw>, Memory>
-    ensures { IfOk result (λ q. query_over raw_of q ≡ spec.query_with_kinds place.item place.line (query_parts_of parts.now) (map kind_of kinds.now)) }
+    ensures { IfOk result (λ q. query_over raw_of q
+        ≡ spec.query_with_kinds place.item place.line (query_parts_of parts.now)
+        (map kind_of kinds.now)) }
 {
     Ok(Query {
         item: place.item,
@@ -182,9 +195,12 @@ pub fn typed_clause<'a>(
 ) -> Result<Clause<Raw>, Refusal>
     requires indexed { IsIndexed declared.now }
     requires small { IsSmall declared.now }
-    requires inhabited { AreInhabitants (declared_of declared.now).signature.constructors inhabitants.now }
-    ensures ok { IfOk result (λ c. IsClauseOf (declared_of declared.now) place.item place.line word.now (trees_of args.now) (option_map goal_of body.now) (clause_over raw_of c)) }
-    ensures err { IfErr result (λ e. IsRefusedBy e (declared_of declared.now) (spec.TypesClauseOf (declared_of declared.now) word.now (trees_of args.now) (option_map goal_of body.now))) }
+    requires inhabited { AreInhabitants (declared_of declared.now).signature.constructors
+        inhabitants.now }
+    ensures ok { IfOk result (λ c. IsClauseOf (declared_of declared.now) place.item place.line
+        word.now (trees_of args.now) (option_map goal_of body.now) (clause_over raw_of c)) }
+    ensures err { IfErr result (λ e. IsRefusedBy e (declared_of declared.now) (spec.TypesClauseOf
+        (declared_of declared.now) word.now (trees_of args.now) (option_map goal_of body.now))) }
 {
     let parts = clause_parts(alloc, declared, args, body)?;
     let pred = predicate_number(declared.predicate_place(word));
@@ -205,9 +221,12 @@ pub fn typed_query<'a>(
 ) -> Result<Query<Raw>, Refusal>
     requires indexed { IsIndexed declared.now }
     requires small { IsSmall declared.now }
-    requires inhabited { AreInhabitants (declared_of declared.now).signature.constructors inhabitants.now }
-    ensures ok { IfOk result (λ q. IsQueryOf (declared_of declared.now) place.item place.line (goal_of goal.now) (query_over raw_of q)) }
-    ensures err { IfErr result (λ e. IsRefusedBy e (declared_of declared.now) (spec.TypesQueryOf (declared_of declared.now) (goal_of goal.now))) }
+    requires inhabited { AreInhabitants (declared_of declared.now).signature.constructors
+        inhabitants.now }
+    ensures ok { IfOk result (λ q. IsQueryOf (declared_of declared.now) place.item place.line
+        (goal_of goal.now) (query_over raw_of q)) }
+    ensures err { IfErr result (λ e. IsRefusedBy e (declared_of declared.now) (spec.TypesQueryOf
+        (declared_of declared.now) (goal_of goal.now))) }
 {
     let parts = query_parts(alloc, declared, goal)?;
     match query_kinds(alloc, declared, inhabitants, &parts) {

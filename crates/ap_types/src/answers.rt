@@ -19,7 +19,8 @@ use std::alloc::Global;
 /// only arguments that it has. A data type without constructors is not inhabited. `Err` is want of
 /// memory.
 pub fn inhabited(alloc: Global, sig: &Signature, ty: &Ty) -> Result<bool, Memory>
-    ensures { IfOk result (λ b. IsTrue b ↔ IsInhabited (signature_of sig.now).constructors (type_of ty.now)) }
+    ensures { IfOk result (λ b. IsTrue b
+        ↔ IsInhabited (signature_of sig.now).constructors (type_of ty.now)) }
 {
     let table = least_table(alloc, Question::Inhabited, sig.constructors.items())?;
     let answer = answer_by(Question::Inhabited, table.as_slice(), ty);
@@ -32,7 +33,8 @@ pub fn inhabited(alloc: Global, sig: &Signature, ty: &Ty) -> Result<bool, Memory
 /// where its element does; an abstraction where its body does; and a data type where an argument of
 /// some constructor of it does. `Err` is want of memory.
 pub fn may_hold(alloc: Global, sig: &Signature, ty: &Ty, sort: u32) -> Result<bool, Memory>
-    ensures { IfOk result (λ b. IsTrue b ↔ MayHold (signature_of sig.now).constructors (type_of ty.now) sort) }
+    ensures { IfOk result (λ b. IsTrue b
+        ↔ MayHold (signature_of sig.now).constructors (type_of ty.now) sort) }
 {
     let table = least_table(alloc, Question::Holds(sort), sig.constructors.items())?;
     let answer = answer_by(Question::Holds(sort), table.as_slice(), ty);

@@ -108,7 +108,8 @@ fn load_system(
     holes: usize,
 ) -> Result<Loaded, Memory>
     requires { hole_count (map equation_of equations.now) names.now ≤ holes }
-    ensures { IfOk result (λ l. LoadsSystem (map equation_of equations.now) (name_equations name_types names.now) holes (table_of l.nodes.items) l.pairs.items) }
+    ensures { IfOk result (λ l. LoadsSystem (map equation_of equations.now)
+        (name_equations name_types names.now) holes (table_of l.nodes.items) l.pairs.items) }
 {
     let by_names = equations_of_names(alloc, names, name_types)?;
     let nodes = open_places(alloc, holes)?;
@@ -121,8 +122,10 @@ fn load_system(
 fn settled(alloc: Global, loaded: Loaded) -> Result<Vec<Node>, TypesError>
     requires formed { AreFormed (table_of loaded.nodes.items) }
     requires within { AreWithin (length loaded.nodes.items) loaded.pairs.items }
-    ensures ok { IfOk result (λ v. Settles (table_of loaded.nodes.items) loaded.pairs.items (table_of v.items)) }
-    ensures clash { IfErr result (λ e. e ≡ TypesError.Clash → NeverAgree (table_of loaded.nodes.items) loaded.pairs.items) }
+    ensures ok { IfOk result (λ v. Settles (table_of loaded.nodes.items) loaded.pairs.items
+        (table_of v.items)) }
+    ensures clash { IfErr result (λ e. e ≡ TypesError.Clash →
+        NeverAgree (table_of loaded.nodes.items) loaded.pairs.items) }
 {
     let mut nodes = join_all(loaded)?;
     shorten_all(&mut nodes);
@@ -139,9 +142,12 @@ fn narrowed(
     name_types: u32,
 ) -> Result<Solved, TypesError>
     ensures settled { IfOk result (λ s. IsSettled (table_of s.nodes.items)) }
-    ensures holes { IfOk result (λ s. s.holes ≡ hole_count (map equation_of equations.now) names.now) }
-    ensures narrows { IfOk result (λ s. Narrows (map equation_of equations.now) names.now name_types (assignment_of s)) }
-    ensures clash { IfErr result (λ e. e ≡ TypesError.Clash → IsUnsolvable (map equation_of equations.now) names.now name_types) }
+    ensures holes { IfOk result (λ s. s.holes
+        ≡ hole_count (map equation_of equations.now) names.now) }
+    ensures narrows { IfOk result (λ s. Narrows (map equation_of equations.now) names.now name_types
+        (assignment_of s)) }
+    ensures clash { IfErr result (λ e. e ≡ TypesError.Clash →
+        IsUnsolvable (map equation_of equations.now) names.now name_types) }
 {
     let in_equations = bound_in_equations(equations)?;
     let in_names = bound_in_names(names)?;
@@ -162,11 +168,16 @@ pub fn solved(
     name_types: u32,
 ) -> Result<Solved, TypesError>
     ensures settled { IfOk result (λ s. IsSettled (table_of s.nodes.items)) }
-    ensures in_order { IfOk result (λ s. s.holes ≡ hole_count (map equation_of equations.now) names.now) }
-    ensures most_general { IfOk result (λ s. (f : Filling) → IsSolution (map equation_of equations.now) names.now name_types f ↔ (IsInstance (assignment_of s) f × GivesNames name_types f names.now)) }
+    ensures in_order { IfOk result (λ s. s.holes
+        ≡ hole_count (map equation_of equations.now) names.now) }
+    ensures most_general { IfOk result (λ s. (f : Filling) →
+        IsSolution (map equation_of equations.now) names.now name_types f
+        ↔ (IsInstance (assignment_of s) f × GivesNames name_types f names.now)) }
     ensures constrained { IfOk result (λ s. AreNames name_types (assignment_of s) names.now) }
-    ensures solvable { IfOk result (λ s. (f : Filling) × IsSolution (map equation_of equations.now) names.now name_types f) }
-    ensures clash { IfErr result (λ e. e ≡ TypesError.Clash → IsUnsolvable (map equation_of equations.now) names.now name_types) }
+    ensures solvable { IfOk result (λ s. (f : Filling)
+        × IsSolution (map equation_of equations.now) names.now name_types f) }
+    ensures clash { IfErr result (λ e. e ≡ TypesError.Clash →
+        IsUnsolvable (map equation_of equations.now) names.now name_types) }
 {
     if name_types == 0 && names.len() > 0 {
         return Err(TypesError::Clash);
@@ -193,13 +204,18 @@ pub fn solve(
     names: &[u64],
     name_types: u32,
 ) -> Result<Assignment, TypesError>
-    ensures in_order { IfOk result (λ a. length a.holes ≡ hole_count (map equation_of equations.now) names.now) }
-    ensures most_general { IfOk result (λ a. (f : Filling) → IsSolution (map equation_of equations.now) names.now name_types f ↔ (IsInstance (map shape_of a.holes) f × GivesNames name_types f names.now)) }
+    ensures in_order { IfOk result (λ a. length a.holes
+        ≡ hole_count (map equation_of equations.now) names.now) }
+    ensures most_general { IfOk result (λ a. (f : Filling) →
+        IsSolution (map equation_of equations.now) names.now name_types f
+        ↔ (IsInstance (map shape_of a.holes) f × GivesNames name_types f names.now)) }
     ensures constrained { IfOk result (λ a. AreNames name_types (map shape_of a.holes) names.now) }
 
     // An assignment that is given has a solution, so a clash is never left out.
-    ensures solvable { IfOk result (λ a. (f : Filling) × IsSolution (map equation_of equations.now) names.now name_types f) }
-    ensures clash { IfErr result (λ e. e ≡ TypesError.Clash → IsUnsolvable (map equation_of equations.now) names.now name_types) }
+    ensures solvable { IfOk result (λ a. (f : Filling)
+        × IsSolution (map equation_of equations.now) names.now name_types f) }
+    ensures clash { IfErr result (λ e. e ≡ TypesError.Clash →
+        IsUnsolvable (map equation_of equations.now) names.now name_types) }
 {
     let solved = solved(alloc, equations, names, name_types)?;
     let holes = written_out(alloc, &solved)?;

@@ -42,7 +42,8 @@ pub fn declare(
     inhabitants: &mut Inhabitants,
     constructor: &Constructor,
 ) -> Result<(), Memory>
-    ensures { OnOk result ((cs : list NominalConstructor) → AreInhabitants cs inhabitants.old → AreInhabitants (cs ++ constructor_of constructor.now ∷ []) inhabitants.new) }
+    ensures { OnOk result ((cs : list NominalConstructor) → AreInhabitants cs inhabitants.old →
+        AreInhabitants (cs ++ constructor_of constructor.now ∷ []) inhabitants.new) }
 {
     add_constructor(
         alloc,
@@ -55,7 +56,8 @@ pub fn declare(
 /// Whether a type is inhabited by the constructors so far. It takes no memory, and costs as much as the
 /// type is long.
 pub fn is_inhabited(inhabitants: &Inhabitants, ty: &Ty) -> bool
-    ensures { (cs : list NominalConstructor) → AreInhabitants cs inhabitants.now → IsTrue result ↔ IsInhabited cs (type_of ty.now) }
+    ensures { (cs : list NominalConstructor) → AreInhabitants cs inhabitants.now →
+        IsTrue result ↔ IsInhabited cs (type_of ty.now) }
 {
     answer_by(Question::Inhabited, inhabitants.found.table.as_slice(), ty)
 }

@@ -71,7 +71,8 @@ pub(crate) fn shorten_all(nodes: &mut [Node])
 
 /// What makes two entries of roots the same, if anything does.
 fn rest_of(keep: Node, gone: Node) -> Option<Rest>
-    ensures { MatchOption result (parts keep gone ≡ None) (λ r. parts keep gone ≡ Some (pairs_of r)) }
+    ensures { MatchOption result (parts keep gone ≡ None) (λ r. parts keep gone
+        ≡ Some (pairs_of r)) }
 {
     match keep {
         Node::Place(_) => Some(Rest::Nothing),
@@ -101,7 +102,8 @@ fn rest_of(keep: Node, gone: Node) -> Option<Rest>
 
 /// The same for a name type.
 fn rest_of_names(sort: u32, gone: Node) -> Option<Rest>
-    ensures { MatchOption result (parts (Node.Names sort) gone ≡ None) (λ r. parts (Node.Names sort) gone ≡ Some (pairs_of r)) }
+    ensures { MatchOption result (parts (Node.Names sort) gone ≡ None) (λ r. parts (Node.Names sort)
+        gone ≡ Some (pairs_of r)) }
 {
     match gone {
         Node::Place(_) => Some(Rest::Nothing),
@@ -118,7 +120,8 @@ fn rest_of_names(sort: u32, gone: Node) -> Option<Rest>
 
 /// The same for a data type.
 fn rest_of_base(base: u32, gone: Node) -> Option<Rest>
-    ensures { MatchOption result (parts (Node.Base base) gone ≡ None) (λ r. parts (Node.Base base) gone ≡ Some (pairs_of r)) }
+    ensures { MatchOption result (parts (Node.Base base) gone ≡ None) (λ r. parts (Node.Base base)
+        gone ≡ Some (pairs_of r)) }
 {
     match gone {
         Node::Place(_) => Some(Rest::Nothing),
@@ -154,7 +157,8 @@ fn join_roots(nodes: &mut [Node], keep: usize, gone: usize) -> Option<Rest>
     requires within { gone < length nodes.old }
     requires kept { is_root keep (shape_at (table_of nodes.old) keep) ≡ true }
     requires joined { is_root gone (shape_at (table_of nodes.old) gone) ≡ true }
-    ensures { MatchOption result (NeverAlike (table_of nodes.old) keep gone) (λ r. Joins (table_of nodes.old) keep gone (table_of nodes.new) (pairs_of r)) }
+    ensures { MatchOption result (NeverAlike (table_of nodes.old) keep gone) (λ r. Joins
+        (table_of nodes.old) keep gone (table_of nodes.new) (pairs_of r)) }
 {
     let first = nodes[keep];
     let second = nodes[gone];
@@ -173,7 +177,8 @@ fn join(nodes: &mut [Node], x: usize, y: usize) -> Option<Rest>
     requires formed { AreFormed (table_of nodes.old) }
     requires left { x < length nodes.old }
     requires right { y < length nodes.old }
-    ensures { MatchOption result (NeverAlike (table_of nodes.old) x y) (λ r. Joins (table_of nodes.old) x y (table_of nodes.new) (pairs_of r)) }
+    ensures { MatchOption result (NeverAlike (table_of nodes.old) x y) (λ r. Joins
+        (table_of nodes.old) x y (table_of nodes.new) (pairs_of r)) }
 {
     let left = root_of(nodes, x);
     let right = root_of(nodes, y);
@@ -209,9 +214,12 @@ fn advance(loaded: Loaded, x: usize, y: usize) -> Result<Loaded, TypesError>
     requires left { x < length loaded.nodes.items }
     requires right { y < length loaded.nodes.items }
     requires within { AreWithin (length loaded.nodes.items) loaded.pairs.items }
-    ensures ok { IfOk result (λ l. Leads (table_of loaded.nodes.items) (loaded.pairs.items ++ (x, y) ∷ []) (table_of l.nodes.items) l.pairs.items) }
-    ensures fewer { IfOk result (λ l. length l.pairs.items + 3 * roots (table_of l.nodes.items) ≤ length loaded.pairs.items + 3 * roots (table_of loaded.nodes.items)) }
-    ensures clash { IfErr result (λ e. e ≡ TypesError.Clash → NeverAlike (table_of loaded.nodes.items) x y) }
+    ensures ok { IfOk result (λ l. Leads (table_of loaded.nodes.items)
+        (loaded.pairs.items ++ (x, y) ∷ []) (table_of l.nodes.items) l.pairs.items) }
+    ensures fewer { IfOk result (λ l. length l.pairs.items + 3 * roots (table_of l.nodes.items)
+        ≤ length loaded.pairs.items + 3 * roots (table_of loaded.nodes.items)) }
+    ensures clash { IfErr result (λ e. e ≡ TypesError.Clash →
+        NeverAlike (table_of loaded.nodes.items) x y) }
 {
     let Loaded { mut nodes, pairs } = loaded;
     match join(&mut nodes, x, y) {
@@ -227,8 +235,10 @@ fn advance(loaded: Loaded, x: usize, y: usize) -> Result<Loaded, TypesError>
 pub(crate) fn join_all(first: Loaded) -> Result<Vec<Node>, TypesError>
     requires formed { AreFormed (table_of first.nodes.items) }
     requires within { AreWithin (length first.nodes.items) first.pairs.items }
-    ensures ok { IfOk result (λ v. Leads (table_of first.nodes.items) first.pairs.items (table_of v.items) []) }
-    ensures clash { IfErr result (λ e. e ≡ TypesError.Clash → NeverAgree (table_of first.nodes.items) first.pairs.items) }
+    ensures ok { IfOk result (λ v. Leads (table_of first.nodes.items) first.pairs.items
+        (table_of v.items) []) }
+    ensures clash { IfErr result (λ e. e ≡ TypesError.Clash →
+        NeverAgree (table_of first.nodes.items) first.pairs.items) }
 {
     let mut loaded = first;
     'steps: while let Some((x, y)) = loaded.pairs.pop() {

@@ -80,9 +80,11 @@ fn mark(table: &mut Vec<bool>, base: u32) -> Result<(), Memory>
 
 /// A rule waits at a data type.
 fn wait(alloc: Global, waiting: &mut Vec<Vec<Rule>>, base: u32, rule: Rule) -> Result<(), Memory>
-    ensures here { OnOk result (rules_at waiting.new.items base ≡ rules_at waiting.old.items base ++ rule ∷ []) }
+    ensures here { OnOk result (rules_at waiting.new.items base
+        ≡ rules_at waiting.old.items base ++ rule ∷ []) }
     ensures others { OnOk result (OthersWait base waiting.old.items waiting.new.items) }
-    ensures weight { OnOk result (later_weight waiting.new.items ≡ later_weight waiting.old.items + (rule_weight rule + 1)) }
+    ensures weight { OnOk result (later_weight waiting.new.items
+        ≡ later_weight waiting.old.items + (rule_weight rule + 1)) }
 {
     let place = base as usize;
     room_to_wait(alloc, waiting, place)?;
@@ -95,7 +97,8 @@ fn release(alloc: Global, waiting: &mut Vec<Vec<Rule>>, base: u32) -> Vec<Rule>
     ensures given { result.items ≡ rules_at waiting.old.items base }
     ensures here { rules_at waiting.new.items base ≡ [] }
     ensures others { OthersWait base waiting.old.items waiting.new.items }
-    ensures weight { later_weight waiting.new.items + (weight result.items + length result.items) ≡ later_weight waiting.old.items }
+    ensures weight { later_weight waiting.new.items + (weight result.items + length result.items)
+        ≡ later_weight waiting.old.items }
 {
     let place = base as usize;
     if waiting.len() <= place {
@@ -107,7 +110,8 @@ fn release(alloc: Global, waiting: &mut Vec<Vec<Rule>>, base: u32) -> Vec<Rule>
 /// Takes the data types that are in from the end, up to one that is not.
 fn next_missing(table: &[bool], needs: &mut Vec<u32>) -> Option<u32>
     ensures out { IfSome result (λ d. marked table.now d ≡ false) }
-    ensures same { (p : ℕ → Bool) → Within (marked table.now) p → all_in p needs.old.items ≡ all_in_from p result needs.new.items }
+    ensures same { (p : ℕ → Bool) → Within (marked table.now) p →
+        all_in p needs.old.items ≡ all_in_from p result needs.new.items }
     ensures fewer { IfSome result (λ d. length needs.new.items < length needs.old.items) }
 {
     while let Some(base) = needs.pop() {
@@ -120,8 +124,10 @@ fn next_missing(table: &[bool], needs: &mut Vec<u32>) -> Option<u32>
 
 /// A rule waits, or its data type goes in, and the rules that waited for this are to be looked at.
 fn look_at(alloc: Global, least: &mut Least, rule: Rule) -> Result<Vec<Rule>, Memory>
-    ensures leads { IfOk result (λ next. (rest : list Rule) → Leads (rest ++ rule ∷ []) least.old (rest ++ next.items) least.new) }
-    ensures lighter { IfOk result (λ next. weight next.items + later_weight least.new.waiting.items < rule_weight rule + later_weight least.old.waiting.items) }
+    ensures leads { IfOk result (λ next. (rest : list Rule) →
+        Leads (rest ++ rule ∷ []) least.old (rest ++ next.items) least.new) }
+    ensures lighter { IfOk result (λ next. weight next.items + later_weight least.new.waiting.items
+        < rule_weight rule + later_weight least.old.waiting.items) }
 {
     let Rule { gives, mut needs } = rule;
     match next_missing(least.table.as_slice(), &mut needs) {

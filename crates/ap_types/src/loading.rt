@@ -45,7 +45,8 @@ fn add(nodes: &mut Vec<Node>, node: Node) -> Result<usize, Memory>
 fn load(nodes: &mut Vec<Node>, t: &Shape) -> Result<usize, Memory>
     requires formed { AreFormed (table_of nodes.old.items) }
     requires bound { bound_of (shape_of t.now) ≤ length nodes.old.items }
-    ensures { IfOk result (λ x. Loads (table_of nodes.old.items) (shape_of t.now) (table_of nodes.new.items) x) }
+    ensures { IfOk result (λ x. Loads (table_of nodes.old.items) (shape_of t.now)
+        (table_of nodes.new.items) x) }
 {
     match t {
         Shape::Hole(x) => Ok(*x as usize),
@@ -75,7 +76,8 @@ fn load_equation(loaded: Loaded, left: &Shape, right: &Shape) -> Result<Loaded, 
     requires left { bound_of (shape_of left.now) ≤ length loaded.nodes.items }
     requires right { bound_of (shape_of right.now) ≤ length loaded.nodes.items }
     requires within { AreWithin (length loaded.nodes.items) loaded.pairs.items }
-    ensures { IfOk result (λ l. LoadsAll (table_of loaded.nodes.items) loaded.pairs.items ((shape_of left.now ≐ shape_of right.now) ∷ []) (table_of l.nodes.items) l.pairs.items) }
+    ensures { IfOk result (λ l. LoadsAll (table_of loaded.nodes.items) loaded.pairs.items ((shape_of left.now ≐ shape_of right.now)
+        ∷ []) (table_of l.nodes.items) l.pairs.items) }
 {
     let Loaded {
         mut nodes,
@@ -92,7 +94,8 @@ pub(crate) fn load_all(loaded: Loaded, equations: &[(Shape, Shape)]) -> Result<L
     requires formed { AreFormed (table_of loaded.nodes.items) }
     requires bound { equations_bound (map equation_of equations.now) ≤ length loaded.nodes.items }
     requires within { AreWithin (length loaded.nodes.items) loaded.pairs.items }
-    ensures { IfOk result (λ l. LoadsAll (table_of loaded.nodes.items) loaded.pairs.items (map equation_of equations.now) (table_of l.nodes.items) l.pairs.items) }
+    ensures { IfOk result (λ l. LoadsAll (table_of loaded.nodes.items) loaded.pairs.items
+        (map equation_of equations.now) (table_of l.nodes.items) l.pairs.items) }
 {
     let mut all = loaded;
     for e in equations {

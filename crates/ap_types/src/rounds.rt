@@ -76,7 +76,8 @@ pub(crate) fn answer_by(question: Question, table: &[bool], t: &Ty) -> bool
 
 /// The data types that must be in for a type to be inhabited.
 fn add_needs(ty: &Ty, needs: &mut Vec<u32>) -> Result<(), Memory>
-    ensures { OnOk result ((p : ℕ → Bool) → all_in p needs.new.items ≡ (all_in p needs.old.items && inhabited_if p (type_of ty.now))) }
+    ensures { OnOk result ((p : ℕ → Bool) →
+        all_in p needs.new.items ≡ (all_in p needs.old.items && inhabited_if p (type_of ty.now))) }
 {
     let mut rest = ty;
     loop {
@@ -97,7 +98,8 @@ fn add_needs(ty: &Ty, needs: &mut Vec<u32>) -> Result<(), Memory>
 
 /// The data types that must be in for each of a constructor's arguments to be inhabited.
 fn needs_of(alloc: Global, args: &[Ty]) -> Result<Vec<u32>, Memory>
-    ensures { IfOk result (λ needs. (p : ℕ → Bool) → all_in p needs.items ≡ all_inhabited p (map type_of args.now)) }
+    ensures { IfOk result (λ needs. (p : ℕ → Bool) →
+        all_in p needs.items ≡ all_inhabited p (map type_of args.now)) }
 {
     let mut needs = Vec::new(alloc);
     for ty in args {
@@ -121,7 +123,8 @@ fn add_holding(
     ty: &Ty,
     rules: &mut Vec<Rule>,
 ) -> Result<(), Memory>
-    ensures { OnOk result (Adds rules.old.items rules.new.items (λ p. holds_if sort p (type_of ty.now)) gives) }
+    ensures { OnOk result (Adds rules.old.items rules.new.items
+        (λ p. holds_if sort p (type_of ty.now)) gives) }
 {
     match ty {
         Ty::Unit => Ok(()),
@@ -143,7 +146,8 @@ fn add_holding(
 
 /// The rules by which a data type may hold names of a sort where one of a constructor's arguments may.
 fn holding_rules(alloc: Global, sort: u32, gives: u32, args: &[Ty]) -> Result<Vec<Rule>, Memory>
-    ensures { IfOk result (λ rules. Adds [] rules.items (λ p. some_holds sort p (map type_of args.now)) gives) }
+    ensures { IfOk result (λ rules. Adds [] rules.items (λ p. some_holds sort p
+        (map type_of args.now)) gives) }
 {
     let mut rules = Vec::new(alloc);
     for ty in args {
@@ -158,7 +162,8 @@ fn rules_of(
     question: Question,
     constructor: &Constructor,
 ) -> Result<Vec<Rule>, Memory>
-    ensures { IfOk result (λ rules. Say (test_of question) (constructor_of constructor.now) rules.items) }
+    ensures { IfOk result (λ rules. Say (test_of question) (constructor_of constructor.now)
+        rules.items) }
 {
     let gives = constructor.result;
     match question {
@@ -180,7 +185,8 @@ pub(crate) fn add_constructor(
     least: &mut Least,
     constructor: &Constructor,
 ) -> Result<(), Memory>
-    ensures { OnOk result ((cs : list NominalConstructor) → IsLeastSoFar question cs least.old → IsLeastSoFar question (cs ++ constructor_of constructor.now ∷ []) least.new) }
+    ensures { OnOk result ((cs : list NominalConstructor) → IsLeastSoFar question cs least.old →
+        IsLeastSoFar question (cs ++ constructor_of constructor.now ∷ []) least.new) }
 {
     let rules = rules_of(alloc, question, constructor)?;
     add_rules(alloc, least, rules)
@@ -207,7 +213,8 @@ pub(crate) fn least_table(
     question: Question,
     constructors: &[Constructor],
 ) -> Result<Vec<bool>, Memory>
-    ensures { IfOk result (λ v. IsLeast (test_of question) (map constructor_of constructors.now) (marked v.items)) }
+    ensures { IfOk result (λ v. IsLeast (test_of question) (map constructor_of constructors.now)
+        (marked v.items)) }
 {
     let least = least_of(alloc, question, constructors)?;
     Ok(least.table)

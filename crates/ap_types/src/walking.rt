@@ -43,7 +43,9 @@ fn is_new(marks: &[Mark], x: usize) -> bool
 /// A part of a place that was not left.
 fn waiting_part(nodes: &[Node], marks: &[Mark], x: usize) -> Option<usize>
     requires { x < length nodes.now }
-    ensures { MatchOption result ((c : ℕ) → IsPart (table_of nodes.now) x c → is_left (mark_at marks.now c) ≡ true) (λ c. IsPart (table_of nodes.now) x c × (is_left (mark_at marks.now c) ≡ false)) }
+    ensures { MatchOption result ((c : ℕ) → IsPart (table_of nodes.now) x c →
+        is_left (mark_at marks.now c) ≡ true) (λ c. IsPart (table_of nodes.now) x c
+        × (is_left (mark_at marks.now c) ≡ false)) }
 {
     match nodes[x] {
         Node::Place(y) => {
@@ -109,8 +111,10 @@ fn leave(walk: Walk, x: usize) -> Walk
 /// one stands on the path already where it was entered.
 fn pass(nodes: &[Node], walk: Walk, last: usize) -> Result<Walk, TypesError>
     requires formed { AreFormed (table_of nodes.now) }
-    requires walk { IsWalk (table_of nodes.now) walk.marks.items walk.left (walk.path.items ++ last ∷ []) }
-    ensures ok { IfOk result (λ w. Passes (table_of nodes.now) walk.marks.items (walk.path.items ++ last ∷ []) w.marks.items w.left w.path.items) }
+    requires walk { IsWalk (table_of nodes.now) walk.marks.items walk.left
+        (walk.path.items ++ last ∷ []) }
+    ensures ok { IfOk result (λ w. Passes (table_of nodes.now) walk.marks.items
+        (walk.path.items ++ last ∷ []) w.marks.items w.left w.path.items) }
     ensures clash { IfErr result (λ e. e ≡ TypesError.Clash → NoneFits (table_of nodes.now)) }
 {
     let marks = walk.marks.as_slice();
@@ -141,7 +145,8 @@ fn explore(nodes: &[Node], walk: Walk, start: usize) -> Result<Walk, TypesError>
     requires within { start < length nodes.now }
     requires walk { IsWalk (table_of nodes.now) walk.marks.items walk.left [] }
     requires path { walk.path.items ≡ [] }
-    ensures left { IfOk result (λ w. HasLeft (table_of nodes.now) walk.marks.items start w.marks.items w.left) }
+    ensures left { IfOk result (λ w. HasLeft (table_of nodes.now) walk.marks.items start
+        w.marks.items w.left) }
     ensures path { IfOk result (λ w. w.path.items ≡ []) }
     ensures clash { IfErr result (λ e. e ≡ TypesError.Clash → NoneFits (table_of nodes.now)) }
 {

@@ -24,7 +24,8 @@ fn reduce_one<'a>(
     p: &FreshFor<'a>,
     conds: &mut Vec<Cond>,
 ) -> Result<bool, Memory>
-    ensures { IfOk result (λ fine. added (reduced (present store.now).bindings (problem_for p.now)) conds.old.items ≡ some_if fine conds.new.items) }
+    ensures { IfOk result (λ fine. added (reduced (present store.now).bindings (problem_for p.now))
+        conds.old.items ≡ some_if fine conds.new.items) }
 {
     match p {
         FreshFor::OfTerm(a, c) => reduce_closure(store, *a, c, conds),
@@ -39,7 +40,8 @@ fn reduce_each<'a>(
     problems: &[FreshFor<'a>],
     conds: &mut Vec<Cond>,
 ) -> Result<bool, Memory>
-    ensures { IfOk result (λ fine. added (reduce_all (present store.now).bindings (map problem_for problems.now)) conds.old.items ≡ some_if fine conds.new.items) }
+    ensures { IfOk result (λ fine. added (reduce_all (present store.now).bindings
+        (map problem_for problems.now)) conds.old.items ≡ some_if fine conds.new.items) }
 {
     'reducing: for i in (0..problems.len()).rev() {
         if !reduce_one(store, &problems[i], conds)? {
@@ -56,7 +58,8 @@ fn reduce_taken<'a>(
     taken: &[Cond],
     conds: &mut Vec<Cond>,
 ) -> Result<bool, Memory>
-    ensures { IfOk result (λ fine. added (reduce_all (present store.now).bindings (map problem_of taken.now)) conds.old.items ≡ some_if fine conds.new.items) }
+    ensures { IfOk result (λ fine. added (reduce_all (present store.now).bindings
+        (map problem_of taken.now)) conds.old.items ≡ some_if fine conds.new.items) }
 {
     'reducing: for i in (0..taken.len()).rev() {
         if !reduce_var(store, taken[i].name, taken[i].var, conds)? {
@@ -73,7 +76,8 @@ fn reduce_met<'a>(
     store: &Store<'a>,
     work: &Work<'a>,
 ) -> Result<Option<Vec<Cond>>, Memory>
-    ensures { IfOk result (λ o. collected (reduce_all (present store.now).bindings (map problem_of work.now.taken.items ++ problems_met work.now)) ≡ items_in o) }
+    ensures { IfOk result (λ o. collected (reduce_all (present store.now).bindings (map problem_of
+        work.now.taken.items ++ problems_met work.now)) ≡ items_in o) }
 {
     let mut conds = Vec::new(alloc);
     if !reduce_each(store, &work.problems, &mut conds)? {
@@ -89,8 +93,12 @@ fn reduce_met<'a>(
 /// Adds the conditions to which the problems that were met reduce, and those that were taken. It
 /// answers false where one is refuted.
 pub fn finish<'a>(alloc: Global, store: &mut Store<'a>, work: &Work<'a>) -> Result<bool, Memory>
-    requires { (cs : Conds) → collected (reduce_all (present store.old).bindings (map problem_of work.now.taken.items ++ problems_met work.now)) ≡ Some cs → AreOnUnbound (present store.old) cs }
-    ensures conditions { IfOk result (λ fine. with_kept (present store.old).conditions (reduce_all (present store.old).bindings (map problem_of work.now.taken.items ++ problems_met work.now)) ≡ some_if fine (present store.new).conditions) }
+    requires { (cs : Conds) →
+        collected (reduce_all (present store.old).bindings (map problem_of work.now.taken.items
+        ++ problems_met work.now)) ≡ Some cs → AreOnUnbound (present store.old) cs }
+    ensures conditions { IfOk result (λ fine. with_kept (present store.old).conditions (reduce_all
+        (present store.old).bindings (map problem_of work.now.taken.items ++ problems_met work.now))
+        ≡ some_if fine (present store.new).conditions) }
     ensures bindings { (present store.new).bindings ≡ (present store.old).bindings }
     ensures next { (present store.new).next ≡ (present store.old).next }
     ensures past { GoesOn (versions store.old) (versions store.new) }

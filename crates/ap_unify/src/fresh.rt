@@ -33,7 +33,8 @@ pub fn make_fresh<'a>(
 ) -> Result<bool, Memory>
     requires name { a.num < (present store.old).next }
     requires term { IsBelow (present store.old).next (closure_term t.now) }
-    ensures defined { IfOk result (λ fresh. IsReduced (reduce a (under (present store.old).bindings (closure_term t.now))) (present store.old) fresh (present store.new)) }
+    ensures defined { IfOk result (λ fresh. IsReduced (reduce a (under (present store.old).bindings
+        (closure_term t.now))) (present store.old) fresh (present store.new)) }
     ensures past { GoesOn (versions store.old) (versions store.new) }
     ensures kinds { kinds store.new ≡ kinds store.old }
     ensures failed { IfOk result (λ fresh. fresh ≡ false → IsUnchanged store.old store.new) }
@@ -61,7 +62,8 @@ pub fn make_fresh_for_each<'a>(
 ) -> Result<bool, Memory>
     requires name { a.num < (present store.old).next }
     requires vars { AreVarsBelow (present store.old).next vars.now }
-    ensures defined { IfOk result (λ fresh. IsReduced (reduce_all (present store.old).bindings (fresh_for_each a vars.now)) (present store.old) fresh (present store.new)) }
+    ensures defined { IfOk result (λ fresh. IsReduced (reduce_all (present store.old).bindings
+        (fresh_for_each a vars.now)) (present store.old) fresh (present store.new)) }
     ensures past { GoesOn (versions store.old) (versions store.new) }
     ensures kinds { kinds store.new ≡ kinds store.old }
     ensures failed { IfOk result (λ fresh. fresh ≡ false → IsUnchanged store.old store.new) }

@@ -98,8 +98,11 @@ fn bind_to<'a>(
     requires swaps { AreSwapsBelow (present store.now).next p.now }
     requires below { IsBelow (present store.now).next (closure_term c) }
     requires absent { occurs x (under (present store.now).bindings (closure_term c)) ≡ false }
-    ensures rule { IfOk result (λ m. move_under (present store.now).bindings m ≡ bind x (act_term (inverse p.now) (under (present store.now).bindings (closure_term c.entry)))) }
-    ensures fit { IfOk result (λ m. IsMoveFit (present store.now).bindings (present store.now).next m) }
+    ensures rule { IfOk result (λ m. move_under (present store.now).bindings m
+        ≡ bind x (act_term (inverse p.now) (under (present store.now).bindings
+        (closure_term c.entry)))) }
+    ensures fit { IfOk result (λ m. IsMoveFit (present store.now).bindings (present store.now).next
+        m) }
 {
     let moved = moved_back(alloc, p, c)?;
     Ok(Move::Bind(x, moved))
@@ -117,8 +120,11 @@ fn bind_unless_occurs<'a>(
     requires unbound { IsUnbound (present store.now).bindings x }
     requires swaps { AreSwapsBelow (present store.now).next p.now }
     requires below { IsBelow (present store.now).next (closure_term c) }
-    ensures rule { IfOk result (λ m. move_under (present store.now).bindings m ≡ unless_occurs x (under (present store.now).bindings (closure_term c.entry)) (act_term (inverse p.now) (under (present store.now).bindings (closure_term c.entry)))) }
-    ensures fit { IfOk result (λ m. IsMoveFit (present store.now).bindings (present store.now).next m) }
+    ensures rule { IfOk result (λ m. move_under (present store.now).bindings m
+        ≡ unless_occurs x (under (present store.now).bindings (closure_term c.entry)) (act_term
+        (inverse p.now) (under (present store.now).bindings (closure_term c.entry)))) }
+    ensures fit { IfOk result (λ m. IsMoveFit (present store.now).bindings (present store.now).next
+        m) }
 {
     if store.occurs(x, &c) {
         return Ok(Move::Clash);
@@ -148,8 +154,10 @@ fn suspensions<'a>(
     requires right_made { y.num < (present store.now).next }
     requires left_below { IsBelow (present store.now).next (closure_term left) }
     requires right_below { IsBelow (present store.now).next (closure_term right) }
-    ensures rule { IfOk result (λ m. move_under (present store.now).bindings m ≡ rule (susp p.now x) (susp q.now y)) }
-    ensures fit { IfOk result (λ m. IsMoveFit (present store.now).bindings (present store.now).next m) }
+    ensures rule { IfOk result (λ m. move_under (present store.now).bindings m
+        ≡ rule (susp p.now x) (susp q.now y)) }
+    ensures fit { IfOk result (λ m. IsMoveFit (present store.now).bindings (present store.now).next
+        m) }
 {
     if x.num == y.num {
         let names = differing(alloc, p, q)?;
@@ -172,10 +180,16 @@ fn exchanged<'a>(
     b: Name,
     u: Closure<'a>,
 ) -> Result<Move<'a>, Memory>
-    requires left { (a.num < (present store.now).next) × IsBelow (present store.now).next (closure_term t) }
-    requires right { (b.num < (present store.now).next) × IsBelow (present store.now).next (closure_term u) }
-    ensures rule { IfOk result (λ m. move_under (present store.now).bindings m ≡ replace ((under (present store.now).bindings (closure_term t.entry) ≐ act_term (swap_of a b ∷ []) (under (present store.now).bindings (closure_term u.entry))) ∷ []) ((a # under (present store.now).bindings (closure_term u.entry)) ∷ [])) }
-    ensures fit { IfOk result (λ m. IsMoveFit (present store.now).bindings (present store.now).next m) }
+    requires left { (a.num < (present store.now).next)
+        × IsBelow (present store.now).next (closure_term t) }
+    requires right { (b.num < (present store.now).next)
+        × IsBelow (present store.now).next (closure_term u) }
+    ensures rule { IfOk result (λ m. move_under (present store.now).bindings m
+        ≡ replace ((under (present store.now).bindings (closure_term t.entry) ≐ act_term
+        (swap_of a b ∷ []) (under (present store.now).bindings (closure_term u.entry))) ∷ []) ((a #
+        under (present store.now).bindings (closure_term u.entry)) ∷ [])) }
+    ensures fit { IfOk result (λ m. IsMoveFit (present store.now).bindings (present store.now).next
+        m) }
 {
     let swap = [Swap {
         sort: a.sort,
@@ -197,10 +211,15 @@ fn abstractions<'a>(
     b: Name,
     u: Closure<'a>,
 ) -> Result<Move<'a>, Memory>
-    requires left { (a.num < (present store.now).next) × IsBelow (present store.now).next (closure_term t) }
-    requires right { (b.num < (present store.now).next) × IsBelow (present store.now).next (closure_term u) }
-    ensures rule { IfOk result (λ m. move_under (present store.now).bindings m ≡ rule (abs a (under (present store.now).bindings (closure_term t.entry))) (abs b (under (present store.now).bindings (closure_term u.entry)))) }
-    ensures fit { IfOk result (λ m. IsMoveFit (present store.now).bindings (present store.now).next m) }
+    requires left { (a.num < (present store.now).next)
+        × IsBelow (present store.now).next (closure_term t) }
+    requires right { (b.num < (present store.now).next)
+        × IsBelow (present store.now).next (closure_term u) }
+    ensures rule { IfOk result (λ m. move_under (present store.now).bindings m
+        ≡ rule (abs a (under (present store.now).bindings (closure_term t.entry))) (abs b (under
+        (present store.now).bindings (closure_term u.entry)))) }
+    ensures fit { IfOk result (λ m. IsMoveFit (present store.now).bindings (present store.now).next
+        m) }
 {
     if a == b {
         Ok(Move::One(ClosurePair { left: t, right: u }))
@@ -223,8 +242,11 @@ fn rule_for_opened<'a>(
     requires right_form { HasForm (opened_term right) }
     requires left_below { IsBelow (present store.now).next (opened_term left) }
     requires right_below { IsBelow (present store.now).next (opened_term right) }
-    ensures rule { IfOk result (λ m. move_under (present store.now).bindings m ≡ rule (opened_under (present store.now).bindings left.entry) (opened_under (present store.now).bindings right.entry)) }
-    ensures fit { IfOk result (λ m. IsMoveFit (present store.now).bindings (present store.now).next m) }
+    ensures rule { IfOk result (λ m. move_under (present store.now).bindings m
+        ≡ rule (opened_under (present store.now).bindings left.entry) (opened_under
+        (present store.now).bindings right.entry)) }
+    ensures fit { IfOk result (λ m. IsMoveFit (present store.now).bindings (present store.now).next
+        m) }
 {
     match (left, right) {
         (Opened::Unit, Opened::Unit) => Ok(Move::Done),
@@ -264,8 +286,11 @@ fn rule_for_parts<'a>(
     requires right_form { HasForm (closure_term right) }
     requires left_below { IsBelow (present store.now).next (closure_term left) }
     requires right_below { IsBelow (present store.now).next (closure_term right) }
-    ensures rule { IfOk result (λ m. move_under (present store.now).bindings m ≡ rule (under (present store.now).bindings (closure_term left.entry)) (under (present store.now).bindings (closure_term right.entry))) }
-    ensures fit { IfOk result (λ m. IsMoveFit (present store.now).bindings (present store.now).next m) }
+    ensures rule { IfOk result (λ m. move_under (present store.now).bindings m
+        ≡ rule (under (present store.now).bindings (closure_term left.entry)) (under
+        (present store.now).bindings (closure_term right.entry))) }
+    ensures fit { IfOk result (λ m. IsMoveFit (present store.now).bindings (present store.now).next
+        m) }
 {
     let opened_left = left.open(alloc)?;
     let opened_right = right.open(alloc)?;
@@ -285,9 +310,14 @@ fn rule_for_one<'a>(
     requires swaps { AreSwapsBelow (present store.now).next s.now.swaps.items }
     requires form { HasForm (closure_term c) }
     requires below { IsBelow (present store.now).next (closure_term c) }
-    ensures left { IfOk result (λ m. move_under (present store.now).bindings m ≡ rule (susp s.now.swaps.items s.now.var) (under (present store.now).bindings (closure_term c.entry))) }
-    ensures right { IfOk result (λ m. move_under (present store.now).bindings m ≡ rule (under (present store.now).bindings (closure_term c.entry)) (susp s.now.swaps.items s.now.var)) }
-    ensures fit { IfOk result (λ m. IsMoveFit (present store.now).bindings (present store.now).next m) }
+    ensures left { IfOk result (λ m. move_under (present store.now).bindings m
+        ≡ rule (susp s.now.swaps.items s.now.var) (under (present store.now).bindings
+        (closure_term c.entry))) }
+    ensures right { IfOk result (λ m. move_under (present store.now).bindings m
+        ≡ rule (under (present store.now).bindings (closure_term c.entry))
+        (susp s.now.swaps.items s.now.var)) }
+    ensures fit { IfOk result (λ m. IsMoveFit (present store.now).bindings (present store.now).next
+        m) }
 {
     bind_unless_occurs(alloc, store, &s.swaps, s.var, c)
 }
@@ -303,8 +333,11 @@ pub fn rule_for<'a>(
     requires right_unbound { IsHeadUnbound (present store.now).bindings (closure_term right) }
     requires left_below { IsBelow (present store.now).next (closure_term left) }
     requires right_below { IsBelow (present store.now).next (closure_term right) }
-    ensures rule { IfOk result (λ m. move_under (present store.now).bindings m ≡ rule (under (present store.now).bindings (closure_term left.entry)) (under (present store.now).bindings (closure_term right.entry))) }
-    ensures fit { IfOk result (λ m. IsMoveFit (present store.now).bindings (present store.now).next m) }
+    ensures rule { IfOk result (λ m. move_under (present store.now).bindings m
+        ≡ rule (under (present store.now).bindings (closure_term left.entry)) (under
+        (present store.now).bindings (closure_term right.entry))) }
+    ensures fit { IfOk result (λ m. IsMoveFit (present store.now).bindings (present store.now).next
+        m) }
 {
     let on_left = suspension_of(alloc, &left)?;
     let on_right = suspension_of(alloc, &right)?;

@@ -27,7 +27,8 @@ pub fn reduce_closure<'a>(
     c: &Closure<'_>,
     conds: &mut Vec<Cond>,
 ) -> Result<bool, Memory>
-    ensures { IfOk result (λ fine. added (reduce a (under (present store.now).bindings (closure_term c.now))) conds.old.items ≡ some_if fine conds.new.items) }
+    ensures { IfOk result (λ fine. added (reduce a (under (present store.now).bindings
+        (closure_term c.now))) conds.old.items ≡ some_if fine conds.new.items) }
 {
     match add_reduced(a, c, store, conds) {
         Ok(()) => Ok(true),
@@ -45,7 +46,8 @@ pub fn reduce_var<'a>(
     x: Var,
     conds: &mut Vec<Cond>,
 ) -> Result<bool, Memory>
-    ensures { IfOk result (λ fine. added (reduce a (under (present store.now).bindings (susp [] x))) conds.old.items ≡ some_if fine conds.new.items) }
+    ensures { IfOk result (λ fine. added (reduce a (under (present store.now).bindings (susp [] x)))
+        conds.old.items ≡ some_if fine conds.new.items) }
 {
     match add_reduced_var(a, x, store, conds) {
         Ok(()) => Ok(true),
@@ -62,7 +64,8 @@ pub fn reduce_vars<'a>(
     vars: &[Var],
     conds: &mut Vec<Cond>,
 ) -> Result<bool, Memory>
-    ensures { IfOk result (λ fine. added (reduce_all (present store.now).bindings (fresh_for_each a vars.now)) conds.old.items ≡ some_if fine conds.new.items) }
+    ensures { IfOk result (λ fine. added (reduce_all (present store.now).bindings
+        (fresh_for_each a vars.now)) conds.old.items ≡ some_if fine conds.new.items) }
 {
     'reducing: for i in (0..vars.len()).rev() {
         if !reduce_var(store, a, vars[i], conds)? {

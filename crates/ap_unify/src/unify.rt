@@ -25,7 +25,8 @@ fn first_work<'a>(alloc: Global, left: Terms<'a>, right: Terms<'a>) -> Result<Wo
     requires lengths { length left.terms.now ≡ length right.terms.now }
     requires left { AreBelow left.end (terms_in left) }
     requires right { AreBelow right.end (terms_in right) }
-    ensures equations { IfOk result (λ w. equations_left w ≡ paired (terms_in left.entry) (terms_in right.entry)) }
+    ensures equations { IfOk result (λ w. equations_left w
+        ≡ paired (terms_in left.entry) (terms_in right.entry)) }
     ensures problems { IfOk result (λ w. w.problems.items ≡ []) }
     ensures taken { IfOk result (λ w. w.taken.items ≡ []) }
 {
@@ -54,7 +55,9 @@ fn unify_forward<'a>(
     requires right { AreBelow right.end (terms_in right) }
     requires left_made { AreBelow (present store.old).next (terms_in left) }
     requires right_made { AreBelow (present store.old).next (terms_in right) }
-    ensures defined { IfOk result (λ solved. IsResult (unify_lem (present store.old).bindings (present store.old).conditions (terms_in left.entry) (terms_in right.entry)) (present store.old) solved (present store.new)) }
+    ensures defined { IfOk result (λ solved. IsResult (unify_lem (present store.old).bindings
+        (present store.old).conditions (terms_in left.entry) (terms_in right.entry))
+        (present store.old) solved (present store.new)) }
     ensures past { GoesOn (versions store.old) (versions store.new) }
     ensures kinds { kinds store.new ≡ kinds store.old }
 {
@@ -82,9 +85,13 @@ pub fn unify<'a>(
     requires left_made { AreBelow (present store.old).next (terms_in left) }
     requires right_made { AreBelow (present store.old).next (terms_in right) }
     // The answer and the bindings, conditions and next number are those of the rules.
-    ensures defined { IfOk result (λ solved. IsResult (unify_lem (present store.old).bindings (present store.old).conditions (terms_in left.entry) (terms_in right.entry)) (present store.old) solved (present store.new)) }
+    ensures defined { IfOk result (λ solved. IsResult (unify_lem (present store.old).bindings
+        (present store.old).conditions (terms_in left.entry) (terms_in right.entry))
+        (present store.old) solved (present store.new)) }
     // The groundings of the new bindings and conditions are those of the old ones that make the two sides at each place equal.
-    ensures instances { IfOk result (λ solved. (g : Grounding) → solves g (present store.old) (terms_in left.entry) (terms_in right.entry) ≡ (solved && is_of g (present store.new))) }
+    ensures instances { IfOk result (λ solved. (g : Grounding) →
+        solves g (present store.old) (terms_in left.entry) (terms_in right.entry)
+        ≡ (solved && is_of g (present store.new))) }
     ensures past { GoesOn (versions store.old) (versions store.new) }
     ensures kinds { kinds store.new ≡ kinds store.old }
     ensures failed { IfOk result (λ solved. solved ≡ false → IsUnchanged store.old store.new) }

@@ -21,7 +21,8 @@ use std::alloc::Global;
 
 /// Puts an equation in front.
 fn put_equation<'a>(work: &mut Work<'a>, e: ClosurePair<'a>) -> Result<(), Memory>
-    ensures equations { OnOk result (work.new.equations.items ≡ work.old.equations.items ++ e.entry ∷ []) }
+    ensures equations { OnOk result (work.new.equations.items
+        ≡ work.old.equations.items ++ e.entry ∷ []) }
     ensures problems { work.new.problems.items ≡ work.old.problems.items }
     ensures taken { work.new.taken.items ≡ work.old.taken.items }
 {
@@ -35,7 +36,8 @@ fn put_equations<'a>(
     first: ClosurePair<'a>,
     second: ClosurePair<'a>,
 ) -> Result<(), Memory>
-    ensures equations { OnOk result (work.new.equations.items ≡ work.old.equations.items ++ second.entry ∷ first.entry ∷ []) }
+    ensures equations { OnOk result (work.new.equations.items
+        ≡ work.old.equations.items ++ second.entry ∷ first.entry ∷ []) }
     ensures problems { work.new.problems.items ≡ work.old.problems.items }
     ensures taken { work.new.taken.items ≡ work.old.taken.items }
 {
@@ -51,8 +53,10 @@ fn put_exchanged<'a>(
     a: Name,
     body: Closure<'a>,
 ) -> Result<(), Memory>
-    ensures equations { OnOk result (work.new.equations.items ≡ work.old.equations.items ++ e.entry ∷ []) }
-    ensures problems { OnOk result (problems_met work.new ≡ problems_met work.old ++ (a # closure_term body.entry) ∷ []) }
+    ensures equations { OnOk result (work.new.equations.items
+        ≡ work.old.equations.items ++ e.entry ∷ []) }
+    ensures problems { OnOk result (problems_met work.new
+        ≡ problems_met work.old ++ (a # closure_term body.entry) ∷ []) }
     ensures taken { work.new.taken.items ≡ work.old.taken.items }
 {
     work.equations.push(e)?;
@@ -63,7 +67,8 @@ fn put_exchanged<'a>(
 /// Puts the problems behind the others that the names are fresh for a variable.
 fn put_names<'a>(work: &mut Work<'a>, names: &[Name], x: Var) -> Result<(), Memory>
     ensures equations { work.new.equations.items ≡ work.old.equations.items }
-    ensures problems { OnOk result (problems_met work.new ≡ problems_met work.old ++ map (fresh_for x) names.now) }
+    ensures problems { OnOk result (problems_met work.new
+        ≡ problems_met work.old ++ map (fresh_for x) names.now) }
     ensures taken { work.new.taken.items ≡ work.old.taken.items }
 {
     'putting: for a in names {
@@ -85,7 +90,10 @@ fn bind_var<'a>(
     requires unbound { IsUnbound (present store.old).bindings x }
     requires below { IsBelow (present store.old).next (closure_term c) }
     requires absent { occurs x (under (present store.old).bindings (closure_term c)) ≡ false }
-    ensures stage { OnOk result (next (work_stage (present store.new).bindings work.new) ≡ apply_rule (bind x (under (present store.old).bindings (closure_term c.entry))) (map (equation_under (present store.old).bindings) (equations_left work.old)) (map (problem_under (present store.old).bindings) (problems_met work.old)) (present store.old).bindings) }
+    ensures stage { OnOk result (next (work_stage (present store.new).bindings work.new)
+        ≡ apply_rule (bind x (under (present store.old).bindings (closure_term c.entry))) (map
+        (equation_under (present store.old).bindings) (equations_left work.old)) (map (problem_under
+        (present store.old).bindings) (problems_met work.old)) (present store.old).bindings) }
     ensures goes_on { OnOk result (GoOn (present store.old) work.old (present store.new) work.new) }
     ensures past { GoesOn (versions store.old) (versions store.new) }
     ensures kinds { kinds store.new ≡ kinds store.old }
@@ -104,7 +112,11 @@ fn carry_out<'a>(
     m: Move<'a>,
 ) -> Result<bool, Memory>
     requires { IsMoveFit (present store.old).bindings (present store.old).next m }
-    ensures stage { IfOk result (λ goes_on. progress_if goes_on (work_stage (present store.new).bindings work.new) ≡ apply_rule (move_under (present store.old).bindings m.entry) (map (equation_under (present store.old).bindings) (equations_left work.old)) (map (problem_under (present store.old).bindings) (problems_met work.old)) (present store.old).bindings) }
+    ensures stage { IfOk result (λ goes_on. progress_if goes_on (work_stage
+        (present store.new).bindings work.new)
+        ≡ apply_rule (move_under (present store.old).bindings m.entry) (map (equation_under
+        (present store.old).bindings) (equations_left work.old)) (map (problem_under
+        (present store.old).bindings) (problems_met work.old)) (present store.old).bindings) }
     ensures goes_on { OnOk result (GoOn (present store.old) work.old (present store.new) work.new) }
     ensures past { GoesOn (versions store.old) (versions store.new) }
     ensures kinds { kinds store.new ≡ kinds store.old }
@@ -138,8 +150,11 @@ fn carry_out<'a>(
 /// The rule for two closures, once bound variables at their heads are followed.
 fn rule_at<'a>(alloc: Global, store: &Store<'a>, e: ClosurePair<'a>) -> Result<Move<'a>, Memory>
     requires { IsPairBelow (present store.now).next e }
-    ensures rule { IfOk result (λ m. move_under (present store.now).bindings m ≡ rule (under (present store.now).bindings (closure_term e.entry.left)) (under (present store.now).bindings (closure_term e.entry.right))) }
-    ensures fit { IfOk result (λ m. IsMoveFit (present store.now).bindings (present store.now).next m) }
+    ensures rule { IfOk result (λ m. move_under (present store.now).bindings m
+        ≡ rule (under (present store.now).bindings (closure_term e.entry.left)) (under
+        (present store.now).bindings (closure_term e.entry.right))) }
+    ensures fit { IfOk result (λ m. IsMoveFit (present store.now).bindings (present store.now).next
+        m) }
 {
     let ClosurePair { left, right } = e;
     let left = store.follow(alloc, left)?;
@@ -151,7 +166,9 @@ fn rule_at<'a>(alloc: Global, store: &Store<'a>, e: ClosurePair<'a>) -> Result<M
 fn advance<'a>(alloc: Global, store: &mut Store<'a>, work: &mut Work<'a>) -> Result<bool, Memory>
     requires some { 0 < vec_len work.old.equations }
     requires below { ArePairsBelow (present store.old).next work.old.equations.items }
-    ensures stage { IfOk result (λ goes_on. progress_if goes_on (work_stage (present store.new).bindings work.new) ≡ step (work_stage (present store.old).bindings work.old)) }
+    ensures stage { IfOk result (λ goes_on. progress_if goes_on (work_stage
+        (present store.new).bindings work.new)
+        ≡ step (work_stage (present store.old).bindings work.old)) }
     ensures goes_on { OnOk result (GoOn (present store.old) work.old (present store.new) work.new) }
     ensures past { GoesOn (versions store.old) (versions store.new) }
     ensures kinds { kinds store.new ≡ kinds store.old }
@@ -166,7 +183,8 @@ fn advance<'a>(alloc: Global, store: &mut Store<'a>, work: &mut Work<'a>) -> Res
 /// Rewrites equations from the first, until none is left or there is no solution.
 pub fn run<'a>(alloc: Global, store: &mut Store<'a>, work: &mut Work<'a>) -> Result<bool, Memory>
     requires { ArePairsBelow (present store.old).next work.old.equations.items }
-    ensures ending { IfOk result (λ solved. ending (work_stage (present store.old).bindings work.old) ≡ ending_if solved (work_stage (present store.new).bindings work.new)) }
+    ensures ending { IfOk result (λ solved. ending (work_stage (present store.old).bindings
+        work.old) ≡ ending_if solved (work_stage (present store.new).bindings work.new)) }
     ensures left { IfOk result (λ solved. solved ≡ true → work.new.equations.items ≡ []) }
     ensures goes_on { OnOk result (GoOn (present store.old) work.old (present store.new) work.new) }
     ensures past { GoesOn (versions store.old) (versions store.new) }

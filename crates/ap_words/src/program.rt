@@ -53,7 +53,8 @@ fn program<'a>(alloc: Global) -> Result<Command<'a>, AllocError>
 /// Whether clap takes the words. It does where they are a command, its required options and others of
 /// its options, each once and with a value.
 pub(crate) fn is_taken(alloc: Global, words: &[String]) -> Result<bool, Memory>
-    ensures { IfOk result (λ taken. takes the_program (map string_bytes words.now) ≡ true → taken ≡ true) }
+    ensures { IfOk result (λ taken. takes the_program (map string_bytes words.now) ≡ true →
+        taken ≡ true) }
 {
     match program(alloc)?.try_get_matches_from(words) {
         Ok(_) => Ok(true),

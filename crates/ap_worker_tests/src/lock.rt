@@ -15,7 +15,8 @@ use std::thread::Threads;
 
 /// A book with two seats.
 fn pair(alloc: Global) -> Result<(SharedBook, Seat, Seat), Memory>
-    ensures { IfOk result (λ r. (r.1.book ≡ book_id r.0) × (r.2.book ≡ book_id r.0) × (seats_of r.0 ≡ 2)) }
+    ensures { IfOk result (λ r. (r.1.book ≡ book_id r.0) × (r.2.book ≡ book_id r.0)
+        × (seats_of r.0 ≡ 2)) }
 {
     let (book, mut seats) = SharedBook::make(alloc, 2, Limit::All)?;
     let Some(second) = seats.pop() else {
@@ -274,7 +275,8 @@ fn run_all<R: Threads + Wait + Sync>(
 
 /// A book with one seat and four more.
 fn five(alloc: Global) -> Result<(SharedBook, Seat, Vec<Seat>), Memory>
-    ensures { IfOk result (λ r. (r.1.book ≡ book_id r.0) × All (λ s. s.book ≡ book_id r.0) r.2.items × (vec_len r.2 ≡ 4) × (seats_of r.0 ≡ 5)) }
+    ensures { IfOk result (λ r. (r.1.book ≡ book_id r.0) × All (λ s. s.book ≡ book_id r.0) r.2.items
+        × (vec_len r.2 ≡ 4) × (seats_of r.0 ≡ 5)) }
 {
     let (book, mut seats) = SharedBook::make(alloc, 5, Limit::All)?;
     let Some(own) = seats.pop() else {
