@@ -3,3 +3,4 @@ pub mod Whole
 pub mod Sent
 pub mod Sole
 pub mod Fresh
+pub mod Accounting

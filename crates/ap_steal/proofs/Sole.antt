@@ -139,7 +139,7 @@ nothing_between old turn is by =
     let nil = same_front (places_of n old.seen) (places_from (0 + length old.seen) n rest) all in
     begins ∙ ap (λ l. old.seen ++ l) (none_left (0 + length old.seen) n rest parts.1 nil) ∙ append-nil old.seen
 
-quiet_front : (turn : List Entry) (es : List Entry) → has_stop (entries_of (turn ++ es)) ≡ false → has_stop (entries_of turn) ≡ false
+pub quiet_front : (turn : List Entry) (es : List Entry) → has_stop (entries_of (turn ++ es)) ≡ false → has_stop (entries_of turn) ≡ false
 quiet_front turn es q = (either_false (has_stop (entries_of turn)) (has_stop (entries_of es)) (sym (has_stop-append (entries_of turn) (entries_of es)) ∙ ap has_stop (sym (entries_of-append turn es)) ∙ q)).0
 
 -- a turn that enters nothing

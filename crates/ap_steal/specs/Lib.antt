@@ -1,3 +1,4 @@
 pub mod Planned
 pub mod Order
 pub mod Hands
+pub mod Accounts

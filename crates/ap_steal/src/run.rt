@@ -45,7 +45,13 @@ pub fn run_all<W: Shape + Send, R: Threads + Wait + Sync, T: Tree, G: Gate>(
             requires { (T.choices tree.now ≡ W.choices) × IsNew (book_id book.now) job.seat }
             ensures { Ended (T.choices tree.entry.now) (T.plan tree.entry.now)
                 (limit_of book.entry.now) (book_id book.entry.now) result }
-        { work(rt, alloc, tree, gate, book, job) },
+        {
+            let Job {
+                seat,
+                tools: _tools,
+            } = work(rt, alloc, tree, gate, book, job);
+            seat
+        },
     )?;
     Ok(seats)
 }

@@ -47,7 +47,10 @@ fn search_alone<W: Shape, R: Wait, T: Tree, G: Gate>(
     let Some(seat) = seats.pop() else {
         unreachable!()
     };
-    let seat = work(rt, alloc, tree, gate, &book, Job { seat, tools });
+    let Job {
+        seat,
+        tools: _tools,
+    } = work(rt, alloc, tree, gate, &book, Job { seat, tools });
     seats.push(seat)?;
     finish(alloc, tree, book, seats)
 }

@@ -1,6 +1,6 @@
 //! One path of a worker.
 
-ghost use Rattle.std.specs.Prelude.{◌≡◌, ℕ, true, ◌∷◌, if◌then◌else◌, List as list, IfOk};
+ghost use Rattle.std.specs.Prelude.{◌≡◌, ℕ, true, [], ◌∷◌, if◌then◌else◌, List as list, IfOk};
 ghost use Rattle.ap_paths.specs.declared.entries.Entry.{Entry};
 ghost use Rattle.ap_paths.specs.declared.entries.Entry.TheVariants.{Split, Done};
 ghost use Rattle.ap_defs.specs.Answers.{outs_of};
@@ -10,6 +10,7 @@ ghost use Rattle.ap_book.specs.Answers.{Enters, EntersDone, Skips};
 ghost use Rattle.ap_lock.specs.Seats.{book_id, limit_of, SameSeat, IsTurn};
 ghost use Rattle.ap_steal.specs.Planned.{OwnPlanned, AreChoices};
 ghost use Rattle.ap_steal.specs.Order.{IsSole};
+ghost use Rattle.ap_steal.specs.Accounts.{Ends, NoneLost};
 
 use crate::tools::Tools;
 use ap_book::{BookError, DoneError, SkipError};
@@ -114,6 +115,8 @@ fn is_needed<R: Wait, T: Tree>(
         IsSole (path.now ∷ hand) seat.old.number seat.old.seen →
         IfOk result (λ b. IsSole (if b then path.now ∷ hand else hand) seat.new.number
         seat.new.seen) }
+    ensures ended { IfOk result (λ b. Ends seat.old.number seat.old.seen
+        (if b then [] else path.now ∷ []) seat.new.seen) }
 {
     match skip_planned(rt, tree, book, seat, path) {
         Ok(()) => Ok(false),
@@ -158,6 +161,8 @@ fn run_kids<W: Shape, R: Wait, T: Tree>(
     ensures order { tools.old.alone ≡ true →
         IsSole (path.now ∷ tools.old.hand.items) seat.old.number seat.old.seen →
         IfOk result (λ _. IsSole tools.new.hand.items seat.new.number seat.new.seen) }
+    ensures held { IfOk result (λ _. NoneLost seat.old.number seat.old.seen tools.old
+        (path.now ∷ []) seat.new.seen tools.new) }
 {
     match split_planned(rt, alloc, tree, book, seat, path.path(), given) {
         Ok(()) => tools.take_kids(alloc, path, given),
@@ -186,6 +191,8 @@ fn run_outs<R: Wait, T: Tree>(
     ensures order { (hand : list (list ℕ)) →
         IsSole (path.now ∷ hand) seat.old.number seat.old.seen →
         IfOk result (λ _. IsSole hand seat.new.number seat.new.seen) }
+    ensures ended { IfOk result (λ _. Ends seat.old.number seat.old.seen (path.now ∷ [])
+        seat.new.seen) }
 {
     match done_planned(rt, tree, book, seat, path, given.into_vec()) {
         Ok(()) => Ok(()),
@@ -217,6 +224,8 @@ fn visit_path<W: Shape, R: Wait, T: Tree>(
     ensures order { tools.old.alone ≡ true →
         IsSole (path.now ∷ tools.old.hand.items) seat.old.number seat.old.seen →
         IfOk result (λ _. IsSole tools.new.hand.items seat.new.number seat.new.seen) }
+    ensures held { IfOk result (λ _. NoneLost seat.old.number seat.old.seen tools.old
+        (path.now ∷ []) seat.new.seen tools.new) }
 {
     match visit_planned(alloc, tree, path.path()) {
         Ok(Visit::Kids(list)) => run_kids(rt, alloc, tree, book, seat, tools, path, list.items()),
@@ -225,7 +234,8 @@ fn visit_path<W: Shape, R: Wait, T: Tree>(
     }
 }
 
-/// Runs a path. Where a limit is set, it is left out if as many answers have ended before it.
+/// Runs a path. Where a limit is set, it is left out if as many answers have ended before it. So an
+/// entry of the seat ends it, unless it was not open, and its kids are in the hand or the deque.
 pub fn run_path<W: Shape, R: Wait, T: Tree>(
     rt: &R,
     alloc: Global,
@@ -246,6 +256,8 @@ pub fn run_path<W: Shape, R: Wait, T: Tree>(
     ensures order { tools.old.alone ≡ true →
         IsSole (path.now ∷ tools.old.hand.items) seat.old.number seat.old.seen →
         IfOk result (λ _. IsSole tools.new.hand.items seat.new.number seat.new.seen) }
+    ensures held { IfOk result (λ _. NoneLost seat.old.number seat.old.seen tools.old
+        (path.now ∷ []) seat.new.seen tools.new) }
 {
     if !book.has_limit() {
         return visit_path(rt, alloc, tree, book, seat, tools, path);

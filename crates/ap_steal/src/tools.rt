@@ -1,11 +1,12 @@
 //! What a worker keeps: a hand of paths, a deque of its own, and thieves of the others' deques.
 
-ghost use Rattle.std.specs.Prelude.{◌≡◌, ℕ, ◌+◌, true, None, List as list, [], ◌∷◌, ◌++◌, IfOk};
+ghost use Rattle.std.specs.Prelude.{◌≡◌, ℕ, ◌+◌, true, None, List as list, [], ◌∷◌, ◌++◌, IfOk, MatchOption};
 ghost use Rattle.ap_paths.specs.Weights.{weigh};
 ghost use Rattle.ap_paths.specs.History.{kids_of};
 ghost use Rattle.ap_steal.specs.Planned.{AreChoices};
 ghost use Rattle.ap_steal.specs.Order.{KeepsWho, TookFirst};
 ghost use Rattle.ap_steal.specs.Hands.{held};
+ghost use Rattle.ap_steal.specs.Accounts.{fetched, Took};
 
 use ap_defs::memory::Memory;
 use ap_tasks::{Owner, Placed, Shape, Stolen, Thief};
@@ -28,11 +29,13 @@ pub struct Tools<W: Shape> {
 }
 
 impl<W: Shape> Tools<W> {
-    /// A path to run: from the hand, the own deque, or another's.
+    /// A path to run: from the hand, the own deque, or another's. No other path leaves them.
     pub fn next(&mut self) -> Option<Placed<W>>
         ensures kept { KeepsWho self.old self.new }
         ensures first { TookFirst self.old result self.new }
         ensures none { result ≡ None → self.old.hand.items ≡ [] }
+        ensures took { MatchOption result (Took self.old [] self.new) (λ p.
+            Took self.old (p ∷ []) self.new) }
     {
         match self.hand.pop_front() {
             Some(path) => Some(path),
@@ -45,6 +48,8 @@ impl<W: Shape> Tools<W> {
         ensures kept { KeepsWho self.old self.new }
         ensures none { self.old.alone ≡ true →
             (result ≡ None) × (self.new.hand.items ≡ self.old.hand.items) }
+        ensures took { MatchOption result (Took self.old [] self.new) (λ p.
+            Took self.old (p ∷ []) self.new) }
     {
         if self.alone {
             return None;
@@ -58,6 +63,8 @@ impl<W: Shape> Tools<W> {
     /// A path of another worker. Each thief tries once, in turn.
     fn rob(&mut self) -> Option<Placed<W>>
         ensures kept { KeepsWho self.old self.new }
+        ensures took { MatchOption result (Took self.old [] self.new) (λ p.
+            Took self.old (p ∷ []) self.new) }
     {
         for _ in 0..self.others.len() {
             if let Some(path) = self.rob_next() {
@@ -70,6 +77,8 @@ impl<W: Shape> Tools<W> {
     /// One try of the next thief.
     fn rob_next(&mut self) -> Option<Placed<W>>
         ensures kept { KeepsWho self.old self.new }
+        ensures took { MatchOption result (Took self.old [] self.new) (λ p.
+            Took self.old (p ∷ []) self.new) }
     {
         let next = self.at.saturating_add(1);
         let at = if next < self.others.len() { next } else { 0 };
@@ -94,6 +103,7 @@ impl<W: Shape> Tools<W> {
         ensures held { (h : list ℕ → ℕ) →
             IfOk result (λ _. held h self.new
             ≡ weigh h (kids_of path.now kids.now) + held h self.old) }
+        ensures fetched { (h : list ℕ → ℕ) → fetched h self.new ≡ fetched h self.old }
     {
         for i in 0..kids.len() {
             let kid = path.child(alloc, kids[kids.len() - 1 - i])?;
@@ -109,6 +119,7 @@ impl<W: Shape> Tools<W> {
             IfOk result (λ _. self.new.hand.items ≡ path ∷ self.old.hand.items) }
         ensures held { (h : list ℕ → ℕ) →
             IfOk result (λ _. held h self.new ≡ h path + held h self.old) }
+        ensures fetched { (h : list ℕ → ℕ) → fetched h self.new ≡ fetched h self.old }
     {
         if stays || self.alone {
             self.hand.push_front(path)?;

@@ -1,11 +1,12 @@
 //! A worker.
 
-ghost use Rattle.std.specs.Prelude.{◌≡◌, ℕ, true, ◌∷◌, List as list};
+ghost use Rattle.std.specs.Prelude.{◌≡◌, ℕ, true, false, [], ◌∷◌, List as list};
 ghost use Rattle.ap_paths.specs.Entries.{entries_of};
 ghost use Rattle.ap_paths.specs.History.{has_stop};
 ghost use Rattle.ap_lock.specs.Seats.{book_id, limit_of, SameSeat};
 ghost use Rattle.ap_steal.specs.Planned.{OwnPlanned, IsOver};
 ghost use Rattle.ap_steal.specs.Order.{IsSole, IsOrdered};
+ghost use Rattle.ap_steal.specs.Accounts.{Ends, NoneLost};
 
 use crate::jobs::Job;
 use crate::step::run_path;
@@ -34,6 +35,7 @@ fn is_over<R: Wait, T: Tree>(rt: &R, tree: &T, book: &SharedBook, seat: &mut Sea
     ensures over { result ≡ true → IsOver seat.new.seen }
     ensures order { (hand : list (list ℕ)) → IsSole hand seat.old.number seat.old.seen →
         IsSole hand seat.new.number seat.new.seen }
+    ensures ended { Ends seat.old.number seat.old.seen [] seat.new.seen }
 {
     let _tree = tree;
     match book.status(rt, seat) {
@@ -78,6 +80,8 @@ fn run_or_stop<W: Shape, R: Wait, T: Tree>(
     ensures order { tools.old.alone ≡ true →
         IsSole (path.now ∷ tools.old.hand.items) seat.old.number seat.old.seen →
         IsSole tools.new.hand.items seat.new.number seat.new.seen }
+    ensures held { has_stop (entries_of seat.new.seen) ≡ false →
+        NoneLost seat.old.number seat.old.seen tools.old (path.now ∷ []) seat.new.seen tools.new }
 {
     match run_path(rt, alloc, tree, book, seat, tools, path) {
         Ok(()) => true,
@@ -109,6 +113,8 @@ fn run_next<W: Shape, R: Wait, T: Tree, G: Gate>(
     ensures order { tools.old.alone ≡ true →
         IsSole tools.old.hand.items seat.old.number seat.old.seen →
         IsSole tools.new.hand.items seat.new.number seat.new.seen }
+    ensures held { has_stop (entries_of seat.new.seen) ≡ false →
+        NoneLost seat.old.number seat.old.seen tools.old [] seat.new.seen tools.new }
 {
     match tools.next() {
         Some(path) => {
@@ -143,6 +149,8 @@ fn go_on<W: Shape, R: Wait, T: Tree, G: Gate>(
     ensures order { tools.old.alone ≡ true →
         IsSole tools.old.hand.items seat.old.number seat.old.seen →
         IsSole tools.new.hand.items seat.new.number seat.new.seen }
+    ensures held { has_stop (entries_of seat.new.seen) ≡ false →
+        NoneLost seat.old.number seat.old.seen tools.old [] seat.new.seen tools.new }
 {
     if run_next(rt, alloc, tree, gate, book, seat, tools) {
         if tools.count % LOOKS != 0 {
@@ -158,7 +166,7 @@ fn go_on<W: Shape, R: Wait, T: Tree, G: Gate>(
 }
 
 /// Runs paths until the worker's own turn finds that the search is over. Where memory is wanting, it
-/// enters a Stop first.
+/// enters a Stop first. It leaves its seat, and its tools with what is in them.
 pub fn work<W: Shape, R: Wait, T: Tree, G: Gate>(
     rt: &R,
     alloc: Global,
@@ -166,18 +174,20 @@ pub fn work<W: Shape, R: Wait, T: Tree, G: Gate>(
     gate: &G,
     book: &SharedBook,
     job: Job<W>,
-) -> Seat
+) -> Job<W>
     requires book { job.seat.book ≡ book_id book.now }
     requires shape { T.choices tree.now ≡ W.choices }
     requires own { OwnPlanned (T.choices tree.now) (T.plan tree.now) (limit_of book.now)
         job.seat.number job.seat.seen }
-    ensures same { SameSeat job.seat result }
+    ensures same { SameSeat job.seat result.seat }
     ensures own { OwnPlanned (T.choices tree.now) (T.plan tree.now) (limit_of book.now)
-        result.number result.seen }
-    ensures over { IsOver result.seen }
+        result.seat.number result.seat.seen }
+    ensures over { IsOver result.seat.seen }
     ensures order { job.tools.alone ≡ true →
         IsSole job.tools.hand.items job.seat.number job.seat.seen →
-        IsOrdered result.number result.seen }
+        IsOrdered result.seat.number result.seat.seen }
+    ensures held { has_stop (entries_of result.seat.seen) ≡ false →
+        NoneLost job.seat.number job.seat.seen job.tools [] result.seat.seen result.tools }
 {
     let Job {
         mut seat,
@@ -186,7 +196,7 @@ pub fn work<W: Shape, R: Wait, T: Tree, G: Gate>(
     let backoff = Backoff::new();
     for _ in rt.forever() {
         if go_on(rt, alloc, tree, gate, book, &mut seat, &mut tools, &backoff) {
-            return seat;
+            return Job { seat, tools };
         }
     }
     unreachable!()

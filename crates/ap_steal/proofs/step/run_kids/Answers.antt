@@ -4,6 +4,7 @@ use Rattle.ap_paths.specs.History.{kids_of}
 use Rattle.ap_book.specs.declared.error.BookError.TheVariants.{NotOpen}
 use Rattle.ap_steal.specs.Order.{IsSole}
 use Rattle.ap_steal.proofs.Sole.{sole_split, sole_not_split, if_ok_map}
+use Rattle.ap_steal.proofs.Accounting.{kids_keep, shut_keeps}
 use Rattle.ap_steal.proofs.step.run_kids.Goals as goal
 
 pub returns-in-Ok-clause-order : goal.returns-in-Ok-clause-order
@@ -28,3 +29,17 @@ returns-in-Err-NotOpen-clause-order g c alone sole =
     let here = subst (λ (x : List ℕ). IsSole (x ∷ hand) seat.number seat.seen) (sym s) sole in
     let not : c.split_planned.result ≡ Err NotOpen = search rules in
     sole_not_split seat new.number t.0 new.seen c.path.result.now (Split seat.number c.path.result.now c.args.given.now) hand c.split_planned.result not c.split_planned.ensures.same.1 t.1 t.2 here
+
+pub returns-in-Ok-clause-held : goal.returns-in-Ok-clause-held
+returns-in-Ok-clause-held g c =
+    let t = c.in-Ok.ensures.turn in
+    let seen = c.split_planned.new.seat.seen in
+    kids_keep c.args.seat.now t.0 seen c.args.path.now c.path.result.now c.args.given.now c.in-Ok.field-0 c.args.tools.now c.take_kids.new.self c.take_kids.result c.path.ensures.same t.1 t.2 c.take_kids.ensures.held c.take_kids.ensures.fetched
+
+pub returns-in-Err-NotOpen-clause-held : goal.returns-in-Err-NotOpen-clause-held
+returns-in-Err-NotOpen-clause-held g c =
+    let t = c.split_planned.ensures.turn in
+    let seat = c.args.seat.now in
+    let q = c.path.result.now in
+    let not : c.split_planned.result ≡ Err NotOpen = search rules in
+    shut_keeps seat t.0 c.split_planned.new.seat.seen c.args.path.now q (Split seat.number q c.args.given.now) c.split_planned.result c.args.tools.now c.path.ensures.same not t.1 t.2

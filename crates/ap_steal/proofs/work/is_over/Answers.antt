@@ -1,5 +1,6 @@
 use Rattle.ap_steal.proofs.Own.{own_seen}
 use Rattle.ap_steal.proofs.Sole.{sole_seen}
+use Rattle.ap_steal.proofs.Accounting.{ends_none}
 use Rattle.ap_steal.proofs.work.is_over.Goals as goal
 
 pub returns-in-Left-clause-own : goal.returns-in-Left-clause-own
@@ -19,3 +20,12 @@ returns-in-Finished-clause-order g c hand = sole_seen c.args.seat.now _ _ hand c
 
 pub returns-in-Stopped-clause-order : goal.returns-in-Stopped-clause-order
 returns-in-Stopped-clause-order g c hand = sole_seen c.args.seat.now _ _ hand c.status.ensures.same.1 c.status.ensures.turn
+
+pub returns-in-Left-clause-ended : goal.returns-in-Left-clause-ended
+returns-in-Left-clause-ended g c = ends_none c.args.seat.now c.status.new.seat.seen c.status.ensures.turn
+
+pub returns-in-Finished-clause-ended : goal.returns-in-Finished-clause-ended
+returns-in-Finished-clause-ended g c = ends_none c.args.seat.now c.status.new.seat.seen c.status.ensures.turn
+
+pub returns-in-Stopped-clause-ended : goal.returns-in-Stopped-clause-ended
+returns-in-Stopped-clause-ended g c = ends_none c.args.seat.now c.status.new.seat.seen c.status.ensures.turn

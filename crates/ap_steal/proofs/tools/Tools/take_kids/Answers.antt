@@ -18,4 +18,5 @@ loop-i-preserved g c =
           ∙ ap (λ l. c.in_ok-kid.kid ∷ l) (v.1 alone)
           ∙ ap (λ l. l ++ c.args.self.now.hand.items) (sym more),
       λ h. kids_held h _ _ c.in_ok-kid.kid _ _ _ more (c.in_ok-put.ensures.held h) (v.2 h),
+      λ h. c.in_ok-put.ensures.fetched h ∙ v.3 h,
     )
