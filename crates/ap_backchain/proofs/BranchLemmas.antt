@@ -20,7 +20,7 @@ use Rattle.ap_search.specs.PathTrees.{choice_at, query_choice, query_choices}
 use Rattle.ap_search.specs.Prefixes.{beginning}
 use Rattle.ap_search.proofs.TreeLemmas.{marked_stack_begins}
 use Rattle.ap_search.proofs.PrefixLemmas.{beginning_deeper, beginning_whole}
-use Rattle.ap_search.proofs.QueryTreeLemmas.{outs_at_marks, place_choice, width_choice}
+use Rattle.ap_search.proofs.QueryTreeLemmas.{outs_at_marks, machine_choice, width_choice}
 use Rattle.ap_backchain.proofs.MarkLemmas.{marks_turned, settled}
 use Rattle.ap_backchain.proofs.TurnLemmas.{turns_turned, written_turned}
 use Rattle.ap_backchain.proofs.UnboundLemmas.{marked_stack_by_unbound, stack_by_unbound}
@@ -28,19 +28,19 @@ use Rattle.ap_backchain.specs.Branches.{IsBranchFor, IsBranchOf, IsChoiceAt, IsC
 use Rattle.ap_backchain.specs.Ends.{kept_out, without_path}
 use Rattle.ap_backchain.specs.declared.run.Paths.TheVariants as paths
 use Rattle.ap_backchain.specs.Marks.{IsSettled, choice_of, choice_of_atom, choices_among, marks_from, marks_of_turned, told_of, written_here}
-use Rattle.ap_backchain.specs.Places.{position_of}
+use Rattle.ap_backchain.specs.Machines.{position_of}
 use Rattle.ap_backchain.specs.Positions.{Position, Turned, ends, goes, outs_from, turned}
-use Rattle.ap_backchain.specs.Problems.{clauses_in, program_in, queries_in}
+use Rattle.ap_backchain.specs.Problems.{clauses_in, program_of_problem, queries_in}
 use Rattle.ap_backchain.specs.Starts.{first_position}
 use Rattle.ap_backchain.specs.Turns.{turns_from, turns_of_turned}
 use Rattle.ap_backchain.specs.Unbound.{answer_by_unbound}
 use Rattle.ap_backchain.specs.declared.branch.Branch.{Branch}
 use Rattle.ap_backchain.specs.declared.standing.Standing.{Standing}
 use Rattle.ap_backchain.specs.declared.standing.Standing.TheVariants as standings
-use Rattle.ap_backchain.specs.declared.place.Place.{Place}
+use Rattle.ap_backchain.specs.declared.machine.Machine.{Machine}
 use Rattle.ap_backchain.specs.declared.problem.Problem.{Problem}
 
--- A turn of a place that doesn't choose.
+-- A turn of a machine that doesn't choose.
 module _ (program : Clauses) (locals : List NominalLocal) (here : Position) (h : choice_of program here.waiting ≡ None) where
   pub ended_marks : (o : NominalOut) → ends o ≡ turned program locals here → out o ∷ [] ≡ marks_from program locals here
   ended_marks o e = ap (marks_of_turned program locals) e ∙ marks_turned program locals here h
@@ -62,7 +62,7 @@ module _ (program : Clauses) (locals : List NominalLocal) (here : Position) (h :
       let k : suc (turns_from program next + 0) ≡ turns_from program here = ap (λ t. suc (turns_of_turned program t)) e ∙ turns_turned program locals here in
       omega arith
 
--- A place that chooses has a mark there.
+-- A machine that chooses has a mark there.
 pub choosing_marks : (program : Clauses) (locals : List NominalLocal) (p : Position) (o : Option Choice) → told_of program p.state p.waiting ≡ o
     → marks_from program locals p ≡ written_here with_choices p.path o ++ marks_of_turned program locals (turned program locals p)
 choosing_marks program locals p o h =
@@ -71,15 +71,15 @@ choosing_marks program locals p o h =
 
 -- The node of a branch is that of the search at its path.
 module _ (program : Clauses) (d : ℕ) (q : NominalQuery) where
-  chooses : (c : Choice) (p : Place) → beginning mark_path p.path.items (map (mark_in q.locals) (marked_query program d q)) ≡ marks_from program q.locals (position_of p)
+  chooses : (c : Choice) (p : Machine) → beginning mark_path p.path.items (map (mark_in q.locals) (marked_query program d q)) ≡ marks_from program q.locals (position_of p)
       → told_of program (position_of p).state (position_of p).waiting ≡ Some c → query_choice program d q p.path.items ≡ Some c
   chooses c p h e =
-      place_choice program d q p.path.items (marks_from program q.locals (position_of p)) h
+      machine_choice program d q p.path.items (marks_from program q.locals (position_of p)) h
       ∙ ap (choice_at p.path.items) (choosing_marks program q.locals (position_of p) (Some c) e)
       ∙ width_choice p.path.items c (marks_of_turned program q.locals (turned program q.locals (position_of p)))
 
   no_choice : (p : List ℕ) (ms : List NominalMark) → beginning mark_path p (map (mark_in q.locals) (marked_query program d q)) ≡ ms → choice_at p ms ≡ None → query_choices program d q p ≡ None
-  no_choice p ms h e = ap (option_map (λ (v : Choice). v.width)) (place_choice program d q p ms h ∙ e)
+  no_choice p ms h e = ap (option_map (λ (v : Choice). v.width)) (machine_choice program d q p ms h ∙ e)
 
   pub node_at : (n : Node) (s : Standing) → beginning mark_path (path_of_standing s) (map (mark_in q.locals) (marked_query program d q)) ≡ marks_of_standing program q.locals s
       → IsNamed program n s → IsNodeAt program d q (path_of_standing s) n
@@ -118,8 +118,8 @@ asked_once : {X : Type 0} (o : Option X) (x y : X) → o ≡ Some x → o ≡ So
 asked_once o x y h k = cc
 
 -- The outputs of a problem, as far as they are wanted.
-module _ (p : Problem) (limit : Limit) (query : NominalQuery) (asked : slice_get (queries_in p) (p.query - 1) ≡ Some query) (program_typed : IsTypedProgram (program_in p))
-    (typed : IsTypedQuery term_form (program_in p).signature query) where
+module _ (p : Problem) (limit : Limit) (query : NominalQuery) (asked : slice_get (queries_in p) (p.query - 1) ≡ Some query) (program_typed : IsTypedProgram (program_of_problem p))
+    (typed : IsTypedQuery term_form (program_of_problem p).signature query) where
   abbrev first_outs : List NominalOut
   first_outs = part limit (outs_from (clauses_in p) query.locals (first_position p.depth query))
 
@@ -132,7 +132,7 @@ module _ (p : Problem) (limit : Limit) (query : NominalQuery) (asked : slice_get
   first_are : (q : NominalQuery) → slice_get (queries_in p) (p.query - 1) ≡ Some q → first_outs ≡ part limit (query_outs (clauses_in p) p.depth q)
   first_are q k =
       subst (λ (x : NominalQuery). first_outs ≡ part limit (query_outs (clauses_in p) p.depth x)) (asked_once (slice_get (queries_in p) (p.query - 1)) query q asked k)
-      (ap (part limit) (stack_by_unbound (program_in p) program_typed p.depth query typed))
+      (ap (part limit) (stack_by_unbound (program_of_problem p) program_typed p.depth query typed))
 
   outputs_are : (v : Vec Out Global) → outs_of v.items ≡ map (kept_out paths.Kept) first_outs → AreTheOutputs v
   outputs_are v h = λ q k. h ∙ map-id first_outs ∙ first_are q k
@@ -154,12 +154,12 @@ module _ (p : Problem) (limit : Limit) (query : NominalQuery) (asked : slice_get
   few_outputs (Err e) h = tt
 
 pub root_is : (p : Problem) (query : NominalQuery) (s : Standing) (b : Branch) → slice_get (queries_in p) (p.query - 1) ≡ Some query
-    → IsTypedProgram (program_in p) → IsTypedQuery term_form (program_in p).signature query → b.standing ≡ s → IsNamed (clauses_in p) b.node b.standing → path_of_standing s ≡ []
+    → IsTypedProgram (program_of_problem p) → IsTypedQuery term_form (program_of_problem p).signature query → b.standing ≡ s → IsNamed (clauses_in p) b.node b.standing → path_of_standing s ≡ []
     → marks_of_standing (clauses_in p) query.locals s ≡ marks_from (clauses_in p) query.locals (first_position p.depth query) → IsChoosing (clauses_in p) s → IsBranchOf p b
 root_is p query s b asked program_typed typed e named path marks choosing = λ q h.
     subst (λ (x : NominalQuery). IsBranchFor (clauses_in p) p.depth x b) (asked_once (slice_get (queries_in p) (p.query - 1)) query q asked h)
     (subst (λ (r : Standing). (IsNamed (clauses_in p) b.node r → IsBranchFor (clauses_in p) p.depth query (record b { standing = r }))) (sym e)
-    (λ k. record { marks = root_marks (clauses_in p) p.depth query s (marked_stack_by_unbound (program_in p) program_typed p.depth query typed) path marks; choosing = choosing; named = k }) named)
+    (λ k. record { marks = root_marks (clauses_in p) p.depth query s (marked_stack_by_unbound (program_of_problem p) program_typed p.depth query typed) path marks; choosing = choosing; named = k }) named)
 
 pub atom_chooses : (program : Clauses) (d c : ℕ) → (d ≡ 0 → ⊥) → choice_of_atom program d c ≡ Some (length (clauses_of program c))
 atom_chooses program zero c h = absurd (h refl)

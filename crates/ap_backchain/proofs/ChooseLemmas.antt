@@ -1,4 +1,4 @@
--- What a place has below one of its choices.
+-- What a machine has below one of its choices.
 use Rattle.std.proofs.Common.{◌≡◌, ℕ, zero, suc, ◌+◌, ◌-◌, ◌<◌, ◌≤◌, List, [], ◌∷◌, ◌++◌, length, get_or, map, refl, sym, ap, ◌∙◌, subst, arith}
 use Rattle.std.proofs.lemmas.List.{append-nil}
 use Rattle.std.specs.Prelude.{if◌then◌else◌, Option, Some, None}
@@ -12,7 +12,7 @@ use Rattle.ap_defs.specs.declared.goals.Clause.{Clause}
 use Rattle.ap_defs.specs.declared.terms.Term.{Term}
 use Rattle.ap_search.specs.FitStates.{AreFitClauses, IsFitClause}
 use Rattle.ap_search.specs.Continuations.{calls_then, clause_then, clauses_then, goal_then}
-use Rattle.ap_search.specs.Marks.{NominalMark, choice, mark_path, with_choices, stack_marks}
+use Rattle.ap_search.specs.Marks.{NominalMark, choice, mark_path, stack_marks, with_choices}
 use Rattle.ap_search.specs.Prefixes.{beginning}
 use Rattle.ap_search.proofs.ChoiceLemmas.{beginning_first, beginning_second, mark_way}
 use Rattle.ap_search.proofs.TreeLemmas.{calls_grow, marked_stack_begins, stack_grows}

@@ -1,11 +1,11 @@
--- How many choices a search makes: one where its first goal chooses, and those of what a turn makes of the place.
+-- How many choices a search makes: one where its first goal chooses, and those of what a turn makes of the machine.
 use Rattle.std.proofs.Common.{◌≡◌, ℕ, ◌+◌, List, [], ◌∷◌, ◌++◌, refl, sym, ap, ◌∙◌, arith}
 use Rattle.std.specs.Prelude.{Option, Some, None, option_map}
 use Rattle.ap_defs.specs.Paths.{Choice}
 use Rattle.ap_defs.specs.Goals.{Clauses}
 use Rattle.ap_defs.specs.Types.{NominalLocal}
 use Rattle.ap_search.specs.Marks.{NominalMark, out, choice, with_choices}
-use Rattle.ap_backchain.specs.Marks.{choices_among, choices_here, marks_from, marks_from_each, marks_of_turned, one_if, written_here, told_of}
+use Rattle.ap_backchain.specs.Marks.{choices_among, choices_here, marks_from, marks_from_each, marks_of_turned, one_if, told_of, written_here}
 use Rattle.ap_backchain.specs.Positions.{Position, Turned, ends, goes, turned}
 use Rattle.ap_backchain.specs.Searches.{followed}
 use Rattle.ap_backchain.proofs.TurnLemmas.{width_told, written_append, written_turned}
@@ -20,7 +20,7 @@ one_here p None = refl
 one_here p (Some v) = refl
 
 module _ (program : Clauses) (locals : List NominalLocal) where
-  -- a place that chooses has a mark there, before those of what a turn makes of it
+  -- a machine that chooses has a mark there, before those of what a turn makes of it
   choices_turned : (p : Position)
       → choices_among (marks_from program locals p) ≡ choices_here program p + choices_among (marks_of_turned program locals (turned program locals p))
   choices_turned p =

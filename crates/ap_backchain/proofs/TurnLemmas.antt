@@ -1,4 +1,4 @@
--- What a turn makes of a place has the outputs of the place, and fewer turns to go.
+-- What a turn makes of a machine has the outputs of the machine, and fewer turns to go.
 use Rattle.std.proofs.Common.{◌≡◌, ℕ, zero, suc, ◌+◌, List, [], ◌∷◌, ◌++◌, refl, sym, ap, ap₂, ◌∙◌, append_assoc, arith}
 use Rattle.std.proofs.lemmas.List.{append-nil}
 use Rattle.std.specs.Prelude.{Option, Some, None, map, length, option_map}
@@ -21,7 +21,7 @@ use Rattle.ap_backchain.specs.Positions.{Position, by_clause, by_clauses, clause
 use Rattle.ap_backchain.specs.Turns.{call_turns, clauses_turns, fresh_turns, goal_turns, stack_turns, turns_from, turns_from_each, turns_if, turns_of_turned}
 use Rattle.ap_backchain.specs.Unbound.{answer_by_unbound}
 
--- What is written: that of the choice that the first goal makes, and what a turn makes of the place.
+-- What is written: that of the choice that the first goal makes, and what a turn makes of the machine.
 module _ {R : Type 0} (w : Writing R) (program : Clauses) (locals : List NominalLocal) where
   pub written_append : (ps qs : List Position)
       → written_from_each w program locals (ps ++ qs) ≡ written_from_each w program locals ps ++ written_from_each w program locals qs

@@ -12,7 +12,7 @@ use Rattle.ap_search.specs.Marks.{NominalMark, out, mark_in, mark_path}
 use Rattle.ap_search.specs.PathTrees.{query_choice, query_choices}
 use Rattle.ap_search.specs.Prefixes.{beginning}
 use Rattle.ap_backchain.specs.Marks.{choice_of, choices_among, marks_from, told_of}
-use Rattle.ap_backchain.specs.Places.{position_of}
+use Rattle.ap_backchain.specs.Machines.{position_of}
 use Rattle.ap_backchain.specs.Problems.{clauses_in, queries_in}
 use Rattle.ap_backchain.specs.declared.branch.Branch.{Branch}
 use Rattle.ap_backchain.specs.declared.standing.Standing.{Standing}

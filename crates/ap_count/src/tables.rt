@@ -2,7 +2,8 @@
 //! given as the greatest that does.
 
 ghost use Rattle.std.specs.Prelude.{◌≡◌, [], IfOk, length, map, replicate};
-ghost use Rattle.ap_count.specs.Uses.{program_in, use_table};
+ghost use Rattle.ap_defs.specs.Goals.{program_in};
+ghost use Rattle.ap_count.specs.Uses.{use_table};
 ghost use Rattle.ap_count.specs.Tables.{added_row, added_rows, one_more, table_of, with_use_at};
 
 use ap_defs::goals::Clause;

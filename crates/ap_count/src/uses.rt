@@ -3,8 +3,8 @@
 ghost use Rattle.std.specs.Prelude.{◌≡◌, ℕ, IfOk, List as list, map};
 ghost use Rattle.std.specs.List.{AllByRecursion};
 ghost use Rattle.ap_defs.specs.Derivations.{NominalDerivation, derivation_of};
-ghost use Rattle.ap_defs.specs.Goals.{goal_of};
-ghost use Rattle.ap_count.specs.Uses.{program_in, use_table, uses_in_each};
+ghost use Rattle.ap_defs.specs.Goals.{goal_of, program_in};
+ghost use Rattle.ap_count.specs.Uses.{use_table, uses_in_each};
 ghost use Rattle.ap_count.specs.Tables.{table_of};
 
 use crate::tables::{sum_of_tables, unused_table};

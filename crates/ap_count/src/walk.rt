@@ -4,10 +4,10 @@ ghost use Rattle.std.specs.Prelude.{◌≡◌, ◌≤◌, ◌<◌, ◌+◌, ℕ,
 ghost use Rattle.ap_defs.specs.declared.terms.Name.{Name as name};
 ghost use Rattle.ap_defs.specs.Derivations as nodes;
 ghost use Rattle.ap_defs.specs.Derivations.{NominalDerivation, derivation_of, weight};
-ghost use Rattle.ap_defs.specs.Goals.{Clauses, clause_of, clauses_of, goal_of};
+ghost use Rattle.ap_defs.specs.Goals.{Clauses, clause_of, clauses_of, goal_of, program_in};
 ghost use Rattle.ap_defs.specs.GroundProofs.{clause_at as clause_numbered};
 ghost use Rattle.ap_defs.specs.Terms.{NominalTerm};
-ghost use Rattle.ap_count.specs.Uses.{program_in, uses, uses_of_clause};
+ghost use Rattle.ap_count.specs.Uses.{uses, uses_of_clause};
 ghost use Rattle.ap_count.specs.Tables.{table_of, with_uses};
 ghost use Rattle.ap_count.specs.Waiting.{if_any, uses_of_all, uses_waiting, weight_of_all};
 

@@ -25,7 +25,7 @@ next_rest k [] (j ∷ path) rest e = cc
 next_rest k (i ∷ before) [] rest e = cc
 next_rest k (i ∷ before) (j ∷ path) rest e = next_rest k before path rest e
 
--- the choice stands at its place in the path
+-- the choice stands at its machine in the path
 pub choice_here : (n : ℕ) (path rest : List ℕ) (k d : ℕ) → drop n path ≡ k ∷ rest → (n < length path) × (get_or path n d ≡ k)
 choice_here zero [] rest k d e = cc
 choice_here zero (j ∷ path) rest k d e = (omega arith, cc)
@@ -109,7 +109,7 @@ module _ (program : Clauses) (path : List ℕ) (q : ℕ) (ts : List NominalTerm)
     entered_on (Some u) =
         ap (λ z. others_solved others (trace_goal (trace_call program lower) body (record { bindings = u.bindings; conditions = u.conditions; kinds = p.state.kinds ++ kinds_of c.locals }) z)) (sym (next_rest k p.path path rest next))
 
-    -- the atom's node, and what entering the clause makes of the place
+    -- the atom's node, and what entering the clause makes of the machine
     clause_selected : clause_at (clauses_of program q) k ≡ Some c
         → solved_at program path (with_goal (suc lower) (goals.atom q ts) p)
         ≡ with_node (atom k (local_names (next_number p.state) c.locals) (map (susp []) (local_vars (next_number p.state) c.locals))) (solved_on program path (goes (by_clause lower ts p k c)))
@@ -122,7 +122,7 @@ module _ (program : Clauses) (path : List ℕ) (q : ℕ) (ts : List NominalTerm)
         (trace_unified (trace_goal (trace_call program lower) body) (record (p.state) { kinds = p.state.kinds ++ kinds_of c.locals }) o rest)
         ∙ ap (with_node node) (entered_on o)
 
--- The clause that stands at a place of a list.
+-- The clause that stands at a machine of a list.
 pub clause_within : (cs : List (Clause Term)) (k : ℕ) (c : NominalClause) → clause_at (map clause_of cs) k ≡ Some c → (1 ≤ k) × (k - 1 < length cs)
 clause_within [] k c e = cc
 clause_within (b ∷ cs) zero c e = cc

@@ -51,7 +51,7 @@ module _ (go : Others) where
   both_below next (Some r) = second_below r.derivation (next r.state r.rest)
 
 module _ (program : Clauses) (path : List ℕ) where
-  -- where a turn goes on from one place, or from none
+  -- where a turn goes on from one machine, or from none
   abbrev pub solved_on : Turned → Option Solved
   solved_on (ends o) = None
   solved_on (goes []) = None
@@ -84,7 +84,7 @@ module _ (program : Clauses) (path : List ℕ) where
   new_on d g p None = refl
   new_on d g p (Some cs) = refl
 
-  -- a goal that doesn't choose, and what its turn makes of the place
+  -- a goal that doesn't choose, and what its turn makes of the machine
   pub settled_on : (d : ℕ) (g : NominalGoal) (p : Position) (n : DerivationNode) → node_of_goal g ≡ Some n
       → solved_at program path (with_goal d g p) ≡ with_node n (solved_on (turned_goal program d g p))
   settled_on d goals.succeed p n e =

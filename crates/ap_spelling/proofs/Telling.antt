@@ -4,6 +4,7 @@ use Rattle.std.specs.Prelude.{if◌then◌else◌}
 use Rattle.std.specs.Str.{bytes_eq}
 use Rattle.std.proofs.lemmas.Bool.Decides.{Decides-eqb, nat_tests}
 use Rattle.std.proofs.lemmas.Slice.Eq.{bytes_eq-Decides}
+use Rattle.std.proofs.lemmas.Bool.{and_parts}
 use Rattle.ap_defs.specs.declared.terms.Name.{Name}
 use Rattle.ap_defs.specs.declared.terms.Var.{Var}
 use Rattle.ap_defs.specs.Freshness.{var_eq}
@@ -16,15 +17,10 @@ use Rattle.ap_spelling.specs.Words.{NominalGiven, NominalSpelt, give, give_each,
 use Rattle.ap_spelling.proofs.WordLists.{at_back, has_behind, has_first, in_front}
 use Rattle.ap_spelling.proofs.Told.{all_differ}
 
-both_true : (a b : Bool) → (a && b) ≡ true → (a ≡ true) × (b ≡ true)
-both_true true true h = (refl, refl)
-both_true true false h = absurd (true≢false (sym h))
-both_true false b h = absurd (true≢false (sym h))
-
 pub same_name : (a b : Name) → name_eq a b ≡ true → a ≡ b
 unfolding name_eq
 same_name a b h =
-    let e = both_true (a.sort == b.sort) (a.num == b.num) h in
+    let e = and_parts (a.sort == b.sort) (a.num == b.num) h in
     ap₂ (λ s n. let c : Name = record { sort = s; num = n } in c) ((Decides-eqb a.sort b.sort).0 e.0) ((Decides-eqb a.num b.num).0 e.1)
 
 pub same_var : (x y : Var) → var_eq x y ≡ true → x ≡ y

@@ -1,8 +1,9 @@
 -- Spellings that all differ, with one more.
 use Rattle.std.proofs.Common.{◌≡◌, ◌≢◌, ◌≤◌, ◌<◌, ◌+◌, ◌*◌, ◌^◌, ℕ, suc, Bool, true, false, List, [], ◌∷◌, ◌++◌, length, refl, sym, ap, ◌∙◌, subst, arith, true≢false, length-append, ◌==◌, nat_lt}
 use Rattle.std.proofs.lemmas.Bool.Decides.{Decides-eqb, nat_tests}
-use Rattle.std.specs.Prelude.{if◌then◌else◌, ◌&&◌, not, codes, unwrap_or, is_some, Option, Some, None}
+use Rattle.std.specs.Prelude.{if◌then◌else◌, not, codes, unwrap_or, is_some, Option, Some, None}
 use Rattle.std.specs.Str.{bytes_eq}
+use Rattle.std.proofs.lemmas.Bool.{and_parts}
 use Rattle.ap_defs.specs.declared.terms.Name.{Name}
 use Rattle.ap_defs.specs.declared.terms.Var.{Var}
 use Rattle.ap_defs.specs.Permutations.{has_name}
@@ -186,11 +187,6 @@ use_number words us ws last w n m told base more old free small = record {
     taken_new : (k : ℕ) → 1 ≤ k → k ≤ m → has_word (joined w k) (words ++ ws) ≡ true
     taken_new k = taken_by k (nat_lt n k) refl
 
-both_true : (a b : Bool) → (a && b) ≡ true → (a ≡ true) × (b ≡ true)
-both_true true true h = (refl, refl)
-both_true true false h = absurd (true≢false (sym h))
-both_true false b h = absurd (true≢false (sym h))
-
 none_of : (o : Option ℕ) → not (is_some o) ≡ true → o ≡ None
 none_of None h = refl
 none_of (Some n) h = absurd (true≢false (sym h))
@@ -199,7 +195,7 @@ told_by : (words us ws : List (List ℕ)) (letter w : List ℕ) (last : Numbered
     → IsOneMore (if b then w else joined (base letter w) (next_number words (base letter w) last)) us ws → AreTold words last us → 2 * length words + length us + 2 < 2 ^ 64
     → AreTold words (if b then numbered_next w 0 last else numbered_next (base letter w) (next_number words (base letter w) last) last) ws
 told_by words us ws letter w last true e i more told small =
-    let h = both_true (has_word w words) (not (is_some (last w))) e in
+    let h = and_parts (has_word w words) (not (is_some (last w))) e in
     use_word words us ws last w told more h.0 (none_of (last w) h.1)
 told_by words us ws letter w last false e i more told small =
     let v = base letter w in

@@ -1,11 +1,12 @@
 //! What the identifiers of the items of a derivation stand for.
 
-ghost use Rattle.std.specs.Prelude.{◌≡◌, ◌<◌, ◌≤◌, ◌+◌, ◌++◌, ◌∷◌, [], ℕ, List as list, map, slice_get, IfOk, OnOk};
-ghost use Rattle.ap_answers.specs.Locals.{free_sort, lent_texts};
+ghost use Rattle.std.specs.Prelude.{◌≡◌, ◌<◌, ◌+◌, ◌++◌, ◌∷◌, [], map, slice_get, IfOk, OnOk};
+ghost use Rattle.ap_program.specs.FreeLocals.{free_sort};
+ghost use Rattle.ap_answers.specs.Locals.{lent_texts};
 ghost use Rattle.ap_checks.specs.Checks.{count};
 ghost use Rattle.ap_defs.specs.Derivations.{derivation_of};
 ghost use Rattle.ap_defs.specs.Goals.{Clauses, clause_of, goal_of, program_of};
-ghost use Rattle.ap_defs.specs.Lines.{name_texts, var_texts};
+ghost use Rattle.ap_defs.specs.Lines.{name_texts};
 ghost use Rattle.ap_defs.specs.Terms.{term_of};
 ghost use Rattle.ap_defs.specs.Types.{local_of, locals_of};
 ghost use Rattle.ap_spelling.specs.Spelt.{givens_of};

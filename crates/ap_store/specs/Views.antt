@@ -1,5 +1,6 @@
 -- What a store stands for.
 use Rattle.std.specs.Prelude.{◌≡◌, ℕ, List, [], ◌∷◌, ◌++◌, map}
+use Rattle.ap_defs.specs.Substitution.{Binding}
 use Rattle.ap_defs.specs.Types.{NominalKind}
 use Rattle.ap_defs.specs.declared.terms.Var.{Var}
 use Rattle.ap_perm.specs.Lookups as lookups
@@ -16,6 +17,10 @@ kinds s = map slot_kind s.table.items
 -- the triple that holds now
 abbrev pub present : Store → Triple
 present s = present_after s.trail.items empty
+
+-- its bindings
+abbrev pub bindings_of : Store → List Binding
+bindings_of s = (present s).bindings
 
 -- the earlier triples to which the store can go back
 abbrev pub past : Store → List Triple

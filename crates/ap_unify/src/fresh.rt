@@ -8,7 +8,7 @@ ghost use Rattle.ap_defs.specs.Substitution.{under};
 ghost use Rattle.ap_defs.specs.Unification.{reduce_all};
 ghost use Rattle.ap_perm.specs.Closures.{closure_term};
 ghost use Rattle.ap_store.specs.Triples.{GoesOn};
-ghost use Rattle.ap_store.specs.Views.{IsUnchanged, kinds, present, versions};
+ghost use Rattle.ap_store.specs.Views.{IsUnchanged, bindings_of, kinds, present, versions};
 ghost use Rattle.ap_unify.specs.Unified.{AreVarsBelow, IsReduced};
 
 use crate::reducing::{reduce_closure, reduce_vars};
@@ -33,7 +33,7 @@ pub fn make_fresh<'a>(
 ) -> Result<bool, Memory>
     requires name { a.num < (present store.old).next }
     requires term { IsBelow (present store.old).next (closure_term t.now) }
-    ensures defined { IfOk result (λ fresh. IsReduced (reduce a (under (present store.old).bindings
+    ensures defined { IfOk result (λ fresh. IsReduced (reduce a (under (bindings_of store.old)
         (closure_term t.now))) (present store.old) fresh (present store.new)) }
     ensures past { GoesOn (versions store.old) (versions store.new) }
     ensures kinds { kinds store.new ≡ kinds store.old }
@@ -62,7 +62,7 @@ pub fn make_fresh_for_each<'a>(
 ) -> Result<bool, Memory>
     requires name { a.num < (present store.old).next }
     requires vars { AreVarsBelow (present store.old).next vars.now }
-    ensures defined { IfOk result (λ fresh. IsReduced (reduce_all (present store.old).bindings
+    ensures defined { IfOk result (λ fresh. IsReduced (reduce_all (bindings_of store.old)
         (fresh_for_each a vars.now)) (present store.old) fresh (present store.new)) }
     ensures past { GoesOn (versions store.old) (versions store.new) }
     ensures kinds { kinds store.new ≡ kinds store.old }

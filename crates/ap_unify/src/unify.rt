@@ -1,15 +1,15 @@
 //! Unification of lists of terms.
 
-ghost use Rattle.std.specs.Prelude.{◌≡◌, ◌&&◌, [], false, true, IfOk, OnErr, length, map};
+ghost use Rattle.std.specs.Prelude.{◌≡◌, ◌&&◌, [], false, true, IfOk, OnErr, length};
 ghost use Rattle.ap_defs.specs.Groundings.{Grounding};
 ghost use Rattle.ap_defs.specs.Renaming.{AreBelow};
 ghost use Rattle.ap_defs.specs.Unification.{unify as unify_lem};
 ghost use Rattle.ap_store.specs.Triples.{GoesOn};
-ghost use Rattle.ap_store.specs.Views.{IsUnchanged, kinds, present, versions};
+ghost use Rattle.ap_store.specs.Views.{IsUnchanged, bindings_of, kinds, present, versions};
 ghost use Rattle.ap_unify.specs.Lists.{terms_in};
 ghost use Rattle.ap_unify.specs.Runs.{paired};
 ghost use Rattle.ap_unify.specs.Unified.{IsResult, is_of, solves};
-ghost use Rattle.ap_unify.specs.Work.{ArePairsBelow, equations_left};
+ghost use Rattle.ap_unify.specs.Work.{equations_left};
 
 use crate::finish::finish;
 use crate::pairs::{ClosurePair, Work};
@@ -55,7 +55,7 @@ fn unify_forward<'a>(
     requires right { AreBelow right.end (terms_in right) }
     requires left_made { AreBelow (present store.old).next (terms_in left) }
     requires right_made { AreBelow (present store.old).next (terms_in right) }
-    ensures defined { IfOk result (λ solved. IsResult (unify_lem (present store.old).bindings
+    ensures defined { IfOk result (λ solved. IsResult (unify_lem (bindings_of store.old)
         (present store.old).conditions (terms_in left.entry) (terms_in right.entry))
         (present store.old) solved (present store.new)) }
     ensures past { GoesOn (versions store.old) (versions store.new) }
@@ -85,7 +85,7 @@ pub fn unify<'a>(
     requires left_made { AreBelow (present store.old).next (terms_in left) }
     requires right_made { AreBelow (present store.old).next (terms_in right) }
     // The answer and the bindings, conditions and next number are those of the rules.
-    ensures defined { IfOk result (λ solved. IsResult (unify_lem (present store.old).bindings
+    ensures defined { IfOk result (λ solved. IsResult (unify_lem (bindings_of store.old)
         (present store.old).conditions (terms_in left.entry) (terms_in right.entry))
         (present store.old) solved (present store.new)) }
     // The groundings of the new bindings and conditions are those of the old ones that make the two sides at each place equal.

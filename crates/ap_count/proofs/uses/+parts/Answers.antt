@@ -1,11 +1,11 @@
 use Rattle.std.proofs.Common.{ap, ap₂, map, ◌≡◌, ◌∙◌, ◌++◌}
 use Rattle.std.specs.Global.{Global}
-use Rattle.std.specs.Prelude.{ℕ, Vec}
+use Rattle.std.specs.Prelude.{Vec, ℕ}
 use Rattle.std.proofs.lemmas.List.{take-append-drop}
 use Rattle.std.proofs.lemmas.Result.{IfOk-at_ok, IfOk-weaker}
-use Rattle.ap_defs.specs.Goals.{goal_of}
+use Rattle.ap_defs.specs.Goals.{goal_of, program_in}
 use Rattle.ap_count.specs.Tables.{added_rows, table_of}
-use Rattle.ap_count.specs.Uses.{program_in, use_table, uses_in_each}
+use Rattle.ap_count.specs.Uses.{use_table, uses_in_each}
 use Rattle.ap_count.proofs.UseLemmas.{sum_of_tables}
 use Rattle.ap_count.proofs.WaitingLemmas.{uses_of_parts}
 use Rattle.ap_count.proofs.uses.+parts.Goals as goal

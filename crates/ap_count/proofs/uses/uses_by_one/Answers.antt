@@ -1,8 +1,8 @@
 use Rattle.std.proofs.Common.{ap, map, ◌∙◌}
 use Rattle.ap_defs.specs.Derivations.{derivation_of}
-use Rattle.ap_defs.specs.Goals.{goal_of}
+use Rattle.ap_defs.specs.Goals.{goal_of, program_in}
 use Rattle.ap_count.specs.Tables.{table_of, with_uses}
-use Rattle.ap_count.specs.Uses.{program_in, uses_in_each}
+use Rattle.ap_count.specs.Uses.{uses_in_each}
 use Rattle.ap_count.proofs.UseLemmas.{table_from_none}
 use Rattle.ap_count.proofs.WaitingLemmas.{count_first, paths_left}
 use Rattle.ap_count.proofs.uses.uses_by_one.Goals as goal

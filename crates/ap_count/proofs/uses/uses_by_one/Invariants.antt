@@ -1,8 +1,8 @@
 use Rattle.std.proofs.Common.{◌≡◌, length, map}
 use Rattle.std.specs.List.{AllByRecursion}
-use Rattle.ap_defs.specs.Goals.{goal_of}
+use Rattle.ap_defs.specs.Goals.{goal_of, program_in}
 use Rattle.ap_count.specs.Tables.{table_of, with_uses}
-use Rattle.ap_count.specs.Uses.{program_in, use_table, uses_in_each}
+use Rattle.ap_count.specs.Uses.{use_table, uses_in_each}
 use Rattle.ap_count.proofs.uses.uses_by_one.Given as goal
 
 -- with the uses at the paths that are left the table has all of them; and each of these leads to an answer

@@ -1,6 +1,6 @@
 use Rattle.std.proofs.Common.{sym, ap, ◌∙◌, arith}
+use Rattle.ap_defs.specs.Goals.{program_in}
 use Rattle.ap_count.specs.Tables.{table_of, with_uses}
-use Rattle.ap_count.specs.Uses.{program_in}
 use Rattle.ap_count.specs.Waiting.{uses_of_all, weight_of_all}
 use Rattle.ap_count.proofs.WaitingLemmas.{last_first, last_weight}
 use Rattle.ap_count.proofs.walk.add_uses.Goals as goal

@@ -1,8 +1,8 @@
 use Rattle.std.proofs.Common.{◌≡◌}
 use Rattle.ap_defs.specs.Derivations.{derivation_of}
-use Rattle.ap_defs.specs.Goals.{goal_of}
+use Rattle.ap_defs.specs.Goals.{goal_of, program_in}
 use Rattle.ap_count.specs.Tables.{table_of, with_uses}
-use Rattle.ap_count.specs.Uses.{program_in, uses}
+use Rattle.ap_count.specs.Uses.{uses}
 use Rattle.ap_count.specs.Waiting.{uses_of_all, weight_of_all}
 use Rattle.ap_count.proofs.walk.add_uses.Given as goal
 

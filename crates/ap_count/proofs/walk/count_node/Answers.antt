@@ -2,10 +2,10 @@ use Rattle.std.proofs.Common.{sym, ap, ap₂, ◌++◌, ◌∙◌, map}
 use Rattle.ap_defs.specs.declared.outcomes.ClauseUse.{ClauseUse}
 use Rattle.ap_defs.specs.declared.outcomes.Derivation.{Derivation}
 use Rattle.ap_defs.specs.Derivations.{derivation_of}
-use Rattle.ap_defs.specs.Goals.{goal_of}
+use Rattle.ap_defs.specs.Goals.{goal_of, program_in}
 use Rattle.ap_defs.specs.Terms.{term_of}
 use Rattle.ap_count.specs.Tables.{table_of, with_uses}
-use Rattle.ap_count.specs.Uses.{program_in, uses, uses_of_clause}
+use Rattle.ap_count.specs.Uses.{uses, uses_of_clause}
 use Rattle.ap_count.specs.Waiting.{if_any, uses_of_all}
 use Rattle.ap_count.proofs.WaitingLemmas.{node_counts, node_waits}
 use Rattle.ap_count.proofs.walk.count_node.Goals as goal

@@ -2,13 +2,12 @@ use denote.Param.Send.{sendable}
 use Rattle.std.proofs.Common.{◌-◌, List, map, ap, ◌∙◌}
 use Rattle.std.proofs.lemmas.Result.{IfOk-weaker}
 use Rattle.std.specs.Prelude.{slice_get}
-use Rattle.ap_defs.specs.Goals.{query_of}
+use Rattle.ap_defs.specs.Goals.{program_in, query_of}
 use Rattle.ap_defs.specs.declared.goals.Clause.{Clause}
 use Rattle.ap_defs.specs.declared.goals.Program.{Program}
 use Rattle.ap_defs.specs.declared.terms.Term.{Term}
 use Rattle.ap_backchain.specs.Problems.{clauses_in, queries_in}
 use Rattle.ap_count.specs.Tables.{table_of}
-use Rattle.ap_count.specs.Uses.{program_in}
 use Rattle.ap_uses.specs.Paths.{derivation_at}
 use Rattle.ap_uses.proofs.PathLemmas.{table_there}
 use Rattle.ap_uses.proofs.Shared.{answers_sync}

@@ -1,5 +1,5 @@
-use Rattle.std.proofs.Common.{◌≡◌, ◌∷◌, ◌++◌, [], List, map, ap, sym, subst}
-use Rattle.ap_defs.specs.Goals.{Clauses, clause_of, query_of}
+use Rattle.std.proofs.Common.{◌≡◌, ◌∷◌, ◌++◌, [], List, ap, sym, subst}
+use Rattle.ap_defs.specs.Goals.{Clauses, program_in, query_of}
 use Rattle.ap_defs.specs.Types.{NominalLocal, locals_of}
 use Rattle.ap_search.specs.Marks.{mark_path}
 use Rattle.ap_search.specs.Prefixes.{beginning}
@@ -26,7 +26,7 @@ returns-clause-of c =
     let s = c.in_ok-standing.standing in
     let k = c.args.choice in
     let same = c.clauses_of_problem-clauses.ensures.clauses in
-    let given = map (map clause_of) c.clauses_of_problem-clauses.result.now in
+    let given = program_in c.clauses_of_problem-clauses.result.now in
     let marks = subst (λ (x : Clauses). marks_of_standing x query.locals s ≡ beginning mark_path (path_of_branch b ++ k ∷ []) (marks_of_standing x query.locals b.standing)) same
     (subst (λ (ls : List NominalLocal). marks_of_standing given ls s ≡ beginning mark_path (path_of_branch b ++ k ∷ []) (marks_of_standing given ls b.standing)) (ap locals_of c.items.ensures) c.in_ok-standing.ensures.marks) in
     step_is p query b c.in_ok-branch.branch s k c.query_of_problem-query.ensures.query c.requires.of c.in_ok-branch.ensures.standing

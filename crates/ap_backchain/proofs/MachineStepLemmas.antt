@@ -1,8 +1,8 @@
--- Kinds and clauses at their places.
+-- Kinds and clauses at their machines.
 use Rattle.std.proofs.Common.{◌≡◌, ℕ, zero, suc, ◌<◌, ◌≤◌, ◌^◌, List, [], ◌∷◌, length, get_or, map, refl, sym, ap, arith, subst}
 use Rattle.std.specs.Prelude.{Some, None, Option, IfSome, MatchOption}
 use Rattle.ap_defs.specs.Answers.{kind_at}
-use Rattle.ap_defs.specs.Goals.{clause_of, clauses_of, query_of, Clauses}
+use Rattle.ap_defs.specs.Goals.{clause_of, clauses_of, query_of, Clauses, program_in}
 use Rattle.ap_defs.specs.Types.{NominalSignature, kind_of}
 use Rattle.ap_program.specs.Typed.{AreTypedQueries, IsTypedQuery, term_form}
 use Rattle.ap_defs.specs.declared.goals.Clause.{Clause}
@@ -22,12 +22,12 @@ kind_past (j ∷ ks) zero h = absurd (omega arith)
 kind_past (j ∷ ks) (suc n) h = kind_past ks n (omega arith)
 
 pub clauses_here : (css : List (List (Clause Term))) (n : ℕ) (cs : List (Clause Term)) → n < length css → cs ≡ get_or css n cs
-    → map clause_of cs ≡ clauses_of (map (map clause_of) css) n
+    → map clause_of cs ≡ clauses_of (program_in css) n
 clauses_here [] n cs h e = absurd (omega arith)
 clauses_here (ds ∷ css) zero cs h e = ap (map clause_of) e
 clauses_here (ds ∷ css) (suc n) cs h e = clauses_here css n cs (omega arith) e
 
-pub clauses_past : (css : List (List (Clause Term))) (n : ℕ) → length css ≤ n → [] ≡ clauses_of (map (map clause_of) css) n
+pub clauses_past : (css : List (List (Clause Term))) (n : ℕ) → length css ≤ n → [] ≡ clauses_of (program_in css) n
 clauses_past [] n h = refl
 clauses_past (ds ∷ css) zero h = absurd (omega arith)
 clauses_past (ds ∷ css) (suc n) h = clauses_past css n (omega arith)

@@ -1,6 +1,6 @@
-use Rattle.ap_backchain.specs.Arenas.{waiting_at}
-use Rattle.ap_backchain.proofs.ArenaLemmas.{waiting_first, waiting_none}
-use Rattle.ap_backchain.proofs.arena.Arena.peek.Goals as goal
+use Rattle.ap_backchain.specs.GoalStacks.{waiting_at}
+use Rattle.ap_backchain.proofs.GoalStackLemmas.{waiting_first, waiting_none}
+use Rattle.ap_backchain.proofs.goal_stack.GoalStack.peek.Goals as goal
 
 pub returns-then-self-eq0-clause-none : goal.returns-then-self-eq0-clause-none
 returns-then-self-eq0-clause-none c = waiting_none c.args.self.now.cells.items c.args.self.now.first c.if-self-eq0.true

@@ -1,4 +1,4 @@
--- Goals that wait in an arena.
+-- Goals that wait in an goal_stack.
 use Rattle.std.specs.Prelude.{◌≡◌, ℕ, suc, ◌≤◌, List, [], ◌∷◌, ◌++◌, slice_index_or as get_or}
 use Rattle.ap_search.specs.Continuations.{Waiting}
 use Rattle.ap_backchain.specs.Views.{waiting_of}

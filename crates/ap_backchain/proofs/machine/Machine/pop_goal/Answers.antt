@@ -7,7 +7,7 @@ use Rattle.ap_backchain.specs.Positions.{Position}
 use Rattle.ap_backchain.specs.Views.{state_in, waiting_of}
 use Rattle.ap_backchain.specs.Stacks.{waiting_in}
 use Rattle.ap_backchain.specs.declared.frames.Frame.{Frame}
-use Rattle.ap_backchain.proofs.place.Place.pop_goal.Goals as goal
+use Rattle.ap_backchain.proofs.machine.Machine.pop_goal.Goals as goal
 
 below_rest : (n : _) (o : Option Frame) (vs ws : List Waiting) → IfSome o (λ f. vs ≡ waiting_of f ∷ ws) → IfNone o ((vs ≡ []) × (ws ≡ [])) → AreWaitingBelow n vs → AreWaitingBelow n ws
 below_rest n None vs ws h k b = subst (λ (us : List Waiting). AreWaitingBelow n us) (sym k.1) tt

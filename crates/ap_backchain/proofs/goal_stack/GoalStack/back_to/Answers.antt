@@ -1,9 +1,9 @@
 use Rattle.std.proofs.Common.{◌≡◌, List, length, take, ap, ◌∙◌, sym, subst, arith}
 use Rattle.std.proofs.lemmas.List.{length-take-le}
-use Rattle.ap_backchain.specs.Arenas.{AreLinked}
+use Rattle.ap_backchain.specs.GoalStacks.{AreLinked}
 use Rattle.ap_backchain.specs.declared.frames.Cell.{Cell}
-use Rattle.ap_backchain.proofs.ArenaLemmas.{linked_cut}
-use Rattle.ap_backchain.proofs.arena.Arena.back_to.Goals as goal
+use Rattle.ap_backchain.proofs.GoalStackLemmas.{linked_cut}
+use Rattle.ap_backchain.proofs.goal_stack.GoalStack.back_to.Goals as goal
 
 pub invariant_of-self : goal.invariant_of-self
 invariant_of-self c =

@@ -1,11 +1,11 @@
-use Rattle.std.proofs.Common.{refl, sym, ◌∙◌, arith}
+use Rattle.std.proofs.Common.{arith, refl, sym, ◌∙◌}
 use Rattle.ap_store.specs.Views.{past, present}
 use Rattle.ap_store.proofs.StoreLemmas.{next_counts}
-use Rattle.ap_backchain.specs.Places.{track_of}
+use Rattle.ap_backchain.specs.Machines.{track_of}
 use Rattle.ap_backchain.specs.declared.points.Save.{Save}
 use Rattle.ap_backchain.proofs.MachineLemmas.{next_here, position_here}
 use Rattle.ap_backchain.proofs.TrackLemmas.{back_here, within_here}
-use Rattle.ap_backchain.proofs.place.Place.save.Goals as goal
+use Rattle.ap_backchain.proofs.machine.Machine.save.Goals as goal
 
 pub returns-clause-within : goal.returns-clause-within
 returns-clause-within c =

@@ -1,12 +1,12 @@
-//! Places of a search.
+//! Where a search stands.
 
 ghost use Rattle.ap_backchain.specs.Below.{AreWaitingBelow};
 ghost use Rattle.ap_backchain.specs.BelowProps.{waiting_prop};
 ghost use Rattle.ap_backchain.specs.Stacks.{waiting_in};
 ghost use Rattle.ap_store.specs.Views.{present};
 
-use crate::arena::Arena;
 use crate::frames::Frame;
+use crate::goal_stack::GoalStack;
 use crate::points::Save;
 use crate::renaming::add_vars_of_locals;
 use ap_defs::goals::{Goal, Local};
@@ -15,37 +15,37 @@ use ap_defs::terms::{Term, Var};
 use ap_store::store::Store;
 use std::alloc::Global;
 
-/// A place of a search: what is bound and holds; the goals that wait; the choices on the way; and the
-/// variables that clauses and `exists` brought, in order. The search goes on in place, and can go
-/// back to where it was earlier.
+/// The machine of a search: what is bound and holds; the goal stack; the choices on the way; and the
+/// variables that clauses and `exists` brought, in order. The search goes on in place, and can go back
+/// to where it was at an earlier choice point.
 #[derive(Drop)]
-pub struct Place<'a> {
+pub struct Machine<'a> {
     pub store: Store<'a>,
-    pub goals: Arena<'a>,
+    pub goals: GoalStack<'a>,
     pub path: Vec<u32>,
     pub brought: Vec<Var>,
     pub ghost below: { AreWaitingBelow (present store).next (waiting_in goals) } by { waiting_prop (present store).next (waiting_in goals) },
 }
 
-impl<'a> Place<'a> {
-    ghost use Rattle.std.specs.Prelude.{◌≡◌, ◌+◌, ◌<◌, ◌^◌, ◌∷◌, [], IfNone, IfSome, OnErr, OnOk, length};
+impl<'a> Machine<'a> {
+    ghost use Rattle.std.specs.Prelude.{◌≡◌, ◌+◌, ◌<◌, ◌^◌, ◌∷◌, [], IfNone, IfSome, OnOk, length};
     ghost use Rattle.ap_defs.specs.Goals.{goal_of};
     ghost use Rattle.ap_defs.specs.Renaming.{IsGoalBelow, local_vars, rename_goal};
     ghost use Rattle.ap_defs.specs.Types.{locals_of};
-    ghost use Rattle.ap_backchain.specs.Places.{next_of, position_of, track_of};
+    ghost use Rattle.ap_backchain.specs.Machines.{next_of, position_of, track_of};
     ghost use Rattle.ap_backchain.specs.Positions.{with_choice, with_goal, with_vars};
     ghost use Rattle.ap_backchain.specs.Tracks.{GoesFrom, IsWithin, back_to, next_in, position_at};
     ghost use Rattle.ap_backchain.specs.Views.{state_in, waiting_of};
 
-    /// A place with a store in which no goal waits. It takes no memory.
-    pub fn of(alloc: Global, store: Store<'a>) -> Place<'a>
+    /// A machine with a store in which no goal waits. It takes no memory.
+    pub fn of(alloc: Global, store: Store<'a>) -> Machine<'a>
         ensures position { position_of result
             ≡ record { waiting = []; path = []; state = state_in store.entry; brought = [] } }
         ensures store { result.store ≡ store.entry }
     {
-        Place {
+        Machine {
             store,
-            goals: Arena::new(alloc),
+            goals: GoalStack::new(alloc),
             path: Vec::new(alloc),
             brought: Vec::new(alloc),
         }

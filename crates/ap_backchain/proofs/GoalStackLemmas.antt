@@ -1,9 +1,9 @@
--- Goals in an arena stay where they are.
+-- Goals in an goal_stack stay where they are.
 use Rattle.std.proofs.Common.{◌≡◌, ℕ, zero, suc, ◌+◌, ◌-◌, ◌<◌, ◌≤◌, List, [], ◌∷◌, ◌++◌, length, get_or, take, drop, refl, sym, ap, ◌∙◌, length-append, arith, subst}
 use Rattle.std.proofs.lemmas.List.{get_or_append_left, length-take-le, take-append-drop}
 use Rattle.std.proofs.Math.Seq.{drop-cons, get_or-append_seam, take-nil}
 use Rattle.ap_search.specs.Continuations.{Waiting}
-use Rattle.ap_backchain.specs.Arenas.{AreLinked, IsLonger, stacks_with, waiting_at}
+use Rattle.ap_backchain.specs.GoalStacks.{AreLinked, IsLonger, stacks_with, waiting_at}
 use Rattle.ap_backchain.specs.Views.{waiting_of}
 use Rattle.ap_backchain.specs.declared.frames.Cell.{Cell}
 

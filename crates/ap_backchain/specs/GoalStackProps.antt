@@ -2,7 +2,7 @@
 use Rattle.std.proofs.Common.{ℕ, suc, List, [], ◌∷◌}
 use mathlib.Core.HLevel.{Unit-prop}
 use Rattle.std.proofs.Props.{props}
-use Rattle.ap_backchain.specs.Arenas.{AreLinked}
+use Rattle.ap_backchain.specs.GoalStacks.{AreLinked}
 use Rattle.ap_backchain.specs.declared.frames.Cell.{Cell}
 
 pub linked_prop : (n : ℕ) (cs : List Cell) → IsProp (AreLinked n cs)

@@ -1,5 +1,5 @@
 use Rattle.ap_backchain.proofs.MachineLemmas.{back_below, back_next, back_position, back_track}
-use Rattle.ap_backchain.proofs.place.Place.go_back.Goals as goal
+use Rattle.ap_backchain.proofs.machine.Machine.go_back.Goals as goal
 
 pub invariant_of-self : goal.invariant_of-self
 invariant_of-self c =

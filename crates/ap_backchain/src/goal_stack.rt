@@ -1,8 +1,8 @@
-//! Goals that wait, in an arena.
+//! Goals that wait, on a stack.
 
-ghost use Rattle.std.specs.Prelude.{◌≤◌, length};
-ghost use Rattle.ap_backchain.specs.Arenas.{AreLinked};
-ghost use Rattle.ap_backchain.specs.ArenaProps.{linked_prop};
+ghost use Rattle.std.specs.Prelude.{length, ◌≤◌};
+ghost use Rattle.ap_backchain.specs.GoalStacks.{AreLinked};
+ghost use Rattle.ap_backchain.specs.GoalStackProps.{linked_prop};
 
 use crate::frames::{Cell, Frame};
 use ap_defs::memory::Memory;
@@ -11,26 +11,26 @@ use std::alloc::Global;
 /// Goals that wait, one behind the other. Goals that waited earlier stay where they are, so that the
 /// search can go back to them by the number of cells and the number of the first goal's.
 #[derive(Drop)]
-pub struct Arena<'a> {
+pub struct GoalStack<'a> {
     cells: Vec<Cell<'a>>,
     first: usize,
     ghost linked: { AreLinked 0 cells.items } by { linked_prop 0 cells.items },
     ghost within: { first ≤ length cells.items },
 }
 
-impl<'a> Arena<'a> {
+impl<'a> GoalStack<'a> {
     ghost use Rattle.std.specs.Prelude.{◌≡◌, ◌≤◌, ◌∷◌, [], IfSome, IfNone, List as list, OnOk, OnErr, length, take};
     ghost use Rattle.ap_search.specs.Continuations.{Waiting};
-    ghost use Rattle.ap_backchain.specs.Arenas.{IsLonger, waiting_at};
+    ghost use Rattle.ap_backchain.specs.GoalStacks.{IsLonger, waiting_at};
     ghost use Rattle.ap_backchain.specs.Stacks.{cells_of, first_of, waiting_in};
     ghost use Rattle.ap_backchain.specs.Views.{waiting_of};
 
     /// No goals. It takes no memory.
-    pub fn new(alloc: Global) -> Arena<'a>
+    pub fn new(alloc: Global) -> GoalStack<'a>
         ensures cells { cells_of result ≡ [] }
         ensures waiting { waiting_in result ≡ [] }
     {
-        Arena {
+        GoalStack {
             cells: Vec::new(alloc),
             first: 0,
         }

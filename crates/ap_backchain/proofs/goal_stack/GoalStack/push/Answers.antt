@@ -1,8 +1,8 @@
 use Rattle.std.proofs.Common.{◌≡◌, ◌≤◌, ◌+◌, List, [], ◌∷◌, ◌++◌, length, ap, ◌∙◌, sym, subst, length-append, arith}
-use Rattle.ap_backchain.specs.Arenas.{AreLinked, waiting_at}
+use Rattle.ap_backchain.specs.GoalStacks.{AreLinked, waiting_at}
 use Rattle.ap_backchain.specs.declared.frames.Cell.{Cell}
-use Rattle.ap_backchain.proofs.ArenaLemmas.{linked_last, waiting_front}
-use Rattle.ap_backchain.proofs.arena.Arena.push.Goals as goal
+use Rattle.ap_backchain.proofs.GoalStackLemmas.{linked_last, waiting_front}
+use Rattle.ap_backchain.proofs.goal_stack.GoalStack.push.Goals as goal
 
 pub invariant_of-self-2 : goal.invariant_of-self-2
 invariant_of-self-2 c =

@@ -1,5 +1,5 @@
-use Rattle.ap_backchain.proofs.ArenaLemmas.{next_within, waiting_first, waiting_none}
-use Rattle.ap_backchain.proofs.arena.Arena.pop.Goals as goal
+use Rattle.ap_backchain.proofs.GoalStackLemmas.{next_within, waiting_first, waiting_none}
+use Rattle.ap_backchain.proofs.goal_stack.GoalStack.pop.Goals as goal
 
 pub invariant_of-self : goal.invariant_of-self
 invariant_of-self c =
