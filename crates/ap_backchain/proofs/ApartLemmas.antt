@@ -14,7 +14,7 @@ use Rattle.ap_store.specs.declared.store.Store.{Store}
 use Rattle.ap_store.proofs.StoreLemmas.{well_formed}
 use Rattle.ap_theory.proofs.HeadKeyLemmas.{first_differs, first_renamed}
 use Rattle.ap_theory.proofs.RefusalLemmas.{unify_heads}
-use Rattle.ap_backchain.specs.Positions.{Position, by_clause, by_clauses, clause_state, each_position, entered, unified_state}
+use Rattle.ap_backchain.specs.Positions.{Position, enters_clause, by_clauses, clause_state, each_position, entered, unified_state}
 use Rattle.ap_backchain.specs.Machines.{position_of}
 use Rattle.ap_backchain.specs.ChoicePoints.{positions_left}
 use Rattle.ap_backchain.specs.Views.{state_in}
@@ -39,7 +39,7 @@ drop_map (suc n) (c ∷ cs) = drop_map n cs
 
 -- the search goes on from no machine by such a clause
 module _ (s : Store) (d : ℕ) (ts : List NominalTerm) (p : Position) (here : p.state ≡ state_in s) (key : ℕ) (is : key ≡ first_key (map (under (bindings_of s)) ts)) where
-  none_apart : (i : ℕ) (c : NominalClause) → agree key (first_key c.args) ≡ false → by_clause d ts p i c ≡ []
+  none_apart : (i : ℕ) (c : NominalClause) → agree key (first_key c.args) ≡ false → enters_clause d ts p i c ≡ []
   none_apart i c h =
       let k : agree (first_key (map (under (bindings_of s)) ts)) (first_key c.args) ≡ false = ap (λ l. agree l (first_key c.args)) (sym is) ∙ h in
       ap (λ a. each_position (entered d p i c) (clause_state ts a c)) here ∙ ap (each_position (entered d p i c)) (head_apart s ts c k)

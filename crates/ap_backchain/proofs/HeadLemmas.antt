@@ -15,7 +15,7 @@ use Rattle.ap_defs.specs.declared.terms.Term.{Term}
 use Rattle.ap_defs.specs.declared.terms.Var.{Var}
 use Rattle.ap_program.proofs.RenamingLemmas.{are_below_more, are_renamed_below}
 use Rattle.ap_search.specs.Continuations.{Waiting}
-use Rattle.ap_store.specs.Triples.{GoesOn, Triple, with_next}
+use Rattle.ap_store.specs.Triples.{IsPrefixOf, Triple, with_next}
 use Rattle.ap_store.specs.Views.{bindings_of, kinds, past, present, versions}
 use Rattle.ap_store.specs.declared.store.Store.{Store}
 use Rattle.ap_store.proofs.StoreLemmas.{next_counts}
@@ -120,7 +120,7 @@ module _ (s r d : Store) (ts : List NominalTerm) (c : NominalClause) (count : �
     head_some h = one_unified _ solved same_result h
 
 -- A store f that went back to where s was.
-module _ (s d f : Store) (m : ℕ) (goes : GoesOn (versions s) (versions d)) (more : (ks : List NominalKind) × (kinds d ≡ kinds s ++ ks))
+module _ (s d f : Store) (m : ℕ) (goes : IsPrefixOf (versions s) (versions d)) (more : (ks : List NominalKind) × (kinds d ≡ kinds s ++ ks))
     (mark : m ≡ length (past s)) (back : versions f ≡ take (m + 1) (versions d)) (left : kinds f ≡ take (present f).next (kinds d)) where
   versions_back : versions f ≡ versions s
   versions_back =

@@ -16,7 +16,7 @@ use Rattle.ap_backchain.specs.Below.{AreWaitingBelow}
 use Rattle.ap_backchain.specs.Marks.{choice_of, choice_of_atom, choice_of_goal}
 use Rattle.ap_backchain.specs.Machines.{next_of, position_of, track_of}
 use Rattle.ap_backchain.specs.ChoicePoints.{ArePoints, IsFitRest, IsPoint, positions_left, positions_pending}
-use Rattle.ap_backchain.specs.Positions.{Position, by_clause, by_clauses, goes, turned, turned_atom, turned_by, turned_goal}
+use Rattle.ap_backchain.specs.Positions.{Position, enters_clause, by_clauses, goes, turned, turned_atom, turned_by, turned_goal}
 use Rattle.ap_backchain.specs.Searches.{HasPoints, ended, pending_of}
 use Rattle.ap_backchain.specs.Tracks.{GoesFrom, IsWithin, Track, back_to, next_in, position_at}
 use Rattle.ap_backchain.specs.declared.machine.Machine.{Machine}
@@ -87,12 +87,12 @@ module _ (b d : Machine) (vs : Vec ChoicePoint Global) (t : track_of d ≡ track
 -- The first of the clauses that are left.
 pub clause_left : (u : Untried) (i : ℕ) (c : Clause Term) (p : Position) → i < length u.clauses.now → c ≡ get_or u.clauses.now i c
     → positions_left (rests.Clauses (record u { tried = i })) p
-    ≡ by_clause u.depth (map (rename_term u.base) (map term_of u.args.now)) p (i + 1) (clause_of c) ++ positions_left (rests.Clauses (record u { tried = i + 1 })) p
+    ≡ enters_clause u.depth (map (rename_term u.base) (map term_of u.args.now)) p (i + 1) (clause_of c) ++ positions_left (rests.Clauses (record u { tried = i + 1 })) p
 clause_left u i c p h e =
     let j : suc i ≡ i + 1 = omega arith in
     let ts = map (rename_term u.base) (map term_of u.args.now) in
     ap (λ bs. by_clauses u.depth ts p (suc i) (map clause_of bs)) (drop-cons u.clauses.now i c h ∙ ap (λ x. x ∷ drop (suc i) u.clauses.now) (sym e))
-    ∙ ap (λ k. by_clause u.depth ts p k (clause_of c) ++ by_clauses u.depth ts p (suc k) (map clause_of (drop k u.clauses.now))) j
+    ∙ ap (λ k. enters_clause u.depth ts p k (clause_of c) ++ by_clauses u.depth ts p (suc k) (map clause_of (drop k u.clauses.now))) j
 
 pub no_clause_left : (u : Untried) (i : ℕ) (p : Position) → length u.clauses.now ≤ i → positions_left (rests.Clauses (record u { tried = i })) p ≡ []
 no_clause_left u i p l = ap (λ cs. by_clauses u.depth (map (rename_term u.base) (map term_of u.args.now)) p (suc i) (map clause_of cs)) (drop_all i u.clauses.now l)

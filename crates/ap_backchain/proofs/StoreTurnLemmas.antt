@@ -18,7 +18,7 @@ use Rattle.ap_perm.specs.Closures.{opened_term}
 use Rattle.ap_perm.specs.declared.closures.Opened.{Opened}
 use Rattle.ap_perm.specs.declared.closures.Opened.TheVariants as parts
 use Rattle.ap_store.specs.Heads.{IsHeadUnbound}
-use Rattle.ap_store.specs.Triples.{GoesOn, Triple}
+use Rattle.ap_store.specs.Triples.{IsPrefixOf, Triple}
 use Rattle.ap_store.specs.Views.{bindings_of, kinds, present, versions}
 use Rattle.ap_store.specs.declared.store.Store.{Store}
 use Rattle.ap_store.proofs.StoreLemmas.{next_counts}
@@ -49,7 +49,7 @@ abbrev pub track_with : List Cell → List ℕ → List Var → List Triple → 
 track_with cs ps xs vs ks = record { versions = vs; kinds = ks; cells = cs; path = ps; brought = xs }
 
 -- the search goes on with the store
-pub store_goes : (s r : Store) (cs : List Cell) (ps : List ℕ) (xs : List Var) → GoesOn (versions s) (versions r) → IsLonger (kinds s) (kinds r)
+pub store_goes : (s r : Store) (cs : List Cell) (ps : List ℕ) (xs : List Var) → IsPrefixOf (versions s) (versions r) → IsLonger (kinds s) (kinds r)
     → GoesFrom (track_with cs ps xs (versions s) (kinds s)) (track_with cs ps xs (versions r) (kinds r))
 store_goes s r cs ps xs h k = record {
   versions = h;

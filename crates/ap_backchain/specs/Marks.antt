@@ -80,12 +80,12 @@ written_here w p None = []
 written_here w p (Some c) = w.choice p c.width c.kept
 
 -- how many choices the first goal makes
-abbrev pub one_if : Option ℕ → ℕ
-one_if None = 0
-one_if (Some w) = 1
+abbrev pub choices_made : Option ℕ → ℕ
+choices_made None = 0
+choices_made (Some w) = 1
 
 abbrev pub choices_here : Clauses → Position → ℕ
-choices_here program p = one_if (choice_of program p.waiting)
+choices_here program p = choices_made (choice_of program p.waiting)
 
 -- a search that doesn't choose ends, or goes on from one machine with the same path
 abbrev pub IsSettled : Position → Turned → Type 0

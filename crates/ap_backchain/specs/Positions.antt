@@ -74,13 +74,13 @@ abbrev pub entered : ℕ → Position → ℕ → NominalClause → State → Po
 entered d p i c s =
     with_goal d (rename_goal (next_number p.state) c.body) (with_vars (local_vars (next_number p.state) c.locals) (with_choice i (with_state s p)))
 
-abbrev pub by_clause : ℕ → List NominalTerm → Position → ℕ → NominalClause → List Position
-by_clause d ts p i c = each_position (entered d p i c) (clause_state ts p.state c)
+abbrev pub enters_clause : ℕ → List NominalTerm → Position → ℕ → NominalClause → List Position
+enters_clause d ts p i c = each_position (entered d p i c) (clause_state ts p.state c)
 
 -- clauses numbered from i on
 abbrev pub by_clauses : ℕ → List NominalTerm → Position → ℕ → List NominalClause → List Position
 by_clauses d ts p i [] = []
-by_clauses d ts p i (c ∷ cs) = by_clause d ts p i c ++ by_clauses d ts p (suc i) cs
+by_clauses d ts p i (c ∷ cs) = enters_clause d ts p i c ++ by_clauses d ts p (suc i) cs
 
 abbrev pub turned_atom : Clauses → ℕ → ℕ → List NominalTerm → Position → Turned
 turned_atom program zero c ts p = ends (cut p.path)

@@ -8,8 +8,8 @@ use Rattle.ap_backchain.specs.declared.frames.Cell.{Cell}
 abbrev pub cells_of : GoalStack → List Cell
 cells_of a = a.cells.items
 
-abbrev pub first_of : GoalStack → ℕ
-first_of a = a.first
+abbrev pub first_waiting : GoalStack → ℕ
+first_waiting a = a.first
 
 -- the goals that wait, the first one first
 abbrev pub waiting_in : GoalStack → List Waiting

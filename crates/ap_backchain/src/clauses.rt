@@ -7,7 +7,7 @@ ghost use Rattle.ap_defs.specs.Terms.{term_of};
 ghost use Rattle.ap_backchain.specs.Below.{AreClausesBelow};
 ghost use Rattle.ap_search.specs.FitStates.{AreFitClauses, IsFitClause};
 ghost use Rattle.ap_backchain.specs.Machines.{next_of, position_if, position_of, track_of};
-ghost use Rattle.ap_backchain.specs.Positions.{by_clause};
+ghost use Rattle.ap_backchain.specs.Positions.{enters_clause};
 ghost use Rattle.ap_backchain.specs.Tracks.{GoesFrom};
 ghost use Rattle.ap_backchain.specs.Heads.{HasHead};
 
@@ -101,7 +101,7 @@ pub fn enter_clause<'a>(
     requires args { AreBelow (next_of machine.old) (map (renamed base) (map term_of args.now)) }
     requires clause { IsFitClause (clause_of clause.now) }
     ensures entered { IfOk result (λ b. position_if b (position_of machine.new)
-        ≡ by_clause depth (map (renamed base) (map term_of args.now)) (position_of machine.old)
+        ≡ enters_clause depth (map (renamed base) (map term_of args.now)) (position_of machine.old)
         choice (clause_of clause.now)) }
     ensures goes { OnOk result (GoesFrom (track_of machine.old) (track_of machine.new)) }
     ensures none { IfOk result (λ b. b ≡ false →

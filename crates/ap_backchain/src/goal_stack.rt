@@ -22,7 +22,7 @@ impl<'a> GoalStack<'a> {
     ghost use Rattle.std.specs.Prelude.{◌≡◌, ◌≤◌, ◌∷◌, [], IfSome, IfNone, List as list, OnOk, OnErr, length, take};
     ghost use Rattle.ap_search.specs.Continuations.{Waiting};
     ghost use Rattle.ap_backchain.specs.GoalStacks.{IsLonger, waiting_at};
-    ghost use Rattle.ap_backchain.specs.Stacks.{cells_of, first_of, waiting_in};
+    ghost use Rattle.ap_backchain.specs.Stacks.{cells_of, first_waiting, waiting_in};
     ghost use Rattle.ap_backchain.specs.Views.{waiting_of};
 
     /// No goals. It takes no memory.
@@ -86,7 +86,7 @@ impl<'a> GoalStack<'a> {
 
     /// The number of the first goal's cell, or 0 where no goal waits.
     pub fn front(&self) -> usize
-        ensures front { result ≡ first_of self.now }
+        ensures front { result ≡ first_waiting self.now }
         ensures within { result ≤ length (cells_of self.now) }
     {
         self.first
@@ -98,7 +98,7 @@ impl<'a> GoalStack<'a> {
         requires first { first ≤ size }
         ensures cells { cells_of self.new ≡ take size (cells_of self.old) }
         ensures waiting { waiting_in self.new ≡ waiting_at (cells_of self.new) first }
-        ensures first { first_of self.new ≡ first }
+        ensures first { first_waiting self.new ≡ first }
     {
         self.cells.truncate(size);
         self.first = first;

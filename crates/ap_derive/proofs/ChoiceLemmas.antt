@@ -12,7 +12,7 @@ use Rattle.ap_defs.specs.Unification.{Unified, unify}
 use Rattle.ap_defs.specs.declared.goals.Clause.{Clause}
 use Rattle.ap_defs.specs.declared.terms.Term.{Term}
 use Rattle.ap_theory.proofs.TermLemmas.{number_same}
-use Rattle.ap_backchain.specs.Positions.{Position, by_clause, each_position, entered, goes, unified_state, with_choice, with_goal}
+use Rattle.ap_backchain.specs.Positions.{Position, enters_clause, each_position, entered, goes, unified_state, with_choice, with_goal}
 use Rattle.ap_checks.specs.Traces.{trace_call, trace_clause, trace_goal, trace_side, trace_unified, traced, under_node}
 use Rattle.ap_derive.specs.Nodes.{atom, left, right}
 use Rattle.ap_derive.specs.Solved.{HasChoice, IsSolved, Selects, Solved, others_solved, rest_of, solved, solved_at, with_node}
@@ -112,7 +112,7 @@ module _ (program : Clauses) (path : List ℕ) (q : ℕ) (ts : List NominalTerm)
     -- the atom's node, and what entering the clause makes of the machine
     clause_selected : clause_at (clauses_of program q) k ≡ Some c
         → solved_at program path (with_goal (suc lower) (goals.atom q ts) p)
-        ≡ with_node (atom k (local_names (next_number p.state) c.locals) (map (susp []) (local_vars (next_number p.state) c.locals))) (solved_on program path (goes (by_clause lower ts p k c)))
+        ≡ with_node (atom k (local_names (next_number p.state) c.locals) (map (susp []) (local_vars (next_number p.state) c.locals))) (solved_on program path (goes (enters_clause lower ts p k c)))
     clause_selected there =
         let o = unify p.state.bindings p.state.conditions ts (map (rename_term (next_number p.state)) c.args) in
         let node = atom k (local_names (next_number p.state) c.locals) (map (susp []) (local_vars (next_number p.state) c.locals)) in
@@ -163,7 +163,7 @@ module _ (program : Clauses) (path : List ℕ) (d q : ℕ) (ts : List NominalTer
         sym (clause_read cs (k - 1) b its.clause within there (ap (clause_at (map clause_of cs)) (sym e) ∙ its_clause))
 
     abbrev entering : ℕ → NominalClause → Option Solved
-    entering n c = with_node (atom k (local_names (next_number p.state) c.locals) (map (susp []) (local_vars (next_number p.state) c.locals))) (solved_on program path (goes (by_clause n ts p k c)))
+    entering n c = with_node (atom k (local_names (next_number p.state) c.locals) (map (susp []) (local_vars (next_number p.state) c.locals))) (solved_on program path (goes (enters_clause n ts p k c)))
 
     pub selected_with : solved_at program path (with_goal d (goals.atom q ts) p) ≡ entering (d - 1) (clause_of b)
     selected_with =
@@ -174,13 +174,13 @@ module _ (program : Clauses) (path : List ℕ) (d q : ℕ) (ts : List NominalTer
         ∙ ap (λ n. entering n its.clause) f
         ∙ ap (entering (d - 1)) same_clause
 
-    pub enters : [] ≡ by_clause (d - 1) ts p k (clause_of b) → ⊥
+    pub enters : [] ≡ enters_clause (d - 1) ts p k (clause_of b) → ⊥
     enters e =
         let h : None ≡ entering (d - 1) (clause_of b) = ap (λ ps. with_node (atom k (local_names (next_number p.state) (clause_of b).locals) (map (susp []) (local_vars (next_number p.state) (clause_of b).locals))) (solved_on program path (goes ps))) e in
         let r : None ≡ Some s.0 = h ∙ sym selected_with ∙ s.1 in
         cc
 
-    pub selected_to : (r : Position) → r ∷ [] ≡ by_clause (d - 1) ts p k (clause_of b)
+    pub selected_to : (r : Position) → r ∷ [] ≡ enters_clause (d - 1) ts p k (clause_of b)
         → Selects program path (with_goal d (goals.atom q ts) p) (atom k (local_names (next_number p.state) (clause_of b).locals) (map (susp []) (local_vars (next_number p.state) (clause_of b).locals))) r
     selected_to r e =
         selected_with

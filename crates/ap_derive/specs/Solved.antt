@@ -12,7 +12,7 @@ use Rattle.ap_backchain.specs.Positions.{Position}
 use Rattle.ap_backchain.specs.Views.{waiting_of}
 use Rattle.ap_backchain.specs.declared.frames.Frame.{Frame}
 use Rattle.ap_checks.specs.Traces.{Traced, traced}
-use Rattle.ap_derive.specs.Nodes.{DerivationNode, both, equal, exists, fresh, new, preorder, succeed}
+use Rattle.ap_derive.specs.Nodes.{DerivationNode, both, equal, exists, fresh, new, nodes_before, succeed}
 
 -- The state to which they lead, the nodes of their derivations in preorder, and what is left of the path.
 pub record Solved : Type 0 where
@@ -26,7 +26,7 @@ with_node n (Some r) = Some (record { state = r.state; nodes = n ∷ r.nodes; re
 
 abbrev pub with_derivation : NominalDerivation → Option Solved → Option Solved
 with_derivation d None = None
-with_derivation d (Some r) = Some (record { state = r.state; nodes = preorder d r.nodes; rest = r.rest })
+with_derivation d (Some r) = Some (record { state = r.state; nodes = nodes_before d r.nodes; rest = r.rest })
 
 -- the others go on where the first one led
 abbrev pub others_solved : (State → List ℕ → Option Solved) → Option Traced → Option Solved
@@ -54,8 +54,8 @@ abbrev pub HasChoice : List ℕ → Position → Type 0
 HasChoice path p = (k : ℕ) × (rest : List ℕ) × (rest_of path p ≡ k ∷ rest)
 
 -- the goal of a frame, and terms whose numbers are raised
-abbrev pub goal_in : Frame → NominalGoal
-goal_in f = rename_goal f.base (goal_of f.goal.now)
+abbrev pub frame_goal : Frame → NominalGoal
+frame_goal f = rename_goal f.base (goal_of f.goal.now)
 
 abbrev pub raised : ℕ → List Term → List NominalTerm
 raised n ts = map (rename_term n) (map term_of ts)

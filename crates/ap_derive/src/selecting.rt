@@ -8,7 +8,7 @@ ghost use Rattle.ap_backchain.specs.Below.{AreClausesBelow};
 ghost use Rattle.ap_backchain.specs.Machines.{next_of, position_of};
 ghost use Rattle.ap_backchain.specs.Positions.{with_goal};
 ghost use Rattle.ap_derive.specs.Nodes.{DerivationNode, node_of};
-ghost use Rattle.ap_derive.specs.Solved.{HasChoice, IsSolved, Selects, goal_in, node_of_goal, raised, rest_of, solved_at, with_frame};
+ghost use Rattle.ap_derive.specs.Solved.{HasChoice, IsSolved, Selects, frame_goal, node_of_goal, raised, rest_of, solved_at, with_frame};
 
 use crate::nodes::{SelectedGoal, selected_atom};
 use ap_backchain::clauses::{clauses_at, enter_clause};
@@ -37,12 +37,12 @@ fn settle<'a>(
     frame: Frame<'a>,
     machine: &mut Machine<'a>,
 ) -> Result<(), Memory>
-    requires goal { IsGoalBelow (next_of machine.old) (goal_in frame) }
-    requires settled { (n : DerivationNode) × (node_of_goal (goal_in frame) ≡ Some n) }
+    requires goal { IsGoalBelow (next_of machine.old) (frame_goal frame) }
+    requires settled { (n : DerivationNode) × (node_of_goal (frame_goal frame) ≡ Some n) }
     requires solved { (path : list ℕ) ×
         IsSolved (program_in clauses.now) path (with_frame frame (position_of machine.old)) }
     ensures { OnOk result ((path : list ℕ) (n : DerivationNode) →
-        node_of_goal (goal_in frame.entry) ≡ Some n →
+        node_of_goal (frame_goal frame.entry) ≡ Some n →
         Selects (program_in clauses.now) path
         (with_frame frame.entry (position_of machine.old)) n (position_of machine.new)) }
 {
@@ -55,8 +55,8 @@ fn settle<'a>(
 
 /// The node of the goal of a frame, whose numbers are below `next`, or none where it chooses.
 fn settled_goal(frame: &Frame<'_>, next: u64) -> Option<SelectedGoal>
-    requires { IsGoalBelow next (goal_in frame.now) }
-    ensures { option_map node_of result ≡ node_of_goal (goal_in frame.now) }
+    requires { IsGoalBelow next (frame_goal frame.now) }
+    ensures { option_map node_of result ≡ node_of_goal (frame_goal frame.now) }
 {
     let base = frame.base;
     match frame.goal {
@@ -159,8 +159,8 @@ fn select_choice<'a>(
     path: &[u32],
 ) -> Result<SelectedGoal, Memory>
     requires clauses { AreClausesBelow (program_in clauses.now) }
-    requires goal { IsGoalBelow (next_of machine.old) (goal_in frame) }
-    requires choosing { node_of_goal (goal_in frame) ≡ None }
+    requires goal { IsGoalBelow (next_of machine.old) (frame_goal frame) }
+    requires choosing { node_of_goal (frame_goal frame) ≡ None }
     requires solved { IsSolved (program_in clauses.now) path.now
         (with_frame frame (position_of machine.old)) }
     ensures { IfOk result (λ n. Selects (program_in clauses.now) path.now
@@ -190,7 +190,7 @@ fn select<'a>(
     path: &[u32],
 ) -> Result<SelectedGoal, Memory>
     requires clauses { AreClausesBelow (program_in clauses.now) }
-    requires goal { IsGoalBelow (next_of machine.old) (goal_in frame) }
+    requires goal { IsGoalBelow (next_of machine.old) (frame_goal frame) }
     requires solved { IsSolved (program_in clauses.now) path.now
         (with_frame frame (position_of machine.old)) }
     ensures { IfOk result (λ n. Selects (program_in clauses.now) path.now

@@ -15,7 +15,7 @@ use Rattle.ap_perm.specs.Lookups.{IsRanked, carried_out}
 use Rattle.ap_theory.specs.Variables.{IsUnbound, is_bound}
 use Rattle.ap_store.specs.Changes.{after, empty, present_after, replace_conditions}
 use Rattle.ap_store.specs.Slots.{slot_kind}
-use Rattle.ap_store.specs.Triples.{AreOnUnbound, GoesOn, Triple, is_apart, is_on, with_conditions}
+use Rattle.ap_store.specs.Triples.{AreOnUnbound, IsPrefixOf, Triple, is_apart, is_on, with_conditions}
 use Rattle.ap_store.specs.Views.{IsUnchanged, bindings_of, kinds, past, present, rank, raw_bound, versions}
 use Rattle.ap_store.specs.WellFormed.{IsWellFormed}
 use Rattle.ap_store.specs.declared.changes.Change.{Change}
@@ -106,7 +106,7 @@ last_is d [] a = refl
 last_is d (b ∷ as') a = last_is b as' a
 
 -- a store that went back to where s was
-pub gone_back : (s d f : Store) (m : ℕ) → GoesOn (versions s) (versions d) → kinds d ≡ kinds s → m ≡ length (past s) → versions f ≡ take (m + 1) (versions d) → kinds f ≡ take (present f).next (kinds d) → IsUnchanged s f
+pub gone_back : (s d f : Store) (m : ℕ) → IsPrefixOf (versions s) (versions d) → kinds d ≡ kinds s → m ≡ length (past s) → versions f ≡ take (m + 1) (versions d) → kinds f ≡ take (present f).next (kinds d) → IsUnchanged s f
 gone_back s d f m goes same mark back left =
     let l : length (versions s) ≡ m + 1 = omega (arith, length-append (past s) (present s ∷ []), mark) in
     let v : versions f ≡ versions s = back ∙ sym (prefix_is (versions s) (versions d) (m + 1) goes l) in

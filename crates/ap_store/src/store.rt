@@ -50,7 +50,7 @@ impl<'a> Store<'a> {
     ghost use Rattle.ap_perm.specs.Closures.{closure_term};
     ghost use Rattle.ap_theory.specs.Variables.{IsUnbound};
     ghost use Rattle.ap_store.specs.Changes.{has_on, replace_conditions, with_bound};
-    ghost use Rattle.ap_store.specs.Triples.{AreOnUnbound, GoesOn, is_apart, is_on, with_binding, with_conditions, with_next};
+    ghost use Rattle.ap_store.specs.Triples.{AreOnUnbound, IsPrefixOf, is_apart, is_on, with_binding, with_conditions, with_next};
     ghost use Rattle.ap_store.specs.Views.{IsUnchanged, bindings_of, kinds, past, present, raw_bound, versions};
 
     /// The empty store. It takes no memory.
@@ -75,7 +75,7 @@ impl<'a> Store<'a> {
             ≡ kinds self.old ++ kinds_of (locals_of locals.now)) }
         ensures present { OnOk result (present self.new
             ≡ with_next ((present self.old).next + length locals.now) (present self.old)) }
-        ensures past { OnOk result (GoesOn (versions self.old) (versions self.new)) }
+        ensures past { OnOk result (IsPrefixOf (versions self.old) (versions self.new)) }
         ensures unchanged { OnErr result (IsUnchanged self.old self.new) }
     {
         let count = locals.len();
@@ -99,7 +99,7 @@ impl<'a> Store<'a> {
         ensures present { OnOk result (present self.new
             ≡ with_binding x (under (bindings_of self.old) (closure_term c.entry))
             (present self.old)) }
-        ensures past { OnOk result (GoesOn (versions self.old) (versions self.new)) }
+        ensures past { OnOk result (IsPrefixOf (versions self.old) (versions self.new)) }
         ensures kinds { kinds self.new ≡ kinds self.old }
         ensures unchanged { OnErr result (IsUnchanged self.old self.new) }
     {
@@ -113,7 +113,7 @@ impl<'a> Store<'a> {
         requires { AreOnUnbound (present self.old) conds.now }
         ensures present { OnOk result (present self.new
             ≡ with_conditions conds.now (present self.old)) }
-        ensures past { OnOk result (GoesOn (versions self.old) (versions self.new)) }
+        ensures past { OnOk result (IsPrefixOf (versions self.old) (versions self.new)) }
         ensures kinds { kinds self.new ≡ kinds self.old }
         ensures unchanged { OnErr result (IsUnchanged self.old self.new) }
     {
@@ -202,7 +202,7 @@ impl<'a> Store<'a> {
             ≡ replace_conditions (filter (is_apart x) (present self.old).conditions)
             (present self.old)) }
         ensures room { OnOk result (vec_len self.new.trail < vec_capacity self.new.trail) }
-        ensures past { OnOk result (GoesOn (versions self.old) (versions self.new)) }
+        ensures past { OnOk result (IsPrefixOf (versions self.old) (versions self.new)) }
         ensures kinds { kinds self.new ≡ kinds self.old }
         ensures unchanged { OnErr result (IsUnchanged self.old self.new) }
     {
@@ -222,7 +222,7 @@ impl<'a> Store<'a> {
         requires { AreOnUnbound (present self.old) conds.now }
         ensures present { OnOk result (present self.new
             ≡ with_conditions conds.now (present self.old)) }
-        ensures past { GoesOn (versions self.old) (versions self.new) }
+        ensures past { IsPrefixOf (versions self.old) (versions self.new) }
         ensures kinds { kinds self.new ≡ kinds self.old }
     {
         'adding: for i in (0..conds.len()).rev() {
@@ -236,7 +236,7 @@ impl<'a> Store<'a> {
         requires { AreOnUnbound (present self.old) (c ∷ []) }
         ensures present { OnOk result (present self.new
             ≡ with_conditions (c ∷ []) (present self.old)) }
-        ensures past { GoesOn (versions self.old) (versions self.new) }
+        ensures past { IsPrefixOf (versions self.old) (versions self.new) }
         ensures kinds { kinds self.new ≡ kinds self.old }
         ensures unchanged { OnErr result (IsUnchanged self.old self.new) }
     {

@@ -4,7 +4,7 @@ ghost use Rattle.std.specs.Prelude.{◌≡◌, ◌++◌, Some, IfOk, map};
 ghost use Rattle.ap_defs.specs.Freshness.{Conds};
 ghost use Rattle.ap_defs.specs.Unification.{problem_of, reduce_all};
 ghost use Rattle.ap_fresh.specs.Reduction.{added};
-ghost use Rattle.ap_store.specs.Triples.{AreOnUnbound, GoesOn};
+ghost use Rattle.ap_store.specs.Triples.{AreOnUnbound, IsPrefixOf};
 ghost use Rattle.ap_store.specs.Views.{bindings_of, kinds, present, versions};
 ghost use Rattle.ap_theory.specs.StatementsOnConditions.{collected};
 ghost use Rattle.ap_unify.specs.Finishing.{items_in, reduced, some_if, with_kept};
@@ -101,7 +101,7 @@ pub fn finish<'a>(alloc: Global, store: &mut Store<'a>, work: &Work<'a>) -> Resu
         ≡ some_if fine (present store.new).conditions) }
     ensures bindings { bindings_of store.new ≡ bindings_of store.old }
     ensures next { (present store.new).next ≡ (present store.old).next }
-    ensures past { GoesOn (versions store.old) (versions store.new) }
+    ensures past { IsPrefixOf (versions store.old) (versions store.new) }
     ensures kinds { kinds store.new ≡ kinds store.old }
 {
     match reduce_met(alloc, store, work)? {

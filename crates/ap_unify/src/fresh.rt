@@ -7,7 +7,7 @@ ghost use Rattle.ap_defs.specs.Resolution.{fresh_for_each};
 ghost use Rattle.ap_defs.specs.Substitution.{under};
 ghost use Rattle.ap_defs.specs.Unification.{reduce_all};
 ghost use Rattle.ap_perm.specs.Closures.{closure_term};
-ghost use Rattle.ap_store.specs.Triples.{GoesOn};
+ghost use Rattle.ap_store.specs.Triples.{IsPrefixOf};
 ghost use Rattle.ap_store.specs.Views.{IsUnchanged, bindings_of, kinds, present, versions};
 ghost use Rattle.ap_unify.specs.Unified.{AreVarsBelow, IsReduced};
 
@@ -35,7 +35,7 @@ pub fn make_fresh<'a>(
     requires term { IsBelow (present store.old).next (closure_term t.now) }
     ensures defined { IfOk result (λ fresh. IsReduced (reduce a (under (bindings_of store.old)
         (closure_term t.now))) (present store.old) fresh (present store.new)) }
-    ensures past { GoesOn (versions store.old) (versions store.new) }
+    ensures past { IsPrefixOf (versions store.old) (versions store.new) }
     ensures kinds { kinds store.new ≡ kinds store.old }
     ensures failed { IfOk result (λ fresh. fresh ≡ false → IsUnchanged store.old store.new) }
     ensures unchanged { OnErr result (IsUnchanged store.old store.new) }
@@ -64,7 +64,7 @@ pub fn make_fresh_for_each<'a>(
     requires vars { AreVarsBelow (present store.old).next vars.now }
     ensures defined { IfOk result (λ fresh. IsReduced (reduce_all (bindings_of store.old)
         (fresh_for_each a vars.now)) (present store.old) fresh (present store.new)) }
-    ensures past { GoesOn (versions store.old) (versions store.new) }
+    ensures past { IsPrefixOf (versions store.old) (versions store.new) }
     ensures kinds { kinds store.new ≡ kinds store.old }
     ensures failed { IfOk result (λ fresh. fresh ≡ false → IsUnchanged store.old store.new) }
     ensures unchanged { OnErr result (IsUnchanged store.old store.new) }

@@ -4,7 +4,7 @@ ghost use Rattle.std.specs.Prelude.{◌≡◌, ◌&&◌, [], false, true, IfOk, 
 ghost use Rattle.ap_defs.specs.Groundings.{Grounding};
 ghost use Rattle.ap_defs.specs.Renaming.{AreBelow};
 ghost use Rattle.ap_defs.specs.Unification.{unify as unify_lem};
-ghost use Rattle.ap_store.specs.Triples.{GoesOn};
+ghost use Rattle.ap_store.specs.Triples.{IsPrefixOf};
 ghost use Rattle.ap_store.specs.Views.{IsUnchanged, bindings_of, kinds, present, versions};
 ghost use Rattle.ap_unify.specs.Lists.{terms_in};
 ghost use Rattle.ap_unify.specs.Runs.{paired};
@@ -58,7 +58,7 @@ fn unify_forward<'a>(
     ensures defined { IfOk result (λ solved. IsResult (unify_lem (bindings_of store.old)
         (present store.old).conditions (terms_in left.entry) (terms_in right.entry))
         (present store.old) solved (present store.new)) }
-    ensures past { GoesOn (versions store.old) (versions store.new) }
+    ensures past { IsPrefixOf (versions store.old) (versions store.new) }
     ensures kinds { kinds store.new ≡ kinds store.old }
 {
     let mut work = first_work(alloc, left, right)?;
@@ -92,7 +92,7 @@ pub fn unify<'a>(
     ensures instances { IfOk result (λ solved. (g : Grounding) →
         solves g (present store.old) (terms_in left.entry) (terms_in right.entry)
         ≡ (solved && is_of g (present store.new))) }
-    ensures past { GoesOn (versions store.old) (versions store.new) }
+    ensures past { IsPrefixOf (versions store.old) (versions store.new) }
     ensures kinds { kinds store.new ≡ kinds store.old }
     ensures failed { IfOk result (λ solved. solved ≡ false → IsUnchanged store.old store.new) }
     ensures unchanged { OnErr result (IsUnchanged store.old store.new) }

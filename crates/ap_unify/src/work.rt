@@ -5,7 +5,7 @@ ghost use Rattle.ap_defs.specs.Renaming.{IsBelow};
 ghost use Rattle.ap_defs.specs.Substitution.{◌#◌, occurs, under};
 ghost use Rattle.ap_defs.specs.Unification.{apply_rule, bind, ending, fresh_for, next, rule, step};
 ghost use Rattle.ap_perm.specs.Closures.{closure_term};
-ghost use Rattle.ap_store.specs.Triples.{GoesOn};
+ghost use Rattle.ap_store.specs.Triples.{IsPrefixOf};
 ghost use Rattle.ap_store.specs.Views.{bindings_of, kinds, present, versions};
 ghost use Rattle.ap_theory.specs.Variables.{IsUnbound};
 ghost use Rattle.ap_unify.specs.Runs.{equation_under, problem_under};
@@ -95,7 +95,7 @@ fn bind_var<'a>(
         (equation_under (bindings_of store.old)) (equations_left work.old)) (map (problem_under
         (bindings_of store.old)) (problems_met work.old)) (bindings_of store.old)) }
     ensures goes_on { OnOk result (GoOn (present store.old) work.old (present store.new) work.new) }
-    ensures past { GoesOn (versions store.old) (versions store.new) }
+    ensures past { IsPrefixOf (versions store.old) (versions store.new) }
     ensures kinds { kinds store.new ≡ kinds store.old }
 {
     let mut taken = store.bind(alloc, x, c)?;
@@ -118,7 +118,7 @@ fn carry_out<'a>(
         (bindings_of store.old)) (equations_left work.old)) (map (problem_under
         (bindings_of store.old)) (problems_met work.old)) (bindings_of store.old)) }
     ensures goes_on { OnOk result (GoOn (present store.old) work.old (present store.new) work.new) }
-    ensures past { GoesOn (versions store.old) (versions store.new) }
+    ensures past { IsPrefixOf (versions store.old) (versions store.new) }
     ensures kinds { kinds store.new ≡ kinds store.old }
 {
     match m {
@@ -170,7 +170,7 @@ fn advance<'a>(alloc: Global, store: &mut Store<'a>, work: &mut Work<'a>) -> Res
         (bindings_of store.new) work.new)
         ≡ step (work_stage (bindings_of store.old) work.old)) }
     ensures goes_on { OnOk result (GoOn (present store.old) work.old (present store.new) work.new) }
-    ensures past { GoesOn (versions store.old) (versions store.new) }
+    ensures past { IsPrefixOf (versions store.old) (versions store.new) }
     ensures kinds { kinds store.new ≡ kinds store.old }
 {
     let Some(first) = work.equations.pop() else {
@@ -187,7 +187,7 @@ pub fn run<'a>(alloc: Global, store: &mut Store<'a>, work: &mut Work<'a>) -> Res
         work.old) ≡ ending_if solved (work_stage (bindings_of store.new) work.new)) }
     ensures left { IfOk result (λ solved. solved ≡ true → work.new.equations.items ≡ []) }
     ensures goes_on { OnOk result (GoOn (present store.old) work.old (present store.new) work.new) }
-    ensures past { GoesOn (versions store.old) (versions store.new) }
+    ensures past { IsPrefixOf (versions store.old) (versions store.new) }
     ensures kinds { kinds store.new ≡ kinds store.old }
 {
     'rewriting: while !work.equations.is_empty() {

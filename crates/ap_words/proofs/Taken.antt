@@ -16,7 +16,7 @@ use Rattle.ap_words.specs.declared.table.CommandName.{CommandName}
 use Rattle.ap_words.specs.declared.table.CommandName.TheVariants as command
 use Rattle.ap_words.specs.declared.table.OptionName.{OptionName}
 use Rattle.ap_words.specs.Table.{commands, command_name, option_name, options_of, is_required}
-use Rattle.ap_words.specs.Words.{are_complete, asked_of, asked_together, asked_with, asked_by, both, command_of, is_equals, is_well_set, joined, number_of, option_of, sets, setting_of, settings_of}
+use Rattle.ap_words.specs.Words.{are_complete, asked_of, asked_together, asked_with, asked_by, both, command_of, is_equals, is_well_set, joined_setting, number_of, option_of, sets, setting_of, settings_of}
 use Rattle.ap_words.specs.Program.{program}
 use Rattle.ap_words.proofs.Lists.{all_found, count_first, count_push, find_holds}
 use Rattle.ap_words.proofs.Plain.{joined_word, name_same, number_plain, option_word, parted}
@@ -110,7 +110,7 @@ fewer options ds es ss rest same few o known = let k = same o in let m = few o k
 -- a setting in one word
 joined_case : (options : List OptionName) (word : Text) (words : List Text) → Passes options words → list_any is_equals word ≡ true → Passes options (word ∷ words)
 joined_case options word words later has ss ds p read fine few =
-    let parts = both_parts (joined options word) (settings_of options words) ss (sym (joined_first options word words has) ∙ read) in
+    let parts = both_parts (joined_setting options word) (settings_of options words) ss (sym (joined_first options word words has) ∙ read) in
     go parts.0 parts.1 (setting_is options _ _ parts.0 parts.2) parts.3 parts.4
   where
     go : (s : Setting) (rest : List Setting) → IsSettingOf options (before_first is_equals word) (after_first is_equals word) s → settings_of options words ≡ Some rest → ss ≡ s ∷ rest

@@ -6,7 +6,7 @@ use Rattle.ap_defs.specs.Resolution.{kinds_of}
 use Rattle.ap_defs.specs.Terms.{term_of}
 use Rattle.ap_defs.specs.Types.{NominalKind, local_of, locals_of}
 use Rattle.ap_defs.specs.declared.terms.Term.{Term}
-use Rattle.ap_store.specs.Triples.{GoesOn, Triple}
+use Rattle.ap_store.specs.Triples.{IsPrefixOf, Triple}
 use Rattle.ap_store.specs.Views.{kinds, present, versions}
 use Rattle.ap_store.proofs.TrailLemmas.{goes_on_both}
 use Rattle.ap_backchain.specs.Below.{AreWaitingBelow}
@@ -84,7 +84,7 @@ returns-then-branch-clause-goes c =
     let b = c.args.machine.now in
     let s = c.args.machine.now.store in let r = c.make.new.self in
     let d = c.unify.new.store in
-    let on : GoesOn (versions s) (versions d) = goes_on_both (versions s) (versions r) (versions d) c.in_ok-start.ensures.past c.unify.ensures.past in
+    let on : IsPrefixOf (versions s) (versions d) = goes_on_both (versions s) (versions r) (versions d) c.in_ok-start.ensures.past c.unify.ensures.past in
     let longer : (ks : List NominalKind) × (kinds d ≡ kinds s ++ ks) = (kinds_of (locals_of c.items.result.now), c.unify.ensures.kinds ∙ c.in_ok-start.ensures.kinds) in
     store_goes s d (cells_of b.goals) b.path.items b.brought.items on longer
 
@@ -92,7 +92,7 @@ pub invariant_of-machine-else-branch : goal.invariant_of-machine-else-branch
 invariant_of-machine-else-branch c =
     let s = c.args.machine.now.store in let r = c.make.new.self in
     let d = c.unify.new.store in
-    let on : GoesOn (versions s) (versions d) = goes_on_both (versions s) (versions r) (versions d) c.in_ok-start.ensures.past c.unify.ensures.past in
+    let on : IsPrefixOf (versions s) (versions d) = goes_on_both (versions s) (versions r) (versions d) c.in_ok-start.ensures.past c.unify.ensures.past in
     let longer : (ks : List NominalKind) × (kinds d ≡ kinds s ++ ks) = (kinds_of (locals_of c.items.result.now), c.unify.ensures.kinds ∙ c.in_ok-start.ensures.kinds) in
     record { below = subst (λ (a : Triple). AreWaitingBelow a.next (waiting_in c.args.machine.now.goals)) (sym (present_back s d c.undo_to.new.self c.mark-mark.result.machine on longer c.mark-mark.ensures c.undo_to.ensures.versions c.undo_to.ensures.kinds)) c.args.machine.now.below }
 
@@ -118,7 +118,7 @@ returns-else-branch-clause-goes c =
     let b = c.args.machine.now in
     let s = c.args.machine.now.store in let r = c.make.new.self in
     let d = c.unify.new.store in
-    let on : GoesOn (versions s) (versions d) = goes_on_both (versions s) (versions r) (versions d) c.in_ok-start.ensures.past c.unify.ensures.past in
+    let on : IsPrefixOf (versions s) (versions d) = goes_on_both (versions s) (versions r) (versions d) c.in_ok-start.ensures.past c.unify.ensures.past in
     let longer : (ks : List NominalKind) × (kinds d ≡ kinds s ++ ks) = (kinds_of (locals_of c.items.result.now), c.unify.ensures.kinds ∙ c.in_ok-start.ensures.kinds) in
     goes_same (track_of b) _ (track_back s d c.undo_to.new.self c.mark-mark.result.machine on longer c.mark-mark.ensures c.undo_to.ensures.versions c.undo_to.ensures.kinds (cells_of b.goals) b.path.items b.brought.items)
 
@@ -127,7 +127,7 @@ returns-else-branch-clause-none c =
     let b = c.args.machine.now in
     let s = c.args.machine.now.store in let r = c.make.new.self in
     let d = c.unify.new.store in
-    let on : GoesOn (versions s) (versions d) = goes_on_both (versions s) (versions r) (versions d) c.in_ok-start.ensures.past c.unify.ensures.past in
+    let on : IsPrefixOf (versions s) (versions d) = goes_on_both (versions s) (versions r) (versions d) c.in_ok-start.ensures.past c.unify.ensures.past in
     let longer : (ks : List NominalKind) × (kinds d ≡ kinds s ++ ks) = (kinds_of (locals_of c.items.result.now), c.unify.ensures.kinds ∙ c.in_ok-start.ensures.kinds) in
     λ h. (
       track_back s d c.undo_to.new.self c.mark-mark.result.machine on longer c.mark-mark.ensures c.undo_to.ensures.versions c.undo_to.ensures.kinds (cells_of b.goals) b.path.items b.brought.items,

@@ -6,7 +6,7 @@ use Rattle.ap_defs.specs.declared.goals.Clause.{Clause}
 use Rattle.ap_defs.specs.declared.terms.Term.{Term}
 use Rattle.ap_backchain.specs.Machines.{position_if, position_of, track_of}
 use Rattle.ap_backchain.specs.ChoicePoints.{positions_left}
-use Rattle.ap_backchain.specs.Positions.{Position, by_clause}
+use Rattle.ap_backchain.specs.Positions.{Position, enters_clause}
 use Rattle.ap_backchain.specs.Searches.{pending_of}
 use Rattle.ap_backchain.specs.Tracks.{GoesFrom, Track}
 use Rattle.ap_backchain.specs.declared.points.ChoicePoint.{ChoicePoint}
@@ -49,7 +49,7 @@ trying-preserved c =
     let before = c.trying.invariant in
     let same = c.in_ok-enter_clause.ensures.none c.if-branch.false in
     let none = entered c.in_ok-enter_clause.field-0 _ (position_of c.enter_clause.new.machine) _ c.in_ok-enter_clause.ensures.entered c.if-branch.false
-    ∙ ap (λ (q : Position). by_clause u.depth (map (rename_term u.base) (map term_of u.args.now)) q (i + 1) (clause_of c.index-clauses-i.result)) before.position in
+    ∙ ap (λ (q : Position). enters_clause u.depth (map (rename_term u.base) (map term_of u.args.now)) q (i + 1) (clause_of c.index-clauses-i.result)) before.position in
     record {
       track = same.0 ∙ before.track;
       position = same.1 ∙ before.position;
@@ -74,7 +74,7 @@ returns-then-branch-clause-left c =
     let before = c.trying.invariant in
     let others = positions_left (rests.Clauses (record u { tried = i + 1 })) (position_of b) in
     let one = entered c.in_ok-enter_clause.field-0 _ (position_of d) _ c.in_ok-enter_clause.ensures.entered c.if-branch.true
-    ∙ ap (λ (q : Position). by_clause u.depth (map (rename_term u.base) (map term_of u.args.now)) q (i + 1) (clause_of c.index-clauses-i.result)) before.position in
+    ∙ ap (λ (q : Position). enters_clause u.depth (map (rename_term u.base) (map term_of u.args.now)) q (i + 1) (clause_of c.index-clauses-i.result)) before.position in
     let after : positions_left (rests.Clauses (record u { tried = n })) (position_of b) ≡ others =
     sym (left_skipped b u c.key_of_atom-key.result c.key_of_atom-key.ensures (i + 1) n c.next-next.ensures) in
     let rest : pending_of d vs ≡ others ++ pending_of b us =

@@ -10,7 +10,7 @@ use Rattle.ap_backchain.specs.Machines.{position_of}
 use Rattle.ap_backchain.specs.Problems.{clauses_in, queries_in}
 use Rattle.ap_checks.specs.Checks.{Checks}
 use Rattle.ap_checks.specs.Traces.{Traced, traced_query}
-use Rattle.ap_derive.specs.Nodes.{node_of, preorder}
+use Rattle.ap_derive.specs.Nodes.{node_of, nodes_before}
 use Rattle.ap_derive.specs.Solved.{rest_of}
 use Rattle.ap_derive.proofs.DerivedLemmas.{answer_derived, derived_checks, path_derivation, path_nodes, path_solved, same_some, typed_at}
 use Rattle.ap_derive.proofs.derivations.derive_along.Goals as goal
@@ -42,7 +42,7 @@ assemble-requires c =
           to.state (map node_of c.in_ok-nodes.nodes.items) (rest_of c.args.path.now to) c.in_ok-nodes.ensures,
     )
 
-derived : (c : After-drop-machine-7) → (d : Derivation) → ((e : NominalDerivation) → map node_of c.in_ok-nodes.nodes.items ≡ preorder e [] → derivation_of d ≡ derivation_in (position_of c.select_along.new.machine).state e)
+derived : (c : After-drop-machine-7) → (d : Derivation) → ((e : NominalDerivation) → map node_of c.in_ok-nodes.nodes.items ≡ nodes_before e [] → derivation_of d ≡ derivation_in (position_of c.select_along.new.machine).state e)
     → (q : NominalQuery) (r : Traced) → slice_get (queries_in c.args.p.now) (c.args.p.now.query - 1) ≡ Some q
     → traced_query (clauses_in c.args.p.now) c.args.p.now.depth q c.args.path.now ≡ Some r → derivation_of d ≡ derivation_in r.state r.derivation
 derived c d h x r k leads =
@@ -63,7 +63,7 @@ pub returns-clause-derivation : goal.returns-clause-derivation
 returns-clause-derivation c =
     let p = c.args.p.now in
     let s = (position_of c.select_along.new.machine).state in
-    IfOk-weaker c.assemble.result (λ d. (e : NominalDerivation) → map node_of c.in_ok-nodes.nodes.items ≡ preorder e [] → derivation_of d ≡ derivation_in s e)
+    IfOk-weaker c.assemble.result (λ d. (e : NominalDerivation) → map node_of c.in_ok-nodes.nodes.items ≡ nodes_before e [] → derivation_of d ≡ derivation_in s e)
     (λ d. (q : NominalQuery) (r : Traced) → slice_get (queries_in p) (p.query - 1) ≡ Some q → traced_query (clauses_in p) p.depth q c.args.path.now ≡ Some r
     → derivation_of d ≡ derivation_in r.state r.derivation)
     (derived c) c.assemble.ensures
@@ -74,7 +74,7 @@ returns-clause-checks c =
     let s = (position_of c.select_along.new.machine).state in
     let program = program_of p.program.now in
     let typed = c.predicates-clauses.ensures.restricted.typed in
-    IfOk-weaker c.assemble.result (λ d. (e : NominalDerivation) → map node_of c.in_ok-nodes.nodes.items ≡ preorder e [] → derivation_of d ≡ derivation_in s e)
+    IfOk-weaker c.assemble.result (λ d. (e : NominalDerivation) → map node_of c.in_ok-nodes.nodes.items ≡ nodes_before e [] → derivation_of d ≡ derivation_in s e)
     (λ d. (q : NominalQuery) (a : NominalAnswer) → slice_get (queries_in p) (p.query - 1) ≡ Some q → outs_at (clauses_in p) p.depth q c.args.path.now ≡ found c.args.path.now a ∷ []
     → Checks program q a (derivation_of d))
     (λ d h q a k only.
