@@ -13,11 +13,11 @@ ghost use Rattle.ap_backchain.specs.Problems.{HasQuery, clauses_in, queries_in};
 
 use crate::answer_copies::copy_answer;
 use crate::counted::outputs_by_choices;
+use crate::descent::Descent;
 use crate::kept::kept_at;
 use crate::problem::{Problem, clauses_of_problem, query_of_problem};
-use crate::run::{Paths, first_machine, outputs_from};
-use crate::standing::{Standing, advance, path_of};
-use crate::step::choose;
+use crate::run::{Paths, outputs_from};
+use crate::standing::{Standing, path_of};
 use ap_defs::goals::{Goal, Local};
 use ap_defs::lists::List;
 use ap_defs::memory::Memory;
@@ -59,7 +59,7 @@ fn node_of<'a>(
 }
 
 /// The branch that stands there.
-fn branch_at<'a>(
+pub(crate) fn branch_at<'a>(
     alloc: Global,
     clauses: &'a [Predicate<'a>],
     standing: Standing<'a>,
@@ -138,12 +138,8 @@ impl<'a> Branch<'a> {
         ensures of { IfOk result (λ b. IsBranchOf p.now b) }
         ensures path { IfOk result (λ b. path_of_branch b ≡ []) }
     {
-        let clauses = clauses_of_problem(p);
-        let query = query_of_problem(p);
-        let machine = first_machine(alloc, p.depth, query)?;
-        let standing = advance(alloc, clauses, query.locals.items(), machine)?;
-        let branch = branch_at(alloc, clauses, standing)?;
-        Ok(branch)
+        let descent = Descent::root(alloc, p)?;
+        descent.stop(alloc, p)
     }
 
     /// What the branch stands at: a choice, with its width and the ways that it keeps, exactly where the
@@ -175,11 +171,9 @@ impl<'a> Branch<'a> {
         ensures path { IfOk result (λ b. path_of_branch b
             ≡ path_of_branch self.entry ++ choice ∷ []) }
     {
-        let clauses = clauses_of_problem(p);
-        let query = query_of_problem(p);
-        let standing = choose(alloc, clauses, query.locals.items(), self.standing, choice)?;
-        let branch = branch_at(alloc, clauses, standing)?;
-        Ok(branch)
+        let standing = self.standing;
+        let descent = Descent { standing }.step(alloc, p, choice)?;
+        descent.stop(alloc, p)
     }
 
     /// The answer of the branch's state: the one output of the query with just the branch's path is

@@ -13,6 +13,7 @@ pub mod branch;
 pub mod choices;
 pub mod clauses;
 pub mod counted;
+pub mod descent;
 pub mod ends;
 pub mod frames;
 pub mod free_vars;

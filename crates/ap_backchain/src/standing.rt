@@ -4,7 +4,7 @@ ghost use Rattle.std.specs.Prelude.{◌≡◌, ◌^◌, ◌<◌, [], IfOk, List 
 ghost use Rattle.ap_defs.specs.Goals.{Clauses, program_in};
 ghost use Rattle.ap_defs.specs.Types.{NominalLocal, locals_of};
 ghost use Rattle.ap_backchain.specs.Below.{AreClausesBelow};
-ghost use Rattle.ap_backchain.specs.Branches.{IsChoosing, marks_of_standing, path_of_standing};
+ghost use Rattle.ap_backchain.specs.Branches.{IsChoosing, marks_of_standing, path_of_standing, width_of_standing};
 ghost use Rattle.ap_backchain.specs.Marks.{marks_from};
 ghost use Rattle.ap_backchain.specs.Machines.{position_of};
 
@@ -39,6 +39,17 @@ pub fn path_of<'s>(standing: &'s Standing<'_>) -> &'s [u32]
             Out::Stuck(path) => path.choices(),
         },
         Standing::Failed(path) => path.as_slice(),
+    }
+}
+
+/// Among how many ways the search chooses where it stands, if it does.
+pub fn width_of(standing: &Standing<'_>) -> Option<u32>
+    ensures { result ≡ width_of_standing standing.now }
+{
+    match standing {
+        Standing::Choosing(width, _) => Some(*width),
+        Standing::Ended(_) => None,
+        Standing::Failed(_) => None,
     }
 }
 

@@ -21,7 +21,7 @@ use Rattle.ap_theory.proofs.TermLemmas.{act_term-append, occurs_act}
 use Rattle.ap_defs.specs.HeadKeys.{head_key}
 use Rattle.ap_theory.specs.Variables.{IsUnbound}
 use Rattle.ap_store.specs.Heads.{IsHeadOf, IsHeadUnbound}
-use Rattle.ap_store.specs.Views.{bindings_of, present, rank, raw_bound}
+use Rattle.ap_store.specs.Views.{bindings_of, meaning_in, present, rank, raw_bound}
 use Rattle.ap_store.specs.declared.store.Store.{Store}
 use Rattle.ap_store.proofs.BelowLemmas.{act_below}
 use Rattle.ap_store.proofs.StoreLemmas.{store_ranked, store_sound}
@@ -87,7 +87,7 @@ module _ (s : Store) where
   -- what a variable at the head of a closure is followed to
   pub step_found : (c d : Closure) (all : List Swap) (q : List Swap) (x : Var) → c.term.now ≡ code.Susp q x → all ≡ (c.swaps.items ++ map (rename_swap c.base) q) ++ d.swaps.items
       → raw_bound s (rename_var c.base x) ≡ Some (closure_term d)
-      → (under (bindings_of s) (act_term all (bare d)) ≡ under (bindings_of s) (closure_term c))
+      → (under (bindings_of s) (act_term all (bare d)) ≡ meaning_in s c)
       × (IsBelow (present s).next (closure_term c) → IsBelow (present s).next (act_term all (bare d))) × (depth_of (rank s) (act_term all (bare d)) < depth_of (rank s) (closure_term c))
   step_found c d all q x f g e =
       let p = c.swaps.items ++ map (rename_swap c.base) q in
@@ -102,7 +102,7 @@ module _ (s : Store) where
       )
 
   -- swappings that wait change no key
-  pub closure_key : (d : Closure) → head_key (under (bindings_of s) (closure_term d)) ≡ head_key (under (bindings_of s) (bare d))
+  pub closure_key : (d : Closure) → head_key (meaning_in s d) ≡ head_key (under (bindings_of s) (bare d))
   closure_key d = ap head_key (under_act (bindings_of s) d.swaps.items (bare d)) ∙ key_act d.swaps.items (under (bindings_of s) (bare d))
 
   -- what a variable is bound to begins as what the variable stands for, whatever swappings wait

@@ -5,7 +5,7 @@ ghost use Rattle.ap_defs.specs.Renaming.{IsBelow};
 ghost use Rattle.ap_defs.specs.Substitution.{under};
 ghost use Rattle.ap_perm.specs.Closures.{closure_term};
 ghost use Rattle.ap_store.specs.Heads.{IsHeadUnbound, IsStep};
-ghost use Rattle.ap_store.specs.Views.{bindings_of, present, rank};
+ghost use Rattle.ap_store.specs.Views.{bindings_of, meaning_in, present, rank};
 
 use crate::store::Store;
 use ap_defs::memory::Memory;
@@ -57,8 +57,8 @@ impl<'a> Store<'a> {
     /// A closure that stands for the same term under the bindings, and whose head is no bound
     /// variable.
     pub fn follow(&self, alloc: Global, c: Closure<'a>) -> Result<Closure<'a>, Memory>
-        ensures term { IfOk result (λ d. under (bindings_of self.now) (closure_term d)
-            ≡ under (bindings_of self.now) (closure_term c.entry)) }
+        ensures term { IfOk result (λ d. meaning_in self.now d
+            ≡ meaning_in self.now c.entry) }
         ensures head { IfOk result (λ d. IsHeadUnbound (bindings_of self.now)
             (closure_term d)) }
         ensures below { IfOk result (λ d. IsBelow (present self.now).next (closure_term c.entry) →

@@ -4,9 +4,8 @@ ghost use Rattle.std.specs.Prelude.{◌≡◌, ◌<◌, MatchOption};
 ghost use Rattle.ap_defs.specs.Renaming.{IsBelow, rename_term};
 ghost use Rattle.ap_defs.specs.Substitution.{under};
 ghost use Rattle.ap_defs.specs.Terms.{term_of};
-ghost use Rattle.ap_perm.specs.Closures.{closure_term};
 ghost use Rattle.ap_store.specs.Heads.{IsHeadOf, IsHeadUnbound};
-ghost use Rattle.ap_store.specs.Views.{bindings_of, present, rank};
+ghost use Rattle.ap_store.specs.Views.{bindings_of, meaning_in, present, rank};
 ghost use Rattle.ap_defs.specs.HeadKeys.{head_key};
 
 use crate::store::Store;
@@ -52,7 +51,7 @@ impl<'a> Store<'a> {
     /// The key of what a closure stands for under the bindings: 0 where that is a suspension. It takes no
     /// memory.
     pub fn head_key(&self, c: &Closure<'a>) -> u64
-        ensures { result ≡ head_key (under (bindings_of self.now) (closure_term c.now)) }
+        ensures { result ≡ head_key (meaning_in self.now c.now) }
     {
         let mut base = c.base;
         let mut end = c.end;

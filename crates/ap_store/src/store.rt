@@ -45,13 +45,13 @@ impl<'a> Store<'a> {
     ghost use Rattle.std.specs.Prelude.{◌≡◌, ◌+◌, ◌≤◌, ◌<◌, ◌++◌, ◌∷◌, [], false, true, Some, None, IfOk, MatchOption, OnOk, OnErr, filter, length, slice_get, take, vec_len, vec_capacity};
     ghost use Rattle.ap_defs.specs.Renaming.{IsBelow};
     ghost use Rattle.ap_defs.specs.Resolution.{kinds_of};
-    ghost use Rattle.ap_defs.specs.Substitution.{occurs, under};
+    ghost use Rattle.ap_defs.specs.Substitution.{occurs};
     ghost use Rattle.ap_defs.specs.Types.{kind_of, locals_of};
     ghost use Rattle.ap_perm.specs.Closures.{closure_term};
     ghost use Rattle.ap_theory.specs.Variables.{IsUnbound};
     ghost use Rattle.ap_store.specs.Changes.{has_on, replace_conditions, with_bound};
     ghost use Rattle.ap_store.specs.Triples.{AreOnUnbound, IsPrefixOf, is_apart, is_on, with_binding, with_conditions, with_next};
-    ghost use Rattle.ap_store.specs.Views.{IsUnchanged, bindings_of, kinds, past, present, raw_bound, versions};
+    ghost use Rattle.ap_store.specs.Views.{IsUnchanged, bindings_of, kinds, meaning_in, past, present, raw_bound, versions};
 
     /// The empty store. It takes no memory.
     pub fn new(alloc: Global) -> Store<'a>
@@ -93,11 +93,11 @@ impl<'a> Store<'a> {
         requires made { x.num < (present self.old).next }
         requires unbound { IsUnbound (bindings_of self.old) x }
         requires term { IsBelow (present self.old).next (closure_term c) }
-        requires absent { occurs x (under (bindings_of self.old) (closure_term c)) ≡ false }
+        requires absent { occurs x (meaning_in self.old c) ≡ false }
         ensures taken { IfOk result (λ conds. conds.items
             ≡ filter (is_on x) (present self.old).conditions) }
         ensures present { OnOk result (present self.new
-            ≡ with_binding x (under (bindings_of self.old) (closure_term c.entry))
+            ≡ with_binding x (meaning_in self.old c.entry)
             (present self.old)) }
         ensures past { OnOk result (IsPrefixOf (versions self.old) (versions self.new)) }
         ensures kinds { kinds self.new ≡ kinds self.old }
@@ -163,7 +163,7 @@ impl<'a> Store<'a> {
     /// Whether the variable is so new that neither the closure nor any bound one can have it.
     pub(crate) fn is_new(&self, x: Var, c: &Closure<'_>) -> bool
         ensures { result ≡ true →
-            occurs x (under (bindings_of self.now) (closure_term c.now)) ≡ false }
+            occurs x (meaning_in self.now c.now) ≡ false }
     {
         self.reach <= x.num && c.end <= x.num
     }
@@ -252,10 +252,10 @@ impl<'a> Store<'a> {
         requires made { x.num < (present self.old).next }
         requires unbound { IsUnbound (bindings_of self.old) x }
         requires term { IsBelow (present self.old).next (closure_term c) }
-        requires absent { occurs x (under (bindings_of self.old) (closure_term c)) ≡ false }
+        requires absent { occurs x (meaning_in self.old c) ≡ false }
         requires apart { has_on x (present self.old).conditions ≡ false }
         ensures present { present self.new
-            ≡ with_bound x (under (bindings_of self.old) (closure_term c.entry))
+            ≡ with_bound x (meaning_in self.old c.entry)
             (present self.old) }
         ensures versions { versions self.new ≡ versions self.old ++ present self.new ∷ [] }
         ensures kinds { kinds self.new ≡ kinds self.old }

@@ -3,12 +3,12 @@
 ghost use Rattle.std.specs.Prelude.{◌≡◌, [], ◌∷◌, ◌<◌, false, IfOk};
 ghost use Rattle.ap_defs.specs.Permutations.{inverse, swap_of};
 ghost use Rattle.ap_defs.specs.Renaming.{AreSwapsBelow, IsBelow};
-ghost use Rattle.ap_defs.specs.Substitution.{◌#◌, ◌≐◌, occurs, under};
+ghost use Rattle.ap_defs.specs.Substitution.{occurs, ◌#◌, ◌≐◌};
 ghost use Rattle.ap_defs.specs.Terms.{abs, act_term, susp};
 ghost use Rattle.ap_defs.specs.Unification.{bind, replace, rule, unless_occurs};
 ghost use Rattle.ap_perm.specs.Closures.{closure_term, opened_term};
 ghost use Rattle.ap_store.specs.Heads.{IsHeadUnbound};
-ghost use Rattle.ap_store.specs.Views.{bindings_of, present};
+ghost use Rattle.ap_store.specs.Views.{bindings_of, meaning_in, present};
 ghost use Rattle.ap_theory.specs.Variables.{IsUnbound};
 ghost use Rattle.ap_unify.specs.Work.{HasForm, IsMoveFit, IsSuspension, move_under, opened_under};
 
@@ -97,10 +97,9 @@ fn bind_to<'a>(
     requires unbound { IsUnbound (bindings_of store.now) x }
     requires swaps { AreSwapsBelow (present store.now).next p.now }
     requires below { IsBelow (present store.now).next (closure_term c) }
-    requires absent { occurs x (under (bindings_of store.now) (closure_term c)) ≡ false }
+    requires absent { occurs x (meaning_in store.now c) ≡ false }
     ensures rule { IfOk result (λ m. move_under (bindings_of store.now) m
-        ≡ bind x (act_term (inverse p.now) (under (bindings_of store.now)
-        (closure_term c.entry)))) }
+        ≡ bind x (act_term (inverse p.now) (meaning_in store.now c.entry))) }
     ensures fit { IfOk result (λ m. IsMoveFit (bindings_of store.now) (present store.now).next
         m) }
 {
@@ -121,8 +120,8 @@ fn bind_unless_occurs<'a>(
     requires swaps { AreSwapsBelow (present store.now).next p.now }
     requires below { IsBelow (present store.now).next (closure_term c) }
     ensures rule { IfOk result (λ m. move_under (bindings_of store.now) m
-        ≡ unless_occurs x (under (bindings_of store.now) (closure_term c.entry)) (act_term
-        (inverse p.now) (under (bindings_of store.now) (closure_term c.entry)))) }
+        ≡ unless_occurs x (meaning_in store.now c.entry) (act_term
+        (inverse p.now) (meaning_in store.now c.entry))) }
     ensures fit { IfOk result (λ m. IsMoveFit (bindings_of store.now) (present store.now).next
         m) }
 {
@@ -144,8 +143,8 @@ fn suspensions<'a>(
     y: Var,
     right: Closure<'a>,
 ) -> Result<Move<'a>, Memory>
-    requires left { under (bindings_of store.now) (closure_term left) ≡ susp p.now x }
-    requires right { under (bindings_of store.now) (closure_term right) ≡ susp q.now y }
+    requires left { meaning_in store.now left ≡ susp p.now x }
+    requires right { meaning_in store.now right ≡ susp q.now y }
     requires left_unbound { IsUnbound (bindings_of store.now) x }
     requires right_unbound { IsUnbound (bindings_of store.now) y }
     requires left_swaps { AreSwapsBelow (present store.now).next p.now }
@@ -185,9 +184,9 @@ fn exchanged<'a>(
     requires right { (b.num < (present store.now).next)
         × IsBelow (present store.now).next (closure_term u) }
     ensures rule { IfOk result (λ m. move_under (bindings_of store.now) m
-        ≡ replace ((under (bindings_of store.now) (closure_term t.entry) ≐ act_term
-        (swap_of a b ∷ []) (under (bindings_of store.now) (closure_term u.entry))) ∷ []) ((a #
-        under (bindings_of store.now) (closure_term u.entry)) ∷ [])) }
+        ≡ replace ((meaning_in store.now t.entry ≐ act_term
+        (swap_of a b ∷ []) (meaning_in store.now u.entry)) ∷ []) ((a #
+        meaning_in store.now u.entry) ∷ [])) }
     ensures fit { IfOk result (λ m. IsMoveFit (bindings_of store.now) (present store.now).next
         m) }
 {
@@ -216,8 +215,7 @@ fn abstractions<'a>(
     requires right { (b.num < (present store.now).next)
         × IsBelow (present store.now).next (closure_term u) }
     ensures rule { IfOk result (λ m. move_under (bindings_of store.now) m
-        ≡ rule (abs a (under (bindings_of store.now) (closure_term t.entry))) (abs b (under
-        (bindings_of store.now) (closure_term u.entry)))) }
+        ≡ rule (abs a (meaning_in store.now t.entry)) (abs b (meaning_in store.now u.entry))) }
     ensures fit { IfOk result (λ m. IsMoveFit (bindings_of store.now) (present store.now).next
         m) }
 {
@@ -287,8 +285,7 @@ fn rule_for_parts<'a>(
     requires left_below { IsBelow (present store.now).next (closure_term left) }
     requires right_below { IsBelow (present store.now).next (closure_term right) }
     ensures rule { IfOk result (λ m. move_under (bindings_of store.now) m
-        ≡ rule (under (bindings_of store.now) (closure_term left.entry)) (under
-        (bindings_of store.now) (closure_term right.entry))) }
+        ≡ rule (meaning_in store.now left.entry) (meaning_in store.now right.entry)) }
     ensures fit { IfOk result (λ m. IsMoveFit (bindings_of store.now) (present store.now).next
         m) }
 {
@@ -311,10 +308,9 @@ fn rule_for_one<'a>(
     requires form { HasForm (closure_term c) }
     requires below { IsBelow (present store.now).next (closure_term c) }
     ensures left { IfOk result (λ m. move_under (bindings_of store.now) m
-        ≡ rule (susp s.now.swaps.items s.now.var) (under (bindings_of store.now)
-        (closure_term c.entry))) }
+        ≡ rule (susp s.now.swaps.items s.now.var) (meaning_in store.now c.entry)) }
     ensures right { IfOk result (λ m. move_under (bindings_of store.now) m
-        ≡ rule (under (bindings_of store.now) (closure_term c.entry))
+        ≡ rule (meaning_in store.now c.entry)
         (susp s.now.swaps.items s.now.var)) }
     ensures fit { IfOk result (λ m. IsMoveFit (bindings_of store.now) (present store.now).next
         m) }
@@ -334,8 +330,7 @@ pub fn rule_for<'a>(
     requires left_below { IsBelow (present store.now).next (closure_term left) }
     requires right_below { IsBelow (present store.now).next (closure_term right) }
     ensures rule { IfOk result (λ m. move_under (bindings_of store.now) m
-        ≡ rule (under (bindings_of store.now) (closure_term left.entry)) (under
-        (bindings_of store.now) (closure_term right.entry))) }
+        ≡ rule (meaning_in store.now left.entry) (meaning_in store.now right.entry)) }
     ensures fit { IfOk result (λ m. IsMoveFit (bindings_of store.now) (present store.now).next
         m) }
 {

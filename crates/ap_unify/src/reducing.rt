@@ -7,8 +7,7 @@ ghost use Rattle.ap_defs.specs.Substitution.{under};
 ghost use Rattle.ap_defs.specs.Terms.{susp};
 ghost use Rattle.ap_defs.specs.Unification.{reduce_all};
 ghost use Rattle.ap_fresh.specs.Reduction.{added};
-ghost use Rattle.ap_perm.specs.Closures.{closure_term};
-ghost use Rattle.ap_store.specs.Views.{bindings_of};
+ghost use Rattle.ap_store.specs.Views.{bindings_of, meaning_in};
 ghost use Rattle.ap_unify.specs.Finishing.{some_if};
 
 use ap_defs::memory::Memory;
@@ -27,8 +26,8 @@ pub fn reduce_closure<'a>(
     c: &Closure<'_>,
     conds: &mut Vec<Cond>,
 ) -> Result<bool, Memory>
-    ensures { IfOk result (λ fine. added (reduce a (under (bindings_of store.now)
-        (closure_term c.now))) conds.old.items ≡ some_if fine conds.new.items) }
+    ensures { IfOk result (λ fine. added (reduce a (meaning_in store.now c.now)) conds.old.items
+        ≡ some_if fine conds.new.items) }
 {
     match add_reduced(a, c, store, conds) {
         Ok(()) => Ok(true),

@@ -2,11 +2,11 @@
 
 ghost use Rattle.std.specs.Prelude.{◌≡◌, ◌<◌, ◌∷◌, [], ◌++◌, false, true, IfOk, OnOk, map, vec_len};
 ghost use Rattle.ap_defs.specs.Renaming.{IsBelow};
-ghost use Rattle.ap_defs.specs.Substitution.{◌#◌, occurs, under};
+ghost use Rattle.ap_defs.specs.Substitution.{occurs, ◌#◌};
 ghost use Rattle.ap_defs.specs.Unification.{apply_rule, bind, ending, fresh_for, next, rule, step};
 ghost use Rattle.ap_perm.specs.Closures.{closure_term};
 ghost use Rattle.ap_store.specs.Triples.{IsPrefixOf};
-ghost use Rattle.ap_store.specs.Views.{bindings_of, kinds, present, versions};
+ghost use Rattle.ap_store.specs.Views.{bindings_of, kinds, meaning_in, present, versions};
 ghost use Rattle.ap_theory.specs.Variables.{IsUnbound};
 ghost use Rattle.ap_unify.specs.Runs.{equation_under, problem_under};
 ghost use Rattle.ap_unify.specs.Work.{ArePairsBelow, GoOn, IsMoveFit, IsPairBelow, ending_if, equations_left, move_under, problems_met, progress_if, work_stage};
@@ -89,9 +89,9 @@ fn bind_var<'a>(
     requires made { x.num < (present store.old).next }
     requires unbound { IsUnbound (bindings_of store.old) x }
     requires below { IsBelow (present store.old).next (closure_term c) }
-    requires absent { occurs x (under (bindings_of store.old) (closure_term c)) ≡ false }
+    requires absent { occurs x (meaning_in store.old c) ≡ false }
     ensures stage { OnOk result (next (work_stage (bindings_of store.new) work.new)
-        ≡ apply_rule (bind x (under (bindings_of store.old) (closure_term c.entry))) (map
+        ≡ apply_rule (bind x (meaning_in store.old c.entry)) (map
         (equation_under (bindings_of store.old)) (equations_left work.old)) (map (problem_under
         (bindings_of store.old)) (problems_met work.old)) (bindings_of store.old)) }
     ensures goes_on { OnOk result (GoOn (present store.old) work.old (present store.new) work.new) }
@@ -151,8 +151,7 @@ fn carry_out<'a>(
 fn rule_at<'a>(alloc: Global, store: &Store<'a>, e: ClosurePair<'a>) -> Result<Move<'a>, Memory>
     requires { IsPairBelow (present store.now).next e }
     ensures rule { IfOk result (λ m. move_under (bindings_of store.now) m
-        ≡ rule (under (bindings_of store.now) (closure_term e.entry.left)) (under
-        (bindings_of store.now) (closure_term e.entry.right))) }
+        ≡ rule (meaning_in store.now e.entry.left) (meaning_in store.now e.entry.right)) }
     ensures fit { IfOk result (λ m. IsMoveFit (bindings_of store.now) (present store.now).next
         m) }
 {

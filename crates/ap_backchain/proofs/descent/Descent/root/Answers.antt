@@ -1,13 +1,13 @@
 use Rattle.std.proofs.Common.{◌≡◌, List, ap, ◌∙◌, subst}
 use Rattle.ap_defs.specs.Goals.{Clauses, program_in, query_of}
 use Rattle.ap_defs.specs.Types.{NominalLocal, locals_of}
-use Rattle.ap_backchain.specs.Branches.{IsChoosing, IsNamed, marks_of_standing}
+use Rattle.ap_backchain.specs.Branches.{IsChoosing, marks_of_standing}
 use Rattle.ap_backchain.specs.Marks.{marks_from}
 use Rattle.ap_backchain.specs.Machines.{position_of}
 use Rattle.ap_backchain.specs.Positions.{Position}
 use Rattle.ap_backchain.specs.Problems.{clauses_in}
-use Rattle.ap_backchain.proofs.BranchLemmas.{root_is}
-use Rattle.ap_backchain.proofs.branch.Branch.root.Goals as goal
+use Rattle.ap_backchain.proofs.BranchLemmas.{root_stands}
+use Rattle.ap_backchain.proofs.descent.Descent.root.Goals as goal
 
 pub returns-clause-of : goal.returns-clause-of
 returns-clause-of c =
@@ -19,8 +19,7 @@ returns-clause-of c =
     let given = program_in c.clauses_of_problem-clauses.result.now in
     let marks = subst (λ (x : Clauses). marks_of_standing x query.locals s ≡ marks_from x query.locals machine) same
     (subst (λ (ls : List NominalLocal). marks_of_standing given ls s ≡ marks_from given ls machine) (ap locals_of c.items.ensures) c.in_ok-standing.ensures.marks) in
-    root_is p query s c.in_ok-branch.branch c.query_of_problem-query.ensures.query c.clauses_of_problem-clauses.ensures.typed c.query_of_problem-query.ensures.typed c.in_ok-branch.ensures.standing
-    (subst (λ (x : Clauses). IsNamed x c.in_ok-branch.branch.node c.in_ok-branch.branch.standing) same c.in_ok-branch.ensures.named)
+    root_stands p query s c.query_of_problem-query.ensures.query c.clauses_of_problem-clauses.ensures.typed c.query_of_problem-query.ensures.typed
     (c.in_ok-standing.ensures.path ∙ ap (λ (x : Position). x.path) c.in_ok-machine.ensures)
     (marks ∙ ap (λ (x : Position). marks_from (clauses_in p) query.locals x) c.in_ok-machine.ensures)
     (subst (λ (x : Clauses). IsChoosing x s) same c.in_ok-standing.ensures.choosing)
