@@ -1,14 +1,15 @@
 -- The names of identifiers, whose numbers rise.
 use Rattle.std.proofs.Common.{◌≡◌, ℕ, suc, ◌+◌, ◌<◌, Bool, true, false, List, [], ◌∷◌, ◌++◌, length, drop, get_or, refl, sym, ap, ◌∙◌, append_assoc, arith, add-one, drop-cons}
-use Rattle.std.specs.Prelude.{Some, None}
+use Rattle.ap_program.specs.FreeLocals.{sort_unless}
+use Rattle.std.specs.Prelude.{None, Some}
 use Rattle.std.proofs.lemmas.Bool.Decides.{nat_tests}
 use Rattle.ap_defs.specs.declared.terms.Name.{Name}
 use Rattle.ap_defs.specs.declared.goals.Local.{Local}
-use Rattle.ap_defs.specs.Permutations.{name_eq, has_name}
+use Rattle.ap_defs.specs.Permutations.{has_name, name_eq}
 use Rattle.ap_defs.specs.Types as types
 use Rattle.ap_defs.specs.Types.{NominalKind, kind_of, locals_of}
 use Rattle.ap_defs.specs.Renaming.{local_names, name_unless}
-use Rattle.ap_answers.specs.Locals.{AllBelow, sort_unless}
+use Rattle.ap_answers.specs.Locals.{AllBelow}
 use Rattle.ap_answers.specs.Occurring.{more_names}
 
 below_more : (n : ℕ) (as' : List Name) → AllBelow n as' → AllBelow (n + 1) as'

@@ -1,10 +1,11 @@
 //! The free names and variables of a query.
 
 ghost use Rattle.std.specs.Prelude.{◌≡◌, ◌+◌, ◌++◌, [], zero, OnOk, IfOk};
+ghost use Rattle.ap_program.specs.FreeLocals.{free_sort, is_free_var};
 ghost use Rattle.ap_defs.specs.Types.{kind_of, local_of, locals_of};
 ghost use Rattle.ap_defs.specs.Renaming.{local_names, name_unless};
-ghost use Rattle.ap_defs.specs.Lines.{var_texts, name_texts};
-ghost use Rattle.ap_answers.specs.Locals.{free_sort, is_free_var, lent_texts, AllBelow};
+ghost use Rattle.ap_defs.specs.Lines.{name_texts, var_texts};
+ghost use Rattle.ap_answers.specs.Locals.{AllBelow, lent_texts};
 
 use crate::occurrences::add_name;
 use ap_defs::goals::{Kind, Local};

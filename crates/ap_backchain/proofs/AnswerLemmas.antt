@@ -11,7 +11,7 @@ use Rattle.ap_defs.specs.Types.{NominalKind, NominalLocal, NominalType}
 use Rattle.ap_defs.specs.declared.terms.Var.{Var}
 use Rattle.ap_perm.proofs.PermLemmas.{canonical_none}
 use Rattle.ap_store.proofs.StoreLemmas.{next_counts, store_sound, unbound_past}
-use Rattle.ap_store.specs.Views.{kinds, present, raw_bound}
+use Rattle.ap_store.specs.Views.{bindings_of, kinds, present, raw_bound}
 use Rattle.ap_store.specs.declared.store.Store.{Store}
 use Rattle.ap_theory.proofs.IdempotenceLemmas.{bound_term_unbound}
 use Rattle.ap_theory.specs.Variables.{is_bound}
@@ -21,7 +21,7 @@ use Rattle.ap_backchain.specs.Views.{state_in}
 -- a number that was not given stands for itself
 pub closed_past : (s : Store) (x : Var) → (present s).next ≤ x.num → susp [] x ≡ closed_term (state_in s) (susp [] x)
 closed_past s x l =
-    sym (ap (λ o. canonical_term (moved [] x o)) (bound_term_unbound (present s).bindings x (unbound_past s x l)) ∙ ap (λ p. susp p x) canonical_none)
+    sym (ap (λ o. canonical_term (moved [] x o)) (bound_term_unbound (bindings_of s) x (unbound_past s x l)) ∙ ap (λ p. susp p x) canonical_none)
 
 past_kinds : (ks : List NominalKind) (n : ℕ) → length ks ≤ n → kind_at ks n ≡ None
 past_kinds [] n h = refl
@@ -32,7 +32,7 @@ pub no_kind : (s : Store) (n : ℕ) → (present s).next ≤ n → kind_at (kind
 no_kind s n l = let e : length (kinds s) ≡ (present s).next = next_counts s in past_kinds (kinds s) n (omega (arith, e, l))
 
 -- the table tells what is bound
-pub bound_tells : (s : Store) (x : Var) → is_bound x (present s).bindings ≡ is_some (raw_bound s x)
+pub bound_tells : (s : Store) (x : Var) → is_bound x (bindings_of s) ≡ is_some (raw_bound s x)
 bound_tells s x = (store_sound s).same x
 
 module _ (locals : List NominalLocal) (s : State) (brought others : List Var) where

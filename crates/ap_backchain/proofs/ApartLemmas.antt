@@ -6,25 +6,25 @@ use Rattle.ap_defs.specs.HeadKeys.{agree, first_key}
 use Rattle.ap_defs.specs.Renaming.{rename_term}
 use Rattle.ap_defs.specs.Resolution.{kinds_of}
 use Rattle.ap_defs.specs.Substitution.{under}
-use Rattle.ap_defs.specs.Terms.{NominalTerm, unit, name, pair, app, abs, susp, term_of}
+use Rattle.ap_defs.specs.Terms.{NominalTerm, term_of}
 use Rattle.ap_defs.specs.declared.goals.Clause.{Clause}
 use Rattle.ap_defs.specs.declared.terms.Term.{Term}
-use Rattle.ap_store.specs.Views.{kinds, present}
+use Rattle.ap_store.specs.Views.{bindings_of, kinds, present}
 use Rattle.ap_store.specs.declared.store.Store.{Store}
 use Rattle.ap_store.proofs.StoreLemmas.{well_formed}
 use Rattle.ap_theory.proofs.HeadKeyLemmas.{first_differs, first_renamed}
 use Rattle.ap_theory.proofs.RefusalLemmas.{unify_heads}
-use Rattle.ap_backchain.specs.Positions.{Position, by_clause, by_clauses, clause_state, each_position, entered, unified_state}
-use Rattle.ap_backchain.specs.Places.{position_of}
-use Rattle.ap_backchain.specs.Points.{positions_left}
+use Rattle.ap_backchain.specs.Positions.{Position, enters_clause, by_clauses, clause_state, each_position, entered, unified_state}
+use Rattle.ap_backchain.specs.Machines.{position_of}
+use Rattle.ap_backchain.specs.ChoicePoints.{positions_left}
 use Rattle.ap_backchain.specs.Views.{state_in}
-use Rattle.ap_backchain.specs.declared.place.Place.{Place}
+use Rattle.ap_backchain.specs.declared.machine.Machine.{Machine}
 use Rattle.ap_backchain.specs.declared.points.Rest.TheVariants as rests
 use Rattle.ap_backchain.specs.declared.points.Untried.{Untried}
 use Rattle.std.specs.List.{position_or_len}
 use Rattle.std.specs.Prelude.{None}
 
-pub head_apart : (s : Store) (ts : List NominalTerm) (c : NominalClause) → agree (first_key (map (under (present s).bindings) ts)) (first_key c.args) ≡ false
+pub head_apart : (s : Store) (ts : List NominalTerm) (c : NominalClause) → agree (first_key (map (under (bindings_of s)) ts)) (first_key c.args) ≡ false
     → clause_state ts (state_in s) c ≡ None
 head_apart s ts c h =
     let a = present s in let us = map (rename_term (length (kinds s))) c.args in
@@ -37,11 +37,11 @@ drop_map zero cs = refl
 drop_map (suc n) [] = refl
 drop_map (suc n) (c ∷ cs) = drop_map n cs
 
--- the search goes on from no place by such a clause
-module _ (s : Store) (d : ℕ) (ts : List NominalTerm) (p : Position) (here : p.state ≡ state_in s) (key : ℕ) (is : key ≡ first_key (map (under (present s).bindings) ts)) where
-  none_apart : (i : ℕ) (c : NominalClause) → agree key (first_key c.args) ≡ false → by_clause d ts p i c ≡ []
+-- the search goes on from no machine by such a clause
+module _ (s : Store) (d : ℕ) (ts : List NominalTerm) (p : Position) (here : p.state ≡ state_in s) (key : ℕ) (is : key ≡ first_key (map (under (bindings_of s)) ts)) where
+  none_apart : (i : ℕ) (c : NominalClause) → agree key (first_key c.args) ≡ false → enters_clause d ts p i c ≡ []
   none_apart i c h =
-      let k : agree (first_key (map (under (present s).bindings) ts)) (first_key c.args) ≡ false = ap (λ l. agree l (first_key c.args)) (sym is) ∙ h in
+      let k : agree (first_key (map (under (bindings_of s)) ts)) (first_key c.args) ≡ false = ap (λ l. agree l (first_key c.args)) (sym is) ∙ h in
       ap (λ a. each_position (entered d p i c) (clause_state ts a c)) here ∙ ap (each_position (entered d p i c)) (head_apart s ts c k)
 
   abbrev meets : NominalClause → Bool
@@ -61,7 +61,7 @@ module _ (s : Store) (d : ℕ) (ts : List NominalTerm) (p : Position) (here : p.
           rw h (ap (λ ps. ps ++ by_clauses d ts p (suc i) cs) (none_apart i c h) ∙ k ∙ ap (λ m. by_clauses d ts p m (drop n cs)) e ∙ ap (λ m. by_clauses d ts p (i + m) (drop m (c ∷ cs))) l)
 
 -- what is left is left after the clauses that cannot be entered
-pub left_skipped : (b : Place) (u : Untried) (key : ℕ) → key ≡ first_key (map (under (present b.store).bindings) (map (rename_term u.base) (map term_of u.args.now)))
+pub left_skipped : (b : Machine) (u : Untried) (key : ℕ) → key ≡ first_key (map (under (bindings_of b.store)) (map (rename_term u.base) (map term_of u.args.now)))
     → (from next : ℕ) → next ≡ from + position_or_len (λ c. agree key (first_key c.args)) (map clause_of (drop from u.clauses.now))
     → positions_left (rests.Clauses (record u { tried = from })) (position_of b) ≡ positions_left (rests.Clauses (record u { tried = next })) (position_of b)
 left_skipped b u key is from next e =

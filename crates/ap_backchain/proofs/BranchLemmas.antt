@@ -3,7 +3,7 @@ use Rattle.std.proofs.Common.{◌≡◌, ℕ, zero, suc, ◌+◌, ◌-◌, ◌<�
 use Rattle.std.proofs.lemmas.List.{append-nil, map-id}
 use Rattle.std.specs.Global.{Global}
 use Rattle.std.specs.Prelude.{Option, Some, None, option_map, Result, Ok, Err, IfOk, IfSome, Vec, slice_get}
-use Rattle.ap_defs.specs.Answers.{NominalAnswer, NominalOut, answer_of, found, out_path, outs_at, outs_of, query_outs}
+use Rattle.ap_defs.specs.Answers.{NominalAnswer, NominalOut, answer_of, found, out_of, out_path, outs_at, outs_of, query_outs}
 use Rattle.ap_defs.specs.declared.outcomes.Answer.{Answer}
 use Rattle.ap_defs.specs.Goals.{Clauses, NominalQuery, clauses_of}
 use Rattle.ap_defs.specs.Paths.{Choice, marked_query}
@@ -14,33 +14,34 @@ use Rattle.ap_defs.specs.declared.paths.Out.{Out}
 use Rattle.ap_defs.specs.declared.paths.Out.TheVariants as code
 use Rattle.ap_program.specs.Typed.{IsTypedProgram, IsTypedQuery, term_form}
 use Rattle.ap_paths.specs.Limits.{part}
+use Rattle.ap_paths.specs.Trees.{IsChoice}
 use Rattle.ap_paths.specs.declared.limits.Limit.{Limit}
 use Rattle.ap_search.specs.Marks.{NominalMark, out, mark_in, mark_path, outs_among, with_choices}
 use Rattle.ap_search.specs.PathTrees.{choice_at, query_choice, query_choices}
 use Rattle.ap_search.specs.Prefixes.{beginning}
 use Rattle.ap_search.proofs.TreeLemmas.{marked_stack_begins}
 use Rattle.ap_search.proofs.PrefixLemmas.{beginning_deeper, beginning_whole}
-use Rattle.ap_search.proofs.QueryTreeLemmas.{outs_at_marks, place_choice, width_choice}
+use Rattle.ap_search.proofs.QueryTreeLemmas.{outs_at_marks, machine_choice, width_choice}
 use Rattle.ap_backchain.proofs.MarkLemmas.{marks_turned, settled}
-use Rattle.ap_backchain.proofs.TurnLemmas.{turns_turned, written_turned}
+use Rattle.ap_backchain.proofs.TurnLemmas.{turns_turned, width_told, written_turned}
 use Rattle.ap_backchain.proofs.UnboundLemmas.{marked_stack_by_unbound, stack_by_unbound}
-use Rattle.ap_backchain.specs.Branches.{IsBranchFor, IsBranchOf, IsChoiceAt, IsChoiceOfNode, IsChoosing, IsNamed, IsNodeAt, choices_at, marks_of_standing, path_of_branch, path_of_standing}
+use Rattle.ap_backchain.specs.Branches.{IsBranchOf, IsChoiceAt, IsChoiceOfNode, IsChoosing, IsNamed, IsNodeAt, IsStandingFor, IsStandingOf, choices_at, marks_of_standing, path_of_branch, path_of_standing, width_of_standing}
 use Rattle.ap_backchain.specs.Ends.{kept_out, without_path}
 use Rattle.ap_backchain.specs.declared.run.Paths.TheVariants as paths
 use Rattle.ap_backchain.specs.Marks.{IsSettled, choice_of, choice_of_atom, choices_among, marks_from, marks_of_turned, told_of, written_here}
-use Rattle.ap_backchain.specs.Places.{position_of}
+use Rattle.ap_backchain.specs.Machines.{position_of}
 use Rattle.ap_backchain.specs.Positions.{Position, Turned, ends, goes, outs_from, turned}
-use Rattle.ap_backchain.specs.Problems.{clauses_in, program_in, queries_in}
+use Rattle.ap_backchain.specs.Problems.{clauses_in, program_of_problem, queries_in}
 use Rattle.ap_backchain.specs.Starts.{first_position}
 use Rattle.ap_backchain.specs.Turns.{turns_from, turns_of_turned}
 use Rattle.ap_backchain.specs.Unbound.{answer_by_unbound}
 use Rattle.ap_backchain.specs.declared.branch.Branch.{Branch}
 use Rattle.ap_backchain.specs.declared.standing.Standing.{Standing}
 use Rattle.ap_backchain.specs.declared.standing.Standing.TheVariants as standings
-use Rattle.ap_backchain.specs.declared.place.Place.{Place}
+use Rattle.ap_backchain.specs.declared.machine.Machine.{Machine}
 use Rattle.ap_backchain.specs.declared.problem.Problem.{Problem}
 
--- A turn of a place that doesn't choose.
+-- A turn of a machine that doesn't choose.
 module _ (program : Clauses) (locals : List NominalLocal) (here : Position) (h : choice_of program here.waiting ≡ None) where
   pub ended_marks : (o : NominalOut) → ends o ≡ turned program locals here → out o ∷ [] ≡ marks_from program locals here
   ended_marks o e = ap (marks_of_turned program locals) e ∙ marks_turned program locals here h
@@ -62,7 +63,7 @@ module _ (program : Clauses) (locals : List NominalLocal) (here : Position) (h :
       let k : suc (turns_from program next + 0) ≡ turns_from program here = ap (λ t. suc (turns_of_turned program t)) e ∙ turns_turned program locals here in
       omega arith
 
--- A place that chooses has a mark there.
+-- A machine that chooses has a mark there.
 pub choosing_marks : (program : Clauses) (locals : List NominalLocal) (p : Position) (o : Option Choice) → told_of program p.state p.waiting ≡ o
     → marks_from program locals p ≡ written_here with_choices p.path o ++ marks_of_turned program locals (turned program locals p)
 choosing_marks program locals p o h =
@@ -71,15 +72,29 @@ choosing_marks program locals p o h =
 
 -- The node of a branch is that of the search at its path.
 module _ (program : Clauses) (d : ℕ) (q : NominalQuery) where
-  chooses : (c : Choice) (p : Place) → beginning mark_path p.path.items (map (mark_in q.locals) (marked_query program d q)) ≡ marks_from program q.locals (position_of p)
+  chooses : (c : Choice) (p : Machine) → beginning mark_path p.path.items (map (mark_in q.locals) (marked_query program d q)) ≡ marks_from program q.locals (position_of p)
       → told_of program (position_of p).state (position_of p).waiting ≡ Some c → query_choice program d q p.path.items ≡ Some c
   chooses c p h e =
-      place_choice program d q p.path.items (marks_from program q.locals (position_of p)) h
+      machine_choice program d q p.path.items (marks_from program q.locals (position_of p)) h
       ∙ ap (choice_at p.path.items) (choosing_marks program q.locals (position_of p) (Some c) e)
       ∙ width_choice p.path.items c (marks_of_turned program q.locals (turned program q.locals (position_of p)))
 
   no_choice : (p : List ℕ) (ms : List NominalMark) → beginning mark_path p (map (mark_in q.locals) (marked_query program d q)) ≡ ms → choice_at p ms ≡ None → query_choices program d q p ≡ None
-  no_choice p ms h e = ap (option_map (λ (v : Choice). v.width)) (place_choice program d q p ms h ∙ e)
+  no_choice p ms h e = ap (option_map (λ (v : Choice). v.width)) (machine_choice program d q p ms h ∙ e)
+
+  chooses_among : (o : Option Choice) (w : ℕ) (p : Machine) → beginning mark_path p.path.items (map (mark_in q.locals) (marked_query program d q)) ≡ marks_from program q.locals (position_of p)
+      → told_of program (position_of p).state (position_of p).waiting ≡ o → option_map (λ (v : Choice). v.width) o ≡ Some w → Some w ≡ query_choices program d q p.path.items
+  chooses_among None w p h e f = absurd cc
+  chooses_among (Some c) w p h e f = sym (ap (option_map (λ (v : Choice). v.width)) (chooses c p h e) ∙ f)
+
+  -- it chooses among so many where the search of the query does
+  pub width_at : (s : Standing) → beginning mark_path (path_of_standing s) (map (mark_in q.locals) (marked_query program d q)) ≡ marks_of_standing program q.locals s
+      → IsChoosing program s → width_of_standing s ≡ query_choices program d q (path_of_standing s)
+  width_at (standings.Choosing w p) h k =
+      let here = position_of p in
+      chooses_among (told_of program here.state here.waiting) w p h refl (width_told program here.state here.waiting ∙ k)
+  width_at (standings.Ended o) h k = sym (no_choice (out_path (out_of o)) _ h refl)
+  width_at (standings.Failed path) h k = sym (no_choice path.items _ h refl)
 
   pub node_at : (n : Node) (s : Standing) → beginning mark_path (path_of_standing s) (map (mark_in q.locals) (marked_query program d q)) ≡ marks_of_standing program q.locals s
       → IsNamed program n s → IsNodeAt program d q (path_of_standing s) n
@@ -118,8 +133,8 @@ asked_once : {X : Type 0} (o : Option X) (x y : X) → o ≡ Some x → o ≡ So
 asked_once o x y h k = cc
 
 -- The outputs of a problem, as far as they are wanted.
-module _ (p : Problem) (limit : Limit) (query : NominalQuery) (asked : slice_get (queries_in p) (p.query - 1) ≡ Some query) (program_typed : IsTypedProgram (program_in p))
-    (typed : IsTypedQuery term_form (program_in p).signature query) where
+module _ (p : Problem) (limit : Limit) (query : NominalQuery) (asked : slice_get (queries_in p) (p.query - 1) ≡ Some query) (program_typed : IsTypedProgram (program_of_problem p))
+    (typed : IsTypedQuery term_form (program_of_problem p).signature query) where
   abbrev first_outs : List NominalOut
   first_outs = part limit (outs_from (clauses_in p) query.locals (first_position p.depth query))
 
@@ -132,7 +147,7 @@ module _ (p : Problem) (limit : Limit) (query : NominalQuery) (asked : slice_get
   first_are : (q : NominalQuery) → slice_get (queries_in p) (p.query - 1) ≡ Some q → first_outs ≡ part limit (query_outs (clauses_in p) p.depth q)
   first_are q k =
       subst (λ (x : NominalQuery). first_outs ≡ part limit (query_outs (clauses_in p) p.depth x)) (asked_once (slice_get (queries_in p) (p.query - 1)) query q asked k)
-      (ap (part limit) (stack_by_unbound (program_in p) program_typed p.depth query typed))
+      (ap (part limit) (stack_by_unbound (program_of_problem p) program_typed p.depth query typed))
 
   outputs_are : (v : Vec Out Global) → outs_of v.items ≡ map (kept_out paths.Kept) first_outs → AreTheOutputs v
   outputs_are v h = λ q k. h ∙ map-id first_outs ∙ first_are q k
@@ -153,13 +168,12 @@ module _ (p : Problem) (limit : Limit) (query : NominalQuery) (asked : slice_get
   few_outputs (Ok o) h = some_outputs o h
   few_outputs (Err e) h = tt
 
-pub root_is : (p : Problem) (query : NominalQuery) (s : Standing) (b : Branch) → slice_get (queries_in p) (p.query - 1) ≡ Some query
-    → IsTypedProgram (program_in p) → IsTypedQuery term_form (program_in p).signature query → b.standing ≡ s → IsNamed (clauses_in p) b.node b.standing → path_of_standing s ≡ []
-    → marks_of_standing (clauses_in p) query.locals s ≡ marks_from (clauses_in p) query.locals (first_position p.depth query) → IsChoosing (clauses_in p) s → IsBranchOf p b
-root_is p query s b asked program_typed typed e named path marks choosing = λ q h.
-    subst (λ (x : NominalQuery). IsBranchFor (clauses_in p) p.depth x b) (asked_once (slice_get (queries_in p) (p.query - 1)) query q asked h)
-    (subst (λ (r : Standing). (IsNamed (clauses_in p) b.node r → IsBranchFor (clauses_in p) p.depth query (record b { standing = r }))) (sym e)
-    (λ k. record { marks = root_marks (clauses_in p) p.depth query s (marked_stack_by_unbound (program_in p) program_typed p.depth query typed) path marks; choosing = choosing; named = k }) named)
+pub root_stands : (p : Problem) (query : NominalQuery) (s : Standing) → slice_get (queries_in p) (p.query - 1) ≡ Some query
+    → IsTypedProgram (program_of_problem p) → IsTypedQuery term_form (program_of_problem p).signature query → path_of_standing s ≡ []
+    → marks_of_standing (clauses_in p) query.locals s ≡ marks_from (clauses_in p) query.locals (first_position p.depth query) → IsChoosing (clauses_in p) s → IsStandingOf p s
+root_stands p query s asked program_typed typed path marks choosing = λ q h.
+    subst (λ (x : NominalQuery). IsStandingFor (clauses_in p) p.depth x s) (asked_once (slice_get (queries_in p) (p.query - 1)) query q asked h)
+    (record { marks = root_marks (clauses_in p) p.depth query s (marked_stack_by_unbound (program_of_problem p) program_typed p.depth query typed) path marks; choosing = choosing })
 
 pub atom_chooses : (program : Clauses) (d c : ℕ) → (d ≡ 0 → ⊥) → choice_of_atom program d c ≡ Some (length (clauses_of program c))
 atom_chooses program zero c h = absurd (h refl)
@@ -196,24 +210,38 @@ module _ (p : Problem) (query : NominalQuery) (b : Branch) (asked : slice_get (q
       subst (λ (x : NominalQuery). choices_among (marks_of_standing (clauses_in p) query.locals b.standing) ≡ choices_at (clauses_in p) p.depth x (path_of_branch b))
       (asked_once (slice_get (queries_in p) (p.query - 1)) query q asked k) (sym (ap choices_among (of query asked).marks))
 
-pub step_is : (p : Problem) (query : NominalQuery) (b c : Branch) (t : Standing) (k : ℕ) → slice_get (queries_in p) (p.query - 1) ≡ Some query → IsBranchOf p b
-    → c.standing ≡ t → IsNamed (clauses_in p) c.node c.standing → path_of_standing t ≡ path_of_branch b ++ k ∷ []
-    → marks_of_standing (clauses_in p) query.locals t ≡ beginning mark_path (path_of_branch b ++ k ∷ []) (marks_of_standing (clauses_in p) query.locals b.standing)
-    → IsChoosing (clauses_in p) t → IsBranchOf p c
-step_is p query b c t k asked of e named path marks choosing = λ q h.
-    subst (λ (x : NominalQuery). IsBranchFor (clauses_in p) p.depth x c) (asked_once (slice_get (queries_in p) (p.query - 1)) query q asked h)
-    (subst (λ (r : Standing). (IsNamed (clauses_in p) c.node r → IsBranchFor (clauses_in p) p.depth query (record c { standing = r }))) (sym e)
-    (λ n. record { marks = step_marks (clauses_in p) p.depth query b.standing t k (of query asked).marks path marks; choosing = choosing; named = n }) named)
+pub step_stands : (p : Problem) (query : NominalQuery) (s t : Standing) (k : ℕ) → slice_get (queries_in p) (p.query - 1) ≡ Some query → IsStandingOf p s
+    → path_of_standing t ≡ path_of_standing s ++ k ∷ []
+    → marks_of_standing (clauses_in p) query.locals t ≡ beginning mark_path (path_of_standing s ++ k ∷ []) (marks_of_standing (clauses_in p) query.locals s)
+    → IsChoosing (clauses_in p) t → IsStandingOf p t
+step_stands p query s t k asked of path marks choosing = λ q h.
+    subst (λ (x : NominalQuery). IsStandingFor (clauses_in p) p.depth x t) (asked_once (slice_get (queries_in p) (p.query - 1)) query q asked h)
+    (record { marks = step_marks (clauses_in p) p.depth query s t k (of query asked).marks path marks; choosing = choosing })
 
--- a node that is a choice stands before one
-pub choice_stands : (program : Clauses) (n : Node) (s : Standing) (k : ℕ) → IsNamed program n s → IsChoiceOfNode k n → IsChoiceAt k s
-choice_stands program (nodes.Choice w kept) (standings.Choosing v p) k h c = (c.0, subst (λ (m : ℕ). k ≤ m) h.0 c.1)
-choice_stands program (nodes.Choice w kept) (standings.Ended o) k h c = absurd h
-choice_stands program (nodes.Choice w kept) (standings.Failed path) k h c = absurd h
-choice_stands program nodes.Answer s k h c = absurd c
-choice_stands program nodes.Cut s k h c = absurd c
-choice_stands program nodes.Stuck s k h c = absurd c
-choice_stands program nodes.Failed s k h c = absurd c
+-- what stands there and is named is a branch, and a branch stands there
+pub named_branch : (p : Problem) (b : Branch) (s : Standing) → b.standing ≡ s → IsStandingOf p s → IsNamed (clauses_in p) b.node b.standing → IsBranchOf p b
+named_branch p b s e of named = λ q h.
+    let there : IsStandingFor (clauses_in p) p.depth q b.standing = subst (λ (r : Standing). IsStandingFor (clauses_in p) p.depth q r) (sym e) (of q h) in
+    record { marks = there.marks; choosing = there.choosing; named = named }
+
+pub branch_stands : (p : Problem) (b : Branch) → IsBranchOf p b → IsStandingOf p b.standing
+branch_stands p b of = λ q h. record { marks = (of q h).marks; choosing = (of q h).choosing }
+
+-- a way of a choice stands before it
+pub way_stands : (s : Standing) (k : ℕ) → IsChoice (width_of_standing s) k → IsChoiceAt k s
+way_stands (standings.Choosing w p) k h = h
+way_stands (standings.Ended o) k h = absurd h
+way_stands (standings.Failed path) k h = absurd h
+
+-- a node that is a choice has its ways where the branch stands
+pub node_ways : (program : Clauses) (n : Node) (s : Standing) (k : ℕ) → IsNamed program n s → IsChoiceOfNode k n → IsChoice (width_of_standing s) k
+node_ways program (nodes.Choice w kept) (standings.Choosing v p) k h c = (c.0, subst (λ (m : ℕ). k ≤ m) h.0 c.1)
+node_ways program (nodes.Choice w kept) (standings.Ended o) k h c = absurd h
+node_ways program (nodes.Choice w kept) (standings.Failed path) k h c = absurd h
+node_ways program nodes.Answer s k h c = absurd c
+node_ways program nodes.Cut s k h c = absurd c
+node_ways program nodes.Stuck s k h c = absurd c
+node_ways program nodes.Failed s k h c = absurd c
 
 -- the answer of a branch
 pub answer_at : (p : Problem) (b : Branch) (path : List ℕ) (a : Answer) (r : NominalAnswer) → IsBranchOf p b → b.standing ≡ standings.Ended (code.Found path a) → r ≡ answer_of a

@@ -1,4 +1,4 @@
--- What a place has below one of its choices.
+-- What a machine has below one of its choices.
 use Rattle.std.proofs.Common.{◌≡◌, ℕ, zero, suc, ◌+◌, ◌-◌, ◌<◌, ◌≤◌, List, [], ◌∷◌, ◌++◌, length, get_or, map, refl, sym, ap, ◌∙◌, subst, arith}
 use Rattle.std.proofs.lemmas.List.{append-nil}
 use Rattle.std.specs.Prelude.{if◌then◌else◌, Option, Some, None}
@@ -12,14 +12,14 @@ use Rattle.ap_defs.specs.declared.goals.Clause.{Clause}
 use Rattle.ap_defs.specs.declared.terms.Term.{Term}
 use Rattle.ap_search.specs.FitStates.{AreFitClauses, IsFitClause}
 use Rattle.ap_search.specs.Continuations.{calls_then, clause_then, clauses_then, goal_then}
-use Rattle.ap_search.specs.Marks.{NominalMark, choice, mark_path, with_choices, stack_marks}
+use Rattle.ap_search.specs.Marks.{NominalMark, choice, mark_path, stack_marks, with_choices}
 use Rattle.ap_search.specs.Prefixes.{beginning}
 use Rattle.ap_search.proofs.ChoiceLemmas.{beginning_first, beginning_second, mark_way}
 use Rattle.ap_search.proofs.TreeLemmas.{calls_grow, marked_stack_begins, stack_grows}
 use Rattle.ap_search.proofs.PrefixLemmas.{beginning_other, beginning_whole, prefix_itself, prefix_longer}
 use Rattle.ap_backchain.proofs.TurnLemmas.{written_clause}
 use Rattle.ap_backchain.specs.Marks.{IsAmong, choice_of_goal, clauses_marks, goal_marks, marks_from, marks_from_each}
-use Rattle.ap_backchain.specs.Positions.{Position, by_clause, each_position, entered, with_choice, with_goal}
+use Rattle.ap_backchain.specs.Positions.{Position, enters_clause, each_position, entered, with_choice, with_goal}
 use Rattle.ap_backchain.specs.Unbound.{answer_by_unbound}
 
 past_choice : (p : List ℕ) (k : ℕ) (w : Choice) (ms : List NominalMark) → beginning mark_path (p ++ k ∷ []) (choice p w ∷ ms) ≡ beginning mark_path (p ++ k ∷ []) ms
@@ -40,7 +40,7 @@ fit_here (b ∷ cs) (suc n) c h e k = fit_here cs n c (omega arith) e k.1
 module _ (program : Clauses) (locals : List NominalLocal) (d : ℕ) where
   -- below the choice of a clause
   pub clause_way : (ts : List NominalTerm) (p : Position) (k : ℕ) (c : NominalClause) (cs : List NominalClause) → 1 ≤ k → k - 1 < length cs → c ≡ get_or cs (k - 1) c
-      → marks_from_each program locals (by_clause d ts p k c)
+      → marks_from_each program locals (enters_clause d ts p k c)
       ≡ beginning mark_path (p.path ++ k ∷ [])
       (clauses_then (goal_then with_choices (calls_then with_choices program d)) ts (stack_marks program (answer_by_unbound locals) p.waiting) 1 cs p.path p.state p.brought)
   clause_way ts p k c cs low high e =
@@ -81,11 +81,11 @@ module _ (program : Clauses) (locals : List NominalLocal) (d : ℕ) where
 
   -- the branch of a clause, and where there is none
   pub kid_marks : (ts : List NominalTerm) (p : Position) (k : ℕ) (c : NominalClause) (cs : List NominalClause) → 1 ≤ k → k - 1 < length cs → c ≡ get_or cs (k - 1) c
-      → (r : Position) → r ∷ [] ≡ by_clause d ts p k c → marks_from program locals r ≡ beginning mark_path (p.path ++ k ∷ []) (clauses_marks program locals d ts cs p)
+      → (r : Position) → r ∷ [] ≡ enters_clause d ts p k c → marks_from program locals r ≡ beginning mark_path (p.path ++ k ∷ []) (clauses_marks program locals d ts cs p)
   kid_marks ts p k c cs low high e r h = sym (append-nil (marks_from program locals r)) ∙ ap (marks_from_each program locals) h ∙ clause_way ts p k c cs low high e
 
   pub no_kid_marks : (ts : List NominalTerm) (p : Position) (k : ℕ) (c : NominalClause) (cs : List NominalClause) → 1 ≤ k → k - 1 < length cs → c ≡ get_or cs (k - 1) c
-      → [] ≡ by_clause d ts p k c → [] ≡ beginning mark_path (p.path ++ k ∷ []) (clauses_marks program locals d ts cs p)
+      → [] ≡ enters_clause d ts p k c → [] ≡ beginning mark_path (p.path ++ k ∷ []) (clauses_marks program locals d ts cs p)
   no_kid_marks ts p k c cs low high e h = ap (marks_from_each program locals) h ∙ clause_way ts p k c cs low high e
 
 -- below the choice of an atom there is what its clauses have

@@ -1,11 +1,11 @@
--- How many choices a search makes: one where its first goal chooses, and those of what a turn makes of the place.
+-- How many choices a search makes: one where its first goal chooses, and those of what a turn makes of the machine.
 use Rattle.std.proofs.Common.{◌≡◌, ℕ, ◌+◌, List, [], ◌∷◌, ◌++◌, refl, sym, ap, ◌∙◌, arith}
 use Rattle.std.specs.Prelude.{Option, Some, None, option_map}
 use Rattle.ap_defs.specs.Paths.{Choice}
 use Rattle.ap_defs.specs.Goals.{Clauses}
 use Rattle.ap_defs.specs.Types.{NominalLocal}
 use Rattle.ap_search.specs.Marks.{NominalMark, out, choice, with_choices}
-use Rattle.ap_backchain.specs.Marks.{choices_among, choices_here, marks_from, marks_from_each, marks_of_turned, one_if, written_here, told_of}
+use Rattle.ap_backchain.specs.Marks.{choices_among, choices_here, marks_from, marks_from_each, marks_of_turned, choices_made, told_of, written_here}
 use Rattle.ap_backchain.specs.Positions.{Position, Turned, ends, goes, turned}
 use Rattle.ap_backchain.specs.Searches.{followed}
 use Rattle.ap_backchain.proofs.TurnLemmas.{width_told, written_append, written_turned}
@@ -15,19 +15,19 @@ choices_both [] ys = omega arith
 choices_both (out o ∷ xs) ys = choices_both xs ys
 choices_both (choice p w ∷ xs) ys = omega (arith, choices_both xs ys)
 
-one_here : (p : List ℕ) (o : Option Choice) → choices_among (written_here with_choices p o) ≡ one_if (option_map (λ (c : Choice). c.width) o)
+one_here : (p : List ℕ) (o : Option Choice) → choices_among (written_here with_choices p o) ≡ choices_made (option_map (λ (c : Choice). c.width) o)
 one_here p None = refl
 one_here p (Some v) = refl
 
 module _ (program : Clauses) (locals : List NominalLocal) where
-  -- a place that chooses has a mark there, before those of what a turn makes of it
+  -- a machine that chooses has a mark there, before those of what a turn makes of it
   choices_turned : (p : Position)
       → choices_among (marks_from program locals p) ≡ choices_here program p + choices_among (marks_of_turned program locals (turned program locals p))
   choices_turned p =
       let rest = marks_of_turned program locals (turned program locals p) in
       ap choices_among (sym (written_turned with_choices program locals p))
       ∙ choices_both (written_here with_choices p.path (told_of program p.state p.waiting)) rest
-      ∙ ap (λ n. n + choices_among rest) (one_here p.path (told_of program p.state p.waiting) ∙ ap one_if (width_told program p.state p.waiting))
+      ∙ ap (λ n. n + choices_among rest) (one_here p.path (told_of program p.state p.waiting) ∙ ap choices_made (width_told program p.state p.waiting))
 
   choices_followed : (t : Turned) (ps : List Position) → choices_among (marks_from_each program locals (followed t ps))
       ≡ choices_among (marks_of_turned program locals t) + choices_among (marks_from_each program locals ps)

@@ -1,12 +1,12 @@
 -- Heads of clauses that are unified with atoms.
 use Rattle.std.proofs.Common.{◌≡◌, ℕ, zero, suc, ◌+◌, ◌≤◌, min, List, [], ◌∷◌, ◌++◌, length, take, map, true, false, refl, sym, ap, ap₂, ◌∙◌, length-append, arith, subst}
 use Rattle.std.proofs.lemmas.List.{length-map, take-append-le, take_all}
-use Rattle.std.specs.Prelude.{Bool, Option, Some, None}
+use Rattle.std.specs.Prelude.{Bool, None, Option, Some}
 use Rattle.ap_defs.specs.Freshness.{Conds}
 use Rattle.ap_defs.specs.Goals.{NominalClause}
 use Rattle.ap_defs.specs.Renaming.{AreBelow, IsBelow, rename_term}
 use Rattle.ap_defs.specs.Resolution.{State, kinds_of}
-use Rattle.ap_defs.specs.Substitution.{Binding, ◌≐◌, under}
+use Rattle.ap_defs.specs.Substitution.{Binding, under, ◌≐◌}
 use Rattle.ap_defs.specs.Terms.{NominalTerm, term_of}
 use Rattle.ap_defs.specs.Types.{NominalKind, local_of, locals_of}
 use Rattle.ap_defs.specs.declared.goals.Local.{Local}
@@ -15,8 +15,8 @@ use Rattle.ap_defs.specs.declared.terms.Term.{Term}
 use Rattle.ap_defs.specs.declared.terms.Var.{Var}
 use Rattle.ap_program.proofs.RenamingLemmas.{are_below_more, are_renamed_below}
 use Rattle.ap_search.specs.Continuations.{Waiting}
-use Rattle.ap_store.specs.Triples.{GoesOn, Triple, with_next}
-use Rattle.ap_store.specs.Views.{kinds, past, present, versions}
+use Rattle.ap_store.specs.Triples.{IsPrefixOf, Triple, with_next}
+use Rattle.ap_store.specs.Views.{bindings_of, kinds, past, present, versions}
 use Rattle.ap_store.specs.declared.store.Store.{Store}
 use Rattle.ap_store.proofs.StoreLemmas.{next_counts}
 use Rattle.ap_store.proofs.TrailLemmas.{prefix_is}
@@ -83,7 +83,7 @@ waiting_made s r ls ws h k = let e : (present r).next ≡ (present s).next + len
 module _ (s r d : Store) (ts : List NominalTerm) (c : NominalClause) (count : ℕ) (many : count ≡ length c.locals)
     (made : present r ≡ with_next ((present s).next + count) (present s)) (grown : kinds r ≡ kinds s ++ kinds_of c.locals) (kept : kinds d ≡ kinds r) where
   abbrev renamed_kinds : State
-  renamed_kinds = record { bindings = (present s).bindings; conditions = (present s).conditions; kinds = kinds s ++ kinds_of c.locals }
+  renamed_kinds = record { bindings = (bindings_of s); conditions = (present s).conditions; kinds = kinds s ++ kinds_of c.locals }
 
   none_unified : (o : Option Unified) (solved : Bool) → IsResult o (present r) solved (present d) → solved ≡ false → unified_state renamed_kinds o ≡ None
   none_unified None solved h k = refl
@@ -99,18 +99,18 @@ module _ (s r d : Store) (ts : List NominalTerm) (c : NominalClause) (count : �
 
   -- what was compared is what clauses are entered by
   module _ (n : ℕ) (first : n ≡ (present s).next) (ls rs : List NominalTerm) (k : ℕ) (left : ls ≡ take k ts) (right : rs ≡ take k (map (rename_term n) c.args)) (enough : min (length ts) (length c.args) ≤ k)
-      (solved : Bool) (result : IsResult (unify (present r).bindings (present r).conditions ls rs) (present r) solved (present d)) where
-    compared : unify (present r).bindings (present r).conditions ls rs ≡ unify (present s).bindings (present s).conditions ts (map (rename_term (length (kinds s))) c.args)
+      (solved : Bool) (result : IsResult (unify (bindings_of r) (present r).conditions ls rs) (present r) solved (present d)) where
+    compared : unify (bindings_of r) (present r).conditions ls rs ≡ unify (bindings_of s) (present s).conditions ts (map (rename_term (length (kinds s))) c.args)
     compared =
         let e : n ≡ length (kinds s) = first ∙ sym (next_counts s) in
         let m = length-map c.args (rename_term n) in
         ap (λ (a : Triple). unify a.bindings a.conditions ls rs) made
-        ∙ ap (λ us. unify (present s).bindings (present s).conditions us rs) left
-        ∙ ap (λ us. unify (present s).bindings (present s).conditions (take k ts) us) right
-        ∙ unify_cut (present s).bindings (present s).conditions ts (map (rename_term n) c.args) k (omega (arith, enough, m))
-        ∙ ap (λ m. unify (present s).bindings (present s).conditions ts (map (rename_term m) c.args)) e
+        ∙ ap (λ us. unify (bindings_of s) (present s).conditions us rs) left
+        ∙ ap (λ us. unify (bindings_of s) (present s).conditions (take k ts) us) right
+        ∙ unify_cut (bindings_of s) (present s).conditions ts (map (rename_term n) c.args) k (omega (arith, enough, m))
+        ∙ ap (λ m. unify (bindings_of s) (present s).conditions ts (map (rename_term m) c.args)) e
 
-    same_result : IsResult (unify (present s).bindings (present s).conditions ts (map (rename_term (length (kinds s))) c.args)) (present r) solved (present d)
+    same_result : IsResult (unify (bindings_of s) (present s).conditions ts (map (rename_term (length (kinds s))) c.args)) (present r) solved (present d)
     same_result = subst (λ (o : Option Unified). IsResult o (present r) solved (present d)) compared result
 
     pub head_none : solved ≡ false → clause_state ts (state_in s) c ≡ None
@@ -120,7 +120,7 @@ module _ (s r d : Store) (ts : List NominalTerm) (c : NominalClause) (count : �
     head_some h = one_unified _ solved same_result h
 
 -- A store f that went back to where s was.
-module _ (s d f : Store) (m : ℕ) (goes : GoesOn (versions s) (versions d)) (more : (ks : List NominalKind) × (kinds d ≡ kinds s ++ ks))
+module _ (s d f : Store) (m : ℕ) (goes : IsPrefixOf (versions s) (versions d)) (more : (ks : List NominalKind) × (kinds d ≡ kinds s ++ ks))
     (mark : m ≡ length (past s)) (back : versions f ≡ take (m + 1) (versions d)) (left : kinds f ≡ take (present f).next (kinds d)) where
   versions_back : versions f ≡ versions s
   versions_back =

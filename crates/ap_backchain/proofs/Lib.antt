@@ -5,7 +5,7 @@ pub mod MachineLemmas
 pub mod ChooseLemmas
 pub mod TrackLemmas
 pub mod PointLemmas
-pub mod ArenaLemmas
+pub mod GoalStackLemmas
 pub mod BranchLemmas
 pub mod FitLemmas
 pub mod MarkLemmas
@@ -14,7 +14,7 @@ pub mod CountLemmas
 pub mod SearchLemmas
 pub mod RunLemmas
 pub mod StoreTurnLemmas
-pub mod PlaceLemmas
+pub mod MachineStepLemmas
 pub mod TurnLemmas
 pub mod VarLemmas
 pub mod UnboundLemmas

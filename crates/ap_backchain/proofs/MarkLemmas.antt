@@ -1,6 +1,6 @@
--- A place that doesn't choose has the marks of what a turn makes of it.
+-- A machine that doesn't choose has the marks of what a turn makes of it.
 use Rattle.std.proofs.Common.{◌≡◌, ◌∙◌, ℕ, zero, suc, List, [], ◌∷◌, ◌++◌, refl, sym, ap}
-use Rattle.std.specs.Prelude.{Option, Some, None}
+use Rattle.std.specs.Prelude.{None, Option, Some}
 use Rattle.ap_defs.specs.Freshness.{reduce}
 use Rattle.ap_defs.specs.Goals.{NominalGoal, succeed, atom, equal, fresh, both, either, exists, new, Clauses}
 use Rattle.ap_defs.specs.Occurrences.{free_vars}
@@ -22,7 +22,7 @@ marks_turned program locals p h =
     ap (λ o. written_here with_choices p.path o ++ marks_of_turned program locals (turned program locals p)) (sym (nothing_chosen program p.state p.waiting h))
     ∙ written_turned with_choices program locals p
 
--- and it goes on from one place at most.
+-- and it goes on from one machine at most.
 settled_with : (p : Position) (f : State → Position) → ((s : State) → (f s).path ≡ p.path) → (o : Option State) → IsSettled p (goes (each_position f o))
 settled_with p f e None = tt
 settled_with p f e (Some s) = e s

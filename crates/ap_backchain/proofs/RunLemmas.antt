@@ -1,4 +1,4 @@
--- What a search finds again when it goes back to a choice, and what a choice makes of a place.
+-- What a search finds again when it goes back to a choice, and what a choice makes of a machine.
 use Rattle.std.specs.Global.{Global}
 use Rattle.std.specs.Prelude.{Some, Result, Ok, Err, OnOk, Vec, reverse}
 use Rattle.std.proofs.Common.{◌≡◌, ℕ, zero, suc, ◌+◌, ◌-◌, ◌<◌, ◌≤◌, List, [], ◌∷◌, ◌++◌, length, get_or, map, drop, refl, sym, ap, ap₂, ◌∙◌, subst, arith}
@@ -14,13 +14,13 @@ use Rattle.ap_defs.specs.declared.terms.Term.{Term}
 use Rattle.ap_search.specs.Continuations.{Waiting}
 use Rattle.ap_backchain.specs.Below.{AreWaitingBelow}
 use Rattle.ap_backchain.specs.Marks.{choice_of, choice_of_atom, choice_of_goal}
-use Rattle.ap_backchain.specs.Places.{next_of, position_of, track_of}
-use Rattle.ap_backchain.specs.Points.{ArePoints, IsFitRest, IsPoint, positions_left, positions_pending}
-use Rattle.ap_backchain.specs.Positions.{Position, by_clause, by_clauses, goes, turned, turned_atom, turned_by, turned_goal}
+use Rattle.ap_backchain.specs.Machines.{next_of, position_of, track_of}
+use Rattle.ap_backchain.specs.ChoicePoints.{ArePoints, IsFitRest, IsPoint, positions_left, positions_pending}
+use Rattle.ap_backchain.specs.Positions.{Position, enters_clause, by_clauses, goes, turned, turned_atom, turned_by, turned_goal}
 use Rattle.ap_backchain.specs.Searches.{HasPoints, ended, pending_of}
 use Rattle.ap_backchain.specs.Tracks.{GoesFrom, IsWithin, Track, back_to, next_in, position_at}
-use Rattle.ap_backchain.specs.declared.place.Place.{Place}
-use Rattle.ap_backchain.specs.declared.points.Point.{Point}
+use Rattle.ap_backchain.specs.declared.machine.Machine.{Machine}
+use Rattle.ap_backchain.specs.declared.points.ChoicePoint.{ChoicePoint}
 use Rattle.ap_backchain.specs.declared.points.Rest.{Rest}
 use Rattle.ap_backchain.specs.declared.points.Rest.TheVariants as rests
 use Rattle.ap_backchain.specs.declared.points.Save.{Save}
@@ -34,7 +34,7 @@ on_ok (Ok x) p = p
 on_ok (Err e) p = tt
 
 -- A choice is kept where the search stood, and the search goes on.
-module _ (s : Save) (t u : Track) (r : Rest) (ps : List Point) (w : IsWithin s t) (e : back_to s t ≡ t) (g : GoesFrom t u) where
+module _ (s : Save) (t u : Track) (r : Rest) (ps : List ChoicePoint) (w : IsWithin s t) (e : back_to s t ≡ t) (g : GoesFrom t u) where
   pending_kept : positions_pending u (record { save = s; rest = r } ∷ ps) ≡ positions_left r (position_at t s.first) ++ positions_pending t ps
   pending_kept = ap (λ v. positions_left r (position_at v s.first) ++ positions_pending v ps) (back_from s t u w g ∙ e)
 
@@ -49,12 +49,12 @@ module _ (s : Save) (t u : Track) (r : Rest) (ps : List Point) (w : IsWithin s t
         subst (λ (v : Track). ArePoints v ps) f h,
       )
 
-pub last_first : (ps qs : List Point) (p : Point) → qs ≡ ps ++ p ∷ [] → reverse qs ≡ p ∷ reverse ps
+pub last_first : (ps qs : List ChoicePoint) (p : ChoicePoint) → qs ≡ ps ++ p ∷ [] → reverse qs ≡ p ∷ reverse ps
 last_first ps qs p e = ap reverse e ∙ reverse-append ps (p ∷ [])
 
--- The same of places and their choices.
-module _ (s : Save) (b d : Place) (w : IsWithin s (track_of b)) (e : back_to s (track_of b) ≡ track_of b) (f : position_at (track_of b) s.first ≡ position_of b)
-    (g : GoesFrom (track_of b) (track_of d)) (r : Rest) (us vs : Vec Point Global) (l : vs.items ≡ us.items ++ record { save = s; rest = r } ∷ []) where
+-- The same of machines and their choices.
+module _ (s : Save) (b d : Machine) (w : IsWithin s (track_of b)) (e : back_to s (track_of b) ≡ track_of b) (f : position_at (track_of b) s.first ≡ position_of b)
+    (g : GoesFrom (track_of b) (track_of d)) (r : Rest) (us vs : Vec ChoicePoint Global) (l : vs.items ≡ us.items ++ record { save = s; rest = r } ∷ []) where
   pub pending_with : pending_of d vs ≡ positions_left r (position_of b) ++ pending_of b us
   pending_with =
       ap (positions_pending (track_of d)) (last_first us.items vs.items (record { save = s; rest = r }) l)
@@ -64,20 +64,20 @@ module _ (s : Save) (b d : Place) (w : IsWithin s (track_of b)) (e : back_to s (
   pub points_with : IsFitRest (next_of b) r → HasPoints b us → HasPoints d vs
   points_with fit h =
       let n : next_of b ≡ next_in (track_of b) = sym (next_here b) in
-      subst (λ (ps : List Point). ArePoints (track_of d) ps) (sym (last_first us.items vs.items (record { save = s; rest = r }) l))
+      subst (λ (ps : List ChoicePoint). ArePoints (track_of d) ps) (sym (last_first us.items vs.items (record { save = s; rest = r }) l))
       (points_kept s (track_of b) (track_of d) r (reverse us.items) w e g
       (subst (λ (p : Position). AreWaitingBelow (next_in (track_of b)) p.waiting) (sym f) (subst (λ (m : ℕ). AreWaitingBelow m (position_of b).waiting) n b.below))
       (subst (λ (m : ℕ). IsFitRest m r) n fit) h)
 
 -- The choices stay while the search goes on.
-module _ (b d : Place) (us vs : Vec Point Global) (l : vs.items ≡ us.items) (h : HasPoints b us) where
+module _ (b d : Machine) (us vs : Vec ChoicePoint Global) (l : vs.items ≡ us.items) (h : HasPoints b us) where
   pub pending_goes : GoesFrom (track_of b) (track_of d) → pending_of d vs ≡ pending_of b us
-  pending_goes g = ap (λ (ps : List Point). positions_pending (track_of d) (reverse ps)) l ∙ pending_from (track_of b) (track_of d) (reverse us.items) h g
+  pending_goes g = ap (λ (ps : List ChoicePoint). positions_pending (track_of d) (reverse ps)) l ∙ pending_from (track_of b) (track_of d) (reverse us.items) h g
 
   pub points_goes : GoesFrom (track_of b) (track_of d) → HasPoints d vs
-  points_goes g = subst (λ (ps : List Point). ArePoints (track_of d) (reverse ps)) (sym l) (points_from (track_of b) (track_of d) (reverse us.items) h g)
+  points_goes g = subst (λ (ps : List ChoicePoint). ArePoints (track_of d) (reverse ps)) (sym l) (points_from (track_of b) (track_of d) (reverse us.items) h g)
 
-module _ (b d : Place) (vs : Vec Point Global) (t : track_of d ≡ track_of b) where
+module _ (b d : Machine) (vs : Vec ChoicePoint Global) (t : track_of d ≡ track_of b) where
   pub pending_same : pending_of d vs ≡ pending_of b vs
   pending_same = ap (λ v. positions_pending v (reverse vs.items)) t
 
@@ -87,19 +87,19 @@ module _ (b d : Place) (vs : Vec Point Global) (t : track_of d ≡ track_of b) w
 -- The first of the clauses that are left.
 pub clause_left : (u : Untried) (i : ℕ) (c : Clause Term) (p : Position) → i < length u.clauses.now → c ≡ get_or u.clauses.now i c
     → positions_left (rests.Clauses (record u { tried = i })) p
-    ≡ by_clause u.depth (map (rename_term u.base) (map term_of u.args.now)) p (i + 1) (clause_of c) ++ positions_left (rests.Clauses (record u { tried = i + 1 })) p
+    ≡ enters_clause u.depth (map (rename_term u.base) (map term_of u.args.now)) p (i + 1) (clause_of c) ++ positions_left (rests.Clauses (record u { tried = i + 1 })) p
 clause_left u i c p h e =
     let j : suc i ≡ i + 1 = omega arith in
     let ts = map (rename_term u.base) (map term_of u.args.now) in
     ap (λ bs. by_clauses u.depth ts p (suc i) (map clause_of bs)) (drop-cons u.clauses.now i c h ∙ ap (λ x. x ∷ drop (suc i) u.clauses.now) (sym e))
-    ∙ ap (λ k. by_clause u.depth ts p k (clause_of c) ++ by_clauses u.depth ts p (suc k) (map clause_of (drop k u.clauses.now))) j
+    ∙ ap (λ k. enters_clause u.depth ts p k (clause_of c) ++ by_clauses u.depth ts p (suc k) (map clause_of (drop k u.clauses.now))) j
 
 pub no_clause_left : (u : Untried) (i : ℕ) (p : Position) → length u.clauses.now ≤ i → positions_left (rests.Clauses (record u { tried = i })) p ≡ []
 no_clause_left u i p l = ap (λ cs. by_clauses u.depth (map (rename_term u.base) (map term_of u.args.now)) p (suc i) (map clause_of cs)) (drop_all i u.clauses.now l)
 
 -- The clauses after the n-th are kept, if there are any.
-module _ (s : Save) (b d : Place) (w : IsWithin s (track_of b)) (e : back_to s (track_of b) ≡ track_of b) (f : position_at (track_of b) s.first ≡ position_of b)
-    (g : GoesFrom (track_of b) (track_of d)) (u : Untried) (n : ℕ) (us vs : Vec Point Global)
+module _ (s : Save) (b d : Machine) (w : IsWithin s (track_of b)) (e : back_to s (track_of b) ≡ track_of b) (f : position_at (track_of b) s.first ≡ position_of b)
+    (g : GoesFrom (track_of b) (track_of d)) (u : Untried) (n : ℕ) (us vs : Vec ChoicePoint Global)
     (kept : n < length u.clauses.now → vs.items ≡ us.items ++ record { save = s; rest = rests.Clauses (record u { tried = n }) } ∷ [])
     (none : length u.clauses.now ≤ n → vs.items ≡ us.items) (h : HasPoints b us) where
   pub pending_rest : pending_of d vs ≡ positions_left (rests.Clauses (record u { tried = n })) (position_of b) ++ pending_of b us
@@ -118,23 +118,23 @@ module _ (s : Save) (b d : Place) (w : IsWithin s (track_of b)) (e : back_to s (
         | no k ↦ let l : length u.clauses.now ≤ n = omega arith in points_goes b d us vs (none l) h g
       ]
 
-pub next_same : (b d : Place) → track_of d ≡ track_of b → next_of d ≡ next_of b
+pub next_same : (b d : Machine) → track_of d ≡ track_of b → next_of d ≡ next_of b
 next_same b d e = sym (next_here d) ∙ ap next_in e ∙ next_here b
 
 -- The latest choice.
-module _ (b : Place) (us vs : Vec Point Global) (p : Point) (l : vs.items ≡ us.items ++ p ∷ []) where
+module _ (b : Machine) (us vs : Vec ChoicePoint Global) (p : ChoicePoint) (l : vs.items ≡ us.items ++ p ∷ []) where
   pub latest_pending : pending_of b vs ≡ positions_left p.rest (position_at (back_to p.save (track_of b)) p.save.first) ++ positions_pending (back_to p.save (track_of b)) (reverse us.items)
   latest_pending = ap (positions_pending (track_of b)) (last_first us.items vs.items p l)
 
   pub latest_points : HasPoints b vs → IsPoint (track_of b) p × ArePoints (back_to p.save (track_of b)) (reverse us.items)
-  latest_points h = subst (λ (ps : List Point). ArePoints (track_of b) ps) (last_first us.items vs.items p l) h
+  latest_points h = subst (λ (ps : List ChoicePoint). ArePoints (track_of b) ps) (last_first us.items vs.items p l) h
 
   -- once the search has gone back to it
-  pub pending_back : (d : Place) → track_of d ≡ back_to p.save (track_of b) → position_of d ≡ position_at (back_to p.save (track_of b)) p.save.first
+  pub pending_back : (d : Machine) → track_of d ≡ back_to p.save (track_of b) → position_of d ≡ position_at (back_to p.save (track_of b)) p.save.first
       → positions_left p.rest (position_of d) ++ pending_of d us ≡ pending_of b vs
   pending_back d t q = ap₂ (λ (x : Position) (v : Track). positions_left p.rest x ++ positions_pending v (reverse us.items)) q t ∙ sym latest_pending
 
-  pub points_back : (d : Place) → track_of d ≡ back_to p.save (track_of b) → HasPoints b vs → HasPoints d us
+  pub points_back : (d : Machine) → track_of d ≡ back_to p.save (track_of b) → HasPoints b vs → HasPoints d us
   points_back d t h = subst (λ (v : Track). ArePoints v (reverse us.items)) (sym t) (latest_points h).1
 
 pub atom_goes : (program : Clauses) (n c : ℕ) (ts : List NominalTerm) (p : Position) (w : ℕ) → choice_of_atom program n c ≡ Some w

@@ -1,6 +1,6 @@
 -- Sets of variables by sorting.
 use Rattle.std.proofs.Common.{◌≡◌, ◌<◌, ℕ, zero, suc, true, false, List, [], ◌∷◌, length, refl, sym, ap, ◌∙◌, inl, inr, arith, true≢false, Ordering}
-use Rattle.std.specs.Prelude.{nat_lt, slice_index_or, IsPermutation}
+use Rattle.std.specs.Prelude.{IsPermutation, nat_lt, slice_index_or}
 use Rattle.std.specs.Cmp.{IsEquivalence, unsigned_ties}
 use Rattle.std.specs.List.{Contains, dedup}
 use Rattle.std.specs.List.Retain.{DiffersFromLast, IsFiltered}
@@ -31,13 +31,13 @@ from_has x (y ∷ ys) h =
       | inr k ↦ let d = from_has x ys k in (suc d.0, omega (arith, d.1), d.2)
     ]
 
-has_place : (x : Var) (ys : List Var) (k : ℕ) → k < length ys → slice_index_or ys k x ≡ x → has_var x ys ≡ true
-has_place x [] k h e = absurd (omega arith)
-has_place x (y ∷ ys) zero h e = or_if_left (var_eq x y) (has_var x ys) (same_var x y (sym e))
-has_place x (y ∷ ys) (suc k) h e = or_if_right (var_eq x y) (has_var x ys) (has_place x ys k (omega arith) e)
+has_machine : (x : Var) (ys : List Var) (k : ℕ) → k < length ys → slice_index_or ys k x ≡ x → has_var x ys ≡ true
+has_machine x [] k h e = absurd (omega arith)
+has_machine x (y ∷ ys) zero h e = or_if_left (var_eq x y) (has_var x ys) (same_var x y (sym e))
+has_machine x (y ∷ ys) (suc k) h e = or_if_right (var_eq x y) (has_var x ys) (has_machine x ys k (omega arith) e)
 
 to_has : (x : Var) (ys : List Var) → Contains ys x → has_var x ys ≡ true
-to_has x ys c = has_place x ys c.0 c.1 c.2
+to_has x ys c = has_machine x ys c.0 c.1 c.2
 
 var_equivalence : IsEquivalence var_eq
 var_equivalence = record {

@@ -1,4 +1,4 @@
--- What calls of a store make of a place.
+-- What calls of a store make of a machine.
 use Rattle.std.proofs.Common.{◌≡◌, ℕ, ◌≤◌, ◌^◌, List, [], ◌∷◌, length, refl, sym, ap, ◌∙◌, subst, arith, rules}
 use Rattle.std.specs.Global.{Global}
 use Rattle.std.specs.Prelude.{Bool, Vec, true, false, if◌then◌else◌, Option, Some, None}
@@ -18,15 +18,15 @@ use Rattle.ap_perm.specs.Closures.{opened_term}
 use Rattle.ap_perm.specs.declared.closures.Opened.{Opened}
 use Rattle.ap_perm.specs.declared.closures.Opened.TheVariants as parts
 use Rattle.ap_store.specs.Heads.{IsHeadUnbound}
-use Rattle.ap_store.specs.Triples.{GoesOn, Triple}
-use Rattle.ap_store.specs.Views.{kinds, present, versions}
+use Rattle.ap_store.specs.Triples.{IsPrefixOf, Triple}
+use Rattle.ap_store.specs.Views.{bindings_of, kinds, present, versions}
 use Rattle.ap_store.specs.declared.store.Store.{Store}
 use Rattle.ap_store.proofs.StoreLemmas.{next_counts}
 use Rattle.ap_theory.proofs.IdempotenceLemmas.{bound_term_unbound}
 use Rattle.ap_unify.specs.Unified.{IsReduced, IsResult}
-use Rattle.ap_backchain.specs.Arenas.{IsLonger}
+use Rattle.ap_backchain.specs.GoalStacks.{IsLonger}
 use Rattle.ap_backchain.specs.Below.{AreWaitingBelow}
-use Rattle.ap_backchain.specs.Places.{turned_of}
+use Rattle.ap_backchain.specs.Machines.{turned_of}
 use Rattle.ap_backchain.specs.Positions.{Position, ends, goes, goes_with, reduced_state, turned_fresh, unified_state, with_state}
 use Rattle.ap_backchain.specs.Tracks.{GoesFrom, Track}
 use Rattle.ap_backchain.specs.Views.{state_in}
@@ -49,7 +49,7 @@ abbrev pub track_with : List Cell → List ℕ → List Var → List Triple → 
 track_with cs ps xs vs ks = record { versions = vs; kinds = ks; cells = cs; path = ps; brought = xs }
 
 -- the search goes on with the store
-pub store_goes : (s r : Store) (cs : List Cell) (ps : List ℕ) (xs : List Var) → GoesOn (versions s) (versions r) → IsLonger (kinds s) (kinds r)
+pub store_goes : (s r : Store) (cs : List Cell) (ps : List ℕ) (xs : List Var) → IsPrefixOf (versions s) (versions r) → IsLonger (kinds s) (kinds r)
     → GoesFrom (track_with cs ps xs (versions s) (kinds s)) (track_with cs ps xs (versions r) (kinds r))
 store_goes s r cs ps xs h k = record {
   versions = h;
@@ -85,15 +85,15 @@ module _ (s r : Store) (p q : Position) (same : kinds r ≡ kinds s) (there : q 
   turned_reduced (Some cs) t solved h e = had_state t _ solved h.1 h.0 e
 
 -- A freshness goal whose left side was followed.
-module _ (s : Store) (p : Position) (t u v w : NominalTerm) (followed : under (present s).bindings v ≡ under (present s).bindings t) where
-  turned_as : w ≡ v → turned_fresh p (under (present s).bindings t) u ≡ turned_fresh p (under (present s).bindings w) u
-  turned_as e = ap (λ (x : NominalTerm). turned_fresh p x u) (sym (ap (under (present s).bindings) e ∙ followed))
+module _ (s : Store) (p : Position) (t u v w : NominalTerm) (followed : under (bindings_of s) v ≡ under (bindings_of s) t) where
+  turned_as : w ≡ v → turned_fresh p (under (bindings_of s) t) u ≡ turned_fresh p (under (bindings_of s) w) u
+  turned_as e = ap (λ (x : NominalTerm). turned_fresh p x u) (sym (ap (under (bindings_of s)) e ∙ followed))
 
-  turned_to : {y : NominalTerm} → w ≡ y → w ≡ v → turned_fresh p (under (present s).bindings t) u ≡ turned_fresh p (under (present s).bindings y) u
-  turned_to f e = turned_as e ∙ ap (λ (y : NominalTerm). turned_fresh p (under (present s).bindings y) u) f
+  turned_to : {y : NominalTerm} → w ≡ y → w ≡ v → turned_fresh p (under (bindings_of s) t) u ≡ turned_fresh p (under (bindings_of s) y) u
+  turned_to f e = turned_as e ∙ ap (λ (y : NominalTerm). turned_fresh p (under (bindings_of s) y) u) f
 
   pub turned_other : (o : Opened) → w ≡ opened_term o → w ≡ v → ((a : Name) → o ≡ parts.Name a → ⊥) → ((q : Vec Swap Global) (x : Var) → o ≡ parts.Susp q x → ⊥)
-      → goes [] ≡ turned_fresh p (under (present s).bindings t) u
+      → goes [] ≡ turned_fresh p (under (bindings_of s) t) u
   turned_other parts.Unit f e h k = sym (turned_to f e)
   turned_other (parts.Name a) f e h k = absurd (h a refl)
   turned_other (parts.Pair c d) f e h k = sym (turned_to f e)
@@ -101,12 +101,12 @@ module _ (s : Store) (p : Position) (t u v w : NominalTerm) (followed : under (p
   turned_other (parts.Abs a c) f e h k = sym (turned_to f e)
   turned_other (parts.Susp q x) f e h k = absurd (k q x refl)
 
-  pub turned_stuck : (q : List Swap) (x : Var) (ps : List ℕ) → ps ≡ p.path → w ≡ susp q x → w ≡ v → IsHeadUnbound (present s).bindings v
-      → ends (stuck ps) ≡ turned_fresh p (under (present s).bindings t) u
+  pub turned_stuck : (q : List Swap) (x : Var) (ps : List ℕ) → ps ≡ p.path → w ≡ susp q x → w ≡ v → IsHeadUnbound (bindings_of s) v
+      → ends (stuck ps) ≡ turned_fresh p (under (bindings_of s) t) u
   turned_stuck q x ps same f e h =
-      let k : IsHeadUnbound (present s).bindings (susp q x) = subst (λ (y : NominalTerm). IsHeadUnbound (present s).bindings y) (sym e ∙ f) h in
+      let k : IsHeadUnbound (bindings_of s) (susp q x) = subst (λ (y : NominalTerm). IsHeadUnbound (bindings_of s) y) (sym e ∙ f) h in
       ap (λ (rs : List ℕ). ends (stuck rs)) same
-      ∙ sym (turned_to f e ∙ ap (λ (o : Option NominalTerm). turned_fresh p (moved q x o) u) (bound_term_unbound (present s).bindings x k))
+      ∙ sym (turned_to f e ∙ ap (λ (o : Option NominalTerm). turned_fresh p (moved q x o) u) (bound_term_unbound (bindings_of s) x k))
 
-  pub turned_name : (a : Name) → w ≡ name a → w ≡ v → goes_with p (reduced_state p.state (reduce a (under p.state.bindings u))) ≡ turned_fresh p (under (present s).bindings t) u
+  pub turned_name : (a : Name) → w ≡ name a → w ≡ v → goes_with p (reduced_state p.state (reduce a (under p.state.bindings u))) ≡ turned_fresh p (under (bindings_of s) t) u
   turned_name a f e = sym (turned_to f e)

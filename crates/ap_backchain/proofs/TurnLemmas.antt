@@ -1,4 +1,4 @@
--- What a turn makes of a place has the outputs of the place, and fewer turns to go.
+-- What a turn makes of a machine has the outputs of the machine, and fewer turns to go.
 use Rattle.std.proofs.Common.{◌≡◌, ℕ, zero, suc, ◌+◌, List, [], ◌∷◌, ◌++◌, refl, sym, ap, ap₂, ◌∙◌, append_assoc, arith}
 use Rattle.std.proofs.lemmas.List.{append-nil}
 use Rattle.std.specs.Prelude.{Option, Some, None, map, length, option_map}
@@ -17,11 +17,11 @@ use Rattle.ap_defs.specs.Types.{NominalLocal}
 use Rattle.ap_defs.specs.Unification.{Unified, reduce_all, unify}
 use Rattle.ap_search.specs.Continuations.{Continuation, Waiting, Writing, calls_then, clause_then, clauses_then, goal_then, outputs_alone, stack_then, then_if_reduced, then_if_unified, then_test_fresh}
 use Rattle.ap_backchain.specs.Marks.{choice_of, choice_of_atom, choice_of_goal, told_of, told_of_atom, told_of_goal, written_here}
-use Rattle.ap_backchain.specs.Positions.{Position, by_clause, by_clauses, clause_state, each_position, entered, outs_from, outs_of_turned, reduced_state, turned, turned_atom, turned_by, turned_fresh, turned_goal, unified_state, with_state, written_from, written_from_each, written_of_turned}
+use Rattle.ap_backchain.specs.Positions.{Position, enters_clause, by_clauses, clause_state, each_position, entered, outs_from, outs_of_turned, reduced_state, turned, turned_atom, turned_by, turned_fresh, turned_goal, unified_state, with_state, written_from, written_from_each, written_of_turned}
 use Rattle.ap_backchain.specs.Turns.{call_turns, clauses_turns, fresh_turns, goal_turns, stack_turns, turns_from, turns_from_each, turns_if, turns_of_turned}
 use Rattle.ap_backchain.specs.Unbound.{answer_by_unbound}
 
--- What is written: that of the choice that the first goal makes, and what a turn makes of the place.
+-- What is written: that of the choice that the first goal makes, and what a turn makes of the machine.
 module _ {R : Type 0} (w : Writing R) (program : Clauses) (locals : List NominalLocal) where
   pub written_append : (ps qs : List Position)
       → written_from_each w program locals (ps ++ qs) ≡ written_from_each w program locals ps ++ written_from_each w program locals qs
@@ -53,7 +53,7 @@ module _ {R : Type 0} (w : Writing R) (program : Clauses) (locals : List Nominal
   rest_of p = stack_then w program (answer_by_unbound locals) p.waiting
 
   pub written_clause : (d : ℕ) (ts : List NominalTerm) (p : Position) (i : ℕ) (c : NominalClause)
-      → written_from_each w program locals (by_clause d ts p i c)
+      → written_from_each w program locals (enters_clause d ts p i c)
       ≡ clause_then (goal_then w (calls_then w program d)) ts (rest_of p) i c p.path p.state p.brought
   written_clause d ts p i c =
       written_unified (entered d p i c) (record (p.state) { kinds = p.state.kinds ++ kinds_of c.locals })
@@ -64,7 +64,7 @@ module _ {R : Type 0} (w : Writing R) (program : Clauses) (locals : List Nominal
       ≡ clauses_then (goal_then w (calls_then w program d)) ts (rest_of p) i cs p.path p.state p.brought
   written_clauses d ts p i [] = refl
   written_clauses d ts p i (c ∷ cs) =
-      written_append (by_clause d ts p i c) (by_clauses d ts p (suc i) cs)
+      written_append (enters_clause d ts p i c) (by_clauses d ts p (suc i) cs)
       ∙ ap₂ ◌++◌ (written_clause d ts p i c) (written_clauses d ts p (suc i) cs)
 
   written_atom : (d c : ℕ) (ts : List NominalTerm) (p : Position)
@@ -161,7 +161,7 @@ turns_clauses : (program : Clauses) (d : ℕ) (ts : List NominalTerm) (p : Posit
     → turns_from_each program (by_clauses d ts p i cs) ≡ clauses_turns (goal_turns (call_turns program d)) ts (stack_turns program p.waiting) p.state cs
 turns_clauses program d ts p i [] = refl
 turns_clauses program d ts p i (c ∷ cs) =
-    turns_append program (by_clause d ts p i c) (by_clauses d ts p (suc i) cs)
+    turns_append program (enters_clause d ts p i c) (by_clauses d ts p (suc i) cs)
     ∙ ap (λ n. n + turns_from_each program (by_clauses d ts p (suc i) cs)) (turns_each program (entered d p i c) (clause_state ts p.state c))
     ∙ ap (λ n. turns_if (goal_turns (call_turns program d) (rename_goal (next_number p.state) c.body) (stack_turns program p.waiting)) (clause_state ts p.state c) + n) (turns_clauses program d ts p (suc i) cs)
 

@@ -29,7 +29,7 @@ all_found_kept : (p : Paths) (os : List NominalOut) → found_in (map (kept_out 
 all_found_kept p [] = refl
 all_found_kept p (o ∷ os) = ap₂ (λ (b : Bool) (n : ℕ). (if b then 1 else 0) + n) (found_kept p o) (all_found_kept p os)
 
--- what follows a place in a list, as a slice has it
+-- what follows a machine in a list, as a slice has it
 all_taken : (xs : List Out) → take (length xs) xs ≡ xs
 all_taken [] = refl
 all_taken (x ∷ xs) = ap (λ ys. x ∷ ys) (all_taken xs)

@@ -1,5 +1,5 @@
 -- Branches, and what it is for one to be of a problem.
-use Rattle.std.specs.Prelude.{◌≡◌, ◌≤◌, ◌-◌, ℕ, List, [], ◌∷◌, Some, None, map, slice_get}
+use Rattle.std.specs.Prelude.{◌≡◌, ◌≤◌, ◌-◌, ℕ, List, [], ◌∷◌, Option, Some, None, map, slice_get}
 use Rattle.ap_defs.specs.Answers as answers
 use Rattle.ap_defs.specs.Answers.{NominalAnswer, out_of, out_path, outs_at}
 use Rattle.ap_defs.specs.Goals.{Clauses, NominalQuery}
@@ -12,9 +12,10 @@ use Rattle.ap_search.specs.Marks.{NominalMark, out, mark_in, mark_path}
 use Rattle.ap_search.specs.PathTrees.{query_choice, query_choices}
 use Rattle.ap_search.specs.Prefixes.{beginning}
 use Rattle.ap_backchain.specs.Marks.{choice_of, choices_among, marks_from, told_of}
-use Rattle.ap_backchain.specs.Places.{position_of}
+use Rattle.ap_backchain.specs.Machines.{position_of}
 use Rattle.ap_backchain.specs.Problems.{clauses_in, queries_in}
 use Rattle.ap_backchain.specs.declared.branch.Branch.{Branch}
+use Rattle.ap_backchain.specs.declared.descent.Descent.{Descent}
 use Rattle.ap_backchain.specs.declared.standing.Standing.{Standing}
 use Rattle.ap_backchain.specs.declared.standing.Standing.TheVariants as standings
 use Rattle.ap_backchain.specs.declared.problem.Problem.{Problem}
@@ -52,6 +53,12 @@ IsNamed program nodes.Stuck (standings.Ended (code.Stuck p)) = Unit {0}
 IsNamed program nodes.Failed (standings.Failed path) = Unit {0}
 IsNamed program _ _ = ⊥
 
+-- among how many ways it chooses there, if it does
+abbrev pub width_of_standing : Standing → Option ℕ
+width_of_standing (standings.Choosing w p) = Some w
+width_of_standing (standings.Ended o) = None
+width_of_standing (standings.Failed path) = None
+
 -- how many choices the search of a query makes at a path and below it
 abbrev pub choices_at : Clauses → ℕ → NominalQuery → List ℕ → ℕ
 choices_at program d q p = choices_among (beginning mark_path p (map (mark_in q.locals) (marked_query program d q)))
@@ -69,6 +76,23 @@ IsChoiceOf k b = IsChoiceOfNode k b.node
 
 abbrev pub IsAnswering : Branch → Type 0
 IsAnswering b = b.node ≡ nodes.Answer
+
+-- what a search holds on its way along a path is what the search of the query has there
+pub record IsStandingFor (program : Clauses) (depth : ℕ) (q : NominalQuery) (s : Standing) : Type 0 where
+  pub marks : beginning mark_path (path_of_standing s) (map (mark_in q.locals) (marked_query program depth q)) ≡ marks_of_standing program q.locals s
+  pub choosing : IsChoosing program s
+
+abbrev pub IsStandingOf : Problem → Standing → Type 0
+IsStandingOf p s = (q : NominalQuery) → slice_get (queries_in p) (p.query - 1) ≡ Some q → IsStandingFor (clauses_in p) p.depth q s
+
+abbrev pub IsDescentOf : Problem → Descent → Type 0
+IsDescentOf p d = IsStandingOf p d.standing
+
+abbrev pub path_of_descent : Descent → List ℕ
+path_of_descent d = path_of_standing d.standing
+
+abbrev pub width_of_descent : Descent → Option ℕ
+width_of_descent d = width_of_standing d.standing
 
 -- all that the branch holds is what the search of the query has at its path
 pub record IsBranchFor (program : Clauses) (depth : ℕ) (q : NominalQuery) (b : Branch) : Type 0 where

@@ -1,4 +1,4 @@
--- The marks of a place, where it chooses, and what a turn makes of a place that doesn't choose.
+-- The marks of a machine, where it chooses, and what a turn makes of a machine that doesn't choose.
 use Rattle.std.specs.Prelude.{◌≡◌, ◌≤◌, ℕ, zero, suc, List, [], ◌∷◌, length, Option, Some, None}
 use Rattle.ap_defs.specs.Answers.{out_path}
 use Rattle.ap_defs.specs.Goals.{NominalGoal, NominalClause, atom, either, Clauses, clauses_of}
@@ -28,7 +28,7 @@ choices_among [] = 0
 choices_among (out o ∷ ms) = choices_among ms
 choices_among (choice p w ∷ ms) = suc (choices_among ms)
 
--- how many choices a search makes from a place
+-- how many choices a search makes from a machine
 abbrev pub choices_from : Clauses → List NominalLocal → Position → ℕ
 choices_from program locals p = choices_among (marks_from program locals p)
 
@@ -80,14 +80,14 @@ written_here w p None = []
 written_here w p (Some c) = w.choice p c.width c.kept
 
 -- how many choices the first goal makes
-abbrev pub one_if : Option ℕ → ℕ
-one_if None = 0
-one_if (Some w) = 1
+abbrev pub choices_made : Option ℕ → ℕ
+choices_made None = 0
+choices_made (Some w) = 1
 
 abbrev pub choices_here : Clauses → Position → ℕ
-choices_here program p = one_if (choice_of program p.waiting)
+choices_here program p = choices_made (choice_of program p.waiting)
 
--- a search that doesn't choose ends, or goes on from one place with the same path
+-- a search that doesn't choose ends, or goes on from one machine with the same path
 abbrev pub IsSettled : Position → Turned → Type 0
 IsSettled p (ends o) = out_path o ≡ p.path
 IsSettled p (goes []) = Unit {0}

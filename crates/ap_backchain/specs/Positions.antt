@@ -36,7 +36,7 @@ with_state s p = record p { state = s }
 abbrev pub with_vars : List Var → Position → Position
 with_vars xs p = record p { brought = p.brought ++ xs }
 
--- a search ends with an output, or goes on from each of these places
+-- a search ends with an output, or goes on from each of these machines
 pub data Turned : Type 0 where
   ends : NominalOut → Turned
   goes : List Position → Turned
@@ -54,7 +54,7 @@ abbrev pub each_position : (State → Position) → Option State → List Positi
 each_position f None = []
 each_position f (Some s) = f s ∷ []
 
--- it goes on from this place, with the state if there is one
+-- it goes on from this machine, with the state if there is one
 abbrev pub goes_with : Position → Option State → Turned
 goes_with p o = goes (each_position (λ s. with_state s p) o)
 
@@ -74,19 +74,19 @@ abbrev pub entered : ℕ → Position → ℕ → NominalClause → State → Po
 entered d p i c s =
     with_goal d (rename_goal (next_number p.state) c.body) (with_vars (local_vars (next_number p.state) c.locals) (with_choice i (with_state s p)))
 
-abbrev pub by_clause : ℕ → List NominalTerm → Position → ℕ → NominalClause → List Position
-by_clause d ts p i c = each_position (entered d p i c) (clause_state ts p.state c)
+abbrev pub enters_clause : ℕ → List NominalTerm → Position → ℕ → NominalClause → List Position
+enters_clause d ts p i c = each_position (entered d p i c) (clause_state ts p.state c)
 
 -- clauses numbered from i on
 abbrev pub by_clauses : ℕ → List NominalTerm → Position → ℕ → List NominalClause → List Position
 by_clauses d ts p i [] = []
-by_clauses d ts p i (c ∷ cs) = by_clause d ts p i c ++ by_clauses d ts p (suc i) cs
+by_clauses d ts p i (c ∷ cs) = enters_clause d ts p i c ++ by_clauses d ts p (suc i) cs
 
 abbrev pub turned_atom : Clauses → ℕ → ℕ → List NominalTerm → Position → Turned
 turned_atom program zero c ts p = ends (cut p.path)
 turned_atom program (suc d) c ts p = goes (by_clauses d ts p 1 (clauses_of program c))
 
--- what a goal at a depth makes of a place
+-- what a goal at a depth makes of a machine
 abbrev pub turned_goal : Clauses → ℕ → NominalGoal → Position → Turned
 turned_goal program d succeed p = goes (p ∷ [])
 turned_goal program d (atom c ts) p = turned_atom program d c ts p
@@ -102,11 +102,11 @@ abbrev pub turned_by : Clauses → List NominalLocal → List Waiting → Positi
 turned_by program locals [] p = ends (found p.path (answer_by_unbound locals p.state p.brought))
 turned_by program locals (w ∷ ws) p = turned_goal program w.depth w.goal (record p { waiting = ws })
 
--- what the first goal that waits makes of a place; where none waits, the search has found its state
+-- what the first goal that waits makes of a machine; where none waits, the search has found its state
 abbrev pub turned : Clauses → List NominalLocal → Position → Turned
 turned program locals p = turned_by program locals p.waiting p
 
--- what is written of the goals that wait, of several places, and of what a turn makes of one
+-- what is written of the goals that wait, of several machines, and of what a turn makes of one
 abbrev pub written_from : {R : Type 0} → Writing R → Clauses → List NominalLocal → Position → List R
 written_from w program locals p = stack_then w program (answer_by_unbound locals) p.waiting p.path p.state p.brought
 

@@ -3,14 +3,14 @@ use Rattle.std.specs.Prelude.{◌≤◌, List, length}
 use Rattle.ap_defs.specs.Goals.{Clauses, NominalProgram, NominalQuery, program_of}
 use Rattle.ap_backchain.specs.declared.problem.Problem.{Problem}
 
-abbrev pub program_in : Problem → NominalProgram
-program_in p = program_of p.program.now
+abbrev pub program_of_problem : Problem → NominalProgram
+program_of_problem p = program_of p.program.now
 
 abbrev pub clauses_in : Problem → Clauses
-clauses_in p = (program_in p).clauses
+clauses_in p = (program_of_problem p).clauses
 
 abbrev pub queries_in : Problem → List NominalQuery
-queries_in p = (program_in p).queries
+queries_in p = (program_of_problem p).queries
 
 -- the program has a query of this number
 abbrev pub HasQuery : Problem → Type 0

@@ -1,26 +1,26 @@
--- Whole searches: a place, and choices of which some ways are still to be tried.
+-- Whole searches: a machine, and choices of which some ways are still to be tried.
 use Rattle.std.specs.Global.{Global}
 use Rattle.std.specs.Prelude.{Bool, true, false, List, [], ◌∷◌, ◌++◌, Vec, reverse}
 use Rattle.ap_defs.specs.Answers.{NominalOut}
-use Rattle.ap_backchain.specs.Places.{position_of, track_of}
-use Rattle.ap_backchain.specs.Points.{ArePoints, positions_pending}
+use Rattle.ap_backchain.specs.Machines.{position_of, track_of}
+use Rattle.ap_backchain.specs.ChoicePoints.{ArePoints, positions_pending}
 use Rattle.ap_backchain.specs.Positions.{Position, Turned, ends, goes}
-use Rattle.ap_backchain.specs.declared.place.Place.{Place}
-use Rattle.ap_backchain.specs.declared.points.Point.{Point}
+use Rattle.ap_backchain.specs.declared.machine.Machine.{Machine}
+use Rattle.ap_backchain.specs.declared.points.ChoicePoint.{ChoicePoint}
 
 -- from where the search goes on by the ways that choices have left; the last point is the latest choice
-abbrev pub pending_of : Place → Vec Point Global → List Position
+abbrev pub pending_of : Machine → Vec ChoicePoint Global → List Position
 pending_of b v = positions_pending (track_of b) (reverse v.items)
 
-abbrev pub HasPoints : Place → Vec Point Global → Type 0
+abbrev pub HasPoints : Machine → Vec ChoicePoint Global → Type 0
 HasPoints b v = ArePoints (track_of b) (reverse v.items)
 
--- from the place itself too, where the search goes on there
-abbrev pub positions_with : Bool → Place → Vec Point Global → List Position
+-- from the machine itself too, where the search goes on there
+abbrev pub positions_with : Bool → Machine → Vec ChoicePoint Global → List Position
 positions_with true b v = position_of b ∷ pending_of b v
 positions_with false b v = pending_of b v
 
--- the places that a turn makes of a place, and those that were left before
+-- the machines that a turn makes of a machine, and those that were left before
 abbrev pub followed : Turned → List Position → List Position
 followed (ends o) ps = ps
 followed (goes rs) ps = rs ++ ps

@@ -4,12 +4,12 @@ use Rattle.ap_defs.specs.Resolution.{State}
 use Rattle.ap_defs.specs.Types.{NominalKind}
 use Rattle.ap_defs.specs.declared.terms.Var.{Var}
 use Rattle.ap_store.specs.Triples.{Triple}
-use Rattle.ap_backchain.specs.Arenas.{IsLonger, waiting_at}
+use Rattle.ap_backchain.specs.GoalStacks.{IsLonger, waiting_at}
 use Rattle.ap_backchain.specs.Positions.{Position}
 use Rattle.ap_backchain.specs.declared.frames.Cell.{Cell}
 use Rattle.ap_backchain.specs.declared.points.Save.{Save}
 
--- The versions of the store, the present one last, and the kinds of its numbers; the goals in the arena; the path; and the variables
+-- The versions of the store, the present one last, and the kinds of its numbers; the goals in the goal_stack; the path; and the variables
 -- that clauses and `exists` brought.
 pub record Track : Type 0 where
   pub versions : List Triple
@@ -38,8 +38,8 @@ position_at t n = record { waiting = waiting_at t.cells n; path = t.path; state 
 -- what is left once the search has gone back
 abbrev pub back_to : Save → Track → Track
 back_to s t = record {
-  versions = take (s.mark.place + 1) t.versions;
-  kinds = take (last_version (take (s.mark.place + 1) t.versions)).next t.kinds;
+  versions = take (s.mark.machine + 1) t.versions;
+  kinds = take (last_version (take (s.mark.machine + 1) t.versions)).next t.kinds;
   cells = take s.cells t.cells;
   path = take s.path t.path;
   brought = take s.brought t.brought;
@@ -47,8 +47,8 @@ back_to s t = record {
 
 -- the search had come that far
 pub record IsWithin (s : Save) (t : Track) : Type 0 where
-  pub mark : s.mark.place < length t.versions
-  pub kinds : (last_version (take (s.mark.place + 1) t.versions)).next ≤ length t.kinds
+  pub mark : s.mark.machine < length t.versions
+  pub kinds : (last_version (take (s.mark.machine + 1) t.versions)).next ≤ length t.kinds
   pub cells : s.cells ≤ length t.cells
   pub first : s.first ≤ s.cells
   pub path : s.path ≤ length t.path

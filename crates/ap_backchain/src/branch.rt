@@ -1,8 +1,8 @@
 //! Branches of the search of a problem, from choice to choice.
 
-ghost use Rattle.std.specs.Prelude.{◌≡◌, ◌-◌, ◌^◌, ◌<◌, ◌≤◌, ◌++◌, [], ◌∷◌, None, Some, IfOk, IfSome, length, map, slice_get};
+ghost use Rattle.std.specs.Prelude.{◌≡◌, ◌-◌, ◌^◌, ◌<◌, ◌≤◌, ◌++◌, [], ◌∷◌, None, Some, IfOk, IfSome, length, slice_get};
 ghost use Rattle.ap_defs.specs.Answers.{answer_of, found, outs_at, outs_of};
-ghost use Rattle.ap_defs.specs.Goals.{NominalQuery, clause_of};
+ghost use Rattle.ap_defs.specs.Goals.{NominalQuery, program_in};
 ghost use Rattle.ap_search.specs.Marks.{outs_among};
 ghost use Rattle.ap_backchain.specs.declared.problem.Problem.{Problem};
 ghost use Rattle.ap_defs.specs.Types.{locals_of};
@@ -13,11 +13,11 @@ ghost use Rattle.ap_backchain.specs.Problems.{HasQuery, clauses_in, queries_in};
 
 use crate::answer_copies::copy_answer;
 use crate::counted::outputs_by_choices;
+use crate::descent::Descent;
 use crate::kept::kept_at;
 use crate::problem::{Problem, clauses_of_problem, query_of_problem};
-use crate::run::{Paths, first_place, outputs_from};
-use crate::standing::{Standing, advance, path_of};
-use crate::step::choose;
+use crate::run::{Paths, outputs_from};
+use crate::standing::{Standing, path_of};
 use ap_defs::goals::{Goal, Local};
 use ap_defs::lists::List;
 use ap_defs::memory::Memory;
@@ -40,13 +40,13 @@ fn node_of<'a>(
     clauses: &'a [Predicate<'a>],
     standing: &Standing<'a>,
 ) -> Result<Node, Memory>
-    requires clauses { AreClausesBelow (map (map clause_of) clauses.now) }
-    requires choosing { IsChoosing (map (map clause_of) clauses.now) standing.now }
-    ensures { IfOk result (λ n. IsNamed (map (map clause_of) clauses.now) n standing.now) }
+    requires clauses { AreClausesBelow (program_in clauses.now) }
+    requires choosing { IsChoosing (program_in clauses.now) standing.now }
+    ensures { IfOk result (λ n. IsNamed (program_in clauses.now) n standing.now) }
 {
     match standing {
-        Standing::Choosing(width, place) => {
-            let kept = kept_at(alloc, clauses, place)?;
+        Standing::Choosing(width, machine) => {
+            let kept = kept_at(alloc, clauses, machine)?;
             Ok(Node::Choice(*width, List::of(kept)))
         }
         Standing::Ended(out) => match out {
@@ -59,15 +59,15 @@ fn node_of<'a>(
 }
 
 /// The branch that stands there.
-fn branch_at<'a>(
+pub(crate) fn branch_at<'a>(
     alloc: Global,
     clauses: &'a [Predicate<'a>],
     standing: Standing<'a>,
 ) -> Result<Branch<'a>, Memory>
-    requires clauses { AreClausesBelow (map (map clause_of) clauses.now) }
-    requires choosing { IsChoosing (map (map clause_of) clauses.now) standing }
+    requires clauses { AreClausesBelow (program_in clauses.now) }
+    requires choosing { IsChoosing (program_in clauses.now) standing }
     ensures standing { IfOk result (λ b. b.standing ≡ standing.entry) }
-    ensures named { IfOk result (λ b. IsNamed (map (map clause_of) clauses.now) b.node b.standing) }
+    ensures named { IfOk result (λ b. IsNamed (program_in clauses.now) b.node b.standing) }
 {
     let node = node_of(alloc, clauses, &standing)?;
     Ok(Branch { node, standing })
@@ -80,15 +80,15 @@ fn outs_of_standing<'a>(
     locals: &[Local],
     standing: Standing<'a>,
 ) -> Result<Vec<Out>, Memory>
-    requires clauses { AreClausesBelow (map (map clause_of) clauses.now) }
+    requires clauses { AreClausesBelow (program_in clauses.now) }
     requires locals { length locals.now < 2 ^ 64 }
     ensures { IfOk result (λ v. outs_of v.items
-        ≡ outs_among (marks_of_standing (map (map clause_of) clauses.now) (locals_of locals.now)
+        ≡ outs_among (marks_of_standing (program_in clauses.now) (locals_of locals.now)
         standing.entry)) }
 {
     match standing {
-        Standing::Choosing(_, place) => {
-            outputs_from(alloc, clauses, locals, Paths::Kept, Limit::All, place)
+        Standing::Choosing(_, machine) => {
+            outputs_from(alloc, clauses, locals, Paths::Kept, Limit::All, machine)
         }
         Standing::Ended(out) => {
             let mut outs = Vec::new(alloc);
@@ -108,20 +108,20 @@ fn outs_by_choices<'a>(
     most: u64,
     standing: Standing<'a>,
 ) -> Result<Option<Vec<Out>>, Memory>
-    requires clauses { AreClausesBelow (map (map clause_of) clauses.now) }
+    requires clauses { AreClausesBelow (program_in clauses.now) }
     requires locals { length locals.now < 2 ^ 64 }
     ensures outs { IfOk result (λ o. IfSome o (λ v. outs_of v.items
-        ≡ outs_among (marks_of_standing (map (map clause_of) clauses.now)
+        ≡ outs_among (marks_of_standing (program_in clauses.now)
         (locals_of locals.now) standing.entry))) }
     ensures few { IfOk result (λ o. IfSome o (λ v.
-        choices_among (marks_of_standing (map (map clause_of) clauses.now)
+        choices_among (marks_of_standing (program_in clauses.now)
         (locals_of locals.now) standing.entry) ≤ most)) }
     ensures many { IfOk result (λ o. o ≡ None →
-        most < choices_among (marks_of_standing (map (map clause_of) clauses.now)
+        most < choices_among (marks_of_standing (program_in clauses.now)
         (locals_of locals.now) standing.entry)) }
 {
     match standing {
-        Standing::Choosing(_, place) => outputs_by_choices(alloc, clauses, locals, most, place),
+        Standing::Choosing(_, machine) => outputs_by_choices(alloc, clauses, locals, most, machine),
         Standing::Ended(out) => {
             let mut outs = Vec::new(alloc);
             outs.push(out)?;
@@ -138,12 +138,8 @@ impl<'a> Branch<'a> {
         ensures of { IfOk result (λ b. IsBranchOf p.now b) }
         ensures path { IfOk result (λ b. path_of_branch b ≡ []) }
     {
-        let clauses = clauses_of_problem(p);
-        let query = query_of_problem(p);
-        let place = first_place(alloc, p.depth, query)?;
-        let standing = advance(alloc, clauses, query.locals.items(), place)?;
-        let branch = branch_at(alloc, clauses, standing)?;
-        Ok(branch)
+        let descent = Descent::root(alloc, p)?;
+        descent.stop(alloc, p)
     }
 
     /// What the branch stands at: a choice, with its width and the ways that it keeps, exactly where the
@@ -175,11 +171,9 @@ impl<'a> Branch<'a> {
         ensures path { IfOk result (λ b. path_of_branch b
             ≡ path_of_branch self.entry ++ choice ∷ []) }
     {
-        let clauses = clauses_of_problem(p);
-        let query = query_of_problem(p);
-        let standing = choose(alloc, clauses, query.locals.items(), self.standing, choice)?;
-        let branch = branch_at(alloc, clauses, standing)?;
-        Ok(branch)
+        let standing = self.standing;
+        let descent = Descent { standing }.step(alloc, p, choice)?;
+        descent.stop(alloc, p)
     }
 
     /// The answer of the branch's state: the one output of the query with just the branch's path is

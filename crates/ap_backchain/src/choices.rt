@@ -1,23 +1,23 @@
 //! Among how many a search chooses.
 
-ghost use Rattle.std.specs.Prelude.{◌≡◌, None, Some, MatchOption, map};
-ghost use Rattle.ap_defs.specs.Goals.{clause_of};
+ghost use Rattle.std.specs.Prelude.{◌≡◌, None, Some, MatchOption};
+ghost use Rattle.ap_defs.specs.Goals.{program_in};
 ghost use Rattle.ap_backchain.specs.Below.{AreClausesBelow};
 ghost use Rattle.ap_backchain.specs.Marks.{choice_of, choice_of_goal};
-ghost use Rattle.ap_backchain.specs.Places.{position_of};
+ghost use Rattle.ap_backchain.specs.Machines.{position_of};
 ghost use Rattle.ap_backchain.specs.Views.{waiting_of};
 
 use crate::clauses::clauses_at;
 use crate::frames::Frame;
-use crate::place::Place;
+use crate::machine::Machine;
 use ap_defs::goals::Goal;
 use ap_index::predicate::Predicate;
 
 /// Among how many the goal of a frame chooses, if it chooses.
 fn choice_of_frame<'a>(clauses: &'a [Predicate<'a>], frame: &Frame<'a>) -> Option<u32>
-    requires { AreClausesBelow (map (map clause_of) clauses.now) }
-    ensures { MatchOption result (choice_of_goal (map (map clause_of) clauses.now) frame.now.depth
-        (waiting_of frame.now).goal ≡ None) (λ w. choice_of_goal (map (map clause_of) clauses.now)
+    requires { AreClausesBelow (program_in clauses.now) }
+    ensures { MatchOption result (choice_of_goal (program_in clauses.now) frame.now.depth
+        (waiting_of frame.now).goal ≡ None) (λ w. choice_of_goal (program_in clauses.now)
         frame.now.depth (waiting_of frame.now).goal ≡ Some w) }
 {
     match frame.goal {
@@ -39,13 +39,13 @@ fn choice_of_frame<'a>(clauses: &'a [Predicate<'a>], frame: &Frame<'a>) -> Optio
 }
 
 /// Among how many the first goal that waits chooses, if it chooses.
-pub fn choice_at<'a>(clauses: &'a [Predicate<'a>], place: &Place<'a>) -> Option<u32>
-    requires { AreClausesBelow (map (map clause_of) clauses.now) }
-    ensures { MatchOption result (choice_of (map (map clause_of) clauses.now)
-        (position_of place.now).waiting ≡ None) (λ w. choice_of (map (map clause_of) clauses.now)
-        (position_of place.now).waiting ≡ Some w) }
+pub fn choice_at<'a>(clauses: &'a [Predicate<'a>], machine: &Machine<'a>) -> Option<u32>
+    requires { AreClausesBelow (program_in clauses.now) }
+    ensures { MatchOption result (choice_of (program_in clauses.now)
+        (position_of machine.now).waiting ≡ None) (λ w. choice_of (program_in clauses.now)
+        (position_of machine.now).waiting ≡ Some w) }
 {
-    match place.goals.peek() {
+    match machine.goals.peek() {
         None => None,
         Some(frame) => choice_of_frame(clauses, &frame),
     }

@@ -1,17 +1,17 @@
 //! Clauses that an atom enters.
 
 ghost use Rattle.std.specs.Prelude.{◌≡◌, ◌<◌, ◌^◌, [], false, None, IfOk, IfSome, MatchOption, OnOk, length, map};
-ghost use Rattle.ap_defs.specs.Goals.{clause_of, clauses_of};
+ghost use Rattle.ap_defs.specs.Goals.{clause_of, clauses_of, program_in};
 ghost use Rattle.ap_defs.specs.Renaming.{AreBelow, rename_term as renamed};
 ghost use Rattle.ap_defs.specs.Terms.{term_of};
 ghost use Rattle.ap_backchain.specs.Below.{AreClausesBelow};
 ghost use Rattle.ap_search.specs.FitStates.{AreFitClauses, IsFitClause};
-ghost use Rattle.ap_backchain.specs.Places.{next_of, position_if, position_of, track_of};
-ghost use Rattle.ap_backchain.specs.Positions.{by_clause};
+ghost use Rattle.ap_backchain.specs.Machines.{next_of, position_if, position_of, track_of};
+ghost use Rattle.ap_backchain.specs.Positions.{enters_clause};
 ghost use Rattle.ap_backchain.specs.Tracks.{GoesFrom};
 ghost use Rattle.ap_backchain.specs.Heads.{HasHead};
 
-use crate::place::Place;
+use crate::machine::Machine;
 use ap_defs::goals::Clause;
 use ap_defs::memory::Memory;
 use ap_defs::terms::Term;
@@ -22,9 +22,9 @@ use std::alloc::Global;
 
 /// The clauses of a predicate with their keys, if there is such a predicate.
 pub fn candidates_at<'a>(clauses: &'a [Predicate<'a>], pred: u32) -> Option<&'a Predicate<'a>>
-    requires { AreClausesBelow (map (map clause_of) clauses.now) }
-    ensures clauses { MatchOption result ([] ≡ clauses_of (map (map clause_of) clauses.now) pred)
-        (λ p. map clause_of p.now ≡ clauses_of (map (map clause_of) clauses.now) pred) }
+    requires { AreClausesBelow (program_in clauses.now) }
+    ensures clauses { MatchOption result ([] ≡ clauses_of (program_in clauses.now) pred)
+        (λ p. map clause_of p.now ≡ clauses_of (program_in clauses.now) pred) }
     ensures below { IfSome result (λ p. AreFitClauses (map clause_of p.now)) }
     ensures few { IfSome result (λ p. length p.now < 2 ^ 32) }
 {
@@ -33,8 +33,8 @@ pub fn candidates_at<'a>(clauses: &'a [Predicate<'a>], pred: u32) -> Option<&'a 
 
 /// The clauses of a predicate.
 pub fn clauses_at<'a>(clauses: &'a [Predicate<'a>], pred: u32) -> &'a [Clause<Term>]
-    requires { AreClausesBelow (map (map clause_of) clauses.now) }
-    ensures clauses { map clause_of result.now ≡ clauses_of (map (map clause_of) clauses.now) pred }
+    requires { AreClausesBelow (program_in clauses.now) }
+    ensures clauses { map clause_of result.now ≡ clauses_of (program_in clauses.now) pred }
     ensures below { AreFitClauses (map clause_of result.now) }
     ensures few { length result.now < 2 ^ 32 }
 {
@@ -45,27 +45,27 @@ pub fn clauses_at<'a>(clauses: &'a [Predicate<'a>], pred: u32) -> &'a [Clause<Te
 }
 
 /// Unifies the head of a clause, whose identifiers get the next numbers, with the arguments of an
-/// atom. It answers the first of these numbers, or none where there is no solution; then the place
+/// atom. It answers the first of these numbers, or none where there is no solution; then the machine
 /// is as before.
 fn unify_head<'a>(
     alloc: Global,
-    place: &mut Place<'a>,
+    machine: &mut Machine<'a>,
     args: &'a [Term],
     base: u64,
     clause: &'a Clause<Term>,
 ) -> Result<Option<u64>, Memory>
-    requires args { AreBelow (next_of place.old) (map (renamed base) (map term_of args.now)) }
+    requires args { AreBelow (next_of machine.old) (map (renamed base) (map term_of args.now)) }
     requires clause { IsFitClause (clause_of clause.now) }
     ensures state { IfOk result (λ o. HasHead (map (renamed base) (map term_of args.now))
-        (clause_of clause.now) place.old o place.new) }
-    ensures goes { OnOk result (GoesFrom (track_of place.old) (track_of place.new)) }
+        (clause_of clause.now) machine.old o machine.new) }
+    ensures goes { OnOk result (GoesFrom (track_of machine.old) (track_of machine.new)) }
     ensures none { IfOk result (λ o. o ≡ None →
-        (track_of place.new ≡ track_of place.old)
-        × (position_of place.new ≡ position_of place.old)) }
+        (track_of machine.new ≡ track_of machine.old)
+        × (position_of machine.new ≡ position_of machine.old)) }
 {
-    let mark = place.store.mark();
-    let start = place.store.make(clause.locals.items())?;
-    let end = place.store.next();
+    let mark = machine.store.mark();
+    let start = machine.store.make(clause.locals.items())?;
+    let end = machine.store.next();
     let head = clause.args.items();
     let count = args.len().min(head.len());
     // The arguments have none of the new numbers, so that these need not be looked for in them.
@@ -79,41 +79,41 @@ fn unify_head<'a>(
         end,
         terms: &head[..count],
     };
-    if unify(alloc, &mut place.store, left, right)? {
+    if unify(alloc, &mut machine.store, left, right)? {
         Ok(Some(start))
     } else {
-        place.store.undo_to(mark);
+        machine.store.undo_to(mark);
         Ok(None)
     }
 }
 
 /// Enters a clause: its head is unified with the arguments of an atom, and its body waits. It answers
-/// whether that has a solution; where not, the place is as before.
+/// whether that has a solution; where not, the machine is as before.
 pub fn enter_clause<'a>(
     alloc: Global,
-    place: &mut Place<'a>,
+    machine: &mut Machine<'a>,
     args: &'a [Term],
     base: u64,
     depth: u32,
     choice: u32,
     clause: &'a Clause<Term>,
 ) -> Result<bool, Memory>
-    requires args { AreBelow (next_of place.old) (map (renamed base) (map term_of args.now)) }
+    requires args { AreBelow (next_of machine.old) (map (renamed base) (map term_of args.now)) }
     requires clause { IsFitClause (clause_of clause.now) }
-    ensures entered { IfOk result (λ b. position_if b (position_of place.new)
-        ≡ by_clause depth (map (renamed base) (map term_of args.now)) (position_of place.old) choice
-        (clause_of clause.now)) }
-    ensures goes { OnOk result (GoesFrom (track_of place.old) (track_of place.new)) }
+    ensures entered { IfOk result (λ b. position_if b (position_of machine.new)
+        ≡ enters_clause depth (map (renamed base) (map term_of args.now)) (position_of machine.old)
+        choice (clause_of clause.now)) }
+    ensures goes { OnOk result (GoesFrom (track_of machine.old) (track_of machine.new)) }
     ensures none { IfOk result (λ b. b ≡ false →
-        (track_of place.new ≡ track_of place.old)
-        × (position_of place.new ≡ position_of place.old)) }
+        (track_of machine.new ≡ track_of machine.old)
+        × (position_of machine.new ≡ position_of machine.old)) }
 {
-    match unify_head(alloc, place, args, base, clause)? {
+    match unify_head(alloc, machine, args, base, clause)? {
         None => Ok(false),
         Some(start) => {
-            place.push_choice(choice)?;
-            place.push_locals(start, clause.locals.items())?;
-            place.push_goal(&clause.body, start, depth)?;
+            machine.push_choice(choice)?;
+            machine.push_locals(start, clause.locals.items())?;
+            machine.push_goal(&clause.body, start, depth)?;
             Ok(true)
         }
     }

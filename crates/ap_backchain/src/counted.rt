@@ -2,16 +2,16 @@
 
 ghost use Rattle.std.specs.Prelude.{◌≡◌, ◌+◌, ◌<◌, ◌≤◌, ◌^◌, None, Some, IfOk, IfSome, length, map};
 ghost use Rattle.ap_defs.specs.Answers.{outs_of};
-ghost use Rattle.ap_defs.specs.Goals.{clause_of};
+ghost use Rattle.ap_defs.specs.Goals.{program_in};
 ghost use Rattle.ap_defs.specs.Types.{locals_of};
 ghost use Rattle.ap_backchain.specs.Below.{AreClausesBelow};
 ghost use Rattle.ap_backchain.specs.Ends.{kept_out};
 ghost use Rattle.ap_backchain.specs.Marks.{choices_from, choices_here};
-ghost use Rattle.ap_backchain.specs.Places.{position_of};
+ghost use Rattle.ap_backchain.specs.Machines.{position_of};
 ghost use Rattle.ap_backchain.specs.Positions.{outs_from};
 
 use crate::choices::choice_at;
-use crate::place::Place;
+use crate::machine::Machine;
 use crate::run::{Paths, go_on};
 use ap_defs::goals::Local;
 use ap_defs::memory::Memory;
@@ -20,49 +20,49 @@ use ap_index::predicate::Predicate;
 use ap_paths::Limit;
 use std::alloc::Global;
 
-/// How many more choices may be made after the one at a place, if there is one, where so many may: none
+/// How many more choices may be made after the one at a machine, if there is one, where so many may: none
 /// says that it is one too many.
-fn left_after<'a>(clauses: &'a [Predicate<'a>], place: &Place<'a>, left: u64) -> Option<u64>
-    requires { AreClausesBelow (map (map clause_of) clauses.now) }
+fn left_after<'a>(clauses: &'a [Predicate<'a>], machine: &Machine<'a>, left: u64) -> Option<u64>
+    requires { AreClausesBelow (program_in clauses.now) }
     ensures some { IfSome result (λ n.
-        n + choices_here (map (map clause_of) clauses.now) (position_of place.now) ≡ left) }
+        n + choices_here (program_in clauses.now) (position_of machine.now) ≡ left) }
     ensures none { result ≡ None → (left ≡ 0)
-        × (choices_here (map (map clause_of) clauses.now) (position_of place.now) ≡ 1) }
+        × (choices_here (program_in clauses.now) (position_of machine.now) ≡ 1) }
 {
-    match choice_at(clauses, place) {
+    match choice_at(clauses, machine) {
         Some(_) => left.checked_sub(1),
         None => Some(left),
     }
 }
 
-/// The outputs from a place, in order, where the search makes at most so many choices: none says that it
+/// The outputs from a machine, in order, where the search makes at most so many choices: none says that it
 /// makes more.
 pub fn outputs_by_choices<'a>(
     alloc: Global,
     clauses: &'a [Predicate<'a>],
     locals: &[Local],
     most: u64,
-    first: Place<'a>,
+    first: Machine<'a>,
 ) -> Result<Option<Vec<Out>>, Memory>
-    requires clauses { AreClausesBelow (map (map clause_of) clauses.now) }
+    requires clauses { AreClausesBelow (program_in clauses.now) }
     requires locals { length locals.now < 2 ^ 64 }
     ensures outs { IfOk result (λ o. IfSome o (λ v. outs_of v.items
-        ≡ map (kept_out Paths.Kept) (outs_from (map (map clause_of) clauses.now)
+        ≡ map (kept_out Paths.Kept) (outs_from (program_in clauses.now)
         (locals_of locals.now) (position_of first.entry)))) }
     ensures few { IfOk result (λ o. IfSome o (λ v.
-        choices_from (map (map clause_of) clauses.now) (locals_of locals.now)
+        choices_from (program_in clauses.now) (locals_of locals.now)
         (position_of first.entry) ≤ most)) }
     ensures many { IfOk result (λ o. o ≡ None →
-        most < choices_from (map (map clause_of) clauses.now) (locals_of locals.now)
+        most < choices_from (program_in clauses.now) (locals_of locals.now)
         (position_of first.entry)) }
 {
     let mut outs = Vec::new(alloc);
     let mut points = Vec::new(alloc);
-    let mut place = first;
+    let mut machine = first;
     let mut wanted = Limit::All;
     let mut left = most;
     'searching: loop {
-        let Some(fewer) = left_after(clauses, &place, left) else {
+        let Some(fewer) = left_after(clauses, &machine, left) else {
             return Ok(None);
         };
         left = fewer;
@@ -71,7 +71,7 @@ pub fn outputs_by_choices<'a>(
             clauses,
             locals,
             Paths::Kept,
-            &mut place,
+            &mut machine,
             &mut points,
             &mut outs,
             &mut wanted,

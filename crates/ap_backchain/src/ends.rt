@@ -1,4 +1,4 @@
-//! How a search ends at a place.
+//! How a search ends at a machine.
 
 ghost use Rattle.std.specs.Prelude.{◌≡◌};
 ghost use Rattle.ap_defs.specs.Answers.{out_of};

@@ -1,10 +1,10 @@
 //! Keys of atoms.
 
-ghost use Rattle.std.specs.Prelude.{◌≡◌, map};
+ghost use Rattle.std.specs.Prelude.{map, ◌≡◌};
 ghost use Rattle.ap_defs.specs.Renaming.{AreBelow, rename_term as renamed};
 ghost use Rattle.ap_defs.specs.Substitution.{under};
 ghost use Rattle.ap_defs.specs.Terms.{term_of};
-ghost use Rattle.ap_store.specs.Views.{present};
+ghost use Rattle.ap_store.specs.Views.{bindings_of, present};
 ghost use Rattle.ap_defs.specs.HeadKeys.{first_key};
 
 use ap_defs::terms::Term;
@@ -17,7 +17,7 @@ use std::alloc::Global;
 pub fn key_of_atom<'a>(alloc: Global, store: &Store<'a>, args: &'a [Term], base: u64) -> u64
     requires { AreBelow (present store.now).next (map (renamed base) (map term_of args.now)) }
     ensures { result
-        ≡ first_key (map (under (present store.now).bindings) (map (renamed base)
+        ≡ first_key (map (under (bindings_of store.now)) (map (renamed base)
         (map term_of args.now))) }
 {
     match args.first() {

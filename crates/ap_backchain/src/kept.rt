@@ -1,19 +1,19 @@
 //! The ways that a choice keeps.
 
-ghost use Rattle.std.specs.Prelude.{◌≡◌, IfOk, IfSome, map};
-ghost use Rattle.ap_defs.specs.Goals.{clause_of, clauses_of};
+ghost use Rattle.std.specs.Prelude.{◌≡◌, IfOk, IfSome};
+ghost use Rattle.ap_defs.specs.Goals.{clauses_of, program_in};
 ghost use Rattle.ap_defs.specs.HeadKeys.{kept_from};
 ghost use Rattle.ap_defs.specs.Renaming.{IsGoalBelow};
 ghost use Rattle.ap_backchain.specs.Below.{AreClausesBelow};
 ghost use Rattle.ap_backchain.specs.Marks.{told_of, told_of_goal};
-ghost use Rattle.ap_backchain.specs.Places.{position_of};
+ghost use Rattle.ap_backchain.specs.Machines.{position_of};
 ghost use Rattle.ap_backchain.specs.Views.{state_in, waiting_of};
 ghost use Rattle.ap_store.specs.Views.{present};
 
 use crate::clauses::candidates_at;
 use crate::frames::Frame;
 use crate::heads::key_of_atom;
-use crate::place::Place;
+use crate::machine::Machine;
 use ap_defs::goals::Goal;
 use ap_defs::memory::Memory;
 use ap_index::predicate::Predicate;
@@ -27,9 +27,9 @@ fn kept_of_predicate<'a>(
     pred: u32,
     key: u64,
 ) -> Result<Vec<u32>, Memory>
-    requires { AreClausesBelow (map (map clause_of) clauses.now) }
+    requires { AreClausesBelow (program_in clauses.now) }
     ensures { IfOk result (λ v. v.items
-        ≡ kept_from key 1 (clauses_of (map (map clause_of) clauses.now) pred)) }
+        ≡ kept_from key 1 (clauses_of (program_in clauses.now) pred)) }
 {
     let mut kept = Vec::new(alloc);
     if let Some(candidates) = candidates_at(clauses, pred) {
@@ -46,10 +46,10 @@ fn kept_of_frame<'a>(
     store: &Store<'a>,
     frame: &Frame<'a>,
 ) -> Result<Vec<u32>, Memory>
-    requires clauses { AreClausesBelow (map (map clause_of) clauses.now) }
+    requires clauses { AreClausesBelow (program_in clauses.now) }
     requires goal { IsGoalBelow (present store.now).next (waiting_of frame.now).goal }
     ensures { IfOk result (λ v. IfSome
-        (told_of_goal (map (map clause_of) clauses.now) (state_in store.now) frame.now.depth
+        (told_of_goal (program_in clauses.now) (state_in store.now) frame.now.depth
         (waiting_of frame.now).goal) (λ c. v.items ≡ c.kept)) }
 {
     match frame.goal {
@@ -71,15 +71,15 @@ fn kept_of_frame<'a>(
 pub fn kept_at<'a>(
     alloc: Global,
     clauses: &'a [Predicate<'a>],
-    place: &Place<'a>,
+    machine: &Machine<'a>,
 ) -> Result<Vec<u32>, Memory>
-    requires { AreClausesBelow (map (map clause_of) clauses.now) }
+    requires { AreClausesBelow (program_in clauses.now) }
     ensures { IfOk result (λ v. IfSome
-        (told_of (map (map clause_of) clauses.now) (position_of place.now).state
-        (position_of place.now).waiting) (λ c. v.items ≡ c.kept)) }
+        (told_of (program_in clauses.now) (position_of machine.now).state
+        (position_of machine.now).waiting) (λ c. v.items ≡ c.kept)) }
 {
-    match place.goals.peek() {
+    match machine.goals.peek() {
         None => Ok(Vec::new(alloc)),
-        Some(frame) => kept_of_frame(alloc, clauses, &place.store, &frame),
+        Some(frame) => kept_of_frame(alloc, clauses, &machine.store, &frame),
     }
 }

@@ -1,4 +1,4 @@
-//! Choices of which some ways are still to be tried.
+//! Choice points: choices of which some ways are still to be tried.
 
 use crate::frames::Frame;
 use ap_defs::terms::Term;
@@ -34,9 +34,9 @@ pub enum Rest<'a> {
     Clauses(Untried<'a>),
 }
 
-/// A choice, with how far the search had come there.
+/// What the search goes back to: a choice with the ways that are left, and how far the search had come.
 #[derive(Clone, Copy)]
-pub struct Point<'a> {
+pub struct ChoicePoint<'a> {
     pub save: Save,
     pub rest: Rest<'a>,
 }

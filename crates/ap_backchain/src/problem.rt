@@ -2,10 +2,10 @@
 
 ghost use Rattle.std.specs.Prelude.{◌≡◌, ◌-◌, Some, IfOk, IfSome, map, slice_get};
 ghost use Rattle.ap_defs.specs.Answers.{outs_of, query_outs};
-ghost use Rattle.ap_defs.specs.Goals.{NominalQuery, clause_of, query_of};
+ghost use Rattle.ap_defs.specs.Goals.{NominalQuery, program_in, query_of};
 ghost use Rattle.ap_backchain.specs.Below.{AreClausesBelow, IsQueryBelow};
 ghost use Rattle.ap_backchain.specs.Ends.{without_path};
-ghost use Rattle.ap_backchain.specs.Problems.{HasQuery, clauses_in, program_in, queries_in};
+ghost use Rattle.ap_backchain.specs.Problems.{HasQuery, clauses_in, program_of_problem, queries_in};
 ghost use Rattle.ap_paths.specs.Limits.{part};
 ghost use Rattle.ap_program.specs.Typed.{IsTypedProgram, IsTypedQuery, term_form};
 
@@ -30,9 +30,9 @@ pub struct Problem<'a> {
 
 /// The clauses of each predicate.
 pub fn clauses_of_problem<'a>(p: &Problem<'a>) -> &'a [Predicate<'a>]
-    ensures clauses { map (map clause_of) result.now ≡ clauses_in p.now }
-    ensures below { AreClausesBelow (map (map clause_of) result.now) }
-    ensures typed { IsTypedProgram (program_in p.now) }
+    ensures clauses { program_in result.now ≡ clauses_in p.now }
+    ensures below { AreClausesBelow (program_in result.now) }
+    ensures typed { IsTypedProgram (program_of_problem p.now) }
 {
     p.program.predicates()
 }
@@ -42,7 +42,8 @@ pub fn query_of_problem<'a>(p: &Problem<'a>) -> &'a Query<Term>
     requires { HasQuery p.now }
     ensures query { slice_get (queries_in p.now) (p.now.query - 1) ≡ Some (query_of result.now) }
     ensures below { IsQueryBelow (query_of result.now) }
-    ensures typed { IsTypedQuery term_form (program_in p.now).signature (query_of result.now) }
+    ensures typed { IsTypedQuery term_form (program_of_problem p.now).signature
+        (query_of result.now) }
 {
     let queries = p.program.program().queries.items();
     &queries[p.query as usize - 1]

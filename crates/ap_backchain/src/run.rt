@@ -2,11 +2,11 @@
 
 ghost use Rattle.std.specs.Prelude.{◌≡◌, ◌<◌, ◌^◌, ◌++◌, [], false, true, None, Some, IfOk, IfSome, OnOk, length, map};
 ghost use Rattle.ap_defs.specs.Answers.{out_of, outs_of};
-ghost use Rattle.ap_defs.specs.Goals.{clause_of, query_of};
+ghost use Rattle.ap_defs.specs.Goals.{program_in, query_of};
 ghost use Rattle.ap_defs.specs.Types.{locals_of};
 ghost use Rattle.ap_backchain.specs.Below.{AreClausesBelow, IsQueryBelow};
 ghost use Rattle.ap_backchain.specs.Ends.{end_out, kept_out};
-ghost use Rattle.ap_backchain.specs.Places.{position_of};
+ghost use Rattle.ap_backchain.specs.Machines.{position_of};
 ghost use Rattle.ap_backchain.specs.Positions.{outs_from, turned};
 ghost use Rattle.ap_backchain.specs.Searches.{HasPoints, ended, followed, pending_of, positions_with};
 ghost use Rattle.ap_backchain.specs.Starts.{first_position};
@@ -15,8 +15,8 @@ ghost use Rattle.ap_paths.specs.Limits.{part};
 
 use crate::choices::choice_at;
 use crate::ends::{End, out_at};
-use crate::place::Place;
-use crate::points::Point;
+use crate::machine::Machine;
+use crate::points::ChoicePoint;
 use crate::turns::{Turn, take_turn};
 use crate::wanted::{is_wanting, wanted_after};
 use crate::ways::{choose, resume};
@@ -39,20 +39,20 @@ pub enum Paths {
 // A search of so many turns is over sooner than a thread is started.
 const FEW_TURNS: u32 = 1_000;
 
-/// The place where the search of a query to a depth begins.
-pub fn first_place<'a>(
+/// The machine where the search of a query to a depth begins.
+pub fn first_machine<'a>(
     alloc: Global,
     depth: u32,
     query: &'a Query<Term>,
-) -> Result<Place<'a>, Memory>
+) -> Result<Machine<'a>, Memory>
     requires { IsQueryBelow (query_of query.now) }
     ensures { IfOk result (λ b. position_of b ≡ first_position depth (query_of query.now)) }
 {
     let mut store = Store::new(alloc);
     store.make(query.locals.items())?;
-    let mut place = Place::of(alloc, store);
-    place.push_goal(&query.goal, 0, depth)?;
-    Ok(place)
+    let mut machine = Machine::of(alloc, store);
+    machine.push_goal(&query.goal, 0, depth)?;
+    Ok(machine)
 }
 
 /// The output of an end to which these choices led, with its path or without.
@@ -67,35 +67,35 @@ fn out_kept(alloc: Global, paths: Paths, path: &[u32], end: End) -> Result<Out, 
 }
 
 /// One turn of a search, which adds the output with which it ends. It answers whether the search goes
-/// on from the place.
+/// on from the machine.
 fn turn_on<'a>(
     alloc: Global,
     clauses: &'a [Predicate<'a>],
     locals: &[Local],
     paths: Paths,
-    place: &mut Place<'a>,
-    points: &mut Vec<Point<'a>>,
+    machine: &mut Machine<'a>,
+    points: &mut Vec<ChoicePoint<'a>>,
     outs: &mut Vec<Out>,
 ) -> Result<bool, Memory>
-    requires clauses { AreClausesBelow (map (map clause_of) clauses.now) }
+    requires clauses { AreClausesBelow (program_in clauses.now) }
     requires locals { length locals.now < 2 ^ 64 }
-    requires points { HasPoints place.old points.old }
-    ensures left { IfOk result (λ b. positions_with b place.new points.new
-        ≡ followed (turned (map (map clause_of) clauses.now) (locals_of locals.now)
-        (position_of place.old)) (pending_of place.old points.old)) }
+    requires points { HasPoints machine.old points.old }
+    ensures left { IfOk result (λ b. positions_with b machine.new points.new
+        ≡ followed (turned (program_in clauses.now) (locals_of locals.now)
+        (position_of machine.old)) (pending_of machine.old points.old)) }
     ensures outs { OnOk result (outs_of outs.new.items
         ≡ outs_of outs.old.items
-        ++ map (kept_out paths) (ended (turned (map (map clause_of) clauses.now)
-        (locals_of locals.now) (position_of place.old)))) }
-    ensures points { OnOk result (HasPoints place.new points.new) }
+        ++ map (kept_out paths) (ended (turned (program_in clauses.now)
+        (locals_of locals.now) (position_of machine.old)))) }
+    ensures points { OnOk result (HasPoints machine.new points.new) }
 {
-    match choice_at(clauses, place) {
-        Some(_) => choose(alloc, clauses, place, points),
-        None => match take_turn(alloc, clauses, locals, place)? {
+    match choice_at(clauses, machine) {
+        Some(_) => choose(alloc, clauses, machine, points),
+        None => match take_turn(alloc, clauses, locals, machine)? {
             Turn::Goes => Ok(true),
             Turn::Fails => Ok(false),
             Turn::Ends(end) => {
-                let out = out_kept(alloc, paths, place.path.as_slice(), end)?;
+                let out = out_kept(alloc, paths, machine.path.as_slice(), end)?;
                 outs.push(out)?;
                 Ok(false)
             }
@@ -110,56 +110,56 @@ pub fn go_on<'a>(
     clauses: &'a [Predicate<'a>],
     locals: &[Local],
     paths: Paths,
-    place: &mut Place<'a>,
-    points: &mut Vec<Point<'a>>,
+    machine: &mut Machine<'a>,
+    points: &mut Vec<ChoicePoint<'a>>,
     outs: &mut Vec<Out>,
     wanted: &mut Limit,
 ) -> Result<bool, Memory>
-    requires clauses { AreClausesBelow (map (map clause_of) clauses.now) }
+    requires clauses { AreClausesBelow (program_in clauses.now) }
     requires locals { length locals.now < 2 ^ 64 }
-    requires points { HasPoints place.old points.old }
-    ensures left { IfOk result (λ b. positions_with b place.new points.new
-        ≡ followed (turned (map (map clause_of) clauses.now) (locals_of locals.now)
-        (position_of place.old)) (pending_of place.old points.old)) }
+    requires points { HasPoints machine.old points.old }
+    ensures left { IfOk result (λ b. positions_with b machine.new points.new
+        ≡ followed (turned (program_in clauses.now) (locals_of locals.now)
+        (position_of machine.old)) (pending_of machine.old points.old)) }
     ensures outs { OnOk result (outs_of outs.new.items
         ≡ outs_of outs.old.items
-        ++ map (kept_out paths) (ended (turned (map (map clause_of) clauses.now)
-        (locals_of locals.now) (position_of place.old)))) }
-    ensures points { OnOk result (HasPoints place.new points.new) }
+        ++ map (kept_out paths) (ended (turned (program_in clauses.now)
+        (locals_of locals.now) (position_of machine.old)))) }
+    ensures points { OnOk result (HasPoints machine.new points.new) }
     ensures none { IfOk result (λ b. b ≡ false → points.new.items ≡ []) }
     ensures wanted { OnOk result (wanted.new
-        ≡ limits.wanted_after wanted.old (ended (turned (map (map clause_of) clauses.now)
-        (locals_of locals.now) (position_of place.old)))) }
+        ≡ limits.wanted_after wanted.old (ended (turned (program_in clauses.now)
+        (locals_of locals.now) (position_of machine.old)))) }
 {
     let before = outs.len();
-    let goes = turn_on(alloc, clauses, locals, paths, place, points, outs)?;
+    let goes = turn_on(alloc, clauses, locals, paths, machine, points, outs)?;
     *wanted = wanted_after(*wanted, &outs[before..]);
     if goes {
         Ok(true)
     } else {
-        resume(alloc, place, points)
+        resume(alloc, machine, points)
     }
 }
 
-/// The outputs from a place up to the last answer that is wanted, in order, depth first: where the search
-/// does not go on from a place, it goes back to the latest choice that has a way left.
+/// The outputs from a machine up to the last answer that is wanted, in order, depth first: where the search
+/// does not go on from a machine, it goes back to the latest choice that has a way left.
 pub fn outputs_from<'a>(
     alloc: Global,
     clauses: &'a [Predicate<'a>],
     locals: &[Local],
     paths: Paths,
     limit: Limit,
-    first: Place<'a>,
+    first: Machine<'a>,
 ) -> Result<Vec<Out>, Memory>
-    requires clauses { AreClausesBelow (map (map clause_of) clauses.now) }
+    requires clauses { AreClausesBelow (program_in clauses.now) }
     requires locals { length locals.now < 2 ^ 64 }
     ensures { IfOk result (λ v. outs_of v.items
-        ≡ map (kept_out paths) (part limit (outs_from (map (map clause_of) clauses.now)
+        ≡ map (kept_out paths) (part limit (outs_from (program_in clauses.now)
         (locals_of locals.now) (position_of first.entry)))) }
 {
     let mut outs = Vec::new(alloc);
     let mut points = Vec::new(alloc);
-    let mut place = first;
+    let mut machine = first;
     let mut wanted = limit;
     'searching: while is_wanting(wanted) {
         if !go_on(
@@ -167,7 +167,7 @@ pub fn outputs_from<'a>(
             clauses,
             locals,
             paths,
-            &mut place,
+            &mut machine,
             &mut points,
             &mut outs,
             &mut wanted,
@@ -178,24 +178,24 @@ pub fn outputs_from<'a>(
     Ok(outs)
 }
 
-/// The outputs from a place, as `outputs_from`, where the search takes few turns.
+/// The outputs from a machine, as `outputs_from`, where the search takes few turns.
 fn outputs_soon<'a>(
     alloc: Global,
     clauses: &'a [Predicate<'a>],
     locals: &[Local],
     paths: Paths,
     limit: Limit,
-    first: Place<'a>,
+    first: Machine<'a>,
 ) -> Result<Option<Vec<Out>>, Memory>
-    requires clauses { AreClausesBelow (map (map clause_of) clauses.now) }
+    requires clauses { AreClausesBelow (program_in clauses.now) }
     requires locals { length locals.now < 2 ^ 64 }
     ensures { IfOk result (λ o. IfSome o (λ v. outs_of v.items
-        ≡ map (kept_out paths) (part limit (outs_from (map (map clause_of) clauses.now)
+        ≡ map (kept_out paths) (part limit (outs_from (program_in clauses.now)
         (locals_of locals.now) (position_of first.entry))))) }
 {
     let mut outs = Vec::new(alloc);
     let mut points = Vec::new(alloc);
-    let mut place = first;
+    let mut machine = first;
     let mut wanted = limit;
     'searching: for _ in 0..FEW_TURNS {
         if !is_wanting(wanted) {
@@ -206,7 +206,7 @@ fn outputs_soon<'a>(
             clauses,
             locals,
             paths,
-            &mut place,
+            &mut machine,
             &mut points,
             &mut outs,
             &mut wanted,
@@ -226,13 +226,13 @@ pub fn outputs_of_short_query<'a>(
     paths: Paths,
     limit: Limit,
 ) -> Result<Option<Vec<Out>>, Memory>
-    requires clauses { AreClausesBelow (map (map clause_of) clauses.now) }
+    requires clauses { AreClausesBelow (program_in clauses.now) }
     requires query { IsQueryBelow (query_of query.now) }
     ensures { IfOk result (λ o. IfSome o (λ v. outs_of v.items
-        ≡ map (kept_out paths) (part limit (outs_from (map (map clause_of) clauses.now)
+        ≡ map (kept_out paths) (part limit (outs_from (program_in clauses.now)
         (query_of query.now).locals (first_position depth (query_of query.now)))))) }
 {
-    let first = first_place(alloc, depth, query)?;
+    let first = first_machine(alloc, depth, query)?;
     outputs_soon(alloc, clauses, query.locals.items(), paths, limit, first)
 }
 
@@ -246,12 +246,12 @@ pub fn outputs_of_query<'a>(
     paths: Paths,
     limit: Limit,
 ) -> Result<Vec<Out>, Memory>
-    requires clauses { AreClausesBelow (map (map clause_of) clauses.now) }
+    requires clauses { AreClausesBelow (program_in clauses.now) }
     requires query { IsQueryBelow (query_of query.now) }
     ensures { IfOk result (λ v. outs_of v.items
-        ≡ map (kept_out paths) (part limit (outs_from (map (map clause_of) clauses.now)
+        ≡ map (kept_out paths) (part limit (outs_from (program_in clauses.now)
         (query_of query.now).locals (first_position depth (query_of query.now))))) }
 {
-    let first = first_place(alloc, depth, query)?;
+    let first = first_machine(alloc, depth, query)?;
     outputs_from(alloc, clauses, query.locals.items(), paths, limit, first)
 }

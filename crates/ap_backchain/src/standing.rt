@@ -1,16 +1,16 @@
 //! Where branches stand.
 
-ghost use Rattle.std.specs.Prelude.{◌≡◌, ◌^◌, ◌<◌, [], IfOk, List as list, length, map, take};
-ghost use Rattle.ap_defs.specs.Goals.{Clauses, clause_of};
+ghost use Rattle.std.specs.Prelude.{◌≡◌, ◌^◌, ◌<◌, [], IfOk, List as list, length, take};
+ghost use Rattle.ap_defs.specs.Goals.{Clauses, program_in};
 ghost use Rattle.ap_defs.specs.Types.{NominalLocal, locals_of};
 ghost use Rattle.ap_backchain.specs.Below.{AreClausesBelow};
-ghost use Rattle.ap_backchain.specs.Branches.{IsChoosing, marks_of_standing, path_of_standing};
+ghost use Rattle.ap_backchain.specs.Branches.{IsChoosing, marks_of_standing, path_of_standing, width_of_standing};
 ghost use Rattle.ap_backchain.specs.Marks.{marks_from};
-ghost use Rattle.ap_backchain.specs.Places.{position_of};
+ghost use Rattle.ap_backchain.specs.Machines.{position_of};
 
 use crate::choices::choice_at;
 use crate::ends::out_at;
-use crate::place::Place;
+use crate::machine::Machine;
 use crate::turns::{Turn, take_turn};
 use ap_defs::goals::Local;
 use ap_defs::memory::Memory;
@@ -22,7 +22,7 @@ use std::alloc::Global;
 /// with the path.
 #[derive(Drop)]
 pub enum Standing<'a> {
-    Choosing(u32, Place<'a>),
+    Choosing(u32, Machine<'a>),
     Ended(Out),
     Failed(Vec<u32>),
 }
@@ -32,7 +32,7 @@ pub fn path_of<'s>(standing: &'s Standing<'_>) -> &'s [u32]
     ensures { result.now ≡ path_of_standing standing.now }
 {
     match standing {
-        Standing::Choosing(_, place) => place.path.as_slice(),
+        Standing::Choosing(_, machine) => machine.path.as_slice(),
         Standing::Ended(out) => match out {
             Out::Found(path, _) => path.choices(),
             Out::Cut(path) => path.choices(),
@@ -42,36 +42,47 @@ pub fn path_of<'s>(standing: &'s Standing<'_>) -> &'s [u32]
     }
 }
 
-/// The search failed with the first so many of the choices on the way to a place.
-fn failed_at<'a>(place: Place<'a>, made: usize) -> Standing<'a>
+/// Among how many ways the search chooses where it stands, if it does.
+pub fn width_of(standing: &Standing<'_>) -> Option<u32>
+    ensures { result ≡ width_of_standing standing.now }
+{
+    match standing {
+        Standing::Choosing(width, _) => Some(*width),
+        Standing::Ended(_) => None,
+        Standing::Failed(_) => None,
+    }
+}
+
+/// The search failed with the first so many of the choices on the way to a machine.
+fn failed_at<'a>(machine: Machine<'a>, made: usize) -> Standing<'a>
     ensures marks { (program : Clauses) (locals : list NominalLocal) →
         marks_of_standing program locals result ≡ [] }
-    ensures path { path_of_standing result ≡ take made place.entry.path.items }
+    ensures path { path_of_standing result ≡ take made machine.entry.path.items }
     ensures choosing { (program : Clauses) → IsChoosing program result }
 {
-    let mut path = place.path;
+    let mut path = machine.path;
     path.truncate(made);
     Standing::Failed(path)
 }
 
-/// The search from a place up to its first choice or its end.
+/// The search from a machine up to its first choice or its end.
 pub fn advance<'a>(
     alloc: Global,
     clauses: &'a [Predicate<'a>],
     locals: &[Local],
-    place: Place<'a>,
+    machine: Machine<'a>,
 ) -> Result<Standing<'a>, Memory>
-    requires clauses { AreClausesBelow (map (map clause_of) clauses.now) }
+    requires clauses { AreClausesBelow (program_in clauses.now) }
     requires locals { length locals.now < 2 ^ 64 }
-    ensures marks { IfOk result (λ s. marks_of_standing (map (map clause_of) clauses.now)
+    ensures marks { IfOk result (λ s. marks_of_standing (program_in clauses.now)
         (locals_of locals.now) s
-        ≡ marks_from (map (map clause_of) clauses.now) (locals_of locals.now)
-        (position_of place.entry)) }
-    ensures path { IfOk result (λ s. path_of_standing s ≡ place.entry.path.items) }
-    ensures choosing { IfOk result (λ s. IsChoosing (map (map clause_of) clauses.now) s) }
+        ≡ marks_from (program_in clauses.now) (locals_of locals.now)
+        (position_of machine.entry)) }
+    ensures path { IfOk result (λ s. path_of_standing s ≡ machine.entry.path.items) }
+    ensures choosing { IfOk result (λ s. IsChoosing (program_in clauses.now) s) }
 {
-    let made = place.path.len();
-    let mut here = place;
+    let made = machine.path.len();
+    let mut here = machine;
     'advancing: loop {
         match choice_at(clauses, &here) {
             Some(width) => return Ok(Standing::Choosing(width, here)),

@@ -1,7 +1,7 @@
 //! One choice of a branch.
 
 ghost use Rattle.std.specs.Prelude.{◌≡◌, ◌≤◌, ◌-◌, ◌^◌, ◌<◌, ◌++◌, [], ◌∷◌, IfOk, List as list, length, map};
-ghost use Rattle.ap_defs.specs.Goals.{Clauses, clause_of, goal_of};
+ghost use Rattle.ap_defs.specs.Goals.{Clauses, clause_of, goal_of, program_in};
 ghost use Rattle.ap_defs.specs.Renaming.{AreBelow, IsGoalBelow, rename_goal, rename_term as renamed};
 ghost use Rattle.ap_defs.specs.Terms.{term_of};
 ghost use Rattle.ap_defs.specs.Types.{NominalLocal, locals_of};
@@ -11,12 +11,12 @@ ghost use Rattle.ap_search.specs.Prefixes.{beginning};
 ghost use Rattle.ap_backchain.specs.Below.{AreClausesBelow};
 ghost use Rattle.ap_backchain.specs.Branches.{IsChoiceAt, IsChoosing, marks_of_standing, path_of_standing};
 ghost use Rattle.ap_backchain.specs.Marks.{IsAmong, choice_of_goal, clauses_marks, goal_marks, marks_from};
-ghost use Rattle.ap_backchain.specs.Places.{next_of, position_of};
+ghost use Rattle.ap_backchain.specs.Machines.{next_of, position_of};
 ghost use Rattle.ap_backchain.specs.Positions.{with_choice, with_goal};
 
 use crate::clauses::{clauses_at, enter_clause};
 use crate::frames::Frame;
-use crate::place::Place;
+use crate::machine::Machine;
 use crate::standing::{Standing, advance};
 use ap_defs::goals::{Clause, Goal, Local};
 use ap_defs::memory::Memory;
@@ -41,29 +41,29 @@ fn choose_clause<'a>(
     alloc: Global,
     clauses: &'a [Predicate<'a>],
     locals: &[Local],
-    place: Place<'a>,
+    machine: Machine<'a>,
     frame: Frame<'a>,
     args: &'a [Term],
     candidates: &'a [Clause<Term>],
     choice: u32,
 ) -> Result<Standing<'a>, Memory>
-    requires clauses { AreClausesBelow (map (map clause_of) clauses.now) }
+    requires clauses { AreClausesBelow (program_in clauses.now) }
     requires locals { length locals.now < 2 ^ 64 }
-    requires args { AreBelow (next_of place) (map (renamed frame.base) (map term_of args.now)) }
+    requires args { AreBelow (next_of machine) (map (renamed frame.base) (map term_of args.now)) }
     requires below { AreFitClauses (map clause_of candidates.now) }
     requires depth { 1 ≤ frame.depth }
     requires low { 1 ≤ choice }
     requires high { choice ≤ length candidates.now }
-    ensures marks { IfOk result (λ s. marks_of_standing (map (map clause_of) clauses.now)
+    ensures marks { IfOk result (λ s. marks_of_standing (program_in clauses.now)
         (locals_of locals.now) s
-        ≡ beginning mark_path (place.entry.path.items ++ choice ∷ []) (clauses_marks
-        (map (map clause_of) clauses.now) (locals_of locals.now) (frame.entry.depth - 1) (map
+        ≡ beginning mark_path (machine.entry.path.items ++ choice ∷ []) (clauses_marks
+        (program_in clauses.now) (locals_of locals.now) (frame.entry.depth - 1) (map
         (renamed frame.entry.base) (map term_of args.now)) (map clause_of candidates.now)
-        (position_of place.entry))) }
-    ensures path { IfOk result (λ s. path_of_standing s ≡ place.entry.path.items ++ choice ∷ []) }
-    ensures choosing { IfOk result (λ s. IsChoosing (map (map clause_of) clauses.now) s) }
+        (position_of machine.entry))) }
+    ensures path { IfOk result (λ s. path_of_standing s ≡ machine.entry.path.items ++ choice ∷ []) }
+    ensures choosing { IfOk result (λ s. IsChoosing (program_in clauses.now) s) }
 {
-    let mut here = place;
+    let mut here = machine;
     let clause = &candidates[choice as usize - 1];
     if enter_clause(
         alloc,
@@ -87,50 +87,51 @@ fn choose_side<'a>(
     alloc: Global,
     clauses: &'a [Predicate<'a>],
     locals: &[Local],
-    place: Place<'a>,
+    machine: Machine<'a>,
     frame: Frame<'a>,
     side: &'a Goal<Term>,
     choice: u32,
 ) -> Result<Standing<'a>, Memory>
-    requires clauses { AreClausesBelow (map (map clause_of) clauses.now) }
+    requires clauses { AreClausesBelow (program_in clauses.now) }
     requires locals { length locals.now < 2 ^ 64 }
-    requires below { IsGoalBelow (next_of place) (rename_goal frame.base (goal_of side.now)) }
-    ensures marks { IfOk result (λ s. marks_of_standing (map (map clause_of) clauses.now)
+    requires below { IsGoalBelow (next_of machine) (rename_goal frame.base (goal_of side.now)) }
+    ensures marks { IfOk result (λ s. marks_of_standing (program_in clauses.now)
         (locals_of locals.now) s
-        ≡ marks_from (map (map clause_of) clauses.now) (locals_of locals.now) (with_goal
+        ≡ marks_from (program_in clauses.now) (locals_of locals.now) (with_goal
         frame.entry.depth (rename_goal frame.entry.base (goal_of side.now)) (with_choice choice
-        (position_of place.entry)))) }
-    ensures path { IfOk result (λ s. path_of_standing s ≡ place.entry.path.items ++ choice ∷ []) }
-    ensures choosing { IfOk result (λ s. IsChoosing (map (map clause_of) clauses.now) s) }
+        (position_of machine.entry)))) }
+    ensures path { IfOk result (λ s. path_of_standing s ≡ machine.entry.path.items ++ choice ∷ []) }
+    ensures choosing { IfOk result (λ s. IsChoosing (program_in clauses.now) s) }
 {
-    let mut here = place;
+    let mut here = machine;
     here.push_choice(choice)?;
     here.push_goal(side, frame.base, frame.depth)?;
     let standing = advance(alloc, clauses, locals, here)?;
     Ok(standing)
 }
 
-/// Where the search stands once the goal of a frame has chosen, from a place in which the others wait.
+/// Where the search stands once the goal of a frame has chosen, from a machine in which the others wait.
 fn choose_by<'a>(
     alloc: Global,
     clauses: &'a [Predicate<'a>],
     locals: &[Local],
     frame: Frame<'a>,
-    place: Place<'a>,
+    machine: Machine<'a>,
     choice: u32,
 ) -> Result<Standing<'a>, Memory>
-    requires clauses { AreClausesBelow (map (map clause_of) clauses.now) }
+    requires clauses { AreClausesBelow (program_in clauses.now) }
     requires locals { length locals.now < 2 ^ 64 }
-    requires goal { IsGoalBelow (next_of place) (rename_goal frame.base (goal_of frame.goal.now)) }
-    requires choice { IsAmong choice (choice_of_goal (map (map clause_of) clauses.now) frame.depth
+    requires goal { IsGoalBelow (next_of machine) (rename_goal frame.base
+        (goal_of frame.goal.now)) }
+    requires choice { IsAmong choice (choice_of_goal (program_in clauses.now) frame.depth
         (rename_goal frame.base (goal_of frame.goal.now))) }
-    ensures marks { IfOk result (λ s. marks_of_standing (map (map clause_of) clauses.now)
+    ensures marks { IfOk result (λ s. marks_of_standing (program_in clauses.now)
         (locals_of locals.now) s
-        ≡ beginning mark_path (place.entry.path.items ++ choice ∷ []) (goal_marks
-        (map (map clause_of) clauses.now) (locals_of locals.now) frame.entry.depth (rename_goal
-        frame.entry.base (goal_of frame.entry.goal.now)) (position_of place.entry))) }
-    ensures path { IfOk result (λ s. path_of_standing s ≡ place.entry.path.items ++ choice ∷ []) }
-    ensures choosing { IfOk result (λ s. IsChoosing (map (map clause_of) clauses.now) s) }
+        ≡ beginning mark_path (machine.entry.path.items ++ choice ∷ []) (goal_marks
+        (program_in clauses.now) (locals_of locals.now) frame.entry.depth (rename_goal
+        frame.entry.base (goal_of frame.entry.goal.now)) (position_of machine.entry))) }
+    ensures path { IfOk result (λ s. path_of_standing s ≡ machine.entry.path.items ++ choice ∷ []) }
+    ensures choosing { IfOk result (λ s. IsChoosing (program_in clauses.now) s) }
 {
     match frame.goal {
         Goal::Atom(pred, args) => {
@@ -139,7 +140,7 @@ fn choose_by<'a>(
                 alloc,
                 clauses,
                 locals,
-                place,
+                machine,
                 frame,
                 args.items(),
                 candidates,
@@ -148,9 +149,9 @@ fn choose_by<'a>(
         }
         Goal::Either(left, right) => {
             if choice == 1 {
-                choose_side(alloc, clauses, locals, place, frame, left, 1)
+                choose_side(alloc, clauses, locals, machine, frame, left, 1)
             } else {
-                choose_side(alloc, clauses, locals, place, frame, right, 2)
+                choose_side(alloc, clauses, locals, machine, frame, right, 2)
             }
         }
         Goal::True => unreachable!(),
@@ -170,21 +171,21 @@ pub fn choose<'a>(
     standing: Standing<'a>,
     choice: u32,
 ) -> Result<Standing<'a>, Memory>
-    requires clauses { AreClausesBelow (map (map clause_of) clauses.now) }
+    requires clauses { AreClausesBelow (program_in clauses.now) }
     requires locals { length locals.now < 2 ^ 64 }
-    requires choosing { IsChoosing (map (map clause_of) clauses.now) standing }
+    requires choosing { IsChoosing (program_in clauses.now) standing }
     requires choice { IsChoiceAt choice standing }
-    ensures marks { IfOk result (λ s. marks_of_standing (map (map clause_of) clauses.now)
+    ensures marks { IfOk result (λ s. marks_of_standing (program_in clauses.now)
         (locals_of locals.now) s
         ≡ beginning mark_path (path_of_standing standing.entry ++ choice ∷ []) (marks_of_standing
-        (map (map clause_of) clauses.now) (locals_of locals.now) standing.entry)) }
+        (program_in clauses.now) (locals_of locals.now) standing.entry)) }
     ensures path { IfOk result (λ s. path_of_standing s
         ≡ path_of_standing standing.entry ++ choice ∷ []) }
-    ensures choosing { IfOk result (λ s. IsChoosing (map (map clause_of) clauses.now) s) }
+    ensures choosing { IfOk result (λ s. IsChoosing (program_in clauses.now) s) }
 {
     match standing {
-        Standing::Choosing(_, place) => {
-            let mut here = place;
+        Standing::Choosing(_, machine) => {
+            let mut here = machine;
             match here.pop_goal() {
                 None => unreachable!(),
                 Some(frame) => choose_by(alloc, clauses, locals, frame, here, choice),

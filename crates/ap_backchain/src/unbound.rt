@@ -1,7 +1,7 @@
 //! Variables that are unbound.
 
 ghost use Rattle.std.specs.Prelude.{◌≡◌, not, IfOk};
-ghost use Rattle.ap_store.specs.Views.{present};
+ghost use Rattle.ap_store.specs.Views.{bindings_of};
 ghost use Rattle.ap_theory.specs.Variables.{is_bound};
 ghost use Rattle.ap_backchain.specs.Unbound.{unbound_vars};
 ghost use Rattle.ap_backchain.specs.Views.{state_in};
@@ -14,7 +14,7 @@ use std::alloc::Global;
 /// Whether a variable stands for itself.
 #[tactic(auto, using(crate::proofs::AnswerLemmas::bound_tells))]
 fn is_unbound(store: &Store<'_>, x: Var) -> bool
-    ensures { result ≡ not (is_bound x (present store.now).bindings) }
+    ensures { result ≡ not (is_bound x (bindings_of store.now)) }
 {
     store.binding(x).is_none()
 }

@@ -6,7 +6,7 @@ use Rattle.std.proofs.lemmas.Option.{slice_get-get_or}
 use Rattle.ap_paths.specs.declared.entries.Entry.{Entry}
 use Rattle.ap_paths.specs.Entries.{entry_of, entries_of}
 use Rattle.ap_paths.specs.History.{answers_before}
-use Rattle.ap_book.specs.Counts.{adds, adds_at, counted, AreIn, IsTallied}
+use Rattle.ap_book.specs.Counts.{adds, adds_at, entries_counted, AreIn, IsTallied}
 use Rattle.ap_book.proofs.Additions.{counted_next}
 
 get_more : (h : List Entry) (e : Entry) (i : ℕ) → i < length h → slice_get (h ++ e ∷ []) i ≡ slice_get h i
@@ -14,11 +14,11 @@ get_more [] e i l = absurd (omega arith)
 get_more (x ∷ xs) e zero l = refl
 get_more (x ∷ xs) e (suc i) l = get_more xs e i (omega arith)
 
-counted_more : (p : List ℕ) (h : List Entry) (e : Entry) (is : List ℕ) → AreIn (length h) is → counted p (h ++ e ∷ []) is ≡ counted p h is
+counted_more : (p : List ℕ) (h : List Entry) (e : Entry) (is : List ℕ) → AreIn (length h) is → entries_counted p (h ++ e ∷ []) is ≡ entries_counted p h is
 counted_more p h e [] all = refl
 counted_more p h e (i ∷ is) all = let a = ap (adds_at p) (get_more h e i all.0) in omega (arith, counted_more p h e is all.1)
 
-counted_both : (p : List ℕ) (h : List Entry) (is js : List ℕ) → counted p h (is ++ js) ≡ counted p h is + counted p h js
+counted_both : (p : List ℕ) (h : List Entry) (is js : List ℕ) → entries_counted p h (is ++ js) ≡ entries_counted p h is + entries_counted p h js
 counted_both p h [] js = omega arith
 counted_both p h (i ∷ is) js = omega (arith, counted_both p h is js)
 
@@ -61,10 +61,10 @@ tallied_found h is new k d lt grown t =
     )
 
 -- one more place was counted
-counted_at' : (p : List ℕ) (h : List Entry) (is : List ℕ) (i d : ℕ) → i < length is → counted p h (take (suc i) is) ≡ counted p h (take i is) + adds_at p (slice_get h (get_or is i d))
+counted_at' : (p : List ℕ) (h : List Entry) (is : List ℕ) (i d : ℕ) → i < length is → entries_counted p h (take (suc i) is) ≡ entries_counted p h (take i is) + adds_at p (slice_get h (get_or is i d))
 counted_at' p h [] i d lt = absurd (omega arith)
 counted_at' p h (j ∷ js) zero d lt = omega arith
 counted_at' p h (j ∷ js) (suc i) d lt = omega (arith, counted_at' p h js i d (omega arith))
 
-pub counted_at : (p : List ℕ) (h : List Entry) (is : List ℕ) (i d : ℕ) → i < length is → counted p h (take (i + 1) is) ≡ counted p h (take i is) + adds_at p (slice_get h (get_or is i d))
-counted_at p h is i d lt = ap (λ k. counted p h (take k is)) (add-one i) ∙ counted_at' p h is i d lt
+pub counted_at : (p : List ℕ) (h : List Entry) (is : List ℕ) (i d : ℕ) → i < length is → entries_counted p h (take (i + 1) is) ≡ entries_counted p h (take i is) + adds_at p (slice_get h (get_or is i d))
+counted_at p h is i d lt = ap (λ k. entries_counted p h (take k is)) (add-one i) ∙ counted_at' p h is i d lt

@@ -17,9 +17,9 @@ adds_at p None = 0
 adds_at p (Some e) = adds p (entry_of e)
 
 -- what the entries at these places add
-abbrev pub counted : List ℕ → List Entry → List ℕ → ℕ
-counted p history [] = 0
-counted p history (i ∷ is) = adds_at p (slice_get history i) + counted p history is
+abbrev pub entries_counted : List ℕ → List Entry → List ℕ → ℕ
+entries_counted p history [] = 0
+entries_counted p history (i ∷ is) = adds_at p (slice_get history i) + entries_counted p history is
 
 abbrev pub AreIn : ℕ → List ℕ → Type 0
 AreIn n [] = Unit {0}
@@ -28,4 +28,4 @@ AreIn n (i ∷ is) = (i < n) × AreIn n is
 -- of the entries that were looked at, those at these places add all
 abbrev pub IsTallied : List Entry → List ℕ → ℕ → Type 0
 IsTallied history places seen =
-    (seen ≤ length history) × AreIn (length history) places × ((p : List ℕ) → counted p history places ≡ answers_before p (entries_of (take seen history)))
+    (seen ≤ length history) × AreIn (length history) places × ((p : List ℕ) → entries_counted p history places ≡ answers_before p (entries_of (take seen history)))

@@ -29,7 +29,7 @@ abbrev pub AreKidsOf : List ℕ → List ℕ → Kids → Type 0
 AreKidsOf path choices k = (k.choices.items ≡ choices) × (paths_of k.paths.items ≡ kids_of path choices)
 
 -- The set has the open paths of the history, each as often as that; the history is legal, and no open path begins another.
-pub record IsKept (history : List TreeEntry) (opened : List (List ℕ)) (stopped : Bool) : Type 0 where
+pub record IsBookKept (history : List TreeEntry) (opened : List (List ℕ)) (stopped : Bool) : Type 0 where
   pub opens : HaveSame opened (open_of history)
   pub stops : stopped ≡ has_stop history
   pub legal : is_legal history ≡ true

@@ -46,12 +46,12 @@ impl Model for Book {
 
     ghost use Rattle.std.specs.Prelude.{◌≡◌, false, ◌<◌, vec_len, vec_capacity};
     ghost use Rattle.ap_paths.specs.Entries.{entries_of};
-    ghost use Rattle.ap_book.specs.Kept.{paths_of, IsKept};
+    ghost use Rattle.ap_book.specs.Kept.{paths_of, IsBookKept};
     ghost use Rattle.ap_book.specs.Counts.{IsTallied};
 
     ghost view = { λ b. b.history.items };
 
-    ghost invariant = { λ b. IsKept (entries_of b.history.items) (paths_of b.opened.keys) b.stopped × (b.stopped ≡ false → vec_len b.history < vec_capacity b.history) × IsTallied b.history.items b.answered.places.items b.answered.seen };
+    ghost invariant = { λ b. IsBookKept (entries_of b.history.items) (paths_of b.opened.keys) b.stopped × (b.stopped ≡ false → vec_len b.history < vec_capacity b.history) × IsTallied b.history.items b.answered.places.items b.answered.seen };
 }
 
 impl Book {

@@ -5,7 +5,7 @@ ghost use Rattle.ap_paths.specs.declared.limits.Limit.TheVariants as limits;
 ghost use Rattle.ap_paths.specs.Entries.{entry_of, entries_of};
 ghost use Rattle.ap_paths.specs.History as said;
 ghost use Rattle.ap_paths.specs.Limits.{IsWanting};
-ghost use Rattle.ap_book.specs.Counts.{adds, adds_at, counted, IsTallied};
+ghost use Rattle.ap_book.specs.Counts.{adds, adds_at, entries_counted, IsTallied};
 
 use ap_defs::paths::Path;
 use ap_paths::{Entry, Limit, answers_in};
@@ -64,7 +64,8 @@ impl Answered {
     /// How many answers the entries at these places have, where they end paths before this one.
     fn at_places(&self, path: &Path, history: &[Entry]) -> u64
         requires { IsTallied history.now self.now.places.items self.now.seen }
-        ensures { result ≡ min (counted path.now history.now self.now.places.items) (2 ^ 64 - 1) }
+        ensures { result
+            ≡ min (entries_counted path.now history.now self.now.places.items) (2 ^ 64 - 1) }
     {
         let mut count: u64 = 0;
         for place in self.places.as_slice() {

@@ -27,12 +27,12 @@ head_line h ws = line (words.Head h ∷ ws)
 abbrev pub node_line : NodeWord → List Word → List ℕ
 node_line k ws = line (words.Node k ∷ ws)
 
-abbrev pub counted : Head → ℕ → List ℕ
-counted h n = head_line h (words.Number n ∷ [])
+abbrev pub counted_line : Head → ℕ → List ℕ
+counted_line h n = head_line h (words.Number n ∷ [])
 
 -- how many there are, and then each
 abbrev pub listed : {A : Type 0} → Head → (A → List ℕ) → List A → List ℕ
-listed h text xs = counted h (length xs) ++ flat_map text xs
+listed h text xs = counted_line h (length xs) ++ flat_map text xs
 
 abbrev pub var_line : Var × NominalType → List ℕ
 var_line v = head_line head.V (words.Number v.0.num ∷ type_words v.1)
@@ -65,11 +65,11 @@ answer_lines text a = listed head.Vars var_line a.vars ++ (listed head.Conds con
 
 -- an answer with its derivation
 abbrev pub proved_lines : (NominalTerm → List ℕ) → NominalProved → List ℕ
-proved_lines text p = counted head.Derivation p.query ++ (answer_lines text p.answer ++ flat_map (node_lines text) (preorder p.derivation))
+proved_lines text p = counted_line head.Derivation p.query ++ (answer_lines text p.answer ++ flat_map (node_lines text) (preorder p.derivation))
 
 -- a text, with its length before it and an LF behind it
 abbrev pub text_lines : List ℕ → List ℕ
-text_lines text = counted head.Text (length text) ++ (text ++ 10 ∷ [])
+text_lines text = counted_line head.Text (length text) ++ (text ++ 10 ∷ [])
 
 -- what follows the text, and the table of terms if there is one
 abbrev pub proved_part : (NominalTerm → List ℕ) → List NominalProved → List ℕ
@@ -85,7 +85,7 @@ entry_line table t = head_line head.T (entry_words table t)
 
 -- the line of a term that stands in the table
 abbrev pub shared_line : List NominalTerm → NominalTerm → List ℕ
-shared_line table t = counted head.R (line_of table t)
+shared_line table t = counted_line head.R (line_of table t)
 
 -- how a term is written, beside this table
 abbrev pub line_as : Version → List NominalTerm → NominalTerm → List ℕ

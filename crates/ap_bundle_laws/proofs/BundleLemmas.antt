@@ -21,7 +21,7 @@ use Rattle.ap_bundle.specs.Bundles.{NominalProved, NominalBundle}
 use Rattle.ap_bundle.specs.Nodes.{preorder}
 use Rattle.ap_bundle.specs.LineForms.{after_head, first_form, query_form, var_form, cond_form}
 use Rattle.ap_bundle.specs.Readers.{Place, Wrong, Reader, ◌>>=◌, unended, read_line, read_form, repeated}
-use Rattle.ap_bundle.specs.Written.{head_line, counted, listed, var_line, cond_line, term_line, node_lines, answer_lines, proved_lines, text_lines, proved_part, written}
+use Rattle.ap_bundle.specs.Written.{head_line, counted_line, listed, var_line, cond_line, term_line, node_lines, answer_lines, proved_lines, text_lines, proved_part, written}
 use Rattle.ap_bundle.specs.Reading.{read_count, read_listed, read_term, read_derivation, read_answer, read_proved, read_text, read_last, read_rest, read_version, read_at, room_at_first}
 use Rattle.ap_bundle_laws.specs.Laws.{Each, IsListOf, FitsVar, FitsCond, FitsTerm, FitsAnswer, FitsDerivation, FitsProved, FitsBundle}
 use Rattle.ap_bundle_laws.proofs.GoodLemmas.{at, IsGood, good_then, good_as, good_repeated, room_for, room_append, room_free, free, parted}
@@ -37,7 +37,7 @@ good_listed : {A : Type 0} (h : Head) (read : Reader A) (text : A → List ℕ) 
 unfolding read_listed
 good_listed h read text before P good is left xs few fits =
     let room = room_for before xs left in
-    good_then (read_count h) (λ n p. repeated read n p) room room left (counted h (length xs)) (flat_map text xs) (length xs) xs (good_count h room (length xs) few (is (length xs))) (good_repeated read text before P good left xs fits)
+    good_then (read_count h) (λ n p. repeated read n p) room room left (counted_line h (length xs)) (flat_map text xs) (length xs) xs (good_count h room (length xs) few (is (length xs))) (good_repeated read text before P good left xs fits)
 
 good_free : {A : Type 0} (h : Head) (read : Reader A) (text : A → List ℕ) (P : A → Type 0) → ((room : ℕ) (x : A) → P x → IsGood read room room (text x) x)
     → IsHead h → (room : ℕ) (xs : List A) → IsListOf P xs → IsGood (read_listed h read) room room (listed h text xs) xs
@@ -131,7 +131,7 @@ module _ (term : Reader NominalTerm) (text : NominalTerm → List ℕ) (before :
       let room = room_for before p.answer.binds mid in
       subst (λ n. IsGood (read_proved term) n left (proved_lines text p) p) (sym (room_append before p.answer.binds (terms_in p.derivation) left))
       (good_then (read_form Header query_form) (λ q z. read_answer term z >>= λ a. read_derivation term a.1 >>= λ d. Ok (record { query = q; answer = a.0; derivation = d.0 }, d.1))
-      room room left (counted head.Derivation p.query) (answer_lines text p.answer ++ flat_map (node_lines text) (preorder p.derivation)) p.query p (good_query room p.query h.0)
+      room room left (counted_line head.Derivation p.query) (answer_lines text p.answer ++ flat_map (node_lines text) (preorder p.derivation)) p.query p (good_query room p.query h.0)
       (good_then (read_answer term) (λ a z. read_derivation term z >>= λ d. Ok (record { query = p.query; answer = a; derivation = d.0 }, d.1))
       room mid left (answer_lines text p.answer) (flat_map (node_lines text) (preorder p.derivation)) p.answer p (good_answer mid p.answer h.1 parts.0)
       (good_as (read_derivation term) (λ d. record { query = p.query; answer = p.answer; derivation = d }) mid left (flat_map (node_lines text) (preorder p.derivation)) p.derivation (good_derivation term text before P good_one left p.derivation h.2 parts.1))))
@@ -160,9 +160,9 @@ last_at v room b part h rest version =
     let count = good_count head.Text room (length b.text) h.0 refl in
     let proved = last_with (read_version v) (λ ps. record { text = b.text; proved = ps }) room part b.proved rest in
     let text = last_then (read_text (length b.text)) (λ t p. read_version v p >>= λ ps. Ok (record { text = t; proved = ps })) room room (b.text ++ 10 ∷ []) part b.text b (good_text room b.text) proved in
-    let counted_text = last_then (read_count head.Text) (λ n p. read_text n p >>= λ t. read_version v t.1 >>= λ ps. Ok (record { text = t.0; proved = ps })) room room (counted head.Text (length b.text)) ((b.text ++ 10 ∷ []) ++ part) (length b.text) b count text in
+    let counted_text = last_then (read_count head.Text) (λ n p. read_text n p >>= λ t. read_version v t.1 >>= λ ps. Ok (record { text = t.0; proved = ps })) room room (counted_line head.Text (length b.text)) ((b.text ++ 10 ∷ []) ++ part) (length b.text) b count text in
     let grouped : IsLast (λ p. read_count head.Text p >>= λ n. read_text n.0 n.1 >>= λ t. read_version v t.1 >>= λ ps. Ok (record { text = t.0; proved = ps })) room (text_lines b.text ++ part) b =
-    subst (λ w. IsLast (λ p. read_count head.Text p >>= λ n. read_text n.0 n.1 >>= λ t. read_version v t.1 >>= λ ps. Ok (record { text = t.0; proved = ps })) room w b) (sym (append_assoc (counted head.Text (length b.text)) (b.text ++ 10 ∷ []) part)) counted_text in
+    subst (λ w. IsLast (λ p. read_count head.Text p >>= λ n. read_text n.0 n.1 >>= λ t. read_version v t.1 >>= λ ps. Ok (record { text = t.0; proved = ps })) room w b) (sym (append_assoc (counted_line head.Text (length b.text)) (b.text ++ 10 ∷ []) part)) counted_text in
     last_then (read_line Header first_form) (λ first p. read_count head.Text p >>= λ n. read_text n.0 n.1 >>= λ t. read_version first t.1 >>= λ ps. Ok (record { text = t.0; proved = ps })) room room (first_line v ++ 10 ∷ []) (text_lines b.text ++ part) v b version grouped
 
 -- terms in full

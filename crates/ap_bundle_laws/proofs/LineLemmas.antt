@@ -19,7 +19,7 @@ use Rattle.ap_bundle.specs.Words.{line, line_words, word_text}
 use Rattle.ap_bundle.specs.Forms.{term_words, type_words, name_words, swap_words}
 use Rattle.ap_bundle.specs.LineForms.{small_number, name, after_head, count_form, query_form, var_form, cond_form, name_form, term_form, end_form}
 use Rattle.ap_bundle.specs.Readers.{first_line, read_line, read_form}
-use Rattle.ap_bundle.specs.Written.{head_line, counted, var_line, cond_line, name_line, term_line}
+use Rattle.ap_bundle.specs.Written.{head_line, counted_line, var_line, cond_line, name_line, term_line}
 use Rattle.ap_bundle.specs.Reading.{read_count, read_name, read_term}
 use Rattle.ap_bundle_laws.specs.Laws.{Each, FitsName, FitsSwap, FitsCond, FitsVar, FitsTerm, FitsType}
 use Rattle.ap_bundle_laws.proofs.GoodLemmas.{IsGood}
@@ -78,11 +78,11 @@ pub name_read : (a : Name) (ws : List Word) → FitsName a → name (name_words 
 unfolding name
 name_read a ws h = rw (small_read a.sort (word.Number a.num ∷ ws) h.0) refl
 
-pub good_count : (h : Head) (room n : ℕ) → n < 2 ^ 64 → after_head h (word.Head h ∷ word.Number n ∷ []) ≡ Some (word.Number n ∷ []) → IsGood (read_count h) room room (counted h n) n
+pub good_count : (h : Head) (room n : ℕ) → n < 2 ^ 64 → after_head h (word.Head h ∷ word.Number n ∷ []) ≡ Some (word.Number n ∷ []) → IsGood (read_count h) room room (counted_line h n) n
 unfolding count_form
 good_count h room n small e = good_form Header (count_form h) room (word.Head h) (word.Number n ∷ []) n (tt, (small, tt)) (rw e refl)
 
-pub good_query : (room n : ℕ) → n < 2 ^ 32 → IsGood (read_form Header query_form) room room (counted head.Derivation n) n
+pub good_query : (room n : ℕ) → n < 2 ^ 32 → IsGood (read_form Header query_form) room room (counted_line head.Derivation n) n
 unfolding query_form after_head
 good_query room n h = good_form Header query_form room (word.Head head.Derivation) (word.Number n ∷ []) n (tt, (omega arith, tt)) (rw (small_read n [] h) refl)
 

@@ -16,7 +16,7 @@ use Rattle.ap_bundle.specs.Bundles.{NominalBundle}
 use Rattle.ap_bundle.specs.Tables.{expanded_size, size_of_all, line_of, Has, HasParts, entry_words, terms_of, table_of}
 use Rattle.ap_bundle.specs.TableForms.{numbers, earlier, name_entry, pair_entry, app_entry, abs_entry, susp_entry, entry_form, read_entries, shared_form, read_shared}
 use Rattle.ap_bundle.specs.Readers.{◌>>=◌, unended, read_form}
-use Rattle.ap_bundle.specs.Written.{head_line, counted, entry_line, shared_line, proved_part, shared_part, written_shared}
+use Rattle.ap_bundle.specs.Written.{head_line, counted_line, entry_line, shared_line, proved_part, shared_part, written_shared}
 use Rattle.ap_bundle.specs.Reading.{read_count, read_rest, read_shared_rest, read_at, room_at_first}
 use Rattle.ap_bundle.proofs.TableLemmas.{has_at, words_more}
 use Rattle.ap_bundle_laws.specs.Laws.{Each, FitsTerm, FitsBundle, HasRoom}
@@ -114,8 +114,8 @@ last_shared b h fits =
     let rest = subst (λ n. IsLast (read_rest (read_shared table)) n (proved_part (shared_line table) b.proved) b.proved) enough
     (last_rest (read_shared table) (shared_line table) before (Has table) (good_shared table few) left b.proved h.1 ordered.1) in
     let behind = last_then (read_entries (length table) []) (λ us p. read_rest (read_shared us) p) room room (flat_map (entry_line table) table) (proved_part (shared_line table) b.proved) table b.proved entries rest in
-    let all = last_then (read_count head.Terms) (λ n p. read_entries n [] p >>= λ us. read_rest (read_shared us.0) us.1) room room (counted head.Terms (length table)) (flat_map (entry_line table) table ++ proved_part (shared_line table) b.proved) (length table) b.proved count behind in
-    subst (λ w. IsLast read_shared_rest room w b.proved) (sym (append_assoc (counted head.Terms (length table)) (flat_map (entry_line table) table) (proved_part (shared_line table) b.proved))) all
+    let all = last_then (read_count head.Terms) (λ n p. read_entries n [] p >>= λ us. read_rest (read_shared us.0) us.1) room room (counted_line head.Terms (length table)) (flat_map (entry_line table) table ++ proved_part (shared_line table) b.proved) (length table) b.proved count behind in
+    subst (λ w. IsLast read_shared_rest room w b.proved) (sym (append_assoc (counted_line head.Terms (length table)) (flat_map (entry_line table) table) (proved_part (shared_line table) b.proved))) all
 
 last_bundle : (b : NominalBundle) → FitsBundle b → HasRoom b → IsLast read_at room_at_first (written_shared b) b
 unfolding first_form

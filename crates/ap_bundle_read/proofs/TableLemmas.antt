@@ -9,7 +9,7 @@ use Rattle.ap_bundle_read.specs.declared.table.Entry.TheVariants as entry
 use Rattle.ap_bundle_read.specs.declared.table.Line.{Line}
 use Rattle.ap_bundle_read.specs.declared.table.expanding.Task.{Task}
 use Rattle.ap_bundle_read.specs.declared.table.expanding.Task.TheVariants as task
-use Rattle.ap_bundle_read.specs.Tables.{at, entry_term, IsBehind, terms_back, exact_size, AreLines, made_by, AreWithin, weigh, begun, ready}
+use Rattle.ap_bundle_read.specs.Tables.{at, entry_term, IsBehind, terms_back, exact_size, AreLines, made_by, AreTasksWithin, weigh, begun, ready}
 
 pub length_back : (ls : List Line) → length (terms_back ls) ≡ length ls
 length_back [] = refl
@@ -106,7 +106,7 @@ entry_made table ts ks (entry.Susp p x) = refl
 pub line_made : (table ts : List NominalTerm) (ks : List Task) (k : ℕ) (l : Line) (e : Entry) → IsLine table k l → l.entry ≡ e → made_by table (begun e ++ ks) (ready e ++ ts) ≡ made_by table (task.Line k ∷ ks) ts
 line_made table ts ks k l e h is = entry_made table ts ks e ∙ ap (λ t. made_by table ks (t ∷ ts)) (sym (h.is ∙ ap (entry_term table) is))
 
-entry_within : (n : ℕ) (ks : List Task) (e : Entry) → IsBehind n e → AreWithin n ks → AreWithin n (begun e ++ ks)
+entry_within : (n : ℕ) (ks : List Task) (e : Entry) → IsBehind n e → AreTasksWithin n ks → AreTasksWithin n (begun e ++ ks)
 entry_within n ks entry.Unit h w = w
 entry_within n ks (entry.Name a) h w = w
 entry_within n ks (entry.Pair i j) h w = (h.0, (h.1, w))
@@ -114,7 +114,7 @@ entry_within n ks (entry.App f i) h w = (h, w)
 entry_within n ks (entry.Abs s b i) h w = (h, w)
 entry_within n ks (entry.Susp p x) h w = w
 
-pub line_within : (table : List NominalTerm) (ks : List Task) (k : ℕ) (l : Line) (e : Entry) → IsLine table k l → l.entry ≡ e → AreWithin (length table) ks → AreWithin (length table) (begun e ++ ks)
+pub line_within : (table : List NominalTerm) (ks : List Task) (k : ℕ) (l : Line) (e : Entry) → IsLine table k l → l.entry ≡ e → AreTasksWithin (length table) ks → AreTasksWithin (length table) (begun e ++ ks)
 line_within table ks k l e h is w = entry_within (length table) ks e (subst (IsBehind (length table)) is (behind_more k (length table) l.entry h.within h.behind)) w
 
 entry_lighter : (table : List NominalTerm) (ks : List Task) (e : Entry) → weigh table (begun e ++ ks) < expanded_size (entry_term table e) + expanded_size (entry_term table e) + weigh table ks

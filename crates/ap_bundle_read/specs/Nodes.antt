@@ -9,14 +9,14 @@ use Rattle.ap_bundle_read.specs.declared.nodes.NodeLine.{NodeLine}
 use Rattle.ap_bundle_read.specs.declared.nodes.NodeLine.TheVariants as line
 
 abbrev pub node_of : Node → nodes.Node NominalTerm
-node_of (node.Atom k names ts) = nodes.atom k names.items (map term_of ts.items)
+node_of (node.Atom u) = nodes.atom u.value.clause u.value.names (map term_of u.value.terms)
 node_of node.Eq = nodes.equal
 node_of node.Fresh = nodes.fresh
 node_of node.True = nodes.succeed
 node_of node.And = nodes.both
 node_of node.Left = nodes.left
 node_of node.Right = nodes.right
-node_of (node.Exists t) = nodes.exists (term_of t)
+node_of (node.Exists t) = nodes.exists (term_of t.value)
 node_of (node.New a) = nodes.new a
 
 abbrev pub node_line_of : NodeLine → lines.NodeLine NominalTerm

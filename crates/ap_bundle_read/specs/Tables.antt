@@ -53,38 +53,38 @@ abbrev pub AreLines : List Line → Type 0
 AreLines [] = Unit {0}
 AreLines (l ∷ ls) = AreLines ls × IsBehind (length ls) l.entry × (l.size ≡ exact_size (expanded_size (entry_term (terms_back ls) l.entry)))
 
-abbrev pub terms_in : Table → List NominalTerm
-terms_in t = terms_back (reverse t.lines.items)
+abbrev pub table_terms : Table → List NominalTerm
+table_terms t = terms_back (reverse t.lines.items)
 
-abbrev pub IsTable : Table → Type 0
-IsTable t = AreLines (reverse t.lines.items)
+abbrev pub IsReadTable : Table → Type 0
+IsReadTable t = AreLines (reverse t.lines.items)
 
 -- how terms are read
 abbrev pub reader_of : Terms → Reader NominalTerm
 reader_of way.InFull = read_term
-reader_of (way.Shared t) = read_shared (terms_in t)
+reader_of (way.Shared t) = read_shared (table_terms t)
 
 abbrev pub AreReady : Terms → Type 0
 AreReady way.InFull = Unit {0}
-AreReady (way.Shared t) = IsTable t
+AreReady (way.Shared t) = IsReadTable t
 
 -- a layer round the first of these terms, or the first two
-abbrev pub closed : Layer → List NominalTerm → Option (List NominalTerm)
-closed layer.Pair ts = first ts >>= λ right. first right.1 >>= λ left. Some (terms.pair left.0 right.0 ∷ left.1)
-closed (layer.App f) ts = first ts >>= λ part. Some (terms.app f part.0 ∷ part.1)
-closed (layer.Abs a) ts = first ts >>= λ part. Some (terms.abs a part.0 ∷ part.1)
+abbrev pub layer_closed : Layer → List NominalTerm → Option (List NominalTerm)
+layer_closed layer.Pair ts = first ts >>= λ right. first right.1 >>= λ left. Some (terms.pair left.0 right.0 ∷ left.1)
+layer_closed (layer.App f) ts = first ts >>= λ part. Some (terms.app f part.0 ∷ part.1)
+layer_closed (layer.Abs a) ts = first ts >>= λ part. Some (terms.abs a part.0 ∷ part.1)
 
 -- the terms that tasks, the next one first, make on top of others
 abbrev pub made_by : List NominalTerm → List Task → List NominalTerm → Option (List NominalTerm)
 made_by table [] ts = Some ts
 made_by table (task.Line i ∷ ks) ts = made_by table ks (at table i ∷ ts)
-made_by table (task.Close l ∷ ks) ts = closed l ts >>= made_by table ks
+made_by table (task.Close l ∷ ks) ts = layer_closed l ts >>= made_by table ks
 
 -- the lines that tasks name are among so many
-abbrev pub AreWithin : ℕ → List Task → Type 0
-AreWithin n [] = Unit {0}
-AreWithin n (task.Line i ∷ ks) = (i < n) × AreWithin n ks
-AreWithin n (task.Close l ∷ ks) = AreWithin n ks
+abbrev pub AreTasksWithin : ℕ → List Task → Type 0
+AreTasksWithin n [] = Unit {0}
+AreTasksWithin n (task.Line i ∷ ks) = (i < n) × AreTasksWithin n ks
+AreTasksWithin n (task.Close l ∷ ks) = AreTasksWithin n ks
 
 -- how much the tasks have to do
 abbrev pub weigh : List NominalTerm → List Task → ℕ

@@ -18,7 +18,6 @@ use crate::nodes::{Node, read_nodes};
 use crate::place::{Place, wrong};
 use crate::table::term_lines::Terms;
 use ap_bundle::faults::BundleKind;
-use ap_defs::lists::List;
 use ap_defs::memory::Memory;
 use ap_defs::outcomes::{ClauseUse, Derivation};
 use ap_defs::terms::{Name, Term};
@@ -61,27 +60,18 @@ fn right_onto(alloc: Global, stack: Vec<Derivation>) -> Result<Option<Vec<Deriva
 
 fn atom_onto(
     alloc: Global,
-    clause: u32,
-    names: Vec<Name>,
-    terms: Vec<Term>,
+    used: Box<ClauseUse>,
     stack: Vec<Derivation>,
 ) -> Result<Option<Vec<Derivation>>, Memory>
     ensures { IfOk result (λ r. option_map (λ v. stacked derivation_of v.items) r
-        ≡ tree.over_first (derivation.atom clause names.items (map term_of terms.items))
+        ≡ tree.over_first
+        (derivation.atom used.value.clause used.value.names (map term_of used.value.terms))
         (stacked derivation_of stack.items)) }
 {
     let mut stack = stack;
     let Some(body) = first_derivation(&mut stack) else {
         return Ok(None);
     };
-    let used = Box::new(
-        alloc,
-        ClauseUse {
-            clause,
-            names: List::of(names),
-            terms: List::of(terms),
-        },
-    )?;
     let body = Box::new(alloc, body)?;
     stack.push(Derivation::Atom(used, body))?;
     Ok(Some(stack))
@@ -89,17 +79,17 @@ fn atom_onto(
 
 fn exists_onto(
     alloc: Global,
-    term: Term,
+    term: Box<Term>,
     stack: Vec<Derivation>,
 ) -> Result<Option<Vec<Derivation>>, Memory>
     ensures { IfOk result (λ r. option_map (λ v. stacked derivation_of v.items) r
-        ≡ tree.over_first (derivation.exists (term_of term)) (stacked derivation_of stack.items)) }
+        ≡ tree.over_first (derivation.exists (term_of term.value))
+        (stacked derivation_of stack.items)) }
 {
     let mut stack = stack;
     let Some(child) = first_derivation(&mut stack) else {
         return Ok(None);
     };
-    let term = Box::new(alloc, term)?;
     let child = Box::new(alloc, child)?;
     stack.push(Derivation::Exists(term, child))?;
     Ok(Some(stack))
@@ -160,7 +150,7 @@ fn node_onto(
         ≡ tree.node_onto (node_of node) (stacked derivation_of stack.items)) }
 {
     match node {
-        Node::Atom(clause, names, terms) => atom_onto(alloc, clause, names, terms, stack),
+        Node::Atom(used) => atom_onto(alloc, used, stack),
         Node::Eq => leaf_onto(Derivation::Eq, stack),
         Node::Fresh => leaf_onto(Derivation::Fresh, stack),
         Node::True => leaf_onto(Derivation::True, stack),

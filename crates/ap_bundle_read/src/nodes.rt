@@ -6,7 +6,7 @@ ghost use Rattle.ap_defs.specs.Terms.{term_of};
 ghost use Rattle.ap_bundle.specs.Nodes as tree;
 ghost use Rattle.ap_bundle.specs.Readers.{repeated};
 ghost use Rattle.ap_bundle.specs.Reading as spec;
-ghost use Rattle.ap_bundle_read.specs.Nodes.{node_of, node_line_of};
+ghost use Rattle.ap_bundle_read.specs.Nodes.{node_line_of, node_of};
 ghost use Rattle.ap_bundle_read.specs.Outcomes.{Gives, place_of};
 ghost use Rattle.ap_bundle_read.specs.Tables.{AreReady, reader_of};
 
@@ -15,20 +15,23 @@ use crate::line_forms::{name_form, node_form};
 use crate::place::{Place, words_at, wrong};
 use crate::table::term_lines::{Terms, read_term};
 use ap_bundle::faults::BundleKind;
+use ap_defs::lists::List;
+use ap_defs::outcomes::ClauseUse;
 use ap_defs::terms::{Name, Term};
 use std::alloc::{AllocError, Global};
 
-/// A node without its children.
+/// A node without its children. It takes 24 bytes: what it brings stands in a box of its own, as in the
+/// derivation that is made of it.
 #[derive(Drop)]
 pub(crate) enum Node {
-    Atom(u32, Vec<Name>, Vec<Term>),
+    Atom(Box<ClauseUse>),
     Eq,
     Fresh,
     True,
     And,
     Left,
     Right,
-    Exists(Term),
+    Exists(Box<Term>),
     New(Name),
 }
 
@@ -117,7 +120,17 @@ fn read_atom<'a>(
 {
     let (names, rest) = read_names(alloc, name_count, place)?;
     let (all, rest) = read_terms(alloc, terms, term_count, rest)?;
-    Ok((Node::Atom(clause, names, all), rest))
+    let names = List::of(names);
+    let terms = List::of(all);
+    let used = Box::new(
+        alloc,
+        ClauseUse {
+            clause,
+            names,
+            terms,
+        },
+    )?;
+    Ok((Node::Atom(used), rest))
 }
 
 /// The term of an `exists`.
@@ -132,6 +145,7 @@ fn read_exists<'a>(
         (spec.read_exists (reader_of terms.now) (place_of place.entry)) }
 {
     let (term, rest) = read_term(alloc, terms, place)?;
+    let term = Box::new(alloc, term)?;
     Ok((Node::Exists(term), rest))
 }
 
@@ -189,7 +203,7 @@ fn children(node: &Node) -> u64
     match node {
         Node::Eq | Node::Fresh | Node::True => 0,
         Node::And => 2,
-        Node::Atom(_, _, _) | Node::Left | Node::Right | Node::Exists(_) | Node::New(_) => 1,
+        Node::Atom(_) | Node::Left | Node::Right | Node::Exists(_) | Node::New(_) => 1,
     }
 }
 

@@ -3,7 +3,7 @@
 // A line of the table costs what it says, however large its term is.
 ghost use Rattle.std.specs.Prelude.{◌≡◌, ◌<◌, ◌++◌, ◌+◌, ℕ, [], ◌∷◌, length, OnOk};
 ghost use Rattle.ap_bundle.specs.Tables.{expanded_size};
-ghost use Rattle.ap_bundle_read.specs.Tables.{IsBehind, IsTable, at, entry_term, exact_size, terms_in};
+ghost use Rattle.ap_bundle_read.specs.Tables.{IsBehind, IsReadTable, at, entry_term, exact_size, table_terms};
 
 pub(crate) mod entries;
 pub(crate) mod expanding;
@@ -51,8 +51,8 @@ fn sum_of(left: Option<u64>, right: Option<u64>) -> Option<u64>
 impl Table {
     /// No lines.
     fn new(alloc: Global) -> Table
-        ensures table { IsTable result }
-        ensures none { terms_in result ≡ [] }
+        ensures table { IsReadTable result }
+        ensures none { table_terms result ≡ [] }
     {
         Table {
             lines: Vec::new(alloc),
@@ -61,25 +61,26 @@ impl Table {
 
     /// How many lines there are.
     fn len(&self) -> usize
-        ensures { result ≡ length (terms_in self.now) }
+        ensures { result ≡ length (table_terms self.now) }
     {
         self.lines.len()
     }
 
     /// How large the term of a line is.
     fn size(&self, line: usize) -> Option<u64>
-        requires table { IsTable self.now }
-        requires within { line < length (terms_in self.now) }
-        ensures { result ≡ exact_size (expanded_size (at (terms_in self.now) line)) }
+        requires table { IsReadTable self.now }
+        requires within { line < length (table_terms self.now) }
+        ensures { result ≡ exact_size (expanded_size (at (table_terms self.now) line)) }
     {
         self.lines[line].size
     }
 
     /// How large the term of an entry is.
     fn entry_size(&self, entry: &Entry) -> Option<u64>
-        requires table { IsTable self.now }
-        requires behind { IsBehind (length (terms_in self.now)) entry.now }
-        ensures { result ≡ exact_size (expanded_size (entry_term (terms_in self.now) entry.now)) }
+        requires table { IsReadTable self.now }
+        requires behind { IsBehind (length (table_terms self.now)) entry.now }
+        ensures { result
+            ≡ exact_size (expanded_size (entry_term (table_terms self.now) entry.now)) }
     {
         match entry {
             Entry::Unit | Entry::Name(_) => Some(1),
@@ -94,11 +95,11 @@ impl Table {
 
     /// One line more.
     fn add(&mut self, entry: Entry) -> Result<(), Memory>
-        requires table { IsTable self.old }
-        requires behind { IsBehind (length (terms_in self.old)) entry }
-        ensures table { OnOk result (IsTable self.new) }
-        ensures terms { OnOk result (terms_in self.new
-            ≡ terms_in self.old ++ entry_term (terms_in self.old) entry ∷ []) }
+        requires table { IsReadTable self.old }
+        requires behind { IsBehind (length (table_terms self.old)) entry }
+        ensures table { OnOk result (IsReadTable self.new) }
+        ensures terms { OnOk result (table_terms self.new
+            ≡ table_terms self.old ++ entry_term (table_terms self.old) entry ∷ []) }
     {
         let size = self.entry_size(&entry);
         self.lines.push(Line { entry, size })?;

@@ -8,7 +8,7 @@ use Rattle.std.specs.List.{AllByRecursion as Each}
 use Rattle.ap_bundle.specs.Tables.{with_parts, with_term, with_terms, line_of, entry_words, Has, HasParts}
 use Rattle.ap_bundle.specs.declared.words.Word.{Word}
 use Rattle.ap_bundle_write.specs.declared.table.Task.{Task}
-use Rattle.ap_bundle_write.specs.Tables.{Step, enter, leave, step_of, steps_of, steps_in, words_by}
+use Rattle.ap_bundle_write.specs.Tables.{Step, enter, leave, task_step, steps_of, steps_in, words_by}
 use Rattle.ap_bundle.proofs.TableLemmas.{terms_append, has_term, line_term, term_more, map_line_more, each_has_more}
 
 -- the parts of the term come first, the last of them before the others, and then these
@@ -91,8 +91,8 @@ lighter (terms.abs a t) ks = omega arith
 lighter (terms.susp p x) ks = omega arith
 
 -- the task on top of a stack is the next step
-pub steps_last : (ks : List Task) (k : Task) → steps_of (ks ++ k ∷ []) ≡ step_of k ∷ steps_of ks
-steps_last ks k = ap reverse (map-append step_of ks (k ∷ [])) ∙ reverse-append (map step_of ks) (step_of k ∷ [])
+pub steps_last : (ks : List Task) (k : Task) → steps_of (ks ++ k ∷ []) ≡ task_step k ∷ steps_of ks
+steps_last ks k = ap reverse (map-append task_step ks (k ∷ [])) ∙ reverse-append (map task_step ks) (task_step k ∷ [])
 
 tail_of : (ws vs : List Word) (ns ms : List ℕ) → ◌≡◌ {A = Option (List Word × List ℕ)} (Some (ws, ns)) (Some (vs, ms)) → ns ≡ ms
 tail_of ws vs ns ms e = let p : ◌≡◌ {A = List Word × List ℕ} (ws, ns) (vs, ms) = cc in ap (λ (q : List Word × List ℕ). q.1) p

@@ -6,7 +6,7 @@ use Rattle.ap_bundle.specs.declared.version.Version.{Version}
 use Rattle.ap_bundle.specs.declared.version.Version.TheVariants.{One, Two}
 use Rattle.ap_bundle.specs.declared.words.Head.TheVariants as head
 use Rattle.ap_bundle.specs.Tables.{grown, line_of, entry_words}
-use Rattle.ap_bundle.specs.Written.{line_as, term_line, counted, head_line, entry_line}
+use Rattle.ap_bundle.specs.Written.{line_as, term_line, counted_line, head_line, entry_line}
 use Rattle.ap_bundle_write.specs.Tables.{Writes, grown_as}
 use Rattle.ap_bundle.proofs.TableLemmas.{grown_append, has_grown, line_grown}
 
@@ -28,10 +28,10 @@ plain v table out more text e = record { table = sym (grown_as_none v table); te
 pub full_term : (table : List NominalTerm) (out more : List ℕ) (t : NominalTerm) → more ≡ out ++ term_line t → Writes One table table out more (t ∷ []) (λ way. way t)
 full_term table out more t e = record { table = refl; text = λ rest. e }
 
-pub shared_term : (old new : List NominalTerm) (out more : List ℕ) (t : NominalTerm) → new ≡ grown old (t ∷ []) → more ≡ out ++ counted head.R (line_of new t) → Writes Two old new out more (t ∷ []) (λ way. way t)
+pub shared_term : (old new : List NominalTerm) (out more : List ℕ) (t : NominalTerm) → new ≡ grown old (t ∷ []) → more ≡ out ++ counted_line head.R (line_of new t) → Writes Two old new out more (t ∷ []) (λ way. way t)
 shared_term old new out more t g e = record {
   table = g;
-  text = λ rest. e ∙ ap (λ n. out ++ counted head.R n) (ap (λ us. line_of us t) g ∙ sym (ap (λ us. line_of (grown us rest) t) g ∙ line_grown (grown old (t ∷ [])) rest t (has_grown old t)));
+  text = λ rest. e ∙ ap (λ n. out ++ counted_line head.R n) (ap (λ us. line_of us t) g ∙ sym (ap (λ us. line_of (grown us rest) t) g ∙ line_grown (grown old (t ∷ [])) rest t (has_grown old t)));
 }
 
 -- one after another

@@ -24,7 +24,7 @@ abbrev pub line_words : Table → List (List Word)
 line_words t = map (λ v. v.items) t.lines.keys
 
 -- each line has the words of its term, and each term stands with its parts
-pub record IsTable (t : Table) : Type 0 where
+pub record IsWrittenTable (t : Table) : Type 0 where
   pub lines : line_words t ≡ map (entry_words (held t)) (held t)
   pub parts : AllByRecursion (HasParts (held t)) (held t)
 
@@ -55,13 +55,13 @@ pub data Step : Type 0 where
   enter : NominalTerm → Step
   leave : NominalTerm → Step
 
-abbrev pub step_of : Task → Step
-step_of (tasks.Enter r) = enter (term_of r.now)
-step_of (tasks.Leave r) = leave (term_of r.now)
+abbrev pub task_step : Task → Step
+task_step (tasks.Enter r) = enter (term_of r.now)
+task_step (tasks.Leave r) = leave (term_of r.now)
 
 -- the steps that are left, the next one first
 abbrev pub steps_of : List Task → List Step
-steps_of ts = reverse (map step_of ts)
+steps_of ts = reverse (map task_step ts)
 
 -- the steps of a term
 abbrev pub steps_in : NominalTerm → List Step

@@ -7,7 +7,7 @@ ghost use Rattle.ap_bundle.specs.Nodes as nodes;
 ghost use Rattle.ap_bundle.specs.Nodes.{preorder};
 ghost use Rattle.ap_bundle.specs.Written.{node_line, node_lines, name_line, term_line};
 ghost use Rattle.ap_bundle_write.specs.Nodes.{children_back, first_node, node_terms, seen};
-ghost use Rattle.ap_bundle_write.specs.Tables.{IsTable, Writes, held};
+ghost use Rattle.ap_bundle_write.specs.Tables.{IsWrittenTable, Writes, held};
 
 use crate::forms::{push_name, push_term};
 use crate::lines::{write_count, write_line};
@@ -36,8 +36,8 @@ fn write_shared_term<'a>(
     table: &mut Table<'a>,
     term: &'a Term,
 ) -> Result<(), Memory>
-    requires { IsTable table.old }
-    ensures table { OnOk result (IsTable table.new) }
+    requires { IsWrittenTable table.old }
+    ensures table { OnOk result (IsWrittenTable table.new) }
     ensures text { OnOk result (Writes Version.Two (held table.old) (held table.new) out.old.items
         out.new.items (term_of term.now ∷ []) (λ way. way (term_of term.now))) }
 {
@@ -53,8 +53,8 @@ fn write_term<'a>(
     table: &mut Table<'a>,
     term: &'a Term,
 ) -> Result<(), Memory>
-    requires { IsTable table.old }
-    ensures table { OnOk result (IsTable table.new) }
+    requires { IsWrittenTable table.old }
+    ensures table { OnOk result (IsWrittenTable table.new) }
     ensures text { OnOk result (Writes version (held table.old) (held table.new) out.old.items
         out.new.items (term_of term.now ∷ []) (λ way. way (term_of term.now))) }
 {
@@ -72,8 +72,8 @@ pub(crate) fn write_terms<'a>(
     table: &mut Table<'a>,
     terms: &'a [Term],
 ) -> Result<(), Memory>
-    requires { IsTable table.old }
-    ensures table { OnOk result (IsTable table.new) }
+    requires { IsWrittenTable table.old }
+    ensures table { OnOk result (IsWrittenTable table.new) }
     ensures text { OnOk result (Writes version (held table.old) (held table.new) out.old.items
         out.new.items (map term_of terms.now) (λ way. flat_map way (map term_of terms.now))) }
 {
@@ -141,8 +141,8 @@ fn write_atom<'a>(
     names: &[Name],
     terms: &'a [Term],
 ) -> Result<(), Memory>
-    requires { IsTable table.old }
-    ensures table { OnOk result (IsTable table.new) }
+    requires { IsWrittenTable table.old }
+    ensures table { OnOk result (IsWrittenTable table.new) }
     ensures text { OnOk result (Writes version (held table.old) (held table.new) out.old.items
         out.new.items (map term_of terms.now) (λ way. node_lines way (nodes.atom clause names.now
         (map term_of terms.now)))) }
@@ -160,8 +160,8 @@ fn write_exists<'a>(
     table: &mut Table<'a>,
     term: &'a Term,
 ) -> Result<(), Memory>
-    requires { IsTable table.old }
-    ensures table { OnOk result (IsTable table.new) }
+    requires { IsWrittenTable table.old }
+    ensures table { OnOk result (IsWrittenTable table.new) }
     ensures text { OnOk result (Writes version (held table.old) (held table.new) out.old.items
         out.new.items (term_of term.now ∷ []) (λ way. node_lines way
         (nodes.exists (term_of term.now)))) }
@@ -189,8 +189,8 @@ fn write_first<'a>(
     table: &mut Table<'a>,
     derivation: &'a Derivation,
 ) -> Result<(), Memory>
-    requires { IsTable table.old }
-    ensures table { OnOk result (IsTable table.new) }
+    requires { IsWrittenTable table.old }
+    ensures table { OnOk result (IsWrittenTable table.new) }
     ensures text { OnOk result (Writes version (held table.old) (held table.new) out.old.items
         out.new.items (node_terms (first_node (derivation_of derivation.now))) (λ way. node_lines
         way (first_node (derivation_of derivation.now)))) }
@@ -242,8 +242,8 @@ pub(crate) fn write_derivation<'a>(
     table: &mut Table<'a>,
     derivation: &'a Derivation,
 ) -> Result<(), Memory>
-    requires { IsTable table.old }
-    ensures table { OnOk result (IsTable table.new) }
+    requires { IsWrittenTable table.old }
+    ensures table { OnOk result (IsWrittenTable table.new) }
     ensures text { OnOk result (Writes version (held table.old) (held table.new) out.old.items
         out.new.items (terms_in (derivation_of derivation.now)) (λ way. flat_map (node_lines way)
         (preorder (derivation_of derivation.now)))) }

@@ -3,7 +3,7 @@ ghost use Rattle.std.specs.Prelude.{◌≡◌, [], ◌∷◌, ◌++◌, map, OnO
 ghost use Rattle.std.specs.List.{join_with_byte};
 ghost use Rattle.std.specs.Fmt.{decimal};
 ghost use Rattle.ap_bundle.specs.Words.{line, word_text};
-ghost use Rattle.ap_bundle.specs.Written.{counted};
+ghost use Rattle.ap_bundle.specs.Written.{counted_line};
 ghost use Rattle.ap_bundle_write.specs.Spaces.{spaced};
 
 use ap_bundle::words::{Head, Word};
@@ -68,7 +68,7 @@ pub fn write_line(alloc: Global, out: &mut Vec<u8>, words: &[Word]) -> Result<()
 
 /// Writes a line of a word and a count.
 pub fn write_count(alloc: Global, out: &mut Vec<u8>, head: Head, count: usize) -> Result<(), Memory>
-    ensures { OnOk result (out.new.items ≡ out.old.items ++ counted head count) }
+    ensures { OnOk result (out.new.items ≡ out.old.items ++ counted_line head count) }
 {
     write_line(alloc, out, &[Word::Head(head), Word::Number(count as u64)])
 }

@@ -7,7 +7,7 @@ ghost use Rattle.std.specs.Option.{option_map};
 ghost use Rattle.ap_defs.specs.Terms.{term_of};
 ghost use Rattle.ap_bundle.specs.Forms as forms;
 ghost use Rattle.ap_bundle.specs.Tables.{HasParts, entry_words, grown, line_of, with_term};
-ghost use Rattle.ap_bundle_write.specs.Tables.{IsTable, held, steps_in, steps_of, words_by};
+ghost use Rattle.ap_bundle_write.specs.Tables.{IsWrittenTable, held, steps_in, steps_of, words_by};
 
 use crate::forms::{push_name, push_term};
 use ap_bundle::words::{Letter, Word};
@@ -138,7 +138,7 @@ fn push_steps<'a>(tasks: &mut Vec<Task<'a>>, term: &'a Term) -> Result<(), Memor
 impl<'a> Table<'a> {
     /// No terms.
     pub(crate) fn new(alloc: Global) -> Table<'a>
-        ensures table { IsTable result }
+        ensures table { IsWrittenTable result }
         ensures none { held result ≡ [] }
     {
         Table {
@@ -149,10 +149,10 @@ impl<'a> Table<'a> {
 
     /// One term more, unless it is there, by the words of its line. It answers its line.
     fn add(&mut self, term: &'a Term, words: Vec<Word>) -> Result<usize, Memory>
-        requires table { IsTable self.old }
+        requires table { IsWrittenTable self.old }
         requires parts { HasParts (held self.old) (term_of term.now) }
         requires words { words.items ≡ entry_words (held self.old) (term_of term.now) }
-        ensures table { OnOk result (IsTable self.new) }
+        ensures table { OnOk result (IsWrittenTable self.new) }
         ensures held { OnOk result (held self.new ≡ with_term (held self.old) (term_of term.now)) }
         ensures line { IfOk result (λ i. i ≡ line_of (held self.old) (term_of term.now)) }
     {
@@ -165,8 +165,8 @@ impl<'a> Table<'a> {
 
     /// A term with its parts more. It answers its line.
     pub(crate) fn enter(&mut self, alloc: Global, term: &'a Term) -> Result<usize, Memory>
-        requires { IsTable self.old }
-        ensures table { OnOk result (IsTable self.new) }
+        requires { IsWrittenTable self.old }
+        ensures table { OnOk result (IsWrittenTable self.new) }
         ensures held { OnOk result (held self.new ≡ grown (held self.old) (term_of term.now ∷ [])) }
         ensures line { IfOk result (λ i. i ≡ line_of (held self.new) (term_of term.now)) }
     {

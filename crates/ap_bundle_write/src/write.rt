@@ -7,7 +7,7 @@ ghost use Rattle.ap_bundle.specs.Tables.{terms_of};
 ghost use Rattle.ap_bundle.specs.Versions.{first_line};
 ghost use Rattle.ap_bundle.specs.Written as spec;
 ghost use Rattle.ap_bundle.specs.Written.{cond_line, entry_line, head_line, line_as, listed, proved_lines, text_lines, var_line, written, written_as, written_shared};
-ghost use Rattle.ap_bundle_write.specs.Tables.{IsTable, Writes, grown_as, held};
+ghost use Rattle.ap_bundle_write.specs.Tables.{IsWrittenTable, Writes, grown_as, held};
 
 use crate::derivations::{write_derivation, write_terms};
 use crate::forms::{push_name, push_type};
@@ -87,8 +87,8 @@ fn write_listed_binds<'a>(
     table: &mut Table<'a>,
     binds: &'a [Term],
 ) -> Result<(), Memory>
-    requires { IsTable table.old }
-    ensures table { OnOk result (IsTable table.new) }
+    requires { IsWrittenTable table.old }
+    ensures table { OnOk result (IsWrittenTable table.new) }
     ensures text { OnOk result (Writes version (held table.old) (held table.new) out.old.items
         out.new.items (map term_of binds.now) (λ way. listed Head.Binds way
         (map term_of binds.now))) }
@@ -105,8 +105,8 @@ fn write_answer<'a>(
     table: &mut Table<'a>,
     answer: &'a Answer,
 ) -> Result<(), Memory>
-    requires { IsTable table.old }
-    ensures table { OnOk result (IsTable table.new) }
+    requires { IsWrittenTable table.old }
+    ensures table { OnOk result (IsWrittenTable table.new) }
     ensures text { OnOk result (Writes version (held table.old) (held table.new) out.old.items
         out.new.items (answer_of answer.now).binds (λ way. spec.answer_lines way
         (answer_of answer.now))) }
@@ -124,8 +124,8 @@ fn write_proved<'a>(
     table: &mut Table<'a>,
     proved: &'a Proved,
 ) -> Result<(), Memory>
-    requires { IsTable table.old }
-    ensures table { OnOk result (IsTable table.new) }
+    requires { IsWrittenTable table.old }
+    ensures table { OnOk result (IsWrittenTable table.new) }
     ensures text { OnOk result (Writes version (held table.old) (held table.new) out.old.items
         out.new.items (terms_of (proved_of proved.now)) (λ way. proved_lines way
         (proved_of proved.now))) }
@@ -142,8 +142,8 @@ fn write_each<'a>(
     table: &mut Table<'a>,
     all: &'a [Proved],
 ) -> Result<(), Memory>
-    requires { IsTable table.old }
-    ensures table { OnOk result (IsTable table.new) }
+    requires { IsWrittenTable table.old }
+    ensures table { OnOk result (IsWrittenTable table.new) }
     ensures text { OnOk result (Writes version (held table.old) (held table.new) out.old.items
         out.new.items (flat_map terms_of (map proved_of all.now)) (λ way. flat_map
         (proved_lines way) (map proved_of all.now))) }
@@ -171,8 +171,8 @@ fn proved_part<'a>(
     table: &mut Table<'a>,
     proved: &'a [Proved],
 ) -> Result<Vec<u8>, Memory>
-    requires { IsTable table.old }
-    ensures table { OnOk result (IsTable table.new) }
+    requires { IsWrittenTable table.old }
+    ensures table { OnOk result (IsWrittenTable table.new) }
     ensures held { OnOk result (held table.new
         ≡ grown_as version (held table.old) (flat_map terms_of (map proved_of proved.now))) }
     ensures text { IfOk result (λ bytes. bytes.items
@@ -207,7 +207,7 @@ fn write_entries(alloc: Global, out: &mut Vec<u8>, lines: &[Vec<Word>]) -> Resul
 
 /// Writes the table.
 fn write_table(alloc: Global, out: &mut Vec<u8>, table: &Table<'_>) -> Result<(), Memory>
-    requires { IsTable table.now }
+    requires { IsWrittenTable table.now }
     ensures { OnOk result (out.new.items
         ≡ out.old.items ++ listed Head.Terms (entry_line (held table.now)) (held table.now)) }
 {

@@ -1,5 +1,6 @@
 -- The free names and the free variables of the identifiers that are left.
 use Rattle.std.proofs.Common.{◌≡◌, ◌<◌, ◌≤◌, ◌+◌, ℕ, zero, suc, Bool, true, false, ◌&&◌, List, [], ◌∷◌, map, length, get_or, drop, nat_eq, refl, sym, ap, ap₂, ◌∙◌, add-one, arith}
+use Rattle.ap_program.specs.FreeLocals.{free_sort, is_free_var}
 use Rattle.std.proofs.Math.Seq.{drop-cons}
 use Rattle.std.proofs.lemmas.Bool.Decides.{nat_tests}
 use Rattle.std.specs.Prelude.{◌==◌, if◌then◌else◌, Some, None}
@@ -15,12 +16,13 @@ use Rattle.ap_defs.specs.Renaming.{local_names, local_vars, name_unless, var_unl
 use Rattle.ap_defs.specs.Resolution.{kinds_of}
 use Rattle.ap_defs.specs.Terms.{NominalTerm, term_of}
 use Rattle.ap_defs.specs.Types as types
-use Rattle.ap_defs.specs.Types.{NominalConstructor, NominalKind, NominalLocal, NominalType, local_of, locals_of}
+use Rattle.ap_defs.specs.Types.{NominalConstructor, NominalKind, NominalType, local_of, locals_of}
 use Rattle.ap_defs.specs.Typing.{VarTypes, one}
 use Rattle.ap_checks.specs.OpenEnvironments.{open_term_for}
 use Rattle.ap_checks.specs.TypeTests.{has_kind, have_kinds, have_sorts, is_typed}
-use Rattle.ap_checker.specs.FreeLocals as free
-use Rattle.ap_checker.specs.FreeLocals.{free_sort, free_type, is_free_var}
+use Rattle.ap_program.specs.FreeLocals as free
+use Rattle.ap_checker.specs.FreeLocals as free_types
+use Rattle.ap_checker.specs.FreeLocals.{free_type}
 
 drop-past : {A : Type 0} (xs : List A) (n : ℕ) → length xs ≤ n → drop n xs ≡ []
 drop-past [] zero h = refl
@@ -41,12 +43,12 @@ a_name true k n s as' h = cc
 a_name false (types.var t) n s as' h = cc
 a_name false (types.name r) n s as' h = let same : r ≡ s = cc in ap (λ (t : ℕ). record { sort = t; num = n } ∷ as') same
 
-no_var : (b : Bool) (k : NominalKind) (n : ℕ) (xs : List Var) → free.var_unless b k ≡ false → var_unless b k n xs ≡ xs
+no_var : (b : Bool) (k : NominalKind) (n : ℕ) (xs : List Var) → free.var_when b k ≡ false → var_unless b k n xs ≡ xs
 no_var true k n xs h = refl
 no_var false (types.name s) n xs h = refl
 no_var false (types.var t) n xs h = cc
 
-a_var : (b : Bool) (k : NominalKind) (n : ℕ) (xs : List Var) → free.var_unless b k ≡ true → var_unless b k n xs ≡ record { num = n } ∷ xs
+a_var : (b : Bool) (k : NominalKind) (n : ℕ) (xs : List Var) → free.var_when b k ≡ true → var_unless b k n xs ≡ record { num = n } ∷ xs
 a_var true k n xs h = cc
 a_var false (types.name s) n xs h = cc
 a_var false (types.var t) n xs h = refl
@@ -107,12 +109,12 @@ module _ (ls : List Local) (i : ℕ) (l : Local) (h : i < length ls) (k : l ≡ 
       ∙ ap (λ n. open_term_for (local_vars (i + 1) (locals_of (drop (i + 1) ls))) (map term_of (drop n ts)) x) (sym (add-one place))
 
 -- Sorts and types of what is left.
-no_type : (b : Bool) (k : NominalKind) (n : ℕ) (xs : List Var) → free.type_unless b k ≡ None → var_unless b k n xs ≡ xs
+no_type : (b : Bool) (k : NominalKind) (n : ℕ) (xs : List Var) → free_types.type_unless b k ≡ None → var_unless b k n xs ≡ xs
 no_type true k n xs h = refl
 no_type false (types.name s) n xs h = refl
 no_type false (types.var t) n xs h = cc
 
-a_type : (b : Bool) (k : NominalKind) (n : ℕ) (xs : List Var) (t : NominalType) → free.type_unless b k ≡ Some t → (var_unless b k n xs ≡ record { num = n } ∷ xs) × (k ≡ types.var t)
+a_type : (b : Bool) (k : NominalKind) (n : ℕ) (xs : List Var) (t : NominalType) → free_types.type_unless b k ≡ Some t → (var_unless b k n xs ≡ record { num = n } ∷ xs) × (k ≡ types.var t)
 a_type true k n xs t h = cc
 a_type false (types.name s) n xs t h = cc
 a_type false (types.var u) n xs t h = let same : u ≡ t = cc in (refl, ap types.var same)

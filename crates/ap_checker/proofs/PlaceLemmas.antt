@@ -1,5 +1,6 @@
 -- What stands for an identifier is found at its place.
 use Rattle.std.proofs.Common.{◌≡◌, ◌<◌, ◌≤◌, ◌+◌, ℕ, zero, suc, Bool, true, false, ◌==◌, ◌&&◌, if◌then◌else◌, List, [], ◌∷◌, map, length, get_or, drop, refl, sym, ap, ◌∙◌, add-one, arith}
+use Rattle.ap_program.specs.FreeLocals.{free_sort, is_free_var}
 use Rattle.std.proofs.lemmas.Bool.Decides.{nat_tests}
 use Rattle.std.specs.Prelude.{Some}
 use Rattle.ap_defs.specs.declared.goals.Local.{Local}
@@ -15,8 +16,7 @@ use Rattle.ap_defs.specs.Terms.{NominalTerm, term_of}
 use Rattle.ap_defs.specs.Types as types
 use Rattle.ap_defs.specs.Types.{NominalKind, NominalLocal, local_of, locals_of}
 use Rattle.ap_checks.specs.OpenEnvironments.{open_term_for}
-use Rattle.ap_checker.specs.FreeLocals as free
-use Rattle.ap_checker.specs.FreeLocals.{free_sort, is_free_var}
+use Rattle.ap_program.specs.FreeLocals as free
 use Rattle.ap_checker.specs.Places.{next_if, places_from}
 use Rattle.ap_checker.proofs.LocalLemmas.{locals_left}
 
@@ -72,14 +72,14 @@ names_pass false (types.var t) m n as' names c h = refl
 names_pass false (types.name s) m n as' names c h = name_passed (record { sort = s; num = m }) c as' names n (other_num s m c h)
 
 name_here : (b : Bool) (k : NominalKind) (m n v : ℕ) (as' names : List Name) (ps qs : List ℕ) (c : Name) → c.num ≡ m → free.sort_unless b k ≡ Some c.sort
-    → name_for (name_unless b k m as') (drop n names) c ≡ get_or names (get_or (if free.var_unless b k then (v ∷ ps) else (n ∷ qs)) 0 0) c
+    → name_for (name_unless b k m as') (drop n names) c ≡ get_or names (get_or (if free.var_when b k then (v ∷ ps) else (n ∷ qs)) 0 0) c
 name_here true k m n v as' names ps qs c e f = absurd (cc)
 name_here false (types.var t) m n v as' names ps qs c e f = absurd (cc)
 name_here false (types.name s) m n v as' names ps qs c e f = let same : s ≡ c.sort = cc in name_met (record { sort = s; num = m }) c as' names n (same_num s m c same e)
 
 place_next : (b : Bool) (k : NominalKind) (n v j : ℕ) (ls : List NominalLocal)
-    → get_or (if free.var_unless b k then (v ∷ places_from n (suc v) ls) else (n ∷ places_from (next_if (free.sort_unless b k) n) v ls)) (suc j) 0
-    ≡ get_or (places_from (next_if (free.sort_unless b k) n) (if free.var_unless b k then suc v else v) ls) j 0
+    → get_or (if free.var_when b k then (v ∷ places_from n (suc v) ls) else (n ∷ places_from (next_if (free.sort_unless b k) n) v ls)) (suc j) 0
+    ≡ get_or (places_from (next_if (free.sort_unless b k) n) (if free.var_when b k then suc v else v) ls) j 0
 place_next true k n v j ls = refl
 place_next false (types.var t) n v j ls = refl
 place_next false (types.name s) n v j ls = refl
@@ -160,13 +160,13 @@ lower_var : (m : ℕ) (y : Var) → y.num < m → var_eq (record { num = m }) y 
 lower_var m y h = grind (arith, nat_tests)
 
 vars_pass : (b : Bool) (k : NominalKind) (m v : ℕ) (xs : List Var) (ts : List Term) (y : Var) → m < y.num
-    → open_term_for (var_unless b k m xs) (map term_of (drop v ts)) y ≡ open_term_for xs (map term_of (drop (if free.var_unless b k then suc v else v) ts)) y
+    → open_term_for (var_unless b k m xs) (map term_of (drop v ts)) y ≡ open_term_for xs (map term_of (drop (if free.var_when b k then suc v else v) ts)) y
 vars_pass true k m v xs ts y h = refl
 vars_pass false (types.name s) m v xs ts y h = refl
 vars_pass false (types.var t) m v xs ts y h = var_passed (record { num = m }) y xs ts v (other_var m y h)
 
-var_here : (b : Bool) (k : NominalKind) (m n v : ℕ) (xs : List Var) (ts : List Term) (ps qs : List ℕ) (y : Var) → y.num ≡ m → free.var_unless b k ≡ true
-    → open_term_for (var_unless b k m xs) (map term_of (drop v ts)) y ≡ term_of (get_or ts (get_or (if free.var_unless b k then (v ∷ ps) else (n ∷ qs)) 0 0) terms.Unit)
+var_here : (b : Bool) (k : NominalKind) (m n v : ℕ) (xs : List Var) (ts : List Term) (ps qs : List ℕ) (y : Var) → y.num ≡ m → free.var_when b k ≡ true
+    → open_term_for (var_unless b k m xs) (map term_of (drop v ts)) y ≡ term_of (get_or ts (get_or (if free.var_when b k then (v ∷ ps) else (n ∷ qs)) 0 0) terms.Unit)
 var_here true k m n v xs ts ps qs y e f = absurd (cc)
 var_here false (types.name s) m n v xs ts ps qs y e f = absurd (cc)
 var_here false (types.var t) m n v xs ts ps qs y e f = var_met (record { num = m }) y xs ts v (same_var m y e)
@@ -183,7 +183,7 @@ var_at (l ∷ ls) m n v (suc j) ts y d e h f =
     ∙ var_at ls (suc m) (next_if (free_sort k) n) (if is_free_var k then suc v else v) j ts y d (omega (arith, e)) (omega (arith, h)) f
     ∙ ap (λ i. term_of (get_or ts i terms.Unit)) (sym (place_next k.bound k.kind n v j (locals_of ls)))
 
-var_apart_by : (b : Bool) (k : NominalKind) (m : ℕ) (xs : List Var) (ts : List NominalTerm) (y : Var) → (free.var_unless b k ≡ true → var_eq (record { num = m }) y ≡ false)
+var_apart_by : (b : Bool) (k : NominalKind) (m : ℕ) (xs : List Var) (ts : List NominalTerm) (y : Var) → (free.var_when b k ≡ true → var_eq (record { num = m }) y ≡ false)
     → ((us : List NominalTerm) → open_term_for xs us y ≡ term_of terms.Unit) → open_term_for (var_unless b k m xs) ts y ≡ term_of terms.Unit
 var_apart_by true k m xs ts y h rest = rest ts
 var_apart_by false (types.name s) m xs ts y h rest = rest ts

@@ -12,17 +12,17 @@ use Rattle.ap_defs.specs.GroundProofs.{clause_at}
 use Rattle.ap_defs.specs.Resolution.{kinds_of}
 use Rattle.ap_defs.specs.Terms.{NominalTerm}
 use Rattle.ap_defs.specs.Types.{NominalKind}
-use Rattle.ap_checks.specs.Checks.{Refusal, at, by_clause, count, first_of, no, refusal, reported, verdict, with_clause}
+use Rattle.ap_checks.specs.Checks.{Refusal, at, tests_by_clause, node_count, first_refusal, no, refusal, reported, verdict, with_clause}
 use Rattle.ap_checks.specs.OpenEnvironments.{OpenEnvironment, open_environment, put_in}
 use Rattle.ap_checker.specs.declared.rules.Rule.{Rule}
 use Rattle.ap_checker.specs.declared.scope.Standing.{Standing}
 use Rattle.ap_checker.specs.declared.walk.Pending.{Pending}
 use Rattle.ap_checker.specs.declared.walk.Place.{Place}
 use Rattle.ap_checker.specs.declared.walk.Walk.{Walk}
-use Rattle.ap_checker.specs.Rules.{number_of, refused}
+use Rattle.ap_checker.specs.Rules.{rule_number, refused}
 use Rattle.ap_checker.specs.Scopes.{environment_of, environment_with, nothing_put}
 use Rattle.ap_checker.proofs.ScopeLemmas.{environment_append}
-use Rattle.ap_checker.specs.Walks.{AreMarked, GoesOn, IsOnWay, IsVisited, derivation_at, first_left, goal_at, kinds_at, left_of, nodes_left, pending_at, refusal_at}
+use Rattle.ap_checker.specs.Walks.{ArePendingMarked, ChecksOn, IsOnWay, IsVisited, derivation_at, first_left, goal_at, kinds_at, pending_of, nodes_left, pending_at, refusal_at}
 
 take-whole : {A : Type 0} (xs : List A) → take (length xs) xs ≡ xs
 take-whole [] = refl
@@ -31,54 +31,54 @@ take-whole (x ∷ xs) = ap (λ ys. x ∷ ys) (take-whole xs)
 last_first : {A : Type 0} (xs : List A) (x : A) → reverse (xs ++ x ∷ []) ≡ x ∷ reverse xs
 last_first xs x = reverse-append xs (x ∷ [])
 
-pub first_assoc : (a b c : Option Refusal) → first_of (first_of a b) c ≡ first_of a (first_of b c)
+pub first_assoc : (a b c : Option Refusal) → first_refusal (first_refusal a b) c ≡ first_refusal a (first_refusal b c)
 first_assoc None b c = refl
 first_assoc (Some r) b c = refl
 
-pub marked_higher : (m n : ℕ) (ts : List Pending) → m ≤ n → AreMarked m ts → AreMarked n ts
+pub marked_higher : (m n : ℕ) (ts : List Pending) → m ≤ n → ArePendingMarked m ts → ArePendingMarked n ts
 marked_higher m n [] h k = tt
 marked_higher m n (t ∷ ts) h k = (omega (arith, k.0), k.1)
 
 module _ (p : NominalProgram) (a : NominalAnswer) where
   -- what is left depends only on what stands below the greatest mark
-  pub left_same : (top : ℕ) (ss us : List Standing) (ts : List Pending) (n : ℕ) → take top ss ≡ take top us → AreMarked top ts → first_left p a n ss ts ≡ first_left p a n us ts
+  pub left_same : (top : ℕ) (ss us : List Standing) (ts : List Pending) (n : ℕ) → take top ss ≡ take top us → ArePendingMarked top ts → first_left p a n ss ts ≡ first_left p a n us ts
   left_same top ss us [] n e m = refl
   left_same top ss us (t ∷ ts) n e m =
       let same : take t.mark ss ≡ take t.mark us = sym (take-take t.mark top ss m.0) ∙ ap (take t.mark) e ∙ take-take t.mark top us m.0 in
-      ap₂ first_of (ap (λ vs. refusal_at p a n t.place (environment_of vs)) same) (left_same t.mark ss us ts (n + count (derivation_at t.place)) same m.1)
+      ap₂ first_refusal (ap (λ vs. refusal_at p a n t.place (environment_of vs)) same) (left_same t.mark ss us ts (n + node_count (derivation_at t.place)) same m.1)
 
   -- a node is put in front, where more may stand than before
-  pub put_first : (ss us : List Standing) (ps : List Pending) (t : Place) (n : ℕ) → take (length ss) us ≡ ss → AreMarked (length ss) (reverse ps)
-      → first_left p a n us (reverse (ps ++ pending_at t (length us) ∷ [])) ≡ first_of (refusal_at p a n t (environment_of us)) (first_left p a (n + count (derivation_at t)) ss (reverse ps))
+  pub put_first : (ss us : List Standing) (ps : List Pending) (t : Place) (n : ℕ) → take (length ss) us ≡ ss → ArePendingMarked (length ss) (reverse ps)
+      → first_left p a n us (reverse (ps ++ pending_at t (length us) ∷ [])) ≡ first_refusal (refusal_at p a n t (environment_of us)) (first_left p a (n + node_count (derivation_at t)) ss (reverse ps))
   put_first ss us ps t n e m =
       ap (first_left p a n us) (last_first ps (pending_at t (length us)))
-      ∙ ap₂ first_of (ap (λ vs. refusal_at p a n t (environment_of vs)) (take-whole us))
-      (left_same (length ss) us ss (reverse ps) (n + count (derivation_at t)) (e ∙ sym (take-whole ss)) m)
+      ∙ ap₂ first_refusal (ap (λ vs. refusal_at p a n t (environment_of vs)) (take-whole us))
+      (left_same (length ss) us ss (reverse ps) (n + node_count (derivation_at t)) (e ∙ sym (take-whole ss)) m)
 
-put_nodes : (ps : List Pending) (t : Place) (n : ℕ) → nodes_left (reverse (ps ++ pending_at t n ∷ [])) ≡ count (derivation_at t) + nodes_left (reverse ps)
+put_nodes : (ps : List Pending) (t : Place) (n : ℕ) → nodes_left (reverse (ps ++ pending_at t n ∷ [])) ≡ node_count (derivation_at t) + nodes_left (reverse ps)
 put_nodes ps t n = ap nodes_left (last_first ps (pending_at t n))
 
-put_marked : (ps : List Pending) (t : Place) (n : ℕ) → AreMarked n (reverse ps) → AreMarked n (reverse (ps ++ pending_at t n ∷ []))
+put_marked : (ps : List Pending) (t : Place) (n : ℕ) → ArePendingMarked n (reverse ps) → ArePendingMarked n (reverse (ps ++ pending_at t n ∷ []))
 put_marked ps t n m = rw (last_first ps (pending_at t n)) (le_refl n, m)
 
 -- An atom's node, by what is known of its clause.
 pub atom_by : (p : NominalProgram) (a : NominalAnswer) (kinds : List NominalKind) (n k q : ℕ) (names : List Name) (ts us vs : List NominalTerm) (d : NominalDerivation) (e : OpenEnvironment) (c : NominalClause) (r : Option Rule)
-    → clause_at (clauses_of p.clauses q) k ≡ Some c → vs ≡ map (put_in e) us → ((rest : Option Refusal) → by_clause p a n names ts vs c rest ≡ first_of (refused n r) rest)
-    → refusal p a kinds n (nodes.atom k names ts d) (goals.atom q us) e ≡ first_of (refused n r) (refusal p a (kinds_of c.locals) (suc n) d c.body (open_environment c.locals names ts))
+    → clause_at (clauses_of p.clauses q) k ≡ Some c → vs ≡ map (put_in e) us → ((rest : Option Refusal) → tests_by_clause p a n names ts vs c rest ≡ first_refusal (refused n r) rest)
+    → refusal p a kinds n (nodes.atom k names ts d) (goals.atom q us) e ≡ first_refusal (refused n r) (refusal p a (kinds_of c.locals) (suc n) d c.body (open_environment c.locals names ts))
 atom_by p a kinds n k q names ts us vs d e c r h v f =
     let below : NominalClause → Option Refusal = λ c'. refusal p a (kinds_of c'.locals) (suc n) d c'.body (open_environment c'.locals names ts) in
-    ap (λ o. with_clause n o (λ c'. by_clause p a n names ts (map (put_in e) us) c' (below c'))) h ∙ ap (λ ws. by_clause p a n names ts ws c (below c)) (sym v) ∙ f (below c)
+    ap (λ o. with_clause n o (λ c'. tests_by_clause p a n names ts (map (put_in e) us) c' (below c'))) h ∙ ap (λ ws. tests_by_clause p a n names ts ws c (below c)) (sym v) ∙ f (below c)
 
 -- A node that is next, and all that is left.
 module _ (p : NominalProgram) (a : NominalAnswer) (w v : Walk) (t : Pending) where
-  pub next_first : (n : ℕ) → w.pending.items ≡ v.pending.items ++ t ∷ [] → first_left p a n w.standing.items (left_of w)
-      ≡ first_of (refusal_at p a n t.place (environment_of (take t.mark w.standing.items))) (first_left p a (n + count (derivation_at t.place)) w.standing.items (left_of v))
+  pub next_first : (n : ℕ) → w.pending.items ≡ v.pending.items ++ t ∷ [] → first_left p a n w.standing.items (pending_of w)
+      ≡ first_refusal (refusal_at p a n t.place (environment_of (take t.mark w.standing.items))) (first_left p a (n + node_count (derivation_at t.place)) w.standing.items (pending_of v))
   next_first n e = ap (λ ps. first_left p a n w.standing.items (reverse ps)) e ∙ ap (first_left p a n w.standing.items) (last_first v.pending.items t)
 
-pub next_marked : (w v : Walk) (t : Pending) (top : ℕ) → w.pending.items ≡ v.pending.items ++ t ∷ [] → AreMarked top (left_of w) → (t.mark ≤ top) × AreMarked t.mark (left_of v)
-next_marked w v t top e m = subst (AreMarked top) (ap reverse e ∙ last_first v.pending.items t) m
+pub next_marked : (w v : Walk) (t : Pending) (top : ℕ) → w.pending.items ≡ v.pending.items ++ t ∷ [] → ArePendingMarked top (pending_of w) → (t.mark ≤ top) × ArePendingMarked t.mark (pending_of v)
+next_marked w v t top e m = subst (ArePendingMarked top) (ap reverse e ∙ last_first v.pending.items t) m
 
-pub next_nodes : (w v : Walk) (t : Pending) → w.pending.items ≡ v.pending.items ++ t ∷ [] → nodes_left (left_of w) ≡ count (derivation_at t.place) + nodes_left (left_of v)
+pub next_nodes : (w v : Walk) (t : Pending) → w.pending.items ≡ v.pending.items ++ t ∷ [] → nodes_left (pending_of w) ≡ node_count (derivation_at t.place) + nodes_left (pending_of v)
 next_nodes w v t e = ap nodes_left (ap reverse e ∙ last_first v.pending.items t)
 
 -- What a visit makes of the walk.
@@ -87,19 +87,19 @@ module _ (p : NominalProgram) (a : NominalAnswer) (kinds : List NominalKind) (d 
   Before n = refusal p a kinds n d g (environment_of before.standing.items)
 
   -- nothing is below the node
-  pub goes_past : before ≡ after → AreMarked (length before.standing.items) (left_of before) → ((n : ℕ) → Before n ≡ None) → count d ≡ 1 → GoesOn p a kinds d g before after
+  pub goes_past : before ≡ after → ArePendingMarked (length before.standing.items) (pending_of before) → ((n : ℕ) → Before n ≡ None) → node_count d ≡ 1 → ChecksOn p a kinds d g before after
   goes_past same m h k = record {
     first = λ n.
-        ap (λ (w : Walk). first_left p a (suc n) w.standing.items (left_of w)) (sym same)
-        ∙ ap (λ m. first_left p a m before.standing.items (left_of before)) (omega (arith, k)) ∙ ap (λ o. first_of o (first_left p a (n + count d) before.standing.items (left_of before))) (sym (h n));
-    nodes = ap (λ (w : Walk). suc (nodes_left (left_of w))) (sym same) ∙ omega (arith, k);
-    marked = subst (λ (w : Walk). AreMarked (length w.standing.items) (left_of w)) same m;
+        ap (λ (w : Walk). first_left p a (suc n) w.standing.items (pending_of w)) (sym same)
+        ∙ ap (λ m. first_left p a m before.standing.items (pending_of before)) (omega (arith, k)) ∙ ap (λ o. first_refusal o (first_left p a (n + node_count d) before.standing.items (pending_of before))) (sym (h n));
+    nodes = ap (λ (w : Walk). suc (nodes_left (pending_of w))) (sym same) ∙ omega (arith, k);
+    marked = subst (λ (w : Walk). ArePendingMarked (length w.standing.items) (pending_of w)) same m;
   }
 
   -- one node is below it, where more stands
-  pub goes_below : (t : Place) (more : List Standing) → AreMarked (length before.standing.items) (left_of before) → after.standing.items ≡ before.standing.items ++ more
+  pub goes_below : (t : Place) (more : List Standing) → ArePendingMarked (length before.standing.items) (pending_of before) → after.standing.items ≡ before.standing.items ++ more
       → after.pending.items ≡ before.pending.items ++ pending_at t (length after.standing.items) ∷ []
-      → ((n : ℕ) → Before n ≡ refusal_at p a (suc n) t (environment_of after.standing.items)) → count d ≡ suc (count (derivation_at t)) → GoesOn p a kinds d g before after
+      → ((n : ℕ) → Before n ≡ refusal_at p a (suc n) t (environment_of after.standing.items)) → node_count d ≡ suc (node_count (derivation_at t)) → ChecksOn p a kinds d g before after
   goes_below t more m es ep h k =
       let ss = before.standing.items in
       let us = after.standing.items in
@@ -108,42 +108,42 @@ module _ (p : NominalProgram) (a : NominalAnswer) (kinds : List NominalKind) (d 
       let longer : length ss ≤ length us = omega (arith, ap length es, length-append ss more) in
       record {
         first = λ n.
-            let next : suc n + count (derivation_at t) ≡ n + count d = omega (arith, k) in
+            let next : suc n + node_count (derivation_at t) ≡ n + node_count d = omega (arith, k) in
             ap (λ qs. first_left p a (suc n) us (reverse qs)) ep ∙ put_first p a ss us ps t (suc n) front m
-            ∙ ap₂ first_of (sym (h n)) (ap (λ i. first_left p a i ss (reverse ps)) next);
+            ∙ ap₂ first_refusal (sym (h n)) (ap (λ i. first_left p a i ss (reverse ps)) next);
         nodes = ap (λ qs. suc (nodes_left (reverse qs))) ep ∙ ap suc (put_nodes ps t (length us)) ∙ omega (arith, k);
-        marked = subst (λ qs. AreMarked (length us) (reverse qs)) (sym ep) (put_marked ps t (length us) (marked_higher (length ss) (length us) (reverse ps) longer m));
+        marked = subst (λ qs. ArePendingMarked (length us) (reverse qs)) (sym ep) (put_marked ps t (length us) (marked_higher (length ss) (length us) (reverse ps) longer m));
       }
 
   -- one node is below it, where one thing more stands
-  pub goes_brought : (t : Place) (what : Standing) (mid : Walk) → AreMarked (length before.standing.items) (left_of before) → mid.standing.items ≡ before.standing.items ++ what ∷ []
+  pub goes_brought : (t : Place) (what : Standing) (mid : Walk) → ArePendingMarked (length before.standing.items) (pending_of before) → mid.standing.items ≡ before.standing.items ++ what ∷ []
       → mid.pending.items ≡ before.pending.items → after.standing.items ≡ mid.standing.items → after.pending.items ≡ mid.pending.items ++ pending_at t (length mid.standing.items) ∷ []
-      → ((n : ℕ) → Before n ≡ refusal_at p a (suc n) t (environment_with what (environment_of before.standing.items))) → count d ≡ suc (count (derivation_at t)) → GoesOn p a kinds d g before after
+      → ((n : ℕ) → Before n ≡ refusal_at p a (suc n) t (environment_with what (environment_of before.standing.items))) → node_count d ≡ suc (node_count (derivation_at t)) → ChecksOn p a kinds d g before after
   goes_brought t what mid m ms mp es ep h k =
       let whole = es ∙ ms in
       goes_below t (what ∷ []) m whole (ep ∙ ap₂ (λ ps us. ps ++ pending_at t (length us) ∷ []) mp (sym es))
       (λ n. h n ∙ ap (refusal_at p a (suc n) t) (sym (ap environment_of whole ∙ environment_append before.standing.items (what ∷ []) nothing_put))) k
 
   -- two nodes are below it
-  pub goes_both : (t u : Place) → AreMarked (length before.standing.items) (left_of before) → after.standing.items ≡ before.standing.items
+  pub goes_both : (t u : Place) → ArePendingMarked (length before.standing.items) (pending_of before) → after.standing.items ≡ before.standing.items
       → after.pending.items ≡ (before.pending.items ++ pending_at u (length before.standing.items) ∷ []) ++ pending_at t (length before.standing.items) ∷ []
-      → ((n : ℕ) → Before n ≡ first_of (refusal_at p a (suc n) t (environment_of before.standing.items)) (refusal_at p a (suc n + count (derivation_at t)) u (environment_of before.standing.items)))
-      → count d ≡ suc (count (derivation_at t) + count (derivation_at u)) → GoesOn p a kinds d g before after
+      → ((n : ℕ) → Before n ≡ first_refusal (refusal_at p a (suc n) t (environment_of before.standing.items)) (refusal_at p a (suc n + node_count (derivation_at t)) u (environment_of before.standing.items)))
+      → node_count d ≡ suc (node_count (derivation_at t) + node_count (derivation_at u)) → ChecksOn p a kinds d g before after
   goes_both t u m es ep h k =
       let ss = before.standing.items in
       let ps = before.pending.items in
       let qs = ps ++ pending_at u (length ss) ∷ [] in
-      let one : AreMarked (length ss) (reverse qs) = put_marked ps u (length ss) m in
+      let one : ArePendingMarked (length ss) (reverse qs) = put_marked ps u (length ss) m in
       record {
         first = λ n.
-            let i = suc n + count (derivation_at t) in
-            let next : i + count (derivation_at u) ≡ n + count d = omega (arith, k) in
+            let i = suc n + node_count (derivation_at t) in
+            let next : i + node_count (derivation_at u) ≡ n + node_count d = omega (arith, k) in
             ap₂ (λ us rs. first_left p a (suc n) us (reverse rs)) es ep ∙ put_first p a ss ss qs t (suc n) (take-whole ss) one
-            ∙ ap (first_of (refusal_at p a (suc n) t (environment_of ss))) (put_first p a ss ss ps u i (take-whole ss) m)
-            ∙ sym (first_assoc (refusal_at p a (suc n) t (environment_of ss)) (refusal_at p a i u (environment_of ss)) (first_left p a (i + count (derivation_at u)) ss (reverse ps)))
-            ∙ ap₂ first_of (sym (h n)) (ap (λ j. first_left p a j ss (reverse ps)) next);
-        nodes = ap (λ rs. suc (nodes_left (reverse rs))) ep ∙ ap suc (put_nodes qs t (length ss)) ∙ ap (λ j. suc (count (derivation_at t) + j)) (put_nodes ps u (length ss)) ∙ omega (arith, k);
-        marked = subst (λ rs. AreMarked (length after.standing.items) (reverse rs)) (sym ep) (subst (λ j. AreMarked j (reverse (qs ++ pending_at t (length ss) ∷ []))) (sym (ap length es)) (put_marked qs t (length ss) one));
+            ∙ ap (first_refusal (refusal_at p a (suc n) t (environment_of ss))) (put_first p a ss ss ps u i (take-whole ss) m)
+            ∙ sym (first_assoc (refusal_at p a (suc n) t (environment_of ss)) (refusal_at p a i u (environment_of ss)) (first_left p a (i + node_count (derivation_at u)) ss (reverse ps)))
+            ∙ ap₂ first_refusal (sym (h n)) (ap (λ j. first_left p a j ss (reverse ps)) next);
+        nodes = ap (λ rs. suc (nodes_left (reverse rs))) ep ∙ ap suc (put_nodes qs t (length ss)) ∙ ap (λ j. suc (node_count (derivation_at t) + j)) (put_nodes ps u (length ss)) ∙ omega (arith, k);
+        marked = subst (λ rs. ArePendingMarked (length after.standing.items) (reverse rs)) (sym ep) (subst (λ j. ArePendingMarked j (reverse (qs ++ pending_at t (length ss) ∷ []))) (sym (ap length es)) (put_marked qs t (length ss) one));
       }
 
 -- The numbers of nodes.
@@ -161,28 +161,28 @@ reported_next n m h = omega (arith, h, reported_least n, reported_least (suc n))
 module _ (p : NominalProgram) (a : NominalAnswer) (whole : Option Refusal) (node m : ℕ) (w before after : Walk) (t : Pending) (way : IsOnWay p a whole node w)
     (taken : w.pending.items ≡ before.pending.items ++ t ∷ []) (cut : before.standing.items ≡ take t.mark w.standing.items) (next : m ≡ min (node + 1) (2 ^ 64 - 1)) where
   abbrev later : Option Refusal
-  later = first_left p a (suc way.done + count (derivation_at t.place)) before.standing.items (left_of before)
+  later = first_left p a (suc way.done + node_count (derivation_at t.place)) before.standing.items (pending_of before)
 
-  marks : AreMarked t.mark (left_of before)
+  marks : ArePendingMarked t.mark (pending_of before)
   marks = (next_marked w before t (length w.standing.items) taken way.marked).1
 
-  rest_same : first_left p a (suc way.done + count (derivation_at t.place)) w.standing.items (left_of before) ≡ later
+  rest_same : first_left p a (suc way.done + node_count (derivation_at t.place)) w.standing.items (pending_of before) ≡ later
   rest_same =
-      left_same p a t.mark w.standing.items before.standing.items (left_of before) (suc way.done + count (derivation_at t.place))
+      left_same p a t.mark w.standing.items before.standing.items (pending_of before) (suc way.done + node_count (derivation_at t.place))
       (sym (ap (take t.mark) cut ∙ take-take t.mark t.mark w.standing.items (le_refl t.mark))) marks
 
-  whole_is : whole ≡ first_of (refusal_at p a (suc way.done) t.place (environment_of before.standing.items)) later
+  whole_is : whole ≡ first_refusal (refusal_at p a (suc way.done) t.place (environment_of before.standing.items)) later
   whole_is =
-      sym way.first ∙ next_first p a w before t (suc way.done) taken ∙ ap₂ first_of (ap (λ ss. refusal_at p a (suc way.done) t.place (environment_of ss)) (sym cut)) rest_same
+      sym way.first ∙ next_first p a w before t (suc way.done) taken ∙ ap₂ first_refusal (ap (λ ss. refusal_at p a (suc way.done) t.place (environment_of ss)) (sym cut)) rest_same
 
-  pub turn_refuses : (r : Option Rule) (k : Rule) → r ≡ Some k → IsVisited p a (kinds_at t.place) (derivation_at t.place) (goal_at t.place) before after r → no m (number_of k) ≡ verdict whole
+  pub turn_refuses : (r : Option Rule) (k : Rule) → r ≡ Some k → IsVisited p a (kinds_at t.place) (derivation_at t.place) (goal_at t.place) before after r → no m (rule_number k) ≡ verdict whole
   turn_refuses r k e v =
-      let refuses : (n : ℕ) → refusal_at p a n t.place (environment_of before.standing.items) ≡ Some (at n (number_of k)) = subst (IsVisited p a (kinds_at t.place) (derivation_at t.place) (goal_at t.place) before after) e v in
-      ap (λ n. no n (number_of k)) (next ∙ reported_next way.done node way.number) ∙ sym (ap verdict (whole_is ∙ ap (λ o. first_of o later) (refuses (suc way.done))))
+      let refuses : (n : ℕ) → refusal_at p a n t.place (environment_of before.standing.items) ≡ Some (at n (rule_number k)) = subst (IsVisited p a (kinds_at t.place) (derivation_at t.place) (goal_at t.place) before after) e v in
+      ap (λ n. no n (rule_number k)) (next ∙ reported_next way.done node way.number) ∙ sym (ap verdict (whole_is ∙ ap (λ o. first_refusal o later) (refuses (suc way.done))))
 
   pub turn_goes_on : (r : Option Rule) → r ≡ None → IsVisited p a (kinds_at t.place) (derivation_at t.place) (goal_at t.place) before after r → IsOnWay p a whole m after
   turn_goes_on r e v =
-      let on : GoesOn p a (kinds_at t.place) (derivation_at t.place) (goal_at t.place) before after = subst (IsVisited p a (kinds_at t.place) (derivation_at t.place) (goal_at t.place) before after) e v in
+      let on : ChecksOn p a (kinds_at t.place) (derivation_at t.place) (goal_at t.place) before after = subst (IsVisited p a (kinds_at t.place) (derivation_at t.place) (goal_at t.place) before after) e v in
       record {
         done = suc way.done;
         number = next ∙ reported_next way.done node way.number;

@@ -18,8 +18,8 @@ size_at t = size (placed_term t)
 abbrev pub mark_of : Compared → ℕ
 mark_of c = c.mark
 
-abbrev pub size_of : Compared → ℕ
-size_of c = size (placed_term c.left)
+abbrev pub compared_size : Compared → ℕ
+compared_size c = size (placed_term c.left)
 
 -- the first equals the second, each within its binders
 abbrev pub are_alike : Conds → List Swap → Compared → Bool

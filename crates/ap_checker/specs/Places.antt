@@ -1,7 +1,7 @@
 -- The place of each identifier among the free variables before it, if it is one, and else among the free names before it.
 use Rattle.std.specs.Prelude.{ℕ, suc, if◌then◌else◌, List, [], ◌∷◌, Option, Some, None}
+use Rattle.ap_program.specs.FreeLocals.{free_sort, is_free_var}
 use Rattle.ap_defs.specs.Types.{NominalLocal}
-use Rattle.ap_checker.specs.FreeLocals.{free_sort, is_free_var}
 
 -- one more than this, where there is something
 abbrev pub next_if : Option ℕ → ℕ → ℕ

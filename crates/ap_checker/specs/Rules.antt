@@ -6,17 +6,17 @@ use Rattle.ap_checks.specs.Checks.{NominalVerdict, Refusal, at, no, yes}
 use Rattle.ap_checker.specs.declared.rules.Rule.{Rule}
 use Rattle.ap_checker.specs.declared.rules.Rule.TheVariants as rules
 
-abbrev pub number_of : Rule → ℕ
-number_of rules.Shape = 1
-number_of rules.Clause = 2
-number_of rules.Count = 3
-number_of rules.Distinct = 4
-number_of rules.Typing = 5
-number_of rules.Head = 6
-number_of rules.Equal = 7
-number_of rules.Fresh = 8
-number_of rules.NewName = 9
-number_of rules.Answer = 10
+abbrev pub rule_number : Rule → ℕ
+rule_number rules.Shape = 1
+rule_number rules.Clause = 2
+rule_number rules.Count = 3
+rule_number rules.Distinct = 4
+rule_number rules.Typing = 5
+rule_number rules.Head = 6
+rule_number rules.Equal = 7
+rule_number rules.Fresh = 8
+rule_number rules.NewName = 9
+rule_number rules.Answer = 10
 
 abbrev pub word_of : Rule → List ℕ
 word_of rules.Shape = codes "Shape"
@@ -33,7 +33,7 @@ word_of rules.Answer = codes "Answer"
 -- the refusal of the node with this number, if a rule refuses it
 abbrev pub refused : ℕ → Option Rule → Option Refusal
 refused n None = None
-refused n (Some r) = Some (at n (number_of r))
+refused n (Some r) = Some (at n (rule_number r))
 
 -- a verdict of the program
 abbrev pub verdict_said : Verdict → NominalVerdict

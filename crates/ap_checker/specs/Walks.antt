@@ -6,14 +6,14 @@ use Rattle.ap_defs.specs.Goals.{NominalGoal, NominalProgram, NominalQuery, goal_
 use Rattle.ap_defs.specs.Renaming.{local_names}
 use Rattle.ap_defs.specs.Resolution.{kinds_of}
 use Rattle.ap_defs.specs.Types.{NominalKind, locals_of}
-use Rattle.ap_checks.specs.Checks.{Refusal, at, count, first_of, refusal, reported}
+use Rattle.ap_checks.specs.Checks.{Refusal, at, node_count, first_refusal, refusal, reported}
 use Rattle.ap_checks.specs.OpenEnvironments.{OpenEnvironment, open_environment}
 use Rattle.ap_checker.specs.declared.rules.Rule.{Rule}
 use Rattle.ap_checker.specs.declared.scope.Standing.{Standing}
 use Rattle.ap_checker.specs.declared.walk.Pending.{Pending}
 use Rattle.ap_checker.specs.declared.walk.Place.{Place}
 use Rattle.ap_checker.specs.declared.walk.Walk.{Walk}
-use Rattle.ap_checker.specs.Rules.{number_of}
+use Rattle.ap_checker.specs.Rules.{rule_number}
 use Rattle.ap_checker.specs.Scopes.{environment_of}
 
 abbrev pub derivation_at : Place → NominalDerivation
@@ -35,40 +35,40 @@ refusal_at p a n t e = refusal p a (kinds_at t) n (derivation_at t) (goal_at t) 
 -- the first refusal of all that is left, the next node first, where that has this number
 abbrev pub first_left : NominalProgram → NominalAnswer → ℕ → List Standing → List Pending → Option Refusal
 first_left p a n ss [] = None
-first_left p a n ss (t ∷ ts) = first_of (refusal_at p a n t.place (environment_of (take t.mark ss))) (first_left p a (n + count (derivation_at t.place)) ss ts)
+first_left p a n ss (t ∷ ts) = first_refusal (refusal_at p a n t.place (environment_of (take t.mark ss))) (first_left p a (n + node_count (derivation_at t.place)) ss ts)
 
 -- how many nodes are left
 abbrev pub nodes_left : List Pending → ℕ
 nodes_left [] = 0
-nodes_left (t ∷ ts) = count (derivation_at t.place) + nodes_left ts
+nodes_left (t ∷ ts) = node_count (derivation_at t.place) + nodes_left ts
 
 -- what stands where a node is, stands there also where a later one is
-abbrev pub AreMarked : ℕ → List Pending → Type 0
-AreMarked top [] = Unit {0}
-AreMarked top (t ∷ ts) = (t.mark ≤ top) × AreMarked t.mark ts
+abbrev pub ArePendingMarked : ℕ → List Pending → Type 0
+ArePendingMarked top [] = Unit {0}
+ArePendingMarked top (t ∷ ts) = (t.mark ≤ top) × ArePendingMarked t.mark ts
 
 -- the node that is next stands last
-abbrev pub left_of : Walk → List Pending
-left_of w = reverse w.pending.items
+abbrev pub pending_of : Walk → List Pending
+pending_of w = reverse w.pending.items
 
 -- nothing refuses a node itself: what is below it is left, in front of what was left before
-pub record GoesOn (p : NominalProgram) (a : NominalAnswer) (kinds : List NominalKind) (d : NominalDerivation) (g : NominalGoal) (before after : Walk) : Type 0 where
-  pub first : (n : ℕ) → first_left p a (suc n) after.standing.items (left_of after)
-      ≡ first_of (refusal p a kinds n d g (environment_of before.standing.items)) (first_left p a (n + count d) before.standing.items (left_of before))
-  pub nodes : suc (nodes_left (left_of after)) ≡ count d + nodes_left (left_of before)
-  pub marked : AreMarked (length after.standing.items) (left_of after)
+pub record ChecksOn (p : NominalProgram) (a : NominalAnswer) (kinds : List NominalKind) (d : NominalDerivation) (g : NominalGoal) (before after : Walk) : Type 0 where
+  pub first : (n : ℕ) → first_left p a (suc n) after.standing.items (pending_of after)
+      ≡ first_refusal (refusal p a kinds n d g (environment_of before.standing.items)) (first_left p a (n + node_count d) before.standing.items (pending_of before))
+  pub nodes : suc (nodes_left (pending_of after)) ≡ node_count d + nodes_left (pending_of before)
+  pub marked : ArePendingMarked (length after.standing.items) (pending_of after)
 
 -- a node was looked at: a rule refuses it, or the walk goes on below it
 abbrev pub IsVisited : NominalProgram → NominalAnswer → List NominalKind → NominalDerivation → NominalGoal → Walk → Walk → Option Rule → Type 0
-IsVisited p a kinds d g before after None = GoesOn p a kinds d g before after
-IsVisited p a kinds d g before after (Some r) = (n : ℕ) → refusal p a kinds n d g (environment_of before.standing.items) ≡ Some (at n (number_of r))
+IsVisited p a kinds d g before after None = ChecksOn p a kinds d g before after
+IsVisited p a kinds d g before after (Some r) = (n : ℕ) → refusal p a kinds n d g (environment_of before.standing.items) ≡ Some (at n (rule_number r))
 
 -- so many nodes were looked at, and nothing refused them
 pub record IsOnWay (p : NominalProgram) (a : NominalAnswer) (whole : Option Refusal) (node : ℕ) (w : Walk) : Type 0 where
   pub done : ℕ
   pub number : node ≡ reported done
-  pub first : first_left p a (suc done) w.standing.items (left_of w) ≡ whole
-  pub marked : AreMarked (length w.standing.items) (left_of w)
+  pub first : first_left p a (suc done) w.standing.items (pending_of w) ≡ whole
+  pub marked : ArePendingMarked (length w.standing.items) (pending_of w)
 
 -- the first refusal below the goal of a query
 abbrev pub refusal_on : NominalProgram → NominalQuery → NominalAnswer → NominalDerivation → Option Refusal

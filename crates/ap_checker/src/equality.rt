@@ -9,7 +9,7 @@ ghost use Rattle.ap_defs.specs.Freshness.{Conds, alpha_under};
 ghost use Rattle.ap_defs.specs.Terms.{abs, susp, term_of};
 ghost use Rattle.ap_checker.specs.declared.equality.Compared.{Compared};
 ghost use Rattle.ap_checker.specs.Binders.{AreBinders, within_left, within_right};
-ghost use Rattle.ap_checker.specs.Comparisons.{are_alike, mark_of, size_of};
+ghost use Rattle.ap_checker.specs.Comparisons.{are_alike, mark_of, compared_size};
 ghost use Rattle.ap_checker.specs.Placed.{placed_term};
 ghost use Rattle.ap_checker.specs.Stacks.{AreWithin, IsTestedThere};
 
@@ -67,7 +67,7 @@ fn compare_bodies<'a>(
     ensures tested { IfOk result (λ yes. (ds : Conds) (c : Compared) →
         placed_term c.left ≡ abs binders.0 (placed_term left.entry) →
         placed_term c.right ≡ abs binders.1 (placed_term right.entry) →
-        IsTestedThere mark_of (are_alike ds) size_of c
+        IsTestedThere mark_of (are_alike ds) compared_size c
         walk.old.binders.pairs.items walk.old.pending.items
         walk.new.binders.pairs.items walk.new.pending.items yes) }
     ensures found { OnOk result (AreBinders walk.new.binders) }
@@ -122,7 +122,7 @@ fn compare<'a>(
         (reverse walk.old.pending.items) }
     requires found { AreBinders walk.old.binders }
     ensures tested { IfOk result (λ yes.
-        IsTestedThere mark_of (are_alike answer.now.conds) size_of at.entry
+        IsTestedThere mark_of (are_alike answer.now.conds) compared_size at.entry
         walk.old.binders.pairs.items walk.old.pending.items
         walk.new.binders.pairs.items walk.new.pending.items yes) }
     ensures found { OnOk result (AreBinders walk.new.binders) }

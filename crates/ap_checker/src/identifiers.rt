@@ -1,12 +1,12 @@
 //! The identifiers of an item, with their places.
 
 ghost use Rattle.std.specs.Prelude.{◌≡◌, ◌≤◌, ◌<◌, ◌==◌, ℕ, true, false, None, Some, zero, get_or, length, map, IfOk, MatchOption};
+ghost use Rattle.ap_program.specs.FreeLocals.{free_sort};
 ghost use Rattle.ap_defs.specs.GroundProofs.{name_for as name_beside};
 ghost use Rattle.ap_defs.specs.Renaming.{local_names, local_vars};
 ghost use Rattle.ap_defs.specs.Terms.{term_of, unit};
 ghost use Rattle.ap_defs.specs.Types.{local_of, locals_of};
 ghost use Rattle.ap_checks.specs.OpenEnvironments.{open_term_for};
-ghost use Rattle.ap_checker.specs.FreeLocals.{free_sort};
 ghost use Rattle.ap_checker.specs.Places.{places_from};
 
 use crate::lookups::{is_variable, sort_of};

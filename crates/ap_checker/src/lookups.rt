@@ -1,12 +1,12 @@
 //! Which identifiers of an item are free names and free variables; clauses and queries by number.
 
 ghost use Rattle.std.specs.Prelude.{◌≡◌, zero, length, MatchOption, None, Some};
+ghost use Rattle.ap_program.specs.FreeLocals.{free_sort, is_free_var};
 ghost use Rattle.ap_defs.specs.Goals.{clause_of, clauses_of, program_of, query_of};
 ghost use Rattle.ap_defs.specs.GroundProofs.{clause_at as clause_numbered};
 ghost use Rattle.ap_defs.specs.Renaming.{local_names, local_vars};
 ghost use Rattle.ap_defs.specs.Types.{local_of, locals_of};
 ghost use Rattle.ap_checks.specs.Checks.{query_at as query_numbered};
-ghost use Rattle.ap_checker.specs.FreeLocals.{free_sort, is_free_var};
 
 use ap_defs::goals::{Clause, Kind, Local, Program, Query};
 use ap_defs::terms::Term;

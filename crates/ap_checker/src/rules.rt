@@ -1,7 +1,7 @@
 //! The rules by which a node of a derivation, or its answer, is refused.
 
 ghost use Rattle.std.specs.Prelude.{◌≡◌};
-ghost use Rattle.ap_checker.specs.Rules.{number_of, word_of};
+ghost use Rattle.ap_checker.specs.Rules.{rule_number, word_of};
 
 /// Why a node is refused. At a node the least rule counts.
 #[derive(Clone, Copy, PartialEq, Eq)]
@@ -31,7 +31,7 @@ pub enum Rule {
 impl Rule {
     /// The number of the rule, from 1.
     pub fn number(self) -> u32
-        ensures { result ≡ number_of self }
+        ensures { result ≡ rule_number self }
     {
         match self {
             Rule::Shape => 1,

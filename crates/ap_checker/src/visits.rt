@@ -8,11 +8,11 @@ ghost use Rattle.ap_defs.specs.Goals as goals;
 ghost use Rattle.ap_defs.specs.Goals.{NominalProgram, clause_of, goal_of, program_of};
 ghost use Rattle.ap_defs.specs.Terms.{term_of};
 ghost use Rattle.ap_defs.specs.Types.{NominalKind};
-ghost use Rattle.ap_checks.specs.Checks.{Refusal, by_clause, first_of};
+ghost use Rattle.ap_checks.specs.Checks.{Refusal, tests_by_clause, first_refusal};
 ghost use Rattle.ap_checks.specs.OpenEnvironments.{put_in};
 ghost use Rattle.ap_checker.specs.Rules.{refused};
 ghost use Rattle.ap_checker.specs.Scopes.{environment_of};
-ghost use Rattle.ap_checker.specs.Walks.{AreMarked, IsVisited, derivation_at, goal_at, kinds_at, left_of};
+ghost use Rattle.ap_checker.specs.Walks.{ArePendingMarked, IsVisited, derivation_at, goal_at, kinds_at, pending_of};
 
 use crate::equality::are_equal_at;
 use crate::fits::{counts_fit, names_fit, term_fits, terms_fit};
@@ -52,9 +52,9 @@ fn rule_of_clause(
     clause: &Clause<Term>,
 ) -> Result<Option<Rule>, Memory>
     ensures { IfOk result (λ r. (n : ℕ) (rest : option Refusal) →
-        by_clause (program_of program.now) (answer_of answer.now) n used.now.names.now
+        tests_by_clause (program_of program.now) (answer_of answer.now) n used.now.names.now
         (map term_of used.now.terms.now) (map (put_in (environment_of standing.now))
-        (map term_of args.now)) (clause_of clause.now) rest ≡ first_of (refused n r) rest) }
+        (map term_of args.now)) (clause_of clause.now) rest ≡ first_refusal (refused n r) rest) }
 {
     let locals = clause.locals.items();
     if !counts_fit(locals, used.names, used.terms) {
@@ -96,7 +96,7 @@ fn visit_atom<'a>(
     pred: u32,
     args: &[Term],
 ) -> Result<Option<Rule>, Memory>
-    requires { AreMarked (length walk.old.standing.items) (left_of walk.old) }
+    requires { ArePendingMarked (length walk.old.standing.items) (pending_of walk.old) }
     ensures { IfOk result (λ r. (kinds : list NominalKind) →
         IsVisited (program_of program.now) (answer_of answer.now) kinds (derivations.atom
         used.now.number used.now.names.now (map term_of used.now.terms.now)
@@ -129,7 +129,7 @@ fn visit_equation(
     left: &Term,
     right: &Term,
 ) -> Result<Option<Rule>, Memory>
-    requires { AreMarked (length walk.now.standing.items) (left_of walk.now) }
+    requires { ArePendingMarked (length walk.now.standing.items) (pending_of walk.now) }
     ensures { IfOk result (λ r. (p : NominalProgram) (kinds : list NominalKind) →
         IsVisited p (answer_of answer.now) kinds derivations.equal (goals.equal (term_of left.now)
         (term_of right.now)) walk.now walk.now r) }
@@ -152,7 +152,7 @@ fn visit_freshness(
     left: &Term,
     right: &Term,
 ) -> Result<Option<Rule>, Memory>
-    requires { AreMarked (length walk.now.standing.items) (left_of walk.now) }
+    requires { ArePendingMarked (length walk.now.standing.items) (pending_of walk.now) }
     ensures { IfOk result (λ r. (p : NominalProgram) (kinds : list NominalKind) →
         IsVisited p (answer_of answer.now) kinds derivations.fresh (goals.fresh (term_of left.now)
         (term_of right.now)) walk.now walk.now r) }
@@ -177,7 +177,7 @@ fn visit_exists<'a>(
     term: &'a Term,
     below: Place<'a>,
 ) -> Result<Option<Rule>, Memory>
-    requires { AreMarked (length walk.old.standing.items) (left_of walk.old) }
+    requires { ArePendingMarked (length walk.old.standing.items) (pending_of walk.old) }
     ensures { IfOk result (λ r. IsVisited (program_of program.now) (answer_of answer.now)
         (kinds_at below.entry) (derivations.exists (term_of term.now) (derivation_at below.entry))
         (goals.exists x (goal_at below.entry)) walk.old walk.new r) }
@@ -200,7 +200,7 @@ fn visit_new<'a>(
     names: (Name, Name),
     below: Place<'a>,
 ) -> Result<Option<Rule>, Memory>
-    requires marked { AreMarked (length walk.old.standing.items) (left_of walk.old) }
+    requires marked { ArePendingMarked (length walk.old.standing.items) (pending_of walk.old) }
     requires goal { goal_of goal.now ≡ goals.new names.0 (goal_at below) }
     ensures { IfOk result (λ r. (p : NominalProgram) →
         IsVisited p (answer_of answer.now) (kinds_at below.entry) (derivations.new names.1
@@ -226,7 +226,7 @@ pub(crate) fn visit<'a>(
     walk: &mut Walk<'a>,
     at: Place<'a>,
 ) -> Result<Option<Rule>, Memory>
-    requires { AreMarked (length walk.old.standing.items) (left_of walk.old) }
+    requires { ArePendingMarked (length walk.old.standing.items) (pending_of walk.old) }
     ensures { IfOk result (λ r. IsVisited (program_of program.now) (answer_of answer.now)
         (kinds_at at.entry) (derivation_at at.entry) (goal_at at.entry) walk.old walk.new r) }
 {

@@ -29,7 +29,7 @@ use Rattle.ap_theory.proofs.TermLemmas.{number_same, var_same}
 use Rattle.ap_ground.specs.ShownInstances.{IsInstanceOf}
 use Rattle.ap_soundness.proofs.QueryLemmas.{height_mapped}
 use Rattle.ap_soundness.proofs.StepLemmas.{ground_proof}
-use Rattle.ap_checks.specs.Checks.{Checks, Refusal, are_different, at, by_clause, equal_each, count, first_of, have_counts, is_answer, is_fresh, is_new, refusal, test, verdict, with_clause, yes}
+use Rattle.ap_checks.specs.Checks.{Checks, Refusal, are_different, at, tests_by_clause, equal_each, node_count, first_refusal, have_counts, is_answer, is_fresh, is_new, refusal, test, verdict, with_clause, yes}
 use Rattle.ap_checks.specs.OpenEnvironments.{OpenEnvironment, open_environment, open_term_for, put_in, with_open_name, with_open_term}
 use Rattle.ap_checks.specs.StatementsOnChecks.{CheckedIsDerivable}
 use Rattle.ap_checks.specs.TypeTests.{has_kind, have_kinds, have_sorts, type_beside}
@@ -40,7 +40,7 @@ pub test_holds : (b : Bool) (r : Refusal) (rest : Option Refusal) → test b r r
 test_holds true r rest h = (refl, h)
 test_holds false r rest h = cc
 
-pub first_none : (o s : Option Refusal) → first_of o s ≡ None → (o ≡ None) × (s ≡ None)
+pub first_none : (o s : Option Refusal) → first_refusal o s ≡ None → (o ≡ None) × (s ≡ None)
 first_none None s h = (refl, h)
 first_none (Some r) s h = cc
 
@@ -145,7 +145,7 @@ module _ (p : NominalProgram) (a : NominalAnswer) (g : Grounding) (i : IsInstanc
       → ((c : NominalClause) → refusal p a (kinds_of c.locals) (suc n) d c.body (open_environment c.locals names ts) ≡ None
       → IsValid p (kinds_of c.locals) (ground_proof g d) c.body (closed_environment g (open_environment c.locals names ts)))
       → (o : Option NominalClause) → clause_at (clauses_of p.clauses q) k ≡ o
-      → with_clause n o (λ c. by_clause p a n names ts (map (put_in e) us) c (refusal p a (kinds_of c.locals) (suc n) d c.body (open_environment c.locals names ts))) ≡ None
+      → with_clause n o (λ c. tests_by_clause p a n names ts (map (put_in e) us) c (refusal p a (kinds_of c.locals) (suc n) d c.body (open_environment c.locals names ts))) ≡ None
       → IsValid p kinds (nodes.atom k names (map (grounded g) ts) (ground_proof g d)) (goals.atom q us) (closed_environment g e)
   atom_valid kinds n k q names ts d us e inner None here h = cc
   atom_valid kinds n k q names ts d us e inner (Some c) here h =
@@ -182,8 +182,8 @@ module _ (p : NominalProgram) (a : NominalAnswer) (g : Grounding) (i : IsInstanc
       subst (λ z. IsFresh z (instance (closed_environment g e) u)) (sym (put_grounded g e t)) (subst (λ z. IsFresh (grounded g (put_in e t)) z) (sym (put_grounded g e u)) fresh_put)
   checked_valid kinds n nodes.succeed goals.succeed e h = tt
   checked_valid kinds n (nodes.both d f) (goals.both s r) e h =
-      let parts = first_none (refusal p a kinds (suc n) d s e) (refusal p a kinds (suc n + count d) f r e) h in
-      (checked_valid kinds (suc n) d s e parts.0, checked_valid kinds (suc n + count d) f r e parts.1)
+      let parts = first_none (refusal p a kinds (suc n) d s e) (refusal p a kinds (suc n + node_count d) f r e) h in
+      (checked_valid kinds (suc n) d s e parts.0, checked_valid kinds (suc n + node_count d) f r e parts.1)
   checked_valid kinds n (nodes.left d) (goals.either s r) e h = checked_valid kinds (suc n) d s e h
   checked_valid kinds n (nodes.right d) (goals.either s r) e h = checked_valid kinds (suc n) d r e h
   checked_valid kinds n (nodes.exists t d) (goals.exists x s) e h =

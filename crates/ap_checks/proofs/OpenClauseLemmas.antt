@@ -26,7 +26,7 @@ use Rattle.ap_ground.proofs.ItemEnvironmentLemmas.{free_is_variable, vars_from}
 use Rattle.ap_ground.proofs.ShiftLemmas.{has_renamed}
 use Rattle.ap_soundness.proofs.ClauseLemmas as found
 use Rattle.ap_soundness.proofs.StepLemmas.{vars_in_nodes}
-use Rattle.ap_checks.specs.Checks.{Refusal, are_different, at, by_clause, equal_each, have_counts, refusal, with_clause}
+use Rattle.ap_checks.specs.Checks.{Refusal, are_different, at, tests_by_clause, equal_each, have_counts, refusal, with_clause}
 use Rattle.ap_checks.specs.OpenEnvironments.{open_environment, put_in}
 use Rattle.ap_checks.specs.TypeTests.{has_kind, have_kinds, have_sorts, type_beside}
 use Rattle.ap_checks.proofs.OpenBackwardLemmas.{open_unify_back}
@@ -45,7 +45,7 @@ module _ (p : NominalProgram) where
   clause_passes : (a : NominalAnswer) (n : ℕ) (names : List Name) (ts us : List NominalTerm) (c : NominalClause) (rest : Option Refusal)
       → have_counts c.locals names ts ≡ true → are_different names ≡ true → have_sorts (local_names 0 c.locals) names ≡ true
       → have_kinds cs (type_beside a.vars) (kinds_of c.locals) (local_vars 0 c.locals) ts ≡ true
-      → equal_each a.conds us (map (put_in (open_environment c.locals names ts)) c.args) ≡ true → rest ≡ None → by_clause p a n names ts us c rest ≡ None
+      → equal_each a.conds us (map (put_in (open_environment c.locals names ts)) c.args) ≡ true → rest ≡ None → tests_by_clause p a n names ts us c rest ≡ None
   clause_passes a n names ts us c rest counts different sorts kinds heads h =
       test_passes (have_counts c.locals names ts) (at n 3) _ counts
       (test_passes (are_different names) (at n 4) _ different
@@ -104,7 +104,7 @@ module _ (p : NominalProgram) where
         ∙ arguments_equal a.conds t n m kinds item_kinds ts c.args (predicate_at p.signature.predicates q) goal_typed args e in
         let inner : rest ≡ None = sym (refusal_sees_free p a item_kinds (suc j) d c.body (open_shifted m t) env (open_body_agrees p q c typed m t)) ∙ body in
         ap (λ o. with_clause j o
-        (λ b. by_clause p a j names us (map (put_in (open_shifted n t)) ts) b (refusal p a (kinds_of b.locals) (suc j) d b.body (open_environment b.locals names us)))) here
+        (λ b. tests_by_clause p a j names us (map (put_in (open_shifted n t)) ts) b (refusal p a (kinds_of b.locals) (suc j) d b.body (open_environment b.locals names us)))) here
         ∙ clause_passes a j names us (map (put_in (open_shifted n t)) ts) c rest
         (node_counts m (λ x. t (rename_var m x)) c.locals) (node_different m c.locals) (node_sorts m c.locals) kinds_hold heads inner
 

@@ -23,7 +23,7 @@ use Rattle.ap_theory.proofs.DisagreementLemmas.{has_front}
 use Rattle.ap_theory.proofs.PermutationLemmas.{has_without_name, name_tells}
 use Rattle.ap_theory.proofs.TermLemmas.{same_var}
 use Rattle.ap_ground.proofs.FreeIdentifierLemmas.{has_without_var, name_in_left, name_in_right, var_in_left, var_in_right}
-use Rattle.ap_checks.specs.Checks.{at, by_clause, count, first_of, is_fresh, is_new, refusal, test, with_clause}
+use Rattle.ap_checks.specs.Checks.{at, tests_by_clause, node_count, first_refusal, is_fresh, is_new, refusal, test, with_clause}
 use Rattle.ap_checks.specs.OpenEnvironments.{OpenEnvironment, open_environment, put_in, swap_in, with_open_name, with_open_term}
 use Rattle.ap_checks.specs.TypeTests.{has_kind, type_beside}
 
@@ -137,7 +137,7 @@ pub refusal_sees_free : (p : NominalProgram) (a : NominalAnswer) (kinds : List N
     → AgreeOpen goal e f → refusal p a kinds n d goal e ≡ refusal p a kinds n d goal f
 refusal_sees_free p a kinds n (nodes.atom k names ts d) (goals.atom q us) e f r =
     ap (λ vs. with_clause n (clause_at (clauses_of p.clauses q) k)
-    (λ c. by_clause p a n names ts vs c (refusal p a (kinds_of c.locals) (suc n) d c.body (open_environment c.locals names ts))))
+    (λ c. tests_by_clause p a n names ts vs c (refusal p a (kinds_of c.locals) (suc n) d c.body (open_environment c.locals names ts))))
     (puts_agree e f us r.names r.terms)
 refusal_sees_free p a kinds n nodes.equal (goals.equal t u) e f r =
     let k = two_agree e f t u r.names r.terms in
@@ -147,7 +147,7 @@ refusal_sees_free p a kinds n nodes.fresh (goals.fresh t u) e f r =
     ap₂ (λ v w. test (is_fresh a.conds v w) (at n 8) None) k.0 k.1
 refusal_sees_free p a kinds n nodes.succeed goals.succeed e f r = refl
 refusal_sees_free p a kinds n (nodes.both d c) (goals.both g h) e f r =
-    ap₂ first_of (refusal_sees_free p a kinds (suc n) d g e f (agree_left e f g h r)) (refusal_sees_free p a kinds (suc n + count d) c h e f (agree_right e f g h r))
+    ap₂ first_refusal (refusal_sees_free p a kinds (suc n) d g e f (agree_left e f g h r)) (refusal_sees_free p a kinds (suc n + node_count d) c h e f (agree_right e f g h r))
 refusal_sees_free p a kinds n (nodes.left d) (goals.either g h) e f r = refusal_sees_free p a kinds (suc n) d g e f (agree_left e f g h (agree_either e f g h r))
 refusal_sees_free p a kinds n (nodes.right d) (goals.either g h) e f r = refusal_sees_free p a kinds (suc n) d h e f (agree_right e f g h (agree_either e f g h r))
 refusal_sees_free p a kinds n (nodes.exists t d) (goals.exists x g) e f r =

@@ -32,7 +32,7 @@ use Rattle.ap_ground.proofs.ShiftLemmas.{free_vars_renamed, has_renamed, rename_
 use Rattle.ap_soundness.specs.FoundStates.{EachFound}
 use Rattle.ap_soundness.proofs.EachFoundLemmas.{Property, each_reduced}
 use Rattle.ap_soundness.proofs.StepLemmas.{FoundFrom, KindsAt, both_found, equal_found, exists_found, left_found, new_found, reduced_found, right_found, succeed_found, vars_in_nodes, vars_of_both}
-use Rattle.ap_checks.specs.Checks.{Refusal, at, count, first_of, is_fresh, is_new, refusal, test}
+use Rattle.ap_checks.specs.Checks.{Refusal, at, node_count, first_refusal, is_fresh, is_new, refusal, test}
 use Rattle.ap_checks.specs.OpenEnvironments.{put_in}
 use Rattle.ap_checks.specs.TypeTests.{has_kind, type_beside}
 use Rattle.ap_checks.proofs.OpenBackwardLemmas.{SolvesOpen, open_add_back, open_reduce_all_back, open_reduce_back, open_under_name, open_unify_back}
@@ -121,7 +121,7 @@ module _ (p : NominalProgram) where
           let v = i.from.known x m in
           subst (λ o. has_kind cs (type_beside a.vars) o (t x) ≡ true) (j.from.kept x.num (types.var v.0) v.1 ∙ sym v.1)
           (k x (vars_of_both p kinds n s depth x d e ∙ or_if_left (has_var x (vars_in_nodes d)) (has_var x (vars_in_nodes e)) m))) in
-          (first.0, λ m. ap (λ o. first_of o (refusal p a kinds (suc m + count (map_terms (applied t) d)) (map_terms (applied t) e) h (open_shifted n t))) (first.1 (suc m)) ∙ later.1 (suc m + count (map_terms (applied t) d)));
+          (first.0, λ m. ap (λ o. first_refusal o (refusal p a kinds (suc m + node_count (map_terms (applied t) d)) (map_terms (applied t) e) h (open_shifted n t))) (first.1 (suc m)) ∙ later.1 (suc m + node_count (map_terms (applied t) d)));
     }
 
     pub left_checked : (f h : NominalGoal) (r : State) (d : NominalDerivation) → Of f r d → Of (either f h) r (nodes.left d)

@@ -50,21 +50,21 @@ abbrev pub test : Bool → Refusal → Option Refusal → Option Refusal
 test true r rest = rest
 test false r rest = Some r
 
-abbrev pub first_of : Option Refusal → Option Refusal → Option Refusal
-first_of None o = o
-first_of (Some r) o = Some r
+abbrev pub first_refusal : Option Refusal → Option Refusal → Option Refusal
+first_refusal None o = o
+first_refusal (Some r) o = Some r
 
 -- how many nodes
-abbrev pub count : {T : Type 0} → DerivationOver T → ℕ
-count (nodes.atom k as' ts d) = suc (count d)
-count nodes.equal = 1
-count nodes.fresh = 1
-count nodes.succeed = 1
-count (nodes.both d e) = suc (count d + count e)
-count (nodes.left d) = suc (count d)
-count (nodes.right d) = suc (count d)
-count (nodes.exists t d) = suc (count d)
-count (nodes.new a d) = suc (count d)
+abbrev pub node_count : {T : Type 0} → DerivationOver T → ℕ
+node_count (nodes.atom k as' ts d) = suc (node_count d)
+node_count nodes.equal = 1
+node_count nodes.fresh = 1
+node_count nodes.succeed = 1
+node_count (nodes.both d e) = suc (node_count d + node_count e)
+node_count (nodes.left d) = suc (node_count d)
+node_count (nodes.right d) = suc (node_count d)
+node_count (nodes.exists t d) = suc (node_count d)
+node_count (nodes.new a d) = suc (node_count d)
 
 -- the names and terms are as many as the free names and free variables
 abbrev pub have_counts : List NominalLocal → List Name → List NominalTerm → Bool
@@ -90,8 +90,8 @@ abbrev pub is_new : Conds → Name → NominalGoal → OpenEnvironment → Bool
 is_new ds c goal e = list_all (λ b. not (name_eq (e.names b) c)) (free_names goal) && list_all (λ x. fresh_under ds c (e.terms x)) (free_vars goal)
 
 -- the tests of an atom's node by a clause, where the atom has these arguments, before what comes after them
-abbrev pub by_clause : NominalProgram → NominalAnswer → ℕ → List Name → List NominalTerm → List NominalTerm → NominalClause → Option Refusal → Option Refusal
-by_clause p a n names ts us c rest =
+abbrev pub tests_by_clause : NominalProgram → NominalAnswer → ℕ → List Name → List NominalTerm → List NominalTerm → NominalClause → Option Refusal → Option Refusal
+tests_by_clause p a n names ts us c rest =
     test (have_counts c.locals names ts) (at n 3)
     (test (are_different names) (at n 4)
     (test (have_sorts (local_names 0 c.locals) names && have_kinds p.signature.constructors (type_beside a.vars) (kinds_of c.locals) (local_vars 0 c.locals) ts) (at n 5)
@@ -105,11 +105,11 @@ with_clause n (Some c) check = check c
 abbrev pub refusal : NominalProgram → NominalAnswer → List NominalKind → ℕ → NominalDerivation → NominalGoal → OpenEnvironment → Option Refusal
 refusal p a kinds n (nodes.atom k names ts d) (goals.atom q us) e =
     with_clause n (clause_at (clauses_of p.clauses q) k)
-    (λ c. by_clause p a n names ts (map (put_in e) us) c (refusal p a (kinds_of c.locals) (suc n) d c.body (open_environment c.locals names ts)))
+    (λ c. tests_by_clause p a n names ts (map (put_in e) us) c (refusal p a (kinds_of c.locals) (suc n) d c.body (open_environment c.locals names ts)))
 refusal p a kinds n nodes.equal (goals.equal t u) e = test (alpha_under a.conds (put_in e t) (put_in e u)) (at n 7) None
 refusal p a kinds n nodes.fresh (goals.fresh t u) e = test (is_fresh a.conds (put_in e t) (put_in e u)) (at n 8) None
 refusal p a kinds n nodes.succeed goals.succeed e = None
-refusal p a kinds n (nodes.both d f) (goals.both g h) e = first_of (refusal p a kinds (suc n) d g e) (refusal p a kinds (suc n + count d) f h e)
+refusal p a kinds n (nodes.both d f) (goals.both g h) e = first_refusal (refusal p a kinds (suc n) d g e) (refusal p a kinds (suc n + node_count d) f h e)
 refusal p a kinds n (nodes.left d) (goals.either g h) e = refusal p a kinds (suc n) d g e
 refusal p a kinds n (nodes.right d) (goals.either g h) e = refusal p a kinds (suc n) d h e
 refusal p a kinds n (nodes.exists t d) (goals.exists x g) e =

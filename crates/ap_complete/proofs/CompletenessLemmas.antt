@@ -33,7 +33,7 @@ use Rattle.ap_ground.specs.ShownInstances.{shown_terms, vars_among}
 use Rattle.ap_ground.specs.TypedGroundings.{GivesTypes}
 use Rattle.ap_ground.proofs.ShownConditionLemmas.{meets_sorted}
 use Rattle.ap_complete.specs.CompleteAnswers.{HaveCompleteAnswers, IsShown}
-use Rattle.ap_complete.specs.Coverings.{HasNoStuckOut, IsCovered, IsInstance, IsShownInstance, SomeAnswer, SomeStuck, answered, is_stuck, replace_in_cond}
+use Rattle.ap_complete.specs.Coverings.{HasNoStuckOut, IsCovered, IsGroundInstance, IsShownInstance, SomeAnswer, SomeStuck, answered, is_stuck, replace_in_cond}
 use Rattle.ap_complete.specs.NumberedProofs.{IsAmong}
 use Rattle.ap_complete.specs.StatementsOnCompleteness.{AnswersAreComplete, DerivableIsAnswered, OutputsStandAlone, ProgramsAreComplete, WholeAnswersAreAll}
 use Rattle.ap_complete.proofs.CoveringLemmas.{proofs_covered}
@@ -62,8 +62,8 @@ each_answered P Q w (answers.stuck l ∷ os) h = each_answered P Q w os h
 pub derivable_answered : DerivableIsAnswered
 derivable_answered p restricted q t depth gs h = go (proofs_covered p restricted q t depth gs h.0 h.1.0 h.1.1 h.1.2)
   where
-    go : IsCovered p q depth gs (path h.1.0) → SomeAnswer (λ a. IsInstance p.signature.constructors q.locals a gs) (query_outs p.clauses depth q) ⊎ SomeStuck (query_outs p.clauses depth q)
-    go (answered a i w) = inl (some_answer (λ b. IsInstance p.signature.constructors q.locals b gs) (path h.1.0) a (query_outs p.clauses depth q) i w)
+    go : IsCovered p q depth gs (path h.1.0) → SomeAnswer (λ a. IsGroundInstance p.signature.constructors q.locals a gs) (query_outs p.clauses depth q) ⊎ SomeStuck (query_outs p.clauses depth q)
+    go (answered a i w) = inl (some_answer (λ b. IsGroundInstance p.signature.constructors q.locals b gs) (path h.1.0) a (query_outs p.clauses depth q) i w)
     go (is_stuck l i k) = inr (some_stuck l (query_outs p.clauses depth q) i)
 
 -- WHAT IS SHOWN
@@ -104,7 +104,7 @@ shown_equal h (w ∷ ws) (g ∷ gs) (t ∷ ts) e =
       | false ↦ (e.0, shown_equal h ws gs ts e.1)
     ]
 
-pub shown_instance : (cs : List NominalConstructor) (locals : List NominalLocal) (gs : List GroundTerm) (a : NominalAnswer) → IsInstance cs locals a gs → IsShownInstance cs locals a gs
+pub shown_instance : (cs : List NominalConstructor) (locals : List NominalLocal) (gs : List GroundTerm) (a : NominalAnswer) → IsGroundInstance cs locals a gs → IsShownInstance cs locals a gs
 shown_instance cs locals gs a i = record {
   swaps = i.swaps;
   leaves = i.leaves;
@@ -130,7 +130,7 @@ whole_answers_all p keeps q t depth uncut unstuck height gs h =
     let low = h.1.2 in
     let same = query_deeper p.clauses depth (depth + height) q (omega arith) uncut in
     elim (derivable_answered p keeps q t (depth + height) gs (h.0, (proof, h.1.1, omega arith))) [
-      | inl i ↦ subst (SomeAnswer (λ a. IsInstance p.signature.constructors q.locals a gs)) same i
+      | inl i ↦ subst (SomeAnswer (λ a. IsGroundInstance p.signature.constructors q.locals a gs)) same i
       | inr i ↦ absurd (none_stuck (query_outs p.clauses depth q) unstuck (subst SomeStuck same i))
     ]
 
@@ -141,9 +141,9 @@ answers_complete p keeps depth q t = record {
 }
   where
     each_shown : (p : NominalProgram) (depth : ℕ) (q : NominalQuery) (gs : List GroundTerm)
-        → SomeAnswer (λ a. IsInstance p.signature.constructors q.locals a gs) (query_outs p.clauses depth q) → IsShown p depth q gs
+        → SomeAnswer (λ a. IsGroundInstance p.signature.constructors q.locals a gs) (query_outs p.clauses depth q) → IsShown p depth q gs
     each_shown p depth q gs i =
-        each_answered (λ a. IsInstance p.signature.constructors q.locals a gs) (λ a. IsShownInstance p.signature.constructors q.locals a gs)
+        each_answered (λ a. IsGroundInstance p.signature.constructors q.locals a gs) (λ a. IsShownInstance p.signature.constructors q.locals a gs)
         (shown_instance p.signature.constructors q.locals gs) (query_outs p.clauses depth q) i
 
 queries_complete : (p : NominalProgram) → KeepsRestriction p → (depth : ℕ) (qs : List NominalQuery) → AreTypedQueries term_form p.signature qs → HaveCompleteAnswers p depth qs

@@ -26,7 +26,7 @@ use Rattle.ap_ground.proofs.FreeIdentifierLemmas.{proofs_see_free}
 use Rattle.ap_ground.proofs.ShownConditionLemmas.{grounded_alike}
 use Rattle.ap_soundness.specs.FoundStates.{EachAnswer}
 use Rattle.ap_soundness.proofs.AnswerLemmas.{answers_sound}
-use Rattle.ap_complete.specs.Coverings.{IsInstance, SomeAnswer}
+use Rattle.ap_complete.specs.Coverings.{IsGroundInstance, SomeAnswer}
 use Rattle.ap_complete.specs.StatementsOnCompleteness.{InstancesAreDerivable}
 use Rattle.ap_complete.proofs.CompletenessLemmas.{meets_moved}
 
@@ -63,7 +63,7 @@ module _ (s : List Swap) (f : Grounding) where
       (acted_instances ts)
 
 module _ (p : NominalProgram) (typed : IsTypedProgram p) (q : NominalQuery) (t : IsTypedQuery term_form p.signature q) (depth : ℕ) (gs : List GroundTerm) where
-  instance_derivable : (a : NominalAnswer) → InEachInstance p.signature.constructors a (λ hs. IsDerivable p q hs depth) → IsInstance p.signature.constructors q.locals a gs
+  instance_derivable : (a : NominalAnswer) → InEachInstance p.signature.constructors a (λ hs. IsDerivable p q hs depth) → IsGroundInstance p.signature.constructors q.locals a gs
       → IsDerivable p q gs depth
   instance_derivable a h i =
       let back : Grounding = λ x. act_ground (inverse i.swaps) (i.grounding x) in
@@ -77,7 +77,7 @@ module _ (p : NominalProgram) (typed : IsTypedProgram p) (q : NominalQuery) (t :
       (subst (λ (hs : List GroundTerm). IsDerivable p q hs depth) (acted_instances i.swaps i.grounding a.binds) acted)
 
   some_derivable : (os : List NominalOut) → EachAnswer (λ a. InEachInstance p.signature.constructors a (λ hs. IsDerivable p q hs depth)) os
-      → SomeAnswer (λ a. IsInstance p.signature.constructors q.locals a gs) os → IsDerivable p q gs depth
+      → SomeAnswer (λ a. IsGroundInstance p.signature.constructors q.locals a gs) os → IsDerivable p q gs depth
   some_derivable [] h i = absurd i
   some_derivable (answers.found l a ∷ os) h (inl i) = instance_derivable a h.0 i
   some_derivable (answers.found l a ∷ os) h (inr i) = some_derivable os h.1 i

@@ -29,7 +29,7 @@ LeavesNames locals s = (b : Name) → has_name b (local_names 0 locals) ≡ true
 
 -- Where swappings that leave the query's names act on the names of the bindings and of the conditions, the terms are an instance: a
 -- grounding gives each variable a term of its type, meets the conditions, and gives the terms up to renaming of binders.
-pub record IsInstance (cs : List NominalConstructor) (locals : List NominalLocal) (a : NominalAnswer) (gs : List GroundTerm) : Type 0 where
+pub record IsGroundInstance (cs : List NominalConstructor) (locals : List NominalLocal) (a : NominalAnswer) (gs : List GroundTerm) : Type 0 where
   pub swaps : List Swap
   pub leaves : LeavesNames locals swaps
   pub grounding : Grounding
@@ -65,7 +65,7 @@ pub record IsShownInstance (cs : List NominalConstructor) (locals : List Nominal
 -- A ground proof with this path is covered: an answer stands at the path of which the terms are an instance, or a branch is stuck at a
 -- beginning of the path.
 pub data IsCovered (p : NominalProgram) (q : NominalQuery) (depth : ℕ) (gs : List GroundTerm) (path : List ℕ) : Type 0 where
-  answered : (a : NominalAnswer) → IsAmong (answers.found path a) (query_outs p.clauses depth q) → IsInstance p.signature.constructors q.locals a gs → IsCovered p q depth gs path
+  answered : (a : NominalAnswer) → IsAmong (answers.found path a) (query_outs p.clauses depth q) → IsGroundInstance p.signature.constructors q.locals a gs → IsCovered p q depth gs path
   is_stuck : (l : List ℕ) → IsAmong (answers.stuck l) (query_outs p.clauses depth q) → has_prefix l path ≡ true → IsCovered p q depth gs path
 
 -- some answer has the property

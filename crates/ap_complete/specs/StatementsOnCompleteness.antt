@@ -18,7 +18,7 @@ use Rattle.ap_program.specs.NameRestriction.{AllPass, items_of}
 use Rattle.ap_program.specs.Typed.{IsTypedProgram, IsTypedQuery, term_form}
 use Rattle.ap_search.specs.Depths.{HasNoCutOut}
 use Rattle.ap_complete.specs.CompleteAnswers.{HasCompleteAnswers, IsCompleteProgram}
-use Rattle.ap_complete.specs.Coverings.{HasNoStuckOut, IsCovered, IsInstance, IsInstanceBy, SomeAnswer, SomeStuck, TakesApart}
+use Rattle.ap_complete.specs.Coverings.{HasNoStuckOut, IsCovered, IsGroundInstance, IsInstanceBy, SomeAnswer, SomeStuck, TakesApart}
 use Rattle.ap_complete.specs.NumberedProofs.{IsAmong}
 
 -- every ground proof no higher than the depth is covered
@@ -45,18 +45,18 @@ OutputsStandAlone = (p : NominalProgram) (q : NominalQuery) (depth : ℕ) (o : N
 -- so each derivable instance of a query is an instance of an answer, or a branch is stuck
 abbrev pub DerivableIsAnswered : Type 0
 DerivableIsAnswered = (p : NominalProgram) → KeepsRestriction p → (q : NominalQuery) → IsTypedQuery term_form p.signature q → (depth : ℕ) (gs : List GroundTerm)
-    → IsTypedDerivable p q depth gs → SomeAnswer (λ a. IsInstance p.signature.constructors q.locals a gs) (query_outs p.clauses depth q) ⊎ SomeStuck (query_outs p.clauses depth q)
+    → IsTypedDerivable p q depth gs → SomeAnswer (λ a. IsGroundInstance p.signature.constructors q.locals a gs) (query_outs p.clauses depth q) ⊎ SomeStuck (query_outs p.clauses depth q)
 
 -- and, where nothing was cut and nothing is stuck, of an answer, at any height
 abbrev pub WholeAnswersAreAll : Type 0
 WholeAnswersAreAll = (p : NominalProgram) → KeepsRestriction p → (q : NominalQuery) → IsTypedQuery term_form p.signature q → (depth : ℕ)
     → HasNoCutOut (query_outs p.clauses depth q) → HasNoStuckOut (query_outs p.clauses depth q)
-    → (height : ℕ) (gs : List GroundTerm) → IsTypedDerivable p q height gs → SomeAnswer (λ a. IsInstance p.signature.constructors q.locals a gs) (query_outs p.clauses depth q)
+    → (height : ℕ) (gs : List GroundTerm) → IsTypedDerivable p q height gs → SomeAnswer (λ a. IsGroundInstance p.signature.constructors q.locals a gs) (query_outs p.clauses depth q)
 
 -- and no other one is: an instance of an answer is derivable
 abbrev pub InstancesAreDerivable : Type 0
 InstancesAreDerivable = (p : NominalProgram) → IsTypedProgram p → (q : NominalQuery) → IsTypedQuery term_form p.signature q → (depth : ℕ) (gs : List GroundTerm)
-    → SomeAnswer (λ a. IsInstance p.signature.constructors q.locals a gs) (query_outs p.clauses depth q) → IsDerivable p q gs depth
+    → SomeAnswer (λ a. IsGroundInstance p.signature.constructors q.locals a gs) (query_outs p.clauses depth q) → IsDerivable p q gs depth
 
 -- the same in the terms of what is shown
 abbrev pub AnswersAreComplete : Type 0

@@ -2,11 +2,12 @@
 use Rattle.std.proofs.Common.{◌≡◌, ◌≢◌, ℕ, zero, suc, ◌+◌, ◌-◌, ◌<◌, ◌≤◌, Bool, true, false, ◌==◌, ◌&&◌, if◌then◌else◌, Some, None, List, [], ◌∷◌, ◌++◌, length, drop, sym, refl, ap, ◌∙◌, subst, true≢false, eq-eqb, ne_eqb, add-one, arith}
 use Rattle.std.specs.Bool.{MatchBool}
 use Rattle.std.proofs.lemmas.Bool.Decides.{nat_tests}
+use Rattle.std.proofs.lemmas.Bool.{and_parts}
 use mathlib.Core.Logic.{dite}
 use native.Mathlib.Decide.{ℕ_discrete}
 use Rattle.ap_defs.specs.Answers.{NominalOut}
 use Rattle.ap_paths.specs.Trees.{Choices, Outputs, InTree, times, Ascends, AreAtMost, AreKids}
-use Rattle.ap_paths.proofs.Frontiers.{both_true, kids_in}
+use Rattle.ap_paths.proofs.Frontiers.{kids_in}
 use Rattle.ap_core.specs.Covers.{covers, is_none, starts}
 use Rattle.ap_core.proofs.Places.{same_some, some_there}
 
@@ -50,7 +51,7 @@ sound : (at : Outputs) (p : List ℕ) (i n : ℕ) (ks : List ℕ) → covers at 
 sound at p i zero [] e = (tt, tt, λ k low high none. absurd (omega arith))
 sound at p i zero (k ∷ ks) e = absurd (true≢false (sym e))
 sound at p i (suc n) [] e =
-    let b = both_true (is_none (at (p ++ i ∷ []))) (covers at p (suc i) n []) e in
+    let b = and_parts (is_none (at (p ++ i ∷ []))) (covers at p (suc i) n []) e in
     let r = sound at p (suc i) n [] b.1 in (
       tt,
       tt,
@@ -70,7 +71,7 @@ sound at p i (suc n) (k ∷ ks) e =
           ))
       | false ↦ λ s h.
           (let ne = is_other k i s in
-          let b = both_true (is_none (at (p ++ i ∷ []))) (covers at p (suc i) n (k ∷ ks)) h in
+          let b = and_parts (is_none (at (p ++ i ∷ []))) (covers at p (suc i) n (k ∷ ks)) h in
           let r = sound at p (suc i) n (k ∷ ks) b.1 in (
             ((let z = r.0.0 in omega arith), r.0.1),
             under_same (suc i + n) (i + suc n) (k ∷ ks) (omega arith) r.1,

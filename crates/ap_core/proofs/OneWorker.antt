@@ -1,13 +1,13 @@
 -- One worker keeps the pending paths in order: its hand, and then its deque from the back.
 use Rattle.std.proofs.Common.{◌≡◌, ℕ, zero, suc, ◌&&◌, List, [], ◌∷◌, ◌++◌, sym, refl, ap, ◌∙◌, subst, append_assoc, true, nat_le, le-leb, leb-true, arith}
+use Rattle.std.proofs.lemmas.Bool.{and_parts}
 use Rattle.ap_core.specs.declared.events.Event.{Event}
 use Rattle.ap_core.specs.declared.events.Event.TheVariants.{Push, Pop, Steal, Split, Done, Skip}
 use Rattle.ap_paths.specs.Entries.{TreeEntry, split, done, skip, stop}
-use Rattle.ap_paths.specs.History.{kids_of, are_reached}
-use Rattle.ap_paths.proofs.Frontiers.{both_true}
+use Rattle.ap_paths.specs.History.{are_reached, kids_of}
 use Rattle.ap_paths.specs.Trees.{Choices, Outputs, AreKids, AreTrue}
 use Rattle.ap_defs.specs.Answers.{NominalOut}
-use Rattle.ap_paths.specs.Merging.{Ending, insert, found_before}
+use Rattle.ap_paths.specs.Merging.{Ending, found_before, insert}
 use Rattle.ap_core.specs.States.{State, Past, over, state}
 use Rattle.ap_core.specs.Traces.{Leads, AreSeats, IsInOrder}
 use Rattle.ap_core.specs.Laws.{AreInOrder}
@@ -126,7 +126,7 @@ entered c at (p ∷ ps) past (done seat q os ∷ es) seats true_of order reached
     let later = entered c at ps after es seats.1 true_of.1 order.1 reached' in
     (later.0, Done 0 ∷ later.1, (state (ps ∷ []) ([] ∷ []) after, done 0 p (at p) ∷ [], es, (ps, p, refl, refl), (p, ps, refl, refl), later.2, λ i. done (first i) (same i) (outs i) ∷ es))
 entered c at (p ∷ ps) past (skip seat q n ∷ es) seats true_of order reached =
-    let parts = both_true (nat_le n (found_before q past.ends)) (are_reached past.ends es) reached in
+    let parts = and_parts (nat_le n (found_before q past.ends)) (are_reached past.ends es) reached in
     let first : seat ≡ 0 = (let z = seats.0 in omega arith) in
     let same : q ≡ p = order.0 in
     let after = over past.ends (past.skipped ++ p ∷ []) in

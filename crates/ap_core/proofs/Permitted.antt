@@ -1,16 +1,17 @@
 -- Each legal and true history with no stop is that of some permitted list of events, for two workers or more.
 use Rattle.std.proofs.Common.{◌≡◌, ℕ, ◌+◌, ◌<◌, Bool, true, false, ◌||◌, List, [], ◌∷◌, ◌++◌, sym, refl, ap, ◌∙◌, subst, true≢false, nat_le, leb-true, arith}
+use Rattle.std.proofs.lemmas.Bool.{and_parts}
 use Rattle.ap_core.specs.declared.events.Event.{Event}
 use Rattle.ap_defs.specs.Answers.{NominalOut}
 use Rattle.ap_paths.specs.Entries.{TreeEntry, split, done, skip, stop}
 use Rattle.ap_paths.specs.History.{same_path, is_open, without, kids_of, has_stop, legal_from, are_reached, is_legal}
-use Rattle.ap_paths.specs.Trees.{Choices, Outputs, AreTrue}
+use Rattle.ap_paths.specs.Trees.{AreTrue, Choices, Outputs}
 use Rattle.ap_paths.specs.Weights.{weigh, one_if, is_it}
-use Rattle.ap_paths.specs.Merging.{insert, found_before}
+use Rattle.ap_paths.specs.Merging.{found_before, insert}
 use Rattle.ap_paths.proofs.Histories.{legal_parts}
-use Rattle.ap_paths.proofs.Frontiers.{both_true, path_same, same_itself, weigh_both, weigh_without}
+use Rattle.ap_paths.proofs.Frontiers.{path_same, same_itself, weigh_both, weigh_without}
 use Rattle.ap_core.specs.States.{State, Past, over, state, nones, start}
-use Rattle.ap_core.specs.Traces.{Leads, AreSeats}
+use Rattle.ap_core.specs.Traces.{AreSeats, Leads}
 use Rattle.ap_core.proofs.Moving.{Paths, single, Reaches, then_reaches, splits_there, ends_there, skips_there, elsewhere, starts}
 
 -- a path that weighs stands somewhere
@@ -36,7 +37,7 @@ follows : (c : Choices) (at : Outputs) (n : ℕ) (ps : Paths) (b : Bool) (v : �
     → legal_from ps b es ≡ true → are_reached past.ends es ≡ true → AreTrue c at es → has_stop es ≡ false → AreSeats n es → (t : State) × Reaches c at (state (nones n) (single n v ds) past) t es
 follows c at n ps b v ds past [] two lv tie legal reached true_of quiet seats = (state (nones n) (single n v ds) past, ([], (refl, refl)))
 follows c at n ps b v ds past (split w p ks ∷ es) two lv tie legal reached true_of quiet seats =
-    let l = both_true (is_open p ps) (legal_from (without p ps ++ kids_of p ks) (b || false) es) legal in
+    let l = and_parts (is_open p ps) (legal_from (without p ps ++ kids_of p ks) (b || false) es) legal in
     let there = open_stands p ps ds tie l.0 in
     let xs = there.0 in
     let ys = there.1 in
@@ -51,7 +52,7 @@ follows c at n ps b v ds past (split w p ks ∷ es) two lv tie legal reached tru
     let made = subst (λ (d : Paths). Reaches c at (state (nones n) (single n u.0 d) past) q (split w p ks ∷ [])) (sym there.2) next.2 in
     (later.0, then_reaches c at s m later.0 [] (split w p ks ∷ es) u.3 (then_reaches c at m q later.0 (split w p ks ∷ []) es made later.1))
 follows c at n ps b v ds past (done w p outs ∷ es) two lv tie legal reached true_of quiet seats =
-    let l = both_true (is_open p ps) (legal_from (without p ps) (b || false) es) legal in
+    let l = and_parts (is_open p ps) (legal_from (without p ps) (b || false) es) legal in
     let there = open_stands p ps ds tie l.0 in
     let xs = there.0 in
     let ys = there.1 in
@@ -68,8 +69,8 @@ follows c at n ps b v ds past (done w p outs ∷ es) two lv tie legal reached tr
     let made = subst (λ (d : Paths). Reaches c at (state (nones n) (single n u.0 d) past) q (done w p (at p) ∷ [])) (sym there.2) next.2 in
     (later.0, subst (λ (o : List NominalOut). Reaches c at s later.0 (done w p o ∷ es)) (sym true_of.0) (then_reaches c at s m later.0 [] (done w p (at p) ∷ es) u.3 (then_reaches c at m q later.0 (done w p (at p) ∷ []) es made later.1)))
 follows c at n ps b v ds past (skip w p k ∷ es) two lv tie legal reached true_of quiet seats =
-    let l = both_true (is_open p ps) (legal_from (without p ps) (b || false) es) legal in
-    let r = both_true (nat_le k (found_before p past.ends)) (are_reached past.ends es) reached in
+    let l = and_parts (is_open p ps) (legal_from (without p ps) (b || false) es) legal in
+    let r = and_parts (nat_le k (found_before p past.ends)) (are_reached past.ends es) reached in
     let there = open_stands p ps ds tie l.0 in
     let xs = there.0 in
     let ys = there.1 in

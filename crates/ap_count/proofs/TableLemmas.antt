@@ -5,9 +5,9 @@ use Rattle.std.proofs.lemmas.List.{append-nil}
 use Rattle.std.specs.Global.{Global}
 use Rattle.ap_defs.specs.declared.goals.Clause.{Clause}
 use Rattle.ap_defs.specs.declared.terms.Term.{Term}
-use Rattle.ap_defs.specs.Goals.{NominalClause, clause_of, clauses_of}
+use Rattle.ap_defs.specs.Goals.{NominalClause, clause_of, clauses_of, program_in}
 use Rattle.ap_defs.specs.GroundProofs.{clause_at}
-use Rattle.ap_count.specs.Uses.{program_in, saturated, use_row, use_rows, use_table}
+use Rattle.ap_count.specs.Uses.{saturated, use_row, use_rows, use_table}
 use Rattle.ap_count.specs.Tables.{one_more, one_more_at, with_use_at}
 
 -- noughts for clauses, and for those of each predicate

@@ -4,8 +4,8 @@ use Rattle.std.specs.Global.{Global}
 use Rattle.ap_count.specs.Uses.{ClauseUse, saturated}
 
 -- a table of the program, without where it lies in memory
-abbrev pub table_of : Vec (Vec ℕ Global) Global → List (List ℕ)
-table_of t = map (λ r. r.items) t.items
+abbrev pub counts_of : Vec (Vec ℕ Global) Global → List (List ℕ)
+counts_of t = map (λ r. r.items) t.items
 
 -- one more at a place from 0; none where there is no such place
 abbrev pub one_more_at : ℕ → List ℕ → List ℕ

@@ -1,21 +1,15 @@
 -- Which clauses derivations use, and how often.
-use Rattle.std.specs.Prelude.{ℕ, suc, ◌-◌, ◌^◌, min, Bool, ◌==◌, ◌&&◌, if◌then◌else◌, List, [], ◌∷◌, ◌++◌, map, Option, Some, None}
-use Rattle.ap_defs.specs.declared.goals.Clause.{Clause}
-use Rattle.ap_defs.specs.declared.terms.Term.{Term}
+use Rattle.std.specs.Prelude.{ℕ, suc, ◌-◌, ◌^◌, min, Bool, ◌==◌, ◌&&◌, if◌then◌else◌, List, [], ◌∷◌, ◌++◌, Option, Some, None}
 use Rattle.ap_defs.specs.Derivations as nodes
 use Rattle.ap_defs.specs.Derivations.{NominalDerivation}
 use Rattle.ap_defs.specs.Goals as goals
-use Rattle.ap_defs.specs.Goals.{Clauses, NominalClause, NominalGoal, clause_of, clauses_of}
+use Rattle.ap_defs.specs.Goals.{Clauses, NominalClause, NominalGoal, clauses_of}
 use Rattle.ap_defs.specs.GroundProofs.{clause_at}
 
 -- an atom's node: the predicate, and the number of the clause among its clauses, from 1
 pub record ClauseUse : Type 0 where
   pub pred : ℕ
   pub number : ℕ
-
--- the clauses of each predicate as the program holds them
-abbrev pub program_in : List (List (Clause Term)) → Clauses
-program_in css = map (map clause_of) css
 
 -- those of a clause's body, if there is one
 abbrev pub of_body : Option NominalClause → (NominalGoal → List ClauseUse) → List ClauseUse

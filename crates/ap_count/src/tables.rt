@@ -2,8 +2,9 @@
 //! given as the greatest that does.
 
 ghost use Rattle.std.specs.Prelude.{◌≡◌, [], IfOk, length, map, replicate};
-ghost use Rattle.ap_count.specs.Uses.{program_in, use_table};
-ghost use Rattle.ap_count.specs.Tables.{added_row, added_rows, one_more, table_of, with_use_at};
+ghost use Rattle.ap_defs.specs.Goals.{program_in};
+ghost use Rattle.ap_count.specs.Uses.{use_table};
+ghost use Rattle.ap_count.specs.Tables.{added_row, added_rows, one_more, counts_of, with_use_at};
 
 use ap_defs::goals::Clause;
 use ap_defs::lists::List;
@@ -21,7 +22,7 @@ fn unused_row(alloc: Global, clauses: &[Clause<Term>]) -> Result<Vec<u64>, Memor
 
 /// The table of a program of which nothing is used.
 pub fn unused_table(alloc: Global, program: &[List<Clause<Term>>]) -> Result<Vec<Vec<u64>>, Memory>
-    ensures { IfOk result (λ t. table_of t ≡ use_table (program_in program.now) []) }
+    ensures { IfOk result (λ t. counts_of t ≡ use_table (program_in program.now) []) }
 {
     let mut table = Vec::with_capacity(alloc, program.len())?;
     let mut rest = program;
@@ -49,7 +50,7 @@ fn add_to_row(row: &mut Vec<u64>, number: u32)
 
 /// Counts one more use of the predicate's clause with this number, from 1, where there is one.
 pub fn add_use(table: &mut Vec<Vec<u64>>, pred: u32, number: u32)
-    ensures { table_of table.new ≡ with_use_at pred number (table_of table.old) }
+    ensures { counts_of table.new ≡ with_use_at pred number (counts_of table.old) }
 {
     let place = pred as usize;
     if place < table.len() {
@@ -81,7 +82,7 @@ pub fn sum_of_tables(
     first: &[Vec<u64>],
     second: &[Vec<u64>],
 ) -> Result<Vec<Vec<u64>>, Memory>
-    ensures { IfOk result (λ t. table_of t ≡ added_rows (map (λ r. r.items) first.now)
+    ensures { IfOk result (λ t. counts_of t ≡ added_rows (map (λ r. r.items) first.now)
         (map (λ r. r.items) second.now)) }
 {
     let mut sums = Vec::with_capacity(alloc, first.len())?;

@@ -3,9 +3,9 @@
 ghost use Rattle.std.specs.Prelude.{◌≡◌, ℕ, IfOk, List as list, map};
 ghost use Rattle.std.specs.List.{AllByRecursion};
 ghost use Rattle.ap_defs.specs.Derivations.{NominalDerivation, derivation_of};
-ghost use Rattle.ap_defs.specs.Goals.{goal_of};
-ghost use Rattle.ap_count.specs.Uses.{program_in, use_table, uses_in_each};
-ghost use Rattle.ap_count.specs.Tables.{table_of};
+ghost use Rattle.ap_defs.specs.Goals.{goal_of, program_in};
+ghost use Rattle.ap_count.specs.Uses.{use_table, uses_in_each};
+ghost use Rattle.ap_count.specs.Tables.{counts_of};
 
 use crate::tables::{sum_of_tables, unused_table};
 use crate::walk::add_uses;
@@ -47,7 +47,7 @@ fn uses_by_one<D: Derive>(
     from: &D,
 ) -> Result<Vec<Vec<u64>>, Memory>
     requires { AllByRecursion (D.leads from.now) paths.now }
-    ensures { IfOk result (λ t. table_of t ≡ use_table (program_in question.entry.program.now)
+    ensures { IfOk result (λ t. counts_of t ≡ use_table (program_in question.entry.program.now)
         (uses_in_each (program_in question.entry.program.now) (goal_of question.entry.goal.now)
         (map (D.at from.now) paths.now))) }
 {
@@ -80,7 +80,7 @@ pub fn uses<R: Threads + Sync, D: Derive>(
     workers: u32,
 ) -> Result<Vec<Vec<u64>>, Memory>
     requires { AllByRecursion (D.leads from.now) paths.now }
-    ensures { IfOk result (λ t. table_of t ≡ use_table (program_in question.entry.program.now)
+    ensures { IfOk result (λ t. counts_of t ≡ use_table (program_in question.entry.program.now)
         (uses_in_each (program_in question.entry.program.now) (goal_of question.entry.goal.now)
         (map (D.at from.now) paths.now))) }
 {
@@ -92,13 +92,13 @@ pub fn uses<R: Threads + Sync, D: Derive>(
     let others = workers - half;
     let front = move || -> Result<Vec<Vec<u64>>, Memory>
         requires { AllByRecursion (D.leads from.now) left.now }
-        ensures { IfOk result (λ t. table_of t ≡ use_table (program_in question.entry.program.now)
+        ensures { IfOk result (λ t. counts_of t ≡ use_table (program_in question.entry.program.now)
             (uses_in_each (program_in question.entry.program.now) (goal_of question.entry.goal.now)
             (map (D.at from.entry.now) left.entry.now))) }
     { uses(rt, alloc, question, left, from, half) };
     let back = move || -> Result<Vec<Vec<u64>>, Memory>
         requires { AllByRecursion (D.leads from.now) right.now }
-        ensures { IfOk result (λ t. table_of t ≡ use_table (program_in question.entry.program.now)
+        ensures { IfOk result (λ t. counts_of t ≡ use_table (program_in question.entry.program.now)
             (uses_in_each (program_in question.entry.program.now) (goal_of question.entry.goal.now)
             (map (D.at from.entry.now) right.entry.now))) }
     { uses(rt, alloc, question, right, from, others) };

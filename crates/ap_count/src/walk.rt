@@ -4,11 +4,11 @@ ghost use Rattle.std.specs.Prelude.{◌≡◌, ◌≤◌, ◌<◌, ◌+◌, ℕ,
 ghost use Rattle.ap_defs.specs.declared.terms.Name.{Name as name};
 ghost use Rattle.ap_defs.specs.Derivations as nodes;
 ghost use Rattle.ap_defs.specs.Derivations.{NominalDerivation, derivation_of, weight};
-ghost use Rattle.ap_defs.specs.Goals.{Clauses, clause_of, clauses_of, goal_of};
+ghost use Rattle.ap_defs.specs.Goals.{Clauses, clause_of, clauses_of, goal_of, program_in};
 ghost use Rattle.ap_defs.specs.GroundProofs.{clause_at as clause_numbered};
 ghost use Rattle.ap_defs.specs.Terms.{NominalTerm};
-ghost use Rattle.ap_count.specs.Uses.{program_in, uses, uses_of_clause};
-ghost use Rattle.ap_count.specs.Tables.{table_of, with_uses};
+ghost use Rattle.ap_count.specs.Uses.{uses, uses_of_clause};
+ghost use Rattle.ap_count.specs.Tables.{counts_of, with_uses};
 ghost use Rattle.ap_count.specs.Waiting.{if_any, uses_of_all, uses_waiting, weight_of_all};
 
 use crate::tables::add_use;
@@ -209,9 +209,9 @@ fn count_clause<'a>(
     ensures weight { OnOk result (weight_of_all waiting.new.items
         ≤ weight (derivation_of below.now) + weight_of_all waiting.old.items) }
     ensures uses { OnOk result (
-        with_uses (uses_of_all (program_in program.now) waiting.new.items) (table_of table.new)
+        with_uses (uses_of_all (program_in program.now) waiting.new.items) (counts_of table.new)
         ≡ with_uses (uses_of_clause (program_in program.now) pred number (derivation_of below.now)
-        ++ uses_of_all (program_in program.now) waiting.old.items) (table_of table.old)) }
+        ++ uses_of_all (program_in program.now) waiting.old.items) (counts_of table.old)) }
 {
     add_use(table, pred, number);
     let clause = clause_at(program, pred, number);
@@ -231,9 +231,9 @@ fn count_node<'a>(
     ensures weight { OnOk result (weight_of_all waiting.new.items
         < weight (derivation_of node.entry.derivation.now) + weight_of_all waiting.old.items) }
     ensures uses { OnOk result (
-        with_uses (uses_of_all (program_in program.now) waiting.new.items) (table_of table.new)
+        with_uses (uses_of_all (program_in program.now) waiting.new.items) (counts_of table.new)
         ≡ with_uses (uses_waiting (program_in program.now) node.entry
-        ++ uses_of_all (program_in program.now) waiting.old.items) (table_of table.old)) }
+        ++ uses_of_all (program_in program.now) waiting.old.items) (counts_of table.old)) }
 {
     match node.derivation {
         Derivation::Eq => Ok(()),
@@ -261,9 +261,9 @@ pub fn add_uses(
     derivation: &Derivation,
     table: &mut Vec<Vec<u64>>,
 ) -> Result<(), Memory>
-    ensures { OnOk result (table_of table.new ≡ with_uses
+    ensures { OnOk result (counts_of table.new ≡ with_uses
         (uses (program_in program.now) (derivation_of derivation.now) (goal_of goal.now))
-        (table_of table.old)) }
+        (counts_of table.old)) }
 {
     let mut waiting = Vec::new(alloc);
     waiting.push(Waiting { goal, derivation })?;

@@ -8,7 +8,7 @@ use Rattle.ap_defs.specs.PathOrder.{has_prefix}
 use Rattle.ap_defs.specs.Terms.{GroundTerm}
 use Rattle.ap_bundle.specs.Bundles.{NominalProved}
 use Rattle.ap_checks.specs.Checks.{query_at}
-use Rattle.ap_complete.specs.Coverings.{IsInstance}
+use Rattle.ap_complete.specs.Coverings.{IsGroundInstance}
 use Rattle.ap_cover.specs.Ground.{ground_terms}
 
 -- The answer, or the stuck branch, of this number among those that a search finds, from 1, and its path.
@@ -60,7 +60,7 @@ stuck_among (answers.stuck l ∷ os) = answers.stuck l ∷ stuck_among os
 -- at a beginning of it.
 pub data IsCover (p : NominalProgram) (q : NominalQuery) (depth : ℕ) (gs : List GroundTerm) (path : List ℕ) : Option NominalCover → Type 0 where
   by_answer : (n : ℕ) (a : NominalAnswer) → slice_get (answers_among (query_outs p.clauses depth q)) n ≡ Some (answers.found path a)
-      → IsInstance p.signature.constructors q.locals a gs → IsCover p q depth gs path (Some (answer (suc n) path))
+      → IsGroundInstance p.signature.constructors q.locals a gs → IsCover p q depth gs path (Some (answer (suc n) path))
   by_stuck : (n : ℕ) (l : List ℕ) → slice_get (stuck_among (query_outs p.clauses depth q)) n ≡ Some (answers.stuck l) → has_prefix l path ≡ true
       → IsCover p q depth gs path (Some (stuck (suc n) l))
 

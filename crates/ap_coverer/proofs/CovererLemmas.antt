@@ -19,7 +19,7 @@ use Rattle.ap_defs.specs.Terms as terms
 use Rattle.ap_defs.specs.Types.{constructor_of}
 use Rattle.ap_theory.proofs.BooleanLemmas.{and_right}
 use Rattle.ap_backchain.specs.Branches.{IsNodeAt}
-use Rattle.ap_backchain.specs.Problems.{HasQuery, clauses_in, program_in, queries_in}
+use Rattle.ap_backchain.specs.Problems.{HasQuery, clauses_in, program_of_problem, queries_in}
 use Rattle.ap_backchain.specs.declared.problem.Problem.{Problem}
 use Rattle.ap_bundle.specs.Bundles.{NominalProved}
 use Rattle.ap_checks.specs.Checks.{Checks, on_query, query_at, verdict_of, verdict_on, yes}
@@ -131,13 +131,13 @@ few_constructors p h = let few = h.bounded in let same = length-map p.signature.
 pub end_at : (m b n : Node) (l there : List ℕ) → m ≡ b → m ≡ n → IsEnd b l there → IsEnd n l there
 end_at m b n l there is named h = subst (λ (x : Node). IsEnd x l there) (sym is ∙ named) h
 
-module _ (p : Problem) (has : HasQuery p) (restricted : IsRestricted (program_in p)) (d : NominalProved) (checks : ChecksFor p d) (closed : is_ground d ≡ true) (low : height d.derivation ≤ p.depth) where
+module _ (p : Problem) (has : HasQuery p) (restricted : IsRestricted (program_of_problem p)) (d : NominalProved) (checks : ChecksFor p d) (closed : is_ground d ≡ true) (low : height d.derivation ≤ p.depth) where
   -- with the number of the problem's query
   abbrev numbered : NominalProved
   numbered = record { query = p.query; answer = d.answer; derivation = d.derivation }
 
-  keeps : KeepsRestriction (program_in p)
-  keeps = kept (program_in p) restricted
+  keeps : KeepsRestriction (program_of_problem p)
+  keeps = kept (program_of_problem p) restricted
 
   module _ (q : NominalQuery) (asked : slice_get (queries_in p) (p.query - 1) ≡ Some q) where
     asked_at : query_at (queries_in p) p.query ≡ Some q
@@ -146,43 +146,43 @@ module _ (p : Problem) (has : HasQuery p) (restricted : IsRestricted (program_in
         let next : p.query ≡ suc (p.query - 1) = omega (arith, one) in
         ap (query_at (queries_in p)) next ∙ query_place (queries_in p) (p.query - 1) ∙ asked
 
-    checked : Checks (program_in p) q d.answer d.derivation
-    checked = query_checks (program_in p) p.query d checks q asked_at
+    checked : Checks (program_of_problem p) q d.answer d.derivation
+    checked = query_checks (program_of_problem p) p.query d checks q asked_at
 
     path_there : Covers (clauses_in p) p.depth q (path d.derivation)
-    path_there = path_covered (program_in p) keeps p.depth numbered q asked_at checked closed low
+    path_there = path_covered (program_of_problem p) keeps p.depth numbered q asked_at checked closed low
 
-    typed_at : (a : NominalAnswer) (l : List ℕ) → outs_at (clauses_in p) p.depth q l ≡ answers.found l a ∷ [] → HasTypedVars (program_in p).signature.constructors a
-    typed_at a l e = answer_typed (program_in p) keeps p.depth numbered q asked_at checked closed low a l (among_at (program_in p) p.depth q l (answers.found l a) e)
+    typed_at : (a : NominalAnswer) (l : List ℕ) → outs_at (clauses_in p) p.depth q l ≡ answers.found l a ∷ [] → HasTypedVars (program_of_problem p).signature.constructors a
+    typed_at a l e = answer_typed (program_of_problem p) keeps p.depth numbered q asked_at checked closed low a l (among_at (program_of_problem p) p.depth q l (answers.found l a) e)
 
     covered_at : (a : NominalAnswer) (l : List ℕ) → l ≡ path d.derivation → outs_at (clauses_in p) p.depth q l ≡ answers.found l a ∷ [] → (swaps : List Swap) (ps : List (Var × Term))
         → Clears (used_names q.locals a d.answer.binds) zero (in_the_way q.locals a d.answer.binds) swaps
-        → AreMatched (program_in p).signature.constructors a (ground_terms d.answer.binds) swaps ps → IsCoveredBy (program_in p) q p.depth d (path d.derivation) swaps ps
+        → AreMatched (program_of_problem p).signature.constructors a (ground_terms d.answer.binds) swaps ps → IsCoveredBy (program_of_problem p) q p.depth d (path d.derivation) swaps ps
     covered_at a l same e swaps ps clears m =
-        let i = subst (λ (k : List ℕ). IsAmong (answers.found k a) (query_outs (clauses_in p) p.depth q)) same (among_at (program_in p) p.depth q l (answers.found l a) e) in
-        let r = covered_so (program_in p) keeps p.depth numbered q asked_at checked closed low a i swaps ps clears m in
+        let i = subst (λ (k : List ℕ). IsAmong (answers.found k a) (query_outs (clauses_in p) p.depth q)) same (among_at (program_of_problem p) p.depth q l (answers.found l a) e) in
+        let r = covered_so (program_of_problem p) keeps p.depth numbered q asked_at checked closed low a i swaps ps clears m in
         record { path = r.path; answer = r.answer; found = r.found; leaves = r.leaves; brings = r.brings; grounding = r.grounding; given = r.given; covers = r.covers }
 
-    stuck_at : (l : List ℕ) → IsNodeAt (clauses_in p) p.depth q l nodes.Stuck → has_prefix l (path d.derivation) ≡ true → IsStuckBefore (program_in p) q p.depth d l
-    stuck_at l at begins = record { stuck = among_at (program_in p) p.depth q l (answers.stuck l) at.1; begins = begins }
+    stuck_at : (l : List ℕ) → IsNodeAt (clauses_in p) p.depth q l nodes.Stuck → has_prefix l (path d.derivation) ≡ true → IsStuckBefore (program_of_problem p) q p.depth d l
+    stuck_at l at begins = record { stuck = among_at (program_of_problem p) p.depth q l (answers.stuck l) at.1; begins = begins }
 
   pub proof_covers_path : CoversPath p (path d.derivation)
   proof_covers_path q asked = path_there q asked
 
   -- an answer that the search has at a path has typed variables
-  pub typed_there : (q : NominalQuery) → slice_get (queries_in p) (p.query - 1) ≡ Some q → (a : NominalAnswer) (l : List ℕ) → IsAnswerAt p l a → HasTypedVars (program_in p).signature.constructors a
+  pub typed_there : (q : NominalQuery) → slice_get (queries_in p) (p.query - 1) ≡ Some q → (a : NominalAnswer) (l : List ℕ) → IsAnswerAt p l a → HasTypedVars (program_of_problem p).signature.constructors a
   typed_there q asked a l at = typed_at q asked a l (at q asked)
 
   pub covered_there : (r : NominalQuery) → slice_get (queries_in p) (p.query - 1) ≡ Some r → (a : NominalAnswer) (l : List ℕ) → l ≡ path d.derivation → IsAnswerAt p l a
       → (swaps : List Swap) (ps : List (Var × Term))
       → Clears (used_names r.locals a d.answer.binds) zero (in_the_way r.locals a d.answer.binds) swaps
-      → AreMatched (program_in p).signature.constructors a (ground_terms d.answer.binds) swaps ps
-      → (q : NominalQuery) → slice_get (queries_in p) (p.query - 1) ≡ Some q → IsCoveredBy (program_in p) q p.depth d (path d.derivation) swaps ps
+      → AreMatched (program_of_problem p).signature.constructors a (ground_terms d.answer.binds) swaps ps
+      → (q : NominalQuery) → slice_get (queries_in p) (p.query - 1) ≡ Some q → IsCoveredBy (program_of_problem p) q p.depth d (path d.derivation) swaps ps
   covered_there r asked a l same at swaps ps clears m q there =
       let one : Some r ≡ Some q = sym asked ∙ there in
       let is : r ≡ q = cc in
-      subst (λ (x : NominalQuery). IsCoveredBy (program_in p) x p.depth d (path d.derivation) swaps ps) is (covered_at r asked a l same (at r asked) swaps ps clears m)
+      subst (λ (x : NominalQuery). IsCoveredBy (program_of_problem p) x p.depth d (path d.derivation) swaps ps) is (covered_at r asked a l same (at r asked) swaps ps clears m)
 
   pub stuck_there : (q : NominalQuery) → slice_get (queries_in p) (p.query - 1) ≡ Some q → (l : List ℕ) → IsNodeAt (clauses_in p) p.depth q l nodes.Stuck
-      → has_prefix l (path d.derivation) ≡ true → IsStuckBefore (program_in p) q p.depth d l
+      → has_prefix l (path d.derivation) ≡ true → IsStuckBefore (program_of_problem p) q p.depth d l
   stuck_there q asked l at begins = stuck_at q asked l at begins

@@ -19,7 +19,7 @@ use Rattle.ap_theory.proofs.PermutationLemmas.{inverse-append}
 use Rattle.ap_instance.specs.Tables.{term_beside}
 use Rattle.ap_instance.specs.declared.picks.Picks.{Picks}
 use Rattle.ap_instance.proofs.TableLemmas.{beside_at, flipped}
-use Rattle.ap_coverer.specs.Matches.{Adds, gives, ground_term, matched_under}
+use Rattle.ap_coverer.specs.Matches.{AddsPairs, gives, ground_term, matched_under}
 
 given_both : (ps qs : Pairs) (f : Grounding) (x : Var) → given_by (ps ++ qs) f x ≡ given_by ps (given_by qs f) x
 given_both [] qs f x = refl
@@ -41,7 +41,7 @@ moved_ground q (terms.susp p x) h = absurd (true≢false (sym h))
 -- one variable more
 pub adds_one : (p q : Picks) (x : Var) (t beside : NominalTerm) (s : List Swap) → t ≡ act_term s beside → is_ground_term beside ≡ true
     → ((other : Var → NominalTerm) (y : Var) → term_beside q.vars.keys q.terms.items other y ≡ term_beside p.vars.keys p.terms.items (λ z. if var_eq x z then t else other z) y)
-    → Adds ((x, act_ground s (ground_term beside)) ∷ []) p q
+    → AddsPairs ((x, act_ground s (ground_term beside)) ∷ []) p q
 adds_one p q x t beside s made h added other y =
     let g = act_ground s (ground_term beside) in
     added (λ z. embedded (other z)) y
@@ -58,7 +58,7 @@ module _ (swaps : List Swap) where
   LeftTo F p t acting u = (other : Grounding) (y : Var) → gives p (given_by (matched_under swaps t acting u) other) y ≡ F other y
 
   module _ (F : Grounding → Var → NominalTerm) where
-    pub left_pair : (w v t u g h : NominalTerm) (acting : List Swap) (p q : Picks) → w ≡ terms.pair t u → v ≡ terms.pair g h → Adds (matched_under swaps t acting g) p q
+    pub left_pair : (w v t u g h : NominalTerm) (acting : List Swap) (p q : Picks) → w ≡ terms.pair t u → v ≡ terms.pair g h → AddsPairs (matched_under swaps t acting g) p q
         → LeftTo F p w acting v → LeftTo F q u acting h
     left_pair w v t u g h acting p q e k added before other y =
         let l = matched_under swaps t acting g in
@@ -86,7 +86,7 @@ module _ (swaps : List Swap) where
     -- and the ends
     pub left_susp : (w v : NominalTerm) (waiting acting undone : List Swap) (x : Var) (p q : Picks) → w ≡ terms.susp waiting x
         → undone ≡ inverse (map (replace_swap swaps) waiting) ++ inverse acting
-        → Adds ((x, act_ground undone (ground_term v)) ∷ []) p q → LeftTo F p w acting v → (other : Grounding) (y : Var) → gives q other y ≡ F other y
+        → AddsPairs ((x, act_ground undone (ground_term v)) ∷ []) p q → LeftTo F p w acting v → (other : Grounding) (y : Var) → gives q other y ≡ F other y
     left_susp w v waiting acting undone x p q e u added before other y =
         let back = inverse (map (replace_swap swaps) waiting) in
         let same : (x, act_ground undone (ground_term v)) ∷ [] ≡ matched_under swaps w acting v =
@@ -100,7 +100,7 @@ module _ (swaps : List Swap) where
 
   -- one term more
   pub left_each : (F : Grounding → Var → NominalTerm) (ts us others more : List NominalTerm) (t u : NominalTerm) (p q : Picks) → ts ≡ t ∷ others → us ≡ u ∷ more
-      → Adds (matched_under swaps t [] u) p q
+      → AddsPairs (matched_under swaps t [] u) p q
       → ((other : Grounding) (y : Var) → gives p (given_by (matched_each (map (replace_names swaps) ts) (ground_terms us)) other) y ≡ F other y)
       → (other : Grounding) (y : Var) → gives q (given_by (matched_each (map (replace_names swaps) others) (ground_terms more)) other) y ≡ F other y
   left_each F ts us others more t u p q e k added before other y =

@@ -10,7 +10,7 @@ use Rattle.ap_defs.specs.Derivations.{path}
 use Rattle.ap_defs.specs.Goals.{NominalProgram, NominalQuery}
 use Rattle.ap_defs.specs.Groundings.{Grounding}
 use Rattle.ap_defs.specs.PathOrder.{has_prefix}
-use Rattle.ap_backchain.specs.Problems.{clauses_in, program_in, queries_in}
+use Rattle.ap_backchain.specs.Problems.{clauses_in, program_of_problem, queries_in}
 use Rattle.ap_backchain.specs.declared.problem.Problem.{Problem}
 use Rattle.ap_bundle.specs.Bundles.{NominalProved}
 use Rattle.ap_checks.specs.Checks.{verdict_of, yes}
@@ -48,11 +48,11 @@ IsCover p q depth d (code.Stuck l) = IsStuckBefore p q depth d l
 
 -- it covers a proof of the problem's query
 abbrev pub CoversProof : Problem → NominalProved → Covered → Type 0
-CoversProof p d c = (q : NominalQuery) → slice_get (queries_in p) (p.query - 1) ≡ Some q → IsCover (program_in p) q p.depth d c
+CoversProof p d c = (q : NominalQuery) → slice_get (queries_in p) (p.query - 1) ≡ Some q → IsCover (program_of_problem p) q p.depth d c
 
 -- the verdict on the proof, for the problem's query, is that it checks
 abbrev pub ChecksFor : Problem → NominalProved → Type 0
-ChecksFor p d = verdict_of (program_in p) p.query d.answer d.derivation ≡ yes
+ChecksFor p d = verdict_of (program_of_problem p) p.query d.answer d.derivation ≡ yes
 
 -- the search of the problem's query has the answer at a path, and nothing else there
 abbrev pub IsAnswerAt : Problem → List ℕ → NominalAnswer → Type 0
@@ -60,4 +60,4 @@ IsAnswerAt p l a = (q : NominalQuery) → slice_get (queries_in p) (p.query - 1)
 
 -- the answer at its path covers it by these swappings and ground terms
 abbrev pub CoversBy : Problem → NominalProved → Covering → Type 0
-CoversBy p d c = (q : NominalQuery) → slice_get (queries_in p) (p.query - 1) ≡ Some q → IsCoveredBy (program_in p) q p.depth d (path d.derivation) c.swaps.items c.grounding.items
+CoversBy p d c = (q : NominalQuery) → slice_get (queries_in p) (p.query - 1) ≡ Some q → IsCoveredBy (program_of_problem p) q p.depth d (path d.derivation) c.swaps.items c.grounding.items

@@ -21,13 +21,13 @@ abbrev pub gives : Picks → Grounding → Var → NominalTerm
 gives p other y = term_beside p.vars.keys p.terms.items (λ z. embedded (other z)) y
 
 -- the second table has what the first has, and these pairs where the first has nothing
-abbrev pub Adds : Pairs → Picks → Picks → Type 0
-Adds ps p q = (other : Grounding) (y : Var) → gives q other y ≡ gives p (given_by ps other) y
+abbrev pub AddsPairs : Pairs → Picks → Picks → Type 0
+AddsPairs ps p q = (other : Grounding) (y : Var) → gives q other y ≡ gives p (given_by ps other) y
 
 -- what a term, whose names are replaced, matches of a ground term on which swappings act, the last of them outermost
 abbrev pub matched_under : List Swap → NominalTerm → List Swap → NominalTerm → Pairs
 matched_under swaps t moved u = matched (replace_names swaps t) (act_ground (inverse moved) (ground_term u))
 
 -- the table has these pairs, and nothing else
-abbrev pub IsTable : Pairs → Picks → Type 0
-IsTable ps p = (other : Grounding) (y : Var) → gives p other y ≡ embedded (given_by ps other y)
+abbrev pub IsTableOfPairs : Pairs → Picks → Type 0
+IsTableOfPairs ps p = (other : Grounding) (y : Var) → gives p other y ≡ embedded (given_by ps other y)

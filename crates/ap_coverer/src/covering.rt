@@ -2,7 +2,7 @@
 
 ghost use Rattle.std.specs.Prelude.{◌≡◌, ◌≤◌, IfOk, true};
 ghost use Rattle.ap_backchain.specs.Branches.{IsAnswering, IsBranchOf, path_of_branch};
-ghost use Rattle.ap_backchain.specs.Problems.{HasQuery, program_in};
+ghost use Rattle.ap_backchain.specs.Problems.{HasQuery, program_of_problem};
 ghost use Rattle.ap_bundle.specs.Bundles.{proved_of};
 ghost use Rattle.ap_cover.specs.Ground.{is_ground};
 ghost use Rattle.ap_coverer.specs.Coverer.{ChecksFor, CoversBy, CoversProof};
@@ -46,7 +46,7 @@ fn covering_at(
     proved: &Proved,
 ) -> Result<Covering, Memory>
     requires query { HasQuery p.now }
-    requires restricted { IsRestricted (program_in p.now) }
+    requires restricted { IsRestricted (program_of_problem p.now) }
     requires constructors { constructors.now ≡ p.now.program.now.signature.constructors }
     requires of { IsBranchOf p.now branch.now }
     requires answer { IsAnswering branch.now }

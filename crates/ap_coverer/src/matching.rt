@@ -8,7 +8,7 @@ ghost use Rattle.ap_defs.specs.Permutations.{act_name, inverse, swap_of};
 ghost use Rattle.ap_defs.specs.Renaming.{replace_names, replace_swap};
 ghost use Rattle.ap_defs.specs.Terms.{act_ground, susp, term_of};
 ghost use Rattle.ap_defs.specs.Typing.{embedded};
-ghost use Rattle.ap_coverer.specs.Matches.{Adds, IsTable, ground_term, matched_under};
+ghost use Rattle.ap_coverer.specs.Matches.{AddsPairs, IsTableOfPairs, ground_term, matched_under};
 
 use crate::acting::moved;
 use ap_defs::memory::Memory;
@@ -51,7 +51,7 @@ fn undoing(
     Ok(all)
 }
 
-/// Adds what stands beside a suspension, unless its variable has a term.
+/// AddsPairs what stands beside a suspension, unless its variable has a term.
 fn add_beside(
     alloc: Global,
     undoing: &[Swap],
@@ -62,7 +62,7 @@ fn add_beside(
     requires many { length picks.old.vars.keys ≡ length picks.old.terms.items }
     requires closed { is_ground_term (term_of beside.now) ≡ true }
     ensures many { OnOk result (length picks.new.vars.keys ≡ length picks.new.terms.items) }
-    ensures added { OnOk result (Adds
+    ensures added { OnOk result (AddsPairs
         ((x, act_ground undoing.now (ground_term (term_of beside.now))) ∷ []) picks.old picks.new) }
 {
     let term = moved(alloc, undoing, beside)?;
@@ -85,7 +85,7 @@ fn go_below(swaps: &[Swap], a: Name, b: Name, acting: &mut Vec<Swap>) -> Result<
     Ok(())
 }
 
-/// Adds what the variables of a term, whose names are replaced, stand for beside a ground term on which swappings
+/// AddsPairs what the variables of a term, whose names are replaced, stand for beside a ground term on which swappings
 /// act, the last of them outermost. It calls itself on left parts of pairs alone.
 fn match_term(
     alloc: Global,
@@ -98,7 +98,7 @@ fn match_term(
     requires many { length picks.old.vars.keys ≡ length picks.old.terms.items }
     requires closed { is_ground_term (term_of beside.now) ≡ true }
     ensures many { OnOk result (length picks.new.vars.keys ≡ length picks.new.terms.items) }
-    ensures added { OnOk result (Adds (matched_under swaps.now (term_of term.now) acting.now
+    ensures added { OnOk result (AddsPairs (matched_under swaps.now (term_of term.now) acting.now
         (term_of beside.now)) picks.old picks.new) }
 {
     let mut inner = acting.to_vec(alloc)?;
@@ -138,7 +138,7 @@ pub fn match_terms(
     beside: &[Term],
 ) -> Result<Picks, Memory>
     requires { list_all is_ground_term (map term_of beside.now) ≡ true }
-    ensures { IfOk result (λ p. IsTable (matched_each
+    ensures { IfOk result (λ p. IsTableOfPairs (matched_each
         (map (replace_names swaps.now) (map term_of terms.now))
         (ground_terms (map term_of beside.now))) p) }
 {

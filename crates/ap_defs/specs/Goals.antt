@@ -93,6 +93,10 @@ goal_of = goal_over term_of
 abbrev pub clause_of : Clause Term → NominalClause
 clause_of = clause_over term_of
 
+-- the clauses of each predicate, as a program holds them
+abbrev pub program_in : List (List (Clause Term)) → List (List NominalClause)
+program_in css = map (map clause_of) css
+
 abbrev pub query_of : Query Term → NominalQuery
 query_of = query_over term_of
 

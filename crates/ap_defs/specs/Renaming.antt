@@ -4,6 +4,7 @@ use Rattle.ap_defs.specs.declared.terms.Name.{Name}
 use Rattle.ap_defs.specs.declared.terms.Swap.{Swap}
 use Rattle.ap_defs.specs.declared.terms.Var.{Var}
 use Rattle.ap_defs.specs.Permutations.{act_name}
+use Rattle.ap_defs.specs.Substitution.{Binding, ◌:=◌}
 use Rattle.ap_defs.specs.Terms.{NominalTerm, unit, name, pair, app, abs, susp}
 use Rattle.ap_defs.specs.Types as types
 use Rattle.ap_defs.specs.Types.{NominalKind, NominalLocal}
@@ -86,6 +87,10 @@ IsBelow n (susp p x) = AreSwapsBelow n p × (x.num < n)
 abbrev pub AreBelow : ℕ → List NominalTerm → Type 0
 AreBelow n [] = Unit {0}
 AreBelow n (t ∷ ts) = IsBelow n t × AreBelow n ts
+
+abbrev pub AreBindingsBelow : ℕ → List Binding → Type 0
+AreBindingsBelow n [] = Unit {0}
+AreBindingsBelow n ((x := t) ∷ bs) = ((x.num < n) × IsBelow n t) × AreBindingsBelow n bs
 
 abbrev pub IsGoalBelow : ℕ → NominalGoal → Type 0
 IsGoalBelow n succeed = Unit {0}

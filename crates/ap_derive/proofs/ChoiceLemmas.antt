@@ -12,7 +12,7 @@ use Rattle.ap_defs.specs.Unification.{Unified, unify}
 use Rattle.ap_defs.specs.declared.goals.Clause.{Clause}
 use Rattle.ap_defs.specs.declared.terms.Term.{Term}
 use Rattle.ap_theory.proofs.TermLemmas.{number_same}
-use Rattle.ap_backchain.specs.Positions.{Position, by_clause, each_position, entered, goes, unified_state, with_choice, with_goal}
+use Rattle.ap_backchain.specs.Positions.{Position, enters_clause, each_position, entered, goes, unified_state, with_choice, with_goal}
 use Rattle.ap_checks.specs.Traces.{trace_call, trace_clause, trace_goal, trace_side, trace_unified, traced, under_node}
 use Rattle.ap_derive.specs.Nodes.{atom, left, right}
 use Rattle.ap_derive.specs.Solved.{HasChoice, IsSolved, Selects, Solved, others_solved, rest_of, solved, solved_at, with_node}
@@ -25,7 +25,7 @@ next_rest k [] (j ∷ path) rest e = cc
 next_rest k (i ∷ before) [] rest e = cc
 next_rest k (i ∷ before) (j ∷ path) rest e = next_rest k before path rest e
 
--- the choice stands at its place in the path
+-- the choice stands at its machine in the path
 pub choice_here : (n : ℕ) (path rest : List ℕ) (k d : ℕ) → drop n path ≡ k ∷ rest → (n < length path) × (get_or path n d ≡ k)
 choice_here zero [] rest k d e = cc
 choice_here zero (j ∷ path) rest k d e = (omega arith, cc)
@@ -109,10 +109,10 @@ module _ (program : Clauses) (path : List ℕ) (q : ℕ) (ts : List NominalTerm)
     entered_on (Some u) =
         ap (λ z. others_solved others (trace_goal (trace_call program lower) body (record { bindings = u.bindings; conditions = u.conditions; kinds = p.state.kinds ++ kinds_of c.locals }) z)) (sym (next_rest k p.path path rest next))
 
-    -- the atom's node, and what entering the clause makes of the place
+    -- the atom's node, and what entering the clause makes of the machine
     clause_selected : clause_at (clauses_of program q) k ≡ Some c
         → solved_at program path (with_goal (suc lower) (goals.atom q ts) p)
-        ≡ with_node (atom k (local_names (next_number p.state) c.locals) (map (susp []) (local_vars (next_number p.state) c.locals))) (solved_on program path (goes (by_clause lower ts p k c)))
+        ≡ with_node (atom k (local_names (next_number p.state) c.locals) (map (susp []) (local_vars (next_number p.state) c.locals))) (solved_on program path (goes (enters_clause lower ts p k c)))
     clause_selected there =
         let o = unify p.state.bindings p.state.conditions ts (map (rename_term (next_number p.state)) c.args) in
         let node = atom k (local_names (next_number p.state) c.locals) (map (susp []) (local_vars (next_number p.state) c.locals)) in
@@ -122,7 +122,7 @@ module _ (program : Clauses) (path : List ℕ) (q : ℕ) (ts : List NominalTerm)
         (trace_unified (trace_goal (trace_call program lower) body) (record (p.state) { kinds = p.state.kinds ++ kinds_of c.locals }) o rest)
         ∙ ap (with_node node) (entered_on o)
 
--- The clause that stands at a place of a list.
+-- The clause that stands at a machine of a list.
 pub clause_within : (cs : List (Clause Term)) (k : ℕ) (c : NominalClause) → clause_at (map clause_of cs) k ≡ Some c → (1 ≤ k) × (k - 1 < length cs)
 clause_within [] k c e = cc
 clause_within (b ∷ cs) zero c e = cc
@@ -163,7 +163,7 @@ module _ (program : Clauses) (path : List ℕ) (d q : ℕ) (ts : List NominalTer
         sym (clause_read cs (k - 1) b its.clause within there (ap (clause_at (map clause_of cs)) (sym e) ∙ its_clause))
 
     abbrev entering : ℕ → NominalClause → Option Solved
-    entering n c = with_node (atom k (local_names (next_number p.state) c.locals) (map (susp []) (local_vars (next_number p.state) c.locals))) (solved_on program path (goes (by_clause n ts p k c)))
+    entering n c = with_node (atom k (local_names (next_number p.state) c.locals) (map (susp []) (local_vars (next_number p.state) c.locals))) (solved_on program path (goes (enters_clause n ts p k c)))
 
     pub selected_with : solved_at program path (with_goal d (goals.atom q ts) p) ≡ entering (d - 1) (clause_of b)
     selected_with =
@@ -174,13 +174,13 @@ module _ (program : Clauses) (path : List ℕ) (d q : ℕ) (ts : List NominalTer
         ∙ ap (λ n. entering n its.clause) f
         ∙ ap (entering (d - 1)) same_clause
 
-    pub enters : [] ≡ by_clause (d - 1) ts p k (clause_of b) → ⊥
+    pub enters : [] ≡ enters_clause (d - 1) ts p k (clause_of b) → ⊥
     enters e =
         let h : None ≡ entering (d - 1) (clause_of b) = ap (λ ps. with_node (atom k (local_names (next_number p.state) (clause_of b).locals) (map (susp []) (local_vars (next_number p.state) (clause_of b).locals))) (solved_on program path (goes ps))) e in
         let r : None ≡ Some s.0 = h ∙ sym selected_with ∙ s.1 in
         cc
 
-    pub selected_to : (r : Position) → r ∷ [] ≡ by_clause (d - 1) ts p k (clause_of b)
+    pub selected_to : (r : Position) → r ∷ [] ≡ enters_clause (d - 1) ts p k (clause_of b)
         → Selects program path (with_goal d (goals.atom q ts) p) (atom k (local_names (next_number p.state) (clause_of b).locals) (map (susp []) (local_vars (next_number p.state) (clause_of b).locals))) r
     selected_to r e =
         selected_with

@@ -24,7 +24,7 @@ use Rattle.ap_checks.specs.Traces.{Finds, Traced, traced_query}
 use Rattle.ap_checks.proofs.FoundCheckLemmas.{found_check}
 use Rattle.ap_checks.proofs.TraceLemmas.{paths_lead}
 use Rattle.ap_derive.specs.Derived.{IsDerivationAt, LeadsOn}
-use Rattle.ap_derive.specs.Nodes.{DerivationNode, preorder}
+use Rattle.ap_derive.specs.Nodes.{DerivationNode, nodes_before}
 use Rattle.ap_derive.specs.Solved.{Solved, others_solved, solved, solved_at}
 
 -- The state and the derivation of an output with an answer.
@@ -90,18 +90,18 @@ same_some o x y h k = cc
 module _ (program : Clauses) (depth : ℕ) (q : NominalQuery) (path : List ℕ) (l : LeadsOn program depth q path)
     (same : Clauses) (here : Position) (same_program : same ≡ program) (begins : here ≡ first_position depth q) where
   -- what the goals of the query are solved to, along it
-  pub path_solved : solved_at same path here ≡ Some (record { state = l.traced.state; nodes = preorder l.traced.derivation []; rest = [] })
+  pub path_solved : solved_at same path here ≡ Some (record { state = l.traced.state; nodes = nodes_before l.traced.derivation []; rest = [] })
   path_solved =
       ap (λ x. solved_at x path here) same_program
       ∙ ap (λ x. solved_at program path x) begins
       ∙ ap (others_solved (solved program [])) l.leads
-      ∙ ap (λ p. Some (record { state = l.traced.state; nodes = preorder l.traced.derivation []; rest = p })) l.whole
+      ∙ ap (λ p. Some (record { state = l.traced.state; nodes = nodes_before l.traced.derivation []; rest = p })) l.whole
 
   module _ (s : State) (ns : List DerivationNode) (rest : List ℕ) (to : solved_at same path here ≡ Some (record { state = s; nodes = ns; rest = rest })) where
-    reached : ◌≡◌ {A = Solved} (record { state = s; nodes = ns; rest = rest }) (record { state = l.traced.state; nodes = preorder l.traced.derivation []; rest = [] })
-    reached = same_some (solved_at same path here) (record { state = s; nodes = ns; rest = rest }) (record { state = l.traced.state; nodes = preorder l.traced.derivation []; rest = [] }) to path_solved
+    reached : ◌≡◌ {A = Solved} (record { state = s; nodes = ns; rest = rest }) (record { state = l.traced.state; nodes = nodes_before l.traced.derivation []; rest = [] })
+    reached = same_some (solved_at same path here) (record { state = s; nodes = ns; rest = rest }) (record { state = l.traced.state; nodes = nodes_before l.traced.derivation []; rest = [] }) to path_solved
 
-    pub path_nodes : ns ≡ preorder l.traced.derivation []
+    pub path_nodes : ns ≡ nodes_before l.traced.derivation []
     path_nodes = ap (λ (x : Solved). x.nodes) reached
 
     pub path_derivation : (d : NominalDerivation) → d ≡ derivation_in s l.traced.derivation → (r : Traced) → traced_query program depth q path ≡ Some r → d ≡ derivation_in r.state r.derivation

@@ -10,7 +10,7 @@ use Rattle.ap_defs.specs.Terms.{susp}
 use Rattle.ap_defs.specs.declared.outcomes.Derivation.{Derivation}
 use Rattle.ap_defs.specs.declared.terms.Var.{Var}
 use Rattle.ap_search.specs.Records.{closed_vars}
-use Rattle.ap_derive.specs.Nodes.{DerivationNode, atom, both, closed_node, equal, exists, fresh, left, new, node_of, preorder, right, succeed, with_below}
+use Rattle.ap_derive.specs.Nodes.{DerivationNode, atom, both, closed_node, equal, exists, fresh, left, new, node_of, nodes_before, right, succeed, with_below}
 use Rattle.ap_derive.specs.declared.nodes.SelectedGoal.{SelectedGoal}
 
 abbrev Made : Type 0
@@ -43,14 +43,14 @@ leaf_alone n d h None = refl
 leaf_alone n d h (Some ds) = h ds
 
 -- nodes in preorder make the derivation
-preorder_makes : (d : NominalDerivation) (ns : List DerivationNode) (ds : List NominalDerivation) → made_of (preorder d ns) ds ≡ in_front d (made_of ns ds)
+preorder_makes : (d : NominalDerivation) (ns : List DerivationNode) (ds : List NominalDerivation) → made_of (nodes_before d ns) ds ≡ in_front d (made_of ns ds)
 preorder_makes (derivations.atom k as' ts d) ns ds =
     ap (and_then (with_below (atom k as' ts))) (preorder_makes d ns ds) ∙ one_below (atom k as' ts) d (derivations.atom k as' ts d) (λ es. refl) (made_of ns ds)
 preorder_makes derivations.equal ns ds = leaf_alone equal derivations.equal (λ es. refl) (made_of ns ds)
 preorder_makes derivations.fresh ns ds = leaf_alone fresh derivations.fresh (λ es. refl) (made_of ns ds)
 preorder_makes derivations.succeed ns ds = leaf_alone succeed derivations.succeed (λ es. refl) (made_of ns ds)
 preorder_makes (derivations.both d e) ns ds =
-    ap (and_then (with_below both)) (preorder_makes d (preorder e ns) ds ∙ ap (in_front d) (preorder_makes e ns ds)) ∙ two_below d e (made_of ns ds)
+    ap (and_then (with_below both)) (preorder_makes d (nodes_before e ns) ds ∙ ap (in_front d) (preorder_makes e ns ds)) ∙ two_below d e (made_of ns ds)
 preorder_makes (derivations.left d) ns ds =
     ap (and_then (with_below left)) (preorder_makes d ns ds) ∙ one_below left d (derivations.left d) (λ es. refl) (made_of ns ds)
 preorder_makes (derivations.right d) ns ds =
@@ -60,17 +60,17 @@ preorder_makes (derivations.exists t d) ns ds =
 preorder_makes (derivations.new a d) ns ds =
     ap (and_then (with_below (new a))) (preorder_makes d ns ds) ∙ one_below (new a) d (derivations.new a d) (λ es. refl) (made_of ns ds)
 
-pub preorder_made : (d : NominalDerivation) → made_of (preorder d []) [] ≡ Some (d ∷ [])
+pub preorder_made : (d : NominalDerivation) → made_of (nodes_before d []) [] ≡ Some (d ∷ [])
 preorder_made d = preorder_makes d [] []
 
 -- what variables stand for is put in node by node
-pub preorder_closed : (s : State) (d : NominalDerivation) (ns : List DerivationNode) → map (closed_node s) (preorder d ns) ≡ preorder (derivation_in s d) (map (closed_node s) ns)
+pub preorder_closed : (s : State) (d : NominalDerivation) (ns : List DerivationNode) → map (closed_node s) (nodes_before d ns) ≡ nodes_before (derivation_in s d) (map (closed_node s) ns)
 preorder_closed s (derivations.atom k as' ts d) ns = ap (λ ms. atom k as' (map (closed_term s) ts) ∷ ms) (preorder_closed s d ns)
 preorder_closed s derivations.equal ns = refl
 preorder_closed s derivations.fresh ns = refl
 preorder_closed s derivations.succeed ns = refl
 preorder_closed s (derivations.both d e) ns =
-    ap (λ ms. both ∷ ms) (preorder_closed s d (preorder e ns) ∙ ap (preorder (derivation_in s d)) (preorder_closed s e ns))
+    ap (λ ms. both ∷ ms) (preorder_closed s d (nodes_before e ns) ∙ ap (nodes_before (derivation_in s d)) (preorder_closed s e ns))
 preorder_closed s (derivations.left d) ns = ap (λ ms. left ∷ ms) (preorder_closed s d ns)
 preorder_closed s (derivations.right d) ns = ap (λ ms. right ∷ ms) (preorder_closed s d ns)
 preorder_closed s (derivations.exists t d) ns = ap (λ ms. exists (closed_term s t) ∷ ms) (preorder_closed s d ns)
@@ -113,7 +113,7 @@ module _ (s : State) (ms ns : List SelectedGoal) (n : SelectedGoal) (e : ms ≡ 
   goes_on es h = sym (one_taken ∙ ap (and_then (made_of (closed_nodes s ns))) h)
 
 -- all nodes of a derivation make what it is in the end
-pub all_made : (s : State) (ns : List SelectedGoal) (d : NominalDerivation) → map node_of ns ≡ preorder d [] → made_of (closed_nodes s ns) [] ≡ Some (derivation_in s d ∷ [])
+pub all_made : (s : State) (ns : List SelectedGoal) (d : NominalDerivation) → map node_of ns ≡ nodes_before d [] → made_of (closed_nodes s ns) [] ≡ Some (derivation_in s d ∷ [])
 all_made s ns d e = ap (λ ms. made_of (map (closed_node s) ms) []) e ∙ ap (λ ms. made_of ms []) (preorder_closed s d []) ∙ preorder_made (derivation_in s d)
 
 -- What was made last stands first.
@@ -135,7 +135,7 @@ needs_two d [] es h = cc
 needs_two d (e ∷ rest) es h = (e, rest, refl)
 
 -- The derivation that is left in the end.
-pub only_one : (s : State) (nodes : List SelectedGoal) (d : NominalDerivation) (ds : List NominalDerivation) → map node_of nodes ≡ preorder d [] → Some ds ≡ made_of (closed_nodes s nodes) [] → ds ≡ derivation_in s d ∷ []
+pub only_one : (s : State) (nodes : List SelectedGoal) (d : NominalDerivation) (ds : List NominalDerivation) → map node_of nodes ≡ nodes_before d [] → Some ds ≡ made_of (closed_nodes s nodes) [] → ds ≡ derivation_in s d ∷ []
 only_one s nodes d ds e h = let k : Some ds ≡ Some (derivation_in s d ∷ []) = h ∙ all_made s nodes d e in cc
 
 pub front_is : (ds es : List NominalDerivation) (d e : NominalDerivation) → ds ≡ d ∷ es → ds ≡ e ∷ [] → d ≡ e

@@ -16,19 +16,19 @@ use Rattle.ap_defs.specs.Unification.{Unified, reduce_all, unify}
 use Rattle.ap_backchain.specs.Marks.{choice_of_goal}
 use Rattle.ap_backchain.specs.Positions.{Position, Turned, ends, goes, goes_with, reduced_state, turned_fresh, turned_goal, unified_state, with_goal}
 use Rattle.ap_checks.specs.Traces.{Trace, Traced, just_traced, trace_fresh, trace_reduced, trace_then, trace_unified, traced, under_node}
-use Rattle.ap_derive.specs.Nodes.{DerivationNode, both, equal, exists, fresh, new, preorder, succeed}
+use Rattle.ap_derive.specs.Nodes.{DerivationNode, both, equal, exists, fresh, new, nodes_before, succeed}
 use Rattle.ap_derive.specs.Solved.{IsSolved, Selects, Solved, node_of_goal, others_solved, rest_of, solved, solved_at, with_derivation, with_node}
 
 abbrev pub Others : Type 0
 Others = State → List ℕ → Option Solved
 
 -- A node above what is below it.
-above_derivation : (node : NominalDerivation → NominalDerivation) (n : DerivationNode) → ((d : NominalDerivation) (ns : List DerivationNode) → preorder (node d) ns ≡ n ∷ preorder d ns)
+above_derivation : (node : NominalDerivation → NominalDerivation) (n : DerivationNode) → ((d : NominalDerivation) (ns : List DerivationNode) → nodes_before (node d) ns ≡ n ∷ nodes_before d ns)
     → (d : NominalDerivation) (o : Option Solved) → with_derivation (node d) o ≡ with_node n (with_derivation d o)
 above_derivation node n h d None = refl
 above_derivation node n h d (Some r) = ap (λ ns. Some (record { state = r.state; nodes = ns; rest = r.rest })) (h d r.nodes)
 
-leaf_alone : (d : NominalDerivation) (n : DerivationNode) → ((ns : List DerivationNode) → preorder d ns ≡ n ∷ ns) → (o : Option Solved) → with_derivation d o ≡ with_node n o
+leaf_alone : (d : NominalDerivation) (n : DerivationNode) → ((ns : List DerivationNode) → nodes_before d ns ≡ n ∷ ns) → (o : Option Solved) → with_derivation d o ≡ with_node n o
 leaf_alone d n h None = refl
 leaf_alone d n h (Some r) = ap (λ ns. Some (record { state = r.state; nodes = ns; rest = r.rest })) (h r.nodes)
 
@@ -37,7 +37,7 @@ above_both d e None = refl
 above_both d e (Some r) = refl
 
 module _ (go : Others) where
-  pub below_node : (node : NominalDerivation → NominalDerivation) (n : DerivationNode) → ((d : NominalDerivation) (ns : List DerivationNode) → preorder (node d) ns ≡ n ∷ preorder d ns)
+  pub below_node : (node : NominalDerivation → NominalDerivation) (n : DerivationNode) → ((d : NominalDerivation) (ns : List DerivationNode) → nodes_before (node d) ns ≡ n ∷ nodes_before d ns)
       → (o : Option Traced) → others_solved go (under_node node o) ≡ with_node n (others_solved go o)
   below_node node n h None = refl
   below_node node n h (Some r) = above_derivation node n h r.derivation (go r.state r.rest)
@@ -51,7 +51,7 @@ module _ (go : Others) where
   both_below next (Some r) = second_below r.derivation (next r.state r.rest)
 
 module _ (program : Clauses) (path : List ℕ) where
-  -- where a turn goes on from one place, or from none
+  -- where a turn goes on from one machine, or from none
   abbrev pub solved_on : Turned → Option Solved
   solved_on (ends o) = None
   solved_on (goes []) = None
@@ -84,7 +84,7 @@ module _ (program : Clauses) (path : List ℕ) where
   new_on d g p None = refl
   new_on d g p (Some cs) = refl
 
-  -- a goal that doesn't choose, and what its turn makes of the place
+  -- a goal that doesn't choose, and what its turn makes of the machine
   pub settled_on : (d : ℕ) (g : NominalGoal) (p : Position) (n : DerivationNode) → node_of_goal g ≡ Some n
       → solved_at program path (with_goal d g p) ≡ with_node n (solved_on (turned_goal program d g p))
   settled_on d goals.succeed p n e =

@@ -40,16 +40,16 @@ names_with None n as' = as'
 names_with (Some s) n as' = record { sort = s; num = n } ∷ as'
 
 -- the nodes of a derivation in preorder, and others after them
-abbrev pub preorder : NominalDerivation → List DerivationNode → List DerivationNode
-preorder (derivations.atom k as' ts d) ns = atom k as' ts ∷ preorder d ns
-preorder derivations.equal ns = equal ∷ ns
-preorder derivations.fresh ns = fresh ∷ ns
-preorder derivations.succeed ns = succeed ∷ ns
-preorder (derivations.both d e) ns = both ∷ preorder d (preorder e ns)
-preorder (derivations.left d) ns = left ∷ preorder d ns
-preorder (derivations.right d) ns = right ∷ preorder d ns
-preorder (derivations.exists t d) ns = exists t ∷ preorder d ns
-preorder (derivations.new a d) ns = new a ∷ preorder d ns
+abbrev pub nodes_before : NominalDerivation → List DerivationNode → List DerivationNode
+nodes_before (derivations.atom k as' ts d) ns = atom k as' ts ∷ nodes_before d ns
+nodes_before derivations.equal ns = equal ∷ ns
+nodes_before derivations.fresh ns = fresh ∷ ns
+nodes_before derivations.succeed ns = succeed ∷ ns
+nodes_before (derivations.both d e) ns = both ∷ nodes_before d (nodes_before e ns)
+nodes_before (derivations.left d) ns = left ∷ nodes_before d ns
+nodes_before (derivations.right d) ns = right ∷ nodes_before d ns
+nodes_before (derivations.exists t d) ns = exists t ∷ nodes_before d ns
+nodes_before (derivations.new a d) ns = new a ∷ nodes_before d ns
 
 -- with what variables stand for in a state
 abbrev pub closed_node : State → DerivationNode → DerivationNode

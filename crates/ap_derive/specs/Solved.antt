@@ -2,18 +2,17 @@
 use Rattle.std.specs.Prelude.{◌≡◌, ℕ, List, [], ◌∷◌, drop, length, map, Option, Some, None}
 use Rattle.ap_defs.specs.Derivations.{NominalDerivation}
 use Rattle.ap_defs.specs.Goals as goals
-use Rattle.ap_defs.specs.Goals.{Clauses, NominalGoal, clause_of, goal_of}
+use Rattle.ap_defs.specs.Goals.{Clauses, NominalGoal, goal_of}
 use Rattle.ap_defs.specs.Renaming.{rename_goal, rename_term}
 use Rattle.ap_defs.specs.Resolution.{State}
 use Rattle.ap_defs.specs.Terms.{NominalTerm, susp, term_of}
-use Rattle.ap_defs.specs.declared.goals.Clause.{Clause}
 use Rattle.ap_defs.specs.declared.terms.Term.{Term}
 use Rattle.ap_search.specs.Continuations.{Waiting}
 use Rattle.ap_backchain.specs.Positions.{Position}
 use Rattle.ap_backchain.specs.Views.{waiting_of}
 use Rattle.ap_backchain.specs.declared.frames.Frame.{Frame}
 use Rattle.ap_checks.specs.Traces.{Traced, traced}
-use Rattle.ap_derive.specs.Nodes.{DerivationNode, both, equal, exists, fresh, new, preorder, succeed}
+use Rattle.ap_derive.specs.Nodes.{DerivationNode, both, equal, exists, fresh, new, nodes_before, succeed}
 
 -- The state to which they lead, the nodes of their derivations in preorder, and what is left of the path.
 pub record Solved : Type 0 where
@@ -27,7 +26,7 @@ with_node n (Some r) = Some (record { state = r.state; nodes = n ∷ r.nodes; re
 
 abbrev pub with_derivation : NominalDerivation → Option Solved → Option Solved
 with_derivation d None = None
-with_derivation d (Some r) = Some (record { state = r.state; nodes = preorder d r.nodes; rest = r.rest })
+with_derivation d (Some r) = Some (record { state = r.state; nodes = nodes_before d r.nodes; rest = r.rest })
 
 -- the others go on where the first one led
 abbrev pub others_solved : (State → List ℕ → Option Solved) → Option Traced → Option Solved
@@ -39,7 +38,7 @@ abbrev pub solved : Clauses → List Waiting → State → List ℕ → Option S
 solved program [] s path = Some (record { state = s; nodes = []; rest = path })
 solved program (w ∷ ws) s path = others_solved (solved program ws) (traced program w.depth w.goal s path)
 
--- what is left of a path at a place on it
+-- what is left of a path at a machine on it
 abbrev pub rest_of : List ℕ → Position → List ℕ
 rest_of path p = drop (length p.path) path
 
@@ -54,12 +53,9 @@ IsSolved program path p = (r : Solved) × (solved_at program path p ≡ Some r)
 abbrev pub HasChoice : List ℕ → Position → Type 0
 HasChoice path p = (k : ℕ) × (rest : List ℕ) × (rest_of path p ≡ k ∷ rest)
 
--- the clauses of each predicate as the program holds them, the goal of a frame, and terms whose numbers are raised
-abbrev pub program_in : List (List (Clause Term)) → Clauses
-program_in css = map (map clause_of) css
-
-abbrev pub goal_in : Frame → NominalGoal
-goal_in f = rename_goal f.base (goal_of f.goal.now)
+-- the goal of a frame, and terms whose numbers are raised
+abbrev pub frame_goal : Frame → NominalGoal
+frame_goal f = rename_goal f.base (goal_of f.goal.now)
 
 abbrev pub raised : ℕ → List Term → List NominalTerm
 raised n ts = map (rename_term n) (map term_of ts)
@@ -68,7 +64,7 @@ raised n ts = map (rename_term n) (map term_of ts)
 abbrev pub with_frame : Frame → Position → Position
 with_frame f p = record p { waiting = waiting_of f ∷ p.waiting }
 
--- the first goal is selected, with this node, and the second place is where it leaves
+-- the first goal is selected, with this node, and the second machine is where it leaves
 abbrev pub Selects : Clauses → List ℕ → Position → DerivationNode → Position → Type 0
 Selects program path p n q = solved_at program path p ≡ with_node n (solved_at program path q)
 

@@ -4,7 +4,7 @@ ghost use Rattle.std.specs.Prelude.{◌≡◌, [], ◌∷◌, Some, IfOk, List a
 ghost use Rattle.ap_defs.specs.Answers.{derivation_in};
 ghost use Rattle.ap_defs.specs.Derivations.{NominalDerivation, derivation_of};
 ghost use Rattle.ap_backchain.specs.Views.{state_in};
-ghost use Rattle.ap_derive.specs.Nodes.{closed_node, made_in, node_of, preorder, with_below};
+ghost use Rattle.ap_derive.specs.Nodes.{closed_node, made_in, node_of, nodes_before, with_below};
 
 use crate::nodes::SelectedGoal;
 use ap_backchain::answers::{closed, closed_var};
@@ -90,8 +90,9 @@ pub fn assemble(
     store: &Store<'_>,
     nodes: Vec<SelectedGoal>,
 ) -> Result<Derivation, Memory>
-    requires { (d : NominalDerivation) × (map node_of nodes.items ≡ preorder d []) }
-    ensures { IfOk result (λ r. (d : NominalDerivation) → map node_of nodes.items ≡ preorder d [] →
+    requires { (d : NominalDerivation) × (map node_of nodes.items ≡ nodes_before d []) }
+    ensures { IfOk result (λ r. (d : NominalDerivation) →
+        map node_of nodes.items ≡ nodes_before d [] →
         derivation_of r ≡ derivation_in (state_in store.now) d) }
 {
     let mut left = nodes;

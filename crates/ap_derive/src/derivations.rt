@@ -14,7 +14,7 @@ use crate::assembling::assemble;
 use crate::selecting::select_along;
 use ap_backchain::branch::Branch;
 use ap_backchain::problem::{Problem, query_of_problem};
-use ap_backchain::run::first_place;
+use ap_backchain::run::first_machine;
 use ap_defs::memory::Memory;
 use ap_defs::outcomes::Derivation;
 use std::alloc::Global;
@@ -37,9 +37,9 @@ pub fn derive_along(alloc: Global, p: &Problem<'_>, path: &[u32]) -> Result<Deri
 {
     let clauses = p.program.predicates();
     let query = query_of_problem(p);
-    let mut place = first_place(alloc, p.depth, query)?;
-    let nodes = select_along(alloc, clauses, &mut place, path)?;
-    assemble(alloc, &place.store, nodes)
+    let mut machine = first_machine(alloc, p.depth, query)?;
+    let nodes = select_along(alloc, clauses, &mut machine, path)?;
+    assemble(alloc, &machine.store, nodes)
 }
 
 /// The derivation of the answer at which a branch stands: the one of the state that the search

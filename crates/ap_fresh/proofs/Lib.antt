@@ -1,6 +1,5 @@
 pub mod SetLemmas
 pub mod SortLemmas
-pub mod VisitLemmas
 pub mod StepLemmas
 pub mod RenamedLemmas
 pub mod PendingLemmas

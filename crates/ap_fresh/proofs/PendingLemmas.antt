@@ -1,7 +1,7 @@
 -- What is left on a stack of problems, of which the last is taken first.
 use Rattle.std.proofs.Common.{◌≡◌, ◌<◌, ℕ, ◌+◌, List, [], ◌∷◌, ◌++◌, refl, sym, ap, ◌∙◌, append_assoc, arith}
 use Rattle.std.proofs.lemmas.List.{append-nil}
-use Rattle.std.specs.Prelude.{Option, Some, None}
+use Rattle.std.specs.Prelude.{None, Option, Some}
 use Rattle.ap_defs.specs.Freshness.{Conds, both}
 use Rattle.ap_defs.specs.Terms.{NominalTerm}
 use Rattle.ap_defs.specs.declared.terms.Cond.{Cond}
@@ -11,7 +11,7 @@ use Rattle.ap_fresh.specs.Reduction.{added, pending_term}
 use Rattle.ap_fresh.specs.declared.pending.Pending.{Pending}
 use Rattle.ap_fresh.proofs.SetLemmas.{behind-append}
 use Rattle.ap_fresh.proofs.StepLemmas.{problem}
-use Rattle.ap_fresh.proofs.VisitLemmas.{visits}
+use Rattle.ap_perm.proofs.VisitLemmas.{visits}
 
 both_assoc : (x y z : Option (List Cond)) → both (both x y) z ≡ both x (both y z)
 both_assoc None y z = refl

@@ -1,9 +1,9 @@
 -- Texts of small seeds, computed.
 use Rattle.std.proofs.Common.{◌≡◌, ◌++◌, refl}
 use Rattle.std.specs.Prelude.{codes}
-use Rattle.ap_gen.specs.Generated.{calculus, drawn, generated, next}
+use Rattle.ap_gen.specs.Generated.{calculus, drawn, generated, next_draw}
 
-pub first_of_two : next 2 ≡ 224
+pub first_of_two : next_draw 2 ≡ 224
 first_of_two = refl
 
 pub drawn_of_two : drawn 4 2 ≡ 2

@@ -2,10 +2,10 @@
 use Rattle.std.proofs.Common.{◌≡◌, ◌≤◌, ◌+◌, ◌*◌, ◌%◌, ℕ, zero, suc, List, ◌++◌, length, refl, ap, ◌∙◌, arith, length-append}
 use Rattle.std.specs.Prelude.{codes}
 use Rattle.ap_defs.specs.Limits.{size_limit}
-use Rattle.ap_gen.specs.Generated.{Made, application, by_kind, calculus, drawn, generated, lambda, leaf, name_text, next, queries, query, term}
+use Rattle.ap_gen.specs.Generated.{Made, application, by_kind, calculus, drawn, generated, lambda, leaf, bound_name, next_draw, queries, query, term}
 use Rattle.ap_gen.specs.Sizes.{most_queries}
 
-name_length : (n : ℕ) → length (name_text n) ≡ 1
+name_length : (n : ℕ) → length (bound_name n) ≡ 1
 name_length zero = refl
 name_length (suc zero) = refl
 name_length (suc (suc n)) = refl
@@ -23,17 +23,17 @@ longest (suc h) = 2 * longest h + 6
 
 leaf_length : (x : ℕ) → length (leaf x).text ≡ 6
 leaf_length x =
-    let whole : length (leaf x).text ≡ 4 + length (name_text (drawn 3 x)) + 1 = three (codes "var(") (name_text (drawn 3 x)) (codes ")") in
+    let whole : length (leaf x).text ≡ 4 + length (bound_name (drawn 3 x)) + 1 = three (codes "var(") (bound_name (drawn 3 x)) (codes ")") in
     omega (arith, whole, name_length (drawn 3 x))
 
 -- the parts of a term are no longer than this
 module _ (make : ℕ → Made) (most : ℕ) (short : (x : ℕ) → length (make x).text ≤ most) where
   lambda_length : (x : ℕ) → length (lambda make x).text ≤ most + 7
   lambda_length x =
-      let name = name_text (drawn 3 x) in
-      let body = (make (next x)).text in
+      let name = bound_name (drawn 3 x) in
+      let body = (make (next_draw x)).text in
       let whole : length (lambda make x).text ≡ 4 + length name + 1 + length body + 1 = five (codes "lam(") name (codes "\\") body (codes ")") in
-      omega (arith, whole, name_length (drawn 3 x), short (next x))
+      omega (arith, whole, name_length (drawn 3 x), short (next_draw x))
 
   application_length : (x : ℕ) → length (application make x).text ≤ 2 * most + 6
   application_length x =
@@ -53,7 +53,7 @@ some_length (suc h) = omega (arith, some_length h)
 
 term_length : (h x : ℕ) → length (term h x).text ≤ longest h
 term_length zero x = omega (arith, leaf_length x)
-term_length (suc h) x = kind_length (term h) (longest h) (term_length h) (some_length h) (drawn 4 x) (next x)
+term_length (suc h) x = kind_length (term h) (longest h) (term_length h) (some_length h) (drawn 4 x) (next_draw x)
 
 query_length : (x : ℕ) → length (query x) ≤ 113
 query_length x =

@@ -3,31 +3,31 @@
 use Rattle.std.specs.Prelude.{ℕ, zero, suc, ◌+◌, ◌*◌, ◌/◌, ◌%◌, List, [], ◌++◌, codes}
 
 -- the state after a draw, and what is drawn of so many
-abbrev pub next : ℕ → ℕ
-next x = (75 * x + 74) % 65537
+abbrev pub next_draw : ℕ → ℕ
+next_draw x = (75 * x + 74) % 65537
 
 abbrev pub drawn : ℕ → ℕ → ℕ
-drawn m x = next x / 16 % m
+drawn m x = next_draw x / 16 % m
 
 -- What is made from a state, and the state after it.
 pub record Made : Type 0 where
   pub text : List ℕ
   pub state : ℕ
 
-abbrev pub name_text : ℕ → List ℕ
-name_text zero = codes "b"
-name_text (suc zero) = codes "c"
-name_text (suc (suc n)) = codes "d"
+abbrev pub bound_name : ℕ → List ℕ
+bound_name zero = codes "b"
+bound_name (suc zero) = codes "c"
+bound_name (suc (suc n)) = codes "d"
 
 -- a variable
 abbrev pub leaf : ℕ → Made
-leaf x = record { text = codes "var(" ++ name_text (drawn 3 x) ++ codes ")"; state = next x }
+leaf x = record { text = codes "var(" ++ bound_name (drawn 3 x) ++ codes ")"; state = next_draw x }
 
 -- an abstraction of what is made, and an application of it to another
 abbrev pub lambda : (ℕ → Made) → ℕ → Made
 lambda make x = record {
-  text = codes "lam(" ++ name_text (drawn 3 x) ++ codes "\\" ++ (make (next x)).text ++ codes ")";
-  state = (make (next x)).state;
+  text = codes "lam(" ++ bound_name (drawn 3 x) ++ codes "\\" ++ (make (next_draw x)).text ++ codes ")";
+  state = (make (next_draw x)).state;
 }
 
 abbrev pub application : (ℕ → Made) → ℕ → Made
@@ -45,7 +45,7 @@ by_kind (suc (suc k)) make x = application make x
 -- a term of at most this height
 abbrev pub term : ℕ → ℕ → Made
 term zero x = leaf x
-term (suc h) x = by_kind (drawn 4 x) (term h) (next x)
+term (suc h) x = by_kind (drawn 4 x) (term h) (next_draw x)
 
 -- a query, and so many of them, from a state
 abbrev pub query : ℕ → List ℕ

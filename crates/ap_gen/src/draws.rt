@@ -1,7 +1,7 @@
 //! Numbers that are drawn one after another.
 
 ghost use Rattle.std.specs.Prelude.{◌≡◌, ◌<◌};
-ghost use Rattle.ap_gen.specs.Generated.{drawn, next};
+ghost use Rattle.ap_gen.specs.Generated.{drawn, next_draw};
 
 /// The numbers of the linear congruential generator below 65537, from which draws are made.
 #[derive(Drop)]
@@ -25,7 +25,7 @@ impl Draws {
     pub fn draw(&mut self, many: u32) -> u32
         requires { 0 < many }
         ensures drawn { result ≡ drawn many self.old.state }
-        ensures state { self.new.state ≡ next self.old.state }
+        ensures state { self.new.state ≡ next_draw self.old.state }
         ensures below { result < many }
     {
         self.state = (75 * self.state + 74) % 65_537;

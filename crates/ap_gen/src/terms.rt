@@ -1,7 +1,7 @@
 //! Terms that are drawn.
 
 ghost use Rattle.std.specs.Prelude.{◌≡◌, ◌++◌, ◌≤◌, OnOk};
-ghost use Rattle.ap_gen.specs.Generated.{application, lambda, leaf, name_text, drawn, next, term};
+ghost use Rattle.ap_gen.specs.Generated.{application, lambda, leaf, bound_name, drawn, next_draw, term};
 
 use crate::draws::Draws;
 use ap_defs::memory::Memory;
@@ -9,8 +9,8 @@ use ap_defs::memory::Memory;
 /// Writes a name that is drawn.
 fn write_name(draws: &mut Draws, out: &mut Vec<u8>) -> Result<(), Memory>
     ensures text { OnOk result (out.new.items
-        ≡ out.old.items ++ name_text (drawn 3 draws.old.state)) }
-    ensures state { OnOk result (draws.new.state ≡ next draws.old.state) }
+        ≡ out.old.items ++ bound_name (drawn 3 draws.old.state)) }
+    ensures state { OnOk result (draws.new.state ≡ next_draw draws.old.state) }
 {
     match draws.draw(3) {
         0 => out.push(b'b')?,

@@ -6,7 +6,7 @@ use Rattle.std.specs.List.{position_or_len, prefix_len}
 use Rattle.std.specs.Prelude.{if◌then◌else◌, Option, Some, None}
 use Rattle.ap_defs.specs.declared.goals.Clause.{Clause}
 use Rattle.ap_defs.specs.declared.terms.Term.{Term}
-use Rattle.ap_defs.specs.Goals.{Clauses, NominalClause, NominalProgram, clause_of, clauses_of}
+use Rattle.ap_defs.specs.Goals.{Clauses, NominalClause, NominalProgram, clause_of, clauses_of, program_in}
 use Rattle.ap_defs.specs.HeadKeys.{agree, first_key, head_key, kept_from}
 use Rattle.ap_defs.specs.Limits.{size_limit}
 use Rattle.ap_defs.specs.Printing.{constructor_in}
@@ -14,7 +14,7 @@ use Rattle.ap_defs.specs.Resolution.{kinds_of}
 use Rattle.ap_defs.specs.Terms.{NominalTerm, unit, name, pair, app, abs, susp}
 use Rattle.ap_defs.specs.Types as types
 use Rattle.ap_defs.specs.Types.{NominalConstructor, NominalKind, NominalSignature, NominalType}
-use Rattle.ap_defs.specs.Typing.{Want, IsApplication}
+use Rattle.ap_defs.specs.Typing.{IsApplication, Want}
 use Rattle.ap_program.specs.NameRestriction.{IsRestricted, sum_of_lengths}
 use Rattle.ap_program.specs.RawTyping.{HasTermType, IsTypedTerm}
 use Rattle.ap_program.specs.Typed.{AreArguments, AreTypedClauses, AreTypedFrom, predicate_at, term_form}
@@ -180,12 +180,12 @@ pub nothing_behind : (key from : ℕ) (xs : List ℕ) → length xs ≤ from →
 nothing_behind key from xs h = ap (λ (ys : List ℕ). position_or_len (λ k. agree key k) ys) (drop_all from xs h)
 
 pub clauses_here : (css : List (List (Clause Term))) (n : ℕ) (cs : List (Clause Term)) → n < length css → cs ≡ get_or css n cs
-    → map clause_of cs ≡ clauses_of (map (map clause_of) css) n
+    → map clause_of cs ≡ clauses_of (program_in css) n
 clauses_here [] n cs h e = absurd (omega (arith, h))
 clauses_here (ds ∷ css) zero cs h e = ap (map clause_of) e
 clauses_here (ds ∷ css) (suc n) cs h e = clauses_here css n cs (omega (arith, h)) e
 
-pub clauses_past : (css : List (List (Clause Term))) (n : ℕ) → length css ≤ n → [] ≡ clauses_of (map (map clause_of) css) n
+pub clauses_past : (css : List (List (Clause Term))) (n : ℕ) → length css ≤ n → [] ≡ clauses_of (program_in css) n
 clauses_past [] n h = refl
 clauses_past (ds ∷ css) zero h = absurd (omega (arith, h))
 clauses_past (ds ∷ css) (suc n) h = clauses_past css n (omega (arith, h))

@@ -6,7 +6,7 @@ use Rattle.std.specs.Prelude.{◌==◌}
 use Rattle.ap_lanes.proofs.LaneLemmas.{run_ends, run_goes_on}
 use Rattle.ap_lanes.specs.Matching.{agrees}
 use Rattle.ap_theory.proofs.TermLemmas.{number_same}
-use Rattle.ap_index.specs.Places.{AreWithin, bucket}
+use Rattle.ap_index.specs.Places.{AreKeysWithin, bucket}
 
 -- a run goes on over what does not end it
 pub none_between : (p : ℕ → Bool) (xs : List ℕ) (i j : ℕ) → i ≤ j → j ≤ length xs → ((k : ℕ) → i ≤ k → k < j → p (get_or xs k 0) ≡ false)
@@ -31,7 +31,7 @@ not_true : (b : Bool) → (b ≡ true → ⊥) → b ≡ false
 not_true true f = absurd (f refl)
 not_true false f = refl
 
-module _ (keys starts ends : List ℕ) (key : ℕ) (within : AreWithin keys starts ends) where
+module _ (keys starts ends : List ℕ) (key : ℕ) (within : AreKeysWithin keys starts ends) where
   abbrev first : ℕ
   first = min (get_or starts (bucket (length keys) key) 0) (get_or starts 0 0)
 

@@ -4,7 +4,7 @@ use Rattle.ap_defs.specs.Goals.{clause_of}
 use Rattle.ap_defs.specs.declared.goals.Clause.{Clause}
 use Rattle.ap_defs.specs.declared.terms.Term.{Term}
 use Rattle.ap_index.specs.Keys.{AreNarrow, keys_of}
-use Rattle.ap_index.specs.Places.{AreWithin}
+use Rattle.ap_index.specs.Places.{AreKeysWithin}
 
 -- the keys are those of the clauses, and each stands within the places of its bucket
 pub record HasKeys (clauses : List (Clause Term)) (keys firsts lasts : List ℕ) : Type 0 where
@@ -13,4 +13,4 @@ pub record HasKeys (clauses : List (Clause Term)) (keys firsts lasts : List ℕ)
   pub few : length clauses < 2 ^ 32
   pub starts : length firsts ≡ length keys + 1
   pub ends : length lasts ≡ length keys + 1
-  pub within : AreWithin keys firsts lasts
+  pub within : AreKeysWithin keys firsts lasts

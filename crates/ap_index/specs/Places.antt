@@ -6,7 +6,7 @@ abbrev pub bucket : ℕ → ℕ → ℕ
 bucket n key = if key == 0 then 0 else 1 + key % n
 
 -- each key stands from where its bucket starts on, and before that ends
-abbrev pub AreWithin : List ℕ → List ℕ → List ℕ → Type 0
-AreWithin keys starts ends =
+abbrev pub AreKeysWithin : List ℕ → List ℕ → List ℕ → Type 0
+AreKeysWithin keys starts ends =
     (i : ℕ) → i < length keys →
     (slice_index starts (bucket (length keys) (slice_index keys i)) ≤ i) × (i < slice_index ends (bucket (length keys) (slice_index keys i)))

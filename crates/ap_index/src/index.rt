@@ -1,7 +1,7 @@
 //! The index of a program.
 
-ghost use Rattle.std.specs.Prelude.{◌≡◌, IfOk, OnErr, OnOk, map};
-ghost use Rattle.ap_defs.specs.Goals.{clause_of, clauses_of, program_of};
+ghost use Rattle.std.specs.Prelude.{◌≡◌, IfOk, OnErr, OnOk};
+ghost use Rattle.ap_defs.specs.Goals.{clauses_of, program_in, program_of};
 ghost use Rattle.ap_defs.specs.HeadKeys.{kept_from};
 ghost use Rattle.ap_index.specs.Keys.{AreNarrowLists};
 ghost use Rattle.ap_program.specs.NameRestriction.{IsRestricted};
@@ -48,7 +48,7 @@ fn predicates_of<'a>(
     alloc: Global,
     clauses: &'a [List<Clause<Term>>],
 ) -> Result<Vec<Predicate<'a>>, Memory>
-    requires { AreNarrowLists (map (map clause_of) clauses.now) }
+    requires { AreNarrowLists (program_in clauses.now) }
     ensures { IfOk result (λ v. v.items ≡ clauses.now) }
 {
     let mut predicates = Vec::with_capacity(alloc, clauses.len())?;

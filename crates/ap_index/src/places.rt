@@ -2,7 +2,7 @@
 
 ghost use Rattle.std.specs.Prelude.{◌≡◌, ◌+◌, ◌<◌, ◌≤◌, ◌^◌, IfOk, drop, length, not};
 ghost use Rattle.std.specs.List.{prefix_len};
-ghost use Rattle.ap_index.specs.Places.{AreWithin, bucket};
+ghost use Rattle.ap_index.specs.Places.{AreKeysWithin, bucket};
 ghost use Rattle.ap_lanes.specs.Matching.{agrees};
 
 use ap_defs::memory::Memory;
@@ -34,7 +34,7 @@ pub fn places_of(alloc: Global, keys: &[u32]) -> Result<Places, Memory>
     requires { length keys.now < 2 ^ 32 }
     ensures starts { IfOk result (λ p. length p.starts.items ≡ length keys.now + 1) }
     ensures ends { IfOk result (λ p. length p.ends.items ≡ length keys.now + 1) }
-    ensures within { IfOk result (λ p. AreWithin keys.now p.starts.items p.ends.items) }
+    ensures within { IfOk result (λ p. AreKeysWithin keys.now p.starts.items p.ends.items) }
 {
     let count = keys.len() as u32;
     let mut starts = Vec::from_elem(alloc, count, keys.len() + 1)?;
@@ -54,7 +54,7 @@ pub fn next_within(keys: &[u32], places: &Places, key: u32, from: usize) -> usiz
     requires from { from ≤ length keys.now }
     requires starts { length places.now.starts.items ≡ length keys.now + 1 }
     requires ends { length places.now.ends.items ≡ length keys.now + 1 }
-    requires within { AreWithin keys.now places.now.starts.items places.now.ends.items }
+    requires within { AreKeysWithin keys.now places.now.starts.items places.now.ends.items }
     ensures { result ≡ from + prefix_len (λ k. not (agrees key k)) (drop from keys.now) }
 {
     let count = keys.len();

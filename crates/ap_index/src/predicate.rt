@@ -2,10 +2,10 @@
 
 ghost use Rattle.std.specs.Prelude.{◌≡◌, ◌+◌, ◌<◌, ◌^◌, [], IfOk, MatchOption, OnErr, OnOk, drop, length, map};
 ghost use Rattle.std.specs.List.{position_or_len};
-ghost use Rattle.ap_defs.specs.Goals.{clause_of, clauses_of};
+ghost use Rattle.ap_defs.specs.Goals.{clause_of, clauses_of, program_in};
 ghost use Rattle.ap_defs.specs.HeadKeys.{agree, first_key, kept_from};
 ghost use Rattle.ap_index.specs.Keys.{AreNarrow, keys_of};
-ghost use Rattle.ap_index.specs.Places.{AreWithin};
+ghost use Rattle.ap_index.specs.Places.{AreKeysWithin};
 
 use crate::keys::keys_of_clauses;
 use crate::places::{Places, next_within, places_of};
@@ -51,7 +51,7 @@ fn next_place(keys: &[u32], places: &Places, key: u64, from: usize) -> usize
     requires few { length keys.now < 2 ^ 32 }
     requires starts { length places.now.starts.items ≡ length keys.now + 1 }
     requires ends { length places.now.ends.items ≡ length keys.now + 1 }
-    requires within { AreWithin keys.now places.now.starts.items places.now.ends.items }
+    requires within { AreKeysWithin keys.now places.now.starts.items places.now.ends.items }
     ensures { result ≡ from + position_or_len (λ k. agree key k) (drop from keys.now) }
 {
     if key == 0 {
@@ -124,8 +124,8 @@ impl<'a> Predicate<'a> {
 
 /// The clauses of the predicate with this number, if there is one.
 pub fn predicate_at<'s, 'a>(predicates: &'s [Predicate<'a>], pred: u32) -> Option<&'s Predicate<'a>>
-    ensures { MatchOption result ([] ≡ clauses_of (map (map clause_of) predicates.now) pred)
-        (λ p. map clause_of p.now ≡ clauses_of (map (map clause_of) predicates.now) pred) }
+    ensures { MatchOption result ([] ≡ clauses_of (program_in predicates.now) pred)
+        (λ p. map clause_of p.now ≡ clauses_of (program_in predicates.now) pred) }
 {
     if (pred as usize) < predicates.len() {
         Some(&predicates[pred as usize])

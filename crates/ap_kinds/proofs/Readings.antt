@@ -1,7 +1,8 @@
 -- Kinds that are read off the most general shapes.
-use Rattle.std.proofs.Common.{◌≡◌, ◌<◌, ◌≤◌, ◌+◌, ◌∙◌, ◌⊎◌, inl, inr, ℕ, zero, suc, List, [], ◌∷◌, Bool, true, false, length, refl, sym, ap, subst, arith}
-use Rattle.std.specs.Prelude.{◌&&◌, nat_lt, slice_index_or}
+use Rattle.std.proofs.Common.{◌≡◌, ◌<◌, ◌≤◌, ◌+◌, ◌∙◌, ◌⊎◌, inl, inr, ℕ, zero, suc, List, [], ◌∷◌, true, length, refl, sym, ap, subst, arith}
+use Rattle.std.specs.Prelude.{nat_lt, slice_index_or}
 use Rattle.std.proofs.lemmas.Bool.Decides.{nat_tests}
+use Rattle.std.proofs.lemmas.Bool.{and_from, and_parts}
 use Rattle.ap_defs.specs.Types.{NominalType, TypeShape, hole, unit, names, base, pair, list, abs}
 use Rattle.ap_defs.specs.Types as types
 use Rattle.ap_types.specs.Equations.{ShapeEquation, ◌≐◌, Filling, filled, Solves, IsNameType, GivesNames, FilledBy, hole_count}
@@ -146,16 +147,6 @@ result_meets n s ts h proper γ c =
     solution_same n k f (filling (result_by γ ts)) (λ x l. closes γ (shape_at ts x) (proper_at n s ts h proper g named x)) s.equations s.names (omega arith) (omega arith) sol
 
 -- Declared types.
-both_true : (a b : Bool) → (a && b) ≡ true → (a ≡ true) × (b ≡ true)
-both_true true true e = (refl, refl)
-both_true true false e = cc
-both_true false b e = cc
-
-and_true : (a b : Bool) → a ≡ true → b ≡ true → (a && b) ≡ true
-and_true true true e d = refl
-and_true true false e d = cc
-and_true false b e d = cc
-
 below_is : (i j : ℕ) → i < j → nat_lt i j ≡ true
 below_is i j l = grind (arith, nat_tests)
 
@@ -166,9 +157,9 @@ opened_declared : (n m : ℕ) (a : NominalType) → IsDeclaredType n m a → is_
 opened_declared n m types.unit d = refl
 opened_declared n m (types.names s) d = below_is s n d
 opened_declared n m (types.base b) d = below_is b m d
-opened_declared n m (types.pair a b) d = and_true (is_declared n m (opened a)) (is_declared n m (opened b)) (opened_declared n m a d.0) (opened_declared n m b d.1)
+opened_declared n m (types.pair a b) d = and_from (is_declared n m (opened a)) (is_declared n m (opened b)) (opened_declared n m a d.0) (opened_declared n m b d.1)
 opened_declared n m (types.list a) d = opened_declared n m a d
-opened_declared n m (types.abs s a) d = and_true (nat_lt s n) (is_declared n m (opened a)) (below_is s n d.0) (opened_declared n m a d.1)
+opened_declared n m (types.abs s a) d = and_from (nat_lt s n) (is_declared n m (opened a)) (below_is s n d.0) (opened_declared n m a d.1)
 
 filled_declared : (n m : ℕ) (f : Filling) (t : TypeShape) → is_declared n m (filled f t) ≡ true → is_declared n m t ≡ true
 filled_declared n m f (hole x) e = refl
@@ -176,12 +167,12 @@ filled_declared n m f unit e = refl
 filled_declared n m f (names s) e = e
 filled_declared n m f (base d) e = e
 filled_declared n m f (pair t u) e =
-    let r = both_true (is_declared n m (filled f t)) (is_declared n m (filled f u)) e in
-    and_true (is_declared n m t) (is_declared n m u) (filled_declared n m f t r.0) (filled_declared n m f u r.1)
+    let r = and_parts (is_declared n m (filled f t)) (is_declared n m (filled f u)) e in
+    and_from (is_declared n m t) (is_declared n m u) (filled_declared n m f t r.0) (filled_declared n m f u r.1)
 filled_declared n m f (list t) e = filled_declared n m f t e
 filled_declared n m f (abs t u) e =
-    let r = both_true (is_declared n m (filled f t)) (is_declared n m (filled f u)) e in
-    and_true (is_declared n m t) (is_declared n m u) (filled_declared n m f t r.0) (filled_declared n m f u r.1)
+    let r = and_parts (is_declared n m (filled f t)) (is_declared n m (filled f u)) e in
+    and_from (is_declared n m t) (is_declared n m u) (filled_declared n m f t r.0) (filled_declared n m f u r.1)
 
 -- a declared type is an instance of declared shapes alone
 pub instance_declared : (n m : ℕ) (f : Filling) (t : TypeShape) (a : NominalType) → opened a ≡ filled f t → IsDeclaredType n m a → is_declared n m t ≡ true
@@ -194,11 +185,11 @@ closed_declared n m γ unit p c e = tt
 closed_declared n m γ (names s) p c e = is_below s n e
 closed_declared n m γ (base d) p c e = is_below d m e
 closed_declared n m γ (pair t u) p c e =
-    let r = both_true (is_declared n m t) (is_declared n m u) e in
+    let r = and_parts (is_declared n m t) (is_declared n m u) e in
     (closed_declared n m γ t p.0 c r.0, closed_declared n m γ u p.1 c r.1)
 closed_declared n m γ (list t) p c e = closed_declared n m γ t p c e
 closed_declared n m γ (abs t u) p c e =
-    let r = both_true (is_declared n m t) (is_declared n m u) e in
+    let r = and_parts (is_declared n m t) (is_declared n m u) e in
     (sort_declared t p.0 r.0, closed_declared n m γ u p.1 c r.1)
   where
     type_sort : (a : NominalType) → IsNamesShape (opened a) → IsDeclaredType n m a → sort_of a < n
@@ -217,13 +208,13 @@ closed_read f unit e = refl
 closed_read f (names s) e = refl
 closed_read f (base d) e = refl
 closed_read f (pair t u) e =
-    let r = both_true (is_closed t) (is_closed u) e in
+    let r = and_parts (is_closed t) (is_closed u) e in
     let a = closed_read f t r.0 in
     let b = closed_read f u r.1 in
     cc
 closed_read f (list t) e = ap list (closed_read f t e)
 closed_read f (abs t u) e =
-    let r = both_true (is_sort t) (is_closed u) e in
+    let r = and_parts (is_sort t) (is_closed u) e in
     let a = sort_read t r.0 in
     let b = closed_read f u r.1 in
     cc
@@ -254,13 +245,13 @@ same_closed a b (names s) d p e = refl
 same_closed a b (base c) d p e = refl
 same_closed a b (pair t u) d p e =
     let c : ◌≡◌ {A = TypeShape} (pair (filled (λ y. a) t) (filled (λ y. a) u)) (pair (filled (λ y. b) t) (filled (λ y. b) u)) = e in
-    and_true (is_closed t) (is_closed u) (same_closed a b t d p.0 cc) (same_closed a b u d p.1 cc)
+    and_from (is_closed t) (is_closed u) (same_closed a b t d p.0 cc) (same_closed a b u d p.1 cc)
 same_closed a b (list t) d p e =
     let c : ◌≡◌ {A = TypeShape} (list (filled (λ y. a) t)) (list (filled (λ y. b) t)) = e in
     same_closed a b t d p cc
 same_closed a b (abs t u) d p e =
     let c : ◌≡◌ {A = TypeShape} (abs (filled (λ y. a) t) (filled (λ y. a) u)) (abs (filled (λ y. b) t) (filled (λ y. b) u)) = e in
-    and_true (is_sort t) (is_closed u) (sort_same t p.0 cc) (same_closed a b u d p.1 cc)
+    and_from (is_sort t) (is_closed u) (sort_same t p.0 cc) (same_closed a b u d p.1 cc)
   where
     sort_same : (l : TypeShape) → IsNamesShape (filled (λ y. a) l) → filled (λ y. a) l ≡ filled (λ y. b) l → is_sort l ≡ true
     sort_same (hole x) h i = absurd (d i)

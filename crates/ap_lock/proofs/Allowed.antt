@@ -11,7 +11,7 @@ use Rattle.ap_paths.specs.declared.entries.Entry.{Entry}
 use Rattle.ap_lock.specs.declared.view.Stage.TheVariants.{Idle, Waiting, Turn}
 use Rattle.ap_lock.specs.declared.view.Own.{Own}
 use Rattle.ap_lock.specs.declared.view.View.{View}
-use Rattle.ap_lock.specs.Turns.{Slot, own, view, lone, IsKept, Kept, Drew, Called, Looked, Ended, AreBy, IsIdle, IsWaiting, HasTurn, MayEnd, number_of, seen_of}
+use Rattle.ap_lock.specs.Turns.{Slot, own, view, lone, IsLockKept, Kept, Drew, Called, Looked, Ended, AreBy, IsIdle, IsWaiting, HasTurn, MayEnd, seat_number, seen_of}
 use Rattle.ap_lock.proofs.Steps.{draw_step, take_step, end_step, at_home, window}
 
 abbrev Homes : Type 0
@@ -29,7 +29,7 @@ draw_allows seats slots id os some_mine s kept size at fits =
     let k = kept.3 in
     let w = view (Waiting T) os in
     let now = draw_step seats S T H s id os k at some_mine in
-    let ws = subst (λ (n : ℕ). IsKept seats S (T + 1) H (state (n ∷ S % 2 ^ 64 ∷ []) s.homes (set s.views id w))) (sym (mod-add-mod T (2 ^ 64) 1)) now in (
+    let ws = subst (λ (n : ℕ). IsLockKept seats S (T + 1) H (state (n ∷ S % 2 ^ 64 ∷ []) s.homes (set s.views id w))) (sym (mod-add-mod T (2 ^ 64) 1)) now in (
       w,
       keeps,
       tt,
@@ -81,7 +81,7 @@ end_allows seats slots id t n seen hist es more by s kept size at fits =
     let k = kept.3 in
     let w = lone Idle n hist in
     let now = end_step seats S T H s id t n seen hist es k at more by in
-    let ws = subst (λ (m : ℕ). IsKept seats (S + 1) T hist (state (T % 2 ^ 64 ∷ m ∷ []) (some (Some hist) ∷ []) (set s.views id w))) (sym (mod-add-mod S (2 ^ 64) 1)) now.1 in (
+    let ws = subst (λ (m : ℕ). IsLockKept seats (S + 1) T hist (state (T % 2 ^ 64 ∷ m ∷ []) (some (Some hist) ∷ []) (set s.views id w))) (sym (mod-add-mod S (2 ^ 64) 1)) now.1 in (
       w,
       gives,
       tt,
@@ -103,7 +103,7 @@ weaker K slots id m i f P Q imp a s kept size at fits = let r = a s kept size at
 
 pub draw_at : (seats slots id : ℕ) (m : Me Slot View) → IsIdle m → Allows (Kept seats) slots id m 0 (λ n. (n + 1) % 2 ^ 64) (Drew m)
 draw_at seats slots id m idle =
-    subst (λ (x : Me Slot View). Allows (Kept seats) slots id x 0 (λ n. (n + 1) % 2 ^ 64) (Drew x)) (sym idle) (draw_allows seats slots id (own (number_of m.0) (seen_of m.0) ∷ []) (omega arith))
+    subst (λ (x : Me Slot View). Allows (Kept seats) slots id x 0 (λ n. (n + 1) % 2 ^ 64) (Drew x)) (sym idle) (draw_allows seats slots id (own (seat_number m.0) (seen_of m.0) ∷ []) (omega arith))
 
 pub drawn : (m w : Me Slot View) (n : ℕ) → IsIdle m → Drew m n w → IsWaiting m.0 n w
 drawn m w n idle drew =
@@ -111,12 +111,12 @@ drawn m w n idle drew =
 
 pub look_at : (seats slots id n : ℕ) (v : View) (m : Me Slot View) → IsWaiting v n m → Allows (Kept seats) slots id m 1 (λ k. k) (Looked m)
 look_at seats slots id n v m waits =
-    subst (λ (x : Me Slot View). Allows (Kept seats) slots id x 1 (λ k. k) (Looked x)) (sym waits.2) (look_allows seats slots id waits.0 (number_of v) (seen_of v))
+    subst (λ (x : Me Slot View). Allows (Kept seats) slots id x 1 (λ k. k) (Looked x)) (sym waits.2) (look_allows seats slots id waits.0 (seat_number v) (seen_of v))
 
 pub end_at : (seats slots id : ℕ) (m : Me Slot View) → MayEnd m → Allows (Kept seats) slots id m 1 (λ n. (n + 1) % 2 ^ 64) (Ended m)
 end_at seats slots id m may =
     let t = may.0 in
-    let n = number_of m.0 in
+    let n = seat_number m.0 in
     let hist = may.1 in
     let adds = may.3 in
     let x : Me Slot View = (lone (Turn t) n (seen_of m.0), (0, Some hist) ∷ []) in
@@ -127,14 +127,14 @@ end_at seats slots id m may =
 -- the turn was found
 pub called : (v : View) (n found : ℕ) (m w : Me Slot View) → IsWaiting v n m → Looked m found w → found ≡ n → (history : List Entry) × HasTurn v history w
 called v n found m w waits looked is =
-    let x : Me Slot View = (lone (Waiting waits.0) (number_of v) (seen_of v), []) in
+    let x : Me Slot View = (lone (Waiting waits.0) (seat_number v) (seen_of v), []) in
     let c : Called waits.0 x found w = subst (λ (x : Me Slot View). Looked x found w) waits.2 looked in
     ⊎_elim (λ h. (h.1.0, (h.1.1, (waits.0, h.1.2)))) (λ h. absurd (h.0 (is ∙ waits.1))) c
 
 -- or it was not
 pub waits_on : (v : View) (n found : ℕ) (m w : Me Slot View) → IsWaiting v n m → Looked m found w → found ≢ n → IsWaiting v n w
 waits_on v n found m w waits looked ne =
-    let x : Me Slot View = (lone (Waiting waits.0) (number_of v) (seen_of v), []) in
+    let x : Me Slot View = (lone (Waiting waits.0) (seat_number v) (seen_of v), []) in
     let c : Called waits.0 x found w = subst (λ (x : Me Slot View). Looked x found w) waits.2 looked in
     ⊎_elim (λ h. absurd (ne (h.0 ∙ sym waits.1))) (λ h. (waits.0, waits.1, h.1)) c
 

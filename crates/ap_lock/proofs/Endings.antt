@@ -8,7 +8,7 @@ use Rattle.ap_paths.specs.declared.entries.Entry.{Entry}
 use Rattle.ap_lock.specs.declared.view.Stage.TheVariants.{Idle}
 use Rattle.ap_lock.specs.declared.view.Own.{Own}
 use Rattle.ap_lock.specs.declared.view.View.{View}
-use Rattle.ap_lock.specs.Turns.{Slot, Kept, view, lone, fresh, seen_of, places_of, AreKnown, others, first_of, united, times, one_if}
+use Rattle.ap_lock.specs.Turns.{Slot, Kept, view, lone, fresh_owns, seen_of, places_of, AreKnown, others, first_seat_only, united, times, one_if}
 use Rattle.ap_lock.specs.Seats.{SeatView, Raw, seat_view, IsSeat, AreOf, AreLogged, new_seats, seats_with}
 use Rattle.ap_lock.proofs.Steps.{all_home, no_strangers}
 
@@ -47,9 +47,9 @@ suc-sub : (n : ℕ) → suc n - 1 ≡ n
 suc-sub n = omega arith
 
 -- the first of at least one seat
-pub cut_first : (i n : ℕ) → 0 < n → (others (view Idle (fresh i n)) ≡ view Idle (fresh (i + 1) (n - 1))) × (first_of (view Idle (fresh i n)) ≡ lone Idle i [])
+pub cut_first : (i n : ℕ) → 0 < n → (others (view Idle (fresh_owns i n)) ≡ view Idle (fresh_owns (i + 1) (n - 1))) × (first_seat_only (view Idle (fresh_owns i n)) ≡ lone Idle i [])
 cut_first i zero lt = absurd (omega arith)
-cut_first i (suc n) lt = (ap (λ (k : ℕ × ℕ). view Idle (fresh k.0 k.1)) (λ j. (sym (add-one i) j, sym (suc-sub n) j)), refl)
+cut_first i (suc n) lt = (ap (λ (k : ℕ × ℕ). view Idle (fresh_owns k.0 k.1)) (λ j. (sym (add-one i) j, sym (suc-sub n) j)), refl)
 
 -- a seat's view is of a seat, as it was made
 pub made_seat : (book : TableId) (n : ℕ) (raw : Raw) → raw.table_id ≡ book → raw.me ≡ (lone Idle n [], []) → IsSeat n raw × (seat_view n raw ≡ record { book = book; number = n; seen = [] })

@@ -11,15 +11,15 @@ use Rattle.ap_lock.specs.declared.view.Stage.{Stage}
 use Rattle.ap_lock.specs.declared.view.Stage.TheVariants.{Idle, Waiting, Turn}
 use Rattle.ap_lock.specs.declared.view.Own.{Own}
 use Rattle.ap_lock.specs.declared.view.View.{View}
-use Rattle.ap_lock.specs.Turns.{Slot, own, view, lone, places_of, one_if, times, total, has, tickets, turns, AreKnown, InTurn, Fits, IsKept, Kept, AreBy, fresh, others, first_of, united}
+use Rattle.ap_lock.specs.Turns.{Slot, own, view, lone, places_of, one_if, times, total, has, tickets, turns, AreKnown, InTurn, FitsHistory, IsLockKept, Kept, AreBy, fresh_owns, others, first_seat_only, united}
 use Rattle.ap_lock.proofs.Counts.{total_set, total_snoc, total_at, total_two, total_le, total_zero, total_some}
 use Rattle.ap_lock.proofs.Places.{places_others}
 
 abbrev pub AllFit : ℕ → ℕ → List Entry → List View → Type 0
-AllFit S T H views = (port : ℕ) (v : View) → get_elem? views port ≡ some v → Fits S T H v
+AllFit S T H views = (port : ℕ) (v : View) → get_elem? views port ≡ some v → FitsHistory S T H v
 
 -- at most 64 tickets are out
-pub window : (seats S T : ℕ) (H : List Entry) (s : State Slot View) → IsKept seats S T H s → T ≤ S + 64
+pub window : (seats S T : ℕ) (H : List Entry) (s : State Slot View) → IsLockKept seats S T H s → T ≤ S + 64
 window seats S T H s k =
     let le = total_le (λ v. tickets v.stage) (λ v. length v.owns) s.views (λ j u at. (k.fit j u at).owns) in
     let c = k.counted in
@@ -27,9 +27,9 @@ window seats S T H s k =
     let f = k.few in
     omega arith
 
-pub fit_set : (S T : ℕ) (H : List Entry) (views : List View) (id : ℕ) (w : View) → Fits S T H w → ((j : ℕ) (u : View) → j ≢ id → get_elem? views j ≡ some u → Fits S T H u) → AllFit S T H (set views id w)
+pub fit_set : (S T : ℕ) (H : List Entry) (views : List View) (id : ℕ) (w : View) → FitsHistory S T H w → ((j : ℕ) (u : View) → j ≢ id → get_elem? views j ≡ some u → FitsHistory S T H u) → AllFit S T H (set views id w)
 fit_set S T H views id w mine others j u at =
-    ⊎_elim (λ (x : (j ≡ id) × (w ≡ u)). subst (λ (y : View). Fits S T H y) x.1 mine)
+    ⊎_elim (λ (x : (j ≡ id) × (w ≡ u)). subst (λ (y : View). FitsHistory S T H y) x.1 mine)
     (λ (x : (j ≢ id) × (get_elem? views j ≡ some u)). others j u x.0 x.1) (at_set views id j w u at)
 
 later_drawn : (S T : ℕ) (H : List Entry) (st : Stage) (os : List Own) → InTurn S T H st os → InTurn S (T + 1) H st os
@@ -54,8 +54,8 @@ one_if_le true = omega arith
 one_if_le false = omega arith
 
 -- a ticket is drawn
-pub draw_step : (seats S T : ℕ) (H : List Entry) (s : State Slot View) (id : ℕ) (os : List Own) → IsKept seats S T H s → get_elem? s.views id ≡ some (view Idle os) → 0 < length os
-    → IsKept seats S (T + 1) H record { words = (T + 1) % 2 ^ 64 ∷ S % 2 ^ 64 ∷ []; homes = s.homes; views = set s.views id (view (Waiting T) os) }
+pub draw_step : (seats S T : ℕ) (H : List Entry) (s : State Slot View) (id : ℕ) (os : List Own) → IsLockKept seats S T H s → get_elem? s.views id ≡ some (view Idle os) → 0 < length os
+    → IsLockKept seats S (T + 1) H record { words = (T + 1) % 2 ^ 64 ∷ S % 2 ^ 64 ∷ []; homes = s.homes; views = set s.views id (view (Waiting T) os) }
 draw_step seats S T H s id os k at some_mine =
     let v = view Idle os in
     let w = view (Waiting T) os in
@@ -91,14 +91,14 @@ served_later S T H hist (Waiting u) os apart h =
 served_later S T H hist (Turn u) os apart h = absurd (apart (ap one_if (eq-eqb u S h.0)))
 
 -- two views have no ticket in common
-one_each : (seats S T : ℕ) (H : List Entry) (s : State Slot View) (i j t : ℕ) (v u : View) → IsKept seats S T H s → get_elem? s.views i ≡ some v → get_elem? s.views j ≡ some u → j ≢ i → has t v.stage ≡ 1 → has t u.stage ≡ 1 → ⊥
+one_each : (seats S T : ℕ) (H : List Entry) (s : State Slot View) (i j t : ℕ) (v u : View) → IsLockKept seats S T H s → get_elem? s.views i ≡ some v → get_elem? s.views j ≡ some u → j ≢ i → has t v.stage ≡ 1 → has t u.stage ≡ 1 → ⊥
 one_each seats S T H s i j t v u k at at' apart a b =
     let two = total_two (λ y. has t y.stage) s.views i j v u at at' apart in
     let o = k.drawn_once t in
     omega arith
 
 -- while a waiting view has the ticket that is served, the book is at home
-pub at_home : (seats S T : ℕ) (H : List Entry) (s : State Slot View) (id t : ℕ) (os : List Own) → IsKept seats S T H s → get_elem? s.views id ≡ some (view (Waiting t) os) → S ≡ t → (s.homes ≡ some (Some H) ∷ []) × (total (λ v. turns v.stage) s.views ≡ 0)
+pub at_home : (seats S T : ℕ) (H : List Entry) (s : State Slot View) (id t : ℕ) (os : List Own) → IsLockKept seats S T H s → get_elem? s.views id ≡ some (view (Waiting t) os) → S ≡ t → (s.homes ≡ some (Some H) ∷ []) × (total (λ v. turns v.stage) s.views ≡ 0)
 at_home seats S T H s id t os k at is =
     ⊎_elim (λ h. h)
     (λ h.
@@ -114,8 +114,8 @@ at_home seats S T H s id t os k at is =
     k.home
 
 -- the book is taken
-pub take_step : (seats S T : ℕ) (H : List Entry) (s : State Slot View) (id t n : ℕ) (seen : List Entry) → IsKept seats S T H s → get_elem? s.views id ≡ some (lone (Waiting t) n seen) → S ≡ t
-    → IsKept seats S T H record { words = s.words; homes = none ∷ []; views = set s.views id (lone (Turn t) n H) }
+pub take_step : (seats S T : ℕ) (H : List Entry) (s : State Slot View) (id t n : ℕ) (seen : List Entry) → IsLockKept seats S T H s → get_elem? s.views id ≡ some (lone (Waiting t) n seen) → S ≡ t
+    → IsLockKept seats S T H record { words = s.words; homes = none ∷ []; views = set s.views id (lone (Turn t) n H) }
 take_step seats S T H s id t n seen k at is =
     let v = lone (Waiting t) n seen in
     let w = lone (Turn t) n H in
@@ -150,8 +150,8 @@ known_later n H hist es (o ∷ os) grown by nil h =
     )
 
 -- the turn ends, and the book goes home with more entries by its own number
-pub end_step : (seats S T : ℕ) (H : List Entry) (s : State Slot View) (id t n : ℕ) (seen hist es : List Entry) → IsKept seats S T H s → get_elem? s.views id ≡ some (lone (Turn t) n seen) → hist ≡ seen ++ es → AreBy n es
-    → (s.homes ≡ none ∷ []) × IsKept seats (S + 1) T hist record { words = T % 2 ^ 64 ∷ (S + 1) % 2 ^ 64 ∷ []; homes = some (Some hist) ∷ []; views = set s.views id (lone Idle n hist) }
+pub end_step : (seats S T : ℕ) (H : List Entry) (s : State Slot View) (id t n : ℕ) (seen hist es : List Entry) → IsLockKept seats S T H s → get_elem? s.views id ≡ some (lone (Turn t) n seen) → hist ≡ seen ++ es → AreBy n es
+    → (s.homes ≡ none ∷ []) × IsLockKept seats (S + 1) T hist record { words = T % 2 ^ 64 ∷ (S + 1) % 2 ^ 64 ∷ []; homes = some (Some hist) ∷ []; views = set s.views id (lone Idle n hist) }
 end_step seats S T H s id t n seen hist es k at more by =
     let v = lone (Turn t) n seen in
     let w = lone Idle n hist in
@@ -195,8 +195,8 @@ end_step seats S T H s id t n seen hist es k at more by =
       },
     )
 
-fit_snoc : (S T : ℕ) (H : List Entry) (views : List View) (w : View) → Fits S T H w → AllFit S T H views → AllFit S T H (views ++ w ∷ [])
-fit_snoc S T H views w mine all j u at = ⊎_elim (λ x. all j u x) (λ (e : w ≡ u). subst (λ (y : View). Fits S T H y) e mine) (at_snoc views w u j at)
+fit_snoc : (S T : ℕ) (H : List Entry) (views : List View) (w : View) → FitsHistory S T H w → AllFit S T H views → AllFit S T H (views ++ w ∷ [])
+fit_snoc S T H views w mine all j u at = ⊎_elim (λ x. all j u x) (λ (e : w ≡ u). subst (λ (y : View). FitsHistory S T H y) e mine) (at_snoc views w u j at)
 
 times_cut : (n : ℕ) (os : List Own) → times n (drop 1 os) + times n (take 1 os) ≡ times n os
 times_cut n [] = refl
@@ -214,14 +214,14 @@ known_take : (H : List Entry) (os : List Own) → AreKnown H os → AreKnown H (
 known_take H [] h = tt
 known_take H (o ∷ os) h = (h.0, tt)
 
-pub cut_step : (seats id : ℕ) (v : View) → v.stage ≡ Idle → Splits (Kept seats) id v (others v) (first_of v)
+pub cut_step : (seats id : ℕ) (v : View) → v.stage ≡ Idle → Splits (Kept seats) id v (others v) (first_seat_only v)
 cut_step seats id v idle s kept at =
     let S = kept.0 in
     let T = kept.1 in
     let H = kept.2 in
     let k = kept.3 in
     let l = others v in
-    let r = first_of v in
+    let r = first_seat_only v in
     let vs = set s.views id l in
     let old = k.fit id v at in
     let zt = ap turns idle in
@@ -298,7 +298,7 @@ times_le n [] = omega arith
 times_le n (o ∷ os) = let b = one_if_le (eqb o.number n) in let r = times_le n os in omega arith
 
 -- where one view has all seats, the entries bear its numbers
-pub no_strangers : (seats S T : ℕ) (H : List Entry) (s : State Slot View) (id : ℕ) (v : View) → IsKept seats S T H s → get_elem? s.views id ≡ some v → length v.owns ≡ seats → (n : ℕ) → times n v.owns ≡ 0 → places_of n H ≡ []
+pub no_strangers : (seats S T : ℕ) (H : List Entry) (s : State Slot View) (id : ℕ) (v : View) → IsLockKept seats S T H s → get_elem? s.views id ≡ some v → length v.owns ≡ seats → (n : ℕ) → times n v.owns ≡ 0 → places_of n H ≡ []
 no_strangers seats S T H s id v k at all n mine =
     k.strangers n (total_zero (λ u. times n u.owns) s.views (λ j u there.
     dite (ℕ_discrete j id)
@@ -310,7 +310,7 @@ no_strangers seats S T H s id v k at all n mine =
     omega arith)))
 
 -- where an idle view has all seats, the book is at home
-pub all_home : (seats S T : ℕ) (H : List Entry) (s : State Slot View) (id : ℕ) (v : View) → IsKept seats S T H s → get_elem? s.views id ≡ some v → v.stage ≡ Idle → length v.owns ≡ seats → s.homes ≡ some (Some H) ∷ []
+pub all_home : (seats S T : ℕ) (H : List Entry) (s : State Slot View) (id : ℕ) (v : View) → IsLockKept seats S T H s → get_elem? s.views id ≡ some v → v.stage ≡ Idle → length v.owns ≡ seats → s.homes ≡ some (Some H) ∷ []
 all_home seats S T H s id v k at idle all =
     let quiet : (j : ℕ) (u : View) → get_elem? s.views j ≡ some u → turns u.stage ≡ 0 = λ j u there.
     dite (ℕ_discrete j id)
@@ -324,37 +324,37 @@ all_home seats S T H s id v k at idle all =
     let z = total_zero (λ u. turns u.stage) s.views quiet in
     ⊎_elim (λ h. h.0) (λ h. absurd (let y = h.1 in omega arith)) k.home
 
-length_fresh : (i n : ℕ) → length (fresh i n) ≡ n
+length_fresh : (i n : ℕ) → length (fresh_owns i n) ≡ n
 length_fresh i zero = refl
 length_fresh i (suc n) = ap suc (length_fresh (suc i) n)
 
 -- no number below i is among those from i on
-none_fresh : (x i n : ℕ) → x < i → times x (fresh i n) ≡ 0
+none_fresh : (x i n : ℕ) → x < i → times x (fresh_owns i n) ≡ 0
 none_fresh x i zero lt = refl
 none_fresh x i (suc n) lt = let z = none_fresh x (suc i) n (omega arith) in let y = ap one_if (ne_eqb i x (λ e. omega arith)) in omega arith
 
 -- nor one from i + n on
-far_fresh : (x i n : ℕ) → i + n ≤ x → times x (fresh i n) ≡ 0
+far_fresh : (x i n : ℕ) → i + n ≤ x → times x (fresh_owns i n) ≡ 0
 far_fresh x i zero far = refl
 far_fresh x i (suc n) far = let z = far_fresh x (suc i) n (omega arith) in let y = ap one_if (ne_eqb i x (λ e. omega arith)) in omega arith
 
-times_fresh : (x i n : ℕ) → times x (fresh i n) ≤ 1
+times_fresh : (x i n : ℕ) → times x (fresh_owns i n) ≤ 1
 times_fresh x i zero = omega arith
 times_fresh x i (suc n) =
     dite (ℕ_discrete i x)
     (λ e. let z = none_fresh x (suc i) n (omega arith) in let y = one_if_le (eqb i x) in omega arith)
     (λ ne. let z = times_fresh x (suc i) n in let y = ap one_if (ne_eqb i x ne) in omega arith)
 
-known_fresh : (i n : ℕ) → AreKnown [] (fresh i n)
+known_fresh : (i n : ℕ) → AreKnown [] (fresh_owns i n)
 known_fresh i zero = tt
 known_fresh i (suc n) = ((([], refl), refl), known_fresh (suc i) n)
 
-fit_first : (seats port : ℕ) (v : View) → get_elem? (view Idle (fresh 0 seats) ∷ []) port ≡ some v → Fits 0 0 [] v
-fit_first seats zero v at = subst (λ (u : View). Fits 0 0 [] u) (some-injective (view Idle (fresh 0 seats)) v at) record { known = known_fresh 0 seats; turn = tt; owns = omega arith }
+fit_first : (seats port : ℕ) (v : View) → get_elem? (view Idle (fresh_owns 0 seats) ∷ []) port ≡ some v → FitsHistory 0 0 [] v
+fit_first seats zero v at = subst (λ (u : View). FitsHistory 0 0 [] u) (some-injective (view Idle (fresh_owns 0 seats)) v at) record { known = known_fresh 0 seats; turn = tt; owns = omega arith }
 fit_first seats (suc port) v at = absurd (some-ne-none v (sym at))
 
 -- the table at the start
-pub begin_step : (seats : ℕ) → seats ≤ 64 → Kept seats record { words = 0 ∷ 0 ∷ []; homes = some (Some []) ∷ []; views = view Idle (fresh 0 seats) ∷ [] }
+pub begin_step : (seats : ℕ) → seats ≤ 64 → Kept seats record { words = 0 ∷ 0 ∷ []; homes = some (Some []) ∷ []; views = view Idle (fresh_owns 0 seats) ∷ [] }
 begin_step seats few = (
   0,
   0,

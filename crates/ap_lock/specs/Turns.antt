@@ -26,9 +26,9 @@ abbrev pub lone : Stage → ℕ → List Entry → View
 lone s n seen = view s (own n seen ∷ [])
 
 -- seats that have seen nothing, with n numbers from i on
-abbrev pub fresh : ℕ → ℕ → List Own
-fresh i zero = []
-fresh i (suc n) = own i [] ∷ fresh (suc i) n
+abbrev pub fresh_owns : ℕ → ℕ → List Own
+fresh_owns i zero = []
+fresh_owns i (suc n) = own i [] ∷ fresh_owns (suc i) n
 
 -- the history goes on from what was seen
 abbrev pub Begins : List Entry → List Entry → Type 0
@@ -101,7 +101,7 @@ InTurn served drawn history (Waiting u) owns = (served ≤ u) × (u < drawn)
 InTurn served drawn history (Turn u) owns = (u ≡ served) × (served < drawn) × AreWhole history owns
 
 -- a view is as these counts and this history say, and a seat that has a ticket has a number
-pub record Fits (served drawn : ℕ) (history : List Entry) (v : View) : Type 0 where
+pub record FitsHistory (served drawn : ℕ) (history : List Entry) (v : View) : Type 0 where
   pub known : AreKnown history v.owns
   pub turn : InTurn served drawn history v.stage v.owns
   pub owns : tickets v.stage ≤ length v.owns
@@ -113,7 +113,7 @@ Home history homes views =
     ⊎ ((homes ≡ none ∷ []) × (total (λ v. turns v.stage) views ≡ 1))
 
 -- so many tickets were served, and so many drawn
-pub record IsKept (seats served drawn : ℕ) (history : List Entry) (s : State Slot View) : Type 0 where
+pub record IsLockKept (seats served drawn : ℕ) (history : List Entry) (s : State Slot View) : Type 0 where
   pub words : s.words ≡ drawn % 2 ^ 64 ∷ served % 2 ^ 64 ∷ []
   pub home : Home history s.homes s.views
   pub drawn_once : (t : ℕ) → total (λ v. has t v.stage) s.views ≤ 1
@@ -123,10 +123,10 @@ pub record IsKept (seats served drawn : ℕ) (history : List Entry) (s : State S
   pub few : seats ≤ 64
   pub in_range : (n : ℕ) → seats ≤ n → total (λ v. times n v.owns) s.views ≡ 0
   pub strangers : (n : ℕ) → total (λ v. times n v.owns) s.views ≡ 0 → places_of n history ≡ []
-  pub fit : (port : ℕ) (v : View) → get_elem? s.views port ≡ some v → Fits served drawn history v
+  pub fit : (port : ℕ) (v : View) → get_elem? s.views port ≡ some v → FitsHistory served drawn history v
 
 abbrev pub Kept : ℕ → State Slot View → Type 0
-Kept seats s = (served : ℕ) × (drawn : ℕ) × (history : List Entry) × IsKept seats served drawn history s
+Kept seats s = (served : ℕ) × (drawn : ℕ) × (history : List Entry) × IsLockKept seats served drawn history s
 
 -- a ticket was drawn
 abbrev pub Drew : Me Slot View → ℕ → Me Slot View → Type 0
@@ -141,8 +141,8 @@ first_seen [] = []
 first_seen (o ∷ os) = o.seen
 
 -- the number of a seat, and what it has seen
-abbrev pub number_of : View → ℕ
-number_of v = first_number v.owns
+abbrev pub seat_number : View → ℕ
+seat_number v = first_number v.owns
 
 abbrev pub seen_of : View → List Entry
 seen_of v = first_seen v.owns
@@ -150,7 +150,7 @@ seen_of v = first_seen v.owns
 -- the ticket is served, and the book was taken, with its history; or nothing changed
 abbrev pub Called : ℕ → Me Slot View → ℕ → Me Slot View → Type 0
 Called t m n w =
-    ((n ≡ t % 2 ^ 64) × ((history : List Entry) × IsKnown history (own (number_of m.0) (seen_of m.0)) × (w ≡ (lone (Turn t) (number_of m.0) history, (0, Some history) ∷ []))))
+    ((n ≡ t % 2 ^ 64) × ((history : List Entry) × IsKnown history (own (seat_number m.0) (seen_of m.0)) × (w ≡ (lone (Turn t) (seat_number m.0) history, (0, Some history) ∷ []))))
     ⊎ ((n ≢ t % 2 ^ 64) × (w ≡ m))
 
 abbrev pub CalledAt : Stage → Me Slot View → ℕ → Me Slot View → Type 0
@@ -163,43 +163,43 @@ Looked m n w = CalledAt m.0.stage m n w
 
 abbrev pub EndedWith : List (ℕ × Slot) → View → Me Slot View → Type 0
 EndedWith [] v w = Unit {0}
-EndedWith (x ∷ xs) v w = (history : List Entry) → x.1 ≡ Some history → w ≡ (lone Idle (number_of v) history, [])
+EndedWith (x ∷ xs) v w = (history : List Entry) → x.1 ≡ Some history → w ≡ (lone Idle (seat_number v) history, [])
 
 -- the book was put back with this history
 abbrev pub Ended : Me Slot View → ℕ → Me Slot View → Type 0
 Ended m n w = EndedWith m.1 m.0 w
 
 abbrev pub IsIdle : Me Slot View → Type 0
-IsIdle m = m ≡ (lone Idle (number_of m.0) (seen_of m.0), [])
+IsIdle m = m ≡ (lone Idle (seat_number m.0) (seen_of m.0), [])
 
 -- from the view v a ticket was drawn
 abbrev pub IsWaiting : View → ℕ → Me Slot View → Type 0
-IsWaiting v n m = (t : ℕ) × (n ≡ t % 2 ^ 64) × (m ≡ (lone (Waiting t) (number_of v) (seen_of v), []))
+IsWaiting v n m = (t : ℕ) × (n ≡ t % 2 ^ 64) × (m ≡ (lone (Waiting t) (seat_number v) (seen_of v), []))
 
 -- from the view v the turn was taken, at this history, and the book with it
 abbrev pub HasTurn : View → List Entry → Me Slot View → Type 0
-HasTurn v history m = IsKnown history (own (number_of v) (seen_of v)) × ((t : ℕ) × (m ≡ (lone (Turn t) (number_of v) history, (0, Some history) ∷ [])))
+HasTurn v history m = IsKnown history (own (seat_number v) (seen_of v)) × ((t : ℕ) × (m ≡ (lone (Turn t) (seat_number v) history, (0, Some history) ∷ [])))
 
 -- the same with the book out of its slot
 abbrev pub Holds : View → List Entry → Me Slot View → Type 0
-Holds v history m = IsKnown history (own (number_of v) (seen_of v)) × ((t : ℕ) × (m ≡ (lone (Turn t) (number_of v) history, (0, None) ∷ [])))
+Holds v history m = IsKnown history (own (seat_number v) (seen_of v)) × ((t : ℕ) × (m ≡ (lone (Turn t) (seat_number v) history, (0, None) ∷ [])))
 
 -- the book's history has grown by entries of the seat's number
-abbrev pub Adds : ℕ → List Entry → List Entry → Type 0
-Adds n turn history = (es : List Entry) × (history ≡ turn ++ es) × AreBy n es
+abbrev pub AddsEntries : ℕ → List Entry → List Entry → Type 0
+AddsEntries n turn history = (es : List Entry) × (history ≡ turn ++ es) × AreBy n es
 
 abbrev pub MayEnd : Me Slot View → Type 0
-MayEnd m = (t : ℕ) × (history : List Entry) × (m ≡ (lone (Turn t) (number_of m.0) (seen_of m.0), (0, Some history) ∷ [])) × Adds (number_of m.0) (seen_of m.0) history
+MayEnd m = (t : ℕ) × (history : List Entry) × (m ≡ (lone (Turn t) (seat_number m.0) (seen_of m.0), (0, Some history) ∷ [])) × AddsEntries (seat_number m.0) (seen_of m.0) history
 
 abbrev pub MayShut : Me Slot View → List Entry → Type 0
-MayShut m history = (t : ℕ) × (m ≡ (lone (Turn t) (number_of m.0) (seen_of m.0), (0, None) ∷ [])) × Adds (number_of m.0) (seen_of m.0) history
+MayShut m history = (t : ℕ) × (m ≡ (lone (Turn t) (seat_number m.0) (seen_of m.0), (0, None) ∷ [])) × AddsEntries (seat_number m.0) (seen_of m.0) history
 
 -- the first seat leaves
 abbrev pub others : View → View
 others v = view Idle (drop 1 v.owns)
 
-abbrev pub first_of : View → View
-first_of v = view Idle (take 1 v.owns)
+abbrev pub first_seat_only : View → View
+first_seat_only v = view Idle (take 1 v.owns)
 
 abbrev pub united : View → View → View
 united v w = view Idle (v.owns ++ w.owns)

@@ -6,7 +6,7 @@ ghost use Rattle.ap_paths.specs.Entries.{entries_of};
 ghost use Rattle.ap_paths.specs.Limits.{is_limited};
 ghost use Rattle.ap_paths.specs.History.{is_legal};
 ghost use Rattle.ap_lock.specs.declared.view.Stage.TheVariants.{Idle};
-ghost use Rattle.ap_lock.specs.Turns.{view, fresh, AreKnown, times, places_of};
+ghost use Rattle.ap_lock.specs.Turns.{view, fresh_owns, AreKnown, times, places_of};
 ghost use Rattle.ap_lock.specs.Seats.{book_id, seats_of, limit_of, AreOf, AreLogged, AreMadeBy, IsUnited, new_seats, logs_of};
 
 use crate::logs::make_logs;
@@ -49,7 +49,7 @@ impl SharedBook {
     fn with_all(alloc: Global, seats: u32, limit: Limit) -> Result<(SharedBook, Raw), Memory>
         requires { (0 < seats) × (seats ≤ 64) }
         ensures made { IfOk result (λ r. (seats_of r.0 ≡ seats) × (r.1.table_id ≡ book_id r.0)
-            × (r.1.me ≡ (view Idle (fresh 0 seats), []))) }
+            × (r.1.me ≡ (view Idle (fresh_owns 0 seats), []))) }
         ensures limit { IfOk result (λ r. limit_of r.0 ≡ limit) }
     {
         let mut slots = Vec::with_capacity(alloc, 1)?;
@@ -63,7 +63,7 @@ impl SharedBook {
     /// The seats, each with one number.
     fn cut_seats(&self, mut first: Raw, mut list: Vec<Seat>, seats: u32) -> Vec<Seat>
         requires seats { (0 < seats) × (first.table_id ≡ book_id self.now)
-            × (first.me ≡ (view Idle (fresh 0 seats), [])) }
+            × (first.me ≡ (view Idle (fresh_owns 0 seats), [])) }
         requires list { (list.items ≡ []) × (seats ≤ vec_capacity list) }
         ensures { result.items ≡ new_seats (book_id self.now) 0 seats }
     {

@@ -2,7 +2,7 @@
 
 ghost use Rattle.std.specs.Prelude.{[]};
 ghost use Rattle.ap_lock.specs.declared.view.Stage.TheVariants.{Idle};
-ghost use Rattle.ap_lock.specs.Turns.{Kept, view, fresh, Drew, Looked, Ended, others, first_of, united};
+ghost use Rattle.ap_lock.specs.Turns.{Kept, view, fresh_owns, Drew, Looked, Ended, others, first_seat_only, united};
 
 use crate::view::View;
 use ap_book::Book;
@@ -15,7 +15,7 @@ pub struct Rule;
 impl TableRule<Option<Book>, View, u64> for Rule {
     ghost holds = { Kept };
 
-    ghost first = { λ seats. view Idle (fresh 0 seats) };
+    ghost first = { λ seats. view Idle (fresh_owns 0 seats) };
 }
 
 /// A ticket is drawn.
@@ -45,7 +45,7 @@ pub struct Cut;
 impl Split<View> for Cut {
     ghost left = { others };
 
-    ghost right = { first_of };
+    ghost right = { first_seat_only };
 }
 
 /// A seat comes back.

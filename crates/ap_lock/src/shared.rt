@@ -2,7 +2,7 @@
 
 ghost use Rattle.std.specs.Prelude.{◌≡◌, ◌<◌, ◌≤◌, List as list, []};
 ghost use Rattle.ap_paths.specs.declared.entries.Entry.{Entry};
-ghost use Rattle.ap_lock.specs.Turns.{lone, number_of, IsIdle, IsWaiting, HasTurn, MayEnd, Ended, Holds, MayShut};
+ghost use Rattle.ap_lock.specs.Turns.{lone, seat_number, IsIdle, IsWaiting, HasTurn, MayEnd, Ended, Holds, MayShut};
 ghost use Rattle.ap_lock.specs.declared.view.Stage.TheVariants.{Idle};
 
 use crate::plays::{Draw, End, Look, Rule};
@@ -116,7 +116,7 @@ impl SharedBook {
     pub(crate) fn shut(&self, seat: &mut Raw, book: Book)
         requires { (seat.old.table_id ≡ self.now.table.shared.table_id) × MayShut seat.old.me book }
         ensures { (seat.new.table_id ≡ seat.old.table_id)
-            × (seat.new.me ≡ (lone Idle (number_of seat.old.me.0) book, [])) }
+            × (seat.new.me ≡ (lone Idle (seat_number seat.old.me.0) book, [])) }
     {
         let found = self.table.shared.exchange(seat, BOOK, Some(book));
         drop(found);

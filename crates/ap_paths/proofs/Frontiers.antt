@@ -5,15 +5,16 @@ use mathlib.Core.Logic.{dite}
 use native.Mathlib.Decide.{ℕ_discrete}
 use Rattle.std.proofs.lemmas.Bool.Decides.{nat_tests}
 use Rattle.std.proofs.lemmas.Cmp.{nat_cmp_total, tied_itself}
-use Rattle.std.specs.Ordering.{nat_cmp, ordering_then, is_lt}
+use Rattle.std.specs.Ordering.{is_lt, nat_cmp, ordering_then}
 use Rattle.std.specs.Cmp.Lexicographic.{slice_cmp}
 use Rattle.std.specs.declared.cmp.Ordering.{Ordering}
-use Rattle.std.specs.declared.cmp.Ordering.TheVariants.{Less, Greater}
+use Rattle.std.specs.declared.cmp.Ordering.TheVariants.{Greater, Less}
+use Rattle.std.proofs.lemmas.Bool.{and_parts}
 use Rattle.ap_defs.specs.Answers.{NominalOut}
 use Rattle.ap_paths.specs.declared.limits.Limit.{Limit}
 use Rattle.ap_paths.specs.declared.limits.Limit.TheVariants as limits
 use Rattle.ap_paths.specs.Entries.{TreeEntry, split, done, skip, stop}
-use Rattle.ap_paths.specs.Limits.{found_in, part, AreWithin}
+use Rattle.ap_paths.specs.Limits.{AreWithin, found_in, part}
 use Rattle.ap_paths.specs.History.{same_path, is_open, without, kids_of, open_from, legal_from, are_reached, is_legal, open_of}
 use Rattle.ap_paths.specs.Trees.{Choices, Outputs, IsChoice, GoesOn, InTree, joined, IsTree, times, Ascends, AreAtMost, AreKids, AreTrue}
 use Rattle.ap_paths.specs.Frontier.{Before, Mark, still_open, has_ended, was_skipped, is_waiting, is_ended, is_skipped, Item, AllAfter, Sorted, outs_in, outs_left, ended_in, open_in, skipped_in}
@@ -70,10 +71,6 @@ less_there p q h = ap is_lt (path_less p q h)
 less_not : (p q : List ℕ) → Before q p → is_before p q ≡ false
 less_not p q h = ap is_lt (path_greater p q h)
 
-pub both_true : (a b : Bool) → a && b ≡ true → (a ≡ true) × (b ≡ true)
-both_true true b h = (refl, h)
-both_true false b h = absurd (true≢false (sym h))
-
 eqb_same : (x y : ℕ) → eqb x y ≡ true → x ≡ y
 eqb_same x y e = grind (arith, nat_tests)
 
@@ -81,7 +78,7 @@ pub path_same : (p q : List ℕ) → same_path p q ≡ true → p ≡ q
 path_same [] [] e = refl
 path_same [] (y ∷ ys) e = absurd (true≢false (sym e))
 path_same (x ∷ xs) [] e = absurd (true≢false (sym e))
-path_same (x ∷ xs) (y ∷ ys) e = let b = both_true (eqb x y) (same_path xs ys) e in λ i. eqb_same x y b.0 i ∷ path_same xs ys b.1 i
+path_same (x ∷ xs) (y ∷ ys) e = let b = and_parts (eqb x y) (same_path xs ys) e in λ i. eqb_same x y b.0 i ∷ path_same xs ys b.1 i
 
 abbrev pub AllIn : Choices → List Item → Type 0
 AllIn c [] = Unit {0}
@@ -554,23 +551,23 @@ merges c at l whole ps b ends xs [] tree f covered legal reached true_of within 
     let none_open : undone (λ _. 1) xs ≡ 0 = f.opens (λ _. 1) ∙ ap (weigh (λ _. 1)) closed in
     ap (λ (e : List Ending). part l (all_outs e)) f.ended ∙ ap (part l) (all_doned at xs none_open) ∙ wanted_left l at xs covered ∙ ap (part l) f.outs
 merges c at l whole ps b ends xs (split s p ks ∷ es) tree f covered legal reached true_of within closed =
-    let o = both_true (is_open p ps) (legal_from (without p ps ++ kids_of p ks) (b || false) es) legal in
+    let o = and_parts (is_open p ps) (legal_from (without p ps ++ kids_of p ks) (b || false) es) legal in
     let g = frontier_split c at whole ps (without p ps ++ kids_of p ks) ends xs p ks tree f (weigh_open p ps o.0) true_of.0 (weigh_split p ks ps o.0) in
     merges c at l whole (without p ps ++ kids_of p ks) (b || false) ends (grow p ks xs) es tree g (covered_grow l at 0 p ks xs covered) o.1 reached true_of.1 within.1 closed
 merges c at l whole ps b ends xs (done s p os ∷ es) tree f covered legal reached true_of within closed =
-    let o = both_true (is_open p ps) (legal_from (without p ps) (b || false) es) legal in
+    let o = and_parts (is_open p ps) (legal_from (without p ps) (b || false) es) legal in
     let g = frontier_done c at whole ps (without p ps) ends xs p f (weigh_open p ps o.0) (λ h. weigh_without h p ps o.0) in
     let g' = subst (λ (o : List NominalOut). IsFrontier c at whole (without p ps) (insert p o ends) (mark has_ended p xs)) (sym true_of.0) g in
     merges c at l whole (without p ps) (b || false) (insert p os ends) (mark has_ended p xs) es tree g' (covered_ended l at 0 p xs covered) o.1 reached true_of.1 within.1 closed
 merges c at l whole ps b ends xs (skip s p n ∷ es) tree f covered legal reached true_of within closed =
-    let o = both_true (is_open p ps) (legal_from (without p ps) (b || false) es) legal in
-    let e = both_true (nat_le n (found_before p ends)) (are_reached ends es) reached in
+    let o = and_parts (is_open p ps) (legal_from (without p ps) (b || false) es) legal in
+    let e = and_parts (nat_le n (found_before p ends)) (are_reached ends es) reached in
     let enough = leb-true n (found_before p ends) e.0 in
     let g = frontier_skip c at whole ps (without p ps) ends xs p f (weigh_open p ps o.0) (λ h. weigh_without h p ps o.0) in
     let k = skip_covered c at l whole ps ends xs p n f (weigh_open p ps o.0) within.0 enough covered in
     merges c at l whole (without p ps) (b || false) ends (mark was_skipped p xs) es tree g k o.1 e.1 true_of.1 within.1 closed
 merges c at l whole ps b ends xs (stop s ∷ es) tree f covered legal reached true_of within closed =
-    let o = both_true (not b) (legal_from ps (b || true) es) legal in
+    let o = and_parts (not b) (legal_from ps (b || true) es) legal in
     merges c at l whole ps (b || true) ends xs es tree f covered o.1 reached true_of.1 within.1 closed
 
 -- the merged outputs of a legal and true history with nothing open are those below the empty path, as far as they are wanted

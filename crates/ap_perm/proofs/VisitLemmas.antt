@@ -1,14 +1,15 @@
 -- How many nodes are visited where bindings are followed: a measure.
 use Rattle.std.proofs.Common.{◌≡◌, ◌<◌, ◌≤◌, ℕ, zero, suc, ◌+◌, max, List, [], refl, ap, ◌∙◌, arith}
-use Rattle.std.specs.Prelude.{Option, Some, None}
-use Rattle.ap_defs.specs.Terms.{NominalTerm, act_term, app, pair, susp}
+use Rattle.std.specs.Prelude.{None, Option, Some}
+use Rattle.ap_defs.specs.Terms.{NominalTerm, abs, act_term, app, pair, susp}
 use Rattle.ap_defs.specs.Unification.{size}
+use Rattle.ap_defs.specs.declared.terms.Name.{Name}
 use Rattle.ap_defs.specs.declared.terms.Swap.{Swap}
 use Rattle.ap_defs.specs.declared.terms.Var.{Var}
 use Rattle.ap_perm.proofs.LookupLemmas.{depth_act, depth_ranked, occurs_depth}
 use Rattle.ap_perm.specs.Lookups.{Bound, IsRanked, depth_of}
 use Rattle.ap_theory.proofs.SubstitutionLemmas.{applied_act, applied_local}
-use Rattle.ap_theory.proofs.TermLemmas.{size_act_term}
+use Rattle.ap_theory.proofs.TermLemmas.{size_act_term, size_pos}
 use Rattle.ap_theory.specs.Substitutions.{Substitution, applied}
 
 -- a variable's term, with a node on top of it
@@ -49,6 +50,22 @@ module _ (bound : Bound) (rank : Var → ℕ) (ranked : IsRanked bound rank) whe
       let n : ℕ = max (depth_of rank t) (depth_of rank u) in
       let h = visits_deep n u (omega arith) in
       omega arith
+
+  pub visits_pair : (t u : NominalTerm) → visits bound rank t + visits bound rank u < visits bound rank (pair t u)
+  visits_pair t u =
+      let n : ℕ = max (depth_of rank t) (depth_of rank u) in
+      let h = visits_deep n t (omega arith) in
+      let k = visits_deep n u (omega arith) in
+      omega arith
+
+  pub visits_app : (f : ℕ) (t : NominalTerm) → visits bound rank (app f t) ≡ 1 + visits bound rank t
+  visits_app f t = refl
+
+  pub visits_abs : (a : Name) (t : NominalTerm) → visits bound rank (abs a t) ≡ 1 + visits bound rank t
+  visits_abs a t = refl
+
+  pub visits_some : (t : NominalTerm) → 0 < visits bound rank t
+  visits_some t = let h = size_pos (applied (unrolled bound (depth_of rank t)) t) in omega arith
 
   pub visits_act : (p : List Swap) (t : NominalTerm) → visits bound rank (act_term p t) ≡ visits bound rank t
   visits_act p t =

@@ -1,4 +1,5 @@
 pub mod RawTyping
 pub mod Typed
+pub mod FreeLocals
 pub mod CarryingOut
 pub mod NameRestriction

@@ -22,7 +22,7 @@ use Rattle.ap_theory.proofs.GroundLemmas.{act_ground_none}
 use Rattle.ap_theory.proofs.TermLemmas.{var_eq_flip, var_same}
 use Rattle.ap_ground.specs.Environments.{AgreeOn}
 use Rattle.ap_ground.proofs.FreeIdentifierLemmas.{proofs_see_free}
-use Rattle.ap_property.specs.Fitting.{Fits}
+use Rattle.ap_property.specs.Fitting.{FitsLocals}
 use Rattle.ap_property.specs.Properties.{conclusion, conclusion_query, hypothesis_query}
 use Rattle.ap_property.specs.PutIn.{put_in, with_terms}
 use Rattle.ap_property.specs.Stated.{Instance, stated}
@@ -107,7 +107,7 @@ equal_terms cs ks f (x ∷ xs) (g ∷ gs) t h y u =
 equal_terms cs ks f [] (g ∷ gs) t h y u = absurd t
 equal_terms cs ks f (x ∷ xs) [] t h y u = absurd t
 
-module _ (p : NominalProgram) (q : NominalQuery) (i : Instance) (fits : Fits p.signature.constructors q.locals i) (gs : List GroundTerm) where
+module _ (p : NominalProgram) (q : NominalQuery) (i : Instance) (fits : FitsLocals p.signature.constructors q.locals i) (gs : List GroundTerm) where
   abbrev locals : List NominalLocal
   locals = with_names q.locals i.sorts
 

@@ -33,7 +33,7 @@ use Rattle.ap_complete.specs.Coverings.{answered, is_stuck}
 use Rattle.ap_complete.specs.NumberedProofs.{IsAmong}
 use Rattle.ap_complete.specs.Restriction.{KeepsRestriction}
 use Rattle.ap_complete.proofs.CoveringLemmas.{proofs_covered}
-use Rattle.ap_property.specs.Fitting.{Fits}
+use Rattle.ap_property.specs.Fitting.{FitsLocals}
 use Rattle.ap_property.specs.Properties.{conclusion, conclusion_query}
 use Rattle.ap_property.specs.PutIn.{put_in, with_terms}
 use Rattle.ap_property.specs.Stated.{Instance}
@@ -159,7 +159,7 @@ none_among o [] e h = h
 none_among o (x ∷ os) e h = cc
 
 module _ (p : NominalProgram) (kept : KeepsRestriction p) (q : NominalQuery) (typed : IsTypedQuery term_form p.signature (conclusion_query q)) (i : Instance)
-    (fits : Fits p.signature.constructors q.locals i) (depth : ℕ) (none : query_outs p.clauses depth (put_in q i) ≡ []) where
+    (fits : FitsLocals p.signature.constructors q.locals i) (depth : ℕ) (none : query_outs p.clauses depth (put_in q i) ≡ []) where
   abbrev locals : List NominalLocal
   locals = with_names q.locals i.sorts
 

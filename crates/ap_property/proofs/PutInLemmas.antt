@@ -18,7 +18,7 @@ use Rattle.ap_program.specs.RawTyping.{HasTermType, IsNameOf, IsTypedTerm}
 use Rattle.ap_program.specs.Typed.{AreArguments, HaveTypes, AreMarked, EachOnce, IsTypedGoal, IsTypedQuery, brought, is_marked, stands_free, stands_in_term, term_form}
 use Rattle.ap_search.proofs.TypingLemmas.{kind_at_front, typed_front}
 use Rattle.ap_pick.specs.StatementsOnPicks.{EachName}
-use Rattle.ap_property.specs.Fitting.{Fits, HaveKnownNames, IsKnown}
+use Rattle.ap_property.specs.Fitting.{FitsLocals, HaveKnownNames, IsKnown}
 use Rattle.ap_property.specs.Properties.{conclusion, conclusion_query}
 use Rattle.ap_property.specs.PutIn.{put_in, with_terms}
 use Rattle.ap_property.specs.Stated.{Instance}
@@ -116,7 +116,7 @@ module _ (cs : List NominalConstructor) (locals : List NominalLocal) (sorts : Li
     equations_free n h (x ∷ xs) [] u k e = e
 
 -- the query with terms that fit it put in
-pub put_in_typed : (sig : NominalSignature) (q : NominalQuery) (i : Instance) → IsTypedQuery term_form sig (conclusion_query q) → Fits sig.constructors q.locals i
+pub put_in_typed : (sig : NominalSignature) (q : NominalQuery) (i : Instance) → IsTypedQuery term_form sig (conclusion_query q) → FitsLocals sig.constructors q.locals i
     → IsTypedQuery term_form sig (put_in q i)
 put_in_typed sig q i h f =
     let cs = sig.constructors in

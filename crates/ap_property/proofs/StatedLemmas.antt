@@ -26,7 +26,7 @@ use Rattle.ap_soundness.proofs.AnswerLemmas.{answers_typed_sound}
 use Rattle.ap_soundness.proofs.AnswerVarLemmas.{answer_inhabited, answer_kinds}
 use Rattle.ap_soundness.proofs.QueryLemmas.{FromQuery, query_found}
 use Rattle.ap_complete.proofs.CompletenessLemmas.{meets_moved}
-use Rattle.ap_property.specs.Fitting.{Fits}
+use Rattle.ap_property.specs.Fitting.{FitsLocals}
 use Rattle.ap_property.specs.Stated.{given, picks_from, settling, stated}
 use Rattle.ap_property.specs.StatementsOnProperties.{AnswersHaveTypes, HasTypedVars, StatedInstancesAreDerivable, StatedInstancesFit}
 use Rattle.ap_property.proofs.PickedLemmas.{given_names, picks_give, picks_made}
@@ -90,7 +90,7 @@ module _ (p : NominalProgram) (typed : IsTypedProgram p) (depth : ℕ) (q : Nomi
         let types = types_act cs (kinds_of q.locals) s (local_vars 0 q.locals) (map (grounded back) a.binds) first.0 in
         subst (IsTypedDerivable p q depth) (acted_instances s f a.binds) (types, moved)
 
-    stated_fits : Fits cs q.locals (stated cs q.locals a)
+    stated_fits : FitsLocals cs q.locals (stated cs q.locals a)
     stated_fits =
         let made = picks_made cs (length q.locals) a.vars v.inhabited (other_sorts q.locals a) in
         let new = given_names (length q.locals) (other_sorts q.locals a) picks.1 picks.0 made.names in

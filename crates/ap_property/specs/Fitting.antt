@@ -18,6 +18,6 @@ abbrev pub HaveKnownNames : List NominalLocal → List ℕ → List GroundTerm �
 HaveKnownNames locals sorts [] = Unit {0}
 HaveKnownNames locals sorts (g ∷ gs) = EachName (IsKnown locals sorts) g × HaveKnownNames locals sorts gs
 
-pub record Fits (cs : List NominalConstructor) (locals : List NominalLocal) (i : Instance) : Type 0 where
+pub record FitsLocals (cs : List NominalConstructor) (locals : List NominalLocal) (i : Instance) : Type 0 where
   pub types : AreOfTypes cs (kinds_of locals) (local_vars 0 locals) i.terms
   pub names : HaveKnownNames locals i.sorts i.terms

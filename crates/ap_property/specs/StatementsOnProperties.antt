@@ -10,7 +10,7 @@ use Rattle.ap_ground.specs.ShownInstances.{IsTypedDerivable}
 use Rattle.ap_ground.specs.TypedGroundings.{HaveInhabitants}
 use Rattle.ap_soundness.specs.FoundStates.{EachAnswer}
 use Rattle.ap_complete.specs.Restriction.{KeepsRestriction}
-use Rattle.ap_property.specs.Fitting.{Fits}
+use Rattle.ap_property.specs.Fitting.{FitsLocals}
 use Rattle.ap_property.specs.Properties.{conclusion_query, hypothesis_query}
 use Rattle.ap_property.specs.PutIn.{put_in}
 use Rattle.ap_property.specs.Stated.{stated}
@@ -33,7 +33,7 @@ AnswersHaveTypes = (p : NominalProgram) → IsTypedProgram p → (q : NominalQue
 -- the stated instance of each answer fits the query
 abbrev pub StatedInstancesFit : Type 0
 StatedInstancesFit = (p : NominalProgram) → IsTypedProgram p → (q : NominalQuery) → IsTypedQuery term_form p.signature q → (depth : ℕ)
-    → EachAnswer (λ a. Fits p.signature.constructors q.locals (stated p.signature.constructors q.locals a)) (query_outs p.clauses depth q)
+    → EachAnswer (λ a. FitsLocals p.signature.constructors q.locals (stated p.signature.constructors q.locals a)) (query_outs p.clauses depth q)
 
 -- the query is derivable for the stated instance of each of its answers
 abbrev pub StatedInstancesAreDerivable : Type 0

@@ -8,9 +8,10 @@ use Rattle.ap_defs.specs.declared.paths.Node.{Node}
 use Rattle.ap_defs.specs.declared.paths.Node.TheVariants as nodes
 use Rattle.ap_paths.specs.Trees.{IsChoice}
 use Rattle.ap_search.specs.PathTrees.{query_choice, query_choices, query_kept}
-use Rattle.ap_backchain.specs.Branches.{IsBranchOf, IsChoiceOfNode, IsNodeAt, choices_at, path_of_branch}
+use Rattle.ap_backchain.specs.Branches.{IsBranchOf, IsDescentOf, IsNodeAt, choices_at, path_of_branch, path_of_descent}
 use Rattle.ap_backchain.specs.Problems.{HasQuery, clauses_in, queries_in}
 use Rattle.ap_backchain.specs.declared.branch.Branch.{Branch}
+use Rattle.ap_backchain.specs.declared.descent.Descent.{Descent}
 use Rattle.ap_backchain.specs.declared.problem.Problem.{Problem}
 use Rattle.ap_paths.specs.Entries as entries
 use Rattle.ap_paths.specs.Entries.{Plan}
@@ -24,37 +25,23 @@ there_is (q ∷ qs) (suc k) h = there_is qs k (omega arith)
 pub its_query : (p : Problem) → HasQuery p → (q : NominalQuery) × (query_in p ≡ Some q)
 its_query p h = there_is (queries_in p) (p.query - 1) (let a = h.0 in let b = h.1 in omega arith)
 
-chosen_of : (o : Option ℕ) (n : Node) (k : ℕ) → o ≡ None → IsChoice o k → IsChoiceOfNode k n
-chosen_of o n k e h = absurd (subst (λ (x : Option ℕ). IsChoice x k) e h)
-
 module _ (p : Problem) (q : NominalQuery) (asked : query_in p ≡ Some q) where
   same_choices : (path : List ℕ) → problem_choices p path ≡ query_choices (clauses_in p) p.depth q path
   same_choices path = ap (λ o. choices_of (clauses_in p) p.depth o path) asked
 
-  taken_at : (path : List ℕ) (n : Node) (k : ℕ) → IsNodeAt (clauses_in p) p.depth q path n → IsChoiceOfNode k n → IsChoice (query_choices (clauses_in p) p.depth q path) k
-  taken_at path (nodes.Choice w kept) k at h = subst (λ (o : Option ℕ). IsChoice o k) (sym (ap (option_map (λ (c : Choice). c.width)) at)) h
-  taken_at path _ k at h = absurd h
+abbrev pub ExactWidth : Descent → Option ℕ → Type 0
+ExactWidth d w = (p : Problem) (q : NominalQuery) → slice_get (queries_in p) (p.query - 1) ≡ Some q → IsDescentOf p d → w ≡ query_choices (clauses_in p) p.depth q (path_of_descent d)
 
-  given_at : (path : List ℕ) (n : Node) (k : ℕ) → IsNodeAt (clauses_in p) p.depth q path n → IsChoice (query_choices (clauses_in p) p.depth q path) k → IsChoiceOfNode k n
-  given_at path (nodes.Choice w kept) k at h = subst (λ (o : Option ℕ). IsChoice o k) (ap (option_map (λ (c : Choice). c.width)) at) h
-  given_at path nodes.Answer k at h = chosen_of _ nodes.Answer k at.0 h
-  given_at path nodes.Cut k at h = chosen_of _ nodes.Cut k at.0 h
-  given_at path nodes.Stuck k at h = chosen_of _ nodes.Stuck k at.0 h
-  given_at path nodes.Failed k at h = chosen_of _ nodes.Failed k at.0 h
+-- the choices where a search stands are those of the problem at its path
+module _ (p : Problem) (d : Descent) (w : Option ℕ) (k : ℕ) (h : HasQuery p) (of : IsDescentOf p d) (width : ExactWidth d w) where
+  choices_there : w ≡ problem_choices p (path_of_descent d)
+  choices_there = let asked = its_query p h in width p asked.0 asked.1 of ∙ sym (same_choices p asked.0 asked.1 (path_of_descent d))
 
-pub taken : (p : Problem) (b : Branch) (n : Node) (k : ℕ) → HasQuery p → IsBranchOf p b → ((p : Problem) (q : NominalQuery) → slice_get (queries_in p) (p.query - 1) ≡ Some q → IsBranchOf p b → IsNodeAt (clauses_in p) p.depth q (path_of_branch b) n)
-    → IsChoiceOfNode k n → IsChoice (problem_choices p (path_of_branch b)) k
-taken p b n k h of node chosen =
-    let asked = its_query p h in
-    subst (λ (o : Option ℕ). IsChoice o k) (sym (same_choices p asked.0 asked.1 (path_of_branch b)))
-    (taken_at p asked.0 asked.1 (path_of_branch b) n k (node p asked.0 asked.1 of) chosen)
+  pub taken : IsChoice w k → IsChoice (problem_choices p (path_of_descent d)) k
+  taken chosen = subst (λ (o : Option ℕ). IsChoice o k) choices_there chosen
 
-pub given : (p : Problem) (b : Branch) (n : Node) (k : ℕ) → HasQuery p → IsBranchOf p b → ((p : Problem) (q : NominalQuery) → slice_get (queries_in p) (p.query - 1) ≡ Some q → IsBranchOf p b → IsNodeAt (clauses_in p) p.depth q (path_of_branch b) n)
-    → IsChoice (problem_choices p (path_of_branch b)) k → IsChoiceOfNode k n
-given p b n k h of node chosen =
-    let asked = its_query p h in
-    given_at p asked.0 asked.1 (path_of_branch b) n k (node p asked.0 asked.1 of)
-    (subst (λ (o : Option ℕ). IsChoice o k) (same_choices p asked.0 asked.1 (path_of_branch b)) chosen)
+  pub given : IsChoice (problem_choices p (path_of_descent d)) k → IsChoice w k
+  given chosen = subst (λ (o : Option ℕ). IsChoice o k) (sym choices_there) chosen
 
 -- The plan at the path of a branch, where a visit answers its kids or the outputs.
 abbrev pub ExactNode : Branch → Node → Type 0

@@ -2,54 +2,56 @@
 
 ghost use Rattle.std.specs.Prelude.{◌≡◌, [], ◌∷◌, ◌++◌, true, IfOk, IsErrOf};
 ghost use Rattle.ap_paths.specs.Trees.{InTree, IsChoice};
-ghost use Rattle.ap_backchain.specs.Branches.{IsBranchOf, IsChoiceOfNode, path_of_branch};
+ghost use Rattle.ap_backchain.specs.Branches.{IsBranchOf, IsDescentOf, path_of_branch, path_of_descent};
 ghost use Rattle.ap_backchain.specs.Problems.{HasQuery};
 ghost use Rattle.ap_replay.specs.ProblemTrees.{problem_choices};
 
 use crate::error::ReplayError;
 use ap_backchain::branch::Branch;
+use ap_backchain::descent::Descent;
 use ap_backchain::problem::Problem;
 use ap_defs::memory::Memory;
-use ap_defs::paths::{Node, Path};
+use ap_defs::paths::Path;
 use std::alloc::Global;
 
-/// Whether a node is a choice that has this way.
-fn offers(node: &Node, choice: u32) -> bool
-    ensures offered { result ≡ true → IsChoiceOfNode choice node.now }
-    ensures all { IsChoiceOfNode choice node.now → result ≡ true }
+/// Whether a choice among so many has this way.
+fn offers(width: Option<u32>, choice: u32) -> bool
+    ensures offered { result ≡ true → IsChoice width choice }
+    ensures all { IsChoice width choice → result ≡ true }
 {
-    match node {
-        Node::Choice(width, _) => 1 <= choice && choice <= *width,
-        _ => false,
+    match width {
+        Some(width) => 1 <= choice && choice <= width,
+        None => false,
     }
 }
 
-/// The branch after one more choice.
+/// The search after one more choice.
 fn step_to<'a>(
     alloc: Global,
     p: &Problem<'a>,
-    branch: Branch<'a>,
+    descent: Descent<'a>,
     choice: u32,
-) -> Result<Branch<'a>, ReplayError>
+) -> Result<Descent<'a>, ReplayError>
     requires query { HasQuery p.now }
-    requires of { IsBranchOf p.now branch }
-    ensures of { IfOk result (λ b. IsBranchOf p.now b) }
-    ensures path { IfOk result (λ b. path_of_branch b
-        ≡ path_of_branch branch.entry ++ choice ∷ []) }
-    ensures taken { IfOk result (λ b. IsChoice (problem_choices p.now (path_of_branch branch.entry))
-        choice) }
+    requires of { IsDescentOf p.now descent }
+    ensures of { IfOk result (λ d. IsDescentOf p.now d) }
+    ensures path { IfOk result (λ d. path_of_descent d
+        ≡ path_of_descent descent.entry ++ choice ∷ []) }
+    ensures taken { IfOk result (λ d.
+        IsChoice (problem_choices p.now (path_of_descent descent.entry)) choice) }
     ensures refused { IsErrOf result ReplayError.NotABranch →
-        IsChoice (problem_choices p.now (path_of_branch branch.entry)) choice → ⊥ }
+        IsChoice (problem_choices p.now (path_of_descent descent.entry)) choice → ⊥ }
 {
-    if offers(branch.node(), choice) {
-        Ok(branch.step(alloc, p, choice)?)
+    if offers(descent.width(), choice) {
+        Ok(descent.step(alloc, p, choice)?)
     } else {
         Err(ReplayError::NotABranch)
     }
 }
 
 /// The branch of a path of the search of a problem. It answers NotABranch exactly where some entry
-/// of the path has no choice to take or is none of its ways.
+/// of the path has no choice to take or is none of its ways. Each choice on the way costs what the way
+/// that is taken costs, however many others there are.
 pub fn at<'a>(alloc: Global, p: &Problem<'a>, path: &Path) -> Result<Branch<'a>, ReplayError>
     requires { HasQuery p.now }
     ensures of { IfOk result (λ b. IsBranchOf p.now b) }
@@ -59,11 +61,11 @@ pub fn at<'a>(alloc: Global, p: &Problem<'a>, path: &Path) -> Result<Branch<'a>,
         InTree (problem_choices p.now) path.now → ⊥ }
 {
     let choices = path.choices();
-    let mut branch = Branch::root(alloc, p)?;
+    let mut descent = Descent::root(alloc, p)?;
     'stepping: for choice in choices {
-        branch = step_to(alloc, p, branch, *choice)?;
+        descent = step_to(alloc, p, descent, *choice)?;
     }
-    Ok(branch)
+    Ok(descent.stop(alloc, p)?)
 }
 
 /// The branch of a path that the search has.

@@ -14,7 +14,7 @@ use Rattle.ap_defs.specs.declared.faults.NameFault.{NameFault}
 use Rattle.ap_defs.specs.declared.faults.NameKind.{NameKind}
 use Rattle.ap_defs.specs.declared.faults.NameKind.TheVariants as kinds
 use Rattle.ap_program.specs.NameRestriction.{RawItem, item_place, item_locals, binders_in, places_in, HasNamesAlone, IsWrong, variable_binder, variable_swap, IsFaultOf, spelling_at, IsFirst, AreFreshForHead, IsFirstNotFresh}
-use Rattle.ap_restrict.specs.Places.{first_of}
+use Rattle.ap_restrict.specs.Places.{first_var}
 use Rattle.ap_restrict.specs.Heads.{IsAnswer, clause_with}
 
 pub spelled_past : (ls : List Local) (n : ℕ) → length ls ≤ n → spelling_at (locals_of ls) n ≡ []
@@ -27,11 +27,11 @@ spelled_there [] n d h = absurd (omega arith)
 spelled_there (l ∷ ls) zero d h = refl
 spelled_there (l ∷ ls) (suc n) d h = spelled_there ls n d (omega arith)
 
-pub is_first : (x : Var) (xs : List Var) → Some x ≡ first_of xs → IsFirst x xs
+pub is_first : (x : Var) (xs : List Var) → Some x ≡ first_var xs → IsFirst x xs
 is_first x [] e = cc
 is_first x (y ∷ ys) e = cc
 
-pub is_none : (xs : List Var) → None ≡ first_of xs → xs ≡ []
+pub is_none : (xs : List Var) → None ≡ first_var xs → xs ≡ []
 is_none [] e = refl
 is_none (y ∷ ys) e = cc
 
@@ -71,13 +71,13 @@ fault_is cs i f kind n locals l place same name wrong = record {
   wrong = (n, subst (λ k. IsWrong cs i k n) (sym same) wrong, name ∙ ap (λ ls. spelling_at ls n) l);
 }
 
-pub binder_is : (cs : List NominalConstructor) (i : RawItem) (x : Var) → Some x ≡ first_of (binders_in i) → IsWrong cs i kinds.VariableBinder x.num
+pub binder_is : (cs : List NominalConstructor) (i : RawItem) (x : Var) → Some x ≡ first_var (binders_in i) → IsWrong cs i kinds.VariableBinder x.num
 binder_is cs i x e = variable_binder x (is_first x (binders_in i) e)
 
-pub swap_is : (cs : List NominalConstructor) (i : RawItem) (x : Var) → None ≡ first_of (binders_in i) → Some x ≡ first_of (places_in i) → IsWrong cs i kinds.VariableSwap x.num
+pub swap_is : (cs : List NominalConstructor) (i : RawItem) (x : Var) → None ≡ first_var (binders_in i) → Some x ≡ first_var (places_in i) → IsWrong cs i kinds.VariableSwap x.num
 swap_is cs i x b e = variable_swap x (is_none (binders_in i) b) (is_first x (places_in i) e)
 
-pub names_alone : (i : RawItem) → None ≡ first_of (binders_in i) → None ≡ first_of (places_in i) → HasNamesAlone i
+pub names_alone : (i : RawItem) → None ≡ first_var (binders_in i) → None ≡ first_var (places_in i) → HasNamesAlone i
 names_alone i b e = (is_none (binders_in i) b, is_none (places_in i) e)
 
 pub carried_result : {E : Type 0} (cs : List NominalConstructor) (c : ClauseOver RawTerm) (args : List NominalTerm) (body : NominalGoal) (locals : List NominalLocal) (r : Result (Option Name) E)

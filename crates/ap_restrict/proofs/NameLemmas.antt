@@ -1,7 +1,7 @@
 -- The first free name that is not fresh for the head, from the front.
 use Rattle.std.proofs.Common.{◌≡◌, ◌<◌, ℕ, suc, Bool, true, false, List, ◌∷◌, length, get_or, drop, refl, sym, ap, ◌∙◌, subst, inl, inr}
 use Rattle.std.proofs.Math.Seq.{drop-cons}
-use Rattle.std.specs.Prelude.{Option, Some, None}
+use Rattle.std.specs.Prelude.{None, Option, Some}
 use Rattle.ap_defs.specs.declared.terms.Name.{Name}
 use Rattle.ap_defs.specs.declared.goals.Local.{Local}
 use Rattle.ap_defs.specs.Types as types
@@ -9,7 +9,8 @@ use Rattle.ap_defs.specs.Types.{NominalKind, NominalConstructor, local_of, local
 use Rattle.ap_defs.specs.Goals.{NominalClause}
 use Rattle.ap_defs.specs.Renaming.{local_names, name_unless}
 use Rattle.ap_program.specs.NameRestriction.{IsFreshForHead}
-use Rattle.ap_restrict.specs.Heads.{IsAnswer, free_sort, sort_unless}
+use Rattle.ap_program.specs.FreeLocals.{free_sort, sort_unless}
+use Rattle.ap_restrict.specs.Heads.{IsAnswer}
 
 abbrev name_with : ℕ → ℕ → Name
 name_with s n = record { sort = s; num = n }

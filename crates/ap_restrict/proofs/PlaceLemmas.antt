@@ -5,14 +5,14 @@ use Rattle.ap_defs.specs.declared.terms.Var.{Var}
 use Rattle.ap_defs.specs.RawTerms.{RawTerm}
 use Rattle.ap_defs.specs.Goals.{GoalOver, succeed, atom, equal, fresh, both, either, exists, new}
 use Rattle.ap_program.specs.NameRestriction.{in_each, terms_of_goal}
-use Rattle.ap_restrict.specs.Places.{first_of, variables_at}
+use Rattle.ap_restrict.specs.Places.{first_var, variables_at}
 use Rattle.ap_restrict.specs.declared.places.NamePlace.{NamePlace}
 
 abbrev pub otherwise : Option Var → Option Var → Option Var
 otherwise None y = y
 otherwise (Some x) y = Some x
 
-pub first_append : (xs ys : List Var) → first_of (xs ++ ys) ≡ otherwise (first_of xs) (first_of ys)
+pub first_append : (xs ys : List Var) → first_var (xs ++ ys) ≡ otherwise (first_var xs) (first_var ys)
 first_append [] ys = refl
 first_append (x ∷ xs) ys = refl
 
@@ -25,11 +25,11 @@ append_none [] = refl
 append_none (x ∷ xs) = ap (λ ys. x ∷ ys) (append_none xs)
 
 -- where the first goal has none, it is that of the second one
-pub first_right : (place : NamePlace) (g h : GoalOver RawTerm) → first_of (in_each (variables_at place) (terms_of_goal g)) ≡ None
-    → first_of (in_each (variables_at place) (terms_of_goal h)) ≡ first_of (in_each (variables_at place) (terms_of_goal (both g h)))
+pub first_right : (place : NamePlace) (g h : GoalOver RawTerm) → first_var (in_each (variables_at place) (terms_of_goal g)) ≡ None
+    → first_var (in_each (variables_at place) (terms_of_goal h)) ≡ first_var (in_each (variables_at place) (terms_of_goal (both g h)))
 first_right place g h e =
     let f = variables_at place in
-    sym (ap first_of (in_each_append f (terms_of_goal g) (terms_of_goal h)) ∙ first_append (in_each f (terms_of_goal g)) (in_each f (terms_of_goal h)) ∙ ap (λ o. otherwise o (first_of (in_each f (terms_of_goal h)))) e)
+    sym (ap first_var (in_each_append f (terms_of_goal g) (terms_of_goal h)) ∙ first_append (in_each f (terms_of_goal g)) (in_each f (terms_of_goal h)) ∙ ap (λ o. otherwise o (first_var (in_each f (terms_of_goal h)))) e)
 
 -- how many goals there are
 abbrev pub goal_size : GoalOver RawTerm → ℕ

@@ -5,8 +5,8 @@ use Rattle.ap_defs.specs.declared.terms.Var.{Var}
 use Rattle.ap_defs.specs.Permutations.{name_eq, act_name, inverse}
 use Rattle.ap_defs.specs.Terms.{NominalTerm, unit, name, pair, app, abs, susp}
 use Rattle.ap_defs.specs.Types as types
-use Rattle.ap_defs.specs.Types.{NominalKind, NominalLocal, NominalConstructor}
-use Rattle.ap_defs.specs.Goals.{NominalGoal, NominalClause}
+use Rattle.ap_defs.specs.Types.{NominalConstructor, NominalKind, NominalLocal}
+use Rattle.ap_defs.specs.Goals.{NominalClause, NominalGoal}
 use Rattle.ap_defs.specs.Answers.{kind_at}
 use Rattle.ap_types.specs.declared.holding.Holding.{Holding}
 use Rattle.ap_types.specs.Holding.{holds_if}
@@ -50,11 +50,3 @@ clause_with args body locals = record { item = 0; line = 0; pred = 0; args = arg
 abbrev pub IsAnswer : List NominalConstructor → NominalClause → List Name → Option Name → Type 0
 IsAnswer cs c names None = AreFreshForHead cs c names
 IsAnswer cs c names (Some a) = IsFirstNotFresh cs c names a
-
--- the sort of a free name
-abbrev pub sort_unless : Bool → NominalKind → Option ℕ
-sort_unless false (types.name s) = Some s
-sort_unless _ _ = None
-
-abbrev pub free_sort : NominalLocal → Option ℕ
-free_sort l = sort_unless l.bound l.kind

@@ -6,9 +6,9 @@ use Rattle.ap_program.specs.NameRestriction.{variable_binders, variable_places}
 use Rattle.ap_restrict.specs.declared.places.NamePlace.{NamePlace}
 use Rattle.ap_restrict.specs.declared.places.NamePlace.TheVariants as places
 
-abbrev pub first_of : List Var → Option Var
-first_of [] = None
-first_of (x ∷ xs) = Some x
+abbrev pub first_var : List Var → Option Var
+first_var [] = None
+first_var (x ∷ xs) = Some x
 
 -- the variables at such places of a term
 abbrev pub variables_at : NamePlace → RawTerm → List Var

@@ -8,9 +8,10 @@ ghost use Rattle.ap_defs.specs.Renaming.{local_names};
 ghost use Rattle.ap_defs.specs.Resolution.{kinds_of};
 ghost use Rattle.ap_types.specs.Rounds.{marked};
 ghost use Rattle.ap_program.specs.NameRestriction.{IsFreshForHead};
+ghost use Rattle.ap_program.specs.FreeLocals.{free_sort};
 ghost use Rattle.ap_defs.specs.Answers.{kind_at};
-ghost use Rattle.ap_restrict.specs.Facts.{facts_of, HasSame};
-ghost use Rattle.ap_restrict.specs.Heads.{bars, is_known, fresh_by, fresh_by_each, AreTables, clause_with, IsAnswer, free_sort};
+ghost use Rattle.ap_restrict.specs.Facts.{HasSame, facts_of};
+ghost use Rattle.ap_restrict.specs.Heads.{bars, is_known, fresh_by, fresh_by_each, AreTables, clause_with, IsAnswer};
 
 use crate::facts::{Fact, has, known_facts};
 use crate::tables::table_of;

@@ -7,7 +7,7 @@ ghost use Rattle.ap_defs.specs.Goals.{clause_over, query_over};
 ghost use Rattle.ap_defs.specs.Renaming.{local_names};
 ghost use Rattle.ap_program.specs.CarryingOut.{carried_out, map_clause};
 ghost use Rattle.ap_program.specs.NameRestriction.{RawItem, clause as clause_item, query as query_item, item_terms, in_each, spelling_at};
-ghost use Rattle.ap_restrict.specs.Places.{first_of, variables_at};
+ghost use Rattle.ap_restrict.specs.Places.{first_var, variables_at};
 ghost use Rattle.ap_restrict.specs.Heads.{AreTables, IsAnswer};
 ghost use Rattle.ap_restrict.specs.Scans.{IsVerdict};
 
@@ -63,7 +63,7 @@ fn fault(
 #[tactic(auto, using(crate::proofs::PlaceLemmas::first_append, crate::proofs::PlaceLemmas::in_each_append))]
 fn first_in_clause(place: NamePlace, clause: &Clause<Raw>) -> Option<Var>
     ensures { result
-        ≡ first_of (in_each (variables_at place) (item_terms (clause_item
+        ≡ first_var (in_each (variables_at place) (item_terms (clause_item
         (clause_over raw_of clause.now)))) }
 {
     match first_in_terms(place, clause.args.items()) {

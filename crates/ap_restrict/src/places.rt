@@ -6,7 +6,7 @@ ghost use Rattle.std.specs.Prelude.{◌≡◌, ◌++◌, map};
 ghost use Rattle.ap_defs.specs.RawTerms.{raw_of};
 ghost use Rattle.ap_defs.specs.Goals.{goal_over};
 ghost use Rattle.ap_program.specs.NameRestriction.{variable_of, variable_binders, variable_places, terms_of_goal, in_each};
-ghost use Rattle.ap_restrict.specs.Places.{first_of, variables_at};
+ghost use Rattle.ap_restrict.specs.Places.{first_var, variables_at};
 
 use ap_defs::goals::Goal;
 use ap_defs::terms::{Id, Raw, Var};
@@ -20,7 +20,7 @@ pub enum NamePlace {
 
 /// The first variable of two words.
 fn first_variable(left: Id, right: Id) -> Option<Var>
-    ensures { result ≡ first_of (variable_of left ++ variable_of right) }
+    ensures { result ≡ first_var (variable_of left ++ variable_of right) }
 {
     match left {
         Id::Var(x) => Some(x),
@@ -34,7 +34,7 @@ fn first_variable(left: Id, right: Id) -> Option<Var>
 /// The first variable that is a binder in a term, in the order of the text.
 #[tactic(auto, using(crate::proofs::PlaceLemmas::first_append))]
 fn first_binder(t: &Raw) -> Option<Var>
-    ensures { result ≡ first_of (variable_binders (raw_of t.now)) }
+    ensures { result ≡ first_var (variable_binders (raw_of t.now)) }
 {
     let mut rest = t;
     loop {
@@ -57,7 +57,7 @@ fn first_binder(t: &Raw) -> Option<Var>
 /// The first variable that is in a place of a swapping in a term, in the order of the text.
 #[tactic(auto, using(crate::proofs::PlaceLemmas::first_append))]
 fn first_place(t: &Raw) -> Option<Var>
-    ensures { result ≡ first_of (variable_places (raw_of t.now)) }
+    ensures { result ≡ first_var (variable_places (raw_of t.now)) }
 {
     let mut rest = t;
     loop {
@@ -83,7 +83,7 @@ fn first_place(t: &Raw) -> Option<Var>
 
 /// The first variable at such a place of a term, in the order of the text.
 fn first_in_term(place: NamePlace, t: &Raw) -> Option<Var>
-    ensures { result ≡ first_of (variables_at place (raw_of t.now)) }
+    ensures { result ≡ first_var (variables_at place (raw_of t.now)) }
 {
     match place {
         NamePlace::Binder => first_binder(t),
@@ -94,7 +94,7 @@ fn first_in_term(place: NamePlace, t: &Raw) -> Option<Var>
 /// The first variable at such a place of some terms.
 #[tactic(auto, using(crate::proofs::PlaceLemmas::first_append))]
 pub fn first_in_terms(place: NamePlace, ts: &[Raw]) -> Option<Var>
-    ensures { result ≡ first_of (in_each (variables_at place) (map raw_of ts.now)) }
+    ensures { result ≡ first_var (in_each (variables_at place) (map raw_of ts.now)) }
 {
     for t in ts {
         if let Some(x) = first_in_term(place, t) {
@@ -108,7 +108,7 @@ pub fn first_in_terms(place: NamePlace, ts: &[Raw]) -> Option<Var>
 #[tactic(auto, using(crate::proofs::PlaceLemmas::first_append))]
 fn first_in_two(place: NamePlace, t: &Raw, u: &Raw) -> Option<Var>
     ensures { result
-        ≡ first_of (variables_at place (raw_of t.now) ++ variables_at place (raw_of u.now)) }
+        ≡ first_var (variables_at place (raw_of t.now) ++ variables_at place (raw_of u.now)) }
 {
     match first_in_term(place, t) {
         Some(x) => Some(x),
@@ -120,7 +120,7 @@ fn first_in_two(place: NamePlace, t: &Raw, u: &Raw) -> Option<Var>
 #[tactic(auto, using(crate::proofs::PlaceLemmas::first_append, crate::proofs::PlaceLemmas::in_each_append, crate::proofs::PlaceLemmas::append_none))]
 pub fn first_in_goal(place: NamePlace, g: &Goal<Raw>) -> Option<Var>
     ensures { result
-        ≡ first_of (in_each (variables_at place) (terms_of_goal (goal_over raw_of g.now))) }
+        ≡ first_var (in_each (variables_at place) (terms_of_goal (goal_over raw_of g.now))) }
 {
     let mut rest = g;
     loop {

@@ -83,16 +83,16 @@ abbrev pub binder_flaw : Declared → Name → Option TypeKind
 binder_flaw d (OfWord w) = clash_if (constructor_place d w)
 binder_flaw d (OfVar w) = None
 
-abbrev pub count : Terms → ℕ
-count (terms.Last t) = 1
-count (terms.More t ts) = suc (count ts)
+abbrev pub term_count : Terms → ℕ
+term_count (terms.Last t) = 1
+term_count (terms.More t ts) = suc (term_count ts)
 
 abbrev mutual
   pub term_flaw : Declared → Term → Option TypeKind
   term_flaw d terms.Unit = None
   term_flaw d (terms.Variable w) = None
   term_flaw d (terms.Word w) = word_flaw (constructor_arity d w)
-  term_flaw d (terms.Apply w ts) = least (count_flaw (count ts) (constructor_arity d w)) (arguments_flaw d ts)
+  term_flaw d (terms.Apply w ts) = least (count_flaw (term_count ts) (constructor_arity d w)) (arguments_flaw d ts)
   term_flaw d (terms.Pair t u) = least (term_flaw d t) (term_flaw d u)
   term_flaw d terms.Nil = None
   term_flaw d (terms.Cell t u) = least (term_flaw d t) (term_flaw d u)

@@ -34,11 +34,11 @@ pub record IsIndexed (d : Declarations) : Type 0 where
   pub predicates : length (words_in d.predicates) ≡ length d.signature.predicates
 
 -- how many things are declared
-abbrev pub size_of : NominalSignature → ℕ
-size_of s = length s.name_types + length s.data_types + length s.constructors + length s.predicates
+abbrev pub declared_count : NominalSignature → ℕ
+declared_count s = length s.name_types + length s.data_types + length s.constructors + length s.predicates
 
 abbrev pub IsSmall : Declarations → Type 0
-IsSmall d = size_of (signature_of d.signature) ≤ size_limit
+IsSmall d = declared_count (signature_of d.signature) ≤ size_limit
 
 abbrev pub identifier_of : code.Identifier → Identifier
 identifier_of i = record { spelling = name_of i.spelling; bound = i.bound }

@@ -137,7 +137,7 @@ fn arguments_flaw(declared: &Declarations<'_>, args: &Args<'_>) -> Option<TypeKi
 
 /// Whether there are as many arguments as declared.
 fn are_as_many(declared: usize, args: &Args<'_>) -> bool
-    ensures { result ≡ (declared == spec.count (terms_of args.now)) }
+    ensures { result ≡ (declared == spec.term_count (terms_of args.now)) }
 {
     let mut left = declared;
     let mut rest = args;
@@ -157,7 +157,7 @@ fn are_as_many(declared: usize, args: &Args<'_>) -> bool
 
 /// The fault of an applied constructor, where it is given how many arguments it has.
 fn application_flaw(declared: Option<usize>, args: &Args<'_>) -> Option<TypeKind>
-    ensures { result ≡ spec.count_flaw (spec.count (terms_of args.now)) declared }
+    ensures { result ≡ spec.count_flaw (spec.term_count (terms_of args.now)) declared }
 {
     match declared {
         None => Some(TypeKind::Undeclared),

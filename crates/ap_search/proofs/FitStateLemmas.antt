@@ -1,14 +1,14 @@
 -- From a fit state a search finds fit states.
 use Rattle.std.proofs.Common.{subst, ◌≡◌, ◌+◌, ◌<◌, ◌≤◌, ℕ, zero, suc, true, false, List, [], ◌∷◌, ◌++◌, map, length, refl, sym, ap, ◌∙◌, arith}
 use Rattle.std.specs.Prelude.{if◌then◌else◌, Option, Some, None}
-use Rattle.std.proofs.lemmas.List.{length-map, length-append}
+use Rattle.std.proofs.lemmas.List.{length-append, length-map}
 use Rattle.ap_defs.specs.Derivations as nodes
 use Rattle.ap_defs.specs.Derivations.{NominalDerivation}
 use Rattle.ap_defs.specs.Freshness.{add_conds, both as both_lists, reduce}
 use Rattle.ap_defs.specs.Goals.{NominalGoal, succeed, atom, equal, fresh, both, either, exists, new, NominalClause, NominalQuery, Clauses, clauses_of}
 use Rattle.ap_defs.specs.Occurrences.{free_vars}
 use Rattle.ap_defs.specs.Permutations.{name_eq}
-use Rattle.ap_defs.specs.Renaming.{AreBelow, IsBelow, IsGoalBelow, rename_goal, rename_term}
+use Rattle.ap_defs.specs.Renaming.{AreBelow, AreBindingsBelow, IsBelow, IsGoalBelow, rename_goal, rename_term}
 use Rattle.ap_defs.specs.Resolution.{Call, Output, State, below, by_clause, by_clauses, calls, clause_node, cut, each_found, first_state, found, fresh_for_each, if_reduced, if_unified, just_found, kinds_of, next_number, outputs, solve, solve_query, chose, stuck, test_fresh}
 use Rattle.ap_defs.specs.Substitution.{Binding, Problem, under, ◌#◌, ◌:=◌}
 use Rattle.ap_defs.specs.Terms as terms
@@ -23,7 +23,7 @@ use Rattle.ap_theory.specs.Variables.{EachCond, EachVar, IsIdempotent, IsUnbound
 use Rattle.ap_theory.proofs.IdempotenceLemmas.{EachSome, each_add_all, under_each}
 use Rattle.ap_theory.proofs.OpenSoundnessLemmas.{unify_idempotent}
 use Rattle.ap_theory.proofs.VariableLemmas.{each_left, each_right, susp_each}
-use Rattle.ap_search.specs.FitStates.{AllFound, AreBindingsBelow, AreCondsBelow, AreFitClauses, IsFitClause, IsFitProgram, IsFitState}
+use Rattle.ap_search.specs.FitStates.{AllFound, AreCondsBelow, AreFitClauses, IsFitClause, IsFitProgram, IsFitState}
 use Rattle.ap_search.proofs.NumberLemmas.{AreProblemsBelow, AreSomeBelow, IsUnifiedBelow, add_conds_below, reduce_all_below, reduce_below, under_below, unify_below}
 
 -- Lists of outputs.

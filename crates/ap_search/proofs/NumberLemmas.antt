@@ -3,7 +3,7 @@ use Rattle.std.proofs.Common.{◌<◌, ℕ, zero, suc, true, false, List, [], �
 use Rattle.std.specs.Prelude.{if◌then◌else◌, ◌==◌, nat_lt, Option, Some, None}
 use Rattle.ap_defs.specs.Freshness.{Conds, add_cond, add_conds, both as both_lists, cond_before, cond_eq, reduce, var_eq}
 use Rattle.ap_defs.specs.Permutations.{act_name, add_name, differing, disagreement, inverse, left_name, name_before, name_eq, names_of, right_name, swap_name, swap_of}
-use Rattle.ap_defs.specs.Renaming.{AreBelow, AreSwapsBelow, IsBelow}
+use Rattle.ap_defs.specs.Renaming.{AreBelow, AreBindingsBelow, AreSwapsBelow, IsBelow}
 use Rattle.ap_defs.specs.Substitution.{Binding, Equation, Problem, bound_term, moved, occurs, put, put_binding, put_equation, put_problem, under, ◌#◌, ◌:=◌, ◌≐◌}
 use Rattle.ap_defs.specs.Terms.{NominalTerm, abs, act_term, app, name, pair, susp, unit}
 use Rattle.ap_defs.specs.Unification.{Ending, Rule, Stage, Unified, after, apply_rule, bind, clash, ending, equations_of, finish, first_stage, fresh_for, problem_of, reduce_all, replace, rule, run, solved, steps_for, unfinished, unify, unless_occurs, unsolvable, with_conditions}
@@ -11,7 +11,7 @@ use Rattle.ap_defs.specs.declared.terms.Cond.{Cond}
 use Rattle.ap_defs.specs.declared.terms.Name.{Name}
 use Rattle.ap_defs.specs.declared.terms.Swap.{Swap}
 use Rattle.ap_defs.specs.declared.terms.Var.{Var}
-use Rattle.ap_search.specs.FitStates.{AreBindingsBelow, AreCondsBelow}
+use Rattle.ap_search.specs.FitStates.{AreCondsBelow}
 
 module _ (n : ℕ) where
   abbrev AreNamesBelow : List Name → Type 0

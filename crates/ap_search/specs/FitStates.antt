@@ -3,14 +3,9 @@
 use Rattle.std.specs.Prelude.{◌<◌, ◌^◌, ℕ, List, [], ◌∷◌, length}
 use Rattle.ap_defs.specs.Freshness.{Conds}
 use Rattle.ap_defs.specs.Goals.{Clauses, NominalClause}
-use Rattle.ap_defs.specs.Renaming.{AreBelow, IsBelow, IsGoalBelow}
+use Rattle.ap_defs.specs.Renaming.{AreBelow, AreBindingsBelow, IsGoalBelow}
 use Rattle.ap_defs.specs.Resolution.{Output, State, cut, found, next_number, chose, stuck}
-use Rattle.ap_defs.specs.Substitution.{Binding, ◌:=◌}
 use Rattle.ap_theory.specs.Variables.{EachCond, IsIdempotent, IsUnbound}
-
-abbrev pub AreBindingsBelow : ℕ → List Binding → Type 0
-AreBindingsBelow n [] = Unit {0}
-AreBindingsBelow n ((x := t) ∷ bs) = ((x.num < n) × IsBelow n t) × AreBindingsBelow n bs
 
 abbrev pub AreCondsBelow : ℕ → Conds → Type 0
 AreCondsBelow n [] = Unit {0}

@@ -2,12 +2,12 @@
 use Rattle.std.specs.Prelude.{◌≡◌, ◌≤◌, ℕ, List, Some, length}
 use Rattle.ap_defs.specs.Freshness.{Conds}
 use Rattle.ap_defs.specs.Goals.{Clauses, NominalGoal, NominalQuery}
-use Rattle.ap_defs.specs.Renaming.{AreBelow, IsGoalBelow}
+use Rattle.ap_defs.specs.Renaming.{AreBelow, AreBindingsBelow, IsGoalBelow}
 use Rattle.ap_defs.specs.Resolution.{State, next_number, solve, solve_query}
 use Rattle.ap_defs.specs.Substitution.{Binding}
 use Rattle.ap_defs.specs.Terms.{NominalTerm}
 use Rattle.ap_defs.specs.Unification.{Unified, unify}
-use Rattle.ap_search.specs.FitStates.{AllFound, AreBindingsBelow, AreCondsBelow, IsFitProgram, IsFitState}
+use Rattle.ap_search.specs.FitStates.{AllFound, AreCondsBelow, IsFitProgram, IsFitState}
 
 -- unification brings no number of its own
 abbrev pub UnifiedIsBelow : Type 0

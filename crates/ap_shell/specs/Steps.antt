@@ -80,12 +80,12 @@ drops s line = commands s line && not (length s.waiting.items == 0)
 -- WHAT IS LOADED
 
 -- the clauses that are added stand behind what is loaded, where they have no fault there
-abbrev pub Adds : List ℕ → List ℕ → List ℕ → Type 0
-Adds added old new = (o : Outcome) × IsOutcome (old ++ added) o × IsLoadedBy o (old ++ added) old new
+abbrev pub AddsClauses : List ℕ → List ℕ → List ℕ → Type 0
+AddsClauses added old new = (o : Outcome) × IsOutcome (old ++ added) o × IsLoadedBy o (old ++ added) old new
 
 -- the line that ends such clauses loads them, and no other line changes what is loaded
 abbrev pub LoadsWhere : Bool → List ℕ → List ℕ → List ℕ → Type 0
-LoadsWhere true added old new = Adds added old new
+LoadsWhere true added old new = AddsClauses added old new
 LoadsWhere false added old new = new ≡ old
 
 abbrev pub LoadsBy : Session → Session → List ℕ → Type 0

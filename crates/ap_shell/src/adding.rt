@@ -1,7 +1,7 @@
 //! Clauses that are added at the prompt.
 ghost use Rattle.std.specs.Prelude.{◌≡◌, ◌<◌, ◌≤◌, ◌++◌, [], false, IfOk, OnErr, OnOk, length};
 ghost use Rattle.ap_inputs.specs.Lines as lines;
-ghost use Rattle.ap_shell.specs.Steps.{Adds, IsReplyOf, LoadsWhere, WritesNothing, adding_after, waiting_added, with_line};
+ghost use Rattle.ap_shell.specs.Steps.{AddsClauses, IsReplyOf, LoadsWhere, WritesNothing, adding_after, waiting_added, with_line};
 
 use crate::loading::load;
 use crate::replies::{Reply, Step};
@@ -25,7 +25,7 @@ fn joined(alloc: Global, loaded: &[u8], added: &[u8]) -> Result<Vec<u8>, Memory>
 /// Ends the adding of clauses: where they have no fault they are loaded behind what is loaded.
 fn end_adding(alloc: Global, session: &mut Session) -> Result<Told, Memory>
     ensures added { OnOk result
-        (Adds session.old.waiting.items session.old.loaded.items session.new.loaded.items) }
+        (AddsClauses session.old.waiting.items session.old.loaded.items session.new.loaded.items) }
     ensures quiet { IfOk result (λ t. t.written.items ≡ []) }
     ensures waits { OnOk result (session.new.waiting.items ≡ []) }
     ensures ended { OnOk result (session.new.is_adding ≡ false) }

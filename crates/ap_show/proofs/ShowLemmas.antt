@@ -19,14 +19,14 @@ use Rattle.ap_report.specs.FaultLines.{fault_report}
 use Rattle.ap_report.proofs.Texts.{refused_report, report_one}
 use Rattle.ap_steps.specs.Proofs.{shown_steps}
 use Rattle.ap_steps.specs.Steps.{NominalStep}
-use Rattle.ap_steps.specs.Writers.{step_of}
+use Rattle.ap_steps.specs.Writers.{written_step}
 use Rattle.ap_text.specs.Texts.{IsFaultOfText}
-use Rattle.ap_show.specs.Reports.{AreWritten, IsWritten, Passes}
+use Rattle.ap_show.specs.Reports.{AreWritten, IsDocumentWritten, PassesCheck}
 
 -- Some of the derivations are written behind what was, and these are left.
 pub record AreWrittenSoFar (format : Format) (p : NominalProgram) (words : List (List ℕ)) (ds rest : List Proved) (before after : List ℕ) : Type 0 where
   pub steps : List (List Step)
-  pub shown : map (map step_of) steps ++ map (shown_steps p words) (map proved_of rest) ≡ map (shown_steps p words) (map proved_of ds)
+  pub shown : map (map written_step) steps ++ map (shown_steps p words) (map proved_of rest) ≡ map (shown_steps p words) (map proved_of ds)
   pub written : after ≡ before ++ derivation_texts format steps
 
 texts_append : (format : Format) (ss : List (List Step)) (s : List Step) → derivation_texts format (ss ++ s ∷ []) ≡ derivation_texts format ss ++ derivation_text format s
@@ -39,16 +39,16 @@ module _ (format : Format) (p : NominalProgram) (words : List (List ℕ)) (ds : 
   none_written = record { steps = []; shown = refl; written = sym (append-nil before) }
 
   pub one_written : (d : Proved) (rest others : List Proved) (now after : List ℕ) → rest ≡ d ∷ others → AreWrittenSoFar format p words ds rest before now
-      → IsWritten format p words (proved_of d) now after → AreWrittenSoFar format p words ds others before after
+      → IsDocumentWritten format p words (proved_of d) now after → AreWrittenSoFar format p words ds others before after
   one_written d rest others now after e so one =
       let more : List (List NominalStep) = map (shown_steps p words) (map proved_of others) in
       record {
         steps = so.steps ++ one.steps ∷ [];
         shown =
-            ap (λ (xs : List (List NominalStep)). xs ++ more) (map-append (map step_of) so.steps (one.steps ∷ []))
-            ∙ append_assoc (map (map step_of) so.steps) (map step_of one.steps ∷ []) more
-            ∙ ap (λ (s : List NominalStep). map (map step_of) so.steps ++ (s ∷ more)) one.shown
-            ∙ ap (λ (rs : List Proved). map (map step_of) so.steps ++ map (shown_steps p words) (map proved_of rs)) (sym e) ∙ so.shown;
+            ap (λ (xs : List (List NominalStep)). xs ++ more) (map-append (map written_step) so.steps (one.steps ∷ []))
+            ∙ append_assoc (map (map written_step) so.steps) (map written_step one.steps ∷ []) more
+            ∙ ap (λ (s : List NominalStep). map (map written_step) so.steps ++ (s ∷ more)) one.shown
+            ∙ ap (λ (rs : List Proved). map (map written_step) so.steps ++ map (shown_steps p words) (map proved_of rs)) (sym e) ∙ so.shown;
         written =
             one.written ∙ ap (λ bs. bs ++ derivation_text format one.steps) so.written
             ∙ append_assoc before (derivation_texts format so.steps) (derivation_text format one.steps)
@@ -60,8 +60,8 @@ module _ (format : Format) (p : NominalProgram) (words : List (List ℕ)) (ds : 
   all_written rest after e so = record {
     steps = so.steps;
     shown =
-        sym (append-nil (map (map step_of) so.steps))
-        ∙ ap (λ (rs : List Proved). map (map step_of) so.steps ++ map (shown_steps p words) (map proved_of rs)) (sym e) ∙ so.shown;
+        sym (append-nil (map (map written_step) so.steps))
+        ∙ ap (λ (rs : List Proved). map (map written_step) so.steps ++ map (shown_steps p words) (map proved_of rs)) (sym e) ∙ so.shown;
     written = so.written;
   }
 
@@ -72,13 +72,13 @@ fault_refuses (faults.Types f) e = cc
 fault_refuses (faults.Names f) e = cc
 
 -- a bundle that passes was read, and its text has no fault
-pub no_bundle_fault : (f : BundleFault) → Passes (Err f) → ⊥
+pub no_bundle_fault : (f : BundleFault) → PassesCheck (Err f) → ⊥
 no_bundle_fault f passes =
     let same : bundle_fault_report f ≡ passes.report = sym passes.is in
     let ok : (bundle_fault_report f).status ≡ status.Ok = ap (λ (r : Report). r.status) same ∙ passes.status in
     cc
 
-pub no_text_fault : (b : NominalBundle) (f : Fault) → IsFaultOfText b.text f → Passes (Ok b) → ⊥
+pub no_text_fault : (b : NominalBundle) (f : Fault) → IsFaultOfText b.text f → PassesCheck (Ok b) → ⊥
 no_text_fault b f h passes =
     let answer = check_report b.proved in
     let same : fault_report f ≡ passes.report = sym (report_one answer b.text (fault_report f) passes.report (refused_report answer b.text f (fault_report f) h refl) passes.is) in

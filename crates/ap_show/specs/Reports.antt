@@ -12,27 +12,27 @@ use Rattle.ap_report.specs.declared.report.Report.{Report}
 use Rattle.ap_report.specs.declared.status.Status.{Status}
 use Rattle.ap_report.specs.declared.status.Status.TheVariants as status
 use Rattle.ap_steps.specs.Proofs.{shown_steps}
-use Rattle.ap_steps.specs.Writers.{step_of}
+use Rattle.ap_steps.specs.Writers.{written_step}
 use Rattle.ap_text.specs.Texts.{HasItems, IsProgramOfText}
 use Rattle.ap_trees.specs.Items.{ItemOf}
 use Rattle.ap_show.specs.Predicates.{predicate_words}
 
 -- A derivation is written behind what was: its steps, with some marks of their bound names.
-pub record IsWritten (format : Format) (p : NominalProgram) (words : List (List ℕ)) (d : NominalProved) (before after : List ℕ) : Type 0 where
+pub record IsDocumentWritten (format : Format) (p : NominalProgram) (words : List (List ℕ)) (d : NominalProved) (before after : List ℕ) : Type 0 where
   pub steps : List Step
-  pub shown : map step_of steps ≡ shown_steps p words d
+  pub shown : map written_step steps ≡ shown_steps p words d
   pub written : after ≡ before ++ derivation_text format steps
 
 -- Derivations are written so one after another.
 pub record AreWritten (format : Format) (p : NominalProgram) (words : List (List ℕ)) (ds : List NominalProved) (before after : List ℕ) : Type 0 where
   pub steps : List (List Step)
-  pub shown : map (map step_of) steps ≡ map (shown_steps p words) ds
+  pub shown : map (map written_step) steps ≡ map (shown_steps p words) ds
   pub written : after ≡ before ++ derivation_texts format steps
 
 -- A document of derivations, for a program whose predicates have these words: the steps of each, with some marks of their bound names.
 pub record IsDocument (format : Format) (p : NominalProgram) (words : List (List ℕ)) (ds : List NominalProved) (bytes : List ℕ) : Type 0 where
   pub steps : List (List Step)
-  pub shown : map (map step_of) steps ≡ map (shown_steps p words) ds
+  pub shown : map (map written_step) steps ≡ map (shown_steps p words) ds
   pub written : bytes ≡ document format steps
 
 -- A document of a bundle, whose text has a program.
@@ -51,7 +51,7 @@ pub record IsShown (format : Format) (bytes : List ℕ) (r : Report) : Type 0 wh
   pub shown : IsShownBundle format bundle r
 
 -- The check of what was read refuses nothing.
-pub record Passes (read : Result NominalBundle BundleFault) : Type 0 where
+pub record PassesCheck (read : Result NominalBundle BundleFault) : Type 0 where
   pub report : Report
   pub is : IsReadReport read report
   pub status : report.status ≡ status.Ok

@@ -8,7 +8,7 @@ ghost use Rattle.ap_defs.specs.Limits.{size_limit};
 ghost use Rattle.ap_defs.specs.Printing.{has_word};
 ghost use Rattle.ap_answers.specs.Words.{knows};
 ghost use Rattle.ap_bundle.specs.Reading.{reading};
-ghost use Rattle.ap_show.specs.Reports.{AreWritten, IsDocument, IsShowReport, IsShown, IsShownBundle, IsWritten, Passes};
+ghost use Rattle.ap_show.specs.Reports.{AreWritten, IsDocument, IsShowReport, IsShown, IsShownBundle, IsDocumentWritten, PassesCheck};
 
 use crate::predicates::predicate_words;
 use ap_answers::printing::words_in;
@@ -36,7 +36,7 @@ fn write_proved(
     proved: &Proved,
 ) -> Result<(), Memory>
     requires { (w : list ℕ) → knows taken.now w ≡ has_word w program.now.words }
-    ensures { OnOk result (IsWritten format (program_of program.now) words.now
+    ensures { OnOk result (IsDocumentWritten format (program_of program.now) words.now
         (proved_of proved.now) out.old.items out.new.items) }
 {
     let steps = steps_of(alloc, program.program(), taken, words, proved)?;
@@ -90,7 +90,7 @@ fn document_of(
 /// A document of a bundle whose check found nothing to refuse.
 fn document_of_bundle(alloc: Global, format: Format, bundle: &Bundle) -> Result<Report, Memory>
     requires short { length bundle.now.text ≤ size_limit }
-    requires passes { Passes (Ok (bundle_of bundle.now)) }
+    requires passes { PassesCheck (Ok (bundle_of bundle.now)) }
     ensures { IfOk result (λ r. IsShownBundle format (bundle_of bundle.now) r) }
 {
     match program_of_text(alloc, bundle.text.items()) {
@@ -112,7 +112,7 @@ fn document_of_bundle(alloc: Global, format: Format, bundle: &Bundle) -> Result<
 /// A document of the bundle that bytes are, whose check found nothing to refuse.
 fn document_of_bytes(alloc: Global, format: Format, bytes: &[u8]) -> Result<Report, Memory>
     requires short { length bytes.now ≤ size_limit }
-    requires passes { Passes (reading bytes.now) }
+    requires passes { PassesCheck (reading bytes.now) }
     ensures { IfOk result (λ r. IsShown format bytes.now r) }
 {
     match read_bundle(alloc, bytes) {

@@ -8,7 +8,7 @@ use Rattle.ap_defs.specs.Permutations.{has_name, name_eq}
 use Rattle.ap_defs.specs.Unification.{has_var}
 use Rattle.ap_spelling.specs.Differing.{GivenNamesAreSpelled, GivenVarsAreSpelled, gives_name, gives_var}
 use Rattle.ap_spelling.specs.Words as given
-use Rattle.ap_spelling.specs.Words.{NominalGiven, NominalSpelt, give, give_each, with_name, with_var}
+use Rattle.ap_spelling.specs.Words.{NominalGiven, NominalSpelt, give, give_each, spelt_with_name, with_var}
 use Rattle.ap_spelling.proofs.Telling.{same_name, same_var}
 
 pub or_left : (b c : Bool) → b ≡ true → (b || c) ≡ true
@@ -40,7 +40,7 @@ var_back x y [] h = or_left (var_eq x y) false h
 var_back x y (z ∷ zs) h = or_right (var_eq x z) (has_var x (zs ++ y ∷ [])) (var_back x y zs h)
 
 -- what is spelled stays so
-name_by : (words : List (List ℕ)) (b : Name) (w : List ℕ) (s : NominalSpelt) (a : Name) (there : Bool) → has_name a s.names ≡ true → has_name a (if there then s else with_name words b w s).names ≡ true
+name_by : (words : List (List ℕ)) (b : Name) (w : List ℕ) (s : NominalSpelt) (a : Name) (there : Bool) → has_name a s.names ≡ true → has_name a (if there then s else spelt_with_name words b w s).names ≡ true
 name_by words b w s a true h = h
 name_by words b w s a false h = name_front a b s.names h
 
@@ -52,7 +52,7 @@ same_names_by : (words : List (List ℕ)) (y : Var) (w : List ℕ) (s : NominalS
 same_names_by words y w s a true h = h
 same_names_by words y w s a false h = h
 
-same_vars_by : (words : List (List ℕ)) (b : Name) (w : List ℕ) (s : NominalSpelt) (x : Var) (there : Bool) → has_var x s.vars ≡ true → has_var x (if there then s else with_name words b w s).vars ≡ true
+same_vars_by : (words : List (List ℕ)) (b : Name) (w : List ℕ) (s : NominalSpelt) (x : Var) (there : Bool) → has_var x s.vars ≡ true → has_var x (if there then s else spelt_with_name words b w s).vars ≡ true
 same_vars_by words b w s x true h = h
 same_vars_by words b w s x false h = h
 
@@ -74,7 +74,7 @@ vars_stay words (g ∷ gs) s x h = vars_stay words gs (give words g s) x (var_st
 
 -- what is given now is spelled
 name_now : (words : List (List ℕ)) (b : Name) (w : List ℕ) (s : NominalSpelt) (a : Name) (there : Bool) → has_name b s.names ≡ there → name_eq a b ≡ true
-    → has_name a (if there then s else with_name words b w s).names ≡ true
+    → has_name a (if there then s else spelt_with_name words b w s).names ≡ true
 name_now words b w s a true e h = subst (λ c. has_name c s.names ≡ true) (sym (same_name a b h)) e
 name_now words b w s a false e h = name_back a b s.names h
 

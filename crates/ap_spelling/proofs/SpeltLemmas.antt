@@ -7,14 +7,14 @@ use Rattle.ap_defs.specs.Freshness.{var_eq}
 use Rattle.ap_defs.specs.Permutations.{has_name, name_eq}
 use Rattle.ap_defs.specs.Printing.{has_word}
 use Rattle.ap_defs.specs.Unification.{has_var}
-use Rattle.ap_spelling.specs.Words.{joined, next, number_from}
+use Rattle.ap_spelling.specs.Words.{word_with_number, number_after, number_from}
 
 -- a number that makes a word of the text is passed over
-pub number_taken : (words : List (List ℕ)) (w : List ℕ) (n k m : ℕ) → k ≡ suc m → has_word (joined w n) words ≡ true → number_from words w n k ≡ number_from words w (next n) m
+pub number_taken : (words : List (List ℕ)) (w : List ℕ) (n k m : ℕ) → k ≡ suc m → has_word (word_with_number w n) words ≡ true → number_from words w n k ≡ number_from words w (number_after n) m
 number_taken words w n k m e h = rw (e, h) refl
 
 -- and one that makes none is found
-pub number_free : (words : List (List ℕ)) (w : List ℕ) (n k m : ℕ) → k ≡ suc m → has_word (joined w n) words ≡ false → number_from words w n k ≡ n
+pub number_free : (words : List (List ℕ)) (w : List ℕ) (n k m : ℕ) → k ≡ suc m → has_word (word_with_number w n) words ≡ false → number_from words w n k ≡ n
 number_free words w n k m e h = rw (e, h) refl
 
 pub any_name : (a : Name) (as' : List Name) → list_any (name_eq a) as' ≡ has_name a as'

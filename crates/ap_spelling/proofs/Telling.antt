@@ -4,27 +4,23 @@ use Rattle.std.specs.Prelude.{if◌then◌else◌}
 use Rattle.std.specs.Str.{bytes_eq}
 use Rattle.std.proofs.lemmas.Bool.Decides.{Decides-eqb, nat_tests}
 use Rattle.std.proofs.lemmas.Slice.Eq.{bytes_eq-Decides}
+use Rattle.std.proofs.lemmas.Bool.{and_parts}
 use Rattle.ap_defs.specs.declared.terms.Name.{Name}
 use Rattle.ap_defs.specs.declared.terms.Var.{Var}
 use Rattle.ap_defs.specs.Freshness.{var_eq}
 use Rattle.ap_defs.specs.Permutations.{has_name, name_eq}
 use Rattle.ap_defs.specs.Printing.{has_word, name_word, var_word}
 use Rattle.ap_defs.specs.Unification.{has_var}
-use Rattle.ap_spelling.specs.Differing.{AllDiffer, SpellingsDiffer, TellsApart, name_text, spellings, var_text}
+use Rattle.ap_spelling.specs.Differing.{AllDiffer, SpellingsDiffer, TellsApart, spelt_name, spellings, var_text}
 use Rattle.ap_spelling.specs.Words as given
-use Rattle.ap_spelling.specs.Words.{NominalGiven, NominalSpelt, give, give_each, with_name, with_var}
+use Rattle.ap_spelling.specs.Words.{NominalGiven, NominalSpelt, give, give_each, spelt_with_name, with_var}
 use Rattle.ap_spelling.proofs.WordLists.{at_back, has_behind, has_first, in_front}
 use Rattle.ap_spelling.proofs.Told.{all_differ}
-
-both_true : (a b : Bool) → (a && b) ≡ true → (a ≡ true) × (b ≡ true)
-both_true true true h = (refl, refl)
-both_true true false h = absurd (true≢false (sym h))
-both_true false b h = absurd (true≢false (sym h))
 
 pub same_name : (a b : Name) → name_eq a b ≡ true → a ≡ b
 unfolding name_eq
 same_name a b h =
-    let e = both_true (a.sort == b.sort) (a.num == b.num) h in
+    let e = and_parts (a.sort == b.sort) (a.num == b.num) h in
     ap₂ (λ s n. let c : Name = record { sort = s; num = n } in c) ((Decides-eqb a.sort b.sort).0 e.0) ((Decides-eqb a.num b.num).0 e.1)
 
 pub same_var : (x y : Var) → var_eq x y ≡ true → x ≡ y
@@ -122,7 +118,7 @@ record AreBeside (s : NominalSpelt) : Type 0 where
 longer : {A B : Type 0} (as' : List A) (bs : List B) (a : A) (b : B) → length as' ≡ length bs → length (as' ++ a ∷ []) ≡ length (bs ++ b ∷ [])
 longer as' bs a b e = length-append as' (a ∷ []) ∙ ap (λ n. n + 1) e ∙ sym (length-append bs (b ∷ []))
 
-name_beside : (words : List (List ℕ)) (a : Name) (w : List ℕ) (s : NominalSpelt) (b : Bool) → AreBeside s → AreBeside (if b then s else with_name words a w s)
+name_beside : (words : List (List ℕ)) (a : Name) (w : List ℕ) (s : NominalSpelt) (b : Bool) → AreBeside s → AreBeside (if b then s else spelt_with_name words a w s)
 name_beside words a w s true h = h
 name_beside words a w s false h = record { names = longer s.names s.name_words a _ h.names; vars = h.vars }
 
@@ -138,11 +134,11 @@ all_beside : (words : List (List ℕ)) (gs : List NominalGiven) (s : NominalSpel
 all_beside words [] s h = h
 all_beside words (g ∷ gs) s h = all_beside words gs (give words g s) (beside_more words g s h)
 
-told_apart : (s : NominalSpelt) → AreBeside s → AllDiffer (spellings s) → TellsApart (name_text s) (var_text s) s.names s.vars
+told_apart : (s : NominalSpelt) → AreBeside s → AllDiffer (spellings s) → TellsApart (spelt_name s) (var_text s) s.names s.vars
 told_apart s h d = record {
   two_names = λ a b. names_apart s.names s.name_words a b h.names (differ_front s.name_words s.var_words d);
   two_vars = λ x y. vars_apart s.vars s.var_words x y h.vars (differ_back s.name_words s.var_words d);
-  name_and_var = λ a x i j e. in_one (name_text s a) s.name_words s.var_words d (name_there s.names s.name_words a h.names i)
+  name_and_var = λ a x i j e. in_one (spelt_name s a) s.name_words s.var_words d (name_there s.names s.name_words a h.names i)
       (subst (λ w. has_word w s.var_words ≡ true) (sym e) (var_there s.vars s.var_words x h.vars j));
 }
 

@@ -1,8 +1,9 @@
 -- Spellings that all differ, with one more.
 use Rattle.std.proofs.Common.{◌≡◌, ◌≢◌, ◌≤◌, ◌<◌, ◌+◌, ◌*◌, ◌^◌, ℕ, suc, Bool, true, false, List, [], ◌∷◌, ◌++◌, length, refl, sym, ap, ◌∙◌, subst, arith, true≢false, length-append, ◌==◌, nat_lt}
 use Rattle.std.proofs.lemmas.Bool.Decides.{Decides-eqb, nat_tests}
-use Rattle.std.specs.Prelude.{if◌then◌else◌, ◌&&◌, not, codes, unwrap_or, is_some, Option, Some, None}
+use Rattle.std.specs.Prelude.{if◌then◌else◌, not, codes, unwrap_or, is_some, Option, Some, None}
 use Rattle.std.specs.Str.{bytes_eq}
+use Rattle.std.proofs.lemmas.Bool.{and_parts}
 use Rattle.ap_defs.specs.declared.terms.Name.{Name}
 use Rattle.ap_defs.specs.declared.terms.Var.{Var}
 use Rattle.ap_defs.specs.Permutations.{has_name}
@@ -10,21 +11,21 @@ use Rattle.ap_defs.specs.Printing.{has_word}
 use Rattle.ap_defs.specs.Unification.{has_var}
 use Rattle.ap_spelling.specs.Differing.{AllDiffer, IsBeginning, spellings}
 use Rattle.ap_spelling.specs.Words as given
-use Rattle.ap_spelling.specs.Words.{NominalGiven, NominalSpelt, Numbered, base, give, give_each, joined, next, next_number, number_from, numbered_by, numbered_next, spelling_of, stands, with_name, with_var}
+use Rattle.ap_spelling.specs.Words.{NominalGiven, NominalSpelt, Numbered, base, give, give_each, word_with_number, number_after, next_number, number_from, numbered_by, numbered_next, spelling_of, stands, spelt_with_name, with_var}
 use Rattle.ap_spelling.proofs.WordLists.{IsOneMore, at_back, in_front, is_not, more_at_back, more_names, more_vars, same_word, word_alike}
 use Rattle.ap_spelling.proofs.Numbered.{IsBase, IsFree, is_base, is_free, next_small, numbers_taken, same_base, same_number}
 
 -- How a word came to be a spelling: it is of the text, and was used; or a number was put behind another.
 data How (words : List (List ℕ)) (last : Numbered) (u : List ℕ) : Type 0 where
   stood : (n : ℕ) → has_word u words ≡ true → last u ≡ Some n → How words last u
-  made : (w : List ℕ) (n k : ℕ) → has_word u words ≡ false → u ≡ joined w n → IsBase w → last w ≡ Some k → n ≤ k → n < 2 ^ 64 → How words last u
+  made : (w : List ℕ) (n k : ℕ) → has_word u words ≡ false → u ≡ word_with_number w n → IsBase w → last w ≡ Some k → n ≤ k → n < 2 ^ 64 → How words last u
 
 -- The spellings so far, by the numbers.
 record AreTold (words : List (List ℕ)) (last : Numbered) (us : List (List ℕ)) : Type 0 where
   how : (u : List ℕ) → has_word u us ≡ true → How words last u
   differ : AllDiffer us
   fits : (w : List ℕ) (n : ℕ) → last w ≡ Some n → n < 2 ^ 64
-  taken : (w : List ℕ) (n k : ℕ) → last w ≡ Some n → 1 ≤ k → k ≤ n → has_word (joined w k) (words ++ us) ≡ true
+  taken : (w : List ℕ) (n k : ℕ) → last w ≡ Some n → 1 ≤ k → k ≤ n → has_word (word_with_number w k) (words ++ us) ≡ true
 
 -- Numbers that are as great, or greater.
 record Number (o : Option ℕ) (n : ℕ) : Type 0 where
@@ -90,12 +91,12 @@ unused words last w h e (stood n g f) = no_number (sym e ∙ f)
 unused words last w h e (made v n k g f b l a c) = true≢false (sym h ∙ g)
 
 -- nor is one with a greater number
-unmade : (words : List (List ℕ)) (last : Numbered) (w : List ℕ) (m : ℕ) → has_word (joined w m) words ≡ false → IsBase w → m < 2 ^ 64 → ((k : ℕ) → last w ≡ Some k → k < m)
-    → How words last (joined w m) → ⊥
+unmade : (words : List (List ℕ)) (last : Numbered) (w : List ℕ) (m : ℕ) → has_word (word_with_number w m) words ≡ false → IsBase w → m < 2 ^ 64 → ((k : ℕ) → last w ≡ Some k → k < m)
+    → How words last (word_with_number w m) → ⊥
 unmade words last w m h b c most (stood n g f) = true≢false (sym g ∙ h)
 unmade words last w m h b c most (made v n k g f d l a e) =
     let same : w ≡ v = same_base w v m n c e b d f in
-    let equal : m ≡ n = same_number w m n c e (f ∙ ap (λ u. joined u n) (sym same)) in
+    let equal : m ≡ n = same_number w m n c e (f ∙ ap (λ u. word_with_number u n) (sym same)) in
     let less = most k (ap last same ∙ l) in
     omega (arith, equal, less, a)
 
@@ -106,9 +107,9 @@ use_word words us ws last w told more h none = record {
   how = told_more words us ws last later w more grows told.how here;
   differ = more.differ told.differ (is_not (has_word w us) (λ i. unused words last w h none (told.how w i)));
   fits = λ v n e. set_number (λ i. i < 2 ^ 64) w v 0 n last e (λ s z. omega (arith, z)) (told.fits v n);
-  taken = λ v n k e a b. set_number (λ i. k ≤ i → has_word (joined v k) (words ++ ws) ≡ true) w v 0 n last e
+  taken = λ v n k e a b. set_number (λ i. k ≤ i → has_word (word_with_number v k) (words ++ ws) ≡ true) w v 0 n last e
       (λ s z l. absurd (omega (arith, z, a, l)))
-      (λ i l. more_at_back (joined v k) words us ws (more_has w (joined v k) us ws more) (told.taken v n k i a l)) b;
+      (λ i l. more_at_back (word_with_number v k) words us ws (more_has w (word_with_number v k) us ws more) (told.taken v n k i a l)) b;
 }
   where
     later : Numbered
@@ -127,7 +128,7 @@ use_word words us ws last w told more h none = record {
 record IsLast (words us : List (List ℕ)) (last : Numbered) (w : List ℕ) (n : ℕ) : Type 0 where
   most : (k : ℕ) → last w ≡ Some k → k ≤ n
   few : n ≤ length words + length us
-  taken : (k : ℕ) → 1 ≤ k → k ≤ n → has_word (joined w k) (words ++ us) ≡ true
+  taken : (k : ℕ) → 1 ≤ k → k ≤ n → has_word (word_with_number w k) (words ++ us) ≡ true
 
 few_numbers : (words us : List (List ℕ)) (last : Numbered) (w : List ℕ) (n : ℕ) → AreTold words last us → last w ≡ Some n → n ≤ length words + length us
 few_numbers words us last w n told e =
@@ -149,15 +150,15 @@ next_is_free words us last w few small =
     subst (λ i. IsFree words w (n + 1) (number_from words w i (length words))) (sym (next_small n (omega (arith, few, small)))) (is_free words w (n + 1) (omega (arith, few, small)))
 
 -- a number is put behind a word
-use_number : (words us ws : List (List ℕ)) (last : Numbered) (w : List ℕ) (n m : ℕ) → AreTold words last us → IsBase w → IsOneMore (joined w m) us ws → IsLast words us last w n
+use_number : (words us ws : List (List ℕ)) (last : Numbered) (w : List ℕ) (n m : ℕ) → AreTold words last us → IsBase w → IsOneMore (word_with_number w m) us ws → IsLast words us last w n
     → IsFree words w (n + 1) m → m < 2 ^ 64 → AreTold words (numbered_next w m last) ws
 use_number words us ws last w n m told base more old free small = record {
-  how = told_more words us ws last later (joined w m) more grows told.how here;
-  differ = more.differ told.differ (is_not (has_word (joined w m) us) (λ i. unmade words last w m free.free base small less (told.how (joined w m) i)));
+  how = told_more words us ws last later (word_with_number w m) more grows told.how here;
+  differ = more.differ told.differ (is_not (has_word (word_with_number w m) us) (λ i. unmade words last w m free.free base small less (told.how (word_with_number w m) i)));
   fits = λ v i e. set_number (λ j. j < 2 ^ 64) w v m i last e (λ s z. omega (arith, z, small)) (told.fits v i);
-  taken = λ v i k e a b. set_number (λ j. k ≤ j → has_word (joined v k) (words ++ ws) ≡ true) w v m i last e
-      (λ s z l. subst (λ (u : List ℕ). has_word (joined u k) (words ++ ws) ≡ true) s (taken_new k a (omega (arith, z, l))))
-      (λ h l. more_at_back (joined v k) words us ws (more_has (joined w m) (joined v k) us ws more) (told.taken v i k h a l)) b;
+  taken = λ v i k e a b. set_number (λ j. k ≤ j → has_word (word_with_number v k) (words ++ ws) ≡ true) w v m i last e
+      (λ s z l. subst (λ (u : List ℕ). has_word (word_with_number u k) (words ++ ws) ≡ true) s (taken_new k a (omega (arith, z, l))))
+      (λ h l. more_at_back (word_with_number v k) words us ws (more_has (word_with_number w m) (word_with_number v k) us ws more) (told.taken v i k h a l)) b;
 }
   where
     later : Numbered
@@ -169,37 +170,32 @@ use_number words us ws last w n m told base more old free small = record {
     grows : Grows last (numbered_next w m last)
     grows = numbers_grow w m last (λ k e. let l = less k e in omega (arith, l))
 
-    here : How words (numbered_next w m last) (joined w m)
+    here : How words (numbered_next w m last) (word_with_number w m)
     here = made w m m free.free refl base (ap (λ b. if b then Some m else last w) (word_alike w)) (omega arith) small
 
-    at_end : (k : ℕ) (b : Bool) → (k == m) ≡ b → n + 1 ≤ k → k ≤ m → has_word (joined w k) (words ++ ws) ≡ true
+    at_end : (k : ℕ) (b : Bool) → (k == m) ≡ b → n + 1 ≤ k → k ≤ m → has_word (word_with_number w k) (words ++ ws) ≡ true
     at_end k true e a l =
-        subst (λ i. has_word (joined w i) (words ++ ws) ≡ true) (sym ((Decides-eqb k m).0 e)) (at_back (joined w m) words ws (new_is_there (joined w m) us ws more true (word_alike (joined w m)) refl))
+        subst (λ i. has_word (word_with_number w i) (words ++ ws) ≡ true) (sym ((Decides-eqb k m).0 e)) (at_back (word_with_number w m) words ws (new_is_there (word_with_number w m) us ws more true (word_alike (word_with_number w m)) refl))
     at_end k false e a l =
         let other : k ≢ m = λ same. true≢false (sym ((Decides-eqb k m).1 same) ∙ e) in
-        in_front (joined w k) words ws (free.taken k a (omega (arith, other, l)))
+        in_front (word_with_number w k) words ws (free.taken k a (omega (arith, other, l)))
 
-    taken_by : (k : ℕ) (b : Bool) → nat_lt n k ≡ b → 1 ≤ k → k ≤ m → has_word (joined w k) (words ++ ws) ≡ true
+    taken_by : (k : ℕ) (b : Bool) → nat_lt n k ≡ b → 1 ≤ k → k ≤ m → has_word (word_with_number w k) (words ++ ws) ≡ true
     taken_by k true e a l = at_end k (k == m) refl (grind (arith, nat_tests)) l
-    taken_by k false e a l = more_at_back (joined w k) words us ws (more_has (joined w m) (joined w k) us ws more) (old.taken k a (grind (arith, nat_tests)))
+    taken_by k false e a l = more_at_back (word_with_number w k) words us ws (more_has (word_with_number w m) (word_with_number w k) us ws more) (old.taken k a (grind (arith, nat_tests)))
 
-    taken_new : (k : ℕ) → 1 ≤ k → k ≤ m → has_word (joined w k) (words ++ ws) ≡ true
+    taken_new : (k : ℕ) → 1 ≤ k → k ≤ m → has_word (word_with_number w k) (words ++ ws) ≡ true
     taken_new k = taken_by k (nat_lt n k) refl
-
-both_true : (a b : Bool) → (a && b) ≡ true → (a ≡ true) × (b ≡ true)
-both_true true true h = (refl, refl)
-both_true true false h = absurd (true≢false (sym h))
-both_true false b h = absurd (true≢false (sym h))
 
 none_of : (o : Option ℕ) → not (is_some o) ≡ true → o ≡ None
 none_of None h = refl
 none_of (Some n) h = absurd (true≢false (sym h))
 
 told_by : (words us ws : List (List ℕ)) (letter w : List ℕ) (last : Numbered) (b : Bool) → stands words w last ≡ b → IsBase letter
-    → IsOneMore (if b then w else joined (base letter w) (next_number words (base letter w) last)) us ws → AreTold words last us → 2 * length words + length us + 2 < 2 ^ 64
+    → IsOneMore (if b then w else word_with_number (base letter w) (next_number words (base letter w) last)) us ws → AreTold words last us → 2 * length words + length us + 2 < 2 ^ 64
     → AreTold words (if b then numbered_next w 0 last else numbered_next (base letter w) (next_number words (base letter w) last) last) ws
 told_by words us ws letter w last true e i more told small =
-    let h = both_true (has_word w words) (not (is_some (last w))) e in
+    let h = and_parts (has_word w words) (not (is_some (last w))) e in
     use_word words us ws last w told more h.0 (none_of (last w) h.1)
 told_by words us ws letter w last false e i more told small =
     let v = base letter w in
@@ -227,12 +223,12 @@ blank_base : IsBase (codes "_")
 blank_base l = refl
 
 name_told : (words : List (List ℕ)) (a : Name) (w : List ℕ) (s : NominalSpelt) (b : Bool) → AreTold words s.last (spellings s) → 2 * length words + length (spellings s) + 2 < 2 ^ 64
-    → AreToldAfter words s (if b then s else with_name words a w s)
+    → AreToldAfter words s (if b then s else spelt_with_name words a w s)
 name_told words a w s true told small = record { told = told; few = omega arith }
 name_told words a w s false told small =
     let more = more_names (spelling_of words (codes "n") w s.last) s.name_words s.var_words in
     let count = more.count in
-    record { told = told_with words (spellings s) (spellings (with_name words a w s)) (codes "n") w s.last no_digit more told small; few = omega (arith, count) }
+    record { told = told_with words (spellings s) (spellings (spelt_with_name words a w s)) (codes "n") w s.last no_digit more told small; few = omega (arith, count) }
 
 var_told : (words : List (List ℕ)) (x : Var) (w : List ℕ) (s : NominalSpelt) (b : Bool) → AreTold words s.last (spellings s) → 2 * length words + length (spellings s) + 2 < 2 ^ 64
     → AreToldAfter words s (if b then s else with_var words x w s)

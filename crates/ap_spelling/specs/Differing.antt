@@ -23,8 +23,8 @@ pub record TellsApart (name_text : Name → List ℕ) (var_text : Var → List �
 abbrev pub spellings : NominalSpelt → List (List ℕ)
 spellings s = s.name_words ++ s.var_words
 
-abbrev pub name_text : NominalSpelt → Name → List ℕ
-name_text s = name_word s.names s.name_words (λ a. [])
+abbrev pub spelt_name : NominalSpelt → Name → List ℕ
+spelt_name s = name_word s.names s.name_words (λ a. [])
 
 abbrev pub var_text : NominalSpelt → Var → List ℕ
 var_text s = var_word s.vars s.var_words
@@ -60,4 +60,4 @@ GivenVarsAreSpelled = (words : List (List ℕ)) (gs : List NominalGiven) (s : No
 abbrev pub SpellingsDiffer : Type 0
 SpellingsDiffer = (words : List (List ℕ)) (gs : List NominalGiven) (s : NominalSpelt) → IsBeginning words s
     → 2 * length words + (length (spellings s) + length gs) + 2 < 2 ^ 64
-    → let t = give_each words gs s in TellsApart (name_text t) (var_text t) t.names t.vars
+    → let t = give_each words gs s in TellsApart (spelt_name t) (var_text t) t.names t.vars

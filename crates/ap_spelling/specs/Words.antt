@@ -14,8 +14,8 @@ pub data NominalGiven : Type 0 where
   var : Var → List ℕ → NominalGiven
 
 -- one more; a number that doesn't fit in 64 bits is given as the greatest that does
-abbrev pub next : ℕ → ℕ
-next n = min (n + 1) (2 ^ 64 - 1)
+abbrev pub number_after : ℕ → ℕ
+number_after n = min (n + 1) (2 ^ 64 - 1)
 
 -- The last number that was put behind each word, which is 0 for one that was used as it is.
 abbrev pub Numbered : Type 0
@@ -35,16 +35,16 @@ is_digit b = not (nat_lt b 48) && nat_lt b 58
 abbrev pub base : List ℕ → List ℕ → List ℕ
 base letter w = if last_byte w == 95 then letter else w
 
-abbrev pub joined : List ℕ → ℕ → List ℕ
-joined w n = w ++ ((if is_digit (last_byte w) then codes "_" else []) ++ decimal n)
+abbrev pub word_with_number : List ℕ → ℕ → List ℕ
+word_with_number w n = w ++ ((if is_digit (last_byte w) then codes "_" else []) ++ decimal n)
 
 -- the first number from one on that makes no word of the text, which has these words; there is one among as many more
 abbrev pub number_from : List (List ℕ) → List ℕ → ℕ → ℕ → ℕ
 number_from words w n zero = n
-number_from words w n (suc more) = if has_word (joined w n) words then number_from words w (next n) more else n
+number_from words w n (suc more) = if has_word (word_with_number w n) words then number_from words w (number_after n) more else n
 
 abbrev pub next_number : List (List ℕ) → List ℕ → Numbered → ℕ
-next_number words w last = number_from words w (next (unwrap_or (last w) 0)) (length words)
+next_number words w last = number_from words w (number_after (unwrap_or (last w) 0)) (length words)
 
 -- a word of the text that was not used stands as it is
 abbrev pub stands : List (List ℕ) → List ℕ → Numbered → Bool
@@ -53,7 +53,7 @@ stands words w last = has_word w words && not (is_some (last w))
 -- the spelling that is made of a word, and the numbers behind it
 abbrev pub spelling_of : List (List ℕ) → List ℕ → List ℕ → Numbered → List ℕ
 spelling_of words letter w last =
-    if stands words w last then w else joined (base letter w) (next_number words (base letter w) last)
+    if stands words w last then w else word_with_number (base letter w) (next_number words (base letter w) last)
 
 abbrev pub numbered_by : List (List ℕ) → List ℕ → List ℕ → Numbered → Numbered
 numbered_by words letter w last =
@@ -67,8 +67,8 @@ pub record NominalSpelt : Type 0 where
   pub var_words : List (List ℕ)
   pub last : Numbered
 
-abbrev pub with_name : List (List ℕ) → Name → List ℕ → NominalSpelt → NominalSpelt
-with_name words a w s = record {
+abbrev pub spelt_with_name : List (List ℕ) → Name → List ℕ → NominalSpelt → NominalSpelt
+spelt_with_name words a w s = record {
   names = s.names ++ a ∷ [];
   name_words = s.name_words ++ spelling_of words (codes "n") w s.last ∷ [];
   vars = s.vars;
@@ -87,7 +87,7 @@ with_var words x w s = record {
 
 -- one name or variable more, unless it has a spelling
 abbrev pub give : List (List ℕ) → NominalGiven → NominalSpelt → NominalSpelt
-give words (name a w) s = if has_name a s.names then s else with_name words a w s
+give words (name a w) s = if has_name a s.names then s else spelt_with_name words a w s
 give words (var x w) s = if has_var x s.vars then s else with_var words x w s
 
 abbrev pub give_each : List (List ℕ) → List NominalGiven → NominalSpelt → NominalSpelt

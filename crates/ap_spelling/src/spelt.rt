@@ -53,7 +53,7 @@ fn base<'a>(letter: &'a str, word: &'a str) -> &'a str
 
 /// A word with a number behind it.
 fn joined(alloc: Global, word: &str, number: u64) -> Result<String, Memory>
-    ensures { IfOk result (λ text. string_bytes text ≡ spec.joined word.now number) }
+    ensures { IfOk result (λ text. string_bytes text ≡ spec.word_with_number word.now number) }
 {
     let joint = if last_byte(word).is_ascii_digit() {
         "_"
@@ -94,7 +94,7 @@ fn with_number<'a>(
     word: &'a str,
 ) -> Result<Text, Memory>
     requires { (w : list ℕ) → knows taken.now w ≡ has_word w words.now }
-    ensures text { IfOk result (λ text. text ≡ spec.joined word.entry.now
+    ensures text { IfOk result (λ text. text ≡ spec.word_with_number word.entry.now
         (next_number words.now word.entry.now (last_of last.old))) }
     ensures last { OnOk result (last_of last.new ≡ numbered_next word.entry.now
         (next_number words.now word.entry.now (last_of last.old)) (last_of last.old)) }

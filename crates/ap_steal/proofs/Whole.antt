@@ -1,5 +1,6 @@
 -- What the history is once all workers have ended.
-use Rattle.std.proofs.Common.{◌≡◌, ◌≢◌, ℕ, zero, suc, ◌+◌, ◌<◌, ◌≤◌, ◌⊎◌, Bool, true, false, ◌&&◌, ◌||◌, eqb, if◌then◌else◌, All, List, [], ◌∷◌, ◌++◌, length, get_or, sym, refl, ap, ◌∙◌, subst, inl, inr, ⊎_elim, true≢false, ne_eqb, append-nil, add-one, take, Result, Ok, Err, IfOk, arith}
+use Rattle.std.proofs.Common.{◌≡◌, ◌≢◌, ℕ, zero, suc, ◌+◌, ◌<◌, ◌≤◌, ◌⊎◌, Bool, true, false, ◌||◌, eqb, if◌then◌else◌, All, List, [], ◌∷◌, ◌++◌, length, get_or, sym, refl, ap, ◌∙◌, subst, inl, inr, ⊎_elim, true≢false, ne_eqb, append-nil, add-one, take, Result, Ok, Err, IfOk, arith}
+use Rattle.std.proofs.lemmas.Bool.{and_parts}
 use mathlib.Core.Logic.{dite}
 use native.Mathlib.Decide.{ℕ_discrete}
 use Rattle.atomic_table.specs.Seated.{TableId}
@@ -16,11 +17,11 @@ use Rattle.ap_paths.proofs.Histories.{legal_parts}
 use Rattle.ap_paths.proofs.Frontiers.{merged_whole}
 use Rattle.ap_paths.specs.declared.entries.Closed.{Closed}
 use Rattle.ap_core.specs.Traces.{AreSeats}
-use Rattle.ap_lock.specs.Turns.{Begins, maker_of, places_from, one_if}
+use Rattle.ap_lock.specs.Turns.{Begins, maker_of, one_if, places_from}
 use Rattle.ap_lock.specs.Seats.{SeatView, AreOf, AreLogged, AreMadeBy, seats_with, new_seats}
 use Rattle.ap_lock.proofs.Endings.{new_seats-length}
 use Rattle.ap_steal.specs.Planned.{Plans, IsPlanned, ArePlanned, OwnPlanned, IsOver, IsNew, Ended}
-use Rattle.ap_steal.proofs.Own.{own_turn, other}
+use Rattle.ap_steal.proofs.Own.{other, own_turn}
 
 -- the seats one by one
 abbrev pub AllEnded : Choices → Plans → Limit → TableId → List SeatView → Type 0
@@ -113,13 +114,9 @@ pub either_false : (a b : Bool) → a || b ≡ false → (a ≡ false) × (b ≡
 either_false true b h = absurd (true≢false h)
 either_false false b h = (refl, h)
 
-both_true : (a b : Bool) → a && b ≡ true → (a ≡ true) × (b ≡ true)
-both_true true b h = (refl, h)
-both_true false b h = absurd (true≢false (sym h))
-
 legal_rest : (ps : List (List ℕ)) (b : Bool) (xs ys : List TreeEntry) → legal_from ps b (xs ++ ys) ≡ true → (d : Bool) × (legal_from (open_from ps xs) d ys ≡ true)
 legal_rest ps b [] ys h = (b, h)
-legal_rest ps b (x ∷ xs) ys h = legal_rest (open_after ps x) (b || is_stop x) xs ys (both_true (may_enter ps b x) (legal_from (open_after ps x) (b || is_stop x) (xs ++ ys)) h).1
+legal_rest ps b (x ∷ xs) ys h = legal_rest (open_after ps x) (b || is_stop x) xs ys (and_parts (may_enter ps b x) (legal_from (open_after ps x) (b || is_stop x) (xs ++ ys)) h).1
 
 -- where nothing is open, only a stop may come
 ends_there : (d : Bool) (ys : List TreeEntry) → legal_from [] d ys ≡ true → has_stop ys ≡ false → ys ≡ []

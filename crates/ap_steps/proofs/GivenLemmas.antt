@@ -11,7 +11,7 @@ use Rattle.ap_defs.specs.Derivations.{derivation_of}
 use Rattle.ap_defs.specs.Goals.{Clauses}
 use Rattle.ap_defs.specs.Terms.{NominalTerm, term_of}
 use Rattle.ap_defs.specs.Types.{local_of, locals_of}
-use Rattle.ap_checks.specs.Checks.{count}
+use Rattle.ap_checks.specs.Checks.{node_count}
 use Rattle.ap_spelling.specs.Words.{NominalGiven, Numbered, kept, numbered_next}
 use Rattle.ap_steps.specs.declared.givens.Place.{Place}
 use Rattle.ap_steps.specs.Givens.{names_given, vars_given}
@@ -22,7 +22,7 @@ pub last_givens : (cs : Clauses) (ps : List Place) (p : Place) → givens_left c
 last_givens cs [] p = sym (append-nil (givens_at cs p))
 last_givens cs (q ∷ ps) p = ap (λ xs. xs ++ givens_at cs q) (last_givens cs ps p) ∙ append_assoc (givens_at cs p) (givens_left cs ps) (givens_at cs q)
 
-pub last_places : (ps : List Place) (p : Place) → places_left (ps ++ p ∷ []) ≡ count (derivation_of p.derivation.now) + places_left ps
+pub last_places : (ps : List Place) (p : Place) → places_left (ps ++ p ∷ []) ≡ node_count (derivation_of p.derivation.now) + places_left ps
 last_places [] p = omega arith
 last_places (q ∷ ps) p = let more = last_places ps p in omega (arith, more)
 

@@ -8,8 +8,8 @@ use Rattle.ap_defs.specs.declared.terms.Var.{Var}
 use Rattle.ap_defs.specs.Derivations.{NominalDerivation, derivation_of}
 use Rattle.ap_answers.specs.Occurring.{more_names, more_vars}
 use Rattle.ap_answers.proofs.OccurrenceLemmas.{more_names_append, more_names_none, more_vars_append, more_vars_none}
-use Rattle.ap_checks.specs.Checks.{count}
-use Rattle.ap_steps.specs.Names.{count_left, derivations_of, preorder, preorder_left}
+use Rattle.ap_checks.specs.Checks.{node_count}
+use Rattle.ap_steps.specs.Names.{count_left, derivations_of, subderivations, preorder_left}
 
 -- the first of those that are left was added
 pub names_next : {A : Type 0} (names : List A → List Name) (first : A → List Name) (rest others : List A) (x : A) (ks ls all : List Name)
@@ -32,17 +32,17 @@ pub vars_done : (ks all more : List Var) → more ≡ [] → more_vars ks more �
 vars_done ks all more e h = sym (more_vars_none ks) ∙ ap (more_vars ks) (sym e) ∙ h
 
 -- the last of the nodes that wait comes first
-pub last_preorder : (ds : List (Bor code.Derivation)) (d : Bor code.Derivation) → preorder_left (ds ++ d ∷ []) ≡ preorder (derivation_of d.now) ++ preorder_left ds
-last_preorder [] d = sym (append-nil (preorder (derivation_of d.now)))
-last_preorder (f ∷ ds) d = ap (λ xs. xs ++ preorder (derivation_of f.now)) (last_preorder ds d) ∙ append_assoc (preorder (derivation_of d.now)) (preorder_left ds) (preorder (derivation_of f.now))
+pub last_preorder : (ds : List (Bor code.Derivation)) (d : Bor code.Derivation) → preorder_left (ds ++ d ∷ []) ≡ subderivations (derivation_of d.now) ++ preorder_left ds
+last_preorder [] d = sym (append-nil (subderivations (derivation_of d.now)))
+last_preorder (f ∷ ds) d = ap (λ xs. xs ++ subderivations (derivation_of f.now)) (last_preorder ds d) ∙ append_assoc (subderivations (derivation_of d.now)) (preorder_left ds) (subderivations (derivation_of f.now))
 
-pub last_count : (ds : List (Bor code.Derivation)) (d : Bor code.Derivation) → count_left (ds ++ d ∷ []) ≡ count (derivation_of d.now) + count_left ds
+pub last_count : (ds : List (Bor code.Derivation)) (d : Bor code.Derivation) → count_left (ds ++ d ∷ []) ≡ node_count (derivation_of d.now) + count_left ds
 last_count [] d = omega arith
 last_count (f ∷ ds) d = let more = last_count ds d in omega (arith, more)
 
 -- the next of the nodes that wait was taken
 pub node_next : (ns ms ws rest us : List (Bor code.Derivation)) (d : Bor code.Derivation) (all : List NominalDerivation) → ws ≡ rest ++ d ∷ [] → ms ≡ ns ++ d ∷ []
-    → derivation_of d.now ∷ preorder_left us ≡ preorder (derivation_of d.now) ++ preorder_left rest
+    → derivation_of d.now ∷ preorder_left us ≡ subderivations (derivation_of d.now) ++ preorder_left rest
     → derivations_of ns ++ preorder_left ws ≡ all → derivations_of ms ++ preorder_left us ≡ all
 node_next ns ms ws rest us d all e f h is =
     ap (λ (xs : List (Bor code.Derivation)). derivations_of xs ++ preorder_left us) f

@@ -17,7 +17,7 @@ use Rattle.ap_defs.specs.Unification.{has_var}
 use Rattle.ap_answers.specs.Occurring.{more_names}
 use Rattle.ap_answers.specs.Spelled.{text_at}
 use Rattle.ap_answers.proofs.ConditionLemmas.{name_flips, var_flips}
-use Rattle.ap_spelling.specs.Differing.{IsBeginning, TellsApart, gives_name, gives_var, name_text, var_text}
+use Rattle.ap_spelling.specs.Differing.{IsBeginning, TellsApart, gives_name, gives_var, spelt_name, var_text}
 use Rattle.ap_spelling.specs.Words as given
 use Rattle.ap_spelling.specs.Words.{NominalGiven, NominalSpelt, Numbered, give_each, kept, numbered_next}
 use Rattle.ap_spelling.proofs.Given.{given_names, given_vars, or_right}
@@ -120,13 +120,13 @@ told_apart p q a d small =
     let others = givens p.clauses q.locals d q.goal in
     let names = more_names (local_names zero q.locals) (names_in a d) in
     let vars = first_vars [] (vars_in a d) in
-    let told : TellsApart (name_text s) (var_text s) s.names s.vars = spellings_differ p.words gs (first_spelt p q.locals) (begins p q.locals) (room (length p.words) (length gs) small) in
+    let told : TellsApart (spelt_name s) (var_text s) s.names s.vars = spellings_differ p.words gs (first_spelt p q.locals) (begins p q.locals) (room (length p.words) (length gs) small) in
     let name_there : (b : Name) → has_name b names ≡ true → has_name b s.names ≡ true = λ b h.
     given_names p.words gs (first_spelt p q.locals) b (name_behind b own (others ++ (bare_names names ++ bare_vars vars)) (name_behind b others (bare_names names ++ bare_vars vars) (bare_name b names (bare_vars vars) h))) in
     let var_there : (x : Var) → has_var x vars ≡ true → has_var x s.vars ≡ true = λ x h.
     given_vars p.words gs (first_spelt p q.locals) x
     (var_behind x own (others ++ (bare_names names ++ bare_vars vars)) (var_behind x others (bare_names names ++ bare_vars vars) (var_behind x (bare_names names) (bare_vars vars) (bare_var x vars h)))) in
-    let name_is : (b : Name) → text_at s.name_words (position (name_eq b) s.names) ≡ name_text s b = names_spelled s.names s.name_words in
+    let name_is : (b : Name) → text_at s.name_words (position (name_eq b) s.names) ≡ spelt_name s b = names_spelled s.names s.name_words in
     let var_is : (x : Var) → text_at s.var_words (position (var_eq x) s.vars) ≡ var_text s x = vars_spelled s.vars s.var_words in
     record {
       two_names = λ b c h i e. told.two_names b c (name_there b h) (name_there c i) (sym (name_is b) ∙ e ∙ name_is c);

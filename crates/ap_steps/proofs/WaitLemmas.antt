@@ -7,13 +7,13 @@ use Rattle.ap_defs.specs.Derivations as nodes
 use Rattle.ap_defs.specs.Derivations.{NominalDerivation, derivation_of}
 use Rattle.ap_defs.specs.Goals as goals
 use Rattle.ap_defs.specs.Goals.{NominalClause, NominalGoal, clauses_of}
-use Rattle.ap_checks.specs.Checks.{count}
+use Rattle.ap_checks.specs.Checks.{node_count}
 use Rattle.ap_checks.specs.OpenEnvironments.{OpenEnvironment, open_environment, with_open_name, with_open_term}
 use Rattle.ap_pages.specs.declared.steps.Phrase.{Phrase}
 use Rattle.ap_steps.specs.declared.bodies.Piece.{Piece}
 use Rattle.ap_steps.specs.declared.walk.Waiting.{Waiting}
 use Rattle.ap_steps.specs.Writers.{bare, piece_of, premise_of}
-use Rattle.ap_steps.specs.Steps.{NominalPiece, NominalPremise, NominalStep, Writing, clause_steps, deeper, pieces, premise, premises_in, side, sides_in, step_by, steps_below}
+use Rattle.ap_steps.specs.Steps.{NominalPiece, NominalPremise, NominalStep, DerivationWriting, clause_steps, deeper, pieces, premise, premises_in, side, sides_in, step_by, steps_below}
 use Rattle.ap_steps.specs.Waits.{premise_nodes, premise_steps, premises_steps, steps_left, steps_of_waiting, waiting_nodes}
 
 pub premises_append : (ps qs : List NominalPiece) → premises_in (ps ++ qs) ≡ premises_in ps ++ premises_in qs
@@ -26,7 +26,7 @@ sides_append [] qs = refl
 sides_append (side t ∷ ps) qs = ap (λ (xs : List (List ℕ)). t ∷ xs) (sides_append ps qs)
 sides_append (premise p ∷ ps) qs = sides_append ps qs
 
-pub steps_append : (w : Writing) (n : ℕ) (ps qs : List NominalPremise) → premises_steps w n (ps ++ qs) ≡ premises_steps w n ps ++ premises_steps w n qs
+pub steps_append : (w : DerivationWriting) (n : ℕ) (ps qs : List NominalPremise) → premises_steps w n (ps ++ qs) ≡ premises_steps w n ps ++ premises_steps w n qs
 steps_append w n [] qs = refl
 steps_append w n (p ∷ ps) qs =
     ap (λ xs. premise_steps w n p ++ xs) (steps_append w n ps qs) ∙ sym (append_assoc (premise_steps w n p) (premises_steps w n ps) (premises_steps w n qs))
@@ -36,7 +36,7 @@ nodes_append [] qs = omega arith
 nodes_append (p ∷ ps) qs = let more = nodes_append ps qs in omega (arith, more)
 
 -- the steps below a goal are those of its premises
-pub steps_of_premises : (w : Writing) (n : ℕ) (d : NominalDerivation) (g : NominalGoal) (e : OpenEnvironment) → steps_below w n d g e ≡ premises_steps w n (premises_in (pieces w d g e))
+pub steps_of_premises : (w : DerivationWriting) (n : ℕ) (d : NominalDerivation) (g : NominalGoal) (e : OpenEnvironment) → steps_below w n d g e ≡ premises_steps w n (premises_in (pieces w d g e))
 steps_of_premises w n (nodes.atom k names ts d) (goals.atom q us) e = sym (append-nil (steps_below w n (nodes.atom k names ts d) (goals.atom q us) e))
 steps_of_premises w n nodes.equal (goals.equal t u) e = refl
 steps_of_premises w n nodes.fresh (goals.fresh t u) e = refl
@@ -50,7 +50,7 @@ steps_of_premises w n (nodes.new c d) (goals.new b g) e = steps_of_premises w n 
 steps_of_premises w n _ _ e = refl
 
 -- a goal's premises have no more nodes than its derivation
-pub nodes_of_premises : (w : Writing) (d : NominalDerivation) (g : NominalGoal) (e : OpenEnvironment) → premise_nodes (premises_in (pieces w d g e)) ≤ count d
+pub nodes_of_premises : (w : DerivationWriting) (d : NominalDerivation) (g : NominalGoal) (e : OpenEnvironment) → premise_nodes (premises_in (pieces w d g e)) ≤ node_count d
 nodes_of_premises w (nodes.atom k names ts d) (goals.atom q us) e = omega arith
 nodes_of_premises w nodes.equal (goals.equal t u) e = omega arith
 nodes_of_premises w nodes.fresh (goals.fresh t u) e = omega arith
@@ -66,16 +66,16 @@ nodes_of_premises w (nodes.new c d) (goals.new b g) e = let one = nodes_of_premi
 nodes_of_premises w _ _ e = omega arith
 
 -- the last of those that wait comes first
-pub last_steps : (w : Writing) (xs : List Waiting) (x : Waiting) → steps_left w (xs ++ x ∷ []) ≡ steps_of_waiting w x ++ steps_left w xs
+pub last_steps : (w : DerivationWriting) (xs : List Waiting) (x : Waiting) → steps_left w (xs ++ x ∷ []) ≡ steps_of_waiting w x ++ steps_left w xs
 last_steps w [] x = sym (append-nil (steps_of_waiting w x))
 last_steps w (y ∷ xs) x = ap (λ ys. ys ++ steps_of_waiting w y) (last_steps w xs x) ∙ append_assoc (steps_of_waiting w x) (steps_left w xs) (steps_of_waiting w y)
 
-pub last_nodes : (xs : List Waiting) (x : Waiting) → waiting_nodes (xs ++ x ∷ []) ≡ count (derivation_of x.premise.derivation.now) + waiting_nodes xs
+pub last_nodes : (xs : List Waiting) (x : Waiting) → waiting_nodes (xs ++ x ∷ []) ≡ node_count (derivation_of x.premise.derivation.now) + waiting_nodes xs
 last_nodes [] x = omega arith
 last_nodes (y ∷ xs) x = let more = last_nodes xs x in omega (arith, more)
 
 -- one premise more waits
-pub premise_waits : (w : Writing) (n : ℕ) (xs ys : List Waiting) (x : Waiting) → ys ≡ xs ++ x ∷ [] → x.depth ≡ n
+pub premise_waits : (w : DerivationWriting) (n : ℕ) (xs ys : List Waiting) (x : Waiting) → ys ≡ xs ++ x ∷ [] → x.depth ≡ n
     → steps_left w ys ≡ premises_steps w n (premise_of x.premise ∷ []) ++ steps_left w xs
 premise_waits w n xs ys x e h =
     ap (steps_left w) e ∙ last_steps w xs x
@@ -107,7 +107,7 @@ module _ (ps rest : List Piece) (x : Piece) (taken : ps ≡ rest ++ x ∷ []) wh
       ∙ sym (append_assoc (sides_in (map piece_of rest)) X (reverse (map bare ss)))
       ∙ ap (λ ts. ts ++ reverse (map bare ss)) (sym (ap sides_in parted ∙ sides_append (map piece_of rest) (piece_of x ∷ []))) ∙ h
 
-  pub placed_steps : (w : Writing) (n : ℕ) (ws us : List Waiting) (all : List NominalStep) → steps_left w us ≡ premises_steps w n (premises_in (piece_of x ∷ [])) ++ steps_left w ws
+  pub placed_steps : (w : DerivationWriting) (n : ℕ) (ws us : List Waiting) (all : List NominalStep) → steps_left w us ≡ premises_steps w n (premises_in (piece_of x ∷ [])) ++ steps_left w ws
       → premises_steps w n (premises_in (map piece_of ps)) ++ steps_left w ws ≡ all → premises_steps w n (premises_in (map piece_of rest)) ++ steps_left w us ≡ all
   placed_steps w n ws us all e h =
       let X = premises_steps w n (premises_in (piece_of x ∷ [])) in
@@ -126,7 +126,7 @@ module _ (ps rest : List Piece) (x : Piece) (taken : ps ≡ rest ++ x ∷ []) wh
       omega (arith, e, h, same)
 
 -- What is made of an atom that was solved by a clause: its step, with the premises of the clause's body waiting.
-pub clause_taken : (w : Writing) (n k : ℕ) (judgement : List ℕ) (names : List Name) (ts : List NominalTerm) (d : NominalDerivation) (c : NominalClause)
+pub clause_taken : (w : DerivationWriting) (n k : ℕ) (judgement : List ℕ) (names : List Name) (ts : List NominalTerm) (d : NominalDerivation) (c : NominalClause)
     (pieces' : List NominalPiece) (before after : List NominalStep) (old new : List Waiting) → pieces' ≡ pieces w d c.body (open_environment c.locals names ts)
     → after ≡ before ++ step_by w n judgement k names ts d c ∷ [] → steps_left w new ≡ premises_steps w (deeper n) (premises_in pieces') ++ steps_left w old
     → after ++ steps_left w new ≡ before ++ (clause_steps w n judgement k names ts d c ++ steps_left w old)
@@ -138,8 +138,8 @@ clause_taken w n k judgement names ts d c pieces' before after old new e f h =
     ∙ ap (λ xs. xs ++ steps_left w old) (sym (steps_of_premises w (deeper n) d c.body (open_environment c.locals names ts))))
     ∙ append_assoc before (s ∷ []) (below ++ steps_left w old)
 
-pub clause_nodes : (w : Writing) (d : NominalDerivation) (g : NominalGoal) (e : OpenEnvironment) (pieces' : List NominalPiece) (m k : ℕ)
-    → pieces' ≡ pieces w d g e → k ≡ premise_nodes (premises_in pieces') + m → k ≤ count d + m
+pub clause_nodes : (w : DerivationWriting) (d : NominalDerivation) (g : NominalGoal) (e : OpenEnvironment) (pieces' : List NominalPiece) (m k : ℕ)
+    → pieces' ≡ pieces w d g e → k ≡ premise_nodes (premises_in pieces') + m → k ≤ node_count d + m
 clause_nodes w d g e pieces' m k h f =
     let few = nodes_of_premises w d g e in
     let same = ap (λ ps. premise_nodes (premises_in ps)) h in

@@ -9,19 +9,19 @@ use Rattle.ap_defs.specs.declared.terms.Var.{Var}
 use Rattle.ap_defs.specs.Answers.{NominalAnswer}
 use Rattle.ap_defs.specs.Derivations.{NominalDerivation, atom, equal, fresh, succeed, both, left, right, exists, new, derivation_of}
 use Rattle.ap_defs.specs.Occurrences.{names_of_terms, vars_of_terms}
-use Rattle.ap_checks.specs.Checks.{count}
+use Rattle.ap_checks.specs.Checks.{node_count}
 
 -- the nodes of a derivation, in preorder
-abbrev pub preorder : NominalDerivation → List NominalDerivation
-preorder (atom k as' ts d) = atom k as' ts d ∷ preorder d
-preorder equal = equal ∷ []
-preorder fresh = fresh ∷ []
-preorder succeed = succeed ∷ []
-preorder (both d e) = both d e ∷ (preorder d ++ preorder e)
-preorder (left d) = left d ∷ preorder d
-preorder (right d) = right d ∷ preorder d
-preorder (exists t d) = exists t d ∷ preorder d
-preorder (new a d) = new a d ∷ preorder d
+abbrev pub subderivations : NominalDerivation → List NominalDerivation
+subderivations (atom k as' ts d) = atom k as' ts d ∷ subderivations d
+subderivations equal = equal ∷ []
+subderivations fresh = fresh ∷ []
+subderivations succeed = succeed ∷ []
+subderivations (both d e) = both d e ∷ (subderivations d ++ subderivations e)
+subderivations (left d) = left d ∷ subderivations d
+subderivations (right d) = right d ∷ subderivations d
+subderivations (exists t d) = exists t d ∷ subderivations d
+subderivations (new a d) = new a d ∷ subderivations d
 
 -- the names and the variables of a node
 abbrev pub own_names : NominalDerivation → List Name
@@ -37,10 +37,10 @@ own_vars _ = []
 
 -- those of an answer come first
 abbrev pub names_in : NominalAnswer → NominalDerivation → List Name
-names_in a d = names_of_terms a.binds ++ (map (λ (c : Cond). c.name) a.conds ++ flat_map own_names (preorder d))
+names_in a d = names_of_terms a.binds ++ (map (λ (c : Cond). c.name) a.conds ++ flat_map own_names (subderivations d))
 
 abbrev pub vars_in : NominalAnswer → NominalDerivation → List Var
-vars_in a d = vars_of_terms a.binds ++ (map (λ (c : Cond). c.var) a.conds ++ flat_map own_vars (preorder d))
+vars_in a d = vars_of_terms a.binds ++ (map (λ (c : Cond). c.var) a.conds ++ flat_map own_vars (subderivations d))
 
 -- derivations without where they lie in memory
 abbrev pub derivations_of : List (Bor code.Derivation) → List NominalDerivation
@@ -49,8 +49,8 @@ derivations_of = map (λ (d : Bor code.Derivation). derivation_of d.now)
 -- the nodes of derivations that wait, the next one last, and how many they are
 abbrev pub preorder_left : List (Bor code.Derivation) → List NominalDerivation
 preorder_left [] = []
-preorder_left (d ∷ ds) = preorder_left ds ++ preorder (derivation_of d.now)
+preorder_left (d ∷ ds) = preorder_left ds ++ subderivations (derivation_of d.now)
 
 abbrev pub count_left : List (Bor code.Derivation) → ℕ
 count_left [] = 0
-count_left (d ∷ ds) = count (derivation_of d.now) + count_left ds
+count_left (d ∷ ds) = node_count (derivation_of d.now) + count_left ds

@@ -3,7 +3,7 @@ use Rattle.std.specs.Prelude.{ℕ, ◌+◌, List, [], ◌∷◌, ◌++◌}
 use Rattle.ap_defs.specs.Derivations.{derivation_of}
 use Rattle.ap_defs.specs.Goals.{Clauses, goal_of}
 use Rattle.ap_defs.specs.Types.{locals_of}
-use Rattle.ap_checks.specs.Checks.{count}
+use Rattle.ap_checks.specs.Checks.{node_count}
 use Rattle.ap_spelling.specs.Words.{NominalGiven}
 use Rattle.ap_steps.specs.declared.givens.Place.{Place}
 use Rattle.ap_steps.specs.Givens.{givens}
@@ -18,4 +18,4 @@ givens_left cs (p ∷ ps) = givens_left cs ps ++ givens_at cs p
 -- how many nodes are left
 abbrev pub places_left : List Place → ℕ
 places_left [] = 0
-places_left (p ∷ ps) = count (derivation_of p.derivation.now) + places_left ps
+places_left (p ∷ ps) = node_count (derivation_of p.derivation.now) + places_left ps

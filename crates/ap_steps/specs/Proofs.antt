@@ -10,10 +10,10 @@ use Rattle.ap_bundle.specs.Bundles.{NominalProved}
 use Rattle.ap_checks.specs.Checks.{query_at}
 use Rattle.ap_checks.specs.OpenEnvironments.{OpenEnvironment, open_environment}
 use Rattle.ap_steps.specs.Spelling.{spelling_by, spelt}
-use Rattle.ap_steps.specs.Steps.{NominalStep, Writing, pieces, sides_in, steps_below}
+use Rattle.ap_steps.specs.Steps.{NominalStep, DerivationWriting, pieces, sides_in, steps_below}
 
 -- how a derivation of an answer to a query is written
-abbrev pub writing : NominalProgram → List (List ℕ) → NominalQuery → NominalAnswer → NominalDerivation → Writing
+abbrev pub writing : NominalProgram → List (List ℕ) → NominalQuery → NominalAnswer → NominalDerivation → DerivationWriting
 writing p words q a d = record { clauses = p.clauses; words = words; by = spelling_by p (spelt p q a d) }
 
 -- the rule of the query with this number at a line
@@ -25,7 +25,7 @@ abbrev pub query_environment : NominalQuery → NominalAnswer → OpenEnvironmen
 query_environment q a = open_environment q.locals (local_names 0 q.locals) a.binds
 
 -- the step of a query with its answer
-abbrev pub root_step : Writing → NominalQuery → ℕ → NominalAnswer → List (List ℕ) → NominalStep
+abbrev pub root_step : DerivationWriting → NominalQuery → ℕ → NominalAnswer → List (List ℕ) → NominalStep
 root_step w q k a sides = record {
   depth = 0;
   judgement = shown_text w.by (shown_binds (var_texts q.locals) a.binds) a.conds;
@@ -34,7 +34,7 @@ root_step w q k a sides = record {
 }
 
 -- the steps of a derivation of an answer to a query
-abbrev pub query_steps : NominalQuery → ℕ → NominalAnswer → NominalDerivation → Writing → List NominalStep
+abbrev pub query_steps : NominalQuery → ℕ → NominalAnswer → NominalDerivation → DerivationWriting → List NominalStep
 query_steps q k a d w =
     root_step w q k a (sides_in (pieces w d q.goal (query_environment q a))) ∷ steps_below w 1 d q.goal (query_environment q a)
 

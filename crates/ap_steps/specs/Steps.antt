@@ -12,7 +12,7 @@ use Rattle.ap_defs.specs.Terms.{NominalTerm}
 use Rattle.ap_checks.specs.OpenEnvironments.{OpenEnvironment, open_environment, put_in, with_open_name, with_open_term}
 
 -- How a derivation is written: the clauses of its program, the words of the predicates, and the spelling.
-pub record Writing : Type 0 where
+pub record DerivationWriting : Type 0 where
   pub clauses : Clauses
   pub words : List (List ℕ)
   pub by : Spelling
@@ -35,11 +35,11 @@ arguments_text [] = []
 arguments_text (t ∷ ts) = codes "(" ++ (t ++ further_texts ts)
 
 -- an atom
-abbrev pub atom_text : Writing → ℕ → List NominalTerm → List ℕ
+abbrev pub atom_text : DerivationWriting → ℕ → List NominalTerm → List ℕ
 atom_text w q ts = unwrap_or (slice_get w.words q) [] ++ arguments_text (map (term_text w.by) ts)
 
 -- an equation or a freshness condition, by its sign
-abbrev pub relation_text : Writing → List ℕ → NominalTerm → NominalTerm → List ℕ
+abbrev pub relation_text : DerivationWriting → List ℕ → NominalTerm → NominalTerm → List ℕ
 relation_text w sign t u = term_text w.by t ++ (sign ++ term_text w.by u)
 
 -- An atom of a body, with the derivation of it.
@@ -53,7 +53,7 @@ pub data NominalPiece : Type 0 where
   side : List ℕ → NominalPiece
   premise : NominalPremise → NominalPiece
 
-abbrev pub pieces : Writing → NominalDerivation → NominalGoal → OpenEnvironment → List NominalPiece
+abbrev pub pieces : DerivationWriting → NominalDerivation → NominalGoal → OpenEnvironment → List NominalPiece
 pieces w (nodes.atom k names ts d) (goals.atom q us) e =
     premise (record { derivation = nodes.atom k names ts d; pred = q; judgement = atom_text w q (map (put_in e) us) }) ∷ []
 pieces w nodes.equal (goals.equal t u) e = side (relation_text w (codes " = ") (put_in e t) (put_in e u)) ∷ []
@@ -80,16 +80,16 @@ abbrev pub clause_rule : ℕ → ℕ → List ℕ
 clause_rule k line = codes "clause " ++ decimal k ++ codes ", line " ++ decimal line
 
 -- the steps by the clause of an atom; there are none where there is no such clause
-abbrev pub by_clause : Option NominalClause → (NominalClause → List NominalStep) → List NominalStep
-by_clause None steps = []
-by_clause (Some c) steps = steps c
+abbrev pub steps_by_clause : Option NominalClause → (NominalClause → List NominalStep) → List NominalStep
+steps_by_clause None steps = []
+steps_by_clause (Some c) steps = steps c
 
 -- one deeper; a number that doesn't fit in 64 bits is given as the greatest that does
 abbrev pub deeper : ℕ → ℕ
 deeper n = min (n + 1) (2 ^ 64 - 1)
 
 -- the step of an atom that was solved by a clause, with these names and terms for its free identifiers
-abbrev pub step_by : Writing → ℕ → List ℕ → ℕ → List Name → List NominalTerm → NominalDerivation → NominalClause → NominalStep
+abbrev pub step_by : DerivationWriting → ℕ → List ℕ → ℕ → List Name → List NominalTerm → NominalDerivation → NominalClause → NominalStep
 step_by w n judgement k names ts d c = record {
   depth = n;
   judgement = judgement;
@@ -98,9 +98,9 @@ step_by w n judgement k names ts d c = record {
 }
 
 -- the steps at a depth, below a goal
-abbrev pub steps_below : Writing → ℕ → NominalDerivation → NominalGoal → OpenEnvironment → List NominalStep
+abbrev pub steps_below : DerivationWriting → ℕ → NominalDerivation → NominalGoal → OpenEnvironment → List NominalStep
 steps_below w n (nodes.atom k names ts d) (goals.atom q us) e =
-    by_clause (clause_at (clauses_of w.clauses q) k) (λ c.
+    steps_by_clause (clause_at (clauses_of w.clauses q) k) (λ c.
     step_by w n (atom_text w q (map (put_in e) us)) k names ts d c ∷ steps_below w (deeper n) d c.body (open_environment c.locals names ts))
 steps_below w n (nodes.both d f) (goals.both g h) e = steps_below w n d g e ++ steps_below w n f h e
 steps_below w n (nodes.left d) (goals.either g h) e = steps_below w n d g e
@@ -110,6 +110,6 @@ steps_below w n (nodes.new c d) (goals.new b g) e = steps_below w n d g (with_op
 steps_below w n _ _ e = []
 
 -- the step of an atom by a clause, and those below it
-abbrev pub clause_steps : Writing → ℕ → List ℕ → ℕ → List Name → List NominalTerm → NominalDerivation → NominalClause → List NominalStep
+abbrev pub clause_steps : DerivationWriting → ℕ → List ℕ → ℕ → List Name → List NominalTerm → NominalDerivation → NominalClause → List NominalStep
 clause_steps w n judgement k names ts d c =
     step_by w n judgement k names ts d c ∷ steps_below w (deeper n) d c.body (open_environment c.locals names ts)

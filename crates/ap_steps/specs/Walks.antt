@@ -7,55 +7,55 @@ use Rattle.ap_defs.specs.declared.terms.Term.{Term}
 use Rattle.ap_defs.specs.Derivations.{NominalDerivation, derivation_of}
 use Rattle.ap_defs.specs.Goals.{NominalGoal, goal_of}
 use Rattle.ap_defs.specs.Terms.{NominalTerm}
-use Rattle.ap_checks.specs.Checks.{count}
+use Rattle.ap_checks.specs.Checks.{node_count}
 use Rattle.ap_checks.specs.OpenEnvironments.{OpenEnvironment, put_in}
 use Rattle.ap_checker.specs.declared.scope.Standing.{Standing}
 use Rattle.ap_checker.specs.Scopes.{environment_of}
 use Rattle.ap_steps.specs.declared.bodies.Body.{Body}
 use Rattle.ap_steps.specs.declared.bodies.Part.{Part}
-use Rattle.ap_steps.specs.Steps.{NominalPiece, Writing, atom_text, pieces, premise, relation_text, side}
+use Rattle.ap_steps.specs.Steps.{NominalPiece, DerivationWriting, atom_text, pieces, premise, relation_text, side}
 use Rattle.ap_steps.specs.Writers.{piece_of}
 
 abbrev pub part_at : Bor code_nodes.Derivation → Bor (code_goals.Goal Term) → ℕ → Part
 part_at d g n = record { derivation = d; goal = g; mark = n }
 
 -- the piece of an atom, and that of an equation or a freshness goal
-abbrev pub premise_piece : Writing → NominalDerivation → ℕ → List NominalTerm → OpenEnvironment → NominalPiece
+abbrev pub premise_piece : DerivationWriting → NominalDerivation → ℕ → List NominalTerm → OpenEnvironment → NominalPiece
 premise_piece w d q us e = premise (record { derivation = d; pred = q; judgement = atom_text w q (map (put_in e) us) })
 
-abbrev pub side_piece : Writing → List ℕ → NominalTerm → NominalTerm → OpenEnvironment → NominalPiece
+abbrev pub side_piece : DerivationWriting → List ℕ → NominalTerm → NominalTerm → OpenEnvironment → NominalPiece
 side_piece w sign t u e = side (relation_text w sign (put_in e t) (put_in e u))
 
-abbrev pub pieces_at : Writing → Part → OpenEnvironment → List NominalPiece
+abbrev pub pieces_at : DerivationWriting → Part → OpenEnvironment → List NominalPiece
 pieces_at w t e = pieces w (derivation_of t.derivation.now) (goal_of t.goal.now) e
 
 -- the pieces of all that is left, the next node first
-abbrev pub pieces_left : Writing → List Standing → List Part → List NominalPiece
+abbrev pub pieces_left : DerivationWriting → List Standing → List Part → List NominalPiece
 pieces_left w ss [] = []
 pieces_left w ss (t ∷ ts) = pieces_at w t (environment_of (take t.mark ss)) ++ pieces_left w ss ts
 
 -- how many nodes are left
 abbrev pub nodes_left : List Part → ℕ
 nodes_left [] = 0
-nodes_left (t ∷ ts) = count (derivation_of t.derivation.now) + nodes_left ts
+nodes_left (t ∷ ts) = node_count (derivation_of t.derivation.now) + nodes_left ts
 
 -- what stands where a node is, stands there also where a later one is
-abbrev pub AreMarked : ℕ → List Part → Type 0
-AreMarked top [] = Unit {0}
-AreMarked top (t ∷ ts) = (t.mark ≤ top) × AreMarked t.mark ts
+abbrev pub ArePartsMarked : ℕ → List Part → Type 0
+ArePartsMarked top [] = Unit {0}
+ArePartsMarked top (t ∷ ts) = (t.mark ≤ top) × ArePartsMarked t.mark ts
 
 -- the node that is next stands last
-abbrev pub left_of : Body → List Part
-left_of b = reverse b.pending.items
+abbrev pub parts_pending : Body → List Part
+parts_pending b = reverse b.pending.items
 
 -- a node was looked at: its pieces are kept, or are left in front of what was left before
-pub record GoesOn (w : Writing) (d : NominalDerivation) (g : NominalGoal) (before after : Body) : Type 0 where
-  pub kept : map piece_of after.pieces.items ++ pieces_left w after.standing.items (left_of after)
-      ≡ map piece_of before.pieces.items ++ (pieces w d g (environment_of before.standing.items) ++ pieces_left w before.standing.items (left_of before))
-  pub nodes : suc (nodes_left (left_of after)) ≤ count d + nodes_left (left_of before)
-  pub marked : AreMarked (length after.standing.items) (left_of after)
+pub record WritesOn (w : DerivationWriting) (d : NominalDerivation) (g : NominalGoal) (before after : Body) : Type 0 where
+  pub kept : map piece_of after.pieces.items ++ pieces_left w after.standing.items (parts_pending after)
+      ≡ map piece_of before.pieces.items ++ (pieces w d g (environment_of before.standing.items) ++ pieces_left w before.standing.items (parts_pending before))
+  pub nodes : suc (nodes_left (parts_pending after)) ≤ node_count d + nodes_left (parts_pending before)
+  pub marked : ArePartsMarked (length after.standing.items) (parts_pending after)
 
 -- with the pieces of what is left those so far are all
-pub record IsOnWay (w : Writing) (whole : List NominalPiece) (b : Body) : Type 0 where
-  pub kept : map piece_of b.pieces.items ++ pieces_left w b.standing.items (left_of b) ≡ whole
-  pub marked : AreMarked (length b.standing.items) (left_of b)
+pub record IsOnWay (w : DerivationWriting) (whole : List NominalPiece) (b : Body) : Type 0 where
+  pub kept : map piece_of b.pieces.items ++ pieces_left w b.standing.items (parts_pending b) ≡ whole
+  pub marked : ArePartsMarked (length b.standing.items) (parts_pending b)

@@ -9,9 +9,9 @@ use Rattle.ap_steps.specs.declared.bodies.Piece.{Piece}
 use Rattle.ap_steps.specs.declared.bodies.Piece.TheVariants as code
 use Rattle.ap_steps.specs.declared.bodies.Premise.{Premise}
 use Rattle.ap_steps.specs.declared.writers.Writer.{Writer}
-use Rattle.ap_steps.specs.Steps.{NominalPiece, NominalPremise, NominalStep, Writing, premise, side}
+use Rattle.ap_steps.specs.Steps.{NominalPiece, NominalPremise, NominalStep, DerivationWriting, premise, side}
 
-abbrev pub writing_of : Writer → Writing
+abbrev pub writing_of : Writer → DerivationWriting
 writing_of w = record { clauses = (program_of w.program.now).clauses; words = w.words.now; by = spelling_in w.by.now }
 
 abbrev pub premise_of : Premise → NominalPremise
@@ -25,5 +25,5 @@ piece_of (code.Premise p) = premise (premise_of p)
 abbrev pub bare : Phrase → List ℕ
 bare p = p.text
 
-abbrev pub step_of : Step → NominalStep
-step_of s = record { depth = s.depth; judgement = s.judgement.text; rule = s.rule; sides = map bare s.sides }
+abbrev pub written_step : Step → NominalStep
+written_step s = record { depth = s.depth; judgement = s.judgement.text; rule = s.rule; sides = map bare s.sides }

@@ -6,7 +6,7 @@ ghost use Rattle.ap_defs.specs.Goals.{goal_of};
 ghost use Rattle.ap_defs.specs.Terms.{term_of};
 ghost use Rattle.ap_checker.specs.Scopes.{environment_of};
 ghost use Rattle.ap_steps.specs.Steps.{pieces};
-ghost use Rattle.ap_steps.specs.Walks.{AreMarked, GoesOn, left_of, part_at, premise_piece, side_piece};
+ghost use Rattle.ap_steps.specs.Walks.{ArePartsMarked, WritesOn, parts_pending, part_at, premise_piece, side_piece};
 ghost use Rattle.ap_steps.specs.Writers.{piece_of, writing_of};
 
 use crate::judgements::{atom, relation};
@@ -139,8 +139,8 @@ fn visit<'a>(
     derivation: &'a Derivation,
     goal: &'a Goal<Term>,
 ) -> Result<(), Memory>
-    requires { AreMarked (length body.old.standing.items) (left_of body.old) }
-    ensures { OnOk result (GoesOn (writing_of writer.now) (derivation_of derivation.now)
+    requires { ArePartsMarked (length body.old.standing.items) (parts_pending body.old) }
+    ensures { OnOk result (WritesOn (writing_of writer.now) (derivation_of derivation.now)
         (goal_of goal.now) body.old body.new) }
 {
     match (derivation, goal) {

@@ -1,11 +1,12 @@
 //! What the identifiers of the items of a derivation stand for.
 
-ghost use Rattle.std.specs.Prelude.{◌≡◌, ◌<◌, ◌≤◌, ◌+◌, ◌++◌, ◌∷◌, [], ℕ, List as list, map, slice_get, IfOk, OnOk};
-ghost use Rattle.ap_answers.specs.Locals.{free_sort, lent_texts};
-ghost use Rattle.ap_checks.specs.Checks.{count};
+ghost use Rattle.std.specs.Prelude.{◌≡◌, ◌<◌, ◌+◌, ◌++◌, ◌∷◌, [], map, slice_get, IfOk, OnOk};
+ghost use Rattle.ap_program.specs.FreeLocals.{free_sort};
+ghost use Rattle.ap_answers.specs.Locals.{lent_texts};
+ghost use Rattle.ap_checks.specs.Checks.{node_count};
 ghost use Rattle.ap_defs.specs.Derivations.{derivation_of};
 ghost use Rattle.ap_defs.specs.Goals.{Clauses, clause_of, goal_of, program_of};
-ghost use Rattle.ap_defs.specs.Lines.{name_texts, var_texts};
+ghost use Rattle.ap_defs.specs.Lines.{name_texts};
 ghost use Rattle.ap_defs.specs.Terms.{term_of};
 ghost use Rattle.ap_defs.specs.Types.{local_of, locals_of};
 ghost use Rattle.ap_spelling.specs.Spelt.{givens_of};
@@ -112,7 +113,7 @@ fn wait_at<'a>(
         ≡ givens cs (locals_of locals.entry.now) (derivation_of derivation.entry.now)
         (goal_of goal.entry.now) ++ givens_left cs waiting.old.items) }
     ensures places { OnOk result (places_left waiting.new.items
-        ≡ count (derivation_of derivation.entry.now) + places_left waiting.old.items) }
+        ≡ node_count (derivation_of derivation.entry.now) + places_left waiting.old.items) }
 {
     waiting.push(Place {
         derivation,
@@ -137,7 +138,7 @@ fn take_clause<'a>(
         ++ (clause_givens cs (clause_of clause.entry.now) names.now (map term_of terms.now)
         (derivation_of below.entry.now) ++ givens_left cs waiting.old.items)) }
     ensures places { OnOk result (places_left waiting.new.items
-        ≡ count (derivation_of below.entry.now) + places_left waiting.old.items) }
+        ≡ node_count (derivation_of below.entry.now) + places_left waiting.old.items) }
 {
     let locals = clause.locals.items();
     let words = lent_name_texts(alloc, locals)?;
@@ -202,7 +203,7 @@ fn look_at<'a>(
         ++ (givens_at (program_of program.entry.now).clauses place.entry
         ++ givens_left (program_of program.entry.now).clauses waiting.old.items)) }
     ensures places { OnOk result (places_left waiting.new.items
-        < count (derivation_of place.entry.derivation.now) + places_left waiting.old.items) }
+        < node_count (derivation_of place.entry.derivation.now) + places_left waiting.old.items) }
 {
     let locals = place.locals;
     match (place.derivation, place.goal) {

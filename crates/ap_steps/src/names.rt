@@ -7,8 +7,8 @@ ghost use Rattle.ap_defs.specs.Derivations.{NominalDerivation, derivation_of};
 ghost use Rattle.ap_defs.specs.Occurrences.{names_of_terms, vars_of_terms};
 ghost use Rattle.ap_defs.specs.Terms.{term_of};
 ghost use Rattle.ap_answers.specs.Occurring.{more_names, more_vars};
-ghost use Rattle.ap_checks.specs.Checks.{count};
-ghost use Rattle.ap_steps.specs.Names.{count_left, derivations_of, names_in, own_names, own_vars, preorder, preorder_left, vars_in};
+ghost use Rattle.ap_checks.specs.Checks.{node_count};
+ghost use Rattle.ap_steps.specs.Names.{count_left, derivations_of, names_in, own_names, own_vars, subderivations, preorder_left, vars_in};
 
 use ap_answers::occurrences::{add_name, add_names, add_var, add_vars};
 use ap_defs::memory::Memory;
@@ -85,9 +85,9 @@ fn add_vars_in(vars: &mut IndexSet<Var>, conds: &[Cond]) -> Result<(), Memory>
 #[tactic(auto, using(crate::proofs::NameLemmas::last_preorder, crate::proofs::NameLemmas::last_count))]
 fn wait_for<'a>(waiting: &mut Vec<&'a Derivation>, derivation: &'a Derivation) -> Result<(), Memory>
     ensures nodes { OnOk result (preorder_left waiting.new.items
-        ≡ preorder (derivation_of derivation.now) ++ preorder_left waiting.old.items) }
-    ensures count { OnOk result (count_left waiting.new.items
-        ≡ count (derivation_of derivation.now) + count_left waiting.old.items) }
+        ≡ subderivations (derivation_of derivation.now) ++ preorder_left waiting.old.items) }
+    ensures node_count { OnOk result (count_left waiting.new.items
+        ≡ node_count (derivation_of derivation.now) + count_left waiting.old.items) }
 {
     waiting.push(derivation)?;
     Ok(())
@@ -99,9 +99,9 @@ fn wait_below<'a>(
     derivation: &'a Derivation,
 ) -> Result<(), Memory>
     ensures nodes { OnOk result (derivation_of derivation.now ∷ preorder_left waiting.new.items
-        ≡ preorder (derivation_of derivation.now) ++ preorder_left waiting.old.items) }
-    ensures count { OnOk result (count_left waiting.new.items
-        < count (derivation_of derivation.now) + count_left waiting.old.items) }
+        ≡ subderivations (derivation_of derivation.now) ++ preorder_left waiting.old.items) }
+    ensures node_count { OnOk result (count_left waiting.new.items
+        < node_count (derivation_of derivation.now) + count_left waiting.old.items) }
 {
     match derivation {
         Derivation::Eq => Ok(()),
@@ -122,7 +122,7 @@ fn wait_below<'a>(
 /// The nodes of a derivation, in preorder.
 pub(crate) fn nodes_of(alloc: Global, derivation: &Derivation) -> Result<Vec<&Derivation>, Memory>
     ensures { IfOk result (λ nodes. derivations_of nodes.items
-        ≡ preorder (derivation_of derivation.now)) }
+        ≡ subderivations (derivation_of derivation.now)) }
 {
     let mut nodes = Vec::new(alloc);
     let mut waiting = Vec::new(alloc);
@@ -172,7 +172,7 @@ pub(crate) fn add_all_names(
     answer: &Answer,
     nodes: &[&Derivation],
 ) -> Result<(), Memory>
-    ensures { OnOk result ((d : NominalDerivation) → derivations_of nodes.now ≡ preorder d →
+    ensures { OnOk result ((d : NominalDerivation) → derivations_of nodes.now ≡ subderivations d →
         names.new.keys ≡ more_names names.old.keys (names_in (answer_of answer.now) d)) }
 {
     add_names_of(names, answer.binds.items())?;
@@ -189,7 +189,7 @@ pub(crate) fn add_all_vars(
     answer: &Answer,
     nodes: &[&Derivation],
 ) -> Result<(), Memory>
-    ensures { OnOk result ((d : NominalDerivation) → derivations_of nodes.now ≡ preorder d →
+    ensures { OnOk result ((d : NominalDerivation) → derivations_of nodes.now ≡ subderivations d →
         vars.new.keys ≡ more_vars vars.old.keys (vars_in (answer_of answer.now) d)) }
 {
     add_vars_of(vars, answer.binds.items())?;

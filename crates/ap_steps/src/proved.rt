@@ -11,7 +11,7 @@ ghost use Rattle.ap_defs.specs.Types.{locals_of};
 ghost use Rattle.ap_answers.specs.Words.{knows};
 ghost use Rattle.ap_bundle.specs.Bundles.{proved_of};
 ghost use Rattle.ap_steps.specs.Proofs.{query_rule, query_steps, root_step, shown_steps};
-ghost use Rattle.ap_steps.specs.Writers.{bare, step_of, writing_of};
+ghost use Rattle.ap_steps.specs.Writers.{bare, written_step, writing_of};
 
 use crate::bodies::pieces_of;
 use crate::spellings::spelt_in;
@@ -62,7 +62,7 @@ fn root_of(
     proved: &Proved,
     sides: Vec<Phrase>,
 ) -> Result<Vec<Step>, Memory>
-    ensures { IfOk result (λ steps. map step_of steps.items ≡ root_step (writing_of writer.now)
+    ensures { IfOk result (λ steps. map written_step steps.items ≡ root_step (writing_of writer.now)
         (query_of query.now) proved.now.query (answer_of proved.now.answer) (map bare sides.items)
         ∷ []) }
 {
@@ -84,7 +84,7 @@ fn steps_of_query<'a>(
     query: &'a Query<Term>,
     proved: &'a Proved,
 ) -> Result<Vec<Step>, Memory>
-    ensures { IfOk result (λ steps. map step_of steps.items ≡ query_steps (query_of query.now)
+    ensures { IfOk result (λ steps. map written_step steps.items ≡ query_steps (query_of query.now)
         proved.now.query (answer_of proved.now.answer) (derivation_of proved.now.derivation)
         (writing_of writer.now)) }
 {
@@ -111,7 +111,7 @@ pub fn steps_of(
     proved: &Proved,
 ) -> Result<Vec<Step>, Memory>
     requires { (w : list ℕ) → knows taken.now w ≡ has_word w program.now.words }
-    ensures { IfOk result (λ steps. map step_of steps.items
+    ensures { IfOk result (λ steps. map written_step steps.items
         ≡ shown_steps (program_of program.now) words.now (proved_of proved.now)) }
 {
     let Some(query) = query_at(program, proved.query) else {

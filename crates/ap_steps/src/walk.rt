@@ -5,10 +5,10 @@ ghost use Rattle.ap_defs.specs.Derivations as nodes;
 ghost use Rattle.ap_defs.specs.Derivations.{derivation_of};
 ghost use Rattle.ap_defs.specs.Goals.{clause_of};
 ghost use Rattle.ap_defs.specs.Terms.{term_of};
-ghost use Rattle.ap_checks.specs.Checks.{count};
-ghost use Rattle.ap_steps.specs.Steps.{Writing, clause_rule, clause_steps, premises_in, sides_in};
+ghost use Rattle.ap_checks.specs.Checks.{node_count};
+ghost use Rattle.ap_steps.specs.Steps.{DerivationWriting, clause_rule, clause_steps, premises_in, sides_in};
 ghost use Rattle.ap_steps.specs.Waits.{atom_steps, premise_nodes, premises_steps, steps_left, steps_of_waiting, waiting_nodes};
-ghost use Rattle.ap_steps.specs.Writers.{bare, piece_of, step_of, writing_of};
+ghost use Rattle.ap_steps.specs.Writers.{bare, piece_of, written_step, writing_of};
 
 use crate::bodies::{Piece, Premise, pieces_of};
 use crate::writers::Writer;
@@ -40,7 +40,7 @@ fn place_piece<'a>(
 ) -> Result<(), Memory>
     ensures sides { OnOk result (map bare sides.new.items
         ≡ map bare sides.old.items ++ sides_in (piece_of piece.entry ∷ [])) }
-    ensures steps { (w : Writing) → OnOk result (steps_left w waiting.new.items
+    ensures steps { (w : DerivationWriting) → OnOk result (steps_left w waiting.new.items
         ≡ premises_steps w depth (premises_in (piece_of piece.entry ∷ []))
         ++ steps_left w waiting.old.items) }
     ensures nodes { OnOk result (waiting_nodes waiting.new.items
@@ -64,7 +64,7 @@ pub(crate) fn place_pieces<'a>(
 ) -> Result<Vec<Phrase>, Memory>
     ensures sides { IfOk result (λ sides.
         map bare sides.items ≡ sides_in (map piece_of pieces.entry.items)) }
-    ensures steps { (w : Writing) → OnOk result (steps_left w waiting.new.items
+    ensures steps { (w : DerivationWriting) → OnOk result (steps_left w waiting.new.items
         ≡ premises_steps w depth (premises_in (map piece_of pieces.entry.items))
         ++ steps_left w waiting.old.items) }
     ensures nodes { OnOk result (waiting_nodes waiting.new.items
@@ -100,7 +100,7 @@ struct Use<'a> {
 /// How an atom was solved, if this is a derivation of one.
 fn use_of(derivation: &Derivation) -> Option<Use<'_>>
     ensures { MatchOption result
-        ((w : Writing) (n q : ℕ) (judgement : list ℕ) →
+        ((w : DerivationWriting) (n q : ℕ) (judgement : list ℕ) →
         atom_steps w n q judgement (derivation_of derivation.now) ≡ [])
         (λ u. derivation_of derivation.now
         ≡ nodes.atom u.number u.names.now (map term_of u.terms.now) (derivation_of u.body.now)) }
@@ -133,14 +133,14 @@ fn take_clause<'a>(
     steps: &mut Vec<Step>,
     waiting: &mut Vec<Waiting<'a>>,
 ) -> Result<(), Memory>
-    ensures steps { OnOk result (map step_of steps.new.items
-        ++ steps_left (writing_of writer.now) waiting.new.items ≡ map step_of steps.old.items
+    ensures steps { OnOk result (map written_step steps.new.items
+        ++ steps_left (writing_of writer.now) waiting.new.items ≡ map written_step steps.old.items
         ++ (clause_steps (writing_of writer.now) depth judgement.text used.entry.number
         used.entry.names.now (map term_of used.entry.terms.now)
         (derivation_of used.entry.body.now) (clause_of clause.now)
         ++ steps_left (writing_of writer.now) waiting.old.items)) }
     ensures nodes { OnOk result (waiting_nodes waiting.new.items
-        ≤ count (derivation_of used.entry.body.now) + waiting_nodes waiting.old.items) }
+        ≤ node_count (derivation_of used.entry.body.now) + waiting_nodes waiting.old.items) }
 {
     let own = Identifiers::of(writer.alloc, clause.locals.items())?;
     let given = Standing::Clause(own, used.names, used.terms);
@@ -164,12 +164,12 @@ fn take_step<'a>(
     steps: &mut Vec<Step>,
     waiting: &mut Vec<Waiting<'a>>,
 ) -> Result<(), Memory>
-    ensures steps { OnOk result (map step_of steps.new.items
-        ++ steps_left (writing_of writer.now) waiting.new.items ≡ map step_of steps.old.items
+    ensures steps { OnOk result (map written_step steps.new.items
+        ++ steps_left (writing_of writer.now) waiting.new.items ≡ map written_step steps.old.items
         ++ (steps_of_waiting (writing_of writer.now) next.entry
         ++ steps_left (writing_of writer.now) waiting.old.items)) }
     ensures nodes { OnOk result (waiting_nodes waiting.new.items
-        < count (derivation_of next.entry.premise.derivation.now)
+        < node_count (derivation_of next.entry.premise.derivation.now)
         + waiting_nodes waiting.old.items) }
 {
     let Waiting { premise, depth } = next;
@@ -193,7 +193,7 @@ pub(crate) fn add_steps<'a>(
     steps: &mut Vec<Step>,
     mut waiting: Vec<Waiting<'a>>,
 ) -> Result<(), Memory>
-    ensures { OnOk result (map step_of steps.new.items ≡ map step_of steps.old.items
+    ensures { OnOk result (map written_step steps.new.items ≡ map written_step steps.old.items
         ++ steps_left (writing_of writer.now) waiting.entry.items) }
 {
     'steps: while let Some(next) = waiting.pop() {

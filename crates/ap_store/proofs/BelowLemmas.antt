@@ -3,13 +3,12 @@ use Rattle.std.proofs.Common.{◌≡◌, ◌<◌, ◌≤◌, ℕ, true, false, L
 use Rattle.std.specs.Prelude.{if◌then◌else◌}
 use Rattle.ap_defs.specs.Freshness.{var_eq}
 use Rattle.ap_defs.specs.Permutations.{act_name, left_name, name_eq, right_name, swap_name}
-use Rattle.ap_defs.specs.Renaming.{AreSwapsBelow, IsBelow}
+use Rattle.ap_defs.specs.Renaming.{AreBindingsBelow, AreSwapsBelow, IsBelow}
 use Rattle.ap_defs.specs.Substitution.{Binding, put, put_binding, under, ◌:=◌}
 use Rattle.ap_defs.specs.Terms.{NominalTerm, abs, act_term, app, name, pair, susp, unit}
 use Rattle.ap_defs.specs.declared.terms.Name.{Name}
 use Rattle.ap_defs.specs.declared.terms.Swap.{Swap}
 use Rattle.ap_defs.specs.declared.terms.Var.{Var}
-use Rattle.ap_store.specs.WellFormed.{AreBindingsBelow}
 
 module _ (m n : ℕ) (l : n ≤ m) where
   pub swaps_below_more : (p : List Swap) → AreSwapsBelow n p → AreSwapsBelow m p

@@ -21,7 +21,7 @@ use Rattle.ap_theory.proofs.TermLemmas.{act_term-append, occurs_act}
 use Rattle.ap_defs.specs.HeadKeys.{head_key}
 use Rattle.ap_theory.specs.Variables.{IsUnbound}
 use Rattle.ap_store.specs.Heads.{IsHeadOf, IsHeadUnbound}
-use Rattle.ap_store.specs.Views.{present, rank, raw_bound}
+use Rattle.ap_store.specs.Views.{bindings_of, meaning_in, present, rank, raw_bound}
 use Rattle.ap_store.specs.declared.store.Store.{Store}
 use Rattle.ap_store.proofs.BelowLemmas.{act_below}
 use Rattle.ap_store.proofs.StoreLemmas.{store_ranked, store_sound}
@@ -49,27 +49,27 @@ module _ (s : Store) where
   pub bound_less : (q : List Swap) (x : Var) (c : Closure) → raw_bound s x ≡ Some (closure_term c) → visits_in s (bare c) < visits_in s (susp q x)
   bound_less q x c e = visits_bound (raw_bound s) (rank s) (store_ranked s) q x c.swaps.items (bare c) e
 
-  pub unbound_var : (x : Var) → raw_bound s x ≡ None → IsUnbound (present s).bindings x
+  pub unbound_var : (x : Var) → raw_bound s x ≡ None → IsUnbound (bindings_of s) x
   unbound_var x e = (store_sound s).same x ∙ ap is_some e
 
-  pub unbound_under : (q : List Swap) (x : Var) → raw_bound s x ≡ None → under (present s).bindings (susp q x) ≡ susp q x
-  unbound_under q x e = ap (moved q x) (bound_term_unbound (present s).bindings x (unbound_var x e))
+  pub unbound_under : (q : List Swap) (x : Var) → raw_bound s x ≡ None → under (bindings_of s) (susp q x) ≡ susp q x
+  unbound_under q x e = ap (moved q x) (bound_term_unbound (bindings_of s) x (unbound_var x e))
 
   -- a bound variable stands for what its closure stands for
   pub bound_under : (q : List Swap) (x : Var) (c : Closure) → raw_bound s x ≡ Some (closure_term c)
-      → under (present s).bindings (susp q x) ≡ under (present s).bindings (act_term (q ++ c.swaps.items) (bare c))
+      → under (bindings_of s) (susp q x) ≡ under (bindings_of s) (act_term (q ++ c.swaps.items) (bare c))
   bound_under q x c e =
-      (store_sound s).follows q x (closure_term c) e ∙ sym (under_act (present s).bindings q (closure_term c)) ∙ ap (under (present s).bindings) (sym (act_term-append q c.swaps.items (bare c)))
+      (store_sound s).follows q x (closure_term c) e ∙ sym (under_act (bindings_of s) q (closure_term c)) ∙ ap (under (bindings_of s)) (sym (act_term-append q c.swaps.items (bare c)))
 
-  pub unbound_occurs : (y x : Var) (q : List Swap) → raw_bound s x ≡ None → occurs y (under (present s).bindings (susp q x)) ≡ var_eq y x
+  pub unbound_occurs : (y x : Var) (q : List Swap) → raw_bound s x ≡ None → occurs y (under (bindings_of s) (susp q x)) ≡ var_eq y x
   unbound_occurs y x q e = ap (occurs y) (unbound_under q x e)
 
   -- swappings do not change which variables occur
-  pub bare_occurs : (y : Var) (p : List Swap) (t : NominalTerm) → occurs y (under (present s).bindings (act_term p t)) ≡ occurs y (under (present s).bindings t)
-  bare_occurs y p t = ap (occurs y) (under_act (present s).bindings p t) ∙ occurs_act y p (under (present s).bindings t)
+  pub bare_occurs : (y : Var) (p : List Swap) (t : NominalTerm) → occurs y (under (bindings_of s) (act_term p t)) ≡ occurs y (under (bindings_of s) t)
+  bare_occurs y p t = ap (occurs y) (under_act (bindings_of s) p t) ∙ occurs_act y p (under (bindings_of s) t)
 
   pub bound_occurs : (y x : Var) (q : List Swap) (c : Closure) → raw_bound s x ≡ Some (closure_term c)
-      → occurs y (under (present s).bindings (susp q x)) ≡ occurs y (under (present s).bindings (bare c))
+      → occurs y (under (bindings_of s) (susp q x)) ≡ occurs y (under (bindings_of s) (bare c))
   bound_occurs y x q c e = ap (occurs y) (bound_under q x c e) ∙ bare_occurs y (q ++ c.swaps.items) (bare c)
 
   pub bound_below : (q : List Swap) (x : Var) (c : Closure) → raw_bound s x ≡ Some (closure_term c) → AreSwapsBelow (present s).next q → IsBelow (present s).next (act_term (q ++ c.swaps.items) (bare c))
@@ -87,14 +87,14 @@ module _ (s : Store) where
   -- what a variable at the head of a closure is followed to
   pub step_found : (c d : Closure) (all : List Swap) (q : List Swap) (x : Var) → c.term.now ≡ code.Susp q x → all ≡ (c.swaps.items ++ map (rename_swap c.base) q) ++ d.swaps.items
       → raw_bound s (rename_var c.base x) ≡ Some (closure_term d)
-      → (under (present s).bindings (act_term all (bare d)) ≡ under (present s).bindings (closure_term c))
+      → (under (bindings_of s) (act_term all (bare d)) ≡ meaning_in s c)
       × (IsBelow (present s).next (closure_term c) → IsBelow (present s).next (act_term all (bare d))) × (depth_of (rank s) (act_term all (bare d)) < depth_of (rank s) (closure_term c))
   step_found c d all q x f g e =
       let p = c.swaps.items ++ map (rename_swap c.base) q in
       let y = rename_var c.base x in
       let h : closure_term c ≡ susp p y = ap (λ (t : Term). act_term c.swaps.items (rename_term c.base (term_of t))) f in
       let k : act_term all (bare d) ≡ act_term (p ++ d.swaps.items) (bare d) = ap (λ r. act_term r (bare d)) g in (
-        ap (under (present s).bindings) k ∙ sym (bound_under p y d e) ∙ ap (under (present s).bindings) (sym h),
+        ap (under (bindings_of s)) k ∙ sym (bound_under p y d e) ∙ ap (under (bindings_of s)) (sym h),
         (λ l. let m : IsBelow (present s).next (susp p y) = subst (λ (t : NominalTerm). IsBelow (present s).next t) h l in
             subst (λ (t : NominalTerm). IsBelow (present s).next t) (sym k) (bound_below p y d e m.0)),
         subst (λ (t : NominalTerm). depth_of (rank s) t < depth_of (rank s) (closure_term c)) (sym k)
@@ -102,13 +102,13 @@ module _ (s : Store) where
       )
 
   -- swappings that wait change no key
-  pub closure_key : (d : Closure) → head_key (under (present s).bindings (closure_term d)) ≡ head_key (under (present s).bindings (bare d))
-  closure_key d = ap head_key (under_act (present s).bindings d.swaps.items (bare d)) ∙ key_act d.swaps.items (under (present s).bindings (bare d))
+  pub closure_key : (d : Closure) → head_key (meaning_in s d) ≡ head_key (under (bindings_of s) (bare d))
+  closure_key d = ap head_key (under_act (bindings_of s) d.swaps.items (bare d)) ∙ key_act d.swaps.items (under (bindings_of s) (bare d))
 
   -- what a variable is bound to begins as what the variable stands for, whatever swappings wait
   pub head_bound : (q : List Swap) (x : Var) (d : Closure) → raw_bound s x ≡ Some (closure_term d) → IsHeadOf (present s) (rank s) (susp q x) (bare d)
   head_bound q x d e =
-      let bs = (present s).bindings in
+      let bs = (bindings_of s) in
       let l : depth_of (rank s) (closure_term d) ≤ rank s x = depth_ranked (raw_bound s) (rank s) (store_ranked s) x (closure_term d) e in
       let m : depth_of (rank s) (closure_term d) ≡ depth_of (rank s) (bare d) = depth_act (rank s) d.swaps.items (bare d) in (
         ap head_key ((store_sound s).follows q x (closure_term d) e) ∙ key_act q (under bs (closure_term d)) ∙ closure_key d,
@@ -116,10 +116,10 @@ module _ (s : Store) where
       )
 
   -- a head that is no bound variable stays
-  pub unbound_key : (t : NominalTerm) → IsHeadUnbound (present s).bindings t → head_key (under (present s).bindings t) ≡ head_key t
+  pub unbound_key : (t : NominalTerm) → IsHeadUnbound (bindings_of s) t → head_key (under (bindings_of s) t) ≡ head_key t
   unbound_key unit h = refl
   unbound_key (name a) h = refl
   unbound_key (pair t u) h = refl
   unbound_key (app f t) h = refl
   unbound_key (abs a t) h = refl
-  unbound_key (susp q x) h = ap (λ u. head_key (moved q x u)) (bound_term_unbound (present s).bindings x h)
+  unbound_key (susp q x) h = ap (λ u. head_key (moved q x u)) (bound_term_unbound (bindings_of s) x h)

@@ -15,7 +15,7 @@ use Rattle.ap_theory.specs.Variables.{EachVar}
 use Rattle.ap_store.specs.Changes.{after, empty, present_after}
 use Rattle.ap_store.specs.Trails.{Kept, keep, kept_after, nothing_kept}
 use Rattle.ap_store.specs.Triples.{Triple}
-use Rattle.ap_store.specs.Views.{present}
+use Rattle.ap_store.specs.Views.{bindings_of, meaning_in}
 use Rattle.ap_store.specs.declared.changes.Change.{Change}
 use Rattle.ap_store.specs.declared.changes.Change.TheVariants.{Made, Bound, Added, Taken}
 use Rattle.ap_store.specs.declared.store.Store.{Store}
@@ -80,9 +80,9 @@ module _ (n : ℕ) where
   older_after (Taken x es ∷ cs) a k l h = older_after cs (after (Taken x es) a) (keep (Taken x es) k) l h
 
 -- a variable that is not below what was bound nor below the closure's end does not occur
-pub new_is_absent : (s : Store) (x : Var) (c : Closure) → s.reach ≤ x.num → c.end ≤ x.num → occurs x (under (present s).bindings (closure_term c)) ≡ false
+pub new_is_absent : (s : Store) (x : Var) (c : Closure) → s.reach ≤ x.num → c.end ≤ x.num → occurs x (meaning_in s c) ≡ false
 new_is_absent s x c l k =
     let m : (kept_after s.trail.items nothing_kept).reach ≤ x.num = omega (arith, s.stored.4, l) in
     let h = older_after x.num s.trail.items empty nothing_kept m tt in
-    let each = under_older x.num (present s).bindings h (closure_term c) (closure_older x.num c k) in
-    false_if_not (occurs x (under (present s).bindings (closure_term c))) (λ o. let e : x.num < x.num = each x o in absurd (omega arith))
+    let each = under_older x.num (bindings_of s) h (closure_term c) (closure_older x.num c k) in
+    false_if_not (occurs x (meaning_in s c)) (λ o. let e : x.num < x.num = each x o in absurd (omega arith))

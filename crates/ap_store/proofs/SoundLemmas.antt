@@ -2,7 +2,7 @@
 use Rattle.std.proofs.Common.{◌≡◌, ◌<◌, ◌≤◌, ◌+◌, ℕ, zero, suc, Bool, true, false, ◌||◌, List, [], ◌∷◌, refl, sym, ap, ap₂, ◌∙◌, subst, arith, true≢false}
 use Rattle.std.specs.Prelude.{Option, Some, None, is_some, if◌then◌else◌}
 use Rattle.ap_defs.specs.Freshness.{Conds, var_eq}
-use Rattle.ap_defs.specs.Renaming.{IsBelow}
+use Rattle.ap_defs.specs.Renaming.{AreBindingsBelow, IsBelow}
 use Rattle.ap_defs.specs.Substitution.{Binding, bound_term, moved, occurs, put, under}
 use Rattle.ap_defs.specs.Terms.{NominalTerm, act_term, susp}
 use Rattle.ap_defs.specs.declared.terms.Swap.{Swap}
@@ -20,7 +20,7 @@ use Rattle.ap_theory.specs.Variables.{IsIdempotent, IsUnbound, is_bound}
 use Rattle.ap_store.specs.Changes.{AreChanges, IsChange, after, empty, has_on, is_ascending, present_after, with_bound}
 use Rattle.ap_store.specs.Trails.{no_rank, nothing_bound, rank_after, rank_step, raw_after, raw_step}
 use Rattle.ap_store.specs.Triples.{AreOnUnbound, Triple, is_apart}
-use Rattle.ap_store.specs.WellFormed.{AreBindingsBelow, IsWellFormed}
+use Rattle.ap_store.specs.WellFormed.{IsWellFormed}
 use Rattle.ap_store.specs.declared.changes.Change.{Change}
 use Rattle.ap_store.specs.declared.changes.Change.TheVariants.{Made, Bound, Added, Taken}
 use Rattle.ap_store.proofs.AscendingLemmas.{ascending_add_all, ascending_filter, on_unbound_add_all, on_unbound_filter}

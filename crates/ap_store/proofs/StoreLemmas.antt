@@ -10,13 +10,14 @@ use Rattle.ap_defs.specs.Terms.{NominalTerm}
 use Rattle.ap_defs.specs.Types.{NominalKind}
 use Rattle.ap_defs.specs.declared.terms.Cond.{Cond}
 use Rattle.ap_defs.specs.declared.terms.Var.{Var}
+use Rattle.ap_defs.specs.Renaming.{AreBindingsBelow}
 use Rattle.ap_perm.specs.Lookups.{IsRanked, carried_out}
 use Rattle.ap_theory.specs.Variables.{IsUnbound, is_bound}
 use Rattle.ap_store.specs.Changes.{after, empty, present_after, replace_conditions}
 use Rattle.ap_store.specs.Slots.{slot_kind}
-use Rattle.ap_store.specs.Triples.{AreOnUnbound, GoesOn, Triple, is_apart, is_on, with_conditions}
-use Rattle.ap_store.specs.Views.{IsUnchanged, kinds, past, present, rank, raw_bound, versions}
-use Rattle.ap_store.specs.WellFormed.{AreBindingsBelow, IsWellFormed}
+use Rattle.ap_store.specs.Triples.{AreOnUnbound, IsPrefixOf, Triple, is_apart, is_on, with_conditions}
+use Rattle.ap_store.specs.Views.{IsUnchanged, bindings_of, kinds, past, present, rank, raw_bound, versions}
+use Rattle.ap_store.specs.WellFormed.{IsWellFormed}
 use Rattle.ap_store.specs.declared.changes.Change.{Change}
 use Rattle.ap_store.specs.declared.changes.Change.TheVariants.{Made, Bound, Added, Taken}
 use Rattle.ap_store.specs.declared.store.Store.{Store}
@@ -39,7 +40,7 @@ pub store_ranked : (s : Store) → IsRanked (raw_bound s) (rank s)
 store_ranked s = s.ranked
 
 -- with every binding followed, a term is what it is under the bindings
-pub carried_out_under : (s : Store) (t : NominalTerm) → carried_out (raw_bound s) (rank s) t ≡ under (present s).bindings t
+pub carried_out_under : (s : Store) (t : NominalTerm) → carried_out (raw_bound s) (rank s) t ≡ under (bindings_of s) t
 carried_out_under s t = soundness.carried_out_bound (raw_bound s) (present s) (rank s) (store_sound s) t
 
 -- there is a kind for each number
@@ -54,8 +55,8 @@ unbound_beyond n x ((y := t) ∷ bs) h l =
     ap (λ b. b || is_bound x bs) e ∙ unbound_beyond n x bs h.1 l
 
 -- numbers that were not given are unbound
-pub unbound_past : (s : Store) (x : Var) → (present s).next ≤ x.num → IsUnbound (present s).bindings x
-unbound_past s x l = unbound_beyond (present s).next x (present s).bindings (well_formed s).below l
+pub unbound_past : (s : Store) (x : Var) → (present s).next ≤ x.num → IsUnbound (bindings_of s) x
+unbound_past s x l = unbound_beyond (present s).next x (bindings_of s) (well_formed s).below l
 
 next_rises : (c : Change) (a : Triple) → a.next ≤ (after c a).next
 next_rises (Made n) a = omega arith
@@ -105,7 +106,7 @@ last_is d [] a = refl
 last_is d (b ∷ as') a = last_is b as' a
 
 -- a store that went back to where s was
-pub gone_back : (s d f : Store) (m : ℕ) → GoesOn (versions s) (versions d) → kinds d ≡ kinds s → m ≡ length (past s) → versions f ≡ take (m + 1) (versions d) → kinds f ≡ take (present f).next (kinds d) → IsUnchanged s f
+pub gone_back : (s d f : Store) (m : ℕ) → IsPrefixOf (versions s) (versions d) → kinds d ≡ kinds s → m ≡ length (past s) → versions f ≡ take (m + 1) (versions d) → kinds f ≡ take (present f).next (kinds d) → IsUnchanged s f
 gone_back s d f m goes same mark back left =
     let l : length (versions s) ≡ m + 1 = omega (arith, length-append (past s) (present s ∷ []), mark) in
     let v : versions f ≡ versions s = back ∙ sym (prefix_is (versions s) (versions d) (m + 1) goes l) in

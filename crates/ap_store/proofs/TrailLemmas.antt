@@ -3,7 +3,7 @@ use Rattle.std.proofs.Common.{◌≡◌, ◌≤◌, ℕ, zero, suc, ◌+◌, Lis
 use Rattle.std.proofs.lemmas.List.{length-append, take-append-le}
 use Rattle.ap_store.specs.Changes.{AreChanges, IsChange, after, past_after, present_after}
 use Rattle.ap_store.specs.Trails.{AreLinked, IsLinked, Kept, keep, kept_after}
-use Rattle.ap_store.specs.Triples.{GoesOn, Triple}
+use Rattle.ap_store.specs.Triples.{IsPrefixOf, Triple}
 use Rattle.ap_store.specs.declared.changes.Change.{Change}
 
 pub present_more : (cs : List Change) (c : Change) (a : Triple) → present_after (cs ++ c ∷ []) a ≡ after c (present_after cs a)
@@ -50,13 +50,13 @@ versions_new cs ts c a e = ap (λ (us : List Triple). us ++ present_after ts a �
 pub present_new : (cs ts : List Change) (c : Change) (a : Triple) → ts ≡ cs ++ c ∷ [] → present_after ts a ≡ after c (present_after cs a)
 present_new cs ts c a e = ap (λ (ds : List Change). present_after ds a) e ∙ present_more cs c a
 
-pub goes_on_both : (as' bs cs : List Triple) → GoesOn as' bs → GoesOn bs cs → GoesOn as' cs
+pub goes_on_both : (as' bs cs : List Triple) → IsPrefixOf as' bs → IsPrefixOf bs cs → IsPrefixOf as' cs
 goes_on_both as' bs cs (ds, e) (es, f) = (ds ++ es, f ∙ ap (λ (ts : List Triple). ts ++ es) e ∙ append_assoc as' ds es)
 
-pub goes_on_one : (as' bs : List Triple) (a : Triple) → bs ≡ as' ++ a ∷ [] → GoesOn as' bs
+pub goes_on_one : (as' bs : List Triple) (a : Triple) → bs ≡ as' ++ a ∷ [] → IsPrefixOf as' bs
 goes_on_one as' bs a e = (a ∷ [], e)
 
-pub goes_on_none : (as' bs : List Triple) → bs ≡ as' → GoesOn as' bs
+pub goes_on_none : (as' bs : List Triple) → bs ≡ as' → IsPrefixOf as' bs
 goes_on_none as' bs e = ([], e ∙ sym (append-nil as'))
 
 pub take_whole : {A : Type 0} (xs : List A) → take (length xs) xs ≡ xs
@@ -73,7 +73,7 @@ pub take_further : {A : Type 0} (m n : ℕ) (xs ys zs : List A) → xs ≡ take 
 take_further m n xs ys zs e f l = e ∙ ap (take m) f ∙ take_fewer m n zs l
 
 -- a prefix of versions is what is left of them up to its length
-pub prefix_is : (as' bs : List Triple) (n : ℕ) → GoesOn as' bs → length as' ≡ n → as' ≡ take n bs
+pub prefix_is : (as' bs : List Triple) (n : ℕ) → IsPrefixOf as' bs → length as' ≡ n → as' ≡ take n bs
 prefix_is as' bs n (cs, e) f =
     let l : n ≤ length as' = omega (arith, f) in
     sym (ap (take n) e ∙ take-append-le n as' cs l ∙ ap (λ m. take m as') (sym f) ∙ take_whole as')

@@ -36,8 +36,8 @@ abbrev pub with_conditions : List Cond → Triple → Triple
 with_conditions cs a = record { bindings = a.bindings; conditions = add_conds cs a.conditions; next = a.next }
 
 -- the first list is a prefix of the second
-abbrev pub GoesOn : List Triple → List Triple → Type 0
-GoesOn as' bs = (cs : List Triple) × (bs ≡ as' ++ cs)
+abbrev pub IsPrefixOf : List Triple → List Triple → Type 0
+IsPrefixOf as' bs = (cs : List Triple) × (bs ≡ as' ++ cs)
 
 -- the conditions are on unbound variables, and their numbers are below the next one
 abbrev pub AreOnUnbound : Triple → List Cond → Type 0

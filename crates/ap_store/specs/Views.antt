@@ -1,8 +1,12 @@
 -- What a store stands for.
 use Rattle.std.specs.Prelude.{◌≡◌, ℕ, List, [], ◌∷◌, ◌++◌, map}
+use Rattle.ap_defs.specs.Substitution.{Binding, under}
+use Rattle.ap_defs.specs.Terms.{NominalTerm}
 use Rattle.ap_defs.specs.Types.{NominalKind}
 use Rattle.ap_defs.specs.declared.terms.Var.{Var}
+use Rattle.ap_perm.specs.Closures.{closure_term}
 use Rattle.ap_perm.specs.Lookups as lookups
+use Rattle.ap_perm.specs.declared.closures.Closure.{Closure}
 use Rattle.ap_store.specs.Changes.{empty, past_after, present_after}
 use Rattle.ap_store.specs.Slots.{slot_kind}
 use Rattle.ap_store.specs.Trails.{no_rank, nothing_bound, rank_after, raw_after}
@@ -16,6 +20,14 @@ kinds s = map slot_kind s.table.items
 -- the triple that holds now
 abbrev pub present : Store → Triple
 present s = present_after s.trail.items empty
+
+-- its bindings
+abbrev pub bindings_of : Store → List Binding
+bindings_of s = (present s).bindings
+
+-- what a closure stands for, with every binding of the store carried out
+abbrev pub meaning_in : Store → Closure → NominalTerm
+meaning_in s c = under (bindings_of s) (closure_term c)
 
 -- the earlier triples to which the store can go back
 abbrev pub past : Store → List Triple

@@ -1,11 +1,11 @@
 //! Closures whose head is no bound variable.
 
-ghost use Rattle.std.specs.Prelude.{◌≡◌, ◌<◌, IfOk, IfSome, IfNone};
+ghost use Rattle.std.specs.Prelude.{◌≡◌, ◌<◌, IfOk};
 ghost use Rattle.ap_defs.specs.Renaming.{IsBelow};
 ghost use Rattle.ap_defs.specs.Substitution.{under};
 ghost use Rattle.ap_perm.specs.Closures.{closure_term};
 ghost use Rattle.ap_store.specs.Heads.{IsHeadUnbound, IsStep};
-ghost use Rattle.ap_store.specs.Views.{present, rank};
+ghost use Rattle.ap_store.specs.Views.{bindings_of, meaning_in, present, rank};
 
 use crate::store::Store;
 use ap_defs::memory::Memory;
@@ -57,9 +57,9 @@ impl<'a> Store<'a> {
     /// A closure that stands for the same term under the bindings, and whose head is no bound
     /// variable.
     pub fn follow(&self, alloc: Global, c: Closure<'a>) -> Result<Closure<'a>, Memory>
-        ensures term { IfOk result (λ d. under (present self.now).bindings (closure_term d)
-            ≡ under (present self.now).bindings (closure_term c.entry)) }
-        ensures head { IfOk result (λ d. IsHeadUnbound (present self.now).bindings
+        ensures term { IfOk result (λ d. meaning_in self.now d
+            ≡ meaning_in self.now c.entry) }
+        ensures head { IfOk result (λ d. IsHeadUnbound (bindings_of self.now)
             (closure_term d)) }
         ensures below { IfOk result (λ d. IsBelow (present self.now).next (closure_term c.entry) →
             IsBelow (present self.now).next (closure_term d)) }

@@ -1,13 +1,11 @@
 //! What terms begin with.
 
-ghost use Rattle.std.specs.Prelude.{◌≡◌, ◌<◌, IfSome, IfNone, MatchOption};
+ghost use Rattle.std.specs.Prelude.{◌≡◌, ◌<◌, MatchOption};
 ghost use Rattle.ap_defs.specs.Renaming.{IsBelow, rename_term};
 ghost use Rattle.ap_defs.specs.Substitution.{under};
 ghost use Rattle.ap_defs.specs.Terms.{term_of};
-ghost use Rattle.ap_perm.specs.Closures.{closure_term};
-ghost use Rattle.ap_perm.specs.Lookups.{depth_of};
 ghost use Rattle.ap_store.specs.Heads.{IsHeadOf, IsHeadUnbound};
-ghost use Rattle.ap_store.specs.Views.{present, rank};
+ghost use Rattle.ap_store.specs.Views.{bindings_of, meaning_in, present, rank};
 ghost use Rattle.ap_defs.specs.HeadKeys.{head_key};
 
 use crate::store::Store;
@@ -38,7 +36,7 @@ fn bound_at_head<'s, 'a>(
     t: &Term,
 ) -> Option<&'s Closure<'a>>
     requires { IsBelow end (rename_term base (term_of t.now)) }
-    ensures { MatchOption result (IsHeadUnbound (present store.now).bindings
+    ensures { MatchOption result (IsHeadUnbound (bindings_of store.now)
         (rename_term base (term_of t.now))) (λ d. IsHeadOf (present store.now) (rank store.now)
         (rename_term base (term_of t.now)) (rename_term d.now.base (term_of d.now.term.now))) }
 {
@@ -53,7 +51,7 @@ impl<'a> Store<'a> {
     /// The key of what a closure stands for under the bindings: 0 where that is a suspension. It takes no
     /// memory.
     pub fn head_key(&self, c: &Closure<'a>) -> u64
-        ensures { result ≡ head_key (under (present self.now).bindings (closure_term c.now)) }
+        ensures { result ≡ head_key (meaning_in self.now c.now) }
     {
         let mut base = c.base;
         let mut end = c.end;

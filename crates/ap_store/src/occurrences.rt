@@ -4,8 +4,7 @@ ghost use Rattle.std.specs.Prelude.{◌≡◌};
 ghost use Rattle.ap_defs.specs.Renaming.{IsBelow, rename_term};
 ghost use Rattle.ap_defs.specs.Substitution.{occurs, under};
 ghost use Rattle.ap_defs.specs.Terms.{term_of};
-ghost use Rattle.ap_perm.specs.Closures.{closure_term};
-ghost use Rattle.ap_store.specs.Views.{present};
+ghost use Rattle.ap_store.specs.Views.{bindings_of, meaning_in};
 
 use crate::store::Store;
 use ap_defs::terms::{Term, Var};
@@ -26,7 +25,7 @@ fn end_of(c: &Closure<'_>) -> u64
 fn occurs_below(store: &Store<'_>, x: Var, mut base: u64, mut end: u64, t: &Term) -> bool
     requires { IsBelow end (rename_term base (term_of t.now)) }
     ensures { result
-        ≡ occurs x (under (present store.now).bindings (rename_term base (term_of t.now))) }
+        ≡ occurs x (under (bindings_of store.now) (rename_term base (term_of t.now))) }
 {
     let mut rest = t;
     loop {
@@ -59,7 +58,7 @@ impl Store<'_> {
     /// Whether a variable occurs in what a closure stands for under the bindings. It takes no memory,
     /// and looks at no term where the variable is new.
     pub fn occurs(&self, x: Var, c: &Closure<'_>) -> bool
-        ensures { result ≡ occurs x (under (present self.now).bindings (closure_term c.now)) }
+        ensures { result ≡ occurs x (meaning_in self.now c.now) }
     {
         !self.is_new(x, c) && occurs_below(self, x, c.base, c.end, c.term)
     }

@@ -42,16 +42,16 @@ pub struct Store<'a> {
 }
 
 impl<'a> Store<'a> {
-    ghost use Rattle.std.specs.Prelude.{◌≡◌, ℕ, ◌+◌, ◌≤◌, ◌<◌, ◌++◌, ◌∷◌, [], false, true, Some, None, IfOk, IfNone, IfSome, MatchOption, OnOk, OnErr, filter, length, map, slice_get, take, vec_len, vec_capacity};
+    ghost use Rattle.std.specs.Prelude.{◌≡◌, ◌+◌, ◌≤◌, ◌<◌, ◌++◌, ◌∷◌, [], false, true, Some, None, IfOk, MatchOption, OnOk, OnErr, filter, length, slice_get, take, vec_len, vec_capacity};
     ghost use Rattle.ap_defs.specs.Renaming.{IsBelow};
     ghost use Rattle.ap_defs.specs.Resolution.{kinds_of};
-    ghost use Rattle.ap_defs.specs.Substitution.{occurs, under};
+    ghost use Rattle.ap_defs.specs.Substitution.{occurs};
     ghost use Rattle.ap_defs.specs.Types.{kind_of, locals_of};
     ghost use Rattle.ap_perm.specs.Closures.{closure_term};
     ghost use Rattle.ap_theory.specs.Variables.{IsUnbound};
     ghost use Rattle.ap_store.specs.Changes.{has_on, replace_conditions, with_bound};
-    ghost use Rattle.ap_store.specs.Triples.{AreOnUnbound, GoesOn, is_apart, is_on, with_binding, with_conditions, with_next};
-    ghost use Rattle.ap_store.specs.Views.{IsUnchanged, kinds, past, present, raw_bound, versions};
+    ghost use Rattle.ap_store.specs.Triples.{AreOnUnbound, IsPrefixOf, is_apart, is_on, with_binding, with_conditions, with_next};
+    ghost use Rattle.ap_store.specs.Views.{IsUnchanged, bindings_of, kinds, meaning_in, past, present, raw_bound, versions};
 
     /// The empty store. It takes no memory.
     pub fn new(alloc: Global) -> Store<'a>
@@ -75,7 +75,7 @@ impl<'a> Store<'a> {
             ≡ kinds self.old ++ kinds_of (locals_of locals.now)) }
         ensures present { OnOk result (present self.new
             ≡ with_next ((present self.old).next + length locals.now) (present self.old)) }
-        ensures past { OnOk result (GoesOn (versions self.old) (versions self.new)) }
+        ensures past { OnOk result (IsPrefixOf (versions self.old) (versions self.new)) }
         ensures unchanged { OnErr result (IsUnchanged self.old self.new) }
     {
         let count = locals.len();
@@ -91,15 +91,15 @@ impl<'a> Store<'a> {
     /// on the variable, which are taken out. After want of memory the store is as before.
     pub fn bind(&mut self, alloc: Global, x: Var, c: Closure<'a>) -> Result<Vec<Cond>, Memory>
         requires made { x.num < (present self.old).next }
-        requires unbound { IsUnbound (present self.old).bindings x }
+        requires unbound { IsUnbound (bindings_of self.old) x }
         requires term { IsBelow (present self.old).next (closure_term c) }
-        requires absent { occurs x (under (present self.old).bindings (closure_term c)) ≡ false }
+        requires absent { occurs x (meaning_in self.old c) ≡ false }
         ensures taken { IfOk result (λ conds. conds.items
             ≡ filter (is_on x) (present self.old).conditions) }
         ensures present { OnOk result (present self.new
-            ≡ with_binding x (under (present self.old).bindings (closure_term c.entry))
+            ≡ with_binding x (meaning_in self.old c.entry)
             (present self.old)) }
-        ensures past { OnOk result (GoesOn (versions self.old) (versions self.new)) }
+        ensures past { OnOk result (IsPrefixOf (versions self.old) (versions self.new)) }
         ensures kinds { kinds self.new ≡ kinds self.old }
         ensures unchanged { OnErr result (IsUnchanged self.old self.new) }
     {
@@ -113,7 +113,7 @@ impl<'a> Store<'a> {
         requires { AreOnUnbound (present self.old) conds.now }
         ensures present { OnOk result (present self.new
             ≡ with_conditions conds.now (present self.old)) }
-        ensures past { OnOk result (GoesOn (versions self.old) (versions self.new)) }
+        ensures past { OnOk result (IsPrefixOf (versions self.old) (versions self.new)) }
         ensures kinds { kinds self.new ≡ kinds self.old }
         ensures unchanged { OnErr result (IsUnchanged self.old self.new) }
     {
@@ -163,7 +163,7 @@ impl<'a> Store<'a> {
     /// Whether the variable is so new that neither the closure nor any bound one can have it.
     pub(crate) fn is_new(&self, x: Var, c: &Closure<'_>) -> bool
         ensures { result ≡ true →
-            occurs x (under (present self.now).bindings (closure_term c.now)) ≡ false }
+            occurs x (meaning_in self.now c.now) ≡ false }
     {
         self.reach <= x.num && c.end <= x.num
     }
@@ -202,7 +202,7 @@ impl<'a> Store<'a> {
             ≡ replace_conditions (filter (is_apart x) (present self.old).conditions)
             (present self.old)) }
         ensures room { OnOk result (vec_len self.new.trail < vec_capacity self.new.trail) }
-        ensures past { OnOk result (GoesOn (versions self.old) (versions self.new)) }
+        ensures past { OnOk result (IsPrefixOf (versions self.old) (versions self.new)) }
         ensures kinds { kinds self.new ≡ kinds self.old }
         ensures unchanged { OnErr result (IsUnchanged self.old self.new) }
     {
@@ -222,7 +222,7 @@ impl<'a> Store<'a> {
         requires { AreOnUnbound (present self.old) conds.now }
         ensures present { OnOk result (present self.new
             ≡ with_conditions conds.now (present self.old)) }
-        ensures past { GoesOn (versions self.old) (versions self.new) }
+        ensures past { IsPrefixOf (versions self.old) (versions self.new) }
         ensures kinds { kinds self.new ≡ kinds self.old }
     {
         'adding: for i in (0..conds.len()).rev() {
@@ -236,7 +236,7 @@ impl<'a> Store<'a> {
         requires { AreOnUnbound (present self.old) (c ∷ []) }
         ensures present { OnOk result (present self.new
             ≡ with_conditions (c ∷ []) (present self.old)) }
-        ensures past { GoesOn (versions self.old) (versions self.new) }
+        ensures past { IsPrefixOf (versions self.old) (versions self.new) }
         ensures kinds { kinds self.new ≡ kinds self.old }
         ensures unchanged { OnErr result (IsUnchanged self.old self.new) }
     {
@@ -250,12 +250,12 @@ impl<'a> Store<'a> {
     fn note_binding(&mut self, x: Var, c: Closure<'a>)
         requires room { vec_len self.old.trail < vec_capacity self.old.trail }
         requires made { x.num < (present self.old).next }
-        requires unbound { IsUnbound (present self.old).bindings x }
+        requires unbound { IsUnbound (bindings_of self.old) x }
         requires term { IsBelow (present self.old).next (closure_term c) }
-        requires absent { occurs x (under (present self.old).bindings (closure_term c)) ≡ false }
+        requires absent { occurs x (meaning_in self.old c) ≡ false }
         requires apart { has_on x (present self.old).conditions ≡ false }
         ensures present { present self.new
-            ≡ with_bound x (under (present self.old).bindings (closure_term c.entry))
+            ≡ with_bound x (meaning_in self.old c.entry)
             (present self.old) }
         ensures versions { versions self.new ≡ versions self.old ++ present self.new ∷ [] }
         ensures kinds { kinds self.new ≡ kinds self.old }

@@ -1,10 +1,9 @@
 //! Terms with all bindings carried out.
 
-ghost use Rattle.std.specs.Prelude.{◌≡◌, IfOk};
+ghost use Rattle.std.specs.Prelude.{IfOk, ◌≡◌};
 ghost use Rattle.ap_defs.specs.Substitution.{under};
 ghost use Rattle.ap_defs.specs.Terms.{term_of};
-ghost use Rattle.ap_perm.specs.Closures.{closure_term};
-ghost use Rattle.ap_store.specs.Views.{present};
+ghost use Rattle.ap_store.specs.Views.{meaning_in};
 
 use crate::store::Store;
 use ap_defs::lists::List;
@@ -21,7 +20,7 @@ use std::alloc::Global;
 #[tactic(auto, using(ap_defs::proofs::SpineLemmas::term_within_last, crate::proofs::WalkLemmas::head_stays))]
 fn walk_from<'a>(alloc: Global, store: &Store<'a>, first: Closure<'a>) -> Result<Term, Memory>
     ensures { IfOk result (λ t. term_of t
-        ≡ under (present store.now).bindings (closure_term first.entry)) }
+        ≡ meaning_in store.now first.entry) }
 {
     let mut layers = Vec::new(alloc);
     let mut rest = first;
@@ -54,7 +53,7 @@ impl Store<'_> {
     /// What a closure stands for under the bindings.
     pub fn walk(&self, alloc: Global, c: &Closure<'_>) -> Result<Term, Memory>
         ensures { IfOk result (λ t. term_of t
-            ≡ under (present self.now).bindings (closure_term c.now)) }
+            ≡ meaning_in self.now c.now) }
     {
         walk_from(alloc, self, c.copy(alloc)?)
     }

@@ -25,7 +25,7 @@ use Rattle.ap_work.specs.Reports.{summary_report, work_depth}
 use Rattle.ap_words.specs.declared.Asked.{Asked}
 use Rattle.ap_words.specs.declared.Asked.TheVariants as asked
 use Rattle.ap_top.specs.Report.{Input, Whole, Over, Broken, IsReportOf}
-use Rattle.ap_top.specs.Run.{Change, IsPut, IsUnwritten, IsWritten}
+use Rattle.ap_top.specs.Run.{Change, IsPut, IsUnwritten, IsReportWritten}
 
 -- the status of a report
 abbrev pub IsTold : Status → Type 0
@@ -91,7 +91,7 @@ told_report (Some (asked.Examine depth workers)) Over r is = subst (λ x. IsTold
 told_report (Some (asked.Examine depth workers)) Broken r is = subst (λ x. IsTold x.status) (sym is) tt
 told_report (Some (asked.Work seed size workers)) input r is = told_text (summary_report work_depth) (λ p. tt) (generated seed size) r is
 
-pub written_report : (sink : Change) (r : Report) (s : Status) → IsTold s → s ≡ r.status → sink.faults' ≡ sink.faults → Appends sink.bytes sink.bytes' r.bytes → IsWritten sink r s
+pub written_report : (sink : Change) (r : Report) (s : Status) → IsTold s → s ≡ r.status → sink.faults' ≡ sink.faults → Appends sink.bytes sink.bytes' r.bytes → IsReportWritten sink r s
 written_report sink r status.Ok told is steady whole = (steady, is, whole)
 written_report sink r status.Usage told is steady whole = (steady, is, whole)
 written_report sink r status.Syntax told is steady whole = (steady, is, whole)
@@ -106,9 +106,9 @@ written_report sink r status.NotCovered told is steady whole = (steady, is, whol
 written_report sink r status.NotAProperty told is steady whole = (steady, is, whole)
 
 -- how a report was put tells how it is written
-pub put_written : (sink : Change) (r : Report) (s : Status) → IsTold r.status → IsPut sink r s → IsWritten sink r s
+pub put_written : (sink : Change) (r : Report) (s : Status) → IsTold r.status → IsPut sink r s → IsReportWritten sink r s
 put_written sink r s told (inl h) = written_report sink r s (subst IsTold (sym h.0) told) h.0 h.1 h.2
-put_written sink r s told (inr h) = subst (IsWritten sink r) (sym h.0) (h.1, h.2, h.3)
+put_written sink r s told (inr h) = subst (IsReportWritten sink r) (sym h.0) (h.1, h.2, h.3)
 
 put_told : (sink : Change) (r : Report) (s : Status) → IsTold r.status → IsPut sink r s → s ≡ status.Memory → ⊥
 put_told sink r s told (inl h) is = subst (λ (x : Status). IsTold x) (sym h.0 ∙ is) told

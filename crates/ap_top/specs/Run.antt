@@ -24,9 +24,9 @@ pub record Change : Type 0 where
 
 -- how a report came to the sink, by the status that was returned: after Write its first bytes, which comes
 -- only where the count rose; else all its bytes, and the status is the report's
-abbrev pub IsWritten : Change → Report → Status → Type 0
-IsWritten sink report status.Write = Rose sink.faults sink.faults' × (n : ℕ) × Appends sink.bytes sink.bytes' (take n report.bytes)
-IsWritten sink report other = (sink.faults' ≡ sink.faults) × (other ≡ report.status) × Appends sink.bytes sink.bytes' report.bytes
+abbrev pub IsReportWritten : Change → Report → Status → Type 0
+IsReportWritten sink report status.Write = Rose sink.faults sink.faults' × (n : ℕ) × Appends sink.bytes sink.bytes' (take n report.bytes)
+IsReportWritten sink report other = (sink.faults' ≡ sink.faults) × (other ≡ report.status) × Appends sink.bytes sink.bytes' report.bytes
 
 -- a report was put: whole, with its status, or its first bytes, with the status of a failure
 abbrev pub IsPut : Change → Report → Status → Type 0

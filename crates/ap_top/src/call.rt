@@ -3,7 +3,7 @@ ghost use Rattle.std.specs.Prelude.{◌≡◌, ◌≢◌, IfOk, false, map, stri
 ghost use Rattle.ap_report.specs.declared.report.Report.{Report};
 ghost use Rattle.ap_words.specs.Words.{asked_of};
 ghost use Rattle.ap_top.specs.Report.{Input, IsTheReport, is_reading};
-ghost use Rattle.ap_top.specs.Run.{IsPut, IsRead, IsUnwritten, IsWritten};
+ghost use Rattle.ap_top.specs.Run.{IsPut, IsRead, IsUnwritten, IsReportWritten};
 
 use crate::commands::report_of;
 use crate::lines::line;
@@ -108,7 +108,7 @@ pub fn top<R: Threads + Wait + Sync, S: Source, K: Sink, G: Gate>(
         × (is_reading (asked_of (map string_bytes words.now)) ≡ true →
         IsRead (S.left source.old) (S.faults source.old) (S.faults source.new) input)
         × IsTheReport (map string_bytes words.now) input report
-        × IsWritten (record {
+        × IsReportWritten (record {
           bytes = K.held sink.old;
           bytes' = K.held sink.new;
           faults = K.faults sink.old;

@@ -31,11 +31,11 @@ made_of s = record {
 }
 
 -- how many things were declared, stated and asked
-abbrev pub count : Made → ℕ
-count m = item_count (program_of [] m)
+abbrev pub made_count : Made → ℕ
+made_count m = item_count (program_of [] m)
 
 -- the tables have the words that are declared and the data types that are inhabited, and each predicate has a list of clauses
-pub record IsKept (s : State) : Type 0 where
+pub record AreTablesKept (s : State) : Type 0 where
   pub indexed : IsIndexed s.declared
   pub inhabited : AreInhabitants (declared_of s.declared).signature.constructors s.inhabitants
   pub listed : length s.clauses.items ≡ length s.declared.signature.predicates

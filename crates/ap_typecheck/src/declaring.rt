@@ -6,7 +6,7 @@ ghost use Rattle.std.specs.Option.{option_map};
 ghost use Rattle.ap_scopes.specs.Declarations.{type_named, constructor_place, predicate_place};
 ghost use Rattle.ap_scopes.specs.Views.{declared_of, IsSmall};
 ghost use Rattle.ap_typecheck.specs.Declaring as spec;
-ghost use Rattle.ap_typecheck.specs.Views.{IsKept, made_of};
+ghost use Rattle.ap_typecheck.specs.Views.{AreTablesKept, made_of};
 
 use crate::state::State;
 use ap_defs::goals::Constructor;
@@ -41,11 +41,11 @@ pub fn declare_name_type<'a>(
     state: &mut State<'a>,
     word: &'a str,
 ) -> Result<(), Memory>
-    requires kept { IsKept state.old }
+    requires kept { AreTablesKept state.old }
     requires new { type_named (made_of state.old).declared.signature word.now ≡ None }
     ensures made { OnOk result (made_of state.new
         ≡ spec.with_name_type word.entry.now (made_of state.old)) }
-    ensures kept { OnOk result (IsKept state.new) }
+    ensures kept { OnOk result (AreTablesKept state.new) }
 {
     let text = text_of(alloc, word)?;
     push(alloc, &mut state.declared.signature.name_types, text)?;
@@ -59,11 +59,11 @@ pub fn declare_data_type<'a>(
     state: &mut State<'a>,
     word: &'a str,
 ) -> Result<(), Memory>
-    requires kept { IsKept state.old }
+    requires kept { AreTablesKept state.old }
     requires new { type_named (made_of state.old).declared.signature word.now ≡ None }
     ensures made { OnOk result (made_of state.new
         ≡ spec.with_data_type word.entry.now (made_of state.old)) }
-    ensures kept { OnOk result (IsKept state.new) }
+    ensures kept { OnOk result (AreTablesKept state.new) }
 {
     let text = text_of(alloc, word)?;
     push(alloc, &mut state.declared.signature.data_types, text)?;
@@ -89,13 +89,13 @@ pub fn declare_constructor<'a>(
     args: &[TypeTree<'_>],
     data_type: &str,
 ) -> Result<(), Memory>
-    requires kept { IsKept state.old }
+    requires kept { AreTablesKept state.old }
     requires small { IsSmall state.old.declared }
     requires new { constructor_place (made_of state.old).declared word.now ≡ None }
     ensures made { OnOk result (made_of state.new
         ≡ spec.with_constructor word.entry.now (types_of args.now) data_type.now
         (made_of state.old)) }
-    ensures kept { OnOk result (IsKept state.new) }
+    ensures kept { OnOk result (AreTablesKept state.new) }
 {
     let constructor = Constructor {
         text: text_of(alloc, word)?,
@@ -119,12 +119,12 @@ pub fn declare_predicate<'a>(
     word: &'a str,
     args: &[TypeTree<'_>],
 ) -> Result<(), Memory>
-    requires kept { IsKept state.old }
+    requires kept { AreTablesKept state.old }
     requires small { IsSmall state.old.declared }
     requires new { predicate_place (made_of state.old).declared word.now ≡ None }
     ensures made { OnOk result (made_of state.new
         ≡ spec.with_predicate word.entry.now (types_of args.now) (made_of state.old)) }
-    ensures kept { OnOk result (IsKept state.new) }
+    ensures kept { OnOk result (AreTablesKept state.new) }
 {
     let types = resolved_types(alloc, &state.declared, args)?;
     push(alloc, &mut state.declared.signature.predicates, types)?;

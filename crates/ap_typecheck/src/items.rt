@@ -7,7 +7,7 @@ ghost use Rattle.ap_scopes.specs.Flaws.{item_flaw};
 ghost use Rattle.ap_scopes.specs.Views.{IsSmall};
 ghost use Rattle.ap_typecheck.specs.Checking.{Says, Makes};
 ghost use Rattle.ap_typecheck.specs.Declaring.{with_clause};
-ghost use Rattle.ap_typecheck.specs.Views.{IsKept, IsRefusedItem, made_of};
+ghost use Rattle.ap_typecheck.specs.Views.{AreTablesKept, IsRefusedItem, made_of};
 
 use crate::declaring::{
     declare_constructor, declare_data_type, declare_name_type, declare_predicate,
@@ -25,11 +25,11 @@ use std::alloc::Global;
 
 /// A clause is put behind the others of its predicate.
 fn put_clause(state: &mut State<'_>, clause: Clause<Raw>) -> Result<(), Memory>
-    requires kept { IsKept state.old }
+    requires kept { AreTablesKept state.old }
     requires declared { clause.pred < length state.old.declared.signature.predicates }
     ensures made { OnOk result (made_of state.new
         ≡ with_clause (clause_over raw_of clause) (made_of state.old)) }
-    ensures kept { OnOk result (IsKept state.new) }
+    ensures kept { OnOk result (AreTablesKept state.new) }
 {
     let pred = clause.pred as usize;
     state.clauses[pred].push(clause)?;
@@ -43,12 +43,12 @@ fn add_item<'a>(
     place: Place,
     form: &Form<'a>,
 ) -> Result<(), Refusal>
-    requires kept { IsKept state.old }
+    requires kept { AreTablesKept state.old }
     requires small { IsSmall state.old.declared }
     requires flawless { item_flaw (made_of state.old).declared (form_of form.now) ≡ None }
     ensures made { OnOk result (Says (made_of state.old) place.item place.line (form_of form.now)
         (made_of state.new)) }
-    ensures kept { OnOk result (IsKept state.new) }
+    ensures kept { OnOk result (AreTablesKept state.new) }
     ensures err { IfErr result (λ e. IsRefusedItem e (made_of state.old).declared
         (form_of form.now)) }
 {
@@ -86,13 +86,13 @@ pub fn check_item<'a>(
     place: Place,
     form: &Form<'a>,
 ) -> Result<(), Refusal>
-    requires kept { IsKept state.old }
+    requires kept { AreTablesKept state.old }
     requires small { IsSmall state.old.declared }
     ensures flawless { OnOk result (item_flaw (made_of state.old).declared (form_of form.now)
         ≡ None) }
     ensures made { OnOk result (Says (made_of state.old) place.item place.line (form_of form.now)
         (made_of state.new)) }
-    ensures kept { OnOk result (IsKept state.new) }
+    ensures kept { OnOk result (AreTablesKept state.new) }
     ensures err { IfErr result (λ e. IsRefusedItem e (made_of state.old).declared
         (form_of form.now)) }
 {

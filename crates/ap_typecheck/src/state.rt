@@ -3,7 +3,7 @@ ghost use Rattle.std.specs.Prelude.{◌≡◌, IfOk, map};
 ghost use Rattle.ap_defs.specs.RawTerms.{raw_of};
 ghost use Rattle.ap_defs.specs.Goals.{clause_over, program_over};
 ghost use Rattle.ap_typecheck.specs.Declaring.{nothing_made, program_of};
-ghost use Rattle.ap_typecheck.specs.Views.{IsKept, made_of};
+ghost use Rattle.ap_typecheck.specs.Views.{AreTablesKept, made_of};
 
 use ap_defs::goals::{Clause, Program, Query};
 use ap_defs::lists::{List, Text};
@@ -27,7 +27,7 @@ impl<'a> State<'a> {
     /// Nothing is made yet.
     pub fn new(alloc: Global) -> State<'a>
         ensures made { made_of result ≡ nothing_made }
-        ensures kept { IsKept result }
+        ensures kept { AreTablesKept result }
     {
         State {
             declared: Declarations::new(alloc),

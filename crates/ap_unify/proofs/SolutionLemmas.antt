@@ -3,13 +3,13 @@ use Rattle.std.proofs.Common.{subst, ◌≡◌, ℕ, true, false, List, [], ◌�
 use Rattle.std.proofs.lemmas.List.{append-nil}
 use Rattle.std.specs.Prelude.{Bool, if◌then◌else◌, Option, Some, None}
 use Rattle.ap_defs.specs.Freshness.{Conds, add_cond, add_conds, cond_before, cond_eq, has_cond}
-use Rattle.ap_defs.specs.Renaming.{AreBelow}
+use Rattle.ap_defs.specs.Renaming.{AreBelow, AreBindingsBelow}
 use Rattle.ap_defs.specs.Substitution.{Binding, Problem}
 use Rattle.ap_defs.specs.Terms.{NominalTerm}
 use Rattle.ap_defs.specs.Unification.{Unified, ending, finish, problem_of, reduce_all, solved, unify, unsolvable}
 use Rattle.ap_defs.specs.declared.terms.Cond.{Cond}
 use Rattle.ap_search.proofs.NumberLemmas.{IsUnifiedBelow, unify_below}
-use Rattle.ap_search.specs.FitStates.{AreBindingsBelow, AreCondsBelow}
+use Rattle.ap_search.specs.FitStates.{AreCondsBelow}
 use Rattle.ap_store.specs.Triples.{AreOnUnbound, Triple}
 use Rattle.ap_theory.proofs.ConditionSetLemmas.{cond_eq_tells}
 use Rattle.ap_theory.proofs.IdempotenceLemmas.{ExtendsWell, unify_extends}

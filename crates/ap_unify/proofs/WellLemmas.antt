@@ -1,22 +1,18 @@
 -- What holds of each store, in the words of the laws of search.
-use Rattle.std.proofs.Common.{◌≡◌, ℕ, List, [], ◌∷◌}
+use Rattle.std.proofs.Common.{◌≡◌, [], ◌∷◌}
 use Rattle.ap_defs.specs.Freshness.{Conds}
-use Rattle.ap_defs.specs.Substitution.{Binding, under, ◌:=◌}
+use Rattle.ap_defs.specs.Substitution.{under}
 use Rattle.ap_defs.specs.Terms.{NominalTerm}
 use Rattle.ap_perm.specs.Lookups.{carried_out}
 use Rattle.ap_search.specs.FitStates as search
 use Rattle.ap_store.proofs.AscendingLemmas.{ascending_is_set}
 use Rattle.ap_store.proofs.StoreLemmas.{carried_out_under, well_formed}
 use Rattle.ap_store.specs.Triples.{AreOnUnbound, Triple}
-use Rattle.ap_store.specs.Views.{present, rank, raw_bound}
-use Rattle.ap_store.specs.WellFormed.{AreBindingsBelow, IsWellFormed}
+use Rattle.ap_store.specs.Views.{bindings_of, present, rank, raw_bound}
+use Rattle.ap_store.specs.WellFormed.{IsWellFormed}
 use Rattle.ap_store.specs.declared.store.Store.{Store}
 use Rattle.ap_theory.specs.Variables.{EachCond, IsUnbound}
 use Rattle.ap_unify.proofs.SolutionLemmas.{IsWell}
-
-bindings_below : (n : ℕ) (bs : List Binding) → AreBindingsBelow n bs → search.AreBindingsBelow n bs
-bindings_below n [] h = tt
-bindings_below n ((x := t) ∷ bs) h = (h.0, bindings_below n bs h.1)
 
 conds_below : (a : Triple) (cs : Conds) → AreOnUnbound a cs → search.AreCondsBelow a.next cs
 conds_below a [] h = tt
@@ -28,7 +24,7 @@ conds_unbound a (c ∷ cs) h = (h.0.2, conds_unbound a cs h.1)
 
 is_well : (a : Triple) → IsWellFormed a → IsWell a
 is_well a h = record {
-  bindings = bindings_below a.next a.bindings h.below;
+  bindings = h.below;
   conditions = conds_below a a.conditions h.unbound;
   idempotent = h.idempotent;
   unbound = conds_unbound a a.conditions h.unbound;
@@ -39,5 +35,5 @@ pub well : (s : Store) → IsWell (present s)
 well s = is_well (present s) (well_formed s)
 
 -- with every binding followed, a term is what it is under the bindings
-pub looked : (s : Store) (t : NominalTerm) → carried_out (raw_bound s) (rank s) t ≡ under (present s).bindings t
+pub looked : (s : Store) (t : NominalTerm) → carried_out (raw_bound s) (rank s) t ≡ under (bindings_of s) t
 looked = carried_out_under

@@ -15,7 +15,7 @@ use Rattle.ap_perm.specs.Closures.{closure_term, opened_term}
 use Rattle.ap_perm.specs.declared.closures.Opened.{Opened}
 use Rattle.ap_perm.specs.declared.closures.Opened.TheVariants as parts
 use Rattle.ap_store.specs.Heads.{IsHeadUnbound}
-use Rattle.ap_store.specs.Triples.{GoesOn, Triple, is_on, with_binding}
+use Rattle.ap_store.specs.Triples.{IsPrefixOf, Triple, is_on, with_binding}
 use Rattle.ap_theory.proofs.IdempotenceLemmas.{bound_term_unbound}
 use Rattle.ap_theory.specs.Variables.{IsUnbound}
 use Rattle.ap_unify.proofs.FinishLemmas.{taken_more}
@@ -123,7 +123,7 @@ go_on_on a b c u v w h k = record {
   conditions = λ ds p. k.conditions ds (h.conditions ds p);
 }
 
-pub goes_on_on : (as' bs cs : List Triple) → GoesOn as' bs → GoesOn bs cs → GoesOn as' cs
+pub goes_on_on : (as' bs cs : List Triple) → IsPrefixOf as' bs → IsPrefixOf bs cs → IsPrefixOf as' cs
 goes_on_on as' bs cs (es, e) (fs, f) = (es ++ fs, f ∙ ap (λ z. z ++ fs) e ∙ append_assoc as' es fs)
 
 pub no_equation : (s : List Binding) (w : Work) → w.equations.items ≡ [] → step (work_stage s w) ≡ done

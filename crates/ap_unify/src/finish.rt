@@ -4,8 +4,8 @@ ghost use Rattle.std.specs.Prelude.{◌≡◌, ◌++◌, Some, IfOk, map};
 ghost use Rattle.ap_defs.specs.Freshness.{Conds};
 ghost use Rattle.ap_defs.specs.Unification.{problem_of, reduce_all};
 ghost use Rattle.ap_fresh.specs.Reduction.{added};
-ghost use Rattle.ap_store.specs.Triples.{AreOnUnbound, GoesOn};
-ghost use Rattle.ap_store.specs.Views.{kinds, present, versions};
+ghost use Rattle.ap_store.specs.Triples.{AreOnUnbound, IsPrefixOf};
+ghost use Rattle.ap_store.specs.Views.{bindings_of, kinds, present, versions};
 ghost use Rattle.ap_theory.specs.StatementsOnConditions.{collected};
 ghost use Rattle.ap_unify.specs.Finishing.{items_in, reduced, some_if, with_kept};
 ghost use Rattle.ap_unify.specs.Work.{problem_for, problems_met};
@@ -24,7 +24,7 @@ fn reduce_one<'a>(
     p: &FreshFor<'a>,
     conds: &mut Vec<Cond>,
 ) -> Result<bool, Memory>
-    ensures { IfOk result (λ fine. added (reduced (present store.now).bindings (problem_for p.now))
+    ensures { IfOk result (λ fine. added (reduced (bindings_of store.now) (problem_for p.now))
         conds.old.items ≡ some_if fine conds.new.items) }
 {
     match p {
@@ -40,7 +40,7 @@ fn reduce_each<'a>(
     problems: &[FreshFor<'a>],
     conds: &mut Vec<Cond>,
 ) -> Result<bool, Memory>
-    ensures { IfOk result (λ fine. added (reduce_all (present store.now).bindings
+    ensures { IfOk result (λ fine. added (reduce_all (bindings_of store.now)
         (map problem_for problems.now)) conds.old.items ≡ some_if fine conds.new.items) }
 {
     'reducing: for i in (0..problems.len()).rev() {
@@ -58,7 +58,7 @@ fn reduce_taken<'a>(
     taken: &[Cond],
     conds: &mut Vec<Cond>,
 ) -> Result<bool, Memory>
-    ensures { IfOk result (λ fine. added (reduce_all (present store.now).bindings
+    ensures { IfOk result (λ fine. added (reduce_all (bindings_of store.now)
         (map problem_of taken.now)) conds.old.items ≡ some_if fine conds.new.items) }
 {
     'reducing: for i in (0..taken.len()).rev() {
@@ -76,7 +76,7 @@ fn reduce_met<'a>(
     store: &Store<'a>,
     work: &Work<'a>,
 ) -> Result<Option<Vec<Cond>>, Memory>
-    ensures { IfOk result (λ o. collected (reduce_all (present store.now).bindings (map problem_of
+    ensures { IfOk result (λ o. collected (reduce_all (bindings_of store.now) (map problem_of
         work.now.taken.items ++ problems_met work.now)) ≡ items_in o) }
 {
     let mut conds = Vec::new(alloc);
@@ -94,14 +94,14 @@ fn reduce_met<'a>(
 /// answers false where one is refuted.
 pub fn finish<'a>(alloc: Global, store: &mut Store<'a>, work: &Work<'a>) -> Result<bool, Memory>
     requires { (cs : Conds) →
-        collected (reduce_all (present store.old).bindings (map problem_of work.now.taken.items
+        collected (reduce_all (bindings_of store.old) (map problem_of work.now.taken.items
         ++ problems_met work.now)) ≡ Some cs → AreOnUnbound (present store.old) cs }
     ensures conditions { IfOk result (λ fine. with_kept (present store.old).conditions (reduce_all
-        (present store.old).bindings (map problem_of work.now.taken.items ++ problems_met work.now))
+        (bindings_of store.old) (map problem_of work.now.taken.items ++ problems_met work.now))
         ≡ some_if fine (present store.new).conditions) }
-    ensures bindings { (present store.new).bindings ≡ (present store.old).bindings }
+    ensures bindings { bindings_of store.new ≡ bindings_of store.old }
     ensures next { (present store.new).next ≡ (present store.old).next }
-    ensures past { GoesOn (versions store.old) (versions store.new) }
+    ensures past { IsPrefixOf (versions store.old) (versions store.new) }
     ensures kinds { kinds store.new ≡ kinds store.old }
 {
     match reduce_met(alloc, store, work)? {

@@ -7,8 +7,8 @@ ghost use Rattle.ap_defs.specs.Resolution.{fresh_for_each};
 ghost use Rattle.ap_defs.specs.Substitution.{under};
 ghost use Rattle.ap_defs.specs.Unification.{reduce_all};
 ghost use Rattle.ap_perm.specs.Closures.{closure_term};
-ghost use Rattle.ap_store.specs.Triples.{GoesOn};
-ghost use Rattle.ap_store.specs.Views.{IsUnchanged, kinds, present, versions};
+ghost use Rattle.ap_store.specs.Triples.{IsPrefixOf};
+ghost use Rattle.ap_store.specs.Views.{IsUnchanged, bindings_of, kinds, meaning_in, present, versions};
 ghost use Rattle.ap_unify.specs.Unified.{AreVarsBelow, IsReduced};
 
 use crate::reducing::{reduce_closure, reduce_vars};
@@ -33,9 +33,9 @@ pub fn make_fresh<'a>(
 ) -> Result<bool, Memory>
     requires name { a.num < (present store.old).next }
     requires term { IsBelow (present store.old).next (closure_term t.now) }
-    ensures defined { IfOk result (λ fresh. IsReduced (reduce a (under (present store.old).bindings
-        (closure_term t.now))) (present store.old) fresh (present store.new)) }
-    ensures past { GoesOn (versions store.old) (versions store.new) }
+    ensures defined { IfOk result (λ fresh. IsReduced (reduce a (meaning_in store.old t.now))
+        (present store.old) fresh (present store.new)) }
+    ensures past { IsPrefixOf (versions store.old) (versions store.new) }
     ensures kinds { kinds store.new ≡ kinds store.old }
     ensures failed { IfOk result (λ fresh. fresh ≡ false → IsUnchanged store.old store.new) }
     ensures unchanged { OnErr result (IsUnchanged store.old store.new) }
@@ -62,9 +62,9 @@ pub fn make_fresh_for_each<'a>(
 ) -> Result<bool, Memory>
     requires name { a.num < (present store.old).next }
     requires vars { AreVarsBelow (present store.old).next vars.now }
-    ensures defined { IfOk result (λ fresh. IsReduced (reduce_all (present store.old).bindings
+    ensures defined { IfOk result (λ fresh. IsReduced (reduce_all (bindings_of store.old)
         (fresh_for_each a vars.now)) (present store.old) fresh (present store.new)) }
-    ensures past { GoesOn (versions store.old) (versions store.new) }
+    ensures past { IsPrefixOf (versions store.old) (versions store.new) }
     ensures kinds { kinds store.new ≡ kinds store.old }
     ensures failed { IfOk result (λ fresh. fresh ≡ false → IsUnchanged store.old store.new) }
     ensures unchanged { OnErr result (IsUnchanged store.old store.new) }

@@ -3,12 +3,12 @@
 ghost use Rattle.std.specs.Prelude.{◌≡◌, [], ◌∷◌, ◌<◌, false, IfOk};
 ghost use Rattle.ap_defs.specs.Permutations.{inverse, swap_of};
 ghost use Rattle.ap_defs.specs.Renaming.{AreSwapsBelow, IsBelow};
-ghost use Rattle.ap_defs.specs.Substitution.{◌#◌, ◌≐◌, occurs, under};
+ghost use Rattle.ap_defs.specs.Substitution.{occurs, ◌#◌, ◌≐◌};
 ghost use Rattle.ap_defs.specs.Terms.{abs, act_term, susp};
 ghost use Rattle.ap_defs.specs.Unification.{bind, replace, rule, unless_occurs};
 ghost use Rattle.ap_perm.specs.Closures.{closure_term, opened_term};
 ghost use Rattle.ap_store.specs.Heads.{IsHeadUnbound};
-ghost use Rattle.ap_store.specs.Views.{present};
+ghost use Rattle.ap_store.specs.Views.{bindings_of, meaning_in, present};
 ghost use Rattle.ap_theory.specs.Variables.{IsUnbound};
 ghost use Rattle.ap_unify.specs.Work.{HasForm, IsMoveFit, IsSuspension, move_under, opened_under};
 
@@ -94,14 +94,13 @@ fn bind_to<'a>(
     c: Closure<'a>,
 ) -> Result<Move<'a>, Memory>
     requires made { x.num < (present store.now).next }
-    requires unbound { IsUnbound (present store.now).bindings x }
+    requires unbound { IsUnbound (bindings_of store.now) x }
     requires swaps { AreSwapsBelow (present store.now).next p.now }
     requires below { IsBelow (present store.now).next (closure_term c) }
-    requires absent { occurs x (under (present store.now).bindings (closure_term c)) ≡ false }
-    ensures rule { IfOk result (λ m. move_under (present store.now).bindings m
-        ≡ bind x (act_term (inverse p.now) (under (present store.now).bindings
-        (closure_term c.entry)))) }
-    ensures fit { IfOk result (λ m. IsMoveFit (present store.now).bindings (present store.now).next
+    requires absent { occurs x (meaning_in store.now c) ≡ false }
+    ensures rule { IfOk result (λ m. move_under (bindings_of store.now) m
+        ≡ bind x (act_term (inverse p.now) (meaning_in store.now c.entry))) }
+    ensures fit { IfOk result (λ m. IsMoveFit (bindings_of store.now) (present store.now).next
         m) }
 {
     let moved = moved_back(alloc, p, c)?;
@@ -117,13 +116,13 @@ fn bind_unless_occurs<'a>(
     c: Closure<'a>,
 ) -> Result<Move<'a>, Memory>
     requires made { x.num < (present store.now).next }
-    requires unbound { IsUnbound (present store.now).bindings x }
+    requires unbound { IsUnbound (bindings_of store.now) x }
     requires swaps { AreSwapsBelow (present store.now).next p.now }
     requires below { IsBelow (present store.now).next (closure_term c) }
-    ensures rule { IfOk result (λ m. move_under (present store.now).bindings m
-        ≡ unless_occurs x (under (present store.now).bindings (closure_term c.entry)) (act_term
-        (inverse p.now) (under (present store.now).bindings (closure_term c.entry)))) }
-    ensures fit { IfOk result (λ m. IsMoveFit (present store.now).bindings (present store.now).next
+    ensures rule { IfOk result (λ m. move_under (bindings_of store.now) m
+        ≡ unless_occurs x (meaning_in store.now c.entry) (act_term
+        (inverse p.now) (meaning_in store.now c.entry))) }
+    ensures fit { IfOk result (λ m. IsMoveFit (bindings_of store.now) (present store.now).next
         m) }
 {
     if store.occurs(x, &c) {
@@ -144,19 +143,19 @@ fn suspensions<'a>(
     y: Var,
     right: Closure<'a>,
 ) -> Result<Move<'a>, Memory>
-    requires left { under (present store.now).bindings (closure_term left) ≡ susp p.now x }
-    requires right { under (present store.now).bindings (closure_term right) ≡ susp q.now y }
-    requires left_unbound { IsUnbound (present store.now).bindings x }
-    requires right_unbound { IsUnbound (present store.now).bindings y }
+    requires left { meaning_in store.now left ≡ susp p.now x }
+    requires right { meaning_in store.now right ≡ susp q.now y }
+    requires left_unbound { IsUnbound (bindings_of store.now) x }
+    requires right_unbound { IsUnbound (bindings_of store.now) y }
     requires left_swaps { AreSwapsBelow (present store.now).next p.now }
     requires right_swaps { AreSwapsBelow (present store.now).next q.now }
     requires left_made { x.num < (present store.now).next }
     requires right_made { y.num < (present store.now).next }
     requires left_below { IsBelow (present store.now).next (closure_term left) }
     requires right_below { IsBelow (present store.now).next (closure_term right) }
-    ensures rule { IfOk result (λ m. move_under (present store.now).bindings m
+    ensures rule { IfOk result (λ m. move_under (bindings_of store.now) m
         ≡ rule (susp p.now x) (susp q.now y)) }
-    ensures fit { IfOk result (λ m. IsMoveFit (present store.now).bindings (present store.now).next
+    ensures fit { IfOk result (λ m. IsMoveFit (bindings_of store.now) (present store.now).next
         m) }
 {
     if x.num == y.num {
@@ -184,11 +183,11 @@ fn exchanged<'a>(
         × IsBelow (present store.now).next (closure_term t) }
     requires right { (b.num < (present store.now).next)
         × IsBelow (present store.now).next (closure_term u) }
-    ensures rule { IfOk result (λ m. move_under (present store.now).bindings m
-        ≡ replace ((under (present store.now).bindings (closure_term t.entry) ≐ act_term
-        (swap_of a b ∷ []) (under (present store.now).bindings (closure_term u.entry))) ∷ []) ((a #
-        under (present store.now).bindings (closure_term u.entry)) ∷ [])) }
-    ensures fit { IfOk result (λ m. IsMoveFit (present store.now).bindings (present store.now).next
+    ensures rule { IfOk result (λ m. move_under (bindings_of store.now) m
+        ≡ replace ((meaning_in store.now t.entry ≐ act_term
+        (swap_of a b ∷ []) (meaning_in store.now u.entry)) ∷ []) ((a #
+        meaning_in store.now u.entry) ∷ [])) }
+    ensures fit { IfOk result (λ m. IsMoveFit (bindings_of store.now) (present store.now).next
         m) }
 {
     let swap = [Swap {
@@ -215,10 +214,9 @@ fn abstractions<'a>(
         × IsBelow (present store.now).next (closure_term t) }
     requires right { (b.num < (present store.now).next)
         × IsBelow (present store.now).next (closure_term u) }
-    ensures rule { IfOk result (λ m. move_under (present store.now).bindings m
-        ≡ rule (abs a (under (present store.now).bindings (closure_term t.entry))) (abs b (under
-        (present store.now).bindings (closure_term u.entry)))) }
-    ensures fit { IfOk result (λ m. IsMoveFit (present store.now).bindings (present store.now).next
+    ensures rule { IfOk result (λ m. move_under (bindings_of store.now) m
+        ≡ rule (abs a (meaning_in store.now t.entry)) (abs b (meaning_in store.now u.entry))) }
+    ensures fit { IfOk result (λ m. IsMoveFit (bindings_of store.now) (present store.now).next
         m) }
 {
     if a == b {
@@ -242,10 +240,10 @@ fn rule_for_opened<'a>(
     requires right_form { HasForm (opened_term right) }
     requires left_below { IsBelow (present store.now).next (opened_term left) }
     requires right_below { IsBelow (present store.now).next (opened_term right) }
-    ensures rule { IfOk result (λ m. move_under (present store.now).bindings m
-        ≡ rule (opened_under (present store.now).bindings left.entry) (opened_under
-        (present store.now).bindings right.entry)) }
-    ensures fit { IfOk result (λ m. IsMoveFit (present store.now).bindings (present store.now).next
+    ensures rule { IfOk result (λ m. move_under (bindings_of store.now) m
+        ≡ rule (opened_under (bindings_of store.now) left.entry) (opened_under
+        (bindings_of store.now) right.entry)) }
+    ensures fit { IfOk result (λ m. IsMoveFit (bindings_of store.now) (present store.now).next
         m) }
 {
     match (left, right) {
@@ -286,10 +284,9 @@ fn rule_for_parts<'a>(
     requires right_form { HasForm (closure_term right) }
     requires left_below { IsBelow (present store.now).next (closure_term left) }
     requires right_below { IsBelow (present store.now).next (closure_term right) }
-    ensures rule { IfOk result (λ m. move_under (present store.now).bindings m
-        ≡ rule (under (present store.now).bindings (closure_term left.entry)) (under
-        (present store.now).bindings (closure_term right.entry))) }
-    ensures fit { IfOk result (λ m. IsMoveFit (present store.now).bindings (present store.now).next
+    ensures rule { IfOk result (λ m. move_under (bindings_of store.now) m
+        ≡ rule (meaning_in store.now left.entry) (meaning_in store.now right.entry)) }
+    ensures fit { IfOk result (λ m. IsMoveFit (bindings_of store.now) (present store.now).next
         m) }
 {
     let opened_left = left.open(alloc)?;
@@ -306,17 +303,16 @@ fn rule_for_one<'a>(
     c: Closure<'a>,
 ) -> Result<Move<'a>, Memory>
     requires made { s.now.var.num < (present store.now).next }
-    requires unbound { IsUnbound (present store.now).bindings s.now.var }
+    requires unbound { IsUnbound (bindings_of store.now) s.now.var }
     requires swaps { AreSwapsBelow (present store.now).next s.now.swaps.items }
     requires form { HasForm (closure_term c) }
     requires below { IsBelow (present store.now).next (closure_term c) }
-    ensures left { IfOk result (λ m. move_under (present store.now).bindings m
-        ≡ rule (susp s.now.swaps.items s.now.var) (under (present store.now).bindings
-        (closure_term c.entry))) }
-    ensures right { IfOk result (λ m. move_under (present store.now).bindings m
-        ≡ rule (under (present store.now).bindings (closure_term c.entry))
+    ensures left { IfOk result (λ m. move_under (bindings_of store.now) m
+        ≡ rule (susp s.now.swaps.items s.now.var) (meaning_in store.now c.entry)) }
+    ensures right { IfOk result (λ m. move_under (bindings_of store.now) m
+        ≡ rule (meaning_in store.now c.entry)
         (susp s.now.swaps.items s.now.var)) }
-    ensures fit { IfOk result (λ m. IsMoveFit (present store.now).bindings (present store.now).next
+    ensures fit { IfOk result (λ m. IsMoveFit (bindings_of store.now) (present store.now).next
         m) }
 {
     bind_unless_occurs(alloc, store, &s.swaps, s.var, c)
@@ -329,14 +325,13 @@ pub fn rule_for<'a>(
     left: Closure<'a>,
     right: Closure<'a>,
 ) -> Result<Move<'a>, Memory>
-    requires left_unbound { IsHeadUnbound (present store.now).bindings (closure_term left) }
-    requires right_unbound { IsHeadUnbound (present store.now).bindings (closure_term right) }
+    requires left_unbound { IsHeadUnbound (bindings_of store.now) (closure_term left) }
+    requires right_unbound { IsHeadUnbound (bindings_of store.now) (closure_term right) }
     requires left_below { IsBelow (present store.now).next (closure_term left) }
     requires right_below { IsBelow (present store.now).next (closure_term right) }
-    ensures rule { IfOk result (λ m. move_under (present store.now).bindings m
-        ≡ rule (under (present store.now).bindings (closure_term left.entry)) (under
-        (present store.now).bindings (closure_term right.entry))) }
-    ensures fit { IfOk result (λ m. IsMoveFit (present store.now).bindings (present store.now).next
+    ensures rule { IfOk result (λ m. move_under (bindings_of store.now) m
+        ≡ rule (meaning_in store.now left.entry) (meaning_in store.now right.entry)) }
+    ensures fit { IfOk result (λ m. IsMoveFit (bindings_of store.now) (present store.now).next
         m) }
 {
     let on_left = suspension_of(alloc, &left)?;

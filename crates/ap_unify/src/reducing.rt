@@ -7,8 +7,7 @@ ghost use Rattle.ap_defs.specs.Substitution.{under};
 ghost use Rattle.ap_defs.specs.Terms.{susp};
 ghost use Rattle.ap_defs.specs.Unification.{reduce_all};
 ghost use Rattle.ap_fresh.specs.Reduction.{added};
-ghost use Rattle.ap_perm.specs.Closures.{closure_term};
-ghost use Rattle.ap_store.specs.Views.{present};
+ghost use Rattle.ap_store.specs.Views.{bindings_of, meaning_in};
 ghost use Rattle.ap_unify.specs.Finishing.{some_if};
 
 use ap_defs::memory::Memory;
@@ -27,8 +26,8 @@ pub fn reduce_closure<'a>(
     c: &Closure<'_>,
     conds: &mut Vec<Cond>,
 ) -> Result<bool, Memory>
-    ensures { IfOk result (λ fine. added (reduce a (under (present store.now).bindings
-        (closure_term c.now))) conds.old.items ≡ some_if fine conds.new.items) }
+    ensures { IfOk result (λ fine. added (reduce a (meaning_in store.now c.now)) conds.old.items
+        ≡ some_if fine conds.new.items) }
 {
     match add_reduced(a, c, store, conds) {
         Ok(()) => Ok(true),
@@ -46,7 +45,7 @@ pub fn reduce_var<'a>(
     x: Var,
     conds: &mut Vec<Cond>,
 ) -> Result<bool, Memory>
-    ensures { IfOk result (λ fine. added (reduce a (under (present store.now).bindings (susp [] x)))
+    ensures { IfOk result (λ fine. added (reduce a (under (bindings_of store.now) (susp [] x)))
         conds.old.items ≡ some_if fine conds.new.items) }
 {
     match add_reduced_var(a, x, store, conds) {
@@ -64,7 +63,7 @@ pub fn reduce_vars<'a>(
     vars: &[Var],
     conds: &mut Vec<Cond>,
 ) -> Result<bool, Memory>
-    ensures { IfOk result (λ fine. added (reduce_all (present store.now).bindings
+    ensures { IfOk result (λ fine. added (reduce_all (bindings_of store.now)
         (fresh_for_each a vars.now)) conds.old.items ≡ some_if fine conds.new.items) }
 {
     'reducing: for i in (0..vars.len()).rev() {

@@ -1,15 +1,15 @@
 //! Unification of lists of terms.
 
-ghost use Rattle.std.specs.Prelude.{◌≡◌, ◌&&◌, [], false, true, IfOk, OnErr, length, map};
+ghost use Rattle.std.specs.Prelude.{◌≡◌, ◌&&◌, [], false, true, IfOk, OnErr, length};
 ghost use Rattle.ap_defs.specs.Groundings.{Grounding};
 ghost use Rattle.ap_defs.specs.Renaming.{AreBelow};
 ghost use Rattle.ap_defs.specs.Unification.{unify as unify_lem};
-ghost use Rattle.ap_store.specs.Triples.{GoesOn};
-ghost use Rattle.ap_store.specs.Views.{IsUnchanged, kinds, present, versions};
+ghost use Rattle.ap_store.specs.Triples.{IsPrefixOf};
+ghost use Rattle.ap_store.specs.Views.{IsUnchanged, bindings_of, kinds, present, versions};
 ghost use Rattle.ap_unify.specs.Lists.{terms_in};
 ghost use Rattle.ap_unify.specs.Runs.{paired};
 ghost use Rattle.ap_unify.specs.Unified.{IsResult, is_of, solves};
-ghost use Rattle.ap_unify.specs.Work.{ArePairsBelow, equations_left};
+ghost use Rattle.ap_unify.specs.Work.{equations_left};
 
 use crate::finish::finish;
 use crate::pairs::{ClosurePair, Work};
@@ -55,10 +55,10 @@ fn unify_forward<'a>(
     requires right { AreBelow right.end (terms_in right) }
     requires left_made { AreBelow (present store.old).next (terms_in left) }
     requires right_made { AreBelow (present store.old).next (terms_in right) }
-    ensures defined { IfOk result (λ solved. IsResult (unify_lem (present store.old).bindings
+    ensures defined { IfOk result (λ solved. IsResult (unify_lem (bindings_of store.old)
         (present store.old).conditions (terms_in left.entry) (terms_in right.entry))
         (present store.old) solved (present store.new)) }
-    ensures past { GoesOn (versions store.old) (versions store.new) }
+    ensures past { IsPrefixOf (versions store.old) (versions store.new) }
     ensures kinds { kinds store.new ≡ kinds store.old }
 {
     let mut work = first_work(alloc, left, right)?;
@@ -85,14 +85,14 @@ pub fn unify<'a>(
     requires left_made { AreBelow (present store.old).next (terms_in left) }
     requires right_made { AreBelow (present store.old).next (terms_in right) }
     // The answer and the bindings, conditions and next number are those of the rules.
-    ensures defined { IfOk result (λ solved. IsResult (unify_lem (present store.old).bindings
+    ensures defined { IfOk result (λ solved. IsResult (unify_lem (bindings_of store.old)
         (present store.old).conditions (terms_in left.entry) (terms_in right.entry))
         (present store.old) solved (present store.new)) }
     // The groundings of the new bindings and conditions are those of the old ones that make the two sides at each place equal.
     ensures instances { IfOk result (λ solved. (g : Grounding) →
         solves g (present store.old) (terms_in left.entry) (terms_in right.entry)
         ≡ (solved && is_of g (present store.new))) }
-    ensures past { GoesOn (versions store.old) (versions store.new) }
+    ensures past { IsPrefixOf (versions store.old) (versions store.new) }
     ensures kinds { kinds store.new ≡ kinds store.old }
     ensures failed { IfOk result (λ solved. solved ≡ false → IsUnchanged store.old store.new) }
     ensures unchanged { OnErr result (IsUnchanged store.old store.new) }

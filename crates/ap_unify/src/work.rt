@@ -2,11 +2,11 @@
 
 ghost use Rattle.std.specs.Prelude.{◌≡◌, ◌<◌, ◌∷◌, [], ◌++◌, false, true, IfOk, OnOk, map, vec_len};
 ghost use Rattle.ap_defs.specs.Renaming.{IsBelow};
-ghost use Rattle.ap_defs.specs.Substitution.{◌#◌, occurs, under};
+ghost use Rattle.ap_defs.specs.Substitution.{occurs, ◌#◌};
 ghost use Rattle.ap_defs.specs.Unification.{apply_rule, bind, ending, fresh_for, next, rule, step};
 ghost use Rattle.ap_perm.specs.Closures.{closure_term};
-ghost use Rattle.ap_store.specs.Triples.{GoesOn};
-ghost use Rattle.ap_store.specs.Views.{kinds, present, versions};
+ghost use Rattle.ap_store.specs.Triples.{IsPrefixOf};
+ghost use Rattle.ap_store.specs.Views.{bindings_of, kinds, meaning_in, present, versions};
 ghost use Rattle.ap_theory.specs.Variables.{IsUnbound};
 ghost use Rattle.ap_unify.specs.Runs.{equation_under, problem_under};
 ghost use Rattle.ap_unify.specs.Work.{ArePairsBelow, GoOn, IsMoveFit, IsPairBelow, ending_if, equations_left, move_under, problems_met, progress_if, work_stage};
@@ -87,15 +87,15 @@ fn bind_var<'a>(
     c: Closure<'a>,
 ) -> Result<(), Memory>
     requires made { x.num < (present store.old).next }
-    requires unbound { IsUnbound (present store.old).bindings x }
+    requires unbound { IsUnbound (bindings_of store.old) x }
     requires below { IsBelow (present store.old).next (closure_term c) }
-    requires absent { occurs x (under (present store.old).bindings (closure_term c)) ≡ false }
-    ensures stage { OnOk result (next (work_stage (present store.new).bindings work.new)
-        ≡ apply_rule (bind x (under (present store.old).bindings (closure_term c.entry))) (map
-        (equation_under (present store.old).bindings) (equations_left work.old)) (map (problem_under
-        (present store.old).bindings) (problems_met work.old)) (present store.old).bindings) }
+    requires absent { occurs x (meaning_in store.old c) ≡ false }
+    ensures stage { OnOk result (next (work_stage (bindings_of store.new) work.new)
+        ≡ apply_rule (bind x (meaning_in store.old c.entry)) (map
+        (equation_under (bindings_of store.old)) (equations_left work.old)) (map (problem_under
+        (bindings_of store.old)) (problems_met work.old)) (bindings_of store.old)) }
     ensures goes_on { OnOk result (GoOn (present store.old) work.old (present store.new) work.new) }
-    ensures past { GoesOn (versions store.old) (versions store.new) }
+    ensures past { IsPrefixOf (versions store.old) (versions store.new) }
     ensures kinds { kinds store.new ≡ kinds store.old }
 {
     let mut taken = store.bind(alloc, x, c)?;
@@ -111,14 +111,14 @@ fn carry_out<'a>(
     work: &mut Work<'a>,
     m: Move<'a>,
 ) -> Result<bool, Memory>
-    requires { IsMoveFit (present store.old).bindings (present store.old).next m }
+    requires { IsMoveFit (bindings_of store.old) (present store.old).next m }
     ensures stage { IfOk result (λ goes_on. progress_if goes_on (work_stage
-        (present store.new).bindings work.new)
-        ≡ apply_rule (move_under (present store.old).bindings m.entry) (map (equation_under
-        (present store.old).bindings) (equations_left work.old)) (map (problem_under
-        (present store.old).bindings) (problems_met work.old)) (present store.old).bindings) }
+        (bindings_of store.new) work.new)
+        ≡ apply_rule (move_under (bindings_of store.old) m.entry) (map (equation_under
+        (bindings_of store.old)) (equations_left work.old)) (map (problem_under
+        (bindings_of store.old)) (problems_met work.old)) (bindings_of store.old)) }
     ensures goes_on { OnOk result (GoOn (present store.old) work.old (present store.new) work.new) }
-    ensures past { GoesOn (versions store.old) (versions store.new) }
+    ensures past { IsPrefixOf (versions store.old) (versions store.new) }
     ensures kinds { kinds store.new ≡ kinds store.old }
 {
     match m {
@@ -150,10 +150,9 @@ fn carry_out<'a>(
 /// The rule for two closures, once bound variables at their heads are followed.
 fn rule_at<'a>(alloc: Global, store: &Store<'a>, e: ClosurePair<'a>) -> Result<Move<'a>, Memory>
     requires { IsPairBelow (present store.now).next e }
-    ensures rule { IfOk result (λ m. move_under (present store.now).bindings m
-        ≡ rule (under (present store.now).bindings (closure_term e.entry.left)) (under
-        (present store.now).bindings (closure_term e.entry.right))) }
-    ensures fit { IfOk result (λ m. IsMoveFit (present store.now).bindings (present store.now).next
+    ensures rule { IfOk result (λ m. move_under (bindings_of store.now) m
+        ≡ rule (meaning_in store.now e.entry.left) (meaning_in store.now e.entry.right)) }
+    ensures fit { IfOk result (λ m. IsMoveFit (bindings_of store.now) (present store.now).next
         m) }
 {
     let ClosurePair { left, right } = e;
@@ -167,10 +166,10 @@ fn advance<'a>(alloc: Global, store: &mut Store<'a>, work: &mut Work<'a>) -> Res
     requires some { 0 < vec_len work.old.equations }
     requires below { ArePairsBelow (present store.old).next work.old.equations.items }
     ensures stage { IfOk result (λ goes_on. progress_if goes_on (work_stage
-        (present store.new).bindings work.new)
-        ≡ step (work_stage (present store.old).bindings work.old)) }
+        (bindings_of store.new) work.new)
+        ≡ step (work_stage (bindings_of store.old) work.old)) }
     ensures goes_on { OnOk result (GoOn (present store.old) work.old (present store.new) work.new) }
-    ensures past { GoesOn (versions store.old) (versions store.new) }
+    ensures past { IsPrefixOf (versions store.old) (versions store.new) }
     ensures kinds { kinds store.new ≡ kinds store.old }
 {
     let Some(first) = work.equations.pop() else {
@@ -183,11 +182,11 @@ fn advance<'a>(alloc: Global, store: &mut Store<'a>, work: &mut Work<'a>) -> Res
 /// Rewrites equations from the first, until none is left or there is no solution.
 pub fn run<'a>(alloc: Global, store: &mut Store<'a>, work: &mut Work<'a>) -> Result<bool, Memory>
     requires { ArePairsBelow (present store.old).next work.old.equations.items }
-    ensures ending { IfOk result (λ solved. ending (work_stage (present store.old).bindings
-        work.old) ≡ ending_if solved (work_stage (present store.new).bindings work.new)) }
+    ensures ending { IfOk result (λ solved. ending (work_stage (bindings_of store.old)
+        work.old) ≡ ending_if solved (work_stage (bindings_of store.new) work.new)) }
     ensures left { IfOk result (λ solved. solved ≡ true → work.new.equations.items ≡ []) }
     ensures goes_on { OnOk result (GoOn (present store.old) work.old (present store.new) work.new) }
-    ensures past { GoesOn (versions store.old) (versions store.new) }
+    ensures past { IsPrefixOf (versions store.old) (versions store.new) }
     ensures kinds { kinds store.new ≡ kinds store.old }
 {
     'rewriting: while !work.equations.is_empty() {

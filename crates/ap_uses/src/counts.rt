@@ -1,8 +1,7 @@
 //! The clauses of a program, each with how often it is used.
 
 ghost use Rattle.std.specs.Prelude.{◌≡◌, ◌++◌, IfOk, OnOk, map};
-ghost use Rattle.ap_defs.specs.Goals.{clause_of};
-ghost use Rattle.ap_count.specs.Uses.{program_in};
+ghost use Rattle.ap_defs.specs.Goals.{clause_of, program_in};
 ghost use Rattle.ap_uses.specs.Rows.{counts_in_row, counts_in_rows};
 
 use ap_defs::goals::Clause;

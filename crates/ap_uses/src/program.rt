@@ -2,7 +2,7 @@
 
 ghost use Rattle.std.specs.Prelude.{◌≡◌, [], IfOk, length};
 ghost use Rattle.ap_defs.specs.Goals.{program_of};
-ghost use Rattle.ap_count.specs.Tables.{table_of};
+ghost use Rattle.ap_count.specs.Tables.{counts_of};
 ghost use Rattle.ap_count.specs.Uses.{use_table};
 ghost use Rattle.ap_uses.specs.Counts as spec;
 
@@ -26,7 +26,7 @@ fn query_count(program: &Index<'_>) -> u32
 
 /// The table of a program of which nothing is used.
 fn unused(alloc: Global, program: &Index<'_>) -> Result<Vec<Vec<u64>>, Memory>
-    ensures { IfOk result (λ t. table_of t ≡ use_table (program_of program.now).clauses []) }
+    ensures { IfOk result (λ t. counts_of t ≡ use_table (program_of program.now).clauses []) }
 {
     unused_table(alloc, program.program().clauses.items())
 }
@@ -41,7 +41,7 @@ pub(crate) fn uses_of_program<R: Threads + Wait + Sync, G: Gate>(
     workers: Workers,
     program: &Index<'_>,
 ) -> Result<Vec<Vec<u64>>, Memory>
-    ensures { IfOk result (λ t. table_of t ≡ use_table (program_of program.now).clauses
+    ensures { IfOk result (λ t. counts_of t ≡ use_table (program_of program.now).clauses
         (spec.uses_of_queries (program_of program.now).clauses depth
         (program_of program.now).queries)) }
 {

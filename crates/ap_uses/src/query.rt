@@ -5,7 +5,7 @@ ghost use Rattle.std.specs.List.{AllByRecursion};
 ghost use Rattle.ap_defs.specs.Answers.{out_of, outs_of};
 ghost use Rattle.ap_defs.specs.Goals.{NominalQuery};
 ghost use Rattle.ap_backchain.specs.Problems.{HasQuery, clauses_in, queries_in};
-ghost use Rattle.ap_count.specs.Tables.{table_of};
+ghost use Rattle.ap_count.specs.Tables.{counts_of};
 ghost use Rattle.ap_count.specs.Uses.{use_table, uses_in_each};
 ghost use Rattle.ap_uses.specs.Counts as spec;
 ghost use Rattle.ap_uses.specs.Paths.{LeadsToAnswer, answer_path, answer_paths, derivation_at};
@@ -60,7 +60,7 @@ fn uses_at<R: Threads + Sync>(
     requires lead { AllByRecursion (LeadsToAnswer p.now) paths.now }
     ensures { IfOk result (λ t. (q : NominalQuery) →
         slice_get (queries_in p.now) (p.now.query - 1) ≡ Some q →
-        table_of t ≡ use_table (clauses_in p.now) (uses_in_each (clauses_in p.now) q.goal
+        counts_of t ≡ use_table (clauses_in p.now) (uses_in_each (clauses_in p.now) q.goal
         (map (derivation_at p.now) paths.now))) }
 {
     let query = query_of_problem(p);
@@ -84,7 +84,7 @@ pub(crate) fn uses_of_query<R: Threads + Wait + Sync, G: Gate>(
     requires query { HasQuery p.now }
     ensures { IfOk result (λ t. (q : NominalQuery) →
         slice_get (queries_in p.now) (p.now.query - 1) ≡ Some q →
-        table_of t ≡ use_table (clauses_in p.now)
+        counts_of t ≡ use_table (clauses_in p.now)
         (spec.uses_of_query (clauses_in p.now) p.now.depth q)) }
 {
     let outs = solve(rt, alloc, gate, workers, Limit::All, p)?;

@@ -6,7 +6,7 @@ use Rattle.std.proofs.lemmas.List.{append_assoc}
 use Rattle.clap.proofs.CutLemmas.{Lacks, list_any-Lacks, list_any-at, before_first-at, after_first-at}
 use Rattle.ap_words.specs.declared.settings.Setting.{Setting}
 use Rattle.ap_words.specs.declared.table.OptionName.{OptionName}
-use Rattle.ap_words.specs.Words.{both, is_equals, joined, setting_of, settings_of}
+use Rattle.ap_words.specs.Words.{both, is_equals, joined_setting, setting_of, settings_of}
 
 -- what is left of a list that is read by f, at an element
 pub mapped_at : {X Y : Type 0} (f : X → Y) (xs : List X) (i : ℕ) (x : X) → i < length xs → x ≡ get_or xs i x → drop i (map f xs) ≡ f x ∷ drop (suc i) (map f xs)
@@ -15,7 +15,7 @@ mapped_at f (y ∷ ys) zero x lt e = ap (λ z. f z ∷ map f ys) (sym e)
 mapped_at f (y ∷ ys) (suc i) x lt e = mapped_at f ys i x (omega arith) e
 
 pub joined_first : (options : List OptionName) (word : List ℕ) (words : List (List ℕ)) → list_any is_equals word ≡ true
-    → settings_of options (word ∷ words) ≡ both (joined options word) (settings_of options words)
+    → settings_of options (word ∷ words) ≡ both (joined_setting options word) (settings_of options words)
 joined_first options word [] has = rw has refl
 joined_first options word (v ∷ vs) has = rw has refl
 
@@ -23,8 +23,8 @@ joined_first options word (v ∷ vs) has = rw has refl
 pub split_has : (word name value : List ℕ) → word ≡ name ++ 61 ∷ value → list_any is_equals word ≡ true
 split_has word name value is = ap (list_any is_equals) is ∙ list_any-at 61 name value
 
-pub split_is : (options : List OptionName) (word name value : List ℕ) → word ≡ name ++ 61 ∷ value → Lacks 61 name → joined options word ≡ setting_of options name value
-split_is options word name value is lacks = ap (joined options) is ∙ rw (before_first-at 61 name value lacks, after_first-at 61 name value lacks) refl
+pub split_is : (options : List OptionName) (word name value : List ℕ) → word ≡ name ++ 61 ∷ value → Lacks 61 name → joined_setting options word ≡ setting_of options name value
+split_is options word name value is lacks = ap (joined_setting options) is ∙ rw (before_first-at 61 name value lacks, after_first-at 61 name value lacks) refl
 
 module _ {X : Type 0} (f : X → List ℕ) (options : List OptionName) (words : List X) (i : ℕ) (word : X) (lt : i < length words) (at : word ≡ get_or words i word) where
   pub joined_at : (name value : List ℕ) (s : Option Setting) → f word ≡ name ++ 61 ∷ value → Lacks 61 name → s ≡ setting_of options name value

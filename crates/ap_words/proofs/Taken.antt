@@ -1,9 +1,9 @@
 -- clap takes the words that are accepted.
 use Rattle.std.proofs.Common.{◌≡◌, ◌∙◌, ◌≤◌, ◌+◌, ◌++◌, ◌||◌, ◌&&◌, ⊎_elim, not, refl, sym, ap, subst, arith, ℕ, Bool, true, false, true≢false, cond, List, [], ◌∷◌, Option, Some, None, map, codes, append-nil, append_assoc}
-use Rattle.std.proofs.lemmas.Bool.{cases_Bool}
+use Rattle.std.proofs.lemmas.Bool.{and_parts, cases_Bool}
 use Rattle.std.proofs.lemmas.Bool.Decides.{nat_tests}
 use Rattle.std.proofs.lemmas.Slice.Eq.{bytes_eq-Decides}
-use Rattle.std.specs.Prelude.{count_by, fold, nat_le, option_map, option_and_then}
+use Rattle.std.specs.Prelude.{count_by, fold, nat_le, option_and_then, option_map}
 use Rattle.std.specs.List.{before_first, after_first, list_all, list_any}
 use Rattle.std.specs.Str.{bytes_eq}
 use Rattle.clap.specs.Walk.{Walk, Text, Names, nothing_held, walk_from, walked}
@@ -16,7 +16,7 @@ use Rattle.ap_words.specs.declared.table.CommandName.{CommandName}
 use Rattle.ap_words.specs.declared.table.CommandName.TheVariants as command
 use Rattle.ap_words.specs.declared.table.OptionName.{OptionName}
 use Rattle.ap_words.specs.Table.{commands, command_name, option_name, options_of, is_required}
-use Rattle.ap_words.specs.Words.{are_complete, asked_of, asked_together, asked_with, asked_by, both, command_of, is_equals, is_well_set, joined, number_of, option_of, sets, setting_of, settings_of}
+use Rattle.ap_words.specs.Words.{are_complete, asked_of, asked_together, asked_with, asked_by, both, command_of, is_equals, is_well_set, joined_setting, number_of, option_of, sets, setting_of, settings_of}
 use Rattle.ap_words.specs.Program.{program}
 use Rattle.ap_words.proofs.Lists.{all_found, count_first, count_push, find_holds}
 use Rattle.ap_words.proofs.Plain.{joined_word, name_same, number_plain, option_word, parted}
@@ -78,16 +78,13 @@ abbrev Passes : List OptionName → List Text → Type 0
 Passes options words = (ss : List Setting) (ds : List Given) (p : Option Given) → settings_of options words ≡ Some ss → IsFine options ds p → AreFew options (given_in ds p) ss
     → EndsAt options (walk_at ds p) words (given_in ds p) ss
 
-both_true : (a b : Bool) → a ≡ true → b ≡ true → (a && b) ≡ true
-both_true a b x y = rw (x, y) refl
-
 -- one more word
 one_step : (options : List OptionName) (w w' : Walk) (word : Text) (words : List Text) (ds es : List Given) (ss rest : List Setting)
     → ((name : Text) → turn_passes (leaf name options) [] w word ≡ true) → walked (map built_argument options) [] w word ≡ w' → ((o : OptionName) → seen o es + count_by (sets o) rest ≡ seen o ds + count_by (sets o) ss)
     → EndsAt options w' words es rest → EndsAt options w (word ∷ words) ds ss
 unfolding walk_passes
 one_step options w w' word words ds es ss rest turn step same end = record {
-  passes = λ name. both_true _ _ (turn name) (rw step (end.passes name));
+  passes = λ name. and_parts _ _ (turn name) (rw step (end.passes name));
   before = end.before;
   last = end.last;
   walks = rw step end.walks;
@@ -113,7 +110,7 @@ fewer options ds es ss rest same few o known = let k = same o in let m = few o k
 -- a setting in one word
 joined_case : (options : List OptionName) (word : Text) (words : List Text) → Passes options words → list_any is_equals word ≡ true → Passes options (word ∷ words)
 joined_case options word words later has ss ds p read fine few =
-    let parts = both_parts (joined options word) (settings_of options words) ss (sym (joined_first options word words has) ∙ read) in
+    let parts = both_parts (joined_setting options word) (settings_of options words) ss (sym (joined_first options word words has) ∙ read) in
     go parts.0 parts.1 (setting_is options _ _ parts.0 parts.2) parts.3 parts.4
   where
     go : (s : Setting) (rest : List Setting) → IsSettingOf options (before_first is_equals word) (after_first is_equals word) s → settings_of options words ≡ Some rest → ss ≡ s ∷ rest
@@ -186,7 +183,7 @@ few_of options ss e o known = at_most (nat_le (count_by (sets o) ss) 1) _ refl (
 needed : (options : List OptionName) (ss : List Setting) (ds : List Given) → ((o : OptionName) → seen o ds ≡ count_by (sets o) ss) → are_complete options ss ≡ true
     → list_all (λ o. not (is_required o) || is_given (option_name o) (map row_for ds)) options ≡ true
 needed [] ss ds same e = refl
-needed (o ∷ os) ss ds same e = both_true _ _ (go (nat_le (count_by (sets o) ss) 1) (is_required o) (nat_le 1 (count_by (sets o) ss)) refl e) (needed os ss ds same (rest (is_well_set ss o) e))
+needed (o ∷ os) ss ds same e = and_parts _ _ (go (nat_le (count_by (sets o) ss) 1) (is_required o) (nat_le 1 (count_by (sets o) ss)) refl e) (needed os ss ds same (rest (is_well_set ss o) e))
   where
     rest : (b : Bool) → (b && are_complete os ss) ≡ true → are_complete os ss ≡ true
     rest true k = k
@@ -205,10 +202,10 @@ level name options words ss read e =
     let ds = given_in end.before end.last in
     let same : (o : OptionName) → seen o ds ≡ count_by (sets o) ss = λ o. let k = end.counts o in omega arith in
     let rows = defaults_stay options (map row_for ds) in
-    both_true _ _ (end.passes name)
-    (rw end.walks (both_true _ _ (settle_at options end.before end.last end.fine)
-    (both_true _ _ (no_defaults options)
-    (rw (settled_at options end.before end.last end.fine, rows) (both_true _ _ (each_free options) (required_given options ds (needed options ss ds same e)))))))
+    and_parts _ _ (end.passes name)
+    (rw end.walks (and_parts _ _ (settle_at options end.before end.last end.fine)
+    (and_parts _ _ (no_defaults options)
+    (rw (settled_at options end.before end.last end.fine, rows) (and_parts _ _ (each_free options) (required_given options ds (needed options ss ds same e)))))))
 
 -- after a subcommand's name the words are its own
 stopped : (rules : List Rule) (names : Names) (w : Walk) (name : Text) (before words : List Text)
@@ -233,49 +230,49 @@ command_taken command.Run words ss read e =
       stopped [] all_names (walk_from nothing_held) (codes "run") [] words,
       stopped_passes (built program).top all_names (walk_from nothing_held) (codes "run") [] words,
     )
-    (both_true _ _ (level (codes "run") (options_of command.Run) words ss read e) refl)
+    (and_parts _ _ (level (codes "run") (options_of command.Run) words ss read e) refl)
 command_taken command.Prove words ss read e =
     rw (
       stopped [] all_names (walk_from nothing_held) (codes "prove") [] words,
       stopped_passes (built program).top all_names (walk_from nothing_held) (codes "prove") [] words,
     )
-    (both_true _ _ (level (codes "prove") (options_of command.Prove) words ss read e) refl)
+    (and_parts _ _ (level (codes "prove") (options_of command.Prove) words ss read e) refl)
 command_taken command.Check words ss read e =
     rw (
       stopped [] all_names (walk_from nothing_held) (codes "check") [] words,
       stopped_passes (built program).top all_names (walk_from nothing_held) (codes "check") [] words,
     )
-    (both_true _ _ (level (codes "check") (options_of command.Check) words ss read e) refl)
+    (and_parts _ _ (level (codes "check") (options_of command.Check) words ss read e) refl)
 command_taken command.Convert words ss read e =
     rw (
       stopped [] all_names (walk_from nothing_held) (codes "convert") [] words,
       stopped_passes (built program).top all_names (walk_from nothing_held) (codes "convert") [] words,
     )
-    (both_true _ _ (level (codes "convert") (options_of command.Convert) words ss read e) refl)
+    (and_parts _ _ (level (codes "convert") (options_of command.Convert) words ss read e) refl)
 command_taken command.Count words ss read e =
     rw (
       stopped [] all_names (walk_from nothing_held) (codes "count") [] words,
       stopped_passes (built program).top all_names (walk_from nothing_held) (codes "count") [] words,
     )
-    (both_true _ _ (level (codes "count") (options_of command.Count) words ss read e) refl)
+    (and_parts _ _ (level (codes "count") (options_of command.Count) words ss read e) refl)
 command_taken command.Cover words ss read e =
     rw (
       stopped [] all_names (walk_from nothing_held) (codes "cover") [] words,
       stopped_passes (built program).top all_names (walk_from nothing_held) (codes "cover") [] words,
     )
-    (both_true _ _ (level (codes "cover") (options_of command.Cover) words ss read e) refl)
+    (and_parts _ _ (level (codes "cover") (options_of command.Cover) words ss read e) refl)
 command_taken command.Examine words ss read e =
     rw (
       stopped [] all_names (walk_from nothing_held) (codes "examine") [] words,
       stopped_passes (built program).top all_names (walk_from nothing_held) (codes "examine") [] words,
     )
-    (both_true _ _ (level (codes "examine") (options_of command.Examine) words ss read e) refl)
+    (and_parts _ _ (level (codes "examine") (options_of command.Examine) words ss read e) refl)
 command_taken command.Work words ss read e =
     rw (
       stopped [] all_names (walk_from nothing_held) (codes "work") [] words,
       stopped_passes (built program).top all_names (walk_from nothing_held) (codes "work") [] words,
     )
-    (both_true _ _ (level (codes "work") (options_of command.Work) words ss read e) refl)
+    (and_parts _ _ (level (codes "work") (options_of command.Work) words ss read e) refl)
 
 with_taken : (c : CommandName) (words : List Text) (a : Asked) → asked_with c words ≡ Some a → takes program (command_name c ∷ words) ≡ true
 with_taken c words a e = go (settings_of (options_of c) words) refl e

@@ -5,7 +5,7 @@ use Rattle.ap_defs.specs.declared.paths.Out.{Out}
 use Rattle.ap_defs.specs.Answers.{NominalOut, cut, found, out_of, outs_of, stuck}
 use Rattle.ap_defs.specs.Lines.{count_of, is_cut, is_found, is_stuck}
 use Rattle.ap_work.specs.declared.totals.Totals.{Totals}
-use Rattle.ap_work.specs.Sums.{AreAtMost, counted, sum_of_both, with_out}
+use Rattle.ap_work.specs.Sums.{AreAtMost, output_totals, sum_of_both, with_out}
 
 -- totals by their numbers
 abbrev of_numbers : ℕ → ℕ → ℕ → ℕ → Totals
@@ -21,14 +21,14 @@ pub same_sums : (t u v w : Totals) → t.answers + u.answers ≡ v.answers + w.a
     → t.stuck + u.stuck ≡ v.stuck + w.stuck → t.bytes + u.bytes ≡ v.bytes + w.bytes → sum_of_both t u ≡ sum_of_both v w
 same_sums t u v w a c s b = same_totals (sum_of_both t u) (sum_of_both v w) a c s b
 
-pub nothing_before : (t : Totals) → sum_of_both (counted [] 0) t ≡ t
-nothing_before t = same_totals (sum_of_both (counted [] 0) t) t (omega arith) (omega arith) (omega arith) (omega arith)
+pub nothing_before : (t : Totals) → sum_of_both (output_totals [] 0) t ≡ t
+nothing_before t = same_totals (sum_of_both (output_totals [] 0) t) t (omega arith) (omega arith) (omega arith) (omega arith)
 
-pub nothing_after : (t : Totals) → sum_of_both t (counted [] 0) ≡ t
-nothing_after t = same_totals (sum_of_both t (counted [] 0)) t (omega arith) (omega arith) (omega arith) (omega arith)
+pub nothing_after : (t : Totals) → sum_of_both t (output_totals [] 0) ≡ t
+nothing_after t = same_totals (sum_of_both t (output_totals [] 0)) t (omega arith) (omega arith) (omega arith) (omega arith)
 
 -- an output that is counted, and one that is left
-one_out : (o : NominalOut) (os : List NominalOut) (t : Totals) → sum_of_both (with_out t o) (counted os 0) ≡ sum_of_both t (counted (o ∷ os) 0)
+one_out : (o : NominalOut) (os : List NominalOut) (t : Totals) → sum_of_both (with_out t o) (output_totals os 0) ≡ sum_of_both t (output_totals (o ∷ os) 0)
 one_out (found p a) os t =
     let n = count_of is_found os in
     let e : t.answers + 1 + n ≡ t.answers + suc n = omega arith in
@@ -43,15 +43,15 @@ one_out (stuck p) os t =
     ap (λ m. of_numbers (t.answers + count_of is_found os) (t.cut + count_of is_cut os) m (t.bytes + 0)) e
 
 pub next_out : (outs : List Out) (i : ℕ) (d : Out) (t u : Totals) → i < length outs → d ≡ get_or outs i d → u ≡ with_out t (out_of d)
-    → sum_of_both u (counted (outs_of (drop (i + 1) outs)) 0) ≡ sum_of_both t (counted (outs_of (drop i outs)) 0)
+    → sum_of_both u (output_totals (outs_of (drop (i + 1) outs)) 0) ≡ sum_of_both t (output_totals (outs_of (drop i outs)) 0)
 next_out outs i d t u l e is =
-    ap (λ v. sum_of_both v (counted (outs_of (drop (i + 1) outs)) 0)) is
+    ap (λ v. sum_of_both v (output_totals (outs_of (drop (i + 1) outs)) 0)) is
     ∙ one_out (out_of d) (outs_of (drop (i + 1) outs)) t
-    ∙ ap (λ (o : Out). sum_of_both t (counted (out_of o ∷ outs_of (drop (i + 1) outs)) 0)) e
-    ∙ sym (at_drop_more (λ os. sum_of_both t (counted (outs_of os) 0)) outs i d l)
+    ∙ ap (λ (o : Out). sum_of_both t (output_totals (out_of o ∷ outs_of (drop (i + 1) outs)) 0)) e
+    ∙ sym (at_drop_more (λ os. sum_of_both t (output_totals (outs_of os) 0)) outs i d l)
 
-pub last_out : (outs : List Out) (i : ℕ) (t u : Totals) → length outs ≤ i → sum_of_both t (counted (outs_of (drop i outs)) 0) ≡ u → t ≡ u
-last_out outs i t u l e = sym (nothing_after t) ∙ sym (at_drop_all (λ os. sum_of_both t (counted (outs_of os) 0)) outs i l) ∙ e
+pub last_out : (outs : List Out) (i : ℕ) (t u : Totals) → length outs ≤ i → sum_of_both t (output_totals (outs_of (drop i outs)) 0) ≡ u → t ≡ u
+last_out outs i t u l e = sym (nothing_after t) ∙ sym (at_drop_all (λ os. sum_of_both t (output_totals (outs_of os) 0)) outs i l) ∙ e
 
 -- each output adds one to one of them
 pub one_further : (o : NominalOut) (n : ℕ) (t : Totals) → AreAtMost n t → AreAtMost (n + 1) (with_out t o)

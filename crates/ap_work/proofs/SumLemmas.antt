@@ -9,7 +9,7 @@ use Rattle.ap_defs.specs.Lines.{count_of, is_cut, is_found, is_stuck, query_line
 use Rattle.ap_defs.specs.Types.{NominalLocal}
 use Rattle.ap_answers.specs.Queries.{locals_at, query_locals}
 use Rattle.ap_work.specs.declared.totals.Totals.{Totals}
-use Rattle.ap_work.specs.Sums.{AreAtMost, HaveRoom, counted, sum_of_both, totals_at}
+use Rattle.ap_work.specs.Sums.{AreAtMost, HaveRoom, output_totals, sum_of_both, totals_at}
 use Rattle.ap_work.specs.Reports.{total_of, totals_of}
 use Rattle.ap_work.proofs.OutLemmas.{nothing_after, nothing_before, same_sums, same_totals}
 
@@ -34,11 +34,11 @@ locals_found p (suc place) q l e =
 -- the totals of a query, by its outputs and its lines
 pub of_one_query : (p : NominalProgram) (depth k : ℕ) (os : List NominalOut) (lines : List ℕ) (t : Totals) → 1 ≤ k
     → ((q : NominalQuery) → slice_get p.queries (k - 1) ≡ Some q → os ≡ query_outs p.clauses depth q)
-    → lines ≡ query_lines p k (query_locals p k) os → t ≡ counted os (length lines)
+    → lines ≡ query_lines p k (query_locals p k) os → t ≡ output_totals os (length lines)
     → (q : NominalQuery) → slice_get p.queries (k - 1) ≡ Some q → t ≡ totals_at p depth k q
 of_one_query p depth k os lines t l are made is q asked =
-    is ∙ ap (λ ls. counted os (length ls)) (made ∙ ap (λ ls. query_lines p k ls os) (locals_found p k q l asked))
-    ∙ ap (λ xs. counted xs (length (query_lines p k q.locals xs))) (are q asked)
+    is ∙ ap (λ ls. output_totals os (length ls)) (made ∙ ap (λ ls. query_lines p k ls os) (locals_found p k q l asked))
+    ∙ ap (λ xs. output_totals xs (length (query_lines p k q.locals xs))) (are q asked)
 
 -- those of queries that are numbered from k on
 abbrev pub totals_from : NominalProgram → ℕ → ℕ → List NominalQuery → Totals
@@ -95,7 +95,7 @@ one_more p depth place t u v l made is before =
     at.2 ∙ ap (λ n. sum_of_both (totals_at p depth n at.0) rest) first in
     rw next (ap (λ w. sum_of_both w rest) (is ∙ ap (sum_of_both t) this) ∙ three t (totals_at p depth (suc place) at.0) rest ∙ ap (sum_of_both t) (sym goes) ∙ before)
 
-pub none_yet : (p : NominalProgram) (depth : ℕ) → sum_of_both (counted [] 0) (totals_from p depth 1 p.queries) ≡ totals_of p depth
+pub none_yet : (p : NominalProgram) (depth : ℕ) → sum_of_both (output_totals [] 0) (totals_from p depth 1 p.queries) ≡ totals_of p depth
 none_yet p depth = nothing_before (totals_from p depth 1 p.queries)
 
 pub none_left : (p : NominalProgram) (depth k place : ℕ) (t u : Totals) → length p.queries ≤ place

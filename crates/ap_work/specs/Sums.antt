@@ -6,13 +6,13 @@ use Rattle.ap_defs.specs.Lines.{count_of, is_cut, is_found, is_stuck, query_line
 use Rattle.ap_work.specs.declared.totals.Totals.{Totals}
 
 -- outputs counted by what they are, beside so many bytes
-abbrev pub counted : List NominalOut → ℕ → Totals
-counted os n = record { answers = count_of is_found os; cut = count_of is_cut os; stuck = count_of is_stuck os; bytes = n }
+abbrev pub output_totals : List NominalOut → ℕ → Totals
+output_totals os n = record { answers = count_of is_found os; cut = count_of is_cut os; stuck = count_of is_stuck os; bytes = n }
 
 -- those of a query with this number, to a depth
 abbrev pub totals_at : NominalProgram → ℕ → ℕ → NominalQuery → Totals
 totals_at p depth k q =
-    counted (query_outs p.clauses depth q) (length (query_lines p k q.locals (query_outs p.clauses depth q)))
+    output_totals (query_outs p.clauses depth q) (length (query_lines p k q.locals (query_outs p.clauses depth q)))
 
 -- with one more output
 abbrev pub with_out : Totals → NominalOut → Totals

@@ -2,7 +2,7 @@
 
 ghost use Rattle.std.specs.Prelude.{◌≡◌, ◌<◌, ◌^◌, [], length};
 ghost use Rattle.ap_defs.specs.Answers.{out_of, outs_of};
-ghost use Rattle.ap_work.specs.Sums.{AreAtMost, HaveRoom, counted, sum_of_both, with_out};
+ghost use Rattle.ap_work.specs.Sums.{AreAtMost, HaveRoom, output_totals, sum_of_both, with_out};
 
 use ap_defs::paths::Out;
 
@@ -23,7 +23,7 @@ pub struct Totals {
 impl Totals {
     /// Those of no query.
     pub(crate) fn none() -> Totals
-        ensures { result ≡ counted [] 0 }
+        ensures { result ≡ output_totals [] 0 }
     {
         Totals {
             answers: 0,
@@ -47,7 +47,7 @@ impl Totals {
 
     /// Those of outputs.
     fn of_outputs(outs: &[Out]) -> Totals
-        ensures counts { result ≡ counted (outs_of outs.now) 0 }
+        ensures counts { result ≡ output_totals (outs_of outs.now) 0 }
         ensures few { AreAtMost (length outs.now) result }
     {
         let mut totals = Totals::none();
@@ -59,7 +59,7 @@ impl Totals {
 
     /// Those of a query with these outputs, whose report has so many bytes.
     pub(crate) fn of_query(outs: &[Out], bytes: usize) -> Totals
-        ensures counts { result ≡ counted (outs_of outs.now) bytes }
+        ensures counts { result ≡ output_totals (outs_of outs.now) bytes }
         ensures few { AreAtMost (2 ^ 64) result }
     {
         let totals = Totals::of_outputs(outs);

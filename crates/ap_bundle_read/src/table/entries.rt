@@ -4,7 +4,7 @@ ghost use Rattle.std.specs.Option.{option_map};
 ghost use Rattle.ap_bundle.specs.Readers as readers;
 ghost use Rattle.ap_bundle.specs.TableForms as spec;
 ghost use Rattle.ap_bundle_read.specs.Outcomes.{Gives, place_of};
-ghost use Rattle.ap_bundle_read.specs.Tables.{IsBehind, IsTable, at, entry_term, terms_in};
+ghost use Rattle.ap_bundle_read.specs.Tables.{IsBehind, IsReadTable, at, entry_term, table_terms};
 
 use crate::error::ReadError;
 use crate::line_forms::after_head;
@@ -21,9 +21,9 @@ use std::alloc::Global;
 /// The line of an earlier term.
 #[tactic(auto, unfolding(ap_bundle::specs::TableForms::earlier))]
 fn earlier(table: &Table, numbers: &mut Vec<u64>) -> Option<usize>
-    ensures value { option_map (λ i. (at (terms_in table.now) i, reverse numbers.new.items)) result
-        ≡ spec.earlier (terms_in table.now) (reverse numbers.old.items) }
-    ensures within { IfSome result (λ i. i < length (terms_in table.now)) }
+    ensures value { option_map (λ i. (at (table_terms table.now) i, reverse numbers.new.items))
+        result ≡ spec.earlier (table_terms table.now) (reverse numbers.old.items) }
+    ensures within { IfSome result (λ i. i < length (table_terms table.now)) }
 {
     let line = first_number(numbers)?;
     if line < table.len() as u64 {
@@ -35,9 +35,9 @@ fn earlier(table: &Table, numbers: &mut Vec<u64>) -> Option<usize>
 
 #[tactic(auto, unfolding(ap_bundle::specs::TableForms::name_entry))]
 fn name_entry(table: &Table, numbers: Vec<u64>) -> Option<Entry>
-    ensures value { option_map (entry_term (terms_in table.now)) result
+    ensures value { option_map (entry_term (table_terms table.now)) result
         ≡ spec.name_entry (reverse numbers.items) }
-    ensures behind { IfSome result (IsBehind (length (terms_in table.now))) }
+    ensures behind { IfSome result (IsBehind (length (table_terms table.now))) }
 {
     let mut numbers = numbers;
     let name = a_name(&mut numbers)?;
@@ -50,9 +50,9 @@ fn name_entry(table: &Table, numbers: Vec<u64>) -> Option<Entry>
 
 #[tactic(auto, unfolding(ap_bundle::specs::TableForms::pair_entry))]
 fn pair_entry(table: &Table, numbers: Vec<u64>) -> Option<Entry>
-    ensures value { option_map (entry_term (terms_in table.now)) result
-        ≡ spec.pair_entry (terms_in table.now) (reverse numbers.items) }
-    ensures behind { IfSome result (IsBehind (length (terms_in table.now))) }
+    ensures value { option_map (entry_term (table_terms table.now)) result
+        ≡ spec.pair_entry (table_terms table.now) (reverse numbers.items) }
+    ensures behind { IfSome result (IsBehind (length (table_terms table.now))) }
 {
     let mut numbers = numbers;
     let left = earlier(table, &mut numbers)?;
@@ -66,9 +66,9 @@ fn pair_entry(table: &Table, numbers: Vec<u64>) -> Option<Entry>
 
 #[tactic(auto, unfolding(ap_bundle::specs::TableForms::app_entry))]
 fn app_entry(table: &Table, numbers: Vec<u64>) -> Option<Entry>
-    ensures value { option_map (entry_term (terms_in table.now)) result
-        ≡ spec.app_entry (terms_in table.now) (reverse numbers.items) }
-    ensures behind { IfSome result (IsBehind (length (terms_in table.now))) }
+    ensures value { option_map (entry_term (table_terms table.now)) result
+        ≡ spec.app_entry (table_terms table.now) (reverse numbers.items) }
+    ensures behind { IfSome result (IsBehind (length (table_terms table.now))) }
 {
     let mut numbers = numbers;
     let constructor = small(&mut numbers)?;
@@ -82,9 +82,9 @@ fn app_entry(table: &Table, numbers: Vec<u64>) -> Option<Entry>
 
 #[tactic(auto, unfolding(ap_bundle::specs::TableForms::abs_entry))]
 fn abs_entry(table: &Table, numbers: Vec<u64>) -> Option<Entry>
-    ensures value { option_map (entry_term (terms_in table.now)) result
-        ≡ spec.abs_entry (terms_in table.now) (reverse numbers.items) }
-    ensures behind { IfSome result (IsBehind (length (terms_in table.now))) }
+    ensures value { option_map (entry_term (table_terms table.now)) result
+        ≡ spec.abs_entry (table_terms table.now) (reverse numbers.items) }
+    ensures behind { IfSome result (IsBehind (length (table_terms table.now))) }
 {
     let mut numbers = numbers;
     let name = a_name(&mut numbers)?;
@@ -98,9 +98,9 @@ fn abs_entry(table: &Table, numbers: Vec<u64>) -> Option<Entry>
 
 #[tactic(auto, unfolding(ap_bundle::specs::TableForms::susp_entry))]
 fn susp_entry(alloc: Global, table: &Table, numbers: Vec<u64>) -> Result<Option<Entry>, Memory>
-    ensures value { IfOk result (λ r. option_map (entry_term (terms_in table.now)) r
+    ensures value { IfOk result (λ r. option_map (entry_term (table_terms table.now)) r
         ≡ spec.susp_entry (reverse numbers.items)) }
-    ensures behind { IfOk result (λ r. IfSome r (IsBehind (length (terms_in table.now)))) }
+    ensures behind { IfOk result (λ r. IfSome r (IsBehind (length (table_terms table.now)))) }
 {
     let mut numbers = numbers;
     let Some(count) = first_number(&mut numbers) else {
@@ -127,9 +127,9 @@ fn entry_of(
     letter: Letter,
     numbers: Vec<u64>,
 ) -> Result<Option<Entry>, Memory>
-    ensures value { IfOk result (λ r. option_map (entry_term (terms_in table.now)) r
-        ≡ spec.entry (terms_in table.now) letter (reverse numbers.items)) }
-    ensures behind { IfOk result (λ r. IfSome r (IsBehind (length (terms_in table.now)))) }
+    ensures value { IfOk result (λ r. option_map (entry_term (table_terms table.now)) r
+        ≡ spec.entry (table_terms table.now) letter (reverse numbers.items)) }
+    ensures behind { IfOk result (λ r. IfSome r (IsBehind (length (table_terms table.now)))) }
 {
     match letter {
         Letter::U => {
@@ -166,9 +166,9 @@ fn numbers_of(alloc: Global, words: &[Word]) -> Result<Option<Vec<u64>>, Memory>
 
 /// What a line of the table says behind its first word.
 fn entry_behind(alloc: Global, table: &Table, words: &[Word]) -> Result<Option<Entry>, Memory>
-    ensures value { IfOk result (λ r. option_map (entry_term (terms_in table.now)) r
-        ≡ spec.entry_behind (terms_in table.now) words.now) }
-    ensures behind { IfOk result (λ r. IfSome r (IsBehind (length (terms_in table.now)))) }
+    ensures value { IfOk result (λ r. option_map (entry_term (table_terms table.now)) r
+        ≡ spec.entry_behind (table_terms table.now) words.now) }
+    ensures behind { IfOk result (λ r. IfSome r (IsBehind (length (table_terms table.now)))) }
 {
     match words {
         [Word::Letter(letter), rest @ ..] => match numbers_of(alloc, rest)? {
@@ -182,9 +182,9 @@ fn entry_behind(alloc: Global, table: &Table, words: &[Word]) -> Result<Option<E
 /// What a line of the table says.
 #[tactic(auto, unfolding(ap_bundle::specs::TableForms::entry_form))]
 fn entry_form(alloc: Global, table: &Table, words: &[Word]) -> Result<Option<Entry>, Memory>
-    ensures value { IfOk result (λ r. option_map (entry_term (terms_in table.now)) r
-        ≡ spec.entry_form (terms_in table.now) words.now) }
-    ensures behind { IfOk result (λ r. IfSome r (IsBehind (length (terms_in table.now)))) }
+    ensures value { IfOk result (λ r. option_map (entry_term (table_terms table.now)) r
+        ≡ spec.entry_form (table_terms table.now) words.now) }
+    ensures behind { IfOk result (λ r. IfSome r (IsBehind (length (table_terms table.now)))) }
 {
     match after_head(Head::T, words) {
         Some(rest) => entry_behind(alloc, table, rest),
@@ -199,10 +199,10 @@ fn read_entry<'a>(
     table: &Table,
     place: Place<'a>,
 ) -> Result<(Entry, Place<'a>), ReadError>
-    ensures value { Gives (λ r. (entry_term (terms_in table.now) r.0, place_of r.1)) result
-        (readers.read_form BundleKind.Term (spec.entry_form (terms_in table.now))
+    ensures value { Gives (λ r. (entry_term (table_terms table.now) r.0, place_of r.1)) result
+        (readers.read_form BundleKind.Term (spec.entry_form (table_terms table.now))
         (place_of place.entry)) }
-    ensures behind { IfOk result (λ r. IsBehind (length (terms_in table.now)) r.0) }
+    ensures behind { IfOk result (λ r. IsBehind (length (table_terms table.now)) r.0) }
 {
     let (words, rest) = words_at(alloc, BundleKind::Term, place)?;
     let Some(entry) = entry_form(alloc, table, &words)? else {
@@ -217,9 +217,9 @@ pub(crate) fn read_entries<'a>(
     count: u64,
     place: Place<'a>,
 ) -> Result<(Table, Place<'a>), ReadError>
-    ensures value { Gives (λ r. (terms_in r.0, place_of r.1)) result
+    ensures value { Gives (λ r. (table_terms r.0, place_of r.1)) result
         (spec.read_entries count [] (place_of place.entry)) }
-    ensures table { IfOk result (λ r. IsTable r.0) }
+    ensures table { IfOk result (λ r. IsReadTable r.0) }
 {
     let mut table = Table::new(alloc);
     let mut place = place;

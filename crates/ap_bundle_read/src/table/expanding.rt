@@ -3,7 +3,7 @@ ghost use Rattle.std.specs.Prelude.{◌≡◌, ◌<◌, ◌++◌, ◌∷◌, len
 ghost use Rattle.std.specs.Option.{option_map};
 ghost use Rattle.ap_defs.specs.Terms.{term_of};
 ghost use Rattle.ap_bundle_read.specs.Stacks.{stacked};
-ghost use Rattle.ap_bundle_read.specs.Tables.{AreWithin, IsTable, at, begun, closed, made_by, ready, terms_in, weigh};
+ghost use Rattle.ap_bundle_read.specs.Tables.{AreTasksWithin, IsReadTable, at, begun, layer_closed, made_by, ready, table_terms, weigh};
 ghost use Rattle.ap_bundle_read.specs.declared.table.expanding.Task.TheVariants as tasks_of;
 
 use crate::table::{Entry, Table};
@@ -75,7 +75,7 @@ fn push_ready(alloc: Global, entry: &Entry, made: &mut Vec<Term>) -> Result<(), 
 /// A pair of the last two terms.
 fn close_pair(alloc: Global, made: Vec<Term>) -> Result<Option<Vec<Term>>, Memory>
     ensures { IfOk result (λ r. option_map (λ v. stacked term_of v.items) r
-        ≡ closed Layer.Pair (stacked term_of made.items)) }
+        ≡ layer_closed Layer.Pair (stacked term_of made.items)) }
 {
     let mut made = made;
     let Some(right) = first_term(&mut made) else {
@@ -92,7 +92,7 @@ fn close_pair(alloc: Global, made: Vec<Term>) -> Result<Option<Vec<Term>>, Memor
 
 fn close_app(alloc: Global, constructor: u32, made: Vec<Term>) -> Result<Option<Vec<Term>>, Memory>
     ensures { IfOk result (λ r. option_map (λ v. stacked term_of v.items) r
-        ≡ closed (Layer.App constructor) (stacked term_of made.items)) }
+        ≡ layer_closed (Layer.App constructor) (stacked term_of made.items)) }
 {
     let mut made = made;
     let Some(part) = first_term(&mut made) else {
@@ -105,7 +105,7 @@ fn close_app(alloc: Global, constructor: u32, made: Vec<Term>) -> Result<Option<
 
 fn close_abs(alloc: Global, name: Name, made: Vec<Term>) -> Result<Option<Vec<Term>>, Memory>
     ensures { IfOk result (λ r. option_map (λ v. stacked term_of v.items) r
-        ≡ closed (Layer.Abs name) (stacked term_of made.items)) }
+        ≡ layer_closed (Layer.Abs name) (stacked term_of made.items)) }
 {
     let mut made = made;
     let Some(part) = first_term(&mut made) else {
@@ -119,7 +119,7 @@ fn close_abs(alloc: Global, name: Name, made: Vec<Term>) -> Result<Option<Vec<Te
 /// A layer round the last terms that were made.
 fn close(alloc: Global, layer: Layer, made: Vec<Term>) -> Result<Option<Vec<Term>>, Memory>
     ensures { IfOk result (λ r. option_map (λ v. stacked term_of v.items) r
-        ≡ closed layer (stacked term_of made.items)) }
+        ≡ layer_closed layer (stacked term_of made.items)) }
 {
     match layer {
         Layer::Pair => close_pair(alloc, made),
@@ -136,17 +136,17 @@ fn begin(
     tasks: &mut Vec<Task>,
     made: &mut Vec<Term>,
 ) -> Result<(), Memory>
-    requires table { IsTable table.now }
-    requires line { line < length (terms_in table.now) }
-    requires within { AreWithin (length (terms_in table.now)) (reverse tasks.old.items) }
+    requires table { IsReadTable table.now }
+    requires line { line < length (table_terms table.now) }
+    requires within { AreTasksWithin (length (table_terms table.now)) (reverse tasks.old.items) }
     ensures within { OnOk result
-        (AreWithin (length (terms_in table.now)) (reverse tasks.new.items)) }
+        (AreTasksWithin (length (table_terms table.now)) (reverse tasks.new.items)) }
     ensures made { OnOk result
-        (made_by (terms_in table.now) (reverse tasks.new.items) (stacked term_of made.new.items)
-        ≡ made_by (terms_in table.now) (tasks_of.Line line ∷ reverse tasks.old.items)
+        (made_by (table_terms table.now) (reverse tasks.new.items) (stacked term_of made.new.items)
+        ≡ made_by (table_terms table.now) (tasks_of.Line line ∷ reverse tasks.old.items)
         (stacked term_of made.old.items)) }
-    ensures lighter { OnOk result (weigh (terms_in table.now) (reverse tasks.new.items)
-        < weigh (terms_in table.now) (tasks_of.Line line ∷ reverse tasks.old.items)) }
+    ensures lighter { OnOk result (weigh (table_terms table.now) (reverse tasks.new.items)
+        < weigh (table_terms table.now) (tasks_of.Line line ∷ reverse tasks.old.items)) }
 {
     let entry = &table.lines[line].entry;
     push_tasks(entry, tasks)?;
@@ -155,9 +155,9 @@ fn begin(
 
 /// The term of a line in full.
 pub(crate) fn expanded(alloc: Global, table: &Table, line: usize) -> Result<Term, Memory>
-    requires table { IsTable table.now }
-    requires within { line < length (terms_in table.now) }
-    ensures { IfOk result (λ t. term_of t ≡ at (terms_in table.now) line) }
+    requires table { IsReadTable table.now }
+    requires within { line < length (table_terms table.now) }
+    ensures { IfOk result (λ t. term_of t ≡ at (table_terms table.now) line) }
 {
     let mut made = Vec::new(alloc);
     let mut tasks = Vec::new(alloc);

@@ -7,7 +7,7 @@ ghost use Rattle.ap_defs.specs.Terms.{term_of};
 ghost use Rattle.ap_bundle.specs.Readers as readers;
 ghost use Rattle.ap_bundle.specs.TableForms as spec;
 ghost use Rattle.ap_bundle_read.specs.Outcomes.{Gives, place_of};
-ghost use Rattle.ap_bundle_read.specs.Tables.{AreReady, IsTable, at, reader_of, terms_in};
+ghost use Rattle.ap_bundle_read.specs.Tables.{AreReady, IsReadTable, at, reader_of, table_terms};
 
 use crate::error::ReadError;
 use crate::line_forms::{after_head, number, term_form};
@@ -29,9 +29,9 @@ pub(crate) enum Terms {
 /// `r I`
 #[tactic(auto, unfolding(ap_bundle::specs::TableForms::shared_form))]
 fn shared_form(table: &Table, words: &[Word]) -> Option<usize>
-    ensures value { option_map (at (terms_in table.now)) result
-        ≡ spec.shared_form (terms_in table.now) words.now }
-    ensures within { IfSome result (λ i. i < length (terms_in table.now)) }
+    ensures value { option_map (at (table_terms table.now)) result
+        ≡ spec.shared_form (table_terms table.now) words.now }
+    ensures within { IfSome result (λ i. i < length (table_terms table.now)) }
 {
     let rest = after_head(Head::R, words)?;
     let (line, rest) = number(rest)?;
@@ -49,10 +49,10 @@ fn read_line_number<'a>(
     table: &Table,
     place: Place<'a>,
 ) -> Result<(usize, Place<'a>), ReadError>
-    ensures value { Gives (λ r. (at (terms_in table.now) r.0, place_of r.1)) result
-        (readers.read_form BundleKind.Term (spec.shared_form (terms_in table.now))
+    ensures value { Gives (λ r. (at (table_terms table.now) r.0, place_of r.1)) result
+        (readers.read_form BundleKind.Term (spec.shared_form (table_terms table.now))
         (place_of place.entry)) }
-    ensures within { IfOk result (λ r. r.0 < length (terms_in table.now)) }
+    ensures within { IfOk result (λ r. r.0 < length (table_terms table.now)) }
 {
     let (words, rest) = words_at(alloc, BundleKind::Term, place)?;
     let Some(line) = shared_form(table, &words) else {
@@ -68,9 +68,9 @@ fn read_shared<'a>(
     table: &Table,
     place: Place<'a>,
 ) -> Result<(Term, Place<'a>), ReadError>
-    requires { IsTable table.now }
+    requires { IsReadTable table.now }
     ensures { Gives (λ r. (term_of r.0, place_of r.1)) result
-        (spec.read_shared (terms_in table.now) (place_of place.entry)) }
+        (spec.read_shared (table_terms table.now) (place_of place.entry)) }
 {
     let (line, rest) = read_line_number(alloc, table, place)?;
     let Some(size) = table.size(line) else {

@@ -6,11 +6,11 @@ use Rattle.ap_defs.specs.Resolution.{kinds_of}
 use Rattle.ap_defs.specs.Terms.{term_of}
 use Rattle.ap_defs.specs.Types.{NominalKind, local_of, locals_of}
 use Rattle.ap_defs.specs.declared.terms.Term.{Term}
-use Rattle.ap_store.specs.Triples.{GoesOn, Triple}
+use Rattle.ap_store.specs.Triples.{IsPrefixOf, Triple}
 use Rattle.ap_store.specs.Views.{kinds, present, versions}
 use Rattle.ap_store.proofs.TrailLemmas.{goes_on_both}
 use Rattle.ap_backchain.specs.Below.{AreWaitingBelow}
-use Rattle.ap_backchain.specs.Places.{position_of, track_of}
+use Rattle.ap_backchain.specs.Machines.{position_of, track_of}
 use Rattle.ap_backchain.specs.Stacks.{cells_of, waiting_in}
 use Rattle.ap_backchain.proofs.HeadLemmas.{args_below, head_below, head_next, head_none, head_some, made_kinds, made_next, position_back, present_back, terms_cut, track_back, waiting_made}
 use Rattle.ap_backchain.proofs.StoreTurnLemmas.{store_goes, waiting_kept}
@@ -26,41 +26,41 @@ unify-requires-clause-lengths c =
 
 pub unify-requires-clause-left : goal.unify-requires-clause-left
 unify-requires-clause-left c =
-    args_below c.in_ok-start.start (present c.args.place.now.store).next c.args.base c.args.args.now c.min-count.result (omega (arith, c.in_ok-start.ensures.first)) c.requires.args
+    args_below c.in_ok-start.start (present c.args.machine.now.store).next c.args.base c.args.args.now c.min-count.result (omega (arith, c.in_ok-start.ensures.first)) c.requires.args
 
 pub unify-requires-clause-right : goal.unify-requires-clause-right
 unify-requires-clause-right c =
-    let s = c.args.place.now.store in let r = c.make.new.self in
+    let s = c.args.machine.now.store in let r = c.make.new.self in
     let made = made_next s r c.items.result.now c.args.clause.now.locals c.in_ok-start.ensures.present c.items.ensures in
     let k = c.min-count.result in let n = c.in_ok-start.start in let heads = c.items-head.result.now in
     head_below c.next-end.result (length (locals_of c.args.clause.now.locals)) n c.args.clause.now.args heads k (omega (arith, made, c.next-end.ensures, c.in_ok-start.ensures.first)) c.items-head.ensures c.requires.clause.0
 
 pub unify-requires-clause-left_made : goal.unify-requires-clause-left_made
 unify-requires-clause-left_made c =
-    let s = c.args.place.now.store in let r = c.make.new.self in
+    let s = c.args.machine.now.store in let r = c.make.new.self in
     let made = made_next s r c.items.result.now c.args.clause.now.locals c.in_ok-start.ensures.present c.items.ensures in
     args_below (present r).next (present s).next c.args.base c.args.args.now c.min-count.result (omega (arith, made)) c.requires.args
 
 pub unify-requires-clause-right_made : goal.unify-requires-clause-right_made
 unify-requires-clause-right_made c =
-    let s = c.args.place.now.store in let r = c.make.new.self in
+    let s = c.args.machine.now.store in let r = c.make.new.self in
     let made = made_next s r c.items.result.now c.args.clause.now.locals c.in_ok-start.ensures.present c.items.ensures in
     let k = c.min-count.result in let n = c.in_ok-start.start in let heads = c.items-head.result.now in
     head_below (present r).next (length (locals_of c.args.clause.now.locals)) n c.args.clause.now.args heads k (omega (arith, made, c.in_ok-start.ensures.first)) c.items-head.ensures c.requires.clause.0
 
-pub invariant_of-place-in-Break-branch-2 : goal.invariant_of-place-in-Break-branch-2
-invariant_of-place-in-Break-branch-2 c =
-    let s = c.args.place.now.store in let r = c.make.new.self in
-    record { below = waiting_kept r c.unify.new.store (waiting_in c.args.place.now.goals) c.unify.ensures.kinds (waiting_made s r c.items.result.now (waiting_in c.args.place.now.goals) c.in_ok-start.ensures.present c.args.place.now.below) }
+pub invariant_of-machine-in-Break-branch-2 : goal.invariant_of-machine-in-Break-branch-2
+invariant_of-machine-in-Break-branch-2 c =
+    let s = c.args.machine.now.store in let r = c.make.new.self in
+    record { below = waiting_kept r c.unify.new.store (waiting_in c.args.machine.now.goals) c.unify.ensures.kinds (waiting_made s r c.items.result.now (waiting_in c.args.machine.now.goals) c.in_ok-start.ensures.present c.args.machine.now.below) }
 
-pub invariant_of-place-then-branch : goal.invariant_of-place-then-branch
-invariant_of-place-then-branch c =
-    let s = c.args.place.now.store in let r = c.make.new.self in
-    record { below = waiting_kept r c.unify.new.store (waiting_in c.args.place.now.goals) c.unify.ensures.kinds (waiting_made s r c.items.result.now (waiting_in c.args.place.now.goals) c.in_ok-start.ensures.present c.args.place.now.below) }
+pub invariant_of-machine-then-branch : goal.invariant_of-machine-then-branch
+invariant_of-machine-then-branch c =
+    let s = c.args.machine.now.store in let r = c.make.new.self in
+    record { below = waiting_kept r c.unify.new.store (waiting_in c.args.machine.now.goals) c.unify.ensures.kinds (waiting_made s r c.items.result.now (waiting_in c.args.machine.now.goals) c.in_ok-start.ensures.present c.args.machine.now.below) }
 
 pub returns-then-branch-clause-state : goal.returns-then-branch-clause-state
 returns-then-branch-clause-state c =
-    let s = c.args.place.now.store in let r = c.make.new.self in
+    let s = c.args.machine.now.store in let r = c.make.new.self in
     let more = made_kinds s r c.items.result.now c.args.clause.now.locals c.in_ok-start.ensures.kinds c.items.ensures in
     let d = c.unify.new.store in
     let cl = clause_of c.args.clause.now in
@@ -81,24 +81,24 @@ returns-then-branch-clause-state c =
 
 pub returns-then-branch-clause-goes : goal.returns-then-branch-clause-goes
 returns-then-branch-clause-goes c =
-    let b = c.args.place.now in
-    let s = c.args.place.now.store in let r = c.make.new.self in
+    let b = c.args.machine.now in
+    let s = c.args.machine.now.store in let r = c.make.new.self in
     let d = c.unify.new.store in
-    let on : GoesOn (versions s) (versions d) = goes_on_both (versions s) (versions r) (versions d) c.in_ok-start.ensures.past c.unify.ensures.past in
+    let on : IsPrefixOf (versions s) (versions d) = goes_on_both (versions s) (versions r) (versions d) c.in_ok-start.ensures.past c.unify.ensures.past in
     let longer : (ks : List NominalKind) × (kinds d ≡ kinds s ++ ks) = (kinds_of (locals_of c.items.result.now), c.unify.ensures.kinds ∙ c.in_ok-start.ensures.kinds) in
     store_goes s d (cells_of b.goals) b.path.items b.brought.items on longer
 
-pub invariant_of-place-else-branch : goal.invariant_of-place-else-branch
-invariant_of-place-else-branch c =
-    let s = c.args.place.now.store in let r = c.make.new.self in
+pub invariant_of-machine-else-branch : goal.invariant_of-machine-else-branch
+invariant_of-machine-else-branch c =
+    let s = c.args.machine.now.store in let r = c.make.new.self in
     let d = c.unify.new.store in
-    let on : GoesOn (versions s) (versions d) = goes_on_both (versions s) (versions r) (versions d) c.in_ok-start.ensures.past c.unify.ensures.past in
+    let on : IsPrefixOf (versions s) (versions d) = goes_on_both (versions s) (versions r) (versions d) c.in_ok-start.ensures.past c.unify.ensures.past in
     let longer : (ks : List NominalKind) × (kinds d ≡ kinds s ++ ks) = (kinds_of (locals_of c.items.result.now), c.unify.ensures.kinds ∙ c.in_ok-start.ensures.kinds) in
-    record { below = subst (λ (a : Triple). AreWaitingBelow a.next (waiting_in c.args.place.now.goals)) (sym (present_back s d c.undo_to.new.self c.mark-mark.result.place on longer c.mark-mark.ensures c.undo_to.ensures.versions c.undo_to.ensures.kinds)) c.args.place.now.below }
+    record { below = subst (λ (a : Triple). AreWaitingBelow a.next (waiting_in c.args.machine.now.goals)) (sym (present_back s d c.undo_to.new.self c.mark-mark.result.machine on longer c.mark-mark.ensures c.undo_to.ensures.versions c.undo_to.ensures.kinds)) c.args.machine.now.below }
 
 pub returns-else-branch-clause-state : goal.returns-else-branch-clause-state
 returns-else-branch-clause-state c =
-    let s = c.args.place.now.store in let r = c.make.new.self in
+    let s = c.args.machine.now.store in let r = c.make.new.self in
     let more = made_kinds s r c.items.result.now c.args.clause.now.locals c.in_ok-start.ensures.kinds c.items.ensures in
     let d = c.unify.new.store in
     let cl = clause_of c.args.clause.now in
@@ -115,21 +115,21 @@ returns-else-branch-clause-state c =
 
 pub returns-else-branch-clause-goes : goal.returns-else-branch-clause-goes
 returns-else-branch-clause-goes c =
-    let b = c.args.place.now in
-    let s = c.args.place.now.store in let r = c.make.new.self in
+    let b = c.args.machine.now in
+    let s = c.args.machine.now.store in let r = c.make.new.self in
     let d = c.unify.new.store in
-    let on : GoesOn (versions s) (versions d) = goes_on_both (versions s) (versions r) (versions d) c.in_ok-start.ensures.past c.unify.ensures.past in
+    let on : IsPrefixOf (versions s) (versions d) = goes_on_both (versions s) (versions r) (versions d) c.in_ok-start.ensures.past c.unify.ensures.past in
     let longer : (ks : List NominalKind) × (kinds d ≡ kinds s ++ ks) = (kinds_of (locals_of c.items.result.now), c.unify.ensures.kinds ∙ c.in_ok-start.ensures.kinds) in
-    goes_same (track_of b) _ (track_back s d c.undo_to.new.self c.mark-mark.result.place on longer c.mark-mark.ensures c.undo_to.ensures.versions c.undo_to.ensures.kinds (cells_of b.goals) b.path.items b.brought.items)
+    goes_same (track_of b) _ (track_back s d c.undo_to.new.self c.mark-mark.result.machine on longer c.mark-mark.ensures c.undo_to.ensures.versions c.undo_to.ensures.kinds (cells_of b.goals) b.path.items b.brought.items)
 
 pub returns-else-branch-clause-none : goal.returns-else-branch-clause-none
 returns-else-branch-clause-none c =
-    let b = c.args.place.now in
-    let s = c.args.place.now.store in let r = c.make.new.self in
+    let b = c.args.machine.now in
+    let s = c.args.machine.now.store in let r = c.make.new.self in
     let d = c.unify.new.store in
-    let on : GoesOn (versions s) (versions d) = goes_on_both (versions s) (versions r) (versions d) c.in_ok-start.ensures.past c.unify.ensures.past in
+    let on : IsPrefixOf (versions s) (versions d) = goes_on_both (versions s) (versions r) (versions d) c.in_ok-start.ensures.past c.unify.ensures.past in
     let longer : (ks : List NominalKind) × (kinds d ≡ kinds s ++ ks) = (kinds_of (locals_of c.items.result.now), c.unify.ensures.kinds ∙ c.in_ok-start.ensures.kinds) in
     λ h. (
-      track_back s d c.undo_to.new.self c.mark-mark.result.place on longer c.mark-mark.ensures c.undo_to.ensures.versions c.undo_to.ensures.kinds (cells_of b.goals) b.path.items b.brought.items,
-      position_back s d c.undo_to.new.self c.mark-mark.result.place on longer c.mark-mark.ensures c.undo_to.ensures.versions c.undo_to.ensures.kinds (position_of b),
+      track_back s d c.undo_to.new.self c.mark-mark.result.machine on longer c.mark-mark.ensures c.undo_to.ensures.versions c.undo_to.ensures.kinds (cells_of b.goals) b.path.items b.brought.items,
+      position_back s d c.undo_to.new.self c.mark-mark.result.machine on longer c.mark-mark.ensures c.undo_to.ensures.versions c.undo_to.ensures.kinds (position_of b),
     )

@@ -1,12 +1,12 @@
 use Rattle.std.proofs.Common.{◌≡◌, true, [], map, ap, ◌∙◌, sym, refl, arith}
 use Rattle.std.specs.Prelude.{reverse}
 use Rattle.ap_defs.specs.Answers.{outs_of}
-use Rattle.ap_defs.specs.Goals.{clause_of}
+use Rattle.ap_defs.specs.Goals.{program_in}
 use Rattle.ap_defs.specs.Types.{locals_of}
 use Rattle.ap_paths.specs.declared.limits.Limit.TheVariants as limits
 use Rattle.ap_backchain.specs.Ends.{kept_out}
-use Rattle.ap_backchain.specs.Places.{position_of, track_of}
-use Rattle.ap_backchain.specs.Points.{positions_pending}
+use Rattle.ap_backchain.specs.Machines.{position_of, track_of}
+use Rattle.ap_backchain.specs.ChoicePoints.{positions_pending}
 use Rattle.ap_backchain.specs.Positions.{outs_from, turned}
 use Rattle.ap_backchain.specs.Searches.{ended, followed, pending_of, positions_with}
 use Rattle.ap_backchain.specs.Wanted.{wanted_after}
@@ -20,24 +20,24 @@ use Rattle.ap_backchain.proofs.counted.outputs_by_choices.Goals as goal
 pub returns-in_default-clause-many : goal.returns-in_default-clause-many
 returns-in_default-clause-many c =
     λ none.
-    let p = position_of c.searching.place in
-    let ps = pending_of c.searching.place c.searching.points in
-    let more = too_many (map (map clause_of) c.args.clauses.now) (locals_of c.args.locals.now) p ps (c.in_default.ensures.none refl).1 in
+    let p = position_of c.searching.machine in
+    let ps = pending_of c.searching.machine c.searching.points in
+    let more = too_many (program_in c.args.clauses.now) (locals_of c.args.locals.now) p ps (c.in_default.ensures.none refl).1 in
     let nothing = (c.in_default.ensures.none refl).0 in
     let count = c.searching.invariant.count in
     omega (arith, more, nothing, count)
 
 pub returns-then-not-branch-clause-outs : goal.returns-then-not-branch-clause-outs
 returns-then-not-branch-clause-outs c =
-    let program = map (map clause_of) c.args.clauses.now in
+    let program = program_in c.args.clauses.now in
     let locals = locals_of c.args.locals.now in
     let kept = kept_out paths.Kept in
-    let p = position_of c.searching.place in
-    let ps = pending_of c.searching.place c.searching.points in
+    let p = position_of c.searching.machine in
+    let ps = pending_of c.searching.machine c.searching.points in
     let all = map kept (outs_from program locals (position_of c.args.first)) in
     let left : [] ≡ followed (turned program locals p) ps =
-    sym (ap (λ qs. positions_pending (track_of c.go_on.new.place) (reverse qs)) (c.in_ok-go_on.ensures.none c.if-not-branch.true))
-    ∙ ap (λ b. positions_with b c.go_on.new.place c.go_on.new.points) (sym c.if-not-branch.true)
+    sym (ap (λ qs. positions_pending (track_of c.go_on.new.machine) (reverse qs)) (c.in_ok-go_on.ensures.none c.if-not-branch.true))
+    ∙ ap (λ b. positions_with b c.go_on.new.machine c.go_on.new.points) (sym c.if-not-branch.true)
     ∙ c.in_ok-go_on.ensures.left in
     nothing_left limits.All kept (outs_of c.go_on.new.outs.items) all
     (turn_keeps program locals kept limits.All limits.All p ps [] (outs_of c.searching.outs.items) (outs_of c.go_on.new.outs.items) all
@@ -45,13 +45,13 @@ returns-then-not-branch-clause-outs c =
 
 pub returns-then-not-branch-clause-few : goal.returns-then-not-branch-clause-few
 returns-then-not-branch-clause-few c =
-    let program = map (map clause_of) c.args.clauses.now in
+    let program = program_in c.args.clauses.now in
     let locals = locals_of c.args.locals.now in
-    let p = position_of c.searching.place in
-    let ps = pending_of c.searching.place c.searching.points in
+    let p = position_of c.searching.machine in
+    let ps = pending_of c.searching.machine c.searching.points in
     let left : [] ≡ followed (turned program locals p) ps =
-    sym (ap (λ qs. positions_pending (track_of c.go_on.new.place) (reverse qs)) (c.in_ok-go_on.ensures.none c.if-not-branch.true))
-    ∙ ap (λ b. positions_with b c.go_on.new.place c.go_on.new.points) (sym c.if-not-branch.true)
+    sym (ap (λ qs. positions_pending (track_of c.go_on.new.machine) (reverse qs)) (c.in_ok-go_on.ensures.none c.if-not-branch.true))
+    ∙ ap (λ b. positions_with b c.go_on.new.machine c.go_on.new.points) (sym c.if-not-branch.true)
     ∙ c.in_ok-go_on.ensures.left in
     let made = turn_chooses program locals p ps [] left in
     let fewer = c.in-Some.ensures.some in
@@ -60,20 +60,20 @@ returns-then-not-branch-clause-few c =
 
 pub searching-smaller : goal.searching-smaller
 searching-smaller c =
-    turn_lessens (map (map clause_of) c.args.clauses.now) (locals_of c.args.locals.now) (kept_out paths.Kept) (position_of c.searching.place) (pending_of c.searching.place c.searching.points)
-    (positions_with true c.go_on.new.place c.go_on.new.points)
-    (ap (λ b. positions_with b c.go_on.new.place c.go_on.new.points) (sym c.if-not-branch.false) ∙ c.in_ok-go_on.ensures.left)
+    turn_lessens (program_in c.args.clauses.now) (locals_of c.args.locals.now) (kept_out paths.Kept) (position_of c.searching.machine) (pending_of c.searching.machine c.searching.points)
+    (positions_with true c.go_on.new.machine c.go_on.new.points)
+    (ap (λ b. positions_with b c.go_on.new.machine c.go_on.new.points) (sym c.if-not-branch.false) ∙ c.in_ok-go_on.ensures.left)
 
 pub searching-preserved : goal.searching-preserved
 searching-preserved c =
-    let program = map (map clause_of) c.args.clauses.now in
+    let program = program_in c.args.clauses.now in
     let locals = locals_of c.args.locals.now in
     let kept = kept_out paths.Kept in
-    let p = position_of c.searching.place in
-    let ps = pending_of c.searching.place c.searching.points in
-    let qs = positions_with true c.go_on.new.place c.go_on.new.points in
+    let p = position_of c.searching.machine in
+    let ps = pending_of c.searching.machine c.searching.points in
+    let qs = positions_with true c.go_on.new.machine c.go_on.new.points in
     let left : qs ≡ followed (turned program locals p) ps =
-    ap (λ b. positions_with b c.go_on.new.place c.go_on.new.points) (sym c.if-not-branch.false) ∙ c.in_ok-go_on.ensures.left in
+    ap (λ b. positions_with b c.go_on.new.machine c.go_on.new.points) (sym c.if-not-branch.false) ∙ c.in_ok-go_on.ensures.left in
     record {
       all = turn_keeps program locals kept limits.All limits.All p ps qs (outs_of c.searching.outs.items) (outs_of c.go_on.new.outs.items)
           (map kept (outs_from program locals (position_of c.args.first))) tt left refl c.in_ok-go_on.ensures.outs c.searching.invariant.all;

@@ -1,10 +1,10 @@
-use Rattle.std.proofs.Common.{◌≡◌, ℕ, List, length, drop, map, arith, ap, ap₂, ◌∙◌, subst}
+use Rattle.std.proofs.Common.{◌≡◌, ℕ, List, length, drop, arith, ap, ap₂, ◌∙◌, subst}
 use Rattle.std.specs.Prelude.{IfOk}
 use Rattle.ap_defs.specs.Answers.{outs_of}
-use Rattle.ap_defs.specs.Goals.{clause_of}
+use Rattle.ap_defs.specs.Goals.{program_in}
 use Rattle.ap_defs.specs.Types.{locals_of}
 use Rattle.ap_defs.specs.declared.paths.Out.{Out}
-use Rattle.ap_backchain.specs.Places.{position_of}
+use Rattle.ap_backchain.specs.Machines.{position_of}
 use Rattle.ap_backchain.specs.Positions.{Position, turned}
 use Rattle.ap_backchain.specs.Searches.{ended, positions_with}
 use Rattle.ap_backchain.specs.Wanted.{wanted_after}
@@ -18,7 +18,7 @@ returns-then-goes-clause-left c = rw c.if-goes.true at c.in_ok-goes.ensures.left
 pub returns-else-goes-clause-left : goal.returns-else-goes-clause-left
 returns-else-goes-clause-left c =
     let left = rw c.if-goes.false at c.in_ok-goes.ensures.left in
-    subst (λ (ps : List Position). IfOk c.resume.result (λ b. positions_with b c.resume.new.place c.resume.new.points ≡ ps)) left c.resume.ensures.left
+    subst (λ (ps : List Position). IfOk c.resume.result (λ b. positions_with b c.resume.new.machine c.resume.new.points ≡ ps)) left c.resume.ensures.left
 
 pub returns-else-goes-clause-outs : goal.returns-else-goes-clause-outs
 returns-else-goes-clause-outs c = on_ok c.resume.result c.in_ok-goes.ensures.outs
@@ -31,7 +31,7 @@ returns-then-goes-clause-wanted c =
     ∙ ap (λ (xs : List Out). wanted_after c.args.wanted.now (outs_of xs)) (rest_taken c.len-before.result c.deref.result.now)
     ∙ ap₂ (λ (n : ℕ) (xs : List Out). wanted_after c.args.wanted.now (outs_of (drop n xs))) before c.deref.ensures.value
     ∙ wanted_since c.args.wanted.now c.args.paths c.args.outs.now.items c.turn_on.new.outs.items
-    (ended (turned (map (map clause_of) c.args.clauses.now) (locals_of c.args.locals.now) (position_of c.args.place.now))) c.in_ok-goes.ensures.outs
+    (ended (turned (program_in c.args.clauses.now) (locals_of c.args.locals.now) (position_of c.args.machine.now))) c.in_ok-goes.ensures.outs
 
 pub returns-else-goes-clause-wanted : goal.returns-else-goes-clause-wanted
 returns-else-goes-clause-wanted c =
@@ -41,4 +41,4 @@ returns-else-goes-clause-wanted c =
     ∙ ap (λ (xs : List Out). wanted_after c.args.wanted.now (outs_of xs)) (rest_taken c.len-before.result c.deref.result.now)
     ∙ ap₂ (λ (n : ℕ) (xs : List Out). wanted_after c.args.wanted.now (outs_of (drop n xs))) before c.deref.ensures.value
     ∙ wanted_since c.args.wanted.now c.args.paths c.args.outs.now.items c.turn_on.new.outs.items
-    (ended (turned (map (map clause_of) c.args.clauses.now) (locals_of c.args.locals.now) (position_of c.args.place.now))) c.in_ok-goes.ensures.outs)
+    (ended (turned (program_in c.args.clauses.now) (locals_of c.args.locals.now) (position_of c.args.machine.now))) c.in_ok-goes.ensures.outs)

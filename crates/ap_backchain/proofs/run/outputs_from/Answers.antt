@@ -1,12 +1,12 @@
 use Rattle.std.proofs.Common.{◌≡◌, true, [], map, ap, ◌∙◌, sym}
 use Rattle.std.specs.Prelude.{reverse}
 use Rattle.ap_defs.specs.Answers.{outs_of}
-use Rattle.ap_defs.specs.Goals.{clause_of}
+use Rattle.ap_defs.specs.Goals.{program_in}
 use Rattle.ap_defs.specs.Types.{locals_of}
 use Rattle.ap_paths.specs.Limits.{part}
 use Rattle.ap_backchain.specs.Ends.{kept_out}
-use Rattle.ap_backchain.specs.Places.{position_of, track_of}
-use Rattle.ap_backchain.specs.Points.{positions_pending}
+use Rattle.ap_backchain.specs.Machines.{position_of, track_of}
+use Rattle.ap_backchain.specs.ChoicePoints.{positions_pending}
 use Rattle.ap_backchain.specs.Positions.{outs_from, outs_from_each, turned}
 use Rattle.ap_backchain.specs.Searches.{followed, pending_of, positions_with}
 use Rattle.ap_backchain.proofs.SearchLemmas.{turn_keeps, turn_lessens}
@@ -15,15 +15,15 @@ use Rattle.ap_backchain.proofs.run.outputs_from.Goals as goal
 
 pub returns-then-not-branch : goal.returns-then-not-branch
 returns-then-not-branch c =
-    let program = map (map clause_of) c.args.clauses.now in
+    let program = program_in c.args.clauses.now in
     let locals = locals_of c.args.locals.now in
     let kept = kept_out c.args.paths in
-    let p = position_of c.searching.place in
-    let ps = pending_of c.searching.place c.searching.points in
+    let p = position_of c.searching.machine in
+    let ps = pending_of c.searching.machine c.searching.points in
     let all = map kept (part c.args.limit (outs_from program locals (position_of c.args.first))) in
     let left : [] ≡ followed (turned program locals p) ps =
-    sym (ap (λ qs. positions_pending (track_of c.go_on.new.place) (reverse qs)) (c.in_ok-go_on.ensures.none c.if-not-branch.true))
-    ∙ ap (λ b. positions_with b c.go_on.new.place c.go_on.new.points) (sym c.if-not-branch.true)
+    sym (ap (λ qs. positions_pending (track_of c.go_on.new.machine) (reverse qs)) (c.in_ok-go_on.ensures.none c.if-not-branch.true))
+    ∙ ap (λ b. positions_with b c.go_on.new.machine c.go_on.new.points) (sym c.if-not-branch.true)
     ∙ c.in_ok-go_on.ensures.left in
     nothing_left c.go_on.new.wanted kept (outs_of c.go_on.new.outs.items) all
     (turn_keeps program locals kept c.searching.wanted c.go_on.new.wanted p ps [] (outs_of c.searching.outs.items) (outs_of c.go_on.new.outs.items) all
@@ -31,21 +31,21 @@ returns-then-not-branch c =
 
 pub searching-smaller : goal.searching-smaller
 searching-smaller c =
-    turn_lessens (map (map clause_of) c.args.clauses.now) (locals_of c.args.locals.now) (kept_out c.args.paths) (position_of c.searching.place) (pending_of c.searching.place c.searching.points)
-    (positions_with true c.go_on.new.place c.go_on.new.points)
-    (ap (λ b. positions_with b c.go_on.new.place c.go_on.new.points) (sym c.if-not-branch.false) ∙ c.in_ok-go_on.ensures.left)
+    turn_lessens (program_in c.args.clauses.now) (locals_of c.args.locals.now) (kept_out c.args.paths) (position_of c.searching.machine) (pending_of c.searching.machine c.searching.points)
+    (positions_with true c.go_on.new.machine c.go_on.new.points)
+    (ap (λ b. positions_with b c.go_on.new.machine c.go_on.new.points) (sym c.if-not-branch.false) ∙ c.in_ok-go_on.ensures.left)
 
 pub searching-preserved : goal.searching-preserved
 searching-preserved c =
-    let program = map (map clause_of) c.args.clauses.now in
+    let program = program_in c.args.clauses.now in
     let locals = locals_of c.args.locals.now in
     let kept = kept_out c.args.paths in
     record {
-      all = turn_keeps program locals kept c.searching.wanted c.go_on.new.wanted (position_of c.searching.place) (pending_of c.searching.place c.searching.points)
-          (positions_with true c.go_on.new.place c.go_on.new.points)
+      all = turn_keeps program locals kept c.searching.wanted c.go_on.new.wanted (position_of c.searching.machine) (pending_of c.searching.machine c.searching.points)
+          (positions_with true c.go_on.new.machine c.go_on.new.points)
           (outs_of c.searching.outs.items) (outs_of c.go_on.new.outs.items) (map kept (part c.args.limit (outs_from program locals (position_of c.args.first))))
           (c.is_wanting.ensures.yes c.searching-test.true)
-          (ap (λ b. positions_with b c.go_on.new.place c.go_on.new.points) (sym c.if-not-branch.false) ∙ c.in_ok-go_on.ensures.left)
+          (ap (λ b. positions_with b c.go_on.new.machine c.go_on.new.points) (sym c.if-not-branch.false) ∙ c.in_ok-go_on.ensures.left)
           c.in_ok-go_on.ensures.wanted c.in_ok-go_on.ensures.outs c.searching.invariant.all;
       points = c.in_ok-go_on.ensures.points;
     }
@@ -53,10 +53,10 @@ searching-preserved c =
 -- no more answers are wanted
 pub returns : goal.returns
 returns c =
-    let program = map (map clause_of) c.args.clauses.now in
+    let program = program_in c.args.clauses.now in
     let locals = locals_of c.args.locals.now in
     let kept = kept_out c.args.paths in
     nothing_wanted c.searching.wanted kept (outs_of c.searching.outs.items)
-    (outs_from_each program locals (positions_with true c.searching.place c.searching.points))
+    (outs_from_each program locals (positions_with true c.searching.machine c.searching.points))
     (map kept (part c.args.limit (outs_from program locals (position_of c.args.first))))
     (c.is_wanting.ensures.no c.searching-test.false) c.searching.invariant.all

@@ -2,10 +2,10 @@ use Rattle.std.proofs.Common.{◌≡◌, List, [], ◌∷◌, ◌++◌, map, ref
 use Rattle.std.proofs.lemmas.List.{append-nil, map-append}
 use Rattle.std.proofs.lemmas.Result.{IfOk-weaker}
 use Rattle.ap_defs.specs.Answers.{NominalOut, out_of, outs_of}
-use Rattle.ap_defs.specs.Goals.{clause_of}
+use Rattle.ap_defs.specs.Goals.{program_in}
 use Rattle.ap_defs.specs.Types.{NominalLocal, locals_of}
 use Rattle.ap_backchain.specs.Ends.{end_out, kept_out}
-use Rattle.ap_backchain.specs.Places.{position_of}
+use Rattle.ap_backchain.specs.Machines.{position_of}
 use Rattle.ap_backchain.specs.Positions.{Position, Turned, turned}
 use Rattle.ap_backchain.specs.Searches.{ended, followed, pending_of, positions_with}
 use Rattle.ap_backchain.proofs.RunLemmas.{ended_choice, on_ok, pending_goes, points_goes}
@@ -16,9 +16,9 @@ choose-requires-clause-choosing c = (c.in-Some.field-0, c.in-Some.ensures)
 
 pub returns-in-Some-clause-left : goal.returns-in-Some-clause-left
 returns-in-Some-clause-left c =
-    let program = map (map clause_of) c.args.clauses.now in let p = position_of c.args.place.now in let ps = pending_of c.args.place.now c.args.points.now in
-    IfOk-weaker c.choose.result (λ b. (locals : List NominalLocal) → positions_with b c.choose.new.place c.choose.new.points ≡ followed (turned program locals p) ps)
-    (λ b. positions_with b c.choose.new.place c.choose.new.points ≡ followed (turned program (locals_of c.args.locals.now) p) ps)
+    let program = program_in c.args.clauses.now in let p = position_of c.args.machine.now in let ps = pending_of c.args.machine.now c.args.points.now in
+    IfOk-weaker c.choose.result (λ b. (locals : List NominalLocal) → positions_with b c.choose.new.machine c.choose.new.points ≡ followed (turned program locals p) ps)
+    (λ b. positions_with b c.choose.new.machine c.choose.new.points ≡ followed (turned program (locals_of c.args.locals.now) p) ps)
     (λ b h. h (locals_of c.args.locals.now)) c.choose.ensures.left
 
 pub returns-in-Some-clause-outs : goal.returns-in-Some-clause-outs
@@ -27,11 +27,11 @@ returns-in-Some-clause-outs c =
     on_ok c.choose.result
     (sym (append-nil outs)
     ∙ ap (λ (os : List NominalOut). outs ++ map (kept_out c.args.paths) os)
-    (ended_choice (map (map clause_of) c.args.clauses.now) (locals_of c.args.locals.now) (position_of c.args.place.now) c.in-Some.field-0 c.in-Some.ensures))
+    (ended_choice (program_in c.args.clauses.now) (locals_of c.args.locals.now) (position_of c.args.machine.now) c.in-Some.field-0 c.in-Some.ensures))
 
 pub returns-in-Goes-clause-left : goal.returns-in-Goes-clause-left
 returns-in-Goes-clause-left c =
-    let b = c.args.place.now in let d = c.take_turn.new.place in let us = c.args.points.now in
+    let b = c.args.machine.now in let d = c.take_turn.new.machine in let us = c.args.points.now in
     let turn = rw c.in-Goes.is at c.in_ok-take_turn-in-None.ensures.turned in
     ap (λ (ps : List Position). position_of d ∷ ps) (pending_goes b d us us refl c.requires.points c.in_ok-take_turn-in-None.ensures.goes)
     ∙ ap (λ (t : Turned). followed t (pending_of b us)) turn
@@ -44,11 +44,11 @@ returns-in-Goes-clause-outs c =
 
 pub returns-in-Goes-clause-points : goal.returns-in-Goes-clause-points
 returns-in-Goes-clause-points c =
-    points_goes c.args.place.now c.take_turn.new.place c.args.points.now c.args.points.now refl c.requires.points c.in_ok-take_turn-in-None.ensures.goes
+    points_goes c.args.machine.now c.take_turn.new.machine c.args.points.now c.args.points.now refl c.requires.points c.in_ok-take_turn-in-None.ensures.goes
 
 pub returns-in-Fails-clause-left : goal.returns-in-Fails-clause-left
 returns-in-Fails-clause-left c =
-    let b = c.args.place.now in let d = c.take_turn.new.place in let us = c.args.points.now in
+    let b = c.args.machine.now in let d = c.take_turn.new.machine in let us = c.args.points.now in
     let turn = rw c.in-Fails.is at c.in_ok-take_turn-in-None.ensures.turned in
     pending_goes b d us us refl c.requires.points c.in_ok-take_turn-in-None.ensures.goes ∙ ap (λ (t : Turned). followed t (pending_of b us)) turn
 
@@ -60,11 +60,11 @@ returns-in-Fails-clause-outs c =
 
 pub returns-in-Fails-clause-points : goal.returns-in-Fails-clause-points
 returns-in-Fails-clause-points c =
-    points_goes c.args.place.now c.take_turn.new.place c.args.points.now c.args.points.now refl c.requires.points c.in_ok-take_turn-in-None.ensures.goes
+    points_goes c.args.machine.now c.take_turn.new.machine c.args.points.now c.args.points.now refl c.requires.points c.in_ok-take_turn-in-None.ensures.goes
 
 pub returns-in_ok-push-in-Ends-clause-left : goal.returns-in_ok-push-in-Ends-clause-left
 returns-in_ok-push-in-Ends-clause-left c =
-    let b = c.args.place.now in let d = c.take_turn.new.place in let us = c.args.points.now in
+    let b = c.args.machine.now in let d = c.take_turn.new.machine in let us = c.args.points.now in
     let turn = rw c.in-Ends.is at c.in_ok-take_turn-in-None.ensures.turned in
     pending_goes b d us us refl c.requires.points c.in_ok-take_turn-in-None.ensures.goes ∙ ap (λ (t : Turned). followed t (pending_of b us)) turn
 
@@ -77,4 +77,4 @@ returns-in_ok-push-in-Ends-clause-outs c =
 
 pub returns-in_ok-push-in-Ends-clause-points : goal.returns-in_ok-push-in-Ends-clause-points
 returns-in_ok-push-in-Ends-clause-points c =
-    points_goes c.args.place.now c.take_turn.new.place c.args.points.now c.args.points.now refl c.requires.points c.in_ok-take_turn-in-None.ensures.goes
+    points_goes c.args.machine.now c.take_turn.new.machine c.args.points.now c.args.points.now refl c.requires.points c.in_ok-take_turn-in-None.ensures.goes

@@ -1,21 +1,21 @@
-use Rattle.std.proofs.Common.{map, sym, ap, ◌∙◌}
-use Rattle.ap_defs.specs.Goals.{clause_of}
+use Rattle.std.proofs.Common.{sym, ap, ◌∙◌}
+use Rattle.ap_defs.specs.Goals.{program_in}
 use Rattle.ap_defs.specs.Types.{locals_of}
-use Rattle.ap_backchain.specs.Places.{position_of, turned_of}
+use Rattle.ap_backchain.specs.Machines.{position_of, turned_of}
 use Rattle.ap_backchain.specs.declared.turns.Turn.{Turn}
 use Rattle.ap_backchain.proofs.BranchLemmas.{went_fewer, went_marks, went_path}
 use Rattle.ap_backchain.proofs.standing.advance.Goals as goal
 
 pub advancing-smaller : goal.advancing-smaller
 advancing-smaller c =
-    let r = position_of c.take_turn.new.place in
-    went_fewer (map (map clause_of) c.args.clauses.now) (locals_of c.args.locals.now) (position_of c.advancing.here) c.in-None.ensures r
+    let r = position_of c.take_turn.new.machine in
+    went_fewer (program_in c.args.clauses.now) (locals_of c.args.locals.now) (position_of c.advancing.here) c.in-None.ensures r
     (sym (ap (λ (t : Turn). turned_of t r) c.in-Goes.is) ∙ c.in_ok-end-in-None.ensures.turned)
 
 pub advancing-preserved : goal.advancing-preserved
 advancing-preserved c =
-    let program = map (map clause_of) c.args.clauses.now in let ls = locals_of c.args.locals.now in
-    let r = position_of c.take_turn.new.place in
+    let program = program_in c.args.clauses.now in let ls = locals_of c.args.locals.now in
+    let r = position_of c.take_turn.new.machine in
     let e = sym (ap (λ (t : Turn). turned_of t r) c.in-Goes.is) ∙ c.in_ok-end-in-None.ensures.turned in
     record {
       marks = went_marks program ls (position_of c.advancing.here) c.in-None.ensures r e ∙ c.advancing.invariant.marks;
@@ -23,4 +23,4 @@ advancing-preserved c =
     }
 
 pub returns-in-Fails-clause-choosing : goal.returns-in-Fails-clause-choosing
-returns-in-Fails-clause-choosing c = c.failed_at.ensures.choosing (map (map clause_of) c.args.clauses.now)
+returns-in-Fails-clause-choosing c = c.failed_at.ensures.choosing (program_in c.args.clauses.now)

@@ -1,6 +1,6 @@
-use Rattle.std.proofs.Common.{◌≡◌, ℕ, List, [], ◌∷◌, ◌++◌, map, ap, ◌∙◌, sym, subst}
+use Rattle.std.proofs.Common.{◌≡◌, ℕ, List, [], ◌∷◌, ◌++◌, ap, ◌∙◌, sym, subst}
 use Rattle.std.specs.Prelude.{IfOk, Option}
-use Rattle.ap_defs.specs.Goals.{clause_of}
+use Rattle.ap_defs.specs.Goals.{program_in}
 use Rattle.ap_defs.specs.Types.{locals_of}
 use Rattle.ap_search.specs.Marks.{NominalMark, mark_path}
 use Rattle.ap_search.specs.Prefixes.{beginning}
@@ -14,7 +14,7 @@ choose_by-requires-clause-goal c = c.in-Some.ensures.some.1
 
 pub choose_by-requires-clause-choice : goal.choose_by-requires-clause-choice
 choose_by-requires-clause-choice c =
-    let program = map (map clause_of) c.args.clauses.now in
+    let program = program_in c.args.clauses.now in
     let choosing = rw c.in-Choosing.is at c.requires.choosing in
     let choice = rw c.in-Choosing.is at c.requires.choice in
     let e = sym choosing ∙ ap (λ (p : Position). choice_of program p.waiting) c.in-Some.ensures.some.0 in
@@ -22,7 +22,7 @@ choose_by-requires-clause-choice c =
 
 pub returns-clause-marks : goal.returns-clause-marks
 returns-clause-marks c =
-    let program = map (map clause_of) c.args.clauses.now in let ls = locals_of c.args.locals.now in
+    let program = program_in c.args.clauses.now in let ls = locals_of c.args.locals.now in
     let e = sym (ap (λ (p : Position). beginning mark_path (p.path ++ c.args.choice ∷ []) (marks_from program ls p)) c.in-Some.ensures.some.0) in
     rw c.in-Choosing.is (subst (λ (ms : List NominalMark). IfOk c.choose_by.result (λ s. marks_of_standing program ls s ≡ ms)) e c.choose_by.ensures.marks)
 

@@ -1,6 +1,6 @@
 use Rattle.std.proofs.Common.{◌≡◌, ◌-◌, List, [], ◌∷◌, ◌++◌, map, ap, sym, ◌∙◌, subst, arith}
 use Rattle.std.specs.Prelude.{IfOk}
-use Rattle.ap_defs.specs.Goals.{clause_of, either, goal_of}
+use Rattle.ap_defs.specs.Goals.{clause_of, either, goal_of, program_in}
 use Rattle.ap_defs.specs.Renaming.{rename_goal, rename_term}
 use Rattle.ap_defs.specs.Terms.{term_of}
 use Rattle.ap_defs.specs.Types.{locals_of}
@@ -8,15 +8,15 @@ use Rattle.ap_search.specs.Marks.{NominalMark, mark_path}
 use Rattle.ap_search.specs.Prefixes.{beginning}
 use Rattle.ap_backchain.specs.Branches.{marks_of_standing}
 use Rattle.ap_backchain.specs.Marks.{clauses_marks, goal_marks, marks_from}
-use Rattle.ap_backchain.specs.Places.{position_of}
+use Rattle.ap_backchain.specs.Machines.{position_of}
 use Rattle.ap_backchain.specs.Positions.{with_choice, with_goal}
 use Rattle.ap_backchain.proofs.ChooseLemmas.{atom_marks, deep_enough, left_way, right_way}
 use Rattle.ap_backchain.proofs.step.choose_by.Goals as goal
 
 pub returns-in-Atom-clause-marks : goal.returns-in-Atom-clause-marks
 returns-in-Atom-clause-marks c =
-    let program = map (map clause_of) c.args.clauses.now in let ls = locals_of c.args.locals.now in
-    let p = position_of c.args.place in let k = c.args.choice in let d = c.args.frame.depth in
+    let program = program_in c.args.clauses.now in let ls = locals_of c.args.locals.now in
+    let p = position_of c.args.machine in let k = c.args.choice in let d = c.args.frame.depth in
     let ts = map (rename_term c.args.frame.base) (map term_of c.in-Atom.args) in
     let among = rw c.in-Atom.is at c.requires.choice in
     let terms = ap (λ us. map (rename_term c.args.frame.base) (map term_of us)) c.items.ensures in
@@ -28,8 +28,8 @@ returns-in-Atom-clause-marks c =
 
 pub returns-then-choice-eq1-clause-marks : goal.returns-then-choice-eq1-clause-marks
 returns-then-choice-eq1-clause-marks c =
-    let program = map (map clause_of) c.args.clauses.now in let ls = locals_of c.args.locals.now in
-    let p = position_of c.args.place in let d = c.args.frame.depth in
+    let program = program_in c.args.clauses.now in let ls = locals_of c.args.locals.now in
+    let p = position_of c.args.machine in let d = c.args.frame.depth in
     let l = rename_goal c.args.frame.base (goal_of c.in-Either.left.value) in let r = rename_goal c.args.frame.base (goal_of c.in-Either.right.value) in
     let e =
     ap (λ g. marks_from program ls (with_goal d (rename_goal c.args.frame.base (goal_of g)) (with_choice 1 p))) c.deref.ensures
@@ -39,8 +39,8 @@ returns-then-choice-eq1-clause-marks c =
 
 pub returns-else-choice-eq1-clause-marks : goal.returns-else-choice-eq1-clause-marks
 returns-else-choice-eq1-clause-marks c =
-    let program = map (map clause_of) c.args.clauses.now in let ls = locals_of c.args.locals.now in
-    let p = position_of c.args.place in let d = c.args.frame.depth in
+    let program = program_in c.args.clauses.now in let ls = locals_of c.args.locals.now in
+    let p = position_of c.args.machine in let d = c.args.frame.depth in
     let l = rename_goal c.args.frame.base (goal_of c.in-Either.left.value) in let r = rename_goal c.args.frame.base (goal_of c.in-Either.right.value) in
     let among = rw c.in-Either.is at c.requires.choice in
     let low = among.0 in let high = among.1 in let other = c.if-choice-eq1.false in

@@ -1,10 +1,10 @@
 use Rattle.std.proofs.Common.{◌<◌, ◌-◌, [], ◌∷◌, ◌++◌, length, map, ap, ◌∙◌, arith}
 use Rattle.std.proofs.lemmas.List.{length-map}
-use Rattle.ap_defs.specs.Goals.{clause_of}
+use Rattle.ap_defs.specs.Goals.{clause_of, program_in}
 use Rattle.ap_defs.specs.Renaming.{rename_term}
 use Rattle.ap_defs.specs.Terms.{term_of}
 use Rattle.ap_defs.specs.Types.{locals_of}
-use Rattle.ap_backchain.specs.Places.{position_of}
+use Rattle.ap_backchain.specs.Machines.{position_of}
 use Rattle.ap_backchain.specs.Positions.{Position, clause_state}
 use Rattle.ap_backchain.proofs.ChooseLemmas.{clause_here, entered_path, fit_here, kid_marks, no_kid_marks}
 use Rattle.ap_backchain.proofs.step.choose_clause.Goals as goal
@@ -21,18 +21,18 @@ returns-then-branch-clause-marks c =
     let cs = c.args.candidates.now in let d = c.index-candidates-choice.result in
     let h : c.args.choice - 1 < length cs = omega (arith, a, b) in
     let many = length-map cs clause_of in
-    let program = map (map clause_of) c.args.clauses.now in let ls = locals_of c.args.locals.now in
+    let program = program_in c.args.clauses.now in let ls = locals_of c.args.locals.now in
     let ts = map (rename_term c.args.frame.base) (map term_of c.args.args.now) in
     c.in_ok-standing.ensures.marks
-    ∙ kid_marks program ls (c.args.frame.depth - 1) ts (position_of c.args.place) c.args.choice (clause_of d) (map clause_of cs) a (omega (arith, h, many))
-    (clause_here cs (c.args.choice - 1) d h c.index-candidates-choice.is) (position_of c.enter_clause.new.place) (rw c.if-branch.true at c.in_ok-enter_clause.ensures.entered)
+    ∙ kid_marks program ls (c.args.frame.depth - 1) ts (position_of c.args.machine) c.args.choice (clause_of d) (map clause_of cs) a (omega (arith, h, many))
+    (clause_here cs (c.args.choice - 1) d h c.index-candidates-choice.is) (position_of c.enter_clause.new.machine) (rw c.if-branch.true at c.in_ok-enter_clause.ensures.entered)
 
 pub returns-then-branch-clause-path : goal.returns-then-branch-clause-path
 returns-then-branch-clause-path c =
-    let p = position_of c.args.place in let d = clause_of c.index-candidates-choice.result in
+    let p = position_of c.args.machine in let d = clause_of c.index-candidates-choice.result in
     let ts = map (rename_term c.args.frame.base) (map term_of c.args.args.now) in
     c.in_ok-standing.ensures.path
-    ∙ entered_path (map (map clause_of) c.args.clauses.now) (locals_of c.args.locals.now) (c.args.frame.depth - 1) p c.args.choice d (clause_state ts p.state d) (position_of c.enter_clause.new.place)
+    ∙ entered_path (program_in c.args.clauses.now) (locals_of c.args.locals.now) (c.args.frame.depth - 1) p c.args.choice d (clause_state ts p.state d) (position_of c.enter_clause.new.machine)
     (rw c.if-branch.true at c.in_ok-enter_clause.ensures.entered)
 
 pub returns-clause-marks : goal.returns-clause-marks
@@ -41,10 +41,10 @@ returns-clause-marks c =
     let cs = c.args.candidates.now in let d = c.index-candidates-choice.result in
     let h : c.args.choice - 1 < length cs = omega (arith, a, b) in
     let many = length-map cs clause_of in
-    let program = map (map clause_of) c.args.clauses.now in let ls = locals_of c.args.locals.now in
+    let program = program_in c.args.clauses.now in let ls = locals_of c.args.locals.now in
     let ts = map (rename_term c.args.frame.base) (map term_of c.args.args.now) in
     c.in_ok-standing-2.ensures.marks program ls
-    ∙ no_kid_marks program ls (c.args.frame.depth - 1) ts (position_of c.args.place) c.args.choice (clause_of d) (map clause_of cs) a (omega (arith, h, many))
+    ∙ no_kid_marks program ls (c.args.frame.depth - 1) ts (position_of c.args.machine) c.args.choice (clause_of d) (map clause_of cs) a (omega (arith, h, many))
     (clause_here cs (c.args.choice - 1) d h c.index-candidates-choice.is) (rw c.if-branch.false at c.in_ok-enter_clause.ensures.entered)
 
 pub returns-clause-path : goal.returns-clause-path
@@ -52,4 +52,4 @@ returns-clause-path c =
     c.in_ok-standing-2.ensures.path ∙ ap (λ (p : Position). p.path ++ c.args.choice ∷ []) (c.in_ok-enter_clause.ensures.none c.if-branch.false).1
 
 pub returns-clause-choosing : goal.returns-clause-choosing
-returns-clause-choosing c = c.in_ok-standing-2.ensures.choosing (map (map clause_of) c.args.clauses.now)
+returns-clause-choosing c = c.in_ok-standing-2.ensures.choosing (program_in c.args.clauses.now)

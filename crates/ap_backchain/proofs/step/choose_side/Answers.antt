@@ -1,5 +1,5 @@
-use Rattle.std.proofs.Common.{ℕ, map, ap, sym, ◌∙◌, subst}
-use Rattle.ap_defs.specs.Goals.{clause_of, goal_of}
+use Rattle.std.proofs.Common.{ℕ, ap, sym, ◌∙◌, subst}
+use Rattle.ap_defs.specs.Goals.{goal_of, program_in}
 use Rattle.ap_defs.specs.Renaming.{IsGoalBelow, rename_goal}
 use Rattle.ap_defs.specs.Types.{locals_of}
 use Rattle.ap_backchain.specs.Marks.{marks_from}
@@ -11,7 +11,7 @@ push_goal-requires c = subst (λ (n : ℕ). IsGoalBelow n (rename_goal c.args.fr
 
 pub returns-clause-marks : goal.returns-clause-marks
 returns-clause-marks c =
-    let program = map (map clause_of) c.args.clauses.now in let ls = locals_of c.args.locals.now in
+    let program = program_in c.args.clauses.now in let ls = locals_of c.args.locals.now in
     let g = rename_goal c.args.frame.base (goal_of c.args.side.now) in
     c.in_ok-standing.ensures.marks
     ∙ ap (λ (p : Position). marks_from program ls p) (c.in_ok-push_goal.ensures.position ∙ ap (with_goal c.args.frame.depth g) c.in_ok-push_choice.ensures.position)

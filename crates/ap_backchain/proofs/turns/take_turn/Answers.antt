@@ -1,11 +1,11 @@
-use Rattle.std.proofs.Common.{◌≡◌, List, map, ap, ◌∙◌, sym, subst}
+use Rattle.std.proofs.Common.{◌≡◌, List, ap, ◌∙◌, sym, subst}
 use Rattle.std.specs.Prelude.{IfOk, OnOk}
 use Rattle.ap_defs.specs.Answers.{found}
-use Rattle.ap_defs.specs.Goals.{clause_of}
+use Rattle.ap_defs.specs.Goals.{program_in}
 use Rattle.ap_defs.specs.Types.{locals_of}
 use Rattle.ap_search.specs.Continuations.{Waiting}
 use Rattle.ap_backchain.specs.Marks.{choice_of}
-use Rattle.ap_backchain.specs.Places.{position_of, track_of, turned_of}
+use Rattle.ap_backchain.specs.Machines.{position_of, track_of, turned_of}
 use Rattle.ap_backchain.specs.Positions.{Position, Turned, ends, turned, turned_by}
 use Rattle.ap_backchain.specs.Tracks.{GoesFrom, Track}
 use Rattle.ap_backchain.specs.Unbound.{answer_by_unbound}
@@ -17,27 +17,27 @@ turn_of_goal-requires-clause-goal c = c.in-Some.ensures.some.1
 
 pub turn_of_goal-requires-clause-settled : goal.turn_of_goal-requires-clause-settled
 turn_of_goal-requires-clause-settled c =
-    let program = map (map clause_of) c.args.clauses.now in
+    let program = program_in c.args.clauses.now in
     sym (ap (λ (p : Position). choice_of program p.waiting) c.in-Some.ensures.some.0) ∙ c.requires.settled
 
 pub returns-in-Some-clause-turned : goal.returns-in-Some-clause-turned
 returns-in-Some-clause-turned c =
-    let program = map (map clause_of) c.args.clauses.now in let ls = locals_of c.args.locals.now in
-    let q = position_of c.turn_of_goal.new.place in
+    let program = program_in c.args.clauses.now in let ls = locals_of c.args.locals.now in
+    let q = position_of c.turn_of_goal.new.machine in
     subst (λ (t : Turned). IfOk c.turn_of_goal.result (λ r. turned_of r q ≡ t)) (sym (ap (turned program ls) c.in-Some.ensures.some.0)) c.turn_of_goal.ensures.turned
 
 pub returns-in-Some-clause-goes : goal.returns-in-Some-clause-goes
 returns-in-Some-clause-goes c =
-    let u = track_of c.turn_of_goal.new.place in
+    let u = track_of c.turn_of_goal.new.machine in
     subst (λ (t : Track). OnOk c.turn_of_goal.result (GoesFrom t u)) c.pop_goal.ensures.track c.turn_of_goal.ensures.goes
 
 pub returns-in_ok-end-in-None-clause-turned : goal.returns-in_ok-end-in-None-clause-turned
 returns-in_ok-end-in-None-clause-turned c =
-    let program = map (map clause_of) c.args.clauses.now in let ls = locals_of c.args.locals.now in
-    let p = position_of c.args.place.now in
+    let program = program_in c.args.clauses.now in let ls = locals_of c.args.locals.now in
+    let p = position_of c.args.machine.now in
     ap ends c.in_ok-end-in-None.ensures
     ∙ ap (λ (r : Position). ends (found r.path (answer_by_unbound ls r.state r.brought))) c.in-None.ensures.none.1
     ∙ sym (ap (λ (ws : List Waiting). turned_by program ls ws p) c.in-None.ensures.none.0)
 
 pub returns-in_ok-end-in-None-clause-goes : goal.returns-in_ok-end-in-None-clause-goes
-returns-in_ok-end-in-None-clause-goes c = goes_same (track_of c.args.place.now) (track_of c.pop_goal.new.self) c.pop_goal.ensures.track
+returns-in_ok-end-in-None-clause-goes c = goes_same (track_of c.args.machine.now) (track_of c.pop_goal.new.self) c.pop_goal.ensures.track

@@ -4,8 +4,8 @@ use Rattle.ap_defs.specs.Renaming.{IsBelow, rename_term}
 use Rattle.ap_defs.specs.Substitution.{under}
 use Rattle.ap_defs.specs.Terms.{NominalTerm, term_of}
 use Rattle.ap_perm.specs.Closures.{closure_term, opened_term}
-use Rattle.ap_store.specs.Views.{present}
-use Rattle.ap_backchain.specs.Places.{position_of}
+use Rattle.ap_store.specs.Views.{bindings_of, present}
+use Rattle.ap_backchain.specs.Machines.{position_of}
 use Rattle.ap_backchain.specs.Positions.{goes_with, reduced_state}
 use Rattle.ap_backchain.specs.Stacks.{waiting_in}
 use Rattle.ap_backchain.specs.Views.{state_in}
@@ -17,22 +17,22 @@ of-requires c = rw c.next-end.ensures c.requires.left
 
 pub make_fresh-requires-clause-name : goal.make_fresh-requires-clause-name
 make_fresh-requires-clause-name c =
-    let n = (present c.args.place.now.store).next in
+    let n = (present c.args.machine.now.store).next in
     let k = c.in_ok-left.ensures.below (rw c.of.ensures c.requires.left) in
     subst (λ (t : NominalTerm). IsBelow n t) (sym c.in_ok-a.ensures ∙ ap opened_term c.in-Name.is) k
 
-pub invariant_of-place : goal.invariant_of-place
-invariant_of-place c = record {
-  below = waiting_kept c.args.place.now.store c.make_fresh.new.store (waiting_in c.args.place.now.goals) c.make_fresh.ensures.kinds c.args.place.now.below;
+pub invariant_of-machine : goal.invariant_of-machine
+invariant_of-machine c = record {
+  below = waiting_kept c.args.machine.now.store c.make_fresh.new.store (waiting_in c.args.machine.now.goals) c.make_fresh.ensures.kinds c.args.machine.now.below;
 }
 
 pub returns-in-Name-clause-turned : goal.returns-in-Name-clause-turned
 returns-in-Name-clause-turned c =
-    let s = c.args.place.now.store in
+    let s = c.args.machine.now.store in
     let r = c.make_fresh.new.store in
-    let p = position_of c.args.place.now in
+    let p = position_of c.args.machine.now in
     let a = c.in-Name.a in
-    let bs = (present s).bindings in
+    let bs = (bindings_of s) in
     let t = rename_term c.args.base (term_of c.args.t.now) in
     let u = rename_term c.args.base (term_of c.args.u.now) in
     turned_reduced s r p _ c.make_fresh.ensures.kinds refl _ c.goes_where.result c.in_ok-solved-in-Name.solved c.in_ok-solved-in-Name.ensures.defined c.goes_where.ensures
@@ -41,9 +41,9 @@ returns-in-Name-clause-turned c =
 
 pub returns-in-Susp-clause-turned : goal.returns-in-Susp-clause-turned
 returns-in-Susp-clause-turned c =
-    let s = c.args.place.now.store in
-    let p = position_of c.args.place.now in
-    let bs = (present s).bindings in
+    let s = c.args.machine.now.store in
+    let p = position_of c.args.machine.now in
+    let bs = (bindings_of s) in
     let t = rename_term c.args.base (term_of c.args.t.now) in
     let u = rename_term c.args.base (term_of c.args.u.now) in
     turned_stuck s p t u (closure_term c.in_ok-left.left) (opened_term c.in_ok-a.field-0) (c.in_ok-left.ensures.term ∙ ap (under bs) c.of.ensures)
@@ -51,9 +51,9 @@ returns-in-Susp-clause-turned c =
 
 pub returns-clause-turned : goal.returns-clause-turned
 returns-clause-turned c =
-    let s = c.args.place.now.store in
-    let p = position_of c.args.place.now in
-    let bs = (present s).bindings in
+    let s = c.args.machine.now.store in
+    let p = position_of c.args.machine.now in
+    let bs = (bindings_of s) in
     let t = rename_term c.args.base (term_of c.args.t.now) in
     let u = rename_term c.args.base (term_of c.args.u.now) in
     turned_other s p t u (closure_term c.in_ok-left.left) (opened_term c.in_ok-a.field-0) (c.in_ok-left.ensures.term ∙ ap (under bs) c.of.ensures) c.in_ok-a.field-0 refl c.in_ok-a.ensures

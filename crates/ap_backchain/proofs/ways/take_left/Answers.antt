@@ -1,7 +1,7 @@
 use Rattle.std.proofs.Common.{ℕ, List, ◌∷◌, ap, ap₂, ◌∙◌, sym, subst}
 use Rattle.ap_defs.specs.Goals.{goal_of}
 use Rattle.ap_defs.specs.Renaming.{IsGoalBelow, rename_goal}
-use Rattle.ap_backchain.specs.Places.{track_of}
+use Rattle.ap_backchain.specs.Machines.{track_of}
 use Rattle.ap_backchain.specs.Positions.{Position, with_goal}
 use Rattle.ap_backchain.specs.Tracks.{GoesFrom}
 use Rattle.ap_backchain.specs.declared.points.Rest.{Rest}
@@ -14,7 +14,7 @@ pub push_goal-requires : goal.push_goal-requires
 push_goal-requires c =
     subst (λ (n : ℕ). IsGoalBelow n (rename_goal c.args.frame.base (goal_of c.args.left.now))) (sym c.in_ok-push_choice.ensures.next) c.requires.left
 
-goes : (c : goal.In_ok-push) → GoesFrom (track_of c.args.place.now) (track_of c.push_goal.new.self)
+goes : (c : goal.In_ok-push) → GoesFrom (track_of c.args.machine.now) (track_of c.push_goal.new.self)
 goes c = goes_trans _ _ _ c.in_ok-push_choice.ensures.goes c.in_ok-push_goal.ensures.goes
 
 abbrev right_side : (c : goal.In_ok-push) → Rest
@@ -24,10 +24,10 @@ pub returns-clause-left : goal.returns-clause-left
 returns-clause-left c =
     ap₂ (λ (p : Position) (ps : List Position). p ∷ ps)
     (c.in_ok-push_goal.ensures.position ∙ ap (with_goal c.args.frame.depth (rename_goal c.args.frame.base (goal_of c.args.left.now))) c.in_ok-push_choice.ensures.position)
-    (pending_with c.save-save.result c.args.place.now c.push_goal.new.self c.save-save.ensures.within c.save-save.ensures.track c.save-save.ensures.position (goes c)
+    (pending_with c.save-save.result c.args.machine.now c.push_goal.new.self c.save-save.ensures.within c.save-save.ensures.track c.save-save.ensures.position (goes c)
     (right_side c) c.args.points.now c.push.new.self c.in_ok-push.ensures.items)
 
 pub returns-clause-points : goal.returns-clause-points
 returns-clause-points c =
-    points_with c.save-save.result c.args.place.now c.push_goal.new.self c.save-save.ensures.within c.save-save.ensures.track c.save-save.ensures.position (goes c)
+    points_with c.save-save.result c.args.machine.now c.push_goal.new.self c.save-save.ensures.within c.save-save.ensures.track c.save-save.ensures.position (goes c)
     (right_side c) c.args.points.now c.push.new.self c.in_ok-push.ensures.items c.requires.right c.requires.points

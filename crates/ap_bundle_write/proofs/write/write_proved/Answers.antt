@@ -4,7 +4,7 @@ use Rattle.ap_defs.specs.Answers.{answer_of}
 use Rattle.ap_defs.specs.Derivations.{derivation_of, terms_in}
 use Rattle.ap_bundle.specs.declared.words.Head.TheVariants as head
 use Rattle.ap_bundle.specs.Nodes.{preorder}
-use Rattle.ap_bundle.specs.Written.{counted, answer_lines, node_lines}
+use Rattle.ap_bundle.specs.Written.{counted_line, answer_lines, node_lines}
 use Rattle.ap_bundle_write.specs.Tables.{held}
 use Rattle.ap_bundle_write.proofs.WritingLemmas.{plain, follows}
 use Rattle.ap_bundle_write.proofs.write.write_proved.Goals as goal
@@ -19,8 +19,8 @@ returns-clause-text c =
     let p = c.args.proved.now in
     let a = answer_of p.answer in
     let d = derivation_of p.derivation in
-    let count = plain v old out c.write_count.new.out.items (counted head.Derivation p.query) c.in_ok-write_count.ensures in
+    let count = plain v old out c.write_count.new.out.items (counted_line head.Derivation p.query) c.in_ok-write_count.ensures in
     on_ok_weaker c.write_derivation.result
-    (λ w. follows v old old new out c.write_count.new.out.items c.write_derivation.new.out.items [] (a.binds ++ terms_in d) (λ way. counted head.Derivation p.query) (λ way. answer_lines way a ++ flat_map (node_lines way) (preorder d)) count
+    (λ w. follows v old old new out c.write_count.new.out.items c.write_derivation.new.out.items [] (a.binds ++ terms_in d) (λ way. counted_line head.Derivation p.query) (λ way. answer_lines way a ++ flat_map (node_lines way) (preorder d)) count
     (follows v old mid new c.write_count.new.out.items c.write_answer.new.out.items c.write_derivation.new.out.items a.binds (terms_in d) (λ way. answer_lines way a) (λ way. flat_map (node_lines way) (preorder d)) c.in_ok-write_answer.ensures.text w))
     c.write_derivation.ensures.text

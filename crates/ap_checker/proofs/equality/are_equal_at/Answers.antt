@@ -4,7 +4,7 @@ use Rattle.ap_checker.specs.Placed.{placed_term}
 use Rattle.ap_checker.specs.declared.binders.Binders.{Binders}
 use Rattle.ap_checker.specs.declared.equality.Compared.{Compared}
 use Rattle.ap_checker.specs.Binders.{AreBinders}
-use Rattle.ap_checker.specs.Comparisons.{are_alike, mark_of, size_of}
+use Rattle.ap_checker.specs.Comparisons.{are_alike, mark_of, compared_size}
 use Rattle.ap_checker.proofs.StackLemmas.{first_waits, first_within, turn_keeps, turn_true}
 use Rattle.ap_checker.proofs.equality.are_equal_at.Goals as goal
 
@@ -28,11 +28,11 @@ terms-preserved c =
     let whole = alpha_under ds (placed_term c.args.t) (placed_term c.args.u) in
     record {
       all =
-          turn_true mark_of (are_alike ds) size_of whole c.in-Some.next c.terms.walk.binders.pairs.items c.truncate.new.self.pairs.items c.compare.new.walk.binders.pairs.items
+          turn_true mark_of (are_alike ds) compared_size whole c.in-Some.next c.terms.walk.binders.pairs.items c.truncate.new.self.pairs.items c.compare.new.walk.binders.pairs.items
           c.terms.walk.pending.items c.pop.new.self.items c.compare.new.walk.pending.items c.terms.invariant.all c.terms.invariant.within c.in-Some.ensures.items c.in_ok-truncate.ensures.pairs
           c.in_ok-compare.field-0 c.if-not-branch.false c.in_ok-compare.ensures.tested;
       within =
-          turn_keeps mark_of (are_alike ds) size_of whole c.in-Some.next c.terms.walk.binders.pairs.items c.truncate.new.self.pairs.items c.compare.new.walk.binders.pairs.items
+          turn_keeps mark_of (are_alike ds) compared_size whole c.in-Some.next c.terms.walk.binders.pairs.items c.truncate.new.self.pairs.items c.compare.new.walk.binders.pairs.items
           c.terms.walk.pending.items c.pop.new.self.items c.compare.new.walk.pending.items c.terms.invariant.all c.terms.invariant.within c.in-Some.ensures.items c.in_ok-truncate.ensures.pairs
           c.in_ok-compare.field-0 c.if-not-branch.false c.in_ok-compare.ensures.tested;
       found = c.in_ok-compare.ensures.found;

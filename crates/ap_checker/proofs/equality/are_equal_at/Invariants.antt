@@ -4,7 +4,7 @@ use Rattle.std.specs.List.{sum_by}
 use Rattle.ap_defs.specs.Freshness.{alpha_under}
 use Rattle.ap_checker.specs.Placed.{placed_term}
 use Rattle.ap_checker.specs.Binders.{AreBinders}
-use Rattle.ap_checker.specs.Comparisons.{are_alike, mark_of, size_of}
+use Rattle.ap_checker.specs.Comparisons.{are_alike, mark_of, compared_size}
 use Rattle.ap_checker.specs.Stacks.{AreWithin, all_waiting}
 use Rattle.ap_checker.proofs.equality.are_equal_at.Given as goal
 
@@ -16,4 +16,4 @@ invariant-terms l = record {
 }
 
 abbrev pub decreases-terms : goal.decreases-terms
-decreases-terms l = sum_by size_of l.walk.pending.items
+decreases-terms l = sum_by compared_size l.walk.pending.items

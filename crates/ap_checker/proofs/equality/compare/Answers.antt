@@ -3,7 +3,7 @@ use Rattle.std.proofs.lemmas.Bool.Decides.{nat_tests}
 use Rattle.ap_defs.specs.Terms.{app, pair}
 use Rattle.ap_defs.specs.Unification.{size}
 use Rattle.ap_checker.specs.declared.binders.Binders.{Binders}
-use Rattle.ap_checker.specs.Comparisons.{are_alike, mark_of, size_of}
+use Rattle.ap_checker.specs.Comparisons.{are_alike, mark_of, compared_size}
 use Rattle.ap_checker.specs.Placed.{head_term, placed_term}
 use Rattle.ap_checker.specs.declared.placed.Head.{Head}
 use Rattle.ap_checker.proofs.ComparisonLemmas.{alike, apps, others, pairs}
@@ -23,7 +23,7 @@ returns-in-Pair-Pair-clause-tested c =
     let left : placed_term c.args.at.left ≡ pair t u = sym c.in_ok-left.ensures ∙ ap head_term c.in-Pair-Pair.is-0 in
     let right : placed_term c.args.at.right ≡ pair v w = sym c.in_ok-right.ensures ∙ ap head_term c.in-Pair-Pair.is-1 in
     let whole : size (placed_term c.args.at.left) ≡ 1 + size t + size u = ap size left in
-    left_two mark_of (are_alike ds) size_of c.args.at
+    left_two mark_of (are_alike ds) compared_size c.args.at
     (record { left = c.in-Pair-Pair.t; right = c.in-Pair-Pair.v; mark = length c.put.new.self.binders.pairs.items })
     (record { left = c.in-Pair-Pair.u; right = c.in-Pair-Pair.w; mark = length ss })
     ss c.put-in-Pair-Pair.new.self.binders.pairs.items c.args.walk.now.pending.items c.put.new.self.pending.items c.put-in-Pair-Pair.new.self.pending.items c.requires.within
@@ -41,7 +41,7 @@ returns-in-App-App-clause-tested c =
     let right : placed_term c.args.at.right ≡ app c.in-App-App.g u = sym c.in_ok-right.ensures ∙ ap head_term c.in-App-App.is-1 in
     let same : (c.in-App-App.f == c.in-App-App.g) ≡ true = grind (arith, nat_tests, c.if-f-g.false) in
     let whole : size (placed_term c.args.at.left) ≡ 1 + size t = ap size left in
-    left_here mark_of (are_alike ds) size_of c.args.at (record { left = c.in-App-App.t; right = c.in-App-App.u; mark = length ss })
+    left_here mark_of (are_alike ds) compared_size c.args.at (record { left = c.in-App-App.t; right = c.in-App-App.u; mark = length ss })
     ss c.put-in-App-App.new.self.binders.pairs.items c.args.walk.now.pending.items c.put-in-App-App.new.self.pending.items c.requires.within
     (ap (λ (z : Binders). z.pairs.items) c.put-in-App-App.ensures.binders) refl c.in_ok-put-in-App-App.ensures.pending
     (ap₂ (alike ds ss) left right ∙ apps ds ss c.in-App-App.f c.in-App-App.g t u ∙ ap (λ b. b && alike ds ss t u) same) (omega (arith, whole))

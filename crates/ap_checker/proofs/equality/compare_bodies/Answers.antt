@@ -6,7 +6,7 @@ use Rattle.ap_defs.specs.Unification.{size}
 use Rattle.ap_theory.proofs.TermLemmas.{number_same}
 use Rattle.ap_checker.specs.declared.binders.Binders.{Binders}
 use Rattle.ap_checker.specs.Binders.{mean_same, within_left, within_right}
-use Rattle.ap_checker.specs.Comparisons.{are_alike, mark_of, size_of}
+use Rattle.ap_checker.specs.Comparisons.{are_alike, mark_of, compared_size}
 use Rattle.ap_checker.proofs.ComparisonLemmas.{known_binders, new_binders, other_sorts}
 use Rattle.ap_checker.proofs.StackLemmas.{left_brought, left_here}
 use Rattle.ap_checker.proofs.equality.compare_bodies.Goals as goal
@@ -26,7 +26,7 @@ returns-then-mean_same-clause-tested c = λ ds p l r.
     let b = c.args.binders.1 in
     let known : mean_same ss a b ≡ true = sym c.mean_same.ensures ∙ c.if-mean_same.true in
     let sizes = ap size l in
-    left_here mark_of (are_alike ds) size_of p (record { left = c.args.left; right = c.args.right; mark = length ss }) ss c.put.new.self.binders.pairs.items c.args.walk.now.pending.items
+    left_here mark_of (are_alike ds) compared_size p (record { left = c.args.left; right = c.args.right; mark = length ss }) ss c.put.new.self.binders.pairs.items c.args.walk.now.pending.items
     c.put.new.self.pending.items c.requires.within (ap (λ (z : Binders). z.pairs.items) c.put.ensures.binders) refl c.in_ok-put.ensures.pending
     (ap₂ (λ t u. alpha_under ds (within_left ss t) (within_right ss u)) l r ∙ known_binders ds ss a b (placed_term c.args.left) (placed_term c.args.right) known) (omega (arith, sizes))
 
@@ -37,7 +37,7 @@ returns-clause-tested c = λ ds p l r.
     let b = c.args.binders.1 in
     let sorts : (a.sort == b.sort) ≡ true = grind (arith, nat_tests, c.if-a-b.false) in
     let sizes = ap size l in
-    left_brought mark_of (are_alike ds) size_of p (record { left = c.args.left; right = c.args.right; mark = length c.push.new.self.pairs.items })
+    left_brought mark_of (are_alike ds) compared_size p (record { left = c.args.left; right = c.args.right; mark = length c.push.new.self.pairs.items })
     (record { sort = a.sort; left = a.num; right = b.num }) ss c.put-2.new.self.binders.pairs.items c.args.walk.now.pending.items c.put-2.new.self.pending.items
     c.requires.within (ap (λ (z : Binders). z.pairs.items) c.put-2.ensures.binders ∙ c.in_ok-push.ensures.pairs) (ap (λ (z : Binders). length z.pairs.items) (sym c.put-2.ensures.binders))
     c.in_ok-put-2.ensures.pending

@@ -2,7 +2,7 @@
 use Rattle.ap_defs.specs.Answers.{answer_of}
 use Rattle.ap_defs.specs.Derivations.{derivation_of}
 use Rattle.ap_defs.specs.Goals.{program_of, query_of}
-use Rattle.ap_checker.specs.Walks.{IsOnWay, left_of, nodes_left, refusal_on}
+use Rattle.ap_checker.specs.Walks.{IsOnWay, pending_of, nodes_left, refusal_on}
 use Rattle.ap_checker.proofs.verify.verdict_on_nodes.Given as goal
 
 abbrev pub invariant-nodes : goal.invariant-nodes
@@ -10,4 +10,4 @@ invariant-nodes l =
     IsOnWay (program_of l.program) (answer_of l.indexed) (refusal_on (program_of l.program) (query_of l.query) (answer_of l.indexed) (derivation_of l.derivation)) l.node l.walk
 
 abbrev pub decreases-nodes : goal.decreases-nodes
-decreases-nodes l = nodes_left (left_of l.walk)
+decreases-nodes l = nodes_left (pending_of l.walk)

@@ -1,7 +1,6 @@
-use Rattle.std.proofs.Common.{ap, ◌∙◌, arith}
-use Rattle.ap_defs.specs.Goals.{clauses_of}
+use Rattle.std.proofs.Common.{ap, arith, ◌∙◌}
+use Rattle.ap_defs.specs.Goals.{clauses_of, program_in}
 use Rattle.ap_defs.specs.GroundProofs.{clause_at}
-use Rattle.ap_count.specs.Uses.{program_in}
 use Rattle.ap_count.proofs.TableLemmas.{clause_there, clause_zero, no_clause, no_predicate}
 use Rattle.ap_count.proofs.walk.clause_at.Goals as goal
 

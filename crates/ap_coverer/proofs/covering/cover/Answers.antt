@@ -1,6 +1,6 @@
 use Rattle.std.proofs.Common.{◌≡◌, ◌∙◌, ℕ, List, sym, subst, true}
 use Rattle.ap_backchain.specs.Branches.{IsNodeAt, path_of_branch}
-use Rattle.ap_backchain.specs.Problems.{clauses_in, program_in}
+use Rattle.ap_backchain.specs.Problems.{clauses_in, program_of_problem}
 use Rattle.ap_bundle.specs.Bundles.{proved_of}
 use Rattle.ap_defs.specs.declared.paths.Node.TheVariants as nodes
 use Rattle.ap_defs.specs.Derivations.{path}
@@ -38,4 +38,4 @@ returns-in_ok-end-in-Stuck c = λ q asked.
     let here : IsNodeAt (clauses_in p) p.depth q l nodes.Stuck =
     subst (IsNodeAt (clauses_in p) p.depth q l) c.in-Stuck.is (c.node.ensures.exact p q asked (c.in_ok-branch.ensures.of)) in
     let same : c.of-in-Stuck.result ≡ l = c.of-in-Stuck.ensures ∙ c.in_ok-end-in-Stuck.ensures.items_if_clones_equal (λ x y e. e) ∙ c.path-in-Stuck.ensures in
-    subst (IsStuckBefore (program_in p) q p.depth d) (sym same) (stuck_there p c.requires.query c.program-program.ensures.restricted d c.requires.checks c.requires.closed c.requires.within q asked l here begins)
+    subst (IsStuckBefore (program_of_problem p) q p.depth d) (sym same) (stuck_there p c.requires.query c.program-program.ensures.restricted d c.requires.checks c.requires.closed c.requires.within q asked l here begins)

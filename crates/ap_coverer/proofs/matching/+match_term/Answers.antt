@@ -11,7 +11,7 @@ use Rattle.ap_defs.specs.Renaming.{replace_swap}
 use Rattle.ap_defs.specs.Terms.{NominalTerm, abs, pair, term_of}
 use Rattle.ap_defs.proofs.SpineLemmas.{term_smaller}
 use Rattle.ap_theory.proofs.BooleanLemmas.{and_right}
-use Rattle.ap_coverer.specs.Matches.{Adds, gives, matched_under}
+use Rattle.ap_coverer.specs.Matches.{AddsPairs, gives, matched_under}
 use Rattle.ap_coverer.proofs.MatchLemmas.{left_abs, left_pair, left_susp}
 use Rattle.ap_coverer.proofs.matching.+match_term.Goals as goal
 
@@ -41,7 +41,7 @@ matching-preserved-in-Pair-there t c =
     let k : term_of c.matching.there.now ≡ pair first second =
     ap term_of c.in-Pair-Pair.is-1 ∙ ap (λ (u : Term). pair (term_of u) (term_of c.in-Pair-Pair.second.value)) (sym c.deref-in-Pair-Pair-3.ensures)
     ∙ ap (λ (u : Term). pair first (term_of u)) (sym c.deref-there.ensures) in
-    let added = subst (λ (l : List Swap). Adds (matched_under swaps left l first) c.matching.picks c.match_term.new.picks) c.deref-in-Pair-Pair-2.ensures.value c.in_ok-match_term-in-Pair-Pair.ensures.added in
+    let added = subst (λ (l : List Swap). AddsPairs (matched_under swaps left l first) c.matching.picks c.match_term.new.picks) c.deref-in-Pair-Pair-2.ensures.value c.in_ok-match_term-in-Pair-Pair.ensures.added in
     let whole : term_of c.matching.rest.now ≡ pair (term_of c.in-Pair-Pair.left.value) right = ap term_of c.in-Pair-Pair.is-0 ∙ ap (λ (u : Term). pair (term_of c.in-Pair-Pair.left.value) (term_of u)) (sym c.deref-rest.ensures) in
     record {
       many = c.in_ok-match_term-in-Pair-Pair.ensures.many;

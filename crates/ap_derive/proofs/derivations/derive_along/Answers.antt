@@ -3,18 +3,18 @@ use Rattle.std.specs.Prelude.{Some, slice_get}
 use Rattle.std.proofs.lemmas.Result.{IfOk-weaker}
 use Rattle.ap_defs.specs.Answers.{NominalAnswer, derivation_in, found, outs_at}
 use Rattle.ap_defs.specs.Derivations.{NominalDerivation, derivation_of}
-use Rattle.ap_defs.specs.Goals.{NominalQuery, clause_of, program_of, query_of}
+use Rattle.ap_defs.specs.Goals.{NominalQuery, program_in, program_of, query_of}
 use Rattle.ap_defs.specs.declared.outcomes.Derivation.{Derivation}
 use Rattle.ap_search.proofs.TypedBelowLemmas.{bounded_short, typed_fits}
-use Rattle.ap_backchain.specs.Places.{position_of}
+use Rattle.ap_backchain.specs.Machines.{position_of}
 use Rattle.ap_backchain.specs.Problems.{clauses_in, queries_in}
 use Rattle.ap_checks.specs.Checks.{Checks}
 use Rattle.ap_checks.specs.Traces.{Traced, traced_query}
-use Rattle.ap_derive.specs.Nodes.{node_of, preorder}
+use Rattle.ap_derive.specs.Nodes.{node_of, nodes_before}
 use Rattle.ap_derive.specs.Solved.{rest_of}
 use Rattle.ap_derive.proofs.DerivedLemmas.{answer_derived, derived_checks, path_derivation, path_nodes, path_solved, same_some, typed_at}
 use Rattle.ap_derive.proofs.derivations.derive_along.Goals as goal
-use Rattle.ap_derive.proofs.derivations.derive_along.Goals.{After-drop-place-7}
+use Rattle.ap_derive.proofs.derivations.derive_along.Goals.{After-drop-machine-7}
 
 pub select_along-requires-clause-clauses : goal.select_along-requires-clause-clauses
 select_along-requires-clause-clauses c =
@@ -27,43 +27,43 @@ select_along-requires-clause-solved c =
     let p = c.args.p.now in
     let q = query_of c.query_of_problem-query.result.now in
     let l = c.requires.leads q c.query_of_problem-query.ensures.query in
-    let same_program : map (map clause_of) c.predicates-clauses.result.now ≡ clauses_in p = ap (map (map clause_of)) (c.predicates-clauses.ensures.clauses) in
-    (_, path_solved (clauses_in p) p.depth q c.args.path.now l (map (map clause_of) c.predicates-clauses.result.now) (position_of c.in_ok-place.place) same_program c.in_ok-place.ensures)
+    let same_program : program_in c.predicates-clauses.result.now ≡ clauses_in p = ap program_in (c.predicates-clauses.ensures.clauses) in
+    (_, path_solved (clauses_in p) p.depth q c.args.path.now l (program_in c.predicates-clauses.result.now) (position_of c.in_ok-machine.machine) same_program c.in_ok-machine.ensures)
 
 pub assemble-requires : goal.assemble-requires
 assemble-requires c =
     let p = c.args.p.now in
     let q = query_of c.query_of_problem-query.result.now in
     let l = c.requires.leads q c.query_of_problem-query.ensures.query in
-    let same_program : map (map clause_of) c.predicates-clauses.result.now ≡ clauses_in p = ap (map (map clause_of)) (c.predicates-clauses.ensures.clauses) in
-    let to = position_of c.select_along.new.place in (
+    let same_program : program_in c.predicates-clauses.result.now ≡ clauses_in p = ap program_in (c.predicates-clauses.ensures.clauses) in
+    let to = position_of c.select_along.new.machine in (
       l.traced.derivation,
-      path_nodes (clauses_in p) p.depth q c.args.path.now l (map (map clause_of) c.predicates-clauses.result.now) (position_of c.in_ok-place.place) same_program c.in_ok-place.ensures
+      path_nodes (clauses_in p) p.depth q c.args.path.now l (program_in c.predicates-clauses.result.now) (position_of c.in_ok-machine.machine) same_program c.in_ok-machine.ensures
           to.state (map node_of c.in_ok-nodes.nodes.items) (rest_of c.args.path.now to) c.in_ok-nodes.ensures,
     )
 
-derived : (c : After-drop-place-7) → (d : Derivation) → ((e : NominalDerivation) → map node_of c.in_ok-nodes.nodes.items ≡ preorder e [] → derivation_of d ≡ derivation_in (position_of c.select_along.new.place).state e)
+derived : (c : After-drop-machine-7) → (d : Derivation) → ((e : NominalDerivation) → map node_of c.in_ok-nodes.nodes.items ≡ nodes_before e [] → derivation_of d ≡ derivation_in (position_of c.select_along.new.machine).state e)
     → (q : NominalQuery) (r : Traced) → slice_get (queries_in c.args.p.now) (c.args.p.now.query - 1) ≡ Some q
     → traced_query (clauses_in c.args.p.now) c.args.p.now.depth q c.args.path.now ≡ Some r → derivation_of d ≡ derivation_in r.state r.derivation
 derived c d h x r k leads =
     let p = c.args.p.now in
     let q = query_of c.query_of_problem-query.result.now in let asked = c.query_of_problem-query.ensures.query in
     let l = c.requires.leads q asked in
-    let same_program : map (map clause_of) c.predicates-clauses.result.now ≡ clauses_in p = ap (map (map clause_of)) (c.predicates-clauses.ensures.clauses) in
-    let to = position_of c.select_along.new.place in
+    let same_program : program_in c.predicates-clauses.result.now ≡ clauses_in p = ap program_in (c.predicates-clauses.ensures.clauses) in
+    let to = position_of c.select_along.new.machine in
     let one : x ≡ q = same_some (slice_get (queries_in p) (p.query - 1)) x q k asked in
     let here : traced_query (clauses_in p) p.depth q c.args.path.now ≡ Some r = subst (λ (y : NominalQuery). traced_query (clauses_in p) p.depth y c.args.path.now ≡ Some r) one leads in
     let nodes =
-    path_nodes (clauses_in p) p.depth q c.args.path.now l (map (map clause_of) c.predicates-clauses.result.now) (position_of c.in_ok-place.place) same_program c.in_ok-place.ensures
+    path_nodes (clauses_in p) p.depth q c.args.path.now l (program_in c.predicates-clauses.result.now) (position_of c.in_ok-machine.machine) same_program c.in_ok-machine.ensures
     to.state (map node_of c.in_ok-nodes.nodes.items) (rest_of c.args.path.now to) c.in_ok-nodes.ensures in
-    path_derivation (clauses_in p) p.depth q c.args.path.now l (map (map clause_of) c.predicates-clauses.result.now) (position_of c.in_ok-place.place) same_program c.in_ok-place.ensures
+    path_derivation (clauses_in p) p.depth q c.args.path.now l (program_in c.predicates-clauses.result.now) (position_of c.in_ok-machine.machine) same_program c.in_ok-machine.ensures
     to.state (map node_of c.in_ok-nodes.nodes.items) (rest_of c.args.path.now to) c.in_ok-nodes.ensures (derivation_of d) (h l.traced.derivation nodes) r here
 
 pub returns-clause-derivation : goal.returns-clause-derivation
 returns-clause-derivation c =
     let p = c.args.p.now in
-    let s = (position_of c.select_along.new.place).state in
-    IfOk-weaker c.assemble.result (λ d. (e : NominalDerivation) → map node_of c.in_ok-nodes.nodes.items ≡ preorder e [] → derivation_of d ≡ derivation_in s e)
+    let s = (position_of c.select_along.new.machine).state in
+    IfOk-weaker c.assemble.result (λ d. (e : NominalDerivation) → map node_of c.in_ok-nodes.nodes.items ≡ nodes_before e [] → derivation_of d ≡ derivation_in s e)
     (λ d. (q : NominalQuery) (r : Traced) → slice_get (queries_in p) (p.query - 1) ≡ Some q → traced_query (clauses_in p) p.depth q c.args.path.now ≡ Some r
     → derivation_of d ≡ derivation_in r.state r.derivation)
     (derived c) c.assemble.ensures
@@ -71,10 +71,10 @@ returns-clause-derivation c =
 pub returns-clause-checks : goal.returns-clause-checks
 returns-clause-checks c =
     let p = c.args.p.now in
-    let s = (position_of c.select_along.new.place).state in
+    let s = (position_of c.select_along.new.machine).state in
     let program = program_of p.program.now in
     let typed = c.predicates-clauses.ensures.restricted.typed in
-    IfOk-weaker c.assemble.result (λ d. (e : NominalDerivation) → map node_of c.in_ok-nodes.nodes.items ≡ preorder e [] → derivation_of d ≡ derivation_in s e)
+    IfOk-weaker c.assemble.result (λ d. (e : NominalDerivation) → map node_of c.in_ok-nodes.nodes.items ≡ nodes_before e [] → derivation_of d ≡ derivation_in s e)
     (λ d. (q : NominalQuery) (a : NominalAnswer) → slice_get (queries_in p) (p.query - 1) ≡ Some q → outs_at (clauses_in p) p.depth q c.args.path.now ≡ found c.args.path.now a ∷ []
     → Checks program q a (derivation_of d))
     (λ d h q a k only.

@@ -5,9 +5,9 @@ use Rattle.ap_defs.specs.Renaming.{rename_name, rename_swap, rename_term, rename
 use Rattle.ap_defs.specs.Terms.{abs, app, pair, susp, term_of}
 use Rattle.ap_defs.specs.declared.terms.Cond.{Cond}
 use Rattle.ap_fresh.specs.Reduction.{added, pending_term}
-use Rattle.ap_fresh.proofs.PendingLemmas.{added_none, fewer, fewer_part, kept, last_refuted, one_added, problem_of, two_added, all_left}
+use Rattle.ap_fresh.proofs.PendingLemmas.{added_none, all_left, fewer, fewer_part, kept, last_refuted, one_added, problem_of, two_added}
 use Rattle.ap_fresh.proofs.StepLemmas.{abs_added, abs_problem, app_problem, bound_problem, name_added, name_refuted, pair_problem, problem, unbound_problem, unit_added}
-use Rattle.ap_fresh.proofs.VisitLemmas.{visits, visits_abs, visits_app, visits_bound, visits_pair, visits_some}
+use Rattle.ap_perm.proofs.VisitLemmas.{visits, visits_abs, visits_app, visits_bound, visits_pair, visits_some}
 use Rattle.ap_fresh.proofs.reduction.collect.Goals as goal
 
 pub collecting-smaller-in-Unit : goal.collecting-smaller-in-Unit

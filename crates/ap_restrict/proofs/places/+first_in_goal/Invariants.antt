@@ -3,7 +3,7 @@ use Rattle.std.proofs.Common.{◌≡◌, ◌≤◌}
 use Rattle.ap_defs.specs.Goals.{goal_over}
 use Rattle.ap_defs.specs.RawTerms.{raw_of}
 use Rattle.ap_program.specs.NameRestriction.{in_each, terms_of_goal}
-use Rattle.ap_restrict.specs.Places.{first_of, variables_at}
+use Rattle.ap_restrict.specs.Places.{first_var, variables_at}
 use Rattle.ap_restrict.proofs.PlaceLemmas.{goal_size}
 use Rattle.ap_restrict.proofs.places.+first_in_goal.Given as goal
 
@@ -12,7 +12,7 @@ decreases-first_in_goal l = goal_size (goal_over raw_of l.g.now)
 
 abbrev pub invariant-loop-rest : goal.invariant-loop-rest
 invariant-loop-rest l = record {
-  all : first_of (in_each (variables_at l.place) (terms_of_goal (goal_over raw_of l.rest))) ≡ first_of (in_each (variables_at l.fn.place) (terms_of_goal (goal_over raw_of l.fn.g)));
+  all : first_var (in_each (variables_at l.place) (terms_of_goal (goal_over raw_of l.rest))) ≡ first_var (in_each (variables_at l.fn.place) (terms_of_goal (goal_over raw_of l.fn.g)));
   smaller : goal_size (goal_over raw_of l.rest) ≤ goal_size (goal_over raw_of l.fn.g);
 }
 

@@ -3,7 +3,7 @@ use Rattle.std.proofs.Common.{◌≡◌, ◌≤◌}
 use Rattle.ap_defs.specs.declared.terms.Raw.TheViews.{size-Raw}
 use Rattle.ap_defs.specs.RawTerms.{raw_of}
 use Rattle.ap_program.specs.NameRestriction.{variable_places}
-use Rattle.ap_restrict.specs.Places.{first_of}
+use Rattle.ap_restrict.specs.Places.{first_var}
 use Rattle.ap_restrict.proofs.places.+first_place.Given as goal
 
 abbrev pub decreases-first_place : goal.decreases-first_place
@@ -11,7 +11,7 @@ decreases-first_place l = size-Raw l.t.now
 
 abbrev pub invariant-loop-rest : goal.invariant-loop-rest
 invariant-loop-rest l = record {
-  all : first_of (variable_places (raw_of l.rest)) ≡ first_of (variable_places (raw_of l.fn.t));
+  all : first_var (variable_places (raw_of l.rest)) ≡ first_var (variable_places (raw_of l.fn.t));
   smaller : size-Raw l.rest ≤ size-Raw l.fn.t;
 }
 

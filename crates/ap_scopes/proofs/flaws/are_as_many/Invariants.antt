@@ -2,11 +2,11 @@
 use Rattle.std.proofs.Common.{◌≡◌}
 use Rattle.std.specs.Prelude.{◌==◌}
 use Rattle.ap_trees.specs.Trees.{terms_of}
-use Rattle.ap_scopes.specs.Flaws.{count}
+use Rattle.ap_scopes.specs.Flaws.{term_count}
 use Rattle.ap_scopes.proofs.flaws.are_as_many.Given as goal
 
 abbrev pub invariant-loop-rest : goal.invariant-loop-rest
-invariant-loop-rest l = (l.left == count (terms_of l.rest)) ≡ (l.fn.declared == count (terms_of l.fn.args))
+invariant-loop-rest l = (l.left == term_count (terms_of l.rest)) ≡ (l.fn.declared == term_count (terms_of l.fn.args))
 
 abbrev pub decreases-loop-rest : goal.decreases-loop-rest
-decreases-loop-rest l = count (terms_of l.rest)
+decreases-loop-rest l = term_count (terms_of l.rest)

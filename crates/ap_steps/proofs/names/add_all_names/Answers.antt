@@ -10,7 +10,7 @@ use Rattle.ap_defs.specs.Derivations.{derivation_of}
 use Rattle.ap_defs.specs.Occurrences.{names_of_terms}
 use Rattle.ap_defs.specs.Terms.{term_of}
 use Rattle.ap_answers.specs.Occurring.{more_names}
-use Rattle.ap_steps.specs.Names.{derivations_of, own_names, preorder}
+use Rattle.ap_steps.specs.Names.{derivations_of, own_names, subderivations}
 use Rattle.ap_steps.proofs.NameLemmas.{all_names, names_done, names_next}
 use Rattle.ap_steps.proofs.names.add_all_names.Goals as goal
 
@@ -40,4 +40,4 @@ returns c = λ d same.
     let second : c.add_names_in.new.names.keys ≡ more_names c.add_names_of.new.names.keys (map (λ (x : Cond). x.name) c.args.answer.now.conds) =
     c.in_ok-add_names_in.ensures ∙ ap (λ (cs : List Cond). more_names c.add_names_of.new.names.keys (map (λ (x : Cond). x.name) cs)) c.items-2.ensures in
     all_names c.args.names.now.keys c.add_names_of.new.names.keys c.add_names_in.new.names.keys c.loop-i.names.keys (names_of_terms (map term_of c.args.answer.now.binds))
-    (map (λ (x : Cond). x.name) c.args.answer.now.conds) (flat_map own_names (preorder d)) first second (done ∙ ap (λ ds. more_names c.add_names_in.new.names.keys (flat_map own_names ds)) same)
+    (map (λ (x : Cond). x.name) c.args.answer.now.conds) (flat_map own_names (subderivations d)) first second (done ∙ ap (λ ds. more_names c.add_names_in.new.names.keys (flat_map own_names ds)) same)

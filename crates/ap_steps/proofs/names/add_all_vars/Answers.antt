@@ -10,7 +10,7 @@ use Rattle.ap_defs.specs.Derivations.{derivation_of}
 use Rattle.ap_defs.specs.Occurrences.{vars_of_terms}
 use Rattle.ap_defs.specs.Terms.{term_of}
 use Rattle.ap_answers.specs.Occurring.{more_vars}
-use Rattle.ap_steps.specs.Names.{derivations_of, own_vars, preorder}
+use Rattle.ap_steps.specs.Names.{derivations_of, own_vars, subderivations}
 use Rattle.ap_steps.proofs.NameLemmas.{all_vars, vars_done, vars_next}
 use Rattle.ap_steps.proofs.names.add_all_vars.Goals as goal
 
@@ -40,4 +40,4 @@ returns c = λ d same.
     let second : c.add_vars_in.new.vars.keys ≡ more_vars c.add_vars_of.new.vars.keys (map (λ (x : Cond). x.var) c.args.answer.now.conds) =
     c.in_ok-add_vars_in.ensures ∙ ap (λ (cs : List Cond). more_vars c.add_vars_of.new.vars.keys (map (λ (x : Cond). x.var) cs)) c.items-2.ensures in
     all_vars c.args.vars.now.keys c.add_vars_of.new.vars.keys c.add_vars_in.new.vars.keys c.loop-i.vars.keys (vars_of_terms (map term_of c.args.answer.now.binds))
-    (map (λ (x : Cond). x.var) c.args.answer.now.conds) (flat_map own_vars (preorder d)) first second (done ∙ ap (λ ds. more_vars c.add_vars_in.new.vars.keys (flat_map own_vars ds)) same)
+    (map (λ (x : Cond). x.var) c.args.answer.now.conds) (flat_map own_vars (subderivations d)) first second (done ∙ ap (λ ds. more_vars c.add_vars_in.new.vars.keys (flat_map own_vars ds)) same)

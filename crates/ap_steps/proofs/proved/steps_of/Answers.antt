@@ -15,8 +15,8 @@ use Rattle.ap_bundle.specs.Bundles.{proved_of}
 use Rattle.ap_pages.specs.declared.steps.Step.{Step}
 use Rattle.ap_steps.specs.Proofs.{on_query, query_steps, shown_steps, writing}
 use Rattle.ap_steps.specs.Spelling.{spelling_by, spelt}
-use Rattle.ap_steps.specs.Steps.{Writing}
-use Rattle.ap_steps.specs.Writers.{step_of}
+use Rattle.ap_steps.specs.Steps.{DerivationWriting}
+use Rattle.ap_steps.specs.Writers.{written_step}
 use Rattle.ap_steps.proofs.proved.steps_of.Goals as goal
 
 pub returns : goal.returns
@@ -33,10 +33,10 @@ returns c =
       vars = λ x. text_at s.var_words.items (position (var_eq x) s.vars.keys);
       constructors = map constructor_of cs;
     } in
-    let written : Spelling → Writing = λ b. record { clauses = p.clauses; words = words; by = b } in
+    let written : Spelling → DerivationWriting = λ b. record { clauses = p.clauses; words = words; by = b } in
     let spelled : by c.items.result.now ≡ spelling_by p (spelt p q a d) = ap by c.items.ensures ∙ ap (spelling_by p) c.in_ok-spelt.ensures in
     let whole : query_steps q k a d (written (by c.items.result.now)) ≡ shown_steps p words (proved_of c.args.proved.now) =
     ap (λ b. query_steps q k a d (written b)) spelled
     ∙ sym (ap (λ (o : Option NominalQuery). on_query o (λ r. query_steps r k a d (writing p words r a d))) c.in-Some.ensures) in
-    IfOk-weaker c.steps_of_query.result (λ (steps : Vec Step Global). map step_of steps.items ≡ query_steps q k a d (written (by c.items.result.now)))
-    (λ (steps : Vec Step Global). map step_of steps.items ≡ shown_steps p words (proved_of c.args.proved.now)) (λ steps h. h ∙ whole) c.steps_of_query.ensures
+    IfOk-weaker c.steps_of_query.result (λ (steps : Vec Step Global). map written_step steps.items ≡ query_steps q k a d (written (by c.items.result.now)))
+    (λ (steps : Vec Step Global). map written_step steps.items ≡ shown_steps p words (proved_of c.args.proved.now)) (λ steps h. h ∙ whole) c.steps_of_query.ensures

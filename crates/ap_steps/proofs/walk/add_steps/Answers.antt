@@ -1,6 +1,6 @@
 use Rattle.std.proofs.Common.{◌++◌, map, sym, ap, ◌∙◌, arith}
 use Rattle.ap_steps.specs.Waits.{steps_left, waiting_nodes}
-use Rattle.ap_steps.specs.Writers.{step_of, writing_of}
+use Rattle.ap_steps.specs.Writers.{written_step, writing_of}
 use Rattle.ap_steps.proofs.WaitLemmas.{last_nodes, last_steps}
 use Rattle.ap_steps.proofs.walk.add_steps.Goals as goal
 
@@ -13,5 +13,5 @@ pub steps-preserved : goal.steps-preserved
 steps-preserved c =
     let w = writing_of c.args.writer.now in
     c.in_ok-take_step.ensures.steps
-    ∙ ap (λ xs. map step_of c.steps.steps.items ++ xs) (sym (ap (steps_left w) c.in-Some.ensures.items ∙ last_steps w c.pop.new.self.items c.in-Some.next))
+    ∙ ap (λ xs. map written_step c.steps.steps.items ++ xs) (sym (ap (steps_left w) c.in-Some.ensures.items ∙ last_steps w c.pop.new.self.items c.in-Some.next))
     ∙ c.steps.invariant

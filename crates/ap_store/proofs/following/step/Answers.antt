@@ -4,7 +4,7 @@ use Rattle.ap_defs.specs.Terms.{act_term, term_of}
 use Rattle.ap_defs.specs.declared.terms.Term.{Term}
 use Rattle.ap_perm.proofs.ClosureLemmas.{waiting_below}
 use Rattle.ap_store.specs.Heads.{IsHeadUnbound}
-use Rattle.ap_store.specs.Views.{present}
+use Rattle.ap_store.specs.Views.{bindings_of}
 use Rattle.ap_store.proofs.FollowLemmas.{step_found, unbound_var}
 use Rattle.ap_store.proofs.following.step.Goals as goal
 
@@ -24,7 +24,7 @@ with_numbered-requires c =
 pub returns-in-None : goal.returns-in-None
 returns-in-None c =
     let b = c.args.c.now in
-    subst (λ (u : Term). IsHeadUnbound (present c.args.store.now).bindings (act_term b.swaps.items (rename_term b.base (term_of u)))) (sym c.in-Susp.is)
+    subst (λ (u : Term). IsHeadUnbound (bindings_of c.args.store.now) (act_term b.swaps.items (rename_term b.base (term_of u)))) (sym c.in-Susp.is)
     (unbound_var c.args.store.now (rename_var b.base c.in-Susp.x) c.in-None.ensures)
 
 pub returns-in_ok-all-in-Some : goal.returns-in_ok-all-in-Some

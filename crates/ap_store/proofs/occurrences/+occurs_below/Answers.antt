@@ -3,7 +3,7 @@ use Rattle.ap_defs.specs.Renaming.{IsBelow, rename_swap, rename_term, rename_var
 use Rattle.ap_defs.specs.Substitution.{occurs, under}
 use Rattle.ap_defs.specs.Terms.{NominalTerm, pair, term_of}
 use Rattle.ap_defs.specs.declared.terms.Term.{Term}
-use Rattle.ap_store.specs.Views.{present}
+use Rattle.ap_store.specs.Views.{bindings_of}
 use Rattle.ap_store.proofs.FollowLemmas.{bound_less, bound_occurs, left_less, or_right, right_less, unbound_occurs, visits_in}
 use Rattle.ap_store.proofs.occurrences.+occurs_below.Goals as goal
 
@@ -43,11 +43,11 @@ loop-rest-preserved-in-Pair-1 t c =
     let l : visits_in s right < visits_in s (rename_term base (term_of c.loop-rest.rest.now)) = subst (λ (u : NominalTerm). visits_in s right < visits_in s u) (sym e) (right_less s left right) in
     let m = c.loop-rest.invariant.smaller in
     let b : IsBelow c.loop-rest.end (pair left right) = subst (λ (u : NominalTerm). IsBelow c.loop-rest.end u) e c.loop-rest.invariant.below in
-    let none : occurs x (under (present s).bindings left) ≡ false =
-    ap (λ (u : Term). occurs x (under (present s).bindings (rename_term base (term_of u)))) (sym c.deref.ensures) ∙ sym c.occurs_below.ensures ∙ c.if-occurs_below.false in
+    let none : occurs x (under (bindings_of s) left) ≡ false =
+    ap (λ (u : Term). occurs x (under (bindings_of s) (rename_term base (term_of u)))) (sym c.deref.ensures) ∙ sym c.occurs_below.ensures ∙ c.if-occurs_below.false in
     record {
-      all = or_right (occurs x (under (present s).bindings left)) (occurs x (under (present s).bindings right)) none
-          ∙ ap (λ u. occurs x (under (present s).bindings u)) (sym e) ∙ c.loop-rest.invariant.all;
+      all = or_right (occurs x (under (bindings_of s) left)) (occurs x (under (bindings_of s) right)) none
+          ∙ ap (λ u. occurs x (under (bindings_of s) u)) (sym e) ∙ c.loop-rest.invariant.all;
       fits = c.loop-rest.invariant.fits;
       below = b.1;
       smaller = omega (arith, l, m);
@@ -63,7 +63,7 @@ overflow_add-y t c =
 pub returns-in-None : goal.returns-in-None
 returns-in-None t c =
     let s = c.args.store.now in
-    sym (ap (λ (u : Term). occurs c.args.x (under (present s).bindings (rename_term c.loop-rest.base (term_of u)))) c.in-Susp.is
+    sym (ap (λ (u : Term). occurs c.args.x (under (bindings_of s) (rename_term c.loop-rest.base (term_of u)))) c.in-Susp.is
     ∙ unbound_occurs s c.args.x (rename_var c.loop-rest.base c.in-Susp.y) (map (rename_swap c.loop-rest.base) c.in-Susp.field-0) c.in-None.ensures)
     ∙ c.loop-rest.invariant.all
 
@@ -85,7 +85,7 @@ loop-rest-preserved t c =
     subst (λ (w : Term). visits_in s (rename_term d.base (term_of d.term.now)) < visits_in s (rename_term c.loop-rest.base (term_of w))) (sym c.in-Susp.is) (bound_less s q y d c.in-Some.ensures) in
     let m = c.loop-rest.invariant.smaller in
     record {
-      all = sym (ap (λ (u : Term). occurs c.args.x (under (present s).bindings (rename_term c.loop-rest.base (term_of u)))) c.in-Susp.is
+      all = sym (ap (λ (u : Term). occurs c.args.x (under (bindings_of s) (rename_term c.loop-rest.base (term_of u)))) c.in-Susp.is
           ∙ bound_occurs s c.args.x y q d c.in-Some.ensures)
           ∙ c.loop-rest.invariant.all;
       fits = let h = c.end_of-end.type_inv in omega (arith, h);

@@ -1,6 +1,6 @@
 use Rattle.std.proofs.Common.{◌≤◌, ◌<◌, ◌+◌, suc, refl, drop, length, arith}
 use Rattle.ap_trees.specs.Trees.{item_of, items_of, form_of}
-use Rattle.ap_typecheck.specs.Views.{made_of, count}
+use Rattle.ap_typecheck.specs.Views.{made_of, made_count}
 use Rattle.ap_typecheck.proofs.Counting.{says_count}
 use Rattle.ap_typecheck.proofs.Steps.{one_more, one_later, refused_text, dropped}
 use Rattle.ap_typecheck.proofs.checking.check_items.Goals as goal
@@ -23,8 +23,8 @@ loop-index-preserved c =
     let between = made_of c.check_item.new.state in
     let within : place < length items = c.loop-index-test.true in
     let next = dropped items place item within c.index-items-index.is in
-    let grown : count between ≤ suc (count before) = says_count before (place + 1) item.line (form_of item.form) between c.in-Ok.ensures.made in
-    let few : count before ≤ place = c.loop-index.invariant.few in
+    let grown : made_count between ≤ suc (made_count before) = says_count before (place + 1) item.line (form_of item.form) between c.in-Ok.ensures.made in
+    let few : made_count before ≤ place = c.loop-index.invariant.few in
     record {
       kept = c.in-Ok.ensures.kept;
       few = omega (arith, grown, few);

@@ -1,6 +1,6 @@
 use Rattle.std.proofs.Common.{◌≡◌, ◌<◌, ◌+◌, ◌-◌, length, sym, ap, ◌∙◌, arith}
 use Rattle.ap_fresh.specs.Reduction.{added}
-use Rattle.ap_store.specs.Views.{present}
+use Rattle.ap_store.specs.Views.{bindings_of}
 use Rattle.ap_unify.proofs.ReducingLemmas.{reduced_more, reduced_none}
 use Rattle.ap_unify.proofs.finish.reduce_each.Goals as goal
 use Rattle.ap_unify.specs.Finishing.{reduced, some_if}
@@ -8,7 +8,7 @@ use Rattle.ap_unify.specs.Work.{problem_for}
 
 pub returns-then-not-branch : goal.returns-then-not-branch
 returns-then-not-branch c =
-    let s = (present c.args.store.now).bindings in
+    let s = (bindings_of c.args.store.now) in
     let e : c.reducing.i ≡ c.reducing.i - 1 + 1 = omega arith in
     let l : c.reducing.i - 1 < length c.args.problems.now = omega arith in
     reduced_none problem_for s c.args.problems.now c.args.conds.now.items c.reducing.conds.items c.reducing.i (c.reducing.i - 1) c.index-problems-i.result e l
@@ -16,7 +16,7 @@ returns-then-not-branch c =
 
 pub reducing-preserved : goal.reducing-preserved
 reducing-preserved c =
-    let s = (present c.args.store.now).bindings in
+    let s = (bindings_of c.args.store.now) in
     let e : c.reducing.i ≡ c.reducing.i - 1 + 1 = omega arith in
     let l : c.reducing.i - 1 < length c.args.problems.now = omega arith in
     reduced_more problem_for s c.args.problems.now c.args.conds.now.items c.reducing.conds.items c.reducing.i (c.reducing.i - 1) c.index-problems-i.result e l c.reduce_one.new.conds.items c.reducing.invariant

@@ -4,7 +4,7 @@ use Rattle.ap_defs.specs.Substitution.{under}
 use Rattle.ap_defs.specs.Terms.{susp}
 use Rattle.ap_defs.specs.Unification.{rule}
 use Rattle.ap_perm.specs.Closures.{closure_term}
-use Rattle.ap_store.specs.Views.{present}
+use Rattle.ap_store.specs.Views.{bindings_of}
 use Rattle.ap_unify.proofs.SuspensionLemmas.{head_var_stays}
 use Rattle.ap_unify.proofs.WorkLemmas.{if_ok}
 use Rattle.ap_unify.proofs.moves.rule_for.Goals as goal
@@ -13,7 +13,7 @@ use Rattle.ap_unify.specs.declared.moves.Suspension.{Suspension}
 
 pub returns-in-None-Some-clause-rule : goal.returns-in-None-Some-clause-rule
 returns-in-None-Some-clause-rule c =
-    let s = (present c.args.store.now).bindings in
+    let s = (bindings_of c.args.store.now) in
     let t = closure_term c.args.right in
     let e : t ≡ susp c.in-None-Some.s.swaps.items c.in-None-Some.s.var = subst (λ (o : Option Suspension). IsSuspension o t) c.in-None-Some.is-1 c.in_ok-on_right.ensures in
     let stays = head_var_stays s t c.in-None-Some.s.swaps.items c.in-None-Some.s.var e c.requires.right_unbound in
@@ -21,7 +21,7 @@ returns-in-None-Some-clause-rule c =
 
 pub returns-in-Some-None-clause-rule : goal.returns-in-Some-None-clause-rule
 returns-in-Some-None-clause-rule c =
-    let s = (present c.args.store.now).bindings in
+    let s = (bindings_of c.args.store.now) in
     let t = closure_term c.args.left in
     let e : t ≡ susp c.in-Some-None.s.swaps.items c.in-Some-None.s.var = subst (λ (o : Option Suspension). IsSuspension o t) c.in-Some-None.is-0 c.in_ok-on_left.ensures in
     let stays = head_var_stays s t c.in-Some-None.s.swaps.items c.in-Some-None.s.var e c.requires.left_unbound in
@@ -29,7 +29,7 @@ returns-in-Some-None-clause-rule c =
 
 pub suspensions-requires-clause-left : goal.suspensions-requires-clause-left
 suspensions-requires-clause-left c =
-    let s = (present c.args.store.now).bindings in
+    let s = (bindings_of c.args.store.now) in
     let t = closure_term c.args.left in
     let v = c.in-Some-Some.s in
     let e : t ≡ susp v.swaps.items v.var = subst (λ (o : Option Suspension). IsSuspension o t) c.in-Some-Some.is-0 c.in_ok-on_left.ensures in
@@ -37,7 +37,7 @@ suspensions-requires-clause-left c =
 
 pub suspensions-requires-clause-right : goal.suspensions-requires-clause-right
 suspensions-requires-clause-right c =
-    let s = (present c.args.store.now).bindings in
+    let s = (bindings_of c.args.store.now) in
     let t = closure_term c.args.right in
     let v = c.in-Some-Some.r in
     let e : t ≡ susp v.swaps.items v.var = subst (λ (o : Option Suspension). IsSuspension o t) c.in-Some-Some.is-1 c.in_ok-on_right.ensures in
@@ -45,7 +45,7 @@ suspensions-requires-clause-right c =
 
 pub returns-clause-rule : goal.returns-clause-rule
 returns-clause-rule c =
-    let s = (present c.args.store.now).bindings in
+    let s = (bindings_of c.args.store.now) in
     let v = c.in-Some-Some.s in
     let w = c.in-Some-Some.r in
     let left : closure_term c.args.left ≡ susp v.swaps.items v.var = subst (λ (o : Option Suspension). IsSuspension o (closure_term c.args.left)) c.in-Some-Some.is-0 c.in_ok-on_left.ensures in

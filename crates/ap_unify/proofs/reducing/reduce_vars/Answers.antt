@@ -1,14 +1,14 @@
 use Rattle.std.proofs.Common.{◌≡◌, ◌<◌, ◌+◌, ◌-◌, length, [], ap, ◌∙◌, arith}
 use Rattle.ap_defs.specs.Substitution.{◌#◌}
 use Rattle.ap_defs.specs.Terms.{susp}
-use Rattle.ap_store.specs.Views.{present}
+use Rattle.ap_store.specs.Views.{bindings_of}
 use Rattle.ap_unify.proofs.ReducingLemmas.{reduced_more, reduced_none}
 use Rattle.ap_unify.proofs.reducing.reduce_vars.Goals as goal
 use Rattle.ap_unify.specs.Finishing.{some_if}
 
 pub returns-then-not-branch : goal.returns-then-not-branch
 returns-then-not-branch c =
-    let s = (present c.args.store.now).bindings in
+    let s = (bindings_of c.args.store.now) in
     let e : c.reducing.i ≡ c.reducing.i - 1 + 1 = omega arith in
     let l : c.reducing.i - 1 < length c.args.vars.now = omega arith in
     reduced_none (λ x. c.args.a # susp [] x) s c.args.vars.now c.args.conds.now.items c.reducing.conds.items c.reducing.i (c.reducing.i - 1) _ e l
@@ -16,7 +16,7 @@ returns-then-not-branch c =
 
 pub reducing-preserved : goal.reducing-preserved
 reducing-preserved c =
-    let s = (present c.args.store.now).bindings in
+    let s = (bindings_of c.args.store.now) in
     let e : c.reducing.i ≡ c.reducing.i - 1 + 1 = omega arith in
     let l : c.reducing.i - 1 < length c.args.vars.now = omega arith in
     reduced_more (λ x. c.args.a # susp [] x) s c.args.vars.now c.args.conds.now.items c.reducing.conds.items c.reducing.i (c.reducing.i - 1) _ e l c.reduce_var.new.conds.items c.reducing.invariant

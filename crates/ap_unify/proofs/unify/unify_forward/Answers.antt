@@ -1,6 +1,6 @@
 use Rattle.std.proofs.Common.{◌≡◌, [], sym, ap, ◌∙◌}
 use Rattle.ap_defs.specs.Unification.{ending, solved}
-use Rattle.ap_store.specs.Views.{present}
+use Rattle.ap_store.specs.Views.{bindings_of, present}
 use Rattle.ap_unify.proofs.SolutionLemmas.{collected_on_unbound, first_kept, first_of_work, is_no_result, is_result, last_of_work}
 use Rattle.ap_unify.proofs.WellLemmas.{well}
 use Rattle.ap_unify.proofs.WorkLemmas.{if_ok, pairs_below}
@@ -18,7 +18,7 @@ returns-then-not-branch-clause-defined c =
     let a = present c.args.store.now in
     let ts = terms_in c.args.left in
     let us = terms_in c.args.right in
-    let last = work_stage (present c.run.new.store).bindings c.run.new.work in
+    let last = work_stage (bindings_of c.run.new.store) c.run.new.work in
     is_no_result a a ts us [] [] (well c.args.store.now) (well c.args.store.now) (present c.run.new.store)
     (ap ending (sym (first_of_work a.bindings c.in_ok-work.work ts us c.in_ok-work.ensures.equations c.in_ok-work.ensures.problems)) ∙ c.in_ok-run.ensures.ending ∙ ap (λ v. ending_if v last) c.if-not-branch.true)
 

@@ -3,7 +3,7 @@ use Rattle.std.specs.Prelude.{filter}
 use Rattle.ap_defs.specs.Substitution.{under}
 use Rattle.ap_perm.specs.Closures.{closure_term}
 use Rattle.ap_store.specs.Triples.{Triple, is_on}
-use Rattle.ap_store.specs.Views.{present}
+use Rattle.ap_store.specs.Views.{bindings_of, present}
 use Rattle.ap_unify.proofs.WorkLemmas.{carried_bound, go_bound}
 use Rattle.ap_unify.proofs.work.bind_var.Goals as goal
 use Rattle.ap_unify.specs.declared.pairs.Work.{Work}
@@ -12,7 +12,7 @@ pub returns-clause-stage : goal.returns-clause-stage
 returns-clause-stage c =
     let a = present c.args.store.now in
     let w = c.args.work.now in
-    carried_bound a.bindings (present c.bind.new.self).bindings c.args.x (under a.bindings (closure_term c.args.c)) w.equations.items w.equations.items w.problems.items w.problems.items c.requires.unbound
+    carried_bound a.bindings (bindings_of c.bind.new.self) c.args.x (under a.bindings (closure_term c.args.c)) w.equations.items w.equations.items w.problems.items w.problems.items c.requires.unbound
     (ap (λ (b : Triple). b.bindings) c.in_ok-taken.ensures.present) refl refl
 
 pub returns-clause-goes_on : goal.returns-clause-goes_on

@@ -1,7 +1,7 @@
 use Rattle.std.proofs.Common.{◌≡◌, [], length, subst, sym, ap, ◌∙◌, ◌+◌, arith, rules}
 use Rattle.std.proofs.lemmas.List.{nil_from_length}
 use Rattle.ap_defs.specs.Unification.{done, failed, next, step}
-use Rattle.ap_store.specs.Views.{present, versions}
+use Rattle.ap_store.specs.Views.{bindings_of, present, versions}
 use Rattle.ap_theory.proofs.TerminationLemmas.{ending_done, ending_failed, ending_next, steps_left, steps_left_next}
 use Rattle.ap_unify.proofs.WorkLemmas.{go_on_on, goes_on_on, no_equation}
 use Rattle.ap_unify.proofs.work.run.Goals as goal
@@ -9,15 +9,15 @@ use Rattle.ap_unify.specs.Work.{ArePairsBelow, progress_if, work_stage}
 
 pub returns-then-not-branch-clause-ending : goal.returns-then-not-branch-clause-ending
 returns-then-not-branch-clause-ending c =
-    let before = work_stage (present c.rewriting.store).bindings c.rewriting.work in
-    let s = work_stage (present c.advance.new.store).bindings c.advance.new.work in
+    let before = work_stage (bindings_of c.rewriting.store) c.rewriting.work in
+    let s = work_stage (bindings_of c.advance.new.store) c.advance.new.work in
     let e : step before ≡ failed = sym c.in_ok-advance.ensures.stage ∙ ap (λ b. progress_if b s) c.if-not-branch.true in
     sym c.rewriting.invariant.ending ∙ ending_failed before e
 
 pub rewriting-smaller : goal.rewriting-smaller
 rewriting-smaller c =
-    let before = work_stage (present c.rewriting.store).bindings c.rewriting.work in
-    let s = work_stage (present c.advance.new.store).bindings c.advance.new.work in
+    let before = work_stage (bindings_of c.rewriting.store) c.rewriting.work in
+    let s = work_stage (bindings_of c.advance.new.store) c.advance.new.work in
     let e : step before ≡ next s = sym c.in_ok-advance.ensures.stage ∙ ap (λ b. progress_if b s) c.if-not-branch.false in
     let fewer : steps_left before ≡ 1 + steps_left s = steps_left_next before s e in
     omega (arith, fewer)
@@ -41,7 +41,7 @@ rewriting-preserved c =
 pub returns-clause-ending : goal.returns-clause-ending
 returns-clause-ending c =
     let w = c.rewriting.work in
-    let s = (present c.rewriting.store).bindings in
+    let s = (bindings_of c.rewriting.store) in
     let none : length w.equations.items ≡ 0 = search rules in
     let empty : w.equations.items ≡ [] = nil_from_length w.equations.items none in
     let e : step (work_stage s w) ≡ done = no_equation s w empty in

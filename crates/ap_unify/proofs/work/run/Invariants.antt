@@ -1,7 +1,7 @@
 use Rattle.std.proofs.Common.{◌≡◌}
 use Rattle.ap_defs.specs.Unification.{ending}
-use Rattle.ap_store.specs.Triples.{GoesOn}
-use Rattle.ap_store.specs.Views.{kinds, present, versions}
+use Rattle.ap_store.specs.Triples.{IsPrefixOf}
+use Rattle.ap_store.specs.Views.{bindings_of, kinds, present, versions}
 use Rattle.ap_theory.proofs.TerminationLemmas.{steps_left}
 use Rattle.ap_unify.specs.Work.{ArePairsBelow, GoOn, work_stage}
 use Rattle.ap_unify.proofs.work.run.Given as goal
@@ -9,12 +9,12 @@ use Rattle.ap_unify.proofs.work.run.Given as goal
 -- the run goes on to the same ending
 abbrev pub invariant-rewriting : goal.invariant-rewriting
 invariant-rewriting l = record {
-  ending : ending (work_stage (present l.store).bindings l.work) ≡ ending (work_stage (present l.initial.store).bindings l.initial.work);
+  ending : ending (work_stage (bindings_of l.store) l.work) ≡ ending (work_stage (bindings_of l.initial.store) l.initial.work);
   pairs : ArePairsBelow (present l.store).next l.work.equations.items;
   goes_on : GoOn (present l.initial.store) l.initial.work (present l.store) l.work;
-  past : GoesOn (versions l.initial.store) (versions l.store);
+  past : IsPrefixOf (versions l.initial.store) (versions l.store);
   kinds : kinds l.store ≡ kinds l.initial.store;
 }
 
 abbrev pub decreases-rewriting : goal.decreases-rewriting
-decreases-rewriting l = steps_left (work_stage (present l.store).bindings l.work)
+decreases-rewriting l = steps_left (work_stage (bindings_of l.store) l.work)

@@ -1,6 +1,6 @@
 -- The clauses of the predicates that are left come behind those that are there.
 use Rattle.std.proofs.Common.{◌≡◌, ◌++◌, length, map}
-use Rattle.ap_count.specs.Uses.{program_in}
+use Rattle.ap_defs.specs.Goals.{program_in}
 use Rattle.ap_uses.specs.Rows.{counts_in_rows}
 use Rattle.ap_uses.proofs.counts.counts_of.Given as goal
 

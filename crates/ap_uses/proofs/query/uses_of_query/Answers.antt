@@ -1,7 +1,7 @@
 use Rattle.std.proofs.Common.{◌∙◌}
 use Rattle.std.proofs.lemmas.Result.{IfOk-weaker}
 use Rattle.ap_defs.specs.Answers.{outs_of}
-use Rattle.ap_count.specs.Tables.{table_of}
+use Rattle.ap_count.specs.Tables.{counts_of}
 use Rattle.ap_uses.proofs.PathLemmas.{all_lead, uses_there}
 use Rattle.ap_uses.proofs.query.uses_of_query.Goals as goal
 
@@ -13,6 +13,6 @@ pub returns : goal.returns
 returns g c =
     IfOk-weaker c.uses_at.result _ _
     (λ t is q asked.
-    uses_there c.args.p.now c.requires.query q asked (table_of t) (outs_of c.in_ok-outs.outs.items) c.deref.result.now (c.in_ok-outs.ensures q asked)
+    uses_there c.args.p.now c.requires.query q asked (counts_of t) (outs_of c.in_ok-outs.outs.items) c.deref.result.now (c.in_ok-outs.ensures q asked)
     (c.deref.ensures.value ∙ c.in_ok-paths.ensures) (is q asked))
     c.uses_at.ensures

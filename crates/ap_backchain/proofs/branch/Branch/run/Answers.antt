@@ -1,7 +1,7 @@
-use Rattle.std.proofs.Common.{◌≡◌, List, map, ap, subst}
+use Rattle.std.proofs.Common.{◌≡◌, List, ap, subst}
 use Rattle.std.specs.Prelude.{IfOk}
 use Rattle.ap_defs.specs.Answers.{outs_of}
-use Rattle.ap_defs.specs.Goals.{Clauses, clause_of, query_of}
+use Rattle.ap_defs.specs.Goals.{Clauses, program_in, query_of}
 use Rattle.ap_defs.specs.Types.{NominalLocal, locals_of}
 use Rattle.ap_search.specs.Marks.{outs_among}
 use Rattle.ap_backchain.specs.Branches.{marks_of_standing}
@@ -12,7 +12,7 @@ pub returns : goal.returns
 returns c =
     let query = query_of c.query_of_problem-query.result.now in
     let s = c.args.self.standing in
-    let given = map (map clause_of) c.clauses_of_problem-clauses.result.now in
+    let given = program_in c.clauses_of_problem-clauses.result.now in
     run_is c.args.p.now query c.args.self c.outs_of_standing.result c.query_of_problem-query.ensures.query c.requires.of
     (subst (λ (x : Clauses). IfOk c.outs_of_standing.result (λ v. outs_of v.items ≡ outs_among (marks_of_standing x query.locals s))) c.clauses_of_problem-clauses.ensures.clauses
     (subst (λ (ls : List NominalLocal). IfOk c.outs_of_standing.result (λ v. outs_of v.items ≡ outs_among (marks_of_standing given ls s))) (ap locals_of c.items.ensures) c.outs_of_standing.ensures))

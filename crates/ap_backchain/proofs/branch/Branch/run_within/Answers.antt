@@ -1,7 +1,7 @@
-use Rattle.std.proofs.Common.{◌≡◌, ◌<◌, ◌≤◌, ℕ, List, map, ap, subst}
+use Rattle.std.proofs.Common.{◌≡◌, ◌<◌, ◌≤◌, ℕ, List, ap, subst}
 use Rattle.std.specs.Prelude.{IfOk, IfSome, None}
 use Rattle.ap_defs.specs.Answers.{outs_of}
-use Rattle.ap_defs.specs.Goals.{Clauses, clause_of, query_of}
+use Rattle.ap_defs.specs.Goals.{Clauses, program_in, query_of}
 use Rattle.ap_defs.specs.Types.{NominalLocal, locals_of}
 use Rattle.ap_search.specs.Marks.{outs_among}
 use Rattle.ap_backchain.specs.Branches.{marks_of_standing}
@@ -14,7 +14,7 @@ returns-clause-outs c =
     let query = query_of c.query_of_problem-query.result.now in
     let s = c.args.self.standing in
     let r = c.outs_by_choices.result in
-    let given = map (map clause_of) c.clauses_of_problem-clauses.result.now in
+    let given = program_in c.clauses_of_problem-clauses.result.now in
     if_some _ _ (λ v h. outs_below c.args.p.now query c.args.self c.query_of_problem-query.ensures.query c.requires.of (outs_of v.items) h) r
     (subst (λ (x : Clauses). IfOk r (λ o. IfSome o (λ v. outs_of v.items ≡ outs_among (marks_of_standing x query.locals s)))) c.clauses_of_problem-clauses.ensures.clauses
     (subst (λ (ls : List NominalLocal). IfOk r (λ o. IfSome o (λ v. outs_of v.items ≡ outs_among (marks_of_standing given ls s)))) (ap locals_of c.items.ensures) c.outs_by_choices.ensures.outs))
@@ -24,7 +24,7 @@ returns-clause-few c =
     let query = query_of c.query_of_problem-query.result.now in
     let s = c.args.self.standing in
     let r = c.outs_by_choices.result in
-    let given = map (map clause_of) c.clauses_of_problem-clauses.result.now in
+    let given = program_in c.clauses_of_problem-clauses.result.now in
     if_some _ _ (λ v h. λ q k. subst (λ (n : ℕ). n ≤ c.args.most) (choices_below c.args.p.now query c.args.self c.query_of_problem-query.ensures.query c.requires.of q k) h) r
     (subst (λ (x : Clauses). IfOk r (λ o. IfSome o (λ v. choices_among (marks_of_standing x query.locals s) ≤ c.args.most))) c.clauses_of_problem-clauses.ensures.clauses
     (subst (λ (ls : List NominalLocal). IfOk r (λ o. IfSome o (λ v. choices_among (marks_of_standing given ls s) ≤ c.args.most))) (ap locals_of c.items.ensures) c.outs_by_choices.ensures.few))
@@ -34,7 +34,7 @@ returns-clause-many c =
     let query = query_of c.query_of_problem-query.result.now in
     let s = c.args.self.standing in
     let r = c.outs_by_choices.result in
-    let given = map (map clause_of) c.clauses_of_problem-clauses.result.now in
+    let given = program_in c.clauses_of_problem-clauses.result.now in
     if_none _ _ (λ h. λ q k. subst (λ (n : ℕ). c.args.most < n) (choices_below c.args.p.now query c.args.self c.query_of_problem-query.ensures.query c.requires.of q k) h) r
     (subst (λ (x : Clauses). IfOk r (λ o. o ≡ None → c.args.most < choices_among (marks_of_standing x query.locals s))) c.clauses_of_problem-clauses.ensures.clauses
     (subst (λ (ls : List NominalLocal). IfOk r (λ o. o ≡ None → c.args.most < choices_among (marks_of_standing given ls s))) (ap locals_of c.items.ensures) c.outs_by_choices.ensures.many))

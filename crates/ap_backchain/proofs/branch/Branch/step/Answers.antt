@@ -1,34 +1,9 @@
-use Rattle.std.proofs.Common.{◌≡◌, ◌∷◌, ◌++◌, [], List, map, ap, sym, subst}
-use Rattle.ap_defs.specs.Goals.{Clauses, clause_of, query_of}
-use Rattle.ap_defs.specs.Types.{NominalLocal, locals_of}
-use Rattle.ap_search.specs.Marks.{mark_path}
-use Rattle.ap_search.specs.Prefixes.{beginning}
-use Rattle.ap_backchain.specs.Branches.{IsChoosing, IsNamed, marks_of_standing, path_of_branch}
-use Rattle.ap_backchain.specs.Problems.{clauses_in}
-use Rattle.ap_backchain.proofs.BranchLemmas.{choice_stands, step_is}
+use Rattle.ap_backchain.proofs.AnsweringLemmas.{branch_ways}
+use Rattle.ap_backchain.proofs.BranchLemmas.{branch_stands}
 use Rattle.ap_backchain.proofs.branch.Branch.step.Goals as goal
 
-pub choose-requires-clause-choosing : goal.choose-requires-clause-choosing
-choose-requires-clause-choosing c =
-    let query = query_of c.query_of_problem-query.result.now in
-    subst (λ (x : Clauses). IsChoosing x c.args.self.standing) (sym c.clauses_of_problem-clauses.ensures.clauses) (c.requires.of query c.query_of_problem-query.ensures.query).choosing
+pub step-requires-clause-of : goal.step-requires-clause-of
+step-requires-clause-of c = branch_stands c.args.p.now c.args.self c.requires.of
 
-pub choose-requires-clause-choice : goal.choose-requires-clause-choice
-choose-requires-clause-choice c =
-    let query = query_of c.query_of_problem-query.result.now in
-    choice_stands (clauses_in c.args.p.now) c.args.self.node c.args.self.standing c.args.choice (c.requires.of query c.query_of_problem-query.ensures.query).named c.requires.choice
-
-pub returns-clause-of : goal.returns-clause-of
-returns-clause-of c =
-    let p = c.args.p.now in
-    let query = query_of c.query_of_problem-query.result.now in
-    let b = c.args.self in
-    let s = c.in_ok-standing.standing in
-    let k = c.args.choice in
-    let same = c.clauses_of_problem-clauses.ensures.clauses in
-    let given = map (map clause_of) c.clauses_of_problem-clauses.result.now in
-    let marks = subst (λ (x : Clauses). marks_of_standing x query.locals s ≡ beginning mark_path (path_of_branch b ++ k ∷ []) (marks_of_standing x query.locals b.standing)) same
-    (subst (λ (ls : List NominalLocal). marks_of_standing given ls s ≡ beginning mark_path (path_of_branch b ++ k ∷ []) (marks_of_standing given ls b.standing)) (ap locals_of c.items.ensures) c.in_ok-standing.ensures.marks) in
-    step_is p query b c.in_ok-branch.branch s k c.query_of_problem-query.ensures.query c.requires.of c.in_ok-branch.ensures.standing
-    (subst (λ (x : Clauses). IsNamed x c.in_ok-branch.branch.node c.in_ok-branch.branch.standing) same c.in_ok-branch.ensures.named)
-    c.in_ok-standing.ensures.path marks (subst (λ (x : Clauses). IsChoosing x s) same c.in_ok-standing.ensures.choosing)
+pub step-requires-clause-choice : goal.step-requires-clause-choice
+step-requires-clause-choice c = branch_ways c.args.p.now c.args.self c.args.choice c.requires.query c.requires.of c.requires.choice

@@ -5,7 +5,7 @@ use Rattle.std.proofs.lemmas.Result.{on_ok_weaker}
 use Rattle.ap_defs.specs.Terms.{term_of}
 use Rattle.ap_bundle_read.specs.declared.table.expanding.Task.TheVariants as task
 use Rattle.ap_bundle_read.specs.Stacks.{stacked}
-use Rattle.ap_bundle_read.specs.Tables.{terms_in, made_by, AreWithin, weigh}
+use Rattle.ap_bundle_read.specs.Tables.{table_terms, made_by, AreTasksWithin, weigh}
 use Rattle.ap_bundle_read.proofs.TableLemmas.{terms_long, line_of_items, line_made, line_within, line_lighter}
 use Rattle.ap_bundle_read.proofs.table.expanding.begin.Goals as goal
 
@@ -19,7 +19,7 @@ returns-clause-within c =
     let few : c.args.line < length items = subst (λ n. c.args.line < n) (terms_long items) c.requires.line in
     let is = line_of_items items c.args.line l c.requires.table (slice_get_read items (length items) c.args.line l refl few c.index.ensures) in
     on_ok_weaker c.push_ready.result
-    (λ e. subst (AreWithin (length (terms_in c.args.table.now))) (sym c.in_ok-push_tasks.ensures) (line_within (terms_in c.args.table.now) (reverse c.args.tasks.now.items) c.args.line l l.entry is refl c.requires.within))
+    (λ e. subst (AreTasksWithin (length (table_terms c.args.table.now))) (sym c.in_ok-push_tasks.ensures) (line_within (table_terms c.args.table.now) (reverse c.args.tasks.now.items) c.args.line l l.entry is refl c.requires.within))
     c.push_ready.ensures
 
 pub returns-clause-made : goal.returns-clause-made
@@ -29,14 +29,14 @@ returns-clause-made c =
     let few : c.args.line < length items = subst (λ n. c.args.line < n) (terms_long items) c.requires.line in
     let is = line_of_items items c.args.line l c.requires.table (slice_get_read items (length items) c.args.line l refl few c.index.ensures) in
     on_ok_weaker c.push_ready.result
-    (λ e. ap₂ (made_by (terms_in c.args.table.now)) c.in_ok-push_tasks.ensures e ∙ line_made (terms_in c.args.table.now) (stacked term_of c.args.made.now.items) (reverse c.args.tasks.now.items) c.args.line l l.entry is refl)
+    (λ e. ap₂ (made_by (table_terms c.args.table.now)) c.in_ok-push_tasks.ensures e ∙ line_made (table_terms c.args.table.now) (stacked term_of c.args.made.now.items) (reverse c.args.tasks.now.items) c.args.line l l.entry is refl)
     c.push_ready.ensures
 
 pub returns-clause-lighter : goal.returns-clause-lighter
 returns-clause-lighter c =
     let items = c.args.table.now.lines.items in
     let l = c.index.result.now in
-    let table = terms_in c.args.table.now in
+    let table = table_terms c.args.table.now in
     let few : c.args.line < length items = subst (λ n. c.args.line < n) (terms_long items) c.requires.line in
     let is = line_of_items items c.args.line l c.requires.table (slice_get_read items (length items) c.args.line l refl few c.index.ensures) in
     on_ok_weaker c.push_ready.result

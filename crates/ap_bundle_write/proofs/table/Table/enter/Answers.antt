@@ -3,7 +3,7 @@ use Rattle.std.specs.Prelude.{reverse}
 use Rattle.std.proofs.lemmas.List.{reverse-append}
 use Rattle.ap_defs.specs.Terms.{term_of}
 use Rattle.ap_bundle.specs.Tables.{with_terms, with_parts}
-use Rattle.ap_bundle_write.specs.Tables.{held, steps_of, step_of, enter, leave}
+use Rattle.ap_bundle_write.specs.Tables.{held, steps_of, task_step, enter, leave}
 use Rattle.ap_bundle_write.proofs.WalkLemmas.{Leads, entered, steps_last, left_walk}
 use Rattle.ap_bundle_write.proofs.table.Table.enter.Goals as goal
 
@@ -14,7 +14,7 @@ loop-task-preserved-in-Continue-branch-2 c =
     let others = steps_of c.pop.new.self.items in
     let end = with_terms (held c.args.self.now) (with_parts (term_of c.args.term.now)) in
     let top : steps_of c.loop-task.tasks.items ≡ enter u ∷ others =
-    ap steps_of c.in-Some.ensures.items ∙ steps_last c.pop.new.self.items c.in-Some.task ∙ ap (λ k. step_of k ∷ others) c.in-Enter.is in
+    ap steps_of c.in-Some.ensures.items ∙ steps_last c.pop.new.self.items c.in-Some.task ∙ ap (λ k. task_step k ∷ others) c.in-Enter.is in
     let leads = subst (λ ks. Leads ks (held c.loop-task.self) w.0 end (term_of c.args.term.now)) top w.3 in
     record {
       table = c.loop-task.invariant.table;
@@ -28,7 +28,7 @@ loop-task-preserved c =
     let others = steps_of c.pop.new.self.items in
     let end = with_terms (held c.args.self.now) (with_parts (term_of c.args.term.now)) in
     let top : steps_of c.loop-task.tasks.items ≡ leave u ∷ others =
-    ap steps_of c.in-Some.ensures.items ∙ steps_last c.pop.new.self.items c.in-Some.task ∙ ap (λ k. step_of k ∷ others) c.in-Leave.is in
+    ap steps_of c.in-Some.ensures.items ∙ steps_last c.pop.new.self.items c.in-Some.task ∙ ap (λ k. task_step k ∷ others) c.in-Leave.is in
     let leads = subst (λ ks. Leads ks (held c.loop-task.self) w.0 end (term_of c.args.term.now)) top w.3 in
     let got = rw c.in-Some-2.is at c.in_ok-words-in-Leave.ensures in
     let walk = left_walk u others (held c.loop-task.self) w.0 end (term_of c.args.term.now) (reverse c.loop-task.numbers.items) w.1 w.2 leads (held c.add.new.self) c.in-Some-2.words.items (reverse c.words_of.new.numbers.items) c.in_ok-line-in-Leave.line got c.in_ok-line-in-Leave.ensures.line c.in_ok-line-in-Leave.ensures.held in

@@ -1,7 +1,7 @@
 use Rattle.std.proofs.Common.{◌≤◌, get_or, sym, ap, ◌∙◌, arith, inl, inr, length}
+use Rattle.ap_program.specs.FreeLocals.{free_sort}
 use Rattle.ap_defs.specs.declared.goals.Local.{Local}
 use Rattle.ap_defs.specs.Types.{local_of}
-use Rattle.ap_checker.specs.FreeLocals.{free_sort}
 use Rattle.ap_checker.proofs.PlaceLemmas.{get_or_any, get_or_none, name_absent, name_at, name_past}
 use Rattle.ap_checker.proofs.identifiers.Identifiers.name_for.Goals as goal
 

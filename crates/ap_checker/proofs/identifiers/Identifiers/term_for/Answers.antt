@@ -1,9 +1,9 @@
 use Rattle.std.proofs.Common.{◌≡◌, ◌≤◌, true, map, get_or, sym, ap, ◌∙◌, arith, inl, inr, length}
+use Rattle.ap_program.specs.FreeLocals.{is_free_var}
 use Rattle.ap_defs.specs.declared.goals.Local.{Local}
 use Rattle.ap_defs.specs.declared.terms.Term.TheVariants as terms
 use Rattle.ap_defs.specs.Terms.{term_of}
 use Rattle.ap_defs.specs.Types.{local_of}
-use Rattle.ap_checker.specs.FreeLocals.{is_free_var}
 use Rattle.ap_checker.proofs.PlaceLemmas.{get_or_any, get_or_none, var_absent, var_at, var_past}
 use Rattle.ap_checker.proofs.identifiers.Identifiers.term_for.Goals as goal
 

@@ -6,7 +6,7 @@ use Rattle.ap_defs.specs.HeadKeys.{agree, first_key}
 use Rattle.ap_defs.specs.declared.goals.Clause.{Clause}
 use Rattle.ap_defs.specs.declared.terms.Term.{Term}
 use Rattle.ap_index.specs.Keys.{AreNarrow}
-use Rattle.ap_index.specs.Places.{AreWithin}
+use Rattle.ap_index.specs.Places.{AreKeysWithin}
 use Rattle.ap_index.proofs.KeyLemmas.{keys_from}
 use Rattle.ap_index.proofs.predicate.Predicate.next.Goals as goal
 
@@ -27,7 +27,7 @@ next_place-requires-clause-ends c = c.self.invariant.ends ∙ ap (λ (ks : List 
 
 pub next_place-requires-clause-within : goal.next_place-requires-clause-within
 next_place-requires-clause-within c =
-    subst (λ (ks : List ℕ). AreWithin ks c.self.inside.places.starts.items c.self.inside.places.ends.items) (sym c.as_slice.ensures.value) c.self.invariant.within
+    subst (λ (ks : List ℕ). AreKeysWithin ks c.self.inside.places.starts.items c.self.inside.places.ends.items) (sym c.as_slice.ensures.value) c.self.invariant.within
 
 pub returns : goal.returns
 returns c =

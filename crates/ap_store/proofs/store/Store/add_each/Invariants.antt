@@ -1,5 +1,5 @@
 use Rattle.std.proofs.Common.{◌≡◌, drop}
-use Rattle.ap_store.specs.Triples.{GoesOn, with_conditions}
+use Rattle.ap_store.specs.Triples.{IsPrefixOf, with_conditions}
 use Rattle.ap_store.specs.Views.{kinds, present, versions}
 use Rattle.ap_store.proofs.store.Store.add_each.Given as goal
 
@@ -7,6 +7,6 @@ use Rattle.ap_store.proofs.store.Store.add_each.Given as goal
 abbrev pub invariant-adding : goal.invariant-adding
 invariant-adding l = record {
   present : present l.self ≡ with_conditions (drop l.i l.conds) (present l.initial.self);
-  past : GoesOn (versions l.initial.self) (versions l.self);
+  past : IsPrefixOf (versions l.initial.self) (versions l.self);
   kinds : kinds l.self ≡ kinds l.initial.self;
 }

@@ -1,15 +1,14 @@
 use Rattle.std.proofs.Common.{◌≡◌}
 use Rattle.ap_defs.specs.Renaming.{IsBelow}
-use Rattle.ap_defs.specs.Substitution.{under}
 use Rattle.ap_perm.specs.Closures.{closure_term}
 use Rattle.ap_perm.specs.Lookups.{depth_of}
-use Rattle.ap_store.specs.Views.{present, rank}
+use Rattle.ap_store.specs.Views.{meaning_in, present, rank}
 use Rattle.ap_store.proofs.store.Store.follow.Given as goal
 
 -- the closure stands for what the first one stood for
 abbrev pub invariant-following : goal.invariant-following
 invariant-following l = record {
-  term : under (present l.self).bindings (closure_term l.closure) ≡ under (present l.self).bindings (closure_term l.initial.closure);
+  term : meaning_in l.self l.closure ≡ meaning_in l.self l.initial.closure;
   below : IsBelow (present l.self).next (closure_term l.initial.closure) → IsBelow (present l.self).next (closure_term l.closure);
 }
 

@@ -1,0 +1,143 @@
+//! Where a search stands.
+
+ghost use Rattle.ap_backchain.specs.Below.{AreWaitingBelow};
+ghost use Rattle.ap_backchain.specs.BelowProps.{waiting_prop};
+ghost use Rattle.ap_backchain.specs.Stacks.{waiting_in};
+ghost use Rattle.ap_store.specs.Views.{present};
+
+use crate::frames::Frame;
+use crate::goal_stack::GoalStack;
+use crate::points::Save;
+use crate::renaming::add_vars_of_locals;
+use ap_defs::goals::{Goal, Local};
+use ap_defs::memory::Memory;
+use ap_defs::terms::{Term, Var};
+use ap_store::store::Store;
+use std::alloc::Global;
+
+/// The machine of a search: what is bound and holds; the goal stack; the choices on the way; and the
+/// variables that clauses and `exists` brought, in order. The search goes on in place, and can go back
+/// to where it was at an earlier choice point.
+#[derive(Drop)]
+pub struct Machine<'a> {
+    pub store: Store<'a>,
+    pub goals: GoalStack<'a>,
+    pub path: Vec<u32>,
+    pub brought: Vec<Var>,
+    pub ghost below: { AreWaitingBelow (present store).next (waiting_in goals) } by { waiting_prop (present store).next (waiting_in goals) },
+}
+
+impl<'a> Machine<'a> {
+    ghost use Rattle.std.specs.Prelude.{◌≡◌, ◌+◌, ◌<◌, ◌^◌, ◌∷◌, [], IfNone, IfSome, OnOk, length};
+    ghost use Rattle.ap_defs.specs.Goals.{goal_of};
+    ghost use Rattle.ap_defs.specs.Renaming.{IsGoalBelow, local_vars, rename_goal};
+    ghost use Rattle.ap_defs.specs.Types.{locals_of};
+    ghost use Rattle.ap_backchain.specs.Machines.{next_of, position_of, track_of};
+    ghost use Rattle.ap_backchain.specs.Positions.{with_choice, with_goal, with_vars};
+    ghost use Rattle.ap_backchain.specs.Tracks.{GoesFrom, IsWithin, back_to, next_in, position_at};
+    ghost use Rattle.ap_backchain.specs.Views.{state_in, waiting_of};
+
+    /// A machine with a store in which no goal waits. It takes no memory.
+    pub fn of(alloc: Global, store: Store<'a>) -> Machine<'a>
+        ensures position { position_of result
+            ≡ record { waiting = []; path = []; state = state_in store.entry; brought = [] } }
+        ensures store { result.store ≡ store.entry }
+    {
+        Machine {
+            store,
+            goals: GoalStack::new(alloc),
+            path: Vec::new(alloc),
+            brought: Vec::new(alloc),
+        }
+    }
+
+    /// One more goal waits, in front of the others.
+    pub fn push_goal(&mut self, goal: &'a Goal<Term>, base: u64, depth: u32) -> Result<(), Memory>
+        requires { IsGoalBelow (next_of self.old) (rename_goal base (goal_of goal.now)) }
+        ensures position { OnOk result (position_of self.new
+            ≡ with_goal depth (rename_goal base (goal_of goal.now)) (position_of self.old)) }
+        ensures goes { OnOk result (GoesFrom (track_of self.old) (track_of self.new)) }
+        ensures next { OnOk result (next_of self.new ≡ next_of self.old) }
+    {
+        self.goals.push(Frame { goal, base, depth })
+    }
+
+    /// One more choice.
+    pub fn push_choice(&mut self, choice: u32) -> Result<(), Memory>
+        ensures position { OnOk result (position_of self.new
+            ≡ with_choice choice (position_of self.old)) }
+        ensures goes { OnOk result (GoesFrom (track_of self.old) (track_of self.new)) }
+        ensures next { OnOk result (next_of self.new ≡ next_of self.old) }
+    {
+        self.path.push(choice)?;
+        Ok(())
+    }
+
+    /// More variables that were brought.
+    pub fn push_vars(&mut self, vars: &[Var]) -> Result<(), Memory>
+        ensures position { OnOk result (position_of self.new
+            ≡ with_vars vars.now (position_of self.old)) }
+        ensures goes { OnOk result (GoesFrom (track_of self.old) (track_of self.new)) }
+        ensures next { OnOk result (next_of self.new ≡ next_of self.old) }
+    {
+        self.brought.extend_from_slice(vars)?;
+        Ok(())
+    }
+
+    /// The variables among identifiers were brought that are not marked as bound, the first number
+    /// being `base`.
+    pub fn push_locals(&mut self, base: u64, locals: &[Local]) -> Result<(), Memory>
+        requires { base + length locals.now < 2 ^ 64 }
+        ensures position { OnOk result (position_of self.new
+            ≡ with_vars (local_vars base (locals_of locals.now)) (position_of self.old)) }
+        ensures goes { OnOk result (GoesFrom (track_of self.old) (track_of self.new)) }
+        ensures next { OnOk result (next_of self.new ≡ next_of self.old) }
+    {
+        add_vars_of_locals(&mut self.brought, base, locals)
+    }
+
+    /// The first goal, which waits no longer.
+    pub fn pop_goal(&mut self) -> Option<Frame<'a>>
+        ensures some { IfSome result (λ f. (position_of self.old
+            ≡ record (position_of self.new)
+            { waiting = waiting_of f ∷ (position_of self.new).waiting })
+            × IsGoalBelow (next_of self.new) (waiting_of f).goal) }
+        ensures none { IfNone result (((position_of self.old).waiting ≡ [])
+            × (position_of self.new ≡ position_of self.old)) }
+        ensures track { track_of self.new ≡ track_of self.old }
+    {
+        self.goals.pop()
+    }
+
+    /// How far the search has come. It takes no memory.
+    pub fn save(&self) -> Save
+        ensures within { IsWithin result (track_of self.now) }
+        ensures track { back_to result (track_of self.now) ≡ track_of self.now }
+        ensures position { position_at (track_of self.now) result.first ≡ position_of self.now }
+        ensures next { next_in (track_of self.now) ≡ next_of self.now }
+    {
+        Save {
+            mark: self.store.mark(),
+            cells: self.goals.size(),
+            first: self.goals.front(),
+            path: self.path.len(),
+            brought: self.brought.len(),
+        }
+    }
+
+    /// Goes back to where the search had come. It takes no memory.
+    pub fn go_back(&mut self, save: Save)
+        requires within { IsWithin save (track_of self.old) }
+        requires waiting { AreWaitingBelow (next_in (back_to save (track_of self.old))) (position_at
+            (back_to save (track_of self.old)) save.first).waiting }
+        ensures track { track_of self.new ≡ back_to save (track_of self.old) }
+        ensures position { position_of self.new
+            ≡ position_at (back_to save (track_of self.old)) save.first }
+        ensures next { next_of self.new ≡ next_in (back_to save (track_of self.old)) }
+    {
+        self.store.undo_to(save.mark);
+        self.goals.back_to(save.cells, save.first);
+        self.path.truncate(save.path);
+        self.brought.truncate(save.brought);
+    }
+}
