@@ -21,7 +21,7 @@ use Rattle.ap_search.specs.PathTrees.{choice_at, query_choice, query_choices}
 use Rattle.ap_search.specs.Prefixes.{beginning}
 use Rattle.ap_search.proofs.TreeLemmas.{marked_stack_begins}
 use Rattle.ap_search.proofs.PrefixLemmas.{beginning_deeper, beginning_whole}
-use Rattle.ap_search.proofs.QueryTreeLemmas.{outs_at_marks, machine_choice, width_choice}
+use Rattle.ap_search.proofs.QueryTreeLemmas.{outs_at_marks, place_choice, width_choice}
 use Rattle.ap_backchain.proofs.MarkLemmas.{marks_turned, settled}
 use Rattle.ap_backchain.proofs.TurnLemmas.{turns_turned, width_told, written_turned}
 use Rattle.ap_backchain.proofs.UnboundLemmas.{marked_stack_by_unbound, stack_by_unbound}
@@ -75,12 +75,12 @@ module _ (program : Clauses) (d : ℕ) (q : NominalQuery) where
   chooses : (c : Choice) (p : Machine) → beginning mark_path p.path.items (map (mark_in q.locals) (marked_query program d q)) ≡ marks_from program q.locals (position_of p)
       → told_of program (position_of p).state (position_of p).waiting ≡ Some c → query_choice program d q p.path.items ≡ Some c
   chooses c p h e =
-      machine_choice program d q p.path.items (marks_from program q.locals (position_of p)) h
+      place_choice program d q p.path.items (marks_from program q.locals (position_of p)) h
       ∙ ap (choice_at p.path.items) (choosing_marks program q.locals (position_of p) (Some c) e)
       ∙ width_choice p.path.items c (marks_of_turned program q.locals (turned program q.locals (position_of p)))
 
   no_choice : (p : List ℕ) (ms : List NominalMark) → beginning mark_path p (map (mark_in q.locals) (marked_query program d q)) ≡ ms → choice_at p ms ≡ None → query_choices program d q p ≡ None
-  no_choice p ms h e = ap (option_map (λ (v : Choice). v.width)) (machine_choice program d q p ms h ∙ e)
+  no_choice p ms h e = ap (option_map (λ (v : Choice). v.width)) (place_choice program d q p ms h ∙ e)
 
   chooses_among : (o : Option Choice) (w : ℕ) (p : Machine) → beginning mark_path p.path.items (map (mark_in q.locals) (marked_query program d q)) ≡ marks_from program q.locals (position_of p)
       → told_of program (position_of p).state (position_of p).waiting ≡ o → option_map (λ (v : Choice). v.width) o ≡ Some w → Some w ≡ query_choices program d q p.path.items

@@ -52,10 +52,10 @@ goes_store b d v k c p x = record {
 
 -- A machine that has gone back.
 module _ (s : Save) (b : Machine) (r : Store) (a : GoalStack) (path : List ℕ) (brought : List Var) where
-  pub back_kinds : versions r ≡ take (s.mark.machine + 1) (versions b.store) → kinds r ≡ take (present r).next (kinds b.store) → kinds r ≡ (back_to s (track_of b)).kinds
+  pub back_kinds : versions r ≡ take (s.mark.place + 1) (versions b.store) → kinds r ≡ take (present r).next (kinds b.store) → kinds r ≡ (back_to s (track_of b)).kinds
   back_kinds v k = k ∙ ap (λ (w : Triple). take w.next (kinds b.store)) (sym (last_present (past r) (present r)) ∙ ap last_version v)
 
-  pub back_track : versions r ≡ take (s.mark.machine + 1) (versions b.store) → kinds r ≡ take (present r).next (kinds b.store) → cells_of a ≡ take s.cells (cells_of b.goals)
+  pub back_track : versions r ≡ take (s.mark.place + 1) (versions b.store) → kinds r ≡ take (present r).next (kinds b.store) → cells_of a ≡ take s.cells (cells_of b.goals)
       → path ≡ take s.path b.path.items → brought ≡ take s.brought b.brought.items → track_with r a path brought ≡ back_to s (track_of b)
   back_track v k c p x =
       ap (λ vs. record { versions = vs; kinds = kinds r; cells = cells_of a; path = path; brought = brought }) v

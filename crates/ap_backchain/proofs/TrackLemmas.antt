@@ -42,8 +42,8 @@ goes_trans t u v h k = record {
 -- what a track had is found from each that goes on from it
 pub back_from : (s : Save) (t u : Track) → IsWithin s t → GoesFrom t u → back_to s u ≡ back_to s t
 back_from s t u w g =
-    let l : s.mark.machine + 1 ≤ length t.versions = let h = w.mark in omega (arith, h) in
-    let vs : take (s.mark.machine + 1) u.versions ≡ take (s.mark.machine + 1) t.versions = take_longer t.versions u.versions (s.mark.machine + 1) g.versions l in
+    let l : s.mark.place + 1 ≤ length t.versions = let h = w.mark in omega (arith, h) in
+    let vs : take (s.mark.place + 1) u.versions ≡ take (s.mark.place + 1) t.versions = take_longer t.versions u.versions (s.mark.place + 1) g.versions l in
     ap (λ ws. record {
       versions = ws;
       kinds = take (last_version ws).next u.kinds;
@@ -52,29 +52,29 @@ back_from s t u w g =
       brought = take s.brought u.brought;
     }) vs
     ∙ ap (λ ks. record {
-      versions = take (s.mark.machine + 1) t.versions;
+      versions = take (s.mark.place + 1) t.versions;
       kinds = ks;
       cells = take s.cells u.cells;
       path = take s.path u.path;
       brought = take s.brought u.brought;
     }) (take_longer t.kinds u.kinds _ g.kinds w.kinds)
     ∙ ap (λ cs. record {
-      versions = take (s.mark.machine + 1) t.versions;
-      kinds = take (last_version (take (s.mark.machine + 1) t.versions)).next t.kinds;
+      versions = take (s.mark.place + 1) t.versions;
+      kinds = take (last_version (take (s.mark.place + 1) t.versions)).next t.kinds;
       cells = cs;
       path = take s.path u.path;
       brought = take s.brought u.brought;
     }) (take_longer t.cells u.cells s.cells g.cells w.cells)
     ∙ ap (λ ps. record {
-      versions = take (s.mark.machine + 1) t.versions;
-      kinds = take (last_version (take (s.mark.machine + 1) t.versions)).next t.kinds;
+      versions = take (s.mark.place + 1) t.versions;
+      kinds = take (last_version (take (s.mark.place + 1) t.versions)).next t.kinds;
       cells = take s.cells t.cells;
       path = ps;
       brought = take s.brought u.brought;
     }) (take_longer t.path u.path s.path g.path w.path)
     ∙ ap (λ xs. record {
-      versions = take (s.mark.machine + 1) t.versions;
-      kinds = take (last_version (take (s.mark.machine + 1) t.versions)).next t.kinds;
+      versions = take (s.mark.place + 1) t.versions;
+      kinds = take (last_version (take (s.mark.place + 1) t.versions)).next t.kinds;
       cells = take s.cells t.cells;
       path = take s.path t.path;
       brought = xs;
@@ -82,8 +82,8 @@ back_from s t u w g =
 
 pub within_from : (s : Save) (t u : Track) → IsWithin s t → GoesFrom t u → IsWithin s u
 within_from s t u w g =
-    let l : s.mark.machine + 1 ≤ length t.versions = let h = w.mark in omega (arith, h) in
-    let vs : take (s.mark.machine + 1) u.versions ≡ take (s.mark.machine + 1) t.versions = take_longer t.versions u.versions (s.mark.machine + 1) g.versions l in
+    let l : s.mark.place + 1 ≤ length t.versions = let h = w.mark in omega (arith, h) in
+    let vs : take (s.mark.place + 1) u.versions ≡ take (s.mark.place + 1) t.versions = take_longer t.versions u.versions (s.mark.place + 1) g.versions l in
     let a = longer_length t.versions u.versions g.versions in
     let b = longer_length t.kinds u.kinds g.kinds in
     let c = longer_length t.cells u.cells g.cells in
@@ -108,11 +108,11 @@ pub last_present : (vs : List Triple) (w : Triple) → last_version (vs ++ w ∷
 last_present vs w = last_over _ w vs
 
 -- going back to where the search stands changes nothing
-pub back_here : (s : Save) (t : Track) (vs : List Triple) (w : Triple) → t.versions ≡ vs ++ w ∷ [] → w.next ≡ length t.kinds → s.mark.machine ≡ length vs
+pub back_here : (s : Save) (t : Track) (vs : List Triple) (w : Triple) → t.versions ≡ vs ++ w ∷ [] → w.next ≡ length t.kinds → s.mark.place ≡ length vs
     → s.cells ≡ length t.cells → s.path ≡ length t.path → s.brought ≡ length t.brought → back_to s t ≡ t
 back_here s t vs w e f m c p x =
     let many : length t.versions ≡ length vs + 1 = ap length e ∙ length-append vs (w ∷ []) in
-    let a : take (s.mark.machine + 1) t.versions ≡ t.versions = take_all (s.mark.machine + 1) t.versions (omega (arith, many, m)) in
+    let a : take (s.mark.place + 1) t.versions ≡ t.versions = take_all (s.mark.place + 1) t.versions (omega (arith, many, m)) in
     let n : (last_version t.versions).next ≡ length t.kinds = ap (λ us. (last_version us).next) e ∙ ap (λ (u : Triple). u.next) (last_present vs w) ∙ f in
     ap (λ us. record { versions = us; kinds = take (last_version us).next t.kinds; cells = take s.cells t.cells; path = take s.path t.path; brought = take s.brought t.brought }) a
     ∙ ap (λ ks. record { versions = t.versions; kinds = ks; cells = take s.cells t.cells; path = take s.path t.path; brought = take s.brought t.brought })
@@ -121,12 +121,12 @@ back_here s t vs w e f m c p x =
     ∙ ap (λ ps. record { versions = t.versions; kinds = t.kinds; cells = t.cells; path = ps; brought = take s.brought t.brought }) (take_all s.path t.path (omega (arith, p)))
     ∙ ap (λ xs. record { versions = t.versions; kinds = t.kinds; cells = t.cells; path = t.path; brought = xs }) (take_all s.brought t.brought (omega (arith, x)))
 
-pub within_here : (s : Save) (t : Track) (vs : List Triple) (w : Triple) → t.versions ≡ vs ++ w ∷ [] → w.next ≡ length t.kinds → s.mark.machine ≡ length vs
+pub within_here : (s : Save) (t : Track) (vs : List Triple) (w : Triple) → t.versions ≡ vs ++ w ∷ [] → w.next ≡ length t.kinds → s.mark.place ≡ length vs
     → s.cells ≡ length t.cells → s.first ≤ s.cells → s.path ≡ length t.path → s.brought ≡ length t.brought → IsWithin s t
 within_here s t vs w e f m c i p x =
     let many : length t.versions ≡ length vs + 1 = ap length e ∙ length-append vs (w ∷ []) in
-    let a : take (s.mark.machine + 1) t.versions ≡ t.versions = take_all (s.mark.machine + 1) t.versions (omega (arith, many, m)) in
-    let n : (last_version (take (s.mark.machine + 1) t.versions)).next ≡ length t.kinds =
+    let a : take (s.mark.place + 1) t.versions ≡ t.versions = take_all (s.mark.place + 1) t.versions (omega (arith, many, m)) in
+    let n : (last_version (take (s.mark.place + 1) t.versions)).next ≡ length t.kinds =
     ap (λ us. (last_version us).next) (a ∙ e) ∙ ap (λ (u : Triple). u.next) (last_present vs w) ∙ f in
     record {
       mark = omega (arith, many, m);

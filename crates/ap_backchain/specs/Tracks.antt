@@ -38,8 +38,8 @@ position_at t n = record { waiting = waiting_at t.cells n; path = t.path; state 
 -- what is left once the search has gone back
 abbrev pub back_to : Save → Track → Track
 back_to s t = record {
-  versions = take (s.mark.machine + 1) t.versions;
-  kinds = take (last_version (take (s.mark.machine + 1) t.versions)).next t.kinds;
+  versions = take (s.mark.place + 1) t.versions;
+  kinds = take (last_version (take (s.mark.place + 1) t.versions)).next t.kinds;
   cells = take s.cells t.cells;
   path = take s.path t.path;
   brought = take s.brought t.brought;
@@ -47,8 +47,8 @@ back_to s t = record {
 
 -- the search had come that far
 pub record IsWithin (s : Save) (t : Track) : Type 0 where
-  pub mark : s.mark.machine < length t.versions
-  pub kinds : (last_version (take (s.mark.machine + 1) t.versions)).next ≤ length t.kinds
+  pub mark : s.mark.place < length t.versions
+  pub kinds : (last_version (take (s.mark.place + 1) t.versions)).next ≤ length t.kinds
   pub cells : s.cells ≤ length t.cells
   pub first : s.first ≤ s.cells
   pub path : s.path ≤ length t.path

@@ -94,7 +94,7 @@ invariant_of-machine-else-branch c =
     let d = c.unify.new.store in
     let on : IsPrefixOf (versions s) (versions d) = goes_on_both (versions s) (versions r) (versions d) c.in_ok-start.ensures.past c.unify.ensures.past in
     let longer : (ks : List NominalKind) × (kinds d ≡ kinds s ++ ks) = (kinds_of (locals_of c.items.result.now), c.unify.ensures.kinds ∙ c.in_ok-start.ensures.kinds) in
-    record { below = subst (λ (a : Triple). AreWaitingBelow a.next (waiting_in c.args.machine.now.goals)) (sym (present_back s d c.undo_to.new.self c.mark-mark.result.machine on longer c.mark-mark.ensures c.undo_to.ensures.versions c.undo_to.ensures.kinds)) c.args.machine.now.below }
+    record { below = subst (λ (a : Triple). AreWaitingBelow a.next (waiting_in c.args.machine.now.goals)) (sym (present_back s d c.undo_to.new.self c.mark-mark.result.place on longer c.mark-mark.ensures c.undo_to.ensures.versions c.undo_to.ensures.kinds)) c.args.machine.now.below }
 
 pub returns-else-branch-clause-state : goal.returns-else-branch-clause-state
 returns-else-branch-clause-state c =
@@ -120,7 +120,7 @@ returns-else-branch-clause-goes c =
     let d = c.unify.new.store in
     let on : IsPrefixOf (versions s) (versions d) = goes_on_both (versions s) (versions r) (versions d) c.in_ok-start.ensures.past c.unify.ensures.past in
     let longer : (ks : List NominalKind) × (kinds d ≡ kinds s ++ ks) = (kinds_of (locals_of c.items.result.now), c.unify.ensures.kinds ∙ c.in_ok-start.ensures.kinds) in
-    goes_same (track_of b) _ (track_back s d c.undo_to.new.self c.mark-mark.result.machine on longer c.mark-mark.ensures c.undo_to.ensures.versions c.undo_to.ensures.kinds (cells_of b.goals) b.path.items b.brought.items)
+    goes_same (track_of b) _ (track_back s d c.undo_to.new.self c.mark-mark.result.place on longer c.mark-mark.ensures c.undo_to.ensures.versions c.undo_to.ensures.kinds (cells_of b.goals) b.path.items b.brought.items)
 
 pub returns-else-branch-clause-none : goal.returns-else-branch-clause-none
 returns-else-branch-clause-none c =
@@ -130,6 +130,6 @@ returns-else-branch-clause-none c =
     let on : IsPrefixOf (versions s) (versions d) = goes_on_both (versions s) (versions r) (versions d) c.in_ok-start.ensures.past c.unify.ensures.past in
     let longer : (ks : List NominalKind) × (kinds d ≡ kinds s ++ ks) = (kinds_of (locals_of c.items.result.now), c.unify.ensures.kinds ∙ c.in_ok-start.ensures.kinds) in
     λ h. (
-      track_back s d c.undo_to.new.self c.mark-mark.result.machine on longer c.mark-mark.ensures c.undo_to.ensures.versions c.undo_to.ensures.kinds (cells_of b.goals) b.path.items b.brought.items,
-      position_back s d c.undo_to.new.self c.mark-mark.result.machine on longer c.mark-mark.ensures c.undo_to.ensures.versions c.undo_to.ensures.kinds (position_of b),
+      track_back s d c.undo_to.new.self c.mark-mark.result.place on longer c.mark-mark.ensures c.undo_to.ensures.versions c.undo_to.ensures.kinds (cells_of b.goals) b.path.items b.brought.items,
+      position_back s d c.undo_to.new.self c.mark-mark.result.place on longer c.mark-mark.ensures c.undo_to.ensures.versions c.undo_to.ensures.kinds (position_of b),
     )
