@@ -51,7 +51,8 @@ fn digit(choice: u32) -> &'static str {
     match choice {
         1 => "1",
         2 => "2",
-        _ => "3",
+        3 => "3",
+        _ => "4",
     }
 }
 
