@@ -1,6 +1,6 @@
 -- clap takes the words that are accepted.
 use Rattle.std.proofs.Common.{◌≡◌, ◌∙◌, ◌≤◌, ◌+◌, ◌++◌, ◌||◌, ◌&&◌, ⊎_elim, not, refl, sym, ap, subst, arith, ℕ, Bool, true, false, true≢false, cond, List, [], ◌∷◌, Option, Some, None, map, codes, append-nil, append_assoc}
-use Rattle.std.proofs.lemmas.Bool.{and_parts, cases_Bool}
+use Rattle.std.proofs.lemmas.Bool.{and_from, cases_Bool}
 use Rattle.std.proofs.lemmas.Bool.Decides.{nat_tests}
 use Rattle.std.proofs.lemmas.Slice.Eq.{bytes_eq-Decides}
 use Rattle.std.specs.Prelude.{count_by, fold, nat_le, option_and_then, option_map}
@@ -84,7 +84,7 @@ one_step : (options : List OptionName) (w w' : Walk) (word : Text) (words : List
     → EndsAt options w' words es rest → EndsAt options w (word ∷ words) ds ss
 unfolding walk_passes
 one_step options w w' word words ds es ss rest turn step same end = record {
-  passes = λ name. and_parts _ _ (turn name) (rw step (end.passes name));
+  passes = λ name. and_from _ _ (turn name) (rw step (end.passes name));
   before = end.before;
   last = end.last;
   walks = rw step end.walks;
@@ -183,7 +183,7 @@ few_of options ss e o known = at_most (nat_le (count_by (sets o) ss) 1) _ refl (
 needed : (options : List OptionName) (ss : List Setting) (ds : List Given) → ((o : OptionName) → seen o ds ≡ count_by (sets o) ss) → are_complete options ss ≡ true
     → list_all (λ o. not (is_required o) || is_given (option_name o) (map row_for ds)) options ≡ true
 needed [] ss ds same e = refl
-needed (o ∷ os) ss ds same e = and_parts _ _ (go (nat_le (count_by (sets o) ss) 1) (is_required o) (nat_le 1 (count_by (sets o) ss)) refl e) (needed os ss ds same (rest (is_well_set ss o) e))
+needed (o ∷ os) ss ds same e = and_from _ _ (go (nat_le (count_by (sets o) ss) 1) (is_required o) (nat_le 1 (count_by (sets o) ss)) refl e) (needed os ss ds same (rest (is_well_set ss o) e))
   where
     rest : (b : Bool) → (b && are_complete os ss) ≡ true → are_complete os ss ≡ true
     rest true k = k
@@ -202,10 +202,10 @@ level name options words ss read e =
     let ds = given_in end.before end.last in
     let same : (o : OptionName) → seen o ds ≡ count_by (sets o) ss = λ o. let k = end.counts o in omega arith in
     let rows = defaults_stay options (map row_for ds) in
-    and_parts _ _ (end.passes name)
-    (rw end.walks (and_parts _ _ (settle_at options end.before end.last end.fine)
-    (and_parts _ _ (no_defaults options)
-    (rw (settled_at options end.before end.last end.fine, rows) (and_parts _ _ (each_free options) (required_given options ds (needed options ss ds same e)))))))
+    and_from _ _ (end.passes name)
+    (rw end.walks (and_from _ _ (settle_at options end.before end.last end.fine)
+    (and_from _ _ (no_defaults options)
+    (rw (settled_at options end.before end.last end.fine, rows) (and_from _ _ (each_free options) (required_given options ds (needed options ss ds same e)))))))
 
 -- after a subcommand's name the words are its own
 stopped : (rules : List Rule) (names : Names) (w : Walk) (name : Text) (before words : List Text)
@@ -230,49 +230,49 @@ command_taken command.Run words ss read e =
       stopped [] all_names (walk_from nothing_held) (codes "run") [] words,
       stopped_passes (built program).top all_names (walk_from nothing_held) (codes "run") [] words,
     )
-    (and_parts _ _ (level (codes "run") (options_of command.Run) words ss read e) refl)
+    (and_from _ _ (level (codes "run") (options_of command.Run) words ss read e) refl)
 command_taken command.Prove words ss read e =
     rw (
       stopped [] all_names (walk_from nothing_held) (codes "prove") [] words,
       stopped_passes (built program).top all_names (walk_from nothing_held) (codes "prove") [] words,
     )
-    (and_parts _ _ (level (codes "prove") (options_of command.Prove) words ss read e) refl)
+    (and_from _ _ (level (codes "prove") (options_of command.Prove) words ss read e) refl)
 command_taken command.Check words ss read e =
     rw (
       stopped [] all_names (walk_from nothing_held) (codes "check") [] words,
       stopped_passes (built program).top all_names (walk_from nothing_held) (codes "check") [] words,
     )
-    (and_parts _ _ (level (codes "check") (options_of command.Check) words ss read e) refl)
+    (and_from _ _ (level (codes "check") (options_of command.Check) words ss read e) refl)
 command_taken command.Convert words ss read e =
     rw (
       stopped [] all_names (walk_from nothing_held) (codes "convert") [] words,
       stopped_passes (built program).top all_names (walk_from nothing_held) (codes "convert") [] words,
     )
-    (and_parts _ _ (level (codes "convert") (options_of command.Convert) words ss read e) refl)
+    (and_from _ _ (level (codes "convert") (options_of command.Convert) words ss read e) refl)
 command_taken command.Count words ss read e =
     rw (
       stopped [] all_names (walk_from nothing_held) (codes "count") [] words,
       stopped_passes (built program).top all_names (walk_from nothing_held) (codes "count") [] words,
     )
-    (and_parts _ _ (level (codes "count") (options_of command.Count) words ss read e) refl)
+    (and_from _ _ (level (codes "count") (options_of command.Count) words ss read e) refl)
 command_taken command.Cover words ss read e =
     rw (
       stopped [] all_names (walk_from nothing_held) (codes "cover") [] words,
       stopped_passes (built program).top all_names (walk_from nothing_held) (codes "cover") [] words,
     )
-    (and_parts _ _ (level (codes "cover") (options_of command.Cover) words ss read e) refl)
+    (and_from _ _ (level (codes "cover") (options_of command.Cover) words ss read e) refl)
 command_taken command.Examine words ss read e =
     rw (
       stopped [] all_names (walk_from nothing_held) (codes "examine") [] words,
       stopped_passes (built program).top all_names (walk_from nothing_held) (codes "examine") [] words,
     )
-    (and_parts _ _ (level (codes "examine") (options_of command.Examine) words ss read e) refl)
+    (and_from _ _ (level (codes "examine") (options_of command.Examine) words ss read e) refl)
 command_taken command.Work words ss read e =
     rw (
       stopped [] all_names (walk_from nothing_held) (codes "work") [] words,
       stopped_passes (built program).top all_names (walk_from nothing_held) (codes "work") [] words,
     )
-    (and_parts _ _ (level (codes "work") (options_of command.Work) words ss read e) refl)
+    (and_from _ _ (level (codes "work") (options_of command.Work) words ss read e) refl)
 
 with_taken : (c : CommandName) (words : List Text) (a : Asked) → asked_with c words ≡ Some a → takes program (command_name c ∷ words) ≡ true
 with_taken c words a e = go (settings_of (options_of c) words) refl e
