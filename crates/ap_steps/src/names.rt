@@ -86,7 +86,7 @@ fn add_vars_in(vars: &mut IndexSet<Var>, conds: &[Cond]) -> Result<(), Memory>
 fn wait_for<'a>(waiting: &mut Vec<&'a Derivation>, derivation: &'a Derivation) -> Result<(), Memory>
     ensures nodes { OnOk result (preorder_left waiting.new.items
         ≡ subderivations (derivation_of derivation.now) ++ preorder_left waiting.old.items) }
-    ensures node_count { OnOk result (count_left waiting.new.items
+    ensures count { OnOk result (count_left waiting.new.items
         ≡ node_count (derivation_of derivation.now) + count_left waiting.old.items) }
 {
     waiting.push(derivation)?;
@@ -100,7 +100,7 @@ fn wait_below<'a>(
 ) -> Result<(), Memory>
     ensures nodes { OnOk result (derivation_of derivation.now ∷ preorder_left waiting.new.items
         ≡ subderivations (derivation_of derivation.now) ++ preorder_left waiting.old.items) }
-    ensures node_count { OnOk result (count_left waiting.new.items
+    ensures count { OnOk result (count_left waiting.new.items
         < node_count (derivation_of derivation.now) + count_left waiting.old.items) }
 {
     match derivation {
