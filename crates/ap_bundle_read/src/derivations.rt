@@ -1,7 +1,6 @@
 // The derivation that nodes are. Derivations wait on a stack, the last of it the first.
 ghost use Rattle.std.specs.Prelude.{◌≡◌, ◌∷◌, map, IfOk};
 ghost use Rattle.std.specs.Option.{option_map};
-ghost use Rattle.std.specs.Vec.{vec_len};
 ghost use Rattle.ap_defs.specs.Derivations as derivation;
 ghost use Rattle.ap_defs.specs.Derivations.{derivation_of};
 ghost use Rattle.ap_defs.specs.Terms.{term_of};
@@ -16,6 +15,7 @@ ghost use Rattle.ap_bundle_read.specs.Tables.{AreReady, reader_of};
 use crate::error::ReadError;
 use crate::nodes::{Node, read_nodes};
 use crate::place::{Place, wrong};
+use crate::room::{give_all_back, give_back};
 use crate::table::term_lines::Terms;
 use ap_bundle::faults::BundleKind;
 use ap_defs::memory::Memory;
@@ -159,28 +159,6 @@ fn node_onto(
         Node::Right => right_onto(alloc, stack),
         Node::Exists(term) => exists_onto(alloc, term, stack),
         Node::New(name) => new_onto(alloc, name, stack),
-    }
-}
-
-/// Gives back a quarter of the room at least, once half of it isn't used.
-fn give_back<T>(items: &mut Vec<T>)
-    ensures items { items.new.items ≡ items.old.items }
-    ensures len { vec_len items.new ≡ vec_len items.old }
-{
-    let room = items.capacity();
-    if items.len() <= room / 2 {
-        items.shrink_to(room / 4 * 3);
-    }
-}
-
-/// Gives back all room that isn't used, once that is an eighth.
-fn give_all_back<T>(items: &mut Vec<T>)
-    ensures items { items.new.items ≡ items.old.items }
-    ensures len { vec_len items.new ≡ vec_len items.old }
-{
-    let room = items.capacity();
-    if items.len() <= room - room / 8 {
-        items.shrink_to_fit();
     }
 }
 

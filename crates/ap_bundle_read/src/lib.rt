@@ -9,6 +9,7 @@ mod nodes;
 mod numbers;
 mod place;
 mod read;
+mod room;
 mod table;
 mod terms;
 mod types;

@@ -6,6 +6,7 @@ ghost use Rattle.ap_bundle.specs.Forms as spec;
 ghost use Rattle.ap_bundle_read.specs.Stacks.{stacked, term_forms};
 
 use crate::numbers::{a_name, first_number, small, swaps};
+use crate::room::give_back;
 use ap_bundle::words::{Letter, Word};
 use ap_defs::lists::List;
 use ap_defs::memory::Memory;
@@ -201,6 +202,7 @@ pub(crate) fn term_from(alloc: Global, words: &[Word]) -> Result<Option<Term>, M
             Some(more) => terms = more,
             None => return Ok(None),
         }
+        give_back(&mut terms.whole);
     }
     Ok(only(terms))
 }

@@ -6,6 +6,7 @@ ghost use Rattle.ap_bundle.specs.Forms as spec;
 ghost use Rattle.ap_bundle_read.specs.Stacks.{stacked, type_forms};
 
 use crate::numbers::small;
+use crate::room::give_back;
 use ap_bundle::words::{Letter, Word};
 use ap_defs::memory::Memory;
 use ap_defs::terms::Ty;
@@ -182,6 +183,7 @@ pub(crate) fn type_from(alloc: Global, words: &[Word]) -> Result<Option<Ty>, Mem
             Some(more) => types = more,
             None => return Ok(None),
         }
+        give_back(&mut types.whole);
     }
     Ok(only(types))
 }
