@@ -57,7 +57,12 @@ fn run<R: Threads + Wait + Sync + AllocGlobal + Input + Print + Eprint>(
     words: &[String],
 ) -> Status {
     let alloc = rt.alloc();
-    let mut source = Remembering::new(alloc, StdSource::new(rt.reader()));
+    let input = StdSource::new(rt.reader());
+    let mut source = if reads_bundle(words) {
+        Remembering::without_copy(alloc, input)
+    } else {
+        Remembering::new(alloc, input)
+    };
     let mut sink = Counting::new(StdSink::new(io::writer(rt)));
     let status = top(rt, alloc, words, &mut source, &mut sink, &NoGate);
     let counted = sink.tally();
@@ -66,12 +71,7 @@ fn run<R: Threads + Wait + Sync + AllocGlobal + Input + Print + Eprint>(
     } else {
         Tally::new()
     };
-    let text = source.read_so_far();
-    if reads_bundle(words) {
-        say(rt, alloc, status, None, tally);
-    } else {
-        say(rt, alloc, status, text, tally);
-    }
+    say(rt, alloc, status, source.read_so_far(), tally);
     status
 }
 

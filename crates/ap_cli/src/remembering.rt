@@ -4,7 +4,8 @@ ghost use Rattle.std.specs.Prelude.{◌≡◌};
 use ap_io::{Failed, Source};
 use std::alloc::Global;
 
-/// A source, with a copy of all that was read from it. Where memory is wanting for the copy, there is none.
+/// A source, with a copy of all that was read from it, where one is wanted. Where memory is wanting for the copy, there is
+/// none.
 #[derive(Drop)]
 pub struct Remembering<S> {
     source: S,
@@ -22,7 +23,16 @@ impl<S: Source> Remembering<S> {
         }
     }
 
-    /// All that was read, where there was memory for it.
+    /// The same, with no copy.
+    pub fn without_copy(alloc: Global, source: S) -> Self {
+        Remembering {
+            source,
+            kept: Vec::new(alloc),
+            is_whole: false,
+        }
+    }
+
+    /// All that was read, where a copy was wanted and there was memory for it.
     pub fn read_so_far(&self) -> Option<&[u8]> {
         if self.is_whole {
             Some(self.kept.as_slice())
@@ -39,7 +49,7 @@ impl<S: Source> Source for Remembering<S> {
 
     fn read(&mut self, buf: &mut [u8]) -> Result<usize, Failed> {
         let count = self.source.read(buf)?;
-        if self.kept.extend_from_slice(&buf[..count]).is_err() {
+        if self.is_whole && self.kept.extend_from_slice(&buf[..count]).is_err() {
             self.is_whole = false;
         }
         Ok(count)
