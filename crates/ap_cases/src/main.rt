@@ -6,7 +6,7 @@
 //! each. The other texts are read as streams, as the program reads them: each of the folders `examples` and `bytes` has a
 //! file `runs`, of a line for each text with the depth and its name, and `examples` a file `commands`, of a line for each
 //! other command with what it reads. The files of `searched` are told in `searched.rt`, those of `bundles` in `bundles.rt`
-//! and `prefixes.rt`, and the texts of `examined` in `examined.rt`.
+//! and `prefixes.rt`, the texts of `examined` in `examined.rt`, and the large texts in `large.rt`.
 #![tactic(auto)]
 
 mod bundles;
@@ -15,6 +15,7 @@ mod cases;
 mod command_lines;
 mod derivations;
 mod examined;
+mod large;
 mod prefixes;
 mod proving;
 mod searched;
@@ -85,5 +86,5 @@ fn main(rt: HostRuntime) -> io::Result<()> {
     for name in &FILES {
         derivations::check_file(&rt, name)?;
     }
-    Ok(())
+    large::run_large(&rt)
 }
