@@ -26,8 +26,9 @@ use Rattle.ap_backchain.proofs.MarkLemmas.{marks_turned, settled}
 use Rattle.ap_backchain.proofs.TurnLemmas.{turns_turned, width_told, written_turned}
 use Rattle.ap_backchain.proofs.UnboundLemmas.{marked_stack_by_unbound, stack_by_unbound}
 use Rattle.ap_backchain.specs.Branches.{IsBranchOf, IsChoiceAt, IsChoiceOfNode, IsChoosing, IsNamed, IsNodeAt, IsStandingFor, IsStandingOf, choices_at, marks_of_standing, path_of_branch, path_of_standing, width_of_standing}
-use Rattle.ap_backchain.specs.Ends.{kept_out, without_path}
-use Rattle.ap_backchain.specs.declared.run.Paths.TheVariants as paths
+use Rattle.ap_backchain.specs.Ends.{kept_out}
+use Rattle.ap_backchain.specs.declared.run.Paths.{Paths}
+use Rattle.ap_backchain.specs.declared.run.Paths.TheVariants as variants
 use Rattle.ap_backchain.specs.Marks.{IsSettled, choice_of, choice_of_atom, choices_among, marks_from, marks_of_turned, told_of, written_here}
 use Rattle.ap_backchain.specs.Machines.{position_of}
 use Rattle.ap_backchain.specs.Positions.{Position, Turned, ends, goes, outs_from, turned}
@@ -133,40 +134,39 @@ asked_once : {X : Type 0} (o : Option X) (x y : X) → o ≡ Some x → o ≡ So
 asked_once o x y h k = cc
 
 -- The outputs of a problem, as far as they are wanted.
-module _ (p : Problem) (limit : Limit) (query : NominalQuery) (asked : slice_get (queries_in p) (p.query - 1) ≡ Some query) (program_typed : IsTypedProgram (program_of_problem p))
+module _ (p : Problem) (paths : Paths) (limit : Limit) (query : NominalQuery) (asked : slice_get (queries_in p) (p.query - 1) ≡ Some query) (program_typed : IsTypedProgram (program_of_problem p))
     (typed : IsTypedQuery term_form (program_of_problem p).signature query) where
   abbrev first_outs : List NominalOut
   first_outs = part limit (outs_from (clauses_in p) query.locals (first_position p.depth query))
 
   abbrev AreTheOutputs : Vec Out Global → Type 0
-  AreTheOutputs v = (q : NominalQuery) → slice_get (queries_in p) (p.query - 1) ≡ Some q → outs_of v.items ≡ part limit (query_outs (clauses_in p) p.depth q)
-
-  abbrev AreWithoutPaths : Vec Out Global → Type 0
-  AreWithoutPaths v = (q : NominalQuery) → slice_get (queries_in p) (p.query - 1) ≡ Some q → outs_of v.items ≡ map without_path (part limit (query_outs (clauses_in p) p.depth q))
+  AreTheOutputs v = (q : NominalQuery) → slice_get (queries_in p) (p.query - 1) ≡ Some q → outs_of v.items ≡ map (kept_out paths) (part limit (query_outs (clauses_in p) p.depth q))
 
   first_are : (q : NominalQuery) → slice_get (queries_in p) (p.query - 1) ≡ Some q → first_outs ≡ part limit (query_outs (clauses_in p) p.depth q)
   first_are q k =
       subst (λ (x : NominalQuery). first_outs ≡ part limit (query_outs (clauses_in p) p.depth x)) (asked_once (slice_get (queries_in p) (p.query - 1)) query q asked k)
       (ap (part limit) (stack_by_unbound (program_of_problem p) program_typed p.depth query typed))
 
-  outputs_are : (v : Vec Out Global) → outs_of v.items ≡ map (kept_out paths.Kept) first_outs → AreTheOutputs v
-  outputs_are v h = λ q k. h ∙ map-id first_outs ∙ first_are q k
+  outputs_are : (v : Vec Out Global) → outs_of v.items ≡ map (kept_out paths) first_outs → AreTheOutputs v
+  outputs_are v h = λ q k. h ∙ ap (map (kept_out paths)) (first_are q k)
 
-  pub all_outputs : {E : Type 0} (r : Result (Vec Out Global) E) → IfOk r (λ v. outs_of v.items ≡ map (kept_out paths.Kept) first_outs) → IfOk r AreTheOutputs
+  pub all_outputs : {E : Type 0} (r : Result (Vec Out Global) E) → IfOk r (λ v. outs_of v.items ≡ map (kept_out paths) first_outs) → IfOk r AreTheOutputs
   all_outputs (Ok v) h = outputs_are v h
   all_outputs (Err e) h = tt
 
-  pub outputs_left : {E : Type 0} (r : Result (Vec Out Global) E) → IfOk r (λ v. outs_of v.items ≡ map (kept_out paths.Left) first_outs) → IfOk r AreWithoutPaths
-  outputs_left (Ok v) h = λ q k. h ∙ ap (map without_path) (first_are q k)
-  outputs_left (Err e) h = tt
-
-  some_outputs : (o : Option (Vec Out Global)) → IfSome o (λ v. outs_of v.items ≡ map (kept_out paths.Kept) first_outs) → IfSome o AreTheOutputs
+  some_outputs : (o : Option (Vec Out Global)) → IfSome o (λ v. outs_of v.items ≡ map (kept_out paths) first_outs) → IfSome o AreTheOutputs
   some_outputs None h = tt
   some_outputs (Some v) h = outputs_are v h
 
-  pub few_outputs : {E : Type 0} (r : Result (Option (Vec Out Global)) E) → IfOk r (λ o. IfSome o (λ v. outs_of v.items ≡ map (kept_out paths.Kept) first_outs)) → IfOk r (λ o. IfSome o AreTheOutputs)
+  pub few_outputs : {E : Type 0} (r : Result (Option (Vec Out Global)) E) → IfOk r (λ o. IfSome o (λ v. outs_of v.items ≡ map (kept_out paths) first_outs)) → IfOk r (λ o. IfSome o AreTheOutputs)
   few_outputs (Ok o) h = some_outputs o h
   few_outputs (Err e) h = tt
+
+-- with their paths they are as they were
+pub with_paths : (p : Problem) (limit : Limit) (v : Vec Out Global)
+    → ((q : NominalQuery) → slice_get (queries_in p) (p.query - 1) ≡ Some q → outs_of v.items ≡ map (kept_out variants.Kept) (part limit (query_outs (clauses_in p) p.depth q)))
+    → (q : NominalQuery) → slice_get (queries_in p) (p.query - 1) ≡ Some q → outs_of v.items ≡ part limit (query_outs (clauses_in p) p.depth q)
+with_paths p limit v h q asked = h q asked ∙ map-id (part limit (query_outs (clauses_in p) p.depth q))
 
 pub root_stands : (p : Problem) (query : NominalQuery) (s : Standing) → slice_get (queries_in p) (p.query - 1) ≡ Some query
     → IsTypedProgram (program_of_problem p) → IsTypedQuery term_form (program_of_problem p).signature query → path_of_standing s ≡ []
@@ -179,13 +179,13 @@ pub atom_chooses : (program : Clauses) (d c : ℕ) → (d ≡ 0 → ⊥) → cho
 atom_chooses program zero c h = absurd (h refl)
 atom_chooses program (suc d) c h = refl
 
-pub run_is : {E : Type 0} (p : Problem) (query : NominalQuery) (b : Branch) (r : Result (Vec Out Global) E) → slice_get (queries_in p) (p.query - 1) ≡ Some query → IsBranchOf p b
-    → IfOk r (λ v. outs_of v.items ≡ outs_among (marks_of_standing (clauses_in p) query.locals b.standing))
-    → IfOk r (λ v. (q : NominalQuery) → slice_get (queries_in p) (p.query - 1) ≡ Some q → outs_of v.items ≡ outs_at (clauses_in p) p.depth q (path_of_branch b))
-run_is p query b (Ok v) asked of h = λ q k.
-    subst (λ (x : NominalQuery). outs_of v.items ≡ outs_at (clauses_in p) p.depth x (path_of_branch b)) (asked_once (slice_get (queries_in p) (p.query - 1)) query q asked k)
-    (h ∙ run_at (clauses_in p) p.depth query b.standing (of query asked).marks)
-run_is p query b (Err e) asked of h = tt
+pub run_is : {E : Type 0} (p : Problem) (paths : Paths) (query : NominalQuery) (b : Branch) (r : Result (Vec Out Global) E) → slice_get (queries_in p) (p.query - 1) ≡ Some query → IsBranchOf p b
+    → IfOk r (λ v. outs_of v.items ≡ map (kept_out paths) (outs_among (marks_of_standing (clauses_in p) query.locals b.standing)))
+    → IfOk r (λ v. (q : NominalQuery) → slice_get (queries_in p) (p.query - 1) ≡ Some q → outs_of v.items ≡ map (kept_out paths) (outs_at (clauses_in p) p.depth q (path_of_branch b)))
+run_is p paths query b (Ok v) asked of h = λ q k.
+    subst (λ (x : NominalQuery). outs_of v.items ≡ map (kept_out paths) (outs_at (clauses_in p) p.depth x (path_of_branch b))) (asked_once (slice_get (queries_in p) (p.query - 1)) query q asked k)
+    (h ∙ ap (map (kept_out paths)) (run_at (clauses_in p) p.depth query b.standing (of query asked).marks))
+run_is p paths query b (Err e) asked of h = tt
 
 -- The same of a run that makes so many choices at most.
 pub if_some : {A E : Type 0} (P Q : A → Type 0) → ((x : A) → P x → Q x) → (r : Result (Option A) E) → IfOk r (λ o. IfSome o P) → IfOk r (λ o. IfSome o Q)
@@ -198,11 +198,11 @@ if_none P Q f (Ok o) h = λ e. f (h e)
 if_none P Q f (Err e) h = tt
 
 module _ (p : Problem) (query : NominalQuery) (b : Branch) (asked : slice_get (queries_in p) (p.query - 1) ≡ Some query) (of : IsBranchOf p b) where
-  pub outs_below : (os : List NominalOut) → os ≡ outs_among (marks_of_standing (clauses_in p) query.locals b.standing)
-      → (q : NominalQuery) → slice_get (queries_in p) (p.query - 1) ≡ Some q → os ≡ outs_at (clauses_in p) p.depth q (path_of_branch b)
-  outs_below os h q k =
-      subst (λ (x : NominalQuery). os ≡ outs_at (clauses_in p) p.depth x (path_of_branch b)) (asked_once (slice_get (queries_in p) (p.query - 1)) query q asked k)
-      (h ∙ run_at (clauses_in p) p.depth query b.standing (of query asked).marks)
+  pub outs_below : (paths : Paths) (os : List NominalOut) → os ≡ map (kept_out paths) (outs_among (marks_of_standing (clauses_in p) query.locals b.standing))
+      → (q : NominalQuery) → slice_get (queries_in p) (p.query - 1) ≡ Some q → os ≡ map (kept_out paths) (outs_at (clauses_in p) p.depth q (path_of_branch b))
+  outs_below paths os h q k =
+      subst (λ (x : NominalQuery). os ≡ map (kept_out paths) (outs_at (clauses_in p) p.depth x (path_of_branch b))) (asked_once (slice_get (queries_in p) (p.query - 1)) query q asked k)
+      (h ∙ ap (map (kept_out paths)) (run_at (clauses_in p) p.depth query b.standing (of query asked).marks))
 
   pub choices_below : (q : NominalQuery) → slice_get (queries_in p) (p.query - 1) ≡ Some q
       → choices_among (marks_of_standing (clauses_in p) query.locals b.standing) ≡ choices_at (clauses_in p) p.depth q (path_of_branch b)

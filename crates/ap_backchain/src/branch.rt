@@ -1,6 +1,6 @@
 //! Branches of the search of a problem, from choice to choice.
 
-ghost use Rattle.std.specs.Prelude.{◌≡◌, ◌-◌, ◌^◌, ◌<◌, ◌≤◌, ◌++◌, [], ◌∷◌, None, Some, IfOk, IfSome, length, slice_get};
+ghost use Rattle.std.specs.Prelude.{◌≡◌, ◌-◌, ◌^◌, ◌<◌, ◌≤◌, ◌++◌, [], ◌∷◌, None, Some, IfOk, IfSome, length, map, slice_get};
 ghost use Rattle.ap_defs.specs.Answers.{answer_of, found, outs_at, outs_of};
 ghost use Rattle.ap_defs.specs.Goals.{NominalQuery, program_in};
 ghost use Rattle.ap_search.specs.Marks.{outs_among};
@@ -8,12 +8,14 @@ ghost use Rattle.ap_backchain.specs.declared.problem.Problem.{Problem};
 ghost use Rattle.ap_defs.specs.Types.{locals_of};
 ghost use Rattle.ap_backchain.specs.Below.{AreClausesBelow};
 ghost use Rattle.ap_backchain.specs.Branches.{IsAnswering, IsBranchOf, IsChoiceOf, IsChoosing, IsNamed, IsNodeAt, choices_at, marks_of_standing, path_of_branch};
+ghost use Rattle.ap_backchain.specs.Ends.{kept_out};
 ghost use Rattle.ap_backchain.specs.Marks.{choices_among};
 ghost use Rattle.ap_backchain.specs.Problems.{HasQuery, clauses_in, queries_in};
 
 use crate::answer_copies::copy_answer;
 use crate::counted::outputs_by_choices;
 use crate::descent::Descent;
+use crate::ends::out_with;
 use crate::kept::kept_at;
 use crate::problem::{Problem, clauses_of_problem, query_of_problem};
 use crate::run::{Paths, outputs_from};
@@ -73,46 +75,48 @@ pub(crate) fn branch_at<'a>(
     Ok(Branch { node, standing })
 }
 
-/// The outputs of where a search stands.
+/// The outputs of where a search stands, with their paths or without.
 fn outs_of_standing<'a>(
     alloc: Global,
     clauses: &'a [Predicate<'a>],
     locals: &[Local],
+    paths: Paths,
     standing: Standing<'a>,
 ) -> Result<Vec<Out>, Memory>
     requires clauses { AreClausesBelow (program_in clauses.now) }
     requires locals { length locals.now < 2 ^ 64 }
     ensures { IfOk result (λ v. outs_of v.items
-        ≡ outs_among (marks_of_standing (program_in clauses.now) (locals_of locals.now)
-        standing.entry)) }
+        ≡ map (kept_out paths) (outs_among (marks_of_standing (program_in clauses.now)
+        (locals_of locals.now) standing.entry))) }
 {
     match standing {
         Standing::Choosing(_, machine) => {
-            outputs_from(alloc, clauses, locals, Paths::Kept, Limit::All, machine)
+            outputs_from(alloc, clauses, locals, paths, Limit::All, machine)
         }
         Standing::Ended(out) => {
             let mut outs = Vec::new(alloc);
-            outs.push(out)?;
+            outs.push(out_with(alloc, paths, out))?;
             Ok(outs)
         }
         Standing::Failed(_) => Ok(Vec::new(alloc)),
     }
 }
 
-/// The outputs of where a search stands, where it makes at most so many choices: none says that it makes
-/// more.
+/// The outputs of where a search stands, with their paths or without, where it makes at most so many
+/// choices: none says that it makes more.
 fn outs_by_choices<'a>(
     alloc: Global,
     clauses: &'a [Predicate<'a>],
     locals: &[Local],
+    paths: Paths,
     most: u64,
     standing: Standing<'a>,
 ) -> Result<Option<Vec<Out>>, Memory>
     requires clauses { AreClausesBelow (program_in clauses.now) }
     requires locals { length locals.now < 2 ^ 64 }
     ensures outs { IfOk result (λ o. IfSome o (λ v. outs_of v.items
-        ≡ outs_among (marks_of_standing (program_in clauses.now)
-        (locals_of locals.now) standing.entry))) }
+        ≡ map (kept_out paths) (outs_among (marks_of_standing (program_in clauses.now)
+        (locals_of locals.now) standing.entry)))) }
     ensures few { IfOk result (λ o. IfSome o (λ v.
         choices_among (marks_of_standing (program_in clauses.now)
         (locals_of locals.now) standing.entry) ≤ most)) }
@@ -121,10 +125,12 @@ fn outs_by_choices<'a>(
         (locals_of locals.now) standing.entry)) }
 {
     match standing {
-        Standing::Choosing(_, machine) => outputs_by_choices(alloc, clauses, locals, most, machine),
+        Standing::Choosing(_, machine) => {
+            outputs_by_choices(alloc, clauses, locals, paths, most, machine)
+        }
         Standing::Ended(out) => {
             let mut outs = Vec::new(alloc);
-            outs.push(out)?;
+            outs.push(out_with(alloc, paths, out))?;
             Ok(Some(outs))
         }
         Standing::Failed(_) => Ok(Some(Vec::new(alloc))),
@@ -198,18 +204,19 @@ impl<'a> Branch<'a> {
         }
     }
 
-    /// The outputs of the query whose paths begin with the branch's path, in order.
-    pub fn run(self, alloc: Global, p: &Problem<'a>) -> Result<Vec<Out>, Memory>
+    /// The outputs of the query whose paths begin with the branch's path, in order, each with its path or
+    /// all without.
+    pub fn run(self, alloc: Global, p: &Problem<'a>, paths: Paths) -> Result<Vec<Out>, Memory>
         requires query { HasQuery p.now }
         requires of { IsBranchOf p.now self }
         ensures { IfOk result (λ v. (q : NominalQuery) →
             slice_get (queries_in p.now) (p.now.query - 1) ≡ Some q →
-            outs_of v.items
-            ≡ outs_at (clauses_in p.now) p.now.depth q (path_of_branch self.entry)) }
+            outs_of v.items ≡ map (kept_out paths)
+            (outs_at (clauses_in p.now) p.now.depth q (path_of_branch self.entry))) }
     {
         let clauses = clauses_of_problem(p);
         let query = query_of_problem(p);
-        outs_of_standing(alloc, clauses, query.locals.items(), self.standing)
+        outs_of_standing(alloc, clauses, query.locals.items(), paths, self.standing)
     }
 
     /// The outputs of the query whose paths begin with the branch's path, in order, as `run`, where the
@@ -218,14 +225,15 @@ impl<'a> Branch<'a> {
         self,
         alloc: Global,
         p: &Problem<'a>,
+        paths: Paths,
         most: u64,
     ) -> Result<Option<Vec<Out>>, Memory>
         requires query { HasQuery p.now }
         requires of { IsBranchOf p.now self }
         ensures outs { IfOk result (λ o. IfSome o (λ v. (q : NominalQuery) →
             slice_get (queries_in p.now) (p.now.query - 1) ≡ Some q →
-            outs_of v.items
-            ≡ outs_at (clauses_in p.now) p.now.depth q (path_of_branch self.entry))) }
+            outs_of v.items ≡ map (kept_out paths)
+            (outs_at (clauses_in p.now) p.now.depth q (path_of_branch self.entry)))) }
         ensures few { IfOk result (λ o. IfSome o (λ v. (q : NominalQuery) →
             slice_get (queries_in p.now) (p.now.query - 1) ≡ Some q →
             choices_at (clauses_in p.now) p.now.depth q (path_of_branch self.entry) ≤ most)) }
@@ -235,6 +243,13 @@ impl<'a> Branch<'a> {
     {
         let clauses = clauses_of_problem(p);
         let query = query_of_problem(p);
-        outs_by_choices(alloc, clauses, query.locals.items(), most, self.standing)
+        outs_by_choices(
+            alloc,
+            clauses,
+            query.locals.items(),
+            paths,
+            most,
+            self.standing,
+        )
     }
 }

@@ -35,19 +35,20 @@ fn left_after<'a>(clauses: &'a [Predicate<'a>], machine: &Machine<'a>, left: u64
     }
 }
 
-/// The outputs from a machine, in order, where the search makes at most so many choices: none says that it
-/// makes more.
+/// The outputs from a machine, in order, with their paths or without, where the search makes at most so
+/// many choices: none says that it makes more.
 pub fn outputs_by_choices<'a>(
     alloc: Global,
     clauses: &'a [Predicate<'a>],
     locals: &[Local],
+    paths: Paths,
     most: u64,
     first: Machine<'a>,
 ) -> Result<Option<Vec<Out>>, Memory>
     requires clauses { AreClausesBelow (program_in clauses.now) }
     requires locals { length locals.now < 2 ^ 64 }
     ensures outs { IfOk result (λ o. IfSome o (λ v. outs_of v.items
-        ≡ map (kept_out Paths.Kept) (outs_from (program_in clauses.now)
+        ≡ map (kept_out paths) (outs_from (program_in clauses.now)
         (locals_of locals.now) (position_of first.entry)))) }
     ensures few { IfOk result (λ o. IfSome o (λ v.
         choices_from (program_in clauses.now) (locals_of locals.now)
@@ -70,7 +71,7 @@ pub fn outputs_by_choices<'a>(
             alloc,
             clauses,
             locals,
-            Paths::Kept,
+            paths,
             &mut machine,
             &mut points,
             &mut outs,

@@ -4,7 +4,7 @@ ghost use Rattle.std.specs.Prelude.{◌≡◌, ◌-◌, Some, IfOk, IfSome, map,
 ghost use Rattle.ap_defs.specs.Answers.{outs_of, query_outs};
 ghost use Rattle.ap_defs.specs.Goals.{NominalQuery, program_in, query_of};
 ghost use Rattle.ap_backchain.specs.Below.{AreClausesBelow, IsQueryBelow};
-ghost use Rattle.ap_backchain.specs.Ends.{without_path};
+ghost use Rattle.ap_backchain.specs.Ends.{kept_out};
 ghost use Rattle.ap_backchain.specs.Problems.{HasQuery, clauses_in, program_of_problem, queries_in};
 ghost use Rattle.ap_paths.specs.Limits.{part};
 ghost use Rattle.ap_program.specs.Typed.{IsTypedProgram, IsTypedQuery, term_form};
@@ -58,42 +58,43 @@ pub fn outputs(alloc: Global, p: &Problem<'_>, limit: Limit) -> Result<Vec<Out>,
         slice_get (queries_in p.now) (p.now.query - 1) ≡ Some q →
         outs_of v.items ≡ part limit (query_outs (clauses_in p.now) p.now.depth q)) }
 {
-    let clauses = clauses_of_problem(p);
-    let query = query_of_problem(p);
-    outputs_of_query(alloc, clauses, p.depth, query, Paths::Kept, limit)
+    outputs_with(alloc, p, Paths::Kept, limit)
 }
 
-/// The outputs of a query to a depth, as `outputs`, without their paths, which would take memory for
-/// each.
-pub fn outputs_without_paths(
+/// The outputs of a query to a depth, as `outputs`, with their paths, or without: a path takes memory in
+/// proportion to the depth of its output.
+pub fn outputs_with(
     alloc: Global,
     p: &Problem<'_>,
+    paths: Paths,
     limit: Limit,
 ) -> Result<Vec<Out>, Memory>
     requires { HasQuery p.now }
     ensures { IfOk result (λ v. (q : NominalQuery) →
         slice_get (queries_in p.now) (p.now.query - 1) ≡ Some q →
         outs_of v.items
-        ≡ map without_path (part limit (query_outs (clauses_in p.now) p.now.depth q))) }
+        ≡ map (kept_out paths) (part limit (query_outs (clauses_in p.now) p.now.depth q))) }
 {
     let clauses = clauses_of_problem(p);
     let query = query_of_problem(p);
-    outputs_of_query(alloc, clauses, p.depth, query, Paths::Left, limit)
+    outputs_of_query(alloc, clauses, p.depth, query, paths, limit)
 }
 
-/// The outputs of a query to a depth, as `outputs`, where the search takes few turns: none says that it
-/// takes more.
+/// The outputs of a query to a depth, as `outputs_with`, where the search takes few turns: none says that
+/// it takes more.
 pub fn short_outputs(
     alloc: Global,
     p: &Problem<'_>,
+    paths: Paths,
     limit: Limit,
 ) -> Result<Option<Vec<Out>>, Memory>
     requires { HasQuery p.now }
     ensures { IfOk result (λ o. IfSome o (λ v. (q : NominalQuery) →
         slice_get (queries_in p.now) (p.now.query - 1) ≡ Some q →
-        outs_of v.items ≡ part limit (query_outs (clauses_in p.now) p.now.depth q))) }
+        outs_of v.items
+        ≡ map (kept_out paths) (part limit (query_outs (clauses_in p.now) p.now.depth q)))) }
 {
     let clauses = clauses_of_problem(p);
     let query = query_of_problem(p);
-    outputs_of_short_query(alloc, clauses, p.depth, query, Paths::Kept, limit)
+    outputs_of_short_query(alloc, clauses, p.depth, query, paths, limit)
 }

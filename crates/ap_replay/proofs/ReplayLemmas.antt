@@ -1,5 +1,5 @@
 -- Choices of a problem's search, and the branches that stand at them.
-use Rattle.std.proofs.Common.{◌≡◌, ℕ, zero, suc, ◌-◌, ◌<◌, ◌≤◌, lt-ltb, le-ltb, List, [], ◌∷◌, length, refl, sym, ap, ◌∙◌, subst, Bool, true, false, arith}
+use Rattle.std.proofs.Common.{◌≡◌, ℕ, zero, suc, ◌-◌, ◌<◌, ◌≤◌, lt-ltb, le-ltb, List, [], ◌∷◌, length, map, refl, sym, ap, ◌∙◌, subst, Bool, true, false, arith}
 use Rattle.std.specs.Prelude.{Option, Some, None, option_map, Vec, nat_lt, if◌then◌else◌, slice_get}
 use Rattle.ap_defs.specs.Answers.{NominalOut, outs_at}
 use Rattle.ap_defs.specs.Goals.{NominalQuery}
@@ -9,13 +9,15 @@ use Rattle.ap_defs.specs.declared.paths.Node.TheVariants as nodes
 use Rattle.ap_paths.specs.Trees.{IsChoice}
 use Rattle.ap_search.specs.PathTrees.{query_choice, query_choices, query_kept}
 use Rattle.ap_backchain.specs.Branches.{IsBranchOf, IsDescentOf, IsNodeAt, choices_at, path_of_branch, path_of_descent}
+use Rattle.ap_backchain.specs.Ends.{kept_out}
 use Rattle.ap_backchain.specs.Problems.{HasQuery, clauses_in, queries_in}
 use Rattle.ap_backchain.specs.declared.branch.Branch.{Branch}
 use Rattle.ap_backchain.specs.declared.descent.Descent.{Descent}
 use Rattle.ap_backchain.specs.declared.problem.Problem.{Problem}
+use Rattle.ap_backchain.specs.declared.run.Paths.{Paths}
 use Rattle.ap_paths.specs.Entries as entries
 use Rattle.ap_paths.specs.Entries.{Plan}
-use Rattle.ap_replay.specs.ProblemTrees.{bound_at, choices_below, choices_below_of, choices_of, is_shared, items_in, kept_of, kids_of, outs_of_query, problem_choices, problem_kept, problem_outs, problem_plan, query_in, shared_out}
+use Rattle.ap_replay.specs.ProblemTrees.{bound_at, choices_below, choices_below_of, choices_of, is_shared, items_in, kept_of, kept_outs, kids_of, outs_of_query, problem_choices, problem_kept, problem_plan, query_in, shared_out}
 
 there_is : (qs : List NominalQuery) (k : ℕ) → k < length qs → (q : NominalQuery) × (slice_get qs k ≡ Some q)
 there_is [] k h = absurd (omega arith)
@@ -43,6 +45,12 @@ module _ (p : Problem) (d : Descent) (w : Option ℕ) (k : ℕ) (h : HasQuery p)
   pub given : IsChoice (problem_choices p (path_of_descent d)) k → IsChoice w k
   given chosen = subst (λ (o : Option ℕ). IsChoice o k) (sym choices_there) chosen
 
+-- the outputs of a branch are those at its path
+pub outs_there : (paths : Paths) (p : Problem) (os : List NominalOut) (path : List ℕ) → HasQuery p
+    → ((q : NominalQuery) → slice_get (queries_in p) (p.query - 1) ≡ Some q → os ≡ map (kept_out paths) (outs_at (clauses_in p) p.depth q path)) → os ≡ kept_outs paths p path
+outs_there paths p os path h is =
+    let asked = its_query p h in is asked.0 asked.1 ∙ sym (ap (λ o. map (kept_out paths) (outs_of_query (clauses_in p) p.depth o path)) asked.1)
+
 -- The plan at the path of a branch, where a visit answers its kids or the outputs.
 abbrev pub ExactNode : Branch → Node → Type 0
 ExactNode b n = (p : Problem) (q : NominalQuery) → slice_get (queries_in p) (p.query - 1) ≡ Some q → IsBranchOf p b → IsNodeAt (clauses_in p) p.depth q (path_of_branch b) n
@@ -54,7 +62,7 @@ no_choice : (b : Bool) (os : List NominalOut) → entries.outs os ≡ plan_by b 
 no_choice true os = refl
 no_choice false os = refl
 
-module _ (p : Problem) (q : NominalQuery) (asked : query_in p ≡ Some q) (path : List ℕ) where
+module _ (paths : Paths) (p : Problem) (q : NominalQuery) (asked : query_in p ≡ Some q) (path : List ℕ) where
   same_kept : problem_kept p path ≡ query_kept (clauses_in p) p.depth q path
   same_kept = ap (λ o. kept_of (clauses_in p) p.depth o path) asked
 
@@ -63,23 +71,23 @@ module _ (p : Problem) (q : NominalQuery) (asked : query_in p ≡ Some q) (path 
   none_kept None e = refl
   none_kept (Some c) e = cc
 
-  not_choosing : (b : Bool) → query_choices (clauses_in p) p.depth q path ≡ None → entries.outs (problem_outs p path) ≡ plan_by b (problem_kept p path) (problem_outs p path)
+  not_choosing : (b : Bool) → query_choices (clauses_in p) p.depth q path ≡ None → entries.outs (kept_outs paths p path) ≡ plan_by b (problem_kept p path) (kept_outs paths p path)
   not_choosing b e =
-      no_choice b (problem_outs p path) ∙ ap (λ o. plan_by b o (problem_outs p path)) (sym (same_kept ∙ none_kept (query_choice (clauses_in p) p.depth q path) e))
+      no_choice b (kept_outs paths p path) ∙ ap (λ o. plan_by b o (kept_outs paths p path)) (sym (same_kept ∙ none_kept (query_choice (clauses_in p) p.depth q path) e))
 
-  few_planned : (many : Bool) → many ≡ false → entries.outs (problem_outs p path) ≡ plan_by many (problem_kept p path) (problem_outs p path)
+  few_planned : (many : Bool) → many ≡ false → entries.outs (kept_outs paths p path) ≡ plan_by many (problem_kept p path) (kept_outs paths p path)
   few_planned true few = absurd cc
   few_planned false few = refl
 
   many_planned : (many : Bool) (ks : List ℕ) → query_kept (clauses_in p) p.depth q path ≡ Some ks → many ≡ true
-      → entries.kids ks ≡ plan_by many (problem_kept p path) (problem_outs p path)
-  many_planned true ks e h = ap (λ o. shared_out o (problem_outs p path)) (sym (same_kept ∙ e))
+      → entries.kids ks ≡ plan_by many (problem_kept p path) (kept_outs paths p path)
+  many_planned true ks e h = ap (λ o. shared_out o (kept_outs paths p path)) (sym (same_kept ∙ e))
   many_planned false ks e h = absurd cc
 
-  few_outs : choices_below p path ≤ bound_at path → entries.outs (problem_outs p path) ≡ problem_plan p path
+  few_outs : choices_below p path ≤ bound_at path → entries.outs (kept_outs paths p path) ≡ problem_plan paths p path
   few_outs few = few_planned (nat_lt (bound_at path) (choices_below p path)) (le-ltb (bound_at path) (choices_below p path) few)
 
-  many_kids : (n : Node) (ks : List ℕ) → IsNodeAt (clauses_in p) p.depth q path n → kids_of n ≡ Some ks → bound_at path < choices_below p path → entries.kids ks ≡ problem_plan p path
+  many_kids : (n : Node) (ks : List ℕ) → IsNodeAt (clauses_in p) p.depth q path n → kids_of n ≡ Some ks → bound_at path < choices_below p path → entries.kids ks ≡ problem_plan paths p path
   many_kids (nodes.Choice w kept) ks at h many =
       let same : ks ≡ kept = cc in
       let yes : nat_lt (bound_at path) (choices_below p path) ≡ true = lt-ltb (bound_at path) (choices_below p path) many in
@@ -89,7 +97,7 @@ module _ (p : Problem) (q : NominalQuery) (asked : query_in p ≡ Some q) (path 
   many_kids nodes.Stuck ks at h many = absurd cc
   many_kids nodes.Failed ks at h many = absurd cc
 
-  no_kids_at : (n : Node) → IsNodeAt (clauses_in p) p.depth q path n → kids_of n ≡ None → entries.outs (problem_outs p path) ≡ problem_plan p path
+  no_kids_at : (n : Node) → IsNodeAt (clauses_in p) p.depth q path n → kids_of n ≡ None → entries.outs (kept_outs paths p path) ≡ problem_plan paths p path
   no_kids_at (nodes.Choice w kept) at h = absurd cc
   no_kids_at nodes.Answer at h = not_choosing (is_shared p path) at.0
   no_kids_at nodes.Cut at h = not_choosing (is_shared p path) at.0
@@ -100,31 +108,34 @@ module _ (p : Problem) (q : NominalQuery) (asked : query_in p ≡ Some q) (path 
   below_is = ap (λ o. choices_below_of (clauses_in p) p.depth o path) asked
 
 -- the same by what a visit knows of the branch
-module _ (p : Problem) (b : Branch) (n : Node) (path : List ℕ) (h : HasQuery p) (of : IsBranchOf p b) (same : path_of_branch b ≡ path) (node : ExactNode b n) where
+module _ (paths : Paths) (p : Problem) (b : Branch) (n : Node) (path : List ℕ) (h : HasQuery p) (of : IsBranchOf p b) (same : path_of_branch b ≡ path) (node : ExactNode b n) where
   asked : (q : NominalQuery) × (query_in p ≡ Some q)
   asked = its_query p h
 
   node_there : IsNodeAt (clauses_in p) p.depth asked.0 path n
   node_there = subst (λ (x : List ℕ). IsNodeAt (clauses_in p) p.depth asked.0 x n) same (node p asked.0 asked.1 of)
 
-  pub planned_end : {Z : Type 0} (o : Option (Vec ℕ Z)) → o ≡ None → items_in o ≡ kids_of n → entries.outs (problem_outs p path) ≡ problem_plan p path
-  planned_end o e k = no_kids_at p asked.0 asked.1 path n node_there (sym k ∙ ap items_in e)
+  abbrev pub AreBelow : List NominalOut → Type 0
+  AreBelow os = (q : NominalQuery) → slice_get (queries_in p) (p.query - 1) ≡ Some q → os ≡ map (kept_out paths) (outs_at (clauses_in p) p.depth q (path_of_branch b))
 
-  pub planned_few : ((q : NominalQuery) → slice_get (queries_in p) (p.query - 1) ≡ Some q → choices_at (clauses_in p) p.depth q (path_of_branch b) ≤ bound_at path)
-      → entries.outs (problem_outs p path) ≡ problem_plan p path
-  planned_few few =
-      few_outs p asked.0 asked.1 path
-      (subst (λ (c : ℕ). c ≤ bound_at path) (ap (choices_at (clauses_in p) p.depth asked.0) same ∙ sym (below_is p asked.0 asked.1 path)) (few asked.0 asked.1))
+  outs_planned : (os : List NominalOut) → AreBelow os → entries.outs (kept_outs paths p path) ≡ problem_plan paths p path → entries.outs os ≡ problem_plan paths p path
+  outs_planned os are planned =
+      ap entries.outs (outs_there paths p os path h (λ q k. are q k ∙ ap (λ x. map (kept_out paths) (outs_at (clauses_in p) p.depth q x)) same)) ∙ planned
+
+  pub planned_end : {Z : Type 0} (o : Option (Vec ℕ Z)) (os : List NominalOut) → o ≡ None → items_in o ≡ kids_of n → AreBelow os → entries.outs os ≡ problem_plan paths p path
+  planned_end o os e k are = outs_planned os are (no_kids_at paths p asked.0 asked.1 path n node_there (sym k ∙ ap items_in e))
+
+  pub planned_few : (os : List NominalOut) → AreBelow os
+      → ((q : NominalQuery) → slice_get (queries_in p) (p.query - 1) ≡ Some q → choices_at (clauses_in p) p.depth q (path_of_branch b) ≤ bound_at path)
+      → entries.outs os ≡ problem_plan paths p path
+  planned_few os are few =
+      outs_planned os are
+      (few_outs paths p asked.0 asked.1 path
+      (subst (λ (c : ℕ). c ≤ bound_at path) (ap (choices_at (clauses_in p) p.depth asked.0) same ∙ sym (below_is paths p asked.0 asked.1 path)) (few asked.0 asked.1)))
 
   pub planned_many : {Z : Type 0} (o : Option (Vec ℕ Z)) (v : Vec ℕ Z) → o ≡ Some v → items_in o ≡ kids_of n
       → ((q : NominalQuery) → slice_get (queries_in p) (p.query - 1) ≡ Some q → bound_at path < choices_at (clauses_in p) p.depth q (path_of_branch b))
-      → entries.kids v.items ≡ problem_plan p path
+      → entries.kids v.items ≡ problem_plan paths p path
   planned_many o v e k many =
-      many_kids p asked.0 asked.1 path n v.items node_there (sym k ∙ ap items_in e)
-      (subst (λ (c : ℕ). bound_at path < c) (ap (choices_at (clauses_in p) p.depth asked.0) same ∙ sym (below_is p asked.0 asked.1 path)) (many asked.0 asked.1))
-
--- the outputs of a branch are those at its path
-pub outs_there : (p : Problem) (os : List NominalOut) (path : List ℕ) → HasQuery p
-    → ((q : NominalQuery) → slice_get (queries_in p) (p.query - 1) ≡ Some q → os ≡ outs_at (clauses_in p) p.depth q path) → os ≡ problem_outs p path
-outs_there p os path h is =
-    let asked = its_query p h in is asked.0 asked.1 ∙ sym (ap (λ o. outs_of_query (clauses_in p) p.depth o path) asked.1)
+      many_kids paths p asked.0 asked.1 path n v.items node_there (sym k ∙ ap items_in e)
+      (subst (λ (c : ℕ). bound_at path < c) (ap (choices_at (clauses_in p) p.depth asked.0) same ∙ sym (below_is paths p asked.0 asked.1 path)) (many asked.0 asked.1))

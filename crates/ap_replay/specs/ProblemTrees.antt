@@ -1,5 +1,5 @@
 -- The tree of paths of a problem.
-use Rattle.std.specs.Prelude.{◌+◌, ◌-◌, ◌*◌, ◌^◌, ℕ, zero, suc, Bool, min, nat_lt, if◌then◌else◌, List, [], length, Option, Some, None, Vec, slice_get}
+use Rattle.std.specs.Prelude.{◌+◌, ◌-◌, ◌*◌, ◌^◌, ℕ, zero, suc, Bool, min, nat_lt, if◌then◌else◌, List, [], length, map, Option, Some, None, Vec, slice_get}
 use Rattle.std.specs.Int.{trailing_zeros, w64}
 use Rattle.ap_defs.specs.Answers.{NominalOut, outs_at}
 use Rattle.ap_defs.specs.Goals.{Clauses, NominalQuery}
@@ -9,8 +9,10 @@ use Rattle.ap_paths.specs.Entries as entries
 use Rattle.ap_paths.specs.Entries.{Plan}
 use Rattle.ap_search.specs.PathTrees.{query_choices, query_kept}
 use Rattle.ap_backchain.specs.Branches.{choices_at}
+use Rattle.ap_backchain.specs.Ends.{kept_out}
 use Rattle.ap_backchain.specs.Problems.{clauses_in, queries_in}
 use Rattle.ap_backchain.specs.declared.problem.Problem.{Problem}
+use Rattle.ap_backchain.specs.declared.run.Paths.{Paths}
 
 abbrev pub query_in : Problem → Option NominalQuery
 query_in p = slice_get (queries_in p) (p.query - 1)
@@ -39,6 +41,10 @@ problem_kept p = kept_of (clauses_in p) p.depth (query_in p)
 abbrev pub problem_outs : Problem → List ℕ → List NominalOut
 problem_outs p = outs_of_query (clauses_in p) p.depth (query_in p)
 
+-- with their paths or without
+abbrev pub kept_outs : Paths → Problem → List ℕ → List NominalOut
+kept_outs paths p path = map (kept_out paths) (problem_outs p path)
+
 abbrev pub choices_below_of : Clauses → ℕ → Option NominalQuery → List ℕ → ℕ
 choices_below_of program d None path = 0
 choices_below_of program d (Some q) path = choices_at program d q path
@@ -66,9 +72,9 @@ abbrev pub is_shared : Problem → List ℕ → Bool
 is_shared p path = nat_lt (bound_at path) (choices_below p path)
 
 -- all else is searched whole
-abbrev pub problem_plan : Problem → List ℕ → Plan
-problem_plan p path =
-    if is_shared p path then shared_out (problem_kept p path) (problem_outs p path) else entries.outs (problem_outs p path)
+abbrev pub problem_plan : Paths → Problem → List ℕ → Plan
+problem_plan paths p path =
+    if is_shared p path then shared_out (problem_kept p path) (kept_outs paths p path) else entries.outs (kept_outs paths p path)
 
 -- the kids of a branch, where it is at a choice
 abbrev pub kids_of : Node → Option (List ℕ)

@@ -9,6 +9,7 @@ ghost use Rattle.ap_replay.specs.ProblemTrees.{bound_at, items_in, kids_of, prob
 use crate::replay::branch_at;
 use ap_backchain::branch::Branch;
 use ap_backchain::problem::Problem;
+use ap_backchain::run::Paths;
 use ap_defs::lists::List;
 use ap_defs::memory::Memory;
 use ap_defs::paths::{Node, Out, Path, Visit};
@@ -16,10 +17,12 @@ use ap_paths::Tree;
 use std::alloc::Global;
 
 /// The tree of paths of a problem. A path is searched whole, by one worker, if few choices are made for
-/// that. Else its kids are shared out among workers, so that none is held by what another could do.
+/// that. Else its kids are shared out among workers, so that none is held by what another could do. Its
+/// outputs have their paths, or none has.
 #[derive(Clone, Copy)]
 pub struct ProblemTree<'a> {
     problem: Problem<'a>,
+    paths: Paths,
     ghost query: { HasQuery problem },
 }
 
@@ -49,19 +52,20 @@ fn bound_of(path: &Path) -> u64
 fn visit_branch<'a>(
     alloc: Global,
     problem: &Problem<'a>,
+    paths: Paths,
     branch: Branch<'a>,
     path: &Path,
 ) -> Result<Visit, Memory>
     requires query { HasQuery problem.now }
     requires of { IsBranchOf problem.now branch }
     requires path { path_of_branch branch ≡ path.now }
-    ensures { IfOk result (λ v. visit_of v ≡ problem_plan problem.now path.now) }
+    ensures { IfOk result (λ v. visit_of v ≡ problem_plan paths problem.now path.now) }
 {
     let Some(kids) = kids_at(alloc, branch.node())? else {
-        let outs = branch.run(alloc, problem)?;
+        let outs = branch.run(alloc, problem, paths)?;
         return Ok(Visit::Outs(List::of(outs)));
     };
-    match branch.run_within(alloc, problem, bound_of(path))? {
+    match branch.run_within(alloc, problem, paths, bound_of(path))? {
         Some(outs) => Ok(Visit::Outs(List::of(outs))),
         None => Ok(Visit::Kids(List::of(kids))),
     }
@@ -70,24 +74,25 @@ fn visit_branch<'a>(
 impl<'a> ProblemTree<'a> {
     ghost use Rattle.std.specs.Prelude.{◌≡◌};
 
-    /// The tree of the problem. It takes no memory.
-    pub fn of(problem: Problem<'a>) -> ProblemTree<'a>
+    /// The tree of the problem, whose outputs have their paths or not. It takes no memory.
+    pub fn of(problem: Problem<'a>, paths: Paths) -> ProblemTree<'a>
         requires { HasQuery problem }
-        ensures { result.problem ≡ problem.entry }
+        ensures problem { result.problem ≡ problem.entry }
+        ensures paths { result.paths ≡ paths }
     {
-        ProblemTree { problem }
+        ProblemTree { problem, paths }
     }
 }
 
 impl<'a> Tree for ProblemTree<'a> {
-    ghost use Rattle.ap_replay.specs.ProblemTrees.{problem_choices, problem_outs, problem_plan};
+    ghost use Rattle.ap_replay.specs.ProblemTrees.{kept_outs, problem_choices, problem_plan};
     ghost use Rattle.ap_replay.specs.Plans.{problem_branches, problem_planned};
 
     ghost choices = { λ t. problem_choices t.problem };
 
-    ghost at = { λ t. problem_outs t.problem };
+    ghost at = { λ t. kept_outs t.paths t.problem };
 
-    ghost plan = { λ t. problem_plan t.problem };
+    ghost plan = { λ t. problem_plan t.paths t.problem };
 
     fn width(&self, alloc: Global, path: &Path) -> Result<Option<u32>, Memory> {
         let branch = branch_at(alloc, &self.problem, path)?;
@@ -98,15 +103,15 @@ impl<'a> Tree for ProblemTree<'a> {
     }
 
     fn outs(&self, alloc: Global, path: &Path) -> Result<Vec<Out>, Memory> {
-        branch_at(alloc, &self.problem, path)?.run(alloc, &self.problem)
+        branch_at(alloc, &self.problem, path)?.run(alloc, &self.problem, self.paths)
     }
 
     fn visit(&self, alloc: Global, path: &Path) -> Result<Visit, Memory> {
         let branch = branch_at(alloc, &self.problem, path)?;
-        visit_branch(alloc, &self.problem, branch, path)
+        visit_branch(alloc, &self.problem, self.paths, branch, path)
     }
 
-    ghost branches = { λ t. problem_branches t.problem };
+    ghost branches = { λ t. problem_branches t.paths t.problem };
 
-    ghost planned = { λ t. problem_planned t.problem };
+    ghost planned = { λ t. problem_planned t.paths t.problem };
 }

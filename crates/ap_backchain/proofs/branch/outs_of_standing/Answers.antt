@@ -1,12 +1,11 @@
-use Rattle.std.proofs.Common.{◌≡◌, List, sym, ◌∙◌, subst}
+use Rattle.std.proofs.Common.{◌≡◌, List, map, sym, subst}
 use Rattle.std.specs.Prelude.{IfOk}
-use Rattle.std.proofs.lemmas.List.{map-id}
 use Rattle.ap_defs.specs.Answers.{NominalOut, outs_of}
 use Rattle.ap_defs.specs.Goals.{program_in}
 use Rattle.ap_defs.specs.Types.{locals_of}
 use Rattle.ap_search.proofs.MarkLemmas.{marks_stack}
+use Rattle.ap_backchain.specs.Ends.{kept_out}
 use Rattle.ap_backchain.specs.Machines.{position_of}
-use Rattle.ap_backchain.specs.Positions.{outs_from}
 use Rattle.ap_backchain.specs.Unbound.{answer_by_unbound}
 use Rattle.ap_backchain.proofs.branch.outs_of_standing.Goals as goal
 
@@ -14,6 +13,5 @@ pub returns-in-Choosing : goal.returns-in-Choosing
 returns-in-Choosing c =
     let p = position_of c.in-Choosing.machine in
     rw c.in-Choosing.is
-    (subst (λ (os : List NominalOut). IfOk c.outputs_from.result (λ v. outs_of v.items ≡ os))
-    (map-id (outs_from (program_in c.args.clauses.now) (locals_of c.args.locals.now) p)
-    ∙ sym (marks_stack (program_in c.args.clauses.now) (answer_by_unbound (locals_of c.args.locals.now)) p.waiting p.path p.state p.brought)) c.outputs_from.ensures)
+    (subst (λ (os : List NominalOut). IfOk c.outputs_from.result (λ v. outs_of v.items ≡ map (kept_out c.args.paths) os))
+    (sym (marks_stack (program_in c.args.clauses.now) (answer_by_unbound (locals_of c.args.locals.now)) p.waiting p.path p.state p.brought)) c.outputs_from.ensures)

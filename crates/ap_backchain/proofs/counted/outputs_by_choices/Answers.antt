@@ -10,7 +10,6 @@ use Rattle.ap_backchain.specs.ChoicePoints.{positions_pending}
 use Rattle.ap_backchain.specs.Positions.{outs_from, turned}
 use Rattle.ap_backchain.specs.Searches.{ended, followed, pending_of, positions_with}
 use Rattle.ap_backchain.specs.Wanted.{wanted_after}
-use Rattle.ap_backchain.specs.declared.run.Paths.TheVariants as paths
 use Rattle.ap_backchain.proofs.CountLemmas.{too_many, turn_chooses}
 use Rattle.ap_backchain.proofs.SearchLemmas.{turn_keeps, turn_lessens}
 use Rattle.ap_backchain.proofs.WantedLemmas.{nothing_left}
@@ -31,7 +30,7 @@ pub returns-then-not-branch-clause-outs : goal.returns-then-not-branch-clause-ou
 returns-then-not-branch-clause-outs c =
     let program = program_in c.args.clauses.now in
     let locals = locals_of c.args.locals.now in
-    let kept = kept_out paths.Kept in
+    let kept = kept_out c.args.paths in
     let p = position_of c.searching.machine in
     let ps = pending_of c.searching.machine c.searching.points in
     let all = map kept (outs_from program locals (position_of c.args.first)) in
@@ -60,7 +59,7 @@ returns-then-not-branch-clause-few c =
 
 pub searching-smaller : goal.searching-smaller
 searching-smaller c =
-    turn_lessens (program_in c.args.clauses.now) (locals_of c.args.locals.now) (kept_out paths.Kept) (position_of c.searching.machine) (pending_of c.searching.machine c.searching.points)
+    turn_lessens (program_in c.args.clauses.now) (locals_of c.args.locals.now) (kept_out c.args.paths) (position_of c.searching.machine) (pending_of c.searching.machine c.searching.points)
     (positions_with true c.go_on.new.machine c.go_on.new.points)
     (ap (λ b. positions_with b c.go_on.new.machine c.go_on.new.points) (sym c.if-not-branch.false) ∙ c.in_ok-go_on.ensures.left)
 
@@ -68,7 +67,7 @@ pub searching-preserved : goal.searching-preserved
 searching-preserved c =
     let program = program_in c.args.clauses.now in
     let locals = locals_of c.args.locals.now in
-    let kept = kept_out paths.Kept in
+    let kept = kept_out c.args.paths in
     let p = position_of c.searching.machine in
     let ps = pending_of c.searching.machine c.searching.points in
     let qs = positions_with true c.go_on.new.machine c.go_on.new.points in

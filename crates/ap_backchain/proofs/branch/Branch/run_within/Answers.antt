@@ -1,10 +1,11 @@
-use Rattle.std.proofs.Common.{◌≡◌, ◌<◌, ◌≤◌, ℕ, List, ap, subst}
+use Rattle.std.proofs.Common.{◌≡◌, ◌<◌, ◌≤◌, ℕ, List, map, ap, subst}
 use Rattle.std.specs.Prelude.{IfOk, IfSome, None}
 use Rattle.ap_defs.specs.Answers.{outs_of}
 use Rattle.ap_defs.specs.Goals.{Clauses, program_in, query_of}
 use Rattle.ap_defs.specs.Types.{NominalLocal, locals_of}
 use Rattle.ap_search.specs.Marks.{outs_among}
 use Rattle.ap_backchain.specs.Branches.{marks_of_standing}
+use Rattle.ap_backchain.specs.Ends.{kept_out}
 use Rattle.ap_backchain.specs.Marks.{choices_among}
 use Rattle.ap_backchain.proofs.BranchLemmas.{choices_below, if_none, if_some, outs_below}
 use Rattle.ap_backchain.proofs.branch.Branch.run_within.Goals as goal
@@ -15,9 +16,9 @@ returns-clause-outs c =
     let s = c.args.self.standing in
     let r = c.outs_by_choices.result in
     let given = program_in c.clauses_of_problem-clauses.result.now in
-    if_some _ _ (λ v h. outs_below c.args.p.now query c.args.self c.query_of_problem-query.ensures.query c.requires.of (outs_of v.items) h) r
-    (subst (λ (x : Clauses). IfOk r (λ o. IfSome o (λ v. outs_of v.items ≡ outs_among (marks_of_standing x query.locals s)))) c.clauses_of_problem-clauses.ensures.clauses
-    (subst (λ (ls : List NominalLocal). IfOk r (λ o. IfSome o (λ v. outs_of v.items ≡ outs_among (marks_of_standing given ls s)))) (ap locals_of c.items.ensures) c.outs_by_choices.ensures.outs))
+    if_some _ _ (λ v h. outs_below c.args.p.now query c.args.self c.query_of_problem-query.ensures.query c.requires.of c.args.paths (outs_of v.items) h) r
+    (subst (λ (x : Clauses). IfOk r (λ o. IfSome o (λ v. outs_of v.items ≡ map (kept_out c.args.paths) (outs_among (marks_of_standing x query.locals s))))) c.clauses_of_problem-clauses.ensures.clauses
+    (subst (λ (ls : List NominalLocal). IfOk r (λ o. IfSome o (λ v. outs_of v.items ≡ map (kept_out c.args.paths) (outs_among (marks_of_standing given ls s))))) (ap locals_of c.items.ensures) c.outs_by_choices.ensures.outs))
 
 pub returns-clause-few : goal.returns-clause-few
 returns-clause-few c =
