@@ -64,19 +64,13 @@ lines_alone program k locals os =
     ∙ ap (λ n. lines_by program k locals (lines_of os) (count_of is_found os) n (count_of is_stuck (map without_path os))) (count_without is_cut cut_without os)
     ∙ ap (λ n. lines_by program k locals (lines_of os) (count_of is_found os) (count_of is_cut os) n) (count_without is_stuck stuck_without os)
 
-lines_see_no_paths : (program : NominalProgram) (k : ℕ) (locals : List NominalLocal) (os qs : List NominalOut) → map without_path os ≡ map without_path qs
+lines_see_no_paths : (program : NominalProgram) (k : ℕ) (locals : List NominalLocal) (os qs : List NominalOut) → os ≡ map without_path qs
     → query_lines program k locals os ≡ query_lines program k locals qs
-lines_see_no_paths program k locals os qs e = sym (lines_alone program k locals os) ∙ ap (query_lines program k locals) e ∙ lines_alone program k locals qs
-
-pub without_twice : (os : List NominalOut) → map without_path (map without_path os) ≡ map without_path os
-without_twice [] = refl
-without_twice (found p a ∷ os) = ap (λ l. found [] a ∷ l) (without_twice os)
-without_twice (cut p ∷ os) = ap (λ l. cut [] ∷ l) (without_twice os)
-without_twice (stuck p ∷ os) = ap (λ l. stuck [] ∷ l) (without_twice os)
+lines_see_no_paths program k locals os qs e = ap (query_lines program k locals) e ∙ lines_alone program k locals qs
 
 -- the lines of the query at a place, where these are its outputs as far as they are wanted
 lines_at : (program : NominalProgram) (depth : ℕ) (limit : Limit) (k : ℕ) (qs : List NominalQuery) (place : ℕ) (os : List NominalOut) → place < length qs
-    → ((q : NominalQuery) → slice_get qs place ≡ Some q → map without_path os ≡ map without_path (part limit (query_outs program.clauses depth q)))
+    → ((q : NominalQuery) → slice_get qs place ≡ Some q → os ≡ map without_path (part limit (query_outs program.clauses depth q)))
     → query_lines program (k + place) (locals_at qs place) os ≡ report_at program depth limit k qs place
 lines_at program depth limit k [] place os l are = absurd (omega arith)
 lines_at program depth limit k (q ∷ qs) zero os l are =
@@ -87,7 +81,7 @@ lines_at program depth limit k (q ∷ qs) (suc place) os l are =
     ∙ lines_at program depth limit (suc k) qs place os (omega arith) are
 
 pub lines_of_query : (program : NominalProgram) (depth : ℕ) (limit : Limit) (query : ℕ) (os : List NominalOut) → 1 ≤ query → query ≤ length program.queries
-    → ((q : NominalQuery) → slice_get program.queries (query - 1) ≡ Some q → map without_path os ≡ map without_path (part limit (query_outs program.clauses depth q)))
+    → ((q : NominalQuery) → slice_get program.queries (query - 1) ≡ Some q → os ≡ map without_path (part limit (query_outs program.clauses depth q)))
     → query_lines program query (query_locals program query) os ≡ query_report program depth limit (query - 1)
 lines_of_query program depth limit zero os l m are = absurd (omega arith)
 lines_of_query program depth limit (suc place) os l m are =

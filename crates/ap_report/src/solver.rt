@@ -3,11 +3,12 @@
 ghost use Rattle.std.specs.Prelude.{◌≡◌, ◌-◌, Some, IfOk, map, slice_get};
 ghost use Rattle.ap_defs.specs.Answers.{outs_of, query_outs};
 ghost use Rattle.ap_defs.specs.Goals.{NominalQuery};
-ghost use Rattle.ap_backchain.specs.Ends.{without_path};
+ghost use Rattle.ap_backchain.specs.Ends.{kept_out, without_path};
 ghost use Rattle.ap_backchain.specs.Problems.{HasQuery, clauses_in, queries_in};
 ghost use Rattle.ap_paths.specs.Limits as limits;
 
-use ap_backchain::problem::{Problem, outputs, outputs_without_paths, short_outputs};
+use ap_backchain::problem::{Problem, outputs_with, short_outputs};
+use ap_backchain::run::Paths;
 use ap_book::merge;
 use ap_defs::limits::Workers;
 use ap_defs::memory::Memory;
@@ -20,25 +21,56 @@ use std::alloc::Global;
 use std::sync::Wait;
 use std::thread::Threads;
 
-/// The outputs of a query up to the last answer that is wanted, which so many workers find between them.
+/// The outputs of a query up to the last answer that is wanted, with their paths or without, which so
+/// many workers find between them.
 fn search_beside<R: Threads + Wait + Sync, G: Gate>(
     rt: &R,
     alloc: Global,
     gate: &G,
     workers: Workers,
     limit: Limit,
+    paths: Paths,
     problem: &Problem<'_>,
 ) -> Result<Vec<Out>, Memory>
     requires query { HasQuery problem.now }
     ensures { IfOk result (λ v. (q : NominalQuery) →
         slice_get (queries_in problem.now) (problem.now.query - 1) ≡ Some q →
-        outs_of v.items
-        ≡ limits.part limit (query_outs (clauses_in problem.now) problem.now.depth q)) }
+        outs_of v.items ≡ map (kept_out paths)
+        (limits.part limit (query_outs (clauses_in problem.now) problem.now.depth q))) }
 {
-    let tree = ProblemTree::of(*problem);
+    let tree = ProblemTree::of(*problem, paths);
     let closed = search_within(rt, alloc, &tree, workers.get(), limit, gate)?;
     let outs = merge(alloc, closed)?;
     Ok(part(outs, limit))
+}
+
+/// The outputs of a query up to the last answer that is wanted, with their paths or without. One worker
+/// alone searches without the gate; so it is where there are several, as long as few turns are enough and
+/// the gate holds none.
+fn outputs_by<R: Threads + Wait + Sync, G: Gate>(
+    rt: &R,
+    alloc: Global,
+    gate: &G,
+    workers: Workers,
+    limit: Limit,
+    paths: Paths,
+    problem: &Problem<'_>,
+) -> Result<Vec<Out>, Memory>
+    requires query { HasQuery problem.now }
+    ensures { IfOk result (λ v. (q : NominalQuery) →
+        slice_get (queries_in problem.now) (problem.now.query - 1) ≡ Some q →
+        outs_of v.items ≡ map (kept_out paths)
+        (limits.part limit (query_outs (clauses_in problem.now) problem.now.depth q))) }
+{
+    if workers.get() == 1 {
+        return outputs_with(alloc, problem, paths, limit);
+    }
+    if !gate.may_hold() {
+        if let Some(outs) = short_outputs(alloc, problem, paths, limit)? {
+            return Ok(outs);
+        }
+    }
+    search_beside(rt, alloc, gate, workers, limit, paths, problem)
 }
 
 /// The outputs of a query to a depth up to the last answer that is wanted, in order, each with its path
@@ -60,19 +92,11 @@ pub fn solve<R: Threads + Wait + Sync, G: Gate>(
         outs_of v.items
         ≡ limits.part limit (query_outs (clauses_in problem.now) problem.now.depth q)) }
 {
-    if workers.get() == 1 {
-        return outputs(alloc, problem, limit);
-    }
-    if !gate.may_hold() {
-        if let Some(outs) = short_outputs(alloc, problem, limit)? {
-            return Ok(outs);
-        }
-    }
-    search_beside(rt, alloc, gate, workers, limit, problem)
+    outputs_by(rt, alloc, gate, workers, limit, Paths::Kept, problem)
 }
 
-/// The same as [`solve`], where no path is asked for: one worker keeps none, since each is as long as its
-/// output is deep.
+/// The same as [`solve`], where no path is asked for: none is kept, since each is as long as its output
+/// is deep.
 pub(crate) fn solve_without_paths<R: Threads + Wait + Sync, G: Gate>(
     rt: &R,
     alloc: Global,
@@ -84,11 +108,8 @@ pub(crate) fn solve_without_paths<R: Threads + Wait + Sync, G: Gate>(
     requires query { HasQuery problem.now }
     ensures { IfOk result (λ v. (q : NominalQuery) →
         slice_get (queries_in problem.now) (problem.now.query - 1) ≡ Some q →
-        map without_path (outs_of v.items) ≡ map without_path
+        outs_of v.items ≡ map without_path
         (limits.part limit (query_outs (clauses_in problem.now) problem.now.depth q))) }
 {
-    if workers.get() == 1 {
-        return outputs_without_paths(alloc, problem, limit);
-    }
-    solve(rt, alloc, gate, workers, limit, problem)
+    outputs_by(rt, alloc, gate, workers, limit, Paths::Left, problem)
 }

@@ -4,6 +4,7 @@ ghost use Rattle.std.specs.Prelude.{IfSome};
 ghost use Rattle.ap_backchain.specs.Problems.{HasQuery};
 
 use ap_backchain::problem::Problem;
+use ap_backchain::run::Paths;
 use ap_core::{Core, Event, play};
 use ap_defs::limits::SIZE_LIMIT;
 use ap_defs::lists::List;
@@ -45,7 +46,7 @@ fn played(alloc: Global, events: &[Event]) -> Result<Option<Core>, Memory> {
     let program = program_of(alloc, TEXT)?;
     let index = Index::of(alloc, &program)?;
     match only_query(&index, 5) {
-        Some(problem) => play(alloc, &ProblemTree::of(problem), 2, events),
+        Some(problem) => play(alloc, &ProblemTree::of(problem, Paths::Kept), 2, events),
         None => Err(Memory),
     }
 }

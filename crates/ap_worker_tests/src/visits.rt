@@ -4,6 +4,7 @@ ghost use Rattle.ap_backchain.specs.Problems.{HasQuery};
 
 use crate::first_answers::{only_query, program_of};
 use ap_backchain::problem::Problem;
+use ap_backchain::run::Paths;
 use ap_defs::memory::Memory;
 use ap_defs::paths::{Path, Visit};
 use ap_index::index::Index;
@@ -29,7 +30,7 @@ fn visit_at(alloc: Global, problem: &Problem<'_>, path: &Path) -> Result<Visit, 
     requires { HasQuery problem.now }
 {
     match at(alloc, problem, path) {
-        Ok(_branch) => ProblemTree::of(*problem).visit(alloc, path),
+        Ok(_branch) => ProblemTree::of(*problem, Paths::Kept).visit(alloc, path),
         Err(_refused) => Err(Memory),
     }
 }

@@ -5,4 +5,4 @@ use Rattle.ap_replay.specs.ProblemTrees.{problem_choices}
 use Rattle.ap_worker_tests.proofs.visits.visit_at.Goals as goal
 
 pub visit-requires : goal.visit-requires
-visit-requires c = subst (λ (p : Problem). InTree (problem_choices p) c.args.path.now) (sym c.of.ensures) c.in-Ok.ensures.there
+visit-requires c = subst (λ (p : Problem). InTree (problem_choices p) c.args.path.now) (sym c.of.ensures.problem) c.in-Ok.ensures.there
