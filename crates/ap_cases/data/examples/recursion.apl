@@ -1,5 +1,5 @@
-% A recursion that is 800 deep: 100 is taken eight times, and then counted down to zero. The answer is yes, at
-% depth 801 or more.
+% A recursion that is 512 deep: 64 is taken eight times, and then counted down to zero. The answer is yes, at
+% depth 513 or more.
 
 nat : type.
 z : nat.
@@ -15,6 +15,5 @@ down(s(N)) :- down(N).
 
 ?- exists A (
 eight_times(s(s(s(s(s(s(s(s(s(s(s(s(s(s(s(s(s(s(s(s(s(s(s(s(s(s(s(s(s(s(s(s(s(s(s(s(s(s(s(s(s(s(s(s(s(s(s(s(s(s(s(s(s(s(s(
-s(s(s(s(s(s(s(s(s(s(s(s(s(s(s(s(s(s(s(s(s(s(s(s(s(s(s(s(s(s(s(s(s(s(s(s(s(s(s(s(s(s(s(s(s(z)))))))))))))))))))
-))))))))))))))))))))))))))))))))))))))))))))))))))))))))))))))))))))))))))))))))), A),
+s(s(s(s(s(s(s(s(s(z)))))))))))))))))))))))))))))))))))))))))))))))))))))))))))))))), A),
 down(A)).
