@@ -74,7 +74,8 @@ fn write_suspension(
 
 /// Writes what stands before the left part of a pair, and keeps what will stand behind the right one.
 fn begin_pair(out: &mut Vec<u8>, closers: &mut Vec<u8>, place: Place) -> Result<(), Memory>
-    ensures written { OnOk result (out.new.items ≡ out.old.items ++ pair_opening (written_place place)) }
+    ensures written { OnOk result (out.new.items
+        ≡ out.old.items ++ pair_opening (written_place place)) }
     ensures kept { OnOk result (closers.new.items
         ≡ closers.old.items ++ pair_closing (written_place place)) }
 {
@@ -88,7 +89,8 @@ fn begin_pair(out: &mut Vec<u8>, closers: &mut Vec<u8>, place: Place) -> Result<
 
 /// Writes what stands before the parts of a list cell, and keeps what will stand behind them.
 fn begin_cell(out: &mut Vec<u8>, closers: &mut Vec<u8>, place: Place) -> Result<(), Memory>
-    ensures written { OnOk result (out.new.items ≡ out.old.items ++ cell_opening (written_place place)) }
+    ensures written { OnOk result (out.new.items
+        ≡ out.old.items ++ cell_opening (written_place place)) }
     ensures kept { OnOk result (closers.new.items
         ≡ closers.old.items ++ cell_closing (written_place place)) }
 {
