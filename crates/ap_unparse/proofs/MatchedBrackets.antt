@@ -5,8 +5,8 @@ use Rattle.ap_trees.specs.Terms.{Name, OfWord, OfVar, Term, Terms, Variable, Wor
 use Rattle.ap_trees.specs.Goals as goals
 use Rattle.ap_trees.specs.Goals.{Goal}
 use Rattle.ap_syntax.specs.Matching.{after_match, begins_relation, begins_term, begins_after, after_group}
-use Rattle.ap_unparse.specs.declared.place.Place.{Place}
-use Rattle.ap_unparse.specs.declared.place.Place.TheVariants.{Whole, Part, Rest}
+use Rattle.ap_unparse.specs.declared.context.Context.{Context}
+use Rattle.ap_unparse.specs.declared.context.Context.TheVariants.{Whole, Part, Rest}
 use Rattle.ap_unparse.specs.declared.side.Side.{Side}
 use Rattle.ap_unparse.specs.declared.side.Side.TheVariants.{Alone, OnLeft, BehindComma}
 use Rattle.ap_unparse.specs.Written.{Written, ident, var, comma, semicolon, space, round_open, round_close, square_open, square_close, bar, lambda, fresh, equal, swap, new, exists, symbols_of}
@@ -109,22 +109,22 @@ square_matched vs m = record {
       opens_square d ((vs ++ square_close ∷ []) ++ ws) ∙ ap (λ xs. after_match (suc d) (symbols_of xs)) (append_assoc vs (square_close ∷ []) ws) ∙ m.skip (suc d) (square_close ∷ ws) ∙ closes_square d ws;
 }
 
-barred_matched : (place : Place) (vs : List Written) → Matched vs → Matched (barred place vs)
+barred_matched : (context : Context) (vs : List Written) → Matched vs → Matched (barred context vs)
 barred_matched Whole vs m = m
 barred_matched Part vs m = m
 barred_matched Rest vs m = bar_matched vs m
 
-tuple_matched : (place : Place) (vs : List Written) → Matched vs → Matched (tuple_at place vs)
+tuple_matched : (context : Context) (vs : List Written) → Matched vs → Matched (tuple_at context vs)
 tuple_matched Whole vs m = group_matched vs m
 tuple_matched Part vs m = m
 tuple_matched Rest vs m = bar_matched (round_open ∷ (vs ++ round_close ∷ [])) (group_matched vs m)
 
-list_matched : (place : Place) (vs : List Written) → Matched vs → Matched (list_at place vs)
+list_matched : (context : Context) (vs : List Written) → Matched vs → Matched (list_at context vs)
 list_matched Whole vs m = square_matched vs m
 list_matched Part vs m = square_matched vs m
 list_matched Rest vs m = comma_matched vs m
 
-nil_matched : (place : Place) → Matched (nil_at place)
+nil_matched : (context : Context) → Matched (nil_at context)
 nil_matched Whole = square_matched [] none_matched
 nil_matched Part = square_matched [] none_matched
 nil_matched Rest = none_matched
@@ -136,20 +136,20 @@ swapped_matched left right vs m =
     (group_matched (written_name left ∷ comma ∷ written_name right ∷ comma ∷ vs) (name_matched left (comma ∷ written_name right ∷ comma ∷ vs) (comma_matched (written_name right ∷ comma ∷ vs) (name_matched right (comma ∷ vs) (comma_matched vs m)))))
 
 mutual
-  pub term_matched : (place : Place) (t : Term) → Matched (term_at place t)
-  term_matched place terms.Unit = barred_matched place (round_open ∷ round_close ∷ []) (group_matched [] none_matched)
-  term_matched place (Variable w) = barred_matched place (var w ∷ []) (var_matched w [] none_matched)
-  term_matched place (Word w) = barred_matched place (ident w ∷ []) (ident_matched w [] none_matched)
-  term_matched place (Apply w args) =
-      barred_matched place (ident w ∷ round_open ∷ (arguments_of args ++ round_close ∷ [])) (ident_matched w (round_open ∷ (arguments_of args ++ round_close ∷ [])) (group_matched (arguments_of args) (arguments_matched args)))
-  term_matched place (Pair t u) =
-      tuple_matched place (term_at Whole t ++ comma ∷ term_at Part u) (both_matched (term_at Whole t) (comma ∷ term_at Part u) (term_matched Whole t) (comma_matched (term_at Part u) (term_matched Part u)))
-  term_matched place Nil = nil_matched place
-  term_matched place (Cell t u) = list_matched place (term_at Whole t ++ term_at Rest u) (both_matched (term_at Whole t) (term_at Rest u) (term_matched Whole t) (term_matched Rest u))
-  term_matched place (Abs name t) =
-      barred_matched place (written_name name ∷ lambda ∷ term_at Whole t) (name_matched name (lambda ∷ term_at Whole t) (lambda_matched (term_at Whole t) (term_matched Whole t)))
-  term_matched place (Swapped left right t) =
-      barred_matched place (swap ∷ round_open ∷ written_name left ∷ comma ∷ written_name right ∷ comma ∷ (term_at Whole t ++ round_close ∷ [])) (swapped_matched left right (term_at Whole t) (term_matched Whole t))
+  pub term_matched : (context : Context) (t : Term) → Matched (term_at context t)
+  term_matched context terms.Unit = barred_matched context (round_open ∷ round_close ∷ []) (group_matched [] none_matched)
+  term_matched context (Variable w) = barred_matched context (var w ∷ []) (var_matched w [] none_matched)
+  term_matched context (Word w) = barred_matched context (ident w ∷ []) (ident_matched w [] none_matched)
+  term_matched context (Apply w args) =
+      barred_matched context (ident w ∷ round_open ∷ (arguments_of args ++ round_close ∷ [])) (ident_matched w (round_open ∷ (arguments_of args ++ round_close ∷ [])) (group_matched (arguments_of args) (arguments_matched args)))
+  term_matched context (Pair t u) =
+      tuple_matched context (term_at Whole t ++ comma ∷ term_at Part u) (both_matched (term_at Whole t) (comma ∷ term_at Part u) (term_matched Whole t) (comma_matched (term_at Part u) (term_matched Part u)))
+  term_matched context Nil = nil_matched context
+  term_matched context (Cell t u) = list_matched context (term_at Whole t ++ term_at Rest u) (both_matched (term_at Whole t) (term_at Rest u) (term_matched Whole t) (term_matched Rest u))
+  term_matched context (Abs name t) =
+      barred_matched context (written_name name ∷ lambda ∷ term_at Whole t) (name_matched name (lambda ∷ term_at Whole t) (lambda_matched (term_at Whole t) (term_matched Whole t)))
+  term_matched context (Swapped left right t) =
+      barred_matched context (swap ∷ round_open ∷ written_name left ∷ comma ∷ written_name right ∷ comma ∷ (term_at Whole t ++ round_close ∷ [])) (swapped_matched left right (term_at Whole t) (term_matched Whole t))
 
   pub arguments_matched : (ts : Terms) → Matched (arguments_of ts)
   arguments_matched (Last t) = term_matched Whole t

@@ -3,17 +3,17 @@ use Rattle.std.proofs.Common.{◌≡◌, ℕ, ◌+◌, ◌≤◌, ◌<◌, List,
 use Rattle.std.specs.Prelude.{codes, reverse}
 use Rattle.std.proofs.lemmas.List.{append-nil, reverse-append}
 use Rattle.ap_trees.specs.Terms.{Name, OfWord, OfVar, Term, Terms, Unit, Variable, Word, Apply, Pair, Nil, Cell, Abs, Swapped, Last, More}
-use Rattle.ap_unparse.specs.declared.place.Place.{Place}
-use Rattle.ap_unparse.specs.declared.place.Place.TheVariants.{Whole, Part, Rest}
+use Rattle.ap_unparse.specs.declared.context.Context.{Context}
+use Rattle.ap_unparse.specs.declared.context.Context.TheVariants.{Whole, Part, Rest}
 use Rattle.ap_unparse.specs.Written.{Written, bytes_of}
 use Rattle.ap_unparse.specs.WrittenTerms.{written_name, name_text, barred, tuple_opening, tuple_closing, list_opening, list_closing, swap_opening, abs_opening, apply_opening, term_at, arguments_of}
 use Rattle.ap_unparse.proofs.ByteLemmas.{bytes_of-append}
 
 -- What is written, what is left of a term, and what is kept, in the order in which they will stand.
-abbrev pub all_term : List ℕ → Place → Term → List ℕ → List ℕ
-all_term out place t closers = out ++ (bytes_of (term_at place t) ++ reverse closers)
+abbrev pub all_term : List ℕ → Context → Term → List ℕ → List ℕ
+all_term out context t closers = out ++ (bytes_of (term_at context t) ++ reverse closers)
 
-barred_bytes : (place : Place) (ws : List Written) → bytes_of (barred place ws) ≡ bytes_of (barred place []) ++ bytes_of ws
+barred_bytes : (context : Context) (ws : List Written) → bytes_of (barred context ws) ≡ bytes_of (barred context []) ++ bytes_of ws
 barred_bytes Whole ws = refl
 barred_bytes Part ws = refl
 barred_bytes Rest ws = refl
@@ -22,19 +22,19 @@ name_bytes : (name : Name) (ws : List Written) → bytes_of (written_name name �
 name_bytes (OfWord w) ws = refl
 name_bytes (OfVar w) ws = refl
 
-pair_bytes : (place : Place) (t u : Term)
-    → bytes_of (term_at place (Pair t u)) ≡ tuple_opening place ++ (bytes_of (term_at Whole t) ++ (codes "," ++ (bytes_of (term_at Part u) ++ tuple_closing place)))
+pair_bytes : (context : Context) (t u : Term)
+    → bytes_of (term_at context (Pair t u)) ≡ tuple_opening context ++ (bytes_of (term_at Whole t) ++ (codes "," ++ (bytes_of (term_at Part u) ++ tuple_closing context)))
 pair_bytes Whole t u = simp (bytes_of-append, append_assoc)
 pair_bytes Part t u = simp (bytes_of-append, append-nil)
 pair_bytes Rest t u = simp (bytes_of-append, append_assoc)
 
-cell_bytes : (place : Place) (t u : Term)
-    → bytes_of (term_at place (Cell t u)) ≡ list_opening place ++ (bytes_of (term_at Whole t) ++ (bytes_of (term_at Rest u) ++ list_closing place))
+cell_bytes : (context : Context) (t u : Term)
+    → bytes_of (term_at context (Cell t u)) ≡ list_opening context ++ (bytes_of (term_at Whole t) ++ (bytes_of (term_at Rest u) ++ list_closing context))
 cell_bytes Whole t u = simp (bytes_of-append, append_assoc)
 cell_bytes Part t u = simp (bytes_of-append, append_assoc)
 cell_bytes Rest t u = simp (bytes_of-append, append-nil)
 
-abs_bytes : (place : Place) (name : Name) (t : Term) → bytes_of (term_at place (Abs name t)) ≡ abs_opening place name ++ bytes_of (term_at Whole t)
+abs_bytes : (context : Context) (name : Name) (t : Term) → bytes_of (term_at context (Abs name t)) ≡ abs_opening context name ++ bytes_of (term_at Whole t)
 abs_bytes Whole (OfWord w) t = simp append_assoc
 abs_bytes Whole (OfVar w) t = simp append_assoc
 abs_bytes Part (OfWord w) t = simp append_assoc
@@ -42,8 +42,8 @@ abs_bytes Part (OfVar w) t = simp append_assoc
 abs_bytes Rest (OfWord w) t = simp append_assoc
 abs_bytes Rest (OfVar w) t = simp append_assoc
 
-swap_bytes : (place : Place) (left right : Name) (t : Term)
-    → bytes_of (term_at place (Swapped left right t)) ≡ swap_opening place left right ++ (bytes_of (term_at Whole t) ++ codes ")")
+swap_bytes : (context : Context) (left right : Name) (t : Term)
+    → bytes_of (term_at context (Swapped left right t)) ≡ swap_opening context left right ++ (bytes_of (term_at Whole t) ++ codes ")")
 swap_bytes Whole (OfWord v) (OfWord w) t = simp (bytes_of-append, append_assoc)
 swap_bytes Whole (OfWord v) (OfVar w) t = simp (bytes_of-append, append_assoc)
 swap_bytes Whole (OfVar v) (OfWord w) t = simp (bytes_of-append, append_assoc)
@@ -57,58 +57,58 @@ swap_bytes Rest (OfWord v) (OfVar w) t = simp (bytes_of-append, append_assoc)
 swap_bytes Rest (OfVar v) (OfWord w) t = simp (bytes_of-append, append_assoc)
 swap_bytes Rest (OfVar v) (OfVar w) t = simp (bytes_of-append, append_assoc)
 
-apply_bytes : (place : Place) (w : List ℕ) (args : Terms) → bytes_of (term_at place (Apply w args)) ≡ apply_opening place w ++ (bytes_of (arguments_of args) ++ codes ")")
+apply_bytes : (context : Context) (w : List ℕ) (args : Terms) → bytes_of (term_at context (Apply w args)) ≡ apply_opening context w ++ (bytes_of (arguments_of args) ++ codes ")")
 apply_bytes Whole w args = simp (bytes_of-append, append_assoc)
 apply_bytes Part w args = simp (bytes_of-append, append_assoc)
 apply_bytes Rest w args = simp (bytes_of-append, append_assoc)
 
-tuple_turned : (place : Place) → reverse (tuple_closing place) ≡ tuple_closing place
+tuple_turned : (context : Context) → reverse (tuple_closing context) ≡ tuple_closing context
 tuple_turned Whole = refl
 tuple_turned Part = refl
 tuple_turned Rest = refl
 
-list_turned : (place : Place) → reverse (list_closing place) ≡ list_closing place
+list_turned : (context : Context) → reverse (list_closing context) ≡ list_closing context
 list_turned Whole = refl
 list_turned Part = refl
 list_turned Rest = refl
 
-pub pair_goes_on : (place : Place) (w t u : Term) (o o1 o2 o3 k k1 : List ℕ) → w ≡ Pair t u → o1 ≡ o ++ tuple_opening place → k1 ≡ k ++ tuple_closing place
-    → o2 ≡ o1 ++ bytes_of (term_at Whole t) → o3 ≡ o2 ++ codes "," → all_term o3 Part u k1 ≡ all_term o place w k
-pair_goes_on place w t u o o1 o2 o3 k k1 e a b d f =
-    rw (f, d, a, b, e, pair_bytes place t u, reverse-append k (tuple_closing place), tuple_turned place) (simp append_assoc)
+pub pair_goes_on : (context : Context) (w t u : Term) (o o1 o2 o3 k k1 : List ℕ) → w ≡ Pair t u → o1 ≡ o ++ tuple_opening context → k1 ≡ k ++ tuple_closing context
+    → o2 ≡ o1 ++ bytes_of (term_at Whole t) → o3 ≡ o2 ++ codes "," → all_term o3 Part u k1 ≡ all_term o context w k
+pair_goes_on context w t u o o1 o2 o3 k k1 e a b d f =
+    rw (f, d, a, b, e, pair_bytes context t u, reverse-append k (tuple_closing context), tuple_turned context) (simp append_assoc)
 
-pub cell_goes_on : (place : Place) (w t u : Term) (o o1 o2 k k1 : List ℕ) → w ≡ Cell t u → o1 ≡ o ++ list_opening place → k1 ≡ k ++ list_closing place
-    → o2 ≡ o1 ++ bytes_of (term_at Whole t) → all_term o2 Rest u k1 ≡ all_term o place w k
-cell_goes_on place w t u o o1 o2 k k1 e a b d =
-    rw (d, a, b, e, cell_bytes place t u, reverse-append k (list_closing place), list_turned place) (simp append_assoc)
+pub cell_goes_on : (context : Context) (w t u : Term) (o o1 o2 k k1 : List ℕ) → w ≡ Cell t u → o1 ≡ o ++ list_opening context → k1 ≡ k ++ list_closing context
+    → o2 ≡ o1 ++ bytes_of (term_at Whole t) → all_term o2 Rest u k1 ≡ all_term o context w k
+cell_goes_on context w t u o o1 o2 k k1 e a b d =
+    rw (d, a, b, e, cell_bytes context t u, reverse-append k (list_closing context), list_turned context) (simp append_assoc)
 
-pub abs_goes_on : (place : Place) (w : Term) (name : Name) (t : Term) (o o1 k : List ℕ) → w ≡ Abs name t → o1 ≡ o ++ abs_opening place name → all_term o1 Whole t k ≡ all_term o place w k
-abs_goes_on place w name t o o1 k e a = rw (a, e, abs_bytes place name t) (simp append_assoc)
+pub abs_goes_on : (context : Context) (w : Term) (name : Name) (t : Term) (o o1 k : List ℕ) → w ≡ Abs name t → o1 ≡ o ++ abs_opening context name → all_term o1 Whole t k ≡ all_term o context w k
+abs_goes_on context w name t o o1 k e a = rw (a, e, abs_bytes context name t) (simp append_assoc)
 
-pub swap_goes_on : (place : Place) (w : Term) (left right : Name) (t : Term) (o o1 k k1 : List ℕ) → w ≡ Swapped left right t → o1 ≡ o ++ swap_opening place left right → k1 ≡ k ++ codes ")"
-    → all_term o1 Whole t k1 ≡ all_term o place w k
-swap_goes_on place w left right t o o1 k k1 e a b = rw (a, b, e, swap_bytes place left right t, reverse-append k (codes ")")) (simp append_assoc)
+pub swap_goes_on : (context : Context) (w : Term) (left right : Name) (t : Term) (o o1 k k1 : List ℕ) → w ≡ Swapped left right t → o1 ≡ o ++ swap_opening context left right → k1 ≡ k ++ codes ")"
+    → all_term o1 Whole t k1 ≡ all_term o context w k
+swap_goes_on context w left right t o o1 k k1 e a b = rw (a, b, e, swap_bytes context left right t, reverse-append k (codes ")")) (simp append_assoc)
 
 -- a term that is written whole, before what is kept
-pub apply_ends : (place : Place) (t : Term) (w : List ℕ) (args : Terms) (o o1 o2 o3 o4 k all : List ℕ) → t ≡ Apply w args → o1 ≡ o ++ apply_opening place w → o2 ≡ o1 ++ bytes_of (arguments_of args) → o3 ≡ o2 ++ codes ")"
-    → o4 ≡ o3 ++ reverse k → all_term o place t k ≡ all → o4 ≡ all
-apply_ends place t w args o o1 o2 o3 o4 k all e a b d f h =
-    let whole : o4 ≡ all_term o place t k = rw (f, d, b, a, e, apply_bytes place w args) (simp append_assoc) in whole ∙ h
+pub apply_ends : (context : Context) (t : Term) (w : List ℕ) (args : Terms) (o o1 o2 o3 o4 k all : List ℕ) → t ≡ Apply w args → o1 ≡ o ++ apply_opening context w → o2 ≡ o1 ++ bytes_of (arguments_of args) → o3 ≡ o2 ++ codes ")"
+    → o4 ≡ o3 ++ reverse k → all_term o context t k ≡ all → o4 ≡ all
+apply_ends context t w args o o1 o2 o3 o4 k all e a b d f h =
+    let whole : o4 ≡ all_term o context t k = rw (f, d, b, a, e, apply_bytes context w args) (simp append_assoc) in whole ∙ h
 
-pub leaf_ends : (place : Place) (t : Term) (o o1 o2 k all : List ℕ) → o1 ≡ o ++ bytes_of (term_at place t) → o2 ≡ o1 ++ reverse k → all_term o place t k ≡ all → o2 ≡ all
-leaf_ends place t o o1 o2 k all a b h = let whole : o2 ≡ all_term o place t k = rw (b, a) (append_assoc o (bytes_of (term_at place t)) (reverse k)) in whole ∙ h
+pub leaf_ends : (context : Context) (t : Term) (o o1 o2 k all : List ℕ) → o1 ≡ o ++ bytes_of (term_at context t) → o2 ≡ o1 ++ reverse k → all_term o context t k ≡ all → o2 ≡ all
+leaf_ends context t o o1 o2 k all a b h = let whole : o2 ≡ all_term o context t k = rw (b, a) (append_assoc o (bytes_of (term_at context t)) (reverse k)) in whole ∙ h
 
-pub unit_bytes : (place : Place) (t : Term) → t ≡ Unit → bytes_of (barred place []) ++ codes "()" ≡ bytes_of (term_at place t)
+pub unit_bytes : (context : Context) (t : Term) → t ≡ Unit → bytes_of (barred context []) ++ codes "()" ≡ bytes_of (term_at context t)
 unit_bytes Whole t e = rw e refl
 unit_bytes Part t e = rw e refl
 unit_bytes Rest t e = rw e refl
 
-pub variable_bytes : (place : Place) (t : Term) (w : List ℕ) → t ≡ Variable w → bytes_of (barred place []) ++ w ≡ bytes_of (term_at place t)
+pub variable_bytes : (context : Context) (t : Term) (w : List ℕ) → t ≡ Variable w → bytes_of (barred context []) ++ w ≡ bytes_of (term_at context t)
 variable_bytes Whole t w e = rw e (sym (append-nil w))
 variable_bytes Part t w e = rw e (sym (append-nil w))
 variable_bytes Rest t w e = rw e (ap (λ (bs : List ℕ). codes "|" ++ bs) (sym (append-nil w)))
 
-pub word_bytes : (place : Place) (t : Term) (w : List ℕ) → t ≡ Word w → bytes_of (barred place []) ++ w ≡ bytes_of (term_at place t)
+pub word_bytes : (context : Context) (t : Term) (w : List ℕ) → t ≡ Word w → bytes_of (barred context []) ++ w ≡ bytes_of (term_at context t)
 word_bytes Whole t w e = rw e (sym (append-nil w))
 word_bytes Part t w e = rw e (sym (append-nil w))
 word_bytes Rest t w e = rw e (ap (λ (bs : List ℕ). codes "|" ++ bs) (sym (append-nil w)))

@@ -3,7 +3,7 @@ use Rattle.std.proofs.Common.{◌≡◌, ℕ, List, [], ◌∷◌, ◌++◌, ref
 use Rattle.ap_trees.specs.Symbols.{Sym}
 use Rattle.ap_trees.specs.Terms.{Name, OfWord, OfVar, Term, Terms, Unit, Variable, Word, Apply, Pair, Nil, Cell, Abs, Swapped, Last, More, arguments, tuple, cells}
 use Rattle.ap_trees.specs.TermGrammar.{IsId, an_ident, a_var, IsTerm, under, a_word, applied, a_variable, the_unit, grouped, the_nil, listed, swapping, IsEnd, no_bar, behind_bar, AreTerms, only_one, and_more}
-use Rattle.ap_unparse.specs.declared.place.Place.TheVariants.{Whole, Part, Rest}
+use Rattle.ap_unparse.specs.declared.context.Context.TheVariants.{Whole, Part, Rest}
 use Rattle.ap_unparse.specs.Written.{Written, ident, comma, round_open, round_close, square_open, square_close, bar, lambda, swap, symbols_of}
 use Rattle.ap_unparse.specs.WrittenTerms.{written_name, term_at, arguments_of, written_term}
 

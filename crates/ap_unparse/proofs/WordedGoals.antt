@@ -9,7 +9,7 @@ use Rattle.unicode_ident.proofs.Computing.{unicode_ident}
 use Rattle.ap_lexer.specs.declared.token.TokenKind.TheVariants.{Reserved, Sign}
 use Rattle.ap_trees.specs.Terms.{Term}
 use Rattle.ap_trees.specs.Goals.{Goal, Atom, Equation, Freshness, Both, Either, Some_variable, New_name}
-use Rattle.ap_unparse.specs.declared.place.Place.TheVariants.{Whole}
+use Rattle.ap_unparse.specs.declared.context.Context.TheVariants.{Whole}
 use Rattle.ap_unparse.specs.declared.side.Side.{Side}
 use Rattle.ap_unparse.specs.declared.side.Side.TheVariants.{Alone, OnLeft, BehindComma}
 use Rattle.ap_unparse.specs.Written.{Written, token, comma, semicolon, space, round_open, round_close, bytes_of, symbols_of}

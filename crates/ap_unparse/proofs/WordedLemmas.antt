@@ -13,8 +13,8 @@ use Rattle.ap_trees.specs.Types as types
 use Rattle.ap_trees.specs.Types.{Ty}
 use Rattle.ap_trees.specs.Terms as terms
 use Rattle.ap_trees.specs.Terms.{Name, OfWord, OfVar, Term, Terms, Variable, Word, Apply, Pair, Nil, Cell, Abs, Swapped, Last, More}
-use Rattle.ap_unparse.specs.declared.place.Place.{Place}
-use Rattle.ap_unparse.specs.declared.place.Place.TheVariants.{Whole, Part, Rest}
+use Rattle.ap_unparse.specs.declared.context.Context.{Context}
+use Rattle.ap_unparse.specs.declared.context.Context.TheVariants.{Whole, Part, Rest}
 use Rattle.ap_unparse.specs.Written.{Written, ident, var, comma, space, round_open, round_close, square_close, lambda, swap, bytes_of, symbols_of}
 use Rattle.ap_unparse.specs.WrittenTypes.{type_at, written_type}
 use Rattle.ap_unparse.specs.WrittenTerms.{written_name, term_at, arguments_of, written_term, barred, tuple_at, list_at, nil_at}
@@ -112,7 +112,7 @@ type_is_lexed t w = written_is_lexed (written_type t) (subst Writes (append-nil 
 joined : (ts us : List Written) → Joins ts → Joins us → Joins (ts ++ comma ∷ us)
 joined ts us first second ws h a = subst Writes (sym (append_assoc ts (comma ∷ us) ws)) (first (comma ∷ (us ++ ws)) (comma_mark, tt, second ws h a) tt)
 
-behind_bar : (place : Place) (ts : List Written) → Joins ts → Joins (barred place ts)
+behind_bar : (context : Context) (ts : List Written) → Joins ts → Joins (barred context ts)
 behind_bar Whole ts j ws h a = j ws h a
 behind_bar Part ts j ws h a = j ws h a
 behind_bar Rest ts j ws h a = (bar_mark, tt, j ws h a)
@@ -136,12 +136,12 @@ swap_token = ((115, codes "wap", sym swap_text, refl, swap_goes), refl)
 swap_written : IsWritten Reserved (codes "swap")
 swap_written = (swap_token, IsUtf8-append (115 ∷ []) (codes "wap") (ascii_text 115 (omega arith)) (IsUtf8-append (119 ∷ []) (codes "ap") (ascii_text 119 (omega arith)) (IsUtf8-append (97 ∷ []) (codes "p") (ascii_text 97 (omega arith)) (ascii_text 112 (omega arith)))))
 
-list_inside : (place : Place) (ts : List Written) → Joins ts → Joins (list_at place ts)
+list_inside : (context : Context) (ts : List Written) → Joins ts → Joins (list_at context ts)
 list_inside Rest ts j ws h a = (comma_mark, tt, j ws h a)
 list_inside Whole ts j ws h a = (square_open_mark, tt, behind_square ts j ws h a)
 list_inside Part ts j ws h a = (square_open_mark, tt, behind_square ts j ws h a)
 
-nil_joins : (place : Place) → Joins (nil_at place)
+nil_joins : (context : Context) → Joins (nil_at context)
 nil_joins Rest ws h a = h
 nil_joins Whole ws h a = (square_open_mark, tt, (square_close_mark, tt, h))
 nil_joins Part ws h a = (square_open_mark, tt, (square_close_mark, tt, h))
@@ -162,7 +162,7 @@ cell_inside : (t u : Term) → Joins (term_at Whole t) → Joins (term_at Rest u
 cell_inside t u first second ws h a =
     subst Writes (sym (append_assoc (term_at Whole t) (term_at Rest u) ws)) (first (term_at Rest u ++ ws) (second ws h a) (rest_apart u ws a))
 
-tuple_joins : (place : Place) (ts : List Written) → Joins ts → Joins (tuple_at place ts)
+tuple_joins : (context : Context) (ts : List Written) → Joins ts → Joins (tuple_at context ts)
 tuple_joins Part ts j ws h a = j ws h a
 tuple_joins Whole ts j ws h a = (open_mark, tt, behind_close ts j ws h a)
 tuple_joins Rest ts j ws h a = (bar_mark, tt, (open_mark, tt, behind_close ts j ws h a))
@@ -175,20 +175,20 @@ swap_joins left right t l r j ws h a =
     (swap_written, tt, (open_mark, tt, name_joins left l (comma ∷ written_name right ∷ comma ∷ ((term_at Whole t ++ round_close ∷ []) ++ ws)) (comma_mark, tt, second) tt))
 
 mutual
-  pub writes_term : (place : Place) (t : Term) → IsWordedTerm t → Joins (term_at place t)
-  writes_term place terms.Unit w ws h a = behind_bar place (round_open ∷ round_close ∷ []) (λ vs k b. (open_mark, tt, (close_mark, tt, k))) ws h a
-  writes_term place (Variable v) w ws h a = behind_bar place (var v ∷ []) (λ vs k b. (w, b, k)) ws h a
-  writes_term place (Word v) w ws h a = behind_bar place (ident v ∷ []) (λ vs k b. (w, b, k)) ws h a
-  writes_term place (Apply v args) w ws h a =
-      behind_bar place (ident v ∷ round_open ∷ (arguments_of args ++ round_close ∷ [])) (λ vs k b. (w.0, tt, (open_mark, tt, behind_close (arguments_of args) (writes_arguments args w.1) vs k b))) ws h a
-  writes_term place (Pair t u) w ws h a =
-      tuple_joins place (term_at Whole t ++ comma ∷ term_at Part u) (joined (term_at Whole t) (term_at Part u) (writes_term Whole t w.0) (writes_term Part u w.1)) ws h a
-  writes_term place Nil w ws h a = nil_joins place ws h a
-  writes_term place (Cell t u) w ws h a = list_inside place (term_at Whole t ++ term_at Rest u) (cell_inside t u (writes_term Whole t w.0) (writes_term Rest u w.1)) ws h a
-  writes_term place (Abs name t) w ws h a =
-      behind_bar place (written_name name ∷ lambda ∷ term_at Whole t) (λ vs k b. name_joins name w.0 (lambda ∷ (term_at Whole t ++ vs)) (lambda_mark, tt, writes_term Whole t w.1 vs k b) tt) ws h a
-  writes_term place (Swapped left right t) w ws h a =
-      behind_bar place (swap ∷ round_open ∷ written_name left ∷ comma ∷ written_name right ∷ comma ∷ (term_at Whole t ++ round_close ∷ [])) (swap_joins left right t w.0 w.1 (writes_term Whole t w.2)) ws h a
+  pub writes_term : (context : Context) (t : Term) → IsWordedTerm t → Joins (term_at context t)
+  writes_term context terms.Unit w ws h a = behind_bar context (round_open ∷ round_close ∷ []) (λ vs k b. (open_mark, tt, (close_mark, tt, k))) ws h a
+  writes_term context (Variable v) w ws h a = behind_bar context (var v ∷ []) (λ vs k b. (w, b, k)) ws h a
+  writes_term context (Word v) w ws h a = behind_bar context (ident v ∷ []) (λ vs k b. (w, b, k)) ws h a
+  writes_term context (Apply v args) w ws h a =
+      behind_bar context (ident v ∷ round_open ∷ (arguments_of args ++ round_close ∷ [])) (λ vs k b. (w.0, tt, (open_mark, tt, behind_close (arguments_of args) (writes_arguments args w.1) vs k b))) ws h a
+  writes_term context (Pair t u) w ws h a =
+      tuple_joins context (term_at Whole t ++ comma ∷ term_at Part u) (joined (term_at Whole t) (term_at Part u) (writes_term Whole t w.0) (writes_term Part u w.1)) ws h a
+  writes_term context Nil w ws h a = nil_joins context ws h a
+  writes_term context (Cell t u) w ws h a = list_inside context (term_at Whole t ++ term_at Rest u) (cell_inside t u (writes_term Whole t w.0) (writes_term Rest u w.1)) ws h a
+  writes_term context (Abs name t) w ws h a =
+      behind_bar context (written_name name ∷ lambda ∷ term_at Whole t) (λ vs k b. name_joins name w.0 (lambda ∷ (term_at Whole t ++ vs)) (lambda_mark, tt, writes_term Whole t w.1 vs k b) tt) ws h a
+  writes_term context (Swapped left right t) w ws h a =
+      behind_bar context (swap ∷ round_open ∷ written_name left ∷ comma ∷ written_name right ∷ comma ∷ (term_at Whole t ++ round_close ∷ [])) (swap_joins left right t w.0 w.1 (writes_term Whole t w.2)) ws h a
 
   pub writes_arguments : (ts : Terms) → AreWorded ts → Joins (arguments_of ts)
   writes_arguments (Last t) w ws h a = writes_term Whole t w ws h a

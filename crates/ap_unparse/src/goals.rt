@@ -7,7 +7,7 @@ ghost use Rattle.ap_unparse.specs.WrittenTerms.{written_term};
 ghost use Rattle.ap_unparse.specs.WrittenGoals.{goal_at, further_terms, arguments_of, both_opening, both_closing, either_opening, either_closing};
 
 use crate::closing::write_closers;
-use crate::place::Place;
+use crate::context::Context;
 use crate::side::Side;
 use crate::terms::write_tree;
 use ap_defs::memory::Memory;
@@ -21,7 +21,7 @@ fn write_further(alloc: Global, out: &mut Vec<u8>, terms: &[Tree<'_>]) -> Result
 {
     for t in terms {
         out.push(b',')?;
-        write_tree(alloc, out, t, Place::Whole)?;
+        write_tree(alloc, out, t, Context::Whole)?;
     }
     Ok(())
 }
@@ -35,7 +35,7 @@ fn write_arguments(alloc: Global, out: &mut Vec<u8>, terms: &[Tree<'_>]) -> Resu
         return Ok(());
     };
     out.push(b'(')?;
-    write_tree(alloc, out, first, Place::Whole)?;
+    write_tree(alloc, out, first, Context::Whole)?;
     write_further(alloc, out, others)?;
     out.push(b')')?;
     Ok(())
@@ -54,9 +54,9 @@ fn write_relation(
         ++ (bytes_of (written_term (term_of left.now))
         ++ (sign.now ++ bytes_of (written_term (term_of right.now))))) }
 {
-    write_tree(alloc, out, left, Place::Whole)?;
+    write_tree(alloc, out, left, Context::Whole)?;
     out.extend_from_slice(sign)?;
-    write_tree(alloc, out, right, Place::Whole)
+    write_tree(alloc, out, right, Context::Whole)
 }
 
 /// Writes what stands before a goal joined by `,`, and keeps what will stand behind it.

@@ -2,9 +2,9 @@
 #![tactic(auto)]
 
 mod closing;
+mod context;
 mod goals;
 pub mod laws;
-mod place;
 mod side;
 mod terms;
 mod types;

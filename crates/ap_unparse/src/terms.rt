@@ -6,16 +6,16 @@ ghost use Rattle.ap_unparse.specs.Written.{bytes_of};
 ghost use Rattle.ap_unparse.specs.WrittenTerms.{barred, name_text, tuple_opening, tuple_closing, list_opening, list_closing, swap_opening, abs_opening, apply_opening, term_at, arguments_of, nil_at};
 
 use crate::closing::write_closers;
-use crate::place::Place;
+use crate::context::Context;
 use ap_defs::memory::Memory;
 use ap_trees::{Args, Binder, Tree};
 use std::alloc::Global;
 
 /// Writes the bar that stands before the rest of a list.
-fn write_bar(out: &mut Vec<u8>, place: Place) -> Result<(), Memory>
-    ensures { OnOk result (out.new.items ≡ out.old.items ++ bytes_of (barred place [])) }
+fn write_bar(out: &mut Vec<u8>, context: Context) -> Result<(), Memory>
+    ensures { OnOk result (out.new.items ≡ out.old.items ++ bytes_of (barred context [])) }
 {
-    if let Place::Rest = place {
+    if let Context::Rest = context {
         out.push(b'|')?;
     }
     Ok(())
@@ -31,25 +31,25 @@ fn write_name(out: &mut Vec<u8>, name: &Binder<'_>) -> Result<(), Memory>
 }
 
 /// Writes what stands before the parts of a tuple, and keeps what will stand behind them.
-fn begin_tuple(out: &mut Vec<u8>, closers: &mut Vec<u8>, place: Place) -> Result<(), Memory>
-    ensures written { OnOk result (out.new.items ≡ out.old.items ++ tuple_opening place) }
-    ensures kept { OnOk result (closers.new.items ≡ closers.old.items ++ tuple_closing place) }
+fn begin_tuple(out: &mut Vec<u8>, closers: &mut Vec<u8>, context: Context) -> Result<(), Memory>
+    ensures written { OnOk result (out.new.items ≡ out.old.items ++ tuple_opening context) }
+    ensures kept { OnOk result (closers.new.items ≡ closers.old.items ++ tuple_closing context) }
 {
-    match place {
-        Place::Part => return Ok(()),
-        Place::Rest => out.extend_from_slice(b"|(")?,
-        Place::Whole => out.push(b'(')?,
+    match context {
+        Context::Part => return Ok(()),
+        Context::Rest => out.extend_from_slice(b"|(")?,
+        Context::Whole => out.push(b'(')?,
     }
     closers.push(b')')?;
     Ok(())
 }
 
 /// Writes what stands before the parts of a list cell, and keeps what will stand behind them.
-fn begin_list(out: &mut Vec<u8>, closers: &mut Vec<u8>, place: Place) -> Result<(), Memory>
-    ensures written { OnOk result (out.new.items ≡ out.old.items ++ list_opening place) }
-    ensures kept { OnOk result (closers.new.items ≡ closers.old.items ++ list_closing place) }
+fn begin_list(out: &mut Vec<u8>, closers: &mut Vec<u8>, context: Context) -> Result<(), Memory>
+    ensures written { OnOk result (out.new.items ≡ out.old.items ++ list_opening context) }
+    ensures kept { OnOk result (closers.new.items ≡ closers.old.items ++ list_closing context) }
 {
-    if let Place::Rest = place {
+    if let Context::Rest = context {
         out.push(b',')?;
         return Ok(());
     }
@@ -59,10 +59,11 @@ fn begin_list(out: &mut Vec<u8>, closers: &mut Vec<u8>, place: Place) -> Result<
 }
 
 /// Writes what stands before the body of an abstraction.
-fn begin_abs(out: &mut Vec<u8>, name: &Binder<'_>, place: Place) -> Result<(), Memory>
-    ensures { OnOk result (out.new.items ≡ out.old.items ++ abs_opening place (name_of name.now)) }
+fn begin_abs(out: &mut Vec<u8>, name: &Binder<'_>, context: Context) -> Result<(), Memory>
+    ensures { OnOk result (out.new.items
+        ≡ out.old.items ++ abs_opening context (name_of name.now)) }
 {
-    write_bar(out, place)?;
+    write_bar(out, context)?;
     write_name(out, name)?;
     out.push(b'\\')?;
     Ok(())
@@ -73,12 +74,12 @@ fn begin_swap(
     out: &mut Vec<u8>,
     left: &Binder<'_>,
     right: &Binder<'_>,
-    place: Place,
+    context: Context,
 ) -> Result<(), Memory>
     ensures { OnOk result (out.new.items
-        ≡ out.old.items ++ swap_opening place (name_of left.now) (name_of right.now)) }
+        ≡ out.old.items ++ swap_opening context (name_of left.now) (name_of right.now)) }
 {
-    write_bar(out, place)?;
+    write_bar(out, context)?;
     out.extend_from_slice(b"swap(")?;
     write_name(out, left)?;
     out.push(b',')?;
@@ -88,30 +89,30 @@ fn begin_swap(
 }
 
 /// Writes what stands before arguments.
-fn begin_apply(out: &mut Vec<u8>, word: &str, place: Place) -> Result<(), Memory>
-    ensures { OnOk result (out.new.items ≡ out.old.items ++ apply_opening place word.now) }
+fn begin_apply(out: &mut Vec<u8>, word: &str, context: Context) -> Result<(), Memory>
+    ensures { OnOk result (out.new.items ≡ out.old.items ++ apply_opening context word.now) }
 {
-    write_bar(out, place)?;
+    write_bar(out, context)?;
     out.extend_from_slice(word.as_bytes())?;
     out.push(b'(')?;
     Ok(())
 }
 
 /// Writes a term that has no parts.
-fn write_leaf(out: &mut Vec<u8>, text: &[u8], place: Place) -> Result<(), Memory>
+fn write_leaf(out: &mut Vec<u8>, text: &[u8], context: Context) -> Result<(), Memory>
     ensures { OnOk result (out.new.items
-        ≡ out.old.items ++ (bytes_of (barred place []) ++ text.now)) }
+        ≡ out.old.items ++ (bytes_of (barred context []) ++ text.now)) }
 {
-    write_bar(out, place)?;
+    write_bar(out, context)?;
     out.extend_from_slice(text)?;
     Ok(())
 }
 
 /// Writes the empty list: nothing at the end of a list.
-fn write_nil(out: &mut Vec<u8>, place: Place) -> Result<(), Memory>
-    ensures { OnOk result (out.new.items ≡ out.old.items ++ bytes_of (nil_at place)) }
+fn write_nil(out: &mut Vec<u8>, context: Context) -> Result<(), Memory>
+    ensures { OnOk result (out.new.items ≡ out.old.items ++ bytes_of (nil_at context)) }
 {
-    if let Place::Rest = place {
+    if let Context::Rest = context {
         return Ok(());
     }
     out.extend_from_slice(b"[]")?;
@@ -127,9 +128,9 @@ fn write_arguments(alloc: Global, out: &mut Vec<u8>, args: &Args<'_>) -> Result<
     let mut rest = args;
     loop {
         match rest {
-            Args::Last(t) => return write_tree(alloc, out, t, Place::Whole),
+            Args::Last(t) => return write_tree(alloc, out, t, Context::Whole),
             Args::More(t, others) => {
-                write_tree(alloc, out, t, Place::Whole)?;
+                write_tree(alloc, out, t, Context::Whole)?;
                 out.push(b',')?;
                 rest = others;
             }
@@ -137,7 +138,7 @@ fn write_arguments(alloc: Global, out: &mut Vec<u8>, args: &Args<'_>) -> Result<
     }
 }
 
-/// Writes a term at a place.
+/// Writes a term in a context.
 ///
 /// It goes on along the right part of a pair, the rest of a list and the body of an abstraction or of a
 /// swapping, and calls itself on the other parts alone.
@@ -146,56 +147,56 @@ pub fn write_tree(
     alloc: Global,
     out: &mut Vec<u8>,
     t: &Tree<'_>,
-    mut place: Place,
+    mut context: Context,
 ) -> Result<(), Memory>
     ensures { OnOk result (out.new.items
-        ≡ out.old.items ++ bytes_of (term_at place (term_of t.now))) }
+        ≡ out.old.items ++ bytes_of (term_at context (term_of t.now))) }
 {
     let mut closers = Vec::new(alloc);
     let mut rest = t;
     loop {
         match rest {
             Tree::Unit => {
-                write_leaf(out, b"()", place)?;
+                write_leaf(out, b"()", context)?;
                 return write_closers(out, closers);
             }
             Tree::Var(word) | Tree::Word(word) => {
-                write_leaf(out, word.as_bytes(), place)?;
+                write_leaf(out, word.as_bytes(), context)?;
                 return write_closers(out, closers);
             }
             Tree::Nil => {
-                write_nil(out, place)?;
+                write_nil(out, context)?;
                 return write_closers(out, closers);
             }
             Tree::Apply(word, args) => {
-                begin_apply(out, word, place)?;
+                begin_apply(out, word, context)?;
                 write_arguments(alloc, out, args)?;
                 out.push(b')')?;
                 write_closers(out, closers)?;
                 return Ok(());
             }
             Tree::Pair(left, right) => {
-                begin_tuple(out, &mut closers, place)?;
-                write_tree(alloc, out, left, Place::Whole)?;
+                begin_tuple(out, &mut closers, context)?;
+                write_tree(alloc, out, left, Context::Whole)?;
                 out.push(b',')?;
-                place = Place::Part;
+                context = Context::Part;
                 rest = right;
             }
             Tree::Cell(head, tail) => {
-                begin_list(out, &mut closers, place)?;
-                write_tree(alloc, out, head, Place::Whole)?;
-                place = Place::Rest;
+                begin_list(out, &mut closers, context)?;
+                write_tree(alloc, out, head, Context::Whole)?;
+                context = Context::Rest;
                 rest = tail;
             }
             Tree::Abs(name, body) => {
-                begin_abs(out, name, place)?;
-                place = Place::Whole;
+                begin_abs(out, name, context)?;
+                context = Context::Whole;
                 rest = body;
             }
             Tree::Swapped(left, right, body) => {
-                begin_swap(out, left, right, place)?;
+                begin_swap(out, left, right, context)?;
                 closers.push(b')')?;
-                place = Place::Whole;
+                context = Context::Whole;
                 rest = body;
             }
         }

@@ -18,8 +18,8 @@ ghost use Rattle.ap_syntax.specs.Nesting.{is_too_deep};
 ghost use Rattle.ap_unparse.specs.Worded.{IsIdentifier};
 ghost use Rattle.ap_unparse.specs.Again.{ReadsAs, SpellsType, predicate_of};
 
+use crate::context::Context;
 use crate::goals::write_goal;
-use crate::place::Place;
 use crate::side::Side;
 use crate::terms::write_tree;
 use crate::types::write_type;
@@ -41,7 +41,7 @@ pub fn term_text(alloc: Global, t: &Tree<'_>) -> Result<Vec<u8>, Memory>
         (Equation (term_of t.now) unit_term))) }
 {
     let mut out = Vec::new(alloc);
-    write_tree(alloc, &mut out, t, Place::Whole)?;
+    write_tree(alloc, &mut out, t, Context::Whole)?;
     Ok(out)
 }
 

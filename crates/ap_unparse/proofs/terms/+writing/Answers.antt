@@ -17,7 +17,7 @@ write_arguments-loop-rest-preserved t c =
 
 pub write_tree-returns-in-Apply : goal.write_tree-returns-in-Apply
 write_tree-returns-in-Apply t c =
-    apply_ends c.loop-rest.place (term_of c.loop-rest.rest.now) c.in-Apply.word.now (terms_of c.in-Apply.args.value) c.loop-rest.out.items c.begin_apply.new.out.items c.write_arguments.new.out.items c.push.new.self.items
+    apply_ends c.loop-rest.context (term_of c.loop-rest.rest.now) c.in-Apply.word.now (terms_of c.in-Apply.args.value) c.loop-rest.out.items c.begin_apply.new.out.items c.write_arguments.new.out.items c.push.new.self.items
     c.write_closers-in-Apply.new.out.items c.loop-rest.closers.items _ (ap term_of c.in-Apply.is) c.in_ok-begin_apply-in-Apply.ensures (rw c.deref.ensures at c.in_ok-write_arguments-in-Apply.ensures) c.in_ok-push-in-Apply.ensures.items
     c.in_ok-write_closers-in-Apply.ensures c.loop-rest.invariant.written
 
@@ -29,7 +29,7 @@ write_tree-loop-rest-preserved-in-Pair-1 t c =
     record {
       written =
           rw c.deref-rest.ensures
-          (pair_goes_on c.loop-rest.place w left right c.loop-rest.out.items c.begin_tuple.new.out.items c.write_tree.new.out.items c.push-in-Pair.new.self.items c.loop-rest.closers.items c.begin_tuple.new.closers.items
+          (pair_goes_on c.loop-rest.context w left right c.loop-rest.out.items c.begin_tuple.new.out.items c.write_tree.new.out.items c.push-in-Pair.new.self.items c.loop-rest.closers.items c.begin_tuple.new.closers.items
           (ap term_of c.in-Pair.is) c.in_ok-begin_tuple-in-Pair.ensures.written c.in_ok-begin_tuple-in-Pair.ensures.kept (rw c.deref-in-Pair.ensures at c.in_ok-write_tree-in-Pair.ensures) c.in_ok-push-in-Pair.ensures.items
           ∙ c.loop-rest.invariant.written);
       smaller = rw c.deref-rest.ensures ((left_smaller w left right _ (ap term_of c.in-Pair.is) c.loop-rest.invariant.smaller).1);
@@ -43,7 +43,7 @@ write_tree-loop-rest-preserved-in-Cell-1 t c =
     record {
       written =
           rw c.deref-rest-in-Cell.ensures
-          (cell_goes_on c.loop-rest.place w head tail c.loop-rest.out.items c.begin_list.new.out.items c.write_tree-in-Cell.new.out.items c.loop-rest.closers.items c.begin_list.new.closers.items
+          (cell_goes_on c.loop-rest.context w head tail c.loop-rest.out.items c.begin_list.new.out.items c.write_tree-in-Cell.new.out.items c.loop-rest.closers.items c.begin_list.new.closers.items
           (ap term_of c.in-Cell.is) c.in_ok-begin_list-in-Cell.ensures.written c.in_ok-begin_list-in-Cell.ensures.kept (rw c.deref-in-Cell.ensures at c.in_ok-write_tree-in-Cell.ensures)
           ∙ c.loop-rest.invariant.written);
       smaller = rw c.deref-rest-in-Cell.ensures ((head_smaller w head tail _ (ap term_of c.in-Cell.is) c.loop-rest.invariant.smaller).1);
@@ -58,7 +58,7 @@ write_tree-loop-rest-preserved t c =
     record {
       written =
           rw c.deref-rest-in-Swapped.ensures
-          (swap_goes_on c.loop-rest.place w left right body c.loop-rest.out.items c.begin_swap.new.out.items c.loop-rest.closers.items c.push-in-Swapped.new.self.items
+          (swap_goes_on c.loop-rest.context w left right body c.loop-rest.out.items c.begin_swap.new.out.items c.loop-rest.closers.items c.push-in-Swapped.new.self.items
           (ap term_of c.in-Swapped.is) c.in_ok-begin_swap-in-Swapped.ensures c.in_ok-push-in-Swapped.ensures.items
           ∙ c.loop-rest.invariant.written);
       smaller = rw c.deref-rest-in-Swapped.ensures (swapped_smaller w left right body _ (ap term_of c.in-Swapped.is) c.loop-rest.invariant.smaller);

@@ -23,7 +23,7 @@ decreases-write_arguments-loop-rest l = terms_size (terms_of l.rest)
 
 abbrev pub invariant-write_tree-loop-rest : goal.invariant-write_tree-loop-rest
 invariant-write_tree-loop-rest l = record {
-  written : all_term l.out.items l.place (term_of l.rest) l.closers.items ≡ l.fn.out.items ++ bytes_of (term_at l.fn.place (term_of l.fn.t));
+  written : all_term l.out.items l.context (term_of l.rest) l.closers.items ≡ l.fn.out.items ++ bytes_of (term_at l.fn.context (term_of l.fn.t));
   smaller : term_size (term_of l.rest) ≤ term_size (term_of l.fn.t);
 }
 

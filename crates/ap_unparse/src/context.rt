@@ -2,7 +2,7 @@
 
 /// By itself, as the right part of a pair, or as the rest of a list.
 #[derive(Clone, Copy)]
-pub enum Place {
+pub enum Context {
     Whole,
     Part,
     Rest,
