@@ -1,10 +1,12 @@
 -- The lines of outputs: each longest run of cuts or of stuck branches gives one.
-use Rattle.std.proofs.Common.{◌≡◌, ℕ, zero, suc, ◌≤◌, Bool, true, false, List, [], ◌∷◌, ◌++◌, map, length, drop, get_or, refl, sym, ap, ◌∙◌, subst, arith, append_assoc}
-use Rattle.std.specs.Prelude.{if◌then◌else◌, codes}
+use Rattle.std.proofs.Common.{◌≡◌, ℕ, zero, suc, ◌≤◌, Bool, true, false, List, [], ◌∷◌, ◌++◌, map, length, filter, drop, get_or, refl, sym, ap, ◌∙◌, subst, arith, append_assoc}
+use Rattle.std.proofs.lemmas.List.Sums.{length-filter}
+use Rattle.std.specs.List.{count_by}
+use Rattle.std.specs.Prelude.{if◌then◌else◌, cond, codes}
 use Rattle.ap_defs.specs.declared.paths.Out.{Out}
 use Rattle.ap_defs.specs.declared.paths.Out.TheVariants as code
 use Rattle.ap_defs.specs.Answers.{NominalOut, found, cut, stuck, out_of, outs_of}
-use Rattle.ap_defs.specs.Lines.{Line, answer, cuts, stucks, line_before, lines_of, ended, is_cut, is_stuck}
+use Rattle.ap_defs.specs.Lines.{Line, answer, cuts, stucks, line_before, lines_of, ended, is_cut, is_stuck, count_of}
 use Rattle.ap_answers.specs.Runs.{run_length, IsLineFor}
 
 before_stuck : (p q : List ℕ) (ls : List Line) → line_before (cut p) (line_before (stuck q) ls) ≡ cuts 1 ∷ line_before (stuck q) ls
@@ -87,3 +89,15 @@ ended_one_more (v ∷ ws) w = append_assoc v (10 ∷ ended ws) (w ++ codes "\n")
 
 pub report_written : (ws : List (List ℕ)) (w o1 o2 : List ℕ) → o1 ≡ ended ws → o2 ≡ o1 ++ (w ++ codes "\n") → o2 ≡ ended (ws ++ w ∷ [])
 report_written ws w o1 o2 a b = b ∙ ap (λ bs. bs ++ (w ++ codes "\n")) a ∙ ended_one_more ws w
+
+-- counted in the code, and counted in what it means
+kept_both : {X Y : Type 0} (b : Bool) (x : X) (y : Y) (xs : List X) (ys : List Y) → length xs ≡ length ys → length (cond b (x ∷ xs) xs) ≡ length (cond b (y ∷ ys) ys)
+kept_both true x y xs ys e = ap suc e
+kept_both false x y xs ys e = e
+
+kept_length : (test : NominalOut → Bool) (outs : List Out) → length (filter (λ o. test (out_of o)) outs) ≡ count_of test (outs_of outs)
+kept_length test [] = refl
+kept_length test (o ∷ outs) = kept_both (test (out_of o)) o (out_of o) (filter (λ p. test (out_of p)) outs) (filter test (outs_of outs)) (kept_length test outs)
+
+pub counted : (test : NominalOut → Bool) (outs : List Out) → count_by (λ o. test (out_of o)) outs ≡ count_of test (outs_of outs)
+counted test outs = sym (length-filter (λ o. test (out_of o)) outs) ∙ kept_length test outs

@@ -6,12 +6,12 @@ use Rattle.ap_defs.specs.Types.{NominalConstructor}
 use Rattle.ap_answers.specs.declared.place.Place.TheVariants as code
 use Rattle.ap_answers.specs.declared.place.Place as places
 
-abbrev pub place_of : places.Place → Place
-place_of code.Whole = printing.whole
-place_of code.Part = printing.part
-place_of code.Rest = printing.rest
-place_of code.Cell = printing.cell
-place_of (code.Arguments n) = printing.arguments n
+abbrev pub written_place : places.Place → Place
+written_place code.Whole = printing.whole
+written_place code.Part = printing.part
+written_place code.Rest = printing.rest
+written_place code.Cell = printing.cell
+written_place (code.Arguments n) = printing.arguments n
 
 -- a pair has parentheses of its own, unless its parts go on what stands before it
 abbrev pub has_parentheses : Place → Bool

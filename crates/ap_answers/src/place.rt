@@ -2,7 +2,7 @@
 
 ghost use Rattle.std.specs.Prelude.{◌≡◌, ◌++◌, OnOk, IfOk, []};
 ghost use Rattle.ap_defs.specs.Printing.{barred, unit_text, nil_text};
-ghost use Rattle.ap_answers.specs.Places.{place_of, has_parentheses, between, part_after};
+ghost use Rattle.ap_answers.specs.Places.{written_place, has_parentheses, between, part_after};
 
 use ap_defs::memory::Memory;
 
@@ -19,7 +19,7 @@ pub enum Place {
 
 /// Whether a pair that stands here has parentheses of its own.
 pub fn parenthesized(place: Place) -> bool
-    ensures { result ≡ has_parentheses (place_of place) }
+    ensures { result ≡ has_parentheses (written_place place) }
 {
     match place {
         Place::Whole | Place::Rest => true,
@@ -30,7 +30,7 @@ pub fn parenthesized(place: Place) -> bool
 
 /// Writes the bar that stands before the rest of a list.
 pub fn write_bar(out: &mut Vec<u8>, place: Place) -> Result<(), Memory>
-    ensures { OnOk result (out.new.items ≡ out.old.items ++ barred (place_of place) []) }
+    ensures { OnOk result (out.new.items ≡ out.old.items ++ barred (written_place place) []) }
 {
     if let Place::Rest = place {
         out.push(b'|')?;
@@ -40,7 +40,7 @@ pub fn write_bar(out: &mut Vec<u8>, place: Place) -> Result<(), Memory>
 
 /// Writes unit.
 pub fn write_unit(out: &mut Vec<u8>, place: Place) -> Result<(), Memory>
-    ensures { OnOk result (out.new.items ≡ out.old.items ++ unit_text (place_of place)) }
+    ensures { OnOk result (out.new.items ≡ out.old.items ++ unit_text (written_place place)) }
 {
     if let Place::Arguments(0) = place {
         return Ok(());
@@ -52,7 +52,7 @@ pub fn write_unit(out: &mut Vec<u8>, place: Place) -> Result<(), Memory>
 
 /// Writes the empty list: nothing at the end of a list.
 pub fn write_nil(out: &mut Vec<u8>, place: Place) -> Result<(), Memory>
-    ensures { OnOk result (out.new.items ≡ out.old.items ++ nil_text (place_of place)) }
+    ensures { OnOk result (out.new.items ≡ out.old.items ++ nil_text (written_place place)) }
 {
     if let Place::Rest = place {
         return Ok(());
@@ -63,8 +63,8 @@ pub fn write_nil(out: &mut Vec<u8>, place: Place) -> Result<(), Memory>
 
 /// Writes what stands between the parts of a pair, and says where the right part stands.
 pub fn write_between(out: &mut Vec<u8>, place: Place) -> Result<Place, Memory>
-    ensures written { OnOk result (out.new.items ≡ out.old.items ++ between (place_of place)) }
-    ensures place { IfOk result (λ next. place_of next ≡ part_after (place_of place)) }
+    ensures written { OnOk result (out.new.items ≡ out.old.items ++ between (written_place place)) }
+    ensures place { IfOk result (λ next. written_place next ≡ part_after (written_place place)) }
 {
     match place {
         Place::Cell => Ok(Place::Rest),

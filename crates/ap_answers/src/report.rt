@@ -39,39 +39,21 @@ fn is_stuck_out(out: &Out) -> bool
 fn count_answers(outs: &[Out]) -> usize
     ensures { result ≡ count_of is_found (outs_of outs.now) }
 {
-    let mut count = 0;
-    for out in outs {
-        if is_answer(out) {
-            count += 1;
-        }
-    }
-    count
+    outs.iter().filter(|out| is_answer(out)).count()
 }
 
 /// How many outputs are cuts.
 fn count_cuts(outs: &[Out]) -> usize
     ensures { result ≡ count_of is_cut (outs_of outs.now) }
 {
-    let mut count = 0;
-    for out in outs {
-        if is_cut_off(out) {
-            count += 1;
-        }
-    }
-    count
+    outs.iter().filter(|out| is_cut_off(out)).count()
 }
 
 /// How many outputs are stuck branches.
 fn count_stuck(outs: &[Out]) -> usize
     ensures { result ≡ count_of is_stuck (outs_of outs.now) }
 {
-    let mut count = 0;
-    for out in outs {
-        if is_stuck_out(out) {
-            count += 1;
-        }
-    }
-    count
+    outs.iter().filter(|out| is_stuck_out(out)).count()
 }
 
 /// How many outputs at the beginning are cuts.

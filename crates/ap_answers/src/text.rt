@@ -5,7 +5,7 @@ ghost use Rattle.std.specs.Option.{option_map};
 ghost use Rattle.ap_defs.specs.Terms.{term_of};
 ghost use Rattle.ap_defs.specs.Printing.{barred, swaps_text, term_at};
 ghost use Rattle.ap_answers.specs.Spelled.{spelling_in};
-ghost use Rattle.ap_answers.specs.Places.{place_of, pair_opening, pair_closing, cell_opening, cell_closing, declared_opening, declared_closing, declared_place, opening, closing, argument_place};
+ghost use Rattle.ap_answers.specs.Places.{written_place, pair_opening, pair_closing, cell_opening, cell_closing, declared_opening, declared_closing, declared_place, opening, closing, argument_place};
 ghost use Rattle.ap_defs.specs.Types.{constructor_of};
 ghost use Rattle.ap_answers.specs.Swappings.{heads_text};
 
@@ -74,9 +74,10 @@ fn write_suspension(
 
 /// Writes what stands before the left part of a pair, and keeps what will stand behind the right one.
 fn begin_pair(out: &mut Vec<u8>, closers: &mut Vec<u8>, place: Place) -> Result<(), Memory>
-    ensures written { OnOk result (out.new.items ≡ out.old.items ++ pair_opening (place_of place)) }
+    ensures written { OnOk result (out.new.items
+        ≡ out.old.items ++ pair_opening (written_place place)) }
     ensures kept { OnOk result (closers.new.items
-        ≡ closers.old.items ++ pair_closing (place_of place)) }
+        ≡ closers.old.items ++ pair_closing (written_place place)) }
 {
     if parenthesized(place) {
         write_bar(out, place)?;
@@ -88,9 +89,10 @@ fn begin_pair(out: &mut Vec<u8>, closers: &mut Vec<u8>, place: Place) -> Result<
 
 /// Writes what stands before the parts of a list cell, and keeps what will stand behind them.
 fn begin_cell(out: &mut Vec<u8>, closers: &mut Vec<u8>, place: Place) -> Result<(), Memory>
-    ensures written { OnOk result (out.new.items ≡ out.old.items ++ cell_opening (place_of place)) }
+    ensures written { OnOk result (out.new.items
+        ≡ out.old.items ++ cell_opening (written_place place)) }
     ensures kept { OnOk result (closers.new.items
-        ≡ closers.old.items ++ cell_closing (place_of place)) }
+        ≡ closers.old.items ++ cell_closing (written_place place)) }
 {
     if let Place::Rest = place {
         out.push(b',')?;
@@ -111,10 +113,10 @@ fn begin_declared(
 ) -> Result<Option<Place>, Memory>
     ensures written { OnOk result (out.new.items
         ≡ out.old.items
-        ++ declared_opening (Some (constructor_of constructor.now)) (place_of place)) }
+        ++ declared_opening (Some (constructor_of constructor.now)) (written_place place)) }
     ensures kept { OnOk result (closers.new.items
         ≡ closers.old.items ++ declared_closing (Some (constructor_of constructor.now))) }
-    ensures place { IfOk result (λ next. option_map place_of next
+    ensures place { IfOk result (λ next. option_map written_place next
         ≡ declared_place (Some (constructor_of constructor.now))) }
 {
     write_bar(out, place)?;
@@ -138,10 +140,10 @@ fn begin_application(
     place: Place,
 ) -> Result<Option<Place>, Memory>
     ensures written { OnOk result (out.new.items
-        ≡ out.old.items ++ opening (map constructor_of constructors.now) f (place_of place)) }
+        ≡ out.old.items ++ opening (map constructor_of constructors.now) f (written_place place)) }
     ensures kept { OnOk result (closers.new.items
-        ≡ closers.old.items ++ closing (map constructor_of constructors.now) f (place_of place)) }
-    ensures place { IfOk result (λ next. option_map place_of next
+        ≡ closers.old.items ++ closing (map constructor_of constructors.now) f (written_place place)) }
+    ensures place { IfOk result (λ next. option_map written_place next
         ≡ argument_place (map constructor_of constructors.now) f) }
 {
     if f == 0 {
@@ -169,7 +171,7 @@ fn begin_abstraction(
 ) -> Result<(), Memory>
     ensures { OnOk result (out.new.items
         ≡ out.old.items
-        ++ barred (place_of place) ((spelling_in by.now).names name ++ codes "\\")) }
+        ++ barred (written_place place) ((spelling_in by.now).names name ++ codes "\\")) }
 {
     write_bar(out, place)?;
     by.write_name(out, name)?;
@@ -199,7 +201,7 @@ pub fn write_term(
     mut place: Place,
 ) -> Result<(), Memory>
     ensures { OnOk result (out.new.items
-        ≡ out.old.items ++ term_at (spelling_in by.now) (term_of term.now) (place_of place)) }
+        ≡ out.old.items ++ term_at (spelling_in by.now) (term_of term.now) (written_place place)) }
 {
     let mut closers = Vec::new(alloc);
     let mut rest = term;

@@ -1,10 +1,10 @@
--- Heads of terms at places that are made by other constructors.
+-- Heads of closures that are made by other constructors.
 use Rattle.std.proofs.Common.{◌≡◌, ◌==◌, ℕ, false, refl, ap, ◌∙◌}
 use Rattle.ap_defs.specs.declared.terms.Name.{Name}
-use Rattle.ap_checker.specs.declared.placed.Head.{Head}
-use Rattle.ap_checker.specs.declared.placed.Head.TheVariants as heads
-use Rattle.ap_checker.specs.declared.placed.Placed.{Placed}
-use Rattle.ap_checker.specs.Placed.{head_term}
+use Rattle.ap_checker.specs.declared.closures.Head.{Head}
+use Rattle.ap_checker.specs.declared.closures.Head.TheVariants as heads
+use Rattle.ap_checker.specs.declared.closures.Closure.{Closure}
+use Rattle.ap_checker.specs.Closures.{head_term}
 use Rattle.ap_checker.proofs.BinderLemmas.{shape}
 
 abbrev pub Apart : Head → Head → Type 0
@@ -37,7 +37,7 @@ other_than_susp q y (heads.Pair t u) n = refl
 other_than_susp q y (heads.App f t) n = refl
 other_than_susp q y (heads.Abs a t) n = refl
 
-pub other_than_pair : (v w : Placed) (k : Head) → ((t u : Placed) → k ≡ heads.Pair t u → ⊥) → Apart (heads.Pair v w) k
+pub other_than_pair : (v w : Closure) (k : Head) → ((t u : Closure) → k ≡ heads.Pair t u → ⊥) → Apart (heads.Pair v w) k
 other_than_pair v w heads.Unit n = refl
 other_than_pair v w (heads.Name a) n = refl
 other_than_pair v w (heads.Susp p x) n = refl
@@ -45,7 +45,7 @@ other_than_pair v w (heads.Pair t u) n = absurd (n t u refl)
 other_than_pair v w (heads.App f t) n = refl
 other_than_pair v w (heads.Abs a t) n = refl
 
-pub other_than_app : (g : ℕ) (v : Placed) (k : Head) → ((f : ℕ) (t : Placed) → k ≡ heads.App f t → ⊥) → Apart (heads.App g v) k
+pub other_than_app : (g : ℕ) (v : Closure) (k : Head) → ((f : ℕ) (t : Closure) → k ≡ heads.App f t → ⊥) → Apart (heads.App g v) k
 other_than_app g v heads.Unit n = refl
 other_than_app g v (heads.Name a) n = refl
 other_than_app g v (heads.Susp p x) n = refl
@@ -53,7 +53,7 @@ other_than_app g v (heads.Pair t u) n = refl
 other_than_app g v (heads.App f t) n = absurd (n f t refl)
 other_than_app g v (heads.Abs a t) n = refl
 
-pub other_than_abs : (b : Name) (v : Placed) (k : Head) → ((a : Name) (t : Placed) → k ≡ heads.Abs a t → ⊥) → Apart (heads.Abs b v) k
+pub other_than_abs : (b : Name) (v : Closure) (k : Head) → ((a : Name) (t : Closure) → k ≡ heads.Abs a t → ⊥) → Apart (heads.Abs b v) k
 other_than_abs b v heads.Unit n = refl
 other_than_abs b v (heads.Name a) n = refl
 other_than_abs b v (heads.Susp p x) n = refl

@@ -13,9 +13,9 @@ use Rattle.ap_checker.specs.declared.outside.Half.{Half}
 use Rattle.ap_checker.specs.declared.outside.Next.{Next}
 use Rattle.ap_checker.specs.declared.outside.Next.TheVariants as nexts
 use Rattle.ap_checker.specs.declared.outside.Outside.{Outside}
-use Rattle.ap_checker.specs.declared.placed.Placed.{Placed}
+use Rattle.ap_checker.specs.declared.closures.Closure.{Closure}
 use Rattle.ap_checker.specs.Outsides.{IsNext, halved, left_outside, outside_of, right_size, within_halves}
-use Rattle.ap_checker.specs.Placed.{placed_term}
+use Rattle.ap_checker.specs.Closures.{scoped_term}
 
 sizes_last : (hs : List Half) (h : Half) → sum_by right_size (hs ++ h ∷ []) ≡ right_size h + sum_by right_size hs
 sizes_last hs h = let whole : sum_by right_size (hs ++ h ∷ []) ≡ sum_by right_size hs + sum_by right_size (h ∷ []) = sum_by-append right_size hs (h ∷ []) in omega (arith, whole)
@@ -32,25 +32,25 @@ none_outside o t h l = ap₂ (λ hs ls. within_halves hs (term_within ls t)) h l
 outside_wrapped : (o p : Outside) (l : TermLayer) (t : NominalTerm) → p.halves.items ≡ o.halves.items → p.layers.items ≡ o.layers.items ++ l ∷ [] → outside_of p t ≡ outside_of o (term_in l t)
 outside_wrapped o p l t h k = ap₂ (λ hs ls. within_halves hs (term_within ls t)) h k ∙ ap (within_halves o.halves.items) (term_within_last o.layers.items l t)
 
-pub next_wrapped : (o p : Outside) (l : TermLayer) (r : Placed) (n : ℕ) (t : NominalTerm) → p.halves.items ≡ o.halves.items → p.layers.items ≡ o.layers.items ++ l ∷ []
-    → t ≡ term_in l (placed_term r) → size (placed_term r) < n → IsNext n o t p (nexts.Part r)
+pub next_wrapped : (o p : Outside) (l : TermLayer) (r : Closure) (n : ℕ) (t : NominalTerm) → p.halves.items ≡ o.halves.items → p.layers.items ≡ o.layers.items ++ l ∷ []
+    → t ≡ term_in l (scoped_term r) → size (scoped_term r) < n → IsNext n o t p (nexts.Part r)
 next_wrapped o p l r n t h k e s = record {
-  all = outside_wrapped o p l (placed_term r) h k ∙ ap (outside_of o) (sym e);
+  all = outside_wrapped o p l (scoped_term r) h k ∙ ap (outside_of o) (sym e);
   less = let same : left_outside p ≡ left_outside o = ap (sum_by right_size) h in omega (arith, same, s);
 }
 
 -- a pair whose left part comes first
-module _ (o p : Outside) (left right : Placed) (h : p.halves.items ≡ o.halves.items ++ (record { layers = o.layers; right = right }) ∷ []) (k : p.layers.items ≡ []) where
+module _ (o p : Outside) (left right : Closure) (h : p.halves.items ≡ o.halves.items ++ (record { layers = o.layers; right = right }) ∷ []) (k : p.layers.items ≡ []) where
   abbrev half : Half
   half = record { layers = o.layers; right = right }
 
-  pub next_halved : (n : ℕ) (t : NominalTerm) → t ≡ pair (placed_term left) (placed_term right) → size (placed_term left) + size (placed_term right) < n → IsNext n o t p (nexts.Part left)
+  pub next_halved : (n : ℕ) (t : NominalTerm) → t ≡ pair (scoped_term left) (scoped_term right) → size (scoped_term left) + size (scoped_term right) < n → IsNext n o t p (nexts.Part left)
   next_halved n t e s = record {
     all =
-        ap₂ (λ hs ls. within_halves hs (term_within ls (placed_term left))) h k
-        ∙ last_half o.halves.items half (placed_term left) ∙ ap (outside_of o) (sym e);
+        ap₂ (λ hs ls. within_halves hs (term_within ls (scoped_term left))) h k
+        ∙ last_half o.halves.items half (scoped_term left) ∙ ap (outside_of o) (sym e);
     less =
-        let sums : left_outside p ≡ size (placed_term right) + left_outside o = ap (sum_by right_size) h ∙ sizes_last o.halves.items half in
+        let sums : left_outside p ≡ size (scoped_term right) + left_outside o = ap (sum_by right_size) h ∙ sizes_last o.halves.items half in
         omega (arith, sums, s);
   }
 
@@ -62,7 +62,7 @@ module _ (o : Outside) (t : NominalTerm) (made : Term) (m : term_of made ≡ ter
   pub closed_part : (n : ℕ) (p : Outside) (h : Half) (hs : List Half) → 0 < n → o.halves.items ≡ hs ++ h ∷ [] → p.halves.items ≡ hs → p.layers.items ≡ h.layers.items ++ around.Left made ∷ []
       → IsNext n o t p (nexts.Part h.right)
   closed_part n p h hs l e d k =
-      let r = placed_term h.right in
+      let r = scoped_term h.right in
       record {
         all =
             ap₂ (λ ks ls. within_halves ks (term_within ls r)) d k
@@ -79,8 +79,8 @@ module _ (whole t : NominalTerm) (n : ℕ) (o p : Outside) (x : Next) (inv : out
   pub turn_whole : (u : Term) → x ≡ nexts.Whole u → term_of u ≡ whole
   turn_whole u e = subst (λ y. IsNext n o t p y) e h ∙ inv
 
-  pub turn_part : (r : Placed) → x ≡ nexts.Part r → outside_of p (placed_term r) ≡ whole
+  pub turn_part : (r : Closure) → x ≡ nexts.Part r → outside_of p (scoped_term r) ≡ whole
   turn_part r e = (subst (λ y. IsNext n o t p y) e h).all ∙ inv
 
-  pub turn_less : (r : Placed) → x ≡ nexts.Part r → size (placed_term r) + left_outside p < n + left_outside o
+  pub turn_less : (r : Closure) → x ≡ nexts.Part r → size (scoped_term r) + left_outside p < n + left_outside o
   turn_less r e = (subst (λ y. IsNext n o t p y) e h).less

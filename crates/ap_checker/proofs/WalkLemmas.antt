@@ -17,7 +17,7 @@ use Rattle.ap_checks.specs.OpenEnvironments.{OpenEnvironment, open_environment, 
 use Rattle.ap_checker.specs.declared.rules.Rule.{Rule}
 use Rattle.ap_checker.specs.declared.scope.Standing.{Standing}
 use Rattle.ap_checker.specs.declared.walk.Pending.{Pending}
-use Rattle.ap_checker.specs.declared.walk.Place.{Place}
+use Rattle.ap_checker.specs.declared.walk.Obligation.{Obligation}
 use Rattle.ap_checker.specs.declared.walk.Walk.{Walk}
 use Rattle.ap_checker.specs.Rules.{rule_number, refused}
 use Rattle.ap_checker.specs.Scopes.{environment_of, environment_with, nothing_put}
@@ -45,20 +45,20 @@ module _ (p : NominalProgram) (a : NominalAnswer) where
   left_same top ss us [] n e m = refl
   left_same top ss us (t ∷ ts) n e m =
       let same : take t.mark ss ≡ take t.mark us = sym (take-take t.mark top ss m.0) ∙ ap (take t.mark) e ∙ take-take t.mark top us m.0 in
-      ap₂ first_refusal (ap (λ vs. refusal_at p a n t.place (environment_of vs)) same) (left_same t.mark ss us ts (n + node_count (derivation_at t.place)) same m.1)
+      ap₂ first_refusal (ap (λ vs. refusal_at p a n t.obligation (environment_of vs)) same) (left_same t.mark ss us ts (n + node_count (derivation_at t.obligation)) same m.1)
 
   -- a node is put in front, where more may stand than before
-  pub put_first : (ss us : List Standing) (ps : List Pending) (t : Place) (n : ℕ) → take (length ss) us ≡ ss → ArePendingMarked (length ss) (reverse ps)
+  pub put_first : (ss us : List Standing) (ps : List Pending) (t : Obligation) (n : ℕ) → take (length ss) us ≡ ss → ArePendingMarked (length ss) (reverse ps)
       → first_left p a n us (reverse (ps ++ pending_at t (length us) ∷ [])) ≡ first_refusal (refusal_at p a n t (environment_of us)) (first_left p a (n + node_count (derivation_at t)) ss (reverse ps))
   put_first ss us ps t n e m =
       ap (first_left p a n us) (last_first ps (pending_at t (length us)))
       ∙ ap₂ first_refusal (ap (λ vs. refusal_at p a n t (environment_of vs)) (take-whole us))
       (left_same (length ss) us ss (reverse ps) (n + node_count (derivation_at t)) (e ∙ sym (take-whole ss)) m)
 
-put_nodes : (ps : List Pending) (t : Place) (n : ℕ) → nodes_left (reverse (ps ++ pending_at t n ∷ [])) ≡ node_count (derivation_at t) + nodes_left (reverse ps)
+put_nodes : (ps : List Pending) (t : Obligation) (n : ℕ) → nodes_left (reverse (ps ++ pending_at t n ∷ [])) ≡ node_count (derivation_at t) + nodes_left (reverse ps)
 put_nodes ps t n = ap nodes_left (last_first ps (pending_at t n))
 
-put_marked : (ps : List Pending) (t : Place) (n : ℕ) → ArePendingMarked n (reverse ps) → ArePendingMarked n (reverse (ps ++ pending_at t n ∷ []))
+put_marked : (ps : List Pending) (t : Obligation) (n : ℕ) → ArePendingMarked n (reverse ps) → ArePendingMarked n (reverse (ps ++ pending_at t n ∷ []))
 put_marked ps t n m = rw (last_first ps (pending_at t n)) (le_refl n, m)
 
 -- An atom's node, by what is known of its clause.
@@ -72,13 +72,13 @@ atom_by p a kinds n k q names ts us vs d e c r h v f =
 -- A node that is next, and all that is left.
 module _ (p : NominalProgram) (a : NominalAnswer) (w v : Walk) (t : Pending) where
   pub next_first : (n : ℕ) → w.pending.items ≡ v.pending.items ++ t ∷ [] → first_left p a n w.standing.items (pending_of w)
-      ≡ first_refusal (refusal_at p a n t.place (environment_of (take t.mark w.standing.items))) (first_left p a (n + node_count (derivation_at t.place)) w.standing.items (pending_of v))
+      ≡ first_refusal (refusal_at p a n t.obligation (environment_of (take t.mark w.standing.items))) (first_left p a (n + node_count (derivation_at t.obligation)) w.standing.items (pending_of v))
   next_first n e = ap (λ ps. first_left p a n w.standing.items (reverse ps)) e ∙ ap (first_left p a n w.standing.items) (last_first v.pending.items t)
 
 pub next_marked : (w v : Walk) (t : Pending) (top : ℕ) → w.pending.items ≡ v.pending.items ++ t ∷ [] → ArePendingMarked top (pending_of w) → (t.mark ≤ top) × ArePendingMarked t.mark (pending_of v)
 next_marked w v t top e m = subst (ArePendingMarked top) (ap reverse e ∙ last_first v.pending.items t) m
 
-pub next_nodes : (w v : Walk) (t : Pending) → w.pending.items ≡ v.pending.items ++ t ∷ [] → nodes_left (pending_of w) ≡ node_count (derivation_at t.place) + nodes_left (pending_of v)
+pub next_nodes : (w v : Walk) (t : Pending) → w.pending.items ≡ v.pending.items ++ t ∷ [] → nodes_left (pending_of w) ≡ node_count (derivation_at t.obligation) + nodes_left (pending_of v)
 next_nodes w v t e = ap nodes_left (ap reverse e ∙ last_first v.pending.items t)
 
 -- What a visit makes of the walk.
@@ -97,7 +97,7 @@ module _ (p : NominalProgram) (a : NominalAnswer) (kinds : List NominalKind) (d 
   }
 
   -- one node is below it, where more stands
-  pub goes_below : (t : Place) (more : List Standing) → ArePendingMarked (length before.standing.items) (pending_of before) → after.standing.items ≡ before.standing.items ++ more
+  pub goes_below : (t : Obligation) (more : List Standing) → ArePendingMarked (length before.standing.items) (pending_of before) → after.standing.items ≡ before.standing.items ++ more
       → after.pending.items ≡ before.pending.items ++ pending_at t (length after.standing.items) ∷ []
       → ((n : ℕ) → Before n ≡ refusal_at p a (suc n) t (environment_of after.standing.items)) → node_count d ≡ suc (node_count (derivation_at t)) → ChecksOn p a kinds d g before after
   goes_below t more m es ep h k =
@@ -116,7 +116,7 @@ module _ (p : NominalProgram) (a : NominalAnswer) (kinds : List NominalKind) (d 
       }
 
   -- one node is below it, where one thing more stands
-  pub goes_brought : (t : Place) (what : Standing) (mid : Walk) → ArePendingMarked (length before.standing.items) (pending_of before) → mid.standing.items ≡ before.standing.items ++ what ∷ []
+  pub goes_brought : (t : Obligation) (what : Standing) (mid : Walk) → ArePendingMarked (length before.standing.items) (pending_of before) → mid.standing.items ≡ before.standing.items ++ what ∷ []
       → mid.pending.items ≡ before.pending.items → after.standing.items ≡ mid.standing.items → after.pending.items ≡ mid.pending.items ++ pending_at t (length mid.standing.items) ∷ []
       → ((n : ℕ) → Before n ≡ refusal_at p a (suc n) t (environment_with what (environment_of before.standing.items))) → node_count d ≡ suc (node_count (derivation_at t)) → ChecksOn p a kinds d g before after
   goes_brought t what mid m ms mp es ep h k =
@@ -125,7 +125,7 @@ module _ (p : NominalProgram) (a : NominalAnswer) (kinds : List NominalKind) (d 
       (λ n. h n ∙ ap (refusal_at p a (suc n) t) (sym (ap environment_of whole ∙ environment_append before.standing.items (what ∷ []) nothing_put))) k
 
   -- two nodes are below it
-  pub goes_both : (t u : Place) → ArePendingMarked (length before.standing.items) (pending_of before) → after.standing.items ≡ before.standing.items
+  pub goes_both : (t u : Obligation) → ArePendingMarked (length before.standing.items) (pending_of before) → after.standing.items ≡ before.standing.items
       → after.pending.items ≡ (before.pending.items ++ pending_at u (length before.standing.items) ∷ []) ++ pending_at t (length before.standing.items) ∷ []
       → ((n : ℕ) → Before n ≡ first_refusal (refusal_at p a (suc n) t (environment_of before.standing.items)) (refusal_at p a (suc n + node_count (derivation_at t)) u (environment_of before.standing.items)))
       → node_count d ≡ suc (node_count (derivation_at t) + node_count (derivation_at u)) → ChecksOn p a kinds d g before after
@@ -161,28 +161,28 @@ reported_next n m h = omega (arith, h, reported_least n, reported_least (suc n))
 module _ (p : NominalProgram) (a : NominalAnswer) (whole : Option Refusal) (node m : ℕ) (w before after : Walk) (t : Pending) (way : IsOnWay p a whole node w)
     (taken : w.pending.items ≡ before.pending.items ++ t ∷ []) (cut : before.standing.items ≡ take t.mark w.standing.items) (next : m ≡ min (node + 1) (2 ^ 64 - 1)) where
   abbrev later : Option Refusal
-  later = first_left p a (suc way.done + node_count (derivation_at t.place)) before.standing.items (pending_of before)
+  later = first_left p a (suc way.done + node_count (derivation_at t.obligation)) before.standing.items (pending_of before)
 
   marks : ArePendingMarked t.mark (pending_of before)
   marks = (next_marked w before t (length w.standing.items) taken way.marked).1
 
-  rest_same : first_left p a (suc way.done + node_count (derivation_at t.place)) w.standing.items (pending_of before) ≡ later
+  rest_same : first_left p a (suc way.done + node_count (derivation_at t.obligation)) w.standing.items (pending_of before) ≡ later
   rest_same =
-      left_same p a t.mark w.standing.items before.standing.items (pending_of before) (suc way.done + node_count (derivation_at t.place))
+      left_same p a t.mark w.standing.items before.standing.items (pending_of before) (suc way.done + node_count (derivation_at t.obligation))
       (sym (ap (take t.mark) cut ∙ take-take t.mark t.mark w.standing.items (le_refl t.mark))) marks
 
-  whole_is : whole ≡ first_refusal (refusal_at p a (suc way.done) t.place (environment_of before.standing.items)) later
+  whole_is : whole ≡ first_refusal (refusal_at p a (suc way.done) t.obligation (environment_of before.standing.items)) later
   whole_is =
-      sym way.first ∙ next_first p a w before t (suc way.done) taken ∙ ap₂ first_refusal (ap (λ ss. refusal_at p a (suc way.done) t.place (environment_of ss)) (sym cut)) rest_same
+      sym way.first ∙ next_first p a w before t (suc way.done) taken ∙ ap₂ first_refusal (ap (λ ss. refusal_at p a (suc way.done) t.obligation (environment_of ss)) (sym cut)) rest_same
 
-  pub turn_refuses : (r : Option Rule) (k : Rule) → r ≡ Some k → IsVisited p a (kinds_at t.place) (derivation_at t.place) (goal_at t.place) before after r → no m (rule_number k) ≡ verdict whole
+  pub turn_refuses : (r : Option Rule) (k : Rule) → r ≡ Some k → IsVisited p a (kinds_at t.obligation) (derivation_at t.obligation) (goal_at t.obligation) before after r → no m (rule_number k) ≡ verdict whole
   turn_refuses r k e v =
-      let refuses : (n : ℕ) → refusal_at p a n t.place (environment_of before.standing.items) ≡ Some (at n (rule_number k)) = subst (IsVisited p a (kinds_at t.place) (derivation_at t.place) (goal_at t.place) before after) e v in
+      let refuses : (n : ℕ) → refusal_at p a n t.obligation (environment_of before.standing.items) ≡ Some (at n (rule_number k)) = subst (IsVisited p a (kinds_at t.obligation) (derivation_at t.obligation) (goal_at t.obligation) before after) e v in
       ap (λ n. no n (rule_number k)) (next ∙ reported_next way.done node way.number) ∙ sym (ap verdict (whole_is ∙ ap (λ o. first_refusal o later) (refuses (suc way.done))))
 
-  pub turn_goes_on : (r : Option Rule) → r ≡ None → IsVisited p a (kinds_at t.place) (derivation_at t.place) (goal_at t.place) before after r → IsOnWay p a whole m after
+  pub turn_goes_on : (r : Option Rule) → r ≡ None → IsVisited p a (kinds_at t.obligation) (derivation_at t.obligation) (goal_at t.obligation) before after r → IsOnWay p a whole m after
   turn_goes_on r e v =
-      let on : ChecksOn p a (kinds_at t.place) (derivation_at t.place) (goal_at t.place) before after = subst (IsVisited p a (kinds_at t.place) (derivation_at t.place) (goal_at t.place) before after) e v in
+      let on : ChecksOn p a (kinds_at t.obligation) (derivation_at t.obligation) (goal_at t.obligation) before after = subst (IsVisited p a (kinds_at t.obligation) (derivation_at t.obligation) (goal_at t.obligation) before after) e v in
       record {
         done = suc way.done;
         number = next ∙ reported_next way.done node way.number;

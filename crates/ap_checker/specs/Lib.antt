@@ -2,7 +2,7 @@ pub mod Wanted
 pub mod FreeLocals
 pub mod Places
 pub mod Scopes
-pub mod Placed
+pub mod Closures
 pub mod Rules
 pub mod Walks
 pub mod Indexes

@@ -1,4 +1,4 @@
--- What stands round a part of a term at a place that is copied, the parts to the right of it being copied afterwards.
+-- What stands round a part of a closure that is copied, the parts to the right of it being copied afterwards.
 use Rattle.std.specs.Prelude.{◌≡◌, ◌<◌, ℕ, ◌+◌, List, [], ◌∷◌}
 use Rattle.std.specs.List.{sum_by}
 use Rattle.ap_defs.specs.Spines.{term_within}
@@ -8,12 +8,12 @@ use Rattle.ap_checker.specs.declared.outside.Half.{Half}
 use Rattle.ap_checker.specs.declared.outside.Next.{Next}
 use Rattle.ap_checker.specs.declared.outside.Next.TheVariants as next
 use Rattle.ap_checker.specs.declared.outside.Outside.{Outside}
-use Rattle.ap_checker.specs.declared.placed.Placed.{Placed}
-use Rattle.ap_checker.specs.Placed.{placed_term}
+use Rattle.ap_checker.specs.declared.closures.Closure.{Closure}
+use Rattle.ap_checker.specs.Closures.{scoped_term}
 
 -- the pair with this left part, within what stands round it
 abbrev pub halved : Half → NominalTerm → NominalTerm
-halved h t = term_within h.layers.items (pair t (placed_term h.right))
+halved h t = term_within h.layers.items (pair t (scoped_term h.right))
 
 abbrev pub within_halves : List Half → NominalTerm → NominalTerm
 within_halves [] t = t
@@ -25,15 +25,15 @@ outside_of o t = within_halves o.halves.items (term_within o.layers.items t)
 
 -- how much is still to be made outside the part
 abbrev pub right_size : Half → ℕ
-right_size h = size (placed_term h.right)
+right_size h = size (scoped_term h.right)
 
 abbrev pub left_outside : Outside → ℕ
 left_outside o = sum_by right_size o.halves.items
 
--- this part comes next, in place of one of n nodes, with which the whole is w
-pub record IsFurther (n : ℕ) (before : Outside) (w : NominalTerm) (after : Outside) (r : Placed) : Type 0 where
-  pub all : outside_of after (placed_term r) ≡ w
-  pub less : size (placed_term r) + left_outside after < n + left_outside before
+-- this part comes next, instead of one of n nodes, with which the whole is w
+pub record IsFurther (n : ℕ) (before : Outside) (w : NominalTerm) (after : Outside) (r : Closure) : Type 0 where
+  pub all : outside_of after (scoped_term r) ≡ w
+  pub less : size (scoped_term r) + left_outside after < n + left_outside before
 
 -- where a part of so many nodes is t
 abbrev pub IsNext : ℕ → Outside → NominalTerm → Outside → Next → Type 0

@@ -1,4 +1,4 @@
--- What stands for the identifiers of an item at a place in its goal.
+-- What stands for the identifiers of an item at a node of a derivation.
 use Rattle.std.specs.Prelude.{if◌then◌else◌, List, [], ◌∷◌, map, Option, Some, None}
 use Rattle.ap_defs.specs.declared.terms.Name.{Name}
 use Rattle.ap_defs.specs.declared.terms.Var.{Var}

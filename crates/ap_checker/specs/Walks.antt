@@ -11,36 +11,36 @@ use Rattle.ap_checks.specs.OpenEnvironments.{OpenEnvironment, open_environment}
 use Rattle.ap_checker.specs.declared.rules.Rule.{Rule}
 use Rattle.ap_checker.specs.declared.scope.Standing.{Standing}
 use Rattle.ap_checker.specs.declared.walk.Pending.{Pending}
-use Rattle.ap_checker.specs.declared.walk.Place.{Place}
+use Rattle.ap_checker.specs.declared.walk.Obligation.{Obligation}
 use Rattle.ap_checker.specs.declared.walk.Walk.{Walk}
 use Rattle.ap_checker.specs.Rules.{rule_number}
 use Rattle.ap_checker.specs.Scopes.{environment_of}
 
-abbrev pub derivation_at : Place → NominalDerivation
+abbrev pub derivation_at : Obligation → NominalDerivation
 derivation_at t = derivation_of t.derivation.now
 
-abbrev pub goal_at : Place → NominalGoal
+abbrev pub goal_at : Obligation → NominalGoal
 goal_at t = goal_of t.goal.now
 
-abbrev pub kinds_at : Place → List NominalKind
+abbrev pub kinds_at : Obligation → List NominalKind
 kinds_at t = kinds_of (locals_of t.locals.now)
 
-abbrev pub pending_at : Place → ℕ → Pending
-pending_at t n = record { place = t; mark = n }
+abbrev pub pending_at : Obligation → ℕ → Pending
+pending_at t n = record { obligation = t; mark = n }
 
 -- the first refusal of a node and of those below it, where it has this number
-abbrev pub refusal_at : NominalProgram → NominalAnswer → ℕ → Place → OpenEnvironment → Option Refusal
+abbrev pub refusal_at : NominalProgram → NominalAnswer → ℕ → Obligation → OpenEnvironment → Option Refusal
 refusal_at p a n t e = refusal p a (kinds_at t) n (derivation_at t) (goal_at t) e
 
 -- the first refusal of all that is left, the next node first, where that has this number
 abbrev pub first_left : NominalProgram → NominalAnswer → ℕ → List Standing → List Pending → Option Refusal
 first_left p a n ss [] = None
-first_left p a n ss (t ∷ ts) = first_refusal (refusal_at p a n t.place (environment_of (take t.mark ss))) (first_left p a (n + node_count (derivation_at t.place)) ss ts)
+first_left p a n ss (t ∷ ts) = first_refusal (refusal_at p a n t.obligation (environment_of (take t.mark ss))) (first_left p a (n + node_count (derivation_at t.obligation)) ss ts)
 
 -- how many nodes are left
 abbrev pub nodes_left : List Pending → ℕ
 nodes_left [] = 0
-nodes_left (t ∷ ts) = node_count (derivation_at t.place) + nodes_left ts
+nodes_left (t ∷ ts) = node_count (derivation_at t.obligation) + nodes_left ts
 
 -- what stands where a node is, stands there also where a later one is
 abbrev pub ArePendingMarked : ℕ → List Pending → Type 0

@@ -2,7 +2,7 @@
 //!
 //! The binders that were passed are kept in pairs beside the terms, so no copy of a body is made: a name means
 //! what another does where both are bound by one pair, or neither is bound and they are one. What is left to
-//! compare stands on a stack, so no term is too deep, and of a term at a place no copy is made either.
+//! compare stands on a stack, so no term is too deep, and of a closure no copy is made either.
 
 ghost use Rattle.std.specs.Prelude.{◌≡◌, ◌++◌, [], ◌∷◌, length, reverse, IfOk, OnOk};
 ghost use Rattle.ap_defs.specs.Freshness.{Conds, alpha_under};
@@ -10,12 +10,12 @@ ghost use Rattle.ap_defs.specs.Terms.{abs, susp, term_of};
 ghost use Rattle.ap_checker.specs.declared.equality.Compared.{Compared};
 ghost use Rattle.ap_checker.specs.Binders.{AreBinders, within_left, within_right};
 ghost use Rattle.ap_checker.specs.Comparisons.{are_alike, mark_of, compared_size};
-ghost use Rattle.ap_checker.specs.Placed.{placed_term};
+ghost use Rattle.ap_checker.specs.Closures.{scoped_term};
 ghost use Rattle.ap_checker.specs.Stacks.{AreWithin, IsTestedThere};
 
 use crate::binders::Binders;
+use crate::closures::{Closure, Head, head_at};
 use crate::index::IndexedAnswer;
-use crate::placed::{Head, Placed, head_at};
 use crate::suspensions::are_all_settled;
 use ap_defs::memory::Memory;
 use ap_defs::terms::{Name, Swap, Term, Var};
@@ -24,8 +24,8 @@ use std::alloc::Global;
 /// Two terms that are yet to be compared, and how many of the pairs of binders stand round them.
 #[derive(Drop)]
 pub(crate) struct Compared<'a> {
-    pub left: Placed<'a>,
-    pub right: Placed<'a>,
+    pub left: Closure<'a>,
+    pub right: Closure<'a>,
     pub mark: usize,
 }
 
@@ -38,7 +38,7 @@ pub(crate) struct Comparison<'a> {
 
 impl<'a> Comparison<'a> {
     /// The two terms come next, within all binders.
-    fn put(&mut self, left: Placed<'a>, right: Placed<'a>) -> Result<(), Memory>
+    fn put(&mut self, left: Closure<'a>, right: Closure<'a>) -> Result<(), Memory>
         ensures binders { self.new.binders ≡ self.old.binders }
         ensures pending { OnOk result (self.new.pending.items ≡ self.old.pending.items
             ++ (record {
@@ -58,15 +58,15 @@ impl<'a> Comparison<'a> {
 fn compare_bodies<'a>(
     walk: &mut Comparison<'a>,
     binders: (Name, Name),
-    left: Placed<'a>,
-    right: Placed<'a>,
+    left: Closure<'a>,
+    right: Closure<'a>,
 ) -> Result<bool, Memory>
     requires within { AreWithin mark_of (length walk.old.binders.pairs.items)
         (reverse walk.old.pending.items) }
     requires found { AreBinders walk.old.binders }
     ensures tested { IfOk result (λ yes. (ds : Conds) (c : Compared) →
-        placed_term c.left ≡ abs binders.0 (placed_term left.entry) →
-        placed_term c.right ≡ abs binders.1 (placed_term right.entry) →
+        scoped_term c.left ≡ abs binders.0 (scoped_term left.entry) →
+        scoped_term c.right ≡ abs binders.1 (scoped_term right.entry) →
         IsTestedThere mark_of (are_alike ds) compared_size c
         walk.old.binders.pairs.items walk.old.pending.items
         walk.new.binders.pairs.items walk.new.pending.items yes) }
@@ -152,15 +152,15 @@ fn compare<'a>(
     }
 }
 
-/// Whether two terms at places are equal under the answer's conditions.
+/// Whether the terms of two closures are equal under the answer's conditions.
 pub(crate) fn are_equal_at(
     alloc: Global,
     answer: &IndexedAnswer<'_>,
-    t: Placed<'_>,
-    u: Placed<'_>,
+    t: Closure<'_>,
+    u: Closure<'_>,
 ) -> Result<bool, Memory>
     ensures { IfOk result (λ yes. yes
-        ≡ alpha_under answer.now.conds (placed_term t.entry) (placed_term u.entry)) }
+        ≡ alpha_under answer.now.conds (scoped_term t.entry) (scoped_term u.entry)) }
 {
     let mut walk = Comparison {
         binders: Binders::new(alloc),
@@ -186,5 +186,5 @@ pub fn are_equal_under(
     ensures { IfOk result (λ yes. yes
         ≡ alpha_under answer.now.conds (term_of t.now) (term_of u.now)) }
 {
-    are_equal_at(alloc, answer, Placed::Whole(t), Placed::Whole(u))
+    are_equal_at(alloc, answer, Closure::Whole(t), Closure::Whole(u))
 }

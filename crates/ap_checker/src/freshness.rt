@@ -5,11 +5,11 @@ ghost use Rattle.ap_defs.specs.Freshness.{fresh_under, has_cond};
 ghost use Rattle.ap_defs.specs.Permutations.{act_name, inverse};
 ghost use Rattle.ap_defs.specs.Terms.{term_of};
 ghost use Rattle.ap_checker.specs.Comparisons.{is_fresh_for, size_at};
-ghost use Rattle.ap_checker.specs.Placed.{placed_term};
+ghost use Rattle.ap_checker.specs.Closures.{scoped_term};
 ghost use Rattle.ap_checker.specs.Stacks.{IsTested};
 
+use crate::closures::{Closure, Head, head_at};
 use crate::index::IndexedAnswer;
-use crate::placed::{Head, Placed, head_at};
 use crate::swappings::{is_same, preimage};
 use ap_defs::memory::Memory;
 use ap_defs::terms::{Cond, Name, Swap, Term, Var};
@@ -30,8 +30,8 @@ fn look<'a>(
     alloc: Global,
     answer: &IndexedAnswer<'_>,
     a: Name,
-    pending: &mut Vec<Placed<'a>>,
-    t: Placed<'a>,
+    pending: &mut Vec<Closure<'a>>,
+    t: Closure<'a>,
 ) -> Result<bool, Memory>
     ensures { IfOk result (λ yes. IsTested (is_fresh_for answer.now.conds a) size_at t.entry
         pending.old.items pending.new.items yes) }
@@ -59,15 +59,15 @@ fn look<'a>(
     }
 }
 
-/// Whether the name is fresh for the term at a place under the answer's conditions. The parts of the term
+/// Whether the name is fresh for the closure's term under the answer's conditions. The parts of the term
 /// that are left stand on a stack, so none is too deep.
 pub(crate) fn is_fresh_at(
     alloc: Global,
     answer: &IndexedAnswer<'_>,
     a: Name,
-    t: Placed<'_>,
+    t: Closure<'_>,
 ) -> Result<bool, Memory>
-    ensures { IfOk result (λ yes. yes ≡ fresh_under answer.now.conds a (placed_term t.entry)) }
+    ensures { IfOk result (λ yes. yes ≡ fresh_under answer.now.conds a (scoped_term t.entry)) }
 {
     let mut pending = Vec::new(alloc);
     pending.push(t)?;
@@ -88,5 +88,5 @@ pub fn is_fresh_under(
 ) -> Result<bool, Memory>
     ensures { IfOk result (λ yes. yes ≡ fresh_under answer.now.conds a (term_of t.now)) }
 {
-    is_fresh_at(alloc, answer, a, Placed::Whole(t))
+    is_fresh_at(alloc, answer, a, Closure::Whole(t))
 }

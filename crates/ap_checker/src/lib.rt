@@ -10,6 +10,7 @@
 
 mod answers;
 mod binders;
+mod closures;
 pub mod equality;
 mod fits;
 mod free;
@@ -22,7 +23,6 @@ pub mod lookups;
 mod new_names;
 mod nodes;
 mod outside;
-mod placed;
 pub mod rules;
 pub mod scope;
 mod suspensions;

@@ -2,12 +2,12 @@
 
 ghost use Rattle.std.specs.Prelude.{◌≡◌, IfOk};
 ghost use Rattle.ap_checks.specs.Checks.{are_different, equal_each, is_fresh};
-ghost use Rattle.ap_checker.specs.Placed.{placed_term, placed_terms};
+ghost use Rattle.ap_checker.specs.Closures.{scoped_term, scoped_terms};
 
+use crate::closures::{Closure, Head, ScopedTerms, head_at};
 use crate::equality::are_equal_at;
 use crate::freshness::is_fresh_at;
 use crate::index::IndexedAnswer;
-use crate::placed::{Head, Placed, PlacedTerms, head_at};
 use ap_defs::memory::Memory;
 use ap_defs::terms::Name;
 use std::alloc::Global;
@@ -31,18 +31,18 @@ pub(crate) fn all_differ(alloc: Global, names: &[Name]) -> Result<bool, Memory>
 pub(crate) fn all_equal(
     alloc: Global,
     answer: &IndexedAnswer<'_>,
-    left: PlacedTerms<'_>,
-    right: PlacedTerms<'_>,
+    left: ScopedTerms<'_>,
+    right: ScopedTerms<'_>,
 ) -> Result<bool, Memory>
     ensures { IfOk result (λ yes. yes ≡
-        equal_each answer.now.conds (placed_terms left.entry) (placed_terms right.entry)) }
+        equal_each answer.now.conds (scoped_terms left.entry) (scoped_terms right.entry)) }
 {
     if left.terms.len() != right.terms.len() {
         return Ok(false);
     }
     for i in 0..left.terms.len() {
-        let t = Placed::Within(left.scope, &left.terms[i]);
-        let u = Placed::Within(right.scope, &right.terms[i]);
+        let t = Closure::Within(left.scope, &left.terms[i]);
+        let u = Closure::Within(right.scope, &right.terms[i]);
         if !are_equal_at(alloc, answer, t, u)? {
             return Ok(false);
         }
@@ -54,11 +54,11 @@ pub(crate) fn all_equal(
 pub(crate) fn is_name_fresh(
     alloc: Global,
     answer: &IndexedAnswer<'_>,
-    left: Placed<'_>,
-    right: Placed<'_>,
+    left: Closure<'_>,
+    right: Closure<'_>,
 ) -> Result<bool, Memory>
     ensures { IfOk result (λ yes. yes ≡
-        is_fresh answer.now.conds (placed_term left.entry) (placed_term right.entry)) }
+        is_fresh answer.now.conds (scoped_term left.entry) (scoped_term right.entry)) }
 {
     match head_at(alloc, &left)? {
         Head::Name(a) => is_fresh_at(alloc, answer, a, right),

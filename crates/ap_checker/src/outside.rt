@@ -1,4 +1,4 @@
-//! Copies of terms at places, which are made part by part.
+//! Copies of the terms of closures, which are made part by part.
 //!
 //! A term of a derivation can be nested as deep as whoever made it wants, on either side. What stands round
 //! the part that is still to be made is kept in lists, so no term is too deep.
@@ -7,9 +7,9 @@ ghost use Rattle.std.specs.Prelude.{◌≡◌, ◌<◌, ℕ, [], ◌∷◌, ◌+
 ghost use Rattle.ap_defs.specs.Terms.{term_of};
 ghost use Rattle.ap_defs.specs.Unification.{size};
 ghost use Rattle.ap_checker.specs.Outsides.{IsNext};
-ghost use Rattle.ap_checker.specs.Placed.{head_term, placed_term};
+ghost use Rattle.ap_checker.specs.Closures.{head_term, scoped_term};
 
-use crate::placed::{Head, Placed, head_at};
+use crate::closures::{Closure, Head, head_at};
 use ap_defs::lists::List;
 use ap_defs::memory::Memory;
 use ap_defs::spines::{TermLayer, close_term};
@@ -22,7 +22,7 @@ use std::mem;
 #[derive(Drop)]
 pub(crate) struct Half<'a> {
     pub layers: Vec<TermLayer>,
-    pub right: Placed<'a>,
+    pub right: Closure<'a>,
 }
 
 /// What stands round a part that is still to be made: halves of pairs, the innermost last, and the layers
@@ -36,7 +36,7 @@ pub(crate) struct Outside<'a> {
 /// What comes next: a part that is to be made, or nothing, where the whole was made.
 #[derive(Drop)]
 pub(crate) enum Next<'a> {
-    Part(Placed<'a>),
+    Part(Closure<'a>),
     Whole(Term),
 }
 
@@ -62,7 +62,7 @@ impl<'a> Outside<'a> {
     }
 
     /// The left part of a pair is to be made first.
-    fn halve(&mut self, alloc: Global, right: Placed<'a>) -> Result<(), Memory>
+    fn halve(&mut self, alloc: Global, right: Closure<'a>) -> Result<(), Memory>
         ensures halves { OnOk result (self.new.halves.items ≡ self.old.halves.items
             ++ (record { layers = self.old.layers; right = right.entry }) ∷ []) }
         ensures layers { OnOk result (self.new.layers.items ≡ []) }
@@ -113,10 +113,10 @@ impl<'a> Outside<'a> {
     }
 }
 
-/// A copy of a term at a place, with what stands there put in and swappings carried out: they wait in front
-/// of each suspension.
-pub(crate) fn copied(alloc: Global, t: Placed<'_>) -> Result<Term, Memory>
-    ensures { IfOk result (λ u. term_of u ≡ placed_term t.entry) }
+/// A copy of a closure's term, with what stands for its identifiers put in and swappings carried out: they
+/// wait in front of each suspension.
+pub(crate) fn copied(alloc: Global, t: Closure<'_>) -> Result<Term, Memory>
+    ensures { IfOk result (λ u. term_of u ≡ scoped_term t.entry) }
 {
     let mut outside = Outside::new(alloc);
     let mut rest = t;

@@ -6,7 +6,7 @@ ghost use Rattle.ap_checker.specs.Rules.{rule_number, word_of};
 /// Why a node is refused. At a node the least rule counts.
 #[derive(Clone, Copy, PartialEq, Eq)]
 pub enum Rule {
-    /// The node's form isn't that of the goal at its place.
+    /// The node's form isn't that of the goal that it is to prove.
     Shape,
     /// The atom's predicate has no clause of that number.
     Clause,
@@ -14,7 +14,7 @@ pub enum Rule {
     Count,
     /// Two of the names are equal.
     Distinct,
-    /// A name hasn't the sort, or a term not the type, of its place.
+    /// A name hasn't the sort, or a term not the type, of the identifier that it stands for.
     Typing,
     /// An argument of the atom doesn't equal the head's, with the names and terms put in.
     Head,

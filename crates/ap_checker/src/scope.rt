@@ -1,13 +1,13 @@
-//! What stands for the identifiers of an item at a place in its goal, and terms with it put in.
+//! What stands for the identifiers of an item at a node of a derivation, and terms with it put in.
 
 ghost use Rattle.std.specs.Prelude.{◌≡◌, map, IfOk, MatchOption, None, Some};
 ghost use Rattle.ap_defs.specs.Terms.{term_of, unit};
 ghost use Rattle.ap_checks.specs.OpenEnvironments.{put_in, swap_in};
 ghost use Rattle.ap_checker.specs.Scopes.{environment_of, item_term, name_stood, term_brought};
 
+use crate::closures::{Closure, Scope};
 use crate::identifiers::Identifiers;
 use crate::outside::copied;
-use crate::placed::{Placed, Scope};
 use crate::swappings::is_same;
 use ap_defs::memory::Memory;
 use ap_defs::terms::{Name, Swap, Term, Var};
@@ -125,7 +125,7 @@ pub fn put(alloc: Global, scope: &[Standing<'_>], t: &Term) -> Result<Term, Memo
     ensures { IfOk result (λ u. term_of u ≡ put_in (environment_of scope.now) (term_of t.now)) }
 {
     let scope = Scope { standing: scope };
-    copied(alloc, Placed::Within(scope, t))
+    copied(alloc, Closure::Within(scope, t))
 }
 
 /// The terms with their names and variables replaced at once.

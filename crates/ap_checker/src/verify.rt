@@ -15,7 +15,7 @@ use crate::lookups::query_at;
 use crate::rules::Rule;
 use crate::scope::Standing;
 use crate::visits::visit;
-use crate::walk::{Place, Walk};
+use crate::walk::{Obligation, Walk};
 use ap_defs::goals::{Program, Query};
 use ap_defs::memory::Memory;
 use ap_defs::outcomes::{Answer, Derivation, Verdict};
@@ -41,7 +41,7 @@ fn walk_from<'a>(
     };
     let own = Identifiers::of(alloc, locals)?;
     walk.bring(Standing::Query(own, answer.binds.items()))?;
-    walk.put(Place {
+    walk.put(Obligation {
         derivation,
         goal: &query.goal,
         locals,
@@ -66,7 +66,7 @@ fn verdict_on_nodes(
     'nodes: while let Some(next) = walk.pending.pop() {
         node = node.saturating_add(1);
         walk.standing.truncate(next.mark);
-        if let Some(rule) = visit(alloc, program, indexed, &mut walk, next.place)? {
+        if let Some(rule) = visit(alloc, program, indexed, &mut walk, next.obligation)? {
             let rule = rule.number();
             return Ok(Verdict::No { node, rule });
         }

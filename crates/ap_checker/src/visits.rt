@@ -14,6 +14,7 @@ ghost use Rattle.ap_checker.specs.Rules.{refused};
 ghost use Rattle.ap_checker.specs.Scopes.{environment_of};
 ghost use Rattle.ap_checker.specs.Walks.{ArePendingMarked, IsVisited, derivation_at, goal_at, kinds_at, pending_of};
 
+use crate::closures::{Closure, Scope, ScopedTerms};
 use crate::equality::are_equal_at;
 use crate::fits::{counts_fit, names_fit, term_fits, terms_fit};
 use crate::identifiers::Identifiers;
@@ -21,10 +22,9 @@ use crate::index::IndexedAnswer;
 use crate::lookups::clause_at;
 use crate::new_names::is_new;
 use crate::nodes::{all_differ, all_equal, is_name_fresh};
-use crate::placed::{Placed, PlacedTerms, Scope};
 use crate::rules::Rule;
 use crate::scope::Standing;
-use crate::walk::{Place, Walk};
+use crate::walk::{Obligation, Walk};
 use ap_defs::goals::{Clause, Goal, Program};
 use ap_defs::memory::Memory;
 use ap_defs::outcomes::Derivation;
@@ -72,11 +72,11 @@ fn rule_of_clause(
     }
     let own = Identifiers::of(alloc, locals)?;
     let scope = [Standing::Clause(own, used.names, used.terms)];
-    let head = PlacedTerms {
+    let head = ScopedTerms {
         scope: Scope { standing: &scope },
         terms: clause.args.items(),
     };
-    let args = PlacedTerms {
+    let args = ScopedTerms {
         scope: Scope { standing },
         terms: args,
     };
@@ -113,7 +113,7 @@ fn visit_atom<'a>(
     let locals = clause.locals.items();
     let own = Identifiers::of(alloc, locals)?;
     walk.bring(Standing::Clause(own, used.names, used.terms))?;
-    walk.put(Place {
+    walk.put(Obligation {
         derivation: used.body,
         goal: &clause.body,
         locals,
@@ -136,8 +136,8 @@ fn visit_equation(
 {
     let scope = walk.standing.as_slice();
     let scope = Scope { standing: scope };
-    let left = Placed::Within(scope, left);
-    let right = Placed::Within(scope, right);
+    let left = Closure::Within(scope, left);
+    let right = Closure::Within(scope, right);
     if !are_equal_at(alloc, answer, left, right)? {
         return Ok(Some(Rule::Equal));
     }
@@ -159,8 +159,8 @@ fn visit_freshness(
 {
     let scope = walk.standing.as_slice();
     let scope = Scope { standing: scope };
-    let left = Placed::Within(scope, left);
-    let right = Placed::Within(scope, right);
+    let left = Closure::Within(scope, left);
+    let right = Closure::Within(scope, right);
     if !is_name_fresh(alloc, answer, left, right)? {
         return Ok(Some(Rule::Fresh));
     }
@@ -175,7 +175,7 @@ fn visit_exists<'a>(
     walk: &mut Walk<'a>,
     x: Var,
     term: &'a Term,
-    below: Place<'a>,
+    below: Obligation<'a>,
 ) -> Result<Option<Rule>, Memory>
     requires { ArePendingMarked (length walk.old.standing.items) (pending_of walk.old) }
     ensures { IfOk result (λ r. IsVisited (program_of program.now) (answer_of answer.now)
@@ -198,7 +198,7 @@ fn visit_new<'a>(
     walk: &mut Walk<'a>,
     goal: &Goal<Term>,
     names: (Name, Name),
-    below: Place<'a>,
+    below: Obligation<'a>,
 ) -> Result<Option<Rule>, Memory>
     requires marked { ArePendingMarked (length walk.old.standing.items) (pending_of walk.old) }
     requires goal { goal_of goal.now ≡ goals.new names.0 (goal_at below) }
@@ -224,7 +224,7 @@ pub(crate) fn visit<'a>(
     program: &'a Program<Term>,
     answer: &IndexedAnswer<'_>,
     walk: &mut Walk<'a>,
-    at: Place<'a>,
+    at: Obligation<'a>,
 ) -> Result<Option<Rule>, Memory>
     requires { ArePendingMarked (length walk.old.standing.items) (pending_of walk.old) }
     ensures { IfOk result (λ r. IsVisited (program_of program.now) (answer_of answer.now)

@@ -9,9 +9,9 @@ use ap_defs::memory::Memory;
 use ap_defs::outcomes::Derivation;
 use ap_defs::terms::Term;
 
-/// A node, the goal at its place, and the identifiers of the goal's item.
+/// A derivation, the goal that it is to prove, and the identifiers of the goal's item.
 #[derive(Clone, Copy)]
-pub(crate) struct Place<'a> {
+pub(crate) struct Obligation<'a> {
     pub derivation: &'a Derivation,
     pub goal: &'a Goal<Term>,
     pub locals: &'a [Local],
@@ -20,7 +20,7 @@ pub(crate) struct Place<'a> {
 /// A node that is yet to be looked at, and how much of what stands for identifiers stands there.
 #[derive(Clone, Copy)]
 pub(crate) struct Pending<'a> {
-    pub place: Place<'a>,
+    pub obligation: Obligation<'a>,
     pub mark: usize,
 }
 
@@ -31,14 +31,14 @@ pub(crate) struct Walk<'a> {
     pub pending: Vec<Pending<'a>>,
 }
 
-impl<'a> Place<'a> {
+impl<'a> Obligation<'a> {
     /// A node below this one, for a goal in this one's goal.
-    pub(crate) fn below(self, derivation: &'a Derivation, goal: &'a Goal<Term>) -> Place<'a>
+    pub(crate) fn below(self, derivation: &'a Derivation, goal: &'a Goal<Term>) -> Obligation<'a>
         ensures { result
             ≡ record
             { derivation = derivation.entry; goal = goal.entry; locals = self.entry.locals } }
     {
-        Place {
+        Obligation {
             derivation,
             goal,
             locals: self.locals,
@@ -58,14 +58,14 @@ impl<'a> Walk<'a> {
     }
 
     /// The node comes next, where all stands that stands now.
-    pub(crate) fn put(&mut self, place: Place<'a>) -> Result<(), Memory>
+    pub(crate) fn put(&mut self, obligation: Obligation<'a>) -> Result<(), Memory>
         ensures standing { self.new.standing.items ≡ self.old.standing.items }
         ensures pending { OnOk result (self.new.pending.items
-            ≡ self.old.pending.items ++ pending_at place.entry (length self.old.standing.items)
+            ≡ self.old.pending.items ++ pending_at obligation.entry (length self.old.standing.items)
             ∷ []) }
     {
         let mark = self.standing.len();
-        self.pending.push(Pending { place, mark })?;
+        self.pending.push(Pending { obligation, mark })?;
         Ok(())
     }
 }

@@ -1,4 +1,4 @@
--- Places that wait.
+-- Obligations that wait.
 use Rattle.std.proofs.Common.{◌≡◌, ◌<◌, ◌≤◌, ◌+◌, ℕ, zero, suc, min, List, [], ◌∷◌, ◌++◌, map, length, drop, get_or, refl, sym, ap, ap₂, ◌∙◌, arith, add-one, append_assoc, drop-cons}
 use Rattle.std.proofs.lemmas.List.{append-nil}
 use Rattle.std.specs.Prelude.{slice_get, Some, None}
@@ -13,18 +13,18 @@ use Rattle.ap_defs.specs.Terms.{NominalTerm, term_of}
 use Rattle.ap_defs.specs.Types.{local_of, locals_of}
 use Rattle.ap_checks.specs.Checks.{node_count}
 use Rattle.ap_spelling.specs.Words.{NominalGiven, Numbered, kept, numbered_next}
-use Rattle.ap_steps.specs.declared.givens.Place.{Place}
+use Rattle.ap_steps.specs.declared.givens.Obligation.{Obligation}
 use Rattle.ap_steps.specs.Givens.{names_given, vars_given}
-use Rattle.ap_steps.specs.Places.{givens_at, givens_left, places_left}
+use Rattle.ap_steps.specs.Obligations.{givens_at, givens_left, obligation_nodes}
 
--- the last of the places that wait comes first
-pub last_givens : (cs : Clauses) (ps : List Place) (p : Place) → givens_left cs (ps ++ p ∷ []) ≡ givens_at cs p ++ givens_left cs ps
+-- the last of those that wait comes first
+pub last_givens : (cs : Clauses) (ps : List Obligation) (p : Obligation) → givens_left cs (ps ++ p ∷ []) ≡ givens_at cs p ++ givens_left cs ps
 last_givens cs [] p = sym (append-nil (givens_at cs p))
 last_givens cs (q ∷ ps) p = ap (λ xs. xs ++ givens_at cs q) (last_givens cs ps p) ∙ append_assoc (givens_at cs p) (givens_left cs ps) (givens_at cs q)
 
-pub last_places : (ps : List Place) (p : Place) → places_left (ps ++ p ∷ []) ≡ node_count (derivation_of p.derivation.now) + places_left ps
-last_places [] p = omega arith
-last_places (q ∷ ps) p = let more = last_places ps p in omega (arith, more)
+pub last_obligation : (ps : List Obligation) (p : Obligation) → obligation_nodes (ps ++ p ∷ []) ≡ node_count (derivation_of p.derivation.now) + obligation_nodes ps
+last_obligation [] p = omega arith
+last_obligation (q ∷ ps) p = let more = last_obligation ps p in omega (arith, more)
 
 no_words : (as' : List Name) → names_given as' [] ≡ []
 no_words [] = refl

@@ -5,6 +5,6 @@ pub mod Waits
 pub mod Names
 pub mod Givens
 pub mod Spelling
-pub mod Places
+pub mod Obligations
 pub mod Proofs
 pub mod Telling

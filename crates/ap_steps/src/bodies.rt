@@ -33,8 +33,8 @@ pub(crate) enum Piece<'a> {
     Premise(Premise<'a>),
 }
 
-/// A node of a body that is yet to be looked at, the goal at its place, and how much of what stands for
-/// identifiers stands there.
+/// A node of a body that is yet to be looked at, the goal that it is to prove, and how much of what stands
+/// for identifiers stands there.
 #[derive(Clone, Copy)]
 pub(crate) struct Part<'a> {
     pub derivation: &'a Derivation,

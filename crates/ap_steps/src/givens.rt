@@ -12,7 +12,7 @@ ghost use Rattle.ap_defs.specs.Types.{local_of, locals_of};
 ghost use Rattle.ap_spelling.specs.Spelt.{givens_of};
 ghost use Rattle.ap_spelling.specs.Words.{name};
 ghost use Rattle.ap_steps.specs.Givens.{by_local, clause_givens, givens, names_given, var_given, vars_given};
-ghost use Rattle.ap_steps.specs.Places.{givens_at, givens_left, places_left};
+ghost use Rattle.ap_steps.specs.Obligations.{givens_at, givens_left, obligation_nodes};
 
 use ap_answers::locals::variable_texts;
 use ap_checker::lookups::clause_at;
@@ -24,9 +24,9 @@ use ap_defs::terms::{Name, Term};
 use ap_spelling::spelt::Given;
 use std::alloc::Global;
 
-/// A node of a derivation, the goal at its place, and the identifiers of the goal's item.
+/// A derivation, the goal that it is to prove, and the identifiers of the goal's item.
 #[derive(Clone, Copy)]
-pub(crate) struct Place<'a> {
+pub(crate) struct Obligation<'a> {
     pub derivation: &'a Derivation,
     pub goal: &'a Goal<Term>,
     pub locals: &'a [Local],
@@ -101,10 +101,10 @@ fn add_vars_given<'a>(
     Ok(())
 }
 
-/// Has a place wait.
-#[tactic(auto, using(crate::proofs::GivenLemmas::last_givens, crate::proofs::GivenLemmas::last_places))]
+/// Has an obligation wait.
+#[tactic(auto, using(crate::proofs::GivenLemmas::last_givens, crate::proofs::GivenLemmas::last_obligation))]
 fn wait_at<'a>(
-    waiting: &mut Vec<Place<'a>>,
+    waiting: &mut Vec<Obligation<'a>>,
     derivation: &'a Derivation,
     goal: &'a Goal<Term>,
     locals: &'a [Local],
@@ -112,10 +112,10 @@ fn wait_at<'a>(
     ensures givens { (cs : Clauses) → OnOk result (givens_left cs waiting.new.items
         ≡ givens cs (locals_of locals.entry.now) (derivation_of derivation.entry.now)
         (goal_of goal.entry.now) ++ givens_left cs waiting.old.items) }
-    ensures places { OnOk result (places_left waiting.new.items
-        ≡ node_count (derivation_of derivation.entry.now) + places_left waiting.old.items) }
+    ensures nodes { OnOk result (obligation_nodes waiting.new.items
+        ≡ node_count (derivation_of derivation.entry.now) + obligation_nodes waiting.old.items) }
 {
-    waiting.push(Place {
+    waiting.push(Obligation {
         derivation,
         goal,
         locals,
@@ -127,7 +127,7 @@ fn wait_at<'a>(
 fn take_clause<'a>(
     alloc: Global,
     given: &mut Vec<Given<'a>>,
-    waiting: &mut Vec<Place<'a>>,
+    waiting: &mut Vec<Obligation<'a>>,
     clause: &'a Clause<Term>,
     names: &[Name],
     terms: &[Term],
@@ -137,8 +137,8 @@ fn take_clause<'a>(
         ++ givens_left cs waiting.new.items ≡ givens_of given.old.items
         ++ (clause_givens cs (clause_of clause.entry.now) names.now (map term_of terms.now)
         (derivation_of below.entry.now) ++ givens_left cs waiting.old.items)) }
-    ensures places { OnOk result (places_left waiting.new.items
-        ≡ node_count (derivation_of below.entry.now) + places_left waiting.old.items) }
+    ensures nodes { OnOk result (obligation_nodes waiting.new.items
+        ≡ node_count (derivation_of below.entry.now) + obligation_nodes waiting.old.items) }
 {
     let locals = clause.locals.items();
     let words = lent_name_texts(alloc, locals)?;
@@ -189,24 +189,24 @@ fn add_name_at<'a>(
     Ok(())
 }
 
-/// Looks at a place: what is below it waits.
+/// Looks at an obligation: what is below it waits.
 fn look_at<'a>(
     alloc: Global,
     program: &'a Program<Term>,
     given: &mut Vec<Given<'a>>,
-    waiting: &mut Vec<Place<'a>>,
-    place: Place<'a>,
+    waiting: &mut Vec<Obligation<'a>>,
+    obligation: Obligation<'a>,
 ) -> Result<(), Memory>
     ensures givens { OnOk result (givens_of given.new.items
         ++ givens_left (program_of program.entry.now).clauses waiting.new.items
         ≡ givens_of given.old.items
-        ++ (givens_at (program_of program.entry.now).clauses place.entry
+        ++ (givens_at (program_of program.entry.now).clauses obligation.entry
         ++ givens_left (program_of program.entry.now).clauses waiting.old.items)) }
-    ensures places { OnOk result (places_left waiting.new.items
-        < node_count (derivation_of place.entry.derivation.now) + places_left waiting.old.items) }
+    ensures nodes { OnOk result (obligation_nodes waiting.new.items
+        < node_count (derivation_of obligation.entry.derivation.now) + obligation_nodes waiting.old.items) }
 {
-    let locals = place.locals;
-    match (place.derivation, place.goal) {
+    let locals = obligation.locals;
+    match (obligation.derivation, obligation.goal) {
         (Derivation::Atom(used, below), Goal::Atom(pred, _)) => {
             let Some(clause) = clause_at(program, *pred, used.clause) else {
                 return Ok(());
@@ -249,7 +249,7 @@ pub(crate) fn givens_in<'a>(
     let mut given = Vec::new(alloc);
     let mut waiting = Vec::new(alloc);
     wait_at(&mut waiting, derivation, goal, locals)?;
-    'places: while let Some(next) = waiting.pop() {
+    'obligations: while let Some(next) = waiting.pop() {
         look_at(alloc, program, &mut given, &mut waiting, next)?;
     }
     Ok(given)

@@ -1,6 +1,6 @@
 use Rattle.std.proofs.Common.{◌++◌, [], ◌∷◌, length, sym, ap, ◌∙◌, subst}
 use Rattle.ap_defs.specs.Freshness.{alpha_under}
-use Rattle.ap_checker.specs.Placed.{placed_term}
+use Rattle.ap_checker.specs.Closures.{scoped_term}
 use Rattle.ap_checker.specs.declared.binders.Binders.{Binders}
 use Rattle.ap_checker.specs.declared.equality.Compared.{Compared}
 use Rattle.ap_checker.specs.Binders.{AreBinders}
@@ -25,7 +25,7 @@ terms-init c =
 pub terms-preserved : goal.terms-preserved
 terms-preserved c =
     let ds = c.args.answer.now.conds in
-    let whole = alpha_under ds (placed_term c.args.t) (placed_term c.args.u) in
+    let whole = alpha_under ds (scoped_term c.args.t) (scoped_term c.args.u) in
     record {
       all =
           turn_true mark_of (are_alike ds) compared_size whole c.in-Some.next c.terms.walk.binders.pairs.items c.truncate.new.self.pairs.items c.compare.new.walk.binders.pairs.items

@@ -2,7 +2,7 @@
 use Rattle.std.proofs.Common.{◌≡◌, length, reverse}
 use Rattle.std.specs.List.{sum_by}
 use Rattle.ap_defs.specs.Freshness.{alpha_under}
-use Rattle.ap_checker.specs.Placed.{placed_term}
+use Rattle.ap_checker.specs.Closures.{scoped_term}
 use Rattle.ap_checker.specs.Binders.{AreBinders}
 use Rattle.ap_checker.specs.Comparisons.{are_alike, mark_of, compared_size}
 use Rattle.ap_checker.specs.Stacks.{AreWithin, all_waiting}
@@ -10,7 +10,7 @@ use Rattle.ap_checker.proofs.equality.are_equal_at.Given as goal
 
 abbrev pub invariant-terms : goal.invariant-terms
 invariant-terms l = record {
-  all : all_waiting mark_of (are_alike l.answer.conds) l.walk.binders.pairs.items (reverse l.walk.pending.items) ≡ alpha_under l.answer.conds (placed_term l.fn.t) (placed_term l.fn.u);
+  all : all_waiting mark_of (are_alike l.answer.conds) l.walk.binders.pairs.items (reverse l.walk.pending.items) ≡ alpha_under l.answer.conds (scoped_term l.fn.t) (scoped_term l.fn.u);
   within : AreWithin mark_of (length l.walk.binders.pairs.items) (reverse l.walk.pending.items);
   found : AreBinders l.walk.binders;
 }

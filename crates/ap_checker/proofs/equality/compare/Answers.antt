@@ -4,8 +4,8 @@ use Rattle.ap_defs.specs.Terms.{app, pair}
 use Rattle.ap_defs.specs.Unification.{size}
 use Rattle.ap_checker.specs.declared.binders.Binders.{Binders}
 use Rattle.ap_checker.specs.Comparisons.{are_alike, mark_of, compared_size}
-use Rattle.ap_checker.specs.Placed.{head_term, placed_term}
-use Rattle.ap_checker.specs.declared.placed.Head.{Head}
+use Rattle.ap_checker.specs.Closures.{head_term, scoped_term}
+use Rattle.ap_checker.specs.declared.closures.Head.{Head}
 use Rattle.ap_checker.proofs.ComparisonLemmas.{alike, apps, others, pairs}
 use Rattle.ap_checker.proofs.HeadLemmas.{Apart, apart_from, other_than_abs, other_than_app, other_than_name, other_than_pair, other_than_susp, other_than_unit}
 use Rattle.ap_checker.proofs.StackLemmas.{left_here, left_two}
@@ -16,13 +16,13 @@ pub returns-in-Pair-Pair-clause-tested : goal.returns-in-Pair-Pair-clause-tested
 returns-in-Pair-Pair-clause-tested c =
     let ds = c.args.answer.now.conds in
     let ss = c.args.walk.now.binders.pairs.items in
-    let t = placed_term c.in-Pair-Pair.t in
-    let u = placed_term c.in-Pair-Pair.u in
-    let v = placed_term c.in-Pair-Pair.v in
-    let w = placed_term c.in-Pair-Pair.w in
-    let left : placed_term c.args.at.left ≡ pair t u = sym c.in_ok-left.ensures ∙ ap head_term c.in-Pair-Pair.is-0 in
-    let right : placed_term c.args.at.right ≡ pair v w = sym c.in_ok-right.ensures ∙ ap head_term c.in-Pair-Pair.is-1 in
-    let whole : size (placed_term c.args.at.left) ≡ 1 + size t + size u = ap size left in
+    let t = scoped_term c.in-Pair-Pair.t in
+    let u = scoped_term c.in-Pair-Pair.u in
+    let v = scoped_term c.in-Pair-Pair.v in
+    let w = scoped_term c.in-Pair-Pair.w in
+    let left : scoped_term c.args.at.left ≡ pair t u = sym c.in_ok-left.ensures ∙ ap head_term c.in-Pair-Pair.is-0 in
+    let right : scoped_term c.args.at.right ≡ pair v w = sym c.in_ok-right.ensures ∙ ap head_term c.in-Pair-Pair.is-1 in
+    let whole : size (scoped_term c.args.at.left) ≡ 1 + size t + size u = ap size left in
     left_two mark_of (are_alike ds) compared_size c.args.at
     (record { left = c.in-Pair-Pair.t; right = c.in-Pair-Pair.v; mark = length c.put.new.self.binders.pairs.items })
     (record { left = c.in-Pair-Pair.u; right = c.in-Pair-Pair.w; mark = length ss })
@@ -35,12 +35,12 @@ pub returns-in-App-App-clause-tested : goal.returns-in-App-App-clause-tested
 returns-in-App-App-clause-tested c =
     let ds = c.args.answer.now.conds in
     let ss = c.args.walk.now.binders.pairs.items in
-    let t = placed_term c.in-App-App.t in
-    let u = placed_term c.in-App-App.u in
-    let left : placed_term c.args.at.left ≡ app c.in-App-App.f t = sym c.in_ok-left.ensures ∙ ap head_term c.in-App-App.is-0 in
-    let right : placed_term c.args.at.right ≡ app c.in-App-App.g u = sym c.in_ok-right.ensures ∙ ap head_term c.in-App-App.is-1 in
+    let t = scoped_term c.in-App-App.t in
+    let u = scoped_term c.in-App-App.u in
+    let left : scoped_term c.args.at.left ≡ app c.in-App-App.f t = sym c.in_ok-left.ensures ∙ ap head_term c.in-App-App.is-0 in
+    let right : scoped_term c.args.at.right ≡ app c.in-App-App.g u = sym c.in_ok-right.ensures ∙ ap head_term c.in-App-App.is-1 in
     let same : (c.in-App-App.f == c.in-App-App.g) ≡ true = grind (arith, nat_tests, c.if-f-g.false) in
-    let whole : size (placed_term c.args.at.left) ≡ 1 + size t = ap size left in
+    let whole : size (scoped_term c.args.at.left) ≡ 1 + size t = ap size left in
     left_here mark_of (are_alike ds) compared_size c.args.at (record { left = c.in-App-App.t; right = c.in-App-App.u; mark = length ss })
     ss c.put-in-App-App.new.self.binders.pairs.items c.args.walk.now.pending.items c.put-in-App-App.new.self.pending.items c.requires.within
     (ap (λ (z : Binders). z.pairs.items) c.put-in-App-App.ensures.binders) refl c.in_ok-put-in-App-App.ensures.pending

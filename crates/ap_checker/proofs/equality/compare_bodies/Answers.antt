@@ -1,7 +1,7 @@
 use Rattle.std.proofs.Common.{◌≡◌, ◌==◌, true, false, refl, length, sym, ap, ap₂, ◌∙◌, arith}
 use Rattle.std.proofs.lemmas.Bool.Decides.{nat_tests}
 use Rattle.ap_defs.specs.Freshness.{alpha_under}
-use Rattle.ap_checker.specs.Placed.{placed_term}
+use Rattle.ap_checker.specs.Closures.{scoped_term}
 use Rattle.ap_defs.specs.Unification.{size}
 use Rattle.ap_theory.proofs.TermLemmas.{number_same}
 use Rattle.ap_checker.specs.declared.binders.Binders.{Binders}
@@ -17,7 +17,7 @@ returns-then-a-b-clause-tested c = λ ds p l r.
     let a = c.args.binders.0 in
     let b = c.args.binders.1 in
     let sorts : (a.sort == b.sort) ≡ false = grind (arith, nat_tests, c.if-a-b.true) in
-    ap₂ (λ t u. alpha_under ds (within_left ss t) (within_right ss u)) l r ∙ other_sorts ds ss a b (placed_term c.args.left) (placed_term c.args.right) sorts
+    ap₂ (λ t u. alpha_under ds (within_left ss t) (within_right ss u)) l r ∙ other_sorts ds ss a b (scoped_term c.args.left) (scoped_term c.args.right) sorts
 
 pub returns-then-mean_same-clause-tested : goal.returns-then-mean_same-clause-tested
 returns-then-mean_same-clause-tested c = λ ds p l r.
@@ -28,7 +28,7 @@ returns-then-mean_same-clause-tested c = λ ds p l r.
     let sizes = ap size l in
     left_here mark_of (are_alike ds) compared_size p (record { left = c.args.left; right = c.args.right; mark = length ss }) ss c.put.new.self.binders.pairs.items c.args.walk.now.pending.items
     c.put.new.self.pending.items c.requires.within (ap (λ (z : Binders). z.pairs.items) c.put.ensures.binders) refl c.in_ok-put.ensures.pending
-    (ap₂ (λ t u. alpha_under ds (within_left ss t) (within_right ss u)) l r ∙ known_binders ds ss a b (placed_term c.args.left) (placed_term c.args.right) known) (omega (arith, sizes))
+    (ap₂ (λ t u. alpha_under ds (within_left ss t) (within_right ss u)) l r ∙ known_binders ds ss a b (scoped_term c.args.left) (scoped_term c.args.right) known) (omega (arith, sizes))
 
 pub returns-clause-tested : goal.returns-clause-tested
 returns-clause-tested c = λ ds p l r.
@@ -42,5 +42,5 @@ returns-clause-tested c = λ ds p l r.
     c.requires.within (ap (λ (z : Binders). z.pairs.items) c.put-2.ensures.binders ∙ c.in_ok-push.ensures.pairs) (ap (λ (z : Binders). length z.pairs.items) (sym c.put-2.ensures.binders))
     c.in_ok-put-2.ensures.pending
     (ap₂ (λ t u. alpha_under ds (within_left ss t) (within_right ss u)) l r
-    ∙ new_binders ds ss a b (placed_term c.args.left) (placed_term c.args.right) (record { sort = a.sort; left = a.num; right = b.num }) refl (number_same a.sort b.sort sorts))
+    ∙ new_binders ds ss a b (scoped_term c.args.left) (scoped_term c.args.right) (record { sort = a.sort; left = a.num; right = b.num }) refl (number_same a.sort b.sort sorts))
     (omega (arith, sizes))

@@ -2,11 +2,11 @@
 use Rattle.std.proofs.Common.{◌≡◌, ◌+◌}
 use Rattle.ap_defs.specs.Unification.{size}
 use Rattle.ap_checker.specs.Outsides.{left_outside, outside_of}
-use Rattle.ap_checker.specs.Placed.{placed_term}
+use Rattle.ap_checker.specs.Closures.{scoped_term}
 use Rattle.ap_checker.proofs.outside.copied.Given as goal
 
 abbrev pub invariant-parts : goal.invariant-parts
-invariant-parts l = outside_of l.outside (placed_term l.rest) ≡ placed_term l.fn.t
+invariant-parts l = outside_of l.outside (scoped_term l.rest) ≡ scoped_term l.fn.t
 
 abbrev pub decreases-parts : goal.decreases-parts
-decreases-parts l = size (placed_term l.rest) + left_outside l.outside
+decreases-parts l = size (scoped_term l.rest) + left_outside l.outside

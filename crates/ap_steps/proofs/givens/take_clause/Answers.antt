@@ -9,7 +9,7 @@ use Rattle.ap_defs.specs.Terms.{term_of}
 use Rattle.ap_defs.specs.Types.{locals_of}
 use Rattle.ap_spelling.specs.Spelt.{givens_of}
 use Rattle.ap_steps.specs.Givens.{givens, names_given, vars_given}
-use Rattle.ap_steps.specs.Places.{givens_left}
+use Rattle.ap_steps.specs.Obligations.{givens_left}
 use Rattle.ap_steps.proofs.GivenLemmas.{clause_next}
 use Rattle.ap_steps.proofs.givens.take_clause.Goals as goal
 

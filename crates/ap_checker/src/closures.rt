@@ -1,4 +1,4 @@
-//! Terms as they stand at places of a derivation, looked at head by head.
+//! Terms in the scope of a node of a derivation, as closures that are looked at head by head.
 //!
 //! What stands for an identifier is as large as whoever made the derivation wants, and stands in a goal as
 //! often as the program names it. So it isn't copied: a term with it put in is the term of the program with
@@ -7,7 +7,7 @@
 ghost use Rattle.std.specs.Prelude.{◌≡◌, IfOk};
 ghost use Rattle.ap_defs.specs.Terms.{act_term, pair, susp, term_of};
 ghost use Rattle.ap_checks.specs.OpenEnvironments.{put_in};
-ghost use Rattle.ap_checker.specs.Placed.{head_term, placed_term};
+ghost use Rattle.ap_checker.specs.Closures.{head_term, scoped_term};
 ghost use Rattle.ap_checker.specs.Scopes.{environment_of};
 
 use crate::scope::{Standing, name_in, put_swaps, term_in};
@@ -17,15 +17,15 @@ use ap_defs::terms::{Name, Swap, Term, Var};
 use std::alloc::Global;
 use std::rc::Rc;
 
-/// What stands for identifiers at a place.
+/// What stands for identifiers at a node.
 #[derive(Clone, Copy)]
 pub(crate) struct Scope<'a> {
     pub standing: &'a [Standing<'a>],
 }
 
-/// A term at a place.
+/// A closure: a term, and what is still to be put into it.
 #[derive(Drop)]
-pub(crate) enum Placed<'a> {
+pub(crate) enum Closure<'a> {
     /// The term itself.
     Whole(&'a Term),
     /// The term of an item, with what stands there for its identifiers put in.
@@ -36,19 +36,19 @@ pub(crate) enum Placed<'a> {
 
 /// Terms of an item, with what stands there for its identifiers put in.
 #[derive(Clone, Copy)]
-pub(crate) struct PlacedTerms<'a> {
+pub(crate) struct ScopedTerms<'a> {
     pub scope: Scope<'a>,
     pub terms: &'a [Term],
 }
 
-/// The head of a term at a place, with the parts below it.
+/// The head of a closure, with the parts below it.
 #[derive(Drop)]
 pub(crate) enum Head<'a> {
     Unit,
     Name(Name),
-    Pair(Placed<'a>, Placed<'a>),
-    App(u32, Placed<'a>),
-    Abs(Name, Placed<'a>),
+    Pair(Closure<'a>, Closure<'a>),
+    App(u32, Closure<'a>),
+    Abs(Name, Closure<'a>),
     Susp(Vec<Swap>, Var),
 }
 
@@ -60,9 +60,9 @@ fn head_of<'a>(alloc: Global, t: &'a Term) -> Result<Head<'a>, Memory>
         Term::Unit => Ok(Head::Unit),
         Term::Name(a) => Ok(Head::Name(*a)),
         Term::Susp(swaps, x) => Ok(Head::Susp(swaps.items().to_vec(alloc)?, *x)),
-        Term::Pair(left, right) => Ok(Head::Pair(Placed::Whole(left), Placed::Whole(right))),
-        Term::App(f, argument) => Ok(Head::App(*f, Placed::Whole(argument))),
-        Term::Abs(a, body) => Ok(Head::Abs(*a, Placed::Whole(body))),
+        Term::Pair(left, right) => Ok(Head::Pair(Closure::Whole(left), Closure::Whole(right))),
+        Term::App(f, argument) => Ok(Head::App(*f, Closure::Whole(argument))),
+        Term::Abs(a, body) => Ok(Head::Abs(*a, Closure::Whole(body))),
     }
 }
 
@@ -86,8 +86,8 @@ fn moved_pair<'a>(swaps: Rc<Vec<Swap>>, left: &'a Term, right: &'a Term) -> Resu
         ≡ act_term swaps.value.items (pair (term_of left.now) (term_of right.now))) }
 {
     let same = swaps.clone()?;
-    let left = Placed::Moved(same, left);
-    let right = Placed::Moved(swaps, right);
+    let left = Closure::Moved(same, left);
+    let right = Closure::Moved(swaps, right);
     Ok(Head::Pair(left, right))
 }
 
@@ -100,10 +100,10 @@ fn moved_head<'a>(alloc: Global, swaps: Rc<Vec<Swap>>, t: &'a Term) -> Result<He
         Term::Name(a) => Ok(Head::Name(image(&swaps, *a))),
         Term::Susp(more, x) => moved_suspension(alloc, &swaps, more.items(), *x),
         Term::Pair(left, right) => moved_pair(swaps, left, right),
-        Term::App(f, argument) => Ok(Head::App(*f, Placed::Moved(swaps, argument))),
+        Term::App(f, argument) => Ok(Head::App(*f, Closure::Moved(swaps, argument))),
         Term::Abs(a, body) => {
             let a = image(&swaps, *a);
-            Ok(Head::Abs(a, Placed::Moved(swaps, body)))
+            Ok(Head::Abs(a, Closure::Moved(swaps, body)))
         }
     }
 }
@@ -135,24 +135,24 @@ fn head_within<'a>(alloc: Global, scope: Scope<'a>, t: &'a Term) -> Result<Head<
         Term::Name(a) => Ok(Head::Name(name_in(scope.standing, *a))),
         Term::Susp(swaps, x) => suspended_head(alloc, scope, swaps.items(), *x),
         Term::Pair(left, right) => {
-            let left = Placed::Within(scope, left);
-            Ok(Head::Pair(left, Placed::Within(scope, right)))
+            let left = Closure::Within(scope, left);
+            Ok(Head::Pair(left, Closure::Within(scope, right)))
         }
-        Term::App(f, argument) => Ok(Head::App(*f, Placed::Within(scope, argument))),
+        Term::App(f, argument) => Ok(Head::App(*f, Closure::Within(scope, argument))),
         Term::Abs(a, body) => {
             let a = name_in(scope.standing, *a);
-            Ok(Head::Abs(a, Placed::Within(scope, body)))
+            Ok(Head::Abs(a, Closure::Within(scope, body)))
         }
     }
 }
 
-/// The head of a term at a place.
-pub(crate) fn head_at<'a>(alloc: Global, t: &Placed<'a>) -> Result<Head<'a>, Memory>
-    ensures { IfOk result (λ h. head_term h ≡ placed_term t.now) }
+/// The head of a closure.
+pub(crate) fn head_at<'a>(alloc: Global, t: &Closure<'a>) -> Result<Head<'a>, Memory>
+    ensures { IfOk result (λ h. head_term h ≡ scoped_term t.now) }
 {
     match t {
-        Placed::Whole(t) => head_of(alloc, t),
-        Placed::Within(scope, t) => head_within(alloc, *scope, t),
-        Placed::Moved(swaps, t) => moved_head(alloc, swaps.clone()?, t),
+        Closure::Whole(t) => head_of(alloc, t),
+        Closure::Within(scope, t) => head_within(alloc, *scope, t),
+        Closure::Moved(swaps, t) => moved_head(alloc, swaps.clone()?, t),
     }
 }

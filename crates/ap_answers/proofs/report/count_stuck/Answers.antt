@@ -1,0 +1,12 @@
+use Rattle.std.proofs.Common.{◌≡◌, ◌∙◌, rules}
+use Rattle.std.proofs.iter.runs.Made.{chains}
+use Rattle.std.specs.List.{count_by}
+use Rattle.ap_defs.specs.Answers.{out_of}
+use Rattle.ap_defs.specs.Lines.{is_stuck}
+use Rattle.ap_answers.proofs.LineLemmas.{counted}
+use Rattle.ap_answers.proofs.report.count_stuck.Goals as goal
+
+pub returns : goal.returns
+returns c =
+    let here : c.count.result ≡ count_by (λ o. is_stuck (out_of o)) c.args.outs.now = search (rules, chains) in
+    here ∙ counted is_stuck c.args.outs.now
