@@ -109,7 +109,7 @@ line_made table ts ks k l e h is = entry_made table ts ks e ∙ ap (λ t. made_b
 entry_within : (n : ℕ) (ks : List Task) (e : Entry) → IsBehind n e → AreTasksWithin n ks → AreTasksWithin n (begun e ++ ks)
 entry_within n ks entry.Unit h w = w
 entry_within n ks (entry.Name a) h w = w
-entry_within n ks (entry.Pair i j) h w = (h.0, (h.1, w))
+entry_within n ks (entry.Pair i j) h w = (h.1, (h.0, w))
 entry_within n ks (entry.App f i) h w = (h, w)
 entry_within n ks (entry.Abs s b i) h w = (h, w)
 entry_within n ks (entry.Susp p x) h w = w

@@ -70,7 +70,7 @@ AreReady (way.Shared t) = IsReadTable t
 
 -- a layer round the first of these terms, or the first two
 abbrev pub layer_closed : Layer → List NominalTerm → Option (List NominalTerm)
-layer_closed layer.Pair ts = first ts >>= λ right. first right.1 >>= λ left. Some (terms.pair left.0 right.0 ∷ left.1)
+layer_closed layer.Pair ts = first ts >>= λ left. first left.1 >>= λ right. Some (terms.pair left.0 right.0 ∷ right.1)
 layer_closed (layer.App f) ts = first ts >>= λ part. Some (terms.app f part.0 ∷ part.1)
 layer_closed (layer.Abs a) ts = first ts >>= λ part. Some (terms.abs a part.0 ∷ part.1)
 
@@ -96,7 +96,7 @@ weigh table (task.Close l ∷ ks) = 1 + weigh table ks
 abbrev pub begun : Entry → List Task
 begun entry.Unit = []
 begun (entry.Name a) = []
-begun (entry.Pair i j) = task.Line i ∷ task.Line j ∷ task.Close layer.Pair ∷ []
+begun (entry.Pair i j) = task.Line j ∷ task.Line i ∷ task.Close layer.Pair ∷ []
 begun (entry.App f i) = task.Line i ∷ task.Close (layer.App f) ∷ []
 begun (entry.Abs s n i) = task.Line i ∷ task.Close (layer.Abs (record { sort = s; num = n })) ∷ []
 begun (entry.Susp p x) = []

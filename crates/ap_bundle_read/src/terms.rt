@@ -62,8 +62,8 @@ fn pair_onto(
     let Some(right) = first_term(&mut terms) else {
         return Ok(None);
     };
-    let left = Box::new(alloc, left)?;
     let right = Box::new(alloc, right)?;
+    let left = Box::new(alloc, left)?;
     at_end(numbers, terms, Term::Pair(left, right))
 }
 
