@@ -3,7 +3,7 @@ ghost use Rattle.std.specs.Prelude.{◌≡◌, ◌<◌, ◌++◌, ◌∷◌, len
 ghost use Rattle.std.specs.Bool.{then_some};
 ghost use Rattle.ap_defs.specs.Terms.{term_of};
 ghost use Rattle.ap_bundle_read.specs.Stacks.{stacked};
-ghost use Rattle.ap_bundle_read.specs.Tables.{AreTasksWithin, IsReadTable, at, begun, layer_closed, made_by, ready, table_terms, weigh};
+ghost use Rattle.ap_bundle_read.specs.Tables.{AreTasksWithin, IsReadTable, term_of_line, begun, layer_closed, made_by, ready, table_terms, weigh_tasks};
 ghost use Rattle.ap_bundle_read.specs.declared.table.expanding.Task.TheVariants as tasks_of;
 
 use crate::table::{Entry, Table};
@@ -143,8 +143,8 @@ fn begin(
         (made_by (table_terms table.now) (reverse tasks.new.items) (stacked term_of made.new.items)
         ≡ made_by (table_terms table.now) (tasks_of.Line line ∷ reverse tasks.old.items)
         (stacked term_of made.old.items)) }
-    ensures lighter { OnOk result (weigh (table_terms table.now) (reverse tasks.new.items)
-        < weigh (table_terms table.now) (tasks_of.Line line ∷ reverse tasks.old.items)) }
+    ensures lighter { OnOk result (weigh_tasks (table_terms table.now) (reverse tasks.new.items)
+        < weigh_tasks (table_terms table.now) (tasks_of.Line line ∷ reverse tasks.old.items)) }
 {
     let entry = &table.lines[line].entry;
     push_tasks(entry, tasks)?;
@@ -155,7 +155,7 @@ fn begin(
 pub(crate) fn expanded(alloc: Global, table: &Table, line: usize) -> Result<Term, Memory>
     requires table { IsReadTable table.now }
     requires within { line < length (table_terms table.now) }
-    ensures { IfOk result (λ t. term_of t ≡ at (table_terms table.now) line) }
+    ensures { IfOk result (λ t. term_of t ≡ term_of_line (table_terms table.now) line) }
 {
     let mut made = Vec::new(alloc);
     let mut tasks = Vec::new(alloc);
