@@ -153,7 +153,7 @@ impl<'a> Table<'a> {
         requires parts { HasParts (held_terms self.old) (term_of term.now) }
         requires words { words.items ≡ entry_words (held_terms self.old) (term_of term.now) }
         ensures table { OnOk result (IsWrittenTable self.new) }
-        ensures held_terms { OnOk result (held_terms self.new
+        ensures held { OnOk result (held_terms self.new
             ≡ with_table_term (held_terms self.old) (term_of term.now)) }
         ensures line { IfOk result (λ i. i ≡ line_of (held_terms self.old) (term_of term.now)) }
     {
@@ -168,7 +168,7 @@ impl<'a> Table<'a> {
     pub(crate) fn enter(&mut self, alloc: Global, term: &'a Term) -> Result<usize, Memory>
         requires { IsWrittenTable self.old }
         ensures table { OnOk result (IsWrittenTable self.new) }
-        ensures held_terms { OnOk result (held_terms self.new
+        ensures held { OnOk result (held_terms self.new
             ≡ grown (held_terms self.old) (term_of term.now ∷ [])) }
         ensures line { IfOk result (λ i. i ≡ line_of (held_terms self.new) (term_of term.now)) }
     {

@@ -173,7 +173,7 @@ fn proved_part<'a>(
 ) -> Result<Vec<u8>, Memory>
     requires { IsWrittenTable table.old }
     ensures table { OnOk result (IsWrittenTable table.new) }
-    ensures held_terms { OnOk result (held_terms table.new
+    ensures held { OnOk result (held_terms table.new
         ≡ grown_as version (held_terms table.old) (flat_map terms_of (map proved_of proved.now))) }
     ensures text { IfOk result (λ bytes. bytes.items
         ≡ spec.proved_part (written_line_as version (held_terms table.new))

@@ -166,7 +166,7 @@ fn wait_for<'a>(
     ensures uses { (program : Clauses) → OnOk result (uses_of_all program waiting.new.items
         ≡ if_any goal.entry (λ g. uses program (derivation_of derivation.now) (goal_of g.now))
         ++ uses_of_all program waiting.old.items) }
-    ensures derivation_weight { OnOk result (weight_of_all waiting.new.items
+    ensures weight { OnOk result (weight_of_all waiting.new.items
         ≤ derivation_weight (derivation_of derivation.now) + weight_of_all waiting.old.items) }
 {
     if let Some(goal) = goal {
@@ -182,7 +182,7 @@ fn wait_for_both<'a>(
     right: &'a Derivation,
     waiting: &mut Vec<Waiting<'a>>,
 ) -> Result<(), Memory>
-    ensures derivation_weight { OnOk result (weight_of_all waiting.new.items
+    ensures weight { OnOk result (weight_of_all waiting.new.items
         ≤ derivation_weight (derivation_of left.now) + derivation_weight (derivation_of right.now)
         + weight_of_all waiting.old.items) }
     ensures uses { (program : Clauses) → OnOk result (uses_of_all program waiting.new.items
@@ -206,7 +206,7 @@ fn count_clause<'a>(
     waiting: &mut Vec<Waiting<'a>>,
     table: &mut Vec<Vec<u64>>,
 ) -> Result<(), Memory>
-    ensures derivation_weight { OnOk result (weight_of_all waiting.new.items
+    ensures weight { OnOk result (weight_of_all waiting.new.items
         ≤ derivation_weight (derivation_of below.now) + weight_of_all waiting.old.items) }
     ensures uses { OnOk result (
         with_uses (uses_of_all (program_in program.now) waiting.new.items) (counts_of table.new)
@@ -228,7 +228,7 @@ fn count_node<'a>(
     waiting: &mut Vec<Waiting<'a>>,
     table: &mut Vec<Vec<u64>>,
 ) -> Result<(), Memory>
-    ensures derivation_weight { OnOk result (weight_of_all waiting.new.items
+    ensures weight { OnOk result (weight_of_all waiting.new.items
         < derivation_weight (derivation_of node.entry.derivation.now)
         + weight_of_all waiting.old.items) }
     ensures uses { OnOk result (

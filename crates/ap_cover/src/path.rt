@@ -17,7 +17,7 @@ struct Waiting<'a> {
 
 /// Has a derivation wait.
 fn wait_for<'a>(derivation: &'a Derivation, waiting: &mut Vec<Waiting<'a>>) -> Result<(), Memory>
-    ensures derivation_weight { OnOk result (weight_waiting waiting.new.items
+    ensures weight { OnOk result (weight_waiting waiting.new.items
         ≡ derivation_weight (derivation_of derivation.now) + weight_waiting waiting.old.items) }
     ensures path { OnOk result (paths_waiting waiting.new.items
         ≡ path (derivation_of derivation.now) ++ paths_waiting waiting.old.items) }
@@ -32,7 +32,7 @@ fn wait_for_both<'a>(
     right: &'a Derivation,
     waiting: &mut Vec<Waiting<'a>>,
 ) -> Result<(), Memory>
-    ensures derivation_weight { OnOk result (weight_waiting waiting.new.items
+    ensures weight { OnOk result (weight_waiting waiting.new.items
         ≡ derivation_weight (derivation_of left.now) + (derivation_weight (derivation_of right.now)
         + weight_waiting waiting.old.items)) }
     ensures path { OnOk result (paths_waiting waiting.new.items
@@ -50,7 +50,7 @@ fn choose_then<'a>(
     waiting: &mut Vec<Waiting<'a>>,
     choices: &mut Vec<u32>,
 ) -> Result<(), Memory>
-    ensures derivation_weight { OnOk result (weight_waiting waiting.new.items
+    ensures weight { OnOk result (weight_waiting waiting.new.items
         ≡ derivation_weight (derivation_of below.now) + weight_waiting waiting.old.items) }
     ensures path { OnOk result (choices.new.items ++ paths_waiting waiting.new.items
         ≡ choices.old.items ++ ((choice ∷ path (derivation_of below.now))
@@ -66,7 +66,7 @@ fn add_node<'a>(
     waiting: &mut Vec<Waiting<'a>>,
     choices: &mut Vec<u32>,
 ) -> Result<(), Memory>
-    ensures derivation_weight { OnOk result (weight_waiting waiting.new.items
+    ensures weight { OnOk result (weight_waiting waiting.new.items
         < derivation_weight (derivation_of node.entry.derivation.now)
         + weight_waiting waiting.old.items) }
     ensures path { OnOk result (choices.new.items ++ paths_waiting waiting.new.items

@@ -83,7 +83,7 @@ fn wait(alloc: Global, waiting: &mut Vec<Vec<Rule>>, base: u32, rule: Rule) -> R
     ensures here { OnOk result (rules_at waiting.new.items base
         ≡ rules_at waiting.old.items base ++ rule ∷ []) }
     ensures others { OnOk result (OthersWait base waiting.old.items waiting.new.items) }
-    ensures rules_weight { OnOk result (later_weight waiting.new.items
+    ensures weight { OnOk result (later_weight waiting.new.items
         ≡ later_weight waiting.old.items + (rule_weight rule + 1)) }
 {
     let place = base as usize;
@@ -97,7 +97,7 @@ fn release(alloc: Global, waiting: &mut Vec<Vec<Rule>>, base: u32) -> Vec<Rule>
     ensures given { result.items ≡ rules_at waiting.old.items base }
     ensures here { rules_at waiting.new.items base ≡ [] }
     ensures others { OthersWait base waiting.old.items waiting.new.items }
-    ensures rules_weight { later_weight waiting.new.items
+    ensures weight { later_weight waiting.new.items
         + (rules_weight result.items + length result.items) ≡ later_weight waiting.old.items }
 {
     let place = base as usize;
