@@ -1,5 +1,6 @@
 pub mod Texts
 mod QueryReports
 mod Limiting
+pub mod WithoutPaths
 pub mod SoundTexts
 pub mod CompleteTexts

@@ -1,6 +1,6 @@
 -- The report on a program is that of its queries, one after the other.
-use Rattle.std.proofs.Common.{◌≡◌, ◌<◌, ◌≤◌, ◌+◌, ◌-◌, ℕ, zero, suc, Bool, true, false, List, [], ◌∷◌, ◌++◌, Some, length, drop, slice_get, map, refl, sym, ap, ◌∙◌, arith}
-use Rattle.std.specs.Prelude.{if◌then◌else◌, codes, filter}
+use Rattle.std.proofs.Common.{◌≡◌, ◌<◌, ◌≤◌, ◌+◌, ◌-◌, ℕ, zero, suc, List, [], ◌∷◌, ◌++◌, Some, length, drop, slice_get, map, refl, sym, ap, ◌∙◌, arith}
+use Rattle.std.specs.Prelude.{codes}
 use Rattle.std.specs.Fmt.{decimal}
 use Rattle.std.proofs.lemmas.List.{append_assoc}
 use Rattle.ap_defs.specs.Goals.{NominalQuery, NominalProgram}
@@ -13,6 +13,7 @@ use Rattle.ap_paths.specs.declared.limits.Limit.{Limit}
 use Rattle.ap_paths.specs.declared.limits.Limit.TheVariants as limits
 use Rattle.ap_answers.specs.Queries.{locals_at, query_locals}
 use Rattle.ap_report.specs.Queries.{limited_from, limited_lines, limited_report, query_report, report_at}
+use Rattle.ap_report.proofs.WithoutPaths.{count_without, cut_without, found_without, stuck_without}
 
 -- Lines do not tell the paths of outputs.
 line_sees_no_path : (o : NominalOut) (ls : List Line) → line_before (without_path o) ls ≡ line_before o ls
@@ -29,28 +30,6 @@ line_sees_no_path (stuck p) (stucks n ∷ ls) = refl
 lines_without : (os : List NominalOut) → lines_of (map without_path os) ≡ lines_of os
 lines_without [] = refl
 lines_without (o ∷ os) = line_sees_no_path o (lines_of (map without_path os)) ∙ ap (line_before o) (lines_without os)
-
-count_without : (test : NominalOut → Bool) → ((o : NominalOut) → test (without_path o) ≡ test o) → (os : List NominalOut) → count_of test (map without_path os) ≡ count_of test os
-count_without test same [] = refl
-count_without test same (o ∷ os) =
-    ap (λ (b : Bool). length (if b then (without_path o ∷ filter test (map without_path os)) else filter test (map without_path os))) (same o)
-    ∙ elim (test o) as (λ b. length (if b then (without_path o ∷ filter test (map without_path os)) else filter test (map without_path os))
-    ≡ length (if b then (o ∷ filter test os) else filter test os)) [ true ↦ ap suc (count_without test same os) | false ↦ count_without test same os ]
-
-found_without : (o : NominalOut) → is_found (without_path o) ≡ is_found o
-found_without (found p a) = refl
-found_without (cut p) = refl
-found_without (stuck p) = refl
-
-cut_without : (o : NominalOut) → is_cut (without_path o) ≡ is_cut o
-cut_without (found p a) = refl
-cut_without (cut p) = refl
-cut_without (stuck p) = refl
-
-stuck_without : (o : NominalOut) → is_stuck (without_path o) ≡ is_stuck o
-stuck_without (found p a) = refl
-stuck_without (cut p) = refl
-stuck_without (stuck p) = refl
 
 -- the lines of a query by what its lines and its totals are
 abbrev lines_by : NominalProgram → ℕ → List NominalLocal → List Line → ℕ → ℕ → ℕ → List ℕ
@@ -88,6 +67,29 @@ lines_of_query program depth limit (suc place) os l m are =
     let here : suc place - 1 ≡ place = omega arith in
     let number : 1 + place ≡ suc place = omega arith in
     rw here (rw number at (lines_at program depth limit 1 program.queries place os (omega arith) (λ q found. are q (rw here found))))
+
+-- the report of the query at a place, where this is what is written of its outputs as far as they are wanted
+there : (program : NominalProgram) (depth : ℕ) (limit : Limit) (k : ℕ) (qs : List NominalQuery) (place : ℕ) (bytes : List ℕ) → place < length qs
+    → ((q : NominalQuery) → slice_get qs place ≡ Some q → bytes ≡ query_lines program (k + place) q.locals (map without_path (part limit (query_outs program.clauses depth q))))
+    → bytes ≡ report_at program depth limit k qs place
+there program depth limit k [] place bytes l are = absurd (omega arith)
+there program depth limit k (q ∷ qs) zero bytes l are =
+    are q refl
+    ∙ lines_alone program (k + 0) q.locals (part limit (query_outs program.clauses depth q))
+    ∙ ap (λ n. query_lines program n q.locals (part limit (query_outs program.clauses depth q))) (let e : k + 0 ≡ k = omega arith in e)
+there program depth limit k (q ∷ qs) (suc place) bytes l are =
+    let e : k + suc place ≡ suc k + place = omega arith in
+    there program depth limit (suc k) qs place bytes (omega arith)
+    (λ r asked. are r asked ∙ ap (λ n. query_lines program n r.locals (map without_path (part limit (query_outs program.clauses depth r)))) e)
+
+pub report_of_query : (program : NominalProgram) (depth : ℕ) (limit : Limit) (query : ℕ) (bytes : List ℕ) → 1 ≤ query → query ≤ length program.queries
+    → ((q : NominalQuery) → slice_get program.queries (query - 1) ≡ Some q → bytes ≡ query_lines program query q.locals (map without_path (part limit (query_outs program.clauses depth q))))
+    → bytes ≡ query_report program depth limit (query - 1)
+report_of_query program depth limit zero bytes l m are = absurd (omega arith)
+report_of_query program depth limit (suc place) bytes l m are =
+    let here : suc place - 1 ≡ place = omega arith in
+    let number : 1 + place ≡ suc place = omega arith in
+    rw here (there program depth limit 1 program.queries place bytes (omega arith) (λ q found. rw number (are q (rw here found))))
 
 -- the reports from a place on are that of the query there, and those after it
 next_report : (program : NominalProgram) (depth : ℕ) (limit : Limit) (k : ℕ) (qs : List NominalQuery) (place : ℕ) → place < length qs

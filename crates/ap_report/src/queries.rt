@@ -14,6 +14,7 @@ use ap_defs::memory::Memory;
 use ap_index::index::Index;
 use ap_io::Gate;
 use ap_paths::Limit;
+use ap_stream::stream_report;
 use std::alloc::Global;
 use std::collections::HashSet;
 use std::sync::Wait;
@@ -26,8 +27,8 @@ fn query_count(program: &Index<'_>) -> u32
     program.program().queries.items().len() as u32
 }
 
-/// The report on a query of a program, whose words are known.
-fn report_query<R: Threads + Wait + Sync, G: Gate>(
+/// The report on a query of a program, whose words are known, by several workers.
+fn report_beside<R: Threads + Wait + Sync, G: Gate>(
     rt: &R,
     alloc: Global,
     gate: &G,
@@ -50,6 +51,29 @@ fn report_query<R: Threads + Wait + Sync, G: Gate>(
         problem.query,
         &outs,
     )
+}
+
+/// The report on a query of a program, whose words are known. One worker writes it as it searches.
+fn report_query<R: Threads + Wait + Sync, G: Gate>(
+    rt: &R,
+    alloc: Global,
+    gate: &G,
+    workers: Workers,
+    limit: Limit,
+    taken: &HashSet<&str>,
+    problem: &Problem<'_>,
+) -> Result<Vec<u8>, Memory>
+    requires words { (w : list ℕ) → knows taken.now w ≡ has_word w problem.now.program.now.words }
+    requires query { HasQuery problem.now }
+    ensures { IfOk result (λ v. v.items
+        ≡ query_report (program_of problem.now.program.now) problem.now.depth limit
+        (problem.now.query - 1)) }
+{
+    if workers.get() == 1 {
+        stream_report(alloc, limit, taken, problem)
+    } else {
+        report_beside(rt, alloc, gate, workers, limit, taken, problem)
+    }
 }
 
 /// The report on each query of the program, to a depth, one after the other: the lines of its outputs up

@@ -97,7 +97,7 @@ pub fn solve<R: Threads + Wait + Sync, G: Gate>(
 
 /// The same as [`solve`], where no path is asked for: none is kept, since each is as long as its output
 /// is deep.
-pub(crate) fn solve_without_paths<R: Threads + Wait + Sync, G: Gate>(
+pub fn solve_without_paths<R: Threads + Wait + Sync, G: Gate>(
     rt: &R,
     alloc: Global,
     gate: &G,

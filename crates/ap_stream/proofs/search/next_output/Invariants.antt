@@ -1,0 +1,20 @@
+use Rattle.std.proofs.Common.{◌≡◌, ◌∷◌, []}
+use Rattle.ap_defs.specs.Goals.{program_in}
+use Rattle.ap_defs.specs.Types.{locals_of}
+use Rattle.ap_stream.specs.Coming.{outs_coming}
+use Rattle.ap_backchain.specs.Machines.{position_of}
+use Rattle.ap_backchain.specs.Searches.{HasPoints, pending_positions}
+use Rattle.ap_backchain.specs.Turns.{turns_from_each}
+use Rattle.ap_stream.proofs.search.next_output.Given as goal
+
+-- no output came so far
+abbrev pub invariant-searching : goal.invariant-searching
+invariant-searching l = record {
+  coming : outs_coming (program_in l.clauses) (locals_of l.locals) l.wanted l.machine l.points
+      ≡ outs_coming (program_in l.clauses) (locals_of l.locals) l.fn.wanted l.fn.machine l.fn.points;
+  none : l.outs.items ≡ [];
+  points : HasPoints l.machine l.points;
+}
+
+abbrev pub decreases-searching : goal.decreases-searching
+decreases-searching l = turns_from_each (program_in l.clauses) (position_of l.machine ∷ pending_positions l.machine l.points)

@@ -1,0 +1,47 @@
+//! The report on a query by one worker.
+
+ghost use Rattle.std.specs.Prelude.{◌≡◌, ◌-◌, ℕ, List as list, Some, IfOk, map, slice_get};
+ghost use Rattle.ap_defs.specs.Answers.{query_outs};
+ghost use Rattle.ap_defs.specs.Goals.{NominalQuery};
+ghost use Rattle.ap_defs.specs.Lines.{query_lines};
+ghost use Rattle.ap_defs.specs.Printing.{has_word};
+ghost use Rattle.ap_answers.specs.Words.{knows};
+ghost use Rattle.ap_backchain.specs.Ends.{without_path};
+ghost use Rattle.ap_backchain.specs.Problems.{HasQuery, program_of_problem, queries_in};
+ghost use Rattle.ap_paths.specs.Limits.{part};
+
+use crate::builder::ReportBuilder;
+use crate::search::Search;
+use ap_backchain::problem::{Problem, query_of_problem};
+use ap_defs::memory::Memory;
+use ap_paths::Limit;
+use std::alloc::Global;
+use std::collections::HashSet;
+
+/// The report on a query to a depth up to the last answer that is wanted, where the words of the text are
+/// known: each output is written as it is found, so that memory is that of the report and of one branch.
+pub fn stream_report(
+    alloc: Global,
+    limit: Limit,
+    taken: &HashSet<&str>,
+    problem: &Problem<'_>,
+) -> Result<Vec<u8>, Memory>
+    requires words { (w : list ℕ) → knows taken.now w ≡ has_word w problem.now.program.now.words }
+    requires query { HasQuery problem.now }
+    ensures { IfOk result (λ v. (q : NominalQuery) →
+        slice_get (queries_in problem.now) (problem.now.query - 1) ≡ Some q →
+        v.items ≡ query_lines (program_of_problem problem.now) problem.now.query q.locals
+        (map without_path (part limit
+        (query_outs (program_of_problem problem.now).clauses problem.now.depth q)))) }
+{
+    let program = problem.program.program();
+    let locals = query_of_problem(problem).locals.items();
+    let mut search = Search::of(alloc, problem, limit)?;
+    let mut builder = ReportBuilder::new(alloc);
+    'searching: loop {
+        let Some(out) = search.next(alloc)? else {
+            return builder.finish(alloc, problem.query);
+        };
+        builder.push(alloc, program, taken, locals, &out)?;
+    }
+}

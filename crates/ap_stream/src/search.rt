@@ -1,0 +1,141 @@
+//! A search that gives its outputs one at a time, without their paths.
+
+ghost use Rattle.std.specs.Prelude.{◌≡◌, ◌-◌, ◌<◌, ◌≤◌, ◌^◌, ◌∷◌, [], false, true, None, Some, IfOk, IfSome, OnOk, length, map, slice_get};
+ghost use Rattle.ap_defs.specs.Answers.{out_of, outs_of, query_outs};
+ghost use Rattle.ap_defs.specs.Goals.{NominalQuery, program_in};
+ghost use Rattle.ap_defs.specs.Types.{locals_of};
+ghost use Rattle.ap_backchain.specs.Below.{AreClausesBelow};
+ghost use Rattle.ap_stream.specs.Coming.{IsSearching, outs_coming, outs_to_come};
+ghost use Rattle.ap_backchain.specs.Ends.{without_path};
+ghost use Rattle.ap_backchain.specs.Problems.{HasQuery, clauses_in, queries_in};
+ghost use Rattle.ap_backchain.specs.Searches.{HasPoints};
+ghost use Rattle.ap_paths.specs.Limits.{IsWanting, part};
+
+use ap_backchain::machine::Machine;
+use ap_backchain::points::ChoicePoint;
+use ap_backchain::problem::{Problem, clauses_of_problem, query_of_problem};
+use ap_backchain::run::{Paths, first_machine, go_on};
+use ap_defs::goals::Local;
+use ap_defs::memory::Memory;
+use ap_defs::paths::Out;
+use ap_index::predicate::Predicate;
+use ap_paths::Limit;
+use std::alloc::Global;
+
+/// The search of a query on its way: the machine from which it goes on, the choices that have ways left,
+/// and what is still wanted, which is nothing once it is over. Its memory is that of the branch where it
+/// stands.
+#[derive(Drop)]
+pub struct Search<'a> {
+    clauses: &'a [Predicate<'a>],
+    locals: &'a [Local],
+    machine: Machine<'a>,
+    points: Vec<ChoicePoint<'a>>,
+    wanted: Limit,
+}
+
+/// Whether an answer is still wanted.
+fn is_wanting(limit: Limit) -> bool
+    ensures yes { result ≡ true → IsWanting limit 0 }
+    ensures no { result ≡ false → limit ≡ Limit.First 0 }
+{
+    match limit {
+        Limit::All => true,
+        Limit::First(count) => count > 0,
+    }
+}
+
+/// The output that a turn added, if it added one.
+fn taken(outs: &mut Vec<Out>) -> Option<Out>
+    requires { length outs.old.items ≤ 1 }
+    ensures some { IfSome result (λ o. outs_of outs.old.items ≡ out_of o ∷ []) }
+    ensures none { result ≡ None → outs_of outs.old.items ≡ [] }
+    ensures taken { outs.new.items ≡ [] }
+{
+    outs.pop()
+}
+
+/// The next output from a machine, if there is one, and the search goes on behind it.
+fn next_output<'a>(
+    alloc: Global,
+    clauses: &'a [Predicate<'a>],
+    locals: &[Local],
+    machine: &mut Machine<'a>,
+    points: &mut Vec<ChoicePoint<'a>>,
+    wanted: &mut Limit,
+) -> Result<Option<Out>, Memory>
+    requires clauses { AreClausesBelow (program_in clauses.now) }
+    requires locals { length locals.now < 2 ^ 64 }
+    requires points { HasPoints machine.old points.old }
+    ensures some { IfOk result (λ o. IfSome o (λ out.
+        outs_coming (program_in clauses.now) (locals_of locals.now)
+        wanted.old machine.old points.old
+        ≡ out_of out ∷ outs_coming (program_in clauses.now) (locals_of locals.now)
+        wanted.new machine.new points.new)) }
+    ensures none { IfOk result (λ o. o ≡ None →
+        outs_coming (program_in clauses.now) (locals_of locals.now)
+        wanted.old machine.old points.old ≡ []) }
+    ensures points { OnOk result (HasPoints machine.new points.new) }
+{
+    let mut outs = Vec::new(alloc);
+    'searching: while is_wanting(*wanted) {
+        if !go_on(
+            alloc,
+            clauses,
+            locals,
+            Paths::Left,
+            machine,
+            points,
+            &mut outs,
+            wanted,
+        )? {
+            *wanted = Limit::First(0);
+            return Ok(taken(&mut outs));
+        }
+        if let Some(out) = taken(&mut outs) {
+            return Ok(Some(out));
+        }
+    }
+    Ok(None)
+}
+
+impl<'a> Search<'a> {
+    /// The search of a query to a depth up to the last answer that is wanted.
+    pub fn of(alloc: Global, p: &Problem<'a>, limit: Limit) -> Result<Search<'a>, Memory>
+        requires { HasQuery p.now }
+        ensures searching { IfOk result (λ s. IsSearching s) }
+        ensures outs { IfOk result (λ s. (q : NominalQuery) →
+            slice_get (queries_in p.now) (p.now.query - 1) ≡ Some q →
+            outs_to_come s
+            ≡ map without_path (part limit (query_outs (clauses_in p.now) p.now.depth q))) }
+    {
+        let clauses = clauses_of_problem(p);
+        let query = query_of_problem(p);
+        let machine = first_machine(alloc, p.depth, query)?;
+        Ok(Search {
+            clauses,
+            locals: query.locals.items(),
+            machine,
+            points: Vec::new(alloc),
+            wanted: limit,
+        })
+    }
+
+    /// The next output, in order. None says that there is no more.
+    pub fn next(&mut self, alloc: Global) -> Result<Option<Out>, Memory>
+        requires { IsSearching self.old }
+        ensures searching { OnOk result (IsSearching self.new) }
+        ensures some { IfOk result (λ o. IfSome o (λ out.
+            outs_to_come self.old ≡ out_of out ∷ outs_to_come self.new)) }
+        ensures none { IfOk result (λ o. o ≡ None → outs_to_come self.old ≡ []) }
+    {
+        next_output(
+            alloc,
+            self.clauses,
+            self.locals,
+            &mut self.machine,
+            &mut self.points,
+            &mut self.wanted,
+        )
+    }
+}
