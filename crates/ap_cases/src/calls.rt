@@ -1,50 +1,26 @@
 //! The call `cover` on proofs of bundles, and whether what it gives covers them.
 
-ghost use Rattle.std.specs.Prelude.{IfSome};
 ghost use Rattle.ap_backchain.specs.Problems.{HasQuery};
 
 use crate::applied::covers;
+use crate::cases::DIVIDER;
 use crate::covering::path_text;
+use crate::problems::{problem_of, program_of};
 use ap_backchain::problem::{Problem, query_of_problem};
 use ap_bundle_read::read_bundle;
 use ap_checker::verify::verify;
 use ap_cover::ground::is_ground;
 use ap_cover::within::within;
 use ap_coverer::{Covered, cover};
-use ap_defs::limits::SIZE_LIMIT;
 use ap_defs::memory::Memory;
 use ap_defs::outcomes::{Bundle, Proved, Verdict};
 use ap_defs::paths::{Node, Path};
 use ap_defs::terms::Swap;
 use ap_index::index::Index;
-use ap_program::restricted::Restricted;
 use ap_replay::replay::at;
-use ap_text::program_of_text;
 use std::alloc::{AllocError, Global};
-use std::io;
-
-/// The program of a text.
-fn program_of(alloc: Global, text: &[u8]) -> Result<Restricted, Memory> {
-    if text.len() > SIZE_LIMIT {
-        return Err(Memory);
-    }
-    program_of_text(alloc, text).or(Err(Memory))
-}
-
-/// A query of a program, to a depth.
-fn problem_of<'a>(program: &'a Index<'_>, query: u32, depth: u32) -> Option<Problem<'a>>
-    ensures { IfSome result (λ p. HasQuery p) }
-{
-    if 1 <= query && query as usize <= program.program().queries.items().len() {
-        Some(Problem {
-            program: &*program,
-            query,
-            depth,
-        })
-    } else {
-        None
-    }
-}
+use std::fs::Files;
+use std::{fs, io};
 
 /// What covers a proof, if it is one that the call takes.
 fn covered_by(alloc: Global, p: &Problem<'_>, proved: &Proved) -> Result<Option<Covered>, Memory>
@@ -176,7 +152,7 @@ pub fn are_answered(alloc: Global, depth: u32, bytes: &[u8]) -> io::Result<bool>
 }
 
 /// What the call gives for each proof of a bundle, a line for each.
-pub fn lines_of_calls(alloc: Global, depth: u32, bytes: &[u8]) -> io::Result<String> {
+fn lines_of_calls(alloc: Global, depth: u32, bytes: &[u8]) -> io::Result<String> {
     let calls = calls_on(alloc, depth, bytes).map_err(|_| AllocError)?;
     let mut lines = String::new(alloc);
     for call in calls.as_slice() {
@@ -189,4 +165,17 @@ pub fn lines_of_calls(alloc: Global, depth: u32, bytes: &[u8]) -> io::Result<Str
         lines.push_str(&format!(in alloc; "{line}{holds}\n")?)?;
     }
     Ok(lines)
+}
+
+/// Writes what the call gives for each proof of a file's bundles, each of which stands behind a line with a depth.
+pub fn call_file<R: AllocGlobal + Files + Print>(rt: &R, name: &str) -> io::Result<()> {
+    let file = fs::read_to_string(rt, name)?;
+    for part in file.split(DIVIDER) {
+        if let Some((depth, bundle)) = part.split_once('\n') {
+            let depth = depth.parse::<u32>().unwrap_or(0);
+            let lines = lines_of_calls(rt.alloc(), depth, bundle.as_bytes())?;
+            print!(rt; "{lines}")?;
+        }
+    }
+    Ok(())
 }

@@ -1,16 +1,7 @@
 //! Texts and what they are read as, one after the other, and then large texts, each of which is read, written back
 //! and dropped: queries with a million parts, and queries that are nested 250 deep.
 //!
-//! The texts stand in the files of the folder that this program is run in, with lines of four dashes between them.
-#![tactic(auto)]
-
-mod nested;
-mod reading;
-mod round;
-mod shapes;
-mod shown;
-mod typed;
-mod written;
+//! The texts stand in the files of the folder `read`, with lines of four dashes between them.
 
 use crate::round::round_of;
 use crate::shapes::{SHAPES, goal_of_shape};
@@ -30,12 +21,13 @@ const FILES: [(&str, Kind); 9] = [
     ("typed", Kind::Typed),
 ];
 
-const DIVIDER: &str = "\n----\n";
+/// What divides the parts of a file.
+pub const DIVIDER: &str = "\n----\n";
 
 /// Writes each text of a file, and what it is read as.
 fn read_file<R: AllocGlobal + Files + Print>(rt: &R, name: &str, kind: Kind) -> io::Result<()> {
     println!(rt; "% {name}")?;
-    let all = fs::read_to_string(rt, name)?;
+    let all = fs::read_to_string(rt, &format!(in rt.alloc(); "read/{name}")?)?;
     for text in all.trim_end().split(DIVIDER) {
         let shown = shown(rt.alloc(), kind, text)?;
         println!(rt; "{text}\n{shown}")?;
@@ -53,9 +45,10 @@ fn go_round<R: AllocGlobal + Print>(rt: &R) -> io::Result<()> {
     Ok(())
 }
 
-fn main(rt: HostRuntime) -> io::Result<()> {
+/// Reads the texts of all files, and the large texts.
+pub fn read_all<R: AllocGlobal + Files + Print>(rt: &R) -> io::Result<()> {
     for (name, kind) in &FILES {
-        read_file(&rt, name, *kind)?;
+        read_file(rt, name, *kind)?;
     }
-    go_round(&rt)
+    go_round(rt)
 }

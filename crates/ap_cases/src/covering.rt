@@ -1,11 +1,15 @@
 //! The ground proofs among the derivations of a text's answers, and what `cover` is to write for them.
+//!
+//! Those without variables and conditions are ground proofs, and `cover` is to write that each is covered by the answer
+//! that it is of: for both versions of their bundle, by one worker and by several, and with the names of each proof
+//! exchanged in a way of its own. The library's call is made on each of them too, and it is looked at term by term whether
+//! what it gives covers the proof.
 
-use crate::call::is_written;
+use crate::bundles::both_versions;
 use crate::calls::are_answered;
+use crate::proving::{Written, is_written};
 use crate::renamed::renamed;
-use ap_bundle::version::Version;
 use ap_bundle_read::read_bundle;
-use ap_bundle_write::write_version;
 use ap_cover::ground::is_ground;
 use ap_cover::path::path_of;
 use ap_defs::lists::List;
@@ -84,10 +88,9 @@ fn ground_proofs(alloc: Global, all: Vec<Proved>) -> Result<(Vec<Proved>, String
 /// So many ground proofs of a text: their bundle in both versions, and with their names exchanged; and what `cover`
 /// is to write of them.
 #[derive(Drop)]
-pub struct Grounds {
-    pub count: usize,
-    full: Vec<u8>,
-    shared: Vec<u8>,
+struct Grounds {
+    count: usize,
+    written: Written,
     renamed: Vec<u8>,
     lines: String,
 }
@@ -101,16 +104,14 @@ fn grounds_in(alloc: Global, bytes: &[u8]) -> Result<(Bundle, String), Memory> {
 }
 
 /// The ground proofs of a text's bundle, as they are written.
-pub fn grounds_of(alloc: Global, bytes: &[u8]) -> io::Result<Grounds> {
+fn grounds_of(alloc: Global, bytes: &[u8]) -> io::Result<Grounds> {
     let (bundle, lines) = grounds_in(alloc, bytes).map_err(|_| AllocError)?;
-    let full = write_version(alloc, &bundle, Version::One).map_err(|_| AllocError)?;
-    let shared = write_version(alloc, &bundle, Version::Two).map_err(|_| AllocError)?;
-    let renamed = renamed(alloc, &full, bundle.text.items().len())?;
+    let written = both_versions(alloc, &bundle).map_err(|_| AllocError)?;
+    let renamed = renamed(alloc, &written.full, bundle.text.items().len())?;
     let count = bundle.proved.items().len();
     Ok(Grounds {
         count,
-        full,
-        shared,
+        written,
         renamed,
         lines,
     })
@@ -118,18 +119,31 @@ pub fn grounds_of(alloc: Global, bytes: &[u8]) -> io::Result<Grounds> {
 
 /// Whether `cover` writes of each of these proofs, in both versions and with its names exchanged, that the answer
 /// covers it that it is of, and the library's call gives values by which it does.
-pub fn are_covered<R: Threads + Wait + Sync + AllocGlobal>(
+fn are_covered<R: Threads + Wait + Sync + AllocGlobal>(
     rt: &R,
     depth: &str,
     grounds: &Grounds,
 ) -> io::Result<bool> {
     let wanted = grounds.lines.as_bytes();
     let alone = ["cover", "--depth", depth];
-    let full = is_written(rt, &alone, &grounds.full, wanted)?;
+    let full = is_written(rt, &alone, &grounds.written.full, wanted)?;
     let many = ["cover", "--depth", depth, "--workers", "8"];
-    let shared = is_written(rt, &many, &grounds.shared, wanted)?;
+    let shared = is_written(rt, &many, &grounds.written.shared, wanted)?;
     let renamed = is_written(rt, &many, &grounds.renamed, wanted)?;
     let number = depth.parse::<u32>().unwrap_or(0);
-    let called = are_answered(rt.alloc(), number, &grounds.shared)?;
+    let called = are_answered(rt.alloc(), number, &grounds.written.shared)?;
     Ok(full && shared && renamed && called && are_answered(rt.alloc(), number, &grounds.renamed)?)
+}
+
+/// How many ground proofs a bundle of a text's answers has, and a line where `cover` writes otherwise for them.
+pub fn cover_bundle<R: Threads + Wait + Sync + AllocGlobal + Print>(
+    rt: &R,
+    depth: &str,
+    bytes: &[u8],
+) -> io::Result<usize> {
+    let grounds = grounds_of(rt.alloc(), bytes)?;
+    if grounds.count > 0 && !are_covered(rt, depth, &grounds)? {
+        println!(rt; "% cover writes otherwise")?;
+    }
+    Ok(grounds.count)
 }

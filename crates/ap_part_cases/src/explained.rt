@@ -1,13 +1,13 @@
 //! Texts, one after the other, and what is written of each on standard error: of its fault, or beside its report.
 //!
-//! The texts stand in the files of the folder that this program is run in. A file has parts that lines of
-//! four dashes divide: a beginning that all its texts have, and what follows it in each. Where a text has no
-//! fault, its report's totals stand in its comments.
-#![tactic(auto)]
+//! The texts stand in the files of the folder `explained`. A file has parts that lines of four dashes divide: a
+//! beginning that all its texts have, and what follows it in each. Where a text has no fault, its report's totals stand
+//! in its comments.
 
 ghost use Rattle.std.specs.Prelude.{◌≡◌, ◌≤◌, length};
 ghost use Rattle.ap_defs.specs.Limits.{size_limit};
 
+use crate::texts::DIVIDER;
 use ap_defs::limits::SIZE_LIMIT;
 use ap_defs::memory::Memory;
 use ap_explain::explain_text;
@@ -29,8 +29,6 @@ const FILES: [&str; 10] = [
     "lines.cases",
     "remarks.cases",
 ];
-
-const DIVIDER: &str = "\n----\n";
 
 // Texts that are not UTF-8.
 const BYTES: [&[u8]; 4] = [
@@ -83,7 +81,7 @@ fn run<R: AllocGlobal + Print>(rt: &R, begin: &str, end: &str) -> io::Result<()>
 // Runs the texts of a file.
 fn run_file<R: AllocGlobal + Files + Print>(rt: &R, name: &str) -> io::Result<()> {
     println!(rt; "% {name}")?;
-    let all = fs::read_to_string(rt, name)?;
+    let all = fs::read_to_string(rt, &format!(in rt.alloc(); "explained/{name}")?)?;
     let mut parts = all.trim_end().split(DIVIDER);
     let begin = parts.next().unwrap_or("");
     for end in parts {
@@ -92,12 +90,13 @@ fn run_file<R: AllocGlobal + Files + Print>(rt: &R, name: &str) -> io::Result<()
     Ok(())
 }
 
-fn main(rt: HostRuntime) -> io::Result<()> {
+/// Explains the texts of all files, and those that are not UTF-8.
+pub fn explain_all<R: AllocGlobal + Files + Print>(rt: &R) -> io::Result<()> {
     for name in &FILES {
-        run_file(&rt, name)?;
+        run_file(rt, name)?;
     }
     for text in &BYTES {
-        show(&rt, text)?;
+        show(rt, text)?;
     }
     Ok(())
 }

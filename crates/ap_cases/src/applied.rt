@@ -122,13 +122,13 @@ fn are_met(
     Ok(true)
 }
 
-/// Whether the names of a query stay.
+/// Whether the names of a query stay. Those that `new` brings are none of these.
 fn leave_names(swaps: &[Swap], locals: &[Local]) -> bool {
     let mut num = 0;
     for local in locals {
         if let Kind::Name(sort) = local.kind {
             let name = Name { sort, num };
-            if image(swaps, name) != name {
+            if !local.bound && image(swaps, name) != name {
                 return false;
             }
         }

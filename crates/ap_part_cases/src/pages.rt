@@ -1,5 +1,4 @@
-//! Bundles of files, and what is shown of them: as plain text, and of some as LaTeX and as HTML too.
-#![tactic(auto)]
+//! Bundles of the folder `shown`, and what is shown of them: as plain text, and of some as LaTeX and as HTML too.
 
 use ap_defs::limits::SIZE_LIMIT;
 use ap_pages::pages::Format;
@@ -48,18 +47,19 @@ fn show<R: AllocGlobal + Print>(rt: &R, format: Format, bytes: &[u8]) -> io::Res
 // Shows the bundle of a file in a format.
 fn show_file<R: AllocGlobal + Files + Print>(rt: &R, format: Format, name: &str) -> io::Result<()> {
     println!(rt; "% {name}")?;
-    let bytes = fs::read(rt, name)?;
+    let bytes = fs::read(rt, &format!(in rt.alloc(); "shown/{name}")?)?;
     show(rt, format, bytes.as_slice())
 }
 
-fn main(rt: HostRuntime) -> io::Result<()> {
+/// Shows all bundles.
+pub fn show_all<R: AllocGlobal + Files + Print>(rt: &R) -> io::Result<()> {
     for name in &TEXTS {
-        show_file(&rt, Format::Text, name)?;
+        show_file(rt, Format::Text, name)?;
     }
     for name in &PAGES {
-        show_file(&rt, Format::Text, name)?;
-        show_file(&rt, Format::Latex, name)?;
-        show_file(&rt, Format::Html, name)?;
+        show_file(rt, Format::Text, name)?;
+        show_file(rt, Format::Latex, name)?;
+        show_file(rt, Format::Html, name)?;
     }
     Ok(())
 }
