@@ -11,7 +11,7 @@ use Rattle.ap_defs.specs.Permutations.{left_name, right_name}
 use Rattle.ap_defs.specs.Types.{NominalConstructor, constructor_of}
 use Rattle.ap_defs.specs.Terms.{NominalTerm, pair, app, abs}
 use Rattle.ap_defs.specs.Unification.{size}
-use Rattle.ap_defs.specs.Printing.{Spelling, Place, whole, part, rest, cell, arguments, barred, constructor_in, constructor_text, argument_count, application_text, swaps_text, term_at}
+use Rattle.ap_defs.specs.Printing.{Spelling, TermContext, whole, part, rest, cell, arguments, barred, constructor_in, constructor_text, argument_count, application_text, swaps_text, term_at}
 use Rattle.ap_answers.specs.Places.{pair_opening, pair_closing, between, part_after, arguments_opening, arguments_closing, arguments_place, declared_opening, declared_closing, declared_place, opening, closing, argument_place}
 use Rattle.ap_answers.specs.Swappings.{heads_text}
 
@@ -21,22 +21,22 @@ at_place (c ∷ cs) zero = refl
 at_place (c ∷ cs) (suc f) = at_place cs f
 
 -- What stands round the argument of a declared constructor, which may be missing.
-pub record Declares (cs : List NominalConstructor) (f : ℕ) (c : Option NominalConstructor) (place : Place) : Type 0 where
+pub record Declares (cs : List NominalConstructor) (f : ℕ) (c : Option NominalConstructor) (place : TermContext) : Type 0 where
   pub before : opening cs f place ≡ declared_opening c place
   pub behind : closing cs f place ≡ declared_closing c
   pub at : argument_place cs f ≡ declared_place c
 
-declares : (cs : List Constructor) (f : ℕ) (place : Place) → f ≢ 0 → f ≢ 1 → Declares (map constructor_of cs) f (option_map constructor_of (slice_get cs (f - 2))) place
+declares : (cs : List Constructor) (f : ℕ) (place : TermContext) → f ≢ 0 → f ≢ 1 → Declares (map constructor_of cs) f (option_map constructor_of (slice_get cs (f - 2))) place
 declares cs zero place h k = absurd (h refl)
 declares cs (suc zero) place h k = absurd (k refl)
 declares cs (suc (suc f)) place h k =
     let e : suc (suc f) - 2 ≡ f = omega arith in
     rw (e, at_place cs f) (record { before = refl; behind = refl; at = refl })
 
-pub declares_none : (cs : List Constructor) (f : ℕ) (place : Place) → f ≢ 0 → f ≢ 1 → length cs ≤ f - 2 → Declares (map constructor_of cs) f None place
+pub declares_none : (cs : List Constructor) (f : ℕ) (place : TermContext) → f ≢ 0 → f ≢ 1 → length cs ≤ f - 2 → Declares (map constructor_of cs) f None place
 declares_none cs f place h k past = rw (slice_get_past cs (f - 2) past) at (declares cs f place h k)
 
-pub declares_some : (cs : List Constructor) (f : ℕ) (c : Constructor) (place : Place) → f ≢ 0 → f ≢ 1 → f - 2 < length cs → c ≡ get_or cs (f - 2) c
+pub declares_some : (cs : List Constructor) (f : ℕ) (c : Constructor) (place : TermContext) → f ≢ 0 → f ≢ 1 → f - 2 < length cs → c ≡ get_or cs (f - 2) c
     → Declares (map constructor_of cs) f (Some (constructor_of c)) place
 declares_some cs f c place h k within is =
     let got : slice_get cs (f - 2) ≡ Some c = slice_get-get_or cs (f - 2) c within ∙ ap Some (sym is) in
@@ -59,10 +59,10 @@ pub swappings_written : (names : Name → List ℕ) (p : List Swap) (text o o1 o
 swappings_written names p text o o1 o2 o3 n a b d e = rw (d, b, a, e) (simp append_assoc (ap (λ bs. o ++ bs) (swappings_round names p text)))
 
 -- What is written, what is left of a term, and what is kept, in the order in which they will stand.
-abbrev pub all_text : Spelling → List ℕ → NominalTerm → Place → List ℕ → List ℕ
+abbrev pub all_text : Spelling → List ℕ → NominalTerm → TermContext → List ℕ → List ℕ
 all_text by out t place closers = out ++ (term_at by t place ++ reverse closers)
 
-pair_parts : (by : Spelling) (t u : NominalTerm) (place : Place)
+pair_parts : (by : Spelling) (t u : NominalTerm) (place : TermContext)
     → term_at by (pair t u) place ≡ pair_opening place ++ (term_at by t whole ++ (between place ++ (term_at by u (part_after place) ++ pair_closing place)))
 pair_parts by t u whole = simp append_assoc
 pair_parts by t u part = simp (append_assoc, append-nil)
@@ -72,7 +72,7 @@ pair_parts by t u (arguments zero) = simp append_assoc
 pair_parts by t u (arguments (suc zero)) = simp append_assoc
 pair_parts by t u (arguments (suc (suc n))) = simp (append_assoc, append-nil)
 
-pair_closing_turned : (place : Place) → reverse (pair_closing place) ≡ pair_closing place
+pair_closing_turned : (place : TermContext) → reverse (pair_closing place) ≡ pair_closing place
 pair_closing_turned whole = refl
 pair_closing_turned part = refl
 pair_closing_turned rest = refl
@@ -81,29 +81,29 @@ pair_closing_turned (arguments zero) = refl
 pair_closing_turned (arguments (suc zero)) = refl
 pair_closing_turned (arguments (suc (suc n))) = refl
 
-pub pair_goes_on : (by : Spelling) (w t u : NominalTerm) (place : Place) (o o1 o2 o3 k k1 : List ℕ) → w ≡ pair t u
+pub pair_goes_on : (by : Spelling) (w t u : NominalTerm) (place : TermContext) (o o1 o2 o3 k k1 : List ℕ) → w ≡ pair t u
     → o1 ≡ o ++ pair_opening place → k1 ≡ k ++ pair_closing place → o2 ≡ o1 ++ term_at by t whole → o3 ≡ o2 ++ between place
     → all_text by o3 u (part_after place) k1 ≡ all_text by o w place k
 pair_goes_on by w t u place o o1 o2 o3 k k1 e a b d f =
     rw (f, d, a, b, e, pair_parts by t u place, reverse-append k (pair_closing place), pair_closing_turned place) (simp append_assoc)
 
-abbrev pub option_text : Spelling → NominalTerm → Option Place → List ℕ
+abbrev pub option_text : Spelling → NominalTerm → Option TermContext → List ℕ
 option_text by t None = []
 option_text by t (Some place) = term_at by t place
 
-barred_front : (place : Place) (text : List ℕ) → barred place text ≡ barred place [] ++ text
+barred_front : (place : TermContext) (text : List ℕ) → barred place text ≡ barred place [] ++ text
 barred_front whole text = refl
 barred_front part text = refl
 barred_front rest text = refl
 barred_front cell text = refl
 barred_front (arguments n) text = refl
 
-declared_parts : (by : Spelling) (t : NominalTerm) (text : List ℕ) (n : ℕ) (place : Place)
+declared_parts : (by : Spelling) (t : NominalTerm) (text : List ℕ) (n : ℕ) (place : TermContext)
     → barred place (application_text n text (term_at by t (arguments n))) ≡ (barred place [] ++ (text ++ arguments_opening n)) ++ (option_text by t (arguments_place n) ++ arguments_closing n)
 declared_parts by t text zero place = rw barred_front (simp append-nil)
 declared_parts by t text (suc n) place = rw barred_front (simp append_assoc)
 
-app_parts : (by : Spelling) (f : ℕ) (t : NominalTerm) (place : Place)
+app_parts : (by : Spelling) (f : ℕ) (t : NominalTerm) (place : TermContext)
     → term_at by (app f t) place ≡ opening by.constructors f place ++ (option_text by t (argument_place by.constructors f) ++ closing by.constructors f place)
 app_parts by zero t place = sym (append-nil (term_at by (app zero t) place))
 app_parts by (suc zero) t whole = simp append_assoc
@@ -118,7 +118,7 @@ arguments_closing_turned : (n : ℕ) → reverse (arguments_closing n) ≡ argum
 arguments_closing_turned zero = refl
 arguments_closing_turned (suc n) = refl
 
-closing_turned : (cs : List NominalConstructor) (f : ℕ) (place : Place) → reverse (closing cs f place) ≡ closing cs f place
+closing_turned : (cs : List NominalConstructor) (f : ℕ) (place : TermContext) → reverse (closing cs f place) ≡ closing cs f place
 closing_turned cs zero place = refl
 closing_turned cs (suc zero) whole = refl
 closing_turned cs (suc zero) part = refl
@@ -127,28 +127,28 @@ closing_turned cs (suc zero) cell = refl
 closing_turned cs (suc zero) (arguments n) = refl
 closing_turned cs (suc (suc f)) place = arguments_closing_turned (argument_count (constructor_in cs (suc (suc f))))
 
-pub app_goes_on : (by : Spelling) (w : NominalTerm) (f : ℕ) (t : NominalTerm) (place : Place) (next : Place) (o o1 k k1 : List ℕ) → w ≡ app f t
+pub app_goes_on : (by : Spelling) (w : NominalTerm) (f : ℕ) (t : NominalTerm) (place : TermContext) (next : TermContext) (o o1 k k1 : List ℕ) → w ≡ app f t
     → o1 ≡ o ++ opening by.constructors f place → k1 ≡ k ++ closing by.constructors f place → Some next ≡ argument_place by.constructors f
     → all_text by o1 t next k1 ≡ all_text by o w place k
 app_goes_on by w f t place next o o1 k k1 e a b d =
     rw (a, b, e, app_parts by f t place, reverse-append k (closing by.constructors f place), closing_turned by.constructors f place, ← d) (simp append_assoc)
 
-pub app_ends : (by : Spelling) (w : NominalTerm) (f : ℕ) (t : NominalTerm) (place : Place) (o o1 o2 k k1 : List ℕ) → w ≡ app f t
+pub app_ends : (by : Spelling) (w : NominalTerm) (f : ℕ) (t : NominalTerm) (place : TermContext) (o o1 o2 k k1 : List ℕ) → w ≡ app f t
     → o1 ≡ o ++ opening by.constructors f place → k1 ≡ k ++ closing by.constructors f place → None ≡ argument_place by.constructors f
     → o1 ++ reverse k1 ≡ all_text by o w place k
 app_ends by w f t place o o1 o2 k k1 e a b d =
     rw (a, b, e, app_parts by f t place, reverse-append k (closing by.constructors f place), closing_turned by.constructors f place, ← d) (simp append_assoc)
 
-pub abs_goes_on : (by : Spelling) (w : NominalTerm) (a : Name) (t : NominalTerm) (place : Place) (o o1 k : List ℕ) → w ≡ abs a t
+pub abs_goes_on : (by : Spelling) (w : NominalTerm) (a : Name) (t : NominalTerm) (place : TermContext) (o o1 k : List ℕ) → w ≡ abs a t
     → o1 ≡ o ++ barred place (by.names a ++ codes "\\") → all_text by o1 t whole k ≡ all_text by o w place k
 abs_goes_on by w a t place o o1 k e h =
     rw (h, e, barred_front place (by.names a ++ codes "\\"), barred_front place (by.names a ++ codes "\\" ++ term_at by t whole)) (simp append_assoc)
 
 -- what stands behind a bar, where one is due
-pub behind_bar : (place : Place) (text o o1 o2 : List ℕ) → o1 ≡ o ++ barred place [] → o2 ≡ o1 ++ text → o2 ≡ o ++ barred place text
+pub behind_bar : (place : TermContext) (text o o1 o2 : List ℕ) → o1 ≡ o ++ barred place [] → o2 ≡ o1 ++ text → o2 ≡ o ++ barred place text
 behind_bar place text o o1 o2 a b = rw (b, a, barred_front place text) (simp append_assoc)
 
-pub ends : (by : Spelling) (t : NominalTerm) (place : Place) (o o1 k all : List ℕ) → all_text by o t place k ≡ all → o1 ≡ o ++ term_at by t place → o1 ++ reverse k ≡ all
+pub ends : (by : Spelling) (t : NominalTerm) (place : TermContext) (o o1 k all : List ℕ) → all_text by o t place k ≡ all → o1 ≡ o ++ term_at by t place → o1 ++ reverse k ≡ all
 ends by t place o o1 k all e h = rw h (append_assoc o (term_at by t place) (reverse k) ∙ e)
 
 pub size_left : (w t u : NominalTerm) (n : ℕ) → w ≡ pair t u → size w ≤ n → size t < n

@@ -8,7 +8,7 @@ use Rattle.ap_defs.specs.declared.paths.Node.{Node}
 use Rattle.ap_defs.specs.declared.paths.Node.TheVariants as nodes
 use Rattle.ap_defs.specs.declared.paths.Out.TheVariants as code
 use Rattle.ap_paths.specs.Trees.{IsChoice}
-use Rattle.ap_backchain.specs.Branches.{IsAnswering, IsBranchOf, IsChoiceOfNode, IsChoosing, IsNamed, IsStandingOf, path_of_branch, width_of_standing}
+use Rattle.ap_backchain.specs.Branches.{IsAnswering, IsBranchOf, IsChoiceOfNode, IsChoosing, IsNamedNode, IsStandingOf, path_of_branch, width_of_standing}
 use Rattle.ap_backchain.specs.Problems.{HasQuery, clauses_in, queries_in}
 use Rattle.ap_backchain.specs.declared.branch.Branch.{Branch}
 use Rattle.ap_backchain.specs.declared.standing.Standing.{Standing}
@@ -21,11 +21,11 @@ stands_there [] n h = absurd (omega arith)
 stands_there (x ∷ xs) zero h = (x, refl)
 stands_there (x ∷ xs) (suc n) h = stands_there xs n (omega arith)
 
-pub answering : (p : Problem) (b : Branch) (s : Standing) → HasQuery p → IsBranchOf p b → IsAnswering b → b.standing ≡ s → IsNamed (clauses_in p) nodes.Answer s
+pub answering : (p : Problem) (b : Branch) (s : Standing) → HasQuery p → IsBranchOf p b → IsAnswering b → b.standing ≡ s → IsNamedNode (clauses_in p) nodes.Answer s
 answering p b s h of e f =
     let low = h.0 in let high = h.1 in
     let there = stands_there (queries_in p) (p.query - 1) (omega (arith, low, high)) in
-    subst (λ (r : Standing). IsNamed (clauses_in p) nodes.Answer r) f (subst (λ (n : Node). IsNamed (clauses_in p) n b.standing) e (of there.0 there.1).named)
+    subst (λ (r : Standing). IsNamedNode (clauses_in p) nodes.Answer r) f (subst (λ (n : Node). IsNamedNode (clauses_in p) n b.standing) e (of there.0 there.1).named)
 
 pub answer_stands : {E : Type 0} (p : Problem) (b : Branch) (path : List ℕ) (a : Answer) (r : Result Answer E) → IsBranchOf p b → b.standing ≡ standings.Ended (code.Found path a)
     → IfOk r (λ x. answer_of x ≡ answer_of a)

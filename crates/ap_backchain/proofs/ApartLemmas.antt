@@ -14,7 +14,7 @@ use Rattle.ap_store.specs.declared.store.Store.{Store}
 use Rattle.ap_store.proofs.StoreLemmas.{well_formed}
 use Rattle.ap_theory.proofs.HeadKeyLemmas.{first_differs, first_renamed}
 use Rattle.ap_theory.proofs.RefusalLemmas.{unify_heads}
-use Rattle.ap_backchain.specs.Positions.{Position, enters_clause, by_clauses, clause_state, each_position, entered, unified_state}
+use Rattle.ap_backchain.specs.Positions.{Position, enters_clause, positions_by_clauses, clause_state, each_position, entered, unified_state}
 use Rattle.ap_backchain.specs.Machines.{position_of}
 use Rattle.ap_backchain.specs.ChoicePoints.{positions_left}
 use Rattle.ap_backchain.specs.Views.{state_in}
@@ -48,17 +48,17 @@ module _ (s : Store) (d : ℕ) (ts : List NominalTerm) (p : Position) (here : p.
   meets c = agree key (first_key c.args)
 
   -- so the clauses before the first that may be entered can be left out
-  pub skipped : (i : ℕ) (cs : List NominalClause) → by_clauses d ts p i cs ≡ by_clauses d ts p (i + position_or_len meets cs) (drop (position_or_len meets cs) cs)
+  pub skipped : (i : ℕ) (cs : List NominalClause) → positions_by_clauses d ts p i cs ≡ positions_by_clauses d ts p (i + position_or_len meets cs) (drop (position_or_len meets cs) cs)
   skipped i [] = refl
   skipped i (c ∷ cs) = by_first (meets c) refl (skipped (suc i) cs)
     where
-      by_first : (b : Bool) → meets c ≡ b → by_clauses d ts p (suc i) cs ≡ by_clauses d ts p (suc i + position_or_len meets cs) (drop (position_or_len meets cs) cs) → by_clauses d ts p i (c ∷ cs) ≡ by_clauses d ts p (i + position_or_len meets (c ∷ cs)) (drop (position_or_len meets (c ∷ cs)) (c ∷ cs))
-      by_first true h k = let e : i + 0 ≡ i = omega arith in rw h (ap (λ m. by_clauses d ts p m (c ∷ cs)) (sym e))
+      by_first : (b : Bool) → meets c ≡ b → positions_by_clauses d ts p (suc i) cs ≡ positions_by_clauses d ts p (suc i + position_or_len meets cs) (drop (position_or_len meets cs) cs) → positions_by_clauses d ts p i (c ∷ cs) ≡ positions_by_clauses d ts p (i + position_or_len meets (c ∷ cs)) (drop (position_or_len meets (c ∷ cs)) (c ∷ cs))
+      by_first true h k = let e : i + 0 ≡ i = omega arith in rw h (ap (λ m. positions_by_clauses d ts p m (c ∷ cs)) (sym e))
       by_first false h k =
           let n = position_or_len meets cs in
           let e : suc i + n ≡ i + suc n = omega arith in
           let l : suc n ≡ 1 + n = omega arith in
-          rw h (ap (λ ps. ps ++ by_clauses d ts p (suc i) cs) (none_apart i c h) ∙ k ∙ ap (λ m. by_clauses d ts p m (drop n cs)) e ∙ ap (λ m. by_clauses d ts p (i + m) (drop m (c ∷ cs))) l)
+          rw h (ap (λ ps. ps ++ positions_by_clauses d ts p (suc i) cs) (none_apart i c h) ∙ k ∙ ap (λ m. positions_by_clauses d ts p m (drop n cs)) e ∙ ap (λ m. positions_by_clauses d ts p (i + m) (drop m (c ∷ cs))) l)
 
 -- what is left is left after the clauses that cannot be entered
 pub left_skipped : (b : Machine) (u : Untried) (key : ℕ) → key ≡ first_key (map (under (bindings_of b.store)) (map (rename_term u.base) (map term_of u.args.now)))
@@ -71,4 +71,4 @@ left_skipped b u key is from next e =
     let k : suc from + n ≡ suc next = omega (arith, e) in
     let d : drop n cs ≡ map clause_of (drop next u.clauses.now) =
     drop_map n (drop from u.clauses.now) ∙ ap (map clause_of) (drop-drop n from u.clauses.now) ∙ ap (λ m. map clause_of (drop m u.clauses.now)) (sym e) in
-    skipped b.store u.depth ts (position_of b) refl key is (suc from) cs ∙ ap₂ (λ m (ds : List NominalClause). by_clauses u.depth ts (position_of b) m ds) k d
+    skipped b.store u.depth ts (position_of b) refl key is (suc from) cs ∙ ap₂ (λ m (ds : List NominalClause). positions_by_clauses u.depth ts (position_of b) m ds) k d

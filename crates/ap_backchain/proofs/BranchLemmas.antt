@@ -25,7 +25,7 @@ use Rattle.ap_search.proofs.QueryTreeLemmas.{outs_at_marks, place_choice, width_
 use Rattle.ap_backchain.proofs.MarkLemmas.{marks_turned, settled}
 use Rattle.ap_backchain.proofs.TurnLemmas.{turns_turned, width_told, written_turned}
 use Rattle.ap_backchain.proofs.UnboundLemmas.{marked_stack_by_unbound, stack_by_unbound}
-use Rattle.ap_backchain.specs.Branches.{IsBranchOf, IsChoiceAt, IsChoiceOfNode, IsChoosing, IsNamed, IsNodeAt, IsStandingFor, IsStandingOf, choices_at, marks_of_standing, path_of_branch, path_of_standing, width_of_standing}
+use Rattle.ap_backchain.specs.Branches.{IsBranchOf, IsChoiceAt, IsChoiceOfNode, IsChoosing, IsNamedNode, IsNodeAt, IsStandingFor, IsStandingOf, choices_at, marks_of_standing, path_of_branch, path_of_standing, width_of_standing}
 use Rattle.ap_backchain.specs.Ends.{kept_out}
 use Rattle.ap_backchain.specs.declared.run.Paths.{Paths}
 use Rattle.ap_backchain.specs.declared.run.Paths.TheVariants as variants
@@ -98,7 +98,7 @@ module _ (program : Clauses) (d : ℕ) (q : NominalQuery) where
   width_at (standings.Failed path) h k = sym (no_choice path.items _ h refl)
 
   pub node_at : (n : Node) (s : Standing) → beginning mark_path (path_of_standing s) (map (mark_in q.locals) (marked_query program d q)) ≡ marks_of_standing program q.locals s
-      → IsNamed program n s → IsNodeAt program d q (path_of_standing s) n
+      → IsNamedNode program n s → IsNodeAt program d q (path_of_standing s) n
   node_at (nodes.Choice w kept) (standings.Choosing v p) h k = chooses (record { width = w; kept = kept }) p h k.1
   node_at nodes.Answer (standings.Ended (code.Found p a)) h k =
       (no_choice p _ h refl, (_, outs_at_marks program d q p ∙ ap outs_among h))
@@ -219,7 +219,7 @@ step_stands p query s t k asked of path marks choosing = λ q h.
     (record { marks = step_marks (clauses_in p) p.depth query s t k (of query asked).marks path marks; choosing = choosing })
 
 -- what stands there and is named is a branch, and a branch stands there
-pub named_branch : (p : Problem) (b : Branch) (s : Standing) → b.standing ≡ s → IsStandingOf p s → IsNamed (clauses_in p) b.node b.standing → IsBranchOf p b
+pub named_branch : (p : Problem) (b : Branch) (s : Standing) → b.standing ≡ s → IsStandingOf p s → IsNamedNode (clauses_in p) b.node b.standing → IsBranchOf p b
 named_branch p b s e of named = λ q h.
     let there : IsStandingFor (clauses_in p) p.depth q b.standing = subst (λ (r : Standing). IsStandingFor (clauses_in p) p.depth q r) (sym e) (of q h) in
     record { marks = there.marks; choosing = there.choosing; named = named }
@@ -234,7 +234,7 @@ way_stands (standings.Ended o) k h = absurd h
 way_stands (standings.Failed path) k h = absurd h
 
 -- a node that is a choice has its ways where the branch stands
-pub node_ways : (program : Clauses) (n : Node) (s : Standing) (k : ℕ) → IsNamed program n s → IsChoiceOfNode k n → IsChoice (width_of_standing s) k
+pub node_ways : (program : Clauses) (n : Node) (s : Standing) (k : ℕ) → IsNamedNode program n s → IsChoiceOfNode k n → IsChoice (width_of_standing s) k
 node_ways program (nodes.Choice w kept) (standings.Choosing v p) k h c = (c.0, subst (λ (m : ℕ). k ≤ m) h.0 c.1)
 node_ways program (nodes.Choice w kept) (standings.Ended o) k h c = absurd h
 node_ways program (nodes.Choice w kept) (standings.Failed path) k h c = absurd h

@@ -18,7 +18,7 @@ use Rattle.ap_search.proofs.ChoiceLemmas.{beginning_first, beginning_second, mar
 use Rattle.ap_search.proofs.TreeLemmas.{calls_grow, marked_stack_begins, stack_grows}
 use Rattle.ap_search.proofs.PrefixLemmas.{beginning_other, beginning_whole, prefix_itself, prefix_longer}
 use Rattle.ap_backchain.proofs.TurnLemmas.{written_clause}
-use Rattle.ap_backchain.specs.Marks.{IsAmong, choice_of_goal, clauses_marks, goal_marks, marks_from, marks_from_each}
+use Rattle.ap_backchain.specs.Marks.{IsAmongWays, choice_of_goal, clauses_marks, goal_marks, marks_from, marks_from_each}
 use Rattle.ap_backchain.specs.Positions.{Position, enters_clause, each_position, entered, with_choice, with_goal}
 use Rattle.ap_backchain.specs.Unbound.{answer_by_unbound}
 
@@ -98,10 +98,10 @@ atom_marks program locals (suc d) c ts p k h =
     past_choice p.path k (record { width = length (clauses_of program c); kept = kept_clauses p.state.bindings ts (clauses_of program c) }) (clauses_marks program locals d ts (clauses_of program c) p)
     ∙ ap (λ n. beginning mark_path (p.path ++ k ∷ []) (clauses_marks program locals n ts (clauses_of program c) p)) e
 
-pub deep_enough : (program : Clauses) (d c : ℕ) (ts : List NominalTerm) (k : ℕ) → IsAmong k (choice_of_goal program d (atom c ts)) → d ≡ 0 → ⊥
+pub deep_enough : (program : Clauses) (d c : ℕ) (ts : List NominalTerm) (k : ℕ) → IsAmongWays k (choice_of_goal program d (atom c ts)) → d ≡ 0 → ⊥
 deep_enough program zero c ts k h e = h
 deep_enough program (suc d) c ts k h e = absurd (omega arith)
 
-pub among_clauses : (program : Clauses) (d c : ℕ) (ts : List NominalTerm) (k : ℕ) → IsAmong k (choice_of_goal program d (atom c ts)) → (1 ≤ k) × (k ≤ length (clauses_of program c))
+pub among_clauses : (program : Clauses) (d c : ℕ) (ts : List NominalTerm) (k : ℕ) → IsAmongWays k (choice_of_goal program d (atom c ts)) → (1 ≤ k) × (k ≤ length (clauses_of program c))
 among_clauses program zero c ts k h = absurd h
 among_clauses program (suc d) c ts k h = h

@@ -7,7 +7,7 @@ use Rattle.ap_defs.specs.Types.{NominalLocal}
 use Rattle.ap_search.specs.Marks.{NominalMark, out, choice, with_choices}
 use Rattle.ap_backchain.specs.Marks.{choices_among, choices_here, marks_from, marks_from_each, marks_of_turned, choices_made, told_of, written_here}
 use Rattle.ap_backchain.specs.Positions.{Position, Turned, ends, goes, turned}
-use Rattle.ap_backchain.specs.Searches.{followed}
+use Rattle.ap_backchain.specs.Searches.{positions_followed}
 use Rattle.ap_backchain.proofs.TurnLemmas.{width_told, written_append, written_turned}
 
 choices_both : (xs ys : List NominalMark) → choices_among (xs ++ ys) ≡ choices_among xs + choices_among ys
@@ -29,13 +29,13 @@ module _ (program : Clauses) (locals : List NominalLocal) where
       ∙ choices_both (written_here with_choices p.path (told_of program p.state p.waiting)) rest
       ∙ ap (λ n. n + choices_among rest) (one_here p.path (told_of program p.state p.waiting) ∙ ap choices_made (width_told program p.state p.waiting))
 
-  choices_followed : (t : Turned) (ps : List Position) → choices_among (marks_from_each program locals (followed t ps))
+  choices_followed : (t : Turned) (ps : List Position) → choices_among (marks_from_each program locals (positions_followed t ps))
       ≡ choices_among (marks_of_turned program locals t) + choices_among (marks_from_each program locals ps)
   choices_followed (ends o) ps = omega arith
   choices_followed (goes rs) ps = ap choices_among (written_append with_choices program locals rs ps) ∙ choices_both (marks_from_each program locals rs) (marks_from_each program locals ps)
 
   -- a turn leaves the choices but the one that it makes
-  pub turn_chooses : (p : Position) (ps qs : List Position) → qs ≡ followed (turned program locals p) ps
+  pub turn_chooses : (p : Position) (ps qs : List Position) → qs ≡ positions_followed (turned program locals p) ps
       → choices_among (marks_from_each program locals (p ∷ ps)) ≡ choices_here program p + choices_among (marks_from_each program locals qs)
   turn_chooses p ps qs e =
       let t = turned program locals p in
@@ -46,5 +46,5 @@ module _ (program : Clauses) (locals : List NominalLocal) where
       omega (arith, all, here, rest)
 
   -- where it would be one too many, more are made than may be
-  pub too_many : (p : Position) (ps : List Position) → choices_here program p ≡ 1 → 1 + choices_among (marks_from_each program locals (followed (turned program locals p) ps)) ≡ choices_among (marks_from_each program locals (p ∷ ps))
-  too_many p ps e = let h = turn_chooses p ps (followed (turned program locals p) ps) refl in omega (arith, e, h)
+  pub too_many : (p : Position) (ps : List Position) → choices_here program p ≡ 1 → 1 + choices_among (marks_from_each program locals (positions_followed (turned program locals p) ps)) ≡ choices_among (marks_from_each program locals (p ∷ ps))
+  too_many p ps e = let h = turn_chooses p ps (positions_followed (turned program locals p) ps) refl in omega (arith, e, h)

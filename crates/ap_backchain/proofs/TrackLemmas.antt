@@ -3,7 +3,7 @@ use Rattle.std.proofs.Common.{◌≡◌, ℕ, ◌+◌, ◌≤◌, List, [], ◌�
 use Rattle.std.proofs.lemmas.List.{append-nil, take-append-le, take_all}
 use Rattle.ap_store.specs.Triples.{Triple}
 use Rattle.ap_backchain.specs.GoalStacks.{IsLonger}
-use Rattle.ap_backchain.specs.Tracks.{GoesFrom, IsWithin, Track, back_to, last_after, last_version}
+use Rattle.ap_backchain.specs.Tracks.{GoesFrom, IsSaveWithin, Track, back_to, last_after, last_version}
 use Rattle.ap_backchain.specs.declared.points.Save.{Save}
 
 -- Lists that go on.
@@ -40,7 +40,7 @@ goes_trans t u v h k = record {
 }
 
 -- what a track had is found from each that goes on from it
-pub back_from : (s : Save) (t u : Track) → IsWithin s t → GoesFrom t u → back_to s u ≡ back_to s t
+pub back_from : (s : Save) (t u : Track) → IsSaveWithin s t → GoesFrom t u → back_to s u ≡ back_to s t
 back_from s t u w g =
     let l : s.mark.place + 1 ≤ length t.versions = let h = w.mark in omega (arith, h) in
     let vs : take (s.mark.place + 1) u.versions ≡ take (s.mark.place + 1) t.versions = take_longer t.versions u.versions (s.mark.place + 1) g.versions l in
@@ -80,7 +80,7 @@ back_from s t u w g =
       brought = xs;
     }) (take_longer t.brought u.brought s.brought g.brought w.brought)
 
-pub within_from : (s : Save) (t u : Track) → IsWithin s t → GoesFrom t u → IsWithin s u
+pub within_from : (s : Save) (t u : Track) → IsSaveWithin s t → GoesFrom t u → IsSaveWithin s u
 within_from s t u w g =
     let l : s.mark.place + 1 ≤ length t.versions = let h = w.mark in omega (arith, h) in
     let vs : take (s.mark.place + 1) u.versions ≡ take (s.mark.place + 1) t.versions = take_longer t.versions u.versions (s.mark.place + 1) g.versions l in
@@ -122,7 +122,7 @@ back_here s t vs w e f m c p x =
     ∙ ap (λ xs. record { versions = t.versions; kinds = t.kinds; cells = t.cells; path = t.path; brought = xs }) (take_all s.brought t.brought (omega (arith, x)))
 
 pub within_here : (s : Save) (t : Track) (vs : List Triple) (w : Triple) → t.versions ≡ vs ++ w ∷ [] → w.next ≡ length t.kinds → s.mark.place ≡ length vs
-    → s.cells ≡ length t.cells → s.first ≤ s.cells → s.path ≡ length t.path → s.brought ≡ length t.brought → IsWithin s t
+    → s.cells ≡ length t.cells → s.first ≤ s.cells → s.path ≡ length t.path → s.brought ≡ length t.brought → IsSaveWithin s t
 within_here s t vs w e f m c i p x =
     let many : length t.versions ≡ length vs + 1 = ap length e ∙ length-append vs (w ∷ []) in
     let a : take (s.mark.place + 1) t.versions ≡ t.versions = take_all (s.mark.place + 1) t.versions (omega (arith, many, m)) in

@@ -17,7 +17,7 @@ use Rattle.ap_defs.specs.Types.{NominalLocal}
 use Rattle.ap_defs.specs.Unification.{Unified, reduce_all, unify}
 use Rattle.ap_search.specs.Continuations.{Continuation, Waiting, Writing, calls_then, clause_then, clauses_then, goal_then, outputs_alone, stack_then, then_if_reduced, then_if_unified, then_test_fresh}
 use Rattle.ap_backchain.specs.Marks.{choice_of, choice_of_atom, choice_of_goal, told_of, told_of_atom, told_of_goal, written_here}
-use Rattle.ap_backchain.specs.Positions.{Position, enters_clause, by_clauses, clause_state, each_position, entered, outs_from, outs_of_turned, reduced_state, turned, turned_atom, turned_by, turned_fresh, turned_goal, unified_state, with_state, written_from, written_from_each, written_of_turned}
+use Rattle.ap_backchain.specs.Positions.{Position, enters_clause, positions_by_clauses, clause_state, each_position, entered, outs_from, outs_of_turned, reduced_state, turned, turned_atom, turned_by, turned_fresh, turned_goal, unified_state, with_state, written_from, written_from_each, written_of_turned}
 use Rattle.ap_backchain.specs.Turns.{call_turns, clauses_turns, fresh_turns, goal_turns, stack_turns, turns_from, turns_from_each, turns_if, turns_of_turned}
 use Rattle.ap_backchain.specs.Unbound.{answer_by_unbound}
 
@@ -60,11 +60,11 @@ module _ {R : Type 0} (w : Writing R) (program : Clauses) (locals : List Nominal
       (unify p.state.bindings p.state.conditions ts (map (rename_term (next_number p.state)) c.args))
 
   pub written_clauses : (d : ℕ) (ts : List NominalTerm) (p : Position) (i : ℕ) (cs : List NominalClause)
-      → written_from_each w program locals (by_clauses d ts p i cs)
+      → written_from_each w program locals (positions_by_clauses d ts p i cs)
       ≡ clauses_then (goal_then w (calls_then w program d)) ts (rest_of p) i cs p.path p.state p.brought
   written_clauses d ts p i [] = refl
   written_clauses d ts p i (c ∷ cs) =
-      written_append (enters_clause d ts p i c) (by_clauses d ts p (suc i) cs)
+      written_append (enters_clause d ts p i c) (positions_by_clauses d ts p (suc i) cs)
       ∙ ap₂ ◌++◌ (written_clause d ts p i c) (written_clauses d ts p (suc i) cs)
 
   written_atom : (d c : ℕ) (ts : List NominalTerm) (p : Position)
@@ -158,11 +158,11 @@ turns_fresh program p (terms.app _ _) u = refl
 turns_fresh program p (terms.abs _ _) u = refl
 
 turns_clauses : (program : Clauses) (d : ℕ) (ts : List NominalTerm) (p : Position) (i : ℕ) (cs : List NominalClause)
-    → turns_from_each program (by_clauses d ts p i cs) ≡ clauses_turns (goal_turns (call_turns program d)) ts (stack_turns program p.waiting) p.state cs
+    → turns_from_each program (positions_by_clauses d ts p i cs) ≡ clauses_turns (goal_turns (call_turns program d)) ts (stack_turns program p.waiting) p.state cs
 turns_clauses program d ts p i [] = refl
 turns_clauses program d ts p i (c ∷ cs) =
-    turns_append program (enters_clause d ts p i c) (by_clauses d ts p (suc i) cs)
-    ∙ ap (λ n. n + turns_from_each program (by_clauses d ts p (suc i) cs)) (turns_each program (entered d p i c) (clause_state ts p.state c))
+    turns_append program (enters_clause d ts p i c) (positions_by_clauses d ts p (suc i) cs)
+    ∙ ap (λ n. n + turns_from_each program (positions_by_clauses d ts p (suc i) cs)) (turns_each program (entered d p i c) (clause_state ts p.state c))
     ∙ ap (λ n. turns_if (goal_turns (call_turns program d) (rename_goal (next_number p.state) c.body) (stack_turns program p.waiting)) (clause_state ts p.state c) + n) (turns_clauses program d ts p (suc i) cs)
 
 turns_atom : (program : Clauses) (d c : ℕ) (ts : List NominalTerm) (p : Position)

@@ -2,12 +2,12 @@
 use Rattle.std.proofs.Common.{◌≡◌, ℕ, zero, suc, ◌+◌, ◌-◌, Bool, true, false, if◌then◌else◌, List, [], ◌∷◌, ◌++◌, length, take, drop, map, refl, sym, ap, ap₂, ◌∙◌, append-nil, arith}
 use Rattle.ap_defs.specs.Answers.{NominalOut, cut, found, outs_of, stuck}
 use Rattle.ap_defs.specs.declared.paths.Out.{Out}
-use Rattle.ap_paths.specs.Limits.{IsWanting, found_in, is_found, part}
+use Rattle.ap_paths.specs.Limits.{IsWanting, found_in, is_answer_out, part}
 use Rattle.ap_paths.specs.declared.limits.Limit.{Limit}
 use Rattle.ap_paths.specs.declared.limits.Limit.TheVariants as limits
 use Rattle.ap_backchain.specs.Ends.{kept_out}
 use Rattle.ap_backchain.specs.Positions.{Turned, ends, goes}
-use Rattle.ap_backchain.specs.Searches.{ended}
+use Rattle.ap_backchain.specs.Searches.{ended_outs}
 use Rattle.ap_backchain.specs.Wanted.{wanted_after}
 use Rattle.ap_backchain.specs.declared.run.Paths.{Paths}
 use Rattle.ap_backchain.specs.declared.run.Paths.TheVariants as paths
@@ -19,7 +19,7 @@ came (x ∷ xs) [] more e = absurd (cc)
 came (x ∷ xs) (y ∷ ys) more e = let f : outs_of ys ≡ outs_of xs ++ more = cc in came xs ys more f
 
 -- without its path it is an answer as before
-found_kept : (p : Paths) (o : NominalOut) → is_found (kept_out p o) ≡ is_found o
+found_kept : (p : Paths) (o : NominalOut) → is_answer_out (kept_out p o) ≡ is_answer_out o
 found_kept paths.Kept o = refl
 found_kept paths.Left (found path a) = refl
 found_kept paths.Left (cut path) = refl
@@ -56,12 +56,12 @@ one_fewer true n = omega arith
 one_fewer false n = omega arith
 
 -- where answers are wanted the output with which a turn ends is taken first
-pub part_ended : (l : Limit) (t : Turned) (os : List NominalOut) → IsWanting l 0 → part l (ended t ++ os) ≡ ended t ++ part (wanted_after l (ended t)) os
+pub part_ended : (l : Limit) (t : Turned) (os : List NominalOut) → IsWanting l 0 → part l (ended_outs t ++ os) ≡ ended_outs t ++ part (wanted_after l (ended_outs t)) os
 part_ended limits.All (goes ps) os w = refl
 part_ended limits.All (ends o) os w = refl
 part_ended (limits.First n) (goes ps) os w = let e : n ≡ n - 0 = omega arith in ap (λ m. part (limits.First m) os) e
 part_ended (limits.First zero) (ends o) os w = absurd (omega arith)
-part_ended (limits.First (suc n)) (ends o) os w = ap (λ m. o ∷ part (limits.First m) os) (one_fewer (is_found o) n)
+part_ended (limits.First (suc n)) (ends o) os w = ap (λ m. o ∷ part (limits.First m) os) (one_fewer (is_answer_out o) n)
 
 part_none : (l : Limit) → part l [] ≡ []
 part_none limits.All = refl

@@ -44,14 +44,14 @@ IsChoiceAt k (standings.Ended o) = ⊥
 IsChoiceAt k (standings.Failed path) = ⊥
 
 -- the node says where it stands, and of a choice what its goal keeps
-abbrev pub IsNamed : Clauses → Node → Standing → Type 0
-IsNamed program (nodes.Choice w kept) (standings.Choosing v p) =
+abbrev pub IsNamedNode : Clauses → Node → Standing → Type 0
+IsNamedNode program (nodes.Choice w kept) (standings.Choosing v p) =
     (w ≡ v) × (told_of program (position_of p).state (position_of p).waiting ≡ Some (record { width = w; kept = kept }))
-IsNamed program nodes.Answer (standings.Ended (code.Found p a)) = Unit {0}
-IsNamed program nodes.Cut (standings.Ended (code.Cut p)) = Unit {0}
-IsNamed program nodes.Stuck (standings.Ended (code.Stuck p)) = Unit {0}
-IsNamed program nodes.Failed (standings.Failed path) = Unit {0}
-IsNamed program _ _ = ⊥
+IsNamedNode program nodes.Answer (standings.Ended (code.Found p a)) = Unit {0}
+IsNamedNode program nodes.Cut (standings.Ended (code.Cut p)) = Unit {0}
+IsNamedNode program nodes.Stuck (standings.Ended (code.Stuck p)) = Unit {0}
+IsNamedNode program nodes.Failed (standings.Failed path) = Unit {0}
+IsNamedNode program _ _ = ⊥
 
 -- among how many ways it chooses there, if it does
 abbrev pub width_of_standing : Standing → Option ℕ
@@ -98,7 +98,7 @@ width_of_descent d = width_of_standing d.standing
 pub record IsBranchFor (program : Clauses) (depth : ℕ) (q : NominalQuery) (b : Branch) : Type 0 where
   pub marks : beginning mark_path (path_of_branch b) (map (mark_in q.locals) (marked_query program depth q)) ≡ marks_of_standing program q.locals b.standing
   pub choosing : IsChoosing program b.standing
-  pub named : IsNamed program b.node b.standing
+  pub named : IsNamedNode program b.node b.standing
 
 abbrev pub IsBranchOf : Problem → Branch → Type 0
 IsBranchOf p b = (q : NominalQuery) → slice_get (queries_in p) (p.query - 1) ≡ Some q → IsBranchFor (clauses_in p) p.depth q b

@@ -42,9 +42,9 @@ choice_of_goal program d (atom c ts) = choice_of_atom program d c
 choice_of_goal program d (either g h) = Some 2
 choice_of_goal program d _ = None
 
-abbrev pub IsAmong : ℕ → Option ℕ → Type 0
-IsAmong k None = ⊥
-IsAmong k (Some w) = (1 ≤ k) × (k ≤ w)
+abbrev pub IsAmongWays : ℕ → Option ℕ → Type 0
+IsAmongWays k None = ⊥
+IsAmongWays k (Some w) = (1 ≤ k) × (k ≤ w)
 
 -- the marks of a goal in front of those that wait, and of clauses that an atom can enter
 abbrev pub goal_marks : Clauses → List NominalLocal → ℕ → NominalGoal → Position → List NominalMark

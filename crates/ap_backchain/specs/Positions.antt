@@ -78,13 +78,13 @@ abbrev pub enters_clause : ℕ → List NominalTerm → Position → ℕ → Nom
 enters_clause d ts p i c = each_position (entered d p i c) (clause_state ts p.state c)
 
 -- clauses numbered from i on
-abbrev pub by_clauses : ℕ → List NominalTerm → Position → ℕ → List NominalClause → List Position
-by_clauses d ts p i [] = []
-by_clauses d ts p i (c ∷ cs) = enters_clause d ts p i c ++ by_clauses d ts p (suc i) cs
+abbrev pub positions_by_clauses : ℕ → List NominalTerm → Position → ℕ → List NominalClause → List Position
+positions_by_clauses d ts p i [] = []
+positions_by_clauses d ts p i (c ∷ cs) = enters_clause d ts p i c ++ positions_by_clauses d ts p (suc i) cs
 
 abbrev pub turned_atom : Clauses → ℕ → ℕ → List NominalTerm → Position → Turned
 turned_atom program zero c ts p = ends (cut p.path)
-turned_atom program (suc d) c ts p = goes (by_clauses d ts p 1 (clauses_of program c))
+turned_atom program (suc d) c ts p = goes (positions_by_clauses d ts p 1 (clauses_of program c))
 
 -- what a goal at a depth makes of a machine
 abbrev pub turned_goal : Clauses → ℕ → NominalGoal → Position → Turned

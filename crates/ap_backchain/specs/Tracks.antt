@@ -46,7 +46,7 @@ back_to s t = record {
 }
 
 -- the search had come that far
-pub record IsWithin (s : Save) (t : Track) : Type 0 where
+pub record IsSaveWithin (s : Save) (t : Track) : Type 0 where
   pub mark : s.mark.place < length t.versions
   pub kinds : (last_version (take (s.mark.place + 1) t.versions)).next ≤ length t.kinds
   pub cells : s.cells ≤ length t.cells

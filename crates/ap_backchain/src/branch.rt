@@ -7,7 +7,7 @@ ghost use Rattle.ap_search.specs.Marks.{outs_among};
 ghost use Rattle.ap_backchain.specs.declared.problem.Problem.{Problem};
 ghost use Rattle.ap_defs.specs.Types.{locals_of};
 ghost use Rattle.ap_backchain.specs.Below.{AreClausesBelow};
-ghost use Rattle.ap_backchain.specs.Branches.{IsAnswering, IsBranchOf, IsChoiceOf, IsChoosing, IsNamed, IsNodeAt, choices_at, marks_of_standing, path_of_branch};
+ghost use Rattle.ap_backchain.specs.Branches.{IsAnswering, IsBranchOf, IsChoiceOf, IsChoosing, IsNamedNode, IsNodeAt, choices_at, marks_of_standing, path_of_branch};
 ghost use Rattle.ap_backchain.specs.Ends.{kept_out};
 ghost use Rattle.ap_backchain.specs.Marks.{choices_among};
 ghost use Rattle.ap_backchain.specs.Problems.{HasQuery, clauses_in, queries_in};
@@ -44,7 +44,7 @@ fn node_of<'a>(
 ) -> Result<Node, Memory>
     requires clauses { AreClausesBelow (program_in clauses.now) }
     requires choosing { IsChoosing (program_in clauses.now) standing.now }
-    ensures { IfOk result (λ n. IsNamed (program_in clauses.now) n standing.now) }
+    ensures { IfOk result (λ n. IsNamedNode (program_in clauses.now) n standing.now) }
 {
     match standing {
         Standing::Choosing(width, machine) => {
@@ -69,7 +69,7 @@ pub(crate) fn branch_at<'a>(
     requires clauses { AreClausesBelow (program_in clauses.now) }
     requires choosing { IsChoosing (program_in clauses.now) standing }
     ensures standing { IfOk result (λ b. b.standing ≡ standing.entry) }
-    ensures named { IfOk result (λ b. IsNamed (program_in clauses.now) b.node b.standing) }
+    ensures named { IfOk result (λ b. IsNamedNode (program_in clauses.now) b.node b.standing) }
 {
     let node = node_of(alloc, clauses, &standing)?;
     Ok(Branch { node, standing })

@@ -34,7 +34,7 @@ impl<'a> Machine<'a> {
     ghost use Rattle.ap_defs.specs.Types.{locals_of};
     ghost use Rattle.ap_backchain.specs.Machines.{next_of, position_of, track_of};
     ghost use Rattle.ap_backchain.specs.Positions.{with_choice, with_goal, with_vars};
-    ghost use Rattle.ap_backchain.specs.Tracks.{GoesFrom, IsWithin, back_to, next_in, position_at};
+    ghost use Rattle.ap_backchain.specs.Tracks.{GoesFrom, IsSaveWithin, back_to, next_in, position_at};
     ghost use Rattle.ap_backchain.specs.Views.{state_in, waiting_of};
 
     /// A machine with a store in which no goal waits. It takes no memory.
@@ -111,7 +111,7 @@ impl<'a> Machine<'a> {
 
     /// How far the search has come. It takes no memory.
     pub fn save(&self) -> Save
-        ensures within { IsWithin result (track_of self.now) }
+        ensures within { IsSaveWithin result (track_of self.now) }
         ensures track { back_to result (track_of self.now) ≡ track_of self.now }
         ensures position { position_at (track_of self.now) result.first ≡ position_of self.now }
         ensures next { next_in (track_of self.now) ≡ next_of self.now }
@@ -127,7 +127,7 @@ impl<'a> Machine<'a> {
 
     /// Goes back to where the search had come. It takes no memory.
     pub fn go_back(&mut self, save: Save)
-        requires within { IsWithin save (track_of self.old) }
+        requires within { IsSaveWithin save (track_of self.old) }
         requires waiting { AreWaitingBelow (next_in (back_to save (track_of self.old))) (position_at
             (back_to save (track_of self.old)) save.first).waiting }
         ensures track { track_of self.new ≡ back_to save (track_of self.old) }

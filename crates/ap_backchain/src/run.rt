@@ -8,7 +8,7 @@ ghost use Rattle.ap_backchain.specs.Below.{AreClausesBelow, IsQueryBelow};
 ghost use Rattle.ap_backchain.specs.Ends.{end_out, kept_out};
 ghost use Rattle.ap_backchain.specs.Machines.{position_of};
 ghost use Rattle.ap_backchain.specs.Positions.{outs_from, turned};
-ghost use Rattle.ap_backchain.specs.Searches.{HasPoints, ended, followed, pending_of, positions_with};
+ghost use Rattle.ap_backchain.specs.Searches.{HasPoints, ended_outs, positions_followed, pending_positions, positions_with};
 ghost use Rattle.ap_backchain.specs.Starts.{first_position};
 ghost use Rattle.ap_backchain.specs.Wanted as limits;
 ghost use Rattle.ap_paths.specs.Limits.{part};
@@ -81,11 +81,11 @@ fn turn_on<'a>(
     requires locals { length locals.now < 2 ^ 64 }
     requires points { HasPoints machine.old points.old }
     ensures left { IfOk result (λ b. positions_with b machine.new points.new
-        ≡ followed (turned (program_in clauses.now) (locals_of locals.now)
-        (position_of machine.old)) (pending_of machine.old points.old)) }
+        ≡ positions_followed (turned (program_in clauses.now) (locals_of locals.now)
+        (position_of machine.old)) (pending_positions machine.old points.old)) }
     ensures outs { OnOk result (outs_of outs.new.items
         ≡ outs_of outs.old.items
-        ++ map (kept_out paths) (ended (turned (program_in clauses.now)
+        ++ map (kept_out paths) (ended_outs (turned (program_in clauses.now)
         (locals_of locals.now) (position_of machine.old)))) }
     ensures points { OnOk result (HasPoints machine.new points.new) }
 {
@@ -119,16 +119,16 @@ pub fn go_on<'a>(
     requires locals { length locals.now < 2 ^ 64 }
     requires points { HasPoints machine.old points.old }
     ensures left { IfOk result (λ b. positions_with b machine.new points.new
-        ≡ followed (turned (program_in clauses.now) (locals_of locals.now)
-        (position_of machine.old)) (pending_of machine.old points.old)) }
+        ≡ positions_followed (turned (program_in clauses.now) (locals_of locals.now)
+        (position_of machine.old)) (pending_positions machine.old points.old)) }
     ensures outs { OnOk result (outs_of outs.new.items
         ≡ outs_of outs.old.items
-        ++ map (kept_out paths) (ended (turned (program_in clauses.now)
+        ++ map (kept_out paths) (ended_outs (turned (program_in clauses.now)
         (locals_of locals.now) (position_of machine.old)))) }
     ensures points { OnOk result (HasPoints machine.new points.new) }
     ensures none { IfOk result (λ b. b ≡ false → points.new.items ≡ []) }
     ensures wanted { OnOk result (wanted.new
-        ≡ limits.wanted_after wanted.old (ended (turned (program_in clauses.now)
+        ≡ limits.wanted_after wanted.old (ended_outs (turned (program_in clauses.now)
         (locals_of locals.now) (position_of machine.old)))) }
 {
     let before = outs.len();

@@ -10,7 +10,7 @@ ghost use Rattle.ap_search.specs.Marks.{mark_path};
 ghost use Rattle.ap_search.specs.Prefixes.{beginning};
 ghost use Rattle.ap_backchain.specs.Below.{AreClausesBelow};
 ghost use Rattle.ap_backchain.specs.Branches.{IsChoiceAt, IsChoosing, marks_of_standing, path_of_standing};
-ghost use Rattle.ap_backchain.specs.Marks.{IsAmong, choice_of_goal, clauses_marks, goal_marks, marks_from};
+ghost use Rattle.ap_backchain.specs.Marks.{IsAmongWays, choice_of_goal, clauses_marks, goal_marks, marks_from};
 ghost use Rattle.ap_backchain.specs.Machines.{next_of, position_of};
 ghost use Rattle.ap_backchain.specs.Positions.{with_choice, with_goal};
 
@@ -123,7 +123,7 @@ fn choose_by<'a>(
     requires locals { length locals.now < 2 ^ 64 }
     requires goal { IsGoalBelow (next_of machine) (rename_goal frame.base
         (goal_of frame.goal.now)) }
-    requires choice { IsAmong choice (choice_of_goal (program_in clauses.now) frame.depth
+    requires choice { IsAmongWays choice (choice_of_goal (program_in clauses.now) frame.depth
         (rename_goal frame.base (goal_of frame.goal.now))) }
     ensures marks { IfOk result (λ s. marks_of_standing (program_in clauses.now)
         (locals_of locals.now) s

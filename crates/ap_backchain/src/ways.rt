@@ -9,7 +9,7 @@ ghost use Rattle.ap_backchain.specs.Marks.{choice_of, choice_of_goal};
 ghost use Rattle.ap_backchain.specs.Machines.{next_of, position_of};
 ghost use Rattle.ap_backchain.specs.ChoicePoints.{IsFitRest, positions_left};
 ghost use Rattle.ap_backchain.specs.Positions.{turned, turned_goal};
-ghost use Rattle.ap_backchain.specs.Searches.{HasPoints, followed, pending_of, positions_with};
+ghost use Rattle.ap_backchain.specs.Searches.{HasPoints, positions_followed, pending_positions, positions_with};
 
 use crate::clauses::{candidates_at, enter_clause};
 use crate::frames::Frame;
@@ -56,7 +56,7 @@ fn try_clauses<'a>(
     requires points { HasPoints machine.old points.old }
     ensures left { IfOk result (λ b. positions_with b machine.new points.new
         ≡ positions_left (Rest.Clauses untried.entry) (position_of machine.old)
-        ++ pending_of machine.old points.old) }
+        ++ pending_positions machine.old points.old) }
     ensures points { OnOk result (HasPoints machine.new points.new) }
     ensures none { IfOk result (λ b. b ≡ false → points.new.items ≡ points.old.items) }
 {
@@ -96,9 +96,9 @@ fn take_left<'a>(
         (goal_of right.now)) }
     requires points { HasPoints machine.old points.old }
     ensures left { OnOk result (positions_with true machine.new points.new
-        ≡ followed (turned_goal [] frame.entry.depth (either (rename_goal frame.entry.base
+        ≡ positions_followed (turned_goal [] frame.entry.depth (either (rename_goal frame.entry.base
         (goal_of left.now)) (rename_goal frame.entry.base (goal_of right.now)))
-        (position_of machine.old)) (pending_of machine.old points.old)) }
+        (position_of machine.old)) (pending_positions machine.old points.old)) }
     ensures points { OnOk result (HasPoints machine.new points.new) }
 {
     let save = machine.save();
@@ -129,9 +129,9 @@ fn choose_by<'a>(
         (goal_of frame.goal.now)) ≡ Some w) }
     requires points { HasPoints machine.old points.old }
     ensures left { IfOk result (λ b. positions_with b machine.new points.new
-        ≡ followed (turned_goal (program_in clauses.now) frame.entry.depth (rename_goal
+        ≡ positions_followed (turned_goal (program_in clauses.now) frame.entry.depth (rename_goal
         frame.entry.base (goal_of frame.entry.goal.now)) (position_of machine.old))
-        (pending_of machine.old points.old)) }
+        (pending_positions machine.old points.old)) }
     ensures points { OnOk result (HasPoints machine.new points.new) }
 {
     match frame.goal {
@@ -175,8 +175,8 @@ pub fn choose<'a>(
     requires points { HasPoints machine.old points.old }
     ensures left { IfOk result (λ b. (locals : list NominalLocal) →
         positions_with b machine.new points.new
-        ≡ followed (turned (program_in clauses.now) locals (position_of machine.old))
-        (pending_of machine.old points.old)) }
+        ≡ positions_followed (turned (program_in clauses.now) locals (position_of machine.old))
+        (pending_positions machine.old points.old)) }
     ensures points { OnOk result (HasPoints machine.new points.new) }
 {
     match machine.pop_goal() {
@@ -197,7 +197,7 @@ fn go_on_by<'a>(
     requires points { HasPoints machine.old points.old }
     ensures left { IfOk result (λ b. positions_with b machine.new points.new
         ≡ positions_left rest.entry (position_of machine.old)
-        ++ pending_of machine.old points.old) }
+        ++ pending_positions machine.old points.old) }
     ensures points { OnOk result (HasPoints machine.new points.new) }
     ensures none { IfOk result (λ b. b ≡ false → points.new.items ≡ points.old.items) }
 {
@@ -220,7 +220,7 @@ pub fn resume<'a>(
 ) -> Result<bool, Memory>
     requires points { HasPoints machine.old points.old }
     ensures left { IfOk result (λ b. positions_with b machine.new points.new
-        ≡ pending_of machine.old points.old) }
+        ≡ pending_positions machine.old points.old) }
     ensures points { OnOk result (HasPoints machine.new points.new) }
     ensures none { IfOk result (λ b. b ≡ false → points.new.items ≡ []) }
 {

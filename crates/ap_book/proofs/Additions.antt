@@ -5,19 +5,19 @@ use Rattle.ap_defs.specs.Answers.{NominalOut}
 use Rattle.ap_paths.specs.declared.entries.Entry.{Entry}
 use Rattle.ap_paths.specs.Entries.{TreeEntry, split, done, skip, stop, entry_of, entries_of}
 use Rattle.ap_paths.specs.Limits.{found_in}
-use Rattle.ap_paths.specs.Merging.{is_before, Ending, insert, ends_after, ends_from, found_before}
+use Rattle.ap_paths.specs.Merging.{is_path_before, EndedPath, insert, ends_after, ends_from, found_before}
 use Rattle.ap_paths.specs.History.{answers_before}
 use Rattle.ap_paths.proofs.Histories.{ends_from-last}
 use Rattle.ap_book.specs.Counts.{adds}
 use Rattle.ap_book.proofs.Keeping.{entries_of-last}
 
-found_insert : (p q : List ℕ) (os : List NominalOut) (ends : List Ending) → found_before p (insert q os ends) ≡ (if is_before q p then found_in os else 0) + found_before p ends
+found_insert : (p q : List ℕ) (os : List NominalOut) (ends : List EndedPath) → found_before p (insert q os ends) ≡ (if is_path_before q p then found_in os else 0) + found_before p ends
 found_insert p q os [] = refl
 found_insert p q os (e ∷ es) =
-    elim (is_before q e.0) as (λ b. found_before p (if b then (q, os) ∷ e ∷ es else e ∷ insert q os es) ≡ (if is_before q p then found_in os else 0) + found_before p (e ∷ es))
+    elim (is_path_before q e.0) as (λ b. found_before p (if b then (q, os) ∷ e ∷ es else e ∷ insert q os es) ≡ (if is_path_before q p then found_in os else 0) + found_before p (e ∷ es))
     [ true ↦ refl | false ↦ omega (arith, found_insert p q os es) ]
 
-found_after : (p : List ℕ) (ends : List Ending) (e : TreeEntry) → found_before p (ends_after ends e) ≡ adds p e + found_before p ends
+found_after : (p : List ℕ) (ends : List EndedPath) (e : TreeEntry) → found_before p (ends_after ends e) ≡ adds p e + found_before p ends
 found_after p ends (split s q ks) = omega arith
 found_after p ends (done s q os) = found_insert p q os ends
 found_after p ends (skip s q n) = omega arith

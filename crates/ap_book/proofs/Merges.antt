@@ -5,7 +5,7 @@ use Rattle.ap_paths.specs.declared.entries.Entry.TheVariants.{Split, Done, Skip,
 use Rattle.ap_defs.specs.declared.paths.Out.{Out}
 use Rattle.ap_defs.specs.Answers.{NominalOut, out_of, outs_of}
 use Rattle.ap_paths.specs.Entries.{entries_of}
-use Rattle.ap_paths.specs.Merging.{is_before, insert, ends_from, all_outs, merged}
+use Rattle.ap_paths.specs.Merging.{is_path_before, insert, ends_from, all_outs, merged}
 use Rattle.ap_book.specs.Values.{ended_from, all_values, merged_values}
 
 -- the view of outputs goes through all this
@@ -17,7 +17,7 @@ viewed_insert : (p : List ℕ) (os : List Out) (es : List (List ℕ × List Out)
 unfolding viewed
 viewed_insert p os [] = refl
 viewed_insert p os (e ∷ es) =
-    elim (is_before p e.0) as (λ b. viewed (if b then (p, os) ∷ e ∷ es else e ∷ insert p os es) ≡ (if b then (p, outs_of os) ∷ (e.0, outs_of e.1) ∷ viewed es else (e.0, outs_of e.1) ∷ insert p (outs_of os) (viewed es)))
+    elim (is_path_before p e.0) as (λ b. viewed (if b then (p, os) ∷ e ∷ es else e ∷ insert p os es) ≡ (if b then (p, outs_of os) ∷ (e.0, outs_of e.1) ∷ viewed es else (e.0, outs_of e.1) ∷ insert p (outs_of os) (viewed es)))
     [ true ↦ refl | false ↦ ap (λ l. (e.0, outs_of e.1) ∷ l) (viewed_insert p os es) ]
 
 viewed_ends : (ends : List (List ℕ × List Out)) (history : List Entry) → viewed (ended_from ends history) ≡ ends_from (viewed ends) (entries_of history)

@@ -3,12 +3,12 @@ use Rattle.std.specs.Prelude.{◌≡◌, ℕ, ◌+◌, ◌<◌, ◌≤◌, if◌
 use Rattle.ap_paths.specs.declared.entries.Entry.{Entry}
 use Rattle.ap_paths.specs.Entries.{TreeEntry, split, done, skip, stop, entry_of, entries_of}
 use Rattle.ap_paths.specs.Limits.{found_in}
-use Rattle.ap_paths.specs.Merging.{is_before}
+use Rattle.ap_paths.specs.Merging.{is_path_before}
 use Rattle.ap_paths.specs.History.{answers_before}
 
 abbrev pub adds : List ℕ → TreeEntry → ℕ
 adds p (split seat q ks) = 0
-adds p (done seat q os) = if is_before q p then found_in os else 0
+adds p (done seat q os) = if is_path_before q p then found_in os else 0
 adds p (skip seat q n) = 0
 adds p (stop seat) = 0
 

@@ -10,14 +10,14 @@ paths_of [] = []
 paths_of (v ∷ vs) = v.items ∷ paths_of vs
 
 -- the paths part at some entry, so neither begins the other
-abbrev pub part : List ℕ → List ℕ → Bool
-part [] q = false
-part (x ∷ xs) [] = false
-part (x ∷ xs) (y ∷ ys) = not (x == y) || part xs ys
+abbrev pub paths_part : List ℕ → List ℕ → Bool
+paths_part [] q = false
+paths_part (x ∷ xs) [] = false
+paths_part (x ∷ xs) (y ∷ ys) = not (x == y) || paths_part xs ys
 
 abbrev pub parts_from : List ℕ → List (List ℕ) → Bool
 parts_from p [] = true
-parts_from p (q ∷ qs) = part p q && parts_from p qs
+parts_from p (q ∷ qs) = paths_part p q && parts_from p qs
 
 -- no path of the list begins another
 abbrev pub all_part : List (List ℕ) → Bool

@@ -5,7 +5,7 @@ use Rattle.std.proofs.lemmas.Grind.{flat_map-append}
 use Rattle.std.specs.List.{list_any, position_or_len, AllByRecursion as Each}
 use Rattle.ap_defs.specs.Terms as terms
 use Rattle.ap_defs.specs.Terms.{NominalTerm}
-use Rattle.ap_bundle.specs.Tables.{same, with_parts, with_term, with_terms, grown, line_of, entry_words, Has, HasParts}
+use Rattle.ap_bundle.specs.Tables.{same, with_parts, with_table_term, with_table_terms, grown, line_of, entry_words, Has, HasParts}
 use Rattle.ap_bundle.proofs.SameLemmas.{cases, same_true, own_same}
 
 or_true : (a b : Bool) → b ≡ true → (a || b) ≡ true
@@ -55,46 +55,46 @@ line_last (x ∷ table) t = elim (cases (same t x)) [
 ]
 
 -- the term that is added
-pub has_term : (table : List NominalTerm) (t : NominalTerm) → Has (with_term table t) t
+pub has_term : (table : List NominalTerm) (t : NominalTerm) → Has (with_table_term table t) t
 has_term table t = elim (cases (list_any (same t) table)) [
   | inl e ↦ rw e e
   | inr e ↦ rw e (has_last table t)
 ]
 
-pub line_term : (table : List NominalTerm) (t : NominalTerm) → line_of (with_term table t) t ≡ line_of table t
+pub line_term : (table : List NominalTerm) (t : NominalTerm) → line_of (with_table_term table t) t ≡ line_of table t
 line_term table t = elim (cases (list_any (same t) table)) [
   | inl e ↦ rw e refl
   | inr e ↦ rw e (line_last table t)
 ]
 
 -- a table grows at its end
-pub term_more : (table : List NominalTerm) (t : NominalTerm) → (more : List NominalTerm) × (with_term table t ≡ table ++ more)
+pub term_more : (table : List NominalTerm) (t : NominalTerm) → (more : List NominalTerm) × (with_table_term table t ≡ table ++ more)
 term_more table t = elim (cases (list_any (same t) table)) [
   | inl e ↦ ([], rw e (sym (append-nil table)))
   | inr e ↦ (t ∷ [], rw e refl)
 ]
 
-pub terms_more : (table ts : List NominalTerm) → (more : List NominalTerm) × (with_terms table ts ≡ table ++ more)
+pub terms_more : (table ts : List NominalTerm) → (more : List NominalTerm) × (with_table_terms table ts ≡ table ++ more)
 terms_more table [] = ([], sym (append-nil table))
 terms_more table (t ∷ ts) =
     let first = term_more table t in
-    let others = terms_more (with_term table t) ts in
+    let others = terms_more (with_table_term table t) ts in
     (first.0 ++ others.0, others.1 ∙ ap (λ z. z ++ others.0) first.1 ∙ append_assoc table first.0 others.0)
 
-pub terms_append : (table ts us : List NominalTerm) → with_terms table (ts ++ us) ≡ with_terms (with_terms table ts) us
+pub terms_append : (table ts us : List NominalTerm) → with_table_terms table (ts ++ us) ≡ with_table_terms (with_table_terms table ts) us
 terms_append table [] us = refl
-terms_append table (t ∷ ts) us = terms_append (with_term table t) ts us
+terms_append table (t ∷ ts) us = terms_append (with_table_term table t) ts us
 
 pub grown_append : (table ts us : List NominalTerm) → grown table (ts ++ us) ≡ grown (grown table ts) us
-grown_append table ts us = ap (with_terms table) (flat_map-append with_parts ts us) ∙ terms_append table (flat_map with_parts ts) (flat_map with_parts us)
+grown_append table ts us = ap (with_table_terms table) (flat_map-append with_parts ts us) ∙ terms_append table (flat_map with_parts ts) (flat_map with_parts us)
 
 -- one term with its parts
-pub grown_one : (table : List NominalTerm) (t : NominalTerm) → grown table (t ∷ []) ≡ with_terms table (with_parts t)
-grown_one table t = ap (with_terms table) (append-nil (with_parts t))
+pub grown_one : (table : List NominalTerm) (t : NominalTerm) → grown table (t ∷ []) ≡ with_table_terms table (with_parts t)
+grown_one table t = ap (with_table_terms table) (append-nil (with_parts t))
 
 -- a term stands behind its parts
-has_whole : (table : List NominalTerm) (t : NominalTerm) (front : List NominalTerm) → with_parts t ≡ front ++ t ∷ [] → Has (with_terms table (with_parts t)) t
-has_whole table t front e = subst (λ ts. Has (with_terms table ts) t) (sym e) (subst (λ us. Has us t) (sym (terms_append table front (t ∷ []))) (has_term (with_terms table front) t))
+has_whole : (table : List NominalTerm) (t : NominalTerm) (front : List NominalTerm) → with_parts t ≡ front ++ t ∷ [] → Has (with_table_terms table (with_parts t)) t
+has_whole table t front e = subst (λ ts. Has (with_table_terms table ts) t) (sym e) (subst (λ us. Has us t) (sym (terms_append table front (t ∷ []))) (has_term (with_table_terms table front) t))
 
 whole_last : (t : NominalTerm) → (front : List NominalTerm) × (with_parts t ≡ front ++ t ∷ [])
 whole_last terms.unit = ([], refl)

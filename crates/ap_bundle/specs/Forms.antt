@@ -81,43 +81,43 @@ swaps zero ns = Some ([], ns)
 swaps (suc k) ns = a_swap ns >>= λ s. with_swaps (s.0 ∷ []) (swaps k s.1)
 
 -- where no number is left
-abbrev pub at_end : {A : Type 0} → A → List ℕ → Option A
-at_end x [] = Some x
-at_end x (n ∷ ns) = None
+abbrev pub if_no_number : {A : Type 0} → A → List ℕ → Option A
+if_no_number x [] = Some x
+if_no_number x (n ∷ ns) = None
 
 unfoldable pub name_onto : List ℕ → List NominalTerm → Option (List NominalTerm)
 name_onto ns ts = do
   a ← a_name ns
-  at_end (terms.name a.0 ∷ ts) a.1
+  if_no_number (terms.name a.0 ∷ ts) a.1
 
 unfoldable pub pair_onto : List ℕ → List NominalTerm → Option (List NominalTerm)
 pair_onto ns ts = do
   t ← first ts
   u ← first t.1
-  at_end (terms.pair t.0 u.0 ∷ u.1) ns
+  if_no_number (terms.pair t.0 u.0 ∷ u.1) ns
 
 unfoldable pub app_onto : List ℕ → List NominalTerm → Option (List NominalTerm)
 app_onto ns ts = do
   f ← small ns
   t ← first ts
-  at_end (terms.app f.0 t.0 ∷ t.1) f.1
+  if_no_number (terms.app f.0 t.0 ∷ t.1) f.1
 
 unfoldable pub abs_onto : List ℕ → List NominalTerm → Option (List NominalTerm)
 abs_onto ns ts = do
   a ← a_name ns
   t ← first ts
-  at_end (terms.abs a.0 t.0 ∷ t.1) a.1
+  if_no_number (terms.abs a.0 t.0 ∷ t.1) a.1
 
 unfoldable pub susp_onto : List ℕ → List NominalTerm → Option (List NominalTerm)
 susp_onto ns ts = do
   k ← first ns
   front ← swaps k.0 k.1
   x ← first front.1
-  at_end (terms.susp front.0 (record { num = x.0 }) ∷ ts) x.1
+  if_no_number (terms.susp front.0 (record { num = x.0 }) ∷ ts) x.1
 
 -- a letter before numbers and terms: the term that it begins, and the other terms
 abbrev pub term_onto : Letter → List ℕ → List NominalTerm → Option (List NominalTerm)
-term_onto letter.U ns ts = at_end (terms.unit ∷ ts) ns
+term_onto letter.U ns ts = if_no_number (terms.unit ∷ ts) ns
 term_onto letter.N ns ts = name_onto ns ts
 term_onto letter.P ns ts = pair_onto ns ts
 term_onto letter.A ns ts = app_onto ns ts
@@ -129,33 +129,33 @@ term_onto letter.B ns ts = None
 unfoldable pub names_onto : List ℕ → List NominalType → Option (List NominalType)
 names_onto ns ts = do
   s ← small ns
-  at_end (types.names s.0 ∷ ts) s.1
+  if_no_number (types.names s.0 ∷ ts) s.1
 
 unfoldable pub base_onto : List ℕ → List NominalType → Option (List NominalType)
 base_onto ns ts = do
   d ← small ns
-  at_end (types.base d.0 ∷ ts) d.1
+  if_no_number (types.base d.0 ∷ ts) d.1
 
 unfoldable pub pair_type_onto : List ℕ → List NominalType → Option (List NominalType)
 pair_type_onto ns ts = do
   t ← first ts
   u ← first t.1
-  at_end (types.pair t.0 u.0 ∷ u.1) ns
+  if_no_number (types.pair t.0 u.0 ∷ u.1) ns
 
 unfoldable pub list_onto : List ℕ → List NominalType → Option (List NominalType)
 list_onto ns ts = do
   t ← first ts
-  at_end (types.list t.0 ∷ t.1) ns
+  if_no_number (types.list t.0 ∷ t.1) ns
 
 unfoldable pub abs_type_onto : List ℕ → List NominalType → Option (List NominalType)
 abs_type_onto ns ts = do
   s ← small ns
   t ← first ts
-  at_end (types.abs s.0 t.0 ∷ t.1) s.1
+  if_no_number (types.abs s.0 t.0 ∷ t.1) s.1
 
 -- the same of types
 abbrev pub type_onto : Letter → List ℕ → List NominalType → Option (List NominalType)
-type_onto letter.U ns ts = at_end (types.unit ∷ ts) ns
+type_onto letter.U ns ts = if_no_number (types.unit ∷ ts) ns
 type_onto letter.N ns ts = names_onto ns ts
 type_onto letter.D ns ts = base_onto ns ts
 type_onto letter.P ns ts = pair_type_onto ns ts

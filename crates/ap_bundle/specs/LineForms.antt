@@ -14,7 +14,7 @@ use Rattle.ap_bundle.specs.declared.words.Word.{Word}
 use Rattle.ap_bundle.specs.declared.words.Word.TheVariants as words
 use Rattle.ap_bundle.specs.declared.version.Version.{Version}
 use Rattle.ap_bundle.specs.declared.version.Version.TheVariants.{One, Two}
-use Rattle.ap_bundle.specs.Versions.{first_line}
+use Rattle.ap_bundle.specs.Versions.{version_line}
 use Rattle.ap_bundle.specs.Words.{head_text}
 use Rattle.ap_bundle.specs.Forms.{◌>>=◌, form, term_onto, type_onto}
 use Rattle.ap_bundle.specs.Nodes as nodes
@@ -29,14 +29,14 @@ abbrev pub number : List Word → Option (ℕ × List Word)
 number (words.Number n ∷ ws) = Some (n, ws)
 number ws = None
 
-abbrev pub if_small : ℕ × List Word → Option (ℕ × List Word)
-if_small n = if nat_lt n.0 (2 ^ 32) then Some n else None
+abbrev pub if_small_word : ℕ × List Word → Option (ℕ × List Word)
+if_small_word n = if nat_lt n.0 (2 ^ 32) then Some n else None
 
 -- a number below 2 ^ 32
 unfoldable pub small_number : List Word → Option (ℕ × List Word)
 small_number ws = do
   n ← number ws
-  if_small n
+  if_small_word n
 
 unfoldable pub name : List Word → Option (Name × List Word)
 name ws = do
@@ -45,23 +45,23 @@ name ws = do
   Some (record { sort = sort.0; num = num.0 }, num.1)
 
 -- where no word is left
-abbrev pub at_end : {A : Type 0} → A → List Word → Option A
-at_end x [] = Some x
-at_end x (w ∷ ws) = None
+abbrev pub if_no_word : {A : Type 0} → A → List Word → Option A
+if_no_word x [] = Some x
+if_no_word x (w ∷ ws) = None
 
 -- a count behind this word
 unfoldable pub count_form : Head → List Word → Option ℕ
 count_form h ws = do
   rest ← after_head h ws
   n ← number rest
-  at_end n.0 n.1
+  if_no_word n.0 n.1
 
 -- `derivation Q`
 unfoldable pub query_form : List Word → Option ℕ
 query_form ws = do
   rest ← after_head head.Derivation ws
   q ← small_number rest
-  at_end q.0 q.1
+  if_no_word q.0 q.1
 
 -- `v NUM TYPE`
 unfoldable pub var_form : List Word → Option (Var × NominalType)
@@ -77,14 +77,14 @@ cond_form ws = do
   rest ← after_head head.C ws
   a ← name rest
   x ← number a.1
-  at_end (record { name = a.0; var = record { num = x.0 } }) x.1
+  if_no_word (record { name = a.0; var = record { num = x.0 } }) x.1
 
 -- `m SORT NUM`
 unfoldable pub name_form : List Word → Option Name
 name_form ws = do
   rest ← after_head head.M ws
   a ← name rest
-  at_end a.0 a.1
+  if_no_word a.0 a.1
 
 -- `t TERM`
 unfoldable pub term_form : List Word → Option NominalTerm
@@ -104,23 +104,23 @@ atom_line ws = do
   k ← small_number ws
   names ← number k.1
   terms ← number names.1
-  at_end (atom k.0 names.0 terms.0) terms.1
+  if_no_word (atom k.0 names.0 terms.0) terms.1
 
 -- `new SORT NUM`
 unfoldable pub new_line : {T : Type 0} → List Word → Option (NodeLine T)
 new_line ws = do
   a ← name ws
-  at_end (whole (nodes.new a.0)) a.1
+  if_no_word (whole (nodes.new a.0)) a.1
 
 abbrev pub node_behind : {T : Type 0} → NodeWord → List Word → Option (NodeLine T)
 node_behind word.Atom ws = atom_line ws
-node_behind word.Eq ws = at_end (whole nodes.equal) ws
-node_behind word.Fresh ws = at_end (whole nodes.fresh) ws
-node_behind word.True ws = at_end (whole nodes.succeed) ws
-node_behind word.And ws = at_end (whole nodes.both) ws
-node_behind word.Left ws = at_end (whole nodes.left) ws
-node_behind word.Right ws = at_end (whole nodes.right) ws
-node_behind word.Exists ws = at_end exists ws
+node_behind word.Eq ws = if_no_word (whole nodes.equal) ws
+node_behind word.Fresh ws = if_no_word (whole nodes.fresh) ws
+node_behind word.True ws = if_no_word (whole nodes.succeed) ws
+node_behind word.And ws = if_no_word (whole nodes.both) ws
+node_behind word.Left ws = if_no_word (whole nodes.left) ws
+node_behind word.Right ws = if_no_word (whole nodes.right) ws
+node_behind word.Exists ws = if_no_word exists ws
 node_behind word.New ws = new_line ws
 
 abbrev pub node_form : {T : Type 0} → List Word → Option (NodeLine T)
@@ -131,8 +131,8 @@ node_form ws = None
 unfoldable pub end_form : List Word → Option (List Word)
 end_form ws = do
   rest ← after_head head.End ws
-  at_end [] rest
+  if_no_word [] rest
 
 -- the first line, by the version that it tells
 unfoldable pub first_form : List ℕ → Option Version
-first_form bytes = if bytes_eq bytes (first_line One) then Some One else (if bytes_eq bytes (first_line Two) then Some Two else None)
+first_form bytes = if bytes_eq bytes (version_line One) then Some One else (if bytes_eq bytes (version_line Two) then Some Two else None)

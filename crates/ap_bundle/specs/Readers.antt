@@ -7,7 +7,7 @@ use Rattle.ap_bundle.specs.declared.words.Word.{Word}
 use Rattle.ap_bundle.specs.Words.{line_words}
 
 -- What is left of the bytes, and how large the shared terms may be that are still to come.
-pub record Place : Type 0 where
+pub record Unread : Type 0 where
   pub rest : List ℕ
   pub room : ℕ
 
@@ -26,17 +26,17 @@ abbrev pub on_ok : {A B : Type 0} → Result A Wrong → (A → Result B Wrong) 
 on_ok r f = r >>= f
 
 abbrev pub Reader : Type 0 → Type 0
-Reader A = Place → Result (A × Place) Wrong
+Reader A = Unread → Result (A × Unread) Wrong
 
 -- the bytes end too early
 abbrev pub unended : Wrong
 unended = record { kind = kinds.Unended; left = 0 }
 
 -- what begins at the place is wrong
-abbrev pub wrong : BundleKind → Place → Wrong
+abbrev pub wrong : BundleKind → Unread → Wrong
 wrong kind p = record { kind = kind; left = length p.rest }
 
-abbrev pub found : {A : Type 0} → BundleKind → Place → Option A → Result A Wrong
+abbrev pub found : {A : Type 0} → BundleKind → Unread → Option A → Result A Wrong
 found kind p None = Err (wrong kind p)
 found kind p (Some x) = Ok x
 
@@ -48,11 +48,11 @@ abbrev pub first_line : List ℕ → Option (List ℕ × List ℕ)
 first_line [] = None
 first_line (b ∷ bs) = if is_lf b then Some ([], bs) else option_map (λ l. (b ∷ l.0, l.1)) (first_line bs)
 
-abbrev pub after_line : Place → List ℕ × List ℕ → Place
+abbrev pub after_line : Unread → List ℕ × List ℕ → Unread
 after_line p l = record p { rest = l.1 }
 
 -- the form of a line that was cut off
-abbrev pub line_as : {A : Type 0} → BundleKind → (List ℕ → Option A) → Place → Option (List ℕ × List ℕ) → Result (A × Place) Wrong
+abbrev pub line_as : {A : Type 0} → BundleKind → (List ℕ → Option A) → Unread → Option (List ℕ × List ℕ) → Result (A × Unread) Wrong
 line_as kind form p None = Err unended
 line_as kind form p (Some l) = found kind p (form l.0) >>= λ x. Ok (x, after_line p l)
 
@@ -72,7 +72,7 @@ read_form kind form p = do
   Ok (x, words.1)
 
 -- these before those that are read
-abbrev pub with_front : {A : Type 0} → List A → Result (List A × Place) Wrong → Result (List A × Place) Wrong
+abbrev pub with_front : {A : Type 0} → List A → Result (List A × Unread) Wrong → Result (List A × Unread) Wrong
 with_front front read = read >>= λ more. Ok (front ++ more.0, more.1)
 
 -- so many things

@@ -11,7 +11,7 @@ use Rattle.ap_bundle.specs.declared.faults.BundleFault.{BundleFault}
 use Rattle.ap_bundle.specs.declared.words.Head.{Head}
 use Rattle.ap_bundle.specs.declared.words.Head.TheVariants as head
 use Rattle.ap_bundle.specs.declared.words.Word.{Word}
-use Rattle.ap_bundle.specs.Readers.{Place, Wrong, Reader, ◌>>=◌, unended, wrong, found, is_lf, read_line, read_form, with_front, repeated, fault_in}
+use Rattle.ap_bundle.specs.Readers.{Unread, Wrong, Reader, ◌>>=◌, unended, wrong, found, is_lf, read_line, read_form, with_front, repeated, fault_in}
 use Rattle.ap_bundle.specs.declared.version.Version.{Version}
 use Rattle.ap_bundle.specs.declared.version.Version.TheVariants.{One, Two}
 use Rattle.ap_bundle.specs.TableForms.{read_entries, read_shared}
@@ -96,34 +96,34 @@ read_text n p =
     else Err (wrong Header (record p { rest = drop n p.rest })))
 
 -- nothing stands after the last line
-abbrev pub ends : Place → Result (List Word) Wrong
+abbrev pub ends : Unread → Result (List Word) Wrong
 ends p = if length p.rest == 0 then Ok [] else Err (wrong Header p)
 
 -- the last line, after which nothing stands
-unfoldable pub read_last : Place → Result (List Word) Wrong
+unfoldable pub read_last : Unread → Result (List Word) Wrong
 read_last p = do
   end ← read_form Header forms.end_form p
   ends end.1
 
-unfoldable pub read_rest : Reader NominalTerm → Place → Result (List NominalProved) Wrong
+unfoldable pub read_rest : Reader NominalTerm → Unread → Result (List NominalProved) Wrong
 read_rest term p = do
   all ← read_listed head.Derivations (read_proved term) p
   end ← read_last all.1
   Ok all.0
 
 -- the table, and what follows it
-unfoldable pub read_shared_rest : Place → Result (List NominalProved) Wrong
+unfoldable pub read_shared_rest : Unread → Result (List NominalProved) Wrong
 read_shared_rest p = do
   n ← read_count head.Terms p
   table ← read_entries n.0 [] n.1
   read_rest (read_shared table.0) table.1
 
 -- what follows the text in this version
-abbrev pub read_version : Version → Place → Result (List NominalProved) Wrong
+abbrev pub read_version : Version → Unread → Result (List NominalProved) Wrong
 read_version One p = read_rest read_term p
 read_version Two p = read_shared_rest p
 
-unfoldable pub read_at : Place → Result NominalBundle Wrong
+unfoldable pub read_at : Unread → Result NominalBundle Wrong
 read_at p = do
   version ← read_line Header forms.first_form p
   n ← read_count head.Text version.1
@@ -136,7 +136,7 @@ abbrev pub room_at_first : ℕ
 room_at_first = 16777216
 
 -- the beginning of the bytes
-abbrev pub start : List ℕ → Place
+abbrev pub start : List ℕ → Unread
 start bytes = record { rest = bytes; room = room_at_first }
 
 abbrev pub at_line : {A : Type 0} → List ℕ → Result A Wrong → Result A BundleFault

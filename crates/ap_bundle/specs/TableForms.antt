@@ -8,10 +8,10 @@ use Rattle.ap_bundle.specs.declared.words.Letter.TheVariants as letter
 use Rattle.ap_bundle.specs.declared.words.Head.TheVariants as head
 use Rattle.ap_bundle.specs.declared.words.Word.{Word}
 use Rattle.ap_bundle.specs.declared.words.Word.TheVariants as words
-use Rattle.ap_bundle.specs.Forms.{◌>>=◌, first, small, a_name, swaps, at_end}
+use Rattle.ap_bundle.specs.Forms.{◌>>=◌, first, small, a_name, swaps, if_no_number}
 use Rattle.ap_bundle.specs.LineForms as lines
 use Rattle.ap_bundle.specs.Tables.{expanded_size}
-use Rattle.ap_bundle.specs.Readers.{Place, Wrong, on_ok, Reader, wrong, read_form}
+use Rattle.ap_bundle.specs.Readers.{Unread, Wrong, on_ok, Reader, wrong, read_form}
 
 abbrev pub before_numbers : ℕ → Option (List ℕ) → Option (List ℕ)
 before_numbers n more = more >>= λ ns. Some (n ∷ ns)
@@ -34,36 +34,36 @@ earlier table ns = do
 unfoldable pub name_entry : List ℕ → Option NominalTerm
 name_entry ns = do
   a ← a_name ns
-  at_end (terms.name a.0) a.1
+  if_no_number (terms.name a.0) a.1
 
 unfoldable pub pair_entry : List NominalTerm → List ℕ → Option NominalTerm
 pair_entry table ns = do
   t ← earlier table ns
   u ← earlier table t.1
-  at_end (terms.pair t.0 u.0) u.1
+  if_no_number (terms.pair t.0 u.0) u.1
 
 unfoldable pub app_entry : List NominalTerm → List ℕ → Option NominalTerm
 app_entry table ns = do
   f ← small ns
   t ← earlier table f.1
-  at_end (terms.app f.0 t.0) t.1
+  if_no_number (terms.app f.0 t.0) t.1
 
 unfoldable pub abs_entry : List NominalTerm → List ℕ → Option NominalTerm
 abs_entry table ns = do
   a ← a_name ns
   t ← earlier table a.1
-  at_end (terms.abs a.0 t.0) t.1
+  if_no_number (terms.abs a.0 t.0) t.1
 
 unfoldable pub susp_entry : List ℕ → Option NominalTerm
 susp_entry ns = do
   k ← first ns
   front ← swaps k.0 k.1
   x ← first front.1
-  at_end (terms.susp front.0 (record { num = x.0 })) x.1
+  if_no_number (terms.susp front.0 (record { num = x.0 })) x.1
 
 -- `u`, `n SORT NUM`, `p I J`, `a F I`, `l SORT NUM I`, or `s K`, K triples `SORT NUM NUM`, and `VAR`
 abbrev pub entry : List NominalTerm → Letter → List ℕ → Option NominalTerm
-entry table letter.U ns = at_end terms.unit ns
+entry table letter.U ns = if_no_number terms.unit ns
 entry table letter.N ns = name_entry ns
 entry table letter.P ns = pair_entry table ns
 entry table letter.A ns = app_entry table ns
@@ -97,10 +97,10 @@ shared_form table ws = do
   rest ← lines.after_head head.R ws
   i ← lines.number rest
   t ← slice_get table i.0
-  lines.at_end t i.1
+  lines.if_no_word t i.1
 
 -- the place behind a shared term, if there is room for it
-abbrev pub room_for : Place → NominalTerm → Place → Result (NominalTerm × Place) Wrong
+abbrev pub room_for : Unread → NominalTerm → Unread → Result (NominalTerm × Unread) Wrong
 room_for p t q =
     if nat_lt q.room (expanded_size t) then Err (wrong Expanded p)
     else Ok (t, record q { room = q.room - expanded_size t })

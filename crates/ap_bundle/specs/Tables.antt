@@ -53,17 +53,17 @@ with_parts (terms.abs a t) = with_parts t ++ terms.abs a t ∷ []
 with_parts (terms.susp p x) = terms.susp p x ∷ []
 
 -- one term more at the end, unless it is there
-abbrev pub with_term : List NominalTerm → NominalTerm → List NominalTerm
-with_term table t = if list_any (same t) table then table else (table ++ t ∷ [])
+abbrev pub with_table_term : List NominalTerm → NominalTerm → List NominalTerm
+with_table_term table t = if list_any (same t) table then table else (table ++ t ∷ [])
 
 -- terms more, in turn
-abbrev pub with_terms : List NominalTerm → List NominalTerm → List NominalTerm
-with_terms table [] = table
-with_terms table (t ∷ ts) = with_terms (with_term table t) ts
+abbrev pub with_table_terms : List NominalTerm → List NominalTerm → List NominalTerm
+with_table_terms table [] = table
+with_table_terms table (t ∷ ts) = with_table_terms (with_table_term table t) ts
 
 -- terms with their parts more
 abbrev pub grown : List NominalTerm → List NominalTerm → List NominalTerm
-grown table ts = with_terms table (flat_map with_parts ts)
+grown table ts = with_table_terms table (flat_map with_parts ts)
 
 -- the line of a term, from 0: how many stand before the first that is the same
 abbrev pub line_of : List NominalTerm → NominalTerm → ℕ

@@ -102,10 +102,10 @@ abbrev pub before_words : Word → Option (List Word) → Option (List Word)
 before_words w ws = option_map (λ all. w ∷ all) ws
 
 -- the words that are spelled so, if each is a word
-abbrev pub words_of : List (List ℕ) → Option (List Word)
-words_of [] = Some []
-words_of (text ∷ texts) = option_and_then (λ w. before_words w (words_of texts)) (word_of text)
+abbrev pub words_spelled : List (List ℕ) → Option (List Word)
+words_spelled [] = Some []
+words_spelled (text ∷ texts) = option_and_then (λ w. before_words w (words_spelled texts)) (word_of text)
 
 -- the words of a line, given without its LF
 abbrev pub line_words : List ℕ → Option (List Word)
-line_words text = words_of (slice_split (λ b. b == 32) text)
+line_words text = words_spelled (slice_split (λ b. b == 32) text)

@@ -88,9 +88,9 @@ abbrev pub shared_line : List NominalTerm → NominalTerm → List ℕ
 shared_line table t = counted_line head.R (line_of table t)
 
 -- how a term is written, beside this table
-abbrev pub line_as : Version → List NominalTerm → NominalTerm → List ℕ
-line_as One table t = term_line t
-line_as Two table t = shared_line table t
+abbrev pub written_line_as : Version → List NominalTerm → NominalTerm → List ℕ
+written_line_as One table t = term_line t
+written_line_as Two table t = shared_line table t
 
 -- a table, and what follows it
 abbrev pub shared_part : List NominalTerm → List NominalProved → List ℕ

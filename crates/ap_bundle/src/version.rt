@@ -15,7 +15,7 @@ pub enum Version {
 impl Version {
     /// The first line of a bundle of this version, without its LF.
     pub fn first_line(self) -> &'static str
-        ensures { result.now ≡ spec.first_line self }
+        ensures { result.now ≡ spec.version_line self }
     {
         match self {
             Version::One => "alphaprolog bundle 1",

@@ -8,7 +8,7 @@ use Rattle.ap_bundle.specs.declared.words.Head.TheVariants as head
 use Rattle.ap_bundle.specs.declared.words.Word.{Word}
 use Rattle.ap_bundle.specs.Bundles.{NominalBundle, NominalProved}
 use Rattle.ap_bundle.specs.LineForms.{count_form, first_form}
-use Rattle.ap_bundle.specs.Readers.{Place, Wrong, ◌>>=◌, after_line, first_line, found, is_lf, line_as, read_form, read_line, read_words, unended, wrong}
+use Rattle.ap_bundle.specs.Readers.{Unread, Wrong, ◌>>=◌, after_line, first_line, found, is_lf, line_as, read_form, read_line, read_words, unended, wrong}
 use Rattle.ap_bundle.specs.Words.{line_words}
 use Rattle.ap_bundle.specs.Reading.{at_line, read_at, read_text, read_version, reading, start}
 
@@ -39,43 +39,43 @@ same_ok : {A : Type 0} (a b : A) → ◌≡◌ {A = Result A Wrong} (Ok a) (Ok b
 same_ok a b e = cc
 
 -- a line leaves no more than there was
-line_short : {A : Type 0} (kind : BundleKind) (form : List ℕ → Option A) (p : Place) (x : A × Place) → read_line kind form p ≡ Ok x → length x.1.rest ≤ length p.rest
+line_short : {A : Type 0} (kind : BundleKind) (form : List ℕ → Option A) (p : Unread) (x : A × Unread) → read_line kind form p ≡ Ok x → length x.1.rest ≤ length p.rest
 unfolding read_line
 line_short {A} kind form p x e = go (first_line p.rest) e (rest_short p.rest)
   where
     go : (o : Option (List ℕ × List ℕ)) → line_as kind form p o ≡ Ok x → ((l : List ℕ × List ℕ) → o ≡ Some l → length l.1 ≤ length p.rest) → length x.1.rest ≤ length p.rest
-    go None h short = absurd (let k : ◌≡◌ {A = Result (A × Place) Wrong} (Err unended) (Ok x) = h in cc)
+    go None h short = absurd (let k : ◌≡◌ {A = Result (A × Unread) Wrong} (Err unended) (Ok x) = h in cc)
     go (Some l) h short =
         let parts = both_read (found kind p (form l.0)) (λ y. Ok (y, after_line p l)) x h in
         let same : (parts.0, after_line p l) ≡ x = same_ok (parts.0, after_line p l) x parts.2 in
-        subst (λ (y : A × Place). length y.1.rest ≤ length p.rest) same (short l refl)
+        subst (λ (y : A × Unread). length y.1.rest ≤ length p.rest) same (short l refl)
 
-form_short : {A : Type 0} (kind : BundleKind) (form : List Word → Option A) (p : Place) (x : A × Place) → read_form kind form p ≡ Ok x → length x.1.rest ≤ length p.rest
+form_short : {A : Type 0} (kind : BundleKind) (form : List Word → Option A) (p : Unread) (x : A × Unread) → read_form kind form p ≡ Ok x → length x.1.rest ≤ length p.rest
 unfolding read_form
 form_short {A} kind form p x e =
     let words = both_read (read_words kind p) (λ w. found kind p (form w.0) >>= λ y. Ok (y, w.1)) x e in
     let its = both_read (found kind p (form words.0.0)) (λ y. Ok (y, words.0.1)) x words.2 in
     let same : (its.0, words.0.1) ≡ x = same_ok (its.0, words.0.1) x its.2 in
-    subst (λ (y : A × Place). length y.1.rest ≤ length p.rest) same (line_short kind line_words p words.0 words.1)
+    subst (λ (y : A × Unread). length y.1.rest ≤ length p.rest) same (line_short kind line_words p words.0 words.1)
 
 take_short : (n : ℕ) (bs : List ℕ) → length (take n bs) ≤ length bs
 take_short zero bs = omega arith
 take_short (suc n) [] = omega arith
 take_short (suc n) (b ∷ bs) = let short = take_short n bs in omega arith
 
-text_short : (n : ℕ) (p : Place) (x : List ℕ × Place) → read_text n p ≡ Ok x → length x.0 ≤ length p.rest
+text_short : (n : ℕ) (p : Unread) (x : List ℕ × Unread) → read_text n p ≡ Ok x → length x.0 ≤ length p.rest
 unfolding read_text
 text_short n p x e = go (nat_le (length p.rest) n) (is_lf (slice_index p.rest n)) e
   where
     go : (b c : Bool) → (if b then Err unended else (if c then Ok (take n p.rest, record p { rest = drop (n + 1) p.rest }) else Err (wrong Header (record p { rest = drop n p.rest })))) ≡ Ok x
         → length x.0 ≤ length p.rest
-    go true c h = absurd (let k : ◌≡◌ {A = Result (List ℕ × Place) Wrong} (Err unended) (Ok x) = h in cc)
+    go true c h = absurd (let k : ◌≡◌ {A = Result (List ℕ × Unread) Wrong} (Err unended) (Ok x) = h in cc)
     go false true h =
         let same : (take n p.rest, record p { rest = drop (n + 1) p.rest }) ≡ x = same_ok _ x h in
-        subst (λ (y : List ℕ × Place). length y.0 ≤ length p.rest) same (take_short n p.rest)
-    go false false h = absurd (let k : ◌≡◌ {A = Result (List ℕ × Place) Wrong} (Err (wrong Header (record p { rest = drop n p.rest }))) (Ok x) = h in cc)
+        subst (λ (y : List ℕ × Unread). length y.0 ≤ length p.rest) same (take_short n p.rest)
+    go false false h = absurd (let k : ◌≡◌ {A = Result (List ℕ × Unread) Wrong} (Err (wrong Header (record p { rest = drop n p.rest }))) (Ok x) = h in cc)
 
-bundle_short : (p : Place) (b : NominalBundle) → read_at p ≡ Ok b → length b.text ≤ length p.rest
+bundle_short : (p : Unread) (b : NominalBundle) → read_at p ≡ Ok b → length b.text ≤ length p.rest
 unfolding read_at
 bundle_short p b e =
     let first = both_read _ _ b e in

@@ -41,13 +41,13 @@ abbrev pub cover_report : ℕ → List NominalProved → NominalProgram → Repo
 cover_report depth ds p = proofs_report depth ds p (first_refused p 1 ds)
 
 -- the report on what was read
-abbrev pub IsReadReport : ℕ → Result NominalBundle BundleFault → Report → Type 0
-IsReadReport depth (Ok b) r = IsTextReport (cover_report depth b.proved) b.text r
-IsReadReport depth (Err f) r = r ≡ bundle_fault_report f
+abbrev pub IsReadCoverReport : ℕ → Result NominalBundle BundleFault → Report → Type 0
+IsReadCoverReport depth (Ok b) r = IsTextReport (cover_report depth b.proved) b.text r
+IsReadCoverReport depth (Err f) r = r ≡ bundle_fault_report f
 
 -- the report of `cover` on bytes
 abbrev pub IsCoverReport : ℕ → List ℕ → Report → Type 0
-IsCoverReport depth bytes = IsReadReport depth (reading bytes)
+IsCoverReport depth bytes = IsReadCoverReport depth (reading bytes)
 
 -- each ground proof of the bundle that checks, no higher than the depth, is covered by what is found for it
 abbrev pub HasCoveredProofs : ℕ → List ℕ → Type 0

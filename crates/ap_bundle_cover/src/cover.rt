@@ -6,7 +6,7 @@ ghost use Rattle.ap_defs.specs.Goals.{program_of};
 ghost use Rattle.ap_defs.specs.Limits.{size_limit};
 ghost use Rattle.ap_report.specs.declared.report.Report.{Report};
 ghost use Rattle.ap_bundle_cover.specs.Reports as spec;
-ghost use Rattle.ap_bundle_cover.specs.Reports.{HasCoveredProofs, IsCoverReport, IsReadReport};
+ghost use Rattle.ap_bundle_cover.specs.Reports.{HasCoveredProofs, IsCoverReport, IsReadCoverReport};
 ghost use Rattle.ap_bundle_cover.specs.Uncovered.{first_uncovered as first_of};
 
 use crate::lines::uncovered_line;
@@ -84,9 +84,9 @@ fn report_bundle<R: Threads + Wait + Sync, G: Gate>(
     bundle: &Bundle,
 ) -> Result<Report, Memory>
     requires few { length bundle.now.text ≤ size_limit }
-    ensures made { IfOk result (λ r. IsReadReport depth (Ok (bundle_of bundle.now)) r) }
+    ensures made { IfOk result (λ r. IsReadCoverReport depth (Ok (bundle_of bundle.now)) r) }
     ensures only { IfOk result (λ r. (s : Report) →
-        IsReadReport depth (Ok (bundle_of bundle.now)) s → s ≡ r) }
+        IsReadCoverReport depth (Ok (bundle_of bundle.now)) s → s ≡ r) }
 {
     match program_of_text(alloc, bundle.text.items()) {
         Ok(program) => {

@@ -10,7 +10,7 @@ use Rattle.ap_defs.specs.Derivations as derivation
 use Rattle.ap_defs.specs.Derivations.{NominalDerivation, terms_in}
 use Rattle.ap_bundle.specs.declared.version.Version.{Version}
 use Rattle.ap_bundle.specs.declared.version.Version.TheVariants.{One}
-use Rattle.ap_bundle.specs.Versions.{first_line}
+use Rattle.ap_bundle.specs.Versions.{version_line}
 use Rattle.ap_bundle.specs.Tables.{terms_of}
 use Rattle.ap_bundle.proofs.TableLemmas.{each_append}
 use Rattle.ap_bundle.specs.declared.faults.BundleKind.TheVariants.{Header, Term}
@@ -20,7 +20,7 @@ use Rattle.ap_bundle.specs.declared.words.Word.TheVariants as words
 use Rattle.ap_bundle.specs.Bundles.{NominalProved, NominalBundle}
 use Rattle.ap_bundle.specs.Nodes.{preorder}
 use Rattle.ap_bundle.specs.LineForms.{after_head, first_form, query_form, var_form, cond_form}
-use Rattle.ap_bundle.specs.Readers.{Place, Wrong, Reader, ◌>>=◌, unended, read_line, read_form, repeated}
+use Rattle.ap_bundle.specs.Readers.{Unread, Wrong, Reader, ◌>>=◌, unended, read_line, read_form, repeated}
 use Rattle.ap_bundle.specs.Written.{head_line, counted_line, listed, var_line, cond_line, term_line, node_lines, answer_lines, proved_lines, text_lines, proved_part, written}
 use Rattle.ap_bundle.specs.Reading.{read_count, read_listed, read_term, read_derivation, read_answer, read_proved, read_text, read_last, read_rest, read_version, read_at, room_at_first}
 use Rattle.ap_bundle_laws.specs.Laws.{Each, IsListOf, FitsVar, FitsCond, FitsTerm, FitsAnswer, FitsDerivation, FitsProved, FitsBundle}
@@ -71,11 +71,11 @@ good_text room t = record {
 }
 
 -- the same at the end of the bytes
-pub record IsLast {A : Type 0} (read : Place → Result A Wrong) (room : ℕ) (w : List ℕ) (x : A) : Type 0 where
+pub record IsLast {A : Type 0} (read : Unread → Result A Wrong) (room : ℕ) (w : List ℕ) (x : A) : Type 0 where
   pub whole : read (at w room) ≡ Ok x
   pub part : (v u : List ℕ) → w ≡ v ++ u → 0 < length u → read (at v room) ≡ Err unended
 
-pub last_then : {A B : Type 0} (read : Reader A) (next : A → Place → Result B Wrong) (room left : ℕ) (w v : List ℕ) (x : A) (y : B) → IsGood read room left w x → IsLast (next x) left v y
+pub last_then : {A B : Type 0} (read : Reader A) (next : A → Unread → Result B Wrong) (room left : ℕ) (w v : List ℕ) (x : A) (y : B) → IsGood read room left w x → IsLast (next x) left v y
     → IsLast (λ p. read p >>= λ z. next z.0 z.1) room (w ++ v) y
 last_then read next room left w v x y first second = record {
   whole = rw (first.whole v) second.whole;
@@ -94,7 +94,7 @@ last_line room =
       part = λ v u e h. rw (good.part v u e h) refl;
     }
 
-pub last_with : {A B : Type 0} (read : Place → Result A Wrong) (f : A → B) (room : ℕ) (w : List ℕ) (x : A) → IsLast read room w x → IsLast (λ p. read p >>= λ z. Ok (f z)) room w (f x)
+pub last_with : {A B : Type 0} (read : Unread → Result A Wrong) (f : A → B) (room : ℕ) (w : List ℕ) (x : A) → IsLast read room w x → IsLast (λ p. read p >>= λ z. Ok (f z)) room w (f x)
 last_with read f room w x last = record {
   whole = rw last.whole refl;
   part = λ v u e h. rw (last.part v u e h) refl;
@@ -153,8 +153,8 @@ module _ (term : Reader NominalTerm) (text : NominalTerm → List ℕ) (before :
       (last_with read_last (λ end. ps) left (head_line head.End []) [] (last_line left)))
 
 -- what stands before the text's version, and the text
-pub last_at : (v : Version) (room : ℕ) (b : NominalBundle) (part : List ℕ) → FitsBundle b → IsLast (read_version v) room part b.proved → IsGood (read_line Header first_form) room room (first_line v ++ 10 ∷ []) v
-    → IsLast read_at room ((first_line v ++ 10 ∷ []) ++ (text_lines b.text ++ part)) b
+pub last_at : (v : Version) (room : ℕ) (b : NominalBundle) (part : List ℕ) → FitsBundle b → IsLast (read_version v) room part b.proved → IsGood (read_line Header first_form) room room (version_line v ++ 10 ∷ []) v
+    → IsLast read_at room ((version_line v ++ 10 ∷ []) ++ (text_lines b.text ++ part)) b
 unfolding read_at after_head
 last_at v room b part h rest version =
     let count = good_count head.Text room (length b.text) h.0 refl in
@@ -163,7 +163,7 @@ last_at v room b part h rest version =
     let counted_text = last_then (read_count head.Text) (λ n p. read_text n p >>= λ t. read_version v t.1 >>= λ ps. Ok (record { text = t.0; proved = ps })) room room (counted_line head.Text (length b.text)) ((b.text ++ 10 ∷ []) ++ part) (length b.text) b count text in
     let grouped : IsLast (λ p. read_count head.Text p >>= λ n. read_text n.0 n.1 >>= λ t. read_version v t.1 >>= λ ps. Ok (record { text = t.0; proved = ps })) room (text_lines b.text ++ part) b =
     subst (λ w. IsLast (λ p. read_count head.Text p >>= λ n. read_text n.0 n.1 >>= λ t. read_version v t.1 >>= λ ps. Ok (record { text = t.0; proved = ps })) room w b) (sym (append_assoc (counted_line head.Text (length b.text)) (b.text ++ 10 ∷ []) part)) counted_text in
-    last_then (read_line Header first_form) (λ first p. read_count head.Text p >>= λ n. read_text n.0 n.1 >>= λ t. read_version first t.1 >>= λ ps. Ok (record { text = t.0; proved = ps })) room room (first_line v ++ 10 ∷ []) (text_lines b.text ++ part) v b version grouped
+    last_then (read_line Header first_form) (λ first p. read_count head.Text p >>= λ n. read_text n.0 n.1 >>= λ t. read_version first t.1 >>= λ ps. Ok (record { text = t.0; proved = ps })) room room (version_line v ++ 10 ∷ []) (text_lines b.text ++ part) v b version grouped
 
 -- terms in full
 each_terms : (d : NominalDerivation) → FitsDerivation d → Each FitsTerm (terms_in d)

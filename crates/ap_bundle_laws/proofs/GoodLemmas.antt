@@ -2,9 +2,9 @@
 use Rattle.std.proofs.Common.{◌≡◌, ℕ, ◌<◌, ◌⊎◌, inl, inr, List, [], ◌∷◌, ◌++◌, length, Ok, Err, refl, ap, sym, subst, ◌∙◌, append_assoc, length-append, arith}
 use Rattle.std.specs.List.{flat_map}
 use Rattle.ap_bundle_laws.specs.Laws.{Each}
-use Rattle.ap_bundle.specs.Readers.{Place, Reader, ◌>>=◌, unended, with_front, repeated}
+use Rattle.ap_bundle.specs.Readers.{Unread, Reader, ◌>>=◌, unended, with_front, repeated}
 
-abbrev pub at : List ℕ → ℕ → Place
+abbrev pub at : List ℕ → ℕ → Unread
 at bytes room = record { rest = bytes; room = room }
 
 -- So much room is left of what there was.

@@ -17,7 +17,7 @@ use Rattle.ap_bundle.specs.Nodes as nodes
 use Rattle.ap_bundle.specs.Nodes.{preorder, children, node_onto, derivations, derivation_from, one}
 use Rattle.ap_bundle.specs.LineForms as lines
 use Rattle.ap_bundle.specs.LineForms.{NodeLine, node_form, node_behind, atom_line, new_line}
-use Rattle.ap_bundle.specs.Readers.{Place, Reader, ◌>>=◌, unended, read_form, repeated}
+use Rattle.ap_bundle.specs.Readers.{Unread, Reader, ◌>>=◌, unended, read_form, repeated}
 use Rattle.ap_bundle.specs.Written.{node_line, node_lines, name_line}
 use Rattle.ap_bundle.specs.Reading.{read_name, read_atom, read_exists, read_behind, read_node, read_nodes, read_derivation}
 use Rattle.ap_bundle_laws.specs.Laws.{Each, IsListOf, FitsName, FitsDerivation}
@@ -120,7 +120,7 @@ module _ (term : Reader NominalTerm) (text : NominalTerm → List ℕ) (before :
       let room = room_for before ts left in
       let first = good_each read_name name_line FitsName good_name room names h.1.1 in
       let second = good_repeated term text before P good_one left ts h.2.1 in
-      good_then (repeated read_name (length names)) (λ (as' : List Name) (p : Place). repeated term (length ts) p >>= λ us. Ok (nodes.atom k as' us.0, us.1)) room room left (flat_map name_line names) (flat_map text ts) names (nodes.atom k names ts) first
+      good_then (repeated read_name (length names)) (λ (as' : List Name) (p : Unread). repeated term (length ts) p >>= λ us. Ok (nodes.atom k as' us.0, us.1)) room room left (flat_map name_line names) (flat_map text ts) names (nodes.atom k names ts) first
       (good_as (repeated term (length ts)) (nodes.atom k names) room left (flat_map text ts) ts second)
 
   good_node : (left : ℕ) (n : FlatNode) → FitsNode n → IsGood (read_node term) (node_room n left) left (node_lines text n) n

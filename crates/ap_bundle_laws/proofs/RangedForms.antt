@@ -22,8 +22,8 @@ use Rattle.ap_bundle.specs.declared.words.Head.{Head}
 use Rattle.ap_bundle.specs.declared.words.Head.TheVariants as head
 use Rattle.ap_bundle.specs.declared.words.Word.{Word}
 use Rattle.ap_bundle.specs.declared.words.Word.TheVariants as word
-use Rattle.ap_bundle.specs.Words.{is_numeral, number_of, letter_of, node_word_of, head_of, word_of, words_of, line_words, either, before_words}
-use Rattle.ap_bundle.specs.Forms.{◌>>=◌, first, small, a_name, a_swap, swaps, at_end, name_onto, pair_onto, app_onto, abs_onto, susp_onto, term_onto, names_onto, base_onto, pair_type_onto, list_onto, abs_type_onto, type_onto, Onto, Forms, forms_only, word_onto, forms, only, form}
+use Rattle.ap_bundle.specs.Words.{is_numeral, number_of, letter_of, node_word_of, head_of, word_of, words_spelled, line_words, either, before_words}
+use Rattle.ap_bundle.specs.Forms.{◌>>=◌, first, small, a_name, a_swap, swaps, if_no_number, name_onto, pair_onto, app_onto, abs_onto, susp_onto, term_onto, names_onto, base_onto, pair_type_onto, list_onto, abs_type_onto, type_onto, Onto, Forms, forms_only, word_onto, forms, only, form}
 use Rattle.ap_bundle.specs.LineForms as lines
 use Rattle.ap_bundle.specs.LineForms.{NodeLine, after_head, number, small_number, name, count_form, query_form, var_form, cond_form, name_form, term_form, atom_line, new_line, node_behind, node_form}
 use Rattle.ap_bundle.specs.Nodes as nodes
@@ -55,7 +55,7 @@ first_ranged : {A : Type 0} (P : A → Type 0) (xs : List A) (x : A × List A) �
 first_ranged {A} P [] x h e = none_is _ x e
 first_ranged {A} P (y ∷ ys) x h e = subst (λ (z : A × List A). P z.0 × Each P z.1) (same_some (y, ys) x e) h
 
-end_ranged : {A : Type 0} (P : A → Type 0) (x : A) (ns : List ℕ) (y : A) → P x → at_end x ns ≡ Some y → P y
+end_ranged : {A : Type 0} (P : A → Type 0) (x : A) (ns : List ℕ) (y : A) → P x → if_no_number x ns ≡ Some y → P y
 end_ranged P x [] y h e = subst P (same_some x y e) h
 end_ranged P x (n ∷ ns) y h e = none_is _ y e
 
@@ -235,7 +235,7 @@ word_name_ranged ws a f e =
     let n = word_number_ranged sort.0.1 num.0 s.1 num.1 in
     subst (λ (z : Name × List Word). FitsName z.0 × Each Fits z.1) (same_some _ a num.2) ((s.0, n.0), n.1)
 
-line_end_ranged : {A : Type 0} (P : A → Type 0) (x : A) (ws : List Word) (y : A) → P x → lines.at_end x ws ≡ Some y → P y
+line_end_ranged : {A : Type 0} (P : A → Type 0) (x : A) (ws : List Word) (y : A) → P x → lines.if_no_word x ws ≡ Some y → P y
 line_end_ranged P x [] y h e = subst P (same_some x y e) h
 line_end_ranged P x (w ∷ ws) y h e = none_is _ y e
 
@@ -462,9 +462,9 @@ module _ (table : List NominalTerm) (all : Each FitsTerm table) where
   pub shared_form_ranged : (ws : List Word) (t : NominalTerm) → Each Fits ws → shared_form table ws ≡ Some t → FitsTerm t
   unfolding shared_form
   shared_form_ranged ws t f e =
-      let rest = both_some (after_head head.R ws) (λ (vs : List Word). number vs >>= λ i. slice_get table i.0 >>= λ u. lines.at_end u i.1) t e in
-      let i = both_some (number rest.0) (λ (i : ℕ × List Word). slice_get table i.0 >>= λ u. lines.at_end u i.1) t rest.2 in
-      let u = both_some (slice_get table i.0.0) (λ (u : NominalTerm). lines.at_end u i.0.1) t i.2 in
+      let rest = both_some (after_head head.R ws) (λ (vs : List Word). number vs >>= λ i. slice_get table i.0 >>= λ u. lines.if_no_word u i.1) t e in
+      let i = both_some (number rest.0) (λ (i : ℕ × List Word). slice_get table i.0 >>= λ u. lines.if_no_word u i.1) t rest.2 in
+      let u = both_some (slice_get table i.0.0) (λ (u : NominalTerm). lines.if_no_word u i.0.1) t i.2 in
       line_end_ranged FitsTerm u.0 i.0.1 t (got_ranged FitsTerm table i.0.0 u.0 all u.1) u.2
 
 -- the words of a line
@@ -492,9 +492,9 @@ word_of_ranged text w e = go (number_of text) (letter_of text) (node_word_of tex
     go None None None (Some k) h e = subst Fits (same_some (word.Head k) w e) tt
     go None None None None h e = none_is _ w e
 
-words_of_ranged : (texts : List (List ℕ)) (ws : List Word) → words_of texts ≡ Some ws → Each Fits ws
+words_of_ranged : (texts : List (List ℕ)) (ws : List Word) → words_spelled texts ≡ Some ws → Each Fits ws
 words_of_ranged [] ws e = subst (Each Fits) (same_some [] ws e) tt
-words_of_ranged (text ∷ texts) ws e = go (word_of text) (words_of texts) (word_of_ranged text) (words_of_ranged texts) e
+words_of_ranged (text ∷ texts) ws e = go (word_of text) (words_spelled texts) (word_of_ranged text) (words_of_ranged texts) e
   where
     go : (a : Option Word) (b : Option (List Word)) → ((w : Word) → a ≡ Some w → Fits w) → ((vs : List Word) → b ≡ Some vs → Each Fits vs)
         → option_and_then (λ w. before_words w b) a ≡ Some ws → Each Fits ws

@@ -12,7 +12,7 @@ use Rattle.ap_bundle.specs.declared.words.NodeWord.TheVariants as node
 use Rattle.ap_bundle.specs.declared.words.Head.TheVariants as head
 use Rattle.ap_bundle.specs.declared.words.Word.{Word}
 use Rattle.ap_bundle.specs.declared.words.Word.TheVariants as word
-use Rattle.ap_bundle.specs.Words.{is_numeral, number_of, word_of, word_text, words_of, line_words, letter_of, node_word_of, head_of}
+use Rattle.ap_bundle.specs.Words.{is_numeral, number_of, word_of, word_text, words_spelled, line_words, letter_of, node_word_of, head_of}
 use Rattle.ap_bundle_laws.specs.Laws.{Each}
 
 own : IsNumeralModel (λ ds. list_all is_ascii_digit ds ≡ true) (digits_value 10)
@@ -194,12 +194,12 @@ split_joined : (w : Word) (ws : List Word) → Each Fits (w ∷ ws) → slice_sp
 split_joined w [] h = split_last (word_text w) (word_lacks_space w h.0)
 split_joined w (v ∷ ws) h = split_at (word_text w) (join_with_byte 32 (map word_text (v ∷ ws))) (word_lacks_space w h.0) ∙ ap (λ z. word_text w ∷ z) (split_joined v ws h.1)
 
-words_again : (ws : List Word) → Each Fits ws → words_of (map word_text ws) ≡ Some ws
+words_again : (ws : List Word) → Each Fits ws → words_spelled (map word_text ws) ≡ Some ws
 words_again [] h = refl
 words_again (w ∷ ws) h = rw (word_again w h.0, words_again ws h.1) refl
 
 pub line_words_again : (w : Word) (ws : List Word) → Each Fits (w ∷ ws) → line_words (join_with_byte 32 (map word_text (w ∷ ws))) ≡ Some (w ∷ ws)
-line_words_again w ws h = ap words_of (split_joined w ws h) ∙ words_again (w ∷ ws) h
+line_words_again w ws h = ap words_spelled (split_joined w ws h) ∙ words_again (w ∷ ws) h
 
 pub joined_lacks_lf : (w : Word) (ws : List Word) → Each Fits (w ∷ ws) → lacks 10 (join_with_byte 32 (map word_text (w ∷ ws)))
 joined_lacks_lf w [] h = word_lacks_lf w h.0

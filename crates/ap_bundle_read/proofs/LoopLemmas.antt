@@ -5,13 +5,13 @@ use Rattle.std.specs.Option.{option_map}
 use Rattle.ap_defs.specs.declared.terms.Swap.{Swap}
 use Rattle.ap_defs.specs.Terms.{NominalTerm}
 use Rattle.ap_bundle.specs.declared.words.Word.{Word}
-use Rattle.ap_bundle.specs.Words.{word_of, words_of}
+use Rattle.ap_bundle.specs.Words.{word_of, words_spelled}
 use Rattle.ap_bundle.specs.Forms.{a_swap, swaps, with_swaps, Onto, forms}
 use Rattle.ap_bundle.specs.Nodes.{Node, children}
 use Rattle.ap_bundle.specs.declared.faults.BundleKind.TheVariants.{Term}
 use Rattle.ap_bundle.specs.declared.words.Word.TheVariants as words
 use Rattle.ap_bundle.specs.TableForms.{numbers, entry_form, read_entries}
-use Rattle.ap_bundle.specs.Readers.{Place, Wrong, Reader, with_front, unended, read_form}
+use Rattle.ap_bundle.specs.Readers.{Unread, Wrong, Reader, with_front, unended, read_form}
 use Rattle.ap_bundle.specs.Reading.{read_node, read_nodes}
 use Rattle.ap_bundle_read.proofs.RepeatLemmas.{with_front-append}
 
@@ -30,30 +30,30 @@ pub swaps_fail : (n k : ℕ) (front : List Swap) (ns : List ℕ) → n ≡ suc k
 swaps_fail n k front ns e got = rw (e, got) refl
 
 pub words_on : (front : List Word) (text : List ℕ) (texts : List (List ℕ)) (w : Word) → word_of text ≡ Some w
-    → option_map (λ ws. (front ++ w ∷ []) ++ ws) (words_of texts) ≡ option_map (λ ws. front ++ ws) (words_of (text ∷ texts))
-words_on front text texts w got = rw got (joined (words_of texts))
+    → option_map (λ ws. (front ++ w ∷ []) ++ ws) (words_spelled texts) ≡ option_map (λ ws. front ++ ws) (words_spelled (text ∷ texts))
+words_on front text texts w got = rw got (joined (words_spelled texts))
   where
     joined : (o : Option (List Word)) → option_map (λ ws. (front ++ w ∷ []) ++ ws) o ≡ option_map (λ ws. front ++ ws) (option_map (λ ws. w ∷ ws) o)
     joined None = refl
     joined (Some ws) = ap Some (append_assoc front (w ∷ []) ws)
 
-pub words_fail : (front : List Word) (text : List ℕ) (texts : List (List ℕ)) → word_of text ≡ None → option_map (λ ws. front ++ ws) (words_of (text ∷ texts)) ≡ None
+pub words_fail : (front : List Word) (text : List ℕ) (texts : List (List ℕ)) → word_of text ≡ None → option_map (λ ws. front ++ ws) (words_spelled (text ∷ texts)) ≡ None
 words_fail front text texts got = rw got refl
 
-nodes_step : (term : Reader NominalTerm) (b k : ℕ) (front : List (Node NominalTerm)) (p q : Place) (n : Node NominalTerm) → read_node term p ≡ Ok (n, q)
+nodes_step : (term : Reader NominalTerm) (b k : ℕ) (front : List (Node NominalTerm)) (p q : Unread) (n : Node NominalTerm) → read_node term p ≡ Ok (n, q)
     → with_front (front ++ n ∷ []) (read_nodes term b (k + children n) q) ≡ with_front front (read_nodes term (suc b) (suc k) p)
 unfolding read_nodes
 nodes_step term b k front p q n got = rw got (sym (with_front-append front (n ∷ []) (read_nodes term b (k + children n) q)))
 
-pub nodes_on : (term : Reader NominalTerm) (bound b wanted k more : ℕ) (front : List (Node NominalTerm)) (p q : Place) (n : Node NominalTerm) → bound ≡ suc b → wanted ≡ suc k → more ≡ k + children n
+pub nodes_on : (term : Reader NominalTerm) (bound b wanted k more : ℕ) (front : List (Node NominalTerm)) (p q : Unread) (n : Node NominalTerm) → bound ≡ suc b → wanted ≡ suc k → more ≡ k + children n
     → read_node term p ≡ Ok (n, q) → with_front (front ++ n ∷ []) (read_nodes term b more q) ≡ with_front front (read_nodes term bound wanted p)
 nodes_on term bound b wanted k more front p q n e d m got = rw (e, d, m) (nodes_step term b k front p q n got)
 
-nodes_stop : (term : Reader NominalTerm) (b k : ℕ) (front : List (Node NominalTerm)) (p : Place) (w : Wrong) → read_node term p ≡ Err w → with_front front (read_nodes term (suc b) (suc k) p) ≡ Err w
+nodes_stop : (term : Reader NominalTerm) (b k : ℕ) (front : List (Node NominalTerm)) (p : Unread) (w : Wrong) → read_node term p ≡ Err w → with_front front (read_nodes term (suc b) (suc k) p) ≡ Err w
 unfolding read_nodes
 nodes_stop term b k front p w got = rw got refl
 
-pub nodes_fail : (term : Reader NominalTerm) (bound b wanted k : ℕ) (front : List (Node NominalTerm)) (p : Place) (w : Wrong) → bound ≡ suc b → wanted ≡ suc k → read_node term p ≡ Err w
+pub nodes_fail : (term : Reader NominalTerm) (bound b wanted k : ℕ) (front : List (Node NominalTerm)) (p : Unread) (w : Wrong) → bound ≡ suc b → wanted ≡ suc k → read_node term p ≡ Err w
     → with_front front (read_nodes term bound wanted p) ≡ Err w
 nodes_fail term bound b wanted k front p w e d got = rw (e, d) (nodes_stop term b k front p w got)
 
@@ -63,27 +63,27 @@ forms_none onto zero ws h = h
 forms_none onto (suc i) [] h = h
 forms_none onto (suc i) (w ∷ ws) h = rw (forms_none onto i ws h) refl
 
-pub nodes_done : (term : Reader NominalTerm) (bound wanted : ℕ) (front : List (Node NominalTerm)) (p : Place) → wanted ≡ 0 → with_front front (read_nodes term bound wanted p) ≡ Ok (front, p)
+pub nodes_done : (term : Reader NominalTerm) (bound wanted : ℕ) (front : List (Node NominalTerm)) (p : Unread) → wanted ≡ 0 → with_front front (read_nodes term bound wanted p) ≡ Ok (front, p)
 unfolding read_nodes
 nodes_done term bound wanted front p e = rw e (ap (λ all. Ok (all, p)) (append-nil front))
 
-nodes_short : (term : Reader NominalTerm) (k : ℕ) (front : List (Node NominalTerm)) (p : Place) → with_front front (read_nodes term zero (suc k) p) ≡ Err unended
+nodes_short : (term : Reader NominalTerm) (k : ℕ) (front : List (Node NominalTerm)) (p : Unread) → with_front front (read_nodes term zero (suc k) p) ≡ Err unended
 unfolding read_nodes
 nodes_short term k front p = refl
 
-pub nodes_unended : (term : Reader NominalTerm) (bound wanted k : ℕ) (front : List (Node NominalTerm)) (p : Place) → bound ≡ 0 → wanted ≡ suc k → with_front front (read_nodes term bound wanted p) ≡ Err unended
+pub nodes_unended : (term : Reader NominalTerm) (bound wanted k : ℕ) (front : List (Node NominalTerm)) (p : Unread) → bound ≡ 0 → wanted ≡ suc k → with_front front (read_nodes term bound wanted p) ≡ Err unended
 nodes_unended term bound wanted k front p e d = rw (e, d) (nodes_short term k front p)
 
 -- a line of the table
-pub entries_on : (n k : ℕ) (table : List NominalTerm) (p q : Place) (t : NominalTerm) → n ≡ suc k → read_form Term (entry_form table) p ≡ Ok (t, q) → read_entries k (table ++ t ∷ []) q ≡ read_entries n table p
+pub entries_on : (n k : ℕ) (table : List NominalTerm) (p q : Unread) (t : NominalTerm) → n ≡ suc k → read_form Term (entry_form table) p ≡ Ok (t, q) → read_entries k (table ++ t ∷ []) q ≡ read_entries n table p
 unfolding read_entries
 entries_on n k table p q t e got = rw (e, read_entries, got) refl
 
-pub entries_fail : (n k : ℕ) (table : List NominalTerm) (p : Place) (w : Wrong) → n ≡ suc k → read_form Term (entry_form table) p ≡ Err w → read_entries n table p ≡ Err w
+pub entries_fail : (n k : ℕ) (table : List NominalTerm) (p : Unread) (w : Wrong) → n ≡ suc k → read_form Term (entry_form table) p ≡ Err w → read_entries n table p ≡ Err w
 unfolding read_entries
 entries_fail n k table p w e got = rw (e, read_entries, got) refl
 
-pub entries_end : (n : ℕ) (table : List NominalTerm) (p : Place) → n ≡ 0 → read_entries n table p ≡ Ok (table, p)
+pub entries_end : (n : ℕ) (table : List NominalTerm) (p : Unread) → n ≡ 0 → read_entries n table p ≡ Ok (table, p)
 unfolding read_entries
 entries_end n table p e = rw e refl
 

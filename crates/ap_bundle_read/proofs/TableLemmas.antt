@@ -9,18 +9,18 @@ use Rattle.ap_bundle_read.specs.declared.table.Entry.TheVariants as entry
 use Rattle.ap_bundle_read.specs.declared.table.Line.{Line}
 use Rattle.ap_bundle_read.specs.declared.table.expanding.Task.{Task}
 use Rattle.ap_bundle_read.specs.declared.table.expanding.Task.TheVariants as task
-use Rattle.ap_bundle_read.specs.Tables.{at, entry_term, IsBehind, terms_back, exact_size, AreLines, made_by, AreTasksWithin, weigh, begun, ready}
+use Rattle.ap_bundle_read.specs.Tables.{term_of_line, entry_term, IsBehind, terms_back, exact_size, AreLines, made_by, AreTasksWithin, weigh_tasks, begun, ready}
 
 pub length_back : (ls : List Line) → length (terms_back ls) ≡ length ls
 length_back [] = refl
 length_back (l ∷ ls) = omega (arith, length_back ls, length-append (terms_back ls) (entry_term (terms_back ls) l.entry ∷ []))
 
-pub at_front : (table more : List NominalTerm) (i : ℕ) → i < length table → at (table ++ more) i ≡ at table i
+pub at_front : (table more : List NominalTerm) (i : ℕ) → i < length table → term_of_line (table ++ more) i ≡ term_of_line table i
 at_front [] more i h = absurd (omega arith)
 at_front (t ∷ table) more zero h = refl
 at_front (t ∷ table) more (suc i) h = at_front table more i (omega arith)
 
-at_last : (table : List NominalTerm) (t : NominalTerm) → at (table ++ t ∷ []) (length table) ≡ t
+at_last : (table : List NominalTerm) (t : NominalTerm) → term_of_line (table ++ t ∷ []) (length table) ≡ t
 at_last [] t = refl
 at_last (u ∷ table) t = at_last table t
 
@@ -44,9 +44,9 @@ behind_more m n (entry.Susp p x) l h = tt
 -- what is known of a line of the table
 pub record IsLine (table : List NominalTerm) (k : ℕ) (l : Line) : Type 0 where
   pub within : k < length table
-  pub is : at table k ≡ entry_term table l.entry
+  pub is : term_of_line table k ≡ entry_term table l.entry
   pub behind : IsBehind k l.entry
-  pub size : l.size ≡ exact_size (expanded_size (at table k))
+  pub size : l.size ≡ exact_size (expanded_size (term_of_line table k))
 
 -- an item of a list with one more at its end
 last_item : {A : Type 0} (xs : List A) (y x : A) (k : ℕ) → slice_get (xs ++ y ∷ []) k ≡ Some x → (slice_get xs k ≡ Some x) ⊎ ((k ≡ length xs) × (y ≡ x))
@@ -75,7 +75,7 @@ line_last ls l k b s e =
     let table = terms_back ls in
     let t = entry_term table l.entry in
     let long : k ≡ length table = e ∙ sym (length_back ls) in
-    let here : at (table ++ t ∷ []) k ≡ t = ap (at (table ++ t ∷ [])) long ∙ at_last table t in
+    let here : term_of_line (table ++ t ∷ []) k ≡ t = ap (term_of_line (table ++ t ∷ [])) long ∙ at_last table t in
     let part : IsBehind (length table) l.entry = subst (λ n. IsBehind n l.entry) (sym (length_back ls)) b in
     record {
       within = omega (arith, length-append table (t ∷ []), long);
@@ -109,7 +109,7 @@ line_made table ts ks k l e h is = entry_made table ts ks e ∙ ap (λ t. made_b
 entry_within : (n : ℕ) (ks : List Task) (e : Entry) → IsBehind n e → AreTasksWithin n ks → AreTasksWithin n (begun e ++ ks)
 entry_within n ks entry.Unit h w = w
 entry_within n ks (entry.Name a) h w = w
-entry_within n ks (entry.Pair i j) h w = (h.0, (h.1, w))
+entry_within n ks (entry.Pair i j) h w = (h.1, (h.0, w))
 entry_within n ks (entry.App f i) h w = (h, w)
 entry_within n ks (entry.Abs s b i) h w = (h, w)
 entry_within n ks (entry.Susp p x) h w = w
@@ -117,7 +117,7 @@ entry_within n ks (entry.Susp p x) h w = w
 pub line_within : (table : List NominalTerm) (ks : List Task) (k : ℕ) (l : Line) (e : Entry) → IsLine table k l → l.entry ≡ e → AreTasksWithin (length table) ks → AreTasksWithin (length table) (begun e ++ ks)
 line_within table ks k l e h is w = entry_within (length table) ks e (subst (IsBehind (length table)) is (behind_more k (length table) l.entry h.within h.behind)) w
 
-entry_lighter : (table : List NominalTerm) (ks : List Task) (e : Entry) → weigh table (begun e ++ ks) < expanded_size (entry_term table e) + expanded_size (entry_term table e) + weigh table ks
+entry_lighter : (table : List NominalTerm) (ks : List Task) (e : Entry) → weigh_tasks table (begun e ++ ks) < expanded_size (entry_term table e) + expanded_size (entry_term table e) + weigh_tasks table ks
 entry_lighter table ks entry.Unit = omega arith
 entry_lighter table ks (entry.Name a) = omega arith
 entry_lighter table ks (entry.Pair i j) = omega arith
@@ -125,8 +125,8 @@ entry_lighter table ks (entry.App f i) = omega arith
 entry_lighter table ks (entry.Abs s b i) = omega arith
 entry_lighter table ks (entry.Susp p x) = omega arith
 
-pub line_lighter : (table : List NominalTerm) (ks : List Task) (k : ℕ) (l : Line) (e : Entry) → IsLine table k l → l.entry ≡ e → weigh table (begun e ++ ks) < weigh table (task.Line k ∷ ks)
-line_lighter table ks k l e h is = subst (λ t. weigh table (begun e ++ ks) < expanded_size t + expanded_size t + weigh table ks) (sym (h.is ∙ ap (entry_term table) is)) (entry_lighter table ks e)
+pub line_lighter : (table : List NominalTerm) (ks : List Task) (k : ℕ) (l : Line) (e : Entry) → IsLine table k l → l.entry ≡ e → weigh_tasks table (begun e ++ ks) < weigh_tasks table (task.Line k ∷ ks)
+line_lighter table ks k l e h is = subst (λ t. weigh_tasks table (begun e ++ ks) < expanded_size t + expanded_size t + weigh_tasks table ks) (sym (h.is ∙ ap (entry_term table) is)) (entry_lighter table ks e)
 
 pub terms_long : (items : List Line) → length (terms_back (reverse items)) ≡ length items
 terms_long items = length_back (reverse items) ∙ length-reverse items

@@ -9,7 +9,7 @@ use Rattle.ap_bundle_read.specs.declared.error.BundleError.{BundleError}
 use Rattle.ap_bundle_read.specs.declared.error.BundleError.TheVariants as faults
 use Rattle.ap_bundle_read.specs.declared.place.Place.{Place}
 
-abbrev pub place_of : Place → readers.Place
+abbrev pub place_of : Place → readers.Unread
 place_of p = record { rest = p.rest.now; room = p.room }
 
 abbrev pub Fails : {Y : Type 0} → ReadError → Result Y Wrong → Type 0

@@ -18,16 +18,16 @@ use Rattle.ap_bundle_read.specs.declared.table.expanding.Task.TheVariants as tas
 use Rattle.ap_bundle_read.specs.declared.table.term_lines.Terms.{Terms}
 use Rattle.ap_bundle_read.specs.declared.table.term_lines.Terms.TheVariants as way
 
-abbrev pub at : List NominalTerm → ℕ → NominalTerm
-at table i = slice_index_or table i terms.unit
+abbrev pub term_of_line : List NominalTerm → ℕ → NominalTerm
+term_of_line table i = slice_index_or table i terms.unit
 
 -- the term of an entry behind these terms
 abbrev pub entry_term : List NominalTerm → Entry → NominalTerm
 entry_term table entry.Unit = terms.unit
 entry_term table (entry.Name a) = terms.name a
-entry_term table (entry.Pair i j) = terms.pair (at table i) (at table j)
-entry_term table (entry.App f i) = terms.app f (at table i)
-entry_term table (entry.Abs s n i) = terms.abs (record { sort = s; num = n }) (at table i)
+entry_term table (entry.Pair i j) = terms.pair (term_of_line table i) (term_of_line table j)
+entry_term table (entry.App f i) = terms.app f (term_of_line table i)
+entry_term table (entry.Abs s n i) = terms.abs (record { sort = s; num = n }) (term_of_line table i)
 entry_term table (entry.Susp p x) = terms.susp p.value x
 
 -- its parts are among so many lines
@@ -70,14 +70,14 @@ AreReady (way.Shared t) = IsReadTable t
 
 -- a layer round the first of these terms, or the first two
 abbrev pub layer_closed : Layer → List NominalTerm → Option (List NominalTerm)
-layer_closed layer.Pair ts = first ts >>= λ right. first right.1 >>= λ left. Some (terms.pair left.0 right.0 ∷ left.1)
+layer_closed layer.Pair ts = first ts >>= λ left. first left.1 >>= λ right. Some (terms.pair left.0 right.0 ∷ right.1)
 layer_closed (layer.App f) ts = first ts >>= λ part. Some (terms.app f part.0 ∷ part.1)
 layer_closed (layer.Abs a) ts = first ts >>= λ part. Some (terms.abs a part.0 ∷ part.1)
 
 -- the terms that tasks, the next one first, make on top of others
 abbrev pub made_by : List NominalTerm → List Task → List NominalTerm → Option (List NominalTerm)
 made_by table [] ts = Some ts
-made_by table (task.Line i ∷ ks) ts = made_by table ks (at table i ∷ ts)
+made_by table (task.Line i ∷ ks) ts = made_by table ks (term_of_line table i ∷ ts)
 made_by table (task.Close l ∷ ks) ts = layer_closed l ts >>= made_by table ks
 
 -- the lines that tasks name are among so many
@@ -87,16 +87,16 @@ AreTasksWithin n (task.Line i ∷ ks) = (i < n) × AreTasksWithin n ks
 AreTasksWithin n (task.Close l ∷ ks) = AreTasksWithin n ks
 
 -- how much the tasks have to do
-abbrev pub weigh : List NominalTerm → List Task → ℕ
-weigh table [] = 0
-weigh table (task.Line i ∷ ks) = expanded_size (at table i) + expanded_size (at table i) + weigh table ks
-weigh table (task.Close l ∷ ks) = 1 + weigh table ks
+abbrev pub weigh_tasks : List NominalTerm → List Task → ℕ
+weigh_tasks table [] = 0
+weigh_tasks table (task.Line i ∷ ks) = expanded_size (term_of_line table i) + expanded_size (term_of_line table i) + weigh_tasks table ks
+weigh_tasks table (task.Close l ∷ ks) = 1 + weigh_tasks table ks
 
 -- what is to be done for the term of an entry, and what is made of it at once
 abbrev pub begun : Entry → List Task
 begun entry.Unit = []
 begun (entry.Name a) = []
-begun (entry.Pair i j) = task.Line i ∷ task.Line j ∷ task.Close layer.Pair ∷ []
+begun (entry.Pair i j) = task.Line j ∷ task.Line i ∷ task.Close layer.Pair ∷ []
 begun (entry.App f i) = task.Line i ∷ task.Close (layer.App f) ∷ []
 begun (entry.Abs s n i) = task.Line i ∷ task.Close (layer.Abs (record { sort = s; num = n })) ∷ []
 begun (entry.Susp p x) = []

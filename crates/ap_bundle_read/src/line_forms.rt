@@ -168,7 +168,7 @@ fn new_line(words: &[Word]) -> Option<NodeLine>
 
 /// What the line of a node says that is one word.
 fn only_word(line: NodeLine, words: &[Word]) -> Option<NodeLine>
-    ensures { option_map node_line_of result ≡ spec.at_end (node_line_of line) words.now }
+    ensures { option_map node_line_of result ≡ spec.if_no_word (node_line_of line) words.now }
 {
     if words.is_empty() { Some(line) } else { None }
 }

@@ -3,7 +3,7 @@
 // A line of the table costs what it says, however large its term is.
 ghost use Rattle.std.specs.Prelude.{◌≡◌, ◌<◌, ◌++◌, ◌+◌, ℕ, [], ◌∷◌, length, OnOk};
 ghost use Rattle.ap_bundle.specs.Tables.{expanded_size};
-ghost use Rattle.ap_bundle_read.specs.Tables.{IsBehind, IsReadTable, at, entry_term, exact_size, table_terms};
+ghost use Rattle.ap_bundle_read.specs.Tables.{IsBehind, IsReadTable, term_of_line, entry_term, exact_size, table_terms};
 
 pub(crate) mod entries;
 pub(crate) mod expanding;
@@ -70,7 +70,7 @@ impl Table {
     fn size(&self, line: usize) -> Option<u64>
         requires table { IsReadTable self.now }
         requires within { line < length (table_terms self.now) }
-        ensures { result ≡ exact_size (expanded_size (at (table_terms self.now) line)) }
+        ensures { result ≡ exact_size (expanded_size (term_of_line (table_terms self.now) line)) }
     {
         self.lines[line].size
     }

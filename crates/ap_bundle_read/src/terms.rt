@@ -24,7 +24,7 @@ pub(crate) fn first_term(terms: &mut Vec<Term>) -> Option<Term>
 /// The terms, with another before them, where no number is left.
 fn at_end(numbers: Vec<u64>, terms: Vec<Term>, first: Term) -> Result<Option<Vec<Term>>, Memory>
     ensures { IfOk result (λ r. option_map (λ v. stacked term_of v.items) r
-        ≡ spec.at_end (term_of first ∷ stacked term_of terms.items) (reverse numbers.items)) }
+        ≡ spec.if_no_number (term_of first ∷ stacked term_of terms.items) (reverse numbers.items)) }
 {
     if !numbers.is_empty() {
         return Ok(None);
@@ -62,8 +62,8 @@ fn pair_onto(
     let Some(right) = first_term(&mut terms) else {
         return Ok(None);
     };
-    let left = Box::new(alloc, left)?;
     let right = Box::new(alloc, right)?;
+    let left = Box::new(alloc, left)?;
     at_end(numbers, terms, Term::Pair(left, right))
 }
 

@@ -23,7 +23,7 @@ fn first_type(types: &mut Vec<Ty>) -> Option<Ty>
 /// The types, with another before them, where no number is left.
 fn at_end(numbers: Vec<u64>, types: Vec<Ty>, first: Ty) -> Result<Option<Vec<Ty>>, Memory>
     ensures { IfOk result (λ r. option_map (λ v. stacked type_of v.items) r
-        ≡ spec.at_end (type_of first ∷ stacked type_of types.items) (reverse numbers.items)) }
+        ≡ spec.if_no_number (type_of first ∷ stacked type_of types.items) (reverse numbers.items)) }
 {
     if !numbers.is_empty() {
         return Ok(None);

@@ -104,7 +104,7 @@ fn parts(alloc: Global, line: &[u8]) -> Result<Vec<&[u8]>, AllocError>
 /// The words that are spelled so, if each is a word.
 fn words_of(alloc: Global, texts: &[&[u8]]) -> Result<Option<Vec<Word>>, Memory>
     ensures { IfOk result (λ r. option_map (λ v. v.items) r
-        ≡ spec.words_of (map (λ x. x.now) texts.now)) }
+        ≡ spec.words_spelled (map (λ x. x.now) texts.now)) }
 {
     let mut words = Vec::new(alloc);
     for text in texts {

@@ -5,7 +5,7 @@ use Rattle.std.proofs.lemmas.List.{map-append, reverse-append}
 use Rattle.ap_defs.specs.Terms as terms
 use Rattle.ap_defs.specs.Terms.{NominalTerm}
 use Rattle.std.specs.List.{AllByRecursion as Each}
-use Rattle.ap_bundle.specs.Tables.{with_parts, with_term, with_terms, line_of, entry_words, Has, HasParts}
+use Rattle.ap_bundle.specs.Tables.{with_parts, with_table_term, with_table_terms, line_of, entry_words, Has, HasParts}
 use Rattle.ap_bundle.specs.declared.words.Word.{Word}
 use Rattle.ap_bundle_write.specs.declared.table.Task.{Task}
 use Rattle.ap_bundle_write.specs.Tables.{Step, enter, leave, task_step, steps_of, steps_in, words_by}
@@ -23,14 +23,14 @@ OnTop (terms.susp p x) ts rest = ts ≡ rest
 -- the steps lead from a table, and the terms whose lines wait, to this table and this one term
 abbrev pub Leads : List Step → List NominalTerm → List NominalTerm → List NominalTerm → NominalTerm → Type 0
 Leads [] table ts end t = (table ≡ end) × (ts ≡ t ∷ [])
-Leads (enter u ∷ ks) table ts end t = Leads ks (with_terms table (with_parts u)) (u ∷ ts) end t
-Leads (leave u ∷ ks) table ts end t = (rest : List NominalTerm) × OnTop u ts rest × Leads ks (with_term table u) (u ∷ rest) end t
+Leads (enter u ∷ ks) table ts end t = Leads ks (with_table_terms table (with_parts u)) (u ∷ ts) end t
+Leads (leave u ∷ ks) table ts end t = (rest : List NominalTerm) × OnTop u ts rest × Leads ks (with_table_term table u) (u ∷ rest) end t
 
 pub entered : (u : NominalTerm) (ks : List Step) (table ts end : List NominalTerm) (t : NominalTerm) → Leads (enter u ∷ ks) table ts end t → Leads (steps_in u ++ ks) table ts end t
 entered terms.unit ks table ts end t l = (ts, refl, l)
 entered (terms.name a) ks table ts end t l = (ts, refl, l)
 entered (terms.pair v w) ks table ts end t l =
-    let last = terms_append (with_terms table (with_parts v)) (with_parts w) (terms.pair v w ∷ []) in
+    let last = terms_append (with_table_terms table (with_parts v)) (with_parts w) (terms.pair v w ∷ []) in
     let all = terms_append table (with_parts v) (with_parts w ++ terms.pair v w ∷ []) ∙ last in
     (ts, refl, subst (λ us. Leads ks us (terms.pair v w ∷ ts) end t) all l)
 entered (terms.app f v) ks table ts end t l =
@@ -57,13 +57,13 @@ top_parts (terms.abs a v) table ts rest e h = let k : Each (Has table) (v ∷ re
 top_parts (terms.susp p x) table ts rest e h = (tt, subst (Each (Has table)) e h)
 
 -- the lines that wait, with that of one term more
-pub lines_left : (table rest : List NominalTerm) (u : NominalTerm) → Each (Has table) rest → line_of table u ∷ map (line_of table) rest ≡ map (line_of (with_term table u)) (u ∷ rest)
+pub lines_left : (table rest : List NominalTerm) (u : NominalTerm) → Each (Has table) rest → line_of table u ∷ map (line_of table) rest ≡ map (line_of (with_table_term table u)) (u ∷ rest)
 lines_left table rest u h =
     let g = term_more table u in
-    let others : map (line_of (with_term table u)) rest ≡ map (line_of table) rest = ap (λ us. map (line_of us) rest) g.1 ∙ map_line_more table g.0 rest h in
+    let others : map (line_of (with_table_term table u)) rest ≡ map (line_of table) rest = ap (λ us. map (line_of us) rest) g.1 ∙ map_line_more table g.0 rest h in
     rw (line_term table u, others) refl
 
-pub has_left : (table rest : List NominalTerm) (u : NominalTerm) → Each (Has table) rest → Each (Has (with_term table u)) (u ∷ rest)
+pub has_left : (table rest : List NominalTerm) (u : NominalTerm) → Each (Has table) rest → Each (Has (with_table_term table u)) (u ∷ rest)
 has_left table rest u h =
     let g = term_more table u in
     (has_term table u, subst (λ us. Each (Has us) rest) (sym g.1) (each_has_more table g.0 rest h))
@@ -106,7 +106,7 @@ module _ (u : NominalTerm) (ks : List Step) (table ts end : List NominalTerm) (t
   pub left_parts : HasParts table u
   left_parts = let p = top_parts u table ts l.0 l.1 there in p.0
 
-  pub left_walk : (new : List NominalTerm) (ws : List Word) (others : List ℕ) (line : ℕ) → Some (ws, others) ≡ words_by u ns → line ≡ line_of table u → new ≡ with_term table u
+  pub left_walk : (new : List NominalTerm) (ws : List Word) (others : List ℕ) (line : ℕ) → Some (ws, others) ≡ words_by u ns → line ≡ line_of table u → new ≡ with_table_term table u
       → (us : List NominalTerm) × (line ∷ others ≡ map (line_of new) us) × Each (Has new) us × Leads ks new us end t
   left_walk new ws others line got is grew =
       let tail = tail_of ws (entry_words table u) others (map (line_of table) l.0) (got ∙ left_words) in

@@ -6,8 +6,8 @@ use Rattle.ap_bundle.specs.declared.version.Version.{Version}
 use Rattle.ap_bundle.specs.declared.version.Version.TheVariants.{One, Two}
 use Rattle.ap_bundle.specs.declared.words.Head.TheVariants as head
 use Rattle.ap_bundle.specs.Tables.{grown, line_of, entry_words}
-use Rattle.ap_bundle.specs.Written.{line_as, term_line, counted_line, head_line, entry_line}
-use Rattle.ap_bundle_write.specs.Tables.{Writes, grown_as}
+use Rattle.ap_bundle.specs.Written.{written_line_as, term_line, counted_line, head_line, entry_line}
+use Rattle.ap_bundle_write.specs.Tables.{WritesLines, grown_as}
 use Rattle.ap_bundle.proofs.TableLemmas.{grown_append, has_grown, line_grown}
 
 pub grown_as_append : (v : Version) (table ts us : List NominalTerm) → grown_as v table (ts ++ us) ≡ grown_as v (grown_as v table ts) us
@@ -22,13 +22,13 @@ abbrev pub Way : Type 0
 Way = NominalTerm → List ℕ
 
 -- text without terms
-pub plain : (v : Version) (table : List NominalTerm) (out more text : List ℕ) → more ≡ out ++ text → Writes v table table out more [] (λ way. text)
+pub plain : (v : Version) (table : List NominalTerm) (out more text : List ℕ) → more ≡ out ++ text → WritesLines v table table out more [] (λ way. text)
 plain v table out more text e = record { table = sym (grown_as_none v table); text = λ rest. e }
 
-pub full_term : (table : List NominalTerm) (out more : List ℕ) (t : NominalTerm) → more ≡ out ++ term_line t → Writes One table table out more (t ∷ []) (λ way. way t)
+pub full_term : (table : List NominalTerm) (out more : List ℕ) (t : NominalTerm) → more ≡ out ++ term_line t → WritesLines One table table out more (t ∷ []) (λ way. way t)
 full_term table out more t e = record { table = refl; text = λ rest. e }
 
-pub shared_term : (old new : List NominalTerm) (out more : List ℕ) (t : NominalTerm) → new ≡ grown old (t ∷ []) → more ≡ out ++ counted_line head.R (line_of new t) → Writes Two old new out more (t ∷ []) (λ way. way t)
+pub shared_term : (old new : List NominalTerm) (out more : List ℕ) (t : NominalTerm) → new ≡ grown old (t ∷ []) → more ≡ out ++ counted_line head.R (line_of new t) → WritesLines Two old new out more (t ∷ []) (λ way. way t)
 shared_term old new out more t g e = record {
   table = g;
   text = λ rest. e ∙ ap (λ n. out ++ counted_line head.R n) (ap (λ us. line_of us t) g ∙ sym (ap (λ us. line_of (grown us rest) t) g ∙ line_grown (grown old (t ∷ [])) rest t (has_grown old t)));
@@ -36,42 +36,42 @@ shared_term old new out more t g e = record {
 
 -- one after another
 pub follows : (v : Version) (old mid new : List NominalTerm) (out between more : List ℕ) (ts us : List NominalTerm) (f g : Way → List ℕ)
-    → Writes v old mid out between ts f → Writes v mid new between more us g → Writes v old new out more (ts ++ us) (λ way. f way ++ g way)
+    → WritesLines v old mid out between ts f → WritesLines v mid new between more us g → WritesLines v old new out more (ts ++ us) (λ way. f way ++ g way)
 follows v old mid new out between more ts us f g first second = record {
   table = second.table ∙ ap (λ z. grown_as v z us) first.table ∙ sym (grown_as_append v old ts us);
   text = λ rest.
       let later : grown_as v mid (us ++ rest) ≡ grown_as v new rest = grown_as_append v mid us rest ∙ ap (λ z. grown_as v z rest) (sym second.table) in
-      second.text rest ∙ ap (λ z. z ++ g (line_as v (grown_as v new rest))) (first.text (us ++ rest) ∙ ap (λ z. out ++ f (line_as v z)) later)
-      ∙ append_assoc out (f (line_as v (grown_as v new rest))) (g (line_as v (grown_as v new rest)));
+      second.text rest ∙ ap (λ z. z ++ g (written_line_as v (grown_as v new rest))) (first.text (us ++ rest) ∙ ap (λ z. out ++ f (written_line_as v z)) later)
+      ∙ append_assoc out (f (written_line_as v (grown_as v new rest))) (g (written_line_as v (grown_as v new rest)));
 }
 
 -- what was written so far, and what is left, are all
 pub record Writing (v : Version) (first now : List NominalTerm) (start out : List ℕ) (all left : List NominalTerm) (whole rest : Way → List ℕ) : Type 0 where
   pub table : grown_as v now left ≡ grown_as v first all
-  pub text : (later : List NominalTerm) → out ++ rest (line_as v (grown_as v (grown_as v first all) later)) ≡ start ++ whole (line_as v (grown_as v (grown_as v first all) later))
+  pub text : (later : List NominalTerm) → out ++ rest (written_line_as v (grown_as v (grown_as v first all) later)) ≡ start ++ whole (written_line_as v (grown_as v (grown_as v first all) later))
 
 pub writing_on : (v : Version) (first table new : List NominalTerm) (start out more : List ℕ) (all lefts left ts : List NominalTerm) (whole rests rest f : Way → List ℕ)
-    → lefts ≡ ts ++ left → ((way : Way) → rests way ≡ f way ++ rest way) → Writes v table new out more ts f
+    → lefts ≡ ts ++ left → ((way : Way) → rests way ≡ f way ++ rest way) → WritesLines v table new out more ts f
     → Writing v first table start out all lefts whole rests → Writing v first new start more all left whole rest
 writing_on v first table new start out more all lefts left ts whole rests rest f e d wrote before =
     let same : grown_as v new left ≡ grown_as v first all = ap (λ z. grown_as v z left) wrote.table ∙ sym (grown_as_append v table ts left) ∙ ap (grown_as v table) (sym e) ∙ before.table in
     record {
       table = same;
       text = λ later.
-          let way = line_as v (grown_as v (grown_as v first all) later) in
+          let way = written_line_as v (grown_as v (grown_as v first all) later) in
           let then : grown_as v new (left ++ later) ≡ grown_as v (grown_as v first all) later = grown_as_append v new left later ∙ ap (λ z. grown_as v z later) same in
-          ap (λ z. z ++ rest way) (wrote.text (left ++ later) ∙ ap (λ z. out ++ f (line_as v z)) then) ∙ append_assoc out (f way) (rest way) ∙ ap (λ z. out ++ z) (sym (d way)) ∙ before.text later;
+          ap (λ z. z ++ rest way) (wrote.text (left ++ later) ∙ ap (λ z. out ++ f (written_line_as v z)) then) ∙ append_assoc out (f way) (rest way) ∙ ap (λ z. out ++ z) (sym (d way)) ∙ before.text later;
     }
 
 pub writing_ends : (v : Version) (first table : List NominalTerm) (start out : List ℕ) (all lefts : List NominalTerm) (whole rests : Way → List ℕ)
-    → lefts ≡ [] → ((way : Way) → rests way ≡ []) → Writing v first table start out all lefts whole rests → Writes v first table start out all whole
+    → lefts ≡ [] → ((way : Way) → rests way ≡ []) → Writing v first table start out all lefts whole rests → WritesLines v first table start out all whole
 writing_ends v first table start out all lefts whole rests e d before =
     let end : table ≡ grown_as v first all = sym (ap (grown_as v table) e ∙ grown_as_none v table) ∙ before.table in
     record {
       table = end;
       text = λ later.
-          let way = line_as v (grown_as v (grown_as v first all) later) in
-          sym (append-nil out) ∙ ap (λ z. out ++ z) (sym (d way)) ∙ before.text later ∙ ap (λ z. start ++ whole (line_as v (grown_as v z later))) (sym end);
+          let way = written_line_as v (grown_as v (grown_as v first all) later) in
+          sym (append-nil out) ∙ ap (λ z. out ++ z) (sym (d way)) ∙ before.text later ∙ ap (λ z. start ++ whole (written_line_as v (grown_as v z later))) (sym end);
     }
 
 pub writing_begins : (v : Version) (table : List NominalTerm) (out : List ℕ) (all : List NominalTerm) (whole : Way → List ℕ) → Writing v table table out out all all whole whole
@@ -91,7 +91,7 @@ module _ {A N : Type 0} (view : A → N) (terms : N → List NominalTerm) (text 
   abbrev pub EachWriting : List NominalTerm → List ℕ → ℕ → Type 0
   EachWriting table out i = Writing v first table start out (flat_map terms (map view xs)) (flat_map terms (map view (drop i xs))) (λ way. flat_map (text way) (map view xs)) (λ way. flat_map (text way) (map view (drop i xs)))
 
-  pub each_on : (table new : List NominalTerm) (out more : List ℕ) (i : ℕ) (x : A) → i < length xs → x ≡ get_or xs i x → Writes v table new out more (terms (view x)) (λ way. text way (view x))
+  pub each_on : (table new : List NominalTerm) (out more : List ℕ) (i : ℕ) (x : A) → i < length xs → x ≡ get_or xs i x → WritesLines v table new out more (terms (view x)) (λ way. text way (view x))
       → EachWriting table out i → EachWriting new more (i + 1)
   each_on table new out more i x h is wrote before =
       let e = next_of xs i x h is in
@@ -99,7 +99,7 @@ module _ {A N : Type 0} (view : A → N) (terms : N → List NominalTerm) (text 
       (λ way. flat_map (text way) (map view xs)) (λ way. flat_map (text way) (map view (drop i xs))) (λ way. flat_map (text way) (map view (drop (i + 1) xs))) (λ way. text way (view x))
       (ap (λ ys. flat_map terms (map view ys)) e) (λ way. ap (λ ys. flat_map (text way) (map view ys)) e) wrote before
 
-  pub each_ends : (table : List NominalTerm) (out : List ℕ) (i : ℕ) → length xs ≤ i → EachWriting table out i → Writes v first table start out (flat_map terms (map view xs)) (λ way. flat_map (text way) (map view xs))
+  pub each_ends : (table : List NominalTerm) (out : List ℕ) (i : ℕ) → length xs ≤ i → EachWriting table out i → WritesLines v first table start out (flat_map terms (map view xs)) (λ way. flat_map (text way) (map view xs))
   each_ends table out i h before =
       let e = none_left xs i h in
       writing_ends v first table start out (flat_map terms (map view xs)) (flat_map terms (map view (drop i xs))) (λ way. flat_map (text way) (map view xs)) (λ way. flat_map (text way) (map view (drop i xs)))
@@ -110,7 +110,7 @@ module _ {A : Type 0} (view : A → NominalTerm) (v : Version) (first : List Nom
   abbrev pub TermsWriting : List NominalTerm → List ℕ → ℕ → Type 0
   TermsWriting table out i = Writing v first table start out (map view xs) (map view (drop i xs)) (λ way. flat_map way (map view xs)) (λ way. flat_map way (map view (drop i xs)))
 
-  pub terms_on : (table new : List NominalTerm) (out more : List ℕ) (i : ℕ) (x : A) → i < length xs → x ≡ get_or xs i x → Writes v table new out more (view x ∷ []) (λ way. way (view x))
+  pub terms_on : (table new : List NominalTerm) (out more : List ℕ) (i : ℕ) (x : A) → i < length xs → x ≡ get_or xs i x → WritesLines v table new out more (view x ∷ []) (λ way. way (view x))
       → TermsWriting table out i → TermsWriting new more (i + 1)
   terms_on table new out more i x h is wrote before =
       let e = next_of xs i x h is in
@@ -118,7 +118,7 @@ module _ {A : Type 0} (view : A → NominalTerm) (v : Version) (first : List Nom
       (λ way. flat_map way (map view xs)) (λ way. flat_map way (map view (drop i xs))) (λ way. flat_map way (map view (drop (i + 1) xs))) (λ way. way (view x))
       (ap (map view) e) (λ way. ap (λ ys. flat_map way (map view ys)) e) wrote before
 
-  pub terms_end : (table : List NominalTerm) (out : List ℕ) (i : ℕ) → length xs ≤ i → TermsWriting table out i → Writes v first table start out (map view xs) (λ way. flat_map way (map view xs))
+  pub terms_end : (table : List NominalTerm) (out : List ℕ) (i : ℕ) → length xs ≤ i → TermsWriting table out i → WritesLines v first table start out (map view xs) (λ way. flat_map way (map view xs))
   terms_end table out i h before =
       let e = none_left xs i h in
       writing_ends v first table start out (map view xs) (map view (drop i xs)) (λ way. flat_map way (map view xs)) (λ way. flat_map way (map view (drop i xs)))

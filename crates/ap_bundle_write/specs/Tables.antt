@@ -10,23 +10,23 @@ use Rattle.ap_bundle.specs.declared.words.Word.{Word}
 use Rattle.ap_bundle.specs.declared.words.Word.TheVariants.{Number, Letter as ALetter}
 use Rattle.ap_bundle.specs.Forms.{◌>>=◌, first, name_words, term_words}
 use Rattle.ap_bundle.specs.Tables.{grown, entry_words, HasParts}
-use Rattle.ap_bundle.specs.Written.{line_as}
+use Rattle.ap_bundle.specs.Written.{written_line_as}
 use Rattle.ap_bundle_write.specs.declared.table.Table.{Table}
 use Rattle.ap_bundle_write.specs.declared.table.Task.{Task}
 use Rattle.ap_bundle_write.specs.declared.table.Task.TheVariants as tasks
 
 -- the terms of the table
-abbrev pub held : Table → List NominalTerm
-held t = map (λ r. term_of r.now) t.terms.items
+abbrev pub held_terms : Table → List NominalTerm
+held_terms t = map (λ r. term_of r.now) t.terms.items
 
 -- the words of its lines
-abbrev pub line_words : Table → List (List Word)
-line_words t = map (λ v. v.items) t.lines.keys
+abbrev pub words_of_lines : Table → List (List Word)
+words_of_lines t = map (λ v. v.items) t.lines.keys
 
 -- each line has the words of its term, and each term stands with its parts
 pub record IsWrittenTable (t : Table) : Type 0 where
-  pub lines : line_words t ≡ map (entry_words (held t)) (held t)
-  pub parts : AllByRecursion (HasParts (held t)) (held t)
+  pub lines : words_of_lines t ≡ map (entry_words (held_terms t)) (held_terms t)
+  pub parts : AllByRecursion (HasParts (held_terms t)) (held_terms t)
 
 -- the table once these terms came; a bundle of version 1 has none
 abbrev pub grown_as : Version → List NominalTerm → List NominalTerm → List NominalTerm
@@ -35,10 +35,10 @@ grown_as Two table ts = grown table ts
 
 -- The table grew by the terms, and this text was written behind what stood there: each term in the way that
 -- fits the table, whatever comes later.
-pub record Writes (v : Version) (old new : List NominalTerm) (out more : List ℕ) (ts : List NominalTerm)
+pub record WritesLines (v : Version) (old new : List NominalTerm) (out more : List ℕ) (ts : List NominalTerm)
     (lines : (NominalTerm → List ℕ) → List ℕ) : Type 0 where
   pub table : new ≡ grown_as v old ts
-  pub text : (rest : List NominalTerm) → more ≡ out ++ lines (line_as v (grown_as v new rest))
+  pub text : (rest : List NominalTerm) → more ≡ out ++ lines (written_line_as v (grown_as v new rest))
 
 -- the words of a term's line by the numbers of its parts, the last of them first, and the other numbers
 abbrev pub words_by : NominalTerm → List ℕ → Option (List Word × List ℕ)

@@ -7,7 +7,7 @@ ghost use Rattle.ap_bundle.specs.Nodes as nodes;
 ghost use Rattle.ap_bundle.specs.Nodes.{preorder};
 ghost use Rattle.ap_bundle.specs.Written.{node_line, node_lines, name_line, term_line};
 ghost use Rattle.ap_bundle_write.specs.Nodes.{children_back, first_node, node_terms, seen};
-ghost use Rattle.ap_bundle_write.specs.Tables.{IsWrittenTable, Writes, held};
+ghost use Rattle.ap_bundle_write.specs.Tables.{IsWrittenTable, WritesLines, held_terms};
 
 use crate::forms::{push_name, push_term};
 use crate::lines::{write_count, write_line};
@@ -38,8 +38,9 @@ fn write_shared_term<'a>(
 ) -> Result<(), Memory>
     requires { IsWrittenTable table.old }
     ensures table { OnOk result (IsWrittenTable table.new) }
-    ensures text { OnOk result (Writes Version.Two (held table.old) (held table.new) out.old.items
-        out.new.items (term_of term.now ∷ []) (λ way. way (term_of term.now))) }
+    ensures text { OnOk result (WritesLines Version.Two (held_terms table.old)
+        (held_terms table.new) out.old.items out.new.items (term_of term.now ∷ [])
+        (λ way. way (term_of term.now))) }
 {
     let line = table.enter(alloc, term)?;
     write_count(alloc, out, Head::R, line)
@@ -55,8 +56,8 @@ fn write_term<'a>(
 ) -> Result<(), Memory>
     requires { IsWrittenTable table.old }
     ensures table { OnOk result (IsWrittenTable table.new) }
-    ensures text { OnOk result (Writes version (held table.old) (held table.new) out.old.items
-        out.new.items (term_of term.now ∷ []) (λ way. way (term_of term.now))) }
+    ensures text { OnOk result (WritesLines version (held_terms table.old) (held_terms table.new)
+        out.old.items out.new.items (term_of term.now ∷ []) (λ way. way (term_of term.now))) }
 {
     match version {
         Version::One => write_full_term(alloc, out, term),
@@ -74,8 +75,9 @@ pub(crate) fn write_terms<'a>(
 ) -> Result<(), Memory>
     requires { IsWrittenTable table.old }
     ensures table { OnOk result (IsWrittenTable table.new) }
-    ensures text { OnOk result (Writes version (held table.old) (held table.new) out.old.items
-        out.new.items (map term_of terms.now) (λ way. flat_map way (map term_of terms.now))) }
+    ensures text { OnOk result (WritesLines version (held_terms table.old) (held_terms table.new)
+        out.old.items out.new.items (map term_of terms.now) (λ way. flat_map way
+        (map term_of terms.now))) }
 {
     for term in terms {
         write_term(alloc, out, version, table, term)?;
@@ -143,9 +145,9 @@ fn write_atom<'a>(
 ) -> Result<(), Memory>
     requires { IsWrittenTable table.old }
     ensures table { OnOk result (IsWrittenTable table.new) }
-    ensures text { OnOk result (Writes version (held table.old) (held table.new) out.old.items
-        out.new.items (map term_of terms.now) (λ way. node_lines way (nodes.atom clause names.now
-        (map term_of terms.now)))) }
+    ensures text { OnOk result (WritesLines version (held_terms table.old) (held_terms table.new)
+        out.old.items out.new.items (map term_of terms.now) (λ way. node_lines way (nodes.atom
+        clause names.now (map term_of terms.now)))) }
 {
     write_atom_line(alloc, out, clause, names.len(), terms.len())?;
     write_names(alloc, out, names)?;
@@ -162,8 +164,8 @@ fn write_exists<'a>(
 ) -> Result<(), Memory>
     requires { IsWrittenTable table.old }
     ensures table { OnOk result (IsWrittenTable table.new) }
-    ensures text { OnOk result (Writes version (held table.old) (held table.new) out.old.items
-        out.new.items (term_of term.now ∷ []) (λ way. node_lines way
+    ensures text { OnOk result (WritesLines version (held_terms table.old) (held_terms table.new)
+        out.old.items out.new.items (term_of term.now ∷ []) (λ way. node_lines way
         (nodes.exists (term_of term.now)))) }
 {
     write_node(alloc, out, NodeWord::Exists)?;
@@ -191,9 +193,9 @@ fn write_first<'a>(
 ) -> Result<(), Memory>
     requires { IsWrittenTable table.old }
     ensures table { OnOk result (IsWrittenTable table.new) }
-    ensures text { OnOk result (Writes version (held table.old) (held table.new) out.old.items
-        out.new.items (node_terms (first_node (derivation_of derivation.now))) (λ way. node_lines
-        way (first_node (derivation_of derivation.now)))) }
+    ensures text { OnOk result (WritesLines version (held_terms table.old) (held_terms table.new)
+        out.old.items out.new.items (node_terms (first_node (derivation_of derivation.now))) (λ way.
+        node_lines way (first_node (derivation_of derivation.now)))) }
 {
     match derivation {
         Derivation::Atom(used, _) => {
@@ -244,9 +246,9 @@ pub(crate) fn write_derivation<'a>(
 ) -> Result<(), Memory>
     requires { IsWrittenTable table.old }
     ensures table { OnOk result (IsWrittenTable table.new) }
-    ensures text { OnOk result (Writes version (held table.old) (held table.new) out.old.items
-        out.new.items (terms_in (derivation_of derivation.now)) (λ way. flat_map (node_lines way)
-        (preorder (derivation_of derivation.now)))) }
+    ensures text { OnOk result (WritesLines version (held_terms table.old) (held_terms table.new)
+        out.old.items out.new.items (terms_in (derivation_of derivation.now)) (λ way. flat_map
+        (node_lines way) (preorder (derivation_of derivation.now)))) }
 {
     let mut pending = Vec::new(alloc);
     pending.push(derivation)?;

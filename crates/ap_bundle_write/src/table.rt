@@ -6,8 +6,8 @@ ghost use Rattle.std.specs.Prelude.{◌≡◌, [], ◌∷◌, ◌++◌, map, rev
 ghost use Rattle.std.specs.Option.{option_map};
 ghost use Rattle.ap_defs.specs.Terms.{term_of};
 ghost use Rattle.ap_bundle.specs.Forms as forms;
-ghost use Rattle.ap_bundle.specs.Tables.{HasParts, entry_words, grown, line_of, with_term};
-ghost use Rattle.ap_bundle_write.specs.Tables.{IsWrittenTable, held, steps_in, steps_of, words_by};
+ghost use Rattle.ap_bundle.specs.Tables.{HasParts, entry_words, grown, line_of, with_table_term};
+ghost use Rattle.ap_bundle_write.specs.Tables.{IsWrittenTable, held_terms, steps_in, steps_of, words_by};
 
 use crate::forms::{push_name, push_term};
 use ap_bundle::words::{Letter, Word};
@@ -139,7 +139,7 @@ impl<'a> Table<'a> {
     /// No terms.
     pub(crate) fn new(alloc: Global) -> Table<'a>
         ensures table { IsWrittenTable result }
-        ensures none { held result ≡ [] }
+        ensures none { held_terms result ≡ [] }
     {
         Table {
             lines: IndexSet::new(alloc),
@@ -150,11 +150,12 @@ impl<'a> Table<'a> {
     /// One term more, unless it is there, by the words of its line. It answers its line.
     fn add(&mut self, term: &'a Term, words: Vec<Word>) -> Result<usize, Memory>
         requires table { IsWrittenTable self.old }
-        requires parts { HasParts (held self.old) (term_of term.now) }
-        requires words { words.items ≡ entry_words (held self.old) (term_of term.now) }
+        requires parts { HasParts (held_terms self.old) (term_of term.now) }
+        requires words { words.items ≡ entry_words (held_terms self.old) (term_of term.now) }
         ensures table { OnOk result (IsWrittenTable self.new) }
-        ensures held { OnOk result (held self.new ≡ with_term (held self.old) (term_of term.now)) }
-        ensures line { IfOk result (λ i. i ≡ line_of (held self.old) (term_of term.now)) }
+        ensures held_terms { OnOk result (held_terms self.new
+            ≡ with_table_term (held_terms self.old) (term_of term.now)) }
+        ensures line { IfOk result (λ i. i ≡ line_of (held_terms self.old) (term_of term.now)) }
     {
         let (line, is_new) = self.lines.insert_full(words)?;
         if is_new {
@@ -167,8 +168,9 @@ impl<'a> Table<'a> {
     pub(crate) fn enter(&mut self, alloc: Global, term: &'a Term) -> Result<usize, Memory>
         requires { IsWrittenTable self.old }
         ensures table { OnOk result (IsWrittenTable self.new) }
-        ensures held { OnOk result (held self.new ≡ grown (held self.old) (term_of term.now ∷ [])) }
-        ensures line { IfOk result (λ i. i ≡ line_of (held self.new) (term_of term.now)) }
+        ensures held_terms { OnOk result (held_terms self.new
+            ≡ grown (held_terms self.old) (term_of term.now ∷ [])) }
+        ensures line { IfOk result (λ i. i ≡ line_of (held_terms self.new) (term_of term.now)) }
     {
         let mut numbers = Vec::new(alloc);
         let mut tasks = Vec::new(alloc);

@@ -4,10 +4,10 @@ ghost use Rattle.ap_defs.specs.Answers.{answer_of, typed_var_of};
 ghost use Rattle.ap_defs.specs.Terms.{term_of};
 ghost use Rattle.ap_bundle.specs.Bundles.{bundle_of, proved_of};
 ghost use Rattle.ap_bundle.specs.Tables.{terms_of};
-ghost use Rattle.ap_bundle.specs.Versions.{first_line};
+ghost use Rattle.ap_bundle.specs.Versions.{version_line};
 ghost use Rattle.ap_bundle.specs.Written as spec;
-ghost use Rattle.ap_bundle.specs.Written.{cond_line, entry_line, head_line, line_as, listed, proved_lines, text_lines, var_line, written, written_as, written_shared};
-ghost use Rattle.ap_bundle_write.specs.Tables.{IsWrittenTable, Writes, grown_as, held};
+ghost use Rattle.ap_bundle.specs.Written.{cond_line, entry_line, head_line, written_line_as, listed, proved_lines, text_lines, var_line, written, written_as, written_shared};
+ghost use Rattle.ap_bundle_write.specs.Tables.{IsWrittenTable, WritesLines, grown_as, held_terms};
 
 use crate::derivations::{write_derivation, write_terms};
 use crate::forms::{push_name, push_type};
@@ -89,8 +89,8 @@ fn write_listed_binds<'a>(
 ) -> Result<(), Memory>
     requires { IsWrittenTable table.old }
     ensures table { OnOk result (IsWrittenTable table.new) }
-    ensures text { OnOk result (Writes version (held table.old) (held table.new) out.old.items
-        out.new.items (map term_of binds.now) (λ way. listed Head.Binds way
+    ensures text { OnOk result (WritesLines version (held_terms table.old) (held_terms table.new)
+        out.old.items out.new.items (map term_of binds.now) (λ way. listed Head.Binds way
         (map term_of binds.now))) }
 {
     write_count(alloc, out, Head::Binds, binds.len())?;
@@ -107,8 +107,8 @@ fn write_answer<'a>(
 ) -> Result<(), Memory>
     requires { IsWrittenTable table.old }
     ensures table { OnOk result (IsWrittenTable table.new) }
-    ensures text { OnOk result (Writes version (held table.old) (held table.new) out.old.items
-        out.new.items (answer_of answer.now).binds (λ way. spec.answer_lines way
+    ensures text { OnOk result (WritesLines version (held_terms table.old) (held_terms table.new)
+        out.old.items out.new.items (answer_of answer.now).binds (λ way. spec.answer_lines way
         (answer_of answer.now))) }
 {
     write_listed_vars(alloc, out, answer.vars.items())?;
@@ -126,8 +126,8 @@ fn write_proved<'a>(
 ) -> Result<(), Memory>
     requires { IsWrittenTable table.old }
     ensures table { OnOk result (IsWrittenTable table.new) }
-    ensures text { OnOk result (Writes version (held table.old) (held table.new) out.old.items
-        out.new.items (terms_of (proved_of proved.now)) (λ way. proved_lines way
+    ensures text { OnOk result (WritesLines version (held_terms table.old) (held_terms table.new)
+        out.old.items out.new.items (terms_of (proved_of proved.now)) (λ way. proved_lines way
         (proved_of proved.now))) }
 {
     write_count(alloc, out, Head::Derivation, proved.query as usize)?;
@@ -144,8 +144,8 @@ fn write_each<'a>(
 ) -> Result<(), Memory>
     requires { IsWrittenTable table.old }
     ensures table { OnOk result (IsWrittenTable table.new) }
-    ensures text { OnOk result (Writes version (held table.old) (held table.new) out.old.items
-        out.new.items (flat_map terms_of (map proved_of all.now)) (λ way. flat_map
+    ensures text { OnOk result (WritesLines version (held_terms table.old) (held_terms table.new)
+        out.old.items out.new.items (flat_map terms_of (map proved_of all.now)) (λ way. flat_map
         (proved_lines way) (map proved_of all.now))) }
 {
     for proved in all {
@@ -173,10 +173,11 @@ fn proved_part<'a>(
 ) -> Result<Vec<u8>, Memory>
     requires { IsWrittenTable table.old }
     ensures table { OnOk result (IsWrittenTable table.new) }
-    ensures held { OnOk result (held table.new
-        ≡ grown_as version (held table.old) (flat_map terms_of (map proved_of proved.now))) }
+    ensures held_terms { OnOk result (held_terms table.new
+        ≡ grown_as version (held_terms table.old) (flat_map terms_of (map proved_of proved.now))) }
     ensures text { IfOk result (λ bytes. bytes.items
-        ≡ spec.proved_part (line_as version (held table.new)) (map proved_of proved.now)) }
+        ≡ spec.proved_part (written_line_as version (held_terms table.new))
+        (map proved_of proved.now)) }
 {
     let mut out = Vec::new(alloc);
     write_count(alloc, &mut out, Head::Derivations, proved.len())?;
@@ -209,7 +210,8 @@ fn write_entries(alloc: Global, out: &mut Vec<u8>, lines: &[Vec<Word>]) -> Resul
 fn write_table(alloc: Global, out: &mut Vec<u8>, table: &Table<'_>) -> Result<(), Memory>
     requires { IsWrittenTable table.now }
     ensures { OnOk result (out.new.items
-        ≡ out.old.items ++ listed Head.Terms (entry_line (held table.now)) (held table.now)) }
+        ≡ out.old.items
+        ++ listed Head.Terms (entry_line (held_terms table.now)) (held_terms table.now)) }
 {
     let lines = table.lines();
     write_count(alloc, out, Head::Terms, lines.len())?;
@@ -219,7 +221,7 @@ fn write_table(alloc: Global, out: &mut Vec<u8>, table: &Table<'_>) -> Result<()
 /// The first line, and the text.
 fn start_of(alloc: Global, version: Version, text: &[u8]) -> Result<Vec<u8>, Memory>
     ensures { IfOk result (λ out. out.items
-        ≡ (first_line version ++ 10 ∷ []) ++ text_lines text.now) }
+        ≡ (version_line version ++ 10 ∷ []) ++ text_lines text.now) }
 {
     let mut out = Vec::new(alloc);
     out.extend_from_slice(version.first_line().as_bytes())?;

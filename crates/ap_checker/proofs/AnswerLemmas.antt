@@ -10,7 +10,7 @@ use Rattle.ap_defs.specs.Derivations.{NominalDerivation}
 use Rattle.ap_defs.specs.Goals.{NominalProgram, NominalQuery}
 use Rattle.ap_defs.specs.Renaming.{local_names}
 use Rattle.ap_defs.specs.Resolution.{kinds_of}
-use Rattle.ap_checks.specs.Checks.{at, is_answer, no, refusal, test, verdict, verdict_on}
+use Rattle.ap_checks.specs.Checks.{refusal_of_rule, is_answer, no, refusal, test, verdict, verdict_on}
 use Rattle.ap_checks.specs.OpenEnvironments.{open_environment}
 use Rattle.ap_defs.specs.Freshness.{Conds}
 use Rattle.ap_defs.specs.Unification.{has_var}
@@ -41,4 +41,4 @@ twice_fits_not false once conds h = refl
 
 pub answer_refused : (p : NominalProgram) (q : NominalQuery) (a : NominalAnswer) (d : NominalDerivation) → is_answer p q a ≡ false → no 0 10 ≡ verdict_on p q a d
 answer_refused p q a d h =
-    sym (ap (λ v. verdict (test v (at 0 10) (refusal p a (kinds_of q.locals) 1 d q.goal (open_environment q.locals (local_names 0 q.locals) a.binds)))) h)
+    sym (ap (λ v. verdict (test v (refusal_of_rule 0 10) (refusal p a (kinds_of q.locals) 1 d q.goal (open_environment q.locals (local_names 0 q.locals) a.binds)))) h)

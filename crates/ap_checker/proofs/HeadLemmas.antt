@@ -1,6 +1,9 @@
 -- Heads of closures that are made by other constructors.
-use Rattle.std.proofs.Common.{◌≡◌, ◌==◌, ℕ, false, refl, ap, ◌∙◌}
+use Rattle.std.proofs.Common.{◌≡◌, ◌==◌, ℕ, List, [], ◌∷◌, length, false, refl, sym, ap, ◌∙◌}
 use Rattle.ap_defs.specs.declared.terms.Name.{Name}
+use Rattle.ap_defs.specs.declared.terms.Swap.{Swap}
+use Rattle.ap_defs.specs.Terms.{NominalTerm, act_term}
+use Rattle.ap_theory.proofs.TermLemmas.{act_term_none}
 use Rattle.ap_checker.specs.declared.closures.Head.{Head}
 use Rattle.ap_checker.specs.declared.closures.Head.TheVariants as heads
 use Rattle.ap_checker.specs.declared.closures.Closure.{Closure}
@@ -60,3 +63,8 @@ other_than_abs b v (heads.Susp p x) n = refl
 other_than_abs b v (heads.Pair t u) n = refl
 other_than_abs b v (heads.App f t) n = refl
 other_than_abs b v (heads.Abs a t) n = absurd (n a t refl)
+
+-- no swappings leave a term
+pub unmoved : (p : List Swap) (t h : NominalTerm) → length p ≡ 0 → h ≡ t → h ≡ act_term p t
+unmoved [] t h e k = k ∙ sym (act_term_none t)
+unmoved (s ∷ p) t h e k = cc

@@ -109,12 +109,12 @@ module _ (ls : List Local) (i : ℕ) (l : Local) (h : i < length ls) (k : l ≡ 
       ∙ ap (λ n. open_term_for (local_vars (i + 1) (locals_of (drop (i + 1) ls))) (map term_of (drop n ts)) x) (sym (add-one place))
 
 -- Sorts and types of what is left.
-no_type : (b : Bool) (k : NominalKind) (n : ℕ) (xs : List Var) → free_types.type_unless b k ≡ None → var_unless b k n xs ≡ xs
+no_type : (b : Bool) (k : NominalKind) (n : ℕ) (xs : List Var) → free_types.free_type_unless b k ≡ None → var_unless b k n xs ≡ xs
 no_type true k n xs h = refl
 no_type false (types.name s) n xs h = refl
 no_type false (types.var t) n xs h = cc
 
-a_type : (b : Bool) (k : NominalKind) (n : ℕ) (xs : List Var) (t : NominalType) → free_types.type_unless b k ≡ Some t → (var_unless b k n xs ≡ record { num = n } ∷ xs) × (k ≡ types.var t)
+a_type : (b : Bool) (k : NominalKind) (n : ℕ) (xs : List Var) (t : NominalType) → free_types.free_type_unless b k ≡ Some t → (var_unless b k n xs ≡ record { num = n } ∷ xs) × (k ≡ types.var t)
 a_type true k n xs t h = cc
 a_type false (types.name s) n xs t h = cc
 a_type false (types.var u) n xs t h = let same : u ≡ t = cc in (refl, ap types.var same)

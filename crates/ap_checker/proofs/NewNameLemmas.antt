@@ -11,7 +11,7 @@ use Rattle.ap_defs.specs.Freshness.{Conds, fresh_under, var_eq}
 use Rattle.ap_defs.specs.Occurrences.{without_name, without_var}
 use Rattle.ap_defs.specs.Permutations.{name_eq}
 use Rattle.ap_checks.specs.OpenEnvironments.{OpenEnvironment}
-use Rattle.ap_checker.specs.NewNames.{are_apart, are_fresh, is_name, is_var}
+use Rattle.ap_checker.specs.NewNames.{are_apart, are_fresh, is_id_of_name, is_id_of_var}
 
 module _ {A : Type 0} (f : A → Bool) (xs : List A) (i : ℕ) (d : A) (h : i < length xs) where
   any_split : list_any f (drop i xs) ≡ (f (get_or xs i d) || list_any f (drop (i + 1) xs))
@@ -47,50 +47,50 @@ all_same f g h (x ∷ xs) = ap₂ ◌&&◌ (h x) (all_same f g h xs)
 -- one of the names or variables
 module _ (e : OpenEnvironment) (c : Name) (bs : List Id) (names : List Name) (i : ℕ) (d : Name) (h : i < length names) where
   abbrev apart : Name → Bool
-  apart b = list_any (is_name b) bs || not (name_eq (e.names b) c)
+  apart b = list_any (is_id_of_name b) bs || not (name_eq (e.names b) c)
 
-  pub name_stands : name_eq (e.names (get_or names i d)) c ≡ true → list_any (is_name (get_or names i d)) bs ≡ false → are_apart c e bs (drop i names) ≡ false
+  pub name_stands : name_eq (e.names (get_or names i d)) c ≡ true → list_any (is_id_of_name (get_or names i d)) bs ≡ false → are_apart c e bs (drop i names) ≡ false
   name_stands k l = all_not apart names i d h (ap₂ (λ v w. v || not w) l k)
 
-  pub name_brought : list_any (is_name (get_or names i d)) bs ≡ true → are_apart c e bs (drop (i + 1) names) ≡ are_apart c e bs (drop i names)
+  pub name_brought : list_any (is_id_of_name (get_or names i d)) bs ≡ true → are_apart c e bs (drop (i + 1) names) ≡ are_apart c e bs (drop i names)
   name_brought k = all_later apart names i d h (ap (λ v. v || not (name_eq (e.names (get_or names i d)) c)) k)
 
   pub name_apart : name_eq (e.names (get_or names i d)) c ≡ false → are_apart c e bs (drop (i + 1) names) ≡ are_apart c e bs (drop i names)
-  name_apart k = all_later apart names i d h (ap (λ v. list_any (is_name (get_or names i d)) bs || not v) k ∙ or_true (list_any (is_name (get_or names i d)) bs))
+  name_apart k = all_later apart names i d h (ap (λ v. list_any (is_id_of_name (get_or names i d)) bs || not v) k ∙ or_true (list_any (is_id_of_name (get_or names i d)) bs))
 
 module _ (ds : Conds) (e : OpenEnvironment) (c : Name) (bs : List Id) (vars : List Var) (i : ℕ) (d : Var) (h : i < length vars) where
   abbrev fresh : Var → Bool
-  fresh x = list_any (is_var x) bs || fresh_under ds c (e.terms x)
+  fresh x = list_any (is_id_of_var x) bs || fresh_under ds c (e.terms x)
 
-  pub var_not : list_any (is_var (get_or vars i d)) bs ≡ false → fresh_under ds c (e.terms (get_or vars i d)) ≡ false → are_fresh ds c e bs (drop i vars) ≡ false
+  pub var_not : list_any (is_id_of_var (get_or vars i d)) bs ≡ false → fresh_under ds c (e.terms (get_or vars i d)) ≡ false → are_fresh ds c e bs (drop i vars) ≡ false
   var_not k l = all_not fresh vars i d h (ap₂ ◌||◌ k l)
 
-  pub var_brought : list_any (is_var (get_or vars i d)) bs ≡ true → are_fresh ds c e bs (drop (i + 1) vars) ≡ are_fresh ds c e bs (drop i vars)
+  pub var_brought : list_any (is_id_of_var (get_or vars i d)) bs ≡ true → are_fresh ds c e bs (drop (i + 1) vars) ≡ are_fresh ds c e bs (drop i vars)
   var_brought k = all_later fresh vars i d h (ap (λ v. v || fresh_under ds c (e.terms (get_or vars i d))) k)
 
   pub var_fresh : fresh_under ds c (e.terms (get_or vars i d)) ≡ true → are_fresh ds c e bs (drop (i + 1) vars) ≡ are_fresh ds c e bs (drop i vars)
-  var_fresh k = all_later fresh vars i d h (ap (λ v. list_any (is_var (get_or vars i d)) bs || v) k ∙ or_true (list_any (is_var (get_or vars i d)) bs))
+  var_fresh k = all_later fresh vars i d h (ap (λ v. list_any (is_id_of_var (get_or vars i d)) bs || v) k ∙ or_true (list_any (is_id_of_var (get_or vars i d)) bs))
 
 -- what is inside a `new` or an `exists`
 module _ (bs : List Id) where
-  name_more : (a b : Name) → list_any (is_name b) (bs ++ ids.Name a ∷ []) ≡ (list_any (is_name b) bs || name_eq a b)
-  name_more a b = list_any-append (is_name b) bs (ids.Name a ∷ []) ∙ ap (λ v. list_any (is_name b) bs || v) (or_false (name_eq a b))
+  name_more : (a b : Name) → list_any (is_id_of_name b) (bs ++ ids.Name a ∷ []) ≡ (list_any (is_id_of_name b) bs || name_eq a b)
+  name_more a b = list_any-append (is_id_of_name b) bs (ids.Name a ∷ []) ∙ ap (λ v. list_any (is_id_of_name b) bs || v) (or_false (name_eq a b))
 
-  name_still : (x : Var) (b : Name) → list_any (is_name b) (bs ++ ids.Var x ∷ []) ≡ list_any (is_name b) bs
-  name_still x b = list_any-append (is_name b) bs (ids.Var x ∷ []) ∙ or_false (list_any (is_name b) bs)
+  name_still : (x : Var) (b : Name) → list_any (is_id_of_name b) (bs ++ ids.Var x ∷ []) ≡ list_any (is_id_of_name b) bs
+  name_still x b = list_any-append (is_id_of_name b) bs (ids.Var x ∷ []) ∙ or_false (list_any (is_id_of_name b) bs)
 
-  var_more : (x y : Var) → list_any (is_var y) (bs ++ ids.Var x ∷ []) ≡ (list_any (is_var y) bs || var_eq x y)
-  var_more x y = list_any-append (is_var y) bs (ids.Var x ∷ []) ∙ ap (λ v. list_any (is_var y) bs || v) (or_false (var_eq x y))
+  var_more : (x y : Var) → list_any (is_id_of_var y) (bs ++ ids.Var x ∷ []) ≡ (list_any (is_id_of_var y) bs || var_eq x y)
+  var_more x y = list_any-append (is_id_of_var y) bs (ids.Var x ∷ []) ∙ ap (λ v. list_any (is_id_of_var y) bs || v) (or_false (var_eq x y))
 
-  var_still : (a : Name) (y : Var) → list_any (is_var y) (bs ++ ids.Name a ∷ []) ≡ list_any (is_var y) bs
-  var_still a y = list_any-append (is_var y) bs (ids.Name a ∷ []) ∙ or_false (list_any (is_var y) bs)
+  var_still : (a : Name) (y : Var) → list_any (is_id_of_var y) (bs ++ ids.Name a ∷ []) ≡ list_any (is_id_of_var y) bs
+  var_still a y = list_any-append (is_id_of_var y) bs (ids.Name a ∷ []) ∙ or_false (list_any (is_id_of_var y) bs)
 
   module _ (f : Name → Bool) (a : Name) where
     abbrev name_before : Name → Bool
-    name_before b = list_any (is_name b) bs || f b
+    name_before b = list_any (is_id_of_name b) bs || f b
 
     abbrev name_after : Name → Bool
-    name_after b = list_any (is_name b) (bs ++ ids.Name a ∷ []) || f b
+    name_after b = list_any (is_id_of_name b) (bs ++ ids.Name a ∷ []) || f b
 
     names_inside : (xs : List Name) → list_all name_before (without_name a xs) ≡ list_all name_after xs
     names_inside [] = refl
@@ -98,17 +98,17 @@ module _ (bs : List Id) where
         elim (name_eq a b) as (λ v. name_eq a b ≡ v → list_all name_before (if v then without_name a xs else (b ∷ without_name a xs)) ≡ (name_after b && list_all name_after xs)) [
           | true ↦ λ k.
               names_inside xs
-              ∙ sym (ap (λ v. v && list_all name_after xs) (ap (λ v. v || f b) (name_more a b ∙ ap (λ v. list_any (is_name b) bs || v) k ∙ or_true (list_any (is_name b) bs))))
+              ∙ sym (ap (λ v. v && list_all name_after xs) (ap (λ v. v || f b) (name_more a b ∙ ap (λ v. list_any (is_id_of_name b) bs || v) k ∙ or_true (list_any (is_id_of_name b) bs))))
           | false ↦ λ k.
-              ap₂ ◌&&◌ (sym (ap (λ v. v || f b) (name_more a b ∙ ap (λ v. list_any (is_name b) bs || v) k ∙ or_false (list_any (is_name b) bs)))) (names_inside xs)
+              ap₂ ◌&&◌ (sym (ap (λ v. v || f b) (name_more a b ∙ ap (λ v. list_any (is_id_of_name b) bs || v) k ∙ or_false (list_any (is_id_of_name b) bs)))) (names_inside xs)
         ] refl
 
   module _ (f : Var → Bool) (x : Var) where
     abbrev var_before : Var → Bool
-    var_before y = list_any (is_var y) bs || f y
+    var_before y = list_any (is_id_of_var y) bs || f y
 
     abbrev var_after : Var → Bool
-    var_after y = list_any (is_var y) (bs ++ ids.Var x ∷ []) || f y
+    var_after y = list_any (is_id_of_var y) (bs ++ ids.Var x ∷ []) || f y
 
     vars_inside : (ys : List Var) → list_all var_before (without_var x ys) ≡ list_all var_after ys
     vars_inside [] = refl
@@ -116,9 +116,9 @@ module _ (bs : List Id) where
         elim (var_eq x y) as (λ v. var_eq x y ≡ v → list_all var_before (if v then without_var x ys else (y ∷ without_var x ys)) ≡ (var_after y && list_all var_after ys)) [
           | true ↦ λ k.
               vars_inside ys
-              ∙ sym (ap (λ v. v && list_all var_after ys) (ap (λ v. v || f y) (var_more x y ∙ ap (λ v. list_any (is_var y) bs || v) k ∙ or_true (list_any (is_var y) bs))))
+              ∙ sym (ap (λ v. v && list_all var_after ys) (ap (λ v. v || f y) (var_more x y ∙ ap (λ v. list_any (is_id_of_var y) bs || v) k ∙ or_true (list_any (is_id_of_var y) bs))))
           | false ↦ λ k.
-              ap₂ ◌&&◌ (sym (ap (λ v. v || f y) (var_more x y ∙ ap (λ v. list_any (is_var y) bs || v) k ∙ or_false (list_any (is_var y) bs)))) (vars_inside ys)
+              ap₂ ◌&&◌ (sym (ap (λ v. v || f y) (var_more x y ∙ ap (λ v. list_any (is_id_of_var y) bs || v) k ∙ or_false (list_any (is_id_of_var y) bs)))) (vars_inside ys)
         ] refl
 
 and_pairs : (a b c d : Bool) → ((a && b) && (c && d)) ≡ ((a && c) && (b && d))
@@ -132,20 +132,20 @@ module _ (ds : Conds) (c : Name) (e : OpenEnvironment) (bs : List Id) where
   pub two_parts : (as' cs : List Name) (xs ys : List Var) → (are_apart c e bs (as' ++ cs) && are_fresh ds c e bs (xs ++ ys))
       ≡ ((are_apart c e bs as' && are_fresh ds c e bs xs) && (are_apart c e bs cs && are_fresh ds c e bs ys))
   two_parts as' cs xs ys =
-      ap₂ ◌&&◌ (list_all-append (λ b. list_any (is_name b) bs || not (name_eq (e.names b) c)) as' cs) (list_all-append (λ x. list_any (is_var x) bs || fresh_under ds c (e.terms x)) xs ys)
+      ap₂ ◌&&◌ (list_all-append (λ b. list_any (is_id_of_name b) bs || not (name_eq (e.names b) c)) as' cs) (list_all-append (λ x. list_any (is_id_of_var x) bs || fresh_under ds c (e.terms x)) xs ys)
       ∙ and_pairs (are_apart c e bs as') (are_apart c e bs cs) (are_fresh ds c e bs xs) (are_fresh ds c e bs ys)
 
   pub inside_new : (a : Name) (names : List Name) (vars : List Var) → (are_apart c e bs (without_name a names) && are_fresh ds c e bs vars)
       ≡ (are_apart c e (bs ++ ids.Name a ∷ []) names && are_fresh ds c e (bs ++ ids.Name a ∷ []) vars)
   inside_new a names vars =
       ap₂ ◌&&◌ (names_inside bs (λ b. not (name_eq (e.names b) c)) a names)
-      (all_same (λ x. list_any (is_var x) bs || fresh_under ds c (e.terms x)) (λ x. list_any (is_var x) (bs ++ ids.Name a ∷ []) || fresh_under ds c (e.terms x))
+      (all_same (λ x. list_any (is_id_of_var x) bs || fresh_under ds c (e.terms x)) (λ x. list_any (is_id_of_var x) (bs ++ ids.Name a ∷ []) || fresh_under ds c (e.terms x))
       (λ x. ap (λ v. v || fresh_under ds c (e.terms x)) (sym (var_still bs a x))) vars)
 
   pub inside_exists : (x : Var) (names : List Name) (vars : List Var) → (are_apart c e bs names && are_fresh ds c e bs (without_var x vars))
       ≡ (are_apart c e (bs ++ ids.Var x ∷ []) names && are_fresh ds c e (bs ++ ids.Var x ∷ []) vars)
   inside_exists x names vars =
       ap₂ ◌&&◌
-      (all_same (λ b. list_any (is_name b) bs || not (name_eq (e.names b) c)) (λ b. list_any (is_name b) (bs ++ ids.Var x ∷ []) || not (name_eq (e.names b) c))
+      (all_same (λ b. list_any (is_id_of_name b) bs || not (name_eq (e.names b) c)) (λ b. list_any (is_id_of_name b) (bs ++ ids.Var x ∷ []) || not (name_eq (e.names b) c))
       (λ b. ap (λ v. v || not (name_eq (e.names b) c)) (sym (name_still bs x b))) names)
       (vars_inside bs (λ y. fresh_under ds c (e.terms y)) x vars)

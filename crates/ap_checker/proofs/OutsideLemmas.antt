@@ -14,7 +14,7 @@ use Rattle.ap_checker.specs.declared.outside.Next.{Next}
 use Rattle.ap_checker.specs.declared.outside.Next.TheVariants as nexts
 use Rattle.ap_checker.specs.declared.outside.Outside.{Outside}
 use Rattle.ap_checker.specs.declared.closures.Closure.{Closure}
-use Rattle.ap_checker.specs.Outsides.{IsNext, halved, left_outside, outside_of, right_size, within_halves}
+use Rattle.ap_checker.specs.Outsides.{IsNextPart, halved, left_outside, outside_of, right_size, within_halves}
 use Rattle.ap_checker.specs.Closures.{scoped_term}
 
 sizes_last : (hs : List Half) (h : Half) → sum_by right_size (hs ++ h ∷ []) ≡ right_size h + sum_by right_size hs
@@ -33,7 +33,7 @@ outside_wrapped : (o p : Outside) (l : TermLayer) (t : NominalTerm) → p.halves
 outside_wrapped o p l t h k = ap₂ (λ hs ls. within_halves hs (term_within ls t)) h k ∙ ap (within_halves o.halves.items) (term_within_last o.layers.items l t)
 
 pub next_wrapped : (o p : Outside) (l : TermLayer) (r : Closure) (n : ℕ) (t : NominalTerm) → p.halves.items ≡ o.halves.items → p.layers.items ≡ o.layers.items ++ l ∷ []
-    → t ≡ term_in l (scoped_term r) → size (scoped_term r) < n → IsNext n o t p (nexts.Part r)
+    → t ≡ term_in l (scoped_term r) → size (scoped_term r) < n → IsNextPart n o t p (nexts.Part r)
 next_wrapped o p l r n t h k e s = record {
   all = outside_wrapped o p l (scoped_term r) h k ∙ ap (outside_of o) (sym e);
   less = let same : left_outside p ≡ left_outside o = ap (sum_by right_size) h in omega (arith, same, s);
@@ -44,7 +44,7 @@ module _ (o p : Outside) (left right : Closure) (h : p.halves.items ≡ o.halves
   abbrev half : Half
   half = record { layers = o.layers; right = right }
 
-  pub next_halved : (n : ℕ) (t : NominalTerm) → t ≡ pair (scoped_term left) (scoped_term right) → size (scoped_term left) + size (scoped_term right) < n → IsNext n o t p (nexts.Part left)
+  pub next_halved : (n : ℕ) (t : NominalTerm) → t ≡ pair (scoped_term left) (scoped_term right) → size (scoped_term left) + size (scoped_term right) < n → IsNextPart n o t p (nexts.Part left)
   next_halved n t e s = record {
     all =
         ap₂ (λ hs ls. within_halves hs (term_within ls (scoped_term left))) h k
@@ -60,7 +60,7 @@ module _ (o : Outside) (t : NominalTerm) (made : Term) (m : term_of made ≡ ter
   closed_whole h = m ∙ sym (ap (λ hs. within_halves hs (term_within o.layers.items t)) h)
 
   pub closed_part : (n : ℕ) (p : Outside) (h : Half) (hs : List Half) → 0 < n → o.halves.items ≡ hs ++ h ∷ [] → p.halves.items ≡ hs → p.layers.items ≡ h.layers.items ++ around.Left made ∷ []
-      → IsNext n o t p (nexts.Part h.right)
+      → IsNextPart n o t p (nexts.Part h.right)
   closed_part n p h hs l e d k =
       let r = scoped_term h.right in
       record {
@@ -75,12 +75,12 @@ module _ (o : Outside) (t : NominalTerm) (made : Term) (m : term_of made ≡ ter
       }
 
 -- one turn of a loop
-module _ (whole t : NominalTerm) (n : ℕ) (o p : Outside) (x : Next) (inv : outside_of o t ≡ whole) (h : IsNext n o t p x) where
+module _ (whole t : NominalTerm) (n : ℕ) (o p : Outside) (x : Next) (inv : outside_of o t ≡ whole) (h : IsNextPart n o t p x) where
   pub turn_whole : (u : Term) → x ≡ nexts.Whole u → term_of u ≡ whole
-  turn_whole u e = subst (λ y. IsNext n o t p y) e h ∙ inv
+  turn_whole u e = subst (λ y. IsNextPart n o t p y) e h ∙ inv
 
   pub turn_part : (r : Closure) → x ≡ nexts.Part r → outside_of p (scoped_term r) ≡ whole
-  turn_part r e = (subst (λ y. IsNext n o t p y) e h).all ∙ inv
+  turn_part r e = (subst (λ y. IsNextPart n o t p y) e h).all ∙ inv
 
   pub turn_less : (r : Closure) → x ≡ nexts.Part r → size (scoped_term r) + left_outside p < n + left_outside o
-  turn_less r e = (subst (λ y. IsNext n o t p y) e h).less
+  turn_less r e = (subst (λ y. IsNextPart n o t p y) e h).less

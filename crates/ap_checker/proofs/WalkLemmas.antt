@@ -12,14 +12,14 @@ use Rattle.ap_defs.specs.GroundProofs.{clause_at}
 use Rattle.ap_defs.specs.Resolution.{kinds_of}
 use Rattle.ap_defs.specs.Terms.{NominalTerm}
 use Rattle.ap_defs.specs.Types.{NominalKind}
-use Rattle.ap_checks.specs.Checks.{Refusal, at, tests_by_clause, node_count, first_refusal, no, refusal, reported, verdict, with_clause}
+use Rattle.ap_checks.specs.Checks.{Refusal, refusal_of_rule, tests_by_clause, node_count, first_refusal, no, refusal, reported, verdict, with_clause}
 use Rattle.ap_checks.specs.OpenEnvironments.{OpenEnvironment, open_environment, put_in}
 use Rattle.ap_checker.specs.declared.rules.Rule.{Rule}
 use Rattle.ap_checker.specs.declared.scope.Standing.{Standing}
 use Rattle.ap_checker.specs.declared.walk.Pending.{Pending}
 use Rattle.ap_checker.specs.declared.walk.Obligation.{Obligation}
 use Rattle.ap_checker.specs.declared.walk.Walk.{Walk}
-use Rattle.ap_checker.specs.Rules.{rule_number, refused}
+use Rattle.ap_checker.specs.Rules.{rule_number, node_refused}
 use Rattle.ap_checker.specs.Scopes.{environment_of, environment_with, nothing_put}
 use Rattle.ap_checker.proofs.ScopeLemmas.{environment_append}
 use Rattle.ap_checker.specs.Walks.{ArePendingMarked, ChecksOn, IsOnWay, IsVisited, derivation_at, first_left, goal_at, kinds_at, pending_of, nodes_left, pending_at, refusal_at}
@@ -63,8 +63,8 @@ put_marked ps t n m = rw (last_first ps (pending_at t n)) (le_refl n, m)
 
 -- An atom's node, by what is known of its clause.
 pub atom_by : (p : NominalProgram) (a : NominalAnswer) (kinds : List NominalKind) (n k q : ℕ) (names : List Name) (ts us vs : List NominalTerm) (d : NominalDerivation) (e : OpenEnvironment) (c : NominalClause) (r : Option Rule)
-    → clause_at (clauses_of p.clauses q) k ≡ Some c → vs ≡ map (put_in e) us → ((rest : Option Refusal) → tests_by_clause p a n names ts vs c rest ≡ first_refusal (refused n r) rest)
-    → refusal p a kinds n (nodes.atom k names ts d) (goals.atom q us) e ≡ first_refusal (refused n r) (refusal p a (kinds_of c.locals) (suc n) d c.body (open_environment c.locals names ts))
+    → clause_at (clauses_of p.clauses q) k ≡ Some c → vs ≡ map (put_in e) us → ((rest : Option Refusal) → tests_by_clause p a n names ts vs c rest ≡ first_refusal (node_refused n r) rest)
+    → refusal p a kinds n (nodes.atom k names ts d) (goals.atom q us) e ≡ first_refusal (node_refused n r) (refusal p a (kinds_of c.locals) (suc n) d c.body (open_environment c.locals names ts))
 atom_by p a kinds n k q names ts us vs d e c r h v f =
     let below : NominalClause → Option Refusal = λ c'. refusal p a (kinds_of c'.locals) (suc n) d c'.body (open_environment c'.locals names ts) in
     ap (λ o. with_clause n o (λ c'. tests_by_clause p a n names ts (map (put_in e) us) c' (below c'))) h ∙ ap (λ ws. tests_by_clause p a n names ts ws c (below c)) (sym v) ∙ f (below c)
@@ -177,7 +177,7 @@ module _ (p : NominalProgram) (a : NominalAnswer) (whole : Option Refusal) (node
 
   pub turn_refuses : (r : Option Rule) (k : Rule) → r ≡ Some k → IsVisited p a (kinds_at t.obligation) (derivation_at t.obligation) (goal_at t.obligation) before after r → no m (rule_number k) ≡ verdict whole
   turn_refuses r k e v =
-      let refuses : (n : ℕ) → refusal_at p a n t.obligation (environment_of before.standing.items) ≡ Some (at n (rule_number k)) = subst (IsVisited p a (kinds_at t.obligation) (derivation_at t.obligation) (goal_at t.obligation) before after) e v in
+      let refuses : (n : ℕ) → refusal_at p a n t.obligation (environment_of before.standing.items) ≡ Some (refusal_of_rule n (rule_number k)) = subst (IsVisited p a (kinds_at t.obligation) (derivation_at t.obligation) (goal_at t.obligation) before after) e v in
       ap (λ n. no n (rule_number k)) (next ∙ reported_next way.done node way.number) ∙ sym (ap verdict (whole_is ∙ ap (λ o. first_refusal o later) (refuses (suc way.done))))
 
   pub turn_goes_on : (r : Option Rule) → r ≡ None → IsVisited p a (kinds_at t.obligation) (derivation_at t.obligation) (goal_at t.obligation) before after r → IsOnWay p a whole m after

@@ -3,10 +3,10 @@ use Rattle.std.specs.Prelude.{Bool, false, Option, Some, None}
 use Rattle.ap_defs.specs.Types as types
 use Rattle.ap_defs.specs.Types.{NominalKind, NominalLocal, NominalType}
 
-abbrev pub type_unless : Bool → NominalKind → Option NominalType
-type_unless false (types.var t) = Some t
-type_unless _ _ = None
+abbrev pub free_type_unless : Bool → NominalKind → Option NominalType
+free_type_unless false (types.var t) = Some t
+free_type_unless _ _ = None
 
 -- the type of a free variable
 abbrev pub free_type : NominalLocal → Option NominalType
-free_type l = type_unless l.bound l.kind
+free_type l = free_type_unless l.bound l.kind

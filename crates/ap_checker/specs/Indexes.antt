@@ -30,15 +30,15 @@ abbrev pub sought_name_cmp : ℕ × ℕ → ℕ × ℕ → Ordering
 sought_name_cmp p q = ordering_then (nat_cmp p.0 q.0) (nat_cmp p.1 q.1)
 
 -- the image of a name, in a table of the numbers of images
-abbrev pub image_or : Option ℕ → Name → Name
-image_or None a = a
-image_or (Some n) a = record { sort = a.sort; num = n }
+abbrev pub indexed_image_or : Option ℕ → Name → Name
+indexed_image_or None a = a
+indexed_image_or (Some n) a = record { sort = a.sort; num = n }
 
-abbrev pub image_by : (ℕ × ℕ → Option ℕ) → Name → Name
-image_by f a = image_or (f (sought_name a)) a
+abbrev pub indexed_image : (ℕ × ℕ → Option ℕ) → Name → Name
+indexed_image f a = indexed_image_or (f (sought_name a)) a
 
-abbrev pub AreImages : List Swap → (ℕ × ℕ → Option ℕ) → Type 0
-AreImages p f = (a : Name) → image_by f a ≡ act_name p a
+abbrev pub AreIndexedImages : List Swap → (ℕ × ℕ → Option ℕ) → Type 0
+AreIndexedImages p f = (a : Name) → indexed_image f a ≡ act_name p a
 
 -- A table of places and a set of conditions are those of an answer with these typed variables and these conditions.
 pub record IsIndex (vs : List (Var × Ty)) (ds : Conds) (place : ℕ → Option ℕ) (holds : ℕ × (ℕ × ℕ) → Bool) : Type 0 where

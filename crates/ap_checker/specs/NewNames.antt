@@ -13,21 +13,21 @@ use Rattle.ap_defs.specs.Permutations.{name_eq}
 use Rattle.ap_checks.specs.OpenEnvironments.{OpenEnvironment}
 use Rattle.ap_checker.specs.declared.new_names.Part.{Part}
 
-abbrev pub is_name : Name → Id → Bool
-is_name b (ids.Name a) = name_eq a b
-is_name b (ids.Var x) = false
+abbrev pub is_id_of_name : Name → Id → Bool
+is_id_of_name b (ids.Name a) = name_eq a b
+is_id_of_name b (ids.Var x) = false
 
-abbrev pub is_var : Var → Id → Bool
-is_var y (ids.Name a) = false
-is_var y (ids.Var x) = var_eq x y
+abbrev pub is_id_of_var : Var → Id → Bool
+is_id_of_var y (ids.Name a) = false
+is_id_of_var y (ids.Var x) = var_eq x y
 
 -- the name stands for none of the names but those that are brought
 abbrev pub are_apart : Name → OpenEnvironment → List Id → List Name → Bool
-are_apart c e brought names = list_all (λ b. list_any (is_name b) brought || not (name_eq (e.names b) c)) names
+are_apart c e brought names = list_all (λ b. list_any (is_id_of_name b) brought || not (name_eq (e.names b) c)) names
 
 -- it is fresh for what stands for each of the variables but those that are brought
 abbrev pub are_fresh : Conds → Name → OpenEnvironment → List Id → List Var → Bool
-are_fresh ds c e brought vars = list_all (λ x. list_any (is_var x) brought || fresh_under ds c (e.terms x)) vars
+are_fresh ds c e brought vars = list_all (λ x. list_any (is_id_of_var x) brought || fresh_under ds c (e.terms x)) vars
 
 abbrev pub is_new_inside : Conds → Name → OpenEnvironment → List Id → Part → Bool
 is_new_inside ds c e brought p = are_apart c e brought (free_names (goal_of p.goal.now)) && are_fresh ds c e brought (free_vars (goal_of p.goal.now))

@@ -36,6 +36,6 @@ pub record IsFurther (n : ℕ) (before : Outside) (w : NominalTerm) (after : Out
   pub less : size (scoped_term r) + left_outside after < n + left_outside before
 
 -- where a part of so many nodes is t
-abbrev pub IsNext : ℕ → Outside → NominalTerm → Outside → Next → Type 0
-IsNext n before t after (next.Part r) = IsFurther n before (outside_of before t) after r
-IsNext n before t after (next.Whole u) = term_of u ≡ outside_of before t
+abbrev pub IsNextPart : ℕ → Outside → NominalTerm → Outside → Next → Type 0
+IsNextPart n before t after (next.Part r) = IsFurther n before (outside_of before t) after r
+IsNextPart n before t after (next.Whole u) = term_of u ≡ outside_of before t

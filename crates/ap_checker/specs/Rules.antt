@@ -2,7 +2,7 @@
 use Rattle.std.specs.Prelude.{ℕ, List, codes, Option, Some, None}
 use Rattle.ap_defs.specs.declared.outcomes.Verdict.{Verdict}
 use Rattle.ap_defs.specs.declared.outcomes.Verdict.TheVariants as verdicts
-use Rattle.ap_checks.specs.Checks.{NominalVerdict, Refusal, at, no, yes}
+use Rattle.ap_checks.specs.Checks.{NominalVerdict, Refusal, refusal_of_rule, no, yes}
 use Rattle.ap_checker.specs.declared.rules.Rule.{Rule}
 use Rattle.ap_checker.specs.declared.rules.Rule.TheVariants as rules
 
@@ -31,9 +31,9 @@ word_of rules.NewName = codes "NewName"
 word_of rules.Answer = codes "Answer"
 
 -- the refusal of the node with this number, if a rule refuses it
-abbrev pub refused : ℕ → Option Rule → Option Refusal
-refused n None = None
-refused n (Some r) = Some (at n (rule_number r))
+abbrev pub node_refused : ℕ → Option Rule → Option Refusal
+node_refused n None = None
+node_refused n (Some r) = Some (refusal_of_rule n (rule_number r))
 
 -- a verdict of the program
 abbrev pub verdict_said : Verdict → NominalVerdict

@@ -6,7 +6,7 @@ use Rattle.ap_defs.specs.Goals.{NominalGoal, NominalProgram, NominalQuery, goal_
 use Rattle.ap_defs.specs.Renaming.{local_names}
 use Rattle.ap_defs.specs.Resolution.{kinds_of}
 use Rattle.ap_defs.specs.Types.{NominalKind, locals_of}
-use Rattle.ap_checks.specs.Checks.{Refusal, at, node_count, first_refusal, refusal, reported}
+use Rattle.ap_checks.specs.Checks.{Refusal, refusal_of_rule, node_count, first_refusal, refusal, reported}
 use Rattle.ap_checks.specs.OpenEnvironments.{OpenEnvironment, open_environment}
 use Rattle.ap_checker.specs.declared.rules.Rule.{Rule}
 use Rattle.ap_checker.specs.declared.scope.Standing.{Standing}
@@ -61,7 +61,7 @@ pub record ChecksOn (p : NominalProgram) (a : NominalAnswer) (kinds : List Nomin
 -- a node was looked at: a rule refuses it, or the walk goes on below it
 abbrev pub IsVisited : NominalProgram → NominalAnswer → List NominalKind → NominalDerivation → NominalGoal → Walk → Walk → Option Rule → Type 0
 IsVisited p a kinds d g before after None = ChecksOn p a kinds d g before after
-IsVisited p a kinds d g before after (Some r) = (n : ℕ) → refusal p a kinds n d g (environment_of before.standing.items) ≡ Some (at n (rule_number r))
+IsVisited p a kinds d g before after (Some r) = (n : ℕ) → refusal p a kinds n d g (environment_of before.standing.items) ≡ Some (refusal_of_rule n (rule_number r))
 
 -- so many nodes were looked at, and nothing refused them
 pub record IsOnWay (p : NominalProgram) (a : NominalAnswer) (whole : Option Refusal) (node : ℕ) (w : Walk) : Type 0 where

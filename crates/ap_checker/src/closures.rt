@@ -108,6 +108,17 @@ fn moved_head<'a>(alloc: Global, swaps: Rc<Vec<Swap>>, t: &'a Term) -> Result<He
     }
 }
 
+/// The head of a term on which swappings act, if there are any.
+#[tactic(auto, using(crate::proofs::HeadLemmas::unmoved))]
+fn head_moved_by<'a>(alloc: Global, swaps: Vec<Swap>, t: &'a Term) -> Result<Head<'a>, Memory>
+    ensures { IfOk result (λ h. head_term h ≡ act_term swaps.items (term_of t.now)) }
+{
+    if swaps.is_empty() {
+        return head_of(alloc, t);
+    }
+    moved_head(alloc, Rc::new(alloc, swaps)?, t)
+}
+
 /// The head of what stands for a suspended variable.
 fn suspended_head<'a>(
     alloc: Global,
@@ -121,8 +132,8 @@ fn suspended_head<'a>(
     let Some(t) = term_in(scope.standing, x) else {
         return Ok(Head::Unit);
     };
-    let swaps = Rc::new(alloc, put_swaps(alloc, scope.standing, swaps)?)?;
-    moved_head(alloc, swaps, t)
+    let swaps = put_swaps(alloc, scope.standing, swaps)?;
+    head_moved_by(alloc, swaps, t)
 }
 
 /// The head of a term of an item, with what stands there for its identifiers put in.

@@ -4,7 +4,7 @@ ghost use Rattle.std.specs.Prelude.{◌≡◌, ◌++◌, [], ◌∷◌, List as 
 ghost use Rattle.std.specs.BTreeMap as tree;
 ghost use Rattle.ap_defs.specs.declared.terms.Swap.{Swap};
 ghost use Rattle.ap_defs.specs.Permutations.{act_name};
-ghost use Rattle.ap_checker.specs.Indexes.{AreImages, image_by, sought_name_cmp};
+ghost use Rattle.ap_checker.specs.Indexes.{AreIndexedImages, indexed_image, sought_name_cmp};
 
 use ap_defs::memory::Memory;
 use ap_defs::terms::{Name, Swap};
@@ -33,16 +33,16 @@ impl<'a> Model for Images<'a> {
     ghost coded = { coded_list s.the_row.coded };
 
     ghost use Rattle.std.specs.BTreeMap as tree;
-    ghost use Rattle.ap_checker.specs.Indexes.{AreImages, sought_name_cmp};
+    ghost use Rattle.ap_checker.specs.Indexes.{AreIndexedImages, sought_name_cmp};
 
     ghost view = { λ i. i.swaps.now };
 
-    ghost invariant = { λ i. AreImages i.swaps.now (tree.get sought_name_cmp i.moved) };
+    ghost invariant = { λ i. AreIndexedImages i.swaps.now (tree.get sought_name_cmp i.moved) };
 }
 
 /// The image of a name in a table.
 fn image_in(moved: &BTreeMap<(u32, u64), u64>, a: Name) -> Name
-    ensures { result ≡ image_by (tree.get sought_name_cmp moved.now) a }
+    ensures { result ≡ indexed_image (tree.get sought_name_cmp moved.now) a }
 {
     match moved.get(&(a.sort, a.num)) {
         None => a,
@@ -55,8 +55,8 @@ fn image_in(moved: &BTreeMap<(u32, u64), u64>, a: Name) -> Name
 
 /// The table of swappings, and of one more, which acts before them.
 fn swap_in(moved: &mut BTreeMap<(u32, u64), u64>, s: &Swap) -> Result<(), Memory>
-    ensures { OnOk result ((p : list Swap) → AreImages p (tree.get sought_name_cmp moved.old)
-        → AreImages (p ++ s.now ∷ []) (tree.get sought_name_cmp moved.new)) }
+    ensures { OnOk result ((p : list Swap) → AreIndexedImages p (tree.get sought_name_cmp moved.old)
+        → AreIndexedImages (p ++ s.now ∷ []) (tree.get sought_name_cmp moved.new)) }
 {
     let sort = s.sort;
     let left = image_in(moved, Name { sort, num: s.left });

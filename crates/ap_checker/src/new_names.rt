@@ -7,7 +7,7 @@ ghost use Rattle.std.specs.List.{list_any};
 ghost use Rattle.ap_defs.specs.Freshness.{fresh_under};
 ghost use Rattle.ap_defs.specs.Goals.{goal_of};
 ghost use Rattle.ap_checks.specs.Checks.{is_new as is_new_under};
-ghost use Rattle.ap_checker.specs.NewNames.{are_apart, are_fresh, is_name, is_new_inside, is_var, mark_of_part, size_of_part};
+ghost use Rattle.ap_checker.specs.NewNames.{are_apart, are_fresh, is_id_of_name, is_new_inside, is_id_of_var, mark_of_part, size_of_part};
 ghost use Rattle.ap_checker.specs.Scopes.{environment_of};
 ghost use Rattle.ap_checker.specs.Stacks.{AreWithin, IsTestedThere};
 
@@ -60,7 +60,7 @@ impl<'a> Parts<'a> {
 
 /// Whether what is brought is this name.
 fn brings_name(what: &Id, b: &Name) -> bool
-    ensures { result ≡ is_name b.now what.now }
+    ensures { result ≡ is_id_of_name b.now what.now }
 {
     match what {
         Id::Name(a) => is_same(a, b),
@@ -70,7 +70,7 @@ fn brings_name(what: &Id, b: &Name) -> bool
 
 /// Whether what is brought is this variable.
 fn brings_var(what: &Id, y: Var) -> bool
-    ensures { result ≡ is_var y what.now }
+    ensures { result ≡ is_id_of_var y what.now }
 {
     match what {
         Id::Name(_) => false,
@@ -81,7 +81,7 @@ fn brings_var(what: &Id, y: Var) -> bool
 /// Whether the name is brought.
 #[tactic(auto, using(crate::proofs::NewNameLemmas::any_here, crate::proofs::NewNameLemmas::any_later))]
 fn is_name_brought(brought: &[Id], b: &Name) -> bool
-    ensures { result ≡ list_any (is_name b.now) brought.now }
+    ensures { result ≡ list_any (is_id_of_name b.now) brought.now }
 {
     for what in brought {
         if brings_name(what, b) {
@@ -94,7 +94,7 @@ fn is_name_brought(brought: &[Id], b: &Name) -> bool
 /// Whether the variable is brought.
 #[tactic(auto, using(crate::proofs::NewNameLemmas::any_here, crate::proofs::NewNameLemmas::any_later))]
 fn is_var_brought(brought: &[Id], y: Var) -> bool
-    ensures { result ≡ list_any (is_var y) brought.now }
+    ensures { result ≡ list_any (is_id_of_var y) brought.now }
 {
     for what in brought {
         if brings_var(what, y) {

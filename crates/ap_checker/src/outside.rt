@@ -6,7 +6,7 @@
 ghost use Rattle.std.specs.Prelude.{◌≡◌, ◌<◌, ℕ, [], ◌∷◌, ◌++◌, IfOk, OnOk};
 ghost use Rattle.ap_defs.specs.Terms.{term_of};
 ghost use Rattle.ap_defs.specs.Unification.{size};
-ghost use Rattle.ap_checker.specs.Outsides.{IsNext};
+ghost use Rattle.ap_checker.specs.Outsides.{IsNextPart};
 ghost use Rattle.ap_checker.specs.Closures.{head_term, scoped_term};
 
 use crate::closures::{Closure, Head, head_at};
@@ -75,7 +75,7 @@ impl<'a> Outside<'a> {
     /// What comes next, where the part was made.
     fn close(&mut self, alloc: Global, part: Term) -> Result<Next<'a>, Memory>
         ensures { IfOk result (λ next. (n : ℕ) → 0 < n →
-            IsNext n self.old (term_of part) self.new next) }
+            IsNextPart n self.old (term_of part) self.new next) }
     {
         let layers = mem::replace(&mut self.layers, Vec::new(alloc));
         let made = close_term(alloc, layers, part)?;
@@ -90,8 +90,8 @@ impl<'a> Outside<'a> {
 
     /// What comes next, where the part with this head is to be made.
     fn enter(&mut self, alloc: Global, part: Head<'a>) -> Result<Next<'a>, Memory>
-        ensures { IfOk result (λ next.
-            IsNext (size (head_term part.entry)) self.old (head_term part.entry) self.new next) }
+        ensures { IfOk result (λ next. IsNextPart (size (head_term part.entry)) self.old
+            (head_term part.entry) self.new next) }
     {
         match part {
             Head::Unit => self.close(alloc, Term::Unit),

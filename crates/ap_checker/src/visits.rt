@@ -10,7 +10,7 @@ ghost use Rattle.ap_defs.specs.Terms.{term_of};
 ghost use Rattle.ap_defs.specs.Types.{NominalKind};
 ghost use Rattle.ap_checks.specs.Checks.{Refusal, tests_by_clause, first_refusal};
 ghost use Rattle.ap_checks.specs.OpenEnvironments.{put_in};
-ghost use Rattle.ap_checker.specs.Rules.{refused};
+ghost use Rattle.ap_checker.specs.Rules.{node_refused};
 ghost use Rattle.ap_checker.specs.Scopes.{environment_of};
 ghost use Rattle.ap_checker.specs.Walks.{ArePendingMarked, IsVisited, derivation_at, goal_at, kinds_at, pending_of};
 
@@ -54,7 +54,8 @@ fn rule_of_clause(
     ensures { IfOk result (λ r. (n : ℕ) (rest : option Refusal) →
         tests_by_clause (program_of program.now) (answer_of answer.now) n used.now.names.now
         (map term_of used.now.terms.now) (map (put_in (environment_of standing.now))
-        (map term_of args.now)) (clause_of clause.now) rest ≡ first_refusal (refused n r) rest) }
+        (map term_of args.now)) (clause_of clause.now) rest
+        ≡ first_refusal (node_refused n r) rest) }
 {
     let locals = clause.locals.items();
     if !counts_fit(locals, used.names, used.terms) {

@@ -21,7 +21,7 @@ use Rattle.ap_defs.specs.Unification.{has_var, vars_then}
 use Rattle.ap_program.specs.RawTyping.{IsTypedTerm, IsVarOf}
 use Rattle.ap_search.specs.FitStates.{IsFitState}
 use Rattle.ap_search.specs.TypedStates.{AreTypedConds}
-use Rattle.ap_theory.specs.Contexts.{Equal, Fresh, listed}
+use Rattle.ap_theory.specs.Contexts.{Equal, Fresh, listed_context}
 use Rattle.ap_theory.specs.Substitutions.{Agrees, Meets, Substitution, applied, bound_or_itself, substitution_of}
 use Rattle.ap_theory.specs.Variables.{BindsOnce, BindsUnbound, EachCond, IsUnbound, is_bound}
 use Rattle.ap_theory.proofs.BooleanLemmas.{and_both, or_cases, or_false, or_if_left, or_if_right}
@@ -55,19 +55,19 @@ module _ (s : State) where
   abbrev t : Substitution
   t = closing_terms s
 
-  closing_under : (u : NominalTerm) → Equal (listed ds) (applied t u) (under bs u)
+  closing_under : (u : NominalTerm) → Equal (listed_context ds) (applied t u) (under bs u)
   closing_under u =
-      subst (Equal (listed ds) (applied t u)) (sym (under_applied bs u))
-      (applied_congruent (listed ds) t (substitution_of bs) u (λ x o. same_are_Equal (listed ds) (t x) (substitution_of bs x) (moved_same x (bound_term bs x))))
+      subst (Equal (listed_context ds) (applied t u)) (sym (under_applied bs u))
+      (applied_congruent (listed_context ds) t (substitution_of bs) u (λ x o. same_are_Equal (listed_context ds) (t x) (substitution_of bs x) (moved_same x (bound_term bs x))))
 
-  closing_agrees : (cs : List Binding) → ((y : Var) → is_bound y cs ≡ true → bound_term bs y ≡ bound_term cs y) → BindsUnbound bs cs → BindsOnce cs → Agrees (listed ds) t cs
+  closing_agrees : (cs : List Binding) → ((y : Var) → is_bound y cs ≡ true → bound_term bs y ≡ bound_term cs y) → BindsUnbound bs cs → BindsOnce cs → Agrees (listed_context ds) t cs
   closing_agrees [] m h o = tt
   closing_agrees ((x := u) ∷ cs) m h o =
       let itself = same_var x x refl in
       let bound : bound_term bs x ≡ Some u = m x (or_if_left (var_eq x x) (is_bound x cs) itself) ∙ ap (λ (b : Bool). if b then Some u else bound_term cs x) itself in
-      let left : Equal (listed ds) (t x) u = subst (Equal (listed ds) (t x)) (ap (bound_or_itself x) bound) (same_are_Equal (listed ds) (t x) (substitution_of bs x) (moved_same x (bound_term bs x))) in
-      let right : Equal (listed ds) (applied t u) u = subst (Equal (listed ds) (applied t u)) (under_unbound bs u h.0) (closing_under u) in
-      (Equal_trans (listed ds) (t x) u (applied t u) left (Equal_sym (listed ds) (applied t u) u right), closing_agrees cs (λ y b. m y (or_if_right (var_eq y x) (is_bound y cs) b) ∙ further y b) h.1 o.1)
+      let left : Equal (listed_context ds) (t x) u = subst (Equal (listed_context ds) (t x)) (ap (bound_or_itself x) bound) (same_are_Equal (listed_context ds) (t x) (substitution_of bs x) (moved_same x (bound_term bs x))) in
+      let right : Equal (listed_context ds) (applied t u) u = subst (Equal (listed_context ds) (applied t u)) (under_unbound bs u h.0) (closing_under u) in
+      (Equal_trans (listed_context ds) (t x) u (applied t u) left (Equal_sym (listed_context ds) (applied t u) u right), closing_agrees cs (λ y b. m y (or_if_right (var_eq y x) (is_bound y cs) b) ∙ further y b) h.1 o.1)
     where
       further : (y : Var) → is_bound y cs ≡ true → (if var_eq y x then Some u else bound_term cs y) ≡ bound_term cs y
       further y b =
@@ -79,12 +79,12 @@ module _ (s : State) where
   cond_itself : (c : Cond) (cs : Conds) → has_cond c (c ∷ cs) ≡ true
   cond_itself c cs = or_if_left (cond_eq c c) (has_cond c cs) (and_both (var_eq c.var c.var) (name_eq c.name c.name) (same_var c.var c.var refl) (name_eq_itself c.name))
 
-  closing_meets : (cs : Conds) → ((c : Cond) → has_cond c cs ≡ true → has_cond c ds ≡ true) → EachCond (IsUnbound bs) cs → Meets (listed ds) t cs
+  closing_meets : (cs : Conds) → ((c : Cond) → has_cond c cs ≡ true → has_cond c ds ≡ true) → EachCond (IsUnbound bs) cs → Meets (listed_context ds) t cs
   closing_meets [] h u = tt
   closing_meets (c ∷ cs) h u =
       let own : SameTerm (t c.var) (susp [] c.var) = subst (λ o. SameTerm (t c.var) (bound_or_itself c.var o)) (bound_term_unbound bs c.var u.0) (moved_same c.var (bound_term bs c.var)) in
-      let there : Fresh (listed ds) c.name (susp [] c.var) = h c (cond_itself c cs) in
-      (Fresh_same (listed ds) c.name (same_sym own) there, closing_meets cs (λ b k. h b (or_if_right (cond_eq b c) (has_cond b cs) k)) u.1)
+      let there : Fresh (listed_context ds) c.name (susp [] c.var) = h c (cond_itself c cs) in
+      (Fresh_same (listed_context ds) c.name (same_sym own) there, closing_meets cs (λ b k. h b (or_if_right (cond_eq b c) (has_cond b cs) k)) u.1)
 
   pub closing_open : IsFitState s → SolvesOpen s.conditions (closing_terms s) s
   closing_open fit = record {

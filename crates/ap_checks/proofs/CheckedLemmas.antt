@@ -29,7 +29,7 @@ use Rattle.ap_theory.proofs.TermLemmas.{number_same, var_same}
 use Rattle.ap_ground.specs.ShownInstances.{IsInstanceOf}
 use Rattle.ap_soundness.proofs.QueryLemmas.{height_mapped}
 use Rattle.ap_soundness.proofs.StepLemmas.{ground_proof}
-use Rattle.ap_checks.specs.Checks.{Checks, Refusal, are_different, at, tests_by_clause, equal_each, node_count, first_refusal, have_counts, is_answer, is_fresh, is_new, refusal, test, verdict, with_clause, yes}
+use Rattle.ap_checks.specs.Checks.{Checks, Refusal, are_different, refusal_of_rule, tests_by_clause, equal_each, node_count, first_refusal, have_counts, is_answer, is_fresh, is_new, refusal, test, verdict, with_clause, yes}
 use Rattle.ap_checks.specs.OpenEnvironments.{OpenEnvironment, open_environment, open_term_for, put_in, with_open_name, with_open_term}
 use Rattle.ap_checks.specs.StatementsOnChecks.{CheckedIsDerivable}
 use Rattle.ap_checks.specs.TypeTests.{has_kind, have_kinds, have_sorts, type_beside}
@@ -154,10 +154,10 @@ module _ (p : NominalProgram) (a : NominalAnswer) (g : Grounding) (i : IsInstanc
       let typed = have_kinds cs (type_beside a.vars) (kinds_of c.locals) (local_vars 0 c.locals) ts in
       let rest = refusal p a (kinds_of c.locals) (suc n) d c.body f in
       let heads = equal_each a.conds (map (put_in e) us) (map (put_in f) c.args) in
-      let third = test_holds (have_counts c.locals names ts) (at n 3) (test (are_different names) (at n 4) (test (sorts && typed) (at n 5) (test heads (at n 6) rest))) h in
-      let fourth = test_holds (are_different names) (at n 4) (test (sorts && typed) (at n 5) (test heads (at n 6) rest)) third.1 in
-      let fifth = test_holds (sorts && typed) (at n 5) (test heads (at n 6) rest) fourth.1 in
-      let sixth = test_holds heads (at n 6) rest fifth.1 in
+      let third = test_holds (have_counts c.locals names ts) (refusal_of_rule n 3) (test (are_different names) (refusal_of_rule n 4) (test (sorts && typed) (refusal_of_rule n 5) (test heads (refusal_of_rule n 6) rest))) h in
+      let fourth = test_holds (are_different names) (refusal_of_rule n 4) (test (sorts && typed) (refusal_of_rule n 5) (test heads (refusal_of_rule n 6) rest)) third.1 in
+      let fifth = test_holds (sorts && typed) (refusal_of_rule n 5) (test heads (refusal_of_rule n 6) rest) fourth.1 in
+      let sixth = test_holds heads (refusal_of_rule n 6) rest fifth.1 in
       let same = closed_item g c.locals names ts in (
         c,
         here,
@@ -176,9 +176,9 @@ module _ (p : NominalProgram) (a : NominalAnswer) (g : Grounding) (i : IsInstanc
       atom_valid kinds n k q names ts d us e (λ c j. checked_valid (kinds_of c.locals) (suc n) d c.body (open_environment c.locals names ts) j) (clause_at (clauses_of p.clauses q) k) refl h
   checked_valid kinds n nodes.equal (goals.equal t u) e h =
       ap₂ alpha (put_grounded g e t) (put_grounded g e u)
-      ∙ alpha_under_sound g a.conds i.conditions (put_in e t) (put_in e u) (test_holds (alpha_under a.conds (put_in e t) (put_in e u)) (at n 7) None h).0
+      ∙ alpha_under_sound g a.conds i.conditions (put_in e t) (put_in e u) (test_holds (alpha_under a.conds (put_in e t) (put_in e u)) (refusal_of_rule n 7) None h).0
   checked_valid kinds n nodes.fresh (goals.fresh t u) e h =
-      let fresh_put = fresh_grounded g a.conds i.conditions (put_in e t) (put_in e u) (test_holds (is_fresh a.conds (put_in e t) (put_in e u)) (at n 8) None h).0 in
+      let fresh_put = fresh_grounded g a.conds i.conditions (put_in e t) (put_in e u) (test_holds (is_fresh a.conds (put_in e t) (put_in e u)) (refusal_of_rule n 8) None h).0 in
       subst (λ z. IsFresh z (instance (closed_environment g e) u)) (sym (put_grounded g e t)) (subst (λ z. IsFresh (grounded g (put_in e t)) z) (sym (put_grounded g e u)) fresh_put)
   checked_valid kinds n nodes.succeed goals.succeed e h = tt
   checked_valid kinds n (nodes.both d f) (goals.both s r) e h =
@@ -187,13 +187,13 @@ module _ (p : NominalProgram) (a : NominalAnswer) (g : Grounding) (i : IsInstanc
   checked_valid kinds n (nodes.left d) (goals.either s r) e h = checked_valid kinds (suc n) d s e h
   checked_valid kinds n (nodes.right d) (goals.either s r) e h = checked_valid kinds (suc n) d r e h
   checked_valid kinds n (nodes.exists t d) (goals.exists x s) e h =
-      let parts = test_holds (has_kind cs (type_beside a.vars) (kind_at kinds x.num) t) (at n 5) (refusal p a kinds (suc n) d s (with_open_term e x t)) h in (
+      let parts = test_holds (has_kind cs (type_beside a.vars) (kind_at kinds x.num) t) (refusal_of_rule n 5) (refusal p a kinds (suc n) d s (with_open_term e x t)) h in (
         kind_instance cs (type_beside a.vars) g of_types (kind_at kinds x.num) t parts.0,
         subst (λ v. IsValid p kinds (ground_proof g d) s v) (closed_term g e x t) (checked_valid kinds (suc n) d s (with_open_term e x t) parts.1),
       )
   checked_valid kinds n (nodes.new c d) (goals.new b s) e h =
-      let fifth = test_holds (c.sort == b.sort) (at n 5) (test (is_new a.conds c (goals.new b s) e) (at n 9) (refusal p a kinds (suc n) d s (with_open_name e b c))) h in
-      let ninth = test_holds (is_new a.conds c (goals.new b s) e) (at n 9) (refusal p a kinds (suc n) d s (with_open_name e b c)) fifth.1 in (
+      let fifth = test_holds (c.sort == b.sort) (refusal_of_rule n 5) (test (is_new a.conds c (goals.new b s) e) (refusal_of_rule n 9) (refusal p a kinds (suc n) d s (with_open_name e b c))) h in
+      let ninth = test_holds (is_new a.conds c (goals.new b s) e) (refusal_of_rule n 9) (refusal p a kinds (suc n) d s (with_open_name e b c)) fifth.1 in (
         number_same c.sort b.sort fifth.0,
         new_grounded g a.conds i.conditions c (goals.new b s) e ninth.0,
         checked_valid kinds (suc n) d s (with_open_name e b c) ninth.1,
@@ -209,7 +209,7 @@ pub checks_both : (p : NominalProgram) (q : NominalQuery) (a : NominalAnswer) (d
     → (is_answer p q a ≡ true) × (refusal p a (kinds_of q.locals) 1 d q.goal (open_environment q.locals (local_names 0 q.locals) a.binds) ≡ None)
 checks_both p q a d h =
     let rest = refusal p a (kinds_of q.locals) 1 d q.goal (open_environment q.locals (local_names 0 q.locals) a.binds) in
-    test_holds (is_answer p q a) (at 0 10) rest (verdict_yes (test (is_answer p q a) (at 0 10) rest) h)
+    test_holds (is_answer p q a) (refusal_of_rule 0 10) rest (verdict_yes (test (is_answer p q a) (refusal_of_rule 0 10) rest) h)
 
 pub checked_derivable : CheckedIsDerivable
 checked_derivable p q a d h g i =

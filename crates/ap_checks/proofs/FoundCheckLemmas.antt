@@ -33,7 +33,7 @@ use Rattle.ap_soundness.proofs.AnswerTypeLemmas.{derivation_answered, locals_ans
 use Rattle.ap_soundness.proofs.AnswerVarLemmas.{has_ascending}
 use Rattle.ap_soundness.proofs.EachFoundLemmas.{Property}
 use Rattle.ap_soundness.proofs.StepLemmas.{vars_in_nodes}
-use Rattle.ap_checks.specs.Checks.{Checks, at, is_answer, refusal, verdict}
+use Rattle.ap_checks.specs.Checks.{Checks, refusal_of_rule, is_answer, refusal, verdict}
 use Rattle.ap_checks.specs.OpenEnvironments.{open_environment}
 use Rattle.ap_checks.specs.StatementsOnChecks.{FoundDerivationsCheck}
 use Rattle.ap_checks.specs.TypeTests.{has_kind, have_kinds, type_beside}
@@ -117,7 +117,7 @@ module _ (p : NominalProgram) (typed : IsTypedProgram p) (depth : ℕ) (q : Nomi
     state_checks : Checks p q a (derivation_in s d)
     state_checks =
         ap verdict
-        (test_passes (is_answer p q a) (at 0 10) (refusal p a (kinds_of q.locals) 1 (derivation_in s d) q.goal (open_environment q.locals (local_names 0 q.locals) a.binds)) answer_fits nothing_refused)
+        (test_passes (is_answer p q a) (refusal_of_rule 0 10) (refusal p a (kinds_of q.locals) 1 (derivation_in s d) q.goal (open_environment q.locals (local_names 0 q.locals) a.binds)) answer_fits nothing_refused)
 
   outs_check : (os : List Output) → AllFound IsFitState os → AllFound (IsTypedState cs) os → EachFound FromQuery os
       → EachFound (λ s d. Checks p q (answer_in q.locals s d) (derivation_in s d)) os

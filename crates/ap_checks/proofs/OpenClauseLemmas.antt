@@ -17,7 +17,7 @@ use Rattle.ap_defs.specs.declared.terms.Name.{Name}
 use Rattle.ap_defs.specs.declared.terms.Var.{Var}
 use Rattle.ap_program.specs.RawTyping.{HasTermType}
 use Rattle.ap_program.specs.Typed.{AreArguments, HaveTypes, IsTypedClause, predicate_at, term_form}
-use Rattle.ap_theory.specs.Contexts.{listed}
+use Rattle.ap_theory.specs.Contexts.{listed_context}
 use Rattle.ap_theory.specs.Substitutions.{EquatesAll, Substitution, applied}
 use Rattle.ap_theory.proofs.BooleanLemmas.{and_both, or_if_left, or_if_right}
 use Rattle.ap_theory.proofs.TermLemmas.{act_term_none}
@@ -26,7 +26,7 @@ use Rattle.ap_ground.proofs.ItemEnvironmentLemmas.{free_is_variable, vars_from}
 use Rattle.ap_ground.proofs.ShiftLemmas.{has_renamed}
 use Rattle.ap_soundness.proofs.ClauseLemmas as found
 use Rattle.ap_soundness.proofs.StepLemmas.{vars_in_nodes}
-use Rattle.ap_checks.specs.Checks.{Refusal, are_different, at, tests_by_clause, equal_each, have_counts, refusal, with_clause}
+use Rattle.ap_checks.specs.Checks.{Refusal, are_different, refusal_of_rule, tests_by_clause, equal_each, have_counts, refusal, with_clause}
 use Rattle.ap_checks.specs.OpenEnvironments.{open_environment, put_in}
 use Rattle.ap_checks.specs.TypeTests.{has_kind, have_kinds, have_sorts, type_beside}
 use Rattle.ap_checks.proofs.OpenBackwardLemmas.{open_unify_back}
@@ -47,14 +47,14 @@ module _ (p : NominalProgram) where
       → have_kinds cs (type_beside a.vars) (kinds_of c.locals) (local_vars 0 c.locals) ts ≡ true
       → equal_each a.conds us (map (put_in (open_environment c.locals names ts)) c.args) ≡ true → rest ≡ None → tests_by_clause p a n names ts us c rest ≡ None
   clause_passes a n names ts us c rest counts different sorts kinds heads h =
-      test_passes (have_counts c.locals names ts) (at n 3) _ counts
-      (test_passes (are_different names) (at n 4) _ different
-      (test_passes (have_sorts (local_names 0 c.locals) names && have_kinds cs (type_beside a.vars) (kinds_of c.locals) (local_vars 0 c.locals) ts) (at n 5) _
+      test_passes (have_counts c.locals names ts) (refusal_of_rule n 3) _ counts
+      (test_passes (are_different names) (refusal_of_rule n 4) _ different
+      (test_passes (have_sorts (local_names 0 c.locals) names && have_kinds cs (type_beside a.vars) (kinds_of c.locals) (local_vars 0 c.locals) ts) (refusal_of_rule n 5) _
       (and_both _ _ sorts kinds)
-      (test_passes (equal_each a.conds us (map (put_in (open_environment c.locals names ts)) c.args)) (at n 6) rest heads h)))
+      (test_passes (equal_each a.conds us (map (put_in (open_environment c.locals names ts)) c.args)) (refusal_of_rule n 6) rest heads h)))
 
   heads_equal : (ds : Conds) (t : Substitution) (n m : ℕ) (ks ls : List NominalKind) (ts us : List NominalTerm) (as' : List NominalType)
-      → HaveTypes (HasTermType cs ks) ts as' → HaveTypes (HasTermType cs ls) us as' → EquatesAll (listed ds) t (map (rename_term n) ts) (map (rename_term m) us)
+      → HaveTypes (HasTermType cs ks) ts as' → HaveTypes (HasTermType cs ls) us as' → EquatesAll (listed_context ds) t (map (rename_term n) ts) (map (rename_term m) us)
       → equal_each ds (map (put_in (open_shifted n t)) ts) (map (put_in (open_shifted m t)) us) ≡ true
   heads_equal ds t n m ks ls [] [] as' h k e = refl
   heads_equal ds t n m ks ls [] (u ∷ us) [] h k e = absurd k
@@ -67,7 +67,7 @@ module _ (p : NominalProgram) where
       (heads_equal ds t n m ks ls ts us as' h.1 k.1 e.1)
 
   arguments_equal : (ds : Conds) (t : Substitution) (n m : ℕ) (ks ls : List NominalKind) (ts us : List NominalTerm) (o : Option (List NominalType))
-      → AreArguments (HasTermType cs ks) ts o → AreArguments (HasTermType cs ls) us o → EquatesAll (listed ds) t (map (rename_term n) ts) (map (rename_term m) us)
+      → AreArguments (HasTermType cs ks) ts o → AreArguments (HasTermType cs ls) us o → EquatesAll (listed_context ds) t (map (rename_term n) ts) (map (rename_term m) us)
       → equal_each ds (map (put_in (open_shifted n t)) ts) (map (put_in (open_shifted m t)) us) ≡ true
   arguments_equal ds t n m ks ls ts us None h k e = absurd h
   arguments_equal ds t n m ks ls ts us (Some as') h k e = heads_equal ds t n m ks ls ts us as' h k e
@@ -89,7 +89,7 @@ module _ (p : NominalProgram) where
 
     node_passes : (a : NominalAnswer) (t : Substitution) (j : ℕ) (d : NominalDerivation)
         → have_kinds cs (type_beside a.vars) item_kinds (local_vars 0 c.locals) (map (λ x. t (rename_var m x)) (local_vars 0 c.locals)) ≡ true
-        → EquatesAll (listed a.conds) t (map (rename_term n) ts) (map (rename_term m) c.args)
+        → EquatesAll (listed_context a.conds) t (map (rename_term n) ts) (map (rename_term m) c.args)
         → refusal p a item_kinds (suc j) d c.body (open_shifted m t) ≡ None
         → refusal p a kinds j (nodes.atom k (local_names m c.locals) (map (λ x. t (rename_var m x)) (local_vars 0 c.locals)) d) (atom q ts) (open_shifted n t) ≡ None
     node_passes a t j d kinds_hold e body =

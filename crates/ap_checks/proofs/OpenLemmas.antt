@@ -23,7 +23,7 @@ use Rattle.ap_theory.proofs.DisagreementLemmas.{has_front}
 use Rattle.ap_theory.proofs.PermutationLemmas.{has_without_name, name_tells}
 use Rattle.ap_theory.proofs.TermLemmas.{same_var}
 use Rattle.ap_ground.proofs.FreeIdentifierLemmas.{has_without_var, name_in_left, name_in_right, var_in_left, var_in_right}
-use Rattle.ap_checks.specs.Checks.{at, tests_by_clause, node_count, first_refusal, is_fresh, is_new, refusal, test, with_clause}
+use Rattle.ap_checks.specs.Checks.{refusal_of_rule, tests_by_clause, node_count, first_refusal, is_fresh, is_new, refusal, test, with_clause}
 use Rattle.ap_checks.specs.OpenEnvironments.{OpenEnvironment, open_environment, put_in, swap_in, with_open_name, with_open_term}
 use Rattle.ap_checks.specs.TypeTests.{has_kind, type_beside}
 
@@ -141,20 +141,20 @@ refusal_sees_free p a kinds n (nodes.atom k names ts d) (goals.atom q us) e f r 
     (puts_agree e f us r.names r.terms)
 refusal_sees_free p a kinds n nodes.equal (goals.equal t u) e f r =
     let k = two_agree e f t u r.names r.terms in
-    ap₂ (λ v w. test (alpha_under a.conds v w) (at n 7) None) k.0 k.1
+    ap₂ (λ v w. test (alpha_under a.conds v w) (refusal_of_rule n 7) None) k.0 k.1
 refusal_sees_free p a kinds n nodes.fresh (goals.fresh t u) e f r =
     let k = two_agree e f t u r.names r.terms in
-    ap₂ (λ v w. test (is_fresh a.conds v w) (at n 8) None) k.0 k.1
+    ap₂ (λ v w. test (is_fresh a.conds v w) (refusal_of_rule n 8) None) k.0 k.1
 refusal_sees_free p a kinds n nodes.succeed goals.succeed e f r = refl
 refusal_sees_free p a kinds n (nodes.both d c) (goals.both g h) e f r =
     ap₂ first_refusal (refusal_sees_free p a kinds (suc n) d g e f (agree_left e f g h r)) (refusal_sees_free p a kinds (suc n + node_count d) c h e f (agree_right e f g h r))
 refusal_sees_free p a kinds n (nodes.left d) (goals.either g h) e f r = refusal_sees_free p a kinds (suc n) d g e f (agree_left e f g h (agree_either e f g h r))
 refusal_sees_free p a kinds n (nodes.right d) (goals.either g h) e f r = refusal_sees_free p a kinds (suc n) d h e f (agree_right e f g h (agree_either e f g h r))
 refusal_sees_free p a kinds n (nodes.exists t d) (goals.exists x g) e f r =
-    ap (test (has_kind p.signature.constructors (type_beside a.vars) (kind_at kinds x.num) t) (at n 5))
+    ap (test (has_kind p.signature.constructors (type_beside a.vars) (kind_at kinds x.num) t) (refusal_of_rule n 5))
     (refusal_sees_free p a kinds (suc n) d g (with_open_term e x t) (with_open_term f x t) (agree_exists e f x g t r))
 refusal_sees_free p a kinds n (nodes.new c d) (goals.new b g) e f r =
-    ap₂ (λ v w. test (c.sort == b.sort) (at n 5) (test v (at n 9) w))
+    ap₂ (λ v w. test (c.sort == b.sort) (refusal_of_rule n 5) (test v (refusal_of_rule n 9) w))
     (new_agrees e f a.conds c (goals.new b g) r)
     (refusal_sees_free p a kinds (suc n) d g (with_open_name e b c) (with_open_name f b c) (agree_new e f b g c r))
 refusal_sees_free p a kinds n _ _ e f r = refl

@@ -20,7 +20,7 @@ use Rattle.ap_defs.specs.Unification.{Unified, has_var, reduce_all, unify}
 use Rattle.ap_defs.specs.declared.terms.Cond.{Cond}
 use Rattle.ap_defs.specs.declared.terms.Name.{Name}
 use Rattle.ap_defs.specs.declared.terms.Var.{Var}
-use Rattle.ap_theory.specs.Contexts.{Fresh, listed}
+use Rattle.ap_theory.specs.Contexts.{Fresh, listed_context}
 use Rattle.ap_theory.specs.Substitutions.{MeetsSome, Substitution, applied}
 use Rattle.ap_theory.proofs.BooleanLemmas.{and_both, false_if_not, or_if_left, or_if_right}
 use Rattle.ap_theory.proofs.DisagreementLemmas.{has_front}
@@ -32,7 +32,7 @@ use Rattle.ap_ground.proofs.ShiftLemmas.{free_vars_renamed, has_renamed, rename_
 use Rattle.ap_soundness.specs.FoundStates.{EachFound}
 use Rattle.ap_soundness.proofs.EachFoundLemmas.{Property, each_reduced}
 use Rattle.ap_soundness.proofs.StepLemmas.{FoundFrom, KindsAt, both_found, equal_found, exists_found, left_found, new_found, reduced_found, right_found, succeed_found, vars_in_nodes, vars_of_both}
-use Rattle.ap_checks.specs.Checks.{Refusal, at, node_count, first_refusal, is_fresh, is_new, refusal, test}
+use Rattle.ap_checks.specs.Checks.{Refusal, refusal_of_rule, node_count, first_refusal, is_fresh, is_new, refusal, test}
 use Rattle.ap_checks.specs.OpenEnvironments.{put_in}
 use Rattle.ap_checks.specs.TypeTests.{has_kind, type_beside}
 use Rattle.ap_checks.proofs.OpenBackwardLemmas.{SolvesOpen, open_add_back, open_reduce_all_back, open_reduce_back, open_under_name, open_unify_back}
@@ -84,7 +84,7 @@ module _ (p : NominalProgram) where
           let b = open_unify_back a.conds t s (rename_term n u ∷ []) (rename_term n v ∷ []) r e h.agreeing h.meeting in
           let same : alpha_under a.conds (put_in (open_shifted n t) u) (put_in (open_shifted n t) v) ≡ true =
           ap₂ (alpha_under a.conds) (put_shifted n t u) (put_shifted n t v) ∙ Equal_alpha_under a.conds (applied t (rename_term n u)) (applied t (rename_term n v)) b.1.0 in
-          (b.0, λ m. test_passes (alpha_under a.conds (put_in (open_shifted n t) u) (put_in (open_shifted n t) v)) (at m 7) None same refl);
+          (b.0, λ m. test_passes (alpha_under a.conds (put_in (open_shifted n t) u) (put_in (open_shifted n t) v)) (refusal_of_rule m 7) None same refl);
     }
 
     reduced_checked : (u v : NominalTerm) (b : Name) → under s.bindings (rename_term n u) ≡ terms.name b → (conds : List Cond) → reduce b (under s.bindings (rename_term n v)) ≡ Some conds
@@ -95,11 +95,11 @@ module _ (p : NominalProgram) where
       checks = λ a t h k.
           let l = open_add_back a.conds t s conds h in
           let left : put_in (open_shifted n t) u ≡ terms.name b = put_shifted n t u ∙ open_under_name a.conds t s.bindings (rename_term n u) b l.0.agreeing e in
-          let fresh_there : Fresh (listed a.conds) b (applied t (rename_term n v)) =
-          open_reduce_back a.conds t s.bindings b (rename_term n v) l.0.agreeing (subst (MeetsSome (listed a.conds) t) (sym i) l.1) in
+          let fresh_there : Fresh (listed_context a.conds) b (applied t (rename_term n v)) =
+          open_reduce_back a.conds t s.bindings b (rename_term n v) l.0.agreeing (subst (MeetsSome (listed_context a.conds) t) (sym i) l.1) in
           let right : fresh_under a.conds b (put_in (open_shifted n t) v) ≡ true =
           ap (fresh_under a.conds b) (put_shifted n t v) ∙ Fresh_fresh_under a.conds b (applied t (rename_term n v)) fresh_there in
-          (l.0, λ m. test_passes (is_fresh a.conds (put_in (open_shifted n t) u) (put_in (open_shifted n t) v)) (at m 8) None (ap (λ z. is_fresh a.conds z (put_in (open_shifted n t) v)) left ∙ right) refl);
+          (l.0, λ m. test_passes (is_fresh a.conds (put_in (open_shifted n t) u) (put_in (open_shifted n t) v)) (refusal_of_rule m 8) None (ap (λ z. is_fresh a.conds z (put_in (open_shifted n t) v)) left ∙ right) refl);
     }
 
     pub fresh_checked : (u v w : NominalTerm) → under s.bindings (rename_term n u) ≡ w → EachFound (Of (fresh u v)) (test_fresh s w (rename_term n v))
@@ -153,7 +153,7 @@ module _ (p : NominalProgram) where
               ap₂ (has_kind cs (type_beside a.vars)) (v.1 ∙ sym kept) own ∙ k y (or_if_left (var_eq y y) (has_var y (vars_in_nodes d)) (same_var y y refl)) in (
                 l.0,
                 λ m.
-                    test_passes (has_kind cs (type_beside a.vars) (kind_at kinds x.num) (applied t (terms.susp [] y))) (at m 5) _ typed
+                    test_passes (has_kind cs (type_beside a.vars) (kind_at kinds x.num) (applied t (terms.susp [] y))) (refusal_of_rule m 5) _ typed
                     (ap (refusal p a kinds (suc m) (map_terms (applied t) d) f) (with_open_own_term n t x (applied t (terms.susp [] y)) own) ∙ l.1 (suc m)),
               );
         }
@@ -174,13 +174,13 @@ module _ (p : NominalProgram) where
           let fresh_each : list_all (λ x. fresh_under a.conds (rename_name n b) (t (rename_var n x))) (free_vars f) ≡ true =
           each_free_var (λ x. fresh_under a.conds (rename_name n b) (t (rename_var n x))) (free_vars f)
           (λ x m. Fresh_fresh_under a.conds (rename_name n b) (t (rename_var n x))
-          (open_reduce_all_back a.conds t s.bindings (rename_name n b) back.0.agreeing (free_vars (rename_goal n f)) (subst (MeetsSome (listed a.conds) t) (sym e) back.1) (rename_var n x)
+          (open_reduce_all_back a.conds t s.bindings (rename_name n b) back.0.agreeing (free_vars (rename_goal n f)) (subst (MeetsSome (listed_context a.conds) t) (sym e) back.1) (rename_var n x)
           (ap (has_var (rename_var n x)) (free_vars_renamed n f) ∙ has_renamed n x (free_vars f) ∙ m))) in
           let sorts = same_number b.sort b.sort refl in (
             back.0,
             λ m.
-                test_passes (b.sort == b.sort) (at m 5) _ sorts
-                (test_passes (is_new a.conds (rename_name n b) (new b f) (open_shifted n t)) (at m 9) _ (and_both _ _ apart fresh_each)
+                test_passes (b.sort == b.sort) (refusal_of_rule m 5) _ sorts
+                (test_passes (is_new a.conds (rename_name n b) (new b f) (open_shifted n t)) (refusal_of_rule m 9) _ (and_both _ _ apart fresh_each)
                 (ap (refusal p a kinds (suc m) (map_terms (applied t) d) f) (with_open_own_name n t b) ∙ l.1 (suc m))),
           );
     }

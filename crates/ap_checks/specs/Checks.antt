@@ -42,8 +42,8 @@ pub record Refusal : Type 0 where
   pub node : ℕ
   pub rule : ℕ
 
-abbrev pub at : ℕ → ℕ → Refusal
-at n r = record { node = n; rule = r }
+abbrev pub refusal_of_rule : ℕ → ℕ → Refusal
+refusal_of_rule n r = record { node = n; rule = r }
 
 -- a test, and what comes after it where it holds
 abbrev pub test : Bool → Refusal → Option Refusal → Option Refusal
@@ -92,13 +92,13 @@ is_new ds c goal e = list_all (λ b. not (name_eq (e.names b) c)) (free_names go
 -- the tests of an atom's node by a clause, where the atom has these arguments, before what comes after them
 abbrev pub tests_by_clause : NominalProgram → NominalAnswer → ℕ → List Name → List NominalTerm → List NominalTerm → NominalClause → Option Refusal → Option Refusal
 tests_by_clause p a n names ts us c rest =
-    test (have_counts c.locals names ts) (at n 3)
-    (test (are_different names) (at n 4)
-    (test (have_sorts (local_names 0 c.locals) names && have_kinds p.signature.constructors (type_beside a.vars) (kinds_of c.locals) (local_vars 0 c.locals) ts) (at n 5)
-    (test (equal_each a.conds us (map (put_in (open_environment c.locals names ts)) c.args)) (at n 6) rest)))
+    test (have_counts c.locals names ts) (refusal_of_rule n 3)
+    (test (are_different names) (refusal_of_rule n 4)
+    (test (have_sorts (local_names 0 c.locals) names && have_kinds p.signature.constructors (type_beside a.vars) (kinds_of c.locals) (local_vars 0 c.locals) ts) (refusal_of_rule n 5)
+    (test (equal_each a.conds us (map (put_in (open_environment c.locals names ts)) c.args)) (refusal_of_rule n 6) rest)))
 
 abbrev pub with_clause : ℕ → Option NominalClause → (NominalClause → Option Refusal) → Option Refusal
-with_clause n None check = Some (at n 2)
+with_clause n None check = Some (refusal_of_rule n 2)
 with_clause n (Some c) check = check c
 
 -- the first refusal of a derivation, whose first node has this number, of a goal in an item whose identifiers have these kinds
@@ -106,17 +106,17 @@ abbrev pub refusal : NominalProgram → NominalAnswer → List NominalKind → �
 refusal p a kinds n (nodes.atom k names ts d) (goals.atom q us) e =
     with_clause n (clause_at (clauses_of p.clauses q) k)
     (λ c. tests_by_clause p a n names ts (map (put_in e) us) c (refusal p a (kinds_of c.locals) (suc n) d c.body (open_environment c.locals names ts)))
-refusal p a kinds n nodes.equal (goals.equal t u) e = test (alpha_under a.conds (put_in e t) (put_in e u)) (at n 7) None
-refusal p a kinds n nodes.fresh (goals.fresh t u) e = test (is_fresh a.conds (put_in e t) (put_in e u)) (at n 8) None
+refusal p a kinds n nodes.equal (goals.equal t u) e = test (alpha_under a.conds (put_in e t) (put_in e u)) (refusal_of_rule n 7) None
+refusal p a kinds n nodes.fresh (goals.fresh t u) e = test (is_fresh a.conds (put_in e t) (put_in e u)) (refusal_of_rule n 8) None
 refusal p a kinds n nodes.succeed goals.succeed e = None
 refusal p a kinds n (nodes.both d f) (goals.both g h) e = first_refusal (refusal p a kinds (suc n) d g e) (refusal p a kinds (suc n + node_count d) f h e)
 refusal p a kinds n (nodes.left d) (goals.either g h) e = refusal p a kinds (suc n) d g e
 refusal p a kinds n (nodes.right d) (goals.either g h) e = refusal p a kinds (suc n) d h e
 refusal p a kinds n (nodes.exists t d) (goals.exists x g) e =
-    test (has_kind p.signature.constructors (type_beside a.vars) (kind_at kinds x.num) t) (at n 5) (refusal p a kinds (suc n) d g (with_open_term e x t))
+    test (has_kind p.signature.constructors (type_beside a.vars) (kind_at kinds x.num) t) (refusal_of_rule n 5) (refusal p a kinds (suc n) d g (with_open_term e x t))
 refusal p a kinds n (nodes.new c d) (goals.new b g) e =
-    test (c.sort == b.sort) (at n 5) (test (is_new a.conds c (goals.new b g) e) (at n 9) (refusal p a kinds (suc n) d g (with_open_name e b c)))
-refusal p a kinds n _ _ e = Some (at n 1)
+    test (c.sort == b.sort) (refusal_of_rule n 5) (test (is_new a.conds c (goals.new b g) e) (refusal_of_rule n 9) (refusal p a kinds (suc n) d g (with_open_name e b c)))
+refusal p a kinds n _ _ e = Some (refusal_of_rule n 1)
 
 -- no variable stands twice
 abbrev pub each_once : List (Var × NominalType) → Bool
@@ -140,7 +140,7 @@ verdict (Some r) = no (reported r.node) r.rule
 -- the verdict on a derivation of an answer to a query; each free name of a query stands for itself
 abbrev pub verdict_on : NominalProgram → NominalQuery → NominalAnswer → NominalDerivation → NominalVerdict
 verdict_on p q a d =
-    verdict (test (is_answer p q a) (at 0 10) (refusal p a (kinds_of q.locals) 1 d q.goal (open_environment q.locals (local_names 0 q.locals) a.binds)))
+    verdict (test (is_answer p q a) (refusal_of_rule 0 10) (refusal p a (kinds_of q.locals) 1 d q.goal (open_environment q.locals (local_names 0 q.locals) a.binds)))
 
 -- the query with this number, from 1
 abbrev pub query_at : List NominalQuery → ℕ → Option NominalQuery

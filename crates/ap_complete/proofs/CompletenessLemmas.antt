@@ -22,7 +22,7 @@ use Rattle.ap_defs.specs.declared.terms.Swap.{Swap}
 use Rattle.ap_defs.specs.declared.terms.Var.{Var}
 use Rattle.ap_complete.specs.Restriction.{KeepsRestriction}
 use Rattle.ap_program.specs.Typed.{AreTypedQueries, term_form}
-use Rattle.ap_search.specs.PathTrees.{AllAfter, AreInPathOrder, is_before}
+use Rattle.ap_search.specs.PathTrees.{AllOutsAfter, AreInPathOrder, is_before}
 use Rattle.ap_search.proofs.DepthLemmas.{query_deeper}
 use Rattle.ap_search.proofs.QueryTreeLemmas.{query_in_order}
 use Rattle.ap_theory.proofs.BooleanLemmas.{and_both, and_left, and_right, false_if_not}
@@ -168,7 +168,7 @@ not_beginning (i ∷ l) (j ∷ m) h k =
     let same : (j == i) ≡ true = same_number j i (sym (number_same i j (and_left (i == j) (has_prefix l m) k))) in
     not_beginning l m (sym (ap (λ b. if b then is_before m l else nat_lt j i) same) ∙ h) (and_right (i == j) (has_prefix l m) k)
 
-after_among : (p : List ℕ) (os : List NominalOut) → AllAfter p os → (o : NominalOut) → IsAmong o os → is_before p (out_path o) ≡ true
+after_among : (p : List ℕ) (os : List NominalOut) → AllOutsAfter p os → (o : NominalOut) → IsAmong o os → is_before p (out_path o) ≡ true
 after_among p [] h o i = absurd i
 after_among p (w ∷ os) h o (inl e) = ap (λ z. is_before p (out_path z)) (sym e) ∙ h.0
 after_among p (w ∷ os) h o (inr i) = after_among p os h.1 o i
@@ -188,7 +188,7 @@ prefix_itself : (l : List ℕ) → has_prefix l l ≡ true
 prefix_itself [] = refl
 prefix_itself (k ∷ l) = and_both (k == k) (has_prefix l l) (same_number k k refl) (prefix_itself l)
 
-none_kept : (l : List ℕ) (os : List NominalOut) → AllAfter l os → filter (λ o. has_prefix l (out_path o)) os ≡ []
+none_kept : (l : List ℕ) (os : List NominalOut) → AllOutsAfter l os → filter (λ o. has_prefix l (out_path o)) os ≡ []
 none_kept l [] h = refl
 none_kept l (w ∷ os) h =
     ap (λ b. if b then (w ∷ filter (λ o. has_prefix l (out_path o)) os) else filter (λ o. has_prefix l (out_path o)) os)

@@ -6,7 +6,7 @@ use Rattle.std.proofs.lemmas.Bool.{and_parts}
 use mathlib.Core.Logic.{dite}
 use native.Mathlib.Decide.{ℕ_discrete}
 use Rattle.ap_defs.specs.Answers.{NominalOut}
-use Rattle.ap_paths.specs.Trees.{Choices, Outputs, InTree, times, Ascends, AreAtMost, AreKids}
+use Rattle.ap_paths.specs.Trees.{Choices, Outputs, InChoiceTree, times, Ascends, AreAtMost, AreKids}
 use Rattle.ap_paths.proofs.Frontiers.{kids_in}
 use Rattle.ap_core.specs.Covers.{covers, is_none, starts}
 use Rattle.ap_core.proofs.Places.{same_some, some_there}
@@ -128,7 +128,7 @@ pub no_kids : (c : Choices) (at : Outputs) (p ks : List ℕ) → c p ≡ None �
 no_kids c at p ks ends kids = some_there kids.0 (sym kids.1 ∙ ends)
 
 -- the choice i of p is in the tree
-pub choice_in : (c : Choices) (p : List ℕ) (w i : ℕ) → InTree c p → c p ≡ Some w → i < w → InTree c (p ++ (i + 1) ∷ [])
+pub choice_in : (c : Choices) (p : List ℕ) (w i : ℕ) → InChoiceTree c p → c p ≡ Some w → i < w → InChoiceTree c (p ++ (i + 1) ∷ [])
 choice_in c p w i there wide l = (kids_in c p w 1 ((i + 1) ∷ []) there wide (omega arith) ((omega arith), tt) ((omega arith), tt)).0
 
 covers_next : (at : Outputs) (p : List ℕ) (i n : ℕ) (ls : List ℕ) → starts i ls ≡ true → covers at p i (suc n) ls ≡ covers at p (suc i) n (drop 1 ls)

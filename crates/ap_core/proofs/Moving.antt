@@ -11,9 +11,9 @@ use Rattle.ap_paths.specs.Trees.{Choices, Outputs, AreKids}
 use Rattle.ap_paths.specs.Weights.{weigh}
 use Rattle.ap_paths.specs.Merging.{insert, found_before}
 use Rattle.ap_paths.proofs.Frontiers.{weigh_both}
-use Rattle.ap_core.specs.States.{State, Past, over, state, nones, start}
+use Rattle.ap_core.specs.States.{WorkersState, Past, over, state, nones, start_state}
 use Rattle.ap_core.specs.Steps.{IsStep}
-use Rattle.ap_core.specs.Traces.{Makes, Leads}
+use Rattle.ap_core.specs.Traces.{MakesEntries, EventsLead}
 use Rattle.ap_core.proofs.Places.{set_here, set_else, set_again, set_length, set_twice, set_swap}
 
 abbrev pub Paths : Type 0
@@ -29,8 +29,8 @@ nones_length zero = refl
 nones_length (suc n) = ap suc (nones_length n)
 
 -- events one after another
-pub leads_both : (c : Choices) (at : Outputs) (s t u : State) (es fs : List Event) (h g : List TreeEntry) → Leads c at s es t h → Leads c at t fs u g → Leads c at s (es ++ fs) u (h ++ g)
-leads_both c at s t u [] fs h g a b = subst (λ (x : State × List TreeEntry). Leads c at x.0 fs u (x.1 ++ g)) (λ i. (a.0 i, sym a.1 i)) b
+pub leads_both : (c : Choices) (at : Outputs) (s t u : WorkersState) (es fs : List Event) (h g : List TreeEntry) → EventsLead c at s es t h → EventsLead c at t fs u g → EventsLead c at s (es ++ fs) u (h ++ g)
+leads_both c at s t u [] fs h g a b = subst (λ (x : WorkersState × List TreeEntry). EventsLead c at x.0 fs u (x.1 ++ g)) (λ i. (a.0 i, sym a.1 i)) b
 leads_both c at s t u (e ∷ es) fs h g a b =
     (a.0, a.1, a.2 ++ g, a.3, a.4, leads_both c at a.0 t u es fs a.2 g a.5 b, ap (λ l. l ++ g) a.6 ∙ append_assoc a.1 a.2 g)
 
@@ -71,16 +71,16 @@ pushed c at n u w rest p a b past lw = (
   λ i. state (sym (set_twice (nones n) w (rest ++ p ∷ []) rest) i) (sym (pair_set_second n u w a b (b ++ p ∷ [])) i) past,
 )
 
-abbrev pub Reaches : Choices → Outputs → State → State → List TreeEntry → Type 0
-Reaches c at s t h = (es : List Event) × Leads c at s es t h
+abbrev pub Reaches : Choices → Outputs → WorkersState → WorkersState → List TreeEntry → Type 0
+Reaches c at s t h = (es : List Event) × EventsLead c at s es t h
 
-pub then_reaches : (c : Choices) (at : Outputs) (s t u : State) (h g : List TreeEntry) → Reaches c at s t h → Reaches c at t u g → Reaches c at s u (h ++ g)
+pub then_reaches : (c : Choices) (at : Outputs) (s t u : WorkersState) (h g : List TreeEntry) → Reaches c at s t h → Reaches c at t u g → Reaches c at s u (h ++ g)
 then_reaches c at s t u h g a b = (a.0 ++ b.0, leads_both c at s t u a.0 b.0 h g a.1 b.1)
 
-pub one_step : (c : Choices) (at : Outputs) (s t : State) (e : Event) (h : List TreeEntry) → IsStep c at s e t → Makes at s e h → Reaches c at s t h
+pub one_step : (c : Choices) (at : Outputs) (s t : WorkersState) (e : Event) (h : List TreeEntry) → IsStep c at s e t → MakesEntries at s e h → Reaches c at s t h
 one_step c at s t e h step makes = (e ∷ [], (t, h, [], step, makes, (refl, refl), sym (append-nil h)))
 
-pub stays : (c : Choices) (at : Outputs) (s t : State) → t ≡ s → Reaches c at s t []
+pub stays : (c : Choices) (at : Outputs) (s t : WorkersState) → t ≡ s → Reaches c at s t []
 stays c at s t e = ([], (e, refl))
 
 -- all of xs go from the deque of u to that of w
@@ -95,7 +95,7 @@ moves c at n u w (x ∷ xs) ys b past lu lw ne =
     let z = state (nones n) (pair n u w ys (b ++ x ∷ xs)) past in
     let back : t ≡ t' = ap (λ hs. state hs (pair n u w (xs ++ ys) (b ++ x ∷ [])) past) (set_again (nones n) w [] (nones_at n w lw)) in
     let first = one_step c at s m (Steal w u) [] (steals c at n u w x (xs ++ ys) b past lu lw ne) refl in
-    let second = subst (λ (k : State). Reaches c at m k []) back (one_step c at m t (Push w) [] (pushed c at n u w [] x (xs ++ ys) b past lw) refl) in
+    let second = subst (λ (k : WorkersState). Reaches c at m k []) back (one_step c at m t (Push w) [] (pushed c at n u w [] x (xs ++ ys) b past lw) refl) in
     let rest = subst (λ (l : Paths). Reaches c at t' (state (nones n) (pair n u w ys l) past) []) (append_assoc b (x ∷ []) xs) (moves c at n u w xs ys (b ++ x ∷ []) past lu lw ne) in
     then_reaches c at s m z [] [] first (then_reaches c at m t' z [] [] second rest)
 
@@ -157,7 +157,7 @@ splits_there c at n u w xs ys p ks past lu lw ne kids =
     let t' = state (set (nones n) w (kids_of p ks)) (pair n u w ys xs) past in
     let here : slice_get hands w ≡ Some (p ∷ []) = set_here (nones n) w (p ∷ []) (let k = nones_length n in omega arith) in
     let same : t ≡ t' = λ i. state ((set_twice (nones n) w (p ∷ []) (kids_of p ks ++ []) ∙ ap (λ l. set (nones n) w l) (append-nil (kids_of p ks))) i) (pair n u w ys xs) past in
-    let made = subst (λ (k : State). Reaches c at m k (split w p ks ∷ [])) same (one_step c at m t (Split w ks) (split w p ks ∷ []) ([], p, here, kids, refl) (p, [], here, refl)) in
+    let made = subst (λ (k : WorkersState). Reaches c at m k (split w p ks ∷ [])) same (one_step c at m t (Split w ks) (split w p ks ∷ []) ([], p, here, kids, refl) (p, [], here, refl)) in
     let all = pushes_all c at n u w (length (kids_of p ks)) (kids_of p ks) ys xs past lw refl in
     let q = state (nones n) (pair n u w ys all.0) past in
     let z = state (nones n) (single n w (all.0 ++ ys)) past in (
@@ -178,7 +178,7 @@ ends_there c at n u w xs ys p past lu lw ne =
     let t' = state (nones n) (pair n u w ys xs) later in
     let here : slice_get hands w ≡ Some (p ∷ []) = set_here (nones n) w (p ∷ []) (let k = nones_length n in omega arith) in
     let same : t ≡ t' = ap (λ hs. state hs (pair n u w ys xs) later) (hand_back n w (p ∷ []) lw) in
-    let end = subst (λ (k : State). Reaches c at m k (done w p (at p) ∷ [])) same (one_step c at m t (Done w) (done w p (at p) ∷ []) ([], p, here, refl) (p, [], here, refl)) in
+    let end = subst (λ (k : WorkersState). Reaches c at m k (done w p (at p) ∷ [])) same (one_step c at m t (Done w) (done w p (at p) ∷ []) ([], p, here, refl) (p, [], here, refl)) in
     let z = state (nones n) (single n w (xs ++ ys)) later in (
       xs ++ ys,
       (λ h. omega (arith, weigh_both h xs ys, weigh_both h xs (p ∷ ys))),
@@ -197,7 +197,7 @@ skips_there c at n u w xs ys p k past lu lw ne enough =
     let t' = state (nones n) (pair n u w ys xs) later in
     let here : slice_get hands w ≡ Some (p ∷ []) = set_here (nones n) w (p ∷ []) (let k = nones_length n in omega arith) in
     let same : t ≡ t' = ap (λ hs. state hs (pair n u w ys xs) later) (hand_back n w (p ∷ []) lw) in
-    let end = subst (λ (q : State). Reaches c at m q (skip w p k ∷ [])) same (one_step c at m t (Skip w k) (skip w p k ∷ []) ([], p, here, enough, refl) (p, [], here, refl)) in
+    let end = subst (λ (q : WorkersState). Reaches c at m q (skip w p k ∷ [])) same (one_step c at m t (Skip w k) (skip w p k ∷ []) ([], p, here, enough, refl) (p, [], here, refl)) in
     let z = state (nones n) (single n w (xs ++ ys)) later in (
       xs ++ ys,
       (λ h. omega (arith, weigh_both h xs ys, weigh_both h xs (p ∷ ys))),
@@ -222,8 +222,8 @@ elsewhere c at n v w ds past two lv lw =
     (z.0, lz, z.1, subst (λ (d : List Paths). Reaches c at (state (nones n) d past) (state (nones n) (single n z.0 ds) past) []) (sym (single_pair n v z.0 ds lz ne)) (all_over c at n v z.0 ds [] past lv lz ne)))
     (λ ne. (v, lv, ne, stays c at _ _ refl))
 
-pub starts : (c : Choices) (at : Outputs) (n : ℕ) → 0 < n → Reaches c at (start n) (state (nones n) (single n 0 ([] ∷ [])) (over [] [])) []
+pub starts : (c : Choices) (at : Outputs) (n : ℕ) → 0 < n → Reaches c at (start_state n) (state (nones n) (single n 0 ([] ∷ [])) (over [] [])) []
 starts c at n l =
-    one_step c at (start n) (state (nones n) (single n 0 ([] ∷ [])) (over [] [])) (Push 0) []
+    one_step c at (start_state n) (state (nones n) (single n 0 ([] ∷ [])) (over [] [])) (Push 0) []
     ([], [], [], set_here (nones n) 0 ([] ∷ []) (let k = nones_length n in omega arith), nones_at n 0 l, ap (λ hs. state hs (single n 0 ([] ∷ [])) (over [] [])) (sym (hand_back n 0 ([] ∷ []) l)))
     refl

@@ -7,9 +7,9 @@ use Rattle.ap_paths.specs.Entries.{TreeEntry, split, done, skip, stop}
 use Rattle.ap_paths.specs.History.{are_reached, kids_of}
 use Rattle.ap_paths.specs.Trees.{Choices, Outputs, AreKids, AreTrue}
 use Rattle.ap_defs.specs.Answers.{NominalOut}
-use Rattle.ap_paths.specs.Merging.{Ending, found_before, insert}
-use Rattle.ap_core.specs.States.{State, Past, over, state}
-use Rattle.ap_core.specs.Traces.{Leads, AreSeats, IsInOrder}
+use Rattle.ap_paths.specs.Merging.{EndedPath, found_before, insert}
+use Rattle.ap_core.specs.States.{WorkersState, Past, over, state}
+use Rattle.ap_core.specs.Traces.{EventsLead, AreSeats, IsInOrder}
 use Rattle.ap_core.specs.Laws.{AreInOrder}
 use Rattle.ap_core.proofs.Places.{same_some, some_there}
 
@@ -29,7 +29,7 @@ stack_front : (a hand qs : Paths) → stack (a ++ hand) qs ≡ a ++ stack hand q
 stack_front a hand [] = refl
 stack_front a hand (q ∷ qs) = ap (λ l. l ++ q ∷ []) (stack_front a hand qs) ∙ append_assoc a (stack hand qs) (q ∷ [])
 
-abbrev Fits : Choices → Outputs → List Ending → Paths → List TreeEntry → Type 0
+abbrev Fits : Choices → Outputs → List EndedPath → Paths → List TreeEntry → Type 0
 Fits c at ends ps h = AreSeats 1 h × AreTrue c at h × IsInOrder ps h × (are_reached ends h ≡ true)
 
 same_head : (p q : List ℕ) (ps qs : Paths) → p ∷ ps ≡ q ∷ qs → p ≡ q
@@ -39,22 +39,22 @@ same_tail : (p q : List ℕ) (ps qs : Paths) → p ∷ ps ≡ q ∷ qs → ps �
 same_tail p q ps qs e = cc
 
 -- where an event makes no entry
-quietly : (c : Choices) (at : Outputs) (ends : List Ending) (ps qs : Paths) (made later h : List TreeEntry) → ps ≡ qs → made ≡ [] → h ≡ made ++ later → Fits c at ends ps later → Fits c at ends qs h
+quietly : (c : Choices) (at : Outputs) (ends : List EndedPath) (ps qs : Paths) (made later h : List TreeEntry) → ps ≡ qs → made ≡ [] → h ≡ made ++ later → Fits c at ends ps later → Fits c at ends qs h
 quietly c at ends ps qs made later h same none is f =
     subst (λ (l : Paths). Fits c at ends l h) same (subst (λ (x : List TreeEntry). Fits c at ends ps x) (sym (is ∙ ap (λ m. m ++ later) none)) f)
 
-in_order : (c : Choices) (at : Outputs) (hand deque : Paths) (past : Past) (es : List Event) (t : State) (h : List TreeEntry) → Leads c at (state (hand ∷ []) (deque ∷ []) past) es t h → Fits c at past.ends (stack hand deque) h
+in_order : (c : Choices) (at : Outputs) (hand deque : Paths) (past : Past) (es : List Event) (t : WorkersState) (h : List TreeEntry) → EventsLead c at (state (hand ∷ []) (deque ∷ []) past) es t h → Fits c at past.ends (stack hand deque) h
 in_order c at hand deque past [] t h a = subst (λ (x : List TreeEntry). Fits c at past.ends (stack hand deque) x) (sym a.1) (tt, tt, tt, refl)
 in_order c at hand deque past (Push zero ∷ es) t h a =
     let s = a.3 in
-    let next = subst (λ (u : State). Leads c at u es t a.2) s.5 a.5 in
+    let next = subst (λ (u : WorkersState). EventsLead c at u es t a.2) s.5 a.5 in
     let r = in_order c at s.0 (s.2 ++ s.1 ∷ []) past es t a.2 next in
     quietly c at past.ends (stack s.0 (s.2 ++ s.1 ∷ [])) (stack hand deque) a.1 a.2 h
     (stack_back s.0 s.2 s.1 ∙ ap (λ l. stack l s.2) (sym (same_some hand (s.0 ++ s.1 ∷ []) s.3)) ∙ ap (stack hand) (sym (same_some deque s.2 s.4))) a.4 a.6 r
 in_order c at hand deque past (Push (suc w) ∷ es) t h a = absurd (some_there (a.3.0 ++ a.3.1 ∷ []) (sym a.3.3))
 in_order c at hand deque past (Pop zero ∷ es) t h a =
     let s = a.3 in
-    let next = subst (λ (u : State). Leads c at u es t a.2) s.4 a.5 in
+    let next = subst (λ (u : WorkersState). EventsLead c at u es t a.2) s.4 a.5 in
     let r = in_order c at (s.1 ∷ []) s.0 past es t a.2 next in
     quietly c at past.ends (stack (s.1 ∷ []) s.0) (stack hand deque) a.1 a.2 h
     (sym (stack_back [] s.0 s.1) ∙ ap (stack []) (sym (same_some deque (s.0 ++ s.1 ∷ []) s.3)) ∙ ap (λ l. stack l deque) (sym (same_some hand [] s.2))) a.4 a.6 r
@@ -68,7 +68,7 @@ in_order c at hand deque past (Split zero ks ∷ es) t h a =
     let both : s.1 ∷ s.0 ≡ m.0 ∷ m.1 = sym (same_some hand (s.1 ∷ s.0) s.2) ∙ same_some hand (m.0 ∷ m.1) m.2 in
     let p_is = same_head s.1 m.0 s.0 m.1 both in
     let rest_is = same_tail s.1 m.0 s.0 m.1 both in
-    let next = subst (λ (u : State). Leads c at u es t a.2) s.4 a.5 in
+    let next = subst (λ (u : WorkersState). EventsLead c at u es t a.2) s.4 a.5 in
     let r = in_order c at (kids_of s.1 ks ++ s.0) deque past es t a.2 next in
     let kids = subst (λ (p : List ℕ). AreKids c at p ks) p_is s.3 in
     let later = subst (λ (l : Paths). IsInOrder l a.2) (stack_front (kids_of s.1 ks) s.0 deque ∙ ap (λ p. kids_of p ks ++ stack s.0 deque) p_is ∙ ap (λ l. kids_of m.0 ks ++ stack l deque) rest_is) r.2 in
@@ -82,7 +82,7 @@ in_order c at hand deque past (Done zero ∷ es) t h a =
     let both : s.1 ∷ s.0 ≡ m.0 ∷ m.1 = sym (same_some hand (s.1 ∷ s.0) s.2) ∙ same_some hand (m.0 ∷ m.1) m.2 in
     let p_is = same_head s.1 m.0 s.0 m.1 both in
     let rest_is = same_tail s.1 m.0 s.0 m.1 both in
-    let next = subst (λ (u : State). Leads c at u es t a.2) s.3 a.5 in
+    let next = subst (λ (u : WorkersState). EventsLead c at u es t a.2) s.3 a.5 in
     let r = in_order c at s.0 deque (over (insert s.1 (at s.1) past.ends) past.skipped) es t a.2 next in
     let later = subst (λ (l : Paths). IsInOrder (stack l deque) a.2) rest_is r.2 in
     let reached = subst (λ (p : List ℕ). are_reached (insert p (at p) past.ends) a.2 ≡ true) p_is r.3 in
@@ -96,7 +96,7 @@ in_order c at hand deque past (Skip zero n ∷ es) t h a =
     let both : s.1 ∷ s.0 ≡ m.0 ∷ m.1 = sym (same_some hand (s.1 ∷ s.0) s.2) ∙ same_some hand (m.0 ∷ m.1) m.2 in
     let p_is = same_head s.1 m.0 s.0 m.1 both in
     let rest_is = same_tail s.1 m.0 s.0 m.1 both in
-    let next = subst (λ (u : State). Leads c at u es t a.2) s.4 a.5 in
+    let next = subst (λ (u : WorkersState). EventsLead c at u es t a.2) s.4 a.5 in
     let r = in_order c at s.0 deque (over past.ends (past.skipped ++ s.1 ∷ [])) es t a.2 next in
     let later = subst (λ (l : Paths). IsInOrder (stack l deque) a.2) rest_is r.2 in
     let enough : nat_le n (found_before m.0 past.ends) ≡ true = le-leb n (found_before m.0 past.ends) (let z = s.3 in let y = ap (λ (p : List ℕ). found_before p past.ends) p_is in omega arith) in
@@ -108,7 +108,7 @@ in_order c at hand deque past (Skip (suc w) n ∷ es) t h a = absurd (some_there
 
 -- the worker runs the paths of its hand in order, and pushes none
 entered : (c : Choices) (at : Outputs) (hand : Paths) (past : Past) (h : List TreeEntry) → AreSeats 1 h → AreTrue c at h → IsInOrder hand h → are_reached past.ends h ≡ true
-    → (t : State) × (events : List Event) × Leads c at (state (hand ∷ []) ([] ∷ []) past) events t h
+    → (t : WorkersState) × (events : List Event) × EventsLead c at (state (hand ∷ []) ([] ∷ []) past) events t h
 entered c at hand past [] seats true_of order reached = (state (hand ∷ []) ([] ∷ []) past, [], (refl, refl))
 entered c at [] past (e ∷ es) seats true_of order reached = absurd order
 entered c at (p ∷ ps) past (split seat q ks ∷ es) seats true_of order reached =

@@ -10,8 +10,8 @@ use Rattle.ap_paths.specs.Weights.{weigh, one_if, is_it}
 use Rattle.ap_paths.specs.Merging.{found_before, insert}
 use Rattle.ap_paths.proofs.Histories.{legal_parts}
 use Rattle.ap_paths.proofs.Frontiers.{path_same, same_itself, weigh_both, weigh_without}
-use Rattle.ap_core.specs.States.{State, Past, over, state, nones, start}
-use Rattle.ap_core.specs.Traces.{AreSeats, Leads}
+use Rattle.ap_core.specs.States.{WorkersState, Past, over, state, nones, start_state}
+use Rattle.ap_core.specs.Traces.{AreSeats, EventsLead}
 use Rattle.ap_core.proofs.Moving.{Paths, single, Reaches, then_reaches, splits_there, ends_there, skips_there, elsewhere, starts}
 
 -- a path that weighs stands somewhere
@@ -34,7 +34,7 @@ open_stands p ps ds tie o =
     stands p ds (omega arith)
 
 follows : (c : Choices) (at : Outputs) (n : ℕ) (ps : Paths) (b : Bool) (v : ℕ) (ds : Paths) (past : Past) (es : List TreeEntry) → 1 < n → v < n → ((h : List ℕ → ℕ) → weigh h ds ≡ weigh h ps)
-    → legal_from ps b es ≡ true → are_reached past.ends es ≡ true → AreTrue c at es → has_stop es ≡ false → AreSeats n es → (t : State) × Reaches c at (state (nones n) (single n v ds) past) t es
+    → legal_from ps b es ≡ true → are_reached past.ends es ≡ true → AreTrue c at es → has_stop es ≡ false → AreSeats n es → (t : WorkersState) × Reaches c at (state (nones n) (single n v ds) past) t es
 follows c at n ps b v ds past [] two lv tie legal reached true_of quiet seats = (state (nones n) (single n v ds) past, ([], (refl, refl)))
 follows c at n ps b v ds past (split w p ks ∷ es) two lv tie legal reached true_of quiet seats =
     let l = and_parts (is_open p ps) (legal_from (without p ps ++ kids_of p ks) (b || false) es) legal in
@@ -89,9 +89,9 @@ follows c at n ps b v ds past (stop w ∷ es) two lv tie legal reached true_of q
 
 -- the events begin where worker 0 has the empty path in its hand
 pub is_permitted : (c : Choices) (at : Outputs) (n : ℕ) (history : List TreeEntry) → 1 < n → is_legal history ≡ true → AreTrue c at history → has_stop history ≡ false → AreSeats n history
-    → (t : State) × (events : List Event) × Leads c at (start n) events t history
+    → (t : WorkersState) × (events : List Event) × EventsLead c at (start_state n) events t history
 is_permitted c at n history two legal true_of quiet seats =
     let parts = legal_parts history legal in
     let r = follows c at n ([] ∷ []) false 0 ([] ∷ []) (over [] []) history two (omega arith) (λ h. refl) parts.0 parts.1 true_of quiet seats in
-    let all = then_reaches c at (start n) (state (nones n) (single n 0 ([] ∷ [])) (over [] [])) r.0 [] history (starts c at n (omega arith)) r.1 in
+    let all = then_reaches c at (start_state n) (state (nones n) (single n 0 ([] ∷ [])) (over [] [])) r.0 [] history (starts c at n (omega arith)) r.1 in
     (r.0, all.0, all.1)

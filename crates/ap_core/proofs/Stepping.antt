@@ -6,13 +6,13 @@ use Rattle.ap_defs.specs.Answers.{outs_of}
 use Rattle.ap_paths.specs.History.{kids_of}
 use Rattle.ap_paths.specs.Trees.{Choices, Outputs, AreKids}
 use Rattle.ap_paths.specs.Ends.{ends_of}
-use Rattle.ap_paths.specs.Merging.{is_before, insert, found_before}
+use Rattle.ap_paths.specs.Merging.{is_path_before, insert, found_before}
 use Rattle.ap_core.specs.declared.workers.Worker.{Worker}
 use Rattle.ap_core.specs.declared.events.Event.{Event}
-use Rattle.ap_core.specs.States.{State, Past, over, state, joined_all, nones, start}
-use Rattle.ap_core.specs.Steps.{Pushes, Pops, Steals, Splits, Ends, Skips, IsStep, AreSteps}
+use Rattle.ap_core.specs.States.{WorkersState, Past, over, state, joined_all, nones, start_state}
+use Rattle.ap_core.specs.Steps.{Pushes, Pops, Steals, Splits, EndsPath, SkipsPath, IsStep, AreSteps}
 use Rattle.ap_core.specs.Stages.{hands_of, deques_of, state_of, past_of, Answered}
-use Rattle.ap_core.specs.Single.{Pushed, Popped, Gave, Began}
+use Rattle.ap_core.specs.Single.{PushedAlone, PoppedAlone, Gave, Began}
 use Rattle.ap_core.proofs.Places.{same_some, some_there, set_else, set_again}
 
 abbrev Paths : Type 0
@@ -75,7 +75,7 @@ hands_same ws i v w at e = hands_now ws i w v.hand.items e ∙ set_again (hands_
 deques_same : (ws : List Worker) (i : ℕ) (v w : Worker) → slice_get ws i ≡ Some v → w.deque.items ≡ v.deque.items → deques_of (set ws i w) ≡ deques_of ws
 deques_same ws i v w at e = deques_now ws i w v.deque.items e ∙ set_again (deques_of ws) i v.deque.items (deques_get ws i v at)
 
-pub pushed : {E : Type 0} (r : Result Bool E) (ws : List Worker) (i : ℕ) (v w : Worker) (past : Past) → slice_get ws i ≡ Some v → IfOk r (λ b. Pushed v b w)
+pub pushed : {E : Type 0} (r : Result Bool E) (ws : List Worker) (i : ℕ) (v w : Worker) (past : Past) → slice_get ws i ≡ Some v → IfOk r (λ b. PushedAlone v b w)
     → IfOk r (λ b. Answered (Pushes (state_of ws past) i) b (state_of (set ws i w) past))
 pushed (Ok true) ws i v w past at h = (
   h.0,
@@ -88,7 +88,7 @@ pushed (Ok true) ws i v w past at h = (
 pushed (Ok false) ws i v w past at h = λ u s. no_last s.0 s.1 (sym h ∙ hand_is ws i v (s.0 ++ s.1 ∷ []) at s.3)
 pushed (Err e) ws i v w past at h = h
 
-pub popped : {E : Type 0} (r : Result Bool E) (ws : List Worker) (i : ℕ) (v w : Worker) (past : Past) → slice_get ws i ≡ Some v → IfOk r (λ b. Popped v b w)
+pub popped : {E : Type 0} (r : Result Bool E) (ws : List Worker) (i : ℕ) (v w : Worker) (past : Past) → slice_get ws i ≡ Some v → IfOk r (λ b. PoppedAlone v b w)
     → IfOk r (λ b. Answered (Pops (state_of ws past) i) b (state_of (set ws i w) past))
 popped (Ok true) ws i v w past at h = (
   h.0,
@@ -115,10 +115,10 @@ stolen ws i j v o o' x v' p past ne mine idle other gave there hand deque =
           ((deques_same (set ws j o') i x v' there deque ∙ deques_set ws j o') k) past,
     )
 
-pub not_stolen : (ws : List Worker) (i j : ℕ) (o o' : Worker) (past : Past) → slice_get ws j ≡ Some o → Gave o None o' → (u : State) → Steals (state_of ws past) i j u → ⊥
+pub not_stolen : (ws : List Worker) (i j : ℕ) (o o' : Worker) (past : Past) → slice_get ws j ≡ Some o → Gave o None o' → (u : WorkersState) → Steals (state_of ws past) i j u → ⊥
 not_stolen ws i j o o' past other none u s = let e : [] ≡ s.1 ∷ s.0 = sym none ∙ deque_is ws j o (s.1 ∷ s.0) other s.3 in cc
 
-pub busy : (ws : List Worker) (i j : ℕ) (v : Worker) (past : Past) → slice_get ws i ≡ Some v → (v.hand.items ≡ [] → ⊥) → (u : State) → Steals (state_of ws past) i j u → ⊥
+pub busy : (ws : List Worker) (i j : ℕ) (v : Worker) (past : Past) → slice_get ws i ≡ Some v → (v.hand.items ≡ [] → ⊥) → (u : WorkersState) → Steals (state_of ws past) i j u → ⊥
 busy ws i j v past mine some u s = some (hand_is ws i v [] mine s.2)
 
 pub split_made : (c : Choices) (at : Outputs) (ws : List Worker) (i : ℕ) (v v1 v2 : Worker) (p ks : List ℕ) (past : Past) → slice_get ws i ≡ Some v → Began v (Some p) v1 → AreKids c at p ks
@@ -135,7 +135,7 @@ first_of : (ws : List Worker) (i : ℕ) (v v1 : Worker) (p q : List ℕ) (rest :
 first_of ws i v v1 p q rest mine began there = let e : p ∷ v1.hand.items ≡ q ∷ rest = sym began.0 ∙ hand_is ws i v (q ∷ rest) mine there in cc
 
 pub not_split : (c : Choices) (at : Outputs) (ws : List Worker) (i : ℕ) (v v1 : Worker) (p ks : List ℕ) (past : Past) → slice_get ws i ≡ Some v → Began v (Some p) v1 → (AreKids c at p ks → ⊥)
-    → (u : State) → Splits c at (state_of ws past) i ks u → ⊥
+    → (u : WorkersState) → Splits c at (state_of ws past) i ks u → ⊥
 not_split c at ws i v v1 p ks past mine began none u s = none (subst (λ (q : List ℕ). AreKids c at q ks) (first_of ws i v v1 p s.1 s.0 mine began s.2) s.3)
 
 pub nothing_begun : (ws : List Worker) (i : ℕ) (v v1 : Worker) (p : List ℕ) (rest : Paths) → slice_get ws i ≡ Some v → Began v None v1 → slice_get (hands_of ws) i ≡ Some (p ∷ rest) → ⊥
@@ -147,11 +147,11 @@ began_there ws i v v1 p mine began = hands_get ws i v mine ∙ ap Some began.0
 pub ends_insert : (p : List ℕ) (os : List Out) (es : List (List ℕ × List Out)) → ends_of (insert p os es) ≡ insert p (outs_of os) (ends_of es)
 ends_insert p os [] = refl
 ends_insert p os (e ∷ es) =
-    elim (is_before p e.0) as (λ b. ends_of (if b then (p, os) ∷ e ∷ es else e ∷ insert p os es) ≡ (if b then (p, outs_of os) ∷ (e.0, outs_of e.1) ∷ ends_of es else (e.0, outs_of e.1) ∷ insert p (outs_of os) (ends_of es)))
+    elim (is_path_before p e.0) as (λ b. ends_of (if b then (p, os) ∷ e ∷ es else e ∷ insert p os es) ≡ (if b then (p, outs_of os) ∷ (e.0, outs_of e.1) ∷ ends_of es else (e.0, outs_of e.1) ∷ insert p (outs_of os) (ends_of es)))
     [ true ↦ refl | false ↦ ap (λ l. (e.0, outs_of e.1) ∷ l) (ends_insert p os es) ]
 
 pub end_made : (at : Outputs) (ws : List Worker) (i : ℕ) (v v1 : Worker) (p : List ℕ) (os : List Out) (ends later : List (List ℕ × List Out)) (skipped : Paths) → slice_get ws i ≡ Some v → Began v (Some p) v1 → outs_of os ≡ at p
-    → later ≡ insert p os ends → Ends at (state_of ws (past_of ends skipped)) i (state_of (set ws i v1) (past_of later skipped))
+    → later ≡ insert p os ends → EndsPath at (state_of ws (past_of ends skipped)) i (state_of (set ws i v1) (past_of later skipped))
 end_made at ws i v v1 p os ends later skipped mine began outs is = (
   v1.hand.items,
   p,
@@ -160,7 +160,7 @@ end_made at ws i v v1 p os ends later skipped mine began outs is = (
 )
 
 pub skip_made : (ws : List Worker) (i : ℕ) (v v1 : Worker) (p : List ℕ) (n : ℕ) (ends : List (List ℕ × List Out)) (skipped later : Paths) → slice_get ws i ≡ Some v → Began v (Some p) v1 → n ≤ found_before p (ends_of ends)
-    → later ≡ skipped ++ p ∷ [] → Skips (state_of ws (past_of ends skipped)) i n (state_of (set ws i v1) (past_of ends later))
+    → later ≡ skipped ++ p ∷ [] → SkipsPath (state_of ws (past_of ends skipped)) i n (state_of (set ws i v1) (past_of ends later))
 skip_made ws i v v1 p n ends skipped later mine began enough is = (
   v1.hand.items,
   p,
@@ -170,7 +170,7 @@ skip_made ws i v v1 p n ends skipped later mine began enough is = (
 )
 
 pub not_skipped : (ws : List Worker) (i : ℕ) (v v1 : Worker) (p : List ℕ) (n : ℕ) (ends : List (List ℕ × List Out)) (skipped : Paths) → slice_get ws i ≡ Some v → Began v (Some p) v1 → found_before p (ends_of ends) < n
-    → (u : State) → Skips (state_of ws (past_of ends skipped)) i n u → ⊥
+    → (u : WorkersState) → SkipsPath (state_of ws (past_of ends skipped)) i n u → ⊥
 not_skipped ws i v v1 p n ends skipped mine began short u s =
     let e = first_of ws i v v1 p s.1 s.0 mine began s.2 in
     let z = s.3 in
@@ -194,14 +194,14 @@ first_more zero x l = absurd (omega arith)
 first_more (suc n) x l = ap (λ l. x ∷ l) (nones_more n)
 
 -- one more worker with nothing
-pub one_more : (ws : List Worker) (w : Worker) (n : ℕ) → 1 ≤ n → w.hand.items ≡ [] → w.deque.items ≡ [] → state_of ws (over [] []) ≡ start n → state_of (ws ++ w ∷ []) (over [] []) ≡ start (n + 1)
+pub one_more : (ws : List Worker) (w : Worker) (n : ℕ) → 1 ≤ n → w.hand.items ≡ [] → w.deque.items ≡ [] → state_of ws (over [] []) ≡ start_state n → state_of (ws ++ w ∷ []) (over [] []) ≡ start_state (n + 1)
 one_more ws w n l hand deque is =
-    let hands : hands_of (ws ++ w ∷ []) ≡ set (nones (suc n)) 0 ([] ∷ []) = hands_both ws (w ∷ []) ∙ ap (λ x. hands_of ws ++ x ∷ []) hand ∙ ap (λ (s : State). s.hands ++ [] ∷ []) is ∙ first_more n ([] ∷ []) l in
-    let deques : deques_of (ws ++ w ∷ []) ≡ nones (suc n) = deques_both ws (w ∷ []) ∙ ap (λ x. deques_of ws ++ x ∷ []) deque ∙ ap (λ (s : State). s.deques ++ [] ∷ []) is ∙ nones_more n in
-    subst (λ (m : ℕ). state_of (ws ++ w ∷ []) (over [] []) ≡ start m) (sym (add-one n)) (λ k. state (hands k) (deques k) (over [] []))
+    let hands : hands_of (ws ++ w ∷ []) ≡ set (nones (suc n)) 0 ([] ∷ []) = hands_both ws (w ∷ []) ∙ ap (λ x. hands_of ws ++ x ∷ []) hand ∙ ap (λ (s : WorkersState). s.hands ++ [] ∷ []) is ∙ first_more n ([] ∷ []) l in
+    let deques : deques_of (ws ++ w ∷ []) ≡ nones (suc n) = deques_both ws (w ∷ []) ∙ ap (λ x. deques_of ws ++ x ∷ []) deque ∙ ap (λ (s : WorkersState). s.deques ++ [] ∷ []) is ∙ nones_more n in
+    subst (λ (m : ℕ). state_of (ws ++ w ∷ []) (over [] []) ≡ start_state m) (sym (add-one n)) (λ k. state (hands k) (deques k) (over [] []))
 
-pub steps_more : (c : Choices) (at : Outputs) (s : State) (es : List Event) (u : State) (e : Event) (t : State) → AreSteps c at s es u → IsStep c at u e t → AreSteps c at s (es ++ e ∷ []) t
-steps_more c at s [] u e t h step = (t, subst (λ (x : State). IsStep c at x e t) h step, refl)
+pub steps_more : (c : Choices) (at : Outputs) (s : WorkersState) (es : List Event) (u : WorkersState) (e : Event) (t : WorkersState) → AreSteps c at s es u → IsStep c at u e t → AreSteps c at s (es ++ e ∷ []) t
+steps_more c at s [] u e t h step = (t, subst (λ (x : WorkersState). IsStep c at x e t) h step, refl)
 steps_more c at s (x ∷ xs) u e t h step = (h.0, h.1, steps_more c at h.0 xs u e t h.2 step)
 
 pub joined_more : (ls : List Paths) (l : Paths) → joined_all (ls ++ l ∷ []) ≡ joined_all ls ++ l

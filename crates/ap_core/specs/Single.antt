@@ -3,14 +3,14 @@ use Rattle.std.specs.Prelude.{◌≡◌, ℕ, Bool, true, false, Option, Some, N
 use Rattle.ap_core.specs.declared.workers.Worker.{Worker}
 
 -- the last path of the hand went to the back of the deque, or the hand is empty
-abbrev pub Pushed : Worker → Bool → Worker → Type 0
-Pushed v true w = (rest : List (List ℕ)) × (p : List ℕ) × (v.hand.items ≡ rest ++ p ∷ []) × (w.hand.items ≡ rest) × (w.deque.items ≡ v.deque.items ++ p ∷ [])
-Pushed v false w = v.hand.items ≡ []
+abbrev pub PushedAlone : Worker → Bool → Worker → Type 0
+PushedAlone v true w = (rest : List (List ℕ)) × (p : List ℕ) × (v.hand.items ≡ rest ++ p ∷ []) × (w.hand.items ≡ rest) × (w.deque.items ≡ v.deque.items ++ p ∷ [])
+PushedAlone v false w = v.hand.items ≡ []
 
 -- the hand was empty and the last path of the deque came there, or that cannot be
-abbrev pub Popped : Worker → Bool → Worker → Type 0
-Popped v true w = (rest : List (List ℕ)) × (p : List ℕ) × (v.hand.items ≡ []) × (v.deque.items ≡ rest ++ p ∷ []) × (w.hand.items ≡ p ∷ []) × (w.deque.items ≡ rest)
-Popped v false w = (rest : List (List ℕ)) (p : List ℕ) → v.hand.items ≡ [] → v.deque.items ≡ rest ++ p ∷ [] → ⊥
+abbrev pub PoppedAlone : Worker → Bool → Worker → Type 0
+PoppedAlone v true w = (rest : List (List ℕ)) × (p : List ℕ) × (v.hand.items ≡ []) × (v.deque.items ≡ rest ++ p ∷ []) × (w.hand.items ≡ p ∷ []) × (w.deque.items ≡ rest)
+PoppedAlone v false w = (rest : List (List ℕ)) (p : List ℕ) → v.hand.items ≡ [] → v.deque.items ≡ rest ++ p ∷ [] → ⊥
 
 -- the first path of the deque went, or the deque is empty
 abbrev pub Gave : Worker → Option (List ℕ) → Worker → Type 0

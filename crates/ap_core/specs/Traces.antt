@@ -5,22 +5,22 @@ use Rattle.ap_core.specs.declared.events.Event.TheVariants.{Push, Pop, Steal, Sp
 use Rattle.ap_paths.specs.Entries.{TreeEntry, split, done, skip, stop}
 use Rattle.ap_paths.specs.History.{kids_of, seat_of}
 use Rattle.ap_paths.specs.Trees.{Choices, Outputs}
-use Rattle.ap_core.specs.States.{State}
+use Rattle.ap_core.specs.States.{WorkersState}
 use Rattle.ap_core.specs.Steps.{IsStep}
 
 -- the entries that an event makes at this state: one where a path is split, ends or is left out
-abbrev pub Makes : Outputs → State → Event → List TreeEntry → Type 0
-Makes at s (Push w) es = es ≡ []
-Makes at s (Pop w) es = es ≡ []
-Makes at s (Steal w from) es = es ≡ []
-Makes at s (Split w ks) es = (p : List ℕ) × (rest : List (List ℕ)) × (slice_get s.hands w ≡ Some (p ∷ rest)) × (es ≡ split w p ks ∷ [])
-Makes at s (Done w) es = (p : List ℕ) × (rest : List (List ℕ)) × (slice_get s.hands w ≡ Some (p ∷ rest)) × (es ≡ done w p (at p) ∷ [])
-Makes at s (Skip w n) es = (p : List ℕ) × (rest : List (List ℕ)) × (slice_get s.hands w ≡ Some (p ∷ rest)) × (es ≡ skip w p n ∷ [])
+abbrev pub MakesEntries : Outputs → WorkersState → Event → List TreeEntry → Type 0
+MakesEntries at s (Push w) es = es ≡ []
+MakesEntries at s (Pop w) es = es ≡ []
+MakesEntries at s (Steal w from) es = es ≡ []
+MakesEntries at s (Split w ks) es = (p : List ℕ) × (rest : List (List ℕ)) × (slice_get s.hands w ≡ Some (p ∷ rest)) × (es ≡ split w p ks ∷ [])
+MakesEntries at s (Done w) es = (p : List ℕ) × (rest : List (List ℕ)) × (slice_get s.hands w ≡ Some (p ∷ rest)) × (es ≡ done w p (at p) ∷ [])
+MakesEntries at s (Skip w n) es = (p : List ℕ) × (rest : List (List ℕ)) × (slice_get s.hands w ≡ Some (p ∷ rest)) × (es ≡ skip w p n ∷ [])
 
 -- the events are permitted, lead from s to t, and make these entries, in order
-abbrev pub Leads : Choices → Outputs → State → List Event → State → List TreeEntry → Type 0
-Leads c at s [] t history = (t ≡ s) × (history ≡ [])
-Leads c at s (e ∷ es) t history = (u : State) × (made : List TreeEntry) × (later : List TreeEntry) × IsStep c at s e u × Makes at s e made × Leads c at u es t later × (history ≡ made ++ later)
+abbrev pub EventsLead : Choices → Outputs → WorkersState → List Event → WorkersState → List TreeEntry → Type 0
+EventsLead c at s [] t history = (t ≡ s) × (history ≡ [])
+EventsLead c at s (e ∷ es) t history = (u : WorkersState) × (made : List TreeEntry) × (later : List TreeEntry) × IsStep c at s e u × MakesEntries at s e made × EventsLead c at u es t later × (history ≡ made ++ later)
 
 -- the numbers of all seats are below n
 abbrev pub AreSeats : ℕ → List TreeEntry → Type 0

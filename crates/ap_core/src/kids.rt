@@ -2,7 +2,7 @@
 
 ghost use Rattle.std.specs.Prelude.{◌≡◌, ℕ, ◌+◌, ◌∷◌, ◌++◌, [], ◌<◌, ◌≤◌, IfOk, Some, drop, length};
 ghost use Rattle.std.specs.Bool.{MatchBool};
-ghost use Rattle.ap_paths.specs.Trees.{InTree, AreKids};
+ghost use Rattle.ap_paths.specs.Trees.{InChoiceTree, AreKids};
 ghost use Rattle.ap_core.specs.Covers.{covers, is_none, starts};
 
 use ap_defs::memory::Memory;
@@ -13,7 +13,7 @@ use std::alloc::Global;
 /// Whether the kids are ascending choices of the path, and each choice that they leave out has no
 /// outputs below it.
 pub fn are_kids<T: Tree>(alloc: Global, tree: &T, path: &Path, kids: &[u32]) -> Result<bool, Memory>
-    requires { InTree (T.choices tree.now) path.now }
+    requires { InChoiceTree (T.choices tree.now) path.now }
     ensures { IfOk result (λ b. MatchBool b (AreKids (T.choices tree.now) (T.at tree.now) path.now
         kids.now) (AreKids (T.choices tree.now) (T.at tree.now) path.now kids.now → ⊥)) }
 {
@@ -32,7 +32,7 @@ fn cover<T: Tree>(
     width: u32,
     kids: &[u32],
 ) -> Result<bool, Memory>
-    requires inside { InTree (T.choices tree.now) path.now }
+    requires inside { InChoiceTree (T.choices tree.now) path.now }
     requires wide { T.choices tree.now path.now ≡ Some width }
     ensures { IfOk result (λ b. b ≡ covers (T.at tree.now) path.now 1 width kids.now) }
 {
@@ -57,7 +57,7 @@ fn starts_at(kids: &[u32], at: usize, k: u32) -> bool
 
 /// Whether nothing is below a choice of the path.
 fn is_barren<T: Tree>(alloc: Global, tree: &T, path: &Path, k: u32) -> Result<bool, Memory>
-    requires { InTree (T.choices tree.now) (path.now ++ k ∷ []) }
+    requires { InChoiceTree (T.choices tree.now) (path.now ++ k ∷ []) }
     ensures { IfOk result (λ b. b ≡ is_none (T.at tree.now (path.now ++ k ∷ []))) }
 {
     let kid = path.child(alloc, k)?;

@@ -1,7 +1,7 @@
 //! A list of events, played from the start.
 
 ghost use Rattle.std.specs.Prelude.{◌≡◌, ◌≤◌, [], ◌++◌, IfOk, MatchOption};
-ghost use Rattle.ap_core.specs.States.{joined_all, over, pending, start};
+ghost use Rattle.ap_core.specs.States.{joined_all, over, pending, start_state};
 ghost use Rattle.ap_core.specs.Steps.{StopsAt};
 ghost use Rattle.ap_core.specs.Stages.{state_of, hands_of, deques_of, past_of, core_state, IsCoreAfter};
 
@@ -29,7 +29,7 @@ pub fn play<T: Tree>(
     requires some { 1 ≤ workers }
     requires few { workers ≤ 64 }
     ensures { IfOk result (λ o. MatchOption o (StopsAt (T.choices tree.now) (T.at tree.now)
-        (start workers) events.now) (IsCoreAfter (T.choices tree.now) (T.at tree.now) workers
+        (start_state workers) events.now) (IsCoreAfter (T.choices tree.now) (T.at tree.now) workers
         events.now)) }
 {
     let mut team = gather(alloc, workers)?;
@@ -55,7 +55,7 @@ pub fn play<T: Tree>(
 /// So many workers, the first one with the empty path in its hand.
 fn gather(alloc: Global, workers: u32) -> Result<Vec<Worker>, Memory>
     requires { 1 ≤ workers }
-    ensures { IfOk result (λ v. state_of v.items (over [] []) ≡ start workers) }
+    ensures { IfOk result (λ v. state_of v.items (over [] []) ≡ start_state workers) }
 {
     let mut first = Worker::new(alloc);
     first.take(Path::root(alloc))?;

@@ -2,7 +2,7 @@
 
 ghost use Rattle.std.specs.Prelude.{◌≡◌, ℕ, List as list, IfOk};
 ghost use Rattle.ap_core.specs.States.{Past};
-ghost use Rattle.ap_core.specs.Steps.{Splits, Ends, Skips, IsStep};
+ghost use Rattle.ap_core.specs.Steps.{Splits, EndsPath, SkipsPath, IsStep};
 ghost use Rattle.ap_core.specs.Stages.{state_of, hands_of, past_of, Answered, AreFirstsInTree};
 
 use crate::events::Event;
@@ -52,7 +52,7 @@ fn done<T: Tree>(
 ) -> Result<bool, Memory>
     requires { AreFirstsInTree (T.choices tree.now) (hands_of workers.old) }
     ensures { (skipped : list (list ℕ)) →
-        IfOk result (λ b. Answered (Ends (T.at tree.now) (state_of workers.old
+        IfOk result (λ b. Answered (EndsPath (T.at tree.now) (state_of workers.old
         (past_of endings.old skipped)) w) b (state_of workers.new (past_of endings.new skipped))) }
 {
     if w >= workers.len() {
@@ -75,7 +75,7 @@ fn skip(
     w: usize,
     found: u64,
 ) -> Result<bool, Memory>
-    ensures { IfOk result (λ b. Answered (Skips (state_of workers.old
+    ensures { IfOk result (λ b. Answered (SkipsPath (state_of workers.old
         (past_of endings.now skipped.old.items)) w found) b (state_of workers.new
         (past_of endings.now skipped.new.items))) }
 {

@@ -3,7 +3,7 @@
 ghost use Rattle.std.specs.Prelude.{◌≡◌, [], ◌∷◌, ◌++◌, IfOk, IsTrue, ◌↔◌};
 ghost use Rattle.ap_paths.specs.History.{kids_of};
 ghost use Rattle.ap_core.specs.States.{Past};
-ghost use Rattle.ap_core.specs.Single.{Pushed, Popped, Gave, Began};
+ghost use Rattle.ap_core.specs.Single.{PushedAlone, PoppedAlone, Gave, Began};
 ghost use Rattle.ap_core.specs.Steps.{Pushes, Pops, Steals};
 ghost use Rattle.ap_core.specs.Stages.{state_of, Answered};
 
@@ -33,7 +33,7 @@ impl Worker {
 
     /// Puts the last path of the hand at the back of the deque.
     fn push(&mut self) -> Result<bool, Memory>
-        ensures { IfOk result (λ b. Pushed self.old b self.new) }
+        ensures { IfOk result (λ b. PushedAlone self.old b self.new) }
     {
         let Some(path) = self.hand.pop_back() else {
             return Ok(false);
@@ -44,7 +44,7 @@ impl Worker {
 
     /// Takes the last path of the deque into the hand, if that is empty.
     fn pop(&mut self) -> Result<bool, Memory>
-        ensures { IfOk result (λ b. Popped self.old b self.new) }
+        ensures { IfOk result (λ b. PoppedAlone self.old b self.new) }
     {
         if !self.hand.is_empty() {
             return Ok(false);

@@ -4,7 +4,7 @@ use Rattle.std.specs.List.{AllByRecursion}
 use Rattle.std.specs.Prelude.{IfOk}
 use Rattle.std.proofs.lemmas.List.{map-append}
 use Rattle.std.proofs.lemmas.Result.{IfOk-weaker}
-use Rattle.ap_defs.specs.Derivations.{NominalDerivation, derivation_of, weight}
+use Rattle.ap_defs.specs.Derivations.{NominalDerivation, derivation_of, derivation_weight}
 use Rattle.ap_defs.specs.Goals.{Clauses, NominalGoal}
 use Rattle.ap_count.specs.Uses.{ClauseUse, uses, uses_in_each}
 use Rattle.ap_count.proofs.UseLemmas.{with_uses_append}
@@ -26,7 +26,7 @@ each_append program g [] es = refl
 each_append program g (d ∷ ds) es =
     ap (λ us. uses program d g ++ us) (each_append program g ds es) ∙ sym (append_assoc (uses program d g) (uses_in_each program g ds) (uses_in_each program g es))
 
-pub last_weight : (ws : List Waiting) (w : Waiting) → weight_of_all (ws ++ w ∷ []) ≡ weight (derivation_of w.derivation.now) + weight_of_all ws
+pub last_weight : (ws : List Waiting) (w : Waiting) → weight_of_all (ws ++ w ∷ []) ≡ derivation_weight (derivation_of w.derivation.now) + weight_of_all ws
 last_weight [] w = refl
 last_weight (v ∷ ws) w = let more = last_weight ws w in omega (arith, more)
 

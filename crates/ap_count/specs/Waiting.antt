@@ -1,6 +1,6 @@
 -- Goals that wait with their derivations, the next one last.
 use Rattle.std.specs.Prelude.{ℕ, ◌+◌, List, [], ◌∷◌, ◌++◌, Option, None, Some}
-use Rattle.ap_defs.specs.Derivations.{derivation_of, weight}
+use Rattle.ap_defs.specs.Derivations.{derivation_of, derivation_weight}
 use Rattle.ap_defs.specs.Goals.{Clauses, goal_of}
 use Rattle.ap_count.specs.declared.walk.Waiting.{Waiting}
 use Rattle.ap_count.specs.Uses.{ClauseUse, uses}
@@ -21,4 +21,4 @@ if_any (Some a) uses_of = uses_of a
 -- how many nodes are left at most
 abbrev pub weight_of_all : List Waiting → ℕ
 weight_of_all [] = 0
-weight_of_all (w ∷ ws) = weight (derivation_of w.derivation.now) + weight_of_all ws
+weight_of_all (w ∷ ws) = derivation_weight (derivation_of w.derivation.now) + weight_of_all ws

@@ -3,7 +3,7 @@
 ghost use Rattle.std.specs.Prelude.{◌≡◌, ◌≤◌, ◌<◌, ◌+◌, ℕ, ◌++◌, MatchOption, None, Some, OnOk, List as list};
 ghost use Rattle.ap_defs.specs.declared.terms.Name.{Name as name};
 ghost use Rattle.ap_defs.specs.Derivations as nodes;
-ghost use Rattle.ap_defs.specs.Derivations.{NominalDerivation, derivation_of, weight};
+ghost use Rattle.ap_defs.specs.Derivations.{NominalDerivation, derivation_of, derivation_weight};
 ghost use Rattle.ap_defs.specs.Goals.{Clauses, clause_of, clauses_of, goal_of, program_in};
 ghost use Rattle.ap_defs.specs.GroundProofs.{clause_at as clause_numbered};
 ghost use Rattle.ap_defs.specs.Terms.{NominalTerm};
@@ -166,8 +166,8 @@ fn wait_for<'a>(
     ensures uses { (program : Clauses) → OnOk result (uses_of_all program waiting.new.items
         ≡ if_any goal.entry (λ g. uses program (derivation_of derivation.now) (goal_of g.now))
         ++ uses_of_all program waiting.old.items) }
-    ensures weight { OnOk result (weight_of_all waiting.new.items
-        ≤ weight (derivation_of derivation.now) + weight_of_all waiting.old.items) }
+    ensures derivation_weight { OnOk result (weight_of_all waiting.new.items
+        ≤ derivation_weight (derivation_of derivation.now) + weight_of_all waiting.old.items) }
 {
     if let Some(goal) = goal {
         waiting.push(Waiting { goal, derivation })?;
@@ -182,8 +182,8 @@ fn wait_for_both<'a>(
     right: &'a Derivation,
     waiting: &mut Vec<Waiting<'a>>,
 ) -> Result<(), Memory>
-    ensures weight { OnOk result (weight_of_all waiting.new.items
-        ≤ weight (derivation_of left.now) + weight (derivation_of right.now)
+    ensures derivation_weight { OnOk result (weight_of_all waiting.new.items
+        ≤ derivation_weight (derivation_of left.now) + derivation_weight (derivation_of right.now)
         + weight_of_all waiting.old.items) }
     ensures uses { (program : Clauses) → OnOk result (uses_of_all program waiting.new.items
         ≡ if_any goals.entry (λ p. uses program (derivation_of left.now) (goal_of p.0.now)
@@ -206,8 +206,8 @@ fn count_clause<'a>(
     waiting: &mut Vec<Waiting<'a>>,
     table: &mut Vec<Vec<u64>>,
 ) -> Result<(), Memory>
-    ensures weight { OnOk result (weight_of_all waiting.new.items
-        ≤ weight (derivation_of below.now) + weight_of_all waiting.old.items) }
+    ensures derivation_weight { OnOk result (weight_of_all waiting.new.items
+        ≤ derivation_weight (derivation_of below.now) + weight_of_all waiting.old.items) }
     ensures uses { OnOk result (
         with_uses (uses_of_all (program_in program.now) waiting.new.items) (counts_of table.new)
         ≡ with_uses (uses_of_clause (program_in program.now) pred number (derivation_of below.now)
@@ -228,8 +228,9 @@ fn count_node<'a>(
     waiting: &mut Vec<Waiting<'a>>,
     table: &mut Vec<Vec<u64>>,
 ) -> Result<(), Memory>
-    ensures weight { OnOk result (weight_of_all waiting.new.items
-        < weight (derivation_of node.entry.derivation.now) + weight_of_all waiting.old.items) }
+    ensures derivation_weight { OnOk result (weight_of_all waiting.new.items
+        < derivation_weight (derivation_of node.entry.derivation.now)
+        + weight_of_all waiting.old.items) }
     ensures uses { OnOk result (
         with_uses (uses_of_all (program_in program.now) waiting.new.items) (counts_of table.new)
         ≡ with_uses (uses_waiting (program_in program.now) node.entry

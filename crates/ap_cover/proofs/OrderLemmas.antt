@@ -4,7 +4,7 @@ use Rattle.std.specs.Prelude.{◌==◌, if◌then◌else◌, nat_lt, slice_get}
 use Rattle.ap_defs.specs.Answers as answers
 use Rattle.ap_defs.specs.Answers.{NominalAnswer, NominalOut, out_path}
 use Rattle.ap_defs.specs.PathOrder.{has_prefix}
-use Rattle.ap_search.specs.PathTrees.{AllAfter, AreInPathOrder, is_before}
+use Rattle.ap_search.specs.PathTrees.{AllOutsAfter, AreInPathOrder, is_before}
 use Rattle.ap_theory.proofs.BooleanLemmas.{and_both, and_left, and_right, false_if_not}
 use Rattle.ap_theory.proofs.TermLemmas.{number_same, same_number}
 use Rattle.ap_complete.specs.NumberedProofs.{IsAmong}
@@ -25,13 +25,13 @@ begins_itself : (l : List ℕ) → has_prefix l l ≡ true
 begins_itself [] = refl
 begins_itself (k ∷ l) = and_both (k == k) (has_prefix l l) (same_number k k refl) (begins_itself l)
 
-after_one : (l : List ℕ) (os : List NominalOut) → AllAfter l os → (o : NominalOut) → IsAmong o os → is_before l (out_path o) ≡ true
+after_one : (l : List ℕ) (os : List NominalOut) → AllOutsAfter l os → (o : NominalOut) → IsAmong o os → is_before l (out_path o) ≡ true
 after_one l [] h o i = absurd i
 after_one l (w ∷ os) h o (inl e) = ap (λ z. is_before l (out_path z)) (sym e) ∙ h.0
 after_one l (w ∷ os) h o (inr i) = after_one l os h.1 o i
 
 -- an output before it does not begin the path that it begins
-not_before : (w o : NominalOut) (os : List NominalOut) (path : List ℕ) → AllAfter (out_path w) os → IsAmong o os → has_prefix (out_path o) path ≡ true → has_prefix (out_path w) path ≡ false
+not_before : (w o : NominalOut) (os : List NominalOut) (path : List ℕ) → AllOutsAfter (out_path w) os → IsAmong o os → has_prefix (out_path o) path ≡ true → has_prefix (out_path w) path ≡ false
 not_before w o os path h i b = false_if_not (has_prefix (out_path w) path) (λ k. both_begin (out_path w) (out_path o) path (after_one (out_path w) os h o i) k b)
 
 not_same : (l path : List ℕ) → has_prefix l path ≡ false → is_same_path l path ≡ false

@@ -2,7 +2,7 @@
 use Rattle.std.proofs.Common.{◌≡◌, ◌+◌, ◌<◌, ℕ, suc, List, [], ◌∷◌, ◌++◌, Result, refl, sym, ap, ap₂, ◌∙◌, append-nil, append_assoc, arith}
 use Rattle.std.specs.Prelude.{IfOk}
 use Rattle.std.proofs.lemmas.Result.{IfOk-weaker}
-use Rattle.ap_defs.specs.Derivations.{derivation_of, path, weight}
+use Rattle.ap_defs.specs.Derivations.{derivation_of, path, derivation_weight}
 use Rattle.ap_cover.specs.Waiting.{paths_waiting, weight_waiting}
 use Rattle.ap_cover.specs.declared.path.Waiting.{Waiting}
 
@@ -13,7 +13,7 @@ last_path (v ∷ ws) w =
     ap (λ l. l ++ path (derivation_of v.derivation.now)) (last_path ws w)
     ∙ append_assoc (path (derivation_of w.derivation.now)) (paths_waiting ws) (path (derivation_of v.derivation.now))
 
-pub last_weight : (ws : List Waiting) (w : Waiting) → weight_waiting (ws ++ w ∷ []) ≡ weight (derivation_of w.derivation.now) + weight_waiting ws
+pub last_weight : (ws : List Waiting) (w : Waiting) → weight_waiting (ws ++ w ∷ []) ≡ derivation_weight (derivation_of w.derivation.now) + weight_waiting ws
 last_weight [] w = refl
 last_weight (v ∷ ws) w = let more = last_weight ws w in omega (arith, more)
 

@@ -1,7 +1,7 @@
 //! The paths of derivations.
 
 ghost use Rattle.std.specs.Prelude.{◌≡◌, ◌<◌, ◌+◌, ◌∷◌, ◌++◌, IfOk, OnOk};
-ghost use Rattle.ap_defs.specs.Derivations.{derivation_of, path, weight};
+ghost use Rattle.ap_defs.specs.Derivations.{derivation_of, path, derivation_weight};
 ghost use Rattle.ap_cover.specs.Waiting.{paths_waiting, weight_waiting};
 
 use ap_defs::memory::Memory;
@@ -17,8 +17,8 @@ struct Waiting<'a> {
 
 /// Has a derivation wait.
 fn wait_for<'a>(derivation: &'a Derivation, waiting: &mut Vec<Waiting<'a>>) -> Result<(), Memory>
-    ensures weight { OnOk result (weight_waiting waiting.new.items
-        ≡ weight (derivation_of derivation.now) + weight_waiting waiting.old.items) }
+    ensures derivation_weight { OnOk result (weight_waiting waiting.new.items
+        ≡ derivation_weight (derivation_of derivation.now) + weight_waiting waiting.old.items) }
     ensures path { OnOk result (paths_waiting waiting.new.items
         ≡ path (derivation_of derivation.now) ++ paths_waiting waiting.old.items) }
 {
@@ -32,8 +32,8 @@ fn wait_for_both<'a>(
     right: &'a Derivation,
     waiting: &mut Vec<Waiting<'a>>,
 ) -> Result<(), Memory>
-    ensures weight { OnOk result (weight_waiting waiting.new.items
-        ≡ weight (derivation_of left.now) + (weight (derivation_of right.now)
+    ensures derivation_weight { OnOk result (weight_waiting waiting.new.items
+        ≡ derivation_weight (derivation_of left.now) + (derivation_weight (derivation_of right.now)
         + weight_waiting waiting.old.items)) }
     ensures path { OnOk result (paths_waiting waiting.new.items
         ≡ path (derivation_of left.now) ++ (path (derivation_of right.now)
@@ -50,8 +50,8 @@ fn choose_then<'a>(
     waiting: &mut Vec<Waiting<'a>>,
     choices: &mut Vec<u32>,
 ) -> Result<(), Memory>
-    ensures weight { OnOk result (weight_waiting waiting.new.items
-        ≡ weight (derivation_of below.now) + weight_waiting waiting.old.items) }
+    ensures derivation_weight { OnOk result (weight_waiting waiting.new.items
+        ≡ derivation_weight (derivation_of below.now) + weight_waiting waiting.old.items) }
     ensures path { OnOk result (choices.new.items ++ paths_waiting waiting.new.items
         ≡ choices.old.items ++ ((choice ∷ path (derivation_of below.now))
         ++ paths_waiting waiting.old.items)) }
@@ -66,8 +66,9 @@ fn add_node<'a>(
     waiting: &mut Vec<Waiting<'a>>,
     choices: &mut Vec<u32>,
 ) -> Result<(), Memory>
-    ensures weight { OnOk result (weight_waiting waiting.new.items
-        < weight (derivation_of node.entry.derivation.now) + weight_waiting waiting.old.items) }
+    ensures derivation_weight { OnOk result (weight_waiting waiting.new.items
+        < derivation_weight (derivation_of node.entry.derivation.now)
+        + weight_waiting waiting.old.items) }
     ensures path { OnOk result (choices.new.items ++ paths_waiting waiting.new.items
         ≡ choices.old.items ++ (path (derivation_of node.entry.derivation.now)
         ++ paths_waiting waiting.old.items)) }

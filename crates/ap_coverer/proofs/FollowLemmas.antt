@@ -8,7 +8,7 @@ use Rattle.ap_defs.specs.PathOrder.{has_prefix}
 use Rattle.ap_defs.specs.Paths.{Choice}
 use Rattle.ap_defs.specs.declared.paths.Node.{Node}
 use Rattle.ap_defs.specs.declared.paths.Node.TheVariants as nodes
-use Rattle.ap_paths.specs.Trees.{Choices, GoesOn, InTree, IsChoice, joined}
+use Rattle.ap_paths.specs.Trees.{Choices, GoesOn, InChoiceTree, IsChoice, joined_below}
 use Rattle.ap_search.specs.PathTrees.{query_choice, query_choices}
 use Rattle.ap_search.proofs.PrefixLemmas.{prefix_itself, prefix_longer, prefix_shorter}
 use Rattle.ap_search.proofs.QueryTreeLemmas.{query_tree}
@@ -69,15 +69,15 @@ module _ (program : Clauses) (depth : ℕ) (q : NominalQuery) where
   abbrev at : List ℕ → List NominalOut
   at = outs_at program depth q
 
-  below : (o : NominalOut) (p : List ℕ) (i n : ℕ) → IsAmong o (joined at p i n) → (k : ℕ) × (i ≤ k) × (k < i + n) × (has_prefix (p ++ k ∷ []) (out_path o) ≡ true)
+  below : (o : NominalOut) (p : List ℕ) (i n : ℕ) → IsAmong o (joined_below at p i n) → (k : ℕ) × (i ≤ k) × (k < i + n) × (has_prefix (p ++ k ∷ []) (out_path o) ≡ true)
   below o p i zero h = absurd h
   below o p i (suc n) h =
-      elim (among_split o (at (p ++ i ∷ [])) (joined at p (suc i) n) h) [
+      elim (among_split o (at (p ++ i ∷ [])) (joined_below at p (suc i) n) h) [
         | inl j ↦ (i, omega arith, omega arith, filtered_kept (λ w. has_prefix (p ++ i ∷ []) (out_path w)) o (query_outs program depth q) j)
         | inr j ↦ let r = below o p (suc i) n j in let l = r.1 in let m = r.2 in (r.0, omega (arith, l), omega (arith, m), r.3)
       ]
 
-  below_choice : (o : NominalOut) (p : List ℕ) (w : ℕ) → InTree choices p → choices p ≡ Some w → IsAmong o (at p)
+  below_choice : (o : NominalOut) (p : List ℕ) (w : ℕ) → InChoiceTree choices p → choices p ≡ Some w → IsAmong o (at p)
       → (k : ℕ) × (1 ≤ k) × (k ≤ w) × (has_prefix (p ++ k ∷ []) (out_path o) ≡ true)
   below_choice o p w t e i =
       let r = below o p 1 w (subst (IsAmong o) (query_tree program depth q p w e) i) in
@@ -89,7 +89,7 @@ module _ (program : Clauses) (depth : ℕ) (q : NominalQuery) where
     among_at p h = among_filtered (λ w. has_prefix p (out_path w)) o (query_outs program depth q) among h
 
     -- the way to the path comes to the output
-    goes_within : (done ks : List ℕ) → InTree choices done → GoesOn choices done ks → has_prefix (done ++ ks) path ≡ true → has_prefix done (out_path o) ≡ true
+    goes_within : (done ks : List ℕ) → InChoiceTree choices done → GoesOn choices done ks → has_prefix (done ++ ks) path ≡ true → has_prefix done (out_path o) ≡ true
         → has_prefix (done ++ ks) (out_path o) ≡ true
     goes_within done [] t g h k = ap (λ l. has_prefix l (out_path o)) (append-nil done) ∙ k
     goes_within done (j ∷ ks) t g h k =
@@ -105,7 +105,7 @@ module _ (program : Clauses) (depth : ℕ) (q : NominalQuery) where
         ] refl
 
     -- so where it stops it stands at the output
-    module _ (l rest : List ℕ) (whole : l ++ rest ≡ path) (tree : InTree choices l) where
+    module _ (l rest : List ℕ) (whole : l ++ rest ≡ path) (tree : InChoiceTree choices l) where
       begun : has_prefix l (out_path o) ≡ true
       begun = goes_within [] l tt tree (prefix_shorter l rest path (ap (has_prefix (l ++ rest)) (sym whole) ∙ prefix_itself (l ++ rest))) refl
 
@@ -131,7 +131,7 @@ width_there : (program : Clauses) (depth : ℕ) (q : NominalQuery) (l : List ℕ
 width_there program depth q l w kept h = ap (option_map (λ (c : Choice). c.width)) h
 
 -- where it stops it stands at the answer of the path, or is stuck at a beginning of it
-module _ (program : Clauses) (depth : ℕ) (q : NominalQuery) (path l rest : List ℕ) (whole : l ++ rest ≡ path) (tree : InTree (query_choices program depth q) l) where
+module _ (program : Clauses) (depth : ℕ) (q : NominalQuery) (path l rest : List ℕ) (whole : l ++ rest ≡ path) (tree : InChoiceTree (query_choices program depth q) l) where
   abbrev Refused : Node → Type 0
   Refused n = (k : ℕ) (ks : List ℕ) → rest ≡ k ∷ ks → IsChoiceOfNode k n → ⊥
 
@@ -176,7 +176,7 @@ choice_there program depth q l _ k h c = absurd c
 pub in_search_next : (p : Problem) (b : Branch) (k : ℕ) (l : List ℕ) → IsBranchOf p b → IsChoiceOfNode k b.node → IsInSearch p (path_of_branch b) → l ≡ path_of_branch b ++ k ∷ [] → IsInSearch p l
 in_search_next p b k l of chosen there e q asked =
     let c = query_choices (clauses_in p) p.depth q in
-    subst (InTree c) (sym e)
+    subst (InChoiceTree c) (sym e)
     (goes_one_further c [] (path_of_branch b) k (there q asked) (choice_there (clauses_in p) p.depth q (path_of_branch b) b.node k (branch_node p b of q asked) chosen))
 
 pub branch_ends : (p : Problem) (b : Branch) (path rest : List ℕ) → HasQuery p → IsBranchOf p b → path_of_branch b ++ rest ≡ path → IsInSearch p (path_of_branch b) → CoversPath p path

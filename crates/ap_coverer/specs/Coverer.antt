@@ -42,13 +42,13 @@ pub record IsStuckBefore (p : NominalProgram) (q : NominalQuery) (depth : ℕ) (
   pub stuck : IsAmong (answers.stuck l) (query_outs p.clauses depth q)
   pub begins : has_prefix l (path d.derivation) ≡ true
 
-abbrev pub IsCover : NominalProgram → NominalQuery → ℕ → NominalProved → Covered → Type 0
-IsCover p q depth d (code.Answer l swaps terms) = IsCoveredBy p q depth d l swaps terms
-IsCover p q depth d (code.Stuck l) = IsStuckBefore p q depth d l
+abbrev pub IsCoverOf : NominalProgram → NominalQuery → ℕ → NominalProved → Covered → Type 0
+IsCoverOf p q depth d (code.Answer l swaps terms) = IsCoveredBy p q depth d l swaps terms
+IsCoverOf p q depth d (code.Stuck l) = IsStuckBefore p q depth d l
 
 -- it covers a proof of the problem's query
 abbrev pub CoversProof : Problem → NominalProved → Covered → Type 0
-CoversProof p d c = (q : NominalQuery) → slice_get (queries_in p) (p.query - 1) ≡ Some q → IsCover (program_of_problem p) q p.depth d c
+CoversProof p d c = (q : NominalQuery) → slice_get (queries_in p) (p.query - 1) ≡ Some q → IsCoverOf (program_of_problem p) q p.depth d c
 
 -- the verdict on the proof, for the problem's query, is that it checks
 abbrev pub ChecksFor : Problem → NominalProved → Type 0

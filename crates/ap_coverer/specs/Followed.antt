@@ -6,7 +6,7 @@ use Rattle.ap_defs.specs.Goals.{Clauses, NominalQuery}
 use Rattle.ap_defs.specs.PathOrder.{has_prefix}
 use Rattle.ap_defs.specs.declared.paths.Node.{Node}
 use Rattle.ap_defs.specs.declared.paths.Node.TheVariants as nodes
-use Rattle.ap_paths.specs.Trees.{InTree}
+use Rattle.ap_paths.specs.Trees.{InChoiceTree}
 use Rattle.ap_search.specs.PathTrees.{query_choices}
 use Rattle.ap_backchain.specs.Problems.{clauses_in, queries_in}
 use Rattle.ap_backchain.specs.declared.problem.Problem.{Problem}
@@ -25,7 +25,7 @@ IsEnd _ l path = ⊥
 
 -- the search of the problem's query has each choice of the path
 abbrev pub IsInSearch : Problem → List ℕ → Type 0
-IsInSearch p l = (q : NominalQuery) → slice_get (queries_in p) (p.query - 1) ≡ Some q → InTree (query_choices (clauses_in p) p.depth q) l
+IsInSearch p l = (q : NominalQuery) → slice_get (queries_in p) (p.query - 1) ≡ Some q → InChoiceTree (query_choices (clauses_in p) p.depth q) l
 
 -- it covers the path
 abbrev pub CoversPath : Problem → List ℕ → Type 0

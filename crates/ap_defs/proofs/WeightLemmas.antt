@@ -3,9 +3,9 @@ use Rattle.std.proofs.Common.{◌≡◌, ◌<◌, ◌≤◌, arith}
 use Rattle.ap_defs.specs.declared.outcomes.Derivation as code
 use Rattle.ap_defs.specs.declared.outcomes.Derivation.TheViews.{size-Derivation, deep-Atom', deep-Both', deep-Eq, deep-Exists', deep-Fresh, deep-Left', deep-New', deep-Right', deep-True}
 use Rattle.ap_defs.specs.Derivations as nodes
-use Rattle.ap_defs.specs.Derivations.{DerivationOver, NominalDerivation, derivation_of, weight}
+use Rattle.ap_defs.specs.Derivations.{DerivationOver, NominalDerivation, derivation_of, derivation_weight}
 
-weight_some : {T : Type 0} → (d : DerivationOver T) → 0 < weight d
+weight_some : {T : Type 0} → (d : DerivationOver T) → 0 < derivation_weight d
 weight_some (nodes.atom k as' ts d) = omega arith
 weight_some nodes.equal = omega arith
 weight_some nodes.fresh = omega arith
@@ -27,7 +27,7 @@ size_some (code.Right' p d) = let h = deep-Right' p d in omega (arith, h)
 size_some (code.Exists' t p d) = let h = deep-Exists' t p d in omega (arith, h)
 size_some (code.New' a p d) = let h = deep-New' a p d in omega (arith, h)
 
-leaf_size : (d : code.Derivation) → weight (derivation_of d) ≡ 1 → size-Derivation d ≡ 1
+leaf_size : (d : code.Derivation) → derivation_weight (derivation_of d) ≡ 1 → size-Derivation d ≡ 1
 leaf_size (code.Atom' u p d) e = let h = weight_some (derivation_of d) in absurd (omega (arith, h, e))
 leaf_size code.Eq e = deep-Eq
 leaf_size code.Fresh e = deep-Fresh
@@ -38,7 +38,7 @@ leaf_size (code.Right' p d) e = let h = weight_some (derivation_of d) in absurd 
 leaf_size (code.Exists' t p d) e = let h = weight_some (derivation_of d) in absurd (omega (arith, h, e))
 leaf_size (code.New' a p d) e = let h = weight_some (derivation_of d) in absurd (omega (arith, h, e))
 
-parts_size : (d : code.Derivation) → 1 < weight (derivation_of d) → 1 < size-Derivation d
+parts_size : (d : code.Derivation) → 1 < derivation_weight (derivation_of d) → 1 < size-Derivation d
 parts_size (code.Atom' u p d) l = let h = deep-Atom' u p d in let s = size_some d in omega (arith, h, s)
 parts_size code.Eq l = absurd (omega (arith, l))
 parts_size code.Fresh l = absurd (omega (arith, l))
@@ -50,7 +50,7 @@ parts_size (code.Exists' t p d) l = let h = deep-Exists' t p d in let s = size_s
 parts_size (code.New' a p d) l = let h = deep-New' a p d in let s = size_some d in omega (arith, h, s)
 
 -- one without parts has fewer levels than one that weighs as much as a conjunction
-pub leaf_lighter : (l d : code.Derivation) (g h : NominalDerivation) → weight (derivation_of l) ≡ 1 → weight (nodes.both g h) ≤ weight (derivation_of d) → size-Derivation l < size-Derivation d
+pub leaf_lighter : (l d : code.Derivation) (g h : NominalDerivation) → derivation_weight (derivation_of l) ≡ 1 → derivation_weight (nodes.both g h) ≤ derivation_weight (derivation_of d) → size-Derivation l < size-Derivation d
 leaf_lighter l d g h e w =
     let s = leaf_size l e in
     let k = weight_some g in

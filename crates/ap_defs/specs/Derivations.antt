@@ -72,16 +72,16 @@ height (exists t d) = height d
 height (new a d) = height d
 
 -- how many nodes it has, where those of a left part of a conjunction count twice
-abbrev pub weight : {T : Type 0} → DerivationOver T → ℕ
-weight (atom k as' ts d) = suc (weight d)
-weight equal = 1
-weight fresh = 1
-weight succeed = 1
-weight (both d e) = suc (weight d + weight d + weight e)
-weight (left d) = suc (weight d)
-weight (right d) = suc (weight d)
-weight (exists t d) = suc (weight d)
-weight (new a d) = suc (weight d)
+abbrev pub derivation_weight : {T : Type 0} → DerivationOver T → ℕ
+derivation_weight (atom k as' ts d) = suc (derivation_weight d)
+derivation_weight equal = 1
+derivation_weight fresh = 1
+derivation_weight succeed = 1
+derivation_weight (both d e) = suc (derivation_weight d + derivation_weight d + derivation_weight e)
+derivation_weight (left d) = suc (derivation_weight d)
+derivation_weight (right d) = suc (derivation_weight d)
+derivation_weight (exists t d) = suc (derivation_weight d)
+derivation_weight (new a d) = suc (derivation_weight d)
 
 -- the numbers of its clauses and the sides of its disjunctions, from the left
 abbrev pub path : {T : Type 0} → DerivationOver T → List ℕ

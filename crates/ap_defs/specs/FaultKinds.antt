@@ -42,7 +42,7 @@ name_number names.VariableBinder = 1
 name_number names.VariableSwap = 2
 name_number names.HeadName = 3
 
-abbrev pub name_word : NameKind → List ℕ
-name_word names.VariableBinder = codes "VariableBinder"
-name_word names.VariableSwap = codes "VariableSwap"
-name_word names.HeadName = codes "HeadName"
+abbrev pub name_kind_word : NameKind → List ℕ
+name_kind_word names.VariableBinder = codes "VariableBinder"
+name_kind_word names.VariableSwap = codes "VariableSwap"
+name_kind_word names.HeadName = codes "HeadName"

@@ -36,27 +36,27 @@ pub record Spelling : Type 0 where
 
 -- Where a term stands: by itself, as the right part of a pair, as the rest of a list, as the two parts
 -- of a list cell, or as the arguments of a constructor with so many.
-pub data Place : Type 0 where
-  whole : Place
-  part : Place
-  rest : Place
-  cell : Place
-  arguments : ℕ → Place
+pub data TermContext : Type 0 where
+  whole : TermContext
+  part : TermContext
+  rest : TermContext
+  cell : TermContext
+  arguments : ℕ → TermContext
 
 -- the rest of a list that isn't a list is written behind a bar
-abbrev pub barred : Place → List ℕ → List ℕ
+abbrev pub barred : TermContext → List ℕ → List ℕ
 barred rest text = codes "|" ++ text
 barred _ text = text
 
 -- a pair, by the texts of its left part, and of its right part at a place
-abbrev pub pair_text : Place → List ℕ → (Place → List ℕ) → List ℕ
+abbrev pub pair_text : TermContext → List ℕ → (TermContext → List ℕ) → List ℕ
 pair_text part t u = t ++ codes "," ++ u part
 pair_text cell t u = t ++ u rest
 pair_text (arguments (suc (suc n))) t u = t ++ codes "," ++ u (arguments (suc n))
 pair_text place t u = barred place (codes "(" ++ t ++ codes "," ++ u part ++ codes ")")
 
 -- the argument of a sole-argument constructor keeps its own parentheses; one without arguments has none
-abbrev pub unit_text : Place → List ℕ
+abbrev pub unit_text : TermContext → List ℕ
 unit_text (arguments zero) = []
 unit_text place = barred place (codes "()")
 
@@ -65,11 +65,11 @@ application_text zero text args = text
 application_text (suc n) text args = text ++ codes "(" ++ args ++ codes ")"
 
 -- a list cell goes on a list that was begun, and begins one elsewhere
-abbrev pub cell_text : Place → List ℕ → List ℕ
+abbrev pub cell_text : TermContext → List ℕ → List ℕ
 cell_text rest parts = codes "," ++ parts
 cell_text place parts = barred place (codes "[" ++ parts ++ codes "]")
 
-abbrev pub nil_text : Place → List ℕ
+abbrev pub nil_text : TermContext → List ℕ
 nil_text rest = []
 nil_text place = barred place (codes "[]")
 
@@ -80,7 +80,7 @@ swaps_text names (s ∷ p) text =
     codes "swap(" ++ names (left_name s) ++ codes "," ++ names (right_name s) ++ codes "," ++ swaps_text names p text ++ codes ")"
 
 -- a term at a place
-abbrev pub term_at : Spelling → NominalTerm → Place → List ℕ
+abbrev pub term_at : Spelling → NominalTerm → TermContext → List ℕ
 term_at by unit place = unit_text place
 term_at by (name a) place = barred place (by.names a)
 term_at by (pair t u) place = pair_text place (term_at by t whole) (term_at by u)

@@ -131,7 +131,7 @@ impl NameKind {
 
     /// The word of the kind.
     pub fn word(self) -> &'static str
-        ensures { result.now ≡ spec.name_word self }
+        ensures { result.now ≡ spec.name_kind_word self }
     {
         match self {
             NameKind::VariableBinder => "VariableBinder",

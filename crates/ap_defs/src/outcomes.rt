@@ -3,7 +3,7 @@
 //! A derivation can be as deep as the search went, on either side, so it is dropped in a loop.
 
 ghost use Rattle.std.specs.Prelude.{◌≡◌, ◌<◌, true, false};
-ghost use Rattle.ap_defs.specs.Derivations.{both, derivation_of, weight};
+ghost use Rattle.ap_defs.specs.Derivations.{both, derivation_of, derivation_weight};
 
 use crate::lists::{List, Text};
 use crate::terms::{Cond, Name, Term, Ty, Var};
@@ -46,10 +46,10 @@ pub enum Derivation {
 /// place. It answers whether the left one has a part.
 fn turn_part(left: &mut Derivation, right: &mut Box<Derivation>) -> bool
     ensures turned { result ≡ true →
-        weight (both (derivation_of right.new.value) (derivation_of left.new))
-        < weight (both (derivation_of left.old) (derivation_of right.old.value)) }
+        derivation_weight (both (derivation_of right.new.value) (derivation_of left.new))
+        < derivation_weight (both (derivation_of left.old) (derivation_of right.old.value)) }
     ensures leaf { result ≡ false →
-        (right.new ≡ right.old) × (weight (derivation_of left.new) ≡ 1) }
+        (right.new ≡ right.old) × (derivation_weight (derivation_of left.new) ≡ 1) }
 {
     match left {
         Derivation::Eq => false,

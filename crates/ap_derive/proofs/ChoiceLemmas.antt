@@ -15,7 +15,7 @@ use Rattle.ap_theory.proofs.TermLemmas.{number_same}
 use Rattle.ap_backchain.specs.Positions.{Position, enters_clause, each_position, entered, goes, unified_state, with_choice, with_goal}
 use Rattle.ap_checks.specs.Traces.{trace_call, trace_clause, trace_goal, trace_side, trace_unified, traced, under_node}
 use Rattle.ap_derive.specs.Nodes.{atom, left, right}
-use Rattle.ap_derive.specs.Solved.{HasChoice, IsSolved, Selects, Solved, others_solved, rest_of, solved, solved_at, with_node}
+use Rattle.ap_derive.specs.Solved.{HasOneMoreChoice, IsSolved, Selects, Solved, others_solved, rest_of, solved, solved_at, with_node}
 use Rattle.ap_derive.proofs.SolvedLemmas.{Others, below_node, solved_on}
 
 -- What is left of a path after one more choice.
@@ -44,7 +44,7 @@ module _ (program : Clauses) (path : List ℕ) (d : ℕ) (g h : NominalGoal) (p 
   side_has [] r e = cc
   side_has (k ∷ rest) r e = (k, rest, refl)
 
-  pub side_chooses : IsSolved program path (with_goal d (goals.either g h) p) → HasChoice path p
+  pub side_chooses : IsSolved program path (with_goal d (goals.either g h) p) → HasOneMoreChoice path p
   side_chooses s = side_has (rest_of path p) s.0 s.1
 
   other_side : (k : ℕ) (b c : Bool) (rest : List ℕ) (r : Solved) → ((k ≡ 1) → ⊥) → (k == 1) ≡ b → (k == 2) ≡ c

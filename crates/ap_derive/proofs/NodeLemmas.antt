@@ -10,7 +10,7 @@ use Rattle.ap_defs.specs.Terms.{susp}
 use Rattle.ap_defs.specs.declared.outcomes.Derivation.{Derivation}
 use Rattle.ap_defs.specs.declared.terms.Var.{Var}
 use Rattle.ap_search.specs.Records.{closed_vars}
-use Rattle.ap_derive.specs.Nodes.{DerivationNode, atom, both, closed_node, equal, exists, fresh, left, new, node_of, nodes_before, right, succeed, with_below}
+use Rattle.ap_derive.specs.Nodes.{DerivationNode, atom, both, closed_node, equal, exists, fresh, left, new, selected_node, nodes_before, right, succeed, with_below}
 use Rattle.ap_derive.specs.declared.nodes.SelectedGoal.{SelectedGoal}
 
 abbrev Made : Type 0
@@ -95,25 +95,25 @@ then_some f (Some ds) es h = (ds, refl)
 
 -- the nodes that selected goals are in the end
 abbrev pub closed_nodes : State → List SelectedGoal → List DerivationNode
-closed_nodes s ns = map (closed_node s) (map node_of ns)
+closed_nodes s ns = map (closed_node s) (map selected_node ns)
 
-closed_last : (s : State) (ms ns : List SelectedGoal) (n : SelectedGoal) → ms ≡ ns ++ n ∷ [] → closed_nodes s ms ≡ closed_nodes s ns ++ closed_node s (node_of n) ∷ []
+closed_last : (s : State) (ms ns : List SelectedGoal) (n : SelectedGoal) → ms ≡ ns ++ n ∷ [] → closed_nodes s ms ≡ closed_nodes s ns ++ closed_node s (selected_node n) ∷ []
 closed_last s ms ns n e =
-    ap (closed_nodes s) e ∙ ap (map (closed_node s)) (map-append node_of ns (n ∷ [])) ∙ map-append (closed_node s) (map node_of ns) (node_of n ∷ [])
+    ap (closed_nodes s) e ∙ ap (map (closed_node s)) (map-append selected_node ns (n ∷ [])) ∙ map-append (closed_node s) (map selected_node ns) (selected_node n ∷ [])
 
 module _ (s : State) (ms ns : List SelectedGoal) (n : SelectedGoal) (e : ms ≡ ns ++ n ∷ []) (ds : List NominalDerivation) where
-  pub one_taken : made_of (closed_nodes s ms) ds ≡ and_then (made_of (closed_nodes s ns)) (with_below (closed_node s (node_of n)) ds)
-  one_taken = ap (λ ks. made_of ks ds) (closed_last s ms ns n e) ∙ last_made (closed_nodes s ns) (closed_node s (node_of n)) ds
+  pub one_taken : made_of (closed_nodes s ms) ds ≡ and_then (made_of (closed_nodes s ns)) (with_below (closed_node s (selected_node n)) ds)
+  one_taken = ap (λ ks. made_of ks ds) (closed_last s ms ns n e) ∙ last_made (closed_nodes s ns) (closed_node s (selected_node n)) ds
 
   -- the last node has what it needs below it
-  pub has_below : (d : NominalDerivation) → made_of (closed_nodes s ms) ds ≡ Some (d ∷ []) → (es : List NominalDerivation) × (with_below (closed_node s (node_of n)) ds ≡ Some es)
-  has_below d h = then_some (made_of (closed_nodes s ns)) (with_below (closed_node s (node_of n)) ds) (d ∷ []) (sym one_taken ∙ h)
+  pub has_below : (d : NominalDerivation) → made_of (closed_nodes s ms) ds ≡ Some (d ∷ []) → (es : List NominalDerivation) × (with_below (closed_node s (selected_node n)) ds ≡ Some es)
+  has_below d h = then_some (made_of (closed_nodes s ns)) (with_below (closed_node s (selected_node n)) ds) (d ∷ []) (sym one_taken ∙ h)
 
-  pub goes_on : (es : List NominalDerivation) → with_below (closed_node s (node_of n)) ds ≡ Some es → made_of (closed_nodes s ns) es ≡ made_of (closed_nodes s ms) ds
+  pub goes_on : (es : List NominalDerivation) → with_below (closed_node s (selected_node n)) ds ≡ Some es → made_of (closed_nodes s ns) es ≡ made_of (closed_nodes s ms) ds
   goes_on es h = sym (one_taken ∙ ap (and_then (made_of (closed_nodes s ns))) h)
 
 -- all nodes of a derivation make what it is in the end
-pub all_made : (s : State) (ns : List SelectedGoal) (d : NominalDerivation) → map node_of ns ≡ nodes_before d [] → made_of (closed_nodes s ns) [] ≡ Some (derivation_in s d ∷ [])
+pub all_made : (s : State) (ns : List SelectedGoal) (d : NominalDerivation) → map selected_node ns ≡ nodes_before d [] → made_of (closed_nodes s ns) [] ≡ Some (derivation_in s d ∷ [])
 all_made s ns d e = ap (λ ms. made_of (map (closed_node s) ms) []) e ∙ ap (λ ms. made_of ms []) (preorder_closed s d []) ∙ preorder_made (derivation_in s d)
 
 -- What was made last stands first.
@@ -135,7 +135,7 @@ needs_two d [] es h = cc
 needs_two d (e ∷ rest) es h = (e, rest, refl)
 
 -- The derivation that is left in the end.
-pub only_one : (s : State) (nodes : List SelectedGoal) (d : NominalDerivation) (ds : List NominalDerivation) → map node_of nodes ≡ nodes_before d [] → Some ds ≡ made_of (closed_nodes s nodes) [] → ds ≡ derivation_in s d ∷ []
+pub only_one : (s : State) (nodes : List SelectedGoal) (d : NominalDerivation) (ds : List NominalDerivation) → map selected_node nodes ≡ nodes_before d [] → Some ds ≡ made_of (closed_nodes s nodes) [] → ds ≡ derivation_in s d ∷ []
 only_one s nodes d ds e h = let k : Some ds ≡ Some (derivation_in s d ∷ []) = h ∙ all_made s nodes d e in cc
 
 pub front_is : (ds es : List NominalDerivation) (d e : NominalDerivation) → ds ≡ d ∷ es → ds ≡ e ∷ [] → d ≡ e

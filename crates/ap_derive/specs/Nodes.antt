@@ -23,16 +23,16 @@ pub data DerivationNode : Type 0 where
   new : Name → DerivationNode
 
 -- of a goal that was selected; a variable stands for itself
-abbrev pub node_of : SelectedGoal → DerivationNode
-node_of (code.Atom k as' xs) = atom k as' (map (susp []) xs)
-node_of code.Equal = equal
-node_of code.Fresh = fresh
-node_of code.True = succeed
-node_of code.Both = both
-node_of code.Left = left
-node_of code.Right = right
-node_of (code.Exists x) = exists (susp [] x)
-node_of (code.New a) = new a
+abbrev pub selected_node : SelectedGoal → DerivationNode
+selected_node (code.Atom k as' xs) = atom k as' (map (susp []) xs)
+selected_node code.Equal = equal
+selected_node code.Fresh = fresh
+selected_node code.True = succeed
+selected_node code.Both = both
+selected_node code.Left = left
+selected_node code.Right = right
+selected_node (code.Exists x) = exists (susp [] x)
+selected_node (code.New a) = new a
 
 -- one more name, of this sort, if there is one
 abbrev pub names_with : Option ℕ → ℕ → List Name → List Name

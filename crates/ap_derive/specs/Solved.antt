@@ -50,8 +50,8 @@ abbrev pub IsSolved : Clauses → List ℕ → Position → Type 0
 IsSolved program path p = (r : Solved) × (solved_at program path p ≡ Some r)
 
 -- the path has one more choice
-abbrev pub HasChoice : List ℕ → Position → Type 0
-HasChoice path p = (k : ℕ) × (rest : List ℕ) × (rest_of path p ≡ k ∷ rest)
+abbrev pub HasOneMoreChoice : List ℕ → Position → Type 0
+HasOneMoreChoice path p = (k : ℕ) × (rest : List ℕ) × (rest_of path p ≡ k ∷ rest)
 
 -- the goal of a frame, and terms whose numbers are raised
 abbrev pub frame_goal : Frame → NominalGoal

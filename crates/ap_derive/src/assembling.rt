@@ -4,7 +4,7 @@ ghost use Rattle.std.specs.Prelude.{◌≡◌, [], ◌∷◌, Some, IfOk, List a
 ghost use Rattle.ap_defs.specs.Answers.{derivation_in};
 ghost use Rattle.ap_defs.specs.Derivations.{NominalDerivation, derivation_of};
 ghost use Rattle.ap_backchain.specs.Views.{state_in};
-ghost use Rattle.ap_derive.specs.Nodes.{closed_node, made_in, node_of, nodes_before, with_below};
+ghost use Rattle.ap_derive.specs.Nodes.{closed_node, made_in, selected_node, nodes_before, with_below};
 
 use crate::nodes::SelectedGoal;
 use ap_backchain::answers::{closed, closed_var};
@@ -35,10 +35,10 @@ fn derivation_with(
     made: &mut Vec<Derivation>,
 ) -> Result<Derivation, Memory>
     requires { (ds : list NominalDerivation) ×
-        (with_below (closed_node (state_in store.now) (node_of node)) (made_in made.old)
+        (with_below (closed_node (state_in store.now) (selected_node node)) (made_in made.old)
         ≡ Some ds) }
     ensures { IfOk result (λ d.
-        with_below (closed_node (state_in store.now) (node_of node)) (made_in made.old)
+        with_below (closed_node (state_in store.now) (selected_node node)) (made_in made.old)
         ≡ Some (derivation_of d ∷ made_in made.new)) }
 {
     match node {
@@ -90,9 +90,9 @@ pub fn assemble(
     store: &Store<'_>,
     nodes: Vec<SelectedGoal>,
 ) -> Result<Derivation, Memory>
-    requires { (d : NominalDerivation) × (map node_of nodes.items ≡ nodes_before d []) }
+    requires { (d : NominalDerivation) × (map selected_node nodes.items ≡ nodes_before d []) }
     ensures { IfOk result (λ r. (d : NominalDerivation) →
-        map node_of nodes.items ≡ nodes_before d [] →
+        map selected_node nodes.items ≡ nodes_before d [] →
         derivation_of r ≡ derivation_in (state_in store.now) d) }
 {
     let mut left = nodes;

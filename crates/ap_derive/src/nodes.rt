@@ -5,7 +5,7 @@ ghost use Rattle.ap_defs.specs.Renaming.{local_names, local_vars, name_unless};
 ghost use Rattle.ap_defs.specs.Terms.{susp};
 ghost use Rattle.ap_defs.specs.Types.{kind_of, locals_of};
 ghost use Rattle.ap_defs.specs.declared.terms.Name.{Name as name};
-ghost use Rattle.ap_derive.specs.Nodes.{atom, names_with, node_of};
+ghost use Rattle.ap_derive.specs.Nodes.{atom, names_with, selected_node};
 
 use ap_backchain::renaming::vars_of_locals;
 use ap_defs::goals::{Kind, Local};
@@ -67,7 +67,7 @@ pub fn selected_atom(
     locals: &[Local],
 ) -> Result<SelectedGoal, Memory>
     requires { base + length locals.now < 2 ^ 64 }
-    ensures { IfOk result (λ n. node_of n ≡ atom number
+    ensures { IfOk result (λ n. selected_node n ≡ atom number
         (local_names base (locals_of locals.now))
         (map (susp []) (local_vars base (locals_of locals.now)))) }
 {

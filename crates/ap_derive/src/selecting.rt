@@ -7,8 +7,8 @@ ghost use Rattle.ap_defs.specs.Renaming.{AreBelow, IsGoalBelow, rename_goal};
 ghost use Rattle.ap_backchain.specs.Below.{AreClausesBelow};
 ghost use Rattle.ap_backchain.specs.Machines.{next_of, position_of};
 ghost use Rattle.ap_backchain.specs.Positions.{with_goal};
-ghost use Rattle.ap_derive.specs.Nodes.{DerivationNode, node_of};
-ghost use Rattle.ap_derive.specs.Solved.{HasChoice, IsSolved, Selects, frame_goal, node_of_goal, raised, rest_of, solved_at, with_frame};
+ghost use Rattle.ap_derive.specs.Nodes.{DerivationNode, selected_node};
+ghost use Rattle.ap_derive.specs.Solved.{HasOneMoreChoice, IsSolved, Selects, frame_goal, node_of_goal, raised, rest_of, solved_at, with_frame};
 
 use crate::nodes::{SelectedGoal, selected_atom};
 use ap_backchain::clauses::{clauses_at, enter_clause};
@@ -23,7 +23,7 @@ use std::alloc::Global;
 
 /// The choice of the path that follows those on the way to the machine.
 fn next_choice(machine: &Machine<'_>, path: &[u32]) -> u32
-    requires { HasChoice path.now (position_of machine.now) }
+    requires { HasOneMoreChoice path.now (position_of machine.now) }
     ensures { (rest : list ℕ) × (rest_of path.now (position_of machine.now) ≡ result ∷ rest) }
 {
     path[machine.path.len()]
@@ -56,7 +56,7 @@ fn settle<'a>(
 /// The node of the goal of a frame, whose numbers are below `next`, or none where it chooses.
 fn settled_goal(frame: &Frame<'_>, next: u64) -> Option<SelectedGoal>
     requires { IsGoalBelow next (frame_goal frame.now) }
-    ensures { option_map node_of result ≡ node_of_goal (frame_goal frame.now) }
+    ensures { option_map selected_node result ≡ node_of_goal (frame_goal frame.now) }
 {
     let base = frame.base;
     match frame.goal {
@@ -93,7 +93,7 @@ fn select_clause<'a>(
     ensures { IfOk result (λ n. Selects (program_in clauses.now) path.now
         (with_goal frame.entry.depth (atom_goal pred (raised frame.entry.base args.now))
         (position_of machine.old))
-        (node_of n) (position_of machine.new)) }
+        (selected_node n) (position_of machine.new)) }
 {
     let choice = next_choice(machine, path);
     let candidates = clauses_at(clauses, pred);
@@ -136,7 +136,7 @@ fn select_side<'a>(
         (either (rename_goal frame.entry.base (goal_of left.now))
         (rename_goal frame.entry.base (goal_of right.now)))
         (position_of machine.old))
-        (node_of n) (position_of machine.new)) }
+        (selected_node n) (position_of machine.new)) }
 {
     if next_choice(machine, path) == 1 {
         machine.push_choice(1)?;
@@ -163,8 +163,8 @@ fn select_choice<'a>(
     requires choosing { node_of_goal (frame_goal frame) ≡ None }
     requires solved { IsSolved (program_in clauses.now) path.now
         (with_frame frame (position_of machine.old)) }
-    ensures { IfOk result (λ n. Selects (program_in clauses.now) path.now
-        (with_frame frame.entry (position_of machine.old)) (node_of n) (position_of machine.new)) }
+    ensures { IfOk result (λ n. Selects (program_in clauses.now) path.now (with_frame frame.entry
+        (position_of machine.old)) (selected_node n) (position_of machine.new)) }
 {
     match frame.goal {
         Goal::Atom(pred, args) => {
@@ -193,8 +193,8 @@ fn select<'a>(
     requires goal { IsGoalBelow (next_of machine.old) (frame_goal frame) }
     requires solved { IsSolved (program_in clauses.now) path.now
         (with_frame frame (position_of machine.old)) }
-    ensures { IfOk result (λ n. Selects (program_in clauses.now) path.now
-        (with_frame frame.entry (position_of machine.old)) (node_of n) (position_of machine.new)) }
+    ensures { IfOk result (λ n. Selects (program_in clauses.now) path.now (with_frame frame.entry
+        (position_of machine.old)) (selected_node n) (position_of machine.new)) }
 {
     match settled_goal(&frame, machine.store.next()) {
         Some(selected) => {
@@ -218,7 +218,7 @@ pub fn select_along<'a>(
     ensures { IfOk result (λ v. solved_at (program_in clauses.now) path.now
         (position_of machine.old)
         ≡ Some (record
-        { state = (position_of machine.new).state; nodes = map node_of v.items; rest = rest_of path.now (position_of machine.new) })) }
+        { state = (position_of machine.new).state; nodes = map selected_node v.items; rest = rest_of path.now (position_of machine.new) })) }
 {
     let mut all = Vec::new(alloc);
     'selecting: while let Some(frame) = machine.pop_goal() {

@@ -3,17 +3,17 @@ use Rattle.std.proofs.Common.{◌≡◌, Bool, true, false, List, [], ◌∷◌,
 use Rattle.std.specs.Prelude.{if◌then◌else◌}
 use Rattle.ap_defs.specs.Answers.{NominalAnswer, NominalOut, cut, found, query_outs, stuck}
 use Rattle.ap_property.specs.Properties.{hypothesis_query}
-use Rattle.ap_property.specs.PutIn.{put_in}
+use Rattle.ap_property.specs.PutIn.{query_put_in}
 use Rattle.ap_property.specs.Stated.{stated}
 use Rattle.ap_property.proofs.CounterLemmas.{each_weaker}
 use Rattle.ap_property.proofs.HeldLemmas.{answered_derivable}
 use Rattle.ap_soundness.specs.FoundStates.{EachAnswer}
 use Rattle.ap_examine.specs.Counterexamples.{HeldAnswersAreDerivable}
-use Rattle.ap_examine.specs.Verdicts.{has_answer, verdict_of}
+use Rattle.ap_examine.specs.Verdicts.{has_answer, verdict_of_outs}
 use Rattle.ap_examine.specs.declared.verdict.Verdict.TheVariants as verdict
 
 -- held is what has an answer
-held_answer : (os : List NominalOut) → verdict_of os ≡ verdict.Held → has_answer os ≡ true
+held_answer : (os : List NominalOut) → verdict_of_outs os ≡ verdict.Held → has_answer os ≡ true
 held_answer [] e = cc
 held_answer (o ∷ os) e = settled (has_answer (o ∷ os)) e
   where
@@ -30,5 +30,5 @@ by_answer P (stuck r ∷ os) e h = by_answer P os e h
 
 pub held_derivable : HeldAnswersAreDerivable
 held_derivable p typed q t depth =
-    let outs : NominalAnswer → List NominalOut = λ a. query_outs p.clauses depth (put_in q (stated p.signature.constructors q.locals a)) in
+    let outs : NominalAnswer → List NominalOut = λ a. query_outs p.clauses depth (query_put_in q (stated p.signature.constructors q.locals a)) in
     each_weaker _ _ (λ a h e. by_answer _ (outs a) (held_answer (outs a) e) h) (query_outs p.clauses depth (hypothesis_query q)) (answered_derivable p typed q t depth)

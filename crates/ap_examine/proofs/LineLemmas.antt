@@ -8,7 +8,7 @@ use Rattle.ap_defs.specs.Types.{NominalLocal, NominalSignature}
 use Rattle.ap_examine.specs.Exams as exams
 use Rattle.ap_examine.specs.Exams.{NominalExam, clear, counter}
 use Rattle.ap_examine.specs.declared.exam.Exam.TheVariants as exam
-use Rattle.ap_examine.specs.Reports.{answer_with, counter_text, exam_text, exams_from}
+use Rattle.ap_examine.specs.Reports.{instance_as_answer, counter_text, exam_text, exams_from}
 use Rattle.ap_examine.specs.Steps.{Asks}
 use Rattle.ap_examine.specs.Views.{AreExams, IsExam}
 use Rattle.ap_examine.specs.declared.exam.Exam.{Exam}
@@ -21,8 +21,8 @@ pub record AreLeft (p : NominalProgram) (depth : ℕ) (out : List ℕ) (k : ℕ)
 -- a text is the same by a program that differs in its queries alone
 pub text_there : (p r : NominalProgram) → Asks p r → (locals : List NominalLocal) (k : ℕ) (e : NominalExam) → exam_text r locals k e ≡ exam_text p locals k e
 text_there p r h locals k (counter c) =
-    ap (λ ws. counter_text (record p { words = ws; signature = r.signature }) locals k (answer_with c.instance)) h.words
-    ∙ ap (λ (s : NominalSignature). counter_text (record p { signature = s }) locals k (answer_with c.instance)) h.signature
+    ap (λ ws. counter_text (record p { words = ws; signature = r.signature }) locals k (instance_as_answer c.instance)) h.words
+    ∙ ap (λ (s : NominalSignature). counter_text (record p { signature = s }) locals k (instance_as_answer c.instance)) h.signature
 text_there p r h locals k (clear t) = refl
 
 pub counter_written : (p : NominalProgram) (locals : List NominalLocal) (k n : ℕ) (a : Answer) (e : NominalExam) → IsExam (exam.Counter n a) e → counter_text p locals k (answer_of a) ≡ exam_text p locals k e

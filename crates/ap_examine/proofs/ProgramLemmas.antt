@@ -6,7 +6,7 @@ use Rattle.ap_defs.specs.Goals.{NominalProgram, NominalQuery}
 use Rattle.ap_defs.specs.Types.{NominalSignature}
 use Rattle.ap_program.specs.Typed.{IsTypedProgram, IsTypedQuery, term_form}
 use Rattle.ap_property.specs.Properties.{hypothesis_query}
-use Rattle.ap_property.specs.PutIn.{put_in}
+use Rattle.ap_property.specs.PutIn.{query_put_in}
 use Rattle.ap_property.specs.Stated.{stated}
 use Rattle.ap_property.specs.StatementsOnProperties.{HasTypedVars}
 use Rattle.ap_property.proofs.CounterLemmas.{conclusions_typed}
@@ -18,7 +18,7 @@ use Rattle.ap_examine.specs.Steps.{Asks, IsExaminable}
 
 module _ (p : NominalProgram) (q : NominalQuery) where
   abbrev IsTypedThere : NominalAnswer → Type 0
-  IsTypedThere a = IsTypedQuery term_form p.signature (put_in q (stated p.signature.constructors q.locals a))
+  IsTypedThere a = IsTypedQuery term_form p.signature (query_put_in q (stated p.signature.constructors q.locals a))
 
   both_hold : (os : List NominalOut) → EachAnswer (HasTypedVars p.signature.constructors) os → EachAnswer IsTypedThere os → EachAnswer (IsExaminable p q) os
   both_hold [] h k = tt

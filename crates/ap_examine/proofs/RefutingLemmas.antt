@@ -9,7 +9,7 @@ use Rattle.ap_complete.proofs.KeptLemmas.{kept_restriction}
 use Rattle.ap_ground.specs.ShownInstances.{IsTypedDerivable}
 use Rattle.ap_program.specs.Typed.{AreTypedQueries, term_form}
 use Rattle.ap_property.specs.Properties.{conclusion_query, hypothesis_query}
-use Rattle.ap_property.specs.PutIn.{put_in}
+use Rattle.ap_property.specs.PutIn.{query_put_in}
 use Rattle.ap_property.proofs.CounterLemmas.{counters_refuted}
 use Rattle.ap_property.proofs.SpineLemmas.{parts_typed}
 use Rattle.ap_property.proofs.StatedLemmas.{stated_instances_derivable}
@@ -19,14 +19,14 @@ use Rattle.ap_text.specs.Texts.{IsProgramOfText}
 use Rattle.ap_typecheck.proofs.TypedPrograms.{program_typed}
 use Rattle.ap_examine.specs.Counterexamples.{AreSoundExams, CounterexamplesRefute, HasSoundExams, Refutes}
 use Rattle.ap_examine.specs.Exams.{Counterexample, counter, counter_among, counter_if, exam_with, instance_of, tally_of, verdict_on}
-use Rattle.ap_examine.specs.Verdicts.{has_answer, verdict_of}
+use Rattle.ap_examine.specs.Verdicts.{has_answer, verdict_of_outs}
 use Rattle.ap_examine.specs.declared.exam.Tally.{Tally}
 use Rattle.ap_examine.specs.declared.verdict.Verdict.{Verdict}
 use Rattle.ap_examine.specs.declared.verdict.Verdict.TheVariants as verdict
 use Rattle.ap_examine.proofs.HeldLemmas.{held_derivable}
 
 -- refuted is what has no output
-no_output : (os : List NominalOut) → verdict_of os ≡ verdict.Refuted → os ≡ []
+no_output : (os : List NominalOut) → verdict_of_outs os ≡ verdict.Refuted → os ≡ []
 no_output [] e = refl
 no_output (o ∷ os) e = settled (has_answer (o ∷ os)) e
   where
@@ -36,7 +36,7 @@ no_output (o ∷ os) e = settled (has_answer (o ∷ os)) e
 
 module _ (p : NominalProgram) (depth : ℕ) (q : NominalQuery) where
   abbrev HasNoProof : NominalAnswer → Type 0
-  HasNoProof a = query_outs p.clauses depth (put_in q (instance_of p depth q a)) ≡ [] → (height : ℕ) → IsDerivable p (conclusion_query q) (instance_of p depth q a).terms height → ⊥
+  HasNoProof a = query_outs p.clauses depth (query_put_in q (instance_of p depth q a)) ≡ [] → (height : ℕ) → IsDerivable p (conclusion_query q) (instance_of p depth q a).terms height → ⊥
 
   abbrev HasProof : NominalAnswer → Type 0
   HasProof a = IsTypedDerivable p (hypothesis_query q) depth (instance_of p depth q a).terms

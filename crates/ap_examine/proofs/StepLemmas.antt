@@ -8,14 +8,14 @@ use Rattle.ap_defs.specs.Types.{NominalSignature}
 use Rattle.ap_ground.specs.TypedGroundings.{HaveInhabitants}
 use Rattle.ap_program.specs.Typed.{IsTypedQuery, term_form}
 use Rattle.ap_soundness.specs.FoundStates.{EachAnswer}
-use Rattle.ap_property.specs.PutIn.{asking, put_in}
+use Rattle.ap_property.specs.PutIn.{asking, query_put_in}
 use Rattle.ap_property.specs.Stated.{stated}
-use Rattle.ap_examine.specs.Exams.{NominalExam, clear, counter, counter_among, counter_if, exam_of, exam_with, holds, instance_of, is_held, is_open, is_unsettled, tally_of, verdict_on}
-use Rattle.ap_examine.specs.Verdicts.{verdict_of}
+use Rattle.ap_examine.specs.Exams.{NominalExam, clear, counter, counter_among, counter_if, exam_of, exam_with, holds, instance_of, is_held, is_verdict_open, is_unsettled, tally_of, verdict_on}
+use Rattle.ap_examine.specs.Verdicts.{verdict_of_outs}
 use Rattle.ap_examine.specs.Views.{IsExam}
 use Rattle.ap_examine.specs.declared.exam.Exam.{Exam}
 use Rattle.ap_examine.specs.declared.exam.Exam.TheVariants as exam
-use Rattle.ap_examine.specs.Steps.{Asks, IsCounter, IsExaminable, IsExaminableOut, exam_after, exam_next, total}
+use Rattle.ap_examine.specs.Steps.{Asks, IsCounter, IsExaminable, IsExaminableOut, exam_after, exam_next, total_of_tally}
 use Rattle.ap_examine.specs.declared.exam.Tally.{Tally}
 use Rattle.ap_examine.specs.declared.verdict.Verdict.{Verdict}
 use Rattle.ap_examine.specs.declared.verdict.Verdict.TheVariants as verdict
@@ -98,7 +98,7 @@ module _ (p : NominalProgram) (depth : ℕ) (q : NominalQuery) where
       judged later verdict.Held e =
           let u : Tally = record t { held = t.held + 1 } in
           let yes : bit (is_held (verdict_on p depth q a)) ≡ 1 = ap (λ v. bit (is_held v)) e in
-          let no : bit (is_open (verdict_on p depth q a)) ≡ 0 = ap (λ v. bit (is_open v)) e in
+          let no : bit (is_verdict_open (verdict_on p depth q a)) ≡ 0 = ap (λ v. bit (is_verdict_open v)) e in
           let next : u.held + u.unsettled + 1 ≡ suc (t.held + t.unsettled + 1) = omega arith in
           later u
           ∙ ap (λ n. exam_with (counter_among p depth q n os) (with_tally u (tally_of p depth q os))) next
@@ -106,7 +106,7 @@ module _ (p : NominalProgram) (depth : ℕ) (q : NominalQuery) where
       judged later verdict.Open e =
           let u : Tally = record t { unsettled = t.unsettled + 1 } in
           let no : bit (is_held (verdict_on p depth q a)) ≡ 0 = ap (λ v. bit (is_held v)) e in
-          let yes : bit (is_open (verdict_on p depth q a)) ≡ 1 = ap (λ v. bit (is_open v)) e in
+          let yes : bit (is_verdict_open (verdict_on p depth q a)) ≡ 1 = ap (λ v. bit (is_verdict_open v)) e in
           let next : u.held + u.unsettled + 1 ≡ suc (t.held + t.unsettled + 1) = omega arith in
           later u
           ∙ ap (λ n. exam_with (counter_among p depth q n os) (with_tally u (tally_of p depth q os))) next
@@ -119,15 +119,15 @@ module _ (p : NominalProgram) (depth : ℕ) (q : NominalQuery) where
   all_steps os = steps no_tally os ∙ ap (exam_with (counter_among p depth q 1 os)) (tally_same _ _ _ _ _ _ _ _ (omega arith) (omega arith) (omega arith) (omega arith))
 
   -- one more is counted
-  pub total_next : (t u : Tally) (o : NominalOut) → exam_next p depth q t o ≡ clear u → total u ≡ total t + 1
-  total_next t u (cut r) e = ap total (sym (cleared _ _ e)) ∙ omega arith
-  total_next t u (stuck r) e = ap total (sym (cleared _ _ e)) ∙ omega arith
+  pub total_next : (t u : Tally) (o : NominalOut) → exam_next p depth q t o ≡ clear u → total_of_tally u ≡ total_of_tally t + 1
+  total_next t u (cut r) e = ap total_of_tally (sym (cleared _ _ e)) ∙ omega arith
+  total_next t u (stuck r) e = ap total_of_tally (sym (cleared _ _ e)) ∙ omega arith
   total_next t u (found r a) e = judged (verdict_on p depth q a) e
     where
-      judged : (v : Verdict) → exam_after v t (instance_of p depth q a) ≡ clear u → total u ≡ total t + 1
+      judged : (v : Verdict) → exam_after v t (instance_of p depth q a) ≡ clear u → total_of_tally u ≡ total_of_tally t + 1
       judged verdict.Refuted k = cc
-      judged verdict.Held k = ap total (sym (cleared _ _ k)) ∙ omega arith
-      judged verdict.Open k = ap total (sym (cleared _ _ k)) ∙ omega arith
+      judged verdict.Held k = ap total_of_tally (sym (cleared _ _ k)) ∙ omega arith
+      judged verdict.Open k = ap total_of_tally (sym (cleared _ _ k)) ∙ omega arith
 
 -- where an exam ends, and where it goes on
 pub counter_ends : (x : Exam) → IsCounter x → (e : NominalExam) → IsExam x e → (p : NominalProgram) (depth : ℕ) (q : NominalQuery) (f : Tally → NominalExam) → IsExam x (goes_on p depth q e f)
@@ -144,15 +144,15 @@ module _ (p r : NominalProgram) (k : Asks p r) (depth : ℕ) (q : NominalQuery) 
   pub examinable_there : (o : NominalOut) → IsExaminableOut p q o → IsExaminableOut r q o
   examinable_there (found s a) h = record {
     inhabited = subst (λ (sig : NominalSignature). HaveInhabitants sig.constructors a.vars) (sym k.signature) h.inhabited;
-    typed = subst (λ (sig : NominalSignature). IsTypedQuery term_form sig (put_in q (stated sig.constructors q.locals a))) (sym k.signature) h.typed;
+    typed = subst (λ (sig : NominalSignature). IsTypedQuery term_form sig (query_put_in q (stated sig.constructors q.locals a))) (sym k.signature) h.typed;
   }
   examinable_there (cut s) h = tt
   examinable_there (stuck s) h = tt
 
   pub exam_there : (t : Tally) (o : NominalOut) → exam_next r depth q t o ≡ exam_next p depth q t o
   exam_there t (found s a) =
-      ap (λ css. exam_after (verdict_of (query_outs css depth (put_in q (stated r.signature.constructors q.locals a)))) t (stated r.signature.constructors q.locals a)) k.clauses
-      ∙ ap (λ (sig : NominalSignature). exam_after (verdict_of (query_outs p.clauses depth (put_in q (stated sig.constructors q.locals a)))) t (stated sig.constructors q.locals a)) k.signature
+      ap (λ css. exam_after (verdict_of_outs (query_outs css depth (query_put_in q (stated r.signature.constructors q.locals a)))) t (stated r.signature.constructors q.locals a)) k.clauses
+      ∙ ap (λ (sig : NominalSignature). exam_after (verdict_of_outs (query_outs p.clauses depth (query_put_in q (stated sig.constructors q.locals a)))) t (stated sig.constructors q.locals a)) k.signature
   exam_there t (cut s) = refl
   exam_there t (stuck s) = refl
 

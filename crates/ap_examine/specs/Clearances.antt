@@ -6,7 +6,7 @@ use Rattle.ap_defs.specs.Lines.{count_of, is_cut, is_found, is_stuck}
 use Rattle.ap_complete.specs.Restriction.{KeepsRestriction}
 use Rattle.ap_program.specs.Typed.{IsTypedQuery, term_form}
 use Rattle.ap_property.specs.Properties.{hypothesis_query}
-use Rattle.ap_property.specs.PutIn.{put_in}
+use Rattle.ap_property.specs.PutIn.{query_put_in}
 use Rattle.ap_property.specs.Stated.{Instance}
 use Rattle.ap_soundness.specs.FoundStates.{EachAnswer}
 use Rattle.ap_examine.specs.Counterexamples.{Refutes}
@@ -17,16 +17,16 @@ use Rattle.ap_examine.specs.declared.verdict.Verdict.TheVariants as verdict
 
 -- Each answer of the hypothesis is held or unsettled, and for none of them is the conclusion without outputs; where none is unsettled,
 -- the conclusion has an answer for the stated instance of each.
-pub record Says (p : NominalProgram) (depth : ℕ) (q : NominalQuery) (t : Tally) : Type 0 where
+pub record TallySays (p : NominalProgram) (depth : ℕ) (q : NominalQuery) (t : Tally) : Type 0 where
   pub answers : t.held + t.unsettled ≡ count_of is_found (query_outs p.clauses depth (hypothesis_query q))
   pub cut : t.cut ≡ count_of is_cut (query_outs p.clauses depth (hypothesis_query q))
   pub stuck : t.stuck ≡ count_of is_stuck (query_outs p.clauses depth (hypothesis_query q))
   pub none_refuted : EachAnswer (λ a. verdict_on p depth q a ≡ verdict.Refuted → ⊥) (query_outs p.clauses depth (hypothesis_query q))
-  pub all_held : t.unsettled ≡ 0 → EachAnswer (λ a. has_answer (query_outs p.clauses depth (put_in q (instance_of p depth q a))) ≡ true)
+  pub all_held : t.unsettled ≡ 0 → EachAnswer (λ a. has_answer (query_outs p.clauses depth (query_put_in q (instance_of p depth q a))) ≡ true)
       (query_outs p.clauses depth (hypothesis_query q))
 
 abbrev pub ClearSays : Type 0
-ClearSays = (p : NominalProgram) (depth : ℕ) (q : NominalQuery) (t : Tally) → exam p depth q ≡ clear t → Says p depth q t
+ClearSays = (p : NominalProgram) (depth : ℕ) (q : NominalQuery) (t : Tally) → exam p depth q ≡ clear t → TallySays p depth q t
 
 -- It is no proof: a property may have an instance that refutes it where one answer is held, and nothing is unsettled, cut or stuck.
 abbrev pub ClearIsNoProof : Type 0

@@ -4,9 +4,9 @@ use Rattle.ap_defs.specs.Answers.{NominalAnswer, NominalOut, cut, found, query_o
 use Rattle.ap_defs.specs.Goals.{NominalProgram, NominalQuery}
 use Rattle.ap_defs.specs.Lines.{count_of, is_cut, is_stuck}
 use Rattle.ap_property.specs.Properties.{hypothesis_query}
-use Rattle.ap_property.specs.PutIn.{put_in}
+use Rattle.ap_property.specs.PutIn.{query_put_in}
 use Rattle.ap_property.specs.Stated.{Instance, stated}
-use Rattle.ap_examine.specs.Verdicts.{verdict_of}
+use Rattle.ap_examine.specs.Verdicts.{verdict_of_outs}
 use Rattle.ap_examine.specs.declared.verdict.Verdict.{Verdict}
 use Rattle.ap_examine.specs.declared.verdict.Verdict.TheVariants as verdict
 use Rattle.ap_examine.specs.declared.exam.Tally.{Tally}
@@ -26,10 +26,10 @@ is_held verdict.Held = true
 is_held verdict.Open = false
 is_held verdict.Refuted = false
 
-abbrev pub is_open : Verdict → Bool
-is_open verdict.Held = false
-is_open verdict.Open = true
-is_open verdict.Refuted = false
+abbrev pub is_verdict_open : Verdict → Bool
+is_verdict_open verdict.Held = false
+is_verdict_open verdict.Open = true
+is_verdict_open verdict.Refuted = false
 
 -- a counterexample where the verdict is that the conclusion is refuted
 abbrev pub counter_if : Verdict → Counterexample → Option Counterexample → Option Counterexample
@@ -48,7 +48,7 @@ module _ (p : NominalProgram) (depth : ℕ) (q : NominalQuery) where
 
   -- the verdict on an answer, by the conclusion for its stated instance
   abbrev pub verdict_on : NominalAnswer → Verdict
-  verdict_on a = verdict_of (query_outs p.clauses depth (put_in q (instance_of a)))
+  verdict_on a = verdict_of_outs (query_outs p.clauses depth (query_put_in q (instance_of a)))
 
   abbrev pub holds : NominalOut → Bool
   holds (found r a) = is_held (verdict_on a)
@@ -56,7 +56,7 @@ module _ (p : NominalProgram) (depth : ℕ) (q : NominalQuery) where
   holds (stuck r) = false
 
   abbrev pub is_unsettled : NominalOut → Bool
-  is_unsettled (found r a) = is_open (verdict_on a)
+  is_unsettled (found r a) = is_verdict_open (verdict_on a)
   is_unsettled (cut r) = false
   is_unsettled (stuck r) = false
 

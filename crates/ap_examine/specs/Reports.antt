@@ -15,8 +15,8 @@ use Rattle.ap_examine.specs.declared.exam.Tally.{Tally}
 use Rattle.ap_examine.specs.Exams.{NominalExam, clear, counter, exam}
 
 -- an instance, as an answer
-abbrev pub answer_with : Instance → NominalAnswer
-answer_with i = record { binds = map embedded i.terms; conds = []; vars = [] }
+abbrev pub instance_as_answer : Instance → NominalAnswer
+instance_as_answer i = record { binds = map embedded i.terms; conds = []; vars = [] }
 
 -- what is said of the property with the number k
 abbrev pub property_line : ℕ → List ℕ → List ℕ
@@ -34,7 +34,7 @@ counter_text p locals k a = answer_text p locals a ++ (codes "\n" ++ property_li
 
 -- what is written of an exam: the counterexample and its line, or the line of the totals
 abbrev pub exam_text : NominalProgram → List NominalLocal → ℕ → NominalExam → List ℕ
-exam_text p locals k (counter c) = counter_text p locals k (answer_with c.instance)
+exam_text p locals k (counter c) = counter_text p locals k (instance_as_answer c.instance)
 exam_text p locals k (clear t) = property_line k (tally_said t)
 
 -- that of queries that are numbered from k on

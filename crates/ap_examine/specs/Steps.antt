@@ -4,7 +4,7 @@ use Rattle.ap_defs.specs.Answers.{NominalAnswer, NominalOut, cut, found, stuck}
 use Rattle.ap_defs.specs.Goals.{NominalProgram, NominalQuery}
 use Rattle.ap_ground.specs.TypedGroundings.{HaveInhabitants}
 use Rattle.ap_program.specs.Typed.{IsTypedQuery, term_form}
-use Rattle.ap_property.specs.PutIn.{put_in}
+use Rattle.ap_property.specs.PutIn.{query_put_in}
 use Rattle.ap_property.specs.Stated.{Instance, stated}
 use Rattle.ap_examine.specs.Exams.{NominalExam, clear, counter, instance_of, verdict_on}
 use Rattle.ap_examine.specs.declared.exam.Exam.{Exam}
@@ -23,19 +23,19 @@ pub record Asks (p r : NominalProgram) : Type 0 where
 -- The answer's variables have inhabited types, and the conclusion for its stated instance is typed.
 pub record IsExaminable (p : NominalProgram) (q : NominalQuery) (a : NominalAnswer) : Type 0 where
   pub inhabited : HaveInhabitants p.signature.constructors a.vars
-  pub typed : IsTypedQuery term_form p.signature (put_in q (stated p.signature.constructors q.locals a))
+  pub typed : IsTypedQuery term_form p.signature (query_put_in q (stated p.signature.constructors q.locals a))
 
 abbrev pub IsExaminableOut : NominalProgram → NominalQuery → NominalOut → Type 0
 IsExaminableOut p q (found r a) = IsExaminable p q a
 IsExaminableOut p q (cut r) = Unit {0}
 IsExaminableOut p q (stuck r) = Unit {0}
 
-abbrev pub total : Tally → ℕ
-total t = t.held + t.unsettled + t.cut + t.stuck
+abbrev pub total_of_tally : Tally → ℕ
+total_of_tally t = t.held + t.unsettled + t.cut + t.stuck
 
 -- one more can be counted
-abbrev pub IsSmall : Tally → Type 0
-IsSmall t = total t < 2 ^ 63
+abbrev pub IsSmallTally : Tally → Type 0
+IsSmallTally t = total_of_tally t < 2 ^ 63
 
 -- the totals with one more
 abbrev pub exam_after : Verdict → Tally → Instance → NominalExam

@@ -11,6 +11,6 @@ has_answer [] = false
 has_answer (o ∷ os) = is_found o || has_answer os
 
 -- refuted where there is no output at all; else held where there is an answer
-abbrev pub verdict_of : List NominalOut → Verdict
-verdict_of [] = verdict.Refuted
-verdict_of (o ∷ os) = if has_answer (o ∷ os) then verdict.Held else verdict.Open
+abbrev pub verdict_of_outs : List NominalOut → Verdict
+verdict_of_outs [] = verdict.Refuted
+verdict_of_outs (o ∷ os) = if has_answer (o ∷ os) then verdict.Held else verdict.Open

@@ -4,12 +4,12 @@ use Rattle.ap_defs.specs.Answers.{answer_of}
 use Rattle.ap_defs.specs.Goals.{NominalProgram, NominalQuery}
 use Rattle.ap_examine.specs.Exams as exams
 use Rattle.ap_examine.specs.Exams.{NominalExam, clear, counter}
-use Rattle.ap_examine.specs.Reports.{answer_with}
+use Rattle.ap_examine.specs.Reports.{instance_as_answer}
 use Rattle.ap_examine.specs.declared.exam.Exam.{Exam}
 use Rattle.ap_examine.specs.declared.exam.Exam.TheVariants as exam
 
 abbrev pub IsExam : Exam → NominalExam → Type 0
-IsExam (exam.Counter n a) (counter c) = (n ≡ c.answer) × (answer_of a ≡ answer_with c.instance)
+IsExam (exam.Counter n a) (counter c) = (n ≡ c.answer) × (answer_of a ≡ instance_as_answer c.instance)
 IsExam (exam.Counter n a) (clear t) = ⊥
 IsExam (exam.Clear t) (counter c) = ⊥
 IsExam (exam.Clear t) (clear u) = t ≡ u

@@ -6,13 +6,13 @@ ghost use Rattle.ap_defs.specs.Goals.{program_of, query_of};
 ghost use Rattle.ap_defs.specs.Types.{constructor_of};
 ghost use Rattle.ap_instance.specs.Views.{IsStated};
 ghost use Rattle.ap_pick.specs.Pickers.{IsPicker};
-ghost use Rattle.ap_property.specs.PutIn.{put_in};
+ghost use Rattle.ap_property.specs.PutIn.{query_put_in};
 ghost use Rattle.ap_property.specs.Stated.{Instance, stated};
 ghost use Rattle.ap_ground.specs.TypedGroundings.{HaveInhabitants};
 ghost use Rattle.ap_soundness.specs.FoundStates.{EachAnswer};
 ghost use Rattle.ap_examine.specs.Exams.{exam_of, instance_of, verdict_on};
-ghost use Rattle.ap_examine.specs.Reports.{answer_with};
-ghost use Rattle.ap_examine.specs.Steps.{Asks, IsCounter, IsExaminable, IsExaminableOut, IsSmall, exam_after, exam_next};
+ghost use Rattle.ap_examine.specs.Reports.{instance_as_answer};
+ghost use Rattle.ap_examine.specs.Steps.{Asks, IsCounter, IsExaminable, IsExaminableOut, IsSmallTally, exam_after, exam_next};
 ghost use Rattle.ap_examine.specs.Views.{IsExam};
 ghost use Rattle.ap_examine.specs.declared.exam.Exam.TheVariants as exams;
 
@@ -52,7 +52,7 @@ fn pose(
     requires picker { IsPicker picker.now }
     requires inhabited { HaveInhabitants (map constructor_of picker.now.constructors.now)
         (answer_of answer.now).vars }
-    ensures query { IfOk result (λ r. query_of r.query ≡ put_in (query_of query.now) (stated
+    ensures query { IfOk result (λ r. query_of r.query ≡ query_put_in (query_of query.now) (stated
         (map constructor_of picker.now.constructors.now) (query_of query.now).locals
         (answer_of answer.now))) }
     ensures stated { IfOk result (λ r. IsStated r.stated (stated
@@ -130,7 +130,7 @@ pub(crate) struct Examined {
 
 /// A stated instance as an answer.
 fn shown_as_answer(alloc: Global, stated: Stated) -> Answer
-    ensures { (i : Instance) → IsStated stated i → answer_of result ≡ answer_with i }
+    ensures { (i : Instance) → IsStated stated i → answer_of result ≡ instance_as_answer i }
 {
     let Stated {
         terms,
@@ -147,7 +147,7 @@ fn shown_as_answer(alloc: Global, stated: Stated) -> Answer
 
 /// The exam after the verdict on one more answer: the totals are of those before it.
 fn after_verdict(alloc: Global, verdict: Verdict, tally: Tally, stated: Stated) -> Exam
-    requires { IsSmall tally }
+    requires { IsSmallTally tally }
     ensures { (i : Instance) → IsStated stated i → IsExam result (exam_after verdict tally i) }
 {
     match verdict {
@@ -184,7 +184,7 @@ fn examine_out<R: Threads + Wait + Sync, G: Gate>(
         ≡ (program_of program).signature.constructors }
     requires some { 1 ≤ length (program_of program).queries }
     requires out { IsExaminableOut (program_of program) (query_of query.now) (out_of out.now) }
-    requires small { IsSmall tally }
+    requires small { IsSmallTally tally }
     ensures program { IfOk result (λ r. Asks (program_of program) (program_of r.program)) }
     ensures exam { IfOk result (λ r. IsExam r.exam
         (exam_next (program_of program) depth (query_of query.now) tally (out_of out.now))) }

@@ -42,7 +42,7 @@ fn has_answer(outs: &[Out]) -> bool
 
 /// The verdict by the outputs of a conclusion.
 pub(crate) fn verdict_of(outs: &[Out]) -> Verdict
-    ensures { result ≡ spec.verdict_of (outs_of outs.now) }
+    ensures { result ≡ spec.verdict_of_outs (outs_of outs.now) }
 {
     if outs.is_empty() {
         return Verdict::Refuted;

@@ -2,7 +2,7 @@
 use Rattle.std.proofs.Common.{◌≡◌, ◌≤◌, ◌+◌, ◌*◌, ◌%◌, ℕ, zero, suc, List, ◌++◌, length, refl, ap, ◌∙◌, arith, length-append}
 use Rattle.std.specs.Prelude.{codes}
 use Rattle.ap_defs.specs.Limits.{size_limit}
-use Rattle.ap_gen.specs.Generated.{Made, application, by_kind, calculus, drawn, generated, lambda, leaf, bound_name, next_draw, queries, query, term}
+use Rattle.ap_gen.specs.Generated.{Drawn, application, by_kind, calculus, drawn, generated, lambda, leaf, bound_name, next_draw, queries, query, term}
 use Rattle.ap_gen.specs.Sizes.{most_queries}
 
 name_length : (n : ℕ) → length (bound_name n) ≡ 1
@@ -27,7 +27,7 @@ leaf_length x =
     omega (arith, whole, name_length (drawn 3 x))
 
 -- the parts of a term are no longer than this
-module _ (make : ℕ → Made) (most : ℕ) (short : (x : ℕ) → length (make x).text ≤ most) where
+module _ (make : ℕ → Drawn) (most : ℕ) (short : (x : ℕ) → length (make x).text ≤ most) where
   lambda_length : (x : ℕ) → length (lambda make x).text ≤ most + 7
   lambda_length x =
       let name = bound_name (drawn 3 x) in

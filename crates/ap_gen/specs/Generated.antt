@@ -10,7 +10,7 @@ abbrev pub drawn : ℕ → ℕ → ℕ
 drawn m x = next_draw x / 16 % m
 
 -- What is made from a state, and the state after it.
-pub record Made : Type 0 where
+pub record Drawn : Type 0 where
   pub text : List ℕ
   pub state : ℕ
 
@@ -20,30 +20,30 @@ bound_name (suc zero) = codes "c"
 bound_name (suc (suc n)) = codes "d"
 
 -- a variable
-abbrev pub leaf : ℕ → Made
+abbrev pub leaf : ℕ → Drawn
 leaf x = record { text = codes "var(" ++ bound_name (drawn 3 x) ++ codes ")"; state = next_draw x }
 
 -- an abstraction of what is made, and an application of it to another
-abbrev pub lambda : (ℕ → Made) → ℕ → Made
+abbrev pub lambda : (ℕ → Drawn) → ℕ → Drawn
 lambda make x = record {
   text = codes "lam(" ++ bound_name (drawn 3 x) ++ codes "\\" ++ (make (next_draw x)).text ++ codes ")";
   state = (make (next_draw x)).state;
 }
 
-abbrev pub application : (ℕ → Made) → ℕ → Made
+abbrev pub application : (ℕ → Drawn) → ℕ → Drawn
 application make x = record {
   text = codes "app(" ++ (make x).text ++ codes "," ++ (make (make x).state).text ++ codes ")";
   state = (make (make x).state).state;
 }
 
 -- a variable, an abstraction or an application, by what was drawn of four
-abbrev pub by_kind : ℕ → (ℕ → Made) → ℕ → Made
+abbrev pub by_kind : ℕ → (ℕ → Drawn) → ℕ → Drawn
 by_kind zero make x = leaf x
 by_kind (suc zero) make x = lambda make x
 by_kind (suc (suc k)) make x = application make x
 
 -- a term of at most this height
-abbrev pub term : ℕ → ℕ → Made
+abbrev pub term : ℕ → ℕ → Drawn
 term zero x = leaf x
 term (suc h) x = by_kind (drawn 4 x) (term h) (next_draw x)
 

@@ -16,7 +16,7 @@ use Rattle.ap_theory.proofs.DisagreementLemmas.{has_front}
 use Rattle.ap_theory.proofs.GroundLemmas.{alpha_act, alpha_sym, alpha_trans}
 use Rattle.ap_theory.proofs.PermutationLemmas.{name_eq_itself}
 use Rattle.ap_theory.proofs.TermLemmas.{same_number, same_var}
-use Rattle.ap_ground.specs.Environments.{SameNames, SameTerms}
+use Rattle.ap_ground.specs.Environments.{SameNames, SameTermsFor}
 
 -- equal names, and what is equal below, make equal terms
 pub alpha_name : (a b : Name) → a ≡ b → alpha (name a) (name b) ≡ true
@@ -32,10 +32,10 @@ module _ (e f : Environment) where
   pub names_rest : (a : Name) (as' : List Name) → SameNames e f (a ∷ as') → SameNames e f as'
   names_rest a as' h b k = h b (or_if_right (name_eq b a) (has_name b as') k)
 
-  pub terms_first : (x : Var) (xs : List Var) → SameTerms e f (x ∷ xs) → alpha (e.terms x) (f.terms x) ≡ true
+  pub terms_first : (x : Var) (xs : List Var) → SameTermsFor e f (x ∷ xs) → alpha (e.terms x) (f.terms x) ≡ true
   terms_first x xs h = h x (or_if_left (var_eq x x) (has_var x xs) (same_var x x refl))
 
-  pub terms_rest : (x : Var) (xs : List Var) → SameTerms e f (x ∷ xs) → SameTerms e f xs
+  pub terms_rest : (x : Var) (xs : List Var) → SameTermsFor e f (x ∷ xs) → SameTermsFor e f xs
   terms_rest x xs h y k = h y (or_if_right (var_eq y x) (has_var y xs) k)
 
   swaps_agree : (p : List Swap) (as' : List Name) → SameNames e f (names_of p ++ as') → (map (swap_under e) p ≡ map (swap_under f) p) × SameNames e f as'
@@ -49,8 +49,8 @@ module _ (e f : Environment) where
       (ap₂ ◌∷◌ one k.0, k.1)
 
   -- What a term sees of an environment, and what is left for the terms after it.
-  pub instance_agrees_then : (t : NominalTerm) (as' : List Name) (xs : List Var) → SameNames e f (names_then t as') → SameTerms e f (vars_then t xs)
-      → (alpha (instance e t) (instance f t) ≡ true) × SameNames e f as' × SameTerms e f xs
+  pub instance_agrees_then : (t : NominalTerm) (as' : List Name) (xs : List Var) → SameNames e f (names_then t as') → SameTermsFor e f (vars_then t xs)
+      → (alpha (instance e t) (instance f t) ≡ true) × SameNames e f as' × SameTermsFor e f xs
   instance_agrees_then unit as' xs h k = (refl, h, k)
   instance_agrees_then (name a) as' xs h k = (alpha_name (e.names a) (f.names a) (names_first a as' h), names_rest a as' h, k)
   instance_agrees_then (pair t u) as' xs h k =
@@ -70,7 +70,7 @@ module _ (e f : Environment) where
       (ap (λ q. alpha (instance e (susp p x)) (act_ground q (f.terms x))) (sym l.0) ∙ same, l.1, terms_rest x xs k)
 
   -- terms one by one
-  pub instances_agree : (ts : List NominalTerm) (us : List GroundTerm) → SameNames e f (names_of_terms ts) → SameTerms e f (vars_of_terms ts)
+  pub instances_agree : (ts : List NominalTerm) (us : List GroundTerm) → SameNames e f (names_of_terms ts) → SameTermsFor e f (vars_of_terms ts)
       → AlphaEach (map (instance e) ts) us → AlphaEach (map (instance f) ts) us
   instances_agree [] [] h k l = tt
   instances_agree (t ∷ ts) (u ∷ us) h k l =
@@ -78,6 +78,6 @@ module _ (e f : Environment) where
       (alpha_trans (instance f t) (instance e t) u (alpha_sym (instance e t) (instance f t) here.0) l.0, instances_agree ts us here.1 here.2 l.1)
   instances_agree _ _ h k l = absurd l
 
-pub instance_agrees : (t : NominalTerm) (e f : Environment) → SameNames e f (names_then t []) → SameTerms e f (vars_then t [])
+pub instance_agrees : (t : NominalTerm) (e f : Environment) → SameNames e f (names_then t []) → SameTermsFor e f (vars_then t [])
     → alpha (instance e t) (instance f t) ≡ true
 instance_agrees t e f h k = (instance_agrees_then e f t [] [] h k).0

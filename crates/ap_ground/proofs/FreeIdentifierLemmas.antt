@@ -20,7 +20,7 @@ use Rattle.ap_theory.proofs.DisagreementLemmas.{has_name-append}
 use Rattle.ap_theory.proofs.GroundLemmas.{alpha_itself, alpha_sym, alpha_trans, fresh_alpha}
 use Rattle.ap_theory.proofs.PermutationLemmas.{has_without_name, name_eq_same, name_tells}
 use Rattle.ap_theory.proofs.TermLemmas.{var_eq_flip, var_same}
-use Rattle.ap_ground.specs.Environments.{AgreeOn, SameNames, SameTerms}
+use Rattle.ap_ground.specs.Environments.{AgreeOn, SameNames, SameTermsFor}
 use Rattle.ap_ground.specs.StatementsOnGroundProofs.{ProofsSeeFreeIdentifiers}
 use Rattle.ap_ground.proofs.EnvironmentLemmas.{instance_agrees_then, instances_agree}
 
@@ -100,7 +100,7 @@ module _ (e f : Environment) where
   }
 
   -- the instances of two terms
-  two_agree : (t u : NominalTerm) → SameNames e f (names_then t (names_then u [])) → SameTerms e f (vars_then t (vars_then u []))
+  two_agree : (t u : NominalTerm) → SameNames e f (names_then t (names_then u [])) → SameTermsFor e f (vars_then t (vars_then u []))
       → (alpha (instance e t) (instance f t) ≡ true) × (alpha (instance e u) (instance f u) ≡ true)
   two_agree t u h k =
       let l = instance_agrees_then e f t (names_then u []) (vars_then u []) h k in

@@ -21,7 +21,7 @@ use Rattle.ap_defs.specs.declared.terms.Var.{Var}
 use Rattle.ap_theory.proofs.BooleanLemmas.{or_right}
 use Rattle.ap_theory.proofs.GroundLemmas.{act_ground-append, act_ground_same, alpha_act, alpha_itself, alpha_sym, fresh_act}
 use Rattle.ap_theory.proofs.PermutationLemmas.{act-append, act_injective, act_sort, act_swap, name_eq_act, name_tells, not_name}
-use Rattle.ap_ground.specs.Environments.{AgreeOn, KeepsSorts, SameNames, SameTerms, act_environment, act_proof}
+use Rattle.ap_ground.specs.Environments.{AgreeOn, KeepsSorts, SameNames, SameTermsFor, act_environment, act_proof}
 use Rattle.ap_ground.specs.StatementsOnGroundProofs.{HeightIsEquivariant, ProofsAreEquivariant}
 use Rattle.ap_ground.proofs.EnvironmentLemmas.{instances_agree}
 use Rattle.ap_ground.proofs.FreeIdentifierLemmas.{proofs_see_free}
@@ -156,7 +156,7 @@ module _ (s : List Swap) (locals : List NominalLocal) (names : List Name) (gs : 
   same_names : (as' : List Name) → ((a : Name) → has_name a as' ≡ true → has_name a (local_names 0 locals) ≡ true) → SameNames Acted Again as'
   same_names as' h b k = name_for_act s (local_names 0 locals) names b sorts (h b k)
 
-  same_terms : (xs : List Var) → SameTerms Acted Again xs
+  same_terms : (xs : List Var) → SameTermsFor Acted Again xs
   same_terms xs x k = ap (alpha (Acted.terms x)) (sym (term_for_act s (local_vars 0 locals) gs x)) ∙ alpha_itself (Acted.terms x)
 
   pub agree_act : (g : NominalGoal) → ((a : Name) → has_name a (free_names g) ≡ true → has_name a (local_names 0 locals) ≡ true) → AgreeOn g Acted Again

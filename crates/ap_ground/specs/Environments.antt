@@ -17,8 +17,8 @@ abbrev pub SameNames : Environment → Environment → List Name → Type 0
 SameNames e f as' = (b : Name) → has_name b as' ≡ true → e.names b ≡ f.names b
 
 -- equal terms for these variables
-abbrev pub SameTerms : Environment → Environment → List Var → Type 0
-SameTerms e f xs = (x : Var) → has_var x xs ≡ true → alpha (e.terms x) (f.terms x) ≡ true
+abbrev pub SameTermsFor : Environment → Environment → List Var → Type 0
+SameTermsFor e f xs = (x : Var) → has_var x xs ≡ true → alpha (e.terms x) (f.terms x) ≡ true
 
 -- the environments agree on what is free in the goal
 pub record AgreeOn (g : NominalGoal) (e f : Environment) : Type 0 where

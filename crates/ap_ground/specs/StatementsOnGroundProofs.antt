@@ -10,11 +10,11 @@ use Rattle.ap_defs.specs.Terms.{NominalTerm}
 use Rattle.ap_defs.specs.Types.{NominalKind}
 use Rattle.ap_defs.specs.Unification.{vars_then}
 use Rattle.ap_program.specs.Typed.{IsTypedProgram}
-use Rattle.ap_ground.specs.Environments.{AgreeOn, KeepsSorts, SameNames, SameTerms, act_environment, act_proof}
+use Rattle.ap_ground.specs.Environments.{AgreeOn, KeepsSorts, SameNames, SameTermsFor, act_environment, act_proof}
 
 -- a term sees an environment only on its names and variables
 abbrev pub InstancesSeeIdentifiers : Type 0
-InstancesSeeIdentifiers = (t : NominalTerm) (e f : Environment) → SameNames e f (names_then t []) → SameTerms e f (vars_then t [])
+InstancesSeeIdentifiers = (t : NominalTerm) (e f : Environment) → SameNames e f (names_then t []) → SameTermsFor e f (vars_then t [])
     → alpha (instance e t) (instance f t) ≡ true
 
 -- a ground proof sees an environment only on what is free in its goal

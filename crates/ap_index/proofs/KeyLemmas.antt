@@ -18,7 +18,7 @@ use Rattle.ap_defs.specs.Typing.{IsApplication, Want}
 use Rattle.ap_program.specs.NameRestriction.{IsRestricted, sum_of_lengths}
 use Rattle.ap_program.specs.RawTyping.{HasTermType, IsTypedTerm}
 use Rattle.ap_program.specs.Typed.{AreArguments, AreTypedClauses, AreTypedFrom, predicate_at, term_form}
-use Rattle.ap_lanes.specs.Matching.{agrees}
+use Rattle.ap_lanes.specs.Matching.{key_agrees}
 use Rattle.ap_index.specs.Keys.{AreNarrow, AreNarrowLists, keys_of}
 
 constructor_below : (cs : List NominalConstructor) (g : ℕ) (typed : Want → Type 0) (d : ℕ) → IsApplication typed (constructor_in cs (suc (suc g))) d → g < length cs
@@ -78,16 +78,16 @@ narrow_drop zero xs h = h
 narrow_drop (suc n) [] h = tt
 narrow_drop (suc n) (x ∷ xs) h = narrow_drop n xs h.1
 
-pub narrow_match : (key : ℕ) (xs : List ℕ) → AreNarrow xs → (key ≡ 0 → ⊥) → prefix_len (λ k. not (agrees key k)) xs ≡ position_or_len (λ k. agree key k) xs
-narrow_match key xs h other = same_tests (agrees key) (λ k. agree key k) xs h (λ x l. same x)
+pub narrow_match : (key : ℕ) (xs : List ℕ) → AreNarrow xs → (key ≡ 0 → ⊥) → prefix_len (λ k. not (key_agrees key k)) xs ≡ position_or_len (λ k. agree key k) xs
+narrow_match key xs h other = same_tests (key_agrees key) (λ k. agree key k) xs h (λ x l. same x)
   where
-    same : (x : ℕ) → agrees key x ≡ agree key x
+    same : (x : ℕ) → key_agrees key x ≡ agree key x
     same x = grind (arith, nat_tests)
 
-pub wide_match : (key : ℕ) (xs : List ℕ) → AreNarrow xs → 2 ^ 32 ≤ key → prefix_len (λ k. not (agrees 0 k)) xs ≡ position_or_len (λ k. agree key k) xs
-wide_match key xs h wide = same_tests (agrees 0) (λ k. agree key k) xs h same
+pub wide_match : (key : ℕ) (xs : List ℕ) → AreNarrow xs → 2 ^ 32 ≤ key → prefix_len (λ k. not (key_agrees 0 k)) xs ≡ position_or_len (λ k. agree key k) xs
+wide_match key xs h wide = same_tests (key_agrees 0) (λ k. agree key k) xs h same
   where
-    same : (x : ℕ) → x < 2 ^ 32 → agrees 0 x ≡ agree key x
+    same : (x : ℕ) → x < 2 ^ 32 → key_agrees 0 x ≡ agree key x
     same x l = grind (arith, nat_tests)
 
 pub wild_match : (key : ℕ) (xs : List ℕ) → key ≡ 0 → position_or_len (λ k. agree key k) xs ≡ 0

@@ -4,7 +4,7 @@ use Rattle.std.proofs.lemmas.List.{drop-drop, drop-take, drop_all, length-drop}
 use Rattle.std.specs.List.{prefix_len}
 use Rattle.std.specs.Prelude.{◌==◌}
 use Rattle.ap_lanes.proofs.LaneLemmas.{run_ends, run_goes_on}
-use Rattle.ap_lanes.specs.Matching.{agrees}
+use Rattle.ap_lanes.specs.Matching.{key_agrees}
 use Rattle.ap_theory.proofs.TermLemmas.{number_same}
 use Rattle.ap_index.specs.Places.{AreKeysWithin, bucket}
 
@@ -38,7 +38,7 @@ module _ (keys starts ends : List ℕ) (key : ℕ) (within : AreKeysWithin keys 
   abbrev behind : ℕ
   behind = max (get_or ends (bucket (length keys) key) 0) (get_or ends 0 0)
 
-  there : (k : ℕ) → k < length keys → agrees key (get_or keys k 0) ≡ true → (first ≤ k) × (k < behind)
+  there : (k : ℕ) → k < length keys → key_agrees key (get_or keys k 0) ≡ true → (first ≤ k) × (k < behind)
   there k l h =
       let n = length keys in
       let at = get_or keys k 0 in
@@ -47,48 +47,48 @@ module _ (keys starts ends : List ℕ) (key : ℕ) (within : AreKeysWithin keys 
       (λ e. let w = subst (λ (b : ℕ). (get_or starts b 0 ≤ k) × (k < get_or ends b 0)) (ap (bucket n) (number_same at 0 e)) (within k l) in (omega (arith, w.0), omega (arith, w.1)))
       h
 
-  not_before : (k : ℕ) → k < length keys → k < first → agrees key (get_or keys k 0) ≡ false
+  not_before : (k : ℕ) → k < length keys → k < first → key_agrees key (get_or keys k 0) ≡ false
   not_before k l h = not_true _ (λ e. let w = there k l e in omega (arith, w.0, h))
 
-  not_behind : (k : ℕ) → k < length keys → behind ≤ k → agrees key (get_or keys k 0) ≡ false
+  not_behind : (k : ℕ) → k < length keys → behind ≤ k → key_agrees key (get_or keys k 0) ≡ false
   not_behind k l h = not_true _ (λ e. let w = there k l e in omega (arith, w.1, h))
 
   abbrev run : ℕ → ℕ
-  run i = prefix_len (λ k. not (agrees key k)) (drop i keys)
+  run i = prefix_len (λ k. not (key_agrees key k)) (drop i keys)
 
   at_end : run (length keys) ≡ 0
-  at_end = ap (λ (xs : List ℕ). prefix_len (λ k. not (agrees key k)) xs) (drop_all (length keys) keys (omega arith))
+  at_end = ap (λ (xs : List ℕ). prefix_len (λ k. not (key_agrees key k)) xs) (drop_all (length keys) keys (omega arith))
 
   module _ (from start end : ℕ) (low : from ≤ length keys) (starts_at : start ≡ max from first) (ends_at : end ≡ min (length keys) behind) where
     pub nothing_there : end ≤ start → length keys ≡ from + run from
     nothing_there h =
-        let e = none_between (agrees key) keys from (length keys) low (omega arith) (λ k a b. not_true _ (λ t. let w = there k b t in omega (arith, w.0, w.1, a, b, h, starts_at, ends_at))) in
+        let e = none_between (key_agrees key) keys from (length keys) low (omega arith) (λ k a b. not_true _ (λ t. let w = there k b t in omega (arith, w.0, w.1, a, b, h, starts_at, ends_at))) in
         omega (arith, e, at_end)
 
-    module _ (here : start < end) (place : ℕ) (found : place ≡ start + prefix_len (λ k. not (agrees key k)) (drop start (take end keys))) where
+    module _ (here : start < end) (place : ℕ) (found : place ≡ start + prefix_len (λ k. not (key_agrees key k)) (drop start (take end keys))) where
       same : from + run from ≡ start + run start
-      same = none_between (agrees key) keys from start (omega (arith, starts_at)) (omega (arith, here, ends_at)) (λ k a b. not_before k (omega (arith, b, here, ends_at)) (omega (arith, a, b, starts_at)))
+      same = none_between (key_agrees key) keys from start (omega (arith, starts_at)) (omega (arith, here, ends_at)) (λ k a b. not_before k (omega (arith, b, here, ends_at)) (omega (arith, a, b, starts_at)))
 
       part : drop start (take end keys) ≡ take (end - start) (drop start keys)
       part = ap (λ (n : ℕ). drop start (take n keys)) (omega (arith, here)) ∙ drop-take start (end - start) keys
 
-      found_part : place ≡ start + prefix_len (λ k. not (agrees key k)) (take (end - start) (drop start keys))
-      found_part = found ∙ ap (λ (xs : List ℕ). start + prefix_len (λ k. not (agrees key k)) xs) part
+      found_part : place ≡ start + prefix_len (λ k. not (key_agrees key k)) (take (end - start) (drop start keys))
+      found_part = found ∙ ap (λ (xs : List ℕ). start + prefix_len (λ k. not (key_agrees key k)) xs) part
 
       long : end - start ≤ length (drop start keys)
       long = let l = length-drop start keys in omega (arith, l, here, ends_at)
 
       pub place_there : place < end → place ≡ from + run from
       place_there h =
-          let e = run_ends (λ k. not (agrees key k)) (drop start keys) (end - start) long (omega (arith, h, found_part, here)) in
+          let e = run_ends (λ k. not (key_agrees key k)) (drop start keys) (end - start) long (omega (arith, h, found_part, here)) in
           omega (arith, e, same, found_part)
 
       pub place_past : end ≤ place → length keys ≡ from + run from
       place_past h =
-          let e = run_goes_on (λ k. not (agrees key k)) (drop start keys) (end - start) long (omega (arith, h, found_part, here)) in
-          let d : prefix_len (λ k. not (agrees key k)) (drop (end - start) (drop start keys)) ≡ run end =
-          ap (λ (xs : List ℕ). prefix_len (λ k. not (agrees key k)) xs) (drop-drop (end - start) start keys ∙ ap (λ (n : ℕ). drop n keys) (omega (arith, here))) in
-          let f = none_between (agrees key) keys end (length keys) (omega (arith, ends_at)) (omega arith) (λ k a b. not_behind k b (omega (arith, a, b, ends_at))) in
+          let e = run_goes_on (λ k. not (key_agrees key k)) (drop start keys) (end - start) long (omega (arith, h, found_part, here)) in
+          let d : prefix_len (λ k. not (key_agrees key k)) (drop (end - start) (drop start keys)) ≡ run end =
+          ap (λ (xs : List ℕ). prefix_len (λ k. not (key_agrees key k)) xs) (drop-drop (end - start) start keys ∙ ap (λ (n : ℕ). drop n keys) (omega (arith, here))) in
+          let f = none_between (key_agrees key) keys end (length keys) (omega (arith, ends_at)) (omega arith) (λ k a b. not_behind k b (omega (arith, a, b, ends_at))) in
           omega (arith, e, d, f, at_end, same, here)
 
 at_place : (xs : List ℕ) (i r : ℕ) → i < length xs → r ≡ get_or xs i r → r ≡ get_or xs i 0

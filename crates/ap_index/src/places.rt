@@ -3,7 +3,7 @@
 ghost use Rattle.std.specs.Prelude.{◌≡◌, ◌+◌, ◌<◌, ◌≤◌, ◌^◌, IfOk, drop, length, not};
 ghost use Rattle.std.specs.List.{prefix_len};
 ghost use Rattle.ap_index.specs.Places.{AreKeysWithin, bucket};
-ghost use Rattle.ap_lanes.specs.Matching.{agrees};
+ghost use Rattle.ap_lanes.specs.Matching.{key_agrees};
 
 use ap_defs::memory::Memory;
 use ap_lanes::matching::next_match;
@@ -55,7 +55,7 @@ pub fn next_within(keys: &[u32], places: &Places, key: u32, from: usize) -> usiz
     requires starts { length places.now.starts.items ≡ length keys.now + 1 }
     requires ends { length places.now.ends.items ≡ length keys.now + 1 }
     requires within { AreKeysWithin keys.now places.now.starts.items places.now.ends.items }
-    ensures { result ≡ from + prefix_len (λ k. not (agrees key k)) (drop from keys.now) }
+    ensures { result ≡ from + prefix_len (λ k. not (key_agrees key k)) (drop from keys.now) }
 {
     let count = keys.len();
     if count == 0 {

@@ -18,16 +18,16 @@ kind_by_first [] = kinds.Empty
 kind_by_first (b ∷ bs) = kind_by b
 
 -- what a line holds, by its first byte that is no blank
-abbrev pub kind_of : List ℕ → LineKind
-kind_of line = kind_by_first (drop (leading_blanks line) line)
+abbrev pub line_kind_of : List ℕ → LineKind
+line_kind_of line = kind_by_first (drop (leading_blanks line) line)
 
 -- whether a line holds a full stop alone: before and behind it are only blanks
 abbrev pub is_stop_first : List ℕ → Bool
 is_stop_first [] = false
 is_stop_first (b ∷ bs) = (b == 46) && (leading_blanks bs == length bs)
 
-abbrev pub is_stop : List ℕ → Bool
-is_stop line = is_stop_first (drop (leading_blanks line) line)
+abbrev pub is_stop_line : List ℕ → Bool
+is_stop_line line = is_stop_first (drop (leading_blanks line) line)
 
 -- whether bytes begin with `?-`
 abbrev pub begins_with_mark : List ℕ → Bool

@@ -11,14 +11,14 @@ use std::alloc::Global;
 
 /// What stands in place of a byte that is left out.
 fn blank(byte: u8) -> u8
-    ensures { result ≡ spec.blank byte }
+    ensures { result ≡ spec.blank_for byte }
 {
     if byte == b'\n' { byte } else { b' ' }
 }
 
 /// Puts blanks in place of bytes, but for the ends of lines.
 fn blank_all(bytes: &mut [u8])
-    ensures { bytes.new ≡ map spec.blank bytes.old }
+    ensures { bytes.new ≡ map spec.blank_for bytes.old }
 {
     for byte in bytes.iter_mut() {
         *byte = blank(*byte);
@@ -45,7 +45,7 @@ fn between(bytes: &[u8], start: usize, end: usize) -> &[u8]
 
 /// Where an item begins.
 fn start_of(item: &[Token<'_>]) -> usize
-    ensures { result ≡ spec.start_of (lexemes item.now) }
+    ensures { result ≡ spec.item_start_of (lexemes item.now) }
 {
     match item.first() {
         Some(token) => token.start as usize,
@@ -98,8 +98,9 @@ fn rest_of<'t, 'a>(tokens: &'t [Token<'a>], place: usize) -> &'t [Token<'a>]
 fn first_item<'t, 'a>(tokens: &'t [Token<'a>]) -> &'t [Token<'a>]
     requires { 0 < length tokens.now }
     ensures within { (0 < length result.now) × (length result.now ≤ length tokens.now) }
-    ensures item { spec.items (lexemes tokens.now)
-        ≡ lexemes result.now ∷ spec.items (lexemes (drop (length result.now) tokens.now)) }
+    ensures item { spec.items_of_tokens (lexemes tokens.now)
+        ≡ lexemes result.now
+        ∷ spec.items_of_tokens (lexemes (drop (length result.now) tokens.now)) }
 {
     let count = (dot_place(tokens) + 1).min(tokens.len());
     &tokens[..count]

@@ -30,7 +30,7 @@ fn leading_blanks(bytes: &[u8]) -> usize
 
 /// What a line holds, by the first of its bytes that is no blank.
 pub fn kind_of(line: &[u8]) -> LineKind
-    ensures { result ≡ spec.kind_of line.now }
+    ensures { result ≡ spec.line_kind_of line.now }
 {
     match &line[leading_blanks(line)..] {
         [] => LineKind::Empty,
@@ -53,7 +53,7 @@ fn kind_by(first: u8) -> LineKind
 
 /// Whether a line holds a full stop alone.
 pub fn is_stop(line: &[u8]) -> bool
-    ensures { result ≡ spec.is_stop line.now }
+    ensures { result ≡ spec.is_stop_line line.now }
 {
     match &line[leading_blanks(line)..] {
         [] => false,

@@ -10,7 +10,7 @@ ghost use Rattle.ap_defs.specs.Types.{local_of, locals_of};
 ghost use Rattle.ap_instance.specs.Equations.{with_equations};
 ghost use Rattle.ap_instance.specs.Views.{IsStated};
 ghost use Rattle.ap_property.specs.Properties.{conclusion};
-ghost use Rattle.ap_property.specs.PutIn.{name_local, put_in};
+ghost use Rattle.ap_property.specs.PutIn.{name_local, query_put_in};
 ghost use Rattle.ap_property.specs.Stated.{Instance};
 
 use crate::parts::{conclusion_of, copy_locals};
@@ -107,7 +107,7 @@ fn put_in_locals(alloc: Global, locals: &[Local], sorts: &[u32]) -> Result<Vec<L
 /// the query's and the terms' further names.
 pub fn put_in_of(alloc: Global, query: &Query<Term>, stated: &Stated) -> Result<Query<Term>, Memory>
     ensures { IfOk result (λ q. (i : Instance) → IsStated stated.now i →
-        query_of q ≡ put_in (query_of query.now) i) }
+        query_of q ≡ query_put_in (query_of query.now) i) }
 {
     let goal = put_in_goal(alloc, query.locals.items(), &stated.terms, &query.goal)?;
     let locals = put_in_locals(alloc, query.locals.items(), &stated.sorts)?;

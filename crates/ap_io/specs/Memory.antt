@@ -9,7 +9,7 @@ pub record Reading : Type 0 where
   pub fails : List ℕ
 
 -- what is held, the most of one write, the bytes that there is room for, and the rest as of a source
-pub record Writing : Type 0 where
+pub record SinkWriting : Type 0 where
   pub held : List ℕ
   pub most : ℕ
   pub room : ℕ

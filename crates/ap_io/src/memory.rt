@@ -103,9 +103,9 @@ pub struct MemSink {
 
 impl Model for MemSink {
     ghost use Rattle.std.specs.Prelude.{◌≤◌, vec_capacity};
-    ghost use Rattle.ap_io.specs.Memory.{Writing, IsRoomy};
+    ghost use Rattle.ap_io.specs.Memory.{SinkWriting, IsRoomy};
 
-    ghost Value = { Writing };
+    ghost Value = { SinkWriting };
 
     ghost view = { λ s. record { held = s.bytes.items; most = s.most; room = s.room; calls = s.calls; faults = s.failures; fails = s.fails.items } };
 

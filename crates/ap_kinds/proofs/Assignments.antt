@@ -2,15 +2,15 @@
 use Rattle.std.proofs.Common.{◌≡◌, ◌<◌, ◌≤◌, ◌∙◌, ℕ, List, [], ◌∷◌, ◌++◌, refl, sym, ap, subst, arith}
 use Rattle.ap_defs.specs.Types.{NominalType, TypeShape, hole, unit, names, base, pair, list, abs}
 use Rattle.ap_defs.specs.Types as types
-use Rattle.ap_types.specs.Equations.{ShapeEquation, ◌≐◌, Filling, filled, Solves, IsNameType, GivesNames, IsSolution, bound_of, equations_bound, names_bound}
-use Rattle.ap_kinds.specs.Systems.{opened}
+use Rattle.ap_types.specs.Equations.{ShapeEquation, ◌≐◌, Filling, filled, FillingSolves, IsNameType, GivesNames, IsSolution, bound_of, equations_bound, names_bound}
+use Rattle.ap_kinds.specs.Systems.{shape_of_type}
 
 -- a type for each hole
 abbrev pub Assign : Type 0
 Assign = ℕ → NominalType
 
 abbrev pub filling : Assign → Filling
-filling φ x = opened (φ x)
+filling φ x = shape_of_type (φ x)
 
 abbrev pub sort_of : NominalType → ℕ
 sort_of (types.names s) = s
@@ -44,7 +44,7 @@ abbrev pub AreProper : Filling → List ShapeEquation → Type 0
 AreProper f [] = Unit {0}
 AreProper f ((t ≐ u) ∷ es) = IsProper f t × IsProper f u × AreProper f es
 
-names_opened : (a : NominalType) → IsNamesShape (opened a) → opened a ≡ names (sort_of a)
+names_opened : (a : NominalType) → IsNamesShape (shape_of_type a) → shape_of_type a ≡ names (sort_of a)
 names_opened (types.names s) h = refl
 names_opened _ h = absurd h
 
@@ -54,7 +54,7 @@ left_closes φ (names s) h = refl
 left_closes φ _ h = absurd h
 
 -- a proper shape becomes a type
-pub closes : (φ : Assign) (t : TypeShape) → IsProper (filling φ) t → filled (filling φ) t ≡ opened (closed φ t)
+pub closes : (φ : Assign) (t : TypeShape) → IsProper (filling φ) t → filled (filling φ) t ≡ shape_of_type (closed φ t)
 closes φ (hole x) h = refl
 closes φ unit h = refl
 closes φ (names s) h = refl
@@ -63,7 +63,7 @@ closes φ (pair t u) h = let a = closes φ t h.0 in let b = closes φ u h.1 in c
 closes φ (list t) h = ap list (closes φ t h)
 closes φ (abs t u) h = let a = left_closes φ t h.0 in let b = closes φ u h.1 in cc
 
-pub closed_opened : (φ : Assign) (a : NominalType) → closed φ (opened a) ≡ a
+pub closed_opened : (φ : Assign) (a : NominalType) → closed φ (shape_of_type a) ≡ a
 closed_opened φ types.unit = refl
 closed_opened φ (types.names s) = refl
 closed_opened φ (types.base d) = refl
@@ -71,7 +71,7 @@ closed_opened φ (types.pair a b) = let p = closed_opened φ a in let q = closed
 closed_opened φ (types.list a) = ap types.list (closed_opened φ a)
 closed_opened φ (types.abs s a) = ap (types.abs s) (closed_opened φ a)
 
-pub filled_opened : (f : Filling) (a : NominalType) → filled f (opened a) ≡ opened a
+pub filled_opened : (f : Filling) (a : NominalType) → filled f (shape_of_type a) ≡ shape_of_type a
 filled_opened f types.unit = refl
 filled_opened f (types.names s) = refl
 filled_opened f (types.base d) = refl
@@ -79,7 +79,7 @@ filled_opened f (types.pair a b) = let p = filled_opened f a in let q = filled_o
 filled_opened f (types.list a) = ap list (filled_opened f a)
 filled_opened f (types.abs s a) = ap (abs (names s)) (filled_opened f a)
 
-pub proper_opened : (f : Filling) (a : NominalType) → IsProper f (opened a)
+pub proper_opened : (f : Filling) (a : NominalType) → IsProper f (shape_of_type a)
 proper_opened f types.unit = tt
 proper_opened f (types.names s) = tt
 proper_opened f (types.base d) = tt
@@ -87,7 +87,7 @@ proper_opened f (types.pair a b) = (proper_opened f a, proper_opened f b)
 proper_opened f (types.list a) = proper_opened f a
 proper_opened f (types.abs s a) = (tt, proper_opened f a)
 
-pub bound_opened : (a : NominalType) (k : ℕ) → bound_of (opened a) ≤ k
+pub bound_opened : (a : NominalType) (k : ℕ) → bound_of (shape_of_type a) ≤ k
 bound_opened types.unit k = omega arith
 bound_opened (types.names s) k = omega arith
 bound_opened (types.base d) k = omega arith
@@ -99,7 +99,7 @@ bound_opened (types.abs s a) k = let q = bound_opened a k in omega arith
 abbrev shut : TypeShape → NominalType
 shut t = closed (λ x. types.unit) t
 
-pub opened_injective : (a b : NominalType) → opened a ≡ opened b → a ≡ b
+pub opened_injective : (a b : NominalType) → shape_of_type a ≡ shape_of_type b → a ≡ b
 opened_injective a b e = sym (closed_opened (λ x. types.unit) a) ∙ ap shut e ∙ closed_opened (λ x. types.unit) b
 
 -- Values below a bound.
@@ -127,7 +127,7 @@ closed_same k φ ψ h (pair t u) l = let a = closed_same k φ ψ h t (omega arit
 closed_same k φ ψ h (list t) l = ap types.list (closed_same k φ ψ h t l)
 closed_same k φ ψ h (abs t u) l = let a = ap sort_of (closed_same k φ ψ h t (omega arith)) in let b = closed_same k φ ψ h u (omega arith) in cc
 
-solves_same : (k : ℕ) (f g : Filling) → SameBelow k f g → (es : List ShapeEquation) → equations_bound es ≤ k → Solves f es → Solves g es
+solves_same : (k : ℕ) (f g : Filling) → SameBelow k f g → (es : List ShapeEquation) → equations_bound es ≤ k → FillingSolves f es → FillingSolves g es
 solves_same k f g h [] l s = tt
 solves_same k f g h ((t ≐ u) ∷ es) l s = (
   sym (filled_same k f g h t (omega arith)) ∙ s.0 ∙ filled_same k f g h u (omega arith),
@@ -143,17 +143,17 @@ pub solution_same : (n k : ℕ) (f g : Filling) → SameBelow k f g → (es : Li
 solution_same n k f g h es xs l m s = (solves_same k f g h es l s.0, names_same n k f g h xs m s.1)
 
 pub same_filling : (k : ℕ) (φ ψ : Assign) → Agree k φ ψ → SameBelow k (filling φ) (filling ψ)
-same_filling k φ ψ h x l = ap opened (h x l)
+same_filling k φ ψ h x l = ap shape_of_type (h x l)
 
 pub agree_on : (k m : ℕ) (φ ψ χ : Assign) → k ≤ m → Agree k φ ψ → Agree m ψ χ → Agree k φ χ
 agree_on k m φ ψ χ l h j x i = h x i ∙ j x (omega arith)
 
 -- One more equation, one more name.
-pub solves_snoc : (f : Filling) (es : List ShapeEquation) (t u : TypeShape) → Solves f (es ++ (t ≐ u) ∷ []) → Solves f es × (filled f t ≡ filled f u)
+pub solves_snoc : (f : Filling) (es : List ShapeEquation) (t u : TypeShape) → FillingSolves f (es ++ (t ≐ u) ∷ []) → FillingSolves f es × (filled f t ≡ filled f u)
 solves_snoc f [] t u s = (tt, s.0)
 solves_snoc f ((v ≐ w) ∷ es) t u s = let r = solves_snoc f es t u s.1 in ((s.0, r.0), r.1)
 
-pub snoc_solves : (f : Filling) (es : List ShapeEquation) (t u : TypeShape) → Solves f es → filled f t ≡ filled f u → Solves f (es ++ (t ≐ u) ∷ [])
+pub snoc_solves : (f : Filling) (es : List ShapeEquation) (t u : TypeShape) → FillingSolves f es → filled f t ≡ filled f u → FillingSolves f (es ++ (t ≐ u) ∷ [])
 snoc_solves f [] t u s e = (e, tt)
 snoc_solves f ((v ≐ w) ∷ es) t u s e = (s.0, snoc_solves f es t u s.1 e)
 
@@ -178,7 +178,7 @@ names_bound_snoc k [] x l m = omega arith
 names_bound_snoc k (y ∷ xs) x l m = let r = names_bound_snoc k xs x (omega arith) m in omega arith
 
 -- a name type, as a shape and as a type
-pub is_name_type : (n : ℕ) (a : NominalType) → IsNameType n (opened a) → (s : ℕ) × (a ≡ types.names s) × (s < n)
+pub is_name_type : (n : ℕ) (a : NominalType) → IsNameType n (shape_of_type a) → (s : ℕ) × (a ≡ types.names s) × (s < n)
 is_name_type n (types.names s) h = (s, refl, h)
 is_name_type n _ h = absurd h
 

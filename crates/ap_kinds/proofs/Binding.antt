@@ -9,8 +9,8 @@ use Rattle.ap_types.specs.Equations.{Filling, filled, IsNameType, GivesNames}
 use Rattle.ap_program.specs.RawTyping.{IsOfSort, AreOfOneSort}
 use Rattle.ap_kinds.specs.declared.kinds.IdentKind.{IdentKind}
 use Rattle.ap_kinds.specs.Sorts.{id_with_sort}
-use Rattle.ap_kinds.specs.Systems.{EquationSystem, equate, with_hole, refused, opened}
-use Rattle.ap_kinds.specs.Gathering.{Wanting, whole, nothing, more, cell, inside_abstraction, new_body, Place, no_place, place_if, is_of_class, name_place, number_of, one_sort}
+use Rattle.ap_kinds.specs.Systems.{EquationSystem, equate, with_hole, system_refused, shape_of_type}
+use Rattle.ap_kinds.specs.Gathering.{Wanting, whole, nothing, more, cell, inside_abstraction, new_body, NameHole, no_place, place_if, is_of_class, name_place, number_of_id, one_sort}
 use Rattle.ap_kinds.proofs.Assignments.{Assign, sort_of, filling, closed, IsProper, IsNamesShape, Agree, closed_same, names_snoc, snoc_names, is_name_type, name_shape, agree_on}
 use Rattle.ap_kinds.proofs.IdentLemmas.{kinds_by, Fits, kinds_same, fits_same, class_here, place_sort, sort_place}
 use Rattle.ap_kinds.proofs.Gathers.{Meets, IsMade, IsShapeOf, Suits, want_by, grows_on, shape_grows, suits_grows, want_same, below_idents, Gathers, gathers_map, gathers_equate, gathers_refused, gathers_then, Opens}
@@ -27,35 +27,35 @@ pub sort_same : (idents : List IdentKind) (i : Id) (k : ℕ) (φ ψ : Assign) �
 sort_same idents i k φ ψ a h = subst (λ ks. IsOfSort ks (id_with_sort ks i) k) (kinds_same idents φ ψ a) h
 
 -- A place of a name: its hole must be a name type, and is the one of a word's sort.
-pub record IsPlace (n : ℕ) (idents : List IdentKind) (i : Id) (s : EquationSystem) (p : Place) : Type 0 where
+pub record IsPlace (n : ℕ) (idents : List IdentKind) (i : Id) (s : EquationSystem) (p : NameHole) : Type 0 where
   pub gathers : Gathers n idents (HasSort idents i) s p.system
   pub below : p.hole < p.system.next
   pub named : (f : Filling) → GivesNames n f p.system.names → IsNameType n (f p.hole)
   pub same : (φ : Assign) (k : ℕ) → Fits n idents φ → SortBy idents φ i k → φ p.hole ≡ types.names k
 
-place_steps : (n : ℕ) (idents : List IdentKind) (i : Id) (s : EquationSystem) (b : Bool) → is_of_class idents i ≡ b → IsMade n idents s → IsPlace n idents i s (place_if b (number_of i) s)
+place_steps : (n : ℕ) (idents : List IdentKind) (i : Id) (s : EquationSystem) (b : Bool) → is_of_class idents i ≡ b → IsMade n idents s → IsPlace n idents i s (place_if b (number_of_id i) s)
 place_steps n idents i s true e m =
     let l = class_here idents i e in
-    let below : number_of i < s.next = let past = m.past in omega arith in
+    let below : number_of_id i < s.next = let past = m.past in omega arith in
     record {
       gathers = record {
-        made = made_name n idents s (number_of i) below m;
-        grows = grows_name n s (number_of i);
+        made = made_name n idents s (number_of_id i) below m;
+        grows = grows_name n s (number_of_id i);
         sound = λ φ f r.
-            let k = is_name_type n (φ (number_of i)) (names_snoc n (filling φ) s.names (number_of i) r.1).1 in
+            let k = is_name_type n (φ (number_of_id i)) (names_snoc n (filling φ) s.names (number_of_id i) r.1).1 in
             (k.0, sort_place n idents φ i k.0 e k.1);
         complete = λ φ f r h.
             let k = place_sort n idents φ i h.0 f h.1 in
-            (φ, (λ x o. refl), (r.0, snoc_names n (filling φ) s.names (number_of i) r.1 (subst (λ a. IsNameType n (opened a)) (sym k.1) k.2)));
+            (φ, (λ x o. refl), (r.0, snoc_names n (filling φ) s.names (number_of_id i) r.1 (subst (λ a. IsNameType n (shape_of_type a)) (sym k.1) k.2)));
       };
       below = below;
-      named = λ f g. (names_snoc n f s.names (number_of i) g).1;
+      named = λ f g. (names_snoc n f s.names (number_of_id i) g).1;
       same = λ φ k f h. (place_sort n idents φ i k f h).1;
     }
 place_steps n idents i s false e m =
     let never : (φ : Assign) → Fits n idents φ → HasSort idents i φ → ⊥ = λ φ f h. let c = (place_sort n idents φ i h.0 f h.1).0 in cc in
     let g = gathers_refused n idents (HasSort idents i) s m never in
-    let s1 = refused s in
+    let s1 = system_refused s in
     let s2 = with_hole s1 in
     let m2 = made_hole n idents s1 g.made in
     record {
@@ -84,7 +84,7 @@ BodyAt x w φ a b = (k : ℕ) × (c : NominalType) × (φ x ≡ types.names k) �
 left_named : (φ : Assign) (l : TypeShape) → IsNamesShape (filled (filling φ) l) → closed φ l ≡ types.names (sort_of (closed φ l))
 left_named φ (hole x) h = of_type (φ x) h
   where
-    of_type : (a : NominalType) → IsNamesShape (opened a) → a ≡ types.names (sort_of a)
+    of_type : (a : NominalType) → IsNamesShape (shape_of_type a) → a ≡ types.names (sort_of a)
     of_type (types.names s) h = refl
     of_type _ h = absurd h
 left_named φ (names s) h = refl

@@ -11,8 +11,8 @@ use Rattle.ap_kinds.specs.declared.kinds.IdentKind.TheVariants as classes
 use Rattle.ap_kinds.specs.declared.errors.KindsError.{KindsError}
 use Rattle.ap_kinds.specs.declared.errors.KindsError.TheVariants as errors
 use Rattle.ap_kinds.specs.ItemKinds.{IsDeclaredType, AreKinds, IsOnly, IsInferred, IsRefused}
-use Rattle.ap_kinds.specs.Systems.{EquationSystem, started, opened}
-use Rattle.ap_kinds.specs.Reading.{is_declared, is_closed, read_type, read_kind, read_kinds, IsSolved, SomeUndeclared, AllDeclared, SomeOpen, name_count, data_count, IsRead, IsFound, IsNotFound}
+use Rattle.ap_kinds.specs.Systems.{EquationSystem, started, shape_of_type}
+use Rattle.ap_kinds.specs.Reading.{is_declared, is_closed, read_type, read_kind, read_kinds, IsSystemSolved, SomeUndeclared, AllDeclared, SomeOpen, name_count, data_count, AreKindsRead, IsFound, IsNotFound}
 use Rattle.ap_kinds.proofs.Assignments.{Assign, filling, closed, closes, opened_injective}
 use Rattle.ap_kinds.proofs.IdentLemmas.{kinds_by, kind_by, kinds_same}
 use Rattle.ap_kinds.proofs.Gathers.{Meets, Gathers}
@@ -30,7 +30,7 @@ unsolvable_clash sig idents holds s g u ks k =
     u (filling r.0) r.2
 
 undeclared_clash : (sig : NominalSignature) (idents : List IdentKind) (holds : List NominalKind → Type 0) (s : EquationSystem) → Walks sig idents holds s
-    → (ts : List TypeShape) → IsSolved (name_count sig) s ts → SomeUndeclared (name_count sig) (data_count sig) (length idents) ts → (ks : List NominalKind) → AreKinds sig idents holds ks → ⊥
+    → (ts : List TypeShape) → IsSystemSolved (name_count sig) s ts → SomeUndeclared (name_count sig) (data_count sig) (length idents) ts → (ks : List NominalKind) → AreKinds sig idents holds ks → ⊥
 undeclared_clash sig idents holds s g ts h u ks k =
     let n = name_count sig in
     let m = data_count sig in
@@ -77,7 +77,7 @@ second_declared zero m = tt
 second_declared (suc zero) m = tt
 second_declared (suc (suc n)) m = omega arith
 
-choices_differ : (n : ℕ) → opened (first_choice n) ≡ opened (second_choice n) → ⊥
+choices_differ : (n : ℕ) → shape_of_type (first_choice n) ≡ shape_of_type (second_choice n) → ⊥
 unfolding first_choice second_choice
 choices_differ zero e = let d : ◌≡◌ {A = TypeShape} unit (list unit) = e in cc
 choices_differ (suc zero) e = let d : ◌≡◌ {A = TypeShape} unit (list unit) = e in cc
@@ -85,7 +85,7 @@ choices_differ (suc (suc n)) e = let d : ◌≡◌ {A = TypeShape} (names 0) (na
 
 -- the kinds by a choice hold
 choice_holds : (sig : NominalSignature) (idents : List IdentKind) (holds : List NominalKind → Type 0) (s : EquationSystem) → Walks sig idents holds s
-    → (ts : List TypeShape) → IsSolved (name_count sig) s ts → AllDeclared (name_count sig) (data_count sig) (length idents) ts
+    → (ts : List TypeShape) → IsSystemSolved (name_count sig) s ts → AllDeclared (name_count sig) (data_count sig) (length idents) ts
     → (γ : Assign) → IsChoice (name_count sig) γ → ((y : ℕ) → IsDeclaredType (name_count sig) (data_count sig) (γ y))
     → AreKinds sig idents holds (kinds_by (result_by γ ts) idents)
 choice_holds sig idents holds s g ts h d γ c k =
@@ -96,7 +96,7 @@ choice_holds sig idents holds s g ts h d γ c k =
     (λ x l. closed_declared n m γ (shape_at ts x) (proper x) k (d x l))
 
 open_ambiguous : (sig : NominalSignature) (idents : List IdentKind) (holds : List NominalKind → Type 0) (s : EquationSystem) → Walks sig idents holds s
-    → (ts : List TypeShape) → IsSolved (name_count sig) s ts → AllDeclared (name_count sig) (data_count sig) (length idents) ts → SomeOpen (length idents) ts
+    → (ts : List TypeShape) → IsSystemSolved (name_count sig) s ts → AllDeclared (name_count sig) (data_count sig) (length idents) ts → SomeOpen (length idents) ts
     → (ks : List NominalKind) × (ls : List NominalKind) × AreKinds sig idents holds ks × AreKinds sig idents holds ls × (ks ≡ ls → ⊥)
 open_ambiguous sig idents holds s g ts h d o =
     let n = name_count sig in
@@ -115,8 +115,8 @@ open_ambiguous sig idents holds s g ts h d o =
       choice_holds sig idents holds s g ts h d δ (second_chosen n) (λ y. second_declared n m),
       (λ e.
           let same = types_same n idents φ ψ (sorts φ (result_meets n s ts h g.made.proper γ (first_chosen n))) (sorts ψ (result_meets n s ts h g.made.proper δ (second_chosen n))) e o.0 o.1 in
-          let both : filled (filling γ) t ≡ filled (filling δ) t = closes γ t (p o.0) ∙ ap opened same ∙ sym (closes δ t (q o.0)) in
-          let c : is_closed t ≡ true = same_closed (opened (first_choice n)) (opened (second_choice n)) t (choices_differ n) (p o.0) both in
+          let both : filled (filling γ) t ≡ filled (filling δ) t = closes γ t (p o.0) ∙ ap shape_of_type same ∙ sym (closes δ t (q o.0)) in
+          let c : is_closed t ≡ true = same_closed (shape_of_type (first_choice n)) (shape_of_type (second_choice n)) t (choices_differ n) (p o.0) both in
           let f = o.2 in
           cc),
     )
@@ -145,7 +145,7 @@ read_is ts idents φ h =
     kinds_same idents φ (λ x. read_type (shape_at ts (0 + x))) (λ x l. let e : x ≡ 0 + x = omega arith in h x l ∙ ap (λ j. read_type (shape_at ts j)) e) ∙ sym (read_as ts 0 idents)
 
 pub read_only : (sig : NominalSignature) (idents : List IdentKind) (holds : List NominalKind → Type 0) (s : EquationSystem) → Walks sig idents holds s
-    → (ts : List TypeShape) → IsSolved (name_count sig) s ts → (ks : List NominalKind) → IsRead sig idents ts ks → IsOnly (AreKinds sig idents holds) ks
+    → (ts : List TypeShape) → IsSystemSolved (name_count sig) s ts → (ks : List NominalKind) → AreKindsRead sig idents ts ks → IsOnly (AreKinds sig idents holds) ks
 read_only sig idents holds s g ts h ks r =
     let n = name_count sig in
     let m = data_count sig in

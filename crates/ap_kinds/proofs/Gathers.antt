@@ -9,7 +9,7 @@ use Rattle.ap_types.specs.Equations.{Filling, GivesNames, IsSolution, bound_of, 
 use Rattle.ap_program.specs.RawTyping.{IsTypedRaw}
 use Rattle.ap_kinds.specs.declared.kinds.IdentKind.{IdentKind}
 use Rattle.ap_kinds.specs.Sorts.{with_sorts}
-use Rattle.ap_kinds.specs.Systems.{EquationSystem, equate, refused, opened}
+use Rattle.ap_kinds.specs.Systems.{EquationSystem, equate, system_refused, shape_of_type}
 use Rattle.ap_kinds.specs.Gathering.{Wanting, whole, nothing, more, cell}
 use Rattle.ap_kinds.proofs.Assignments.{Assign, filling, closed, IsProper, AreProper, Agree, closes, opened_injective, closed_same, solution_same, same_filling, agree_on, solves_snoc, snoc_solves, proper_snoc, bound_snoc}
 use Rattle.ap_kinds.proofs.IdentLemmas.{kinds_by, Fits, kinds_same, fits_same}
@@ -120,7 +120,7 @@ gathers_equate n idents t u s m h k = record {
   complete = λ φ f r e. (
     φ,
     agree_refl s.next φ,
-    (snoc_solves (filling φ) s.equations t u r.0 (closes φ t (h.proper (filling φ) r.1) ∙ ap opened e ∙ sym (closes φ u (k.proper (filling φ) r.1))), r.1),
+    (snoc_solves (filling φ) s.equations t u r.0 (closes φ t (h.proper (filling φ) r.1) ∙ ap shape_of_type e ∙ sym (closes φ u (k.proper (filling φ) r.1))), r.1),
   );
 }
 
@@ -129,9 +129,9 @@ plain n t s e h = record { bounded = omega arith; proper = λ f k. h f }
 
 -- what can't be typed
 pub gathers_refused : (n : ℕ) (idents : List IdentKind) (P : Assign → Type 0) (s : EquationSystem) → IsMade n idents s → ((φ : Assign) → Fits n idents φ → P φ → ⊥)
-    → Gathers n idents P s (refused s)
+    → Gathers n idents P s (system_refused s)
 gathers_refused n idents P s m h =
-    gathers_map n idents (λ φ. ◌≡◌ {A = NominalType} types.unit (types.names 0)) P s (refused s)
+    gathers_map n idents (λ φ. ◌≡◌ {A = NominalType} types.unit (types.names 0)) P s (system_refused s)
     (λ φ f m e. let d : ◌≡◌ {A = NominalType} types.unit (types.names 0) = e in cc) (λ φ f m p. absurd (h φ f p))
     (gathers_equate n idents unit (names 0) s m (plain n unit s refl (λ f. tt)) (plain n (names 0) s refl (λ f. tt)))
 

@@ -14,7 +14,7 @@ use Rattle.ap_program.specs.RawTyping.{IsNameOf, IsVarOf, HasRawType}
 use Rattle.ap_program.specs.Typed.{HaveTypes, predicate_at, AreArguments, IsTypedGoal}
 use Rattle.ap_kinds.specs.declared.kinds.IdentKind.{IdentKind}
 use Rattle.ap_kinds.specs.Sorts.{name_with_sort, terms_with_sorts, goal_with_sorts}
-use Rattle.ap_kinds.specs.Systems.{EquationSystem, with_name, with_hole, refused, opened, is_name_at, is_var_at}
+use Rattle.ap_kinds.specs.Systems.{EquationSystem, with_name_hole, with_hole, system_refused, shape_of_type, is_name_at, is_var_at}
 use Rattle.ap_kinds.specs.Gathering.{whole, gather_term, gather_terms, gather_arguments, gather_atom, gather_equal, gather_fresh, gather_goal}
 use Rattle.ap_kinds.proofs.Assignments.{Assign, filling, Agree, closed_opened, names_snoc, snoc_names, is_name_type, agree_on}
 use Rattle.ap_kinds.proofs.IdentLemmas.{kinds_by, Fits, kinds_same, sort_of_name, own_sort, own_name, var_of_type, type_of_var}
@@ -30,12 +30,12 @@ terms_same : (cs : List NominalConstructor) (idents : List IdentKind) (ts : List
 terms_same cs idents ts as' φ ψ a h = subst (λ ks. HaveTypes (HasRawType cs ks) (terms_with_sorts ks ts) as') (kinds_same idents φ ψ a) h
 
 gathers_typed : (n : ℕ) (cs : List NominalConstructor) (idents : List IdentKind) (t : RawTerm) (a : NominalType) (s : EquationSystem) → IsMade n idents s
-    → Gathers n idents (λ φ. TypedBy cs idents φ t (one a)) s (gather_term cs idents t (whole (opened a)) s)
+    → Gathers n idents (λ φ. TypedBy cs idents φ t (one a)) s (gather_term cs idents t (whole (shape_of_type a)) s)
 gathers_typed n cs idents t a s m =
-    gathers_map n idents (Wants cs idents t (whole (opened a))) (λ φ. TypedBy cs idents φ t (one a)) s (gather_term cs idents t (whole (opened a)) s)
+    gathers_map n idents (Wants cs idents t (whole (shape_of_type a))) (λ φ. TypedBy cs idents φ t (one a)) s (gather_term cs idents t (whole (shape_of_type a)) s)
     (λ φ f r h. subst (λ b. TypedBy cs idents φ t (one b)) (closed_opened φ a) h)
     (λ φ f r h. subst (λ b. TypedBy cs idents φ t (one b)) (sym (closed_opened φ a)) h)
-    (gathers_term n cs idents t (whole (opened a)) s m (opened_shape n a s))
+    (gathers_term n cs idents t (whole (shape_of_type a)) s m (opened_shape n a s))
 
 pub gathers_terms : (n : ℕ) (cs : List NominalConstructor) (idents : List IdentKind) (ts : List RawTerm) (as' : List NominalType) (s : EquationSystem) → IsMade n idents s
     → Gathers n idents (TermsBy cs idents ts as') s (gather_terms cs idents ts as' s)
@@ -43,7 +43,7 @@ gathers_terms n cs idents [] [] s m = gathers_none n idents (TermsBy cs idents [
 gathers_terms n cs idents [] (a ∷ as') s m = gathers_refused n idents (TermsBy cs idents [] (a ∷ as')) s m (λ φ f h. h)
 gathers_terms n cs idents (t ∷ ts) [] s m = gathers_refused n idents (TermsBy cs idents (t ∷ ts) []) s m (λ φ f h. h)
 gathers_terms n cs idents (t ∷ ts) (a ∷ as') s m =
-    let s1 = gather_term cs idents t (whole (opened a)) s in
+    let s1 = gather_term cs idents t (whole (shape_of_type a)) s in
     let g = gathers_typed n cs idents t a s m in
     let k = gathers_terms n cs idents ts as' s1 g.made in
     gathers_map n idents (λ φ. TypedBy cs idents φ t (one a) × TermsBy cs idents ts as' φ) (TermsBy cs idents (t ∷ ts) (a ∷ as')) s (gather_terms cs idents ts as' s1)
@@ -100,11 +100,11 @@ abbrev FreshOf : ℕ → Assign → Want → Want → Type 0
 FreshOf n φ a b = (k : ℕ) × (c : NominalType) × (k < n) × (a ≡ one (types.names k)) × (b ≡ one c)
 
 opens_fresh : (n : ℕ) (idents : List IdentKind) (s : EquationSystem) → IsMade n idents s
-    → Opens n idents (FreshOf n) s (whole (hole s.next)) (whole (hole (s.next + 1))) (with_name s.next (with_hole (with_hole s)))
+    → Opens n idents (FreshOf n) s (whole (hole s.next)) (whole (hole (s.next + 1))) (with_name_hole s.next (with_hole (with_hole s)))
 opens_fresh n idents s m =
     let s1 = with_hole s in
     let s2 = with_hole s1 in
-    let s3 = with_name s.next s2 in
+    let s3 = with_name_hole s.next s2 in
     let m1 = made_hole n idents s m in
     let up = grows_on n s s1 s2 (grows_hole n s) (grows_hole n s1) in
     record {
@@ -121,7 +121,7 @@ opens_fresh n idents s m =
           let first : o.0 s.next ≡ types.names z.0 = sym (o.1 s.next (omega arith)) ∙ p.3 in (
             o.0,
             agree_on s.next s1.next φ p.0 o.0 (omega arith) p.1 o.1,
-            (o.2.0, snoc_names n (filling o.0) s.names s.next o.2.1 (subst (λ c. IsNameType n (opened c)) (sym first) z.2)),
+            (o.2.0, snoc_names n (filling o.0) s.names s.next o.2.1 (subst (λ c. IsNameType n (shape_of_type c)) (sym first) z.2)),
             z.3 ∙ ap one (sym first),
             z.4 ∙ ap one (sym o.3),
           );
@@ -147,7 +147,7 @@ gathers_fresh : (n : ℕ) (cs : List NominalConstructor) (idents : List IdentKin
 gathers_fresh n cs idents t u s m =
     let w = whole (hole s.next) in
     let v = whole (hole (s.next + 1)) in
-    let s1 = with_name s.next (with_hole (with_hole s)) in
+    let s1 = with_name_hole s.next (with_hole (with_hole s)) in
     let o = opens_fresh n idents s m in
     let g = gathers_term n cs idents t w s1 o.made o.left in
     let s2 = gather_term cs idents t w s1 in
@@ -171,12 +171,12 @@ abbrev NameBy : List IdentKind → Name → Assign → Type 0
 NameBy idents a φ = IsNameOf (kinds_by φ idents) (name_with_sort (kinds_by φ idents) a) (name_with_sort (kinds_by φ idents) a).sort
 
 gathers_exists : (n : ℕ) (idents : List IdentKind) (x : Var) (s : EquationSystem) (b : Bool) → is_var_at idents x.num ≡ b → IsMade n idents s
-    → Gathers n idents (VarBy idents x) s (if b then s else refused s)
+    → Gathers n idents (VarBy idents x) s (if b then s else system_refused s)
 gathers_exists n idents x s true e m = gathers_none n idents (VarBy idents x) s m (λ φ f r. (φ x.num, var_of_type idents φ x e))
 gathers_exists n idents x s false e m = gathers_refused n idents (VarBy idents x) s m (λ φ f h. let c = (type_of_var idents φ x h.0 h.1).0 in cc)
 
 gathers_new : (n : ℕ) (idents : List IdentKind) (a : Name) (s : EquationSystem) (b : Bool) → is_name_at idents a.num ≡ b → IsMade n idents s
-    → Gathers n idents (NameBy idents a) s (if b then s else refused s)
+    → Gathers n idents (NameBy idents a) s (if b then s else system_refused s)
 gathers_new n idents a s true e m = gathers_none n idents (NameBy idents a) s m (λ φ f r. own_sort n idents φ a f e)
 gathers_new n idents a s false e m =
     gathers_refused n idents (NameBy idents a) s m (λ φ f h. let c = own_name n idents φ a (name_with_sort (kinds_by φ idents) a).sort h in cc)
@@ -202,14 +202,14 @@ gathers_goal n sig idents (either g h) s m =
     (gathers_then n idents (GoalBy sig idents g) (GoalBy sig idents h) s s1 (gather_goal sig idents h s1) p q
     (λ φ ψ a z. goal_same sig idents h φ ψ (below_idents (length idents) s.next φ ψ m.past a) z) m.past)
 gathers_goal n sig idents (exists x g) s m =
-    let s1 = if is_var_at idents x.num then s else refused s in
+    let s1 = if is_var_at idents x.num then s else system_refused s in
     let p = gathers_exists n idents x s (is_var_at idents x.num) refl m in
     let q = gathers_goal n sig idents g s1 p.made in
     gathers_map n idents (λ φ. VarBy idents x φ × GoalBy sig idents g φ) (GoalBy sig idents (exists x g)) s (gather_goal sig idents g s1) (λ φ f r z. z) (λ φ f r z. z)
     (gathers_then n idents (VarBy idents x) (GoalBy sig idents g) s s1 (gather_goal sig idents g s1) p q
     (λ φ ψ a z. goal_same sig idents g φ ψ (below_idents (length idents) s.next φ ψ m.past a) z) m.past)
 gathers_goal n sig idents (new a g) s m =
-    let s1 = if is_name_at idents a.num then s else refused s in
+    let s1 = if is_name_at idents a.num then s else system_refused s in
     let p = gathers_new n idents a s (is_name_at idents a.num) refl m in
     let q = gathers_goal n sig idents g s1 p.made in
     gathers_map n idents (λ φ. NameBy idents a φ × GoalBy sig idents g φ) (GoalBy sig idents (new a g)) s (gather_goal sig idents g s1) (λ φ f r z. z) (λ φ f r z. z)

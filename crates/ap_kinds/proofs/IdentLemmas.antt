@@ -12,7 +12,7 @@ use Rattle.ap_kinds.specs.declared.kinds.IdentKind.{IdentKind}
 use Rattle.ap_kinds.specs.declared.kinds.IdentKind.TheVariants as classes
 use Rattle.ap_kinds.specs.Sorts.{sort_in, name_with_sort, id_with_sort}
 use Rattle.ap_kinds.specs.Systems.{is_name_at, is_var_at}
-use Rattle.ap_kinds.specs.Gathering.{number_of, is_of_class}
+use Rattle.ap_kinds.specs.Gathering.{number_of_id, is_of_class}
 use Rattle.ap_kinds.proofs.Assignments.{Assign, sort_of, Agree}
 
 abbrev pub kind_by : IdentKind → NominalType → NominalKind
@@ -49,7 +49,7 @@ var_here [] k h = cc
 var_here (c ∷ cs) zero h = omega arith
 var_here (c ∷ cs) (suc k) h = let l = var_here cs k h in omega arith
 
-pub class_here : (idents : List IdentKind) (i : Id) → is_of_class idents i ≡ true → number_of i < length idents
+pub class_here : (idents : List IdentKind) (i : Id) → is_of_class idents i ≡ true → number_of_id i < length idents
 class_here idents (ids.Name a) h = name_here idents a.num h
 class_here idents (ids.Var x) h = var_here idents x.num h
 
@@ -123,13 +123,13 @@ type_of_var idents φ x a h = kind_var idents φ x.num a h
 
 -- a word in a name's place is of its class, and its hole becomes the name type
 pub place_sort : (n : ℕ) (idents : List IdentKind) (φ : Assign) (i : Id) (s : ℕ) → Fits n idents φ → IsOfSort (kinds_by φ idents) (id_with_sort (kinds_by φ idents) i) s
-    → (is_of_class idents i ≡ true) × (φ (number_of i) ≡ types.names s) × (s < n)
+    → (is_of_class idents i ≡ true) × (φ (number_of_id i) ≡ types.names s) × (s < n)
 place_sort n idents φ (ids.Name a) s f h = sort_of_name n idents φ a s f h
 place_sort n idents φ (ids.Var x) s f h =
     let r = kind_var idents φ x.num (types.names s) h in
     (r.0, r.1, f.declared x.num s r.0 r.1)
 
-pub sort_place : (n : ℕ) (idents : List IdentKind) (φ : Assign) (i : Id) (s : ℕ) → is_of_class idents i ≡ true → φ (number_of i) ≡ types.names s
+pub sort_place : (n : ℕ) (idents : List IdentKind) (φ : Assign) (i : Id) (s : ℕ) → is_of_class idents i ≡ true → φ (number_of_id i) ≡ types.names s
     → IsOfSort (kinds_by φ idents) (id_with_sort (kinds_by φ idents) i) s
 sort_place n idents φ (ids.Name a) s h e = name_of_sort n idents φ a s h e
 sort_place n idents φ (ids.Var x) s h e = var_kind idents φ x.num h ∙ ap (λ b. Some (var b)) e

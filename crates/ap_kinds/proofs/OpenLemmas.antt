@@ -7,8 +7,8 @@ use Rattle.ap_types.specs.declared.nodes.Node.{Node}
 use Rattle.ap_types.specs.declared.nodes.Node.TheVariants as nodes
 use Rattle.ap_types.specs.declared.solved.Solved.{Solved}
 use Rattle.ap_types.specs.Equations.{filled}
-use Rattle.ap_types.specs.Triangular.{layer_of, table_of, value_of, assignment_of, IsSettled}
-use Rattle.ap_types.specs.Walking.{AreBelow}
+use Rattle.ap_types.specs.Triangular.{layer_of, shapes_of_nodes, value_of, assignment_of, IsSettledTable}
+use Rattle.ap_types.specs.Walking.{ArePlacesBelow}
 use Rattle.ap_kinds.specs.Reading.{is_closed, is_sort, SomeOpen, SomeOpenPlace}
 use Rattle.ap_kinds.proofs.ClosedLemmas.{place_value, open_there}
 
@@ -32,23 +32,23 @@ pub open_two : (ts : List TypeShape) (xs : List ℕ) (x y z : ℕ) → Opens ts 
 open_two ts [] x y z f g h = elim h [ inl e ↦ inl (f e) | inr k ↦ elim k [ inl e ↦ inl (g e) | inr m ↦ absurd m ] ]
 open_two ts (w ∷ ws) x y z f g h = elim h [ inl e ↦ inl e | inr k ↦ inr (open_two ts ws x y z f g k) ]
 
-pub open_below : (ts : List TypeShape) (n : ℕ) (xs : List ℕ) → AreBelow n xs → SomeOpenPlace ts xs → (x : ℕ) × (x < n) × (is_closed (value_of ts x) ≡ false)
+pub open_below : (ts : List TypeShape) (n : ℕ) (xs : List ℕ) → ArePlacesBelow n xs → SomeOpenPlace ts xs → (x : ℕ) × (x < n) × (is_closed (value_of ts x) ≡ false)
 open_below ts n [] b h = absurd h
 open_below ts n (x ∷ xs) b h = elim h [ inl e ↦ (x, b.0, e) | inr k ↦ open_below ts n xs b.1 k ]
 
-pub below_last : (n : ℕ) (xs : List ℕ) (x : ℕ) → AreBelow n xs → x < n → AreBelow n (xs ++ x ∷ [])
+pub below_last : (n : ℕ) (xs : List ℕ) (x : ℕ) → ArePlacesBelow n xs → x < n → ArePlacesBelow n (xs ++ x ∷ [])
 below_last n [] x h l = (l, tt)
 below_last n (y ∷ ys) x h l = (h.0, below_last n ys x h.1 l)
 
 -- the parts of a place
-module _ (ns : List Node) (x : ℕ) (settled : IsSettled (table_of ns)) (within : x < length ns) where
-  value : (n : Node) → get_or ns x (nodes.Place 0) ≡ n → is_closed (value_of (table_of ns) x) ≡ is_closed (filled (value_of (table_of ns)) (layer_of n))
+module _ (ns : List Node) (x : ℕ) (settled : IsSettledTable (shapes_of_nodes ns)) (within : x < length ns) where
+  value : (n : Node) → get_or ns x (nodes.Place 0) ≡ n → is_closed (value_of (shapes_of_nodes ns) x) ≡ is_closed (filled (value_of (shapes_of_nodes ns)) (layer_of n))
   value n e = ap is_closed (place_value ns x n settled within e)
 
-  pub opens_place : (y : ℕ) → get_or ns x (nodes.Place 0) ≡ nodes.Place y → Opens (table_of ns) x y
+  pub opens_place : (y : ℕ) → get_or ns x (nodes.Place 0) ≡ nodes.Place y → Opens (shapes_of_nodes ns) x y
   opens_place y e h = value (nodes.Place y) e ∙ h
 
-  pub opens_list : (y : ℕ) → get_or ns x (nodes.Place 0) ≡ nodes.List y → Opens (table_of ns) x y
+  pub opens_list : (y : ℕ) → get_or ns x (nodes.Place 0) ≡ nodes.List y → Opens (shapes_of_nodes ns) x y
   opens_list y e h = value (nodes.List y) e ∙ h
 
   left : (a b : Bool) → a ≡ false → (a && b) ≡ false
@@ -58,17 +58,17 @@ module _ (ns : List Node) (x : ℕ) (settled : IsSettled (table_of ns)) (within 
   right true b e = e
   right false b e = refl
 
-  pub opens_left : (y z : ℕ) → get_or ns x (nodes.Place 0) ≡ nodes.Pair y z → Opens (table_of ns) x y
-  opens_left y z e h = value (nodes.Pair y z) e ∙ left (is_closed (value_of (table_of ns) y)) (is_closed (value_of (table_of ns) z)) h
+  pub opens_left : (y z : ℕ) → get_or ns x (nodes.Place 0) ≡ nodes.Pair y z → Opens (shapes_of_nodes ns) x y
+  opens_left y z e h = value (nodes.Pair y z) e ∙ left (is_closed (value_of (shapes_of_nodes ns) y)) (is_closed (value_of (shapes_of_nodes ns) z)) h
 
-  pub opens_right : (y z : ℕ) → get_or ns x (nodes.Place 0) ≡ nodes.Pair y z → Opens (table_of ns) x z
-  opens_right y z e h = value (nodes.Pair y z) e ∙ right (is_closed (value_of (table_of ns) y)) (is_closed (value_of (table_of ns) z)) h
+  pub opens_right : (y z : ℕ) → get_or ns x (nodes.Place 0) ≡ nodes.Pair y z → Opens (shapes_of_nodes ns) x z
+  opens_right y z e h = value (nodes.Pair y z) e ∙ right (is_closed (value_of (shapes_of_nodes ns) y)) (is_closed (value_of (shapes_of_nodes ns) z)) h
 
-  pub opens_body : (y z : ℕ) → get_or ns x (nodes.Place 0) ≡ nodes.Abs y z → Opens (table_of ns) x z
-  opens_body y z e h = value (nodes.Abs y z) e ∙ right (is_sort (value_of (table_of ns) y)) (is_closed (value_of (table_of ns) z)) h
+  pub opens_body : (y z : ℕ) → get_or ns x (nodes.Place 0) ≡ nodes.Abs y z → Opens (shapes_of_nodes ns) x z
+  opens_body y z e h = value (nodes.Abs y z) e ∙ right (is_sort (value_of (shapes_of_nodes ns) y)) (is_closed (value_of (shapes_of_nodes ns) z)) h
 
-  pub open_binder : (y z : ℕ) → get_or ns x (nodes.Place 0) ≡ nodes.Abs y z → is_sort (value_of (table_of ns) y) ≡ false → is_closed (value_of (table_of ns) x) ≡ false
-  open_binder y z e h = value (nodes.Abs y z) e ∙ left (is_sort (value_of (table_of ns) y)) (is_closed (value_of (table_of ns) z)) h
+  pub open_binder : (y z : ℕ) → get_or ns x (nodes.Place 0) ≡ nodes.Abs y z → is_sort (value_of (shapes_of_nodes ns) y) ≡ false → is_closed (value_of (shapes_of_nodes ns) x) ≡ false
+  open_binder y z e h = value (nodes.Abs y z) e ∙ left (is_sort (value_of (shapes_of_nodes ns) y)) (is_closed (value_of (shapes_of_nodes ns) z)) h
 
 -- how many places were not looked at
 abbrev pub unseen : List Bool → ℕ
@@ -97,9 +97,9 @@ walk_falls bs x d ws vs us l e w f =
     omega arith
 
 -- what is open among the places of the first holes
-pub some_open : (r : Result Bool Memory) (s : Solved) (ns : List Node) (count : ℕ) (xs : List ℕ) → ns ≡ s.nodes.items → count ≤ s.holes → AreBelow count xs
-    → IfOk r (λ b. b ≡ false → SomeOpenPlace (table_of ns) xs) → IfOk r (λ b. b ≡ false → SomeOpen count (assignment_of s))
+pub some_open : (r : Result Bool Memory) (s : Solved) (ns : List Node) (count : ℕ) (xs : List ℕ) → ns ≡ s.nodes.items → count ≤ s.holes → ArePlacesBelow count xs
+    → IfOk r (λ b. b ≡ false → SomeOpenPlace (shapes_of_nodes ns) xs) → IfOk r (λ b. b ≡ false → SomeOpen count (assignment_of s))
 some_open (Ok b) s ns count xs e l below h =
-    λ f. let o = open_below (table_of ns) count xs below (h f) in
-    open_there s count o.0 o.1 (omega arith) (subst (λ (ms : List Node). is_closed (value_of (table_of ms) o.0) ≡ false) e o.2)
+    λ f. let o = open_below (shapes_of_nodes ns) count xs below (h f) in
+    open_there s count o.0 o.1 (omega arith) (subst (λ (ms : List Node). is_closed (value_of (shapes_of_nodes ms) o.0) ≡ false) e o.2)
 some_open (Err r) s ns count xs e l below h = tt

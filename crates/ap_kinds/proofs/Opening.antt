@@ -5,7 +5,7 @@ use Rattle.ap_defs.specs.Types as types
 use Rattle.ap_defs.specs.Typing as typing
 use Rattle.ap_defs.specs.Typing.{Want, one, arguments}
 use Rattle.ap_kinds.specs.declared.kinds.IdentKind.{IdentKind}
-use Rattle.ap_kinds.specs.Systems.{EquationSystem, with_hole, refused, opened}
+use Rattle.ap_kinds.specs.Systems.{EquationSystem, with_hole, system_refused, shape_of_type}
 use Rattle.ap_kinds.specs.Gathering.{Wanting, whole, nothing, more, cell, wanting_all, sides, new_sides, listed_hole, inside_element, inside_cell, new_element, inside_declared}
 use Rattle.ap_kinds.proofs.Assignments.{Assign, closed, Agree, closed_opened, closed_same, agree_on}
 use Rattle.ap_kinds.proofs.IdentLemmas.{fits_same}
@@ -92,7 +92,7 @@ list_shape : (n : ℕ) (x : ℕ) (s : EquationSystem) → x < s.next → IsShape
 list_shape n x s l = record { bounded = omega arith; proper = λ f g. tt }
 
 opens_refused : (n : ℕ) (idents : List IdentKind) (R : Assign → Want → Want → Type 0) (s : EquationSystem) → IsMade n idents s → ((φ : Assign) (a b : Want) → R φ a b → ⊥)
-    → Opens n idents R s nothing nothing (refused s)
+    → Opens n idents R s nothing nothing (system_refused s)
 opens_refused n idents R s m h =
     let g = gathers_refused n idents (λ φ. ⊥) s m (λ φ f p. p) in
     record {
@@ -116,7 +116,7 @@ opens_sides n idents (whole (list t)) s m h = opens_new_sides n idents (list t) 
 opens_sides n idents (whole (abs t u)) s m h = opens_new_sides n idents (abs t u) s m h
 opens_sides n idents nothing s m h = opens_refused n idents (SidesOf nothing) s m (λ φ a b r. r)
 opens_sides n idents (more c rest) s m h =
-    opens_same n idents (SidesOf (more c rest)) s (whole (opened c)) (wanting_all rest) m (opened_shape n c s) (suits_all n rest s)
+    opens_same n idents (SidesOf (more c rest)) s (whole (shape_of_type c)) (wanting_all rest) m (opened_shape n c s) (suits_all n rest s)
     (λ φ. (ap one (closed_opened φ c), want_all φ rest)) (λ φ a b r. (r.0 ∙ ap one (sym (closed_opened φ c)), r.1 ∙ sym (want_all φ rest)))
 opens_sides n idents (cell x) s m h =
     opens_same n idents (SidesOf (cell x)) s (whole (hole x)) (whole (list (hole x))) m (hole_shape n x s h) (list_shape n x s h) (λ φ. (refl, refl)) (λ φ a b r. r)

@@ -5,14 +5,14 @@ use Rattle.std.proofs.lemmas.Bool.Decides.{nat_tests}
 use Rattle.std.proofs.lemmas.Bool.{and_from, and_parts}
 use Rattle.ap_defs.specs.Types.{NominalType, TypeShape, hole, unit, names, base, pair, list, abs}
 use Rattle.ap_defs.specs.Types as types
-use Rattle.ap_types.specs.Equations.{ShapeEquation, ◌≐◌, Filling, filled, Solves, IsNameType, GivesNames, FilledBy, hole_count}
+use Rattle.ap_types.specs.Equations.{ShapeEquation, ◌≐◌, Filling, filled, FillingSolves, IsNameType, GivesNames, FilledBy, hole_count}
 use Rattle.ap_types.specs.Solving.{shape_at}
 use Rattle.ap_types.specs.Assignments.{AreNames, IsNameOrOpen}
 use Rattle.ap_types.proofs.NameLemmas.{fills_at}
 use Rattle.ap_types.proofs.NameLemmas.{instance_by, instance_fills}
 use Rattle.ap_kinds.specs.ItemKinds.{IsDeclaredType}
-use Rattle.ap_kinds.specs.Systems.{EquationSystem, opened}
-use Rattle.ap_kinds.specs.Reading.{is_declared, is_sort, is_closed, sort_in_shape, read_type, IsSolved}
+use Rattle.ap_kinds.specs.Systems.{EquationSystem, shape_of_type}
+use Rattle.ap_kinds.specs.Reading.{is_declared, is_sort, is_closed, sort_in_shape, read_type, IsSystemSolved}
 use Rattle.ap_kinds.proofs.Assignments.{Assign, sort_of, filling, closed, IsProper, AreProper, IsNamesShape, closes, solution_same}
 use Rattle.ap_kinds.proofs.Gathers.{Meets}
 
@@ -51,7 +51,7 @@ tidy_filled f (pair t u) h = let a = tidy_filled f t h.0 in let b = tidy_filled 
 tidy_filled f (list t) h = ap list (tidy_filled f t h)
 tidy_filled f (abs t u) h = tidy_left f t (filled (tidied f) u) (tidy (filled f u)) h.0 (tidy_filled f u h.1)
 
-tidy_solves : (f : Filling) (es : List ShapeEquation) → AreProper f es → Solves f es → Solves (tidied f) es
+tidy_solves : (f : Filling) (es : List ShapeEquation) → AreProper f es → FillingSolves f es → FillingSolves (tidied f) es
 tidy_solves f [] p s = tt
 tidy_solves f ((t ≐ u) ∷ es) p s = (tidy_filled f t p.0 ∙ ap tidy s.0 ∙ sym (tidy_filled f u p.1), tidy_solves f es p.2 s.1)
 
@@ -103,7 +103,7 @@ proper_past : (g : Filling) (ts : List TypeShape) (x : ℕ) → length ts ≤ x 
 proper_past g ts x l = subst (IsProper g) (sym (past_end ts x (hole x) l)) tt
 
 -- with a filling that solves, each shape is proper
-pub proper_at : (n : ℕ) (s : EquationSystem) (ts : List TypeShape) → IsSolved n s ts → ((f : Filling) → GivesNames n f s.names → AreProper f s.equations)
+pub proper_at : (n : ℕ) (s : EquationSystem) (ts : List TypeShape) → IsSystemSolved n s ts → ((f : Filling) → GivesNames n f s.names → AreProper f s.equations)
     → (g : Filling) → GivesNames n (instance_by g ts) s.names → (x : ℕ) → IsProper g (shape_at ts x)
 proper_at n s ts h proper g named x =
     elim (below_or_past x (length ts)) [
@@ -125,18 +125,18 @@ IsChoice n γ = 2 ≤ n → (y : ℕ) → (k : ℕ) × (γ y ≡ types.names k) 
 
 chosen_name : (n : ℕ) (γ : Assign) (t : TypeShape) → IsChoice n γ → IsNameOrOpen n t → IsNameType n (filled (filling γ) t)
 chosen_name n γ (names s) c h = h
-chosen_name n γ (hole y) c h = let k = c h y in subst (λ a. IsNameType n (opened a)) (sym k.1) k.2
+chosen_name n γ (hole y) c h = let k = c h y in subst (λ a. IsNameType n (shape_of_type a)) (sym k.1) k.2
 chosen_name n γ _ c h = absurd h
 
 chosen_names : (n : ℕ) (γ : Assign) (ts : List TypeShape) (xs : List ℕ) → IsChoice n γ → AreNames n ts xs → GivesNames n (instance_by (filling γ) ts) xs
 chosen_names n γ ts [] c h = tt
 chosen_names n γ ts (x ∷ xs) c h = (chosen_name n γ (shape_at ts x) c h.0, chosen_names n γ ts xs c h.1)
 
-pub proper_by : (n : ℕ) (s : EquationSystem) (ts : List TypeShape) → IsSolved n s ts → ((f : Filling) → GivesNames n f s.names → AreProper f s.equations)
+pub proper_by : (n : ℕ) (s : EquationSystem) (ts : List TypeShape) → IsSystemSolved n s ts → ((f : Filling) → GivesNames n f s.names → AreProper f s.equations)
     → (γ : Assign) → IsChoice n γ → (x : ℕ) → IsProper (filling γ) (shape_at ts x)
 proper_by n s ts h proper γ c x = proper_at n s ts h proper (filling γ) (chosen_names n γ ts s.names c h.constrained) x
 
-pub result_meets : (n : ℕ) (s : EquationSystem) (ts : List TypeShape) → IsSolved n s ts → ((f : Filling) → GivesNames n f s.names → AreProper f s.equations)
+pub result_meets : (n : ℕ) (s : EquationSystem) (ts : List TypeShape) → IsSystemSolved n s ts → ((f : Filling) → GivesNames n f s.names → AreProper f s.equations)
     → (γ : Assign) → IsChoice n γ → Meets n (result_by γ ts) s
 result_meets n s ts h proper γ c =
     let g = filling γ in
@@ -153,13 +153,13 @@ below_is i j l = grind (arith, nat_tests)
 is_below : (i j : ℕ) → nat_lt i j ≡ true → i < j
 is_below i j e = grind (arith, nat_tests)
 
-opened_declared : (n m : ℕ) (a : NominalType) → IsDeclaredType n m a → is_declared n m (opened a) ≡ true
+opened_declared : (n m : ℕ) (a : NominalType) → IsDeclaredType n m a → is_declared n m (shape_of_type a) ≡ true
 opened_declared n m types.unit d = refl
 opened_declared n m (types.names s) d = below_is s n d
 opened_declared n m (types.base b) d = below_is b m d
-opened_declared n m (types.pair a b) d = and_from (is_declared n m (opened a)) (is_declared n m (opened b)) (opened_declared n m a d.0) (opened_declared n m b d.1)
+opened_declared n m (types.pair a b) d = and_from (is_declared n m (shape_of_type a)) (is_declared n m (shape_of_type b)) (opened_declared n m a d.0) (opened_declared n m b d.1)
 opened_declared n m (types.list a) d = opened_declared n m a d
-opened_declared n m (types.abs s a) d = and_from (nat_lt s n) (is_declared n m (opened a)) (below_is s n d.0) (opened_declared n m a d.1)
+opened_declared n m (types.abs s a) d = and_from (nat_lt s n) (is_declared n m (shape_of_type a)) (below_is s n d.0) (opened_declared n m a d.1)
 
 filled_declared : (n m : ℕ) (f : Filling) (t : TypeShape) → is_declared n m (filled f t) ≡ true → is_declared n m t ≡ true
 filled_declared n m f (hole x) e = refl
@@ -175,7 +175,7 @@ filled_declared n m f (abs t u) e =
     and_from (is_declared n m t) (is_declared n m u) (filled_declared n m f t r.0) (filled_declared n m f u r.1)
 
 -- a declared type is an instance of declared shapes alone
-pub instance_declared : (n m : ℕ) (f : Filling) (t : TypeShape) (a : NominalType) → opened a ≡ filled f t → IsDeclaredType n m a → is_declared n m t ≡ true
+pub instance_declared : (n m : ℕ) (f : Filling) (t : TypeShape) (a : NominalType) → shape_of_type a ≡ filled f t → IsDeclaredType n m a → is_declared n m t ≡ true
 instance_declared n m f t a e d = filled_declared n m f t (ap (is_declared n m) (sym e) ∙ opened_declared n m a d)
 
 -- a declared shape becomes a declared type by a choice of declared types
@@ -192,7 +192,7 @@ closed_declared n m γ (abs t u) p c e =
     let r = and_parts (is_declared n m t) (is_declared n m u) e in
     (sort_declared t p.0 r.0, closed_declared n m γ u p.1 c r.1)
   where
-    type_sort : (a : NominalType) → IsNamesShape (opened a) → IsDeclaredType n m a → sort_of a < n
+    type_sort : (a : NominalType) → IsNamesShape (shape_of_type a) → IsDeclaredType n m a → sort_of a < n
     type_sort (types.names s) h d = d
     type_sort _ h d = absurd h
 
@@ -202,7 +202,7 @@ closed_declared n m γ (abs t u) p c e =
     sort_declared _ h d = absurd h
 
 -- Closed shapes.
-pub closed_read : (f : Filling) (t : TypeShape) → is_closed t ≡ true → filled f t ≡ opened (read_type t)
+pub closed_read : (f : Filling) (t : TypeShape) → is_closed t ≡ true → filled f t ≡ shape_of_type (read_type t)
 closed_read f (hole x) e = cc
 closed_read f unit e = refl
 closed_read f (names s) e = refl

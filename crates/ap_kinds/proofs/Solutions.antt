@@ -7,7 +7,7 @@ use Rattle.ap_types.specs.Equations.{IsNameType, GivesNames, names_bound}
 use Rattle.ap_kinds.specs.declared.kinds.IdentKind.{IdentKind}
 use Rattle.ap_kinds.specs.declared.kinds.IdentKind.TheVariants as classes
 use Rattle.ap_kinds.specs.ItemKinds.{AreOfClasses, IsDeclaredType, AreDeclaredKinds}
-use Rattle.ap_kinds.specs.Systems.{EquationSystem, started, name_holes, opened, is_name_at}
+use Rattle.ap_kinds.specs.Systems.{EquationSystem, started, name_holes, shape_of_type, is_name_at}
 use Rattle.ap_kinds.proofs.Assignments.{Assign, sort_of, filling, Agree}
 use Rattle.ap_kinds.proofs.IdentLemmas.{kinds_by, kind_by, after, Fits, var_number}
 use Rattle.ap_kinds.proofs.Gathers.{Meets, IsMade, Gathers}
@@ -58,24 +58,24 @@ fits_back n m idents ks h d = record {
 }
 
 -- The first system: the names' holes are name types.
-names_started : (n : ℕ) (φ : Assign) (i : ℕ) (idents : List IdentKind) → ((k : ℕ) → is_name_at idents k ≡ true → IsNameType n (opened (φ (i + k)))) → GivesNames n (filling φ) (name_holes i idents)
+names_started : (n : ℕ) (φ : Assign) (i : ℕ) (idents : List IdentKind) → ((k : ℕ) → is_name_at idents k ≡ true → IsNameType n (shape_of_type (φ (i + k)))) → GivesNames n (filling φ) (name_holes i idents)
 names_started n φ i [] h = tt
 names_started n φ i (classes.Name ∷ cs) h =
     let e : i + 0 ≡ i = omega arith in (
-      subst (λ x. IsNameType n (opened (φ x))) e (h 0 refl),
-      names_started n φ (i + 1) cs (λ k c. let d : i + suc k ≡ (i + 1) + k = omega arith in subst (λ x. IsNameType n (opened (φ x))) d (h (suc k) c)),
+      subst (λ x. IsNameType n (shape_of_type (φ x))) e (h 0 refl),
+      names_started n φ (i + 1) cs (λ k c. let d : i + suc k ≡ (i + 1) + k = omega arith in subst (λ x. IsNameType n (shape_of_type (φ x))) d (h (suc k) c)),
     )
 names_started n φ i (classes.Var ∷ cs) h =
-    names_started n φ (i + 1) cs (λ k c. let d : i + suc k ≡ (i + 1) + k = omega arith in subst (λ x. IsNameType n (opened (φ x))) d (h (suc k) c))
+    names_started n φ (i + 1) cs (λ k c. let d : i + suc k ≡ (i + 1) + k = omega arith in subst (λ x. IsNameType n (shape_of_type (φ x))) d (h (suc k) c))
 
-started_names : (n : ℕ) (φ : Assign) (i : ℕ) (idents : List IdentKind) → GivesNames n (filling φ) (name_holes i idents) → (k : ℕ) → is_name_at idents k ≡ true → IsNameType n (opened (φ (i + k)))
+started_names : (n : ℕ) (φ : Assign) (i : ℕ) (idents : List IdentKind) → GivesNames n (filling φ) (name_holes i idents) → (k : ℕ) → is_name_at idents k ≡ true → IsNameType n (shape_of_type (φ (i + k)))
 started_names n φ i [] g k e = cc
-started_names n φ i (classes.Name ∷ cs) g zero e = let d : i ≡ i + 0 = omega arith in subst (λ x. IsNameType n (opened (φ x))) d g.0
+started_names n φ i (classes.Name ∷ cs) g zero e = let d : i ≡ i + 0 = omega arith in subst (λ x. IsNameType n (shape_of_type (φ x))) d g.0
 started_names n φ i (classes.Var ∷ cs) g zero e = cc
 started_names n φ i (classes.Name ∷ cs) g (suc k) e =
-    let d : (i + 1) + k ≡ i + suc k = omega arith in subst (λ x. IsNameType n (opened (φ x))) d (started_names n φ (i + 1) cs g.1 k e)
+    let d : (i + 1) + k ≡ i + suc k = omega arith in subst (λ x. IsNameType n (shape_of_type (φ x))) d (started_names n φ (i + 1) cs g.1 k e)
 started_names n φ i (classes.Var ∷ cs) g (suc k) e =
-    let d : (i + 1) + k ≡ i + suc k = omega arith in subst (λ x. IsNameType n (opened (φ x))) d (started_names n φ (i + 1) cs g k e)
+    let d : (i + 1) + k ≡ i + suc k = omega arith in subst (λ x. IsNameType n (shape_of_type (φ x))) d (started_names n φ (i + 1) cs g k e)
 
 pub meets_started : (n : ℕ) (idents : List IdentKind) (φ : Assign) → Fits n idents φ → Meets n φ (started idents)
 meets_started n idents φ f = (
@@ -83,11 +83,11 @@ meets_started n idents φ f = (
   names_started n φ 0 idents (λ k e.
       let r = f.named k e in
       let z : k ≡ 0 + k = omega arith in
-      subst (λ x. IsNameType n (opened (φ x))) z (subst (λ a. IsNameType n (opened a)) (sym r.1) r.2)),
+      subst (λ x. IsNameType n (shape_of_type (φ x))) z (subst (λ a. IsNameType n (shape_of_type a)) (sym r.1) r.2)),
 )
 
-pub started_named : (n : ℕ) (idents : List IdentKind) (φ : Assign) → Meets n φ (started idents) → (k : ℕ) → is_name_at idents k ≡ true → IsNameType n (opened (φ k))
-started_named n idents φ m k e = let z : 0 + k ≡ k = omega arith in subst (λ x. IsNameType n (opened (φ x))) z (started_names n φ 0 idents m.1 k e)
+pub started_named : (n : ℕ) (idents : List IdentKind) (φ : Assign) → Meets n φ (started idents) → (k : ℕ) → is_name_at idents k ≡ true → IsNameType n (shape_of_type (φ k))
+started_named n idents φ m k e = let z : 0 + k ≡ k = omega arith in subst (λ x. IsNameType n (shape_of_type (φ x))) z (started_names n φ 0 idents m.1 k e)
 
 bound_started : (i : ℕ) (idents : List IdentKind) (b : ℕ) → i + length idents ≤ b → names_bound (name_holes i idents) ≤ b
 bound_started i [] b l = omega arith
@@ -117,7 +117,7 @@ declared_by n m (classes.Name ∷ cs) φ f d =
     (subst (λ s. s < n) (sym (ap sort_of r.1)) r.2, declared_by n m cs (after φ) (λ k e. f (suc k) e) (λ k l. d (suc k) (omega arith)))
 declared_by n m (classes.Var ∷ cs) φ f d = (d 0 (omega arith), declared_by n m cs (after φ) (λ k e. f (suc k) e) (λ k l. d (suc k) (omega arith)))
 
-named_types : (n : ℕ) (a : NominalType) → IsNameType n (opened a) → (s : ℕ) × (a ≡ types.names s) × (s < n)
+named_types : (n : ℕ) (a : NominalType) → IsNameType n (shape_of_type a) → (s : ℕ) × (a ≡ types.names s) × (s < n)
 named_types n (types.names s) h = (s, refl, h)
 named_types n _ h = absurd h
 

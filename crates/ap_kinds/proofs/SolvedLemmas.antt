@@ -14,32 +14,32 @@ use Rattle.ap_types.specs.Triangular.{assignment_of}
 use Rattle.ap_kinds.specs.declared.kinds.IdentKind.{IdentKind}
 use Rattle.ap_kinds.specs.declared.errors.KindsError.{KindsError}
 use Rattle.ap_kinds.specs.declared.errors.KindsError.TheVariants as errors
-use Rattle.ap_types.specs.Equations.{ShapeEquation, equation_of, Filling, GivesNames, IsSolution, IsInstance}
+use Rattle.ap_types.specs.Equations.{ShapeEquation, equation_of, Filling, GivesNames, IsSolution, IsShapeInstance}
 use Rattle.ap_types.specs.Assignments.{AreNames, IsUnsolvable}
-use Rattle.ap_kinds.specs.Reading.{is_declared, is_closed, read_kind, read_kinds, name_count, data_count, AreFirst, IsSolved, IsRead, IsUnread}
+use Rattle.ap_kinds.specs.Reading.{is_declared, is_closed, read_kind, read_kinds, name_count, data_count, AreFirst, IsSystemSolved, AreKindsRead, IsUnread}
 
 unsolvable_as : (es fs : List (Shape × Shape)) (xs ys : List ℕ) (n m : ℕ) → es ≡ fs → xs ≡ ys → n ≡ m → IsUnsolvable (map equation_of es) xs n → IsUnsolvable (map equation_of fs) ys m
 unsolvable_as es fs xs ys n m e d c h =
     subst (λ (gs : List (Shape × Shape)). IsUnsolvable (map equation_of gs) ys m) e
     (subst (λ (zs : List ℕ). IsUnsolvable (map equation_of es) zs m) d (subst (λ k. IsUnsolvable (map equation_of es) xs k) c h))
 
-solved_here : (es : List ShapeEquation) (xs : List ℕ) (n next : ℕ) (ts : List TypeShape) → ((f : Filling) → IsSolution es xs n f ↔ (IsInstance ts f × GivesNames n f xs)) → AreNames n ts xs
-    → IsSolved n (record { equations = es; names = xs; next = next }) ts
+solved_here : (es : List ShapeEquation) (xs : List ℕ) (n next : ℕ) (ts : List TypeShape) → ((f : Filling) → IsSolution es xs n f ↔ (IsShapeInstance ts f × GivesNames n f xs)) → AreNames n ts xs
+    → IsSystemSolved n (record { equations = es; names = xs; next = next }) ts
 solved_here es xs n next ts h k = record { most_general = h; constrained = k }
 
 solved_as : (es fs : List (Shape × Shape)) (xs ys : List ℕ) (n m next : ℕ) (ts : List TypeShape) → es ≡ fs → xs ≡ ys → n ≡ m
-    → ((f : Filling) → IsSolution (map equation_of es) xs n f ↔ (IsInstance ts f × GivesNames n f xs)) → AreNames n ts xs
-    → IsSolved m (record { equations = map equation_of fs; names = ys; next = next }) ts
+    → ((f : Filling) → IsSolution (map equation_of es) xs n f ↔ (IsShapeInstance ts f × GivesNames n f xs)) → AreNames n ts xs
+    → IsSystemSolved m (record { equations = map equation_of fs; names = ys; next = next }) ts
 solved_as es fs xs ys n m next ts e d c h k =
-    subst (λ (gs : List (Shape × Shape)). IsSolved m (record { equations = map equation_of gs; names = ys; next = next }) ts) e
-    (subst (λ (zs : List ℕ). IsSolved m (record { equations = map equation_of es; names = zs; next = next }) ts) d
-    (subst (λ j. IsSolved j (record { equations = map equation_of es; names = xs; next = next }) ts) c
+    subst (λ (gs : List (Shape × Shape)). IsSystemSolved m (record { equations = map equation_of gs; names = ys; next = next }) ts) e
+    (subst (λ (zs : List ℕ). IsSystemSolved m (record { equations = map equation_of es; names = zs; next = next }) ts) d
+    (subst (λ j. IsSystemSolved j (record { equations = map equation_of es; names = xs; next = next }) ts) c
     (solved_here (map equation_of es) xs n next ts h k)))
 
 -- The same for what the program returns.
 pub solved_table : (r : Result Solved TypesError) (es fs : List (Shape × Shape)) (xs ys : List ℕ) (n m next : ℕ) → es ≡ fs → xs ≡ ys → n ≡ m
-    → IfOk r (λ s. (f : Filling) → IsSolution (map equation_of es) xs n f ↔ (IsInstance (assignment_of s) f × GivesNames n f xs)) → IfOk r (λ s. AreNames n (assignment_of s) xs)
-    → IfOk r (λ s. IsSolved m (record { equations = map equation_of fs; names = ys; next = next }) (assignment_of s))
+    → IfOk r (λ s. (f : Filling) → IsSolution (map equation_of es) xs n f ↔ (IsShapeInstance (assignment_of s) f × GivesNames n f xs)) → IfOk r (λ s. AreNames n (assignment_of s) xs)
+    → IfOk r (λ s. IsSystemSolved m (record { equations = map equation_of fs; names = ys; next = next }) (assignment_of s))
 solved_table (Ok s) es fs xs ys n m next e d c h k = solved_as es fs xs ys n m next (assignment_of s) e d c h k
 solved_table (Err x) es fs xs ys n m next e d c h k = tt
 
@@ -56,7 +56,7 @@ read_first ts us i (c ∷ cs) h =
     let d = read_first ts us (i + 1) cs (λ x l. h x (omega arith)) in
     ap (λ k. k ∷ read_kinds ts (i + 1) cs) e ∙ ap (λ ks. read_kind c (shape_at us i) ∷ ks) d
 
-pub is_read_first : (sig : NominalSignature) (idents : List IdentKind) (ts us : List TypeShape) (ks : List NominalKind) → AreFirst (length idents) ts us → IsRead sig idents ts ks → IsRead sig idents us ks
+pub is_read_first : (sig : NominalSignature) (idents : List IdentKind) (ts us : List TypeShape) (ks : List NominalKind) → AreFirst (length idents) ts us → AreKindsRead sig idents ts ks → AreKindsRead sig idents us ks
 is_read_first sig idents ts us ks h r = record {
   declared = λ x l. ap (is_declared (name_count sig) (data_count sig)) (sym (h x l)) ∙ r.declared x l;
   closed = λ x l. ap is_closed (sym (h x l)) ∙ r.closed x l;
@@ -74,7 +74,7 @@ is_unread_first errors.Memory sig idents ts us h r = tt
 
 -- The same for what the program returns.
 pub read_as : (r : Result (Vec Kind Global) KindsError) (sig : NominalSignature) (idents : List IdentKind) (ts us : List TypeShape) → AreFirst (length idents) ts us
-    → IfOk r (λ ks. IsRead sig idents ts (map kind_of ks.items)) → IfOk r (λ ks. IsRead sig idents us (map kind_of ks.items))
+    → IfOk r (λ ks. AreKindsRead sig idents ts (map kind_of ks.items)) → IfOk r (λ ks. AreKindsRead sig idents us (map kind_of ks.items))
 read_as (Ok ks) sig idents ts us h r = is_read_first sig idents ts us (map kind_of ks.items) h r
 read_as (Err e) sig idents ts us h r = tt
 

@@ -7,7 +7,7 @@ use Rattle.ap_defs.specs.Types as types
 use Rattle.ap_defs.specs.Typing as typing
 use Rattle.ap_defs.specs.Typing.{Want, one, arguments}
 use Rattle.ap_kinds.specs.declared.kinds.IdentKind.{IdentKind}
-use Rattle.ap_kinds.specs.Systems.{EquationSystem, equate, with_name, with_hole, opened}
+use Rattle.ap_kinds.specs.Systems.{EquationSystem, equate, with_name_hole, with_hole, shape_of_type}
 use Rattle.ap_kinds.specs.Gathering.{Wanting, whole, nothing, more, cell, meet, meet_unit, meet_swapped}
 use Rattle.ap_kinds.proofs.Assignments.{Assign, filling, closed, Agree, proper_opened, bound_opened, names_snoc, names_bound_snoc}
 use Rattle.ap_kinds.proofs.Gathers.{Meets, IsMade, Grows, IsShapeOf, Suits, want_by, meets_same, Gathers, gathers_map, gathers_none, gathers_equate, gathers_refused}
@@ -28,7 +28,7 @@ made_hole n idents s m = record { bounded = let a = m.bounded in omega arith; na
 pub grows_hole : (n : ℕ) (s : EquationSystem) → Grows n s (with_hole s)
 grows_hole n s = record { next = omega arith; names = λ f h. h; back = λ φ h. h }
 
-pub made_name : (n : ℕ) (idents : List IdentKind) (s : EquationSystem) (x : ℕ) → x < s.next → IsMade n idents s → IsMade n idents (with_name x s)
+pub made_name : (n : ℕ) (idents : List IdentKind) (s : EquationSystem) (x : ℕ) → x < s.next → IsMade n idents s → IsMade n idents (with_name_hole x s)
 made_name n idents s x l m = record {
   bounded = m.bounded;
   named = names_bound_snoc s.next s.names x m.named l;
@@ -36,7 +36,7 @@ made_name n idents s x l m = record {
   past = m.past;
 }
 
-pub grows_name : (n : ℕ) (s : EquationSystem) (x : ℕ) → Grows n s (with_name x s)
+pub grows_name : (n : ℕ) (s : EquationSystem) (x : ℕ) → Grows n s (with_name_hole x s)
 grows_name n s x = record { next = omega arith; names = λ f g. (names_snoc n f s.names x g).0; back = λ φ h. (h.0, (names_snoc n (filling φ) s.names x h.1).0) }
 
 pub hole_filled : (n : ℕ) (idents : List IdentKind) (s : EquationSystem) (φ : Assign) (a : NominalType) → IsMade n idents s → Meets n φ s
@@ -48,7 +48,7 @@ hole_filled n idents s φ a m h =
 pub hole_shape : (n : ℕ) (x : ℕ) (s : EquationSystem) → x < s.next → IsShapeOf n (hole x) s
 hole_shape n x s l = record { bounded = omega arith; proper = λ f g. tt }
 
-pub opened_shape : (n : ℕ) (a : NominalType) (s : EquationSystem) → IsShapeOf n (opened a) s
+pub opened_shape : (n : ℕ) (a : NominalType) (s : EquationSystem) → IsShapeOf n (shape_of_type a) s
 opened_shape n a s = record { bounded = bound_opened a s.next; proper = λ f g. proper_opened f a }
 
 -- A term of a shape stands where something is wanted.

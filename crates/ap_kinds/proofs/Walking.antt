@@ -13,7 +13,7 @@ use Rattle.ap_defs.specs.Printing.{constructor_in}
 use Rattle.ap_program.specs.RawTyping.{IsTypedRaw}
 use Rattle.ap_kinds.specs.declared.kinds.IdentKind.{IdentKind}
 use Rattle.ap_kinds.specs.Sorts.{id_with_sort, name_with_sort, with_sorts}
-use Rattle.ap_kinds.specs.Systems.{EquationSystem, refused, is_name_at, is_var_at}
+use Rattle.ap_kinds.specs.Systems.{EquationSystem, system_refused, is_name_at, is_var_at}
 use Rattle.ap_kinds.specs.Gathering.{Wanting, nothing, meet, meet_unit, meet_swapped, sides, inside_cell, inside_declared, inside_abstraction, name_place, one_sort, gather_term}
 use Rattle.ap_kinds.proofs.Assignments.{Assign}
 use Rattle.ap_kinds.proofs.IdentLemmas.{kinds_by, name_number, var_number, name_of_sort, sort_of_name, own_name, var_of_type, type_of_var}
@@ -39,7 +39,7 @@ wants_unit n cs idents w s m h =
     (gathers_unit n idents w s m h)
 
 wants_name : (n : ℕ) (cs : List NominalConstructor) (idents : List IdentKind) (a : Name) (w : Wanting) (s : EquationSystem) (b : Bool) → is_name_at idents a.num ≡ b → IsMade n idents s → Suits n w s
-    → Gathers n idents (Wants cs idents (raw.name a) w) s (if b then meet w (hole a.num) s else refused s)
+    → Gathers n idents (Wants cs idents (raw.name a) w) s (if b then meet w (hole a.num) s else system_refused s)
 wants_name n cs idents a w s true e m h =
     let below : a.num < s.next = let l = name_number idents a.num e in let past = m.past in omega arith in
     gathers_map n idents (λ φ. want_by φ w ≡ one (φ a.num)) (Wants cs idents (raw.name a) w) s (meet w (hole a.num) s)
@@ -58,7 +58,7 @@ wants_name n cs idents a w s false e m h =
     cc)
 
 wants_var : (n : ℕ) (cs : List NominalConstructor) (idents : List IdentKind) (x : Var) (w : Wanting) (s : EquationSystem) (b : Bool) → is_var_at idents x.num ≡ b → IsMade n idents s → Suits n w s
-    → Gathers n idents (Wants cs idents (raw.var x) w) s (if b then meet w (hole x.num) s else refused s)
+    → Gathers n idents (Wants cs idents (raw.var x) w) s (if b then meet w (hole x.num) s else system_refused s)
 wants_var n cs idents x w s true e m h =
     let below : x.num < s.next = let l = var_number idents x.num e in let past = m.past in omega arith in
     gathers_map n idents (λ φ. want_by φ w ≡ one (φ x.num)) (Wants cs idents (raw.var x) w) s (meet w (hole x.num) s)

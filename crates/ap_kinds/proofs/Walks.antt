@@ -6,7 +6,7 @@ use Rattle.ap_defs.specs.RawTerms.{raw_of}
 use Rattle.ap_defs.specs.Types.{NominalConstructor, type_of}
 use Rattle.ap_types.proofs.LoadLemmas.{next_at}
 use Rattle.ap_kinds.specs.declared.kinds.IdentKind.{IdentKind}
-use Rattle.ap_kinds.specs.Systems.{EquationSystem, opened, refused}
+use Rattle.ap_kinds.specs.Systems.{EquationSystem, shape_of_type, system_refused}
 use Rattle.ap_kinds.specs.Gathering.{whole, gather_term, gather_terms}
 
 drop_past : {A : Type 0} (xs : List A) (i : ℕ) → length xs ≤ i → drop i xs ≡ []
@@ -22,16 +22,16 @@ drop_within (x ∷ xs) (suc i) l = drop_within xs i (omega arith)
 
 pub terms_next : (cs : List NominalConstructor) (idents : List IdentKind) (ts : List Raw) (as' : List Ty) (i : ℕ) (t : Raw) (a : Ty) (s : EquationSystem)
     → i < length ts → t ≡ get_or ts i t → i < length as' → a ≡ get_or as' i a
-    → gather_terms cs idents (map raw_of (drop (i + 1) ts)) (map type_of (drop (i + 1) as')) (gather_term cs idents (raw_of t) (whole (opened (type_of a))) s)
+    → gather_terms cs idents (map raw_of (drop (i + 1) ts)) (map type_of (drop (i + 1) as')) (gather_term cs idents (raw_of t) (whole (shape_of_type (type_of a))) s)
     ≡ gather_terms cs idents (map raw_of (drop i ts)) (map type_of (drop i as')) s
 terms_next cs idents ts as' i t a s l e m f = rw (next_at ts i t l e, next_at as' i a m f) refl
 
 pub terms_short : (cs : List NominalConstructor) (idents : List IdentKind) (ts : List Raw) (as' : List Ty) (i : ℕ) (s : EquationSystem)
-    → i < length ts → length as' ≤ i → gather_terms cs idents (map raw_of (drop i ts)) (map type_of (drop i as')) s ≡ refused s
+    → i < length ts → length as' ≤ i → gather_terms cs idents (map raw_of (drop i ts)) (map type_of (drop i as')) s ≡ system_refused s
 terms_short cs idents ts as' i s l m = let d = drop_within ts i l in rw (d.1, drop_past as' i m) refl
 
 pub terms_long : (cs : List NominalConstructor) (idents : List IdentKind) (ts : List Raw) (as' : List Ty) (i : ℕ) (s : EquationSystem)
-    → length ts ≤ i → i < length as' → gather_terms cs idents (map raw_of (drop i ts)) (map type_of (drop i as')) s ≡ refused s
+    → length ts ≤ i → i < length as' → gather_terms cs idents (map raw_of (drop i ts)) (map type_of (drop i as')) s ≡ system_refused s
 terms_long cs idents ts as' i s l m = let d = drop_within as' i m in rw (drop_past ts i l, d.1) refl
 
 pub terms_done : (cs : List NominalConstructor) (idents : List IdentKind) (ts : List Raw) (as' : List Ty) (i : ℕ) (s : EquationSystem)

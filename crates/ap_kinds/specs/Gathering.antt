@@ -11,7 +11,7 @@ use Rattle.ap_program.specs.Typed.{predicate_at}
 use Rattle.ap_kinds.specs.declared.kinds.IdentKind.{IdentKind}
 use Rattle.ap_kinds.specs.declared.wants.Wanted.{Wanted}
 use Rattle.ap_kinds.specs.declared.wants.Wanted.TheVariants as code
-use Rattle.ap_kinds.specs.Systems.{EquationSystem, equate, with_name, with_hole, refused, opened, is_name_at, is_var_at}
+use Rattle.ap_kinds.specs.Systems.{EquationSystem, equate, with_name_hole, with_hole, system_refused, shape_of_type, is_name_at, is_var_at}
 
 -- What is wanted of a term: a shape; nothing; a type and the rest of a constructor's arguments; or an element of the type of a
 -- hole and a list of these.
@@ -30,13 +30,13 @@ wanting_of (code.Cell x) = cell x
 -- the arguments of a constructor
 abbrev pub wanting_all : List NominalType → Wanting
 wanting_all [] = nothing
-wanting_all (a ∷ []) = whole (opened a)
+wanting_all (a ∷ []) = whole (shape_of_type a)
 wanting_all (a ∷ b ∷ rest) = more a (b ∷ rest)
 
 -- a term of the shape stands where something is wanted
 abbrev pub meet : Wanting → TypeShape → EquationSystem → EquationSystem
 meet (whole w) u s = equate w u s
-meet _ u s = refused s
+meet _ u s = system_refused s
 
 abbrev pub meet_unit : Wanting → EquationSystem → EquationSystem
 meet_unit nothing s = s
@@ -44,40 +44,40 @@ meet_unit w s = meet w unit s
 
 abbrev pub meet_swapped : Wanting → EquationSystem → EquationSystem
 meet_swapped (whole w) s = s
-meet_swapped _ s = refused s
+meet_swapped _ s = system_refused s
 
 abbrev pub meet_name : List IdentKind → ℕ → Wanting → EquationSystem → EquationSystem
-meet_name idents n w s = if is_name_at idents n then meet w (hole n) s else refused s
+meet_name idents n w s = if is_name_at idents n then meet w (hole n) s else system_refused s
 
 abbrev pub meet_var : List IdentKind → ℕ → Wanting → EquationSystem → EquationSystem
-meet_var idents n w s = if is_var_at idents n then meet w (hole n) s else refused s
+meet_var idents n w s = if is_var_at idents n then meet w (hole n) s else system_refused s
 
-abbrev pub number_of : Id → ℕ
-number_of (ids.Name a) = a.num
-number_of (ids.Var x) = x.num
+abbrev pub number_of_id : Id → ℕ
+number_of_id (ids.Name a) = a.num
+number_of_id (ids.Var x) = x.num
 
 -- The hole of an identifier that stands where a name belongs.
-pub record Place : Type 0 where
+pub record NameHole : Type 0 where
   pub hole : ℕ
   pub system : EquationSystem
 
 -- a hole that must be a name type, in a system that nothing solves
-abbrev pub no_place : EquationSystem → Place
-no_place s = record { hole = s.next; system = with_name s.next (with_hole (refused s)) }
+abbrev pub no_place : EquationSystem → NameHole
+no_place s = record { hole = s.next; system = with_name_hole s.next (with_hole (system_refused s)) }
 
-abbrev pub place_if : Bool → ℕ → EquationSystem → Place
-place_if true n s = record { hole = n; system = with_name n s }
+abbrev pub place_if : Bool → ℕ → EquationSystem → NameHole
+place_if true n s = record { hole = n; system = with_name_hole n s }
 place_if false n s = no_place s
 
 abbrev pub is_of_class : List IdentKind → Id → Bool
 is_of_class idents (ids.Name a) = is_name_at idents a.num
 is_of_class idents (ids.Var x) = is_var_at idents x.num
 
-abbrev pub name_place : List IdentKind → Id → EquationSystem → Place
-name_place idents i s = place_if (is_of_class idents i) (number_of i) s
+abbrev pub name_place : List IdentKind → Id → EquationSystem → NameHole
+name_place idents i s = place_if (is_of_class idents i) (number_of_id i) s
 
 -- both holes are of one type
-abbrev pub same_holes : ℕ → Place → EquationSystem
+abbrev pub same_holes : ℕ → NameHole → EquationSystem
 same_holes x p = equate (hole x) (hole p.hole) p.system
 
 -- both identifiers stand for names of one sort
@@ -100,8 +100,8 @@ new_sides w s = record {
 abbrev pub sides : Wanting → EquationSystem → Sides
 sides (whole (pair a b)) s = record { left = whole a; right = whole b; system = s }
 sides (whole w) s = new_sides w s
-sides nothing s = record { left = nothing; right = nothing; system = refused s }
-sides (more a rest) s = record { left = whole (opened a); right = wanting_all rest; system = s }
+sides nothing s = record { left = nothing; right = nothing; system = system_refused s }
+sides (more a rest) s = record { left = whole (shape_of_type a); right = wanting_all rest; system = s }
 sides (cell x) s = record { left = whole (hole x); right = whole (list (hole x)); system = s }
 
 -- What is wanted of the term inside an application or an abstraction.
@@ -126,7 +126,7 @@ abbrev pub inside_cell : Wanting → EquationSystem → Inside
 inside_cell w s = inside_element (listed_hole w) w s
 
 abbrev pub inside_declared : Option NominalConstructor → Wanting → EquationSystem → Inside
-inside_declared None w s = record { want = nothing; system = refused s }
+inside_declared None w s = record { want = nothing; system = system_refused s }
 inside_declared (Some c) w s = record { want = wanting_all c.args; system = meet w (base c.result) s }
 
 abbrev pub inside_application : List NominalConstructor → ℕ → Wanting → EquationSystem → Inside
@@ -143,7 +143,7 @@ inside_abstraction n (whole (abs l b)) s = record { want = whole b; system = equ
 inside_abstraction n w s = new_body n w s
 
 -- the binder's hole and what is wanted of the body
-abbrev pub inside_place : Wanting → Place → Inside
+abbrev pub inside_place : Wanting → NameHole → Inside
 inside_place w p = inside_abstraction p.hole w p.system
 
 abbrev pub inside_binder : List IdentKind → Id → Inside → Inside
@@ -175,11 +175,11 @@ right_of_pair cs idents t at = record {
 -- terms with types, one each
 abbrev pub gather_terms : List NominalConstructor → List IdentKind → List RawTerm → List NominalType → EquationSystem → EquationSystem
 gather_terms cs idents [] [] s = s
-gather_terms cs idents (t ∷ ts) (a ∷ as') s = gather_terms cs idents ts as' (gather_term cs idents t (whole (opened a)) s)
-gather_terms cs idents _ _ s = refused s
+gather_terms cs idents (t ∷ ts) (a ∷ as') s = gather_terms cs idents ts as' (gather_term cs idents t (whole (shape_of_type a)) s)
+gather_terms cs idents _ _ s = system_refused s
 
 abbrev pub gather_arguments : List NominalConstructor → List IdentKind → List RawTerm → Option (List NominalType) → EquationSystem → EquationSystem
-gather_arguments cs idents ts None s = refused s
+gather_arguments cs idents ts None s = system_refused s
 gather_arguments cs idents ts (Some as') s = gather_terms cs idents ts as' s
 
 abbrev pub gather_atom : NominalSignature → List IdentKind → ℕ → List RawTerm → EquationSystem → EquationSystem
@@ -194,7 +194,7 @@ gather_equal cs idents t u s =
 abbrev pub gather_fresh : List NominalConstructor → List IdentKind → RawTerm → RawTerm → EquationSystem → EquationSystem
 gather_fresh cs idents t u s =
     gather_term cs idents u (whole (hole (s.next + 1)))
-    (gather_term cs idents t (whole (hole s.next)) (with_name s.next (with_hole (with_hole s))))
+    (gather_term cs idents t (whole (hole s.next)) (with_name_hole s.next (with_hole (with_hole s))))
 
 abbrev pub gather_goal : NominalSignature → List IdentKind → GoalOver RawTerm → EquationSystem → EquationSystem
 gather_goal sig idents succeed s = s
@@ -203,5 +203,5 @@ gather_goal sig idents (equal t u) s = gather_equal sig.constructors idents t u 
 gather_goal sig idents (fresh t u) s = gather_fresh sig.constructors idents t u s
 gather_goal sig idents (both g h) s = gather_goal sig idents h (gather_goal sig idents g s)
 gather_goal sig idents (either g h) s = gather_goal sig idents h (gather_goal sig idents g s)
-gather_goal sig idents (exists x g) s = gather_goal sig idents g (if is_var_at idents x.num then s else refused s)
-gather_goal sig idents (new a g) s = gather_goal sig idents g (if is_name_at idents a.num then s else refused s)
+gather_goal sig idents (exists x g) s = gather_goal sig idents g (if is_var_at idents x.num then s else system_refused s)
+gather_goal sig idents (new a g) s = gather_goal sig idents g (if is_name_at idents a.num then s else system_refused s)

@@ -2,7 +2,7 @@
 use Rattle.std.specs.Prelude.{◌≡◌, ◌<◌, ◌↔◌, ℕ, ◌+◌, Bool, true, false, ◌&&◌, ◌⊎◌, nat_lt, List, [], ◌∷◌, length}
 use Rattle.ap_defs.specs.Types.{NominalType, NominalKind, NominalSignature, TypeShape, hole, unit, names, base, pair, list, abs, name, var}
 use Rattle.ap_defs.specs.Types as types
-use Rattle.ap_types.specs.Equations.{Filling, GivesNames, IsSolution, IsInstance}
+use Rattle.ap_types.specs.Equations.{Filling, GivesNames, IsSolution, IsShapeInstance}
 use Rattle.ap_types.specs.Solving.{shape_at}
 use Rattle.ap_types.specs.Assignments.{AreNames, IsUnsolvable}
 use Rattle.ap_types.specs.Triangular.{value_of}
@@ -61,8 +61,8 @@ read_kinds ts i [] = []
 read_kinds ts i (c ∷ cs) = read_kind c (shape_at ts i) ∷ read_kinds ts (i + 1) cs
 
 -- The shapes are the most general ones that solve the system.
-pub record IsSolved (n : ℕ) (s : EquationSystem) (ts : List TypeShape) : Type 0 where
-  pub most_general : (f : Filling) → IsSolution s.equations s.names n f ↔ (IsInstance ts f × GivesNames n f s.names)
+pub record IsSystemSolved (n : ℕ) (s : EquationSystem) (ts : List TypeShape) : Type 0 where
+  pub most_general : (f : Filling) → IsSolution s.equations s.names n f ↔ (IsShapeInstance ts f × GivesNames n f s.names)
   pub constrained : AreNames n ts s.names
 
 -- the shapes of the first holes are those of the second list
@@ -88,7 +88,7 @@ abbrev pub data_count : NominalSignature → ℕ
 data_count sig = length sig.data_types
 
 -- The kinds are read off shapes that are declared and closed.
-pub record IsRead (sig : NominalSignature) (idents : List IdentKind) (ts : List TypeShape) (ks : List NominalKind) : Type 0 where
+pub record AreKindsRead (sig : NominalSignature) (idents : List IdentKind) (ts : List TypeShape) (ks : List NominalKind) : Type 0 where
   pub declared : AllDeclared (name_count sig) (data_count sig) (length idents) ts
   pub closed : AllClosed (length idents) ts
   pub read : ks ≡ read_kinds ts 0 idents
@@ -97,12 +97,12 @@ pub record IsRead (sig : NominalSignature) (idents : List IdentKind) (ts : List 
 abbrev pub IsUnread : KindsError → NominalSignature → List IdentKind → List TypeShape → Type 0
 IsUnread errors.Clash sig idents ts = SomeUndeclared (name_count sig) (data_count sig) (length idents) ts
 IsUnread errors.Ambiguous sig idents ts = AllDeclared (name_count sig) (data_count sig) (length idents) ts × SomeOpen (length idents) ts
-IsUnread errors.Empty sig idents ts = (ks : List NominalKind) × IsRead sig idents ts ks × (AreInhabited sig.constructors ks → ⊥)
+IsUnread errors.Empty sig idents ts = (ks : List NominalKind) × AreKindsRead sig idents ts ks × (AreInhabited sig.constructors ks → ⊥)
 IsUnread errors.Memory sig idents ts = Unit {0}
 
 -- inhabited kinds are read off the shapes that solve the system
 abbrev pub IsFound : NominalSignature → List IdentKind → EquationSystem → List NominalKind → Type 0
-IsFound sig idents s ks = (ts : List TypeShape) × IsSolved (name_count sig) s ts × IsRead sig idents ts ks × AreInhabited sig.constructors ks
+IsFound sig idents s ks = (ts : List TypeShape) × IsSystemSolved (name_count sig) s ts × AreKindsRead sig idents ts ks × AreInhabited sig.constructors ks
 
 abbrev pub IsUnsolved : KindsError → NominalSignature → EquationSystem → Type 0
 IsUnsolved errors.Clash sig s = IsUnsolvable s.equations s.names (name_count sig)
@@ -112,7 +112,7 @@ IsUnsolved errors.Memory sig s = Unit {0}
 
 -- nothing solves the system, or what does gives no inhabited kinds
 abbrev pub IsNotFound : KindsError → NominalSignature → List IdentKind → EquationSystem → Type 0
-IsNotFound e sig idents s = IsUnsolved e sig s ⊎ ((ts : List TypeShape) × IsSolved (name_count sig) s ts × IsUnread e sig idents ts)
+IsNotFound e sig idents s = IsUnsolved e sig s ⊎ ((ts : List TypeShape) × IsSystemSolved (name_count sig) s ts × IsUnread e sig idents ts)
 
 -- one of the places is open
 abbrev pub SomeOpenPlace : List TypeShape → List ℕ → Type 0

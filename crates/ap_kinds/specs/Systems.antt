@@ -19,24 +19,24 @@ system_of s = record { equations = map equation_of s.equations.items; names = s.
 abbrev pub equate : TypeShape → TypeShape → EquationSystem → EquationSystem
 equate t u s = record { equations = s.equations ++ (t ≐ u) ∷ []; names = s.names; next = s.next }
 
-abbrev pub with_name : ℕ → EquationSystem → EquationSystem
-with_name x s = record { equations = s.equations; names = s.names ++ x ∷ []; next = s.next }
+abbrev pub with_name_hole : ℕ → EquationSystem → EquationSystem
+with_name_hole x s = record { equations = s.equations; names = s.names ++ x ∷ []; next = s.next }
 
 abbrev pub with_hole : EquationSystem → EquationSystem
 with_hole s = record { equations = s.equations; names = s.names; next = s.next + 1 }
 
 -- nothing solves it
-abbrev pub refused : EquationSystem → EquationSystem
-refused s = equate unit (names 0) s
+abbrev pub system_refused : EquationSystem → EquationSystem
+system_refused s = equate unit (names 0) s
 
 -- a type as a shape without holes
-abbrev pub opened : NominalType → TypeShape
-opened types.unit = unit
-opened (types.names s) = names s
-opened (types.base d) = base d
-opened (types.pair t u) = pair (opened t) (opened u)
-opened (types.list t) = list (opened t)
-opened (types.abs s t) = abs (names s) (opened t)
+abbrev pub shape_of_type : NominalType → TypeShape
+shape_of_type types.unit = unit
+shape_of_type (types.names s) = names s
+shape_of_type (types.base d) = base d
+shape_of_type (types.pair t u) = pair (shape_of_type t) (shape_of_type u)
+shape_of_type (types.list t) = list (shape_of_type t)
+shape_of_type (types.abs s t) = abs (names s) (shape_of_type t)
 
 abbrev pub is_name : IdentKind → Bool
 is_name classes.Name = true

@@ -3,8 +3,8 @@
 //! larger. Places that are still to be looked at wait in a list, however deep they stand.
 
 ghost use Rattle.std.specs.Prelude.{◌≡◌, ◌<◌, ◌≤◌, ◌+◌, ◌++◌, ◌∷◌, [], true, false, length, IfOk, OnOk};
-ghost use Rattle.ap_types.specs.Triangular.{layer_of, table_of, value_of, assignment_of, IsSettled};
-ghost use Rattle.ap_types.specs.Walking.{AreBelow};
+ghost use Rattle.ap_types.specs.Triangular.{layer_of, shapes_of_nodes, value_of, assignment_of, IsSettledTable};
+ghost use Rattle.ap_types.specs.Walking.{ArePlacesBelow};
 ghost use Rattle.ap_kinds.specs.Reading.{is_declared, is_sort, is_closed, AllDeclared, SomeOpen, SomeOpenPlace, AreDeclaredPlaces, IsAmbiguous};
 
 use ap_defs::memory::Memory;
@@ -14,8 +14,8 @@ use std::alloc::Global;
 
 /// Whether the shape of a place is a name type.
 fn is_sort_in(nodes: &[Node], x: usize) -> bool
-    requires { IsSettled (table_of nodes.now) }
-    ensures { result ≡ is_sort (value_of (table_of nodes.now) x) }
+    requires { IsSettledTable (shapes_of_nodes nodes.now) }
+    ensures { result ≡ is_sort (value_of (shapes_of_nodes nodes.now) x) }
 {
     let mut at = x;
     loop {
@@ -37,12 +37,12 @@ fn is_sort_in(nodes: &[Node], x: usize) -> bool
 
 /// Whether a place is closed if its parts are, which are to be looked at.
 fn add_parts(nodes: &[Node], x: usize, places: &mut Vec<usize>) -> Result<bool, Memory>
-    requires settled { IsSettled (table_of nodes.now) }
+    requires settled { IsSettledTable (shapes_of_nodes nodes.now) }
     requires within { x < length nodes.now }
     ensures closed { IfOk result (λ b. b ≡ false →
-        is_closed (value_of (table_of nodes.now) x) ≡ false) }
-    ensures parts { OnOk result (SomeOpenPlace (table_of nodes.now) places.new.items →
-        SomeOpenPlace (table_of nodes.now) (places.old.items ++ x ∷ [])) }
+        is_closed (value_of (shapes_of_nodes nodes.now) x) ≡ false) }
+    ensures parts { OnOk result (SomeOpenPlace (shapes_of_nodes nodes.now) places.new.items →
+        SomeOpenPlace (shapes_of_nodes nodes.now) (places.old.items ++ x ∷ [])) }
     ensures few { OnOk result (length places.new.items ≤ length places.old.items + 2) }
 {
     match nodes[x] {
@@ -72,8 +72,9 @@ fn add_parts(nodes: &[Node], x: usize, places: &mut Vec<usize>) -> Result<bool, 
 
 /// Whether each of some places is closed, by the table. Each place that stands in them is looked at once.
 fn are_closed_places(alloc: Global, nodes: &[Node], places: Vec<usize>) -> Result<bool, Memory>
-    requires { IsSettled (table_of nodes.now) }
-    ensures { IfOk result (λ b. b ≡ false → SomeOpenPlace (table_of nodes.now) places.items) }
+    requires { IsSettledTable (shapes_of_nodes nodes.now) }
+    ensures { IfOk result (λ b. b ≡ false →
+        SomeOpenPlace (shapes_of_nodes nodes.now) places.items) }
 {
     let mut seen = vec![in alloc; false; nodes.len()]?;
     let mut waiting = places;
@@ -94,7 +95,7 @@ fn are_closed_places(alloc: Global, nodes: &[Node], places: Vec<usize>) -> Resul
 
 /// The places of the first holes.
 fn first_places(alloc: Global, count: usize) -> Result<Vec<usize>, Memory>
-    ensures { IfOk result (λ v. AreBelow count v.items) }
+    ensures { IfOk result (λ v. ArePlacesBelow count v.items) }
 {
     let mut places = Vec::new(alloc);
     for x in 0..count {
@@ -105,7 +106,7 @@ fn first_places(alloc: Global, count: usize) -> Result<Vec<usize>, Memory>
 
 /// Whether the shapes of the first holes are closed.
 fn are_closed_in(alloc: Global, table: &Solved, count: usize) -> Result<bool, Memory>
-    requires { IsSettled (table_of table.now.nodes.items) }
+    requires { IsSettledTable (shapes_of_nodes table.now.nodes.items) }
     ensures { IfOk result (λ b. b ≡ false → SomeOpen count (assignment_of table.now)) }
 {
     if count > table.holes {
@@ -128,7 +129,7 @@ fn is_declared_node(name_types: usize, data_types: usize, node: Node) -> bool
 
 /// Whether each place of a table is declared.
 fn are_declared_in(name_types: usize, data_types: usize, nodes: &[Node]) -> bool
-    ensures { result ≡ true → AreDeclaredPlaces name_types data_types (table_of nodes.now) }
+    ensures { result ≡ true → AreDeclaredPlaces name_types data_types (shapes_of_nodes nodes.now) }
 {
     for node in nodes {
         if !is_declared_node(name_types, data_types, *node) {
@@ -146,7 +147,7 @@ pub(crate) fn is_ambiguous(
     table: &Solved,
     count: usize,
 ) -> Result<bool, Memory>
-    requires { IsSettled (table_of table.now.nodes.items) }
+    requires { IsSettledTable (shapes_of_nodes table.now.nodes.items) }
     ensures { IfOk result (λ b. b ≡ true →
         IsAmbiguous name_types data_types count (assignment_of table.now)) }
 {

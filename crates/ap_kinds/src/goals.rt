@@ -4,7 +4,7 @@ ghost use Rattle.std.specs.Prelude.{◌≡◌, map, IfOk, MatchOption, Some, Non
 ghost use Rattle.ap_defs.specs.RawTerms.{raw_of};
 ghost use Rattle.ap_defs.specs.Types.{type_of, constructor_of, signature_of};
 ghost use Rattle.ap_defs.specs.Goals.{goal_over};
-ghost use Rattle.ap_kinds.specs.Systems.{system_of, refused, is_name_at, is_var_at};
+ghost use Rattle.ap_kinds.specs.Systems.{system_of, system_refused, is_name_at, is_var_at};
 ghost use Rattle.ap_kinds.specs.Gathering.{gather_terms, gather_atom, gather_equal, gather_fresh, gather_goal};
 ghost use Rattle.ap_program.specs.Typed.{predicate_at};
 
@@ -136,7 +136,7 @@ fn gather_fresh(
 /// The system as it is, or one that nothing solves.
 fn unless_refused(holds: bool, system: System) -> Result<System, Memory>
     ensures { IfOk result (λ s. system_of s
-        ≡ (if holds then system_of system else refused (system_of system))) }
+        ≡ (if holds then system_of system else system_refused (system_of system))) }
 {
     if holds { Ok(system) } else { refused(system) }
 }

@@ -5,7 +5,7 @@ ghost use Rattle.ap_defs.specs.Types.{shape_of, constructor_of};
 ghost use Rattle.ap_defs.specs.Printing.{constructor_in};
 ghost use Rattle.ap_kinds.specs.Systems.{system_of};
 ghost use Rattle.ap_kinds.specs.Gathering.{wanting_of, whole, new_element, listed_hole, inside_cell, inside_declared, inside_application, new_body, inside_abstraction};
-ghost use Rattle.ap_kinds.specs.Views.{inside_of};
+ghost use Rattle.ap_kinds.specs.Views.{inside_view};
 
 use crate::systems::{System, equate, refused, with_hole};
 use crate::wants::{Wanted, meet, wanted_all};
@@ -23,7 +23,7 @@ pub(crate) struct Inside<'a> {
 
 /// What is wanted of the parts of a list cell with elements of a new hole.
 fn new_element<'a>(alloc: Global, want: Wanted<'_>, system: System) -> Result<Inside<'a>, Memory>
-    ensures { IfOk result (λ b. inside_of b
+    ensures { IfOk result (λ b. inside_view b
         ≡ new_element (wanting_of want.entry) (system_of system)) }
 {
     let element = system.next;
@@ -51,7 +51,7 @@ fn listed_hole(want: &Wanted<'_>) -> Option<u64>
 
 /// What is wanted of the parts of a list cell.
 fn inside_cell<'a>(alloc: Global, want: Wanted<'_>, system: System) -> Result<Inside<'a>, Memory>
-    ensures { IfOk result (λ b. inside_of b
+    ensures { IfOk result (λ b. inside_view b
         ≡ inside_cell (wanting_of want.entry) (system_of system)) }
 {
     match listed_hole(&want) {
@@ -84,7 +84,7 @@ fn inside_declared<'a>(
     want: Wanted<'_>,
     system: System,
 ) -> Result<Inside<'a>, Memory>
-    ensures { IfOk result (λ b. inside_of b
+    ensures { IfOk result (λ b. inside_view b
         ≡ inside_declared (constructor_in (map constructor_of constructors.now) f)
         (wanting_of want.entry) (system_of system)) }
 {
@@ -112,7 +112,7 @@ pub(crate) fn inside_application<'a>(
     want: Wanted<'_>,
     system: System,
 ) -> Result<Inside<'a>, Memory>
-    ensures { IfOk result (λ b. inside_of b
+    ensures { IfOk result (λ b. inside_view b
         ≡ inside_application (map constructor_of constructors.now) f (wanting_of want.entry)
         (system_of system)) }
 {
@@ -136,7 +136,7 @@ fn new_body<'a>(
     want: Wanted<'_>,
     system: System,
 ) -> Result<Inside<'a>, Memory>
-    ensures { IfOk result (λ b. inside_of b
+    ensures { IfOk result (λ b. inside_view b
         ≡ new_body binder (wanting_of want.entry) (system_of system)) }
 {
     let body = system.next;
@@ -157,7 +157,7 @@ fn body_of_shape<'a>(
     want: Shape,
     system: System,
 ) -> Result<Inside<'a>, Memory>
-    ensures { IfOk result (λ b. inside_of b
+    ensures { IfOk result (λ b. inside_view b
         ≡ inside_abstraction binder (whole (shape_of want)) (system_of system)) }
 {
     match want {
@@ -176,7 +176,7 @@ pub(crate) fn inside_abstraction<'a>(
     want: Wanted<'_>,
     system: System,
 ) -> Result<Inside<'a>, Memory>
-    ensures { IfOk result (λ b. inside_of b
+    ensures { IfOk result (λ b. inside_view b
         ≡ inside_abstraction binder (wanting_of want.entry) (system_of system)) }
 {
     match want {

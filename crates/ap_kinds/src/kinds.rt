@@ -6,12 +6,12 @@ ghost use Rattle.ap_defs.specs.RawTerms.{raw_of};
 ghost use Rattle.ap_defs.specs.Goals.{goal_over};
 ghost use Rattle.ap_types.specs.Assignments.{IsUnsolvable};
 ghost use Rattle.ap_types.specs.Tables.{AreInhabitants};
-ghost use Rattle.ap_types.specs.Triangular.{table_of, assignment_of, IsSettled};
+ghost use Rattle.ap_types.specs.Triangular.{shapes_of_nodes, assignment_of, IsSettledTable};
 ghost use Rattle.ap_program.specs.Typed.{AreInhabited};
 ghost use Rattle.ap_kinds.specs.ItemKinds.{TypesQuery, TypesClause, IsInferred, IsRefused};
 ghost use Rattle.ap_kinds.specs.Systems.{system_of, started};
 ghost use Rattle.ap_kinds.specs.Gathering.{gather_goal, gather_atom};
-ghost use Rattle.ap_kinds.specs.Reading.{name_count, AreFirst, IsSolved, IsRead, IsUnread, IsFound, IsNotFound};
+ghost use Rattle.ap_kinds.specs.Reading.{name_count, AreFirst, IsSystemSolved, AreKindsRead, IsUnread, IsFound, IsNotFound};
 
 use crate::closed::is_ambiguous;
 use crate::errors::KindsError;
@@ -38,8 +38,8 @@ pub enum IdentKind {
 /// The table of the most general shapes of the holes of a system. No sort is above the greatest `u32`,
 /// so more name types than that count as want of memory.
 fn table_of_holes(alloc: Global, sig: &Signature, system: &System) -> Result<Solved, TypesError>
-    ensures settled { IfOk result (λ s. IsSettled (table_of s.nodes.items)) }
-    ensures ok { IfOk result (λ s. IsSolved (name_count (signature_of sig.now))
+    ensures settled { IfOk result (λ s. IsSettledTable (shapes_of_nodes s.nodes.items)) }
+    ensures ok { IfOk result (λ s. IsSystemSolved (name_count (signature_of sig.now))
         (system_of system.now) (assignment_of s)) }
     ensures clash { IfErr result (λ e. e ≡ TypesError.Clash →
         IsUnsolvable (system_of system.now).equations (system_of system.now).names
@@ -56,7 +56,7 @@ fn table_of_holes(alloc: Global, sig: &Signature, system: &System) -> Result<Sol
 
 /// The shapes of the first holes, which are those of the identifiers.
 fn first_shapes(alloc: Global, table: &Solved, count: usize) -> Result<Vec<Shape>, Memory>
-    requires { IsSettled (table_of table.now.nodes.items) }
+    requires { IsSettledTable (shapes_of_nodes table.now.nodes.items) }
     ensures { IfOk result (λ v. AreFirst count (map shape_of v.items) (assignment_of table.now)) }
 {
     let mut shapes = Vec::new(alloc);
@@ -75,8 +75,8 @@ fn read_table(
     table: &Solved,
 ) -> Result<Vec<Kind>, KindsError>
     requires inhabited { AreInhabitants (signature_of sig.now).constructors inhabitants.now }
-    requires settled { IsSettled (table_of table.now.nodes.items) }
-    ensures read { IfOk result (λ ks. IsRead (signature_of sig.now) idents.now
+    requires settled { IsSettledTable (shapes_of_nodes table.now.nodes.items) }
+    ensures read { IfOk result (λ ks. AreKindsRead (signature_of sig.now) idents.now
         (assignment_of table.now) (map kind_of ks.items)) }
     ensures inhabited { IfOk result (λ ks. AreInhabited (signature_of sig.now).constructors
         (map kind_of ks.items)) }

@@ -2,8 +2,8 @@
 
 ghost use Rattle.std.specs.Prelude.{◌≡◌, IfOk};
 ghost use Rattle.ap_kinds.specs.Systems.{system_of};
-ghost use Rattle.ap_kinds.specs.Gathering.{number_of, is_of_class, no_place, name_place, one_sort};
-ghost use Rattle.ap_kinds.specs.Views.{place_of};
+ghost use Rattle.ap_kinds.specs.Gathering.{number_of_id, is_of_class, no_place, name_place, one_sort};
+ghost use Rattle.ap_kinds.specs.Views.{name_hole_of};
 
 use crate::kinds::IdentKind;
 use crate::systems::{System, equate, is_name_at, is_var_at, refused, with_hole, with_name};
@@ -19,7 +19,7 @@ pub(crate) struct Place {
 
 /// The number of an identifier.
 fn number_of(ident: Id) -> u64
-    ensures { result ≡ number_of ident }
+    ensures { result ≡ number_of_id ident }
 {
     match ident {
         Id::Name(a) => a.num,
@@ -39,7 +39,7 @@ fn is_of_class(idents: &[IdentKind], ident: Id) -> bool
 
 /// A hole that must be a name type, in a system that nothing solves.
 fn no_place(system: System) -> Result<Place, Memory>
-    ensures { IfOk result (λ p. place_of p ≡ no_place (system_of system)) }
+    ensures { IfOk result (λ p. name_hole_of p ≡ no_place (system_of system)) }
 {
     let hole = system.next;
     let system = refused(system)?;
@@ -50,7 +50,7 @@ fn no_place(system: System) -> Result<Place, Memory>
 
 /// The hole of an identifier that stands where a name belongs.
 pub(crate) fn name_place(idents: &[IdentKind], ident: Id, system: System) -> Result<Place, Memory>
-    ensures { IfOk result (λ p. place_of p ≡ name_place idents.now ident (system_of system)) }
+    ensures { IfOk result (λ p. name_hole_of p ≡ name_place idents.now ident (system_of system)) }
 {
     if is_of_class(idents, ident) {
         let hole = number_of(ident);

@@ -5,7 +5,7 @@ ghost use Rattle.ap_defs.specs.Types.{NominalConstructor, shape_of, type_of, kin
 ghost use Rattle.ap_types.specs.Tables.{AreInhabitants};
 ghost use Rattle.ap_types.specs.Solving.{shape_at};
 ghost use Rattle.ap_program.specs.Typed.{AreInhabited};
-ghost use Rattle.ap_kinds.specs.Reading.{is_declared, is_sort, is_closed, sort_in_shape, read_type, read_kind, read_kinds, AllDeclared, SomeUndeclared, AllClosed, SomeOpen, IsRead, IsUnread};
+ghost use Rattle.ap_kinds.specs.Reading.{is_declared, is_sort, is_closed, sort_in_shape, read_type, read_kind, read_kinds, AllDeclared, SomeUndeclared, AllClosed, SomeOpen, AreKindsRead, IsUnread};
 
 use crate::errors::KindsError;
 use crate::kinds::IdentKind;
@@ -221,7 +221,7 @@ pub(crate) fn read_inhabited(
     holes: &[Shape],
 ) -> Result<Vec<Kind>, KindsError>
     requires { AreInhabitants (signature_of sig.now).constructors inhabitants.now }
-    ensures read { IfOk result (λ ks. IsRead (signature_of sig.now) idents.now
+    ensures read { IfOk result (λ ks. AreKindsRead (signature_of sig.now) idents.now
         (map shape_of holes.now) (map kind_of ks.items)) }
     ensures inhabited { IfOk result (λ ks. AreInhabited (signature_of sig.now).constructors
         (map kind_of ks.items)) }

@@ -2,7 +2,7 @@
 
 ghost use Rattle.std.specs.Prelude.{◌≡◌, IfOk};
 ghost use Rattle.ap_defs.specs.Types.{shape_of, type_of};
-ghost use Rattle.ap_kinds.specs.Systems.{opened};
+ghost use Rattle.ap_kinds.specs.Systems.{shape_of_type};
 ghost use Rattle.ap_kinds.specs.Layers.{shape_in, shape_within};
 
 use ap_defs::memory::Memory;
@@ -53,7 +53,7 @@ fn close_shape(alloc: Global, mut layers: Vec<ShapeLayer>, t: Shape) -> Result<S
 /// calls itself on left parts of pairs alone.
 #[tactic(auto, using(crate::proofs::LayerLemmas::shape_within_last))]
 pub(crate) fn opened(alloc: Global, t: &Ty) -> Result<Shape, Memory>
-    ensures { IfOk result (λ s. shape_of s ≡ opened (type_of t.now)) }
+    ensures { IfOk result (λ s. shape_of s ≡ shape_of_type (type_of t.now)) }
 {
     let mut layers = Vec::new(alloc);
     let mut rest = t;

@@ -2,7 +2,7 @@
 
 ghost use Rattle.std.specs.Prelude.{◌≡◌, ℕ, ◌+◌, ◌++◌, ◌∷◌, [], length, IfOk};
 ghost use Rattle.ap_defs.specs.Types.{shape_of};
-ghost use Rattle.ap_kinds.specs.Systems.{system_of, equate, with_name, with_hole, refused, is_name_at, is_var_at, name_holes, started};
+ghost use Rattle.ap_kinds.specs.Systems.{system_of, equate, with_name_hole, with_hole, system_refused, is_name_at, is_var_at, name_holes, started};
 
 use crate::kinds::IdentKind;
 use ap_defs::memory::Memory;
@@ -37,7 +37,7 @@ pub(crate) fn equate(system: System, left: Shape, right: Shape) -> Result<System
 
 /// The system with one more hole that must be a name type.
 pub(crate) fn with_name(system: System, x: u64) -> Result<System, Memory>
-    ensures { IfOk result (λ s. system_of s ≡ with_name x (system_of system)) }
+    ensures { IfOk result (λ s. system_of s ≡ with_name_hole x (system_of system)) }
 {
     let System {
         equations,
@@ -74,7 +74,7 @@ pub(crate) fn with_hole(system: System) -> Result<System, Memory>
 
 /// The system with an equation that nothing solves.
 pub(crate) fn refused(system: System) -> Result<System, Memory>
-    ensures { IfOk result (λ s. system_of s ≡ refused (system_of system)) }
+    ensures { IfOk result (λ s. system_of s ≡ system_refused (system_of system)) }
 {
     equate(system, Shape::Unit, Shape::Names(0))
 }

@@ -5,7 +5,7 @@ ghost use Rattle.ap_defs.specs.RawTerms.{raw_of};
 ghost use Rattle.ap_defs.specs.Types.{shape_of, constructor_of};
 ghost use Rattle.ap_kinds.specs.Systems.{system_of};
 ghost use Rattle.ap_kinds.specs.Gathering.{wanting_of, whole, new_sides, sides, right_of_pair, inside_binder, inside_swapping, gather_term};
-ghost use Rattle.ap_kinds.specs.Views.{sides_of, inside_of};
+ghost use Rattle.ap_kinds.specs.Views.{sides_of, inside_view};
 
 use crate::inside::{Inside, inside_abstraction, inside_application};
 use crate::kinds::IdentKind;
@@ -94,9 +94,9 @@ fn right_of_pair<'a>(
     left: &Raw,
     at: Inside<'a>,
 ) -> Result<Inside<'a>, Memory>
-    ensures { IfOk result (λ b. inside_of b
+    ensures { IfOk result (λ b. inside_view b
         ≡ right_of_pair (map constructor_of constructors.now) idents.now (raw_of left.now)
-        (inside_of at.entry)) }
+        (inside_view at.entry)) }
 {
     let wanted = pair_sides(alloc, at.want, at.system)?;
     let system = gather_term(
@@ -120,8 +120,8 @@ fn inside_binder<'a>(
     binder: Id,
     at: Inside<'a>,
 ) -> Result<Inside<'a>, Memory>
-    ensures { IfOk result (λ b. inside_of b
-        ≡ inside_binder idents.now binder (inside_of at.entry)) }
+    ensures { IfOk result (λ b. inside_view b
+        ≡ inside_binder idents.now binder (inside_view at.entry)) }
 {
     let place = name_place(idents, binder, at.system)?;
     inside_abstraction(alloc, place.hole, at.want, place.system)
@@ -134,7 +134,8 @@ fn inside_swapping<'a>(
     j: Id,
     at: Inside<'a>,
 ) -> Result<Inside<'a>, Memory>
-    ensures { IfOk result (λ b. inside_of b ≡ inside_swapping idents.now i j (inside_of at.entry)) }
+    ensures { IfOk result (λ b. inside_view b
+        ≡ inside_swapping idents.now i j (inside_view at.entry)) }
 {
     let system = one_sort(idents, i, j, at.system)?;
     let system = meet_swapped(&at.want, system)?;

@@ -3,7 +3,7 @@
 ghost use Rattle.std.specs.Prelude.{◌≡◌, ◌+◌, ◌≤◌, ◌==◌, not, length};
 ghost use Rattle.std.specs.Simd.Lanes.{chunk, put_chunk};
 ghost use Rattle.std.specs.List.{prefix_len};
-ghost use Rattle.ap_lanes.specs.Matching.{agrees, matched};
+ghost use Rattle.ap_lanes.specs.Matching.{key_agrees, matching_keys};
 
 use std::simd::prelude::*;
 
@@ -24,7 +24,7 @@ fn before_key(keys: &[u32], key: u32, at: usize) -> u32
 /// How many keys of the block at a place come before the first that agrees.
 pub fn skipped_in_block(keys: &[u32], key: u32, at: usize) -> u32
     requires { at + 16 ≤ length keys.now }
-    ensures { result ≡ prefix_len (λ k. not (agrees key k)) (chunk at 16 keys.now) }
+    ensures { result ≡ prefix_len (λ k. not (key_agrees key k)) (chunk at 16 keys.now) }
 {
     before_key(keys, key, at).min(before_key(keys, 0, at))
 }
@@ -34,7 +34,7 @@ pub fn skipped_in_block(keys: &[u32], key: u32, at: usize) -> u32
 pub fn match_block(keys: &[u32], key: u32, at: usize, out: &mut [u8])
     requires keys { at + 16 ≤ length keys.now }
     requires out { at + 16 ≤ length out.old }
-    ensures { out.new ≡ put_chunk at out.old (matched key (chunk at 16 keys.now)) }
+    ensures { out.new ≡ put_chunk at out.old (matching_keys key (chunk at 16 keys.now)) }
 {
     let block = u32x16::from_slice(&keys[at..]);
     let same = block

@@ -4,7 +4,7 @@ use Rattle.std.specs.Prelude.{encode_utf8, None}
 use Rattle.std.specs.Char.{len_utf8}
 use Rattle.std.specs.Str.{IsUtf8, chars}
 use Rattle.std.proofs.lemmas.Str.{chars_past_char, drop_past_char, len_utf8_bounds, len_utf8_ascii, length-encode, IsCharBoundary-past_char}
-use Rattle.ap_lexer.specs.Pieces.{IsFirst, piece_at, piece_from, start_of}
+use Rattle.ap_lexer.specs.Pieces.{IsFirstChar, piece_at, piece_from, start_of}
 
 at_head : (bs rest : List ℕ) (c : ℕ) → 0 < length bs → chars bs ≡ c ∷ chars rest → piece_at bs ≡ piece_from (start_of c) c bs
 unfolding piece_at
@@ -16,7 +16,7 @@ unfolding piece_at
 none_at [] e = refl
 none_at (b ∷ bs) e = absurd (omega arith)
 
-pub first_is : (bs rest : List ℕ) (c : ℕ) → IsUtf8 bs → bs ≡ encode_utf8 c ++ rest → IsFirst bs c rest
+pub first_is : (bs rest : List ℕ) (c : ℕ) → IsUtf8 bs → bs ≡ encode_utf8 c ++ rest → IsFirstChar bs c rest
 first_is bs rest c utf8 e =
     let bounds = len_utf8_bounds c in
     let whole : length bs ≡ len_utf8 c + length rest = rw (e, length-append (encode_utf8 c) rest, length-encode c) refl in

@@ -55,7 +55,7 @@ piece_at [] = None
 piece_at (b ∷ bs) = let c = slice_index (chars (b ∷ bs)) 0 in piece_from (start_of c) c (b ∷ bs)
 
 -- a text is this character, and the rest after it
-pub record IsFirst (bs : List ℕ) (c : ℕ) (after : List ℕ) : Type 0 where
+pub record IsFirstChar (bs : List ℕ) (c : ℕ) (after : List ℕ) : Type 0 where
   pub piece : piece_at bs ≡ piece_from (start_of c) c bs
   pub rest : after ≡ drop (len_utf8 c) bs
   pub width : 0 < len_utf8 c

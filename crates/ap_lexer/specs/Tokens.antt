@@ -85,11 +85,11 @@ abbrev pub lexemes : List Token → List Lexeme
 lexemes ts = map lexeme ts
 
 -- an error is the fault that was read, or want of memory
-abbrev pub Fails : LexError → Result (List Lexeme) SyntaxFault → Type 0
-Fails errors.Memory read = Unit {0}
-Fails (errors.Fault f) read = read ≡ Err f
+abbrev pub FailsLexing : LexError → Result (List Lexeme) SyntaxFault → Type 0
+FailsLexing errors.Memory read = Unit {0}
+FailsLexing (errors.Fault f) read = read ≡ Err f
 
 -- what was returned is what was read, unless memory ran out
-abbrev pub Gives : {X : Type 0} → (X → List Lexeme) → Result X LexError → Result (List Lexeme) SyntaxFault → Type 0
-Gives view (Ok x) read = read ≡ Ok (view x)
-Gives view (Err e) read = Fails e read
+abbrev pub GivesLexemes : {X : Type 0} → (X → List Lexeme) → Result X LexError → Result (List Lexeme) SyntaxFault → Type 0
+GivesLexemes view (Ok x) read = read ≡ Ok (view x)
+GivesLexemes view (Err e) read = FailsLexing e read

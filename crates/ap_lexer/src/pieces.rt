@@ -111,7 +111,7 @@ fn start_of(c: char) -> Start
 /// The first character, and the text after it.
 fn split_first(text: &str) -> Option<(char, &str)>
     ensures { MatchOption result (spec.piece_at text.now ≡ None)
-        (λ r. spec.IsFirst text.now r.0 r.1.now) }
+        (λ r. spec.IsFirstChar text.now r.0 r.1.now) }
 {
     let mut chars = text.chars();
     let first = chars.next()?;

@@ -2,7 +2,7 @@
 ghost use Rattle.std.specs.Prelude.{◌≡◌, ◌≤◌, ◌+◌, IfOk, length, take, map, count_by, ◌==◌};
 ghost use Rattle.ap_defs.specs.Limits.{size_limit};
 ghost use Rattle.ap_lexer.specs.Laws.{AreTokensOf};
-ghost use Rattle.ap_lexer.specs.Tokens.{Gives, lexed, lexemes, lexemes_of, scan_from, line_at, is_dot, lexeme};
+ghost use Rattle.ap_lexer.specs.Tokens.{GivesLexemes, lexed, lexemes, lexemes_of, scan_from, line_at, is_dot, lexeme};
 
 use crate::pieces::{piece_at, text_front};
 use crate::token::{LexError, Token};
@@ -81,7 +81,7 @@ fn count_dots(tokens: &[Token<'_>]) -> usize
 #[tactic(auto, unfolding(crate::specs::Tokens::lexed))]
 pub fn lex(alloc: Global, text: &[u8]) -> Result<Vec<Token<'_>>, LexError>
     requires { length text.now ≤ size_limit }
-    ensures read { Gives (λ v. lexemes v.items) result (lexed text.now) }
+    ensures read { GivesLexemes (λ v. lexemes v.items) result (lexed text.now) }
     ensures longest { IfOk result (λ v. AreTokensOf text.now (lexemes v.items)) }
 {
     let front = text_front(text);

@@ -11,7 +11,7 @@ use Rattle.ap_paths.specs.declared.entries.Entry.{Entry}
 use Rattle.ap_lock.specs.declared.view.Stage.TheVariants.{Idle, Waiting, Turn}
 use Rattle.ap_lock.specs.declared.view.Own.{Own}
 use Rattle.ap_lock.specs.declared.view.View.{View}
-use Rattle.ap_lock.specs.Turns.{Slot, own, view, lone, IsLockKept, Kept, Drew, Called, Looked, Ended, AreBy, IsIdle, IsWaiting, HasTurn, MayEnd, seat_number, seen_of}
+use Rattle.ap_lock.specs.Turns.{Slot, own, view, lone, IsLockKept, SeatsKept, Drew, Called, Looked, EndedTurn, AreBy, IsIdle, IsWaiting, HasTurn, MayEnd, seat_number, seen_of}
 use Rattle.ap_lock.proofs.Steps.{draw_step, take_step, end_step, at_home, window}
 
 abbrev Homes : Type 0
@@ -21,7 +21,7 @@ abbrev state : List ℕ → Homes → List View → State Slot View
 state ws hs vs = record { words = ws; homes = hs; views = vs }
 
 pub draw_allows : (seats slots id : ℕ) (os : List Own) → 0 < length os
-    → Allows (Kept seats) slots id (view Idle os, []) 0 (λ n. (n + 1) % 2 ^ 64) (Drew (view Idle os, []))
+    → Allows (SeatsKept seats) slots id (view Idle os, []) 0 (λ n. (n + 1) % 2 ^ 64) (Drew (view Idle os, []))
 draw_allows seats slots id os some_mine s kept size at fits =
     let S = kept.0 in
     let T = kept.1 in
@@ -33,12 +33,12 @@ draw_allows seats slots id os some_mine s kept size at fits =
       w,
       keeps,
       tt,
-      subst (λ (ws : List ℕ). Kept seats (state (set ws 0 ((get_or ws 0 0 + 1) % 2 ^ 64)) s.homes (set s.views id w))) (sym k.words) (S, T + 1, H, ws),
+      subst (λ (ws : List ℕ). SeatsKept seats (state (set ws 0 ((get_or ws 0 0 + 1) % 2 ^ 64)) s.homes (set s.views id w))) (sym k.words) (S, T + 1, H, ws),
       subst (λ (ws : List ℕ). Drew (view Idle os, []) (get_or ws 0 0) (w, [])) (sym k.words) (T, refl, refl),
     )
 
 pub look_allows : (seats slots id t n : ℕ) (seen : List Entry)
-    → Allows (Kept seats) slots id (lone (Waiting t) n seen, []) 1 (λ k. k) (Called t (lone (Waiting t) n seen, []))
+    → Allows (SeatsKept seats) slots id (lone (Waiting t) n seen, []) 1 (λ k. k) (Called t (lone (Waiting t) n seen, []))
 look_allows seats slots id t n seen s kept size at fits =
     let S = kept.0 in
     let T = kept.1 in
@@ -59,21 +59,21 @@ look_allows seats slots id t n seen s kept size at fits =
       w,
       takes 0 (Some H),
       subst (λ (hs : Homes). get_elem? hs 0 ≡ some (some (Some H))) (sym h.0) refl,
-      subst (λ (ws : List ℕ). Kept seats (state ws (set s.homes 0 none) (set s.views id w))) (sym same)
-          (subst (λ (hs : Homes). Kept seats (state s.words (set hs 0 none) (set s.views id w))) (sym h.0) (S, T, H, take_step seats S T H s id t n seen k at is)),
+      subst (λ (ws : List ℕ). SeatsKept seats (state ws (set s.homes 0 none) (set s.views id w))) (sym same)
+          (subst (λ (hs : Homes). SeatsKept seats (state s.words (set hs 0 none) (set s.views id w))) (sym h.0) (S, T, H, take_step seats S T H s id t n seen k at is)),
       inl (found ∙ e, (H, old.known.0, refl)),
     ))
     (λ ne. (
       v,
       keeps,
       tt,
-      subst (λ (ws : List ℕ). Kept seats (state ws s.homes (set s.views id v))) (sym same)
-          (subst (λ (vs : List View). Kept seats (state s.words s.homes vs)) (sym (set_again s.views id v at)) kept),
+      subst (λ (ws : List ℕ). SeatsKept seats (state ws s.homes (set s.views id v))) (sym same)
+          (subst (λ (vs : List View). SeatsKept seats (state s.words s.homes vs)) (sym (set_again s.views id v at)) kept),
       inr ((λ e. ne (sym found ∙ e)), refl),
     ))
 
 pub end_allows : (seats slots id t n : ℕ) (seen hist es : List Entry) → hist ≡ seen ++ es → AreBy n es
-    → Allows (Kept seats) slots id (lone (Turn t) n seen, (0, Some hist) ∷ []) 1 (λ n. (n + 1) % 2 ^ 64) (λ x w. w ≡ (lone Idle n hist, []))
+    → Allows (SeatsKept seats) slots id (lone (Turn t) n seen, (0, Some hist) ∷ []) 1 (λ n. (n + 1) % 2 ^ 64) (λ x w. w ≡ (lone Idle n hist, []))
 end_allows seats slots id t n seen hist es more by s kept size at fits =
     let S = kept.0 in
     let T = kept.1 in
@@ -85,8 +85,8 @@ end_allows seats slots id t n seen hist es more by s kept size at fits =
       w,
       gives,
       tt,
-      subst (λ (hs : Homes). Kept seats (state (set s.words 1 ((get_or s.words 1 0 + 1) % 2 ^ 64)) (set hs 0 (some (Some hist))) (set s.views id w))) (sym now.0)
-          (subst (λ (ws : List ℕ). Kept seats (state (set ws 1 ((get_or ws 1 0 + 1) % 2 ^ 64)) (some (Some hist) ∷ []) (set s.views id w))) (sym k.words) (S + 1, T, hist, ws)),
+      subst (λ (hs : Homes). SeatsKept seats (state (set s.words 1 ((get_or s.words 1 0 + 1) % 2 ^ 64)) (set hs 0 (some (Some hist))) (set s.views id w))) (sym now.0)
+          (subst (λ (ws : List ℕ). SeatsKept seats (state (set ws 1 ((get_or ws 1 0 + 1) % 2 ^ 64)) (some (Some hist) ∷ []) (set s.views id w))) (sym k.words) (S + 1, T, hist, ws)),
       refl,
     )
 
@@ -101,28 +101,28 @@ some_same a b is = ap held is
 weaker : (K : State Slot View → Type 0) (slots id : ℕ) (m : Me Slot View) (i : ℕ) (f : ℕ → ℕ) (P Q : ℕ → Me Slot View → Type 0) → ((n : ℕ) (w : Me Slot View) → P n w → Q n w) → Allows K slots id m i f P → Allows K slots id m i f Q
 weaker K slots id m i f P Q imp a s kept size at fits = let r = a s kept size at fits in (r.0, r.1, r.2, r.3, imp _ _ r.4)
 
-pub draw_at : (seats slots id : ℕ) (m : Me Slot View) → IsIdle m → Allows (Kept seats) slots id m 0 (λ n. (n + 1) % 2 ^ 64) (Drew m)
+pub draw_at : (seats slots id : ℕ) (m : Me Slot View) → IsIdle m → Allows (SeatsKept seats) slots id m 0 (λ n. (n + 1) % 2 ^ 64) (Drew m)
 draw_at seats slots id m idle =
-    subst (λ (x : Me Slot View). Allows (Kept seats) slots id x 0 (λ n. (n + 1) % 2 ^ 64) (Drew x)) (sym idle) (draw_allows seats slots id (own (seat_number m.0) (seen_of m.0) ∷ []) (omega arith))
+    subst (λ (x : Me Slot View). Allows (SeatsKept seats) slots id x 0 (λ n. (n + 1) % 2 ^ 64) (Drew x)) (sym idle) (draw_allows seats slots id (own (seat_number m.0) (seen_of m.0) ∷ []) (omega arith))
 
 pub drawn : (m w : Me Slot View) (n : ℕ) → IsIdle m → Drew m n w → IsWaiting m.0 n w
 drawn m w n idle drew =
     (drew.0, drew.1, drew.2 ∙ ap (λ (x : Me Slot View). (view (Waiting drew.0) x.0.owns, x.1)) idle)
 
-pub look_at : (seats slots id n : ℕ) (v : View) (m : Me Slot View) → IsWaiting v n m → Allows (Kept seats) slots id m 1 (λ k. k) (Looked m)
+pub look_at : (seats slots id n : ℕ) (v : View) (m : Me Slot View) → IsWaiting v n m → Allows (SeatsKept seats) slots id m 1 (λ k. k) (Looked m)
 look_at seats slots id n v m waits =
-    subst (λ (x : Me Slot View). Allows (Kept seats) slots id x 1 (λ k. k) (Looked x)) (sym waits.2) (look_allows seats slots id waits.0 (seat_number v) (seen_of v))
+    subst (λ (x : Me Slot View). Allows (SeatsKept seats) slots id x 1 (λ k. k) (Looked x)) (sym waits.2) (look_allows seats slots id waits.0 (seat_number v) (seen_of v))
 
-pub end_at : (seats slots id : ℕ) (m : Me Slot View) → MayEnd m → Allows (Kept seats) slots id m 1 (λ n. (n + 1) % 2 ^ 64) (Ended m)
+pub end_at : (seats slots id : ℕ) (m : Me Slot View) → MayEnd m → Allows (SeatsKept seats) slots id m 1 (λ n. (n + 1) % 2 ^ 64) (EndedTurn m)
 end_at seats slots id m may =
     let t = may.0 in
     let n = seat_number m.0 in
     let hist = may.1 in
     let adds = may.3 in
     let x : Me Slot View = (lone (Turn t) n (seen_of m.0), (0, Some hist) ∷ []) in
-    let then : (k : ℕ) (w : Me Slot View) → w ≡ (lone Idle n hist, []) → Ended x k w = λ k w e history is. e ∙ ap (λ (h : List Entry). (lone Idle n h, [])) (some_same hist history is) in
-    subst (λ (y : Me Slot View). Allows (Kept seats) slots id y 1 (λ n. (n + 1) % 2 ^ 64) (Ended y)) (sym may.2)
-    (weaker (Kept seats) slots id x 1 (λ n. (n + 1) % 2 ^ 64) _ (Ended x) then (end_allows seats slots id t n (seen_of m.0) hist adds.0 adds.1 adds.2))
+    let then : (k : ℕ) (w : Me Slot View) → w ≡ (lone Idle n hist, []) → EndedTurn x k w = λ k w e history is. e ∙ ap (λ (h : List Entry). (lone Idle n h, [])) (some_same hist history is) in
+    subst (λ (y : Me Slot View). Allows (SeatsKept seats) slots id y 1 (λ n. (n + 1) % 2 ^ 64) (EndedTurn y)) (sym may.2)
+    (weaker (SeatsKept seats) slots id x 1 (λ n. (n + 1) % 2 ^ 64) _ (EndedTurn x) then (end_allows seats slots id t n (seen_of m.0) hist adds.0 adds.1 adds.2))
 
 -- the turn was found
 pub called : (v : View) (n found : ℕ) (m w : Me Slot View) → IsWaiting v n m → Looked m found w → found ≡ n → (history : List Entry) × HasTurn v history w

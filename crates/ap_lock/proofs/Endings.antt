@@ -8,13 +8,13 @@ use Rattle.ap_paths.specs.declared.entries.Entry.{Entry}
 use Rattle.ap_lock.specs.declared.view.Stage.TheVariants.{Idle}
 use Rattle.ap_lock.specs.declared.view.Own.{Own}
 use Rattle.ap_lock.specs.declared.view.View.{View}
-use Rattle.ap_lock.specs.Turns.{Slot, Kept, view, lone, fresh_owns, seen_of, places_of, AreKnown, others, first_seat_only, united, times, one_if}
-use Rattle.ap_lock.specs.Seats.{SeatView, Raw, seat_view, IsSeat, AreOf, AreLogged, new_seats, seats_with}
+use Rattle.ap_lock.specs.Turns.{Slot, SeatsKept, view, lone, fresh_owns, seen_of, places_of, AreKnown, others, first_seat_only, united, times_owned, one_turn_if}
+use Rattle.ap_lock.specs.Seats.{SeatView, Raw, seat_view, IsSeat, AreOfBook, AreLogged, new_seats, seats_with}
 use Rattle.ap_lock.proofs.Steps.{all_home, no_strangers}
 
 -- what the closed table has in its slot
-pub taken_out : (seats id : ℕ) (v : View) (ws : List ℕ) (xs : List Slot) (x : Slot) → Final (Seen (Kept seats) id v) ws xs → v.stage ≡ Idle → length v.owns ≡ seats → get_elem? xs 0 ≡ some x
-    → (history : List Entry) × (x ≡ Some history) × AreKnown history v.owns × ((n : ℕ) → times n v.owns ≡ 0 → places_of n history ≡ []) × ((n : ℕ) → seats ≤ n → places_of n history ≡ [])
+pub taken_out : (seats id : ℕ) (v : View) (ws : List ℕ) (xs : List Slot) (x : Slot) → Final (Seen (SeatsKept seats) id v) ws xs → v.stage ≡ Idle → length v.owns ≡ seats → get_elem? xs 0 ≡ some x
+    → (history : List Entry) × (x ≡ Some history) × AreKnown history v.owns × ((n : ℕ) → times_owned n v.owns ≡ 0 → places_of n history ≡ []) × ((n : ℕ) → seats ≤ n → places_of n history ≡ [])
 taken_out seats id v ws xs x final idle all got =
     let s = final.0 in
     let kept = final.1.0 in
@@ -73,12 +73,12 @@ logged_one H n raw s is seat known =
 pub logged_last : (H : List Entry) (xs : List SeatView) (s : SeatView) → AreLogged H (s ∷ []) → AreLogged H xs → AreLogged H (xs ++ s ∷ [])
 logged_last H xs s one all = logged_both H xs (s ∷ []) all one
 
-of_both : (book : TableId) (xs : List SeatView) (s : SeatView) → AreOf book (xs ++ s ∷ []) → AreOf book xs × (s.book ≡ book)
+of_both : (book : TableId) (xs : List SeatView) (s : SeatView) → AreOfBook book (xs ++ s ∷ []) → AreOfBook book xs × (s.book ≡ book)
 of_both book [] s h = (tt, h.0)
 of_both book (x ∷ xs) s h = let r = of_both book xs s h.1 in ((h.0, r.0), r.1)
 
-pub of_last : (book : TableId) (all xs : List SeatView) (s : SeatView) → all ≡ xs ++ s ∷ [] → AreOf book all → AreOf book xs × (s.book ≡ book)
-of_last book all xs s is h = of_both book xs s (subst (AreOf book) is h)
+pub of_last : (book : TableId) (all xs : List SeatView) (s : SeatView) → all ≡ xs ++ s ∷ [] → AreOfBook book all → AreOfBook book xs × (s.book ≡ book)
+of_last book all xs s is h = of_both book xs s (subst (AreOfBook book) is h)
 
 known_parts : (H : List Entry) (os us : List Own) → AreKnown H (os ++ us) → AreKnown H os × AreKnown H us
 known_parts H [] us h = (tt, h)
@@ -101,24 +101,24 @@ some_is a b is = ap held is
 pub none_is : (a : List Entry) → None ≡ Some a → ⊥
 none_is a is = cc
 
-times_both : (n : ℕ) (os us : List Own) → times n (os ++ us) ≡ times n os + times n us
+times_both : (n : ℕ) (os us : List Own) → times_owned n (os ++ us) ≡ times_owned n os + times_owned n us
 times_both n [] us = omega arith
 times_both n (o ∷ os) us = omega (arith, times_both n os us)
 
-pub seats_with-last : (n : ℕ) (xs : List SeatView) (s : SeatView) → seats_with n (xs ++ s ∷ []) ≡ seats_with n xs + one_if (eqb s.number n)
+pub seats_with-last : (n : ℕ) (xs : List SeatView) (s : SeatView) → seats_with n (xs ++ s ∷ []) ≡ seats_with n xs + one_turn_if (eqb s.number n)
 seats_with-last n [] s = omega arith
 seats_with-last n (x ∷ xs) s = omega (arith, seats_with-last n xs s)
 
 -- the numbers of a seat that was taken in
-pub times_one : (n k : ℕ) (raw : Raw) (s : SeatView) → seat_view k raw ≡ s → IsSeat k raw → times n raw.me.0.owns ≡ one_if (eqb s.number n)
+pub times_one : (n k : ℕ) (raw : Raw) (s : SeatView) → seat_view k raw ≡ s → IsSeat k raw → times_owned n raw.me.0.owns ≡ one_turn_if (eqb s.number n)
 times_one n k raw s same seat =
-    let a = ap (λ (m : Me Slot View). times n m.0.owns) seat in
-    let b = ap (λ (x : SeatView). one_if (eqb x.number n)) same in
+    let a = ap (λ (m : Me Slot View). times_owned n m.0.owns) seat in
+    let b = ap (λ (x : SeatView). one_turn_if (eqb x.number n)) same in
     omega arith
 
-pub times_more : (n k : ℕ) (first new : View) (raw : Raw) (s : SeatView) (all xs : List SeatView) → new ≡ united first raw.me.0 → all ≡ xs ++ s ∷ [] → seat_view k raw ≡ s → IsSeat k raw → times n new.owns + seats_with n xs ≡ times n first.owns + seats_with n all
+pub times_more : (n k : ℕ) (first new : View) (raw : Raw) (s : SeatView) (all xs : List SeatView) → new ≡ united first raw.me.0 → all ≡ xs ++ s ∷ [] → seat_view k raw ≡ s → IsSeat k raw → times_owned n new.owns + seats_with n xs ≡ times_owned n first.owns + seats_with n all
 times_more n k first new raw s all xs is more same seat =
-    let a = ap (λ (v : View). times n v.owns) is in
+    let a = ap (λ (v : View). times_owned n v.owns) is in
     let b = times_both n first.owns raw.me.0.owns in
     let c = times_one n k raw s same seat in
     let d = ap (seats_with n) more in

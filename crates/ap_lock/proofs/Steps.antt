@@ -11,7 +11,7 @@ use Rattle.ap_lock.specs.declared.view.Stage.{Stage}
 use Rattle.ap_lock.specs.declared.view.Stage.TheVariants.{Idle, Waiting, Turn}
 use Rattle.ap_lock.specs.declared.view.Own.{Own}
 use Rattle.ap_lock.specs.declared.view.View.{View}
-use Rattle.ap_lock.specs.Turns.{Slot, own, view, lone, places_of, one_if, times, total, has, tickets, turns, AreKnown, InTurn, FitsHistory, IsLockKept, Kept, AreBy, fresh_owns, others, first_seat_only, united}
+use Rattle.ap_lock.specs.Turns.{Slot, own, view, lone, places_of, one_turn_if, times_owned, total_of_seats, has, tickets, turns, AreKnown, InTurn, FitsHistory, IsLockKept, SeatsKept, AreBy, fresh_owns, others, first_seat_only, united}
 use Rattle.ap_lock.proofs.Counts.{total_set, total_snoc, total_at, total_two, total_le, total_zero, total_some}
 use Rattle.ap_lock.proofs.Places.{places_others}
 
@@ -40,16 +40,16 @@ later_drawn S T H (Turn u) os h = (h.0, (let l = h.1 in omega arith), h.2)
 -- nobody has a ticket that was not drawn
 not_drawn : (S T t : ℕ) (H : List Entry) (st : Stage) (os : List Own) → T ≤ t → InTurn S T H st os → has t st ≡ 0
 not_drawn S T t H Idle os le h = refl
-not_drawn S T t H (Waiting u) os le h = ap one_if (ne_eqb u t (λ e. let a = h.1 in omega arith))
-not_drawn S T t H (Turn u) os le h = ap one_if (ne_eqb u t (λ e. let a = h.1 in let b = h.0 in omega arith))
+not_drawn S T t H (Waiting u) os le h = ap one_turn_if (ne_eqb u t (λ e. let a = h.1 in omega arith))
+not_drawn S T t H (Turn u) os le h = ap one_turn_if (ne_eqb u t (λ e. let a = h.1 in let b = h.0 in omega arith))
 
 -- who has the turn has the ticket that is served
 turn_has : (S T : ℕ) (H : List Entry) (st : Stage) (os : List Own) → InTurn S T H st os → 0 < turns st → has S st ≡ 1
 turn_has S T H Idle os h l = absurd (omega arith)
 turn_has S T H (Waiting u) os h l = absurd (omega arith)
-turn_has S T H (Turn u) os h l = ap one_if (eq-eqb u S h.0)
+turn_has S T H (Turn u) os h l = ap one_turn_if (eq-eqb u S h.0)
 
-one_if_le : (b : Bool) → one_if b ≤ 1
+one_if_le : (b : Bool) → one_turn_if b ≤ 1
 one_if_le true = omega arith
 one_if_le false = omega arith
 
@@ -69,13 +69,13 @@ draw_step seats S T H s id os k at some_mine =
           let o = k.drawn_once t in
           dite (ℕ_discrete T t)
           (λ e. let z = total_zero (λ u. has t u.stage) s.views (λ j u there. not_drawn S T t H u.stage u.owns (omega arith) (k.fit j u there).turn) in let b = one_if_le (eqb T t) in omega arith)
-          (λ ne. let b = ap one_if (ne_eqb T t ne) in omega arith);
+          (λ ne. let b = ap one_turn_if (ne_eqb T t ne) in omega arith);
       counted = (let n = total_set (λ u. tickets u.stage) s.views id v w at in let c = k.counted in omega arith);
-      owned_once = λ m. (let n = total_set (λ u. times m u.owns) s.views id v w at in let c = k.owned_once m in omega arith);
+      owned_once = λ m. (let n = total_set (λ u. times_owned m u.owns) s.views id v w at in let c = k.owned_once m in omega arith);
       all_owned = (let n = total_set (λ u. length u.owns) s.views id v w at in let c = k.all_owned in omega arith);
       few = k.few;
-      in_range = λ m far. (let n = total_set (λ u. times m u.owns) s.views id v w at in let c = k.in_range m far in omega arith);
-      strangers = λ m no_one. k.strangers m (let n = total_set (λ u. times m u.owns) s.views id v w at in omega arith);
+      in_range = λ m far. (let n = total_set (λ u. times_owned m u.owns) s.views id v w at in let c = k.in_range m far in omega arith);
+      strangers = λ m no_one. k.strangers m (let n = total_set (λ u. times_owned m u.owns) s.views id v w at in omega arith);
       fit = fit_set S (T + 1) H s.views id w
           record { known = old.known; turn = ((let c = k.counted in omega arith), omega arith); owns = some_mine }
           (λ j u apart there. let f = k.fit j u there in record { known = f.known; turn = later_drawn S T H u.stage u.owns f.turn; owns = f.owns });
@@ -87,8 +87,8 @@ served_later S T H hist Idle os apart h = tt
 served_later S T H hist (Waiting u) os apart h =
     let l = h.0 in
     let r = h.1 in
-    dite (ℕ_discrete u S) (λ e. absurd (apart (ap one_if (eq-eqb u S e)))) (λ ne. (omega arith, r))
-served_later S T H hist (Turn u) os apart h = absurd (apart (ap one_if (eq-eqb u S h.0)))
+    dite (ℕ_discrete u S) (λ e. absurd (apart (ap one_turn_if (eq-eqb u S e)))) (λ ne. (omega arith, r))
+served_later S T H hist (Turn u) os apart h = absurd (apart (ap one_turn_if (eq-eqb u S h.0)))
 
 -- two views have no ticket in common
 one_each : (seats S T : ℕ) (H : List Entry) (s : State Slot View) (i j t : ℕ) (v u : View) → IsLockKept seats S T H s → get_elem? s.views i ≡ some v → get_elem? s.views j ≡ some u → j ≢ i → has t v.stage ≡ 1 → has t u.stage ≡ 1 → ⊥
@@ -98,7 +98,7 @@ one_each seats S T H s i j t v u k at at' apart a b =
     omega arith
 
 -- while a waiting view has the ticket that is served, the book is at home
-pub at_home : (seats S T : ℕ) (H : List Entry) (s : State Slot View) (id t : ℕ) (os : List Own) → IsLockKept seats S T H s → get_elem? s.views id ≡ some (view (Waiting t) os) → S ≡ t → (s.homes ≡ some (Some H) ∷ []) × (total (λ v. turns v.stage) s.views ≡ 0)
+pub at_home : (seats S T : ℕ) (H : List Entry) (s : State Slot View) (id t : ℕ) (os : List Own) → IsLockKept seats S T H s → get_elem? s.views id ≡ some (view (Waiting t) os) → S ≡ t → (s.homes ≡ some (Some H) ∷ []) × (total_of_seats (λ v. turns v.stage) s.views ≡ 0)
 at_home seats S T H s id t os k at is =
     ⊎_elim (λ h. h)
     (λ h.
@@ -110,7 +110,7 @@ at_home seats S T H s id t os k at is =
     let z = ap (λ (y : View). turns y.stage) same in
     let l = one.3 in
     absurd (omega arith) in
-    absurd (one_each seats S T H s id j S (view (Waiting t) os) u k at one.2 other (ap one_if (eq-eqb t S (sym is))) (turn_has S T H u.stage u.owns (k.fit j u one.2).turn one.3)))
+    absurd (one_each seats S T H s id j S (view (Waiting t) os) u k at one.2 other (ap one_turn_if (eq-eqb t S (sym is))) (turn_has S T H u.stage u.owns (k.fit j u one.2).turn one.3)))
     k.home
 
 -- the book is taken
@@ -126,22 +126,22 @@ take_step seats S T H s id t n seen k at is =
       home = inr (refl, (let n = total_set (λ u. turns u.stage) s.views id v w at in let z = h.1 in omega arith));
       drawn_once = λ x. (let n = total_set (λ u. has x u.stage) s.views id v w at in let o = k.drawn_once x in omega arith);
       counted = (let n = total_set (λ u. tickets u.stage) s.views id v w at in let c = k.counted in omega arith);
-      owned_once = λ m. (let n = total_set (λ u. times m u.owns) s.views id v w at in let c = k.owned_once m in omega arith);
+      owned_once = λ m. (let n = total_set (λ u. times_owned m u.owns) s.views id v w at in let c = k.owned_once m in omega arith);
       all_owned = (let n = total_set (λ u. length u.owns) s.views id v w at in let c = k.all_owned in omega arith);
       few = k.few;
-      in_range = λ m far. (let n = total_set (λ u. times m u.owns) s.views id v w at in let c = k.in_range m far in omega arith);
-      strangers = λ m no_one. k.strangers m (let n = total_set (λ u. times m u.owns) s.views id v w at in omega arith);
+      in_range = λ m far. (let n = total_set (λ u. times_owned m u.owns) s.views id v w at in let c = k.in_range m far in omega arith);
+      strangers = λ m no_one. k.strangers m (let n = total_set (λ u. times_owned m u.owns) s.views id v w at in omega arith);
       fit = fit_set S T H s.views id w
           record { known = ((([], sym (append-nil H)), refl), tt); turn = (sym is, (let l = old.turn.1 in omega arith), (refl, tt)); owns = old.owns }
           (λ j u apart there. k.fit j u there);
     }
 
 -- entries of another's number leave a seat's facts
-known_later : (n : ℕ) (H hist es : List Entry) (os : List Own) → hist ≡ H ++ es → AreBy n es → times n os ≡ 0 → AreKnown H os → AreKnown hist os
+known_later : (n : ℕ) (H hist es : List Entry) (os : List Own) → hist ≡ H ++ es → AreBy n es → times_owned n os ≡ 0 → AreKnown H os → AreKnown hist os
 known_later n H hist es [] grown by nil h = tt
 known_later n H hist es (o ∷ os) grown by nil h =
     let known = h.0 in
-    let apart : n ≢ o.number = λ e. (let m = ap one_if (eq-eqb o.number n (sym e)) in absurd (omega arith)) in (
+    let apart : n ≢ o.number = λ e. (let m = ap one_turn_if (eq-eqb o.number n (sym e)) in absurd (omega arith)) in (
       (
         (known.0.0 ++ es, grown ∙ ap (λ l. l ++ es) known.0.1 ∙ append_assoc o.seen known.0.0 es),
         ap (places_of o.number) grown ∙ places_others n o.number H es by apart ∙ known.1,
@@ -160,23 +160,23 @@ end_step seats S T H s id t n seen hist es k at more by =
     let low = old.turn.1 in
     let all : seen ≡ H = old.turn.2.0 in
     let grown : hist ≡ H ++ es = more ∙ ap (λ l. l ++ es) all in
-    let out : (s.homes ≡ none ∷ []) × (total (λ u. turns u.stage) s.views ≡ 1) =
+    let out : (s.homes ≡ none ∷ []) × (total_of_seats (λ u. turns u.stage) s.views ≡ 1) =
     ⊎_elim (λ h. absurd (let a = total_at (λ u. turns u.stage) s.views id v at in let z = h.1 in omega arith)) (λ h. h) k.home in
-    let mine : has S v.stage ≡ 1 = ap one_if (eq-eqb t S served) in (
+    let mine : has S v.stage ≡ 1 = ap one_turn_if (eq-eqb t S served) in (
       out.0,
       record {
         words = refl;
         home = inl (refl, (let m = total_set (λ u. turns u.stage) s.views id v w at in let z = out.1 in omega arith));
         drawn_once = λ x. (let m = total_set (λ u. has x u.stage) s.views id v w at in let o = k.drawn_once x in omega arith);
         counted = (let m = total_set (λ u. tickets u.stage) s.views id v w at in let c = k.counted in omega arith);
-        owned_once = λ x. (let m = total_set (λ u. times x u.owns) s.views id v w at in let c = k.owned_once x in omega arith);
+        owned_once = λ x. (let m = total_set (λ u. times_owned x u.owns) s.views id v w at in let c = k.owned_once x in omega arith);
         all_owned = (let m = total_set (λ u. length u.owns) s.views id v w at in let c = k.all_owned in omega arith);
         few = k.few;
-        in_range = λ x far. (let m = total_set (λ u. times x u.owns) s.views id v w at in let c = k.in_range x far in omega arith);
+        in_range = λ x far. (let m = total_set (λ u. times_owned x u.owns) s.views id v w at in let c = k.in_range x far in omega arith);
         strangers = λ m no_one.
-            let c = total_set (λ u. times m u.owns) s.views id v w at in
-            let here = total_at (λ u. times m u.owns) s.views id v at in
-            let apart : n ≢ m = λ e. (let o = ap one_if (eq-eqb n m e) in absurd (omega arith)) in
+            let c = total_set (λ u. times_owned m u.owns) s.views id v w at in
+            let here = total_at (λ u. times_owned m u.owns) s.views id v at in
+            let apart : n ≢ m = λ e. (let o = ap one_turn_if (eq-eqb n m e) in absurd (omega arith)) in
             ap (places_of m) grown ∙ places_others n m H es by apart ∙ k.strangers m (omega arith);
         fit = fit_set (S + 1) T hist s.views id w
             record { known = ((([], sym (append-nil hist)), refl), tt); turn = tt; owns = omega arith }
@@ -184,9 +184,9 @@ end_step seats S T H s id t n seen hist es k at more by =
             let f = k.fit j u there in
             record {
               known = known_later n H hist es u.owns grown by
-                  (let two = total_two (λ y. times n y.owns) s.views id j v u at there apart in
+                  (let two = total_two (λ y. times_owned n y.owns) s.views id j v u at there apart in
                   let o = k.owned_once n in
-                  let self : times n (own n seen ∷ []) ≡ 1 = rw (eq-eqb n n refl) refl in
+                  let self : times_owned n (own n seen ∷ []) ≡ 1 = rw (eq-eqb n n refl) refl in
                   omega arith)
                   f.known;
               turn = served_later S T H hist u.stage u.owns (λ h. one_each seats S T H s id j S v u k at there apart mine h) f.turn;
@@ -198,7 +198,7 @@ end_step seats S T H s id t n seen hist es k at more by =
 fit_snoc : (S T : ℕ) (H : List Entry) (views : List View) (w : View) → FitsHistory S T H w → AllFit S T H views → AllFit S T H (views ++ w ∷ [])
 fit_snoc S T H views w mine all j u at = ⊎_elim (λ x. all j u x) (λ (e : w ≡ u). subst (λ (y : View). FitsHistory S T H y) e mine) (at_snoc views w u j at)
 
-times_cut : (n : ℕ) (os : List Own) → times n (drop 1 os) + times n (take 1 os) ≡ times n os
+times_cut : (n : ℕ) (os : List Own) → times_owned n (drop 1 os) + times_owned n (take 1 os) ≡ times_owned n os
 times_cut n [] = refl
 times_cut n (o ∷ os) = omega arith
 
@@ -214,7 +214,7 @@ known_take : (H : List Entry) (os : List Own) → AreKnown H os → AreKnown H (
 known_take H [] h = tt
 known_take H (o ∷ os) h = (h.0, tt)
 
-pub cut_step : (seats id : ℕ) (v : View) → v.stage ≡ Idle → Splits (Kept seats) id v (others v) (first_seat_only v)
+pub cut_step : (seats id : ℕ) (v : View) → v.stage ≡ Idle → Splits (SeatsKept seats) id v (others v) (first_seat_only v)
 cut_step seats id v idle s kept at =
     let S = kept.0 in
     let T = kept.1 in
@@ -235,17 +235,17 @@ cut_step seats id v idle s kept at =
             ⊎_elim (λ h. inl (h.0, (let z = h.1 in omega arith))) (λ h. inr (h.0, (let z = h.1 in omega arith))) k.home);
         drawn_once = λ t. (let n = total_set (λ u. has t u.stage) s.views id v l at in let m = total_snoc (λ u. has t u.stage) vs r in let o = k.drawn_once t in let z = ap (has t) idle in omega arith);
         counted = (let n = total_set (λ u. tickets u.stage) s.views id v l at in let m = total_snoc (λ u. tickets u.stage) vs r in let c = k.counted in omega arith);
-        owned_once = λ x. (let n = total_set (λ u. times x u.owns) s.views id v l at in let m = total_snoc (λ u. times x u.owns) vs r in let c = k.owned_once x in let z = times_cut x v.owns in omega arith);
+        owned_once = λ x. (let n = total_set (λ u. times_owned x u.owns) s.views id v l at in let m = total_snoc (λ u. times_owned x u.owns) vs r in let c = k.owned_once x in let z = times_cut x v.owns in omega arith);
         all_owned = (let n = total_set (λ u. length u.owns) s.views id v l at in let m = total_snoc (λ u. length u.owns) vs r in let c = k.all_owned in let z = length_cut v.owns in omega arith);
         few = k.few;
-        in_range = λ x far. (let n = total_set (λ u. times x u.owns) s.views id v l at in let m = total_snoc (λ u. times x u.owns) vs r in let c = k.in_range x far in let z = times_cut x v.owns in omega arith);
-        strangers = λ x no_one. k.strangers x (let n = total_set (λ u. times x u.owns) s.views id v l at in let m = total_snoc (λ u. times x u.owns) vs r in let z = times_cut x v.owns in omega arith);
+        in_range = λ x far. (let n = total_set (λ u. times_owned x u.owns) s.views id v l at in let m = total_snoc (λ u. times_owned x u.owns) vs r in let c = k.in_range x far in let z = times_cut x v.owns in omega arith);
+        strangers = λ x no_one. k.strangers x (let n = total_set (λ u. times_owned x u.owns) s.views id v l at in let m = total_snoc (λ u. times_owned x u.owns) vs r in let z = times_cut x v.owns in omega arith);
         fit = fit_snoc S T H vs r record { known = known_take H v.owns old.known; turn = tt; owns = omega arith }
             (fit_set S T H s.views id l record { known = known_drop H v.owns old.known; turn = tt; owns = omega arith } (λ j u apart there. k.fit j u there));
       },
     )
 
-times_both : (n : ℕ) (os us : List Own) → times n (os ++ us) ≡ times n os + times n us
+times_both : (n : ℕ) (os us : List Own) → times_owned n (os ++ us) ≡ times_owned n os + times_owned n us
 times_both n [] us = omega arith
 times_both n (o ∷ os) us = omega (arith, times_both n os us)
 
@@ -253,7 +253,7 @@ known_both : (H : List Entry) (os us : List Own) → AreKnown H os → AreKnown 
 known_both H [] us h g = g
 known_both H (o ∷ os) us h g = (h.0, known_both H os us h.1 g)
 
-pub unite_step : (seats id : ℕ) (v : View) (other : ℕ) (w : View) → v.stage ≡ Idle → w.stage ≡ Idle → Joins (Kept seats) id v other w (united v w) (view Idle [])
+pub unite_step : (seats id : ℕ) (v : View) (other : ℕ) (w : View) → v.stage ≡ Idle → w.stage ≡ Idle → Joins (SeatsKept seats) id v other w (united v w) (view Idle [])
 unite_step seats id v other w idle idle' s kept at two at' =
     let S = kept.0 in
     let T = kept.1 in
@@ -278,11 +278,11 @@ unite_step seats id v other w idle idle' s kept at two at' =
             ⊎_elim (λ h. inl (h.0, (let z = h.1 in omega arith))) (λ h. inr (h.0, (let z = h.1 in omega arith))) k.home);
         drawn_once = λ t. (let n = total_set (λ u. has t u.stage) s.views id v l at in let m = total_set (λ u. has t u.stage) vs other w e at' in let o = k.drawn_once t in let z = ap (has t) idle in let y = ap (has t) idle' in omega arith);
         counted = (let n = total_set (λ u. tickets u.stage) s.views id v l at in let m = total_set (λ u. tickets u.stage) vs other w e at' in let c = k.counted in omega arith);
-        owned_once = λ x. (let n = total_set (λ u. times x u.owns) s.views id v l at in let m = total_set (λ u. times x u.owns) vs other w e at' in let c = k.owned_once x in let z = times_both x v.owns w.owns in omega arith);
+        owned_once = λ x. (let n = total_set (λ u. times_owned x u.owns) s.views id v l at in let m = total_set (λ u. times_owned x u.owns) vs other w e at' in let c = k.owned_once x in let z = times_both x v.owns w.owns in omega arith);
         all_owned = (let n = total_set (λ u. length u.owns) s.views id v l at in let m = total_set (λ u. length u.owns) vs other w e at' in let c = k.all_owned in let z = length-append v.owns w.owns in omega arith);
         few = k.few;
-        in_range = λ x far. (let n = total_set (λ u. times x u.owns) s.views id v l at in let m = total_set (λ u. times x u.owns) vs other w e at' in let c = k.in_range x far in let z = times_both x v.owns w.owns in omega arith);
-        strangers = λ x no_one. k.strangers x (let n = total_set (λ u. times x u.owns) s.views id v l at in let m = total_set (λ u. times x u.owns) vs other w e at' in let z = times_both x v.owns w.owns in omega arith);
+        in_range = λ x far. (let n = total_set (λ u. times_owned x u.owns) s.views id v l at in let m = total_set (λ u. times_owned x u.owns) vs other w e at' in let c = k.in_range x far in let z = times_both x v.owns w.owns in omega arith);
+        strangers = λ x no_one. k.strangers x (let n = total_set (λ u. times_owned x u.owns) s.views id v l at in let m = total_set (λ u. times_owned x u.owns) vs other w e at' in let z = times_both x v.owns w.owns in omega arith);
         fit = fit_set S T H vs other e record { known = tt; turn = tt; owns = omega arith }
             (λ j u _ there. fit_set S T H s.views id l record { known = known_both H v.owns w.owns mine.known theirs.known; turn = tt; owns = omega arith } (λ i y apart there'. k.fit i y there') j u there);
       },
@@ -293,16 +293,16 @@ turns_le Idle = omega arith
 turns_le (Waiting u) = omega arith
 turns_le (Turn u) = omega arith
 
-times_le : (n : ℕ) (os : List Own) → times n os ≤ length os
+times_le : (n : ℕ) (os : List Own) → times_owned n os ≤ length os
 times_le n [] = omega arith
 times_le n (o ∷ os) = let b = one_if_le (eqb o.number n) in let r = times_le n os in omega arith
 
 -- where one view has all seats, the entries bear its numbers
-pub no_strangers : (seats S T : ℕ) (H : List Entry) (s : State Slot View) (id : ℕ) (v : View) → IsLockKept seats S T H s → get_elem? s.views id ≡ some v → length v.owns ≡ seats → (n : ℕ) → times n v.owns ≡ 0 → places_of n H ≡ []
+pub no_strangers : (seats S T : ℕ) (H : List Entry) (s : State Slot View) (id : ℕ) (v : View) → IsLockKept seats S T H s → get_elem? s.views id ≡ some v → length v.owns ≡ seats → (n : ℕ) → times_owned n v.owns ≡ 0 → places_of n H ≡ []
 no_strangers seats S T H s id v k at all n mine =
-    k.strangers n (total_zero (λ u. times n u.owns) s.views (λ j u there.
+    k.strangers n (total_zero (λ u. times_owned n u.owns) s.views (λ j u there.
     dite (ℕ_discrete j id)
-    (λ e. (let same : v ≡ u = some-injective v u (sym at ∙ ap (get_elem? s.views) (sym e) ∙ there) in ap (λ (y : View). times n y.owns) (sym same) ∙ mine))
+    (λ e. (let same : v ≡ u = some-injective v u (sym at ∙ ap (get_elem? s.views) (sym e) ∙ there) in ap (λ (y : View). times_owned n y.owns) (sym same) ∙ mine))
     (λ ne.
     let two = total_two (λ y. length y.owns) s.views id j v u at there ne in
     let whole = k.all_owned in
@@ -329,21 +329,21 @@ length_fresh i zero = refl
 length_fresh i (suc n) = ap suc (length_fresh (suc i) n)
 
 -- no number below i is among those from i on
-none_fresh : (x i n : ℕ) → x < i → times x (fresh_owns i n) ≡ 0
+none_fresh : (x i n : ℕ) → x < i → times_owned x (fresh_owns i n) ≡ 0
 none_fresh x i zero lt = refl
-none_fresh x i (suc n) lt = let z = none_fresh x (suc i) n (omega arith) in let y = ap one_if (ne_eqb i x (λ e. omega arith)) in omega arith
+none_fresh x i (suc n) lt = let z = none_fresh x (suc i) n (omega arith) in let y = ap one_turn_if (ne_eqb i x (λ e. omega arith)) in omega arith
 
 -- nor one from i + n on
-far_fresh : (x i n : ℕ) → i + n ≤ x → times x (fresh_owns i n) ≡ 0
+far_fresh : (x i n : ℕ) → i + n ≤ x → times_owned x (fresh_owns i n) ≡ 0
 far_fresh x i zero far = refl
-far_fresh x i (suc n) far = let z = far_fresh x (suc i) n (omega arith) in let y = ap one_if (ne_eqb i x (λ e. omega arith)) in omega arith
+far_fresh x i (suc n) far = let z = far_fresh x (suc i) n (omega arith) in let y = ap one_turn_if (ne_eqb i x (λ e. omega arith)) in omega arith
 
-times_fresh : (x i n : ℕ) → times x (fresh_owns i n) ≤ 1
+times_fresh : (x i n : ℕ) → times_owned x (fresh_owns i n) ≤ 1
 times_fresh x i zero = omega arith
 times_fresh x i (suc n) =
     dite (ℕ_discrete i x)
     (λ e. let z = none_fresh x (suc i) n (omega arith) in let y = one_if_le (eqb i x) in omega arith)
-    (λ ne. let z = times_fresh x (suc i) n in let y = ap one_if (ne_eqb i x ne) in omega arith)
+    (λ ne. let z = times_fresh x (suc i) n in let y = ap one_turn_if (ne_eqb i x ne) in omega arith)
 
 known_fresh : (i n : ℕ) → AreKnown [] (fresh_owns i n)
 known_fresh i zero = tt
@@ -354,7 +354,7 @@ fit_first seats zero v at = subst (λ (u : View). FitsHistory 0 0 [] u) (some-in
 fit_first seats (suc port) v at = absurd (some-ne-none v (sym at))
 
 -- the table at the start
-pub begin_step : (seats : ℕ) → seats ≤ 64 → Kept seats record { words = 0 ∷ 0 ∷ []; homes = some (Some []) ∷ []; views = view Idle (fresh_owns 0 seats) ∷ [] }
+pub begin_step : (seats : ℕ) → seats ≤ 64 → SeatsKept seats record { words = 0 ∷ 0 ∷ []; homes = some (Some []) ∷ []; views = view Idle (fresh_owns 0 seats) ∷ [] }
 begin_step seats few = (
   0,
   0,

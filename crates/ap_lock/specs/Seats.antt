@@ -9,7 +9,7 @@ use Rattle.ap_book.specs.declared.book.Book.{Book}
 use Rattle.ap_lock.specs.declared.view.View.{View}
 use Rattle.ap_lock.specs.declared.view.Stage.TheVariants.{Idle}
 use Rattle.ap_lock.specs.declared.shared.SharedBook.{SharedBook}
-use Rattle.ap_lock.specs.Turns.{lone, seen_of, Begins, places_of, AreKnown, one_if, times}
+use Rattle.ap_lock.specs.Turns.{lone, seen_of, Begins, places_of, AreKnown, one_turn_if, times_owned}
 
 abbrev pub Raw : Type 0
 Raw = TableSeat (Option Book) View
@@ -40,8 +40,8 @@ abbrev pub book_id : SharedBook → TableId
 book_id d = d.table.shared.table_id
 
 -- how many answers are wanted of it
-abbrev pub limit_of : SharedBook → Limit
-limit_of d = d.limit
+abbrev pub book_limit : SharedBook → Limit
+book_limit d = d.limit
 
 -- how many seats it has
 abbrev pub seats_of : SharedBook → ℕ
@@ -55,9 +55,9 @@ abbrev pub IsTurn : SeatView → List Entry → Type 0
 IsTurn s turn = Begins s.seen turn × (places_of s.number turn ≡ log_of s)
 
 -- all seats are of this book
-abbrev pub AreOf : TableId → List SeatView → Type 0
-AreOf book [] = Unit {0}
-AreOf book (s ∷ ss) = (s.book ≡ book) × AreOf book ss
+abbrev pub AreOfBook : TableId → List SeatView → Type 0
+AreOfBook book [] = Unit {0}
+AreOfBook book (s ∷ ss) = (s.book ≡ book) × AreOfBook book ss
 
 -- the history begins with what each seat has seen, and the seat's log is the places of all entries of its number
 abbrev pub AreLogged : List Entry → List SeatView → Type 0
@@ -72,7 +72,7 @@ new_seats book i (suc n) = record { book = book; number = i; seen = [] } ∷ new
 -- how often the number is that of a seat
 abbrev pub seats_with : ℕ → List SeatView → ℕ
 seats_with n [] = 0
-seats_with n (s ∷ ss) = one_if (eqb s.number n) + seats_with n ss
+seats_with n (s ∷ ss) = one_turn_if (eqb s.number n) + seats_with n ss
 
 -- an idle view that owns all seats of the list, in some order
 abbrev pub IsUnited : Raw → List SeatView → Type 0
@@ -81,7 +81,7 @@ IsUnited raw seats =
     × (raw.me.1 ≡ [])
     × (length raw.me.0.owns ≡ length seats)
     × ((history : List Entry) → AreKnown history raw.me.0.owns → AreLogged history seats)
-    × ((n : ℕ) → times n raw.me.0.owns ≡ seats_with n seats)
+    × ((n : ℕ) → times_owned n raw.me.0.owns ≡ seats_with n seats)
 
 -- all entries bear numbers of the seats, which are below their count
 abbrev pub AreMadeBy : ℕ → List SeatView → List Entry → Type 0

@@ -39,36 +39,36 @@ abbrev pub maker_of : Entry → ℕ
 maker_of e = seat_of (entry_of e)
 
 -- the places of the entries that bear this number, ascending
-abbrev pub places_from : ℕ → ℕ → List Entry → List ℕ
-places_from i n [] = []
-places_from i n (e ∷ es) = if eqb (maker_of e) n then i ∷ places_from (suc i) n es else places_from (suc i) n es
+abbrev pub own_places_from : ℕ → ℕ → List Entry → List ℕ
+own_places_from i n [] = []
+own_places_from i n (e ∷ es) = if eqb (maker_of e) n then i ∷ own_places_from (suc i) n es else own_places_from (suc i) n es
 
 abbrev pub places_of : ℕ → List Entry → List ℕ
-places_of n history = places_from 0 n history
+places_of n history = own_places_from 0 n history
 
 -- all entries bear the number
 abbrev pub AreBy : ℕ → List Entry → Type 0
 AreBy n [] = Unit {0}
 AreBy n (e ∷ es) = (maker_of e ≡ n) × AreBy n es
 
-abbrev pub one_if : Bool → ℕ
-one_if b = if b then 1 else 0
+abbrev pub one_turn_if : Bool → ℕ
+one_turn_if b = if b then 1 else 0
 
 -- how often a number is owned
-abbrev pub times : ℕ → List Own → ℕ
-times n [] = 0
-times n (o ∷ os) = one_if (eqb o.number n) + times n os
+abbrev pub times_owned : ℕ → List Own → ℕ
+times_owned n [] = 0
+times_owned n (o ∷ os) = one_turn_if (eqb o.number n) + times_owned n os
 
 -- f of each view, added up
-abbrev pub total : (View → ℕ) → List View → ℕ
-total f [] = 0
-total f (v ∷ vs) = f v + total f vs
+abbrev pub total_of_seats : (View → ℕ) → List View → ℕ
+total_of_seats f [] = 0
+total_of_seats f (v ∷ vs) = f v + total_of_seats f vs
 
 -- whether a view has this ticket, any ticket, and the turn
 abbrev pub has : ℕ → Stage → ℕ
 has t Idle = 0
-has t (Waiting u) = one_if (eqb u t)
-has t (Turn u) = one_if (eqb u t)
+has t (Waiting u) = one_turn_if (eqb u t)
+has t (Turn u) = one_turn_if (eqb u t)
 
 abbrev pub tickets : Stage → ℕ
 tickets Idle = 0
@@ -81,13 +81,13 @@ turns (Waiting u) = 0
 turns (Turn u) = 1
 
 -- the history begins with what the seat has seen, where all entries of its number stand
-abbrev pub IsKnown : List Entry → Own → Type 0
-IsKnown history o = Begins o.seen history × (places_of o.number history ≡ places_of o.number o.seen)
+abbrev pub IsSeen : List Entry → Own → Type 0
+IsSeen history o = Begins o.seen history × (places_of o.number history ≡ places_of o.number o.seen)
 
 -- each seat is known
 abbrev pub AreKnown : List Entry → List Own → Type 0
 AreKnown history [] = Unit {0}
-AreKnown history (o ∷ os) = IsKnown history o × AreKnown history os
+AreKnown history (o ∷ os) = IsSeen history o × AreKnown history os
 
 -- each seat has seen the whole history
 abbrev pub AreWhole : List Entry → List Own → Type 0
@@ -109,24 +109,24 @@ pub record FitsHistory (served drawn : ℕ) (history : List Entry) (v : View) : 
 -- the book is at home with the history, and nobody has the turn; or it is out with the one who has
 abbrev pub Home : List Entry → List (mathlib.Core.Option.Option Slot) → List View → Type 0
 Home history homes views =
-    ((homes ≡ some (Some history) ∷ []) × (total (λ v. turns v.stage) views ≡ 0))
-    ⊎ ((homes ≡ none ∷ []) × (total (λ v. turns v.stage) views ≡ 1))
+    ((homes ≡ some (Some history) ∷ []) × (total_of_seats (λ v. turns v.stage) views ≡ 0))
+    ⊎ ((homes ≡ none ∷ []) × (total_of_seats (λ v. turns v.stage) views ≡ 1))
 
 -- so many tickets were served, and so many drawn
 pub record IsLockKept (seats served drawn : ℕ) (history : List Entry) (s : State Slot View) : Type 0 where
   pub words : s.words ≡ drawn % 2 ^ 64 ∷ served % 2 ^ 64 ∷ []
   pub home : Home history s.homes s.views
-  pub drawn_once : (t : ℕ) → total (λ v. has t v.stage) s.views ≤ 1
-  pub counted : served + total (λ v. tickets v.stage) s.views ≡ drawn
-  pub owned_once : (n : ℕ) → total (λ v. times n v.owns) s.views ≤ 1
-  pub all_owned : total (λ v. length v.owns) s.views ≡ seats
+  pub drawn_once : (t : ℕ) → total_of_seats (λ v. has t v.stage) s.views ≤ 1
+  pub counted : served + total_of_seats (λ v. tickets v.stage) s.views ≡ drawn
+  pub owned_once : (n : ℕ) → total_of_seats (λ v. times_owned n v.owns) s.views ≤ 1
+  pub all_owned : total_of_seats (λ v. length v.owns) s.views ≡ seats
   pub few : seats ≤ 64
-  pub in_range : (n : ℕ) → seats ≤ n → total (λ v. times n v.owns) s.views ≡ 0
-  pub strangers : (n : ℕ) → total (λ v. times n v.owns) s.views ≡ 0 → places_of n history ≡ []
+  pub in_range : (n : ℕ) → seats ≤ n → total_of_seats (λ v. times_owned n v.owns) s.views ≡ 0
+  pub strangers : (n : ℕ) → total_of_seats (λ v. times_owned n v.owns) s.views ≡ 0 → places_of n history ≡ []
   pub fit : (port : ℕ) (v : View) → get_elem? s.views port ≡ some v → FitsHistory served drawn history v
 
-abbrev pub Kept : ℕ → State Slot View → Type 0
-Kept seats s = (served : ℕ) × (drawn : ℕ) × (history : List Entry) × IsLockKept seats served drawn history s
+abbrev pub SeatsKept : ℕ → State Slot View → Type 0
+SeatsKept seats s = (served : ℕ) × (drawn : ℕ) × (history : List Entry) × IsLockKept seats served drawn history s
 
 -- a ticket was drawn
 abbrev pub Drew : Me Slot View → ℕ → Me Slot View → Type 0
@@ -150,7 +150,7 @@ seen_of v = first_seen v.owns
 -- the ticket is served, and the book was taken, with its history; or nothing changed
 abbrev pub Called : ℕ → Me Slot View → ℕ → Me Slot View → Type 0
 Called t m n w =
-    ((n ≡ t % 2 ^ 64) × ((history : List Entry) × IsKnown history (own (seat_number m.0) (seen_of m.0)) × (w ≡ (lone (Turn t) (seat_number m.0) history, (0, Some history) ∷ []))))
+    ((n ≡ t % 2 ^ 64) × ((history : List Entry) × IsSeen history (own (seat_number m.0) (seen_of m.0)) × (w ≡ (lone (Turn t) (seat_number m.0) history, (0, Some history) ∷ []))))
     ⊎ ((n ≢ t % 2 ^ 64) × (w ≡ m))
 
 abbrev pub CalledAt : Stage → Me Slot View → ℕ → Me Slot View → Type 0
@@ -166,8 +166,8 @@ EndedWith [] v w = Unit {0}
 EndedWith (x ∷ xs) v w = (history : List Entry) → x.1 ≡ Some history → w ≡ (lone Idle (seat_number v) history, [])
 
 -- the book was put back with this history
-abbrev pub Ended : Me Slot View → ℕ → Me Slot View → Type 0
-Ended m n w = EndedWith m.1 m.0 w
+abbrev pub EndedTurn : Me Slot View → ℕ → Me Slot View → Type 0
+EndedTurn m n w = EndedWith m.1 m.0 w
 
 abbrev pub IsIdle : Me Slot View → Type 0
 IsIdle m = m ≡ (lone Idle (seat_number m.0) (seen_of m.0), [])
@@ -178,11 +178,11 @@ IsWaiting v n m = (t : ℕ) × (n ≡ t % 2 ^ 64) × (m ≡ (lone (Waiting t) (s
 
 -- from the view v the turn was taken, at this history, and the book with it
 abbrev pub HasTurn : View → List Entry → Me Slot View → Type 0
-HasTurn v history m = IsKnown history (own (seat_number v) (seen_of v)) × ((t : ℕ) × (m ≡ (lone (Turn t) (seat_number v) history, (0, Some history) ∷ [])))
+HasTurn v history m = IsSeen history (own (seat_number v) (seen_of v)) × ((t : ℕ) × (m ≡ (lone (Turn t) (seat_number v) history, (0, Some history) ∷ [])))
 
 -- the same with the book out of its slot
 abbrev pub Holds : View → List Entry → Me Slot View → Type 0
-Holds v history m = IsKnown history (own (seat_number v) (seen_of v)) × ((t : ℕ) × (m ≡ (lone (Turn t) (seat_number v) history, (0, None) ∷ [])))
+Holds v history m = IsSeen history (own (seat_number v) (seen_of v)) × ((t : ℕ) × (m ≡ (lone (Turn t) (seat_number v) history, (0, None) ∷ [])))
 
 -- the book's history has grown by entries of the seat's number
 abbrev pub AddsEntries : ℕ → List Entry → List Entry → Type 0

@@ -6,8 +6,8 @@ ghost use Rattle.ap_paths.specs.Entries.{entries_of};
 ghost use Rattle.ap_paths.specs.Limits.{is_limited};
 ghost use Rattle.ap_paths.specs.History.{is_legal};
 ghost use Rattle.ap_lock.specs.declared.view.Stage.TheVariants.{Idle};
-ghost use Rattle.ap_lock.specs.Turns.{view, fresh_owns, AreKnown, times, places_of};
-ghost use Rattle.ap_lock.specs.Seats.{book_id, seats_of, limit_of, AreOf, AreLogged, AreMadeBy, IsUnited, new_seats, logs_of};
+ghost use Rattle.ap_lock.specs.Turns.{view, fresh_owns, AreKnown, times_owned, places_of};
+ghost use Rattle.ap_lock.specs.Seats.{book_id, seats_of, book_limit, AreOfBook, AreLogged, AreMadeBy, IsUnited, new_seats, logs_of};
 
 use crate::logs::make_logs;
 use crate::plays::{Cut, Unite};
@@ -27,7 +27,7 @@ impl SharedBook {
         requires { (0 < seats) × (seats ≤ 64) }
         ensures made { IfOk result (λ r. (seats_of r.0 ≡ seats)
             × (r.1.items ≡ new_seats (book_id r.0) 0 seats)) }
-        ensures limit { IfOk result (λ r. limit_of r.0 ≡ limit) }
+        ensures limit { IfOk result (λ r. book_limit r.0 ≡ limit) }
     {
         let list = Vec::with_capacity(alloc, seats as usize)?;
         let (desk, first) = SharedBook::with_all(alloc, seats, limit)?;
@@ -37,7 +37,7 @@ impl SharedBook {
 
     /// Whether fewer than all answers may be wanted.
     pub fn has_limit(&self) -> bool
-        ensures { result ≡ is_limited (limit_of self.now) }
+        ensures { result ≡ is_limited (book_limit self.now) }
     {
         match self.limit {
             Limit::All => false,
@@ -50,7 +50,7 @@ impl SharedBook {
         requires { (0 < seats) × (seats ≤ 64) }
         ensures made { IfOk result (λ r. (seats_of r.0 ≡ seats) × (r.1.table_id ≡ book_id r.0)
             × (r.1.me ≡ (view Idle (fresh_owns 0 seats), []))) }
-        ensures limit { IfOk result (λ r. limit_of r.0 ≡ limit) }
+        ensures limit { IfOk result (λ r. book_limit r.0 ≡ limit) }
     {
         let mut slots = Vec::with_capacity(alloc, 1)?;
         slots.push(Some(Book::new(alloc)?))?;
@@ -80,7 +80,7 @@ impl SharedBook {
 
     /// One seat that stands for all.
     fn unite(&self, last: Seat, mut seats: Vec<Seat>) -> Raw
-        requires { (last.book ≡ book_id self.now) × AreOf (book_id self.now) seats.items }
+        requires { (last.book ≡ book_id self.now) × AreOfBook (book_id self.now) seats.items }
         ensures { (result.table_id ≡ book_id self.now)
             × IsUnited result (seats.items ++ last ∷ []) }
     {
@@ -100,7 +100,7 @@ impl SharedBook {
         requires { (first.table_id ≡ book_id self) × (first.me.0.stage ≡ Idle)
             × (length first.me.0.owns ≡ seats_of self) }
         ensures known { AreKnown result first.me.0.owns }
-        ensures makers { ((n : ℕ) → times n first.me.0.owns ≡ 0 → places_of n result ≡ [])
+        ensures makers { ((n : ℕ) → times_owned n first.me.0.owns ≡ 0 → places_of n result ≡ [])
             × ((n : ℕ) → seats_of self ≤ n → places_of n result ≡ []) }
     {
         let SharedBook { table, limit: _ } = self;
@@ -113,7 +113,7 @@ impl SharedBook {
 
     /// The book itself, where all seats are given.
     fn finish(self, mut seats: Vec<Seat>) -> Book
-        requires { AreOf (book_id self) seats.items × (length seats.items ≡ seats_of self) }
+        requires { AreOfBook (book_id self) seats.items × (length seats.items ≡ seats_of self) }
         ensures logged { AreLogged result seats.items }
         ensures makers { AreMadeBy (seats_of self) seats.items result }
     {
@@ -130,7 +130,7 @@ impl SharedBook {
     /// The history begins with what each seat has seen, where all entries of that seat stand. The
     /// only error is want of memory; then the book is dropped.
     pub fn close(self, alloc: Global, seats: Vec<Seat>) -> Result<Closed, Memory>
-        requires { AreOf (book_id self) seats.items × (length seats.items ≡ seats_of self) }
+        requires { AreOfBook (book_id self) seats.items × (length seats.items ≡ seats_of self) }
         ensures logged { IfOk result (λ c. AreLogged c.history seats.items) }
         ensures logs { IfOk result (λ c. c.logs ≡ logs_of (seats_of self) c.history) }
         ensures makers { IfOk result (λ c. AreMadeBy (seats_of self) seats.items c.history) }

@@ -2,7 +2,7 @@
 
 ghost use Rattle.std.specs.Prelude.{[]};
 ghost use Rattle.ap_lock.specs.declared.view.Stage.TheVariants.{Idle};
-ghost use Rattle.ap_lock.specs.Turns.{Kept, view, fresh_owns, Drew, Looked, Ended, others, first_seat_only, united};
+ghost use Rattle.ap_lock.specs.Turns.{SeatsKept, view, fresh_owns, Drew, Looked, EndedTurn, others, first_seat_only, united};
 
 use crate::view::View;
 use ap_book::Book;
@@ -13,7 +13,7 @@ use atomic_table::{Join, Play, Split, TableRule};
 pub struct Rule;
 
 impl TableRule<Option<Book>, View, u64> for Rule {
-    ghost holds = { Kept };
+    ghost holds = { SeatsKept };
 
     ghost first = { λ seats. view Idle (fresh_owns 0 seats) };
 }
@@ -36,7 +36,7 @@ impl Play<Option<Book>, View> for Look {
 pub struct End;
 
 impl Play<Option<Book>, View> for End {
-    ghost then = { λ s m n w. Ended m n w };
+    ghost then = { λ s m n w. EndedTurn m n w };
 }
 
 /// The first seat leaves the others.

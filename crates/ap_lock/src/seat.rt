@@ -8,7 +8,7 @@ ghost use Rattle.ap_paths.specs.Trees.{Ascends};
 ghost use Rattle.ap_paths.specs.History.{has_stop, progress_of};
 ghost use Rattle.ap_book.specs.Answers.{Enters, EntersDone, Skips};
 ghost use Rattle.ap_lock.specs.Turns.{Begins};
-ghost use Rattle.ap_lock.specs.Seats.{book_id, limit_of, SameSeat, IsTurn};
+ghost use Rattle.ap_lock.specs.Seats.{book_id, book_limit, SameSeat, IsTurn};
 
 use crate::shared::{Raw, SharedBook};
 use ap_book::{BookError, DoneError, Kids, SkipError};
@@ -123,7 +123,7 @@ impl SharedBook {
         requires { seat.old.book ≡ book_id self.now }
         ensures same { SameSeat seat.old seat.new }
         ensures turn { (turn : list Entry) × IsTurn seat.old turn
-            × Skips turn path.now (limit_of self.now) seat.old.number result seat.new.seen }
+            × Skips turn path.now (book_limit self.now) seat.old.number result seat.new.seen }
     {
         let mut book = self.open(rt, &mut seat.raw);
         let answer = book.skip(seat.number, path, self.limit);

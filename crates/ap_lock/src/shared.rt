@@ -2,7 +2,7 @@
 
 ghost use Rattle.std.specs.Prelude.{◌≡◌, ◌<◌, ◌≤◌, List as list, []};
 ghost use Rattle.ap_paths.specs.declared.entries.Entry.{Entry};
-ghost use Rattle.ap_lock.specs.Turns.{lone, seat_number, IsIdle, IsWaiting, HasTurn, MayEnd, Ended, Holds, MayShut};
+ghost use Rattle.ap_lock.specs.Turns.{lone, seat_number, IsIdle, IsWaiting, HasTurn, MayEnd, EndedTurn, Holds, MayShut};
 ghost use Rattle.ap_lock.specs.declared.view.Stage.TheVariants.{Idle};
 
 use crate::plays::{Draw, End, Look, Rule};
@@ -96,7 +96,7 @@ impl SharedBook {
     /// Ends the turn, with the book at home.
     pub(crate) fn end(&self, seat: &mut Raw)
         requires { (seat.old.table_id ≡ self.now.table.shared.table_id) × MayEnd seat.old.me }
-        ensures { (seat.new.table_id ≡ seat.old.table_id) × Ended seat.old.me 0 seat.new.me }
+        ensures { (seat.new.table_id ≡ seat.old.table_id) × EndedTurn seat.old.me 0 seat.new.me }
     {
         self.table.shared.fetch_add::<End>(seat, SERVING, 1);
     }

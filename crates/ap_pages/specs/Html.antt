@@ -27,13 +27,13 @@ abbrev pub phrase_text : Phrase → List ℕ
 phrase_text p = marked_text p.text p.marks
 
 -- the conditions at the side of a rule, behind it
-abbrev pub side_texts : List Phrase → List ℕ
-side_texts [] = []
-side_texts (s ∷ ss) = codes "; " ++ phrase_text s ++ side_texts ss
+abbrev pub html_side_texts : List Phrase → List ℕ
+html_side_texts [] = []
+html_side_texts (s ∷ ss) = codes "; " ++ phrase_text s ++ html_side_texts ss
 
 -- what a step says
 unfoldable pub saying : Step → List ℕ
-saying s = depth_note 100 s.depth ++ phrase_text s.judgement ++ codes " <span>[" ++ html_escaped s.rule ++ side_texts s.sides ++ codes "]</span>"
+saying s = depth_note 100 s.depth ++ phrase_text s.judgement ++ codes " <span>[" ++ html_escaped s.rule ++ html_side_texts s.sides ++ codes "]</span>"
 
 -- to a height of 100 steps stand inside one another; whether some do, by those behind
 abbrev pub has_inside : ℕ → List Step → Bool
@@ -66,10 +66,10 @@ level_in levels s = min levels (min s.depth 100)
 abbrev pub step_text : ℕ → Step → List Step → List ℕ
 step_text levels s ss = ends (levels - level_in levels s) ++ shown_step (has_inside (level_in levels s) ss) s
 
-abbrev pub opened : ℕ → Step → List Step → ℕ
-opened levels s ss = if has_inside (level_in levels s) ss then suc (level_in levels s) else level_in levels s
+abbrev pub html_opened : ℕ → Step → List Step → ℕ
+html_opened levels s ss = if has_inside (level_in levels s) ss then suc (level_in levels s) else level_in levels s
 
 -- all that is opened is closed
 abbrev pub trees : ℕ → List Step → List ℕ
 trees levels [] = ends levels
-trees levels (s ∷ ss) = step_text levels s ss ++ trees (opened levels s ss) ss
+trees levels (s ∷ ss) = step_text levels s ss ++ trees (html_opened levels s ss) ss

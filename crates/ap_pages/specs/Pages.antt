@@ -26,8 +26,8 @@ checked_text Text n = codes "% " ++ decimal n ++ codes " derivations checked\n"
 checked_text Latex n = codes "\\noindent " ++ decimal n ++ codes " derivations checked\n\n"
 checked_text Html n = codes "<p>" ++ decimal n ++ codes " derivations checked</p>\n"
 
-abbrev pub beginning : Format → ℕ → List ℕ
-beginning format n = head_text format ++ checked_text format n
+abbrev pub page_beginning : Format → ℕ → List ℕ
+page_beginning format n = head_text format ++ checked_text format n
 
 -- the steps of a derivation
 abbrev pub derivation_text : Format → List Step → List ℕ
@@ -41,4 +41,4 @@ derivation_texts format (d ∷ ds) = derivation_text format d ++ derivation_text
 
 -- a document of derivations
 abbrev pub document : Format → List (List Step) → List ℕ
-document format ds = beginning format (length ds) ++ derivation_texts format ds ++ foot_text format
+document format ds = page_beginning format (length ds) ++ derivation_texts format ds ++ foot_text format

@@ -77,7 +77,7 @@ fn write_phrase(alloc: Global, out: &mut Vec<u8>, phrase: &Phrase) -> Result<(),
 
 /// Writes the conditions at the side of a rule, behind it.
 fn write_sides(alloc: Global, out: &mut Vec<u8>, sides: &[Phrase]) -> Result<(), Memory>
-    ensures { OnOk result (out.new.items ≡ out.old.items ++ spec.side_texts sides.now) }
+    ensures { OnOk result (out.new.items ≡ out.old.items ++ spec.html_side_texts sides.now) }
 {
     for side in sides {
         out.extend_from_slice(b"; ")?;
@@ -169,7 +169,7 @@ fn write_step(
 ) -> Result<usize, Memory>
     ensures written { OnOk result (out.new.items
         ≡ out.old.items ++ spec.step_text levels step.now others.now) }
-    ensures opened { IfOk result (λ n. n ≡ spec.opened levels step.now others.now) }
+    ensures opened { IfOk result (λ n. n ≡ spec.html_opened levels step.now others.now) }
 {
     let level = levels.min(step.depth.min(HTML_HEIGHT));
     let inside = has_steps_inside(level, others);

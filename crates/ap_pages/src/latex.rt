@@ -38,7 +38,7 @@ fn fits_page(steps: &[Step]) -> bool
 
 /// Writes the conditions at the side of a rule, behind it.
 fn write_sides(out: &mut Vec<u8>, sides: &[Phrase]) -> Result<(), Memory>
-    ensures { OnOk result (out.new.items ≡ out.old.items ++ spec.side_texts sides.now) }
+    ensures { OnOk result (out.new.items ≡ out.old.items ++ spec.latex_side_texts sides.now) }
 {
     for side in sides {
         out.extend_from_slice(b"; ")?;
@@ -62,7 +62,7 @@ fn write_saying(out: &mut Vec<u8>, step: &Step) -> Result<(), Memory>
 
 /// Writes the end of so many trees, and what stands between two trees, where one ends.
 fn write_between(out: &mut Vec<u8>, ends: usize) -> Result<(), Memory>
-    ensures { OnOk result (out.new.items ≡ out.old.items ++ spec.between ends) }
+    ensures { OnOk result (out.new.items ≡ out.old.items ++ spec.latex_between ends) }
 {
     write_repeated(out, b"}", ends)?;
     if ends != 0 {
@@ -75,7 +75,7 @@ fn write_between(out: &mut Vec<u8>, ends: usize) -> Result<(), Memory>
 fn write_node(out: &mut Vec<u8>, levels: usize, step: &Step) -> Result<usize, Memory>
     requires { levels < 2 ^ 63 }
     ensures written { OnOk result (out.new.items ≡ out.old.items ++ spec.node levels step.now) }
-    ensures opened { IfOk result (λ n. n ≡ spec.opened levels step.now) }
+    ensures opened { IfOk result (λ n. n ≡ spec.latex_opened levels step.now) }
 {
     let level = levels.min(step.depth);
     write_between(out, levels - level)?;
@@ -114,7 +114,7 @@ fn write_item(alloc: Global, out: &mut Vec<u8>, step: &Step) -> Result<(), Memor
 
 /// Writes steps as a list.
 fn write_list(alloc: Global, out: &mut Vec<u8>, steps: &[Step]) -> Result<(), Memory>
-    ensures { OnOk result (out.new.items ≡ out.old.items ++ spec.items steps.now) }
+    ensures { OnOk result (out.new.items ≡ out.old.items ++ spec.latex_items steps.now) }
 {
     for step in steps {
         write_item(alloc, out, step)?;

@@ -115,7 +115,7 @@ pub fn write_beginning(
     format: Format,
     count: usize,
 ) -> Result<(), Memory>
-    ensures { OnOk result (out.new.items ≡ out.old.items ++ spec.beginning format count) }
+    ensures { OnOk result (out.new.items ≡ out.old.items ++ spec.page_beginning format count) }
 {
     out.extend_from_slice(head(format).as_bytes())?;
     write_count(alloc, out, format, count)

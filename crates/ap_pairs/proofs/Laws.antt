@@ -1,7 +1,7 @@
 -- They are trees, and their plans are such as a tree may have.
 use Rattle.std.proofs.Common.{◌≡◌, ℕ, zero, suc, ◌≤◌, List, [], ◌∷◌, ◌++◌, length-append, sym, refl, ap, ◌∙◌, subst, arith}
 use Rattle.std.specs.Prelude.{Option, Some, None}
-use Rattle.ap_paths.specs.Trees.{InTree, IsTree, IsPlan, joined, times}
+use Rattle.ap_paths.specs.Trees.{InChoiceTree, IsTree, IsPlan, joined_below, times}
 use Rattle.ap_pairs.specs.Pairs.{left, choices_with, pair_choices, cuts_below, pair_at, plan_with, pair_plan}
 
 left_less : (depth n : ℕ) (p : List ℕ) (k : ℕ) → left depth p ≡ suc n → left depth (p ++ k ∷ []) ≡ n
@@ -11,14 +11,14 @@ two : Option ℕ → ℕ
 two (Some n) = n
 two None = 0
 
-branch : (depth w m : ℕ) (p : List ℕ) → left depth p ≡ m → choices_with m ≡ Some w → cuts_below m p ≡ joined (pair_at depth) p 1 w
+branch : (depth w m : ℕ) (p : List ℕ) → left depth p ≡ m → choices_with m ≡ Some w → cuts_below m p ≡ joined_below (pair_at depth) p 1 w
 unfolding two
 branch depth w zero p is c = absurd (let e : None ≡ Some w = c in cc)
 branch depth w (suc n) p is c =
     let a = ap (λ (m : ℕ). cuts_below m (p ++ 1 ∷ [])) (left_less depth n p 1 is) in
     let b = ap (λ (m : ℕ). cuts_below m (p ++ 2 ∷ [])) (left_less depth n p 2 is) in
-    let same : cuts_below (suc n) p ≡ joined (pair_at depth) p 1 2 = sym (ap (λ l. l ++ (pair_at depth (p ++ 2 ∷ []) ++ [])) a ∙ ap (λ l. cuts_below n (p ++ 1 ∷ []) ++ (l ++ [])) b) in
-    subst (λ (k : ℕ). cuts_below (suc n) p ≡ joined (pair_at depth) p 1 k) (ap two c) same
+    let same : cuts_below (suc n) p ≡ joined_below (pair_at depth) p 1 2 = sym (ap (λ l. l ++ (pair_at depth (p ++ 2 ∷ []) ++ [])) a ∙ ap (λ l. cuts_below n (p ++ 1 ∷ []) ++ (l ++ [])) b) in
+    subst (λ (k : ℕ). cuts_below (suc n) p ≡ joined_below (pair_at depth) p 1 k) (ap two c) same
 
 pub pair_branches : (depth : ℕ) → IsTree (pair_choices depth) (pair_at depth)
 pair_branches depth p w h is = branch depth w (left depth p) p refl is
@@ -33,5 +33,5 @@ planned : (depth m : ℕ) (p : List ℕ) → left depth p ≡ m → IsPlan (pair
 planned depth zero p is = sym (ap (λ (m : ℕ). cuts_below m p) is)
 planned depth (suc n) p is = (2, ap choices_with is, (omega arith, (omega arith, tt)), (omega arith, (omega arith, tt)), λ k low high e. absurd (some_kid k low high e))
 
-pub pair_planned : (depth : ℕ) (p : List ℕ) → InTree (pair_choices depth) p → IsPlan (pair_choices depth) (pair_at depth) p (pair_plan depth p)
+pub pair_planned : (depth : ℕ) (p : List ℕ) → InChoiceTree (pair_choices depth) p → IsPlan (pair_choices depth) (pair_at depth) p (pair_plan depth p)
 pair_planned depth p h = planned depth (left depth p) p refl

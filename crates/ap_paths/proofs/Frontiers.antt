@@ -16,10 +16,10 @@ use Rattle.ap_paths.specs.declared.limits.Limit.TheVariants as limits
 use Rattle.ap_paths.specs.Entries.{TreeEntry, split, done, skip, stop}
 use Rattle.ap_paths.specs.Limits.{AreWithin, found_in, part}
 use Rattle.ap_paths.specs.History.{same_path, is_open, without, kids_of, open_from, legal_from, are_reached, is_legal, open_of}
-use Rattle.ap_paths.specs.Trees.{Choices, Outputs, IsChoice, GoesOn, InTree, joined, IsTree, times, Ascends, AreAtMost, AreKids, AreTrue}
-use Rattle.ap_paths.specs.Frontier.{Before, Mark, still_open, has_ended, was_skipped, is_waiting, is_ended, is_skipped, Item, AllAfter, Sorted, outs_in, outs_left, ended_in, open_in, skipped_in}
+use Rattle.ap_paths.specs.Trees.{Choices, Outputs, IsChoice, GoesOn, InChoiceTree, joined_below, IsTree, times, Ascends, AreAtMost, AreKids, AreTrue}
+use Rattle.ap_paths.specs.Frontier.{Before, Fate, still_open, has_ended, was_skipped, is_waiting, is_ended, is_skipped, Item, AllAfter, Sorted, outs_in, outs_left, ended_in, open_in, skipped_in}
 use Rattle.ap_paths.specs.Weights.{weigh, one_if, is_it}
-use Rattle.ap_paths.specs.Merging.{is_before, Ending, insert, ends_from, all_outs, found_before, merged}
+use Rattle.ap_paths.specs.Merging.{is_path_before, EndedPath, insert, ends_from, all_outs, found_before, merged}
 use Rattle.ap_paths.proofs.Histories.{legal_parts}
 use Rattle.ap_paths.proofs.Limiting.{found_both, part_full}
 
@@ -65,10 +65,10 @@ path_greater p [] h = absurd h
 path_greater [] (y ∷ ys) h = absurd h
 path_greater (x ∷ xs) (y ∷ ys) h = ⊎_elim (λ l. rw (nat_greater x y l) refl) (λ e. nat_then x y (slice_cmp nat_cmp xs ys) (sym e.0) ∙ path_greater xs ys e.1) h
 
-less_there : (p q : List ℕ) → Before p q → is_before p q ≡ true
+less_there : (p q : List ℕ) → Before p q → is_path_before p q ≡ true
 less_there p q h = ap is_lt (path_less p q h)
 
-less_not : (p q : List ℕ) → Before q p → is_before p q ≡ false
+less_not : (p q : List ℕ) → Before q p → is_path_before p q ≡ false
 less_not p q h = ap is_lt (path_greater p q h)
 
 eqb_same : (x y : ℕ) → eqb x y ≡ true → x ≡ y
@@ -82,7 +82,7 @@ path_same (x ∷ xs) (y ∷ ys) e = let b = and_parts (eqb x y) (same_path xs ys
 
 abbrev pub AllIn : Choices → List Item → Type 0
 AllIn c [] = Unit {0}
-AllIn c (x ∷ xs) = InTree c x.0 × AllIn c xs
+AllIn c (x ∷ xs) = InChoiceTree c x.0 × AllIn c xs
 
 abbrev pub kid_items : List ℕ → List ℕ → List Item
 kid_items p [] = []
@@ -95,7 +95,7 @@ abbrev pub grow : List ℕ → List ℕ → List Item → List Item
 grow p ks [] = []
 grow p ks (x ∷ xs) = if hits p x then kid_items p ks ++ xs else x ∷ grow p ks xs
 
-abbrev pub mark : Mark → List ℕ → List Item → List Item
+abbrev pub mark : Fate → List ℕ → List Item → List Item
 mark m p [] = []
 mark m p (x ∷ xs) = if hits p x then (x.0, m) ∷ xs else x ∷ mark m p xs
 
@@ -150,11 +150,11 @@ grow_sorted p i ks (x ∷ xs) a s =
     (λ e _. sorted_kids p i ks xs a (subst (λ q. AllAfter q xs) (sym e) s.0) s.1)
     (λ _. (grow_after x.0 p ks xs s.0, grow_sorted p i ks xs a s.1))
 
-mark_after : (m : Mark) (r p : List ℕ) (xs : List Item) → AllAfter r xs → AllAfter r (mark m p xs)
+mark_after : (m : Fate) (r p : List ℕ) (xs : List Item) → AllAfter r xs → AllAfter r (mark m p xs)
 mark_after m r p [] h = tt
 mark_after m r p (x ∷ xs) h = cases (AllAfter r) p x ((x.0, m) ∷ xs) (x ∷ mark m p xs) (λ _ _. h) (λ _. (h.0, mark_after m r p xs h.1))
 
-mark_sorted : (m : Mark) (p : List ℕ) (xs : List Item) → Sorted xs → Sorted (mark m p xs)
+mark_sorted : (m : Fate) (p : List ℕ) (xs : List Item) → Sorted xs → Sorted (mark m p xs)
 mark_sorted m p [] s = tt
 mark_sorted m p (x ∷ xs) s = cases Sorted p x ((x.0, m) ∷ xs) (x ∷ mark m p xs) (λ _ _. s) (λ _. (mark_after m x.0 p xs s.0, mark_sorted m p xs s.1))
 
@@ -166,7 +166,7 @@ grow_in : (c : Choices) (p ks : List ℕ) (xs : List Item) → AllIn c (kid_item
 grow_in c p ks [] kids h = tt
 grow_in c p ks (x ∷ xs) kids h = cases (AllIn c) p x (kid_items p ks ++ xs) (x ∷ grow p ks xs) (λ _ _. in_both c (kid_items p ks) xs kids h.1) (λ _. (h.0, grow_in c p ks xs kids h.1))
 
-mark_in : (c : Choices) (m : Mark) (p : List ℕ) (xs : List Item) → AllIn c xs → AllIn c (mark m p xs)
+mark_in : (c : Choices) (m : Fate) (p : List ℕ) (xs : List Item) → AllIn c xs → AllIn c (mark m p xs)
 mark_in c m p [] h = tt
 mark_in c m p (x ∷ xs) h = cases (AllIn c) p x ((x.0, m) ∷ xs) (x ∷ mark m p xs) (λ _ _. h) (λ _. (h.0, mark_in c m p xs h.1))
 
@@ -181,7 +181,7 @@ grow_outs at p ks (x ∷ xs) e =
     (λ is _. outs_both at (kid_items p ks) xs ∙ ap (λ l. l ++ outs_in at xs) (sym e ∙ ap at is))
     (λ _. ap (λ l. at x.0 ++ l) (grow_outs at p ks xs e))
 
-mark_outs : (at : Outputs) (m : Mark) (p : List ℕ) (xs : List Item) → outs_in at (mark m p xs) ≡ outs_in at xs
+mark_outs : (at : Outputs) (m : Fate) (p : List ℕ) (xs : List Item) → outs_in at (mark m p xs) ≡ outs_in at xs
 mark_outs at m p [] = refl
 mark_outs at m p (x ∷ xs) = cases (λ l. outs_in at l ≡ at x.0 ++ outs_in at xs) p x ((x.0, m) ∷ xs) (x ∷ mark m p xs) (λ _ _. refl) (λ _. ap (λ l. at x.0 ++ l) (mark_outs at m p xs))
 
@@ -193,7 +193,7 @@ grow_doned : (at : Outputs) (p ks : List ℕ) (xs : List Item) → ended_in at (
 grow_doned at p ks [] = refl
 grow_doned at p ks (x ∷ xs) =
     cases (λ l. ended_in at l ≡ (if is_ended x.1 then (x.0, at x.0) ∷ ended_in at xs else ended_in at xs)) p x (kid_items p ks ++ xs) (x ∷ grow p ks xs)
-    (λ _ open_yet. doned_kids at p ks xs ∙ sym (ap (λ (k : Mark). if is_ended k then (x.0, at x.0) ∷ ended_in at xs else ended_in at xs) open_yet))
+    (λ _ open_yet. doned_kids at p ks xs ∙ sym (ap (λ (k : Fate). if is_ended k then (x.0, at x.0) ∷ ended_in at xs else ended_in at xs) open_yet))
     (λ _. ap (λ l. if is_ended x.1 then (x.0, at x.0) ∷ l else l) (grow_doned at p ks xs))
 
 -- leaving a path out ends nothing
@@ -201,7 +201,7 @@ skip_doned : (at : Outputs) (p : List ℕ) (xs : List Item) → ended_in at (mar
 skip_doned at p [] = refl
 skip_doned at p (x ∷ xs) =
     cases (λ l. ended_in at l ≡ (if is_ended x.1 then (x.0, at x.0) ∷ ended_in at xs else ended_in at xs)) p x ((x.0, was_skipped) ∷ xs) (x ∷ mark was_skipped p xs)
-    (λ _ open_yet. sym (ap (λ (k : Mark). if is_ended k then (x.0, at x.0) ∷ ended_in at xs else ended_in at xs) open_yet))
+    (λ _ open_yet. sym (ap (λ (k : Fate). if is_ended k then (x.0, at x.0) ∷ ended_in at xs else ended_in at xs) open_yet))
     (λ _. ap (λ l. if is_ended x.1 then (x.0, at x.0) ∷ l else l) (skip_doned at p xs))
 
 pub same_itself : (p : List ℕ) → same_path p p ≡ true
@@ -227,15 +227,15 @@ grow_undone : (h : List ℕ → ℕ) (p ks : List ℕ) (xs : List Item) → Has 
 grow_undone h p ks [] has = absurd (omega arith)
 grow_undone h p ks (x ∷ xs) has =
     cases (λ l. undone h l + h p ≡ undone h (x ∷ xs) + undone h (kid_items p ks)) p x (kid_items p ks ++ xs) (x ∷ grow p ks xs)
-    (λ e open_yet. (let a = undone_both h (kid_items p ks) xs in let b : (if is_waiting x.1 then h x.0 else 0) ≡ h p = ap (λ (k : Mark). if is_waiting k then h x.0 else 0) open_yet ∙ ap h (sym e) in omega arith))
+    (λ e open_yet. (let a = undone_both h (kid_items p ks) xs in let b : (if is_waiting x.1 then h x.0 else 0) ≡ h p = ap (λ (k : Fate). if is_waiting k then h x.0 else 0) open_yet ∙ ap h (sym e) in omega arith))
     (λ miss. (let a = grow_undone h p ks xs (has_later p x xs miss has) in omega arith))
 
-mark_undone : (m : Mark) (h : List ℕ → ℕ) (p : List ℕ) (xs : List Item) → is_waiting m ≡ false → Has p xs → undone h (mark m p xs) + h p ≡ undone h xs
+mark_undone : (m : Fate) (h : List ℕ → ℕ) (p : List ℕ) (xs : List Item) → is_waiting m ≡ false → Has p xs → undone h (mark m p xs) + h p ≡ undone h xs
 mark_undone m h p [] gone has = absurd (omega arith)
 mark_undone m h p (x ∷ xs) gone has =
     cases (λ l. undone h l + h p ≡ undone h (x ∷ xs)) p x ((x.0, m) ∷ xs) (x ∷ mark m p xs)
     (λ e open_yet.
-    (let b : (if is_waiting x.1 then h x.0 else 0) ≡ h p = ap (λ (k : Mark). if is_waiting k then h x.0 else 0) open_yet ∙ ap h (sym e) in
+    (let b : (if is_waiting x.1 then h x.0 else 0) ≡ h p = ap (λ (k : Fate). if is_waiting k then h x.0 else 0) open_yet ∙ ap h (sym e) in
     let d : (if is_waiting m then h x.0 else 0) ≡ 0 = ap (λ (b : Bool). if b then h x.0 else 0) gone in
     omega arith))
     (λ miss. (let a = mark_undone m h p xs gone (has_later p x xs miss has) in omega arith))
@@ -252,7 +252,7 @@ insert_front at p ((q, still_open) ∷ xs) all = insert_front at p xs all.1
 insert_front at p ((q, has_ended) ∷ xs) all = rw (less_there p q all.0) refl
 insert_front at p ((q, was_skipped) ∷ xs) all = insert_front at p xs all.1
 
-miss_doned : (at : Outputs) (p : List ℕ) (x : Item) (xs : List Item) → ended_in at (mark has_ended p xs) ≡ insert p (at p) (ended_in at xs) → is_before p x.0 ≡ false
+miss_doned : (at : Outputs) (p : List ℕ) (x : Item) (xs : List Item) → ended_in at (mark has_ended p xs) ≡ insert p (at p) (ended_in at xs) → is_path_before p x.0 ≡ false
     → ended_in at (x ∷ mark has_ended p xs) ≡ insert p (at p) (ended_in at (x ∷ xs))
 miss_doned at p (q, still_open) xs r less = r
 miss_doned at p (q, has_ended) xs r less = rw less (ap (λ l. (q, at q) ∷ l) r)
@@ -263,7 +263,7 @@ mark_doned at p [] s has = absurd (omega arith)
 mark_doned at p (x ∷ xs) s has =
     cases (λ l. ended_in at l ≡ insert p (at p) (ended_in at (x ∷ xs))) p x ((x.0, has_ended) ∷ xs) (x ∷ mark has_ended p xs)
     (λ e open_yet.
-    ap (λ q. (q, at q) ∷ ended_in at xs) (sym e) ∙ sym (insert_front at p xs (subst (λ q. AllAfter q xs) (sym e) s.0)) ∙ ap (insert p (at p)) (sym (ap (λ (k : Mark). if is_ended k then (x.0, at x.0) ∷ ended_in at xs else ended_in at xs) open_yet)))
+    ap (λ q. (q, at q) ∷ ended_in at xs) (sym e) ∙ sym (insert_front at p xs (subst (λ q. AllAfter q xs) (sym e) s.0)) ∙ ap (insert p (at p)) (sym (ap (λ (k : Fate). if is_ended k then (x.0, at x.0) ∷ ended_in at xs else ended_in at xs) open_yet)))
     (λ miss. let later = has_later p x xs miss has in let r = mark_doned at p xs s.1 later in let less = less_not p x.0 (before_it x.0 p xs s.0 later) in miss_doned at p x xs r less)
 
 -- left out numbers
@@ -284,22 +284,22 @@ AllBelow n (k ∷ ks) = (k < n) × AllBelow n ks
 below_same : (m n : ℕ) (ks : List ℕ) → m ≡ n → AllBelow m ks → AllBelow n ks
 below_same m n ks e h = subst (λ k. AllBelow k ks) e h
 
-joined_kids : (at : Outputs) (p : List ℕ) (i n : ℕ) (ks : List ℕ) → Ascends i ks → AllBelow (i + n) ks → ((k : ℕ) → i ≤ k → k < i + n → times k ks ≡ 0 → at (p ++ k ∷ []) ≡ []) → joined at p i n ≡ outs_in at (kid_items p ks)
+joined_kids : (at : Outputs) (p : List ℕ) (i n : ℕ) (ks : List ℕ) → Ascends i ks → AllBelow (i + n) ks → ((k : ℕ) → i ≤ k → k < i + n → times k ks ≡ 0 → at (p ++ k ∷ []) ≡ []) → joined_below at p i n ≡ outs_in at (kid_items p ks)
 unfolding AllBelow
 joined_kids at p i zero [] a b out = refl
 joined_kids at p i zero (k ∷ ks) a b out = absurd (let x = a.0 in let y = b.0 in omega arith)
 joined_kids at p i (suc n) [] a b out =
-    ap (λ l. l ++ joined at p (suc i) n) (out i (omega arith) (omega arith) refl) ∙ joined_kids at p (suc i) n [] tt tt (λ k low high e. out k (omega arith) (omega arith) e)
+    ap (λ l. l ++ joined_below at p (suc i) n) (out i (omega arith) (omega arith) refl) ∙ joined_kids at p (suc i) n [] tt tt (λ k low high e. out k (omega arith) (omega arith) e)
 joined_kids at p i (suc n) (k ∷ ks) a b out =
     dite (ℕ_discrete i k)
     (λ same.
-    ap (λ j. at (p ++ j ∷ []) ++ joined at p (suc i) n) same
+    ap (λ j. at (p ++ j ∷ []) ++ joined_below at p (suc i) n) same
     ∙ ap (λ l. at (p ++ k ∷ []) ++ l) (joined_kids at p (suc i) n ks (subst (λ j. Ascends (suc j) ks) (sym same) a.1) (below_same (i + suc n) (suc i + n) ks (omega arith) b.1)
     (λ j low high e. out j (omega arith) (omega arith) (let s = zero_if k j (λ z. omega arith) in omega arith))))
     (λ apart.
     let less : i < k = (let z = a.0 in omega arith) in
     let none_here : times i (k ∷ ks) ≡ 0 = ascends_none i k (k ∷ ks) less ((omega arith), a.1) in
-    ap (λ l. l ++ joined at p (suc i) n) (out i (omega arith) (omega arith) none_here)
+    ap (λ l. l ++ joined_below at p (suc i) n) (out i (omega arith) (omega arith) none_here)
     ∙ joined_kids at p (suc i) n (k ∷ ks) ((omega arith), a.1) (below_same (i + suc n) (suc i + n) (k ∷ ks) (omega arith) b) (λ j low high e. out j (omega arith) (omega arith) e))
 
 at_most_below : (w : ℕ) (ks : List ℕ) → AreAtMost w ks → AllBelow (1 + w) ks
@@ -308,7 +308,7 @@ at_most_below w [] h = tt
 at_most_below w (k ∷ ks) h = ((let z = h.0 in omega arith), at_most_below w ks h.1)
 
 -- what is below a path is what is below the kids that were kept
-kept_outs : (c : Choices) (at : Outputs) (p ks : List ℕ) → IsTree c at → InTree c p → AreKids c at p ks → at p ≡ outs_in at (kid_items p ks)
+kept_outs : (c : Choices) (at : Outputs) (p ks : List ℕ) → IsTree c at → InChoiceTree c p → AreKids c at p ks → at p ≡ outs_in at (kid_items p ks)
 kept_outs c at p ks tree there kids =
     tree p kids.0 there kids.1 ∙ joined_kids at p 1 kids.0 ks kids.2 (at_most_below kids.0 ks kids.3) (λ k low high e. kids.4 k low (omega arith) e)
 
@@ -316,7 +316,7 @@ goes_on-last : (c : Choices) (q p : List ℕ) (k : ℕ) → GoesOn c q p → IsC
 goes_on-last c q [] k h is = (subst (λ (x : List ℕ). IsChoice (c x) k) (append-nil q) is, tt)
 goes_on-last c q (x ∷ xs) k h is = (h.0, goes_on-last c (q ++ x ∷ []) xs k h.1 (subst (λ (y : List ℕ). IsChoice (c y) k) (sym (append_assoc q (x ∷ []) xs)) is))
 
-pub kids_in : (c : Choices) (p : List ℕ) (w i : ℕ) (ks : List ℕ) → InTree c p → c p ≡ Some w → 1 ≤ i → Ascends i ks → AreAtMost w ks → AllIn c (kid_items p ks)
+pub kids_in : (c : Choices) (p : List ℕ) (w i : ℕ) (ks : List ℕ) → InChoiceTree c p → c p ≡ Some w → 1 ≤ i → Ascends i ks → AreAtMost w ks → AllIn c (kid_items p ks)
 kids_in c p w i [] there is one a m = tt
 kids_in c p w i (k ∷ ks) there is one a m =
     let low = a.0 in
@@ -363,14 +363,14 @@ pub skipped_grow : (p ks : List ℕ) (xs : List Item) → skipped_in (grow p ks 
 skipped_grow p ks [] = refl
 skipped_grow p ks (x ∷ xs) =
     cases (λ l. skipped_in l ≡ (if is_skipped x.1 then x.0 ∷ skipped_in xs else skipped_in xs)) p x (kid_items p ks ++ xs) (x ∷ grow p ks xs)
-    (λ _ open_yet. skipped_kids p ks xs ∙ sym (ap (λ (k : Mark). if is_skipped k then x.0 ∷ skipped_in xs else skipped_in xs) open_yet))
+    (λ _ open_yet. skipped_kids p ks xs ∙ sym (ap (λ (k : Fate). if is_skipped k then x.0 ∷ skipped_in xs else skipped_in xs) open_yet))
     (λ _. ap (λ l. if is_skipped x.1 then x.0 ∷ l else l) (skipped_grow p ks xs))
 
 pub skipped_ended : (p : List ℕ) (xs : List Item) → skipped_in (mark has_ended p xs) ≡ skipped_in xs
 skipped_ended p [] = refl
 skipped_ended p (x ∷ xs) =
     cases (λ l. skipped_in l ≡ (if is_skipped x.1 then x.0 ∷ skipped_in xs else skipped_in xs)) p x ((x.0, has_ended) ∷ xs) (x ∷ mark has_ended p xs)
-    (λ _ open_yet. sym (ap (λ (k : Mark). if is_skipped k then x.0 ∷ skipped_in xs else skipped_in xs) open_yet))
+    (λ _ open_yet. sym (ap (λ (k : Fate). if is_skipped k then x.0 ∷ skipped_in xs else skipped_in xs) open_yet))
     (λ _. ap (λ l. if is_skipped x.1 then x.0 ∷ l else l) (skipped_ended p xs))
 
 skipped_next : (h : List ℕ → ℕ) (n : ℕ) (x : Item) (xs ys : List Item) → weigh h (skipped_in ys) ≡ n + weigh h (skipped_in xs) → weigh h (skipped_in (x ∷ ys)) ≡ n + weigh h (skipped_in (x ∷ xs))
@@ -382,17 +382,17 @@ pub skipped_more : (h : List ℕ → ℕ) (p : List ℕ) (xs : List Item) → Ha
 skipped_more h p [] has = absurd (omega arith)
 skipped_more h p (x ∷ xs) has =
     cases (λ l. weigh h (skipped_in l) ≡ h p + weigh h (skipped_in (x ∷ xs))) p x ((x.0, was_skipped) ∷ xs) (x ∷ mark was_skipped p xs)
-    (λ e open_yet. (let a = ap h e in let b = ap (λ (k : Mark). weigh h (if is_skipped k then x.0 ∷ skipped_in xs else skipped_in xs)) open_yet in omega arith))
+    (λ e open_yet. (let a = ap h e in let b = ap (λ (k : Fate). weigh h (if is_skipped k then x.0 ∷ skipped_in xs else skipped_in xs)) open_yet in omega arith))
     (λ miss. skipped_next h (h p) x xs (mark was_skipped p xs) (skipped_more h p xs (has_later p x xs miss has)))
 
 -- what an item adds to the answers that have ended
-abbrev pub counts : Mark → ℕ → ℕ
+abbrev pub counts : Fate → ℕ → ℕ
 counts still_open n = 0
 counts has_ended n = n
 counts was_skipped n = 0
 
 -- where a path was left out, answers enough have ended before it
-abbrev pub MayLack : Limit → ℕ → Mark → Type 0
+abbrev pub MayLack : Limit → ℕ → Fate → Type 0
 MayLack l k still_open = Unit {0}
 MayLack l k has_ended = Unit {0}
 MayLack l k was_skipped = (n : ℕ) × (l ≡ limits.First n) × (n ≤ k)
@@ -401,7 +401,7 @@ abbrev pub AreCovered : Limit → Outputs → ℕ → List Item → Type 0
 AreCovered l at k [] = Unit {0}
 AreCovered l at k (x ∷ xs) = MayLack l k x.1 × AreCovered l at (counts x.1 (found_in (at x.0)) + k) xs
 
-lack_more : (l : Limit) (m : Mark) (k j : ℕ) → k ≤ j → MayLack l k m → MayLack l j m
+lack_more : (l : Limit) (m : Fate) (k j : ℕ) → k ≤ j → MayLack l k m → MayLack l j m
 lack_more l still_open k j le h = tt
 lack_more l has_ended k j le h = tt
 lack_more l was_skipped k j le h = (h.0, h.1, (let z = h.2 in omega arith))
@@ -421,7 +421,7 @@ covered_grow l at k p ks (x ∷ xs) h =
     cases (AreCovered l at k) p x (kid_items p ks ++ xs) (x ∷ grow p ks xs)
     (λ _ open_yet.
     covered_kids l at k p ks xs
-    (covered_more l at (counts x.1 (found_in (at x.0)) + k) k xs (let z : counts x.1 (found_in (at x.0)) ≡ 0 = ap (λ (m : Mark). counts m (found_in (at x.0))) open_yet in omega arith) h.1))
+    (covered_more l at (counts x.1 (found_in (at x.0)) + k) k xs (let z : counts x.1 (found_in (at x.0)) ≡ 0 = ap (λ (m : Fate). counts m (found_in (at x.0))) open_yet in omega arith) h.1))
     (λ _. (h.0, covered_grow l at (counts x.1 (found_in (at x.0)) + k) p ks xs h.1))
 
 pub covered_ended : (l : Limit) (at : Outputs) (k : ℕ) (p : List ℕ) (xs : List Item) → AreCovered l at k xs → AreCovered l at k (mark has_ended p xs)
@@ -430,7 +430,7 @@ covered_ended l at k p (x ∷ xs) h =
     cases (AreCovered l at k) p x ((x.0, has_ended) ∷ xs) (x ∷ mark has_ended p xs)
     (λ _ open_yet. (
       tt,
-      covered_more l at (counts x.1 (found_in (at x.0)) + k) (found_in (at x.0) + k) xs (let z : counts x.1 (found_in (at x.0)) ≡ 0 = ap (λ (m : Mark). counts m (found_in (at x.0))) open_yet in omega arith) h.1,
+      covered_more l at (counts x.1 (found_in (at x.0)) + k) (found_in (at x.0) + k) xs (let z : counts x.1 (found_in (at x.0)) ≡ 0 = ap (λ (m : Fate). counts m (found_in (at x.0))) open_yet in omega arith) h.1,
     ))
     (λ _. (h.0, covered_ended l at (counts x.1 (found_in (at x.0)) + k) p xs h.1))
 
@@ -439,7 +439,7 @@ none_before : (at : Outputs) (p : List ℕ) (xs : List Item) → AllAfter p xs �
 none_before at p [] all = refl
 none_before at p ((q, still_open) ∷ xs) all = none_before at p xs all.1
 none_before at p ((q, has_ended) ∷ xs) all =
-    let z : (if is_before q p then found_in (at q) else 0) ≡ 0 = ap (λ (b : Bool). if b then found_in (at q) else 0) (less_not q p all.0) in omega (arith, none_before at p xs all.1)
+    let z : (if is_path_before q p then found_in (at q) else 0) ≡ 0 = ap (λ (b : Bool). if b then found_in (at q) else 0) (less_not q p all.0) in omega (arith, none_before at p xs all.1)
 none_before at p ((q, was_skipped) ∷ xs) all = none_before at p xs all.1
 
 at_most : (b : Bool) (n m : ℕ) → (if b then n else 0) + m ≤ n + m
@@ -448,7 +448,7 @@ at_most false n m = omega arith
 
 before_next : (at : Outputs) (p : List ℕ) (x : Item) (xs : List Item) → found_before p (ended_in at (x ∷ xs)) ≤ counts x.1 (found_in (at x.0)) + found_before p (ended_in at xs)
 before_next at p (q, still_open) xs = omega arith
-before_next at p (q, has_ended) xs = at_most (is_before q p) (found_in (at q)) (found_before p (ended_in at xs))
+before_next at p (q, has_ended) xs = at_most (is_path_before q p) (found_in (at q)) (found_before p (ended_in at xs))
 before_next at p (q, was_skipped) xs = omega arith
 
 covered_skipped : (l : Limit) (at : Outputs) (k : ℕ) (p : List ℕ) (n : ℕ) (xs : List Item) → l ≡ limits.First n → Sorted xs → Has p xs → n ≤ found_before p (ended_in at xs) + k → AreCovered l at k xs → AreCovered l at k (mark was_skipped p xs)
@@ -457,7 +457,7 @@ covered_skipped l at k p n (x ∷ xs) is s has le h =
     let next = before_next at p x xs in
     cases (AreCovered l at k) p x ((x.0, was_skipped) ∷ xs) (x ∷ mark was_skipped p xs)
     (λ e open_yet.
-    (let z : counts x.1 (found_in (at x.0)) ≡ 0 = ap (λ (m : Mark). counts m (found_in (at x.0))) open_yet in
+    (let z : counts x.1 (found_in (at x.0)) ≡ 0 = ap (λ (m : Fate). counts m (found_in (at x.0))) open_yet in
     let none_yet = none_before at p xs (subst (λ q. AllAfter q xs) (sym e) s.0) in
     ((n, is, omega arith), covered_more l at (counts x.1 (found_in (at x.0)) + k) (0 + k) xs (omega arith) h.1)))
     (λ miss. (h.0, covered_skipped l at (counts x.1 (found_in (at x.0)) + k) p n xs is s.1 (has_later p x xs miss has) (omega arith) h.1))
@@ -479,7 +479,7 @@ pub wanted_left : (l : Limit) (at : Outputs) (xs : List Item) → AreCovered l a
 wanted_left l at xs h = cut_left l at 0 [] xs (omega arith) h
 
 -- the frontier of a history so far
-pub record IsFrontier (c : Choices) (at : Outputs) (whole : List NominalOut) (ps : List (List ℕ)) (ends : List Ending) (xs : List Item) : Type 0 where
+pub record IsFrontier (c : Choices) (at : Outputs) (whole : List NominalOut) (ps : List (List ℕ)) (ends : List EndedPath) (xs : List Item) : Type 0 where
   pub sorted : Sorted xs
   pub outs : outs_in at xs ≡ whole
   pub opens : (h : List ℕ → ℕ) → undone h xs ≡ weigh h ps
@@ -489,16 +489,16 @@ pub record IsFrontier (c : Choices) (at : Outputs) (whole : List NominalOut) (ps
 pub frontier_has : (p : List ℕ) (ps : List (List ℕ)) (xs : List Item) → ((h : List ℕ → ℕ) → undone h xs ≡ weigh h ps) → is_open p ps ≡ true → Has p xs
 frontier_has p ps xs opens e = let a = opens (is_it p) in let b = weigh_open p ps e in omega arith
 
-pub in_tree_at : (c : Choices) (p : List ℕ) (xs : List Item) → AllIn c xs → Has p xs → InTree c p
+pub in_tree_at : (c : Choices) (p : List ℕ) (xs : List Item) → AllIn c xs → Has p xs → InChoiceTree c p
 in_tree_at c p [] all has = absurd (omega arith)
-in_tree_at c p (x ∷ xs) all has = cases (λ _. InTree c p) p x xs xs (λ e _. subst (InTree c) (sym e) all.0) (λ miss. in_tree_at c p xs all.1 (has_later p x xs miss has))
+in_tree_at c p (x ∷ xs) all has = cases (λ _. InChoiceTree c p) p x xs xs (λ e _. subst (InChoiceTree c) (sym e) all.0) (λ miss. in_tree_at c p xs all.1 (has_later p x xs miss has))
 
 -- what a split does to the weight of all open paths
 pub weigh_split : (p ks : List ℕ) (ps : List (List ℕ)) → is_open p ps ≡ true → (h : List ℕ → ℕ) → weigh h (without p ps ++ kids_of p ks) + h p ≡ weigh h ps + weigh h (kids_of p ks)
 weigh_split p ks ps e h = let a = weigh_without h p ps e in let b = weigh_both h (without p ps) (kids_of p ks) in omega arith
 
 -- the frontier after one path was split, and after one was ended, however the open paths lie
-pub frontier_split : (c : Choices) (at : Outputs) (whole : List NominalOut) (ps qs : List (List ℕ)) (ends : List Ending) (xs : List Item) (p ks : List ℕ) → IsTree c at → IsFrontier c at whole ps ends xs → 0 < weigh (is_it p) ps → AreKids c at p ks
+pub frontier_split : (c : Choices) (at : Outputs) (whole : List NominalOut) (ps qs : List (List ℕ)) (ends : List EndedPath) (xs : List Item) (p ks : List ℕ) → IsTree c at → IsFrontier c at whole ps ends xs → 0 < weigh (is_it p) ps → AreKids c at p ks
     → ((h : List ℕ → ℕ) → weigh h qs + h p ≡ weigh h ps + weigh h (kids_of p ks)) → IsFrontier c at whole qs ends (grow p ks xs)
 frontier_split c at whole ps qs ends xs p ks tree f open_yet kids moved =
     let has : Has p xs = (let a = f.opens (is_it p) in omega arith) in
@@ -511,7 +511,7 @@ frontier_split c at whole ps qs ends xs p ks tree f open_yet kids moved =
       inside = grow_in c p ks xs (kids_in c p kids.0 1 ks there kids.1 (omega arith) kids.2 kids.3) f.inside;
     }
 
-pub frontier_done : (c : Choices) (at : Outputs) (whole : List NominalOut) (ps qs : List (List ℕ)) (ends : List Ending) (xs : List Item) (p : List ℕ) → IsFrontier c at whole ps ends xs → 0 < weigh (is_it p) ps
+pub frontier_done : (c : Choices) (at : Outputs) (whole : List NominalOut) (ps qs : List (List ℕ)) (ends : List EndedPath) (xs : List Item) (p : List ℕ) → IsFrontier c at whole ps ends xs → 0 < weigh (is_it p) ps
     → ((h : List ℕ → ℕ) → weigh h qs + h p ≡ weigh h ps) → IsFrontier c at whole qs (insert p (at p) ends) (mark has_ended p xs)
 frontier_done c at whole ps qs ends xs p f open_yet moved =
     let has : Has p xs = (let a = f.opens (is_it p) in omega arith) in
@@ -523,7 +523,7 @@ frontier_done c at whole ps qs ends xs p f open_yet moved =
       inside = mark_in c has_ended p xs f.inside;
     }
 
-pub frontier_skip : (c : Choices) (at : Outputs) (whole : List NominalOut) (ps qs : List (List ℕ)) (ends : List Ending) (xs : List Item) (p : List ℕ) → IsFrontier c at whole ps ends xs → 0 < weigh (is_it p) ps
+pub frontier_skip : (c : Choices) (at : Outputs) (whole : List NominalOut) (ps qs : List (List ℕ)) (ends : List EndedPath) (xs : List Item) (p : List ℕ) → IsFrontier c at whole ps ends xs → 0 < weigh (is_it p) ps
     → ((h : List ℕ → ℕ) → weigh h qs + h p ≡ weigh h ps) → IsFrontier c at whole qs ends (mark was_skipped p xs)
 frontier_skip c at whole ps qs ends xs p f open_yet moved =
     let has : Has p xs = (let a = f.opens (is_it p) in omega arith) in
@@ -536,20 +536,20 @@ frontier_skip c at whole ps qs ends xs p f open_yet moved =
     }
 
 -- a path that is left out has answers enough before it
-pub skip_covered : (c : Choices) (at : Outputs) (l : Limit) (whole : List NominalOut) (ps : List (List ℕ)) (ends : List Ending) (xs : List Item) (p : List ℕ) (n : ℕ) → IsFrontier c at whole ps ends xs → 0 < weigh (is_it p) ps → l ≡ limits.First n
+pub skip_covered : (c : Choices) (at : Outputs) (l : Limit) (whole : List NominalOut) (ps : List (List ℕ)) (ends : List EndedPath) (xs : List Item) (p : List ℕ) (n : ℕ) → IsFrontier c at whole ps ends xs → 0 < weigh (is_it p) ps → l ≡ limits.First n
     → n ≤ found_before p ends → AreCovered l at 0 xs → AreCovered l at 0 (mark was_skipped p xs)
 skip_covered c at l whole ps ends xs p n f open_yet is enough covered =
     let has : Has p xs = (let a = f.opens (is_it p) in omega arith) in
     covered_skipped l at 0 p n xs is f.sorted has (let z = ap (found_before p) f.ended in omega arith) covered
 
-pub frontier_moved : (c : Choices) (at : Outputs) (whole : List NominalOut) (ps qs : List (List ℕ)) (ends : List Ending) (xs : List Item) → IsFrontier c at whole ps ends xs → ((h : List ℕ → ℕ) → weigh h qs ≡ weigh h ps) → IsFrontier c at whole qs ends xs
+pub frontier_moved : (c : Choices) (at : Outputs) (whole : List NominalOut) (ps qs : List (List ℕ)) (ends : List EndedPath) (xs : List Item) → IsFrontier c at whole ps ends xs → ((h : List ℕ → ℕ) → weigh h qs ≡ weigh h ps) → IsFrontier c at whole qs ends xs
 frontier_moved c at whole ps qs ends xs f moved = record { sorted = f.sorted; outs = f.outs; opens = λ h. f.opens h ∙ sym (moved h); ended = f.ended; inside = f.inside }
 
-merges : (c : Choices) (at : Outputs) (l : Limit) (whole : List NominalOut) (ps : List (List ℕ)) (b : Bool) (ends : List Ending) (xs : List Item) (es : List TreeEntry) → IsTree c at → IsFrontier c at whole ps ends xs → AreCovered l at 0 xs → legal_from ps b es ≡ true
+merges : (c : Choices) (at : Outputs) (l : Limit) (whole : List NominalOut) (ps : List (List ℕ)) (b : Bool) (ends : List EndedPath) (xs : List Item) (es : List TreeEntry) → IsTree c at → IsFrontier c at whole ps ends xs → AreCovered l at 0 xs → legal_from ps b es ≡ true
     → are_reached ends es ≡ true → AreTrue c at es → AreWithin l es → open_from ps es ≡ [] → part l (all_outs (ends_from ends es)) ≡ part l whole
 merges c at l whole ps b ends xs [] tree f covered legal reached true_of within closed =
     let none_open : undone (λ _. 1) xs ≡ 0 = f.opens (λ _. 1) ∙ ap (weigh (λ _. 1)) closed in
-    ap (λ (e : List Ending). part l (all_outs e)) f.ended ∙ ap (part l) (all_doned at xs none_open) ∙ wanted_left l at xs covered ∙ ap (part l) f.outs
+    ap (λ (e : List EndedPath). part l (all_outs e)) f.ended ∙ ap (part l) (all_doned at xs none_open) ∙ wanted_left l at xs covered ∙ ap (part l) f.outs
 merges c at l whole ps b ends xs (split s p ks ∷ es) tree f covered legal reached true_of within closed =
     let o = and_parts (is_open p ps) (legal_from (without p ps ++ kids_of p ks) (b || false) es) legal in
     let g = frontier_split c at whole ps (without p ps ++ kids_of p ks) ends xs p ks tree f (weigh_open p ps o.0) true_of.0 (weigh_split p ks ps o.0) in

@@ -2,7 +2,7 @@
 use Rattle.std.proofs.Common.{◌≡◌, ℕ, Bool, true, false, ◌||◌, List, [], ◌∷◌, ◌++◌, refl, sym, ap, ◌∙◌}
 use Rattle.std.proofs.lemmas.Bool.{and_parts}
 use Rattle.ap_paths.specs.Entries.{TreeEntry}
-use Rattle.ap_paths.specs.Merging.{Ending, ends_after, ends_from}
+use Rattle.ap_paths.specs.Merging.{EndedPath, ends_after, ends_from}
 use Rattle.ap_paths.specs.History.{open_after, open_from, open_of, is_stop, has_stop, may_enter, legal_from, is_reached, are_reached, is_legal}
 
 or-false : (b : Bool) → b || false ≡ b
@@ -32,11 +32,11 @@ legal_from-last ps b (x ∷ xs) e h may =
     let later = legal_from-last (open_after ps x) (b || is_stop x) xs e parts.1 (rw (sym same) may) in
     rw (parts.0, later) refl
 
-pub ends_from-last : (ends : List Ending) (es : List TreeEntry) (e : TreeEntry) → ends_from ends (es ++ e ∷ []) ≡ ends_after (ends_from ends es) e
+pub ends_from-last : (ends : List EndedPath) (es : List TreeEntry) (e : TreeEntry) → ends_from ends (es ++ e ∷ []) ≡ ends_after (ends_from ends es) e
 ends_from-last ends [] e = refl
 ends_from-last ends (x ∷ xs) e = ends_from-last (ends_after ends x) xs e
 
-are_reached-last : (ends : List Ending) (es : List TreeEntry) (e : TreeEntry) → are_reached ends es ≡ true → is_reached (ends_from ends es) e ≡ true → are_reached ends (es ++ e ∷ []) ≡ true
+are_reached-last : (ends : List EndedPath) (es : List TreeEntry) (e : TreeEntry) → are_reached ends es ≡ true → is_reached (ends_from ends es) e ≡ true → are_reached ends (es ++ e ∷ []) ≡ true
 are_reached-last ends [] e h reached = rw reached refl
 are_reached-last ends (x ∷ xs) e h reached =
     let parts = and_parts (is_reached ends x) (are_reached (ends_after ends x) xs) h in

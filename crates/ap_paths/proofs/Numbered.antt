@@ -8,7 +8,7 @@ use Rattle.std.specs.declared.cmp.Ordering.TheVariants.{Less, Equal, Greater}
 use Rattle.std.specs.BTreeMap.{insert_entry}
 use Rattle.std.proofs.lemmas.Bool.Decides.{nat_tests}
 use Rattle.ap_paths.specs.Merging.{insert}
-use Rattle.ap_paths.specs.Ends.{ends_in, AreBelow}
+use Rattle.ap_paths.specs.Ends.{ends_in, AreNumbersBelow}
 
 nat_greater : (x y : ℕ) → y < x → nat_cmp x y ≡ Greater
 nat_greater x y l = grind (arith, nat_tests)
@@ -17,7 +17,7 @@ nat_greater x y l = grind (arith, nat_tests)
 abbrev pub numbered_cmp : {Z : Type 0} → Vec ℕ Z × ℕ → Vec ℕ Z × ℕ → Ordering
 numbered_cmp x y = ordering_then (slice_cmp nat_cmp x.0.items y.0.items) (nat_cmp x.1 y.1)
 
-pub inserted : {Z X : Type 0} (es : List ((Vec ℕ Z × ℕ) × X)) (k : Vec ℕ Z × ℕ) (v : X) → AreBelow k.1 es → ends_in (insert_entry numbered_cmp es k v) ≡ insert k.0.items v (ends_in es)
+pub inserted : {Z X : Type 0} (es : List ((Vec ℕ Z × ℕ) × X)) (k : Vec ℕ Z × ℕ) (v : X) → AreNumbersBelow k.1 es → ends_in (insert_entry numbered_cmp es k v) ≡ insert k.0.items v (ends_in es)
 inserted [] k v h = refl
 inserted {Z} {X} (e ∷ es) k v h =
     let later = inserted es k v h.1 in
@@ -29,7 +29,7 @@ inserted {Z} {X} (e ∷ es) k v h =
     [ Less ↦ refl | Equal ↦ rw above (ap (λ l. (e.0.0.items, e.1) ∷ l) later) | Greater ↦ ap (λ l. (e.0.0.items, e.1) ∷ l) later ] in
     step (slice_cmp nat_cmp k.0.items e.0.0.items)
 
-length_insert : {Z X : Type 0} (es : List ((Vec ℕ Z × ℕ) × X)) (k : Vec ℕ Z × ℕ) (v : X) → AreBelow k.1 es → length (insert_entry numbered_cmp es k v) ≡ suc (length es)
+length_insert : {Z X : Type 0} (es : List ((Vec ℕ Z × ℕ) × X)) (k : Vec ℕ Z × ℕ) (v : X) → AreNumbersBelow k.1 es → length (insert_entry numbered_cmp es k v) ≡ suc (length es)
 length_insert [] k v h = refl
 length_insert {Z} {X} (e ∷ es) k v h =
     let later = length_insert es k v h.1 in
@@ -37,21 +37,21 @@ length_insert {Z} {X} (e ∷ es) k v h =
     elim (slice_cmp nat_cmp k.0.items e.0.0.items) as (λ o. length (match_ordering (ordering_then o (nat_cmp k.1 e.0.1)) ((k, v) ∷ e ∷ es) ((e.0, v) ∷ es) (e ∷ insert_entry numbered_cmp es k v)) ≡ suc (suc (length es)))
     [ Less ↦ refl | Equal ↦ rw above (ap suc later) | Greater ↦ ap suc later ]
 
-below_more : {Z X : Type 0} (m n : ℕ) (es : List ((Vec ℕ Z × ℕ) × X)) → m ≤ n → AreBelow m es → AreBelow n es
+below_more : {Z X : Type 0} (m n : ℕ) (es : List ((Vec ℕ Z × ℕ) × X)) → m ≤ n → AreNumbersBelow m es → AreNumbersBelow n es
 below_more m n [] l h = tt
 below_more m n (e ∷ es) l h = ((let z = h.0 in omega arith), below_more m n es l h.1)
 
-below_insert : {Z X : Type 0} (es : List ((Vec ℕ Z × ℕ) × X)) (k : Vec ℕ Z × ℕ) (v : X) → AreBelow k.1 es → AreBelow (suc k.1) (insert_entry numbered_cmp es k v)
+below_insert : {Z X : Type 0} (es : List ((Vec ℕ Z × ℕ) × X)) (k : Vec ℕ Z × ℕ) (v : X) → AreNumbersBelow k.1 es → AreNumbersBelow (suc k.1) (insert_entry numbered_cmp es k v)
 below_insert [] k v h = (omega arith, tt)
 below_insert {Z} {X} (e ∷ es) k v h =
     let later = below_insert es k v h.1 in
     let above = nat_greater k.1 e.0.1 h.0 in
     let first : e.0.1 < suc k.1 = (let z = h.0 in omega arith) in
-    let rest : AreBelow (suc k.1) es = below_more k.1 (suc k.1) es (omega arith) h.1 in
-    elim (slice_cmp nat_cmp k.0.items e.0.0.items) as (λ o. AreBelow (suc k.1) (match_ordering (ordering_then o (nat_cmp k.1 e.0.1)) ((k, v) ∷ e ∷ es) ((e.0, v) ∷ es) (e ∷ insert_entry numbered_cmp es k v)))
+    let rest : AreNumbersBelow (suc k.1) es = below_more k.1 (suc k.1) es (omega arith) h.1 in
+    elim (slice_cmp nat_cmp k.0.items e.0.0.items) as (λ o. AreNumbersBelow (suc k.1) (match_ordering (ordering_then o (nat_cmp k.1 e.0.1)) ((k, v) ∷ e ∷ es) ((e.0, v) ∷ es) (e ∷ insert_entry numbered_cmp es k v)))
     [ Less ↦ (omega arith, (first, rest)) | Equal ↦ rw above (first, later) | Greater ↦ (first, later) ]
 
-pub numbered : {Z X : Type 0} (es : List ((Vec ℕ Z × ℕ) × X)) (k : Vec ℕ Z × ℕ) (v : X) → k.1 ≡ length es → AreBelow k.1 es → AreBelow (length (insert_entry numbered_cmp es k v)) (insert_entry numbered_cmp es k v)
+pub numbered : {Z X : Type 0} (es : List ((Vec ℕ Z × ℕ) × X)) (k : Vec ℕ Z × ℕ) (v : X) → k.1 ≡ length es → AreNumbersBelow k.1 es → AreNumbersBelow (length (insert_entry numbered_cmp es k v)) (insert_entry numbered_cmp es k v)
 numbered es k v e h =
     let m : suc k.1 ≡ length (insert_entry numbered_cmp es k v) = ap suc e ∙ sym (length_insert es k v h) in
-    subst (λ (n : ℕ). AreBelow n (insert_entry numbered_cmp es k v)) m (below_insert es k v h)
+    subst (λ (n : ℕ). AreNumbersBelow n (insert_entry numbered_cmp es k v)) m (below_insert es k v h)

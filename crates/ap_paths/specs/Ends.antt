@@ -2,7 +2,7 @@
 use Rattle.std.specs.Prelude.{ℕ, ◌<◌, List, [], ◌∷◌, Vec}
 use Rattle.ap_defs.specs.declared.paths.Out.{Out}
 use Rattle.ap_defs.specs.Answers.{outs_of}
-use Rattle.ap_paths.specs.Merging.{Ending}
+use Rattle.ap_paths.specs.Merging.{EndedPath}
 
 -- the paths and what stands beside them
 abbrev pub ends_in : {Z X : Type 0} → List ((Vec ℕ Z × ℕ) × X) → List (List ℕ × X)
@@ -10,11 +10,11 @@ ends_in [] = []
 ends_in (e ∷ es) = (e.0.0.items, e.1) ∷ ends_in es
 
 -- all numbers are below n
-abbrev pub AreBelow : {Z X : Type 0} → ℕ → List ((Vec ℕ Z × ℕ) × X) → Type 0
-AreBelow n [] = Unit {0}
-AreBelow n (e ∷ es) = (e.0.1 < n) × AreBelow n es
+abbrev pub AreNumbersBelow : {Z X : Type 0} → ℕ → List ((Vec ℕ Z × ℕ) × X) → Type 0
+AreNumbersBelow n [] = Unit {0}
+AreNumbersBelow n (e ∷ es) = (e.0.1 < n) × AreNumbersBelow n es
 
 -- ends, with their outputs without where they lie in memory
-abbrev pub ends_of : List (List ℕ × List Out) → List Ending
+abbrev pub ends_of : List (List ℕ × List Out) → List EndedPath
 ends_of [] = []
 ends_of (e ∷ es) = (e.0, outs_of e.1) ∷ ends_of es

@@ -2,7 +2,7 @@
 use Rattle.std.specs.Prelude.{◌≡◌, ℕ, ◌<◌, ◌⊎◌, Bool, true, false, if◌then◌else◌, List, [], ◌∷◌, ◌++◌}
 use Rattle.ap_defs.specs.Answers.{NominalOut}
 use Rattle.ap_paths.specs.Trees.{Outputs}
-use Rattle.ap_paths.specs.Merging.{Ending}
+use Rattle.ap_paths.specs.Merging.{EndedPath}
 
 -- p comes before q, and neither begins the other
 abbrev pub Before : List ℕ → List ℕ → Type 0
@@ -11,28 +11,28 @@ Before (x ∷ xs) [] = ⊥
 Before (x ∷ xs) (y ∷ ys) = (x < y) ⊎ ((x ≡ y) × Before xs ys)
 
 -- what has become of a path
-pub data Mark : Type 0 where
-  still_open : Mark
-  has_ended : Mark
-  was_skipped : Mark
+pub data Fate : Type 0 where
+  still_open : Fate
+  has_ended : Fate
+  was_skipped : Fate
 
-abbrev pub is_waiting : Mark → Bool
+abbrev pub is_waiting : Fate → Bool
 is_waiting still_open = true
 is_waiting has_ended = false
 is_waiting was_skipped = false
 
-abbrev pub is_ended : Mark → Bool
+abbrev pub is_ended : Fate → Bool
 is_ended still_open = false
 is_ended has_ended = true
 is_ended was_skipped = false
 
-abbrev pub is_skipped : Mark → Bool
+abbrev pub is_skipped : Fate → Bool
 is_skipped still_open = false
 is_skipped has_ended = false
 is_skipped was_skipped = true
 
 abbrev pub Item : Type 0
-Item = List ℕ × Mark
+Item = List ℕ × Fate
 
 abbrev pub AllAfter : List ℕ → List Item → Type 0
 AllAfter p [] = Unit {0}
@@ -54,7 +54,7 @@ outs_left at [] = []
 outs_left at (x ∷ xs) = if is_skipped x.1 then outs_left at xs else at x.0 ++ outs_left at xs
 
 -- those that have ended, with the outputs below them
-abbrev pub ended_in : Outputs → List Item → List Ending
+abbrev pub ended_in : Outputs → List Item → List EndedPath
 ended_in at [] = []
 ended_in at (x ∷ xs) = if is_ended x.1 then (x.0, at x.0) ∷ ended_in at xs else ended_in at xs
 

@@ -2,7 +2,7 @@
 use Rattle.std.specs.Prelude.{ℕ, Bool, nat_eq, true, false, not, ◌&&◌, ◌||◌, nat_le, if◌then◌else◌, List, [], ◌∷◌, ◌++◌, length}
 use lib.Pointwise.{pointwise}
 use Rattle.ap_paths.specs.Entries.{TreeEntry, split, done, skip, stop}
-use Rattle.ap_paths.specs.Merging.{Ending, ends_after, ends_from, found_before}
+use Rattle.ap_paths.specs.Merging.{EndedPath, ends_after, ends_from, found_before}
 use Rattle.ap_defs.specs.declared.paths.Progress.{Progress}
 use Rattle.ap_defs.specs.declared.paths.Progress.TheVariants.{Left, Finished, Stopped}
 
@@ -61,13 +61,13 @@ legal_from ps stopped [] = true
 legal_from ps stopped (e ∷ es) = may_enter ps stopped e && legal_from (open_after ps e) (stopped || is_stop e) es
 
 -- a path may be left out where so many answers have ended before it
-abbrev pub is_reached : List Ending → TreeEntry → Bool
+abbrev pub is_reached : List EndedPath → TreeEntry → Bool
 is_reached ends (split seat p ks) = true
 is_reached ends (done seat p os) = true
 is_reached ends (skip seat p n) = nat_le n (found_before p ends)
 is_reached ends (stop seat) = true
 
-abbrev pub are_reached : List Ending → List TreeEntry → Bool
+abbrev pub are_reached : List EndedPath → List TreeEntry → Bool
 are_reached ends [] = true
 are_reached ends (e ∷ es) = is_reached ends e && are_reached (ends_after ends e) es
 

@@ -6,21 +6,21 @@ use Rattle.ap_paths.specs.declared.limits.Limit.TheVariants as limits
 use Rattle.ap_paths.specs.Entries.{TreeEntry, split, done, skip, stop}
 
 -- the output is an answer
-abbrev pub is_found : NominalOut → Bool
-is_found (found p a) = true
-is_found (cut p) = false
-is_found (stuck p) = false
+abbrev pub is_answer_out : NominalOut → Bool
+is_answer_out (found p a) = true
+is_answer_out (cut p) = false
+is_answer_out (stuck p) = false
 
 -- how many answers are among the outputs
 abbrev pub found_in : List NominalOut → ℕ
 found_in [] = 0
-found_in (o ∷ os) = (if is_found o then 1 else 0) + found_in os
+found_in (o ∷ os) = (if is_answer_out o then 1 else 0) + found_in os
 
 -- the shortest beginning that has n answers, or all where there are fewer
 abbrev pub first_part : ℕ → List NominalOut → List NominalOut
 first_part zero os = []
 first_part (suc n) [] = []
-first_part (suc n) (o ∷ os) = o ∷ first_part (if is_found o then n else suc n) os
+first_part (suc n) (o ∷ os) = o ∷ first_part (if is_answer_out o then n else suc n) os
 
 -- what a limit takes of the outputs
 abbrev pub part : Limit → List NominalOut → List NominalOut

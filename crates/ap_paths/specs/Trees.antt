@@ -23,17 +23,17 @@ GoesOn c q [] = Unit {0}
 GoesOn c q (k ∷ ks) = IsChoice (c q) k × GoesOn c (q ++ k ∷ []) ks
 
 -- the path is in the tree: each of its entries is a choice
-abbrev pub InTree : Choices → List ℕ → Type 0
-InTree c p = GoesOn c [] p
+abbrev pub InChoiceTree : Choices → List ℕ → Type 0
+InChoiceTree c p = GoesOn c [] p
 
 -- the outputs below n choices of p from i on, in order
-abbrev pub joined : Outputs → List ℕ → ℕ → ℕ → List NominalOut
-joined at p i zero = []
-joined at p i (suc n) = at (p ++ i ∷ []) ++ joined at p (suc i) n
+abbrev pub joined_below : Outputs → List ℕ → ℕ → ℕ → List NominalOut
+joined_below at p i zero = []
+joined_below at p i (suc n) = at (p ++ i ∷ []) ++ joined_below at p (suc i) n
 
 -- what is below a choice is what is below each of its ways, in order
 abbrev pub IsTree : Choices → Outputs → Type 0
-IsTree c at = (p : List ℕ) (w : ℕ) → InTree c p → c p ≡ Some w → at p ≡ joined at p 1 w
+IsTree c at = (p : List ℕ) (w : ℕ) → InChoiceTree c p → c p ≡ Some w → at p ≡ joined_below at p 1 w
 
 -- how often x stands in a list
 abbrev pub times : ℕ → List ℕ → ℕ

@@ -31,11 +31,11 @@ impl Model for Endings {
 
     ghost coded = { coded_list (coded× (coded_list coded_ℕ) (coded_list o.the_row.coded)) };
 
-    ghost use Rattle.ap_paths.specs.Ends.{ends_in, AreBelow};
+    ghost use Rattle.ap_paths.specs.Ends.{ends_in, AreNumbersBelow};
 
     ghost view = { λ a. ends_in a.ends.entries };
 
-    ghost invariant = { λ a. AreBelow (length a.ends.entries) a.ends.entries };
+    ghost invariant = { λ a. AreNumbersBelow (length a.ends.entries) a.ends.entries };
 }
 
 impl Endings {

@@ -2,7 +2,7 @@
 
 ghost use Rattle.std.specs.Prelude.{◌≡◌, ◌+◌, ◌-◌, ◌^◌, ◌<◌, min, if◌then◌else◌, take};
 ghost use Rattle.ap_defs.specs.Answers.{out_of, outs_of};
-ghost use Rattle.ap_paths.specs.Limits.{is_found, found_in, first_part};
+ghost use Rattle.ap_paths.specs.Limits.{is_answer_out, found_in, first_part};
 ghost use Rattle.ap_paths.specs.Limits as limits;
 
 use ap_defs::paths::Out;
@@ -53,7 +53,7 @@ fn end_of(outs: &[Out], count: u64) -> usize
 /// How many answers are still wanted after this output.
 fn less_by(left: u64, out: &Out) -> u64
     requires { 0 < left }
-    ensures { result + (if is_found (out_of out.now) then 1 else 0) ≡ left }
+    ensures { result + (if is_answer_out (out_of out.now) then 1 else 0) ≡ left }
 {
     if is_answer(out) { left - 1 } else { left }
 }
@@ -71,7 +71,8 @@ pub fn answers_in(outs: &[Out]) -> u64
 
 /// The count with this output.
 fn more_by(count: u64, out: &Out) -> u64
-    ensures { result ≡ min (count + (if is_found (out_of out.now) then 1 else 0)) (2 ^ 64 - 1) }
+    ensures { result
+        ≡ min (count + (if is_answer_out (out_of out.now) then 1 else 0)) (2 ^ 64 - 1) }
 {
     if is_answer(out) {
         count.saturating_add(1)
@@ -82,7 +83,7 @@ fn more_by(count: u64, out: &Out) -> u64
 
 /// Whether an output is an answer.
 fn is_answer(out: &Out) -> bool
-    ensures { result ≡ is_found (out_of out.now) }
+    ensures { result ≡ is_answer_out (out_of out.now) }
 {
     match out {
         Out::Found(_path, _answer) => true,

@@ -3,7 +3,7 @@
 ghost use Rattle.std.specs.Prelude.{◌≡◌, ℕ, Option, List as list, IfOk};
 ghost use Rattle.ap_defs.specs.Answers.{NominalOut, outs_of};
 ghost use Rattle.ap_paths.specs.Entries.{Plan, visit_of};
-ghost use Rattle.ap_paths.specs.Trees.{InTree, IsTree, IsPlan};
+ghost use Rattle.ap_paths.specs.Trees.{InChoiceTree, IsTree, IsPlan};
 
 use ap_defs::memory::Memory;
 use ap_defs::paths::{Out, Path, Visit};
@@ -25,21 +25,21 @@ pub trait Tree: Sync {
 
     /// The number of choices at a path of the tree, or none where it ends without one.
     fn width(&self, alloc: Global, path: &Path) -> Result<Option<u32>, Memory>
-        requires { InTree (choices self.now) path.now }
+        requires { InChoiceTree (choices self.now) path.now }
         ensures { IfOk result (λ w. w ≡ choices self.now path.now) };
 
     /// The outputs below a path of the tree, in path order.
     fn outs(&self, alloc: Global, path: &Path) -> Result<Vec<Out>, Memory>
-        requires { InTree (choices self.now) path.now }
+        requires { InChoiceTree (choices self.now) path.now }
         ensures { IfOk result (λ v. outs_of v.items ≡ at self.now path.now) };
 
     /// The kids of a path that are worth a visit, only where it is at a choice, or the outputs
     /// below it. Each choice that is left out has no outputs below it.
     fn visit(&self, alloc: Global, path: &Path) -> Result<Visit, Memory>
-        requires { InTree (choices self.now) path.now }
+        requires { InChoiceTree (choices self.now) path.now }
         ensures { IfOk result (λ v. visit_of v ≡ plan self.now path.now) };
 
     ghost branches: { (t : Self) → IsTree (choices t) (at t) };
 
-    ghost planned: { (t : Self) (p : list ℕ) → InTree (choices t) p → IsPlan (choices t) (at t) p (plan t p) };
+    ghost planned: { (t : Self) (p : list ℕ) → InChoiceTree (choices t) p → IsPlan (choices t) (at t) p (plan t p) };
 }

@@ -15,7 +15,7 @@ use Rattle.ap_types.proofs.QuestionLemmas.{all_inhabited_grows}
 use Rattle.ap_types.proofs.RoundLemmas.{reached_closed, reached_more}
 use Rattle.ap_types.proofs.RuleLemmas.{constructors_next}
 use Rattle.ap_types.proofs.StillLemmas.{still_least}
-use Rattle.ap_types.specs.Statements.{AreOf}
+use Rattle.ap_types.specs.Statements.{AreOfFirst}
 use Rattle.ap_pick.specs.Choices.{AreChoices, IsChoiceFor, choice_in}
 use Rattle.ap_pick.specs.Picks.{data_bound, first_passing}
 use Rattle.ap_pick.specs.Rounds.{AreChoicesAfter, AreChoicesWithin, GoesRound, IsChoiceAfter, IsChoiceWithin, IsLookedAt, gives_choice}
@@ -259,7 +259,7 @@ still_choices cs r table h k = all_choices cs r table h
     (reached_closed all_inhabited all_inhabited_grows cs (reached all_inhabited cs r) (λ d e. sym (marks_after cs r table h d) ∙ marks_after cs (suc r) table k d ∙ e))
 
 -- and after as many rounds as there are data types
-pub are_of_bound : (cs : List NominalConstructor) (n : ℕ) → data_bound cs ≤ n → AreOf n cs
+pub are_of_bound : (cs : List NominalConstructor) (n : ℕ) → data_bound cs ≤ n → AreOfFirst n cs
 are_of_bound [] n h = tt
 are_of_bound (c ∷ cs) n h =
     let l = le-max_left (suc c.result) (data_bound cs) in

@@ -7,7 +7,7 @@ use Rattle.ap_types.specs.Rounds.{reached}
 use Rattle.ap_types.proofs.BooleanLemmas.{and_right}
 use Rattle.ap_types.proofs.QuestionLemmas.{all_inhabited_grows}
 use Rattle.ap_types.proofs.RoundLemmas.{reached_more}
-use Rattle.ap_pick.specs.Choices.{IsChoice}
+use Rattle.ap_pick.specs.Choices.{IsPickedChoice}
 use Rattle.ap_pick.specs.Picks.{first_passing, pick_application, pick_data}
 use Rattle.ap_pick.specs.Wants.{cost_application, cost_data}
 use Rattle.ap_pick.specs.declared.choices.Choice.{Choice}
@@ -31,7 +31,7 @@ module _ (cs : List NominalConstructor) (d : ℕ) where
     | inr (inr l) ↦ let no : true ≡ false = sym (reached_more all_inhabited all_inhabited_grows cs (suc s) r (omega (arith, l)) d f) ∙ a in cc
   ]
 
-  module _ (c : Choice) (h : IsChoice cs d c) where
+  module _ (c : Choice) (h : IsPickedChoice cs d c) where
     -- what is given by rounds is given by the choice, once the data type is found
     by_choice : {A : Type 0} (by : ℕ → A) (next : ℕ → A)
         → ((r : ℕ) → by (suc r) ≡ (if reached all_inhabited cs r d then by r else next r))

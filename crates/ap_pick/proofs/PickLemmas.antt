@@ -12,7 +12,7 @@ use Rattle.ap_types.specs.Inhabited.{all_inhabited, inhabited_if, inhabited_in}
 use Rattle.ap_types.specs.Rounds.{reached}
 use Rattle.ap_types.proofs.BooleanLemmas.{and_left, and_right}
 use Rattle.ap_types.proofs.StillLemmas.{inhabited_stands_still}
-use Rattle.ap_pick.specs.Picks.{Pick, applied, data_bound, first_passing, new_name, paired, pick_application, pick_arguments, pick_data, pick_type}
+use Rattle.ap_pick.specs.Picks.{Pick, constructor_applied, data_bound, first_passing, new_name, picked_pair, pick_application, pick_arguments, pick_data, pick_type}
 use Rattle.ap_pick.specs.StatementsOnPicks.{EachName, IsNewName, PicksAreTyped}
 use Rattle.ap_pick.proofs.ChoiceLemmas.{are_of_bound, none_passes}
 
@@ -71,7 +71,7 @@ module _ (cs : List NominalConstructor) (n : ℕ) where
   -- two parts, the one after the other
   good_pair : (v w x : Want) (ss : List ℕ) (a b : GroundTerm × List ℕ)
       → (IsTyped cs (λ y. None) (embedded a.0) v → IsTyped cs (λ y. None) (embedded b.0) w → IsTyped cs (λ y. None) (terms.pair (embedded a.0) (embedded b.0)) x)
-      → IsGood v ss a → IsGood w a.1 b → IsGood x ss (paired a.0 b)
+      → IsGood v ss a → IsGood w a.1 b → IsGood x ss (picked_pair a.0 b)
   good_pair v w x ss a b t h k =
       let longer_list : length ss ≤ length a.1 = subst (λ l. length ss ≤ length l) (sym h.extends) (longer ss h.added) in
       record {
@@ -162,7 +162,7 @@ module _ (cs : List NominalConstructor) (n : ℕ) where
           some_same y x g = cc
 
   application_good : (found : ℕ → Bool) (by : ℕ → Pick) → ((d : ℕ) → found d ≡ true → (ss : List ℕ) → IsGood (one (base d)) ss (by d ss))
-      → (d : ℕ) (x : ℕ × List NominalType) → Passes found 2 cs d x → (ss : List ℕ) → IsGood (one (base d)) ss (applied x.0 (pick_arguments by n x.1 ss))
+      → (d : ℕ) (x : ℕ × List NominalType) → Passes found 2 cs d x → (ss : List ℕ) → IsGood (one (base d)) ss (constructor_applied x.0 (pick_arguments by n x.1 ss))
   application_good found by h d x r ss =
       let a = arguments_good found by h x.1 r.inhabited ss in
       let number : x.0 ≡ suc (suc r.place) = let m = r.number in omega (arith, m) in

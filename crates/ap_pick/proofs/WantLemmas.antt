@@ -11,7 +11,7 @@ use Rattle.ap_defs.specs.Types.{NominalConstructor, NominalType, base, construct
 use Rattle.ap_defs.specs.Typing.{embedded}
 use Rattle.ap_types.specs.Inhabited.{all_inhabited}
 use Rattle.ap_types.specs.Rounds.{reached}
-use Rattle.ap_pick.specs.Choices.{IsChoice}
+use Rattle.ap_pick.specs.Choices.{IsPickedChoice}
 use Rattle.ap_pick.specs.Picks.{pick_arguments, pick_data, pick_type}
 use Rattle.ap_pick.specs.Wants.{IsInside, cost_arguments, cost_data, cost_type}
 use Rattle.ap_pick.specs.declared.choices.Choice.{Choice}
@@ -19,7 +19,7 @@ use Rattle.ap_pick.specs.declared.opening.Want.TheVariants as wants
 use Rattle.ap_pick.proofs.ChoiceLemmas.{constructor_at}
 use Rattle.ap_pick.proofs.DataLemmas.{arguments_inhabited, data_cost, picked_data, place_below}
 
-module _ (cs : List NominalConstructor) (d : ℕ) (c : Choice) (h : IsChoice cs d c) (r : ℕ) (e : reached all_inhabited cs r d ≡ true) where
+module _ (cs : List NominalConstructor) (d : ℕ) (c : Choice) (h : IsPickedChoice cs d c) (r : ℕ) (e : reached all_inhabited cs r d ≡ true) where
   pub data_inside : (n : ℕ) (ss : List ℕ) (ty : Bor Ty) → type_of ty.now ≡ base d → (args : Bor (List Ty)) → map type_of args.now ≡ h.chosen.args
       → IsInside cs n ss (wants.Type r ty) ss (wants.Arguments c.rounds args) (term_in (layers.App (c.place + 2)))
   data_inside n ss ty t args a = record {
@@ -37,7 +37,7 @@ module _ (cs : List NominalConstructor) (d : ℕ) (c : Choice) (h : IsChoice cs 
   }
 
 -- the constructor of a choice
-module _ (constructors : List Constructor) (d : ℕ) (c : Choice) (h : IsChoice (map constructor_of constructors) d c) where
+module _ (constructors : List Constructor) (d : ℕ) (c : Choice) (h : IsPickedChoice (map constructor_of constructors) d c) where
   pub choice_below : c.place < length constructors
   choice_below =
       let k = place_below (map constructor_of constructors) c.place h.chosen h.at in

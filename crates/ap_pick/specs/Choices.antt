@@ -7,7 +7,7 @@ use Rattle.ap_pick.specs.Picks.{first_passing}
 use Rattle.ap_pick.specs.declared.choices.Choice.{Choice}
 
 -- The data type is found in the round after so many others, and the constructor at the place is the first by which it is.
-pub record IsChoice (cs : List NominalConstructor) (d : ℕ) (c : Choice) : Type 0 where
+pub record IsPickedChoice (cs : List NominalConstructor) (d : ℕ) (c : Choice) : Type 0 where
   pub before : reached all_inhabited cs c.rounds d ≡ false
   pub found : reached all_inhabited cs (suc c.rounds) d ≡ true
   pub chosen : NominalConstructor
@@ -16,7 +16,7 @@ pub record IsChoice (cs : List NominalConstructor) (d : ℕ) (c : Choice) : Type
 
 -- the choice for a data type, and none where no round finds it
 abbrev pub IsChoiceFor : List NominalConstructor → ℕ → Option Choice → Type 0
-IsChoiceFor cs d (Some c) = IsChoice cs d c
+IsChoiceFor cs d (Some c) = IsPickedChoice cs d c
 IsChoiceFor cs d None = (r : ℕ) → reached all_inhabited cs r d ≡ false
 
 -- the choice in a table for a data type

@@ -15,11 +15,11 @@ Pick = List ℕ → GroundTerm × List ℕ
 abbrev pub new_name : ℕ → List ℕ → ℕ → Name
 new_name n sorts s = record { sort = s; num = n + length sorts }
 
-abbrev pub paired : GroundTerm → GroundTerm × List ℕ → GroundTerm × List ℕ
-paired g b = (terms.pair g b.0, b.1)
+abbrev pub picked_pair : GroundTerm → GroundTerm × List ℕ → GroundTerm × List ℕ
+picked_pair g b = (terms.pair g b.0, b.1)
 
-abbrev pub applied : ℕ → GroundTerm × List ℕ → GroundTerm × List ℕ
-applied f a = (terms.app f a.0, a.1)
+abbrev pub constructor_applied : ℕ → GroundTerm × List ℕ → GroundTerm × List ℕ
+constructor_applied f a = (terms.app f a.0, a.1)
 
 abbrev pub abstracted : Name → GroundTerm × List ℕ → GroundTerm × List ℕ
 abstracted c a = (terms.abs c a.0, a.1)
@@ -29,7 +29,7 @@ abbrev pub pick_type : (ℕ → Pick) → ℕ → NominalType → Pick
 pick_type by n unit ss = (terms.unit, ss)
 pick_type by n (names s) ss = (terms.name (new_name n ss s), ss ++ s ∷ [])
 pick_type by n (base d) ss = by d ss
-pick_type by n (pair t u) ss = let a = pick_type by n t ss in paired a.0 (pick_type by n u a.1)
+pick_type by n (pair t u) ss = let a = pick_type by n t ss in picked_pair a.0 (pick_type by n u a.1)
 pick_type by n (list t) ss = (terms.app 0 terms.unit, ss)
 pick_type by n (abs s t) ss = abstracted (new_name n ss s) (pick_type by n t (ss ++ s ∷ []))
 
@@ -37,7 +37,7 @@ pick_type by n (abs s t) ss = abstracted (new_name n ss s) (pick_type by n t (ss
 abbrev pub pick_arguments : (ℕ → Pick) → ℕ → List NominalType → Pick
 pick_arguments by n [] ss = (terms.unit, ss)
 pick_arguments by n (t ∷ []) ss = pick_type by n t ss
-pick_arguments by n (t ∷ u ∷ us) ss = let a = pick_type by n t ss in paired a.0 (pick_arguments by n (u ∷ us) a.1)
+pick_arguments by n (t ∷ u ∷ us) ss = let a = pick_type by n t ss in picked_pair a.0 (pick_arguments by n (u ∷ us) a.1)
 
 -- The number and the arguments of the first constructor of a data type whose arguments are inhabited by data types that are given; the
 -- first one in the list has the number f.
@@ -48,7 +48,7 @@ first_passing found f (c ∷ cs) d =
 
 abbrev pub pick_application : (ℕ → Pick) → ℕ → Option (ℕ × List NominalType) → Pick
 pick_application by n None ss = (terms.unit, ss)
-pick_application by n (Some c) ss = applied c.0 (pick_arguments by n c.1 ss)
+pick_application by n (Some c) ss = constructor_applied c.0 (pick_arguments by n c.1 ss)
 
 -- What is picked for a data type, of those that so many rounds find to be inhabited: an application of the first constructor whose
 -- arguments are inhabited by data types of rounds before its own.

@@ -3,14 +3,14 @@ use Rattle.std.specs.Prelude.{◌≡◌, ◌+◌, ◌<◌, ◌⊎◌, ℕ, Bool,
 use Rattle.ap_defs.specs.Types.{NominalConstructor}
 use Rattle.ap_types.specs.Inhabited.{all_inhabited}
 use Rattle.ap_types.specs.Rounds.{reached}
-use Rattle.ap_pick.specs.Choices.{IsChoice, choice_in}
+use Rattle.ap_pick.specs.Choices.{IsPickedChoice, choice_in}
 use Rattle.ap_pick.specs.Picks.{first_passing}
 use Rattle.ap_pick.specs.declared.choices.Choice.{Choice}
 
 -- after so many rounds
 abbrev pub IsChoiceAfter : List NominalConstructor → ℕ → ℕ → Option Choice → Type 0
 IsChoiceAfter cs r d None = reached all_inhabited cs r d ≡ false
-IsChoiceAfter cs r d (Some c) = IsChoice cs d c × (c.rounds < r)
+IsChoiceAfter cs r d (Some c) = IsPickedChoice cs d c × (c.rounds < r)
 
 abbrev pub AreChoicesAfter : List NominalConstructor → ℕ → List (Option Choice) → Type 0
 AreChoicesAfter cs r table = (d : ℕ) → IsChoiceAfter cs r d (choice_in table d)
@@ -26,7 +26,7 @@ pub record IsNewChoice (cs : List NominalConstructor) (r : ℕ) (so_far : List N
 -- within the round after r others, in which so many constructors were looked at
 abbrev pub IsChoiceWithin : List NominalConstructor → ℕ → List NominalConstructor → ℕ → Option Choice → Type 0
 IsChoiceWithin cs r so_far d None = (reached all_inhabited cs r d ≡ false) × (first_passing (reached all_inhabited cs r) 2 so_far d ≡ None)
-IsChoiceWithin cs r so_far d (Some c) = (IsChoice cs d c × (c.rounds < r)) ⊎ IsNewChoice cs r so_far d c
+IsChoiceWithin cs r so_far d (Some c) = (IsPickedChoice cs d c × (c.rounds < r)) ⊎ IsNewChoice cs r so_far d c
 
 abbrev pub AreChoicesWithin : List NominalConstructor → ℕ → List NominalConstructor → List (Option Choice) → Type 0
 AreChoicesWithin cs r so_far table = (d : ℕ) → IsChoiceWithin cs r so_far d (choice_in table d)

@@ -23,7 +23,7 @@ use Rattle.ap_defs.specs.Limits.{size_limit}
 use Rattle.ap_defs.specs.Renaming.{local_names}
 use Rattle.ap_defs.specs.Resolution.{kinds_of}
 use Rattle.ap_types.specs.Holding.{MayHold}
-use Rattle.ap_theory.specs.Contexts.{Context, Fresh, listed}
+use Rattle.ap_theory.specs.Contexts.{Context, Fresh, listed_context}
 use Rattle.ap_program.specs.Typed.{IsTypedProgram}
 use Rattle.ap_program.specs.CarryingOut.{carried_out, map_clause}
 
@@ -46,7 +46,7 @@ CannotHold cs kinds s x = (t : NominalType) × (kind_at kinds x.num ≡ Some (ty
 
 -- what is known where a clause is used with this free name: the conditions that its body states, and those that the types give
 abbrev pub known_in : List NominalConstructor → NominalClause → Name → Context
-known_in cs c a b x = listed (stated_conditions a c.body) b x ⊎ CannotHold cs (kinds_of c.locals) b.sort x
+known_in cs c a b x = listed_context (stated_conditions a c.body) b x ⊎ CannotHold cs (kinds_of c.locals) b.sort x
 
 abbrev pub FreshForEach : Context → Name → List NominalTerm → Type 0
 FreshForEach known a [] = Unit {0}

@@ -24,7 +24,7 @@ use Rattle.ap_ground.specs.Environments.{AgreeOn}
 use Rattle.ap_ground.proofs.FreeIdentifierLemmas.{proofs_see_free}
 use Rattle.ap_property.specs.Fitting.{FitsLocals}
 use Rattle.ap_property.specs.Properties.{conclusion, conclusion_query, hypothesis_query}
-use Rattle.ap_property.specs.PutIn.{put_in, with_terms}
+use Rattle.ap_property.specs.PutIn.{query_put_in, with_terms}
 use Rattle.ap_property.specs.Stated.{Instance, stated}
 use Rattle.ap_property.specs.StatementsOnProperties.{AnsweredConclusionsAreDerivable}
 use Rattle.ap_property.proofs.CounterLemmas.{each_weaker}
@@ -118,7 +118,7 @@ module _ (p : NominalProgram) (q : NominalQuery) (i : Instance) (fits : FitsLoca
   after = environment q.locals (local_names 0 q.locals) i.terms
 
   -- what is derivable with terms put in is derivable for them
-  pub derivable_without : (n : ℕ) → IsDerivable p (put_in q i) gs n → IsDerivable p (conclusion_query q) i.terms n
+  pub derivable_without : (n : ℕ) → IsDerivable p (query_put_in q i) gs n → IsDerivable p (conclusion_query q) i.terms n
   derivable_without n (d, valid, low) =
       let xs = local_vars 0 q.locals in
       let goal = conclusion q.goal in
@@ -141,6 +141,6 @@ answered_derivable p typed q t depth =
     each_weaker _ _ (λ a h.
     let i = stated cs q.locals a in
     let asked = put_in_typed p.signature q i parts.1 h in
-    each_weaker _ _ (λ b d. (h.types, derivable_without p q i h (stated cs (put_in q i).locals b).terms depth d.1))
-    (query_outs p.clauses depth (put_in q i)) (stated_instances_derivable p typed (put_in q i) asked depth))
+    each_weaker _ _ (λ b d. (h.types, derivable_without p q i h (stated cs (query_put_in q i).locals b).terms depth d.1))
+    (query_outs p.clauses depth (query_put_in q i)) (stated_instances_derivable p typed (query_put_in q i) asked depth))
     (query_outs p.clauses depth (hypothesis_query q)) (stated_instances_fit p typed (hypothesis_query q) parts.0 depth)

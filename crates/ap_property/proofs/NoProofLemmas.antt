@@ -35,7 +35,7 @@ use Rattle.ap_complete.specs.Restriction.{KeepsRestriction}
 use Rattle.ap_complete.proofs.CoveringLemmas.{proofs_covered}
 use Rattle.ap_property.specs.Fitting.{FitsLocals}
 use Rattle.ap_property.specs.Properties.{conclusion, conclusion_query}
-use Rattle.ap_property.specs.PutIn.{put_in, with_terms}
+use Rattle.ap_property.specs.PutIn.{query_put_in, with_terms}
 use Rattle.ap_property.specs.Stated.{Instance}
 use Rattle.ap_property.proofs.LocalLemmas.{kinds_with, vars_with, with_names}
 use Rattle.ap_property.proofs.PutInLemmas.{put_in_typed}
@@ -159,7 +159,7 @@ none_among o [] e h = h
 none_among o (x ∷ os) e h = cc
 
 module _ (p : NominalProgram) (kept : KeepsRestriction p) (q : NominalQuery) (typed : IsTypedQuery term_form p.signature (conclusion_query q)) (i : Instance)
-    (fits : FitsLocals p.signature.constructors q.locals i) (depth : ℕ) (none : query_outs p.clauses depth (put_in q i) ≡ []) where
+    (fits : FitsLocals p.signature.constructors q.locals i) (depth : ℕ) (none : query_outs p.clauses depth (query_put_in q i) ≡ []) where
   abbrev locals : List NominalLocal
   locals = with_names q.locals i.sorts
 
@@ -189,8 +189,8 @@ module _ (p : NominalProgram) (kept : KeepsRestriction p) (q : NominalQuery) (ty
       let types = subst (λ ks. AreOfTypes cs ks xs i.terms) (sym (kinds_with q.locals i.sorts)) (types_front cs (kinds_of q.locals) (map types.name i.sorts) xs i.terms fits.types) in
       let all_types = subst (λ ys. AreOfTypes cs (kinds_of locals) ys i.terms) (sym (vars_with 0 q.locals i.sorts)) types in
       let uncut = subst HasNoCutOut (sym none) tt in
-      let nothing : query_outs p.clauses (depth + n) (put_in q i) ≡ [] = query_deeper p.clauses depth (depth + n) (put_in q i) (omega arith) uncut ∙ none in
-      elim (proofs_covered p kept (put_in q i) (put_in_typed p.signature q i typed fits) (depth + n) i.terms all_types proof whole fewer) [
+      let nothing : query_outs p.clauses (depth + n) (query_put_in q i) ≡ [] = query_deeper p.clauses depth (depth + n) (query_put_in q i) (omega arith) uncut ∙ none in
+      elim (proofs_covered p kept (query_put_in q i) (put_in_typed p.signature q i typed fits) (depth + n) i.terms all_types proof whole fewer) [
         | answered a m j ↦ none_among _ _ nothing m
         | is_stuck l m j ↦ none_among _ _ nothing m
       ]

@@ -20,7 +20,7 @@ use Rattle.ap_search.proofs.TypingLemmas.{kind_at_front, typed_front}
 use Rattle.ap_pick.specs.StatementsOnPicks.{EachName}
 use Rattle.ap_property.specs.Fitting.{FitsLocals, HaveKnownNames, IsKnown}
 use Rattle.ap_property.specs.Properties.{conclusion, conclusion_query}
-use Rattle.ap_property.specs.PutIn.{put_in, with_terms}
+use Rattle.ap_property.specs.PutIn.{query_put_in, with_terms}
 use Rattle.ap_property.specs.Stated.{Instance}
 use Rattle.ap_property.proofs.LocalLemmas.{AreUnmarked, all_marked_with, inhabited_with, kinds_with, known_name, known_unmarked, local_vars_unmarked, marked_without, with_names}
 
@@ -117,7 +117,7 @@ module _ (cs : List NominalConstructor) (locals : List NominalLocal) (sorts : Li
 
 -- the query with terms that fit it put in
 pub put_in_typed : (sig : NominalSignature) (q : NominalQuery) (i : Instance) → IsTypedQuery term_form sig (conclusion_query q) → FitsLocals sig.constructors q.locals i
-    → IsTypedQuery term_form sig (put_in q i)
+    → IsTypedQuery term_form sig (query_put_in q i)
 put_in_typed sig q i h f =
     let cs = sig.constructors in
     let xs = local_vars 0 q.locals in

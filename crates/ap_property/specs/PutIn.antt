@@ -19,8 +19,8 @@ abbrev pub name_local : ℕ → NominalLocal
 name_local s = record { kind = name s; bound = false; text = [] }
 
 -- the query of the conclusion, in which each free variable is equal to a term
-abbrev pub put_in : NominalQuery → Instance → NominalQuery
-put_in q i = record q {
+abbrev pub query_put_in : NominalQuery → Instance → NominalQuery
+query_put_in q i = record q {
   goal = with_terms (local_vars 0 q.locals) i.terms (conclusion q.goal);
   locals = q.locals ++ map name_local i.sorts;
 }

@@ -12,7 +12,7 @@ use Rattle.ap_soundness.specs.FoundStates.{EachAnswer}
 use Rattle.ap_complete.specs.Restriction.{KeepsRestriction}
 use Rattle.ap_property.specs.Fitting.{FitsLocals}
 use Rattle.ap_property.specs.Properties.{conclusion_query, hypothesis_query}
-use Rattle.ap_property.specs.PutIn.{put_in}
+use Rattle.ap_property.specs.PutIn.{query_put_in}
 use Rattle.ap_property.specs.Stated.{stated}
 
 -- the hypothesis and the conclusion of a typed query are typed
@@ -43,12 +43,12 @@ StatedInstancesAreDerivable = (p : NominalProgram) → IsTypedProgram p → (q :
 -- where the conclusion is put in a typed query's answers, it is typed
 abbrev pub ConclusionsAreTyped : Type 0
 ConclusionsAreTyped = (p : NominalProgram) → IsTypedProgram p → (q : NominalQuery) → IsTypedQuery term_form p.signature q → (depth : ℕ)
-    → EachAnswer (λ a. IsTypedQuery term_form p.signature (put_in q (stated p.signature.constructors q.locals a))) (query_outs p.clauses depth (hypothesis_query q))
+    → EachAnswer (λ a. IsTypedQuery term_form p.signature (query_put_in q (stated p.signature.constructors q.locals a))) (query_outs p.clauses depth (hypothesis_query q))
 
 -- where it then has no output at a depth, not even a cut, it has no ground proof under the stated instance, of any height
 abbrev pub CountersHaveNoProof : Type 0
 CountersHaveNoProof = (p : NominalProgram) → KeepsRestriction p → (q : NominalQuery) → IsTypedQuery term_form p.signature q → (depth : ℕ)
-    → EachAnswer (λ a. query_outs p.clauses depth (put_in q (stated p.signature.constructors q.locals a)) ≡ []
+    → EachAnswer (λ a. query_outs p.clauses depth (query_put_in q (stated p.signature.constructors q.locals a)) ≡ []
     → (height : ℕ) → IsDerivable p (conclusion_query q) (stated p.signature.constructors q.locals a).terms height → ⊥)
     (query_outs p.clauses depth (hypothesis_query q))
 
@@ -56,5 +56,5 @@ CountersHaveNoProof = (p : NominalProgram) → KeepsRestriction p → (q : Nomin
 abbrev pub AnsweredConclusionsAreDerivable : Type 0
 AnsweredConclusionsAreDerivable = (p : NominalProgram) → IsTypedProgram p → (q : NominalQuery) → IsTypedQuery term_form p.signature q → (depth : ℕ)
     → EachAnswer (λ a. EachAnswer (λ b. IsTypedDerivable p (conclusion_query q) depth (stated p.signature.constructors q.locals a).terms)
-    (query_outs p.clauses depth (put_in q (stated p.signature.constructors q.locals a))))
+    (query_outs p.clauses depth (query_put_in q (stated p.signature.constructors q.locals a))))
     (query_outs p.clauses depth (hypothesis_query q))

@@ -17,7 +17,7 @@ use Rattle.ap_backchain.specs.declared.problem.Problem.{Problem}
 use Rattle.ap_backchain.specs.declared.run.Paths.{Paths}
 use Rattle.ap_paths.specs.Entries as entries
 use Rattle.ap_paths.specs.Entries.{Plan}
-use Rattle.ap_replay.specs.ProblemTrees.{bound_at, choices_below, choices_below_of, choices_of, is_shared, items_in, kept_of, kept_outs, kids_of, outs_of_query, problem_choices, problem_kept, problem_plan, query_in, shared_out}
+use Rattle.ap_replay.specs.ProblemTrees.{bound_at, choices_below, choices_below_of, choices_of, is_shared, kid_numbers, kept_of, kept_outs, node_kids, outs_of_asked, problem_choices, problem_kept, problem_plan, query_in, shared_out}
 
 there_is : (qs : List NominalQuery) (k : ℕ) → k < length qs → (q : NominalQuery) × (slice_get qs k ≡ Some q)
 there_is [] k h = absurd (omega arith)
@@ -49,7 +49,7 @@ module _ (p : Problem) (d : Descent) (w : Option ℕ) (k : ℕ) (h : HasQuery p)
 pub outs_there : (paths : Paths) (p : Problem) (os : List NominalOut) (path : List ℕ) → HasQuery p
     → ((q : NominalQuery) → slice_get (queries_in p) (p.query - 1) ≡ Some q → os ≡ map (kept_out paths) (outs_at (clauses_in p) p.depth q path)) → os ≡ kept_outs paths p path
 outs_there paths p os path h is =
-    let asked = its_query p h in is asked.0 asked.1 ∙ sym (ap (λ o. map (kept_out paths) (outs_of_query (clauses_in p) p.depth o path)) asked.1)
+    let asked = its_query p h in is asked.0 asked.1 ∙ sym (ap (λ o. map (kept_out paths) (outs_of_asked (clauses_in p) p.depth o path)) asked.1)
 
 -- The plan at the path of a branch, where a visit answers its kids or the outputs.
 abbrev pub ExactNode : Branch → Node → Type 0
@@ -87,7 +87,7 @@ module _ (paths : Paths) (p : Problem) (q : NominalQuery) (asked : query_in p �
   few_outs : choices_below p path ≤ bound_at path → entries.outs (kept_outs paths p path) ≡ problem_plan paths p path
   few_outs few = few_planned (nat_lt (bound_at path) (choices_below p path)) (le-ltb (bound_at path) (choices_below p path) few)
 
-  many_kids : (n : Node) (ks : List ℕ) → IsNodeAt (clauses_in p) p.depth q path n → kids_of n ≡ Some ks → bound_at path < choices_below p path → entries.kids ks ≡ problem_plan paths p path
+  many_kids : (n : Node) (ks : List ℕ) → IsNodeAt (clauses_in p) p.depth q path n → node_kids n ≡ Some ks → bound_at path < choices_below p path → entries.kids ks ≡ problem_plan paths p path
   many_kids (nodes.Choice w kept) ks at h many =
       let same : ks ≡ kept = cc in
       let yes : nat_lt (bound_at path) (choices_below p path) ≡ true = lt-ltb (bound_at path) (choices_below p path) many in
@@ -97,7 +97,7 @@ module _ (paths : Paths) (p : Problem) (q : NominalQuery) (asked : query_in p �
   many_kids nodes.Stuck ks at h many = absurd cc
   many_kids nodes.Failed ks at h many = absurd cc
 
-  no_kids_at : (n : Node) → IsNodeAt (clauses_in p) p.depth q path n → kids_of n ≡ None → entries.outs (kept_outs paths p path) ≡ problem_plan paths p path
+  no_kids_at : (n : Node) → IsNodeAt (clauses_in p) p.depth q path n → node_kids n ≡ None → entries.outs (kept_outs paths p path) ≡ problem_plan paths p path
   no_kids_at (nodes.Choice w kept) at h = absurd cc
   no_kids_at nodes.Answer at h = not_choosing (is_shared p path) at.0
   no_kids_at nodes.Cut at h = not_choosing (is_shared p path) at.0
@@ -122,8 +122,8 @@ module _ (paths : Paths) (p : Problem) (b : Branch) (n : Node) (path : List ℕ)
   outs_planned os are planned =
       ap entries.outs (outs_there paths p os path h (λ q k. are q k ∙ ap (λ x. map (kept_out paths) (outs_at (clauses_in p) p.depth q x)) same)) ∙ planned
 
-  pub planned_end : {Z : Type 0} (o : Option (Vec ℕ Z)) (os : List NominalOut) → o ≡ None → items_in o ≡ kids_of n → AreBelow os → entries.outs os ≡ problem_plan paths p path
-  planned_end o os e k are = outs_planned os are (no_kids_at paths p asked.0 asked.1 path n node_there (sym k ∙ ap items_in e))
+  pub planned_end : {Z : Type 0} (o : Option (Vec ℕ Z)) (os : List NominalOut) → o ≡ None → kid_numbers o ≡ node_kids n → AreBelow os → entries.outs os ≡ problem_plan paths p path
+  planned_end o os e k are = outs_planned os are (no_kids_at paths p asked.0 asked.1 path n node_there (sym k ∙ ap kid_numbers e))
 
   pub planned_few : (os : List NominalOut) → AreBelow os
       → ((q : NominalQuery) → slice_get (queries_in p) (p.query - 1) ≡ Some q → choices_at (clauses_in p) p.depth q (path_of_branch b) ≤ bound_at path)
@@ -133,9 +133,9 @@ module _ (paths : Paths) (p : Problem) (b : Branch) (n : Node) (path : List ℕ)
       (few_outs paths p asked.0 asked.1 path
       (subst (λ (c : ℕ). c ≤ bound_at path) (ap (choices_at (clauses_in p) p.depth asked.0) same ∙ sym (below_is paths p asked.0 asked.1 path)) (few asked.0 asked.1)))
 
-  pub planned_many : {Z : Type 0} (o : Option (Vec ℕ Z)) (v : Vec ℕ Z) → o ≡ Some v → items_in o ≡ kids_of n
+  pub planned_many : {Z : Type 0} (o : Option (Vec ℕ Z)) (v : Vec ℕ Z) → o ≡ Some v → kid_numbers o ≡ node_kids n
       → ((q : NominalQuery) → slice_get (queries_in p) (p.query - 1) ≡ Some q → bound_at path < choices_at (clauses_in p) p.depth q (path_of_branch b))
       → entries.kids v.items ≡ problem_plan paths p path
   planned_many o v e k many =
-      many_kids paths p asked.0 asked.1 path n v.items node_there (sym k ∙ ap items_in e)
+      many_kids paths p asked.0 asked.1 path n v.items node_there (sym k ∙ ap kid_numbers e)
       (subst (λ (c : ℕ). bound_at path < c) (ap (choices_at (clauses_in p) p.depth asked.0) same ∙ sym (below_is paths p asked.0 asked.1 path)) (many asked.0 asked.1))

@@ -25,9 +25,9 @@ abbrev pub kept_of : Clauses → ℕ → Option NominalQuery → List ℕ → Op
 kept_of program d None path = None
 kept_of program d (Some q) path = query_kept program d q path
 
-abbrev pub outs_of_query : Clauses → ℕ → Option NominalQuery → List ℕ → List NominalOut
-outs_of_query program d None path = []
-outs_of_query program d (Some q) path = outs_at program d q path
+abbrev pub outs_of_asked : Clauses → ℕ → Option NominalQuery → List ℕ → List NominalOut
+outs_of_asked program d None path = []
+outs_of_asked program d (Some q) path = outs_at program d q path
 
 -- among how many the search of the problem chooses at a path, where it does
 abbrev pub problem_choices : Problem → List ℕ → Option ℕ
@@ -39,7 +39,7 @@ problem_kept p = kept_of (clauses_in p) p.depth (query_in p)
 
 -- the outputs of the problem below a path
 abbrev pub problem_outs : Problem → List ℕ → List NominalOut
-problem_outs p = outs_of_query (clauses_in p) p.depth (query_in p)
+problem_outs p = outs_of_asked (clauses_in p) p.depth (query_in p)
 
 -- with their paths or without
 abbrev pub kept_outs : Paths → Problem → List ℕ → List NominalOut
@@ -77,10 +77,10 @@ problem_plan paths p path =
     if is_shared p path then shared_out (problem_kept p path) (kept_outs paths p path) else entries.outs (kept_outs paths p path)
 
 -- the kids of a branch, where it is at a choice
-abbrev pub kids_of : Node → Option (List ℕ)
-kids_of (nodes.Choice w kept) = Some kept
-kids_of _ = None
+abbrev pub node_kids : Node → Option (List ℕ)
+node_kids (nodes.Choice w kept) = Some kept
+node_kids _ = None
 
-abbrev pub items_in : {Z : Type 0} → Option (Vec ℕ Z) → Option (List ℕ)
-items_in None = None
-items_in (Some v) = Some v.items
+abbrev pub kid_numbers : {Z : Type 0} → Option (Vec ℕ Z) → Option (List ℕ)
+kid_numbers None = None
+kid_numbers (Some v) = Some v.items

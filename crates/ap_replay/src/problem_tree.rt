@@ -4,7 +4,7 @@ ghost use Rattle.std.specs.Prelude.{◌≡◌, IfOk};
 ghost use Rattle.ap_backchain.specs.Branches.{IsBranchOf, path_of_branch};
 ghost use Rattle.ap_backchain.specs.Problems.{HasQuery};
 ghost use Rattle.ap_paths.specs.Entries.{visit_of};
-ghost use Rattle.ap_replay.specs.ProblemTrees.{bound_at, items_in, kids_of, problem_plan};
+ghost use Rattle.ap_replay.specs.ProblemTrees.{bound_at, kid_numbers, node_kids, problem_plan};
 
 use crate::replay::branch_at;
 use ap_backchain::branch::Branch;
@@ -28,7 +28,7 @@ pub struct ProblemTree<'a> {
 
 /// The kids of a branch, if it is at a choice.
 fn kids_at(alloc: Global, node: &Node) -> Result<Option<Vec<u32>>, Memory>
-    ensures { IfOk result (λ o. items_in o ≡ kids_of node.now) }
+    ensures { IfOk result (λ o. kid_numbers o ≡ node_kids node.now) }
 {
     match node {
         Node::Choice(_, kept) => Ok(Some(kept.items().to_vec(alloc)?)),

@@ -1,7 +1,7 @@
 //! Branches at paths.
 
 ghost use Rattle.std.specs.Prelude.{◌≡◌, [], ◌∷◌, ◌++◌, true, IfOk, IsErrOf};
-ghost use Rattle.ap_paths.specs.Trees.{InTree, IsChoice};
+ghost use Rattle.ap_paths.specs.Trees.{InChoiceTree, IsChoice};
 ghost use Rattle.ap_backchain.specs.Branches.{IsBranchOf, IsDescentOf, path_of_branch, path_of_descent};
 ghost use Rattle.ap_backchain.specs.Problems.{HasQuery};
 ghost use Rattle.ap_replay.specs.ProblemTrees.{problem_choices};
@@ -56,9 +56,9 @@ pub fn at<'a>(alloc: Global, p: &Problem<'a>, path: &Path) -> Result<Branch<'a>,
     requires { HasQuery p.now }
     ensures of { IfOk result (λ b. IsBranchOf p.now b) }
     ensures path { IfOk result (λ b. path_of_branch b ≡ path.now) }
-    ensures there { IfOk result (λ b. InTree (problem_choices p.now) path.now) }
+    ensures there { IfOk result (λ b. InChoiceTree (problem_choices p.now) path.now) }
     ensures refused { IsErrOf result ReplayError.NotABranch →
-        InTree (problem_choices p.now) path.now → ⊥ }
+        InChoiceTree (problem_choices p.now) path.now → ⊥ }
 {
     let choices = path.choices();
     let mut descent = Descent::root(alloc, p)?;
@@ -71,7 +71,7 @@ pub fn at<'a>(alloc: Global, p: &Problem<'a>, path: &Path) -> Result<Branch<'a>,
 /// The branch of a path that the search has.
 pub fn branch_at<'a>(alloc: Global, p: &Problem<'a>, path: &Path) -> Result<Branch<'a>, Memory>
     requires query { HasQuery p.now }
-    requires there { InTree (problem_choices p.now) path.now }
+    requires there { InChoiceTree (problem_choices p.now) path.now }
     ensures of { IfOk result (λ b. IsBranchOf p.now b) }
     ensures path { IfOk result (λ b. path_of_branch b ≡ path.now) }
 {

@@ -4,7 +4,7 @@ use Rattle.ap_defs.specs.Answers.{NominalAnswer, NominalOut, cut, found, stuck}
 use Rattle.ap_backchain.specs.Ends.{kept_out}
 use Rattle.ap_backchain.specs.declared.run.Paths.{Paths}
 use Rattle.ap_backchain.specs.declared.run.Paths.TheVariants as variants
-use Rattle.ap_paths.specs.Limits.{IsWanting, first_part, found_in, is_found, part}
+use Rattle.ap_paths.specs.Limits.{IsWanting, first_part, found_in, is_answer_out, part}
 use Rattle.ap_paths.specs.declared.limits.Limit.{Limit}
 use Rattle.ap_paths.specs.declared.limits.Limit.TheVariants as limits
 use Rattle.ap_soundness.specs.FoundStates.{EachAnswer}
@@ -28,7 +28,7 @@ first_whole : (n : ℕ) (os : List NominalOut) → found_in (first_part n os) < 
 first_whole zero os l = absurd (omega arith)
 first_whole (suc n) [] l = refl
 first_whole (suc n) (o ∷ os) l =
-    let m = if is_found o then n else suc n in ap (λ xs. o ∷ xs) (first_whole m os (fewer (is_found o) n (found_in (first_part m os)) l))
+    let m = if is_answer_out o then n else suc n in ap (λ xs. o ∷ xs) (first_whole m os (fewer (is_answer_out o) n (found_in (first_part m os)) l))
 
 -- where fewer answers are there than are wanted, these are all outputs
 pub part_whole : (l : Limit) (os : List NominalOut) → IsWanting l (found_in (part l os)) → part l os ≡ os
@@ -36,7 +36,7 @@ part_whole limits.All os h = refl
 part_whole (limits.First n) os h = first_whole n os h
 
 -- without its path it is an answer as before
-found_kept : (paths : Paths) (o : NominalOut) → is_found (kept_out paths o) ≡ is_found o
+found_kept : (paths : Paths) (o : NominalOut) → is_answer_out (kept_out paths o) ≡ is_answer_out o
 found_kept variants.Kept o = refl
 found_kept variants.Left (found p a) = refl
 found_kept variants.Left (cut p) = refl
@@ -47,7 +47,7 @@ first_kept paths zero os = refl
 first_kept paths (suc n) [] = refl
 first_kept paths (suc n) (o ∷ os) =
     ap (λ b. kept_out paths o ∷ first_part (if b then n else suc n) (map (kept_out paths) os)) (found_kept paths o)
-    ∙ ap (λ xs. kept_out paths o ∷ xs) (first_kept paths (if is_found o then n else suc n) os)
+    ∙ ap (λ xs. kept_out paths o ∷ xs) (first_kept paths (if is_answer_out o then n else suc n) os)
 
 -- what is wanted of outputs without their paths is what is wanted of the outputs, without their paths
 pub part_kept : (paths : Paths) (l : Limit) (os : List NominalOut) → part l (map (kept_out paths) os) ≡ map (kept_out paths) (part l os)

@@ -1,7 +1,7 @@
 -- The report of a text's first fault: one line.
 use Rattle.std.specs.Prelude.{ℕ, List, ◌++◌, codes}
 use Rattle.std.specs.Fmt.{decimal}
-use Rattle.ap_defs.specs.FaultKinds.{syntax_number, syntax_word, type_number, type_word, name_number, name_word}
+use Rattle.ap_defs.specs.FaultKinds.{syntax_number, syntax_word, type_number, type_word, name_number, name_kind_word}
 use Rattle.ap_defs.specs.declared.faults.Place.{Place}
 use Rattle.ap_defs.specs.declared.faults.Fault.{Fault}
 use Rattle.ap_defs.specs.declared.faults.Fault.TheVariants as faults
@@ -19,6 +19,6 @@ abbrev pub fault_report : Fault → Report
 fault_report (faults.Syntax f) = record { bytes = fault_line (codes "syntax") f.place (syntax_number f.kind) (syntax_word f.kind); status = status.Syntax }
 fault_report (faults.Types f) = record { bytes = fault_line (codes "type") f.place (type_number f.kind) (type_word f.kind); status = status.Types }
 fault_report (faults.Names f) = record {
-  bytes = fault_line (codes "name") f.place (name_number f.kind) (name_word f.kind ++ (codes ", name " ++ f.name));
+  bytes = fault_line (codes "name") f.place (name_number f.kind) (name_kind_word f.kind ++ (codes ", name " ++ f.name));
   status = status.Names;
 }

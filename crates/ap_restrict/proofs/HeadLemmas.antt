@@ -11,9 +11,9 @@ use Rattle.ap_defs.specs.Goals.{NominalGoal}
 use Rattle.ap_defs.specs.Answers.{kind_at}
 use Rattle.ap_defs.specs.Resolution.{kinds_of}
 use Rattle.ap_types.specs.declared.holding.Holding.{Holding}
-use Rattle.ap_types.specs.Rounds.{IsLeast, marked}
+use Rattle.ap_types.specs.Rounds.{IsLeastSet, marked}
 use Rattle.ap_types.specs.Holding.{holds_if, some_holds}
-use Rattle.ap_types.specs.Tables.{IsTableOf}
+use Rattle.ap_types.specs.Tables.{IsHoldingTable}
 use Rattle.ap_types.proofs.QuestionLemmas.{holds_least}
 use Rattle.ap_theory.specs.Contexts.{Context, Fresh}
 use Rattle.ap_theory.proofs.BooleanLemmas.{and_left, and_right, and_both, or_right, or_cases, or_if_left, or_if_right, false_if_not}
@@ -21,7 +21,7 @@ use Rattle.ap_theory.proofs.PermutationLemmas.{act_sort, name_decided, name_eq_i
 use Rattle.ap_program.specs.NameRestriction.{CannotHold, known_in, FreshForEach, IsFreshForHead}
 use Rattle.ap_restrict.specs.declared.facts.Fact.{Fact}
 use Rattle.ap_restrict.specs.Facts.{facts_of, HasSame}
-use Rattle.ap_restrict.specs.Heads.{bars, is_known, fresh_by, fresh_by_each, clause_with}
+use Rattle.ap_restrict.specs.Heads.{bars, is_known, fresh_by, fresh_by_each, clause_of_head}
 use Rattle.ap_restrict.proofs.FactLemmas.{facts_stated}
 
 -- a test that is true of just what is known of names of one sort
@@ -60,25 +60,25 @@ each_by known test a w (t ∷ ts) h = and_both _ _ (Fresh_by known test a w t h.
 
 -- a variable is barred where its type can't hold the sort
 bars_to : (cs : List NominalConstructor) (kinds : List NominalKind) (sort : ℕ) (found : ℕ → Bool) (x : Var) (k : Option NominalKind)
-    → IsLeast (some_holds sort) cs found → kind_at kinds x.num ≡ k → bars sort found k ≡ true → CannotHold cs kinds sort x
+    → IsLeastSet (some_holds sort) cs found → kind_at kinds x.num ≡ k → bars sort found k ≡ true → CannotHold cs kinds sort x
 bars_to cs kinds sort found x None l e h = absurd (true≢false (sym h))
 bars_to cs kinds sort found x (Some (types.name s)) l e h = absurd (true≢false (sym h))
 bars_to cs kinds sort found x (Some (types.var t)) l e h = (t, e, λ m. true≢false (sym h ∙ ap not ((holds_least cs sort found l t).1 m)))
 
 bars_from : (cs : List NominalConstructor) (kinds : List NominalKind) (sort : ℕ) (found : ℕ → Bool) (x : Var)
-    → IsLeast (some_holds sort) cs found → CannotHold cs kinds sort x → bars sort found (kind_at kinds x.num) ≡ true
+    → IsLeastSet (some_holds sort) cs found → CannotHold cs kinds sort x → bars sort found (kind_at kinds x.num) ≡ true
 bars_from cs kinds sort found x l h =
     ap (bars sort found) h.1 ∙ ap not (false_if_not (holds_if sort found h.0) (λ e. h.2 ((holds_least cs sort found l h.0).0 e)))
 
 module _ (cs : List NominalConstructor) (args : List NominalTerm) (body : NominalGoal) (locals : List NominalLocal) (a : Name) (keys : List Fact) (found : ℕ → Bool)
-    (same : HasSame keys (facts_of body)) (least : IsLeast (some_holds a.sort) cs found) where
+    (same : HasSame keys (facts_of body)) (least : IsLeastSet (some_holds a.sort) cs found) where
   abbrev test : Name → Var → Bool
   test = is_known keys a.sort found (kinds_of locals) a
 
   abbrev stands : Name → Var → Fact
   stands b x = record { left = a; name = b; var = x }
 
-  tells : Tells (known_in cs (clause_with args body locals) a) test a.sort
+  tells : Tells (known_in cs (clause_of_head args body locals) a) test a.sort
   tells = record {
     to = λ b x e h. elim (or_cases _ (bars a.sort found (kind_at (kinds_of locals) x.num)) h) [
       | inl k ↦ inl (sym (facts_stated a b x body) ∙ sym (same (stands b x)) ∙ k)
@@ -90,13 +90,13 @@ module _ (cs : List NominalConstructor) (args : List NominalTerm) (body : Nomina
     ];
   }
 
-  tested : (fresh_by_each test a args ≡ true) ↔ IsFreshForHead cs (clause_with args body locals) a
+  tested : (fresh_by_each test a args ≡ true) ↔ IsFreshForHead cs (clause_of_head args body locals) a
   tested = (by_each _ test a tells args, each_by _ test a tells args)
 
 pub head_test : (cs : List NominalConstructor) (args : List NominalTerm) (body : NominalGoal) (locals : List NominalLocal) (a : Name) (keys : List Fact) (table : Holding) (b : Bool)
-    → HasSame keys (facts_of body) → IsTableOf cs a.sort table
+    → HasSame keys (facts_of body) → IsHoldingTable cs a.sort table
     → b ≡ fresh_by_each (is_known keys table.sort (marked table.table.items) (kinds_of locals) a) a args
-    → IsTrue b ↔ IsFreshForHead cs (clause_with args body locals) a
+    → IsTrue b ↔ IsFreshForHead cs (clause_of_head args body locals) a
 head_test cs args body locals a keys table b same t e =
     let iff = tested cs args body locals a keys (marked table.table.items) same t.1 in
     let is : b ≡ fresh_by_each (is_known keys a.sort (marked table.table.items) (kinds_of locals) a) a args =

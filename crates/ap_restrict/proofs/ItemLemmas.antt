@@ -15,7 +15,7 @@ use Rattle.ap_defs.specs.declared.faults.NameKind.{NameKind}
 use Rattle.ap_defs.specs.declared.faults.NameKind.TheVariants as kinds
 use Rattle.ap_program.specs.NameRestriction.{RawItem, item_place, item_locals, binders_in, places_in, HasNamesAlone, IsWrong, variable_binder, variable_swap, IsFaultOf, spelling_at, IsFirst, AreFreshForHead, IsFirstNotFresh}
 use Rattle.ap_restrict.specs.Places.{first_var}
-use Rattle.ap_restrict.specs.Heads.{IsAnswer, clause_with}
+use Rattle.ap_restrict.specs.Heads.{IsFirstUnfresh, clause_of_head}
 
 pub spelled_past : (ls : List Local) (n : ℕ) → length ls ≤ n → spelling_at (locals_of ls) n ≡ []
 spelled_past [] n h = refl
@@ -36,32 +36,32 @@ is_none [] e = refl
 is_none (y ∷ ys) e = cc
 
 fresh_alike : (cs : List NominalConstructor) (item line pred : ℕ) (args : List NominalTerm) (body : NominalGoal) (locals : List NominalLocal) (names : List Name)
-    → AreFreshForHead cs (clause_with args body locals) names
+    → AreFreshForHead cs (clause_of_head args body locals) names
     → AreFreshForHead cs (record { item = item; line = line; pred = pred; args = args; body = body; locals = locals }) names
 fresh_alike cs item line pred args body locals [] h = tt
 fresh_alike cs item line pred args body locals (a ∷ as') h = (h.0, fresh_alike cs item line pred args body locals as' h.1)
 
 first_alike : (cs : List NominalConstructor) (item line pred : ℕ) (args : List NominalTerm) (body : NominalGoal) (locals : List NominalLocal) (names : List Name) (a : Name)
-    → IsFirstNotFresh cs (clause_with args body locals) names a
+    → IsFirstNotFresh cs (clause_of_head args body locals) names a
     → IsFirstNotFresh cs (record { item = item; line = line; pred = pred; args = args; body = body; locals = locals }) names a
 first_alike cs item line pred args body locals [] a h = h
 first_alike cs item line pred args body locals (b ∷ bs) a (inl h) = inl h
 first_alike cs item line pred args body locals (b ∷ bs) a (inr h) = inr (h.0, first_alike cs item line pred args body locals bs a h.1)
 
 answer_alike : (cs : List NominalConstructor) (item line pred : ℕ) (args : List NominalTerm) (body : NominalGoal) (locals : List NominalLocal) (names : List Name) (o : Option Name)
-    → IsAnswer cs (clause_with args body locals) names o
-    → IsAnswer cs (record { item = item; line = line; pred = pred; args = args; body = body; locals = locals }) names o
+    → IsFirstUnfresh cs (clause_of_head args body locals) names o
+    → IsFirstUnfresh cs (record { item = item; line = line; pred = pred; args = args; body = body; locals = locals }) names o
 answer_alike cs item line pred args body locals names None h = fresh_alike cs item line pred args body locals names h
 answer_alike cs item line pred args body locals names (Some a) h = first_alike cs item line pred args body locals names a h
 
 -- the answer for a clause whose swappings are carried out
 pub carried_answer : (cs : List NominalConstructor) (c : ClauseOver RawTerm) (args : List NominalTerm) (body : NominalGoal) (names : List Name) (o : Option Name)
     → args ≡ (map_clause carried_out c).args → body ≡ map_goal carried_out c.body
-    → IsAnswer cs (clause_with args body c.locals) names o → IsAnswer cs (map_clause carried_out c) names o
+    → IsFirstUnfresh cs (clause_of_head args body c.locals) names o → IsFirstUnfresh cs (map_clause carried_out c) names o
 carried_answer cs c args body names o e f h =
     answer_alike cs c.item c.line c.pred (map_clause carried_out c).args (map_goal carried_out c.body) c.locals names o
-    (subst (λ b. IsAnswer cs (clause_with (map_clause carried_out c).args b c.locals) names o) f
-    (subst (λ ts. IsAnswer cs (clause_with ts body c.locals) names o) e h))
+    (subst (λ b. IsFirstUnfresh cs (clause_of_head (map_clause carried_out c).args b c.locals) names o) f
+    (subst (λ ts. IsFirstUnfresh cs (clause_of_head ts body c.locals) names o) e h))
 
 -- an item's fault, by its parts
 pub fault_is : (cs : List NominalConstructor) (i : RawItem) (f : NameFault) (kind : NameKind) (n : ℕ) (locals : List NominalLocal) → locals ≡ item_locals i
@@ -82,7 +82,7 @@ names_alone i b e = (is_none (binders_in i) b, is_none (places_in i) e)
 
 pub carried_result : {E : Type 0} (cs : List NominalConstructor) (c : ClauseOver RawTerm) (args : List NominalTerm) (body : NominalGoal) (locals : List NominalLocal) (r : Result (Option Name) E)
     → args ≡ (map_clause carried_out c).args → body ≡ map_goal carried_out c.body → locals ≡ c.locals
-    → IfOk r (λ o. IsAnswer cs (clause_with args body locals) (local_names 0 locals) o) → IfOk r (λ o. IsAnswer cs (map_clause carried_out c) (local_names 0 c.locals) o)
+    → IfOk r (λ o. IsFirstUnfresh cs (clause_of_head args body locals) (local_names 0 locals) o) → IfOk r (λ o. IsFirstUnfresh cs (map_clause carried_out c) (local_names 0 c.locals) o)
 carried_result cs c args body locals (Err x) e f l h = h
 carried_result cs c args body locals (Ok o) e f l h =
-    carried_answer cs c args body (local_names 0 c.locals) o e f (subst (λ ls. IsAnswer cs (clause_with args body ls) (local_names 0 ls) o) l h)
+    carried_answer cs c args body (local_names 0 c.locals) o e f (subst (λ ls. IsFirstUnfresh cs (clause_of_head args body ls) (local_names 0 ls) o) l h)

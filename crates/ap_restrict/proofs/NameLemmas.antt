@@ -10,7 +10,7 @@ use Rattle.ap_defs.specs.Goals.{NominalClause}
 use Rattle.ap_defs.specs.Renaming.{local_names, name_unless}
 use Rattle.ap_program.specs.NameRestriction.{IsFreshForHead}
 use Rattle.ap_program.specs.FreeLocals.{free_sort, sort_unless}
-use Rattle.ap_restrict.specs.Heads.{IsAnswer}
+use Rattle.ap_restrict.specs.Heads.{IsFirstUnfresh}
 
 abbrev name_with : ℕ → ℕ → Name
 name_with s n = record { sort = s; num = n }
@@ -28,7 +28,7 @@ counted false (types.name r) n s names e = cc
 counted false (types.var t) n s names e = cc
 
 answer_next : (cs : List NominalConstructor) (c : NominalClause) (a : Name) (names : List Name) (o : Option Name)
-    → IsFreshForHead cs c a → IsAnswer cs c names o → IsAnswer cs c (a ∷ names) o
+    → IsFreshForHead cs c a → IsFirstUnfresh cs c names o → IsFirstUnfresh cs c (a ∷ names) o
 answer_next cs c a names None f h = (f, h)
 answer_next cs c a names (Some b) f h = inr (f, h)
 
@@ -42,18 +42,18 @@ from_next i ls l d h e =
 
 -- One identifier on: one that is no free name, one whose name is fresh, and one whose name is not.
 pub next_skips : (cs : List NominalConstructor) (c : NominalClause) (i : ℕ) (ls : List Local) (l d : Local) → i < length ls → l ≡ get_or ls i d → free_sort (local_of l) ≡ None
-    → (o : Option Name) → IsAnswer cs c (names_from (suc i) ls) o → IsAnswer cs c (names_from i ls) o
+    → (o : Option Name) → IsFirstUnfresh cs c (names_from (suc i) ls) o → IsFirstUnfresh cs c (names_from i ls) o
 next_skips cs c i ls l d h e f o a =
-    subst (λ names. IsAnswer cs c names o) (sym (from_next i ls l d h e ∙ skipped l.bound (local_of l).kind i (names_from (suc i) ls) f)) a
+    subst (λ names. IsFirstUnfresh cs c names o) (sym (from_next i ls l d h e ∙ skipped l.bound (local_of l).kind i (names_from (suc i) ls) f)) a
 
 pub next_fresh : (cs : List NominalConstructor) (c : NominalClause) (i s : ℕ) (ls : List Local) (l d : Local) → i < length ls → l ≡ get_or ls i d → free_sort (local_of l) ≡ Some s
-    → IsFreshForHead cs c (name_with s i) → (o : Option Name) → IsAnswer cs c (names_from (suc i) ls) o → IsAnswer cs c (names_from i ls) o
+    → IsFreshForHead cs c (name_with s i) → (o : Option Name) → IsFirstUnfresh cs c (names_from (suc i) ls) o → IsFirstUnfresh cs c (names_from i ls) o
 next_fresh cs c i s ls l d h e f n o a =
-    subst (λ names. IsAnswer cs c names o) (sym (from_next i ls l d h e ∙ counted l.bound (local_of l).kind i s (names_from (suc i) ls) f))
+    subst (λ names. IsFirstUnfresh cs c names o) (sym (from_next i ls l d h e ∙ counted l.bound (local_of l).kind i s (names_from (suc i) ls) f))
     (answer_next cs c (name_with s i) (names_from (suc i) ls) o n a)
 
 pub next_found : (cs : List NominalConstructor) (c : NominalClause) (i s : ℕ) (ls : List Local) (l d : Local) → i < length ls → l ≡ get_or ls i d → free_sort (local_of l) ≡ Some s
-    → (IsFreshForHead cs c (name_with s i) → ⊥) → IsAnswer cs c (names_from i ls) (Some (name_with s i))
+    → (IsFreshForHead cs c (name_with s i) → ⊥) → IsFirstUnfresh cs c (names_from i ls) (Some (name_with s i))
 next_found cs c i s ls l d h e f n =
-    subst (λ names. IsAnswer cs c names (Some (name_with s i))) (sym (from_next i ls l d h e ∙ counted l.bound (local_of l).kind i s (names_from (suc i) ls) f))
+    subst (λ names. IsFirstUnfresh cs c names (Some (name_with s i))) (sym (from_next i ls l d h e ∙ counted l.bound (local_of l).kind i s (names_from (suc i) ls) f))
     (inl (refl, n))

@@ -10,7 +10,7 @@ use Rattle.ap_defs.specs.Goals.{NominalClause, NominalGoal}
 use Rattle.ap_defs.specs.Answers.{kind_at}
 use Rattle.ap_types.specs.declared.holding.Holding.{Holding}
 use Rattle.ap_types.specs.Holding.{holds_if}
-use Rattle.ap_types.specs.Tables.{IsTableOf}
+use Rattle.ap_types.specs.Tables.{IsHoldingTable}
 use Rattle.ap_program.specs.NameRestriction.{AreFreshForHead, IsFirstNotFresh}
 use Rattle.ap_restrict.specs.declared.facts.Fact.{Fact}
 use Rattle.ap_restrict.specs.Facts.{has_fact}
@@ -40,13 +40,13 @@ fresh_by_each test a (t ∷ ts) = fresh_by test a t && fresh_by_each test a ts
 -- each table is that of its sort
 abbrev pub AreTables : List NominalConstructor → List Holding → Type 0
 AreTables cs [] = Unit {0}
-AreTables cs (h ∷ hs) = IsTableOf cs h.sort h × AreTables cs hs
+AreTables cs (h ∷ hs) = IsHoldingTable cs h.sort h × AreTables cs hs
 
 -- a clause of which only the head, the body and the identifiers are looked at
-abbrev pub clause_with : List NominalTerm → NominalGoal → List NominalLocal → NominalClause
-clause_with args body locals = record { item = 0; line = 0; pred = 0; args = args; body = body; locals = locals }
+abbrev pub clause_of_head : List NominalTerm → NominalGoal → List NominalLocal → NominalClause
+clause_of_head args body locals = record { item = 0; line = 0; pred = 0; args = args; body = body; locals = locals }
 
 -- the first of the names that is not fresh for the head, or that each one is
-abbrev pub IsAnswer : List NominalConstructor → NominalClause → List Name → Option Name → Type 0
-IsAnswer cs c names None = AreFreshForHead cs c names
-IsAnswer cs c names (Some a) = IsFirstNotFresh cs c names a
+abbrev pub IsFirstUnfresh : List NominalConstructor → NominalClause → List Name → Option Name → Type 0
+IsFirstUnfresh cs c names None = AreFreshForHead cs c names
+IsFirstUnfresh cs c names (Some a) = IsFirstNotFresh cs c names a

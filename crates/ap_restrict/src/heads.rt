@@ -11,7 +11,7 @@ ghost use Rattle.ap_program.specs.NameRestriction.{IsFreshForHead};
 ghost use Rattle.ap_program.specs.FreeLocals.{free_sort};
 ghost use Rattle.ap_defs.specs.Answers.{kind_at};
 ghost use Rattle.ap_restrict.specs.Facts.{HasSame, facts_of};
-ghost use Rattle.ap_restrict.specs.Heads.{bars, is_known, fresh_by, fresh_by_each, AreTables, clause_with, IsAnswer};
+ghost use Rattle.ap_restrict.specs.Heads.{bars, is_known, fresh_by, fresh_by_each, AreTables, clause_of_head, IsFirstUnfresh};
 
 use crate::facts::{Fact, has, known_facts};
 use crate::tables::table_of;
@@ -135,7 +135,7 @@ fn is_fresh_for_head(
         setting.now.tables.now }
     requires facts { HasSame facts.now.keys (facts_of (goal_of head.now.body.now)) }
     ensures { IfOk result (λ b. IsTrue b
-        ↔ IsFreshForHead (signature_of setting.now.sig.now).constructors (clause_with
+        ↔ IsFreshForHead (signature_of setting.now.sig.now).constructors (clause_of_head
         (map term_of head.now.args.now) (goal_of head.now.body.now) (locals_of head.now.locals.now))
         a) }
 {
@@ -165,8 +165,8 @@ pub fn first_not_fresh(
     head: &Head<'_>,
 ) -> Result<Option<Name>, Memory>
     requires { AreTables (signature_of setting.now.sig.now).constructors setting.now.tables.now }
-    ensures { IfOk result (λ o. IsAnswer (signature_of setting.now.sig.now).constructors
-        (clause_with (map term_of head.now.args.now) (goal_of head.now.body.now)
+    ensures { IfOk result (λ o. IsFirstUnfresh (signature_of setting.now.sig.now).constructors
+        (clause_of_head (map term_of head.now.args.now) (goal_of head.now.body.now)
         (locals_of head.now.locals.now)) (local_names 0 (locals_of head.now.locals.now)) o) }
 {
     let facts = known_facts(alloc, head.body)?;

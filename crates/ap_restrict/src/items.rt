@@ -8,7 +8,7 @@ ghost use Rattle.ap_defs.specs.Renaming.{local_names};
 ghost use Rattle.ap_program.specs.CarryingOut.{carried_out, map_clause};
 ghost use Rattle.ap_program.specs.NameRestriction.{RawItem, clause as clause_item, query as query_item, item_terms, in_each, spelling_at};
 ghost use Rattle.ap_restrict.specs.Places.{first_var, variables_at};
-ghost use Rattle.ap_restrict.specs.Heads.{AreTables, IsAnswer};
+ghost use Rattle.ap_restrict.specs.Heads.{AreTables, IsFirstUnfresh};
 ghost use Rattle.ap_restrict.specs.Scans.{IsVerdict};
 
 use crate::carrying::{carry_goal, carry_terms};
@@ -79,9 +79,9 @@ fn head_name(
     clause: &Clause<Raw>,
 ) -> Result<Option<Name>, Memory>
     requires { AreTables (signature_of setting.now.sig.now).constructors setting.now.tables.now }
-    ensures { IfOk result (λ o. IsAnswer (signature_of setting.now.sig.now).constructors (map_clause
-        carried_out (clause_over raw_of clause.now)) (local_names 0 (locals_of clause.now.locals))
-        o) }
+    ensures { IfOk result (λ o. IsFirstUnfresh (signature_of setting.now.sig.now).constructors
+        (map_clause carried_out (clause_over raw_of clause.now)) (local_names 0
+        (locals_of clause.now.locals)) o) }
 {
     let args = carry_terms(alloc, clause.args.items())?;
     let body = carry_goal(alloc, &clause.body)?;

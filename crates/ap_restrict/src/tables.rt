@@ -2,7 +2,7 @@
 
 ghost use Rattle.std.specs.Prelude.{◌≡◌, ◌≤◌, length, IfSome, IfOk};
 ghost use Rattle.ap_defs.specs.Types.{signature_of};
-ghost use Rattle.ap_types.specs.Tables.{IsTableOf};
+ghost use Rattle.ap_types.specs.Tables.{IsHoldingTable};
 ghost use Rattle.ap_restrict.specs.Heads.{AreTables};
 
 use ap_defs::goals::{Clause, Kind, Local, Program, Signature};
@@ -81,7 +81,7 @@ fn place_of(tables: &[Holding], sort: u32) -> usize
 /// The table of the sort, where there is one.
 pub(crate) fn table_of<'a>(sig: &Signature, tables: &'a [Holding], sort: u32) -> Option<&'a Holding>
     requires { AreTables (signature_of sig.now).constructors tables.now }
-    ensures { IfSome result (λ h. IsTableOf (signature_of sig.now).constructors sort h.now) }
+    ensures { IfSome result (λ h. IsHoldingTable (signature_of sig.now).constructors sort h.now) }
 {
     let place = place_of(tables, sort);
     if place >= tables.len() {

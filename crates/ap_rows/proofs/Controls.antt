@@ -7,7 +7,7 @@ use Rattle.ap_defs.specs.Permutations.{swap_of, swap_name, name_eq, name_before}
 use Rattle.ap_defs.specs.Terms.{NominalTerm, name, app, abs, susp, act_term}
 use Rattle.ap_defs.specs.Substitution.{Binding, ◌:=◌, Equation, ◌≐◌, Problem, ◌#◌, under}
 use Rattle.ap_defs.specs.Unification as right
-use Rattle.ap_defs.specs.Unification.{Rule, replace, Stage, Progress, done, Ending, unfinished, after, apply_rule, steps_for, first_stage, finish, Unified, unify, ending, reduce_all}
+use Rattle.ap_defs.specs.Unification.{Rule, replace, Stage, Progress, done, Ending, unfinished, ending_after, apply_rule, steps_for, first_stage, finish, Unified, unify, ending, reduce_all}
 use Rattle.ap_defs.specs.Goals as goals
 use Rattle.ap_defs.specs.Goals.{NominalGoal}
 use Rattle.ap_defs.specs.Derivations as nodes
@@ -26,7 +26,7 @@ step_by rule ((t ≐ u) ∷ es) ps s = apply_rule (rule t u) es ps s
 
 abbrev run_by : Table → ℕ → Stage → Ending
 run_by rule zero s = unfinished
-run_by rule (suc k) s = after (run_by rule k) s (step_by rule s.equations s.problems s.bindings)
+run_by rule (suc k) s = ending_after (run_by rule k) s (step_by rule s.equations s.problems s.bindings)
 
 abbrev unify_by : Table → NominalTerm → NominalTerm → Option Unified
 unify_by rule t u = finish [] (run_by rule (steps_for (first_stage [] (t ∷ []) (u ∷ []))) (first_stage [] (t ∷ []) (u ∷ [])))

@@ -4,7 +4,7 @@ use Rattle.std.proofs.lemmas.Bool.Decides.{nat_tests}
 use Rattle.std.specs.Prelude.{nat_le, if◌then◌else◌}
 use Rattle.ap_defs.specs.declared.faults.TypeKind.{TypeKind}
 use Rattle.ap_defs.specs.FaultKinds.{type_number}
-use Rattle.ap_scopes.specs.Flaws.{lesser, least}
+use Rattle.ap_scopes.specs.Flaws.{lesser, least_kind}
 
 lesser-assoc : (a b c : TypeKind) → lesser (lesser a b) c ≡ lesser a (lesser b c)
 lesser-assoc a b c = by_first (nat_le (type_number a) (type_number b)) (nat_le (type_number b) (type_number c)) refl refl
@@ -16,12 +16,12 @@ lesser-assoc a b c = by_first (nat_le (type_number a) (type_number b)) (nat_le (
     by_first false true e f = rw (e, f) refl
     by_first false false e f = let g : nat_le (type_number a) (type_number c) ≡ false = grind (arith, nat_tests) in rw (f, g) refl
 
-pub least_assoc : (a b c : Option TypeKind) → least (least a b) c ≡ least a (least b c)
+pub least_assoc : (a b c : Option TypeKind) → least_kind (least_kind a b) c ≡ least_kind a (least_kind b c)
 least_assoc None b c = refl
 least_assoc (Some k) None c = refl
 least_assoc (Some k) (Some m) None = refl
 least_assoc (Some k) (Some m) (Some n) = ap (λ x. Some x) (lesser-assoc k m n)
 
-pub least_none : (a : Option TypeKind) → least a None ≡ a
+pub least_none : (a : Option TypeKind) → least_kind a None ≡ a
 least_none None = refl
 least_none (Some k) = refl

@@ -20,10 +20,10 @@ abbrev pub lesser : TypeKind → TypeKind → TypeKind
 lesser k m = if nat_le (type_number k) (type_number m) then k else m
 
 -- the least kind of two parts, each of which may have none
-abbrev pub least : Option TypeKind → Option TypeKind → Option TypeKind
-least None k = k
-least (Some k) None = Some k
-least (Some k) (Some m) = Some (lesser k m)
+abbrev pub least_kind : Option TypeKind → Option TypeKind → Option TypeKind
+least_kind None k = k
+least_kind (Some k) None = Some k
+least_kind (Some k) (Some m) = Some (lesser k m)
 
 -- Types. What stands for a type is declared; left of `\` it is a name type.
 abbrev pub type_word_flaw : Option NominalType → Option TypeKind
@@ -38,13 +38,13 @@ name_type_flaw None = Some kinds.Undeclared
 abbrev pub type_flaw : NominalSignature → Ty → Option TypeKind
 type_flaw s types.Unit = None
 type_flaw s (types.Word w) = type_word_flaw (type_named s w)
-type_flaw s (types.Pair t u) = least (type_flaw s t) (type_flaw s u)
+type_flaw s (types.Pair t u) = least_kind (type_flaw s t) (type_flaw s u)
 type_flaw s (types.Array t) = type_flaw s t
-type_flaw s (types.Abs w t) = least (name_type_flaw (type_named s w)) (type_flaw s t)
+type_flaw s (types.Abs w t) = least_kind (name_type_flaw (type_named s w)) (type_flaw s t)
 
 abbrev pub types_flaw : NominalSignature → List Ty → Option TypeKind
 types_flaw s [] = None
-types_flaw s (t ∷ ts) = least (type_flaw s t) (types_flaw s ts)
+types_flaw s (t ∷ ts) = least_kind (type_flaw s t) (types_flaw s ts)
 
 -- Terms. A constructor or predicate is declared, with as many arguments as stand there.
 abbrev pub arity_flaw : ℕ → ℕ → Option TypeKind
@@ -92,32 +92,32 @@ abbrev mutual
   term_flaw d terms.Unit = None
   term_flaw d (terms.Variable w) = None
   term_flaw d (terms.Word w) = word_flaw (constructor_arity d w)
-  term_flaw d (terms.Apply w ts) = least (count_flaw (term_count ts) (constructor_arity d w)) (arguments_flaw d ts)
-  term_flaw d (terms.Pair t u) = least (term_flaw d t) (term_flaw d u)
+  term_flaw d (terms.Apply w ts) = least_kind (count_flaw (term_count ts) (constructor_arity d w)) (arguments_flaw d ts)
+  term_flaw d (terms.Pair t u) = least_kind (term_flaw d t) (term_flaw d u)
   term_flaw d terms.Nil = None
-  term_flaw d (terms.Cell t u) = least (term_flaw d t) (term_flaw d u)
-  term_flaw d (terms.Abs a t) = least (binder_flaw d a) (term_flaw d t)
-  term_flaw d (terms.Swapped a b t) = least (least (binder_flaw d a) (binder_flaw d b)) (term_flaw d t)
+  term_flaw d (terms.Cell t u) = least_kind (term_flaw d t) (term_flaw d u)
+  term_flaw d (terms.Abs a t) = least_kind (binder_flaw d a) (term_flaw d t)
+  term_flaw d (terms.Swapped a b t) = least_kind (least_kind (binder_flaw d a) (binder_flaw d b)) (term_flaw d t)
 
   pub arguments_flaw : Declared → Terms → Option TypeKind
   arguments_flaw d (terms.Last t) = term_flaw d t
-  arguments_flaw d (terms.More t ts) = least (term_flaw d t) (arguments_flaw d ts)
+  arguments_flaw d (terms.More t ts) = least_kind (term_flaw d t) (arguments_flaw d ts)
 
 abbrev pub terms_flaw : Declared → List Term → Option TypeKind
 terms_flaw d [] = None
-terms_flaw d (t ∷ ts) = least (term_flaw d t) (terms_flaw d ts)
+terms_flaw d (t ∷ ts) = least_kind (term_flaw d t) (terms_flaw d ts)
 
 abbrev pub atom_flaw : Declared → List ℕ → List Term → Option TypeKind
-atom_flaw d w ts = least (count_flaw (length ts) (predicate_arity d w)) (terms_flaw d ts)
+atom_flaw d w ts = least_kind (count_flaw (length ts) (predicate_arity d w)) (terms_flaw d ts)
 
 abbrev pub goal_flaw : Declared → Goal → Option TypeKind
 goal_flaw d (goals.Atom w ts) = atom_flaw d w ts
-goal_flaw d (goals.Equation t u) = least (term_flaw d t) (term_flaw d u)
-goal_flaw d (goals.Freshness t u) = least (term_flaw d t) (term_flaw d u)
-goal_flaw d (goals.Both g h) = least (goal_flaw d g) (goal_flaw d h)
-goal_flaw d (goals.Either g h) = least (goal_flaw d g) (goal_flaw d h)
+goal_flaw d (goals.Equation t u) = least_kind (term_flaw d t) (term_flaw d u)
+goal_flaw d (goals.Freshness t u) = least_kind (term_flaw d t) (term_flaw d u)
+goal_flaw d (goals.Both g h) = least_kind (goal_flaw d g) (goal_flaw d h)
+goal_flaw d (goals.Either g h) = least_kind (goal_flaw d g) (goal_flaw d h)
 goal_flaw d (goals.Some_variable w g) = goal_flaw d g
-goal_flaw d (goals.New_name w g) = least (binder_flaw d (OfWord w)) (goal_flaw d g)
+goal_flaw d (goals.New_name w g) = least_kind (binder_flaw d (OfWord w)) (goal_flaw d g)
 
 -- Items. What is declared is not declared yet; the result of a constructor is a data type.
 abbrev pub redeclared_if : {A : Type 0} → Option A → Option TypeKind
@@ -131,14 +131,14 @@ result_flaw None = Some kinds.Undeclared
 
 abbrev pub clause_flaw : Declared → List ℕ → List Term → Option Goal → Option TypeKind
 clause_flaw d w ts None = atom_flaw d w ts
-clause_flaw d w ts (Some g) = least (atom_flaw d w ts) (goal_flaw d g)
+clause_flaw d w ts (Some g) = least_kind (atom_flaw d w ts) (goal_flaw d g)
 
 abbrev pub constructor_flaw : Declared → List ℕ → List Ty → List ℕ → Option TypeKind
 constructor_flaw d w args result =
-    least (redeclared_if (constructor_place d w)) (least (types_flaw d.signature args) (result_flaw (type_named d.signature result)))
+    least_kind (redeclared_if (constructor_place d w)) (least_kind (types_flaw d.signature args) (result_flaw (type_named d.signature result)))
 
 abbrev pub predicate_flaw : Declared → List ℕ → List Ty → Option TypeKind
-predicate_flaw d w args = least (redeclared_if (predicate_place d w)) (types_flaw d.signature args)
+predicate_flaw d w args = least_kind (redeclared_if (predicate_place d w)) (types_flaw d.signature args)
 
 -- the least kind of an item's faults before it is typed
 abbrev pub item_flaw : Declared → Saying → Option TypeKind

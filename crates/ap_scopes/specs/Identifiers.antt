@@ -16,27 +16,27 @@ Found = List Identifier
 abbrev pub Scope : Type 0
 Scope = List (Name × ℕ)
 
-abbrev pub same_name : Name → Name → Bool
-same_name (OfWord v) (OfWord w) = bytes_eq v w
-same_name (OfVar v) (OfVar w) = bytes_eq v w
-same_name _ _ = false
+abbrev pub same_spelling : Name → Name → Bool
+same_spelling (OfWord v) (OfWord w) = bytes_eq v w
+same_spelling (OfVar v) (OfVar w) = bytes_eq v w
+same_spelling _ _ = false
 
 -- `_`
-abbrev pub is_blank : Name → Bool
-is_blank (OfWord w) = false
-is_blank (OfVar w) = bytes_eq w (codes "_")
+abbrev pub is_blank_name : Name → Bool
+is_blank_name (OfWord w) = false
+is_blank_name (OfVar w) = bytes_eq w (codes "_")
 
 -- The innermost that is brought under this spelling.
-abbrev pub brought : Scope → Name → Option ℕ
-brought [] name = None
-brought (b ∷ scope) name = if same_name name b.0 then Some b.1 else brought scope name
+abbrev pub brought_under : Scope → Name → Option ℕ
+brought_under [] name = None
+brought_under (b ∷ scope) name = if same_spelling name b.0 then Some b.1 else brought_under scope name
 
 -- whether it is the identifier of that spelling that belongs to the whole clause or query
-abbrev pub is_free : Name → Identifier → Bool
-is_free name i = not i.bound && same_name name i.spelling
+abbrev pub is_free_identifier : Name → Identifier → Bool
+is_free_identifier name i = not i.bound && same_spelling name i.spelling
 
 abbrev pub free_place : Found → Name → Option ℕ
-free_place found name = position (is_free name) found
+free_place found name = position (is_free_identifier name) found
 
 abbrev pub free_one : Name → Identifier
 free_one name = record { spelling = name; bound = false }
@@ -61,5 +61,5 @@ free_number found name = number_or found (number_new found (free_one name)) (fre
 
 -- The number of the identifier that stands at an occurrence: each `_` is a new one; else it is the innermost that the
 -- goals around it bring, or what belongs to the whole.
-abbrev pub numbered : Scope → Name → Found → Numbering
-numbered scope name found = if is_blank name then number_new found (free_one name) else number_or found (free_number found name) (brought scope name)
+abbrev pub numbered_in : Scope → Name → Found → Numbering
+numbered_in scope name found = if is_blank_name name then number_new found (free_one name) else number_or found (free_number found name) (brought_under scope name)

@@ -11,7 +11,7 @@ use Rattle.ap_trees.specs.Terms.{Name, OfWord, OfVar, Term, Terms}
 use Rattle.ap_trees.specs.Goals as goals
 use Rattle.ap_trees.specs.Goals.{Goal}
 use Rattle.ap_scopes.specs.Declarations.{Declared, constructor_place, predicate_place}
-use Rattle.ap_scopes.specs.Identifiers.{Found, Scope, numbered, bound_one}
+use Rattle.ap_scopes.specs.Identifiers.{Found, Scope, numbered_in, bound_one}
 
 -- What is made of a part of the text, in the order of the text: it depends on the identifiers found before, and may find more.
 abbrev pub Resolver : Type 0 → Type 0
@@ -42,14 +42,14 @@ term_of_id (OfVar w) n = var (numbered_var n)
 abbrev pub two_ids : Id → Id → Id × Id
 two_ids i j = (i, j)
 
-abbrev pub swapped_by : Id × Id → RawTerm → RawTerm
-swapped_by ends t = swapped ends.0 ends.1 t
+abbrev pub raw_swapped_by : Id × Id → RawTerm → RawTerm
+raw_swapped_by ends t = swapped ends.0 ends.1 t
 
 abbrev pub identifier : Scope → Name → Resolver RawTerm
-identifier scope spelling found = made (term_of_id spelling) (numbered scope spelling found)
+identifier scope spelling found = made (term_of_id spelling) (numbered_in scope spelling found)
 
 abbrev pub binder : Scope → Name → Resolver Id
-binder scope spelling found = made (id_of spelling) (numbered scope spelling found)
+binder scope spelling found = made (id_of spelling) (numbered_in scope spelling found)
 
 -- the number of the constructor at a place; one that is not declared is a fault, and its number never counts
 abbrev pub constructor_number : Option ℕ → ℕ
@@ -75,7 +75,7 @@ abbrev mutual
   resolved_term d s terms.Nil found = (app 0 unit, found)
   resolved_term d s (terms.Cell t u) found = made (app 1) (in_order pair (resolved_term d s t) (resolved_term d s u) found)
   resolved_term d s (terms.Abs a t) found = in_order abs (binder s a) (resolved_term d s t) found
-  resolved_term d s (terms.Swapped a b t) found = in_order swapped_by (in_order two_ids (binder s a) (binder s b)) (resolved_term d s t) found
+  resolved_term d s (terms.Swapped a b t) found = in_order raw_swapped_by (in_order two_ids (binder s a) (binder s b)) (resolved_term d s t) found
 
   -- one argument is itself, and more are their tuple, written out as pairs
   pub resolved_arguments : Declared → Scope → Terms → Resolver RawTerm

@@ -4,7 +4,7 @@ use Rattle.std.specs.Str.{bytes_eq}
 use Rattle.indexmap.specs.IndexMap.{get_by}
 use Rattle.ap_defs.specs.Types.{NominalSignature, signature_of}
 use Rattle.ap_defs.specs.Limits.{size_limit}
-use Rattle.ap_trees.specs.Trees.{name_of}
+use Rattle.ap_trees.specs.Trees.{name_of_binder}
 use Rattle.ap_trees.specs.Terms.{OfWord, OfVar}
 use Rattle.ap_scopes.specs.declared.words.Words.{Words}
 use Rattle.ap_scopes.specs.declared.numbers.Numbers.{Numbers}
@@ -41,14 +41,14 @@ abbrev pub IsSmall : Declarations → Type 0
 IsSmall d = declared_count (signature_of d.signature) ≤ size_limit
 
 abbrev pub identifier_of : code.Identifier → Identifier
-identifier_of i = record { spelling = name_of i.spelling; bound = i.bound }
+identifier_of i = record { spelling = name_of_binder i.spelling; bound = i.bound }
 
 abbrev pub found_of : Identifiers → Found
 found_of f = map identifier_of f.found.items
 
 abbrev pub scope_of : brought.Brought → Scope
 scope_of brought.Nothing = []
-scope_of (brought.Inner' name n p outer) = (name_of name, n) ∷ scope_of outer
+scope_of (brought.Inner' name n p outer) = (name_of_binder name, n) ∷ scope_of outer
 
 -- The tables have the numbers of the identifiers that belong to the whole clause or query.
 pub record IsNumbered (f : Identifiers) : Type 0 where

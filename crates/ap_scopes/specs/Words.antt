@@ -12,20 +12,20 @@ use Rattle.ap_trees.specs.Items as items
 use Rattle.ap_trees.specs.Items.{Saying, ItemOf}
 
 -- All of them, in the order of the text.
-abbrev pub spelled : Name → List ℕ
-spelled (OfWord w) = w
-spelled (OfVar w) = w
+abbrev pub spelled_name : Name → List ℕ
+spelled_name (OfWord w) = w
+spelled_name (OfVar w) = w
 
-abbrev pub type_words : Ty → List (List ℕ)
-type_words types.Unit = []
-type_words (types.Word w) = w ∷ []
-type_words (types.Pair t u) = type_words t ++ type_words u
-type_words (types.Array t) = type_words t
-type_words (types.Abs w t) = w ∷ type_words t
+abbrev pub words_of_type : Ty → List (List ℕ)
+words_of_type types.Unit = []
+words_of_type (types.Word w) = w ∷ []
+words_of_type (types.Pair t u) = words_of_type t ++ words_of_type u
+words_of_type (types.Array t) = words_of_type t
+words_of_type (types.Abs w t) = w ∷ words_of_type t
 
 abbrev pub types_words : List Ty → List (List ℕ)
 types_words [] = []
-types_words (t ∷ ts) = type_words t ++ types_words ts
+types_words (t ∷ ts) = words_of_type t ++ types_words ts
 
 abbrev mutual
   pub term_words : Term → List (List ℕ)
@@ -36,8 +36,8 @@ abbrev mutual
   term_words (terms.Pair t u) = term_words t ++ term_words u
   term_words terms.Nil = []
   term_words (terms.Cell t u) = term_words t ++ term_words u
-  term_words (terms.Abs a t) = spelled a ∷ term_words t
-  term_words (terms.Swapped a b t) = spelled a ∷ spelled b ∷ term_words t
+  term_words (terms.Abs a t) = spelled_name a ∷ term_words t
+  term_words (terms.Swapped a b t) = spelled_name a ∷ spelled_name b ∷ term_words t
 
   pub arguments_words : Terms → List (List ℕ)
   arguments_words (terms.Last t) = term_words t

@@ -1,6 +1,6 @@
 //! The faults that terms show before they are typed.
 ghost use Rattle.std.specs.Prelude.{◌≡◌, ◌==◌};
-ghost use Rattle.ap_trees.specs.Trees.{term_of, terms_of, trees_of, name_of};
+ghost use Rattle.ap_trees.specs.Trees.{term_of, terms_of, trees_of, name_of_binder};
 ghost use Rattle.ap_scopes.specs.Flaws as spec;
 ghost use Rattle.ap_scopes.specs.Views.{declared_of, IsIndexed};
 
@@ -21,7 +21,7 @@ fn lesser(first: TypeKind, second: TypeKind) -> TypeKind
 
 /// The least of two kinds.
 pub fn least(first: Option<TypeKind>, second: Option<TypeKind>) -> Option<TypeKind>
-    ensures { result ≡ spec.least first second }
+    ensures { result ≡ spec.least_kind first second }
 {
     match (first, second) {
         (Some(first), Some(second)) => Some(lesser(first, second)),
@@ -64,7 +64,7 @@ fn word_flaw(declared: Option<usize>) -> Option<TypeKind>
 /// The fault of a binder, of one of the first two places of a swapping, or of the word after `new`.
 pub fn binder_flaw(declared: &Declarations<'_>, binder: Binder<'_>) -> Option<TypeKind>
     requires { IsIndexed declared.now }
-    ensures { result ≡ spec.binder_flaw (declared_of declared.now) (name_of binder.entry) }
+    ensures { result ≡ spec.binder_flaw (declared_of declared.now) (name_of_binder binder.entry) }
 {
     match binder {
         Binder::Var(_) => None,

@@ -1,7 +1,7 @@
 //! The faults that goals show before they are typed.
 ghost use Rattle.std.specs.Prelude.{◌≡◌};
 ghost use Rattle.std.specs.Option.{option_map};
-ghost use Rattle.ap_trees.specs.Trees.{goal_of, trees_of};
+ghost use Rattle.ap_trees.specs.Trees.{goal_of_tree, trees_of};
 ghost use Rattle.ap_scopes.specs.Flaws as spec;
 ghost use Rattle.ap_scopes.specs.Views.{declared_of, IsIndexed};
 
@@ -26,7 +26,7 @@ pub fn atom_flaw(declared: &Declarations<'_>, word: &str, args: &[Tree<'_>]) -> 
 #[tactic(auto, using(crate::proofs::LeastLemmas::least_assoc, crate::proofs::LeastLemmas::least_none))]
 pub fn goal_flaw(declared: &Declarations<'_>, goal: &GoalTree<'_>) -> Option<TypeKind>
     requires { IsIndexed declared.now }
-    ensures { result ≡ spec.goal_flaw (declared_of declared.now) (goal_of goal.now) }
+    ensures { result ≡ spec.goal_flaw (declared_of declared.now) (goal_of_tree goal.now) }
 {
     let mut flaw = None;
     let mut rest = goal;
@@ -70,7 +70,7 @@ pub fn clause_flaw(
     requires { IsIndexed declared.now }
     ensures { result
         ≡ spec.clause_flaw (declared_of declared.now) word.now (trees_of args.now)
-        (option_map goal_of body.now) }
+        (option_map goal_of_tree body.now) }
 {
     match body {
         None => atom_flaw(declared, word, args),

@@ -5,7 +5,7 @@ ghost use Rattle.ap_defs.specs.RawTerms.{raw_of};
 ghost use Rattle.ap_defs.specs.Goals.{goal_over};
 ghost use Rattle.ap_defs.specs.Limits.{size_limit};
 ghost use Rattle.ap_trees.specs.Goals.{Atom, Equation, Freshness};
-ghost use Rattle.ap_trees.specs.Trees.{goal_of, term_of, trees_of, name_of};
+ghost use Rattle.ap_trees.specs.Trees.{goal_of_tree, term_of, trees_of, name_of_binder};
 ghost use Rattle.ap_scopes.specs.Resolution as spec;
 ghost use Rattle.ap_scopes.specs.Declarations.{predicate_place};
 ghost use Rattle.ap_scopes.specs.Views.{IsIndexed, IsSmall, IsNumbered, declared_of, found_of, scope_of};
@@ -114,7 +114,7 @@ pub fn resolved_goal<'a>(
     requires small { IsSmall declared.now }
     requires numbered { IsNumbered found.old }
     ensures value { IfOk result (λ g. (goal_over raw_of g, found_of found.new)
-        ≡ spec.resolved_goal (declared_of declared.now) (scope_of scope.now) (goal_of goal.now)
+        ≡ spec.resolved_goal (declared_of declared.now) (scope_of scope.now) (goal_of_tree goal.now)
         (found_of found.old)) }
     ensures numbered { OnOk result (IsNumbered found.new) }
 {
@@ -173,7 +173,7 @@ pub fn resolved_body<'a>(
     requires small { IsSmall declared.now }
     requires numbered { IsNumbered found.old }
     ensures value { IfOk result (λ g. (goal_over raw_of g, found_of found.new)
-        ≡ spec.resolved_body (declared_of declared.now) (option_map goal_of body.now)
+        ≡ spec.resolved_body (declared_of declared.now) (option_map goal_of_tree body.now)
         (found_of found.old)) }
     ensures numbered { OnOk result (IsNumbered found.new) }
 {

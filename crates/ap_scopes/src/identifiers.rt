@@ -1,7 +1,7 @@
 //! The identifiers of a clause or query, numbered from 0 by first occurrence.
 ghost use Rattle.std.specs.Prelude.{◌≡◌, true, false, [], IfOk, OnOk, map};
 ghost use Rattle.ap_trees.specs.Terms.{OfWord, OfVar};
-ghost use Rattle.ap_trees.specs.Trees.{name_of};
+ghost use Rattle.ap_trees.specs.Trees.{name_of_binder};
 ghost use Rattle.ap_scopes.specs.Identifiers as spec;
 ghost use Rattle.ap_scopes.specs.Views.{IsNumbered, identifier_of, found_of, scope_of};
 
@@ -35,7 +35,7 @@ pub struct Identifiers<'a> {
 
 /// Whether two occurrences are spelled alike.
 fn is_same(left: Binder<'_>, right: Binder<'_>) -> bool
-    ensures { result ≡ spec.same_name (name_of left.entry) (name_of right.entry) }
+    ensures { result ≡ spec.same_spelling (name_of_binder left.entry) (name_of_binder right.entry) }
 {
     match (left, right) {
         (Binder::Word(left), Binder::Word(right)) => left == right,
@@ -46,7 +46,7 @@ fn is_same(left: Binder<'_>, right: Binder<'_>) -> bool
 
 /// Whether it is `_`.
 fn is_blank(spelling: Binder<'_>) -> bool
-    ensures { result ≡ spec.is_blank (name_of spelling.entry) }
+    ensures { result ≡ spec.is_blank_name (name_of_binder spelling.entry) }
 {
     match spelling {
         Binder::Word(_) => false,
@@ -57,7 +57,7 @@ fn is_blank(spelling: Binder<'_>) -> bool
 impl<'s, 'a> Brought<'s, 'a> {
     /// The number of the innermost that is spelled so.
     fn number(&self, spelling: Binder<'a>) -> Option<u64>
-        ensures { result ≡ spec.brought (scope_of self.now) (name_of spelling.entry) }
+        ensures { result ≡ spec.brought_under (scope_of self.now) (name_of_binder spelling.entry) }
     {
         match self {
             Brought::Nothing => None,
@@ -96,7 +96,7 @@ impl<'a> Identifiers<'a> {
     fn push(&mut self, spelling: Binder<'a>, bound: bool) -> Result<u64, Memory>
         ensures value { IfOk result (λ n. (n, found_of self.new)
             ≡ spec.number_new (found_of self.old) (record
-            { spelling = name_of spelling.entry; bound = bound })) }
+            { spelling = name_of_binder spelling.entry; bound = bound })) }
         ensures names { OnOk result (self.new.names ≡ self.old.names) }
         ensures variables { OnOk result (self.new.variables ≡ self.old.variables) }
     {
@@ -109,7 +109,8 @@ impl<'a> Identifiers<'a> {
     pub fn bring(&mut self, spelling: Binder<'a>) -> Result<u64, Memory>
         requires { IsNumbered self.old }
         ensures value { IfOk result (λ n. (n, found_of self.new)
-            ≡ spec.number_new (found_of self.old) (spec.bound_one (name_of spelling.entry))) }
+            ≡ spec.number_new (found_of self.old) (spec.bound_one
+            (name_of_binder spelling.entry))) }
         ensures numbered { OnOk result (IsNumbered self.new) }
     {
         self.push(spelling, true)
@@ -118,9 +119,9 @@ impl<'a> Identifiers<'a> {
     /// `_` stands somewhere.
     fn blank(&mut self, spelling: Binder<'a>) -> Result<u64, Memory>
         requires numbered { IsNumbered self.old }
-        requires blank { spec.is_blank (name_of spelling) ≡ true }
+        requires blank { spec.is_blank_name (name_of_binder spelling) ≡ true }
         ensures value { IfOk result (λ n. (n, found_of self.new)
-            ≡ spec.number_new (found_of self.old) (spec.free_one (name_of spelling.entry))) }
+            ≡ spec.number_new (found_of self.old) (spec.free_one (name_of_binder spelling.entry))) }
         ensures numbered { OnOk result (IsNumbered self.new) }
     {
         let number = self.push(spelling, false)?;
@@ -147,7 +148,7 @@ impl<'a> Identifiers<'a> {
     /// The number of a variable that belongs to the whole clause or query.
     fn free_variable(&mut self, word: &'a str) -> Result<u64, Memory>
         requires numbered { IsNumbered self.old }
-        requires named { spec.is_blank (OfVar word.now) ≡ false }
+        requires named { spec.is_blank_name (OfVar word.now) ≡ false }
         ensures value { IfOk result (λ n. (n, found_of self.new)
             ≡ spec.free_number (found_of self.old) (OfVar word.entry.now)) }
         ensures numbered { OnOk result (IsNumbered self.new) }
@@ -166,7 +167,8 @@ impl<'a> Identifiers<'a> {
     pub fn number(&mut self, scope: &Brought<'_, 'a>, spelling: Binder<'a>) -> Result<u64, Memory>
         requires { IsNumbered self.old }
         ensures value { IfOk result (λ n. (n, found_of self.new)
-            ≡ spec.numbered (scope_of scope.now) (name_of spelling.entry) (found_of self.old)) }
+            ≡ spec.numbered_in (scope_of scope.now) (name_of_binder spelling.entry)
+            (found_of self.old)) }
         ensures numbered { OnOk result (IsNumbered self.new) }
     {
         if is_blank(spelling) {

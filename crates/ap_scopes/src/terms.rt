@@ -2,7 +2,7 @@
 ghost use Rattle.std.specs.Prelude.{◌≡◌, ◌<◌, ◌≤◌, ◌+◌, ◌^◌, IfOk, OnOk, IfSome, map};
 ghost use Rattle.ap_defs.specs.RawTerms.{raw_of};
 ghost use Rattle.ap_defs.specs.Limits.{size_limit};
-ghost use Rattle.ap_trees.specs.Trees.{term_of, terms_of, trees_of, name_of};
+ghost use Rattle.ap_trees.specs.Trees.{term_of, terms_of, trees_of, name_of_binder};
 ghost use Rattle.ap_trees.specs.Terms.{OfWord, OfVar};
 ghost use Rattle.ap_scopes.specs.Resolution as spec;
 ghost use Rattle.ap_scopes.specs.Declarations.{constructor_place};
@@ -25,7 +25,7 @@ fn binder<'a>(
 ) -> Result<Id, Memory>
     requires { IsNumbered found.old }
     ensures value { IfOk result (λ i. (i, found_of found.new)
-        ≡ spec.binder (scope_of scope.now) (name_of spelling.entry) (found_of found.old)) }
+        ≡ spec.binder (scope_of scope.now) (name_of_binder spelling.entry) (found_of found.old)) }
     ensures numbered { OnOk result (IsNumbered found.new) }
 {
     let num = found.number(scope, spelling)?;
@@ -43,7 +43,8 @@ fn identifier<'a>(
 ) -> Result<Raw, Memory>
     requires { IsNumbered found.old }
     ensures value { IfOk result (λ t. (raw_of t, found_of found.new)
-        ≡ spec.identifier (scope_of scope.now) (name_of spelling.entry) (found_of found.old)) }
+        ≡ spec.identifier (scope_of scope.now) (name_of_binder spelling.entry)
+        (found_of found.old)) }
     ensures numbered { OnOk result (IsNumbered found.new) }
 {
     let num = found.number(scope, spelling)?;

@@ -1,7 +1,7 @@
 //! The words and variables of a text.
 ghost use Rattle.std.specs.Prelude.{◌≡◌, ◌++◌, OnOk, IfOk};
 ghost use Rattle.ap_trees.specs.Trees as trees;
-ghost use Rattle.ap_trees.specs.Trees.{term_of, terms_of, trees_of, goal_of, types_of, form_of, items_of, name_of};
+ghost use Rattle.ap_trees.specs.Trees.{term_of, terms_of, trees_of, goal_of_tree, types_of, form_of, items_of_text, name_of_binder};
 ghost use Rattle.ap_scopes.specs.Words as spec;
 ghost use Rattle.ap_scopes.specs.Words.{with_words};
 ghost use Rattle.ap_scopes.specs.Views.{words_in};
@@ -13,7 +13,7 @@ use ap_trees::{Args, Binder, Form, GoalTree, Item, Tree, TypeTree};
 use std::alloc::Global;
 
 fn spelled<'a>(binder: Binder<'a>) -> &'a str
-    ensures { result.now ≡ spec.spelled (name_of binder.entry) }
+    ensures { result.now ≡ spec.spelled_name (name_of_binder binder.entry) }
 {
     match binder {
         Binder::Word(word) => word,
@@ -25,7 +25,7 @@ fn spelled<'a>(binder: Binder<'a>) -> &'a str
 #[tactic(auto, using(crate::proofs::Tables::with_words_append))]
 fn add_type<'a>(words: &mut Words<'a>, tree: &TypeTree<'a>) -> Result<(), Memory>
     ensures { OnOk result (words_in words.new
-        ≡ with_words (words_in words.old) (spec.type_words (trees.type_of tree.now))) }
+        ≡ with_words (words_in words.old) (spec.words_of_type (trees.type_of_tree tree.now))) }
 {
     let mut rest = tree;
     loop {
@@ -146,7 +146,7 @@ fn add_two<'a>(words: &mut Words<'a>, left: &Tree<'a>, right: &Tree<'a>) -> Resu
 #[tactic(auto, using(crate::proofs::Tables::with_words_append))]
 fn add_goal<'a>(words: &mut Words<'a>, goal: &GoalTree<'a>) -> Result<(), Memory>
     ensures { OnOk result (words_in words.new
-        ≡ with_words (words_in words.old) (spec.goal_words (goal_of goal.now))) }
+        ≡ with_words (words_in words.old) (spec.goal_words (goal_of_tree goal.now))) }
 {
     let mut rest = goal;
     loop {
@@ -211,7 +211,7 @@ fn add_form<'a>(words: &mut Words<'a>, form: &Form<'a>) -> Result<(), Memory>
 /// want of memory.
 #[tactic(auto, using(crate::proofs::Tables::with_words_append, std::proofs::lemmas::Grind::common_steps))]
 pub fn words_of(alloc: Global, items: &[Item<'_>]) -> Result<List<Text>, Memory>
-    ensures { IfOk result (λ ts. ts ≡ spec.words_of (items_of items.now)) }
+    ensures { IfOk result (λ ts. ts ≡ spec.words_of (items_of_text items.now)) }
 {
     let mut words = Words::new(alloc);
     for item in items {

@@ -42,7 +42,7 @@ pub fn resolved_type(
     requires indexed { IsIndexed declared.now }
     requires small { IsSmall declared.now }
     ensures { IfOk result (λ t. type_of t
-        ≡ spec.resolved_type (declared_of declared.now).signature (trees.type_of tree.now)) }
+        ≡ spec.resolved_type (declared_of declared.now).signature (trees.type_of_tree tree.now)) }
 {
     let mut layers = Vec::new(alloc);
     let mut rest = tree;
@@ -126,7 +126,7 @@ pub fn type_flaw(declared: &Declarations<'_>, tree: &TypeTree<'_>) -> Option<Typ
     requires indexed { IsIndexed declared.now }
     requires small { IsSmall declared.now }
     ensures { result
-        ≡ flaws.type_flaw (declared_of declared.now).signature (trees.type_of tree.now) }
+        ≡ flaws.type_flaw (declared_of declared.now).signature (trees.type_of_tree tree.now) }
 {
     let mut flaw = None;
     let mut rest = tree;

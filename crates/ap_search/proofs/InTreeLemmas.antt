@@ -36,7 +36,7 @@ module _ (ms : List Mark) (at : List ℕ → Option Choice) (same : (p : List �
       subst (InTree ms) (append_assoc q (k ∷ []) ks) (goes_tree (q ++ k ∷ []) ks (choice_in q k t (at q) refl h.0) h.1)
 
 -- a path stands in the tree of the marks just where each of its entries is a choice
-pub query_in_tree : (program : Clauses) (d : ℕ) (q : NominalQuery) (p : List ℕ) → InTree (marked_query program d q) p ↔ trees.InTree (query_choices program d q) p
+pub query_in_tree : (program : Clauses) (d : ℕ) (q : NominalQuery) (p : List ℕ) → InTree (marked_query program d q) p ↔ trees.InChoiceTree (query_choices program d q) p
 query_in_tree program d q p = (
   (λ t. tree_goes (marked_query program d q) (query_choice program d q) (query_tells program d q) p t),
   (λ h. goes_tree (marked_query program d q) (query_choice program d q) (query_tells program d q) [] p root h),

@@ -6,7 +6,7 @@ use Rattle.ap_defs.specs.Permutations.{act_name, add_name, differing, disagreeme
 use Rattle.ap_defs.specs.Renaming.{AreBelow, AreBindingsBelow, AreSwapsBelow, IsBelow}
 use Rattle.ap_defs.specs.Substitution.{Binding, Equation, Problem, bound_term, moved, occurs, put, put_binding, put_equation, put_problem, under, ◌#◌, ◌:=◌, ◌≐◌}
 use Rattle.ap_defs.specs.Terms.{NominalTerm, abs, act_term, app, name, pair, susp, unit}
-use Rattle.ap_defs.specs.Unification.{Ending, Rule, Stage, Unified, after, apply_rule, bind, clash, ending, equations_of, finish, first_stage, fresh_for, problem_of, reduce_all, replace, rule, run, solved, steps_for, unfinished, unify, unless_occurs, unsolvable, with_conditions}
+use Rattle.ap_defs.specs.Unification.{Ending, Rule, Stage, Unified, ending_after, apply_rule, bind, clash, ending, equations_of, finish, first_stage, fresh_for, problem_of, reduce_all, replace, rule, run, solved, steps_for, unfinished, unify, unless_occurs, unsolvable, unified_under}
 use Rattle.ap_defs.specs.declared.terms.Cond.{Cond}
 use Rattle.ap_defs.specs.declared.terms.Name.{Name}
 use Rattle.ap_defs.specs.declared.terms.Swap.{Swap}
@@ -223,7 +223,7 @@ module _ (n : ℕ) where
   IsEndingBelow (solved r) = IsStageBelow r
 
   after_below : (k : ℕ) → ((r : Stage) → IsStageBelow r → IsEndingBelow (run k r)) → (r : Rule) (es : List Equation) (ps : List Problem) (bs : List Binding) (whole : Stage)
-      → IsRuleBelow r → AreEquationsBelow es → AreProblemsBelow ps → AreBindingsBelow n bs → IsEndingBelow (after (run k) whole (apply_rule r es ps bs))
+      → IsRuleBelow r → AreEquationsBelow es → AreProblemsBelow ps → AreBindingsBelow n bs → IsEndingBelow (ending_after (run k) whole (apply_rule r es ps bs))
   after_below k go (replace new qs) es ps bs whole s e p b = go _ (equations_below-append new es s.0 e, problems_below-append ps qs p s.1, b)
   after_below k go (bind x v) es ps bs whole s e p b =
       go _ (equations_put_below x v s.1 es e, problems_put_below x v s.1 ps p, (s, bindings_put_below x v s.1 bs b))
@@ -252,7 +252,7 @@ module _ (n : ℕ) where
   IsUnifiedBelow None = Unit {0}
   IsUnifiedBelow (Some r) = AreBindingsBelow n r.bindings × AreCondsBelow n r.conditions
 
-  with_below : (bs : List Binding) (o : Option (List Cond)) → AreBindingsBelow n bs → AreSomeBelow o → IsUnifiedBelow (with_conditions bs o)
+  with_below : (bs : List Binding) (o : Option (List Cond)) → AreBindingsBelow n bs → AreSomeBelow o → IsUnifiedBelow (unified_under bs o)
   with_below bs None h k = tt
   with_below bs (Some cs) h k = (h, add_conds_below cs [] k tt)
 

@@ -7,7 +7,7 @@ use Rattle.ap_defs.specs.PathOrder.{has_prefix}
 use Rattle.ap_theory.proofs.BooleanLemmas.{and_false, and_left, and_right}
 use Rattle.ap_theory.proofs.TermLemmas.{number_same, same_number}
 use Rattle.ap_search.specs.Marks.{NominalMark, out, choice, mark_path, outs_among}
-use Rattle.ap_search.specs.PathTrees.{AllAfter, AreInPathOrder, Forest, PathTree, at_path, flat, flat_from, grow, is_before, leaf, node, none, nothing, width}
+use Rattle.ap_search.specs.PathTrees.{AllOutsAfter, AreInPathOrder, Forest, PathTree, at_path, flat, flat_from, grow, is_before, leaf, node, none, nothing, width}
 use Rattle.ap_search.specs.Prefixes.{AllBegin, beginning}
 use Rattle.ap_search.specs.StatementsOnTrees.{marks_at}
 use Rattle.ap_search.proofs.MarkLemmas.{begin_among, outs_among-append}
@@ -59,11 +59,11 @@ flat_from_later p i (grow t f) =
     subst (AllFrom p i) (sym (outs_among-append (flat (p ++ i ∷ []) t) (flat_from p (suc i) f)))
     (from-append p i (outs_among (flat (p ++ i ∷ []) t)) (outs_among (flat_from p (suc i) f)) (from_begin p i i (outs_among (flat (p ++ i ∷ []) t)) (omega arith) (outs_begin (p ++ i ∷ []) t)) (from_earlier p i (outs_among (flat_from p (suc i) f)) (flat_from_later p (suc i) f)))
 
-after_from : (p : List ℕ) (i : ℕ) (q : List ℕ) (os : List NominalOut) → has_prefix (p ++ i ∷ []) q ≡ true → AllFrom p (suc i) os → AllAfter q os
+after_from : (p : List ℕ) (i : ℕ) (q : List ℕ) (os : List NominalOut) → has_prefix (p ++ i ∷ []) q ≡ true → AllFrom p (suc i) os → AllOutsAfter q os
 after_from p i q [] h k = tt
 after_from p i q (o ∷ os) h k = (before_apart p i k.0.0 q (out_path o) (omega arith) h k.0.2, after_from p i q os h k.1)
 
-after-append : (q : List ℕ) (os qs : List NominalOut) → AllAfter q os → AllAfter q qs → AllAfter q (os ++ qs)
+after-append : (q : List ℕ) (os qs : List NominalOut) → AllOutsAfter q os → AllOutsAfter q qs → AllOutsAfter q (os ++ qs)
 after-append q [] qs h k = k
 after-append q (o ∷ os) qs h k = (h.0, after-append q os qs h.1 k)
 

@@ -5,7 +5,7 @@ use Rattle.ap_defs.specs.Answers.{out_path, outs_at, query_outs}
 use Rattle.ap_defs.specs.Goals.{Clauses, NominalQuery}
 use Rattle.ap_defs.specs.Paths.{Choice, HasChoice, marked_query}
 use Rattle.ap_defs.specs.Resolution.{first_state}
-use Rattle.ap_paths.specs.Trees.{AreKids, Outputs, joined, times}
+use Rattle.ap_paths.specs.Trees.{AreKids, Outputs, joined_below, times}
 use Rattle.ap_search.specs.Marks.{NominalMark, choice, mark_in, mark_path, outs_among, widths_at}
 use Rattle.ap_search.specs.PathTrees.{AreInPathOrder, choice_at, first_of, flat, query_choice, query_choices, query_kept}
 use Rattle.ap_search.specs.Prefixes.{beginning}
@@ -21,7 +21,7 @@ use Rattle.ap_search.proofs.OrderLemmas.{flat_in_order, one_mark}
 use Rattle.ap_search.proofs.SubtreeLemmas.{choice_tells, join_tree, kept_in_order, left_out_below, widths_below}
 use Rattle.ap_search.proofs.TreeLemmas.{Grows, stack_grows}
 
-joined_same : (at to : Outputs) → ((p : List ℕ) → at p ≡ to p) → (p : List ℕ) (i n : ℕ) → joined at p i n ≡ joined to p i n
+joined_same : (at to : Outputs) → ((p : List ℕ) → at p ≡ to p) → (p : List ℕ) (i n : ℕ) → joined_below at p i n ≡ joined_below to p i n
 joined_same at to h p i zero = refl
 joined_same at to h p i (suc n) = ap₂ ◌++◌ (h (p ++ i ∷ [])) (joined_same at to h p (suc i) n)
 
@@ -44,7 +44,7 @@ module _ (program : Clauses) (d : ℕ) (q : NominalQuery) where
   outs_at_marks p = ap (beginning out_path p) outs_among_marks ∙ sym (beginning_among p query_marks)
 
   -- what is below a choice is what is below each of its ways, in order
-  pub query_tree : (p : List ℕ) (w : ℕ) → query_choices program d q p ≡ Some w → outs_at program d q p ≡ joined (outs_at program d q) p 1 w
+  pub query_tree : (p : List ℕ) (w : ℕ) → query_choices program d q p ≡ Some w → outs_at program d q p ≡ joined_below (outs_at program d q) p 1 w
   query_tree p w h =
       let t = query_grows.0 in
       let e : query_marks ≡ flat [] t = query_grows.1 in

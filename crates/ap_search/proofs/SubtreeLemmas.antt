@@ -6,7 +6,7 @@ use Rattle.ap_defs.specs.PathOrder.{has_prefix}
 use Rattle.ap_defs.specs.Paths.{Choice, HasChoice, Mark, here, later}
 use Rattle.ap_defs.specs.Resolution as search
 use Rattle.ap_defs.specs.Types.{NominalLocal}
-use Rattle.ap_paths.specs.Trees.{Ascends, AreAtMost, Outputs, joined, times}
+use Rattle.ap_paths.specs.Trees.{Ascends, AreAtMost, Outputs, joined_below, times}
 use Rattle.ap_theory.proofs.BooleanLemmas.{and_both, and_left, and_right}
 use Rattle.ap_theory.proofs.TermLemmas.{number_same, same_number}
 use Rattle.ap_search.specs.Marks.{NominalMark, out, choice, mark_in, mark_path, outs_among, widths_at}
@@ -120,7 +120,7 @@ widths_sub t p = sym (widths_below p (flat [] t)) ∙ ap (widths_at p) (flat_sub
 
 -- What is below the ways of a choice, joined.
 join_from : (at : Outputs) (p : List ℕ) (i : ℕ) (f : Forest)
-    → ((k : ℕ) → i ≤ k → at (p ++ k ∷ []) ≡ outs_among (beginning mark_path (p ++ k ∷ []) (flat_from p i f))) → outs_among (flat_from p i f) ≡ joined at p i (width f)
+    → ((k : ℕ) → i ≤ k → at (p ++ k ∷ []) ≡ outs_among (beginning mark_path (p ++ k ∷ []) (flat_from p i f))) → outs_among (flat_from p i f) ≡ joined_below at p i (width f)
 join_from at p i none h = refl
 join_from at p i (grow t f) h =
     let begins = flat_begins (p ++ i ∷ []) t in
@@ -137,7 +137,7 @@ first_width (Some (leaf l)) w h = cc
 first_width (Some (node ks f)) w h = (ks, f, refl, (cc))
 
 pub join_tree : (t : PathTree) (p : List ℕ) (w : ℕ) → option_map (λ (c : Choice). c.width) (choice_at p (flat [] t)) ≡ Some w
-    → outs_among (beginning mark_path p (flat [] t)) ≡ joined (λ r. outs_among (beginning mark_path r (flat [] t))) p 1 w
+    → outs_among (beginning mark_path p (flat [] t)) ≡ joined_below (λ r. outs_among (beginning mark_path r (flat [] t))) p 1 w
 join_tree t p w h =
     let found = first_width (sub t p) w (ap (λ (cs : List Choice). option_map (λ (c : Choice). c.width) (first_of cs)) (sym (widths_sub t p)) ∙ h) in
     let ks = found.0 in
@@ -147,7 +147,7 @@ join_tree t p w h =
     ∙ join_from (λ r. outs_among (beginning mark_path r (flat [] t))) p 1 f
     (λ k l. ap outs_among (sym (beginning_deeper mark_path p (k ∷ []) (flat [] t)) ∙ ap (beginning mark_path (p ++ k ∷ [])) below
     ∙ ap (λ b. if b then (choice p (of_node ks f) ∷ beginning mark_path (p ++ k ∷ []) (flat_from p 1 f)) else beginning mark_path (p ++ k ∷ []) (flat_from p 1 f)) (prefix_too_long p k [])))
-    ∙ ap (joined (λ r. outs_among (beginning mark_path r (flat [] t))) p 1) found.3
+    ∙ ap (joined_below (λ r. outs_among (beginning mark_path r (flat [] t))) p 1) found.3
 
 -- What is left out.
 mutual

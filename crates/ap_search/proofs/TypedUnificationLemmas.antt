@@ -8,7 +8,7 @@ use Rattle.ap_defs.specs.Terms.{NominalTerm, abs, act_term, app, name, pair, sus
 use Rattle.ap_defs.specs.Types as types
 use Rattle.ap_defs.specs.Types.{NominalConstructor, NominalKind, NominalType}
 use Rattle.ap_defs.specs.Typing.{Want, one}
-use Rattle.ap_defs.specs.Unification.{Ending, Rule, Stage, Unified, after, apply_rule, bind, clash, ending, equations_of, finish, first_stage, fresh_for, problem_of, reduce_all, replace, rule, run, solved, steps_for, unfinished, unify, unless_occurs, unsolvable, with_conditions}
+use Rattle.ap_defs.specs.Unification.{Ending, Rule, Stage, Unified, ending_after, apply_rule, bind, clash, ending, equations_of, finish, first_stage, fresh_for, problem_of, reduce_all, replace, rule, run, solved, steps_for, unfinished, unify, unless_occurs, unsolvable, unified_under}
 use Rattle.ap_defs.specs.declared.terms.Cond.{Cond}
 use Rattle.ap_defs.specs.declared.terms.Name.{Name}
 use Rattle.ap_defs.specs.declared.terms.Swap.{Swap}
@@ -216,7 +216,7 @@ module _ (cs : List NominalConstructor) (kinds : List NominalKind) where
   IsTypedEnding (solved r) = IsTypedStage r
 
   after_typed : (k : ℕ) → ((r : Stage) → IsTypedStage r → IsTypedEnding (run k r)) → (r : Rule) (es : List Equation) (ps : List Problem) (bs : List Binding) (whole : Stage)
-      → IsTypedRule r → AreTypedEquations es → AreTypedProblems ps → AreTypedBindings cs kinds bs → IsTypedEnding (after (run k) whole (apply_rule r es ps bs))
+      → IsTypedRule r → AreTypedEquations es → AreTypedProblems ps → AreTypedBindings cs kinds bs → IsTypedEnding (ending_after (run k) whole (apply_rule r es ps bs))
   after_typed k go (replace new qs) es ps bs whole s e p b = go _ (equations_typed-append new es s.0 e, problems_typed-append ps qs p s.1, b)
   after_typed k go (bind x v) es ps bs whole s e p b =
       go _ (equations_put_typed x v s.0 s.1 s.2 es e, problems_put_typed x v s.0 s.1 s.2 ps p, (s, bindings_put_typed x v s.0 s.1 s.2 bs b))
@@ -248,7 +248,7 @@ module _ (cs : List NominalConstructor) (kinds : List NominalKind) where
   IsTypedUnified None = Unit {0}
   IsTypedUnified (Some r) = AreTypedBindings cs kinds r.bindings × AreTypedConds kinds r.conditions
 
-  with_typed : (bs : List Binding) (o : Option (List Cond)) → AreTypedBindings cs kinds bs → AreTypedSome o → IsTypedUnified (with_conditions bs o)
+  with_typed : (bs : List Binding) (o : Option (List Cond)) → AreTypedBindings cs kinds bs → AreTypedSome o → IsTypedUnified (unified_under bs o)
   with_typed bs None h k = tt
   with_typed bs (Some ds) h k = (h, add_conds_typed ds [] k tt)
 

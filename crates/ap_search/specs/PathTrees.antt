@@ -84,11 +84,11 @@ is_before [] q = false
 is_before (i ∷ p) [] = false
 is_before (i ∷ p) (j ∷ q) = if i == j then is_before p q else nat_lt i j
 
-abbrev pub AllAfter : List ℕ → List NominalOut → Type 0
-AllAfter p [] = Unit {0}
-AllAfter p (o ∷ os) = (is_before p (out_path o) ≡ true) × AllAfter p os
+abbrev pub AllOutsAfter : List ℕ → List NominalOut → Type 0
+AllOutsAfter p [] = Unit {0}
+AllOutsAfter p (o ∷ os) = (is_before p (out_path o) ≡ true) × AllOutsAfter p os
 
 -- each comes before all that follow it
 abbrev pub AreInPathOrder : List NominalOut → Type 0
 AreInPathOrder [] = Unit {0}
-AreInPathOrder (o ∷ os) = AllAfter (out_path o) os × AreInPathOrder os
+AreInPathOrder (o ∷ os) = AllOutsAfter (out_path o) os × AreInPathOrder os

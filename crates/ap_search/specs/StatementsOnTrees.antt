@@ -5,7 +5,7 @@ use Rattle.ap_defs.specs.Goals.{Clauses, NominalQuery}
 use Rattle.ap_defs.specs.PathOrder.{has_prefix}
 use Rattle.ap_defs.specs.Paths.{Choice, HasChoice, InTree, marked_query}
 use Rattle.ap_paths.specs.Trees as trees
-use Rattle.ap_paths.specs.Trees.{AreKids, joined, times}
+use Rattle.ap_paths.specs.Trees.{AreKids, joined_below, times}
 use Rattle.ap_search.specs.Marks.{NominalMark, mark_in, mark_path}
 use Rattle.ap_search.specs.PathTrees.{AreInPathOrder, query_choice, query_choices, query_kept}
 use Rattle.ap_search.specs.Prefixes.{beginning}
@@ -13,7 +13,7 @@ use Rattle.ap_search.specs.Prefixes.{beginning}
 -- what is below a choice is what is below each of its ways, in order
 abbrev pub ChoicesAreATree : Type 0
 ChoicesAreATree = (program : Clauses) (d : ℕ) (q : NominalQuery) (p : List ℕ) (w : ℕ) → query_choices program d q p ≡ Some w
-    → outs_at program d q p ≡ joined (outs_at program d q) p 1 w
+    → outs_at program d q p ≡ joined_below (outs_at program d q) p 1 w
 
 -- of a choice the ways that are kept ascend, and below the others there is no mark, and so no output
 abbrev pub LeftOutHasNothing : Type 0
@@ -42,4 +42,4 @@ OneMarkAtAPath = (program : Clauses) (d : ℕ) (q : NominalQuery) (p : List ℕ)
 
 -- a path stands in the tree of the marks just where each of its entries is a choice
 abbrev pub TreeOfChoices : Type 0
-TreeOfChoices = (program : Clauses) (d : ℕ) (q : NominalQuery) (p : List ℕ) → InTree (marked_query program d q) p ↔ trees.InTree (query_choices program d q) p
+TreeOfChoices = (program : Clauses) (d : ℕ) (q : NominalQuery) (p : List ℕ) → InTree (marked_query program d q) p ↔ trees.InChoiceTree (query_choices program d q) p

@@ -3,7 +3,7 @@ use Rattle.std.specs.Prelude.{◌≡◌, ◌+◌, ◌++◌, ℕ, Bool, true, fal
 use Rattle.ap_defs.specs.Limits.{size_limit}
 use Rattle.ap_inputs.specs.declared.lines.LineKind.{LineKind}
 use Rattle.ap_inputs.specs.declared.lines.LineKind.TheVariants as kinds
-use Rattle.ap_inputs.specs.Lines.{is_stop, kind_of, query_end}
+use Rattle.ap_inputs.specs.Lines.{is_stop_line, line_kind_of, query_end}
 use Rattle.ap_shell.specs.declared.loading.Outcome.{Outcome}
 use Rattle.ap_shell.specs.declared.session.Session.{Session}
 use Rattle.ap_shell.specs.declared.replies.Reply.{Reply}
@@ -12,14 +12,14 @@ use Rattle.ap_shell.specs.Answers.{IsAnswer, IsCounted, IsExamined, IsProved}
 use Rattle.ap_shell.specs.Loads.{IsLoadedBy, IsOutcome}
 
 -- the query that ends in a line of a kind, behind the lines before it
-abbrev pub query_in : List ℕ → LineKind → List ℕ → Option (List ℕ)
-query_in waiting kinds.Text line = option_map (λ n. waiting ++ take n line) (query_end line)
-query_in waiting other line = None
+abbrev pub asked_in : List ℕ → LineKind → List ℕ → Option (List ℕ)
+asked_in waiting kinds.Text line = option_map (λ n. waiting ++ take n line) (query_end line)
+asked_in waiting other line = None
 
 -- the query that ends in a line, where no clauses are added
 abbrev pub query_unless : Bool → List ℕ → List ℕ → Option (List ℕ)
 query_unless true waiting line = None
-query_unless false waiting line = query_in waiting (kind_of line) line
+query_unless false waiting line = asked_in waiting (line_kind_of line) line
 
 abbrev pub typed_query : Session → List ℕ → Option (List ℕ)
 typed_query s line = query_unless s.is_adding s.waiting.items line
@@ -29,8 +29,8 @@ is_command kinds.Command = true
 is_command other = false
 
 -- a line that is obeyed
-abbrev pub commands : Session → List ℕ → Bool
-commands s line = if s.is_adding then false else is_command (kind_of line)
+abbrev pub line_is_obeyed : Session → List ℕ → Bool
+line_is_obeyed s line = if s.is_adding then false else is_command (line_kind_of line)
 
 -- HOW MUCH OF A LINE IS TAKEN, AND WHICH LINES WAIT
 
@@ -44,7 +44,7 @@ used_of kinds.Text line = up_to (query_end line) line
 used_of other line = length line
 
 abbrev pub used_by : Session → List ℕ → ℕ
-used_by s line = if s.is_adding then length line else used_of (kind_of line) line
+used_by s line = if s.is_adding then length line else used_of (line_kind_of line) line
 
 -- a line behind those that wait; where they become too large, none waits
 abbrev pub with_line : List ℕ → List ℕ → List ℕ
@@ -56,26 +56,26 @@ waiting_behind (Some n) waiting line = []
 waiting_behind None waiting line = with_line waiting line
 
 -- a line without a mark is left out, and a command drops those that wait
-abbrev pub waiting_of : LineKind → List ℕ → List ℕ → List ℕ
-waiting_of kinds.Empty waiting line = waiting
-waiting_of kinds.Command waiting line = []
-waiting_of kinds.Text waiting line = waiting_behind (query_end line) waiting line
+abbrev pub lines_waiting : LineKind → List ℕ → List ℕ → List ℕ
+lines_waiting kinds.Empty waiting line = waiting
+lines_waiting kinds.Command waiting line = []
+lines_waiting kinds.Text waiting line = waiting_behind (query_end line) waiting line
 
 -- clauses wait up to a line that holds a full stop alone
 abbrev pub waiting_added : List ℕ → List ℕ → List ℕ
-waiting_added waiting line = if is_stop line then [] else with_line waiting line
+waiting_added waiting line = if is_stop_line line then [] else with_line waiting line
 
 -- which lines wait after a line
 abbrev pub waiting_after : Session → List ℕ → List ℕ
-waiting_after s line = if s.is_adding then waiting_added s.waiting.items line else waiting_of (kind_of line) s.waiting.items line
+waiting_after s line = if s.is_adding then waiting_added s.waiting.items line else lines_waiting (line_kind_of line) s.waiting.items line
 
 -- clauses are added up to a line that holds a full stop alone
 abbrev pub adding_after : Session → List ℕ → Bool
-adding_after s line = if is_stop line then false else s.is_adding
+adding_after s line = if is_stop_line line then false else s.is_adding
 
 -- a command drops the lines that wait
 abbrev pub drops : Session → List ℕ → Bool
-drops s line = commands s line && not (length s.waiting.items == 0)
+drops s line = line_is_obeyed s line && not (length s.waiting.items == 0)
 
 -- WHAT IS LOADED
 
@@ -89,7 +89,7 @@ LoadsWhere true added old new = AddsClauses added old new
 LoadsWhere false added old new = new ≡ old
 
 abbrev pub LoadsBy : Session → Session → List ℕ → Type 0
-LoadsBy old new line = LoadsWhere (if old.is_adding then is_stop line else false) old.waiting.items old.loaded.items new.loaded.items
+LoadsBy old new line = LoadsWhere (if old.is_adding then is_stop_line line else false) old.waiting.items old.loaded.items new.loaded.items
 
 -- what no command changes: what is loaded, the last query, and the lines that wait
 pub record KeepsTexts (old new : Session) : Type 0 where

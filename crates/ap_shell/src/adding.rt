@@ -80,7 +80,7 @@ pub(crate) fn add_line(alloc: Global, session: &mut Session, line: &[u8]) -> Res
     ensures last { session.new.last ≡ session.old.last }
     ensures waits { OnOk result
         (session.new.waiting.items ≡ waiting_added session.old.waiting.items line.now) }
-    ensures loaded { OnOk result (LoadsWhere (lines.is_stop line.now)
+    ensures loaded { OnOk result (LoadsWhere (lines.is_stop_line line.now)
         session.old.waiting.items session.old.loaded.items session.new.loaded.items) }
     ensures kept { OnErr result (session.new.loaded ≡ session.old.loaded) }
 {

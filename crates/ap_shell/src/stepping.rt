@@ -2,7 +2,7 @@
 ghost use Rattle.std.specs.Prelude.{◌≡◌, ◌<◌, ◌≤◌, ◌++◌, [], ℕ, List as list, None, Some, false, IfOk, OnErr, OnOk, length};
 ghost use Rattle.ap_inputs.specs.declared.lines.LineKind.TheVariants as kinds;
 ghost use Rattle.ap_inputs.specs.Lines as lines;
-ghost use Rattle.ap_shell.specs.Steps.{IsQueryStep, IsReplyOf, LoadsBy, WritesUnless, adding_after, commands, drops, query_in, typed_query, up_to, used_by, waiting_after, waiting_behind};
+ghost use Rattle.ap_shell.specs.Steps.{IsQueryStep, IsReplyOf, LoadsBy, WritesUnless, adding_after, line_is_obeyed, drops, asked_in, typed_query, up_to, used_by, waiting_after, waiting_behind};
 
 use crate::adding::{add_line, keep_line, told_of};
 use crate::asking::ask;
@@ -40,10 +40,10 @@ fn query_line<R: Threads + Wait + Sync, G: Gate>(
     line: &[u8],
 ) -> Result<Step, Memory>
     ensures asked { IfOk result (λ s. IsReplyOf session.new s.reply) }
-    ensures typed { (q : list ℕ) → query_in session.old.waiting.items kinds.Text line.now ≡ Some q →
+    ensures typed { (q : list ℕ) → asked_in session.old.waiting.items kinds.Text line.now ≡ Some q →
         IfOk result (λ s. IsQueryStep session.old session.new q s.reply) }
     ensures quiet { IfOk result (λ s. WritesUnless false
-        (query_in session.old.waiting.items kinds.Text line.now) s.reply) }
+        (asked_in session.old.waiting.items kinds.Text line.now) s.reply) }
     ensures used { IfOk result (λ s. s.used ≡ up_to (lines.query_end line.now) line.now) }
     ensures within { IfOk result (λ s. (s.used ≤ length line.now)
         × (0 < length line.now → 0 < s.used)) }
@@ -52,7 +52,7 @@ fn query_line<R: Threads + Wait + Sync, G: Gate>(
         ≡ waiting_behind (lines.query_end line.now) session.old.waiting.items line.now) }
     ensures loaded { session.new.loaded ≡ session.old.loaded }
     ensures adding { session.new.is_adding ≡ session.old.is_adding }
-    ensures last { query_in session.old.waiting.items kinds.Text line.now ≡ None →
+    ensures last { asked_in session.old.waiting.items kinds.Text line.now ≡ None →
         session.new.last ≡ session.old.last }
 {
     match query_end(line) {
@@ -92,7 +92,7 @@ pub fn step<R: Threads + Wait + Sync, G: Gate>(
     ensures typed { (q : list ℕ) → typed_query session.old line.now ≡ Some q →
         IfOk result (λ s. IsQueryStep session.old session.new q s.reply) }
     // Any other line that is no command writes nothing.
-    ensures quiet { IfOk result (λ s. WritesUnless (commands session.old line.now)
+    ensures quiet { IfOk result (λ s. WritesUnless (line_is_obeyed session.old line.now)
         (typed_query session.old line.now) s.reply) }
     // A line is taken up to the end of its query, or else all of it.
     ensures used { IfOk result (λ s. s.used ≡ used_by session.old line.now) }
@@ -102,7 +102,7 @@ pub fn step<R: Threads + Wait + Sync, G: Gate>(
     ensures waits { OnOk result (session.new.waiting.items ≡ waiting_after session.old line.now) }
     ensures dropped { IfOk result (λ s. s.dropped ≡ drops session.old line.now) }
     // Clauses are added up to a full stop alone; the last query is the one that ended last.
-    ensures adding { commands session.old line.now ≡ false →
+    ensures adding { line_is_obeyed session.old line.now ≡ false →
         OnOk result (session.new.is_adding ≡ adding_after session.old line.now) }
     ensures last { typed_query session.old line.now ≡ None → session.new.last ≡ session.old.last }
     // The end of clauses that are added loads them, where they have no fault. Nothing else changes what is loaded.

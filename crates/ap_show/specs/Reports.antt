@@ -45,7 +45,7 @@ pub record IsShownBundle (format : Format) (b : NominalBundle) (r : Report) : Ty
   pub status : r.status ≡ status.Ok
 
 -- A document of a bundle that is read.
-pub record IsShown (format : Format) (bytes : List ℕ) (r : Report) : Type 0 where
+pub record IsShownDocument (format : Format) (bytes : List ℕ) (r : Report) : Type 0 where
   pub bundle : NominalBundle
   pub read : reading bytes ≡ Ok bundle
   pub shown : IsShownBundle format bundle r
@@ -58,7 +58,7 @@ pub record PassesCheck (read : Result NominalBundle BundleFault) : Type 0 where
 
 -- what is shown, by what `check` says
 abbrev pub IsShownAfter : Status → Format → List ℕ → Report → Report → Type 0
-IsShownAfter status.Ok format bytes checked r = IsShown format bytes r
+IsShownAfter status.Ok format bytes checked r = IsShownDocument format bytes r
 IsShownAfter _ format bytes checked r = r ≡ checked
 
 -- What is shown of bytes: the report of `check` where that has another status than Ok, and a document where it has that.

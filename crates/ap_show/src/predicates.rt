@@ -6,7 +6,7 @@ ghost use Rattle.ap_syntax.specs.Reading.{Reads};
 ghost use Rattle.ap_defs.specs.Limits.{size_limit};
 ghost use Rattle.ap_text.specs.Texts.{HasItems};
 ghost use Rattle.ap_trees.specs.Items.{ItemOf};
-ghost use Rattle.ap_trees.specs.Trees.{item_of, items_of};
+ghost use Rattle.ap_trees.specs.Trees.{item_of, items_of_text};
 ghost use Rattle.ap_show.specs.Predicates.{predicate_words};
 
 use ap_defs::lists::Text;
@@ -29,7 +29,7 @@ fn keep_word(alloc: Global, words: &mut Vec<Text>, item: &Item<'_>) -> Result<()
 
 /// The words of the predicates that items declare, in order.
 fn words_of_items(alloc: Global, items: &[Item<'_>]) -> Result<Vec<Text>, Memory>
-    ensures { IfOk result (λ words. words.items ≡ predicate_words (items_of items.now)) }
+    ensures { IfOk result (λ words. words.items ≡ predicate_words (items_of_text items.now)) }
 {
     let mut words = Vec::new(alloc);
     for item in items {

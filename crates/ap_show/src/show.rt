@@ -8,7 +8,7 @@ ghost use Rattle.ap_defs.specs.Limits.{size_limit};
 ghost use Rattle.ap_defs.specs.Printing.{has_word};
 ghost use Rattle.ap_answers.specs.Words.{knows};
 ghost use Rattle.ap_bundle.specs.Reading.{reading};
-ghost use Rattle.ap_show.specs.Reports.{AreWritten, IsDocument, IsShowReport, IsShown, IsShownBundle, IsDocumentWritten, PassesCheck};
+ghost use Rattle.ap_show.specs.Reports.{AreWritten, IsDocument, IsShowReport, IsShownDocument, IsShownBundle, IsDocumentWritten, PassesCheck};
 
 use crate::predicates::predicate_words;
 use ap_answers::printing::words_in;
@@ -113,7 +113,7 @@ fn document_of_bundle(alloc: Global, format: Format, bundle: &Bundle) -> Result<
 fn document_of_bytes(alloc: Global, format: Format, bytes: &[u8]) -> Result<Report, Memory>
     requires short { length bytes.now ≤ size_limit }
     requires passes { PassesCheck (reading bytes.now) }
-    ensures { IfOk result (λ r. IsShown format bytes.now r) }
+    ensures { IfOk result (λ r. IsShownDocument format bytes.now r) }
 {
     match read_bundle(alloc, bytes) {
         Ok(bundle) => document_of_bundle(alloc, format, &bundle),

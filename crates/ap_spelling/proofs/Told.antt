@@ -11,7 +11,7 @@ use Rattle.ap_defs.specs.Printing.{has_word}
 use Rattle.ap_defs.specs.Unification.{has_var}
 use Rattle.ap_spelling.specs.Differing.{AllDiffer, IsBeginning, spellings}
 use Rattle.ap_spelling.specs.Words as given
-use Rattle.ap_spelling.specs.Words.{NominalGiven, NominalSpelt, Numbered, base, give, give_each, word_with_number, number_after, next_number, number_from, numbered_by, numbered_next, spelling_of, stands, spelt_with_name, with_var}
+use Rattle.ap_spelling.specs.Words.{NominalGiven, NominalSpelt, Numbered, base, give, give_each, word_with_number, number_after, next_spelling, number_from, numbered_by, numbered_next, spelling_of, stands, spelt_with_name, with_var}
 use Rattle.ap_spelling.proofs.WordLists.{IsOneMore, at_back, in_front, is_not, more_at_back, more_names, more_vars, same_word, word_alike}
 use Rattle.ap_spelling.proofs.Numbered.{IsBase, IsFree, is_base, is_free, next_small, numbers_taken, same_base, same_number}
 
@@ -144,7 +144,7 @@ last_by words us last w (Some n) told e =
     record { most = λ k h. let same : Some n ≡ Some k = sym e ∙ h in let equal : n ≡ k = cc in omega (arith, equal); few = few_numbers words us last w n told e; taken = λ k a b. told.taken w n k e a b }
 
 next_is_free : (words us : List (List ℕ)) (last : Numbered) (w : List ℕ) → unwrap_or (last w) 0 ≤ length words + length us → 2 * length words + length us + 2 < 2 ^ 64
-    → IsFree words w (unwrap_or (last w) 0 + 1) (next_number words w last)
+    → IsFree words w (unwrap_or (last w) 0 + 1) (next_spelling words w last)
 next_is_free words us last w few small =
     let n = unwrap_or (last w) 0 in
     subst (λ i. IsFree words w (n + 1) (number_from words w i (length words))) (sym (next_small n (omega (arith, few, small)))) (is_free words w (n + 1) (omega (arith, few, small)))
@@ -192,8 +192,8 @@ none_of None h = refl
 none_of (Some n) h = absurd (true≢false (sym h))
 
 told_by : (words us ws : List (List ℕ)) (letter w : List ℕ) (last : Numbered) (b : Bool) → stands words w last ≡ b → IsBase letter
-    → IsOneMore (if b then w else word_with_number (base letter w) (next_number words (base letter w) last)) us ws → AreTold words last us → 2 * length words + length us + 2 < 2 ^ 64
-    → AreTold words (if b then numbered_next w 0 last else numbered_next (base letter w) (next_number words (base letter w) last) last) ws
+    → IsOneMore (if b then w else word_with_number (base letter w) (next_spelling words (base letter w) last)) us ws → AreTold words last us → 2 * length words + length us + 2 < 2 ^ 64
+    → AreTold words (if b then numbered_next w 0 last else numbered_next (base letter w) (next_spelling words (base letter w) last) last) ws
 told_by words us ws letter w last true e i more told small =
     let h = and_parts (has_word w words) (not (is_some (last w))) e in
     use_word words us ws last w told more h.0 (none_of (last w) h.1)
@@ -202,9 +202,9 @@ told_by words us ws letter w last false e i more told small =
     let n = unwrap_or (last v) 0 in
     let old : IsLast words us last v n = last_by words us last v (last v) told refl in
     let few = old.few in
-    let free : IsFree words v (n + 1) (next_number words v last) = next_is_free words us last v few small in
+    let free : IsFree words v (n + 1) (next_spelling words v last) = next_is_free words us last v few small in
     let most = free.most in
-    use_number words us ws last v n (next_number words v last) told (is_base letter w i) more old free (omega (arith, few, most, small))
+    use_number words us ws last v n (next_spelling words v last) told (is_base letter w i) more old free (omega (arith, few, most, small))
 
 -- one word more is spelled
 told_with : (words us ws : List (List ℕ)) (letter w : List ℕ) (last : Numbered) → IsBase letter → IsOneMore (spelling_of words letter w last) us ws → AreTold words last us

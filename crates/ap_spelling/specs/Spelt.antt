@@ -24,5 +24,5 @@ abbrev pub spelt_of : Spelt → NominalSpelt
 spelt_of s = record { names = s.names.keys; name_words = s.name_words.items; vars = s.vars.keys; var_words = s.var_words.items; last = last_of s.last }
 
 -- whether a set of words that are lent has a word
-abbrev pub knows : {S : Type 0} → HashSet (Bor (List ℕ)) S → List ℕ → Bool
-knows set w = contains_by (λ k. bytes_eq w k.now) set
+abbrev pub knows_word : {S : Type 0} → HashSet (Bor (List ℕ)) S → List ℕ → Bool
+knows_word set w = contains_by (λ k. bytes_eq w k.now) set

@@ -43,8 +43,8 @@ abbrev pub number_from : List (List ℕ) → List ℕ → ℕ → ℕ → ℕ
 number_from words w n zero = n
 number_from words w n (suc more) = if has_word (word_with_number w n) words then number_from words w (number_after n) more else n
 
-abbrev pub next_number : List (List ℕ) → List ℕ → Numbered → ℕ
-next_number words w last = number_from words w (number_after (unwrap_or (last w) 0)) (length words)
+abbrev pub next_spelling : List (List ℕ) → List ℕ → Numbered → ℕ
+next_spelling words w last = number_from words w (number_after (unwrap_or (last w) 0)) (length words)
 
 -- a word of the text that was not used stands as it is
 abbrev pub stands : List (List ℕ) → List ℕ → Numbered → Bool
@@ -53,11 +53,11 @@ stands words w last = has_word w words && not (is_some (last w))
 -- the spelling that is made of a word, and the numbers behind it
 abbrev pub spelling_of : List (List ℕ) → List ℕ → List ℕ → Numbered → List ℕ
 spelling_of words letter w last =
-    if stands words w last then w else word_with_number (base letter w) (next_number words (base letter w) last)
+    if stands words w last then w else word_with_number (base letter w) (next_spelling words (base letter w) last)
 
 abbrev pub numbered_by : List (List ℕ) → List ℕ → List ℕ → Numbered → Numbered
 numbered_by words letter w last =
-    if stands words w last then numbered_next w 0 last else numbered_next (base letter w) (next_number words (base letter w) last) last
+    if stands words w last then numbered_next w 0 last else numbered_next (base letter w) (next_spelling words (base letter w) last) last
 
 -- The names and variables that are spelled, each with its spelling at the same place, and the numbers so far.
 pub record NominalSpelt : Type 0 where
@@ -95,6 +95,6 @@ give_each words [] s = s
 give_each words (g ∷ gs) s = give_each words gs (give words g s)
 
 -- words that are left to what has them in the text
-abbrev pub kept : List (List ℕ) → Numbered → Numbered
-kept [] last = last
-kept (w ∷ ws) last = kept ws (numbered_next w 0 last)
+abbrev pub kept_words : List (List ℕ) → Numbered → Numbered
+kept_words [] last = last
+kept_words (w ∷ ws) last = kept_words ws (numbered_next w 0 last)

@@ -4,8 +4,8 @@
 ghost use Rattle.std.specs.Prelude.{◌≡◌, ◌==◌, ◌++◌, ◌∷◌, [], ℕ, zero, List as list, length, map, codes, string_bytes, unwrap_or, IfOk, OnOk};
 ghost use Rattle.ap_defs.specs.Printing.{has_word};
 ghost use Rattle.ap_spelling.specs.Words as spec;
-ghost use Rattle.ap_spelling.specs.Words.{give, give_each, numbered_by, numbered_next, next_number};
-ghost use Rattle.ap_spelling.specs.Spelt.{given_of, givens_of, knows, last_of, spelt_of};
+ghost use Rattle.ap_spelling.specs.Words.{give, give_each, numbered_by, numbered_next, next_spelling};
+ghost use Rattle.ap_spelling.specs.Spelt.{given_of, givens_of, knows_word, last_of, spelt_of};
 
 use ap_defs::lists::Text;
 use ap_defs::memory::Memory;
@@ -71,7 +71,7 @@ fn number_from(
     word: &str,
     first: u64,
 ) -> Result<u64, Memory>
-    requires { (w : list ℕ) → knows taken.now w ≡ has_word w words.now }
+    requires { (w : list ℕ) → knows_word taken.now w ≡ has_word w words.now }
     ensures { IfOk result (λ n. n ≡ spec.number_from words.now word.now first (length words.now)) }
 {
     let mut number = first;
@@ -93,11 +93,11 @@ fn with_number<'a>(
     last: &mut Numbers<'a>,
     word: &'a str,
 ) -> Result<Text, Memory>
-    requires { (w : list ℕ) → knows taken.now w ≡ has_word w words.now }
+    requires { (w : list ℕ) → knows_word taken.now w ≡ has_word w words.now }
     ensures text { IfOk result (λ text. text ≡ spec.word_with_number word.entry.now
-        (next_number words.now word.entry.now (last_of last.old))) }
+        (next_spelling words.now word.entry.now (last_of last.old))) }
     ensures last { OnOk result (last_of last.new ≡ numbered_next word.entry.now
-        (next_number words.now word.entry.now (last_of last.old)) (last_of last.old)) }
+        (next_spelling words.now word.entry.now (last_of last.old)) (last_of last.old)) }
 {
     let first = last.get(word).unwrap_or(0).saturating_add(1);
     let number = number_from(alloc, words, taken, word, first)?;
@@ -107,7 +107,7 @@ fn with_number<'a>(
 
 /// Whether a word stands as it is: one of the text that was not used.
 fn stands(words: &[Text], taken: &HashSet<&str>, last: &Numbers<'_>, word: &str) -> bool
-    requires { (w : list ℕ) → knows taken.now w ≡ has_word w words.now }
+    requires { (w : list ℕ) → knows_word taken.now w ≡ has_word w words.now }
     ensures { result ≡ spec.stands words.now word.now (last_of last.now) }
 {
     taken.contains(word) && last.get(word).is_none()
@@ -122,7 +122,7 @@ fn spelling_of<'a>(
     letter: &'a str,
     word: &'a str,
 ) -> Result<Text, Memory>
-    requires { (w : list ℕ) → knows taken.now w ≡ has_word w words.now }
+    requires { (w : list ℕ) → knows_word taken.now w ≡ has_word w words.now }
     ensures text { IfOk result (λ text. text
         ≡ spec.spelling_of words.now letter.entry.now word.entry.now (last_of last.old)) }
     ensures last { OnOk result (last_of last.new
@@ -156,7 +156,7 @@ impl<'a> Spelt<'a> {
         name: NameOf,
         word: &'a str,
     ) -> Result<(), Memory>
-        requires { (w : list ℕ) → knows taken.now w ≡ has_word w words.now }
+        requires { (w : list ℕ) → knows_word taken.now w ≡ has_word w words.now }
         ensures { OnOk result (spelt_of self.new
             ≡ give words.now (given_of (Given.Name name word.entry)) (spelt_of self.old)) }
     {
@@ -180,7 +180,7 @@ impl<'a> Spelt<'a> {
         var: VarOf,
         word: &'a str,
     ) -> Result<(), Memory>
-        requires { (w : list ℕ) → knows taken.now w ≡ has_word w words.now }
+        requires { (w : list ℕ) → knows_word taken.now w ≡ has_word w words.now }
         ensures { OnOk result (spelt_of self.new
             ≡ give words.now (given_of (Given.Var var word.entry)) (spelt_of self.old)) }
     {
@@ -202,7 +202,7 @@ impl<'a> Spelt<'a> {
         taken: &HashSet<&str>,
         given: Given<'a>,
     ) -> Result<(), Memory>
-        requires { (w : list ℕ) → knows taken.now w ≡ has_word w words.now }
+        requires { (w : list ℕ) → knows_word taken.now w ≡ has_word w words.now }
         ensures { OnOk result (spelt_of self.new
             ≡ give words.now (given_of given.entry) (spelt_of self.old)) }
     {
@@ -220,7 +220,7 @@ impl<'a> Spelt<'a> {
         taken: &HashSet<&str>,
         givens: &[Given<'a>],
     ) -> Result<(), Memory>
-        requires { (w : list ℕ) → knows taken.now w ≡ has_word w words.now }
+        requires { (w : list ℕ) → knows_word taken.now w ≡ has_word w words.now }
         ensures { OnOk result (spelt_of self.new
             ≡ give_each words.now (givens_of givens.now) (spelt_of self.old)) }
     {

@@ -5,15 +5,15 @@ use Rattle.ap_defs.specs.RawTerms.{RawTerm}
 use Rattle.ap_defs.specs.Goals.{GoalOver, succeed, atom, equal, fresh, both, either, exists, new}
 use Rattle.ap_spines.specs.declared.RawLayer.{RawLayer}
 use Rattle.ap_spines.specs.declared.GoalLayer.{GoalLayer}
-use Rattle.ap_spines.specs.Spines.{raw_in, raw_within, goal_in, goal_within}
+use Rattle.ap_spines.specs.Spines.{raw_in, raw_within, raw_goal_in, raw_goal_within}
 
 pub raw_within_last : (ls : List RawLayer) (l : RawLayer) (t : RawTerm) → raw_within (ls ++ l ∷ []) t ≡ raw_within ls (raw_in l t)
 raw_within_last [] l t = refl
 raw_within_last (k ∷ ls) l t = ap (λ u. raw_in k u) (raw_within_last ls l t)
 
-pub goal_within_last : (ls : List GoalLayer) (l : GoalLayer) (g : GoalOver RawTerm) → goal_within (ls ++ l ∷ []) g ≡ goal_within ls (goal_in l g)
+pub goal_within_last : (ls : List GoalLayer) (l : GoalLayer) (g : GoalOver RawTerm) → raw_goal_within (ls ++ l ∷ []) g ≡ raw_goal_within ls (raw_goal_in l g)
 goal_within_last [] l g = refl
-goal_within_last (k ∷ ls) l g = ap (λ h. goal_in k h) (goal_within_last ls l g)
+goal_within_last (k ∷ ls) l g = ap (λ h. raw_goal_in k h) (goal_within_last ls l g)
 
 -- how many parts a term has
 abbrev pub raw_size : RawTerm → ℕ

@@ -19,12 +19,12 @@ abbrev pub raw_within : List RawLayer → RawTerm → RawTerm
 raw_within [] t = t
 raw_within (l ∷ ls) t = raw_in l (raw_within ls t)
 
-abbrev pub goal_in : GoalLayer → GoalOver RawTerm → GoalOver RawTerm
-goal_in (around_goal.Both g) h = goals.both (goal_over raw_of g) h
-goal_in (around_goal.Either g) h = goals.either (goal_over raw_of g) h
-goal_in (around_goal.Exists x) h = goals.exists x h
-goal_in (around_goal.New a) h = goals.new a h
+abbrev pub raw_goal_in : GoalLayer → GoalOver RawTerm → GoalOver RawTerm
+raw_goal_in (around_goal.Both g) h = goals.both (goal_over raw_of g) h
+raw_goal_in (around_goal.Either g) h = goals.either (goal_over raw_of g) h
+raw_goal_in (around_goal.Exists x) h = goals.exists x h
+raw_goal_in (around_goal.New a) h = goals.new a h
 
-abbrev pub goal_within : List GoalLayer → GoalOver RawTerm → GoalOver RawTerm
-goal_within [] g = g
-goal_within (l ∷ ls) g = goal_in l (goal_within ls g)
+abbrev pub raw_goal_within : List GoalLayer → GoalOver RawTerm → GoalOver RawTerm
+raw_goal_within [] g = g
+raw_goal_within (l ∷ ls) g = raw_goal_in l (raw_goal_within ls g)

@@ -7,7 +7,7 @@
 ghost use Rattle.std.specs.Prelude.{◌≡◌, IfOk};
 ghost use Rattle.ap_defs.specs.RawTerms.{raw_of};
 ghost use Rattle.ap_defs.specs.Goals.{goal_over};
-ghost use Rattle.ap_spines.specs.Spines.{raw_in, raw_within, goal_in, goal_within};
+ghost use Rattle.ap_spines.specs.Spines.{raw_in, raw_within, raw_goal_in, raw_goal_within};
 
 use ap_defs::goals::Goal;
 use ap_defs::memory::Memory;
@@ -63,7 +63,7 @@ pub fn close_raw(alloc: Global, mut layers: Vec<RawLayer>, t: Raw) -> Result<Raw
 
 /// A goal in a layer.
 fn goal_in(alloc: Global, layer: GoalLayer, g: Goal<Raw>) -> Result<Goal<Raw>, Memory>
-    ensures { IfOk result (λ h. goal_over raw_of h ≡ goal_in layer (goal_over raw_of g)) }
+    ensures { IfOk result (λ h. goal_over raw_of h ≡ raw_goal_in layer (goal_over raw_of g)) }
 {
     match layer {
         GoalLayer::Both(left) => {
@@ -87,7 +87,7 @@ pub fn close_goal(
     g: Goal<Raw>,
 ) -> Result<Goal<Raw>, Memory>
     ensures { IfOk result (λ h. goal_over raw_of h
-        ≡ goal_within layers.items (goal_over raw_of g)) }
+        ≡ raw_goal_within layers.items (goal_over raw_of g)) }
 {
     let mut made = g;
     while let Some(layer) = layers.pop() {

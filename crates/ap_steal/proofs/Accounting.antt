@@ -21,52 +21,52 @@ use Rattle.ap_tasks.specs.Owners.{stolen_of}
 use Rattle.ap_tasks.specs.Thieves.{Stole}
 use Rattle.ap_tasks.specs.declared.thief.Stolen.{Stolen}
 use Rattle.ap_tasks.specs.declared.thief.Stolen.TheVariants.{Empty, Again}
-use Rattle.ap_lock.specs.Turns.{Begins, maker_of, places_from, places_of}
+use Rattle.ap_lock.specs.Turns.{Begins, maker_of, own_places_from, places_of}
 use Rattle.ap_lock.specs.Seats.{SeatView, IsTurn}
 use Rattle.ap_lock.proofs.Places.{places_from-append}
 use Rattle.ap_steal.specs.declared.tools.Tools.{Tools}
 use Rattle.ap_steal.specs.Hands.{held}
-use Rattle.ap_steal.specs.Accounts.{made_by, opened, ended, fetched, Took, came, kept, AreShut, Ends, NoneLost}
+use Rattle.ap_steal.specs.Accounts.{entries_by, opened_kids, ended_paths, fetched, Took, came, kept_weight, AreShut, EndsJust, NoneLost}
 use Rattle.ap_steal.proofs.Own.{same_front}
 use Rattle.ap_steal.proofs.Sole.{quiet_front}
 
-made_by-append : (n : ℕ) (xs ys : List Entry) → made_by n (xs ++ ys) ≡ made_by n xs ++ made_by n ys
+made_by-append : (n : ℕ) (xs ys : List Entry) → entries_by n (xs ++ ys) ≡ entries_by n xs ++ entries_by n ys
 made_by-append n [] ys = refl
 made_by-append n (x ∷ xs) ys =
     let r = made_by-append n xs ys in
-    elim (eqb (maker_of x) n) as (λ b. (if b then x ∷ made_by n (xs ++ ys) else made_by n (xs ++ ys)) ≡ (if b then x ∷ made_by n xs else made_by n xs) ++ made_by n ys) [ true ↦ ap (λ l. x ∷ l) r | false ↦ r ]
+    elim (eqb (maker_of x) n) as (λ b. (if b then x ∷ entries_by n (xs ++ ys) else entries_by n (xs ++ ys)) ≡ (if b then x ∷ entries_by n xs else entries_by n xs) ++ entries_by n ys) [ true ↦ ap (λ l. x ∷ l) r | false ↦ r ]
 
-none_made : (i n : ℕ) (es : List Entry) → places_from i n es ≡ [] → made_by n es ≡ []
+none_made : (i n : ℕ) (es : List Entry) → own_places_from i n es ≡ [] → entries_by n es ≡ []
 none_made i n [] e = refl
 none_made i n (x ∷ xs) e =
-    let step : (b : Bool) → (if b then i ∷ places_from (suc i) n xs else places_from (suc i) n xs) ≡ [] → (if b then x ∷ made_by n xs else made_by n xs) ≡ [] = λ b.
-    elim b as (λ b. (if b then i ∷ places_from (suc i) n xs else places_from (suc i) n xs) ≡ [] → (if b then x ∷ made_by n xs else made_by n xs) ≡ []) [ true ↦ λ nil. absurd (let k = ap length nil in omega arith) | false ↦ λ nil. none_made (suc i) n xs nil ] in
+    let step : (b : Bool) → (if b then i ∷ own_places_from (suc i) n xs else own_places_from (suc i) n xs) ≡ [] → (if b then x ∷ entries_by n xs else entries_by n xs) ≡ [] = λ b.
+    elim b as (λ b. (if b then i ∷ own_places_from (suc i) n xs else own_places_from (suc i) n xs) ≡ [] → (if b then x ∷ entries_by n xs else entries_by n xs) ≡ []) [ true ↦ λ nil. absurd (let k = ap length nil in omega arith) | false ↦ λ nil. none_made (suc i) n xs nil ] in
     step (eqb (maker_of x) n) e
 
 -- a turn has no other entries of the seat
-made_turn : (old : SeatView) (turn : List Entry) → IsTurn old turn → made_by old.number turn ≡ made_by old.number old.seen
+made_turn : (old : SeatView) (turn : List Entry) → IsTurn old turn → entries_by old.number turn ≡ entries_by old.number old.seen
 made_turn old turn is =
     let n = old.number in
     let rest = is.0.0 in
     let all = sym (places_from-append 0 n old.seen rest) ∙ ap (places_of n) (sym is.0.1) ∙ is.1 in
-    let nil = same_front (places_of n old.seen) (places_from (0 + length old.seen) n rest) all in
-    ap (made_by n) is.0.1 ∙ made_by-append n old.seen rest ∙ ap (λ l. made_by n old.seen ++ l) (none_made (0 + length old.seen) n rest nil) ∙ append-nil (made_by n old.seen)
+    let nil = same_front (places_of n old.seen) (own_places_from (0 + length old.seen) n rest) all in
+    ap (entries_by n) is.0.1 ∙ made_by-append n old.seen rest ∙ ap (λ l. entries_by n old.seen ++ l) (none_made (0 + length old.seen) n rest nil) ∙ append-nil (entries_by n old.seen)
 
 -- and one more at its end
-made_more : (old : SeatView) (turn after : List Entry) (e : Entry) → maker_of e ≡ old.number → IsTurn old turn → after ≡ turn ++ e ∷ [] → made_by old.number after ≡ made_by old.number old.seen ++ e ∷ []
+made_more : (old : SeatView) (turn after : List Entry) (e : Entry) → maker_of e ≡ old.number → IsTurn old turn → after ≡ turn ++ e ∷ [] → entries_by old.number after ≡ entries_by old.number old.seen ++ e ∷ []
 made_more old turn after e mine is grown =
     let n = old.number in
-    let one : made_by n (e ∷ []) ≡ e ∷ [] = rw (eq-eqb (maker_of e) n mine) refl in
-    ap (made_by n) grown ∙ made_by-append n turn (e ∷ []) ∙ ap (λ l. l ++ made_by n (e ∷ [])) (made_turn old turn is) ∙ ap (λ l. made_by n old.seen ++ l) one
+    let one : entries_by n (e ∷ []) ≡ e ∷ [] = rw (eq-eqb (maker_of e) n mine) refl in
+    ap (entries_by n) grown ∙ made_by-append n turn (e ∷ []) ∙ ap (λ l. l ++ entries_by n (e ∷ [])) (made_turn old turn is) ∙ ap (λ l. entries_by n old.seen ++ l) one
 
-opened-append : (xs ys : List Entry) → opened (xs ++ ys) ≡ opened xs ++ opened ys
+opened-append : (xs ys : List Entry) → opened_kids (xs ++ ys) ≡ opened_kids xs ++ opened_kids ys
 opened-append [] ys = refl
-opened-append (Split s p ks ∷ xs) ys = ap (λ l. kids_of p ks ++ l) (opened-append xs ys) ∙ sym (append_assoc (kids_of p ks) (opened xs) (opened ys))
+opened-append (Split s p ks ∷ xs) ys = ap (λ l. kids_of p ks ++ l) (opened-append xs ys) ∙ sym (append_assoc (kids_of p ks) (opened_kids xs) (opened_kids ys))
 opened-append (Done s p os ∷ xs) ys = opened-append xs ys
 opened-append (Skip s p n ∷ xs) ys = opened-append xs ys
 opened-append (Stop s ∷ xs) ys = opened-append xs ys
 
-ended-append : (xs ys : List Entry) → ended (xs ++ ys) ≡ ended xs ++ ended ys
+ended-append : (xs ys : List Entry) → ended_paths (xs ++ ys) ≡ ended_paths xs ++ ended_paths ys
 ended-append [] ys = refl
 ended-append (Split s p ks ∷ xs) ys = ap (λ l. p ∷ l) (ended-append xs ys)
 ended-append (Done s p os ∷ xs) ys = ap (λ l. p ∷ l) (ended-append xs ys)
@@ -74,15 +74,15 @@ ended-append (Skip s p n ∷ xs) ys = ap (λ l. p ∷ l) (ended-append xs ys)
 ended-append (Stop s ∷ xs) ys = ended-append xs ys
 
 -- what was opened and ended, after one more entry
-opened_more : (h : List ℕ → ℕ) (old : SeatView) (turn after : List Entry) (e : Entry) → maker_of e ≡ old.number → IsTurn old turn → after ≡ turn ++ e ∷ [] → weigh h (opened (made_by old.number after)) ≡ weigh h (opened (made_by old.number old.seen)) + weigh h (opened (e ∷ []))
+opened_more : (h : List ℕ → ℕ) (old : SeatView) (turn after : List Entry) (e : Entry) → maker_of e ≡ old.number → IsTurn old turn → after ≡ turn ++ e ∷ [] → weigh h (opened_kids (entries_by old.number after)) ≡ weigh h (opened_kids (entries_by old.number old.seen)) + weigh h (opened_kids (e ∷ []))
 opened_more h old turn after e mine is grown =
-    let before = made_by old.number old.seen in
-    ap (λ (l : List Entry). weigh h (opened l)) (made_more old turn after e mine is grown) ∙ ap (weigh h) (opened-append before (e ∷ [])) ∙ weigh_both h (opened before) (opened (e ∷ []))
+    let before = entries_by old.number old.seen in
+    ap (λ (l : List Entry). weigh h (opened_kids l)) (made_more old turn after e mine is grown) ∙ ap (weigh h) (opened-append before (e ∷ [])) ∙ weigh_both h (opened_kids before) (opened_kids (e ∷ []))
 
-ended_more : (h : List ℕ → ℕ) (old : SeatView) (turn after : List Entry) (e : Entry) → maker_of e ≡ old.number → IsTurn old turn → after ≡ turn ++ e ∷ [] → weigh h (ended (made_by old.number after)) ≡ weigh h (ended (made_by old.number old.seen)) + weigh h (ended (e ∷ []))
+ended_more : (h : List ℕ → ℕ) (old : SeatView) (turn after : List Entry) (e : Entry) → maker_of e ≡ old.number → IsTurn old turn → after ≡ turn ++ e ∷ [] → weigh h (ended_paths (entries_by old.number after)) ≡ weigh h (ended_paths (entries_by old.number old.seen)) + weigh h (ended_paths (e ∷ []))
 ended_more h old turn after e mine is grown =
-    let before = made_by old.number old.seen in
-    ap (λ (l : List Entry). weigh h (ended l)) (made_more old turn after e mine is grown) ∙ ap (weigh h) (ended-append before (e ∷ [])) ∙ weigh_both h (ended before) (ended (e ∷ []))
+    let before = entries_by old.number old.seen in
+    ap (λ (l : List Entry). weigh h (ended_paths l)) (made_more old turn after e mine is grown) ∙ ap (weigh h) (ended-append before (e ∷ [])) ∙ weigh_both h (ended_paths before) (ended_paths (e ∷ []))
 
 begins_then : (a b c : List Entry) → Begins a b → Begins b c → Begins a c
 begins_then a b c f g = (f.0 ++ g.0, g.1 ∙ ap (λ l. l ++ g.0) f.1 ∙ append_assoc a f.0 g.0)
@@ -114,53 +114,53 @@ shut_begins a c [] f = f
 shut_begins a c (p ∷ ps) f = shut_begins a c ps f.1
 
 -- a turn in which nothing was entered
-pub ends_none : (old : SeatView) (turn : List Entry) → IsTurn old turn → Ends old.number old.seen [] turn
-ends_none old turn is = let same = made_turn old turn is in (ap opened same, ([], is.0, λ h. ap (λ (l : List Entry). weigh h (ended l) + 0) same))
+pub ends_none : (old : SeatView) (turn : List Entry) → IsTurn old turn → EndsJust old.number old.seen [] turn
+ends_none old turn is = let same = made_turn old turn is in (ap opened_kids same, ([], is.0, λ h. ap (λ (l : List Entry). weigh h (ended_paths l) + 0) same))
 
 -- a turn in which a path was not open
-ends_shut : (old : SeatView) (turn after : List Entry) (p : List ℕ) → IsTurn old turn → (is_open p (open_of (entries_of turn)) ≡ false) × (after ≡ turn) → Ends old.number old.seen (p ∷ []) after
+ends_shut : (old : SeatView) (turn after : List Entry) (p : List ℕ) → IsTurn old turn → (is_open p (open_of (entries_of turn)) ≡ false) × (after ≡ turn) → EndsJust old.number old.seen (p ∷ []) after
 ends_shut old turn after p is not =
-    let same = ap (made_by old.number) not.1 ∙ made_turn old turn is in
-    (ap opened same, (p ∷ [], one_shut old turn after p is not, λ h. ap (λ (l : List Entry). weigh h (ended l) + (h p + 0)) same))
+    let same = ap (entries_by old.number) not.1 ∙ made_turn old turn is in
+    (ap opened_kids same, (p ∷ [], one_shut old turn after p is not, λ h. ap (λ (l : List Entry). weigh h (ended_paths l) + (h p + 0)) same))
 
 -- a turn in which a path was ended without kids
-ends_one : (old : SeatView) (turn after : List Entry) (p : List ℕ) (e : Entry) → maker_of e ≡ old.number → opened (e ∷ []) ≡ [] → ended (e ∷ []) ≡ p ∷ [] → IsTurn old turn → after ≡ turn ++ e ∷ [] → Ends old.number old.seen (p ∷ []) after
+ends_one : (old : SeatView) (turn after : List Entry) (p : List ℕ) (e : Entry) → maker_of e ≡ old.number → opened_kids (e ∷ []) ≡ [] → ended_paths (e ∷ []) ≡ p ∷ [] → IsTurn old turn → after ≡ turn ++ e ∷ [] → EndsJust old.number old.seen (p ∷ []) after
 ends_one old turn after p e mine none one is grown =
     let n = old.number in
-    let before = made_by n old.seen in
-    let same : opened (made_by n after) ≡ opened before = ap opened (made_more old turn after e mine is grown) ∙ opened-append before (e ∷ []) ∙ ap (λ l. opened before ++ l) none ∙ append-nil (opened before) in
-    let step : (h : List ℕ → ℕ) → weigh h (ended (made_by n after)) + 0 ≡ weigh h (ended before) + (h p + 0) = λ h.
+    let before = entries_by n old.seen in
+    let same : opened_kids (entries_by n after) ≡ opened_kids before = ap opened_kids (made_more old turn after e mine is grown) ∙ opened-append before (e ∷ []) ∙ ap (λ l. opened_kids before ++ l) none ∙ append-nil (opened_kids before) in
+    let step : (h : List ℕ → ℕ) → weigh h (ended_paths (entries_by n after)) + 0 ≡ weigh h (ended_paths before) + (h p + 0) = λ h.
     let more = ended_more h old turn after e mine is grown in
-    let w : weigh h (ended (e ∷ [])) ≡ h p + 0 = ap (weigh h) one in
+    let w : weigh h (ended_paths (e ∷ [])) ≡ h p + 0 = ap (weigh h) one in
     omega arith in
     (same, ([], begins_more old turn after e is grown, step))
 
-pub ends_done : {X : Type 0} (old : SeatView) (turn after : List Entry) (p : List ℕ) (os : List Out) (x : X) → IsTurn old turn → EntersDone turn p os (Done old.number p os) (Ok x) after → Ends old.number old.seen (p ∷ []) after
+pub ends_done : {X : Type 0} (old : SeatView) (turn after : List Entry) (p : List ℕ) (os : List Out) (x : X) → IsTurn old turn → EntersDone turn p os (Done old.number p os) (Ok x) after → EndsJust old.number old.seen (p ∷ []) after
 ends_done old turn after p os x is enters = ends_one old turn after p (Done old.number p os) refl refl refl is enters.1
 
-pub ends_not_done : {X : Type 0} (old : SeatView) (turn after : List Entry) (p : List ℕ) (os : List Out) (e : Entry) (r : Result X DoneError) (d : DoneError) → r ≡ Err d → d.cause ≡ NotOpen → IsTurn old turn → EntersDone turn p os e r after → Ends old.number old.seen (p ∷ []) after
+pub ends_not_done : {X : Type 0} (old : SeatView) (turn after : List Entry) (p : List ℕ) (os : List Out) (e : Entry) (r : Result X DoneError) (d : DoneError) → r ≡ Err d → d.cause ≡ NotOpen → IsTurn old turn → EntersDone turn p os e r after → EndsJust old.number old.seen (p ∷ []) after
 ends_not_done {X} old turn after p os e r d not cause is enters =
     let f = subst (λ (x : Result X DoneError). EntersDone turn p os e x after) not enters in
     ends_shut old turn after p is (subst (Refuses turn p) cause f.0, f.2)
 
-pub ends_skip : {X : Type 0} (old : SeatView) (turn after : List Entry) (p : List ℕ) (l : Limit) (x : X) → IsTurn old turn → Skips turn p l old.number (Ok x) after → Ends old.number old.seen (p ∷ []) after
+pub ends_skip : {X : Type 0} (old : SeatView) (turn after : List Entry) (p : List ℕ) (l : Limit) (x : X) → IsTurn old turn → Skips turn p l old.number (Ok x) after → EndsJust old.number old.seen (p ∷ []) after
 ends_skip old turn after p l x is skips = ends_one old turn after p (Skip old.number p skips.1.0) refl refl refl is skips.1.2
 
-pub ends_not_skip : {X : Type 0} (old : SeatView) (turn after : List Entry) (p : List ℕ) (l : Limit) (n : ℕ) (r : Result X SkipError) → r ≡ Err refused.NotOpen → IsTurn old turn → Skips turn p l n r after → Ends old.number old.seen (p ∷ []) after
+pub ends_not_skip : {X : Type 0} (old : SeatView) (turn after : List Entry) (p : List ℕ) (l : Limit) (n : ℕ) (r : Result X SkipError) → r ≡ Err refused.NotOpen → IsTurn old turn → Skips turn p l n r after → EndsJust old.number old.seen (p ∷ []) after
 ends_not_skip {X} old turn after p l n r not is skips = ends_shut old turn after p is (subst (λ (x : Result X SkipError). Skips turn p l n x after) not skips)
 
-pub ends_needed : {X : Type 0} (old : SeatView) (turn after : List Entry) (p : List ℕ) (l : Limit) (n k : ℕ) (r : Result X SkipError) → r ≡ Err (refused.Needed k) → IsTurn old turn → Skips turn p l n r after → Ends old.number old.seen [] after
+pub ends_needed : {X : Type 0} (old : SeatView) (turn after : List Entry) (p : List ℕ) (l : Limit) (n k : ℕ) (r : Result X SkipError) → r ≡ Err (refused.Needed k) → IsTurn old turn → Skips turn p l n r after → EndsJust old.number old.seen [] after
 ends_needed {X} old turn after p l n k r needed is skips =
     let f = subst (λ (x : Result X SkipError). Skips turn p l n x after) needed skips in
-    subst (λ (t : List Entry). Ends old.number old.seen [] t) (sym f.1) (ends_none old turn is)
+    subst (λ (t : List Entry). EndsJust old.number old.seen [] t) (sym f.1) (ends_none old turn is)
 
 -- entries alone leave what a worker holds
-pub ends_keep : {W : Type 0} (n : ℕ) (seen after : List Entry) (ps : List (List ℕ)) (t : Tools W) → Ends n seen ps after → NoneLost n seen t ps after t
+pub ends_keep : {W : Type 0} (n : ℕ) (seen after : List Entry) (ps : List (List ℕ)) (t : Tools W) → EndsJust n seen ps after → NoneLost n seen t ps after t
 ends_keep {W} n seen after ps t ends =
     let e = ends.1 in
-    let step : (h : List ℕ → ℕ) → (kept h n after t + weigh h e.0) + came h n seen t ≡ (kept h n seen t + weigh h ps) + came h n after t = λ h.
+    let step : (h : List ℕ → ℕ) → (kept_weight h n after t + weigh h e.0) + came h n seen t ≡ (kept_weight h n seen t + weigh h ps) + came h n after t = λ h.
     let a = e.2 h in
-    let b : weigh h (opened (made_by n after)) ≡ weigh h (opened (made_by n seen)) = ap (weigh h) ends.0 in
+    let b : weigh h (opened_kids (entries_by n after)) ≡ weigh h (opened_kids (entries_by n seen)) = ap (weigh h) ends.0 in
     omega arith in
     (e.0, e.1, step)
 
@@ -170,8 +170,8 @@ pub split_keeps : {W X : Type 0} (old : SeatView) (turn after : List Entry) (p k
 split_keeps {W} {X} old turn after p ks x t u is enters takes =
     let n = old.number in
     let e = Split n p ks in
-    let step : (h : List ℕ → ℕ) → (kept h n after u + 0) + came h n old.seen t ≡ (kept h n old.seen t + (h p + 0)) + came h n after u = λ h.
-    let a : weigh h (ended (made_by n after)) ≡ weigh h (ended (made_by n old.seen)) + (h p + 0) = ended_more h old turn after e refl is enters.1 in
+    let step : (h : List ℕ → ℕ) → (kept_weight h n after u + 0) + came h n old.seen t ≡ (kept_weight h n old.seen t + (h p + 0)) + came h n after u = λ h.
+    let a : weigh h (ended_paths (entries_by n after)) ≡ weigh h (ended_paths (entries_by n old.seen)) + (h p + 0) = ended_more h old turn after e refl is enters.1 in
     let b = opened_more h old turn after e refl is enters.1 in
     let c : weigh h (kids_of p ks ++ []) ≡ weigh h (kids_of p ks) + 0 = weigh_both h (kids_of p ks) [] in
     let d = takes h in
@@ -186,7 +186,7 @@ not_split_keeps {W} {X} old turn after p e r t not is enters = ends_keep old.num
 -- one step, and then another
 pub lost_then : {W : Type 0} (n : ℕ) (s0 s1 s2 : List Entry) (t0 t1 t2 : Tools W) (ps qs rs : List (List ℕ)) → ((h : List ℕ → ℕ) → weigh h rs ≡ weigh h ps + weigh h qs) → NoneLost n s0 t0 ps s1 t1 → NoneLost n s1 t1 qs s2 t2 → NoneLost n s0 t0 rs s2 t2
 lost_then {W} n s0 s1 s2 t0 t1 t2 ps qs rs both f g =
-    let step : (h : List ℕ → ℕ) → (kept h n s2 t2 + weigh h (f.0 ++ g.0)) + came h n s0 t0 ≡ (kept h n s0 t0 + weigh h rs) + came h n s2 t2 = λ h.
+    let step : (h : List ℕ → ℕ) → (kept_weight h n s2 t2 + weigh h (f.0 ++ g.0)) + came h n s0 t0 ≡ (kept_weight h n s0 t0 + weigh h rs) + came h n s2 t2 = λ h.
     let a = f.2 h in
     let b = g.2 h in
     let c = weigh_both h f.0 g.0 in
@@ -210,13 +210,13 @@ steps_keep {W} n m s0 s1 s2 t0 t1 t2 same f g quiet =
 -- nothing was done
 pub lost_none : {W : Type 0} (n : ℕ) (s : List Entry) (t u : Tools W) → Took t [] u → NoneLost n s t [] s u
 lost_none {W} n s t u took =
-    let step : (h : List ℕ → ℕ) → (kept h n s u + 0) + came h n s t ≡ (kept h n s t + 0) + came h n s u = λ h. let a = took h in omega arith in
+    let step : (h : List ℕ → ℕ) → (kept_weight h n s u + 0) + came h n s t ≡ (kept_weight h n s t + 0) + came h n s u = λ h. let a = took h in omega arith in
     ([], begins_same s, step)
 
 -- a path is taken, and then run
 pub took_then : {W : Type 0} (n : ℕ) (s0 s1 : List Entry) (t u v : Tools W) (p : List ℕ) → Took t (p ∷ []) u → NoneLost n s0 u (p ∷ []) s1 v → NoneLost n s0 t [] s1 v
 took_then {W} n s0 s1 t u v p took f =
-    let step : (h : List ℕ → ℕ) → (kept h n s1 v + weigh h f.0) + came h n s0 t ≡ (kept h n s0 t + 0) + came h n s1 v = λ h.
+    let step : (h : List ℕ → ℕ) → (kept_weight h n s1 v + weigh h f.0) + came h n s0 t ≡ (kept_weight h n s0 t + 0) + came h n s1 v = λ h.
     let a = took h in
     let b = f.2 h in
     omega arith in
@@ -270,7 +270,7 @@ pub shut_keeps : {W X : Type 0} (old : SeatView) (turn after : List Entry) (p q 
 shut_keeps {W} {X} old turn after p q e r t same not is enters = subst (λ (k : List ℕ). NoneLost old.number old.seen t (k ∷ []) after t) same (not_split_keeps old turn after q e r t not is enters)
 
 -- a path that is needed, and then run
-pub needed_keeps : {W X E : Type 0} (n m : ℕ) (s0 s1 s2 : List Entry) (p : List ℕ) (t u : Tools W) (r : Result X E) → m ≡ n → Ends n s0 [] s1 → IfOk r (λ _. NoneLost m s1 t (p ∷ []) s2 u) → IfOk r (λ _. NoneLost n s0 t (p ∷ []) s2 u)
+pub needed_keeps : {W X E : Type 0} (n m : ℕ) (s0 s1 s2 : List Entry) (p : List ℕ) (t u : Tools W) (r : Result X E) → m ≡ n → EndsJust n s0 [] s1 → IfOk r (λ _. NoneLost m s1 t (p ∷ []) s2 u) → IfOk r (λ _. NoneLost n s0 t (p ∷ []) s2 u)
 needed_keeps n m s0 s1 s2 p t u (Ok x) same ends f =
     lost_then n s0 s1 s2 t t u [] (p ∷ []) (p ∷ []) (λ h. omega arith) (ends_keep n s0 s1 [] t ends) (subst (λ (k : ℕ). NoneLost k s1 t (p ∷ []) s2 u) same f)
 needed_keeps n m s0 s1 s2 p t u (Err e) same ends f = tt

@@ -5,15 +5,15 @@ use Rattle.ap_paths.specs.History.{kids_of}
 use Rattle.ap_paths.specs.Weights.{weigh}
 use Rattle.ap_tasks.proofs.Moves.{weigh-append}
 use Rattle.ap_steal.specs.declared.tools.Tools.{Tools}
-use Rattle.ap_steal.specs.Hands.{IsFresh, AreFresh}
+use Rattle.ap_steal.specs.Hands.{IsFreshTools, AreFreshTools}
 
 -- one more worker
-pub fresh_more : {W : Type 0} (n m : ℕ) (ts : List (Tools W)) (t : Tools W) → m ≡ n + length ts → AreFresh n ts → IsFresh m t → AreFresh n (ts ++ t ∷ [])
-fresh_more n m [] t at all is = let same : m ≡ n = omega arith in (subst (λ (k : ℕ). IsFresh k t) same is, tt)
+pub fresh_more : {W : Type 0} (n m : ℕ) (ts : List (Tools W)) (t : Tools W) → m ≡ n + length ts → AreFreshTools n ts → IsFreshTools m t → AreFreshTools n (ts ++ t ∷ [])
+fresh_more n m [] t at all is = let same : m ≡ n = omega arith in (subst (λ (k : ℕ). IsFreshTools k t) same is, tt)
 fresh_more n m (s ∷ ts) t at all is = (all.0, fresh_more (suc n) m ts t (omega arith) all.1 is)
 
 -- the tools of one worker are changed
-pub fresh_set : {W : Type 0} (n : ℕ) (ts : List (Tools W)) (i : ℕ) (d t : Tools W) → i < length ts → AreFresh n ts → ((m : ℕ) → IsFresh m (get_or ts i d) → IsFresh m t) → AreFresh n (set ts i t)
+pub fresh_set : {W : Type 0} (n : ℕ) (ts : List (Tools W)) (i : ℕ) (d t : Tools W) → i < length ts → AreFreshTools n ts → ((m : ℕ) → IsFreshTools m (get_or ts i d) → IsFreshTools m t) → AreFreshTools n (set ts i t)
 fresh_set n [] i d t low all keeps = all
 fresh_set n (s ∷ ts) zero d t low all keeps = (keeps n all.0, all.1)
 fresh_set n (s ∷ ts) (suc i) d t low all keeps = (all.0, fresh_set (suc n) ts i d t (omega arith) all.1 keeps)

@@ -7,17 +7,17 @@ use Rattle.ap_paths.specs.declared.limits.Limit.{Limit}
 use Rattle.ap_paths.specs.Limits.{IsWithin}
 use Rattle.ap_paths.specs.Entries.{entry_of, entries_of, stop, kids}
 use Rattle.ap_paths.specs.History.{has_stop}
-use Rattle.ap_paths.specs.Trees.{Choices, Outputs, InTree, IsChoice, IsPlan, Ascends, AreAtMost}
+use Rattle.ap_paths.specs.Trees.{Choices, Outputs, InChoiceTree, IsChoice, IsPlan, Ascends, AreAtMost}
 use Rattle.ap_paths.proofs.Histories.{has_stop-last}
 use Rattle.ap_book.proofs.Keeping.{entries_of-last}
 use Rattle.ap_book.specs.declared.error.BookError.{BookError}
 use Rattle.ap_book.specs.declared.error.DoneError.{DoneError}
 use Rattle.ap_book.specs.declared.error.SkipError.{SkipError}
 use Rattle.ap_book.specs.Answers.{Enters, EntersDone, Skips}
-use Rattle.ap_lock.specs.Turns.{Begins, maker_of, places_from, places_of}
+use Rattle.ap_lock.specs.Turns.{Begins, maker_of, own_places_from, places_of}
 use Rattle.ap_lock.specs.Seats.{SeatView, IsTurn}
 use Rattle.ap_lock.proofs.Places.{places_from-append}
-use Rattle.ap_steal.specs.Planned.{Plans, IsPlanned, OwnPlanned, AreChoices}
+use Rattle.ap_steal.specs.Planned.{Plans, IsPlanned, OwnPlanned, AllAreChoices}
 
 own_both : (c : Choices) (plan : Plans) (l : Limit) (n : ℕ) (xs ys : List Entry) → OwnPlanned c plan l n xs → OwnPlanned c plan l n ys → OwnPlanned c plan l n (xs ++ ys)
 own_both c plan l n [] ys h g = g
@@ -27,11 +27,11 @@ pub other : (a b : ℕ) → eqb a b ≡ false → a ≡ b → ⊥
 other a b no_match same = true≢false (sym (eq-eqb a b same) ∙ no_match)
 
 -- where no entry bears the number
-own_none : (c : Choices) (plan : Plans) (l : Limit) (i n : ℕ) (es : List Entry) → places_from i n es ≡ [] → OwnPlanned c plan l n es
+own_none : (c : Choices) (plan : Plans) (l : Limit) (i n : ℕ) (es : List Entry) → own_places_from i n es ≡ [] → OwnPlanned c plan l n es
 own_none c plan l i n [] e = tt
 own_none c plan l i n (x ∷ xs) e =
-    let step : (b : Bool) → eqb (maker_of x) n ≡ b → (if b then i ∷ places_from (suc i) n xs else places_from (suc i) n xs) ≡ [] → (maker_of x ≡ n → IsPlanned c plan (entry_of x) × IsWithin l (entry_of x)) × OwnPlanned c plan l n xs = λ b.
-    elim b as (λ b. eqb (maker_of x) n ≡ b → (if b then i ∷ places_from (suc i) n xs else places_from (suc i) n xs) ≡ [] → (maker_of x ≡ n → IsPlanned c plan (entry_of x) × IsWithin l (entry_of x)) × OwnPlanned c plan l n xs)
+    let step : (b : Bool) → eqb (maker_of x) n ≡ b → (if b then i ∷ own_places_from (suc i) n xs else own_places_from (suc i) n xs) ≡ [] → (maker_of x ≡ n → IsPlanned c plan (entry_of x) × IsWithin l (entry_of x)) × OwnPlanned c plan l n xs = λ b.
+    elim b as (λ b. eqb (maker_of x) n ≡ b → (if b then i ∷ own_places_from (suc i) n xs else own_places_from (suc i) n xs) ≡ [] → (maker_of x ≡ n → IsPlanned c plan (entry_of x) × IsWithin l (entry_of x)) × OwnPlanned c plan l n xs)
     [ true ↦ λ is nil. absurd (let k = ap length nil in omega arith) | false ↦ λ is nil. ((λ same. absurd (other (maker_of x) n is same)), own_none c plan l (suc i) n xs nil) ] in
     step (eqb (maker_of x) n) refl e
 
@@ -44,7 +44,7 @@ pub own_turn : (c : Choices) (plan : Plans) (l : Limit) (n : ℕ) (seen turn : L
 own_turn c plan l n seen turn begins known own =
     let rest = begins.0 in
     let all = sym (places_from-append 0 n seen rest) ∙ ap (places_of n) (sym begins.1) ∙ known in
-    let nil = same_front (places_of n seen) (places_from (0 + length seen) n rest) all in
+    let nil = same_front (places_of n seen) (own_places_from (0 + length seen) n rest) all in
     subst (OwnPlanned c plan l n) (sym begins.1) (own_both c plan l n seen rest own (own_none c plan l (0 + length seen) n rest nil))
 
 own_enters : {X : Type 0} (c : Choices) (plan : Plans) (l : Limit) (n : ℕ) (turn after : List Entry) (p : List ℕ) (e : Entry) (r : Result X BookError) → IsPlanned c plan (entry_of e) × IsWithin l (entry_of e) → Enters turn p e r after → OwnPlanned c plan l n turn → OwnPlanned c plan l n after
@@ -73,12 +73,12 @@ own_done c plan l old n turn after p outs e r same is planned enters own =
     subst (λ (k : ℕ). OwnPlanned c plan l k after) (sym same) (own_ends c plan l old.number turn after p outs e r planned enters (own_turn c plan l old.number old.seen turn is.0 is.1 own))
 
 -- after a turn that left a path out
-own_skips : {X : Type 0} (c : Choices) (plan : Plans) (l : Limit) (n : ℕ) (turn after : List Entry) (p : List ℕ) (r : Result X SkipError) → InTree c p → Skips turn p l n r after → OwnPlanned c plan l n turn → OwnPlanned c plan l n after
+own_skips : {X : Type 0} (c : Choices) (plan : Plans) (l : Limit) (n : ℕ) (turn after : List Entry) (p : List ℕ) (r : Result X SkipError) → InChoiceTree c p → Skips turn p l n r after → OwnPlanned c plan l n turn → OwnPlanned c plan l n after
 own_skips c plan l n turn after p (Ok x) there skips own =
     subst (OwnPlanned c plan l n) (sym skips.1.2) (own_both c plan l n turn (Skip n p skips.1.0 ∷ []) own ((λ _. (there, skips.1.1.0)), tt))
 own_skips c plan l n turn after p (Err cause) there skips own = subst (OwnPlanned c plan l n) (sym skips.1) own
 
-pub own_skip : {X : Type 0} (c : Choices) (plan : Plans) (l : Limit) (old : SeatView) (n : ℕ) (turn after : List Entry) (p : List ℕ) (r : Result X SkipError) → n ≡ old.number → IsTurn old turn → InTree c p → Skips turn p l old.number r after
+pub own_skip : {X : Type 0} (c : Choices) (plan : Plans) (l : Limit) (old : SeatView) (n : ℕ) (turn after : List Entry) (p : List ℕ) (r : Result X SkipError) → n ≡ old.number → IsTurn old turn → InChoiceTree c p → Skips turn p l old.number r after
     → OwnPlanned c plan l old.number old.seen → OwnPlanned c plan l n after
 own_skip c plan l old n turn after p r same is there skips own =
     subst (λ (k : ℕ). OwnPlanned c plan l k after) (sym same) (own_skips c plan l old.number turn after p r there skips (own_turn c plan l old.number old.seen turn is.0 is.1 own))
@@ -104,18 +104,18 @@ stop_stands n turn after stops =
     ap (λ (l : List Entry). has_stop (entries_of l)) stops ∙ step (has_stop (entries_of turn)) refl
 
 -- ascending numbers up to the width are choices
-are_choices : (o : Option ℕ) (w i : ℕ) (ks : List ℕ) → o ≡ Some w → 1 ≤ i → Ascends i ks → AreAtMost w ks → AreChoices o ks
+are_choices : (o : Option ℕ) (w i : ℕ) (ks : List ℕ) → o ≡ Some w → 1 ≤ i → Ascends i ks → AreAtMost w ks → AllAreChoices o ks
 are_choices o w i [] is low up most = tt
 are_choices o w i (k ∷ ks) is low up most = (subst (λ (x : Option ℕ). IsChoice x k) (sym is) (omega arith, most.0), are_choices o w (suc k) ks is (omega arith) up.1 most.1)
 
 -- the kids of a plan ascend, and are choices
-pub kids_choices : (c : Choices) (at : Outputs) (plan : Plans) (p ks : List ℕ) → IsPlan c at p (plan p) → plan p ≡ kids ks → Ascends 1 ks × AreChoices (c p) ks
+pub kids_choices : (c : Choices) (at : Outputs) (plan : Plans) (p ks : List ℕ) → IsPlan c at p (plan p) → plan p ≡ kids ks → Ascends 1 ks × AllAreChoices (c p) ks
 kids_choices c at plan p ks good is =
     let k = subst (IsPlan c at p) is good in
     (k.2, are_choices (c p) k.0 1 ks k.1 (omega arith) k.2 k.3)
 
 -- each of the choices, by its place
-pub choice_at : (o : Option ℕ) (ks : List ℕ) (i d : ℕ) → i < length ks → AreChoices o ks → IsChoice o (get_or ks i d)
+pub choice_at : (o : Option ℕ) (ks : List ℕ) (i d : ℕ) → i < length ks → AllAreChoices o ks → IsChoice o (get_or ks i d)
 choice_at o [] i d lt h = absurd (omega arith)
 choice_at o (k ∷ ks) zero d lt h = h.0
 choice_at o (k ∷ ks) (suc i) d lt h = choice_at o ks i d (omega arith) h.1

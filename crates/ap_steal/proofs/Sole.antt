@@ -16,8 +16,8 @@ use Rattle.ap_book.specs.declared.error.SkipError.TheVariants as refused
 use Rattle.ap_book.specs.Answers.{Refuses, Enters, EntersDone, Skips}
 use Rattle.ap_paths.specs.declared.limits.Limit.{Limit}
 use Rattle.ap_paths.proofs.Histories.{legal_parts}
-use Rattle.ap_core.specs.Traces.{AreSeats, IsInOrder, Leads}
-use Rattle.ap_lock.specs.Turns.{AreBy, maker_of, places_from, places_of}
+use Rattle.ap_core.specs.Traces.{AreSeats, IsInOrder, EventsLead}
+use Rattle.ap_lock.specs.Turns.{AreBy, maker_of, own_places_from, places_of}
 use Rattle.ap_lock.specs.Seats.{SeatView, IsTurn, AreLogged, AreMadeBy, logs_of}
 use Rattle.ap_lock.proofs.Places.{places_from-append}
 use Rattle.ap_steal.specs.Order.{Runs, IsSole, IsOrdered}
@@ -27,8 +27,8 @@ use Rattle.ap_steal.proofs.Whole.{entries_of-append, has_stop-append, either_fal
 use Rattle.atomic_table.specs.Seated.{TableId}
 use Rattle.ap_paths.specs.declared.entries.Closed.{Closed}
 use Rattle.ap_core.specs.declared.events.Event.{Event}
-use Rattle.ap_paths.specs.Trees.{Choices, Outputs, InTree, IsPlan, AreTrue}
-use Rattle.ap_core.specs.States.{State, start}
+use Rattle.ap_paths.specs.Trees.{Choices, Outputs, InChoiceTree, IsPlan, AreTrue}
+use Rattle.ap_core.specs.States.{WorkersState, start_state}
 use Rattle.ap_core.proofs.Permitted.{is_permitted}
 use Rattle.ap_core.proofs.OneWorker.{are_in_order}
 
@@ -122,11 +122,11 @@ by_both : (n : ℕ) (xs ys : List Entry) → AreBy n (xs ++ ys) → AreBy n xs �
 by_both n [] ys h = (tt, h)
 by_both n (x ∷ xs) ys h = let r = by_both n xs ys h.1 in ((h.0, r.0), r.1)
 
-none_left : (i n : ℕ) (es : List Entry) → AreBy n es → places_from i n es ≡ [] → es ≡ []
+none_left : (i n : ℕ) (es : List Entry) → AreBy n es → own_places_from i n es ≡ [] → es ≡ []
 none_left i n [] by e = refl
 none_left i n (x ∷ xs) by e =
-    let step : (b : Bool) → b ≡ true → (if b then i ∷ places_from (suc i) n xs else places_from (suc i) n xs) ≡ [] → x ∷ xs ≡ [] = λ b.
-    elim b as (λ b. b ≡ true → (if b then i ∷ places_from (suc i) n xs else places_from (suc i) n xs) ≡ [] → x ∷ xs ≡ []) [ true ↦ λ is nil. absurd (let k = ap length nil in omega arith) | false ↦ λ is nil. absurd (true≢false (sym is)) ] in
+    let step : (b : Bool) → b ≡ true → (if b then i ∷ own_places_from (suc i) n xs else own_places_from (suc i) n xs) ≡ [] → x ∷ xs ≡ [] = λ b.
+    elim b as (λ b. b ≡ true → (if b then i ∷ own_places_from (suc i) n xs else own_places_from (suc i) n xs) ≡ [] → x ∷ xs ≡ []) [ true ↦ λ is nil. absurd (let k = ap length nil in omega arith) | false ↦ λ is nil. absurd (true≢false (sym is)) ] in
     step (eqb (maker_of x) n) (eq-eqb (maker_of x) n by.0) e
 
 nothing_between : (old : SeatView) (turn : List Entry) → IsTurn old turn → AreBy old.number turn → turn ≡ old.seen
@@ -136,7 +136,7 @@ nothing_between old turn is by =
     let n = old.number in
     let parts = by_both n old.seen rest (subst (AreBy n) begins by) in
     let all = sym (places_from-append 0 n old.seen rest) ∙ ap (places_of n) (sym begins) ∙ is.1 in
-    let nil = same_front (places_of n old.seen) (places_from (0 + length old.seen) n rest) all in
+    let nil = same_front (places_of n old.seen) (own_places_from (0 + length old.seen) n rest) all in
     begins ∙ ap (λ l. old.seen ++ l) (none_left (0 + length old.seen) n rest parts.1 nil) ∙ append-nil old.seen
 
 pub quiet_front : (turn : List Entry) (es : List Entry) → has_stop (entries_of (turn ++ es)) ≡ false → has_stop (entries_of turn) ≡ false
@@ -237,15 +237,15 @@ ordered_whole c plan l book count ss s H all logged made legal quiet is zeroth o
     let by = subst (λ (n : ℕ). AreBy n s.seen) (sym zeroth) (seats_by s.seen seats) in
     subst (λ (l : List TreeEntry). IsInOrder ([] ∷ []) l) (sym w.0) (ordered (sym (ap has_stop w.0) ∙ quiet) by)
 
-permitted_at : (c : Choices) (at : Outputs) (n : ℕ) (h : List TreeEntry) → 0 < n → is_legal h ≡ true → has_stop h ≡ false → AreTrue c at h → AreSeats n h → (n ≡ 1 → IsInOrder ([] ∷ []) h) → (t : State) × (events : List Event) × Leads c at (start n) events t h
+permitted_at : (c : Choices) (at : Outputs) (n : ℕ) (h : List TreeEntry) → 0 < n → is_legal h ≡ true → has_stop h ≡ false → AreTrue c at h → AreSeats n h → (n ≡ 1 → IsInOrder ([] ∷ []) h) → (t : WorkersState) × (events : List Event) × EventsLead c at (start_state n) events t h
 permitted_at c at zero h some legal quiet true_of seats order = absurd (omega arith)
 permitted_at c at (suc zero) h some legal quiet true_of seats order = (are_in_order c at h).1 seats true_of (order refl) (legal_parts h legal).1
 permitted_at c at (suc (suc m)) h some legal quiet true_of seats order = is_permitted c at (suc (suc m)) h (omega arith) legal true_of quiet seats
 
 -- the history is that of a permitted list of events
-pub permitted_of : {E : Type 0} (c : Choices) (at : Outputs) (plan : Plans) (n : ℕ) (r : Result Closed E) → 0 < n → ((p : List ℕ) → InTree c p → IsPlan c at p (plan p))
+pub permitted_of : {E : Type 0} (c : Choices) (at : Outputs) (plan : Plans) (n : ℕ) (r : Result Closed E) → 0 < n → ((p : List ℕ) → InChoiceTree c p → IsPlan c at p (plan p))
     → IfOk r (λ x. (is_legal (entries_of x.history) ≡ true) × (has_stop (entries_of x.history) ≡ false) × (open_of (entries_of x.history) ≡ [])) → IfOk r (λ x. ArePlanned c plan (entries_of x.history))
     → IfOk r (λ x. (x.logs ≡ logs_of n x.history) × AreSeats n (entries_of x.history)) → (n ≡ 1 → IfOk r (λ x. IsInOrder ([] ∷ []) (entries_of x.history)))
-    → IfOk r (λ x. (t : State) × (events : List Event) × Leads c at (start n) events t (entries_of x.history))
+    → IfOk r (λ x. (t : WorkersState) × (events : List Event) × EventsLead c at (start_state n) events t (entries_of x.history))
 permitted_of c at plan n (Ok x) some good legal planned seats order = permitted_at c at n (entries_of x.history) some legal.0 legal.1 (planned_true c at plan (entries_of x.history) good planned) seats.1 order
 permitted_of c at plan n (Err e) some good legal planned seats order = tt

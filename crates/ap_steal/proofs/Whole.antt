@@ -9,7 +9,7 @@ use Rattle.ap_defs.specs.declared.paths.Progress.{Progress}
 use Rattle.ap_defs.specs.declared.paths.Progress.TheVariants.{Left, Finished, Stopped}
 use Rattle.ap_paths.specs.Entries.{TreeEntry, split, done, skip, stop, entry_of, entries_of}
 use Rattle.ap_paths.specs.History.{has_stop, is_stop, is_legal, legal_from, may_enter, open_after, open_from, open_of, left_of, progress_of}
-use Rattle.ap_paths.specs.Trees.{Choices, Outputs, InTree, IsTree, IsPlan, AreTrue}
+use Rattle.ap_paths.specs.Trees.{Choices, Outputs, InChoiceTree, IsTree, IsPlan, AreTrue}
 use Rattle.ap_paths.specs.declared.limits.Limit.{Limit}
 use Rattle.ap_paths.specs.Limits.{part, IsWithin, AreWithin}
 use Rattle.ap_paths.specs.Merging.{merged}
@@ -17,22 +17,22 @@ use Rattle.ap_paths.proofs.Histories.{legal_parts}
 use Rattle.ap_paths.proofs.Frontiers.{merged_whole}
 use Rattle.ap_paths.specs.declared.entries.Closed.{Closed}
 use Rattle.ap_core.specs.Traces.{AreSeats}
-use Rattle.ap_lock.specs.Turns.{Begins, maker_of, one_if, places_from}
-use Rattle.ap_lock.specs.Seats.{SeatView, AreOf, AreLogged, AreMadeBy, seats_with, new_seats}
+use Rattle.ap_lock.specs.Turns.{Begins, maker_of, one_turn_if, own_places_from}
+use Rattle.ap_lock.specs.Seats.{SeatView, AreOfBook, AreLogged, AreMadeBy, seats_with, new_seats}
 use Rattle.ap_lock.proofs.Endings.{new_seats-length}
-use Rattle.ap_steal.specs.Planned.{Plans, IsPlanned, ArePlanned, OwnPlanned, IsOver, IsNew, Ended}
+use Rattle.ap_steal.specs.Planned.{Plans, IsPlanned, ArePlanned, OwnPlanned, IsOver, IsNewSeat, EndedSeat}
 use Rattle.ap_steal.proofs.Own.{other, own_turn}
 
 -- the seats one by one
 abbrev pub AllEnded : Choices → Plans → Limit → TableId → List SeatView → Type 0
 AllEnded c plan l book [] = Unit {0}
-AllEnded c plan l book (s ∷ ss) = Ended c plan l book s × AllEnded c plan l book ss
+AllEnded c plan l book (s ∷ ss) = EndedSeat c plan l book s × AllEnded c plan l book ss
 
-pub one_by_one : (c : Choices) (plan : Plans) (l : Limit) (book : TableId) (ss : List SeatView) → All (λ s. Ended c plan l book s) ss → AllEnded c plan l book ss
+pub one_by_one : (c : Choices) (plan : Plans) (l : Limit) (book : TableId) (ss : List SeatView) → All (λ s. EndedSeat c plan l book s) ss → AllEnded c plan l book ss
 one_by_one c plan l book [] all = tt
 one_by_one c plan l book (s ∷ ss) all = (all 0 s (omega arith), one_by_one c plan l book ss (λ k d lt. all (suc k) d (omega arith)))
 
-pub are_of : (c : Choices) (plan : Plans) (l : Limit) (book : TableId) (ss : List SeatView) → AllEnded c plan l book ss → AreOf book ss
+pub are_of : (c : Choices) (plan : Plans) (l : Limit) (book : TableId) (ss : List SeatView) → AllEnded c plan l book ss → AreOfBook book ss
 are_of c plan l book [] all = tt
 are_of c plan l book (s ∷ ss) all = (all.0.0, are_of c plan l book ss all.1)
 
@@ -61,7 +61,7 @@ pick c plan l [] e es some h = absurd (omega arith)
 pick c plan l (s ∷ ss) e es some h =
     dite (ℕ_discrete s.number (maker_of e))
     (λ same. h.0.0 (sym same))
-    (λ ne. let z = ap one_if (ne_eqb s.number (maker_of e) ne) in pick c plan l ss e es (omega arith) h.1)
+    (λ ne. let z = ap one_turn_if (ne_eqb s.number (maker_of e) ne) in pick c plan l ss e es (omega arith) h.1)
 
 zero_or : (n : ℕ) → (n ≡ 0) ⊎ (0 < n)
 zero_or zero = inl refl
@@ -75,12 +75,12 @@ all_planned c plan l ss (e ∷ es) own others =
     let rest = all_planned c plan l ss es (own_rest c plan l ss e es own) (λ n z. (others n z).1) in
     ((here.0, rest.0), (here.1, rest.1))
 
-not_by : (i n : ℕ) (es : List Entry) → places_from i n es ≡ [] → NotBy n es
+not_by : (i n : ℕ) (es : List Entry) → own_places_from i n es ≡ [] → NotBy n es
 unfolding NotBy
 not_by i n [] e = tt
 not_by i n (x ∷ xs) e =
-    let step : (b : Bool) → eqb (maker_of x) n ≡ b → (if b then i ∷ places_from (suc i) n xs else places_from (suc i) n xs) ≡ [] → (maker_of x ≢ n) × NotBy n xs = λ b.
-    elim b as (λ b. eqb (maker_of x) n ≡ b → (if b then i ∷ places_from (suc i) n xs else places_from (suc i) n xs) ≡ [] → (maker_of x ≢ n) × NotBy n xs)
+    let step : (b : Bool) → eqb (maker_of x) n ≡ b → (if b then i ∷ own_places_from (suc i) n xs else own_places_from (suc i) n xs) ≡ [] → (maker_of x ≢ n) × NotBy n xs = λ b.
+    elim b as (λ b. eqb (maker_of x) n ≡ b → (if b then i ∷ own_places_from (suc i) n xs else own_places_from (suc i) n xs) ≡ [] → (maker_of x ≢ n) × NotBy n xs)
     [ true ↦ λ is nil. absurd (let k = ap length nil in omega arith) | false ↦ λ is nil. ((λ same. other (maker_of x) n is same), not_by (suc i) n xs nil) ] in
     step (eqb (maker_of x) n) refl e
 
@@ -195,15 +195,15 @@ all_both P (y ∷ ys) x h = let r = all_both P ys x (λ k d lt. h (suc k) d (ome
 pub all_last : {X : Type 0} (P : X → Type 0) (all xs : List X) (x : X) → all ≡ xs ++ x ∷ [] → All P all → All P xs × P x
 all_last P all xs x is h = all_both P xs x (subst (λ l. All P l) is h)
 
-new_all : (book : TableId) (i n : ℕ) → All (λ s. IsNew book s) (new_seats book i n)
+new_all : (book : TableId) (i n : ℕ) → All (λ s. IsNewSeat book s) (new_seats book i n)
 new_all book i zero = λ k d lt. absurd (omega arith)
-new_all book i (suc n) = all_cons (λ (s : SeatView). IsNew book s) record { book = book; number = i; seen = [] } (new_seats book (suc i) n) (refl, refl) (new_all book (suc i) n)
+new_all book i (suc n) = all_cons (λ (s : SeatView). IsNewSeat book s) record { book = book; number = i; seen = [] } (new_seats book (suc i) n) (refl, refl) (new_all book (suc i) n)
 
-pub of_new : (book : TableId) (n : ℕ) (ss : List SeatView) → ss ≡ new_seats book 0 n → All (λ s. IsNew book s) ss × (length ss ≡ n)
-of_new book n ss is = (subst (λ (l : List SeatView). All (λ s. IsNew book s) l) (sym is) (new_all book 0 n), ap length is ∙ new_seats-length book 0 n)
+pub of_new : (book : TableId) (n : ℕ) (ss : List SeatView) → ss ≡ new_seats book 0 n → All (λ s. IsNewSeat book s) ss × (length ss ≡ n)
+of_new book n ss is = (subst (λ (l : List SeatView). All (λ s. IsNewSeat book s) l) (sym is) (new_all book 0 n), ap length is ∙ new_seats-length book 0 n)
 
 -- what follows the plans of a tree is true for it
-pub planned_true : (c : Choices) (at : Outputs) (plan : Plans) (es : List TreeEntry) → ((p : List ℕ) → InTree c p → IsPlan c at p (plan p)) → ArePlanned c plan es → AreTrue c at es
+pub planned_true : (c : Choices) (at : Outputs) (plan : Plans) (es : List TreeEntry) → ((p : List ℕ) → InChoiceTree c p → IsPlan c at p (plan p)) → ArePlanned c plan es → AreTrue c at es
 planned_true c at plan [] good h = tt
 planned_true c at plan (split s p ks ∷ es) good h = (subst (IsPlan c at p) h.0.1 (good p h.0.0), planned_true c at plan es good h.1)
 planned_true c at plan (done s p os ∷ es) good h = (subst (IsPlan c at p) h.0.1 (good p h.0.0), planned_true c at plan es good h.1)
@@ -211,7 +211,7 @@ planned_true c at plan (skip s p n ∷ es) good h = (tt, planned_true c at plan 
 planned_true c at plan (stop s ∷ es) good h = (tt, planned_true c at plan es good h.1)
 
 -- so the merged outputs of such a history are those of the tree, as far as they are wanted
-pub whole_of : {E : Type 0} (c : Choices) (at : Outputs) (plan : Plans) (l : Limit) (r : Result Closed E) → IsTree c at → ((p : List ℕ) → InTree c p → IsPlan c at p (plan p))
+pub whole_of : {E : Type 0} (c : Choices) (at : Outputs) (plan : Plans) (l : Limit) (r : Result Closed E) → IsTree c at → ((p : List ℕ) → InChoiceTree c p → IsPlan c at p (plan p))
     → IfOk r (λ x. (is_legal (entries_of x.history) ≡ true) × (has_stop (entries_of x.history) ≡ false) × (open_of (entries_of x.history) ≡ [])) → IfOk r (λ x. ArePlanned c plan (entries_of x.history)) → IfOk r (λ x. AreWithin l (entries_of x.history))
     → IfOk r (λ x. part l (merged (entries_of x.history)) ≡ part l (at []))
 whole_of c at plan l (Ok x) tree good legal planned within = merged_whole c at l (entries_of x.history) tree legal.0 (planned_true c at plan (entries_of x.history) good planned) within legal.2

@@ -11,25 +11,25 @@ use Rattle.ap_steal.specs.declared.tools.Tools.{Tools}
 use Rattle.ap_steal.specs.Hands.{held}
 
 -- the entries of a number
-abbrev pub made_by : ℕ → List Entry → List Entry
-made_by n [] = []
-made_by n (e ∷ es) = if eqb (maker_of e) n then e ∷ made_by n es else made_by n es
+abbrev pub entries_by : ℕ → List Entry → List Entry
+entries_by n [] = []
+entries_by n (e ∷ es) = if eqb (maker_of e) n then e ∷ entries_by n es else entries_by n es
 
 -- the kids that entries open
-abbrev pub opened : List Entry → List (List ℕ)
-opened [] = []
-opened (Split seat p ks ∷ es) = kids_of p ks ++ opened es
-opened (Done seat p os ∷ es) = opened es
-opened (Skip seat p n ∷ es) = opened es
-opened (Stop seat ∷ es) = opened es
+abbrev pub opened_kids : List Entry → List (List ℕ)
+opened_kids [] = []
+opened_kids (Split seat p ks ∷ es) = kids_of p ks ++ opened_kids es
+opened_kids (Done seat p os ∷ es) = opened_kids es
+opened_kids (Skip seat p n ∷ es) = opened_kids es
+opened_kids (Stop seat ∷ es) = opened_kids es
 
 -- the paths that entries end
-abbrev pub ended : List Entry → List (List ℕ)
-ended [] = []
-ended (Split seat p ks ∷ es) = p ∷ ended es
-ended (Done seat p os ∷ es) = p ∷ ended es
-ended (Skip seat p n ∷ es) = p ∷ ended es
-ended (Stop seat ∷ es) = ended es
+abbrev pub ended_paths : List Entry → List (List ℕ)
+ended_paths [] = []
+ended_paths (Split seat p ks ∷ es) = p ∷ ended_paths es
+ended_paths (Done seat p os ∷ es) = p ∷ ended_paths es
+ended_paths (Skip seat p n ∷ es) = p ∷ ended_paths es
+ended_paths (Stop seat ∷ es) = ended_paths es
 
 -- the weights of the paths that a worker took off its deque, and of those that it stole
 abbrev pub fetched : {W : Type 0} → (List ℕ → ℕ) → Tools W → ℕ
@@ -41,11 +41,11 @@ Took old ps new = (h : List ℕ → ℕ) → (held h new + weigh h ps) + fetched
 
 -- the weights of what came to a worker: the kids that it opened, and what it fetched
 abbrev pub came : {W : Type 0} → (List ℕ → ℕ) → ℕ → List Entry → Tools W → ℕ
-came h n seen t = weigh h (opened (made_by n seen)) + fetched h t
+came h n seen t = weigh h (opened_kids (entries_by n seen)) + fetched h t
 
 -- the weights of what it kept: what it holds or gave to its deque, and what it ended
-abbrev pub kept : {W : Type 0} → (List ℕ → ℕ) → ℕ → List Entry → Tools W → ℕ
-kept h n seen t = held h t + weigh h (ended (made_by n seen))
+abbrev pub kept_weight : {W : Type 0} → (List ℕ → ℕ) → ℕ → List Entry → Tools W → ℕ
+kept_weight h n seen t = held h t + weigh h (ended_paths (entries_by n seen))
 
 -- each of these was not open at a turn between these two histories
 abbrev pub AreShut : List Entry → List (List ℕ) → List Entry → Type 0
@@ -53,12 +53,12 @@ AreShut seen [] after = Begins seen after
 AreShut seen (p ∷ ps) after = ((turn : List Entry) × Begins seen turn × Begins turn after × (is_open p (open_of (entries_of turn)) ≡ false)) × AreShut seen ps after
 
 -- a number's entries ended just these paths, but for those that were not open, and opened none
-abbrev pub Ends : ℕ → List Entry → List (List ℕ) → List Entry → Type 0
-Ends n seen ps after =
-    (opened (made_by n after) ≡ opened (made_by n seen))
-    × ((shut : List (List ℕ)) × AreShut seen shut after × ((h : List ℕ → ℕ) → weigh h (ended (made_by n after)) + weigh h shut ≡ weigh h (ended (made_by n seen)) + weigh h ps))
+abbrev pub EndsJust : ℕ → List Entry → List (List ℕ) → List Entry → Type 0
+EndsJust n seen ps after =
+    (opened_kids (entries_by n after) ≡ opened_kids (entries_by n seen))
+    × ((shut : List (List ℕ)) × AreShut seen shut after × ((h : List ℕ → ℕ) → weigh h (ended_paths (entries_by n after)) + weigh h shut ≡ weigh h (ended_paths (entries_by n seen)) + weigh h ps))
 
 -- what a worker had, these paths and what came meanwhile is what it kept, but for those that were not open
 abbrev pub NoneLost : {W : Type 0} → ℕ → List Entry → Tools W → List (List ℕ) → List Entry → Tools W → Type 0
 NoneLost n seen old ps after new =
-    (shut : List (List ℕ)) × AreShut seen shut after × ((h : List ℕ → ℕ) → (kept h n after new + weigh h shut) + came h n seen old ≡ (kept h n seen old + weigh h ps) + came h n after new)
+    (shut : List (List ℕ)) × AreShut seen shut after × ((h : List ℕ → ℕ) → (kept_weight h n after new + weigh h shut) + came h n seen old ≡ (kept_weight h n seen old + weigh h ps) + came h n after new)

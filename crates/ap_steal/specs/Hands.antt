@@ -11,13 +11,13 @@ first_hand zero = [] ∷ []
 first_hand (suc n) = []
 
 -- the tools of the worker of this number, with an empty deque
-abbrev pub IsFresh : {W : Type 0} → ℕ → Tools W → Type 0
-IsFresh n t = (t.number ≡ n) × (t.alone ≡ false) × (t.hand.items ≡ first_hand n) × (owner_view t.own ≡ hand 0 [] [] [])
+abbrev pub IsFreshTools : {W : Type 0} → ℕ → Tools W → Type 0
+IsFreshTools n t = (t.number ≡ n) × (t.alone ≡ false) × (t.hand.items ≡ first_hand n) × (owner_view t.own ≡ hand 0 [] [] [])
 
 -- of the workers from this number on
-abbrev pub AreFresh : {W : Type 0} → ℕ → List (Tools W) → Type 0
-AreFresh n [] = Unit {0}
-AreFresh n (t ∷ ts) = IsFresh n t × AreFresh (suc n) ts
+abbrev pub AreFreshTools : {W : Type 0} → ℕ → List (Tools W) → Type 0
+AreFreshTools n [] = Unit {0}
+AreFreshTools n (t ∷ ts) = IsFreshTools n t × AreFreshTools (suc n) ts
 
 -- the weights of the paths in a worker's hand and of those that it has put into its deque
 abbrev pub held : {W : Type 0} → (List ℕ → ℕ) → Tools W → ℕ

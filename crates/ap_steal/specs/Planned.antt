@@ -6,7 +6,7 @@ use Rattle.ap_paths.specs.Entries.{TreeEntry, split, done, skip, stop, Plan, kid
 use Rattle.ap_paths.specs.declared.limits.Limit.{Limit}
 use Rattle.ap_paths.specs.Limits.{IsWithin}
 use Rattle.ap_paths.specs.History.{progress_of}
-use Rattle.ap_paths.specs.Trees.{Choices, InTree, IsChoice}
+use Rattle.ap_paths.specs.Trees.{Choices, InChoiceTree, IsChoice}
 use Rattle.atomic_table.specs.Seated.{TableId}
 use Rattle.ap_lock.specs.Turns.{maker_of}
 use Rattle.ap_lock.specs.Seats.{SeatView}
@@ -16,9 +16,9 @@ Plans = List ℕ → Plan
 
 -- the entry is by the plan of a path of the tree
 abbrev pub IsPlanned : Choices → Plans → TreeEntry → Type 0
-IsPlanned c plan (split seat p ks) = InTree c p × (plan p ≡ kids ks)
-IsPlanned c plan (done seat p os) = InTree c p × (plan p ≡ outs os)
-IsPlanned c plan (skip seat p n) = InTree c p
+IsPlanned c plan (split seat p ks) = InChoiceTree c p × (plan p ≡ kids ks)
+IsPlanned c plan (done seat p os) = InChoiceTree c p × (plan p ≡ outs os)
+IsPlanned c plan (skip seat p n) = InChoiceTree c p
 IsPlanned c plan (stop seat) = Unit {0}
 
 abbrev pub ArePlanned : Choices → Plans → List TreeEntry → Type 0
@@ -31,18 +31,18 @@ OwnPlanned c plan l n [] = Unit {0}
 OwnPlanned c plan l n (e ∷ es) = (maker_of e ≡ n → IsPlanned c plan (entry_of e) × IsWithin l (entry_of e)) × OwnPlanned c plan l n es
 
 -- each number is a choice
-abbrev pub AreChoices : Option ℕ → List ℕ → Type 0
-AreChoices w [] = Unit {0}
-AreChoices w (k ∷ ks) = IsChoice w k × AreChoices w ks
+abbrev pub AllAreChoices : Option ℕ → List ℕ → Type 0
+AllAreChoices w [] = Unit {0}
+AllAreChoices w (k ∷ ks) = IsChoice w k × AllAreChoices w ks
 
 -- who has seen this may end
 abbrev pub IsOver : List Entry → Type 0
 IsOver seen = (progress_of (entries_of seen) ≡ Finished) ⊎ (progress_of (entries_of seen) ≡ Stopped)
 
 -- a seat of this book that has seen nothing
-abbrev pub IsNew : TableId → SeatView → Type 0
-IsNew book s = (s.book ≡ book) × (s.seen ≡ [])
+abbrev pub IsNewSeat : TableId → SeatView → Type 0
+IsNewSeat book s = (s.book ≡ book) × (s.seen ≡ [])
 
 -- a worker's seat at its end
-abbrev pub Ended : Choices → Plans → Limit → TableId → SeatView → Type 0
-Ended c plan l book s = (s.book ≡ book) × OwnPlanned c plan l s.number s.seen × IsOver s.seen
+abbrev pub EndedSeat : Choices → Plans → Limit → TableId → SeatView → Type 0
+EndedSeat c plan l book s = (s.book ≡ book) × OwnPlanned c plan l s.number s.seen × IsOver s.seen

@@ -2,8 +2,8 @@
 
 ghost use Rattle.std.specs.Prelude.{◌≡◌, ℕ, true, [], ◌∷◌, All, ◌<◌, ◌≤◌, map, reverse, vec_len, IfOk};
 ghost use Rattle.atomic_table.specs.Seated.{TableId};
-ghost use Rattle.ap_steal.specs.Planned.{IsNew};
-ghost use Rattle.ap_steal.specs.Hands.{IsFresh, AreFresh};
+ghost use Rattle.ap_steal.specs.Planned.{IsNewSeat};
+ghost use Rattle.ap_steal.specs.Hands.{IsFreshTools, AreFreshTools};
 
 use crate::tools::Tools;
 use ap_defs::memory::Memory;
@@ -38,7 +38,7 @@ fn bare<W: Shape>(alloc: Global, number: u32, alone: bool, own: Owner<W>) -> Too
 impl<W: Shape> Tools<W> {
     /// One more thief.
     fn add(&mut self, thief: Thief<W>) -> Result<(), Memory>
-        ensures { (n : ℕ) → IsFresh n self.old → IsFresh n self.new }
+        ensures { (n : ℕ) → IsFreshTools n self.old → IsFreshTools n self.new }
     {
         self.others.push(thief)?;
         Ok(())
@@ -58,7 +58,7 @@ pub fn lone_tools<W: Shape>(alloc: Global) -> Result<Tools<W>, Memory>
 
 /// Tools of a worker of this number, and a thief of its deque.
 fn fresh_tools<W: Shape>(alloc: Global, number: u32) -> Result<(Tools<W>, Thief<W>), Memory>
-    ensures { IfOk result (λ t. IsFresh number t.0) }
+    ensures { IfOk result (λ t. IsFreshTools number t.0) }
 {
     let (own, thief) = tasks(alloc)?;
     let mut tools = bare(alloc, number, false, own);
@@ -72,7 +72,7 @@ fn fresh_tools<W: Shape>(alloc: Global, number: u32) -> Result<(Tools<W>, Thief<
 pub fn make_tools<W: Shape>(alloc: Global, workers: u32) -> Result<Vec<Tools<W>>, Memory>
     requires { workers ≤ 64 }
     ensures len { IfOk result (λ v. vec_len v ≡ workers) }
-    ensures fresh { IfOk result (λ v. AreFresh 0 v.items) }
+    ensures fresh { IfOk result (λ v. AreFreshTools 0 v.items) }
 {
     let mut all = Vec::with_capacity(alloc, workers as usize)?;
     let mut thieves = Vec::with_capacity(alloc, workers as usize)?;
@@ -90,9 +90,9 @@ fn give_all<W: Shape>(
     mut all: Vec<Tools<W>>,
     mut thieves: Vec<Thief<W>>,
 ) -> Result<Vec<Tools<W>>, Memory>
-    requires { AreFresh 0 all.items }
+    requires { AreFreshTools 0 all.items }
     ensures len { IfOk result (λ v. vec_len v ≡ vec_len all) }
-    ensures fresh { IfOk result (λ v. AreFresh 0 v.items) }
+    ensures fresh { IfOk result (λ v. AreFreshTools 0 v.items) }
 {
     while let Some(thief) = thieves.pop() {
         let number = thieves.len();
@@ -105,7 +105,7 @@ fn give_all<W: Shape>(
 fn add_at<W: Shape>(all: &mut Vec<Tools<W>>, at: usize, thief: Thief<W>) -> Result<(), Memory>
     requires { at < vec_len all.old }
     ensures len { vec_len all.new ≡ vec_len all.old }
-    ensures fresh { AreFresh 0 all.old.items → AreFresh 0 all.new.items }
+    ensures fresh { AreFreshTools 0 all.old.items → AreFreshTools 0 all.new.items }
 {
     all[at].add(thief)
 }
@@ -117,9 +117,9 @@ fn give<W: Shape>(
     mut thief: Thief<W>,
     number: usize,
 ) -> Result<Vec<Tools<W>>, Memory>
-    requires { AreFresh 0 all.items }
+    requires { AreFreshTools 0 all.items }
     ensures len { IfOk result (λ v. vec_len v ≡ vec_len all) }
-    ensures fresh { IfOk result (λ v. AreFresh 0 v.items) }
+    ensures fresh { IfOk result (λ v. AreFreshTools 0 v.items) }
 {
     for i in 0..all.len() {
         if i != number && thief.parts() > 1 {
@@ -134,8 +134,8 @@ fn give<W: Shape>(
 pub fn turned<W: Shape>(mut jobs: Vec<Job<W>>) -> Vec<Job<W>>
     ensures order { result.items ≡ reverse jobs.items }
     ensures len { vec_len result ≡ vec_len jobs }
-    ensures new { (book : TableId) → All (λ j. IsNew book j.seat) jobs.items →
-        All (λ j. IsNew book j.seat) result.items }
+    ensures new { (book : TableId) → All (λ j. IsNewSeat book j.seat) jobs.items →
+        All (λ j. IsNewSeat book j.seat) result.items }
 {
     jobs.reverse();
     jobs
@@ -150,8 +150,8 @@ pub fn make_jobs<W: Shape>(
     requires { vec_len seats ≡ vec_len tools }
     ensures len { IfOk result (λ v. vec_len v ≡ vec_len seats) }
     ensures tools { IfOk result (λ v. map (λ j. j.tools) v.items ≡ reverse tools.items) }
-    ensures new { (book : TableId) → All (λ s. IsNew book s) seats.items →
-        IfOk result (λ v. All (λ j. IsNew book j.seat) v.items) }
+    ensures new { (book : TableId) → All (λ s. IsNewSeat book s) seats.items →
+        IfOk result (λ v. All (λ j. IsNewSeat book j.seat) v.items) }
 {
     let mut jobs = Vec::with_capacity(alloc, seats.len())?;
     while let Some(seat) = seats.pop() {

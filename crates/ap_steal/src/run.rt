@@ -5,10 +5,10 @@ ghost use Rattle.ap_paths.specs.Entries.{entries_of, entry_of};
 ghost use Rattle.ap_paths.specs.Limits.{AreWithin};
 ghost use Rattle.ap_paths.specs.History.{is_legal, has_stop, is_stop, open_of};
 ghost use Rattle.ap_core.specs.Traces.{AreSeats, IsInOrder};
-ghost use Rattle.ap_lock.specs.Seats.{SeatView, book_id, limit_of, seats_of, logs_of};
-ghost use Rattle.ap_steal.specs.Planned.{ArePlanned, IsNew, Ended};
+ghost use Rattle.ap_lock.specs.Seats.{SeatView, book_id, book_limit, seats_of, logs_of};
+ghost use Rattle.ap_steal.specs.Planned.{ArePlanned, IsNewSeat, EndedSeat};
 ghost use Rattle.ap_steal.specs.Order.{IsOrdered};
-ghost use Rattle.ap_steal.specs.Hands.{AreFresh};
+ghost use Rattle.ap_steal.specs.Hands.{AreFreshTools};
 
 use crate::jobs::Job;
 use crate::work::work;
@@ -32,19 +32,19 @@ pub fn run_all<W: Shape + Send, R: Threads + Wait + Sync, T: Tree, G: Gate>(
     jobs: Vec<Job<W>>,
 ) -> Result<Vec<Seat>, Memory>
     requires shape { T.choices tree.now ≡ W.choices }
-    requires new { All (λ j. IsNew (book_id book.now) j.seat) jobs.items }
-    requires fresh { AreFresh 0 (map (λ j. j.tools) jobs.items) }
+    requires new { All (λ j. IsNewSeat (book_id book.now) j.seat) jobs.items }
+    requires fresh { AreFreshTools 0 (map (λ j. j.tools) jobs.items) }
     ensures len { IfOk result (λ v. vec_len v ≡ vec_len jobs) }
-    ensures each { IfOk result (λ v. All (λ s. Ended (T.choices tree.now) (T.plan tree.now)
-        (limit_of book.now) (book_id book.now) s) v.items) }
+    ensures each { IfOk result (λ v. All (λ s. EndedSeat (T.choices tree.now) (T.plan tree.now)
+        (book_limit book.now) (book_id book.now) s) v.items) }
 {
     let seats = thread::map_vec(
         rt,
         jobs,
         &|job: Job<W>| -> Seat
-            requires { (T.choices tree.now ≡ W.choices) × IsNew (book_id book.now) job.seat }
-            ensures { Ended (T.choices tree.entry.now) (T.plan tree.entry.now)
-                (limit_of book.entry.now) (book_id book.entry.now) result }
+            requires { (T.choices tree.now ≡ W.choices) × IsNewSeat (book_id book.now) job.seat }
+            ensures { EndedSeat (T.choices tree.entry.now) (T.plan tree.entry.now)
+                (book_limit book.entry.now) (book_id book.entry.now) result }
         {
             let Job {
                 seat,
@@ -98,14 +98,14 @@ pub fn finish<T: Tree>(
     book: SharedBook,
     seats: Vec<Seat>,
 ) -> Result<Closed, Memory>
-    requires ended { All (λ s. Ended (T.choices tree.now) (T.plan tree.now) (limit_of book)
+    requires ended { All (λ s. EndedSeat (T.choices tree.now) (T.plan tree.now) (book_limit book)
         (book_id book) s) seats.items }
     requires all { vec_len seats ≡ seats_of book }
     ensures legal { IfOk result (λ c. (is_legal (entries_of c.history) ≡ true)
         × (has_stop (entries_of c.history) ≡ false) × (open_of (entries_of c.history) ≡ [])) }
     ensures planned { IfOk result (λ c. ArePlanned (T.choices tree.now) (T.plan tree.now)
         (entries_of c.history)) }
-    ensures within { IfOk result (λ c. AreWithin (limit_of book) (entries_of c.history)) }
+    ensures within { IfOk result (λ c. AreWithin (book_limit book) (entries_of c.history)) }
     ensures seats { IfOk result (λ c. (c.logs ≡ logs_of (seats_of book) c.history)
         × AreSeats (seats_of book) (entries_of c.history)) }
     ensures order { (s : SeatView) → seats.items ≡ s ∷ [] → s.number ≡ 0 → seats_of book ≡ 1 →

@@ -6,8 +6,8 @@ ghost use Rattle.ap_paths.specs.Limits.{AreWithin, part};
 ghost use Rattle.ap_paths.specs.History.{is_legal, has_stop, open_of};
 ghost use Rattle.ap_paths.specs.Merging.{merged};
 ghost use Rattle.ap_core.specs.declared.events.Event.{Event};
-ghost use Rattle.ap_core.specs.States.{State, start};
-ghost use Rattle.ap_core.specs.Traces.{AreSeats, IsInOrder, Leads};
+ghost use Rattle.ap_core.specs.States.{WorkersState, start_state};
+ghost use Rattle.ap_core.specs.Traces.{AreSeats, IsInOrder, EventsLead};
 ghost use Rattle.ap_lock.specs.Seats.{logs_of};
 ghost use Rattle.ap_steal.specs.Planned.{ArePlanned};
 
@@ -137,8 +137,8 @@ pub fn search_within<R: Threads + Wait + Sync, T: Tree, G: Gate>(
     ensures seats { IfOk result (λ c. (c.logs ≡ logs_of workers c.history)
         × AreSeats workers (entries_of c.history)) }
     ensures order { workers ≡ 1 → IfOk result (λ c. IsInOrder ([] ∷ []) (entries_of c.history)) }
-    ensures permitted { IfOk result (λ c. (t : State) × (events : list Event)
-        × Leads (T.choices tree.now) (T.at tree.now) (start workers) events t
+    ensures permitted { IfOk result (λ c. (t : WorkersState) × (events : list Event)
+        × EventsLead (T.choices tree.now) (T.at tree.now) (start_state workers) events t
         (entries_of c.history)) }
 {
     search_in::<Brand, R, T, G>(rt, alloc, tree, workers, limit, gate)
@@ -162,8 +162,8 @@ pub fn search<R: Threads + Wait + Sync, T: Tree, G: Gate>(
     ensures seats { IfOk result (λ c. (c.logs ≡ logs_of workers c.history)
         × AreSeats workers (entries_of c.history)) }
     ensures order { workers ≡ 1 → IfOk result (λ c. IsInOrder ([] ∷ []) (entries_of c.history)) }
-    ensures permitted { IfOk result (λ c. (t : State) × (events : list Event)
-        × Leads (T.choices tree.now) (T.at tree.now) (start workers) events t
+    ensures permitted { IfOk result (λ c. (t : WorkersState) × (events : list Event)
+        × EventsLead (T.choices tree.now) (T.at tree.now) (start_state workers) events t
         (entries_of c.history)) }
 {
     search_within(rt, alloc, tree, workers, Limit::All, gate)

@@ -5,12 +5,12 @@ ghost use Rattle.ap_paths.specs.declared.entries.Entry.{Entry};
 ghost use Rattle.ap_paths.specs.declared.entries.Entry.TheVariants.{Split, Done};
 ghost use Rattle.ap_defs.specs.Answers.{outs_of};
 ghost use Rattle.ap_paths.specs.Entries.{kids, outs, visit_of};
-ghost use Rattle.ap_paths.specs.Trees.{InTree, Ascends};
+ghost use Rattle.ap_paths.specs.Trees.{InChoiceTree, Ascends};
 ghost use Rattle.ap_book.specs.Answers.{Enters, EntersDone, Skips};
-ghost use Rattle.ap_lock.specs.Seats.{book_id, limit_of, SameSeat, IsTurn};
-ghost use Rattle.ap_steal.specs.Planned.{OwnPlanned, AreChoices};
+ghost use Rattle.ap_lock.specs.Seats.{book_id, book_limit, SameSeat, IsTurn};
+ghost use Rattle.ap_steal.specs.Planned.{OwnPlanned, AllAreChoices};
 ghost use Rattle.ap_steal.specs.Order.{IsSole};
-ghost use Rattle.ap_steal.specs.Accounts.{Ends, NoneLost};
+ghost use Rattle.ap_steal.specs.Accounts.{EndsJust, NoneLost};
 
 use crate::tools::Tools;
 use ap_book::{BookError, DoneError, SkipError};
@@ -34,13 +34,13 @@ fn split_planned<R: Wait, T: Tree>(
     given: &[u32],
 ) -> Result<(), BookError>
     requires book { seat.old.book ≡ book_id book.now }
-    requires own { OwnPlanned (T.choices tree.now) (T.plan tree.now) (limit_of book.now)
+    requires own { OwnPlanned (T.choices tree.now) (T.plan tree.now) (book_limit book.now)
         seat.old.number seat.old.seen }
-    requires planned { InTree (T.choices tree.now) path.now
+    requires planned { InChoiceTree (T.choices tree.now) path.now
         × (T.plan tree.now path.now ≡ kids given.now) }
     requires ascends { Ascends 1 given.now }
     ensures same { SameSeat seat.old seat.new }
-    ensures own { OwnPlanned (T.choices tree.now) (T.plan tree.now) (limit_of book.now)
+    ensures own { OwnPlanned (T.choices tree.now) (T.plan tree.now) (book_limit book.now)
         seat.new.number seat.new.seen }
     ensures turn { (turn : list Entry) × IsTurn seat.old turn
         × Enters turn path.now (Split seat.old.number path.now given.now) result seat.new.seen }
@@ -59,12 +59,12 @@ fn done_planned<R: Wait, T: Tree>(
     given: Vec<Out>,
 ) -> Result<(), DoneError>
     requires book { seat.old.book ≡ book_id book.now }
-    requires own { OwnPlanned (T.choices tree.now) (T.plan tree.now) (limit_of book.now)
+    requires own { OwnPlanned (T.choices tree.now) (T.plan tree.now) (book_limit book.now)
         seat.old.number seat.old.seen }
-    requires planned { InTree (T.choices tree.now) path.now
+    requires planned { InChoiceTree (T.choices tree.now) path.now
         × (T.plan tree.now path.now ≡ outs (outs_of given.items)) }
     ensures same { SameSeat seat.old seat.new }
-    ensures own { OwnPlanned (T.choices tree.now) (T.plan tree.now) (limit_of book.now)
+    ensures own { OwnPlanned (T.choices tree.now) (T.plan tree.now) (book_limit book.now)
         seat.new.number seat.new.seen }
     ensures turn { (turn : list Entry) × IsTurn seat.old turn
         × EntersDone turn path.now given.items (Done seat.old.number path.now given.items) result
@@ -83,14 +83,14 @@ fn skip_planned<R: Wait, T: Tree>(
     path: &Path,
 ) -> Result<(), SkipError>
     requires book { seat.old.book ≡ book_id book.now }
-    requires own { OwnPlanned (T.choices tree.now) (T.plan tree.now) (limit_of book.now)
+    requires own { OwnPlanned (T.choices tree.now) (T.plan tree.now) (book_limit book.now)
         seat.old.number seat.old.seen }
-    requires there { InTree (T.choices tree.now) path.now }
+    requires there { InChoiceTree (T.choices tree.now) path.now }
     ensures same { SameSeat seat.old seat.new }
-    ensures own { OwnPlanned (T.choices tree.now) (T.plan tree.now) (limit_of book.now)
+    ensures own { OwnPlanned (T.choices tree.now) (T.plan tree.now) (book_limit book.now)
         seat.new.number seat.new.seen }
     ensures turn { (turn : list Entry) × IsTurn seat.old turn
-        × Skips turn path.now (limit_of book.now) seat.old.number result seat.new.seen }
+        × Skips turn path.now (book_limit book.now) seat.old.number result seat.new.seen }
 {
     let _tree = tree;
     book.skip(rt, seat, path)
@@ -105,17 +105,17 @@ fn is_needed<R: Wait, T: Tree>(
     path: &Path,
 ) -> Result<bool, Memory>
     requires book { seat.old.book ≡ book_id book.now }
-    requires own { OwnPlanned (T.choices tree.now) (T.plan tree.now) (limit_of book.now)
+    requires own { OwnPlanned (T.choices tree.now) (T.plan tree.now) (book_limit book.now)
         seat.old.number seat.old.seen }
-    requires there { InTree (T.choices tree.now) path.now }
+    requires there { InChoiceTree (T.choices tree.now) path.now }
     ensures same { SameSeat seat.old seat.new }
-    ensures own { OwnPlanned (T.choices tree.now) (T.plan tree.now) (limit_of book.now)
+    ensures own { OwnPlanned (T.choices tree.now) (T.plan tree.now) (book_limit book.now)
         seat.new.number seat.new.seen }
     ensures order { (hand : list (list ℕ)) →
         IsSole (path.now ∷ hand) seat.old.number seat.old.seen →
         IfOk result (λ b. IsSole (if b then path.now ∷ hand else hand) seat.new.number
         seat.new.seen) }
-    ensures ended { IfOk result (λ b. Ends seat.old.number seat.old.seen
+    ensures ended { IfOk result (λ b. EndsJust seat.old.number seat.old.seen
         (if b then [] else path.now ∷ []) seat.new.seen) }
 {
     match skip_planned(rt, tree, book, seat, path) {
@@ -128,10 +128,10 @@ fn is_needed<R: Wait, T: Tree>(
 
 /// What the tree answers at a path of it. Its kids ascend, and are choices of the path.
 fn visit_planned<T: Tree>(alloc: Global, tree: &T, path: &Path) -> Result<Visit, Memory>
-    requires { InTree (T.choices tree.now) path.now }
+    requires { InChoiceTree (T.choices tree.now) path.now }
     ensures plan { IfOk result (λ v. visit_of v ≡ T.plan tree.now path.now) }
     ensures kids { (ks : list ℕ) → T.plan tree.now path.now ≡ kids ks →
-        Ascends 1 ks × AreChoices (T.choices tree.now path.now) ks }
+        Ascends 1 ks × AllAreChoices (T.choices tree.now path.now) ks }
 {
     tree.visit(alloc, path)
 }
@@ -149,13 +149,13 @@ fn run_kids<W: Shape, R: Wait, T: Tree>(
 ) -> Result<(), Memory>
     requires book { seat.old.book ≡ book_id book.now }
     requires shape { T.choices tree.now ≡ W.choices }
-    requires own { OwnPlanned (T.choices tree.now) (T.plan tree.now) (limit_of book.now)
+    requires own { OwnPlanned (T.choices tree.now) (T.plan tree.now) (book_limit book.now)
         seat.old.number seat.old.seen }
-    requires planned { InTree (T.choices tree.now) path.now
+    requires planned { InChoiceTree (T.choices tree.now) path.now
         × (T.plan tree.now path.now ≡ kids given.now) }
-    requires kids { Ascends 1 given.now × AreChoices (T.choices tree.now path.now) given.now }
+    requires kids { Ascends 1 given.now × AllAreChoices (T.choices tree.now path.now) given.now }
     ensures same { SameSeat seat.old seat.new }
-    ensures own { OwnPlanned (T.choices tree.now) (T.plan tree.now) (limit_of book.now)
+    ensures own { OwnPlanned (T.choices tree.now) (T.plan tree.now) (book_limit book.now)
         seat.new.number seat.new.seen }
     ensures alone { tools.new.alone ≡ tools.old.alone }
     ensures order { tools.old.alone ≡ true →
@@ -181,17 +181,17 @@ fn run_outs<R: Wait, T: Tree>(
     given: List<Out>,
 ) -> Result<(), Memory>
     requires book { seat.old.book ≡ book_id book.now }
-    requires own { OwnPlanned (T.choices tree.now) (T.plan tree.now) (limit_of book.now)
+    requires own { OwnPlanned (T.choices tree.now) (T.plan tree.now) (book_limit book.now)
         seat.old.number seat.old.seen }
-    requires planned { InTree (T.choices tree.now) path.now
+    requires planned { InChoiceTree (T.choices tree.now) path.now
         × (T.plan tree.now path.now ≡ outs (outs_of given)) }
     ensures same { SameSeat seat.old seat.new }
-    ensures own { OwnPlanned (T.choices tree.now) (T.plan tree.now) (limit_of book.now)
+    ensures own { OwnPlanned (T.choices tree.now) (T.plan tree.now) (book_limit book.now)
         seat.new.number seat.new.seen }
     ensures order { (hand : list (list ℕ)) →
         IsSole (path.now ∷ hand) seat.old.number seat.old.seen →
         IfOk result (λ _. IsSole hand seat.new.number seat.new.seen) }
-    ensures ended { IfOk result (λ _. Ends seat.old.number seat.old.seen (path.now ∷ [])
+    ensures ended { IfOk result (λ _. EndsJust seat.old.number seat.old.seen (path.now ∷ [])
         seat.new.seen) }
 {
     match done_planned(rt, tree, book, seat, path, given.into_vec()) {
@@ -215,10 +215,10 @@ fn visit_path<W: Shape, R: Wait, T: Tree>(
 ) -> Result<(), Memory>
     requires book { seat.old.book ≡ book_id book.now }
     requires shape { T.choices tree.now ≡ W.choices }
-    requires own { OwnPlanned (T.choices tree.now) (T.plan tree.now) (limit_of book.now)
+    requires own { OwnPlanned (T.choices tree.now) (T.plan tree.now) (book_limit book.now)
         seat.old.number seat.old.seen }
     ensures same { SameSeat seat.old seat.new }
-    ensures own { OwnPlanned (T.choices tree.now) (T.plan tree.now) (limit_of book.now)
+    ensures own { OwnPlanned (T.choices tree.now) (T.plan tree.now) (book_limit book.now)
         seat.new.number seat.new.seen }
     ensures alone { tools.new.alone ≡ tools.old.alone }
     ensures order { tools.old.alone ≡ true →
@@ -247,10 +247,10 @@ pub fn run_path<W: Shape, R: Wait, T: Tree>(
 ) -> Result<(), Memory>
     requires book { seat.old.book ≡ book_id book.now }
     requires shape { T.choices tree.now ≡ W.choices }
-    requires own { OwnPlanned (T.choices tree.now) (T.plan tree.now) (limit_of book.now)
+    requires own { OwnPlanned (T.choices tree.now) (T.plan tree.now) (book_limit book.now)
         seat.old.number seat.old.seen }
     ensures same { SameSeat seat.old seat.new }
-    ensures own { OwnPlanned (T.choices tree.now) (T.plan tree.now) (limit_of book.now)
+    ensures own { OwnPlanned (T.choices tree.now) (T.plan tree.now) (book_limit book.now)
         seat.new.number seat.new.seen }
     ensures alone { tools.new.alone ≡ tools.old.alone }
     ensures order { tools.old.alone ≡ true →

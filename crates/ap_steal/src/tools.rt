@@ -3,7 +3,7 @@
 ghost use Rattle.std.specs.Prelude.{◌≡◌, ℕ, ◌+◌, true, None, List as list, [], ◌∷◌, ◌++◌, IfOk, MatchOption};
 ghost use Rattle.ap_paths.specs.Weights.{weigh};
 ghost use Rattle.ap_paths.specs.History.{kids_of};
-ghost use Rattle.ap_steal.specs.Planned.{AreChoices};
+ghost use Rattle.ap_steal.specs.Planned.{AllAreChoices};
 ghost use Rattle.ap_steal.specs.Order.{KeepsWho, TookFirst};
 ghost use Rattle.ap_steal.specs.Hands.{held};
 ghost use Rattle.ap_steal.specs.Accounts.{fetched, Took};
@@ -95,7 +95,7 @@ impl<W: Shape> Tools<W> {
     /// Takes the kids of a path. The first is the next in the hand. The others go into the deque, the
     /// last first; where there are no other workers, or there is no room, they go into the hand.
     pub fn take_kids(&mut self, alloc: Global, path: &Placed<W>, kids: &[u32]) -> Result<(), Memory>
-        requires { AreChoices (W.choices path.now) kids.now }
+        requires { AllAreChoices (W.choices path.now) kids.now }
         ensures kept { KeepsWho self.old self.new }
         ensures kids { self.old.alone ≡ true →
             IfOk result (λ _. self.new.hand.items

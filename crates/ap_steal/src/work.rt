@@ -3,10 +3,10 @@
 ghost use Rattle.std.specs.Prelude.{◌≡◌, ℕ, true, false, [], ◌∷◌, List as list};
 ghost use Rattle.ap_paths.specs.Entries.{entries_of};
 ghost use Rattle.ap_paths.specs.History.{has_stop};
-ghost use Rattle.ap_lock.specs.Seats.{book_id, limit_of, SameSeat};
+ghost use Rattle.ap_lock.specs.Seats.{book_id, book_limit, SameSeat};
 ghost use Rattle.ap_steal.specs.Planned.{OwnPlanned, IsOver};
 ghost use Rattle.ap_steal.specs.Order.{IsSole, IsOrdered};
-ghost use Rattle.ap_steal.specs.Accounts.{Ends, NoneLost};
+ghost use Rattle.ap_steal.specs.Accounts.{EndsJust, NoneLost};
 
 use crate::jobs::Job;
 use crate::step::run_path;
@@ -27,15 +27,15 @@ const LOOKS: u64 = 64;
 /// Whether the search is over.
 fn is_over<R: Wait, T: Tree>(rt: &R, tree: &T, book: &SharedBook, seat: &mut Seat) -> bool
     requires book { seat.old.book ≡ book_id book.now }
-    requires own { OwnPlanned (T.choices tree.now) (T.plan tree.now) (limit_of book.now)
+    requires own { OwnPlanned (T.choices tree.now) (T.plan tree.now) (book_limit book.now)
         seat.old.number seat.old.seen }
     ensures same { SameSeat seat.old seat.new }
-    ensures own { OwnPlanned (T.choices tree.now) (T.plan tree.now) (limit_of book.now)
+    ensures own { OwnPlanned (T.choices tree.now) (T.plan tree.now) (book_limit book.now)
         seat.new.number seat.new.seen }
     ensures over { result ≡ true → IsOver seat.new.seen }
     ensures order { (hand : list (list ℕ)) → IsSole hand seat.old.number seat.old.seen →
         IsSole hand seat.new.number seat.new.seen }
-    ensures ended { Ends seat.old.number seat.old.seen [] seat.new.seen }
+    ensures ended { EndsJust seat.old.number seat.old.seen [] seat.new.seen }
 {
     let _tree = tree;
     match book.status(rt, seat) {
@@ -48,10 +48,10 @@ fn is_over<R: Wait, T: Tree>(rt: &R, tree: &T, book: &SharedBook, seat: &mut Sea
 /// Ends the search.
 fn stop<R: Wait, T: Tree>(rt: &R, tree: &T, book: &SharedBook, seat: &mut Seat)
     requires book { seat.old.book ≡ book_id book.now }
-    requires own { OwnPlanned (T.choices tree.now) (T.plan tree.now) (limit_of book.now)
+    requires own { OwnPlanned (T.choices tree.now) (T.plan tree.now) (book_limit book.now)
         seat.old.number seat.old.seen }
     ensures same { SameSeat seat.old seat.new }
-    ensures own { OwnPlanned (T.choices tree.now) (T.plan tree.now) (limit_of book.now)
+    ensures own { OwnPlanned (T.choices tree.now) (T.plan tree.now) (book_limit book.now)
         seat.new.number seat.new.seen }
     ensures stands { has_stop (entries_of seat.new.seen) ≡ true }
 {
@@ -71,10 +71,10 @@ fn run_or_stop<W: Shape, R: Wait, T: Tree>(
 ) -> bool
     requires book { seat.old.book ≡ book_id book.now }
     requires shape { T.choices tree.now ≡ W.choices }
-    requires own { OwnPlanned (T.choices tree.now) (T.plan tree.now) (limit_of book.now)
+    requires own { OwnPlanned (T.choices tree.now) (T.plan tree.now) (book_limit book.now)
         seat.old.number seat.old.seen }
     ensures same { SameSeat seat.old seat.new }
-    ensures own { OwnPlanned (T.choices tree.now) (T.plan tree.now) (limit_of book.now)
+    ensures own { OwnPlanned (T.choices tree.now) (T.plan tree.now) (book_limit book.now)
         seat.new.number seat.new.seen }
     ensures alone { tools.new.alone ≡ tools.old.alone }
     ensures order { tools.old.alone ≡ true →
@@ -104,10 +104,10 @@ fn run_next<W: Shape, R: Wait, T: Tree, G: Gate>(
 ) -> bool
     requires book { seat.old.book ≡ book_id book.now }
     requires shape { T.choices tree.now ≡ W.choices }
-    requires own { OwnPlanned (T.choices tree.now) (T.plan tree.now) (limit_of book.now)
+    requires own { OwnPlanned (T.choices tree.now) (T.plan tree.now) (book_limit book.now)
         seat.old.number seat.old.seen }
     ensures same { SameSeat seat.old seat.new }
-    ensures own { OwnPlanned (T.choices tree.now) (T.plan tree.now) (limit_of book.now)
+    ensures own { OwnPlanned (T.choices tree.now) (T.plan tree.now) (book_limit book.now)
         seat.new.number seat.new.seen }
     ensures alone { tools.new.alone ≡ tools.old.alone }
     ensures order { tools.old.alone ≡ true →
@@ -139,10 +139,10 @@ fn go_on<W: Shape, R: Wait, T: Tree, G: Gate>(
 ) -> bool
     requires book { seat.old.book ≡ book_id book.now }
     requires shape { T.choices tree.now ≡ W.choices }
-    requires own { OwnPlanned (T.choices tree.now) (T.plan tree.now) (limit_of book.now)
+    requires own { OwnPlanned (T.choices tree.now) (T.plan tree.now) (book_limit book.now)
         seat.old.number seat.old.seen }
     ensures same { SameSeat seat.old seat.new }
-    ensures own { OwnPlanned (T.choices tree.now) (T.plan tree.now) (limit_of book.now)
+    ensures own { OwnPlanned (T.choices tree.now) (T.plan tree.now) (book_limit book.now)
         seat.new.number seat.new.seen }
     ensures alone { tools.new.alone ≡ tools.old.alone }
     ensures over { result ≡ true → IsOver seat.new.seen }
@@ -177,10 +177,10 @@ pub fn work<W: Shape, R: Wait, T: Tree, G: Gate>(
 ) -> Job<W>
     requires book { job.seat.book ≡ book_id book.now }
     requires shape { T.choices tree.now ≡ W.choices }
-    requires own { OwnPlanned (T.choices tree.now) (T.plan tree.now) (limit_of book.now)
+    requires own { OwnPlanned (T.choices tree.now) (T.plan tree.now) (book_limit book.now)
         job.seat.number job.seat.seen }
     ensures same { SameSeat job.seat result.seat }
-    ensures own { OwnPlanned (T.choices tree.now) (T.plan tree.now) (limit_of book.now)
+    ensures own { OwnPlanned (T.choices tree.now) (T.plan tree.now) (book_limit book.now)
         result.seat.number result.seat.seen }
     ensures over { IsOver result.seat.seen }
     ensures order { job.tools.alone ≡ true →

@@ -12,7 +12,7 @@ use Rattle.ap_defs.specs.Goals.{Clauses}
 use Rattle.ap_defs.specs.Terms.{NominalTerm, term_of}
 use Rattle.ap_defs.specs.Types.{local_of, locals_of}
 use Rattle.ap_checks.specs.Checks.{node_count}
-use Rattle.ap_spelling.specs.Words.{NominalGiven, Numbered, kept, numbered_next}
+use Rattle.ap_spelling.specs.Words.{NominalGiven, Numbered, kept_words, numbered_next}
 use Rattle.ap_steps.specs.declared.givens.Obligation.{Obligation}
 use Rattle.ap_steps.specs.Givens.{names_given, vars_given}
 use Rattle.ap_steps.specs.Obligations.{givens_at, givens_left, obligation_nodes}
@@ -74,7 +74,7 @@ clause_next g0 g1 g2 n v d w0 w1 e f h =
 
 -- the next of the words that are kept
 pub kept_next : (ws : List (Bor (List ℕ))) (i : ℕ) (w : Bor (List ℕ)) (before after all : Numbered) → i < length ws → w ≡ get_or ws i w → after ≡ numbered_next w.now 0 before
-    → kept (lent_texts (drop i ws)) before ≡ all → kept (lent_texts (drop (i + 1) ws)) after ≡ all
+    → kept_words (lent_texts (drop i ws)) before ≡ all → kept_words (lent_texts (drop (i + 1) ws)) after ≡ all
 kept_next ws i w before after all h e is old =
     let first : drop i ws ≡ w ∷ drop (i + 1) ws = drop-cons ws i w h ∙ ap₂ (λ (x : Bor (List ℕ)) n. x ∷ drop n ws) (sym e) (sym (add-one i)) in
-    ap (kept (lent_texts (drop (i + 1) ws))) is ∙ sym (ap (λ (vs : List (Bor (List ℕ))). kept (lent_texts vs) before) first) ∙ old
+    ap (kept_words (lent_texts (drop (i + 1) ws))) is ∙ sym (ap (λ (vs : List (Bor (List ℕ))). kept_words (lent_texts vs) before) first) ∙ old

@@ -19,11 +19,11 @@ use Rattle.ap_answers.specs.Spelled.{text_at}
 use Rattle.ap_answers.proofs.ConditionLemmas.{name_flips, var_flips}
 use Rattle.ap_spelling.specs.Differing.{IsBeginning, TellsApart, gives_name, gives_var, spelt_name, var_text}
 use Rattle.ap_spelling.specs.Words as given
-use Rattle.ap_spelling.specs.Words.{NominalGiven, NominalSpelt, Numbered, give_each, kept, numbered_next}
+use Rattle.ap_spelling.specs.Words.{NominalGiven, NominalSpelt, Numbered, give_each, kept_words, numbered_next}
 use Rattle.ap_spelling.proofs.Given.{given_names, given_vars, or_right}
 use Rattle.ap_spelling.proofs.Telling.{spellings_differ}
 use Rattle.ap_steps.specs.Givens.{givens, names_given}
-use Rattle.ap_steps.specs.Names.{names_in, vars_in}
+use Rattle.ap_steps.specs.Names.{names_in, vars_of_proof}
 use Rattle.ap_steps.specs.Spelling.{all_givens, bare_names, bare_vars, first_numbered, first_spelt, spelt, text_of_constructor}
 use Rattle.ap_steps.specs.Telling.{DerivationsAreToldApart}
 
@@ -86,7 +86,7 @@ zero_by : (o : Option ℕ) (b : Bool) (n : ℕ) → (o ≡ Some n → n ≡ 0) �
 zero_by o true n old h = let same : Some 0 ≡ Some n = h in cc
 zero_by o false n old h = old h
 
-kept_zero : (ws : List (List ℕ)) (last : Numbered) → ((w : List ℕ) (n : ℕ) → last w ≡ Some n → n ≡ 0) → (w : List ℕ) (n : ℕ) → kept ws last w ≡ Some n → n ≡ 0
+kept_zero : (ws : List (List ℕ)) (last : Numbered) → ((w : List ℕ) (n : ℕ) → last w ≡ Some n → n ≡ 0) → (w : List ℕ) (n : ℕ) → kept_words ws last w ≡ Some n → n ≡ 0
 kept_zero [] last h = h
 kept_zero (v ∷ ws) last h = kept_zero ws (numbered_next v 0 last) (λ w n. zero_by (last w) (bytes_eq v w) n (h w n))
 
@@ -95,8 +95,8 @@ none_yet w n h = absurd (true≢false (sym (ap is_some h)))
 
 first_zero : (p : NominalProgram) (locals : List NominalLocal) (w : List ℕ) (n : ℕ) → first_numbered p locals w ≡ Some n → n ≡ 0
 first_zero p locals =
-    let vars : Numbered = kept (var_texts locals) (λ w. None) in
-    let constructors : Numbered = kept (map text_of_constructor p.signature.constructors) vars in
+    let vars : Numbered = kept_words (var_texts locals) (λ w. None) in
+    let constructors : Numbered = kept_words (map text_of_constructor p.signature.constructors) vars in
     kept_zero (codes "_" ∷ []) constructors (kept_zero (map text_of_constructor p.signature.constructors) vars (kept_zero (var_texts locals) (λ w. None) none_yet))
 
 begins : (p : NominalProgram) (locals : List NominalLocal) → IsBeginning p.words (first_spelt p locals)
@@ -119,7 +119,7 @@ told_apart p q a d small =
     let own = names_given (local_names zero q.locals) (name_texts q.locals) in
     let others = givens p.clauses q.locals d q.goal in
     let names = more_names (local_names zero q.locals) (names_in a d) in
-    let vars = first_vars [] (vars_in a d) in
+    let vars = first_vars [] (vars_of_proof a d) in
     let told : TellsApart (spelt_name s) (var_text s) s.names s.vars = spellings_differ p.words gs (first_spelt p q.locals) (begins p q.locals) (room (length p.words) (length gs) small) in
     let name_there : (b : Name) → has_name b names ≡ true → has_name b s.names ≡ true = λ b h.
     given_names p.words gs (first_spelt p q.locals) b (name_behind b own (others ++ (bare_names names ++ bare_vars vars)) (name_behind b others (bare_names names ++ bare_vars vars) (bare_name b names (bare_vars vars) h))) in

@@ -39,8 +39,8 @@ own_vars _ = []
 abbrev pub names_in : NominalAnswer → NominalDerivation → List Name
 names_in a d = names_of_terms a.binds ++ (map (λ (c : Cond). c.name) a.conds ++ flat_map own_names (subderivations d))
 
-abbrev pub vars_in : NominalAnswer → NominalDerivation → List Var
-vars_in a d = vars_of_terms a.binds ++ (map (λ (c : Cond). c.var) a.conds ++ flat_map own_vars (subderivations d))
+abbrev pub vars_of_proof : NominalAnswer → NominalDerivation → List Var
+vars_of_proof a d = vars_of_terms a.binds ++ (map (λ (c : Cond). c.var) a.conds ++ flat_map own_vars (subderivations d))
 
 -- derivations without where they lie in memory
 abbrev pub derivations_of : List (Bor code.Derivation) → List NominalDerivation

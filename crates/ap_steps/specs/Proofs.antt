@@ -38,11 +38,11 @@ abbrev pub query_steps : NominalQuery → ℕ → NominalAnswer → NominalDeriv
 query_steps q k a d w =
     root_step w q k a (sides_in (pieces w d q.goal (query_environment q a))) ∷ steps_below w 1 d q.goal (query_environment q a)
 
-abbrev pub on_query : Option NominalQuery → (NominalQuery → List NominalStep) → List NominalStep
-on_query None steps = []
-on_query (Some q) steps = steps q
+abbrev pub steps_on_query : Option NominalQuery → (NominalQuery → List NominalStep) → List NominalStep
+steps_on_query None steps = []
+steps_on_query (Some q) steps = steps q
 
 -- the steps of a derivation of a bundle for a program, whose predicates have these words
 abbrev pub shown_steps : NominalProgram → List (List ℕ) → NominalProved → List NominalStep
 shown_steps p words d =
-    on_query (query_at p.queries d.query) (λ q. query_steps q d.query d.answer d.derivation (writing p words q d.answer d.derivation))
+    steps_on_query (query_at p.queries d.query) (λ q. query_steps q d.query d.answer d.derivation (writing p words q d.answer d.derivation))

@@ -13,16 +13,16 @@ use Rattle.ap_defs.specs.Renaming.{local_names}
 use Rattle.ap_defs.specs.Types.{NominalConstructor, NominalLocal}
 use Rattle.ap_answers.specs.Occurring.{more_names}
 use Rattle.ap_answers.specs.Spelled.{text_at}
-use Rattle.ap_spelling.specs.Words.{NominalGiven, NominalSpelt, Numbered, give_each, kept, name, var}
+use Rattle.ap_spelling.specs.Words.{NominalGiven, NominalSpelt, Numbered, give_each, kept_words, name, var}
 use Rattle.ap_steps.specs.Givens.{givens, names_given}
-use Rattle.ap_steps.specs.Names.{names_in, vars_in}
+use Rattle.ap_steps.specs.Names.{names_in, vars_of_proof}
 
 abbrev pub text_of_constructor : NominalConstructor → List ℕ
 text_of_constructor c = c.text
 
 -- the query's free variables, the constructors, and `_`
 abbrev pub first_numbered : NominalProgram → List NominalLocal → Numbered
-first_numbered p locals = kept (codes "_" ∷ []) (kept (map text_of_constructor p.signature.constructors) (kept (var_texts locals) (λ w. None)))
+first_numbered p locals = kept_words (codes "_" ∷ []) (kept_words (map text_of_constructor p.signature.constructors) (kept_words (var_texts locals) (λ w. None)))
 
 -- nothing is spelled, and these words are left to what has them
 abbrev pub first_spelt : NominalProgram → List NominalLocal → NominalSpelt
@@ -38,7 +38,7 @@ bare_vars = map (λ x. var x [])
 -- what an answer to a query with its derivation gives: the query's free names come first
 abbrev pub other_givens : NominalProgram → NominalQuery → NominalAnswer → NominalDerivation → List NominalGiven
 other_givens p q a d =
-    givens p.clauses q.locals d q.goal ++ (bare_names (more_names (local_names zero q.locals) (names_in a d)) ++ bare_vars (first_vars [] (vars_in a d)))
+    givens p.clauses q.locals d q.goal ++ (bare_names (more_names (local_names zero q.locals) (names_in a d)) ++ bare_vars (first_vars [] (vars_of_proof a d)))
 
 abbrev pub all_givens : NominalProgram → NominalQuery → NominalAnswer → NominalDerivation → List NominalGiven
 all_givens p q a d = names_given (local_names zero q.locals) (name_texts q.locals) ++ other_givens p q a d

@@ -7,14 +7,14 @@ use Rattle.ap_defs.specs.Printing.{first_vars}
 use Rattle.ap_defs.specs.Renaming.{local_names}
 use Rattle.ap_answers.specs.Occurring.{more_names}
 use Rattle.ap_spelling.specs.Differing.{TellsApart}
-use Rattle.ap_steps.specs.Names.{names_in, vars_in}
+use Rattle.ap_steps.specs.Names.{names_in, vars_of_proof}
 use Rattle.ap_steps.specs.Spelling.{all_givens, spelling_by, spelt}
 
 -- Of the free names of the query and the names and variables of the answer and of the derivation no two are spelled alike.
 abbrev pub IsToldApart : NominalProgram → NominalQuery → NominalAnswer → NominalDerivation → Type 0
 IsToldApart p q a d =
     let by = spelling_by p (spelt p q a d) in
-    TellsApart by.names by.vars (more_names (local_names zero q.locals) (names_in a d)) (first_vars [] (vars_in a d))
+    TellsApart by.names by.vars (more_names (local_names zero q.locals) (names_in a d)) (first_vars [] (vars_of_proof a d))
 
 -- So derivations are spelled, where numbers of 64 bits have room for all that is spelled.
 abbrev pub DerivationsAreToldApart : Type 0

@@ -8,7 +8,7 @@ ghost use Rattle.ap_defs.specs.Occurrences.{names_of_terms, vars_of_terms};
 ghost use Rattle.ap_defs.specs.Terms.{term_of};
 ghost use Rattle.ap_answers.specs.Occurring.{more_names, more_vars};
 ghost use Rattle.ap_checks.specs.Checks.{node_count};
-ghost use Rattle.ap_steps.specs.Names.{count_left, derivations_of, names_in, own_names, own_vars, subderivations, preorder_left, vars_in};
+ghost use Rattle.ap_steps.specs.Names.{count_left, derivations_of, names_in, own_names, own_vars, subderivations, preorder_left, vars_of_proof};
 
 use ap_answers::occurrences::{add_name, add_names, add_var, add_vars};
 use ap_defs::memory::Memory;
@@ -190,7 +190,7 @@ pub(crate) fn add_all_vars(
     nodes: &[&Derivation],
 ) -> Result<(), Memory>
     ensures { OnOk result ((d : NominalDerivation) → derivations_of nodes.now ≡ subderivations d →
-        vars.new.keys ≡ more_vars vars.old.keys (vars_in (answer_of answer.now) d)) }
+        vars.new.keys ≡ more_vars vars.old.keys (vars_of_proof (answer_of answer.now) d)) }
 {
     add_vars_of(vars, answer.binds.items())?;
     add_vars_in(vars, answer.conds.items())?;

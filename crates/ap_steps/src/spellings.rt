@@ -12,9 +12,9 @@ ghost use Rattle.ap_defs.specs.Printing.{first_vars, has_word};
 ghost use Rattle.ap_defs.specs.Renaming.{local_names};
 ghost use Rattle.ap_defs.specs.Types.{constructor_of, locals_of};
 ghost use Rattle.ap_steps.specs.Givens.{names_given};
-ghost use Rattle.ap_steps.specs.Names.{names_in, vars_in};
+ghost use Rattle.ap_steps.specs.Names.{names_in, vars_of_proof};
 ghost use Rattle.ap_spelling.specs.Spelt.{givens_of, last_of, spelt_of};
-ghost use Rattle.ap_spelling.specs.Words.{kept};
+ghost use Rattle.ap_spelling.specs.Words.{kept_words};
 ghost use Rattle.ap_steps.specs.Spelling.{all_givens, bare_names, bare_vars, first_numbered, first_spelt, other_givens, spelt, text_of_constructor};
 
 use crate::givens::{add_names_given, givens_in, lent_name_texts};
@@ -46,7 +46,7 @@ fn names_shown(alloc: Global, locals: &[Local], proved: &Proved) -> Result<Index
 /// The variables of a derivation with its answer.
 fn vars_shown(alloc: Global, proved: &Proved) -> Result<IndexSet<Var>, Memory>
     ensures { IfOk result (λ vars. vars.keys ≡ first_vars []
-        (vars_in (answer_of proved.now.answer) (derivation_of proved.now.derivation))) }
+        (vars_of_proof (answer_of proved.now.answer) (derivation_of proved.now.derivation))) }
 {
     let nodes = nodes_of(alloc, &proved.derivation)?;
     let mut vars = IndexSet::new(alloc);
@@ -144,7 +144,8 @@ fn givens_of_query<'a>(
 
 /// Words are left to what has them in the text.
 fn keep_each<'a>(last: &mut Numbers<'a>, words: &[&'a Text]) -> Result<(), Memory>
-    ensures { OnOk result (last_of last.new ≡ kept (lent_texts words.now) (last_of last.old)) }
+    ensures { OnOk result (last_of last.new
+        ≡ kept_words (lent_texts words.now) (last_of last.old)) }
 {
     for i in 0..words.len() {
         set_last(last, words[i].as_str(), 0)?;
@@ -157,7 +158,7 @@ fn keep_constructors<'a>(
     last: &mut Numbers<'a>,
     constructors: &'a [Constructor],
 ) -> Result<(), Memory>
-    ensures { OnOk result (last_of last.new ≡ kept (map text_of_constructor
+    ensures { OnOk result (last_of last.new ≡ kept_words (map text_of_constructor
         (map constructor_of constructors.entry.now)) (last_of last.old)) }
 {
     let mut rest = constructors;

@@ -12,7 +12,7 @@ use Rattle.ap_theory.proofs.ConditionSetLemmas.{add_conds_same, cond_eq_tells, h
 use Rattle.ap_theory.proofs.TermLemmas.{number_same, same_number, same_var}
 use Rattle.ap_store.specs.Changes.{AreChanges, after, empty, present_after}
 use Rattle.ap_store.specs.Slots.{AreHeld, AreTakenBelow, IsTakenBelow, all_held, held_in}
-use Rattle.ap_store.specs.Trails.{AreLinked, Kept, keep, kept_after, nothing_kept}
+use Rattle.ap_store.specs.Trails.{AreTrailLinked, Kept, keep, kept_after, nothing_kept}
 use Rattle.ap_store.specs.Triples.{Triple, is_apart, is_on}
 use Rattle.ap_store.specs.declared.changes.Change.{Change}
 use Rattle.ap_store.specs.declared.changes.Change.TheVariants.{Made, Bound, Added, Taken}
@@ -225,8 +225,8 @@ added_fits vs cs ds c h e =
 pub taken_fits : (vs : List (Vec Cond Global)) (cs ds : List Change) (x : Var) (es : _) → AreHeld vs ds → ds ≡ cs ++ Taken x es ∷ [] → x.num < length vs
 taken_fits vs cs ds x es h e = let k = taken_before vs cs ds (Taken x es) e h in k.1
 
-pub taken_link : (cs ds : List Change) (x : Var) (es : _) → AreLinked ds nothing_kept → ds ≡ cs ++ Taken x es ∷ [] → es.items ≡ (kept cs).conds x.num
-taken_link cs ds x es h e = (linked_less cs (Taken x es) nothing_kept (subst (λ (fs : List Change). AreLinked fs nothing_kept) e h)).1
+pub taken_link : (cs ds : List Change) (x : Var) (es : _) → AreTrailLinked ds nothing_kept → ds ≡ cs ++ Taken x es ∷ [] → es.items ≡ (kept cs).conds x.num
+taken_link cs ds x es h e = (linked_less cs (Taken x es) nothing_kept (subst (λ (fs : List Change). AreTrailLinked fs nothing_kept) e h)).1
 
 -- The conditions on a variable are those that came and were not taken out since.
 and_or : (o e h : Bool) → (e ≡ true → o ≡ true) → ((o && h) || (e || false)) ≡ (o && (e || h))

@@ -18,7 +18,7 @@ use Rattle.ap_theory.proofs.TermLemmas.{number_same}
 use Rattle.ap_theory.specs.Variables.{IsUnbound, is_bound}
 use Rattle.ap_store.specs.Changes.{AreChanges, IsChange, after, empty, present_after}
 use Rattle.ap_store.specs.Slots.{IsStored, place_in, slot_kind}
-use Rattle.ap_store.specs.Trails.{AreLinked, IsLinked, Kept, change_term, keep, kept_after, nothing_bound, nothing_kept, raw_after, raw_step, term_at}
+use Rattle.ap_store.specs.Trails.{AreTrailLinked, IsLinked, Kept, change_term, keep, kept_after, nothing_bound, nothing_kept, raw_after, raw_step, term_at_change}
 use Rattle.ap_store.specs.Triples.{AreOnUnbound, Triple}
 use Rattle.ap_store.specs.declared.changes.Change.{Change}
 use Rattle.ap_store.specs.declared.changes.Change.TheVariants.{Made, Bound, Added, Taken}
@@ -130,7 +130,7 @@ pub stored_made : (ss us : List Slot) (cs ts : List Change) (r n : ℕ) → IsSt
 stored_made ss us cs ts r n h e f g =
     let k : kept_after ts nothing_kept ≡ keep (Made n) (kept cs) = ap (λ (ds : List Change). kept_after ds nothing_kept) g ∙ kept_more cs (Made n) nothing_kept in (
       subst (λ (ds : List Change). AreChanges ds empty) (sym g) (changes_more cs (Made n) empty h.0 tt),
-      subst (λ (ds : List Change). AreLinked ds nothing_kept) (sym g) (linked_more cs (Made n) nothing_kept h.1 tt),
+      subst (λ (ds : List Change). AreTrailLinked ds nothing_kept) (sym g) (linked_more cs (Made n) nothing_kept h.1 tt),
       e ∙ ap (λ m. m + n) h.2 ∙ ap (λ (a : Triple). a.next) (sym (present_new cs ts (Made n) empty g)),
       (λ i. f i ∙ h.3 i ∙ ap (λ (q : Kept). q.place i) (sym k)),
       h.4 ∙ ap (λ (q : Kept). q.reach) (sym k),
@@ -154,7 +154,7 @@ pub stored_aside : (ss : List Slot) (cs ts : List Change) (r : ℕ) (d : Change)
 stored_aside ss cs ts r d h t i j n p q =
     let k : kept_after ts nothing_kept ≡ keep d (kept cs) = ap (λ (ds : List Change). kept_after ds nothing_kept) t ∙ kept_more cs d nothing_kept in (
       subst (λ (ds : List Change). AreChanges ds empty) (sym t) (changes_more cs d empty h.0 i),
-      subst (λ (ds : List Change). AreLinked ds nothing_kept) (sym t) (linked_more cs d nothing_kept h.1 j),
+      subst (λ (ds : List Change). AreTrailLinked ds nothing_kept) (sym t) (linked_more cs d nothing_kept h.1 j),
       h.2 ∙ sym n ∙ ap (λ (a : Triple). a.next) (sym (present_new cs ts d empty t)),
       (λ m. h.3 m ∙ ap (λ (f : ℕ → ℕ). f m) (sym p) ∙ ap (λ (u : Kept). u.place m) (sym k)),
       h.4 ∙ sym q ∙ ap (λ (u : Kept). u.reach) (sym k),
@@ -214,7 +214,7 @@ pub unaside : (ss : List Slot) (cs ds : List Change) (r : ℕ) (d : Change) → 
 unaside ss cs ds r d h e n p q =
     let k : kept_after ds nothing_kept ≡ keep d (kept cs) = ap (λ (es : List Change). kept_after es nothing_kept) e ∙ kept_more cs d nothing_kept in (
       (changes_less cs d empty (subst (λ (es : List Change). AreChanges es empty) e h.0)).0,
-      (linked_less cs d nothing_kept (subst (λ (es : List Change). AreLinked es nothing_kept) e h.1)).0,
+      (linked_less cs d nothing_kept (subst (λ (es : List Change). AreTrailLinked es nothing_kept) e h.1)).0,
       h.2 ∙ ap (λ (a : Triple). a.next) (present_new cs ds d empty e) ∙ n,
       (λ i. h.3 i ∙ ap (λ (u : Kept). u.place i) k ∙ ap (λ (f : ℕ → ℕ). f i) p),
       h.4 ∙ ap (λ (u : Kept). u.reach) k ∙ q,
@@ -230,24 +230,24 @@ untaken ss cs ds r x es h e = unaside ss cs ds r (Taken x es) h e refl refl refl
 record Found (cs : List Change) (b : lookups.Bound) (k : Kept) : Type 0 where
   count : k.count ≡ length cs
   placed : (i : ℕ) → k.place i ≤ length cs
-  terms : (x : Var) → b x ≡ term_at cs (k.place x.num)
+  terms : (x : Var) → b x ≡ term_at_change cs (k.place x.num)
 
-term_at_none : (cs : List Change) → term_at cs 0 ≡ None
+term_at_none : (cs : List Change) → term_at_change cs 0 ≡ None
 term_at_none [] = refl
 term_at_none (c ∷ cs) = refl
 
-term_at_kept : (cs : List Change) (c : Change) (n : ℕ) → n ≤ length cs → term_at (cs ++ c ∷ []) n ≡ term_at cs n
+term_at_kept : (cs : List Change) (c : Change) (n : ℕ) → n ≤ length cs → term_at_change (cs ++ c ∷ []) n ≡ term_at_change cs n
 term_at_kept [] c zero l = refl
 term_at_kept [] c (suc n) l = absurd (omega arith)
 term_at_kept (d ∷ cs) c zero l = refl
 term_at_kept (d ∷ cs) c (suc zero) l = refl
 term_at_kept (d ∷ cs) c (suc (suc n)) l = term_at_kept cs c (suc n) (omega arith)
 
-term_at_last : (cs : List Change) (c : Change) → term_at (cs ++ c ∷ []) (suc (length cs)) ≡ change_term c
+term_at_last : (cs : List Change) (c : Change) → term_at_change (cs ++ c ∷ []) (suc (length cs)) ≡ change_term c
 term_at_last [] c = refl
 term_at_last (d ∷ cs) c = term_at_last cs c
 
-pub term_at_get : (cs : List Change) (n : ℕ) (d : Change) → n < length cs → term_at cs (suc n) ≡ change_term (get_or cs n d)
+pub term_at_get : (cs : List Change) (n : ℕ) (d : Change) → n < length cs → term_at_change cs (suc n) ≡ change_term (get_or cs n d)
 term_at_get [] n d l = absurd (omega arith)
 term_at_get (c ∷ cs) zero d l = refl
 term_at_get (c ∷ cs) (suc n) d l = term_at_get cs n d (omega arith)
@@ -260,7 +260,7 @@ found_aside cs d b k f n p =
     record {
       count = n ∙ omega (arith, len, f.count);
       placed = λ i. let l = same i in omega (arith, len, l, f.placed i);
-      terms = λ x. f.terms x ∙ sym (term_at_kept cs d (k.place x.num) (f.placed x.num)) ∙ ap (term_at (cs ++ d ∷ [])) (sym (same x.num));
+      terms = λ x. f.terms x ∙ sym (term_at_kept cs d (k.place x.num) (f.placed x.num)) ∙ ap (term_at_change (cs ++ d ∷ [])) (sym (same x.num));
     }
 
 found_bound : (cs : List Change) (y : Var) (c : _) (n : ℕ) (b : lookups.Bound) (k : Kept) → Found cs b k → Found (cs ++ Bound y c n ∷ []) (raw_step (Bound y c n) b) (keep (Bound y c n) k)
@@ -269,8 +269,8 @@ found_bound cs y c n b k f =
     record {
       count = omega (arith, len, f.count);
       placed = λ i. elim (i == y.num) as (λ v. (if v then suc k.count else k.place i) ≤ length (cs ++ Bound y c n ∷ [])) [ true ↦ omega (arith, len, f.count) | false ↦ omega (arith, len, f.placed i) ];
-      terms = λ x. elim (x.num == y.num) as (λ v. (if v then Some (closure_term c) else b x) ≡ term_at (cs ++ Bound y c n ∷ []) (if v then suc k.count else k.place x.num)) [
-        | true ↦ sym (term_at_last cs (Bound y c n)) ∙ ap (λ m. term_at (cs ++ Bound y c n ∷ []) (suc m)) (sym f.count)
+      terms = λ x. elim (x.num == y.num) as (λ v. (if v then Some (closure_term c) else b x) ≡ term_at_change (cs ++ Bound y c n ∷ []) (if v then suc k.count else k.place x.num)) [
+        | true ↦ sym (term_at_last cs (Bound y c n)) ∙ ap (λ m. term_at_change (cs ++ Bound y c n ∷ []) (suc m)) (sym f.count)
         | false ↦ f.terms x ∙ sym (term_at_kept cs (Bound y c n) (k.place x.num) (f.placed x.num))
       ];
     }
@@ -290,17 +290,17 @@ found_after (d ∷ ds) cs b k f =
 found : (cs : List Change) → Found cs (raw_after cs nothing_bound) (kept cs)
 found cs = found_after cs [] nothing_bound nothing_kept (record { count = refl; placed = λ i. omega arith; terms = λ x. refl })
 
-pub term_found : (ss : List Slot) (cs : List Change) (r : ℕ) → IsStored ss cs r → (x : Var) → raw_after cs nothing_bound x ≡ term_at cs (place_in ss x.num)
-term_found ss cs r h x = (found cs).terms x ∙ ap (term_at cs) (sym (h.3 x.num))
+pub term_found : (ss : List Slot) (cs : List Change) (r : ℕ) → IsStored ss cs r → (x : Var) → raw_after cs nothing_bound x ≡ term_at_change cs (place_in ss x.num)
+term_found ss cs r h x = (found cs).terms x ∙ ap (term_at_change cs) (sym (h.3 x.num))
 
 -- what a search by a count of changes finds
-pub term_at_index : (cs : List Change) (n : ℕ) (d e : Change) → 0 < n → n ≤ length cs → d ≡ get_or cs (n - 1) d → d ≡ e → term_at cs n ≡ change_term e
+pub term_at_index : (cs : List Change) (n : ℕ) (d e : Change) → 0 < n → n ≤ length cs → d ≡ get_or cs (n - 1) d → d ≡ e → term_at_change cs n ≡ change_term e
 term_at_index cs zero d e l m f g = absurd (omega arith)
 term_at_index cs (suc n) d e l m f g =
     let h : suc n - 1 ≡ n = omega arith in
     term_at_get cs n d (omega arith) ∙ ap change_term (ap (λ i. get_or cs i d) (sym h) ∙ sym f ∙ g)
 
-pub term_at_outside : (cs : List Change) (n : ℕ) → (n ≡ 0) ⊎ (length cs < n) → term_at cs n ≡ None
+pub term_at_outside : (cs : List Change) (n : ℕ) → (n ≡ 0) ⊎ (length cs < n) → term_at_change cs n ≡ None
 term_at_outside [] n h = refl
 term_at_outside (c ∷ cs) zero h = refl
 term_at_outside (c ∷ cs) (suc zero) (inl e) = absurd (omega (arith, e))

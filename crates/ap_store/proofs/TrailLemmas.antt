@@ -2,7 +2,7 @@
 use Rattle.std.proofs.Common.{◌≡◌, ◌≤◌, ℕ, zero, suc, ◌+◌, List, [], ◌∷◌, ◌++◌, length, take, refl, sym, ap, ap₂, ◌∙◌, arith, append_assoc, append-nil}
 use Rattle.std.proofs.lemmas.List.{length-append, take-append-le}
 use Rattle.ap_store.specs.Changes.{AreChanges, IsChange, after, past_after, present_after}
-use Rattle.ap_store.specs.Trails.{AreLinked, IsLinked, Kept, keep, kept_after}
+use Rattle.ap_store.specs.Trails.{AreTrailLinked, IsLinked, Kept, keep, kept_after}
 use Rattle.ap_store.specs.Triples.{IsPrefixOf, Triple}
 use Rattle.ap_store.specs.declared.changes.Change.{Change}
 
@@ -30,11 +30,11 @@ pub kept_more : (cs : List Change) (c : Change) (k : Kept) → kept_after (cs ++
 kept_more [] c k = refl
 kept_more (d ∷ cs) c k = kept_more cs c (keep d k)
 
-pub linked_more : (cs : List Change) (c : Change) (k : Kept) → AreLinked cs k → IsLinked c (kept_after cs k) → AreLinked (cs ++ c ∷ []) k
+pub linked_more : (cs : List Change) (c : Change) (k : Kept) → AreTrailLinked cs k → IsLinked c (kept_after cs k) → AreTrailLinked (cs ++ c ∷ []) k
 linked_more [] c k h l = (l, tt)
 linked_more (d ∷ cs) c k h l = (h.0, linked_more cs c (keep d k) h.1 l)
 
-pub linked_less : (cs : List Change) (c : Change) (k : Kept) → AreLinked (cs ++ c ∷ []) k → AreLinked cs k × IsLinked c (kept_after cs k)
+pub linked_less : (cs : List Change) (c : Change) (k : Kept) → AreTrailLinked (cs ++ c ∷ []) k → AreTrailLinked cs k × IsLinked c (kept_after cs k)
 linked_less [] c k h = (tt, h.0)
 linked_less (d ∷ cs) c k h = let l = linked_less cs c (keep d k) h.1 in ((h.0, l.0), l.1)
 

@@ -16,9 +16,9 @@ IsHeadUnbound bs (susp p x) = IsUnbound bs x
 IsHeadUnbound bs _ = Unit {0}
 
 -- one binding is followed, or there is none at the head of the term
-abbrev pub IsStep : Triple → (Var → ℕ) → NominalTerm → Option Closure → Type 0
-IsStep a rank t None = IsHeadUnbound a.bindings t
-IsStep a rank t (Some c) =
+abbrev pub IsHeadStep : Triple → (Var → ℕ) → NominalTerm → Option Closure → Type 0
+IsHeadStep a rank t None = IsHeadUnbound a.bindings t
+IsHeadStep a rank t (Some c) =
     (under a.bindings (closure_term c) ≡ under a.bindings t) × (IsBelow a.next t → IsBelow a.next (closure_term c))
     × (depth_of rank (closure_term c) < depth_of rank t)
 

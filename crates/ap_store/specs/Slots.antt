@@ -7,7 +7,7 @@ use Rattle.ap_defs.specs.Types.{NominalKind, kind_of}
 use Rattle.ap_defs.specs.declared.terms.Cond.{Cond}
 use Rattle.ap_store.specs.Changes.{AreChanges, empty, present_after}
 use Rattle.ap_store.specs.ChangeProps.{changes_prop}
-use Rattle.ap_store.specs.Trails.{AreLinked, IsLinked, Kept, keep, kept_after, nothing_kept}
+use Rattle.ap_store.specs.Trails.{AreTrailLinked, IsLinked, Kept, keep, kept_after, nothing_kept}
 use Rattle.ap_store.specs.declared.changes.Change.{Change}
 use Rattle.ap_store.specs.declared.changes.Change.TheVariants.{Made, Bound, Added, Taken}
 use Rattle.ap_store.specs.declared.slots.Slot.{Slot}
@@ -34,7 +34,7 @@ all_held (v ∷ vs) = v.items ++ all_held vs
 -- the changes may follow one another, and what is kept beside them fits them
 abbrev pub IsStored : List Slot → List Change → ℕ → Type 0
 IsStored table cs reach =
-    AreChanges cs empty × AreLinked cs nothing_kept
+    AreChanges cs empty × AreTrailLinked cs nothing_kept
     × (length table ≡ (present_after cs empty).next) × ((i : ℕ) → place_in table i ≡ (kept_after cs nothing_kept).place i)
     × (reach ≡ (kept_after cs nothing_kept).reach)
 
@@ -57,13 +57,13 @@ link_prop (Bound x c n) k = hlevel props
 link_prop (Added c) k = Unit-prop
 link_prop (Taken x cs) k = hlevel props
 
-links_prop : (cs : List Change) (k : Kept) → IsProp (AreLinked cs k)
+links_prop : (cs : List Change) (k : Kept) → IsProp (AreTrailLinked cs k)
 links_prop [] k = Unit-prop
-links_prop (c ∷ cs) k = let h : IsProp (IsLinked c k) = link_prop c k in let l : IsProp (AreLinked cs (keep c k)) = links_prop cs (keep c k) in hlevel (props, h, l)
+links_prop (c ∷ cs) k = let h : IsProp (IsLinked c k) = link_prop c k in let l : IsProp (AreTrailLinked cs (keep c k)) = links_prop cs (keep c k) in hlevel (props, h, l)
 
 pub stored_prop : (table : List Slot) (cs : List Change) (reach : ℕ) → IsProp (IsStored table cs reach)
 stored_prop table cs reach =
-    let h : IsProp (AreChanges cs empty) = changes_prop cs empty in let k : IsProp (AreLinked cs nothing_kept) = links_prop cs nothing_kept in hlevel (props, h, k)
+    let h : IsProp (AreChanges cs empty) = changes_prop cs empty in let k : IsProp (AreTrailLinked cs nothing_kept) = links_prop cs nothing_kept in hlevel (props, h, k)
 
 taken_prop : (n : ℕ) (c : Change) → IsProp (IsTakenBelow n c)
 taken_prop n (Made m) = Unit-prop

@@ -69,9 +69,9 @@ IsLinked (Bound x c n) k = n ≡ k.reach
 IsLinked (Added c) k = Unit {0}
 IsLinked (Taken x cs) k = cs.items ≡ k.conds x.num
 
-abbrev pub AreLinked : List Change → Kept → Type 0
-AreLinked [] k = Unit {0}
-AreLinked (c ∷ cs) k = IsLinked c k × AreLinked cs (keep c k)
+abbrev pub AreTrailLinked : List Change → Kept → Type 0
+AreTrailLinked [] k = Unit {0}
+AreTrailLinked (c ∷ cs) k = IsLinked c k × AreTrailLinked cs (keep c k)
 
 abbrev pub change_term : Change → Option NominalTerm
 change_term (Made n) = None
@@ -80,8 +80,8 @@ change_term (Added c) = None
 change_term (Taken x cs) = None
 
 -- the term of the change up to which there are so many
-abbrev pub term_at : List Change → ℕ → Option NominalTerm
-term_at [] n = None
-term_at (c ∷ cs) zero = None
-term_at (c ∷ cs) (suc zero) = change_term c
-term_at (c ∷ cs) (suc (suc n)) = term_at cs (suc n)
+abbrev pub term_at_change : List Change → ℕ → Option NominalTerm
+term_at_change [] n = None
+term_at_change (c ∷ cs) zero = None
+term_at_change (c ∷ cs) (suc zero) = change_term c
+term_at_change (c ∷ cs) (suc (suc n)) = term_at_change cs (suc n)

@@ -4,7 +4,7 @@ ghost use Rattle.std.specs.Prelude.{◌≡◌, ◌<◌, IfOk};
 ghost use Rattle.ap_defs.specs.Renaming.{IsBelow};
 ghost use Rattle.ap_defs.specs.Substitution.{under};
 ghost use Rattle.ap_perm.specs.Closures.{closure_term};
-ghost use Rattle.ap_store.specs.Heads.{IsHeadUnbound, IsStep};
+ghost use Rattle.ap_store.specs.Heads.{IsHeadUnbound, IsHeadStep};
 ghost use Rattle.ap_store.specs.Views.{bindings_of, meaning_in, present, rank};
 
 use crate::store::Store;
@@ -21,7 +21,7 @@ fn step<'a>(
     store: &Store<'a>,
     c: &Closure<'a>,
 ) -> Result<Option<Closure<'a>>, Memory>
-    ensures { IfOk result (λ o. IsStep (present store.now) (rank store.now) (closure_term c.now)
+    ensures { IfOk result (λ o. IsHeadStep (present store.now) (rank store.now) (closure_term c.now)
         o) }
 {
     let _end = c.end;

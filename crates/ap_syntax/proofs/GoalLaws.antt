@@ -3,7 +3,7 @@ use Rattle.std.proofs.Common.{◌≡◌, ◌≢◌, ℕ, zero, suc, ◌<◌, Boo
 use Rattle.std.proofs.lemmas.Slice.Eq.{bytes_eq-Decides}
 use Rattle.std.proofs.lemmas.Bool.Decides.{not_from_Decides}
 use Rattle.std.specs.Str.{bytes_eq}
-use Rattle.ap_trees.specs.Readers.{Reader, ◌>>=◌, with_front, further, separated, after_comma, after_close, at_end, after_open}
+use Rattle.ap_trees.specs.Readers.{SymbolReader, ◌>>=◌, with_before, further, separated, after_comma, after_close, at_end, after_open}
 use Rattle.ap_trees.specs.Symbols.{Sym, Var, Ident, New, Exists, Open, Close, Comma, Semicolon, Equal, Fresh}
 use Rattle.ap_trees.specs.Terms.{Term}
 use Rattle.ap_trees.specs.TermReader.{read_term}
@@ -56,14 +56,14 @@ unfolding read_flat
 flat_sound ts none = bind_if (first_term ts) _ _ _ (term_sound (length ts) ts) (λ left h. relation_sound ts none left.0 left.1 h)
 
 -- a reader whose readings are goals
-abbrev pub Sound : Reader Goal → Type 0
+abbrev pub Sound : SymbolReader Goal → Type 0
 Sound read = (ts : List Sym) → IfSome (read ts) (λ x. IsGoal ts x.0 x.1)
 
-inside_sound : (read : Reader Goal) → Sound read → (ts : List Sym) → IfSome (goal_inside read ts) (λ x. IsGoal ts x.0 (Close ∷ x.1))
+inside_sound : (read : SymbolReader Goal) → Sound read → (ts : List Sym) → IfSome (goal_inside read ts) (λ x. IsGoal ts x.0 (Close ∷ x.1))
 unfolding goal_inside
 inside_sound read sound ts = bind_if (read ts) _ _ _ (sound ts) (λ goal h. bind_if (after_close goal.1) _ _ _ (close_is goal.1) (λ rest e. subst (IsGoal ts goal.0) e h))
 
-new_sound : (read : Reader Goal) → Sound read → (ts : List Sym) → IfSome (new_goal read ts) (λ x. IsSimple (New ∷ ts) x.0 x.1)
+new_sound : (read : SymbolReader Goal) → Sound read → (ts : List Sym) → IfSome (new_goal read ts) (λ x. IsSimple (New ∷ ts) x.0 x.1)
 unfolding new_goal
 new_sound read sound ts =
     bind_if (read_ident ts) _ _ _ (ident_is ts)
@@ -83,7 +83,7 @@ unfolding read_bound
 bound_is (Var w ∷ us) = unless_is w us (Var w ∷ us) refl
 bound_is ts = tt
 
-exists_sound : (read : Reader Goal) → Sound read → (ts : List Sym) → IfSome (exists_goal read ts) (λ x. IsSimple (Exists ∷ ts) x.0 x.1)
+exists_sound : (read : SymbolReader Goal) → Sound read → (ts : List Sym) → IfSome (exists_goal read ts) (λ x. IsSimple (Exists ∷ ts) x.0 x.1)
 unfolding exists_goal
 exists_sound read sound ts =
     bind_if (read_bound ts) _ _ _ (bound_is ts)
@@ -99,24 +99,24 @@ group_is : (ts : List Sym) → IfSome (after_group ts) (λ us. (begins_term us �
 unfolding after_group
 group_is ts = bind_if (after_open ts) _ _ _ (open_is ts) (λ us o. unless_term_is ts us (begins_term us) refl o)
 
-group_sound : (read : Reader Goal) → Sound read → (ts : List Sym) (group : Option (List Sym)) → after_group ts ≡ group → IfSome (simple_by read ts None None group) (λ x. IsSimple ts x.0 x.1)
+group_sound : (read : SymbolReader Goal) → Sound read → (ts : List Sym) (group : Option (List Sym)) → after_group ts ≡ group → IfSome (simple_by read ts None None group) (λ x. IsSimple ts x.0 x.1)
 group_sound read sound ts None e = flat_sound ts e
 group_sound read sound ts (Some us) e =
     let is : (begins_term us ≡ false) × (ts ≡ Open ∷ us) = subst (λ o. IfSome o (λ us. (begins_term us ≡ false) × (ts ≡ Open ∷ us))) e (group_is ts) in
     if_also (goal_inside read us) _ _ (inside_sound read sound us) (λ x h. subst (λ vs. IsSimple vs x.0 x.1) (sym is.1) (in_parentheses is.0 h))
 
-simple_sound : (read : Reader Goal) → Sound read → (ts : List Sym) → IfSome (read_simple read ts) (λ x. IsSimple ts x.0 x.1)
+simple_sound : (read : SymbolReader Goal) → Sound read → (ts : List Sym) → IfSome (read_simple read ts) (λ x. IsSimple ts x.0 x.1)
 unfolding read_simple
 simple_sound read sound (New ∷ us) = new_sound read sound us
 simple_sound read sound (Exists ∷ us) = exists_sound read sound us
 simple_sound read sound ts = group_sound read sound ts (after_group ts) refl
 
-further_simples : (others : Reader (List Goal)) → ((us : List Sym) → IfSome (others us) (λ y. AreSimples us y.0 y.1)) → (ts : List Sym) (x : Goal) (after : List Sym) → IsSimple ts x after
-    → IfSome (with_front (x ∷ []) (further after_comma others after)) (λ y. AreSimples ts y.0 y.1)
+further_simples : (others : SymbolReader (List Goal)) → ((us : List Sym) → IfSome (others us) (λ y. AreSimples us y.0 y.1)) → (ts : List Sym) (x : Goal) (after : List Sym) → IsSimple ts x after
+    → IfSome (with_before (x ∷ []) (further after_comma others after)) (λ y. AreSimples ts y.0 y.1)
 further_simples others sound ts x (Comma ∷ us) h = bind_if (others us) _ _ _ (sound us) (λ y g. next_simple h g)
 further_simples others sound ts x after h = last_simple h
 
-simples_sound : (read : Reader Goal) → Sound read → (k : ℕ) (ts : List Sym) → IfSome (separated after_comma (read_simple read) k ts) (λ x. AreSimples ts x.0 x.1)
+simples_sound : (read : SymbolReader Goal) → Sound read → (k : ℕ) (ts : List Sym) → IfSome (separated after_comma (read_simple read) k ts) (λ x. AreSimples ts x.0 x.1)
 unfolding separated
 simples_sound read sound zero ts = tt
 simples_sound read sound (suc k) ts =
@@ -126,16 +126,16 @@ conj_of : (ts : List Sym) (gs : List Goal) (rest : List Sym) → AreSimples ts g
 conj_of ts [] rest h = tt
 conj_of ts (g ∷ gs) rest h = conjunction g gs h
 
-conj_sound : (read : Reader Goal) → Sound read → (ts : List Sym) → IfSome (read_conj read ts) (λ x. IsConj ts x.0 x.1)
+conj_sound : (read : SymbolReader Goal) → Sound read → (ts : List Sym) → IfSome (read_conj read ts) (λ x. IsConj ts x.0 x.1)
 unfolding read_conj
 conj_sound read sound ts = bind_if (separated after_comma (read_simple read) (length ts) ts) _ _ _ (simples_sound read sound (length ts) ts) (λ parts h. conj_of ts parts.0 parts.1 h)
 
-further_conjs : (others : Reader (List Goal)) → ((us : List Sym) → IfSome (others us) (λ y. AreConjs us y.0 y.1)) → (ts : List Sym) (x : Goal) (after : List Sym) → IsConj ts x after
-    → IfSome (with_front (x ∷ []) (further after_semicolon others after)) (λ y. AreConjs ts y.0 y.1)
+further_conjs : (others : SymbolReader (List Goal)) → ((us : List Sym) → IfSome (others us) (λ y. AreConjs us y.0 y.1)) → (ts : List Sym) (x : Goal) (after : List Sym) → IsConj ts x after
+    → IfSome (with_before (x ∷ []) (further after_semicolon others after)) (λ y. AreConjs ts y.0 y.1)
 further_conjs others sound ts x (Semicolon ∷ us) h = bind_if (others us) _ _ _ (sound us) (λ y g. next_conj h g)
 further_conjs others sound ts x after h = last_conj h
 
-conjs_sound : (read : Reader Goal) → Sound read → (k : ℕ) (ts : List Sym) → IfSome (separated after_semicolon (read_conj read) k ts) (λ x. AreConjs ts x.0 x.1)
+conjs_sound : (read : SymbolReader Goal) → Sound read → (k : ℕ) (ts : List Sym) → IfSome (separated after_semicolon (read_conj read) k ts) (λ x. AreConjs ts x.0 x.1)
 unfolding separated
 conjs_sound read sound zero ts = tt
 conjs_sound read sound (suc k) ts =
@@ -145,7 +145,7 @@ disj_of : (ts : List Sym) (gs : List Goal) (rest : List Sym) → AreConjs ts gs 
 disj_of ts [] rest h = tt
 disj_of ts (g ∷ gs) rest h = disjunction g gs h
 
-disj_sound : (read : Reader Goal) → Sound read → (ts : List Sym) → IfSome (read_disj read ts) (λ x. IsGoal ts x.0 x.1)
+disj_sound : (read : SymbolReader Goal) → Sound read → (ts : List Sym) → IfSome (read_disj read ts) (λ x. IsGoal ts x.0 x.1)
 unfolding read_disj
 disj_sound read sound ts = bind_if (separated after_semicolon (read_conj read) (length ts) ts) _ _ _ (conjs_sound read sound (length ts) ts) (λ parts h. disj_of ts parts.0 parts.1 h)
 

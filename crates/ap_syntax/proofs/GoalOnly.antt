@@ -3,11 +3,11 @@ use Rattle.std.proofs.Common.{◌≡◌, ◌≢◌, ℕ, zero, suc, ◌≤◌, f
 use Rattle.std.proofs.lemmas.Bool.{false_from_ne_true}
 use Rattle.std.proofs.lemmas.Slice.Eq.{bytes_eq-Decides}
 use Rattle.std.specs.Str.{bytes_eq}
-use Rattle.ap_trees.specs.Readers.{Reader, separated, after_comma, after_lambda, after_open}
+use Rattle.ap_trees.specs.Readers.{SymbolReader, separated, after_comma, after_lambda, after_open}
 use Rattle.ap_trees.specs.Symbols.{Sym, Var, Ident, New, Exists, Open, Close, Comma, Semicolon, Equal, Fresh}
-use Rattle.ap_trees.specs.Terms.{Term, Word, Apply, arguments}
+use Rattle.ap_trees.specs.Terms.{Term, Word, Apply, argument_terms}
 use Rattle.ap_trees.specs.TermGrammar.{IsTerm, AreTerms, under, an_ident, a_var, a_word, applied, a_variable, the_unit, grouped, the_nil, listed, swapping}
-use Rattle.ap_trees.specs.Goals.{Goal, Atom, Equation, Freshness, Both, Either, Some_variable, New_name, joined}
+use Rattle.ap_trees.specs.Goals.{Goal, Atom, Equation, Freshness, Both, Either, Some_variable, New_name, joined_goals}
 use Rattle.ap_trees.proofs.TypeLaws.{read_sole, read_several}
 use Rattle.ap_trees.proofs.TermLaws.{Ends, term_only, terms_only, closes}
 use Rattle.ap_syntax.specs.Marks.{after_semicolon, after_equal, after_fresh, after_new, after_exists, read_bound, blank}
@@ -55,7 +55,7 @@ atom_only (with_arguments h) ends = rw (terms_inside_only h) refl
 
 atom_is_term : {ts rest : List Sym} {w : List ℕ} {args : List Term} → IsAtom ts w args rest → (t : Term) × IsTerm ts t rest
 atom_is_term (bare {w = w}) = (Word w, a_word)
-atom_is_term (with_arguments {w = w} {args = args} h) = (Apply w (arguments args), applied args h)
+atom_is_term (with_arguments {w = w} {args = args} h) = (Apply w (argument_terms args), applied args h)
 
 atom_no_group : {ts rest : List Sym} {w : List ℕ} {args : List Term} → IsAtom ts w args rest → after_group ts ≡ None
 unfolding after_group
@@ -95,11 +95,11 @@ read_an_atom : (ts rest : List Sym) (t : Term) (w : List ℕ) (args : List Term)
 unfolding read_flat atom_goal
 read_an_atom ts rest t w args first stops got = rw first (rw (stops.equal, stops.fresh) (rw got refl))
 
-simple_flat : (read : Reader Goal) (ts : List Sym) → Plain ts → after_group ts ≡ None → read_simple read ts ≡ read_flat ts
+simple_flat : (read : SymbolReader Goal) (ts : List Sym) → Plain ts → after_group ts ≡ None → read_simple read ts ≡ read_flat ts
 unfolding read_simple
 simple_flat read ts plain group = rw (plain.new, plain.exists, group) refl
 
-read_new : (read : Reader Goal) (w : List ℕ) (ts rest : List Sym) (g : Goal) → read ts ≡ Some (g, Close ∷ rest) → read_simple read (New ∷ Ident w ∷ Open ∷ ts) ≡ Some (New_name w g, rest)
+read_new : (read : SymbolReader Goal) (w : List ℕ) (ts rest : List Sym) (g : Goal) → read ts ≡ Some (g, Close ∷ rest) → read_simple read (New ∷ Ident w ∷ Open ∷ ts) ≡ Some (New_name w g, rest)
 unfolding read_simple new_goal goal_inside
 read_new read w ts rest g got = rw got refl
 
@@ -109,7 +109,7 @@ bound_only w ts other =
     let differs : bytes_eq w blank ≡ false = false_from_ne_true (bytes_eq w blank) (λ same. other ((bytes_eq-Decides w blank).0 same)) in
     rw differs refl
 
-read_exists : (read : Reader Goal) (w : List ℕ) (ts rest : List Sym) (g : Goal) → w ≢ blank → read ts ≡ Some (g, Close ∷ rest) → read_simple read (Exists ∷ Var w ∷ Open ∷ ts) ≡ Some (Some_variable w g, rest)
+read_exists : (read : SymbolReader Goal) (w : List ℕ) (ts rest : List Sym) (g : Goal) → w ≢ blank → read ts ≡ Some (g, Close ∷ rest) → read_simple read (Exists ∷ Var w ∷ Open ∷ ts) ≡ Some (Some_variable w g, rest)
 unfolding read_simple exists_goal goal_inside
 read_exists read w ts rest g other got = rw (bound_only w (Open ∷ ts) other) (rw got refl)
 
@@ -117,17 +117,17 @@ group_only : (ts : List Sym) → begins_term ts ≡ false → after_group (Open 
 unfolding after_group
 group_only ts begins = rw begins refl
 
-read_group : (read : Reader Goal) (ts rest : List Sym) (g : Goal) → begins_term ts ≡ false → read ts ≡ Some (g, Close ∷ rest) → read_simple read (Open ∷ ts) ≡ Some (g, rest)
+read_group : (read : SymbolReader Goal) (ts rest : List Sym) (g : Goal) → begins_term ts ≡ false → read ts ≡ Some (g, Close ∷ rest) → read_simple read (Open ∷ ts) ≡ Some (g, rest)
 unfolding read_simple goal_inside
 read_group read ts rest g begins got = rw (group_only ts begins) (rw got refl)
 
-read_conjunction : (read : Reader Goal) (ts rest : List Sym) (first : Goal) (others : List Goal) → separated after_comma (read_simple read) (length ts) ts ≡ Some (first ∷ others, rest)
-    → read_conj read ts ≡ Some (joined Both first others, rest)
+read_conjunction : (read : SymbolReader Goal) (ts rest : List Sym) (first : Goal) (others : List Goal) → separated after_comma (read_simple read) (length ts) ts ≡ Some (first ∷ others, rest)
+    → read_conj read ts ≡ Some (joined_goals Both first others, rest)
 unfolding read_conj
 read_conjunction read ts rest first others got = rw got refl
 
 read_disjunction : (n : ℕ) (ts rest : List Sym) (first : Goal) (others : List Goal) → separated after_semicolon (read_conj (read_goal n)) (length ts) ts ≡ Some (first ∷ others, rest)
-    → read_goal (suc n) ts ≡ Some (joined Either first others, rest)
+    → read_goal (suc n) ts ≡ Some (joined_goals Either first others, rest)
 unfolding read_goal read_disj
 read_disjunction n ts rest first others got = rw got refl
 

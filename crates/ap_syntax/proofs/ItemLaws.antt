@@ -13,7 +13,7 @@ use Rattle.ap_trees.proofs.TermLaws.{Ends, if_also}
 use Rattle.ap_syntax.specs.Marks.{after_arrow, after_colon, read_ident, read_declared, sole_ident}
 use Rattle.ap_syntax.specs.GoalGrammar.{IsAtom, bare, with_arguments, IsGoal}
 use Rattle.ap_syntax.specs.GoalReader.{read_atom, all_goal}
-use Rattle.ap_syntax.specs.ItemGrammar.{AreArguments, some_type, unit_type, type_list, IsItem, name_type, data_type, constant, constructor, proposition, predicate, fact, rule, query}
+use Rattle.ap_syntax.specs.ItemGrammar.{AreTypeArguments, some_type, unit_type, type_list, IsItem, name_type, data_type, constant, constructor, proposition, predicate, fact, rule, query}
 use Rattle.ap_syntax.specs.ItemReader.{types_inside, sole_argument, listed_arguments, read_arguments, constructor_of, short_form, declaration, declared_types, predicate_of, body_of, clause_of, query_of, read_item}
 use Rattle.ap_syntax.proofs.GoalLaws.{ident_is, atom_sound, all_goal_sound}
 use Rattle.ap_syntax.proofs.GoalOnly.{atom_only, all_goal_only}
@@ -25,16 +25,16 @@ types_inside_sound ts =
     bind_if (separated after_comma (read_type (length ts)) (length ts) ts) _ _ _ (types_sound (read_type (length ts)) (type_sound (length ts)) (length ts) ts)
     (λ parts h. bind_if (after_close parts.1) _ _ _ (close_is parts.1) (λ rest e. subst (AreTypes ts parts.0) e h))
 
-sole_sound : (ts : List Sym) → after_open ts ≡ None → IfSome (sole_argument ts) (λ x. AreArguments ts x.0 x.1)
+sole_sound : (ts : List Sym) → after_open ts ≡ None → IfSome (sole_argument ts) (λ x. AreTypeArguments ts x.0 x.1)
 unfolding sole_argument
 sole_sound ts none = bind_if (read_type (length ts) ts) _ _ _ (type_sound (length ts) ts) (λ t h. some_type none h)
 
-listed_sound : (ts : List Sym) → IfSome (listed_arguments ts) (λ x. AreArguments (Open ∷ ts) x.0 x.1)
+listed_sound : (ts : List Sym) → IfSome (listed_arguments ts) (λ x. AreTypeArguments (Open ∷ ts) x.0 x.1)
 unfolding listed_arguments
 listed_sound (Close ∷ us) = unit_type
 listed_sound ts = if_also (types_inside ts) _ _ (types_inside_sound ts) (λ x h. type_list h)
 
-arguments_sound : (ts : List Sym) → IfSome (read_arguments ts) (λ x. AreArguments ts x.0 x.1)
+arguments_sound : (ts : List Sym) → IfSome (read_arguments ts) (λ x. AreTypeArguments ts x.0 x.1)
 unfolding read_arguments
 arguments_sound (Open ∷ us) = listed_sound us
 arguments_sound ts = sole_sound ts refl
@@ -57,7 +57,7 @@ constructor_sound w ts =
     bind_if (read_arguments ts) _ _ _ (arguments_sound ts)
     (λ args h. bind_if (after_arrow args.1) _ _ _ (arrow_is args.1)
     (λ rest e. bind_if (sole_ident rest) _ _ _ (sole_is rest)
-    (λ d o. constructor (subst (AreArguments ts args.0) (e ∙ ap (λ us. Arrow ∷ us) o) h))))
+    (λ d o. constructor (subst (AreTypeArguments ts args.0) (e ∙ ap (λ us. Arrow ∷ us) o) h))))
 
 declaration_sound : (w : List ℕ) (ts : List Sym) → IfSome (declaration w ts) (λ f. IsItem (Ident w ∷ Colon ∷ ts) f)
 unfolding declaration
@@ -118,13 +118,13 @@ types_inside_only : {ts rest : List Sym} {args : List Ty} → AreTypes ts args (
 unfolding types_inside
 types_inside_only {ts = ts} h = rw (types_only h (length ts) (length ts) (omega arith) (omega arith) refl refl) refl
 
-arguments_only : {ts rest : List Sym} {args : List Ty} → AreArguments ts args rest → after_lambda rest ≡ None → read_arguments ts ≡ Some (args, rest)
+arguments_only : {ts rest : List Sym} {args : List Ty} → AreTypeArguments ts args rest → after_lambda rest ≡ None → read_arguments ts ≡ Some (args, rest)
 unfolding read_arguments listed_arguments sole_argument
 arguments_only (some_type {ts = ts} none h) ends = rw none (rw (type_only h (length ts) (omega arith) ends) refl)
 arguments_only unit_type ends = refl
 arguments_only (type_list h) ends = rw (types_not_close h) (types_inside_only h)
 
-arguments_shrink : {ts rest : List Sym} {args : List Ty} → AreArguments ts args rest → length rest < length ts
+arguments_shrink : {ts rest : List Sym} {args : List Ty} → AreTypeArguments ts args rest → length rest < length ts
 arguments_shrink (some_type none h) = type_shrinks h
 arguments_shrink unit_type = omega arith
 arguments_shrink (type_list h) = omega (arith, types_shrink h)
@@ -137,7 +137,7 @@ short_long w (DataType ∷ u ∷ ts) long = refl
 short_long w (Ident d ∷ u ∷ ts) long = refl
 short_long w ts long = refl
 
-constructor_only : (w d : List ℕ) (ts : List Sym) (args : List Ty) → AreArguments ts args (Arrow ∷ Ident d ∷ []) → declaration w ts ≡ Some (AConstructor w args d)
+constructor_only : (w d : List ℕ) (ts : List Sym) (args : List Ty) → AreTypeArguments ts args (Arrow ∷ Ident d ∷ []) → declaration w ts ≡ Some (AConstructor w args d)
 unfolding declaration constructor_of sole_ident
 constructor_only w d ts args h = rw (short_long w ts (omega (arith, arguments_shrink h))) (rw (arguments_only h refl) refl)
 

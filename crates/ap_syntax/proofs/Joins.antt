@@ -1,9 +1,9 @@
 -- What is joined from its end.
 use Rattle.std.proofs.Common.{◌≡◌, List, [], ◌∷◌, ◌++◌, Some, refl, ap}
-use Rattle.ap_trees.specs.Goals.{Goal, joined}
+use Rattle.ap_trees.specs.Goals.{Goal, joined_goals}
 use Rattle.ap_syntax.specs.GoalReader.{joined_by}
 
-joined_more : (op : Goal → Goal → Goal) (first : Goal) (gs : List Goal) (g h : Goal) → joined op first (gs ++ g ∷ h ∷ []) ≡ joined op first (gs ++ op g h ∷ [])
+joined_more : (op : Goal → Goal → Goal) (first : Goal) (gs : List Goal) (g h : Goal) → joined_goals op first (gs ++ g ∷ h ∷ []) ≡ joined_goals op first (gs ++ op g h ∷ [])
 joined_more op first [] g h = refl
 joined_more op first (x ∷ gs) g h = ap (λ v. op first v) (joined_more op x gs g h)
 

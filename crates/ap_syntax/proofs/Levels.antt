@@ -9,7 +9,7 @@ use Rattle.std.proofs.lemmas.Bool.Decides.{nat_tests}
 use Rattle.ap_syntax.specs.declared.nesting.Step.{Step}
 use Rattle.ap_trees.specs.declared.symbols.Symbol.{Symbol}
 use Rattle.ap_trees.specs.Symbols.{sym as sym_of, syms}
-use Rattle.ap_syntax.specs.Nesting.{to_bracket, is_bracket, step_of, next_levels, most_levels, passes}
+use Rattle.ap_syntax.specs.Nesting.{to_bracket, is_bracket, nesting_step, next_levels, most_levels, passes}
 
 pub last_first : (levels : List Level) (place : ℕ) (x : Level) → 0 < place → place ≤ length levels → reverse (take place levels) ≡ get_or levels (place - 1) x ∷ reverse (take (place - 1) levels)
 last_first levels place x some inside =
@@ -38,7 +38,7 @@ goes_back levels place x some inside is =
 
 -- one more symbol
 pub passes_at : (levels : List Level) (ts : List Symbol) (i : ℕ) (x : Symbol) → i < length ts
-    → passes levels (syms (drop i ts)) ≡ nat_lt most_levels (length (next_levels levels (step_of (sym_of (get_or ts i x))))) || passes (next_levels levels (step_of (sym_of (get_or ts i x)))) (syms (drop (i + 1) ts))
+    → passes levels (syms (drop i ts)) ≡ nat_lt most_levels (length (next_levels levels (nesting_step (sym_of (get_or ts i x))))) || passes (next_levels levels (nesting_step (sym_of (get_or ts i x)))) (syms (drop (i + 1) ts))
 unfolding passes
 passes_at levels ts i x lt =
     let cut : drop i ts ≡ get_or ts i x ∷ drop (i + 1) ts = rw (add-one, drop-cons ts i x) refl in
@@ -49,19 +49,19 @@ unfolding passes
 passes_end levels ts i past = let cut : drop i ts ≡ [] = grind (arith, common_steps) in ap (λ us. passes levels (syms us)) cut
 
 -- one more symbol, after which there are so many levels
-step_is : (levels next : List Level) (step : Step) (ts : List Symbol) (i : ℕ) (x : Symbol) → i < length ts → step ≡ step_of (sym_of (get_or ts i x)) → next ≡ next_levels levels step
+step_is : (levels next : List Level) (step : Step) (ts : List Symbol) (i : ℕ) (x : Symbol) → i < length ts → step ≡ nesting_step (sym_of (get_or ts i x)) → next ≡ next_levels levels step
     → passes levels (syms (drop i ts)) ≡ nat_lt most_levels (length next) || passes next (syms (drop (i + 1) ts))
 step_is levels next step ts i x lt s e =
-    let same : next_levels levels (step_of (sym_of (get_or ts i x))) ≡ next = ap (next_levels levels) (sym s) ∙ sym e in
+    let same : next_levels levels (nesting_step (sym_of (get_or ts i x))) ≡ next = ap (next_levels levels) (sym s) ∙ sym e in
     subst (λ n. passes levels (syms (drop i ts)) ≡ nat_lt most_levels (length n) || passes n (syms (drop (i + 1) ts))) same (passes_at levels ts i x lt)
 
-pub step_on : (levels next : List Level) (step : Step) (ts : List Symbol) (i : ℕ) (x : Symbol) (whole : Bool) → i < length ts → step ≡ step_of (sym_of (get_or ts i x)) → next ≡ next_levels levels step → length next ≤ 256
+pub step_on : (levels next : List Level) (step : Step) (ts : List Symbol) (i : ℕ) (x : Symbol) (whole : Bool) → i < length ts → step ≡ nesting_step (sym_of (get_or ts i x)) → next ≡ next_levels levels step → length next ≤ 256
     → passes levels (syms (drop i ts)) ≡ whole → passes next (syms (drop (i + 1) ts)) ≡ whole
 step_on levels next step ts i x whole lt s e few w =
     let no_more : nat_lt most_levels (length next) ≡ false = grind (arith, nat_tests) in
     sym (step_is levels next step ts i x lt s e ∙ ap (λ b. b || passes next (syms (drop (i + 1) ts))) no_more) ∙ w
 
-pub step_over : (levels next : List Level) (step : Step) (ts : List Symbol) (i : ℕ) (x : Symbol) (whole : Bool) → i < length ts → step ≡ step_of (sym_of (get_or ts i x)) → next ≡ next_levels levels step → 256 < length next
+pub step_over : (levels next : List Level) (step : Step) (ts : List Symbol) (i : ℕ) (x : Symbol) (whole : Bool) → i < length ts → step ≡ nesting_step (sym_of (get_or ts i x)) → next ≡ next_levels levels step → 256 < length next
     → passes levels (syms (drop i ts)) ≡ whole → true ≡ whole
 step_over levels next step ts i x whole lt s e many w =
     let over : nat_lt most_levels (length next) ≡ true = grind (arith, nat_tests) in

@@ -13,7 +13,7 @@ use Rattle.ap_defs.specs.declared.faults.SyntaxKind.TheVariants as kinds
 use Rattle.ap_syntax.specs.ItemGrammar.{IsItem}
 use Rattle.ap_syntax.specs.ItemReader.{read_item}
 use Rattle.ap_syntax.specs.Nesting.{is_too_deep}
-use Rattle.ap_syntax.specs.Reading.{first_dot, before, fault, First, unended, too_deep, no_item, an_item, after_items, FirstOf, Outcome, Reads, all_read, faulty, goes_on, Gives, Fails}
+use Rattle.ap_syntax.specs.Reading.{first_dot, before, fault, First, unended, too_deep, no_item, an_item, after_items, FirstOf, TextOutcome, Reads, all_read, faulty, goes_on, GivesOneOf, FailsAsOneOf}
 use Rattle.ap_syntax.proofs.ItemLaws.{item_sound, item_only}
 
 -- what the first of some tokens reads as, by the reader
@@ -95,7 +95,7 @@ after_items-append front more (Ok xs) = ap (λ v. Ok v) (sym (append_assoc front
 after_items-append front more (Err f) = refl
 
 -- from one reading to every reading
-pub gives_every : {X : Type 0} (view : X → List ItemOf) (given : Result X SynError) (i : ℕ) (ts : List Lexeme) → Gives view given (Reads i ts) → (r : Result (List ItemOf) SyntaxFault) → Reads i ts r → Gives view given (λ s. s ≡ r)
+pub gives_every : {X : Type 0} (view : X → List ItemOf) (given : Result X SynError) (i : ℕ) (ts : List Lexeme) → GivesOneOf view given (Reads i ts) → (r : Result (List ItemOf) SyntaxFault) → Reads i ts r → GivesOneOf view given (λ s. s ≡ r)
 gives_every view (Ok x) i ts h r g = one_reading h g
 gives_every view (Err errors.Memory) i ts h r g = tt
 gives_every view (Err (errors.Fault f)) i ts h r g = one_reading h g
@@ -107,20 +107,20 @@ drop_more : (tokens : List Token) (at len : ℕ) → lexemes (drop (at + len) to
 drop_more tokens at len = ap lexemes (sym (drop-drop len at tokens)) ∙ sym (drop-map lexeme len (drop at tokens))
 
 -- one more item
-pub one_more : (all : List Lexeme) (tokens : List Token) (at len n : ℕ) (front : List ItemOf) (x : ItemOf) → ((r : Outcome) → Reads n (lexemes (drop at tokens)) r → Reads 1 all (after_items front r))
-    → FirstOf n (lexemes (drop at tokens)) (Ok (x, drop len (lexemes (drop at tokens)))) → (r : Outcome) → Reads (n + 1) (lexemes (drop (at + len) tokens)) r → Reads 1 all (after_items (front ++ x ∷ []) r)
+pub one_more : (all : List Lexeme) (tokens : List Token) (at len n : ℕ) (front : List ItemOf) (x : ItemOf) → ((r : TextOutcome) → Reads n (lexemes (drop at tokens)) r → Reads 1 all (after_items front r))
+    → FirstOf n (lexemes (drop at tokens)) (Ok (x, drop len (lexemes (drop at tokens)))) → (r : TextOutcome) → Reads (n + 1) (lexemes (drop (at + len) tokens)) r → Reads 1 all (after_items (front ++ x ∷ []) r)
 one_more all tokens at len n front x reads first r h =
     let here : Reads (n + 1) (drop len (lexemes (drop at tokens))) r = subst (λ ts. Reads (n + 1) ts r) (drop_more tokens at len) h in
     subst (Reads 1 all) (after_items-append front (x ∷ []) r) (reads (after_items (x ∷ []) r) (next_of n (lexemes (drop at tokens)) x (drop len (lexemes (drop at tokens))) r first here))
 
 -- nothing more
-pub all_done : (all : List Lexeme) (tokens : List Token) (at n : ℕ) (front : List ItemOf) → ((r : Outcome) → Reads n (lexemes (drop at tokens)) r → Reads 1 all (after_items front r)) → length tokens ≤ at → Reads 1 all (Ok front)
+pub all_done : (all : List Lexeme) (tokens : List Token) (at n : ℕ) (front : List ItemOf) → ((r : TextOutcome) → Reads n (lexemes (drop at tokens)) r → Reads 1 all (after_items front r)) → length tokens ≤ at → Reads 1 all (Ok front)
 all_done all tokens at n front reads past =
     let cut : [] ≡ lexemes (drop at tokens) = sym (ap lexemes (drop_past tokens at past)) in
     subst (λ v. Reads 1 all (Ok v)) (append-nil front) (reads (Ok []) (subst (λ ts. Reads n ts (Ok [])) cut all_read))
 
 -- a fault
-pub stops_at : (e : SynError) (all ts : List Lexeme) (n : ℕ) (front : List ItemOf) → ((r : Outcome) → Reads n ts r → Reads 1 all (after_items front r)) → Fails e (FirstOf n ts) → Fails e (Reads 1 all)
+pub stops_at : (e : SynError) (all ts : List Lexeme) (n : ℕ) (front : List ItemOf) → ((r : TextOutcome) → Reads n ts r → Reads 1 all (after_items front r)) → FailsAsOneOf e (FirstOf n ts) → FailsAsOneOf e (Reads 1 all)
 stops_at errors.Memory all ts n front reads h = tt
 stops_at (errors.Fault f) all ts n front reads h = reads (Err f) (fault_of n ts f h)
 

@@ -3,7 +3,7 @@ use Rattle.std.specs.Prelude.{ℕ, List, [], ◌∷◌, false, None, ◌≡◌, 
 use Rattle.ap_trees.specs.Symbols.{Sym, Var, Ident, New, Exists, Open, Close, Comma, Semicolon, Equal, Fresh}
 use Rattle.ap_trees.specs.Terms.{Term}
 use Rattle.ap_trees.specs.TermGrammar.{IsTerm, AreTerms}
-use Rattle.ap_trees.specs.Goals.{Goal, Atom, Equation, Freshness, Both, Either, Some_variable, New_name, joined}
+use Rattle.ap_trees.specs.Goals.{Goal, Atom, Equation, Freshness, Both, Either, Some_variable, New_name, joined_goals}
 use Rattle.ap_syntax.specs.Marks.{blank}
 use Rattle.ap_syntax.specs.Matching.{begins_term, after_group}
 
@@ -15,7 +15,7 @@ pub data IsAtom : List Sym → List ℕ → List Term → List Sym → Type 0 wh
 mutual
   -- goal = conj { ";" conj }
   pub data IsGoal : List Sym → Goal → List Sym → Type 0 where
-    disjunction : {ts rest : List Sym} (first : Goal) (others : List Goal) → AreConjs ts (first ∷ others) rest → IsGoal ts (joined Either first others) rest
+    disjunction : {ts rest : List Sym} (first : Goal) (others : List Goal) → AreConjs ts (first ∷ others) rest → IsGoal ts (joined_goals Either first others) rest
 
   pub data AreConjs : List Sym → List Goal → List Sym → Type 0 where
     last_conj : {ts rest : List Sym} {g : Goal} → IsConj ts g rest → AreConjs ts (g ∷ []) rest
@@ -23,7 +23,7 @@ mutual
 
   -- conj = simple { "," simple }
   pub data IsConj : List Sym → Goal → List Sym → Type 0 where
-    conjunction : {ts rest : List Sym} (first : Goal) (others : List Goal) → AreSimples ts (first ∷ others) rest → IsConj ts (joined Both first others) rest
+    conjunction : {ts rest : List Sym} (first : Goal) (others : List Goal) → AreSimples ts (first ∷ others) rest → IsConj ts (joined_goals Both first others) rest
 
   pub data AreSimples : List Sym → List Goal → List Sym → Type 0 where
     last_simple : {ts rest : List Sym} {g : Goal} → IsSimple ts g rest → AreSimples ts (g ∷ []) rest

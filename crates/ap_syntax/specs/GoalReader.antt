@@ -2,18 +2,18 @@
 use Rattle.std.specs.Prelude.{ℕ, zero, suc, List, [], ◌∷◌, length, Option, None, Some}
 use Rattle.ap_trees.specs.Symbols.{Sym}
 use Rattle.ap_trees.specs.Terms.{Term}
-use Rattle.ap_trees.specs.Goals.{Goal, Atom, Equation, Freshness, Both, Either, Some_variable, New_name, joined}
-use Rattle.ap_trees.specs.Readers.{Reader, ◌>>=◌, separated, after_comma, after_open, after_close, at_end}
+use Rattle.ap_trees.specs.Goals.{Goal, Atom, Equation, Freshness, Both, Either, Some_variable, New_name, joined_goals}
+use Rattle.ap_trees.specs.Readers.{SymbolReader, ◌>>=◌, separated, after_comma, after_open, after_close, at_end}
 use Rattle.ap_trees.specs.TermReader.{read_term}
 use Rattle.ap_syntax.specs.Marks.{after_semicolon, after_equal, after_fresh, after_new, after_exists, read_ident, read_bound}
 use Rattle.ap_syntax.specs.Matching.{after_group}
 
 -- a term, as deep as there are symbols
-abbrev pub first_term : Reader Term
+abbrev pub first_term : SymbolReader Term
 first_term ts = read_term (length ts) ts
 
 -- terms up to the `)` that closes them
-unfoldable pub terms_inside : Reader (List Term)
+unfoldable pub terms_inside : SymbolReader (List Term)
 terms_inside ts = do
   parts ← separated after_comma (read_term (length ts)) (length ts) ts
   rest ← after_close parts.1
@@ -24,23 +24,23 @@ arguments_by ts None = Some ([], ts)
 arguments_by ts (Some us) = terms_inside us
 
 -- the arguments of an atom, if there are any
-unfoldable pub atom_arguments : Reader (List Term)
+unfoldable pub atom_arguments : SymbolReader (List Term)
 atom_arguments ts = arguments_by ts (after_open ts)
 
 -- the word and the arguments of an atom
-unfoldable pub read_atom : Reader (List ℕ × List Term)
+unfoldable pub read_atom : SymbolReader (List ℕ × List Term)
 read_atom ts = do
   word ← read_ident ts
   args ← atom_arguments word.1
   Some ((word.0, args.0), args.1)
 
 -- a relation, behind its mark
-unfoldable pub right_side : (Term → Term → Goal) → Term → Reader Goal
+unfoldable pub right_side : (Term → Term → Goal) → Term → SymbolReader Goal
 right_side relation left ts = do
   right ← first_term ts
   Some (relation left right.0, right.1)
 
-unfoldable pub atom_goal : Reader Goal
+unfoldable pub atom_goal : SymbolReader Goal
 atom_goal ts = do
   atom ← read_atom ts
   Some (Atom atom.0.0 atom.0.1, atom.1)
@@ -51,20 +51,20 @@ relation_or_atom ts left None (Some us) = right_side Freshness left us
 relation_or_atom ts left None None = atom_goal ts
 
 -- an equation, a freshness goal or an atom
-unfoldable pub read_flat : Reader Goal
+unfoldable pub read_flat : SymbolReader Goal
 read_flat ts = do
   left ← first_term ts
   relation_or_atom ts left.0 (after_equal left.1) (after_fresh left.1)
 
 -- a goal up to the `)` that closes it
-unfoldable pub goal_inside : Reader Goal → Reader Goal
+unfoldable pub goal_inside : SymbolReader Goal → SymbolReader Goal
 goal_inside read ts = do
   goal ← read ts
   rest ← after_close goal.1
   Some (goal.0, rest)
 
 -- a goal of a new name, behind `new`
-unfoldable pub new_goal : Reader Goal → Reader Goal
+unfoldable pub new_goal : SymbolReader Goal → SymbolReader Goal
 new_goal read ts = do
   word ← read_ident ts
   inside ← after_open word.1
@@ -72,42 +72,42 @@ new_goal read ts = do
   Some (New_name word.0 goal.0, goal.1)
 
 -- a goal of some variable, behind `exists`
-unfoldable pub exists_goal : Reader Goal → Reader Goal
+unfoldable pub exists_goal : SymbolReader Goal → SymbolReader Goal
 exists_goal read ts = do
   word ← read_bound ts
   inside ← after_open word.1
   goal ← goal_inside read inside
   Some (Some_variable word.0 goal.0, goal.1)
 
-abbrev pub simple_by : Reader Goal → List Sym → Option (List Sym) → Option (List Sym) → Option (List Sym) → Option (Goal × List Sym)
+abbrev pub simple_by : SymbolReader Goal → List Sym → Option (List Sym) → Option (List Sym) → Option (List Sym) → Option (Goal × List Sym)
 simple_by read ts (Some us) exists group = new_goal read us
 simple_by read ts None (Some us) group = exists_goal read us
 simple_by read ts None None (Some us) = goal_inside read us
 simple_by read ts None None None = read_flat ts
 
 -- a simple goal
-unfoldable pub read_simple : Reader Goal → Reader Goal
+unfoldable pub read_simple : SymbolReader Goal → SymbolReader Goal
 read_simple read ts = simple_by read ts (after_new ts) (after_exists ts) (after_group ts)
 
 -- one goal of one or more
 abbrev pub joined_by : (Goal → Goal → Goal) → List Goal → Option Goal
 joined_by join [] = None
-joined_by join (g ∷ gs) = Some (joined join g gs)
+joined_by join (g ∷ gs) = Some (joined_goals join g gs)
 
-unfoldable pub read_conj : Reader Goal → Reader Goal
+unfoldable pub read_conj : SymbolReader Goal → SymbolReader Goal
 read_conj read ts = do
   parts ← separated after_comma (read_simple read) (length ts) ts
   whole ← joined_by Both parts.0
   Some (whole, parts.1)
 
-unfoldable pub read_disj : Reader Goal → Reader Goal
+unfoldable pub read_disj : SymbolReader Goal → SymbolReader Goal
 read_disj read ts = do
   parts ← separated after_semicolon (read_conj read) (length ts) ts
   whole ← joined_by Either parts.0
   Some (whole, parts.1)
 
 -- a goal; the number falls at each level
-unfoldable pub read_goal : ℕ → Reader Goal
+unfoldable pub read_goal : ℕ → SymbolReader Goal
 read_goal zero ts = None
 read_goal (suc n) ts = read_disj (read_goal n) ts
 

@@ -11,10 +11,10 @@ use Rattle.ap_syntax.specs.GoalGrammar.{IsAtom, IsGoal}
 
 -- The types of arguments, and then rest. They are written as one type. A list of types in
 -- parentheses is that many arguments, so one argument of a tuple type has doubled parentheses.
-pub data AreArguments : List Sym → List Ty → List Sym → Type 0 where
-  some_type : {ts rest : List Sym} {t : Ty} → after_open ts ≡ None → IsType ts t rest → AreArguments ts (t ∷ []) rest
-  unit_type : {ts : List Sym} → AreArguments (Open ∷ Close ∷ ts) (Unit ∷ []) ts
-  type_list : {ts rest : List Sym} {args : List Ty} → AreTypes ts args (Close ∷ rest) → AreArguments (Open ∷ ts) args rest
+pub data AreTypeArguments : List Sym → List Ty → List Sym → Type 0 where
+  some_type : {ts rest : List Sym} {t : Ty} → after_open ts ≡ None → IsType ts t rest → AreTypeArguments ts (t ∷ []) rest
+  unit_type : {ts : List Sym} → AreTypeArguments (Open ∷ Close ∷ ts) (Unit ∷ []) ts
+  type_list : {ts rest : List Sym} {args : List Ty} → AreTypes ts args (Close ∷ rest) → AreTypeArguments (Open ∷ ts) args rest
 
 pub data IsItem : List Sym → Saying → Type 0 where
   -- IDENT ":" "name_type"
@@ -24,7 +24,7 @@ pub data IsItem : List Sym → Saying → Type 0 where
   -- IDENT ":" IDENT
   constant : {w d : List ℕ} → IsItem (Ident w ∷ Colon ∷ Ident d ∷ []) (AConstructor w [] d)
   -- IDENT ":" type "->" IDENT
-  constructor : {w d : List ℕ} {ts : List Sym} {args : List Ty} → AreArguments ts args (Arrow ∷ Ident d ∷ []) → IsItem (Ident w ∷ Colon ∷ ts) (AConstructor w args d)
+  constructor : {w d : List ℕ} {ts : List Sym} {args : List Ty} → AreTypeArguments ts args (Arrow ∷ Ident d ∷ []) → IsItem (Ident w ∷ Colon ∷ ts) (AConstructor w args d)
   -- "pred" IDENT
   proposition : {w : List ℕ} → IsItem (Pred ∷ Ident w ∷ []) (APredicate w [])
   -- "pred" IDENT "(" type { "," type } ")"

@@ -1,7 +1,7 @@
 -- Reading an item.
 use Rattle.std.specs.Prelude.{ℕ, List, [], ◌∷◌, length, Option, None, Some}
 use Rattle.ap_trees.specs.Symbols.{Sym, Ident, NameType, DataType}
-use Rattle.ap_trees.specs.Readers.{Reader, ◌>>=◌, separated, after_comma, after_open, after_close, at_end}
+use Rattle.ap_trees.specs.Readers.{SymbolReader, ◌>>=◌, separated, after_comma, after_open, after_close, at_end}
 use Rattle.ap_trees.specs.Types.{Ty, Unit}
 use Rattle.ap_trees.specs.TypeReader.{read_type}
 use Rattle.ap_trees.specs.Goals.{Goal}
@@ -10,14 +10,14 @@ use Rattle.ap_syntax.specs.GoalReader.{read_atom, all_goal}
 use Rattle.ap_syntax.specs.Marks.{after_arrow, after_ask, after_if, after_pred, read_ident, read_declared, sole_ident}
 
 -- types up to the `)` that closes them
-unfoldable pub types_inside : Reader (List Ty)
+unfoldable pub types_inside : SymbolReader (List Ty)
 types_inside ts = do
   parts ← separated after_comma (read_type (length ts)) (length ts) ts
   rest ← after_close parts.1
   Some (parts.0, rest)
 
 -- one type as an argument
-unfoldable pub sole_argument : Reader (List Ty)
+unfoldable pub sole_argument : SymbolReader (List Ty)
 sole_argument ts = do
   t ← read_type (length ts) ts
   Some (t.0 ∷ [], t.1)
@@ -27,15 +27,15 @@ unit_or_list ts (Some us) = Some (Unit ∷ [], us)
 unit_or_list ts None = types_inside ts
 
 -- what stands in parentheses as arguments
-unfoldable pub listed_arguments : Reader (List Ty)
+unfoldable pub listed_arguments : SymbolReader (List Ty)
 listed_arguments ts = unit_or_list ts (after_close ts)
 
-abbrev pub arguments_by : List Sym → Option (List Sym) → Option (List Ty × List Sym)
-arguments_by ts (Some us) = listed_arguments us
-arguments_by ts None = sole_argument ts
+abbrev pub type_arguments_by : List Sym → Option (List Sym) → Option (List Ty × List Sym)
+type_arguments_by ts (Some us) = listed_arguments us
+type_arguments_by ts None = sole_argument ts
 
-unfoldable pub read_arguments : Reader (List Ty)
-read_arguments ts = arguments_by ts (after_open ts)
+unfoldable pub read_arguments : SymbolReader (List Ty)
+read_arguments ts = type_arguments_by ts (after_open ts)
 
 -- a constructor with arguments, behind its colon
 unfoldable pub constructor_of : List ℕ → List Sym → Option Saying
@@ -65,7 +65,7 @@ types_by ts None = Some ([], ts)
 types_by ts (Some us) = types_inside us
 
 -- the types of a predicate, if it has any
-unfoldable pub declared_types : Reader (List Ty)
+unfoldable pub declared_types : SymbolReader (List Ty)
 declared_types ts = types_by ts (after_open ts)
 
 -- a predicate, behind `pred`

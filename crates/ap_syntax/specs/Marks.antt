@@ -2,7 +2,7 @@
 use Rattle.std.specs.Prelude.{ℕ, List, ◌∷◌, Option, None, Some, codes, if◌then◌else◌}
 use Rattle.std.specs.Str.{bytes_eq}
 use Rattle.ap_trees.specs.Symbols.{Sym, Ident, Var, Colon, Semicolon, Equal, Fresh, New, Exists, If, Ask, Arrow, Pred}
-use Rattle.ap_trees.specs.Readers.{Reader, ◌>>=◌, at_end}
+use Rattle.ap_trees.specs.Readers.{SymbolReader, ◌>>=◌, at_end}
 
 abbrev pub after_semicolon : List Sym → Option (List Sym)
 after_semicolon (Semicolon ∷ ts) = Some ts
@@ -41,7 +41,7 @@ after_pred (Pred ∷ ts) = Some ts
 after_pred ts = None
 
 -- an IDENT
-abbrev pub read_ident : Reader (List ℕ)
+abbrev pub read_ident : SymbolReader (List ℕ)
 read_ident (Ident w ∷ ts) = Some (w, ts)
 read_ident ts = None
 
@@ -50,7 +50,7 @@ abbrev pub blank : List ℕ
 blank = codes "_"
 
 -- a VAR
-abbrev pub read_var : Reader (List ℕ)
+abbrev pub read_var : SymbolReader (List ℕ)
 read_var (Var w ∷ ts) = Some (w, ts)
 read_var ts = None
 
@@ -58,7 +58,7 @@ abbrev pub unless_blank : List ℕ → List Sym → Option (List ℕ × List Sym
 unless_blank w ts = if bytes_eq w blank then None else Some (w, ts)
 
 -- a VAR that isn't `_`
-unfoldable pub read_bound : Reader (List ℕ)
+unfoldable pub read_bound : SymbolReader (List ℕ)
 read_bound ts = do
   word ← read_var ts
   unless_blank word.0 word.1
@@ -68,7 +68,7 @@ after_colon (Colon ∷ ts) = Some ts
 after_colon ts = None
 
 -- an IDENT and a colon
-unfoldable pub read_declared : Reader (List ℕ)
+unfoldable pub read_declared : SymbolReader (List ℕ)
 read_declared ts = do
   word ← read_ident ts
   rest ← after_colon word.1

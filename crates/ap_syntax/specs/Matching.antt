@@ -4,16 +4,16 @@ use Rattle.ap_trees.specs.Symbols.{Sym, Open, Close, OpenList, CloseList, Equal,
 use Rattle.ap_trees.specs.Readers.{◌>>=◌, after_open}
 
 -- one less, unless none is open
-abbrev pub closed : ℕ → Option ℕ
-closed zero = None
-closed (suc depth) = Some depth
+abbrev pub one_closed : ℕ → Option ℕ
+one_closed zero = None
+one_closed (suc depth) = Some depth
 
 -- how many more brackets are open after a symbol, or none where it closes the first
 abbrev pub depth_after : ℕ → Sym → Option ℕ
 depth_after depth Open = Some (depth + 1)
 depth_after depth OpenList = Some (depth + 1)
-depth_after depth Close = closed depth
-depth_after depth CloseList = closed depth
+depth_after depth Close = one_closed depth
+depth_after depth CloseList = one_closed depth
 depth_after depth t = Some depth
 
 abbrev pub further_match : List Sym → (ℕ → Option (List Sym)) → Option ℕ → Option (List Sym)

@@ -22,20 +22,20 @@ closed Square (Square ∷ rest) levels = rest
 closed bracket brackets levels = levels
 
 -- what a symbol does to the levels
-abbrev pub step_of : Sym → Step
-step_of Open = Opens Round
-step_of OpenList = Opens Square
-step_of Lambda = Opens Under
-step_of Close = Closes Round
-step_of CloseList = Closes Square
-step_of Comma = Parts
-step_of Semicolon = Parts
-step_of Bar = Parts
-step_of Equal = Parts
-step_of Fresh = Parts
-step_of If = Parts
-step_of Arrow = Parts
-step_of t = Stays
+abbrev pub nesting_step : Sym → Step
+nesting_step Open = Opens Round
+nesting_step OpenList = Opens Square
+nesting_step Lambda = Opens Under
+nesting_step Close = Closes Round
+nesting_step CloseList = Closes Square
+nesting_step Comma = Parts
+nesting_step Semicolon = Parts
+nesting_step Bar = Parts
+nesting_step Equal = Parts
+nesting_step Fresh = Parts
+nesting_step If = Parts
+nesting_step Arrow = Parts
+nesting_step t = Stays
 
 -- the levels after a step
 abbrev pub next_levels : List Level → Step → List Level
@@ -51,7 +51,7 @@ most_levels = 256
 -- whether there are too many levels after one of the symbols, where these are open before them
 unfoldable pub passes : List Level → List Sym → Bool
 passes levels [] = false
-passes levels (t ∷ ts) = nat_lt most_levels (length (next_levels levels (step_of t))) || passes (next_levels levels (step_of t)) ts
+passes levels (t ∷ ts) = nat_lt most_levels (length (next_levels levels (nesting_step t))) || passes (next_levels levels (nesting_step t)) ts
 
 -- whether an item is nested too deeply
 abbrev pub is_too_deep : List Sym → Bool

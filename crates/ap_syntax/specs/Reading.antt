@@ -42,26 +42,26 @@ FirstOf item [] o = ⊥
 FirstOf item (t ∷ ts) o = First item t ts o
 
 -- all items, or the first fault
-abbrev pub Outcome : Type 0
-Outcome = Result (List ItemOf) SyntaxFault
+abbrev pub TextOutcome : Type 0
+TextOutcome = Result (List ItemOf) SyntaxFault
 
 -- these items before those that were read, unless there is a fault
-abbrev pub after_items : List ItemOf → Outcome → Outcome
+abbrev pub after_items : List ItemOf → TextOutcome → TextOutcome
 after_items front (Ok more) = Ok (front ++ more)
 after_items front (Err f) = Err f
 
 -- What tokens read as, of which the first begins the item of a number: all items, or the first fault.
-pub data Reads : ℕ → List Lexeme → Outcome → Type 0 where
+pub data Reads : ℕ → List Lexeme → TextOutcome → Type 0 where
   all_read : {item : ℕ} → Reads item [] (Ok [])
   faulty : {item : ℕ} {t : Lexeme} {ts : List Lexeme} (f : SyntaxFault) → First item t ts (Err f) → Reads item (t ∷ ts) (Err f)
-  goes_on : {item : ℕ} {t : Lexeme} {ts : List Lexeme} (x : ItemOf) (rest : List Lexeme) (r : Outcome) → First item t ts (Ok (x, rest)) → Reads (item + 1) rest r
+  goes_on : {item : ℕ} {t : Lexeme} {ts : List Lexeme} (x : ItemOf) (rest : List Lexeme) (r : TextOutcome) → First item t ts (Ok (x, rest)) → Reads (item + 1) rest r
       → Reads item (t ∷ ts) (after_items (x ∷ []) r)
 
-abbrev pub Fails : {Y : Type 0} → SynError → (Result Y SyntaxFault → Type 0) → Type 0
-Fails errors.Memory P = ⊤
-Fails (errors.Fault f) P = P (Err f)
+abbrev pub FailsAsOneOf : {Y : Type 0} → SynError → (Result Y SyntaxFault → Type 0) → Type 0
+FailsAsOneOf errors.Memory P = ⊤
+FailsAsOneOf (errors.Fault f) P = P (Err f)
 
 -- what was returned is among these readings, unless memory ran out
-abbrev pub Gives : {X Y : Type 0} → (X → Y) → Result X SynError → (Result Y SyntaxFault → Type 0) → Type 0
-Gives view (Ok x) P = P (Ok (view x))
-Gives view (Err e) P = Fails e P
+abbrev pub GivesOneOf : {X Y : Type 0} → (X → Y) → Result X SynError → (Result Y SyntaxFault → Type 0) → Type 0
+GivesOneOf view (Ok x) P = P (Ok (view x))
+GivesOneOf view (Err e) P = FailsAsOneOf e P

@@ -1,10 +1,10 @@
 // Reading a goal.
 ghost use Rattle.std.specs.Prelude.{◌≡◌, ◌<◌, ◌≤◌, [], length, IfOk, Some};
 ghost use Rattle.ap_trees.specs.Goals as trees;
-ghost use Rattle.ap_trees.specs.Outcomes.{Gives};
+ghost use Rattle.ap_trees.specs.Outcomes.{GivesPart};
 ghost use Rattle.ap_trees.specs.Readers.{separated, after_comma};
 ghost use Rattle.ap_trees.specs.Symbols.{syms};
-ghost use Rattle.ap_trees.specs.Trees.{term_of, trees_of, goal_of, goals_of};
+ghost use Rattle.ap_trees.specs.Trees.{term_of, trees_of, goal_of_tree, goals_of};
 ghost use Rattle.ap_syntax.specs.GoalReader as spec;
 ghost use Rattle.ap_syntax.specs.GoalReader.{read_goal, read_conj, read_simple};
 ghost use Rattle.ap_syntax.specs.Marks.{after_semicolon};
@@ -25,7 +25,7 @@ fn terms_inside<'a, 's>(
     alloc: Global,
     symbols: &'s [Symbol<'a>],
 ) -> Result<(Vec<Tree<'a>>, &'s [Symbol<'a>]), ReadError>
-    ensures value { Gives (λ r. (trees_of r.0.items, syms r.1.now)) result
+    ensures value { GivesPart (λ r. (trees_of r.0.items, syms r.1.now)) result
         (spec.terms_inside (syms symbols.now)) }
     ensures shorter { IfOk result (λ r. length r.1.now ≤ length symbols.now) }
 {
@@ -40,7 +40,7 @@ fn atom_arguments<'a, 's>(
     alloc: Global,
     symbols: &'s [Symbol<'a>],
 ) -> Result<(Vec<Tree<'a>>, &'s [Symbol<'a>]), ReadError>
-    ensures value { Gives (λ r. (trees_of r.0.items, syms r.1.now)) result
+    ensures value { GivesPart (λ r. (trees_of r.0.items, syms r.1.now)) result
         (spec.atom_arguments (syms symbols.now)) }
     ensures shorter { IfOk result (λ r. length r.1.now ≤ length symbols.now) }
 {
@@ -62,7 +62,7 @@ pub fn atom<'a, 's>(
     alloc: Global,
     symbols: &'s [Symbol<'a>],
 ) -> Result<(Head<'a>, &'s [Symbol<'a>]), ReadError>
-    ensures value { Gives (λ r. ((r.0.word.now, trees_of r.0.args.items), syms r.1.now)) result
+    ensures value { GivesPart (λ r. ((r.0.word.now, trees_of r.0.args.items), syms r.1.now)) result
         (spec.read_atom (syms symbols.now)) }
     ensures shorter { IfOk result (λ r. length r.1.now < length symbols.now) }
 {
@@ -77,7 +77,7 @@ fn atom_goal<'a, 's>(
     alloc: Global,
     symbols: &'s [Symbol<'a>],
 ) -> Result<(GoalTree<'a>, &'s [Symbol<'a>]), ReadError>
-    ensures value { Gives (λ r. (goal_of r.0, syms r.1.now)) result
+    ensures value { GivesPart (λ r. (goal_of_tree r.0, syms r.1.now)) result
         (spec.atom_goal (syms symbols.now)) }
     ensures shorter { IfOk result (λ r. length r.1.now < length symbols.now) }
 {
@@ -92,8 +92,8 @@ fn equation<'a, 's>(
     left: Tree<'a>,
     symbols: &'s [Symbol<'a>],
 ) -> Result<(GoalTree<'a>, &'s [Symbol<'a>]), ReadError>
-    ensures value { Gives (λ r. (goal_of r.0, syms r.1.now)) result (spec.right_side trees.Equation
-        (term_of left.entry) (syms symbols.now)) }
+    ensures value { GivesPart (λ r. (goal_of_tree r.0, syms r.1.now)) result (spec.right_side
+        trees.Equation (term_of left.entry) (syms symbols.now)) }
     ensures shorter { IfOk result (λ r. length r.1.now < length symbols.now) }
 {
     let (right, rest) = term(alloc, symbols.len(), symbols)?;
@@ -107,8 +107,8 @@ fn freshness<'a, 's>(
     left: Tree<'a>,
     symbols: &'s [Symbol<'a>],
 ) -> Result<(GoalTree<'a>, &'s [Symbol<'a>]), ReadError>
-    ensures value { Gives (λ r. (goal_of r.0, syms r.1.now)) result (spec.right_side trees.Freshness
-        (term_of left.entry) (syms symbols.now)) }
+    ensures value { GivesPart (λ r. (goal_of_tree r.0, syms r.1.now)) result (spec.right_side
+        trees.Freshness (term_of left.entry) (syms symbols.now)) }
     ensures shorter { IfOk result (λ r. length r.1.now < length symbols.now) }
 {
     let (right, rest) = term(alloc, symbols.len(), symbols)?;
@@ -121,7 +121,7 @@ fn flat<'a, 's>(
     alloc: Global,
     symbols: &'s [Symbol<'a>],
 ) -> Result<(GoalTree<'a>, &'s [Symbol<'a>]), ReadError>
-    ensures value { Gives (λ r. (goal_of r.0, syms r.1.now)) result
+    ensures value { GivesPart (λ r. (goal_of_tree r.0, syms r.1.now)) result
         (spec.read_flat (syms symbols.now)) }
     ensures shorter { IfOk result (λ r. length r.1.now < length symbols.now) }
 {
@@ -137,7 +137,8 @@ fn flat<'a, 's>(
 
 /// The conjunction of one goal or more.
 fn conjunction<'a>(alloc: Global, mut parts: Vec<GoalTree<'a>>) -> Result<GoalTree<'a>, ReadError>
-    ensures { Gives goal_of result (spec.joined_by trees.Both (goals_of parts.entry.items)) }
+    ensures { GivesPart goal_of_tree result (spec.joined_by trees.Both
+        (goals_of parts.entry.items)) }
 {
     let Some(mut whole) = parts.pop() else {
         return Err(ReadError::Grammar);
@@ -150,7 +151,8 @@ fn conjunction<'a>(alloc: Global, mut parts: Vec<GoalTree<'a>>) -> Result<GoalTr
 
 /// The disjunction of one goal or more.
 fn disjunction<'a>(alloc: Global, mut parts: Vec<GoalTree<'a>>) -> Result<GoalTree<'a>, ReadError>
-    ensures { Gives goal_of result (spec.joined_by trees.Either (goals_of parts.entry.items)) }
+    ensures { GivesPart goal_of_tree result (spec.joined_by trees.Either
+        (goals_of parts.entry.items)) }
 {
     let Some(mut whole) = parts.pop() else {
         return Err(ReadError::Grammar);
@@ -169,7 +171,7 @@ pub fn goal<'a, 's>(
     levels: usize,
     symbols: &'s [Symbol<'a>],
 ) -> Result<(GoalTree<'a>, &'s [Symbol<'a>]), ReadError>
-    ensures value { Gives (λ r. (goal_of r.0, syms r.1.now)) result (spec.read_goal levels
+    ensures value { GivesPart (λ r. (goal_of_tree r.0, syms r.1.now)) result (spec.read_goal levels
         (syms symbols.now)) }
     ensures shorter { IfOk result (λ r. length r.1.now < length symbols.now) }
 {
@@ -188,7 +190,7 @@ fn any_of<'a, 's>(
     levels: usize,
     symbols: &'s [Symbol<'a>],
 ) -> Result<(GoalTree<'a>, &'s [Symbol<'a>]), ReadError>
-    ensures value { Gives (λ r. (goal_of r.0, syms r.1.now)) result (spec.read_disj
+    ensures value { GivesPart (λ r. (goal_of_tree r.0, syms r.1.now)) result (spec.read_disj
         (read_goal levels) (syms symbols.now)) }
     ensures shorter { IfOk result (λ r. length r.1.now < length symbols.now) }
 {
@@ -204,7 +206,7 @@ fn all_of<'a, 's>(
     levels: usize,
     symbols: &'s [Symbol<'a>],
 ) -> Result<(GoalTree<'a>, &'s [Symbol<'a>]), ReadError>
-    ensures value { Gives (λ r. (goal_of r.0, syms r.1.now)) result (spec.read_conj
+    ensures value { GivesPart (λ r. (goal_of_tree r.0, syms r.1.now)) result (spec.read_conj
         (read_goal levels) (syms symbols.now)) }
     ensures shorter { IfOk result (λ r. length r.1.now < length symbols.now) }
 {
@@ -219,7 +221,7 @@ fn conjunctions<'a, 's>(
     levels: usize,
     symbols: &'s [Symbol<'a>],
 ) -> Result<(Vec<GoalTree<'a>>, &'s [Symbol<'a>]), ReadError>
-    ensures value { Gives (λ r. (goals_of r.0.items, syms r.1.now)) result (separated
+    ensures value { GivesPart (λ r. (goals_of r.0.items, syms r.1.now)) result (separated
         after_semicolon (read_conj (read_goal levels)) (length symbols.now) (syms symbols.now)) }
     ensures shorter { IfOk result (λ r. length r.1.now < length symbols.now) }
 {
@@ -241,8 +243,8 @@ fn simple_goals<'a, 's>(
     levels: usize,
     symbols: &'s [Symbol<'a>],
 ) -> Result<(Vec<GoalTree<'a>>, &'s [Symbol<'a>]), ReadError>
-    ensures value { Gives (λ r. (goals_of r.0.items, syms r.1.now)) result (separated after_comma
-        (read_simple (read_goal levels)) (length symbols.now) (syms symbols.now)) }
+    ensures value { GivesPart (λ r. (goals_of r.0.items, syms r.1.now)) result (separated
+        after_comma (read_simple (read_goal levels)) (length symbols.now) (syms symbols.now)) }
     ensures shorter { IfOk result (λ r. length r.1.now < length symbols.now) }
 {
     let mut all = Vec::new(alloc);
@@ -264,7 +266,7 @@ fn simple<'a, 's>(
     levels: usize,
     symbols: &'s [Symbol<'a>],
 ) -> Result<(GoalTree<'a>, &'s [Symbol<'a>]), ReadError>
-    ensures value { Gives (λ r. (goal_of r.0, syms r.1.now)) result (spec.read_simple
+    ensures value { GivesPart (λ r. (goal_of_tree r.0, syms r.1.now)) result (spec.read_simple
         (read_goal levels) (syms symbols.now)) }
     ensures shorter { IfOk result (λ r. length r.1.now < length symbols.now) }
 {
@@ -288,7 +290,7 @@ fn new_goal<'a, 's>(
     levels: usize,
     symbols: &'s [Symbol<'a>],
 ) -> Result<(GoalTree<'a>, &'s [Symbol<'a>]), ReadError>
-    ensures value { Gives (λ r. (goal_of r.0, syms r.1.now)) result (spec.new_goal
+    ensures value { GivesPart (λ r. (goal_of_tree r.0, syms r.1.now)) result (spec.new_goal
         (read_goal levels) (syms symbols.now)) }
     ensures shorter { IfOk result (λ r. length r.1.now < length symbols.now) }
 {
@@ -306,7 +308,7 @@ fn exists_goal<'a, 's>(
     levels: usize,
     symbols: &'s [Symbol<'a>],
 ) -> Result<(GoalTree<'a>, &'s [Symbol<'a>]), ReadError>
-    ensures value { Gives (λ r. (goal_of r.0, syms r.1.now)) result (spec.exists_goal
+    ensures value { GivesPart (λ r. (goal_of_tree r.0, syms r.1.now)) result (spec.exists_goal
         (read_goal levels) (syms symbols.now)) }
     ensures shorter { IfOk result (λ r. length r.1.now < length symbols.now) }
 {
@@ -324,7 +326,7 @@ fn goal_inside<'a, 's>(
     levels: usize,
     symbols: &'s [Symbol<'a>],
 ) -> Result<(GoalTree<'a>, &'s [Symbol<'a>]), ReadError>
-    ensures value { Gives (λ r. (goal_of r.0, syms r.1.now)) result (spec.goal_inside
+    ensures value { GivesPart (λ r. (goal_of_tree r.0, syms r.1.now)) result (spec.goal_inside
         (read_goal levels) (syms symbols.now)) }
     ensures shorter { IfOk result (λ r. length r.1.now < length symbols.now) }
 {

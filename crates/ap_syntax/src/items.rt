@@ -1,9 +1,9 @@
 // Reading an item.
 ghost use Rattle.std.specs.Prelude.{◌≡◌, ◌≤◌, [], ◌∷◌, length, IfOk};
 ghost use Rattle.std.specs.Option.{option_map};
-ghost use Rattle.ap_trees.specs.Outcomes.{Gives};
+ghost use Rattle.ap_trees.specs.Outcomes.{GivesPart};
 ghost use Rattle.ap_trees.specs.Symbols.{syms};
-ghost use Rattle.ap_trees.specs.Trees.{type_of, types_of, goal_of, form_of};
+ghost use Rattle.ap_trees.specs.Trees.{type_of_tree, types_of, goal_of_tree, form_of};
 ghost use Rattle.ap_syntax.specs.GoalReader.{all_goal};
 ghost use Rattle.ap_syntax.specs.ItemReader as spec;
 
@@ -21,7 +21,7 @@ fn types_inside<'a, 's>(
     alloc: Global,
     symbols: &'s [Symbol<'a>],
 ) -> Result<(Vec<TypeTree<'a>>, &'s [Symbol<'a>]), ReadError>
-    ensures value { Gives (λ r. (types_of r.0.items, syms r.1.now)) result
+    ensures value { GivesPart (λ r. (types_of r.0.items, syms r.1.now)) result
         (spec.types_inside (syms symbols.now)) }
     ensures shorter { IfOk result (λ r. length r.1.now ≤ length symbols.now) }
 {
@@ -36,7 +36,7 @@ fn sole_argument<'a, 's>(
     alloc: Global,
     symbols: &'s [Symbol<'a>],
 ) -> Result<(Vec<TypeTree<'a>>, &'s [Symbol<'a>]), ReadError>
-    ensures value { Gives (λ r. (types_of r.0.items, syms r.1.now)) result
+    ensures value { GivesPart (λ r. (types_of r.0.items, syms r.1.now)) result
         (spec.sole_argument (syms symbols.now)) }
     ensures shorter { IfOk result (λ r. length r.1.now ≤ length symbols.now) }
 {
@@ -46,7 +46,7 @@ fn sole_argument<'a, 's>(
 
 /// A type alone.
 fn one_type<'a>(alloc: Global, tree: TypeTree<'a>) -> Result<Vec<TypeTree<'a>>, AllocError>
-    ensures { IfOk result (λ all. types_of all.items ≡ type_of tree.entry ∷ []) }
+    ensures { IfOk result (λ all. types_of all.items ≡ type_of_tree tree.entry ∷ []) }
 {
     let mut all = Vec::new(alloc);
     all.push(tree)?;
@@ -59,7 +59,7 @@ fn listed_arguments<'a, 's>(
     alloc: Global,
     symbols: &'s [Symbol<'a>],
 ) -> Result<(Vec<TypeTree<'a>>, &'s [Symbol<'a>]), ReadError>
-    ensures value { Gives (λ r. (types_of r.0.items, syms r.1.now)) result (spec.listed_arguments
+    ensures value { GivesPart (λ r. (types_of r.0.items, syms r.1.now)) result (spec.listed_arguments
         (syms symbols.now)) }
     ensures shorter { IfOk result (λ r. length r.1.now ≤ length symbols.now) }
 {
@@ -75,7 +75,7 @@ fn arguments<'a, 's>(
     alloc: Global,
     symbols: &'s [Symbol<'a>],
 ) -> Result<(Vec<TypeTree<'a>>, &'s [Symbol<'a>]), ReadError>
-    ensures value { Gives (λ r. (types_of r.0.items, syms r.1.now)) result
+    ensures value { GivesPart (λ r. (types_of r.0.items, syms r.1.now)) result
         (spec.read_arguments (syms symbols.now)) }
     ensures shorter { IfOk result (λ r. length r.1.now ≤ length symbols.now) }
 {
@@ -92,7 +92,7 @@ fn constructor<'a>(
     word: &'a str,
     symbols: &[Symbol<'a>],
 ) -> Result<Form<'a>, ReadError>
-    ensures { Gives form_of result (spec.constructor_of word.entry.now (syms symbols.now)) }
+    ensures { GivesPart form_of result (spec.constructor_of word.entry.now (syms symbols.now)) }
 {
     let (args, rest) = arguments(alloc, symbols)?;
     let rest = after_arrow(rest).ok_or(ReadError::Grammar)?;
@@ -119,7 +119,7 @@ fn declaration<'a>(
     word: &'a str,
     symbols: &[Symbol<'a>],
 ) -> Result<Form<'a>, ReadError>
-    ensures { Gives form_of result (spec.declaration word.entry.now (syms symbols.now)) }
+    ensures { GivesPart form_of result (spec.declaration word.entry.now (syms symbols.now)) }
 {
     match short_form(alloc, word, symbols) {
         Some(form) => Ok(form),
@@ -130,7 +130,7 @@ fn declaration<'a>(
 /// A predicate, behind `pred`.
 #[tactic(auto, unfolding(crate::specs::ItemReader::predicate_of))]
 fn predicate<'a>(alloc: Global, symbols: &[Symbol<'a>]) -> Result<Form<'a>, ReadError>
-    ensures { Gives form_of result (spec.predicate_of (syms symbols.now)) }
+    ensures { GivesPart form_of result (spec.predicate_of (syms symbols.now)) }
 {
     let (word, rest) = ident(symbols).ok_or(ReadError::Grammar)?;
     let (args, rest) = declared_types(alloc, rest)?;
@@ -147,7 +147,7 @@ fn declared_types<'a, 's>(
     alloc: Global,
     symbols: &'s [Symbol<'a>],
 ) -> Result<(Vec<TypeTree<'a>>, &'s [Symbol<'a>]), ReadError>
-    ensures value { Gives (λ r. (types_of r.0.items, syms r.1.now)) result
+    ensures value { GivesPart (λ r. (types_of r.0.items, syms r.1.now)) result
         (spec.declared_types (syms symbols.now)) }
     ensures shorter { IfOk result (λ r. length r.1.now ≤ length symbols.now) }
 {
@@ -160,7 +160,7 @@ fn declared_types<'a, 's>(
 /// The goal that all the symbols spell.
 #[tactic(auto, unfolding(crate::specs::GoalReader::all_goal))]
 fn whole_goal<'a>(alloc: Global, symbols: &[Symbol<'a>]) -> Result<GoalTree<'a>, ReadError>
-    ensures { Gives goal_of result (all_goal (syms symbols.now)) }
+    ensures { GivesPart goal_of_tree result (all_goal (syms symbols.now)) }
 {
     let (tree, rest) = goal(alloc, symbols.len(), symbols)?;
     if rest.is_empty() {
@@ -173,7 +173,7 @@ fn whole_goal<'a>(alloc: Global, symbols: &[Symbol<'a>]) -> Result<GoalTree<'a>,
 /// The body of a clause, if it has one.
 #[tactic(auto, unfolding(crate::specs::ItemReader::body_of))]
 fn body<'a>(alloc: Global, symbols: &[Symbol<'a>]) -> Result<Option<GoalTree<'a>>, ReadError>
-    ensures { Gives (λ r. option_map goal_of r) result (spec.body_of (syms symbols.now)) }
+    ensures { GivesPart (λ r. option_map goal_of_tree r) result (spec.body_of (syms symbols.now)) }
 {
     match after_if(symbols) {
         Some(rest) => Ok(Some(whole_goal(alloc, rest)?)),
@@ -185,7 +185,7 @@ fn body<'a>(alloc: Global, symbols: &[Symbol<'a>]) -> Result<Option<GoalTree<'a>
 /// A fact or a rule.
 #[tactic(auto, unfolding(crate::specs::ItemReader::clause_of))]
 fn clause<'a>(alloc: Global, symbols: &[Symbol<'a>]) -> Result<Form<'a>, ReadError>
-    ensures { Gives form_of result (spec.clause_of (syms symbols.now)) }
+    ensures { GivesPart form_of result (spec.clause_of (syms symbols.now)) }
 {
     let (Head { word, args }, rest) = atom(alloc, symbols)?;
     let body = body(alloc, rest)?;
@@ -195,7 +195,7 @@ fn clause<'a>(alloc: Global, symbols: &[Symbol<'a>]) -> Result<Form<'a>, ReadErr
 /// A query, behind `?-`.
 #[tactic(auto, unfolding(crate::specs::ItemReader::query_of))]
 fn query<'a>(alloc: Global, symbols: &[Symbol<'a>]) -> Result<Form<'a>, ReadError>
-    ensures { Gives form_of result (spec.query_of (syms symbols.now)) }
+    ensures { GivesPart form_of result (spec.query_of (syms symbols.now)) }
 {
     let goal = whole_goal(alloc, symbols)?;
     Ok(Form::Query(goal))
@@ -204,7 +204,7 @@ fn query<'a>(alloc: Global, symbols: &[Symbol<'a>]) -> Result<Form<'a>, ReadErro
 /// What the item says that all the symbols spell.
 #[tactic(auto, unfolding(crate::specs::ItemReader::read_item))]
 pub fn form<'a>(alloc: Global, symbols: &[Symbol<'a>]) -> Result<Form<'a>, ReadError>
-    ensures { Gives form_of result (spec.read_item (syms symbols.now)) }
+    ensures { GivesPart form_of result (spec.read_item (syms symbols.now)) }
 {
     match after_pred(symbols) {
         Some(rest) => predicate(alloc, rest),

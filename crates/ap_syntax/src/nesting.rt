@@ -66,7 +66,7 @@ enum Step {
 
 /// What a symbol does to the levels.
 fn step_of(symbol: Symbol<'_>) -> Step
-    ensures { result ≡ spec.step_of (sym symbol.entry) }
+    ensures { result ≡ spec.nesting_step (sym symbol.entry) }
 {
     match symbol {
         Symbol::Open => Step::Opens(Level::Round),

@@ -3,8 +3,8 @@ ghost use Rattle.std.specs.Prelude.{◌≡◌, ◌<◌, ◌≤◌, ◌+◌, IfOk
 ghost use Rattle.ap_defs.specs.Limits.{size_limit};
 ghost use Rattle.ap_lexer.specs.Tokens.{lexeme, lexemes, is_dot};
 ghost use Rattle.ap_trees.specs.Symbols.{syms};
-ghost use Rattle.ap_trees.specs.Trees.{item_of, items_of};
-ghost use Rattle.ap_syntax.specs.Reading.{Gives, Reads, FirstOf, first_dot};
+ghost use Rattle.ap_trees.specs.Trees.{item_of, items_of_text};
+ghost use Rattle.ap_syntax.specs.Reading.{GivesOneOf, Reads, FirstOf, first_dot};
 ghost use Rattle.ap_syntax.specs.Reading as spec;
 
 use crate::faults::SynError;
@@ -64,7 +64,7 @@ fn first_item<'a>(
     tokens: &[Token<'a>],
 ) -> Result<(Item<'a>, usize), SynError>
     requires { 0 < length tokens.now }
-    ensures read { Gives (λ r. (item_of r.0, drop r.1 (lexemes tokens.now))) result
+    ensures read { GivesOneOf (λ r. (item_of r.0, drop r.1 (lexemes tokens.now))) result
         (FirstOf item (lexemes tokens.now)) }
     ensures some { IfOk result (λ r. (0 < r.1) × (r.1 ≤ length tokens.now)) }
 {
@@ -86,7 +86,7 @@ fn first_item<'a>(
 /// The items of tokens, or the first fault.
 fn read_items<'a>(alloc: Global, tokens: &[Token<'a>]) -> Result<Vec<Item<'a>>, SynError>
     requires { length tokens.now ≤ size_limit }
-    ensures { Gives (λ v. items_of v.items) result (Reads 1 (lexemes tokens.now)) }
+    ensures { GivesOneOf (λ v. items_of_text v.items) result (Reads 1 (lexemes tokens.now)) }
 {
     let mut items = Vec::new(alloc);
     let mut number = 1;
@@ -107,10 +107,10 @@ fn read_items<'a>(alloc: Global, tokens: &[Token<'a>]) -> Result<Vec<Item<'a>>, 
 pub fn parse<'a>(alloc: Global, tokens: &[Token<'a>]) -> Result<Vec<Item<'a>>, SynError>
     requires { length tokens.now ≤ size_limit }
     // What is returned is a reading of the tokens.
-    ensures read { Gives (λ v. items_of v.items) result (Reads 1 (lexemes tokens.now)) }
+    ensures read { GivesOneOf (λ v. items_of_text v.items) result (Reads 1 (lexemes tokens.now)) }
     // Each reading of the tokens is what is returned.
-    ensures only { (r : spec.Outcome) → Reads 1 (lexemes tokens.now) r →
-        Gives (λ v. items_of v.items) result (λ s. s ≡ r) }
+    ensures only { (r : spec.TextOutcome) → Reads 1 (lexemes tokens.now) r →
+        GivesOneOf (λ v. items_of_text v.items) result (λ s. s ≡ r) }
 {
     read_items(alloc, tokens)
 }

@@ -7,7 +7,7 @@ use Rattle.ap_tasks.specs.declared.hand.Hand.{Hand}
 use Rattle.ap_paths.specs.Weights.{weigh}
 use Rattle.ap_tasks.specs.Rule.{hand, Balanced, PermitsEmpty, Popped}
 use Rattle.ap_tasks.specs.Ends.{ThiefView}
-use Rattle.ap_tasks.specs.Owners.{parts_of, stolen_of, AreThievesOf}
+use Rattle.ap_tasks.specs.Owners.{parts_of_thieves, stolen_of, AreThievesOf}
 use Rattle.ap_tasks.proofs.Moves.{forks, merges, settles, pops, weigh-append}
 
 pub forks_at : (port : ℕ) (v : Hand) → port ≡ 0 → 0 < v.parts → v.stolen ≡ [] → Forks Balanced port v (hand (v.parts - 1) v.pushed v.popped v.stolen) (hand 1 [] [] [])
@@ -29,7 +29,7 @@ cut_view v w n is then = then ∙ ap (λ (u : Hand). hand (u.parts - 1) u.pushed
 pub empties : (v : Hand) → v.parts ≡ 1024 → PermitsEmpty v → (h : List ℕ → ℕ) → weigh h v.pushed ≡ weigh h v.popped + weigh h v.stolen
 empties v all e h = let p = settles v [] e.0 all e.2 e.1 h in omega arith
 
-parts_of-append : (xs ys : List ThiefView) → parts_of (xs ++ ys) ≡ parts_of xs + parts_of ys
+parts_of-append : (xs ys : List ThiefView) → parts_of_thieves (xs ++ ys) ≡ parts_of_thieves xs + parts_of_thieves ys
 parts_of-append [] ys = omega arith
 parts_of-append (x ∷ xs) ys = omega (arith, parts_of-append xs ys)
 
@@ -37,7 +37,7 @@ stolen_of-append : (h : List ℕ → ℕ) (xs ys : List ThiefView) → stolen_of
 stolen_of-append h [] ys = omega arith
 stolen_of-append h (x ∷ xs) ys = omega (arith, stolen_of-append h xs ys)
 
-pub parts_of-last : (all xs : List ThiefView) (t : ThiefView) → all ≡ xs ++ t ∷ [] → parts_of all ≡ parts_of xs + t.parts
+pub parts_of-last : (all xs : List ThiefView) (t : ThiefView) → all ≡ xs ++ t ∷ [] → parts_of_thieves all ≡ parts_of_thieves xs + t.parts
 parts_of-last all xs t is = rw is (omega (arith, parts_of-append xs (t ∷ [])))
 
 pub stolen_of-last : (h : List ℕ → ℕ) (all xs : List ThiefView) (t : ThiefView) → all ≡ xs ++ t ∷ [] → stolen_of h all ≡ stolen_of h xs + weigh h t.stolen

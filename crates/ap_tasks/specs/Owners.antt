@@ -28,9 +28,9 @@ abbrev pub PoppedOne : Hand → Option (List ℕ) → Hand → Type 0
 PoppedOne v None w = (w ≡ v) × PermitsEmpty v
 PoppedOne v (Some p) w = w ≡ hand v.parts v.pushed (v.popped ++ p ∷ []) v.stolen
 
-abbrev pub parts_of : List ThiefView → ℕ
-parts_of [] = 0
-parts_of (t ∷ ts) = t.parts + parts_of ts
+abbrev pub parts_of_thieves : List ThiefView → ℕ
+parts_of_thieves [] = 0
+parts_of_thieves (t ∷ ts) = t.parts + parts_of_thieves ts
 
 abbrev pub stolen_of : (List ℕ → ℕ) → List ThiefView → ℕ
 stolen_of h [] = 0

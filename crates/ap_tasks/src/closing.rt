@@ -5,7 +5,7 @@ ghost use Rattle.crossbeam_deque.specs.Handles.{view, IsPassOf, worker_deque, wo
 ghost use Rattle.ap_paths.specs.Weights.{weigh};
 ghost use Rattle.ap_tasks.specs.Rule.{hand};
 ghost use Rattle.ap_tasks.specs.Ends.{AreSpare};
-ghost use Rattle.ap_tasks.specs.Owners.{owner_deque, owner_view, parts_of, stolen_of, AreThievesOf, IsLifoOwner};
+ghost use Rattle.ap_tasks.specs.Owners.{owner_deque, owner_view, parts_of_thieves, stolen_of, AreThievesOf, IsLifoOwner};
 
 use crate::hand::Hand;
 use crate::owner::{Deque, Owner, ROOM};
@@ -108,7 +108,7 @@ fn absorb_all<W: Shape>(deque: &mut Deque<W>, mut thieves: Vec<Thief<W>>)
     requires { IsLifoOwner deque.old × AreThievesOf (worker_deque deque.old) thieves.items }
     ensures same { IsLifoOwner deque.new × (worker_deque deque.new ≡ worker_deque deque.old) }
     ensures view { ((worker_view deque.new).parts
-        ≡ (worker_view deque.old).parts + parts_of thieves.items)
+        ≡ (worker_view deque.old).parts + parts_of_thieves thieves.items)
         × ((worker_view deque.new).pushed ≡ (worker_view deque.old).pushed)
         × ((worker_view deque.new).popped ≡ (worker_view deque.old).popped) }
     ensures stolen { (h : list ℕ → ℕ) →
@@ -139,14 +139,14 @@ fn drain<W: Shape>(deque: &mut Deque<W>, left: &mut Vec<Placed<W>>)
 impl<W: Shape> Owner<W> {
     ghost use Rattle.std.specs.Prelude.{◌≡◌, ℕ, ◌+◌, List as list};
     ghost use Rattle.ap_paths.specs.Weights.{weigh};
-    ghost use Rattle.ap_tasks.specs.Owners.{owner_deque, owner_view, parts_of, stolen_of, AreThievesOf};
+    ghost use Rattle.ap_tasks.specs.Owners.{owner_deque, owner_view, parts_of_thieves, stolen_of, AreThievesOf};
 
     /// The paths that are left, where all thieves of this deque are given: those whose parts add up
     /// to 1,024. What was popped, stolen and is left is what was pushed, each path as often. It
     /// takes no memory.
     pub fn close(self, thieves: Vec<Thief<W>>) -> Left<W>
         requires all { AreThievesOf (owner_deque self) thieves.items
-            × (parts_of thieves.items ≡ 1024) }
+            × (parts_of_thieves thieves.items ≡ 1024) }
         ensures { (h : list ℕ → ℕ) →
             weigh h (owner_view self).pushed
             ≡ (weigh h (owner_view self).popped + stolen_of h thieves.items)

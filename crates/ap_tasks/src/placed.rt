@@ -1,7 +1,7 @@
 //! Paths whose type says that they are in a tree.
 
 ghost use Rattle.std.specs.Prelude.{◌≡◌, ℕ, Option, List as list, [], ◌∷◌, ◌++◌, IfOk};
-ghost use Rattle.ap_paths.specs.Trees.{IsChoice, InTree};
+ghost use Rattle.ap_paths.specs.Trees.{IsChoice, InChoiceTree};
 
 use ap_defs::memory::Memory;
 use ap_defs::paths::Path;
@@ -29,19 +29,19 @@ pub struct Placed<W: Shape> {
 
 impl<W: Shape> Model for Placed<W> {
     ghost use Rattle.std.specs.Prelude.{List as list, ℕ};
-    ghost use Rattle.ap_paths.specs.Trees.{InTree};
+    ghost use Rattle.ap_paths.specs.Trees.{InChoiceTree};
 
     ghost Value = { list ℕ };
 
     ghost view = { λ p. p.path };
 
-    ghost invariant = { λ p. InTree W.choices p.path };
+    ghost invariant = { λ p. InChoiceTree W.choices p.path };
 }
 
 impl<W: Shape> Placed<W> {
     /// The path, which is known to be in the tree.
     pub fn new(path: Path) -> Placed<W>
-        requires { InTree W.choices path }
+        requires { InChoiceTree W.choices path }
         ensures { result ≡ path }
     {
         Placed {
@@ -69,7 +69,7 @@ impl<W: Shape> Placed<W> {
     /// The path itself. It is in the tree.
     pub fn path(&self) -> &Path
         ensures same { result.now ≡ self.now }
-        ensures there { InTree W.choices result.now }
+        ensures there { InChoiceTree W.choices result.now }
     {
         &self.path
     }

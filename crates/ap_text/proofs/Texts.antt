@@ -5,17 +5,17 @@ use Rattle.ap_defs.specs.Goals.{ProgramOver, NominalProgram}
 use Rattle.ap_defs.specs.declared.faults.Fault.{Fault}
 use Rattle.ap_defs.specs.declared.faults.Fault.TheVariants as faults
 use Rattle.ap_defs.specs.declared.faults.SyntaxFault.{SyntaxFault}
-use Rattle.ap_lexer.specs.Tokens.{Lexeme, lexed, Fails}
+use Rattle.ap_lexer.specs.Tokens.{Lexeme, lexed, FailsLexing}
 use Rattle.ap_lexer.specs.declared.token.LexError.{LexError}
 use Rattle.ap_lexer.specs.declared.token.LexError.TheVariants as tokens
 use Rattle.ap_trees.specs.Items.{ItemOf}
 use Rattle.ap_syntax.specs.Reading as reading
-use Rattle.ap_syntax.specs.Reading.{Reads, Outcome}
+use Rattle.ap_syntax.specs.Reading.{Reads, TextOutcome}
 use Rattle.ap_syntax.specs.declared.faults.SynError.{SynError}
 use Rattle.ap_syntax.specs.declared.faults.SynError.TheVariants as syntax
 use Rattle.ap_syntax.proofs.Readings.{one_reading}
 use Rattle.ap_typecheck.proofs.Uniqueness as typing
-use Rattle.ap_typecheck.specs.Checking.{IsProgramOf, IsFirstFault}
+use Rattle.ap_typecheck.specs.Checking.{IsProgramOf, IsFirstTypeFault}
 use Rattle.ap_typecheck.specs.Views as checked
 use Rattle.ap_typecheck.specs.declared.error.TypeError.{TypeError}
 use Rattle.ap_typecheck.specs.declared.error.TypeError.TheVariants as types
@@ -31,17 +31,17 @@ use Rattle.ap_text.proofs.NameFaults.{name_fault_one, passes_or_fault}
 same_tokens : (text : List ℕ) (ts us : List Lexeme) → lexed text ≡ Ok ts → lexed text ≡ Ok us → us ≡ ts
 same_tokens text ts us h k = let e : Ok us ≡ Ok ts = sym k ∙ h in cc
 
-reads_one : (text : List ℕ) (ts us : List Lexeme) (r s : Outcome) → lexed text ≡ Ok ts → lexed text ≡ Ok us → Reads 1 ts r → Reads 1 us s → r ≡ s
+reads_one : (text : List ℕ) (ts us : List Lexeme) (r s : TextOutcome) → lexed text ≡ Ok ts → lexed text ≡ Ok us → Reads 1 ts r → Reads 1 us s → r ≡ s
 reads_one text ts us r s h k reads others = one_reading reads (subst (λ xs. Reads 1 xs s) (same_tokens text ts us h k) others)
 
 items_one : (text : List ℕ) (is js : List ItemOf) → HasItems text is → HasItems text js → is ≡ js
-items_one text is js h k = let e : ◌≡◌ {A = Outcome} (Ok is) (Ok js) = reads_one text h.0 k.0 (Ok is) (Ok js) h.1 k.1 h.2 k.2 in cc
+items_one text is js h k = let e : ◌≡◌ {A = TextOutcome} (Ok is) (Ok js) = reads_one text h.0 k.0 (Ok is) (Ok js) h.1 k.1 h.2 k.2 in cc
 
 syntax_one : (text : List ℕ) (f g : SyntaxFault) → HasSyntaxFault text f → HasSyntaxFault text g → f ≡ g
-syntax_one text f g h k = let e : ◌≡◌ {A = Outcome} (Err f) (Err g) = reads_one text h.0 k.0 (Err f) (Err g) h.1 k.1 h.2 k.2 in cc
+syntax_one text f g h k = let e : ◌≡◌ {A = TextOutcome} (Err f) (Err g) = reads_one text h.0 k.0 (Err f) (Err g) h.1 k.1 h.2 k.2 in cc
 
 items_or_fault : (text : List ℕ) (is : List ItemOf) (f : SyntaxFault) → HasItems text is → HasSyntaxFault text f → ⊥
-items_or_fault text is f h k = absurd (let e : ◌≡◌ {A = Outcome} (Ok is) (Err f) = reads_one text h.0 k.0 (Ok is) (Err f) h.1 k.1 h.2 k.2 in cc)
+items_or_fault text is f h k = absurd (let e : ◌≡◌ {A = TextOutcome} (Ok is) (Err f) = reads_one text h.0 k.0 (Ok is) (Err f) h.1 k.1 h.2 k.2 in cc)
 
 tokens_or_fault : (text : List ℕ) (ts : List Lexeme) (f : SyntaxFault) → lexed text ≡ Ok ts → lexed text ≡ Err f → ⊥
 tokens_or_fault text ts f h k = absurd (let e : Ok ts ≡ Err f = sym h ∙ k in cc)
@@ -66,13 +66,13 @@ fault_one text _ _ (faulty_item f h) (ill_named js q g k l m) = absurd (items_or
 fault_one text _ _ (ill_typed is f h i) (faulty_token g k) = absurd (tokens_or_fault text h.0 g h.1 k)
 fault_one text _ _ (ill_typed is f h i) (faulty_item g k) = absurd (items_or_fault text is g h k)
 fault_one text _ _ (ill_typed is f h i) (ill_typed js g k l) =
-    ap (λ x. faults.Types x) (typing.first_one js f g (subst (λ xs. IsFirstFault xs f) (items_one text is js h k) i) l)
+    ap (λ x. faults.Types x) (typing.first_one js f g (subst (λ xs. IsFirstTypeFault xs f) (items_one text is js h k) i) l)
 fault_one text _ _ (ill_typed is f h i) (ill_named js q g k l m) =
-    absurd (typing.never_both js q f l (subst (λ xs. IsFirstFault xs f) (items_one text is js h k) i))
+    absurd (typing.never_both js q f l (subst (λ xs. IsFirstTypeFault xs f) (items_one text is js h k) i))
 fault_one text _ _ (ill_named is p f h i j) (faulty_token g k) = absurd (tokens_or_fault text h.0 g h.1 k)
 fault_one text _ _ (ill_named is p f h i j) (faulty_item g k) = absurd (items_or_fault text is g h k)
 fault_one text _ _ (ill_named is p f h i j) (ill_typed js g k l) =
-    absurd (typing.never_both is p g i (subst (λ xs. IsFirstFault xs g) (items_one text js is k h) l))
+    absurd (typing.never_both is p g i (subst (λ xs. IsFirstTypeFault xs g) (items_one text js is k h) l))
 fault_one text _ _ (ill_named is p f h i j) (ill_named js q g k l m) =
     ap (λ x. faults.Names x) (name_fault_one q.signature.constructors (items_of q) f g (subst (λ x. IsNameFault x f) (raw_one text is js p q h k i l) j) m)
 
@@ -80,21 +80,21 @@ fault_one text _ _ (ill_named is p f h i j) (ill_named js q g k l m) =
 pub program_or_fault : (text : List ℕ) (p : NominalProgram) (f : Fault) → IsProgramOfText text p → IsFaultOfText text f → ⊥
 program_or_fault text p _ h (faulty_token g k) = tokens_or_fault text h.read.0 g h.read.1 k
 program_or_fault text p _ h (faulty_item g k) = items_or_fault text h.items g h.read k
-program_or_fault text p _ h (ill_typed js g k l) = typing.never_both h.items h.raw g h.typed (subst (λ xs. IsFirstFault xs g) (items_one text js h.items k h.read) l)
+program_or_fault text p _ h (ill_typed js g k l) = typing.never_both h.items h.raw g h.typed (subst (λ xs. IsFirstTypeFault xs g) (items_one text js h.items k h.read) l)
 program_or_fault text p _ h (ill_named js q g k l m) =
     passes_or_fault h.raw.signature.constructors (items_of h.raw) g h.kept
     (subst (λ x. IsNameFault x g) (raw_one text js h.items q h.raw k h.read l h.typed) m)
 
 -- what each step refuses
-pub tokens_refused : (e : LexError) (text : List ℕ) → Fails e (lexed text) → IsRefusedText (of_tokens e) text
+pub tokens_refused : (e : LexError) (text : List ℕ) → FailsLexing e (lexed text) → IsRefusedText (of_tokens e) text
 tokens_refused (tokens.Fault f) text h = faulty_token f h
 tokens_refused tokens.Memory text h = tt
 
-pub items_refused : (e : SynError) (text : List ℕ) (ts : List Lexeme) → lexed text ≡ Ok ts → reading.Fails e (Reads 1 ts) → IsRefusedText (of_items e) text
+pub items_refused : (e : SynError) (text : List ℕ) (ts : List Lexeme) → lexed text ≡ Ok ts → reading.FailsAsOneOf e (Reads 1 ts) → IsRefusedText (of_items e) text
 items_refused (syntax.Fault f) text ts is h = faulty_item f (ts, is, h)
 items_refused syntax.Memory text ts is h = tt
 
-pub types_refused : (e : TypeError) (text : List ℕ) (items : List ItemOf) → HasItems text items → checked.IsRefusedText e items → IsRefusedText (of_types e) text
+pub types_refused : (e : TypeError) (text : List ℕ) (items : List ItemOf) → HasItems text items → checked.IsRefusedByTypes e items → IsRefusedText (of_types e) text
 types_refused (types.Fault f) text items read h = ill_typed items f read h
 types_refused types.Memory text items read h = tt
 

@@ -11,9 +11,9 @@ use Rattle.ap_defs.specs.Limits.{size_limit}
 use Rattle.ap_lexer.specs.Pieces.{piece_at}
 use Rattle.ap_lexer.specs.Tokens.{Scan, Lexeme, scan_from, scan_piece, span_of, lexeme, lexemes, lexeme_at, lexemes_of, lexed}
 use Rattle.ap_trees.specs.Items.{ItemOf}
-use Rattle.ap_trees.specs.Trees.{item_of, items_of}
+use Rattle.ap_trees.specs.Trees.{item_of, items_of_text}
 use Rattle.ap_trees.specs.declared.trees.Item.{Item}
-use Rattle.ap_syntax.specs.Reading.{First, unended, too_deep, no_item, an_item, Reads, all_read, faulty, goes_on, Outcome, after_items}
+use Rattle.ap_syntax.specs.Reading.{First, unended, too_deep, no_item, an_item, Reads, all_read, faulty, goes_on, TextOutcome, after_items}
 
 one_at_most : (at : ℕ) (p : Piece) → length (span_of at p) ≤ 1
 one_at_most at p = elim p.kind as (λ k. length (span_of at (record { kind = k; len = p.len })) ≤ 1) [ None ↦ omega arith | Some kind ↦ omega arith ]
@@ -61,18 +61,18 @@ first_shorter item t ts _ x rest (an_item place form h k i) e =
     let short : length (drop (place + 1) (t ∷ ts)) ≤ length ts = grind (arith, common_steps) in
     subst (λ r. length r ≤ length ts) after short
 
-more_few : (x : ItemOf) (r : Outcome) (n : ℕ) → ((more : List ItemOf) → r ≡ Ok more → length more ≤ n) → (items : List ItemOf) → after_items (x ∷ []) r ≡ Ok items → length items ≤ suc n
+more_few : (x : ItemOf) (r : TextOutcome) (n : ℕ) → ((more : List ItemOf) → r ≡ Ok more → length more ≤ n) → (items : List ItemOf) → after_items (x ∷ []) r ≡ Ok items → length items ≤ suc n
 more_few x (Ok more) n few items e = let same : x ∷ more ≡ items = cc in subst (λ is. length is ≤ suc n) same (omega (arith, few more refl))
 more_few x (Err f) n few items e = absurd (cc)
 
-items_few : (n : ℕ) (ts : List Lexeme) (o : Outcome) (items : List ItemOf) → Reads n ts o → o ≡ Ok items → length items ≤ length ts
+items_few : (n : ℕ) (ts : List Lexeme) (o : TextOutcome) (items : List ItemOf) → Reads n ts o → o ≡ Ok items → length items ≤ length ts
 items_few n _ _ items all_read e = let same : [] ≡ items = cc in subst (λ is. length is ≤ 0) same (omega arith)
 items_few n (t ∷ ts) _ items (faulty f h) e = absurd (cc)
 items_few n (t ∷ ts) _ items (goes_on x rest r h reads) e =
     more_few x r (length ts) (λ more is. let a = items_few (n + 1) rest r more reads is in let b = first_shorter n t ts (Ok (x, rest)) x rest h refl in omega arith) items e
 
-pub few_items : (ts : List Token) (items : List Item) → Reads 1 (lexemes ts) (Ok (items_of items)) → length ts ≤ size_limit → length items ≤ size_limit
+pub few_items : (ts : List Token) (items : List Item) → Reads 1 (lexemes ts) (Ok (items_of_text items)) → length ts ≤ size_limit → length items ≤ size_limit
 few_items ts items reads l =
     let a = length-map ts lexeme in
     let b = length-map items item_of in
-    omega (arith, items_few 1 (lexemes ts) (Ok (items_of items)) (items_of items) reads refl)
+    omega (arith, items_few 1 (lexemes ts) (Ok (items_of_text items)) (items_of_text items) reads refl)

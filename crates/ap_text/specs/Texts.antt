@@ -15,7 +15,7 @@ use Rattle.ap_trees.specs.Items.{ItemOf}
 use Rattle.ap_syntax.specs.Reading.{Reads}
 use Rattle.ap_syntax.specs.declared.faults.SynError.{SynError}
 use Rattle.ap_syntax.specs.declared.faults.SynError.TheVariants as syntax
-use Rattle.ap_typecheck.specs.Checking.{IsProgramOf, IsFirstFault}
+use Rattle.ap_typecheck.specs.Checking.{IsProgramOf, IsFirstTypeFault}
 use Rattle.ap_typecheck.specs.declared.error.TypeError.{TypeError}
 use Rattle.ap_typecheck.specs.declared.error.TypeError.TheVariants as types
 use Rattle.ap_program.specs.CarryingOut.{carried_out_program}
@@ -50,7 +50,7 @@ pub data IsFaultOfText (text : List ℕ) : Fault → Type 0 where
   -- an item is not in the grammar
   faulty_item : (f : SyntaxFault) → HasSyntaxFault text f → IsFaultOfText text (faults.Syntax f)
   -- an item is not well typed
-  ill_typed : (items : List ItemOf) (f : TypeFault) → HasItems text items → IsFirstFault items f → IsFaultOfText text (faults.Types f)
+  ill_typed : (items : List ItemOf) (f : TypeFault) → HasItems text items → IsFirstTypeFault items f → IsFaultOfText text (faults.Types f)
   -- an item breaks the name restriction
   ill_named : (items : List ItemOf) (raw : ProgramOver RawTerm) (f : NameFault) → HasItems text items → IsProgramOf items raw → IsNameFault raw f
       → IsFaultOfText text (faults.Names f)

@@ -6,7 +6,7 @@ use Rattle.ap_defs.specs.Substitution.{Binding, Problem, under, ◌#◌}
 use Rattle.ap_defs.specs.Terms.{NominalTerm, susp}
 use Rattle.ap_defs.specs.Unification.{problem_of, reduce_all}
 use Rattle.ap_defs.specs.declared.terms.Cond.{Cond}
-use Rattle.ap_theory.specs.StatementsOnConditions.{collected, joined, reduce_again}
+use Rattle.ap_theory.specs.StatementsOnConditions.{collected, joined_conditions, reduce_again}
 use Rattle.ap_theory.proofs.BooleanLemmas.{or_cases, or_false, or_if_left, or_if_right, or_nothing, same_test}
 use Rattle.ap_theory.proofs.ConditionSetLemmas.{add_conds-append, add_conds_same, cond_eq_tells, has_cond-append, has_cond_add_all}
 use Rattle.ap_theory.proofs.ReductionLemmas.{both_again, is_none_both, reduce_under}
@@ -106,7 +106,7 @@ collected_again bs cs e ps = ap collected (reduce_all_again bs cs e ps) ∙ kept
     kept (Some es) = collected_same cs es (add_conds es []) (λ c. sym (has_cond_add_all c es [] ∙ or_nothing (has_cond c es)))
 
 -- and it can be added up
-pub collected_both : (o p : Option (List Cond)) → collected (both o p) ≡ joined (collected o) (collected p)
+pub collected_both : (o p : Option (List Cond)) → collected (both o p) ≡ joined_conditions (collected o) (collected p)
 collected_both None p = refl
 collected_both (Some cs) None = refl
 collected_both (Some cs) (Some ds) = ap Some (add_conds-append cs ds)

@@ -8,7 +8,7 @@ use Rattle.ap_defs.specs.Permutations.{IsSamePerm, act_name, disagreement, inver
 use Rattle.ap_defs.specs.Terms.{GroundTerm, NominalTerm, abs, act_ground, act_term, app, name, pair, unit}
 use Rattle.ap_defs.specs.declared.terms.Name.{Name}
 use Rattle.ap_defs.specs.declared.terms.Swap.{Swap}
-use Rattle.ap_theory.specs.Contexts.{Context, Equal, Fresh, listed}
+use Rattle.ap_theory.specs.Contexts.{Context, Equal, Fresh, listed_context}
 use Rattle.ap_theory.proofs.BooleanLemmas.{same_test}
 use Rattle.ap_theory.proofs.DisagreementLemmas.{differing_disagree, disagree_differing, each_list_all, list_all_each}
 use Rattle.ap_theory.proofs.EqualityLemmas.{Equal_act_act, Equal_equivariant, Equal_itself, Equal_swap_fresh, Equal_sym, Equal_trans, Fresh_both}
@@ -87,7 +87,7 @@ alpha_embed ds _ _ = refl
 
 -- no condition
 abbrev pub none : Context
-none = listed []
+none = listed_context []
 
 pub fresh_iff : (a : Name) (t : GroundTerm) → fresh a t ≡ true ↔ Fresh none a (embed t)
 fresh_iff a t = iff_trans (iff_same (λ x. x ≡ true) (fresh_embed [] a t)) (fresh_under_iff [] a (embed t))

@@ -12,7 +12,7 @@ use Rattle.ap_defs.specs.declared.terms.Cond.{Cond}
 use Rattle.ap_defs.specs.declared.terms.Name.{Name}
 use Rattle.ap_defs.specs.declared.terms.Swap.{Swap}
 use Rattle.ap_defs.specs.declared.terms.Var.{Var}
-use Rattle.ap_theory.specs.Contexts.{Equal, Fresh, listed}
+use Rattle.ap_theory.specs.Contexts.{Equal, Fresh, listed_context}
 use Rattle.ap_theory.specs.StatementsOnGroundings.{meets_some}
 use Rattle.ap_theory.specs.Substitutions.{Agrees, EquatesAll, IsInstance, Meets, MeetsSome, Substitution, applied}
 use Rattle.ap_theory.proofs.BooleanLemmas.{and_left, and_right, or_cases}
@@ -111,7 +111,7 @@ module _ (g : Grounding) where
       (iff_trans (Meets_add_all none (embedded g) cs ds) (iff_sym (iff_trans (and_iff (meets g cs) (meets g ds)) (iff_both (meets_iff cs) (meets_iff ds))))))
 
 -- What follows under conditions holds of each grounding that meets them.
-listed_met : (g : Grounding) (ds : Conds) → meets g ds ≡ true → (c : Name) (x : Var) → listed ds c x → Fresh none c (embed (g x))
+listed_met : (g : Grounding) (ds : Conds) → meets g ds ≡ true → (c : Name) (x : Var) → listed_context ds c x → Fresh none c (embed (g x))
 listed_met g [] m c x h = cc
 listed_met g (d ∷ ds) m c x h =
     let here : fresh d.name (g d.var) ≡ true = and_left (fresh d.name (g d.var)) (meets g ds) m in
@@ -125,8 +125,8 @@ listed_met g (d ∷ ds) m c x h =
 
 pub fresh_under_sound : (g : Grounding) (ds : Conds) → meets g ds ≡ true → (a : Name) (t : NominalTerm) → fresh_under ds a t ≡ true
     → fresh a (grounded g t) ≡ true
-fresh_under_sound g ds m a t h = (fresh_grounded g a t).1 (applied_Fresh (listed ds) none (embedded g) (listed_met g ds m) a t (fresh_under_Fresh ds a t h))
+fresh_under_sound g ds m a t h = (fresh_grounded g a t).1 (applied_Fresh (listed_context ds) none (embedded g) (listed_met g ds m) a t (fresh_under_Fresh ds a t h))
 
 pub alpha_under_sound : (g : Grounding) (ds : Conds) → meets g ds ≡ true → (t u : NominalTerm) → alpha_under ds t u ≡ true
     → alpha (grounded g t) (grounded g u) ≡ true
-alpha_under_sound g ds m t u h = (alpha_grounded g t u).1 (applied_Equal (listed ds) none (embedded g) (listed_met g ds m) t u (alpha_under_Equal ds t u h))
+alpha_under_sound g ds m t u h = (alpha_grounded g t u).1 (applied_Equal (listed_context ds) none (embedded g) (listed_met g ds m) t u (alpha_under_Equal ds t u h))

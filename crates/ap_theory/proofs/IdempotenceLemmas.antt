@@ -5,7 +5,7 @@ use Rattle.ap_defs.specs.Freshness.{Conds, add_cond, add_conds, both, cond_befor
 use Rattle.ap_defs.specs.Permutations.{name_eq}
 use Rattle.ap_defs.specs.Substitution.{Binding, Equation, Problem, bound_term, moved, occurs, put, put_binding, under, ◌#◌, ◌:=◌, ◌≐◌}
 use Rattle.ap_defs.specs.Terms.{NominalTerm, abs, act_term, app, name, pair, susp, unit}
-use Rattle.ap_defs.specs.Unification.{Ending, Rule, Stage, Unified, after, apply_rule, bind, clash, ending, equations_of, finish, first_stage, problem_of, reduce_all, replace, rule, run, size, solved, steps_for, unfinished, unify, unsolvable, with_conditions}
+use Rattle.ap_defs.specs.Unification.{Ending, Rule, Stage, Unified, ending_after, apply_rule, bind, clash, ending, equations_of, finish, first_stage, problem_of, reduce_all, replace, rule, run, size, solved, steps_for, unfinished, unify, unsolvable, unified_under}
 use Rattle.ap_defs.specs.declared.terms.Cond.{Cond}
 use Rattle.ap_defs.specs.declared.terms.Name.{Name}
 use Rattle.ap_defs.specs.declared.terms.Swap.{Swap}
@@ -122,7 +122,7 @@ module _ (first : List Binding) where
   )
 
   after_extends : (k m : ℕ) → ((r : Stage) → EachEquation (IsUnbound r.bindings) r.equations → Extends first r.bindings → ExtendsIn first (run k r))
-      → (r : Rule) (es : List Equation) (ps : List Problem) (bs : List Binding) (whole : Stage) → Shrinks (IsUnbound bs) m r → EachEquation (IsUnbound bs) es → Extends first bs → ExtendsIn first (after (run k) whole (apply_rule r es ps bs))
+      → (r : Rule) (es : List Equation) (ps : List Problem) (bs : List Binding) (whole : Stage) → Shrinks (IsUnbound bs) m r → EachEquation (IsUnbound bs) es → Extends first bs → ExtendsIn first (ending_after (run k) whole (apply_rule r es ps bs))
   after_extends k m go (replace new qs) es ps bs whole s e h = go _ (each_equation-append (IsUnbound bs) new es s.1 e) h
   after_extends k m go (bind x v) es ps bs whole s e h =
       go _
@@ -194,7 +194,7 @@ abbrev pub ExtendsWell : List Binding → Option Unified → Type 0
 ExtendsWell first None = Unit {0}
 ExtendsWell first (Some r) = Extends first r.bindings × EachCond (IsUnbound r.bindings) r.conditions
 
-with_extends : (first bs : List Binding) → Extends first bs → (o : Option (List Cond)) → EachSome (IsUnbound bs) o → ExtendsWell first (with_conditions bs o)
+with_extends : (first bs : List Binding) → Extends first bs → (o : Option (List Cond)) → EachSome (IsUnbound bs) o → ExtendsWell first (unified_under bs o)
 with_extends first bs h None k = tt
 with_extends first bs h (Some cs) k = (h, each_add_all (IsUnbound bs) cs [] k tt)
 

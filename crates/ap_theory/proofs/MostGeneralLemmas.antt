@@ -5,7 +5,7 @@ use Rattle.ap_defs.specs.Freshness.{Conds, add_cond, add_conds, cond_before, con
 use Rattle.ap_defs.specs.Permutations.{name_eq}
 use Rattle.ap_defs.specs.Substitution.{Binding, Problem, bound_term, under, ◌#◌, ◌:=◌}
 use Rattle.ap_defs.specs.Terms.{NominalTerm}
-use Rattle.ap_defs.specs.Unification.{Ending, ending, equations_of, finish, first_stage, problem_of, reduce_all, solved, steps_for, unfinished, unify, unsolvable, with_conditions}
+use Rattle.ap_defs.specs.Unification.{Ending, ending, equations_of, finish, first_stage, problem_of, reduce_all, solved, steps_for, unfinished, unify, unsolvable, unified_under}
 use Rattle.ap_defs.specs.declared.terms.Cond.{Cond}
 use Rattle.ap_defs.specs.declared.terms.Var.{Var}
 use Rattle.ap_theory.specs.Contexts.{Context, Equal, Fresh}
@@ -70,11 +70,11 @@ module _ (d : Context) (s : Substitution) where
   Freshens_conds [] = iff_itself
   Freshens_conds (c ∷ cs) = iff_both (iff_same (Fresh d c.name) (act_term_none (s c.var))) (Freshens_conds cs)
 
-  IsInstance_with : (bs : List Binding) (o : Option (List Cond)) → IsInstance d s (with_conditions bs o) ↔ (Agrees d s bs × MeetsSome d s o)
+  IsInstance_with : (bs : List Binding) (o : Option (List Cond)) → IsInstance d s (unified_under bs o) ↔ (Agrees d s bs × MeetsSome d s o)
   IsInstance_with bs None = ((λ h. absurd h), (λ h. h.1))
   IsInstance_with bs (Some cs) = iff_both iff_itself (iff_trans (Meets_add_all cs []) ((λ h. h.0), (λ h. (h, tt))))
 
-  IsInstance_reduce : (bs : List Binding) (ps : List Problem) → IsInstance d s (with_conditions bs (reduce_all bs ps)) ↔ (Agrees d s bs × Freshens d s ps)
+  IsInstance_reduce : (bs : List Binding) (ps : List Problem) → IsInstance d s (unified_under bs (reduce_all bs ps)) ↔ (Agrees d s bs × Freshens d s ps)
   IsInstance_reduce bs ps = iff_trans (IsInstance_with bs (reduce_all bs ps)) (iff_when (λ h. iff_sym (Freshens_reduce bs h ps)))
 
   Equates_under : (bs : List Binding) → Agrees d s bs → (ts us : List NominalTerm) → EquatesAll d s ts us ↔ Equates d s (equations_of bs ts us)
@@ -91,7 +91,7 @@ module _ (d : Context) (s : Substitution) where
   finish_Solves ds unfinished k = iff_nothing (λ h. h.1)
   finish_Solves ds unsolvable k = iff_nothing (λ h. h.1)
   finish_Solves ds (solved r) k =
-      let all : IsInstance d s (with_conditions r.bindings (reduce_all r.bindings (map problem_of ds ++ r.problems))) ↔ (Agrees d s r.bindings × Freshens d s (map problem_of ds ++ r.problems)) =
+      let all : IsInstance d s (unified_under r.bindings (reduce_all r.bindings (map problem_of ds ++ r.problems))) ↔ (Agrees d s r.bindings × Freshens d s (map problem_of ds ++ r.problems)) =
       IsInstance_reduce r.bindings (map problem_of ds ++ r.problems) in
       let parts = Freshens-append d s (map problem_of ds) r.problems in
       let conds = Freshens_conds ds in (

@@ -4,11 +4,11 @@ use Rattle.std.specs.Prelude.{if◌then◌else◌, Option, Some, None}
 use Rattle.ap_defs.specs.Freshness.{Conds, alpha_under, cond_eq, fresh_under, has_cond, var_eq}
 use Rattle.ap_defs.specs.Substitution.{Binding, Equation, Problem, bound_term, moved, put_binding, under, ◌:=◌, ◌≐◌}
 use Rattle.ap_defs.specs.Terms.{NominalTerm, abs, app, name, pair, susp, unit}
-use Rattle.ap_defs.specs.Unification.{Ending, Rule, Stage, Unified, after, apply_rule, bind, clash, ending, equations_of, finish, first_stage, problem_of, reduce_all, replace, rule, run, size, solved, steps_for, unfinished, unify, unsolvable, with_conditions}
+use Rattle.ap_defs.specs.Unification.{Ending, Rule, Stage, Unified, ending_after, apply_rule, bind, clash, ending, equations_of, finish, first_stage, problem_of, reduce_all, replace, rule, run, size, solved, steps_for, unfinished, unify, unsolvable, unified_under}
 use Rattle.ap_defs.specs.declared.terms.Cond.{Cond}
 use Rattle.ap_defs.specs.declared.terms.Swap.{Swap}
 use Rattle.ap_defs.specs.declared.terms.Var.{Var}
-use Rattle.ap_theory.specs.Contexts.{Context, Equal, Fresh, listed}
+use Rattle.ap_theory.specs.Contexts.{Context, Equal, Fresh, listed_context}
 use Rattle.ap_theory.specs.StatementsOnResults.{equal_all_under, fresh_all_under}
 use Rattle.ap_theory.specs.Substitutions.{Agrees, EquatesAll, IsInstance, Meets, applied, bound_or_itself, substitution_of}
 use Rattle.ap_theory.specs.Variables.{BindsOnce, BindsUnbound, EachBinding, EachCond, EachTerm, EachVar, IsIdempotent, IsUnbound, is_bound}
@@ -37,36 +37,36 @@ agrees_itself d bs ((x := t) ∷ cs) m h o =
     )
 
 meets_itself : (bs : List Binding) (ds cs : Conds) → ((c : Cond) → has_cond c cs ≡ true → has_cond c ds ≡ true) → EachCond (IsUnbound bs) cs
-    → Meets (listed ds) (substitution_of bs) cs
+    → Meets (listed_context ds) (substitution_of bs) cs
 meets_itself bs ds [] m h = tt
 meets_itself bs ds (c ∷ cs) m h = (
-  subst (λ (z : NominalTerm). Fresh (listed ds) c.name z) (sym (ap (bound_or_itself c.var) (bound_term_unbound bs c.var h.0))) (m c (or_if_left (cond_eq c c) (has_cond c cs) (cond_eq_itself c))),
+  subst (λ (z : NominalTerm). Fresh (listed_context ds) c.name z) (sym (ap (bound_or_itself c.var) (bound_term_unbound bs c.var h.0))) (m c (or_if_left (cond_eq c c) (has_cond c cs) (cond_eq_itself c))),
   meets_itself bs ds cs (λ b k. m b (or_if_right (cond_eq b c) (has_cond b cs) k)) h.1,
 )
 
 -- a result that is idempotent and has conditions on unbound variables is its own instance
 pub result_itself : (r : Unified) → IsIdempotent r.bindings → EachCond (IsUnbound r.bindings) r.conditions
-    → IsInstance (listed r.conditions) (substitution_of r.bindings) (Some r)
+    → IsInstance (listed_context r.conditions) (substitution_of r.bindings) (Some r)
 result_itself r h k = (
-  agrees_itself (listed r.conditions) r.bindings r.bindings (λ y b. refl) h.0 h.1,
+  agrees_itself (listed_context r.conditions) r.bindings r.bindings (λ y b. refl) h.0 h.1,
   meets_itself r.bindings r.conditions r.conditions (λ c m. m) k,
 )
 
 abbrev SolvesItself : List Binding → Conds → List NominalTerm → List NominalTerm → Option Unified → Type 0
 SolvesItself bs ds ts us None = Unit {0}
 SolvesItself bs ds ts us (Some r) =
-    Meets (listed r.conditions) (substitution_of r.bindings) ds × Agrees (listed r.conditions) (substitution_of r.bindings) bs × EquatesAll (listed r.conditions) (substitution_of r.bindings) ts us
+    Meets (listed_context r.conditions) (substitution_of r.bindings) ds × Agrees (listed_context r.conditions) (substitution_of r.bindings) bs × EquatesAll (listed_context r.conditions) (substitution_of r.bindings) ts us
 
 -- the result solves what was to be solved
 pub unify_solves_itself : (bs : List Binding) (ds : Conds) (ts us : List NominalTerm) (r : Unified) → IsIdempotent bs → unify bs ds ts us ≡ Some r
     → SolvesItself bs ds ts us (Some r)
 unify_solves_itself bs ds ts us r h e =
     let well : ExtendsWell bs (Some r) = subst (ExtendsWell bs) e (unify_extends bs ds ts us h) in
-    (unify_Solves (listed r.conditions) (substitution_of r.bindings) bs ds ts us).1
-    (subst (IsInstance (listed r.conditions) (substitution_of r.bindings)) (sym e) (result_itself r well.0.0 well.1))
+    (unify_Solves (listed_context r.conditions) (substitution_of r.bindings) bs ds ts us).1
+    (subst (IsInstance (listed_context r.conditions) (substitution_of r.bindings)) (sym e) (result_itself r well.0.0 well.1))
 
 -- The same with the tests.
-equal_all_tested : (cs : Conds) (bs : List Binding) (ts us : List NominalTerm) → EquatesAll (listed cs) (substitution_of bs) ts us
+equal_all_tested : (cs : Conds) (bs : List Binding) (ts us : List NominalTerm) → EquatesAll (listed_context cs) (substitution_of bs) ts us
     → equal_all_under cs bs ts us ≡ true
 equal_all_tested cs bs [] us h = refl
 equal_all_tested cs bs (t ∷ ts) [] h = refl
@@ -75,7 +75,7 @@ equal_all_tested cs bs (t ∷ ts) (u ∷ us) h =
     (ap₂ (alpha_under cs) (under_applied bs t) (under_applied bs u) ∙ Equal_alpha_under cs (applied (substitution_of bs) t) (applied (substitution_of bs) u) h.0)
     (equal_all_tested cs bs ts us h.1)
 
-fresh_all_tested : (cs : Conds) (bs : List Binding) (ds : Conds) → Meets (listed cs) (substitution_of bs) ds → fresh_all_under cs bs ds ≡ true
+fresh_all_tested : (cs : Conds) (bs : List Binding) (ds : Conds) → Meets (listed_context cs) (substitution_of bs) ds → fresh_all_under cs bs ds ≡ true
 fresh_all_tested cs bs [] h = refl
 fresh_all_tested cs bs (d ∷ ds) h =
     and_both _ _
@@ -132,7 +132,7 @@ module _ (P : Var → Type 0) where
   KeepsIn (solved r) = EachProblem P r.problems × EachBinding P r.bindings
 
   after_keeps : (k m : ℕ) → ((r : Stage) → EachEquation P r.equations → EachProblem P r.problems → EachBinding P r.bindings → KeepsIn (run k r))
-      → (r : Rule) (es : List Equation) (ps : List Problem) (bs : List Binding) (whole : Stage) → Shrinks P m r → EachEquation P es → EachProblem P ps → EachBinding P bs → KeepsIn (after (run k) whole (apply_rule r es ps bs))
+      → (r : Rule) (es : List Equation) (ps : List Problem) (bs : List Binding) (whole : Stage) → Shrinks P m r → EachEquation P es → EachProblem P ps → EachBinding P bs → KeepsIn (ending_after (run k) whole (apply_rule r es ps bs))
   after_keeps k m go (replace new qs) es ps bs whole s e p b = go _ (each_equation-append P new es s.1 e) (each_problem-append P ps qs p s.2) b
   after_keeps k m go (bind x v) es ps bs whole s e p b =
       go _ (each_equation_put P P x v (λ z q n. q) s.1 es e) (each_problem_put P P x v (λ z q n. q) s.1 ps p) ((s.0, s.1), each_binding_put x v s.1 bs b)
@@ -156,7 +156,7 @@ module _ (P : Var → Type 0) where
   KeepsResult None = Unit {0}
   KeepsResult (Some r) = EachBinding P r.bindings × EachCond P r.conditions
 
-  with_keeps : (bs : List Binding) (o : Option (List Cond)) → EachBinding P bs → EachSome P o → KeepsResult (with_conditions bs o)
+  with_keeps : (bs : List Binding) (o : Option (List Cond)) → EachBinding P bs → EachSome P o → KeepsResult (unified_under bs o)
   with_keeps bs None h k = tt
   with_keeps bs (Some cs) h k = (h, each_add_all P cs [] k tt)
 

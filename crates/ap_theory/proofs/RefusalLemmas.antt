@@ -5,7 +5,7 @@ use Rattle.ap_defs.specs.Freshness.{Conds, add_conds, alpha_under, fresh_under}
 use Rattle.ap_defs.specs.Permutations.{swap_of}
 use Rattle.ap_defs.specs.Substitution.{Binding, under}
 use Rattle.ap_defs.specs.Terms.{NominalTerm, abs, act_term, app, name, pair, susp, unit}
-use Rattle.ap_defs.specs.Unification.{Ending, Unified, ending, finish, first_stage, problem_of, reduce_all, solved, unfinished, unify, unsolvable, with_conditions}
+use Rattle.ap_defs.specs.Unification.{Ending, Unified, ending, finish, first_stage, problem_of, reduce_all, solved, unfinished, unify, unsolvable, unified_under}
 use Rattle.ap_defs.specs.declared.terms.Cond.{Cond}
 use Rattle.ap_defs.specs.declared.terms.Name.{Name}
 use Rattle.ap_theory.specs.StatementsOnResults.{equal_all_under, has_same_head, have_same_heads}
@@ -62,7 +62,7 @@ abbrev HasSet : Option Unified → Type 0
 HasSet None = Unit {0}
 HasSet (Some r) = add_conds r.conditions [] ≡ r.conditions
 
-with_set : (bs : List Binding) (o : Option (List Cond)) → HasSet (with_conditions bs o)
+with_set : (bs : List Binding) (o : Option (List Cond)) → HasSet (unified_under bs o)
 with_set bs None = tt
 with_set bs (Some cs) = add_conds_twice cs
 

@@ -6,7 +6,7 @@ use Rattle.ap_defs.specs.Permutations.{IsSamePerm}
 use Rattle.ap_defs.specs.SameTerm.{SameBindings, SameEnding, SameEquations, SameProblems, SameRule, SameStage, SameTerm, SameTerms, SameUnified, next_binding, next_equation, next_problem, next_term, no_bindings, no_equations, no_problems, no_terms, same_abs, same_app, same_bind, same_clash, same_name, same_pair, same_replace, same_susp, same_unit}
 use Rattle.ap_defs.specs.Substitution.{Binding, Equation, Problem, bound_term, moved, put, put_binding, under, ◌:=◌}
 use Rattle.ap_defs.specs.Terms.{NominalTerm}
-use Rattle.ap_defs.specs.Unification.{Ending, Progress, Rule, Stage, Unified, after, apply_rule, done, ending, equations_of, failed, finish, first_stage, next, problem_of, reduce_all, run, solved, step, step_of, steps_for, unfinished, unify, unsolvable, with_conditions}
+use Rattle.ap_defs.specs.Unification.{Ending, Progress, Rule, Stage, Unified, ending_after, apply_rule, done, ending, equations_of, failed, finish, first_stage, next, problem_of, reduce_all, run, solved, step, step_of, steps_for, unfinished, unify, unsolvable, unified_under}
 use Rattle.ap_defs.specs.declared.terms.Cond.{Cond}
 use Rattle.ap_defs.specs.declared.terms.Swap.{Swap}
 use Rattle.ap_defs.specs.declared.terms.Var.{Var}
@@ -56,7 +56,7 @@ module _ (R : List Binding → List Binding → Type 0) (suits : Suits R) where
 
   after_by : (f g : Stage → Ending) → ((s r : Stage) → StageBy R s r → EndingBy R (f s) (g r)) → (s r : Stage) → StageBy R s r → (p q : Progress)
       → ProgressBy R p q
-      → EndingBy R (after f s p) (after g r q)
+      → EndingBy R (ending_after f s p) (ending_after g r q)
   after_by f g go s r h done done i = h
   after_by f g go s r h failed failed i = tt
   after_by f g go s r h (next s') (next r') i = go s' r' i
@@ -86,7 +86,7 @@ module _ (R : List Binding → List Binding → Type 0) (suits : Suits R) where
   reduce_all_by r s b no_problems = refl
   reduce_all_by r s b (next_problem {a} h i) = ap₂ both (reduce_same a (under_by r s b h)) (reduce_all_by r s b i)
 
-  with_by : (r s : List Binding) → R r s → (o : Option (List Cond)) → UnifiedBy R (with_conditions r o) (with_conditions s o)
+  with_by : (r s : List Binding) → R r s → (o : Option (List Cond)) → UnifiedBy R (unified_under r o) (unified_under s o)
   with_by r s b None = tt
   with_by r s b (Some cs) = (b, refl)
 
@@ -95,7 +95,7 @@ module _ (R : List Binding → List Binding → Type 0) (suits : Suits R) where
   finish_by ds unsolvable unsolvable h = tt
   finish_by ds (solved s) (solved r) h =
       let same = reduce_all_by s.bindings r.bindings h.2 (problems_append_same (conds_same ds) h.1) in
-      subst (λ (o : Option (List Cond)). UnifiedBy R (with_conditions s.bindings (reduce_all s.bindings (map problem_of ds ++ s.problems))) (with_conditions r.bindings o)) same
+      subst (λ (o : Option (List Cond)). UnifiedBy R (unified_under s.bindings (reduce_all s.bindings (map problem_of ds ++ s.problems))) (unified_under r.bindings o)) same
       (with_by s.bindings r.bindings h.2 (reduce_all s.bindings (map problem_of ds ++ s.problems)))
   finish_by ds _ _ h = absurd h
 

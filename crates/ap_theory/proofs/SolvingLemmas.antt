@@ -6,7 +6,7 @@ use Rattle.ap_defs.specs.Freshness.{var_eq}
 use Rattle.ap_defs.specs.Permutations.{disagreement, has_name, inverse, name_eq, swap_of}
 use Rattle.ap_defs.specs.Substitution.{Binding, Equation, Problem, occurs, put, put_binding, put_equation, put_problem, ◌#◌, ◌:=◌, ◌≐◌}
 use Rattle.ap_defs.specs.Terms.{NominalTerm, abs, act_term, app, name, pair, susp, unit}
-use Rattle.ap_defs.specs.Unification.{Ending, Progress, Rule, Stage, after, apply_rule, bind, clash, done, failed, fresh_for, next, replace, rule, run, size, solved, step, step_of, unfinished, unless_occurs, unsolvable}
+use Rattle.ap_defs.specs.Unification.{Ending, Progress, Rule, Stage, ending_after, apply_rule, bind, clash, done, failed, fresh_for, next, replace, rule, run, size, solved, step, step_of, unfinished, unless_occurs, unsolvable}
 use Rattle.ap_defs.specs.declared.terms.Name.{Name}
 use Rattle.ap_defs.specs.declared.terms.Swap.{Swap}
 use Rattle.ap_defs.specs.declared.terms.Var.{Var}
@@ -210,7 +210,7 @@ module _ (d : Context) (s : Substitution) where
       (apply_rule_Solves (rule t u) es ps bs (record { equations = (t ≐ u) ∷ es; problems = ps; bindings = bs }))
 
   after_Solves : (k : ℕ) (r : Stage) → ((r' : Stage) → HasEnded (run k r') → Solves d s r' ↔ SolvesEnding d s (run k r')) → (p : Progress)
-      → HasEnded (after (run k) r p) → Solves d s r ↔ SolvesNext d s r p → Solves d s r ↔ SolvesEnding d s (after (run k) r p)
+      → HasEnded (ending_after (run k) r p) → Solves d s r ↔ SolvesNext d s r p → Solves d s r ↔ SolvesEnding d s (ending_after (run k) r p)
   after_Solves k r go done e h = h
   after_Solves k r go failed e h = h
   after_Solves k r go (next r') e h = iff_trans h (go r' e)

@@ -7,7 +7,7 @@ use Rattle.ap_defs.specs.Occurrences.{without_var}
 use Rattle.ap_defs.specs.Permutations.{disagreement, inverse, name_eq, swap_of}
 use Rattle.ap_defs.specs.Substitution.{Binding, Equation, Problem, occurs, put, put_binding, put_equation, put_problem, ◌#◌, ◌:=◌, ◌≐◌}
 use Rattle.ap_defs.specs.Terms.{NominalTerm, abs, act_term, app, name, pair, susp, unit}
-use Rattle.ap_defs.specs.Unification.{Ending, Progress, Rule, Stage, after, apply_rule, bind, clash, distinct_vars, done, ending, enough, failed, fresh_for, has_var, next, replace, rule, run, size, size_of, solved, step, steps_for, unfinished, unless_occurs, unsolvable, vars_of, vars_then}
+use Rattle.ap_defs.specs.Unification.{Ending, Progress, Rule, Stage, ending_after, apply_rule, bind, clash, distinct_vars, done, ending, enough, failed, fresh_for, has_var, next, replace, rule, run, size, size_of, solved, step, steps_for, unfinished, unless_occurs, unsolvable, vars_of, vars_then}
 use Rattle.ap_defs.specs.declared.terms.Swap.{Swap}
 use Rattle.ap_defs.specs.declared.terms.Var.{Var}
 use Rattle.ap_theory.specs.Variables.{EachVar}
@@ -21,8 +21,8 @@ HasEnded unfinished = ⊥
 HasEnded unsolvable = Unit {0}
 HasEnded (solved s) = Unit {0}
 
-after_more : (f g : Stage → Ending) (s : Stage) → ((s' : Stage) → HasEnded (f s') → g s' ≡ f s') → (p : Progress) → HasEnded (after f s p)
-    → after g s p ≡ after f s p
+after_more : (f g : Stage → Ending) (s : Stage) → ((s' : Stage) → HasEnded (f s') → g s' ≡ f s') → (p : Progress) → HasEnded (ending_after f s p)
+    → ending_after g s p ≡ ending_after f s p
 after_more f g s go done h = refl
 after_more f g s go failed h = refl
 after_more f g s go (next s') h = go s' h
@@ -137,7 +137,7 @@ after_rule : (k : ℕ) (vs : List Var) (m : ℕ) (t u : NominalTerm) (es : List 
     → EachEquation (Among vs) es → size t + size u + size_of es ≤ m
     → ((fs : List Equation) (qs : List Problem) → EachEquation (Among vs) fs → size_of fs < size t + size u + size_of es → HasEnded (run k (record { equations = fs; problems = qs; bindings = s })))
     → ((x : Var) → has_var x vs ≡ true → EndsWithin k (without_var x vs) (m * m))
-    → (r : Rule) → Shrinks (Among vs) (size t + size u) r → (whole : Stage) → HasEnded (after (run k) whole (apply_rule r es ps s))
+    → (r : Rule) → Shrinks (Among vs) (size t + size u) r → (whole : Stage) → HasEnded (ending_after (run k) whole (apply_rule r es ps s))
 after_rule k vs m t u es ps s h l plain bound (replace new qs) r whole =
     plain (new ++ es) (ps ++ qs) (each_equation-append (Among vs) new es r.1 h) (let e = size_of-append new es in let f = r.0 in omega arith)
 after_rule k vs m t u es ps s h l plain bound (bind x v) r whole =
@@ -218,16 +218,16 @@ unfolding ending
 ending_next s s' e =
     let k = steps_for s in
     let j = steps_for s' in
-    let one : run (suc (k + j)) s ≡ run (k + j) s' = ap (after (run (k + j)) s) e in
+    let one : run (suc (k + j)) s ≡ run (k + j) s' = ap (ending_after (run (k + j)) s) e in
     sym (run_more k (suc (k + j)) s (omega arith) (ending_ends s)) ∙ one ∙ run_more j (k + j) s' (omega arith) (ending_ends s')
 
 pub ending_failed : (s : Stage) → step s ≡ failed → ending s ≡ unsolvable
 unfolding ending
-ending_failed s e = sym (run_more (steps_for s) (suc (steps_for s)) s (omega arith) (ending_ends s)) ∙ ap (after (run (steps_for s)) s) e
+ending_failed s e = sym (run_more (steps_for s) (suc (steps_for s)) s (omega arith) (ending_ends s)) ∙ ap (ending_after (run (steps_for s)) s) e
 
 pub ending_done : (s : Stage) → step s ≡ done → ending s ≡ solved s
 unfolding ending
-ending_done s e = sym (run_more (steps_for s) (suc (steps_for s)) s (omega arith) (ending_ends s)) ∙ ap (after (run (steps_for s)) s) e
+ending_done s e = sym (run_more (steps_for s) (suc (steps_for s)) s (omega arith) (ending_ends s)) ∙ ap (ending_after (run (steps_for s)) s) e
 
 -- the ending of a stage, by any number of steps in which it ends
 pub ending_by : (k : ℕ) (s : Stage) → HasEnded (run k s) → ending s ≡ run k s
@@ -245,7 +245,7 @@ abbrev pub count : ℕ → Stage → ℕ
 count zero s = 0
 count (suc k) s = counted (count k) (step s)
 
-counted_more : (k j : ℕ) (s : Stage) → ((s' : Stage) → HasEnded (run k s') → count j s' ≡ count k s') → (p : Progress) → HasEnded (after (run k) s p)
+counted_more : (k j : ℕ) (s : Stage) → ((s' : Stage) → HasEnded (run k s') → count j s' ≡ count k s') → (p : Progress) → HasEnded (ending_after (run k) s p)
     → counted (count j) p ≡ counted (count k) p
 counted_more k j s go done h = refl
 counted_more k j s go failed h = refl
@@ -290,7 +290,7 @@ IsSpent unsolvable = Unit {0}
 IsSpent (solved s) = s.equations ≡ []
 
 spent_rule : (k : ℕ) (r : Rule) (es : List Equation) (ps : List Problem) (s : List Binding) (whole : Stage) → ((s' : Stage) → IsSpent (run k s'))
-    → IsSpent (after (run k) whole (apply_rule r es ps s))
+    → IsSpent (ending_after (run k) whole (apply_rule r es ps s))
 spent_rule k (replace new qs) es ps s whole go = go _
 spent_rule k (bind x v) es ps s whole go = go _
 spent_rule k clash es ps s whole go = tt

@@ -35,5 +35,5 @@ abbrev pub FreshWhereTheyDiffer : Context → List Swap → List Swap → Nomina
 FreshWhereTheyDiffer d p q t = (c : Name) → act_name p c ≢ act_name q c → Fresh d c t
 
 -- a list of conditions says what stands in it
-abbrev pub listed : Conds → Context
-listed ds a x = has_cond (record { name = a; var = x }) ds ≡ true
+abbrev pub listed_context : Conds → Context
+listed_context ds a x = has_cond (record { name = a; var = x }) ds ≡ true

@@ -56,10 +56,10 @@ abbrev pub collected : Option (List Cond) → Option Conds
 collected None = None
 collected (Some cs) = Some (add_conds cs [])
 
-abbrev pub joined : Option Conds → Option Conds → Option Conds
-joined None p = None
-joined (Some cs) None = None
-joined (Some cs) (Some ds) = Some (add_conds cs ds)
+abbrev pub joined_conditions : Option Conds → Option Conds → Option Conds
+joined_conditions None p = None
+joined_conditions (Some cs) None = None
+joined_conditions (Some cs) (Some ds) = Some (add_conds cs ds)
 
 -- Problems may be reduced as soon as they arise, and only the set of conditions kept: once bindings are added, what that set
 -- reduces to is what the problems reduce to. So a problem that is refuted early stays refuted.
@@ -68,4 +68,4 @@ EarlyReductionSuffices = (bs cs : List Binding) → ((t : NominalTerm) → under
     → collected (reduce_all cs ps) ≡ collected (reduce_again cs (collected (reduce_all bs ps)))
 
 abbrev pub CollectingInParts : Type 0
-CollectingInParts = (o p : Option (List Cond)) → collected (both o p) ≡ joined (collected o) (collected p)
+CollectingInParts = (o p : Option (List Cond)) → collected (both o p) ≡ joined_conditions (collected o) (collected p)

@@ -8,14 +8,14 @@ use Rattle.ap_defs.specs.Terms.{NominalTerm, act_term}
 use Rattle.ap_defs.specs.declared.terms.Cond.{Cond}
 use Rattle.ap_defs.specs.declared.terms.Name.{Name}
 use Rattle.ap_defs.specs.declared.terms.Swap.{Swap}
-use Rattle.ap_theory.specs.Contexts.{Equal, Fresh, listed}
+use Rattle.ap_theory.specs.Contexts.{Equal, Fresh, listed_context}
 
 -- the tests are true just where what they test holds
 abbrev pub FreshnessIsTested : Type 0
-FreshnessIsTested = (ds : Conds) (a : Name) (t : NominalTerm) → fresh_under ds a t ≡ true ↔ Fresh (listed ds) a t
+FreshnessIsTested = (ds : Conds) (a : Name) (t : NominalTerm) → fresh_under ds a t ≡ true ↔ Fresh (listed_context ds) a t
 
 abbrev pub EqualityIsTested : Type 0
-EqualityIsTested = (ds : Conds) (t u : NominalTerm) → alpha_under ds t u ≡ true ↔ Equal (listed ds) t u
+EqualityIsTested = (ds : Conds) (t u : NominalTerm) → alpha_under ds t u ≡ true ↔ Equal (listed_context ds) t u
 
 abbrev pub AlphaUnderIsReflexive : Type 0
 AlphaUnderIsReflexive = (ds : Conds) (t : NominalTerm) → alpha_under ds t t ≡ true

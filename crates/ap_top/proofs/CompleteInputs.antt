@@ -2,7 +2,7 @@
 use Rattle.std.proofs.Common.{ℕ, List, Option, Some, None}
 use Rattle.ap_report.proofs.CompleteTexts.{complete_text}
 use Rattle.ap_bundle_cover.proofs.CoveredProofs.{covered_proofs}
-use Rattle.ap_top.specs.Report.{IsCompleteFor, Broken, HasCompleteAnswers, Input, Over, Whole}
+use Rattle.ap_top.specs.Report.{IsCompleteFor, Broken, AreAnswersComplete, Input, Over, Whole}
 use Rattle.ap_words.specs.declared.Asked.{Asked}
 use Rattle.ap_words.specs.declared.Asked.TheVariants as asked
 use Rattle.ap_words.specs.Words.{asked_of}
@@ -24,5 +24,5 @@ complete_for (Some (asked.Cover depth workers)) Broken = tt
 complete_for (Some (asked.Examine depth workers)) input = tt
 complete_for (Some (asked.Work seed size workers)) input = tt
 
-pub complete_input : (words : List (List ℕ)) (input : Input) → HasCompleteAnswers words input
+pub complete_input : (words : List (List ℕ)) (input : Input) → AreAnswersComplete words input
 complete_input words input = complete_for (asked_of words) input

@@ -54,7 +54,7 @@ told_proofs : (depth : ℕ) (ds : List NominalProved) (p : NominalProgram) (o : 
 told_proofs depth ds p None = told_covers depth ds p
 told_proofs depth ds p (Some r) = tt
 
-told_covered : (depth : ℕ) (read : Result NominalBundle BundleFault) (r : Report) → cover.IsReadReport depth read r → IsTold r.status
+told_covered : (depth : ℕ) (read : Result NominalBundle BundleFault) (r : Report) → cover.IsReadCoverReport depth read r → IsTold r.status
 told_covered depth (Ok b) r is = told_text (cover_report depth b.proved) (λ p. told_proofs depth b.proved p (first_refused p 1 b.proved)) b.text r is
 told_covered depth (Err f) r is = subst (λ x. IsTold x.status) (sym is) tt
 

@@ -4,7 +4,7 @@ use Rattle.ap_report.proofs.SoundTexts.{sound_text}
 use Rattle.ap_bundle_prove.proofs.SoundProofs.{sound_proofs}
 use Rattle.ap_bundle_check.proofs.SoundVerdicts.{sound_verdicts}
 use Rattle.ap_examine.proofs.RefutingLemmas.{text_sound}
-use Rattle.ap_top.specs.Report.{IsSoundFor, Broken, HasSoundAnswers, Input, Over, Whole}
+use Rattle.ap_top.specs.Report.{IsSoundFor, Broken, AreAnswersSound, Input, Over, Whole}
 use Rattle.ap_words.specs.declared.Asked.{Asked}
 use Rattle.ap_words.specs.declared.Asked.TheVariants as asked
 use Rattle.ap_words.specs.Words.{asked_of}
@@ -30,5 +30,5 @@ sound_for (Some (asked.Examine depth workers)) Over = tt
 sound_for (Some (asked.Examine depth workers)) Broken = tt
 sound_for (Some (asked.Work seed size workers)) input = tt
 
-pub sound_input : (words : List (List ℕ)) (input : Input) → HasSoundAnswers words input
+pub sound_input : (words : List (List ℕ)) (input : Input) → AreAnswersSound words input
 sound_input words input = sound_for (asked_of words) input

@@ -69,12 +69,12 @@ IsSoundFor (Some (asked.Cover depth workers)) (Whole bundle) = HasSoundVerdicts 
 IsSoundFor (Some (asked.Examine depth workers)) (Whole text) = HasSoundExams depth text
 IsSoundFor _ _ = Unit {0}
 
-abbrev pub HasSoundAnswers : List (List ℕ) → Input → Type 0
-HasSoundAnswers words input = IsSoundFor (asked_of words) input
+abbrev pub AreAnswersSound : List (List ℕ) → Input → Type 0
+AreAnswersSound words input = IsSoundFor (asked_of words) input
 
 -- there is no other
-abbrev pub IsOnly : (Report → Type 0) → Report → Type 0
-IsOnly P r = P r × ((s : Report) → P s → s ≡ r)
+abbrev pub IsOnlyReport : (Report → Type 0) → Report → Type 0
+IsOnlyReport P r = P r × ((s : Report) → P s → s ≡ r)
 
 -- and complete
 abbrev pub IsCompleteFor : Option Asked → Input → Type 0
@@ -83,12 +83,12 @@ IsCompleteFor (Some (asked.Prove depth workers limit)) (Whole text) = IsComplete
 IsCompleteFor (Some (asked.Cover depth workers)) (Whole bundle) = HasCoveredProofs depth bundle
 IsCompleteFor _ _ = Unit {0}
 
-abbrev pub HasCompleteAnswers : List (List ℕ) → Input → Type 0
-HasCompleteAnswers words input = IsCompleteFor (asked_of words) input
+abbrev pub AreAnswersComplete : List (List ℕ) → Input → Type 0
+AreAnswersComplete words input = IsCompleteFor (asked_of words) input
 
 -- The report of the words and the input: there is no other, and its answers are sound and complete.
 pub record IsTheReport (words : List (List ℕ)) (input : Input) (r : Report) : Type 0 where
   pub is : IsReport words input r
   pub only : (s : Report) → IsReport words input s → s ≡ r
-  pub sound : HasSoundAnswers words input
-  pub complete : HasCompleteAnswers words input
+  pub sound : AreAnswersSound words input
+  pub complete : AreAnswersComplete words input

@@ -1,7 +1,7 @@
 // The commands, each with a module of its own.
 ghost use Rattle.std.specs.Prelude.{◌≡◌, IfOk, Some, false, true};
 ghost use Rattle.ap_report.specs.declared.report.Report.{Report};
-ghost use Rattle.ap_top.specs.Report.{Input, IsOnly, IsReportFor, is_reading};
+ghost use Rattle.ap_top.specs.Report.{Input, IsOnlyReport, IsReportFor, is_reading};
 ghost use Rattle.ap_top.specs.Run.{IsRead};
 
 mod check;
@@ -33,7 +33,7 @@ pub(crate) fn report_of<R: Threads + Wait + Sync, S: Source, G: Gate>(
     ensures made { IfOk result (λ r. (input : Input)
         × (is_reading (Some asked) ≡ true →
         IsRead (S.left source.old) (S.faults source.old) (S.faults source.new) input)
-        × IsOnly (IsReportFor asked input) r) }
+        × IsOnlyReport (IsReportFor asked input) r) }
 {
     match asked {
         Asked::Run {

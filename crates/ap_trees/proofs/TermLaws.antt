@@ -1,9 +1,9 @@
 -- What is read is in the grammar of terms, and what is in it is read.
 use Rattle.std.proofs.Common.{◌≡◌, ℕ, zero, suc, ◌<◌, ◌≤◌, List, [], ◌∷◌, length, Option, None, Some, IfSome, refl, sym, ◌∙◌, arith, subst}
-use Rattle.ap_trees.specs.Readers.{Reader, with_front, further, separated, after_comma, after_lambda, after_close, after_close_list, at_end, after_open}
+use Rattle.ap_trees.specs.Readers.{SymbolReader, with_before, further, separated, after_comma, after_lambda, after_close, after_close_list, at_end, after_open}
 use Rattle.ap_trees.specs.Symbols.{Sym, Swap, Var, Ident, Open, Close, OpenList, CloseList, Comma, Bar, Lambda}
 use Rattle.ap_trees.specs.TermReader.{read_id, side, swapped, abstraction, list_within, application, word_term, variable, group, list_end, full_list, list_of, read_term, all_term}
-use Rattle.ap_trees.specs.Terms.{Name, Swapped, Term, OfWord, OfVar, Unit, Variable, Word, Apply, Nil, Abs, arguments, tuple, cells}
+use Rattle.ap_trees.specs.Terms.{Name, Swapped, Term, OfWord, OfVar, Unit, Variable, Word, Apply, Nil, Abs, argument_terms, tuple, cells}
 use Rattle.ap_trees.specs.TermGrammar.{IsTerm, IsEnd, AreTerms, a_variable, a_word, under, applied, the_unit, grouped, the_nil, listed, swapping, IsId, an_ident, a_var, no_bar, behind_bar, only_one, and_more}
 use Rattle.ap_trees.proofs.TypeLaws.{bind_if, close_is, close_list_is, read_sole, read_several}
 
@@ -19,28 +19,28 @@ pub comma_is : (ts : List Sym) → IfSome (after_comma ts) (λ us. ts ≡ Comma 
 comma_is (Comma ∷ us) = refl
 comma_is ts = tt
 
-abbrev pub Sound : Reader Term → Type 0
+abbrev pub Sound : SymbolReader Term → Type 0
 Sound read = (ts : List Sym) → IfSome (read ts) (λ x. IsTerm ts x.0 x.1)
 
-further_sound : (others : Reader (List Term)) → ((us : List Sym) → IfSome (others us) (λ y. AreTerms us y.0 y.1)) → (ts : List Sym) (x : Term) (after : List Sym) → IsTerm ts x after
-    → IfSome (with_front (x ∷ []) (further after_comma others after)) (λ y. AreTerms ts y.0 y.1)
+further_sound : (others : SymbolReader (List Term)) → ((us : List Sym) → IfSome (others us) (λ y. AreTerms us y.0 y.1)) → (ts : List Sym) (x : Term) (after : List Sym) → IsTerm ts x after
+    → IfSome (with_before (x ∷ []) (further after_comma others after)) (λ y. AreTerms ts y.0 y.1)
 further_sound others sound ts x (Comma ∷ us) h = bind_if (others us) _ _ _ (sound us) (λ y g. and_more h g)
 further_sound others sound ts x after h = only_one h
 
-pub terms_sound : (read : Reader Term) → Sound read → (k : ℕ) (ts : List Sym) → IfSome (separated after_comma read k ts) (λ x. AreTerms ts x.0 x.1)
+pub terms_sound : (read : SymbolReader Term) → Sound read → (k : ℕ) (ts : List Sym) → IfSome (separated after_comma read k ts) (λ x. AreTerms ts x.0 x.1)
 unfolding separated
 terms_sound read sound zero ts = tt
 terms_sound read sound (suc k) ts = bind_if (read ts) _ _ _ (sound ts) (λ first h. further_sound (separated after_comma read k) (terms_sound read sound k) ts first.0 first.1 h)
 
-within_sound : (read : Reader Term) → Sound read → (ts : List Sym) → IfSome (list_within read ts) (λ x. AreTerms ts x.0 x.1)
+within_sound : (read : SymbolReader Term) → Sound read → (ts : List Sym) → IfSome (list_within read ts) (λ x. AreTerms ts x.0 x.1)
 within_sound read sound ts = terms_sound read sound (length ts) ts
 
-variable_sound : (read : Reader Term) → Sound read → (w : List ℕ) (ts : List Sym) → IfSome (variable read w ts) (λ x. IsTerm (Var w ∷ ts) x.0 x.1)
+variable_sound : (read : SymbolReader Term) → Sound read → (w : List ℕ) (ts : List Sym) → IfSome (variable read w ts) (λ x. IsTerm (Var w ∷ ts) x.0 x.1)
 unfolding variable abstraction
 variable_sound read sound w (Lambda ∷ us) = bind_if (read us) _ _ _ (sound us) (λ x h. under a_var h)
 variable_sound read sound w ts = a_variable
 
-word_sound : (read : Reader Term) → Sound read → (w : List ℕ) (ts : List Sym) → IfSome (word_term read w ts) (λ x. IsTerm (Ident w ∷ ts) x.0 x.1)
+word_sound : (read : SymbolReader Term) → Sound read → (w : List ℕ) (ts : List Sym) → IfSome (word_term read w ts) (λ x. IsTerm (Ident w ∷ ts) x.0 x.1)
 unfolding word_term abstraction application
 word_sound read sound w (Lambda ∷ us) = bind_if (read us) _ _ _ (sound us) (λ x h. under an_ident h)
 word_sound read sound w (Open ∷ us) =
@@ -48,19 +48,19 @@ word_sound read sound w (Open ∷ us) =
     (λ parts h. bind_if (after_close parts.1) _ _ _ (close_is parts.1) (λ rest e. applied parts.0 (subst (AreTerms us parts.0) e h)))
 word_sound read sound w ts = a_word
 
-group_sound : (read : Reader Term) → Sound read → (ts : List Sym) → IfSome (group read ts) (λ x. IsTerm (Open ∷ ts) x.0 x.1)
+group_sound : (read : SymbolReader Term) → Sound read → (ts : List Sym) → IfSome (group read ts) (λ x. IsTerm (Open ∷ ts) x.0 x.1)
 unfolding group
 group_sound read sound (Close ∷ us) = the_unit
 group_sound read sound ts =
     bind_if (list_within read ts) _ _ _ (within_sound read sound ts)
     (λ parts h. bind_if (after_close parts.1) _ _ _ (close_is parts.1) (λ rest e. grouped parts.0 (subst (AreTerms ts parts.0) e h)))
 
-end_sound : (read : Reader Term) → Sound read → (ts : List Sym) → IfSome (list_end read ts) (λ x. IsEnd ts x.0 x.1)
+end_sound : (read : SymbolReader Term) → Sound read → (ts : List Sym) → IfSome (list_end read ts) (λ x. IsEnd ts x.0 x.1)
 unfolding list_end
 end_sound read sound (Bar ∷ us) = if_also (read us) _ _ (sound us) (λ x h. behind_bar h)
 end_sound read sound ts = no_bar
 
-full_sound : (read : Reader Term) → Sound read → (ts : List Sym) → IfSome (full_list read ts) (λ x. IsTerm (OpenList ∷ ts) x.0 x.1)
+full_sound : (read : SymbolReader Term) → Sound read → (ts : List Sym) → IfSome (full_list read ts) (λ x. IsTerm (OpenList ∷ ts) x.0 x.1)
 unfolding full_list
 full_sound read sound ts =
     bind_if (list_within read ts) _ _ _ (within_sound read sound ts)
@@ -76,7 +76,7 @@ side_sound : (ts : List Sym) → IfSome (side ts) (λ x. IsId ts x.0 (Comma ∷ 
 unfolding side
 side_sound ts = bind_if (read_id ts) _ _ _ (id_sound ts) (λ name i. bind_if (after_comma name.1) _ _ _ (comma_is name.1) (λ rest e. subst (IsId ts name.0) e i))
 
-swapped_sound : (read : Reader Term) → Sound read → (ts : List Sym) → IfSome (swapped read ts) (λ x. IsTerm (Swap ∷ ts) x.0 x.1)
+swapped_sound : (read : SymbolReader Term) → Sound read → (ts : List Sym) → IfSome (swapped read ts) (λ x. IsTerm (Swap ∷ ts) x.0 x.1)
 unfolding swapped
 swapped_sound read sound ts =
     bind_if (after_open ts) _ _ _ (open_is ts)
@@ -86,7 +86,7 @@ swapped_sound read sound ts =
     (λ body h. bind_if (after_close body.1) _ _ _ (close_is body.1)
     (λ rest e. subst (λ us. IsTerm (Swap ∷ us) (Swapped left.0 right.0 body.0) rest) (sym o) (swapping i j (subst (IsTerm right.1 body.0) e h)))))))
 
-list_sound : (read : Reader Term) → Sound read → (ts : List Sym) → IfSome (list_of read ts) (λ x. IsTerm (OpenList ∷ ts) x.0 x.1)
+list_sound : (read : SymbolReader Term) → Sound read → (ts : List Sym) → IfSome (list_of read ts) (λ x. IsTerm (OpenList ∷ ts) x.0 x.1)
 unfolding list_of
 list_sound read sound (CloseList ∷ us) = the_nil
 list_sound read sound ts = full_sound read sound ts
@@ -175,7 +175,7 @@ unfolding read_term word_term abstraction
 read_under_word n w ts rest t got = rw got refl
 
 read_applied : (n : ℕ) (w : List ℕ) (ts rest : List Sym) (parts : List Term) → separated after_comma (read_term n) (length ts) ts ≡ Some (parts, Close ∷ rest)
-    → read_term (suc n) (Ident w ∷ Open ∷ ts) ≡ Some (Apply w (arguments parts), rest)
+    → read_term (suc n) (Ident w ∷ Open ∷ ts) ≡ Some (Apply w (argument_terms parts), rest)
 unfolding read_term word_term application
 read_applied n w ts rest parts got = rw got refl
 

@@ -1,6 +1,6 @@
 -- What is built of a list of terms, from its end.
 use Rattle.std.proofs.Common.{◌≡◌, List, [], ◌∷◌, ◌++◌, refl, ap}
-use Rattle.ap_trees.specs.Terms.{Term, Terms, Pair, Cell, Last, More, tuple, cells, arguments}
+use Rattle.ap_trees.specs.Terms.{Term, Terms, Pair, Cell, Last, More, tuple, cells, argument_terms}
 
 pub tuple_end : (ts : List Term) (t u : Term) → tuple (ts ++ t ∷ u ∷ []) ≡ tuple (ts ++ Pair t u ∷ [])
 tuple_end [] t u = refl
@@ -20,7 +20,7 @@ pub onto_end : (ts : List Term) (t : Term) (args : Terms) → onto (ts ++ t ∷ 
 onto_end [] t args = refl
 onto_end (s ∷ ts) t args = ap (λ v. More s v) (onto_end ts t args)
 
-pub onto_last : (ts : List Term) (t : Term) → onto ts (Last t) ≡ arguments (ts ++ t ∷ [])
+pub onto_last : (ts : List Term) (t : Term) → onto ts (Last t) ≡ argument_terms (ts ++ t ∷ [])
 onto_last [] t = refl
 onto_last (s ∷ []) t = refl
 onto_last (s ∷ r ∷ ts) t = ap (λ v. More s v) (onto_last (r ∷ ts) t)

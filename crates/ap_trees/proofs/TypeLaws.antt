@@ -1,12 +1,12 @@
 -- What is read is in the grammar, and what is in the grammar is read.
 use Rattle.std.proofs.Common.{◌≡◌, ℕ, zero, suc, ◌<◌, ◌≤◌, List, [], ◌∷◌, length, Option, None, Some, IfSome, Result, Ok, Err, IfOk, refl, sym, ap, ◌∙◌, arith, subst}
 use Rattle.ap_trees.specs.declared.outcome.ReadError.{ReadError}
-use Rattle.ap_trees.specs.Outcomes.{Gives}
-use Rattle.ap_trees.specs.Readers.{Reader, ◌>>=◌, with_front, further, separated, after_comma, after_lambda, after_close, after_close_list, at_end}
+use Rattle.ap_trees.specs.Outcomes.{GivesPart}
+use Rattle.ap_trees.specs.Readers.{SymbolReader, ◌>>=◌, with_before, further, separated, after_comma, after_lambda, after_close, after_close_list, at_end}
 use Rattle.ap_trees.specs.Symbols.{Sym, Ident, Open, Close, OpenList, CloseList, Comma, Lambda}
 use Rattle.ap_trees.specs.TypeGrammar.{IsType, AreTypes, word, abs, unit, group, array, sole, several}
 use Rattle.ap_trees.specs.TypeReader.{read_type, type_after_word, type_after_open, all_type}
-use Rattle.ap_trees.specs.Types.{Ty, Unit, Word, Array, Abs, tuple}
+use Rattle.ap_trees.specs.Types.{Ty, Unit, Word, Array, Abs, tuple_type}
 
 -- what holds after two steps
 pub bind_if : {A B : Type 0} (r : Option A) (f : A → Option B) (P : A → Type 0) (Q : B → Type 0) → IfSome r P → ((x : A) → P x → IfSome (f x) Q) → IfSome (r >>= f) Q
@@ -22,27 +22,27 @@ close_list_is (CloseList ∷ us) = refl
 close_list_is ts = tt
 
 -- a reader whose readings are types
-abbrev pub Sound : Reader Ty → Type 0
+abbrev pub Sound : SymbolReader Ty → Type 0
 Sound read = (ts : List Sym) → IfSome (read ts) (λ x. IsType ts x.0 x.1)
 
-further_sound : (others : Reader (List Ty)) → ((us : List Sym) → IfSome (others us) (λ y. AreTypes us y.0 y.1)) → (ts : List Sym) (x : Ty) (after : List Sym) → IsType ts x after
-    → IfSome (with_front (x ∷ []) (further after_comma others after)) (λ y. AreTypes ts y.0 y.1)
+further_sound : (others : SymbolReader (List Ty)) → ((us : List Sym) → IfSome (others us) (λ y. AreTypes us y.0 y.1)) → (ts : List Sym) (x : Ty) (after : List Sym) → IsType ts x after
+    → IfSome (with_before (x ∷ []) (further after_comma others after)) (λ y. AreTypes ts y.0 y.1)
 further_sound others sound ts x (Comma ∷ us) h = bind_if (others us) _ _ _ (sound us) (λ y g. several h g)
 further_sound others sound ts x after h = sole h
 
-pub types_sound : (read : Reader Ty) → Sound read → (k : ℕ) (ts : List Sym) → IfSome (separated after_comma read k ts) (λ x. AreTypes ts x.0 x.1)
+pub types_sound : (read : SymbolReader Ty) → Sound read → (k : ℕ) (ts : List Sym) → IfSome (separated after_comma read k ts) (λ x. AreTypes ts x.0 x.1)
 unfolding separated
 types_sound read sound zero ts = tt
 types_sound read sound (suc k) ts = bind_if (read ts) _ _ _ (sound ts) (λ first h. further_sound (separated after_comma read k) (types_sound read sound k) ts first.0 first.1 h)
 
-word_sound : (read : Reader Ty) → Sound read → (w : List ℕ) (ts : List Sym) → IfSome (type_after_word read w ts (after_lambda ts)) (λ x. IsType (Ident w ∷ ts) x.0 x.1)
+word_sound : (read : SymbolReader Ty) → Sound read → (w : List ℕ) (ts : List Sym) → IfSome (type_after_word read w ts (after_lambda ts)) (λ x. IsType (Ident w ∷ ts) x.0 x.1)
 word_sound read sound w (Lambda ∷ us) = bind_if (read us) _ _ _ (sound us) (λ x h. abs h)
 word_sound read sound w ts = word
 
-group_sound : (ts : List Sym) (parts : List Ty) (after : List Sym) → AreTypes ts parts after → IfSome {T = Ty × List Sym} (after_close after >>= (λ rest. Some (tuple parts, rest))) (λ x. IsType (Open ∷ ts) x.0 x.1)
+group_sound : (ts : List Sym) (parts : List Ty) (after : List Sym) → AreTypes ts parts after → IfSome {T = Ty × List Sym} (after_close after >>= (λ rest. Some (tuple_type parts, rest))) (λ x. IsType (Open ∷ ts) x.0 x.1)
 group_sound ts parts after h = bind_if (after_close after) _ _ _ (close_is after) (λ rest e. group parts (subst (AreTypes ts parts) e h))
 
-open_sound : (others : Reader (List Ty)) → ((us : List Sym) → IfSome (others us) (λ y. AreTypes us y.0 y.1)) → (ts : List Sym) → IfSome (type_after_open others ts (after_close ts)) (λ x. IsType (Open ∷ ts) x.0 x.1)
+open_sound : (others : SymbolReader (List Ty)) → ((us : List Sym) → IfSome (others us) (λ y. AreTypes us y.0 y.1)) → (ts : List Sym) → IfSome (type_after_open others ts (after_close ts)) (λ x. IsType (Open ∷ ts) x.0 x.1)
 open_sound others sound (Close ∷ us) = unit
 open_sound others sound ts = bind_if (others ts) _ _ _ (sound ts) (λ parts h. group_sound ts parts.0 parts.1 h)
 
@@ -93,7 +93,7 @@ read_unit : (n : ℕ) (ts : List Sym) → read_type (suc n) (Open ∷ Close ∷ 
 unfolding read_type
 read_unit n ts = refl
 
-read_group : (n : ℕ) (ts rest : List Sym) (parts : List Ty) → after_close ts ≡ None → separated after_comma (read_type n) (length ts) ts ≡ Some (parts, Close ∷ rest) → read_type (suc n) (Open ∷ ts) ≡ Some (tuple parts, rest)
+read_group : (n : ℕ) (ts rest : List Sym) (parts : List Ty) → after_close ts ≡ None → separated after_comma (read_type n) (length ts) ts ≡ Some (parts, Close ∷ rest) → read_type (suc n) (Open ∷ ts) ≡ Some (tuple_type parts, rest)
 unfolding read_type
 read_group n ts rest parts other got = rw other (rw got refl)
 
@@ -102,11 +102,11 @@ unfolding read_type
 read_array n ts rest t got = rw got refl
 
 module _ {A : Type 0} where
-  pub read_sole : (after : List Sym → Option (List Sym)) (read : Reader A) (k : ℕ) (ts rest : List Sym) (x : A) → read ts ≡ Some (x, rest) → after rest ≡ None → separated after read (suc k) ts ≡ Some (x ∷ [], rest)
+  pub read_sole : (after : List Sym → Option (List Sym)) (read : SymbolReader A) (k : ℕ) (ts rest : List Sym) (x : A) → read ts ≡ Some (x, rest) → after rest ≡ None → separated after read (suc k) ts ≡ Some (x ∷ [], rest)
   unfolding separated
   read_sole after read k ts rest x got stops = rw got (rw stops refl)
 
-  pub read_several : (after : List Sym → Option (List Sym)) (read : Reader A) (k : ℕ) (ts us vs rest : List Sym) (x : A) (xs : List A) → read ts ≡ Some (x, us) → after us ≡ Some vs → separated after read k vs ≡ Some (xs, rest) → separated after read (suc k) ts ≡ Some (x ∷ xs, rest)
+  pub read_several : (after : List Sym → Option (List Sym)) (read : SymbolReader A) (k : ℕ) (ts us vs rest : List Sym) (x : A) (xs : List A) → read ts ≡ Some (x, us) → after us ≡ Some vs → separated after read k vs ≡ Some (xs, rest) → separated after read (suc k) ts ≡ Some (x ∷ xs, rest)
   unfolding separated
   read_several after read k ts us vs rest x xs got mark others = rw got (rw mark (rw others refl))
 
@@ -147,13 +147,13 @@ unfolding all_type
 all_only ts t h = rw (type_only h (length ts) (omega arith) refl) refl
 
 -- from what a function gives to what it says
-pub gives_found : {X Y : Type 0} (view : X → Y) (r : Result X ReadError) (read : Option Y) (P : Y → Type 0) → Gives view r read → IfSome read P → IfOk r (λ x. P (view x))
+pub gives_found : {X Y : Type 0} (view : X → Y) (r : Result X ReadError) (read : Option Y) (P : Y → Type 0) → GivesPart view r read → IfSome read P → IfOk r (λ x. P (view x))
 gives_found view (Ok x) read P g h = subst (λ o. IfSome o P) g h
 gives_found view (Err e) read P g h = tt
 
-pub gives_only : {X Y : Type 0} (view : X → Y) (r : Result X ReadError) (read : Option Y) (t : Y) → Gives view r read → read ≡ Some t → Gives view r (Some t)
-gives_only view r read t g e = subst (Gives view r) e g
+pub gives_only : {X Y : Type 0} (view : X → Y) (r : Result X ReadError) (read : Option Y) (t : Y) → GivesPart view r read → read ≡ Some t → GivesPart view r (Some t)
+gives_only view r read t g e = subst (GivesPart view r) e g
 
-pub gives_one : {X Y : Type 0} (view : X → Y) (r : Result X ReadError) (read : Option Y) (P : Y → Type 0) → Gives view r read → ((u : Y) → P u → read ≡ Some u) → IfOk r (λ x. (u : Y) → P u → u ≡ view x)
+pub gives_one : {X Y : Type 0} (view : X → Y) (r : Result X ReadError) (read : Option Y) (P : Y → Type 0) → GivesPart view r read → ((u : Y) → P u → read ≡ Some u) → IfOk r (λ x. (u : Y) → P u → u ≡ view x)
 gives_one view (Ok x) read P g only = λ u h. let both : Some u ≡ Some (view x) = sym (only u h) ∙ g in cc both
 gives_one view (Err e) read P g only = tt

@@ -12,6 +12,6 @@ pub data Goal : Type 0 where
   New_name : List ℕ → Goal → Goal
 
 -- the first goal with the rest on its right, grouped to the right
-abbrev pub joined : (Goal → Goal → Goal) → Goal → List Goal → Goal
-joined join g [] = g
-joined join g (h ∷ gs) = join g (joined join h gs)
+abbrev pub joined_goals : (Goal → Goal → Goal) → Goal → List Goal → Goal
+joined_goals join g [] = g
+joined_goals join g (h ∷ gs) = join g (joined_goals join h gs)

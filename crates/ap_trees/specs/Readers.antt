@@ -7,8 +7,8 @@ abbrev pub ◌>>=◌ : {A B : Type 0} → Option A → (A → Option B) → Opti
 None >>= f = None
 (Some x) >>= f = f x
 
-abbrev pub Reader : Type 0 → Type 0
-Reader A = List Sym → Option (A × List Sym)
+abbrev pub SymbolReader : Type 0 → Type 0
+SymbolReader A = List Sym → Option (A × List Sym)
 
 -- the symbols after this one, if it comes first
 abbrev pub after_lambda : List Sym → Option (List Sym)
@@ -36,23 +36,23 @@ after_bar (Bar ∷ ts) = Some ts
 after_bar ts = None
 
 -- with these before
-abbrev pub with_front : {A : Type 0} → List A → Option (List A × List Sym) → Option (List A × List Sym)
-with_front front read = read >>= λ x. Some (front ++ x.0, x.1)
+abbrev pub with_before : {A : Type 0} → List A → Option (List A × List Sym) → Option (List A × List Sym)
+with_before front read = read >>= λ x. Some (front ++ x.0, x.1)
 
 -- nothing more, unless a mark comes
-abbrev pub further : {A : Type 0} → (List Sym → Option (List Sym)) → Reader (List A) → Reader (List A)
+abbrev pub further : {A : Type 0} → (List Sym → Option (List Sym)) → SymbolReader (List A) → SymbolReader (List A)
 further after more ts = MatchMark more ts (after ts)
   where
-    MatchMark : {A : Type 0} → Reader (List A) → List Sym → Option (List Sym) → Option (List A × List Sym)
+    MatchMark : {A : Type 0} → SymbolReader (List A) → List Sym → Option (List Sym) → Option (List A × List Sym)
     MatchMark more ts None = Some ([], ts)
     MatchMark more ts (Some us) = more us
 
 -- one thing or more, with a mark between each two, and no more than so many
-unfoldable pub separated : {A : Type 0} → (List Sym → Option (List Sym)) → Reader A → ℕ → Reader (List A)
+unfoldable pub separated : {A : Type 0} → (List Sym → Option (List Sym)) → SymbolReader A → ℕ → SymbolReader (List A)
 separated after read zero ts = None
 separated after read (suc k) ts = do
   first ← read ts
-  with_front (first.0 ∷ []) (further after (separated after read k) first.1)
+  with_before (first.0 ∷ []) (further after (separated after read k) first.1)
 
 -- a thing after which nothing is left
 abbrev pub at_end : {A : Type 0} → A → List Sym → Option A

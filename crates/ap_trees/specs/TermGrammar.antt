@@ -1,7 +1,7 @@
 -- The grammar of terms. `IsTerm ts t rest`: the symbols ts are a spelling of the term t, and then rest.
 use Rattle.std.specs.Prelude.{ℕ, List, [], ◌∷◌}
 use Rattle.ap_trees.specs.Symbols.{Sym, Var, Ident, Swap, Open, Close, OpenList, CloseList, Comma, Bar, Lambda}
-use Rattle.ap_trees.specs.Terms.{Name, Term, OfWord, OfVar, Unit, Variable, Word, Apply, Nil, Abs, Swapped, arguments, tuple, cells}
+use Rattle.ap_trees.specs.Terms.{Name, Term, OfWord, OfVar, Unit, Variable, Word, Apply, Nil, Abs, Swapped, argument_terms, tuple, cells}
 
 -- id = IDENT | VAR
 pub data IsId : List Sym → Name → List Sym → Type 0 where
@@ -15,7 +15,7 @@ mutual
     -- IDENT
     a_word : {w : List ℕ} {ts : List Sym} → IsTerm (Ident w ∷ ts) (Word w) ts
     -- IDENT "(" term { "," term } ")"
-    applied : {w : List ℕ} {ts rest : List Sym} (parts : List Term) → AreTerms ts parts (Close ∷ rest) → IsTerm (Ident w ∷ Open ∷ ts) (Apply w (arguments parts)) rest
+    applied : {w : List ℕ} {ts rest : List Sym} (parts : List Term) → AreTerms ts parts (Close ∷ rest) → IsTerm (Ident w ∷ Open ∷ ts) (Apply w (argument_terms parts)) rest
     -- VAR
     a_variable : {w : List ℕ} {ts : List Sym} → IsTerm (Var w ∷ ts) (Variable w) ts
     -- "(" ")"

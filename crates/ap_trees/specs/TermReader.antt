@@ -1,87 +1,87 @@
 -- Reading a term.
 use Rattle.std.specs.Prelude.{ℕ, zero, suc, List, ◌∷◌, length, Option, None, Some}
 use Rattle.ap_trees.specs.Symbols.{Sym, Var, Ident, Swap, Open, OpenList}
-use Rattle.ap_trees.specs.Terms.{Name, Term, OfWord, OfVar, Unit, Variable, Word, Apply, Nil, Abs, Swapped, arguments, tuple, cells}
-use Rattle.ap_trees.specs.Readers.{Reader, ◌>>=◌, separated, after_lambda, after_comma, after_open, after_close, after_close_list, after_bar, at_end}
+use Rattle.ap_trees.specs.Terms.{Name, Term, OfWord, OfVar, Unit, Variable, Word, Apply, Nil, Abs, Swapped, argument_terms, tuple, cells}
+use Rattle.ap_trees.specs.Readers.{SymbolReader, ◌>>=◌, separated, after_lambda, after_comma, after_open, after_close, after_close_list, after_bar, at_end}
 
 -- an abstraction, behind its binder
-unfoldable pub abstraction : Reader Term → Name → Reader Term
+unfoldable pub abstraction : SymbolReader Term → Name → SymbolReader Term
 abstraction read name ts = do
   body ← read ts
   Some (Abs name body.0, body.1)
 
-abbrev pub list_within : Reader Term → Reader (List Term)
+abbrev pub list_within : SymbolReader Term → SymbolReader (List Term)
 list_within read ts = separated after_comma read (length ts) ts
 
 -- an application, behind its bracket
-unfoldable pub application : Reader Term → List ℕ → Reader Term
+unfoldable pub application : SymbolReader Term → List ℕ → SymbolReader Term
 application read w ts = do
   parts ← list_within read ts
   rest ← after_close parts.1
-  Some (Apply w (arguments parts.0), rest)
+  Some (Apply w (argument_terms parts.0), rest)
 
-abbrev pub word_or_more : Reader Term → List ℕ → List Sym → Option (List Sym) → Option (List Sym) → Option (Term × List Sym)
+abbrev pub word_or_more : SymbolReader Term → List ℕ → List Sym → Option (List Sym) → Option (List Sym) → Option (Term × List Sym)
 word_or_more read w ts (Some us) other = abstraction read (OfWord w) us
 word_or_more read w ts None (Some us) = application read w us
 word_or_more read w ts None None = Some (Word w, ts)
 
-unfoldable pub word_term : Reader Term → List ℕ → Reader Term
+unfoldable pub word_term : SymbolReader Term → List ℕ → SymbolReader Term
 word_term read w ts = word_or_more read w ts (after_lambda ts) (after_open ts)
 
-abbrev pub variable_or_more : Reader Term → List ℕ → List Sym → Option (List Sym) → Option (Term × List Sym)
+abbrev pub variable_or_more : SymbolReader Term → List ℕ → List Sym → Option (List Sym) → Option (Term × List Sym)
 variable_or_more read w ts (Some us) = abstraction read (OfVar w) us
 variable_or_more read w ts None = Some (Variable w, ts)
 
-unfoldable pub variable : Reader Term → List ℕ → Reader Term
+unfoldable pub variable : SymbolReader Term → List ℕ → SymbolReader Term
 variable read w ts = variable_or_more read w ts (after_lambda ts)
 
-abbrev pub unit_or_tuple : Reader Term → List Sym → Option (List Sym) → Option (Term × List Sym)
+abbrev pub unit_or_tuple : SymbolReader Term → List Sym → Option (List Sym) → Option (Term × List Sym)
 unit_or_tuple read ts (Some us) = Some (Unit, us)
 unit_or_tuple read ts None = do
   parts ← list_within read ts
   rest ← after_close parts.1
   Some (tuple parts.0, rest)
 
-unfoldable pub group : Reader Term → Reader Term
+unfoldable pub group : SymbolReader Term → SymbolReader Term
 group read ts = unit_or_tuple read ts (after_close ts)
 
-abbrev pub end_after : Reader Term → List Sym → Option (List Sym) → Option (Term × List Sym)
+abbrev pub end_after : SymbolReader Term → List Sym → Option (List Sym) → Option (Term × List Sym)
 end_after read ts None = Some (Nil, ts)
 end_after read ts (Some us) = read us
 
 -- the end of a list: a term after a bar, or nothing
-unfoldable pub list_end : Reader Term → Reader Term
+unfoldable pub list_end : SymbolReader Term → SymbolReader Term
 list_end read ts = end_after read ts (after_bar ts)
 
-unfoldable pub full_list : Reader Term → Reader Term
+unfoldable pub full_list : SymbolReader Term → SymbolReader Term
 full_list read ts = do
   parts ← list_within read ts
   end ← list_end read parts.1
   rest ← after_close_list end.1
   Some (cells parts.0 end.0, rest)
 
-abbrev pub nil_or_list : Reader Term → List Sym → Option (List Sym) → Option (Term × List Sym)
+abbrev pub nil_or_list : SymbolReader Term → List Sym → Option (List Sym) → Option (Term × List Sym)
 nil_or_list read ts (Some us) = Some (Nil, us)
 nil_or_list read ts None = full_list read ts
 
-unfoldable pub list_of : Reader Term → Reader Term
+unfoldable pub list_of : SymbolReader Term → SymbolReader Term
 list_of read ts = nil_or_list read ts (after_close_list ts)
 
 -- an identifier
-abbrev pub read_id : Reader Name
+abbrev pub read_id : SymbolReader Name
 read_id (Ident w ∷ ts) = Some (OfWord w, ts)
 read_id (Var w ∷ ts) = Some (OfVar w, ts)
 read_id ts = None
 
 -- an identifier and a comma
-unfoldable pub side : Reader Name
+unfoldable pub side : SymbolReader Name
 side ts = do
   name ← read_id ts
   rest ← after_comma name.1
   Some (name.0, rest)
 
 -- a swapping, behind `swap`
-unfoldable pub swapped : Reader Term → Reader Term
+unfoldable pub swapped : SymbolReader Term → SymbolReader Term
 swapped read ts = do
   inside ← after_open ts
   left ← side inside
@@ -91,7 +91,7 @@ swapped read ts = do
   Some (Swapped left.0 right.0 body.0, rest)
 
 -- a term; the number falls at each level
-unfoldable pub read_term : ℕ → Reader Term
+unfoldable pub read_term : ℕ → SymbolReader Term
 read_term zero ts = None
 read_term (suc n) (Var w ∷ ts) = variable (read_term n) w ts
 read_term (suc n) (Ident w ∷ ts) = word_term (read_term n) w ts

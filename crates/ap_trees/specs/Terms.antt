@@ -24,10 +24,10 @@ mutual
     More : Term → Terms → Terms
 
 -- one term or more as arguments
-abbrev pub arguments : List Term → Terms
-arguments [] = Last Unit
-arguments (t ∷ []) = Last t
-arguments (t ∷ u ∷ ts) = More t (arguments (u ∷ ts))
+abbrev pub argument_terms : List Term → Terms
+argument_terms [] = Last Unit
+argument_terms (t ∷ []) = Last t
+argument_terms (t ∷ u ∷ ts) = More t (argument_terms (u ∷ ts))
 
 -- one term, or the pair of the first and the tuple of the rest
 abbrev pub tuple : List Term → Term

@@ -22,19 +22,19 @@ use Rattle.ap_trees.specs.Goals.{Goal}
 use Rattle.ap_trees.specs.Items as items
 use Rattle.ap_trees.specs.Items.{Saying, ItemOf}
 
-abbrev pub type_of : TypeTree → Ty
-type_of code_types.Unit = types.Unit
-type_of (code_types.Word word) = types.Word word.now
-type_of (code_types.Pair' p left q right) = types.Pair (type_of left) (type_of right)
-type_of (code_types.List' p element) = types.Array (type_of element)
-type_of (code_types.Abs' word p body) = types.Abs word.now (type_of body)
+abbrev pub type_of_tree : TypeTree → Ty
+type_of_tree code_types.Unit = types.Unit
+type_of_tree (code_types.Word word) = types.Word word.now
+type_of_tree (code_types.Pair' p left q right) = types.Pair (type_of_tree left) (type_of_tree right)
+type_of_tree (code_types.List' p element) = types.Array (type_of_tree element)
+type_of_tree (code_types.Abs' word p body) = types.Abs word.now (type_of_tree body)
 
 abbrev pub types_of : List TypeTree → List Ty
-types_of ts = map type_of ts
+types_of ts = map type_of_tree ts
 
-abbrev pub name_of : Binder → Name
-name_of (binders.Word w) = terms.OfWord w.now
-name_of (binders.Var w) = terms.OfVar w.now
+abbrev pub name_of_binder : Binder → Name
+name_of_binder (binders.Word w) = terms.OfWord w.now
+name_of_binder (binders.Var w) = terms.OfVar w.now
 
 abbrev mutual
   pub term_of : Tree → Term
@@ -45,8 +45,8 @@ abbrev mutual
   term_of (code.Pair' p left q right) = terms.Pair (term_of left) (term_of right)
   term_of code.Nil = terms.Nil
   term_of (code.Cell' p head q tail) = terms.Cell (term_of head) (term_of tail)
-  term_of (code.Abs' name p body) = terms.Abs (name_of name) (term_of body)
-  term_of (code.Swapped' left right p body) = terms.Swapped (name_of left) (name_of right) (term_of body)
+  term_of (code.Abs' name p body) = terms.Abs (name_of_binder name) (term_of body)
+  term_of (code.Swapped' left right p body) = terms.Swapped (name_of_binder left) (name_of_binder right) (term_of body)
 
   pub terms_of : args.Args → Terms
   terms_of (args.Last t) = terms.Last (term_of t)
@@ -55,28 +55,28 @@ abbrev mutual
 abbrev pub trees_of : List Tree → List Term
 trees_of ts = map term_of ts
 
-abbrev pub goal_of : GoalTree → Goal
-goal_of (code_goals.Atom w args) = goals.Atom w.now (trees_of args)
-goal_of (code_goals.Equal t u) = goals.Equation (term_of t) (term_of u)
-goal_of (code_goals.Fresh t u) = goals.Freshness (term_of t) (term_of u)
-goal_of (code_goals.Both' p g q h) = goals.Both (goal_of g) (goal_of h)
-goal_of (code_goals.Either' p g q h) = goals.Either (goal_of g) (goal_of h)
-goal_of (code_goals.Exists' w p g) = goals.Some_variable w.now (goal_of g)
-goal_of (code_goals.New' w p g) = goals.New_name w.now (goal_of g)
+abbrev pub goal_of_tree : GoalTree → Goal
+goal_of_tree (code_goals.Atom w args) = goals.Atom w.now (trees_of args)
+goal_of_tree (code_goals.Equal t u) = goals.Equation (term_of t) (term_of u)
+goal_of_tree (code_goals.Fresh t u) = goals.Freshness (term_of t) (term_of u)
+goal_of_tree (code_goals.Both' p g q h) = goals.Both (goal_of_tree g) (goal_of_tree h)
+goal_of_tree (code_goals.Either' p g q h) = goals.Either (goal_of_tree g) (goal_of_tree h)
+goal_of_tree (code_goals.Exists' w p g) = goals.Some_variable w.now (goal_of_tree g)
+goal_of_tree (code_goals.New' w p g) = goals.New_name w.now (goal_of_tree g)
 
 abbrev pub goals_of : List GoalTree → List Goal
-goals_of gs = map goal_of gs
+goals_of gs = map goal_of_tree gs
 
 abbrev pub form_of : Form → Saying
 form_of (code_forms.NameType w) = items.ANameType w.now
 form_of (code_forms.DataType w) = items.ADataType w.now
 form_of (code_forms.Constructor w args result) = items.AConstructor w.now (types_of args) result.now
 form_of (code_forms.Predicate w args) = items.APredicate w.now (types_of args)
-form_of (code_forms.Clause w args body) = items.AClause w.now (trees_of args) (option_map goal_of body)
-form_of (code_forms.Query goal) = items.AQuery (goal_of goal)
+form_of (code_forms.Clause w args body) = items.AClause w.now (trees_of args) (option_map goal_of_tree body)
+form_of (code_forms.Query goal) = items.AQuery (goal_of_tree goal)
 
 abbrev pub item_of : Item → ItemOf
 item_of i = record { line = i.line; form = form_of i.form }
 
-abbrev pub items_of : List Item → List ItemOf
-items_of is = map item_of is
+abbrev pub items_of_text : List Item → List ItemOf
+items_of_text is = map item_of is

@@ -1,7 +1,7 @@
 -- The grammar of types. `IsType ts t rest`: the symbols ts are a spelling of the type t, and then rest.
 use Rattle.std.specs.Prelude.{ℕ, List, [], ◌∷◌}
 use Rattle.ap_trees.specs.Symbols.{Sym, Ident, Open, Close, OpenList, CloseList, Comma, Lambda}
-use Rattle.ap_trees.specs.Types.{Ty, Unit, Word, Array, Abs, tuple}
+use Rattle.ap_trees.specs.Types.{Ty, Unit, Word, Array, Abs, tuple_type}
 
 mutual
   pub data IsType : List Sym → Ty → List Sym → Type 0 where
@@ -12,7 +12,7 @@ mutual
     -- "(" ")"
     unit : {ts : List Sym} → IsType (Open ∷ Close ∷ ts) Unit ts
     -- "(" type { "," type } ")"
-    group : {ts rest : List Sym} (parts : List Ty) → AreTypes ts parts (Close ∷ rest) → IsType (Open ∷ ts) (tuple parts) rest
+    group : {ts rest : List Sym} (parts : List Ty) → AreTypes ts parts (Close ∷ rest) → IsType (Open ∷ ts) (tuple_type parts) rest
     -- "[" type "]"
     array : {ts rest : List Sym} {t : Ty} → IsType ts t (CloseList ∷ rest) → IsType (OpenList ∷ ts) (Array t) rest
 

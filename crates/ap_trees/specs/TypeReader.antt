@@ -1,23 +1,23 @@
 -- Reading a type.
 use Rattle.std.specs.Prelude.{ℕ, zero, suc, List, ◌∷◌, length, Option, None, Some}
 use Rattle.ap_trees.specs.Symbols.{Sym, Ident, Open, OpenList}
-use Rattle.ap_trees.specs.Types.{Ty, Unit, Word, Array, Abs, tuple}
-use Rattle.ap_trees.specs.Readers.{Reader, ◌>>=◌, separated, after_comma, after_lambda, after_close, after_close_list, at_end}
+use Rattle.ap_trees.specs.Types.{Ty, Unit, Word, Array, Abs, tuple_type}
+use Rattle.ap_trees.specs.Readers.{SymbolReader, ◌>>=◌, separated, after_comma, after_lambda, after_close, after_close_list, at_end}
 
-abbrev pub type_after_word : Reader Ty → List ℕ → List Sym → Option (List Sym) → Option (Ty × List Sym)
+abbrev pub type_after_word : SymbolReader Ty → List ℕ → List Sym → Option (List Sym) → Option (Ty × List Sym)
 type_after_word read word ts None = Some (Word word, ts)
 type_after_word read word ts (Some us) = do
   body ← read us
   Some (Abs word body.0, body.1)
 
-abbrev pub type_after_open : Reader (List Ty) → List Sym → Option (List Sym) → Option (Ty × List Sym)
+abbrev pub type_after_open : SymbolReader (List Ty) → List Sym → Option (List Sym) → Option (Ty × List Sym)
 type_after_open read ts (Some us) = Some (Unit, us)
 type_after_open read ts None = do
   parts ← read ts
   rest ← after_close parts.1
-  Some (tuple parts.0, rest)
+  Some (tuple_type parts.0, rest)
 
-unfoldable pub read_type : ℕ → Reader Ty
+unfoldable pub read_type : ℕ → SymbolReader Ty
 read_type zero ts = None
 read_type (suc n) (Ident word ∷ ts) = type_after_word (read_type n) word ts (after_lambda ts)
 read_type (suc n) (Open ∷ ts) = type_after_open (separated after_comma (read_type n) (length ts)) ts (after_close ts)

@@ -9,7 +9,7 @@ pub data Ty : Type 0 where
   Abs : List ℕ → Ty → Ty
 
 -- one type, or the pair of the first and the tuple of the rest
-abbrev pub tuple : List Ty → Ty
-tuple [] = Unit
-tuple (t ∷ []) = t
-tuple (t ∷ u ∷ ts) = Pair t (tuple (u ∷ ts))
+abbrev pub tuple_type : List Ty → Ty
+tuple_type [] = Unit
+tuple_type (t ∷ []) = t
+tuple_type (t ∷ u ∷ ts) = Pair t (tuple_type (u ∷ ts))

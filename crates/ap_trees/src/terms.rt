@@ -1,14 +1,14 @@
 // Reading a term.
 ghost use Rattle.std.specs.Prelude.{◌≡◌, ◌<◌, ◌≤◌, [], length, IfOk, IfSome, Some};
 ghost use Rattle.std.specs.Option.{option_map};
-ghost use Rattle.ap_trees.specs.Outcomes.{Gives};
+ghost use Rattle.ap_trees.specs.Outcomes.{GivesPart};
 ghost use Rattle.ap_trees.specs.Readers.{separated, after_comma};
 ghost use Rattle.ap_trees.specs.Symbols.{syms};
 ghost use Rattle.ap_trees.specs.Terms as trees;
 ghost use Rattle.ap_trees.specs.TermGrammar.{IsTerm};
 ghost use Rattle.ap_trees.specs.TermReader as spec;
 ghost use Rattle.ap_trees.specs.TermReader.{read_term};
-ghost use Rattle.ap_trees.specs.Trees.{term_of, terms_of, trees_of, name_of};
+ghost use Rattle.ap_trees.specs.Trees.{term_of, terms_of, trees_of, name_of_binder};
 
 use crate::cursor::{
     after_bar, after_close, after_close_list, after_comma, after_lambda, after_open,
@@ -20,7 +20,8 @@ use std::alloc::{AllocError, Global};
 
 /// One term or more as arguments.
 fn arguments<'a>(alloc: Global, mut parts: Vec<Tree<'a>>) -> Result<Args<'a>, AllocError>
-    ensures { IfOk result (λ args. terms_of args ≡ trees.arguments (trees_of parts.entry.items)) }
+    ensures { IfOk result (λ args. terms_of args
+        ≡ trees.argument_terms (trees_of parts.entry.items)) }
 {
     let Some(last) = parts.pop() else {
         return Ok(Args::Last(Tree::Unit));
@@ -65,7 +66,7 @@ pub fn term<'a, 's>(
     levels: usize,
     symbols: &'s [Symbol<'a>],
 ) -> Result<(Tree<'a>, &'s [Symbol<'a>]), ReadError>
-    ensures value { Gives (λ r. (term_of r.0, syms r.1.now)) result
+    ensures value { GivesPart (λ r. (term_of r.0, syms r.1.now)) result
         (read_term levels (syms symbols.now)) }
     ensures shorter { IfOk result (λ r. length r.1.now < length symbols.now) }
 {
@@ -106,7 +107,7 @@ fn variable<'a, 's>(
     word: &'a str,
     symbols: &'s [Symbol<'a>],
 ) -> Result<(Tree<'a>, &'s [Symbol<'a>]), ReadError>
-    ensures value { Gives (λ r. (term_of r.0, syms r.1.now)) result (spec.variable
+    ensures value { GivesPart (λ r. (term_of r.0, syms r.1.now)) result (spec.variable
         (read_term levels) word.entry.now (syms symbols.now)) }
     ensures shorter { IfOk result (λ r. length r.1.now ≤ length symbols.now) }
 {
@@ -125,7 +126,7 @@ fn word_term<'a, 's>(
     word: &'a str,
     symbols: &'s [Symbol<'a>],
 ) -> Result<(Tree<'a>, &'s [Symbol<'a>]), ReadError>
-    ensures value { Gives (λ r. (term_of r.0, syms r.1.now)) result (spec.word_term
+    ensures value { GivesPart (λ r. (term_of r.0, syms r.1.now)) result (spec.word_term
         (read_term levels) word.entry.now (syms symbols.now)) }
     ensures shorter { IfOk result (λ r. length r.1.now ≤ length symbols.now) }
 {
@@ -147,8 +148,8 @@ fn abstraction<'a, 's>(
     binder: Binder<'a>,
     symbols: &'s [Symbol<'a>],
 ) -> Result<(Tree<'a>, &'s [Symbol<'a>]), ReadError>
-    ensures value { Gives (λ r. (term_of r.0, syms r.1.now)) result (spec.abstraction
-        (read_term levels) (name_of binder.entry) (syms symbols.now)) }
+    ensures value { GivesPart (λ r. (term_of r.0, syms r.1.now)) result (spec.abstraction
+        (read_term levels) (name_of_binder binder.entry) (syms symbols.now)) }
     ensures shorter { IfOk result (λ r. length r.1.now ≤ length symbols.now) }
 {
     let (body, rest) = term(alloc, levels, symbols)?;
@@ -164,7 +165,7 @@ fn application<'a, 's>(
     word: &'a str,
     symbols: &'s [Symbol<'a>],
 ) -> Result<(Tree<'a>, &'s [Symbol<'a>]), ReadError>
-    ensures value { Gives (λ r. (term_of r.0, syms r.1.now)) result (spec.application
+    ensures value { GivesPart (λ r. (term_of r.0, syms r.1.now)) result (spec.application
         (read_term levels) word.entry.now (syms symbols.now)) }
     ensures shorter { IfOk result (λ r. length r.1.now ≤ length symbols.now) }
 {
@@ -182,8 +183,8 @@ fn group<'a, 's>(
     levels: usize,
     symbols: &'s [Symbol<'a>],
 ) -> Result<(Tree<'a>, &'s [Symbol<'a>]), ReadError>
-    ensures value { Gives (λ r. (term_of r.0, syms r.1.now)) result (spec.group (read_term levels)
-        (syms symbols.now)) }
+    ensures value { GivesPart (λ r. (term_of r.0, syms r.1.now)) result (spec.group
+        (read_term levels) (syms symbols.now)) }
     ensures shorter { IfOk result (λ r. length r.1.now ≤ length symbols.now) }
 {
     match after_close(symbols) {
@@ -204,8 +205,8 @@ fn list<'a, 's>(
     levels: usize,
     symbols: &'s [Symbol<'a>],
 ) -> Result<(Tree<'a>, &'s [Symbol<'a>]), ReadError>
-    ensures value { Gives (λ r. (term_of r.0, syms r.1.now)) result (spec.list_of (read_term levels)
-        (syms symbols.now)) }
+    ensures value { GivesPart (λ r. (term_of r.0, syms r.1.now)) result (spec.list_of
+        (read_term levels) (syms symbols.now)) }
     ensures shorter { IfOk result (λ r. length r.1.now ≤ length symbols.now) }
 {
     match after_close_list(symbols) {
@@ -222,7 +223,7 @@ fn full_list<'a, 's>(
     levels: usize,
     symbols: &'s [Symbol<'a>],
 ) -> Result<(Tree<'a>, &'s [Symbol<'a>]), ReadError>
-    ensures value { Gives (λ r. (term_of r.0, syms r.1.now)) result (spec.full_list
+    ensures value { GivesPart (λ r. (term_of r.0, syms r.1.now)) result (spec.full_list
         (read_term levels) (syms symbols.now)) }
     ensures shorter { IfOk result (λ r. length r.1.now ≤ length symbols.now) }
 {
@@ -240,7 +241,7 @@ fn list_end<'a, 's>(
     levels: usize,
     symbols: &'s [Symbol<'a>],
 ) -> Result<(Tree<'a>, &'s [Symbol<'a>]), ReadError>
-    ensures value { Gives (λ r. (term_of r.0, syms r.1.now)) result (spec.list_end
+    ensures value { GivesPart (λ r. (term_of r.0, syms r.1.now)) result (spec.list_end
         (read_term levels) (syms symbols.now)) }
     ensures shorter { IfOk result (λ r. length r.1.now ≤ length symbols.now) }
 {
@@ -252,7 +253,7 @@ fn list_end<'a, 's>(
 
 /// An identifier that comes first, and the symbols after it.
 fn id<'a, 's>(symbols: &'s [Symbol<'a>]) -> Option<(Binder<'a>, &'s [Symbol<'a>])>
-    ensures value { option_map (λ r. (name_of r.0, syms r.1.now)) result
+    ensures value { option_map (λ r. (name_of_binder r.0, syms r.1.now)) result
         ≡ spec.read_id (syms symbols.now) }
     ensures shorter { IfSome result (λ r. length r.1.now < length symbols.now) }
 {
@@ -266,7 +267,7 @@ fn id<'a, 's>(symbols: &'s [Symbol<'a>]) -> Option<(Binder<'a>, &'s [Symbol<'a>]
 /// An identifier and a comma that come first, and the symbols after them.
 #[tactic(auto, unfolding(crate::specs::TermReader::side))]
 fn side<'a, 's>(symbols: &'s [Symbol<'a>]) -> Option<(Binder<'a>, &'s [Symbol<'a>])>
-    ensures value { option_map (λ r. (name_of r.0, syms r.1.now)) result
+    ensures value { option_map (λ r. (name_of_binder r.0, syms r.1.now)) result
         ≡ spec.side (syms symbols.now) }
     ensures shorter { IfSome result (λ r. length r.1.now < length symbols.now) }
 {
@@ -283,8 +284,8 @@ fn swapped<'a, 's>(
     levels: usize,
     symbols: &'s [Symbol<'a>],
 ) -> Result<(Tree<'a>, &'s [Symbol<'a>]), ReadError>
-    ensures value { Gives (λ r. (term_of r.0, syms r.1.now)) result (spec.swapped (read_term levels)
-        (syms symbols.now)) }
+    ensures value { GivesPart (λ r. (term_of r.0, syms r.1.now)) result (spec.swapped
+        (read_term levels) (syms symbols.now)) }
     ensures shorter { IfOk result (λ r. length r.1.now ≤ length symbols.now) }
 {
     let rest = after_open(symbols).ok_or(ReadError::Grammar)?;
@@ -302,8 +303,8 @@ pub fn term_list<'a, 's>(
     levels: usize,
     symbols: &'s [Symbol<'a>],
 ) -> Result<(Vec<Tree<'a>>, &'s [Symbol<'a>]), ReadError>
-    ensures value { Gives (λ r. (trees_of r.0.items, syms r.1.now)) result (separated after_comma
-        (read_term levels) (length symbols.now) (syms symbols.now)) }
+    ensures value { GivesPart (λ r. (trees_of r.0.items, syms r.1.now)) result (separated
+        after_comma (read_term levels) (length symbols.now) (syms symbols.now)) }
     ensures shorter { IfOk result (λ r. length r.1.now < length symbols.now) }
 {
     let mut all = Vec::new(alloc);
@@ -320,7 +321,7 @@ pub fn term_list<'a, 's>(
 /// By the reader.
 #[tactic(auto, unfolding(crate::specs::TermReader::all_term))]
 fn exact_term<'a>(alloc: Global, symbols: &[Symbol<'a>]) -> Result<Tree<'a>, ReadError>
-    ensures { Gives term_of result (spec.all_term (syms symbols.now)) }
+    ensures { GivesPart term_of result (spec.all_term (syms symbols.now)) }
 {
     let (tree, rest) = term(alloc, symbols.len(), symbols)?;
     if rest.is_empty() {
@@ -336,7 +337,7 @@ pub fn whole_term<'a>(alloc: Global, symbols: &[Symbol<'a>]) -> Result<Tree<'a>,
     ensures found { IfOk result (λ t. IsTerm (syms symbols.now) (term_of t) []) }
     // What is in the grammar is read.
     ensures only { (t : trees.Term) → IsTerm (syms symbols.now) t [] →
-        Gives term_of result (Some t) }
+        GivesPart term_of result (Some t) }
     // It has no other reading.
     ensures one { IfOk result (λ t. (u : trees.Term) → IsTerm (syms symbols.now) u [] →
         u ≡ term_of t) }

@@ -1,9 +1,9 @@
 // Reading a type.
 ghost use Rattle.std.specs.Prelude.{◌≡◌, ◌<◌, [], length, IfOk, Some};
-ghost use Rattle.ap_trees.specs.Outcomes.{Gives};
+ghost use Rattle.ap_trees.specs.Outcomes.{GivesPart};
 ghost use Rattle.ap_trees.specs.Readers.{separated, after_comma};
 ghost use Rattle.ap_trees.specs.Symbols.{syms};
-ghost use Rattle.ap_trees.specs.Trees.{type_of, types_of};
+ghost use Rattle.ap_trees.specs.Trees.{type_of_tree, types_of};
 ghost use Rattle.ap_trees.specs.Types as trees;
 ghost use Rattle.ap_trees.specs.TypeGrammar.{IsType};
 ghost use Rattle.ap_trees.specs.TypeReader.{read_type, all_type};
@@ -16,7 +16,7 @@ use std::alloc::{AllocError, Global};
 
 /// The tuple of one type or more.
 fn tuple<'a>(alloc: Global, mut parts: Vec<TypeTree<'a>>) -> Result<TypeTree<'a>, AllocError>
-    ensures { IfOk result (λ t. type_of t ≡ trees.tuple (types_of parts.entry.items)) }
+    ensures { IfOk result (λ t. type_of_tree t ≡ trees.tuple_type (types_of parts.entry.items)) }
 {
     let Some(mut whole) = parts.pop() else {
         return Ok(TypeTree::Unit);
@@ -35,7 +35,7 @@ pub fn type_tree<'a, 's>(
     levels: usize,
     symbols: &'s [Symbol<'a>],
 ) -> Result<(TypeTree<'a>, &'s [Symbol<'a>]), ReadError>
-    ensures value { Gives (λ r. (type_of r.0, syms r.1.now)) result
+    ensures value { GivesPart (λ r. (type_of_tree r.0, syms r.1.now)) result
         (read_type levels (syms symbols.now)) }
     ensures shorter { IfOk result (λ r. length r.1.now < length symbols.now) }
 {
@@ -74,8 +74,8 @@ pub fn type_list<'a, 's>(
     levels: usize,
     symbols: &'s [Symbol<'a>],
 ) -> Result<(Vec<TypeTree<'a>>, &'s [Symbol<'a>]), ReadError>
-    ensures value { Gives (λ r. (types_of r.0.items, syms r.1.now)) result (separated after_comma
-        (read_type levels) (length symbols.now) (syms symbols.now)) }
+    ensures value { GivesPart (λ r. (types_of r.0.items, syms r.1.now)) result (separated
+        after_comma (read_type levels) (length symbols.now) (syms symbols.now)) }
     ensures shorter { IfOk result (λ r. length r.1.now < length symbols.now) }
 {
     let mut all = Vec::new(alloc);
@@ -92,7 +92,7 @@ pub fn type_list<'a, 's>(
 /// By the reader.
 #[tactic(auto, unfolding(crate::specs::TypeReader::all_type))]
 fn exact_type<'a>(alloc: Global, symbols: &[Symbol<'a>]) -> Result<TypeTree<'a>, ReadError>
-    ensures { Gives type_of result (all_type (syms symbols.now)) }
+    ensures { GivesPart type_of_tree result (all_type (syms symbols.now)) }
 {
     let (tree, rest) = type_tree(alloc, symbols.len(), symbols)?;
     if rest.is_empty() {
@@ -105,12 +105,13 @@ fn exact_type<'a>(alloc: Global, symbols: &[Symbol<'a>]) -> Result<TypeTree<'a>,
 /// The type that all the symbols spell.
 pub fn whole_type<'a>(alloc: Global, symbols: &[Symbol<'a>]) -> Result<TypeTree<'a>, ReadError>
     // What is read is in the grammar.
-    ensures found { IfOk result (λ t. IsType (syms symbols.now) (type_of t) []) }
+    ensures found { IfOk result (λ t. IsType (syms symbols.now) (type_of_tree t) []) }
     // What is in the grammar is read.
-    ensures only { (t : trees.Ty) → IsType (syms symbols.now) t [] → Gives type_of result (Some t) }
+    ensures only { (t : trees.Ty) → IsType (syms symbols.now) t [] →
+        GivesPart type_of_tree result (Some t) }
     // It has no other reading.
     ensures one { IfOk result (λ t. (u : trees.Ty) → IsType (syms symbols.now) u [] →
-        u ≡ type_of t) }
+        u ≡ type_of_tree t) }
 {
     exact_type(alloc, symbols)
 }

@@ -13,9 +13,9 @@ use Rattle.ap_scopes.specs.Identifiers.{Found}
 use Rattle.ap_scopes.specs.Resolution.{resolved_clause, resolved_query}
 use Rattle.ap_typecheck.specs.declared.error.Refusal.{Refusal}
 use Rattle.ap_typecheck.specs.Checking.{TypesParts, TypesGoalParts, TypesClauseOf, TypesQueryOf, predicate_of, clause_with_kinds, query_with_kinds, IsClauseOf, IsQueryOf}
-use Rattle.ap_typecheck.specs.Views.{refusal_of, IsRefusedBy}
+use Rattle.ap_typecheck.specs.Views.{type_refusal_of, IsRefusedBy}
 
-pub refused : (d : Declared) (P : List NominalKind → Type 0) (e : KindsError) → IsRefused e d.signature.constructors P → IsRefusedBy (refusal_of e) d P
+pub refused : (d : Declared) (P : List NominalKind → Type 0) (e : KindsError) → IsRefused e d.signature.constructors P → IsRefusedBy (type_refusal_of e) d P
 refused d P kinds.Clash h = inl (refl, h)
 refused d P kinds.Ambiguous h = inr (inl (refl, h))
 refused d P kinds.Empty h = inr (inr (refl, h))

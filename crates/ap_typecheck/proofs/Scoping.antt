@@ -12,8 +12,8 @@ use Rattle.ap_trees.specs.Goals.{Goal}
 use Rattle.ap_program.specs.Typed.{id_number, brought}
 use Rattle.ap_scopes.specs.Declarations.{Declared, constructor_place}
 use Rattle.ap_scopes.specs.Identifiers as scopes
-use Rattle.ap_scopes.specs.Identifiers.{Identifier, Found, Scope, same_name, is_blank, is_free, free_place, free_one, bound_one, number_new, number_or, numbered}
-use Rattle.ap_scopes.specs.Resolution.{Resolver, in_order, two_ids, swapped_by, put_first, identifier, binder, word_alone, resolved_term, resolved_arguments, resolved_terms, resolved_goal, resolved_body}
+use Rattle.ap_scopes.specs.Identifiers.{Identifier, Found, Scope, same_spelling, is_blank_name, is_free_identifier, free_place, free_one, bound_one, number_new, number_or, numbered_in}
+use Rattle.ap_scopes.specs.Resolution.{Resolver, in_order, two_ids, raw_swapped_by, put_first, identifier, binder, word_alone, resolved_term, resolved_arguments, resolved_terms, resolved_goal, resolved_body}
 use Rattle.ap_scopes.proofs.Tables.{position-cons}
 
 -- what holds of the number of each identifier that stands in a term
@@ -121,11 +121,11 @@ pub record IsFoundAt (s : Scope) (before : Found) (r : ℕ × Found) : Type 0 wh
   pub grows : Grows before r.1
   pub known : IsKnown s r.1 r.0
 
-brought_known : (s : Scope) (name : Name) (n : ℕ) → scopes.brought s name ≡ Some n → InScope s n
+brought_known : (s : Scope) (name : Name) (n : ℕ) → scopes.brought_under s name ≡ Some n → InScope s n
 brought_known [] name n e = absurd (cc)
-brought_known (b ∷ s) name n e = by (same_name name b.0) (brought_known s name n) e
+brought_known (b ∷ s) name n e = by (same_spelling name b.0) (brought_known s name n) e
   where
-    by : (t : Bool) → (scopes.brought s name ≡ Some n → InScope s n) → cond t (Some b.1) (scopes.brought s name) ≡ Some n → (n ≡ b.1) ⊎ InScope s n
+    by : (t : Bool) → (scopes.brought_under s name ≡ Some n → InScope s n) → cond t (Some b.1) (scopes.brought_under s name) ≡ Some n → (n ≡ b.1) ⊎ InScope s n
     by true rest h = inl (let k : b.1 ≡ n = cc in sym k)
     by false rest h = inr (rest h)
 
@@ -135,11 +135,11 @@ not_and false t h = refl
 
 free_known : (name : Name) (found : Found) (n : ℕ) → free_place found name ≡ Some n → IsAt false found n
 free_known name [] n e = absurd (cc)
-free_known name (i ∷ is) n e = by (is_free name i) refl (free_place is name) refl (free_known name is) (sym (position-cons (is_free name) i is) ∙ e)
+free_known name (i ∷ is) n e = by (is_free_identifier name i) refl (free_place is name) refl (free_known name is) (sym (position-cons (is_free_identifier name) i is) ∙ e)
   where
-    by : (t : Bool) → is_free name i ≡ t → (r : Option ℕ) → free_place is name ≡ r → ((k : ℕ) → free_place is name ≡ Some k → IsAt false is k)
+    by : (t : Bool) → is_free_identifier name i ≡ t → (r : Option ℕ) → free_place is name ≡ r → ((k : ℕ) → free_place is name ≡ Some k → IsAt false is k)
         → cond t (Some 0) (option_map suc r) ≡ Some n → IsAt false (i ∷ is) n
-    by true et r er rest h = subst (IsAt false (i ∷ is)) (let k : 0 ≡ n = cc in k) (not_and i.bound (same_name name i.spelling) et)
+    by true et r er rest h = subst (IsAt false (i ∷ is)) (let k : 0 ≡ n = cc in k) (not_and i.bound (same_spelling name i.spelling) et)
     by false et None er rest h = absurd (cc)
     by false et (Some k) er rest h = subst (IsAt false (i ∷ is)) (let e' : suc k ≡ n = cc in e') (rest k er)
 
@@ -149,10 +149,10 @@ found_new s found i e = record {
   known = inr (subst (λ b. IsAt b (found ++ i ∷ []) (length found)) e (is_at-end found i));
 }
 
-pub numbered_known : (s : Scope) (name : Name) (found : Found) → IsFoundAt s found (numbered s name found)
-numbered_known s name found = by (is_blank name) (scopes.brought s name) refl (free_place found name) refl
+pub numbered_known : (s : Scope) (name : Name) (found : Found) → IsFoundAt s found (numbered_in s name found)
+numbered_known s name found = by (is_blank_name name) (scopes.brought_under s name) refl (free_place found name) refl
   where
-    by : (b : Bool) (o : Option ℕ) → scopes.brought s name ≡ o → (p : Option ℕ) → free_place found name ≡ p
+    by : (b : Bool) (o : Option ℕ) → scopes.brought_under s name ≡ o → (p : Option ℕ) → free_place found name ≡ p
         → IsFoundAt s found (cond b (number_new found (free_one name)) (number_or found (number_or found (number_new found (free_one name)) p) o))
     by true o eo p ep = found_new s found (free_one name) refl
     by false (Some n) eo p ep = record { grows = grows-same found; known = inl (brought_known s name n eo) }
@@ -219,7 +219,7 @@ mutual
       in_order-done EachId Each Each id-on raw.abs (λ P i u h k. (h, k)) s found (binder s a) (resolved_term d s t) (binder-done s a found) (term-done d s t (binder s a found).1)
   term-done d s (terms.Swapped a b t) found =
       let both_ids = in_order two_ids (binder s a) (binder s b) in
-      in_order-done EachIds Each Each ids-on swapped_by (λ P ends u h k. (h.0, h.1, k)) s found both_ids (resolved_term d s t)
+      in_order-done EachIds Each Each ids-on raw_swapped_by (λ P ends u h k. (h.0, h.1, k)) s found both_ids (resolved_term d s t)
       (in_order-done EachId EachId EachIds id-on two_ids (λ P i j h k. (h, k)) s found (binder s a) (binder s b) (binder-done s a found) (binder-done s b (binder s a found).1))
       (term-done d s t (both_ids found).1)
 

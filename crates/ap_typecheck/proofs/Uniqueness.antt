@@ -11,8 +11,8 @@ use Rattle.ap_scopes.specs.Declarations.{Declared}
 use Rattle.ap_scopes.specs.Words.{words_of}
 use Rattle.ap_defs.specs.declared.faults.TypeFault.{TypeFault}
 use Rattle.ap_defs.specs.declared.faults.TypeKind.{TypeKind}
-use Rattle.ap_typecheck.specs.Declaring.{Made, nothing_made, with_clause, with_query, program_of}
-use Rattle.ap_typecheck.specs.Checking.{TypesClauseOf, TypesQueryOf, clause_with, query_with, Says, Makes, MakesAll, IsMistyped, SaysMistyped, IsFaultOf, IsFaultAmong, IsProgramOf, IsFirstFault}
+use Rattle.ap_typecheck.specs.Declaring.{Made, nothing_made, with_clause_made, with_query, program_made}
+use Rattle.ap_typecheck.specs.Checking.{TypesClauseOf, TypesQueryOf, clause_with, query_with, Says, Makes, MakesAll, IsMistyped, SaysMistyped, IsTypeFaultOf, IsFaultAmong, IsProgramOf, IsFirstTypeFault}
 
 -- an item says one thing
 says_one : (m : Made) (n line : ℕ) (saying : Saying) (a b : Made) → Says m n line saying a → Says m n line saying b → a ≡ b
@@ -22,7 +22,7 @@ says_one m n line (items.AConstructor w args result) a b h k = h ∙ sym k
 says_one m n line (items.APredicate w args) a b h k = h ∙ sym k
 says_one m n line (items.AClause w args body) a b h k =
     let same : k.1.0 ≡ h.1.0 = h.1.1.0.1 k.1.0 k.1.1.0.0 in
-    h.2 ∙ ap (λ c. with_clause c m) (h.1.2 ∙ sym (k.1.2 ∙ ap (clause_with m.declared n line w args body) same)) ∙ sym k.2
+    h.2 ∙ ap (λ c. with_clause_made c m) (h.1.2 ∙ sym (k.1.2 ∙ ap (clause_with m.declared n line w args body) same)) ∙ sym k.2
 says_one m n line (items.AQuery g) a b h k =
     let same : k.1.0 ≡ h.1.0 = h.1.1.0.1 k.1.0 k.1.1.0.0 in
     h.2 ∙ ap (λ q. with_query q m) (h.1.2 ∙ sym (k.1.2 ∙ ap (query_with m.declared n line g) same)) ∙ sym k.2
@@ -41,7 +41,7 @@ says_right kind m n line (items.APredicate w args) a h k = k
 says_right kind m n line (items.AClause w args body) a h k = typed_right kind m.declared (TypesClauseOf m.declared w args body) h.1.0 h.1.1 k
 says_right kind m n line (items.AQuery g) a h k = typed_right kind m.declared (TypesQueryOf m.declared g) h.1.0 h.1.1 k
 
-makes_right : (kind : TypeKind) (m : Made) (n : ℕ) (i : ItemOf) (a : Made) → Makes m n i a → IsFaultOf kind m.declared i.form → ⊥
+makes_right : (kind : TypeKind) (m : Made) (n : ℕ) (i : ItemOf) (a : Made) → Makes m n i a → IsTypeFaultOf kind m.declared i.form → ⊥
 makes_right kind m n i a h (inl k) = absurd (let e : None ≡ Some kind = sym h.0 ∙ k in cc)
 makes_right kind m n i a h (inr k) = says_right kind m n i.line i.form a h.1 k.1
 
@@ -65,7 +65,7 @@ says_mistyped_one a b d (items.APredicate w args) h k = absurd h
 says_mistyped_one a b d (items.AClause w args body) h k = mistyped_one a b d (TypesClauseOf d w args body) h k
 says_mistyped_one a b d (items.AQuery g) h k = mistyped_one a b d (TypesQueryOf d g) h k
 
-fault_one : (a b : TypeKind) (d : Declared) (saying : Saying) → IsFaultOf a d saying → IsFaultOf b d saying → a ≡ b
+fault_one : (a b : TypeKind) (d : Declared) (saying : Saying) → IsTypeFaultOf a d saying → IsTypeFaultOf b d saying → a ≡ b
 fault_one a b d saying (inl h) (inl k) = let e : Some a ≡ Some b = sym h ∙ k in cc
 fault_one a b d saying (inl h) (inr k) = absurd (let e : Some a ≡ None = sym h ∙ k.0 in cc)
 fault_one a b d saying (inr h) (inl k) = absurd (let e : None ≡ Some b = sym h.0 ∙ k in cc)
@@ -97,10 +97,10 @@ among_one m n (i ∷ is) f g (inr h) (inr k) =
     among_one h.0 (suc n) is f g h.2 (subst (λ x. IsFaultAmong x (suc n) is g) same k.2)
 
 pub program_one : (is : List ItemOf) (p q : ProgramOver RawTerm) → IsProgramOf is p → IsProgramOf is q → p ≡ q
-program_one is p q h k = h.2 ∙ ap (program_of (words_of is)) (makes_one nothing_made 1 is h.0 k.0 h.1 k.1) ∙ sym k.2
+program_one is p q h k = h.2 ∙ ap (program_made (words_of is)) (makes_one nothing_made 1 is h.0 k.0 h.1 k.1) ∙ sym k.2
 
-pub first_one : (is : List ItemOf) (f g : TypeFault) → IsFirstFault is f → IsFirstFault is g → f ≡ g
+pub first_one : (is : List ItemOf) (f g : TypeFault) → IsFirstTypeFault is f → IsFirstTypeFault is g → f ≡ g
 first_one is f g h k = among_one nothing_made 1 is f g h k
 
-pub never_both : (is : List ItemOf) (p : ProgramOver RawTerm) (f : TypeFault) → IsProgramOf is p → IsFirstFault is f → ⊥
+pub never_both : (is : List ItemOf) (p : ProgramOver RawTerm) (f : TypeFault) → IsProgramOf is p → IsFirstTypeFault is f → ⊥
 never_both is p f h k = not_both nothing_made 1 is h.0 f h.1 k

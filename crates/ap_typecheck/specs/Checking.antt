@@ -20,7 +20,7 @@ use Rattle.ap_scopes.specs.Identifiers.{Found}
 use Rattle.ap_scopes.specs.Resolution.{resolved_clause, resolved_query, predicate_number}
 use Rattle.ap_scopes.specs.Flaws.{item_flaw}
 use Rattle.ap_scopes.specs.Words.{words_of}
-use Rattle.ap_typecheck.specs.Declaring.{Made, nothing_made, with_name_type, with_data_type, with_constructor, with_predicate, with_clause, with_query, with_kinds, program_of}
+use Rattle.ap_typecheck.specs.Declaring.{Made, nothing_made, with_name_type, with_data_type, with_constructor, with_predicate, with_clause_made, with_query, with_kinds, program_made}
 
 -- a word is a name, and a variable a variable
 abbrev pub class_of : Name → IdentKind
@@ -81,7 +81,7 @@ Says m n line (items.ANameType w) after = after ≡ with_name_type w m
 Says m n line (items.ADataType w) after = after ≡ with_data_type w m
 Says m n line (items.AConstructor w args result) after = after ≡ with_constructor w args result m
 Says m n line (items.APredicate w args) after = after ≡ with_predicate w args m
-Says m n line (items.AClause w args body) after = (c : ClauseOver RawTerm) × IsClauseOf m.declared n line w args body c × (after ≡ with_clause c m)
+Says m n line (items.AClause w args body) after = (c : ClauseOver RawTerm) × IsClauseOf m.declared n line w args body c × (after ≡ with_clause_made c m)
 Says m n line (items.AQuery g) after = (q : QueryOver RawTerm) × IsQueryOf m.declared n line g q × (after ≡ with_query q m)
 
 -- An item makes more where its words show no fault.
@@ -100,8 +100,8 @@ SaysMistyped kind d (items.AQuery g) = IsMistyped kind d (TypesQueryOf d g)
 SaysMistyped kind d _ = ⊥
 
 -- The kind of an item's fault: the least that its words show, or else that of its typing.
-abbrev pub IsFaultOf : TypeKind → Declared → Saying → Type 0
-IsFaultOf kind d saying = (item_flaw d saying ≡ Some kind) ⊎ ((item_flaw d saying ≡ None) × SaysMistyped kind d saying)
+abbrev pub IsTypeFaultOf : TypeKind → Declared → Saying → Type 0
+IsTypeFaultOf kind d saying = (item_flaw d saying ≡ Some kind) ⊎ ((item_flaw d saying ≡ None) × SaysMistyped kind d saying)
 
 -- The items, numbered from n, make the rest.
 abbrev pub MakesAll : Made → ℕ → List ItemOf → Made → Type 0
@@ -112,12 +112,12 @@ MakesAll m n (i ∷ is) after = (between : Made) × Makes m n i between × Makes
 abbrev pub IsFaultAmong : Made → ℕ → List ItemOf → TypeFault → Type 0
 IsFaultAmong m n [] f = ⊥
 IsFaultAmong m n (i ∷ is) f =
-    ((f.place ≡ record { item = n; line = i.line }) × IsFaultOf f.kind m.declared i.form)
+    ((f.place ≡ record { item = n; line = i.line }) × IsTypeFaultOf f.kind m.declared i.form)
     ⊎ ((between : Made) × Makes m n i between × IsFaultAmong between (suc n) is f)
 
 -- The program of a text, and the first fault of a text.
 abbrev pub IsProgramOf : List ItemOf → ProgramOver RawTerm → Type 0
-IsProgramOf is p = (m : Made) × MakesAll nothing_made 1 is m × (p ≡ program_of (words_of is) m)
+IsProgramOf is p = (m : Made) × MakesAll nothing_made 1 is m × (p ≡ program_made (words_of is) m)
 
-abbrev pub IsFirstFault : List ItemOf → TypeFault → Type 0
-IsFirstFault is f = IsFaultAmong nothing_made 1 is f
+abbrev pub IsFirstTypeFault : List ItemOf → TypeFault → Type 0
+IsFirstTypeFault is f = IsFaultAmong nothing_made 1 is f

@@ -7,7 +7,7 @@ use Rattle.ap_trees.specs.Types.{Ty}
 use Rattle.ap_scopes.specs.Declarations.{Declared, nothing_declared, type_named}
 use Rattle.ap_scopes.specs.Types.{resolved_types}
 use Rattle.ap_scopes.specs.Identifiers.{Identifier, Found}
-use Rattle.ap_scopes.specs.Words.{spelled}
+use Rattle.ap_scopes.specs.Words.{spelled_name}
 
 -- What is declared, the clauses of each predicate, and the queries.
 pub record Made : Type 0 where
@@ -61,19 +61,19 @@ put_clause c p [] = []
 put_clause c zero (cs ∷ css) = (cs ++ c ∷ []) ∷ css
 put_clause c (suc p) (cs ∷ css) = cs ∷ put_clause c p css
 
-abbrev pub with_clause : ClauseOver RawTerm → Made → Made
-with_clause c m = record { declared = m.declared; clauses = put_clause c c.pred m.clauses; queries = m.queries }
+abbrev pub with_clause_made : ClauseOver RawTerm → Made → Made
+with_clause_made c m = record { declared = m.declared; clauses = put_clause c c.pred m.clauses; queries = m.queries }
 
 abbrev pub with_query : QueryOver RawTerm → Made → Made
 with_query q m = record { declared = m.declared; clauses = m.clauses; queries = m.queries ++ q ∷ [] }
 
 -- the identifiers of an item with their kinds
 abbrev pub with_kind : Identifier → NominalKind → NominalLocal
-with_kind i k = record { kind = k; bound = i.bound; text = spelled i.spelling }
+with_kind i k = record { kind = k; bound = i.bound; text = spelled_name i.spelling }
 
 abbrev pub with_kinds : Found → List NominalKind → List NominalLocal
 with_kinds (i ∷ is) (k ∷ ks) = with_kind i k ∷ with_kinds is ks
 with_kinds _ _ = []
 
-abbrev pub program_of : List (List ℕ) → Made → ProgramOver RawTerm
-program_of words m = record { signature = m.declared.signature; clauses = m.clauses; queries = m.queries; words = words }
+abbrev pub program_made : List (List ℕ) → Made → ProgramOver RawTerm
+program_made words m = record { signature = m.declared.signature; clauses = m.clauses; queries = m.queries; words = words }

@@ -6,7 +6,7 @@ use Rattle.ap_trees.specs.Items.{ItemOf}
 use Rattle.ap_program.specs.Typed.{IsTypedRawProgram}
 use Rattle.ap_program.specs.NameRestriction.{item_count}
 use Rattle.ap_defs.specs.declared.faults.TypeFault.{TypeFault}
-use Rattle.ap_typecheck.specs.Checking.{IsProgramOf, IsFirstFault}
+use Rattle.ap_typecheck.specs.Checking.{IsProgramOf, IsFirstTypeFault}
 
 -- each item of the program of a text is typed by its kinds, with all that the text declares
 abbrev pub ProgramsAreTyped : Type 0
@@ -17,13 +17,13 @@ abbrev pub ProgramsAreSmall : Type 0
 ProgramsAreSmall = (is : List ItemOf) (p : ProgramOver RawTerm) → IsProgramOf is p → item_count p ≤ length is
 
 -- a text has one program at most
-abbrev pub ProgramIsOne : Type 0
-ProgramIsOne = (is : List ItemOf) (p q : ProgramOver RawTerm) → IsProgramOf is p → IsProgramOf is q → p ≡ q
+abbrev pub TypedProgramIsOne : Type 0
+TypedProgramIsOne = (is : List ItemOf) (p q : ProgramOver RawTerm) → IsProgramOf is p → IsProgramOf is q → p ≡ q
 
 -- one first fault at most
-abbrev pub FaultIsOne : Type 0
-FaultIsOne = (is : List ItemOf) (f g : TypeFault) → IsFirstFault is f → IsFirstFault is g → f ≡ g
+abbrev pub TypeFaultIsOne : Type 0
+TypeFaultIsOne = (is : List ItemOf) (f g : TypeFault) → IsFirstTypeFault is f → IsFirstTypeFault is g → f ≡ g
 
 -- and not both
-abbrev pub ProgramOrFault : Type 0
-ProgramOrFault = (is : List ItemOf) (p : ProgramOver RawTerm) (f : TypeFault) → IsProgramOf is p → IsFirstFault is f → ⊥
+abbrev pub TypedProgramOrFault : Type 0
+TypedProgramOrFault = (is : List ItemOf) (p : ProgramOver RawTerm) (f : TypeFault) → IsProgramOf is p → IsFirstTypeFault is f → ⊥

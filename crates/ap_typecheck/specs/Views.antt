@@ -9,7 +9,7 @@ use Rattle.ap_typecheck.specs.declared.typing.QueryParts.{QueryParts}
 use Rattle.ap_types.specs.Tables.{AreInhabitants}
 use Rattle.ap_program.specs.NameRestriction.{item_count}
 use Rattle.ap_typecheck.specs.declared.state.State.{State}
-use Rattle.ap_typecheck.specs.Declaring.{Made, program_of}
+use Rattle.ap_typecheck.specs.Declaring.{Made, program_made}
 use Rattle.ap_defs.specs.Types.{NominalKind}
 use Rattle.ap_defs.specs.declared.faults.Place.{Place}
 use Rattle.ap_defs.specs.declared.faults.TypeKind.TheVariants as types
@@ -21,7 +21,7 @@ use Rattle.ap_typecheck.specs.declared.error.Refusal.{Refusal}
 use Rattle.ap_typecheck.specs.declared.error.Refusal.TheVariants as refusals
 use Rattle.ap_typecheck.specs.declared.error.TypeError.{TypeError}
 use Rattle.ap_typecheck.specs.declared.error.TypeError.TheVariants as errors
-use Rattle.ap_typecheck.specs.Checking.{IsMistyped, IsFaultOf, IsFirstFault}
+use Rattle.ap_typecheck.specs.Checking.{IsMistyped, IsTypeFaultOf, IsFirstTypeFault}
 
 abbrev pub made_of : State → Made
 made_of s = record {
@@ -32,7 +32,7 @@ made_of s = record {
 
 -- how many things were declared, stated and asked
 abbrev pub made_count : Made → ℕ
-made_count m = item_count (program_of [] m)
+made_count m = item_count (program_made [] m)
 
 -- the tables have the words that are declared and the data types that are inhabited, and each predicate has a list of clauses
 pub record AreTablesKept (s : State) : Type 0 where
@@ -46,11 +46,11 @@ clause_parts_of r = ((map raw_of r.args, goal_over raw_of r.body), map identifie
 abbrev pub query_parts_of : QueryParts → GoalOver RawTerm × Found
 query_parts_of r = (goal_over raw_of r.goal, map identifier_of r.found.items)
 
-abbrev pub refusal_of : KindsError → Refusal
-refusal_of kinds.Clash = refusals.Kind types.Clash
-refusal_of kinds.Ambiguous = refusals.Kind types.Ambiguous
-refusal_of kinds.Empty = refusals.Kind types.Empty
-refusal_of kinds.Memory = refusals.Memory
+abbrev pub type_refusal_of : KindsError → Refusal
+type_refusal_of kinds.Clash = refusals.Kind types.Clash
+type_refusal_of kinds.Ambiguous = refusals.Kind types.Ambiguous
+type_refusal_of kinds.Empty = refusals.Kind types.Empty
+type_refusal_of kinds.Memory = refusals.Memory
 
 -- what typing refuses is right
 abbrev pub IsRefusedBy : Refusal → Declared → (List NominalKind → Type 0) → Type 0
@@ -59,13 +59,13 @@ IsRefusedBy refusals.Memory d P = Unit {0}
 
 -- what an item refuses is right
 abbrev pub IsRefusedItem : Refusal → Declared → Saying → Type 0
-IsRefusedItem (refusals.Kind k) d saying = IsFaultOf k d saying
+IsRefusedItem (refusals.Kind k) d saying = IsTypeFaultOf k d saying
 IsRefusedItem refusals.Memory d saying = Unit {0}
 
 -- what a text refuses is right
-abbrev pub IsRefusedText : TypeError → List ItemOf → Type 0
-IsRefusedText (errors.Fault f) is = IsFirstFault is f
-IsRefusedText errors.Memory is = Unit {0}
+abbrev pub IsRefusedByTypes : TypeError → List ItemOf → Type 0
+IsRefusedByTypes (errors.Fault f) is = IsFirstTypeFault is f
+IsRefusedByTypes errors.Memory is = Unit {0}
 
 abbrev pub text_error : Refusal → Place → TypeError
 text_error (refusals.Kind k) place = errors.Fault (record { place = place; kind = k })

@@ -3,13 +3,13 @@ ghost use Rattle.std.specs.Prelude.{◌≡◌, ◌≤◌, IfOk, IfErr, length};
 ghost use Rattle.ap_defs.specs.RawTerms.{raw_of};
 ghost use Rattle.ap_defs.specs.Goals.{program_over};
 ghost use Rattle.ap_defs.specs.Limits.{size_limit};
-ghost use Rattle.ap_trees.specs.Trees.{items_of};
+ghost use Rattle.ap_trees.specs.Trees.{items_of_text};
 ghost use Rattle.ap_program.specs.Typed.{IsTypedRawProgram};
 ghost use Rattle.ap_program.specs.NameRestriction.{item_count};
 ghost use Rattle.ap_typecheck.specs.Checking.{MakesAll, IsProgramOf};
 ghost use Rattle.ap_typecheck.specs.Declaring.{nothing_made};
 ghost use Rattle.ap_typecheck.specs.Views as spec;
-ghost use Rattle.ap_typecheck.specs.Views.{IsRefusedText, made_of};
+ghost use Rattle.ap_typecheck.specs.Views.{IsRefusedByTypes, made_of};
 
 use crate::error::{Refusal, TypeError};
 use crate::items::check_item;
@@ -35,8 +35,9 @@ fn text_error(refusal: Refusal, place: Place) -> TypeError
 /// What the items make, or the first fault.
 fn check_items<'a>(alloc: Global, items: &[Item<'a>]) -> Result<State<'a>, TypeError>
     requires { length items.now ≤ size_limit }
-    ensures made { IfOk result (λ s. MakesAll nothing_made 1 (items_of items.now) (made_of s)) }
-    ensures err { IfErr result (λ e. IsRefusedText e (items_of items.now)) }
+    ensures made { IfOk result (λ s. MakesAll nothing_made 1 (items_of_text items.now)
+        (made_of s)) }
+    ensures err { IfErr result (λ e. IsRefusedByTypes e (items_of_text items.now)) }
 {
     let mut state = State::new(alloc);
     for (index, item) in items.iter().enumerate() {
@@ -58,8 +59,8 @@ fn whole_program(
     items: &[Item<'_>],
     state: State<'_>,
 ) -> Result<Program<Raw>, Memory>
-    requires { MakesAll nothing_made 1 (items_of items.now) (made_of state) }
-    ensures { IfOk result (λ p. IsProgramOf (items_of items.now) (program_over raw_of p)) }
+    requires { MakesAll nothing_made 1 (items_of_text items.now) (made_of state) }
+    ensures { IfOk result (λ p. IsProgramOf (items_of_text items.now) (program_over raw_of p)) }
 {
     let words = words_of(alloc, items)?;
     program_from(alloc, state, words)
@@ -77,10 +78,11 @@ fn whole_program(
 /// isn't inhabited. `Memory` is want of memory.
 pub fn check(alloc: Global, items: &[Item<'_>]) -> Result<Program<Raw>, TypeError>
     requires { length items.now ≤ size_limit }
-    ensures program { IfOk result (λ p. IsProgramOf (items_of items.now) (program_over raw_of p)) }
+    ensures program { IfOk result (λ p. IsProgramOf (items_of_text items.now)
+        (program_over raw_of p)) }
     ensures typed { IfOk result (λ p. IsTypedRawProgram (program_over raw_of p)) }
     ensures bounded { IfOk result (λ p. item_count (program_over raw_of p) ≤ size_limit) }
-    ensures fault { IfErr result (λ e. IsRefusedText e (items_of items.now)) }
+    ensures fault { IfErr result (λ e. IsRefusedByTypes e (items_of_text items.now)) }
 {
     let state = check_items(alloc, items)?;
     match whole_program(alloc, items, state) {

@@ -1,6 +1,6 @@
 //! Why a text, or an item, isn't well typed.
 ghost use Rattle.std.specs.Prelude.{◌≡◌};
-ghost use Rattle.ap_typecheck.specs.Views.{refusal_of};
+ghost use Rattle.ap_typecheck.specs.Views.{type_refusal_of};
 
 use ap_defs::faults::{TypeFault, TypeKind};
 use ap_defs::memory::Memory;
@@ -66,7 +66,7 @@ impl<T: Drop> From<AllocFailed<T>> for Refusal {
 
 /// What the typing of an item refuses.
 pub fn refusal_of_kinds(refused: KindsError) -> Refusal
-    ensures { result ≡ refusal_of refused }
+    ensures { result ≡ type_refusal_of refused }
 {
     match refused {
         KindsError::Clash => Refusal::Kind(TypeKind::Clash),

@@ -6,7 +6,7 @@ ghost use Rattle.ap_trees.specs.Trees.{form_of};
 ghost use Rattle.ap_scopes.specs.Flaws.{item_flaw};
 ghost use Rattle.ap_scopes.specs.Views.{IsSmall};
 ghost use Rattle.ap_typecheck.specs.Checking.{Says, Makes};
-ghost use Rattle.ap_typecheck.specs.Declaring.{with_clause};
+ghost use Rattle.ap_typecheck.specs.Declaring.{with_clause_made};
 ghost use Rattle.ap_typecheck.specs.Views.{AreTablesKept, IsRefusedItem, made_of};
 
 use crate::declaring::{
@@ -28,7 +28,7 @@ fn put_clause(state: &mut State<'_>, clause: Clause<Raw>) -> Result<(), Memory>
     requires kept { AreTablesKept state.old }
     requires declared { clause.pred < length state.old.declared.signature.predicates }
     ensures made { OnOk result (made_of state.new
-        ≡ with_clause (clause_over raw_of clause) (made_of state.old)) }
+        ≡ with_clause_made (clause_over raw_of clause) (made_of state.old)) }
     ensures kept { OnOk result (AreTablesKept state.new) }
 {
     let pred = clause.pred as usize;

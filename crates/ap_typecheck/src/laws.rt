@@ -1,5 +1,5 @@
 //! Laws of the typing of texts.
-ghost use Rattle.ap_typecheck.specs.Laws.{ProgramsAreTyped, ProgramsAreSmall, ProgramIsOne, FaultIsOne, ProgramOrFault};
+ghost use Rattle.ap_typecheck.specs.Laws.{ProgramsAreTyped, ProgramsAreSmall, TypedProgramIsOne, TypeFaultIsOne, TypedProgramOrFault};
 
 /// Each item of the program of a text is typed by its kinds, and the program isn't larger than the text.
 pub fn programs_are_typed()
@@ -9,7 +9,7 @@ pub fn programs_are_typed()
 
 /// A text has one program or one first fault at most, and not both.
 pub fn check_has_one_answer()
-    ensures program { ProgramIsOne }
-    ensures fault { FaultIsOne }
-    ensures either { ProgramOrFault }
+    ensures program { TypedProgramIsOne }
+    ensures fault { TypeFaultIsOne }
+    ensures either { TypedProgramOrFault }
 {}

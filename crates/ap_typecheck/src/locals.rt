@@ -1,7 +1,7 @@
 //! The identifiers of a clause or query with their kinds.
 ghost use Rattle.std.specs.Prelude.{◌≡◌, IfOk, map};
 ghost use Rattle.ap_defs.specs.Types.{kind_of, local_of, locals_of};
-ghost use Rattle.ap_trees.specs.Trees.{name_of};
+ghost use Rattle.ap_trees.specs.Trees.{name_of_binder};
 ghost use Rattle.ap_scopes.specs.Views.{identifier_of};
 ghost use Rattle.ap_typecheck.specs.Checking as spec;
 ghost use Rattle.ap_typecheck.specs.Declaring as made;
@@ -17,7 +17,7 @@ use std::alloc::Global;
 
 /// Whether it is a name or a variable.
 fn class_of(spelling: Binder<'_>) -> IdentKind
-    ensures { result ≡ spec.class_of (name_of spelling.entry) }
+    ensures { result ≡ spec.class_of (name_of_binder spelling.entry) }
 {
     match spelling {
         Binder::Word(_) => IdentKind::Name,

@@ -2,7 +2,7 @@
 ghost use Rattle.std.specs.Prelude.{◌≡◌, IfOk, map};
 ghost use Rattle.ap_defs.specs.RawTerms.{raw_of};
 ghost use Rattle.ap_defs.specs.Goals.{clause_over, program_over};
-ghost use Rattle.ap_typecheck.specs.Declaring.{nothing_made, program_of};
+ghost use Rattle.ap_typecheck.specs.Declaring.{nothing_made, program_made};
 ghost use Rattle.ap_typecheck.specs.Views.{AreTablesKept, made_of};
 
 use ap_defs::goals::{Clause, Program, Query};
@@ -59,7 +59,7 @@ pub fn program_from(
     state: State<'_>,
     words: List<Text>,
 ) -> Result<Program<Raw>, Memory>
-    ensures { IfOk result (λ p. program_over raw_of p ≡ program_of words (made_of state.entry)) }
+    ensures { IfOk result (λ p. program_over raw_of p ≡ program_made words (made_of state.entry)) }
 {
     let State {
         declared,

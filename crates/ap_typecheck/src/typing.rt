@@ -4,7 +4,7 @@ ghost use Rattle.std.specs.Option.{option_map};
 ghost use Rattle.ap_defs.specs.RawTerms.{raw_of};
 ghost use Rattle.ap_defs.specs.Types.{signature_of, kind_of};
 ghost use Rattle.ap_defs.specs.Goals.{clause_over, query_over};
-ghost use Rattle.ap_trees.specs.Trees.{goal_of, trees_of};
+ghost use Rattle.ap_trees.specs.Trees.{goal_of_tree, trees_of};
 ghost use Rattle.ap_types.specs.Tables.{AreInhabitants};
 ghost use Rattle.ap_kinds.specs.ItemKinds.{IsInferred};
 ghost use Rattle.ap_scopes.specs.Resolution.{resolved_clause, resolved_query};
@@ -55,7 +55,7 @@ fn clause_parts<'a>(
     requires small { IsSmall declared.now }
     ensures { IfOk result (λ r. clause_parts_of r
         ≡ resolved_clause (declared_of declared.now) (trees_of args.now)
-        (option_map goal_of body.now)) }
+        (option_map goal_of_tree body.now)) }
 {
     let mut found = Identifiers::new(alloc);
     let args = resolved_terms(alloc, declared, &Brought::Nothing, args, &mut found)?;
@@ -75,7 +75,7 @@ fn query_parts<'a>(
     requires indexed { IsIndexed declared.now }
     requires small { IsSmall declared.now }
     ensures { IfOk result (λ r. query_parts_of r
-        ≡ resolved_query (declared_of declared.now) (goal_of goal.now)) }
+        ≡ resolved_query (declared_of declared.now) (goal_of_tree goal.now)) }
 {
     let mut found = Identifiers::new(alloc);
     let goal = resolved_goal(alloc, declared, &Brought::Nothing, goal, &mut found)?;
@@ -198,9 +198,10 @@ pub fn typed_clause<'a>(
     requires inhabited { AreInhabitants (declared_of declared.now).signature.constructors
         inhabitants.now }
     ensures ok { IfOk result (λ c. IsClauseOf (declared_of declared.now) place.item place.line
-        word.now (trees_of args.now) (option_map goal_of body.now) (clause_over raw_of c)) }
+        word.now (trees_of args.now) (option_map goal_of_tree body.now) (clause_over raw_of c)) }
     ensures err { IfErr result (λ e. IsRefusedBy e (declared_of declared.now) (spec.TypesClauseOf
-        (declared_of declared.now) word.now (trees_of args.now) (option_map goal_of body.now))) }
+        (declared_of declared.now) word.now (trees_of args.now)
+        (option_map goal_of_tree body.now))) }
 {
     let parts = clause_parts(alloc, declared, args, body)?;
     let pred = predicate_number(declared.predicate_place(word));
@@ -224,9 +225,9 @@ pub fn typed_query<'a>(
     requires inhabited { AreInhabitants (declared_of declared.now).signature.constructors
         inhabitants.now }
     ensures ok { IfOk result (λ q. IsQueryOf (declared_of declared.now) place.item place.line
-        (goal_of goal.now) (query_over raw_of q)) }
+        (goal_of_tree goal.now) (query_over raw_of q)) }
     ensures err { IfErr result (λ e. IsRefusedBy e (declared_of declared.now) (spec.TypesQueryOf
-        (declared_of declared.now) (goal_of goal.now))) }
+        (declared_of declared.now) (goal_of_tree goal.now))) }
 {
     let parts = query_parts(alloc, declared, goal)?;
     match query_kinds(alloc, declared, inhabitants, &parts) {

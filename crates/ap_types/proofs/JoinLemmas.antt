@@ -8,7 +8,7 @@ use Rattle.ap_types.specs.declared.nodes.Node.TheVariants as nodes
 use Rattle.ap_types.specs.Equations.{Filling, filled, bound_of}
 use Rattle.ap_types.specs.Solving.{shape_at}
 use Rattle.ap_types.specs.Triangular.{layer_of, Fits, IsFormed, AreFormed}
-use Rattle.ap_types.specs.Joining.{Agree, AreWithin, is_root, link, roots, Rewrites, Shortens, Finds, parts, fuller, Joins, NeverAlike, Leads, NeverAgree}
+use Rattle.ap_types.specs.Joining.{Agree, ArePairsWithin, is_root, link, roots, Rewrites, Shortens, FindsRoot, parts, fuller, Joins, NeverAlike, TablesLead, NeverAgree}
 use Rattle.ap_types.proofs.CountLemmas.{count_grows, count_less}
 use Rattle.ap_types.proofs.TableLemmas.{at_set_same, at_set_other, length_set, formed_bound}
 use Rattle.ap_types.proofs.LoadLemmas.{agree_append, within_append}
@@ -176,7 +176,7 @@ follows_on old now new x at next after h k = record {
   root = k.root;
 }
 
-pub follows_end : (old now : List TypeShape) (x at next : ℕ) → Follows old x now at next → next ≡ at → Finds old x now at
+pub follows_end : (old now : List TypeShape) (x at next : ℕ) → Follows old x now at next → next ≡ at → FindsRoot old x now at
 follows_end old now x at next h e = record {
   rewrites = h.rewrites;
   alike = λ f k. h.alike f k ∙ ap f e;
@@ -292,24 +292,24 @@ fuller_root x (nodes.Place v) (nodes.Place w) h = h
 fuller_root x (nodes.Place v) b h = refl
 fuller_root x a b h = h
 
-parts_within : (n : ℕ) (a b : Node) (ps : List (ℕ × ℕ)) → bound_of (layer_of a) ≤ n → bound_of (layer_of b) ≤ n → parts a b ≡ Some ps → AreWithin n ps × (length ps ≤ 2)
-parts_within n (nodes.Place x) b ps h k e = let P : List (ℕ × ℕ) → Type 0 = λ qs. AreWithin n qs × (length qs ≤ 2) in subst P (some_same [] ps e) (tt, omega arith)
-parts_within n a (nodes.Place y) ps h k e = let P : List (ℕ × ℕ) → Type 0 = λ qs. AreWithin n qs × (length qs ≤ 2) in subst P (some_same [] ps e) (tt, omega arith)
-parts_within n nodes.Unit nodes.Unit ps h k e = let P : List (ℕ × ℕ) → Type 0 = λ qs. AreWithin n qs × (length qs ≤ 2) in subst P (some_same [] ps e) (tt, omega arith)
+parts_within : (n : ℕ) (a b : Node) (ps : List (ℕ × ℕ)) → bound_of (layer_of a) ≤ n → bound_of (layer_of b) ≤ n → parts a b ≡ Some ps → ArePairsWithin n ps × (length ps ≤ 2)
+parts_within n (nodes.Place x) b ps h k e = let P : List (ℕ × ℕ) → Type 0 = λ qs. ArePairsWithin n qs × (length qs ≤ 2) in subst P (some_same [] ps e) (tt, omega arith)
+parts_within n a (nodes.Place y) ps h k e = let P : List (ℕ × ℕ) → Type 0 = λ qs. ArePairsWithin n qs × (length qs ≤ 2) in subst P (some_same [] ps e) (tt, omega arith)
+parts_within n nodes.Unit nodes.Unit ps h k e = let P : List (ℕ × ℕ) → Type 0 = λ qs. ArePairsWithin n qs × (length qs ≤ 2) in subst P (some_same [] ps e) (tt, omega arith)
 parts_within n (nodes.Names r) (nodes.Names q) ps h k e =
-    let P : List (ℕ × ℕ) → Type 0 = λ qs. AreWithin n qs × (length qs ≤ 2) in
+    let P : List (ℕ × ℕ) → Type 0 = λ qs. ArePairsWithin n qs × (length qs ≤ 2) in
     elim (eqb_tells r q) [ inl w ↦ subst P (some_same [] ps (rw w.0 at e)) (tt, omega arith) | inr w ↦ let i = (rw w.0 at e) in cc ]
 parts_within n (nodes.Base r) (nodes.Base q) ps h k e =
-    let P : List (ℕ × ℕ) → Type 0 = λ qs. AreWithin n qs × (length qs ≤ 2) in
+    let P : List (ℕ × ℕ) → Type 0 = λ qs. ArePairsWithin n qs × (length qs ≤ 2) in
     elim (eqb_tells r q) [ inl w ↦ subst P (some_same [] ps (rw w.0 at e)) (tt, omega arith) | inr w ↦ let i = (rw w.0 at e) in cc ]
 parts_within n (nodes.Pair x y) (nodes.Pair v w) ps h k e =
-    let P : List (ℕ × ℕ) → Type 0 = λ qs. AreWithin n qs × (length qs ≤ 2) in
+    let P : List (ℕ × ℕ) → Type 0 = λ qs. ArePairsWithin n qs × (length qs ≤ 2) in
     subst P (some_same ((x, v) ∷ (y, w) ∷ []) ps e) ((omega arith, omega arith, (omega arith, omega arith, tt)), omega arith)
 parts_within n (nodes.List x) (nodes.List v) ps h k e =
-    let P : List (ℕ × ℕ) → Type 0 = λ qs. AreWithin n qs × (length qs ≤ 2) in
+    let P : List (ℕ × ℕ) → Type 0 = λ qs. ArePairsWithin n qs × (length qs ≤ 2) in
     subst P (some_same ((x, v) ∷ []) ps e) ((omega arith, omega arith, tt), omega arith)
 parts_within n (nodes.Abs x y) (nodes.Abs v w) ps h k e =
-    let P : List (ℕ × ℕ) → Type 0 = λ qs. AreWithin n qs × (length qs ≤ 2) in
+    let P : List (ℕ × ℕ) → Type 0 = λ qs. ArePairsWithin n qs × (length qs ≤ 2) in
     subst P (some_same ((x, v) ∷ (y, w) ∷ []) ps e) ((omega arith, omega arith, (omega arith, omega arith, tt)), omega arith)
 parts_within n _ _ ps h k e = cc
 
@@ -416,12 +416,12 @@ module _ (ts : List TypeShape) (keep gone : ℕ) (a b : Node) (formed : AreForme
             );
         formed = set_formed one gone (hole keep) (let l = long in omega arith) one_formed (omega arith);
         as_long = as_long;
-        within = subst (λ n. AreWithin n ps) (sym as_long) w.0;
+        within = subst (λ n. ArePairsWithin n ps) (sym as_long) w.0;
         fewer = let l = roots_less in let m = w.1 in omega arith;
       }
 
 -- Two places, by their roots.
-pub joins_found : (ts us vs ws : List TypeShape) (x y l r : ℕ) (ps : List (ℕ × ℕ)) → Finds ts x us l → Finds us y vs r → Joins vs l r ws ps → Joins ts x y ws ps
+pub joins_found : (ts us vs ws : List TypeShape) (x y l r : ℕ) (ps : List (ℕ × ℕ)) → FindsRoot ts x us l → FindsRoot us y vs r → Joins vs l r ws ps → Joins ts x y ws ps
 joins_found ts us vs ws x y l r ps h k j = record {
   solved = λ f.
       let a = j.solved f in (
@@ -440,7 +440,7 @@ joins_found ts us vs ws x y l r ps h k j = record {
   fewer = let a = j.fewer in let b = h.rewrites.no_more in let c = k.rewrites.no_more in omega arith;
 }
 
-pub joins_same : (ts us vs : List TypeShape) (x y l r : ℕ) → Finds ts x us l → Finds us y vs r → l ≡ r → Joins ts x y vs []
+pub joins_same : (ts us vs : List TypeShape) (x y l r : ℕ) → FindsRoot ts x us l → FindsRoot us y vs r → l ≡ r → Joins ts x y vs []
 joins_same ts us vs x y l r h k e = record {
   solved = λ f. (
     (λ i. ((k.rewrites.same f).0 ((h.rewrites.same f).0 i.0), tt)),
@@ -463,7 +463,7 @@ joins_turned ts us x y ps j = record {
   fewer = j.fewer;
 }
 
-pub never_found : (ts us vs : List TypeShape) (x y l r : ℕ) → Finds ts x us l → Finds us y vs r → NeverAlike vs l r → NeverAlike ts x y
+pub never_found : (ts us vs : List TypeShape) (x y l r : ℕ) → FindsRoot ts x us l → FindsRoot us y vs r → NeverAlike vs l r → NeverAlike ts x y
 never_found ts us vs x y l r h k n f e i =
     let m = (h.rewrites.same f).0 e in
     let o = (k.rewrites.same f).0 m in
@@ -473,10 +473,10 @@ pub never_turned : (ts : List TypeShape) (x y : ℕ) → NeverAlike ts x y → N
 never_turned ts x y n f e i = n f e (sym i)
 
 -- Tables and pairs.
-pub leads_itself : (ts : List TypeShape) (ps : List (ℕ × ℕ)) → AreFormed ts → AreWithin (length ts) ps → Leads ts ps ts ps
+pub leads_itself : (ts : List TypeShape) (ps : List (ℕ × ℕ)) → AreFormed ts → ArePairsWithin (length ts) ps → TablesLead ts ps ts ps
 leads_itself ts ps h w = record { solved = λ f. ((λ e. e), (λ e. e)); formed = h; as_long = refl; within = w }
 
-pub leads_on : (ts us vs : List TypeShape) (ps qs rs : List (ℕ × ℕ)) → Leads ts ps us qs → Leads us qs vs rs → Leads ts ps vs rs
+pub leads_on : (ts us vs : List TypeShape) (ps qs rs : List (ℕ × ℕ)) → TablesLead ts ps us qs → TablesLead us qs vs rs → TablesLead ts ps vs rs
 leads_on ts us vs ps qs rs h k = record {
   solved = λ f. ((λ e. (k.solved f).0 ((h.solved f).0 e)), (λ e. (h.solved f).1 ((k.solved f).1 e)));
   formed = k.formed;
@@ -484,7 +484,7 @@ leads_on ts us vs ps qs rs h k = record {
   within = k.within;
 }
 
-pub leads_pair : (ts us : List TypeShape) (x y : ℕ) (ps rest : List (ℕ × ℕ)) → AreWithin (length ts) ps → Joins ts x y us rest → Leads ts (ps ++ (x, y) ∷ []) us (ps ++ rest)
+pub leads_pair : (ts us : List TypeShape) (x y : ℕ) (ps rest : List (ℕ × ℕ)) → ArePairsWithin (length ts) ps → Joins ts x y us rest → TablesLead ts (ps ++ (x, y) ∷ []) us (ps ++ rest)
 leads_pair ts us x y ps rest w j = record {
   solved = λ f.
       let a = agree_append f ps ((x, y) ∷ []) in
@@ -494,17 +494,17 @@ leads_pair ts us x y ps rest w j = record {
       );
   formed = j.formed;
   as_long = j.as_long;
-  within = within_append (length us) ps rest (subst (λ n. AreWithin n ps) (sym j.as_long) w) j.within;
+  within = within_append (length us) ps rest (subst (λ n. ArePairsWithin n ps) (sym j.as_long) w) j.within;
 }
 
 pub fewer_left : (ts us : List TypeShape) (x y : ℕ) (ps rest : List (ℕ × ℕ)) → Joins ts x y us rest → length (ps ++ rest) + 3 * roots us ≤ length ps + 3 * roots ts
 fewer_left ts us x y ps rest j = let a = j.fewer in let l = length-append ps rest in omega arith
 
-pub never_pair : (ts us : List TypeShape) (x y : ℕ) (all ps : List (ℕ × ℕ)) → Leads ts all us (ps ++ (x, y) ∷ []) → NeverAlike us x y → NeverAgree ts all
+pub never_pair : (ts us : List TypeShape) (x y : ℕ) (all ps : List (ℕ × ℕ)) → TablesLead ts all us (ps ++ (x, y) ∷ []) → NeverAlike us x y → NeverAgree ts all
 never_pair ts us x y all ps h n f e a = let k = (h.solved f).0 (e, a) in n f k.0 ((agree_append f ps ((x, y) ∷ [])).0 k.1).1.0
 
 -- the pairs that are left before the last
-pub within_front : (n : ℕ) (ps qs : List (ℕ × ℕ)) → AreWithin n (ps ++ qs) → AreWithin n ps × AreWithin n qs
+pub within_front : (n : ℕ) (ps qs : List (ℕ × ℕ)) → ArePairsWithin n (ps ++ qs) → ArePairsWithin n ps × ArePairsWithin n qs
 within_front n [] qs h = (tt, h)
 within_front n (p ∷ ps) qs h = let k = within_front n ps qs h.2 in ((h.0, h.1, k.0), k.1)
 

@@ -5,10 +5,10 @@ use Rattle.std.proofs.lemmas.List.{at_drop_more}
 use Rattle.ap_defs.specs.declared.terms.Shape.{Shape}
 use Rattle.ap_defs.specs.declared.memory.Memory.{Memory}
 use Rattle.ap_defs.specs.Types.{TypeShape, shape_of, hole, unit, names, base, pair, list, abs}
-use Rattle.ap_types.specs.Equations.{ShapeEquation, ◌≐◌, Filling, filled, bound_of, Solves, equations_bound, equation_of}
+use Rattle.ap_types.specs.Equations.{ShapeEquation, ◌≐◌, Filling, filled, bound_of, FillingSolves, equations_bound, equation_of}
 use Rattle.ap_types.specs.declared.nodes.Node.{Node}
-use Rattle.ap_types.specs.Triangular.{layer_of, table_of, Fits, AreFormed, IsFormed}
-use Rattle.ap_types.specs.Joining.{Extends, Loads, LoadsAll, Agree, AreWithin}
+use Rattle.ap_types.specs.Triangular.{layer_of, shapes_of_nodes, Fits, AreFormed, IsFormed}
+use Rattle.ap_types.specs.Joining.{Extends, Loads, LoadsAll, Agree, ArePairsWithin}
 use Rattle.ap_types.proofs.TableLemmas.{extends_push, extends_itself, extends_on, at_push_here, length_push, length_table, table_push}
 
 pub loads_hole : (ts : List TypeShape) (x : ℕ) → AreFormed ts → x < length ts → Loads ts (hole x) ts x
@@ -53,11 +53,11 @@ loads_abs ts us vs t u x y h k =
     loads_entry ts vs (abs (hole x) (hole y)) (abs t u) (extends_on ts us vs h.extends k.extends) (omega arith) (omega arith)
     (λ f e. ap₂ abs (h.stands f (k.extends.keeps f e)) (k.stands f e))
 
-pub within_more : (n m : ℕ) (ps : List (ℕ × ℕ)) → n ≤ m → AreWithin n ps → AreWithin m ps
+pub within_more : (n m : ℕ) (ps : List (ℕ × ℕ)) → n ≤ m → ArePairsWithin n ps → ArePairsWithin m ps
 within_more n m [] l h = tt
 within_more n m (p ∷ ps) l h = let a = h.0 in let b = h.1 in (omega arith, omega arith, within_more n m ps l h.2)
 
-pub within_append : (n : ℕ) (ps qs : List (ℕ × ℕ)) → AreWithin n ps → AreWithin n qs → AreWithin n (ps ++ qs)
+pub within_append : (n : ℕ) (ps qs : List (ℕ × ℕ)) → ArePairsWithin n ps → ArePairsWithin n qs → ArePairsWithin n (ps ++ qs)
 within_append n [] qs h k = k
 within_append n (p ∷ ps) qs h k = (h.0, h.1, within_append n ps qs h.2 k)
 
@@ -68,7 +68,7 @@ agree_append f (p ∷ ps) qs =
     ((λ h. ((h.0, (k.0 h.1).0), (k.0 h.1).1)), (λ h. (h.0.0, k.1 (h.0.1, h.1))))
 
 -- one equation more
-pub loads_equation : (ts us vs : List TypeShape) (ps : List (ℕ × ℕ)) (t u : TypeShape) (x y : ℕ) → AreWithin (length ts) ps → Loads ts t us x → Loads us u vs y
+pub loads_equation : (ts us vs : List TypeShape) (ps : List (ℕ × ℕ)) (t u : TypeShape) (x y : ℕ) → ArePairsWithin (length ts) ps → Loads ts t us x → Loads us u vs y
     → LoadsAll ts ps ((t ≐ u) ∷ []) vs (ps ++ (x, y) ∷ [])
 loads_equation ts us vs ps t u x y w h k =
     let e = extends_on ts us vs h.extends k.extends in
@@ -86,17 +86,17 @@ loads_equation ts us vs ps t u x y w h k =
           );
     }
 
-pub loads_none : (ts : List TypeShape) (ps : List (ℕ × ℕ)) → AreFormed ts → AreWithin (length ts) ps → LoadsAll ts ps [] ts ps
+pub loads_none : (ts : List TypeShape) (ps : List (ℕ × ℕ)) → AreFormed ts → ArePairsWithin (length ts) ps → LoadsAll ts ps [] ts ps
 loads_none ts ps h w = record { extends = extends_itself ts h; within = w; stands = λ f k. ((λ a. (a, tt)), (λ a. a.0)) }
 
 -- what the pairs so far and the equations that are left say
 pub record LoadsSome (ts : List TypeShape) (ps : List (ℕ × ℕ)) (all : List ShapeEquation) (us : List TypeShape) (qs : List (ℕ × ℕ)) (rest : List ShapeEquation) : Type 0 where
   pub extends : Extends ts us
-  pub within : AreWithin (length us) qs
+  pub within : ArePairsWithin (length us) qs
   pub bound : equations_bound rest ≤ length us
-  pub stands : (f : Filling) → Fits f us → (Agree f qs × Solves f rest) ↔ (Agree f ps × Solves f all)
+  pub stands : (f : Filling) → Fits f us → (Agree f qs × FillingSolves f rest) ↔ (Agree f ps × FillingSolves f all)
 
-pub loads_first : (ts : List TypeShape) (ps : List (ℕ × ℕ)) (es : List ShapeEquation) → AreFormed ts → AreWithin (length ts) ps → equations_bound es ≤ length ts → LoadsSome ts ps es ts ps es
+pub loads_first : (ts : List TypeShape) (ps : List (ℕ × ℕ)) (es : List ShapeEquation) → AreFormed ts → ArePairsWithin (length ts) ps → equations_bound es ≤ length ts → LoadsSome ts ps es ts ps es
 loads_first ts ps es h w b = record { extends = extends_itself ts h; within = w; bound = b; stands = λ f k. ((λ a. a), (λ a. a)) }
 
 pub loads_more : (ts : List TypeShape) (ps : List (ℕ × ℕ)) (all : List ShapeEquation) (us vs : List TypeShape) (qs rs : List (ℕ × ℕ)) (t u : TypeShape) (rest : List ShapeEquation)
@@ -129,12 +129,12 @@ equation_next es i e l h = ap (map equation_of) (next_at es i e l h)
 
 -- The same for what the program returns.
 pub loaded : (r : Result ℕ Memory) (ts : List TypeShape) (now new : List Node) (n : Node) (u v : TypeShape) → IfOk r (λ x. x ≡ length now) → IfOk r (λ x. new ≡ now ++ n ∷ []) → v ≡ u
-    → Loads ts u (table_of now ++ layer_of n ∷ []) (length (table_of now)) → IfOk r (λ x. Loads ts v (table_of new) x)
+    → Loads ts u (shapes_of_nodes now ++ layer_of n ∷ []) (length (shapes_of_nodes now)) → IfOk r (λ x. Loads ts v (shapes_of_nodes new) x)
 loaded (Ok x) ts now new n u v h k e l =
-    let i : table_of new ≡ table_of now ++ layer_of n ∷ [] = ap table_of k ∙ table_push now n in
-    let j : x ≡ length (table_of now) = h ∙ sym (length_table now) in
-    subst (λ w. Loads ts w (table_of new) x) (sym e)
-    (subst (λ y. Loads ts u (table_of new) y) (sym j) (subst (λ (us : List TypeShape). Loads ts u us (length (table_of now))) (sym i) l))
+    let i : shapes_of_nodes new ≡ shapes_of_nodes now ++ layer_of n ∷ [] = ap shapes_of_nodes k ∙ table_push now n in
+    let j : x ≡ length (shapes_of_nodes now) = h ∙ sym (length_table now) in
+    subst (λ w. Loads ts w (shapes_of_nodes new) x) (sym e)
+    (subst (λ y. Loads ts u (shapes_of_nodes new) y) (sym j) (subst (λ (us : List TypeShape). Loads ts u us (length (shapes_of_nodes now))) (sym i) l))
 loaded (Err x) ts now new n u v h k e l = tt
 
 pub bound_next : (es : List (Shape × Shape)) (i : ℕ) (e : Shape × Shape) (n : ℕ) → i < length es → e ≡ get_or es i e → equations_bound (map equation_of (drop i es)) ≤ n

@@ -3,7 +3,7 @@ use Rattle.std.proofs.Common.{◌≡◌, ◌<◌, ◌≤◌, ◌+◌, ◌∙◌,
 use Rattle.std.specs.Prelude.{slice_index_or, ◌==◌, if◌then◌else◌}
 use Rattle.std.proofs.lemmas.Bool.Decides.{eqb_tells}
 use Rattle.ap_defs.specs.Types.{TypeShape, hole, unit, names}
-use Rattle.ap_types.specs.Equations.{ShapeEquation, Filling, filled, Solves, FilledBy, IsNameType, GivesNames, IsSolution, IsInstance, equations_bound, names_bound}
+use Rattle.ap_types.specs.Equations.{ShapeEquation, Filling, filled, FillingSolves, FilledBy, IsNameType, GivesNames, IsSolution, IsShapeInstance, equations_bound, names_bound}
 use Rattle.ap_types.specs.Solving.{shape_at}
 use Rattle.ap_types.specs.Assignments.{IsNameOrOpen, AreNames, IsNameOrHole, AreNamesOrHoles, IsUnsolvable, name_equation, name_equations, Narrows}
 
@@ -42,11 +42,11 @@ one_name : (t : TypeShape) → IsNameType 1 t → t ≡ names 0
 one_name (names s) h = let e : s ≡ 0 = omega arith in ap names e
 one_name _ h = absurd h
 
-names_solved_one : (f : Filling) (xs : List ℕ) → GivesNames 1 f xs → Solves f (map name_equation xs)
+names_solved_one : (f : Filling) (xs : List ℕ) → GivesNames 1 f xs → FillingSolves f (map name_equation xs)
 names_solved_one f [] h = tt
 names_solved_one f (x ∷ xs) h = (one_name (f x) h.0, names_solved_one f xs h.1)
 
-pub names_solved : (n : ℕ) (f : Filling) (xs : List ℕ) → GivesNames n f xs → Solves f (name_equations n xs)
+pub names_solved : (n : ℕ) (f : Filling) (xs : List ℕ) → GivesNames n f xs → FillingSolves f (name_equations n xs)
 names_solved n f xs h =
     elim (eqb_tells n 1) [
       | inl w ↦ rw w.0 (names_solved_one f xs (subst (λ m. GivesNames m f xs) w.1 h))
@@ -61,7 +61,7 @@ pub bound_names : (n : ℕ) (xs : List ℕ) → equations_bound (name_equations 
 bound_names n xs = elim (n == 1) as (λ b. equations_bound (if b then map name_equation xs else []) ≤ names_bound xs) [ true ↦ bound_one xs | false ↦ omega arith ]
 
 -- The solutions are the instances that give the holes in question name types.
-pub narrows_most_general : (es : List ShapeEquation) (xs : List ℕ) (n : ℕ) (ts : List TypeShape) → Narrows es xs n ts → (f : Filling) → IsSolution es xs n f ↔ (IsInstance ts f × GivesNames n f xs)
+pub narrows_most_general : (es : List ShapeEquation) (xs : List ℕ) (n : ℕ) (ts : List TypeShape) → Narrows es xs n ts → (f : Filling) → IsSolution es xs n f ↔ (IsShapeInstance ts f × GivesNames n f xs)
 narrows_most_general es xs n ts h f = (
   (λ s. (h.onward f s, s.1)),
   (λ k. ((h.back k.0.0 f k.0.1).0, k.1)),
@@ -81,7 +81,7 @@ name_open n (hole y) l k h =
     two_or_more (suc (suc m)) i j = omega arith
 name_open n _ l k h = absurd h
 
-names_open : (n : ℕ) (ts : List TypeShape) (xs : List ℕ) → 0 < n → (n ≡ 1 → Solves (instance_by (λ y. unit) ts) (map name_equation xs)) → AreNamesOrHoles n ts xs → AreNames n ts xs
+names_open : (n : ℕ) (ts : List TypeShape) (xs : List ℕ) → 0 < n → (n ≡ 1 → FillingSolves (instance_by (λ y. unit) ts) (map name_equation xs)) → AreNamesOrHoles n ts xs → AreNames n ts xs
 names_open n ts [] l k h = tt
 names_open n ts (x ∷ xs) l k h = (name_open n (shape_at ts x) l (λ e. (k e).0) h.0, names_open n ts xs l (λ e. (k e).1) h.1)
 

@@ -10,25 +10,25 @@ use Rattle.ap_defs.specs.declared.goals.Constructor.{Constructor}
 use Rattle.ap_defs.specs.Types.{NominalConstructor, type_of, constructor_of}
 use Rattle.ap_types.specs.Holding.{holds_if, some_holds}
 use Rattle.ap_types.specs.declared.least.Rule.{Rule}
-use Rattle.ap_types.specs.Rounds.{Test, Within, IsLeast, some_passes, reached, marked}
-use Rattle.ap_types.specs.Rules.{all_in, rules_at, Gives, Adds, Say, Stands, weight, later_weight, SameMarks, OthersMarked, OthersWait}
+use Rattle.ap_types.specs.Rounds.{Test, Within, IsLeastSet, some_passes, reached, marked}
+use Rattle.ap_types.specs.Rules.{all_are_in, rules_at, RulesGive, Adds, Say, RulesStand, rules_weight, later_weight, SameMarks, OthersMarked, OthersWait}
 use Rattle.ap_types.proofs.BooleanLemmas.{and_left, and_right, and_both, or_cases, or_if_left, or_if_right}
 use Rattle.ap_types.proofs.RoundLemmas.{Grows, some_passes_grows, reached_more, reached_closed}
 
 -- Lists of rules.
-pub gives_front : (p q : ℕ → Bool) (xs ys : List Rule) → Gives p q (xs ++ ys) → Gives p q xs
+pub gives_front : (p q : ℕ → Bool) (xs ys : List Rule) → RulesGive p q (xs ++ ys) → RulesGive p q xs
 gives_front p q [] ys h = tt
 gives_front p q (x ∷ xs) ys h = (h.0, gives_front p q xs ys h.1)
 
-pub gives_back : (p q : ℕ → Bool) (xs ys : List Rule) → Gives p q (xs ++ ys) → Gives p q ys
+pub gives_back : (p q : ℕ → Bool) (xs ys : List Rule) → RulesGive p q (xs ++ ys) → RulesGive p q ys
 gives_back p q [] ys h = h
 gives_back p q (x ∷ xs) ys h = gives_back p q xs ys h.1
 
-pub gives_both : (p q : ℕ → Bool) (xs ys : List Rule) → Gives p q xs → Gives p q ys → Gives p q (xs ++ ys)
+pub gives_both : (p q : ℕ → Bool) (xs ys : List Rule) → RulesGive p q xs → RulesGive p q ys → RulesGive p q (xs ++ ys)
 gives_both p q [] ys h k = k
 gives_both p q (x ∷ xs) ys h k = (h.0, gives_both p q xs ys h.1 k)
 
-gives_more : (p q s : ℕ → Bool) → Within q s → (xs : List Rule) → Gives p q xs → Gives p s xs
+gives_more : (p q s : ℕ → Bool) → Within q s → (xs : List Rule) → RulesGive p q xs → RulesGive p s xs
 gives_more p q s w [] h = tt
 gives_more p q s w (x ∷ xs) h = ((λ e. w x.gives (h.0 e)), gives_more p q s w xs h.1)
 
@@ -36,21 +36,21 @@ pub no_rules : (xs : List Rule) → length xs ≡ 0 → xs ≡ []
 no_rules [] h = refl
 no_rules (x ∷ xs) h = absurd (omega arith)
 
-pub weight_append : (xs ys : List Rule) → weight (xs ++ ys) ≡ weight xs + weight ys
+pub weight_append : (xs ys : List Rule) → rules_weight (xs ++ ys) ≡ rules_weight xs + rules_weight ys
 weight_append [] ys = omega arith
 weight_append (x ∷ xs) ys = let k = weight_append xs ys in omega arith
 
-pub all_in_append : (p : ℕ → Bool) (ds es : List ℕ) → all_in p (ds ++ es) ≡ (all_in p ds && all_in p es)
+pub all_in_append : (p : ℕ → Bool) (ds es : List ℕ) → all_are_in p (ds ++ es) ≡ (all_are_in p ds && all_are_in p es)
 all_in_append p [] es = refl
-all_in_append p (d ∷ ds) es = elim (p d) as (λ b. (b && all_in p (ds ++ es)) ≡ ((b && all_in p ds) && all_in p es)) [ true ↦ all_in_append p ds es | false ↦ refl ]
+all_in_append p (d ∷ ds) es = elim (p d) as (λ b. (b && all_are_in p (ds ++ es)) ≡ ((b && all_are_in p ds) && all_are_in p es)) [ true ↦ all_in_append p ds es | false ↦ refl ]
 
 -- What rules say.
-pub adds_rule : (old new : List Rule) (r : Rule) → new ≡ old ++ r ∷ [] → Adds old new (λ p. all_in p r.needs.items) r.gives
-adds_rule old new r e p q = subst (λ rs. Gives p q rs ↔ (Gives p q old × (all_in p r.needs.items ≡ true → q r.gives ≡ true))) (sym e)
+pub adds_rule : (old new : List Rule) (r : Rule) → new ≡ old ++ r ∷ [] → Adds old new (λ p. all_are_in p r.needs.items) r.gives
+adds_rule old new r e p q = subst (λ rs. RulesGive p q rs ↔ (RulesGive p q old × (all_are_in p r.needs.items ≡ true → q r.gives ≡ true))) (sym e)
     ((λ h. (gives_front p q old (r ∷ []) h, (gives_back p q old (r ∷ []) h).0)), (λ h. gives_both p q old (r ∷ []) h.0 (h.1, tt)))
 
 pub adds_same : (old new : List Rule) (f g : (ℕ → Bool) → Bool) (d : ℕ) → ((p : ℕ → Bool) → f p ≡ g p) → Adds old new f d → Adds old new g d
-adds_same old new f g d e h p q = subst (λ b. Gives p q new ↔ (Gives p q old × (b ≡ true → q d ≡ true))) (e p) (h p q)
+adds_same old new f g d e h p q = subst (λ b. RulesGive p q new ↔ (RulesGive p q old × (b ≡ true → q d ≡ true))) (e p) (h p q)
 
 pub adds_either : (old mid new : List Rule) (f g : (ℕ → Bool) → Bool) (d : ℕ) → Adds old mid f d → Adds mid new g d → Adds old new (λ p. f p || g p) d
 adds_either old mid new f g d h k p q = (
@@ -61,11 +61,11 @@ adds_either old mid new f g d h k p q = (
 pub adds_none : (old : List Rule) (f : (ℕ → Bool) → Bool) (d : ℕ) → ((p : ℕ → Bool) → f p ≡ false) → Adds old old f d
 adds_none old f d never p q = ((λ h. (h, λ e. let n = never p in cc)), (λ h. h.0))
 
-pub no_needs : (p : ℕ → Bool) (ds : List ℕ) → ds ≡ [] → all_in p ds ≡ true
-no_needs p ds e = ap (all_in p) e
+pub no_needs : (p : ℕ → Bool) (ds : List ℕ) → ds ≡ [] → all_are_in p ds ≡ true
+no_needs p ds e = ap (all_are_in p) e
 
-pub one_need : (p : ℕ → Bool) (ds : List ℕ) (d : ℕ) → ds ≡ d ∷ [] → all_in p ds ≡ p d
-one_need p ds d e = ap (all_in p) e ∙ elim (p d) as (λ b. (b && true) ≡ b) [ true ↦ refl | false ↦ refl ]
+pub one_need : (p : ℕ → Bool) (ds : List ℕ) (d : ℕ) → ds ≡ d ∷ [] → all_are_in p ds ≡ p d
+one_need p ds d e = ap (all_are_in p) e ∙ elim (p d) as (λ b. (b && true) ≡ b) [ true ↦ refl | false ↦ refl ]
 
 pub same_numbers : (m n : ℕ) → m ≡ n → (m == n) ≡ true
 same_numbers m n e = elim (eqb_tells m n) [ inl w ↦ w.0 | inr w ↦ absurd (w.1 e) ]
@@ -116,7 +116,7 @@ rules_push (u ∷ vs) v h (suc d) = rules_push vs v h d
 
 pub later_push : (vs : List (Vec Rule)) (v : Vec Rule) → v.items ≡ [] → later_weight (vs ++ v ∷ []) ≡ later_weight vs
 later_push [] v h = rw h refl
-later_push (u ∷ vs) v h = ap (λ n. (weight u.items + length u.items) + n) (later_push vs v h)
+later_push (u ∷ vs) v h = ap (λ n. (rules_weight u.items + length u.items) + n) (later_push vs v h)
 
 pub rules_there : (vs : List (Vec Rule)) (d : ℕ) (v : Vec Rule) → d < length vs → v ≡ get_or vs d v → rules_at vs d ≡ v.items
 rules_there [] d v l e = absurd (omega arith)
@@ -141,10 +141,10 @@ rules_set_other (u ∷ vs) (suc d) v zero n = refl
 rules_set_other (u ∷ vs) (suc d) v (suc e) n = rules_set_other vs d v e (λ s. n (ap suc s))
 
 pub later_set : (vs : List (Vec Rule)) (d : ℕ) (old v : Vec Rule) → d < length vs → old ≡ get_or vs d old
-    → later_weight (set vs d v) + (weight old.items + length old.items) ≡ later_weight vs + (weight v.items + length v.items)
+    → later_weight (set vs d v) + (rules_weight old.items + length old.items) ≡ later_weight vs + (rules_weight v.items + length v.items)
 later_set [] d old v l e = absurd (omega arith)
 later_set (u ∷ vs) zero old v l e =
-    let w : weight old.items ≡ weight u.items = ap (λ x. weight x.items) e in
+    let w : rules_weight old.items ≡ rules_weight u.items = ap (λ x. rules_weight x.items) e in
     let n : length old.items ≡ length u.items = ap (λ x. length x.items) e in
     omega arith
 later_set (u ∷ vs) (suc d) old v l e = let k = later_set vs d old v (omega arith) e in omega arith
@@ -186,7 +186,7 @@ module _ (test : Test) (grows : Grows test) where
 
   -- One more constructor, whose rules are left.
   pub stands_more : (cs : List NominalConstructor) (c : NominalConstructor) (rules : List Rule) (table : List Bool) (ws : List (Vec Rule))
-      → Say test c rules → Stands test cs [] table ws → Stands test (cs ++ c ∷ []) rules table ws
+      → Say test c rules → RulesStand test cs [] table ws → RulesStand test (cs ++ c ∷ []) rules table ws
   stands_more cs c rules table ws say h = record {
     sound = (h.sound.0, λ d m. reached_with cs (c ∷ []) h.sound.0 d (h.sound.1 d m));
     right = λ p w. (
@@ -201,18 +201,18 @@ module _ (test : Test) (grows : Grows test) where
   }
 
   -- Where no rule is left, the table is the least set.
-  pub stands_least : (cs : List NominalConstructor) (table : List Bool) (ws : List (Vec Rule)) → Stands test cs [] table ws → IsLeast test cs (marked table)
+  pub stands_least : (cs : List NominalConstructor) (table : List Bool) (ws : List (Vec Rule)) → RulesStand test cs [] table ws → IsLeastSet test cs (marked table)
   stands_least cs table ws h = record {
     sound = h.sound;
     whole = reached_closed test grows cs (marked table)
-        (h.whole (marked table) (λ d e. e) tt (λ d m. subst (λ rs. Gives (marked table) (marked table) rs) (sym (h.blocked d m)) tt));
+        (h.whole (marked table) (λ d e. e) tt (λ d m. subst (λ rs. RulesGive (marked table) (marked table) rs) (sym (h.blocked d m)) tt));
   }
 
   -- A rule whose needs are in gives its data type, and the rules that waited for this are left.
   pub stands_given : (cs : List NominalConstructor) (rest next : List Rule) (rule : Rule) (table table' : List Bool) (ws ws' : List (Vec Rule))
-      → ((p : ℕ → Bool) → Within (marked table) p → all_in p rule.needs.items ≡ true) → marked table' rule.gives ≡ true → OthersMarked rule.gives table table'
+      → ((p : ℕ → Bool) → Within (marked table) p → all_are_in p rule.needs.items ≡ true) → marked table' rule.gives ≡ true → OthersMarked rule.gives table table'
       → next ≡ rules_at ws rule.gives → rules_at ws' rule.gives ≡ [] → OthersWait rule.gives ws ws'
-      → Stands test cs (rest ++ rule ∷ []) table ws → Stands test cs (rest ++ next) table' ws'
+      → RulesStand test cs (rest ++ rule ∷ []) table ws → RulesStand test cs (rest ++ next) table' ws'
   stands_given cs rest next rule table table' ws ws' met here others given none later h = record {
     sound = (
       suc h.sound.0,
@@ -224,17 +224,17 @@ module _ (test : Test) (grows : Grows test) where
       ],
     );
     right = λ p w. let g = h.right p (below p w) in let q = some_passes test p cs in (
-      gives_both p q rest next (gives_front p q rest (rule ∷ []) g.0) (subst (λ rs. Gives p q rs) (sym given) (g.1 rule.gives (w rule.gives here))),
+      gives_both p q rest next (gives_front p q rest (rule ∷ []) g.0) (subst (λ rs. RulesGive p q rs) (sym given) (g.1 rule.gives (w rule.gives here))),
       λ d e. elim (eqb_tells d rule.gives) [
-        | inl i ↦ subst (λ rs. Gives p q rs) (sym (ap (rules_at ws') i.1 ∙ none)) tt
-        | inr i ↦ subst (λ rs. Gives p q rs) (sym (later d i.1)) (g.1 d e)
+        | inl i ↦ subst (λ rs. RulesGive p q rs) (sym (ap (rules_at ws') i.1 ∙ none)) tt
+        | inr i ↦ subst (λ rs. RulesGive p q rs) (sym (later d i.1)) (g.1 d e)
       ],
     );
     whole = λ p w left waits. h.whole p (below p w)
         (gives_both p p rest (rule ∷ []) (gives_front p p rest next left) ((λ e. w rule.gives here), tt))
         (λ d e. elim (eqb_tells d rule.gives) [
-          | inl i ↦ subst (λ rs. Gives p p rs) (given ∙ sym (ap (rules_at ws) i.1)) (gives_back p p rest next left)
-          | inr i ↦ subst (λ rs. Gives p p rs) (later d i.1) (waits d e)
+          | inl i ↦ subst (λ rs. RulesGive p p rs) (given ∙ sym (ap (rules_at ws) i.1)) (gives_back p p rest next left)
+          | inr i ↦ subst (λ rs. RulesGive p p rs) (later d i.1) (waits d e)
         ]);
     blocked = λ d m. elim (eqb_tells d rule.gives) [
       | inl i ↦ ap (rules_at ws') i.1 ∙ none
@@ -249,8 +249,8 @@ module _ (test : Test) (grows : Grows test) where
       ]
 
 -- Before the first constructor.
-pub stands_nothing : (test : Test) (table : List Bool) (ws : List (Vec Rule)) → table ≡ [] → ws ≡ [] → Stands test [] [] table ws
-stands_nothing test table ws et ew = subst (λ t. Stands test [] [] t ws) (sym et) (subst (λ v. Stands test [] [] [] v) (sym ew) (record {
+pub stands_nothing : (test : Test) (table : List Bool) (ws : List (Vec Rule)) → table ≡ [] → ws ≡ [] → RulesStand test [] [] table ws
+stands_nothing test table ws et ew = subst (λ t. RulesStand test [] [] t ws) (sym et) (subst (λ v. RulesStand test [] [] [] v) (sym ew) (record {
   sound = (zero, λ d m. cc);
   right = λ p w. (tt, λ d e. tt);
   whole = λ p w left later d e. cc;
@@ -259,34 +259,34 @@ stands_nothing test table ws et ew = subst (λ t. Stands test [] [] t ws) (sym e
 
 -- A rule waits at a data type that it needs and that is not in.
 pub stands_waiting : (test : Test) (cs : List NominalConstructor) (rest next : List Rule) (rule less : Rule) (d : ℕ) (table : List Bool) (ws ws' : List (Vec Rule))
-    → less.gives ≡ rule.gives → marked table d ≡ false → ((p : ℕ → Bool) → Within (marked table) p → all_in p rule.needs.items ≡ (p d && all_in p less.needs.items))
+    → less.gives ≡ rule.gives → marked table d ≡ false → ((p : ℕ → Bool) → Within (marked table) p → all_are_in p rule.needs.items ≡ (p d && all_are_in p less.needs.items))
     → next ≡ [] → rules_at ws' d ≡ rules_at ws d ++ less ∷ [] → OthersWait d ws ws'
-    → Stands test cs (rest ++ rule ∷ []) table ws → Stands test cs (rest ++ next) table ws'
+    → RulesStand test cs (rest ++ rule ∷ []) table ws → RulesStand test cs (rest ++ next) table ws'
 stands_waiting test cs rest next rule less d table ws ws' same out needs none here later h = record {
   sound = h.sound;
   right = λ p w. let g = h.right p w in let q = some_passes test p cs in (
-    gives_both p q rest next (gives_front p q rest (rule ∷ []) g.0) (subst (λ rs. Gives p q rs) (sym none) tt),
+    gives_both p q rest next (gives_front p q rest (rule ∷ []) g.0) (subst (λ rs. RulesGive p q rs) (sym none) tt),
     λ e i. elim (eqb_tells e d) [
-      | inl k ↦ subst (λ rs. Gives p q rs) (sym (ap (rules_at ws') k.1 ∙ here))
-          (gives_both p q (rules_at ws d) (less ∷ []) (subst (λ x. Gives p q (rules_at ws x)) k.1 (g.1 e i)) (
-            (λ a. subst (λ x. q x ≡ true) (sym same) ((gives_back p q rest (rule ∷ []) g.0).0 (needs p w ∙ and_both (p d) (all_in p less.needs.items) (subst (λ x. p x ≡ true) k.1 i) a))),
+      | inl k ↦ subst (λ rs. RulesGive p q rs) (sym (ap (rules_at ws') k.1 ∙ here))
+          (gives_both p q (rules_at ws d) (less ∷ []) (subst (λ x. RulesGive p q (rules_at ws x)) k.1 (g.1 e i)) (
+            (λ a. subst (λ x. q x ≡ true) (sym same) ((gives_back p q rest (rule ∷ []) g.0).0 (needs p w ∙ and_both (p d) (all_are_in p less.needs.items) (subst (λ x. p x ≡ true) k.1 i) a))),
             tt,
           ))
-      | inr k ↦ subst (λ rs. Gives p q rs) (sym (later e k.1)) (g.1 e i)
+      | inr k ↦ subst (λ rs. RulesGive p q rs) (sym (later e k.1)) (g.1 e i)
     ],
   );
   whole = λ p w left waits. h.whole p w
       (gives_both p p rest (rule ∷ []) (gives_front p p rest next left) (
-        (λ a. let both : (p d && all_in p less.needs.items) ≡ true = sym (needs p w) ∙ a in
+        (λ a. let both : (p d && all_are_in p less.needs.items) ≡ true = sym (needs p w) ∙ a in
             subst (λ x. p x ≡ true) same
-            ((gives_back p p (rules_at ws d) (less ∷ []) (subst (λ rs. Gives p p rs) here (waits d (and_left (p d) (all_in p less.needs.items) both)))).0
-            (and_right (p d) (all_in p less.needs.items) both))),
+            ((gives_back p p (rules_at ws d) (less ∷ []) (subst (λ rs. RulesGive p p rs) here (waits d (and_left (p d) (all_are_in p less.needs.items) both)))).0
+            (and_right (p d) (all_are_in p less.needs.items) both))),
         tt,
       ))
       (λ e i. elim (eqb_tells e d) [
-        | inl k ↦ subst (λ x. Gives p p (rules_at ws x)) (sym k.1)
-            (gives_front p p (rules_at ws d) (less ∷ []) (subst (λ rs. Gives p p rs) here (waits d (subst (λ x. p x ≡ true) k.1 i))))
-        | inr k ↦ subst (λ rs. Gives p p rs) (later e k.1) (waits e i)
+        | inl k ↦ subst (λ x. RulesGive p p (rules_at ws x)) (sym k.1)
+            (gives_front p p (rules_at ws d) (less ∷ []) (subst (λ rs. RulesGive p p rs) here (waits d (subst (λ x. p x ≡ true) k.1 i))))
+        | inr k ↦ subst (λ rs. RulesGive p p rs) (later e k.1) (waits e i)
       ]);
   blocked = λ e m. elim (eqb_tells e d) [
     | inl k ↦ let in_ : marked table d ≡ true = subst (λ x. marked table x ≡ true) k.1 m in cc

@@ -5,11 +5,11 @@ use Rattle.std.proofs.lemmas.List.{at_drop_more}
 use Rattle.ap_defs.specs.declared.terms.Shape.{Shape}
 use Rattle.ap_defs.specs.Types.{shape_of, TypeShape, hole, unit, names, base, pair, list, abs}
 use Rattle.ap_types.specs.declared.loading.Loaded.{Loaded}
-use Rattle.ap_types.specs.Equations.{ShapeEquation, ◌≐◌, Filling, filled, FilledBy, Solves, IsSolution, equations_bound, names_bound, hole_count}
+use Rattle.ap_types.specs.Equations.{ShapeEquation, ◌≐◌, Filling, filled, FilledBy, FillingSolves, IsSolution, equations_bound, names_bound, hole_count}
 use Rattle.ap_types.specs.Solving.{shape_at}
 use Rattle.ap_types.specs.Assignments.{IsUnsolvable, name_equations, Narrows, IsNameOrHole, AreNamesOrHoles}
-use Rattle.ap_types.specs.Triangular.{table_of, value_of, values_from, Fits, IsFormed, AreFormed, IsSettled}
-use Rattle.ap_types.specs.Joining.{Agree, LoadsAll, LoadsSystem, Settles, Rewrites, Leads, NeverAgree, link}
+use Rattle.ap_types.specs.Triangular.{shapes_of_nodes, value_of, values_from, Fits, IsFormed, AreFormed, IsSettledTable}
+use Rattle.ap_types.specs.Joining.{Agree, LoadsAll, LoadsSystem, Settles, Rewrites, TablesLead, NeverAgree, link}
 use Rattle.ap_types.specs.Walking.{NoneFits}
 use Rattle.ap_types.proofs.ShapeLemmas.{filled_filled, filled_same, filled_below}
 use Rattle.ap_types.proofs.TableLemmas.{at_past}
@@ -26,7 +26,7 @@ pub past_value : (ts : List TypeShape) (x : ℕ) → length ts ≤ x → value_o
 past_value ts x l = open_value ts x (at_past ts x l)
 
 -- what fits is an instance of what the places stand for
-module _ (ts : List TypeShape) (settled : IsSettled ts) (f : Filling) (fits : Fits f ts) where
+module _ (ts : List TypeShape) (settled : IsSettledTable ts) (f : Filling) (fits : Fits f ts) where
   instance_within : (m x : ℕ) → weight (value_of ts) (length ts) x < m → f x ≡ filled f (value_of ts x)
   instance_within zero x l = absurd (omega arith)
   instance_within (suc m) x l =
@@ -48,7 +48,7 @@ module _ (ts : List TypeShape) (settled : IsSettled ts) (f : Filling) (fits : Fi
   instance_of x = instance_within (suc (weight (value_of ts) (length ts) x)) x (omega arith)
 
 -- each instance fits
-pub instance_fits : (ts : List TypeShape) → IsSettled ts → (g : Filling) → Fits (λ x. filled g (value_of ts x)) ts
+pub instance_fits : (ts : List TypeShape) → IsSettledTable ts → (g : Filling) → Fits (λ x. filled g (value_of ts x)) ts
 instance_fits ts s g x = ap (filled g) (s.fits x) ∙ filled_filled (value_of ts) g (shape_at ts x)
 
 -- The shapes of the first places.
@@ -76,7 +76,7 @@ pub value_at : (ts : List TypeShape) (n y : ℕ) → y < n → shape_at (values_
 value_at ts n y l = let e : 0 + y ≡ y = omega arith in value_index ts 0 n y (hole y) l ∙ ap (value_of ts) e
 
 -- equations are solved alike by what agrees on their holes
-pub solves_below : (f g : Filling) (es : List ShapeEquation) (n : ℕ) → equations_bound es ≤ n → ((x : ℕ) → x < n → g x ≡ f x) → Solves f es → Solves g es
+pub solves_below : (f g : Filling) (es : List ShapeEquation) (n : ℕ) → equations_bound es ≤ n → ((x : ℕ) → x < n → g x ≡ f x) → FillingSolves f es → FillingSolves g es
 solves_below f g [] n b h s = tt
 solves_below f g ((t ≐ u) ∷ es) n b h s =
     (filled_below f g t n (omega arith) h ∙ s.0 ∙ sym (filled_below f g u n (omega arith) h), solves_below f g es n (omega arith) h s.1)
@@ -137,7 +137,7 @@ pub open_formed : (os : List TypeShape) → ((x : ℕ) → shape_at os x ≡ hol
 open_formed os opened x = subst (λ t. IsFormed (length os) x t) (sym (opened x)) (omega arith)
 
 -- Settling: the pairs are joined, links shortened, and no cycle was found.
-pub settles : (ts us vs : List TypeShape) (ps : List (ℕ × ℕ)) → Leads ts ps us [] → Rewrites us vs → IsSettled vs → Settles ts ps vs
+pub settles : (ts us vs : List TypeShape) (ps : List (ℕ × ℕ)) → TablesLead ts ps us [] → Rewrites us vs → IsSettledTable vs → Settles ts ps vs
 settles ts us vs ps h k s = record {
   settled = s;
   solved = λ f. (
@@ -146,11 +146,11 @@ settles ts us vs ps h k s = record {
   );
 }
 
-pub never_settles : (ts us vs : List TypeShape) (ps : List (ℕ × ℕ)) → Leads ts ps us [] → Rewrites us vs → NoneFits vs → NeverAgree ts ps
+pub never_settles : (ts us vs : List TypeShape) (ps : List (ℕ × ℕ)) → TablesLead ts ps us [] → Rewrites us vs → NoneFits vs → NeverAgree ts ps
 never_settles ts us vs ps h k n f e a = n f ((k.same f).0 ((h.solved f).0 (e, a)).0)
 
 -- Name types.
-pub linked_value : (ts : List TypeShape) (x : ℕ) → IsSettled ts → value_of ts x ≡ value_of ts (link x (shape_at ts x))
+pub linked_value : (ts : List TypeShape) (x : ℕ) → IsSettledTable ts → value_of ts x ≡ value_of ts (link x (shape_at ts x))
 linked_value ts x s = along x (shape_at ts x) (s.fits x)
   where
     along : (x : ℕ) (t : TypeShape) → value_of ts x ≡ filled (value_of ts) t → value_of ts x ≡ value_of ts (link x t)
@@ -193,8 +193,8 @@ names_next n holes ts xs i l b =
 -- The same for what the program returns.
 pub loaded_system : {E : Type 0} (r : Result Loaded E) (es fs : List ShapeEquation) (holes : ℕ) (ts : List TypeShape) (ps : List (ℕ × ℕ))
     → ((us : List TypeShape) (qs : List (ℕ × ℕ)) → LoadsAll ts ps fs us qs → LoadsSystem es fs holes us qs)
-    → IfOk r (λ l. LoadsAll ts ps fs (table_of l.nodes.items) l.pairs.items) → IfOk r (λ l. LoadsSystem es fs holes (table_of l.nodes.items) l.pairs.items)
-loaded_system (Ok l) es fs holes ts ps k h = k (table_of l.nodes.items) l.pairs.items h
+    → IfOk r (λ l. LoadsAll ts ps fs (shapes_of_nodes l.nodes.items) l.pairs.items) → IfOk r (λ l. LoadsSystem es fs holes (shapes_of_nodes l.nodes.items) l.pairs.items)
+loaded_system (Ok l) es fs holes ts ps k h = k (shapes_of_nodes l.nodes.items) l.pairs.items h
 loaded_system (Err e) es fs holes ts ps k h = tt
 
 pub value_as : {E : Type 0} (r : Result Shape E) (v w : TypeShape) → v ≡ w → IfOk r (λ t. shape_of t ≡ v) → IfOk r (λ t. shape_of t ≡ w)

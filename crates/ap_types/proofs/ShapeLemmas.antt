@@ -4,7 +4,7 @@ use Rattle.std.specs.Prelude.{◌==◌}
 use Rattle.std.proofs.lemmas.Bool.Decides.{eqb_tells}
 use Rattle.ap_defs.specs.Types.{TypeShape, hole, unit, names, base, pair, list, abs}
 use Rattle.ap_types.specs.Equations.{Filling, filled, bound_of}
-use Rattle.ap_types.specs.Solving.{occurs}
+use Rattle.ap_types.specs.Solving.{occurs_in_shape}
 use Rattle.ap_types.proofs.BooleanLemmas.{or_cases, or_if_left, or_if_right}
 
 pub filled_filled : (f g : Filling) (t : TypeShape) → filled g (filled f t) ≡ filled (λ y. filled g (f y)) t
@@ -17,7 +17,7 @@ filled_filled f g (list t) = ap list (filled_filled f g t)
 filled_filled f g (abs t u) = ap₂ abs (filled_filled f g t) (filled_filled f g u)
 
 -- Fillings that agree on the holes of a shape fill it alike.
-pub filled_same : (f g : Filling) (t : TypeShape) → ((y : ℕ) → occurs y t ≡ true → f y ≡ g y) → filled f t ≡ filled g t
+pub filled_same : (f g : Filling) (t : TypeShape) → ((y : ℕ) → occurs_in_shape y t ≡ true → f y ≡ g y) → filled f t ≡ filled g t
 filled_same f g (hole x) h = h x (same_number x)
   where
     same_number : (n : ℕ) → (n == n) ≡ true
@@ -26,10 +26,10 @@ filled_same f g unit h = refl
 filled_same f g (names s) h = refl
 filled_same f g (base d) h = refl
 filled_same f g (pair t u) h =
-    ap₂ pair (filled_same f g t (λ y e. h y (or_if_left (occurs y t) (occurs y u) e))) (filled_same f g u (λ y e. h y (or_if_right (occurs y t) (occurs y u) e)))
+    ap₂ pair (filled_same f g t (λ y e. h y (or_if_left (occurs_in_shape y t) (occurs_in_shape y u) e))) (filled_same f g u (λ y e. h y (or_if_right (occurs_in_shape y t) (occurs_in_shape y u) e)))
 filled_same f g (list t) h = ap list (filled_same f g t h)
 filled_same f g (abs t u) h =
-    ap₂ abs (filled_same f g t (λ y e. h y (or_if_left (occurs y t) (occurs y u) e))) (filled_same f g u (λ y e. h y (or_if_right (occurs y t) (occurs y u) e)))
+    ap₂ abs (filled_same f g t (λ y e. h y (or_if_left (occurs_in_shape y t) (occurs_in_shape y u) e))) (filled_same f g u (λ y e. h y (or_if_right (occurs_in_shape y t) (occurs_in_shape y u) e)))
 
 pub filled_itself : (t : TypeShape) → filled hole t ≡ t
 filled_itself (hole x) = refl
@@ -46,14 +46,14 @@ number_same x y e = elim (eqb_tells x y) [ inl w ↦ w.1 | inr w ↦ cc ]
 pub number_itself : (x : ℕ) → (x == x) ≡ true
 number_itself x = elim (eqb_tells x x) [ inl w ↦ w.0 | inr w ↦ absurd (w.1 refl) ]
 
-pub occurs_bound : (x : ℕ) (t : TypeShape) → occurs x t ≡ true → x < bound_of t
+pub occurs_bound : (x : ℕ) (t : TypeShape) → occurs_in_shape x t ≡ true → x < bound_of t
 occurs_bound x (hole y) e = let s = number_same x y e in omega arith
 occurs_bound x unit e = cc
 occurs_bound x (names s) e = cc
 occurs_bound x (base d) e = cc
-occurs_bound x (pair t u) e = elim (or_cases (occurs x t) (occurs x u) e) [ inl i ↦ let l = occurs_bound x t i in omega arith | inr i ↦ let l = occurs_bound x u i in omega arith ]
+occurs_bound x (pair t u) e = elim (or_cases (occurs_in_shape x t) (occurs_in_shape x u) e) [ inl i ↦ let l = occurs_bound x t i in omega arith | inr i ↦ let l = occurs_bound x u i in omega arith ]
 occurs_bound x (list t) e = occurs_bound x t e
-occurs_bound x (abs t u) e = elim (or_cases (occurs x t) (occurs x u) e) [ inl i ↦ let l = occurs_bound x t i in omega arith | inr i ↦ let l = occurs_bound x u i in omega arith ]
+occurs_bound x (abs t u) e = elim (or_cases (occurs_in_shape x t) (occurs_in_shape x u) e) [ inl i ↦ let l = occurs_bound x t i in omega arith | inr i ↦ let l = occurs_bound x u i in omega arith ]
 
 -- how large a shape is
 abbrev pub size : TypeShape → ℕ
@@ -66,14 +66,14 @@ size (list t) = 1 + size t
 size (abs t u) = 1 + size t + size u
 
 -- what stands for a hole is no larger than the shape that has it
-pub size_occurs : (f : Filling) (x : ℕ) (t : TypeShape) → occurs x t ≡ true → size (f x) ≤ size (filled f t)
+pub size_occurs : (f : Filling) (x : ℕ) (t : TypeShape) → occurs_in_shape x t ≡ true → size (f x) ≤ size (filled f t)
 size_occurs f x (hole y) e = let s = ap (λ z. size (f z)) (number_same x y e) in omega arith
 size_occurs f x unit e = cc
 size_occurs f x (names s) e = cc
 size_occurs f x (base d) e = cc
-size_occurs f x (pair t u) e = elim (or_cases (occurs x t) (occurs x u) e) [ inl i ↦ let l = size_occurs f x t i in omega arith | inr i ↦ let l = size_occurs f x u i in omega arith ]
+size_occurs f x (pair t u) e = elim (or_cases (occurs_in_shape x t) (occurs_in_shape x u) e) [ inl i ↦ let l = size_occurs f x t i in omega arith | inr i ↦ let l = size_occurs f x u i in omega arith ]
 size_occurs f x (list t) e = let l = size_occurs f x t e in omega arith
-size_occurs f x (abs t u) e = elim (or_cases (occurs x t) (occurs x u) e) [ inl i ↦ let l = size_occurs f x t i in omega arith | inr i ↦ let l = size_occurs f x u i in omega arith ]
+size_occurs f x (abs t u) e = elim (or_cases (occurs_in_shape x t) (occurs_in_shape x u) e) [ inl i ↦ let l = size_occurs f x t i in omega arith | inr i ↦ let l = size_occurs f x u i in omega arith ]
 
 -- Fillings that agree on the holes below a bound fill alike what has no others.
 pub filled_below : (f g : Filling) (t : TypeShape) (n : ℕ) → bound_of t ≤ n → ((x : ℕ) → x < n → g x ≡ f x) → filled g t ≡ filled f t

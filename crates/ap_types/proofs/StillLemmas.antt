@@ -3,8 +3,8 @@ use Rattle.std.proofs.Common.{◌≡◌, ◌<◌, ◌≤◌, ◌⊎◌, ℕ, zer
 use Rattle.std.specs.Prelude.{◌==◌}
 use Rattle.std.proofs.lemmas.Bool.Decides.{eqb_tells}
 use Rattle.ap_defs.specs.Types.{NominalConstructor}
-use Rattle.ap_types.specs.Rounds.{Test, Within, IsLeast, some_passes, reached}
-use Rattle.ap_types.specs.Statements.{AreOf, InhabitedStandsStill, HoldingStandsStill}
+use Rattle.ap_types.specs.Rounds.{Test, Within, IsLeastSet, some_passes, reached}
+use Rattle.ap_types.specs.Statements.{AreOfFirst, InhabitedStandsStill, HoldingStandsStill}
 use Rattle.ap_types.specs.Inhabited.{all_inhabited}
 use Rattle.ap_types.specs.Holding.{some_holds}
 use Rattle.ap_types.specs.Joining.{count_below}
@@ -49,7 +49,7 @@ count_all p n h x l =
     ] refl
 
 -- only the data types of constructors are found
-passes_below : (test : Test) (p : ℕ → Bool) (n : ℕ) (cs : List NominalConstructor) → AreOf n cs → (d : ℕ) → some_passes test p cs d ≡ true → d < n
+passes_below : (test : Test) (p : ℕ → Bool) (n : ℕ) (cs : List NominalConstructor) → AreOfFirst n cs → (d : ℕ) → some_passes test p cs d ≡ true → d < n
 passes_below test p n [] h d e = cc
 passes_below test p n (c ∷ cs) h d e =
     elim (or_cases ((c.result == d) && test p c.args) (some_passes test p cs d) e) [
@@ -60,7 +60,7 @@ passes_below test p n (c ∷ cs) h d e =
       | inr a ↦ passes_below test p n cs h.1 d a
     ]
 
-module _ (test : Test) (grows : Grows test) (cs : List NominalConstructor) (n : ℕ) (of : AreOf n cs) where
+module _ (test : Test) (grows : Grows test) (cs : List NominalConstructor) (n : ℕ) (of : AreOfFirst n cs) where
   still_or_many : (r : ℕ) → Within (reached test cs (suc r)) (reached test cs r) ⊎ (r ≤ count_below (reached test cs r) n)
   still_or_many zero = inr (omega arith)
   still_or_many (suc r) = elim (still_or_many r) [
@@ -77,7 +77,7 @@ module _ (test : Test) (grows : Grows test) (cs : List NominalConstructor) (n : 
     | inr k ↦ count_all (reached test cs n) n k d (passes_below test (reached test cs n) n cs of d e)
   ]
 
-  pub still_least : IsLeast test cs (reached test cs n)
+  pub still_least : IsLeastSet test cs (reached test cs n)
   still_least = record { sound = (n, λ d e. e); whole = reached_closed test grows cs (reached test cs n) still }
 
 pub inhabited_stands_still : InhabitedStandsStill

@@ -9,7 +9,7 @@ use Rattle.ap_types.specs.declared.nodes.Node.{Node}
 use Rattle.ap_types.specs.declared.nodes.Node.TheVariants as nodes
 use Rattle.ap_types.specs.Equations.{Filling, filled, bound_of}
 use Rattle.ap_types.specs.Solving.{shape_at}
-use Rattle.ap_types.specs.Triangular.{layer_of, table_of, Fits, IsFormed, AreFormed}
+use Rattle.ap_types.specs.Triangular.{layer_of, shapes_of_nodes, Fits, IsFormed, AreFormed}
 use Rattle.ap_types.specs.Joining.{Extends}
 use Rattle.ap_types.proofs.ShapeLemmas.{filled_below}
 
@@ -37,13 +37,13 @@ at_push_here ts t = get_or-append_seam ts t [] (hole (length ts))
 pub length_push : (ts : List TypeShape) (t : TypeShape) → length (ts ++ t ∷ []) ≡ suc (length ts)
 length_push ts t = let h = length-append ts (t ∷ []) in omega arith
 
-pub length_table : (ns : List Node) → length (table_of ns) ≡ length ns
+pub length_table : (ns : List Node) → length (shapes_of_nodes ns) ≡ length ns
 length_table ns = length-map ns layer_of
 
-pub table_push : (ns : List Node) (n : Node) → table_of (ns ++ n ∷ []) ≡ table_of ns ++ layer_of n ∷ []
+pub table_push : (ns : List Node) (n : Node) → shapes_of_nodes (ns ++ n ∷ []) ≡ shapes_of_nodes ns ++ layer_of n ∷ []
 table_push ns n = map-append layer_of ns (n ∷ [])
 
-pub table_set : (ns : List Node) (x : ℕ) (n : Node) → table_of (set ns x n) ≡ set (table_of ns) x (layer_of n)
+pub table_set : (ns : List Node) (x : ℕ) (n : Node) → shapes_of_nodes (set ns x n) ≡ set (shapes_of_nodes ns) x (layer_of n)
 table_set [] x n = refl
 table_set (m ∷ ns) zero n = refl
 table_set (m ∷ ns) (suc x) n = ap (λ ts. layer_of m ∷ ts) (table_set ns x n)
@@ -146,10 +146,10 @@ extends_on ts us vs h k = record {
 }
 
 -- the entry at a place, as the program reads it
-pub layer_at : (ns : List Node) (x : ℕ) → x < length ns → layer_of (get_or ns x (nodes.Place 0)) ≡ shape_at (table_of ns) x
+pub layer_at : (ns : List Node) (x : ℕ) → x < length ns → layer_of (get_or ns x (nodes.Place 0)) ≡ shape_at (shapes_of_nodes ns) x
 layer_at ns x l = at_default ns x (hole x) l
   where
-    at_default : (ns : List Node) (x : ℕ) (d : TypeShape) → x < length ns → layer_of (get_or ns x (nodes.Place 0)) ≡ slice_index_or (table_of ns) x d
+    at_default : (ns : List Node) (x : ℕ) (d : TypeShape) → x < length ns → layer_of (get_or ns x (nodes.Place 0)) ≡ slice_index_or (shapes_of_nodes ns) x d
     at_default [] x d l = absurd (omega arith)
     at_default (n ∷ ns) zero d l = refl
     at_default (n ∷ ns) (suc x) d l = at_default ns x d (omega arith)

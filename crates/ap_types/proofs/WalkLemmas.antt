@@ -6,10 +6,10 @@ use Rattle.ap_defs.specs.Types.{TypeShape, hole, unit, names, base, pair, list, 
 use Rattle.ap_types.specs.declared.walking.Mark.{Mark}
 use Rattle.ap_types.specs.declared.walking.Mark.TheVariants as marks
 use Rattle.ap_types.specs.Equations.{Filling, filled, bound_of}
-use Rattle.ap_types.specs.Solving.{occurs, shape_at}
-use Rattle.ap_types.specs.Triangular.{read, value_of, Fits, IsFormed, AreFormed, IsSettled}
+use Rattle.ap_types.specs.Solving.{occurs_in_shape, shape_at}
+use Rattle.ap_types.specs.Triangular.{read, value_of, Fits, IsFormed, AreFormed, IsSettledTable}
 use Rattle.ap_types.specs.Joining.{count_below}
-use Rattle.ap_types.specs.Walking.{is_part, IsPart, mark_at, is_left, is_new, IsPath, Stands, AreBelow, IsWalk, StayLeft, new_count, Passes, HasLeft, NoneFits}
+use Rattle.ap_types.specs.Walking.{is_part, IsPart, walk_mark_at, is_left, is_unvisited, IsPath, Stands, ArePlacesBelow, IsWalk, StayLeft, new_count, PassesAlong, HasLeft, NoneFits}
 use Rattle.ap_types.proofs.BooleanLemmas.{or_cases}
 use Rattle.ap_types.proofs.CountLemmas.{count_less, count_most, count_grows}
 use Rattle.ap_types.proofs.ShapeLemmas.{size, size_occurs, occurs_bound, filled_same, number_same}
@@ -47,7 +47,7 @@ part_weight f n x c (pair t u) l i h p =
     let k : bound_of (pair t u) ≤ n = i in
     let s : size (f x) ≡ size (filled f (pair t u)) = ap (λ v. size v) h in
     let o : size (f c) < size (filled f (pair t u)) =
-    elim (or_cases (occurs c t) (occurs c u) p) [ inl j ↦ let z = size_occurs f c t j in omega arith | inr j ↦ let z = size_occurs f c u j in omega arith ] in
+    elim (or_cases (occurs_in_shape c t) (occurs_in_shape c u) p) [ inl j ↦ let z = size_occurs f c t j in omega arith | inr j ↦ let z = size_occurs f c u j in omega arith ] in
     (more_size (size (f c)) (size (f x)) n c x (omega arith) (omega arith), omega arith)
 part_weight f n x c (list t) l i h p =
     let b = occurs_bound c (list t) p in
@@ -60,7 +60,7 @@ part_weight f n x c (abs t u) l i h p =
     let k : bound_of (abs t u) ≤ n = i in
     let s : size (f x) ≡ size (filled f (abs t u)) = ap (λ v. size v) h in
     let o : size (f c) < size (filled f (abs t u)) =
-    elim (or_cases (occurs c t) (occurs c u) p) [ inl j ↦ let z = size_occurs f c t j in omega arith | inr j ↦ let z = size_occurs f c u j in omega arith ] in
+    elim (or_cases (occurs_in_shape c t) (occurs_in_shape c u) p) [ inl j ↦ let z = size_occurs f c t j in omega arith | inr j ↦ let z = size_occurs f c u j in omega arith ] in
     (more_size (size (f c)) (size (f x)) n c x (omega arith) (omega arith), omega arith)
 
 pub part_less : (f : Filling) (ts : List TypeShape) (x c : ℕ) → AreFormed ts → Fits f ts → x < length ts → IsPart ts x c → (weight f (length ts) c < weight f (length ts) x) × (c < length ts)
@@ -88,11 +88,11 @@ path_more ts [] x c h p = (p, tt)
 path_more ts (y ∷ []) x c h p = (h.0, (p, tt))
 path_more ts (y ∷ z ∷ zs) x c h p = (h.0, path_more ts (z ∷ zs) x c h.1 p)
 
-below_front : (n : ℕ) (xs : List ℕ) (x : ℕ) → AreBelow n (xs ++ x ∷ []) → AreBelow n xs × (x < n)
+below_front : (n : ℕ) (xs : List ℕ) (x : ℕ) → ArePlacesBelow n (xs ++ x ∷ []) → ArePlacesBelow n xs × (x < n)
 below_front n [] x h = (tt, h.0)
 below_front n (y ∷ ys) x h = let k = below_front n ys x h.1 in ((h.0, k.0), k.1)
 
-below_more_path : (n : ℕ) (xs : List ℕ) (x : ℕ) → AreBelow n xs → x < n → AreBelow n (xs ++ x ∷ [])
+below_more_path : (n : ℕ) (xs : List ℕ) (x : ℕ) → ArePlacesBelow n xs → x < n → ArePlacesBelow n (xs ++ x ∷ [])
 below_more_path n [] x h l = (l, tt)
 below_more_path n (y ∷ ys) x h l = (h.0, below_more_path n ys x h.1 l)
 
@@ -110,11 +110,11 @@ stands_front y x (z ∷ zs) h = elim h [ inl e ↦ inr (inl e) | inr k ↦ elim 
 
 -- what stands on a path weighs no less than its last place
 module _ (f : Filling) (ts : List TypeShape) (formed : AreFormed ts) (fits : Fits f ts) where
-  first_heavy : (y : ℕ) (xs : List ℕ) (x : ℕ) → AreBelow (length ts) (y ∷ (xs ++ x ∷ [])) → IsPath ts (y ∷ (xs ++ x ∷ [])) → weight f (length ts) x < weight f (length ts) y
+  first_heavy : (y : ℕ) (xs : List ℕ) (x : ℕ) → ArePlacesBelow (length ts) (y ∷ (xs ++ x ∷ [])) → IsPath ts (y ∷ (xs ++ x ∷ [])) → weight f (length ts) x < weight f (length ts) y
   first_heavy y [] x b p = (part_less f ts y x formed fits b.0 p.0).0
   first_heavy y (z ∷ zs) x b p = let a = first_heavy z zs x b.1 p.1 in let c = (part_less f ts y z formed fits b.0 p.0).0 in omega arith
 
-  pub path_heavy : (xs : List ℕ) (x y : ℕ) → AreBelow (length ts) (xs ++ x ∷ []) → IsPath ts (xs ++ x ∷ []) → Stands y (xs ++ x ∷ []) → weight f (length ts) x ≤ weight f (length ts) y
+  pub path_heavy : (xs : List ℕ) (x y : ℕ) → ArePlacesBelow (length ts) (xs ++ x ∷ []) → IsPath ts (xs ++ x ∷ []) → Stands y (xs ++ x ∷ []) → weight f (length ts) x ≤ weight f (length ts) y
   path_heavy [] x y b p s = elim s [ inl e ↦ subst (λ z. weight f (length ts) x ≤ weight f (length ts) z) (sym e) (omega arith) | inr k ↦ absurd k ]
   path_heavy (z ∷ []) x y b p s =
       elim s [
@@ -128,7 +128,7 @@ module _ (f : Filling) (ts : List TypeShape) (formed : AreFormed ts) (fits : Fit
       ]
 
 -- a part that stands on the path makes a cycle
-pub cycle_never : (ts : List TypeShape) (xs : List ℕ) (x c : ℕ) → AreFormed ts → AreBelow (length ts) (xs ++ x ∷ []) → IsPath ts (xs ++ x ∷ []) → IsPart ts x c → Stands c (xs ++ x ∷ []) → NoneFits ts
+pub cycle_never : (ts : List TypeShape) (xs : List ℕ) (x c : ℕ) → AreFormed ts → ArePlacesBelow (length ts) (xs ++ x ∷ []) → IsPath ts (xs ++ x ∷ []) → IsPart ts x c → Stands c (xs ++ x ∷ []) → NoneFits ts
 cycle_never ts xs x c h b p q s f k =
     let a = path_heavy f ts h k xs x c b p s in
     let l = (below_front (length ts) xs x b).1 in
@@ -136,10 +136,10 @@ cycle_never ts xs x c h b p q s f k =
     omega arith
 
 -- Marks.
-mark_same : (ms : List Mark) (x : ℕ) (m : Mark) → x < length ms → mark_at (set ms x m) x ≡ m
+mark_same : (ms : List Mark) (x : ℕ) (m : Mark) → x < length ms → walk_mark_at (set ms x m) x ≡ m
 mark_same ms x m l = get_or-set_same ms x m marks.New l
 
-mark_other : (ms : List Mark) (x y : ℕ) (m : Mark) → (y ≡ x → ⊥) → mark_at (set ms x m) y ≡ mark_at ms y
+mark_other : (ms : List Mark) (x y : ℕ) (m : Mark) → (y ≡ x → ⊥) → walk_mark_at (set ms x m) y ≡ walk_mark_at ms y
 mark_other ms x y m d = get_or-set_other ms x y m marks.New d
 
 length_marks : (ms : List Mark) (x : ℕ) (m : Mark) → length (set ms x m) ≡ length ms
@@ -147,17 +147,17 @@ length_marks [] x m = refl
 length_marks (n ∷ ms) zero m = refl
 length_marks (n ∷ ms) (suc x) m = ap suc (length_marks ms x m)
 
-left_not_new : (m : Mark) → is_left m ≡ true → is_new m ≡ false
+left_not_new : (m : Mark) → is_left m ≡ true → is_unvisited m ≡ false
 left_not_new marks.New h = cc
 left_not_new marks.Entered h = refl
 left_not_new (marks.Left k) h = refl
 
-new_or_entered : (m : Mark) → is_left m ≡ false → is_new m ≡ false → m ≡ marks.Entered
+new_or_entered : (m : Mark) → is_left m ≡ false → is_unvisited m ≡ false → m ≡ marks.Entered
 new_or_entered marks.New h k = cc
 new_or_entered marks.Entered h k = refl
 new_or_entered (marks.Left j) h k = cc
 
-is_new_mark : (m : Mark) → is_new m ≡ true → m ≡ marks.New
+is_new_mark : (m : Mark) → is_unvisited m ≡ true → m ≡ marks.New
 is_new_mark marks.New h = refl
 is_new_mark marks.Entered h = cc
 is_new_mark (marks.Left k) h = cc
@@ -172,14 +172,14 @@ module _ (ts : List TypeShape) (ms : List Mark) (left : ℕ) (front : List ℕ) 
   pub last_within : last < length ts
   last_within = (below_front (length ts) front last walk.within).1
 
-  pub passes_left : is_left (mark_at ms last) ≡ true → Passes ts ms (front ++ last ∷ []) ms left front
+  pub passes_left : is_left (walk_mark_at ms last) ≡ true → PassesAlong ts ms (front ++ last ∷ []) ms left front
   passes_left h = record {
     walk = record {
       as_long = walk.as_long;
       within = (below_front (length ts) front last walk.within).0;
       is_path = path_front ts front last walk.is_path;
       entered = λ x e. elim (stands_front x last front (walk.entered x e)) [
-        | inl i ↦ let j : is_left (mark_at ms last) ≡ false = subst (λ y. is_left (mark_at ms y) ≡ false) i (ap is_left e) in cc
+        | inl i ↦ let j : is_left (walk_mark_at ms last) ≡ false = subst (λ y. is_left (walk_mark_at ms y) ≡ false) i (ap is_left e) in cc
         | inr s ↦ s
       ];
       below = walk.below;
@@ -187,81 +187,81 @@ module _ (ts : List TypeShape) (ms : List Mark) (left : ℕ) (front : List ℕ) 
       counted = walk.counted;
     };
     stay = λ x e. e;
-    there = λ x s. elim (stands_front x last front s) [ inl i ↦ inl (ap (λ y. is_left (mark_at ms y)) i ∙ h) | inr k ↦ inr k ];
+    there = λ x s. elim (stands_front x last front s) [ inl i ↦ inl (ap (λ y. is_left (walk_mark_at ms y)) i ∙ h) | inr k ↦ inr k ];
     fewer = let l = length-append front (last ∷ []) in omega arith;
   }
 
   -- the last place is left, after its parts
-  module _ (old : is_left (mark_at ms last) ≡ false) (within : last < length ms) where
+  module _ (old : is_left (walk_mark_at ms last) ≡ false) (within : last < length ms) where
     abbrev pub after_leave : List Mark
     after_leave = set ms last (marks.Left left)
 
-    here : mark_at after_leave last ≡ marks.Left left
+    here : walk_mark_at after_leave last ≡ marks.Left left
     here = mark_same ms last (marks.Left left) within
 
-    there : (x : ℕ) → (x ≡ last → ⊥) → mark_at after_leave x ≡ mark_at ms x
+    there : (x : ℕ) → (x ≡ last → ⊥) → walk_mark_at after_leave x ≡ walk_mark_at ms x
     there x d = mark_other ms last x (marks.Left left) d
 
-    not_last : (x : ℕ) → is_left (mark_at ms x) ≡ true → x ≡ last → ⊥
-    not_last x e i = let j : is_left (mark_at ms last) ≡ true = subst (λ y. is_left (mark_at ms y) ≡ true) i e in cc
+    not_last : (x : ℕ) → is_left (walk_mark_at ms x) ≡ true → x ≡ last → ⊥
+    not_last x e i = let j : is_left (walk_mark_at ms last) ≡ true = subst (λ y. is_left (walk_mark_at ms y) ≡ true) i e in cc
 
     stay_left : StayLeft ms after_leave
     stay_left x e = ap is_left (there x (not_last x e)) ∙ e
 
     pub room : left < length ms
     room =
-        let c = count_less (λ x. is_left (mark_at ms x)) (λ x. true) (length ms) (λ x l e. refl) last within old refl in
+        let c = count_less (λ x. is_left (walk_mark_at ms x)) (λ x. true) (length ms) (λ x l e. refl) last within old refl in
         let m = count_most (λ x. true) (length ms) in
         let k = walk.counted in
         omega arith
 
-    counted_more : left + 1 ≤ count_below (λ x. is_left (mark_at after_leave x)) (length after_leave)
+    counted_more : left + 1 ≤ count_below (λ x. is_left (walk_mark_at after_leave x)) (length after_leave)
     counted_more =
-        let c = count_less (λ x. is_left (mark_at ms x)) (λ x. is_left (mark_at after_leave x)) (length ms) (λ x l e. stay_left x e) last within old (ap is_left here) in
+        let c = count_less (λ x. is_left (walk_mark_at ms x)) (λ x. is_left (walk_mark_at after_leave x)) (length ms) (λ x l e. stay_left x e) last within old (ap is_left here) in
         let k = walk.counted in
         rw (length_marks ms last (marks.Left left)) (omega arith)
 
-    new_before : (x : ℕ) → is_new (mark_at after_leave x) ≡ true → is_new (mark_at ms x) ≡ true
+    new_before : (x : ℕ) → is_unvisited (walk_mark_at after_leave x) ≡ true → is_unvisited (walk_mark_at ms x) ≡ true
     new_before x e =
         elim (equal_or_not x last) [
           | inl i ↦
-              let j : is_new (mark_at after_leave last) ≡ true = subst (λ y. is_new (mark_at after_leave y) ≡ true) i e in
-              let k : is_new (mark_at after_leave last) ≡ false = ap is_new here in
+              let j : is_unvisited (walk_mark_at after_leave last) ≡ true = subst (λ y. is_unvisited (walk_mark_at after_leave y) ≡ true) i e in
+              let k : is_unvisited (walk_mark_at after_leave last) ≡ false = ap is_unvisited here in
               cc
-          | inr d ↦ ap is_new (sym (there x d)) ∙ e
+          | inr d ↦ ap is_unvisited (sym (there x d)) ∙ e
         ]
 
     no_more_new : new_count after_leave ≤ new_count ms
     unfolding new_count
     no_more_new =
-        rw (length_marks ms last (marks.Left left)) (count_grows (λ x. is_new (mark_at after_leave x)) (λ x. is_new (mark_at ms x)) (length ms) (λ x l e. new_before x e))
+        rw (length_marks ms last (marks.Left left)) (count_grows (λ x. is_unvisited (walk_mark_at after_leave x)) (λ x. is_unvisited (walk_mark_at ms x)) (length ms) (λ x l e. new_before x e))
 
     same_left : (j k : ℕ) → ◌≡◌ {A = Mark} (marks.Left j) (marks.Left k) → j ≡ k
     same_left j k e = cc
 
-    pub passes_back : ((c : ℕ) → IsPart ts last c → is_left (mark_at ms c) ≡ true) → Passes ts ms (front ++ last ∷ []) after_leave (left + 1) front
+    pub passes_back : ((c : ℕ) → IsPart ts last c → is_left (walk_mark_at ms c) ≡ true) → PassesAlong ts ms (front ++ last ∷ []) after_leave (left + 1) front
     passes_back parts = record {
       walk = record {
         as_long = length_marks ms last (marks.Left left) ∙ walk.as_long;
         within = (below_front (length ts) front last walk.within).0;
         is_path = path_front ts front last walk.is_path;
         entered = λ x e. elim (equal_or_not x last) [
-          | inl i ↦ let j : mark_at after_leave last ≡ marks.Entered = subst (λ y. mark_at after_leave y ≡ marks.Entered) i e in let k = here in cc
+          | inl i ↦ let j : walk_mark_at after_leave last ≡ marks.Entered = subst (λ y. walk_mark_at after_leave y ≡ marks.Entered) i e in let k = here in cc
           | inr d ↦ elim (stands_front x last front (walk.entered x (sym (there x d) ∙ e))) [ inl i ↦ absurd (d i) | inr s ↦ s ]
         ];
         below = λ x k e. elim (equal_or_not x last) [
           | inl i ↦
-              let j : mark_at after_leave last ≡ marks.Left k = subst (λ y. mark_at after_leave y ≡ marks.Left k) i e in
+              let j : walk_mark_at after_leave last ≡ marks.Left k = subst (λ y. walk_mark_at after_leave y ≡ marks.Left k) i e in
               let m = same_left left k (sym here ∙ j) in
               omega arith
           | inr d ↦ let b = walk.below x k (sym (there x d) ∙ e) in omega arith
         ];
         ordered = λ x k c e p. elim (equal_or_not x last) [
           | inl i ↦
-              let j : mark_at after_leave last ≡ marks.Left k = subst (λ y. mark_at after_leave y ≡ marks.Left k) i e in
+              let j : walk_mark_at after_leave last ≡ marks.Left k = subst (λ y. walk_mark_at after_leave y ≡ marks.Left k) i e in
               let m = same_left left k (sym here ∙ j) in
               let q = parts c (subst (λ y. IsPart ts y c) i p) in
-              let o = left_mark (mark_at ms c) q in
+              let o = left_mark (walk_mark_at ms c) q in
               let b = walk.below c o.0 o.1 in
               (o.0, there c (not_last c q) ∙ o.1, omega arith)
           | inr d ↦
@@ -271,53 +271,53 @@ module _ (ts : List TypeShape) (ms : List Mark) (left : ℕ) (front : List ℕ) 
         counted = counted_more;
       };
       stay = stay_left;
-      there = λ x s. elim (stands_front x last front s) [ inl i ↦ inl (ap (λ y. is_left (mark_at after_leave y)) i ∙ ap is_left here) | inr k ↦ inr k ];
+      there = λ x s. elim (stands_front x last front s) [ inl i ↦ inl (ap (λ y. is_left (walk_mark_at after_leave y)) i ∙ ap is_left here) | inr k ↦ inr k ];
       fewer = let l = length-append front (last ∷ []) in let m = no_more_new in omega arith;
     }
 
   -- a new part of the last place is entered
-  module _ (c : ℕ) (formed : AreFormed ts) (part : IsPart ts last c) (fresh : is_new (mark_at ms c) ≡ true) where
+  module _ (c : ℕ) (formed : AreFormed ts) (part : IsPart ts last c) (fresh : is_unvisited (walk_mark_at ms c) ≡ true) where
     abbrev pub after_enter : List Mark
     after_enter = set ms c marks.Entered
 
     pub part_within : c < length ms
     part_within = let p = part_place (length ts) last c (shape_at ts last) last_within (formed last) part in let l = walk.as_long in omega arith
 
-    in_part : mark_at after_enter c ≡ marks.Entered
+    in_part : walk_mark_at after_enter c ≡ marks.Entered
     in_part = mark_same ms c marks.Entered part_within
 
-    elsewhere : (x : ℕ) → (x ≡ c → ⊥) → mark_at after_enter x ≡ mark_at ms x
+    elsewhere : (x : ℕ) → (x ≡ c → ⊥) → walk_mark_at after_enter x ≡ walk_mark_at ms x
     elsewhere x d = mark_other ms c x marks.Entered d
 
-    not_part : (x : ℕ) → is_left (mark_at ms x) ≡ true → x ≡ c → ⊥
+    not_part : (x : ℕ) → is_left (walk_mark_at ms x) ≡ true → x ≡ c → ⊥
     not_part x e i =
-        let j : is_left (mark_at ms c) ≡ true = subst (λ y. is_left (mark_at ms y) ≡ true) i e in
-        let k = left_not_new (mark_at ms c) j in
+        let j : is_left (walk_mark_at ms c) ≡ true = subst (λ y. is_left (walk_mark_at ms y) ≡ true) i e in
+        let k = left_not_new (walk_mark_at ms c) j in
         cc
 
     stays : StayLeft ms after_enter
     stays x e = ap is_left (elsewhere x (not_part x e)) ∙ e
 
-    counted_still : left ≤ count_below (λ x. is_left (mark_at after_enter x)) (length after_enter)
+    counted_still : left ≤ count_below (λ x. is_left (walk_mark_at after_enter x)) (length after_enter)
     counted_still =
-        let g = count_grows (λ x. is_left (mark_at ms x)) (λ x. is_left (mark_at after_enter x)) (length ms) (λ x l e. stays x e) in
+        let g = count_grows (λ x. is_left (walk_mark_at ms x)) (λ x. is_left (walk_mark_at after_enter x)) (length ms) (λ x l e. stays x e) in
         let k = walk.counted in
         rw (length_marks ms c marks.Entered) (omega arith)
 
-    new_elsewhere : (x : ℕ) → is_new (mark_at after_enter x) ≡ true → is_new (mark_at ms x) ≡ true
+    new_elsewhere : (x : ℕ) → is_unvisited (walk_mark_at after_enter x) ≡ true → is_unvisited (walk_mark_at ms x) ≡ true
     new_elsewhere x e =
         elim (equal_or_not x c) [
-          | inl i ↦ ap (λ y. is_new (mark_at ms y)) i ∙ fresh
-          | inr d ↦ ap is_new (sym (elsewhere x d)) ∙ e
+          | inl i ↦ ap (λ y. is_unvisited (walk_mark_at ms y)) i ∙ fresh
+          | inr d ↦ ap is_unvisited (sym (elsewhere x d)) ∙ e
         ]
 
     fewer_new : new_count after_enter < new_count ms
     unfolding new_count
     fewer_new =
-        rw (length_marks ms c marks.Entered) (count_less (λ x. is_new (mark_at after_enter x)) (λ x. is_new (mark_at ms x)) (length ms) (λ x l e. new_elsewhere x e) c part_within
-        (ap is_new in_part) fresh)
+        rw (length_marks ms c marks.Entered) (count_less (λ x. is_unvisited (walk_mark_at after_enter x)) (λ x. is_unvisited (walk_mark_at ms x)) (length ms) (λ x l e. new_elsewhere x e) c part_within
+        (ap is_unvisited in_part) fresh)
 
-    pub passes_on : Passes ts ms (front ++ last ∷ []) after_enter left ((front ++ last ∷ []) ++ c ∷ [])
+    pub passes_on : PassesAlong ts ms (front ++ last ∷ []) after_enter left ((front ++ last ∷ []) ++ c ∷ [])
     passes_on = record {
       walk = record {
         as_long = length_marks ms c marks.Entered ∙ walk.as_long;
@@ -328,11 +328,11 @@ module _ (ts : List TypeShape) (ms : List Mark) (left : ℕ) (front : List ℕ) 
           | inr d ↦ stands_more x c (front ++ last ∷ []) (walk.entered x (sym (elsewhere x d) ∙ e))
         ];
         below = λ x k e. elim (equal_or_not x c) [
-          | inl i ↦ let j : mark_at after_enter c ≡ marks.Left k = subst (λ y. mark_at after_enter y ≡ marks.Left k) i e in let h = in_part in cc
+          | inl i ↦ let j : walk_mark_at after_enter c ≡ marks.Left k = subst (λ y. walk_mark_at after_enter y ≡ marks.Left k) i e in let h = in_part in cc
           | inr d ↦ walk.below x k (sym (elsewhere x d) ∙ e)
         ];
         ordered = λ x k d e p. elim (equal_or_not x c) [
-          | inl i ↦ let j : mark_at after_enter c ≡ marks.Left k = subst (λ y. mark_at after_enter y ≡ marks.Left k) i e in let h = in_part in cc
+          | inl i ↦ let j : walk_mark_at after_enter c ≡ marks.Left k = subst (λ y. walk_mark_at after_enter y ≡ marks.Left k) i e in let h = in_part in cc
           | inr n ↦
               let o = walk.ordered x k d (sym (elsewhere x n) ∙ e) p in
               (o.0, elsewhere d (not_part d (ap is_left o.1)) ∙ o.1, o.2)
@@ -344,14 +344,14 @@ module _ (ts : List TypeShape) (ms : List Mark) (left : ℕ) (front : List ℕ) 
       fewer = let l = length-append (front ++ last ∷ []) (c ∷ []) in let m = fewer_new in omega arith;
     }
 
-  pub refuses : (c : ℕ) → AreFormed ts → IsPart ts last c → is_left (mark_at ms c) ≡ false → is_new (mark_at ms c) ≡ false → NoneFits ts
-  refuses c formed part l n = cycle_never ts front last c formed walk.within walk.is_path part (walk.entered c (new_or_entered (mark_at ms c) l n))
+  pub refuses : (c : ℕ) → AreFormed ts → IsPart ts last c → is_left (walk_mark_at ms c) ≡ false → is_unvisited (walk_mark_at ms c) ≡ false → NoneFits ts
+  refuses c formed part l n = cycle_never ts front last c formed walk.within walk.is_path part (walk.entered c (new_or_entered (walk_mark_at ms c) l n))
 
 -- The steps from a place.
 pub record Explores (ts : List TypeShape) (old : List Mark) (start : ℕ) (ms : List Mark) (left : ℕ) (path : List ℕ) : Type 0 where
   pub walk : IsWalk ts ms left path
   pub stay : StayLeft old ms
-  pub start_there : (is_left (mark_at ms start) ≡ true) ⊎ Stands start path
+  pub start_there : (is_left (walk_mark_at ms start) ≡ true) ⊎ Stands start path
 
 pub explores_first : (ts : List TypeShape) (ms : List Mark) (left start : ℕ) → IsWalk ts ms left [] → start < length ts → Explores ts ms start ms left (start ∷ [])
 explores_first ts ms left start w l = record {
@@ -368,7 +368,7 @@ explores_first ts ms left start w l = record {
   start_there = inr (inl refl);
 }
 
-pub explores_on : (ts : List TypeShape) (old ms new : List Mark) (start left left' : ℕ) (path path' : List ℕ) → Explores ts old start ms left path → Passes ts ms path new left' path'
+pub explores_on : (ts : List TypeShape) (old ms new : List Mark) (start left left' : ℕ) (path path' : List ℕ) → Explores ts old start ms left path → PassesAlong ts ms path new left' path'
     → Explores ts old start new left' path'
 explores_on ts old ms new start left left' path path' h p = record {
   walk = p.walk;
@@ -384,14 +384,14 @@ explores_end ts old ms start left h = record {
 }
 
 -- A walk begins.
-new_everywhere : (n x : ℕ) → mark_at (replicate n marks.New) x ≡ marks.New
+new_everywhere : (n x : ℕ) → walk_mark_at (replicate n marks.New) x ≡ marks.New
 new_everywhere zero x = refl
 new_everywhere (suc n) zero = refl
 new_everywhere (suc n) (suc x) = new_everywhere n x
 
 pub walk_begins : (ts : List TypeShape) (ms : List Mark) → ms ≡ replicate (length ts) marks.New → IsWalk ts ms 0 []
 walk_begins ts ms e =
-    let fresh : (x : ℕ) → mark_at ms x ≡ marks.New = λ x. ap (λ (ns : List Mark). mark_at ns x) e ∙ new_everywhere (length ts) x in record {
+    let fresh : (x : ℕ) → walk_mark_at ms x ≡ marks.New = λ x. ap (λ (ns : List Mark). walk_mark_at ns x) e ∙ new_everywhere (length ts) x in record {
       as_long = ap length e ∙ length-replicate (length ts) marks.New;
       within = tt;
       is_path = tt;
@@ -402,7 +402,7 @@ walk_begins ts ms e =
     }
 
 -- What was left settles the table.
-pub open_or_parts : (x : ℕ) (t : TypeShape) → (t ≡ hole x) ⊎ ((c : ℕ) → occurs c t ≡ true → is_part x t c ≡ true)
+pub open_or_parts : (x : ℕ) (t : TypeShape) → (t ≡ hole x) ⊎ ((c : ℕ) → occurs_in_shape c t ≡ true → is_part x t c ≡ true)
 open_or_parts x (hole y) = elim (eqb_tells x y) [ inl w ↦ inl (ap hole (sym w.1)) | inr w ↦ inr (λ c o. rw w.0 o) ]
 open_or_parts x unit = inr (λ c o. o)
 open_or_parts x (names s) = inr (λ c o. o)
@@ -415,7 +415,7 @@ pub read_open : (ts : List TypeShape) (m x : ℕ) → shape_at ts x ≡ hole x �
 read_open ts zero x e = refl
 read_open ts (suc m) x e = ap (filled (read ts m)) e ∙ read_open ts m x e
 
-read_settles : (ts : List TypeShape) (ms : List Mark) (left : ℕ) → IsWalk ts ms left [] → (m x k : ℕ) → mark_at ms x ≡ marks.Left k → k < m → read ts m x ≡ read ts (suc m) x
+read_settles : (ts : List TypeShape) (ms : List Mark) (left : ℕ) → IsWalk ts ms left [] → (m x k : ℕ) → walk_mark_at ms x ≡ marks.Left k → k < m → read ts m x ≡ read ts (suc m) x
 read_settles ts ms left w zero x k e l = absurd (omega arith)
 read_settles ts ms left w (suc m) x k e l =
     elim (open_or_parts x (shape_at ts x)) [
@@ -426,15 +426,15 @@ read_settles ts ms left w (suc m) x k e l =
           read_settles ts ms left w m c r.0 r.1 (omega arith))
     ]
 
-pub walk_settles : (ts : List TypeShape) (ms : List Mark) (left : ℕ) → AreFormed ts → IsWalk ts ms left [] → ((x : ℕ) → x < length ts → is_left (mark_at ms x) ≡ true) → IsSettled ts
+pub walk_settles : (ts : List TypeShape) (ms : List Mark) (left : ℕ) → AreFormed ts → IsWalk ts ms left [] → ((x : ℕ) → x < length ts → is_left (walk_mark_at ms x) ≡ true) → IsSettledTable ts
 walk_settles ts ms left h w a = record {
   formed = h;
   fits = λ x. elim (below_or_past x (length ts)) [
     | inl l ↦
-        let k = left_mark (mark_at ms x) (a x l) in
+        let k = left_mark (walk_mark_at ms x) (a x l) in
         let b = w.below x k.0 k.1 in
         let c = w.counted in
-        let d = count_most (λ y. is_left (mark_at ms y)) (length ms) in
+        let d = count_most (λ y. is_left (walk_mark_at ms y)) (length ms) in
         let e = w.as_long in
         read_settles ts ms left w (length ts) x k.0 k.1 (omega arith)
     | inr l ↦ sym (ap (filled (value_of ts)) (at_past ts x l))
@@ -446,7 +446,7 @@ walk_settles ts ms left h w a = record {
 
 -- The same for what the program returns.
 pub passes_as : {ms' : List Mark} {left' : ℕ} {path' : List ℕ} → (ts : List TypeShape) (old : List Mark) (path : List ℕ) (ms : List Mark) (left : ℕ) (path'' : List ℕ) → ms ≡ ms' → left ≡ left' → path'' ≡ path'
-    → Passes ts old path ms' left' path' → Passes ts old path ms left path''
+    → PassesAlong ts old path ms' left' path' → PassesAlong ts old path ms left path''
 passes_as {ms' = ms'} {left' = left'} {path' = path'} ts old path ms left path'' e f g h =
-    subst (λ (ns : List Mark). Passes ts old path ns left path'') (sym e)
-    (subst (λ n. Passes ts old path ms' n path'') (sym f) (subst (λ (xs : List ℕ). Passes ts old path ms' left' xs) (sym g) h))
+    subst (λ (ns : List Mark). PassesAlong ts old path ns left path'') (sym e)
+    (subst (λ n. PassesAlong ts old path ms' n path'') (sym f) (subst (λ (xs : List ℕ). PassesAlong ts old path ms' left' xs) (sym g) h))

@@ -1,7 +1,7 @@
 -- What an assignment has for holes that must be name types.
 use Rattle.std.specs.Prelude.{◌≡◌, ◌<◌, ◌≤◌, ℕ, ◌==◌, if◌then◌else◌, List, [], ◌∷◌, map, length}
 use Rattle.ap_defs.specs.Types.{TypeShape, hole, names}
-use Rattle.ap_types.specs.Equations.{ShapeEquation, ◌≐◌, Filling, FilledBy, Solves, IsSolution, IsInstance, hole_count}
+use Rattle.ap_types.specs.Equations.{ShapeEquation, ◌≐◌, Filling, FilledBy, FillingSolves, IsSolution, IsShapeInstance, hole_count}
 use Rattle.ap_types.specs.Solving.{shape_at}
 
 -- one of n declared name types, or undetermined where there are two or more
@@ -37,6 +37,6 @@ name_equations n xs = if n == 1 then map name_equation xs else []
 
 -- Shapes of the holes that have every solution, and none that does not solve the equations.
 pub record Narrows (es : List ShapeEquation) (xs : List ℕ) (n : ℕ) (ts : List TypeShape) : Type 0 where
-  pub onward : (f : Filling) → IsSolution es xs n f → IsInstance ts f
-  pub back : (g f : Filling) → FilledBy g f 0 ts → Solves f es × Solves f (name_equations n xs)
+  pub onward : (f : Filling) → IsSolution es xs n f → IsShapeInstance ts f
+  pub back : (g f : Filling) → FilledBy g f 0 ts → FillingSolves f es × FillingSolves f (name_equations n xs)
   pub as_many : length ts ≡ hole_count es xs

@@ -25,9 +25,9 @@ filled f (list t) = list (filled f t)
 filled f (abs t u) = abs (filled f t) (filled f u)
 
 -- both sides of each equation become the same
-abbrev pub Solves : Filling → List ShapeEquation → Type 0
-Solves f [] = Unit {0}
-Solves f ((t ≐ u) ∷ es) = (filled f t ≡ filled f u) × Solves f es
+abbrev pub FillingSolves : Filling → List ShapeEquation → Type 0
+FillingSolves f [] = Unit {0}
+FillingSolves f ((t ≐ u) ∷ es) = (filled f t ≡ filled f u) × FillingSolves f es
 
 -- one of n declared name types
 abbrev pub IsNameType : ℕ → TypeShape → Type 0
@@ -40,7 +40,7 @@ GivesNames n f [] = Unit {0}
 GivesNames n f (x ∷ xs) = IsNameType n (f x) × GivesNames n f xs
 
 abbrev pub IsSolution : List ShapeEquation → List ℕ → ℕ → Filling → Type 0
-IsSolution es xs n f = Solves f es × GivesNames n f xs
+IsSolution es xs n f = FillingSolves f es × GivesNames n f xs
 
 -- From hole x on, what f puts for it is its shape with the holes that are left filled by g.
 abbrev pub FilledBy : Filling → Filling → ℕ → List TypeShape → Type 0
@@ -48,8 +48,8 @@ FilledBy g f x [] = Unit {0}
 FilledBy g f x (t ∷ ts) = (f x ≡ filled g t) × FilledBy g f (suc x) ts
 
 -- an instance of the shapes of the holes 0, 1, 2 and so on
-abbrev pub IsInstance : List TypeShape → Filling → Type 0
-IsInstance ts f = (g : Filling) × FilledBy g f 0 ts
+abbrev pub IsShapeInstance : List TypeShape → Filling → Type 0
+IsShapeInstance ts f = (g : Filling) × FilledBy g f 0 ts
 
 -- one more than the greatest hole
 abbrev pub bound_of : TypeShape → ℕ

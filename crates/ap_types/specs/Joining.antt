@@ -5,18 +5,18 @@ use Rattle.ap_types.specs.declared.nodes.Node.{Node}
 use Rattle.ap_types.specs.declared.nodes.Node.TheVariants as nodes
 use Rattle.ap_types.specs.declared.joining.Rest.{Rest}
 use Rattle.ap_types.specs.declared.joining.Rest.TheVariants as rests
-use Rattle.ap_types.specs.Equations.{ShapeEquation, Filling, filled, Solves}
+use Rattle.ap_types.specs.Equations.{ShapeEquation, Filling, filled, FillingSolves}
 use Rattle.ap_types.specs.Solving.{shape_at}
-use Rattle.ap_types.specs.Triangular.{Fits, AreFormed, IsSettled}
+use Rattle.ap_types.specs.Triangular.{Fits, AreFormed, IsSettledTable}
 
 -- the two places of each pair are filled alike
 abbrev pub Agree : Filling → List (ℕ × ℕ) → Type 0
 Agree f [] = Unit {0}
 Agree f (p ∷ ps) = (f p.0 ≡ f p.1) × Agree f ps
 
-abbrev pub AreWithin : ℕ → List (ℕ × ℕ) → Type 0
-AreWithin n [] = Unit {0}
-AreWithin n (p ∷ ps) = (p.0 < n) × (p.1 < n) × AreWithin n ps
+abbrev pub ArePairsWithin : ℕ → List (ℕ × ℕ) → Type 0
+ArePairsWithin n [] = Unit {0}
+ArePairsWithin n (p ∷ ps) = (p.0 < n) × (p.1 < n) × ArePairsWithin n ps
 
 -- More places, which don't say more of the old ones.
 pub record Extends (old new : List TypeShape) : Type 0 where
@@ -34,8 +34,8 @@ pub record Loads (old : List TypeShape) (t : TypeShape) (new : List TypeShape) (
 -- The pairs stand for the equations.
 pub record LoadsAll (old : List TypeShape) (before : List (ℕ × ℕ)) (es : List ShapeEquation) (new : List TypeShape) (after : List (ℕ × ℕ)) : Type 0 where
   pub extends : Extends old new
-  pub within : AreWithin (length new) after
-  pub stands : (f : Filling) → Fits f new → Agree f after ↔ (Agree f before × Solves f es)
+  pub within : ArePairsWithin (length new) after
+  pub stands : (f : Filling) → Fits f new → Agree f after ↔ (Agree f before × FillingSolves f es)
 
 abbrev pub is_root : ℕ → TypeShape → Bool
 is_root x (hole y) = x == y
@@ -71,7 +71,7 @@ pub record Shortens (old : List TypeShape) (x : ℕ) (new : List TypeShape) (y :
   pub root : y ≡ x → is_root x (shape_at new x) ≡ true
 
 -- The root y stands for the place x.
-pub record Finds (old : List TypeShape) (x : ℕ) (new : List TypeShape) (y : ℕ) : Type 0 where
+pub record FindsRoot (old : List TypeShape) (x : ℕ) (new : List TypeShape) (y : ℕ) : Type 0 where
   pub rewrites : Rewrites old new
   pub alike : (f : Filling) → Fits f new → f x ≡ f y
   pub before : y ≤ x
@@ -106,7 +106,7 @@ pub record Joins (old : List TypeShape) (x y : ℕ) (new : List TypeShape) (rest
   pub solved : (f : Filling) → (Fits f old × (f x ≡ f y)) ↔ (Fits f new × Agree f rest)
   pub formed : AreFormed new
   pub as_long : length new ≡ length old
-  pub within : AreWithin (length new) rest
+  pub within : ArePairsWithin (length new) rest
   pub fewer : length rest + 3 * roots new ≤ 3 * roots old
 
 -- nothing fits in which the two are alike
@@ -114,11 +114,11 @@ abbrev pub NeverAlike : List TypeShape → ℕ → ℕ → Type 0
 NeverAlike ts x y = (f : Filling) → Fits f ts → f x ≡ f y → ⊥
 
 -- The table and pairs say what others say.
-pub record Leads (ts : List TypeShape) (ps : List (ℕ × ℕ)) (ts' : List TypeShape) (ps' : List (ℕ × ℕ)) : Type 0 where
+pub record TablesLead (ts : List TypeShape) (ps : List (ℕ × ℕ)) (ts' : List TypeShape) (ps' : List (ℕ × ℕ)) : Type 0 where
   pub solved : (f : Filling) → (Fits f ts × Agree f ps) ↔ (Fits f ts' × Agree f ps')
   pub formed : AreFormed ts'
   pub as_long : length ts' ≡ length ts
-  pub within : AreWithin (length ts') ps'
+  pub within : ArePairsWithin (length ts') ps'
 
 -- nothing fits in which the pairs are alike
 abbrev pub NeverAgree : List TypeShape → List (ℕ × ℕ) → Type 0
@@ -127,12 +127,12 @@ NeverAgree ts ps = (f : Filling) → Fits f ts → Agree f ps → ⊥
 -- The pairs stand for two lists of equations of holes that are the first places, and don't say more of these.
 pub record LoadsSystem (es fs : List ShapeEquation) (holes : ℕ) (ts : List TypeShape) (ps : List (ℕ × ℕ)) : Type 0 where
   pub formed : AreFormed ts
-  pub within : AreWithin (length ts) ps
+  pub within : ArePairsWithin (length ts) ps
   pub longer : holes ≤ length ts
   pub more : (f : Filling) → (g : Filling) × Fits g ts × ((x : ℕ) → x < holes → g x ≡ f x)
-  pub stands : (f : Filling) → Fits f ts → Agree f ps ↔ (Solves f es × Solves f fs)
+  pub stands : (f : Filling) → Fits f ts → Agree f ps ↔ (FillingSolves f es × FillingSolves f fs)
 
 -- What fits and makes the pairs alike is what fits the other table, in which no place stands within itself.
 pub record Settles (ts : List TypeShape) (ps : List (ℕ × ℕ)) (ts' : List TypeShape) : Type 0 where
-  pub settled : IsSettled ts'
+  pub settled : IsSettledTable ts'
   pub solved : (f : Filling) → (Fits f ts × Agree f ps) ↔ Fits f ts'

@@ -25,6 +25,6 @@ abbrev pub Within : (ℕ → Bool) → (ℕ → Bool) → Type 0
 Within p q = (d : ℕ) → p d ≡ true → q d ≡ true
 
 -- The data types are those that are in after some round.
-pub record IsLeast (test : Test) (cs : List NominalConstructor) (found : ℕ → Bool) : Type 0 where
+pub record IsLeastSet (test : Test) (cs : List NominalConstructor) (found : ℕ → Bool) : Type 0 where
   pub sound : (r : ℕ) × ((d : ℕ) → found d ≡ true → reached test cs r d ≡ true)
   pub whole : (r d : ℕ) → reached test cs r d ≡ true → found d ≡ true

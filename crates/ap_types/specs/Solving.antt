@@ -4,14 +4,14 @@ use Rattle.ap_defs.specs.Types.{TypeShape, hole, unit, names, base, pair, list, 
 use Rattle.ap_types.specs.Equations.{Filling}
 
 -- whether the hole stands in the shape
-abbrev pub occurs : ℕ → TypeShape → Bool
-occurs x (hole y) = x == y
-occurs x unit = false
-occurs x (names s) = false
-occurs x (base d) = false
-occurs x (pair t u) = occurs x t || occurs x u
-occurs x (list t) = occurs x t
-occurs x (abs t u) = occurs x t || occurs x u
+abbrev pub occurs_in_shape : ℕ → TypeShape → Bool
+occurs_in_shape x (hole y) = x == y
+occurs_in_shape x unit = false
+occurs_in_shape x (names s) = false
+occurs_in_shape x (base d) = false
+occurs_in_shape x (pair t u) = occurs_in_shape x t || occurs_in_shape x u
+occurs_in_shape x (list t) = occurs_in_shape x t
+occurs_in_shape x (abs t u) = occurs_in_shape x t || occurs_in_shape x u
 
 -- the shapes of the holes 0, 1, 2 and so on; a hole past them stands for itself
 abbrev pub shape_at : List TypeShape → Filling

@@ -9,16 +9,16 @@ use Rattle.ap_types.specs.Inhabited.{inhabited_in, IsInhabited}
 use Rattle.ap_types.specs.Holding.{holds_in, MayHold}
 
 -- each constructor is of one of the first n data types
-abbrev pub AreOf : ℕ → List NominalConstructor → Type 0
-AreOf n [] = Unit {0}
-AreOf n (c ∷ cs) = (c.result < n) × AreOf n cs
+abbrev pub AreOfFirst : ℕ → List NominalConstructor → Type 0
+AreOfFirst n [] = Unit {0}
+AreOfFirst n (c ∷ cs) = (c.result < n) × AreOfFirst n cs
 
 -- with n data types, n rounds find all
 abbrev pub InhabitedStandsStill : Type 0
-InhabitedStandsStill = (cs : List NominalConstructor) (n : ℕ) → AreOf n cs → (t : NominalType) → (inhabited_in cs n t ≡ true) ↔ IsInhabited cs t
+InhabitedStandsStill = (cs : List NominalConstructor) (n : ℕ) → AreOfFirst n cs → (t : NominalType) → (inhabited_in cs n t ≡ true) ↔ IsInhabited cs t
 
 abbrev pub HoldingStandsStill : Type 0
-HoldingStandsStill = (cs : List NominalConstructor) (n : ℕ) → AreOf n cs → (t : NominalType) (sort : ℕ) → (holds_in cs n t sort ≡ true) ↔ MayHold cs t sort
+HoldingStandsStill = (cs : List NominalConstructor) (n : ℕ) → AreOfFirst n cs → (t : NominalType) (sort : ℕ) → (holds_in cs n t sort ≡ true) ↔ MayHold cs t sort
 
 -- each of the names is fresh for the term
 abbrev pub AreFresh : List Name → GroundTerm → Type 0

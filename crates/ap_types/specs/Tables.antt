@@ -4,13 +4,13 @@ use Rattle.ap_defs.specs.Types.{NominalConstructor}
 use Rattle.ap_types.specs.declared.holding.Holding.{Holding}
 use Rattle.ap_types.specs.declared.inhabitants.Inhabitants.{Inhabitants}
 use Rattle.ap_types.specs.declared.rounds.Question.TheVariants as questions
-use Rattle.ap_types.specs.Rounds.{IsLeast, marked}
+use Rattle.ap_types.specs.Rounds.{IsLeastSet, marked}
 use Rattle.ap_types.specs.Rules.{IsLeastSoFar}
 use Rattle.ap_types.specs.Holding.{some_holds}
 
 -- the table of those that may hold names of the sort
-abbrev pub IsTableOf : List NominalConstructor → ℕ → Holding → Type 0
-IsTableOf cs sort h = (h.sort ≡ sort) × IsLeast (some_holds sort) cs (marked h.table.items)
+abbrev pub IsHoldingTable : List NominalConstructor → ℕ → Holding → Type 0
+IsHoldingTable cs sort h = (h.sort ≡ sort) × IsLeastSet (some_holds sort) cs (marked h.table.items)
 
 -- the table of those that are inhabited
 abbrev pub AreInhabitants : List NominalConstructor → Inhabitants → Type 0

@@ -18,8 +18,8 @@ layer_of (nodes.List x) = list (hole x)
 layer_of (nodes.Abs x y) = abs (hole x) (hole y)
 
 -- entries as the shapes of the places 0, 1, 2 and so on
-abbrev pub table_of : List Node → List TypeShape
-table_of ns = map layer_of ns
+abbrev pub shapes_of_nodes : List Node → List TypeShape
+shapes_of_nodes ns = map layer_of ns
 
 -- the shape of a place, with the entries of its places put for these, and so on, so many times
 abbrev pub read : List TypeShape → ℕ → Filling
@@ -48,10 +48,10 @@ abbrev pub AreFormed : List TypeShape → Type 0
 AreFormed ts = (x : ℕ) → IsFormed (length ts) x (shape_at ts x)
 
 -- A table in which no place stands within itself: the shapes that are read fit it.
-pub record IsSettled (ts : List TypeShape) : Type 0 where
+pub record IsSettledTable (ts : List TypeShape) : Type 0 where
   pub formed : AreFormed ts
   pub fits : Fits (value_of ts) ts
 
 -- the shapes of the holes, written out
 abbrev pub assignment_of : Solved → List TypeShape
-assignment_of s = values_from (table_of s.nodes.items) 0 s.holes
+assignment_of s = values_from (shapes_of_nodes s.nodes.items) 0 s.holes

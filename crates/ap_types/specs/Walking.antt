@@ -4,28 +4,28 @@ use Rattle.ap_defs.specs.Types.{TypeShape, hole}
 use Rattle.ap_types.specs.declared.walking.Mark.{Mark}
 use Rattle.ap_types.specs.declared.walking.Mark.TheVariants as marks
 use Rattle.ap_types.specs.Equations.{Filling}
-use Rattle.ap_types.specs.Solving.{occurs, shape_at}
+use Rattle.ap_types.specs.Solving.{occurs_in_shape, shape_at}
 use Rattle.ap_types.specs.Triangular.{Fits}
 use Rattle.ap_types.specs.Joining.{count_below}
 
 -- whether the place c stands in the entry of the place x, which does not stand for itself
 abbrev pub is_part : ℕ → TypeShape → ℕ → Bool
 is_part x (hole y) c = if x == y then false else c == y
-is_part x t c = occurs c t
+is_part x t c = occurs_in_shape c t
 
 abbrev pub IsPart : List TypeShape → ℕ → ℕ → Type 0
 IsPart ts x c = is_part x (shape_at ts x) c ≡ true
 
-abbrev pub mark_at : List Mark → ℕ → Mark
-mark_at ms x = slice_index_or ms x marks.New
+abbrev pub walk_mark_at : List Mark → ℕ → Mark
+walk_mark_at ms x = slice_index_or ms x marks.New
 
 abbrev pub is_left : Mark → Bool
 is_left (marks.Left k) = true
 is_left _ = false
 
-abbrev pub is_new : Mark → Bool
-is_new marks.New = true
-is_new _ = false
+abbrev pub is_unvisited : Mark → Bool
+is_unvisited marks.New = true
+is_unvisited _ = false
 
 -- each place is a part of the one before
 abbrev pub IsPath : List TypeShape → List ℕ → Type 0
@@ -37,40 +37,40 @@ abbrev pub Stands : ℕ → List ℕ → Type 0
 Stands x [] = ⊥
 Stands x (y ∷ ys) = (x ≡ y) ⊎ Stands x ys
 
-abbrev pub AreBelow : ℕ → List ℕ → Type 0
-AreBelow n [] = Unit {0}
-AreBelow n (x ∷ xs) = (x < n) × AreBelow n xs
+abbrev pub ArePlacesBelow : ℕ → List ℕ → Type 0
+ArePlacesBelow n [] = Unit {0}
+ArePlacesBelow n (x ∷ xs) = (x < n) × ArePlacesBelow n xs
 
 -- Parts were left before what they are parts of, and what was entered and not left stands on the path.
 pub record IsWalk (ts : List TypeShape) (ms : List Mark) (left : ℕ) (path : List ℕ) : Type 0 where
   pub as_long : length ms ≡ length ts
-  pub within : AreBelow (length ts) path
+  pub within : ArePlacesBelow (length ts) path
   pub is_path : IsPath ts path
-  pub entered : (x : ℕ) → mark_at ms x ≡ marks.Entered → Stands x path
-  pub below : (x k : ℕ) → mark_at ms x ≡ marks.Left k → k < left
-  pub ordered : (x k c : ℕ) → mark_at ms x ≡ marks.Left k → IsPart ts x c → (j : ℕ) × (mark_at ms c ≡ marks.Left j) × (j < k)
-  pub counted : left ≤ count_below (λ x. is_left (mark_at ms x)) (length ms)
+  pub entered : (x : ℕ) → walk_mark_at ms x ≡ marks.Entered → Stands x path
+  pub below : (x k : ℕ) → walk_mark_at ms x ≡ marks.Left k → k < left
+  pub ordered : (x k c : ℕ) → walk_mark_at ms x ≡ marks.Left k → IsPart ts x c → (j : ℕ) × (walk_mark_at ms c ≡ marks.Left j) × (j < k)
+  pub counted : left ≤ count_below (λ x. is_left (walk_mark_at ms x)) (length ms)
 
 -- what was left stays left
 abbrev pub StayLeft : List Mark → List Mark → Type 0
-StayLeft old new = (x : ℕ) → is_left (mark_at old x) ≡ true → is_left (mark_at new x) ≡ true
+StayLeft old new = (x : ℕ) → is_left (walk_mark_at old x) ≡ true → is_left (walk_mark_at new x) ≡ true
 
 -- how many places are new
 unfoldable pub new_count : List Mark → ℕ
-new_count ms = count_below (λ x. is_new (mark_at ms x)) (length ms)
+new_count ms = count_below (λ x. is_unvisited (walk_mark_at ms x)) (length ms)
 
 -- A step along a path: what stood on it stands there still or was left, and fewer steps are left.
-pub record Passes (ts : List TypeShape) (old : List Mark) (path : List ℕ) (ms : List Mark) (left : ℕ) (path' : List ℕ) : Type 0 where
+pub record PassesAlong (ts : List TypeShape) (old : List Mark) (path : List ℕ) (ms : List Mark) (left : ℕ) (path' : List ℕ) : Type 0 where
   pub walk : IsWalk ts ms left path'
   pub stay : StayLeft old ms
-  pub there : (x : ℕ) → Stands x path → (is_left (mark_at ms x) ≡ true) ⊎ Stands x path'
+  pub there : (x : ℕ) → Stands x path → (is_left (walk_mark_at ms x) ≡ true) ⊎ Stands x path'
   pub fewer : length path' + 2 * new_count ms < length path + 2 * new_count old
 
 -- The walk has left the place, and is on no path.
 pub record HasLeft (ts : List TypeShape) (old : List Mark) (x : ℕ) (ms : List Mark) (left : ℕ) : Type 0 where
   pub walk : IsWalk ts ms left []
   pub stay : StayLeft old ms
-  pub here : is_left (mark_at ms x) ≡ true
+  pub here : is_left (walk_mark_at ms x) ≡ true
 
 -- nothing fits the table
 abbrev pub NoneFits : List TypeShape → Type 0

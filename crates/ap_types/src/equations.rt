@@ -2,10 +2,10 @@
 
 ghost use Rattle.std.specs.Prelude.{◌≡◌, ◌↔◌, ℕ, ◌+◌, ◌≤◌, [], ◌∷◌, length, map, max, IsTrue, IfOk, IfErr};
 ghost use Rattle.ap_defs.specs.Types.{shape_of};
-ghost use Rattle.ap_types.specs.Equations.{equation_of, bound_of, equations_bound, names_bound, hole_count, Filling, IsSolution, IsInstance, GivesNames};
+ghost use Rattle.ap_types.specs.Equations.{equation_of, bound_of, equations_bound, names_bound, hole_count, Filling, IsSolution, IsShapeInstance, GivesNames};
 ghost use Rattle.ap_types.specs.Assignments.{AreNames, IsUnsolvable, name_equation, name_equations, Narrows};
-ghost use Rattle.ap_types.specs.Triangular.{table_of, AreFormed, IsSettled, assignment_of};
-ghost use Rattle.ap_types.specs.Joining.{AreWithin, NeverAgree, LoadsSystem, Settles};
+ghost use Rattle.ap_types.specs.Triangular.{shapes_of_nodes, AreFormed, IsSettledTable, assignment_of};
+ghost use Rattle.ap_types.specs.Joining.{ArePairsWithin, NeverAgree, LoadsSystem, Settles};
 
 use crate::errors::TypesError;
 use crate::joining::{join_all, shorten_all};
@@ -109,7 +109,7 @@ fn load_system(
 ) -> Result<Loaded, Memory>
     requires { hole_count (map equation_of equations.now) names.now ≤ holes }
     ensures { IfOk result (λ l. LoadsSystem (map equation_of equations.now)
-        (name_equations name_types names.now) holes (table_of l.nodes.items) l.pairs.items) }
+        (name_equations name_types names.now) holes (shapes_of_nodes l.nodes.items) l.pairs.items) }
 {
     let by_names = equations_of_names(alloc, names, name_types)?;
     let nodes = open_places(alloc, holes)?;
@@ -120,12 +120,12 @@ fn load_system(
 
 /// The table in which the pairs of places have become alike.
 fn settled(alloc: Global, loaded: Loaded) -> Result<Vec<Node>, TypesError>
-    requires formed { AreFormed (table_of loaded.nodes.items) }
-    requires within { AreWithin (length loaded.nodes.items) loaded.pairs.items }
-    ensures ok { IfOk result (λ v. Settles (table_of loaded.nodes.items) loaded.pairs.items
-        (table_of v.items)) }
+    requires formed { AreFormed (shapes_of_nodes loaded.nodes.items) }
+    requires within { ArePairsWithin (length loaded.nodes.items) loaded.pairs.items }
+    ensures ok { IfOk result (λ v. Settles (shapes_of_nodes loaded.nodes.items) loaded.pairs.items
+        (shapes_of_nodes v.items)) }
     ensures clash { IfErr result (λ e. e ≡ TypesError.Clash →
-        NeverAgree (table_of loaded.nodes.items) loaded.pairs.items) }
+        NeverAgree (shapes_of_nodes loaded.nodes.items) loaded.pairs.items) }
 {
     let mut nodes = join_all(loaded)?;
     shorten_all(&mut nodes);
@@ -141,7 +141,7 @@ fn narrowed(
     names: &[u64],
     name_types: u32,
 ) -> Result<Solved, TypesError>
-    ensures settled { IfOk result (λ s. IsSettled (table_of s.nodes.items)) }
+    ensures settled { IfOk result (λ s. IsSettledTable (shapes_of_nodes s.nodes.items)) }
     ensures holes { IfOk result (λ s. s.holes
         ≡ hole_count (map equation_of equations.now) names.now) }
     ensures narrows { IfOk result (λ s. Narrows (map equation_of equations.now) names.now name_types
@@ -167,12 +167,12 @@ pub fn solved(
     names: &[u64],
     name_types: u32,
 ) -> Result<Solved, TypesError>
-    ensures settled { IfOk result (λ s. IsSettled (table_of s.nodes.items)) }
+    ensures settled { IfOk result (λ s. IsSettledTable (shapes_of_nodes s.nodes.items)) }
     ensures in_order { IfOk result (λ s. s.holes
         ≡ hole_count (map equation_of equations.now) names.now) }
     ensures most_general { IfOk result (λ s. (f : Filling) →
         IsSolution (map equation_of equations.now) names.now name_types f
-        ↔ (IsInstance (assignment_of s) f × GivesNames name_types f names.now)) }
+        ↔ (IsShapeInstance (assignment_of s) f × GivesNames name_types f names.now)) }
     ensures constrained { IfOk result (λ s. AreNames name_types (assignment_of s) names.now) }
     ensures solvable { IfOk result (λ s. (f : Filling)
         × IsSolution (map equation_of equations.now) names.now name_types f) }
@@ -208,7 +208,7 @@ pub fn solve(
         ≡ hole_count (map equation_of equations.now) names.now) }
     ensures most_general { IfOk result (λ a. (f : Filling) →
         IsSolution (map equation_of equations.now) names.now name_types f
-        ↔ (IsInstance (map shape_of a.holes) f × GivesNames name_types f names.now)) }
+        ↔ (IsShapeInstance (map shape_of a.holes) f × GivesNames name_types f names.now)) }
     ensures constrained { IfOk result (λ a. AreNames name_types (map shape_of a.holes) names.now) }
 
     // An assignment that is given has a solution, so a clash is never left out.

@@ -4,7 +4,7 @@ ghost use Rattle.std.specs.Prelude.{◌≡◌, IfOk};
 ghost use Rattle.ap_defs.specs.Types.{type_of, signature_of};
 ghost use Rattle.ap_types.specs.Rounds.{marked};
 ghost use Rattle.ap_types.specs.Holding.{holds_if};
-ghost use Rattle.ap_types.specs.Tables.{IsTableOf};
+ghost use Rattle.ap_types.specs.Tables.{IsHoldingTable};
 
 use crate::rounds::{Question, answer_by, least_table};
 use ap_defs::goals::Signature;
@@ -22,7 +22,7 @@ pub struct Holding {
 /// The data types that may hold names of a sort, by the constructors of a signature. `Err` is want of
 /// memory.
 pub fn types_holding(alloc: Global, sig: &Signature, sort: u32) -> Result<Holding, Memory>
-    ensures { IfOk result (λ h. IsTableOf (signature_of sig.now).constructors sort h) }
+    ensures { IfOk result (λ h. IsHoldingTable (signature_of sig.now).constructors sort h) }
 {
     let table = least_table(alloc, Question::Holds(sort), sig.constructors.items())?;
     Ok(Holding { sort, table })

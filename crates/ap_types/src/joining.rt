@@ -2,8 +2,8 @@
 
 ghost use Rattle.std.specs.Prelude.{◌≡◌, ◌<◌, ◌≤◌, ◌+◌, ◌*◌, ◌++◌, ◌∷◌, [], length, true, Some, None, MatchOption, IfOk, IfErr};
 ghost use Rattle.ap_types.specs.Solving.{shape_at};
-ghost use Rattle.ap_types.specs.Triangular.{table_of, AreFormed};
-ghost use Rattle.ap_types.specs.Joining.{link, is_root, roots, Rewrites, Shortens, Finds, parts, pairs_of, fuller, Joins, NeverAlike, AreWithin, Leads, NeverAgree};
+ghost use Rattle.ap_types.specs.Triangular.{shapes_of_nodes, AreFormed};
+ghost use Rattle.ap_types.specs.Joining.{link, is_root, roots, Rewrites, Shortens, FindsRoot, parts, pairs_of, fuller, Joins, NeverAlike, ArePairsWithin, TablesLead, NeverAgree};
 
 use crate::errors::TypesError;
 use crate::loading::Loaded;
@@ -21,7 +21,7 @@ pub(crate) enum Rest {
 /// The place that stands for one, or itself.
 pub(crate) fn link_of(nodes: &[Node], x: usize) -> usize
     requires { x < length nodes.now }
-    ensures { result ≡ link x (shape_at (table_of nodes.now) x) }
+    ensures { result ≡ link x (shape_at (shapes_of_nodes nodes.now) x) }
 {
     match nodes[x] {
         Node::Place(y) => y,
@@ -31,9 +31,9 @@ pub(crate) fn link_of(nodes: &[Node], x: usize) -> usize
 
 /// Makes the place that stands for one stand for that which it stands for itself, and gives it.
 fn shorten(nodes: &mut [Node], x: usize) -> usize
-    requires formed { AreFormed (table_of nodes.old) }
+    requires formed { AreFormed (shapes_of_nodes nodes.old) }
     requires within { x < length nodes.old }
-    ensures { Shortens (table_of nodes.old) x (table_of nodes.new) result }
+    ensures { Shortens (shapes_of_nodes nodes.old) x (shapes_of_nodes nodes.new) result }
 {
     let next = link_of(nodes, x);
     if next == x {
@@ -46,9 +46,9 @@ fn shorten(nodes: &mut [Node], x: usize) -> usize
 
 /// The root that stands for a place; the links on the way to it become shorter.
 fn root_of(nodes: &mut [Node], x: usize) -> usize
-    requires formed { AreFormed (table_of nodes.old) }
+    requires formed { AreFormed (shapes_of_nodes nodes.old) }
     requires within { x < length nodes.old }
-    ensures { Finds (table_of nodes.old) x (table_of nodes.new) result }
+    ensures { FindsRoot (shapes_of_nodes nodes.old) x (shapes_of_nodes nodes.new) result }
 {
     let mut at = x;
     let mut next = shorten(nodes, at);
@@ -61,8 +61,8 @@ fn root_of(nodes: &mut [Node], x: usize) -> usize
 
 /// Shortens the links of all places, so that each is one of a root.
 pub(crate) fn shorten_all(nodes: &mut [Node])
-    requires { AreFormed (table_of nodes.old) }
-    ensures { Rewrites (table_of nodes.old) (table_of nodes.new) }
+    requires { AreFormed (shapes_of_nodes nodes.old) }
+    ensures { Rewrites (shapes_of_nodes nodes.old) (shapes_of_nodes nodes.new) }
 {
     for x in 0..nodes.len() {
         shorten(nodes, x);
@@ -152,13 +152,13 @@ fn fuller(keep: Node, gone: Node) -> Node
 /// Joins two roots, of which the first is to stay one, and gives the pairs that are left; None where
 /// nothing makes them alike.
 fn join_roots(nodes: &mut [Node], keep: usize, gone: usize) -> Option<Rest>
-    requires formed { AreFormed (table_of nodes.old) }
+    requires formed { AreFormed (shapes_of_nodes nodes.old) }
     requires order { keep < gone }
     requires within { gone < length nodes.old }
-    requires kept { is_root keep (shape_at (table_of nodes.old) keep) ≡ true }
-    requires joined { is_root gone (shape_at (table_of nodes.old) gone) ≡ true }
-    ensures { MatchOption result (NeverAlike (table_of nodes.old) keep gone) (λ r. Joins
-        (table_of nodes.old) keep gone (table_of nodes.new) (pairs_of r)) }
+    requires kept { is_root keep (shape_at (shapes_of_nodes nodes.old) keep) ≡ true }
+    requires joined { is_root gone (shape_at (shapes_of_nodes nodes.old) gone) ≡ true }
+    ensures { MatchOption result (NeverAlike (shapes_of_nodes nodes.old) keep gone) (λ r. Joins
+        (shapes_of_nodes nodes.old) keep gone (shapes_of_nodes nodes.new) (pairs_of r)) }
 {
     let first = nodes[keep];
     let second = nodes[gone];
@@ -174,11 +174,11 @@ fn join_roots(nodes: &mut [Node], keep: usize, gone: usize) -> Option<Rest>
 
 /// Joins two places, and gives the pairs that are left; None where nothing makes them alike.
 fn join(nodes: &mut [Node], x: usize, y: usize) -> Option<Rest>
-    requires formed { AreFormed (table_of nodes.old) }
+    requires formed { AreFormed (shapes_of_nodes nodes.old) }
     requires left { x < length nodes.old }
     requires right { y < length nodes.old }
-    ensures { MatchOption result (NeverAlike (table_of nodes.old) x y) (λ r. Joins
-        (table_of nodes.old) x y (table_of nodes.new) (pairs_of r)) }
+    ensures { MatchOption result (NeverAlike (shapes_of_nodes nodes.old) x y) (λ r. Joins
+        (shapes_of_nodes nodes.old) x y (shapes_of_nodes nodes.new) (pairs_of r)) }
 {
     let left = root_of(nodes, x);
     let right = root_of(nodes, y);
@@ -210,16 +210,17 @@ fn with_rest(pairs: Vec<(usize, usize)>, rest: Rest) -> Result<Vec<(usize, usize
 
 /// The table and pairs after one more pair was joined.
 fn advance(loaded: Loaded, x: usize, y: usize) -> Result<Loaded, TypesError>
-    requires formed { AreFormed (table_of loaded.nodes.items) }
+    requires formed { AreFormed (shapes_of_nodes loaded.nodes.items) }
     requires left { x < length loaded.nodes.items }
     requires right { y < length loaded.nodes.items }
-    requires within { AreWithin (length loaded.nodes.items) loaded.pairs.items }
-    ensures ok { IfOk result (λ l. Leads (table_of loaded.nodes.items)
-        (loaded.pairs.items ++ (x, y) ∷ []) (table_of l.nodes.items) l.pairs.items) }
-    ensures fewer { IfOk result (λ l. length l.pairs.items + 3 * roots (table_of l.nodes.items)
-        ≤ length loaded.pairs.items + 3 * roots (table_of loaded.nodes.items)) }
+    requires within { ArePairsWithin (length loaded.nodes.items) loaded.pairs.items }
+    ensures ok { IfOk result (λ l. TablesLead (shapes_of_nodes loaded.nodes.items)
+        (loaded.pairs.items ++ (x, y) ∷ []) (shapes_of_nodes l.nodes.items) l.pairs.items) }
+    ensures fewer { IfOk result (λ l. length l.pairs.items + 3
+        * roots (shapes_of_nodes l.nodes.items)
+        ≤ length loaded.pairs.items + 3 * roots (shapes_of_nodes loaded.nodes.items)) }
     ensures clash { IfErr result (λ e. e ≡ TypesError.Clash →
-        NeverAlike (table_of loaded.nodes.items) x y) }
+        NeverAlike (shapes_of_nodes loaded.nodes.items) x y) }
 {
     let Loaded { mut nodes, pairs } = loaded;
     match join(&mut nodes, x, y) {
@@ -233,12 +234,12 @@ fn advance(loaded: Loaded, x: usize, y: usize) -> Result<Loaded, TypesError>
 
 /// Joins the places of all pairs: unification by the union of equal parts, after Huet.
 pub(crate) fn join_all(first: Loaded) -> Result<Vec<Node>, TypesError>
-    requires formed { AreFormed (table_of first.nodes.items) }
-    requires within { AreWithin (length first.nodes.items) first.pairs.items }
-    ensures ok { IfOk result (λ v. Leads (table_of first.nodes.items) first.pairs.items
-        (table_of v.items) []) }
+    requires formed { AreFormed (shapes_of_nodes first.nodes.items) }
+    requires within { ArePairsWithin (length first.nodes.items) first.pairs.items }
+    ensures ok { IfOk result (λ v. TablesLead (shapes_of_nodes first.nodes.items) first.pairs.items
+        (shapes_of_nodes v.items) []) }
     ensures clash { IfErr result (λ e. e ≡ TypesError.Clash →
-        NeverAgree (table_of first.nodes.items) first.pairs.items) }
+        NeverAgree (shapes_of_nodes first.nodes.items) first.pairs.items) }
 {
     let mut loaded = first;
     'steps: while let Some((x, y)) = loaded.pairs.pop() {

@@ -7,7 +7,7 @@
 ghost use Rattle.std.specs.Prelude.{◌≡◌, ◌+◌, ◌<◌, ℕ, Bool, true, false, List as list, [], ◌∷◌, ◌++◌, length, IfOk, IfSome, OnOk};
 ghost use Rattle.ap_types.specs.declared.rounds.Question.{Question};
 ghost use Rattle.ap_types.specs.Rounds.{Within, marked};
-ghost use Rattle.ap_types.specs.Rules.{all_in, all_in_from, rules_at, rule_weight, weight, later_weight, SameMarks, SameRules, OthersMarked, OthersWait, Leads, IsLeastSoFar};
+ghost use Rattle.ap_types.specs.Rules.{all_are_in, all_in_from, rules_at, rule_weight, rules_weight, later_weight, SameMarks, SameRules, OthersMarked, OthersWait, RulesLead, IsLeastSoFar};
 
 use ap_defs::memory::Memory;
 use std::alloc::Global;
@@ -83,7 +83,7 @@ fn wait(alloc: Global, waiting: &mut Vec<Vec<Rule>>, base: u32, rule: Rule) -> R
     ensures here { OnOk result (rules_at waiting.new.items base
         ≡ rules_at waiting.old.items base ++ rule ∷ []) }
     ensures others { OnOk result (OthersWait base waiting.old.items waiting.new.items) }
-    ensures weight { OnOk result (later_weight waiting.new.items
+    ensures rules_weight { OnOk result (later_weight waiting.new.items
         ≡ later_weight waiting.old.items + (rule_weight rule + 1)) }
 {
     let place = base as usize;
@@ -97,8 +97,8 @@ fn release(alloc: Global, waiting: &mut Vec<Vec<Rule>>, base: u32) -> Vec<Rule>
     ensures given { result.items ≡ rules_at waiting.old.items base }
     ensures here { rules_at waiting.new.items base ≡ [] }
     ensures others { OthersWait base waiting.old.items waiting.new.items }
-    ensures weight { later_weight waiting.new.items + (weight result.items + length result.items)
-        ≡ later_weight waiting.old.items }
+    ensures rules_weight { later_weight waiting.new.items
+        + (rules_weight result.items + length result.items) ≡ later_weight waiting.old.items }
 {
     let place = base as usize;
     if waiting.len() <= place {
@@ -111,7 +111,7 @@ fn release(alloc: Global, waiting: &mut Vec<Vec<Rule>>, base: u32) -> Vec<Rule>
 fn next_missing(table: &[bool], needs: &mut Vec<u32>) -> Option<u32>
     ensures out { IfSome result (λ d. marked table.now d ≡ false) }
     ensures same { (p : ℕ → Bool) → Within (marked table.now) p →
-        all_in p needs.old.items ≡ all_in_from p result needs.new.items }
+        all_are_in p needs.old.items ≡ all_in_from p result needs.new.items }
     ensures fewer { IfSome result (λ d. length needs.new.items < length needs.old.items) }
 {
     while let Some(base) = needs.pop() {
@@ -125,8 +125,9 @@ fn next_missing(table: &[bool], needs: &mut Vec<u32>) -> Option<u32>
 /// A rule waits, or its data type goes in, and the rules that waited for this are to be looked at.
 fn look_at(alloc: Global, least: &mut Least, rule: Rule) -> Result<Vec<Rule>, Memory>
     ensures leads { IfOk result (λ next. (rest : list Rule) →
-        Leads (rest ++ rule ∷ []) least.old (rest ++ next.items) least.new) }
-    ensures lighter { IfOk result (λ next. weight next.items + later_weight least.new.waiting.items
+        RulesLead (rest ++ rule ∷ []) least.old (rest ++ next.items) least.new) }
+    ensures lighter { IfOk result (λ next. rules_weight next.items
+        + later_weight least.new.waiting.items
         < rule_weight rule + later_weight least.old.waiting.items) }
 {
     let Rule { gives, mut needs } = rule;
@@ -144,7 +145,7 @@ fn look_at(alloc: Global, least: &mut Least, rule: Rule) -> Result<Vec<Rule>, Me
 
 /// The least set with more rules.
 pub(crate) fn add_rules(alloc: Global, least: &mut Least, rules: Vec<Rule>) -> Result<(), Memory>
-    ensures { OnOk result (Leads rules.items least.old [] least.new) }
+    ensures { OnOk result (RulesLead rules.items least.old [] least.new) }
 {
     let mut left = rules;
     while let Some(rule) = left.pop() {

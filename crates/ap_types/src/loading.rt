@@ -4,8 +4,8 @@ ghost use Rattle.std.specs.Prelude.{◌≡◌, ℕ, ◌<◌, ◌≤◌, ◌++◌
 ghost use Rattle.ap_defs.specs.Types.{shape_of, hole};
 ghost use Rattle.ap_types.specs.Equations.{◌≐◌, equation_of, bound_of, equations_bound};
 ghost use Rattle.ap_types.specs.Solving.{shape_at};
-ghost use Rattle.ap_types.specs.Triangular.{table_of, AreFormed};
-ghost use Rattle.ap_types.specs.Joining.{AreWithin, Loads, LoadsAll};
+ghost use Rattle.ap_types.specs.Triangular.{shapes_of_nodes, AreFormed};
+ghost use Rattle.ap_types.specs.Joining.{ArePairsWithin, Loads, LoadsAll};
 
 use crate::nodes::Node;
 use ap_defs::memory::Memory;
@@ -21,7 +21,7 @@ pub(crate) struct Loaded {
 
 /// So many open places.
 pub(crate) fn open_places(alloc: Global, count: usize) -> Result<Vec<Node>, Memory>
-    ensures opened { IfOk result (λ v. (x : ℕ) → shape_at (table_of v.items) x ≡ hole x) }
+    ensures opened { IfOk result (λ v. (x : ℕ) → shape_at (shapes_of_nodes v.items) x ≡ hole x) }
     ensures len { IfOk result (λ v. length v.items ≡ count) }
 {
     let mut nodes = Vec::new(alloc);
@@ -43,10 +43,10 @@ fn add(nodes: &mut Vec<Node>, node: Node) -> Result<usize, Memory>
 
 /// Puts a shape into a table, and gives its place; a hole is the place of its number.
 fn load(nodes: &mut Vec<Node>, t: &Shape) -> Result<usize, Memory>
-    requires formed { AreFormed (table_of nodes.old.items) }
+    requires formed { AreFormed (shapes_of_nodes nodes.old.items) }
     requires bound { bound_of (shape_of t.now) ≤ length nodes.old.items }
-    ensures { IfOk result (λ x. Loads (table_of nodes.old.items) (shape_of t.now)
-        (table_of nodes.new.items) x) }
+    ensures { IfOk result (λ x. Loads (shapes_of_nodes nodes.old.items) (shape_of t.now)
+        (shapes_of_nodes nodes.new.items) x) }
 {
     match t {
         Shape::Hole(x) => Ok(*x as usize),
@@ -72,12 +72,13 @@ fn load(nodes: &mut Vec<Node>, t: &Shape) -> Result<usize, Memory>
 
 /// Puts both sides of an equation into a table, with the pair of their places.
 fn load_equation(loaded: Loaded, left: &Shape, right: &Shape) -> Result<Loaded, Memory>
-    requires formed { AreFormed (table_of loaded.nodes.items) }
+    requires formed { AreFormed (shapes_of_nodes loaded.nodes.items) }
     requires left { bound_of (shape_of left.now) ≤ length loaded.nodes.items }
     requires right { bound_of (shape_of right.now) ≤ length loaded.nodes.items }
-    requires within { AreWithin (length loaded.nodes.items) loaded.pairs.items }
-    ensures { IfOk result (λ l. LoadsAll (table_of loaded.nodes.items) loaded.pairs.items ((shape_of left.now ≐ shape_of right.now)
-        ∷ []) (table_of l.nodes.items) l.pairs.items) }
+    requires within { ArePairsWithin (length loaded.nodes.items) loaded.pairs.items }
+    ensures { IfOk result (λ l. LoadsAll (shapes_of_nodes loaded.nodes.items) loaded.pairs.items
+        ((shape_of left.now ≐ shape_of right.now) ∷ []) (shapes_of_nodes l.nodes.items)
+        l.pairs.items) }
 {
     let Loaded {
         mut nodes,
@@ -91,11 +92,11 @@ fn load_equation(loaded: Loaded, left: &Shape, right: &Shape) -> Result<Loaded, 
 
 /// Puts equations into a table, with the pairs of their sides' places.
 pub(crate) fn load_all(loaded: Loaded, equations: &[(Shape, Shape)]) -> Result<Loaded, Memory>
-    requires formed { AreFormed (table_of loaded.nodes.items) }
+    requires formed { AreFormed (shapes_of_nodes loaded.nodes.items) }
     requires bound { equations_bound (map equation_of equations.now) ≤ length loaded.nodes.items }
-    requires within { AreWithin (length loaded.nodes.items) loaded.pairs.items }
-    ensures { IfOk result (λ l. LoadsAll (table_of loaded.nodes.items) loaded.pairs.items
-        (map equation_of equations.now) (table_of l.nodes.items) l.pairs.items) }
+    requires within { ArePairsWithin (length loaded.nodes.items) loaded.pairs.items }
+    ensures { IfOk result (λ l. LoadsAll (shapes_of_nodes loaded.nodes.items) loaded.pairs.items
+        (map equation_of equations.now) (shapes_of_nodes l.nodes.items) l.pairs.items) }
 {
     let mut all = loaded;
     for e in equations {

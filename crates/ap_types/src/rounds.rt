@@ -4,11 +4,11 @@
 
 ghost use Rattle.std.specs.Prelude.{◌≡◌, ℕ, List as list, [], ◌∷◌, ◌++◌, map, Bool, ◌&&◌, IfOk, OnOk};
 ghost use Rattle.ap_defs.specs.Types.{NominalConstructor, type_of, constructor_of};
-ghost use Rattle.ap_types.specs.Rounds.{marked, IsLeast};
+ghost use Rattle.ap_types.specs.Rounds.{marked, IsLeastSet};
 ghost use Rattle.ap_types.specs.Inhabited.{inhabited_if, all_inhabited};
 ghost use Rattle.ap_types.specs.Holding.{holds_if, some_holds};
 ghost use Rattle.ap_types.specs.Questions.{answer_if, test_of};
-ghost use Rattle.ap_types.specs.Rules.{all_in, Adds, Say, IsLeastSoFar};
+ghost use Rattle.ap_types.specs.Rules.{all_are_in, Adds, Say, IsLeastSoFar};
 
 use crate::least::{Least, Rule, add_rules, is_marked, nothing};
 use ap_defs::goals::Constructor;
@@ -77,7 +77,8 @@ pub(crate) fn answer_by(question: Question, table: &[bool], t: &Ty) -> bool
 /// The data types that must be in for a type to be inhabited.
 fn add_needs(ty: &Ty, needs: &mut Vec<u32>) -> Result<(), Memory>
     ensures { OnOk result ((p : ℕ → Bool) →
-        all_in p needs.new.items ≡ (all_in p needs.old.items && inhabited_if p (type_of ty.now))) }
+        all_are_in p needs.new.items
+        ≡ (all_are_in p needs.old.items && inhabited_if p (type_of ty.now))) }
 {
     let mut rest = ty;
     loop {
@@ -99,7 +100,7 @@ fn add_needs(ty: &Ty, needs: &mut Vec<u32>) -> Result<(), Memory>
 /// The data types that must be in for each of a constructor's arguments to be inhabited.
 fn needs_of(alloc: Global, args: &[Ty]) -> Result<Vec<u32>, Memory>
     ensures { IfOk result (λ needs. (p : ℕ → Bool) →
-        all_in p needs.items ≡ all_inhabited p (map type_of args.now)) }
+        all_are_in p needs.items ≡ all_inhabited p (map type_of args.now)) }
 {
     let mut needs = Vec::new(alloc);
     for ty in args {
@@ -110,7 +111,8 @@ fn needs_of(alloc: Global, args: &[Ty]) -> Result<Vec<u32>, Memory>
 
 /// A rule that gives a data type.
 fn add_rule(rules: &mut Vec<Rule>, gives: u32, needs: Vec<u32>) -> Result<(), Memory>
-    ensures { OnOk result (Adds rules.old.items rules.new.items (λ p. all_in p needs.items) gives) }
+    ensures { OnOk result (Adds rules.old.items rules.new.items (λ p. all_are_in p needs.items)
+        gives) }
 {
     Ok(rules.push(Rule { gives, needs })?)
 }
@@ -213,7 +215,7 @@ pub(crate) fn least_table(
     question: Question,
     constructors: &[Constructor],
 ) -> Result<Vec<bool>, Memory>
-    ensures { IfOk result (λ v. IsLeast (test_of question) (map constructor_of constructors.now)
+    ensures { IfOk result (λ v. IsLeastSet (test_of question) (map constructor_of constructors.now)
         (marked v.items)) }
 {
     let least = least_of(alloc, question, constructors)?;

@@ -5,7 +5,7 @@ ghost use Rattle.ap_defs.specs.Types.{shape_of};
 ghost use Rattle.ap_types.specs.Equations.{names_bound};
 ghost use Rattle.ap_types.specs.Solving.{shape_at};
 ghost use Rattle.ap_types.specs.Assignments.{IsNameOrHole, AreNamesOrHoles};
-ghost use Rattle.ap_types.specs.Triangular.{table_of, value_of, IsSettled, assignment_of};
+ghost use Rattle.ap_types.specs.Triangular.{shapes_of_nodes, value_of, IsSettledTable, assignment_of};
 
 use crate::joining::link_of;
 use crate::nodes::Node;
@@ -24,8 +24,8 @@ pub struct Solved {
 
 /// The shape of a place, written out.
 fn value_in(alloc: Global, nodes: &[Node], x: usize) -> Result<Shape, Memory>
-    requires { IsSettled (table_of nodes.now) }
-    ensures { IfOk result (λ t. shape_of t ≡ value_of (table_of nodes.now) x) }
+    requires { IsSettledTable (shapes_of_nodes nodes.now) }
+    ensures { IfOk result (λ t. shape_of t ≡ value_of (shapes_of_nodes nodes.now) x) }
 {
     if x >= nodes.len() {
         return Ok(Shape::Hole(x as u64));
@@ -60,7 +60,7 @@ fn value_in(alloc: Global, nodes: &[Node], x: usize) -> Result<Shape, Memory>
 
 /// The shape of a hole in the assignment that a table stands for, written out. `Err` is want of memory.
 pub fn value_of(alloc: Global, solved: &Solved, hole: usize) -> Result<Shape, Memory>
-    requires { IsSettled (table_of solved.now.nodes.items) }
+    requires { IsSettledTable (shapes_of_nodes solved.now.nodes.items) }
     ensures { IfOk result (λ t. shape_of t ≡ shape_at (assignment_of solved.now) hole) }
 {
     if hole >= solved.holes {
@@ -71,7 +71,7 @@ pub fn value_of(alloc: Global, solved: &Solved, hole: usize) -> Result<Shape, Me
 
 /// The assignment that a table stands for, written out. `Err` is want of memory.
 pub fn written_out(alloc: Global, solved: &Solved) -> Result<Vec<Shape>, Memory>
-    requires { IsSettled (table_of solved.now.nodes.items) }
+    requires { IsSettledTable (shapes_of_nodes solved.now.nodes.items) }
     ensures { IfOk result (λ v. map shape_of v.items ≡ assignment_of solved.now) }
 {
     let mut shapes = Vec::new(alloc);
@@ -83,8 +83,8 @@ pub fn written_out(alloc: Global, solved: &Solved) -> Result<Vec<Shape>, Memory>
 
 /// Whether a place stands for a declared name type or an open place.
 fn is_name_or_hole(name_types: u32, nodes: &[Node], x: usize) -> bool
-    requires { IsSettled (table_of nodes.now) }
-    ensures { IsTrue result ↔ IsNameOrHole name_types (value_of (table_of nodes.now) x) }
+    requires { IsSettledTable (shapes_of_nodes nodes.now) }
+    ensures { IsTrue result ↔ IsNameOrHole name_types (value_of (shapes_of_nodes nodes.now) x) }
 {
     if x >= nodes.len() {
         return true;
@@ -104,7 +104,7 @@ fn is_name_or_hole(name_types: u32, nodes: &[Node], x: usize) -> bool
 
 /// Whether each of these holes has a declared name type or a hole for its shape.
 pub(crate) fn are_names_or_holes(name_types: u32, solved: &Solved, names: &[u64]) -> bool
-    requires settled { IsSettled (table_of solved.now.nodes.items) }
+    requires settled { IsSettledTable (shapes_of_nodes solved.now.nodes.items) }
     requires bound { names_bound names.now ≤ solved.now.holes }
     ensures { IsTrue result ↔ AreNamesOrHoles name_types (assignment_of solved.now) names.now }
 {

@@ -1,8 +1,8 @@
 //! Whether a place of a table stands within itself.
 
 ghost use Rattle.std.specs.Prelude.{◌≡◌, ℕ, ◌<◌, ◌≤◌, ◌+◌, ◌++◌, ◌∷◌, [], slice_set, length, true, false, MatchOption, IfOk, IfErr};
-ghost use Rattle.ap_types.specs.Triangular.{table_of, AreFormed, IsSettled};
-ghost use Rattle.ap_types.specs.Walking.{IsPart, mark_at, is_left, is_new, IsWalk, Passes, HasLeft, NoneFits};
+ghost use Rattle.ap_types.specs.Triangular.{shapes_of_nodes, AreFormed, IsSettledTable};
+ghost use Rattle.ap_types.specs.Walking.{IsPart, walk_mark_at, is_left, is_unvisited, IsWalk, PassesAlong, HasLeft, NoneFits};
 
 use crate::errors::TypesError;
 use crate::nodes::Node;
@@ -28,14 +28,14 @@ struct Walk {
 
 /// Whether a place was left.
 fn is_left(marks: &[Mark], x: usize) -> bool
-    ensures { result ≡ is_left (mark_at marks.now x) }
+    ensures { result ≡ is_left (walk_mark_at marks.now x) }
 {
     x < marks.len() && matches!(marks[x], Mark::Left(_))
 }
 
 /// Whether a place is new.
 fn is_new(marks: &[Mark], x: usize) -> bool
-    ensures { result ≡ is_new (mark_at marks.now x) }
+    ensures { result ≡ is_unvisited (walk_mark_at marks.now x) }
 {
     x >= marks.len() || matches!(marks[x], Mark::New)
 }
@@ -43,9 +43,9 @@ fn is_new(marks: &[Mark], x: usize) -> bool
 /// A part of a place that was not left.
 fn waiting_part(nodes: &[Node], marks: &[Mark], x: usize) -> Option<usize>
     requires { x < length nodes.now }
-    ensures { MatchOption result ((c : ℕ) → IsPart (table_of nodes.now) x c →
-        is_left (mark_at marks.now c) ≡ true) (λ c. IsPart (table_of nodes.now) x c
-        × (is_left (mark_at marks.now c) ≡ false)) }
+    ensures { MatchOption result ((c : ℕ) → IsPart (shapes_of_nodes nodes.now) x c →
+        is_left (walk_mark_at marks.now c) ≡ true) (λ c. IsPart (shapes_of_nodes nodes.now) x c
+        × (is_left (walk_mark_at marks.now c) ≡ false)) }
 {
     match nodes[x] {
         Node::Place(y) => {
@@ -110,12 +110,13 @@ fn leave(walk: Walk, x: usize) -> Walk
 /// Goes back from the last place of a path where its parts were left, or else on to one of them; that
 /// one stands on the path already where it was entered.
 fn pass(nodes: &[Node], walk: Walk, last: usize) -> Result<Walk, TypesError>
-    requires formed { AreFormed (table_of nodes.now) }
-    requires walk { IsWalk (table_of nodes.now) walk.marks.items walk.left
+    requires formed { AreFormed (shapes_of_nodes nodes.now) }
+    requires walk { IsWalk (shapes_of_nodes nodes.now) walk.marks.items walk.left
         (walk.path.items ++ last ∷ []) }
-    ensures ok { IfOk result (λ w. Passes (table_of nodes.now) walk.marks.items
+    ensures ok { IfOk result (λ w. PassesAlong (shapes_of_nodes nodes.now) walk.marks.items
         (walk.path.items ++ last ∷ []) w.marks.items w.left w.path.items) }
-    ensures clash { IfErr result (λ e. e ≡ TypesError.Clash → NoneFits (table_of nodes.now)) }
+    ensures clash { IfErr result (λ e. e ≡ TypesError.Clash →
+        NoneFits (shapes_of_nodes nodes.now)) }
 {
     let marks = walk.marks.as_slice();
     if is_left(marks, last) {
@@ -141,14 +142,15 @@ fn pass(nodes: &[Node], walk: Walk, last: usize) -> Result<Walk, TypesError>
 
 /// The walk after it left a place and all that stands within it.
 fn explore(nodes: &[Node], walk: Walk, start: usize) -> Result<Walk, TypesError>
-    requires formed { AreFormed (table_of nodes.now) }
+    requires formed { AreFormed (shapes_of_nodes nodes.now) }
     requires within { start < length nodes.now }
-    requires walk { IsWalk (table_of nodes.now) walk.marks.items walk.left [] }
+    requires walk { IsWalk (shapes_of_nodes nodes.now) walk.marks.items walk.left [] }
     requires path { walk.path.items ≡ [] }
-    ensures left { IfOk result (λ w. HasLeft (table_of nodes.now) walk.marks.items start
+    ensures left { IfOk result (λ w. HasLeft (shapes_of_nodes nodes.now) walk.marks.items start
         w.marks.items w.left) }
     ensures path { IfOk result (λ w. w.path.items ≡ []) }
-    ensures clash { IfErr result (λ e. e ≡ TypesError.Clash → NoneFits (table_of nodes.now)) }
+    ensures clash { IfErr result (λ e. e ≡ TypesError.Clash →
+        NoneFits (shapes_of_nodes nodes.now)) }
 {
     let Walk {
         marks,
@@ -165,9 +167,10 @@ fn explore(nodes: &[Node], walk: Walk, start: usize) -> Result<Walk, TypesError>
 
 /// Walks over all places, and refuses a table in which one stands within itself.
 pub(crate) fn refuse_cycles(alloc: Global, nodes: &[Node]) -> Result<(), TypesError>
-    requires { AreFormed (table_of nodes.now) }
-    ensures ok { IfOk result (λ u. IsSettled (table_of nodes.now)) }
-    ensures clash { IfErr result (λ e. e ≡ TypesError.Clash → NoneFits (table_of nodes.now)) }
+    requires { AreFormed (shapes_of_nodes nodes.now) }
+    ensures ok { IfOk result (λ u. IsSettledTable (shapes_of_nodes nodes.now)) }
+    ensures clash { IfErr result (λ e. e ≡ TypesError.Clash →
+        NoneFits (shapes_of_nodes nodes.now)) }
 {
     let mut walk = Walk {
         marks: vec![in alloc; Mark::New; nodes.len()]?,

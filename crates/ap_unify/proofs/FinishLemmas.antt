@@ -4,7 +4,7 @@ use Rattle.std.proofs.lemmas.List.{map-append}
 use Rattle.std.specs.Prelude.{Option, Some, None, not, filter, if◌then◌else◌}
 use Rattle.ap_defs.specs.Freshness.{Conds, add_cond, add_conds, both, cond_eq, has_cond, reduce, var_eq}
 use Rattle.ap_defs.specs.Substitution.{Binding, Problem, moved}
-use Rattle.ap_defs.specs.Unification.{Unified, finish, problem_of, reduce_all, solved, with_conditions}
+use Rattle.ap_defs.specs.Unification.{Unified, finish, problem_of, reduce_all, solved, unified_under}
 use Rattle.ap_defs.specs.declared.terms.Cond.{Cond}
 use Rattle.ap_defs.specs.declared.terms.Var.{Var}
 use Rattle.ap_store.specs.Triples.{is_apart, is_on}
@@ -13,7 +13,7 @@ use Rattle.ap_theory.proofs.CollectionLemmas.{collected_both, collected_same}
 use Rattle.ap_theory.proofs.ConditionSetLemmas.{add_conds_same, has_cond-append, has_cond_add_all}
 use Rattle.ap_theory.proofs.IdempotenceLemmas.{bound_term_unbound}
 use Rattle.ap_theory.proofs.ReductionLemmas.{reduce_all-append}
-use Rattle.ap_theory.specs.StatementsOnConditions.{collected, joined}
+use Rattle.ap_theory.specs.StatementsOnConditions.{collected, joined_conditions}
 use Rattle.ap_theory.specs.Variables.{EachCond, IsIdempotent, IsUnbound}
 use Rattle.ap_unify.proofs.RunLemmas.{reduce_all_under}
 use Rattle.ap_unify.specs.Finishing.{with_kept}
@@ -40,7 +40,7 @@ abbrev pub made : List Binding → Option Conds → Option Unified
 made bs None = None
 made bs (Some cs) = Some (record { bindings = bs; conditions = cs })
 
-made_collected : (bs : List Binding) (o : Option (List Cond)) → with_conditions bs o ≡ made bs (collected o)
+made_collected : (bs : List Binding) (o : Option (List Cond)) → unified_under bs o ≡ made bs (collected o)
 made_collected bs None = refl
 made_collected bs (Some cs) = refl
 
@@ -90,7 +90,7 @@ module _ (kept : Conds) (set : add_conds kept [] ≡ kept) where
         ∙ ap (made bs)
         (ap collected (reduce_all-append bs (map problem_of ds) (map (problem_under bs) ps) ∙ ap (both (reduce_all bs (map problem_of ds))) (reduce_all_under bs idempotent ps))
         ∙ collected_both (reduce_all bs (map problem_of ds)) q
-        ∙ ap (λ o. joined o (collected q)) (collected_same bs ds (kept ++ taken) same)
+        ∙ ap (λ o. joined_conditions o (collected q)) (collected_same bs ds (kept ++ taken) same)
         ∙ sym (collected_both (reduce_all bs (map problem_of (kept ++ taken))) q)
         ∙ ap (λ o. collected (both o q)) (reduced_parts taken)
         ∙ both_kept (reduce_all bs (map problem_of taken)) q

@@ -5,5 +5,5 @@ use Rattle.ap_defs.specs.Terms.{NominalTerm, term_of}
 use Rattle.ap_unify.specs.declared.terms.Terms.{Terms}
 
 -- the terms, renamed
-abbrev pub terms_in : Terms → List NominalTerm
-terms_in l = map (rename_term l.base) (map term_of l.terms.now)
+abbrev pub renamed_terms_in : Terms → List NominalTerm
+renamed_terms_in l = map (rename_term l.base) (map term_of l.terms.now)

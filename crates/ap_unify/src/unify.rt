@@ -6,7 +6,7 @@ ghost use Rattle.ap_defs.specs.Renaming.{AreBelow};
 ghost use Rattle.ap_defs.specs.Unification.{unify as unify_lem};
 ghost use Rattle.ap_store.specs.Triples.{IsPrefixOf};
 ghost use Rattle.ap_store.specs.Views.{IsUnchanged, bindings_of, kinds, present, versions};
-ghost use Rattle.ap_unify.specs.Lists.{terms_in};
+ghost use Rattle.ap_unify.specs.Lists.{renamed_terms_in};
 ghost use Rattle.ap_unify.specs.Runs.{paired};
 ghost use Rattle.ap_unify.specs.Unified.{IsResult, is_of, solves};
 ghost use Rattle.ap_unify.specs.Work.{equations_left};
@@ -23,10 +23,10 @@ use std::alloc::Global;
 /// The equations of the terms at each place of two lists.
 fn first_work<'a>(alloc: Global, left: Terms<'a>, right: Terms<'a>) -> Result<Work<'a>, Memory>
     requires lengths { length left.terms.now ≡ length right.terms.now }
-    requires left { AreBelow left.end (terms_in left) }
-    requires right { AreBelow right.end (terms_in right) }
+    requires left { AreBelow left.end (renamed_terms_in left) }
+    requires right { AreBelow right.end (renamed_terms_in right) }
     ensures equations { IfOk result (λ w. equations_left w
-        ≡ paired (terms_in left.entry) (terms_in right.entry)) }
+        ≡ paired (renamed_terms_in left.entry) (renamed_terms_in right.entry)) }
     ensures problems { IfOk result (λ w. w.problems.items ≡ []) }
     ensures taken { IfOk result (λ w. w.taken.items ≡ []) }
 {
@@ -51,12 +51,12 @@ fn unify_forward<'a>(
     right: Terms<'a>,
 ) -> Result<bool, Memory>
     requires lengths { length left.terms.now ≡ length right.terms.now }
-    requires left { AreBelow left.end (terms_in left) }
-    requires right { AreBelow right.end (terms_in right) }
-    requires left_made { AreBelow (present store.old).next (terms_in left) }
-    requires right_made { AreBelow (present store.old).next (terms_in right) }
+    requires left { AreBelow left.end (renamed_terms_in left) }
+    requires right { AreBelow right.end (renamed_terms_in right) }
+    requires left_made { AreBelow (present store.old).next (renamed_terms_in left) }
+    requires right_made { AreBelow (present store.old).next (renamed_terms_in right) }
     ensures defined { IfOk result (λ solved. IsResult (unify_lem (bindings_of store.old)
-        (present store.old).conditions (terms_in left.entry) (terms_in right.entry))
+        (present store.old).conditions (renamed_terms_in left.entry) (renamed_terms_in right.entry))
         (present store.old) solved (present store.new)) }
     ensures past { IsPrefixOf (versions store.old) (versions store.new) }
     ensures kinds { kinds store.new ≡ kinds store.old }
@@ -80,17 +80,17 @@ pub fn unify<'a>(
     right: Terms<'a>,
 ) -> Result<bool, Memory>
     requires lengths { length left.terms.now ≡ length right.terms.now }
-    requires left { AreBelow left.end (terms_in left) }
-    requires right { AreBelow right.end (terms_in right) }
-    requires left_made { AreBelow (present store.old).next (terms_in left) }
-    requires right_made { AreBelow (present store.old).next (terms_in right) }
+    requires left { AreBelow left.end (renamed_terms_in left) }
+    requires right { AreBelow right.end (renamed_terms_in right) }
+    requires left_made { AreBelow (present store.old).next (renamed_terms_in left) }
+    requires right_made { AreBelow (present store.old).next (renamed_terms_in right) }
     // The answer and the bindings, conditions and next number are those of the rules.
     ensures defined { IfOk result (λ solved. IsResult (unify_lem (bindings_of store.old)
-        (present store.old).conditions (terms_in left.entry) (terms_in right.entry))
+        (present store.old).conditions (renamed_terms_in left.entry) (renamed_terms_in right.entry))
         (present store.old) solved (present store.new)) }
     // The groundings of the new bindings and conditions are those of the old ones that make the two sides at each place equal.
     ensures instances { IfOk result (λ solved. (g : Grounding) →
-        solves g (present store.old) (terms_in left.entry) (terms_in right.entry)
+        solves g (present store.old) (renamed_terms_in left.entry) (renamed_terms_in right.entry)
         ≡ (solved && is_of g (present store.new))) }
     ensures past { IsPrefixOf (versions store.old) (versions store.new) }
     ensures kinds { kinds store.new ≡ kinds store.old }

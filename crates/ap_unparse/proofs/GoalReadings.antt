@@ -3,15 +3,15 @@ use Rattle.std.proofs.Common.{◌≡◌, ◌≢◌, ℕ, false, List, [], ◌∷
 use Rattle.ap_trees.specs.Symbols.{Sym}
 use Rattle.ap_trees.specs.Terms.{Term}
 use Rattle.ap_trees.specs.TermGrammar.{AreTerms, only_one, and_more}
-use Rattle.ap_trees.specs.Goals.{Goal, Atom, Equation, Freshness, Both, Either, Some_variable, New_name, joined}
+use Rattle.ap_trees.specs.Goals.{Goal, Atom, Equation, Freshness, Both, Either, Some_variable, New_name, joined_goals}
 use Rattle.ap_syntax.specs.Marks.{blank}
 use Rattle.ap_syntax.specs.Matching.{begins_relation}
 use Rattle.ap_syntax.specs.GoalGrammar.{IsAtom, bare, with_arguments, IsGoal, disjunction, AreConjs, last_conj, next_conj, IsConj, conjunction, AreSimples, last_simple, next_simple, IsSimple, new_name, some_variable, in_parentheses, equation, freshness, an_atom}
 use Rattle.ap_unparse.specs.declared.side.Side.{Side}
 use Rattle.ap_unparse.specs.declared.side.Side.TheVariants.{Alone, OnLeft, BehindComma}
-use Rattle.ap_unparse.specs.Written.{Written, ident, comma, semicolon, space, round_open, round_close, fresh, equal, symbols_of}
+use Rattle.ap_unparse.specs.Written.{Written, ident, comma, semicolon, space, round_open, round_close, fresh_word, equal, symbols_of}
 use Rattle.ap_unparse.specs.WrittenTerms.{written_term}
-use Rattle.ap_unparse.specs.WrittenGoals.{further_terms, arguments_of, goal_at, written_goal}
+use Rattle.ap_unparse.specs.WrittenGoals.{further_terms, arguments_of, written_goal_at, written_goal}
 use Rattle.ap_unparse.specs.Worded.{IsWordedGoal}
 use Rattle.ap_unparse.proofs.TermReadings as readings
 use Rattle.ap_unparse.proofs.MatchedBrackets.{goal_matched, group_begins, no_group}
@@ -25,7 +25,7 @@ abbrev pub disj_parts : Goal → List Goal
 disj_parts (Either g h) = g ∷ disj_parts h
 disj_parts g = g ∷ []
 
-conj_whole : (g h : Goal) → joined Both g (conj_parts h) ≡ Both g h
+conj_whole : (g h : Goal) → joined_goals Both g (conj_parts h) ≡ Both g h
 conj_whole g (Atom w ts) = refl
 conj_whole g (Equation t u) = refl
 conj_whole g (Freshness t u) = refl
@@ -34,7 +34,7 @@ conj_whole g (Either a b) = refl
 conj_whole g (Some_variable w a) = refl
 conj_whole g (New_name w a) = refl
 
-disj_whole : (g h : Goal) → joined Either g (disj_parts h) ≡ Either g h
+disj_whole : (g h : Goal) → joined_goals Either g (disj_parts h) ≡ Either g h
 disj_whole g (Atom w ts) = refl
 disj_whole g (Equation t u) = refl
 disj_whole g (Freshness t u) = refl
@@ -48,13 +48,13 @@ abbrev pub NoRelation : List Written → Type 0
 NoRelation ws = begins_relation (symbols_of ws) ≡ false
 
 abbrev pub IsSimpleAt : Side → Goal → Type 0
-IsSimpleAt side g = (ws : List Written) → NoRelation ws → IsSimple (symbols_of (goal_at side g ++ ws)) g (symbols_of ws)
+IsSimpleAt side g = (ws : List Written) → NoRelation ws → IsSimple (symbols_of (written_goal_at side g ++ ws)) g (symbols_of ws)
 
 -- Before what begins with neither `=` nor `#` it is a spelling of the goal: as a simple goal, as the end of a conjunction, and as the end of a disjunction.
 pub record Spells (g : Goal) : Type 0 where
   pub simple : IsSimpleAt OnLeft g
-  pub simples : (ws : List Written) → NoRelation ws → AreSimples (symbols_of (goal_at BehindComma g ++ ws)) (conj_parts g) (symbols_of ws)
-  pub conjs : (ws : List Written) → NoRelation ws → AreConjs (symbols_of (goal_at Alone g ++ ws)) (disj_parts g) (symbols_of ws)
+  pub simples : (ws : List Written) → NoRelation ws → AreSimples (symbols_of (written_goal_at BehindComma g ++ ws)) (conj_parts g) (symbols_of ws)
+  pub conjs : (ws : List Written) → NoRelation ws → AreConjs (symbols_of (written_goal_at Alone g ++ ws)) (disj_parts g) (symbols_of ws)
 
 goal_of_conjs : (g : Goal) (ts rest : List Sym) → AreConjs ts (disj_parts g) rest → IsGoal ts g rest
 goal_of_conjs (Atom w ts') ts rest h = disjunction (Atom w ts') [] h
@@ -69,15 +69,15 @@ conj_of_simple : {ts rest : List Sym} (g : Goal) → IsSimple ts g rest → IsCo
 conj_of_simple g h = conjunction g [] (last_simple h)
 
 -- a goal that is simple and written in one way
-one_way : (g : Goal) → IsSimpleAt OnLeft g → goal_at BehindComma g ≡ goal_at OnLeft g → goal_at Alone g ≡ goal_at OnLeft g → conj_parts g ≡ g ∷ [] → disj_parts g ≡ g ∷ [] → Spells g
+one_way : (g : Goal) → IsSimpleAt OnLeft g → written_goal_at BehindComma g ≡ written_goal_at OnLeft g → written_goal_at Alone g ≡ written_goal_at OnLeft g → conj_parts g ≡ g ∷ [] → disj_parts g ≡ g ∷ [] → Spells g
 one_way g simple comma alone conj disj = record {
   simple = simple;
   simples = λ ws h.
       subst (λ vs. AreSimples (symbols_of (vs ++ ws)) (conj_parts g) (symbols_of ws)) (sym comma)
-      (subst (λ gs. AreSimples (symbols_of (goal_at OnLeft g ++ ws)) gs (symbols_of ws)) (sym conj) (last_simple (simple ws h)));
+      (subst (λ gs. AreSimples (symbols_of (written_goal_at OnLeft g ++ ws)) gs (symbols_of ws)) (sym conj) (last_simple (simple ws h)));
   conjs = λ ws h.
       subst (λ vs. AreConjs (symbols_of (vs ++ ws)) (disj_parts g) (symbols_of ws)) (sym alone)
-      (subst (λ gs. AreConjs (symbols_of (goal_at OnLeft g ++ ws)) gs (symbols_of ws)) (sym disj) (last_conj (conj_of_simple g (simple ws h))));
+      (subst (λ gs. AreConjs (symbols_of (written_goal_at OnLeft g ++ ws)) gs (symbols_of ws)) (sym disj) (last_conj (conj_of_simple g (simple ws h))));
 }
 
 further_read : (t : Term) (ts : List Term) (ws : List Written) → AreTerms (symbols_of (written_term t ++ (further_terms ts ++ (round_close ∷ ws)))) (t ∷ ts) (symbols_of (round_close ∷ ws))
@@ -106,15 +106,15 @@ equation_simple t u ws h =
 
 freshness_simple : (t u : Term) → IsSimpleAt OnLeft (Freshness t u)
 freshness_simple t u ws h =
-    let behind = space ∷ fresh ∷ space ∷ (written_term u ++ ws) in
-    subst (λ vs. IsSimple (symbols_of vs) (Freshness t u) (symbols_of ws)) (sym (append_assoc (written_term t) (space ∷ fresh ∷ space ∷ written_term u) ws))
+    let behind = space ∷ fresh_word ∷ space ∷ (written_term u ++ ws) in
+    subst (λ vs. IsSimple (symbols_of vs) (Freshness t u) (symbols_of ws)) (sym (append_assoc (written_term t) (space ∷ fresh_word ∷ space ∷ written_term u) ws))
     (freshness (no_group t behind refl) ((readings.spells t).alone behind) ((readings.spells u).alone ws))
 
 -- inside parentheses
-inside : (g : Goal) → Spells g → (ws : List Written) → IsGoal (symbols_of ((goal_at Alone g ++ round_close ∷ []) ++ ws)) g (symbols_of (round_close ∷ ws))
+inside : (g : Goal) → Spells g → (ws : List Written) → IsGoal (symbols_of ((written_goal_at Alone g ++ round_close ∷ []) ++ ws)) g (symbols_of (round_close ∷ ws))
 inside g s ws =
-    subst (λ vs. IsGoal (symbols_of vs) g (symbols_of (round_close ∷ ws))) (sym (append_assoc (goal_at Alone g) (round_close ∷ []) ws))
-    (goal_of_conjs g (symbols_of (goal_at Alone g ++ round_close ∷ ws)) (symbols_of (round_close ∷ ws)) (s.conjs (round_close ∷ ws) refl))
+    subst (λ vs. IsGoal (symbols_of vs) g (symbols_of (round_close ∷ ws))) (sym (append_assoc (written_goal_at Alone g) (round_close ∷ []) ws))
+    (goal_of_conjs g (symbols_of (written_goal_at Alone g ++ round_close ∷ ws)) (symbols_of (round_close ∷ ws)) (s.conjs (round_close ∷ ws) refl))
 
 some_simple : (w : List ℕ) (g : Goal) → w ≢ blank → Spells g → IsSimpleAt OnLeft (Some_variable w g)
 some_simple w g named s ws h = some_variable named (inside g s ws)
@@ -123,39 +123,39 @@ new_simple : (w : List ℕ) (g : Goal) → Spells g → IsSimpleAt OnLeft (New_n
 new_simple w g s ws h = new_name (inside g s ws)
 
 -- a goal that is alone, in parentheses
-grouped : (g : Goal) (vs ws : List Written) → vs ≡ goal_at Alone g → NoRelation ws → ((us : List Written) → NoRelation us → AreConjs (symbols_of (goal_at Alone g ++ us)) (disj_parts g) (symbols_of us))
+grouped : (g : Goal) (vs ws : List Written) → vs ≡ written_goal_at Alone g → NoRelation ws → ((us : List Written) → NoRelation us → AreConjs (symbols_of (written_goal_at Alone g ++ us)) (disj_parts g) (symbols_of us))
     → IsSimple (symbols_of ((round_open ∷ (vs ++ round_close ∷ [])) ++ ws)) g (symbols_of ws)
 grouped g vs ws e h conjs =
-    let begins = group_begins (goal_at Alone g) ws (goal_matched Alone g) ∙ h in
+    let begins = group_begins (written_goal_at Alone g) ws (goal_matched Alone g) ∙ h in
     subst (λ us. IsSimple (symbols_of ((round_open ∷ (us ++ round_close ∷ [])) ++ ws)) g (symbols_of ws)) (sym e)
-    (subst (λ us. IsSimple (symbols_of (round_open ∷ us)) g (symbols_of ws)) (sym (append_assoc (goal_at Alone g) (round_close ∷ []) ws))
-    (in_parentheses begins (goal_of_conjs g (symbols_of (goal_at Alone g ++ round_close ∷ ws)) (symbols_of (round_close ∷ ws)) (conjs (round_close ∷ ws) refl))))
+    (subst (λ us. IsSimple (symbols_of (round_open ∷ us)) g (symbols_of ws)) (sym (append_assoc (written_goal_at Alone g) (round_close ∷ []) ws))
+    (in_parentheses begins (goal_of_conjs g (symbols_of (written_goal_at Alone g ++ round_close ∷ ws)) (symbols_of (round_close ∷ ws)) (conjs (round_close ∷ ws) refl))))
 
-both_simples : (g h : Goal) → Spells g → Spells h → (ws : List Written) → NoRelation ws → AreSimples (symbols_of (goal_at BehindComma (Both g h) ++ ws)) (g ∷ conj_parts h) (symbols_of ws)
+both_simples : (g h : Goal) → Spells g → Spells h → (ws : List Written) → NoRelation ws → AreSimples (symbols_of (written_goal_at BehindComma (Both g h) ++ ws)) (g ∷ conj_parts h) (symbols_of ws)
 both_simples g h first second ws n =
-    subst (λ vs. AreSimples (symbols_of vs) (g ∷ conj_parts h) (symbols_of ws)) (sym (append_assoc (goal_at OnLeft g) (comma ∷ space ∷ goal_at BehindComma h) ws))
-    (next_simple (first.simple (comma ∷ space ∷ (goal_at BehindComma h ++ ws)) refl) (second.simples ws n))
+    subst (λ vs. AreSimples (symbols_of vs) (g ∷ conj_parts h) (symbols_of ws)) (sym (append_assoc (written_goal_at OnLeft g) (comma ∷ space ∷ written_goal_at BehindComma h) ws))
+    (next_simple (first.simple (comma ∷ space ∷ (written_goal_at BehindComma h ++ ws)) refl) (second.simples ws n))
 
-both_conjs : (g h : Goal) → Spells g → Spells h → (ws : List Written) → NoRelation ws → AreConjs (symbols_of (goal_at Alone (Both g h) ++ ws)) (Both g h ∷ []) (symbols_of ws)
+both_conjs : (g h : Goal) → Spells g → Spells h → (ws : List Written) → NoRelation ws → AreConjs (symbols_of (written_goal_at Alone (Both g h) ++ ws)) (Both g h ∷ []) (symbols_of ws)
 both_conjs g h first second ws n =
-    last_conj (subst (λ k. IsConj (symbols_of (goal_at Alone (Both g h) ++ ws)) k (symbols_of ws)) (conj_whole g h) (conjunction g (conj_parts h) (both_simples g h first second ws n)))
+    last_conj (subst (λ k. IsConj (symbols_of (written_goal_at Alone (Both g h) ++ ws)) k (symbols_of ws)) (conj_whole g h) (conjunction g (conj_parts h) (both_simples g h first second ws n)))
 
-either_conjs : (g h : Goal) → Spells g → Spells h → (ws : List Written) → NoRelation ws → AreConjs (symbols_of (goal_at Alone (Either g h) ++ ws)) (g ∷ disj_parts h) (symbols_of ws)
+either_conjs : (g h : Goal) → Spells g → Spells h → (ws : List Written) → NoRelation ws → AreConjs (symbols_of (written_goal_at Alone (Either g h) ++ ws)) (g ∷ disj_parts h) (symbols_of ws)
 either_conjs g h first second ws n =
-    subst (λ vs. AreConjs (symbols_of vs) (g ∷ disj_parts h) (symbols_of ws)) (sym (append_assoc (goal_at OnLeft g) (space ∷ semicolon ∷ space ∷ goal_at Alone h) ws))
-    (next_conj (conj_of_simple g (first.simple (space ∷ semicolon ∷ space ∷ (goal_at Alone h ++ ws)) refl)) (second.conjs ws n))
+    subst (λ vs. AreConjs (symbols_of vs) (g ∷ disj_parts h) (symbols_of ws)) (sym (append_assoc (written_goal_at OnLeft g) (space ∷ semicolon ∷ space ∷ written_goal_at Alone h) ws))
+    (next_conj (conj_of_simple g (first.simple (space ∷ semicolon ∷ space ∷ (written_goal_at Alone h ++ ws)) refl)) (second.conjs ws n))
 
 both_spells : (g h : Goal) → Spells g → Spells h → Spells (Both g h)
 both_spells g h first second = record {
-  simple = λ ws n. grouped (Both g h) (goal_at Alone (Both g h)) ws refl n (both_conjs g h first second);
+  simple = λ ws n. grouped (Both g h) (written_goal_at Alone (Both g h)) ws refl n (both_conjs g h first second);
   simples = both_simples g h first second;
   conjs = both_conjs g h first second;
 }
 
 either_spells : (g h : Goal) → Spells g → Spells h → Spells (Either g h)
 either_spells g h first second = record {
-  simple = λ ws n. grouped (Either g h) (goal_at Alone (Either g h)) ws refl n (either_conjs g h first second);
-  simples = λ ws n. last_simple (grouped (Either g h) (goal_at Alone (Either g h)) ws refl n (either_conjs g h first second));
+  simple = λ ws n. grouped (Either g h) (written_goal_at Alone (Either g h)) ws refl n (either_conjs g h first second);
+  simples = λ ws n. last_simple (grouped (Either g h) (written_goal_at Alone (Either g h)) ws refl n (either_conjs g h first second));
   conjs = either_conjs g h first second;
 }
 

@@ -6,12 +6,12 @@ use Rattle.ap_trees.specs.Terms.{Name, Term}
 use Rattle.ap_trees.specs.TermGrammar.{IsId, an_ident, a_var, IsTerm, under, a_word, applied, a_variable, the_unit, grouped, the_nil, listed, swapping, IsEnd, no_bar, behind_bar, AreTerms, only_one, and_more}
 use Rattle.ap_syntax.specs.declared.nesting.Level.{Level}
 use Rattle.ap_syntax.specs.declared.nesting.Level.TheVariants.{Round, Square, Under}
-use Rattle.ap_syntax.specs.Nesting.{to_bracket, closed, step_of, next_levels, most_levels, passes, is_too_deep}
+use Rattle.ap_syntax.specs.Nesting.{to_bracket, closed, nesting_step, next_levels, most_levels, passes, is_too_deep}
 
 -- the levels after symbols
 abbrev pub after : List Level → List Sym → List Level
 after levels [] = levels
-after levels (t ∷ ts) = after (next_levels levels (step_of t)) ts
+after levels (t ∷ ts) = after (next_levels levels (nesting_step t)) ts
 
 or_assoc : (a b c : Bool) → a || (b || c) ≡ (a || b) || c
 or_assoc true b c = refl
@@ -21,7 +21,7 @@ pub passes-append : (levels : List Level) (ts us : List Sym) → passes levels (
 unfolding passes
 passes-append levels [] us = refl
 passes-append levels (t ∷ ts) us =
-    let next = next_levels levels (step_of t) in
+    let next = next_levels levels (nesting_step t) in
     ap (λ b. nat_lt most_levels (length next) || b) (passes-append next ts us) ∙ or_assoc (nat_lt most_levels (length next)) (passes next ts) (passes (after next ts) us)
 
 to_bracket-twice : (levels : List Level) → to_bracket (to_bracket levels) ≡ to_bracket levels

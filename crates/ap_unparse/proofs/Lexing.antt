@@ -17,7 +17,7 @@ use Rattle.ap_lexer.proofs.Scans.{scan_step, scan_stop, lexed-whole}
 use Rattle.ap_lexer.proofs.First.{none_at}
 use Rattle.ap_trees.specs.Symbols.{Sym, spelled, syms_of}
 use Rattle.ap_unparse.specs.Written.{Written, token, space, bytes_of, symbols_of}
-use Rattle.ap_unparse.specs.Writable.{IsWritten, StartsApart, Writes, Reads}
+use Rattle.ap_unparse.specs.Writable.{IsWritten, StartsApart, Writes, ReadsAsSymbols}
 
 token_text : (kind : TokenKind) (text : List ℕ) → IsWritten kind text → IsUtf8 text
 token_text Sign text h = h.utf8
@@ -143,7 +143,7 @@ lexes ws h =
       tokens = scan.tokens;
     }
 
-pub written_is_lexed : (ws : List Written) → Writes ws → Reads (bytes_of ws) (symbols_of ws)
+pub written_is_lexed : (ws : List Written) → Writes ws → ReadsAsSymbols (bytes_of ws) (symbols_of ws)
 written_is_lexed ws h =
     let found = lexes ws h in
     record { tokens = lexemes_of (bytes_of ws); all = found.all; same = syms-spelling (lexemes_of (bytes_of ws)) ∙ ap (map symbol_of) found.tokens ∙ symbols-spellings ws }

@@ -9,10 +9,10 @@ use Rattle.ap_unparse.specs.declared.context.Context.{Context}
 use Rattle.ap_unparse.specs.declared.context.Context.TheVariants.{Whole, Part, Rest}
 use Rattle.ap_unparse.specs.declared.side.Side.{Side}
 use Rattle.ap_unparse.specs.declared.side.Side.TheVariants.{Alone, OnLeft, BehindComma}
-use Rattle.ap_unparse.specs.Written.{Written, ident, var, comma, semicolon, space, round_open, round_close, square_open, square_close, bar, lambda, fresh, equal, swap, new, exists, symbols_of}
-use Rattle.ap_unparse.specs.WrittenTerms.{written_name, barred, tuple_at, list_at, nil_at, term_at, arguments_of, written_term}
+use Rattle.ap_unparse.specs.Written.{Written, ident, var, comma, semicolon, space, round_open, round_close, square_open, square_close, bar, lambda_word, fresh_word, equal, swap, new, exists, symbols_of}
+use Rattle.ap_unparse.specs.WrittenTerms.{written_name, barred_words, tuple_at, list_at, nil_at, term_at, arguments_of, written_term}
 use Rattle.ap_unparse.specs.WrittenGoals as atoms
-use Rattle.ap_unparse.specs.WrittenGoals.{further_terms, both_at, either_at, goal_at}
+use Rattle.ap_unparse.specs.WrittenGoals.{further_terms, both_at, either_at, written_goal_at}
 
 -- each bracket has its partner
 pub record Matched (vs : List Written) : Type 0 where
@@ -52,11 +52,11 @@ bar_matched : (vs : List Written) → Matched vs → Matched (bar ∷ vs)
 unfolding after_match
 bar_matched vs m = record { skip = λ d ws. m.skip d ws }
 
-lambda_matched : (vs : List Written) → Matched vs → Matched (lambda ∷ vs)
+lambda_matched : (vs : List Written) → Matched vs → Matched (lambda_word ∷ vs)
 unfolding after_match
 lambda_matched vs m = record { skip = λ d ws. m.skip d ws }
 
-fresh_matched : (vs : List Written) → Matched vs → Matched (fresh ∷ vs)
+fresh_matched : (vs : List Written) → Matched vs → Matched (fresh_word ∷ vs)
 unfolding after_match
 fresh_matched vs m = record { skip = λ d ws. m.skip d ws }
 
@@ -109,7 +109,7 @@ square_matched vs m = record {
       opens_square d ((vs ++ square_close ∷ []) ++ ws) ∙ ap (λ xs. after_match (suc d) (symbols_of xs)) (append_assoc vs (square_close ∷ []) ws) ∙ m.skip (suc d) (square_close ∷ ws) ∙ closes_square d ws;
 }
 
-barred_matched : (context : Context) (vs : List Written) → Matched vs → Matched (barred context vs)
+barred_matched : (context : Context) (vs : List Written) → Matched vs → Matched (barred_words context vs)
 barred_matched Whole vs m = m
 barred_matched Part vs m = m
 barred_matched Rest vs m = bar_matched vs m
@@ -147,7 +147,7 @@ mutual
   term_matched context Nil = nil_matched context
   term_matched context (Cell t u) = list_matched context (term_at Whole t ++ term_at Rest u) (both_matched (term_at Whole t) (term_at Rest u) (term_matched Whole t) (term_matched Rest u))
   term_matched context (Abs name t) =
-      barred_matched context (written_name name ∷ lambda ∷ term_at Whole t) (name_matched name (lambda ∷ term_at Whole t) (lambda_matched (term_at Whole t) (term_matched Whole t)))
+      barred_matched context (written_name name ∷ lambda_word ∷ term_at Whole t) (name_matched name (lambda_word ∷ term_at Whole t) (lambda_matched (term_at Whole t) (term_matched Whole t)))
   term_matched context (Swapped left right t) =
       barred_matched context (swap ∷ round_open ∷ written_name left ∷ comma ∷ written_name right ∷ comma ∷ (term_at Whole t ++ round_close ∷ [])) (swapped_matched left right (term_at Whole t) (term_matched Whole t))
 
@@ -177,27 +177,27 @@ side_either Alone vs m = m
 side_either OnLeft vs m = group_matched vs m
 side_either BehindComma vs m = group_matched vs m
 
-pub goal_matched : (side : Side) (g : Goal) → Matched (goal_at side g)
+pub goal_matched : (side : Side) (g : Goal) → Matched (written_goal_at side g)
 goal_matched side (goals.Atom w ts) = ident_matched w (atoms.arguments_of ts) (atom_matched ts)
 goal_matched side (goals.Equation t u) =
     both_matched (written_term t) (space ∷ equal ∷ space ∷ written_term u) (term_matched Whole t)
     (space_matched (equal ∷ space ∷ written_term u) (equal_matched (space ∷ written_term u) (space_matched (written_term u) (term_matched Whole u))))
 goal_matched side (goals.Freshness t u) =
-    both_matched (written_term t) (space ∷ fresh ∷ space ∷ written_term u) (term_matched Whole t)
-    (space_matched (fresh ∷ space ∷ written_term u) (fresh_matched (space ∷ written_term u) (space_matched (written_term u) (term_matched Whole u))))
+    both_matched (written_term t) (space ∷ fresh_word ∷ space ∷ written_term u) (term_matched Whole t)
+    (space_matched (fresh_word ∷ space ∷ written_term u) (fresh_matched (space ∷ written_term u) (space_matched (written_term u) (term_matched Whole u))))
 goal_matched side (goals.Both g h) =
-    side_both side (goal_at OnLeft g ++ comma ∷ space ∷ goal_at BehindComma h)
-    (both_matched (goal_at OnLeft g) (comma ∷ space ∷ goal_at BehindComma h) (goal_matched OnLeft g) (comma_matched (space ∷ goal_at BehindComma h) (space_matched (goal_at BehindComma h) (goal_matched BehindComma h))))
+    side_both side (written_goal_at OnLeft g ++ comma ∷ space ∷ written_goal_at BehindComma h)
+    (both_matched (written_goal_at OnLeft g) (comma ∷ space ∷ written_goal_at BehindComma h) (goal_matched OnLeft g) (comma_matched (space ∷ written_goal_at BehindComma h) (space_matched (written_goal_at BehindComma h) (goal_matched BehindComma h))))
 goal_matched side (goals.Either g h) =
-    side_either side (goal_at OnLeft g ++ space ∷ semicolon ∷ space ∷ goal_at Alone h)
-    (both_matched (goal_at OnLeft g) (space ∷ semicolon ∷ space ∷ goal_at Alone h) (goal_matched OnLeft g)
-    (space_matched (semicolon ∷ space ∷ goal_at Alone h) (semicolon_matched (space ∷ goal_at Alone h) (space_matched (goal_at Alone h) (goal_matched Alone h)))))
+    side_either side (written_goal_at OnLeft g ++ space ∷ semicolon ∷ space ∷ written_goal_at Alone h)
+    (both_matched (written_goal_at OnLeft g) (space ∷ semicolon ∷ space ∷ written_goal_at Alone h) (goal_matched OnLeft g)
+    (space_matched (semicolon ∷ space ∷ written_goal_at Alone h) (semicolon_matched (space ∷ written_goal_at Alone h) (space_matched (written_goal_at Alone h) (goal_matched Alone h)))))
 goal_matched side (goals.Some_variable w g) =
-    exists_matched (space ∷ var w ∷ space ∷ round_open ∷ (goal_at Alone g ++ round_close ∷ [])) (space_matched (var w ∷ space ∷ round_open ∷ (goal_at Alone g ++ round_close ∷ []))
-    (var_matched w (space ∷ round_open ∷ (goal_at Alone g ++ round_close ∷ [])) (space_matched (round_open ∷ (goal_at Alone g ++ round_close ∷ [])) (group_matched (goal_at Alone g) (goal_matched Alone g)))))
+    exists_matched (space ∷ var w ∷ space ∷ round_open ∷ (written_goal_at Alone g ++ round_close ∷ [])) (space_matched (var w ∷ space ∷ round_open ∷ (written_goal_at Alone g ++ round_close ∷ []))
+    (var_matched w (space ∷ round_open ∷ (written_goal_at Alone g ++ round_close ∷ [])) (space_matched (round_open ∷ (written_goal_at Alone g ++ round_close ∷ [])) (group_matched (written_goal_at Alone g) (goal_matched Alone g)))))
 goal_matched side (goals.New_name w g) =
-    new_matched (space ∷ ident w ∷ space ∷ round_open ∷ (goal_at Alone g ++ round_close ∷ [])) (space_matched (ident w ∷ space ∷ round_open ∷ (goal_at Alone g ++ round_close ∷ []))
-    (ident_matched w (space ∷ round_open ∷ (goal_at Alone g ++ round_close ∷ [])) (space_matched (round_open ∷ (goal_at Alone g ++ round_close ∷ [])) (group_matched (goal_at Alone g) (goal_matched Alone g)))))
+    new_matched (space ∷ ident w ∷ space ∷ round_open ∷ (written_goal_at Alone g ++ round_close ∷ [])) (space_matched (ident w ∷ space ∷ round_open ∷ (written_goal_at Alone g ++ round_close ∷ []))
+    (ident_matched w (space ∷ round_open ∷ (written_goal_at Alone g ++ round_close ∷ [])) (space_matched (round_open ∷ (written_goal_at Alone g ++ round_close ∷ [])) (group_matched (written_goal_at Alone g) (goal_matched Alone g)))))
 
 -- what comes after a parenthesis decides what it begins
 pub group_begins : (vs ws : List Written) → Matched vs → begins_term (symbols_of (vs ++ round_close ∷ ws)) ≡ begins_relation (symbols_of ws)

@@ -16,7 +16,7 @@ use Rattle.ap_trees.specs.TermGrammar.{IsId, an_ident, a_var, IsTerm, under, a_w
 use Rattle.ap_trees.specs.Goals.{Goal}
 use Rattle.ap_trees.specs.Items.{Saying}
 use Rattle.ap_syntax.specs.GoalGrammar.{IsAtom, bare, with_arguments, IsGoal, disjunction, AreConjs, last_conj, next_conj, IsConj, conjunction, AreSimples, last_simple, next_simple, IsSimple, new_name, some_variable, in_parentheses, equation, freshness, an_atom}
-use Rattle.ap_syntax.specs.ItemGrammar.{AreArguments, some_type, unit_type, type_list, IsItem, name_type, data_type, constant, constructor, proposition, predicate, fact, rule, query}
+use Rattle.ap_syntax.specs.ItemGrammar.{AreTypeArguments, some_type, unit_type, type_list, IsItem, name_type, data_type, constant, constructor, proposition, predicate, fact, rule, query}
 use Rattle.ap_unparse.specs.Written.{Written, token, space, symbols_of, bytes_of}
 use Rattle.ap_unparse.specs.Writable.{Writes}
 use Rattle.ap_unparse.proofs.Lexing.{Spelling, spellings, piece_there, bytes_text}
@@ -91,7 +91,7 @@ mutual
   simple_dots (freshness begins h k) = term_dots h ∙ term_dots k
   simple_dots (an_atom h) = atom_dots h
 
-arguments_dots : {ts rest : List Sym} {args : List Ty} → AreArguments ts args rest → dots ts ≡ dots rest
+arguments_dots : {ts rest : List Sym} {args : List Ty} → AreTypeArguments ts args rest → dots ts ≡ dots rest
 arguments_dots (some_type begins h) = type_dots h
 arguments_dots unit_type = refl
 arguments_dots (type_list h) = types_dots h

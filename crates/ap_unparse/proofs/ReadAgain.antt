@@ -17,9 +17,9 @@ use Rattle.ap_unparse.specs.WrittenTypes.{written_type}
 use Rattle.ap_unparse.specs.WrittenTerms.{written_term}
 use Rattle.ap_unparse.specs.WrittenGoals.{written_goal}
 use Rattle.ap_unparse.specs.declared.side.Side.TheVariants.{Alone}
-use Rattle.ap_unparse.specs.Writable.{IsWritten, Reads}
+use Rattle.ap_unparse.specs.Writable.{IsWritten, ReadsAsSymbols}
 use Rattle.ap_unparse.specs.Worded.{IsIdentifier, IsWordedType, IsWordedTerm, IsWordedGoal}
-use Rattle.ap_unparse.specs.Again.{ReadsAs, SpellsType, predicate_of}
+use Rattle.ap_unparse.specs.Again.{ReadsAs, SpellsType, predicate_before}
 use Rattle.ap_unparse.proofs.ByteLemmas.{bytes_of-append}
 use Rattle.ap_unparse.proofs.TypeReadings as types
 use Rattle.ap_unparse.proofs.TermReadings.{term_is_read}
@@ -71,14 +71,14 @@ pred_written = (
 )
 
 -- a type as the argument of a predicate
-type_again : (t : Ty) (v : List ℕ) → IsIdentifier v → IsWordedType t → is_too_deep (symbols_of (predicate_of v (written_type t))) ≡ false
-    → ReadsAs (bytes_of (predicate_of v (written_type t) ++ dot ∷ [])) (APredicate v (t ∷ []))
+type_again : (t : Ty) (v : List ℕ) → IsIdentifier v → IsWordedType t → is_too_deep (symbols_of (predicate_before v (written_type t))) ≡ false
+    → ReadsAs (bytes_of (predicate_before v (written_type t) ++ dot ∷ [])) (APredicate v (t ∷ []))
 type_again t v named w shallow =
     one_item Reserved (codes "pred") (space ∷ ident v ∷ round_open ∷ (written_type t ++ round_close ∷ [])) (APredicate v (t ∷ []))
     (pred_written, tt, (named, tt, (open_mark, tt, behind_close (written_type t) (writes_type false t w) (dot ∷ []) (dot_mark, tt, tt) tt)))
     shallow (predicate (sole ((types.spells t).alone (round_close ∷ []))))
 
-pub type_read_again : (t : Ty) (bytes : List ℕ) → bytes ≡ bytes_of (written_type t) → (v : List ℕ) → IsIdentifier v → IsWordedType t → is_too_deep (symbols_of (predicate_of v (written_type t))) ≡ false
+pub type_read_again : (t : Ty) (bytes : List ℕ) → bytes ≡ bytes_of (written_type t) → (v : List ℕ) → IsIdentifier v → IsWordedType t → is_too_deep (symbols_of (predicate_before v (written_type t))) ≡ false
     → ReadsAs (codes "pred " ++ (v ++ (codes "(" ++ (bytes ++ codes ").")))) (APredicate v (t ∷ []))
 type_read_again t bytes e v named w shallow =
     let inner : bytes_of ((written_type t ++ round_close ∷ []) ++ dot ∷ []) ≡ bytes ++ codes ")." =
@@ -87,7 +87,7 @@ type_read_again t bytes e v named w shallow =
     subst (λ bs. ReadsAs (codes "pred " ++ (v ++ (codes "(" ++ bs))) (APredicate v (t ∷ []))) inner (type_again t v named w shallow)
 
 -- a type by itself
-type_lexed : (t : Ty) (bytes : List ℕ) → Reads bytes (symbols_of (written_type t)) → SpellsType bytes t
+type_lexed : (t : Ty) (bytes : List ℕ) → ReadsAsSymbols bytes (symbols_of (written_type t)) → SpellsType bytes t
 type_lexed t bytes r = record { tokens = r.tokens; all = r.all; whole = subst (λ ts. IsType ts t []) (sym r.same) (types.type_is_read t) }
 
 pub type_spelled : (t : Ty) (bytes : List ℕ) → bytes ≡ bytes_of (written_type t) → IsWordedType t → SpellsType bytes t

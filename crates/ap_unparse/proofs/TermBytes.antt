@@ -6,14 +6,14 @@ use Rattle.ap_trees.specs.Terms.{Name, OfWord, OfVar, Term, Terms, Unit, Variabl
 use Rattle.ap_unparse.specs.declared.context.Context.{Context}
 use Rattle.ap_unparse.specs.declared.context.Context.TheVariants.{Whole, Part, Rest}
 use Rattle.ap_unparse.specs.Written.{Written, bytes_of}
-use Rattle.ap_unparse.specs.WrittenTerms.{written_name, name_text, barred, tuple_opening, tuple_closing, list_opening, list_closing, swap_opening, abs_opening, apply_opening, term_at, arguments_of}
+use Rattle.ap_unparse.specs.WrittenTerms.{written_name, name_text, barred_words, tuple_opening, tuple_closing, list_opening, list_closing, swap_opening, abs_opening, apply_opening, term_at, arguments_of}
 use Rattle.ap_unparse.proofs.ByteLemmas.{bytes_of-append}
 
 -- What is written, what is left of a term, and what is kept, in the order in which they will stand.
 abbrev pub all_term : List ℕ → Context → Term → List ℕ → List ℕ
 all_term out context t closers = out ++ (bytes_of (term_at context t) ++ reverse closers)
 
-barred_bytes : (context : Context) (ws : List Written) → bytes_of (barred context ws) ≡ bytes_of (barred context []) ++ bytes_of ws
+barred_bytes : (context : Context) (ws : List Written) → bytes_of (barred_words context ws) ≡ bytes_of (barred_words context []) ++ bytes_of ws
 barred_bytes Whole ws = refl
 barred_bytes Part ws = refl
 barred_bytes Rest ws = refl
@@ -98,17 +98,17 @@ apply_ends context t w args o o1 o2 o3 o4 k all e a b d f h =
 pub leaf_ends : (context : Context) (t : Term) (o o1 o2 k all : List ℕ) → o1 ≡ o ++ bytes_of (term_at context t) → o2 ≡ o1 ++ reverse k → all_term o context t k ≡ all → o2 ≡ all
 leaf_ends context t o o1 o2 k all a b h = let whole : o2 ≡ all_term o context t k = rw (b, a) (append_assoc o (bytes_of (term_at context t)) (reverse k)) in whole ∙ h
 
-pub unit_bytes : (context : Context) (t : Term) → t ≡ Unit → bytes_of (barred context []) ++ codes "()" ≡ bytes_of (term_at context t)
+pub unit_bytes : (context : Context) (t : Term) → t ≡ Unit → bytes_of (barred_words context []) ++ codes "()" ≡ bytes_of (term_at context t)
 unit_bytes Whole t e = rw e refl
 unit_bytes Part t e = rw e refl
 unit_bytes Rest t e = rw e refl
 
-pub variable_bytes : (context : Context) (t : Term) (w : List ℕ) → t ≡ Variable w → bytes_of (barred context []) ++ w ≡ bytes_of (term_at context t)
+pub variable_bytes : (context : Context) (t : Term) (w : List ℕ) → t ≡ Variable w → bytes_of (barred_words context []) ++ w ≡ bytes_of (term_at context t)
 variable_bytes Whole t w e = rw e (sym (append-nil w))
 variable_bytes Part t w e = rw e (sym (append-nil w))
 variable_bytes Rest t w e = rw e (ap (λ (bs : List ℕ). codes "|" ++ bs) (sym (append-nil w)))
 
-pub word_bytes : (context : Context) (t : Term) (w : List ℕ) → t ≡ Word w → bytes_of (barred context []) ++ w ≡ bytes_of (term_at context t)
+pub word_bytes : (context : Context) (t : Term) (w : List ℕ) → t ≡ Word w → bytes_of (barred_words context []) ++ w ≡ bytes_of (term_at context t)
 word_bytes Whole t w e = rw e (sym (append-nil w))
 word_bytes Part t w e = rw e (sym (append-nil w))
 word_bytes Rest t w e = rw e (ap (λ (bs : List ℕ). codes "|" ++ bs) (sym (append-nil w)))

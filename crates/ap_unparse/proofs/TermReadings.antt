@@ -1,10 +1,10 @@
 -- A term that is written is in the grammar.
 use Rattle.std.proofs.Common.{◌≡◌, ℕ, List, [], ◌∷◌, ◌++◌, refl, sym, ap, ◌∙◌, subst, append_assoc, append-nil}
 use Rattle.ap_trees.specs.Symbols.{Sym}
-use Rattle.ap_trees.specs.Terms.{Name, OfWord, OfVar, Term, Terms, Unit, Variable, Word, Apply, Pair, Nil, Cell, Abs, Swapped, Last, More, arguments, tuple, cells}
+use Rattle.ap_trees.specs.Terms.{Name, OfWord, OfVar, Term, Terms, Unit, Variable, Word, Apply, Pair, Nil, Cell, Abs, Swapped, Last, More, argument_terms, tuple, cells}
 use Rattle.ap_trees.specs.TermGrammar.{IsId, an_ident, a_var, IsTerm, under, a_word, applied, a_variable, the_unit, grouped, the_nil, listed, swapping, IsEnd, no_bar, behind_bar, AreTerms, only_one, and_more}
 use Rattle.ap_unparse.specs.declared.context.Context.TheVariants.{Whole, Part, Rest}
-use Rattle.ap_unparse.specs.Written.{Written, ident, comma, round_open, round_close, square_open, square_close, bar, lambda, swap, symbols_of}
+use Rattle.ap_unparse.specs.Written.{Written, ident, comma, round_open, round_close, square_open, square_close, bar, lambda_word, swap, symbols_of}
 use Rattle.ap_unparse.specs.WrittenTerms.{written_name, term_at, arguments_of, written_term}
 
 -- the parts of a tuple, of arguments, and of a list before its end
@@ -46,11 +46,11 @@ tuple-parts_of (Cell a b) = refl
 tuple-parts_of (Abs n a) = refl
 tuple-parts_of (Swapped l r a) = refl
 
-given_more : (t : Term) (ts : Terms) → arguments (t ∷ given ts) ≡ More t (arguments (given ts))
+given_more : (t : Term) (ts : Terms) → argument_terms (t ∷ given ts) ≡ More t (argument_terms (given ts))
 given_more t (Last u) = refl
 given_more t (More u ts) = refl
 
-arguments-given : (ts : Terms) → arguments (given ts) ≡ ts
+arguments-given : (ts : Terms) → argument_terms (given ts) ≡ ts
 arguments-given (Last t) = refl
 arguments-given (More t ts) = given_more t ts ∙ ap (λ us. More t us) (arguments-given ts)
 
@@ -146,7 +146,7 @@ apply_alone : (w : List ℕ) (args : Terms) → SpellsAll args → Alone (term_a
 apply_alone w args each ws =
     let same : (arguments_of args ++ round_close ∷ []) ++ ws ≡ arguments_of args ++ round_close ∷ ws = append_assoc (arguments_of args) (round_close ∷ []) ws in
     subst (λ v. IsTerm (symbols_of (term_at Whole (Apply w args) ++ ws)) v (symbols_of ws)) (ap (λ us. Apply w us) (arguments-given args))
-    (subst (λ vs. IsTerm (symbols_of (ident w ∷ round_open ∷ vs)) (Apply w (arguments (given args))) (symbols_of ws)) (sym same) (applied (given args) (each.all (round_close ∷ ws))))
+    (subst (λ vs. IsTerm (symbols_of (ident w ∷ round_open ∷ vs)) (Apply w (argument_terms (given args))) (symbols_of ws)) (sym same) (applied (given args) (each.all (round_close ∷ ws))))
 
 swap_alone : (l r : Name) (t : Term) → Spells t → Alone (term_at Whole (Swapped l r t)) (Swapped l r t)
 swap_alone l r t inner ws =
@@ -155,7 +155,7 @@ swap_alone l r t inner ws =
     (swapping (is_name l (comma ∷ written_name r ∷ comma ∷ (term_at Whole t ++ round_close ∷ ws))) (is_name r (comma ∷ (term_at Whole t ++ round_close ∷ ws))) (inner.alone (round_close ∷ ws)))
 
 abs_alone : (n : Name) (t : Term) → Spells t → Alone (term_at Whole (Abs n t)) (Abs n t)
-abs_alone n t inner ws = under (is_name n (lambda ∷ (term_at Whole t ++ ws))) (inner.alone ws)
+abs_alone n t inner ws = under (is_name n (lambda_word ∷ (term_at Whole t ++ ws))) (inner.alone ws)
 
 more_all : (t : Term) (ts : Terms) → Spells t → SpellsAll ts → (ws : List Written) → AreTerms (symbols_of (arguments_of (More t ts) ++ ws)) (t ∷ given ts) (symbols_of ws)
 more_all t ts first others ws =

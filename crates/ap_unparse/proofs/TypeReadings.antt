@@ -1,6 +1,6 @@
 -- A type that is written is in the grammar.
 use Rattle.std.proofs.Common.{◌≡◌, true, false, List, [], ◌∷◌, ◌++◌, refl, sym, ap, ◌∙◌, subst, append_assoc, append-nil}
-use Rattle.ap_trees.specs.Types.{Ty, Unit, Word, Pair, Array, Abs, tuple}
+use Rattle.ap_trees.specs.Types.{Ty, Unit, Word, Pair, Array, Abs, tuple_type}
 use Rattle.ap_trees.specs.TypeGrammar.{IsType, AreTypes, abs, word, unit, group, array, sole, several}
 use Rattle.ap_unparse.specs.Written.{Written, comma, space, round_open, round_close, square_open, square_close, symbols_of}
 use Rattle.ap_unparse.specs.WrittenTypes.{type_at, written_type}
@@ -10,14 +10,14 @@ abbrev pub parts_of : Ty → List Ty
 parts_of (Pair t u) = t ∷ parts_of u
 parts_of t = t ∷ []
 
-tuple_more : (t u : Ty) → tuple (t ∷ parts_of u) ≡ Pair t (tuple (parts_of u))
+tuple_more : (t u : Ty) → tuple_type (t ∷ parts_of u) ≡ Pair t (tuple_type (parts_of u))
 tuple_more t Unit = refl
 tuple_more t (Word w) = refl
 tuple_more t (Pair a b) = refl
 tuple_more t (Array a) = refl
 tuple_more t (Abs w a) = refl
 
-tuple-parts_of : (t : Ty) → tuple (parts_of t) ≡ t
+tuple-parts_of : (t : Ty) → tuple_type (parts_of t) ≡ t
 tuple-parts_of Unit = refl
 tuple-parts_of (Word w) = refl
 tuple-parts_of (Pair t u) = tuple_more t u ∙ ap (λ v. Pair t v) (tuple-parts_of u)
@@ -40,7 +40,7 @@ pair_alone t u first second ws =
     let same : (inside ++ round_close ∷ []) ++ ws ≡ inside ++ round_close ∷ ws = append_assoc inside (round_close ∷ []) ws in
     let whole = group (t ∷ parts_of u) (pair_inner t u first second (round_close ∷ ws)) in
     subst (λ v. IsType (symbols_of (type_at false (Pair t u) ++ ws)) v (symbols_of ws)) (tuple_more t u ∙ ap (λ v. Pair t v) (tuple-parts_of u))
-    (subst (λ vs. IsType (symbols_of (round_open ∷ vs)) (tuple (t ∷ parts_of u)) (symbols_of ws)) (sym same) whole)
+    (subst (λ vs. IsType (symbols_of (round_open ∷ vs)) (tuple_type (t ∷ parts_of u)) (symbols_of ws)) (sym same) whole)
 
 array_alone : (t : Ty) → Spells t → (ws : List Written) → IsType (symbols_of (type_at false (Array t) ++ ws)) (Array t) (symbols_of ws)
 array_alone t inner ws =

@@ -14,8 +14,8 @@ use Rattle.ap_unparse.specs.declared.side.Side.{Side}
 use Rattle.ap_unparse.specs.declared.side.Side.TheVariants.{Alone, OnLeft, BehindComma}
 use Rattle.ap_unparse.specs.Written.{Written, token, comma, semicolon, space, round_open, round_close, bytes_of, symbols_of}
 use Rattle.ap_unparse.specs.WrittenTerms.{written_term}
-use Rattle.ap_unparse.specs.WrittenGoals.{further_terms, arguments_of, both_at, either_at, goal_at, written_goal}
-use Rattle.ap_unparse.specs.Writable.{IsMark, IsWritten, StartsApart, Writes, Reads}
+use Rattle.ap_unparse.specs.WrittenGoals.{further_terms, arguments_of, both_at, either_at, written_goal_at, written_goal}
+use Rattle.ap_unparse.specs.Writable.{IsMark, IsWritten, StartsApart, Writes, ReadsAsSymbols}
 use Rattle.ap_unparse.specs.Worded.{EachWorded, IsWordedGoal}
 use Rattle.ap_unparse.proofs.Lexing.{ascii_text, written_is_lexed}
 use Rattle.ap_unparse.proofs.WordedLemmas.{Joins, mark, comma_mark, open_mark, behind_close, tuple_inside, writes_term}
@@ -97,17 +97,17 @@ side_either Alone ts j ws h a = j ws h a
 side_either OnLeft ts j ws h a = grouped ts j ws h a
 side_either BehindComma ts j ws h a = grouped ts j ws h a
 
-pub writes_goal : (side : Side) (g : Goal) → IsWordedGoal g → Joins (goal_at side g)
+pub writes_goal : (side : Side) (g : Goal) → IsWordedGoal g → Joins (written_goal_at side g)
 writes_goal side (Atom v ts) w ws h a = (w.0, atom_apart ts ws a, atom_joins ts w.1 ws h a)
 writes_goal side (Equation t u) w ws h a = related (written_term t) (written_term u) (codes "=") equal_mark (writes_term Whole t w.0) (writes_term Whole u w.1) ws h a
 writes_goal side (Freshness t u) w ws h a = related (written_term t) (written_term u) (codes "#") fresh_mark (writes_term Whole t w.0) (writes_term Whole u w.1) ws h a
 writes_goal side (Both g k) w ws h a =
-    side_both side (goal_at OnLeft g ++ comma ∷ space ∷ goal_at BehindComma k) (tuple_inside (goal_at OnLeft g) (goal_at BehindComma k) (writes_goal OnLeft g w.0) (writes_goal BehindComma k w.1)) ws h a
+    side_both side (written_goal_at OnLeft g ++ comma ∷ space ∷ written_goal_at BehindComma k) (tuple_inside (written_goal_at OnLeft g) (written_goal_at BehindComma k) (writes_goal OnLeft g w.0) (writes_goal BehindComma k w.1)) ws h a
 writes_goal side (Either g k) w ws h a =
-    side_either side (goal_at OnLeft g ++ space ∷ semicolon ∷ space ∷ goal_at Alone k) (related (goal_at OnLeft g) (goal_at Alone k) (codes ";") semicolon_mark (writes_goal OnLeft g w.0) (writes_goal Alone k w.1)) ws h a
-writes_goal side (Some_variable v g) w ws h a = (exists_written, tt, (w.0, tt, grouped (goal_at Alone g) (writes_goal Alone g w.2) ws h a))
-writes_goal side (New_name v g) w ws h a = (new_written, tt, (w.0, tt, grouped (goal_at Alone g) (writes_goal Alone g w.1) ws h a))
+    side_either side (written_goal_at OnLeft g ++ space ∷ semicolon ∷ space ∷ written_goal_at Alone k) (related (written_goal_at OnLeft g) (written_goal_at Alone k) (codes ";") semicolon_mark (writes_goal OnLeft g w.0) (writes_goal Alone k w.1)) ws h a
+writes_goal side (Some_variable v g) w ws h a = (exists_written, tt, (w.0, tt, grouped (written_goal_at Alone g) (writes_goal Alone g w.2) ws h a))
+writes_goal side (New_name v g) w ws h a = (new_written, tt, (w.0, tt, grouped (written_goal_at Alone g) (writes_goal Alone g w.1) ws h a))
 
 -- a worded goal is read again
-pub goal_is_lexed : (g : Goal) → IsWordedGoal g → Reads (bytes_of (written_goal g)) (symbols_of (written_goal g))
+pub goal_is_lexed : (g : Goal) → IsWordedGoal g → ReadsAsSymbols (bytes_of (written_goal g)) (symbols_of (written_goal g))
 goal_is_lexed g w = written_is_lexed (written_goal g) (subst Writes (append-nil (written_goal g)) (writes_goal Alone g w [] tt tt))

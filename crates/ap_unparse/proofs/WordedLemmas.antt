@@ -15,10 +15,10 @@ use Rattle.ap_trees.specs.Terms as terms
 use Rattle.ap_trees.specs.Terms.{Name, OfWord, OfVar, Term, Terms, Variable, Word, Apply, Pair, Nil, Cell, Abs, Swapped, Last, More}
 use Rattle.ap_unparse.specs.declared.context.Context.{Context}
 use Rattle.ap_unparse.specs.declared.context.Context.TheVariants.{Whole, Part, Rest}
-use Rattle.ap_unparse.specs.Written.{Written, ident, var, comma, space, round_open, round_close, square_close, lambda, swap, bytes_of, symbols_of}
+use Rattle.ap_unparse.specs.Written.{Written, ident, var, comma, space, round_open, round_close, square_close, lambda_word, swap, bytes_of, symbols_of}
 use Rattle.ap_unparse.specs.WrittenTypes.{type_at, written_type}
-use Rattle.ap_unparse.specs.WrittenTerms.{written_name, term_at, arguments_of, written_term, barred, tuple_at, list_at, nil_at}
-use Rattle.ap_unparse.specs.Writable.{IsMark, IsWritten, StartsApart, Writes, Reads}
+use Rattle.ap_unparse.specs.WrittenTerms.{written_name, term_at, arguments_of, written_term, barred_words, tuple_at, list_at, nil_at}
+use Rattle.ap_unparse.specs.Writable.{IsMark, IsWritten, StartsApart, Writes, ReadsAsSymbols}
 use Rattle.ap_unparse.specs.Worded.{IsWordedType, IsWordedName, IsWordedTerm, AreWorded}
 use Rattle.ap_unparse.proofs.Lexing.{ascii_text, written_is_lexed}
 
@@ -106,13 +106,13 @@ writes_type part (types.Array t) w ws h a = (square_open_mark, tt, behind_square
 writes_type part (types.Abs v t) w ws h a = (w.0, tt, (lambda_mark, tt, writes_type false t w.1 ws h a))
 
 -- a worded type is read again
-pub type_is_lexed : (t : Ty) → IsWordedType t → Reads (bytes_of (written_type t)) (symbols_of (written_type t))
+pub type_is_lexed : (t : Ty) → IsWordedType t → ReadsAsSymbols (bytes_of (written_type t)) (symbols_of (written_type t))
 type_is_lexed t w = written_is_lexed (written_type t) (subst Writes (append-nil (written_type t)) (writes_type false t w [] tt tt))
 
 joined : (ts us : List Written) → Joins ts → Joins us → Joins (ts ++ comma ∷ us)
 joined ts us first second ws h a = subst Writes (sym (append_assoc ts (comma ∷ us) ws)) (first (comma ∷ (us ++ ws)) (comma_mark, tt, second ws h a) tt)
 
-behind_bar : (context : Context) (ts : List Written) → Joins ts → Joins (barred context ts)
+behind_bar : (context : Context) (ts : List Written) → Joins ts → Joins (barred_words context ts)
 behind_bar Whole ts j ws h a = j ws h a
 behind_bar Part ts j ws h a = j ws h a
 behind_bar Rest ts j ws h a = (bar_mark, tt, j ws h a)
@@ -186,7 +186,7 @@ mutual
   writes_term context Nil w ws h a = nil_joins context ws h a
   writes_term context (Cell t u) w ws h a = list_inside context (term_at Whole t ++ term_at Rest u) (cell_inside t u (writes_term Whole t w.0) (writes_term Rest u w.1)) ws h a
   writes_term context (Abs name t) w ws h a =
-      behind_bar context (written_name name ∷ lambda ∷ term_at Whole t) (λ vs k b. name_joins name w.0 (lambda ∷ (term_at Whole t ++ vs)) (lambda_mark, tt, writes_term Whole t w.1 vs k b) tt) ws h a
+      behind_bar context (written_name name ∷ lambda_word ∷ term_at Whole t) (λ vs k b. name_joins name w.0 (lambda_word ∷ (term_at Whole t ++ vs)) (lambda_mark, tt, writes_term Whole t w.1 vs k b) tt) ws h a
   writes_term context (Swapped left right t) w ws h a =
       behind_bar context (swap ∷ round_open ∷ written_name left ∷ comma ∷ written_name right ∷ comma ∷ (term_at Whole t ++ round_close ∷ [])) (swap_joins left right t w.0 w.1 (writes_term Whole t w.2)) ws h a
 
@@ -195,5 +195,5 @@ mutual
   writes_arguments (More t ts) w ws h a = joined (term_at Whole t) (arguments_of ts) (writes_term Whole t w.0) (writes_arguments ts w.1) ws h a
 
 -- a worded term is read again
-pub term_is_lexed : (t : Term) → IsWordedTerm t → Reads (bytes_of (written_term t)) (symbols_of (written_term t))
+pub term_is_lexed : (t : Term) → IsWordedTerm t → ReadsAsSymbols (bytes_of (written_term t)) (symbols_of (written_term t))
 term_is_lexed t w = written_is_lexed (written_term t) (subst Writes (append-nil (written_term t)) (writes_term Whole t w [] tt tt))

@@ -15,8 +15,8 @@ pub record ReadsAs (bytes : List ℕ) (form : Saying) : Type 0 where
   pub item : items.Reads 1 tokens (Ok (record { line = 1; form = form } ∷ []))
 
 -- the declaration of a predicate of one argument, without its end
-abbrev pub predicate_of : List ℕ → List Written → List Written
-predicate_of w ws = pred ∷ space ∷ ident w ∷ round_open ∷ (ws ++ round_close ∷ [])
+abbrev pub predicate_before : List ℕ → List Written → List Written
+predicate_before w ws = pred ∷ space ∷ ident w ∷ round_open ∷ (ws ++ round_close ∷ [])
 
 -- The bytes are lexed, and all their tokens together spell this type.
 pub record SpellsType (bytes : List ℕ) (t : Ty) : Type 0 where

@@ -49,7 +49,7 @@ Writes (space ∷ ws) = Writes ws
 Writes (token kind text ∷ ws) = IsWritten kind text × ApartFrom kind ws × Writes ws
 
 -- The bytes are lexed, and the grammar sees these symbols.
-pub record Reads (bytes : List ℕ) (symbols : List Sym) : Type 0 where
+pub record ReadsAsSymbols (bytes : List ℕ) (symbols : List Sym) : Type 0 where
   pub tokens : List Lexeme
   pub all : lexed bytes ≡ Ok tokens
   pub same : syms_of tokens ≡ symbols

@@ -46,11 +46,11 @@ square_close = token Sign (codes "]")
 abbrev pub bar : Written
 bar = token Sign (codes "|")
 
-abbrev pub lambda : Written
-lambda = token Sign (codes "\\")
+abbrev pub lambda_word : Written
+lambda_word = token Sign (codes "\\")
 
-abbrev pub fresh : Written
-fresh = token Sign (codes "#")
+abbrev pub fresh_word : Written
+fresh_word = token Sign (codes "#")
 
 abbrev pub equal : Written
 equal = token Sign (codes "=")

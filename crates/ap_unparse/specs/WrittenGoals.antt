@@ -4,7 +4,7 @@ use Rattle.ap_trees.specs.Terms.{Term}
 use Rattle.ap_trees.specs.Goals.{Goal, Atom, Equation, Freshness, Both, Either, Some_variable, New_name}
 use Rattle.ap_unparse.specs.declared.side.Side.{Side}
 use Rattle.ap_unparse.specs.declared.side.Side.TheVariants.{Alone, OnLeft, BehindComma}
-use Rattle.ap_unparse.specs.Written.{Written, space, ident, var, comma, semicolon, round_open, round_close, fresh, equal, new, exists}
+use Rattle.ap_unparse.specs.Written.{Written, space, ident, var, comma, semicolon, round_open, round_close, fresh_word, equal, new, exists}
 use Rattle.ap_unparse.specs.WrittenTerms.{written_term}
 
 -- terms, each behind a comma
@@ -25,17 +25,17 @@ abbrev pub either_at : Side → List Written → List Written
 either_at Alone ws = ws
 either_at side ws = round_open ∷ (ws ++ round_close ∷ [])
 
-abbrev pub goal_at : Side → Goal → List Written
-goal_at side (Atom w ts) = ident w ∷ arguments_of ts
-goal_at side (Equation t u) = written_term t ++ space ∷ equal ∷ space ∷ written_term u
-goal_at side (Freshness t u) = written_term t ++ space ∷ fresh ∷ space ∷ written_term u
-goal_at side (Both g h) = both_at side (goal_at OnLeft g ++ comma ∷ space ∷ goal_at BehindComma h)
-goal_at side (Either g h) = either_at side (goal_at OnLeft g ++ space ∷ semicolon ∷ space ∷ goal_at Alone h)
-goal_at side (Some_variable w g) = exists ∷ space ∷ var w ∷ space ∷ round_open ∷ (goal_at Alone g ++ round_close ∷ [])
-goal_at side (New_name w g) = new ∷ space ∷ ident w ∷ space ∷ round_open ∷ (goal_at Alone g ++ round_close ∷ [])
+abbrev pub written_goal_at : Side → Goal → List Written
+written_goal_at side (Atom w ts) = ident w ∷ arguments_of ts
+written_goal_at side (Equation t u) = written_term t ++ space ∷ equal ∷ space ∷ written_term u
+written_goal_at side (Freshness t u) = written_term t ++ space ∷ fresh_word ∷ space ∷ written_term u
+written_goal_at side (Both g h) = both_at side (written_goal_at OnLeft g ++ comma ∷ space ∷ written_goal_at BehindComma h)
+written_goal_at side (Either g h) = either_at side (written_goal_at OnLeft g ++ space ∷ semicolon ∷ space ∷ written_goal_at Alone h)
+written_goal_at side (Some_variable w g) = exists ∷ space ∷ var w ∷ space ∷ round_open ∷ (written_goal_at Alone g ++ round_close ∷ [])
+written_goal_at side (New_name w g) = new ∷ space ∷ ident w ∷ space ∷ round_open ∷ (written_goal_at Alone g ++ round_close ∷ [])
 
 abbrev pub written_goal : Goal → List Written
-written_goal g = goal_at Alone g
+written_goal g = written_goal_at Alone g
 
 -- what stands before a goal joined by `,` or `;`, and behind it
 abbrev pub both_opening : Side → List ℕ

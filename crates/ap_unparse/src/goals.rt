@@ -1,10 +1,10 @@
 //! The text of goals.
 
 ghost use Rattle.std.specs.Prelude.{◌≡◌, [], ◌∷◌, ◌++◌, codes, OnOk};
-ghost use Rattle.ap_trees.specs.Trees.{term_of, trees_of, goal_of};
+ghost use Rattle.ap_trees.specs.Trees.{term_of, trees_of, goal_of_tree};
 ghost use Rattle.ap_unparse.specs.Written.{bytes_of};
 ghost use Rattle.ap_unparse.specs.WrittenTerms.{written_term};
-ghost use Rattle.ap_unparse.specs.WrittenGoals.{goal_at, further_terms, arguments_of, both_opening, both_closing, either_opening, either_closing};
+ghost use Rattle.ap_unparse.specs.WrittenGoals.{written_goal_at, further_terms, arguments_of, both_opening, both_closing, either_opening, either_closing};
 
 use crate::closing::write_closers;
 use crate::context::Context;
@@ -106,7 +106,7 @@ pub fn write_goal(
     mut side: Side,
 ) -> Result<(), Memory>
     ensures { OnOk result (out.new.items
-        ≡ out.old.items ++ bytes_of (goal_at side (goal_of g.now))) }
+        ≡ out.old.items ++ bytes_of (written_goal_at side (goal_of_tree g.now))) }
 {
     let mut closers = Vec::new(alloc);
     let mut rest = g;

@@ -1,9 +1,9 @@
 //! The text of terms.
 
 ghost use Rattle.std.specs.Prelude.{◌≡◌, [], ◌++◌, OnOk};
-ghost use Rattle.ap_trees.specs.Trees.{name_of, term_of, terms_of};
+ghost use Rattle.ap_trees.specs.Trees.{name_of_binder, term_of, terms_of};
 ghost use Rattle.ap_unparse.specs.Written.{bytes_of};
-ghost use Rattle.ap_unparse.specs.WrittenTerms.{barred, name_text, tuple_opening, tuple_closing, list_opening, list_closing, swap_opening, abs_opening, apply_opening, term_at, arguments_of, nil_at};
+ghost use Rattle.ap_unparse.specs.WrittenTerms.{barred_words, name_text, tuple_opening, tuple_closing, list_opening, list_closing, swap_opening, abs_opening, apply_opening, term_at, arguments_of, nil_at};
 
 use crate::closing::write_closers;
 use crate::context::Context;
@@ -13,7 +13,7 @@ use std::alloc::Global;
 
 /// Writes the bar that stands before the rest of a list.
 fn write_bar(out: &mut Vec<u8>, context: Context) -> Result<(), Memory>
-    ensures { OnOk result (out.new.items ≡ out.old.items ++ bytes_of (barred context [])) }
+    ensures { OnOk result (out.new.items ≡ out.old.items ++ bytes_of (barred_words context [])) }
 {
     if let Context::Rest = context {
         out.push(b'|')?;
@@ -23,7 +23,7 @@ fn write_bar(out: &mut Vec<u8>, context: Context) -> Result<(), Memory>
 
 /// Writes a word or a variable.
 fn write_name(out: &mut Vec<u8>, name: &Binder<'_>) -> Result<(), Memory>
-    ensures { OnOk result (out.new.items ≡ out.old.items ++ name_text (name_of name.now)) }
+    ensures { OnOk result (out.new.items ≡ out.old.items ++ name_text (name_of_binder name.now)) }
 {
     let (Binder::Word(word) | Binder::Var(word)) = name;
     out.extend_from_slice(word.as_bytes())?;
@@ -61,7 +61,7 @@ fn begin_list(out: &mut Vec<u8>, closers: &mut Vec<u8>, context: Context) -> Res
 /// Writes what stands before the body of an abstraction.
 fn begin_abs(out: &mut Vec<u8>, name: &Binder<'_>, context: Context) -> Result<(), Memory>
     ensures { OnOk result (out.new.items
-        ≡ out.old.items ++ abs_opening context (name_of name.now)) }
+        ≡ out.old.items ++ abs_opening context (name_of_binder name.now)) }
 {
     write_bar(out, context)?;
     write_name(out, name)?;
@@ -77,7 +77,8 @@ fn begin_swap(
     context: Context,
 ) -> Result<(), Memory>
     ensures { OnOk result (out.new.items
-        ≡ out.old.items ++ swap_opening context (name_of left.now) (name_of right.now)) }
+        ≡ out.old.items
+        ++ swap_opening context (name_of_binder left.now) (name_of_binder right.now)) }
 {
     write_bar(out, context)?;
     out.extend_from_slice(b"swap(")?;
@@ -101,7 +102,7 @@ fn begin_apply(out: &mut Vec<u8>, word: &str, context: Context) -> Result<(), Me
 /// Writes a term that has no parts.
 fn write_leaf(out: &mut Vec<u8>, text: &[u8], context: Context) -> Result<(), Memory>
     ensures { OnOk result (out.new.items
-        ≡ out.old.items ++ (bytes_of (barred context []) ++ text.now)) }
+        ≡ out.old.items ++ (bytes_of (barred_words context []) ++ text.now)) }
 {
     write_bar(out, context)?;
     out.extend_from_slice(text)?;

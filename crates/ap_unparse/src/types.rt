@@ -1,7 +1,7 @@
 //! The text of types.
 
 ghost use Rattle.std.specs.Prelude.{◌≡◌, [], ◌++◌, codes, if◌then◌else◌, OnOk};
-ghost use Rattle.ap_trees.specs.Trees.{type_of};
+ghost use Rattle.ap_trees.specs.Trees.{type_of_tree};
 ghost use Rattle.ap_unparse.specs.Written.{bytes_of};
 ghost use Rattle.ap_unparse.specs.WrittenTypes.{type_at};
 
@@ -32,7 +32,7 @@ pub fn write_type(
     mut part: bool,
 ) -> Result<(), Memory>
     ensures { OnOk result (out.new.items
-        ≡ out.old.items ++ bytes_of (type_at part (type_of t.now))) }
+        ≡ out.old.items ++ bytes_of (type_at part (type_of_tree t.now))) }
 {
     let mut closers = Vec::new(alloc);
     let mut rest = t;

@@ -6,7 +6,7 @@ use Rattle.std.specs.Ordering.{match_ordering, ordering_then}
 use Rattle.std.specs.BTreeMap.{insert_entry}
 use Rattle.std.specs.declared.cmp.Ordering.TheVariants.{Less, Equal, Greater}
 use Rattle.ap_uses.specs.Counts.{in_order_of_items, insert_count}
-use Rattle.ap_uses.specs.Rows.{placed_cmp}
+use Rattle.ap_uses.specs.Rows.{row_cmp}
 use Rattle.ap_uses.specs.declared.counts.ClauseCount.{ClauseCount}
 
 -- a clause under its item and its place
@@ -27,7 +27,7 @@ chosen true e f s q x y z h k = rw k refl
 chosen false true f s q x y z h k = rw (h, k) refl
 chosen false false f s q x y z h k = rw k refl
 
-ordered : {X : Type 0} (i n k l : ℕ) (x y z : X) → n < l → match_ordering (placed_cmp (i, n) (k, l)) x y z ≡ (if nat_le i k then x else z)
+ordered : {X : Type 0} (i n k l : ℕ) (x y z : X) → n < l → match_ordering (row_cmp (i, n) (k, l)) x y z ≡ (if nat_le i k then x else z)
 ordered i n k l x y z h = chosen (nat_lt i k) (i == k) (n == l) (nat_le i k) (nat_lt n l) x y z (grind (arith, nat_tests, h)) (grind (arith, nat_tests))
 
 inserted_if : (b : Bool) (c : ClauseCount) (k : ℕ × ℕ) (e : Placed) (es ds : List Placed) → nat_le c.item e.1.item ≡ b → kept ds ≡ insert_count c (kept es)
@@ -35,11 +35,11 @@ inserted_if : (b : Bool) (c : ClauseCount) (k : ℕ × ℕ) (e : Placed) (es ds 
 inserted_if true c k e es ds h i = rw h refl
 inserted_if false c k e es ds h i = rw (h, i) refl
 
-kept_in_order : (n m : ℕ) (c : ClauseCount) (es : List Placed) → n < m → Keyed m es → kept (insert_entry placed_cmp es (c.item, n) c) ≡ insert_count c (kept es)
+kept_in_order : (n m : ℕ) (c : ClauseCount) (es : List Placed) → n < m → Keyed m es → kept (insert_entry row_cmp es (c.item, n) c) ≡ insert_count c (kept es)
 kept_in_order n m c [] h keyed = refl
 kept_in_order n m c (e ∷ es) h keyed =
-    ap kept (ordered c.item n e.0.0 e.0.1 (((c.item, n), c) ∷ e ∷ es) ((e.0, c) ∷ es) (e ∷ insert_entry placed_cmp es (c.item, n) c) (omega (arith, h, keyed.1)))
-    ∙ inserted_if (nat_le c.item e.0.0) c (c.item, n) e es (insert_entry placed_cmp es (c.item, n) c) (ap (nat_le c.item) (sym keyed.0)) (kept_in_order n m c es h keyed.2)
+    ap kept (ordered c.item n e.0.0 e.0.1 (((c.item, n), c) ∷ e ∷ es) ((e.0, c) ∷ es) (e ∷ insert_entry row_cmp es (c.item, n) c) (omega (arith, h, keyed.1)))
+    ∙ inserted_if (nat_le c.item e.0.0) c (c.item, n) e es (insert_entry row_cmp es (c.item, n) c) (ap (nat_le c.item) (sym keyed.0)) (kept_in_order n m c es h keyed.2)
 
 keyed_from : (n m : ℕ) (es : List Placed) → n ≤ m → Keyed m es → Keyed n es
 keyed_from n m [] h k = tt
@@ -49,16 +49,16 @@ keyed_if : (n : ℕ) (b : Bool) (d e : Placed) (es ds : List Placed) → Keyed n
 keyed_if n true d e es ds h k = h
 keyed_if n false d e es ds h k = (h.2.0, h.2.1, k)
 
-kept_keyed : (n m : ℕ) (c : ClauseCount) (es : List Placed) → n < m → Keyed m es → Keyed n (insert_entry placed_cmp es (c.item, n) c)
+kept_keyed : (n m : ℕ) (c : ClauseCount) (es : List Placed) → n < m → Keyed m es → Keyed n (insert_entry row_cmp es (c.item, n) c)
 kept_keyed n m c [] h keyed = (refl, omega arith, tt)
 kept_keyed n m c (e ∷ es) h keyed =
-    subst (Keyed n) (sym (ordered c.item n e.0.0 e.0.1 (((c.item, n), c) ∷ e ∷ es) ((e.0, c) ∷ es) (e ∷ insert_entry placed_cmp es (c.item, n) c) (omega (arith, h, keyed.1))))
-    (keyed_if n (nat_le c.item e.0.0) ((c.item, n), c) e es (insert_entry placed_cmp es (c.item, n) c)
+    subst (Keyed n) (sym (ordered c.item n e.0.0 e.0.1 (((c.item, n), c) ∷ e ∷ es) ((e.0, c) ∷ es) (e ∷ insert_entry row_cmp es (c.item, n) c) (omega (arith, h, keyed.1))))
+    (keyed_if n (nat_le c.item e.0.0) ((c.item, n), c) e es (insert_entry row_cmp es (c.item, n) c)
     (refl, omega arith, keyed_from n m (e ∷ es) (omega (arith, h)) keyed) (kept_keyed n m c es h keyed.2))
 
 -- one clause more, from the end on
 pub kept_next : (cs : List ClauseCount) (c : ClauseCount) (left next : ℕ) (es fs : List Placed) → next + 1 ≡ left → left ≤ length cs → c ≡ get_or cs next c
-    → kept es ≡ in_order_of_items (drop left cs) → Keyed left es → fs ≡ insert_entry placed_cmp es (c.item, next) c
+    → kept es ≡ in_order_of_items (drop left cs) → Keyed left es → fs ≡ insert_entry row_cmp es (c.item, next) c
     → (kept fs ≡ in_order_of_items (drop next cs)) × Keyed next fs
 kept_next cs c left next es fs s h e k keyed f =
     let less : next < left = omega (arith, s) in

@@ -13,7 +13,7 @@ use Rattle.ap_checks.proofs.TraceLemmas.{paths_lead}
 use Rattle.ap_count.specs.Uses.{use_table, uses_in_each}
 use Rattle.ap_derive.specs.Derived.{LeadsOn}
 use Rattle.ap_uses.specs.Counts.{derivations_among, uses_of_query}
-use Rattle.ap_uses.specs.Paths.{LeadsToAnswer, answer_paths, derivation_along, derivation_at, derivation_traced}
+use Rattle.ap_uses.specs.Paths.{LeadsToAnswer, answer_paths, derivation_along, derivation_of_path, derivation_traced}
 
 pub query_there : (qs : List NominalQuery) (place : ℕ) → place < length qs → (q : NominalQuery) × (slice_get qs place ≡ Some q)
 query_there [] place l = absurd (omega arith)
@@ -32,7 +32,7 @@ leads_for p path l e h q asked =
 
 pub derivation_here : (p : Problem) (path l : List ℕ) → l ≡ path → LeadsToAnswer p path → (d : NominalDerivation)
     → ((q : NominalQuery) (r : Traced) → slice_get (queries_in p) (p.query - 1) ≡ Some q → traced_query (clauses_in p) p.depth q l ≡ Some r → d ≡ derivation_in r.state r.derivation)
-    → d ≡ derivation_at p path
+    → d ≡ derivation_of_path p path
 derivation_here p path l e h d is =
     is h.q h.leads.traced h.asked (ap (traced_query (clauses_in p) p.depth h.q) e ∙ h.leads.leads)
     ∙ sym (ap derivation_traced h.leads.leads) ∙ sym (ap (λ o. derivation_along (clauses_in p) p.depth o path) h.asked)
@@ -60,11 +60,11 @@ module _ (p : Problem) (has : HasQuery p) (q : NominalQuery) (asked : slice_get 
   each_leads (chose path c ∷ os) among = absurd c
   each_leads (stuck path ∷ os) among = each_leads os (λ l r e f. among l r e f)
 
-  here : (path : List ℕ) (s : State) (d : NominalDerivation) → Finds (solve_query (clauses_in p) p.depth q) path s d → derivation_at p path ≡ derivation_in s d
+  here : (path : List ℕ) (s : State) (d : NominalDerivation) → Finds (solve_query (clauses_in p) p.depth q) path s d → derivation_of_path p path ≡ derivation_in s d
   here path s d there = ap (λ o. derivation_along (clauses_in p) p.depth o path) asked ∙ ap derivation_traced (found_leads path s d there)
 
   each_derivation : (os : List Output) → ((path : List ℕ) (s : State) (d : NominalDerivation) → Finds os path s d → Finds (solve_query (clauses_in p) p.depth q) path s d)
-      → map (derivation_at p) (answer_paths (map (out_in q.locals) os)) ≡ derivations_among os
+      → map (derivation_of_path p) (answer_paths (map (out_in q.locals) os)) ≡ derivations_among os
   each_derivation [] among = refl
   each_derivation (found path s d ∷ os) among =
       ap₂ (λ e es. e ∷ es) (here path s d (among path s d (inl (refl, refl, refl)))) (each_derivation os (λ l r e f. among l r e (inr f)))
@@ -75,15 +75,15 @@ module _ (p : Problem) (has : HasQuery p) (q : NominalQuery) (asked : slice_get 
   answers_lead : AllByRecursion (LeadsToAnswer p) (answer_paths (query_outs (clauses_in p) p.depth q))
   answers_lead = each_leads (solve_query (clauses_in p) p.depth q) (λ l r e f. f)
 
-  derivations_there : map (derivation_at p) (answer_paths (query_outs (clauses_in p) p.depth q)) ≡ derivations_among (solve_query (clauses_in p) p.depth q)
+  derivations_there : map (derivation_of_path p) (answer_paths (query_outs (clauses_in p) p.depth q)) ≡ derivations_among (solve_query (clauses_in p) p.depth q)
   derivations_there = each_derivation (solve_query (clauses_in p) p.depth q) (λ l r e f. f)
 
   -- the table of the uses in these derivations
   pub uses_there : (t : List (List ℕ)) (os : List NominalOut) (paths : List (List ℕ)) → os ≡ query_outs (clauses_in p) p.depth q → paths ≡ answer_paths os
-      → t ≡ use_table (clauses_in p) (uses_in_each (clauses_in p) q.goal (map (derivation_at p) paths))
+      → t ≡ use_table (clauses_in p) (uses_in_each (clauses_in p) q.goal (map (derivation_of_path p) paths))
       → t ≡ use_table (clauses_in p) (uses_of_query (clauses_in p) p.depth q)
   uses_there t os paths outs is made =
-      made ∙ ap (λ ds. use_table (clauses_in p) (uses_in_each (clauses_in p) q.goal ds)) (ap (map (derivation_at p)) (is ∙ ap answer_paths outs) ∙ derivations_there)
+      made ∙ ap (λ ds. use_table (clauses_in p) (uses_in_each (clauses_in p) q.goal ds)) (ap (map (derivation_of_path p)) (is ∙ ap answer_paths outs) ∙ derivations_there)
 
 -- the paths of all answers lead to answers
 pub all_lead : (p : Problem) → HasQuery p → (os : List NominalOut) (paths : List (List ℕ))

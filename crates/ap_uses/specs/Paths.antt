@@ -35,5 +35,5 @@ derivation_along program depth None path = succeed
 derivation_along program depth (Some q) path = derivation_traced (traced_query program depth q path)
 
 -- the derivation to which a path of a problem leads
-abbrev pub derivation_at : Problem → List ℕ → NominalDerivation
-derivation_at p = derivation_along (clauses_in p) p.depth (slice_get (queries_in p) (p.query - 1))
+abbrev pub derivation_of_path : Problem → List ℕ → NominalDerivation
+derivation_of_path p = derivation_along (clauses_in p) p.depth (slice_get (queries_in p) (p.query - 1))

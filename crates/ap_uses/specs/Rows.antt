@@ -18,5 +18,5 @@ counts_in_rows (cs ∷ css) [] = []
 counts_in_rows (cs ∷ css) (row ∷ rows) = counts_in_row cs row ++ counts_in_rows css rows
 
 -- items are compared first, and then places
-abbrev pub placed_cmp : ℕ × ℕ → ℕ × ℕ → Ordering
-placed_cmp k l = ordering_then (nat_cmp k.0 l.0) (nat_cmp k.1 l.1)
+abbrev pub row_cmp : ℕ × ℕ → ℕ × ℕ → Ordering
+row_cmp k l = ordering_then (nat_cmp k.0 l.0) (nat_cmp k.1 l.1)

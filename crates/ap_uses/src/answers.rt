@@ -15,11 +15,11 @@ pub struct Answers<'a> {
 }
 
 impl<'a> Derive for Answers<'a> {
-    ghost use Rattle.ap_uses.specs.Paths.{LeadsToAnswer, derivation_at};
+    ghost use Rattle.ap_uses.specs.Paths.{LeadsToAnswer, derivation_of_path};
 
     ghost leads = { λ a. LeadsToAnswer a.problem };
 
-    ghost at = { λ a. derivation_at a.problem };
+    ghost at = { λ a. derivation_of_path a.problem };
 
     fn derivation(&self, alloc: Global, path: &Path) -> Result<Derivation, Memory> {
         derive_along(alloc, &self.problem, path.choices())

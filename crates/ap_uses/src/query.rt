@@ -8,7 +8,7 @@ ghost use Rattle.ap_backchain.specs.Problems.{HasQuery, clauses_in, queries_in};
 ghost use Rattle.ap_count.specs.Tables.{counts_of};
 ghost use Rattle.ap_count.specs.Uses.{use_table, uses_in_each};
 ghost use Rattle.ap_uses.specs.Counts as spec;
-ghost use Rattle.ap_uses.specs.Paths.{LeadsToAnswer, answer_path, answer_paths, derivation_at};
+ghost use Rattle.ap_uses.specs.Paths.{LeadsToAnswer, answer_path, answer_paths, derivation_of_path};
 
 use crate::answers::Answers;
 use ap_backchain::problem::{Problem, query_of_problem};
@@ -61,7 +61,7 @@ fn uses_at<R: Threads + Sync>(
     ensures { IfOk result (λ t. (q : NominalQuery) →
         slice_get (queries_in p.now) (p.now.query - 1) ≡ Some q →
         counts_of t ≡ use_table (clauses_in p.now) (uses_in_each (clauses_in p.now) q.goal
-        (map (derivation_at p.now) paths.now))) }
+        (map (derivation_of_path p.now) paths.now))) }
 {
     let query = query_of_problem(p);
     let question = Question {

@@ -16,7 +16,7 @@ use Rattle.ap_words.specs.declared.table.CommandName.{CommandName}
 use Rattle.ap_words.specs.declared.table.CommandName.TheVariants as command
 use Rattle.ap_words.specs.declared.table.OptionName.{OptionName}
 use Rattle.ap_words.specs.Table.{commands, command_name, option_name, options_of, is_required}
-use Rattle.ap_words.specs.Words.{are_complete, asked_of, asked_together, asked_with, asked_by, both, command_of, is_equals, is_well_set, joined_setting, number_of, option_of, sets, setting_of, settings_of}
+use Rattle.ap_words.specs.Words.{are_complete, asked_of, asked_together, asked_with, asked_by, both_settings, command_of, is_equals, is_well_set, joined_setting, number_of, option_of, sets, setting_of, settings_of}
 use Rattle.ap_words.specs.Program.{program}
 use Rattle.ap_words.proofs.Lists.{all_found, count_first, count_push, find_holds}
 use Rattle.ap_words.proofs.Plain.{joined_word, name_same, number_plain, option_word, parted}
@@ -26,7 +26,7 @@ use Rattle.ap_words.proofs.Walking.{IsFine, given_in, joined_turn, joined_walk, 
 
 -- ---- what a setting was read from
 
-both_parts : (a : Option Setting) (b : Option (List Setting)) (ss : List Setting) → both a b ≡ Some ss → (s : Setting) × (rest : List Setting) × (a ≡ Some s) × (b ≡ Some rest) × (ss ≡ s ∷ rest)
+both_parts : (a : Option Setting) (b : Option (List Setting)) (ss : List Setting) → both_settings a b ≡ Some ss → (s : Setting) × (rest : List Setting) × (a ≡ Some s) × (b ≡ Some rest) × (ss ≡ s ∷ rest)
 both_parts None b ss e = absurd (let k : None ≡ Some ss = e in cc)
 both_parts (Some s) None ss e = absurd (let k : None ≡ Some ss = e in cc)
 both_parts (Some s) (Some rest) ss e = (s, rest, refl, refl, (let k : Some (s ∷ rest) ≡ Some ss = e in let same : ss ≡ s ∷ rest = cc in same))

@@ -40,16 +40,16 @@ is_equals byte = byte == 61
 abbrev pub joined_setting : List OptionName → List ℕ → Option Setting
 joined_setting options word = setting_of options (before_first is_equals word) (after_first is_equals word)
 
-abbrev pub both : Option Setting → Option (List Setting) → Option (List Setting)
-both first others = option_and_then (λ s. option_map (λ ss. s ∷ ss) others) first
+abbrev pub both_settings : Option Setting → Option (List Setting) → Option (List Setting)
+both_settings first others = option_and_then (λ s. option_map (λ ss. s ∷ ss) others) first
 
 -- what the words set, where each setting is one word `--name=value` or two words `--name value`
 abbrev pub settings_of : List OptionName → List (List ℕ) → Option (List Setting)
 settings_of options [] = Some []
-settings_of options (word ∷ []) = if list_any is_equals word then both (joined_setting options word) (Some []) else None
+settings_of options (word ∷ []) = if list_any is_equals word then both_settings (joined_setting options word) (Some []) else None
 settings_of options (word ∷ value ∷ words) =
-    if list_any is_equals word then both (joined_setting options word) (settings_of options (value ∷ words))
-    else both (setting_of options word value) (settings_of options words)
+    if list_any is_equals word then both_settings (joined_setting options word) (settings_of options (value ∷ words))
+    else both_settings (setting_of options word value) (settings_of options words)
 
 abbrev pub sets : OptionName → Setting → Bool
 sets o s = bytes_eq (option_name s.option) (option_name o)

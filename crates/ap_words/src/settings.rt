@@ -5,7 +5,7 @@ ghost use Rattle.std.specs.List.{list_all};
 ghost use Rattle.std.specs.Prelude.{count_by, find, option_map};
 ghost use Rattle.std.specs.Str.{bytes_eq};
 ghost use Rattle.ap_words.specs.Table.{option_name};
-ghost use Rattle.ap_words.specs.Words.{are_complete, both, is_well_set, number_in, number_of, option_of, setting_of, settings_of, sets};
+ghost use Rattle.ap_words.specs.Words.{are_complete, both_settings, is_well_set, number_in, number_of, option_of, setting_of, settings_of, sets};
 
 use crate::table::OptionName;
 use ap_defs::memory::Memory;
@@ -72,7 +72,8 @@ fn setting_named(options: &[OptionName], name: &str, value: &str) -> Option<Sett
 fn setting_at(options: &[OptionName], words: &[String], at: usize) -> (Option<Setting>, usize)
     requires { at < length words.now }
     ensures first { settings_of options.now (drop at (map string_bytes words.now))
-        ≡ both result.0 (settings_of options.now (drop result.1 (map string_bytes words.now))) }
+        ≡ both_settings result.0 (settings_of options.now (drop result.1
+        (map string_bytes words.now))) }
     ensures further { (at < result.1) × (result.1 ≤ length words.now) }
 {
     let word = words[at].as_str();

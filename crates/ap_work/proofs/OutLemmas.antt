@@ -5,7 +5,7 @@ use Rattle.ap_defs.specs.declared.paths.Out.{Out}
 use Rattle.ap_defs.specs.Answers.{NominalOut, cut, found, out_of, outs_of, stuck}
 use Rattle.ap_defs.specs.Lines.{count_of, is_cut, is_found, is_stuck}
 use Rattle.ap_work.specs.declared.totals.Totals.{Totals}
-use Rattle.ap_work.specs.Sums.{AreAtMost, output_totals, sum_of_both, with_out}
+use Rattle.ap_work.specs.Sums.{IsSumAtMost, output_totals, sum_of_both, with_out}
 
 -- totals by their numbers
 abbrev of_numbers : ℕ → ℕ → ℕ → ℕ → Totals
@@ -54,10 +54,10 @@ pub last_out : (outs : List Out) (i : ℕ) (t u : Totals) → length outs ≤ i 
 last_out outs i t u l e = sym (nothing_after t) ∙ sym (at_drop_all (λ os. sum_of_both t (output_totals (outs_of os) 0)) outs i l) ∙ e
 
 -- each output adds one to one of them
-pub one_further : (o : NominalOut) (n : ℕ) (t : Totals) → AreAtMost n t → AreAtMost (n + 1) (with_out t o)
+pub one_further : (o : NominalOut) (n : ℕ) (t : Totals) → IsSumAtMost n t → IsSumAtMost (n + 1) (with_out t o)
 one_further (found p a) n t h = (omega (arith, h.0), omega (arith, h.1), omega (arith, h.2), omega (arith, h.3))
 one_further (cut p) n t h = (omega (arith, h.0), omega (arith, h.1), omega (arith, h.2), omega (arith, h.3))
 one_further (stuck p) n t h = (omega (arith, h.0), omega (arith, h.1), omega (arith, h.2), omega (arith, h.3))
 
-pub no_more_than : (n m : ℕ) (t : Totals) → n ≤ m → AreAtMost n t → AreAtMost m t
+pub no_more_than : (n m : ℕ) (t : Totals) → n ≤ m → IsSumAtMost n t → IsSumAtMost m t
 no_more_than n m t l h = (omega (arith, l, h.0), omega (arith, l, h.1), omega (arith, l, h.2), omega (arith, l, h.3))

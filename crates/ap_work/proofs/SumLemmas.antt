@@ -9,7 +9,7 @@ use Rattle.ap_defs.specs.Lines.{count_of, is_cut, is_found, is_stuck, query_line
 use Rattle.ap_defs.specs.Types.{NominalLocal}
 use Rattle.ap_answers.specs.Queries.{locals_at, query_locals}
 use Rattle.ap_work.specs.declared.totals.Totals.{Totals}
-use Rattle.ap_work.specs.Sums.{AreAtMost, HaveRoom, output_totals, sum_of_both, totals_at}
+use Rattle.ap_work.specs.Sums.{IsSumAtMost, HaveRoom, output_totals, sum_of_both, totals_at}
 use Rattle.ap_work.specs.Reports.{total_of, totals_of}
 use Rattle.ap_work.proofs.OutLemmas.{nothing_after, nothing_before, same_sums, same_totals}
 
@@ -104,10 +104,10 @@ none_left p depth k place t u l e =
     sym (nothing_after t) ∙ sym (ap (λ qs. sum_of_both t (totals_from p depth k qs)) (drop_all place p.queries l)) ∙ e
 
 -- the totals of so many queries, and of one more
-pub more_room : (place : ℕ) (t u : Totals) → place < 2 ^ 32 → AreAtMost (place * 2 ^ 64) t → AreAtMost (2 ^ 64) u → HaveRoom t u
+pub more_room : (place : ℕ) (t u : Totals) → place < 2 ^ 32 → IsSumAtMost (place * 2 ^ 64) t → IsSumAtMost (2 ^ 64) u → HaveRoom t u
 more_room place t u l h k =
     (omega (arith, l, h.0, k.0), omega (arith, l, h.1, k.1), omega (arith, l, h.2, k.2), omega (arith, l, h.3, k.3))
 
-pub at_most_more : (place : ℕ) (t u v : Totals) → v ≡ sum_of_both t u → AreAtMost (place * 2 ^ 64) t → AreAtMost (2 ^ 64) u → AreAtMost ((place + 1) * 2 ^ 64) v
+pub at_most_more : (place : ℕ) (t u v : Totals) → v ≡ sum_of_both t u → IsSumAtMost (place * 2 ^ 64) t → IsSumAtMost (2 ^ 64) u → IsSumAtMost ((place + 1) * 2 ^ 64) v
 at_most_more place t u v is h k =
     rw is (omega (arith, h.0, k.0), omega (arith, h.1, k.1), omega (arith, h.2, k.2), omega (arith, h.3, k.3))

@@ -30,5 +30,5 @@ HaveRoom t u =
     (t.answers + u.answers < 2 ^ 128) × (t.cut + u.cut < 2 ^ 128) × (t.stuck + u.stuck < 2 ^ 128) × (t.bytes + u.bytes < 2 ^ 128)
 
 -- so many of each at most
-abbrev pub AreAtMost : ℕ → Totals → Type 0
-AreAtMost n t = (t.answers ≤ n) × (t.cut ≤ n) × (t.stuck ≤ n) × (t.bytes ≤ n)
+abbrev pub IsSumAtMost : ℕ → Totals → Type 0
+IsSumAtMost n t = (t.answers ≤ n) × (t.cut ≤ n) × (t.stuck ≤ n) × (t.bytes ≤ n)

@@ -5,7 +5,7 @@ ghost use Rattle.ap_defs.specs.Goals.{NominalQuery};
 ghost use Rattle.ap_defs.specs.Printing.{has_word};
 ghost use Rattle.ap_answers.specs.Words.{knows};
 ghost use Rattle.ap_backchain.specs.Problems.{HasQuery, program_of_problem, queries_in};
-ghost use Rattle.ap_work.specs.Sums.{AreAtMost, totals_at};
+ghost use Rattle.ap_work.specs.Sums.{IsSumAtMost, totals_at};
 
 use crate::totals::Totals;
 use ap_answers::printing::lines_among;
@@ -34,7 +34,7 @@ pub(crate) fn query_totals<R: Threads + Wait + Sync, G: Gate>(
     ensures made { IfOk result (λ t. (q : NominalQuery) →
         slice_get (queries_in problem.now) (problem.now.query - 1) ≡ Some q →
         t ≡ totals_at (program_of_problem problem.now) problem.now.depth problem.now.query q) }
-    ensures few { IfOk result (λ t. AreAtMost (2 ^ 64) t) }
+    ensures few { IfOk result (λ t. IsSumAtMost (2 ^ 64) t) }
 {
     let outs = solve(rt, alloc, gate, workers, Limit::All, problem)?;
     let report = lines_among(

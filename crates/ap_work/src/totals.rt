@@ -2,7 +2,7 @@
 
 ghost use Rattle.std.specs.Prelude.{◌≡◌, ◌<◌, ◌^◌, [], length};
 ghost use Rattle.ap_defs.specs.Answers.{out_of, outs_of};
-ghost use Rattle.ap_work.specs.Sums.{AreAtMost, HaveRoom, output_totals, sum_of_both, with_out};
+ghost use Rattle.ap_work.specs.Sums.{IsSumAtMost, HaveRoom, output_totals, sum_of_both, with_out};
 
 use ap_defs::paths::Out;
 
@@ -35,7 +35,7 @@ impl Totals {
 
     /// Counts one more output.
     fn count(&mut self, out: &Out)
-        requires { AreAtMost (2 ^ 64) self.old }
+        requires { IsSumAtMost (2 ^ 64) self.old }
         ensures { self.new ≡ with_out self.old (out_of out.now) }
     {
         match out {
@@ -48,7 +48,7 @@ impl Totals {
     /// Those of outputs.
     fn of_outputs(outs: &[Out]) -> Totals
         ensures counts { result ≡ output_totals (outs_of outs.now) 0 }
-        ensures few { AreAtMost (length outs.now) result }
+        ensures few { IsSumAtMost (length outs.now) result }
     {
         let mut totals = Totals::none();
         for out in outs {
@@ -60,7 +60,7 @@ impl Totals {
     /// Those of a query with these outputs, whose report has so many bytes.
     pub(crate) fn of_query(outs: &[Out], bytes: usize) -> Totals
         ensures counts { result ≡ output_totals (outs_of outs.now) bytes }
-        ensures few { AreAtMost (2 ^ 64) result }
+        ensures few { IsSumAtMost (2 ^ 64) result }
     {
         let totals = Totals::of_outputs(outs);
         Totals {

@@ -4,7 +4,7 @@ ghost use Rattle.std.specs.Option.{option_map};
 ghost use Rattle.ap_bundle.specs.Readers as readers;
 ghost use Rattle.ap_bundle.specs.TableForms as spec;
 ghost use Rattle.ap_bundle_read.specs.Outcomes.{Gives, place_of};
-ghost use Rattle.ap_bundle_read.specs.Tables.{IsBehind, IsReadTable, at, entry_term, table_terms};
+ghost use Rattle.ap_bundle_read.specs.Tables.{IsBehind, IsReadTable, term_of_line, entry_term, table_terms};
 
 use crate::error::ReadError;
 use crate::line_forms::after_head;
@@ -21,8 +21,12 @@ use std::alloc::Global;
 /// The line of an earlier term.
 #[tactic(auto, unfolding(ap_bundle::specs::TableForms::earlier))]
 fn earlier(table: &Table, numbers: &mut Vec<u64>) -> Option<usize>
-    ensures value { option_map (λ i. (at (table_terms table.now) i, reverse numbers.new.items))
-        result ≡ spec.earlier (table_terms table.now) (reverse numbers.old.items) }
+    ensures value { option_map (λ i. (
+      term_of_line (table_terms table.now) i,
+      reverse
+          numbers.new.items,
+    )) result
+        ≡ spec.earlier (table_terms table.now) (reverse numbers.old.items) }
     ensures within { IfSome result (λ i. i < length (table_terms table.now)) }
 {
     let line = first_number(numbers)?;

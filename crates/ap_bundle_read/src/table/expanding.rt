@@ -1,9 +1,9 @@
 // The term of a line of the table, made in full without recursion.
 ghost use Rattle.std.specs.Prelude.{◌≡◌, ◌<◌, ◌++◌, ◌∷◌, length, reverse, IfOk, OnOk};
-ghost use Rattle.std.specs.Option.{option_map};
+ghost use Rattle.std.specs.Bool.{then_some};
 ghost use Rattle.ap_defs.specs.Terms.{term_of};
 ghost use Rattle.ap_bundle_read.specs.Stacks.{stacked};
-ghost use Rattle.ap_bundle_read.specs.Tables.{AreTasksWithin, IsReadTable, at, begun, layer_closed, made_by, ready, table_terms, weigh};
+ghost use Rattle.ap_bundle_read.specs.Tables.{AreTasksWithin, IsReadTable, term_of_line, begun, layer_closed, made_by, ready, table_terms, weigh_tasks};
 ghost use Rattle.ap_bundle_read.specs.declared.table.expanding.Task.TheVariants as tasks_of;
 
 use crate::table::{Entry, Table};
@@ -36,8 +36,8 @@ fn push_tasks(entry: &Entry, tasks: &mut Vec<Task>) -> Result<(), Memory>
         Entry::Unit | Entry::Name(_) | Entry::Susp(_, _) => {}
         Entry::Pair(left, right) => {
             tasks.push(Task::Close(Layer::Pair))?;
-            tasks.push(Task::Line(*right))?;
             tasks.push(Task::Line(*left))?;
+            tasks.push(Task::Line(*right))?;
         }
         Entry::App(constructor, part) => {
             tasks.push(Task::Close(Layer::App(*constructor)))?;
@@ -72,54 +72,52 @@ fn push_ready(alloc: Global, entry: &Entry, made: &mut Vec<Term>) -> Result<(), 
     Ok(())
 }
 
-/// A pair of the last two terms.
-fn close_pair(alloc: Global, made: Vec<Term>) -> Result<Option<Vec<Term>>, Memory>
-    ensures { IfOk result (λ r. option_map (λ v. stacked term_of v.items) r
-        ≡ layer_closed Layer.Pair (stacked term_of made.items)) }
+/// A pair of the last two terms, the left one last. What is made later stands behind what was made earlier in
+/// memory, and a term is looked at from its head, its left part before its right one: so the right one is made first.
+fn close_pair(alloc: Global, made: &mut Vec<Term>) -> Result<bool, Memory>
+    ensures { IfOk result (λ found. then_some found (stacked term_of made.new.items)
+        ≡ layer_closed Layer.Pair (stacked term_of made.old.items)) }
 {
-    let mut made = made;
-    let Some(right) = first_term(&mut made) else {
-        return Ok(None);
+    let Some(left) = first_term(made) else {
+        return Ok(false);
     };
-    let Some(left) = first_term(&mut made) else {
-        return Ok(None);
+    let Some(right) = first_term(made) else {
+        return Ok(false);
     };
-    let left = Box::new(alloc, left)?;
     let right = Box::new(alloc, right)?;
+    let left = Box::new(alloc, left)?;
     made.push(Term::Pair(left, right))?;
-    Ok(Some(made))
+    Ok(true)
 }
 
-fn close_app(alloc: Global, constructor: u32, made: Vec<Term>) -> Result<Option<Vec<Term>>, Memory>
-    ensures { IfOk result (λ r. option_map (λ v. stacked term_of v.items) r
-        ≡ layer_closed (Layer.App constructor) (stacked term_of made.items)) }
+fn close_app(alloc: Global, constructor: u32, made: &mut Vec<Term>) -> Result<bool, Memory>
+    ensures { IfOk result (λ found. then_some found (stacked term_of made.new.items)
+        ≡ layer_closed (Layer.App constructor) (stacked term_of made.old.items)) }
 {
-    let mut made = made;
-    let Some(part) = first_term(&mut made) else {
-        return Ok(None);
+    let Some(part) = first_term(made) else {
+        return Ok(false);
     };
     let part = Box::new(alloc, part)?;
     made.push(Term::App(constructor, part))?;
-    Ok(Some(made))
+    Ok(true)
 }
 
-fn close_abs(alloc: Global, name: Name, made: Vec<Term>) -> Result<Option<Vec<Term>>, Memory>
-    ensures { IfOk result (λ r. option_map (λ v. stacked term_of v.items) r
-        ≡ layer_closed (Layer.Abs name) (stacked term_of made.items)) }
+fn close_abs(alloc: Global, name: Name, made: &mut Vec<Term>) -> Result<bool, Memory>
+    ensures { IfOk result (λ found. then_some found (stacked term_of made.new.items)
+        ≡ layer_closed (Layer.Abs name) (stacked term_of made.old.items)) }
 {
-    let mut made = made;
-    let Some(part) = first_term(&mut made) else {
-        return Ok(None);
+    let Some(part) = first_term(made) else {
+        return Ok(false);
     };
     let part = Box::new(alloc, part)?;
     made.push(Term::Abs(name, part))?;
-    Ok(Some(made))
+    Ok(true)
 }
 
-/// A layer round the last terms that were made.
-fn close(alloc: Global, layer: Layer, made: Vec<Term>) -> Result<Option<Vec<Term>>, Memory>
-    ensures { IfOk result (λ r. option_map (λ v. stacked term_of v.items) r
-        ≡ layer_closed layer (stacked term_of made.items)) }
+/// A layer round the last terms that were made, where there are as many as it takes.
+fn close(alloc: Global, layer: Layer, made: &mut Vec<Term>) -> Result<bool, Memory>
+    ensures { IfOk result (λ found. then_some found (stacked term_of made.new.items)
+        ≡ layer_closed layer (stacked term_of made.old.items)) }
 {
     match layer {
         Layer::Pair => close_pair(alloc, made),
@@ -145,8 +143,8 @@ fn begin(
         (made_by (table_terms table.now) (reverse tasks.new.items) (stacked term_of made.new.items)
         ≡ made_by (table_terms table.now) (tasks_of.Line line ∷ reverse tasks.old.items)
         (stacked term_of made.old.items)) }
-    ensures lighter { OnOk result (weigh (table_terms table.now) (reverse tasks.new.items)
-        < weigh (table_terms table.now) (tasks_of.Line line ∷ reverse tasks.old.items)) }
+    ensures lighter { OnOk result (weigh_tasks (table_terms table.now) (reverse tasks.new.items)
+        < weigh_tasks (table_terms table.now) (tasks_of.Line line ∷ reverse tasks.old.items)) }
 {
     let entry = &table.lines[line].entry;
     push_tasks(entry, tasks)?;
@@ -157,7 +155,7 @@ fn begin(
 pub(crate) fn expanded(alloc: Global, table: &Table, line: usize) -> Result<Term, Memory>
     requires table { IsReadTable table.now }
     requires within { line < length (table_terms table.now) }
-    ensures { IfOk result (λ t. term_of t ≡ at (table_terms table.now) line) }
+    ensures { IfOk result (λ t. term_of t ≡ term_of_line (table_terms table.now) line) }
 {
     let mut made = Vec::new(alloc);
     let mut tasks = Vec::new(alloc);
@@ -165,10 +163,11 @@ pub(crate) fn expanded(alloc: Global, table: &Table, line: usize) -> Result<Term
     while let Some(task) = tasks.pop() {
         match task {
             Task::Line(next) => begin(alloc, table, next, &mut tasks, &mut made)?,
-            Task::Close(layer) => match close(alloc, layer, made)? {
-                Some(more) => made = more,
-                None => unreachable!(),
-            },
+            Task::Close(layer) => {
+                if !close(alloc, layer, &mut made)? {
+                    unreachable!();
+                }
+            }
         }
     }
     let Some(term) = made.pop() else {

@@ -7,7 +7,7 @@ ghost use Rattle.ap_defs.specs.Terms.{term_of};
 ghost use Rattle.ap_bundle.specs.Readers as readers;
 ghost use Rattle.ap_bundle.specs.TableForms as spec;
 ghost use Rattle.ap_bundle_read.specs.Outcomes.{Gives, place_of};
-ghost use Rattle.ap_bundle_read.specs.Tables.{AreReady, IsReadTable, at, reader_of, table_terms};
+ghost use Rattle.ap_bundle_read.specs.Tables.{AreReady, IsReadTable, term_of_line, reader_of, table_terms};
 
 use crate::error::ReadError;
 use crate::line_forms::{after_head, number, term_form};
@@ -29,7 +29,7 @@ pub(crate) enum Terms {
 /// `r I`
 #[tactic(auto, unfolding(ap_bundle::specs::TableForms::shared_form))]
 fn shared_form(table: &Table, words: &[Word]) -> Option<usize>
-    ensures value { option_map (at (table_terms table.now)) result
+    ensures value { option_map (term_of_line (table_terms table.now)) result
         ≡ spec.shared_form (table_terms table.now) words.now }
     ensures within { IfSome result (λ i. i < length (table_terms table.now)) }
 {
@@ -49,7 +49,7 @@ fn read_line_number<'a>(
     table: &Table,
     place: Place<'a>,
 ) -> Result<(usize, Place<'a>), ReadError>
-    ensures value { Gives (λ r. (at (table_terms table.now) r.0, place_of r.1)) result
+    ensures value { Gives (λ r. (term_of_line (table_terms table.now) r.0, place_of r.1)) result
         (readers.read_form BundleKind.Term (spec.shared_form (table_terms table.now))
         (place_of place.entry)) }
     ensures within { IfOk result (λ r. r.0 < length (table_terms table.now)) }

@@ -2,7 +2,7 @@
 ghost use Rattle.std.specs.Prelude.{IfOk};
 ghost use Rattle.ap_report.specs.declared.report.Report.{Report};
 ghost use Rattle.ap_bundle_check.specs.Reports.{IsCheckReport};
-ghost use Rattle.ap_top.specs.Report.{Input, IsOnly, IsReportOn};
+ghost use Rattle.ap_top.specs.Report.{Input, IsOnlyReport, IsReportOn};
 ghost use Rattle.ap_top.specs.Run.{IsRead};
 
 use crate::lines::line;
@@ -17,7 +17,7 @@ use std::alloc::Global;
 pub(crate) fn report<S: Source>(alloc: Global, source: &mut S) -> Result<Report, Memory>
     ensures { IfOk result (λ r. (input : Input)
         × IsRead (S.left source.old) (S.faults source.old) (S.faults source.new) input
-        × IsOnly (IsReportOn IsCheckReport input) r) }
+        × IsOnlyReport (IsReportOn IsCheckReport input) r) }
 {
     match read_whole(alloc, source) {
         Ok(bytes) => check_bytes(alloc, &bytes),

@@ -2,7 +2,7 @@
 ghost use Rattle.std.specs.Prelude.{IfOk};
 ghost use Rattle.ap_report.specs.declared.report.Report.{Report};
 ghost use Rattle.ap_bundle_convert.specs.Reports.{IsConvertReport};
-ghost use Rattle.ap_top.specs.Report.{Input, IsOnly, IsReportOn};
+ghost use Rattle.ap_top.specs.Report.{Input, IsOnlyReport, IsReportOn};
 ghost use Rattle.ap_top.specs.Run.{IsRead};
 
 use crate::lines::line;
@@ -22,7 +22,7 @@ pub(crate) fn report<S: Source>(
 ) -> Result<Report, Memory>
     ensures { IfOk result (λ r. (input : Input)
         × IsRead (S.left source.old) (S.faults source.old) (S.faults source.new) input
-        × IsOnly (IsReportOn (IsConvertReport to) input) r) }
+        × IsOnlyReport (IsReportOn (IsConvertReport to) input) r) }
 {
     match read_whole(alloc, source) {
         Ok(bytes) => convert_bytes(alloc, to, &bytes),

@@ -2,7 +2,7 @@
 ghost use Rattle.std.specs.Prelude.{IfOk};
 ghost use Rattle.ap_report.specs.declared.report.Report.{Report};
 ghost use Rattle.ap_uses.specs.Reports.{IsCountReport};
-ghost use Rattle.ap_top.specs.Report.{Input, IsOnly, IsReportOn};
+ghost use Rattle.ap_top.specs.Report.{Input, IsOnlyReport, IsReportOn};
 ghost use Rattle.ap_top.specs.Run.{IsRead};
 
 use crate::lines::line;
@@ -27,7 +27,7 @@ pub(crate) fn report<R: Threads + Wait + Sync, S: Source, G: Gate>(
 ) -> Result<Report, Memory>
     ensures { IfOk result (λ r. (input : Input)
         × IsRead (S.left source.old) (S.faults source.old) (S.faults source.new) input
-        × IsOnly (IsReportOn (IsCountReport depth) input) r) }
+        × IsOnlyReport (IsReportOn (IsCountReport depth) input) r) }
 {
     match read_whole(alloc, source) {
         Ok(text) => count_text(rt, alloc, gate, depth, workers, &text),

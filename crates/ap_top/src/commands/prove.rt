@@ -2,7 +2,7 @@
 ghost use Rattle.std.specs.Prelude.{IfOk};
 ghost use Rattle.ap_report.specs.declared.report.Report.{Report};
 ghost use Rattle.ap_bundle_prove.specs.Reports.{IsProveReport};
-ghost use Rattle.ap_top.specs.Report.{Input, IsOnly, IsReportOn};
+ghost use Rattle.ap_top.specs.Report.{Input, IsOnlyReport, IsReportOn};
 ghost use Rattle.ap_top.specs.Run.{IsRead};
 
 use crate::lines::line;
@@ -29,7 +29,7 @@ pub(crate) fn report<R: Threads + Wait + Sync, S: Source, G: Gate>(
 ) -> Result<Report, Memory>
     ensures { IfOk result (λ r. (input : Input)
         × IsRead (S.left source.old) (S.faults source.old) (S.faults source.new) input
-        × IsOnly (IsReportOn (IsProveReport depth limit) input) r) }
+        × IsOnlyReport (IsReportOn (IsProveReport depth limit) input) r) }
 {
     match read_whole(alloc, source) {
         Ok(text) => prove_text(rt, alloc, gate, depth, workers, limit, &text),

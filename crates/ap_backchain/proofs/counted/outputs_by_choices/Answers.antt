@@ -8,7 +8,7 @@ use Rattle.ap_backchain.specs.Ends.{kept_out}
 use Rattle.ap_backchain.specs.Machines.{position_of, track_of}
 use Rattle.ap_backchain.specs.ChoicePoints.{positions_pending}
 use Rattle.ap_backchain.specs.Positions.{outs_from, turned}
-use Rattle.ap_backchain.specs.Searches.{ended, followed, pending_of, positions_with}
+use Rattle.ap_backchain.specs.Searches.{ended_outs, positions_followed, pending_positions, positions_with}
 use Rattle.ap_backchain.specs.Wanted.{wanted_after}
 use Rattle.ap_backchain.proofs.CountLemmas.{too_many, turn_chooses}
 use Rattle.ap_backchain.proofs.SearchLemmas.{turn_keeps, turn_lessens}
@@ -20,7 +20,7 @@ pub returns-in_default-clause-many : goal.returns-in_default-clause-many
 returns-in_default-clause-many c =
     λ none.
     let p = position_of c.searching.machine in
-    let ps = pending_of c.searching.machine c.searching.points in
+    let ps = pending_positions c.searching.machine c.searching.points in
     let more = too_many (program_in c.args.clauses.now) (locals_of c.args.locals.now) p ps (c.in_default.ensures.none refl).1 in
     let nothing = (c.in_default.ensures.none refl).0 in
     let count = c.searching.invariant.count in
@@ -32,9 +32,9 @@ returns-then-not-branch-clause-outs c =
     let locals = locals_of c.args.locals.now in
     let kept = kept_out c.args.paths in
     let p = position_of c.searching.machine in
-    let ps = pending_of c.searching.machine c.searching.points in
+    let ps = pending_positions c.searching.machine c.searching.points in
     let all = map kept (outs_from program locals (position_of c.args.first)) in
-    let left : [] ≡ followed (turned program locals p) ps =
+    let left : [] ≡ positions_followed (turned program locals p) ps =
     sym (ap (λ qs. positions_pending (track_of c.go_on.new.machine) (reverse qs)) (c.in_ok-go_on.ensures.none c.if-not-branch.true))
     ∙ ap (λ b. positions_with b c.go_on.new.machine c.go_on.new.points) (sym c.if-not-branch.true)
     ∙ c.in_ok-go_on.ensures.left in
@@ -47,8 +47,8 @@ returns-then-not-branch-clause-few c =
     let program = program_in c.args.clauses.now in
     let locals = locals_of c.args.locals.now in
     let p = position_of c.searching.machine in
-    let ps = pending_of c.searching.machine c.searching.points in
-    let left : [] ≡ followed (turned program locals p) ps =
+    let ps = pending_positions c.searching.machine c.searching.points in
+    let left : [] ≡ positions_followed (turned program locals p) ps =
     sym (ap (λ qs. positions_pending (track_of c.go_on.new.machine) (reverse qs)) (c.in_ok-go_on.ensures.none c.if-not-branch.true))
     ∙ ap (λ b. positions_with b c.go_on.new.machine c.go_on.new.points) (sym c.if-not-branch.true)
     ∙ c.in_ok-go_on.ensures.left in
@@ -59,7 +59,7 @@ returns-then-not-branch-clause-few c =
 
 pub searching-smaller : goal.searching-smaller
 searching-smaller c =
-    turn_lessens (program_in c.args.clauses.now) (locals_of c.args.locals.now) (kept_out c.args.paths) (position_of c.searching.machine) (pending_of c.searching.machine c.searching.points)
+    turn_lessens (program_in c.args.clauses.now) (locals_of c.args.locals.now) (kept_out c.args.paths) (position_of c.searching.machine) (pending_positions c.searching.machine c.searching.points)
     (positions_with true c.go_on.new.machine c.go_on.new.points)
     (ap (λ b. positions_with b c.go_on.new.machine c.go_on.new.points) (sym c.if-not-branch.false) ∙ c.in_ok-go_on.ensures.left)
 
@@ -69,14 +69,14 @@ searching-preserved c =
     let locals = locals_of c.args.locals.now in
     let kept = kept_out c.args.paths in
     let p = position_of c.searching.machine in
-    let ps = pending_of c.searching.machine c.searching.points in
+    let ps = pending_positions c.searching.machine c.searching.points in
     let qs = positions_with true c.go_on.new.machine c.go_on.new.points in
-    let left : qs ≡ followed (turned program locals p) ps =
+    let left : qs ≡ positions_followed (turned program locals p) ps =
     ap (λ b. positions_with b c.go_on.new.machine c.go_on.new.points) (sym c.if-not-branch.false) ∙ c.in_ok-go_on.ensures.left in
     record {
       all = turn_keeps program locals kept limits.All limits.All p ps qs (outs_of c.searching.outs.items) (outs_of c.go_on.new.outs.items)
           (map kept (outs_from program locals (position_of c.args.first))) tt left refl c.in_ok-go_on.ensures.outs c.searching.invariant.all;
       points = c.in_ok-go_on.ensures.points;
-      wanted = c.in_ok-go_on.ensures.wanted ∙ ap (λ l. wanted_after l (ended (turned program locals p))) c.searching.invariant.wanted;
+      wanted = c.in_ok-go_on.ensures.wanted ∙ ap (λ l. wanted_after l (ended_outs (turned program locals p))) c.searching.invariant.wanted;
       count = (let made = turn_chooses program locals p ps qs left in let fewer = c.in-Some.ensures.some in let count = c.searching.invariant.count in omega (arith, made, fewer, count));
     }

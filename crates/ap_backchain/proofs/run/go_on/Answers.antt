@@ -6,7 +6,7 @@ use Rattle.ap_defs.specs.Types.{locals_of}
 use Rattle.ap_defs.specs.declared.paths.Out.{Out}
 use Rattle.ap_backchain.specs.Machines.{position_of}
 use Rattle.ap_backchain.specs.Positions.{Position, turned}
-use Rattle.ap_backchain.specs.Searches.{ended, positions_with}
+use Rattle.ap_backchain.specs.Searches.{ended_outs, positions_with}
 use Rattle.ap_backchain.specs.Wanted.{wanted_after}
 use Rattle.ap_backchain.proofs.RunLemmas.{on_ok}
 use Rattle.ap_backchain.proofs.WantedLemmas.{rest_taken, wanted_since}
@@ -31,7 +31,7 @@ returns-then-goes-clause-wanted c =
     ∙ ap (λ (xs : List Out). wanted_after c.args.wanted.now (outs_of xs)) (rest_taken c.len-before.result c.deref.result.now)
     ∙ ap₂ (λ (n : ℕ) (xs : List Out). wanted_after c.args.wanted.now (outs_of (drop n xs))) before c.deref.ensures.value
     ∙ wanted_since c.args.wanted.now c.args.paths c.args.outs.now.items c.turn_on.new.outs.items
-    (ended (turned (program_in c.args.clauses.now) (locals_of c.args.locals.now) (position_of c.args.machine.now))) c.in_ok-goes.ensures.outs
+    (ended_outs (turned (program_in c.args.clauses.now) (locals_of c.args.locals.now) (position_of c.args.machine.now))) c.in_ok-goes.ensures.outs
 
 pub returns-else-goes-clause-wanted : goal.returns-else-goes-clause-wanted
 returns-else-goes-clause-wanted c =
@@ -41,4 +41,4 @@ returns-else-goes-clause-wanted c =
     ∙ ap (λ (xs : List Out). wanted_after c.args.wanted.now (outs_of xs)) (rest_taken c.len-before.result c.deref.result.now)
     ∙ ap₂ (λ (n : ℕ) (xs : List Out). wanted_after c.args.wanted.now (outs_of (drop n xs))) before c.deref.ensures.value
     ∙ wanted_since c.args.wanted.now c.args.paths c.args.outs.now.items c.turn_on.new.outs.items
-    (ended (turned (program_in c.args.clauses.now) (locals_of c.args.locals.now) (position_of c.args.machine.now))) c.in_ok-goes.ensures.outs)
+    (ended_outs (turned (program_in c.args.clauses.now) (locals_of c.args.locals.now) (position_of c.args.machine.now))) c.in_ok-goes.ensures.outs)

@@ -8,7 +8,7 @@ use Rattle.ap_backchain.specs.Ends.{kept_out}
 use Rattle.ap_backchain.specs.Machines.{position_of, track_of}
 use Rattle.ap_backchain.specs.ChoicePoints.{positions_pending}
 use Rattle.ap_backchain.specs.Positions.{outs_from, outs_from_each, turned}
-use Rattle.ap_backchain.specs.Searches.{followed, pending_of, positions_with}
+use Rattle.ap_backchain.specs.Searches.{positions_followed, pending_positions, positions_with}
 use Rattle.ap_backchain.proofs.SearchLemmas.{turn_keeps}
 use Rattle.ap_backchain.proofs.WantedLemmas.{nothing_left, nothing_wanted}
 use Rattle.ap_backchain.proofs.run.outputs_soon.Goals as goal
@@ -19,9 +19,9 @@ returns-then-not-branch c =
     let locals = locals_of c.args.locals.now in
     let kept = kept_out c.args.paths in
     let p = position_of c.searching.machine in
-    let ps = pending_of c.searching.machine c.searching.points in
+    let ps = pending_positions c.searching.machine c.searching.points in
     let all = map kept (part c.args.limit (outs_from program locals (position_of c.args.first))) in
-    let left : [] ≡ followed (turned program locals p) ps =
+    let left : [] ≡ positions_followed (turned program locals p) ps =
     sym (ap (λ qs. positions_pending (track_of c.go_on.new.machine) (reverse qs)) (c.in_ok-go_on.ensures.none c.if-not-branch.true))
     ∙ ap (λ b. positions_with b c.go_on.new.machine c.go_on.new.points) (sym c.if-not-branch.true)
     ∙ c.in_ok-go_on.ensures.left in
@@ -35,7 +35,7 @@ searching-preserved c =
     let locals = locals_of c.args.locals.now in
     let kept = kept_out c.args.paths in
     record {
-      all = turn_keeps program locals kept c.searching.wanted c.go_on.new.wanted (position_of c.searching.machine) (pending_of c.searching.machine c.searching.points)
+      all = turn_keeps program locals kept c.searching.wanted c.go_on.new.wanted (position_of c.searching.machine) (pending_positions c.searching.machine c.searching.points)
           (positions_with true c.go_on.new.machine c.go_on.new.points)
           (outs_of c.searching.outs.items) (outs_of c.go_on.new.outs.items) (map kept (part c.args.limit (outs_from program locals (position_of c.args.first))))
           (c.is_wanting.ensures.yes c.if-not-is_wanting.false)

@@ -5,7 +5,7 @@ use Rattle.ap_defs.specs.Types.{locals_of}
 use Rattle.ap_search.specs.Marks.{NominalMark, mark_path}
 use Rattle.ap_search.specs.Prefixes.{beginning}
 use Rattle.ap_backchain.specs.Branches.{marks_of_standing, path_of_standing}
-use Rattle.ap_backchain.specs.Marks.{IsAmong, choice_of, marks_from}
+use Rattle.ap_backchain.specs.Marks.{IsAmongWays, choice_of, marks_from}
 use Rattle.ap_backchain.specs.Positions.{Position}
 use Rattle.ap_backchain.proofs.step.choose.Goals as goal
 
@@ -18,7 +18,7 @@ choose_by-requires-clause-choice c =
     let choosing = rw c.in-Choosing.is at c.requires.choosing in
     let choice = rw c.in-Choosing.is at c.requires.choice in
     let e = sym choosing ∙ ap (λ (p : Position). choice_of program p.waiting) c.in-Some.ensures.some.0 in
-    subst (λ (o : Option ℕ). IsAmong c.args.choice o) e choice
+    subst (λ (o : Option ℕ). IsAmongWays c.args.choice o) e choice
 
 pub returns-clause-marks : goal.returns-clause-marks
 returns-clause-marks c =

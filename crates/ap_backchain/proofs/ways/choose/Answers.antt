@@ -7,7 +7,7 @@ use Rattle.std.specs.Prelude.{List}
 use Rattle.ap_backchain.specs.Marks.{choice_of}
 use Rattle.ap_backchain.specs.Machines.{position_of}
 use Rattle.ap_backchain.specs.Positions.{Position, turned, turned_goal}
-use Rattle.ap_backchain.specs.Searches.{followed, pending_of, positions_with}
+use Rattle.ap_backchain.specs.Searches.{positions_followed, pending_positions, positions_with}
 use Rattle.ap_backchain.proofs.RunLemmas.{pending_same, points_same}
 use Rattle.ap_backchain.proofs.ways.choose.Goals as goal
 
@@ -26,9 +26,9 @@ returns-clause-left c =
     let program = program_in c.args.clauses.now in let f = c.in-Some.frame in
     let b = c.args.machine.now in let d = c.pop_goal.new.self in let us = c.args.points.now in
     let q = turned_goal program f.depth (rename_goal f.base (goal_of f.goal.now)) (position_of d) in
-    IfOk-weaker c.choose_by.result (λ x. positions_with x c.choose_by.new.machine c.choose_by.new.points ≡ followed q (pending_of d us))
-    (λ x. (locals : List NominalLocal) → positions_with x c.choose_by.new.machine c.choose_by.new.points ≡ followed (turned program locals (position_of b)) (pending_of b us))
+    IfOk-weaker c.choose_by.result (λ x. positions_with x c.choose_by.new.machine c.choose_by.new.points ≡ positions_followed q (pending_positions d us))
+    (λ x. (locals : List NominalLocal) → positions_with x c.choose_by.new.machine c.choose_by.new.points ≡ positions_followed (turned program locals (position_of b)) (pending_positions b us))
     (λ x h locals.
-    h ∙ ap (followed q) (pending_same b d us c.pop_goal.ensures.track)
-    ∙ ap (λ (p : Position). followed (turned program locals p) (pending_of b us)) (sym c.in-Some.ensures.some.0))
+    h ∙ ap (positions_followed q) (pending_same b d us c.pop_goal.ensures.track)
+    ∙ ap (λ (p : Position). positions_followed (turned program locals p) (pending_positions b us)) (sym c.in-Some.ensures.some.0))
     c.choose_by.ensures.left

@@ -4,8 +4,8 @@ use Rattle.ap_defs.specs.Goals.{NominalClause, clause_of, either, goal_of, progr
 use Rattle.ap_defs.specs.Renaming.{rename_goal, rename_term}
 use Rattle.ap_defs.specs.Terms.{term_of}
 use Rattle.ap_backchain.specs.Machines.{position_of}
-use Rattle.ap_backchain.specs.Positions.{Position, by_clauses, turned_goal}
-use Rattle.ap_backchain.specs.Searches.{followed, pending_of, positions_with}
+use Rattle.ap_backchain.specs.Positions.{Position, positions_by_clauses, turned_goal}
+use Rattle.ap_backchain.specs.Searches.{positions_followed, pending_positions, positions_with}
 use Rattle.ap_backchain.proofs.RunLemmas.{atom_goes, deep_atom}
 use Rattle.ap_backchain.proofs.ways.choose_by.Goals as goal
 
@@ -32,29 +32,29 @@ take_left-requires-clause-right c =
 pub returns-in-None-clause-left : goal.returns-in-None-clause-left
 returns-in-None-clause-left c =
     let program = program_in c.args.clauses.now in let d = c.args.frame.depth in let p = position_of c.args.machine.now in
-    let ps = pending_of c.args.machine.now c.args.points.now in
+    let ps = pending_positions c.args.machine.now c.args.points.now in
     let ts = map (rename_term c.args.frame.base) (map term_of c.in-Atom.args) in
     let choosing = rw c.in-Atom.is at c.requires.choosing in
     rw c.in-Atom.is
-    (ap (λ (cs : List NominalClause). by_clauses (d - 1) ts p 1 cs ++ ps) c.in-None.ensures.clauses
-    ∙ ap (λ t. followed t ps) (atom_goes program d c.in-Atom.pred ts p choosing.0 choosing.1))
+    (ap (λ (cs : List NominalClause). positions_by_clauses (d - 1) ts p 1 cs ++ ps) c.in-None.ensures.clauses
+    ∙ ap (λ t. positions_followed t ps) (atom_goes program d c.in-Atom.pred ts p choosing.0 choosing.1))
 
 pub returns-in-Some-clause-left : goal.returns-in-Some-clause-left
 returns-in-Some-clause-left c =
     let program = program_in c.args.clauses.now in let d = c.args.frame.depth in let p = position_of c.args.machine.now in
-    let ps = pending_of c.args.machine.now c.args.points.now in
+    let ps = pending_positions c.args.machine.now c.args.points.now in
     let ts = map (rename_term c.args.frame.base) (map term_of c.in-Atom.args) in
     let choosing = rw c.in-Atom.is at c.requires.choosing in
     let e =
-    ap (λ us. by_clauses (d - 1) (map (rename_term c.args.frame.base) (map term_of us)) p 1 (map clause_of c.in-Some.candidates.now) ++ ps) c.items.ensures
-    ∙ ap (λ (cs : List NominalClause). by_clauses (d - 1) ts p 1 cs ++ ps) c.in-Some.ensures.clauses
-    ∙ ap (λ t. followed t ps) (atom_goes program d c.in-Atom.pred ts p choosing.0 choosing.1) in
+    ap (λ us. positions_by_clauses (d - 1) (map (rename_term c.args.frame.base) (map term_of us)) p 1 (map clause_of c.in-Some.candidates.now) ++ ps) c.items.ensures
+    ∙ ap (λ (cs : List NominalClause). positions_by_clauses (d - 1) ts p 1 cs ++ ps) c.in-Some.ensures.clauses
+    ∙ ap (λ t. positions_followed t ps) (atom_goes program d c.in-Atom.pred ts p choosing.0 choosing.1) in
     rw c.in-Atom.is (subst (λ (qs : List Position). IfOk c.try_clauses.result (λ b. positions_with b c.try_clauses.new.machine c.try_clauses.new.points ≡ qs)) e c.try_clauses.ensures.left)
 
 pub returns-in_ok-take_left-in-Either-clause-left : goal.returns-in_ok-take_left-in-Either-clause-left
 returns-in_ok-take_left-in-Either-clause-left c =
-    let p = position_of c.args.machine.now in let ps = pending_of c.args.machine.now c.args.points.now in
+    let p = position_of c.args.machine.now in let ps = pending_positions c.args.machine.now c.args.points.now in
     rw c.in-Either.is
     (c.in_ok-take_left-in-Either.ensures.left
-    ∙ ap₂ (λ g h. followed (turned_goal (program_in c.args.clauses.now) c.args.frame.depth (either (rename_goal c.args.frame.base (goal_of g)) (rename_goal c.args.frame.base (goal_of h))) p) ps)
+    ∙ ap₂ (λ g h. positions_followed (turned_goal (program_in c.args.clauses.now) c.args.frame.depth (either (rename_goal c.args.frame.base (goal_of g)) (rename_goal c.args.frame.base (goal_of h))) p) ps)
     c.deref.ensures c.deref-in-Either.ensures)

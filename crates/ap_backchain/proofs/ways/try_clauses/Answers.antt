@@ -7,7 +7,7 @@ use Rattle.ap_defs.specs.declared.terms.Term.{Term}
 use Rattle.ap_backchain.specs.Machines.{position_if, position_of, track_of}
 use Rattle.ap_backchain.specs.ChoicePoints.{positions_left}
 use Rattle.ap_backchain.specs.Positions.{Position, enters_clause}
-use Rattle.ap_backchain.specs.Searches.{pending_of}
+use Rattle.ap_backchain.specs.Searches.{pending_positions}
 use Rattle.ap_backchain.specs.Tracks.{GoesFrom, Track}
 use Rattle.ap_backchain.specs.declared.points.ChoicePoint.{ChoicePoint}
 use Rattle.ap_backchain.specs.declared.points.Rest.TheVariants as rests
@@ -77,14 +77,14 @@ returns-then-branch-clause-left c =
     ∙ ap (λ (q : Position). enters_clause u.depth (map (rename_term u.base) (map term_of u.args.now)) q (i + 1) (clause_of c.index-clauses-i.result)) before.position in
     let after : positions_left (rests.Clauses (record u { tried = n })) (position_of b) ≡ others =
     sym (left_skipped b u c.key_of_atom-key.result c.key_of_atom-key.ensures (i + 1) n c.next-next.ensures) in
-    let rest : pending_of d vs ≡ others ++ pending_of b us =
+    let rest : pending_positions d vs ≡ others ++ pending_positions b us =
     pending_rest c.save-save.result b d c.save-save.ensures.within c.save-save.ensures.track c.save-save.ensures.position (goes c) u n us vs
     (λ k. c.in_ok-keep_rest.ensures.kept k ∙ ap (λ (ps : List ChoicePoint). ps ++ record { save = c.save-save.result; rest = rests.Clauses (record u { tried = n }) } ∷ []) before.points)
     (λ k. c.in_ok-keep_rest.ensures.none k ∙ before.points) c.requires.points
-    ∙ ap (λ (ps : List Position). ps ++ pending_of b us) after in
+    ∙ ap (λ (ps : List Position). ps ++ pending_positions b us) after in
     ap (λ (ps : List Position). position_of d ∷ ps) rest
-    ∙ ap (λ (ps : List Position). (ps ++ others) ++ pending_of b us) one
-    ∙ ap (λ (ps : List Position). ps ++ pending_of b us) (sym (before.left ∙ clause_left u i c.index-clauses-i.result (position_of b) h is))
+    ∙ ap (λ (ps : List Position). (ps ++ others) ++ pending_positions b us) one
+    ∙ ap (λ (ps : List Position). ps ++ pending_positions b us) (sym (before.left ∙ clause_left u i c.index-clauses-i.result (position_of b) h is))
 
 pub returns-then-branch-clause-points : goal.returns-then-branch-clause-points
 returns-then-branch-clause-points c =
@@ -100,7 +100,7 @@ returns-clause-left c =
     let n : length c.clauses-clauses.result.now ≡ length u.clauses.now = ap (λ (cs : List (Clause Term)). length cs) c.clauses-clauses.ensures in
     let l : length u.clauses.now ≤ i = omega (arith, n) in
     pending_goes b d c.args.points.now c.trying.points before.points c.requires.points (goes_same (track_of b) (track_of d) before.track)
-    ∙ ap (λ (ps : List Position). ps ++ pending_of b c.args.points.now) (sym (before.left ∙ no_clause_left u i (position_of b) l))
+    ∙ ap (λ (ps : List Position). ps ++ pending_positions b c.args.points.now) (sym (before.left ∙ no_clause_left u i (position_of b) l))
 
 pub returns-clause-points : goal.returns-clause-points
 returns-clause-points c =

@@ -2,7 +2,7 @@
 use Rattle.std.proofs.Common.{length}
 use Rattle.ap_defs.specs.Derivations.{derivation_of, terms_in}
 use Rattle.ap_bundle.specs.Nodes.{preorder}
-use Rattle.ap_bundle_write.specs.Tables.{IsWrittenTable, held}
+use Rattle.ap_bundle_write.specs.Tables.{IsWrittenTable, held_terms}
 use Rattle.ap_bundle_write.proofs.Stacks.{later, seen}
 use Rattle.ap_bundle_write.proofs.NodeTexts.{node_texts}
 use Rattle.ap_bundle_write.proofs.WritingLemmas.{Writing}
@@ -11,7 +11,7 @@ use Rattle.ap_bundle_write.proofs.derivations.write_derivation.Given as goal
 abbrev pub invariant-loop-next : goal.invariant-loop-next
 invariant-loop-next l = record {
   table : IsWrittenTable l.table;
-  text : Writing l.version (held l.fn.table) (held l.table) l.fn.out.items l.out.items (terms_in (derivation_of l.derivation)) (later terms_in (seen derivation_of l.pending.items))
+  text : Writing l.version (held_terms l.fn.table) (held_terms l.table) l.fn.out.items l.out.items (terms_in (derivation_of l.derivation)) (later terms_in (seen derivation_of l.pending.items))
       (λ way. node_texts way (derivation_of l.derivation)) (λ way. later (node_texts way) (seen derivation_of l.pending.items));
 }
 

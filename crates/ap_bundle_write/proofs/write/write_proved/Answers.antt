@@ -5,16 +5,16 @@ use Rattle.ap_defs.specs.Derivations.{derivation_of, terms_in}
 use Rattle.ap_bundle.specs.declared.words.Head.TheVariants as head
 use Rattle.ap_bundle.specs.Nodes.{preorder}
 use Rattle.ap_bundle.specs.Written.{counted_line, answer_lines, node_lines}
-use Rattle.ap_bundle_write.specs.Tables.{held}
+use Rattle.ap_bundle_write.specs.Tables.{held_terms}
 use Rattle.ap_bundle_write.proofs.WritingLemmas.{plain, follows}
 use Rattle.ap_bundle_write.proofs.write.write_proved.Goals as goal
 
 pub returns-clause-text : goal.returns-clause-text
 returns-clause-text c =
     let v = c.args.version in
-    let old = held c.args.table.now in
-    let mid = held c.write_answer.new.table in
-    let new = held c.write_derivation.new.table in
+    let old = held_terms c.args.table.now in
+    let mid = held_terms c.write_answer.new.table in
+    let new = held_terms c.write_derivation.new.table in
     let out = c.args.out.now.items in
     let p = c.args.proved.now in
     let a = answer_of p.answer in

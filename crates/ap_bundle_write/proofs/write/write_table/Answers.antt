@@ -3,13 +3,13 @@ use Rattle.std.proofs.lemmas.Result.{on_ok_weaker}
 use Rattle.ap_bundle.specs.declared.words.Head.TheVariants as head
 use Rattle.ap_bundle.specs.Tables.{entry_words}
 use Rattle.ap_bundle.specs.Written.{head_line, entry_line, counted_line}
-use Rattle.ap_bundle_write.specs.Tables.{held}
+use Rattle.ap_bundle_write.specs.Tables.{held_terms}
 use Rattle.ap_bundle_write.proofs.WritingLemmas.{entries_text, mapped}
 use Rattle.ap_bundle_write.proofs.write.write_table.Goals as goal
 
 pub returns : goal.returns
 returns c =
-    let table = held c.args.table.now in
+    let table = held_terms c.args.table.now in
     let out = c.args.out.now.items in
     let same = c.lines-lines.ensures ∙ c.requires.lines in
     let long : length c.lines-lines.result.now ≡ length table = sym (mapped (λ v. v.items) c.lines-lines.result.now) ∙ ap length same ∙ mapped (entry_words table) table in

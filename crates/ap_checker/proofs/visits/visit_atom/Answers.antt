@@ -11,7 +11,7 @@ use Rattle.ap_defs.specs.Types.{locals_of}
 use Rattle.ap_checks.specs.Checks.{first_refusal, refusal}
 use Rattle.ap_checks.specs.OpenEnvironments.{open_environment, put_in}
 use Rattle.ap_checker.specs.declared.scope.Standing.TheVariants as code
-use Rattle.ap_checker.specs.Rules.{refused}
+use Rattle.ap_checker.specs.Rules.{node_refused}
 use Rattle.ap_checker.specs.Scopes.{environment_of}
 use Rattle.ap_checker.proofs.WalkLemmas.{atom_by, goes_brought}
 use Rattle.ap_checker.proofs.visits.visit_atom.Goals as goal
@@ -27,7 +27,7 @@ returns-in-Some-2 c = λ kinds n.
     let e = environment_of c.args.walk.now.standing.items in
     let v : vs ≡ map (put_in e) us = ap (λ ss. map (put_in (environment_of ss)) us) c.deref.ensures.value in
     atom_by p a kinds n used.number c.args.pred used.names.now ts us vs (derivation_of used.body.now) e (clause_of c.in-Some.clause.now) (Some c.in-Some-2.rule) c.in-Some.ensures v
-    (λ rest. c.in_ok-rule.ensures n rest ∙ ap (λ r. first_refusal (refused n r) rest) c.in-Some-2.is)
+    (λ rest. c.in_ok-rule.ensures n rest ∙ ap (λ r. first_refusal (node_refused n r) rest) c.in-Some-2.is)
 
 pub returns : goal.returns
 returns c = λ kinds.
@@ -45,6 +45,6 @@ returns c = λ kinds.
     _ (code.Clause c.in_ok-own.own used.names used.terms) c.bring.new.self c.requires c.in_ok-bring.ensures.standing c.bring.ensures.pending c.put.ensures.standing c.in_ok-put.ensures.pending
     (λ n.
     atom_by p a kinds n used.number c.args.pred used.names.now ts us vs (derivation_of used.body.now) e (clause_of clause) None c.in-Some.ensures v
-    (λ rest. c.in_ok-rule.ensures n rest ∙ ap (λ r. first_refusal (refused n r) rest) c.in_default-2.is)
+    (λ rest. c.in_ok-rule.ensures n rest ∙ ap (λ r. first_refusal (node_refused n r) rest) c.in_default-2.is)
     ∙ ap (λ (ls : List Local). refusal p a (kinds_of (locals_of ls)) (suc n) (derivation_of used.body.now) (goal_of clause.body) (open_environment (locals_of ls) used.names.now ts)) (sym c.items-locals.ensures)
     ∙ ap (λ (ls : List Local). refusal p a (kinds_of (locals_of c.items-locals.result.now)) (suc n) (derivation_of used.body.now) (goal_of clause.body) (open_environment (locals_of ls) used.names.now ts)) (sym c.in_ok-own.ensures)) refl

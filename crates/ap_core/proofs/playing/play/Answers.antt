@@ -3,8 +3,8 @@ use Rattle.std.specs.Prelude.{slice_get}
 use Rattle.std.proofs.lemmas.List.{with_items_is, take_more}
 use Rattle.ap_core.specs.declared.events.Event.{Event}
 use Rattle.ap_core.specs.declared.workers.Worker.{Worker}
-use Rattle.ap_core.specs.States.{start}
-use Rattle.ap_core.specs.Steps.{IsStep, AreSteps, IsRefused}
+use Rattle.ap_core.specs.States.{start_state}
+use Rattle.ap_core.specs.Steps.{IsStep, AreSteps, IsNotPermitted}
 use Rattle.ap_core.specs.Stages.{hands_of, state_of, past_of, Answered}
 use Rattle.ap_core.proofs.Places.{split_at}
 use Rattle.ap_core.proofs.Stepping.{steps_more}
@@ -33,7 +33,7 @@ returns-then-not-permitted g c =
       state_of c.loop-event.team.items past,
       split_at es i e c.loop-event-test.true ∙ ap (λ x. take i es ++ x ∷ drop (i + 1) es) (sym c.event-item.is),
       c.loop-event.invariant,
-      subst (λ (ws : List Worker). IsRefused (g.T.Tree.choices t) (g.T.Tree.at t) (state_of ws past) e) c.as_mut_slice.ensures.value refused,
+      subst (λ (ws : List Worker). IsNotPermitted (g.T.Tree.choices t) (g.T.Tree.at t) (state_of ws past) e) c.as_mut_slice.ensures.value refused,
     )
 
 pub loop-event-preserved : goal.loop-event-preserved
@@ -46,8 +46,8 @@ loop-event-preserved g c =
     let next = state_of c.take.new.workers (past_of c.take.new.endings c.take.new.skipped.items) in
     let taken = subst (λ (b : Bool). Answered (IsStep (g.T.Tree.choices t) (g.T.Tree.at t) (state_of c.as_mut_slice.result.now past) e) b next) c.if-not-permitted.false c.in_ok-permitted.ensures in
     let step = subst (λ (ws : List Worker). IsStep (g.T.Tree.choices t) (g.T.Tree.at t) (state_of ws past) e next) c.as_mut_slice.ensures.value taken in
-    let steps = subst (λ (l : List Event). AreSteps (g.T.Tree.choices t) (g.T.Tree.at t) (start c.args.workers) l next) (ap (λ x. take i es ++ x ∷ []) c.event-item.is ∙ sym (take_more es i e c.loop-event-test.true))
-    (steps_more (g.T.Tree.choices t) (g.T.Tree.at t) (start c.args.workers) (take i es) (state_of c.loop-event.team.items past) e next c.loop-event.invariant step) in
+    let steps = subst (λ (l : List Event). AreSteps (g.T.Tree.choices t) (g.T.Tree.at t) (start_state c.args.workers) l next) (ap (λ x. take i es ++ x ∷ []) c.event-item.is ∙ sym (take_more es i e c.loop-event-test.true))
+    (steps_more (g.T.Tree.choices t) (g.T.Tree.at t) (start_state c.args.workers) (take i es) (state_of c.loop-event.team.items past) e next c.loop-event.invariant step) in
     let long : length c.take.new.workers ≡ c.loop-event.team.len = (let a = c.take.auto.workers in let b = c.as_mut_slice.ensures.len in omega arith) in
     let kept = with_items_is c.loop-event.team c.take.new.workers long in
-    subst (λ (ws : List Worker). AreSteps (g.T.Tree.choices t) (g.T.Tree.at t) (start c.args.workers) (take (i + 1) es) (state_of ws (past_of c.take.new.endings c.take.new.skipped.items))) (sym kept) steps
+    subst (λ (ws : List Worker). AreSteps (g.T.Tree.choices t) (g.T.Tree.at t) (start_state c.args.workers) (take (i + 1) es) (state_of ws (past_of c.take.new.endings c.take.new.skipped.items))) (sym kept) steps

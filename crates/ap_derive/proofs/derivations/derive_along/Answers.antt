@@ -10,7 +10,7 @@ use Rattle.ap_backchain.specs.Machines.{position_of}
 use Rattle.ap_backchain.specs.Problems.{clauses_in, queries_in}
 use Rattle.ap_checks.specs.Checks.{Checks}
 use Rattle.ap_checks.specs.Traces.{Traced, traced_query}
-use Rattle.ap_derive.specs.Nodes.{node_of, nodes_before}
+use Rattle.ap_derive.specs.Nodes.{selected_node, nodes_before}
 use Rattle.ap_derive.specs.Solved.{rest_of}
 use Rattle.ap_derive.proofs.DerivedLemmas.{answer_derived, derived_checks, path_derivation, path_nodes, path_solved, same_some, typed_at}
 use Rattle.ap_derive.proofs.derivations.derive_along.Goals as goal
@@ -39,10 +39,10 @@ assemble-requires c =
     let to = position_of c.select_along.new.machine in (
       l.traced.derivation,
       path_nodes (clauses_in p) p.depth q c.args.path.now l (program_in c.predicates-clauses.result.now) (position_of c.in_ok-machine.machine) same_program c.in_ok-machine.ensures
-          to.state (map node_of c.in_ok-nodes.nodes.items) (rest_of c.args.path.now to) c.in_ok-nodes.ensures,
+          to.state (map selected_node c.in_ok-nodes.nodes.items) (rest_of c.args.path.now to) c.in_ok-nodes.ensures,
     )
 
-derived : (c : After-drop-machine-7) → (d : Derivation) → ((e : NominalDerivation) → map node_of c.in_ok-nodes.nodes.items ≡ nodes_before e [] → derivation_of d ≡ derivation_in (position_of c.select_along.new.machine).state e)
+derived : (c : After-drop-machine-7) → (d : Derivation) → ((e : NominalDerivation) → map selected_node c.in_ok-nodes.nodes.items ≡ nodes_before e [] → derivation_of d ≡ derivation_in (position_of c.select_along.new.machine).state e)
     → (q : NominalQuery) (r : Traced) → slice_get (queries_in c.args.p.now) (c.args.p.now.query - 1) ≡ Some q
     → traced_query (clauses_in c.args.p.now) c.args.p.now.depth q c.args.path.now ≡ Some r → derivation_of d ≡ derivation_in r.state r.derivation
 derived c d h x r k leads =
@@ -55,15 +55,15 @@ derived c d h x r k leads =
     let here : traced_query (clauses_in p) p.depth q c.args.path.now ≡ Some r = subst (λ (y : NominalQuery). traced_query (clauses_in p) p.depth y c.args.path.now ≡ Some r) one leads in
     let nodes =
     path_nodes (clauses_in p) p.depth q c.args.path.now l (program_in c.predicates-clauses.result.now) (position_of c.in_ok-machine.machine) same_program c.in_ok-machine.ensures
-    to.state (map node_of c.in_ok-nodes.nodes.items) (rest_of c.args.path.now to) c.in_ok-nodes.ensures in
+    to.state (map selected_node c.in_ok-nodes.nodes.items) (rest_of c.args.path.now to) c.in_ok-nodes.ensures in
     path_derivation (clauses_in p) p.depth q c.args.path.now l (program_in c.predicates-clauses.result.now) (position_of c.in_ok-machine.machine) same_program c.in_ok-machine.ensures
-    to.state (map node_of c.in_ok-nodes.nodes.items) (rest_of c.args.path.now to) c.in_ok-nodes.ensures (derivation_of d) (h l.traced.derivation nodes) r here
+    to.state (map selected_node c.in_ok-nodes.nodes.items) (rest_of c.args.path.now to) c.in_ok-nodes.ensures (derivation_of d) (h l.traced.derivation nodes) r here
 
 pub returns-clause-derivation : goal.returns-clause-derivation
 returns-clause-derivation c =
     let p = c.args.p.now in
     let s = (position_of c.select_along.new.machine).state in
-    IfOk-weaker c.assemble.result (λ d. (e : NominalDerivation) → map node_of c.in_ok-nodes.nodes.items ≡ nodes_before e [] → derivation_of d ≡ derivation_in s e)
+    IfOk-weaker c.assemble.result (λ d. (e : NominalDerivation) → map selected_node c.in_ok-nodes.nodes.items ≡ nodes_before e [] → derivation_of d ≡ derivation_in s e)
     (λ d. (q : NominalQuery) (r : Traced) → slice_get (queries_in p) (p.query - 1) ≡ Some q → traced_query (clauses_in p) p.depth q c.args.path.now ≡ Some r
     → derivation_of d ≡ derivation_in r.state r.derivation)
     (derived c) c.assemble.ensures
@@ -74,7 +74,7 @@ returns-clause-checks c =
     let s = (position_of c.select_along.new.machine).state in
     let program = program_of p.program.now in
     let typed = c.predicates-clauses.ensures.restricted.typed in
-    IfOk-weaker c.assemble.result (λ d. (e : NominalDerivation) → map node_of c.in_ok-nodes.nodes.items ≡ nodes_before e [] → derivation_of d ≡ derivation_in s e)
+    IfOk-weaker c.assemble.result (λ d. (e : NominalDerivation) → map selected_node c.in_ok-nodes.nodes.items ≡ nodes_before e [] → derivation_of d ≡ derivation_in s e)
     (λ d. (q : NominalQuery) (a : NominalAnswer) → slice_get (queries_in p) (p.query - 1) ≡ Some q → outs_at (clauses_in p) p.depth q c.args.path.now ≡ found c.args.path.now a ∷ []
     → Checks program q a (derivation_of d))
     (λ d h q a k only.

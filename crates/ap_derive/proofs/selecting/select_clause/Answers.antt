@@ -10,7 +10,7 @@ use Rattle.ap_store.proofs.StoreLemmas.{next_counts}
 use Rattle.ap_backchain.specs.Machines.{position_of}
 use Rattle.ap_backchain.specs.Positions.{with_goal}
 use Rattle.ap_backchain.proofs.ChooseLemmas.{fit_here}
-use Rattle.ap_derive.specs.Nodes.{DerivationNode, atom, node_of}
+use Rattle.ap_derive.specs.Nodes.{DerivationNode, atom, selected_node}
 use Rattle.ap_derive.specs.Solved.{Selects}
 use Rattle.ap_derive.proofs.ChoiceLemmas.{atom_chooses, enters, low, selected_to, within}
 use Rattle.ap_derive.proofs.selecting.select_clause.Goals as goal
@@ -59,5 +59,5 @@ returns c =
     let node =
     ap (λ j. atom k (local_names j (locals_of locals)) (map (susp []) (local_vars j (locals_of locals)))) same
     ∙ ap (λ ls. atom k (local_names n (locals_of ls)) (map (susp []) (local_vars n (locals_of ls)))) c.items.ensures in
-    IfOk-weaker c.selected_atom.result (λ m. node_of m ≡ given) (λ m. Selects program path (with_goal d (goals.atom c.args.pred ts) p) (node_of m) r)
+    IfOk-weaker c.selected_atom.result (λ m. selected_node m ≡ given) (λ m. Selects program path (with_goal d (goals.atom c.args.pred ts) p) (selected_node m) r)
     (λ m h. subst (λ (x : DerivationNode). Selects program path (with_goal d (goals.atom c.args.pred ts) p) x r) (sym (h ∙ node)) to) c.selected_atom.ensures

@@ -3,7 +3,7 @@ use Rattle.std.proofs.lemmas.List.{length-drop}
 use Rattle.std.specs.Prelude.{filter}
 use Rattle.std.specs.List.{flat_map}
 use Rattle.ap_lexer.specs.Tokens.{lexemes}
-use Rattle.ap_inputs.specs.Items.{is_about, item_text, items}
+use Rattle.ap_inputs.specs.Items.{is_about, item_text, items_of_tokens}
 use Rattle.ap_inputs.proofs.Cutting.{flat_map-filter_first, items-left}
 use Rattle.ap_inputs.proofs.items.items_about.Goals as goal
 
@@ -11,7 +11,7 @@ pub loop-place-preserved : goal.loop-place-preserved
 loop-place-preserved c =
     let item = lexemes c.first_item-item.result.now in
     let place = c.loop-place.place in
-    let rest = items (lexemes (drop (place + length c.first_item-item.result.now) c.args.tokens.now)) in
+    let rest = items_of_tokens (lexemes (drop (place + length c.first_item-item.result.now) c.args.tokens.now)) in
     let shown = item_text c.args.text.now in
     let about = is_about c.args.word.now in
     let out = c.loop-place.out.items in

@@ -2,7 +2,7 @@ use Rattle.std.proofs.Common.{◌≡◌, ◌+◌, ◌∷◌, length, drop, sym, 
 use Rattle.std.proofs.lemmas.List.{length-drop}
 use Rattle.std.specs.Prelude.{filter, fold}
 use Rattle.ap_lexer.specs.Tokens.{lexemes}
-use Rattle.ap_inputs.specs.Items.{is_query, items, without_item}
+use Rattle.ap_inputs.specs.Items.{is_query, items_of_tokens, without_item}
 use Rattle.ap_inputs.proofs.Cutting.{fold-filter_first, items-left, lent}
 use Rattle.ap_inputs.proofs.items.without_queries.Goals as goal
 
@@ -10,7 +10,7 @@ pub loop-place-preserved : goal.loop-place-preserved
 loop-place-preserved c =
     let item = lexemes c.first_item-item.result.now in
     let place = c.loop-place.place in
-    let rest = items (lexemes (drop (place + length c.first_item-item.result.now) c.args.tokens.now)) in
+    let rest = items_of_tokens (lexemes (drop (place + length c.first_item-item.result.now) c.args.tokens.now)) in
     let kept = c.loop-place.kept in
     let new = c.leave_out.new.text in
     let cut = items-left c.args.tokens.now c.rest_of.result.now c.first_item-item.result.now place c.rest_of.ensures c.first_item-item.ensures.item in

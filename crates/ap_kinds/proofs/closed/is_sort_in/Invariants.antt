@@ -1,12 +1,12 @@
 -- What is still to be followed decides, and weighs less.
 use Rattle.std.proofs.Common.{◌≡◌, length}
-use Rattle.ap_types.specs.Triangular.{table_of, value_of}
+use Rattle.ap_types.specs.Triangular.{shapes_of_nodes, value_of}
 use Rattle.ap_types.proofs.WalkLemmas.{weight}
 use Rattle.ap_kinds.specs.Reading.{is_sort}
 use Rattle.ap_kinds.proofs.closed.is_sort_in.Given as goal
 
 abbrev pub invariant-loop-at : goal.invariant-loop-at
-invariant-loop-at l = is_sort (value_of (table_of l.nodes) l.at) ≡ is_sort (value_of (table_of l.nodes) l.x)
+invariant-loop-at l = is_sort (value_of (shapes_of_nodes l.nodes) l.at) ≡ is_sort (value_of (shapes_of_nodes l.nodes) l.x)
 
 abbrev pub decreases-loop-at : goal.decreases-loop-at
-decreases-loop-at l = weight (value_of (table_of l.nodes)) (length (table_of l.nodes)) l.at
+decreases-loop-at l = weight (value_of (shapes_of_nodes l.nodes)) (length (shapes_of_nodes l.nodes)) l.at

@@ -2,7 +2,7 @@ use Rattle.std.proofs.Common.{◌∙◌, List, map, rules, sym, subst, true≢fa
 use Rattle.ap_defs.specs.declared.goals.Kind.{Kind}
 use Rattle.ap_defs.specs.Types.{shape_of, kind_of, signature_of}
 use Rattle.ap_program.specs.Typed.{AreInhabited}
-use Rattle.ap_kinds.specs.Reading.{IsRead}
+use Rattle.ap_kinds.specs.Reading.{AreKindsRead}
 use Rattle.ap_kinds.proofs.reading.read_inhabited.Goals as goal
 
 pub returns-then-not-are_inhabited-clause-unread :
@@ -11,7 +11,7 @@ returns-then-not-are_inhabited-clause-unread c =
     let sig = signature_of c.args.sig.now in
     let known = c.are_inhabited.ensures sig.constructors c.requires in
     let as_slice = λ (ks : List Kind). AreInhabited sig.constructors (map kind_of ks) in
-    let read : IsRead sig c.args.idents.now (map shape_of c.args.holes.now) (map kind_of c.in_ok-kinds.kinds.items) = search rules in (
+    let read : AreKindsRead sig c.args.idents.now (map shape_of c.args.holes.now) (map kind_of c.in_ok-kinds.kinds.items) = search rules in (
       map kind_of c.in_ok-kinds.kinds.items,
       read,
       λ k. true≢false (sym (known.1 (subst as_slice (sym c.as_slice.ensures.value) k)) ∙ c.if-not-are_inhabited.true),

@@ -2,16 +2,16 @@
 use Rattle.std.proofs.Common.{◌≡◌, ◌≤◌}
 use Rattle.ap_defs.specs.Types.{type_of}
 use Rattle.ap_defs.proofs.SpineLemmas.{type_size}
-use Rattle.ap_kinds.specs.Systems.{opened}
+use Rattle.ap_kinds.specs.Systems.{shape_of_type}
 use Rattle.ap_kinds.specs.Layers.{shape_within}
-use Rattle.ap_kinds.proofs.shapes.+opened.Given as goal
+use Rattle.ap_kinds.proofs.shapes.+shape_of_type.Given as goal
 
 abbrev pub decreases-opened : goal.decreases-opened
 decreases-opened l = type_size (type_of l.t.now)
 
 abbrev pub invariant-loop-rest : goal.invariant-loop-rest
 invariant-loop-rest l = record {
-  all : shape_within l.layers.items (opened (type_of l.rest)) ≡ opened (type_of l.fn.t);
+  all : shape_within l.layers.items (shape_of_type (type_of l.rest)) ≡ shape_of_type (type_of l.fn.t);
   smaller : type_size (type_of l.rest) ≤ type_size (type_of l.fn.t);
 }
 

@@ -1,7 +1,7 @@
 use Rattle.std.proofs.Common.{◌∙◌, ◌+◌, ◌++◌, if◌then◌else◌, take, drop, sym, ap, append-nil, ℕ, arith}
 use Rattle.ap_defs.specs.declared.paths.Out.{Out}
 use Rattle.ap_defs.specs.Answers.{out_of, outs_of}
-use Rattle.ap_paths.specs.Limits.{is_found, first_part}
+use Rattle.ap_paths.specs.Limits.{is_answer_out, first_part}
 use Rattle.ap_paths.proofs.Limiting.{taken_next, all_taken}
 use Rattle.ap_paths.proofs.limits.end_of.Goals as goal
 
@@ -18,7 +18,7 @@ loop-out-preserved c =
     let xs = c.args.outs.now in
     let i = c.loop-out.out-index in
     let d = c.out-item.result in
-    let e = ap (λ (o : Out). c.less_by-left.result + (if is_found (out_of o) then 1 else 0)) (sym c.out-item.is) ∙ c.less_by-left.ensures in
+    let e = ap (λ (o : Out). c.less_by-left.result + (if is_answer_out (out_of o) then 1 else 0)) (sym c.out-item.is) ∙ c.less_by-left.ensures in
     (taken_next xs i d c.loop-out.left c.less_by-left.result c.loop-out-test.true (omega arith) e ∙ v.0, (let z = v.1 in omega arith))
 
 pub returns : goal.returns

@@ -6,7 +6,7 @@ use Rattle.ap_defs.specs.Goals.{clause_over}
 use Rattle.ap_program.specs.NameRestriction.{clause, head_name}
 use Rattle.ap_defs.specs.Renaming.{local_names}
 use Rattle.ap_program.specs.CarryingOut.{carried_out, map_clause}
-use Rattle.ap_restrict.specs.Heads.{IsAnswer}
+use Rattle.ap_restrict.specs.Heads.{IsFirstUnfresh}
 use Rattle.ap_restrict.proofs.ItemLemmas.{fault_is, binder_is, swap_is, names_alone}
 use Rattle.ap_restrict.proofs.items.clause_fault.Goals as goal
 
@@ -30,4 +30,4 @@ returns-in_ok-fault-in-Some-2 c =
     let i = clause (clause_over raw_of c.args.clause.now) in
     fault_is cs i c.in_ok-fault-in-Some-2.field-0 kinds.HeadName c.in-Some-2.a.num (locals_of c.items.result.now) (ap locals_of c.items.ensures) c.in_ok-fault-in-Some-2.ensures.place c.in_ok-fault-in-Some-2.ensures.kind c.in_ok-fault-in-Some-2.ensures.name
     (head_name c.in-Some-2.a (names_alone i c.in_default.ensures c.in_default-first_in_clause.ensures)
-    (subst (IsAnswer cs (map_clause carried_out (clause_over raw_of c.args.clause.now)) (local_names 0 (locals_of c.args.clause.now.locals))) c.in-Some-2.is c.in_ok-a.ensures))
+    (subst (IsFirstUnfresh cs (map_clause carried_out (clause_over raw_of c.args.clause.now)) (local_names 0 (locals_of c.args.clause.now.locals))) c.in-Some-2.is c.in_ok-a.ensures))

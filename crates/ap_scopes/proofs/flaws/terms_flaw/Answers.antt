@@ -1,5 +1,5 @@
 use Rattle.std.proofs.Common.{ap, ◌∙◌}
-use Rattle.ap_scopes.specs.Flaws.{least}
+use Rattle.ap_scopes.specs.Flaws.{least_kind}
 use Rattle.ap_scopes.specs.Views.{declared_of}
 use Rattle.ap_scopes.proofs.FlawLemmas.{terms_next}
 use Rattle.ap_scopes.proofs.flaws.terms_flaw.Goals as goal
@@ -7,4 +7,4 @@ use Rattle.ap_scopes.proofs.flaws.terms_flaw.Goals as goal
 pub loop-tree-preserved : goal.loop-tree-preserved
 loop-tree-preserved c =
     terms_next (declared_of c.args.declared.now) c.args.trees.now c.loop-tree.tree-index c.tree-item.result c.tree-item.result c.loop-tree.flaw c.least-flaw.result
-    c.loop-tree-test.true c.tree-item.is (c.least-flaw.ensures ∙ ap (least c.loop-tree.flaw) c.term_flaw.ensures) c.loop-tree.invariant
+    c.loop-tree-test.true c.tree-item.is (c.least-flaw.ensures ∙ ap (least_kind c.loop-tree.flaw) c.term_flaw.ensures) c.loop-tree.invariant

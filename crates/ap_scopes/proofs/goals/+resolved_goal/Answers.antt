@@ -5,7 +5,7 @@ use Rattle.ap_spines.specs.declared.GoalLayer.TheVariants as around
 use Rattle.ap_trees.specs.declared.trees.GoalTree.{GoalTree}
 use Rattle.ap_trees.specs.Goals as goals
 use Rattle.ap_trees.specs.Terms.{OfWord, OfVar}
-use Rattle.ap_trees.specs.Trees.{goal_of}
+use Rattle.ap_trees.specs.Trees.{goal_of_tree}
 use Rattle.ap_scopes.specs.Identifiers.{Numbering}
 use Rattle.ap_scopes.specs.Resolution.{made, resolved_goal, numbered_name, numbered_var}
 use Rattle.ap_scopes.specs.Views.{declared_of, scope_of, found_of}
@@ -18,17 +18,17 @@ loop-rest-preserved-in-Both t c =
     let d = declared_of c.args.declared.now in
     let s = scope_of c.args.scope.now in
     let first = c.in_ok-resolved_goal-in-Both.field-0 in
-    let left = goal_of c.in-Both.left.value in
-    let right = goal_of c.deref-rest.result.now in
+    let left = goal_of_tree c.in-Both.left.value in
+    let right = goal_of_tree c.deref-rest.result.now in
     let before = found_of c.loop-rest.found in
     let after = found_of c.resolved_goal.new.found in
-    let is : goal_of c.loop-rest.rest.now ≡ goals.Both left right = ap goal_of c.in-Both.is ∙ ap (λ (u : GoalTree). goals.Both left (goal_of u)) (sym c.deref-rest.ensures) in
-    let value : (goal_over raw_of first, after) ≡ resolved_goal d s left before = c.in_ok-resolved_goal-in-Both.ensures.value ∙ ap (λ (u : GoalTree). resolved_goal d s (goal_of u) before) c.deref.ensures in
+    let is : goal_of_tree c.loop-rest.rest.now ≡ goals.Both left right = ap goal_of_tree c.in-Both.is ∙ ap (λ (u : GoalTree). goals.Both left (goal_of_tree u)) (sym c.deref-rest.ensures) in
+    let value : (goal_over raw_of first, after) ≡ resolved_goal d s left before = c.in_ok-resolved_goal-in-Both.ensures.value ∙ ap (λ (u : GoalTree). resolved_goal d s (goal_of_tree u) before) c.deref.ensures in
     record {
-      all = goal_goes_in c.loop-rest.layers.items c.push.new.self.items (around.Both first) (resolved_goal d s (goal_of c.loop-rest.rest.now) before) (resolved_goal d s right after) _ c.in_ok-push-in-Both.ensures.items
+      all = goal_goes_in c.loop-rest.layers.items c.push.new.self.items (around.Both first) (resolved_goal d s (goal_of_tree c.loop-rest.rest.now) before) (resolved_goal d s right after) _ c.in_ok-push-in-Both.ensures.items
           (ap (λ u. resolved_goal d s u before) is ∙ then_is both (resolved_goal d s left) (resolved_goal d s right) before after (goal_over raw_of first) value) c.loop-rest.invariant.all;
       numbered = c.in_ok-resolved_goal-in-Both.ensures.numbered;
-      smaller = let k : goal_size (goals.Both left right) ≤ goal_size (goal_of c.args.goal.now) = rw is at c.loop-rest.invariant.smaller in omega arith;
+      smaller = let k : goal_size (goals.Both left right) ≤ goal_size (goal_of_tree c.args.goal.now) = rw is at c.loop-rest.invariant.smaller in omega arith;
     }
 
 pub loop-rest-preserved : goal.loop-rest-preserved
@@ -36,17 +36,17 @@ loop-rest-preserved t c =
     let d = declared_of c.args.declared.now in
     let s = scope_of c.args.scope.now in
     let first = c.in_ok-resolved_goal-in-Either.field-0 in
-    let left = goal_of c.in-Either.left.value in
-    let right = goal_of c.deref-rest-in-Either.result.now in
+    let left = goal_of_tree c.in-Either.left.value in
+    let right = goal_of_tree c.deref-rest-in-Either.result.now in
     let before = found_of c.loop-rest.found in
     let after = found_of c.resolved_goal-in-Either.new.found in
-    let is : goal_of c.loop-rest.rest.now ≡ goals.Either left right = ap goal_of c.in-Either.is ∙ ap (λ (u : GoalTree). goals.Either left (goal_of u)) (sym c.deref-rest-in-Either.ensures) in
-    let value : (goal_over raw_of first, after) ≡ resolved_goal d s left before = c.in_ok-resolved_goal-in-Either.ensures.value ∙ ap (λ (u : GoalTree). resolved_goal d s (goal_of u) before) c.deref-in-Either.ensures in
+    let is : goal_of_tree c.loop-rest.rest.now ≡ goals.Either left right = ap goal_of_tree c.in-Either.is ∙ ap (λ (u : GoalTree). goals.Either left (goal_of_tree u)) (sym c.deref-rest-in-Either.ensures) in
+    let value : (goal_over raw_of first, after) ≡ resolved_goal d s left before = c.in_ok-resolved_goal-in-Either.ensures.value ∙ ap (λ (u : GoalTree). resolved_goal d s (goal_of_tree u) before) c.deref-in-Either.ensures in
     record {
-      all = goal_goes_in c.loop-rest.layers.items c.push-in-Either.new.self.items (around.Either first) (resolved_goal d s (goal_of c.loop-rest.rest.now) before) (resolved_goal d s right after) _ c.in_ok-push-in-Either.ensures.items
+      all = goal_goes_in c.loop-rest.layers.items c.push-in-Either.new.self.items (around.Either first) (resolved_goal d s (goal_of_tree c.loop-rest.rest.now) before) (resolved_goal d s right after) _ c.in_ok-push-in-Either.ensures.items
           (ap (λ u. resolved_goal d s u before) is ∙ then_is either (resolved_goal d s left) (resolved_goal d s right) before after (goal_over raw_of first) value) c.loop-rest.invariant.all;
       numbered = c.in_ok-resolved_goal-in-Either.ensures.numbered;
-      smaller = let k : goal_size (goals.Either left right) ≤ goal_size (goal_of c.args.goal.now) = rw is at c.loop-rest.invariant.smaller in omega arith;
+      smaller = let k : goal_size (goals.Either left right) ≤ goal_size (goal_of_tree c.args.goal.now) = rw is at c.loop-rest.invariant.smaller in omega arith;
     }
 
 pub returns-in-Exists-clause-value : goal.returns-in-Exists-clause-value
@@ -55,19 +55,19 @@ returns-in-Exists-clause-value t c =
     let s = scope_of c.args.scope.now in
     let w = c.in-Exists.word.now in
     let n = c.in_ok-num-in-Exists.num in
-    let inside = goal_of c.in-Exists.inner.value in
+    let inside = goal_of_tree c.in-Exists.inner.value in
     let made_inner = c.in_ok-inner-in-Exists.inner in
     let before = found_of c.loop-rest.found in
     let between = found_of c.bring.new.self in
     let after = found_of c.resolved_goal-in-Exists.new.found in
     let part = resolved_goal d ((OfVar w, n) ∷ s) inside between in
-    let whole : resolved_goal d s (goal_of c.loop-rest.rest.now) before ≡ made (exists (numbered_var n)) part =
-    ap (λ (u : GoalTree). resolved_goal d s (goal_of u) before) c.in-Exists.is
+    let whole : resolved_goal d s (goal_of_tree c.loop-rest.rest.now) before ≡ made (exists (numbered_var n)) part =
+    ap (λ (u : GoalTree). resolved_goal d s (goal_of_tree u) before) c.in-Exists.is
     ∙ ap (λ (p : Numbering). made (exists (numbered_var p.0)) (resolved_goal d ((OfVar w, p.0) ∷ s) inside p.1)) (sym c.in_ok-num-in-Exists.ensures.value) in
     let value : (goal_over raw_of made_inner, after) ≡ part =
-    c.in_ok-inner-in-Exists.ensures.value ∙ ap (λ (u : GoalTree). resolved_goal d ((OfVar w, n) ∷ s) (goal_of u) between) c.deref-in-Exists.ensures in
+    c.in_ok-inner-in-Exists.ensures.value ∙ ap (λ (u : GoalTree). resolved_goal d ((OfVar w, n) ∷ s) (goal_of_tree u) between) c.deref-in-Exists.ensures in
     goal_end c.close_goal-in-Exists.result c.push-in-Exists.new.self.items (goal_over raw_of made_inner) after part _ c.close_goal-in-Exists.ensures value
-    (goal_goes_in c.loop-rest.layers.items c.push-in-Exists.new.self.items (around.Exists (numbered_var n)) (resolved_goal d s (goal_of c.loop-rest.rest.now) before) part _ c.in_ok-push-in-Exists.ensures.items whole c.loop-rest.invariant.all)
+    (goal_goes_in c.loop-rest.layers.items c.push-in-Exists.new.self.items (around.Exists (numbered_var n)) (resolved_goal d s (goal_of_tree c.loop-rest.rest.now) before) part _ c.in_ok-push-in-Exists.ensures.items whole c.loop-rest.invariant.all)
 
 pub returns-in-New-clause-value : goal.returns-in-New-clause-value
 returns-in-New-clause-value t c =
@@ -75,16 +75,16 @@ returns-in-New-clause-value t c =
     let s = scope_of c.args.scope.now in
     let w = c.in-New.word.now in
     let n = c.in_ok-num-in-New.num in
-    let inside = goal_of c.in-New.inner.value in
+    let inside = goal_of_tree c.in-New.inner.value in
     let made_inner = c.in_ok-inner-in-New.inner in
     let before = found_of c.loop-rest.found in
     let between = found_of c.bring-in-New.new.self in
     let after = found_of c.resolved_goal-in-New.new.found in
     let part = resolved_goal d ((OfWord w, n) ∷ s) inside between in
-    let whole : resolved_goal d s (goal_of c.loop-rest.rest.now) before ≡ made (new (numbered_name n)) part =
-    ap (λ (u : GoalTree). resolved_goal d s (goal_of u) before) c.in-New.is
+    let whole : resolved_goal d s (goal_of_tree c.loop-rest.rest.now) before ≡ made (new (numbered_name n)) part =
+    ap (λ (u : GoalTree). resolved_goal d s (goal_of_tree u) before) c.in-New.is
     ∙ ap (λ (p : Numbering). made (new (numbered_name p.0)) (resolved_goal d ((OfWord w, p.0) ∷ s) inside p.1)) (sym c.in_ok-num-in-New.ensures.value) in
     let value : (goal_over raw_of made_inner, after) ≡ part =
-    c.in_ok-inner-in-New.ensures.value ∙ ap (λ (u : GoalTree). resolved_goal d ((OfWord w, n) ∷ s) (goal_of u) between) c.deref-in-New.ensures in
+    c.in_ok-inner-in-New.ensures.value ∙ ap (λ (u : GoalTree). resolved_goal d ((OfWord w, n) ∷ s) (goal_of_tree u) between) c.deref-in-New.ensures in
     goal_end c.close_goal-in-New.result c.push-in-New.new.self.items (goal_over raw_of made_inner) after part _ c.close_goal-in-New.ensures value
-    (goal_goes_in c.loop-rest.layers.items c.push-in-New.new.self.items (around.New (numbered_name n)) (resolved_goal d s (goal_of c.loop-rest.rest.now) before) part _ c.in_ok-push-in-New.ensures.items whole c.loop-rest.invariant.all)
+    (goal_goes_in c.loop-rest.layers.items c.push-in-New.new.self.items (around.New (numbered_name n)) (resolved_goal d s (goal_of_tree c.loop-rest.rest.now) before) part _ c.in_ok-push-in-New.ensures.items whole c.loop-rest.invariant.all)

@@ -1,21 +1,21 @@
 -- What is left, within the layers, is all.
 use Rattle.std.proofs.Common.{◌≡◌, ◌≤◌}
-use Rattle.ap_spines.specs.Spines.{goal_within}
-use Rattle.ap_trees.specs.Trees.{goal_of}
+use Rattle.ap_spines.specs.Spines.{raw_goal_within}
+use Rattle.ap_trees.specs.Trees.{goal_of_tree}
 use Rattle.ap_scopes.specs.Resolution.{made, resolved_goal}
 use Rattle.ap_scopes.specs.Views.{IsNumbered, declared_of, scope_of, found_of}
 use Rattle.ap_scopes.proofs.TreeSizes.{goal_size}
 use Rattle.ap_scopes.proofs.goals.+resolved_goal.Given as goal
 
 abbrev pub decreases-resolved_goal : goal.decreases-resolved_goal
-decreases-resolved_goal l = goal_size (goal_of l.goal.now)
+decreases-resolved_goal l = goal_size (goal_of_tree l.goal.now)
 
 abbrev pub invariant-loop-rest : goal.invariant-loop-rest
 invariant-loop-rest l = record {
-  all : made (goal_within l.layers.items) (resolved_goal (declared_of l.declared) (scope_of l.scope) (goal_of l.rest) (found_of l.found)) ≡ resolved_goal (declared_of l.fn.declared) (scope_of l.fn.scope) (goal_of l.fn.goal) (found_of l.fn.found);
+  all : made (raw_goal_within l.layers.items) (resolved_goal (declared_of l.declared) (scope_of l.scope) (goal_of_tree l.rest) (found_of l.found)) ≡ resolved_goal (declared_of l.fn.declared) (scope_of l.fn.scope) (goal_of_tree l.fn.goal) (found_of l.fn.found);
   numbered : IsNumbered l.found;
-  smaller : goal_size (goal_of l.rest) ≤ goal_size (goal_of l.fn.goal);
+  smaller : goal_size (goal_of_tree l.rest) ≤ goal_size (goal_of_tree l.fn.goal);
 }
 
 abbrev pub decreases-loop-rest : goal.decreases-loop-rest
-decreases-loop-rest l = goal_size (goal_of l.rest)
+decreases-loop-rest l = goal_size (goal_of_tree l.rest)

@@ -4,9 +4,9 @@ use Rattle.ap_spines.specs.declared.RawLayer.TheVariants as around
 use Rattle.ap_trees.specs.declared.trees.Tree.{Tree}
 use Rattle.ap_trees.specs.declared.trees.Args.{Args}
 use Rattle.ap_trees.specs.Terms as terms
-use Rattle.ap_trees.specs.Trees.{term_of, terms_of, name_of}
+use Rattle.ap_trees.specs.Trees.{term_of, terms_of, name_of_binder}
 use Rattle.ap_scopes.specs.Declarations.{constructor_place}
-use Rattle.ap_scopes.specs.Resolution.{made, binder, resolved_term, resolved_arguments, constructor_number, swapped_by, two_ids, in_order}
+use Rattle.ap_scopes.specs.Resolution.{made, binder, resolved_term, resolved_arguments, constructor_number, raw_swapped_by, two_ids, in_order}
 use Rattle.ap_scopes.specs.Views.{declared_of, scope_of, found_of}
 use Rattle.ap_scopes.proofs.LayerLemmas.{then_is, raw_goes_in, raw_end}
 use Rattle.ap_scopes.proofs.TreeSizes.{term_size, terms_size}
@@ -89,7 +89,7 @@ resolved_term-loop-rest-preserved-in-Abs t c =
     let d = declared_of c.args.declared.now in
     let s = scope_of c.args.scope.now in
     let id = c.in_ok-binder-in-Abs.field-0 in
-    let spelling = name_of c.in-Abs.spelling in
+    let spelling = name_of_binder c.in-Abs.spelling in
     let body = term_of c.deref-rest-in-Abs.result.now in
     let before = found_of c.loop-rest.found in
     let after = found_of c.binder.new.found in
@@ -107,8 +107,8 @@ resolved_term-loop-rest-preserved t c =
     let s = scope_of c.args.scope.now in
     let i = c.in_ok-left-in-Swapped.left in
     let j = c.in_ok-right-in-Swapped.right in
-    let left = name_of c.in-Swapped.left in
-    let right = name_of c.in-Swapped.right in
+    let left = name_of_binder c.in-Swapped.left in
+    let right = name_of_binder c.in-Swapped.right in
     let body = term_of c.deref-rest-in-Swapped.result.now in
     let before = found_of c.loop-rest.found in
     let between = found_of c.binder-in-Swapped.new.found in
@@ -117,7 +117,7 @@ resolved_term-loop-rest-preserved t c =
     let ends = in_order_is two_ids (binder s left) (binder s right) before between after i j c.in_ok-left-in-Swapped.ensures.value c.in_ok-right-in-Swapped.ensures.value in
     record {
       all = raw_goes_in c.loop-rest.layers.items c.push-in-Swapped.new.self.items (around.Swapped i j) (resolved_term d s (term_of c.loop-rest.rest.now) before) (resolved_term d s body after) _ c.in_ok-push-in-Swapped.ensures.items
-          (ap (λ u. resolved_term d s u before) is ∙ then_is swapped_by (in_order two_ids (binder s left) (binder s right)) (resolved_term d s body) before after (i, j) ends) c.loop-rest.invariant.all;
+          (ap (λ u. resolved_term d s u before) is ∙ then_is raw_swapped_by (in_order two_ids (binder s left) (binder s right)) (resolved_term d s body) before after (i, j) ends) c.loop-rest.invariant.all;
       numbered = c.in_ok-right-in-Swapped.ensures.numbered;
       smaller = let k : term_size (terms.Swapped left right body) ≤ term_size (term_of c.args.tree.now) = rw is at c.loop-rest.invariant.smaller in omega arith;
     }

@@ -2,7 +2,7 @@ use Rattle.std.proofs.Common.{rules, ◌≡◌, ◌∷◌, ◌++◌, [], List, A
 use Rattle.std.proofs.lemmas.List.Elements.{All-append}
 use Rattle.ap_lock.specs.Seats.{SeatView}
 use Rattle.ap_steal.specs.declared.jobs.Job.{Job}
-use Rattle.ap_steal.specs.Planned.{IsNew}
+use Rattle.ap_steal.specs.Planned.{IsNewSeat}
 use Rattle.ap_steal.proofs.Whole.{all_one, all_last}
 use Rattle.ap_steal.proofs.Fresh.{taken_over}
 use Rattle.ap_steal.proofs.jobs.make_jobs.Goals as goal
@@ -17,6 +17,6 @@ loop-seat-preserved g c =
       taken_over (λ (j : Job g.row.W.Denot). j.tools) _ _ _ _ _ job c.in-Some-pop.ensures.items more v.2,
       λ book h.
           let w = v.3 book h in
-          let s = all_last (λ (s : SeatView). IsNew book s) _ _ _ c.in-Some.ensures.items w.0 in
-          (s.0, subst (λ (l : List (Job g.row.W.Denot)). All (λ j. IsNew book j.seat) l) (sym more) (All-append (λ (j : Job g.row.W.Denot). IsNew book j.seat) c.loop-seat.jobs.items (job ∷ []) w.1 (all_one (λ (j : Job g.row.W.Denot). IsNew book j.seat) job s.1))),
+          let s = all_last (λ (s : SeatView). IsNewSeat book s) _ _ _ c.in-Some.ensures.items w.0 in
+          (s.0, subst (λ (l : List (Job g.row.W.Denot)). All (λ j. IsNewSeat book j.seat) l) (sym more) (All-append (λ (j : Job g.row.W.Denot). IsNewSeat book j.seat) c.loop-seat.jobs.items (job ∷ []) w.1 (all_one (λ (j : Job g.row.W.Denot). IsNewSeat book j.seat) job s.1))),
     )

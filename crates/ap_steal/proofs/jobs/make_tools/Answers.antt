@@ -1,5 +1,5 @@
 use Rattle.std.proofs.Common.{rules, arith, ◌≡◌, ◌∷◌, ◌++◌, [], length, sym, subst}
-use Rattle.ap_steal.specs.Hands.{AreFresh}
+use Rattle.ap_steal.specs.Hands.{AreFreshTools}
 use Rattle.ap_steal.proofs.Fresh.{fresh_more}
 use Rattle.ap_steal.proofs.jobs.make_tools.Goals as goal
 
@@ -8,4 +8,4 @@ loop-number-preserved g c =
     let before = c.loop-number.all.items in
     let number : c.loop-number.number ≡ length before = search rules in
     let more : c.push.new.self.items ≡ before ++ c.in_ok-tools.tools ∷ [] = search rules in
-    (search rules, subst (AreFresh 0) (sym more) (fresh_more 0 c.loop-number.number before c.in_ok-tools.tools (omega (arith, number)) c.loop-number.invariant.1 c.in_ok-tools.ensures))
+    (search rules, subst (AreFreshTools 0) (sym more) (fresh_more 0 c.loop-number.number before c.in_ok-tools.tools (omega (arith, number)) c.loop-number.invariant.1 c.in_ok-tools.ensures))

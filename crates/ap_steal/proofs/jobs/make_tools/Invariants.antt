@@ -1,6 +1,6 @@
 use Rattle.std.proofs.Common.{◌≡◌, vec_len}
-use Rattle.ap_steal.specs.Hands.{AreFresh}
+use Rattle.ap_steal.specs.Hands.{AreFreshTools}
 use Rattle.ap_steal.proofs.jobs.make_tools.Given as goal
 
 abbrev pub invariant-loop-number : goal.invariant-loop-number
-invariant-loop-number g l = (vec_len l.all ≡ l.number) × AreFresh 0 l.all.items
+invariant-loop-number g l = (vec_len l.all ≡ l.number) × AreFreshTools 0 l.all.items

@@ -4,7 +4,7 @@ use Rattle.ap_paths.specs.Entries.{entries_of}
 use Rattle.ap_paths.specs.Limits.{AreWithin}
 use Rattle.ap_lock.specs.Seats.{book_id, seats_of, new_seats}
 use Rattle.ap_steal.specs.declared.jobs.Job.{Job}
-use Rattle.ap_steal.specs.Hands.{AreFresh}
+use Rattle.ap_steal.specs.Hands.{AreFreshTools}
 use Rattle.ap_steal.proofs.Fresh.{turned_back}
 use Rattle.ap_steal.proofs.Whole.{of_new}
 use Rattle.ap_steal.proofs.searching.search_beside.Goals as goal
@@ -27,7 +27,7 @@ run_all-requires-clause-new g c κs within =
 pub run_all-requires-clause-fresh : goal.run_all-requires-clause-fresh
 run_all-requires-clause-fresh g c κs within =
     let back = turned_back (λ (j : Job g.row.W.Denot). j.tools) c.in_ok-tools.tools.items c.in_ok-jobs.jobs.items c.turned.result.items c.turned.ensures.order c.in_ok-jobs.ensures.tools in
-    subst (AreFresh 0) (sym back) c.in_ok-tools.ensures.fresh
+    subst (AreFreshTools 0) (sym back) c.in_ok-tools.ensures.fresh
 
 pub finish-requires-clause-all : goal.finish-requires-clause-all
 finish-requires-clause-all g c κs within =

@@ -1,6 +1,6 @@
 use Rattle.std.proofs.Common.{[], ◌∷◌, if◌then◌else◌, Bool, List, ℕ, sym, subst}
 use Rattle.ap_steal.specs.Order.{IsSole}
-use Rattle.ap_steal.specs.Accounts.{Ends}
+use Rattle.ap_steal.specs.Accounts.{EndsJust}
 use Rattle.ap_steal.proofs.Accounting.{ends_keep, needed_keeps}
 use Rattle.ap_steal.proofs.step.run_path.Goals as goal
 
@@ -28,13 +28,13 @@ returns-then-not-needed-clause-held g c =
     let seat = c.args.seat.now in
     let after = c.is_needed.new.seat.seen in
     let q = c.path.result.now in
-    let ends = subst (λ (b : Bool). Ends seat.number seat.seen (if b then [] else q ∷ []) after) c.if-not-needed.true c.in_ok-needed.ensures.ended in
-    ends_keep seat.number seat.seen after (c.args.path.now ∷ []) c.args.tools.now (subst (λ (k : List ℕ). Ends seat.number seat.seen (k ∷ []) after) c.path.ensures.same ends)
+    let ends = subst (λ (b : Bool). EndsJust seat.number seat.seen (if b then [] else q ∷ []) after) c.if-not-needed.true c.in_ok-needed.ensures.ended in
+    ends_keep seat.number seat.seen after (c.args.path.now ∷ []) c.args.tools.now (subst (λ (k : List ℕ). EndsJust seat.number seat.seen (k ∷ []) after) c.path.ensures.same ends)
 
 pub returns-clause-held : goal.returns-clause-held
 returns-clause-held g c =
     let seat = c.args.seat.now in
     let between = c.is_needed.new.seat in
     let q = c.path.result.now in
-    let ends = subst (λ (b : Bool). Ends seat.number seat.seen (if b then [] else q ∷ []) between.seen) c.if-not-needed.false c.in_ok-needed.ensures.ended in
+    let ends = subst (λ (b : Bool). EndsJust seat.number seat.seen (if b then [] else q ∷ []) between.seen) c.if-not-needed.false c.in_ok-needed.ensures.ended in
     needed_keeps seat.number between.number seat.seen between.seen c.visit_path-2.new.seat.seen c.args.path.now c.args.tools.now c.visit_path-2.new.tools c.visit_path-2.result c.is_needed.ensures.same.1 ends c.visit_path-2.ensures.held

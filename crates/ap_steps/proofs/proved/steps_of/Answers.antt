@@ -13,7 +13,7 @@ use Rattle.ap_defs.specs.Types.{constructor_of}
 use Rattle.ap_answers.specs.Spelled.{text_at}
 use Rattle.ap_bundle.specs.Bundles.{proved_of}
 use Rattle.ap_pages.specs.declared.steps.Step.{Step}
-use Rattle.ap_steps.specs.Proofs.{on_query, query_steps, shown_steps, writing}
+use Rattle.ap_steps.specs.Proofs.{steps_on_query, query_steps, shown_steps, writing}
 use Rattle.ap_steps.specs.Spelling.{spelling_by, spelt}
 use Rattle.ap_steps.specs.Steps.{DerivationWriting}
 use Rattle.ap_steps.specs.Writers.{written_step}
@@ -37,6 +37,6 @@ returns c =
     let spelled : by c.items.result.now ≡ spelling_by p (spelt p q a d) = ap by c.items.ensures ∙ ap (spelling_by p) c.in_ok-spelt.ensures in
     let whole : query_steps q k a d (written (by c.items.result.now)) ≡ shown_steps p words (proved_of c.args.proved.now) =
     ap (λ b. query_steps q k a d (written b)) spelled
-    ∙ sym (ap (λ (o : Option NominalQuery). on_query o (λ r. query_steps r k a d (writing p words r a d))) c.in-Some.ensures) in
+    ∙ sym (ap (λ (o : Option NominalQuery). steps_on_query o (λ r. query_steps r k a d (writing p words r a d))) c.in-Some.ensures) in
     IfOk-weaker c.steps_of_query.result (λ (steps : Vec Step Global). map written_step steps.items ≡ query_steps q k a d (written (by c.items.result.now)))
     (λ (steps : Vec Step Global). map written_step steps.items ≡ shown_steps p words (proved_of c.args.proved.now)) (λ steps h. h ∙ whole) c.steps_of_query.ensures

@@ -3,7 +3,7 @@ use Rattle.std.proofs.lemmas.List.{map-append}
 use Rattle.std.proofs.lemmas.Result.{err_from_is_err_and}
 use Rattle.ap_trees.specs.Readers.{after_comma}
 use Rattle.ap_trees.specs.Symbols.{syms}
-use Rattle.ap_trees.specs.Trees.{goal_of, goals_of}
+use Rattle.ap_trees.specs.Trees.{goal_of_tree, goals_of}
 use Rattle.ap_trees.proofs.Lists.{separated_first, further_on, further_fails, separated_fails, fails_on}
 use Rattle.ap_syntax.specs.GoalReader.{read_goal, read_conj, read_simple}
 use Rattle.ap_syntax.specs.Marks.{after_semicolon}
@@ -16,7 +16,7 @@ conjunctions-returns-in_err-first-clause-value t c =
 
 pub conjunctions-loop-after-init : goal.conjunctions-loop-after-init
 conjunctions-loop-after-init t c =
-    let items : goals_of c.push.new.self.items ≡ goal_of c.in_ok-first.first ∷ [] = rw (c.in_ok-push.ensures.items, c.new-all.ensures.items) refl in
+    let items : goals_of c.push.new.self.items ≡ goal_of_tree c.in_ok-first.first ∷ [] = rw (c.in_ok-push.ensures.items, c.new-all.ensures.items) refl in
     let one : vec_len c.push.new.self ≡ 1 = omega (arith, c.in_ok-push.ensures.len, c.new-all.ensures.len) in
     let shorter = c.in_ok-first.ensures.shorter in
     record {
@@ -33,8 +33,8 @@ conjunctions-returns-in_err-next-clause-value t c =
 
 pub conjunctions-loop-after-preserved : goal.conjunctions-loop-after-preserved
 conjunctions-loop-after-preserved t c =
-    let items : goals_of c.push-in-Some.new.self.items ≡ goals_of c.loop-after.all.items ++ goal_of c.in_ok-next.next ∷ [] =
-    ap goals_of c.in_ok-push-2.ensures.items ∙ map-append goal_of c.loop-after.all.items (c.in_ok-next.next ∷ []) in
+    let items : goals_of c.push-in-Some.new.self.items ≡ goals_of c.loop-after.all.items ++ goal_of_tree c.in_ok-next.next ∷ [] =
+    ap goals_of c.in_ok-push-2.ensures.items ∙ map-append goal_of_tree c.loop-after.all.items (c.in_ok-next.next ∷ []) in
     let comma : after_semicolon (syms c.loop-after.rest.now) ≡ Some (syms c.in-Some.after.now) = sym c.in-Some.ensures.value in
     let more : vec_len c.push-in-Some.new.self ≡ vec_len c.loop-after.all + 1 = c.in_ok-push-2.ensures.len in
     let first = c.in-Some.ensures.shorter in
@@ -52,7 +52,7 @@ simple_goals-returns-in_err-first-clause-value t c =
 
 pub simple_goals-loop-after-init : goal.simple_goals-loop-after-init
 simple_goals-loop-after-init t c =
-    let items : goals_of c.push.new.self.items ≡ goal_of c.in_ok-first.first ∷ [] = rw (c.in_ok-push.ensures.items, c.new-all.ensures.items) refl in
+    let items : goals_of c.push.new.self.items ≡ goal_of_tree c.in_ok-first.first ∷ [] = rw (c.in_ok-push.ensures.items, c.new-all.ensures.items) refl in
     let one : vec_len c.push.new.self ≡ 1 = omega (arith, c.in_ok-push.ensures.len, c.new-all.ensures.len) in
     let shorter = c.in_ok-first.ensures.shorter in
     record {
@@ -69,8 +69,8 @@ simple_goals-returns-in_err-next-clause-value t c =
 
 pub simple_goals-loop-after-preserved : goal.simple_goals-loop-after-preserved
 simple_goals-loop-after-preserved t c =
-    let items : goals_of c.push-in-Some.new.self.items ≡ goals_of c.loop-after.all.items ++ goal_of c.in_ok-next.next ∷ [] =
-    ap goals_of c.in_ok-push-2.ensures.items ∙ map-append goal_of c.loop-after.all.items (c.in_ok-next.next ∷ []) in
+    let items : goals_of c.push-in-Some.new.self.items ≡ goals_of c.loop-after.all.items ++ goal_of_tree c.in_ok-next.next ∷ [] =
+    ap goals_of c.in_ok-push-2.ensures.items ∙ map-append goal_of_tree c.loop-after.all.items (c.in_ok-next.next ∷ []) in
     let comma : after_comma (syms c.loop-after.rest.now) ≡ Some (syms c.in-Some.after.now) = sym c.in-Some.ensures.value in
     let more : vec_len c.push-in-Some.new.self ≡ vec_len c.loop-after.all + 1 = c.in_ok-push-2.ensures.len in
     let first = c.in-Some.ensures.shorter in

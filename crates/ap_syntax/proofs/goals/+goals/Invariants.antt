@@ -1,5 +1,5 @@
 use Rattle.std.proofs.Common.{◌≡◌, ◌<◌, ◌≤◌, ◌+◌, ◌-◌, ◌*◌, length, vec_len}
-use Rattle.ap_trees.specs.Readers.{with_front, further, separated, after_comma}
+use Rattle.ap_trees.specs.Readers.{with_before, further, separated, after_comma}
 use Rattle.ap_trees.specs.Symbols.{syms}
 use Rattle.ap_trees.specs.Trees.{goals_of}
 use Rattle.ap_syntax.specs.GoalReader.{read_goal, read_conj, read_simple}
@@ -35,7 +35,7 @@ decreases-any_of l = 16 * l.levels + 7
 
 abbrev pub invariant-conjunctions-loop-after : goal.invariant-conjunctions-loop-after
 invariant-conjunctions-loop-after l = record {
-  read : with_front (goals_of l.all.items) (further after_semicolon (separated after_semicolon (read_conj (read_goal l.levels)) (length l.symbols - vec_len l.all)) (syms l.rest)) ≡ separated after_semicolon (read_conj (read_goal l.levels)) (length l.symbols) (syms l.symbols);
+  read : with_before (goals_of l.all.items) (further after_semicolon (separated after_semicolon (read_conj (read_goal l.levels)) (length l.symbols - vec_len l.all)) (syms l.rest)) ≡ separated after_semicolon (read_conj (read_goal l.levels)) (length l.symbols) (syms l.symbols);
   enough : length l.rest + vec_len l.all ≤ length l.symbols;
   some : length l.rest < length l.symbols;
 }
@@ -45,7 +45,7 @@ decreases-conjunctions-loop-after l = length l.rest
 
 abbrev pub invariant-simple_goals-loop-after : goal.invariant-simple_goals-loop-after
 invariant-simple_goals-loop-after l = record {
-  read : with_front (goals_of l.all.items) (further after_comma (separated after_comma (read_simple (read_goal l.levels)) (length l.symbols - vec_len l.all)) (syms l.rest)) ≡ separated after_comma (read_simple (read_goal l.levels)) (length l.symbols) (syms l.symbols);
+  read : with_before (goals_of l.all.items) (further after_comma (separated after_comma (read_simple (read_goal l.levels)) (length l.symbols - vec_len l.all)) (syms l.rest)) ≡ separated after_comma (read_simple (read_goal l.levels)) (length l.symbols) (syms l.symbols);
   enough : length l.rest + vec_len l.all ≤ length l.symbols;
   some : length l.rest < length l.symbols;
 }

@@ -1,6 +1,6 @@
 use Rattle.std.proofs.Common.{◌≡◌, true, false, Some, None, sym, ◌∙◌, ap, subst}
 use Rattle.ap_lexer.specs.Tokens.{lexemes}
-use Rattle.ap_trees.specs.Outcomes.{Fails}
+use Rattle.ap_trees.specs.Outcomes.{FailsPart}
 use Rattle.ap_trees.specs.Symbols.{syms}
 use Rattle.ap_trees.specs.Trees.{form_of}
 use Rattle.ap_syntax.specs.ItemReader.{read_item}
@@ -31,6 +31,6 @@ returns-in-Err-Grammar-clause-read c =
     let same : syms c.deref.result.now ≡ before c.in-Some.place (lexemes c.args.tokens.now) = ap syms c.deref.ensures.value ∙ c.in_ok-symbols.ensures in
     let shallow : is_too_deep (before c.in-Some.place (lexemes c.args.tokens.now)) ≡ false = sym (ap is_too_deep same) ∙ sym c.in_ok-is_too_deep.ensures ∙ c.if-branch.false in
     let again : syms c.deref-2.result.now ≡ before c.in-Some.place (lexemes c.args.tokens.now) = ap syms c.deref-2.ensures.value ∙ c.in_ok-symbols.ensures in
-    let none : read_item (syms c.deref-2.result.now) ≡ None = subst (λ e. Fails e (read_item (syms c.deref-2.result.now))) c.in-Err-Grammar.field-0-is c.in-Err-Grammar.ensures in
+    let none : read_item (syms c.deref-2.result.now) ≡ None = subst (λ e. FailsPart e (read_item (syms c.deref-2.result.now))) c.in-Err-Grammar.field-0-is c.in-Err-Grammar.ensures in
     let got : read_item (before c.in-Some.place (lexemes c.args.tokens.now)) ≡ None = sym (ap read_item again) ∙ none in
     rw c.fault-in-Err-Grammar.ensures (no_item_of c.args.item c.args.tokens.now _ c.in-Some.place c.requires (sym c.in-Some.ensures.value) shallow got)

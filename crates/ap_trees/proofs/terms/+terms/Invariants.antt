@@ -1,5 +1,5 @@
 use Rattle.std.proofs.Common.{◌≡◌, ◌<◌, ◌≤◌, ◌+◌, ◌-◌, ◌*◌, length, vec_len}
-use Rattle.ap_trees.specs.Readers.{with_front, further, separated, after_comma}
+use Rattle.ap_trees.specs.Readers.{with_before, further, separated, after_comma}
 use Rattle.ap_trees.specs.Symbols.{syms}
 use Rattle.ap_trees.specs.TermReader.{read_term}
 use Rattle.ap_trees.specs.Trees.{trees_of}
@@ -13,7 +13,7 @@ decreases-term l = 8 * l.levels
 
 abbrev pub invariant-term_list-loop-after : goal.invariant-term_list-loop-after
 invariant-term_list-loop-after l = record {
-  read : with_front (trees_of l.all.items) (further after_comma (separated after_comma (read_term l.levels) (length l.symbols - vec_len l.all)) (syms l.rest)) ≡ separated after_comma (read_term l.levels) (length l.symbols) (syms l.symbols);
+  read : with_before (trees_of l.all.items) (further after_comma (separated after_comma (read_term l.levels) (length l.symbols - vec_len l.all)) (syms l.rest)) ≡ separated after_comma (read_term l.levels) (length l.symbols) (syms l.symbols);
   enough : length l.rest + vec_len l.all ≤ length l.symbols;
   some : length l.rest < length l.symbols;
 }

@@ -3,7 +3,7 @@ use Rattle.std.proofs.lemmas.List.{map-append}
 use Rattle.std.proofs.lemmas.Result.{err_from_is_err_and}
 use Rattle.ap_trees.specs.Readers.{after_comma}
 use Rattle.ap_trees.specs.Symbols.{syms}
-use Rattle.ap_trees.specs.Trees.{type_of, types_of}
+use Rattle.ap_trees.specs.Trees.{type_of_tree, types_of}
 use Rattle.ap_trees.specs.TypeReader.{read_type}
 use Rattle.ap_trees.proofs.Lists.{separated_first, further_on, further_fails, separated_fails, fails_on}
 use Rattle.ap_trees.proofs.types.+types.Goals as goal
@@ -15,7 +15,7 @@ type_list-returns-in_err-first-clause-value t c =
 
 pub type_list-loop-after-init : goal.type_list-loop-after-init
 type_list-loop-after-init t c =
-    let items : types_of c.push.new.self.items ≡ type_of c.in_ok-first.first ∷ [] = rw (c.in_ok-push.ensures.items, c.new-all.ensures.items) refl in
+    let items : types_of c.push.new.self.items ≡ type_of_tree c.in_ok-first.first ∷ [] = rw (c.in_ok-push.ensures.items, c.new-all.ensures.items) refl in
     let one : vec_len c.push.new.self ≡ 1 = omega (arith, c.in_ok-push.ensures.len, c.new-all.ensures.len) in
     let shorter = c.in_ok-first.ensures.shorter in
     record {
@@ -32,8 +32,8 @@ type_list-returns-in_err-next-clause-value t c =
 
 pub type_list-loop-after-preserved : goal.type_list-loop-after-preserved
 type_list-loop-after-preserved t c =
-    let items : types_of c.push-in-Some.new.self.items ≡ types_of c.loop-after.all.items ++ type_of c.in_ok-next.next ∷ [] =
-    ap types_of c.in_ok-push-2.ensures.items ∙ map-append type_of c.loop-after.all.items (c.in_ok-next.next ∷ []) in
+    let items : types_of c.push-in-Some.new.self.items ≡ types_of c.loop-after.all.items ++ type_of_tree c.in_ok-next.next ∷ [] =
+    ap types_of c.in_ok-push-2.ensures.items ∙ map-append type_of_tree c.loop-after.all.items (c.in_ok-next.next ∷ []) in
     let comma : after_comma (syms c.loop-after.rest.now) ≡ Some (syms c.in-Some.after.now) = sym c.in-Some.ensures.value in
     let more : vec_len c.push-in-Some.new.self ≡ vec_len c.loop-after.all + 1 = c.in_ok-push-2.ensures.len in
     let first = c.in-Some.ensures.shorter in

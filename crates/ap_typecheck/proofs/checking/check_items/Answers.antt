@@ -1,5 +1,5 @@
 use Rattle.std.proofs.Common.{◌≤◌, ◌<◌, ◌+◌, suc, refl, drop, length, arith}
-use Rattle.ap_trees.specs.Trees.{item_of, items_of, form_of}
+use Rattle.ap_trees.specs.Trees.{item_of, items_of_text, form_of}
 use Rattle.ap_typecheck.specs.Views.{made_of, made_count}
 use Rattle.ap_typecheck.proofs.Counting.{says_count}
 use Rattle.ap_typecheck.proofs.Steps.{one_more, one_later, refused_text, dropped}
@@ -12,7 +12,7 @@ returns-in-Err-clause-err c =
     let item = c.index-items-index.result in
     let within : place < length items = c.loop-index-test.true in
     let next = dropped items place item within c.index-items-index.is in
-    rw c.text_error.ensures (refused_text c.in-Err.refusal (place + 1) (made_of c.loop-index.state) (item_of item) (items_of (drop (place + 1) items)) (items_of (drop place items)) (items_of items) _ next refl c.loop-index.invariant.fault c.in-Err.ensures.err)
+    rw c.text_error.ensures (refused_text c.in-Err.refusal (place + 1) (made_of c.loop-index.state) (item_of item) (items_of_text (drop (place + 1) items)) (items_of_text (drop place items)) (items_of_text items) _ next refl c.loop-index.invariant.fault c.in-Err.ensures.err)
 
 pub loop-index-preserved : goal.loop-index-preserved
 loop-index-preserved c =
@@ -29,7 +29,7 @@ loop-index-preserved c =
       kept = c.in-Ok.ensures.kept;
       few = omega (arith, grown, few);
       all = λ m rest. c.loop-index.invariant.all m
-          (one_more before (place + 1) (item_of item) (items_of (drop (place + 1) items)) (items_of (drop place items)) between m next c.in-Ok.ensures.flawless c.in-Ok.ensures.made rest);
+          (one_more before (place + 1) (item_of item) (items_of_text (drop (place + 1) items)) (items_of_text (drop place items)) between m next c.in-Ok.ensures.flawless c.in-Ok.ensures.made rest);
       fault = λ f rest. c.loop-index.invariant.fault f
-          (one_later before (place + 1) (item_of item) (items_of (drop (place + 1) items)) (items_of (drop place items)) between f next c.in-Ok.ensures.flawless c.in-Ok.ensures.made rest);
+          (one_later before (place + 1) (item_of item) (items_of_text (drop (place + 1) items)) (items_of_text (drop place items)) between f next c.in-Ok.ensures.flawless c.in-Ok.ensures.made rest);
     }

@@ -1,7 +1,7 @@
 use Rattle.std.proofs.Common.{◌≡◌, ◌∙◌, List, length, subst, sym, arith}
 use Rattle.std.proofs.lemmas.Result.{err_from_is_err_and}
 use Rattle.ap_types.specs.declared.nodes.Node.{Node}
-use Rattle.ap_types.specs.Triangular.{table_of, IsSettled}
+use Rattle.ap_types.specs.Triangular.{shapes_of_nodes, IsSettledTable}
 use Rattle.ap_types.specs.Joining.{Rewrites, Settles}
 use Rattle.ap_types.specs.Walking.{NoneFits}
 use Rattle.ap_types.proofs.JoinLemmas.{written_back}
@@ -16,9 +16,9 @@ returns-in_err-refuse_cycles-clause-clash c =
     let kept : length new ≡ length c.deref_mut.result.now = c.shorten_all.auto.nodes in
     let as_long : length new ≡ c.in_ok-nodes.nodes.len = omega (arith, c.deref_mut.ensures.len) in
     let value : c.as_slice.result.now ≡ new = c.as_slice.ensures.value ∙ written_back new ns c.in_ok-nodes.nodes.len as_long in
-    let rewrites : Rewrites (table_of ns) (table_of new) = subst (λ (ms : List Node). Rewrites (table_of ms) (table_of new)) c.deref_mut.ensures.value c.shorten_all.ensures in
-    rw (p.1, p.2) (λ i. never_settles (table_of c.args.loaded.nodes.items) (table_of ns) (table_of new) c.args.loaded.pairs.items c.in_ok-nodes.ensures.ok rewrites
-    (subst (λ (ms : List Node). NoneFits (table_of ms)) value (c.in_err-refuse_cycles.ensures.clash i)))
+    let rewrites : Rewrites (shapes_of_nodes ns) (shapes_of_nodes new) = subst (λ (ms : List Node). Rewrites (shapes_of_nodes ms) (shapes_of_nodes new)) c.deref_mut.ensures.value c.shorten_all.ensures in
+    rw (p.1, p.2) (λ i. never_settles (shapes_of_nodes c.args.loaded.nodes.items) (shapes_of_nodes ns) (shapes_of_nodes new) c.args.loaded.pairs.items c.in_ok-nodes.ensures.ok rewrites
+    (subst (λ (ms : List Node). NoneFits (shapes_of_nodes ms)) value (c.in_err-refuse_cycles.ensures.clash i)))
 
 pub returns-clause-ok : goal.returns-clause-ok
 returns-clause-ok c =
@@ -28,7 +28,7 @@ returns-clause-ok c =
     let as_long : length new ≡ c.in_ok-nodes.nodes.len = omega (arith, c.deref_mut.ensures.len) in
     let back = written_back new ns c.in_ok-nodes.nodes.len as_long in
     let value : c.as_slice.result.now ≡ new = c.as_slice.ensures.value ∙ back in
-    let rewrites : Rewrites (table_of ns) (table_of new) = subst (λ (ms : List Node). Rewrites (table_of ms) (table_of new)) c.deref_mut.ensures.value c.shorten_all.ensures in
-    subst (λ (ms : List Node). Settles (table_of c.args.loaded.nodes.items) c.args.loaded.pairs.items (table_of ms)) (sym back)
-    (settles (table_of c.args.loaded.nodes.items) (table_of ns) (table_of new) c.args.loaded.pairs.items c.in_ok-nodes.ensures.ok rewrites
-    (subst (λ (ms : List Node). IsSettled (table_of ms)) value c.in_ok-refuse_cycles.ensures.ok))
+    let rewrites : Rewrites (shapes_of_nodes ns) (shapes_of_nodes new) = subst (λ (ms : List Node). Rewrites (shapes_of_nodes ms) (shapes_of_nodes new)) c.deref_mut.ensures.value c.shorten_all.ensures in
+    subst (λ (ms : List Node). Settles (shapes_of_nodes c.args.loaded.nodes.items) c.args.loaded.pairs.items (shapes_of_nodes ms)) (sym back)
+    (settles (shapes_of_nodes c.args.loaded.nodes.items) (shapes_of_nodes ns) (shapes_of_nodes new) c.args.loaded.pairs.items c.in_ok-nodes.ensures.ok rewrites
+    (subst (λ (ms : List Node). IsSettledTable (shapes_of_nodes ms)) value c.in_ok-refuse_cycles.ensures.ok))

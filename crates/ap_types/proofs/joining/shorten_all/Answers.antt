@@ -1,6 +1,6 @@
-use Rattle.ap_types.specs.Triangular.{table_of}
+use Rattle.ap_types.specs.Triangular.{shapes_of_nodes}
 use Rattle.ap_types.proofs.JoinLemmas.{rewrites_on}
 use Rattle.ap_types.proofs.joining.shorten_all.Goals as goal
 
 pub loop-x-preserved : goal.loop-x-preserved
-loop-x-preserved c = rewrites_on (table_of c.args.nodes.now) (table_of c.loop-x.nodes) (table_of c.shorten.new.nodes) c.loop-x.invariant c.shorten.ensures.rewrites
+loop-x-preserved c = rewrites_on (shapes_of_nodes c.args.nodes.now) (shapes_of_nodes c.loop-x.nodes) (shapes_of_nodes c.shorten.new.nodes) c.loop-x.invariant c.shorten.ensures.rewrites

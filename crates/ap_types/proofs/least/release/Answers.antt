@@ -1,5 +1,5 @@
 use Rattle.std.proofs.Common.{◌≡◌, ◌<◌, ◌∙◌, ◌+◌, ap, sym, arith, length, set}
-use Rattle.ap_types.specs.Rules.{weight, later_weight}
+use Rattle.ap_types.specs.Rules.{rules_weight, later_weight}
 use Rattle.ap_types.proofs.RuleLemmas.{rules_there, rules_past, rules_set_same, rules_set_other, later_set}
 use Rattle.ap_types.proofs.least.release.Goals as goal
 
@@ -28,7 +28,7 @@ returns-clause-weight c =
     let within : c.args.base < length vs = omega arith in
     let old = c.index_mut.result.now in
     let new = c.replace.new.dest in
-    let changed : later_weight (set vs c.args.base new) + (weight old.items + length old.items) ≡ later_weight vs + (weight new.items + length new.items) = later_set vs c.args.base old new within c.index_mut.ensures.value in
-    let empty : weight new.items + length new.items ≡ 0 = ap (λ rs. weight rs + length rs) (ap (λ v. v.items) c.replace.ensures.after ∙ c.new-2.ensures.items) in
-    let given : weight c.replace.result.items + length c.replace.result.items ≡ weight old.items + length old.items = ap (λ v. weight v.items + length v.items) c.replace.ensures.value in
+    let changed : later_weight (set vs c.args.base new) + (rules_weight old.items + length old.items) ≡ later_weight vs + (rules_weight new.items + length new.items) = later_set vs c.args.base old new within c.index_mut.ensures.value in
+    let empty : rules_weight new.items + length new.items ≡ 0 = ap (λ rs. rules_weight rs + length rs) (ap (λ v. v.items) c.replace.ensures.after ∙ c.new-2.ensures.items) in
+    let given : rules_weight c.replace.result.items + length c.replace.result.items ≡ rules_weight old.items + length old.items = ap (λ v. rules_weight v.items + length v.items) c.replace.ensures.value in
     omega (arith, changed, empty, given)

@@ -1,5 +1,5 @@
 use Rattle.std.proofs.Common.{◌≡◌, ◌∙◌, ◌++◌, ◌∷◌, ◌+◌, [], ap, sym, arith, length, length-append, set}
-use Rattle.ap_types.specs.Rules.{weight, later_weight}
+use Rattle.ap_types.specs.Rules.{rules_weight, later_weight}
 use Rattle.ap_types.proofs.RuleLemmas.{rules_there, rules_set_same, rules_set_other, later_set, weight_append}
 use Rattle.ap_types.proofs.least.wait.Goals as goal
 
@@ -20,8 +20,8 @@ returns-clause-weight c =
     let old = c.index_mut.result.now.items in
     let rule = c.args.rule in
     let new = c.push.new.self.items in
-    let changed : later_weight (set vs c.args.base c.push.new.self) + (weight old + length old) ≡ later_weight vs + (weight new + length new) = later_set vs c.args.base c.index_mut.result.now c.push.new.self room.room c.index_mut.ensures.value in
+    let changed : later_weight (set vs c.args.base c.push.new.self) + (rules_weight old + length old) ≡ later_weight vs + (rules_weight new + length new) = later_set vs c.args.base c.index_mut.result.now c.push.new.self room.room c.index_mut.ensures.value in
     let longer : length new ≡ length old + 1 = ap length c.in_ok-push.ensures.items ∙ length-append old (rule ∷ []) in
-    let heavier : weight new ≡ weight old + weight (rule ∷ []) = ap weight c.in_ok-push.ensures.items ∙ weight_append old (rule ∷ []) in
+    let heavier : rules_weight new ≡ rules_weight old + rules_weight (rule ∷ []) = ap rules_weight c.in_ok-push.ensures.items ∙ weight_append old (rule ∷ []) in
     let same : later_weight vs ≡ later_weight c.args.waiting.now.items = room.same.weight in
     omega (arith, changed, longer, heavier, same)

@@ -1,8 +1,8 @@
 use Rattle.std.proofs.Common.{◌+◌, map, drop, length, subst, sym, arith}
 use Rattle.ap_defs.specs.Types.{shape_of}
 use Rattle.ap_types.specs.Equations.{equation_of}
-use Rattle.ap_types.specs.Triangular.{table_of}
-use Rattle.ap_types.specs.Joining.{AreWithin}
+use Rattle.ap_types.specs.Triangular.{shapes_of_nodes}
+use Rattle.ap_types.specs.Joining.{ArePairsWithin}
 use Rattle.ap_types.proofs.TableLemmas.{length_table}
 use Rattle.ap_types.proofs.LoadLemmas.{LoadsSome, loads_first, loads_more, equation_next, bound_next}
 use Rattle.ap_types.proofs.loading.load_all.Goals as goal
@@ -11,8 +11,8 @@ pub loop-e-init : goal.loop-e-init
 loop-e-init c =
     let ns = c.args.loaded.nodes.items in
     let ps = c.args.loaded.pairs.items in
-    loads_first (table_of ns) ps (map equation_of c.args.equations.now) c.requires.formed
-    (subst (λ n. AreWithin n ps) (sym (length_table ns)) c.requires.within)
+    loads_first (shapes_of_nodes ns) ps (map equation_of c.args.equations.now) c.requires.formed
+    (subst (λ n. ArePairsWithin n ps) (sym (length_table ns)) c.requires.within)
     (let l = length_table ns in omega (arith, c.requires.bound))
 
 pub load_equation-requires-clause-formed : goal.load_equation-requires-clause-formed
@@ -21,25 +21,25 @@ load_equation-requires-clause-formed c = c.loop-e.invariant.extends.formed
 pub load_equation-requires-clause-left : goal.load_equation-requires-clause-left
 load_equation-requires-clause-left c =
     let ns = c.loop-e.all.nodes.items in
-    let b = bound_next c.args.equations.now c.loop-e.e-index c.e-item.result (length (table_of ns)) c.loop-e-test.true c.e-item.is c.loop-e.invariant.bound in
+    let b = bound_next c.args.equations.now c.loop-e.e-index c.e-item.result (length (shapes_of_nodes ns)) c.loop-e-test.true c.e-item.is c.loop-e.invariant.bound in
     let l = length_table ns in
     omega (arith, b.0)
 
 pub load_equation-requires-clause-right : goal.load_equation-requires-clause-right
 load_equation-requires-clause-right c =
     let ns = c.loop-e.all.nodes.items in
-    let b = bound_next c.args.equations.now c.loop-e.e-index c.e-item.result (length (table_of ns)) c.loop-e-test.true c.e-item.is c.loop-e.invariant.bound in
+    let b = bound_next c.args.equations.now c.loop-e.e-index c.e-item.result (length (shapes_of_nodes ns)) c.loop-e-test.true c.e-item.is c.loop-e.invariant.bound in
     let l = length_table ns in
     omega (arith, b.1)
 
 pub load_equation-requires-clause-within : goal.load_equation-requires-clause-within
-load_equation-requires-clause-within c = subst (λ n. AreWithin n c.loop-e.all.pairs.items) (length_table c.loop-e.all.nodes.items) c.loop-e.invariant.within
+load_equation-requires-clause-within c = subst (λ n. ArePairsWithin n c.loop-e.all.pairs.items) (length_table c.loop-e.all.nodes.items) c.loop-e.invariant.within
 
 pub loop-e-preserved : goal.loop-e-preserved
 loop-e-preserved c =
-    let ts = table_of c.args.loaded.nodes.items in
-    let us = table_of c.loop-e.all.nodes.items in
-    let vs = table_of c.in_ok-all.all.nodes.items in
+    let ts = shapes_of_nodes c.args.loaded.nodes.items in
+    let us = shapes_of_nodes c.loop-e.all.nodes.items in
+    let vs = shapes_of_nodes c.in_ok-all.all.nodes.items in
     let ps = c.args.loaded.pairs.items in
     let all = map equation_of c.args.equations.now in
     let next = subst (LoadsSome ts ps all us c.loop-e.all.pairs.items) (equation_next c.args.equations.now c.loop-e.e-index c.e-item.result c.loop-e-test.true c.e-item.is) c.loop-e.invariant in

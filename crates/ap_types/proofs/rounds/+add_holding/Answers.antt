@@ -3,20 +3,20 @@ use Rattle.std.specs.Prelude.{◌==◌}
 use Rattle.std.proofs.lemmas.Result.{on_ok_weaker}
 use Rattle.ap_defs.specs.Types.{type_of}
 use Rattle.ap_types.specs.Holding.{holds_if}
-use Rattle.ap_types.specs.Rules.{all_in, Adds}
+use Rattle.ap_types.specs.Rules.{all_are_in, Adds}
 use Rattle.ap_types.proofs.RuleLemmas.{adds_same, adds_either, no_needs, one_need, same_numbers}
 use Rattle.ap_types.proofs.rounds.+add_holding.Goals as goal
 
 pub returns-in_ok-add_rule-in-Names : goal.returns-in_ok-add_rule-in-Names
 returns-in_ok-add_rule-in-Names t c = rw c.in-Names.is
-    (adds_same c.args.rules.now.items c.add_rule.new.rules.items (λ p. all_in p c.new.result.items) (λ p. c.in-Names.other == c.args.sort) c.args.gives
+    (adds_same c.args.rules.now.items c.add_rule.new.rules.items (λ p. all_are_in p c.new.result.items) (λ p. c.in-Names.other == c.args.sort) c.args.gives
     (λ p. no_needs p c.new.result.items c.new.ensures.items ∙ sym (same_numbers c.in-Names.other c.args.sort c.if-other-sort.true))
     c.in_ok-add_rule-in-Names.ensures)
 
 pub returns-in_ok-vec-in-Base : goal.returns-in_ok-vec-in-Base
 returns-in_ok-vec-in-Base t c = rw c.in-Base.is
     (on_ok_weaker c.add_rule-in-Base.result
-    (adds_same c.args.rules.now.items c.add_rule-in-Base.new.rules.items (λ p. all_in p c.in_ok-vec-in-Base.field-0.items) (λ p. p c.in-Base.base) c.args.gives
+    (adds_same c.args.rules.now.items c.add_rule-in-Base.new.rules.items (λ p. all_are_in p c.in_ok-vec-in-Base.field-0.items) (λ p. p c.in-Base.base) c.args.gives
     (λ p. one_need p c.in_ok-vec-in-Base.field-0.items c.in-Base.base c.in_ok-vec-in-Base.ensures.items))
     c.add_rule-in-Base.ensures)
 

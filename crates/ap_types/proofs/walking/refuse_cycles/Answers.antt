@@ -1,5 +1,5 @@
 use Rattle.std.proofs.Common.{arith}
-use Rattle.ap_types.specs.Triangular.{table_of}
+use Rattle.ap_types.specs.Triangular.{shapes_of_nodes}
 use Rattle.ap_types.proofs.TableLemmas.{length_table}
 use Rattle.ap_types.proofs.WalkLemmas.{walk_settles}
 use Rattle.ap_types.proofs.walking.refuse_cycles.Goals as goal
@@ -7,5 +7,5 @@ use Rattle.ap_types.proofs.walking.refuse_cycles.Goals as goal
 pub returns-clause-ok : goal.returns-clause-ok
 returns-clause-ok c =
     let long = length_table c.args.nodes.now in
-    walk_settles (table_of c.args.nodes.now) c.loop-x.walk.marks.items c.loop-x.walk.left c.requires c.loop-x.invariant.0
+    walk_settles (shapes_of_nodes c.args.nodes.now) c.loop-x.walk.marks.items c.loop-x.walk.left c.requires c.loop-x.invariant.0
     (λ x l. c.loop-x.invariant.2 x (omega (arith, c.loop-x-test.false)))

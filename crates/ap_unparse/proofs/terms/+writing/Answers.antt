@@ -1,5 +1,5 @@
 use Rattle.std.proofs.Common.{◌∙◌, ap}
-use Rattle.ap_trees.specs.Trees.{name_of, term_of, terms_of}
+use Rattle.ap_trees.specs.Trees.{name_of_binder, term_of, terms_of}
 use Rattle.ap_unparse.proofs.TermBytes.{pair_goes_on, cell_goes_on, swap_goes_on, apply_ends, left_smaller, head_smaller, swapped_smaller, more_smaller, more_written}
 use Rattle.ap_unparse.proofs.terms.+writing.Goals as goal
 
@@ -52,8 +52,8 @@ write_tree-loop-rest-preserved-in-Cell-1 t c =
 pub write_tree-loop-rest-preserved : goal.write_tree-loop-rest-preserved
 write_tree-loop-rest-preserved t c =
     let w = term_of c.loop-rest.rest.now in
-    let left = name_of c.in-Swapped.left in
-    let right = name_of c.in-Swapped.right in
+    let left = name_of_binder c.in-Swapped.left in
+    let right = name_of_binder c.in-Swapped.right in
     let body = term_of c.in-Swapped.body.value in
     record {
       written =

@@ -8,7 +8,7 @@ use Rattle.ap_defs.specs.declared.goals.Program.{Program}
 use Rattle.ap_defs.specs.declared.terms.Term.{Term}
 use Rattle.ap_backchain.specs.Problems.{clauses_in, queries_in}
 use Rattle.ap_count.specs.Tables.{counts_of}
-use Rattle.ap_uses.specs.Paths.{derivation_at}
+use Rattle.ap_uses.specs.Paths.{derivation_of_path}
 use Rattle.ap_uses.proofs.PathLemmas.{table_there}
 use Rattle.ap_uses.proofs.Shared.{answers_sync}
 use Rattle.ap_uses.proofs.query.uses_at.Goals as goal
@@ -22,5 +22,5 @@ returns g c =
     IfOk-weaker c.uses.result _ _
     (λ t is q asked.
     table_there (counts_of t) (program_in c.items.result.now) (clauses_in p) (slice_get (queries_in p) (p.query - 1)) (query_of c.query_of_problem-query.result.now) q
-    (map (derivation_at p) c.args.paths.now) (ap (λ (cs : List (List (Clause Term))). program_in cs) (c.items.ensures ∙ ap (λ (r : Program Term). r.clauses) c.program.ensures.same)) c.query_of_problem-query.ensures.query asked is)
+    (map (derivation_of_path p) c.args.paths.now) (ap (λ (cs : List (List (Clause Term))). program_in cs) (c.items.ensures ∙ ap (λ (r : Program Term). r.clauses) c.program.ensures.same)) c.query_of_problem-query.ensures.query asked is)
     c.uses.ensures

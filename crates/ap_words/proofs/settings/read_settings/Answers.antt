@@ -1,7 +1,7 @@
 use Rattle.std.proofs.Common.{◌∙◌, ◌++◌, ap, sym, drop, map, List, Option, string_bytes}
 use Rattle.std.specs.Prelude.{option_map}
 use Rattle.ap_words.specs.declared.settings.Setting.{Setting}
-use Rattle.ap_words.specs.Words.{both, settings_of}
+use Rattle.ap_words.specs.Words.{both_settings, settings_of}
 use Rattle.ap_words.proofs.Steps.{one_more}
 use Rattle.ap_words.proofs.settings.read_settings.Goals as goal
 
@@ -12,7 +12,7 @@ loop-at-preserved c =
       in_range = c.setting_at-first.ensures.further.1;
       read = c.loop-at.invariant.read
           ∙ ap (option_map (λ (ss : List Setting). c.loop-at.found.items ++ ss))
-          (c.setting_at-first.ensures.first ∙ ap (λ (o : Option Setting). both o rest) c.in-Some.is)
+          (c.setting_at-first.ensures.first ∙ ap (λ (o : Option Setting). both_settings o rest) c.in-Some.is)
           ∙ one_more c.loop-at.found.items c.in-Some.setting rest
           ∙ ap (λ (xs : List Setting). option_map (λ (ss : List Setting). xs ++ ss) rest) (sym c.in_ok-push.ensures.items);
     }

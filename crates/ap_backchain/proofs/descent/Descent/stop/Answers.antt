@@ -1,6 +1,6 @@
 use Rattle.std.proofs.Common.{sym, subst}
 use Rattle.ap_defs.specs.Goals.{Clauses}
-use Rattle.ap_backchain.specs.Branches.{IsChoosing, IsNamed}
+use Rattle.ap_backchain.specs.Branches.{IsChoosing, IsNamedNode}
 use Rattle.ap_backchain.specs.Problems.{clauses_in}
 use Rattle.ap_backchain.proofs.AnsweringLemmas.{standing_chooses}
 use Rattle.ap_backchain.proofs.BranchLemmas.{named_branch}
@@ -14,4 +14,4 @@ pub returns-clause-of : goal.returns-clause-of
 returns-clause-of c =
     let b = c.in_ok-branch.branch in
     named_branch c.args.p.now b c.args.self.standing c.in_ok-branch.ensures.standing c.requires.of
-    (subst (λ (x : Clauses). IsNamed x b.node b.standing) c.clauses_of_problem-clauses.ensures.clauses c.in_ok-branch.ensures.named)
+    (subst (λ (x : Clauses). IsNamedNode x b.node b.standing) c.clauses_of_problem-clauses.ensures.clauses c.in_ok-branch.ensures.named)

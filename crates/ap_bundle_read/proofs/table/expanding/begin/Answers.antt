@@ -5,7 +5,7 @@ use Rattle.std.proofs.lemmas.Result.{on_ok_weaker}
 use Rattle.ap_defs.specs.Terms.{term_of}
 use Rattle.ap_bundle_read.specs.declared.table.expanding.Task.TheVariants as task
 use Rattle.ap_bundle_read.specs.Stacks.{stacked}
-use Rattle.ap_bundle_read.specs.Tables.{table_terms, made_by, AreTasksWithin, weigh}
+use Rattle.ap_bundle_read.specs.Tables.{table_terms, made_by, AreTasksWithin, weigh_tasks}
 use Rattle.ap_bundle_read.proofs.TableLemmas.{terms_long, line_of_items, line_made, line_within, line_lighter}
 use Rattle.ap_bundle_read.proofs.table.expanding.begin.Goals as goal
 
@@ -40,5 +40,5 @@ returns-clause-lighter c =
     let few : c.args.line < length items = subst (λ n. c.args.line < n) (terms_long items) c.requires.line in
     let is = line_of_items items c.args.line l c.requires.table (slice_get_read items (length items) c.args.line l refl few c.index.ensures) in
     on_ok_weaker c.push_ready.result
-    (λ e. subst (λ ks. weigh table ks < weigh table (task.Line c.args.line ∷ reverse c.args.tasks.now.items)) (sym c.in_ok-push_tasks.ensures) (line_lighter table (reverse c.args.tasks.now.items) c.args.line l l.entry is refl))
+    (λ e. subst (λ ks. weigh_tasks table ks < weigh_tasks table (task.Line c.args.line ∷ reverse c.args.tasks.now.items)) (sym c.in_ok-push_tasks.ensures) (line_lighter table (reverse c.args.tasks.now.items) c.args.line l l.entry is refl))
     c.push_ready.ensures

@@ -1,7 +1,7 @@
 use Rattle.std.proofs.Common.{rules, ◌≡◌, sym, subst, Some, List, [], ◌∷◌, map}
 use mathlib.Core.Option.{some}
 use Rattle.ap_lock.specs.declared.view.Stage.TheVariants.{Idle}
-use Rattle.ap_lock.specs.Turns.{Slot, Kept, view, fresh_owns}
+use Rattle.ap_lock.specs.Turns.{Slot, SeatsKept, view, fresh_owns}
 use Rattle.ap_lock.proofs.Steps.{begin_step}
 use Rattle.ap_lock.proofs.shared.SharedBook.with_all.Goals as goal
 
@@ -9,4 +9,4 @@ pub new-requires-2 : goal.new-requires-2
 new-requires-2 c =
     let n = c.args.seats in
     let one : c.push.new.self.items ≡ Some [] ∷ [] = search rules in
-    subst (λ (xs : List Slot). Kept n record { words = 0 ∷ 0 ∷ []; homes = map some xs; views = view Idle (fresh_owns 0 n) ∷ [] }) (sym one) (begin_step n c.requires.1)
+    subst (λ (xs : List Slot). SeatsKept n record { words = 0 ∷ 0 ∷ []; homes = map some xs; views = view Idle (fresh_owns 0 n) ∷ [] }) (sym one) (begin_step n c.requires.1)

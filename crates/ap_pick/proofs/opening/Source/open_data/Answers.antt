@@ -2,7 +2,7 @@ use Rattle.std.proofs.Common.{◌≡◌, ◌∙◌, true, false, None, map, sym,
 use Rattle.std.proofs.lemmas.List.{get_or_past}
 use Rattle.ap_defs.specs.declared.goals.Constructor.{Constructor}
 use Rattle.ap_defs.specs.Types.{constructor_of, type_of}
-use Rattle.ap_pick.specs.Choices.{IsChoice, IsChoiceFor}
+use Rattle.ap_pick.specs.Choices.{IsPickedChoice, IsChoiceFor}
 use Rattle.ap_pick.proofs.WantLemmas.{choice_arguments, choice_below, data_inside}
 use Rattle.ap_pick.proofs.opening.Source.open_data.Goals as goal
 
@@ -16,7 +16,7 @@ returns-then-place-self c =
 pub offset_bounds-self-choice : goal.offset_bounds-self-choice
 offset_bounds-self-choice c =
     let cons = c.args.self.now.constructors.now in
-    let h : IsChoice (map constructor_of cons) c.args.base c.in-Some.choice = subst (IsChoiceFor (map constructor_of cons) c.args.base) c.in-Some.is (c.requires.chosen c.args.base) in
+    let h : IsPickedChoice (map constructor_of cons) c.args.base c.in-Some.choice = subst (IsChoiceFor (map constructor_of cons) c.args.base) c.in-Some.is (c.requires.chosen c.args.base) in
     let below = choice_below cons c.args.base c.in-Some.choice h in
     let bounded = c.requires.bounded in
     omega (arith, below, bounded)
@@ -24,13 +24,13 @@ offset_bounds-self-choice c =
 pub bounds-self-choice : goal.bounds-self-choice
 bounds-self-choice c =
     let cons = c.args.self.now.constructors.now in
-    let h : IsChoice (map constructor_of cons) c.args.base c.in-Some.choice = subst (IsChoiceFor (map constructor_of cons) c.args.base) c.in-Some.is (c.requires.chosen c.args.base) in
+    let h : IsPickedChoice (map constructor_of cons) c.args.base c.in-Some.choice = subst (IsChoiceFor (map constructor_of cons) c.args.base) c.in-Some.is (c.requires.chosen c.args.base) in
     choice_below cons c.args.base c.in-Some.choice h
 
 pub overflow_cast-number : goal.overflow_cast-number
 overflow_cast-number c =
     let cons = c.args.self.now.constructors.now in
-    let h : IsChoice (map constructor_of cons) c.args.base c.in-Some.choice = subst (IsChoiceFor (map constructor_of cons) c.args.base) c.in-Some.is (c.requires.chosen c.args.base) in
+    let h : IsPickedChoice (map constructor_of cons) c.args.base c.in-Some.choice = subst (IsChoiceFor (map constructor_of cons) c.args.base) c.in-Some.is (c.requires.chosen c.args.base) in
     let below = choice_below cons c.args.base c.in-Some.choice h in
     let bounded = c.requires.bounded in
     omega (arith, below, bounded)
@@ -38,7 +38,7 @@ overflow_cast-number c =
 pub overflow_add-number : goal.overflow_add-number
 overflow_add-number c =
     let cons = c.args.self.now.constructors.now in
-    let h : IsChoice (map constructor_of cons) c.args.base c.in-Some.choice = subst (IsChoiceFor (map constructor_of cons) c.args.base) c.in-Some.is (c.requires.chosen c.args.base) in
+    let h : IsPickedChoice (map constructor_of cons) c.args.base c.in-Some.choice = subst (IsChoiceFor (map constructor_of cons) c.args.base) c.in-Some.is (c.requires.chosen c.args.base) in
     let below = choice_below cons c.args.base c.in-Some.choice h in
     let bounded = c.requires.bounded in
     omega (arith, below, bounded)
@@ -46,7 +46,7 @@ overflow_add-number c =
 pub returns : goal.returns
 returns c = λ n ss ty t.
     let cons = c.args.self.now.constructors.now in
-    let h : IsChoice (map constructor_of cons) c.args.base c.in-Some.choice = subst (IsChoiceFor (map constructor_of cons) c.args.base) c.in-Some.is (c.requires.chosen c.args.base) in
+    let h : IsPickedChoice (map constructor_of cons) c.args.base c.in-Some.choice = subst (IsChoiceFor (map constructor_of cons) c.args.base) c.in-Some.is (c.requires.chosen c.args.base) in
     data_inside (map constructor_of cons) c.args.base c.in-Some.choice h c.args.rounds c.requires.well n ss ty t c.items.result
     (ap (map type_of) c.items.ensures ∙ ap (λ (x : Constructor). map type_of x.args) (sym c.index-self-choice.is)
     ∙ choice_arguments cons c.args.base c.in-Some.choice h c.index-self-choice.result c.index-self-choice.is)

@@ -1,6 +1,6 @@
 use Rattle.std.proofs.Common.{◌≡◌, ◌∙◌, sym, ap, ◌++◌, ◌∷◌, []}
 use Rattle.ap_trees.specs.Terms.{OfWord, OfVar}
-use Rattle.ap_trees.specs.Trees.{name_of}
+use Rattle.ap_trees.specs.Trees.{name_of_binder}
 use Rattle.ap_scopes.specs.Identifiers.{free_place, free_one}
 use Rattle.ap_scopes.specs.Views.{number_at, found_of}
 use Rattle.ap_scopes.proofs.Numbering.{free_place-other, name-blank, variable-blank}
@@ -8,7 +8,7 @@ use Rattle.ap_scopes.proofs.identifiers.Identifiers.blank.Goals as goal
 
 pub returns-clause-numbered : goal.returns-clause-numbered
 returns-clause-numbered c =
-    let spelling = name_of c.args.spelling in
+    let spelling = name_of_binder c.args.spelling in
     let old = found_of c.args.self.now in
     let grown : found_of c.push.new.self ≡ old ++ free_one spelling ∷ [] = ap (λ p. p.1) c.in_ok-number.ensures.value in
     record {
