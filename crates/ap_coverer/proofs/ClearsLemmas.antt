@@ -1,8 +1,10 @@
 -- Swappings that take names out of the way do so.
-use Rattle.std.proofs.Common.{◌≡◌, ◌∙◌, ◌≤◌, ◌+◌, ℕ, zero, suc, Bool, true, false, ◌&&◌, ◌||◌, not, List, [], ◌∷◌, ◌++◌, map, drop, Some, refl, sym, ap, ap₂, subst, inl, inr, arith, true≢false, append_assoc, append-nil, length}
+use Rattle.std.proofs.Common.{◌≡◌, ◌∙◌, ◌+◌, ℕ, Bool, true, false, ◌&&◌, ◌||◌, not, List, [], ◌∷◌, ◌++◌, map, drop, None, Some, cond, nat_eq, nat_lt, refl, sym, ap, ap₂, subst, inl, inr, arith, true≢false, append_assoc, append-nil, length}
 use Rattle.std.specs.Prelude.{filter, if◌then◌else◌, slice_get}
 use Rattle.std.specs.List.{list_any}
+use Rattle.std.specs.Option.{unwrap_or}
 use Rattle.std.proofs.Math.Seq.{drop-append_seam}
+use Rattle.std.proofs.lemmas.Bool.{eqb-true, ltb-false, ltb-true}
 use Rattle.std.proofs.lemmas.List.Elements.{filter-append}
 use Rattle.ap_defs.specs.declared.terms.Name.{Name}
 use Rattle.ap_defs.specs.declared.terms.Swap.{Swap}
@@ -22,7 +24,7 @@ use Rattle.ap_theory.specs.StatementsOnExchanges.{Exchangeable}
 use Rattle.ap_theory.proofs.BooleanLemmas.{and_both, and_left, and_right, false_if_not, or_cases, or_false, or_if_left, or_if_right}
 use Rattle.ap_theory.proofs.DisagreementLemmas.{has_name-append}
 use Rattle.ap_theory.proofs.ExchangeLemmas.{exchange_goes, exchange_other}
-use Rattle.ap_theory.proofs.PermutationLemmas.{name_eq_same}
+use Rattle.ap_theory.proofs.PermutationLemmas.{name_eq_itself, name_eq_same}
 use Rattle.ap_ground.proofs.ListLemmas.{first_names_different, has_first_names}
 use Rattle.ap_ground.proofs.ProofActionLemmas.{has_act}
 use Rattle.ap_complete.specs.Coverings.{TakesApart, names_of_answer}
@@ -31,7 +33,9 @@ use Rattle.ap_answers.specs.Occurring.{more_names}
 use Rattle.ap_cover.specs.Ground.{ground_terms}
 use Rattle.ap_property.specs.Stated.{other_names}
 use Rattle.ap_instance.proofs.NameLemmas.{name_there}
-use Rattle.ap_coverer.specs.Clearing.{Clears, Takes, in_the_way, used_names}
+use Rattle.indexmap.specs.IndexMap.{IndexMap, get}
+use Rattle.ap_coverer.specs.Clearing.{AreUsedBelow, Clears, Takes, in_the_way, used_names}
+use Rattle.ap_coverer.specs.Starts.{SkipsUsed}
 
 -- what has no length is empty
 pub no_more : {A : Type 0} (xs : List A) → length xs ≡ 0 → xs ≡ []
@@ -57,32 +61,83 @@ next_kept keep xs more keys place a whole m e h =
     ∙ ap (λ l. xs ++ l) (sym (filter-append keep (a ∷ []) rest))
     ∙ ap (λ l. xs ++ filter keep l) (sym (name_there keys place a e)) ∙ h
 
+-- one name more is used
+pub has_brought : (used : List Name) (a b : Name) → has_name b (used ++ a ∷ []) ≡ (has_name b used || (name_eq b a || false))
+has_brought used a b = has_name-append b used (a ∷ [])
+
+pub still_used : (used : List Name) (a b : Name) → has_name b used ≡ true → has_name b (used ++ a ∷ []) ≡ true
+still_used used a b h = has_brought used a b ∙ or_if_left (has_name b used) (name_eq b a || false) h
+
+pub brought_used : (used : List Name) (a : Name) → has_name a (used ++ a ∷ []) ≡ true
+brought_used used a = has_brought used a a ∙ or_if_right (has_name a used) (name_eq a a || false) (or_if_left (name_eq a a) false (name_eq_itself a))
+
+pub not_used_before : (used : List Name) (a b : Name) → has_name b (used ++ a ∷ []) ≡ false → has_name b used ≡ false
+not_used_before used a b h = (or_false (has_name b used) (name_eq b a || false) (sym (has_brought used a b) ∙ h)).0
+
+-- a name that is not used is added at the end
+pub added : (used more : List Name) (a : Name) → has_name a used ≡ false → more ≡ (if list_any (name_eq a) used then used else used ++ a ∷ []) → more ≡ used ++ a ∷ []
+added used more a h e = e ∙ ap (λ v. if v then used else used ++ a ∷ []) (any_name a used ∙ h)
+
+-- below the number of a name that was taken, and up to it, all are used
+used_up_to : (used : List Name) (a : Name) → AreUsedBelow used a.sort a.num → AreUsedBelow (used ++ a ∷ []) a.sort (a.num + 1)
+used_up_to used a h i l =
+    elim (nat_lt i a.num) as (λ v. nat_lt i a.num ≡ v → has_name (record { sort = a.sort; num = i }) (used ++ a ∷ []) ≡ true) [
+      | true ↦ λ e. still_used used a (record { sort = a.sort; num = i }) (h i (ltb-true i a.num e))
+      | false ↦ λ e.
+          let k = ltb-false i a.num e in
+          let same : a.num ≡ i = omega (arith, l, k) in
+          subst (λ j. has_name (record { sort = a.sort; num = j }) (used ++ a ∷ []) ≡ true) same (brought_used used a)
+    ] refl
+
+-- so the next search for a name of that sort starts behind it
+pub next_start : {S : Type 0} (used more : List Name) (sort num : ℕ) (starts after : IndexMap ℕ ℕ S) → SkipsUsed used starts → AreUsedBelow used sort num
+    → more ≡ used ++ (record { sort = sort; num = num }) ∷ [] → ((other : ℕ) → get nat_eq after other ≡ cond (nat_eq sort other) (Some (num + 1)) (get nat_eq starts other))
+    → SkipsUsed more after
+next_start used more sort num starts after skips least m updates other n there =
+    let a : Name = record { sort = sort; num = num } in
+    subst (λ us. AreUsedBelow us other n) (sym m)
+    (elim (nat_eq sort other) as (λ v. nat_eq sort other ≡ v → cond v (Some (num + 1)) (get nat_eq starts other) ≡ Some n → AreUsedBelow (used ++ a ∷ []) other n) [
+      | true ↦ λ e k.
+          let same : sort ≡ other = eqb-true sort other e in
+          let one : num + 1 ≡ n = cc in
+          subst (λ s. AreUsedBelow (used ++ a ∷ []) s n) same (subst (AreUsedBelow (used ++ a ∷ []) sort) one (used_up_to used a least))
+      | false ↦ λ e k i l. still_used used a (record { sort = other; num = i }) (skips other n k i l)
+    ] refl (sym (updates other) ∙ there))
+
+-- where a search starts, all before are used
+pub from_start : {S : Type 0} (used : List Name) (starts : IndexMap ℕ ℕ S) → SkipsUsed used starts → (sort from : ℕ) → from ≡ unwrap_or (get nat_eq starts sort) 0 → AreUsedBelow used sort from
+from_start used starts skips sort from e =
+    subst (AreUsedBelow used sort) (sym e)
+    (elim (get nat_eq starts sort) as (λ o. get nat_eq starts sort ≡ o → AreUsedBelow used sort (unwrap_or o 0)) [
+      | None ↦ λ k i l. absurd (omega (arith, l))
+      | Some n ↦ λ k. skips sort n k
+    ] refl)
+
 -- and one name more is exchanged
-pub next_exchange : (used rest others whole : List Name) (next : ℕ) (c : Name) (s : Swap) (ss more : List Swap) → rest ≡ c ∷ others → more ≡ ss ++ s ∷ [] → Takes used next c s
-    → ((tail : List Swap) → Clears used next rest tail → Clears used zero whole (ss ++ tail)) → (tail : List Swap) → Clears used (s.right + 1) others tail → Clears used zero whole (more ++ tail)
-next_exchange used rest others whole next c s ss more r m takes before tail h =
-    let one : s.right + 1 ≡ suc s.right = omega arith in
-    let after : Clears used (suc s.right) others tail = subst (λ n. Clears used n others tail) one h in
-    subst (Clears used zero whole) (sym (ap (λ l. l ++ tail) m ∙ append_assoc ss (s ∷ []) tail))
-    (before (s ∷ tail) (subst (λ cs. Clears used next cs (s ∷ tail)) (sym r) (takes, after)))
+pub next_exchange : (used more_used start rest others whole : List Name) (c : Name) (s : Swap) (ss more : List Swap)
+    → rest ≡ c ∷ others → more ≡ ss ++ s ∷ [] → Takes used c s → more_used ≡ used ++ right_name s ∷ []
+    → ((tail : List Swap) → Clears used rest tail → Clears start whole (ss ++ tail)) → (tail : List Swap) → Clears more_used others tail → Clears start whole (more ++ tail)
+next_exchange used more_used start rest others whole c s ss more r m takes u before tail h =
+    subst (Clears start whole) (sym (ap (λ l. l ++ tail) m ∙ append_assoc ss (s ∷ []) tail))
+    (before (s ∷ tail) (subst (λ cs. Clears used cs (s ∷ tail)) (sym r) (takes, subst (λ us. Clears us others tail) u h)))
 
 -- only which names are used matters
-pub clears_same : (us vs : List Name) → ((b : Name) → has_name b us ≡ has_name b vs) → (n : ℕ) (cs : List Name) (ss : List Swap) → Clears us n cs ss → Clears vs n cs ss
-clears_same us vs e n [] [] h = tt
-clears_same us vs e n (c ∷ cs) (s ∷ ss) h = (
-  record {
-    sort = h.0.sort;
-    left = h.0.left;
-    next = record {
-      from = h.0.next.from;
-      unused = sym (e (right_name s)) ∙ h.0.next.unused;
-      least = λ i l k. sym (e (record { sort = s.sort; num = i })) ∙ h.0.next.least i l k;
-    };
-  },
-  clears_same us vs e (suc s.right) cs ss h.1,
-)
-clears_same us vs e n [] (s ∷ ss) h = absurd h
-clears_same us vs e n (c ∷ cs) [] h = absurd h
+pub clears_same : (us vs : List Name) → ((b : Name) → has_name b us ≡ has_name b vs) → (cs : List Name) (ss : List Swap) → Clears us cs ss → Clears vs cs ss
+clears_same us vs e [] [] h = tt
+clears_same us vs e (c ∷ cs) (s ∷ ss) h =
+    let a = right_name s in (
+      record {
+        sort = h.0.sort;
+        left = h.0.left;
+        next = record {
+          unused = sym (e a) ∙ h.0.next.unused;
+          least = λ i l. sym (e (record { sort = s.sort; num = i })) ∙ h.0.next.least i l;
+        };
+      },
+      clears_same (us ++ a ∷ []) (vs ++ a ∷ []) (λ b. has_brought us a b ∙ ap (λ v. v || (name_eq b a || false)) (e b) ∙ sym (has_brought vs a b)) cs ss h.1,
+    )
+clears_same us vs e [] (s ∷ ss) h = absurd h
+clears_same us vs e (c ∷ cs) [] h = absurd h
 
 either_way : (l a : Bool) (t : Bool) → ((l || (a && not l)) || t) ≡ (l || (a || t))
 either_way true a t = refl
@@ -105,7 +160,7 @@ filter_same f g (x ∷ xs) h = ap₂ (λ v l. if v then (x ∷ l) else l) (h x) 
 pub clears_known : (locals : List NominalLocal) (a : NominalAnswer) (ts : List NominalTerm) (known there used found : List Name) (free : ℕ)
     → known ≡ local_names 0 locals ++ other_names locals a → free ≡ length (local_names 0 locals) → there ≡ more_names [] (names_of_terms ts)
     → found ≡ filter (λ b. has_name b there) (drop free known) → used ≡ more_names known (names_of_terms ts)
-    → (ss : List Swap) → Clears used zero found ss → Clears (used_names locals a ts) zero (in_the_way locals a ts) ss
+    → (ss : List Swap) → Clears used found ss → Clears (used_names locals a ts) (in_the_way locals a ts) ss
 clears_known locals a ts known there used found free k f t w u ss h =
     let query = local_names 0 locals in
     let others = other_names locals a in
@@ -118,59 +173,49 @@ clears_known locals a ts known there used found free k f t w u ss h =
     let same_found : found ≡ in_the_way locals a ts =
     w ∙ ap (filter (λ b. has_name b there)) (ap₂ drop f k ∙ drop-append_seam query others)
     ∙ filter_same (λ b. has_name b there) (λ b. has_name b ns) others (λ b. ap (has_name b) t ∙ has_more [] ns b) in
-    clears_same used (used_names locals a ts) same_used zero (in_the_way locals a ts) ss (subst (λ cs. Clears used zero cs ss) same_found h)
+    clears_same used (used_names locals a ts) same_used (in_the_way locals a ts) ss (subst (λ cs. Clears used cs ss) same_found h)
 
 -- WHAT THEY ARE
 
 abbrev pub brought : List Swap → List Name
 brought ss = map right_name ss
 
-module _ (used : List Name) where
-  are_of_sorts : (n : ℕ) (cs : List Name) (ss : List Swap) → Clears used n cs ss → AreOfSorts cs (brought ss)
-  are_of_sorts n [] [] h = tt
-  are_of_sorts n (c ∷ cs) (s ∷ ss) h = (h.0.sort, are_of_sorts (suc s.right) cs ss h.1)
-  are_of_sorts n [] (s ∷ ss) h = absurd h
-  are_of_sorts n (c ∷ cs) [] h = absurd h
+are_of_sorts : (used cs : List Name) (ss : List Swap) → Clears used cs ss → AreOfSorts cs (brought ss)
+are_of_sorts used [] [] h = tt
+are_of_sorts used (c ∷ cs) (s ∷ ss) h = (h.0.sort, are_of_sorts (used ++ right_name s ∷ []) cs ss h.1)
+are_of_sorts used [] (s ∷ ss) h = absurd h
+are_of_sorts used (c ∷ cs) [] h = absurd h
 
-  same_swap : (c : Name) (s : Swap) → s.sort ≡ c.sort → s.left ≡ c.num → s ≡ swap_of c (right_name s)
-  same_swap c s e k = ap₂ (λ i j. record { sort = i; left = j; right = s.right }) e k
+same_swap : (c : Name) (s : Swap) → s.sort ≡ c.sort → s.left ≡ c.num → s ≡ swap_of c (right_name s)
+same_swap c s e k = ap₂ (λ i j. record { sort = i; left = j; right = s.right }) e k
 
-  are_exchanges : (n : ℕ) (cs : List Name) (ss : List Swap) → Clears used n cs ss → ss ≡ exchange cs (brought ss)
-  are_exchanges n [] [] h = refl
-  are_exchanges n (c ∷ cs) (s ∷ ss) h = ap₂ ◌∷◌ (same_swap c s h.0.sort h.0.left) (are_exchanges (suc s.right) cs ss h.1)
-  are_exchanges n [] (s ∷ ss) h = absurd h
-  are_exchanges n (c ∷ cs) [] h = absurd h
+are_exchanges : (used cs : List Name) (ss : List Swap) → Clears used cs ss → ss ≡ exchange cs (brought ss)
+are_exchanges used [] [] h = refl
+are_exchanges used (c ∷ cs) (s ∷ ss) h = ap₂ ◌∷◌ (same_swap c s h.0.sort h.0.left) (are_exchanges (used ++ right_name s ∷ []) cs ss h.1)
+are_exchanges used [] (s ∷ ss) h = absurd h
+are_exchanges used (c ∷ cs) [] h = absurd h
 
-  -- those that come are none of those that are used, and they ascend
-  pub are_unused : (n : ℕ) (cs : List Name) (ss : List Swap) → Clears used n cs ss → (b : Name) → has_name b (brought ss) ≡ true → has_name b used ≡ false
-  are_unused n [] [] h b i = absurd (true≢false (sym i))
-  are_unused n (c ∷ cs) (s ∷ ss) h b i =
-      elim (or_cases (name_eq b (right_name s)) (has_name b (brought ss)) i) [
-        | inl e ↦ ap (λ a. has_name a used) (name_eq_same b (right_name s) e) ∙ h.0.next.unused
-        | inr e ↦ are_unused (suc s.right) cs ss h.1 b e
-      ]
-  are_unused n [] (s ∷ ss) h b i = absurd h
-  are_unused n (c ∷ cs) [] h b i = absurd h
+-- those that come are none of those that are used
+pub are_unused : (used cs : List Name) (ss : List Swap) → Clears used cs ss → (b : Name) → has_name b (brought ss) ≡ true → has_name b used ≡ false
+are_unused used [] [] h b i = absurd (true≢false (sym i))
+are_unused used (c ∷ cs) (s ∷ ss) h b i =
+    elim (or_cases (name_eq b (right_name s)) (has_name b (brought ss)) i) [
+      | inl e ↦ ap (λ a. has_name a used) (name_eq_same b (right_name s) e) ∙ h.0.next.unused
+      | inr e ↦ not_used_before used (right_name s) b (are_unused (used ++ right_name s ∷ []) cs ss h.1 b e)
+    ]
+are_unused used [] (s ∷ ss) h b i = absurd h
+are_unused used (c ∷ cs) [] h b i = absurd h
 
-  ascend : (n : ℕ) (cs : List Name) (ss : List Swap) → Clears used n cs ss → (b : Name) → has_name b (brought ss) ≡ true → n ≤ b.num
-  ascend n [] [] h b i = absurd (true≢false (sym i))
-  ascend n (c ∷ cs) (s ∷ ss) h b i =
-      let f = h.0.next.from in
-      elim (or_cases (name_eq b (right_name s)) (has_name b (brought ss)) i) [
-        | inl e ↦ let k : b.num ≡ s.right = ap (λ (a : Name). a.num) (name_eq_same b (right_name s) e) in omega (arith, f, k)
-        | inr e ↦ let k = ascend (suc s.right) cs ss h.1 b e in omega (arith, f, k)
-      ]
-  ascend n [] (s ∷ ss) h b i = absurd h
-  ascend n (c ∷ cs) [] h b i = absurd h
-
-  are_different : (n : ℕ) (cs : List Name) (ss : List Swap) → Clears used n cs ss → AreDifferent (brought ss)
-  are_different n [] [] h = tt
-  are_different n (c ∷ cs) (s ∷ ss) h = (
-    false_if_not (has_name (right_name s) (brought ss)) (λ i. let k : suc s.right ≤ s.right = ascend (suc s.right) cs ss h.1 (right_name s) i in absurd (omega (arith, k))),
-    are_different (suc s.right) cs ss h.1,
-  )
-  are_different n [] (s ∷ ss) h = absurd h
-  are_different n (c ∷ cs) [] h = absurd h
+-- and each is used when a later one comes
+are_different : (used cs : List Name) (ss : List Swap) → Clears used cs ss → AreDifferent (brought ss)
+are_different used [] [] h = tt
+are_different used (c ∷ cs) (s ∷ ss) h =
+    let a = right_name s in (
+      false_if_not (has_name a (brought ss)) (λ i. true≢false (sym (brought_used used a) ∙ are_unused (used ++ a ∷ []) cs ss h.1 a i)),
+      are_different (used ++ a ∷ []) cs ss h.1,
+    )
+are_different used [] (s ∷ ss) h = absurd h
+are_different used (c ∷ cs) [] h = absurd h
 
 -- SOME OF THE NAMES
 
@@ -230,7 +275,7 @@ absent_each a (t ∷ ts) h = let k = absent_then a t (names_of_terms ts) h in (k
 
 -- SO THEY TAKE APART
 
-module _ (locals : List NominalLocal) (a : NominalAnswer) (ts : List NominalTerm) (n : ℕ) (ss : List Swap) (clears : Clears (used_names locals a ts) n (in_the_way locals a ts) ss) where
+module _ (locals : List NominalLocal) (a : NominalAnswer) (ts : List NominalTerm) (ss : List Swap) (clears : Clears (used_names locals a ts) (in_the_way locals a ts) ss) where
   abbrev query : List Name
   query = local_names 0 locals
 
@@ -270,18 +315,18 @@ module _ (locals : List NominalLocal) (a : NominalAnswer) (ts : List NominalTerm
       negated false e = refl
 
   came_unused : (b : Name) → has_name b used ≡ true → has_name b (brought ss) ≡ false
-  came_unused b h = false_if_not (has_name b (brought ss)) (λ i. true≢false (sym h ∙ are_unused used n way ss clears b i))
+  came_unused b h = false_if_not (has_name b (brought ss)) (λ i. true≢false (sym h ∙ are_unused used way ss clears b i))
 
   exchangeable : Exchangeable way (brought ss)
   exchangeable = (
-    are_of_sorts used n way ss clears,
+    are_of_sorts used way ss clears,
     kept_different stands (other_names locals a) (first_names_different query (names_of_answer a)),
-    are_different used n way ss clears,
+    are_different used way ss clears,
     λ b h. came_unused b (in_answer b (way_other b h).0),
   )
 
   acts : (b : Name) → act_name ss b ≡ act_name (exchange way (brought ss)) b
-  acts b = ap (λ s. act_name s b) (are_exchanges used n way ss clears)
+  acts b = ap (λ s. act_name s b) (are_exchanges used way ss clears)
 
   stays : (b : Name) → has_name b used ≡ true → has_name b way ≡ false → act_name ss b ≡ b
   stays b h k = acts b ∙ exchange_other way (brought ss) b exchangeable.0 k (came_unused b h)
@@ -290,7 +335,7 @@ module _ (locals : List NominalLocal) (a : NominalAnswer) (ts : List NominalTerm
   goes_away b h =
       let x = exchange way (brought ss) in
       let there : has_name (act_name x b) (brought ss) ≡ true = ap (has_name (act_name x b)) (sym (exchange_goes way (brought ss) exchangeable)) ∙ has_act x b way ∙ h in
-      ap stands (acts b) ∙ not_in_terms (act_name x b) (are_unused used n way ss clears (act_name x b) there)
+      ap stands (acts b) ∙ not_in_terms (act_name x b) (are_unused used way ss clears (act_name x b) there)
 
   pub clears_apart : TakesApart locals a (ground_terms ts) ss
   clears_apart = record {

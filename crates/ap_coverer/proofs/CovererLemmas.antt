@@ -81,12 +81,12 @@ module _ (p : NominalProgram) (keeps : KeepsRestriction p) (depth : ℕ) (d : No
       each_among (HasTypedVars p.signature.constructors) (query_outs p.clauses depth q) (answers_have_types p keeps.typed q (typed p keeps depth d q asked checks closed low) depth) l a i
 
   covered_so : (a : NominalAnswer) → IsAmong (answers.found (path d.derivation) a) (query_outs p.clauses depth q) → (swaps : List Swap) (ps : List (Var × Term))
-      → Clears (used_names q.locals a d.answer.binds) zero (in_the_way q.locals a d.answer.binds) swaps
+      → Clears (used_names q.locals a d.answer.binds) (in_the_way q.locals a d.answer.binds) swaps
       → AreMatched p.signature.constructors a (ground_terms d.answer.binds) swaps ps → IsCoveredBy p q depth d (path d.derivation) swaps ps
   covered_so a i swaps ps clears m =
       let gs = ground_terms d.answer.binds in
       let none : Grounding = λ x. terms.unit in
-      let takes = clears_apart q.locals a d.answer.binds zero swaps clears in
+      let takes = clears_apart q.locals a d.answer.binds swaps clears in
       let there = subst (λ (l : List ℕ). IsAmong (answers.found l a) (query_outs p.clauses depth q)) (sym (path_mapped (grounded none) d.derivation)) i in
       record {
         path = refl;
@@ -156,7 +156,7 @@ module _ (p : Problem) (has : HasQuery p) (restricted : IsRestricted (program_of
     typed_at a l e = answer_typed (program_of_problem p) keeps p.depth numbered q asked_at checked closed low a l (among_at (program_of_problem p) p.depth q l (answers.found l a) e)
 
     covered_at : (a : NominalAnswer) (l : List ℕ) → l ≡ path d.derivation → outs_at (clauses_in p) p.depth q l ≡ answers.found l a ∷ [] → (swaps : List Swap) (ps : List (Var × Term))
-        → Clears (used_names q.locals a d.answer.binds) zero (in_the_way q.locals a d.answer.binds) swaps
+        → Clears (used_names q.locals a d.answer.binds) (in_the_way q.locals a d.answer.binds) swaps
         → AreMatched (program_of_problem p).signature.constructors a (ground_terms d.answer.binds) swaps ps → IsCoveredBy (program_of_problem p) q p.depth d (path d.derivation) swaps ps
     covered_at a l same e swaps ps clears m =
         let i = subst (λ (k : List ℕ). IsAmong (answers.found k a) (query_outs (clauses_in p) p.depth q)) same (among_at (program_of_problem p) p.depth q l (answers.found l a) e) in
@@ -175,7 +175,7 @@ module _ (p : Problem) (has : HasQuery p) (restricted : IsRestricted (program_of
 
   pub covered_there : (r : NominalQuery) → slice_get (queries_in p) (p.query - 1) ≡ Some r → (a : NominalAnswer) (l : List ℕ) → l ≡ path d.derivation → IsAnswerAt p l a
       → (swaps : List Swap) (ps : List (Var × Term))
-      → Clears (used_names r.locals a d.answer.binds) zero (in_the_way r.locals a d.answer.binds) swaps
+      → Clears (used_names r.locals a d.answer.binds) (in_the_way r.locals a d.answer.binds) swaps
       → AreMatched (program_of_problem p).signature.constructors a (ground_terms d.answer.binds) swaps ps
       → (q : NominalQuery) → slice_get (queries_in p) (p.query - 1) ≡ Some q → IsCoveredBy (program_of_problem p) q p.depth d (path d.derivation) swaps ps
   covered_there r asked a l same at swaps ps clears m q there =

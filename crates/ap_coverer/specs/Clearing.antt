@@ -1,5 +1,5 @@
--- Swappings that take the names of an answer out of the way of terms, each to the next name that stands nowhere.
-use Rattle.std.specs.Prelude.{◌≡◌, ◌≤◌, ◌<◌, ℕ, suc, true, false, List, [], ◌∷◌, ◌++◌, filter}
+-- Swappings that take the names of an answer out of the way of terms, each to the first name of its sort that stands nowhere.
+use Rattle.std.specs.Prelude.{◌≡◌, ◌<◌, ℕ, true, false, List, [], ◌∷◌, ◌++◌, filter}
 use Rattle.ap_defs.specs.declared.terms.Name.{Name}
 use Rattle.ap_defs.specs.declared.terms.Swap.{Swap}
 use Rattle.ap_defs.specs.Answers.{NominalAnswer}
@@ -19,20 +19,23 @@ used_names locals a ts = local_names 0 locals ++ (names_of_answer a ++ names_of_
 abbrev pub in_the_way : List NominalLocal → NominalAnswer → List NominalTerm → List Name
 in_the_way locals a ts = filter (λ b. has_name b (names_of_terms ts)) (other_names locals a)
 
--- of the names of its sort that are numbered from n on, the first that is not used
-pub record IsNextUnused (used : List Name) (n : ℕ) (a : Name) : Type 0 where
-  pub from : n ≤ a.num
-  pub unused : has_name a used ≡ false
-  pub least : (i : ℕ) → n ≤ i → i < a.num → has_name (record { sort = a.sort; num = i }) used ≡ true
+-- the names of a sort that are numbered below n are used
+abbrev pub AreUsedBelow : List Name → ℕ → ℕ → Type 0
+AreUsedBelow used sort n = (i : ℕ) → i < n → has_name (record { sort = sort; num = i }) used ≡ true
 
--- a name is exchanged for the next one of its sort that is not used
-pub record Takes (used : List Name) (n : ℕ) (c : Name) (s : Swap) : Type 0 where
+-- of the names of its sort, the first that is not used
+pub record IsLeastUnused (used : List Name) (a : Name) : Type 0 where
+  pub unused : has_name a used ≡ false
+  pub least : AreUsedBelow used a.sort a.num
+
+-- a name is exchanged for the first of its sort that is not used
+pub record Takes (used : List Name) (c : Name) (s : Swap) : Type 0 where
   pub sort : s.sort ≡ c.sort
   pub left : s.left ≡ c.num
-  pub next : IsNextUnused used n (right_name s)
+  pub next : IsLeastUnused used (right_name s)
 
--- each of the names is exchanged so, the first one for one that is numbered from n on, and each other one for one behind the last
-abbrev pub Clears : List Name → ℕ → List Name → List Swap → Type 0
-Clears used n [] [] = Unit {0}
-Clears used n (c ∷ cs) (s ∷ ss) = Takes used n c s × Clears used (suc s.right) cs ss
-Clears used n _ _ = ⊥
+-- each of the names is exchanged so in turn, and what was brought is used from then on
+abbrev pub Clears : List Name → List Name → List Swap → Type 0
+Clears used [] [] = Unit {0}
+Clears used (c ∷ cs) (s ∷ ss) = Takes used c s × Clears (used ++ right_name s ∷ []) cs ss
+Clears used _ _ = ⊥

@@ -1,6 +1,6 @@
 -- What covers a ground proof: the answer at its path, with swappings and ground terms by which it comes to what is proved, or a branch
 -- that is stuck at a beginning of the path.
-use Rattle.std.specs.Prelude.{◌≡◌, ◌-◌, ℕ, zero, true, List, [], ◌∷◌, Some, slice_get}
+use Rattle.std.specs.Prelude.{◌≡◌, ◌-◌, ℕ, true, List, [], ◌∷◌, Some, slice_get}
 use Rattle.ap_defs.specs.declared.terms.Swap.{Swap}
 use Rattle.ap_defs.specs.declared.terms.Term.{Term}
 use Rattle.ap_defs.specs.declared.terms.Var.{Var}
@@ -25,14 +25,14 @@ use Rattle.ap_coverer.specs.declared.covering.Covered.{Covered}
 use Rattle.ap_coverer.specs.declared.covering.Covered.TheVariants as code
 
 -- The search has an answer at the path of the proof. The swappings leave the query's names, and take each other name of the answer that
--- stands in what is proved to the next one that stands nowhere. Each variable of the answer, in order, has a ground term, of its type;
--- with these and with the names exchanged, the conditions are met and each binding is what is proved, up to renaming of binders.
+-- stands in what is proved to the first of its sort that stands nowhere. Each variable of the answer, in order, has a ground term, of its
+-- type; with these and with the names exchanged, the conditions are met and each binding is what is proved, up to renaming of binders.
 pub record IsCoveredBy (p : NominalProgram) (q : NominalQuery) (depth : ℕ) (d : NominalProved) (l : List ℕ) (swaps : List Swap) (terms : List (Var × Term)) : Type 0 where
   pub path : l ≡ path d.derivation
   pub answer : NominalAnswer
   pub found : IsAmong (answers.found l answer) (query_outs p.clauses depth q)
   pub leaves : LeavesNames q.locals swaps
-  pub brings : Clears (used_names q.locals answer d.answer.binds) zero (in_the_way q.locals answer d.answer.binds) swaps
+  pub brings : Clears (used_names q.locals answer d.answer.binds) (in_the_way q.locals answer d.answer.binds) swaps
   pub grounding : Grounding
   pub given : AreGivenBy grounding answer.vars terms
   pub covers : GivesInstance p.signature.constructors answer (ground_terms d.answer.binds) swaps grounding

@@ -3,3 +3,4 @@ pub mod Coverer
 pub mod Covering
 pub mod Followed
 pub mod Matches
+pub mod Starts

@@ -1,6 +1,6 @@
 //! The swappings and the ground terms.
 
-ghost use Rattle.std.specs.Prelude.{◌≡◌, IfOk, map, true, zero};
+ghost use Rattle.std.specs.Prelude.{◌≡◌, IfOk, map, true};
 ghost use Rattle.std.specs.List.{list_all};
 ghost use Rattle.ap_cover.specs.Ground.{ground_terms, is_ground_term};
 ghost use Rattle.ap_defs.specs.Answers.{answer_of, typed_var_of};
@@ -83,7 +83,7 @@ pub fn covering_of(
         (answer_of answer.now) }
     requires closed { list_all is_ground_term (map term_of terms.now) ≡ true }
     ensures swaps { IfOk result (λ c. Clears
-        (used_names (locals_of locals.now) (answer_of answer.now) (map term_of terms.now)) zero
+        (used_names (locals_of locals.now) (answer_of answer.now) (map term_of terms.now))
         (in_the_way (locals_of locals.now) (answer_of answer.now) (map term_of terms.now))
         c.swaps.items) }
     ensures grounding { IfOk result (λ c. AreMatched

@@ -1,4 +1,4 @@
-use Rattle.std.proofs.Common.{◌∙◌, List, map, ap, zero}
+use Rattle.std.proofs.Common.{◌∙◌, List, map, ap}
 use Rattle.std.proofs.lemmas.Result.{IfOk-weaker}
 use Rattle.ap_answers.specs.Occurring.{more_names}
 use Rattle.ap_defs.specs.declared.terms.Name.{Name}
@@ -19,7 +19,7 @@ returns c =
     let used = c.add_names_of_terms-2.new.names.keys in
     let there = c.add_names_of_terms.new.names.keys in
     let found = c.deref.result.now in
-    IfOk-weaker c.exchanges.result (λ v. Clears used zero found v.items) (λ v. Clears (used_names locals a ts) zero (in_the_way locals a ts) v.items)
+    IfOk-weaker c.exchanges.result (λ v. Clears used found v.items) (λ v. Clears (used_names locals a ts) (in_the_way locals a ts) v.items)
     (λ v h.
     clears_known locals a ts n.known.keys there used found n.free c.in_ok-names.ensures.known c.in_ok-names.ensures.free
     (c.in_ok-add_names_of_terms.ensures ∙ ap (λ (ks : List Name). more_names ks (names_of_terms ts)) c.new-there.ensures.empty)

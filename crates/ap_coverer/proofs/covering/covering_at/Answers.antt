@@ -1,4 +1,4 @@
-use Rattle.std.proofs.Common.{◌∙◌, ◌≤◌, List, length, map, ap, sym, subst, zero}
+use Rattle.std.proofs.Common.{◌∙◌, ◌≤◌, List, length, map, ap, sym, subst}
 use Rattle.std.specs.List.{list_all}
 use Rattle.ap_backchain.specs.Branches.{path_of_branch}
 use Rattle.ap_bundle.specs.Bundles.{proved_of}
@@ -45,7 +45,7 @@ returns c =
     let ls = ap locals_of c.items.ensures in
     covered_there p c.requires.query c.requires.restricted (proved_of c.args.proved.now) c.requires.checks c.requires.closed c.requires.within
     q c.query_of_problem-query.ensures.query a (path_of_branch c.args.branch.now) c.requires.path c.in_ok-answer.ensures made.swaps.items made.grounding.items
-    (subst (λ (l : List NominalLocal). Clears (used_names l a (proved_of c.args.proved.now).answer.binds) zero (in_the_way l a (proved_of c.args.proved.now).answer.binds) made.swaps.items) ls
-    (subst (λ (bs : List NominalTerm). Clears (used_names (locals_of c.items.result.now) a bs) zero (in_the_way (locals_of c.items.result.now) a bs) made.swaps.items) ts c.in_ok-covering.ensures.swaps))
+    (subst (λ (l : List NominalLocal). Clears (used_names l a (proved_of c.args.proved.now).answer.binds) (in_the_way l a (proved_of c.args.proved.now).answer.binds) made.swaps.items) ls
+    (subst (λ (bs : List NominalTerm). Clears (used_names (locals_of c.items.result.now) a bs) (in_the_way (locals_of c.items.result.now) a bs) made.swaps.items) ts c.in_ok-covering.ensures.swaps))
     (subst (λ (l : List NominalConstructor). AreMatched l a (ground_terms (proved_of c.args.proved.now).answer.binds) made.swaps.items made.grounding.items) cs
     (subst (λ (bs : List NominalTerm). AreMatched (map constructor_of c.in_ok-picker.picker.constructors.now) a (ground_terms bs) made.swaps.items made.grounding.items) ts c.in_ok-covering.ensures.grounding))
