@@ -4,29 +4,20 @@
 //! are written of it are those that were read, and whether `check` writes the same for both of its versions. Then comes
 //! what `check` writes.
 
+use crate::problems::program_of;
 use crate::proving::{Written, are_checked_alike, tell_check};
 use ap_bundle::version::Version;
 use ap_bundle_read::{BundleError, read_bundle};
 use ap_bundle_write::write_version;
 use ap_checker::verify::verify;
-use ap_defs::limits::SIZE_LIMIT;
 use ap_defs::memory::Memory;
 use ap_defs::outcomes::{Bundle, Proved, Verdict};
 use ap_program::restricted::Restricted;
-use ap_text::program_of_text;
 use std::alloc::{AllocError, Global};
 use std::fs::Files;
 use std::sync::Wait;
 use std::thread::Threads;
 use std::{fs, io};
-
-/// The program of a text with no fault.
-pub fn program_of_bytes(alloc: Global, text: &[u8]) -> Result<Restricted, Memory> {
-    if text.len() > SIZE_LIMIT {
-        return Err(Memory);
-    }
-    program_of_text(alloc, text).or(Err(Memory))
-}
 
 /// The verdict on a derivation that a bundle has.
 pub fn verdict_on(alloc: Global, program: &Restricted, proved: &Proved) -> Result<Verdict, Memory> {
@@ -49,7 +40,7 @@ fn tell_verdict<R: AllocGlobal + Print>(rt: &R, query: u32, verdict: Verdict) ->
 
 /// Writes what each derivation of a bundle comes to.
 fn tell_derivations<R: AllocGlobal + Print>(rt: &R, bundle: &Bundle) -> io::Result<()> {
-    let Ok(program) = program_of_bytes(rt.alloc(), bundle.text.items()) else {
+    let Ok(program) = program_of(rt.alloc(), bundle.text.items()) else {
         return Ok(());
     };
     for proved in bundle.proved.items() {

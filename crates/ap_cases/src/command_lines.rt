@@ -19,11 +19,7 @@ fn run_line<R: Threads + Wait + Sync + AllocGlobal + Print>(rt: &R, line: &str) 
     let (status, sink) = call(rt, &words, TEXT.as_bytes(), Vec::new(alloc))?;
     println!(rt; "{line}")?;
     io::writer(rt).write_all(sink.bytes())?;
-    println!(rt;
-        "% status {}, where a read fails {}",
-        status.code(),
-        failed.code()
-    )
+    println!(rt; "% status {status}, where a read fails {failed}")
 }
 
 /// Runs the command lines of the file `words`.
@@ -46,7 +42,7 @@ fn run_on<R: Threads + Wait + Sync + AllocGlobal + Print>(
     let (status, sink) = call(rt, &words, input.as_bytes(), Vec::new(rt.alloc()))?;
     println!(rt; "{line}")?;
     io::writer(rt).write_all(sink.bytes())?;
-    println!(rt; "% status {}", status.code())
+    println!(rt; "% status {status}")
 }
 
 /// Runs the parts of a file, which lines of four dashes divide. The first line of a part is a command line, and those

@@ -1,13 +1,14 @@
 //! The derivations of the answers of texts: each is made again from its path, and all of a text are written as a bundle,
 //! which is read again and checked. `prove` writes the same bundle, `check` the number of its derivations in each of its
-//! versions, and `convert` each version for each.
+//! versions, `convert` each version for each, and `cover` for each ground proof the answer that it is of.
 ghost use Rattle.std.specs.Prelude.{◌≡◌, length};
 ghost use Rattle.ap_defs.specs.Goals.{program_of};
 ghost use Rattle.ap_backchain.specs.Branches.{IsBranchOf};
 ghost use Rattle.ap_backchain.specs.Problems.{HasQuery};
 
-use crate::bundles::{both_versions, program_of_bytes, verdict_on};
-use crate::cases::DIVIDER;
+use crate::bundles::{both_versions, verdict_on};
+use crate::covering::cover_bundle;
+use crate::problems::program_of;
 use crate::proving::{Written, are_proved};
 use ap_backchain::branch::Branch;
 use ap_backchain::problem::{Problem, outputs};
@@ -22,10 +23,9 @@ use ap_paths::Limit;
 use ap_program::restricted::Restricted;
 use ap_replay::replay::at;
 use std::alloc::{AllocError, Global};
-use std::fs::Files;
+use std::io;
 use std::sync::Wait;
 use std::thread::Threads;
-use std::{fs, io};
 
 /// The answer at which a branch stands, with its derivation, or none at another branch.
 fn proved_at<'a>(
@@ -110,23 +110,28 @@ fn prove_program(alloc: Global, program: &Restricted, depth: u32) -> Result<Vec<
     prove_queries(alloc, &index, depth)
 }
 
-/// How many answers there are, and how many derivations of them check.
+/// How many answers there are, how many derivations of them check, and how many of these are ground proofs.
 #[derive(Clone, Copy)]
-struct Tally {
+pub struct Tally {
     answers: usize,
     checked: usize,
+    grounds: usize,
 }
 
-const NONE: Tally = Tally {
+/// There are none.
+pub const NONE: Tally = Tally {
     answers: 0,
     checked: 0,
+    grounds: 0,
 };
 
 impl Tally {
-    fn plus(self, other: Tally) -> Tally {
+    /// Both together.
+    pub fn plus(self, other: Tally) -> Tally {
         Tally {
             answers: self.answers.saturating_add(other.answers),
             checked: self.checked.saturating_add(other.checked),
+            grounds: self.grounds.saturating_add(other.grounds),
         }
     }
 }
@@ -164,64 +169,48 @@ fn proved_text(
     Ok((answers, bundle_bytes(alloc, text, proved)?))
 }
 
-/// The answers of a text, and a line where `prove`, `check` or `convert` write anything else. A text with a fault has
-/// none.
-fn tally_of<R: Threads + Wait + Sync + AllocGlobal + Print>(
+/// The answers that a bundle is of, and a line where `prove`, `check`, `convert` or `cover` write anything else.
+fn tally_written<R: Threads + Wait + Sync + AllocGlobal + Print>(
     rt: &R,
-    text: &str,
-    depth: u32,
+    depth: &str,
+    text: &[u8],
+    written: &Written,
+    counts: (usize, usize),
 ) -> io::Result<Tally> {
-    let alloc = rt.alloc();
-    let Ok(program) = program_of_bytes(alloc, text.as_bytes()) else {
-        return Ok(NONE);
-    };
-    let (answers, written) = proved_text(alloc, text, &program, depth).map_err(|_| AllocError)?;
-    let checked = checked_in(alloc, &written.shared, &program).map_err(|_| AllocError)?;
-    if !are_proved(rt, text.as_bytes(), depth, &written, answers)? {
+    let (answers, checked) = counts;
+    if !are_proved(rt, text, depth, written, answers)? {
         println!(rt; "% prove, check or convert writes otherwise")?;
     }
-    Ok(Tally { answers, checked })
+    let grounds = cover_bundle(rt, depth, &written.shared)?;
+    Ok(Tally {
+        answers,
+        checked,
+        grounds,
+    })
 }
 
-fn tell<R: Print>(rt: &R, name: &str, tally: Tally) -> io::Result<()> {
-    println!(rt;
-        "{name}: {} answers, {} derivations check",
-        tally.answers, tally.checked
-    )
-}
-
-/// Writes how many answers each text of a folder has, and how many derivations of them check. The file `proofs` of the
-/// folder has a line for each, with the depth and its name.
-pub fn check_folder<R: Threads + Wait + Sync + AllocGlobal + Files + Print>(
+/// The answers of a text, and lines where a command writes otherwise for them. A text with a fault has none.
+pub fn tally_of<R: Threads + Wait + Sync + AllocGlobal + Print>(
     rt: &R,
-    folder: &str,
-) -> io::Result<()> {
-    let runs = fs::read_to_string(rt, &format!(in rt.alloc(); "{folder}/proofs")?)?;
-    for line in runs.lines() {
-        if let Some((depth, name)) = line.split_once(' ') {
-            let text = fs::read_to_string(rt, &format!(in rt.alloc(); "{folder}/{name}")?)?;
-            let depth = depth.parse::<u32>().unwrap_or(1);
-            let tally = tally_of(rt, &text, depth)?;
-            tell(rt, name, tally)?;
-        }
-    }
-    Ok(())
+    depth: &str,
+    text: &str,
+) -> io::Result<Tally> {
+    let alloc = rt.alloc();
+    let Ok(program) = program_of(alloc, text.as_bytes()) else {
+        return Ok(NONE);
+    };
+    let number = depth.parse::<u32>().unwrap_or(1);
+    let (answers, written) = proved_text(alloc, text, &program, number).map_err(|_| AllocError)?;
+    let checked = checked_in(alloc, &written.shared, &program).map_err(|_| AllocError)?;
+    tally_written(rt, depth, text.as_bytes(), &written, (answers, checked))
 }
 
-/// Writes the same of all texts of a file of texts together.
-pub fn check_file<R: Threads + Wait + Sync + AllocGlobal + Files + Print>(
-    rt: &R,
-    name: &str,
-) -> io::Result<()> {
-    let all = fs::read_to_string(rt, name)?;
-    let mut parts = all.trim_end().split(DIVIDER);
-    let depth = parts.next().unwrap_or("").parse::<u32>().unwrap_or(1);
-    let begin = parts.next().unwrap_or("");
-    let mut tally = NONE;
-    for end in parts {
-        let text = format!(in rt.alloc(); "{begin}{end}")?;
-        let more = tally_of(rt, &text, depth)?;
-        tally = tally.plus(more);
-    }
-    tell(rt, name, tally)
+/// Writes what texts come to together.
+pub fn tell<R: Print>(rt: &R, name: &str, tally: Tally) -> io::Result<()> {
+    let Tally {
+        answers,
+        checked,
+        grounds,
+    } = tally;
+    println!(rt; "{name}: {answers} answers, {checked} derivations check, {grounds} ground proofs")
 }

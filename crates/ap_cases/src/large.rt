@@ -70,7 +70,7 @@ fn run_by<R: Threads + Wait + Sync + AllocGlobal + Print>(
         sink.bytes().len(),
         last_line(sink.bytes())
     )?;
-    println!(rt; "% status {}", status.code())
+    println!(rt; "% status {status}")
 }
 
 // Runs the text of a template by each number of workers.

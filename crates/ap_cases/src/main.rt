@@ -2,25 +2,32 @@
 //!
 //! The files `.cases` of the folder that this program is run in have texts, which are run by one worker and by
 //! several; those of `sampled_to_0.cases` and so on were made at random, and what is wanted of them is from an
-//! implementation that was written apart. The file `words` has command lines, and those of `COMMANDS` some with an input
-//! each. The other texts are read as streams, as the program reads them: each of the folders `examples` and `bytes` has a
-//! file `runs`, of a line for each text with the depth and its name, and `examples` a file `commands`, of a line for each
-//! other command with what it reads. The files of `searched` are told in `searched.rt`, those of `bundles` in `bundles.rt`
-//! and `prefixes.rt`, the texts of `examined` in `examined.rt`, and the large texts in `large.rt`.
+//! implementation that was written apart. The answers of each text are counted, with what their derivations come to. The
+//! file `words` has command lines, and those of `COMMANDS` some with an input each. The texts of the folders `examples` and
+//! `bytes` are told in `folders.rt` and `streams.rt`, the files of `searched` in `searched.rt`, those of `bundles` in
+//! `bundles.rt` and `prefixes.rt`, and the large texts in `large.rt`. The library's call `cover` is made on the ground
+//! proofs among all these derivations, and on the proofs of `CALLS`, and it is looked at term by term whether what it gives
+//! covers the proof.
 #![tactic(auto)]
 
+mod applied;
 mod bundles;
 mod call;
+mod calls;
 mod cases;
 mod command_lines;
+mod covering;
 mod derivations;
-mod examined;
+mod folders;
 mod large;
 mod prefixes;
+mod problems;
 mod proving;
+mod renamed;
 mod searched;
 mod streams;
 
+use crate::folders::{Task, go_through_folder};
 use std::io;
 
 const FILES: [&str; 27] = [
@@ -63,6 +70,9 @@ const COMMANDS: [&str; 7] = [
     "answers.cases",
 ];
 
+/// Bundles whose proofs the call `cover` is made on, each behind its depth.
+const CALLS: &str = "calls.cases";
+
 fn main(rt: HostRuntime) -> io::Result<()> {
     for name in &FILES {
         cases::run_file(&rt, name)?;
@@ -73,18 +83,17 @@ fn main(rt: HostRuntime) -> io::Result<()> {
     }
     searched::write_outputs(&rt)?;
     searched::write_branches(&rt)?;
-    streams::run_folder(&rt, "bytes")?;
-    streams::run_folder(&rt, "examples")?;
-    examined::examine_folder(&rt, "examples")?;
+    go_through_folder(&rt, Task::Run, "bytes")?;
+    go_through_folder(&rt, Task::Run, "examples")?;
+    go_through_folder(&rt, Task::Examine, "examples")?;
     streams::run_commands(&rt, "examples")?;
     bundles::tell_bundles(&rt)?;
     println!(rt; "% prefixes")?;
     prefixes::tell_prefixes(&rt, "small")?;
     prefixes::tell_prefixes(&rt, "shared")?;
     println!(rt; "% derivations")?;
-    derivations::check_folder(&rt, "examples")?;
-    for name in &FILES {
-        derivations::check_file(&rt, name)?;
-    }
+    go_through_folder(&rt, Task::Prove, "examples")?;
+    println!(rt; "% calls")?;
+    calls::call_file(&rt, CALLS)?;
     large::run_large(&rt)
 }

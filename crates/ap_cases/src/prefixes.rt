@@ -15,7 +15,7 @@ fn is_unended<R: Threads + Wait + Sync + AllocGlobal>(
 ) -> io::Result<bool> {
     let (status, sink) = answer(rt, words, bytes)?;
     let wanted = format!(in rt.alloc(); "% bundle fault: line {line}, kind 4 Unended\n")?;
-    Ok(status.code() == 2 && sink.bytes() == wanted.as_bytes())
+    Ok(status == 2 && sink.bytes() == wanted.as_bytes())
 }
 
 /// How many proper prefixes a command refuses so.

@@ -13,7 +13,7 @@ pub struct Written {
 }
 
 /// Whether a command writes these bytes for an input.
-fn is_written<R: Threads + Wait + Sync + AllocGlobal>(
+pub fn is_written<R: Threads + Wait + Sync + AllocGlobal>(
     rt: &R,
     words: &[&str],
     input: &[u8],
@@ -23,28 +23,16 @@ fn is_written<R: Threads + Wait + Sync + AllocGlobal>(
     Ok(sink.bytes() == bytes)
 }
 
-/// Whether `prove` writes these bytes for a text, by so many workers.
-fn is_bundle_by<R: Threads + Wait + Sync + AllocGlobal>(
-    rt: &R,
-    text: &[u8],
-    depth: &str,
-    workers: &str,
-    bytes: &[u8],
-) -> io::Result<bool> {
-    let words = ["prove", "--depth", depth, "--workers", workers];
-    is_written(rt, &words, text, bytes)
-}
-
 /// Whether `prove` writes these bytes for a text, by one worker and by several.
 fn is_bundle_of<R: Threads + Wait + Sync + AllocGlobal>(
     rt: &R,
     text: &[u8],
-    depth: u32,
+    depth: &str,
     bytes: &[u8],
 ) -> io::Result<bool> {
-    let depth = format!(in rt.alloc(); "{depth}")?;
-    let alone = is_bundle_by(rt, text, depth.as_str(), "1", bytes)?;
-    Ok(alone && is_bundle_by(rt, text, depth.as_str(), "8", bytes)?)
+    let alone = ["prove", "--depth", depth, "--workers", "1"];
+    let many = ["prove", "--depth", depth, "--workers", "8"];
+    Ok(is_written(rt, &alone, text, bytes)? && is_written(rt, &many, text, bytes)?)
 }
 
 /// Whether `check` writes for both versions that so many derivations check.
@@ -74,7 +62,7 @@ fn is_converted<R: Threads + Wait + Sync + AllocGlobal>(
 pub fn are_proved<R: Threads + Wait + Sync + AllocGlobal>(
     rt: &R,
     text: &[u8],
-    depth: u32,
+    depth: &str,
     written: &Written,
     count: usize,
 ) -> io::Result<bool> {
@@ -93,7 +81,7 @@ pub fn are_checked_alike<R: Threads + Wait + Sync + AllocGlobal>(
 ) -> io::Result<bool> {
     let (status, sink) = answer(rt, &["check"], &written.full)?;
     let (other, others) = answer(rt, &["check"], &written.shared)?;
-    Ok(status.code() == other.code() && sink.bytes() == others.bytes())
+    Ok(status == other && sink.bytes() == others.bytes())
 }
 
 /// Writes what `check` writes for bytes, and its status.
@@ -103,5 +91,5 @@ pub fn tell_check<R: Threads + Wait + Sync + AllocGlobal + Print>(
 ) -> io::Result<()> {
     let (status, sink) = answer(rt, &["check"], bytes)?;
     io::writer(rt).write_all(sink.bytes())?;
-    println!(rt; "% status {}", status.code())
+    println!(rt; "% status {status}")
 }

@@ -1,51 +1,25 @@
 //! What the search of a text's query comes to: its outputs with their paths, and the branches at some paths.
 //!
 //! The file `outputs` has a depth and a text in each part, and `branches` a text; these are searched to depth 1.
-ghost use Rattle.std.specs.Prelude.{IfSome};
 ghost use Rattle.ap_backchain.specs.Branches.{IsBranchOf};
 ghost use Rattle.ap_backchain.specs.Problems.{HasQuery};
 
 use crate::cases::DIVIDER;
+use crate::problems::{problem_of, program_of};
 use ap_answers::printing::{canonical, lines};
 use ap_backchain::branch::Branch;
 use ap_backchain::problem::{Problem, outputs};
-use ap_defs::limits::SIZE_LIMIT;
 use ap_defs::memory::Memory;
 use ap_defs::paths::{Node, Out, Path};
 use ap_index::index::Index;
 use ap_paths::Limit;
-use ap_program::restricted::Restricted;
 use ap_replay::error::ReplayError;
 use ap_replay::replay::at;
-use ap_text::program_of_text;
 use std::alloc::{AllocError, Global};
 use std::fs::Files;
 use std::{fs, io};
 
 const PATHS: [&[u32]; 5] = [&[], &[1], &[2], &[3], &[1, 1]];
-
-/// The program of a text with no fault.
-fn program_of(alloc: Global, text: &str) -> Result<Restricted, Memory> {
-    if text.len() > SIZE_LIMIT {
-        return Err(Memory);
-    }
-    program_of_text(alloc, text.as_bytes()).or(Err(Memory))
-}
-
-/// The query of a program that has one.
-fn only_query<'a>(program: &'a Index<'_>, depth: u32) -> Option<Problem<'a>>
-    ensures { IfSome result (λ p. HasQuery p) }
-{
-    if program.program().queries.items().len() == 1 {
-        Some(Problem {
-            program: &*program,
-            query: 1,
-            depth,
-        })
-    } else {
-        None
-    }
-}
 
 fn digit(choice: u32) -> &'static str {
     match choice {
@@ -88,9 +62,9 @@ fn spelled(alloc: Global, problem: &Problem<'_>) -> Result<String, Memory>
 
 /// The outputs of a text.
 fn outputs_of(alloc: Global, depth: u32, text: &str) -> Result<String, Memory> {
-    let program = program_of(alloc, text)?;
+    let program = program_of(alloc, text.as_bytes())?;
     let index = Index::of(alloc, &program)?;
-    match only_query(&index, depth) {
+    match problem_of(&index, 1, depth) {
         Some(problem) => spelled(alloc, &problem),
         None => Err(Memory),
     }
@@ -188,9 +162,9 @@ fn lines_of<'a>(alloc: Global, problem: &Problem<'a>) -> Result<String, Memory>
 
 /// The branches of a text, and its lines.
 fn branches_of(alloc: Global, text: &str) -> Result<(String, String), Memory> {
-    let program = program_of(alloc, text)?;
+    let program = program_of(alloc, text.as_bytes())?;
     let index = Index::of(alloc, &program)?;
-    match only_query(&index, 1) {
+    match problem_of(&index, 1, 1) {
         Some(problem) => Ok((words_at(alloc, &problem)?, lines_of(alloc, &problem)?)),
         None => Err(Memory),
     }

@@ -1,9 +1,8 @@
-//! Texts and bundles that are read as streams. The file `runs` of a folder has a line for each text, with the depth and its
-//! name, and the file `commands` one for each other command line, with what it reads.
+//! Texts and bundles that are read as streams. The file `commands` of a folder has a line for each command line, with what
+//! it reads.
 
-use crate::call::{words_in, words_of};
+use crate::call::{status_of, words_in, words_of};
 use ap_io::{NoGate, StdSink, StdSource};
-use ap_top::top;
 use std::fs::{File, Files};
 use std::sync::Wait;
 use std::thread::Threads;
@@ -19,12 +18,12 @@ fn run<R: Threads + Wait + Sync + AllocGlobal + Files + Print>(
     println!(rt; "% {title}")?;
     let mut source = StdSource::new(File::open(rt, path)?);
     let mut sink = StdSink::new(io::writer(rt));
-    let status = top(rt, rt.alloc(), words, &mut source, &mut sink, &NoGate);
-    println!(rt; "% status {}", status.code())
+    let status = status_of(rt, rt.alloc(), words, &mut source, &mut sink, &NoGate);
+    println!(rt; "% status {status}")
 }
 
 /// Runs a text to a depth.
-fn run_text<R: Threads + Wait + Sync + AllocGlobal + Files + Print>(
+pub fn run_text<R: Threads + Wait + Sync + AllocGlobal + Files + Print>(
     rt: &R,
     depth: &str,
     path: &str,
@@ -46,20 +45,6 @@ fn run_command<R: Threads + Wait + Sync + AllocGlobal + Files + Print>(
         &words,
         path,
     )
-}
-
-/// Runs the texts of a folder.
-pub fn run_folder<R: Threads + Wait + Sync + AllocGlobal + Files + Print>(
-    rt: &R,
-    folder: &str,
-) -> io::Result<()> {
-    let runs = fs::read_to_string(rt, &format!(in rt.alloc(); "{folder}/runs")?)?;
-    for line in runs.lines() {
-        if let Some((depth, name)) = line.split_once(' ') {
-            run_text(rt, depth, &format!(in rt.alloc(); "{folder}/{name}")?)?;
-        }
-    }
-    Ok(())
 }
 
 /// Runs the command lines of a folder: what stands behind ` < ` is what the command reads.

@@ -1,0 +1,164 @@
+//! Whether swappings and ground terms take an answer to what is proved: looked at by themselves, term by term.
+
+use ap_coverer::Covered;
+use ap_defs::goals::{Kind, Local};
+use ap_defs::ground::{alpha_eq, fresh_ground};
+use ap_defs::memory::Memory;
+use ap_defs::outcomes::Answer;
+use ap_defs::terms::{Cond, Ground, Name, Swap, Term, Var};
+use ap_perm::swappings::image;
+use std::alloc::Global;
+
+/// A term without variables on which swappings act. A variable would be unit.
+fn moved(alloc: Global, swaps: &[Swap], term: &Term) -> Result<Ground, Memory> {
+    match term {
+        Term::Unit | Term::Susp(_, _) => Ok(Ground::Unit),
+        Term::Name(a) => Ok(Ground::Name(image(swaps, *a))),
+        Term::Pair(left, right) => {
+            let left = Box::new(alloc, moved(alloc, swaps, left)?)?;
+            let right = moved(alloc, swaps, right)?;
+            Ok(Ground::Pair(left, Box::new(alloc, right)?))
+        }
+        Term::App(f, argument) => {
+            let argument = moved(alloc, swaps, argument)?;
+            Ok(Ground::App(*f, Box::new(alloc, argument)?))
+        }
+        Term::Abs(a, body) => {
+            let body = moved(alloc, swaps, body)?;
+            Ok(Ground::Abs(image(swaps, *a), Box::new(alloc, body)?))
+        }
+    }
+}
+
+/// Swappings, the names of each replaced by what others make of them.
+fn replaced(alloc: Global, swaps: &[Swap], waiting: &[Swap]) -> Result<Vec<Swap>, Memory> {
+    let mut all = Vec::new(alloc);
+    for s in waiting {
+        let sort = s.sort;
+        let left = image(swaps, Name { sort, num: s.left }).num;
+        let right = image(swaps, Name { sort, num: s.right }).num;
+        all.push(Swap { sort, left, right })?;
+    }
+    Ok(all)
+}
+
+/// What swappings make of a variable's term, and unit where it has none.
+fn given_to(
+    alloc: Global,
+    grounding: &[(Var, Term)],
+    swaps: &[Swap],
+    x: Var,
+) -> Result<Ground, Memory> {
+    for (y, term) in grounding {
+        if *y == x {
+            return moved(alloc, swaps, term);
+        }
+    }
+    Ok(Ground::Unit)
+}
+
+/// A term of an answer with its names replaced and ground terms for its variables.
+fn applied(
+    alloc: Global,
+    swaps: &[Swap],
+    grounding: &[(Var, Term)],
+    term: &Term,
+) -> Result<Ground, Memory> {
+    match term {
+        Term::Unit => Ok(Ground::Unit),
+        Term::Name(a) => Ok(Ground::Name(image(swaps, *a))),
+        Term::Susp(waiting, x) => {
+            let under = replaced(alloc, swaps, waiting.items())?;
+            given_to(alloc, grounding, under.as_slice(), *x)
+        }
+        Term::Pair(left, right) => {
+            let left = Box::new(alloc, applied(alloc, swaps, grounding, left)?)?;
+            let right = applied(alloc, swaps, grounding, right)?;
+            Ok(Ground::Pair(left, Box::new(alloc, right)?))
+        }
+        Term::App(f, argument) => {
+            let argument = applied(alloc, swaps, grounding, argument)?;
+            Ok(Ground::App(*f, Box::new(alloc, argument)?))
+        }
+        Term::Abs(a, body) => {
+            let body = applied(alloc, swaps, grounding, body)?;
+            Ok(Ground::Abs(image(swaps, *a), Box::new(alloc, body)?))
+        }
+    }
+}
+
+/// Whether each term, with the names replaced and ground terms for the variables, is the one beside it, up to the
+/// names of binders.
+fn are_equal(
+    alloc: Global,
+    swaps: &[Swap],
+    grounding: &[(Var, Term)],
+    terms: &[Term],
+    proved: &[Term],
+) -> Result<bool, Memory> {
+    for (term, beside) in terms.iter().zip(proved.iter()) {
+        let made = applied(alloc, swaps, grounding, term)?;
+        let wanted = moved(alloc, &[], beside)?;
+        if !alpha_eq(alloc, &made, &wanted)? {
+            return Ok(false);
+        }
+    }
+    Ok(terms.len() == proved.len())
+}
+
+/// Whether each condition holds, its name replaced.
+fn are_met(
+    alloc: Global,
+    swaps: &[Swap],
+    grounding: &[(Var, Term)],
+    conds: &[Cond],
+) -> Result<bool, Memory> {
+    for cond in conds {
+        let value = given_to(alloc, grounding, &[], cond.var)?;
+        if !fresh_ground(&image(swaps, cond.name), &value) {
+            return Ok(false);
+        }
+    }
+    Ok(true)
+}
+
+/// Whether the names of a query stay. Those that `new` brings are none of these.
+fn leave_names(swaps: &[Swap], locals: &[Local]) -> bool {
+    let mut num = 0;
+    for local in locals {
+        if let Kind::Name(sort) = local.kind {
+            let name = Name { sort, num };
+            if !local.bound && image(swaps, name) != name {
+                return false;
+            }
+        }
+        num = num.saturating_add(1);
+    }
+    true
+}
+
+/// Whether what is given covers what is proved by an answer to a query with these identifiers.
+pub fn covers(
+    alloc: Global,
+    locals: &[Local],
+    answer: &Answer,
+    covered: &Covered,
+    proved: &[Term],
+) -> Result<bool, Memory> {
+    match covered {
+        Covered::Stuck { path: _ } => Ok(false),
+        Covered::Answer {
+            path: _,
+            swaps,
+            grounding,
+        } => {
+            let swaps = swaps.items();
+            let grounding = grounding.items();
+            let given = grounding.iter().map(|pair| pair.0);
+            let is_whole = given.eq(answer.vars.items().iter().map(|pair| pair.0));
+            let equal = are_equal(alloc, swaps, grounding, answer.binds.items(), proved)?;
+            let met = are_met(alloc, swaps, grounding, answer.conds.items())?;
+            Ok(is_whole && equal && met && leave_names(swaps, locals))
+        }
+    }
+}
