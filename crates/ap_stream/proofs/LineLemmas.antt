@@ -7,7 +7,7 @@ use Rattle.ap_defs.specs.Answers.{NominalAnswer, NominalOut, found, cut, stuck}
 use Rattle.ap_defs.specs.Goals.{NominalProgram}
 use Rattle.ap_defs.specs.Lines.{Line, answer, answer_text, cuts, stucks, line_before, line_text, lines_of, ended}
 use Rattle.ap_defs.specs.Types.{NominalLocal}
-use Rattle.ap_stream.specs.Builders.{line_of_run, text_with, totals_by, totals_line}
+use Rattle.ap_stream.specs.Builders.{line_of_run, built_text, totals_by, totals_line}
 use Rattle.ap_stream.specs.declared.builder.Run.{Run}
 use Rattle.ap_stream.specs.declared.builder.Run.TheVariants as runs
 
@@ -81,7 +81,7 @@ module _ (program : NominalProgram) (locals : List NominalLocal) where
   behind written ls totals = written ++ ended (map (line_text program locals) ls ++ totals ∷ [])
 
   line_written : (run : Run) (os : List NominalOut) (old new totals : List ℕ) → new ≡ old ++ line_of_run run → Ends run os
-      → behind new (lines_of os) totals ≡ text_with program locals old run os totals
+      → behind new (lines_of os) totals ≡ built_text program locals old run os totals
   line_written (runs.Cuts zero) os old new totals e none = ap (λ bs. behind bs (lines_of os) totals) (e ∙ append-nil old)
   line_written (runs.Cuts (suc n)) os old new totals e none =
       ap (λ bs. behind bs (lines_of os) totals) (e ∙ ap (λ w. old ++ w) (line_of_more n (codes "% cut " ++ decimal (suc n) ++ codes "\n")))
@@ -92,24 +92,24 @@ module _ (program : NominalProgram) (locals : List NominalLocal) where
       ∙ run_written (stuck []) stucks (λ n ls. refl) (line_text program locals) n os old (totals ∷ []) none
 
   pub cut_goes_on : (n m : ℕ) (path : List ℕ) (os : List NominalOut) (old totals : List ℕ) → m ≡ suc n
-      → text_with program locals old (runs.Cuts m) os totals ≡ text_with program locals old (runs.Cuts n) (cut path ∷ os) totals
+      → built_text program locals old (runs.Cuts m) os totals ≡ built_text program locals old (runs.Cuts n) (cut path ∷ os) totals
   cut_goes_on n m path os old totals e =
       ap (λ x. behind old (lines_of (replicate x (cut []) ++ os)) totals) e
       ∙ ap (λ ls. behind old ls totals) (run_grows (cut []) cuts (λ n ls. refl) n (cut path) os (cut_sees_no_path path))
 
   pub stuck_goes_on : (n m : ℕ) (path : List ℕ) (os : List NominalOut) (old totals : List ℕ) → m ≡ suc n
-      → text_with program locals old (runs.Stuck m) os totals ≡ text_with program locals old (runs.Stuck n) (stuck path ∷ os) totals
+      → built_text program locals old (runs.Stuck m) os totals ≡ built_text program locals old (runs.Stuck n) (stuck path ∷ os) totals
   stuck_goes_on n m path os old totals e =
       ap (λ x. behind old (lines_of (replicate x (stuck []) ++ os)) totals) e
       ∙ ap (λ ls. behind old ls totals) (run_grows (stuck []) stucks (λ n ls. refl) n (stuck path) os (stuck_sees_no_path path))
 
   pub cut_begins : (n : ℕ) (path : List ℕ) (os : List NominalOut) (old new totals : List ℕ) → new ≡ old ++ line_of_run (runs.Stuck n)
-      → text_with program locals new (runs.Cuts 1) os totals ≡ text_with program locals old (runs.Stuck n) (cut path ∷ os) totals
+      → built_text program locals new (runs.Cuts 1) os totals ≡ built_text program locals old (runs.Stuck n) (cut path ∷ os) totals
   cut_begins n path os old new totals e =
       ap (λ ls. behind new ls totals) (sym (cut_sees_no_path path (lines_of os))) ∙ line_written (runs.Stuck n) (cut path ∷ os) old new totals e (before_cut path (lines_of os))
 
   pub stuck_begins : (n : ℕ) (path : List ℕ) (os : List NominalOut) (old new totals : List ℕ) → new ≡ old ++ line_of_run (runs.Cuts n)
-      → text_with program locals new (runs.Stuck 1) os totals ≡ text_with program locals old (runs.Cuts n) (stuck path ∷ os) totals
+      → built_text program locals new (runs.Stuck 1) os totals ≡ built_text program locals old (runs.Cuts n) (stuck path ∷ os) totals
   stuck_begins n path os old new totals e =
       ap (λ ls. behind new ls totals) (sym (stuck_sees_no_path path (lines_of os))) ∙ line_written (runs.Cuts n) (stuck path ∷ os) old new totals e (before_stuck path (lines_of os))
 
@@ -124,7 +124,7 @@ module _ (program : NominalProgram) (locals : List NominalLocal) where
   -- the line of an answer behind that of the run
   pub answer_written : (run : Run) (path : List ℕ) (a : NominalAnswer) (os : List NominalOut) (old flushed text new totals : List ℕ) → flushed ≡ old ++ line_of_run run
       → text ≡ flushed ++ answer_text program locals a → new ≡ text ++ codes "\n"
-      → text_with program locals new (runs.Cuts 0) os totals ≡ text_with program locals old run (found path a ∷ os) totals
+      → built_text program locals new (runs.Cuts 0) os totals ≡ built_text program locals old run (found path a ∷ os) totals
   answer_written run path a os old flushed text new totals e f g =
       ap (λ bs. behind bs (lines_of os) totals) (g ∙ ap (λ bs. bs ++ codes "\n") f)
       ∙ append_assoc (flushed ++ answer_text program locals a) (codes "\n") (ended (map (line_text program locals) (lines_of os) ++ totals ∷ []))
@@ -132,5 +132,5 @@ module _ (program : NominalProgram) (locals : List NominalLocal) where
       ∙ line_written run (found path a ∷ os) old flushed totals e (ends_found run path a os)
 
   -- the totals behind the line of the run
-  pub totals_written : (run : Run) (old flushed new totals : List ℕ) → flushed ≡ old ++ line_of_run run → new ≡ flushed ++ (totals ++ codes "\n") → new ≡ text_with program locals old run [] totals
+  pub totals_written : (run : Run) (old flushed new totals : List ℕ) → flushed ≡ old ++ line_of_run run → new ≡ flushed ++ (totals ++ codes "\n") → new ≡ built_text program locals old run [] totals
   totals_written run old flushed new totals e f = f ∙ line_written run [] old flushed totals e (ends_none run)

@@ -30,10 +30,10 @@ totals_line k n c s =
     codes "% query " ++ (decimal k ++ (codes ": " ++ (decimal n ++ (codes " answers, " ++ (decimal c ++ (codes " cut, " ++ (decimal s ++ codes " stuck\n")))))))
 
 -- what was written, and the lines of the outputs that follow a run, with those of the run, and of the totals
-abbrev pub text_with : NominalProgram → List NominalLocal → List ℕ → Run → List NominalOut → List ℕ → List ℕ
-text_with program locals written run os totals = written ++ ended (map (line_text program locals) (lines_of (outs_of_run run ++ os)) ++ totals ∷ [])
+abbrev pub built_text : NominalProgram → List NominalLocal → List ℕ → Run → List NominalOut → List ℕ → List ℕ
+built_text program locals written run os totals = written ++ ended (map (line_text program locals) (lines_of (outs_of_run run ++ os)) ++ totals ∷ [])
 
 -- the report on the query with this number, where these outputs follow those that came
 abbrev pub report_with : NominalProgram → ℕ → List NominalLocal → ReportBuilder → List NominalOut → List ℕ
 report_with program k locals b os =
-    text_with program locals b.bytes.items b.run os (totals_by k (b.answers + count_of is_found os) (b.cuts + count_of is_cut os) (b.stuck + count_of is_stuck os))
+    built_text program locals b.bytes.items b.run os (totals_by k (b.answers + count_of is_found os) (b.cuts + count_of is_cut os) (b.stuck + count_of is_stuck os))

@@ -7,7 +7,7 @@ ghost use Rattle.ap_defs.specs.Lines.{query_lines};
 ghost use Rattle.ap_defs.specs.Printing.{has_word};
 ghost use Rattle.ap_defs.specs.Types.{NominalLocal, locals_of};
 ghost use Rattle.ap_answers.specs.Words.{knows};
-ghost use Rattle.ap_stream.specs.Builders.{line_of_run, report_with, text_with, totals_line};
+ghost use Rattle.ap_stream.specs.Builders.{line_of_run, report_with, built_text, totals_line};
 
 use ap_answers::answers::write_answer;
 use ap_defs::goals::{Local, Program};
@@ -84,8 +84,8 @@ fn write_run(alloc: Global, out: &mut Vec<u8>, run: Run) -> Result<(), Memory>
 fn with_cut(alloc: Global, out: &mut Vec<u8>, run: Run) -> Result<Run, Memory>
     ensures { IfOk result (λ r. (program : NominalProgram) (locals : list NominalLocal)
         (path : list ℕ) (os : list NominalOut) (totals : list ℕ) →
-        text_with program locals out.new.items r os totals
-        ≡ text_with program locals out.old.items run (cut path ∷ os) totals) }
+        built_text program locals out.new.items r os totals
+        ≡ built_text program locals out.old.items run (cut path ∷ os) totals) }
 {
     match run {
         Run::Cuts(count) => {
@@ -103,8 +103,8 @@ fn with_cut(alloc: Global, out: &mut Vec<u8>, run: Run) -> Result<Run, Memory>
 fn with_stuck(alloc: Global, out: &mut Vec<u8>, run: Run) -> Result<Run, Memory>
     ensures { IfOk result (λ r. (program : NominalProgram) (locals : list NominalLocal)
         (path : list ℕ) (os : list NominalOut) (totals : list ℕ) →
-        text_with program locals out.new.items r os totals
-        ≡ text_with program locals out.old.items run (stuck path ∷ os) totals) }
+        built_text program locals out.new.items r os totals
+        ≡ built_text program locals out.old.items run (stuck path ∷ os) totals) }
 {
     match run {
         Run::Stuck(count) => {

@@ -1,5 +1,5 @@
 use Rattle.std.proofs.Common.{◌≡◌, ℕ, ◌+◌, ◌++◌, [], ◌∙◌, ap, sym, arith}
-use Rattle.ap_stream.specs.Builders.{text_with, totals_by}
+use Rattle.ap_stream.specs.Builders.{built_text, totals_by}
 use Rattle.ap_stream.proofs.LineLemmas.{ended_totals, totals_written}
 use Rattle.ap_stream.proofs.builder.ReportBuilder.finish.Goals as goal
 
@@ -10,7 +10,7 @@ pub returns : goal.returns
 returns c = λ program locals.
     let b = c.args.self in
     let query = c.args.query in
-    let text = λ (n : ℕ) (m : ℕ) (s : ℕ). text_with program locals b.bytes.items b.run [] (totals_by query n m s) in
+    let text = λ (n : ℕ) (m : ℕ) (s : ℕ). built_text program locals b.bytes.items b.run [] (totals_by query n m s) in
     totals_written program locals b.run b.bytes.items c.write_run.new.out.items c.write_totals.new.out.items (totals_by query b.answers b.cuts b.stuck) c.in_ok-write_run.ensures
     (c.in_ok-write_totals.ensures ∙ ap (λ w. c.write_run.new.out.items ++ w) (sym (ended_totals query b.answers b.cuts b.stuck)))
     ∙ ap (λ n. text n b.cuts b.stuck) (no_more b.answers)
