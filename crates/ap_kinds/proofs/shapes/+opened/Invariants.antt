@@ -4,7 +4,7 @@ use Rattle.ap_defs.specs.Types.{type_of}
 use Rattle.ap_defs.proofs.SpineLemmas.{type_size}
 use Rattle.ap_kinds.specs.Systems.{shape_of_type}
 use Rattle.ap_kinds.specs.Layers.{shape_within}
-use Rattle.ap_kinds.proofs.shapes.+shape_of_type.Given as goal
+use Rattle.ap_kinds.proofs.shapes.+opened.Given as goal
 
 abbrev pub decreases-opened : goal.decreases-opened
 decreases-opened l = type_size (type_of l.t.now)
