@@ -1,3 +1,4 @@
+mod PathLemmas
 mod VerdictLemmas
 mod ClearanceLemmas
 mod SayingLemmas

@@ -1,8 +1,9 @@
 //! Searches of queries that are put in place of a program's.
 
-ghost use Rattle.std.specs.Prelude.{◌≡◌, ◌≤◌, [], ◌∷◌, Some, IfOk, length, slice_get};
+ghost use Rattle.std.specs.Prelude.{◌≡◌, ◌≤◌, [], ◌∷◌, Some, IfOk, length, map, slice_get};
 ghost use Rattle.ap_defs.specs.Answers.{outs_of, query_outs};
 ghost use Rattle.ap_defs.specs.Goals.{NominalQuery, program_of, query_of};
+ghost use Rattle.ap_backchain.specs.Ends.{without_path};
 ghost use Rattle.ap_paths.specs.Limits.{part};
 ghost use Rattle.ap_program.specs.Typed.{IsTypedProgram, IsTypedQuery, term_form};
 ghost use Rattle.ap_property.specs.PutIn.{asking};
@@ -18,12 +19,12 @@ use ap_instance::ask;
 use ap_io::Gate;
 use ap_paths::Limit;
 use ap_program::restricted::Restricted;
-use ap_report::solve;
+use ap_report::solve_without_paths;
 use std::alloc::Global;
 use std::sync::Wait;
 use std::thread::Threads;
 
-/// A program, and outputs of its query.
+/// A program, and outputs of its query, without their paths.
 #[derive(Drop)]
 pub(crate) struct Searched {
     pub program: Restricted,
@@ -37,7 +38,7 @@ fn typed(program: &Restricted)
     let _program = program.program();
 }
 
-/// The outputs of the first query of a program with its index.
+/// The outputs of the first query of a program with its index, without their paths.
 fn first_outputs_by<R: Threads + Wait + Sync, G: Gate>(
     rt: &R,
     alloc: Global,
@@ -50,17 +51,18 @@ fn first_outputs_by<R: Threads + Wait + Sync, G: Gate>(
     requires { 1 ≤ length (program_of program.now).queries }
     ensures { IfOk result (λ v. (q : NominalQuery) →
         slice_get (program_of program.now).queries 0 ≡ Some q →
-        outs_of v.items ≡ part limit (query_outs (program_of program.now).clauses depth q)) }
+        outs_of v.items ≡ map without_path
+        (part limit (query_outs (program_of program.now).clauses depth q))) }
 {
     let problem = Problem {
         program: &*program,
         query: 1,
         depth: depth.get(),
     };
-    solve(rt, alloc, gate, workers, limit, &problem)
+    solve_without_paths(rt, alloc, gate, workers, limit, &problem)
 }
 
-/// The outputs of a program's first query.
+/// The outputs of a program's first query, without their paths.
 fn first_outputs<R: Threads + Wait + Sync, G: Gate>(
     rt: &R,
     alloc: Global,
@@ -73,13 +75,14 @@ fn first_outputs<R: Threads + Wait + Sync, G: Gate>(
     requires { 1 ≤ length (program_of program.now).queries }
     ensures { IfOk result (λ v. (q : NominalQuery) →
         slice_get (program_of program.now).queries 0 ≡ Some q →
-        outs_of v.items ≡ part limit (query_outs (program_of program.now).clauses depth q)) }
+        outs_of v.items ≡ map without_path
+        (part limit (query_outs (program_of program.now).clauses depth q))) }
 {
     let index = Index::of(alloc, program)?;
     first_outputs_by(rt, alloc, gate, depth, workers, limit, &index)
 }
 
-/// The outputs of a query in place of a program's, up to the last answer that is wanted.
+/// The outputs of a query in place of a program's, up to the last answer that is wanted, without their paths.
 pub(crate) fn search<R: Threads + Wait + Sync, G: Gate>(
     rt: &R,
     alloc: Global,
@@ -96,7 +99,8 @@ pub(crate) fn search<R: Threads + Wait + Sync, G: Gate>(
         ≡ asking (program_of program) (query_of query)) }
     ensures typed { IfOk result (λ s. IsTypedProgram (program_of s.program)) }
     ensures outs { IfOk result (λ s. outs_of s.outs.items
-        ≡ part limit (query_outs (program_of program).clauses depth (query_of query))) }
+        ≡ map without_path
+        (part limit (query_outs (program_of program).clauses depth (query_of query)))) }
 {
     let asked = ask(alloc, program, query)?;
     let outs = first_outputs(rt, alloc, gate, depth, workers, limit, &asked.program)?;

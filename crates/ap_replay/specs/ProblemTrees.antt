@@ -7,6 +7,8 @@ use Rattle.ap_defs.specs.declared.paths.Node.{Node}
 use Rattle.ap_defs.specs.declared.paths.Node.TheVariants as nodes
 use Rattle.ap_paths.specs.Entries as entries
 use Rattle.ap_paths.specs.Entries.{Plan}
+use Rattle.ap_paths.specs.declared.limits.Limit.{Limit}
+use Rattle.ap_paths.specs.declared.limits.Limit.TheVariants as limits
 use Rattle.ap_search.specs.PathTrees.{query_choices, query_kept}
 use Rattle.ap_backchain.specs.Branches.{choices_at}
 use Rattle.ap_backchain.specs.Ends.{kept_out}
@@ -53,14 +55,21 @@ choices_below_of program d (Some q) path = choices_at program d q path
 abbrev pub choices_below : Problem → List ℕ → ℕ
 choices_below p path = choices_below_of (clauses_in p) p.depth (query_in p) path
 
--- So many choices may be made by one worker alone after n on the way: 32, and with each two that divides n four times as many, from the
--- sixth on twice as many. None are made at the root.
-abbrev pub bound_after : ℕ → ℕ
-bound_after zero = 0
-bound_after (suc n) = let twos = min (trailing_zeros w64 (suc n)) 40 in 32 * 2 ^ (twos + min twos 5)
+-- So many choices may be made by one worker alone where so many twos divide the length of the way. Where all answers are wanted it is 4,
+-- with each of the first three twos eight times as many, and with each further one four times as many: so all bounds on the way are
+-- together at most twice the greatest of them, and what is made again on the way costs less. Where not all are wanted, the search may end
+-- while what is beside the way has no end: it is 32, with each of the first five twos four times as many, and then twice as many.
+abbrev pub bound_by : Limit → ℕ → ℕ
+bound_by limits.All twos = 4 * 2 ^ (2 * twos + min twos 3)
+bound_by (limits.First n) twos = 32 * 2 ^ (twos + min twos 5)
 
-abbrev pub bound_at : List ℕ → ℕ
-bound_at path = bound_after (length path)
+-- and after n on the way: none at the root
+abbrev pub bound_after : Limit → ℕ → ℕ
+bound_after limit zero = 0
+bound_after limit (suc n) = bound_by limit (min (trailing_zeros w64 (suc n)) 28)
+
+abbrev pub bound_at : Limit → List ℕ → ℕ
+bound_at limit path = bound_after limit (length path)
 
 -- a choice has the ways that it keeps as kids
 abbrev pub shared_out : Option (List ℕ) → List NominalOut → Plan
@@ -68,13 +77,13 @@ shared_out None os = entries.outs os
 shared_out (Some ks) os = entries.kids ks
 
 -- a choice is shared out that leads to more
-abbrev pub is_shared : Problem → List ℕ → Bool
-is_shared p path = nat_lt (bound_at path) (choices_below p path)
+abbrev pub is_shared : Limit → Problem → List ℕ → Bool
+is_shared limit p path = nat_lt (bound_at limit path) (choices_below p path)
 
 -- all else is searched whole
-abbrev pub problem_plan : Paths → Problem → List ℕ → Plan
-problem_plan paths p path =
-    if is_shared p path then shared_out (problem_kept p path) (kept_outs paths p path) else entries.outs (kept_outs paths p path)
+abbrev pub problem_plan : Limit → Paths → Problem → List ℕ → Plan
+problem_plan limit paths p path =
+    if is_shared limit p path then shared_out (problem_kept p path) (kept_outs paths p path) else entries.outs (kept_outs paths p path)
 
 -- the kids of a branch, where it is at a choice
 abbrev pub node_kids : Node → Option (List ℕ)

@@ -1,10 +1,10 @@
 //! The search of a problem as a tree of paths.
 
-ghost use Rattle.std.specs.Prelude.{◌≡◌, IfOk};
+ghost use Rattle.std.specs.Prelude.{◌≡◌, ◌≤◌, IfOk};
 ghost use Rattle.ap_backchain.specs.Branches.{IsBranchOf, path_of_branch};
 ghost use Rattle.ap_backchain.specs.Problems.{HasQuery};
 ghost use Rattle.ap_paths.specs.Entries.{visit_of};
-ghost use Rattle.ap_replay.specs.ProblemTrees.{bound_at, kid_numbers, node_kids, problem_plan};
+ghost use Rattle.ap_replay.specs.ProblemTrees.{bound_at, bound_by, kid_numbers, node_kids, problem_plan};
 
 use crate::replay::branch_at;
 use ap_backchain::branch::Branch;
@@ -13,16 +13,17 @@ use ap_backchain::run::Paths;
 use ap_defs::lists::List;
 use ap_defs::memory::Memory;
 use ap_defs::paths::{Node, Out, Path, Visit};
-use ap_paths::Tree;
+use ap_paths::{Limit, Tree};
 use std::alloc::Global;
 
 /// The tree of paths of a problem. A path is searched whole, by one worker, if few choices are made for
-/// that. Else its kids are shared out among workers, so that none is held by what another could do. Its
-/// outputs have their paths, or none has.
+/// that. Else its kids are shared out among workers, so that none is held by what another could do. How
+/// many are few hangs on whether all answers are wanted. Its outputs have their paths, or none has.
 #[derive(Clone, Copy)]
 pub struct ProblemTree<'a> {
     problem: Problem<'a>,
     paths: Paths,
+    limit: Limit,
     ghost query: { HasQuery problem },
 }
 
@@ -36,16 +37,26 @@ fn kids_at(alloc: Global, node: &Node) -> Result<Option<Vec<u32>>, Memory>
     }
 }
 
+/// How many choices a worker alone may make where so many twos divide the length of the path.
+fn bound_of_twos(limit: Limit, twos: u32) -> u64
+    requires { twos ≤ 28 }
+    ensures { result ≡ bound_by limit twos }
+{
+    match limit {
+        Limit::All => 4 << (2 * twos + twos.min(3)),
+        Limit::First(_) => 32 << (twos + twos.min(5)),
+    }
+}
+
 /// How many choices a worker alone may make at a path and below it.
-fn bound_of(path: &Path) -> u64
-    ensures { result ≡ bound_at path.now }
+fn bound_of(limit: Limit, path: &Path) -> u64
+    ensures { result ≡ bound_at limit path.now }
 {
     let way = path.choices().len();
     if way == 0 {
         return 0;
     }
-    let twos = way.trailing_zeros().min(40);
-    32 << (twos + twos.min(5))
+    bound_of_twos(limit, way.trailing_zeros().min(28))
 }
 
 /// What a visit answers: the outputs, where few choices are to be made, and else the kids.
@@ -53,19 +64,20 @@ fn visit_branch<'a>(
     alloc: Global,
     problem: &Problem<'a>,
     paths: Paths,
+    limit: Limit,
     branch: Branch<'a>,
     path: &Path,
 ) -> Result<Visit, Memory>
     requires query { HasQuery problem.now }
     requires of { IsBranchOf problem.now branch }
     requires path { path_of_branch branch ≡ path.now }
-    ensures { IfOk result (λ v. visit_of v ≡ problem_plan paths problem.now path.now) }
+    ensures { IfOk result (λ v. visit_of v ≡ problem_plan limit paths problem.now path.now) }
 {
     let Some(kids) = kids_at(alloc, branch.node())? else {
         let outs = branch.run(alloc, problem, paths)?;
         return Ok(Visit::Outs(List::of(outs)));
     };
-    match branch.run_within(alloc, problem, paths, bound_of(path))? {
+    match branch.run_within(alloc, problem, paths, bound_of(limit, path))? {
         Some(outs) => Ok(Visit::Outs(List::of(outs))),
         None => Ok(Visit::Kids(List::of(kids))),
     }
@@ -74,13 +86,19 @@ fn visit_branch<'a>(
 impl<'a> ProblemTree<'a> {
     ghost use Rattle.std.specs.Prelude.{◌≡◌};
 
-    /// The tree of the problem, whose outputs have their paths or not. It takes no memory.
-    pub fn of(problem: Problem<'a>, paths: Paths) -> ProblemTree<'a>
+    /// The tree of the problem, whose outputs have their paths or not, for a search that ends with the last
+    /// answer that is wanted. It takes no memory.
+    pub fn of(problem: Problem<'a>, paths: Paths, limit: Limit) -> ProblemTree<'a>
         requires { HasQuery problem }
         ensures problem { result.problem ≡ problem.entry }
         ensures paths { result.paths ≡ paths }
+        ensures limit { result.limit ≡ limit }
     {
-        ProblemTree { problem, paths }
+        ProblemTree {
+            problem,
+            paths,
+            limit,
+        }
     }
 }
 
@@ -92,7 +110,7 @@ impl<'a> Tree for ProblemTree<'a> {
 
     ghost at = { λ t. kept_outs t.paths t.problem };
 
-    ghost plan = { λ t. problem_plan t.paths t.problem };
+    ghost plan = { λ t. problem_plan t.limit t.paths t.problem };
 
     fn width(&self, alloc: Global, path: &Path) -> Result<Option<u32>, Memory> {
         let branch = branch_at(alloc, &self.problem, path)?;
@@ -108,10 +126,10 @@ impl<'a> Tree for ProblemTree<'a> {
 
     fn visit(&self, alloc: Global, path: &Path) -> Result<Visit, Memory> {
         let branch = branch_at(alloc, &self.problem, path)?;
-        visit_branch(alloc, &self.problem, self.paths, branch, path)
+        visit_branch(alloc, &self.problem, self.paths, self.limit, branch, path)
     }
 
     ghost branches = { λ t. problem_branches t.paths t.problem };
 
-    ghost planned = { λ t. problem_planned t.paths t.problem };
+    ghost planned = { λ t. problem_planned t.limit t.paths t.problem };
 }

@@ -38,7 +38,7 @@ fn search_beside<R: Threads + Wait + Sync, G: Gate>(
         outs_of v.items ≡ map (kept_out paths)
         (limits.part limit (query_outs (clauses_in problem.now) problem.now.depth q))) }
 {
-    let tree = ProblemTree::of(*problem, paths);
+    let tree = ProblemTree::of(*problem, paths, limit);
     let closed = search_within(rt, alloc, &tree, workers.get(), limit, gate)?;
     let outs = merge(alloc, closed)?;
     Ok(part(outs, limit))

@@ -10,6 +10,7 @@ use ap_defs::limits::SIZE_LIMIT;
 use ap_defs::lists::List;
 use ap_defs::memory::Memory;
 use ap_index::index::Index;
+use ap_paths::Limit;
 use ap_program::restricted::Restricted;
 use ap_replay::problem_tree::ProblemTree;
 use ap_text::program_of_text;
@@ -46,7 +47,10 @@ fn played(alloc: Global, events: &[Event]) -> Result<Option<Core>, Memory> {
     let program = program_of(alloc, TEXT)?;
     let index = Index::of(alloc, &program)?;
     match only_query(&index, 5) {
-        Some(problem) => play(alloc, &ProblemTree::of(problem, Paths::Kept), 2, events),
+        Some(problem) => {
+            let tree = ProblemTree::of(problem, Paths::Kept, Limit::First(1));
+            play(alloc, &tree, 2, events)
+        }
         None => Err(Memory),
     }
 }

@@ -8,7 +8,7 @@ use ap_backchain::run::Paths;
 use ap_defs::memory::Memory;
 use ap_defs::paths::{Path, Visit};
 use ap_index::index::Index;
-use ap_paths::Tree;
+use ap_paths::{Limit, Tree};
 use ap_replay::problem_tree::ProblemTree;
 use ap_replay::replay::at;
 use std::alloc::Global;
@@ -25,30 +25,46 @@ const SUBSTITUTION: &str = "id : name_type. exp : type. var : id -> exp.
     subst(lam(y\\M), X, E, lam(y\\M2)) :- y # X, y # E, subst(M,X,E,M2).
     ?- subst(lam(b\\app(var(a),var(b))), a, var(b), R).";
 
-/// What a visit of a path answers.
-fn visit_at(alloc: Global, problem: &Problem<'_>, path: &Path) -> Result<Visit, Memory>
+/// What a visit of a path answers in a search for so many answers.
+fn visit_at(
+    alloc: Global,
+    problem: &Problem<'_>,
+    limit: Limit,
+    path: &Path,
+) -> Result<Visit, Memory>
     requires { HasQuery problem.now }
 {
     match at(alloc, problem, path) {
-        Ok(_branch) => ProblemTree::of(*problem, Paths::Kept).visit(alloc, path),
+        Ok(_branch) => ProblemTree::of(*problem, Paths::Kept, limit).visit(alloc, path),
         Err(_refused) => Err(Memory),
     }
 }
 
 /// What it answers after these choices in the search of a text's query.
-fn visit_of(alloc: Global, text: &str, choices: &[u32], depth: u32) -> Result<Visit, Memory> {
+fn visit_of(
+    alloc: Global,
+    text: &str,
+    limit: Limit,
+    choices: &[u32],
+    depth: u32,
+) -> Result<Visit, Memory> {
     let program = program_of(alloc, text)?;
     let index = Index::of(alloc, &program)?;
     let path = Path::of(choices.to_vec(alloc)?);
     match only_query(&index, depth) {
-        Some(problem) => visit_at(alloc, &problem, &path),
+        Some(problem) => visit_at(alloc, &problem, limit, &path),
         None => Err(Memory),
     }
 }
 
-/// The same for two ways at each path.
+/// The same for two ways at each path, where all answers are wanted.
 fn visit_after(alloc: Global, choices: &[u32], depth: u32) -> Result<Visit, Memory> {
-    visit_of(alloc, TEXT, choices, depth)
+    visit_of(alloc, TEXT, Limit::All, choices, depth)
+}
+
+/// The same where the first answer is wanted.
+fn first_visit_after(alloc: Global, choices: &[u32], depth: u32) -> Result<Visit, Memory> {
+    visit_of(alloc, TEXT, Limit::First(1), choices, depth)
 }
 
 /// Whether it is the outputs, so many.
@@ -74,20 +90,29 @@ fn is_split(visit: &Visit) -> bool {
 
 #[test]
 fn few_choices_are_searched_whole(rt: HostRuntime) {
-    // 31 choices, where 32 may be made
-    let odd = visit_after(rt.alloc(), &[1; 7], 12);
-    assert!(rt; matches!(&odd, Ok(visit) if is_searched(visit, 32)));
-    // 511 choices, where 512 may be made
-    let even = visit_after(rt.alloc(), &[1; 12], 21);
-    assert!(rt; matches!(&even, Ok(visit) if is_searched(visit, 512)));
+    // 3 choices, where 4 may be made
+    let odd = visit_after(rt.alloc(), &[1; 7], 9);
+    assert!(rt; matches!(&odd, Ok(visit) if is_searched(visit, 4)));
+    // 255 choices, where 256 may be made
+    let even = visit_after(rt.alloc(), &[1; 12], 20);
+    assert!(rt; matches!(&even, Ok(visit) if is_searched(visit, 256)));
 }
 
 #[test]
 fn many_choices_are_split(rt: HostRuntime) {
-    let odd = visit_after(rt.alloc(), &[1; 7], 13);
+    let odd = visit_after(rt.alloc(), &[1; 7], 10);
     assert!(rt; matches!(&odd, Ok(visit) if is_split(visit)));
-    let even = visit_after(rt.alloc(), &[1; 12], 22);
+    let even = visit_after(rt.alloc(), &[1; 12], 21);
     assert!(rt; matches!(&even, Ok(visit) if is_split(visit)));
+}
+
+#[test]
+fn few_are_others_for_a_first_answer(rt: HostRuntime) {
+    // 31 choices, where 32 may be made
+    let whole = first_visit_after(rt.alloc(), &[1; 7], 12);
+    assert!(rt; matches!(&whole, Ok(visit) if is_searched(visit, 32)));
+    let split = first_visit_after(rt.alloc(), &[1; 7], 13);
+    assert!(rt; matches!(&split, Ok(visit) if is_split(visit)));
 }
 
 #[test]
@@ -100,6 +125,6 @@ fn endless_choices_are_split(rt: HostRuntime) {
 
 #[test]
 fn clauses_with_another_head_are_left_out(rt: HostRuntime) {
-    let root = visit_of(rt.alloc(), SUBSTITUTION, &[], 5);
+    let root = visit_of(rt.alloc(), SUBSTITUTION, Limit::All, &[], 5);
     assert!(rt; matches!(&root, Ok(visit) if has_kids(visit, &[4])));
 }

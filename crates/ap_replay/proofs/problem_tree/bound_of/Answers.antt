@@ -5,5 +5,6 @@ use Rattle.ap_replay.proofs.problem_tree.bound_of.Goals as goal
 
 pub returns : goal.returns
 returns c =
-    bound_of_way (length c.choices-way.result.now) c.min-twos.result c.min.result c.if-way-eq0.false c.min-twos.ensures c.min.ensures
-    ∙ ap bound_at c.choices-way.ensures
+    c.bound_of_twos.ensures
+    ∙ bound_of_way c.args.limit (length c.choices-way.result.now) c.min.result c.if-way-eq0.false c.min.ensures
+    ∙ ap (bound_at c.args.limit) c.choices-way.ensures
