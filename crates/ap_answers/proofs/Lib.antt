@@ -10,4 +10,5 @@ pub mod SoundlyShownLemmas
 pub mod SeparatedLemmas
 pub mod TextLemmas
 pub mod WordLemmas
+pub mod FreeLemmas
 pub mod LocalLemmas

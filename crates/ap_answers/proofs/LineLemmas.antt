@@ -5,7 +5,9 @@ use Rattle.std.specs.List.{count_by}
 use Rattle.std.specs.Prelude.{if◌then◌else◌, cond, codes}
 use Rattle.ap_defs.specs.declared.paths.Out.{Out}
 use Rattle.ap_defs.specs.declared.paths.Out.TheVariants as code
-use Rattle.ap_defs.specs.Answers.{NominalOut, found, cut, stuck, out_of, outs_of}
+use Rattle.ap_defs.specs.declared.outcomes.Answer.{Answer}
+use Rattle.ap_defs.specs.declared.paths.Path.{Path}
+use Rattle.ap_defs.specs.Answers.{NominalOut, found, cut, stuck, answer_of, out_of, out_path, outs_of}
 use Rattle.ap_defs.specs.Lines.{Line, answer, cuts, stucks, line_before, lines_of, ended, is_cut, is_stuck, count_of}
 use Rattle.ap_answers.specs.Runs.{run_length, IsLineFor}
 
@@ -48,6 +50,14 @@ within_line text os l n old new some within lines e = record {
   within = within;
   written = rw (e, lines) (append_assoc old (text l ++ codes "\n") (ended (map text (lines_of (drop n os)))) ∙ ap (λ bs. old ++ bs) (append_assoc (text l) (codes "\n") (ended (map text (lines_of (drop n os))))));
 }
+
+pub found_line : (text : Line → List ℕ) (os : List NominalOut) (outs : List Out) (o : Out) (p : Path) (a : Answer) (old mid new : List ℕ) → os ≡ outs_of outs → 1 ≤ length outs → o ≡ get_or outs 0 o → o ≡ code.Found p a
+    → mid ≡ old ++ text (answer (answer_of a)) → new ≡ mid ++ codes "\n" → IsLineFor text os 1 old new
+found_line text os [] o p a old mid new s h e d m w = absurd (omega arith)
+found_line text os (q ∷ outs) o p a old mid new s h e d m w =
+    let begins : os ≡ found (out_path (out_of (code.Found p a))) (answer_of a) ∷ outs_of outs = s ∙ ap (λ x. out_of x ∷ outs_of outs) (sym e ∙ d) in
+    within_line text os (answer (answer_of a)) 1 old new (omega arith) (rw begins (omega arith)) (rw begins refl)
+    (w ∙ ap (λ bs. bs ++ codes "\n") m ∙ append_assoc old (text (answer (answer_of a))) (codes "\n"))
 
 pub cuts_line : (text : Line → List ℕ) (os : List NominalOut) (outs : List Out) (o : Out) (p : List ℕ) (n : ℕ) (old new : List ℕ) → os ≡ outs_of outs → 1 ≤ length outs → o ≡ get_or outs 0 o → o ≡ code.Cut p → n ≡ run_length is_cut os
     → new ≡ old ++ (text (cuts n) ++ codes "\n") → IsLineFor text os n old new

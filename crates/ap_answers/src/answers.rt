@@ -1,14 +1,13 @@
 //! The text of an answer.
 
-ghost use Rattle.std.specs.Prelude.{◌≡◌, ℕ, List as list, [], ◌∷◌, ◌++◌, OnOk};
+ghost use Rattle.std.specs.Prelude.{◌≡◌, [], ◌∷◌, ◌++◌, OnOk};
 ghost use Rattle.ap_defs.specs.Types.{locals_of};
 ghost use Rattle.ap_defs.specs.Goals.{program_of};
 ghost use Rattle.ap_defs.specs.Answers.{answer_of};
-ghost use Rattle.ap_defs.specs.Printing.{has_word};
 ghost use Rattle.ap_defs.specs.Lines.{answer_text, bind_text, cond_text, shown_text, where_text};
 ghost use Rattle.ap_answers.specs.Spelled.{spelling_in};
 ghost use Rattle.ap_answers.specs.Bindings.{bind_of, binds_of};
-ghost use Rattle.ap_answers.specs.Words.{knows};
+ghost use Rattle.ap_answers.specs.Words.{IsTaken};
 ghost use Rattle.ap_answers.specs.Separated.{further_binds, further_conds};
 
 use crate::bindings::Binding;
@@ -16,12 +15,12 @@ use crate::place::Place;
 use crate::shown::display_of;
 use crate::speller::{Speller, speller_for};
 use crate::text::write_term;
+use crate::words::Taken;
 use ap_defs::goals::{Local, Program};
 use ap_defs::memory::Memory;
 use ap_defs::outcomes::Answer;
 use ap_defs::terms::{Cond, Term};
 use std::alloc::Global;
-use std::collections::HashSet;
 
 /// Writes a binding.
 fn write_bind(
@@ -115,11 +114,11 @@ pub fn write_answer(
     alloc: Global,
     out: &mut Vec<u8>,
     program: &Program<Term>,
-    taken: &HashSet<&str>,
+    taken: &Taken<'_>,
     locals: &[Local],
     answer: &Answer,
 ) -> Result<(), Memory>
-    requires { (w : list ℕ) → knows taken.now w ≡ has_word w program.now.words }
+    requires { IsTaken program.now.words taken.now }
     ensures { OnOk result (out.new.items
         ≡ out.old.items
         ++ answer_text (program_of program.now) (locals_of locals.now) (answer_of answer.now)) }

@@ -13,4 +13,4 @@ mod report;
 mod shown;
 pub mod speller;
 pub mod text;
-mod words;
+pub mod words;

@@ -9,12 +9,12 @@ ghost use Rattle.ap_defs.specs.Printing.{has_word};
 ghost use Rattle.ap_program.specs.NameRestriction.{IsRestricted};
 ghost use Rattle.ap_answers.specs.Queries.{query_locals, nominal_shown};
 ghost use Rattle.ap_answers.specs.SoundlyShown.{IsSoundlyShown};
-ghost use Rattle.ap_answers.specs.Words.{knows};
+ghost use Rattle.ap_answers.specs.Words.{knows, IsTaken};
 
 use crate::copying::shown_of;
 use crate::report::report;
 use crate::shown::display_of;
-use crate::words::word_set;
+use crate::words::{Taken, taken_words, word_set};
 use ap_defs::goals::Local;
 use ap_defs::memory::Memory;
 use ap_defs::outcomes::{Answer, Shown};
@@ -65,16 +65,23 @@ pub fn words_in(alloc: Global, program: &Restricted) -> Result<HashSet<&str>, Me
     word_set(alloc, program.program().words.items())
 }
 
+/// The words of a program's text, as they are left out where words are generated for many queries.
+pub fn taken_in(alloc: Global, program: &Restricted) -> Result<Taken<'_>, Memory>
+    ensures { IfOk result (λ t. IsTaken program.now.words t) }
+{
+    taken_words(alloc, program.program().words.items())
+}
+
 /// The same as [`lines`], where the set of the words of the text is known. It is worth while for the queries
 /// of one program.
 pub fn lines_among(
     alloc: Global,
     program: &Restricted,
-    taken: &HashSet<&str>,
+    taken: &Taken<'_>,
     query: u32,
     outs: &[Out],
 ) -> Result<Vec<u8>, Memory>
-    requires words { (w : list ℕ) → knows taken.now w ≡ has_word w program.now.words }
+    requires words { IsTaken program.now.words taken.now }
     requires from_one { 1 ≤ query }
     requires exists { query ≤ length (program_of program.now).queries }
     ensures { IfOk result (λ bytes. bytes.items
@@ -99,6 +106,6 @@ pub fn lines(
         ≡ query_lines (program_of program.now) query (query_locals (program_of program.now) query)
         (outs_of outs.now)) }
 {
-    let taken = words_in(alloc, program)?;
+    let taken = taken_in(alloc, program)?;
     lines_among(alloc, program, &taken, query, outs)
 }

@@ -1,21 +1,20 @@
 //! The lines of a report on a query.
 
-ghost use Rattle.std.specs.Prelude.{◌≡◌, ℕ, List as list, ◌++◌, ◌≤◌, length, map, codes, decimal, OnOk, IfOk};
+ghost use Rattle.std.specs.Prelude.{◌≡◌, ◌++◌, ◌≤◌, length, map, codes, decimal, OnOk, IfOk};
 ghost use Rattle.ap_defs.specs.Types.{locals_of};
 ghost use Rattle.ap_defs.specs.Goals.{program_of};
 ghost use Rattle.ap_defs.specs.Answers.{outs_of, out_of};
-ghost use Rattle.ap_defs.specs.Printing.{has_word};
 ghost use Rattle.ap_defs.specs.Lines.{is_found, is_cut, is_stuck, count_of, lines_of, line_text, ended, totals_text, query_lines};
-ghost use Rattle.ap_answers.specs.Words.{knows};
+ghost use Rattle.ap_answers.specs.Words.{IsTaken};
 ghost use Rattle.ap_answers.specs.Runs.{run_length, IsLineFor};
 
 use crate::answers::write_answer;
+use crate::words::Taken;
 use ap_defs::goals::{Local, Program};
 use ap_defs::memory::Memory;
 use ap_defs::paths::Out;
 use ap_defs::terms::Term;
 use std::alloc::Global;
-use std::collections::HashSet;
 
 fn is_answer(out: &Out) -> bool
     ensures { result ≡ is_found (out_of out.now) }
@@ -124,11 +123,11 @@ fn write_line(
     alloc: Global,
     out: &mut Vec<u8>,
     program: &Program<Term>,
-    taken: &HashSet<&str>,
+    taken: &Taken<'_>,
     locals: &[Local],
     outs: &[Out],
 ) -> Result<usize, Memory>
-    requires taken { (w : list ℕ) → knows taken.now w ≡ has_word w program.now.words }
+    requires taken { IsTaken program.now.words taken.now }
     requires some { 1 ≤ length outs.now }
     ensures { IfOk result (λ n. IsLineFor (line_text (program_of program.now)
         (locals_of locals.now)) (outs_of outs.now) n out.old.items out.new.items) }
@@ -157,11 +156,11 @@ fn write_lines(
     alloc: Global,
     out: &mut Vec<u8>,
     program: &Program<Term>,
-    taken: &HashSet<&str>,
+    taken: &Taken<'_>,
     locals: &[Local],
     outs: &[Out],
 ) -> Result<(), Memory>
-    requires { (w : list ℕ) → knows taken.now w ≡ has_word w program.now.words }
+    requires { IsTaken program.now.words taken.now }
     ensures { OnOk result (out.new.items
         ≡ out.old.items
         ++ ended (map (line_text (program_of program.now) (locals_of locals.now))
@@ -180,12 +179,12 @@ fn write_lines(
 pub fn report(
     alloc: Global,
     program: &Program<Term>,
-    taken: &HashSet<&str>,
+    taken: &Taken<'_>,
     query: u32,
     locals: &[Local],
     outs: &[Out],
 ) -> Result<Vec<u8>, Memory>
-    requires { (w : list ℕ) → knows taken.now w ≡ has_word w program.now.words }
+    requires { IsTaken program.now.words taken.now }
     ensures { IfOk result (λ bytes. bytes.items
         ≡ query_lines (program_of program.now) query (locals_of locals.now) (outs_of outs.now)) }
 {

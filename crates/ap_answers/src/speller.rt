@@ -1,23 +1,21 @@
 //! How the names, variables and constructors of an answer are spelled.
 
-ghost use Rattle.std.specs.Prelude.{◌≡◌, ℕ, zero, List as list, ◌++◌, Some, OnOk, IfOk};
+ghost use Rattle.std.specs.Prelude.{◌≡◌, zero, ◌++◌, Some, OnOk, IfOk};
 ghost use Rattle.ap_defs.specs.Types.{locals_of};
 ghost use Rattle.ap_defs.specs.Goals.{program_of};
 ghost use Rattle.ap_defs.specs.Renaming.{local_names};
-ghost use Rattle.ap_defs.specs.Printing.{has_word};
 ghost use Rattle.ap_defs.specs.Lines.{NominalShown, spelling_for};
-ghost use Rattle.ap_answers.specs.Words.{knows};
+ghost use Rattle.ap_answers.specs.Words.{IsTaken};
 ghost use Rattle.ap_answers.specs.Spelled.{spelling_in, text_at};
 
 use crate::locals::free_name_texts;
-use crate::words::generated;
+use crate::words::{Taken, generated};
 use ap_defs::goals::{Constructor, Local, Program};
 use ap_defs::lists::Text;
 use ap_defs::memory::Memory;
 use ap_defs::terms::{Name, Term, Var};
 use indexmap::IndexSet;
 use std::alloc::Global;
-use std::collections::HashSet;
 
 /// The names and the variables that are written, each with its text at the same place, and the
 /// declared constructors.
@@ -68,12 +66,12 @@ impl Speller<'_> {
 pub fn speller_for<'a>(
     alloc: Global,
     program: &'a Program<Term>,
-    taken: &HashSet<&str>,
+    taken: &Taken<'_>,
     locals: &[Local],
     names: &'a IndexSet<Name>,
     vars: &'a IndexSet<Var>,
 ) -> Result<Speller<'a>, Memory>
-    requires { (w : list ℕ) → knows taken.now w ≡ has_word w program.now.words }
+    requires { IsTaken program.now.words taken.now }
     ensures { IfOk result (λ by. (s : NominalShown) →
         names.now.keys ≡ local_names zero (locals_of locals.now) ++ s.names →
         vars.now.keys ≡ s.vars →
@@ -82,9 +80,9 @@ pub fn speller_for<'a>(
     let words = program.words.items();
     let mut name_texts = free_name_texts(alloc, locals)?;
     let others = names.len().saturating_sub(name_texts.len());
-    let mut made = generated(alloc, "n", words, taken, others)?;
+    let mut made = generated(alloc, "n", words, &taken.words, &taken.names, others)?;
     name_texts.append(&mut made)?;
-    let var_texts = generated(alloc, "_", words, taken, vars.len())?;
+    let var_texts = generated(alloc, "_", words, &taken.words, &taken.vars, vars.len())?;
     let constructors = program.signature.constructors.items();
     Ok(Speller {
         names,

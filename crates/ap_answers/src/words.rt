@@ -1,13 +1,29 @@
 //! Generated words.
 
-ghost use Rattle.std.specs.Prelude.{◌≡◌, ℕ, List as list, [], ◌∷◌, ◌++◌, not, filter, decimal, IfOk, OnOk};
+ghost use Rattle.std.specs.Prelude.{◌≡◌, ◌≤◌, ℕ, List as list, [], ◌∷◌, ◌++◌, false, not, codes, filter, decimal, length, IfOk, OnOk};
 ghost use Rattle.ap_defs.specs.Printing.{has_word, new_words};
-ghost use Rattle.ap_answers.specs.Words.{knows};
+ghost use Rattle.ap_answers.specs.Words.{knows, first_words, AreFree, IsTaken};
 
 use ap_defs::lists::Text;
 use ap_defs::memory::Memory;
 use std::alloc::Global;
 use std::collections::HashSet;
+
+/// The numbers from 1 up to a number with which a letter is no word of a text.
+#[derive(Drop)]
+pub struct Free {
+    pub numbers: Vec<u64>,
+    pub tried: usize,
+}
+
+/// The words of a text, which are left out where words are generated. What of them begins as a generated
+/// word does is looked up once, since else each query would try it.
+#[derive(Drop)]
+pub struct Taken<'a> {
+    pub words: HashSet<&'a str>,
+    pub names: Free,
+    pub vars: Free,
+}
 
 /// The set of words.
 pub fn word_set<'a>(alloc: Global, words: &'a [Text]) -> Result<HashSet<&'a str>, Memory>
@@ -18,6 +34,107 @@ pub fn word_set<'a>(alloc: Global, words: &'a [Text]) -> Result<HashSet<&'a str>
         set.insert(word.as_str())?;
     }
     Ok(set)
+}
+
+/// Whether the word of a letter and a number is taken.
+fn is_taken(alloc: Global, letter: &str, number: u64, taken: &HashSet<&str>) -> Result<bool, Memory>
+    ensures { IfOk result (λ b. b ≡ knows taken.now (letter.now ++ decimal number)) }
+{
+    let word = format!(in alloc; "{letter}{number}")?;
+    Ok(taken.contains(word.as_str()))
+}
+
+/// Keeps a number, unless the letter with it is taken.
+fn keep_number(
+    alloc: Global,
+    numbers: &mut Vec<u64>,
+    letter: &str,
+    number: u64,
+    taken: &HashSet<&str>,
+) -> Result<(), Memory>
+    ensures { OnOk result (numbers.new.items
+        ≡ numbers.old.items
+        ++ filter (λ n. not (knows taken.now (letter.now ++ decimal n))) (number ∷ [])) }
+{
+    if !is_taken(alloc, letter, number, taken)? {
+        numbers.push(number)?;
+    }
+    Ok(())
+}
+
+/// How many of the words begin with a letter.
+fn count_beginning(letter: &str, words: &[Text]) -> usize
+    ensures { result ≤ length words.now }
+{
+    let mut count = 0;
+    for word in words {
+        if word.as_str().starts_with(letter) {
+            count += 1;
+        }
+    }
+    count
+}
+
+/// The numbers with which a letter is no word of the text, up to one that is as great as there are words
+/// with the letter: so all further numbers together cost no more than there are free ones.
+fn free_numbers(
+    alloc: Global,
+    letter: &str,
+    words: &[Text],
+    taken: &HashSet<&str>,
+) -> Result<Free, Memory>
+    requires { (w : list ℕ) → knows taken.now w ≡ has_word w words.now }
+    ensures { IfOk result (λ f. AreFree letter.now words.now f) }
+{
+    let tried = count_beginning(letter, words);
+    let mut numbers = Vec::new(alloc);
+    for i in 0..tried {
+        keep_number(alloc, &mut numbers, letter, i as u64 + 1, taken)?;
+    }
+    Ok(Free { numbers, tried })
+}
+
+/// The words of a text, as those that are left out where words are generated.
+pub fn taken_words<'a>(alloc: Global, words: &'a [Text]) -> Result<Taken<'a>, Memory>
+    ensures { IfOk result (λ t. IsTaken words.now t) }
+{
+    let set = word_set(alloc, words)?;
+    let names = free_numbers(alloc, "n", words, &set)?;
+    let vars = free_numbers(alloc, "_", words, &set)?;
+    Ok(Taken {
+        words: set,
+        names,
+        vars,
+    })
+}
+
+/// Adds the word of a letter and a number.
+fn push_word(alloc: Global, made: &mut Vec<Text>, letter: &str, number: u64) -> Result<(), Memory>
+    ensures { OnOk result (made.new.items
+        ≡ made.old.items ++ (letter.now ++ decimal number) ∷ []) }
+{
+    let word = format!(in alloc; "{letter}{number}")?;
+    made.push(Text::of(word))?;
+    Ok(())
+}
+
+/// The words of a letter with the first so many of these numbers.
+fn first_free(
+    alloc: Global,
+    letter: &str,
+    numbers: &[u64],
+    count: usize,
+) -> Result<Vec<Text>, Memory>
+    ensures { IfOk result (λ made. made.items ≡ first_words letter.now count numbers.now) }
+{
+    let mut made = Vec::new(alloc);
+    for number in numbers {
+        if made.len() == count {
+            break;
+        }
+        push_word(alloc, &mut made, letter, *number)?;
+    }
+    Ok(made)
 }
 
 /// Keeps the word of a letter and a number, unless it is taken.
@@ -40,20 +157,22 @@ fn keep_word(
 }
 
 /// The first so many words among a letter with 1, 2, 3 and so on that are not taken, of which there are
-/// enough below that number and the number of words that are taken.
+/// enough below that number and the number of words that are taken. `free` has the first of these numbers.
 pub fn generated(
     alloc: Global,
     letter: &str,
     words: &[Text],
     taken: &HashSet<&str>,
+    free: &Free,
     count: usize,
 ) -> Result<Vec<Text>, Memory>
-    requires { (w : list ℕ) → knows taken.now w ≡ has_word w words.now }
+    requires taken { (w : list ℕ) → knows taken.now w ≡ has_word w words.now }
+    requires free { AreFree letter.now words.now free.now }
     ensures { IfOk result (λ made. made.items ≡ new_words letter.now words.now count) }
 {
-    let mut made = Vec::new(alloc);
+    let mut made = first_free(alloc, letter, free.numbers.as_slice(), count)?;
     let limit = count as u128 + words.len() as u128;
-    for i in 0..limit {
+    for i in free.tried as u128..limit {
         if made.len() == count {
             break;
         }

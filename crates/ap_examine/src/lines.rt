@@ -1,10 +1,9 @@
 //! The lines of exams.
 
-ghost use Rattle.std.specs.Prelude.{◌≡◌, ◌++◌, ℕ, List as list, IfOk, OnOk, map};
-ghost use Rattle.ap_answers.specs.Words.{knows};
+ghost use Rattle.std.specs.Prelude.{◌≡◌, ◌++◌, ℕ, IfOk, OnOk, map};
+ghost use Rattle.ap_answers.specs.Words.{IsTaken};
 ghost use Rattle.ap_defs.specs.Answers.{answer_of};
 ghost use Rattle.ap_defs.specs.Goals.{NominalProgram, program_of, query_of};
-ghost use Rattle.ap_defs.specs.Printing.{has_word};
 ghost use Rattle.ap_defs.specs.Types.{locals_of};
 ghost use Rattle.ap_examine.specs.Exams.{NominalExam};
 ghost use Rattle.ap_examine.specs.Reports.{counter_text, exam_text, exams_from, property_line, tally_said};
@@ -13,14 +12,14 @@ ghost use Rattle.ap_examine.specs.Views.{AreExams, IsExam};
 
 use crate::exam::{Exam, Tally};
 use ap_answers::answers::write_answer;
-use ap_answers::printing::words_in;
+use ap_answers::printing::taken_in;
+use ap_answers::words::Taken;
 use ap_defs::goals::{Local, Program, Query};
 use ap_defs::memory::Memory;
 use ap_defs::outcomes::Answer;
 use ap_defs::terms::Term;
 use ap_program::restricted::Restricted;
 use std::alloc::Global;
-use std::collections::HashSet;
 
 /// Writes the line of a property.
 fn write_line(alloc: Global, out: &mut Vec<u8>, number: u64, said: &str) -> Result<(), Memory>
@@ -53,12 +52,12 @@ fn write_counter(
     alloc: Global,
     out: &mut Vec<u8>,
     program: &Program<Term>,
-    taken: &HashSet<&str>,
+    taken: &Taken<'_>,
     locals: &[Local],
     number: u64,
     answer: &Answer,
 ) -> Result<(), Memory>
-    requires { (w : list ℕ) → knows taken.now w ≡ has_word w program.now.words }
+    requires { IsTaken program.now.words taken.now }
     ensures { OnOk result (out.new.items ≡ out.old.items ++ counter_text (program_of program.now)
         (locals_of locals.now) number (answer_of answer.now)) }
 {
@@ -72,12 +71,12 @@ fn write_exam(
     alloc: Global,
     out: &mut Vec<u8>,
     program: &Program<Term>,
-    taken: &HashSet<&str>,
+    taken: &Taken<'_>,
     locals: &[Local],
     number: u64,
     exam: &Exam,
 ) -> Result<(), Memory>
-    requires { (w : list ℕ) → knows taken.now w ≡ has_word w program.now.words }
+    requires { IsTaken program.now.words taken.now }
     ensures { OnOk result ((e : NominalExam) → IsExam exam.now e → out.new.items ≡ out.old.items
         ++ exam_text (program_of program.now) (locals_of locals.now) number e) }
 {
@@ -100,7 +99,7 @@ pub(crate) fn lines_of(
         AreExams p depth exams.now (map query_of queries.now) →
         v.items ≡ exams_from p depth 1 (map query_of queries.now)) }
 {
-    let taken = words_in(alloc, program)?;
+    let taken = taken_in(alloc, program)?;
     let mut out = Vec::new(alloc);
     let mut number: u64 = 1;
     let mut left = queries;

@@ -1,13 +1,13 @@
 // The report on the queries of a program.
-ghost use Rattle.std.specs.Prelude.{◌≡◌, ◌-◌, ℕ, List as list, IfOk, length};
+ghost use Rattle.std.specs.Prelude.{◌≡◌, ◌-◌, IfOk, length};
 ghost use Rattle.ap_defs.specs.Goals.{program_of};
-ghost use Rattle.ap_defs.specs.Printing.{has_word};
-ghost use Rattle.ap_answers.specs.Words.{knows};
+ghost use Rattle.ap_answers.specs.Words.{IsTaken};
 ghost use Rattle.ap_backchain.specs.Problems.{HasQuery};
 ghost use Rattle.ap_report.specs.Queries.{limited_report, query_report};
 
 use crate::solver::solve_without_paths;
-use ap_answers::printing::{lines_among, words_in};
+use ap_answers::printing::{lines_among, taken_in};
+use ap_answers::words::Taken;
 use ap_backchain::problem::Problem;
 use ap_defs::limits::{Depth, Workers};
 use ap_defs::memory::Memory;
@@ -16,7 +16,6 @@ use ap_io::Gate;
 use ap_paths::Limit;
 use ap_stream::stream_report;
 use std::alloc::Global;
-use std::collections::HashSet;
 use std::sync::Wait;
 use std::thread::Threads;
 
@@ -34,10 +33,10 @@ fn report_beside<R: Threads + Wait + Sync, G: Gate>(
     gate: &G,
     workers: Workers,
     limit: Limit,
-    taken: &HashSet<&str>,
+    taken: &Taken<'_>,
     problem: &Problem<'_>,
 ) -> Result<Vec<u8>, Memory>
-    requires words { (w : list ℕ) → knows taken.now w ≡ has_word w problem.now.program.now.words }
+    requires words { IsTaken problem.now.program.now.words taken.now }
     requires query { HasQuery problem.now }
     ensures { IfOk result (λ v. v.items
         ≡ query_report (program_of problem.now.program.now) problem.now.depth limit
@@ -60,10 +59,10 @@ fn report_query<R: Threads + Wait + Sync, G: Gate>(
     gate: &G,
     workers: Workers,
     limit: Limit,
-    taken: &HashSet<&str>,
+    taken: &Taken<'_>,
     problem: &Problem<'_>,
 ) -> Result<Vec<u8>, Memory>
-    requires words { (w : list ℕ) → knows taken.now w ≡ has_word w problem.now.program.now.words }
+    requires words { IsTaken problem.now.program.now.words taken.now }
     requires query { HasQuery problem.now }
     ensures { IfOk result (λ v. v.items
         ≡ query_report (program_of problem.now.program.now) problem.now.depth limit
@@ -90,7 +89,7 @@ pub(crate) fn report_program<R: Threads + Wait + Sync, G: Gate>(
     ensures { IfOk result (λ v. v.items ≡ limited_report (program_of program.now) depth limit) }
 {
     let count = query_count(program);
-    let taken = words_in(alloc, program.restricted())?;
+    let taken = taken_in(alloc, program.restricted())?;
     let mut bytes = Vec::new(alloc);
     for place in 0..count {
         let problem = Problem {

@@ -4,19 +4,18 @@ ghost use Rattle.std.specs.Prelude.{◌≡◌, ℕ, suc, List as list, [], ◌�
 ghost use Rattle.ap_defs.specs.Answers.{NominalOut, answer_of, cut, found, out_of, stuck};
 ghost use Rattle.ap_defs.specs.Goals.{NominalProgram, program_of};
 ghost use Rattle.ap_defs.specs.Lines.{query_lines};
-ghost use Rattle.ap_defs.specs.Printing.{has_word};
 ghost use Rattle.ap_defs.specs.Types.{NominalLocal, locals_of};
-ghost use Rattle.ap_answers.specs.Words.{knows};
+ghost use Rattle.ap_answers.specs.Words.{IsTaken};
 ghost use Rattle.ap_stream.specs.Builders.{line_of_run, report_with, built_text, totals_line};
 
 use ap_answers::answers::write_answer;
+use ap_answers::words::Taken;
 use ap_defs::goals::{Local, Program};
 use ap_defs::memory::Memory;
 use ap_defs::outcomes::Answer;
 use ap_defs::paths::Out;
 use ap_defs::terms::Term;
 use std::alloc::Global;
-use std::collections::HashSet;
 
 /// So many outputs of one kind in a row, whose line is not written yet.
 #[derive(Clone, Copy)]
@@ -158,11 +157,11 @@ impl ReportBuilder {
         &mut self,
         alloc: Global,
         program: &Program<Term>,
-        taken: &HashSet<&str>,
+        taken: &Taken<'_>,
         locals: &[Local],
         answer: &Answer,
     ) -> Result<(), Memory>
-        requires { (w : list ℕ) → knows taken.now w ≡ has_word w program.now.words }
+        requires { IsTaken program.now.words taken.now }
         ensures { OnOk result ((query : ℕ) (path : list ℕ) (os : list NominalOut) →
             report_with (program_of program.now) query (locals_of locals.now) self.new os
             ≡ report_with (program_of program.now) query (locals_of locals.now) self.old
@@ -206,11 +205,11 @@ impl ReportBuilder {
         &mut self,
         alloc: Global,
         program: &Program<Term>,
-        taken: &HashSet<&str>,
+        taken: &Taken<'_>,
         locals: &[Local],
         out: &Out,
     ) -> Result<(), Memory>
-        requires { (w : list ℕ) → knows taken.now w ≡ has_word w program.now.words }
+        requires { IsTaken program.now.words taken.now }
         ensures { OnOk result ((query : ℕ) (os : list NominalOut) →
             report_with (program_of program.now) query (locals_of locals.now) self.new os
             ≡ report_with (program_of program.now) query (locals_of locals.now) self.old

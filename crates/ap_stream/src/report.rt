@@ -1,32 +1,31 @@
 //! The report on a query by one worker.
 
-ghost use Rattle.std.specs.Prelude.{◌≡◌, ◌-◌, ℕ, List as list, Some, IfOk, map, slice_get};
+ghost use Rattle.std.specs.Prelude.{◌≡◌, ◌-◌, Some, IfOk, map, slice_get};
 ghost use Rattle.ap_defs.specs.Answers.{query_outs};
 ghost use Rattle.ap_defs.specs.Goals.{NominalQuery};
 ghost use Rattle.ap_defs.specs.Lines.{query_lines};
-ghost use Rattle.ap_defs.specs.Printing.{has_word};
-ghost use Rattle.ap_answers.specs.Words.{knows};
+ghost use Rattle.ap_answers.specs.Words.{IsTaken};
 ghost use Rattle.ap_backchain.specs.Ends.{without_path};
 ghost use Rattle.ap_backchain.specs.Problems.{HasQuery, program_of_problem, queries_in};
 ghost use Rattle.ap_paths.specs.Limits.{part};
 
 use crate::builder::ReportBuilder;
 use crate::search::Search;
+use ap_answers::words::Taken;
 use ap_backchain::problem::{Problem, query_of_problem};
 use ap_defs::memory::Memory;
 use ap_paths::Limit;
 use std::alloc::Global;
-use std::collections::HashSet;
 
 /// The report on a query to a depth up to the last answer that is wanted, where the words of the text are
 /// known: each output is written as it is found, so that memory is that of the report and of one branch.
 pub fn stream_report(
     alloc: Global,
     limit: Limit,
-    taken: &HashSet<&str>,
+    taken: &Taken<'_>,
     problem: &Problem<'_>,
 ) -> Result<Vec<u8>, Memory>
-    requires words { (w : list ℕ) → knows taken.now w ≡ has_word w problem.now.program.now.words }
+    requires words { IsTaken problem.now.program.now.words taken.now }
     requires query { HasQuery problem.now }
     ensures { IfOk result (λ v. (q : NominalQuery) →
         slice_get (queries_in problem.now) (problem.now.query - 1) ≡ Some q →

@@ -6,7 +6,7 @@ ghost use Rattle.ap_work.specs.Reports.{totals_of, work_depth};
 
 use crate::query::query_totals;
 use crate::totals::Totals;
-use ap_answers::printing::words_in;
+use ap_answers::printing::taken_in;
 use ap_backchain::problem::Problem;
 use ap_defs::limits::Workers;
 use ap_defs::memory::Memory;
@@ -37,7 +37,7 @@ pub(crate) fn program_totals<R: Threads + Wait + Sync, G: Gate>(
     ensures { IfOk result (λ t. t ≡ totals_of (program_of program.now) work_depth) }
 {
     let count = query_count(program);
-    let taken = words_in(alloc, program.restricted())?;
+    let taken = taken_in(alloc, program.restricted())?;
     let mut totals = Totals::none();
     for place in 0..count {
         let problem = Problem {

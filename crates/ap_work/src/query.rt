@@ -1,14 +1,14 @@
 //! The totals of one query.
 
-ghost use Rattle.std.specs.Prelude.{◌≡◌, ◌-◌, ◌^◌, ℕ, List as list, Some, IfOk, slice_get};
+ghost use Rattle.std.specs.Prelude.{◌≡◌, ◌-◌, ◌^◌, Some, IfOk, slice_get};
 ghost use Rattle.ap_defs.specs.Goals.{NominalQuery};
-ghost use Rattle.ap_defs.specs.Printing.{has_word};
-ghost use Rattle.ap_answers.specs.Words.{knows};
+ghost use Rattle.ap_answers.specs.Words.{IsTaken};
 ghost use Rattle.ap_backchain.specs.Problems.{HasQuery, program_of_problem, queries_in};
 ghost use Rattle.ap_work.specs.Sums.{IsSumAtMost, totals_at};
 
 use crate::totals::Totals;
 use ap_answers::printing::lines_among;
+use ap_answers::words::Taken;
 use ap_backchain::problem::Problem;
 use ap_defs::limits::Workers;
 use ap_defs::memory::Memory;
@@ -16,7 +16,6 @@ use ap_io::Gate;
 use ap_paths::Limit;
 use ap_report::solve;
 use std::alloc::Global;
-use std::collections::HashSet;
 use std::sync::Wait;
 use std::thread::Threads;
 
@@ -26,10 +25,10 @@ pub(crate) fn query_totals<R: Threads + Wait + Sync, G: Gate>(
     alloc: Global,
     gate: &G,
     workers: Workers,
-    taken: &HashSet<&str>,
+    taken: &Taken<'_>,
     problem: &Problem<'_>,
 ) -> Result<Totals, Memory>
-    requires words { (w : list ℕ) → knows taken.now w ≡ has_word w problem.now.program.now.words }
+    requires words { IsTaken problem.now.program.now.words taken.now }
     requires query { HasQuery problem.now }
     ensures made { IfOk result (λ t. (q : NominalQuery) →
         slice_get (queries_in problem.now) (problem.now.query - 1) ≡ Some q →

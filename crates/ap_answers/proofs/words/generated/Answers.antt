@@ -1,5 +1,6 @@
-use Rattle.std.proofs.Common.{◌≡◌, ◌≢◌, ◌+◌, ◌-◌, suc, length, arith}
+use Rattle.std.proofs.Common.{◌≡◌, ◌≢◌, ◌≤◌, ◌+◌, ◌-◌, suc, length, refl, ◌∙◌, arith}
 use Rattle.ap_answers.specs.Words.{knows}
+use Rattle.ap_answers.proofs.FreeLemmas.{first_few, first_then_rest}
 use Rattle.ap_answers.proofs.WordLemmas.{tried_next}
 use Rattle.ap_answers.proofs.words.generated.Goals as goal
 
@@ -10,6 +11,19 @@ loop-i-preserved c =
     let wanting : length c.loop-i.made.items ≢ c.args.count = omega arith in
     let next =
     tried_next c.args.letter.now c.args.words.now (knows c.args.taken.now) c.args.count (c.loop-i.i + 1) (limit - c.loop-i.i) (limit - (c.loop-i.i + 1))
-    c.loop-i.made.items c.keep_word.new.made.items _ c.requires one c.loop-i.invariant.few wanting c.in_ok-keep_word.ensures c.loop-i.invariant.all
+    c.loop-i.made.items c.keep_word.new.made.items _ c.requires.taken one c.loop-i.invariant.few wanting c.in_ok-keep_word.ensures c.loop-i.invariant.all
     in
     record { all = next.0; few = next.1 }
+
+pub loop-i-init : goal.loop-i-init
+loop-i-init c =
+    let tried = c.args.free.now.tried in
+    let all = c.args.count + length c.args.words.now in
+    let below : tried ≤ length c.args.words.now = c.requires.free.1 in
+    let both : tried + (all - tried) ≡ all = omega arith in
+    record {
+      all =
+          first_then_rest c.args.letter.now c.args.words.now c.args.count tried (tried + 1) (all - tried) c.as_slice.result.now c.in_ok-made.made.items
+          (c.as_slice.ensures.value ∙ c.requires.free.0) both refl c.in_ok-made.ensures;
+      few = first_few c.args.letter.now c.args.count c.as_slice.result.now c.in_ok-made.made.items c.in_ok-made.ensures;
+    }
