@@ -1,7 +1,7 @@
 -- The map in which ends are put in order: a key is a path and a number, which tells apart ends of one path.
 use Rattle.std.specs.Prelude.{ℕ, ◌<◌, List, [], ◌∷◌, Vec}
-use Rattle.ap_defs.specs.declared.paths.Out.{Out}
-use Rattle.ap_defs.specs.Answers.{outs_of}
+use Rattle.ap_paths.specs.declared.runs.Run.{Run}
+use Rattle.ap_paths.specs.Runs.{outs_of_runs}
 use Rattle.ap_paths.specs.Merging.{EndedPath}
 
 -- the paths and what stands beside them
@@ -15,6 +15,6 @@ AreNumbersBelow n [] = Unit {0}
 AreNumbersBelow n (e ∷ es) = (e.0.1 < n) × AreNumbersBelow n es
 
 -- ends, with their outputs without where they lie in memory
-abbrev pub ends_of : List (List ℕ × List Out) → List EndedPath
+abbrev pub ends_of : List (List ℕ × List Run) → List EndedPath
 ends_of [] = []
-ends_of (e ∷ es) = (e.0, outs_of e.1) ∷ ends_of es
+ends_of (e ∷ es) = (e.0, outs_of_runs e.1) ∷ ends_of es

@@ -4,10 +4,11 @@ ghost use Rattle.std.specs.Prelude.{◌≡◌, ◌-◌, ◌^◌, min, [], IfOk, 
 ghost use Rattle.ap_paths.specs.Ends.{ends_of};
 ghost use Rattle.ap_paths.specs.Merging.{insert, found_before};
 
-use crate::limits::answers_in;
+use crate::limits::answers_in_runs;
+use crate::runs::Run;
 use ap_defs::lists::List;
 use ap_defs::memory::Memory;
-use ap_defs::paths::{Out, Path};
+use ap_defs::paths::Path;
 use std::alloc::Global;
 use std::collections::BTreeMap;
 use std::marker::Model;
@@ -17,19 +18,19 @@ use std::marker::Model;
 #[derive(Drop)]
 pub struct Endings {
     // A number tells apart ends of one path.
-    ends: BTreeMap<(Vec<u32>, usize), List<Out>>,
+    ends: BTreeMap<(Vec<u32>, usize), List<Run>>,
 }
 
 impl Model for Endings {
     ghost use Rattle.std.specs.Prelude.{ℕ, List as list, length};
-    ghost use Rattle.ap_defs.specs.declared.paths.Out.{Out};
+    ghost use Rattle.ap_paths.specs.declared.runs.Run.{Run};
 
-    ghost Value = { list (list ℕ × list Out) };
+    ghost Value = { list (list ℕ × list Run) };
 
-    ghost use Rattle.ap_defs.specs.contracts.paths.Out as o;
+    ghost use Rattle.ap_paths.specs.contracts.runs.Run as r;
     ghost use Rattle.std.specs.Coded.{coded×, coded_list, coded_ℕ};
 
-    ghost coded = { coded_list (coded× (coded_list coded_ℕ) (coded_list o.the_row.coded)) };
+    ghost coded = { coded_list (coded× (coded_list coded_ℕ) (coded_list r.the_row.coded)) };
 
     ghost use Rattle.ap_paths.specs.Ends.{ends_in, AreNumbersBelow};
 
@@ -49,7 +50,7 @@ impl Endings {
     }
 
     /// Adds an end in its place. It takes time in proportion to the logarithm of their number.
-    pub fn put(&mut self, alloc: Global, path: &Path, outs: List<Out>) -> Result<(), Memory>
+    pub fn put(&mut self, alloc: Global, path: &Path, outs: List<Run>) -> Result<(), Memory>
         ensures ok { OnOk result (self.new ≡ insert path.now outs self.old) }
         ensures err { OnErr result (self.new ≡ self.old) }
     {
@@ -68,14 +69,14 @@ impl Endings {
         let mut count: u64 = 0;
         for (key, outs) in self.ends.iter() {
             if key.0.as_slice().cmp(path.choices()).is_lt() {
-                count = count.saturating_add(answers_in(outs.items()));
+                count = count.saturating_add(answers_in_runs(outs.items()));
             }
         }
         count
     }
 
     /// The paths that have ended and their outputs, in path order. The outputs are moved.
-    pub fn into_vec(self, alloc: Global) -> Result<Vec<(Path, List<Out>)>, Memory>
+    pub fn into_vec(self, alloc: Global) -> Result<Vec<(Path, List<Run>)>, Memory>
         ensures { IfOk result (λ v. v.items ≡ self) }
     {
         let Endings { ends } = self;

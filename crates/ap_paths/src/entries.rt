@@ -1,7 +1,8 @@
 //! What a book records of a search, and what it leaves at the end.
 
+use crate::runs::Run;
 use ap_defs::lists::List;
-use ap_defs::paths::{Out, Path};
+use ap_defs::paths::Path;
 
 /// An entry of a book, with the number of the seat that made it.
 #[derive(Drop)]
@@ -14,7 +15,7 @@ pub enum Entry {
     Done {
         seat: u32,
         path: Path,
-        outs: List<Out>,
+        outs: List<Run>,
     },
     /// A path that is left out, since so many answers had ended before it.
     Skip {

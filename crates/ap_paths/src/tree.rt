@@ -1,13 +1,23 @@
 //! A tree of paths, as its choices and its outputs below each path.
 
 ghost use Rattle.std.specs.Prelude.{◌≡◌, ℕ, Option, List as list, IfOk};
-ghost use Rattle.ap_defs.specs.Answers.{NominalOut, outs_of};
+ghost use Rattle.ap_defs.specs.Answers.{NominalOut};
 ghost use Rattle.ap_paths.specs.Entries.{Plan, visit_of};
+ghost use Rattle.ap_paths.specs.Runs.{outs_of_runs};
 ghost use Rattle.ap_paths.specs.Trees.{InChoiceTree, IsTree, IsPlan};
 
+use crate::runs::Run;
+use ap_defs::lists::List;
 use ap_defs::memory::Memory;
-use ap_defs::paths::{Out, Path, Visit};
+use ap_defs::paths::Path;
 use std::alloc::Global;
+
+/// What a tree of paths answers at a path: its kids, ascending, or the outputs below it.
+#[derive(Drop)]
+pub enum Visit {
+    Kids(List<u32>),
+    Outs(List<Run>),
+}
 
 /// A tree of paths with the outputs below each. The empty path is in it; where a path has `w`
 /// choices, the paths that go on from it by one entry are those with 1 to `w` appended.
@@ -29,9 +39,9 @@ pub trait Tree: Sync {
         ensures { IfOk result (λ w. w ≡ choices self.now path.now) };
 
     /// The outputs below a path of the tree, in path order.
-    fn outs(&self, alloc: Global, path: &Path) -> Result<Vec<Out>, Memory>
+    fn outs(&self, alloc: Global, path: &Path) -> Result<Vec<Run>, Memory>
         requires { InChoiceTree (choices self.now) path.now }
-        ensures { IfOk result (λ v. outs_of v.items ≡ at self.now path.now) };
+        ensures { IfOk result (λ v. outs_of_runs v.items ≡ at self.now path.now) };
 
     /// The kids of a path that are worth a visit, only where it is at a choice, or the outputs
     /// below it. Each choice that is left out has no outputs below it.

@@ -1,29 +1,29 @@
-use Rattle.std.proofs.Common.{◌∙◌, ◌+◌, ◌++◌, if◌then◌else◌, take, drop, sym, ap, append-nil, ℕ, arith}
-use Rattle.ap_defs.specs.declared.paths.Out.{Out}
-use Rattle.ap_defs.specs.Answers.{out_of, outs_of}
-use Rattle.ap_paths.specs.Limits.{is_answer_out, first_part}
+use Rattle.std.proofs.Common.{◌∙◌, ◌+◌, ◌++◌, take, drop, sym, ap, append-nil, ℕ, arith}
+use Rattle.ap_paths.specs.declared.runs.Run.{Run}
+use Rattle.ap_paths.specs.Runs.{outs_of_run, outs_of_runs}
+use Rattle.ap_paths.specs.Limits.{first_part, found_in}
 use Rattle.ap_paths.proofs.Limiting.{taken_next, all_taken}
 use Rattle.ap_paths.proofs.limits.end_of.Goals as goal
 
 pub returns-then-left-eq0 : goal.returns-then-left-eq0
 returns-then-left-eq0 c =
-    let v = c.loop-out.invariant in
-    let xs = c.args.outs.now in
-    let i = c.loop-out.out-index in
-    ap (λ (k : ℕ). outs_of (take k xs)) v.1 ∙ sym (append-nil (outs_of (take i xs))) ∙ sym (ap (λ (n : ℕ). outs_of (take i xs) ++ first_part n (outs_of (drop i xs))) c.if-left-eq0.true) ∙ v.0
+    let v = c.loop-run.invariant in
+    let xs = c.args.runs.now in
+    let i = c.loop-run.run-index in
+    ap (λ (k : ℕ). outs_of_runs (take k xs)) v.1 ∙ sym (append-nil (outs_of_runs (take i xs))) ∙ sym (ap (λ (n : ℕ). outs_of_runs (take i xs) ++ first_part n (outs_of_runs (drop i xs))) c.if-left-eq0.true) ∙ v.0
 
-pub loop-out-preserved : goal.loop-out-preserved
-loop-out-preserved c =
-    let v = c.loop-out.invariant in
-    let xs = c.args.outs.now in
-    let i = c.loop-out.out-index in
-    let d = c.out-item.result in
-    let e = ap (λ (o : Out). c.less_by-left.result + (if is_answer_out (out_of o) then 1 else 0)) (sym c.out-item.is) ∙ c.less_by-left.ensures in
-    (taken_next xs i d c.loop-out.left c.less_by-left.result c.loop-out-test.true (omega arith) e ∙ v.0, (let z = v.1 in omega arith))
+pub loop-run-preserved : goal.loop-run-preserved
+loop-run-preserved c =
+    let v = c.loop-run.invariant in
+    let xs = c.args.runs.now in
+    let i = c.loop-run.run-index in
+    let d = c.run-item.result in
+    let e = ap (λ (r : Run). c.less_by-left.result + found_in (outs_of_run r)) (sym c.run-item.is) ∙ c.less_by-left.ensures in
+    (taken_next xs i d c.loop-run.left c.less_by-left.result c.loop-run-test.true (omega arith) e ∙ v.0, (let z = v.1 in omega arith))
 
 pub returns : goal.returns
 returns c =
-    let v = c.loop-out.invariant in
-    let xs = c.args.outs.now in
-    let i = c.loop-out.out-index in
-    ap (λ (k : ℕ). outs_of (take k xs)) v.1 ∙ sym (all_taken xs i c.loop-out.left c.loop-out-test.false) ∙ v.0
+    let v = c.loop-run.invariant in
+    let xs = c.args.runs.now in
+    let i = c.loop-run.run-index in
+    ap (λ (k : ℕ). outs_of_runs (take k xs)) v.1 ∙ sym (all_taken xs i c.loop-run.left c.loop-run-test.false) ∙ v.0
