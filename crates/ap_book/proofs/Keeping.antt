@@ -2,9 +2,9 @@
 use Rattle.std.proofs.Common.{◌≡◌, ℕ, ◌+◌, ◌<◌, ◌≤◌, Bool, true, false, not, ◌||◌, le-leb, List, [], ◌∷◌, ◌++◌, length, refl, sym, ap, subst, ◌∙◌, arith}
 use Rattle.ap_paths.specs.declared.entries.Entry.{Entry}
 use Rattle.ap_paths.specs.declared.entries.Entry.TheVariants.{Split, Done, Skip, Stop}
-use Rattle.ap_defs.specs.declared.paths.Out.{Out}
+use Rattle.ap_paths.specs.declared.runs.Run.{Run}
 use Rattle.ap_defs.specs.declared.paths.Progress.TheVariants.{Left, Finished}
-use Rattle.ap_defs.specs.Answers.{outs_of}
+use Rattle.ap_paths.specs.Runs.{outs_of_runs}
 use Rattle.ap_paths.specs.Entries.{TreeEntry, split, done, skip, stop, entry_of, entries_of}
 use Rattle.ap_paths.specs.Merging.{ends_from}
 use Rattle.ap_paths.specs.History.{is_open, without, kids_of, open_after, open_of, has_stop, is_stop, may_enter, is_reached, answers_before, left_of, progress_of}
@@ -33,12 +33,12 @@ kept_after history e opened later stopped now kept may reached stops apart same 
   apart = ap all_part (open_of-last history e) ∙ apart;
 }
 
-pub kept_done : (history new : List Entry) (seat : ℕ) (p : List ℕ) (os : List Out) (opened later : List (List ℕ)) (stopped : Bool) → IsBookKept (entries_of history) opened stopped → new ≡ history ++ Done seat p os ∷ []
+pub kept_done : (history new : List Entry) (seat : ℕ) (p : List ℕ) (os : List Run) (opened later : List (List ℕ)) (stopped : Bool) → IsBookKept (entries_of history) opened stopped → new ≡ history ++ Done seat p os ∷ []
     → is_open p opened ≡ true → ((h : List ℕ → ℕ) → weigh h later + h p ≡ weigh h opened) → IsBookKept (entries_of new) later stopped
 kept_done history new seat p os opened later stopped kept is there moved =
     let o : is_open p (open_of (entries_of history)) ≡ true = sym (same_open p opened (open_of (entries_of history)) kept.opens) ∙ there in
     subst (λ (l : List TreeEntry). IsBookKept l later stopped) (sym (ap entries_of is ∙ entries_of-last history (Done seat p os)))
-    (kept_after (entries_of history) (done seat p (outs_of os)) opened later stopped stopped kept o refl (or_false stopped) (part_after_done p (open_of (entries_of history)) kept.apart)
+    (kept_after (entries_of history) (done seat p (outs_of_runs os)) opened later stopped stopped kept o refl (or_false stopped) (part_after_done p (open_of (entries_of history)) kept.apart)
     (λ h. let a = moved h in let b = kept.opens h in let w = weigh_without h p (open_of (entries_of history)) o in omega arith))
 
 pub kept_skip : (history new : List Entry) (seat : ℕ) (p : List ℕ) (n : ℕ) (opened later : List (List ℕ)) (stopped : Bool) → IsBookKept (entries_of history) opened stopped → new ≡ history ++ Skip seat p n ∷ []

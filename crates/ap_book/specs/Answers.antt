@@ -1,7 +1,7 @@
 -- What a book answers.
 use Rattle.std.specs.Prelude.{◌≡◌, ℕ, ◌-◌, ◌^◌, ◌≤◌, min, true, false, Result, Ok, Err, List, [], ◌∷◌, ◌++◌}
 use Rattle.ap_paths.specs.declared.entries.Entry.{Entry}
-use Rattle.ap_defs.specs.declared.paths.Out.{Out}
+use Rattle.ap_paths.specs.declared.runs.Run.{Run}
 use Rattle.ap_paths.specs.declared.entries.Entry.TheVariants as entry
 use Rattle.ap_paths.specs.declared.limits.Limit.{Limit}
 use Rattle.ap_paths.specs.declared.limits.Limit.TheVariants as limits
@@ -25,7 +25,7 @@ Enters history path e (Ok x) after = (is_open path (open_of (entries_of history)
 Enters history path e (Err cause) after = Refuses history path cause × (after ≡ history)
 
 -- the same of an end, whose outputs come back
-abbrev pub EntersDone : {X : Type 0} → List Entry → List ℕ → List Out → Entry → Result X DoneError → List Entry → Type 0
+abbrev pub EntersDone : {X : Type 0} → List Entry → List ℕ → List Run → Entry → Result X DoneError → List Entry → Type 0
 EntersDone history path outs e (Ok x) after = (is_open path (open_of (entries_of history)) ≡ true) × (after ≡ history ++ e ∷ [])
 EntersDone history path outs e (Err d) after = Refuses history path d.cause × (d.outs ≡ outs) × (after ≡ history)
 

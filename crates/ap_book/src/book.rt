@@ -14,8 +14,8 @@ use crate::kids::Kids;
 use crate::opened::{has, make_room, only_root, replace, take_out};
 use ap_defs::lists::List;
 use ap_defs::memory::Memory;
-use ap_defs::paths::{Out, Path, Progress};
-use ap_paths::{Entry, Limit};
+use ap_defs::paths::{Path, Progress};
+use ap_paths::{Entry, Limit, Run};
 use std::alloc::Global;
 use std::collections::HashSet;
 use std::marker::Model;
@@ -120,7 +120,7 @@ impl Book {
     ///
     /// `NotOpen` comes exactly where the path is not open. After an error the book is unchanged,
     /// and the outputs come back.
-    pub fn done(&mut self, seat: u32, path: &Path, outs: Vec<Out>) -> Result<(), DoneError>
+    pub fn done(&mut self, seat: u32, path: &Path, outs: Vec<Run>) -> Result<(), DoneError>
         ensures { EntersDone self.old path.now outs.items (Done seat path.now outs.items) result
             self.new }
     {

@@ -8,7 +8,7 @@ ghost use Rattle.ap_paths.specs.Limits.{IsWanting};
 ghost use Rattle.ap_book.specs.Counts.{adds, adds_at, entries_counted, IsTallied};
 
 use ap_defs::paths::Path;
-use ap_paths::{Entry, Limit, answers_in};
+use ap_paths::{Entry, Limit, answers_in_runs};
 use std::alloc::Global;
 
 /// The places of the entries that end a path with answers, as far as a history was looked through.
@@ -108,7 +108,7 @@ fn has_answers(entry: &Entry) -> bool
             seat: _seat,
             path: _path,
             outs,
-        } => answers_in(outs.items()) > 0,
+        } => answers_in_runs(outs.items()) > 0,
         Entry::Split {
             seat: _seat,
             path: _path,
@@ -134,7 +134,7 @@ fn answers_of(path: &Path, entry: &Entry) -> u64
             outs,
         } => {
             if ended.cmp(path).is_lt() {
-                answers_in(outs.items())
+                answers_in_runs(outs.items())
             } else {
                 0
             }

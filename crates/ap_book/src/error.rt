@@ -1,7 +1,7 @@
 //! Why an entry is refused.
 
 use ap_defs::lists::List;
-use ap_defs::paths::Out;
+use ap_paths::Run;
 
 /// Why an entry is refused: its path is not open, or memory is wanting.
 #[derive(Clone, Copy, Debug, PartialEq, Eq)]
@@ -23,5 +23,5 @@ pub enum SkipError {
 #[derive(Drop)]
 pub struct DoneError {
     pub cause: BookError,
-    pub outs: List<Out>,
+    pub outs: List<Run>,
 }

@@ -1,24 +1,24 @@
 //! The outputs of a closed book.
 
 ghost use Rattle.std.specs.Prelude.{◌≡◌, [], ◌∷◌, IfOk};
-ghost use Rattle.ap_defs.specs.Answers.{outs_of};
 ghost use Rattle.ap_paths.specs.Entries.{entries_of};
 ghost use Rattle.ap_paths.specs.Merging.{merged};
+ghost use Rattle.ap_paths.specs.Runs.{outs_of_runs};
 ghost use Rattle.ap_book.specs.Values.{ended_from, all_values, merged_values};
 
 use ap_defs::lists::List;
 use ap_defs::memory::Memory;
-use ap_defs::paths::{Out, Path};
-use ap_paths::{Closed, Endings, Entry};
+use ap_defs::paths::Path;
+use ap_paths::{Closed, Endings, Entry, Run};
 use std::alloc::Global;
 
-/// The outputs of a closed book's ends, in path order. The outputs themselves are moved.
+/// The outputs of a closed book's ends, in path order. The runs themselves are moved.
 ///
 /// It takes time in proportion to n log n, where n paths have ended. In a legal history of strictly
 /// ascending kids no path ends twice; here ends of one path would come in the order of their entries.
-pub fn merge(alloc: Global, closed: Closed) -> Result<Vec<Out>, Memory>
+pub fn merge(alloc: Global, closed: Closed) -> Result<Vec<Run>, Memory>
     ensures value { IfOk result (λ v. v.items ≡ merged_values closed.history) }
-    ensures outputs { IfOk result (λ v. outs_of v.items ≡ merged (entries_of closed.history)) }
+    ensures outputs { IfOk result (λ v. outs_of_runs v.items ≡ merged (entries_of closed.history)) }
 {
     let Closed { history, logs } = closed;
     drop(logs);
@@ -62,7 +62,7 @@ fn enter(alloc: Global, endings: &mut Endings, entry: Entry) -> Result<(), Memor
     }
 }
 
-fn join(alloc: Global, ended: Vec<(Path, List<Out>)>) -> Result<Vec<Out>, Memory>
+fn join(alloc: Global, ended: Vec<(Path, List<Run>)>) -> Result<Vec<Run>, Memory>
     ensures { IfOk result (λ v. v.items ≡ all_values ended.items) }
 {
     let mut all = Vec::new(alloc);

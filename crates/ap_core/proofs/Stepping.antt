@@ -1,8 +1,8 @@
 -- What the program's workers do is what the events say.
 use Rattle.std.proofs.Common.{◌≡◌, ◌≢◌, ℕ, zero, suc, ◌+◌, ◌<◌, ◌≤◌, Bool, true, false, List, [], ◌∷◌, ◌++◌, length, set, get_or, sym, refl, ap, ◌∙◌, subst, Some, None, Result, Ok, Err, IfOk, if◌then◌else◌, add-one, append-nil, append_assoc, arith}
 use Rattle.std.specs.Prelude.{slice_get}
-use Rattle.ap_defs.specs.declared.paths.Out.{Out}
-use Rattle.ap_defs.specs.Answers.{outs_of}
+use Rattle.ap_paths.specs.declared.runs.Run.{Run}
+use Rattle.ap_paths.specs.Runs.{outs_of_runs}
 use Rattle.ap_paths.specs.History.{kids_of}
 use Rattle.ap_paths.specs.Trees.{Choices, Outputs, AreKids}
 use Rattle.ap_paths.specs.Ends.{ends_of}
@@ -144,13 +144,13 @@ nothing_begun ws i v v1 p rest mine none there = let e : [] ≡ p ∷ rest = sym
 pub began_there : (ws : List Worker) (i : ℕ) (v v1 : Worker) (p : List ℕ) → slice_get ws i ≡ Some v → Began v (Some p) v1 → slice_get (hands_of ws) i ≡ Some (p ∷ v1.hand.items)
 began_there ws i v v1 p mine began = hands_get ws i v mine ∙ ap Some began.0
 
-pub ends_insert : (p : List ℕ) (os : List Out) (es : List (List ℕ × List Out)) → ends_of (insert p os es) ≡ insert p (outs_of os) (ends_of es)
+pub ends_insert : (p : List ℕ) (os : List Run) (es : List (List ℕ × List Run)) → ends_of (insert p os es) ≡ insert p (outs_of_runs os) (ends_of es)
 ends_insert p os [] = refl
 ends_insert p os (e ∷ es) =
-    elim (is_path_before p e.0) as (λ b. ends_of (if b then (p, os) ∷ e ∷ es else e ∷ insert p os es) ≡ (if b then (p, outs_of os) ∷ (e.0, outs_of e.1) ∷ ends_of es else (e.0, outs_of e.1) ∷ insert p (outs_of os) (ends_of es)))
-    [ true ↦ refl | false ↦ ap (λ l. (e.0, outs_of e.1) ∷ l) (ends_insert p os es) ]
+    elim (is_path_before p e.0) as (λ b. ends_of (if b then (p, os) ∷ e ∷ es else e ∷ insert p os es) ≡ (if b then (p, outs_of_runs os) ∷ (e.0, outs_of_runs e.1) ∷ ends_of es else (e.0, outs_of_runs e.1) ∷ insert p (outs_of_runs os) (ends_of es)))
+    [ true ↦ refl | false ↦ ap (λ l. (e.0, outs_of_runs e.1) ∷ l) (ends_insert p os es) ]
 
-pub end_made : (at : Outputs) (ws : List Worker) (i : ℕ) (v v1 : Worker) (p : List ℕ) (os : List Out) (ends later : List (List ℕ × List Out)) (skipped : Paths) → slice_get ws i ≡ Some v → Began v (Some p) v1 → outs_of os ≡ at p
+pub end_made : (at : Outputs) (ws : List Worker) (i : ℕ) (v v1 : Worker) (p : List ℕ) (os : List Run) (ends later : List (List ℕ × List Run)) (skipped : Paths) → slice_get ws i ≡ Some v → Began v (Some p) v1 → outs_of_runs os ≡ at p
     → later ≡ insert p os ends → EndsPath at (state_of ws (past_of ends skipped)) i (state_of (set ws i v1) (past_of later skipped))
 end_made at ws i v v1 p os ends later skipped mine began outs is = (
   v1.hand.items,
@@ -159,7 +159,7 @@ end_made at ws i v v1 p os ends later skipped mine began outs is = (
   λ k. state (hands_set ws i v1 k) (deques_same ws i v v1 mine began.1 k) (over ((ap ends_of is ∙ ends_insert p os ends ∙ ap (λ o. insert p o (ends_of ends)) outs) k) skipped),
 )
 
-pub skip_made : (ws : List Worker) (i : ℕ) (v v1 : Worker) (p : List ℕ) (n : ℕ) (ends : List (List ℕ × List Out)) (skipped later : Paths) → slice_get ws i ≡ Some v → Began v (Some p) v1 → n ≤ found_before p (ends_of ends)
+pub skip_made : (ws : List Worker) (i : ℕ) (v v1 : Worker) (p : List ℕ) (n : ℕ) (ends : List (List ℕ × List Run)) (skipped later : Paths) → slice_get ws i ≡ Some v → Began v (Some p) v1 → n ≤ found_before p (ends_of ends)
     → later ≡ skipped ++ p ∷ [] → SkipsPath (state_of ws (past_of ends skipped)) i n (state_of (set ws i v1) (past_of ends later))
 skip_made ws i v v1 p n ends skipped later mine began enough is = (
   v1.hand.items,
@@ -169,7 +169,7 @@ skip_made ws i v v1 p n ends skipped later mine began enough is = (
   λ k. state (hands_set ws i v1 k) (deques_same ws i v v1 mine began.1 k) (over (ends_of ends) (is k)),
 )
 
-pub not_skipped : (ws : List Worker) (i : ℕ) (v v1 : Worker) (p : List ℕ) (n : ℕ) (ends : List (List ℕ × List Out)) (skipped : Paths) → slice_get ws i ≡ Some v → Began v (Some p) v1 → found_before p (ends_of ends) < n
+pub not_skipped : (ws : List Worker) (i : ℕ) (v v1 : Worker) (p : List ℕ) (n : ℕ) (ends : List (List ℕ × List Run)) (skipped : Paths) → slice_get ws i ≡ Some v → Began v (Some p) v1 → found_before p (ends_of ends) < n
     → (u : WorkersState) → SkipsPath (state_of ws (past_of ends skipped)) i n u → ⊥
 not_skipped ws i v v1 p n ends skipped mine began short u s =
     let e = first_of ws i v v1 p s.1 s.0 mine began s.2 in

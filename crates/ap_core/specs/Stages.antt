@@ -2,7 +2,7 @@
 use Rattle.std.specs.Prelude.{◌≡◌, ℕ, Bool, true, false, List, [], ◌∷◌, slice_get, Some}
 use Rattle.ap_core.specs.declared.events.Core.{Core}
 use Rattle.ap_core.specs.declared.events.Event.{Event}
-use Rattle.ap_defs.specs.declared.paths.Out.{Out}
+use Rattle.ap_paths.specs.declared.runs.Run.{Run}
 use Rattle.ap_paths.specs.Trees.{Choices, Outputs, InChoiceTree}
 use Rattle.ap_paths.specs.Ends.{ends_of}
 use Rattle.ap_core.specs.declared.workers.Worker.{Worker}
@@ -21,7 +21,7 @@ abbrev pub state_of : List Worker → Past → WorkersState
 state_of ws past = state (hands_of ws) (deques_of ws) past
 
 -- what is over, as the program has it
-abbrev pub past_of : List (List ℕ × List Out) → List (List ℕ) → Past
+abbrev pub past_of : List (List ℕ × List Run) → List (List ℕ) → Past
 past_of ends skipped = over (ends_of ends) skipped
 
 -- what a Core says of the state

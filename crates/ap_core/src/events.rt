@@ -1,7 +1,8 @@
 //! What workers do, event by event, and what they have in between.
 
 use ap_defs::lists::List;
-use ap_defs::paths::{Out, Path};
+use ap_defs::paths::Path;
+use ap_paths::Run;
 
 /// An atomic step of one worker, by the worker's number. A skip has the number of answers that had
 /// ended before its path.
@@ -21,6 +22,6 @@ pub struct Core {
     pub pending: List<Path>,
     pub hands: List<List<Path>>,
     pub deques: List<List<Path>>,
-    pub done: List<(Path, List<Out>)>,
+    pub done: List<(Path, List<Run>)>,
     pub skipped: List<Path>,
 }

@@ -7,7 +7,7 @@ ghost use Rattle.ap_core.specs.Covers.{covers, is_none, starts};
 
 use ap_defs::memory::Memory;
 use ap_defs::paths::Path;
-use ap_paths::Tree;
+use ap_paths::{Tree, outs_in_full};
 use std::alloc::Global;
 
 /// Whether the kids are ascending choices of the path, and each choice that they leave out has no
@@ -61,6 +61,7 @@ fn is_barren<T: Tree>(alloc: Global, tree: &T, path: &Path, k: u32) -> Result<bo
     ensures { IfOk result (λ b. b ≡ is_none (T.at tree.now (path.now ++ k ∷ []))) }
 {
     let kid = path.child(alloc, k)?;
-    let outs = tree.outs(alloc, &kid)?;
+    let runs = tree.outs(alloc, &kid)?;
+    let outs = outs_in_full(alloc, runs)?;
     Ok(outs.is_empty())
 }
