@@ -14,7 +14,7 @@ use Rattle.ap_defs.proofs.terms.Term.TheLaws.TheKnot.{crosses as term}
 use Rattle.ap_defs.proofs.terms.Ty.TheLaws.TheKnot.{crosses as ty}
 use Rattle.std.proofs.collections.HashSet.TheSendSync.{the_send as set}
 use Rattle.ap_paths.specs.contracts.entries.Entry as E
-use Rattle.ap_defs.specs.contracts.paths.Out as O
+use Rattle.ap_paths.specs.contracts.runs.Run as R
 use Rattle.ap_book.specs.contracts.book.Book as B
 use Rattle.ap_lock.specs.contracts.view.View as V
 use Rattle.ap_lock.specs.contracts.seat.Seat.{the_row}
@@ -22,11 +22,11 @@ use Rattle.ap_lock.specs.contracts.shared.SharedBook as S
 use Rattle.atomic_table.proofs.shared.Shared.TheSendSync.{the_sync as shared}
 use Rattle.atomic_table.proofs.send_lease.SendLease.TheSendSync.{the_sync as lease}
 
-out_send : IsSend O.the_row
-out_send = search (sendable, crosses, maps, list, path, cond, swap, var, term, ty) depth 20
+run_send : IsSend R.the_row
+run_send = search (sendable, crosses, maps, list, path, cond, swap, var, term, ty) depth 20
 
 entry_send : IsSend E.the_row
-entry_send = search (sendable, crosses, maps, list, path, out_send) depth 20
+entry_send = search (sendable, crosses, maps, list, path, run_send) depth 20
 
 book_send : IsSend B.the_row
 book_send = search (sendable, crosses, maps, entry_send, set) depth 20

@@ -3,7 +3,7 @@ use Rattle.std.proofs.Common.{◌≡◌, ℕ, Bool, true, false, if◌then◌els
 use Rattle.atomic_table.specs.Table.{Me}
 use Rattle.ap_paths.specs.declared.entries.Entry.{Entry}
 use Rattle.ap_paths.specs.declared.entries.Entry.TheVariants.{Skip}
-use Rattle.ap_defs.specs.declared.paths.Out.{Out}
+use Rattle.ap_paths.specs.declared.runs.Run.{Run}
 use Rattle.ap_book.specs.declared.error.BookError.{BookError}
 use Rattle.ap_book.specs.declared.error.DoneError.{DoneError}
 use Rattle.ap_book.specs.declared.error.SkipError.{SkipError}
@@ -34,7 +34,7 @@ may_shut n before m seen turn history is holds adds =
       (adds.0, adds.1 ∙ ap (λ (s : List Entry). s ++ adds.0) (sym whole), subst (λ (k : ℕ). AreBy k adds.0) (sym number) adds.2),
     )
 
-pub adds_ended : {X : Type 0} (n : ℕ) (turn history : List Entry) (path : List ℕ) (outs : List Out) (e : Entry) (r : Result X DoneError) → maker_of e ≡ n → EntersDone turn path outs e r history → AddsEntries n turn history
+pub adds_ended : {X : Type 0} (n : ℕ) (turn history : List Entry) (path : List ℕ) (outs : List Run) (e : Entry) (r : Result X DoneError) → maker_of e ≡ n → EntersDone turn path outs e r history → AddsEntries n turn history
 adds_ended n turn history path outs e (Ok x) by enters = adds_one n turn history e by enters.1
 adds_ended n turn history path outs e (Err d) by enters = ([], enters.2 ∙ sym (append-nil turn), tt)
 

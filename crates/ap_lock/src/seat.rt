@@ -12,7 +12,8 @@ ghost use Rattle.ap_lock.specs.Seats.{book_id, book_limit, SameSeat, IsTurn};
 
 use crate::shared::{Raw, SharedBook};
 use ap_book::{BookError, DoneError, Kids, SkipError};
-use ap_defs::paths::{Out, Path, Progress};
+use ap_defs::paths::{Path, Progress};
+use ap_paths::Run;
 use std::alloc::Global;
 use std::marker::Model;
 use std::sync::Wait;
@@ -100,7 +101,7 @@ impl SharedBook {
         rt: &R,
         seat: &mut Seat,
         path: &Path,
-        outs: Vec<Out>,
+        outs: Vec<Run>,
     ) -> Result<(), DoneError>
         requires { seat.old.book ≡ book_id self.now }
         ensures same { SameSeat seat.old seat.new }
