@@ -2,7 +2,7 @@
 use Rattle.std.proofs.Common.{◌≡◌, ℕ, zero, suc, ◌+◌, ◌<◌, Bool, true, false, eqb, if◌then◌else◌, Result, Ok, Err, IfOk, List, [], ◌∷◌, ◌++◌, length, get_or, set, sym, refl, ap, ◌∙◌, subst, ◌⊎◌, ⊎_elim, eq-eqb, append-nil, append_assoc, arith}
 use Rattle.ap_paths.specs.declared.entries.Entry.{Entry}
 use Rattle.ap_paths.specs.declared.entries.Entry.TheVariants.{Split, Done, Skip, Stop}
-use Rattle.ap_defs.specs.declared.paths.Out.{Out}
+use Rattle.ap_paths.specs.declared.runs.Run.{Run}
 use Rattle.ap_paths.specs.declared.limits.Limit.{Limit}
 use Rattle.ap_paths.specs.Entries.{entries_of}
 use Rattle.ap_paths.specs.History.{kids_of, is_open, open_of, has_stop}
@@ -135,10 +135,10 @@ ends_one old turn after p e mine none one is grown =
     omega arith in
     (same, ([], begins_more old turn after e is grown, step))
 
-pub ends_done : {X : Type 0} (old : SeatView) (turn after : List Entry) (p : List ℕ) (os : List Out) (x : X) → IsTurn old turn → EntersDone turn p os (Done old.number p os) (Ok x) after → EndsJust old.number old.seen (p ∷ []) after
+pub ends_done : {X : Type 0} (old : SeatView) (turn after : List Entry) (p : List ℕ) (os : List Run) (x : X) → IsTurn old turn → EntersDone turn p os (Done old.number p os) (Ok x) after → EndsJust old.number old.seen (p ∷ []) after
 ends_done old turn after p os x is enters = ends_one old turn after p (Done old.number p os) refl refl refl is enters.1
 
-pub ends_not_done : {X : Type 0} (old : SeatView) (turn after : List Entry) (p : List ℕ) (os : List Out) (e : Entry) (r : Result X DoneError) (d : DoneError) → r ≡ Err d → d.cause ≡ NotOpen → IsTurn old turn → EntersDone turn p os e r after → EndsJust old.number old.seen (p ∷ []) after
+pub ends_not_done : {X : Type 0} (old : SeatView) (turn after : List Entry) (p : List ℕ) (os : List Run) (e : Entry) (r : Result X DoneError) (d : DoneError) → r ≡ Err d → d.cause ≡ NotOpen → IsTurn old turn → EntersDone turn p os e r after → EndsJust old.number old.seen (p ∷ []) after
 ends_not_done {X} old turn after p os e r d not cause is enters =
     let f = subst (λ (x : Result X DoneError). EntersDone turn p os e x after) not enters in
     ends_shut old turn after p is (subst (Refuses turn p) cause f.0, f.2)

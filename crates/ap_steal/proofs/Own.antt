@@ -2,7 +2,7 @@
 use Rattle.std.proofs.Common.{◌≡◌, ℕ, zero, suc, ◌+◌, Bool, true, false, ◌||◌, eqb, if◌then◌else◌, Option, Some, Result, Ok, Err, ◌≤◌, ◌<◌, get_or, List, [], ◌∷◌, ◌++◌, length, sym, refl, ap, ◌∙◌, subst, length-append, eq-eqb, true≢false, arith}
 use Rattle.ap_paths.specs.declared.entries.Entry.{Entry}
 use Rattle.ap_paths.specs.declared.entries.Entry.TheVariants.{Skip, Stop}
-use Rattle.ap_defs.specs.declared.paths.Out.{Out}
+use Rattle.ap_paths.specs.declared.runs.Run.{Run}
 use Rattle.ap_paths.specs.declared.limits.Limit.{Limit}
 use Rattle.ap_paths.specs.Limits.{IsWithin}
 use Rattle.ap_paths.specs.Entries.{entry_of, entries_of, stop, kids}
@@ -51,7 +51,7 @@ own_enters : {X : Type 0} (c : Choices) (plan : Plans) (l : Limit) (n : ℕ) (tu
 own_enters c plan l n turn after p e (Ok x) planned enters own = subst (OwnPlanned c plan l n) (sym enters.1) (own_both c plan l n turn (e ∷ []) own ((λ _. planned), tt))
 own_enters c plan l n turn after p e (Err cause) planned enters own = subst (OwnPlanned c plan l n) (sym enters.1) own
 
-own_ends : {X : Type 0} (c : Choices) (plan : Plans) (l : Limit) (n : ℕ) (turn after : List Entry) (p : List ℕ) (outs : List Out) (e : Entry) (r : Result X DoneError) → IsPlanned c plan (entry_of e) × IsWithin l (entry_of e) → EntersDone turn p outs e r after → OwnPlanned c plan l n turn
+own_ends : {X : Type 0} (c : Choices) (plan : Plans) (l : Limit) (n : ℕ) (turn after : List Entry) (p : List ℕ) (outs : List Run) (e : Entry) (r : Result X DoneError) → IsPlanned c plan (entry_of e) × IsWithin l (entry_of e) → EntersDone turn p outs e r after → OwnPlanned c plan l n turn
     → OwnPlanned c plan l n after
 own_ends c plan l n turn after p outs e (Ok x) planned enters own = subst (OwnPlanned c plan l n) (sym enters.1) (own_both c plan l n turn (e ∷ []) own ((λ _. planned), tt))
 own_ends c plan l n turn after p outs e (Err d) planned enters own = subst (OwnPlanned c plan l n) (sym enters.2) own
@@ -67,7 +67,7 @@ own_split c plan l old n turn after p e r same is planned enters own =
     subst (λ (k : ℕ). OwnPlanned c plan l k after) (sym same) (own_enters c plan l old.number turn after p e r planned enters (own_turn c plan l old.number old.seen turn is.0 is.1 own))
 
 -- after a turn that entered an end
-pub own_done : {X : Type 0} (c : Choices) (plan : Plans) (l : Limit) (old : SeatView) (n : ℕ) (turn after : List Entry) (p : List ℕ) (outs : List Out) (e : Entry) (r : Result X DoneError) → n ≡ old.number → IsTurn old turn → IsPlanned c plan (entry_of e) × IsWithin l (entry_of e) → EntersDone turn p outs e r after
+pub own_done : {X : Type 0} (c : Choices) (plan : Plans) (l : Limit) (old : SeatView) (n : ℕ) (turn after : List Entry) (p : List ℕ) (outs : List Run) (e : Entry) (r : Result X DoneError) → n ≡ old.number → IsTurn old turn → IsPlanned c plan (entry_of e) × IsWithin l (entry_of e) → EntersDone turn p outs e r after
     → OwnPlanned c plan l old.number old.seen → OwnPlanned c plan l n after
 own_done c plan l old n turn after p outs e r same is planned enters own =
     subst (λ (k : ℕ). OwnPlanned c plan l k after) (sym same) (own_ends c plan l old.number turn after p outs e r planned enters (own_turn c plan l old.number old.seen turn is.0 is.1 own))

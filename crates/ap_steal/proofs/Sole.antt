@@ -2,8 +2,9 @@
 use Rattle.std.proofs.Common.{◌≡◌, ℕ, zero, suc, ◌+◌, ◌<◌, Bool, true, false, ◌||◌, eqb, if◌then◌else◌, Result, Ok, Err, IfOk, List, [], ◌∷◌, ◌++◌, length, sym, refl, ap, ◌∙◌, subst, eq-eqb, true≢false, append-nil, arith}
 use Rattle.ap_paths.specs.declared.entries.Entry.{Entry}
 use Rattle.ap_paths.specs.declared.entries.Entry.TheVariants.{Split, Done, Skip}
-use Rattle.ap_defs.specs.declared.paths.Out.{Out}
-use Rattle.ap_defs.specs.Answers.{NominalOut, outs_of}
+use Rattle.ap_paths.specs.declared.runs.Run.{Run}
+use Rattle.ap_defs.specs.Answers.{NominalOut}
+use Rattle.ap_paths.specs.Runs.{outs_of_runs}
 use Rattle.ap_paths.specs.Entries.{TreeEntry, split, done, skip, stop, entry_of, entries_of}
 use Rattle.ap_paths.specs.History.{is_legal, kids_of, has_stop, is_open, open_of, open_from, without, same_path}
 use Rattle.ap_paths.specs.Weights.{weigh, is_it, one_if}
@@ -167,10 +168,10 @@ pub sole_split : {X : Type 0} (old : SeatView) (n : ℕ) (turn after : List Entr
 sole_split old n turn after p ks hand x same is enters sole =
     sole_entered old n turn after (Split old.number p ks) (p ∷ hand) (kids_of p ks ++ hand) same is enters.1 (λ r. runs_split ([] ∷ []) (entries_of turn) p hand old.number ks r) sole
 
-pub sole_done : {X : Type 0} (old : SeatView) (n : ℕ) (turn after : List Entry) (p : List ℕ) (os : List Out) (hand : List (List ℕ)) (x : X) → n ≡ old.number → IsTurn old turn → EntersDone turn p os (Done old.number p os) (Ok x) after
+pub sole_done : {X : Type 0} (old : SeatView) (n : ℕ) (turn after : List Entry) (p : List ℕ) (os : List Run) (hand : List (List ℕ)) (x : X) → n ≡ old.number → IsTurn old turn → EntersDone turn p os (Done old.number p os) (Ok x) after
     → IsSole (p ∷ hand) old.number old.seen → IsSole hand n after
 sole_done old n turn after p os hand x same is enters sole =
-    sole_entered old n turn after (Done old.number p os) (p ∷ hand) hand same is enters.1 (λ r. runs_done ([] ∷ []) (entries_of turn) p hand old.number (outs_of os) r) sole
+    sole_entered old n turn after (Done old.number p os) (p ∷ hand) hand same is enters.1 (λ r. runs_done ([] ∷ []) (entries_of turn) p hand old.number (outs_of_runs os) r) sole
 
 pub sole_skipped : {X : Type 0} (old : SeatView) (n : ℕ) (turn after : List Entry) (p : List ℕ) (l : Limit) (hand : List (List ℕ)) (x : X) → n ≡ old.number → IsTurn old turn → Skips turn p l old.number (Ok x) after
     → IsSole (p ∷ hand) old.number old.seen → IsSole hand n after
@@ -185,7 +186,7 @@ pub sole_not_split : {X : Type 0} (old : SeatView) (n : ℕ) (turn after : List 
 sole_not_split {X} old n turn after p e rest r not same is enters sole =
     sole_refused old n turn after p rest rest same is (subst (λ (x : Result X BookError). Enters turn p e x after) not enters) sole
 
-pub sole_not_done : {X : Type 0} (old : SeatView) (n : ℕ) (turn after : List Entry) (p : List ℕ) (os : List Out) (e : Entry) (rest : List (List ℕ)) (r : Result X DoneError) (d : DoneError) → r ≡ Err d → d.cause ≡ NotOpen → n ≡ old.number → IsTurn old turn
+pub sole_not_done : {X : Type 0} (old : SeatView) (n : ℕ) (turn after : List Entry) (p : List ℕ) (os : List Run) (e : Entry) (rest : List (List ℕ)) (r : Result X DoneError) (d : DoneError) → r ≡ Err d → d.cause ≡ NotOpen → n ≡ old.number → IsTurn old turn
     → EntersDone turn p os e r after → IsSole (p ∷ rest) old.number old.seen → IsSole rest n after
 sole_not_done {X} old n turn after p os e rest r d not cause same is enters sole =
     let f = subst (λ (x : Result X DoneError). EntersDone turn p os e x after) not enters in

@@ -3,8 +3,8 @@
 ghost use Rattle.std.specs.Prelude.{◌≡◌, ℕ, true, [], ◌∷◌, if◌then◌else◌, List as list, IfOk};
 ghost use Rattle.ap_paths.specs.declared.entries.Entry.{Entry};
 ghost use Rattle.ap_paths.specs.declared.entries.Entry.TheVariants.{Split, Done};
-ghost use Rattle.ap_defs.specs.Answers.{outs_of};
 ghost use Rattle.ap_paths.specs.Entries.{kids, outs, visit_of};
+ghost use Rattle.ap_paths.specs.Runs.{outs_of_runs};
 ghost use Rattle.ap_paths.specs.Trees.{InChoiceTree, Ascends};
 ghost use Rattle.ap_book.specs.Answers.{Enters, EntersDone, Skips};
 ghost use Rattle.ap_lock.specs.Seats.{book_id, book_limit, SameSeat, IsTurn};
@@ -16,9 +16,9 @@ use crate::tools::Tools;
 use ap_book::{BookError, DoneError, SkipError};
 use ap_defs::lists::List;
 use ap_defs::memory::Memory;
-use ap_defs::paths::{Out, Path, Visit};
+use ap_defs::paths::Path;
 use ap_lock::{Seat, SharedBook};
-use ap_paths::Tree;
+use ap_paths::{Run, Tree, Visit};
 use ap_tasks::{Placed, Shape};
 use std::alloc::Global;
 use std::sync::Wait;
@@ -56,13 +56,13 @@ fn done_planned<R: Wait, T: Tree>(
     book: &SharedBook,
     seat: &mut Seat,
     path: &Path,
-    given: Vec<Out>,
+    given: Vec<Run>,
 ) -> Result<(), DoneError>
     requires book { seat.old.book ≡ book_id book.now }
     requires own { OwnPlanned (T.choices tree.now) (T.plan tree.now) (book_limit book.now)
         seat.old.number seat.old.seen }
     requires planned { InChoiceTree (T.choices tree.now) path.now
-        × (T.plan tree.now path.now ≡ outs (outs_of given.items)) }
+        × (T.plan tree.now path.now ≡ outs (outs_of_runs given.items)) }
     ensures same { SameSeat seat.old seat.new }
     ensures own { OwnPlanned (T.choices tree.now) (T.plan tree.now) (book_limit book.now)
         seat.new.number seat.new.seen }
@@ -178,13 +178,13 @@ fn run_outs<R: Wait, T: Tree>(
     book: &SharedBook,
     seat: &mut Seat,
     path: &Path,
-    given: List<Out>,
+    given: List<Run>,
 ) -> Result<(), Memory>
     requires book { seat.old.book ≡ book_id book.now }
     requires own { OwnPlanned (T.choices tree.now) (T.plan tree.now) (book_limit book.now)
         seat.old.number seat.old.seen }
     requires planned { InChoiceTree (T.choices tree.now) path.now
-        × (T.plan tree.now path.now ≡ outs (outs_of given)) }
+        × (T.plan tree.now path.now ≡ outs (outs_of_runs given)) }
     ensures same { SameSeat seat.old seat.new }
     ensures own { OwnPlanned (T.choices tree.now) (T.plan tree.now) (book_limit book.now)
         seat.new.number seat.new.seen }
