@@ -1,8 +1,10 @@
 //! The search of a problem as a tree of paths.
 
 ghost use Rattle.std.specs.Prelude.{◌≡◌, ◌≤◌, IfOk};
+ghost use Rattle.ap_defs.specs.Answers.{outs_of};
 ghost use Rattle.ap_backchain.specs.Branches.{IsBranchOf, path_of_branch};
 ghost use Rattle.ap_backchain.specs.Problems.{HasQuery};
+ghost use Rattle.ap_paths.specs.Entries as entries;
 ghost use Rattle.ap_paths.specs.Entries.{visit_of};
 ghost use Rattle.ap_replay.specs.ProblemTrees.{bound_at, bound_by, kid_numbers, node_kids, problem_plan};
 
@@ -12,8 +14,8 @@ use ap_backchain::problem::Problem;
 use ap_backchain::run::Paths;
 use ap_defs::lists::List;
 use ap_defs::memory::Memory;
-use ap_defs::paths::{Node, Out, Path, Visit};
-use ap_paths::{Limit, Tree};
+use ap_defs::paths::{Node, Out, Path};
+use ap_paths::{Limit, Run, Tree, Visit, runs_of};
 use std::alloc::Global;
 
 /// The tree of paths of a problem. A path is searched whole, by one worker, if few choices are made for
@@ -59,6 +61,14 @@ fn bound_of(limit: Limit, path: &Path) -> u64
     bound_of_twos(limit, way.trailing_zeros().min(28))
 }
 
+/// The answer to a visit that found these outputs.
+fn visit_with(alloc: Global, outs: Vec<Out>) -> Result<Visit, Memory>
+    ensures { IfOk result (λ v. visit_of v ≡ entries.outs (outs_of outs.items)) }
+{
+    let runs = runs_of(alloc, outs)?;
+    Ok(Visit::Outs(List::of(runs)))
+}
+
 /// What a visit answers: the outputs, where few choices are to be made, and else the kids.
 fn visit_branch<'a>(
     alloc: Global,
@@ -75,10 +85,10 @@ fn visit_branch<'a>(
 {
     let Some(kids) = kids_at(alloc, branch.node())? else {
         let outs = branch.run(alloc, problem, paths)?;
-        return Ok(Visit::Outs(List::of(outs)));
+        return visit_with(alloc, outs);
     };
     match branch.run_within(alloc, problem, paths, bound_of(limit, path))? {
-        Some(outs) => Ok(Visit::Outs(List::of(outs))),
+        Some(outs) => visit_with(alloc, outs),
         None => Ok(Visit::Kids(List::of(kids))),
     }
 }
@@ -120,8 +130,9 @@ impl<'a> Tree for ProblemTree<'a> {
         }
     }
 
-    fn outs(&self, alloc: Global, path: &Path) -> Result<Vec<Out>, Memory> {
-        branch_at(alloc, &self.problem, path)?.run(alloc, &self.problem, self.paths)
+    fn outs(&self, alloc: Global, path: &Path) -> Result<Vec<Run>, Memory> {
+        let outs = branch_at(alloc, &self.problem, path)?.run(alloc, &self.problem, self.paths)?;
+        runs_of(alloc, outs)
     }
 
     fn visit(&self, alloc: Global, path: &Path) -> Result<Visit, Memory> {
