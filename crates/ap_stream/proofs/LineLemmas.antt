@@ -1,15 +1,16 @@
 -- The lines of outputs of which some came before: each longest run of cuts or of stuck branches gives one.
-use Rattle.std.proofs.Common.{◌≡◌, ℕ, zero, suc, Bool, false, List, [], ◌∷◌, ◌++◌, map, refl, sym, ap, ◌∙◌, arith, append-nil, append_assoc}
+use Rattle.std.proofs.Common.{◌≡◌, ℕ, zero, suc, ◌+◌, ◌<◌, Bool, false, List, [], ◌∷◌, ◌++◌, map, refl, sym, ap, ◌∙◌, arith, append-nil, append_assoc}
 use Rattle.std.specs.Prelude.{◌==◌, if◌then◌else◌, codes, replicate}
 use Rattle.std.specs.Fmt.{decimal}
 use Rattle.std.proofs.lemmas.Bool.Decides.{nat_tests}
 use Rattle.ap_defs.specs.Answers.{NominalAnswer, NominalOut, found, cut, stuck}
 use Rattle.ap_defs.specs.Goals.{NominalProgram}
-use Rattle.ap_defs.specs.Lines.{Line, answer, answer_text, cuts, stucks, line_before, line_text, lines_of, ended}
+use Rattle.ap_defs.specs.Lines.{Line, answer, answer_text, count_of, cuts, is_cut, is_found, is_stuck, stucks, line_before, line_text, lines_of, ended}
 use Rattle.ap_defs.specs.Types.{NominalLocal}
-use Rattle.ap_stream.specs.Builders.{line_of_run, built_text, totals_by, totals_line}
-use Rattle.ap_stream.specs.declared.builder.Run.{Run}
-use Rattle.ap_stream.specs.declared.builder.Run.TheVariants as runs
+use Rattle.ap_stream.specs.Builders.{built_text, line_of_pending, outs_of_pending, report_with, totals_by, totals_line}
+use Rattle.ap_stream.specs.declared.builder.ReportBuilder.{ReportBuilder}
+use Rattle.ap_stream.specs.declared.builder.PendingRun.{PendingRun}
+use Rattle.ap_stream.specs.declared.builder.PendingRun.TheVariants as runs
 
 in_order : (a b c d e f g h i j : List ℕ) → ((((((((a ++ b) ++ c) ++ d) ++ e) ++ f) ++ g) ++ h) ++ i) ++ j ≡ a ++ (b ++ (c ++ (d ++ (e ++ (f ++ (g ++ (h ++ (i ++ j))))))))
 in_order a b c d e f g h i j = simp append_assoc refl
@@ -42,14 +43,43 @@ before_cut p (answer a ∷ ls) = refl
 before_cut p (cuts n ∷ ls) = refl
 before_cut p (stucks n ∷ ls) = refl
 
+many_both : (n m : ℕ) (o : NominalOut) (os : List NominalOut) → replicate (n + m) o ++ os ≡ replicate n o ++ (replicate m o ++ os)
+many_both zero m o os = ap (λ (i : ℕ). replicate i o ++ os) (let e : 0 + m ≡ m = omega arith in e)
+many_both (suc n) m o os =
+    ap (λ (i : ℕ). replicate i o ++ os) (let e : suc n + m ≡ suc (n + m) = omega arith in e) ∙ ap (λ (xs : List NominalOut). o ∷ xs) (many_both n m o os)
+
+-- what is not told of an output is not told of it behind others
+unseen : (front : List NominalOut) (o p : NominalOut) (os : List NominalOut) → ((ls : List Line) → line_before o ls ≡ line_before p ls) → lines_of (front ++ o ∷ os) ≡ lines_of (front ++ p ∷ os)
+unseen [] o p os same = same (lines_of os)
+unseen (x ∷ xs) o p os same = ap (line_before x) (unseen xs o p os same)
+
+-- how many of each kind there are with so many cuts, and with so many stuck branches
+pub cuts_found : (n : ℕ) (os : List NominalOut) → count_of is_found (replicate n (cut []) ++ os) ≡ count_of is_found os
+cuts_found zero os = refl
+cuts_found (suc n) os = cuts_found n os
+
+pub cuts_cut : (n : ℕ) (os : List NominalOut) → count_of is_cut (replicate n (cut []) ++ os) ≡ n + count_of is_cut os
+cuts_cut zero os = omega arith
+cuts_cut (suc n) os = omega (arith, cuts_cut n os)
+
+pub cuts_stuck : (n : ℕ) (os : List NominalOut) → count_of is_stuck (replicate n (cut []) ++ os) ≡ count_of is_stuck os
+cuts_stuck zero os = refl
+cuts_stuck (suc n) os = cuts_stuck n os
+
+pub stuck_found : (n : ℕ) (os : List NominalOut) → count_of is_found (replicate n (stuck []) ++ os) ≡ count_of is_found os
+stuck_found zero os = refl
+stuck_found (suc n) os = stuck_found n os
+
+pub stuck_cut : (n : ℕ) (os : List NominalOut) → count_of is_cut (replicate n (stuck []) ++ os) ≡ count_of is_cut os
+stuck_cut zero os = refl
+stuck_cut (suc n) os = stuck_cut n os
+
+pub stuck_stuck : (n : ℕ) (os : List NominalOut) → count_of is_stuck (replicate n (stuck []) ++ os) ≡ n + count_of is_stuck os
+stuck_stuck zero os = omega arith
+stuck_stuck (suc n) os = omega (arith, stuck_stuck n os)
+
 -- A run of outputs of one kind.
 module _ (o : NominalOut) (line : ℕ → Line) (next : (n : ℕ) (ls : List Line) → line_before o (line n ∷ ls) ≡ line (suc n) ∷ ls) where
-  -- one more of its kind
-  pub run_grows : (n : ℕ) (p : NominalOut) (os : List NominalOut) → ((ls : List Line) → line_before p ls ≡ line_before o ls)
-      → lines_of (replicate (suc n) o ++ os) ≡ lines_of (replicate n o ++ p ∷ os)
-  run_grows zero p os same = sym (same (lines_of os))
-  run_grows (suc n) p os same = ap (line_before o) (run_grows n p os same)
-
   -- it ends, where others follow
   pub run_ends : (n : ℕ) (os : List NominalOut) → line_before o (lines_of os) ≡ line 1 ∷ lines_of os → lines_of (replicate (suc n) o ++ os) ≡ line (suc n) ∷ lines_of os
   run_ends zero os e = e
@@ -65,7 +95,7 @@ module _ (o : NominalOut) (line : ℕ → Line) (next : (n : ℕ) (ls : List Lin
       ∙ ap (λ ls. old ++ ended (map text ls ++ totals)) (sym (run_ends n os e))
 
 -- the outputs that follow do not go on with the run
-abbrev Ends : Run → List NominalOut → Type 0
+abbrev Ends : PendingRun → List NominalOut → Type 0
 Ends (runs.Cuts n) os = line_before (cut []) (lines_of os) ≡ cuts 1 ∷ lines_of os
 Ends (runs.Stuck n) os = line_before (stuck []) (lines_of os) ≡ stucks 1 ∷ lines_of os
 
@@ -80,7 +110,7 @@ module _ (program : NominalProgram) (locals : List NominalLocal) where
   abbrev behind : List ℕ → List Line → List ℕ → List ℕ
   behind written ls totals = written ++ ended (map (line_text program locals) ls ++ totals ∷ [])
 
-  line_written : (run : Run) (os : List NominalOut) (old new totals : List ℕ) → new ≡ old ++ line_of_run run → Ends run os
+  line_written : (run : PendingRun) (os : List NominalOut) (old new totals : List ℕ) → new ≡ old ++ line_of_pending run → Ends run os
       → behind new (lines_of os) totals ≡ built_text program locals old run os totals
   line_written (runs.Cuts zero) os old new totals e none = ap (λ bs. behind bs (lines_of os) totals) (e ∙ append-nil old)
   line_written (runs.Cuts (suc n)) os old new totals e none =
@@ -91,38 +121,51 @@ module _ (program : NominalProgram) (locals : List NominalLocal) where
       ap (λ bs. behind bs (lines_of os) totals) (e ∙ ap (λ w. old ++ w) (line_of_more n (codes "% stuck " ++ decimal (suc n) ++ codes "\n")))
       ∙ run_written (stuck []) stucks (λ n ls. refl) (line_text program locals) n os old (totals ∷ []) none
 
-  pub cut_goes_on : (n m : ℕ) (path : List ℕ) (os : List NominalOut) (old totals : List ℕ) → m ≡ suc n
-      → built_text program locals old (runs.Cuts m) os totals ≡ built_text program locals old (runs.Cuts n) (cut path ∷ os) totals
-  cut_goes_on n m path os old totals e =
-      ap (λ x. behind old (lines_of (replicate x (cut []) ++ os)) totals) e
-      ∙ ap (λ ls. behind old ls totals) (run_grows (cut []) cuts (λ n ls. refl) n (cut path) os (cut_sees_no_path path))
+  pub cuts_go_on : (n m k : ℕ) (os : List NominalOut) (old totals : List ℕ) → k ≡ n + m
+      → built_text program locals old (runs.Cuts k) os totals ≡ built_text program locals old (runs.Cuts n) (replicate m (cut []) ++ os) totals
+  cuts_go_on n m k os old totals e =
+      ap (λ x. behind old (lines_of (replicate x (cut []) ++ os)) totals) e ∙ ap (λ xs. behind old (lines_of xs) totals) (many_both n m (cut []) os)
 
-  pub stuck_goes_on : (n m : ℕ) (path : List ℕ) (os : List NominalOut) (old totals : List ℕ) → m ≡ suc n
-      → built_text program locals old (runs.Stuck m) os totals ≡ built_text program locals old (runs.Stuck n) (stuck path ∷ os) totals
-  stuck_goes_on n m path os old totals e =
-      ap (λ x. behind old (lines_of (replicate x (stuck []) ++ os)) totals) e
-      ∙ ap (λ ls. behind old ls totals) (run_grows (stuck []) stucks (λ n ls. refl) n (stuck path) os (stuck_sees_no_path path))
+  pub stuck_go_on : (n m k : ℕ) (os : List NominalOut) (old totals : List ℕ) → k ≡ n + m
+      → built_text program locals old (runs.Stuck k) os totals ≡ built_text program locals old (runs.Stuck n) (replicate m (stuck []) ++ os) totals
+  stuck_go_on n m k os old totals e =
+      ap (λ x. behind old (lines_of (replicate x (stuck []) ++ os)) totals) e ∙ ap (λ xs. behind old (lines_of xs) totals) (many_both n m (stuck []) os)
 
-  pub cut_begins : (n : ℕ) (path : List ℕ) (os : List NominalOut) (old new totals : List ℕ) → new ≡ old ++ line_of_run (runs.Stuck n)
-      → built_text program locals new (runs.Cuts 1) os totals ≡ built_text program locals old (runs.Stuck n) (cut path ∷ os) totals
-  cut_begins n path os old new totals e =
-      ap (λ ls. behind new ls totals) (sym (cut_sees_no_path path (lines_of os))) ∙ line_written (runs.Stuck n) (cut path ∷ os) old new totals e (before_cut path (lines_of os))
+  pub cuts_begin : (n m : ℕ) (os : List NominalOut) (old new totals : List ℕ) → 0 < m → new ≡ old ++ line_of_pending (runs.Stuck n)
+      → built_text program locals new (runs.Cuts m) os totals ≡ built_text program locals old (runs.Stuck n) (replicate m (cut []) ++ os) totals
+  cuts_begin n zero os old new totals some e = absurd (omega arith)
+  cuts_begin n (suc m) os old new totals some e =
+      line_written (runs.Stuck n) (replicate (suc m) (cut []) ++ os) old new totals e (before_cut [] (lines_of (replicate m (cut []) ++ os)))
 
-  pub stuck_begins : (n : ℕ) (path : List ℕ) (os : List NominalOut) (old new totals : List ℕ) → new ≡ old ++ line_of_run (runs.Cuts n)
-      → built_text program locals new (runs.Stuck 1) os totals ≡ built_text program locals old (runs.Cuts n) (stuck path ∷ os) totals
-  stuck_begins n path os old new totals e =
-      ap (λ ls. behind new ls totals) (sym (stuck_sees_no_path path (lines_of os))) ∙ line_written (runs.Cuts n) (stuck path ∷ os) old new totals e (before_stuck path (lines_of os))
+  pub stuck_begin : (n m : ℕ) (os : List NominalOut) (old new totals : List ℕ) → 0 < m → new ≡ old ++ line_of_pending (runs.Cuts n)
+      → built_text program locals new (runs.Stuck m) os totals ≡ built_text program locals old (runs.Cuts n) (replicate m (stuck []) ++ os) totals
+  stuck_begin n zero os old new totals some e = absurd (omega arith)
+  stuck_begin n (suc m) os old new totals some e =
+      line_written (runs.Cuts n) (replicate (suc m) (stuck []) ++ os) old new totals e (before_stuck [] (lines_of (replicate m (stuck []) ++ os)))
 
-  ends_found : (run : Run) (path : List ℕ) (a : NominalAnswer) (os : List NominalOut) → Ends run (found path a ∷ os)
+  -- one of them may have a path
+  pub cut_unseen : (query : ℕ) (b : ReportBuilder) (path : List ℕ) (os : List NominalOut)
+      → report_with program query locals b (replicate 1 (cut []) ++ os) ≡ report_with program query locals b (cut path ∷ os)
+  cut_unseen query b path os =
+      let totals = totals_by query (b.answers + count_of is_found os) (b.cuts + suc (count_of is_cut os)) (b.stuck + count_of is_stuck os) in
+      ap (λ ls. behind b.bytes.items ls totals) (unseen (outs_of_pending b.run) (cut []) (cut path) os (λ ls. sym (cut_sees_no_path path ls)))
+
+  pub stuck_unseen : (query : ℕ) (b : ReportBuilder) (path : List ℕ) (os : List NominalOut)
+      → report_with program query locals b (replicate 1 (stuck []) ++ os) ≡ report_with program query locals b (stuck path ∷ os)
+  stuck_unseen query b path os =
+      let totals = totals_by query (b.answers + count_of is_found os) (b.cuts + count_of is_cut os) (b.stuck + suc (count_of is_stuck os)) in
+      ap (λ ls. behind b.bytes.items ls totals) (unseen (outs_of_pending b.run) (stuck []) (stuck path) os (λ ls. sym (stuck_sees_no_path path ls)))
+
+  ends_found : (run : PendingRun) (path : List ℕ) (a : NominalAnswer) (os : List NominalOut) → Ends run (found path a ∷ os)
   ends_found (runs.Cuts n) path a os = refl
   ends_found (runs.Stuck n) path a os = refl
 
-  ends_none : (run : Run) → Ends run []
+  ends_none : (run : PendingRun) → Ends run []
   ends_none (runs.Cuts n) = refl
   ends_none (runs.Stuck n) = refl
 
   -- the line of an answer behind that of the run
-  pub answer_written : (run : Run) (path : List ℕ) (a : NominalAnswer) (os : List NominalOut) (old flushed text new totals : List ℕ) → flushed ≡ old ++ line_of_run run
+  pub answer_written : (run : PendingRun) (path : List ℕ) (a : NominalAnswer) (os : List NominalOut) (old flushed text new totals : List ℕ) → flushed ≡ old ++ line_of_pending run
       → text ≡ flushed ++ answer_text program locals a → new ≡ text ++ codes "\n"
       → built_text program locals new (runs.Cuts 0) os totals ≡ built_text program locals old run (found path a ∷ os) totals
   answer_written run path a os old flushed text new totals e f g =
@@ -132,5 +175,5 @@ module _ (program : NominalProgram) (locals : List NominalLocal) where
       ∙ line_written run (found path a ∷ os) old flushed totals e (ends_found run path a os)
 
   -- the totals behind the line of the run
-  pub totals_written : (run : Run) (old flushed new totals : List ℕ) → flushed ≡ old ++ line_of_run run → new ≡ flushed ++ (totals ++ codes "\n") → new ≡ built_text program locals old run [] totals
+  pub totals_written : (run : PendingRun) (old flushed new totals : List ℕ) → flushed ≡ old ++ line_of_pending run → new ≡ flushed ++ (totals ++ codes "\n") → new ≡ built_text program locals old run [] totals
   totals_written run old flushed new totals e f = f ∙ line_written run [] old flushed totals e (ends_none run)

@@ -5,19 +5,19 @@ use Rattle.ap_defs.specs.Types.{NominalLocal}
 use Rattle.ap_defs.specs.Goals.{NominalProgram}
 use Rattle.ap_defs.specs.Answers.{NominalOut, cut, stuck}
 use Rattle.ap_defs.specs.Lines.{lines_of, line_text, ended, is_found, is_cut, is_stuck, count_of}
-use Rattle.ap_stream.specs.declared.builder.Run.{Run}
-use Rattle.ap_stream.specs.declared.builder.Run.TheVariants as runs
+use Rattle.ap_stream.specs.declared.builder.PendingRun.{PendingRun}
+use Rattle.ap_stream.specs.declared.builder.PendingRun.TheVariants as runs
 use Rattle.ap_stream.specs.declared.builder.ReportBuilder.{ReportBuilder}
 
--- the outputs of a run
-abbrev pub outs_of_run : Run → List NominalOut
-outs_of_run (runs.Cuts n) = replicate n (cut [])
-outs_of_run (runs.Stuck n) = replicate n (stuck [])
+-- the outputs of the run whose line is not written yet
+abbrev pub outs_of_pending : PendingRun → List NominalOut
+outs_of_pending (runs.Cuts n) = replicate n (cut [])
+outs_of_pending (runs.Stuck n) = replicate n (stuck [])
 
 -- its line, with its end, if there are any
-abbrev pub line_of_run : Run → List ℕ
-line_of_run (runs.Cuts n) = if n == 0 then [] else codes "% cut " ++ decimal n ++ codes "\n"
-line_of_run (runs.Stuck n) = if n == 0 then [] else codes "% stuck " ++ decimal n ++ codes "\n"
+abbrev pub line_of_pending : PendingRun → List ℕ
+line_of_pending (runs.Cuts n) = if n == 0 then [] else codes "% cut " ++ decimal n ++ codes "\n"
+line_of_pending (runs.Stuck n) = if n == 0 then [] else codes "% stuck " ++ decimal n ++ codes "\n"
 
 -- the totals of the query with this number, of so many outputs of each kind
 abbrev pub totals_by : ℕ → ℕ → ℕ → ℕ → List ℕ
@@ -30,8 +30,8 @@ totals_line k n c s =
     codes "% query " ++ (decimal k ++ (codes ": " ++ (decimal n ++ (codes " answers, " ++ (decimal c ++ (codes " cut, " ++ (decimal s ++ codes " stuck\n")))))))
 
 -- what was written, and the lines of the outputs that follow a run, with those of the run, and of the totals
-abbrev pub built_text : NominalProgram → List NominalLocal → List ℕ → Run → List NominalOut → List ℕ → List ℕ
-built_text program locals written run os totals = written ++ ended (map (line_text program locals) (lines_of (outs_of_run run ++ os)) ++ totals ∷ [])
+abbrev pub built_text : NominalProgram → List NominalLocal → List ℕ → PendingRun → List NominalOut → List ℕ → List ℕ
+built_text program locals written run os totals = written ++ ended (map (line_text program locals) (lines_of (outs_of_pending run ++ os)) ++ totals ∷ [])
 
 -- the report on the query with this number, where these outputs follow those that came
 abbrev pub report_with : NominalProgram → ℕ → List NominalLocal → ReportBuilder → List NominalOut → List ℕ

@@ -1,12 +1,13 @@
-//! The report on a query, made of one output after another.
+//! The report on a query, made of one output after another, or of one run after another.
 
-ghost use Rattle.std.specs.Prelude.{◌≡◌, ℕ, suc, List as list, [], ◌∷◌, ◌++◌, OnOk, IfOk};
+ghost use Rattle.std.specs.Prelude.{◌≡◌, ◌+◌, ◌<◌, ℕ, List as list, [], ◌∷◌, ◌++◌, OnOk, IfOk, replicate};
 ghost use Rattle.ap_defs.specs.Answers.{NominalOut, answer_of, cut, found, out_of, stuck};
 ghost use Rattle.ap_defs.specs.Goals.{NominalProgram, program_of};
 ghost use Rattle.ap_defs.specs.Lines.{query_lines};
 ghost use Rattle.ap_defs.specs.Types.{NominalLocal, locals_of};
 ghost use Rattle.ap_answers.specs.Words.{IsTaken};
-ghost use Rattle.ap_stream.specs.Builders.{line_of_run, report_with, built_text, totals_line};
+ghost use Rattle.ap_paths.specs.Runs.{outs_of_run};
+ghost use Rattle.ap_stream.specs.Builders.{line_of_pending, report_with, built_text, totals_line};
 
 use ap_answers::answers::write_answer;
 use ap_answers::words::Taken;
@@ -15,11 +16,12 @@ use ap_defs::memory::Memory;
 use ap_defs::outcomes::Answer;
 use ap_defs::paths::Out;
 use ap_defs::terms::Term;
+use ap_paths::Run;
 use std::alloc::Global;
 
 /// So many outputs of one kind in a row, whose line is not written yet.
 #[derive(Clone, Copy)]
-pub enum Run {
+pub enum PendingRun {
     Cuts(u64),
     Stuck(u64),
 }
@@ -29,25 +31,25 @@ pub enum Run {
 #[derive(Drop)]
 pub struct ReportBuilder {
     bytes: Vec<u8>,
-    run: Run,
+    run: PendingRun,
     answers: u64,
     cuts: u64,
     stuck: u64,
 }
 
-/// The next number. Numbers past the greatest are refused as want of memory is.
-fn one_more(count: u64) -> Result<u64, Memory>
-    ensures { IfOk result (λ n. n ≡ suc count) }
+/// A count raised by so many. Numbers past the greatest are refused as want of memory is.
+fn raised(count: u64, more: u64) -> Result<u64, Memory>
+    ensures { IfOk result (λ n. n ≡ count + more) }
 {
-    match count.checked_add(1) {
-        Some(next) => Ok(next),
+    match count.checked_add(more) {
+        Some(sum) => Ok(sum),
         None => Err(Memory),
     }
 }
 
 /// Writes the line of a run of so many cuts, if there are any.
 fn write_cuts(alloc: Global, out: &mut Vec<u8>, count: u64) -> Result<(), Memory>
-    ensures { OnOk result (out.new.items ≡ out.old.items ++ line_of_run (Run.Cuts count)) }
+    ensures { OnOk result (out.new.items ≡ out.old.items ++ line_of_pending (PendingRun.Cuts count)) }
 {
     if count == 0 {
         return Ok(());
@@ -59,7 +61,7 @@ fn write_cuts(alloc: Global, out: &mut Vec<u8>, count: u64) -> Result<(), Memory
 
 /// Writes the line of a run of so many stuck branches, if there are any.
 fn write_stuck(alloc: Global, out: &mut Vec<u8>, count: u64) -> Result<(), Memory>
-    ensures { OnOk result (out.new.items ≡ out.old.items ++ line_of_run (Run.Stuck count)) }
+    ensures { OnOk result (out.new.items ≡ out.old.items ++ line_of_pending (PendingRun.Stuck count)) }
 {
     if count == 0 {
         return Ok(());
@@ -70,49 +72,61 @@ fn write_stuck(alloc: Global, out: &mut Vec<u8>, count: u64) -> Result<(), Memor
 }
 
 /// Writes the line of a run, if there is one.
-fn write_run(alloc: Global, out: &mut Vec<u8>, run: Run) -> Result<(), Memory>
-    ensures { OnOk result (out.new.items ≡ out.old.items ++ line_of_run run) }
+fn write_run(alloc: Global, out: &mut Vec<u8>, run: PendingRun) -> Result<(), Memory>
+    ensures { OnOk result (out.new.items ≡ out.old.items ++ line_of_pending run) }
 {
     match run {
-        Run::Cuts(count) => write_cuts(alloc, out, count),
-        Run::Stuck(count) => write_stuck(alloc, out, count),
+        PendingRun::Cuts(count) => write_cuts(alloc, out, count),
+        PendingRun::Stuck(count) => write_stuck(alloc, out, count),
     }
 }
 
-/// The run with a cut behind it: it goes on, or its line is written, and another begins.
-fn with_cut(alloc: Global, out: &mut Vec<u8>, run: Run) -> Result<Run, Memory>
+/// The run with so many cuts behind it: it goes on, or its line is written, and another begins.
+fn with_cuts(
+    alloc: Global,
+    out: &mut Vec<u8>,
+    run: PendingRun,
+    more: u64,
+) -> Result<PendingRun, Memory>
+    requires { 0 < more }
     ensures { IfOk result (λ r. (program : NominalProgram) (locals : list NominalLocal)
-        (path : list ℕ) (os : list NominalOut) (totals : list ℕ) →
+        (os : list NominalOut) (totals : list ℕ) →
         built_text program locals out.new.items r os totals
-        ≡ built_text program locals out.old.items run (cut path ∷ os) totals) }
+        ≡ built_text program locals out.old.items run (replicate more (cut []) ++ os) totals) }
 {
     match run {
-        Run::Cuts(count) => {
-            let count = one_more(count)?;
-            Ok(Run::Cuts(count))
+        PendingRun::Cuts(count) => {
+            let count = raised(count, more)?;
+            Ok(PendingRun::Cuts(count))
         }
-        Run::Stuck(count) => {
+        PendingRun::Stuck(count) => {
             write_stuck(alloc, out, count)?;
-            Ok(Run::Cuts(1))
+            Ok(PendingRun::Cuts(more))
         }
     }
 }
 
-/// The run with a stuck branch behind it, likewise.
-fn with_stuck(alloc: Global, out: &mut Vec<u8>, run: Run) -> Result<Run, Memory>
+/// The run with so many stuck branches behind it, likewise.
+fn with_stuck(
+    alloc: Global,
+    out: &mut Vec<u8>,
+    run: PendingRun,
+    more: u64,
+) -> Result<PendingRun, Memory>
+    requires { 0 < more }
     ensures { IfOk result (λ r. (program : NominalProgram) (locals : list NominalLocal)
-        (path : list ℕ) (os : list NominalOut) (totals : list ℕ) →
+        (os : list NominalOut) (totals : list ℕ) →
         built_text program locals out.new.items r os totals
-        ≡ built_text program locals out.old.items run (stuck path ∷ os) totals) }
+        ≡ built_text program locals out.old.items run (replicate more (stuck []) ++ os) totals) }
 {
     match run {
-        Run::Stuck(count) => {
-            let count = one_more(count)?;
-            Ok(Run::Stuck(count))
+        PendingRun::Stuck(count) => {
+            let count = raised(count, more)?;
+            Ok(PendingRun::Stuck(count))
         }
-        Run::Cuts(count) => {
+        PendingRun::Cuts(count) => {
             write_cuts(alloc, out, count)?;
-            Ok(Run::Stuck(1))
+            Ok(PendingRun::Stuck(more))
         }
     }
 }
@@ -145,7 +159,7 @@ impl ReportBuilder {
     {
         ReportBuilder {
             bytes: Vec::new(alloc),
-            run: Run::Cuts(0),
+            run: PendingRun::Cuts(0),
             answers: 0,
             cuts: 0,
             stuck: 0,
@@ -170,32 +184,38 @@ impl ReportBuilder {
         write_run(alloc, &mut self.bytes, self.run)?;
         write_answer(alloc, &mut self.bytes, program, taken, locals, answer)?;
         self.bytes.push(b'\n')?;
-        self.run = Run::Cuts(0);
-        self.answers = one_more(self.answers)?;
+        self.run = PendingRun::Cuts(0);
+        self.answers = raised(self.answers, 1)?;
         Ok(())
     }
 
-    /// A cut follows.
-    fn add_cut(&mut self, alloc: Global) -> Result<(), Memory>
+    /// So many cuts follow.
+    fn add_cuts(&mut self, alloc: Global, more: u64) -> Result<(), Memory>
         ensures { OnOk result ((program : NominalProgram) (query : ℕ)
-            (locals : list NominalLocal) (path : list ℕ) (os : list NominalOut) →
+            (locals : list NominalLocal) (os : list NominalOut) →
             report_with program query locals self.new os
-            ≡ report_with program query locals self.old (cut path ∷ os)) }
+            ≡ report_with program query locals self.old (replicate more (cut []) ++ os)) }
     {
-        self.cuts = one_more(self.cuts)?;
-        self.run = with_cut(alloc, &mut self.bytes, self.run)?;
+        if more == 0 {
+            return Ok(());
+        }
+        self.cuts = raised(self.cuts, more)?;
+        self.run = with_cuts(alloc, &mut self.bytes, self.run, more)?;
         Ok(())
     }
 
-    /// A stuck branch follows.
-    fn add_stuck(&mut self, alloc: Global) -> Result<(), Memory>
+    /// So many stuck branches follow.
+    fn add_stuck(&mut self, alloc: Global, more: u64) -> Result<(), Memory>
         ensures { OnOk result ((program : NominalProgram) (query : ℕ)
-            (locals : list NominalLocal) (path : list ℕ) (os : list NominalOut) →
+            (locals : list NominalLocal) (os : list NominalOut) →
             report_with program query locals self.new os
-            ≡ report_with program query locals self.old (stuck path ∷ os)) }
+            ≡ report_with program query locals self.old (replicate more (stuck []) ++ os)) }
     {
-        self.stuck = one_more(self.stuck)?;
-        self.run = with_stuck(alloc, &mut self.bytes, self.run)?;
+        if more == 0 {
+            return Ok(());
+        }
+        self.stuck = raised(self.stuck, more)?;
+        self.run = with_stuck(alloc, &mut self.bytes, self.run, more)?;
         Ok(())
     }
 
@@ -217,8 +237,30 @@ impl ReportBuilder {
     {
         match out {
             Out::Found(_, answer) => self.add_answer(alloc, program, taken, locals, answer),
-            Out::Cut(_) => self.add_cut(alloc),
-            Out::Stuck(_) => self.add_stuck(alloc),
+            Out::Cut(_) => self.add_cuts(alloc, 1),
+            Out::Stuck(_) => self.add_stuck(alloc, 1),
+        }
+    }
+
+    /// The outputs of a run follow, likewise.
+    pub fn push_run(
+        &mut self,
+        alloc: Global,
+        program: &Program<Term>,
+        taken: &Taken<'_>,
+        locals: &[Local],
+        run: &Run,
+    ) -> Result<(), Memory>
+        requires { IsTaken program.now.words taken.now }
+        ensures { OnOk result ((query : ℕ) (os : list NominalOut) →
+            report_with (program_of program.now) query (locals_of locals.now) self.new os
+            ≡ report_with (program_of program.now) query (locals_of locals.now) self.old
+            (outs_of_run run.now ++ os)) }
+    {
+        match run {
+            Run::One(out) => self.push(alloc, program, taken, locals, out),
+            Run::Cuts(count) => self.add_cuts(alloc, *count),
+            Run::Stuck(count) => self.add_stuck(alloc, *count),
         }
     }
 

@@ -1,4 +1,4 @@
-//! The report on a query by one worker.
+//! The report on a query by one worker, and that of the runs which several give.
 
 ghost use Rattle.std.specs.Prelude.{◌≡◌, ◌-◌, Some, IfOk, map, slice_get};
 ghost use Rattle.ap_defs.specs.Answers.{query_outs};
@@ -8,13 +8,14 @@ ghost use Rattle.ap_answers.specs.Words.{IsTaken};
 ghost use Rattle.ap_backchain.specs.Ends.{without_path};
 ghost use Rattle.ap_backchain.specs.Problems.{HasQuery, program_of_problem, queries_in};
 ghost use Rattle.ap_paths.specs.Limits.{part};
+ghost use Rattle.ap_paths.specs.Runs.{outs_of_runs};
 
 use crate::builder::ReportBuilder;
 use crate::search::Search;
 use ap_answers::words::Taken;
 use ap_backchain::problem::{Problem, query_of_problem};
 use ap_defs::memory::Memory;
-use ap_paths::Limit;
+use ap_paths::{Limit, Run};
 use std::alloc::Global;
 
 /// The report on a query to a depth up to the last answer that is wanted, where the words of the text are
@@ -43,4 +44,27 @@ pub fn stream_report(
         };
         builder.push(alloc, program, taken, locals, &out)?;
     }
+}
+
+/// The report on a query whose outputs are those of these runs, where the words of the text are known.
+pub fn report_of_runs(
+    alloc: Global,
+    taken: &Taken<'_>,
+    problem: &Problem<'_>,
+    runs: &[Run],
+) -> Result<Vec<u8>, Memory>
+    requires words { IsTaken problem.now.program.now.words taken.now }
+    requires query { HasQuery problem.now }
+    ensures { IfOk result (λ v. (q : NominalQuery) →
+        slice_get (queries_in problem.now) (problem.now.query - 1) ≡ Some q →
+        v.items ≡ query_lines (program_of_problem problem.now) problem.now.query q.locals
+        (outs_of_runs runs.now)) }
+{
+    let program = problem.program.program();
+    let locals = query_of_problem(problem).locals.items();
+    let mut builder = ReportBuilder::new(alloc);
+    'adding: for run in runs {
+        builder.push_run(alloc, program, taken, locals, run)?;
+    }
+    builder.finish(alloc, problem.query)
 }

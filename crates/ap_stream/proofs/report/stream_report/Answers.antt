@@ -1,5 +1,5 @@
 use Rattle.std.proofs.Common.{◌≡◌, ◌-◌, Some, List, sym, ap, ◌∙◌}
-use Rattle.std.specs.Prelude.{Option, slice_get}
+use Rattle.std.specs.Prelude.{slice_get}
 use Rattle.std.proofs.lemmas.Result.{IfOk-weaker}
 use Rattle.ap_defs.specs.Answers.{NominalOut}
 use Rattle.ap_defs.specs.Goals.{NominalQuery, program_of, query_of}
@@ -10,10 +10,8 @@ use Rattle.ap_defs.specs.declared.terms.Term.{Term}
 use Rattle.ap_backchain.specs.Problems.{program_of_problem, queries_in}
 use Rattle.ap_stream.specs.Builders.{report_with}
 use Rattle.ap_stream.specs.Coming.{outs_to_come}
+use Rattle.ap_stream.proofs.RunLemmas.{asked_once}
 use Rattle.ap_stream.proofs.report.stream_report.Goals as goal
-
-asked_once : {X : Type 0} (o : Option X) (x y : X) → o ≡ Some x → o ≡ Some y → x ≡ y
-asked_once o x y h k = cc
 
 pub searching-init : goal.searching-init
 searching-init c =

@@ -4,7 +4,7 @@ use Rattle.ap_defs.specs.Goals.{program_of}
 use Rattle.ap_defs.specs.Lines.{count_of, is_cut, is_found, is_stuck}
 use Rattle.ap_defs.specs.Types.{locals_of}
 use Rattle.ap_stream.specs.Builders.{built_text, totals_by}
-use Rattle.ap_stream.specs.declared.builder.Run.TheVariants as runs
+use Rattle.ap_stream.specs.declared.builder.PendingRun.TheVariants as runs
 use Rattle.ap_stream.proofs.LineLemmas.{answer_written}
 use Rattle.ap_stream.proofs.builder.ReportBuilder.add_answer.Goals as goal
 
