@@ -1,6 +1,8 @@
 pub mod FinishLemmas
 pub mod FreshLemmas
 pub mod MoveLemmas
+pub mod PartLemmas
+pub mod ReachLemmas
 pub mod ReducingLemmas
 pub mod ResultLemmas
 pub mod RunLemmas

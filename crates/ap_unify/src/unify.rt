@@ -13,8 +13,8 @@ ghost use Rattle.ap_unify.specs.Work.{equations_left};
 
 use crate::finish::finish;
 use crate::pairs::{ClosurePair, Work};
+use crate::runs::run;
 use crate::terms::Terms;
-use crate::work::run;
 use ap_defs::memory::Memory;
 use ap_perm::closures::Closure;
 use ap_store::store::Store;

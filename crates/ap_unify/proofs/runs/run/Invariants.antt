@@ -4,7 +4,7 @@ use Rattle.ap_store.specs.Triples.{IsPrefixOf}
 use Rattle.ap_store.specs.Views.{bindings_of, kinds, present, versions}
 use Rattle.ap_theory.proofs.TerminationLemmas.{steps_left}
 use Rattle.ap_unify.specs.Work.{ArePairsBelow, GoOn, work_stage}
-use Rattle.ap_unify.proofs.work.run.Given as goal
+use Rattle.ap_unify.proofs.runs.run.Given as goal
 
 -- the run goes on to the same ending
 abbrev pub invariant-rewriting : goal.invariant-rewriting
