@@ -6,7 +6,7 @@ use Rattle.ap_defs.specs.Freshness.{has_cond}
 use Rattle.ap_defs.specs.Renaming.{AreBelow, IsBelow, rename_term}
 use Rattle.ap_defs.specs.Substitution.{Binding, Equation, Problem, moved, put_binding, under, ◌#◌, ◌:=◌}
 use Rattle.ap_defs.specs.Terms.{NominalTerm, term_of}
-use Rattle.ap_defs.specs.Unification.{Progress, Rule, apply_rule, bind, done, fresh_for, next, replace, step}
+use Rattle.ap_defs.specs.Unification.{Progress, Rule, apply_rule, bind, fresh_for, next, replace}
 use Rattle.ap_defs.specs.declared.terms.Name.{Name}
 use Rattle.ap_defs.specs.declared.terms.Term.{Term}
 use Rattle.ap_defs.specs.declared.terms.Var.{Var}
@@ -20,7 +20,7 @@ use Rattle.ap_theory.specs.Variables.{IsUnbound}
 use Rattle.ap_unify.proofs.FinishLemmas.{taken_more}
 use Rattle.ap_unify.proofs.RunLemmas.{bind_in_under, names_under, replaced}
 use Rattle.ap_unify.specs.Runs.{equation_under, problem_under, stage_under}
-use Rattle.ap_unify.specs.Work.{ArePairsBelow, GoOn, IsPairBelow, opened_under, pair_equation, pair_under, problem_for, problems_met, work_stage}
+use Rattle.ap_unify.specs.Work.{ArePairsBelow, GoOn, IsPairBelow, opened_under, pair_equation, pair_under, problem_for}
 use Rattle.ap_unify.specs.declared.pairs.ClosurePair.{ClosurePair}
 use Rattle.ap_unify.specs.declared.pairs.FreshFor.{FreshFor}
 use Rattle.ap_unify.specs.declared.pairs.Work.{Work}
@@ -124,9 +124,6 @@ go_on_on a b c u v w h k = record {
 
 pub goes_on_on : (as' bs cs : List Triple) → IsPrefixOf as' bs → IsPrefixOf bs cs → IsPrefixOf as' cs
 goes_on_on as' bs cs (es, e) (fs, f) = (es ++ fs, f ∙ ap (λ z. z ++ fs) e ∙ append_assoc as' es fs)
-
-pub no_equation : (s : List Binding) (w : Work) → w.equations.items ≡ [] → step (work_stage s w) ≡ done
-no_equation s w e = ap (λ es. step (stage_under s (map pair_equation (reverse es)) (problems_met w))) e
 
 -- the first of the later terms is below
 below_dropped : (n i : ℕ) (ts : List NominalTerm) → AreBelow n ts → AreBelow n (drop i ts)
