@@ -1,6 +1,9 @@
+pub mod BehindLemmas
 pub mod FinishLemmas
 pub mod FreshLemmas
 pub mod MoveLemmas
+pub mod PartLemmas
+pub mod ReachLemmas
 pub mod ReducingLemmas
 pub mod ResultLemmas
 pub mod RunLemmas

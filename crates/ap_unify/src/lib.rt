@@ -3,9 +3,13 @@
 
 mod finish;
 pub mod fresh;
+mod heads;
 mod moves;
 mod pairs;
+mod parts;
+mod plain;
 mod reducing;
+mod runs;
 pub mod terms;
 pub mod unify;
 mod work;

@@ -1,15 +1,15 @@
-//! A run of unification, from the first equation to the last.
+//! What the rules make of the work that is left.
 
-ghost use Rattle.std.specs.Prelude.{◌≡◌, ◌<◌, ◌∷◌, [], ◌++◌, false, true, IfOk, OnOk, map, vec_len};
+ghost use Rattle.std.specs.Prelude.{◌≡◌, ◌<◌, ◌∷◌, [], ◌++◌, false, IfOk, OnOk, map};
 ghost use Rattle.ap_defs.specs.Renaming.{IsBelow};
 ghost use Rattle.ap_defs.specs.Substitution.{occurs, ◌#◌};
-ghost use Rattle.ap_defs.specs.Unification.{apply_rule, bind, ending, fresh_for, next, rule, step};
+ghost use Rattle.ap_defs.specs.Unification.{apply_rule, bind, fresh_for, next, rule, step};
 ghost use Rattle.ap_perm.specs.Closures.{closure_term};
 ghost use Rattle.ap_store.specs.Triples.{IsPrefixOf};
 ghost use Rattle.ap_store.specs.Views.{bindings_of, kinds, meaning_in, present, versions};
 ghost use Rattle.ap_theory.specs.Variables.{IsUnbound};
-ghost use Rattle.ap_unify.specs.Runs.{equation_under, problem_under};
-ghost use Rattle.ap_unify.specs.Work.{ArePairsBelow, GoOn, IsMoveFit, IsPairBelow, ending_if, equations_left, move_under, problems_met, progress_if, work_stage};
+ghost use Rattle.ap_unify.specs.Runs.{equation_under, problem_under, stage_under};
+ghost use Rattle.ap_unify.specs.Work.{GoOn, IsMoveFit, IsPairBelow, equations_left, move_under, pair_equation, problems_met, progress_if, work_stage};
 
 use crate::moves::{Move, rule_for};
 use crate::pairs::{ClosurePair, FreshFor, Work};
@@ -20,7 +20,7 @@ use ap_store::store::Store;
 use std::alloc::Global;
 
 /// Puts an equation in front.
-fn put_equation<'a>(work: &mut Work<'a>, e: ClosurePair<'a>) -> Result<(), Memory>
+pub fn put_equation<'a>(work: &mut Work<'a>, e: ClosurePair<'a>) -> Result<(), Memory>
     ensures equations { OnOk result (work.new.equations.items
         ≡ work.old.equations.items ++ e.entry ∷ []) }
     ensures problems { work.new.problems.items ≡ work.old.problems.items }
@@ -79,7 +79,7 @@ fn put_names<'a>(work: &mut Work<'a>, names: &[Name], x: Var) -> Result<(), Memo
 }
 
 /// Binds a variable, and takes the conditions on it out of the store.
-fn bind_var<'a>(
+pub fn bind_var<'a>(
     alloc: Global,
     store: &mut Store<'a>,
     work: &mut Work<'a>,
@@ -161,38 +161,22 @@ fn rule_at<'a>(alloc: Global, store: &Store<'a>, e: ClosurePair<'a>) -> Result<M
     rule_for(alloc, store, left, right)
 }
 
-/// One step: false where there is no solution.
-fn advance<'a>(alloc: Global, store: &mut Store<'a>, work: &mut Work<'a>) -> Result<bool, Memory>
-    requires some { 0 < vec_len work.old.equations }
-    requires below { ArePairsBelow (present store.old).next work.old.equations.items }
+/// The rule for an equation in front of those that are left. It answers false where that is no
+/// solution.
+pub fn by_rule<'a>(
+    alloc: Global,
+    store: &mut Store<'a>,
+    work: &mut Work<'a>,
+    e: ClosurePair<'a>,
+) -> Result<bool, Memory>
+    requires { IsPairBelow (present store.old).next e }
     ensures stage { IfOk result (λ goes_on. progress_if goes_on (work_stage
-        (bindings_of store.new) work.new)
-        ≡ step (work_stage (bindings_of store.old) work.old)) }
+        (bindings_of store.new) work.new) ≡ step (stage_under (bindings_of store.old)
+        (pair_equation e.entry ∷ equations_left work.old) (problems_met work.old))) }
     ensures goes_on { OnOk result (GoOn (present store.old) work.old (present store.new) work.new) }
     ensures past { IsPrefixOf (versions store.old) (versions store.new) }
     ensures kinds { kinds store.new ≡ kinds store.old }
 {
-    let Some(first) = work.equations.pop() else {
-        return Ok(true);
-    };
-    let m = rule_at(alloc, store, first)?;
+    let m = rule_at(alloc, store, e)?;
     carry_out(alloc, store, work, m)
-}
-
-/// Rewrites equations from the first, until none is left or there is no solution.
-pub fn run<'a>(alloc: Global, store: &mut Store<'a>, work: &mut Work<'a>) -> Result<bool, Memory>
-    requires { ArePairsBelow (present store.old).next work.old.equations.items }
-    ensures ending { IfOk result (λ solved. ending (work_stage (bindings_of store.old)
-        work.old) ≡ ending_if solved (work_stage (bindings_of store.new) work.new)) }
-    ensures left { IfOk result (λ solved. solved ≡ true → work.new.equations.items ≡ []) }
-    ensures goes_on { OnOk result (GoOn (present store.old) work.old (present store.new) work.new) }
-    ensures past { IsPrefixOf (versions store.old) (versions store.new) }
-    ensures kinds { kinds store.new ≡ kinds store.old }
-{
-    'rewriting: while !work.equations.is_empty() {
-        if !advance(alloc, store, work)? {
-            return Ok(false);
-        }
-    }
-    Ok(true)
 }

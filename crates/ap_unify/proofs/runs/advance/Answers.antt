@@ -1,0 +1,37 @@
+use Rattle.std.proofs.Common.{[], ◌∷◌, ◌∙◌, List, ap, map, refl, reverse, subst, sym}
+use Rattle.ap_defs.specs.Substitution.{Equation}
+use Rattle.ap_fresh.proofs.StepLemmas.{on_ok}
+use Rattle.ap_store.specs.Views.{bindings_of, present}
+use Rattle.ap_unify.proofs.WorkLemmas.{go_on_on, go_same, if_ok, pairs_below_front, pairs_below_last, put_last}
+use Rattle.ap_unify.proofs.runs.advance.Goals as goal
+use Rattle.ap_unify.specs.Parts.{LeadsTo}
+use Rattle.ap_unify.specs.Runs.{stage_under}
+use Rattle.ap_unify.specs.Work.{ArePairsBelow, pair_equation, problems_met, progress_if, work_stage}
+use Rattle.ap_unify.specs.declared.pairs.ClosurePair.{ClosurePair}
+use Rattle.ap_unify.specs.declared.pairs.Work.{Work}
+
+pub advance_by-requires : goal.advance_by-requires
+advance_by-requires c =
+    let n = (present c.args.store.now).next in
+    pairs_below_last n c.pop.new.self.items c.in-Some.first (subst (ArePairsBelow n) c.in-Some.ensures.items c.requires.below)
+
+pub returns-clause-stage : goal.returns-clause-stage
+returns-clause-stage c =
+    let s = bindings_of c.args.store.now in
+    let w = c.args.work.now in
+    let last = work_stage (bindings_of c.advance_by.new.store) c.advance_by.new.work in
+    if_ok c.advance_by.result
+    (λ goes_on h.
+    subst (λ (es : List Equation). LeadsTo (stage_under s es (problems_met w)) (progress_if goes_on last))
+    (sym (ap (λ (es : List ClosurePair). map pair_equation (reverse es)) c.in-Some.ensures.items ∙ put_last c.pop.new.self.items c.in-Some.first)) h)
+    c.advance_by.ensures.stage
+
+pub returns-clause-goes_on : goal.returns-clause-goes_on
+returns-clause-goes_on c =
+    let a = present c.args.store.now in
+    let w = c.args.work.now in
+    let rest : Work = record { equations = c.pop.new.self; problems = w.problems; taken = w.taken } in
+    on_ok c.advance_by.result
+    (go_on_on a a (present c.advance_by.new.store) w rest c.advance_by.new.work
+    (go_same a w rest (λ h. pairs_below_front a.next c.pop.new.self.items (c.in-Some.first ∷ []) (subst (ArePairsBelow a.next) c.in-Some.ensures.items h)) refl))
+    c.advance_by.ensures.goes_on
