@@ -9,6 +9,8 @@ pub mod ShapeLemmas
 pub mod NameLemmas
 pub mod TableLemmas
 pub mod LoadLemmas
+pub mod PartLemmas
 pub mod JoinLemmas
 pub mod WalkLemmas
+pub mod WritingLemmas
 pub mod SettledLemmas

@@ -70,6 +70,9 @@ one_need p ds d e = ap (all_are_in p) e ∙ elim (p d) as (λ b. (b && true) ≡
 pub same_numbers : (m n : ℕ) → m ≡ n → (m == n) ≡ true
 same_numbers m n e = elim (eqb_tells m n) [ inl w ↦ w.0 | inr w ↦ absurd (w.1 e) ]
 
+pub other_numbers : (m n : ℕ) → (m ≡ n → ⊥) → (m == n) ≡ false
+other_numbers m n d = elim (eqb_tells m n) [ inl w ↦ absurd (d w.1) | inr w ↦ w.0 ]
+
 some_holds_suc : (sort : ℕ) (p : ℕ → Bool) (ts : List Ty) (i : ℕ) (t : Ty) → i < length ts → t ≡ get_or ts i t
     → (some_holds sort p (map type_of (take i ts)) || holds_if sort p (type_of t)) ≡ some_holds sort p (map type_of (take (suc i) ts))
 some_holds_suc sort p [] i t l e = absurd (omega arith)

@@ -1,10 +1,11 @@
 -- Laws of shapes with holes.
-use Rattle.std.proofs.Common.{◌≡◌, ◌<◌, ◌≤◌, ◌+◌, ℕ, true, refl, ap, ap₂, inl, inr, arith}
+use Rattle.std.proofs.Common.{◌≡◌, ◌<◌, ◌≤◌, ℕ, true, refl, ap, ap₂, inl, inr, arith}
 use Rattle.std.specs.Prelude.{◌==◌}
 use Rattle.std.proofs.lemmas.Bool.Decides.{eqb_tells}
 use Rattle.ap_defs.specs.Types.{TypeShape, hole, unit, names, base, pair, list, abs}
 use Rattle.ap_types.specs.Equations.{Filling, filled, bound_of}
 use Rattle.ap_types.specs.Solving.{occurs_in_shape}
+pub use Rattle.ap_types.specs.Solving.{size}
 use Rattle.ap_types.proofs.BooleanLemmas.{or_cases, or_if_left, or_if_right}
 
 pub filled_filled : (f g : Filling) (t : TypeShape) → filled g (filled f t) ≡ filled (λ y. filled g (f y)) t
@@ -54,16 +55,6 @@ occurs_bound x (base d) e = cc
 occurs_bound x (pair t u) e = elim (or_cases (occurs_in_shape x t) (occurs_in_shape x u) e) [ inl i ↦ let l = occurs_bound x t i in omega arith | inr i ↦ let l = occurs_bound x u i in omega arith ]
 occurs_bound x (list t) e = occurs_bound x t e
 occurs_bound x (abs t u) e = elim (or_cases (occurs_in_shape x t) (occurs_in_shape x u) e) [ inl i ↦ let l = occurs_bound x t i in omega arith | inr i ↦ let l = occurs_bound x u i in omega arith ]
-
--- how large a shape is
-abbrev pub size : TypeShape → ℕ
-size (hole x) = 1
-size unit = 1
-size (names s) = 1
-size (base d) = 1
-size (pair t u) = 1 + size t + size u
-size (list t) = 1 + size t
-size (abs t u) = 1 + size t + size u
 
 -- what stands for a hole is no larger than the shape that has it
 pub size_occurs : (f : Filling) (x : ℕ) (t : TypeShape) → occurs_in_shape x t ≡ true → size (f x) ≤ size (filled f t)

@@ -6,13 +6,13 @@ use Rattle.ap_defs.specs.Types.{TypeShape, hole, unit, names, base, pair, list, 
 use Rattle.ap_types.specs.declared.walking.Mark.{Mark}
 use Rattle.ap_types.specs.declared.walking.Mark.TheVariants as marks
 use Rattle.ap_types.specs.Equations.{Filling, filled, bound_of}
-use Rattle.ap_types.specs.Solving.{occurs_in_shape, shape_at}
+use Rattle.ap_types.specs.Solving.{occurs_in_shape, shape_at, size}
 use Rattle.ap_types.specs.Triangular.{read, value_of, Fits, IsFormed, AreFormed, IsSettledTable}
 use Rattle.ap_types.specs.Joining.{count_below}
 use Rattle.ap_types.specs.Walking.{is_part, IsPart, walk_mark_at, is_left, is_unvisited, IsPath, Stands, ArePlacesBelow, IsWalk, StayLeft, new_count, PassesAlong, HasLeft, NoneFits}
 use Rattle.ap_types.proofs.BooleanLemmas.{or_cases}
 use Rattle.ap_types.proofs.CountLemmas.{count_less, count_most, count_grows}
-use Rattle.ap_types.proofs.ShapeLemmas.{size, size_occurs, occurs_bound, filled_same, number_same}
+use Rattle.ap_types.proofs.ShapeLemmas.{size_occurs, occurs_bound, filled_same, number_same}
 use Rattle.ap_types.proofs.TableLemmas.{at_past}
 use Rattle.ap_types.proofs.JoinLemmas.{equal_or_not}
 

@@ -9,5 +9,7 @@ pub mod Solving
 pub mod Assignments
 pub mod Triangular
 pub mod Joining
+pub mod Loading
+pub mod Writing
 pub mod Walking
 pub mod Tables

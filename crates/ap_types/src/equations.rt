@@ -1,10 +1,11 @@
 //! Equations of types.
 
-ghost use Rattle.std.specs.Prelude.{◌≡◌, ◌↔◌, ℕ, ◌+◌, ◌≤◌, [], ◌∷◌, length, map, max, IsTrue, IfOk, IfErr};
+ghost use Rattle.std.specs.Prelude.{◌≡◌, ◌↔◌, ℕ, ◌+◌, ◌≤◌, [], ◌∷◌, ◌++◌, length, map, max, IsTrue, IfOk, IfErr, OnOk};
 ghost use Rattle.ap_defs.specs.Types.{shape_of};
 ghost use Rattle.ap_types.specs.Equations.{equation_of, bound_of, equations_bound, names_bound, hole_count, Filling, IsSolution, IsShapeInstance, GivesNames};
 ghost use Rattle.ap_types.specs.Assignments.{AreNames, IsUnsolvable, name_equation, name_equations, Narrows};
 ghost use Rattle.ap_types.specs.Triangular.{shapes_of_nodes, AreFormed, IsSettledTable, assignment_of};
+ghost use Rattle.ap_types.specs.Loading.{lent_shapes, own_bound, parts_of};
 ghost use Rattle.ap_types.specs.Joining.{ArePairsWithin, NeverAgree, LoadsSystem, Settles};
 
 use crate::errors::TypesError;
@@ -36,33 +37,58 @@ fn after(x: u64) -> Result<usize, Memory>
     Ok(x as usize + 1)
 }
 
-/// One more than the greatest hole of a shape.
-fn bound_in(t: &Shape) -> Result<usize, Memory>
-    ensures { IfOk result (λ n. n ≡ bound_of (shape_of t.now)) }
+/// One more than a shape's number where it is a hole.
+fn own_bound(t: &Shape) -> Result<usize, Memory>
+    ensures { IfOk result (λ n. n ≡ own_bound (shape_of t.now)) }
 {
-    let mut bound = 0;
-    let mut rest = t;
-    loop {
-        match rest {
-            Shape::Hole(x) => return Ok(greater(bound, after(*x)?)),
-            Shape::Unit | Shape::Names(_) | Shape::Base(_) => return Ok(bound),
-            Shape::Pair(left, right) | Shape::Abs(left, right) => {
-                bound = greater(bound, bound_in(left)?);
-                rest = right;
-            }
-            Shape::List(element) => rest = element,
-        }
+    match t {
+        Shape::Hole(x) => after(*x),
+        _ => Ok(0),
     }
 }
 
+/// The parts of a shape wait.
+fn push_parts<'a>(waiting: &mut Vec<&'a Shape>, t: &'a Shape) -> Result<(), Memory>
+    ensures { OnOk result (lent_shapes waiting.new.items
+        ≡ lent_shapes waiting.old.items ++ parts_of (shape_of t.now)) }
+{
+    match t {
+        Shape::Hole(_) | Shape::Unit | Shape::Names(_) | Shape::Base(_) => {}
+        Shape::Pair(left, right) => {
+            waiting.push(left)?;
+            waiting.push(right)?;
+        }
+        Shape::List(element) => waiting.push(element)?,
+        Shape::Abs(left, right) => {
+            waiting.push(left)?;
+            waiting.push(right)?;
+        }
+    }
+    Ok(())
+}
+
+/// One more than the greatest hole of a shape. The parts that are left stand on a stack.
+fn bound_in(alloc: Global, t: &Shape) -> Result<usize, Memory>
+    ensures { IfOk result (λ n. n ≡ bound_of (shape_of t.now)) }
+{
+    let mut bound = 0;
+    let mut waiting = Vec::new(alloc);
+    waiting.push(t)?;
+    'parts: while let Some(part) = waiting.pop() {
+        bound = greater(bound, own_bound(part)?);
+        push_parts(&mut waiting, part)?;
+    }
+    Ok(bound)
+}
+
 /// One more than the greatest hole of equations.
-fn bound_in_equations(equations: &[(Shape, Shape)]) -> Result<usize, Memory>
+fn bound_in_equations(alloc: Global, equations: &[(Shape, Shape)]) -> Result<usize, Memory>
     ensures { IfOk result (λ n. n ≡ equations_bound (map equation_of equations.now)) }
 {
     let mut bound = 0;
     for e in equations {
-        let left = bound_in(&e.0)?;
-        let right = bound_in(&e.1)?;
+        let left = bound_in(alloc, &e.0)?;
+        let right = bound_in(alloc, &e.1)?;
         bound = greater(bound, greater(left, right));
     }
     Ok(bound)
@@ -114,8 +140,8 @@ fn load_system(
     let by_names = equations_of_names(alloc, names, name_types)?;
     let nodes = open_places(alloc, holes)?;
     let pairs = Vec::new(alloc);
-    let loaded = load_all(Loaded { nodes, pairs }, equations)?;
-    load_all(loaded, by_names.as_slice())
+    let loaded = load_all(alloc, Loaded { nodes, pairs }, equations)?;
+    load_all(alloc, loaded, by_names.as_slice())
 }
 
 /// The table in which the pairs of places have become alike.
@@ -149,7 +175,7 @@ fn narrowed(
     ensures clash { IfErr result (λ e. e ≡ TypesError.Clash →
         IsUnsolvable (map equation_of equations.now) names.now name_types) }
 {
-    let in_equations = bound_in_equations(equations)?;
+    let in_equations = bound_in_equations(alloc, equations)?;
     let in_names = bound_in_names(names)?;
     let holes = greater(in_equations, in_names);
     let loaded = load_system(alloc, equations, names, name_types, holes)?;

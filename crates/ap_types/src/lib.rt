@@ -13,3 +13,4 @@ pub mod nodes;
 mod rounds;
 pub mod solved;
 mod walking;
+mod writing;

@@ -1,10 +1,11 @@
 //! Shapes and equations put into a table.
 
-ghost use Rattle.std.specs.Prelude.{◌≡◌, ℕ, ◌<◌, ◌≤◌, ◌++◌, ◌∷◌, [], length, map, IfOk};
+ghost use Rattle.std.specs.Prelude.{◌≡◌, ℕ, ◌+◌, ◌<◌, ◌≤◌, ◌++◌, ◌∷◌, [], length, map, IfOk, OnOk};
 ghost use Rattle.ap_defs.specs.Types.{shape_of, hole};
 ghost use Rattle.ap_types.specs.Equations.{◌≐◌, equation_of, bound_of, equations_bound};
 ghost use Rattle.ap_types.specs.Solving.{shape_at};
-ghost use Rattle.ap_types.specs.Triangular.{shapes_of_nodes, AreFormed};
+ghost use Rattle.ap_types.specs.Triangular.{layer_of, shapes_of_nodes, AreFormed};
+ghost use Rattle.ap_types.specs.Loading.{lent_shapes, taken, place_in, parts_taken, entry_in};
 ghost use Rattle.ap_types.specs.Joining.{ArePairsWithin, Loads, LoadsAll};
 
 use crate::nodes::Node;
@@ -31,47 +32,84 @@ pub(crate) fn open_places(alloc: Global, count: usize) -> Result<Vec<Node>, Memo
     Ok(nodes)
 }
 
-/// Appends an entry, and gives its place.
-fn add(nodes: &mut Vec<Node>, node: Node) -> Result<usize, Memory>
-    ensures place { IfOk result (λ x. x ≡ length nodes.old.items) }
-    ensures added { IfOk result (λ x. nodes.new.items ≡ nodes.old.items ++ node ∷ []) }
+/// The place of a part of a shape, where the places behind `first` are those of the parts in `waiting`: a
+/// hole is the place of its number, and each other part waits for the next one. Numbers that are past the
+/// greatest are refused as want of memory is.
+fn place_of<'a>(first: usize, waiting: &mut Vec<&'a Shape>, t: &'a Shape) -> Result<usize, Memory>
+    ensures place { IfOk result (λ x. x
+        ≡ place_in (first + length waiting.old.items) (shape_of t.now)) }
+    ensures waiting { OnOk result (lent_shapes waiting.new.items
+        ≡ lent_shapes waiting.old.items ++ taken (shape_of t.now)) }
+    ensures count { OnOk result (length waiting.new.items
+        ≡ length waiting.old.items + length (taken (shape_of t.now))) }
 {
-    let place = nodes.len();
-    nodes.push(node)?;
+    if let Shape::Hole(x) = t {
+        return Ok(*x as usize);
+    }
+    let Some(place) = first.checked_add(waiting.len()) else {
+        return Err(Memory);
+    };
+    waiting.push(t)?;
     Ok(place)
 }
 
-/// Puts a shape into a table, and gives its place; a hole is the place of its number.
-fn load(nodes: &mut Vec<Node>, t: &Shape) -> Result<usize, Memory>
+/// The entry of a shape. Its parts wait for their places.
+fn entry_of<'a>(first: usize, waiting: &mut Vec<&'a Shape>, t: &'a Shape) -> Result<Node, Memory>
+    ensures entry { IfOk result (λ n. layer_of n
+        ≡ entry_in (first + length waiting.old.items) (shape_of t.now)) }
+    ensures waiting { OnOk result (lent_shapes waiting.new.items
+        ≡ lent_shapes waiting.old.items ++ parts_taken (shape_of t.now)) }
+{
+    match t {
+        Shape::Hole(x) => Ok(Node::Place(*x as usize)),
+        Shape::Unit => Ok(Node::Unit),
+        Shape::Names(sort) => Ok(Node::Names(*sort)),
+        Shape::Base(base) => Ok(Node::Base(*base)),
+        Shape::Pair(left, right) => {
+            let left = place_of(first, waiting, left)?;
+            let right = place_of(first, waiting, right)?;
+            Ok(Node::Pair(left, right))
+        }
+        Shape::List(element) => {
+            let element = place_of(first, waiting, element)?;
+            Ok(Node::List(element))
+        }
+        Shape::Abs(left, right) => {
+            let left = place_of(first, waiting, left)?;
+            let right = place_of(first, waiting, right)?;
+            Ok(Node::Abs(left, right))
+        }
+    }
+}
+
+/// Puts a shape into a table, and gives its place; a hole is the place of its number. Each entry takes the
+/// next place, and its parts wait for theirs behind all that wait already.
+fn load(alloc: Global, nodes: &mut Vec<Node>, t: &Shape) -> Result<usize, Memory>
     requires formed { AreFormed (shapes_of_nodes nodes.old.items) }
     requires bound { bound_of (shape_of t.now) ≤ length nodes.old.items }
     ensures { IfOk result (λ x. Loads (shapes_of_nodes nodes.old.items) (shape_of t.now)
         (shapes_of_nodes nodes.new.items) x) }
 {
-    match t {
-        Shape::Hole(x) => Ok(*x as usize),
-        Shape::Unit => add(nodes, Node::Unit),
-        Shape::Names(sort) => add(nodes, Node::Names(*sort)),
-        Shape::Base(base) => add(nodes, Node::Base(*base)),
-        Shape::Pair(left, right) => {
-            let left = load(nodes, left)?;
-            let right = load(nodes, right)?;
-            add(nodes, Node::Pair(left, right))
-        }
-        Shape::List(element) => {
-            let element = load(nodes, element)?;
-            add(nodes, Node::List(element))
-        }
-        Shape::Abs(left, right) => {
-            let left = load(nodes, left)?;
-            let right = load(nodes, right)?;
-            add(nodes, Node::Abs(left, right))
-        }
+    let first = nodes.len();
+    let mut waiting = Vec::new(alloc);
+    let start = place_of(first, &mut waiting, t)?;
+    let mut next = 0;
+    'parts: while next < waiting.len() {
+        let part = waiting[next];
+        let entry = entry_of(first, &mut waiting, part)?;
+        nodes.push(entry)?;
+        next += 1;
     }
+    Ok(start)
 }
 
 /// Puts both sides of an equation into a table, with the pair of their places.
-fn load_equation(loaded: Loaded, left: &Shape, right: &Shape) -> Result<Loaded, Memory>
+fn load_equation(
+    alloc: Global,
+    loaded: Loaded,
+    left: &Shape,
+    right: &Shape,
+) -> Result<Loaded, Memory>
     requires formed { AreFormed (shapes_of_nodes loaded.nodes.items) }
     requires left { bound_of (shape_of left.now) ≤ length loaded.nodes.items }
     requires right { bound_of (shape_of right.now) ≤ length loaded.nodes.items }
@@ -84,14 +122,18 @@ fn load_equation(loaded: Loaded, left: &Shape, right: &Shape) -> Result<Loaded, 
         mut nodes,
         mut pairs,
     } = loaded;
-    let left = load(&mut nodes, left)?;
-    let right = load(&mut nodes, right)?;
+    let left = load(alloc, &mut nodes, left)?;
+    let right = load(alloc, &mut nodes, right)?;
     pairs.push((left, right))?;
     Ok(Loaded { nodes, pairs })
 }
 
 /// Puts equations into a table, with the pairs of their sides' places.
-pub(crate) fn load_all(loaded: Loaded, equations: &[(Shape, Shape)]) -> Result<Loaded, Memory>
+pub(crate) fn load_all(
+    alloc: Global,
+    loaded: Loaded,
+    equations: &[(Shape, Shape)],
+) -> Result<Loaded, Memory>
     requires formed { AreFormed (shapes_of_nodes loaded.nodes.items) }
     requires bound { equations_bound (map equation_of equations.now) ≤ length loaded.nodes.items }
     requires within { ArePairsWithin (length loaded.nodes.items) loaded.pairs.items }
@@ -100,7 +142,7 @@ pub(crate) fn load_all(loaded: Loaded, equations: &[(Shape, Shape)]) -> Result<L
 {
     let mut all = loaded;
     for e in equations {
-        all = load_equation(all, &e.0, &e.1)?;
+        all = load_equation(alloc, all, &e.0, &e.1)?;
     }
     Ok(all)
 }

@@ -2,7 +2,7 @@
 //!
 //! Each walk goes on along what is last in a type, and calls itself on left parts of pairs alone.
 
-ghost use Rattle.std.specs.Prelude.{◌≡◌, ℕ, List as list, [], ◌∷◌, ◌++◌, map, Bool, ◌&&◌, IfOk, OnOk};
+ghost use Rattle.std.specs.Prelude.{◌≡◌, ℕ, List as list, [], ◌∷◌, ◌++◌, map, Bool, ◌&&◌, ◌==◌, IfOk, OnOk};
 ghost use Rattle.ap_defs.specs.Types.{NominalConstructor, type_of, constructor_of};
 ghost use Rattle.ap_types.specs.Rounds.{marked, IsLeastSet};
 ghost use Rattle.ap_types.specs.Inhabited.{inhabited_if, all_inhabited};
@@ -117,6 +117,29 @@ fn add_rule(rules: &mut Vec<Rule>, gives: u32, needs: Vec<u32>) -> Result<(), Me
     Ok(rules.push(Rule { gives, needs })?)
 }
 
+/// The rule by which a data type holds names of a sort, where a name type is that sort.
+fn add_names(
+    alloc: Global,
+    sort: u32,
+    gives: u32,
+    other: u32,
+    rules: &mut Vec<Rule>,
+) -> Result<(), Memory>
+    ensures { OnOk result (Adds rules.old.items rules.new.items (λ p. other == sort) gives) }
+{
+    if other != sort {
+        return Ok(());
+    }
+    add_rule(rules, gives, Vec::new(alloc))
+}
+
+/// The rule by which a data type may hold names where another one may.
+fn add_base(alloc: Global, gives: u32, base: u32, rules: &mut Vec<Rule>) -> Result<(), Memory>
+    ensures { OnOk result (Adds rules.old.items rules.new.items (λ p. p base) gives) }
+{
+    add_rule(rules, gives, vec![in alloc; base]?)
+}
+
 /// The rules by which a data type may hold names of a sort where a type may.
 fn add_holding(
     alloc: Global,
@@ -128,21 +151,19 @@ fn add_holding(
     ensures { OnOk result (Adds rules.old.items rules.new.items
         (λ p. holds_if sort p (type_of ty.now)) gives) }
 {
-    match ty {
-        Ty::Unit => Ok(()),
-        Ty::Names(other) => {
-            if *other == sort {
-                add_rule(rules, gives, Vec::new(alloc))?;
+    let mut rest = ty;
+    loop {
+        match rest {
+            Ty::Unit => return Ok(()),
+            Ty::Names(other) => return add_names(alloc, sort, gives, *other, rules),
+            Ty::Base(base) => return add_base(alloc, gives, *base, rules),
+            Ty::Pair(left, right) => {
+                add_holding(alloc, sort, gives, left, rules)?;
+                rest = right;
             }
-            Ok(())
+            Ty::List(element) => rest = element,
+            Ty::Abs(_, body) => rest = body,
         }
-        Ty::Base(base) => add_rule(rules, gives, vec![in alloc; *base]?),
-        Ty::Pair(left, right) => {
-            add_holding(alloc, sort, gives, left, rules)?;
-            add_holding(alloc, sort, gives, right, rules)
-        }
-        Ty::List(element) => add_holding(alloc, sort, gives, element, rules),
-        Ty::Abs(_, body) => add_holding(alloc, sort, gives, body, rules),
     }
 }
 

@@ -7,8 +7,8 @@ ghost use Rattle.ap_types.specs.Solving.{shape_at};
 ghost use Rattle.ap_types.specs.Assignments.{IsNameOrHole, AreNamesOrHoles};
 ghost use Rattle.ap_types.specs.Triangular.{shapes_of_nodes, value_of, IsSettledTable, assignment_of};
 
-use crate::joining::link_of;
 use crate::nodes::Node;
+use crate::writing::{entry_at, value_in};
 use ap_defs::memory::Memory;
 use ap_defs::terms::Shape;
 use std::alloc::Global;
@@ -20,42 +20,6 @@ use std::alloc::Global;
 pub struct Solved {
     pub nodes: Vec<Node>,
     pub holes: usize,
-}
-
-/// The shape of a place, written out.
-fn value_in(alloc: Global, nodes: &[Node], x: usize) -> Result<Shape, Memory>
-    requires { IsSettledTable (shapes_of_nodes nodes.now) }
-    ensures { IfOk result (λ t. shape_of t ≡ value_of (shapes_of_nodes nodes.now) x) }
-{
-    if x >= nodes.len() {
-        return Ok(Shape::Hole(x as u64));
-    }
-    match nodes[x] {
-        Node::Place(y) => {
-            if y == x {
-                Ok(Shape::Hole(x as u64))
-            } else {
-                value_in(alloc, nodes, y)
-            }
-        }
-        Node::Unit => Ok(Shape::Unit),
-        Node::Names(sort) => Ok(Shape::Names(sort)),
-        Node::Base(base) => Ok(Shape::Base(base)),
-        Node::Pair(y, z) => {
-            let left = Box::new(alloc, value_in(alloc, nodes, y)?)?;
-            let right = Box::new(alloc, value_in(alloc, nodes, z)?)?;
-            Ok(Shape::Pair(left, right))
-        }
-        Node::List(y) => {
-            let element = Box::new(alloc, value_in(alloc, nodes, y)?)?;
-            Ok(Shape::List(element))
-        }
-        Node::Abs(y, z) => {
-            let left = Box::new(alloc, value_in(alloc, nodes, y)?)?;
-            let right = Box::new(alloc, value_in(alloc, nodes, z)?)?;
-            Ok(Shape::Abs(left, right))
-        }
-    }
 }
 
 /// The shape of a hole in the assignment that a table stands for, written out. `Err` is want of memory.
@@ -86,16 +50,7 @@ fn is_name_or_hole(name_types: u32, nodes: &[Node], x: usize) -> bool
     requires { IsSettledTable (shapes_of_nodes nodes.now) }
     ensures { IsTrue result ↔ IsNameOrHole name_types (value_of (shapes_of_nodes nodes.now) x) }
 {
-    if x >= nodes.len() {
-        return true;
-    }
-    let mut at = x;
-    let mut next = link_of(nodes, at);
-    'links: while next != at {
-        at = next;
-        next = link_of(nodes, at);
-    }
-    match nodes[at] {
+    match entry_at(nodes, x) {
         Node::Place(_) => true,
         Node::Names(sort) => sort < name_types,
         _ => false,
