@@ -105,7 +105,7 @@ module _ (p : ℕ → Bool) (xs : List ℕ) (i n r all : ℕ) (room : i + n ≤ 
       let d : prefix_len p (drop n (drop i xs)) ≡ prefix_len p (drop (i + n) xs) = ap (prefix_len p) (drop-drop n i xs) in
       (omega (arith, room), omega (arith, w, k, d, run))
 
-take_further : (i n : ℕ) (xs : List ℕ) → take i xs ++ take n (drop i xs) ≡ take (i + n) xs
+pub take_further : (i n : ℕ) (xs : List ℕ) → take i xs ++ take n (drop i xs) ≡ take (i + n) xs
 take_further i n xs =
     ap (λ (ys : List ℕ). ys ++ take n (drop i xs)) (sym (take-take i (i + n) xs (omega arith)))
     ∙ ap (λ (ys : List ℕ). take i (take (i + n) xs) ++ ys) (sym (drop-take i n xs)) ∙ take-append-drop i (take (i + n) xs)

@@ -1,1 +1,2 @@
+pub mod DifferingLemmas
 pub mod LaneLemmas
