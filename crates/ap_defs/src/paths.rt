@@ -92,13 +92,6 @@ pub enum Out {
     Stuck(Path),
 }
 
-/// What a tree of paths answers at a path: its kids, ascending, or the outputs below it.
-#[derive(Drop)]
-pub enum Visit {
-    Kids(List<u32>),
-    Outs(List<Out>),
-}
-
 /// What a branch stands at. A choice has its width and the choices that are worth trying.
 #[derive(Drop)]
 pub enum Node {
