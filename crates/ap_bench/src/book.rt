@@ -4,7 +4,7 @@ use ap_book::{Book, merge};
 use ap_defs::lists::List;
 use ap_defs::memory::Memory;
 use ap_defs::paths::{Out, Path};
-use ap_paths::Closed;
+use ap_paths::{Closed, Run};
 use std::alloc::{AllocError, Global};
 
 const LEVELS: usize = 16;
@@ -19,9 +19,9 @@ fn visit(alloc: Global, book: &mut Book, open: &mut Vec<Path>, path: Path) -> Re
         open.push(path.child(alloc, 1)?)?;
         return Ok(());
     }
-    let mut outs = Vec::new(alloc);
-    outs.push(Out::Cut(path.copy(alloc)?))?;
-    match book.done(0, &path, outs) {
+    let mut runs = Vec::new(alloc);
+    runs.push(Run::One(Out::Cut(path.copy(alloc)?)))?;
+    match book.done(0, &path, runs) {
         Ok(()) => Ok(()),
         Err(_) => Err(Memory),
     }

@@ -1,13 +1,14 @@
 //! A tree of two choices at each of 20 levels, with some work at each leaf.
 
-ghost use Rattle.std.specs.Prelude.{◌≡◌, ◌<◌, ◌≤◌, IfOk};
-ghost use Rattle.ap_defs.specs.Answers.{out_of, cut};
+ghost use Rattle.std.specs.Prelude.{◌≡◌, ◌<◌, ◌≤◌, ◌∷◌, [], IfOk};
+ghost use Rattle.ap_defs.specs.Answers.{cut};
+ghost use Rattle.ap_paths.specs.Runs.{outs_of_run};
 
 use ap_defs::lists::List;
 use ap_defs::memory::Memory;
-use ap_defs::paths::{Out, Path, Visit};
+use ap_defs::paths::{Out, Path};
 use ap_io::NoGate;
-use ap_paths::Tree;
+use ap_paths::{Run, Tree, Visit};
 use ap_steal::search;
 use std::alloc::{AllocError, Global};
 use std::sync::Wait;
@@ -27,10 +28,10 @@ fn worked(seed: u64) -> u64 {
     state
 }
 
-fn cut_at(alloc: Global, path: &Path) -> Result<Out, Memory>
-    ensures { IfOk result (λ o. out_of o ≡ cut path.now) }
+fn cut_at(alloc: Global, path: &Path) -> Result<Run, Memory>
+    ensures { IfOk result (λ r. outs_of_run r ≡ cut path.now ∷ []) }
 {
-    Ok(Out::Cut(path.copy(alloc)?))
+    Ok(Run::One(Out::Cut(path.copy(alloc)?)))
 }
 
 /// The work at a leaf. Its result is looked at, so that no compiler leaves it out.
@@ -68,7 +69,7 @@ impl Tree for Pairs {
         }
     }
 
-    fn outs(&self, _alloc: Global, _path: &Path) -> Result<Vec<Out>, Memory> {
+    fn outs(&self, _alloc: Global, _path: &Path) -> Result<Vec<Run>, Memory> {
         Err(Memory)
     }
 
@@ -77,9 +78,9 @@ impl Tree for Pairs {
             return Ok(Visit::Kids(List::of(Vec::from_array(alloc, [1, 2])?)));
         }
         work_at(path)?;
-        let mut outs = Vec::with_capacity(alloc, 1)?;
-        outs.push(cut_at(alloc, path)?)?;
-        Ok(Visit::Outs(List::of(outs)))
+        let mut runs = Vec::with_capacity(alloc, 1)?;
+        runs.push(cut_at(alloc, path)?)?;
+        Ok(Visit::Outs(List::of(runs)))
     }
 
     ghost branches = { λ t. pair_branches t.depth };
@@ -88,24 +89,24 @@ impl Tree for Pairs {
 }
 
 /// The outputs below a path, by recursion over the levels that are left.
-fn gather(alloc: Global, levels: &[u8], path: &Path, outs: &mut Vec<Out>) -> Result<(), Memory> {
+fn gather(alloc: Global, levels: &[u8], path: &Path, runs: &mut Vec<Run>) -> Result<(), Memory> {
     match levels {
         [] => {
             work_at(path)?;
-            outs.push(cut_at(alloc, path)?)?;
+            runs.push(cut_at(alloc, path)?)?;
             Ok(())
         }
         [_, rest @ ..] => {
-            gather(alloc, rest, &path.child(alloc, 1)?, outs)?;
-            gather(alloc, rest, &path.child(alloc, 2)?, outs)
+            gather(alloc, rest, &path.child(alloc, 1)?, runs)?;
+            gather(alloc, rest, &path.child(alloc, 2)?, runs)
         }
     }
 }
 
 fn gathered(alloc: Global) -> Result<usize, Memory> {
-    let mut outs = Vec::new(alloc);
-    gather(alloc, &[0; LEVELS], &Path::root(alloc), &mut outs)?;
-    Ok(outs.len())
+    let mut runs = Vec::new(alloc);
+    gather(alloc, &[0; LEVELS], &Path::root(alloc), &mut runs)?;
+    Ok(runs.len())
 }
 
 fn searched<R: Threads + Wait + Sync>(rt: &R, alloc: Global, workers: u32) -> Result<usize, Memory>

@@ -1,20 +1,21 @@
 // The report on the queries of a program.
-ghost use Rattle.std.specs.Prelude.{◌≡◌, ◌-◌, IfOk, length};
+ghost use Rattle.std.specs.Prelude.{◌≡◌, ◌-◌, IfOk, IfSome, length};
 ghost use Rattle.ap_defs.specs.Goals.{program_of};
 ghost use Rattle.ap_answers.specs.Words.{IsTaken};
 ghost use Rattle.ap_backchain.specs.Problems.{HasQuery};
 ghost use Rattle.ap_report.specs.Queries.{limited_report, query_report};
 
-use crate::solver::solve_without_paths;
+use crate::solver::search_beside;
 use ap_answers::printing::{lines_among, taken_in};
 use ap_answers::words::Taken;
-use ap_backchain::problem::Problem;
+use ap_backchain::problem::{Problem, short_outputs};
+use ap_backchain::run::Paths;
 use ap_defs::limits::{Depth, Workers};
 use ap_defs::memory::Memory;
 use ap_index::index::Index;
 use ap_io::Gate;
 use ap_paths::Limit;
-use ap_stream::stream_report;
+use ap_stream::{report_of_runs, stream_report};
 use std::alloc::Global;
 use std::sync::Wait;
 use std::thread::Threads;
@@ -26,7 +27,56 @@ fn query_count(program: &Index<'_>) -> u32
     program.program().queries.items().len() as u32
 }
 
-/// The report on a query of a program, whose words are known, by several workers.
+/// The report on a query of a program, whose words are known, where few turns are enough for it. None says
+/// that they aren't.
+fn report_shortly(
+    alloc: Global,
+    limit: Limit,
+    taken: &Taken<'_>,
+    problem: &Problem<'_>,
+) -> Result<Option<Vec<u8>>, Memory>
+    requires words { IsTaken problem.now.program.now.words taken.now }
+    requires query { HasQuery problem.now }
+    ensures { IfOk result (λ o. IfSome o (λ v. v.items
+        ≡ query_report (program_of problem.now.program.now) problem.now.depth limit
+        (problem.now.query - 1))) }
+{
+    let Some(outs) = short_outputs(alloc, problem, Paths::Left, limit)? else {
+        return Ok(None);
+    };
+    let report = lines_among(
+        alloc,
+        problem.program.restricted(),
+        taken,
+        problem.query,
+        &outs,
+    )?;
+    Ok(Some(report))
+}
+
+/// The report on a query of a program, whose words are known, which so many workers search. What they find
+/// is kept as runs.
+fn report_shared<R: Threads + Wait + Sync, G: Gate>(
+    rt: &R,
+    alloc: Global,
+    gate: &G,
+    workers: Workers,
+    limit: Limit,
+    taken: &Taken<'_>,
+    problem: &Problem<'_>,
+) -> Result<Vec<u8>, Memory>
+    requires words { IsTaken problem.now.program.now.words taken.now }
+    requires query { HasQuery problem.now }
+    ensures { IfOk result (λ v. v.items
+        ≡ query_report (program_of problem.now.program.now) problem.now.depth limit
+        (problem.now.query - 1)) }
+{
+    let runs = search_beside(rt, alloc, gate, workers, limit, Paths::Left, problem)?;
+    report_of_runs(alloc, taken, problem, &runs)
+}
+
+/// The report on a query of a program, whose words are known, by several workers. They begin where few turns
+/// are not enough for it, or where the gate may hold them.
 fn report_beside<R: Threads + Wait + Sync, G: Gate>(
     rt: &R,
     alloc: Global,
@@ -42,14 +92,12 @@ fn report_beside<R: Threads + Wait + Sync, G: Gate>(
         ≡ query_report (program_of problem.now.program.now) problem.now.depth limit
         (problem.now.query - 1)) }
 {
-    let outs = solve_without_paths(rt, alloc, gate, workers, limit, problem)?;
-    lines_among(
-        alloc,
-        problem.program.restricted(),
-        taken,
-        problem.query,
-        &outs,
-    )
+    if !gate.may_hold() {
+        if let Some(report) = report_shortly(alloc, limit, taken, problem)? {
+            return Ok(report);
+        }
+    }
+    report_shared(rt, alloc, gate, workers, limit, taken, problem)
 }
 
 /// The report on a query of a program, whose words are known. One worker writes it as it searches.

@@ -6,6 +6,7 @@ ghost use Rattle.ap_defs.specs.Goals.{NominalQuery};
 ghost use Rattle.ap_backchain.specs.Ends.{kept_out, without_path};
 ghost use Rattle.ap_backchain.specs.Problems.{HasQuery, clauses_in, queries_in};
 ghost use Rattle.ap_paths.specs.Limits as limits;
+ghost use Rattle.ap_paths.specs.Runs.{outs_of_runs};
 
 use ap_backchain::problem::{Problem, outputs_with, short_outputs};
 use ap_backchain::run::Paths;
@@ -14,16 +15,16 @@ use ap_defs::limits::Workers;
 use ap_defs::memory::Memory;
 use ap_defs::paths::Out;
 use ap_io::Gate;
-use ap_paths::{Limit, part};
+use ap_paths::{Limit, Run, outs_in_full, part};
 use ap_replay::problem_tree::ProblemTree;
 use ap_steal::search_within;
 use std::alloc::Global;
 use std::sync::Wait;
 use std::thread::Threads;
 
-/// The outputs of a query up to the last answer that is wanted, with their paths or without, which so
-/// many workers find between them.
-fn search_beside<R: Threads + Wait + Sync, G: Gate>(
+/// The outputs of a query up to the last answer that is wanted, with their paths or without, as runs, which
+/// so many workers find between them.
+pub(crate) fn search_beside<R: Threads + Wait + Sync, G: Gate>(
     rt: &R,
     alloc: Global,
     gate: &G,
@@ -31,17 +32,17 @@ fn search_beside<R: Threads + Wait + Sync, G: Gate>(
     limit: Limit,
     paths: Paths,
     problem: &Problem<'_>,
-) -> Result<Vec<Out>, Memory>
+) -> Result<Vec<Run>, Memory>
     requires query { HasQuery problem.now }
     ensures { IfOk result (λ v. (q : NominalQuery) →
         slice_get (queries_in problem.now) (problem.now.query - 1) ≡ Some q →
-        outs_of v.items ≡ map (kept_out paths)
+        outs_of_runs v.items ≡ map (kept_out paths)
         (limits.part limit (query_outs (clauses_in problem.now) problem.now.depth q))) }
 {
     let tree = ProblemTree::of(*problem, paths, limit);
     let closed = search_within(rt, alloc, &tree, workers.get(), limit, gate)?;
-    let outs = merge(alloc, closed)?;
-    Ok(part(outs, limit))
+    let runs = merge(alloc, closed)?;
+    Ok(part(runs, limit))
 }
 
 /// The outputs of a query up to the last answer that is wanted, with their paths or without. One worker
@@ -70,7 +71,8 @@ fn outputs_by<R: Threads + Wait + Sync, G: Gate>(
             return Ok(outs);
         }
     }
-    search_beside(rt, alloc, gate, workers, limit, paths, problem)
+    let runs = search_beside(rt, alloc, gate, workers, limit, paths, problem)?;
+    outs_in_full(alloc, runs)
 }
 
 /// The outputs of a query to a depth up to the last answer that is wanted, in order, each with its path

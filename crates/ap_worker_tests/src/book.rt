@@ -4,7 +4,7 @@ use ap_defs::lists::List;
 use ap_defs::memory::Memory;
 use ap_defs::outcomes::Answer;
 use ap_defs::paths::{Out, Path, Progress};
-use ap_paths::{Closed, Limit};
+use ap_paths::{Closed, Limit, Run};
 use std::alloc::Global;
 
 fn path_of(alloc: Global, k: u32) -> Result<Path, Memory> {
@@ -17,7 +17,7 @@ fn is_handed_back(alloc: Global, book: &mut Book, k: u32) -> Result<bool, Memory
     match book.done(0, &path, cut_at(alloc, &path)?) {
         Ok(()) => Ok(false),
         Err(refusal) => {
-            Ok(refusal.cause == BookError::NotOpen && matches!(refusal.outs.items(), [Out::Cut(_)]))
+            Ok(refusal.cause == BookError::NotOpen && matches!(refusal.outs.items(), [Run::One(Out::Cut(_))]))
         }
     }
 }
@@ -95,7 +95,7 @@ fn end(alloc: Global, book: &mut Book, k: u32) -> Result<(), Memory> {
 }
 
 /// What is merged where [2] ends before [1].
-fn merged(alloc: Global) -> Result<Vec<Out>, Memory> {
+fn merged(alloc: Global) -> Result<Vec<Run>, Memory> {
     let mut book = Book::new(alloc)?;
     if split_root(alloc, &mut book).is_err() {
         return Err(Memory);
@@ -114,15 +114,15 @@ fn outputs_are_merged_in_path_order(rt: HostRuntime) {
 }
 
 /// An answer that says nothing, at a path.
-pub fn answer_at(alloc: Global, path: &Path) -> Result<Vec<Out>, Memory> {
+pub fn answer_at(alloc: Global, path: &Path) -> Result<Vec<Run>, Memory> {
     let answer = Answer {
         binds: List::of(Vec::new(alloc)),
         conds: List::of(Vec::new(alloc)),
         vars: List::of(Vec::new(alloc)),
     };
-    let mut outs = Vec::new(alloc);
-    outs.push(Out::Found(path.copy(alloc)?, answer))?;
-    Ok(outs)
+    let mut runs = Vec::new(alloc);
+    runs.push(Run::One(Out::Found(path.copy(alloc)?, answer)))?;
+    Ok(runs)
 }
 
 /// Ends a path with an answer.

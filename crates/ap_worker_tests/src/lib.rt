@@ -19,6 +19,8 @@ mod pairs;
 #[cfg(test)]
 mod paths;
 #[cfg(test)]
+mod runs;
+#[cfg(test)]
 mod steal;
 #[cfg(test)]
 mod streams;

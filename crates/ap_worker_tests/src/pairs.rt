@@ -1,13 +1,14 @@
 //! The tree of the tests, and how two visits of it wait for one another.
 
 ghost use Rattle.std.specs.Prelude.{◌≡◌, ◌∷◌, [], IfOk};
-ghost use Rattle.ap_defs.specs.Answers.{out_of, outs_of, cut};
+ghost use Rattle.ap_defs.specs.Answers.{cut};
+ghost use Rattle.ap_paths.specs.Runs.{outs_of_run, outs_of_runs};
 
 use ap_defs::lists::List;
 use ap_defs::memory::Memory;
-use ap_defs::paths::{Out, Path, Visit};
+use ap_defs::paths::{Out, Path};
 use ap_io::Gate;
-use ap_paths::Tree;
+use ap_paths::{Run, Tree, Visit};
 use std::alloc::Global;
 use std::sync::atomic::AtomicBool;
 use std::sync::atomic::Ordering::SeqCst;
@@ -121,25 +122,25 @@ impl Pairs {
     }
 }
 
-fn copied(alloc: Global, path: &Path) -> Result<Out, Memory>
-    ensures { IfOk result (λ o. out_of o ≡ cut path.now) }
+fn copied(alloc: Global, path: &Path) -> Result<Run, Memory>
+    ensures { IfOk result (λ r. outs_of_run r ≡ cut path.now ∷ []) }
 {
-    Ok(Out::Cut(path.copy(alloc)?))
+    Ok(Run::One(Out::Cut(path.copy(alloc)?)))
 }
 
 /// What is cut off at a path.
-pub fn cut_at(alloc: Global, path: &Path) -> Result<Vec<Out>, Memory>
-    ensures { IfOk result (λ v. outs_of v.items ≡ cut path.now ∷ []) }
+pub fn cut_at(alloc: Global, path: &Path) -> Result<Vec<Run>, Memory>
+    ensures { IfOk result (λ v. outs_of_runs v.items ≡ cut path.now ∷ []) }
 {
-    let mut outs = Vec::with_capacity(alloc, 1)?;
-    outs.push(copied(alloc, path)?)?;
-    Ok(outs)
+    let mut runs = Vec::with_capacity(alloc, 1)?;
+    runs.push(copied(alloc, path)?)?;
+    Ok(runs)
 }
 
 /// Whether these are the cuts at [1] and [2].
-pub fn are_both_cuts(outs: &[Out]) -> bool {
-    match outs {
-        [Out::Cut(first), Out::Cut(second)] => {
+pub fn are_both_cuts(runs: &[Run]) -> bool {
+    match runs {
+        [Run::One(Out::Cut(first)), Run::One(Out::Cut(second))] => {
             first.choices() == [1].as_slice() && second.choices() == [2].as_slice()
         }
         _ => false,
@@ -164,7 +165,7 @@ impl Tree for Pairs {
         }
     }
 
-    fn outs(&self, alloc: Global, path: &Path) -> Result<Vec<Out>, Memory> {
+    fn outs(&self, alloc: Global, path: &Path) -> Result<Vec<Run>, Memory> {
         if path.choices().len() < self.depth {
             return Err(Memory);
         }

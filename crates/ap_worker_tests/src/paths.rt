@@ -1,8 +1,8 @@
 use crate::pairs::{Pairs, cut_at};
 use ap_defs::lists::List;
 use ap_defs::memory::Memory;
-use ap_defs::paths::{Out, Path, Visit};
-use ap_paths::{Endings, Tree, merges_whole};
+use ap_defs::paths::{Out, Path};
+use ap_paths::{Endings, Run, Tree, Visit, merges_whole};
 use std::alloc::Global;
 use std::cmp::Ordering;
 
@@ -37,7 +37,7 @@ fn put_cut(alloc: Global, endings: &mut Endings, k: u32) -> Result<(), Memory> {
 }
 
 /// Cuts that are put at [2] and at [1], as they stand at last.
-fn both_ends(alloc: Global) -> Result<Vec<(Path, List<Out>)>, Memory> {
+fn both_ends(alloc: Global) -> Result<Vec<(Path, List<Run>)>, Memory> {
     let mut endings = Endings::new(alloc);
     put_cut(alloc, &mut endings, 2)?;
     put_cut(alloc, &mut endings, 1)?;
@@ -45,13 +45,13 @@ fn both_ends(alloc: Global) -> Result<Vec<(Path, List<Out>)>, Memory> {
 }
 
 /// Whether these are ends at [1] and [2], with one output each.
-pub fn are_both_ends(ends: &[(Path, List<Out>)]) -> bool {
+pub fn are_both_ends(ends: &[(Path, List<Run>)]) -> bool {
     match ends {
         [(first, outs), (second, others)] => {
             first.choices() == [1].as_slice()
                 && second.choices() == [2].as_slice()
-                && matches!(outs.items(), [Out::Cut(_)])
-                && matches!(others.items(), [Out::Cut(_)])
+                && matches!(outs.items(), [Run::One(Out::Cut(_))])
+                && matches!(others.items(), [Run::One(Out::Cut(_))])
         }
         _ => false,
     }

@@ -5,6 +5,7 @@ use ap_book::merge;
 use ap_defs::memory::Memory;
 use ap_defs::paths::Out;
 use ap_io::NoGate;
+use ap_paths::Run;
 use ap_steal::search;
 use std::alloc::Global;
 use std::sync::Wait;
@@ -15,7 +16,7 @@ fn met<R: Threads + Wait + Sync>(
     rt: &R,
     alloc: Global,
     workers: u32,
-) -> Result<(bool, Vec<Out>), Memory>
+) -> Result<(bool, Vec<Run>), Memory>
     requires { (0 < workers) × (workers ≤ 64) }
 {
     let mut tree = Pairs::of(1);
@@ -41,14 +42,14 @@ fn workers_meet(rt: HostRuntime) {
     }
 }
 
-fn same_cut(left: &Out, right: &Out) -> bool {
+fn same_cut(left: &Run, right: &Run) -> bool {
     match (left, right) {
-        (Out::Cut(path), Out::Cut(other)) => path.choices() == other.choices(),
+        (Run::One(Out::Cut(path)), Run::One(Out::Cut(other))) => path.choices() == other.choices(),
         _ => false,
     }
 }
 
-fn same_cuts(left: &[Out], right: &[Out]) -> bool {
+fn same_cuts(left: &[Run], right: &[Run]) -> bool {
     left.len() == right.len() && left.iter().zip(right.iter()).all(|(l, r)| same_cut(l, r))
 }
 
@@ -57,7 +58,7 @@ fn searched<R: Threads + Wait + Sync>(
     rt: &R,
     alloc: Global,
     workers: u32,
-) -> Result<Vec<Out>, Memory>
+) -> Result<Vec<Run>, Memory>
     requires { (0 < workers) × (workers ≤ 64) }
 {
     let closed = search(rt, alloc, &Pairs::of(17), workers, &NoGate)?;
@@ -73,11 +74,11 @@ fn find<R: Threads + Wait + Sync>(
     rt: &R,
     alloc: Global,
     workers: u32,
-    outs: &[Out],
+    runs: &[Run],
 ) -> Result<bool, Memory>
     requires { (0 < workers) × (workers ≤ 64) }
 {
-    Ok(same_cuts(searched(rt, alloc, workers)?.as_slice(), outs))
+    Ok(same_cuts(searched(rt, alloc, workers)?.as_slice(), runs))
 }
 
 fn all_find_the_same<R: Threads + Wait + Sync>(rt: &R, alloc: Global) -> Result<bool, Memory> {

@@ -18,7 +18,7 @@ returns g c = λ q asked.
     let p = c.args.problem.now in
     let paths = c.args.paths in
     let l = c.args.limit in
-    c.part.ensures ∙ ap (part l) c.in_ok-outs.ensures.outputs ∙ c.in_ok-closed.ensures.whole
+    c.part.ensures ∙ ap (part l) c.in_ok-runs.ensures.outputs ∙ c.in_ok-closed.ensures.whole
     ∙ ap (λ x. part l (kept_outs x c.of-tree.result.problem [])) c.of-tree.ensures.paths
     ∙ ap (λ x. part l (kept_outs paths x [])) c.of-tree.ensures.problem
     ∙ ap (λ os. part l (map (kept_out paths) os)) (whole_is_query p q asked)
