@@ -9,5 +9,6 @@ pub mod ResultLemmas
 pub mod RunLemmas
 pub mod SolutionLemmas
 pub mod SuspensionLemmas
+pub mod WayLemmas
 pub mod WellLemmas
 pub mod WorkLemmas

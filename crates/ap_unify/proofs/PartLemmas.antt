@@ -1,16 +1,12 @@
 -- The rules for parts of terms on which no swappings wait.
-use Rattle.std.proofs.Common.{◌≡◌, ◌≢◌, ◌<◌, ◌≤◌, ℕ, true, false, List, [], ◌∷◌, ◌==◌, ◌++◌, length, map, refl, reverse, sym, subst, ap, ap₂, ◌∙◌, arith}
+use Rattle.std.proofs.Common.{◌≡◌, ◌<◌, ◌≤◌, ℕ, true, false, List, [], ◌∷◌, ◌++◌, length, map, refl, reverse, sym, subst, ap, ap₂, ◌∙◌, arith}
 use Rattle.std.proofs.lemmas.Bool.Decides.{nat_tests}
-use Rattle.std.proofs.lemmas.List.{append-nil}
 use Rattle.std.specs.Prelude.{Some, nat_lt, if◌then◌else◌}
 use Rattle.ap_defs.specs.Freshness.{var_eq}
-use Rattle.ap_defs.specs.HeadKeys.{head_key}
-use Rattle.ap_defs.specs.Permutations.{name_eq}
 use Rattle.ap_defs.specs.Renaming.{IsBelow, rename_term, rename_var}
 use Rattle.ap_defs.specs.Substitution.{Binding, Equation, Problem, occurs, under, ◌≐◌}
-use Rattle.ap_defs.specs.Terms.{NominalTerm, unit, name, pair, app, abs, susp, term_of}
-use Rattle.ap_defs.specs.Unification.{Progress, Rule, apply_rule, bind, clash, failed, next, replace, rule, step, unless_occurs}
-use Rattle.ap_defs.specs.declared.terms.Name.{Name}
+use Rattle.ap_defs.specs.Terms.{NominalTerm, susp, term_of}
+use Rattle.ap_defs.specs.Unification.{Rule, apply_rule, bind, clash, next, replace, rule, unless_occurs}
 use Rattle.ap_defs.specs.declared.terms.Swap.{Swap}
 use Rattle.ap_defs.specs.declared.terms.Term.{Term}
 use Rattle.ap_defs.specs.declared.terms.Term.TheVariants as code
@@ -25,7 +21,7 @@ use Rattle.ap_store.specs.Views.{bindings_of, present, rank, raw_bound}
 use Rattle.ap_store.specs.declared.store.Store.{Store}
 use Rattle.ap_theory.proofs.TermLemmas.{act_term_none}
 use Rattle.ap_theory.specs.Variables.{IsUnbound}
-use Rattle.ap_unify.proofs.RunLemmas.{dropped, replaced}
+use Rattle.ap_unify.proofs.RunLemmas.{bind_in_under, bound_in, dropped}
 use Rattle.ap_unify.proofs.SuspensionLemmas.{form_under, head_var_stays, rule_binds_left, rule_binds_right}
 use Rattle.ap_unify.proofs.WorkLemmas.{pairs_below-append, put_last}
 use Rattle.ap_unify.specs.Parts.{IsFurther, IsHead, plain_term}
@@ -61,50 +57,6 @@ head_free s t h x k e = subst (IsHead s t) e k
 pub head_form : (s : List Binding) (t : NominalTerm) (h : Head) → IsHead s t h → h ≡ heads.Form → HasForm t
 head_form s t h k e = subst (IsHead s t) e k
 
--- heads that differ
-pub clash_by_keys : (t u : NominalTerm) → HasForm t → HasForm u → head_key t ≢ head_key u → rule t u ≡ clash
-clash_by_keys unit unit h k n = absurd (n refl)
-clash_by_keys unit (name b) h k n = refl
-clash_by_keys unit (pair u w) h k n = refl
-clash_by_keys unit (app g u) h k n = refl
-clash_by_keys unit (abs b u) h k n = refl
-clash_by_keys unit (susp q y) h k n = absurd k
-clash_by_keys (name a) unit h k n = refl
-clash_by_keys (name a) (name b) h k n = absurd (n refl)
-clash_by_keys (name a) (pair u w) h k n = refl
-clash_by_keys (name a) (app g u) h k n = refl
-clash_by_keys (name a) (abs b u) h k n = refl
-clash_by_keys (name a) (susp q y) h k n = absurd k
-clash_by_keys (pair t v) unit h k n = refl
-clash_by_keys (pair t v) (name b) h k n = refl
-clash_by_keys (pair t v) (pair u w) h k n = absurd (n refl)
-clash_by_keys (pair t v) (app g u) h k n = refl
-clash_by_keys (pair t v) (abs b u) h k n = refl
-clash_by_keys (pair t v) (susp q y) h k n = absurd k
-clash_by_keys (app f t) unit h k n = refl
-clash_by_keys (app f t) (name b) h k n = refl
-clash_by_keys (app f t) (pair u w) h k n = refl
-clash_by_keys (app f t) (app g u) h k n =
-    let e : (f == g) ≡ false = grind (arith, nat_tests) in
-    ap (λ v. if v then replace ((t ≐ u) ∷ []) [] else clash) e
-clash_by_keys (app f t) (abs b u) h k n = refl
-clash_by_keys (app f t) (susp q y) h k n = absurd k
-clash_by_keys (abs a t) unit h k n = refl
-clash_by_keys (abs a t) (name b) h k n = refl
-clash_by_keys (abs a t) (pair u w) h k n = refl
-clash_by_keys (abs a t) (app g u) h k n = refl
-clash_by_keys (abs a t) (abs b u) h k n = absurd (n refl)
-clash_by_keys (abs a t) (susp q y) h k n = absurd k
-clash_by_keys (susp p x) u h k n = absurd h
-
-pub key_under_form : (s : List Binding) (t : NominalTerm) → HasForm t → head_key (under s t) ≡ head_key t
-key_under_form s unit h = refl
-key_under_form s (name a) h = refl
-key_under_form s (pair t u) h = refl
-key_under_form s (app f t) h = refl
-key_under_form s (abs a t) h = refl
-key_under_form s (susp p x) h = absurd h
-
 module _ (s : List Binding) where
   -- an unbound variable stays
   pub free_stays : (x : Var) (t : NominalTerm) → t ≡ susp [] x → IsUnbound s x → under s t ≡ susp [] x
@@ -113,91 +65,47 @@ module _ (s : List Binding) where
   pub free_absent : (y x : Var) (t : NominalTerm) → t ≡ susp [] x → IsUnbound s x → var_eq y x ≡ false → occurs y (under s t) ≡ false
   free_absent y x t e h k = ap (occurs y) (free_stays x t e h) ∙ k
 
-module _ (s : List Binding) (es : List Equation) (ps : List Problem) where
-  abbrev applied : Rule → Progress
-  applied r = apply_rule r (map (equation_under s) es) (map (problem_under s) ps) s
-
-  -- what the step makes of two terms in front
-  abbrev by_rule_of : NominalTerm → NominalTerm → Progress
-  by_rule_of t u = step (stage_under s ((t ≐ u) ∷ es) ps)
-
-  lead_done : next (stage_under s es ps) ≡ applied (replace [] [])
-  lead_done = dropped s es ps
-
-  lead_on : (t u : NominalTerm) → next (stage_under s ((t ≐ u) ∷ es) ps) ≡ applied (replace ((under s t ≐ under s u) ∷ []) [])
-  lead_on t u = ap (λ rs. next (stage_under s ((t ≐ u) ∷ es) rs)) (sym (append-nil ps)) ∙ replaced s es ps ((t ≐ u) ∷ []) []
-
-  pub units : (l r : NominalTerm) → l ≡ unit → r ≡ unit → next (stage_under s es ps) ≡ by_rule_of l r
-  units l r e f = lead_done ∙ sym (ap₂ by_rule_of e f)
-
-  pub names_same : (a b : Name) (l r : NominalTerm) → l ≡ name a → r ≡ name b → name_eq a b ≡ true → next (stage_under s es ps) ≡ by_rule_of l r
-  names_same a b l r e f h =
-      let k : next (stage_under s es ps) ≡ by_rule_of (name a) (name b) = rw h lead_done in
-      k ∙ sym (ap₂ by_rule_of e f)
-
-  pub names_differ : (a b : Name) (l r : NominalTerm) → l ≡ name a → r ≡ name b → name_eq a b ≡ false → failed ≡ by_rule_of l r
-  names_differ a b l r e f h =
-      let k : failed ≡ by_rule_of (name a) (name b) = rw h refl in
-      k ∙ sym (ap₂ by_rule_of e f)
-
-  pub pairs_lead : (t u v w l r : NominalTerm) → l ≡ pair t v → r ≡ pair u w → next (stage_under s ((t ≐ u) ∷ (v ≐ w) ∷ es) ps) ≡ by_rule_of l r
-  pairs_lead t u v w l r e f =
-      ap (λ rs. next (stage_under s ((t ≐ u) ∷ (v ≐ w) ∷ es) rs)) (sym (append-nil ps)) ∙ replaced s es ps ((t ≐ u) ∷ (v ≐ w) ∷ []) []
-      ∙ sym (ap₂ by_rule_of e f)
-
-  pub constructors_same : (f g : ℕ) (t u l r : NominalTerm) → l ≡ app f t → r ≡ app g u → f ≡ g → next (stage_under s ((t ≐ u) ∷ es) ps) ≡ by_rule_of l r
-  constructors_same f g t u l r e k i =
-      let h : (f == g) ≡ true = grind (arith, nat_tests) in
-      let m : next (stage_under s ((t ≐ u) ∷ es) ps) ≡ by_rule_of (app f t) (app g u) = rw h (lead_on t u) in
-      m ∙ sym (ap₂ by_rule_of e k)
-
-  pub constructors_differ : (f g : ℕ) (t u l r : NominalTerm) → l ≡ app f t → r ≡ app g u → f ≢ g → failed ≡ by_rule_of l r
-  constructors_differ f g t u l r e k i =
-      let h : (f == g) ≡ false = grind (arith, nat_tests) in
-      let m : failed ≡ by_rule_of (app f t) (app g u) = rw h refl in
-      m ∙ sym (ap₂ by_rule_of e k)
-
-  pub binders_same : (a b : Name) (t u l r : NominalTerm) → l ≡ abs a t → r ≡ abs b u → name_eq a b ≡ true → next (stage_under s ((t ≐ u) ∷ es) ps) ≡ by_rule_of l r
-  binders_same a b t u l r e f h =
-      let k : next (stage_under s ((t ≐ u) ∷ es) ps) ≡ by_rule_of (abs a t) (abs b u) = rw h (lead_on t u) in
-      k ∙ sym (ap₂ by_rule_of e f)
-
-  pub keys_differ : (l r : NominalTerm) → HasForm l → HasForm r → head_key l ≢ head_key r → failed ≡ by_rule_of l r
-  keys_differ l r h k n =
-      sym (ap applied (clash_by_keys (under s l) (under s r) (form_under s l h) (form_under s r k) (λ e. n (sym (key_under_form s l h) ∙ e ∙ key_under_form s r k))))
-
+module _ (s : List Binding) where
   -- an unbound variable on the left, or on the right
-  pub bound_left : (x : Var) (l r : NominalTerm) → (l ≡ susp [] x) × IsUnbound s x → HasForm r → applied (unless_occurs x (under s r) (under s r)) ≡ by_rule_of l r
+  pub bound_left : (x : Var) (l r : NominalTerm) → (l ≡ susp [] x) × IsUnbound s x → HasForm r → unless_occurs x (under s r) (under s r) ≡ rule (under s l) (under s r)
   bound_left x l r (e, h) f =
-      sym (ap applied (ap (λ t. rule t (under s r)) (free_stays s x l e h) ∙ rule_binds_left [] x (under s r) (form_under s r f) ∙ ap (unless_occurs x (under s r)) (act_term_none (under s r))))
+      sym (ap (λ t. rule t (under s r)) (free_stays s x l e h) ∙ rule_binds_left [] x (under s r) (form_under s r f) ∙ ap (unless_occurs x (under s r)) (act_term_none (under s r)))
 
-  pub bound_right : (y : Var) (l r : NominalTerm) → HasForm l → (r ≡ susp [] y) × IsUnbound s y → applied (unless_occurs y (under s l) (under s l)) ≡ by_rule_of l r
+  pub bound_right : (y : Var) (l r : NominalTerm) → HasForm l → (r ≡ susp [] y) × IsUnbound s y → unless_occurs y (under s l) (under s l) ≡ rule (under s l) (under s r)
   bound_right y l r f (e, h) =
-      sym (ap applied (ap (rule (under s l)) (free_stays s y r e h) ∙ rule_binds_right (under s l) [] y (form_under s l f) ∙ ap (unless_occurs y (under s l)) (act_term_none (under s l))))
+      sym (ap (rule (under s l)) (free_stays s y r e h) ∙ rule_binds_right (under s l) [] y (form_under s l f) ∙ ap (unless_occurs y (under s l)) (act_term_none (under s l)))
 
   module _ (x y : Var) (l r : NominalTerm) (e : l ≡ susp [] x) (f : r ≡ susp [] y) (h : IsUnbound s x) (k : IsUnbound s y) where
-    both_free : applied (rule (susp [] x) (susp [] y)) ≡ by_rule_of l r
-    both_free = sym (ap₂ (λ t u. applied (rule t u)) (free_stays s x l e h) (free_stays s y r f k))
+    both_free : rule (susp [] x) (susp [] y) ≡ rule (under s l) (under s r)
+    both_free = sym (ap₂ rule (free_stays s x l e h) (free_stays s y r f k))
 
-    pub one_variable : x.num ≡ y.num → next (stage_under s es ps) ≡ by_rule_of l r
+    pub one_variable : x.num ≡ y.num → replace [] [] ≡ rule (under s l) (under s r)
     one_variable i =
         let v : var_eq x y ≡ true = grind (arith, nat_tests) in
-        let m : next (stage_under s es ps) ≡ applied (rule (susp [] x) (susp [] y)) = rw v lead_done in
+        let m : replace [] [] ≡ rule (susp [] x) (susp [] y) = rw v refl in
         m ∙ both_free
 
-    pub left_older : x.num < y.num → applied (bind y (under s l)) ≡ by_rule_of l r
+    pub left_older : x.num < y.num → bind y (under s l) ≡ rule (under s l) (under s r)
     left_older i =
         let v : var_eq x y ≡ false = grind (arith, nat_tests) in
         let w : nat_lt x.num y.num ≡ true = grind (arith, nat_tests) in
-        let m : applied (bind y (susp [] x)) ≡ applied (rule (susp [] x) (susp [] y)) = rw (v, w) refl in
-        ap (λ t. applied (bind y t)) (free_stays s x l e h) ∙ m ∙ both_free
+        let m : bind y (susp [] x) ≡ rule (susp [] x) (susp [] y) = rw (v, w) refl in
+        ap (bind y) (free_stays s x l e h) ∙ m ∙ both_free
 
-    pub right_older : y.num < x.num → applied (bind x (under s r)) ≡ by_rule_of l r
+    pub right_older : y.num < x.num → bind x (under s r) ≡ rule (under s l) (under s r)
     right_older i =
         let v : var_eq x y ≡ false = grind (arith, nat_tests) in
         let w : nat_lt x.num y.num ≡ false = grind (arith, nat_tests) in
-        let m : applied (bind x (susp [] y)) ≡ applied (rule (susp [] x) (susp [] y)) = rw (v, w) refl in
-        ap (λ t. applied (bind x t)) (free_stays s y r f k) ∙ m ∙ both_free
+        let m : bind x (susp [] y) ≡ rule (susp [] x) (susp [] y) = rw (v, w) refl in
+        ap (bind x) (free_stays s y r f k) ∙ m ∙ both_free
+
+-- a rule is carried out, whatever is behind
+pub carried_drop : (s : List Binding) (q : Rule) → replace [] [] ≡ q → (es : List Equation) (ps : List Problem) → next (stage_under s es ps) ≡ apply_rule q (map (equation_under s) es) (map (problem_under s) ps) s
+carried_drop s q e es ps = dropped s es ps ∙ ap (λ r. apply_rule r (map (equation_under s) es) (map (problem_under s) ps) s) e
+
+pub carried_bind : (s r : List Binding) (x : Var) (v : NominalTerm) → IsUnbound s x → r ≡ bound_in x v s → (es : List Equation) (ps : List Problem)
+    → next (stage_under r es ps) ≡ apply_rule (bind x v) (map (equation_under s) es) (map (problem_under s) ps) s
+carried_bind s r x v u e es ps = rw e (ap next (sym (bind_in_under x v s u es ps)))
 
 -- a variable is bound unless it occurs
 pub clash_if_occurs : (x : Var) (t : NominalTerm) → occurs x t ≡ true → unless_occurs x t t ≡ clash

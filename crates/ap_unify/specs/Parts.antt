@@ -1,21 +1,24 @@
 -- Parts of terms on which no swappings wait, and how a run goes on with them.
-use Rattle.std.specs.Prelude.{◌≡◌, ◌<◌, ◌⊎◌, ℕ, zero, suc, List, [], ◌∷◌}
+use Rattle.std.specs.Prelude.{◌≡◌, ◌<◌, ◌⊎◌, ℕ, zero, suc, List, [], ◌∷◌, ◌++◌, Option, Some, None, map}
 use Rattle.ap_defs.specs.Renaming.{IsBelow, rename_term}
-use Rattle.ap_defs.specs.Substitution.{Binding, under, ◌≐◌}
+use Rattle.ap_defs.specs.Substitution.{Binding, Equation, Problem, under, ◌≐◌}
 use Rattle.ap_defs.specs.Terms.{NominalTerm, susp, term_of}
-use Rattle.ap_defs.specs.Unification.{Progress, Stage, failed, next, step}
+use Rattle.ap_defs.specs.Unification.{Progress, Rule, Stage, apply_rule, failed, next, rule, step}
 use Rattle.ap_defs.specs.declared.terms.Var.{Var}
 use Rattle.ap_perm.specs.Lookups.{depth_of}
 use Rattle.ap_store.specs.Triples.{Triple}
 use Rattle.ap_theory.specs.Variables.{IsUnbound}
-use Rattle.ap_unify.specs.Runs.{stage_under}
-use Rattle.ap_unify.specs.Work.{HasForm, equations_left, problems_met, work_stage}
+use Rattle.ap_unify.specs.Runs.{equation_under, problem_under, stage_under}
+use Rattle.ap_unify.specs.Work.{HasForm, equations_left, problems_met, progress_if, work_stage}
 use Rattle.ap_unify.specs.declared.heads.Head.{Head}
 use Rattle.ap_unify.specs.declared.heads.Head.TheVariants as heads
 use Rattle.ap_unify.specs.declared.pairs.Work.{Work}
 use Rattle.ap_unify.specs.declared.parts.Turn.{Turn}
 use Rattle.ap_unify.specs.declared.parts.Turn.TheVariants as turns
 use Rattle.ap_unify.specs.declared.plain.Plain.{Plain}
+use Rattle.ap_unify.specs.declared.plain.PlainPair.{PlainPair}
+use Rattle.ap_unify.specs.declared.ways.Way.{Way}
+use Rattle.ap_unify.specs.declared.ways.Way.TheVariants as ways
 
 -- the term, renamed
 abbrev pub plain_term : Plain → NominalTerm
@@ -36,18 +39,57 @@ IsHead s t heads.Form = HasForm t
 IsHead s t (heads.Free x) = (t ≡ susp [] x) × IsUnbound s x
 IsHead s t heads.Other = HasVariable t
 
--- the stage of a run with an equation of two parts in front of those that are left
-abbrev pub stage_with : List Binding → Plain → Plain → Work → Stage
-stage_with s p q w = stage_under s ((plain_term p ≐ plain_term q) ∷ equations_left w) (problems_met w)
+abbrev pub parts_equation : PlainPair → Equation
+parts_equation p = plain_term p.left ≐ plain_term p.right
 
-abbrev pub progress_to : Turn → List Binding → Work → Progress
-progress_to turns.Clash s w = failed
-progress_to turns.Done s w = next (work_stage s w)
-progress_to (turns.On p q) s w = next (stage_with s p q w)
+-- the stage of a run with an equation of two parts in front of those that are left
+abbrev pub stage_with : List Binding → PlainPair → Work → Stage
+stage_with s p w = stage_under s (parts_equation p ∷ equations_left w) (problems_met w)
+
+-- how the equations behind come after a turn, which may leave it to another way
+abbrev pub progress_of : Turn → List Binding → List Equation → List Problem → Progress
+progress_of turns.Clash s es ps = failed
+progress_of turns.Done s es ps = next (stage_under s es ps)
+progress_of (turns.On p) s es ps = next (stage_under s (parts_equation p ∷ es) ps)
+progress_of (turns.Both p q) s es ps = next (stage_under s (parts_equation p ∷ parts_equation q ∷ es) ps)
+progress_of turns.Other s es ps = failed
+
+-- the turn is what a rule makes of whatever is behind; or no step was made
+abbrev pub IsRuleFor : Turn → List Binding → List Binding → Rule → Type 0
+IsRuleFor turns.Other s r q = r ≡ s
+IsRuleFor turn s r q = (es : List Equation) (ps : List Problem) → progress_of turn r es ps ≡ apply_rule q (map (equation_under s) es) (map (problem_under s) ps) s
+
+abbrev pub rule_of : List Binding → PlainPair → Rule
+rule_of s p = rule (under s (plain_term p.left)) (under s (plain_term p.right))
+
+abbrev pub AreBelowBoth : ℕ → PlainPair → Type 0
+AreBelowBoth n p = IsBelow n (plain_term p.left) × IsBelow n (plain_term p.right)
 
 abbrev pub IsTurnBelow : ℕ → Turn → Type 0
-IsTurnBelow n (turns.On p q) = IsBelow n (plain_term p) × IsBelow n (plain_term q)
+IsTurnBelow n (turns.On p) = AreBelowBoth n p
+IsTurnBelow n (turns.Both p q) = AreBelowBoth n p × AreBelowBoth n q
 IsTurnBelow n _ = Unit {0}
+
+-- an equation that waits in front of those that are left, if there is one
+abbrev pub waiting_equations : Option PlainPair → List Equation
+waiting_equations None = []
+waiting_equations (Some p) = parts_equation p ∷ []
+
+abbrev pub IsWaitingBelow : ℕ → Option PlainPair → Type 0
+IsWaitingBelow n None = Unit {0}
+IsWaitingBelow n (Some p) = AreBelowBoth n p
+
+-- the stage with an equation of two parts in front, and then one that waits
+abbrev pub stage_of : List Binding → PlainPair → Option PlainPair → Work → Stage
+stage_of s p o w = stage_under s (parts_equation p ∷ (waiting_equations o ++ equations_left w)) (problems_met w)
+
+abbrev pub progress_to : Way → List Binding → Work → Progress
+progress_to (ways.End b) s w = progress_if b (work_stage s w)
+progress_to (ways.On p o) s w = next (stage_of s p o w)
+
+abbrev pub IsWayBelow : ℕ → Way → Type 0
+IsWayBelow n (ways.End b) = Unit {0}
+IsWayBelow n (ways.On p o) = AreBelowBoth n p × IsWaitingBelow n o
 
 -- the stage goes on so by n more steps after the first one
 abbrev pub IsReached : ℕ → Stage → Progress → Type 0

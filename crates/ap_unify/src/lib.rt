@@ -12,4 +12,5 @@ mod reducing;
 mod runs;
 pub mod terms;
 pub mod unify;
+mod ways;
 mod work;

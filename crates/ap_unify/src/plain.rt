@@ -60,3 +60,10 @@ impl<'a> Plain<'a> {
         }
     }
 }
+
+/// Two parts that are to be equal.
+#[derive(Clone, Copy)]
+pub struct PlainPair<'a> {
+    pub left: Plain<'a>,
+    pub right: Plain<'a>,
+}

@@ -1,19 +1,19 @@
 //! A run of unification, from the first equation to the last.
 
 ghost use Rattle.std.specs.Prelude.{◌≡◌, ◌<◌, ◌+◌, ◌∷◌, [], true, IfOk, OnOk, drop, length, vec_len};
-ghost use Rattle.ap_defs.specs.Renaming.{AreBelow, IsBelow};
+ghost use Rattle.ap_defs.specs.Renaming.{AreBelow};
 ghost use Rattle.ap_defs.specs.Unification.{ending};
 ghost use Rattle.ap_store.specs.Triples.{IsPrefixOf};
 ghost use Rattle.ap_store.specs.Views.{bindings_of, kinds, present, versions};
 ghost use Rattle.ap_unify.specs.Lists.{renamed_terms_in};
-ghost use Rattle.ap_unify.specs.Parts.{LeadsTo, Reaches, plain_term, stage_with};
+ghost use Rattle.ap_unify.specs.Parts.{AreBelowBoth, LeadsTo, Reaches, plain_term, stage_with};
 ghost use Rattle.ap_unify.specs.Runs.{paired, stage_under};
 ghost use Rattle.ap_unify.specs.Work.{ArePairsBelow, GoOn, IsPairBelow, ending_if, equations_left, pair_equation, problems_met, progress_if, work_stage};
 
 use crate::pairs::{ClosurePair, Work};
-use crate::parts::{Turn, step_parts};
-use crate::plain::Plain;
+use crate::plain::{Plain, PlainPair};
 use crate::terms::Terms;
+use crate::ways::{Way, next_way};
 use crate::work::by_rule;
 use ap_defs::memory::Memory;
 use ap_store::store::Store;
@@ -25,25 +25,23 @@ fn along<'a>(
     alloc: Global,
     store: &mut Store<'a>,
     work: &mut Work<'a>,
-    mut left: Plain<'a>,
-    mut right: Plain<'a>,
+    first: PlainPair<'a>,
 ) -> Result<bool, Memory>
-    requires left_below { IsBelow (present store.old).next (plain_term left) }
-    requires right_below { IsBelow (present store.old).next (plain_term right) }
-    ensures stage { IfOk result (λ goes_on. LeadsTo (stage_with (bindings_of store.old) left.entry
-        right.entry work.old) (progress_if goes_on (work_stage (bindings_of store.new)
-        work.new))) }
+    requires { AreBelowBoth (present store.old).next first }
+    ensures stage { IfOk result (λ goes_on. LeadsTo (stage_with (bindings_of store.old) first.entry
+        work.old) (progress_if goes_on (work_stage (bindings_of store.new) work.new))) }
     ensures goes_on { OnOk result (GoOn (present store.old) work.old (present store.new) work.new) }
     ensures past { IsPrefixOf (versions store.old) (versions store.new) }
     ensures kinds { kinds store.new ≡ kinds store.old }
 {
+    let mut pair = first;
+    let mut waiting = None;
     'going: loop {
-        match step_parts(alloc, store, work, left, right)? {
-            Turn::Clash => return Ok(false),
-            Turn::Done => return Ok(true),
-            Turn::On(further_left, further_right) => {
-                left = further_left;
-                right = further_right;
+        match next_way(alloc, store, work, pair, waiting)? {
+            Way::End(goes_on) => return Ok(goes_on),
+            Way::On(next, later) => {
+                pair = next;
+                waiting = later;
             }
         }
     }
@@ -68,7 +66,7 @@ fn advance_by<'a>(
     let left = Plain::of(&first.left);
     let right = Plain::of(&first.right);
     match (left, right) {
-        (Some(left), Some(right)) => along(alloc, store, work, left, right),
+        (Some(left), Some(right)) => along(alloc, store, work, PlainPair { left, right }),
         _ => by_rule(alloc, store, work, first),
     }
 }
@@ -112,20 +110,18 @@ fn solve<'a>(
     alloc: Global,
     store: &mut Store<'a>,
     work: &mut Work<'a>,
-    left: Plain<'a>,
-    right: Plain<'a>,
+    pair: PlainPair<'a>,
 ) -> Result<bool, Memory>
-    requires left_below { IsBelow (present store.old).next (plain_term left) }
-    requires right_below { IsBelow (present store.old).next (plain_term right) }
+    requires below { AreBelowBoth (present store.old).next pair }
     requires pairs { ArePairsBelow (present store.old).next work.old.equations.items }
-    ensures stage { IfOk result (λ solved. LeadsTo (stage_with (bindings_of store.old) left.entry
-        right.entry work.old) (progress_if solved (work_stage (bindings_of store.new) work.new))) }
+    ensures stage { IfOk result (λ solved. LeadsTo (stage_with (bindings_of store.old) pair.entry
+        work.old) (progress_if solved (work_stage (bindings_of store.new) work.new))) }
     ensures left { IfOk result (λ solved. solved ≡ true → work.new.equations.items ≡ []) }
     ensures goes_on { OnOk result (GoOn (present store.old) work.old (present store.new) work.new) }
     ensures past { IsPrefixOf (versions store.old) (versions store.new) }
     ensures kinds { kinds store.new ≡ kinds store.old }
 {
-    if !along(alloc, store, work, left, right)? {
+    if !along(alloc, store, work, pair)? {
         return Ok(false);
     }
     run(alloc, store, work)
@@ -171,7 +167,11 @@ pub fn run_places<'a>(
     'places: for i in 0..left.terms.len() {
         let here = term_at(left, i);
         let there = term_at(right, i);
-        if !solve(alloc, store, work, here, there)? {
+        let pair = PlainPair {
+            left: here,
+            right: there,
+        };
+        if !solve(alloc, store, work, pair)? {
             return Ok(false);
         }
     }

@@ -5,7 +5,7 @@ ghost use Rattle.ap_defs.specs.Renaming.{IsBelow};
 ghost use Rattle.ap_defs.specs.Substitution.{occurs, ◌#◌};
 ghost use Rattle.ap_defs.specs.Unification.{apply_rule, bind, fresh_for, next, rule, step};
 ghost use Rattle.ap_perm.specs.Closures.{closure_term};
-ghost use Rattle.ap_store.specs.Triples.{IsPrefixOf};
+ghost use Rattle.ap_store.specs.Triples.{IsPrefixOf, with_binding};
 ghost use Rattle.ap_store.specs.Views.{bindings_of, kinds, meaning_in, present, versions};
 ghost use Rattle.ap_theory.specs.Variables.{IsUnbound};
 ghost use Rattle.ap_unify.specs.Runs.{equation_under, problem_under, stage_under};
@@ -94,11 +94,18 @@ pub fn bind_var<'a>(
         ≡ apply_rule (bind x (meaning_in store.old c.entry)) (map
         (equation_under (bindings_of store.old)) (equations_left work.old)) (map (problem_under
         (bindings_of store.old)) (problems_met work.old)) (bindings_of store.old)) }
+    ensures bindings { OnOk result (bindings_of store.new ≡ (with_binding x
+        (meaning_in store.old c.entry) (present store.old)).bindings) }
+    ensures equations { work.new.equations.items ≡ work.old.equations.items }
+    ensures problems { work.new.problems.items ≡ work.old.problems.items }
     ensures goes_on { OnOk result (GoOn (present store.old) work.old (present store.new) work.new) }
     ensures past { IsPrefixOf (versions store.old) (versions store.new) }
     ensures kinds { kinds store.new ≡ kinds store.old }
 {
     let mut taken = store.bind(alloc, x, c)?;
+    if taken.is_empty() {
+        return Ok(());
+    }
     work.taken.append(&mut taken)?;
     Ok(())
 }

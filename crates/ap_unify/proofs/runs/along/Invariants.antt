@@ -1,23 +1,22 @@
 use Rattle.std.proofs.Common.{◌≡◌}
-use Rattle.ap_defs.specs.Renaming.{IsBelow}
 use Rattle.ap_defs.specs.Unification.{Progress}
 use Rattle.ap_store.specs.Triples.{IsPrefixOf}
 use Rattle.ap_store.specs.Views.{bindings_of, kinds, present, versions}
 use Rattle.ap_theory.proofs.TerminationLemmas.{steps_left}
-use Rattle.ap_unify.specs.Parts.{LeadsTo, plain_term, stage_with}
+use Rattle.ap_unify.specs.Parts.{AreBelowBoth, IsWaitingBelow, LeadsTo, stage_of}
 use Rattle.ap_unify.specs.Work.{GoOn}
 use Rattle.ap_unify.proofs.runs.along.Given as goal
 
 -- what the stage leads to, the first one leads to
 abbrev pub invariant-going : goal.invariant-going
 invariant-going l = record {
-  leads : (p : Progress) → LeadsTo (stage_with (bindings_of l.store) l.left l.right l.work) p → LeadsTo (stage_with (bindings_of l.initial.store) l.initial.left l.initial.right l.initial.work) p;
-  left_below : IsBelow (present l.store).next (plain_term l.left);
-  right_below : IsBelow (present l.store).next (plain_term l.right);
+  leads : (p : Progress) → LeadsTo (stage_of (bindings_of l.store) l.pair l.waiting l.work) p → LeadsTo (stage_of (bindings_of l.initial.store) l.initial.pair l.initial.waiting l.initial.work) p;
+  pair_below : AreBelowBoth (present l.store).next l.pair;
+  waiting_below : IsWaitingBelow (present l.store).next l.waiting;
   goes_on : GoOn (present l.initial.store) l.initial.work (present l.store) l.work;
   past : IsPrefixOf (versions l.initial.store) (versions l.store);
   kinds : kinds l.store ≡ kinds l.initial.store;
 }
 
 abbrev pub decreases-going : goal.decreases-going
-decreases-going l = steps_left (stage_with (bindings_of l.store) l.left l.right l.work)
+decreases-going l = steps_left (stage_of (bindings_of l.store) l.pair l.waiting l.work)

@@ -1,6 +1,5 @@
 use Rattle.std.proofs.Common.{◌≡◌, ◌≤◌, ◌+◌, [], ◌∷◌, List, ap, ap₂, drop, length, map, refl, reverse, subst, sym, ◌∙◌, arith}
 use Rattle.std.proofs.lemmas.List.{drop_all}
-use Rattle.ap_defs.specs.Renaming.{IsBelow}
 use Rattle.ap_defs.specs.Substitution.{◌≐◌}
 use Rattle.ap_defs.specs.Unification.{Stage, ending, failed, next, solved}
 use Rattle.ap_store.specs.Views.{bindings_of, present, versions}
@@ -11,22 +10,22 @@ use Rattle.ap_unify.proofs.WellLemmas.{well}
 use Rattle.ap_unify.proofs.WorkLemmas.{below_first, go_on_on, goes_on_on, terms_length}
 use Rattle.ap_unify.proofs.runs.run_places.Goals as goal
 use Rattle.ap_unify.specs.Lists.{renamed_terms_in}
-use Rattle.ap_unify.specs.Parts.{LeadsTo, plain_term, stage_with}
+use Rattle.ap_unify.specs.Parts.{AreBelowBoth, LeadsTo, plain_term, stage_with}
 use Rattle.ap_unify.specs.Runs.{paired, stage_under}
 use Rattle.ap_unify.specs.Work.{ArePairsBelow, pair_equation, problems_met, progress_if, work_stage}
 use Rattle.ap_unify.specs.declared.pairs.ClosurePair.{ClosurePair}
+use Rattle.ap_unify.specs.declared.plain.PlainPair.{PlainPair}
 
-pub solve-requires-clause-left_below : goal.solve-requires-clause-left_below
-solve-requires-clause-left_below c =
+pub solve-requires-clause-below : goal.solve-requires-clause-below
+solve-requires-clause-below c =
     let ts = renamed_terms_in c.args.left in
-    subst (λ n. IsBelow n (plain_term c.term_at-here.result)) (sym c.places.invariant.goes_on.next)
-    (below_first (present c.args.store.now).next c.places.i ts (plain_term c.term_at-here.result) (drop (c.places.i + 1) ts) c.requires.left_made c.term_at-here.ensures)
-
-pub solve-requires-clause-right_below : goal.solve-requires-clause-right_below
-solve-requires-clause-right_below c =
     let us = renamed_terms_in c.args.right in
-    subst (λ n. IsBelow n (plain_term c.term_at-there.result)) (sym c.places.invariant.goes_on.next)
-    (below_first (present c.args.store.now).next c.places.i us (plain_term c.term_at-there.result) (drop (c.places.i + 1) us) c.requires.right_made c.term_at-there.ensures)
+    let n = (present c.args.store.now).next in
+    let pair : PlainPair = record { left = c.term_at-here.result; right = c.term_at-there.result } in
+    subst (λ m. AreBelowBoth m pair) (sym c.places.invariant.goes_on.next) (
+      below_first n c.places.i ts (plain_term c.term_at-here.result) (drop (c.places.i + 1) ts) c.requires.left_made c.term_at-here.ensures,
+      below_first n c.places.i us (plain_term c.term_at-there.result) (drop (c.places.i + 1) us) c.requires.right_made c.term_at-there.ensures,
+    )
 
 pub solve-requires-clause-pairs : goal.solve-requires-clause-pairs
 solve-requires-clause-pairs c = subst (ArePairsBelow (present c.places.store).next) (sym c.places.invariant.none) tt
@@ -41,8 +40,9 @@ returns-then-not-branch-clause-ending c =
     let t = plain_term c.term_at-here.result in
     let u = plain_term c.term_at-there.result in
     let last = work_stage (bindings_of c.solve.new.store) c.solve.new.work in
-    let h : LeadsTo (stage_with s c.term_at-here.result c.term_at-there.result w) failed =
-    subst (λ v. LeadsTo (stage_with s c.term_at-here.result c.term_at-there.result w) (progress_if v last)) c.if-not-branch.true c.in_ok-solve.ensures.stage in
+    let pair : PlainPair = record { left = c.term_at-here.result; right = c.term_at-there.result } in
+    let h : LeadsTo (stage_with s pair w) failed =
+    subst (λ v. LeadsTo (stage_with s pair w) (progress_if v last)) c.if-not-branch.true c.in_ok-solve.ensures.stage in
     let k : LeadsTo (stage_under s ((t ≐ u) ∷ []) ps) failed =
     subst (λ (es : List ClosurePair). LeadsTo (stage_under s ((t ≐ u) ∷ map pair_equation (reverse es)) ps) failed) c.places.invariant.none h in
     c.places.invariant.ending
@@ -63,8 +63,9 @@ places-preserved c =
     let u = plain_term c.term_at-there.result in
     let last = work_stage d.bindings v in
     let none : v.equations.items ≡ [] = c.in_ok-solve.ensures.left c.if-not-branch.false in
-    let h : LeadsTo (stage_with b.bindings c.term_at-here.result c.term_at-there.result w) (next last) =
-    subst (λ x. LeadsTo (stage_with b.bindings c.term_at-here.result c.term_at-there.result w) (progress_if x last)) c.if-not-branch.false c.in_ok-solve.ensures.stage in
+    let pair : PlainPair = record { left = c.term_at-here.result; right = c.term_at-there.result } in
+    let h : LeadsTo (stage_with b.bindings pair w) (next last) =
+    subst (λ x. LeadsTo (stage_with b.bindings pair w) (progress_if x last)) c.if-not-branch.false c.in_ok-solve.ensures.stage in
     let k : LeadsTo (stage_under b.bindings ((t ≐ u) ∷ []) ps) (next last) =
     subst (λ (es : List ClosurePair). LeadsTo (stage_under b.bindings ((t ≐ u) ∷ map pair_equation (reverse es)) ps) (next last)) c.places.invariant.none h in
     let e : LeadsTo (stage_under b.bindings ((t ≐ u) ∷ []) ps) (next (stage_under d.bindings [] (problems_met v))) =

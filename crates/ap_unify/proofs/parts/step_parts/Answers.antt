@@ -1,0 +1,12 @@
+use Rattle.std.proofs.Common.{ap₂, subst}
+use Rattle.ap_defs.specs.Unification.{rule}
+use Rattle.ap_store.specs.Views.{bindings_of}
+use Rattle.ap_unify.proofs.WorkLemmas.{if_ok}
+use Rattle.ap_unify.proofs.parts.step_parts.Goals as goal
+use Rattle.ap_unify.specs.Parts.{IsRuleFor}
+
+pub returns-clause-turn : goal.returns-clause-turn
+returns-clause-turn c =
+    if_ok c.by_heads.result
+    (λ turn h. subst (IsRuleFor turn (bindings_of c.args.store.now) (bindings_of c.by_heads.new.store)) (ap₂ rule c.followed-left.ensures.meaning c.followed-right.ensures.meaning) h)
+    c.by_heads.ensures.turn

@@ -1,0 +1,116 @@
+//! How a run goes on from an equation of two parts.
+
+ghost use Rattle.std.specs.Prelude.{◌≡◌, ◌++◌, ℕ, List, IfOk, OnOk};
+ghost use Rattle.ap_defs.specs.Substitution.{Binding};
+ghost use Rattle.ap_defs.specs.Unification.{next, step};
+ghost use Rattle.ap_store.specs.Triples.{IsPrefixOf};
+ghost use Rattle.ap_store.specs.Views.{bindings_of, kinds, present, versions};
+ghost use Rattle.ap_unify.specs.Parts.{AreBelowBoth, IsWaitingBelow, IsWayBelow, progress_to, stage_of, stage_with, waiting_equations};
+ghost use Rattle.ap_unify.specs.Runs.{stage_under};
+ghost use Rattle.ap_unify.specs.Work.{ArePairsBelow, GoOn, equations_left, problems_met, progress_if, work_stage};
+ghost use Rattle.ap_unify.specs.declared.pairs.Work.{Work};
+
+use crate::pairs::{ClosurePair, Work};
+use crate::parts::{Turn, step_parts};
+use crate::plain::PlainPair;
+use crate::work::{by_rule, put_equation};
+use ap_defs::memory::Memory;
+use ap_store::store::Store;
+use std::alloc::Global;
+
+/// What comes after a step: false where there is no solution, true where the equations that are left come
+/// next; or an equation of two parts in front of them, and maybe one between that waits.
+#[derive(Clone, Copy)]
+pub enum Way<'a> {
+    End(bool),
+    On(PlainPair<'a>, Option<PlainPair<'a>>),
+}
+
+/// Puts an equation that waits in front of those that are left.
+fn put_waiting<'a>(
+    alloc: Global,
+    work: &mut Work<'a>,
+    waiting: Option<PlainPair<'a>>,
+) -> Result<(), Memory>
+    ensures equations { OnOk result (equations_left work.new
+        ≡ waiting_equations waiting.entry ++ equations_left work.old) }
+    ensures below { OnOk result ((n : ℕ) → IsWaitingBelow n waiting.entry →
+        ArePairsBelow n work.old.equations.items → ArePairsBelow n work.new.equations.items) }
+    ensures problems { work.new.problems.items ≡ work.old.problems.items }
+    ensures taken { work.new.taken.items ≡ work.old.taken.items }
+{
+    match waiting {
+        None => Ok(()),
+        Some(pair) => {
+            let left = pair.left.closure(alloc);
+            let right = pair.right.closure(alloc);
+            put_equation(work, ClosurePair { left, right })
+        }
+    }
+}
+
+/// The rule for two parts, by closures. It answers false where that is no solution.
+fn by_closures<'a>(
+    alloc: Global,
+    store: &mut Store<'a>,
+    work: &mut Work<'a>,
+    pair: PlainPair<'a>,
+) -> Result<bool, Memory>
+    requires below { AreBelowBoth (present store.old).next pair }
+    ensures stage { IfOk result (λ goes_on. progress_if goes_on (work_stage
+        (bindings_of store.new) work.new)
+        ≡ step (stage_with (bindings_of store.old) pair.entry work.old)) }
+    ensures goes_on { OnOk result (GoOn (present store.old) work.old (present store.new) work.new) }
+    ensures past { IsPrefixOf (versions store.old) (versions store.new) }
+    ensures kinds { kinds store.new ≡ kinds store.old }
+{
+    let left = pair.left.closure(alloc);
+    let right = pair.right.closure(alloc);
+    by_rule(alloc, store, work, ClosurePair { left, right })
+}
+
+/// The way on once nothing is left of an equation: the one that waits, or those that are left.
+fn after_done<'a>(waiting: Option<PlainPair<'a>>) -> Way<'a>
+    ensures way { (s : List Binding) → (w : Work) → progress_to result s w
+        ≡ next (stage_under s (waiting_equations waiting.entry ++ equations_left w)
+        (problems_met w)) }
+    ensures below { (n : ℕ) → IsWaitingBelow n waiting.entry → IsWayBelow n result }
+{
+    match waiting {
+        None => Way::End(true),
+        Some(pair) => Way::On(pair, None),
+    }
+}
+
+/// One step for an equation of two parts in front, behind which another one may wait.
+pub fn next_way<'a>(
+    alloc: Global,
+    store: &mut Store<'a>,
+    work: &mut Work<'a>,
+    pair: PlainPair<'a>,
+    waiting: Option<PlainPair<'a>>,
+) -> Result<Way<'a>, Memory>
+    requires pair { AreBelowBoth (present store.old).next pair }
+    requires waiting { IsWaitingBelow (present store.old).next waiting }
+    ensures stage { IfOk result (λ way. progress_to way (bindings_of store.new) work.new
+        ≡ step (stage_of (bindings_of store.old) pair.entry waiting.entry work.old)) }
+    ensures below { IfOk result (λ way. IsWayBelow (present store.old).next way) }
+    ensures goes_on { OnOk result (GoOn (present store.old) work.old (present store.new) work.new) }
+    ensures past { IsPrefixOf (versions store.old) (versions store.new) }
+    ensures kinds { kinds store.new ≡ kinds store.old }
+{
+    match step_parts(alloc, store, work, pair)? {
+        Turn::Clash => Ok(Way::End(false)),
+        Turn::Done => Ok(after_done(waiting)),
+        Turn::On(next) => Ok(Way::On(next, waiting)),
+        Turn::Both(next, later) => {
+            put_waiting(alloc, work, waiting)?;
+            Ok(Way::On(next, Some(later)))
+        }
+        Turn::Other => {
+            put_waiting(alloc, work, waiting)?;
+            let solved = by_closures(alloc, store, work, pair)?;
+            Ok(Way::End(solved))
+        }
+    }
+}
