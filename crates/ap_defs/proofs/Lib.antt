@@ -2,4 +2,5 @@ pub mod SpineLemmas
 mod WeightLemmas
 mod TermWeights
 mod TypeWeights
+mod ShapeWeights
 mod PathLemmas

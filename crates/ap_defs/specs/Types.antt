@@ -45,6 +45,14 @@ shape_of (shapes.Pair' p t q u) = pair (shape_of t) (shape_of u)
 shape_of (shapes.List' p t) = list (shape_of t)
 shape_of (shapes.Abs' p t q u) = abs (shape_of t) (shape_of u)
 
+abbrev pub IsNoPair : TypeShape → Type 0
+IsNoPair (pair t u) = ⊥
+IsNoPair t = Unit {0}
+
+abbrev pub IsNoAbs : TypeShape → Type 0
+IsNoAbs (abs t u) = ⊥
+IsNoAbs t = Unit {0}
+
 -- An identifier stands for a name of a sort, or for a term of a type.
 pub data NominalKind : Type 0 where
   name : ℕ → NominalKind

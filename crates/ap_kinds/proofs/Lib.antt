@@ -1,4 +1,7 @@
 pub mod LayerLemmas
+pub mod TakenLemmas
+pub mod PartTests
+pub mod ReadLemmas
 pub mod Lookups
 pub mod Walks
 pub mod Assignments

@@ -1,6 +1,8 @@
 pub mod Sorts
 pub mod ItemKinds
 pub mod Reading
+pub mod ReadTypes
+pub mod ShapeTests
 pub mod Systems
 pub mod Layers
 pub mod Gathering

@@ -11,7 +11,7 @@ use crate::systems::{System, equate, refused, with_hole};
 use crate::wants::{Wanted, meet, wanted_all};
 use ap_defs::goals::Constructor;
 use ap_defs::memory::Memory;
-use ap_defs::terms::Shape;
+use ap_defs::terms::{Shape, take_abs};
 use std::alloc::Global;
 
 /// What is wanted of the term inside an application or an abstraction.
@@ -151,6 +151,7 @@ fn new_body<'a>(
 }
 
 /// What is wanted of the body of an abstraction that stands where a shape is wanted.
+#[tactic(auto, using(crate::proofs::TakenLemmas::no_abs_inside))]
 fn body_of_shape<'a>(
     alloc: Global,
     binder: u64,
@@ -160,12 +161,13 @@ fn body_of_shape<'a>(
     ensures { IfOk result (λ b. inside_view b
         ≡ inside_abstraction binder (whole (shape_of want)) (system_of system)) }
 {
-    match want {
-        Shape::Abs(left, body) => Ok(Inside {
-            want: Wanted::Whole(Box::into_inner(body)),
-            system: equate(system, Box::into_inner(left), Shape::Hole(binder))?,
+    let mut shape = want;
+    match take_abs(&mut shape) {
+        Some((left, body)) => Ok(Inside {
+            want: Wanted::Whole(body),
+            system: equate(system, left, Shape::Hole(binder))?,
         }),
-        other => new_body(alloc, binder, Wanted::Whole(other), system),
+        None => new_body(alloc, binder, Wanted::Whole(shape), system),
     }
 }
 

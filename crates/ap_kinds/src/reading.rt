@@ -5,154 +5,77 @@ ghost use Rattle.ap_defs.specs.Types.{NominalConstructor, shape_of, type_of, kin
 ghost use Rattle.ap_types.specs.Tables.{AreInhabitants};
 ghost use Rattle.ap_types.specs.Solving.{shape_at};
 ghost use Rattle.ap_program.specs.Typed.{AreInhabited};
-ghost use Rattle.ap_kinds.specs.Reading.{is_declared, is_sort, is_closed, sort_in_shape, read_type, read_kind, read_kinds, AllDeclared, SomeUndeclared, AllClosed, SomeOpen, AreKindsRead, IsUnread};
+ghost use Rattle.ap_kinds.specs.Reading.{is_declared, is_closed, read_kind, read_kinds, AllDeclared, SomeUndeclared, AllClosed, SomeOpen, AreKindsRead, IsUnread};
 
 use crate::errors::KindsError;
 use crate::kinds::IdentKind;
+use crate::read_types::{read_type, sort_in_shape};
+use crate::shape_tests::{is_closed, is_declared};
 use ap_defs::goals::{Kind, Signature};
 use ap_defs::memory::Memory;
-use ap_defs::spines::{TypeLayer, close_type};
-use ap_defs::terms::{Shape, Ty};
+use ap_defs::terms::Shape;
 use ap_types::inhabitants::{Inhabitants, is_inhabited};
 use std::alloc::Global;
 
-/// Whether a shape's name types and data types are declared, of which there are so many.
-fn is_declared(name_types: usize, data_types: usize, t: &Shape) -> bool
-    ensures { result ≡ is_declared name_types data_types (shape_of t.now) }
-{
-    let mut rest = t;
-    loop {
-        match rest {
-            Shape::Hole(_) | Shape::Unit => return true,
-            Shape::Names(sort) => return (*sort as usize) < name_types,
-            Shape::Base(data) => return (*data as usize) < data_types,
-            Shape::Pair(left, right) | Shape::Abs(left, right) => {
-                if !is_declared(name_types, data_types, left) {
-                    return false;
-                }
-                rest = right;
-            }
-            Shape::List(element) => rest = element,
-        }
-    }
-}
-
-/// Whether a shape is a name type.
-fn is_sort(t: &Shape) -> bool
-    ensures { result ≡ is_sort (shape_of t.now) }
-{
-    match t {
-        Shape::Names(_) => true,
-        _ => false,
-    }
-}
-
-/// Whether a shape has no hole, and only name types to the left in abstractions.
-fn is_closed(t: &Shape) -> bool
-    ensures { result ≡ is_closed (shape_of t.now) }
-{
-    let mut rest = t;
-    loop {
-        match rest {
-            Shape::Hole(_) => return false,
-            Shape::Unit | Shape::Names(_) | Shape::Base(_) => return true,
-            Shape::Pair(left, right) => {
-                if !is_closed(left) {
-                    return false;
-                }
-                rest = right;
-            }
-            Shape::List(element) => rest = element,
-            Shape::Abs(left, body) => {
-                if !is_sort(left) {
-                    return false;
-                }
-                rest = body;
-            }
-        }
-    }
-}
-
 /// Whether the shape of a hole is declared.
-fn is_declared_at(name_types: usize, data_types: usize, holes: &[Shape], x: usize) -> bool
-    ensures { result ≡ is_declared name_types data_types (shape_at (map shape_of holes.now) x) }
+fn is_declared_at(
+    alloc: Global,
+    name_types: usize,
+    data_types: usize,
+    holes: &[Shape],
+    x: usize,
+) -> Result<bool, Memory>
+    ensures { IfOk result (λ b. b
+        ≡ is_declared name_types data_types (shape_at (map shape_of holes.now) x)) }
 {
-    x >= holes.len() || is_declared(name_types, data_types, &holes[x])
+    if x >= holes.len() {
+        return Ok(true);
+    }
+    is_declared(alloc, name_types, data_types, &holes[x])
 }
 
 /// Whether the shape of a hole is closed.
-fn is_closed_at(holes: &[Shape], x: usize) -> bool
-    ensures { result ≡ is_closed (shape_at (map shape_of holes.now) x) }
+fn is_closed_at(alloc: Global, holes: &[Shape], x: usize) -> Result<bool, Memory>
+    ensures { IfOk result (λ b. b ≡ is_closed (shape_at (map shape_of holes.now) x)) }
 {
-    x < holes.len() && is_closed(&holes[x])
+    if x >= holes.len() {
+        return Ok(false);
+    }
+    is_closed(alloc, &holes[x])
 }
 
 /// Whether the shapes of the holes below a number are declared.
-fn are_declared(name_types: usize, data_types: usize, holes: &[Shape], count: usize) -> bool
-    ensures all { result ≡ true → AllDeclared name_types data_types count (map shape_of holes.now) }
-    ensures some { result ≡ false →
-        SomeUndeclared name_types data_types count (map shape_of holes.now) }
+fn are_declared(
+    alloc: Global,
+    name_types: usize,
+    data_types: usize,
+    holes: &[Shape],
+    count: usize,
+) -> Result<bool, Memory>
+    ensures all { IfOk result (λ b. b ≡ true →
+        AllDeclared name_types data_types count (map shape_of holes.now)) }
+    ensures some { IfOk result (λ b. b ≡ false →
+        SomeUndeclared name_types data_types count (map shape_of holes.now)) }
 {
     for x in 0..count {
-        if !is_declared_at(name_types, data_types, holes, x) {
-            return false;
+        if !is_declared_at(alloc, name_types, data_types, holes, x)? {
+            return Ok(false);
         }
     }
-    true
+    Ok(true)
 }
 
 /// Whether the shapes of the holes below a number are closed.
-fn are_closed(holes: &[Shape], count: usize) -> bool
-    ensures all { result ≡ true → AllClosed count (map shape_of holes.now) }
-    ensures some { result ≡ false → SomeOpen count (map shape_of holes.now) }
+fn are_closed(alloc: Global, holes: &[Shape], count: usize) -> Result<bool, Memory>
+    ensures all { IfOk result (λ b. b ≡ true → AllClosed count (map shape_of holes.now)) }
+    ensures some { IfOk result (λ b. b ≡ false → SomeOpen count (map shape_of holes.now)) }
 {
     for x in 0..count {
-        if !is_closed_at(holes, x) {
-            return false;
+        if !is_closed_at(alloc, holes, x)? {
+            return Ok(false);
         }
     }
-    true
-}
-
-/// The sort of a shape that is a name type.
-fn sort_in_shape(t: &Shape) -> u32
-    ensures { result ≡ sort_in_shape (shape_of t.now) }
-{
-    match t {
-        Shape::Names(sort) => *sort,
-        _ => 0,
-    }
-}
-
-/// The type that a closed shape is.
-///
-/// It goes on along the right part of a pair, the elements of a list and the body of an abstraction, and
-/// calls itself on left parts of pairs alone.
-#[tactic(auto, using(ap_defs::proofs::SpineLemmas::type_within_last))]
-fn read_type(alloc: Global, t: &Shape) -> Result<Ty, Memory>
-    ensures { IfOk result (λ u. type_of u ≡ read_type (shape_of t.now)) }
-{
-    let mut layers = Vec::new(alloc);
-    let mut rest = t;
-    loop {
-        match rest {
-            Shape::Hole(_) | Shape::Unit => return close_type(alloc, layers, Ty::Unit),
-            Shape::Names(sort) => return close_type(alloc, layers, Ty::Names(*sort)),
-            Shape::Base(data) => return close_type(alloc, layers, Ty::Base(*data)),
-            Shape::Pair(left, right) => {
-                layers.push(TypeLayer::Left(read_type(alloc, left)?))?;
-                rest = right;
-            }
-            Shape::List(element) => {
-                layers.push(TypeLayer::List)?;
-                rest = element;
-            }
-            Shape::Abs(left, body) => {
-                layers.push(TypeLayer::Abs(sort_in_shape(left)))?;
-                rest = body;
-            }
-        }
-    }
+    Ok(true)
 }
 
 /// The kind of an identifier whose hole has a shape.
@@ -189,27 +112,31 @@ fn read_kinds(alloc: Global, idents: &[IdentKind], holes: &[Shape]) -> Result<Ve
 }
 
 /// Whether an identifier is a name, or a variable of an inhabited type.
-fn is_name_or_inhabited(inhabitants: &Inhabitants, kind: &Kind) -> bool
-    ensures { (cs : list NominalConstructor) → AreInhabitants cs inhabitants.now →
-        IsTrue result ↔ AreInhabited cs (kind_of kind.now ∷ []) }
+fn is_name_or_inhabited(
+    alloc: Global,
+    inhabitants: &Inhabitants,
+    kind: &Kind,
+) -> Result<bool, Memory>
+    ensures { IfOk result (λ b. (cs : list NominalConstructor) → AreInhabitants cs inhabitants.now →
+        IsTrue b ↔ AreInhabited cs (kind_of kind.now ∷ [])) }
 {
     match kind {
-        Kind::Name(_) => true,
-        Kind::Var(ty) => is_inhabited(inhabitants, ty),
+        Kind::Name(_) => Ok(true),
+        Kind::Var(ty) => Ok(is_inhabited(alloc, inhabitants, ty)?),
     }
 }
 
 /// Whether the type of each variable is inhabited. It costs as much as the types are long.
-fn are_inhabited(inhabitants: &Inhabitants, kinds: &[Kind]) -> bool
-    ensures { (cs : list NominalConstructor) → AreInhabitants cs inhabitants.now →
-        IsTrue result ↔ AreInhabited cs (map kind_of kinds.now) }
+fn are_inhabited(alloc: Global, inhabitants: &Inhabitants, kinds: &[Kind]) -> Result<bool, Memory>
+    ensures { IfOk result (λ b. (cs : list NominalConstructor) → AreInhabitants cs inhabitants.now →
+        IsTrue b ↔ AreInhabited cs (map kind_of kinds.now)) }
 {
     for kind in kinds {
-        if !is_name_or_inhabited(inhabitants, kind) {
-            return false;
+        if !is_name_or_inhabited(alloc, inhabitants, kind)? {
+            return Ok(false);
         }
     }
-    true
+    Ok(true)
 }
 
 /// The kinds of identifiers whose types are inhabited, by the shapes of the holes.
@@ -230,14 +157,14 @@ pub(crate) fn read_inhabited(
 {
     let name_types = sig.name_types.items().len();
     let data_types = sig.data_types.items().len();
-    if !are_declared(name_types, data_types, holes, idents.len()) {
+    if !are_declared(alloc, name_types, data_types, holes, idents.len())? {
         return Err(KindsError::Clash);
     }
-    if !are_closed(holes, idents.len()) {
+    if !are_closed(alloc, holes, idents.len())? {
         return Err(KindsError::Ambiguous);
     }
     let kinds = read_kinds(alloc, idents, holes)?;
-    if !are_inhabited(inhabitants, kinds.as_slice()) {
+    if !are_inhabited(alloc, inhabitants, kinds.as_slice())? {
         return Err(KindsError::Empty);
     }
     Ok(kinds)

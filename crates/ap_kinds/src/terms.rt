@@ -15,7 +15,7 @@ use crate::systems::{System, equate, refused, with_hole};
 use crate::wants::{Wanted, meet_name, meet_swapped, meet_unit, meet_var, wanted_all};
 use ap_defs::goals::Constructor;
 use ap_defs::memory::Memory;
-use ap_defs::terms::{Id, Raw, Shape};
+use ap_defs::terms::{Id, Raw, Shape, take_pair};
 use std::alloc::Global;
 
 /// What is wanted of the two sides of a pair.
@@ -45,16 +45,18 @@ fn new_sides<'a>(alloc: Global, want: Shape, system: System) -> Result<Sides<'a>
 }
 
 /// What is wanted of the two sides of a pair that stands where a shape is wanted.
+#[tactic(auto, using(crate::proofs::TakenLemmas::no_pair_sides))]
 fn sides_of_shape<'a>(alloc: Global, want: Shape, system: System) -> Result<Sides<'a>, Memory>
     ensures { IfOk result (λ p. sides_of p ≡ sides (whole (shape_of want)) (system_of system)) }
 {
-    match want {
-        Shape::Pair(left, right) => Ok(Sides {
-            left: Wanted::Whole(Box::into_inner(left)),
-            right: Wanted::Whole(Box::into_inner(right)),
+    let mut shape = want;
+    match take_pair(&mut shape) {
+        Some((left, right)) => Ok(Sides {
+            left: Wanted::Whole(left),
+            right: Wanted::Whole(right),
             system,
         }),
-        other => new_sides(alloc, other, system),
+        None => new_sides(alloc, shape, system),
     }
 }
 

@@ -233,10 +233,11 @@ fn chain(alloc: Global) -> Result<Inhabitants, Memory> {
 /// Whether the first data type is inhabited just from when the last has a constructor without arguments.
 fn last_inhabits(alloc: Global) -> Result<bool, Memory> {
     let mut table = chain(alloc)?;
-    let before = is_inhabited(&table, &Ty::Base(0));
+    let before = is_inhabited(alloc, &table, &Ty::Base(0))?;
     declare(alloc, &mut table, &constructor(alloc, Vec::new(alloc), 50))?;
-    let other = is_inhabited(&table, &Ty::Base(51));
-    Ok(!before && !other && is_inhabited(&table, &Ty::Base(0)))
+    let other = is_inhabited(alloc, &table, &Ty::Base(51))?;
+    let after = is_inhabited(alloc, &table, &Ty::Base(0))?;
+    Ok(!before && !other && after)
 }
 
 #[test]

@@ -10,6 +10,8 @@ pub mod NameLemmas
 pub mod TableLemmas
 pub mod LoadLemmas
 pub mod PartLemmas
+pub mod PartTests
+pub mod InhabitedParts
 pub mod JoinLemmas
 pub mod WalkLemmas
 pub mod WritingLemmas

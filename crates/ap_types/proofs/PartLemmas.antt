@@ -1,7 +1,7 @@
 -- Shapes that are put into a table part by part.
 use Rattle.std.proofs.Common.{◌≡◌, ◌<◌, ◌≤◌, ◌⊎◌, ◌+◌, ◌-◌, ◌∙◌, ℕ, zero, suc, true, List, [], ◌∷◌, ◌++◌, length, drop, get_or, append_assoc, append-nil, refl, sym, ap, ap₂, subst, inl, inr, arith, length-append, max, Bor}
 use Rattle.std.specs.Prelude.{slice_index_or}
-use Rattle.std.proofs.lemmas.List.{map-append, get_or_append_left, get_or-append_right, drop_more, drop-append-le}
+use Rattle.std.proofs.lemmas.List.{get_or_append_left, get_or-append_right, drop_more, drop-append-le}
 use Rattle.std.proofs.Math.Seq.{get_or-append_seam}
 use Rattle.ap_defs.specs.declared.terms.Shape.{Shape}
 use Rattle.ap_defs.specs.Types.{TypeShape, shape_of, hole, unit, names, base, pair, list, abs}
@@ -12,6 +12,7 @@ use Rattle.ap_types.specs.Joining.{Extends, Loads}
 use Rattle.ap_types.specs.Loading.{lent_shapes, taken, place_in, parts_taken, entry_in, parts_of, own_bound}
 use Rattle.ap_types.proofs.BooleanLemmas.{or_cases}
 use Rattle.ap_types.proofs.ShapeLemmas.{filled_filled, filled_same, filled_below, size_occurs}
+use Rattle.ap_types.proofs.PartTests.{last_lent, sum_sizes, sum_append}
 use Rattle.ap_types.proofs.TableLemmas.{at_past, form_more, formed_bound}
 
 -- What the places stand for: each of the first n for itself, and the next ones for these shapes.
@@ -334,12 +335,7 @@ loading_ends os t ns us start i formed h l =
 
 -- how much is to be put into the table
 abbrev pub sizes : List TypeShape → ℕ
-sizes [] = 0
-sizes (u ∷ us) = size u + sizes us
-
-sizes_append : (us vs : List TypeShape) → sizes (us ++ vs) ≡ sizes us + sizes vs
-sizes_append [] vs = omega arith
-sizes_append (u ∷ us) vs = let h = sizes_append us vs in omega arith
+sizes us = sum_sizes size us
 
 sizes_one : (t : TypeShape) → sizes (taken t) ≤ size t
 sizes_one (hole x) = omega arith
@@ -355,9 +351,9 @@ sizes_parts (hole x) = omega arith
 sizes_parts unit = omega arith
 sizes_parts (names s) = omega arith
 sizes_parts (base d) = omega arith
-sizes_parts (pair t u) = let h = sizes_append (taken t) (taken u) in let k = sizes_one t in let l = sizes_one u in omega arith
+sizes_parts (pair t u) = let h = sum_append size (taken t) (taken u) in let k = sizes_one t in let l = sizes_one u in omega arith
 sizes_parts (list t) = let k = sizes_one t in omega arith
-sizes_parts (abs t u) = let h = sizes_append (taken t) (taken u) in let k = sizes_one t in let l = sizes_one u in omega arith
+sizes_parts (abs t u) = let h = sum_append size (taken t) (taken u) in let k = sizes_one t in let l = sizes_one u in omega arith
 
 pub sizes_next : (us us' : List TypeShape) (i : ℕ) (u : TypeShape) → i < length us → u ≡ get_or us i u → us' ≡ us ++ parts_taken u → sizes (drop (i + 1) us') < sizes (drop i us)
 sizes_next us us' i u l e f =
@@ -365,7 +361,7 @@ sizes_next us us' i u l e f =
     let rest : drop (i + 1) us' ≡ drop (i + 1) us ++ parts_taken u = ap (drop (i + 1)) f ∙ drop-append-le (i + 1) us (parts_taken u) (omega arith) in
     let a : sizes (drop i us) ≡ size u + sizes (drop (i + 1) us) = ap sizes first in
     let b : sizes (drop (i + 1) us') ≡ sizes (drop (i + 1) us ++ parts_taken u) = ap sizes rest in
-    let c = sizes_append (drop (i + 1) us) (parts_taken u) in
+    let c = sum_append size (drop (i + 1) us) (parts_taken u) in
     let d = sizes_parts u in
     omega arith
 
@@ -387,7 +383,7 @@ bounds_parts (pair t u) = omega arith
 bounds_parts (list t) = omega arith
 bounds_parts (abs t u) = omega arith
 
-sizes_of_parts : (t : TypeShape) → sizes (parts_of t) < size t
+pub sizes_of_parts : (t : TypeShape) → sizes (parts_of t) < size t
 sizes_of_parts (hole x) = omega arith
 sizes_of_parts unit = omega arith
 sizes_of_parts (names s) = omega arith
@@ -396,26 +392,19 @@ sizes_of_parts (pair t u) = omega arith
 sizes_of_parts (list t) = omega arith
 sizes_of_parts (abs t u) = omega arith
 
-last_lent : (rs all : List (Bor Shape)) (r : Bor Shape) → all ≡ rs ++ r ∷ [] → lent_shapes all ≡ lent_shapes rs ++ shape_of r.now ∷ []
-last_lent rs all r e = ap lent_shapes e ∙ map-append (λ s. shape_of s.now) rs (r ∷ [])
-
-pub bounds_next : (all rs next : List (Bor Shape)) (r : Bor Shape) (bound own most whole : ℕ) → all ≡ rs ++ r ∷ [] → lent_shapes next ≡ lent_shapes rs ++ parts_of (shape_of r.now) → own ≡ own_bound (shape_of r.now) → most ≡ max bound own
-    → max bound (bounds (lent_shapes all)) ≡ whole → max most (bounds (lent_shapes next)) ≡ whole
-bounds_next all rs next r bound own most whole e f g h i =
-    let t = shape_of r.now in
-    let a : bounds (lent_shapes all) ≡ bounds (lent_shapes rs ++ t ∷ []) = ap bounds (last_lent rs all r e) in
-    let b = bounds_append (lent_shapes rs) (t ∷ []) in
-    let c : bounds (lent_shapes next) ≡ bounds (lent_shapes rs ++ parts_of t) = ap bounds f in
-    let d = bounds_append (lent_shapes rs) (parts_of t) in
+-- the bound so far with that of the part in hand, whose parts wait
+bounds_wait : (ws next : List (Bor Shape)) (t : TypeShape) (bound own most whole : ℕ) → lent_shapes next ≡ lent_shapes ws ++ parts_of t → own ≡ own_bound t → most ≡ max bound own
+    → max bound (max (bounds (lent_shapes ws)) (bound_of t)) ≡ whole → max most (bounds (lent_shapes next)) ≡ whole
+bounds_wait ws next t bound own most whole f g h i =
+    let c : bounds (lent_shapes next) ≡ bounds (lent_shapes ws ++ parts_of t) = ap bounds f in
+    let d = bounds_append (lent_shapes ws) (parts_of t) in
     let p = bounds_parts t in
     omega arith
 
-pub sizes_fewer : (all rs next : List (Bor Shape)) (r : Bor Shape) → all ≡ rs ++ r ∷ [] → lent_shapes next ≡ lent_shapes rs ++ parts_of (shape_of r.now) → sizes (lent_shapes next) < sizes (lent_shapes all)
-sizes_fewer all rs next r e f =
-    let t = shape_of r.now in
-    let a : sizes (lent_shapes all) ≡ sizes (lent_shapes rs ++ t ∷ []) = ap sizes (last_lent rs all r e) in
-    let b = sizes_append (lent_shapes rs) (t ∷ []) in
-    let c : sizes (lent_shapes next) ≡ sizes (lent_shapes rs ++ parts_of t) = ap sizes f in
-    let d = sizes_append (lent_shapes rs) (parts_of t) in
-    let p = sizes_of_parts t in
+pub bounds_next : (ws next rs : List (Bor Shape)) (t : TypeShape) (r : Bor Shape) (bound own most whole : ℕ) → next ≡ rs ++ r ∷ [] → lent_shapes next ≡ lent_shapes ws ++ parts_of t → own ≡ own_bound t → most ≡ max bound own
+    → max bound (max (bounds (lent_shapes ws)) (bound_of t)) ≡ whole → max most (max (bounds (lent_shapes rs)) (bound_of (shape_of r.now))) ≡ whole
+bounds_next ws next rs t r bound own most whole e f g h i =
+    let a = bounds_wait ws next t bound own most whole f g h i in
+    let b : bounds (lent_shapes next) ≡ bounds (lent_shapes rs ++ shape_of r.now ∷ []) = ap bounds (last_lent shape_of rs next r e) in
+    let c = bounds_append (lent_shapes rs) (shape_of r.now ∷ []) in
     omega arith

@@ -10,6 +10,7 @@ pub mod Assignments
 pub mod Triangular
 pub mod Joining
 pub mod Loading
+pub mod Needed
 pub mod Writing
 pub mod Walking
 pub mod Tables

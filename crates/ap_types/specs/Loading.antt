@@ -4,9 +4,12 @@ use Rattle.std.specs.Borrow.{Bor}
 use Rattle.ap_defs.specs.declared.terms.Shape.{Shape}
 use Rattle.ap_defs.specs.Types.{TypeShape, shape_of, hole, pair, list, abs}
 
--- the shapes of references
+-- what references stand for
+abbrev pub lent : {A B : Type 0} → (B → A) → List (Bor B) → List A
+lent view rs = map (λ r. view r.now) rs
+
 abbrev pub lent_shapes : List (Bor Shape) → List TypeShape
-lent_shapes rs = map (λ r. shape_of r.now) rs
+lent_shapes rs = lent shape_of rs
 
 -- what takes the next place for a shape
 abbrev pub taken : TypeShape → List TypeShape

@@ -6,7 +6,7 @@ ghost use Rattle.ap_types.specs.Inhabited.{IsInhabited};
 ghost use Rattle.ap_types.specs.Holding.{MayHold};
 ghost use Rattle.ap_types.specs.Statements.{InhabitedStandsStill, HoldingStandsStill, InhabitedHasTerms};
 
-use crate::rounds::{Question, answer_by, least_table};
+use crate::rounds::{Question, holds_by, is_inhabited_by, least_table};
 use ap_defs::goals::Signature;
 use ap_defs::memory::Memory;
 use ap_defs::terms::Ty;
@@ -23,7 +23,7 @@ pub fn inhabited(alloc: Global, sig: &Signature, ty: &Ty) -> Result<bool, Memory
         ↔ IsInhabited (signature_of sig.now).constructors (type_of ty.now)) }
 {
     let table = least_table(alloc, Question::Inhabited, sig.constructors.items())?;
-    let answer = answer_by(Question::Inhabited, table.as_slice(), ty);
+    let answer = is_inhabited_by(alloc, table.as_slice(), ty)?;
     Ok(answer)
 }
 
@@ -37,7 +37,7 @@ pub fn may_hold(alloc: Global, sig: &Signature, ty: &Ty, sort: u32) -> Result<bo
         ↔ MayHold (signature_of sig.now).constructors (type_of ty.now) sort) }
 {
     let table = least_table(alloc, Question::Holds(sort), sig.constructors.items())?;
-    let answer = answer_by(Question::Holds(sort), table.as_slice(), ty);
+    let answer = holds_by(sort, table.as_slice(), ty);
     Ok(answer)
 }
 

@@ -1,17 +1,18 @@
 //! Equations of types.
 
-ghost use Rattle.std.specs.Prelude.{◌≡◌, ◌↔◌, ℕ, ◌+◌, ◌≤◌, [], ◌∷◌, ◌++◌, length, map, max, IsTrue, IfOk, IfErr, OnOk};
+ghost use Rattle.std.specs.Prelude.{◌≡◌, ◌↔◌, ℕ, ◌+◌, ◌≤◌, [], ◌∷◌, length, map, max, IsTrue, IfOk, IfErr};
 ghost use Rattle.ap_defs.specs.Types.{shape_of};
 ghost use Rattle.ap_types.specs.Equations.{equation_of, bound_of, equations_bound, names_bound, hole_count, Filling, IsSolution, IsShapeInstance, GivesNames};
 ghost use Rattle.ap_types.specs.Assignments.{AreNames, IsUnsolvable, name_equation, name_equations, Narrows};
 ghost use Rattle.ap_types.specs.Triangular.{shapes_of_nodes, AreFormed, IsSettledTable, assignment_of};
-ghost use Rattle.ap_types.specs.Loading.{lent_shapes, own_bound, parts_of};
+ghost use Rattle.ap_types.specs.Loading.{own_bound};
 ghost use Rattle.ap_types.specs.Joining.{ArePairsWithin, NeverAgree, LoadsSystem, Settles};
 
 use crate::errors::TypesError;
 use crate::joining::{join_all, shorten_all};
 use crate::loading::{Loaded, load_all, open_places};
 use crate::nodes::Node;
+use crate::parts::push_parts;
 use crate::solved::{Solved, are_names_or_holes, written_out};
 use crate::walking::refuse_cycles;
 use ap_defs::lists::List;
@@ -47,38 +48,21 @@ fn own_bound(t: &Shape) -> Result<usize, Memory>
     }
 }
 
-/// The parts of a shape wait.
-fn push_parts<'a>(waiting: &mut Vec<&'a Shape>, t: &'a Shape) -> Result<(), Memory>
-    ensures { OnOk result (lent_shapes waiting.new.items
-        ≡ lent_shapes waiting.old.items ++ parts_of (shape_of t.now)) }
-{
-    match t {
-        Shape::Hole(_) | Shape::Unit | Shape::Names(_) | Shape::Base(_) => {}
-        Shape::Pair(left, right) => {
-            waiting.push(left)?;
-            waiting.push(right)?;
-        }
-        Shape::List(element) => waiting.push(element)?,
-        Shape::Abs(left, right) => {
-            waiting.push(left)?;
-            waiting.push(right)?;
-        }
-    }
-    Ok(())
-}
-
 /// One more than the greatest hole of a shape. The parts that are left stand on a stack.
 fn bound_in(alloc: Global, t: &Shape) -> Result<usize, Memory>
     ensures { IfOk result (λ n. n ≡ bound_of (shape_of t.now)) }
 {
     let mut bound = 0;
     let mut waiting = Vec::new(alloc);
-    waiting.push(t)?;
-    'parts: while let Some(part) = waiting.pop() {
+    let mut part = t;
+    'parts: loop {
         bound = greater(bound, own_bound(part)?);
         push_parts(&mut waiting, part)?;
+        let Some(next) = waiting.pop() else {
+            return Ok(bound);
+        };
+        part = next;
     }
-    Ok(bound)
 }
 
 /// One more than the greatest hole of equations.

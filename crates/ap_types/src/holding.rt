@@ -6,7 +6,7 @@ ghost use Rattle.ap_types.specs.Rounds.{marked};
 ghost use Rattle.ap_types.specs.Holding.{holds_if};
 ghost use Rattle.ap_types.specs.Tables.{IsHoldingTable};
 
-use crate::rounds::{Question, answer_by, least_table};
+use crate::rounds::{Question, holds_by, least_table};
 use ap_defs::goals::Signature;
 use ap_defs::memory::Memory;
 use ap_defs::terms::Ty;
@@ -32,5 +32,5 @@ pub fn types_holding(alloc: Global, sig: &Signature, sort: u32) -> Result<Holdin
 pub fn holds(table: &Holding, ty: &Ty) -> bool
     ensures { result ≡ holds_if table.now.sort (marked table.now.table.items) (type_of ty.now) }
 {
-    answer_by(Question::Holds(table.sort), table.table.as_slice(), ty)
+    holds_by(table.sort, table.table.as_slice(), ty)
 }

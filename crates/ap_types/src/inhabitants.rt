@@ -6,7 +6,7 @@ ghost use Rattle.ap_types.specs.Inhabited.{IsInhabited};
 ghost use Rattle.ap_types.specs.Tables.{AreInhabitants};
 
 use crate::least::{Least, nothing};
-use crate::rounds::{Question, add_constructor, answer_by, least_of};
+use crate::rounds::{Question, add_constructor, is_inhabited_by, least_of};
 use ap_defs::goals::Constructor;
 use ap_defs::memory::Memory;
 use ap_defs::terms::Ty;
@@ -53,11 +53,11 @@ pub fn declare(
     )
 }
 
-/// Whether a type is inhabited by the constructors so far. It takes no memory, and costs as much as the
-/// type is long.
-pub fn is_inhabited(inhabitants: &Inhabitants, ty: &Ty) -> bool
-    ensures { (cs : list NominalConstructor) → AreInhabitants cs inhabitants.now →
-        IsTrue result ↔ IsInhabited cs (type_of ty.now) }
+/// Whether a type is inhabited by the constructors so far. It costs as much as the type is long. `Err` is
+/// want of memory.
+pub fn is_inhabited(alloc: Global, inhabitants: &Inhabitants, ty: &Ty) -> Result<bool, Memory>
+    ensures { IfOk result (λ b. (cs : list NominalConstructor) → AreInhabitants cs inhabitants.now →
+        IsTrue b ↔ IsInhabited cs (type_of ty.now)) }
 {
-    answer_by(Question::Inhabited, inhabitants.found.table.as_slice(), ty)
+    is_inhabited_by(alloc, inhabitants.found.table.as_slice(), ty)
 }

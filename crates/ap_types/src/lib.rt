@@ -10,6 +10,7 @@ mod joining;
 mod least;
 mod loading;
 pub mod nodes;
+pub mod parts;
 mod rounds;
 pub mod solved;
 mod walking;

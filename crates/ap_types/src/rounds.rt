@@ -6,8 +6,10 @@ ghost use Rattle.std.specs.Prelude.{◌≡◌, ℕ, List as list, [], ◌∷◌,
 ghost use Rattle.ap_defs.specs.Types.{NominalConstructor, type_of, constructor_of};
 ghost use Rattle.ap_types.specs.Rounds.{marked, IsLeastSet};
 ghost use Rattle.ap_types.specs.Inhabited.{inhabited_if, all_inhabited};
+ghost use Rattle.ap_types.specs.Loading.{lent};
+ghost use Rattle.ap_types.specs.Needed.{own_inhabited, needed_parts};
 ghost use Rattle.ap_types.specs.Holding.{holds_if, some_holds};
-ghost use Rattle.ap_types.specs.Questions.{answer_if, test_of};
+ghost use Rattle.ap_types.specs.Questions.{test_of};
 ghost use Rattle.ap_types.specs.Rules.{all_are_in, Adds, Say, IsLeastSoFar};
 
 use crate::least::{Least, Rule, add_rules, is_marked, nothing};
@@ -23,28 +25,53 @@ pub(crate) enum Question {
     Holds(u32),
 }
 
-/// Whether a type is inhabited, by the data types that are marked as inhabited.
-fn is_inhabited_by(table: &[bool], t: &Ty) -> bool
-    ensures { result ≡ inhabited_if (marked table.now) (type_of t.now) }
+/// Whether a type is no data type that is not marked.
+fn own_inhabited(table: &[bool], t: &Ty) -> bool
+    ensures { result ≡ own_inhabited (marked table.now) (type_of t.now) }
 {
-    let mut rest = t;
-    loop {
-        match rest {
-            Ty::Unit | Ty::Names(_) | Ty::List(_) => return true,
-            Ty::Base(base) => return is_marked(table, *base),
-            Ty::Pair(left, right) => {
-                if !is_inhabited_by(table, left) {
-                    return false;
-                }
-                rest = right;
-            }
-            Ty::Abs(_, body) => rest = body,
+    match t {
+        Ty::Base(base) => is_marked(table, *base),
+        _ => true,
+    }
+}
+
+/// Puts the parts of a type that must be inhabited on a stack.
+fn push_needed<'a>(waiting: &mut Vec<&'a Ty>, t: &'a Ty) -> Result<(), Memory>
+    ensures { OnOk result (lent type_of waiting.new.items
+        ≡ lent type_of waiting.old.items ++ needed_parts (type_of t.now)) }
+{
+    match t {
+        Ty::Unit | Ty::Names(_) | Ty::Base(_) | Ty::List(_) => {}
+        Ty::Pair(left, right) => {
+            waiting.push(left)?;
+            waiting.push(right)?;
         }
+        Ty::Abs(_, body) => waiting.push(body)?,
+    }
+    Ok(())
+}
+
+/// Whether a type is inhabited, by the data types that are marked as inhabited. The parts that are left
+/// stand on a stack: the type of an identifier can be deep on either side.
+pub(crate) fn is_inhabited_by(alloc: Global, table: &[bool], t: &Ty) -> Result<bool, Memory>
+    ensures { IfOk result (λ b. b ≡ inhabited_if (marked table.now) (type_of t.now)) }
+{
+    let mut waiting = Vec::new(alloc);
+    let mut part = t;
+    'parts: loop {
+        if !own_inhabited(table, part) {
+            return Ok(false);
+        }
+        push_needed(&mut waiting, part)?;
+        let Some(next) = waiting.pop() else {
+            return Ok(true);
+        };
+        part = next;
     }
 }
 
 /// Whether a type may hold names of a sort, by the data types that are marked as those that may.
-fn holds_by(sort: u32, table: &[bool], t: &Ty) -> bool
+pub(crate) fn holds_by(sort: u32, table: &[bool], t: &Ty) -> bool
     ensures { result ≡ holds_if sort (marked table.now) (type_of t.now) }
 {
     let mut rest = t;
@@ -61,16 +88,6 @@ fn holds_by(sort: u32, table: &[bool], t: &Ty) -> bool
             }
             Ty::List(inner) | Ty::Abs(_, inner) => rest = inner,
         }
-    }
-}
-
-/// The answer for a type, by the data types that are marked.
-pub(crate) fn answer_by(question: Question, table: &[bool], t: &Ty) -> bool
-    ensures { result ≡ answer_if question (marked table.now) (type_of t.now) }
-{
-    match question {
-        Question::Inhabited => is_inhabited_by(table, t),
-        Question::Holds(sort) => holds_by(sort, table, t),
     }
 }
 
