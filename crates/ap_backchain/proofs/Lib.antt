@@ -20,3 +20,4 @@ pub mod VarLemmas
 pub mod UnboundLemmas
 pub mod SetLemmas
 pub mod AnswerLemmas
+pub mod ClosedLemmas

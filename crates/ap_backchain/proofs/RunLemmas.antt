@@ -1,22 +1,20 @@
 -- What a search finds again when it goes back to a choice, and what a choice makes of a machine.
 use Rattle.std.specs.Global.{Global}
 use Rattle.std.specs.Prelude.{Some, Result, Ok, Err, OnOk, Vec, reverse}
-use Rattle.std.proofs.Common.{◌≡◌, ℕ, zero, suc, ◌+◌, ◌-◌, ◌<◌, ◌≤◌, List, [], ◌∷◌, ◌++◌, length, get_or, map, drop, refl, sym, ap, ap₂, ◌∙◌, subst, arith}
+use Rattle.std.proofs.Common.{◌≡◌, ℕ, zero, suc, true, nat_lt, ◌+◌, ◌-◌, ◌<◌, ◌≤◌, List, [], ◌∷◌, ◌++◌, length, get_or, map, drop, refl, sym, ap, ap₂, ◌∙◌, subst, arith}
 use Rattle.std.proofs.Math.Decide.{dec_lt}
 use Rattle.std.proofs.lemmas.List.{drop_all, reverse-append}
 use Rattle.std.proofs.Math.Seq.{drop-cons}
 use Rattle.ap_defs.specs.Goals.{Clauses, NominalGoal, succeed, atom, equal, fresh, both, either, exists, new, clause_of, clauses_of}
 use Rattle.ap_defs.specs.Renaming.{rename_term}
 use Rattle.ap_defs.specs.Terms.{NominalTerm, term_of}
-use Rattle.ap_defs.specs.Types.{NominalLocal}
 use Rattle.ap_defs.specs.declared.goals.Clause.{Clause}
 use Rattle.ap_defs.specs.declared.terms.Term.{Term}
-use Rattle.ap_search.specs.Continuations.{Waiting}
 use Rattle.ap_backchain.specs.Below.{AreWaitingBelow}
-use Rattle.ap_backchain.specs.Marks.{choice_of, choice_of_atom, choice_of_goal}
+use Rattle.ap_backchain.specs.Marks.{choice_of_atom, choice_of_goal}
 use Rattle.ap_backchain.specs.Machines.{next_of, position_of, track_of}
 use Rattle.ap_backchain.specs.ChoicePoints.{ArePoints, IsFitRest, IsPoint, positions_left, positions_pending}
-use Rattle.ap_backchain.specs.Positions.{Position, enters_clause, positions_by_clauses, goes, turned, turned_atom, turned_by, turned_goal}
+use Rattle.ap_backchain.specs.Positions.{Position, enters_clause, positions_by_clauses, goes, turned_atom, turned_goal}
 use Rattle.ap_backchain.specs.Searches.{HasPoints, ended_outs, pending_positions}
 use Rattle.ap_backchain.specs.Tracks.{GoesFrom, IsSaveWithin, Track, back_to, next_in, position_at}
 use Rattle.ap_backchain.specs.declared.machine.Machine.{Machine}
@@ -146,8 +144,12 @@ pub deep_atom : (program : Clauses) (n c w : ℕ) → choice_of_atom program n c
 deep_atom program zero c w h = cc
 deep_atom program (suc n) c w h = omega arith
 
+pub atom_chooses : (program : Clauses) (n c : ℕ) → nat_lt 0 n ≡ true → (w : ℕ) × (choice_of_atom program n c ≡ Some w)
+atom_chooses program zero c h = cc
+atom_chooses program (suc n) c h = (length (clauses_of program c), refl)
+
 -- A choice does not end the search.
-ended_goal : (program : Clauses) (d : ℕ) (g : NominalGoal) (p : Position) (w : ℕ) → choice_of_goal program d g ≡ Some w → ended_outs (turned_goal program d g p) ≡ []
+pub ended_goal : (program : Clauses) (d : ℕ) (g : NominalGoal) (p : Position) (w : ℕ) → choice_of_goal program d g ≡ Some w → ended_outs (turned_goal program d g p) ≡ []
 ended_goal program zero (atom c ts) p w h = cc
 ended_goal program (suc d) (atom c ts) p w h = refl
 ended_goal program d (either g k) p w h = refl
@@ -157,10 +159,3 @@ ended_goal program d (fresh t u) p w h = cc
 ended_goal program d (both g k) p w h = cc
 ended_goal program d (exists x g) p w h = cc
 ended_goal program d (new a g) p w h = cc
-
-ended_by : (program : Clauses) (locals : List NominalLocal) (ws : List Waiting) (p : Position) (w : ℕ) → choice_of program ws ≡ Some w → ended_outs (turned_by program locals ws p) ≡ []
-ended_by program locals [] p w h = cc
-ended_by program locals (x ∷ ws) p w h = ended_goal program x.depth x.goal (record p { waiting = ws }) w h
-
-pub ended_choice : (program : Clauses) (locals : List NominalLocal) (p : Position) (w : ℕ) → choice_of program p.waiting ≡ Some w → [] ≡ ended_outs (turned program locals p)
-ended_choice program locals p w h = sym (ended_by program locals p.waiting p w h)

@@ -1,3 +1,4 @@
+pub mod Closed
 pub mod Unbound
 pub mod Searches
 pub mod Heads

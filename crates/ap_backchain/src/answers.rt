@@ -3,7 +3,6 @@
 ghost use Rattle.std.specs.Prelude.{◌≡◌, ◌<◌, ◌^◌, [], IfOk, length, map};
 ghost use Rattle.std.specs.Option.{option_to_list};
 ghost use Rattle.ap_defs.specs.Answers.{answer_of, closed_term, kind_at, typed_var_of, typed_vars, with_type};
-ghost use Rattle.ap_defs.specs.Canonical.{canonical_term};
 ghost use Rattle.ap_defs.specs.Terms.{susp, term_of};
 ghost use Rattle.ap_defs.specs.Types.{locals_of};
 ghost use Rattle.ap_search.specs.Records.{closed_vars};
@@ -11,6 +10,7 @@ ghost use Rattle.ap_backchain.specs.Unbound.{answer_by_unbound, vars_besides};
 ghost use Rattle.ap_backchain.specs.Views.{state_in};
 ghost use Rattle.ap_store.specs.Views.{kinds};
 
+use crate::closing::closed_from;
 use crate::renaming::vars_of_locals;
 use crate::unbound::unbound_of;
 use crate::vars::{add_vars_of_conds, add_vars_of_terms, make_ascending};
@@ -19,46 +19,10 @@ use ap_defs::goals::{Kind, Local};
 use ap_defs::lists::List;
 use ap_defs::memory::Memory;
 use ap_defs::outcomes::Answer;
-use ap_defs::spines::{TermLayer, close_term};
 use ap_defs::terms::{Cond, Term, Ty, Var};
 use ap_perm::closures::Closure;
-use ap_perm::perm::Perm;
 use ap_store::store::Store;
 use std::alloc::Global;
-
-/// A copy of a term in which the list of each suspension is canonical.
-///
-/// It goes on along the right part of a pair, the argument of a constructor and the body of an
-/// abstraction, and calls itself on left parts of pairs alone.
-#[tactic(auto, using(ap_defs::proofs::SpineLemmas::term_within_last))]
-fn canonical_of(alloc: Global, t: &Term) -> Result<Term, Memory>
-    ensures { IfOk result (λ u. term_of u ≡ canonical_term (term_of t.now)) }
-{
-    let mut layers = Vec::new(alloc);
-    let mut rest = t;
-    loop {
-        match rest {
-            Term::Unit => return close_term(alloc, layers, Term::Unit),
-            Term::Name(a) => return close_term(alloc, layers, Term::Name(*a)),
-            Term::Susp(swaps, x) => {
-                let swaps = Perm::of(alloc, swaps.items())?.swaps(alloc)?;
-                return close_term(alloc, layers, Term::Susp(List::of(swaps), *x));
-            }
-            Term::Pair(left, right) => {
-                layers.push(TermLayer::Left(canonical_of(alloc, left)?))?;
-                rest = right;
-            }
-            Term::App(f, argument) => {
-                layers.push(TermLayer::App(*f))?;
-                rest = argument;
-            }
-            Term::Abs(a, body) => {
-                layers.push(TermLayer::Abs(*a))?;
-                rest = body;
-            }
-        }
-    }
-}
 
 /// What a variable stands for, with canonical lists.
 pub fn closed_var(alloc: Global, store: &Store<'_>, x: Var) -> Result<Term, Memory>
@@ -67,8 +31,7 @@ pub fn closed_var(alloc: Global, store: &Store<'_>, x: Var) -> Result<Term, Memo
     let waiting = Term::Susp(List::of(Vec::new(alloc)), x);
     if x.num < store.next() {
         let closure = Closure::of(alloc, 0, store.next(), &waiting);
-        let bound = store.walk(alloc, &closure)?;
-        canonical_of(alloc, &bound)
+        closed_from(alloc, store, &closure)
     } else {
         Ok(waiting)
     }

@@ -1,7 +1,7 @@
 //! Among how many a search chooses.
 
-ghost use Rattle.std.specs.Prelude.{◌≡◌, None, Some, MatchOption};
-ghost use Rattle.ap_defs.specs.Goals.{program_in};
+ghost use Rattle.std.specs.Prelude.{◌≡◌, ℕ, false, true, None, Some, MatchOption};
+ghost use Rattle.ap_defs.specs.Goals.{Clauses, program_in};
 ghost use Rattle.ap_backchain.specs.Below.{AreClausesBelow};
 ghost use Rattle.ap_backchain.specs.Marks.{choice_of, choice_of_goal};
 ghost use Rattle.ap_backchain.specs.Machines.{position_of};
@@ -35,6 +35,25 @@ fn choice_of_frame<'a>(clauses: &'a [Predicate<'a>], frame: &Frame<'a>) -> Optio
         Goal::Both(_, _) => None,
         Goal::Exists(_, _) => None,
         Goal::New(_, _) => None,
+    }
+}
+
+/// Whether the goal of a frame chooses.
+pub fn is_choosing(frame: &Frame<'_>) -> bool
+    ensures choosing { result ≡ true → (program : Clauses) → (w : ℕ)
+        × (choice_of_goal program frame.now.depth (waiting_of frame.now).goal ≡ Some w) }
+    ensures settled { result ≡ false → (program : Clauses) →
+        choice_of_goal program frame.now.depth (waiting_of frame.now).goal ≡ None }
+{
+    match frame.goal {
+        Goal::Atom(_, _) => frame.depth > 0,
+        Goal::Either(_, _) => true,
+        Goal::True => false,
+        Goal::Equal(_, _) => false,
+        Goal::Fresh(_, _) => false,
+        Goal::Both(_, _) => false,
+        Goal::Exists(_, _) => false,
+        Goal::New(_, _) => false,
     }
 }
 

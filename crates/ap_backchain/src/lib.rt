@@ -12,6 +12,7 @@ pub mod answers;
 pub mod branch;
 pub mod choices;
 pub mod clauses;
+pub mod closing;
 pub mod counted;
 pub mod descent;
 pub mod ends;

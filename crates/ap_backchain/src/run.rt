@@ -1,25 +1,27 @@
 //! Whole searches.
 
-ghost use Rattle.std.specs.Prelude.{◌≡◌, ◌<◌, ◌^◌, ◌++◌, [], false, true, None, Some, IfOk, IfSome, OnOk, length, map};
+ghost use Rattle.std.specs.Prelude.{◌≡◌, ◌<◌, ◌^◌, ◌++◌, ◌∷◌, [], false, true, None, Some, IfOk, IfSome, OnOk, length, map};
 ghost use Rattle.ap_defs.specs.Answers.{out_of, outs_of};
-ghost use Rattle.ap_defs.specs.Goals.{program_in, query_of};
+ghost use Rattle.ap_defs.specs.Goals.{goal_of, program_in, query_of};
+ghost use Rattle.ap_defs.specs.Renaming.{IsGoalBelow, rename_goal};
 ghost use Rattle.ap_defs.specs.Types.{locals_of};
 ghost use Rattle.ap_backchain.specs.Below.{AreClausesBelow, IsQueryBelow};
 ghost use Rattle.ap_backchain.specs.Ends.{end_out, kept_out};
-ghost use Rattle.ap_backchain.specs.Machines.{position_of};
-ghost use Rattle.ap_backchain.specs.Positions.{outs_from, turned};
+ghost use Rattle.ap_backchain.specs.Machines.{next_of, position_of};
+ghost use Rattle.ap_backchain.specs.Positions.{outs_from, turned, turned_goal};
 ghost use Rattle.ap_backchain.specs.Searches.{HasPoints, ended_outs, positions_followed, pending_positions, positions_with};
 ghost use Rattle.ap_backchain.specs.Starts.{first_position};
 ghost use Rattle.ap_backchain.specs.Wanted as limits;
 ghost use Rattle.ap_paths.specs.Limits.{part};
 
-use crate::choices::choice_at;
+use crate::choices::is_choosing;
 use crate::ends::{End, out_at};
+use crate::frames::Frame;
 use crate::machine::Machine;
 use crate::points::ChoicePoint;
-use crate::turns::{Turn, take_turn};
+use crate::turns::{Turn, found, turn_of_goal};
 use crate::wanted::{is_wanting, wanted_after};
-use crate::ways::{choose, resume};
+use crate::ways::{choose_by, resume};
 use ap_defs::goals::{Local, Query};
 use ap_defs::memory::Memory;
 use ap_defs::paths::Out;
@@ -66,6 +68,62 @@ fn out_kept(alloc: Global, paths: Paths, path: &[u32], end: End) -> Result<Out, 
     Ok(out_at(path, end))
 }
 
+/// Adds the output of an end at a machine.
+fn add_end<'a>(
+    alloc: Global,
+    paths: Paths,
+    machine: &Machine<'a>,
+    end: End,
+    outs: &mut Vec<Out>,
+) -> Result<(), Memory>
+    ensures { OnOk result (outs_of outs.new.items
+        ≡ outs_of outs.old.items ++ kept_out paths (end_out machine.now.path.items end) ∷ []) }
+{
+    let out = out_kept(alloc, paths, machine.path.as_slice(), end)?;
+    outs.push(out)?;
+    Ok(())
+}
+
+/// The turn of the goal of a frame, from a machine in which the others wait: it goes on by the goal's
+/// first way and keeps the others, or adds the output with which it ends. It answers whether the search
+/// goes on from the machine.
+fn turn_by<'a>(
+    alloc: Global,
+    clauses: &'a [Predicate<'a>],
+    paths: Paths,
+    frame: Frame<'a>,
+    machine: &mut Machine<'a>,
+    points: &mut Vec<ChoicePoint<'a>>,
+    outs: &mut Vec<Out>,
+) -> Result<bool, Memory>
+    requires clauses { AreClausesBelow (program_in clauses.now) }
+    requires goal { IsGoalBelow (next_of machine.old) (rename_goal frame.base
+        (goal_of frame.goal.now)) }
+    requires points { HasPoints machine.old points.old }
+    ensures left { IfOk result (λ b. positions_with b machine.new points.new
+        ≡ positions_followed (turned_goal (program_in clauses.now) frame.entry.depth (rename_goal
+        frame.entry.base (goal_of frame.entry.goal.now)) (position_of machine.old))
+        (pending_positions machine.old points.old)) }
+    ensures outs { OnOk result (outs_of outs.new.items
+        ≡ outs_of outs.old.items
+        ++ map (kept_out paths) (ended_outs (turned_goal (program_in clauses.now)
+        frame.entry.depth (rename_goal frame.entry.base (goal_of frame.entry.goal.now))
+        (position_of machine.old)))) }
+    ensures points { OnOk result (HasPoints machine.new points.new) }
+{
+    if is_choosing(&frame) {
+        return choose_by(alloc, clauses, frame, machine, points);
+    }
+    match turn_of_goal(alloc, clauses, frame, machine)? {
+        Turn::Goes => Ok(true),
+        Turn::Fails => Ok(false),
+        Turn::Ends(end) => {
+            add_end(alloc, paths, machine, end, outs)?;
+            Ok(false)
+        }
+    }
+}
+
 /// One turn of a search, which adds the output with which it ends. It answers whether the search goes
 /// on from the machine.
 fn turn_on<'a>(
@@ -89,17 +147,13 @@ fn turn_on<'a>(
         (locals_of locals.now) (position_of machine.old)))) }
     ensures points { OnOk result (HasPoints machine.new points.new) }
 {
-    match choice_at(clauses, machine) {
-        Some(_) => choose(alloc, clauses, machine, points),
-        None => match take_turn(alloc, clauses, locals, machine)? {
-            Turn::Goes => Ok(true),
-            Turn::Fails => Ok(false),
-            Turn::Ends(end) => {
-                let out = out_kept(alloc, paths, machine.path.as_slice(), end)?;
-                outs.push(out)?;
-                Ok(false)
-            }
-        },
+    match machine.pop_goal() {
+        Some(frame) => turn_by(alloc, clauses, paths, frame, machine, points, outs),
+        None => {
+            let end = found(alloc, locals, machine)?;
+            add_end(alloc, paths, machine, end, outs)?;
+            Ok(false)
+        }
     }
 }
 

@@ -204,7 +204,7 @@ pub fn turn_of_goal<'a>(
 }
 
 /// The end at a machine in which no goal waits.
-fn found<'a>(alloc: Global, locals: &[Local], machine: &Machine<'a>) -> Result<End, Memory>
+pub fn found<'a>(alloc: Global, locals: &[Local], machine: &Machine<'a>) -> Result<End, Memory>
     requires { length locals.now < 2 ^ 64 }
     ensures { IfOk result (λ e. end_out machine.now.path.items e
         ≡ found_at machine.now.path.items (answer_by_unbound (locals_of locals.now)

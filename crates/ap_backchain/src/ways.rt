@@ -1,14 +1,13 @@
 //! The ways of a choice: one is taken, and the others are kept.
 
-ghost use Rattle.std.specs.Prelude.{◌≡◌, ℕ, ◌<◌, ◌≤◌, ◌++◌, [], ◌∷◌, false, true, None, Some, IfOk, List as list, OnOk, length};
+ghost use Rattle.std.specs.Prelude.{◌≡◌, ℕ, ◌<◌, ◌≤◌, ◌++◌, [], ◌∷◌, false, true, None, Some, IfOk, OnOk, length};
 ghost use Rattle.ap_defs.specs.Goals.{either, goal_of, program_in};
 ghost use Rattle.ap_defs.specs.Renaming.{IsGoalBelow, rename_goal};
-ghost use Rattle.ap_defs.specs.Types.{NominalLocal};
 ghost use Rattle.ap_backchain.specs.Below.{AreClausesBelow};
-ghost use Rattle.ap_backchain.specs.Marks.{choice_of, choice_of_goal};
+ghost use Rattle.ap_backchain.specs.Marks.{choice_of_goal};
 ghost use Rattle.ap_backchain.specs.Machines.{next_of, position_of};
 ghost use Rattle.ap_backchain.specs.ChoicePoints.{IsFitRest, positions_left};
-ghost use Rattle.ap_backchain.specs.Positions.{turned, turned_goal};
+ghost use Rattle.ap_backchain.specs.Positions.{turned_goal};
 ghost use Rattle.ap_backchain.specs.Searches.{HasPoints, positions_followed, pending_positions, positions_with};
 
 use crate::clauses::{candidates_at, enter_clause};
@@ -114,7 +113,7 @@ fn take_left<'a>(
 
 /// Goes on by the first way of the goal of a frame, from a machine in which the others wait, and keeps
 /// the other ways. It answers whether there is a way.
-fn choose_by<'a>(
+pub fn choose_by<'a>(
     alloc: Global,
     clauses: &'a [Predicate<'a>],
     frame: Frame<'a>,
@@ -158,30 +157,6 @@ fn choose_by<'a>(
         Goal::Both(_, _) => unreachable!(),
         Goal::Exists(_, _) => unreachable!(),
         Goal::New(_, _) => unreachable!(),
-    }
-}
-
-/// Goes on by the first way of the first goal that waits, which chooses, and keeps the other ways. It
-/// answers whether there is a way.
-pub fn choose<'a>(
-    alloc: Global,
-    clauses: &'a [Predicate<'a>],
-    machine: &mut Machine<'a>,
-    points: &mut Vec<ChoicePoint<'a>>,
-) -> Result<bool, Memory>
-    requires clauses { AreClausesBelow (program_in clauses.now) }
-    requires choosing { (w : ℕ)
-        × (choice_of (program_in clauses.now) (position_of machine.old).waiting ≡ Some w) }
-    requires points { HasPoints machine.old points.old }
-    ensures left { IfOk result (λ b. (locals : list NominalLocal) →
-        positions_with b machine.new points.new
-        ≡ positions_followed (turned (program_in clauses.now) locals (position_of machine.old))
-        (pending_positions machine.old points.old)) }
-    ensures points { OnOk result (HasPoints machine.new points.new) }
-{
-    match machine.pop_goal() {
-        None => unreachable!(),
-        Some(frame) => choose_by(alloc, clauses, frame, machine, points),
     }
 }
 
