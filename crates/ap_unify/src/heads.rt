@@ -20,8 +20,8 @@ pub enum Head {
 
 /// What is bound to the variable at the head of a part, where no swappings wait on either.
 fn bound_at<'a>(store: &Store<'a>, p: Plain<'a>) -> Option<Plain<'a>>
-    ensures { IfSome result (λ q. IsFurther (present store.now) (rank store.now) (plain_term p.entry)
-        (plain_term q)) }
+    ensures { IfSome result (λ q. IsFurther (present store.now) (rank store.now)
+        (plain_term p.entry) (plain_term q)) }
 {
     match p.term {
         Term::Susp(q, x) => {
