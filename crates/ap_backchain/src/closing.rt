@@ -1,8 +1,8 @@
 //! Terms with all bindings carried out, in which the list of each suspension is canonical.
 
-ghost use Rattle.std.specs.Prelude.{◌≡◌, ◌≤◌, ◌<◌, ◌+◌, [], IfOk};
+ghost use Rattle.std.specs.Prelude.{◌≡◌, ◌≤◌, ◌<◌, ◌+◌, [], true, IfOk};
 ghost use Rattle.ap_defs.specs.Canonical.{canonical, canonical_term};
-ghost use Rattle.ap_defs.specs.Terms.{term_of};
+ghost use Rattle.ap_defs.specs.Terms.{app, term_of, unit};
 ghost use Rattle.ap_perm.specs.Closures.{closure_term};
 ghost use Rattle.ap_store.specs.Heads.{IsHeadUnbound};
 ghost use Rattle.ap_store.specs.Views.{bindings_of, meaning_in};
@@ -60,6 +60,20 @@ fn headed<'a>(alloc: Global, store: &Store<'a>, c: Closure<'a>) -> Result<Closur
     }
 }
 
+/// Whether a term is the one without parts, as the argument of a constant is.
+fn is_unit(t: &Term) -> bool
+    ensures { result ≡ true → term_of t.now ≡ unit }
+{
+    matches!(t, Term::Unit)
+}
+
+/// A constructor with the argument of a constant.
+fn constant(alloc: Global, f: u32) -> Result<Term, Memory>
+    ensures { IfOk result (λ t. term_of t ≡ app f unit) }
+{
+    Ok(Term::App(f, Box::new(alloc, Term::Unit)?))
+}
+
 /// Goes into a part that is still to be made: what stands round the next one is kept, unless this one
 /// has no parts.
 fn go_in<'a>(
@@ -88,6 +102,10 @@ fn go_in<'a>(
             Ok(Part::Left(left))
         }
         Opened::App(f, argument) => {
+            if is_unit(argument.term) {
+                let made = constant(alloc, f)?;
+                return Ok(Part::Made(made));
+            }
             rounds.push(Round::App(f))?;
             Ok(Part::Left(argument))
         }

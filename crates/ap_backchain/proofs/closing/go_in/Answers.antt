@@ -1,7 +1,8 @@
 use Rattle.std.proofs.Common.{◌≡◌, ◌*◌, sym, ap, ◌∙◌, subst, arith}
 use Rattle.ap_defs.specs.Canonical.{canonical_term}
 use Rattle.ap_defs.specs.Substitution.{under}
-use Rattle.ap_defs.specs.Terms.{abs, app, pair, susp}
+use Rattle.ap_defs.specs.Renaming.{rename_term}
+use Rattle.ap_defs.specs.Terms.{act_term, NominalTerm, unit, abs, app, pair, susp}
 use Rattle.ap_defs.specs.Unification.{size}
 use Rattle.ap_perm.specs.Closures.{closure_term, opened_term}
 use Rattle.ap_store.proofs.WalkLemmas.{head_stays}
@@ -77,3 +78,19 @@ returns-in_ok-push-in-Abs-clause-less c =
     sym c.in_ok-head.ensures.term ∙ ap (under (bindings_of s)) (sym c.in_ok-open.ensures ∙ ap opened_term c.in-Abs.is) in
     work_goes_in s c.args.rounds.now.items c.push-in-Abs.new.self.items (rounds.Abs c.in-Abs.a) (3 * size (meaning_in s c.in-Abs.body)) (3 * size (meaning_in s c.args.c))
     c.in_ok-push-in-Abs.ensures.items (abs_work (meaning_in s c.args.c) c.in-Abs.a (meaning_in s c.in-Abs.body) all)
+
+pub returns-then-is_unit-clause-same : goal.returns-then-is_unit-clause-same
+returns-then-is_unit-clause-same c =
+    let s = c.args.store.now in let bs = bindings_of s in let a = c.in-App.argument in
+    let none : meaning_in s a ≡ unit = ap (λ (t : NominalTerm). under bs (act_term a.swaps.items (rename_term a.base t))) (c.is_unit.ensures c.if-is_unit.true) in
+    let all : meaning_in s c.args.c ≡ app c.in-App.f unit =
+    sym c.in_ok-head.ensures.term ∙ ap (under bs) (sym c.in_ok-open.ensures ∙ ap opened_term c.in-App.is) ∙ ap (λ t. app c.in-App.f t) none in
+    ap (closed_within s c.args.rounds.now.items) (c.in_ok-made-in-App.ensures ∙ sym (ap canonical_term all))
+
+pub returns-then-is_unit-clause-less : goal.returns-then-is_unit-clause-less
+returns-then-is_unit-clause-less c =
+    let s = c.args.store.now in let bs = bindings_of s in let a = c.in-App.argument in
+    let none : meaning_in s a ≡ unit = ap (λ (t : NominalTerm). under bs (act_term a.swaps.items (rename_term a.base t))) (c.is_unit.ensures c.if-is_unit.true) in
+    let all : size (meaning_in s c.args.c) ≡ 2 =
+    ap size (sym c.in_ok-head.ensures.term ∙ ap (under bs) (sym c.in_ok-open.ensures ∙ ap opened_term c.in-App.is) ∙ ap (λ t. app c.in-App.f t) none) in
+    omega (arith, all)
