@@ -2,7 +2,8 @@
 ghost use Rattle.std.specs.Prelude.{◌≡◌};
 
 use crate::nodes::{Form, node_at};
-use crate::reader::{Expect, Known, Reader, Stop, is_sign, sign_at};
+use crate::reader::{Expect, Known, Reader, Stop};
+use crate::signs::{Sign, sign_at, sign_of};
 use crate::slips::Wanted;
 use ap_lexer::{Token, TokenKind};
 
@@ -12,14 +13,14 @@ impl<'t, 'a> Reader<'t, 'a> {
             self.expect = Expect::PredicateWord;
             return Ok(());
         }
-        if is_sign(token, "?-") {
+        if sign_of(token) == Sign::Ask {
             self.expect = Expect::Goal;
             return Ok(());
         }
         if token.kind != TokenKind::Ident {
             return Err(self.stop(place, Wanted::Item));
         }
-        if sign_at(self.tokens, place.saturating_add(1), ":") {
+        if sign_at(self.tokens, place.saturating_add(1)) == Sign::Colon {
             return self.add(Form::Word, place, Expect::Known(Known::Colon));
         }
         self.nodes.enter(Form::Head, place)?;
@@ -35,13 +36,13 @@ impl<'t, 'a> Reader<'t, 'a> {
         match known {
             Known::Lambda => self.expect = Expect::Term,
             Known::Open => {
-                if !is_sign(token, "(") {
+                if sign_of(token) != Sign::Open {
                     return Err(self.stop(place, Wanted::Open));
                 }
                 self.expect = Expect::Term;
             }
             Known::OpenGoals => {
-                if !is_sign(token, "(") {
+                if sign_of(token) != Sign::Open {
                     return Err(self.stop(place, Wanted::Open));
                 }
                 self.expect = Expect::Goal;
@@ -82,7 +83,7 @@ impl<'t, 'a> Reader<'t, 'a> {
         place: usize,
         token: &Token<'a>,
     ) -> Result<(), Stop> {
-        if !is_sign(token, "(") {
+        if sign_of(token) != Sign::Open {
             return Err(self.stop(place, Wanted::PredicateTypes));
         }
         self.expect = Expect::Term;
@@ -129,7 +130,7 @@ impl<'t, 'a> Reader<'t, 'a> {
         self.leave_abstractions(place);
         self.leave_goal(place)?;
         let open = self.nodes.open_place();
-        match self.nodes.open_node().form {
+        match self.nodes.open_form() {
             Form::Item => Ok(()),
             Form::Domain => {
                 if node_at(self.nodes.all(), open.saturating_add(1)).form == Form::Word {

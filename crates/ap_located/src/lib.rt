@@ -18,6 +18,7 @@ pub mod nearest;
 pub mod nesting;
 pub mod nodes;
 pub mod reader;
+mod signs;
 pub mod slips;
 pub mod spots;
 mod term_reader;

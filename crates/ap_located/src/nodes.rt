@@ -66,9 +66,10 @@ pub struct Nodes {
 }
 
 impl Nodes {
-    /// An item without parts.
-    pub fn new(alloc: Global) -> Result<Nodes, Memory> {
-        let mut nodes = Vec::new(alloc);
+    /// An item without parts, with room for about the parts of an item of so many tokens: every other
+    /// one is a bracket or a comma.
+    pub fn of_tokens(alloc: Global, tokens: usize) -> Result<Nodes, Memory> {
+        let mut nodes = Vec::with_capacity(alloc, (tokens / 2).saturating_add(4))?;
         nodes.push(Node {
             form: Form::Item,
             first: 0,
@@ -96,15 +97,26 @@ impl Nodes {
         self.open
     }
 
-    /// The node that is open.
-    pub fn open_node(&self) -> Node {
-        self.at(self.open)
+    /// What the node that is open stands for.
+    pub fn open_form(&self) -> Form {
+        match self.nodes.get(self.open) {
+            Some(node) => node.form,
+            None => Form::Item,
+        }
+    }
+
+    /// How many parts the node that is open has.
+    pub fn open_count(&self) -> usize {
+        match self.nodes.get(self.open) {
+            Some(node) => node.count,
+            None => 0,
+        }
     }
 
     /// Adds a part to the open node.
     pub fn add(&mut self, form: Form, token: usize) -> Result<(), Memory> {
         let parent = self.open;
-        let rank = self.at(parent).count;
+        let rank = self.open_count();
         self.nodes.push(Node {
             form,
             first: token,

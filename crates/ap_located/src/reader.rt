@@ -2,9 +2,10 @@
 ghost use Rattle.std.specs.Prelude.{◌≡◌};
 
 use crate::nodes::{Form, Nodes};
+use crate::signs::{Sign, sign_of};
 use crate::slips::{Slip, Wanted};
 use ap_defs::memory::Memory;
-use ap_lexer::{Token, TokenKind};
+use ap_lexer::Token;
 use std::alloc::{AllocError, AllocFailed, Global};
 
 /// What comes next.
@@ -77,24 +78,14 @@ pub struct Reading {
 /// A reader of an item's tokens.
 #[derive(Drop)]
 pub(crate) struct Reader<'t, 'a> {
+    alloc: Global,
     pub(crate) tokens: &'t [Token<'a>],
-    // for each bracket the place of the one that closes it
-    pub(crate) closes: Vec<usize>,
+    // for each bracket the place of the one that closes it; empty until the first is asked for
+    closes: Vec<usize>,
     pub(crate) nodes: Nodes,
     pub(crate) expect: Expect,
     // whether types are read, and not terms
     pub(crate) in_type: bool,
-}
-
-pub(crate) fn is_sign(token: &Token<'_>, sign: &str) -> bool {
-    token.kind == TokenKind::Sign && token.text == sign
-}
-
-pub(crate) fn sign_at(tokens: &[Token<'_>], place: usize, sign: &str) -> bool {
-    match tokens.get(place) {
-        Some(token) => is_sign(token, sign),
-        None => false,
-    }
 }
 
 fn set_at(places: &mut Vec<usize>, at: usize, place: usize) {
@@ -105,16 +96,18 @@ fn set_at(places: &mut Vec<usize>, at: usize, place: usize) {
 
 /// For each token that is a bracket, the place of the bracket that closes it, or 0.
 fn closes_of(alloc: Global, tokens: &[Token<'_>]) -> Result<Vec<usize>, Memory> {
-    let mut closes = Vec::new(alloc);
+    let mut closes = Vec::with_capacity(alloc, tokens.len())?;
     let mut open: Vec<usize> = Vec::new(alloc);
     for (place, token) in tokens.iter().enumerate() {
         closes.push(0)?;
-        if is_sign(token, "(") || is_sign(token, "[") {
-            open.push(place)?;
-        } else if is_sign(token, ")") || is_sign(token, "]") {
-            if let Some(at) = open.pop() {
-                set_at(&mut closes, at, place);
+        match sign_of(token) {
+            Sign::Open | Sign::OpenList => open.push(place)?,
+            Sign::Close | Sign::CloseList => {
+                if let Some(at) = open.pop() {
+                    set_at(&mut closes, at, place);
+                }
             }
+            _ => {}
         }
     }
     Ok(closes)
@@ -127,6 +120,17 @@ impl<'t, 'a> Reader<'t, 'a> {
             wanted,
             open: self.nodes.open_place(),
         })
+    }
+
+    /// The place of the bracket that closes the one at a place, if one does.
+    pub(crate) fn close_of(&mut self, place: usize) -> Result<Option<usize>, Stop> {
+        if self.closes.is_empty() {
+            self.closes = closes_of(self.alloc, self.tokens)?;
+        }
+        match self.closes.get(place) {
+            Some(close) if *close != 0 => Ok(Some(*close)),
+            _ => Ok(None),
+        }
     }
 
     /// Opens a node at a place. Tells what comes next.
@@ -173,9 +177,10 @@ impl<'t, 'a> Reader<'t, 'a> {
 /// Reads an item's tokens, without its `.`.
 pub fn read_item(alloc: Global, tokens: &[Token<'_>]) -> Result<Reading, Memory> {
     let mut reader = Reader {
+        alloc,
         tokens,
-        closes: closes_of(alloc, tokens)?,
-        nodes: Nodes::new(alloc)?,
+        closes: Vec::new(alloc),
+        nodes: Nodes::of_tokens(alloc, tokens.len())?,
         expect: Expect::Start,
         in_type: false,
     };

@@ -2,14 +2,14 @@
 ghost use Rattle.std.specs.Prelude.{◌≡◌};
 
 use crate::nodes::Form;
-use crate::reader::{Expect, Known, Reader, Stop, is_sign, sign_at};
+use crate::reader::{Expect, Known, Reader, Stop};
+use crate::signs::{Sign, sign_at, sign_of};
 use crate::slips::Wanted;
 use ap_lexer::{Token, TokenKind};
 
 impl<'t, 'a> Reader<'t, 'a> {
     pub(crate) fn take_term(&mut self, place: usize, token: &Token<'a>) -> Result<(), Stop> {
-        let open = self.nodes.open_node();
-        if open.form == Form::Swap && open.count < 2 {
+        if self.nodes.open_form() == Form::Swap && self.nodes.open_count() < 2 {
             return self.take_side(place, token);
         }
         match token.kind {
@@ -37,13 +37,12 @@ impl<'t, 'a> Reader<'t, 'a> {
     }
 
     pub(crate) fn take_word(&mut self, place: usize) -> Result<(), Stop> {
-        let next = place.saturating_add(1);
-        if sign_at(self.tokens, next, "\\") {
-            self.take_binder(place)
-        } else if !self.in_type && sign_at(self.tokens, next, "(") {
-            self.enter(Form::Apply, place, Expect::Known(Known::Open))
-        } else {
-            self.add(Form::Word, place, Expect::After)
+        match sign_at(self.tokens, place.saturating_add(1)) {
+            Sign::Lambda => self.take_binder(place),
+            Sign::Open if !self.in_type => {
+                self.enter(Form::Apply, place, Expect::Known(Known::Open))
+            }
+            _ => self.add(Form::Word, place, Expect::After),
         }
     }
 
@@ -51,7 +50,7 @@ impl<'t, 'a> Reader<'t, 'a> {
         if self.in_type {
             return Err(self.stop(place, Wanted::Type));
         }
-        if sign_at(self.tokens, place.saturating_add(1), "\\") {
+        if sign_at(self.tokens, place.saturating_add(1)) == Sign::Lambda {
             self.take_binder(place)
         } else {
             self.add(Form::Variable, place, Expect::After)
@@ -74,17 +73,11 @@ impl<'t, 'a> Reader<'t, 'a> {
     }
 
     pub(crate) fn take_opening(&mut self, place: usize, token: &Token<'a>) -> Result<(), Stop> {
-        if is_sign(token, "(") {
-            self.enter(Form::Tuple, place, Expect::TermOrClose)
-        } else if is_sign(token, "[") {
-            let next = if self.in_type {
-                Expect::Term
-            } else {
-                Expect::TermOrClose
-            };
-            self.enter(Form::List, place, next)
-        } else {
-            Err(self.stop(place, self.wanted_term()))
+        match sign_of(token) {
+            Sign::Open => self.enter(Form::Tuple, place, Expect::TermOrClose),
+            Sign::OpenList if self.in_type => self.enter(Form::List, place, Expect::Term),
+            Sign::OpenList => self.enter(Form::List, place, Expect::TermOrClose),
+            _ => Err(self.stop(place, self.wanted_term())),
         }
     }
 
@@ -93,11 +86,11 @@ impl<'t, 'a> Reader<'t, 'a> {
         place: usize,
         token: &Token<'a>,
     ) -> Result<(), Stop> {
-        let closes = match self.nodes.open_node().form {
-            Form::Tuple => is_sign(token, ")"),
-            _ => is_sign(token, "]"),
+        let close = match self.nodes.open_form() {
+            Form::Tuple => Sign::Close,
+            _ => Sign::CloseList,
         };
-        if closes {
+        if sign_of(token) == close {
             self.nodes.leave(place);
             self.expect = Expect::After;
             return Ok(());
@@ -109,13 +102,13 @@ impl<'t, 'a> Reader<'t, 'a> {
         &mut self,
         place: usize,
         token: &Token<'a>,
-        sign: &str,
+        sign: Sign,
     ) -> Result<(), Stop> {
-        if !is_sign(token, sign) {
+        if sign_of(token) != sign {
             return Err(self.stop(place, Wanted::Close));
         }
         self.nodes.leave(place);
-        self.expect = match self.nodes.open_node().form {
+        self.expect = match self.nodes.open_form() {
             Form::Item if self.in_type => Expect::End,
             _ => Expect::After,
         };
@@ -127,39 +120,31 @@ impl<'t, 'a> Reader<'t, 'a> {
         place: usize,
         token: &Token<'a>,
     ) -> Result<(), Stop> {
-        if is_sign(token, ",") {
+        if sign_of(token) == Sign::Comma {
             self.expect = Expect::Term;
             return Ok(());
         }
-        self.take_close(place, token, ")")
+        self.take_close(place, token, Sign::Close)
     }
 
-    pub(crate) fn take_in_swap(
-        &mut self,
-        place: usize,
-        token: &Token<'a>,
-        count: usize,
-    ) -> Result<(), Stop> {
-        if count < 3 {
-            if is_sign(token, ",") {
+    pub(crate) fn take_in_swap(&mut self, place: usize, token: &Token<'a>) -> Result<(), Stop> {
+        if self.nodes.open_count() < 3 {
+            if sign_of(token) == Sign::Comma {
                 self.expect = Expect::Term;
                 return Ok(());
             }
             return Err(self.stop(place, Wanted::Swap));
         }
-        self.take_close(place, token, ")")
+        self.take_close(place, token, Sign::Close)
     }
 
     pub(crate) fn take_in_list(&mut self, place: usize, token: &Token<'a>) -> Result<(), Stop> {
-        if !self.in_type && is_sign(token, ",") {
-            self.expect = Expect::Term;
-            return Ok(());
+        match sign_of(token) {
+            Sign::Comma if !self.in_type => {}
+            Sign::Bar if !self.in_type => self.nodes.change(Form::ListTail),
+            _ => return self.take_close(place, token, Sign::CloseList),
         }
-        if !self.in_type && is_sign(token, "|") {
-            self.nodes.change(Form::ListTail);
-            self.expect = Expect::Term;
-            return Ok(());
-        }
-        self.take_close(place, token, "]")
+        self.expect = Expect::Term;
+        Ok(())
     }
 }
