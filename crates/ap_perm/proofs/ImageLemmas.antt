@@ -104,7 +104,7 @@ images_in_front p s l r f g back hl hr inv a =
         let same : n ≡ act_name (inverse p) b = h ∙ back b in
         same_name_parts (record { sort = b.sort; num = n.num }) n (sym (ap (λ (m : Name). m.sort) same ∙ act_sort (inverse p) b)) refl ∙ same
 
-turned_name : (a b : Name) → name_eq a b ≡ name_eq b a
+pub turned_name : (a b : Name) → name_eq a b ≡ name_eq b a
 unfolding name_eq
 turned_name a b = ap₂ ◌&&◌ (turned a.sort b.sort) (turned a.num b.num)
 

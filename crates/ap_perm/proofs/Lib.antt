@@ -1,8 +1,10 @@
 pub mod SwappingLemmas
+pub mod ImageLemmas
+pub mod ExchangeLemmas
+pub mod DifferenceLemmas
+pub mod FlatLemmas
+pub mod UnionLemmas
 pub mod PermLemmas
 pub mod LookupLemmas
 pub mod ClosureLemmas
 pub mod VisitLemmas
-pub mod ImageLemmas
-pub mod ExchangeLemmas
-pub mod DifferenceLemmas

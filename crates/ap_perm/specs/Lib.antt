@@ -1,5 +1,7 @@
 pub mod Names
 pub mod Images
+pub mod Flat
+pub mod FlatProps
 pub mod Lookups
 pub mod StatementsOnLookups
 pub mod BelowProps

@@ -2,6 +2,7 @@
 #![tactic(auto)]
 
 pub mod closures;
+mod flat;
 mod images;
 pub mod joining;
 pub mod laws;

@@ -68,7 +68,7 @@ pub fn preimage(swaps: &[Swap], a: Name) -> Name
 
 /// Whether two names are one.
 #[tactic(auto, unfolding(ap_defs::specs::Permutations::name_eq))]
-fn is_same(a: &Name, b: &Name) -> bool
+pub(crate) fn is_same(a: &Name, b: &Name) -> bool
     ensures { result ≡ name_eq a.now b.now }
 {
     a == b
@@ -120,15 +120,18 @@ pub fn differing(alloc: Global, p: &[Swap], q: &[Swap]) -> Result<Vec<Name>, Mem
     Ok(ordered)
 }
 
-/// The canonical list of a permutation: the least name that is moved is exchanged with its image,
-/// and then what is left is exchanged.
+/// The canonical list of a permutation of which these are the images, and those under its inverse: the
+/// least name that is moved is exchanged with its image, and then what is left is exchanged.
 ///
 /// Names are exchanged in ascending order, and those that come before are moved no more.
-pub fn canonical_list(alloc: Global, p: &[Swap]) -> Result<Vec<Swap>, Memory>
-    ensures { IfOk result (λ swaps. swaps.items ≡ canonical p.now) }
+pub(crate) fn exchanged(
+    alloc: Global,
+    mut images: Images,
+    mut origins: Images,
+) -> Result<Vec<Swap>, Memory>
+    ensures { IfOk result (λ swaps. (p : List Swap) → AreImages p (tree.get key_cmp images)
+        → AreImages (inverse p) (tree.get key_cmp origins) → swaps.items ≡ canonical p) }
 {
-    let mut images = images_of(alloc, p)?;
-    let mut origins = origins_of(alloc, p)?;
     let names = names_in(alloc, &images)?;
     let mut swaps = Vec::new(alloc);
     for a in &names {
@@ -143,5 +146,15 @@ pub fn canonical_list(alloc: Global, p: &[Swap]) -> Result<Vec<Swap>, Memory>
             swaps.push(swap)?;
         }
     }
+    Ok(swaps)
+}
+
+/// The canonical list of the permutation of a list of swappings.
+pub fn canonical_list(alloc: Global, p: &[Swap]) -> Result<Vec<Swap>, Memory>
+    ensures { IfOk result (λ swaps. swaps.items ≡ canonical p.now) }
+{
+    let images = images_of(alloc, p)?;
+    let origins = origins_of(alloc, p)?;
+    let swaps = exchanged(alloc, images, origins)?;
     Ok(swaps)
 }

@@ -1,4 +1,5 @@
 use ap_defs::memory::Memory;
+use ap_lanes::differing::differ;
 use ap_lanes::matching::{matches, next_match};
 use std::alloc::Global;
 
@@ -33,6 +34,49 @@ fn found_behind(alloc: Global, count: u32, last: u32) -> Result<usize, Memory> {
     keys.push(last)?;
     keys.push(5)?;
     Ok(next_match(keys.as_slice(), 5, 0))
+}
+
+/// So many numbers, of which each third is one less than its place.
+fn numbers_in_turn(alloc: Global, count: u64) -> Result<Vec<u64>, Memory> {
+    let mut numbers = Vec::new(alloc);
+    for i in 0..count {
+        numbers.push(if i % 3 == 2 { i - 1 } else { i })?;
+    }
+    Ok(numbers)
+}
+
+/// So many numbers, each its place.
+fn places(alloc: Global, count: u64) -> Result<Vec<u64>, Memory> {
+    let mut numbers = Vec::new(alloc);
+    for i in 0..count {
+        numbers.push(i)?;
+    }
+    Ok(numbers)
+}
+
+/// Whether each third place is told to differ, and no other one.
+fn thirds_differ(alloc: Global, count: u64) -> Result<bool, Memory> {
+    let left = numbers_in_turn(alloc, count)?;
+    let right = places(alloc, count)?;
+    let mut out = Vec::from_elem(alloc, 9, left.len())?;
+    if left.len() != right.len() {
+        return Ok(false);
+    }
+    differ(left.as_slice(), right.as_slice(), out.as_mut_slice());
+    let mut told = true;
+    for i in 0..left.len() {
+        let wanted = if i % 3 == 2 { 1 } else { 0 };
+        told = told && out.get(i) == Some(&wanted);
+    }
+    Ok(told && out.len() == left.len())
+}
+
+#[test]
+fn differences_are_told_in_blocks_and_behind_them(rt: HostRuntime) {
+    for count in [0, 1, 7, 8, 9, 65] {
+        let told = thirds_differ(rt.alloc(), count);
+        assert!(rt; matches!(told, Ok(true)));
+    }
 }
 
 #[test]

@@ -94,6 +94,34 @@ fn differs_by_sort(alloc: Global) -> Result<bool, Memory> {
     differ_on(alloc, &p, &cycle(alloc)?, &[name(1), name(2), first, last])
 }
 
+/// 0 goes to 1 under both, and 1 and 2 don't go to the same.
+fn differs_from_a_part(alloc: Global) -> Result<bool, Memory> {
+    let part = Perm::of(alloc, &[swap(0, 1)])?;
+    differ_on(alloc, &cycle(alloc)?, &part, &[name(1), name(2)])
+}
+
+/// Each of the numbers below 6 is moved by two to the next one of its kind, more than lie in the value.
+fn moves_six(alloc: Global) -> Result<bool, Memory> {
+    let all = [swap(0, 2), swap(2, 4), swap(1, 3), swap(3, 5)];
+    let p = Perm::of(alloc, &all)?;
+    let back = p.inverse(alloc)?;
+    let mut moved = true;
+    for i in 0..6 {
+        let next = name((i + 2) % 6);
+        moved = moved
+            && p.apply(name(i)) == next
+            && p.preimage(next) == name(i)
+            && back.apply(next) == name(i);
+    }
+    let thrice = p.then(alloc, &p)?.then(alloc, &p)?;
+    Ok(moved && thrice.swaps(alloc)?.is_empty() && p.apply(name(6)) == name(6))
+}
+
+#[test]
+fn permutations_of_many_names(rt: HostRuntime) {
+    assert!(rt; matches!(moves_six(rt.alloc()), Ok(true)));
+}
+
 #[test]
 fn permutations_are_finite_maps(rt: HostRuntime) {
     let alloc = rt.alloc();
@@ -106,6 +134,7 @@ fn permutations_are_finite_maps(rt: HostRuntime) {
 fn permutations_differ_on_names(rt: HostRuntime) {
     assert!(rt; matches!(differs(rt.alloc()), Ok(true)));
     assert!(rt; matches!(differs_by_sort(rt.alloc()), Ok(true)));
+    assert!(rt; matches!(differs_from_a_part(rt.alloc()), Ok(true)));
 }
 
 /// A lookup that binds nothing.

@@ -1,8 +1,7 @@
-use Rattle.ap_theory.proofs.TermLemmas.{act_term-append, act_term_none}
-use Rattle.std.proofs.Common.{[], List, ap, ◌∙◌, ◌++◌, rules, sym, ◌≡◌}
+use Rattle.ap_theory.proofs.TermLemmas.{act_term-append}
+use Rattle.std.proofs.Common.{ap, ◌∙◌, ◌++◌, rules}
 use Rattle.ap_defs.specs.Renaming.{rename_term}
 use Rattle.ap_defs.specs.Terms.{act_term, term_of}
-use Rattle.ap_defs.specs.declared.terms.Swap.{Swap}
 use Rattle.ap_perm.specs.Closures.{closure_term}
 use Rattle.ap_perm.proofs.ClosureLemmas.{moved_by_none}
 use Rattle.ap_perm.proofs.closures.Closure.moved_by.Goals as goal

@@ -1,7 +1,8 @@
-use Rattle.std.proofs.Common.{ap, ◌∙◌}
+use Rattle.std.proofs.Common.{ap, sym, ◌∙◌}
 use Rattle.ap_defs.specs.Permutations.{act_name}
-use Rattle.ap_perm.proofs.PermLemmas.{act_viewed}
 use Rattle.ap_perm.proofs.perm.Perm.apply.Goals as goal
 
 pub returns : goal.returns
-returns c = c.image.ensures ∙ ap (λ p. act_name p c.args.a) c.deref.ensures.value ∙ act_viewed c.self.inside.swaps.items c.args.self.now c.args.a c.self.view_is
+returns c =
+    let flat = c.self.inside.flat in
+    c.image_of.ensures flat.0 (flat.1.1 ∙ sym c.deref.ensures) ∙ ap (λ p. act_name p c.args.a) c.self.view_is
