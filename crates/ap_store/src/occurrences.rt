@@ -10,13 +10,6 @@ use crate::store::Store;
 use ap_defs::terms::{Term, Var};
 use ap_perm::closures::Closure;
 
-/// The number that those in a closure are below.
-fn end_of(c: &Closure<'_>) -> u64
-    ensures { result ≡ c.now.end }
-{
-    c.end
-}
-
 /// Whether the variable occurs in what the term stands for, whose identifiers are numbered from
 /// `base` on.
 ///
@@ -45,7 +38,7 @@ fn occurs_below(store: &Store<'_>, x: Var, mut base: u64, mut end: u64, t: &Term
                     None => return x.num == y.num,
                     Some(c) => {
                         base = c.base;
-                        end = end_of(c);
+                        end = c.end;
                         rest = c.term;
                     }
                 }
