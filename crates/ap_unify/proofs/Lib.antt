@@ -1,3 +1,4 @@
+pub mod BehindLemmas
 pub mod FinishLemmas
 pub mod FreshLemmas
 pub mod MoveLemmas

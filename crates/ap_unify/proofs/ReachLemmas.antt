@@ -1,8 +1,8 @@
 -- Stages that are reached by one or several steps.
-use Rattle.std.proofs.Common.{◌≡◌, ◌<◌, ◌+◌, ℕ, zero, suc, ◌∙◌, arith}
+use Rattle.std.proofs.Common.{◌≡◌, ◌<◌, ◌+◌, ℕ, zero, suc, inl, inr, subst, ◌∙◌, arith}
 use Rattle.ap_defs.specs.Unification.{Progress, Stage, ending, failed, next, step, unsolvable}
 use Rattle.ap_theory.proofs.TerminationLemmas.{ending_failed, ending_next, steps_left, steps_left_next}
-use Rattle.ap_unify.specs.Parts.{IsReached, LeadsTo}
+use Rattle.ap_unify.specs.Parts.{IsReached, LeadsTo, Reaches}
 
 pub leads_now : (s : Stage) (p : Progress) → step s ≡ p → LeadsTo s p
 leads_now s p e = (0, e)
@@ -34,3 +34,12 @@ leads_ending s r (n, h) = reached_ending n s r h
 
 pub leads_failed : (s : Stage) → LeadsTo s failed → ending s ≡ unsolvable
 leads_failed s (n, h) = reached_failed n s h
+
+-- one way on after another
+then_reached : (n m : ℕ) (s r : Stage) (p : Progress) → IsReached n s (next r) → IsReached m r p → LeadsTo s p
+then_reached zero m s r p e k = (suc m, (r, e, k))
+then_reached (suc n) m s r p (q, e, h) k = let (j, i) = then_reached n m q r p h k in (suc j, (q, e, i))
+
+pub then_reaches : (s r : Stage) (p : Progress) → LeadsTo s (next r) → Reaches r p → LeadsTo s p
+then_reaches s r p (n, h) (inl e) = (n, subst (IsReached n s) e h)
+then_reaches s r p (n, h) (inr (m, k)) = then_reached n m s r p h k

@@ -42,7 +42,7 @@ module _ (x : Var) (v : NominalTerm) where
         | false ↦ λ e. moved_put p y bs (var_eq_flip x y ∙ e)
       ] refl
 
-  equations_put : (bs : List Binding) → IsUnbound bs x → (es : List Equation)
+  pub equations_put : (bs : List Binding) → IsUnbound bs x → (es : List Equation)
       → map (put_equation x v) (map (equation_under bs) es) ≡ map (equation_under (bound_in x v bs)) es
   equations_put bs u [] = refl
   equations_put bs u ((t ≐ w) ∷ es) = ap₂ ◌∷◌ (ap₂ ◌≐◌ (sym (under_bind bs u t)) (sym (under_bind bs u w))) (equations_put bs u es)

@@ -1,5 +1,5 @@
 -- What a run and its end make of the triple of a store.
-use Rattle.std.proofs.Common.{subst, ◌≡◌, ℕ, true, false, List, [], ◌∷◌, ◌++◌, map, refl, reverse, sym, ap, ap₂, ◌∙◌}
+use Rattle.std.proofs.Common.{subst, ◌≡◌, ℕ, true, false, List, [], ◌∷◌, ◌++◌, map, refl, reverse, sym, ap, ◌∙◌}
 use Rattle.std.proofs.lemmas.List.{append-nil}
 use Rattle.std.specs.Prelude.{Bool, if◌then◌else◌, Option, Some, None}
 use Rattle.ap_defs.specs.Freshness.{Conds, add_cond, add_conds, cond_before, cond_eq, has_cond}
@@ -20,7 +20,7 @@ use Rattle.ap_unify.proofs.RunLemmas.{first_under}
 use Rattle.ap_unify.specs.Finishing.{some_if, with_kept}
 use Rattle.ap_unify.specs.Runs.{paired, stage_under}
 use Rattle.ap_unify.specs.Unified.{IsResult}
-use Rattle.ap_unify.specs.Work.{AreKept, equations_left, pair_equation, problem_for, problems_met, work_stage}
+use Rattle.ap_unify.specs.Work.{AreKept, pair_equation, problems_met, work_stage}
 use Rattle.ap_unify.specs.declared.pairs.Work.{Work}
 
 -- What holds of the triple of any store.
@@ -93,10 +93,7 @@ module _ (a b : Triple) (ts us : List NominalTerm) (ps : List Problem) (taken : 
   pub is_no_result : (c : Triple) → ending (stage_under a.bindings (paired ts us) []) ≡ unsolvable → IsResult (unify a.bindings a.conditions ts us) a false c
   is_no_result c e = subst (λ (o : Option Unified). IsResult o a false c) (sym (none_unified e)) refl
 
--- The first and the last work of a run.
-pub first_of_work : (s : List Binding) (w : Work) (ts us : List NominalTerm) → equations_left w ≡ paired ts us → w.problems.items ≡ [] → work_stage s w ≡ stage_under s (paired ts us) []
-first_of_work s w ts us e f = ap₂ (λ es ps. stage_under s es (map problem_for ps)) e f
-
+-- The last work of a run, and what is kept at first.
 pub last_of_work : (s : List Binding) (w : Work) → w.equations.items ≡ [] → work_stage s w ≡ stage_under s [] (problems_met w)
 last_of_work s w e = ap (λ es. stage_under s (map pair_equation (reverse es)) (problems_met w)) e
 

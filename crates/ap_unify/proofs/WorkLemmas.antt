@@ -1,17 +1,16 @@
 -- The work that is left, where equations and problems are put to it.
-use Rattle.std.proofs.Common.{subst, ◌≡◌, ◌<◌, ◌+◌, ℕ, zero, suc, arith, List, [], ◌∷◌, ◌++◌, drop, get_or, length, map, refl, reverse, sym, ap, ap₂, ◌∙◌, add-one, append_assoc}
-use Rattle.std.proofs.Math.Seq.{drop-cons}
-use Rattle.std.proofs.lemmas.List.{append-nil, length-map, reverse-append, reverse-reverse}
+use Rattle.std.proofs.Common.{subst, ◌≡◌, ◌<◌, ℕ, zero, suc, arith, List, [], ◌∷◌, ◌++◌, drop, get_or, length, map, refl, reverse, sym, ap, ap₂, ◌∙◌, append_assoc}
+use Rattle.std.proofs.lemmas.List.{append-nil, length-map, reverse-append}
 use Rattle.std.specs.Prelude.{filter, IfOk, Result, Ok, Err}
 use Rattle.ap_defs.specs.Freshness.{has_cond}
 use Rattle.ap_defs.specs.Renaming.{AreBelow, IsBelow, rename_term}
-use Rattle.ap_defs.specs.Substitution.{Binding, Equation, Problem, moved, put_binding, under, ◌#◌, ◌:=◌, ◌≐◌}
+use Rattle.ap_defs.specs.Substitution.{Binding, Equation, Problem, moved, put_binding, under, ◌#◌, ◌:=◌}
 use Rattle.ap_defs.specs.Terms.{NominalTerm, term_of}
-use Rattle.ap_defs.specs.Unification.{Progress, Rule, apply_rule, bind, done, fresh_for, next, replace, step}
+use Rattle.ap_defs.specs.Unification.{Progress, Rule, apply_rule, bind, fresh_for, next, replace}
 use Rattle.ap_defs.specs.declared.terms.Name.{Name}
 use Rattle.ap_defs.specs.declared.terms.Term.{Term}
 use Rattle.ap_defs.specs.declared.terms.Var.{Var}
-use Rattle.ap_perm.specs.Closures.{closure_term, opened_term}
+use Rattle.ap_perm.specs.Closures.{opened_term}
 use Rattle.ap_perm.specs.declared.closures.Opened.{Opened}
 use Rattle.ap_perm.specs.declared.closures.Opened.TheVariants as parts
 use Rattle.ap_store.specs.Heads.{IsHeadUnbound}
@@ -20,8 +19,8 @@ use Rattle.ap_theory.proofs.IdempotenceLemmas.{bound_term_unbound}
 use Rattle.ap_theory.specs.Variables.{IsUnbound}
 use Rattle.ap_unify.proofs.FinishLemmas.{taken_more}
 use Rattle.ap_unify.proofs.RunLemmas.{bind_in_under, names_under, replaced}
-use Rattle.ap_unify.specs.Runs.{equation_under, paired, problem_under, stage_under}
-use Rattle.ap_unify.specs.Work.{ArePairsBelow, GoOn, IsPairBelow, opened_under, pair_equation, pair_under, problem_for, problems_met, work_stage}
+use Rattle.ap_unify.specs.Runs.{equation_under, problem_under, stage_under}
+use Rattle.ap_unify.specs.Work.{ArePairsBelow, GoOn, IsPairBelow, opened_under, pair_equation, pair_under, problem_for}
 use Rattle.ap_unify.specs.declared.pairs.ClosurePair.{ClosurePair}
 use Rattle.ap_unify.specs.declared.pairs.FreshFor.{FreshFor}
 use Rattle.ap_unify.specs.declared.pairs.Work.{Work}
@@ -126,37 +125,14 @@ go_on_on a b c u v w h k = record {
 pub goes_on_on : (as' bs cs : List Triple) → IsPrefixOf as' bs → IsPrefixOf bs cs → IsPrefixOf as' cs
 goes_on_on as' bs cs (es, e) (fs, f) = (es ++ fs, f ∙ ap (λ z. z ++ fs) e ∙ append_assoc as' es fs)
 
-pub no_equation : (s : List Binding) (w : Work) → w.equations.items ≡ [] → step (work_stage s w) ≡ done
-no_equation s w e = ap (λ es. step (stage_under s (map pair_equation (reverse es)) (problems_met w))) e
+-- the first of the later terms is below
+below_dropped : (n i : ℕ) (ts : List NominalTerm) → AreBelow n ts → AreBelow n (drop i ts)
+below_dropped n zero ts h = h
+below_dropped n (suc i) [] h = tt
+below_dropped n (suc i) (t ∷ ts) h = below_dropped n i ts h.1
 
--- one place more, in front of the later ones
-pub paired_more : (es : List ClosurePair) (ts us : List NominalTerm) (i j : ℕ) (t u : NominalTerm) (e : ClosurePair) → i ≡ j + 1 → j < length ts → j < length us
-    → closure_term e.left ≡ get_or ts j t → closure_term e.right ≡ get_or us j u
-    → map pair_equation (reverse es) ≡ paired (drop i ts) (drop i us)
-    → map pair_equation (reverse (es ++ e ∷ [])) ≡ paired (drop j ts) (drop j us)
-paired_more es ts us i j t u e n l m f g h =
-    put_last es e
-    ∙ ap₂ ◌∷◌ (ap₂ ◌≐◌ f g) (h ∙ ap (λ k. paired (drop k ts) (drop k us)) (n ∙ add-one j))
-    ∙ sym (ap₂ paired (drop-cons ts j t l) (drop-cons us j u m))
-
--- terms below are pairs below
-pub below_paired : (n : ℕ) (es : List ClosurePair) (ts us : List NominalTerm) → AreBelow n ts → AreBelow n us → map pair_equation es ≡ paired ts us → ArePairsBelow n es
-below_paired n [] ts us h k e = tt
-below_paired n (p ∷ es) [] us h k e = cc
-below_paired n (p ∷ es) (t ∷ ts) [] h k e = cc
-below_paired n (p ∷ es) (t ∷ ts) (u ∷ us) h k e =
-    let l : closure_term p.left ≡ t = cc in
-    let r : closure_term p.right ≡ u = cc in
-    let rest : map pair_equation es ≡ paired ts us = cc in
-    ((subst (IsBelow n) (sym l) h.0, subst (IsBelow n) (sym r) k.0), below_paired n es ts us h.1 k.1 rest)
-
-pub pairs_below_reverse : (n : ℕ) (es : List ClosurePair) → ArePairsBelow n es → ArePairsBelow n (reverse es)
-pairs_below_reverse n [] h = tt
-pairs_below_reverse n (e ∷ es) h =
-    subst (ArePairsBelow n) (sym (reverse-append (e ∷ []) es)) (pairs_below-append n (reverse es) (e ∷ []) (pairs_below_reverse n es h.1) (h.0, tt))
-
-pub pairs_below : (n : ℕ) (es : List ClosurePair) (ts us : List NominalTerm) → AreBelow n ts → AreBelow n us → map pair_equation (reverse es) ≡ paired ts us → ArePairsBelow n es
-pairs_below n es ts us h k e = subst (ArePairsBelow n) (reverse-reverse es) (pairs_below_reverse n (reverse es) (below_paired n (reverse es) ts us h k e))
+pub below_first : (n i : ℕ) (ts : List NominalTerm) (t : NominalTerm) (us : List NominalTerm) → AreBelow n ts → drop i ts ≡ t ∷ us → IsBelow n t
+below_first n i ts t us h e = let k : AreBelow n (t ∷ us) = subst (AreBelow n) e (below_dropped n i ts h) in k.0
 
 -- what follows from a fact about the value of a success
 pub if_ok : {T E : Type 0} (r : Result T E) {P Q : T → Type 0} → ((x : T) → P x → Q x) → IfOk r P → IfOk r Q

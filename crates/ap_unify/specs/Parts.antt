@@ -1,5 +1,5 @@
 -- Parts of terms on which no swappings wait, and how a run goes on with them.
-use Rattle.std.specs.Prelude.{◌≡◌, ◌<◌, ℕ, zero, suc, List, [], ◌∷◌}
+use Rattle.std.specs.Prelude.{◌≡◌, ◌<◌, ◌⊎◌, ℕ, zero, suc, List, [], ◌∷◌}
 use Rattle.ap_defs.specs.Renaming.{IsBelow, rename_term}
 use Rattle.ap_defs.specs.Substitution.{Binding, under, ◌≐◌}
 use Rattle.ap_defs.specs.Terms.{NominalTerm, susp, term_of}
@@ -56,3 +56,7 @@ IsReached (suc n) s p = (r : Stage) × (step s ≡ next r) × IsReached n r p
 
 abbrev pub LeadsTo : Stage → Progress → Type 0
 LeadsTo s p = (n : ℕ) × IsReached n s p
+
+-- by no step, or by one or several
+abbrev pub Reaches : Stage → Progress → Type 0
+Reaches s p = (next s ≡ p) ⊎ LeadsTo s p

@@ -1,17 +1,19 @@
 //! A run of unification, from the first equation to the last.
 
-ghost use Rattle.std.specs.Prelude.{◌≡◌, ◌<◌, ◌∷◌, [], true, IfOk, OnOk, vec_len};
-ghost use Rattle.ap_defs.specs.Renaming.{IsBelow};
+ghost use Rattle.std.specs.Prelude.{◌≡◌, ◌<◌, ◌+◌, ◌∷◌, [], true, IfOk, OnOk, drop, length, vec_len};
+ghost use Rattle.ap_defs.specs.Renaming.{AreBelow, IsBelow};
 ghost use Rattle.ap_defs.specs.Unification.{ending};
 ghost use Rattle.ap_store.specs.Triples.{IsPrefixOf};
 ghost use Rattle.ap_store.specs.Views.{bindings_of, kinds, present, versions};
-ghost use Rattle.ap_unify.specs.Parts.{LeadsTo, plain_term, stage_with};
-ghost use Rattle.ap_unify.specs.Runs.{stage_under};
+ghost use Rattle.ap_unify.specs.Lists.{renamed_terms_in};
+ghost use Rattle.ap_unify.specs.Parts.{LeadsTo, Reaches, plain_term, stage_with};
+ghost use Rattle.ap_unify.specs.Runs.{paired, stage_under};
 ghost use Rattle.ap_unify.specs.Work.{ArePairsBelow, GoOn, IsPairBelow, ending_if, equations_left, pair_equation, problems_met, progress_if, work_stage};
 
 use crate::pairs::{ClosurePair, Work};
 use crate::parts::{Turn, step_parts};
 use crate::plain::Plain;
+use crate::terms::Terms;
 use crate::work::by_rule;
 use ap_defs::memory::Memory;
 use ap_store::store::Store;
@@ -88,10 +90,10 @@ fn advance<'a>(alloc: Global, store: &mut Store<'a>, work: &mut Work<'a>) -> Res
 }
 
 /// Rewrites equations from the first, until none is left or there is no solution.
-pub fn run<'a>(alloc: Global, store: &mut Store<'a>, work: &mut Work<'a>) -> Result<bool, Memory>
+fn run<'a>(alloc: Global, store: &mut Store<'a>, work: &mut Work<'a>) -> Result<bool, Memory>
     requires { ArePairsBelow (present store.old).next work.old.equations.items }
-    ensures ending { IfOk result (λ solved. ending (work_stage (bindings_of store.old)
-        work.old) ≡ ending_if solved (work_stage (bindings_of store.new) work.new)) }
+    ensures reached { IfOk result (λ solved. Reaches (work_stage (bindings_of store.old) work.old)
+        (progress_if solved (work_stage (bindings_of store.new) work.new))) }
     ensures left { IfOk result (λ solved. solved ≡ true → work.new.equations.items ≡ []) }
     ensures goes_on { OnOk result (GoOn (present store.old) work.old (present store.new) work.new) }
     ensures past { IsPrefixOf (versions store.old) (versions store.new) }
@@ -99,6 +101,77 @@ pub fn run<'a>(alloc: Global, store: &mut Store<'a>, work: &mut Work<'a>) -> Res
 {
     'rewriting: while !work.equations.is_empty() {
         if !advance(alloc, store, work)? {
+            return Ok(false);
+        }
+    }
+    Ok(true)
+}
+
+/// Rewrites an equation of two parts and what is left, until none is left or there is no solution.
+fn solve<'a>(
+    alloc: Global,
+    store: &mut Store<'a>,
+    work: &mut Work<'a>,
+    left: Plain<'a>,
+    right: Plain<'a>,
+) -> Result<bool, Memory>
+    requires left_below { IsBelow (present store.old).next (plain_term left) }
+    requires right_below { IsBelow (present store.old).next (plain_term right) }
+    requires pairs { ArePairsBelow (present store.old).next work.old.equations.items }
+    ensures stage { IfOk result (λ solved. LeadsTo (stage_with (bindings_of store.old) left.entry
+        right.entry work.old) (progress_if solved (work_stage (bindings_of store.new) work.new))) }
+    ensures left { IfOk result (λ solved. solved ≡ true → work.new.equations.items ≡ []) }
+    ensures goes_on { OnOk result (GoOn (present store.old) work.old (present store.new) work.new) }
+    ensures past { IsPrefixOf (versions store.old) (versions store.new) }
+    ensures kinds { kinds store.new ≡ kinds store.old }
+{
+    if !along(alloc, store, work, left, right)? {
+        return Ok(false);
+    }
+    run(alloc, store, work)
+}
+
+/// The term at a place of a list.
+fn term_at<'a>(terms: Terms<'a>, i: usize) -> Plain<'a>
+    requires place { i < length terms.terms.now }
+    requires below { AreBelow terms.end (renamed_terms_in terms) }
+    ensures { drop i (renamed_terms_in terms.entry)
+        ≡ plain_term result ∷ drop (i + 1) (renamed_terms_in terms.entry) }
+{
+    Plain {
+        base: terms.base,
+        end: terms.end,
+        term: &terms.terms[i],
+    }
+}
+
+/// Rewrites the equations of the terms at each place of two lists, until none is left or there is no
+/// solution.
+pub fn run_places<'a>(
+    alloc: Global,
+    store: &mut Store<'a>,
+    work: &mut Work<'a>,
+    left: Terms<'a>,
+    right: Terms<'a>,
+) -> Result<bool, Memory>
+    requires lengths { length left.terms.now ≡ length right.terms.now }
+    requires left { AreBelow left.end (renamed_terms_in left) }
+    requires right { AreBelow right.end (renamed_terms_in right) }
+    requires left_made { AreBelow (present store.old).next (renamed_terms_in left) }
+    requires right_made { AreBelow (present store.old).next (renamed_terms_in right) }
+    requires none { work.old.equations.items ≡ [] }
+    ensures ending { IfOk result (λ solved. ending (stage_under (bindings_of store.old) (paired
+        (renamed_terms_in left.entry) (renamed_terms_in right.entry)) (problems_met work.old))
+        ≡ ending_if solved (work_stage (bindings_of store.new) work.new)) }
+    ensures left { IfOk result (λ solved. solved ≡ true → work.new.equations.items ≡ []) }
+    ensures goes_on { OnOk result (GoOn (present store.old) work.old (present store.new) work.new) }
+    ensures past { IsPrefixOf (versions store.old) (versions store.new) }
+    ensures kinds { kinds store.new ≡ kinds store.old }
+{
+    'places: for i in 0..left.terms.len() {
+        let here = term_at(left, i);
+        let there = term_at(right, i);
+        if !solve(alloc, store, work, here, there)? {
             return Ok(false);
         }
     }

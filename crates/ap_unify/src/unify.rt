@@ -1,47 +1,21 @@
 //! Unification of lists of terms.
 
-ghost use Rattle.std.specs.Prelude.{◌≡◌, ◌&&◌, [], false, true, IfOk, OnErr, length};
+ghost use Rattle.std.specs.Prelude.{◌≡◌, ◌&&◌, false, true, IfOk, OnErr, length};
 ghost use Rattle.ap_defs.specs.Groundings.{Grounding};
 ghost use Rattle.ap_defs.specs.Renaming.{AreBelow};
 ghost use Rattle.ap_defs.specs.Unification.{unify as unify_lem};
 ghost use Rattle.ap_store.specs.Triples.{IsPrefixOf};
 ghost use Rattle.ap_store.specs.Views.{IsUnchanged, bindings_of, kinds, present, versions};
 ghost use Rattle.ap_unify.specs.Lists.{renamed_terms_in};
-ghost use Rattle.ap_unify.specs.Runs.{paired};
 ghost use Rattle.ap_unify.specs.Unified.{IsResult, is_of, solves};
-ghost use Rattle.ap_unify.specs.Work.{equations_left};
 
 use crate::finish::finish;
-use crate::pairs::{ClosurePair, Work};
-use crate::runs::run;
+use crate::pairs::Work;
+use crate::runs::run_places;
 use crate::terms::Terms;
 use ap_defs::memory::Memory;
-use ap_perm::closures::Closure;
 use ap_store::store::Store;
 use std::alloc::Global;
-
-/// The equations of the terms at each place of two lists.
-fn first_work<'a>(alloc: Global, left: Terms<'a>, right: Terms<'a>) -> Result<Work<'a>, Memory>
-    requires lengths { length left.terms.now ≡ length right.terms.now }
-    requires left { AreBelow left.end (renamed_terms_in left) }
-    requires right { AreBelow right.end (renamed_terms_in right) }
-    ensures equations { IfOk result (λ w. equations_left w
-        ≡ paired (renamed_terms_in left.entry) (renamed_terms_in right.entry)) }
-    ensures problems { IfOk result (λ w. w.problems.items ≡ []) }
-    ensures taken { IfOk result (λ w. w.taken.items ≡ []) }
-{
-    let mut equations = Vec::new(alloc);
-    'pairing: for i in (0..left.terms.len()).rev() {
-        let left = Closure::of(alloc, left.base, left.end, &left.terms[i]);
-        let right = Closure::of(alloc, right.base, right.end, &right.terms[i]);
-        equations.push(ClosurePair { left, right })?;
-    }
-    Ok(Work {
-        equations,
-        problems: Vec::new(alloc),
-        taken: Vec::new(alloc),
-    })
-}
 
 /// Unification that may leave bindings behind where there is no solution.
 fn unify_forward<'a>(
@@ -61,8 +35,12 @@ fn unify_forward<'a>(
     ensures past { IsPrefixOf (versions store.old) (versions store.new) }
     ensures kinds { kinds store.new ≡ kinds store.old }
 {
-    let mut work = first_work(alloc, left, right)?;
-    if !run(alloc, store, &mut work)? {
+    let mut work = Work {
+        equations: Vec::new(alloc),
+        problems: Vec::new(alloc),
+        taken: Vec::new(alloc),
+    };
+    if !run_places(alloc, store, &mut work, left, right)? {
         return Ok(false);
     }
     finish(alloc, store, &work)

@@ -1,15 +1,16 @@
 use Rattle.std.proofs.Common.{◌≡◌}
-use Rattle.ap_defs.specs.Unification.{ending}
+use Rattle.ap_defs.specs.Unification.{Progress}
 use Rattle.ap_store.specs.Triples.{IsPrefixOf}
 use Rattle.ap_store.specs.Views.{bindings_of, kinds, present, versions}
 use Rattle.ap_theory.proofs.TerminationLemmas.{steps_left}
+use Rattle.ap_unify.specs.Parts.{Reaches}
 use Rattle.ap_unify.specs.Work.{ArePairsBelow, GoOn, work_stage}
 use Rattle.ap_unify.proofs.runs.run.Given as goal
 
--- the run goes on to the same ending
+-- what the work reaches, the first one reaches
 abbrev pub invariant-rewriting : goal.invariant-rewriting
 invariant-rewriting l = record {
-  ending : ending (work_stage (bindings_of l.store) l.work) ≡ ending (work_stage (bindings_of l.initial.store) l.initial.work);
+  leads : (p : Progress) → Reaches (work_stage (bindings_of l.store) l.work) p → Reaches (work_stage (bindings_of l.initial.store) l.initial.work) p;
   pairs : ArePairsBelow (present l.store).next l.work.equations.items;
   goes_on : GoOn (present l.initial.store) l.initial.work (present l.store) l.work;
   past : IsPrefixOf (versions l.initial.store) (versions l.store);
