@@ -1,6 +1,6 @@
 -- What is kept of each number, and beside the trail.
 use Rattle.std.specs.Global.{Global}
-use Rattle.std.specs.Prelude.{◌≡◌, ◌<◌, ◌^◌, ℕ, zero, suc, List, [], ◌∷◌, ◌++◌, Option, Some, None, Vec, length}
+use Rattle.std.specs.Prelude.{◌≡◌, ◌<◌, ◌^◌, ◌==◌, ◌||◌, ℕ, zero, suc, Bool, false, List, [], ◌∷◌, ◌++◌, Option, Some, None, Vec, is_some, length}
 use mathlib.Core.HLevel.{Unit-prop}
 use Rattle.std.proofs.Props.{props}
 use Rattle.ap_defs.specs.Renaming.{IsBelow, rename_term}
@@ -13,27 +13,27 @@ use Rattle.ap_perm.specs.Closures.{closure_term}
 use Rattle.ap_theory.specs.Variables.{EachVar}
 use Rattle.ap_store.specs.Changes.{AreChanges, Change, Made, Bound, Added, Taken, empty, present_after}
 use Rattle.ap_store.specs.ChangeProps.{changes_prop}
-use Rattle.ap_store.specs.Trails.{AreTakenHeld, IsTakenHeld, held_after, nothing_bound, nothing_held, raw_after, held_step}
+use Rattle.ap_store.specs.Trails.{AreTakenHeld, IsTakenHeld, held_after, nothing_held, held_step}
 use Rattle.ap_store.specs.declared.changes.Entry.{Entry}
 use Rattle.ap_store.specs.declared.changes.Entry.TheVariants as entries
 use Rattle.ap_store.specs.declared.changes.Noted.{Noted}
 use Rattle.ap_store.specs.declared.changes.Noted.TheVariants as notes
-use Rattle.ap_store.specs.declared.slots.Binding.{Binding}
-use Rattle.ap_store.specs.declared.slots.Binding.TheVariants.{Unbound, Plain, Moved}
+use Rattle.ap_store.specs.declared.slots.Value.{Value}
+use Rattle.ap_store.specs.declared.slots.Value.TheVariants.{Unbound, Plain, Moved}
 use Rattle.ap_store.specs.declared.slots.Slot.{Slot}
 
 abbrev pub slot_kind : Slot → NominalKind
 slot_kind s = kind_of s.local.now.kind
 
 -- the term to which a number is bound, in which no binding is carried out
-abbrev pub binding_term : Binding → Option NominalTerm
-binding_term Unbound = None
-binding_term (Plain b t) = Some (rename_term b (term_of t.now))
-binding_term (Moved c) = Some (closure_term c.value)
+abbrev pub value_term : Value → Option NominalTerm
+value_term Unbound = None
+value_term (Plain b t) = Some (rename_term b (term_of t.now))
+value_term (Moved c) = Some (closure_term c.value)
 
 abbrev pub bound_in : List Slot → ℕ → Option NominalTerm
 bound_in [] i = None
-bound_in (s ∷ ss) zero = binding_term s.binding
+bound_in (s ∷ ss) zero = value_term s.value
 bound_in (s ∷ ss) (suc i) = bound_in ss i
 
 -- the term, or () where there is none
@@ -41,18 +41,18 @@ abbrev pub term_or_unit : Option NominalTerm → NominalTerm
 term_or_unit None = unit
 term_or_unit (Some t) = t
 
-abbrev pub kept_term : Binding → NominalTerm
-kept_term b = term_or_unit (binding_term b)
+abbrev pub kept_term : Value → NominalTerm
+kept_term b = term_or_unit (value_term b)
 
 -- The variables of what is bound are below n, and so are its names where no swappings wait.
-abbrev pub IsKeptBelow : ℕ → Binding → Type 0
+abbrev pub IsKeptBelow : ℕ → Value → Type 0
 IsKeptBelow n Unbound = Unit {0}
 IsKeptBelow n (Plain b t) = IsBelow n (rename_term b (term_of t.now))
 IsKeptBelow n (Moved c) = EachVar (λ y. y.num < n) (closure_term c.value)
 
 abbrev pub AreKeptBelow : ℕ → List Slot → Type 0
 AreKeptBelow n [] = Unit {0}
-AreKeptBelow n (s ∷ ss) = IsKeptBelow n s.binding × AreKeptBelow n ss
+AreKeptBelow n (s ∷ ss) = IsKeptBelow n s.value × AreKeptBelow n ss
 
 abbrev pub var_at : ℕ → Var
 var_at i = record { num = i }
@@ -76,15 +76,20 @@ count_noted (entries.Made n ∷ es) = count_noted es
 count_noted (entries.Bound i ∷ es) = count_noted es
 count_noted (entries.Noted ∷ es) = suc (count_noted es)
 
--- The changes may follow one another; what is taken out is what was held; the table has a slot for each number, and in it the
--- term to which this is bound; what is bound is below reach.
-abbrev pub AreStored : List Slot → List Change → ℕ → Type 0
-AreStored table cs reach =
-    AreChanges cs empty × AreTakenHeld cs nothing_held × (length table ≡ (present_after cs empty).next) × ((x : Var) → raw_after cs nothing_bound x ≡ bound_in table x.num)
-    × AreKeptBelow reach table
+-- an entry binds the number
+abbrev pub binds : ℕ → List Entry → Bool
+binds i [] = false
+binds i (entries.Made n ∷ es) = binds i es
+binds i (entries.Bound j ∷ es) = (i == j) || binds i es
+binds i (entries.Noted ∷ es) = binds i es
 
+-- The changes may follow one another; what is taken out is what was held; the table has a slot for each number, which is bound
+-- there where the trail binds it; what is bound is below reach; and numbers fit in entries of the trail.
 abbrev pub IsStored : List Slot → List Entry → List Noted → ℕ → Type 0
-IsStored table es ns reach = AreStored table (changes_in table es ns) reach × (count_noted es ≡ length ns) × (length table < 2 ^ 32)
+IsStored table es ns reach =
+    AreChanges (changes_in table es ns) empty × AreTakenHeld (changes_in table es ns) nothing_held
+    × (length table ≡ (present_after (changes_in table es ns) empty).next) × ((i : ℕ) → binds i es ≡ is_some (bound_in table i))
+    × AreKeptBelow reach table × (count_noted es ≡ length ns) × (length table < 2 ^ 32)
 
 -- the conditions that are held of a number
 abbrev pub held_in : List (Vec Cond Global) → ℕ → List Cond
@@ -119,14 +124,14 @@ links_prop : (cs : List Change) (k : ℕ → List Cond) → IsProp (AreTakenHeld
 links_prop [] k = Unit-prop
 links_prop (c ∷ cs) k = let h : IsProp (IsTakenHeld c k) = link_prop c k in let l : IsProp (AreTakenHeld cs (held_step c k)) = links_prop cs (held_step c k) in hlevel (props, h, l)
 
-kept_prop : (n : ℕ) (b : Binding) → IsProp (IsKeptBelow n b)
+kept_prop : (n : ℕ) (b : Value) → IsProp (IsKeptBelow n b)
 kept_prop n Unbound = Unit-prop
 kept_prop n (Plain b t) = below_prop n (rename_term b (term_of t.now))
 kept_prop n (Moved c) = hlevel props
 
 all_kept_prop : (n : ℕ) (ss : List Slot) → IsProp (AreKeptBelow n ss)
 all_kept_prop n [] = Unit-prop
-all_kept_prop n (s ∷ ss) = let h : IsProp (IsKeptBelow n s.binding) = kept_prop n s.binding in let k : IsProp (AreKeptBelow n ss) = all_kept_prop n ss in hlevel (props, h, k)
+all_kept_prop n (s ∷ ss) = let h : IsProp (IsKeptBelow n s.value) = kept_prop n s.value in let k : IsProp (AreKeptBelow n ss) = all_kept_prop n ss in hlevel (props, h, k)
 
 pub stored_prop : (table : List Slot) (es : List Entry) (ns : List Noted) (reach : ℕ) → IsProp (IsStored table es ns reach)
 stored_prop table es ns reach =

@@ -4,7 +4,7 @@ ghost use Rattle.std.specs.Prelude.{◌≡◌, Some, None, IfOk, IfSome, MatchOp
 ghost use Rattle.ap_defs.specs.Renaming.{IsBelow, rename_term};
 ghost use Rattle.ap_defs.specs.Terms.{term_of};
 ghost use Rattle.ap_perm.specs.Closures.{closure_term, lent_term};
-ghost use Rattle.ap_store.specs.Slots.{IsKeptBelow, binding_term};
+ghost use Rattle.ap_store.specs.Slots.{IsKeptBelow, value_term};
 
 use ap_defs::goals::Local;
 use ap_defs::memory::Memory;
@@ -15,7 +15,7 @@ use std::alloc::Global;
 /// What a number is bound to, if it is bound: mostly a term on which no swappings wait, whose
 /// identifiers are numbered from a small number on, and else any closure.
 #[derive(Drop)]
-pub enum Binding<'a> {
+pub enum Value<'a> {
     Unbound,
     Plain(u32, &'a Term),
     Moved(Box<Closure<'a>>),
@@ -25,36 +25,36 @@ pub enum Binding<'a> {
 #[derive(Drop)]
 pub struct Slot<'a> {
     pub local: &'a Local,
-    pub binding: Binding<'a>,
+    pub value: Value<'a>,
 }
 
 /// A binding to a closure.
-pub fn binding_to<'a>(alloc: Global, c: Closure<'a>) -> Result<Binding<'a>, Memory>
-    ensures term { IfOk result (λ b. binding_term b ≡ Some (closure_term c.entry)) }
+pub fn value_of<'a>(alloc: Global, c: Closure<'a>) -> Result<Value<'a>, Memory>
+    ensures term { IfOk result (λ b. value_term b ≡ Some (closure_term c.entry)) }
     ensures below { IfOk result (λ b. IsKeptBelow c.entry.end b) }
 {
     if c.swaps.is_empty() && c.base <= u32::MAX as u64 {
-        return Ok(Binding::Plain(c.base as u32, c.term));
+        return Ok(Value::Plain(c.base as u32, c.term));
     }
     let moved = Box::new(alloc, c)?;
-    Ok(Binding::Moved(moved))
+    Ok(Value::Moved(moved))
 }
 
 /// The closure of a binding; where no swappings wait on it, its numbers are below `end`. It takes no
 /// memory.
-pub fn lent_binding<'s, 'a>(b: &'s Binding<'a>, end: u64) -> Option<Lent<'s, 'a>>
+pub fn lent_value<'s, 'a>(b: &'s Value<'a>, end: u64) -> Option<Lent<'s, 'a>>
     requires { IsKeptBelow end b.now }
-    ensures { MatchOption result (binding_term b.now ≡ None) (λ c. binding_term b.now
+    ensures { MatchOption result (value_term b.now ≡ None) (λ c. value_term b.now
         ≡ Some (lent_term c)) }
 {
     match b {
-        Binding::Unbound => None,
-        Binding::Plain(base, term) => Some(Lent {
+        Value::Unbound => None,
+        Value::Plain(base, term) => Some(Lent {
             swaps: &[],
             base: *base as u64,
             end,
             term,
         }),
-        Binding::Moved(closure) => Some(closure.lent()),
+        Value::Moved(closure) => Some(closure.lent()),
     }
 }

@@ -7,8 +7,8 @@ ghost use Rattle.ap_store.specs.Trails.{no_rank, nothing_bound, rank_after, raw_
 
 use crate::changes::{Entry, Noted};
 use crate::held::{all_of, held_of, hold, let_go, put_back, take_out};
-use crate::slots::{Binding, Slot, binding_to};
-use crate::tables::{add_slots, bound_at, put_binding};
+use crate::slots::{Slot, Value, value_of};
+use crate::tables::{add_slots, bound_at, put_value};
 use ap_defs::goals::{Kind, Local};
 use ap_defs::memory::Memory;
 use ap_defs::terms::{Cond, Var};
@@ -50,7 +50,7 @@ impl<'a> Store<'a> {
     ghost use Rattle.ap_perm.specs.Closures.{closure_term, lent_term};
     ghost use Rattle.ap_theory.specs.Variables.{IsUnbound};
     ghost use Rattle.ap_store.specs.Changes.{has_on, replace_conditions, with_bound};
-    ghost use Rattle.ap_store.specs.Slots.{IsKeptBelow, binding_term, kept_term};
+    ghost use Rattle.ap_store.specs.Slots.{IsKeptBelow, value_term, kept_term};
     ghost use Rattle.ap_store.specs.Triples.{AreOnUnbound, IsPrefixOf, is_apart, is_on, with_binding, with_conditions, with_next};
     ghost use Rattle.ap_store.specs.Views.{IsUnchanged, bindings_of, kinds, meaning_in, past, present, raw_bound, versions};
 
@@ -109,9 +109,9 @@ impl<'a> Store<'a> {
         ensures unchanged { OnErr result (IsUnchanged self.old self.new) }
     {
         let end = c.end;
-        let binding = binding_to(alloc, c)?;
+        let value = value_of(alloc, c)?;
         let taken = self.take_conditions(alloc, x)?;
-        self.note_binding(x, binding, end);
+        self.note_binding(x, value, end);
         Ok(taken)
     }
 
@@ -253,22 +253,22 @@ impl<'a> Store<'a> {
     }
 
     /// Notes what a variable is bound to; the variables in it are below `end`.
-    fn note_binding(&mut self, x: Var, binding: Binding<'a>, end: u64)
+    fn note_binding(&mut self, x: Var, value: Value<'a>, end: u64)
         requires room { vec_len self.old.trail < vec_capacity self.old.trail }
         requires made { x.num < (present self.old).next }
         requires unbound { IsUnbound (bindings_of self.old) x }
-        requires bound { binding_term binding ≡ Some (kept_term binding) }
-        requires term { IsBelow (present self.old).next (kept_term binding) }
-        requires within { IsKeptBelow end binding }
-        requires absent { occurs x (under (bindings_of self.old) (kept_term binding)) ≡ false }
+        requires bound { value_term value ≡ Some (kept_term value) }
+        requires term { IsBelow (present self.old).next (kept_term value) }
+        requires within { IsKeptBelow end value }
+        requires absent { occurs x (under (bindings_of self.old) (kept_term value)) ≡ false }
         requires apart { has_on x (present self.old).conditions ≡ false }
         ensures present { present self.new
-            ≡ with_bound x (under (bindings_of self.old) (kept_term binding)) (present self.old) }
+            ≡ with_bound x (under (bindings_of self.old) (kept_term value.entry)) (present self.old) }
         ensures versions { versions self.new ≡ versions self.old ++ present self.new ∷ [] }
         ensures kinds { kinds self.new ≡ kinds self.old }
     {
         self.reach = self.reach.max(end);
-        put_binding(&mut self.table, x.num as usize, binding);
+        put_value(&mut self.table, x.num as usize, value);
         self.trail.push_reserved(Entry::Bound(x.num as u32));
     }
 
@@ -306,7 +306,7 @@ impl<'a> Store<'a> {
                 self.reach = self.reach.min(left as u64);
             }
             Some(Entry::Bound(num)) => {
-                put_binding(&mut self.table, num as usize, Binding::Unbound);
+                put_value(&mut self.table, num as usize, Value::Unbound);
             }
             Some(Entry::Noted) => match self.noted.pop() {
                 None => {}

@@ -4,9 +4,9 @@ ghost use Rattle.std.specs.Prelude.{◌≡◌, ℕ, ◌+◌, ◌≤◌, ◌<◌,
 ghost use Rattle.ap_defs.specs.Resolution.{kinds_of};
 ghost use Rattle.ap_defs.specs.Types.{locals_of};
 ghost use Rattle.ap_perm.specs.Closures.{lent_term};
-ghost use Rattle.ap_store.specs.Slots.{AreKeptBelow, IsKeptBelow, binding_term, bound_in, slot_kind};
+ghost use Rattle.ap_store.specs.Slots.{AreKeptBelow, IsKeptBelow, value_term, bound_in, slot_kind};
 
-use crate::slots::{Binding, Slot, lent_binding};
+use crate::slots::{Slot, Value, lent_value};
 use ap_defs::goals::Local;
 use ap_perm::closures::Lent;
 
@@ -22,22 +22,22 @@ pub fn add_slots<'a>(table: &mut Vec<Slot<'a>>, locals: &'a [Local])
     'adding: for local in locals {
         table.push_reserved(Slot {
             local,
-            binding: Binding::Unbound,
+            value: Value::Unbound,
         });
     }
 }
 
 /// Puts a binding in the place of what a number is bound to.
-pub fn put_binding<'a>(table: &mut Vec<Slot<'a>>, place: usize, binding: Binding<'a>)
+pub fn put_value<'a>(table: &mut Vec<Slot<'a>>, place: usize, value: Value<'a>)
     requires { place < length table.old.items }
     ensures kinds { map slot_kind table.new.items ≡ map slot_kind table.old.items }
     ensures bound { (i : ℕ) → bound_in table.new.items i
-        ≡ (if i == place then binding_term binding else bound_in table.old.items i) }
+        ≡ (if i == place then value_term value.entry else bound_in table.old.items i) }
     ensures length { length table.new.items ≡ length table.old.items }
-    ensures below { (n : ℕ) → IsKeptBelow n binding → AreKeptBelow n table.old.items →
+    ensures below { (n : ℕ) → IsKeptBelow n value.entry → AreKeptBelow n table.old.items →
         AreKeptBelow n table.new.items }
 {
-    table[place].binding = binding;
+    table[place].value = value;
 }
 
 /// What a number is bound to, where this is below `end`. It takes no memory.
@@ -47,7 +47,7 @@ pub fn bound_at<'s, 'a>(table: &'s [Slot<'a>], num: u64, end: u64) -> Option<Len
         ≡ Some (lent_term c)) }
 {
     if num < table.len() as u64 {
-        lent_binding(&table[num as usize].binding, end)
+        lent_value(&table[num as usize].value, end)
     } else {
         None
     }
