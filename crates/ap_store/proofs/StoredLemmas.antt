@@ -1,6 +1,7 @@
 -- What is kept of each number and beside the trail, as changes are made and undone.
 use Rattle.std.proofs.Common.{◌≡◌, ◌<◌, ◌≤◌, ◌+◌, ◌-◌, ◌^◌, ℕ, zero, suc, min, Bool, true, false, ◌||◌, List, [], ◌∷◌, ◌++◌, length, map, take, get_or, refl, sym, ap, ap₂, ◌∙◌, subst, arith, append_assoc, append-nil, inl, inr, true≢false}
-use Rattle.std.specs.Prelude.{◌==◌, ◌⊎◌, nat_lt, slice_set, if◌then◌else◌, MatchOption, Option, Some, None, is_some}
+use Rattle.std.specs.Prelude.{◌==◌, ◌⊎◌, nat_lt, slice_set, if◌then◌else◌, MatchOption, Option, Some, None, Vec, is_some}
+use Rattle.std.specs.Global.{Global}
 use Rattle.std.proofs.lemmas.Bool.Decides.{nat_tests}
 use Rattle.std.proofs.lemmas.List.{length-append, length-map, length-take-le, map-append, take-map, take_more}
 use Rattle.ap_defs.specs.Freshness.{var_eq}
@@ -359,7 +360,7 @@ stored_noted ss es ts ns ms r d h k e f =
 pub stored_added : (ss : List Slot) (es ts : List Entry) (ns ms : List Noted) (r : ℕ) (c : Cond) → IsStored ss es ns r → AreOnUnbound (now (changes_in ss es ns)) (c ∷ []) → ts ≡ es ++ entries.Noted ∷ [] → ms ≡ ns ++ notes.Added c ∷ [] → IsStored ss ts ms r
 stored_added ss es ts ns ms r c h i e f = stored_noted ss es ts ns ms r (notes.Added c) h (more_aside ss (changes_in ss es ns) r (Added c) (stored_lookup ss es ns r h) i tt refl (λ b. refl)) e f
 
-pub stored_taken : (ss : List Slot) (es ts : List Entry) (ns ms : List Noted) (r : ℕ) (x : Var) (cs : _) → IsStored ss es ns r → x.num < (now (changes_in ss es ns)).next → cs.items ≡ kept (changes_in ss es ns) x.num
+pub stored_taken : (ss : List Slot) (es ts : List Entry) (ns ms : List Noted) (r : ℕ) (x : Var) (cs : Vec Cond Global) → IsStored ss es ns r → x.num < (now (changes_in ss es ns)).next → cs.items ≡ kept (changes_in ss es ns) x.num
     → ts ≡ es ++ entries.Noted ∷ [] → ms ≡ ns ++ notes.Taken x cs ∷ [] → IsStored ss ts ms r
 stored_taken ss es ts ns ms r x cs h i j e f = stored_noted ss es ts ns ms r (notes.Taken x cs) h (more_aside ss (changes_in ss es ns) r (Taken x cs.items) (stored_lookup ss es ns r h) i j refl (λ b. refl)) e f
 

@@ -1,9 +1,9 @@
 -- One more change behind others.
-use Rattle.std.proofs.Common.{◌≡◌, ◌≤◌, ℕ, zero, suc, ◌+◌, List, [], ◌∷◌, ◌++◌, length, take, refl, sym, ap, ap₂, ◌∙◌, arith, append_assoc, append-nil}
+use Rattle.std.proofs.Common.{◌≡◌, ◌≤◌, ℕ, zero, suc, ◌+◌, List, [], ◌∷◌, ◌++◌, length, take, refl, sym, ap, ap₂, ◌∙◌, subst, arith, append_assoc, append-nil}
 use Rattle.std.proofs.lemmas.List.{length-append, take-append-le}
 use Rattle.ap_defs.specs.declared.terms.Cond.{Cond}
 use Rattle.ap_perm.specs.Lookups as lookups
-use Rattle.ap_store.specs.Changes.{AreChanges, Change, IsChange, after, past_after, present_after}
+use Rattle.ap_store.specs.Changes.{AreChanges, Change, Made, Bound, Added, Taken, IsChange, after, empty, past_after, present_after}
 use Rattle.ap_store.specs.Trails.{AreTakenHeld, IsTakenHeld, held_after, held_step, raw_after, raw_step}
 use Rattle.ap_store.specs.Triples.{IsPrefixOf, Triple}
 
@@ -85,3 +85,17 @@ prefix_is as' bs n (cs, e) f =
 
 pub versions_length : (cs : List Change) (a : Triple) → length (versions_after cs a) ≡ length cs + 1
 versions_length cs a = omega (arith, length-append (past_after cs a) (present_after cs a ∷ []), past_length cs a)
+
+-- The last change is undone.
+module _ (cs ds : List Change) (c : Change) (e : ds ≡ cs ++ c ∷ []) where
+  pub versions_last : versions_after ds empty ≡ versions_after cs empty ++ present_after ds empty ∷ []
+  versions_last = versions_new cs ds c empty e
+
+  pub next_last : (present_after cs empty).next ≤ (present_after ds empty).next
+  next_last = let k : present_after ds empty ≡ after c (present_after cs empty) = present_new cs ds c empty e in subst (λ (a : Triple). (present_after cs empty).next ≤ a.next) (sym k) (rises c (present_after cs empty))
+    where
+      rises : (d : Change) (a : Triple) → a.next ≤ (after d a).next
+      rises (Made n) a = omega arith
+      rises (Bound x t) a = omega arith
+      rises (Added d) a = omega arith
+      rises (Taken x es) a = omega arith

@@ -8,7 +8,14 @@ ghost use Rattle.ap_store.specs.Views.{bindings_of, meaning_in};
 
 use crate::store::Store;
 use ap_defs::terms::{Term, Var};
-use ap_perm::closures::Closure;
+use ap_perm::closures::{Closure, Lent};
+
+/// The number that those in a closure are below.
+fn end_of(c: Lent<'_, '_>) -> u64
+    ensures { result ≡ c.entry.end }
+{
+    c.end
+}
 
 /// Whether the variable occurs in what the term stands for, whose identifiers are numbered from
 /// `base` on.
@@ -38,7 +45,7 @@ fn occurs_below(store: &Store<'_>, x: Var, mut base: u64, mut end: u64, t: &Term
                     None => return x.num == y.num,
                     Some(c) => {
                         base = c.base;
-                        end = c.end;
+                        end = end_of(c);
                         rest = c.term;
                     }
                 }

@@ -88,7 +88,7 @@ loop-rest-preserved t c =
       all = sym (ap (λ (u : Term). occurs c.args.x (under (bindings_of s) (rename_term c.loop-rest.base (term_of u)))) c.in-Susp.is
           ∙ bound_occurs s c.args.x y q d c.in-Some.ensures)
           ∙ c.loop-rest.invariant.all;
-      fits = let h = c.in-Some.c.type_inv in omega (arith, h);
-      below = d.below;
+      fits = let h = c.end_of-end.type_inv in omega (arith, h);
+      below = subst (λ n. IsBelow n (rename_term d.base (term_of d.term.now))) (sym c.end_of-end.ensures) d.below;
       smaller = omega (arith, l, m);
     }

@@ -1,9 +1,12 @@
-use Rattle.std.proofs.Common.{◌≡◌, List, [], ap, sym, ◌∙◌, arith}
+use Rattle.std.proofs.Common.{rules, ◌≡◌, ◌<◌, subst, List, [], ap, sym, ◌∙◌, arith}
 use Rattle.std.proofs.lemmas.List.{nil_from_length}
 use Rattle.std.specs.Prelude.{Some}
 use Rattle.ap_defs.specs.Renaming.{rename_term}
 use Rattle.ap_defs.specs.Terms.{act_term, term_of}
 use Rattle.ap_defs.specs.declared.terms.Swap.{Swap}
+use Rattle.ap_perm.specs.Closures.{closure_term}
+use Rattle.ap_perm.specs.declared.closures.Closure.{Closure}
+use Rattle.ap_theory.specs.Variables.{EachVar}
 use Rattle.ap_theory.proofs.TermLemmas.{act_term_none, number_same}
 use Rattle.ap_store.proofs.ReachLemmas.{closure_vars}
 use Rattle.ap_store.proofs.slots.value_of.Goals as goal
@@ -16,4 +19,6 @@ returns-then-c-clause-term c =
     ap Some (sym (act_term_none t) ∙ ap (λ (p : List Swap). act_term p t) (sym e))
 
 pub returns-clause-below : goal.returns-clause-below
-returns-clause-below c = search (closure_vars)
+returns-clause-below c =
+    let e : c.in_ok-moved.moved.value ≡ c.args.c = search rules in
+    subst (λ (d : Closure). EachVar (λ y. y.num < c.args.c.end) (closure_term d)) (sym e) (closure_vars c.args.c)

@@ -11,13 +11,13 @@ use Rattle.ap_store.proofs.tables.bound_at.Goals as goal
 pub lent_value-requires : goal.lent_value-requires
 lent_value-requires c =
     let l : c.args.num < length c.args.table.now = omega arith in
-    subst (λ (s : Slot). IsKeptBelow c.args.end s.value) (sym c.index-table-num.is) (kept_at c.args.end c.args.table.now c.args.num c.index-table-num.result l c.requires)
+    (kept_at c.args.end c.args.table.now c.args.num c.index-table-num.result l c.requires)
 
 pub returns-then-num-table : goal.returns-then-num-table
 returns-then-num-table c =
     let l : c.args.num < length c.args.table.now = omega arith in
     subst (λ (o : Option NominalTerm). MatchOption c.lent_value.result (o ≡ None) (λ d. o ≡ Some (lent_term d)))
-    (ap (λ (s : Slot). value_term s.value) c.index-table-num.is ∙ sym (bound_in_get c.args.table.now c.args.num c.index-table-num.result l)) c.lent_value.ensures
+    (sym (bound_in_get c.args.table.now c.args.num c.index-table-num.result l)) c.lent_value.ensures
 
 pub returns-else-num-table : goal.returns-else-num-table
 returns-else-num-table c =

@@ -18,7 +18,7 @@ undoing-preserved c =
     record {
       versions = goes_on_both (versions r) (versions s) (versions c.args.self.now) (goes_on_one (versions r) (versions s) (present s) c.undo_last.ensures.versions) c.undoing.invariant.versions;
       kinds = take_further (present r).next (present s).next (kinds r) (kinds s) (kinds c.args.self.now) c.undo_last.ensures.kinds c.undoing.invariant.kinds c.undo_last.ensures.next;
-      place = omega (arith, c.len.ensures, ap length c.undo_last.ensures.versions, length-append (versions r) (present s ∷ []), versions_length (changes s) empty, versions_length (changes r) empty, past_length (changes r) empty);
+      place = omega (arith, c.len.ensures, ap length c.undo_last.ensures.versions, length-append (versions r) (present s ∷ []), versions_length (changes s) empty, versions_length (changes r) empty, past_length (changes r) empty, changes_length s.table.items s.trail.items s.noted.items s.stored.5);
     }
 
 pub returns-clause-versions : goal.returns-clause-versions
