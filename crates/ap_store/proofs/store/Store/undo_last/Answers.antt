@@ -119,7 +119,13 @@ pub invariant_of-self-in-None-pop : goal.invariant_of-self-in-None-pop
 invariant_of-self-in-None-pop c =
     let s = c.args.self.now in
     let l = some_noted s.table.items c.pop.new.self.items s.trail.items s.noted.items s.reach s.stored (c.in-Some-Noted.ensures.items ∙ ap (λ (d : Entry). c.pop.new.self.items ++ d ∷ []) c.in-Some-Noted.field-0-is) in
-    absurd (omega (arith, l))
+    absurd (omega (arith, l, c.in-None-pop.ensures.cases.0))
+
+pub returns-in-None-pop-clause-versions : goal.returns-in-None-pop-clause-versions
+returns-in-None-pop-clause-versions c =
+    let s = c.args.self.now in
+    let l = some_noted s.table.items c.pop.new.self.items s.trail.items s.noted.items s.reach s.stored (c.in-Some-Noted.ensures.items ∙ ap (λ (d : Entry). c.pop.new.self.items ++ d ∷ []) c.in-Some-Noted.field-0-is) in
+    absurd (omega (arith, l, c.in-None-pop.ensures.cases.0))
 
 pub let_go-requires : goal.let_go-requires
 let_go-requires c =
