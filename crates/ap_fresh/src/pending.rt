@@ -5,7 +5,7 @@ ghost use Rattle.ap_defs.specs.Terms.{term_of};
 ghost use Rattle.ap_perm.specs.BelowProps.{below_prop};
 
 use ap_defs::terms::{Name, Term};
-use ap_perm::closures::Closure;
+use ap_perm::closures::Lent;
 use ap_perm::swappings::preimage;
 
 /// The name is to be fresh for the term, whose identifiers are numbered from `base` on, below `end`.
@@ -40,11 +40,11 @@ impl<'a> Pending<'a> {
     }
 
     /// The name is to be fresh for what a closure stands for.
-    pub fn bound(name: Name, c: &Closure<'a>) -> Pending<'a>
-        ensures name { result.name ≡ act_name (inverse c.now.swaps.items) name }
-        ensures term { pending_term result ≡ rename_term c.now.base (term_of c.now.term.now) }
+    pub fn bound(name: Name, c: Lent<'_, 'a>) -> Pending<'a>
+        ensures name { result.name ≡ act_name (inverse c.entry.swaps.now) name }
+        ensures term { pending_term result ≡ rename_term c.entry.base (term_of c.entry.term.now) }
     {
-        let name = preimage(&c.swaps, name);
+        let name = preimage(c.swaps, name);
         Pending {
             name,
             base: c.base,

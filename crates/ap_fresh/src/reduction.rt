@@ -95,7 +95,7 @@ pub fn add_reduced<L: Look>(
     ensures refuted { IsErrOf result FreshError.Refuted →
         by_rules a (carried_out (L.bound look.now) (L.rank look.now) (closure_term t.now)) ≡ None }
 {
-    collect(Pending::bound(a, t), look, conds)
+    collect(Pending::bound(a, t.lent()), look, conds)
 }
 
 /// Puts the conditions to which `a # x` reduces under the bindings behind others, from the last to the
@@ -113,7 +113,7 @@ pub fn add_reduced_var<L: Look>(
 {
     match look.look(x) {
         None => Ok(conds.push(Cond { name: a, var: x })?),
-        Some(c) => add_reduced(a, c, look, conds),
+        Some(c) => collect(Pending::bound(a, c), look, conds),
     }
 }
 

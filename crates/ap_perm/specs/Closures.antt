@@ -2,12 +2,16 @@
 use Rattle.ap_defs.specs.Renaming.{rename_term}
 use Rattle.ap_defs.specs.Terms.{NominalTerm, unit, name, pair, app, abs, susp, act_term, term_of}
 use Rattle.ap_perm.specs.declared.closures.Closure.{Closure}
+use Rattle.ap_perm.specs.declared.closures.Lent.{Lent}
 use Rattle.ap_perm.specs.declared.closures.Opened.{Opened}
 use Rattle.ap_perm.specs.declared.closures.Opened.TheVariants as parts
 
 -- the term, renamed, with the swappings acting on it
 abbrev pub closure_term : Closure → NominalTerm
 closure_term c = act_term c.swaps.items (rename_term c.base (term_of c.term.now))
+
+abbrev pub lent_term : Lent → NominalTerm
+lent_term c = act_term c.swaps.now (rename_term c.base (term_of c.term.now))
 
 abbrev pub opened_term : Opened → NominalTerm
 opened_term parts.Unit = unit

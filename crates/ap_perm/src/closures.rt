@@ -22,6 +22,17 @@ pub struct Closure<'a> {
     pub ghost below: { IsBelow end (rename_term base (term_of term.now)) } by { below_prop end (rename_term base (term_of term.now)) },
 }
 
+/// A closure whose swappings are lent, so that it is copied where it is moved. Contracts see it as the
+/// nominal term that this makes.
+#[derive(Clone, Copy)]
+pub struct Lent<'s, 'a> {
+    pub swaps: &'s [Swap],
+    pub base: u64,
+    pub end: u64,
+    pub term: &'a Term,
+    pub ghost below: { IsBelow end (rename_term base (term_of term.now)) } by { below_prop end (rename_term base (term_of term.now)) },
+}
+
 /// The head of a closure, and the closures of its parts. A suspension has all its swappings joined.
 #[derive(Drop)]
 pub enum Opened<'a> {
@@ -37,7 +48,7 @@ impl<'a> Closure<'a> {
     ghost use Rattle.std.specs.Prelude.{◌≡◌, IfOk};
     ghost use Rattle.ap_defs.specs.Renaming.{IsBelow, rename_term};
     ghost use Rattle.ap_defs.specs.Terms.{act_term, pair, term_of};
-    ghost use Rattle.ap_perm.specs.Closures.{closure_term, opened_term};
+    ghost use Rattle.ap_perm.specs.Closures.{closure_term, lent_term, opened_term};
 
     /// The term with its identifiers numbered from `base` on, all of them below `end`. It takes no
     /// memory.
@@ -50,6 +61,18 @@ impl<'a> Closure<'a> {
             base,
             end,
             term,
+        }
+    }
+
+    /// The closure, with its swappings lent. It takes no memory.
+    pub fn lent(&self) -> Lent<'_, 'a>
+        ensures { lent_term result ≡ closure_term self.now }
+    {
+        Lent {
+            swaps: &self.swaps,
+            base: self.base,
+            end: self.end,
+            term: self.term,
         }
     }
 

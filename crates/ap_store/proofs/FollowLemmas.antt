@@ -9,9 +9,10 @@ use Rattle.ap_defs.specs.declared.terms.Swap.{Swap}
 use Rattle.ap_defs.specs.declared.terms.Term.{Term}
 use Rattle.ap_defs.specs.declared.terms.Term.TheVariants as code
 use Rattle.ap_defs.specs.declared.terms.Var.{Var}
-use Rattle.ap_perm.specs.Closures.{closure_term}
+use Rattle.ap_perm.specs.Closures.{closure_term, lent_term}
 use Rattle.ap_perm.specs.Lookups.{depth_of}
 use Rattle.ap_perm.specs.declared.closures.Closure.{Closure}
+use Rattle.ap_perm.specs.declared.closures.Lent.{Lent}
 use Rattle.ap_perm.proofs.LookupLemmas.{depth_act, depth_ranked}
 use Rattle.ap_perm.proofs.VisitLemmas.{visits, visits_bound, visits_left, visits_right}
 use Rattle.ap_theory.proofs.HeadKeyLemmas.{key_act}
@@ -46,8 +47,11 @@ module _ (s : Store) where
   abbrev bare : Closure → NominalTerm
   bare c = rename_term c.base (term_of c.term.now)
 
-  pub bound_less : (q : List Swap) (x : Var) (c : Closure) → raw_bound s x ≡ Some (closure_term c) → visits_in s (bare c) < visits_in s (susp q x)
-  bound_less q x c e = visits_bound (raw_bound s) (rank s) (store_ranked s) q x c.swaps.items (bare c) e
+  abbrev bare_lent : Lent → NominalTerm
+  bare_lent c = rename_term c.base (term_of c.term.now)
+
+  pub bound_less : (q : List Swap) (x : Var) (c : Lent) → raw_bound s x ≡ Some (lent_term c) → visits_in s (bare_lent c) < visits_in s (susp q x)
+  bound_less q x c e = visits_bound (raw_bound s) (rank s) (store_ranked s) q x c.swaps.now (bare_lent c) e
 
   pub unbound_var : (x : Var) → raw_bound s x ≡ None → IsUnbound (bindings_of s) x
   unbound_var x e = (store_sound s).same x ∙ ap is_some e
@@ -56,10 +60,10 @@ module _ (s : Store) where
   unbound_under q x e = ap (moved q x) (bound_term_unbound (bindings_of s) x (unbound_var x e))
 
   -- a bound variable stands for what its closure stands for
-  pub bound_under : (q : List Swap) (x : Var) (c : Closure) → raw_bound s x ≡ Some (closure_term c)
-      → under (bindings_of s) (susp q x) ≡ under (bindings_of s) (act_term (q ++ c.swaps.items) (bare c))
+  pub bound_under : (q : List Swap) (x : Var) (c : Lent) → raw_bound s x ≡ Some (lent_term c)
+      → under (bindings_of s) (susp q x) ≡ under (bindings_of s) (act_term (q ++ c.swaps.now) (bare_lent c))
   bound_under q x c e =
-      (store_sound s).follows q x (closure_term c) e ∙ sym (under_act (bindings_of s) q (closure_term c)) ∙ ap (under (bindings_of s)) (sym (act_term-append q c.swaps.items (bare c)))
+      (store_sound s).follows q x (lent_term c) e ∙ sym (under_act (bindings_of s) q (lent_term c)) ∙ ap (under (bindings_of s)) (sym (act_term-append q c.swaps.now (bare_lent c)))
 
   pub unbound_occurs : (y x : Var) (q : List Swap) → raw_bound s x ≡ None → occurs y (under (bindings_of s) (susp q x)) ≡ var_eq y x
   unbound_occurs y x q e = ap (occurs y) (unbound_under q x e)
@@ -68,50 +72,53 @@ module _ (s : Store) where
   pub bare_occurs : (y : Var) (p : List Swap) (t : NominalTerm) → occurs y (under (bindings_of s) (act_term p t)) ≡ occurs y (under (bindings_of s) t)
   bare_occurs y p t = ap (occurs y) (under_act (bindings_of s) p t) ∙ occurs_act y p (under (bindings_of s) t)
 
-  pub bound_occurs : (y x : Var) (q : List Swap) (c : Closure) → raw_bound s x ≡ Some (closure_term c)
-      → occurs y (under (bindings_of s) (susp q x)) ≡ occurs y (under (bindings_of s) (bare c))
-  bound_occurs y x q c e = ap (occurs y) (bound_under q x c e) ∙ bare_occurs y (q ++ c.swaps.items) (bare c)
+  pub bound_occurs : (y x : Var) (q : List Swap) (c : Lent) → raw_bound s x ≡ Some (lent_term c)
+      → occurs y (under (bindings_of s) (susp q x)) ≡ occurs y (under (bindings_of s) (bare_lent c))
+  bound_occurs y x q c e = ap (occurs y) (bound_under q x c e) ∙ bare_occurs y (q ++ c.swaps.now) (bare_lent c)
 
-  pub bound_below : (q : List Swap) (x : Var) (c : Closure) → raw_bound s x ≡ Some (closure_term c) → AreSwapsBelow (present s).next q → IsBelow (present s).next (act_term (q ++ c.swaps.items) (bare c))
+  pub bound_below : (q : List Swap) (x : Var) (c : Lent) → raw_bound s x ≡ Some (lent_term c) → AreSwapsBelow (present s).next q → IsBelow (present s).next (act_term (q ++ c.swaps.now) (bare_lent c))
   bound_below q x c e h =
-      subst (λ (t : NominalTerm). IsBelow (present s).next t) (sym (act_term-append q c.swaps.items (bare c)))
-      (act_below (present s).next q h (closure_term c) ((store_sound s).below x (closure_term c) e))
+      subst (λ (t : NominalTerm). IsBelow (present s).next t) (sym (act_term-append q c.swaps.now (bare_lent c)))
+      (act_below (present s).next q h (lent_term c) ((store_sound s).below x (lent_term c) e))
 
-  pub bound_depth : (q : List Swap) (x : Var) (c : Closure) → raw_bound s x ≡ Some (closure_term c) → depth_of (rank s) (act_term (q ++ c.swaps.items) (bare c)) < depth_of (rank s) (susp q x)
+  pub bound_depth : (q : List Swap) (x : Var) (c : Lent) → raw_bound s x ≡ Some (lent_term c) → depth_of (rank s) (act_term (q ++ c.swaps.now) (bare_lent c)) < depth_of (rank s) (susp q x)
   bound_depth q x c e =
-      let l : depth_of (rank s) (closure_term c) ≤ rank s x = depth_ranked (raw_bound s) (rank s) (store_ranked s) x (closure_term c) e in
-      let k : depth_of (rank s) (act_term (q ++ c.swaps.items) (bare c)) ≡ depth_of (rank s) (bare c) = depth_act (rank s) (q ++ c.swaps.items) (bare c) in
-      let m : depth_of (rank s) (closure_term c) ≡ depth_of (rank s) (bare c) = depth_act (rank s) c.swaps.items (bare c) in
+      let l : depth_of (rank s) (lent_term c) ≤ rank s x = depth_ranked (raw_bound s) (rank s) (store_ranked s) x (lent_term c) e in
+      let k : depth_of (rank s) (act_term (q ++ c.swaps.now) (bare_lent c)) ≡ depth_of (rank s) (bare_lent c) = depth_act (rank s) (q ++ c.swaps.now) (bare_lent c) in
+      let m : depth_of (rank s) (lent_term c) ≡ depth_of (rank s) (bare_lent c) = depth_act (rank s) c.swaps.now (bare_lent c) in
       omega (arith, l, k, m)
 
   -- what a variable at the head of a closure is followed to
-  pub step_found : (c d : Closure) (all : List Swap) (q : List Swap) (x : Var) → c.term.now ≡ code.Susp q x → all ≡ (c.swaps.items ++ map (rename_swap c.base) q) ++ d.swaps.items
-      → raw_bound s (rename_var c.base x) ≡ Some (closure_term d)
-      → (under (bindings_of s) (act_term all (bare d)) ≡ meaning_in s c)
-      × (IsBelow (present s).next (closure_term c) → IsBelow (present s).next (act_term all (bare d))) × (depth_of (rank s) (act_term all (bare d)) < depth_of (rank s) (closure_term c))
+  pub step_found : (c : Closure) (d : Lent) (all : List Swap) (q : List Swap) (x : Var) → c.term.now ≡ code.Susp q x → all ≡ (c.swaps.items ++ map (rename_swap c.base) q) ++ d.swaps.now
+      → raw_bound s (rename_var c.base x) ≡ Some (lent_term d)
+      → (under (bindings_of s) (act_term all (bare_lent d)) ≡ meaning_in s c)
+      × (IsBelow (present s).next (closure_term c) → IsBelow (present s).next (act_term all (bare_lent d))) × (depth_of (rank s) (act_term all (bare_lent d)) < depth_of (rank s) (closure_term c))
   step_found c d all q x f g e =
       let p = c.swaps.items ++ map (rename_swap c.base) q in
       let y = rename_var c.base x in
       let h : closure_term c ≡ susp p y = ap (λ (t : Term). act_term c.swaps.items (rename_term c.base (term_of t))) f in
-      let k : act_term all (bare d) ≡ act_term (p ++ d.swaps.items) (bare d) = ap (λ r. act_term r (bare d)) g in (
+      let k : act_term all (bare_lent d) ≡ act_term (p ++ d.swaps.now) (bare_lent d) = ap (λ r. act_term r (bare_lent d)) g in (
         ap (under (bindings_of s)) k ∙ sym (bound_under p y d e) ∙ ap (under (bindings_of s)) (sym h),
         (λ l. let m : IsBelow (present s).next (susp p y) = subst (λ (t : NominalTerm). IsBelow (present s).next t) h l in
             subst (λ (t : NominalTerm). IsBelow (present s).next t) (sym k) (bound_below p y d e m.0)),
         subst (λ (t : NominalTerm). depth_of (rank s) t < depth_of (rank s) (closure_term c)) (sym k)
-            (subst (λ (t : NominalTerm). depth_of (rank s) (act_term (p ++ d.swaps.items) (bare d)) < depth_of (rank s) t) (sym h) (bound_depth p y d e)),
+            (subst (λ (t : NominalTerm). depth_of (rank s) (act_term (p ++ d.swaps.now) (bare_lent d)) < depth_of (rank s) t) (sym h) (bound_depth p y d e)),
       )
 
   -- swappings that wait change no key
+  moved_key : (p : List Swap) (t : NominalTerm) → head_key (under (bindings_of s) (act_term p t)) ≡ head_key (under (bindings_of s) t)
+  moved_key p t = ap head_key (under_act (bindings_of s) p t) ∙ key_act p (under (bindings_of s) t)
+
   pub closure_key : (d : Closure) → head_key (meaning_in s d) ≡ head_key (under (bindings_of s) (bare d))
-  closure_key d = ap head_key (under_act (bindings_of s) d.swaps.items (bare d)) ∙ key_act d.swaps.items (under (bindings_of s) (bare d))
+  closure_key d = moved_key d.swaps.items (bare d)
 
   -- what a variable is bound to begins as what the variable stands for, whatever swappings wait
-  pub head_bound : (q : List Swap) (x : Var) (d : Closure) → raw_bound s x ≡ Some (closure_term d) → IsHeadOf (present s) (rank s) (susp q x) (bare d)
+  pub head_bound : (q : List Swap) (x : Var) (d : Lent) → raw_bound s x ≡ Some (lent_term d) → IsHeadOf (present s) (rank s) (susp q x) (bare_lent d)
   head_bound q x d e =
       let bs = (bindings_of s) in
-      let l : depth_of (rank s) (closure_term d) ≤ rank s x = depth_ranked (raw_bound s) (rank s) (store_ranked s) x (closure_term d) e in
-      let m : depth_of (rank s) (closure_term d) ≡ depth_of (rank s) (bare d) = depth_act (rank s) d.swaps.items (bare d) in (
-        ap head_key ((store_sound s).follows q x (closure_term d) e) ∙ key_act q (under bs (closure_term d)) ∙ closure_key d,
+      let l : depth_of (rank s) (lent_term d) ≤ rank s x = depth_ranked (raw_bound s) (rank s) (store_ranked s) x (lent_term d) e in
+      let m : depth_of (rank s) (lent_term d) ≡ depth_of (rank s) (bare_lent d) = depth_act (rank s) d.swaps.now (bare_lent d) in (
+        ap head_key ((store_sound s).follows q x (lent_term d) e) ∙ key_act q (under bs (lent_term d)) ∙ moved_key d.swaps.now (bare_lent d),
         omega (arith, l, m),
       )
 

@@ -10,12 +10,10 @@ use Rattle.ap_defs.specs.declared.terms.Var.{Var}
 use Rattle.ap_theory.proofs.BooleanLemmas.{and_both, and_false, and_right, or_cases, or_if_left, or_if_right, same_test}
 use Rattle.ap_theory.proofs.ConditionSetLemmas.{add_conds_same, cond_eq_tells, has_cond-append, has_cond_add}
 use Rattle.ap_theory.proofs.TermLemmas.{number_same, same_number, same_var}
-use Rattle.ap_store.specs.Changes.{AreChanges, after, empty, present_after}
+use Rattle.ap_store.specs.Changes.{AreChanges, Change, Made, Bound, Added, Taken, after, empty, present_after}
 use Rattle.ap_store.specs.Slots.{AreHeld, AreTakenBelow, IsTakenBelow, all_held, held_in}
-use Rattle.ap_store.specs.Trails.{AreTrailLinked, Kept, keep, kept_after, nothing_kept}
+use Rattle.ap_store.specs.Trails.{AreTakenHeld, held_after, held_step, nothing_held}
 use Rattle.ap_store.specs.Triples.{Triple, is_apart, is_on}
-use Rattle.ap_store.specs.declared.changes.Change.{Change}
-use Rattle.ap_store.specs.declared.changes.Change.TheVariants.{Made, Bound, Added, Taken}
 use Rattle.ap_store.proofs.AscendingLemmas.{ascending_filter, ascending_is_set}
 use Rattle.ap_store.proofs.SoundLemmas.{sound}
 use Rattle.ap_store.proofs.TrailLemmas.{kept_more, linked_less, take_whole}
@@ -104,17 +102,17 @@ all_more vs i v l e =
     behind [] u = append-nil u.items
     behind (t ∷ us) u = ap (λ (cs : List Cond). t.items ++ cs) (behind us u) ∙ sym (append_assoc t.items (all_held us) u.items)
 
-abbrev kept : List Change → Kept
-kept cs = kept_after cs nothing_kept
+abbrev pub kept : List Change → ℕ → List Cond
+kept cs = held_after cs nothing_held
 
-abbrev now : List Change → Triple
+abbrev pub now : List Change → Triple
 now cs = present_after cs empty
 
 -- Taken numbers below a bound.
 taken_more : (m n : ℕ) (cs : List Change) → m ≤ n → AreTakenBelow m cs → AreTakenBelow n cs
 taken_more m n [] l h = tt
 taken_more m n (Made k ∷ cs) l h = (tt, taken_more m n cs l h.1)
-taken_more m n (Bound x b k ∷ cs) l h = (tt, taken_more m n cs l h.1)
+taken_more m n (Bound x b ∷ cs) l h = (tt, taken_more m n cs l h.1)
 taken_more m n (Added c ∷ cs) l h = (tt, taken_more m n cs l h.1)
 taken_more m n (Taken x es ∷ cs) l h = let k : x.num < m = h.0 in (omega (arith, k), taken_more m n cs l h.1)
 
@@ -128,18 +126,18 @@ taken_less n (c ∷ cs) d h = let k = taken_less n cs d h.1 in ((h.0, k.0), k.1)
 
 -- Changes that are made.
 module _ (vs us : List (Vec Cond Global)) (cs ts : List Change) (d : Change) (e : ts ≡ cs ++ d ∷ []) (h : AreHeld vs cs) where
-  held_new : length vs ≤ length us → IsTakenBelow (length us) d → ((i : ℕ) → held_in us i ≡ (keep d (kept cs)).conds i) → AreHeld us ts
+  held_new : length vs ≤ length us → IsTakenBelow (length us) d → ((i : ℕ) → held_in us i ≡ held_step d (kept cs) i) → AreHeld us ts
   held_new l p g =
-      let k : kept ts ≡ keep d (kept cs) = ap kept e ∙ kept_more cs d nothing_kept in (
+      let k : kept ts ≡ held_step d (kept cs) = ap kept e ∙ kept_more cs d nothing_held in (
         subst (AreTakenBelow (length us)) (sym e) (taken_new (length us) cs d (taken_more (length vs) (length us) cs l h.0) p),
-        λ i. g i ∙ ap (λ (q : Kept). q.conds i) (sym k),
+        λ i. g i ∙ ap (λ (q : ℕ → List Cond). q i) (sym k),
       )
 
 pub held_made : (vs : List (Vec Cond Global)) (cs ts : List Change) (n : ℕ) → AreHeld vs cs → ts ≡ cs ++ Made n ∷ [] → AreHeld vs ts
 held_made vs cs ts n h e = held_new vs vs cs ts (Made n) e h (omega arith) tt h.1
 
-pub held_bound : (vs : List (Vec Cond Global)) (cs ts : List Change) (x : Var) (b : _) (q : ℕ) → AreHeld vs cs → ts ≡ cs ++ Bound x b q ∷ [] → AreHeld vs ts
-held_bound vs cs ts x b q h g = held_new vs vs cs ts (Bound x b q) g h (omega arith) tt h.1
+pub held_bound : (vs : List (Vec Cond Global)) (cs ts : List Change) (x : Var) (b : _) → AreHeld vs cs → ts ≡ cs ++ Bound x b ∷ [] → AreHeld vs ts
+held_bound vs cs ts x b h g = held_new vs vs cs ts (Bound x b) g h (omega arith) tt h.1
 
 pub held_added : (vs us : List (Vec Cond Global)) (cs ts : List Change) (c : Cond) → AreHeld vs cs → length vs ≤ length us → ((i : ℕ) → held_in us i ≡ (if i == c.var.num then held_in vs i ++ c ∷ [] else held_in vs i)) → ts ≡ cs ++ Added c ∷ []
     → AreHeld us ts
@@ -178,14 +176,14 @@ module _ (vs : List (Vec Cond Global)) (cs ds : List Change) (d : Change) (e : d
   taken_before : AreTakenBelow (length vs) cs × IsTakenBelow (length vs) d
   taken_before = taken_less (length vs) cs d (subst (AreTakenBelow (length vs)) e h.0)
 
-  held_before : (i : ℕ) → held_in vs i ≡ (keep d (kept cs)).conds i
-  held_before i = h.1 i ∙ ap (λ (q : Kept). q.conds i) (ap kept e ∙ kept_more cs d nothing_kept)
+  held_before : (i : ℕ) → held_in vs i ≡ held_step d (kept cs) i
+  held_before i = h.1 i ∙ ap (λ (q : ℕ → List Cond). q i) (ap kept e ∙ kept_more cs d nothing_held)
 
 pub unheld_made : (vs : List (Vec Cond Global)) (cs ds : List Change) (n : ℕ) → AreHeld vs ds → ds ≡ cs ++ Made n ∷ [] → AreHeld vs cs
 unheld_made vs cs ds n h e = let k = taken_before vs cs ds (Made n) e h in (k.0, held_before vs cs ds (Made n) e h)
 
-pub unheld_bound : (vs : List (Vec Cond Global)) (cs ds : List Change) (x : Var) (b : _) (q : ℕ) → AreHeld vs ds → ds ≡ cs ++ Bound x b q ∷ [] → AreHeld vs cs
-unheld_bound vs cs ds x b q h e = let k = taken_before vs cs ds (Bound x b q) e h in (k.0, held_before vs cs ds (Bound x b q) e h)
+pub unheld_bound : (vs : List (Vec Cond Global)) (cs ds : List Change) (x : Var) (b : _) → AreHeld vs ds → ds ≡ cs ++ Bound x b ∷ [] → AreHeld vs cs
+unheld_bound vs cs ds x b h e = let k = taken_before vs cs ds (Bound x b) e h in (k.0, held_before vs cs ds (Bound x b) e h)
 
 without_last : (cs : List Cond) (c : Cond) → take (length (cs ++ c ∷ []) - 1) (cs ++ c ∷ []) ≡ cs
 without_last cs c =
@@ -197,19 +195,19 @@ pub unheld_added : (vs us : List (Vec Cond Global)) (cs ds : List Change) (c : C
 unheld_added vs us cs ds c h e f g = (
   let k = taken_before vs cs ds (Added c) e h in taken_more (length vs) (length us) cs (omega (arith, f)) k.0,
   λ i. g i
-      ∙ (elim (i == c.var.num) as (λ b. held_in vs i ≡ (if b then (kept cs).conds i ++ c ∷ [] else (kept cs).conds i) → (if b then take (length (held_in vs i) - 1) (held_in vs i) else held_in vs i) ≡ (kept cs).conds i) [
-        | true ↦ λ k. ap (λ (es : List Cond). take (length es - 1) es) k ∙ without_last ((kept cs).conds i) c
+      ∙ (elim (i == c.var.num) as (λ b. held_in vs i ≡ (if b then kept cs i ++ c ∷ [] else kept cs i) → (if b then take (length (held_in vs i) - 1) (held_in vs i) else held_in vs i) ≡ kept cs i) [
+        | true ↦ λ k. ap (λ (es : List Cond). take (length es - 1) es) k ∙ without_last (kept cs i) c
         | false ↦ λ k. k
       ] (held_before vs cs ds (Added c) e h i)),
 )
 
-pub unheld_taken : (vs us : List (Vec Cond Global)) (cs ds : List Change) (x : Var) (es : _) → AreHeld vs ds → ds ≡ cs ++ Taken x es ∷ [] → es.items ≡ (kept cs).conds x.num → length us ≡ length vs
-    → ((i : ℕ) → held_in us i ≡ (if i == x.num then es.items else held_in vs i)) → AreHeld us cs
+pub unheld_taken : (vs us : List (Vec Cond Global)) (cs ds : List Change) (x : Var) (es : _) → AreHeld vs ds → ds ≡ cs ++ Taken x es ∷ [] → es ≡ kept cs x.num → length us ≡ length vs
+    → ((i : ℕ) → held_in us i ≡ (if i == x.num then es else held_in vs i)) → AreHeld us cs
 unheld_taken vs us cs ds x es h e k f g = (
   let t = taken_before vs cs ds (Taken x es) e h in taken_more (length vs) (length us) cs (omega (arith, f)) t.0,
   λ i. g i
-      ∙ (elim (i == x.num) as (λ b. (i == x.num) ≡ b → held_in vs i ≡ (if b then [] else (kept cs).conds i) → (if b then es.items else held_in vs i) ≡ (kept cs).conds i) [
-        | true ↦ λ m l. k ∙ ap (kept cs).conds (sym (number_same i x.num m))
+      ∙ (elim (i == x.num) as (λ b. (i == x.num) ≡ b → held_in vs i ≡ (if b then [] else kept cs i) → (if b then es else held_in vs i) ≡ kept cs i) [
+        | true ↦ λ m l. k ∙ ap (kept cs) (sym (number_same i x.num m))
         | false ↦ λ m l. l
       ] refl (held_before vs cs ds (Taken x es) e h i)),
 )
@@ -217,7 +215,7 @@ unheld_taken vs us cs ds x es h e k f g = (
 pub added_fits : (vs : List (Vec Cond Global)) (cs ds : List Change) (c : Cond) → AreHeld vs ds → ds ≡ cs ++ Added c ∷ [] → c.var.num < length vs
 added_fits vs cs ds c h e =
     let i = c.var.num in
-    let es = (kept cs).conds i in
+    let es = kept cs i in
     let same : (i == i) ≡ true = same_number i i refl in
     let l : 0 < length (es ++ c ∷ []) = omega (arith, length-append es (c ∷ [])) in
     held_within vs i (es ++ c ∷ []) (held_before vs cs ds (Added c) e h i ∙ ap (λ (b : Bool). if b then es ++ c ∷ [] else es) same) l
@@ -225,8 +223,8 @@ added_fits vs cs ds c h e =
 pub taken_fits : (vs : List (Vec Cond Global)) (cs ds : List Change) (x : Var) (es : _) → AreHeld vs ds → ds ≡ cs ++ Taken x es ∷ [] → x.num < length vs
 taken_fits vs cs ds x es h e = let k = taken_before vs cs ds (Taken x es) e h in k.1
 
-pub taken_link : (cs ds : List Change) (x : Var) (es : _) → AreTrailLinked ds nothing_kept → ds ≡ cs ++ Taken x es ∷ [] → es.items ≡ (kept cs).conds x.num
-taken_link cs ds x es h e = (linked_less cs (Taken x es) nothing_kept (subst (λ (fs : List Change). AreTrailLinked fs nothing_kept) e h)).1
+pub taken_link : (cs ds : List Change) (x : Var) (es : _) → AreTakenHeld ds nothing_held → ds ≡ cs ++ Taken x es ∷ [] → es ≡ kept cs x.num
+taken_link cs ds x es h e = (linked_less cs (Taken x es) nothing_held (subst (λ (fs : List Change). AreTakenHeld fs nothing_held) e h)).1
 
 -- The conditions on a variable are those that came and were not taken out since.
 and_or : (o e h : Bool) → (e ≡ true → o ≡ true) → ((o && h) || (e || false)) ≡ (o && (e || h))
@@ -265,8 +263,8 @@ has_filter p c (d ∷ ds) =
       | false ↦ λ k. has_filter p c ds ∙ and_skip (p c) (cond_eq c d) (has_cond c ds) (λ e. ap p (cond_eq_tells c d e) ∙ k)
     ] refl
 
-abbrev KeepsConds : Triple → Kept → Type 0
-KeepsConds a k = (x : Var) (c : Cond) → has_cond c (k.conds x.num) ≡ (is_on x c && has_cond c a.conditions)
+abbrev KeepsConds : Triple → (ℕ → List Cond) → Type 0
+KeepsConds a k = (x : Var) (c : Cond) → has_cond c (k x.num) ≡ (is_on x c && has_cond c a.conditions)
 
 on_same : (x : Var) (c d : Cond) → (x.num == d.var.num) ≡ true → cond_eq c d ≡ true → is_on x c ≡ true
 on_same x c d h k = same_number c.var.num x.num (ap (λ (b : Cond). b.var.num) (cond_eq_tells c d k) ∙ sym (number_same x.num d.var.num h))
@@ -280,30 +278,30 @@ apart_none x y c h k = grind (arith, nat_tests)
 apart_also : (x y : Var) (c : Cond) → (x.num == y.num) ≡ false → is_on x c ≡ true → is_apart y c ≡ true
 apart_also x y c h k = grind (arith, nat_tests)
 
-keeps_step : (d : Change) (a : Triple) (k : Kept) → KeepsConds a k → KeepsConds (after d a) (keep d k)
+keeps_step : (d : Change) (a : Triple) (k : ℕ → List Cond) → KeepsConds a k → KeepsConds (after d a) (held_step d k)
 keeps_step (Made n) a k f x c = f x c
-keeps_step (Bound y b n) a k f x c = f x c
+keeps_step (Bound y b) a k f x c = f x c
 keeps_step (Added d) a k f x c =
-    (elim (x.num == d.var.num) as (λ b. (x.num == d.var.num) ≡ b → has_cond c (if b then k.conds x.num ++ d ∷ [] else k.conds x.num) ≡ (is_on x c && (cond_eq c d || has_cond c a.conditions))) [
+    (elim (x.num == d.var.num) as (λ b. (x.num == d.var.num) ≡ b → has_cond c (if b then k x.num ++ d ∷ [] else k x.num) ≡ (is_on x c && (cond_eq c d || has_cond c a.conditions))) [
       | true ↦ λ e.
-          has_cond-append c (k.conds x.num) (d ∷ []) ∙ ap (λ z. z || (cond_eq c d || false)) (f x c)
+          has_cond-append c (k x.num) (d ∷ []) ∙ ap (λ z. z || (cond_eq c d || false)) (f x c)
           ∙ and_or (is_on x c) (cond_eq c d) (has_cond c a.conditions) (on_same x c d e)
       | false ↦ λ e. f x c ∙ and_skip (is_on x c) (cond_eq c d) (has_cond c a.conditions) (on_other x c d e)
     ] refl)
     ∙ ap (λ z. is_on x c && z) (sym (has_cond_add c d a.conditions))
 keeps_step (Taken y cs) a k f x c =
-    (elim (x.num == y.num) as (λ b. (x.num == y.num) ≡ b → has_cond c (if b then [] else k.conds x.num) ≡ (is_on x c && (is_apart y c && has_cond c a.conditions))) [
+    (elim (x.num == y.num) as (λ b. (x.num == y.num) ≡ b → has_cond c (if b then [] else k x.num) ≡ (is_on x c && (is_apart y c && has_cond c a.conditions))) [
       | true ↦ λ e. and_none (is_on x c) (is_apart y c) (has_cond c a.conditions) (apart_none x y c e)
       | false ↦ λ e. f x c ∙ and_also (is_on x c) (is_apart y c) (has_cond c a.conditions) (apart_also x y c e)
     ] refl)
     ∙ ap (λ z. is_on x c && z) (sym (has_filter (is_apart y) c a.conditions))
 
-keeps_after : (cs : List Change) (a : Triple) (k : Kept) → KeepsConds a k → KeepsConds (present_after cs a) (kept_after cs k)
+keeps_after : (cs : List Change) (a : Triple) (k : ℕ → List Cond) → KeepsConds a k → KeepsConds (present_after cs a) (held_after cs k)
 keeps_after [] a k f = f
-keeps_after (c ∷ cs) a k f = keeps_after cs (after c a) (keep c k) (keeps_step c a k f)
+keeps_after (c ∷ cs) a k f = keeps_after cs (after c a) (held_step c k) (keeps_step c a k f)
 
 keeps : (cs : List Change) → KeepsConds (now cs) (kept cs)
-keeps cs = keeps_after cs empty nothing_kept (λ x c. sym (and_false (is_on x c)))
+keeps cs = keeps_after cs empty nothing_held (λ x c. sym (and_false (is_on x c)))
 
 pub on_var_set : (vs : List (Vec Cond Global)) (cs : List Change) (x : Var) → AreHeld vs cs → AreChanges cs empty → add_conds (held_in vs x.num) [] ≡ filter (is_on x) (now cs).conditions
 on_var_set vs cs x h ch =

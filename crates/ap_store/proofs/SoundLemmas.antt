@@ -7,7 +7,6 @@ use Rattle.ap_defs.specs.Substitution.{Binding, bound_term, moved, occurs, put, 
 use Rattle.ap_defs.specs.Terms.{NominalTerm, act_term, susp}
 use Rattle.ap_defs.specs.declared.terms.Swap.{Swap}
 use Rattle.ap_defs.specs.declared.terms.Var.{Var}
-use Rattle.ap_perm.specs.Closures.{closure_term}
 use Rattle.ap_perm.specs.Lookups as lookups
 use Rattle.ap_perm.specs.Lookups.{IsRanked, carried_out, depth_of, followed, stands_for}
 use Rattle.ap_perm.proofs.LookupLemmas.{occurs_depth}
@@ -17,12 +16,10 @@ use Rattle.ap_theory.proofs.SubstitutionLemmas.{applied_local, put_absent, put_a
 use Rattle.ap_theory.proofs.TermLemmas.{act_term_none, same_var, var_same}
 use Rattle.ap_theory.specs.Substitutions.{applied, bound_or_itself, substitution_of}
 use Rattle.ap_theory.specs.Variables.{IsIdempotent, IsUnbound, is_bound}
-use Rattle.ap_store.specs.Changes.{AreChanges, IsChange, after, empty, has_on, is_ascending, present_after, with_bound}
+use Rattle.ap_store.specs.Changes.{AreChanges, Change, Made, Bound, Added, Taken, IsChange, after, empty, has_on, is_ascending, present_after, with_bound}
 use Rattle.ap_store.specs.Trails.{no_rank, nothing_bound, rank_after, rank_step, raw_after, raw_step}
 use Rattle.ap_store.specs.Triples.{AreOnUnbound, Triple, is_apart}
 use Rattle.ap_store.specs.WellFormed.{IsWellFormed}
-use Rattle.ap_store.specs.declared.changes.Change.{Change}
-use Rattle.ap_store.specs.declared.changes.Change.TheVariants.{Made, Bound, Added, Taken}
 use Rattle.ap_store.proofs.AscendingLemmas.{ascending_add_all, ascending_filter, on_unbound_add_all, on_unbound_filter}
 use Rattle.ap_store.proofs.BelowLemmas.{below_more, bindings_below_more, bindings_below_put, under_below}
 use Rattle.ap_store.proofs.BindLemmas.{bound_in, idempotent_bind, is_bound_put, occurs_through, under_bind}
@@ -167,7 +164,7 @@ module _ (b : lookups.Bound) (a : Triple) (r : Var → ℕ) (s : IsSound b a r) 
 
 pub sound_step : (c : Change) (b : lookups.Bound) (a : Triple) (r : Var → ℕ) → IsChange c a → IsSound b a r → IsSound (raw_step c b) (after c a) (rank_step c a r)
 sound_step (Made n) b a r h s = sound_made b a r n s
-sound_step (Bound x c n) b a r h s = sound_bound b a r s x (closure_term c) h.0 h.1 h.2 h.3 h.4
+sound_step (Bound x t) b a r h s = sound_bound b a r s x t h.0 h.1 h.2 h.3 h.4
 sound_step (Added c) b a r h s =
     sound_replaced b a (after (Added c) a) r refl refl (on_unbound_add_all a (c ∷ []) a.conditions h s.well_formed.unbound) (ascending_add_all (c ∷ []) a.conditions s.well_formed.ascending) s
 sound_step (Taken x cs) b a r h s =

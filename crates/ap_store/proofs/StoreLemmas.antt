@@ -13,13 +13,11 @@ use Rattle.ap_defs.specs.declared.terms.Var.{Var}
 use Rattle.ap_defs.specs.Renaming.{AreBindingsBelow}
 use Rattle.ap_perm.specs.Lookups.{IsRanked, carried_out}
 use Rattle.ap_theory.specs.Variables.{IsUnbound, is_bound}
-use Rattle.ap_store.specs.Changes.{after, empty, present_after, replace_conditions}
+use Rattle.ap_store.specs.Changes.{Change, Made, Bound, Added, Taken, after, empty, present_after, replace_conditions}
 use Rattle.ap_store.specs.Slots.{slot_kind}
 use Rattle.ap_store.specs.Triples.{AreOnUnbound, IsPrefixOf, Triple, is_apart, is_on, with_conditions}
-use Rattle.ap_store.specs.Views.{IsUnchanged, bindings_of, kinds, past, present, rank, raw_bound, versions}
+use Rattle.ap_store.specs.Views.{IsUnchanged, bindings_of, changes, kinds, past, present, rank, raw_bound, versions}
 use Rattle.ap_store.specs.WellFormed.{IsWellFormed}
-use Rattle.ap_store.specs.declared.changes.Change.{Change}
-use Rattle.ap_store.specs.declared.changes.Change.TheVariants.{Made, Bound, Added, Taken}
 use Rattle.ap_store.specs.declared.store.Store.{Store}
 use Rattle.ap_store.proofs.AscendingLemmas.{all_apart, ascending_is_set}
 use Rattle.ap_store.proofs.SoundLemmas as soundness
@@ -27,7 +25,7 @@ use Rattle.ap_store.proofs.SoundLemmas.{IsSound, sound}
 use Rattle.ap_store.proofs.TrailLemmas.{prefix_is, take_whole, versions_after}
 
 pub store_sound : (s : Store) → IsSound (raw_bound s) (present s) (rank s)
-store_sound s = sound s.trail.items s.stored.0
+store_sound s = sound (changes s) s.stored.0
 
 pub well_formed : (s : Store) → IsWellFormed (present s)
 well_formed s = (store_sound s).well_formed
@@ -47,7 +45,7 @@ carried_out_under s t = soundness.carried_out_bound (raw_bound s) (present s) (r
 pub next_counts : (s : Store) → length (kinds s) ≡ (present s).next
 next_counts s = length-map s.table.items slot_kind ∙ s.stored.2
 
-unbound_beyond : (n : ℕ) (x : Var) (bs : List Binding) → AreBindingsBelow n bs → n ≤ x.num → IsUnbound bs x
+pub unbound_beyond : (n : ℕ) (x : Var) (bs : List Binding) → AreBindingsBelow n bs → n ≤ x.num → IsUnbound bs x
 unbound_beyond n x [] h l = refl
 unbound_beyond n x ((y := t) ∷ bs) h l =
     let k : y.num < n = h.0.0 in
@@ -60,7 +58,7 @@ unbound_past s x l = unbound_beyond (present s).next x (bindings_of s) (well_for
 
 next_rises : (c : Change) (a : Triple) → a.next ≤ (after c a).next
 next_rises (Made n) a = omega arith
-next_rises (Bound x b n) a = omega arith
+next_rises (Bound x t) a = omega arith
 next_rises (Added c) a = omega arith
 next_rises (Taken x cs) a = omega arith
 
@@ -76,7 +74,7 @@ version_is_less (c ∷ cs) a (suc n) d l = version_is_less cs (after c a) n d (o
 
 -- no earlier version had more numbers
 pub versions_have_less : (s : Store) (n : ℕ) (d : Triple) → n < length (versions s) → (get_or (versions s) n d).next ≤ (present s).next
-versions_have_less s n d l = version_is_less s.trail.items empty n d l
+versions_have_less s n d l = version_is_less (changes s) empty n d l
 
 -- One more condition is added.
 fits_at : (a : Triple) (ds : Conds) (i : ℕ) (d : Cond) → i < length ds → AreOnUnbound a ds → AreOnUnbound a (get_or ds i d ∷ [])

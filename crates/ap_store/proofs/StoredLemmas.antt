@@ -1,41 +1,46 @@
--- What is kept beside the changes, as changes are made and undone.
-use Rattle.std.proofs.Common.{◌≡◌, ◌<◌, ◌≤◌, ◌+◌, ◌-◌, ℕ, zero, suc, max, Bool, true, false, List, [], ◌∷◌, ◌++◌, length, map, take, get_or, refl, sym, ap, ap₂, ◌∙◌, subst, arith, append_assoc, append-nil, inl, inr}
-use Rattle.std.specs.Prelude.{◌==◌, ◌⊎◌, nat_lt, slice_set, if◌then◌else◌, MatchOption, Option, Some, None}
+-- What is kept of each number and beside the trail, as changes are made and undone.
+use Rattle.std.proofs.Common.{◌≡◌, ◌<◌, ◌≤◌, ◌+◌, ◌-◌, ◌^◌, ℕ, zero, suc, min, Bool, true, false, ◌||◌, List, [], ◌∷◌, ◌++◌, length, map, take, get_or, refl, sym, ap, ap₂, ◌∙◌, subst, arith, append_assoc, append-nil, inl, inr, true≢false}
+use Rattle.std.specs.Prelude.{◌==◌, ◌⊎◌, nat_lt, slice_set, if◌then◌else◌, MatchOption, Option, Some, None, Vec, is_some}
+use Rattle.std.specs.Global.{Global}
 use Rattle.std.proofs.lemmas.Bool.Decides.{nat_tests}
 use Rattle.std.proofs.lemmas.List.{length-append, length-map, length-take-le, map-append, take-map, take_more}
 use Rattle.ap_defs.specs.Freshness.{var_eq}
-use Rattle.ap_defs.specs.Substitution.{put_binding, under}
+use Rattle.ap_defs.specs.Renaming.{IsBelow}
 use Rattle.ap_defs.specs.Terms.{NominalTerm}
 use Rattle.ap_defs.specs.Resolution.{kinds_of}
 use Rattle.ap_defs.specs.Types.{NominalKind, NominalLocal, kind_of, local_of, locals_of}
 use Rattle.ap_defs.specs.declared.goals.Local.{Local}
 use Rattle.ap_defs.specs.declared.terms.Cond.{Cond}
 use Rattle.ap_defs.specs.declared.terms.Var.{Var}
-use Rattle.ap_perm.specs.Closures.{closure_term}
 use Rattle.ap_perm.specs.Lookups as lookups
-use Rattle.ap_theory.proofs.BooleanLemmas.{or_false}
-use Rattle.ap_theory.proofs.TermLemmas.{number_same}
-use Rattle.ap_theory.specs.Variables.{IsUnbound, is_bound}
-use Rattle.ap_store.specs.Changes.{AreChanges, IsChange, after, empty, present_after}
-use Rattle.ap_store.specs.Slots.{IsStored, place_in, slot_kind}
-use Rattle.ap_store.specs.Trails.{AreTrailLinked, IsLinked, Kept, change_term, keep, kept_after, nothing_bound, nothing_kept, raw_after, raw_step, term_at_change}
+use Rattle.ap_theory.proofs.BooleanLemmas.{or_if_left, or_if_right}
+use Rattle.ap_theory.proofs.TermLemmas.{number_same, same_number}
+use Rattle.ap_theory.specs.Variables.{IsUnbound}
+use Rattle.ap_store.specs.Changes.{AreChanges, Change, Made, Bound, Added, Taken, IsChange, after, empty, present_after}
+use Rattle.ap_store.specs.Slots.{AreKeptBelow, IsKeptBelow, IsStored, binds, bound_in, changes_in, count_noted, kept_term, noted_change, slot_kind, term_or_unit, value_term, var_at}
+use Rattle.ap_store.specs.Trails.{AreTakenHeld, IsTakenHeld, held_after, nothing_bound, nothing_held, raw_after, raw_step}
 use Rattle.ap_store.specs.Triples.{AreOnUnbound, Triple}
-use Rattle.ap_store.specs.declared.changes.Change.{Change}
-use Rattle.ap_store.specs.declared.changes.Change.TheVariants.{Made, Bound, Added, Taken}
+use Rattle.ap_store.specs.declared.changes.Entry.{Entry}
+use Rattle.ap_store.specs.declared.changes.Entry.TheVariants as entries
+use Rattle.ap_store.specs.declared.changes.Noted.{Noted}
+use Rattle.ap_store.specs.declared.changes.Noted.TheVariants as notes
 use Rattle.ap_store.specs.declared.slots.Slot.{Slot}
-use Rattle.ap_store.proofs.BindLemmas.{is_bound_put}
-use Rattle.ap_store.proofs.TrailLemmas.{changes_less, changes_more, kept_more, linked_less, linked_more, present_more, present_new, take_whole, versions_after, versions_new}
+use Rattle.ap_store.proofs.HeldLemmas.{kept, now}
+use Rattle.ap_store.proofs.ReachLemmas.{all_kept, all_kept_rises, kept_take}
+use Rattle.ap_store.proofs.SoundLemmas.{IsSound, sound}
+use Rattle.ap_store.proofs.StoreLemmas.{unbound_beyond}
+use Rattle.ap_store.proofs.TrailLemmas.{changes_less, changes_more, linked_less, linked_more, present_more, raw_more, take_whole}
 
--- Places in tables.
-pub place_in_get : (ss : List Slot) (i : ℕ) (d : Slot) → i < length ss → place_in ss i ≡ (get_or ss i d).place
-place_in_get [] i d l = absurd (omega arith)
-place_in_get (s ∷ ss) zero d l = refl
-place_in_get (s ∷ ss) (suc i) d l = place_in_get ss i d (omega arith)
+-- What stands in tables.
+pub bound_in_get : (ss : List Slot) (i : ℕ) (d : Slot) → i < length ss → bound_in ss i ≡ value_term (get_or ss i d).value
+bound_in_get [] i d l = absurd (omega arith)
+bound_in_get (s ∷ ss) zero d l = refl
+bound_in_get (s ∷ ss) (suc i) d l = bound_in_get ss i d (omega arith)
 
-pub place_in_beyond : (ss : List Slot) (i : ℕ) → length ss ≤ i → place_in ss i ≡ 0
-place_in_beyond [] i l = refl
-place_in_beyond (s ∷ ss) zero l = absurd (omega arith)
-place_in_beyond (s ∷ ss) (suc i) l = place_in_beyond ss i (omega arith)
+pub bound_in_beyond : (ss : List Slot) (i : ℕ) → length ss ≤ i → bound_in ss i ≡ None
+bound_in_beyond [] i l = refl
+bound_in_beyond (s ∷ ss) zero l = absurd (omega arith)
+bound_in_beyond (s ∷ ss) (suc i) l = bound_in_beyond ss i (omega arith)
 
 after_zero : (j : ℕ) → (suc j == 0) ≡ false
 after_zero j = grind (arith, nat_tests)
@@ -46,313 +51,260 @@ before_suc i = grind (arith, nat_tests)
 both_suc : (i j : ℕ) → (suc j == suc i) ≡ (j == i)
 both_suc i j = grind (arith, nat_tests)
 
-pub place_in_set : (ss : List Slot) (i j : ℕ) (s : Slot) → i < length ss → place_in (slice_set ss i s) j ≡ (if j == i then s.place else place_in ss j)
-place_in_set [] i j s l = absurd (omega arith)
-place_in_set (t ∷ ss) zero zero s l = refl
-place_in_set (t ∷ ss) zero (suc j) s l = sym (ap (λ (b : Bool). if b then s.place else place_in ss j) (after_zero j))
-place_in_set (t ∷ ss) (suc i) zero s l = sym (ap (λ (b : Bool). if b then s.place else t.place) (before_suc i))
-place_in_set (t ∷ ss) (suc i) (suc j) s l = place_in_set ss i j s (omega arith) ∙ ap (λ (b : Bool). if b then s.place else place_in ss j) (sym (both_suc i j))
+pub bound_in_set : (ss : List Slot) (i j : ℕ) (s : Slot) → i < length ss → bound_in (slice_set ss i s) j ≡ (if j == i then value_term s.value else bound_in ss j)
+bound_in_set [] i j s l = absurd (omega arith)
+bound_in_set (t ∷ ss) zero zero s l = refl
+bound_in_set (t ∷ ss) zero (suc j) s l = sym (ap (λ (b : Bool). if b then value_term s.value else bound_in ss j) (after_zero j))
+bound_in_set (t ∷ ss) (suc i) zero s l = sym (ap (λ (b : Bool). if b then value_term s.value else value_term t.value) (before_suc i))
+bound_in_set (t ∷ ss) (suc i) (suc j) s l = bound_in_set ss i j s (omega arith) ∙ ap (λ (b : Bool). if b then value_term s.value else bound_in ss j) (sym (both_suc i j))
 
-pub place_in-append : (ss zs : List Slot) (i : ℕ) → ((j : ℕ) → place_in zs j ≡ 0) → place_in (ss ++ zs) i ≡ place_in ss i
-place_in-append [] zs i h = h i
-place_in-append (s ∷ ss) zs zero h = refl
-place_in-append (s ∷ ss) zs (suc i) h = place_in-append ss zs i h
+bound_in_append : (ss zs : List Slot) (i : ℕ) → ((j : ℕ) → bound_in zs j ≡ None) → bound_in (ss ++ zs) i ≡ bound_in ss i
+bound_in_append [] zs i h = h i
+bound_in_append (s ∷ ss) zs zero h = refl
+bound_in_append (s ∷ ss) zs (suc i) h = bound_in_append ss zs i h
 
-place_in_take : (ss : List Slot) (n i : ℕ) → i < n → place_in (take n ss) i ≡ place_in ss i
-place_in_take [] zero i l = refl
-place_in_take [] (suc n) i l = refl
-place_in_take (s ∷ ss) zero i l = absurd (omega arith)
-place_in_take (s ∷ ss) (suc n) zero l = refl
-place_in_take (s ∷ ss) (suc n) (suc i) l = place_in_take ss n i (omega arith)
+bound_in_take : (ss : List Slot) (n i : ℕ) → i < n → bound_in (take n ss) i ≡ bound_in ss i
+bound_in_take [] zero i l = refl
+bound_in_take [] (suc n) i l = refl
+bound_in_take (s ∷ ss) zero i l = absurd (omega arith)
+bound_in_take (s ∷ ss) (suc n) zero l = refl
+bound_in_take (s ∷ ss) (suc n) (suc i) l = bound_in_take ss n i (omega arith)
 
 pub kinds_set : (ss : List Slot) (i : ℕ) (s d : Slot) → i < length ss → slot_kind s ≡ slot_kind (get_or ss i d) → map slot_kind (slice_set ss i s) ≡ map slot_kind ss
 kinds_set [] i s d l e = absurd (omega arith)
 kinds_set (t ∷ ss) zero s d l e = ap (λ (k : NominalKind). k ∷ map slot_kind ss) e
 kinds_set (t ∷ ss) (suc i) s d l e = ap (λ (ks : List NominalKind). slot_kind t ∷ ks) (kinds_set ss i s d (omega arith) e)
 
-length_set : (ss : List Slot) (i : ℕ) (s : Slot) → length (slice_set ss i s) ≡ length ss
+pub length_set : (ss : List Slot) (i : ℕ) (s : Slot) → length (slice_set ss i s) ≡ length ss
 length_set [] zero s = refl
 length_set [] (suc i) s = refl
 length_set (t ∷ ss) zero s = refl
 length_set (t ∷ ss) (suc i) s = ap suc (length_set ss i s)
 
--- Places of changes.
-pub kept_count : (cs : List Change) (k : Kept) → (kept_after cs k).count ≡ k.count + length cs
-kept_count [] k = omega arith
-kept_count (c ∷ cs) k = kept_count cs (keep c k) ∙ (elim c as (λ d. (keep d k).count + length cs ≡ k.count + length (c ∷ cs)) [ Made n ↦ omega arith | Bound x d n ↦ omega arith | Added e ↦ omega arith | Taken x es ↦ omega arith ])
-
-count_is : (cs : List Change) → length cs ≡ (kept_after cs nothing_kept).count
-count_is cs = omega (arith, kept_count cs nothing_kept)
-
--- unbound variables have no place
-unplaced_step : (c : Change) (a : Triple) (k : Kept) → ((x : Var) → IsUnbound a.bindings x → k.place x.num ≡ 0) → (x : Var) → IsUnbound (after c a).bindings x → (keep c k).place x.num ≡ 0
-unplaced_step (Made n) a k f x h = f x h
-unplaced_step (Bound y c n) a k f x h =
-    let v = under a.bindings (closure_term c) in
-    let l = or_false (var_eq x y) (is_bound x (map (put_binding y v) a.bindings)) h in
-    ap (λ (b : Bool). if b then suc k.count else k.place x.num) l.0 ∙ f x (sym (is_bound_put y v x a.bindings) ∙ l.1)
-unplaced_step (Added c) a k f x h = f x h
-unplaced_step (Taken y cs) a k f x h = f x h
-
-unplaced_after : (cs : List Change) (a : Triple) (k : Kept) → ((x : Var) → IsUnbound a.bindings x → k.place x.num ≡ 0)
-    → (x : Var) → IsUnbound (present_after cs a).bindings x → (kept_after cs k).place x.num ≡ 0
-unplaced_after [] a k f = f
-unplaced_after (c ∷ cs) a k f = unplaced_after cs (after c a) (keep c k) (unplaced_step c a k f)
-
-unplaced : (cs : List Change) (x : Var) → IsUnbound (present_after cs empty).bindings x → (kept_after cs nothing_kept).place x.num ≡ 0
-unplaced cs = unplaced_after cs empty nothing_kept (λ x h. refl)
-
--- numbers that were not given have no place
-beyond_step : (c : Change) (a : Triple) (k : Kept) → IsChange c a → ((i : ℕ) → a.next ≤ i → k.place i ≡ 0) → (i : ℕ) → (after c a).next ≤ i → (keep c k).place i ≡ 0
-beyond_step (Made n) a k h f i l = f i (omega arith)
-beyond_step (Bound x c n) a k h f i l =
-    let made : x.num < a.next = h.0 in
-    let e : (i == x.num) ≡ false = grind (arith, nat_tests) in
-    ap (λ (b : Bool). if b then suc k.count else k.place i) e ∙ f i l
-beyond_step (Added c) a k h f i l = f i l
-beyond_step (Taken x cs) a k h f i l = f i l
-
-beyond_after : (cs : List Change) (a : Triple) (k : Kept) → AreChanges cs a → ((i : ℕ) → a.next ≤ i → k.place i ≡ 0) → (i : ℕ) → (present_after cs a).next ≤ i → (kept_after cs k).place i ≡ 0
-beyond_after [] a k h f = f
-beyond_after (c ∷ cs) a k h f = beyond_after cs (after c a) (keep c k) h.1 (beyond_step c a k h.0 f)
-
-pub beyond : (cs : List Change) → AreChanges cs empty → (i : ℕ) → (present_after cs empty).next ≤ i → (kept_after cs nothing_kept).place i ≡ 0
-beyond cs h = beyond_after cs empty nothing_kept h (λ i l. refl)
-
--- Changes that are made.
-abbrev kept : List Change → Kept
-kept cs = kept_after cs nothing_kept
-
-abbrev now : List Change → Triple
-now cs = present_after cs empty
-
-pub stored_made : (ss us : List Slot) (cs ts : List Change) (r n : ℕ) → IsStored ss cs r → length us ≡ length ss + n → ((i : ℕ) → place_in us i ≡ place_in ss i) → ts ≡ cs ++ Made n ∷ [] → IsStored us ts r
-stored_made ss us cs ts r n h e f g =
-    let k : kept_after ts nothing_kept ≡ keep (Made n) (kept cs) = ap (λ (ds : List Change). kept_after ds nothing_kept) g ∙ kept_more cs (Made n) nothing_kept in (
-      subst (λ (ds : List Change). AreChanges ds empty) (sym g) (changes_more cs (Made n) empty h.0 tt),
-      subst (λ (ds : List Change). AreTrailLinked ds nothing_kept) (sym g) (linked_more cs (Made n) nothing_kept h.1 tt),
-      e ∙ ap (λ m. m + n) h.2 ∙ ap (λ (a : Triple). a.next) (sym (present_new cs ts (Made n) empty g)),
-      (λ i. f i ∙ h.3 i ∙ ap (λ (q : Kept). q.place i) (sym k)),
-      h.4 ∙ ap (λ (q : Kept). q.reach) (sym k),
-    )
-
-pub stored_bound : (ss : List Slot) (cs : List Change) (r : ℕ) (x : Var) (c : _) (s : Slot) → IsStored ss cs r → IsChange (Bound x c r) (now cs) → s.place ≡ suc (length cs)
-    → IsStored (slice_set ss x.num s) (cs ++ Bound x c r ∷ []) (max r c.end)
-stored_bound ss cs r x c s h i e =
-    let k = kept_more cs (Bound x c r) nothing_kept in
-    let made : x.num < length ss = omega (arith, h.2, i.0) in (
-      changes_more cs (Bound x c r) empty h.0 i,
-      linked_more cs (Bound x c r) nothing_kept h.1 h.4,
-      length_set ss x.num s ∙ h.2 ∙ ap (λ (a : Triple). a.next) (sym (present_more cs (Bound x c r) empty)),
-      (λ j. place_in_set ss x.num j s made ∙ ap₂ (λ (m n : ℕ). if j == x.num then m else n) (e ∙ ap suc (count_is cs)) (h.3 j) ∙ ap (λ (q : Kept). q.place j) (sym k)),
-      ap (λ n. max n c.end) h.4 ∙ ap (λ (q : Kept). q.reach) (sym k),
-    )
-
--- a change by which no number is given and no variable bound
-pub stored_aside : (ss : List Slot) (cs ts : List Change) (r : ℕ) (d : Change) → IsStored ss cs r → ts ≡ cs ++ d ∷ [] → IsChange d (now cs) → IsLinked d (kept cs) → (after d (now cs)).next ≡ (now cs).next
-    → (keep d (kept cs)).place ≡ (kept cs).place → (keep d (kept cs)).reach ≡ (kept cs).reach → IsStored ss ts r
-stored_aside ss cs ts r d h t i j n p q =
-    let k : kept_after ts nothing_kept ≡ keep d (kept cs) = ap (λ (ds : List Change). kept_after ds nothing_kept) t ∙ kept_more cs d nothing_kept in (
-      subst (λ (ds : List Change). AreChanges ds empty) (sym t) (changes_more cs d empty h.0 i),
-      subst (λ (ds : List Change). AreTrailLinked ds nothing_kept) (sym t) (linked_more cs d nothing_kept h.1 j),
-      h.2 ∙ sym n ∙ ap (λ (a : Triple). a.next) (sym (present_new cs ts d empty t)),
-      (λ m. h.3 m ∙ ap (λ (f : ℕ → ℕ). f m) (sym p) ∙ ap (λ (u : Kept). u.place m) (sym k)),
-      h.4 ∙ sym q ∙ ap (λ (u : Kept). u.reach) (sym k),
-    )
-
-pub stored_added : (ss : List Slot) (cs ts : List Change) (r : ℕ) (c : Cond) → IsStored ss cs r → ts ≡ cs ++ Added c ∷ [] → AreOnUnbound (now cs) (c ∷ []) → IsStored ss ts r
-stored_added ss cs ts r c h t i = stored_aside ss cs ts r (Added c) h t i tt refl refl refl
-
-pub stored_taken : (ss : List Slot) (cs ts : List Change) (r : ℕ) (x : Var) (es : _) → IsStored ss cs r → ts ≡ cs ++ Taken x es ∷ [] → x.num < (now cs).next → es.items ≡ (kept cs).conds x.num → IsStored ss ts r
-stored_taken ss cs ts r x es h t m j = stored_aside ss cs ts r (Taken x es) h t m j refl refl refl
-
-pub stored_as : (ss us : List Slot) (cs ts : List Change) (r q : ℕ) → IsStored ss cs r → us ≡ ss → ts ≡ cs → q ≡ r → IsStored us ts q
-stored_as ss us cs ts r q h e f i =
-    subst (λ (vs : List Slot). IsStored vs ts q) (sym e)
-    (subst (λ (ds : List Change). IsStored ss ds q) (sym f) (subst (λ n. IsStored ss cs n) (sym i) h))
-
--- Changes that are undone.
-pub unmade : (ss : List Slot) (cs : List Change) (r n : ℕ) → IsStored ss (cs ++ Made n ∷ []) r → IsStored (take (length ss - n) ss) cs r
-unmade ss cs r n h =
-    let k = kept_more cs (Made n) nothing_kept in
-    let ch = changes_less cs (Made n) empty h.0 in
-    let len : length ss ≡ (now cs).next + n = h.2 ∙ ap (λ (a : Triple). a.next) (present_more cs (Made n) empty) in
-    let left : length ss - n ≡ (now cs).next = omega (arith, len) in
-    let short : length (take (length ss - n) ss) ≡ length ss - n = length-take-le (length ss - n) ss (omega arith) in (
-      ch.0,
-      (linked_less cs (Made n) nothing_kept h.1).0,
-      short ∙ left,
-      (λ i. elim (nat_lt i (length ss - n)) as (λ b. nat_lt i (length ss - n) ≡ b → place_in (take (length ss - n) ss) i ≡ (kept cs).place i) [
-        | true ↦ λ e. let m : i < length ss - n = grind (arith, nat_tests) in place_in_take ss (length ss - n) i m ∙ h.3 i ∙ ap (λ (q : Kept). q.place i) k
-        | false ↦ λ e. let m : length ss - n ≤ i = grind (arith, nat_tests) in
-            place_in_beyond (take (length ss - n) ss) i (omega (arith, short)) ∙ sym (beyond cs ch.0 i (omega (arith, left)))
-      ] refl),
-      h.4 ∙ ap (λ (q : Kept). q.reach) k,
-    )
-
-pub unmarked : (ss : List Slot) (cs : List Change) (r q : ℕ) (x : Var) (c : _) (s : Slot) → IsStored ss (cs ++ Bound x c q ∷ []) r → s.place ≡ 0 → IsStored (slice_set ss x.num s) cs q
-unmarked ss cs r q x c s h e =
-    let k = kept_more cs (Bound x c q) nothing_kept in
-    let ch = changes_less cs (Bound x c q) empty h.0 in
-    let lk = linked_less cs (Bound x c q) nothing_kept h.1 in
-    let len : length ss ≡ (now cs).next = h.2 ∙ ap (λ (a : Triple). a.next) (present_more cs (Bound x c q) empty) in
-    let made : x.num < length ss = omega (arith, len, ch.1.0) in (
-      ch.0,
-      lk.0,
-      length_set ss x.num s ∙ len,
-      (λ j. place_in_set ss x.num j s made
-          ∙ (elim (j == x.num) as (λ b. (j == x.num) ≡ b → (if b then s.place else place_in ss j) ≡ (kept cs).place j) [
-            | true ↦ λ g. e ∙ sym (unplaced cs x ch.1.1) ∙ ap (kept cs).place (sym (number_same j x.num g))
-            | false ↦ λ g. h.3 j ∙ ap (λ (p : Kept). p.place j) k ∙ ap (λ (b : Bool). if b then suc (kept cs).count else (kept cs).place j) g
-          ] refl)),
-      lk.1,
-    )
-
--- where by the last change no number was given and no variable bound
-pub unaside : (ss : List Slot) (cs ds : List Change) (r : ℕ) (d : Change) → IsStored ss ds r → ds ≡ cs ++ d ∷ [] → (after d (now cs)).next ≡ (now cs).next → (keep d (kept cs)).place ≡ (kept cs).place
-    → (keep d (kept cs)).reach ≡ (kept cs).reach → IsStored ss cs r
-unaside ss cs ds r d h e n p q =
-    let k : kept_after ds nothing_kept ≡ keep d (kept cs) = ap (λ (es : List Change). kept_after es nothing_kept) e ∙ kept_more cs d nothing_kept in (
-      (changes_less cs d empty (subst (λ (es : List Change). AreChanges es empty) e h.0)).0,
-      (linked_less cs d nothing_kept (subst (λ (es : List Change). AreTrailLinked es nothing_kept) e h.1)).0,
-      h.2 ∙ ap (λ (a : Triple). a.next) (present_new cs ds d empty e) ∙ n,
-      (λ i. h.3 i ∙ ap (λ (u : Kept). u.place i) k ∙ ap (λ (f : ℕ → ℕ). f i) p),
-      h.4 ∙ ap (λ (u : Kept). u.reach) k ∙ q,
-    )
-
-pub unadded : (ss : List Slot) (cs ds : List Change) (r : ℕ) (c : Cond) → IsStored ss ds r → ds ≡ cs ++ Added c ∷ [] → IsStored ss cs r
-unadded ss cs ds r c h e = unaside ss cs ds r (Added c) h e refl refl refl
-
-pub untaken : (ss : List Slot) (cs ds : List Change) (r : ℕ) (x : Var) (es : _) → IsStored ss ds r → ds ≡ cs ++ Taken x es ∷ [] → IsStored ss cs r
-untaken ss cs ds r x es h e = unaside ss cs ds r (Taken x es) h e refl refl refl
-
--- What is kept finds bindings.
-record Found (cs : List Change) (b : lookups.Bound) (k : Kept) : Type 0 where
-  count : k.count ≡ length cs
-  placed : (i : ℕ) → k.place i ≤ length cs
-  terms : (x : Var) → b x ≡ term_at_change cs (k.place x.num)
-
-term_at_none : (cs : List Change) → term_at_change cs 0 ≡ None
-term_at_none [] = refl
-term_at_none (c ∷ cs) = refl
-
-term_at_kept : (cs : List Change) (c : Change) (n : ℕ) → n ≤ length cs → term_at_change (cs ++ c ∷ []) n ≡ term_at_change cs n
-term_at_kept [] c zero l = refl
-term_at_kept [] c (suc n) l = absurd (omega arith)
-term_at_kept (d ∷ cs) c zero l = refl
-term_at_kept (d ∷ cs) c (suc zero) l = refl
-term_at_kept (d ∷ cs) c (suc (suc n)) l = term_at_kept cs c (suc n) (omega arith)
-
-term_at_last : (cs : List Change) (c : Change) → term_at_change (cs ++ c ∷ []) (suc (length cs)) ≡ change_term c
-term_at_last [] c = refl
-term_at_last (d ∷ cs) c = term_at_last cs c
-
-pub term_at_get : (cs : List Change) (n : ℕ) (d : Change) → n < length cs → term_at_change cs (suc n) ≡ change_term (get_or cs n d)
-term_at_get [] n d l = absurd (omega arith)
-term_at_get (c ∷ cs) zero d l = refl
-term_at_get (c ∷ cs) (suc n) d l = term_at_get cs n d (omega arith)
-
--- a change by which no variable is bound
-found_aside : (cs : List Change) (d : Change) (b : lookups.Bound) (k : Kept) → Found cs b k → (keep d k).count ≡ suc k.count → (keep d k).place ≡ k.place → Found (cs ++ d ∷ []) b (keep d k)
-found_aside cs d b k f n p =
-    let len : length (cs ++ d ∷ []) ≡ length cs + 1 = length-append cs (d ∷ []) in
-    let same : (i : ℕ) → (keep d k).place i ≡ k.place i = λ i. ap (λ (g : ℕ → ℕ). g i) p in
-    record {
-      count = n ∙ omega (arith, len, f.count);
-      placed = λ i. let l = same i in omega (arith, len, l, f.placed i);
-      terms = λ x. f.terms x ∙ sym (term_at_kept cs d (k.place x.num) (f.placed x.num)) ∙ ap (term_at_change (cs ++ d ∷ [])) (sym (same x.num));
-    }
-
-found_bound : (cs : List Change) (y : Var) (c : _) (n : ℕ) (b : lookups.Bound) (k : Kept) → Found cs b k → Found (cs ++ Bound y c n ∷ []) (raw_step (Bound y c n) b) (keep (Bound y c n) k)
-found_bound cs y c n b k f =
-    let len : length (cs ++ Bound y c n ∷ []) ≡ length cs + 1 = length-append cs (Bound y c n ∷ []) in
-    record {
-      count = omega (arith, len, f.count);
-      placed = λ i. elim (i == y.num) as (λ v. (if v then suc k.count else k.place i) ≤ length (cs ++ Bound y c n ∷ [])) [ true ↦ omega (arith, len, f.count) | false ↦ omega (arith, len, f.placed i) ];
-      terms = λ x. elim (x.num == y.num) as (λ v. (if v then Some (closure_term c) else b x) ≡ term_at_change (cs ++ Bound y c n ∷ []) (if v then suc k.count else k.place x.num)) [
-        | true ↦ sym (term_at_last cs (Bound y c n)) ∙ ap (λ m. term_at_change (cs ++ Bound y c n ∷ []) (suc m)) (sym f.count)
-        | false ↦ f.terms x ∙ sym (term_at_kept cs (Bound y c n) (k.place x.num) (f.placed x.num))
-      ];
-    }
-
-found_step : (cs : List Change) (c : Change) (b : lookups.Bound) (k : Kept) → Found cs b k → Found (cs ++ c ∷ []) (raw_step c b) (keep c k)
-found_step cs (Made n) b k f = found_aside cs (Made n) b k f refl refl
-found_step cs (Bound y c n) b k f = found_bound cs y c n b k f
-found_step cs (Added c) b k f = found_aside cs (Added c) b k f refl refl
-found_step cs (Taken x es) b k f = found_aside cs (Taken x es) b k f refl refl
-
-found_after : (ds cs : List Change) (b : lookups.Bound) (k : Kept) → Found cs b k → Found (cs ++ ds) (raw_after ds b) (kept_after ds k)
-found_after [] cs b k f = subst (λ (es : List Change). Found es b k) (sym (append-nil cs)) f
-found_after (d ∷ ds) cs b k f =
-    subst (λ (es : List Change). Found es (raw_after ds (raw_step d b)) (kept_after ds (keep d k))) (append_assoc cs (d ∷ []) ds)
-    (found_after ds (cs ++ d ∷ []) (raw_step d b) (keep d k) (found_step cs d b k f))
-
-found : (cs : List Change) → Found cs (raw_after cs nothing_bound) (kept cs)
-found cs = found_after cs [] nothing_bound nothing_kept (record { count = refl; placed = λ i. omega arith; terms = λ x. refl })
-
-pub term_found : (ss : List Slot) (cs : List Change) (r : ℕ) → IsStored ss cs r → (x : Var) → raw_after cs nothing_bound x ≡ term_at_change cs (place_in ss x.num)
-term_found ss cs r h x = (found cs).terms x ∙ ap (term_at_change cs) (sym (h.3 x.num))
-
--- what a search by a count of changes finds
-pub term_at_index : (cs : List Change) (n : ℕ) (d e : Change) → 0 < n → n ≤ length cs → d ≡ get_or cs (n - 1) d → d ≡ e → term_at_change cs n ≡ change_term e
-term_at_index cs zero d e l m f g = absurd (omega arith)
-term_at_index cs (suc n) d e l m f g =
-    let h : suc n - 1 ≡ n = omega arith in
-    term_at_get cs n d (omega arith) ∙ ap change_term (ap (λ i. get_or cs i d) (sym h) ∙ sym f ∙ g)
-
-pub term_at_outside : (cs : List Change) (n : ℕ) → (n ≡ 0) ⊎ (length cs < n) → term_at_change cs n ≡ None
-term_at_outside [] n h = refl
-term_at_outside (c ∷ cs) zero h = refl
-term_at_outside (c ∷ cs) (suc zero) (inl e) = absurd (omega (arith, e))
-term_at_outside (c ∷ cs) (suc zero) (inr l) = absurd (omega (arith, l))
-term_at_outside (c ∷ cs) (suc (suc n)) (inl e) = absurd (omega (arith, e))
-term_at_outside (c ∷ cs) (suc (suc n)) (inr l) = term_at_outside cs (suc n) (inr (omega (arith, l)))
-
-pub option_found : {C : Type 0} (term : C → NominalTerm) (r : Option C) (o p : Option NominalTerm) → MatchOption r (o ≡ None) (λ c. o ≡ Some (term c)) → p ≡ o → MatchOption r (p ≡ None) (λ c. p ≡ Some (term c))
-option_found term None o p h e = e ∙ h
-option_found term (Some c) o p h e = e ∙ h
-
 -- one more slot
-pub places_more : (s : Slot) (ss ts : List Slot) (i : ℕ) → ts ≡ ss ++ s ∷ [] → s.place ≡ 0 → place_in ts i ≡ place_in ss i
-places_more s ss ts i e z = ap (λ (us : List Slot). place_in us i) e ∙ place_in-append ss (s ∷ []) i none
+pub bound_in_more : (s : Slot) (ss us : List Slot) (i : ℕ) → us ≡ ss ++ s ∷ [] → value_term s.value ≡ None → bound_in us i ≡ bound_in ss i
+bound_in_more s ss us i e z = ap (λ (vs : List Slot). bound_in vs i) e ∙ bound_in_append ss (s ∷ []) i none
   where
-    none : (j : ℕ) → place_in (s ∷ []) j ≡ 0
+    none : (j : ℕ) → bound_in (s ∷ []) j ≡ None
     none zero = z
     none (suc j) = refl
 
--- The last change is undone.
-module _ (cs ds : List Change) (c : Change) (e : ds ≡ cs ++ c ∷ []) where
-  pub versions_last : versions_after ds empty ≡ versions_after cs empty ++ present_after ds empty ∷ []
-  versions_last = versions_new cs ds c empty e
+-- The changes of a trail.
+-- they stand in the table by the numbers that are bound alone
+changes_same : (ss us : List Slot) (es : List Entry) (ns : List Noted) → ((i : ℕ) → binds i es ≡ true → bound_in us i ≡ bound_in ss i) → changes_in us es ns ≡ changes_in ss es ns
+changes_same ss us [] ns f = refl
+changes_same ss us (entries.Made n ∷ es) ns f = ap (λ (cs : List Change). Made n ∷ cs) (changes_same ss us es ns f)
+changes_same ss us (entries.Bound j ∷ es) ns f =
+    ap₂ (λ (o : Option NominalTerm) (cs : List Change). Bound (var_at j) (term_or_unit o) ∷ cs) (f j (or_if_left (j == j) (binds j es) (same_number j j refl)))
+    (changes_same ss us es ns (λ i h. f i (or_if_right (i == j) (binds i es) h)))
+changes_same ss us (entries.Noted ∷ es) [] f = changes_same ss us es [] f
+changes_same ss us (entries.Noted ∷ es) (n ∷ ns) f = ap (λ (cs : List Change). noted_change n ∷ cs) (changes_same ss us es ns f)
 
-  pub next_last : (present_after cs empty).next ≤ (present_after ds empty).next
-  next_last = let k : present_after ds empty ≡ after c (present_after cs empty) = present_new cs ds c empty e in subst (λ (a : Triple). (present_after cs empty).next ≤ a.next) (sym k) (rises c (present_after cs empty))
-    where
-      rises : (d : Change) (a : Triple) → a.next ≤ (after d a).next
-      rises (Made n) a = omega arith
-      rises (Bound x b n) a = omega arith
-      rises (Added e) a = omega arith
-      rises (Taken x es) a = omega arith
+pub changes_made : (ss : List Slot) (es : List Entry) (ns : List Noted) (m : ℕ) → changes_in ss (es ++ entries.Made m ∷ []) ns ≡ changes_in ss es ns ++ Made m ∷ []
+changes_made ss [] ns m = refl
+changes_made ss (entries.Made n ∷ es) ns m = ap (λ (cs : List Change). Made n ∷ cs) (changes_made ss es ns m)
+changes_made ss (entries.Bound j ∷ es) ns m = ap (λ (cs : List Change). Bound (var_at j) (term_or_unit (bound_in ss j)) ∷ cs) (changes_made ss es ns m)
+changes_made ss (entries.Noted ∷ es) [] m = changes_made ss es [] m
+changes_made ss (entries.Noted ∷ es) (n ∷ ns) m = ap (λ (cs : List Change). noted_change n ∷ cs) (changes_made ss es ns m)
 
-pub unmade_as : (ss us : List Slot) (cs ds : List Change) (r n : ℕ) → IsStored ss ds r → ds ≡ cs ++ Made n ∷ [] → us ≡ take (length ss - n) ss → IsStored us cs r
-unmade_as ss us cs ds r n h e f =
-    stored_as (take (length ss - n) ss) us cs cs r r (unmade ss cs r n (stored_as ss ss ds (cs ++ Made n ∷ []) r r h refl (sym e) refl)) f refl refl
+pub changes_bound : (ss : List Slot) (es : List Entry) (ns : List Noted) (i : ℕ) → changes_in ss (es ++ entries.Bound i ∷ []) ns ≡ changes_in ss es ns ++ Bound (var_at i) (term_or_unit (bound_in ss i)) ∷ []
+changes_bound ss [] ns i = refl
+changes_bound ss (entries.Made n ∷ es) ns i = ap (λ (cs : List Change). Made n ∷ cs) (changes_bound ss es ns i)
+changes_bound ss (entries.Bound j ∷ es) ns i = ap (λ (cs : List Change). Bound (var_at j) (term_or_unit (bound_in ss j)) ∷ cs) (changes_bound ss es ns i)
+changes_bound ss (entries.Noted ∷ es) [] i = changes_bound ss es [] i
+changes_bound ss (entries.Noted ∷ es) (n ∷ ns) i = ap (λ (cs : List Change). noted_change n ∷ cs) (changes_bound ss es ns i)
 
-pub made_fits : (ss : List Slot) (cs ds : List Change) (r n : ℕ) → IsStored ss ds r → ds ≡ cs ++ Made n ∷ [] → n ≤ length ss
-made_fits ss cs ds r n h e =
-    let k : present_after ds empty ≡ after (Made n) (present_after cs empty) = present_new cs ds (Made n) empty e in
-    let m : length ss ≡ (present_after cs empty).next + n = h.2 ∙ ap (λ (a : Triple). a.next) k in
-    omega (arith, m)
+pub changes_noted : (ss : List Slot) (es : List Entry) (ns : List Noted) (d : Noted) → count_noted es ≡ length ns → changes_in ss (es ++ entries.Noted ∷ []) (ns ++ d ∷ []) ≡ changes_in ss es ns ++ noted_change d ∷ []
+changes_noted ss [] [] d e = refl
+changes_noted ss [] (n ∷ ns) d e = absurd (omega (arith, e))
+changes_noted ss (entries.Made m ∷ es) ns d e = ap (λ (cs : List Change). Made m ∷ cs) (changes_noted ss es ns d e)
+changes_noted ss (entries.Bound j ∷ es) ns d e = ap (λ (cs : List Change). Bound (var_at j) (term_or_unit (bound_in ss j)) ∷ cs) (changes_noted ss es ns d e)
+changes_noted ss (entries.Noted ∷ es) [] d e = absurd (omega (arith, e))
+changes_noted ss (entries.Noted ∷ es) (n ∷ ns) d e = ap (λ (cs : List Change). noted_change n ∷ cs) (changes_noted ss es ns d (omega (arith, e)))
 
-pub bound_fits : (ss : List Slot) (cs ds : List Change) (r : ℕ) (x : Var) (b : _) (q : ℕ) → IsStored ss ds r → ds ≡ cs ++ Bound x b q ∷ [] → x.num < length ss
-bound_fits ss cs ds r x b q h e =
-    let k : present_after ds empty ≡ after (Bound x b q) (present_after cs empty) = present_new cs ds (Bound x b q) empty e in
-    let ch = changes_less cs (Bound x b q) empty (subst (λ (fs : List Change). AreChanges fs empty) e h.0) in
-    let m : length ss ≡ (present_after cs empty).next = h.2 ∙ ap (λ (a : Triple). a.next) k in
-    omega (arith, m, ch.1.0)
+pub changes_length : (ss : List Slot) (es : List Entry) (ns : List Noted) → count_noted es ≡ length ns → length (changes_in ss es ns) ≡ length es
+changes_length ss [] ns e = refl
+changes_length ss (entries.Made m ∷ es) ns e = ap suc (changes_length ss es ns e)
+changes_length ss (entries.Bound j ∷ es) ns e = ap suc (changes_length ss es ns e)
+changes_length ss (entries.Noted ∷ es) [] e = absurd (omega (arith, e))
+changes_length ss (entries.Noted ∷ es) (n ∷ ns) e = ap suc (changes_length ss es ns (omega (arith, e)))
 
-pub unmarked_as : (ss : List Slot) (cs ds : List Change) (r q : ℕ) (x : Var) (b : _) (s : Slot) → IsStored ss ds r → ds ≡ cs ++ Bound x b q ∷ [] → s.place ≡ 0 → IsStored (slice_set ss x.num s) cs q
-unmarked_as ss cs ds r q x b s h e z = unmarked ss cs r q x b s (stored_as ss ss ds (cs ++ Bound x b q ∷ []) r r h refl (sym e) refl) z
+count_made : (es : List Entry) (m : ℕ) → count_noted (es ++ entries.Made m ∷ []) ≡ count_noted es
+count_made [] m = refl
+count_made (entries.Made n ∷ es) m = count_made es m
+count_made (entries.Bound j ∷ es) m = count_made es m
+count_made (entries.Noted ∷ es) m = ap suc (count_made es m)
+
+count_bound : (es : List Entry) (i : ℕ) → count_noted (es ++ entries.Bound i ∷ []) ≡ count_noted es
+count_bound [] i = refl
+count_bound (entries.Made n ∷ es) i = count_bound es i
+count_bound (entries.Bound j ∷ es) i = count_bound es i
+count_bound (entries.Noted ∷ es) i = ap suc (count_bound es i)
+
+pub count_more : (es : List Entry) → count_noted (es ++ entries.Noted ∷ []) ≡ suc (count_noted es)
+count_more [] = refl
+count_more (entries.Made n ∷ es) = count_more es
+count_more (entries.Bound j ∷ es) = count_more es
+count_more (entries.Noted ∷ es) = ap suc (count_more es)
+
+-- what a trail binds is looked up in the table
+raw_table : (ss : List Slot) (es : List Entry) (ns : List Noted) (x : Var) (b : lookups.Bound) → raw_after (changes_in ss es ns) b x ≡ (if binds x.num es then Some (term_or_unit (bound_in ss x.num)) else b x)
+raw_table ss [] ns x b = refl
+raw_table ss (entries.Made n ∷ es) ns x b = raw_table ss es ns x b
+raw_table ss (entries.Bound j ∷ es) ns x b =
+    let term : ℕ → NominalTerm = λ i. term_or_unit (bound_in ss i) in
+    raw_table ss es ns x (raw_step (Bound (var_at j) (term j)) b)
+    ∙ (elim (x.num == j) as (λ c. (x.num == j) ≡ c → (if binds x.num es then Some (term x.num) else (if c then Some (term j) else b x)) ≡ (if (c || binds x.num es) then Some (term x.num) else b x)) [
+      | true ↦ λ e. elim (binds x.num es) as (λ d. (if d then Some (term x.num) else Some (term j)) ≡ Some (term x.num)) [ true ↦ refl | false ↦ ap (λ i. Some (term i)) (sym (number_same x.num j e)) ]
+      | false ↦ λ e. refl
+    ] refl)
+raw_table ss (entries.Noted ∷ es) [] x b = raw_table ss es [] x b
+raw_table ss (entries.Noted ∷ es) (notes.Added c ∷ ns) x b = raw_table ss es ns x b
+raw_table ss (entries.Noted ∷ es) (notes.Taken y cs ∷ ns) x b = raw_table ss es ns x b
+
+unbinds : (ss : List Slot) (es : List Entry) (ns : List Noted) (x : Var) → raw_after (changes_in ss es ns) nothing_bound x ≡ None → binds x.num es ≡ false
+unbinds ss es ns x h =
+    elim (binds x.num es) as (λ b. (if b then Some (term_or_unit (bound_in ss x.num)) else None) ≡ None → b ≡ false) [ true ↦ λ e. cc | false ↦ λ e. refl ] (sym (raw_table ss es ns x nothing_bound) ∙ h)
+
+-- What is stored, where the table is what is looked up.
+abbrev pub AreStored : List Slot → List Change → ℕ → Type 0
+AreStored table cs reach =
+    AreChanges cs empty × AreTakenHeld cs nothing_held × (length table ≡ (now cs).next) × ((x : Var) → raw_after cs nothing_bound x ≡ bound_in table x.num) × AreKeptBelow reach table
+
+some_or_none : (o : Option NominalTerm) (b : Bool) → b ≡ is_some o → (if b then Some (term_or_unit o) else None) ≡ o
+some_or_none None b e = rw e refl
+some_or_none (Some t) b e = rw e refl
+
+pub looked_up : (ss : List Slot) (es : List Entry) (ns : List Noted) (r : ℕ) → IsStored ss es ns r → (x : Var) → raw_after (changes_in ss es ns) nothing_bound x ≡ bound_in ss x.num
+looked_up ss es ns r h x = raw_table ss es ns x nothing_bound ∙ some_or_none (bound_in ss x.num) (binds x.num es) (h.3 x.num)
+
+pub stored_lookup : (ss : List Slot) (es : List Entry) (ns : List Noted) (r : ℕ) → IsStored ss es ns r → AreStored ss (changes_in ss es ns) r
+stored_lookup ss es ns r h = (h.0, h.1, h.2, looked_up ss es ns r h, h.4)
+
+pub lookup_stored : (ss : List Slot) (es : List Entry) (ns : List Noted) (r : ℕ) (cs : List Change) → changes_in ss es ns ≡ cs → AreStored ss cs r → count_noted es ≡ length ns → length ss < 2 ^ 32 → IsStored ss es ns r
+lookup_stored ss es ns r cs e k n l =
+    let h : AreStored ss (changes_in ss es ns) r = subst (λ (ds : List Change). AreStored ss ds r) (sym e) k in (
+      h.0,
+      h.1,
+      h.2,
+      (λ i. elim (binds i es) as (λ b. (if b then Some (term_or_unit (bound_in ss i)) else None) ≡ bound_in ss i → b ≡ is_some (bound_in ss i)) [ true ↦ λ f. ap is_some f | false ↦ λ f. ap is_some f ]
+          (sym (raw_table ss es ns (var_at i) nothing_bound) ∙ h.3 (var_at i))),
+      h.4,
+      n,
+      l,
+    )
+
+none_is : (o : Option NominalTerm) → is_some o ≡ false → o ≡ None
+none_is None h = refl
+none_is (Some t) h = absurd (true≢false h)
+
+-- an unbound variable is not looked up
+unbound_raw : (cs : List Change) (x : Var) → AreChanges cs empty → IsUnbound (now cs).bindings x → raw_after cs nothing_bound x ≡ None
+unbound_raw cs x h u = none_is (raw_after cs nothing_bound x) (sym ((sound cs h).same x) ∙ u)
+
+-- where one number changes that is unbound, the changes so far stay
+pub changes_apart : (ss us : List Slot) (es : List Entry) (ns : List Noted) (x : Var) (o : Option NominalTerm) → AreChanges (changes_in ss es ns) empty → IsUnbound (now (changes_in ss es ns)).bindings x
+    → ((i : ℕ) → bound_in us i ≡ (if i == x.num then o else bound_in ss i)) → changes_in us es ns ≡ changes_in ss es ns
+changes_apart ss us es ns x o h u f =
+    let none : binds x.num es ≡ false = unbinds ss es ns x (unbound_raw (changes_in ss es ns) x h u) in
+    changes_same ss us es ns (λ i b. f i
+      ∙ (elim (i == x.num) as (λ c. (i == x.num) ≡ c → (if c then o else bound_in ss i) ≡ bound_in ss i) [
+        | true ↦ λ e. absurd (true≢false (sym b ∙ ap (λ (j : ℕ). binds j es) (number_same i x.num e) ∙ none))
+        | false ↦ λ e. refl
+      ] refl))
+
+-- Changes that are made.
+pub more_made : (ss us : List Slot) (cs : List Change) (r n : ℕ) → AreStored ss cs r → length us ≡ length ss + n → ((i : ℕ) → bound_in us i ≡ bound_in ss i) → AreKeptBelow r us → AreStored us (cs ++ Made n ∷ []) r
+more_made ss us cs r n h e f k = (
+  changes_more cs (Made n) empty h.0 tt,
+  linked_more cs (Made n) nothing_held h.1 tt,
+  e ∙ ap (λ m. m + n) h.2 ∙ ap (λ (a : Triple). a.next) (sym (present_more cs (Made n) empty)),
+  (λ x. ap (λ (b : lookups.Bound). b x) (raw_more cs (Made n) nothing_bound) ∙ h.3 x ∙ sym (f x.num)),
+  k,
+)
+
+pub more_bound : (ss us : List Slot) (cs : List Change) (r q : ℕ) (x : Var) (t : NominalTerm) → AreStored ss cs r → IsChange (Bound x t) (now cs) → length us ≡ length ss
+    → ((i : ℕ) → bound_in us i ≡ (if i == x.num then Some t else bound_in ss i)) → AreKeptBelow q us → AreStored us (cs ++ Bound x t ∷ []) q
+more_bound ss us cs r q x t h i e f k = (
+  changes_more cs (Bound x t) empty h.0 i,
+  linked_more cs (Bound x t) nothing_held h.1 tt,
+  e ∙ h.2 ∙ ap (λ (a : Triple). a.next) (sym (present_more cs (Bound x t) empty)),
+  (λ y. ap (λ (b : lookups.Bound). b y) (raw_more cs (Bound x t) nothing_bound) ∙ ap (λ (o : Option NominalTerm). if y.num == x.num then Some t else o) (h.3 y) ∙ sym (f y.num)),
+  k,
+)
+
+-- a change by which no number is given and no variable bound
+pub more_aside : (ss : List Slot) (cs : List Change) (r : ℕ) (d : Change) → AreStored ss cs r → IsChange d (now cs) → IsTakenHeld d (kept cs) → (after d (now cs)).next ≡ (now cs).next
+    → ((b : lookups.Bound) → raw_step d b ≡ b) → AreStored ss (cs ++ d ∷ []) r
+more_aside ss cs r d h i j n p = (
+  changes_more cs d empty h.0 i,
+  linked_more cs d nothing_held h.1 j,
+  h.2 ∙ sym n ∙ ap (λ (a : Triple). a.next) (sym (present_more cs d empty)),
+  (λ x. ap (λ (b : lookups.Bound). b x) (raw_more cs d nothing_bound ∙ p (raw_after cs nothing_bound)) ∙ h.3 x),
+  h.4,
+)
+
+-- Changes that are undone.
+min_below : (m n : ℕ) (ss : List Slot) → AreKeptBelow m ss → AreKeptBelow n ss → AreKeptBelow (min m n) ss
+min_below m n ss h k =
+    elim (nat_lt m n) as (λ b. nat_lt m n ≡ b → AreKeptBelow (min m n) ss) [
+      | true ↦ λ e. let l : m ≡ min m n = grind (arith, nat_tests) in subst (λ j. AreKeptBelow j ss) l h
+      | false ↦ λ e. let l : n ≡ min m n = grind (arith, nat_tests) in subst (λ j. AreKeptBelow j ss) l k
+    ] refl
+
+-- numbers that are given no longer were unbound
+pub bound_in_left : (ss : List Slot) (cs : List Change) (n : ℕ) → AreChanges cs empty → length ss ≡ (now cs).next + n → ((x : Var) → raw_after cs nothing_bound x ≡ bound_in ss x.num)
+    → (i : ℕ) → bound_in (take (length ss - n) ss) i ≡ bound_in ss i
+bound_in_left ss cs n h e f i =
+    let short : length (take (length ss - n) ss) ≡ length ss - n = length-take-le (length ss - n) ss (omega arith) in
+    elim (nat_lt i (length ss - n)) as (λ b. nat_lt i (length ss - n) ≡ b → bound_in (take (length ss - n) ss) i ≡ bound_in ss i) [
+      | true ↦ λ l. let m : i < length ss - n = grind (arith, nat_tests) in bound_in_take ss (length ss - n) i m
+      | false ↦ λ l.
+          let m : length ss - n ≤ i = grind (arith, nat_tests) in
+          let u : IsUnbound (now cs).bindings (var_at i) = unbound_beyond (now cs).next (var_at i) (now cs).bindings (sound cs h).well_formed.below (omega (arith, e)) in
+          bound_in_beyond (take (length ss - n) ss) i (omega (arith, short)) ∙ sym (unbound_raw cs (var_at i) h u) ∙ f (var_at i)
+    ] refl
+
+pub less_made : (ss : List Slot) (cs : List Change) (r n : ℕ) → AreStored ss (cs ++ Made n ∷ []) r → AreStored (take (length ss - n) ss) cs (min r (length ss - n))
+less_made ss cs r n h =
+    let us = take (length ss - n) ss in
+    let ch = (changes_less cs (Made n) empty h.0).0 in
+    let len : length ss ≡ (now cs).next + n = h.2 ∙ ap (λ (a : Triple). a.next) (present_more cs (Made n) empty) in
+    let left : length ss - n ≡ (now cs).next = omega (arith, len) in
+    let short : length us ≡ length ss - n = length-take-le (length ss - n) ss (omega arith) in
+    let raw : (x : Var) → raw_after cs nothing_bound x ≡ bound_in ss x.num = λ x. ap (λ (b : lookups.Bound). b x) (sym (raw_more cs (Made n) nothing_bound)) ∙ h.3 x in
+    let same : (x : Var) → raw_after cs nothing_bound x ≡ bound_in us x.num = λ x. raw x ∙ sym (bound_in_left ss cs n ch len raw x.num) in
+    let below : (i : ℕ) (t : NominalTerm) → bound_in us i ≡ Some t → IsBelow (length ss - n) t =
+    λ i t e. subst (λ m. IsBelow m t) (sym left) ((sound cs ch).below (var_at i) t (same (var_at i) ∙ e)) in (
+      ch,
+      (linked_less cs (Made n) nothing_held h.1).0,
+      short ∙ left,
+      same,
+      min_below r (length ss - n) us (kept_take r (length ss - n) ss h.4) (all_kept (length ss - n) us below),
+    )
+
+pub less_bound : (ss us : List Slot) (cs : List Change) (r : ℕ) (x : Var) (t : NominalTerm) → AreStored ss (cs ++ Bound x t ∷ []) r → length us ≡ length ss
+    → ((i : ℕ) → bound_in us i ≡ (if i == x.num then None else bound_in ss i)) → AreKeptBelow r us → AreStored us cs r
+less_bound ss us cs r x t h e f k =
+    let ch = changes_less cs (Bound x t) empty h.0 in (
+      ch.0,
+      (linked_less cs (Bound x t) nothing_held h.1).0,
+      e ∙ h.2 ∙ ap (λ (a : Triple). a.next) (present_more cs (Bound x t) empty),
+      (λ y. (elim (y.num == x.num) as (λ c. (y.num == x.num) ≡ c → (if c then Some t else raw_after cs nothing_bound y) ≡ bound_in ss y.num → raw_after cs nothing_bound y ≡ (if c then None else bound_in ss y.num)) [
+          | true ↦ λ g m. unbound_raw cs y ch.0 (subst (λ (z : Var). IsUnbound (now cs).bindings z) (ap var_at (sym (number_same y.num x.num g))) ch.1.1)
+          | false ↦ λ g m. m
+        ] refl (ap (λ (b : lookups.Bound). b y) (sym (raw_more cs (Bound x t) nothing_bound)) ∙ h.3 y)) ∙ sym (f y.num)),
+      k,
+    )
+
+pub less_aside : (ss : List Slot) (cs : List Change) (r : ℕ) (d : Change) → AreStored ss (cs ++ d ∷ []) r → (after d (now cs)).next ≡ (now cs).next → ((b : lookups.Bound) → raw_step d b ≡ b) → AreStored ss cs r
+less_aside ss cs r d h n p = (
+  (changes_less cs d empty h.0).0,
+  (linked_less cs d nothing_held h.1).0,
+  h.2 ∙ ap (λ (a : Triple). a.next) (present_more cs d empty) ∙ n,
+  (λ x. ap (λ (b : lookups.Bound). b x) (sym (p (raw_after cs nothing_bound)) ∙ sym (raw_more cs d nothing_bound)) ∙ h.3 x),
+  h.4,
+)
 
 -- the kinds of the numbers that are left
 pub kinds_left : (ss us : List Slot) (n k : ℕ) → us ≡ take n ss → n ≤ length ss → length us ≡ k → map slot_kind us ≡ take k (map slot_kind ss)
@@ -363,9 +315,6 @@ kinds_left ss us n k e l f =
 pub kinds_kept : (ss us : List Slot) (k : ℕ) → map slot_kind us ≡ map slot_kind ss → length ss ≡ k → map slot_kind us ≡ take k (map slot_kind ss)
 kinds_kept ss us k e f = e ∙ sym (ap (λ n. take n (map slot_kind ss)) (sym (length-map ss slot_kind ∙ f)) ∙ take_whole (map slot_kind ss))
 
-pub bound_next : (cs ds : List Change) (x : Var) (b : _) (q : ℕ) → ds ≡ cs ++ Bound x b q ∷ [] → (present_after ds empty).next ≡ (present_after cs empty).next
-bound_next cs ds x b q e = ap (λ (a : Triple). a.next) (present_new cs ds (Bound x b q) empty e)
-
 pub kinds_further : (s : Slot) (rs ss ts : List Slot) (ls : List Local) (i : ℕ) (d : Local) → i < length ls → d ≡ get_or ls i d → ts ≡ ss ++ s ∷ [] → slot_kind s ≡ kind_of d.kind
     → map slot_kind ss ≡ map slot_kind rs ++ kinds_of (locals_of (take i ls)) → map slot_kind ts ≡ map slot_kind rs ++ kinds_of (locals_of (take (i + 1) ls))
 kinds_further s rs ss ts ls i d l e f g h =
@@ -375,3 +324,107 @@ kinds_further s rs ss ts ls i d l e f g h =
     ap (map slot_kind) f ∙ map-append slot_kind ss (s ∷ [])
     ∙ ap₂ (λ (us : List NominalKind) (m : NominalKind). us ++ m ∷ []) h (g ∙ ap (λ (m : Local). kind_of m.kind) e) ∙ append_assoc (map slot_kind rs) (ks (take i ls)) (kind_of (get_or ls i d).kind ∷ [])
     ∙ ap (λ (us : List NominalKind). map slot_kind rs ++ us) (sym k)
+
+-- What a change of the store makes of the changes.
+pub made_changes : (ss us : List Slot) (es ts : List Entry) (ns : List Noted) (m : ℕ) → ((i : ℕ) → bound_in us i ≡ bound_in ss i) → ts ≡ es ++ entries.Made m ∷ [] → changes_in us ts ns ≡ changes_in ss es ns ++ Made m ∷ []
+made_changes ss us es ts ns m f e =
+    ap (λ (fs : List Entry). changes_in us fs ns) e ∙ changes_made us es ns m ∙ ap (λ (cs : List Change). cs ++ Made m ∷ []) (changes_same ss us es ns (λ i b. f i))
+
+pub bound_changes : (ss us : List Slot) (es ts : List Entry) (ns : List Noted) (r : ℕ) (x : Var) (t : NominalTerm) → IsStored ss es ns r → IsUnbound (now (changes_in ss es ns)).bindings x
+    → ((j : ℕ) → bound_in us j ≡ (if j == x.num then Some t else bound_in ss j)) → ts ≡ es ++ entries.Bound x.num ∷ [] → changes_in us ts ns ≡ changes_in ss es ns ++ Bound x t ∷ []
+bound_changes ss us es ts ns r x t h u f e =
+    let g : bound_in us x.num ≡ Some t = f x.num ∙ ap (λ (b : Bool). if b then Some t else bound_in ss x.num) (same_number x.num x.num refl) in
+    ap (λ (fs : List Entry). changes_in us fs ns) e ∙ changes_bound us es ns x.num
+    ∙ ap₂ (λ (cs : List Change) (o : Option NominalTerm). cs ++ Bound x (term_or_unit o) ∷ []) (changes_apart ss us es ns x (Some t) h.0 u f) g
+
+pub noted_changes : (ss : List Slot) (es ts : List Entry) (ns ms : List Noted) (d : Noted) → count_noted es ≡ length ns → ts ≡ es ++ entries.Noted ∷ [] → ms ≡ ns ++ d ∷ [] → changes_in ss ts ms ≡ changes_in ss es ns ++ noted_change d ∷ []
+noted_changes ss es ts ns ms d n e f = ap₂ (changes_in ss) e f ∙ changes_noted ss es ns d n
+
+pub stored_made : (ss us : List Slot) (es ts : List Entry) (ns : List Noted) (r m : ℕ) → IsStored ss es ns r → length us ≡ length ss + m → ((i : ℕ) → bound_in us i ≡ bound_in ss i) → AreKeptBelow r us → length us < 2 ^ 32
+    → ts ≡ es ++ entries.Made m ∷ [] → IsStored us ts ns r
+stored_made ss us es ts ns r m h l f k s e =
+    lookup_stored us ts ns r (changes_in ss es ns ++ Made m ∷ []) (made_changes ss us es ts ns m f e) (more_made ss us (changes_in ss es ns) r m (stored_lookup ss es ns r h) l f k)
+    (ap count_noted e ∙ count_made es m ∙ h.5) s
+
+pub stored_bound : (ss us : List Slot) (es ts : List Entry) (ns : List Noted) (r q : ℕ) (x : Var) (t : NominalTerm) → IsStored ss es ns r → IsChange (Bound x t) (now (changes_in ss es ns)) → length us ≡ length ss
+    → ((j : ℕ) → bound_in us j ≡ (if j == x.num then Some t else bound_in ss j)) → AreKeptBelow q us → ts ≡ es ++ entries.Bound x.num ∷ [] → IsStored us ts ns q
+stored_bound ss us es ts ns r q x t h i l f k e =
+    lookup_stored us ts ns q (changes_in ss es ns ++ Bound x t ∷ []) (bound_changes ss us es ts ns r x t h i.1 f e) (more_bound ss us (changes_in ss es ns) r q x t (stored_lookup ss es ns r h) i l f k)
+    (ap count_noted e ∙ count_bound es x.num ∙ h.5) (let n : length ss < 2 ^ 32 = h.6 in omega (arith, l, n))
+
+stored_noted : (ss : List Slot) (es ts : List Entry) (ns ms : List Noted) (r : ℕ) (d : Noted) → IsStored ss es ns r → AreStored ss (changes_in ss es ns ++ noted_change d ∷ []) r → ts ≡ es ++ entries.Noted ∷ [] → ms ≡ ns ++ d ∷ [] → IsStored ss ts ms r
+stored_noted ss es ts ns ms r d h k e f =
+    let n : count_noted ts ≡ length ms = let c : count_noted es ≡ length ns = h.5 in omega (arith, ap count_noted e, count_more es, c, ap length f, length-append ns (d ∷ [])) in
+    lookup_stored ss ts ms r (changes_in ss es ns ++ noted_change d ∷ []) (noted_changes ss es ts ns ms d h.5 e f) k n h.6
+
+pub stored_added : (ss : List Slot) (es ts : List Entry) (ns ms : List Noted) (r : ℕ) (c : Cond) → IsStored ss es ns r → AreOnUnbound (now (changes_in ss es ns)) (c ∷ []) → ts ≡ es ++ entries.Noted ∷ [] → ms ≡ ns ++ notes.Added c ∷ [] → IsStored ss ts ms r
+stored_added ss es ts ns ms r c h i e f = stored_noted ss es ts ns ms r (notes.Added c) h (more_aside ss (changes_in ss es ns) r (Added c) (stored_lookup ss es ns r h) i tt refl (λ b. refl)) e f
+
+pub stored_taken : (ss : List Slot) (es ts : List Entry) (ns ms : List Noted) (r : ℕ) (x : Var) (cs : Vec Cond Global) → IsStored ss es ns r → x.num < (now (changes_in ss es ns)).next → cs.items ≡ kept (changes_in ss es ns) x.num
+    → ts ≡ es ++ entries.Noted ∷ [] → ms ≡ ns ++ notes.Taken x cs ∷ [] → IsStored ss ts ms r
+stored_taken ss es ts ns ms r x cs h i j e f = stored_noted ss es ts ns ms r (notes.Taken x cs) h (more_aside ss (changes_in ss es ns) r (Taken x cs.items) (stored_lookup ss es ns r h) i j refl (λ b. refl)) e f
+
+-- What is stored where the last change is undone, and that it was the last one.
+pub undone_made : (ss us : List Slot) (es ts : List Entry) (ns : List Noted) (r m : ℕ) → IsStored ss ts ns r → ts ≡ es ++ entries.Made m ∷ [] → us ≡ take (length ss - m) ss
+    → IsStored us es ns (min r (length ss - m)) × (changes_in ss ts ns ≡ changes_in us es ns ++ Made m ∷ []) × (m ≤ length ss)
+undone_made ss us es ts ns r m h e f =
+    let cs = changes_in ss es ns in
+    let q = min r (length ss - m) in
+    let g : changes_in ss ts ns ≡ cs ++ Made m ∷ [] = ap (λ (fs : List Entry). changes_in ss fs ns) e ∙ changes_made ss es ns m in
+    let k : AreStored ss (cs ++ Made m ∷ []) r = subst (λ (ds : List Change). AreStored ss ds r) g (stored_lookup ss ts ns r h) in
+    let ch = (changes_less cs (Made m) empty k.0).0 in
+    let len : length ss ≡ (now cs).next + m = k.2 ∙ ap (λ (a : Triple). a.next) (present_more cs (Made m) empty) in
+    let raw : (x : Var) → raw_after cs nothing_bound x ≡ bound_in ss x.num = λ x. ap (λ (b : lookups.Bound). b x) (sym (raw_more cs (Made m) nothing_bound)) ∙ k.3 x in
+    let same : changes_in us es ns ≡ cs = ap (λ (vs : List Slot). changes_in vs es ns) f ∙ changes_same ss (take (length ss - m) ss) es ns (λ i b. bound_in_left ss cs m ch len raw i) in
+    let short : length us ≡ length ss - m = ap length f ∙ length-take-le (length ss - m) ss (omega arith) in
+    let small : length ss < 2 ^ 32 = h.6 in (
+      lookup_stored us es ns q cs same (subst (λ (vs : List Slot). AreStored vs cs q) (sym f) (less_made ss cs r m k)) (sym (count_made es m) ∙ ap count_noted (sym e) ∙ h.5) (omega (arith, short, small)),
+      g ∙ ap (λ (ds : List Change). ds ++ Made m ∷ []) (sym same),
+      omega (arith, len),
+    )
+
+pub undone_bound : (ss us : List Slot) (es ts : List Entry) (ns : List Noted) (r i : ℕ) → IsStored ss ts ns r → ts ≡ es ++ entries.Bound i ∷ [] → length us ≡ length ss
+    → ((j : ℕ) → bound_in us j ≡ (if j == i then None else bound_in ss j)) → AreKeptBelow r us → IsStored us es ns r × (changes_in ss ts ns ≡ changes_in us es ns ++ Bound (var_at i) (term_or_unit (bound_in ss i)) ∷ [])
+undone_bound ss us es ts ns r i h e l f b =
+    let cs = changes_in ss es ns in
+    let t = term_or_unit (bound_in ss i) in
+    let g : changes_in ss ts ns ≡ cs ++ Bound (var_at i) t ∷ [] = ap (λ (fs : List Entry). changes_in ss fs ns) e ∙ changes_bound ss es ns i in
+    let k : AreStored ss (cs ++ Bound (var_at i) t ∷ []) r = subst (λ (ds : List Change). AreStored ss ds r) g (stored_lookup ss ts ns r h) in
+    let ch = changes_less cs (Bound (var_at i) t) empty k.0 in
+    let same : changes_in us es ns ≡ cs = changes_apart ss us es ns (var_at i) None ch.0 ch.1.1 f in
+    let small : length ss < 2 ^ 32 = h.6 in (
+      lookup_stored us es ns r cs same (less_bound ss us cs r (var_at i) t k l f b) (sym (count_bound es i) ∙ ap count_noted (sym e) ∙ h.5) (omega (arith, l, small)),
+      g ∙ ap (λ (ds : List Change). ds ++ Bound (var_at i) t ∷ []) (sym same),
+    )
+
+pub bound_fits : (ss : List Slot) (es ts : List Entry) (ns : List Noted) (r i : ℕ) → IsStored ss ts ns r → ts ≡ es ++ entries.Bound i ∷ [] → i < length ss
+bound_fits ss es ts ns r i h e =
+    let cs = changes_in ss es ns in
+    let t = term_or_unit (bound_in ss i) in
+    let g : changes_in ss ts ns ≡ cs ++ Bound (var_at i) t ∷ [] = ap (λ (fs : List Entry). changes_in ss fs ns) e ∙ changes_bound ss es ns i in
+    let k : AreStored ss (cs ++ Bound (var_at i) t ∷ []) r = subst (λ (ds : List Change). AreStored ss ds r) g (stored_lookup ss ts ns r h) in
+    let m : length ss ≡ (now cs).next = k.2 ∙ ap (λ (a : Triple). a.next) (present_more cs (Bound (var_at i) t) empty) in
+    let ch = changes_less cs (Bound (var_at i) t) empty k.0 in
+    omega (arith, m, ch.1.0)
+
+noted_is_aside : (d : Noted) (a : Triple) → (after (noted_change d) a).next ≡ a.next
+noted_is_aside (notes.Added c) a = refl
+noted_is_aside (notes.Taken x cs) a = refl
+
+noted_binds_none : (d : Noted) (b : lookups.Bound) → raw_step (noted_change d) b ≡ b
+noted_binds_none (notes.Added c) b = refl
+noted_binds_none (notes.Taken x cs) b = refl
+
+pub undone_noted : (ss : List Slot) (es ts : List Entry) (ns ms : List Noted) (r : ℕ) (d : Noted) → IsStored ss ts ms r → ts ≡ es ++ entries.Noted ∷ [] → ms ≡ ns ++ d ∷ []
+    → IsStored ss es ns r × (changes_in ss ts ms ≡ changes_in ss es ns ++ noted_change d ∷ [])
+undone_noted ss es ts ns ms r d h e f =
+    let n : count_noted es ≡ length ns = let c : count_noted ts ≡ length ms = h.5 in omega (arith, ap count_noted e, count_more es, c, ap length f, length-append ns (d ∷ [])) in
+    let g : changes_in ss ts ms ≡ changes_in ss es ns ++ noted_change d ∷ [] = noted_changes ss es ts ns ms d n e f in
+    let k : AreStored ss (changes_in ss es ns ++ noted_change d ∷ []) r = subst (λ (ds : List Change). AreStored ss ds r) g (stored_lookup ss ts ms r h) in (
+      lookup_stored ss es ns r (changes_in ss es ns) refl (less_aside ss (changes_in ss es ns) r (noted_change d) k (noted_is_aside d (now (changes_in ss es ns))) (noted_binds_none d)) n h.6,
+      g,
+    )
+
+-- something is noted for an entry that says so
+pub some_noted : (ss : List Slot) (es ts : List Entry) (ns : List Noted) (r : ℕ) → IsStored ss ts ns r → ts ≡ es ++ entries.Noted ∷ [] → 0 < length ns
+some_noted ss es ts ns r h e = let c : count_noted ts ≡ length ns = h.5 in omega (arith, ap count_noted e, count_more es, c)

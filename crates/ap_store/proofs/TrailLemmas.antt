@@ -1,10 +1,11 @@
 -- One more change behind others.
-use Rattle.std.proofs.Common.{◌≡◌, ◌≤◌, ℕ, zero, suc, ◌+◌, List, [], ◌∷◌, ◌++◌, length, take, refl, sym, ap, ap₂, ◌∙◌, arith, append_assoc, append-nil}
+use Rattle.std.proofs.Common.{◌≡◌, ◌≤◌, ℕ, zero, suc, ◌+◌, List, [], ◌∷◌, ◌++◌, length, take, refl, sym, ap, ap₂, ◌∙◌, subst, arith, append_assoc, append-nil}
 use Rattle.std.proofs.lemmas.List.{length-append, take-append-le}
-use Rattle.ap_store.specs.Changes.{AreChanges, IsChange, after, past_after, present_after}
-use Rattle.ap_store.specs.Trails.{AreTrailLinked, IsLinked, Kept, keep, kept_after}
+use Rattle.ap_defs.specs.declared.terms.Cond.{Cond}
+use Rattle.ap_perm.specs.Lookups as lookups
+use Rattle.ap_store.specs.Changes.{AreChanges, Change, Made, Bound, Added, Taken, IsChange, after, empty, past_after, present_after}
+use Rattle.ap_store.specs.Trails.{AreTakenHeld, IsTakenHeld, held_after, held_step, raw_after, raw_step}
 use Rattle.ap_store.specs.Triples.{IsPrefixOf, Triple}
-use Rattle.ap_store.specs.declared.changes.Change.{Change}
 
 pub present_more : (cs : List Change) (c : Change) (a : Triple) → present_after (cs ++ c ∷ []) a ≡ after c (present_after cs a)
 present_more [] c a = refl
@@ -26,17 +27,21 @@ pub changes_less : (cs : List Change) (c : Change) (a : Triple) → AreChanges (
 changes_less [] c a h = (tt, h.0)
 changes_less (d ∷ cs) c a h = let k = changes_less cs c (after d a) h.1 in ((h.0, k.0), k.1)
 
-pub kept_more : (cs : List Change) (c : Change) (k : Kept) → kept_after (cs ++ c ∷ []) k ≡ keep c (kept_after cs k)
+pub kept_more : (cs : List Change) (c : Change) (k : ℕ → List Cond) → held_after (cs ++ c ∷ []) k ≡ held_step c (held_after cs k)
 kept_more [] c k = refl
-kept_more (d ∷ cs) c k = kept_more cs c (keep d k)
+kept_more (d ∷ cs) c k = kept_more cs c (held_step d k)
 
-pub linked_more : (cs : List Change) (c : Change) (k : Kept) → AreTrailLinked cs k → IsLinked c (kept_after cs k) → AreTrailLinked (cs ++ c ∷ []) k
+pub raw_more : (cs : List Change) (c : Change) (b : lookups.Bound) → raw_after (cs ++ c ∷ []) b ≡ raw_step c (raw_after cs b)
+raw_more [] c b = refl
+raw_more (d ∷ cs) c b = raw_more cs c (raw_step d b)
+
+pub linked_more : (cs : List Change) (c : Change) (k : ℕ → List Cond) → AreTakenHeld cs k → IsTakenHeld c (held_after cs k) → AreTakenHeld (cs ++ c ∷ []) k
 linked_more [] c k h l = (l, tt)
-linked_more (d ∷ cs) c k h l = (h.0, linked_more cs c (keep d k) h.1 l)
+linked_more (d ∷ cs) c k h l = (h.0, linked_more cs c (held_step d k) h.1 l)
 
-pub linked_less : (cs : List Change) (c : Change) (k : Kept) → AreTrailLinked (cs ++ c ∷ []) k → AreTrailLinked cs k × IsLinked c (kept_after cs k)
+pub linked_less : (cs : List Change) (c : Change) (k : ℕ → List Cond) → AreTakenHeld (cs ++ c ∷ []) k → AreTakenHeld cs k × IsTakenHeld c (held_after cs k)
 linked_less [] c k h = (tt, h.0)
-linked_less (d ∷ cs) c k h = let l = linked_less cs c (keep d k) h.1 in ((h.0, l.0), l.1)
+linked_less (d ∷ cs) c k h = let l = linked_less cs c (held_step d k) h.1 in ((h.0, l.0), l.1)
 
 abbrev pub versions_after : List Change → Triple → List Triple
 versions_after cs a = past_after cs a ++ present_after cs a ∷ []
@@ -80,3 +85,17 @@ prefix_is as' bs n (cs, e) f =
 
 pub versions_length : (cs : List Change) (a : Triple) → length (versions_after cs a) ≡ length cs + 1
 versions_length cs a = omega (arith, length-append (past_after cs a) (present_after cs a ∷ []), past_length cs a)
+
+-- The last change is undone.
+module _ (cs ds : List Change) (c : Change) (e : ds ≡ cs ++ c ∷ []) where
+  pub versions_last : versions_after ds empty ≡ versions_after cs empty ++ present_after ds empty ∷ []
+  versions_last = versions_new cs ds c empty e
+
+  pub next_last : (present_after cs empty).next ≤ (present_after ds empty).next
+  next_last = let k : present_after ds empty ≡ after c (present_after cs empty) = present_new cs ds c empty e in subst (λ (a : Triple). (present_after cs empty).next ≤ a.next) (sym k) (rises c (present_after cs empty))
+    where
+      rises : (d : Change) (a : Triple) → a.next ≤ (after d a).next
+      rises (Made n) a = omega arith
+      rises (Bound x t) a = omega arith
+      rises (Added d) a = omega arith
+      rises (Taken x es) a = omega arith

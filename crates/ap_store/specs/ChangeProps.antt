@@ -5,11 +5,8 @@ use Rattle.std.proofs.Props.{props}
 use Rattle.ap_defs.specs.Renaming.{IsBelow}
 use Rattle.ap_defs.specs.declared.terms.Cond.{Cond}
 use Rattle.ap_perm.specs.BelowProps.{below_prop}
-use Rattle.ap_perm.specs.Closures.{closure_term}
-use Rattle.ap_store.specs.Changes.{AreChanges, IsChange, after}
+use Rattle.ap_store.specs.Changes.{AreChanges, Change, IsChange, Made, Bound, Added, Taken, after}
 use Rattle.ap_store.specs.Triples.{AreOnUnbound, Triple}
-use Rattle.ap_store.specs.declared.changes.Change.{Change}
-use Rattle.ap_store.specs.declared.changes.Change.TheVariants.{Made, Bound, Added, Taken}
 
 on_unbound_prop : (a : Triple) (cs : List Cond) → IsProp (AreOnUnbound a cs)
 on_unbound_prop a [] = Unit-prop
@@ -17,7 +14,7 @@ on_unbound_prop a (c ∷ cs) = let h : IsProp (AreOnUnbound a cs) = on_unbound_p
 
 change_prop : (c : Change) (a : Triple) → IsProp (IsChange c a)
 change_prop (Made n) a = Unit-prop
-change_prop (Bound x c n) a = let h : IsProp (IsBelow a.next (closure_term c)) = below_prop a.next (closure_term c) in hlevel (props, h)
+change_prop (Bound x t) a = let h : IsProp (IsBelow a.next t) = below_prop a.next t in hlevel (props, h)
 change_prop (Added c) a = on_unbound_prop a (c ∷ [])
 change_prop (Taken x cs) a = hlevel props
 

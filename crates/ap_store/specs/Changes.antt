@@ -1,16 +1,20 @@
 -- What changes make of a triple, and which changes may follow one another.
-use Rattle.std.specs.Prelude.{◌≡◌, ◌+◌, ◌<◌, ◌||◌, Bool, true, false, ◌&&◌, List, [], ◌∷◌, filter, map}
+use Rattle.std.specs.Prelude.{◌≡◌, ◌+◌, ◌<◌, ◌||◌, ℕ, Bool, true, false, ◌&&◌, List, [], ◌∷◌, filter, map}
 use Rattle.ap_defs.specs.Freshness.{Conds, cond_before}
 use Rattle.ap_defs.specs.Renaming.{IsBelow}
 use Rattle.ap_defs.specs.Substitution.{◌:=◌, occurs, put_binding, under}
 use Rattle.ap_defs.specs.Terms.{NominalTerm}
 use Rattle.ap_defs.specs.declared.terms.Cond.{Cond}
 use Rattle.ap_defs.specs.declared.terms.Var.{Var}
-use Rattle.ap_perm.specs.Closures.{closure_term}
 use Rattle.ap_theory.specs.Variables.{IsUnbound}
 use Rattle.ap_store.specs.Triples.{AreOnUnbound, Triple, is_apart, is_on, with_conditions, with_next}
-use Rattle.ap_store.specs.declared.changes.Change.{Change}
-use Rattle.ap_store.specs.declared.changes.Change.TheVariants.{Made, Bound, Added, Taken}
+
+-- so many numbers are given, a variable is bound to a term, a condition comes, or those on a variable are taken out
+pub data Change : Type 0 where
+  Made : ℕ → Change
+  Bound : Var → NominalTerm → Change
+  Added : Cond → Change
+  Taken : Var → List Cond → Change
 
 -- nothing is bound, and no number given
 abbrev pub empty : Triple
@@ -25,7 +29,7 @@ replace_conditions ds a = record { bindings = a.bindings; conditions = ds; next 
 
 abbrev pub after : Change → Triple → Triple
 after (Made n) a = with_next (a.next + n) a
-after (Bound x c n) a = with_bound x (under a.bindings (closure_term c)) a
+after (Bound x t) a = with_bound x (under a.bindings t) a
 after (Added c) a = with_conditions (c ∷ []) a
 after (Taken x cs) a = replace_conditions (filter (is_apart x) a.conditions) a
 
@@ -54,9 +58,8 @@ has_on x (c ∷ cs) = is_on x c || has_on x cs
 
 abbrev pub IsChange : Change → Triple → Type 0
 IsChange (Made n) a = Unit {0}
-IsChange (Bound x c n) a =
-    (x.num < a.next) × IsUnbound a.bindings x × IsBelow a.next (closure_term c)
-    × (occurs x (under a.bindings (closure_term c)) ≡ false) × (has_on x a.conditions ≡ false)
+IsChange (Bound x t) a =
+    (x.num < a.next) × IsUnbound a.bindings x × IsBelow a.next t × (occurs x (under a.bindings t) ≡ false) × (has_on x a.conditions ≡ false)
 IsChange (Added c) a = AreOnUnbound a (c ∷ [])
 IsChange (Taken x cs) a = x.num < a.next
 

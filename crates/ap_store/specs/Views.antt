@@ -7,8 +7,8 @@ use Rattle.ap_defs.specs.declared.terms.Var.{Var}
 use Rattle.ap_perm.specs.Closures.{closure_term}
 use Rattle.ap_perm.specs.Lookups as lookups
 use Rattle.ap_perm.specs.declared.closures.Closure.{Closure}
-use Rattle.ap_store.specs.Changes.{empty, past_after, present_after}
-use Rattle.ap_store.specs.Slots.{slot_kind}
+use Rattle.ap_store.specs.Changes.{Change, empty, past_after, present_after}
+use Rattle.ap_store.specs.Slots.{changes_in, slot_kind}
 use Rattle.ap_store.specs.Trails.{no_rank, nothing_bound, rank_after, raw_after}
 use Rattle.ap_store.specs.Triples.{Triple}
 use Rattle.ap_store.specs.declared.store.Store.{Store}
@@ -17,9 +17,13 @@ use Rattle.ap_store.specs.declared.store.Store.{Store}
 abbrev pub kinds : Store → List NominalKind
 kinds s = map slot_kind s.table.items
 
+-- what was done since the store was empty
+abbrev pub changes : Store → List Change
+changes s = changes_in s.table.items s.trail.items s.noted.items
+
 -- the triple that holds now
 abbrev pub present : Store → Triple
-present s = present_after s.trail.items empty
+present s = present_after (changes s) empty
 
 -- its bindings
 abbrev pub bindings_of : Store → List Binding
@@ -31,7 +35,7 @@ meaning_in s c = under (bindings_of s) (closure_term c)
 
 -- the earlier triples to which the store can go back
 abbrev pub past : Store → List Triple
-past s = past_after s.trail.items empty
+past s = past_after (changes s) empty
 
 -- the earlier triples, followed by the present one
 abbrev pub versions : Store → List Triple
@@ -43,8 +47,8 @@ IsUnchanged s r = (versions r ≡ versions s) × (kinds r ≡ kinds s)
 
 -- the term of the closure to which a variable is bound, in which no binding is carried out
 abbrev pub raw_bound : Store → lookups.Bound
-raw_bound s = raw_after s.trail.items nothing_bound
+raw_bound s = raw_after (changes s) nothing_bound
 
 -- ranks that fall along bindings
 abbrev pub rank : Store → Var → ℕ
-rank s = rank_after s.trail.items empty no_rank
+rank s = rank_after (changes s) empty no_rank

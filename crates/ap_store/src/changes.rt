@@ -1,18 +1,19 @@
-//! Changes of a store.
-
-ghost use Rattle.std.specs.Prelude.{◌≡◌, Some, None, MatchOption};
-ghost use Rattle.ap_perm.specs.Closures.{closure_term};
+//! Changes of a store, as its trail has them.
 
 use ap_defs::terms::{Cond, Var};
-use ap_perm::closures::Closure;
 
-/// A change: so many numbers were given, a variable was bound, a condition came, or those on a variable
-/// were taken out. With a binding comes the greatest end of the closures that were bound before, and
-/// with conditions that were taken out what was held of the variable.
+/// An entry of the trail: so many numbers were given, a number was bound, or there is a change of
+/// conditions, which is noted beside the trail.
+#[derive(Clone, Copy)]
+pub enum Entry {
+    Made(u32),
+    Bound(u32),
+    Noted,
+}
+
+/// A change of conditions: one came, or those on a variable were taken out, with what was held of it.
 #[derive(Drop)]
-pub enum Change<'a> {
-    Made(usize),
-    Bound(Var, Closure<'a>, u64),
+pub enum Noted {
     Added(Cond),
     Taken(Var, Vec<Cond>),
 }

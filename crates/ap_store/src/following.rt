@@ -11,7 +11,7 @@ use crate::store::Store;
 use ap_defs::memory::Memory;
 use ap_defs::terms::{Term, Var};
 use ap_perm::closures::Closure;
-use ap_perm::joining::{joined, with_numbered};
+use ap_perm::joining::{copied, joined, with_numbered};
 use std::alloc::Global;
 
 /// What stands for the variable at the head of a closure, or none where no bound variable stands
@@ -38,9 +38,9 @@ fn step<'a>(
             match store.binding(x) {
                 None => Ok(None),
                 Some(bound) => {
-                    let swaps = c.swaps.to_vec(alloc)?;
+                    let swaps = copied(alloc, &c.swaps)?;
                     let waiting = with_numbered(swaps, c.base, q.items())?;
-                    let all = joined(alloc, &waiting, &bound.swaps)?;
+                    let all = joined(alloc, &waiting, bound.swaps)?;
                     Ok(Some(Closure {
                         swaps: all,
                         base: bound.base,

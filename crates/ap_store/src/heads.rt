@@ -10,7 +10,7 @@ ghost use Rattle.ap_defs.specs.HeadKeys.{head_key};
 
 use crate::store::Store;
 use ap_defs::terms::{Term, Var};
-use ap_perm::closures::Closure;
+use ap_perm::closures::{Closure, Lent};
 
 /// The key of what a term begins with: 0 for a suspension, which may stand for any term, 1 for `()`,
 /// 2 for a name, 3 for a pair, 4 for an abstraction, and `5 + f` for the constructor `f`.
@@ -34,11 +34,11 @@ fn bound_at_head<'s, 'a>(
     base: u64,
     end: u64,
     t: &Term,
-) -> Option<&'s Closure<'a>>
+) -> Option<Lent<'s, 'a>>
     requires { IsBelow end (rename_term base (term_of t.now)) }
     ensures { MatchOption result (IsHeadUnbound (bindings_of store.now)
         (rename_term base (term_of t.now))) (λ d. IsHeadOf (present store.now) (rank store.now)
-        (rename_term base (term_of t.now)) (rename_term d.now.base (term_of d.now.term.now))) }
+        (rename_term base (term_of t.now)) (rename_term d.base (term_of d.term.now))) }
 {
     let _end = end;
     match t {

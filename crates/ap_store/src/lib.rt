@@ -8,7 +8,6 @@ pub mod heads;
 mod held;
 mod lookups;
 mod occurrences;
-mod searches;
 pub mod slots;
 pub mod store;
 mod tables;

@@ -2,7 +2,7 @@
 
 use crate::store::Store;
 use ap_defs::terms::Var;
-use ap_perm::closures::Closure;
+use ap_perm::closures::Lent;
 use ap_perm::look::Look;
 
 impl Look for Store<'_> {
@@ -14,7 +14,7 @@ impl Look for Store<'_> {
 
     ghost ranked = { λ s. s.ranked };
 
-    fn look(&self, v: Var) -> Option<&Closure<'_>> {
+    fn look(&self, v: Var) -> Option<Lent<'_, '_>> {
         self.binding(v)
     }
 }

@@ -8,11 +8,11 @@ ghost use Rattle.ap_store.specs.Views.{bindings_of, meaning_in};
 
 use crate::store::Store;
 use ap_defs::terms::{Term, Var};
-use ap_perm::closures::Closure;
+use ap_perm::closures::{Closure, Lent};
 
 /// The number that those in a closure are below.
-fn end_of(c: &Closure<'_>) -> u64
-    ensures { result ≡ c.now.end }
+fn end_of(c: Lent<'_, '_>) -> u64
+    ensures { result ≡ c.entry.end }
 {
     c.end
 }

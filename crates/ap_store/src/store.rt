@@ -2,19 +2,18 @@
 
 ghost use Rattle.ap_perm.specs.Lookups.{IsRanked};
 ghost use Rattle.ap_store.specs.Changes.{empty};
-ghost use Rattle.ap_store.specs.Slots.{AreHeld, IsStored, held_prop, stored_prop};
+ghost use Rattle.ap_store.specs.Slots.{AreHeld, IsStored, changes_in, held_prop, stored_prop};
 ghost use Rattle.ap_store.specs.Trails.{no_rank, nothing_bound, rank_after, raw_after};
 
-use crate::changes::Change;
+use crate::changes::{Entry, Noted};
 use crate::held::{all_of, held_of, hold, let_go, put_back, take_out};
-use crate::searches::closure_at;
-use crate::slots::Slot;
-use crate::tables::add_slots;
+use crate::slots::{Slot, Value, value_of};
+use crate::tables::{add_slots, bound_at, put_value};
 use ap_defs::goals::{Kind, Local};
 use ap_defs::memory::Memory;
 use ap_defs::terms::{Cond, Var};
 use ap_fresh::sets::make_set;
-use ap_perm::closures::Closure;
+use ap_perm::closures::{Closure, Lent};
 use std::alloc::Global;
 
 /// A place among the versions of a store.
@@ -28,28 +27,30 @@ pub struct Mark {
 ///
 /// Contracts see it as its present triple of bindings, conditions and next number, the list of the
 /// earlier triples, and the list of kinds. There each binding is carried out in the others; what is
-/// kept of it is the closure alone.
+/// kept of it is the closure alone, in the table. All that is bound is below `reach`.
 #[derive(Drop)]
 pub struct Store<'a> {
     table: Vec<Slot<'a>>,
     held: Vec<Vec<Cond>>,
-    trail: Vec<Change<'a>>,
+    trail: Vec<Entry>,
+    noted: Vec<Noted>,
     reach: u64,
-    pub ghost stored: { IsStored table.items trail.items reach } by { stored_prop table.items trail.items reach },
-    pub ghost holds: { AreHeld held.items trail.items } by { held_prop held.items trail.items },
-    pub ghost ranked: { IsRanked (raw_after trail.items nothing_bound)
-        (rank_after trail.items empty no_rank) },
+    pub ghost stored: { IsStored table.items trail.items noted.items reach } by { stored_prop table.items trail.items noted.items reach },
+    pub ghost holds: { AreHeld held.items (changes_in table.items trail.items noted.items) } by { held_prop held.items (changes_in table.items trail.items noted.items) },
+    pub ghost ranked: { IsRanked (raw_after (changes_in table.items trail.items noted.items) nothing_bound)
+        (rank_after (changes_in table.items trail.items noted.items) empty no_rank) },
 }
 
 impl<'a> Store<'a> {
     ghost use Rattle.std.specs.Prelude.{◌≡◌, ◌+◌, ◌≤◌, ◌<◌, ◌++◌, ◌∷◌, [], false, true, Some, None, IfOk, MatchOption, OnOk, OnErr, filter, length, slice_get, take, vec_len, vec_capacity};
     ghost use Rattle.ap_defs.specs.Renaming.{IsBelow};
     ghost use Rattle.ap_defs.specs.Resolution.{kinds_of};
-    ghost use Rattle.ap_defs.specs.Substitution.{occurs};
+    ghost use Rattle.ap_defs.specs.Substitution.{occurs, under};
     ghost use Rattle.ap_defs.specs.Types.{kind_of, locals_of};
-    ghost use Rattle.ap_perm.specs.Closures.{closure_term};
+    ghost use Rattle.ap_perm.specs.Closures.{closure_term, lent_term};
     ghost use Rattle.ap_theory.specs.Variables.{IsUnbound};
     ghost use Rattle.ap_store.specs.Changes.{has_on, replace_conditions, with_bound};
+    ghost use Rattle.ap_store.specs.Slots.{IsKeptBelow, value_term, kept_term};
     ghost use Rattle.ap_store.specs.Triples.{AreOnUnbound, IsPrefixOf, is_apart, is_on, with_binding, with_conditions, with_next};
     ghost use Rattle.ap_store.specs.Views.{IsUnchanged, bindings_of, kinds, meaning_in, past, present, raw_bound, versions};
 
@@ -63,12 +64,13 @@ impl<'a> Store<'a> {
             table: Vec::new(alloc),
             held: Vec::new(alloc),
             trail: Vec::new(alloc),
+            noted: Vec::new(alloc),
             reach: 0,
         }
     }
 
     /// Gives a number to each of these identifiers, in order, and answers the first. After want of
-    /// memory the store is as before.
+    /// memory the store is as before; `2 ^ 32` numbers and more are such a want.
     pub fn make(&mut self, locals: &'a [Local]) -> Result<u64, Memory>
         ensures first { IfOk result (λ n. n ≡ (present self.old).next) }
         ensures kinds { OnOk result (kinds self.new
@@ -79,12 +81,15 @@ impl<'a> Store<'a> {
         ensures unchanged { OnErr result (IsUnchanged self.old self.new) }
     {
         let count = locals.len();
+        let first = self.table.len();
+        if u32::MAX as usize - first < count {
+            return Err(Memory);
+        }
         self.table.reserve(count)?;
         self.trail.reserve(1)?;
-        let first = self.table.len() as u64;
         add_slots(&mut self.table, locals);
-        self.trail.push_reserved(Change::Made(count));
-        Ok(first)
+        self.trail.push_reserved(Entry::Made(count as u32));
+        Ok(first as u64)
     }
 
     /// Binds an unbound variable to a closure in which it does not occur, and answers the conditions
@@ -103,8 +108,10 @@ impl<'a> Store<'a> {
         ensures kinds { kinds self.new ≡ kinds self.old }
         ensures unchanged { OnErr result (IsUnchanged self.old self.new) }
     {
+        let end = c.end;
+        let value = value_of(alloc, c)?;
         let taken = self.take_conditions(alloc, x)?;
-        self.note_binding(x, c);
+        self.note_binding(x, value, end);
         Ok(taken)
     }
 
@@ -149,15 +156,11 @@ impl<'a> Store<'a> {
     }
 
     /// The closure to which a variable is bound, or none where it is unbound. It takes no memory.
-    pub fn binding(&self, x: Var) -> Option<&Closure<'a>>
+    pub fn binding(&self, x: Var) -> Option<Lent<'_, 'a>>
         ensures { MatchOption result (raw_bound self.now x ≡ None) (λ c. raw_bound self.now x
-            ≡ Some (closure_term c.now)) }
+            ≡ Some (lent_term c)) }
     {
-        if x.num < self.table.len() as u64 {
-            closure_at(&self.trail, self.table[x.num as usize].place)
-        } else {
-            None
-        }
+        bound_at(&self.table, x.num, self.reach)
     }
 
     /// Whether the variable is so new that neither the closure nor any bound one can have it.
@@ -207,6 +210,7 @@ impl<'a> Store<'a> {
         ensures unchanged { OnErr result (IsUnchanged self.old self.new) }
     {
         self.trail.reserve(2)?;
+        self.noted.reserve(1)?;
         let conds = held_of(&self.held, x.num as usize);
         if conds.is_empty() {
             return Ok(Vec::new(alloc));
@@ -241,35 +245,37 @@ impl<'a> Store<'a> {
         ensures unchanged { OnErr result (IsUnchanged self.old self.new) }
     {
         self.trail.reserve(1)?;
+        self.noted.reserve(1)?;
         hold(&mut self.held, c)?;
-        self.trail.push_reserved(Change::Added(c));
+        self.noted.push_reserved(Noted::Added(c));
+        self.trail.push_reserved(Entry::Noted);
         Ok(())
     }
 
-    /// Notes that a variable is bound.
-    fn note_binding(&mut self, x: Var, c: Closure<'a>)
+    /// Notes what a variable is bound to; the variables in it are below `end`.
+    fn note_binding(&mut self, x: Var, value: Value<'a>, end: u64)
         requires room { vec_len self.old.trail < vec_capacity self.old.trail }
         requires made { x.num < (present self.old).next }
         requires unbound { IsUnbound (bindings_of self.old) x }
-        requires term { IsBelow (present self.old).next (closure_term c) }
-        requires absent { occurs x (meaning_in self.old c) ≡ false }
+        requires bound { value_term value ≡ Some (kept_term value) }
+        requires term { IsBelow (present self.old).next (kept_term value) }
+        requires within { IsKeptBelow end value }
+        requires absent { occurs x (under (bindings_of self.old) (kept_term value)) ≡ false }
         requires apart { has_on x (present self.old).conditions ≡ false }
         ensures present { present self.new
-            ≡ with_bound x (meaning_in self.old c.entry)
-            (present self.old) }
+            ≡ with_bound x (under (bindings_of self.old) (kept_term value.entry)) (present self.old) }
         ensures versions { versions self.new ≡ versions self.old ++ present self.new ∷ [] }
         ensures kinds { kinds self.new ≡ kinds self.old }
     {
-        let reach = self.reach;
-        let count = self.trail.len() + 1;
-        self.reach = reach.max(c.end);
-        self.table[x.num as usize].place = count;
-        self.trail.push_reserved(Change::Bound(x, c, reach));
+        self.reach = self.reach.max(end);
+        put_value(&mut self.table, x.num as usize, value);
+        self.trail.push_reserved(Entry::Bound(x.num as u32));
     }
 
     /// Notes that the conditions on a variable are taken out.
     fn note_taken(&mut self, x: Var)
         requires room { vec_len self.old.trail < vec_capacity self.old.trail }
+        requires noted { vec_len self.old.noted < vec_capacity self.old.noted }
         requires made { x.num < (present self.old).next }
         requires held { x.num < length self.old.held.items }
         ensures present { present self.new
@@ -281,7 +287,8 @@ impl<'a> Store<'a> {
             ≡ vec_capacity self.old.trail + vec_len self.new.trail }
     {
         let conds = take_out(&mut self.held, x.num as usize);
-        self.trail.push_reserved(Change::Taken(x, conds));
+        self.noted.push_reserved(Noted::Taken(x, conds));
+        self.trail.push_reserved(Entry::Noted);
     }
 
     /// Undoes the last change.
@@ -293,16 +300,19 @@ impl<'a> Store<'a> {
     {
         match self.trail.pop() {
             None => {}
-            Some(Change::Made(count)) => {
-                let left = self.table.len() - count;
+            Some(Entry::Made(count)) => {
+                let left = self.table.len() - count as usize;
                 self.table.truncate(left);
+                self.reach = self.reach.min(left as u64);
             }
-            Some(Change::Bound(x, _, reach)) => {
-                self.reach = reach;
-                self.table[x.num as usize].place = 0;
+            Some(Entry::Bound(num)) => {
+                put_value(&mut self.table, num as usize, Value::Unbound);
             }
-            Some(Change::Added(c)) => let_go(&mut self.held, c.var.num as usize),
-            Some(Change::Taken(x, conds)) => put_back(&mut self.held, x.num as usize, conds),
+            Some(Entry::Noted) => match self.noted.pop() {
+                None => {}
+                Some(Noted::Added(c)) => let_go(&mut self.held, c.var.num as usize),
+                Some(Noted::Taken(x, conds)) => put_back(&mut self.held, x.num as usize, conds),
+            },
         }
     }
 }

@@ -49,9 +49,9 @@ fn walk_from<'a>(alloc: Global, store: &Store<'a>, first: Closure<'a>) -> Result
     }
 }
 
-impl Store<'_> {
+impl<'a> Store<'a> {
     /// What a closure stands for under the bindings.
-    pub fn walk(&self, alloc: Global, c: &Closure<'_>) -> Result<Term, Memory>
+    pub fn walk(&self, alloc: Global, c: &Closure<'a>) -> Result<Term, Memory>
         ensures { IfOk result (λ t. term_of t
             ≡ meaning_in self.now c.now) }
     {

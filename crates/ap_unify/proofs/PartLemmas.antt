@@ -38,17 +38,17 @@ plain_susp p [] x e n = ap (λ (t : Term). rename_term p.base (term_of t)) e
 plain_susp p (s ∷ q) x e n = cc
 
 -- what its variable is bound to
-further : (s : Store) (x : Var) (c : Closure) → raw_bound s x ≡ Some (closure_term c) → IsFurther (present s) (rank s) (susp [] x) (closure_term c)
-further s x c e =
-    let l : depth_of (rank s) (closure_term c) ≤ rank s x = depth_ranked (raw_bound s) (rank s) (store_ranked s) x (closure_term c) e in (
-      sym ((store_sound s).follows [] x (closure_term c) e ∙ act_term_none (under (bindings_of s) (closure_term c))),
-      (λ h. (store_sound s).below x (closure_term c) e),
+further : (s : Store) (x : Var) (v : NominalTerm) → raw_bound s x ≡ Some v → IsFurther (present s) (rank s) (susp [] x) v
+further s x v e =
+    let l : depth_of (rank s) v ≤ rank s x = depth_ranked (raw_bound s) (rank s) (store_ranked s) x v e in (
+      sym ((store_sound s).follows [] x v e ∙ act_term_none (under (bindings_of s) v)),
+      (λ h. (store_sound s).below x v e),
       omega arith,
     )
 
-pub found_further : (s : Store) (x : Var) (c : Closure) (t u : NominalTerm) → t ≡ susp [] x → u ≡ closure_term c → raw_bound s x ≡ Some (closure_term c) → IsFurther (present s) (rank s) t u
-found_further s x c t u e f b =
-    subst (λ v. IsFurther (present s) (rank s) t v) (sym f) (subst (λ v. IsFurther (present s) (rank s) v (closure_term c)) (sym e) (further s x c b))
+pub found_further : (s : Store) (x : Var) (v t u : NominalTerm) → t ≡ susp [] x → u ≡ v → raw_bound s x ≡ Some v → IsFurther (present s) (rank s) t u
+found_further s x v t u e f b =
+    subst (λ w. IsFurther (present s) (rank s) t w) (sym f) (subst (λ w. IsFurther (present s) (rank s) w v) (sym e) (further s x v b))
 
 -- what is known of a head
 pub head_free : (s : List Binding) (t : NominalTerm) (h : Head) (x : Var) → IsHead s t h → h ≡ heads.Free x → (t ≡ susp [] x) × IsUnbound s x

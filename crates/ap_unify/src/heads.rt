@@ -32,7 +32,7 @@ fn bound_at<'a>(store: &Store<'a>, p: Plain<'a>) -> Option<Plain<'a>>
                 num: p.base + x.num,
             }) {
                 None => None,
-                Some(bound) => Plain::of(bound),
+                Some(bound) => Plain::of_lent(bound),
             }
         }
         _ => None,

@@ -137,9 +137,9 @@ pub collecting-smaller : goal.collecting-smaller
 collecting-smaller g c =
     let q = map (rename_swap c.in-Some.p.base) c.in-Susp.swaps in
     let x = rename_var c.in-Some.p.base c.in-Susp.x in
-    let d = c.in-Some-look.c.now in
+    let d = c.in-Some-look.c in
     let u = rename_term d.base (term_of d.term.now) in
-    let a = visits_bound (g.L.Look.bound c.args.look.now) (g.L.Look.rank c.args.look.now) (g.met.L.Look.ranked c.args.look.now) q x d.swaps.items u c.in-Some-look.ensures in
+    let a = visits_bound (g.L.Look.bound c.args.look.now) (g.L.Look.rank c.args.look.now) (g.met.L.Look.ranked c.args.look.now) q x d.swaps.now u c.in-Some-look.ensures in
     let b : visits (g.L.Look.bound c.args.look.now) (g.L.Look.rank c.args.look.now) (pending_term c.in-Some.p) ≡ visits (g.L.Look.bound c.args.look.now) (g.L.Look.rank c.args.look.now) (susp q x) = ap (λ z. visits (g.L.Look.bound c.args.look.now) (g.L.Look.rank c.args.look.now) (rename_term c.in-Some.p.base (term_of z))) c.in-Susp.is in
     fewer_part (g.L.Look.bound c.args.look.now) (g.L.Look.rank c.args.look.now) (g.met.L.Look.ranked c.args.look.now) c.pop.new.self.items (c.bound.result ∷ []) c.push-in-Some-look.new.self.items c.collecting.left.items c.in-Some.p c.in-Some.ensures.items c.in_ok-push-in-Some-look.ensures.items
     c.bound.result u refl c.bound.ensures.term (omega (arith, a, b))
@@ -150,11 +150,11 @@ collecting-preserved g c =
     let x = rename_var c.in-Some.p.base c.in-Susp.x in
     let e : c.preimage_from-name.result ≡ act_name (inverse q) c.in-Some.p.name =
     c.preimage_from-name.ensures ∙ ap (λ r. act_name (inverse (map (rename_swap c.in-Some.p.base) r)) c.in-Some.p.name) c.items.ensures in
-    let d = c.in-Some-look.c.now in
+    let d = c.in-Some-look.c in
     let u = rename_term d.base (term_of d.term.now) in
     let w = c.bound.result in
     let h : problem (g.L.Look.bound c.args.look.now) (g.L.Look.rank c.args.look.now) (g.met.L.Look.ranked c.args.look.now) c.in-Some.p.name (pending_term c.in-Some.p) ≡ problem_of (g.L.Look.bound c.args.look.now) (g.L.Look.rank c.args.look.now) (g.met.L.Look.ranked c.args.look.now) w =
-    bound_problem (g.L.Look.bound c.args.look.now) (g.L.Look.rank c.args.look.now) (g.met.L.Look.ranked c.args.look.now) c.in-Some.p.name q x d.swaps.items u (pending_term c.in-Some.p) (ap (λ z. rename_term c.in-Some.p.base (term_of z)) c.in-Susp.is) c.in-Some-look.ensures
-    ∙ ap₂ (problem (g.L.Look.bound c.args.look.now) (g.L.Look.rank c.args.look.now) (g.met.L.Look.ranked c.args.look.now)) (sym (c.bound.ensures.name ∙ ap (act_name (inverse d.swaps.items)) e)) (sym c.bound.ensures.term) in
+    bound_problem (g.L.Look.bound c.args.look.now) (g.L.Look.rank c.args.look.now) (g.met.L.Look.ranked c.args.look.now) c.in-Some.p.name q x d.swaps.now u (pending_term c.in-Some.p) (ap (λ z. rename_term c.in-Some.p.base (term_of z)) c.in-Susp.is) c.in-Some-look.ensures
+    ∙ ap₂ (problem (g.L.Look.bound c.args.look.now) (g.L.Look.rank c.args.look.now) (g.met.L.Look.ranked c.args.look.now)) (sym (c.bound.ensures.name ∙ ap (act_name (inverse d.swaps.now)) e)) (sym c.bound.ensures.term) in
     kept (g.L.Look.bound c.args.look.now) (g.L.Look.rank c.args.look.now) (g.met.L.Look.ranked c.args.look.now) c.pop.new.self.items (w ∷ []) c.push-in-Some-look.new.self.items c.collecting.left.items c.in-Some.p c.in-Some.ensures.items c.in_ok-push-in-Some-look.ensures.items c.collecting.conds.items c.collecting.conds.items _
     (one_added (g.L.Look.bound c.args.look.now) (g.L.Look.rank c.args.look.now) (g.met.L.Look.ranked c.args.look.now) c.in-Some.p w c.collecting.conds.items h) c.collecting.invariant

@@ -30,5 +30,5 @@ returns-in-None c =
 pub returns-in_ok-all-in-Some : goal.returns-in_ok-all-in-Some
 returns-in_ok-all-in-Some c =
     let b = c.args.c.now in
-    let e : c.in_ok-all-in-Some.all.items ≡ (b.swaps.items ++ map (rename_swap b.base) c.in-Susp.q) ++ c.in-Some.bound.now.swaps.items = search rules in
-    step_found c.args.store.now b c.in-Some.bound.now c.in_ok-all-in-Some.all.items c.in-Susp.q c.in-Susp.x c.in-Susp.is e c.in-Some.ensures
+    let e : c.in_ok-all-in-Some.all.items ≡ (b.swaps.items ++ map (rename_swap b.base) c.in-Susp.q) ++ c.in-Some.bound.swaps.now = search rules in
+    step_found c.args.store.now b c.in-Some.bound c.in_ok-all-in-Some.all.items c.in-Susp.q c.in-Susp.x c.in-Susp.is e c.in-Some.ensures

@@ -19,4 +19,4 @@ returns-in-Susp c =
     let y = rename_var c.args.base c.in-Susp.x in
     each_way c.binding.result c.binding.ensures
     (λ e. subst (λ (t : Term). IsHeadUnbound (bindings_of s) (rename_term c.args.base (term_of t))) (sym c.in-Susp.is) (unbound_var s y e))
-    (λ d e. subst (λ (t : Term). IsHeadOf (present s) (rank s) (rename_term c.args.base (term_of t)) (rename_term d.now.base (term_of d.now.term.now))) (sym c.in-Susp.is) (head_bound s q y d.now e))
+    (λ d e. subst (λ (t : Term). IsHeadOf (present s) (rank s) (rename_term c.args.base (term_of t)) (rename_term d.base (term_of d.term.now))) (sym c.in-Susp.is) (head_bound s q y d e))

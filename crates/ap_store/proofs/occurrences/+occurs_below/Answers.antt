@@ -72,7 +72,7 @@ loop-rest-smaller t c =
     let s = c.args.store.now in
     let y = rename_var c.loop-rest.base c.in-Susp.y in
     let q = map (rename_swap c.loop-rest.base) c.in-Susp.field-0 in
-    let d = c.in-Some.c.now in
+    let d = c.in-Some.c in
     subst (λ (w : Term). visits_in s (rename_term d.base (term_of d.term.now)) < visits_in s (rename_term c.loop-rest.base (term_of w))) (sym c.in-Susp.is) (bound_less s q y d c.in-Some.ensures)
 
 pub loop-rest-preserved : goal.loop-rest-preserved
@@ -80,7 +80,7 @@ loop-rest-preserved t c =
     let s = c.args.store.now in
     let y = rename_var c.loop-rest.base c.in-Susp.y in
     let q = map (rename_swap c.loop-rest.base) c.in-Susp.field-0 in
-    let d = c.in-Some.c.now in
+    let d = c.in-Some.c in
     let l : visits_in s (rename_term d.base (term_of d.term.now)) < visits_in s (rename_term c.loop-rest.base (term_of c.loop-rest.rest.now)) =
     subst (λ (w : Term). visits_in s (rename_term d.base (term_of d.term.now)) < visits_in s (rename_term c.loop-rest.base (term_of w))) (sym c.in-Susp.is) (bound_less s q y d c.in-Some.ensures) in
     let m = c.loop-rest.invariant.smaller in

@@ -3,6 +3,7 @@ use Rattle.std.specs.Prelude.{IfSome, MatchOption, None, Option, Some}
 use Rattle.ap_defs.specs.Renaming.{IsBelow, rename_term, rename_var}
 use Rattle.ap_defs.specs.Terms.{term_of}
 use Rattle.ap_defs.specs.declared.terms.Term.{Term}
+use Rattle.ap_perm.specs.Closures.{lent_term}
 use Rattle.ap_unify.proofs.PartLemmas.{found_further, plain_susp}
 use Rattle.ap_unify.proofs.heads.bound_at.Goals as goal
 use Rattle.ap_unify.specs.Parts.{plain_term}
@@ -24,5 +25,5 @@ returns-in-Some c =
     let p = c.args.p in
     let x = rename_var p.base c.in-Susp.x in
     let n : length c.in-Susp.q ≡ 0 = search rules in
-    if_some _ _ _ c.of.result c.of.ensures
-    (λ q e. found_further s x c.in-Some.bound.now (plain_term p) (plain_term q) (plain_susp p c.in-Susp.q c.in-Susp.x c.in-Susp.is n) e c.in-Some.ensures)
+    if_some _ _ _ c.of_lent.result c.of_lent.ensures
+    (λ q e. found_further s x (lent_term c.in-Some.bound) (plain_term p) (plain_term q) (plain_susp p c.in-Susp.q c.in-Susp.x c.in-Susp.is n) e c.in-Some.ensures)

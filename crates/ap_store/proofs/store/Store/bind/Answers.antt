@@ -1,11 +1,29 @@
-use Rattle.std.proofs.Common.{ap, ◌∙◌}
-use Rattle.ap_defs.specs.Substitution.{under}
+use Rattle.std.proofs.Common.{◌≡◌, false, ap, ap₂, sym, subst, ◌∙◌}
+use Rattle.std.specs.Prelude.{Some}
+use Rattle.ap_defs.specs.Renaming.{IsBelow}
+use Rattle.ap_defs.specs.Substitution.{occurs, under}
+use Rattle.ap_defs.specs.Terms.{NominalTerm}
 use Rattle.ap_perm.specs.Closures.{closure_term}
 use Rattle.ap_store.specs.Changes.{has_on, with_bound}
+use Rattle.ap_store.specs.Slots.{kept_term, term_or_unit}
 use Rattle.ap_store.specs.Triples.{Triple}
-use Rattle.ap_store.specs.Views.{present}
+use Rattle.ap_store.specs.Views.{bindings_of, present}
 use Rattle.ap_store.proofs.AscendingLemmas.{has_on_apart}
 use Rattle.ap_store.proofs.store.Store.bind.Goals as goal
+
+pub note_binding-requires-clause-bound : goal.note_binding-requires-clause-bound
+note_binding-requires-clause-bound c = c.in_ok-value.ensures.term ∙ ap Some (sym (ap term_or_unit c.in_ok-value.ensures.term))
+
+pub note_binding-requires-clause-term : goal.note_binding-requires-clause-term
+note_binding-requires-clause-term c =
+    let e : kept_term c.in_ok-value.value ≡ closure_term c.args.c = ap term_or_unit c.in_ok-value.ensures.term in
+    subst (λ n. IsBelow n (kept_term c.in_ok-value.value)) (sym (ap (λ (a : Triple). a.next) c.in_ok-taken.ensures.present))
+    (subst (λ (t : NominalTerm). IsBelow (present c.args.self.now).next t) (sym e) c.requires.term)
+
+pub note_binding-requires-clause-absent : goal.note_binding-requires-clause-absent
+note_binding-requires-clause-absent c =
+    let e : kept_term c.in_ok-value.value ≡ closure_term c.args.c = ap term_or_unit c.in_ok-value.ensures.term in
+    ap₂ (λ (a : Triple) (t : NominalTerm). occurs c.args.x (under a.bindings t)) c.in_ok-taken.ensures.present e ∙ c.requires.absent
 
 pub note_binding-requires-clause-apart : goal.note_binding-requires-clause-apart
 note_binding-requires-clause-apart c =
@@ -13,4 +31,5 @@ note_binding-requires-clause-apart c =
 
 pub returns-clause-present : goal.returns-clause-present
 returns-clause-present c =
-    c.note_binding.ensures.present ∙ ap (λ (a : Triple). with_bound c.args.x (under a.bindings (closure_term c.args.c)) a) c.in_ok-taken.ensures.present
+    let e : kept_term c.in_ok-value.value ≡ closure_term c.args.c = ap term_or_unit c.in_ok-value.ensures.term in
+    c.note_binding.ensures.present ∙ ap₂ (λ (a : Triple) (t : NominalTerm). with_bound c.args.x (under a.bindings t) a) c.in_ok-taken.ensures.present e

@@ -1,13 +1,13 @@
-use Rattle.std.proofs.Common.{◌≡◌, ◌+◌, ◌++◌, [], ◌∷◌, List, length, ap, ◌∙◌, arith}
-use Rattle.ap_store.specs.Changes.{empty}
-use Rattle.ap_store.specs.Slots.{place_in}
-use Rattle.ap_store.specs.Views.{versions}
-use Rattle.ap_store.specs.declared.changes.Change.{Change}
-use Rattle.ap_store.specs.declared.changes.Change.TheVariants.{Made}
+use Rattle.std.proofs.Common.{◌≡◌, ◌<◌, ◌+◌, ◌^◌, ◌++◌, [], ◌∷◌, List, length, ap, subst, sym, ◌∙◌, arith}
+use Rattle.ap_store.specs.Changes.{Made, empty}
+use Rattle.ap_store.specs.Slots.{AreKeptBelow, bound_in, changes_in}
+use Rattle.ap_store.specs.Views.{changes, versions}
+use Rattle.ap_store.specs.declared.changes.Entry.{Entry}
+use Rattle.ap_store.specs.declared.changes.Entry.TheVariants as entries
 use Rattle.ap_store.specs.declared.slots.Slot.{Slot}
 use Rattle.ap_store.proofs.HeldLemmas.{held_made}
 use Rattle.ap_store.proofs.SoundLemmas.{ranked_after}
-use Rattle.ap_store.proofs.StoredLemmas.{stored_made}
+use Rattle.ap_store.proofs.StoredLemmas.{made_changes, stored_made}
 use Rattle.ap_store.proofs.TrailLemmas.{goes_on_one, present_new, versions_after, versions_new}
 use Rattle.ap_store.proofs.store.Store.make.Goals as goal
 
@@ -15,22 +15,34 @@ pub invariant_of-self-2 : goal.invariant_of-self-2
 invariant_of-self-2 c =
     let s = c.args.self.now in
     let n = length c.args.locals.now in
-    let e : length c.add_slots.new.table.items ≡ length s.table.items + n = omega (arith, c.add_slots.ensures.length, ap length c.reserve.ensures.items) in
-    let t : c.push_reserved.new.self.items ≡ s.trail.items ++ Made n ∷ [] = c.push_reserved.ensures.items ∙ ap (λ (cs : List Change). cs ++ Made n ∷ []) c.reserve-2.ensures.items in
-    let kept = stored_made s.table.items c.add_slots.new.table.items s.trail.items c.push_reserved.new.self.items s.reach n s.stored e
-    (λ i. c.add_slots.ensures.places i ∙ ap (λ (us : List Slot). place_in us i) c.reserve.ensures.items) t in
-    let held = held_made s.held.items s.trail.items c.push_reserved.new.self.items n s.holds t in
-    record { stored = kept; holds = held; ranked = ranked_after c.push_reserved.new.self.items kept.0 }
+    let us = c.add_slots.new.table.items in
+    let ts = c.push_reserved.new.self.items in
+    let l : length us ≡ length s.table.items + n = omega (arith, c.add_slots.ensures.length, ap length c.reserve.ensures.items) in
+    let e : ts ≡ s.trail.items ++ entries.Made n ∷ [] = c.push_reserved.ensures.items ∙ ap (λ (es : List Entry). es ++ entries.Made n ∷ []) c.reserve-2.ensures.items in
+    let f : (i : _) → bound_in us i ≡ bound_in s.table.items i = λ i. c.add_slots.ensures.bound i ∙ ap (λ (ss : List Slot). bound_in ss i) c.reserve.ensures.items in
+    let k : AreKeptBelow s.reach us = c.add_slots.ensures.below s.reach (subst (λ (ss : List Slot). AreKeptBelow s.reach ss) (sym c.reserve.ensures.items) s.stored.4) in
+    let m : length us < 2 ^ 32 = omega (arith, l, c.len-first.ensures) in
+    let kept = stored_made s.table.items us s.trail.items ts s.noted.items s.reach n s.stored l f k m e in
+    let g = made_changes s.table.items us s.trail.items ts s.noted.items n f e in
+    record { stored = kept; holds = held_made s.held.items (changes s) (changes_in us ts s.noted.items) n s.holds g; ranked = ranked_after (changes_in us ts s.noted.items) kept.0 }
 
 pub returns-clause-present : goal.returns-clause-present
 returns-clause-present c =
     let s = c.args.self.now in
     let n = length c.args.locals.now in
-    present_new s.trail.items c.push_reserved.new.self.items (Made n) empty (c.push_reserved.ensures.items ∙ ap (λ (cs : List Change). cs ++ Made n ∷ []) c.reserve-2.ensures.items)
+    let us = c.add_slots.new.table.items in
+    let ts = c.push_reserved.new.self.items in
+    let e : ts ≡ s.trail.items ++ entries.Made n ∷ [] = c.push_reserved.ensures.items ∙ ap (λ (es : List Entry). es ++ entries.Made n ∷ []) c.reserve-2.ensures.items in
+    let f : (i : _) → bound_in us i ≡ bound_in s.table.items i = λ i. c.add_slots.ensures.bound i ∙ ap (λ (ss : List Slot). bound_in ss i) c.reserve.ensures.items in
+    present_new (changes s) (changes_in us ts s.noted.items) (Made n) empty (made_changes s.table.items us s.trail.items ts s.noted.items n f e)
 
 pub returns-clause-past : goal.returns-clause-past
 returns-clause-past c =
     let s = c.args.self.now in
     let n = length c.args.locals.now in
-    goes_on_one (versions s) (versions_after c.push_reserved.new.self.items empty) _
-    (versions_new s.trail.items c.push_reserved.new.self.items (Made n) empty (c.push_reserved.ensures.items ∙ ap (λ (cs : List Change). cs ++ Made n ∷ []) c.reserve-2.ensures.items))
+    let us = c.add_slots.new.table.items in
+    let ts = c.push_reserved.new.self.items in
+    let e : ts ≡ s.trail.items ++ entries.Made n ∷ [] = c.push_reserved.ensures.items ∙ ap (λ (es : List Entry). es ++ entries.Made n ∷ []) c.reserve-2.ensures.items in
+    let f : (i : _) → bound_in us i ≡ bound_in s.table.items i = λ i. c.add_slots.ensures.bound i ∙ ap (λ (ss : List Slot). bound_in ss i) c.reserve.ensures.items in
+    goes_on_one (versions s) (versions_after (changes_in us ts s.noted.items) empty) _
+    (versions_new (changes s) (changes_in us ts s.noted.items) (Made n) empty (made_changes s.table.items us s.trail.items ts s.noted.items n f e))

@@ -1,4 +1,4 @@
-use Rattle.std.proofs.Common.{◌≡◌, [], List, length, sym, ap, ◌∙◌, arith}
+use Rattle.std.proofs.Common.{◌≡◌, [], List, length, sym, ap, ap₂, ◌∙◌, arith}
 use Rattle.std.proofs.lemmas.List.{nil_from_length}
 use Rattle.std.specs.Global.{Global}
 use Rattle.std.specs.Prelude.{Vec}
@@ -6,9 +6,10 @@ use Rattle.ap_defs.specs.Freshness.{add_conds}
 use Rattle.ap_defs.specs.declared.terms.Cond.{Cond}
 use Rattle.ap_theory.proofs.TermLemmas.{number_same}
 use Rattle.ap_store.specs.Changes.{empty, present_after}
-use Rattle.ap_store.specs.Slots.{held_in}
-use Rattle.ap_store.specs.Views.{present}
-use Rattle.ap_store.specs.declared.changes.Change.{Change}
+use Rattle.ap_store.specs.Slots.{changes_in, held_in}
+use Rattle.ap_store.specs.Views.{changes, present}
+use Rattle.ap_store.specs.declared.changes.Entry.{Entry}
+use Rattle.ap_store.specs.declared.changes.Noted.{Noted}
 use Rattle.ap_store.proofs.HeldLemmas.{held_within, on_var_set, some_more}
 use Rattle.ap_store.proofs.StoreLemmas.{none_taken}
 use Rattle.ap_store.proofs.store.Store.take_conditions.Goals as goal
@@ -20,7 +21,7 @@ returns-then-is_empty-clause-taken c =
     let n = number_same _ 0 (sym c.is_empty.ensures ∙ c.if-is_empty.true) in
     let e : c.held_of-conds.result.now ≡ [] = nil_from_length c.held_of-conds.result.now (omega (arith, n)) in
     let f : c.held_of-conds.result.now ≡ held_in s.held.items x.num = c.held_of-conds.ensures ∙ ap (λ (vs : List (Vec Cond Global)). held_in vs x.num) c.deref.ensures.value in
-    c.new.ensures.items ∙ ap (λ cs. add_conds cs []) (sym e ∙ f) ∙ on_var_set s.held.items s.trail.items x s.holds s.stored.0
+    c.new.ensures.items ∙ ap (λ cs. add_conds cs []) (sym e ∙ f) ∙ on_var_set s.held.items (changes s) x s.holds s.stored.0
 
 pub returns-then-is_empty-clause-present : goal.returns-then-is_empty-clause-present
 returns-then-is_empty-clause-present c =
@@ -29,8 +30,9 @@ returns-then-is_empty-clause-present c =
     let n = number_same _ 0 (sym c.is_empty.ensures ∙ c.if-is_empty.true) in
     let e : c.held_of-conds.result.now ≡ [] = nil_from_length c.held_of-conds.result.now (omega (arith, n)) in
     let f : c.held_of-conds.result.now ≡ held_in s.held.items x.num = c.held_of-conds.ensures ∙ ap (λ (vs : List (Vec Cond Global)). held_in vs x.num) c.deref.ensures.value in
-    none_taken (present s) (present_after c.reserve.new.self.items empty) x (ap (λ (ts : List Change). present_after ts empty) c.reserve.ensures.items)
-    (sym (on_var_set s.held.items s.trail.items x s.holds s.stored.0) ∙ ap (λ cs. add_conds cs []) (sym f ∙ e))
+    none_taken (present s) (present_after (changes_in s.table.items c.reserve.new.self.items c.reserve-2.new.self.items) empty) x
+    (ap₂ (λ (es : List Entry) (ns : List Noted). present_after (changes_in s.table.items es ns) empty) c.reserve.ensures.items c.reserve-2.ensures.items)
+    (sym (on_var_set s.held.items (changes s) x s.holds s.stored.0) ∙ ap (λ cs. add_conds cs []) (sym f ∙ e))
 
 pub note_taken-requires-clause-held : goal.note_taken-requires-clause-held
 note_taken-requires-clause-held c =
@@ -44,4 +46,4 @@ returns-clause-taken c =
     let s = c.args.self.now in
     let x = c.args.x in
     let f : c.held_of-conds.result.now ≡ held_in s.held.items x.num = c.held_of-conds.ensures ∙ ap (λ (vs : List (Vec Cond Global)). held_in vs x.num) c.deref.ensures.value in
-    c.make_set.ensures ∙ ap (λ cs. add_conds cs []) (c.in_ok-taken.ensures.items_if_clones_equal (λ x y e. e) ∙ f) ∙ on_var_set s.held.items s.trail.items x s.holds s.stored.0
+    c.make_set.ensures ∙ ap (λ cs. add_conds cs []) (c.in_ok-taken.ensures.items_if_clones_equal (λ x y e. e) ∙ f) ∙ on_var_set s.held.items (changes s) x s.holds s.stored.0
