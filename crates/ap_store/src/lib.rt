@@ -11,4 +11,3 @@ mod occurrences;
 pub mod slots;
 pub mod store;
 mod tables;
-mod walks;
