@@ -17,7 +17,10 @@ fn is_handed_back(alloc: Global, book: &mut Book, k: u32) -> Result<bool, Memory
     match book.done(0, &path, cut_at(alloc, &path)?) {
         Ok(()) => Ok(false),
         Err(refusal) => {
-            Ok(refusal.cause == BookError::NotOpen && matches!(refusal.outs.items(), [Run::One(Out::Cut(_))]))
+            Ok(
+                refusal.cause == BookError::NotOpen
+                    && matches!(refusal.outs.items(), [Run::One(Out::Cut(_))]),
+            )
         }
     }
 }
