@@ -3,6 +3,7 @@
 //! All of it takes time linear in the text, and none of it is part of the report.
 #![tactic(auto)]
 
+mod parts;
 mod singles;
 mod stuck;
 mod tally;

@@ -1,11 +1,11 @@
 //! Which predicates have clauses, and with what they are called.
 ghost use Rattle.std.specs.Prelude.{◌≡◌};
 
+use crate::parts::Part;
 use ap_defs::memory::Memory;
 use ap_lexer::Token;
-use ap_located::items::{Range, declared_word, text_at, tokens_in};
+use ap_located::items::text_at;
 use ap_located::nodes::{Form, Node, node_at};
-use ap_located::reader::read_item;
 use indexmap::IndexSet;
 use std::alloc::Global;
 
@@ -38,29 +38,25 @@ fn is_call(nodes: &[Node], node: Node) -> bool {
 }
 
 impl<'a> Uses<'a> {
-    /// Those of items.
-    pub fn of(alloc: Global, tokens: &[Token<'a>], ranges: &[Range]) -> Result<Uses<'a>, Memory> {
+    /// Those of clauses and queries.
+    pub fn of(alloc: Global, parts: &[Part<'_, 'a>]) -> Result<Uses<'a>, Memory> {
         let mut uses = Uses {
             heads: IndexSet::new(alloc),
             called: IndexSet::new(alloc),
             constructors: IndexSet::new(alloc),
             arguments: Vec::new(alloc),
         };
-        for range in ranges {
-            uses.add_item(alloc, tokens_in(tokens, *range))?;
+        for part in parts {
+            uses.add_part(part)?;
         }
         uses.arguments.sort_unstable();
         Ok(uses)
     }
 
-    fn add_item(&mut self, alloc: Global, tokens: &[Token<'a>]) -> Result<(), Memory> {
-        if declared_word(tokens).is_some() {
-            return Ok(());
-        }
-        let reading = read_item(alloc, tokens)?;
-        let nodes = reading.nodes.all();
+    fn add_part(&mut self, part: &Part<'_, 'a>) -> Result<(), Memory> {
+        let nodes = part.nodes();
         for node in nodes {
-            self.add_node(tokens, nodes, *node)?;
+            self.add_node(part.tokens, nodes, *node)?;
         }
         Ok(())
     }

@@ -2,14 +2,14 @@
 ghost use Rattle.std.specs.Prelude.{◌≡◌, ◌≤◌, length};
 ghost use Rattle.ap_defs.specs.Limits.{size_limit};
 
+use crate::parts::{Part, parts_of};
 use crate::singles::single_variables;
 use crate::uses::Uses;
 use ap_defs::memory::Memory;
 use ap_lexer::{LexError, Token, lex};
-use ap_located::items::{declared_word, ranges_of, span_at, text_at, tokens_in};
+use ap_located::items::{span_at, text_at};
 use ap_located::messages::{Message, Piece, add_message};
 use ap_located::nodes::{Form, Node, node_at};
-use ap_located::reader::read_item;
 use indexmap::IndexSet;
 use std::alloc::Global;
 
@@ -72,6 +72,24 @@ fn unmet_message(alloc: Global, tokens: &[Token<'_>], head: Node, node: Node) ->
 }
 
 impl<'t, 'a> Warner<'t, 'a> {
+    /// Of clauses and queries of which none was looked at.
+    fn of(alloc: Global, text: &'t [u8], parts: &[Part<'_, 'a>]) -> Result<Warner<'t, 'a>, Memory> {
+        let uses = Uses::of(alloc, parts)?;
+        Ok(Warner {
+            text,
+            uses,
+            told: IndexSet::new(alloc),
+            count: 0,
+            out: String::new(alloc),
+        })
+    }
+
+    /// What was written.
+    fn into_text(self) -> String {
+        let Warner { out, .. } = self;
+        out
+    }
+
     /// Adds a warning; behind the last that is written it is only counted.
     fn warn(&mut self, alloc: Global, message: &Message) -> Result<(), Memory> {
         if self.count < MOST {
@@ -151,19 +169,23 @@ impl<'t, 'a> Warner<'t, 'a> {
         Ok(())
     }
 
-    fn look_at_item(&mut self, alloc: Global, tokens: &[Token<'a>]) -> Result<(), Memory> {
-        if declared_word(tokens).is_some() {
-            return Ok(());
-        }
-        let reading = read_item(alloc, tokens)?;
-        let nodes = reading.nodes.all();
+    fn look_at_part(&mut self, alloc: Global, part: &Part<'_, 'a>) -> Result<(), Memory> {
+        let nodes = part.nodes();
         if node_at(nodes, 1).form == Form::Head {
-            self.look_at_variables(alloc, tokens, nodes)?;
+            self.look_at_variables(alloc, part.tokens, nodes)?;
         }
         for node in nodes {
-            self.look_at(alloc, tokens, nodes, *node)?;
+            self.look_at(alloc, part.tokens, nodes, *node)?;
         }
         Ok(())
+    }
+
+    /// Looks at all clauses and queries, in order.
+    fn look_at_parts(&mut self, alloc: Global, parts: &[Part<'_, 'a>]) -> Result<(), Memory> {
+        for part in parts {
+            self.look_at_part(alloc, part)?;
+        }
+        self.end()
     }
 
     /// Tells how many warnings are not written.
@@ -177,20 +199,10 @@ impl<'t, 'a> Warner<'t, 'a> {
 }
 
 fn warnings_of(alloc: Global, text: &[u8], tokens: &[Token<'_>]) -> Result<String, Memory> {
-    let ranges = ranges_of(alloc, tokens)?;
-    let mut warnings = Warner {
-        text,
-        uses: Uses::of(alloc, tokens, ranges.as_slice())?,
-        told: IndexSet::new(alloc),
-        count: 0,
-        out: String::new(alloc),
-    };
-    for range in &ranges {
-        warnings.look_at_item(alloc, tokens_in(tokens, *range))?;
-    }
-    warnings.end()?;
-    let Warner { out, .. } = warnings;
-    Ok(out)
+    let parts = parts_of(alloc, tokens)?;
+    let mut warner = Warner::of(alloc, text, parts.as_slice())?;
+    warner.look_at_parts(alloc, parts.as_slice())?;
+    Ok(warner.into_text())
 }
 
 /// The warnings about a text, as they are written: of variables that stand once in a clause, of predicates without

@@ -42,6 +42,13 @@ abbrev pub AreTables : List NominalConstructor → List Holding → Type 0
 AreTables cs [] = Unit {0}
 AreTables cs (h ∷ hs) = IsHoldingTable cs h.sort h × AreTables cs hs
 
+abbrev pub name_when : Bool → NominalKind → Bool
+name_when false (types.name s) = true
+name_when _ _ = false
+
+abbrev pub is_free_name : NominalLocal → Bool
+is_free_name l = name_when l.bound l.kind
+
 -- a clause of which only the head, the body and the identifiers are looked at
 abbrev pub clause_of_head : List NominalTerm → NominalGoal → List NominalLocal → NominalClause
 clause_of_head args body locals = record { item = 0; line = 0; pred = 0; args = args; body = body; locals = locals }

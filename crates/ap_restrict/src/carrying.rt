@@ -50,10 +50,16 @@ fn carry_under(alloc: Global, swaps: &[Swap], t: &Raw) -> Result<Term, Memory>
                 layers.push(TermLayer::Left(carry_under(alloc, swaps, left)?))?;
                 rest = right;
             }
-            Raw::App(f, argument) => {
-                layers.push(TermLayer::App(*f))?;
-                rest = argument;
-            }
+            Raw::App(f, argument) => match &**argument {
+                Raw::Unit => {
+                    let constant = Term::App(*f, Box::new(alloc, Term::Unit)?);
+                    return close_term(alloc, layers, constant);
+                }
+                more => {
+                    layers.push(TermLayer::App(*f))?;
+                    rest = more;
+                }
+            },
             Raw::Abs(Id::Name(a), body) => {
                 layers.push(TermLayer::Abs(image(swaps, *a)))?;
                 rest = body;

@@ -1,6 +1,6 @@
 //! Whether the free names of a clause are fresh for its head.
 
-ghost use Rattle.std.specs.Prelude.{◌≡◌, ◌↔◌, map, IsTrue, IfOk};
+ghost use Rattle.std.specs.Prelude.{◌≡◌, ◌↔◌, count_by, map, IsTrue, IfOk};
 ghost use Rattle.ap_defs.specs.Terms.{term_of};
 ghost use Rattle.ap_defs.specs.Types.{local_of, locals_of, signature_of};
 ghost use Rattle.ap_defs.specs.Goals.{goal_of};
@@ -11,6 +11,7 @@ ghost use Rattle.ap_program.specs.NameRestriction.{IsFreshForHead};
 ghost use Rattle.ap_program.specs.FreeLocals.{free_sort};
 ghost use Rattle.ap_defs.specs.Answers.{kind_at};
 ghost use Rattle.ap_restrict.specs.Facts.{HasSame, facts_of};
+ghost use Rattle.ap_restrict.specs.Heads as spec;
 ghost use Rattle.ap_restrict.specs.Heads.{bars, is_known, fresh_by, fresh_by_each, AreTables, clause_of_head, IsFirstUnfresh};
 
 use crate::facts::{Fact, has, known_facts};
@@ -156,6 +157,23 @@ fn sort_of(local: &Local) -> Option<u32>
         Kind::Name(sort) if !local.bound => Some(*sort),
         _ => None,
     }
+}
+
+/// Whether an identifier is a free name.
+fn is_free_name(local: &Local) -> bool
+    ensures { result ≡ spec.is_free_name (local_of local.now) }
+{
+    match &local.kind {
+        Kind::Name(_) => !local.bound,
+        Kind::Var(_) => false,
+    }
+}
+
+/// How many of the identifiers are free names.
+pub fn count_free_names(locals: &[Local]) -> usize
+    ensures { result ≡ count_by spec.is_free_name (locals_of locals.now) }
+{
+    locals.iter().filter(|local| is_free_name(local)).count()
 }
 
 /// The first free name that is not fresh for the head.

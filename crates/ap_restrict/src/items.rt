@@ -12,7 +12,7 @@ ghost use Rattle.ap_restrict.specs.Heads.{AreTables, IsFirstUnfresh};
 ghost use Rattle.ap_restrict.specs.Scans.{IsVerdict};
 
 use crate::carrying::{carry_goal, carry_terms};
-use crate::heads::{Head, Setting, first_not_fresh};
+use crate::heads::{Head, Setting, count_free_names, first_not_fresh};
 use crate::places::{NamePlace, first_in_goal, first_in_terms};
 use ap_defs::faults::{NameFault, NameKind, Place};
 use ap_defs::goals::{Clause, Local, Query, Signature};
@@ -72,7 +72,8 @@ fn first_in_clause(place: NamePlace, clause: &Clause<Raw>) -> Option<Var>
     }
 }
 
-/// The first free name of a clause that is not fresh for its head, once swappings are carried out.
+/// The first free name of a clause that is not fresh for its head, once swappings are carried out. Where
+/// no name is free, nothing needs to be carried out.
 fn head_name(
     alloc: Global,
     setting: &Setting<'_>,
@@ -83,6 +84,9 @@ fn head_name(
         (map_clause carried_out (clause_over raw_of clause.now)) (local_names 0
         (locals_of clause.now.locals)) o) }
 {
+    if count_free_names(clause.locals.items()) == 0 {
+        return Ok(None);
+    }
     let args = carry_terms(alloc, clause.args.items())?;
     let body = carry_goal(alloc, &clause.body)?;
     let head = Head {

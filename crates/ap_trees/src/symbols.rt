@@ -76,22 +76,22 @@ fn reserved_symbol<'a>(word: &str) -> Symbol<'a>
 fn mark_symbol<'a>(mark: &str) -> Symbol<'a>
     ensures { sym result ≡ mark_sym mark.now }
 {
-    match mark {
-        "." => Symbol::Dot,
-        "," => Symbol::Comma,
-        ";" => Symbol::Semicolon,
-        ":" => Symbol::Colon,
-        ":-" => Symbol::If,
-        "?-" => Symbol::Ask,
-        "->" => Symbol::Arrow,
-        "(" => Symbol::Open,
-        ")" => Symbol::Close,
-        "[" => Symbol::OpenList,
-        "]" => Symbol::CloseList,
-        "|" => Symbol::Bar,
-        "\\" => Symbol::Lambda,
-        "#" => Symbol::Fresh,
-        "=" => Symbol::Equal,
+    match mark.as_bytes() {
+        [b'.'] => Symbol::Dot,
+        [b','] => Symbol::Comma,
+        [b';'] => Symbol::Semicolon,
+        [b':'] => Symbol::Colon,
+        [b':', b'-'] => Symbol::If,
+        [b'?', b'-'] => Symbol::Ask,
+        [b'-', b'>'] => Symbol::Arrow,
+        [b'('] => Symbol::Open,
+        [b')'] => Symbol::Close,
+        [b'['] => Symbol::OpenList,
+        [b']'] => Symbol::CloseList,
+        [b'|'] => Symbol::Bar,
+        [b'\\'] => Symbol::Lambda,
+        [b'#'] => Symbol::Fresh,
+        [b'='] => Symbol::Equal,
         _ => Symbol::Other,
     }
 }
@@ -112,7 +112,7 @@ pub fn symbol_of<'a>(token: &Token<'a>) -> Symbol<'a>
 pub fn symbols_of<'a>(alloc: Global, tokens: &[Token<'a>]) -> Result<Vec<Symbol<'a>>, AllocError>
     ensures { IfOk result (λ v. syms v.items ≡ syms_of (lexemes tokens.now)) }
 {
-    let mut symbols = Vec::new(alloc);
+    let mut symbols = Vec::with_capacity(alloc, tokens.len())?;
     for token in tokens {
         symbols.push(symbol_of(token))?;
     }
