@@ -45,7 +45,8 @@ fn differ_rest(left: &[u64], right: &[u64], from: usize, out: &mut [u8])
     requires right { length right.now ≡ length left.now }
     requires long { length out.old ≡ length left.now }
     requires from { from ≤ length left.now }
-    requires done { take from out.old ≡ differing_places (take from left.now) (take from right.now) }
+    requires done { take from out.old
+        ≡ differing_places (take from left.now) (take from right.now) }
     ensures { out.new ≡ differing_places left.now right.now }
 {
     'filling: for i in from..left.len() {

@@ -162,8 +162,8 @@ fn add_rest(names: &mut Vec<Name>, moved: &[Moved], from: usize) -> Result<(), M
 
 /// The names that one of two permutations moves, in order.
 pub(crate) fn union_of(alloc: Global, left: &[Moved], right: &[Moved]) -> Result<Vec<Name>, Memory>
-    ensures { IfOk result (λ names. (p q : List Swap) → moved_list p ≡ left.now → moved_list q ≡ right.now
-        → names.items ≡ united (moved_names p) (moved_names q)) }
+    ensures { IfOk result (λ names. (p q : List Swap) → moved_list p ≡ left.now
+        → moved_list q ≡ right.now → names.items ≡ united (moved_names p) (moved_names q)) }
 {
     let mut names = Vec::new(alloc);
     let mut i = 0;
