@@ -208,10 +208,10 @@ pub changes_apart : (ss us : List Slot) (es : List Entry) (ns : List Noted) (x :
 changes_apart ss us es ns x o h u f =
     let none : binds x.num es ≡ false = unbinds ss es ns x (unbound_raw (changes_in ss es ns) x h u) in
     changes_same ss us es ns (λ i b. f i
-      ∙ (elim (i == x.num) as (λ c. (i == x.num) ≡ c → (if c then o else bound_in ss i) ≡ bound_in ss i) [
-        | true ↦ λ e. absurd (true≢false (sym b ∙ ap (λ (j : ℕ). binds j es) (number_same i x.num e) ∙ none))
-        | false ↦ λ e. refl
-      ] refl))
+    ∙ (elim (i == x.num) as (λ c. (i == x.num) ≡ c → (if c then o else bound_in ss i) ≡ bound_in ss i) [
+      | true ↦ λ e. absurd (true≢false (sym b ∙ ap (λ (j : ℕ). binds j es) (number_same i x.num e) ∙ none))
+      | false ↦ λ e. refl
+    ] refl))
 
 -- Changes that are made.
 pub more_made : (ss us : List Slot) (cs : List Change) (r n : ℕ) → AreStored ss cs r → length us ≡ length ss + n → ((i : ℕ) → bound_in us i ≡ bound_in ss i) → AreKeptBelow r us → AreStored us (cs ++ Made n ∷ []) r
@@ -291,9 +291,9 @@ less_bound ss us cs r x t h e f k =
       (linked_less cs (Bound x t) nothing_held h.1).0,
       e ∙ h.2 ∙ ap (λ (a : Triple). a.next) (present_more cs (Bound x t) empty),
       (λ y. (elim (y.num == x.num) as (λ c. (y.num == x.num) ≡ c → (if c then Some t else raw_after cs nothing_bound y) ≡ bound_in ss y.num → raw_after cs nothing_bound y ≡ (if c then None else bound_in ss y.num)) [
-          | true ↦ λ g m. unbound_raw cs y ch.0 (subst (λ (z : Var). IsUnbound (now cs).bindings z) (ap var_at (sym (number_same y.num x.num g))) ch.1.1)
-          | false ↦ λ g m. m
-        ] refl (ap (λ (b : lookups.Bound). b y) (sym (raw_more cs (Bound x t) nothing_bound)) ∙ h.3 y)) ∙ sym (f y.num)),
+        | true ↦ λ g m. unbound_raw cs y ch.0 (subst (λ (z : Var). IsUnbound (now cs).bindings z) (ap var_at (sym (number_same y.num x.num g))) ch.1.1)
+        | false ↦ λ g m. m
+      ] refl (ap (λ (b : lookups.Bound). b y) (sym (raw_more cs (Bound x t) nothing_bound)) ∙ h.3 y)) ∙ sym (f y.num)),
       k,
     )
 

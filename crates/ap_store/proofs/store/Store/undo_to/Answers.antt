@@ -7,7 +7,7 @@ use Rattle.ap_store.proofs.TrailLemmas.{goes_on_both, goes_on_one, past_length, 
 use Rattle.ap_store.proofs.store.Store.undo_to.Goals as goal
 
 pub undo_last-requires : goal.undo_last-requires
-undo_last-requires c = 
+undo_last-requires c =
     let s = c.undoing.self in
     omega (arith, past_length (changes s) empty, changes_length s.table.items s.trail.items s.noted.items s.stored.5, c.len.ensures)
 
