@@ -2,7 +2,7 @@ ghost use Rattle.std.specs.Prelude.{None};
 
 use ap_defs::memory::Memory;
 use ap_defs::terms::{Name, Swap, Term, Var};
-use ap_perm::closures::{Closure, Opened};
+use ap_perm::closures::{Closure, Lent, Opened};
 use ap_perm::laws::{bindings_are_carried_out, idempotent_lists};
 use ap_perm::look::Look;
 use ap_perm::perm::Perm;
@@ -149,7 +149,7 @@ impl Look for NothingBound {
 
     ghost ranked = { λ l x y t h. Prim.search rules };
 
-    fn look(&self, _v: Var) -> Option<&Closure<'_>> {
+    fn look(&self, _v: Var) -> Option<Lent<'_, '_>> {
         None
     }
 }
