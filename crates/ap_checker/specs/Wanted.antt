@@ -1,13 +1,14 @@
 -- What an application's argument is to be: of the program's values, and of the parts of a pair and the argument of an application.
-use Rattle.std.specs.Prelude.{ℕ, zero, suc, Bool, ◌==◌, if◌then◌else◌, List, map, Option, Some, None}
+use Rattle.std.specs.Prelude.{ℕ, zero, suc, ◌+◌, Bool, ◌==◌, if◌then◌else◌, List, map, Option, Some, None}
 use Rattle.ap_defs.specs.Printing.{constructor_in}
 use Rattle.ap_defs.specs.Types as types
 use Rattle.ap_defs.specs.Types.{NominalConstructor, type_of}
 use Rattle.ap_defs.specs.Terms.{term_of}
 use Rattle.ap_defs.specs.Typing.{VarTypes, Want, arguments, more, nothing, one}
 use Rattle.ap_defs.specs.Unification.{size}
-use Rattle.ap_checks.specs.TypeTests.{is_typed}
+use Rattle.ap_checks.specs.TypeTests.{is_typed, type_eq}
 use Rattle.ap_checker.specs.declared.types.Expected.{Expected}
+use Rattle.ap_checker.specs.declared.types.TypePair.{TypePair}
 use Rattle.ap_checker.specs.declared.types.Wanted.{Wanted}
 use Rattle.ap_checker.specs.declared.types.Wanted.TheVariants as code
 
@@ -40,3 +41,19 @@ is_expected cs vars e = is_typed cs vars (term_of e.term.now) (want_of e.wanted)
 
 abbrev pub expected_size : Expected → ℕ
 expected_size e = size (term_of e.term.now)
+
+-- two types are one
+abbrev pub are_one : TypePair → Bool
+are_one p = type_eq (type_of p.left.now) (type_of p.right.now)
+
+-- how many parts a type has
+abbrev pub parts_count : types.NominalType → ℕ
+parts_count types.unit = 1
+parts_count (types.names s) = 1
+parts_count (types.base d) = 1
+parts_count (types.pair t u) = 1 + parts_count t + parts_count u
+parts_count (types.list t) = 1 + parts_count t
+parts_count (types.abs s t) = 1 + parts_count t
+
+abbrev pub pair_size : TypePair → ℕ
+pair_size p = parts_count (type_of p.left.now)

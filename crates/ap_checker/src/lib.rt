@@ -3,9 +3,8 @@
 //! are its own, on terms.
 //!
 //! A derivation and its terms are as deep as whoever made them wants: the nodes stand on a stack of their
-//! own, and so does what is left of a term that is tested or copied. What lists the names and variables of a
-//! term of the program, or compares a type with one of the program, calls itself on left parts: these are as
-//! deep as the text is nested.
+//! own, and so does what is left of a term or a type that is tested or copied. What lists the names and
+//! variables of a term of the program calls itself on left parts: these are as deep as the text is nested.
 #![tactic(auto)]
 
 mod answers;

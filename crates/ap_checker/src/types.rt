@@ -1,8 +1,7 @@
 //! Types of terms with variables.
 //!
-//! A type can be as deep to the right as its text is long: what compares two goes on along the right part
-//! of a pair in a loop, and calls itself on left parts alone, which are no deeper than those of a type of
-//! the program.
+//! The type of an identifier can be as deep as the equations are long that it solves, on either side: the
+//! parts of types that are left to compare stand on a stack, as do those of terms.
 
 ghost use Rattle.std.specs.Prelude.{◌≡◌, map, IfOk, MatchOption, Some, None};
 ghost use Rattle.ap_defs.specs.Answers.{typed_var_of};
@@ -12,7 +11,7 @@ ghost use Rattle.ap_defs.specs.Types.{base, constructor_of, type_of};
 ghost use Rattle.ap_defs.specs.Typing.{arguments as wanted_arguments, one};
 ghost use Rattle.ap_checks.specs.TypeTests.{is_type, is_typed, type_beside as beside, type_eq};
 ghost use Rattle.ap_checker.specs.Stacks.{IsTested};
-ghost use Rattle.ap_checker.specs.Wanted.{expected_size, inside_of, is_expected, parts_of, want_of};
+ghost use Rattle.ap_checker.specs.Wanted.{are_one, expected_size, inside_of, is_expected, pair_size, parts_of, want_of};
 
 use crate::index::IndexedAnswer;
 use ap_defs::goals::Constructor;
@@ -40,47 +39,69 @@ pub(crate) struct Expected<'a> {
     pub wanted: Wanted<'a>,
 }
 
-/// Whether two types are one.
-fn is_same(a: &Ty, b: &Ty) -> bool
-    ensures { result ≡ type_eq (type_of a.now) (type_of b.now) }
+/// Two types that are yet to be compared.
+#[derive(Clone, Copy)]
+pub(crate) struct TypePair<'a> {
+    pub left: &'a Ty,
+    pub right: &'a Ty,
+}
+
+/// Compares the heads of two types: their parts wait to be compared.
+fn compare<'a>(pending: &mut Vec<TypePair<'a>>, at: TypePair<'a>) -> Result<bool, Memory>
+    ensures { IfOk result (λ yes. IsTested are_one pair_size at.entry
+        pending.old.items pending.new.items yes) }
 {
-    let mut left = a;
-    let mut right = b;
-    loop {
-        match (left, right) {
-            (Ty::Unit, Ty::Unit) => return true,
-            (Ty::Names(s), Ty::Names(r)) => return *s == *r,
-            (Ty::Base(d), Ty::Base(e)) => return *d == *e,
-            (Ty::Pair(a, b), Ty::Pair(c, d)) => {
-                if !is_same(a, c) {
-                    return false;
-                }
-                left = b;
-                right = d;
-            }
-            (Ty::List(a), Ty::List(b)) => {
-                left = a;
-                right = b;
-            }
-            (Ty::Abs(s, a), Ty::Abs(r, b)) => {
-                if *s != *r {
-                    return false;
-                }
-                left = a;
-                right = b;
-            }
-            _ => return false,
+    match (at.left, at.right) {
+        (Ty::Unit, Ty::Unit) => Ok(true),
+        (Ty::Names(s), Ty::Names(r)) => Ok(*s == *r),
+        (Ty::Base(d), Ty::Base(e)) => Ok(*d == *e),
+        (Ty::Pair(a, b), Ty::Pair(c, d)) => {
+            pending.push(TypePair { left: b, right: d })?;
+            pending.push(TypePair { left: a, right: c })?;
+            Ok(true)
         }
+        (Ty::List(a), Ty::List(b)) => {
+            pending.push(TypePair { left: a, right: b })?;
+            Ok(true)
+        }
+        (Ty::Abs(s, a), Ty::Abs(r, b)) => {
+            if *s != *r {
+                return Ok(false);
+            }
+            pending.push(TypePair { left: a, right: b })?;
+            Ok(true)
+        }
+        _ => Ok(false),
     }
 }
 
+/// Whether two types are one.
+fn is_same(alloc: Global, a: &Ty, b: &Ty) -> Result<bool, Memory>
+    ensures { IfOk result (λ yes. yes ≡ type_eq (type_of a.now) (type_of b.now)) }
+{
+    let mut pending = Vec::new(alloc);
+    pending.push(TypePair { left: a, right: b })?;
+    while let Some(next) = pending.pop() {
+        if !compare(&mut pending, next)? {
+            return Ok(false);
+        }
+    }
+    Ok(true)
+}
+
 /// Whether the type beside the variable is this one.
-fn has_type_beside(answer: &IndexedAnswer<'_>, x: Var, ty: &Ty) -> bool
-    ensures { result ≡ is_type (beside (map typed_var_of answer.now.vars) x) (type_of ty.now) }
+fn has_type_beside(
+    alloc: Global,
+    answer: &IndexedAnswer<'_>,
+    x: Var,
+    ty: &Ty,
+) -> Result<bool, Memory>
+    ensures { IfOk result (λ yes. yes
+        ≡ is_type (beside (map typed_var_of answer.now.vars) x) (type_of ty.now)) }
 {
     match answer.type_beside(x) {
-        None => false,
-        Some(found) => is_same(found, ty),
+        None => Ok(false),
+        Some(found) => Ok(is_same(alloc, found, ty)?),
     }
 }
 
@@ -153,6 +174,7 @@ fn inside<'a>(constructors: &'a [Constructor], f: u32, want: Wanted<'a>) -> Opti
 
 /// Looks at the head of a term that is to be what is wanted: its parts wait to be looked at.
 fn look<'a>(
+    alloc: Global,
     constructors: &'a [Constructor],
     answer: &IndexedAnswer<'_>,
     pending: &mut Vec<Expected<'a>>,
@@ -201,7 +223,7 @@ fn look<'a>(
             })?;
             Ok(true)
         }
-        (Term::Susp(_, x), Wanted::One(ty)) => Ok(has_type_beside(answer, *x, ty)),
+        (Term::Susp(_, x), Wanted::One(ty)) => Ok(has_type_beside(alloc, answer, *x, ty)?),
         _ => Ok(false),
     }
 }
@@ -225,7 +247,7 @@ pub fn has_type(
         wanted: Wanted::One(ty),
     })?;
     while let Some(next) = pending.pop() {
-        if !look(constructors, answer, &mut pending, next)? {
+        if !look(alloc, constructors, answer, &mut pending, next)? {
             return Ok(false);
         }
     }
