@@ -210,13 +210,13 @@ impl<'a> Store<'a> {
         ensures unchanged { OnErr result (IsUnchanged self.old self.new) }
     {
         self.trail.reserve(2)?;
-        self.noted.reserve(1)?;
         let conds = held_of(&self.held, x.num as usize);
         if conds.is_empty() {
             return Ok(Vec::new(alloc));
         }
         let mut taken = conds.to_vec(alloc)?;
         make_set(&mut taken);
+        self.noted.reserve(1)?;
         self.note_taken(x);
         Ok(taken)
     }
