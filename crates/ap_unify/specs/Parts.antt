@@ -17,6 +17,7 @@ use Rattle.ap_unify.specs.declared.parts.Turn.{Turn}
 use Rattle.ap_unify.specs.declared.parts.Turn.TheVariants as turns
 use Rattle.ap_unify.specs.declared.plain.Plain.{Plain}
 use Rattle.ap_unify.specs.declared.plain.PlainPair.{PlainPair}
+use Rattle.ap_unify.specs.declared.ways.Front.{Front}
 use Rattle.ap_unify.specs.declared.ways.Way.{Way}
 use Rattle.ap_unify.specs.declared.ways.Way.TheVariants as ways
 
@@ -83,13 +84,13 @@ IsWaitingBelow n (Some p) = AreBelowBoth n p
 abbrev pub stage_of : List Binding → PlainPair → Option PlainPair → Work → Stage
 stage_of s p o w = stage_under s (parts_equation p ∷ (waiting_equations o ++ equations_left w)) (problems_met w)
 
-abbrev pub progress_to : Way → List Binding → Work → Progress
-progress_to (ways.End b) s w = progress_if b (work_stage s w)
-progress_to (ways.On p o) s w = next (stage_of s p o w)
+abbrev pub progress_to : Way → List Binding → Front → Work → Progress
+progress_to (ways.End b) s f w = progress_if b (work_stage s w)
+progress_to ways.On s f w = next (stage_of s f.pair f.waiting w)
 
-abbrev pub IsWayBelow : ℕ → Way → Type 0
-IsWayBelow n (ways.End b) = Unit {0}
-IsWayBelow n (ways.On p o) = AreBelowBoth n p × IsWaitingBelow n o
+abbrev pub IsWayBelow : ℕ → Way → Front → Type 0
+IsWayBelow n (ways.End b) f = Unit {0}
+IsWayBelow n ways.On f = AreBelowBoth n f.pair × IsWaitingBelow n f.waiting
 
 -- the stage goes on so by n more steps after the first one
 abbrev pub IsReached : ℕ → Stage → Progress → Type 0

@@ -13,7 +13,7 @@ ghost use Rattle.ap_unify.specs.Work.{ArePairsBelow, GoOn, IsPairBelow, ending_i
 use crate::pairs::{ClosurePair, Work};
 use crate::plain::{Plain, PlainPair};
 use crate::terms::Terms;
-use crate::ways::{Way, next_way};
+use crate::ways::{Front, Way, next_way};
 use crate::work::by_rule;
 use ap_defs::memory::Memory;
 use ap_store::store::Store;
@@ -34,15 +34,14 @@ fn along<'a>(
     ensures past { IsPrefixOf (versions store.old) (versions store.new) }
     ensures kinds { kinds store.new ≡ kinds store.old }
 {
-    let mut pair = first;
-    let mut waiting = None;
+    let mut front = Front {
+        pair: first,
+        waiting: None,
+    };
     'going: loop {
-        match next_way(alloc, store, work, pair, waiting)? {
+        match next_way(alloc, store, work, &mut front)? {
             Way::End(goes_on) => return Ok(goes_on),
-            Way::On(next, later) => {
-                pair = next;
-                waiting = later;
-            }
+            Way::On => {}
         }
     }
 }

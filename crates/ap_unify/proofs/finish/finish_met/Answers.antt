@@ -7,8 +7,8 @@ use Rattle.ap_store.specs.Views.{present}
 use Rattle.ap_store.specs.declared.store.Store.{Store}
 use Rattle.ap_unify.proofs.FinishLemmas.{kept_collected}
 use Rattle.ap_unify.proofs.WellLemmas.{well}
-use Rattle.ap_unify.proofs.finish.finish.Goals as goal
-use Rattle.ap_unify.proofs.finish.finish.Goals.{then-not-is_empty+in_ok-add-in-Some, else-not-is_empty}
+use Rattle.ap_unify.proofs.finish.finish_met.Goals as goal
+use Rattle.ap_unify.proofs.finish.finish_met.Goals.{then-not-is_empty+in_ok-add-in-Some, else-not-is_empty}
 use Rattle.ap_unify.specs.Finishing.{items_in}
 use Rattle.ap_unify.specs.Work.{problems_met}
 

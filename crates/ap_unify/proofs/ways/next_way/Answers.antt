@@ -9,7 +9,7 @@ pub returns-in-Clash-clause-stage : goal.returns-in-Clash-clause-stage
 returns-in-Clash-clause-stage c =
     let r = bindings_of c.step_parts.new.store in
     let v = c.step_parts.new.work in
-    clash_way (bindings_of c.args.store.now) r c.args.pair c.args.waiting c.args.work.now v c.step_parts.ensures.equations c.step_parts.ensures.problems
+    clash_way (bindings_of c.args.store.now) r c.args.front.now.pair c.args.front.now.waiting c.args.work.now v c.step_parts.ensures.equations c.step_parts.ensures.problems
     c.in_ok-step_parts.field-0 c.in_ok-step_parts.ensures.turn c.in-Clash.is
 
 pub returns-in-Done-clause-stage : goal.returns-in-Done-clause-stage
@@ -17,7 +17,7 @@ returns-in-Done-clause-stage c =
     let r = bindings_of c.step_parts.new.store in
     let v = c.step_parts.new.work in
     c.after_done.ensures.way r v
-    ∙ done_way (bindings_of c.args.store.now) r c.args.pair c.args.waiting c.args.work.now v c.step_parts.ensures.equations c.step_parts.ensures.problems
+    ∙ done_way (bindings_of c.args.store.now) r c.args.front.now.pair c.args.front.now.waiting c.args.work.now v c.step_parts.ensures.equations c.step_parts.ensures.problems
     c.in_ok-step_parts.field-0 c.in_ok-step_parts.ensures.turn c.in-Done.is
 
 pub returns-in-Done-clause-below : goal.returns-in-Done-clause-below
@@ -27,14 +27,14 @@ pub returns-in-On-clause-stage : goal.returns-in-On-clause-stage
 returns-in-On-clause-stage c =
     let r = bindings_of c.step_parts.new.store in
     let v = c.step_parts.new.work in
-    on_way (bindings_of c.args.store.now) r c.args.pair c.args.waiting c.args.work.now v c.step_parts.ensures.equations c.step_parts.ensures.problems
+    on_way (bindings_of c.args.store.now) r c.args.front.now.pair c.args.front.now.waiting c.args.work.now v c.step_parts.ensures.equations c.step_parts.ensures.problems
     c.in_ok-step_parts.field-0 c.in_ok-step_parts.ensures.turn c.in-On.next c.in-On.is
 
 pub returns-in_ok-put_waiting-in-Both-clause-stage : goal.returns-in_ok-put_waiting-in-Both-clause-stage
 returns-in_ok-put_waiting-in-Both-clause-stage c =
     let r = bindings_of c.step_parts.new.store in
     let v = c.step_parts.new.work in
-    both_way (bindings_of c.args.store.now) r c.args.pair c.args.waiting c.args.work.now v c.step_parts.ensures.equations c.step_parts.ensures.problems
+    both_way (bindings_of c.args.store.now) r c.args.front.now.pair c.args.front.now.waiting c.args.work.now v c.step_parts.ensures.equations c.step_parts.ensures.problems
     c.in_ok-step_parts.field-0 c.in_ok-step_parts.ensures.turn c.put_waiting.new.work c.in_ok-put_waiting-in-Both.ensures.equations c.put_waiting.ensures.problems
     c.in-Both.next c.in-Both.later c.in-Both.is
 
@@ -46,17 +46,17 @@ returns-in_ok-put_waiting-in-Both-clause-goes_on c =
     let u = c.put_waiting.new.work in
     let g = c.in_ok-step_parts.ensures.goes_on in
     go_on_on a b b c.args.work.now v u g
-    (go_same b v u (c.in_ok-put_waiting-in-Both.ensures.below b.next (subst (λ n. IsWaitingBelow n c.args.waiting) (sym g.next) c.requires.waiting)) c.put_waiting.ensures.taken)
+    (go_same b v u (c.in_ok-put_waiting-in-Both.ensures.below b.next (subst (λ n. IsWaitingBelow n c.args.front.now.waiting) (sym g.next) c.requires.waiting)) c.put_waiting.ensures.taken)
 
 pub by_closures-requires : goal.by_closures-requires
-by_closures-requires c = record { below = subst (λ n. AreBelowBoth n c.args.pair) (sym c.in_ok-step_parts.ensures.goes_on.next) c.requires.pair }
+by_closures-requires c = record { below = subst (λ n. AreBelowBoth n c.args.front.now.pair) (sym c.in_ok-step_parts.ensures.goes_on.next) c.requires.pair }
 
 pub returns-in_ok-solved-in-Other-clause-stage : goal.returns-in_ok-solved-in-Other-clause-stage
 returns-in_ok-solved-in-Other-clause-stage c =
     let r = bindings_of c.step_parts.new.store in
     let v = c.step_parts.new.work in
     c.in_ok-solved-in-Other.ensures.stage
-    ∙ other_way (bindings_of c.args.store.now) r c.args.pair c.args.waiting c.args.work.now v c.step_parts.ensures.equations c.step_parts.ensures.problems
+    ∙ other_way (bindings_of c.args.store.now) r c.args.front.now.pair c.args.front.now.waiting c.args.work.now v c.step_parts.ensures.equations c.step_parts.ensures.problems
     c.in_ok-step_parts.field-0 c.in_ok-step_parts.ensures.turn c.put_waiting-in-Other.new.work c.in_ok-put_waiting-in-Other.ensures.equations c.put_waiting-in-Other.ensures.problems c.in-Other.is
 
 pub returns-in_ok-solved-in-Other-clause-goes_on : goal.returns-in_ok-solved-in-Other-clause-goes_on
@@ -68,5 +68,5 @@ returns-in_ok-solved-in-Other-clause-goes_on c =
     let g = c.in_ok-step_parts.ensures.goes_on in
     go_on_on a b (present c.by_closures.new.store) c.args.work.now u c.by_closures.new.work
     (go_on_on a b b c.args.work.now v u g
-    (go_same b v u (c.in_ok-put_waiting-in-Other.ensures.below b.next (subst (λ n. IsWaitingBelow n c.args.waiting) (sym g.next) c.requires.waiting)) c.put_waiting-in-Other.ensures.taken))
+    (go_same b v u (c.in_ok-put_waiting-in-Other.ensures.below b.next (subst (λ n. IsWaitingBelow n c.args.front.now.waiting) (sym g.next) c.requires.waiting)) c.put_waiting-in-Other.ensures.taken))
     c.in_ok-solved-in-Other.ensures.goes_on
