@@ -52,13 +52,13 @@ fn add_unbound_locals(
 
 /// Those of the variables of a range that stand for themselves, after others. `2 ^ 32` identifiers and
 /// more are want of memory, as they are to the store.
-fn add_unbound(all: &mut Vec<Var>, store: &Store<'_>, range: &Brought<'_>) -> Result<(), Memory>
+fn add_unbound(all: &mut Vec<Var>, store: &Store<'_>, range: Brought<'_>) -> Result<(), Memory>
     ensures { OnOk result (all.new.items ≡ all.old.items
-        ++ unbound_vars (state_in store.now) (vars_of_one range.now)) }
+        ++ unbound_vars (state_in store.now) (vars_of_one range.entry)) }
 {
     match range {
         Brought::Exists(num) => {
-            let x = Var { num: *num as u64 };
+            let x = Var { num: num as u64 };
             if is_unbound(store, x) {
                 all.push(x)?;
             }
@@ -69,7 +69,7 @@ fn add_unbound(all: &mut Vec<Var>, store: &Store<'_>, range: &Brought<'_>) -> Re
             if locals.len() > u32::MAX as usize {
                 return Err(Memory);
             }
-            add_unbound_locals(all, store, *base as u64, locals)
+            add_unbound_locals(all, store, base as u64, locals)
         }
     }
 }
@@ -87,7 +87,7 @@ pub fn unbound_of(
 {
     let mut all = Vec::new(alloc);
     'choosing: for range in brought {
-        add_unbound(&mut all, store, range)?;
+        add_unbound(&mut all, store, *range)?;
     }
     Ok(all)
 }
