@@ -12,6 +12,8 @@ use Rattle.ap_unify.specs.Runs.{equation_under, problem_under, stage_under}
 use Rattle.ap_unify.specs.Work.{HasForm, equations_left, problems_met, progress_if, work_stage}
 use Rattle.ap_unify.specs.declared.heads.Head.{Head}
 use Rattle.ap_unify.specs.declared.heads.Head.TheVariants as heads
+use Rattle.ap_unify.specs.declared.heads.Look.{Look}
+use Rattle.ap_unify.specs.declared.heads.Look.TheVariants as looks
 use Rattle.ap_unify.specs.declared.pairs.Work.{Work}
 use Rattle.ap_unify.specs.declared.parts.Turn.{Turn}
 use Rattle.ap_unify.specs.declared.parts.Turn.TheVariants as turns
@@ -39,6 +41,11 @@ abbrev pub IsHead : List Binding → NominalTerm → Head → Type 0
 IsHead s t heads.Form = HasForm t
 IsHead s t (heads.Free x) = (t ≡ susp [] x) × IsUnbound s x
 IsHead s t heads.Other = HasVariable t
+
+-- what one look finds at the head of a term
+abbrev pub IsLook : Triple → (Var → ℕ) → NominalTerm → Look → Type 0
+IsLook a rank t (looks.Ends h) = IsHead a.bindings t h
+IsLook a rank t (looks.Further p) = IsFurther a rank t (plain_term p)
 
 abbrev pub parts_equation : PlainPair → Equation
 parts_equation p = plain_term p.left ≐ plain_term p.right

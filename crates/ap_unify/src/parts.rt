@@ -9,10 +9,10 @@ ghost use Rattle.ap_defs.specs.Unification.{bind, unless_occurs};
 ghost use Rattle.ap_store.specs.Triples.{IsPrefixOf};
 ghost use Rattle.ap_store.specs.Views.{bindings_of, kinds, present, versions};
 ghost use Rattle.ap_theory.specs.Variables.{IsUnbound};
-ghost use Rattle.ap_unify.specs.Parts.{AreBelowBoth, IsRuleFor, IsTurnBelow, plain_term, rule_of};
+ghost use Rattle.ap_unify.specs.Parts.{AreBelowBoth, IsHead, IsRuleFor, IsTurnBelow, plain_term, rule_of};
 ghost use Rattle.ap_unify.specs.Work.{GoOn, HasForm};
 
-use crate::heads::{Head, followed, head_of};
+use crate::heads::{Head, headed};
 use crate::pairs::Work;
 use crate::plain::{Plain, PlainPair};
 use crate::work::bind_var;
@@ -187,13 +187,17 @@ fn forms<'a>(pair: PlainPair<'a>) -> Turn<'a>
     }
 }
 
-/// The rule for two parts, once bindings at their heads are followed.
+/// The rule for two parts with these heads, once bindings there are followed.
 fn by_heads<'a>(
     alloc: Global,
     store: &mut Store<'a>,
     work: &mut Work<'a>,
     pair: PlainPair<'a>,
+    left: Head,
+    right: Head,
 ) -> Result<Turn<'a>, Memory>
+    requires left { IsHead (bindings_of store.old) (plain_term pair.left) left }
+    requires right { IsHead (bindings_of store.old) (plain_term pair.right) right }
     requires below { AreBelowBoth (present store.old).next pair }
     ensures turn { IfOk result (λ turn. IsRuleFor turn (bindings_of store.old)
         (bindings_of store.new) (rule_of (bindings_of store.old) pair.entry)) }
@@ -204,7 +208,7 @@ fn by_heads<'a>(
     ensures past { IsPrefixOf (versions store.old) (versions store.new) }
     ensures kinds { kinds store.new ≡ kinds store.old }
 {
-    match (head_of(store, pair.left), head_of(store, pair.right)) {
+    match (left, right) {
         (Head::Form, Head::Form) => Ok(forms(pair)),
         (Head::Free(x), Head::Form) => bind_unless_occurs(alloc, store, work, x, pair.right),
         (Head::Form, Head::Free(y)) => bind_unless_occurs(alloc, store, work, y, pair.left),
@@ -230,7 +234,11 @@ pub fn step_parts<'a>(
     ensures past { IsPrefixOf (versions store.old) (versions store.new) }
     ensures kinds { kinds store.new ≡ kinds store.old }
 {
-    let left = followed(store, pair.left);
-    let right = followed(store, pair.right);
-    by_heads(alloc, store, work, PlainPair { left, right })
+    let left = headed(store, pair.left);
+    let right = headed(store, pair.right);
+    let pair = PlainPair {
+        left: left.part,
+        right: right.part,
+    };
+    by_heads(alloc, store, work, pair, left.head, right.head)
 }

@@ -13,7 +13,7 @@ returns-in-Form-Free-clause-turn c =
     let y = c.in-Form-Free.y in
     if_ok c.bind_unless_occurs.result
     (λ turn h. subst (IsRuleFor turn s (bindings_of c.bind_unless_occurs.new.store))
-    (bound_right s y l r (head_form s l c.head_of.result c.head_of.ensures c.in-Form-Free.is-0) (head_free s r c.head_of-2.result y c.head_of-2.ensures c.in-Form-Free.is-1)) h)
+    (bound_right s y l r (head_form s l c.args.left c.requires.left c.in-Form-Free.is-0) (head_free s r c.args.right y c.requires.right c.in-Form-Free.is-1)) h)
     c.bind_unless_occurs.ensures.turn
 
 pub returns-in-Free-Form-clause-turn : goal.returns-in-Free-Form-clause-turn
@@ -24,7 +24,7 @@ returns-in-Free-Form-clause-turn c =
     let x = c.in-Free-Form.x in
     if_ok c.bind_unless_occurs-in-Free-Form.result
     (λ turn h. subst (IsRuleFor turn s (bindings_of c.bind_unless_occurs-in-Free-Form.new.store))
-    (bound_left s x l r (head_free s l c.head_of.result x c.head_of.ensures c.in-Free-Form.is-0) (head_form s r c.head_of-2.result c.head_of-2.ensures c.in-Free-Form.is-1)) h)
+    (bound_left s x l r (head_free s l c.args.left x c.requires.left c.in-Free-Form.is-0) (head_form s r c.args.right c.requires.right c.in-Free-Form.is-1)) h)
     c.bind_unless_occurs-in-Free-Form.ensures.turn
 
 pub returns-in-Form-Form-clause-below : goal.returns-in-Form-Form-clause-below
