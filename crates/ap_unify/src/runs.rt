@@ -11,6 +11,7 @@ ghost use Rattle.ap_unify.specs.Runs.{paired, stage_under};
 ghost use Rattle.ap_unify.specs.Work.{ArePairsBelow, GoOn, IsPairBelow, ending_if, equations_left, pair_equation, problems_met, progress_if, work_stage};
 
 use crate::pairs::{ClosurePair, Work};
+use crate::parts::Ahead;
 use crate::plain::{Plain, PlainPair};
 use crate::terms::Terms;
 use crate::ways::{Front, Way, next_way};
@@ -34,8 +35,12 @@ fn along<'a>(
     ensures past { IsPrefixOf (versions store.old) (versions store.new) }
     ensures kinds { kinds store.new ≡ kinds store.old }
 {
+    let ahead = Ahead {
+        next: first,
+        later: first,
+    };
     let mut front = Front {
-        pair: first,
+        ahead,
         waiting: None,
     };
     'going: loop {

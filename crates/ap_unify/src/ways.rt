@@ -11,17 +11,17 @@ ghost use Rattle.ap_unify.specs.Work.{ArePairsBelow, GoOn, equations_left, probl
 ghost use Rattle.ap_unify.specs.declared.pairs.Work.{Work};
 
 use crate::pairs::{ClosurePair, Work};
-use crate::parts::{Turn, step_parts};
+use crate::parts::{Ahead, Turn, step_parts};
 use crate::plain::PlainPair;
 use crate::work::{by_rule, put_equation};
 use ap_defs::memory::Memory;
 use ap_store::store::Store;
 use std::alloc::Global;
 
-/// An equation of two parts in front of those that are left, and maybe one between that waits.
+/// An equation of two parts ahead of those that are left, and maybe one between that waits.
 #[derive(Clone, Copy)]
 pub struct Front<'a> {
-    pub pair: PlainPair<'a>,
+    pub ahead: Ahead<'a>,
     pub waiting: Option<PlainPair<'a>>,
 }
 
@@ -86,10 +86,8 @@ fn after_done(front: &mut Front<'_>) -> Way
     match front.waiting {
         None => Way::End(true),
         Some(pair) => {
-            *front = Front {
-                pair,
-                waiting: None,
-            };
+            front.ahead.next = pair;
+            front.waiting = None;
             Way::On
         }
     }
@@ -102,33 +100,27 @@ pub fn next_way<'a>(
     work: &mut Work<'a>,
     front: &mut Front<'a>,
 ) -> Result<Way, Memory>
-    requires pair { AreBelowBoth (present store.old).next front.old.pair }
+    requires pair { AreBelowBoth (present store.old).next front.old.ahead.next }
     requires waiting { IsWaitingBelow (present store.old).next front.old.waiting }
     ensures stage { IfOk result (λ way. progress_to way (bindings_of store.new) front.new work.new
-        ≡ step (stage_of (bindings_of store.old) front.old.pair front.old.waiting work.old)) }
+        ≡ step (stage_of (bindings_of store.old) front.old.ahead.next front.old.waiting work.old)) }
     ensures below { IfOk result (λ way. IsWayBelow (present store.old).next way front.new) }
     ensures goes_on { OnOk result (GoOn (present store.old) work.old (present store.new) work.new) }
     ensures past { IsPrefixOf (versions store.old) (versions store.new) }
     ensures kinds { kinds store.new ≡ kinds store.old }
 {
-    match step_parts(alloc, store, work, front.pair)? {
+    match step_parts(alloc, store, work, &mut front.ahead)? {
         Turn::Clash => Ok(Way::End(false)),
         Turn::Done => Ok(after_done(front)),
-        Turn::On(next) => {
-            front.pair = next;
-            Ok(Way::On)
-        }
-        Turn::Both(next, later) => {
+        Turn::On => Ok(Way::On),
+        Turn::Both => {
             put_waiting(alloc, work, front.waiting)?;
-            *front = Front {
-                pair: next,
-                waiting: Some(later),
-            };
+            front.waiting = Some(front.ahead.later);
             Ok(Way::On)
         }
         Turn::Other => {
             put_waiting(alloc, work, front.waiting)?;
-            let solved = by_closures(alloc, store, work, front.pair)?;
+            let solved = by_closures(alloc, store, work, front.ahead.next)?;
             Ok(Way::End(solved))
         }
     }

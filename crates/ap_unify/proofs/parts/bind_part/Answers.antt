@@ -17,7 +17,7 @@ bind_var-requires-clause-absent c =
     ap (λ t. occurs c.args.x (under (bindings_of c.args.store.now) t)) c.closure.ensures ∙ c.requires.absent
 
 pub returns-clause-turn : goal.returns-clause-turn
-returns-clause-turn c = λ es ps.
+returns-clause-turn c = λ f es ps.
     let s = bindings_of c.args.store.now in
     carried_bind s (bindings_of c.bind_var.new.store) c.args.x (under s (closure_term c.closure.result)) c.requires.unbound c.in_ok-bind_var.ensures.bindings es ps
     ∙ ap (λ (t : NominalTerm). apply_rule (bind c.args.x (under s t)) (map (equation_under s) es) (map (problem_under s) ps) s) c.closure.ensures

@@ -14,7 +14,7 @@ returns-in-End-clause-stage c =
     let s = bindings_of c.next_way.new.store in
     let w = c.next_way.new.work in
     let f = c.next_way.new.front in
-    let before = stage_of (bindings_of c.going.store) c.going.front.pair c.going.front.waiting c.going.work in
+    let before = stage_of (bindings_of c.going.store) c.going.front.ahead.next c.going.front.waiting c.going.work in
     let p = progress_if c.in-End.goes_on (work_stage s w) in
     let e : p ≡ step before = subst (λ x. progress_to x s f w ≡ step before) c.in-End.is c.in_ok-goes_on.ensures.stage in
     c.going.invariant.leads p (leads_now before p (sym e))
@@ -24,8 +24,8 @@ going-smaller c =
     let s = bindings_of c.next_way.new.store in
     let w = c.next_way.new.work in
     let f = c.next_way.new.front in
-    let before = stage_of (bindings_of c.going.store) c.going.front.pair c.going.front.waiting c.going.work in
-    let after = stage_of s f.pair f.waiting w in
+    let before = stage_of (bindings_of c.going.store) c.going.front.ahead.next c.going.front.waiting c.going.work in
+    let after = stage_of s f.ahead.next f.waiting w in
     let e : next after ≡ step before = subst (λ x. progress_to x s f w ≡ step before) c.in-On.is c.in_ok-goes_on.ensures.stage in
     let k : steps_left before ≡ 1 + steps_left after = steps_left_next before after (sym e) in
     omega arith
@@ -38,14 +38,14 @@ going-preserved c =
     let s = bindings_of c.next_way.new.store in
     let w = c.next_way.new.work in
     let f = c.next_way.new.front in
-    let before = stage_of (bindings_of c.going.store) c.going.front.pair c.going.front.waiting c.going.work in
-    let after = stage_of s f.pair f.waiting w in
+    let before = stage_of (bindings_of c.going.store) c.going.front.ahead.next c.going.front.waiting c.going.work in
+    let after = stage_of s f.ahead.next f.waiting w in
     let e : next after ≡ step before = subst (λ x. progress_to x s f w ≡ step before) c.in-On.is c.in_ok-goes_on.ensures.stage in
     let n = c.in_ok-goes_on.ensures.goes_on.next in
     let below : IsWayBelow b.next ways.On f = subst (λ x. IsWayBelow b.next x f) c.in-On.is c.in_ok-goes_on.ensures.below in
     record {
       leads = λ p h. c.going.invariant.leads p (leads_on before after p (sym e) h);
-      pair_below = subst (λ m. AreBelowBoth m f.pair) (sym n) below.0;
+      pair_below = subst (λ m. AreBelowBoth m f.ahead.next) (sym n) below.0;
       waiting_below = subst (λ m. IsWaitingBelow m f.waiting) (sym n) below.1;
       goes_on = go_on_on a b d c.args.work.now c.going.work w c.going.invariant.goes_on c.in_ok-goes_on.ensures.goes_on;
       past = goes_on_on (versions c.args.store.now) (versions c.going.store) (versions c.next_way.new.store) c.going.invariant.past c.next_way.ensures.past;
