@@ -19,9 +19,9 @@ module _ (s r : List Binding) (pair : PlainPair) (o : Option PlainPair) (w v : W
   same_behind : step (stage_under s (parts_equation pair ∷ (waiting_equations o ++ equations_left v)) (problems_met v)) ≡ stepped
   same_behind = ap₂ (λ es ps. step (stage_under s (parts_equation pair ∷ (waiting_equations o ++ map pair_equation (reverse es))) (map problem_for ps))) e f
 
-  module _ (f : Ahead) (turn : Turn) (h : IsRuleFor turn f s r (rule_of s pair)) where
-    turned : (t : Turn) → turn ≡ t → IsRuleFor t f s r (rule_of s pair)
-    turned t k = subst (λ x. IsRuleFor x f s r (rule_of s pair)) k h
+  module _ (ahead : Ahead) (turn : Turn) (h : IsRuleFor turn ahead s r (rule_of s pair)) where
+    turned : (t : Turn) → turn ≡ t → IsRuleFor t ahead s r (rule_of s pair)
+    turned t k = subst (λ x. IsRuleFor x ahead s r (rule_of s pair)) k h
 
     pub clash_way : turn ≡ turns.Clash → failed ≡ stepped
     clash_way k = turned turns.Clash k (waiting_equations o ++ equations_left v) (problems_met v) ∙ same_behind
@@ -29,21 +29,21 @@ module _ (s r : List Binding) (pair : PlainPair) (o : Option PlainPair) (w v : W
     pub done_way : turn ≡ turns.Done → next (stage_under r (waiting_equations o ++ equations_left v) (problems_met v)) ≡ stepped
     done_way k = turned turns.Done k (waiting_equations o ++ equations_left v) (problems_met v) ∙ same_behind
 
-    pub on_way : turn ≡ turns.On → next (stage_of r f.next o v) ≡ stepped
+    pub on_way : turn ≡ turns.On → next (stage_of r ahead.next o v) ≡ stepped
     on_way k = turned turns.On k (waiting_equations o ++ equations_left v) (problems_met v) ∙ same_behind
 
     -- once the one that waits is put to the others
     module _ (u : Work) (g : equations_left u ≡ waiting_equations o ++ equations_left v) (i : u.problems.items ≡ v.problems.items) where
-      pub both_way : turn ≡ turns.Both → next (stage_of r f.next (Some f.later) u) ≡ stepped
+      pub both_way : turn ≡ turns.Both → next (stage_of r ahead.next (Some ahead.later) u) ≡ stepped
       both_way k =
-          ap₂ (λ es ps. next (stage_under r (parts_equation f.next ∷ parts_equation f.later ∷ es) (map problem_for ps))) g i
+          ap₂ (λ es ps. next (stage_under r (parts_equation ahead.next ∷ parts_equation ahead.later ∷ es) (map problem_for ps))) g i
           ∙ turned turns.Both k (waiting_equations o ++ equations_left v) (problems_met v) ∙ same_behind
 
-      pub other_way : turn ≡ turns.Other → step (stage_with r f.next u) ≡ stepped
+      pub other_way : turn ≡ turns.Other → step (stage_with r ahead.next u) ≡ stepped
       other_way k =
           let es = map (equation_under s) (waiting_equations o ++ equations_left v) in
           let ps = map (problem_under s) (problems_met v) in
-          let e = turned turns.Other k in
-          ap₂ (λ ds qs. step (stage_under r (parts_equation f.next ∷ ds) (map problem_for qs))) g i
-          ∙ ap (λ b. step (stage_under b (parts_equation f.next ∷ (waiting_equations o ++ equations_left v)) (problems_met v))) e.0
-          ∙ ap (λ q. apply_rule q es ps s) e.1 ∙ same_behind
+          let m = turned turns.Other k in
+          ap₂ (λ ds qs. step (stage_under r (parts_equation ahead.next ∷ ds) (map problem_for qs))) g i
+          ∙ ap (λ b. step (stage_under b (parts_equation ahead.next ∷ (waiting_equations o ++ equations_left v)) (problems_met v))) m.0
+          ∙ ap (λ q. apply_rule q es ps s) m.1 ∙ same_behind

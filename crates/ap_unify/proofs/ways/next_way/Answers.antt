@@ -30,6 +30,16 @@ returns-in-On-clause-stage c =
     on_way (bindings_of c.args.store.now) r c.args.front.now.ahead.next c.args.front.now.waiting c.args.work.now v c.step_parts.ensures.equations c.step_parts.ensures.problems
     c.step_parts.new.ahead c.in_ok-step_parts.field-0 c.in_ok-step_parts.ensures.turn c.in-On.is
 
+pub returns-in-On-clause-below : goal.returns-in-On-clause-below
+returns-in-On-clause-below c =
+    let n = (present c.args.store.now).next in
+    (subst (λ t. IsTurnBelow n t c.step_parts.new.ahead) c.in-On.is c.in_ok-step_parts.ensures.below, c.requires.waiting)
+
+pub returns-in_ok-put_waiting-in-Both-clause-below : goal.returns-in_ok-put_waiting-in-Both-clause-below
+returns-in_ok-put_waiting-in-Both-clause-below c =
+    let n = (present c.args.store.now).next in
+    subst (λ t. IsTurnBelow n t c.step_parts.new.ahead) c.in-Both.is c.in_ok-step_parts.ensures.below
+
 pub returns-in_ok-put_waiting-in-Both-clause-stage : goal.returns-in_ok-put_waiting-in-Both-clause-stage
 returns-in_ok-put_waiting-in-Both-clause-stage c =
     let r = bindings_of c.step_parts.new.store in
