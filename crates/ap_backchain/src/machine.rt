@@ -91,7 +91,8 @@ impl<'a> Machine<'a> {
     }
 
     /// The variables among identifiers were brought that are not marked as bound, the first number
-    /// being `base`. Numbers of `2 ^ 32` and more are want of memory, as they are to the store.
+    /// being `base`. Where there are no identifiers it takes no memory. Numbers of `2 ^ 32` and more are
+    /// want of memory, as they are to the store.
     #[tactic(auto, using(crate::proofs::BroughtLemmas::brought_more))]
     pub fn push_locals(&mut self, base: u64, locals: &'a List<Local>) -> Result<(), Memory>
         ensures position { OnOk result (position_of self.new
@@ -99,6 +100,9 @@ impl<'a> Machine<'a> {
         ensures goes { OnOk result (GoesFrom (track_of self.old) (track_of self.new)) }
         ensures next { OnOk result (next_of self.new ≡ next_of self.old) }
     {
+        if locals.items().is_empty() {
+            return Ok(());
+        }
         if base > u32::MAX as u64 {
             return Err(Memory);
         }
