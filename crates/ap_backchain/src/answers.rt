@@ -109,7 +109,8 @@ pub fn answer_in(
 ) -> Result<Answer, Memory>
     requires { length locals.now < 2 ^ 64 }
     ensures { IfOk result (λ a. answer_of a
-        ≡ answer_by_unbound (locals_of locals.now) (state_in store.now) (vars_of_brought brought.now)) }
+        ≡ answer_by_unbound (locals_of locals.now) (state_in store.now)
+        (vars_of_brought brought.now)) }
 {
     let free = vars_of_locals(alloc, 0, locals)?;
     let binds = closed(alloc, store, &free)?;
