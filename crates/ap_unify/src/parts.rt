@@ -16,7 +16,7 @@ ghost use Rattle.ap_unify.specs.declared.parts.Ahead.{Ahead};
 use crate::heads::{Head, headed};
 use crate::pairs::Work;
 use crate::plain::{Plain, PlainPair};
-use crate::work::bind_var;
+use crate::work::bind_plain;
 use ap_defs::memory::Memory;
 use ap_defs::terms::{Name, Term, Var};
 use ap_perm::joining::numbered;
@@ -64,7 +64,7 @@ fn bind_part<'a>(
     ensures past { IsPrefixOf (versions store.old) (versions store.new) }
     ensures kinds { kinds store.new ≡ kinds store.old }
 {
-    bind_var(alloc, store, work, x, p.closure(alloc))?;
+    bind_plain(alloc, store, work, x, p)?;
     Ok(Turn::Done)
 }
 
