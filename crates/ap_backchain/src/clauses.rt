@@ -112,7 +112,7 @@ pub fn enter_clause<'a>(
         None => Ok(false),
         Some(start) => {
             machine.push_choice(choice)?;
-            machine.push_locals(start, clause.locals.items())?;
+            machine.push_locals(start, &clause.locals)?;
             machine.push_goal(&clause.body, start, depth)?;
             Ok(true)
         }

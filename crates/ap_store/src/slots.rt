@@ -40,6 +40,30 @@ pub fn value_of<'a>(alloc: Global, c: Closure<'a>) -> Result<Value<'a>, Memory>
     Ok(Value::Moved(moved))
 }
 
+/// A binding to a term on which no swappings wait, whose identifiers are numbered from `base` on, below
+/// `end`.
+pub fn value_at<'a>(
+    alloc: Global,
+    base: u64,
+    end: u64,
+    term: &'a Term,
+) -> Result<Value<'a>, Memory>
+    requires { IsBelow end (rename_term base (term_of term.now)) }
+    ensures term { IfOk result (λ b. value_term b ≡ Some (rename_term base (term_of term.now))) }
+    ensures below { IfOk result (λ b. IsKeptBelow end b) }
+{
+    if base <= u32::MAX as u64 {
+        return Ok(Value::Plain(base as u32, term));
+    }
+    let c = Closure {
+        swaps: Vec::new(alloc),
+        base,
+        end,
+        term,
+    };
+    value_of(alloc, c)
+}
+
 /// The closure of a binding; where no swappings wait on it, its numbers are below `end`. It takes no
 /// memory.
 pub fn lent_value<'s, 'a>(b: &'s Value<'a>, end: u64) -> Option<Lent<'s, 'a>>

@@ -7,11 +7,11 @@ ghost use Rattle.ap_store.specs.Trails.{no_rank, nothing_bound, rank_after, raw_
 
 use crate::changes::{Entry, Noted};
 use crate::held::{all_of, held_of, hold, let_go, put_back, take_out};
-use crate::slots::{Slot, Value, value_of};
+use crate::slots::{Slot, Value, value_at, value_of};
 use crate::tables::{add_slots, bound_at, put_value};
 use ap_defs::goals::{Kind, Local};
 use ap_defs::memory::Memory;
-use ap_defs::terms::{Cond, Var};
+use ap_defs::terms::{Cond, Term, Var};
 use ap_fresh::sets::make_set;
 use ap_perm::closures::{Closure, Lent};
 use std::alloc::Global;
@@ -43,9 +43,10 @@ pub struct Store<'a> {
 
 impl<'a> Store<'a> {
     ghost use Rattle.std.specs.Prelude.{◌≡◌, ◌+◌, ◌≤◌, ◌<◌, ◌++◌, ◌∷◌, [], false, true, Some, None, IfOk, MatchOption, OnOk, OnErr, filter, length, slice_get, take, vec_len, vec_capacity};
-    ghost use Rattle.ap_defs.specs.Renaming.{IsBelow};
+    ghost use Rattle.ap_defs.specs.Renaming.{IsBelow, rename_term};
     ghost use Rattle.ap_defs.specs.Resolution.{kinds_of};
     ghost use Rattle.ap_defs.specs.Substitution.{occurs, under};
+    ghost use Rattle.ap_defs.specs.Terms.{term_of};
     ghost use Rattle.ap_defs.specs.Types.{kind_of, locals_of};
     ghost use Rattle.ap_perm.specs.Closures.{closure_term, lent_term};
     ghost use Rattle.ap_theory.specs.Variables.{IsUnbound};
@@ -110,6 +111,38 @@ impl<'a> Store<'a> {
     {
         let end = c.end;
         let value = value_of(alloc, c)?;
+        let taken = self.take_conditions(alloc, x)?;
+        self.note_binding(x, value, end);
+        Ok(taken)
+    }
+
+    /// Binds an unbound variable to a term on which no swappings wait, whose identifiers are numbered
+    /// from `base` on, below `end`, and in which it does not occur. It answers the conditions on the
+    /// variable, which are taken out. After want of memory the store is as before.
+    pub fn bind_term(
+        &mut self,
+        alloc: Global,
+        x: Var,
+        base: u64,
+        end: u64,
+        term: &'a Term,
+    ) -> Result<Vec<Cond>, Memory>
+        requires made { x.num < (present self.old).next }
+        requires unbound { IsUnbound (bindings_of self.old) x }
+        requires within { IsBelow end (rename_term base (term_of term.now)) }
+        requires term { IsBelow (present self.old).next (rename_term base (term_of term.now)) }
+        requires absent { occurs x (under (bindings_of self.old)
+            (rename_term base (term_of term.now))) ≡ false }
+        ensures taken { IfOk result (λ conds. conds.items
+            ≡ filter (is_on x) (present self.old).conditions) }
+        ensures present { OnOk result (present self.new
+            ≡ with_binding x (under (bindings_of self.old) (rename_term base (term_of term.now)))
+            (present self.old)) }
+        ensures past { OnOk result (IsPrefixOf (versions self.old) (versions self.new)) }
+        ensures kinds { kinds self.new ≡ kinds self.old }
+        ensures unchanged { OnErr result (IsUnchanged self.old self.new) }
+    {
+        let value = value_at(alloc, base, end, term)?;
         let taken = self.take_conditions(alloc, x)?;
         self.note_binding(x, value, end);
         Ok(taken)
@@ -210,13 +243,13 @@ impl<'a> Store<'a> {
         ensures unchanged { OnErr result (IsUnchanged self.old self.new) }
     {
         self.trail.reserve(2)?;
-        self.noted.reserve(1)?;
         let conds = held_of(&self.held, x.num as usize);
         if conds.is_empty() {
             return Ok(Vec::new(alloc));
         }
         let mut taken = conds.to_vec(alloc)?;
         make_set(&mut taken);
+        self.noted.reserve(1)?;
         self.note_taken(x);
         Ok(taken)
     }
