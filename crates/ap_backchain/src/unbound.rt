@@ -14,15 +14,19 @@ use crate::renaming::is_free_var;
 use ap_defs::goals::Local;
 use ap_defs::memory::Memory;
 use ap_defs::terms::Var;
+use ap_store::slots::Found;
 use ap_store::store::Store;
 use std::alloc::Global;
 
 /// Whether a variable stands for itself.
-#[tactic(auto, using(crate::proofs::AnswerLemmas::bound_tells))]
 fn is_unbound(store: &Store<'_>, x: Var) -> bool
     ensures { result ≡ not (is_bound x (bindings_of store.now)) }
 {
-    store.binding(x).is_none()
+    match store.found(x) {
+        Found::Nothing => true,
+        Found::Plain(_) => false,
+        Found::Moved(_) => false,
+    }
 }
 
 /// Those of the variables among identifiers that are not marked as bound, the first number being

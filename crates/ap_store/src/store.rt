@@ -5,10 +5,11 @@ ghost use Rattle.ap_store.specs.Changes.{empty};
 ghost use Rattle.ap_store.specs.Slots.{AreHeld, IsStored, changes_in, held_prop, stored_prop};
 ghost use Rattle.ap_store.specs.Trails.{no_rank, nothing_bound, rank_after, raw_after};
 
+use crate::bare::Bare;
 use crate::changes::{Entry, Noted};
 use crate::held::{all_of, held_of, hold, let_go, put_back, take_out};
-use crate::slots::{Slot, Value, value_at, value_of};
-use crate::tables::{add_slots, bound_at, put_value};
+use crate::slots::{Found, Slot, Value, value_of};
+use crate::tables::{add_slots, bound_at, found_at, put_value};
 use ap_defs::goals::{Kind, Local};
 use ap_defs::memory::Memory;
 use ap_defs::terms::{Cond, Term, Var};
@@ -51,6 +52,7 @@ impl<'a> Store<'a> {
     ghost use Rattle.ap_perm.specs.Closures.{closure_term, lent_term};
     ghost use Rattle.ap_theory.specs.Variables.{IsUnbound};
     ghost use Rattle.ap_store.specs.Changes.{has_on, replace_conditions, with_bound};
+    ghost use Rattle.ap_store.specs.Founds.{IsBareOf, IsFound};
     ghost use Rattle.ap_store.specs.Slots.{IsKeptBelow, value_term, kept_term};
     ghost use Rattle.ap_store.specs.Triples.{AreOnUnbound, IsPrefixOf, is_apart, is_on, with_binding, with_conditions, with_next};
     ghost use Rattle.ap_store.specs.Views.{IsUnchanged, bindings_of, kinds, meaning_in, past, present, raw_bound, versions};
@@ -116,25 +118,17 @@ impl<'a> Store<'a> {
         Ok(taken)
     }
 
-    /// Binds an unbound variable to a term on which no swappings wait, whose identifiers are numbered
-    /// from `base` on, below `end`, and in which it does not occur. It answers the conditions on the
-    /// variable, which are taken out. After want of memory the store is as before.
-    pub fn bind_term(
-        &mut self,
-        alloc: Global,
-        x: Var,
-        base: u64,
-        end: u64,
-        term: &'a Term,
-    ) -> Result<Vec<Cond>, Memory>
+    /// Binds an unbound variable, on which there are no conditions, to a term on which no swappings wait,
+    /// whose identifiers are numbered from `base` on, below `end`, and in which it does not occur. After
+    /// want of memory the store is as before; a `base` of `2 ^ 32` and more is such a want.
+    pub fn bind_free(&mut self, x: Var, base: u64, end: u64, term: &'a Term) -> Result<(), Memory>
         requires made { x.num < (present self.old).next }
         requires unbound { IsUnbound (bindings_of self.old) x }
+        requires apart { has_on x (present self.old).conditions ≡ false }
         requires within { IsBelow end (rename_term base (term_of term.now)) }
         requires term { IsBelow (present self.old).next (rename_term base (term_of term.now)) }
         requires absent { occurs x (under (bindings_of self.old)
             (rename_term base (term_of term.now))) ≡ false }
-        ensures taken { IfOk result (λ conds. conds.items
-            ≡ filter (is_on x) (present self.old).conditions) }
         ensures present { OnOk result (present self.new
             ≡ with_binding x (under (bindings_of self.old) (rename_term base (term_of term.now)))
             (present self.old)) }
@@ -142,10 +136,12 @@ impl<'a> Store<'a> {
         ensures kinds { kinds self.new ≡ kinds self.old }
         ensures unchanged { OnErr result (IsUnchanged self.old self.new) }
     {
-        let value = value_at(alloc, base, end, term)?;
-        let taken = self.take_conditions(alloc, x)?;
-        self.note_binding(x, value, end);
-        Ok(taken)
+        if base > u32::MAX as u64 {
+            return Err(Memory);
+        }
+        self.make_room()?;
+        self.note_binding(x, Value::Plain(base as u32, term), end);
+        Ok(())
     }
 
     /// Adds conditions on unbound variables. After want of memory the store is as before.
@@ -196,6 +192,32 @@ impl<'a> Store<'a> {
         bound_at(&self.table, x.num, self.reach)
     }
 
+    /// What a look at a variable finds. It takes no memory.
+    pub fn found(&self, x: Var) -> Found<'a>
+        ensures { IsFound (raw_bound self.now x) result }
+    {
+        found_at(&self.table, x.num, self.reach)
+    }
+
+    /// The term of the closure to which a variable is bound, without the swappings that wait on it, or none
+    /// where it is unbound. It takes no memory.
+    pub(crate) fn bare(&self, x: Var) -> Option<Bare<'a>>
+        ensures { IsBareOf (raw_bound self.now x) result }
+    {
+        match self.found(x) {
+            Found::Nothing => None,
+            Found::Plain(b) => Some(b),
+            Found::Moved(b) => Some(b),
+        }
+    }
+
+    /// Whether there are conditions on a variable. It takes no memory.
+    pub fn has_conditions(&self, x: Var) -> bool
+        ensures { result ≡ has_on x (present self.now).conditions }
+    {
+        !held_of(&self.held, x.num as usize).is_empty()
+    }
+
     /// Whether the variable is so new that neither the closure nor any bound one can have it.
     pub(crate) fn is_new(&self, x: Var, c: &Closure<'_>) -> bool
         ensures { result ≡ true →
@@ -227,6 +249,17 @@ impl<'a> Store<'a> {
         ensures { slice_get (kinds self.now) num ≡ Some (kind_of result.now) }
     {
         &self.table[num as usize].local.kind
+    }
+
+    /// Makes room for one more change.
+    fn make_room(&mut self) -> Result<(), Memory>
+        ensures present { present self.new ≡ present self.old }
+        ensures versions { versions self.new ≡ versions self.old }
+        ensures kinds { kinds self.new ≡ kinds self.old }
+        ensures room { OnOk result (vec_len self.new.trail < vec_capacity self.new.trail) }
+    {
+        self.trail.reserve(1)?;
+        Ok(())
     }
 
     /// Takes the conditions on a variable out, and leaves room for one more change.

@@ -1,6 +1,6 @@
 //! What stands at the head of a part of a term.
 
-ghost use Rattle.std.specs.Prelude.{◌≡◌, MatchOption};
+ghost use Rattle.std.specs.Prelude.{◌≡◌};
 ghost use Rattle.ap_defs.specs.Renaming.{IsBelow};
 ghost use Rattle.ap_defs.specs.Substitution.{under};
 ghost use Rattle.ap_store.specs.Views.{bindings_of, present, rank};
@@ -8,6 +8,7 @@ ghost use Rattle.ap_unify.specs.Parts.{IsHead, IsLook, plain_term};
 
 use crate::plain::Plain;
 use ap_defs::terms::{Term, Var};
+use ap_store::slots::Found;
 use ap_store::store::Store;
 
 /// No suspension, an unbound variable on which no swappings wait, or another suspension.
@@ -28,20 +29,9 @@ pub enum Look<'a> {
 
 /// A part, and what stands at its head.
 #[derive(Clone, Copy)]
-pub struct Headed<'a> {
+pub struct PartWithHead<'a> {
     pub part: Plain<'a>,
     pub head: Head,
-}
-
-/// What a look finds at a bound variable: it ends there where swappings wait on what is bound.
-fn look_on<'a>(bound: Option<Plain<'a>>) -> Look<'a>
-    ensures { MatchOption bound.entry (result ≡ Look.Ends Head.Other)
-        (λ q. result ≡ Look.Further q) }
-{
-    match bound {
-        None => Look::Ends(Head::Other),
-        Some(further) => Look::Further(further),
-    }
 }
 
 /// A look at the head of a part. It takes no memory.
@@ -61,9 +51,14 @@ fn look_at<'a>(store: &Store<'a>, p: Plain<'a>) -> Look<'a>
             let x = Var {
                 num: p.base + x.num,
             };
-            match store.binding(x) {
-                None => Look::Ends(Head::Free(x)),
-                Some(bound) => look_on(Plain::of_lent(bound)),
+            match store.found(x) {
+                Found::Nothing => Look::Ends(Head::Free(x)),
+                Found::Moved(_) => Look::Ends(Head::Other),
+                Found::Plain(b) => Look::Further(Plain {
+                    base: b.base,
+                    end: b.end,
+                    term: b.term,
+                }),
             }
         }
     }
@@ -71,7 +66,7 @@ fn look_at<'a>(store: &Store<'a>, p: Plain<'a>) -> Look<'a>
 
 /// A part that stands for the same term, with bindings at its head followed as long as no swappings
 /// wait, and what stands at its head then. It takes no memory.
-pub fn headed<'a>(store: &Store<'a>, mut p: Plain<'a>) -> Headed<'a>
+pub fn headed<'a>(store: &Store<'a>, mut p: Plain<'a>) -> PartWithHead<'a>
     ensures meaning { under (bindings_of store.now) (plain_term result.part)
         ≡ under (bindings_of store.now) (plain_term p.entry) }
     ensures below { IsBelow (present store.now).next (plain_term p.entry) →
@@ -80,7 +75,7 @@ pub fn headed<'a>(store: &Store<'a>, mut p: Plain<'a>) -> Headed<'a>
 {
     'following: loop {
         match look_at(store, p) {
-            Look::Ends(head) => return Headed { part: p, head },
+            Look::Ends(head) => return PartWithHead { part: p, head },
             Look::Further(further) => p = further,
         }
     }

@@ -1,6 +1,6 @@
 //! The rules for two parts of terms on which no swappings wait.
 
-ghost use Rattle.std.specs.Prelude.{◌≡◌, ◌<◌, ◌+◌, ◌^◌, ℕ, List, [], false, IfOk, OnOk};
+ghost use Rattle.std.specs.Prelude.{◌≡◌, ◌<◌, ◌+◌, ℕ, List, [], false, IfOk, OnOk};
 ghost use Rattle.ap_defs.specs.Permutations.{name_eq};
 ghost use Rattle.ap_defs.specs.Renaming.{IsBelow, rename_name, rename_term};
 ghost use Rattle.ap_defs.specs.Substitution.{Binding, occurs, under};
@@ -131,14 +131,16 @@ fn variables<'a>(
     }
 }
 
-/// Whether two names are equal once they are numbered.
+/// Whether two names are equal once they are numbered as two parts are.
 #[tactic(auto, unfolding(ap_defs::specs::Permutations::name_eq))]
-fn same_name(base: u64, a: Name, other: u64, b: Name) -> bool
-    requires first { base + a.num < 2 ^ 64 }
-    requires second { other + b.num < 2 ^ 64 }
-    ensures { result ≡ name_eq (rename_name base a) (rename_name other b) }
+fn same_name(left: Plain<'_>, a: Name, right: Plain<'_>, b: Name) -> bool
+    requires left { left.base + a.num < left.end }
+    requires right { right.base + b.num < right.end }
+    ensures { result ≡ name_eq (rename_name left.entry.base a) (rename_name right.entry.base b) }
 {
-    numbered(base, a) == numbered(other, b)
+    let _end = left.end;
+    let _other_end = right.end;
+    numbered(left.base, a) == numbered(right.base, b)
 }
 
 /// Terms that are numbered as two parts are.
@@ -173,7 +175,7 @@ fn forms(ahead: &mut Ahead<'_>) -> Turn
     match (left.term, right.term) {
         (Term::Unit, Term::Unit) => Turn::Done,
         (Term::Name(a), Term::Name(b)) => {
-            if same_name(left.base, *a, right.base, *b) {
+            if same_name(left, *a, right, *b) {
                 Turn::Done
             } else {
                 Turn::Clash
@@ -193,7 +195,7 @@ fn forms(ahead: &mut Ahead<'_>) -> Turn
             }
         }
         (Term::Abs(a, t), Term::Abs(b, u)) => {
-            if same_name(left.base, *a, right.base, *b) {
+            if same_name(left, *a, right, *b) {
                 ahead.next = terms_of(pair, t, u);
                 Turn::On
             } else {

@@ -132,12 +132,10 @@ pub fn bind_plain<'a>(
     ensures past { IsPrefixOf (versions store.old) (versions store.new) }
     ensures kinds { kinds store.new ≡ kinds store.old }
 {
-    let mut conds = store.bind_term(alloc, x, p.base, p.end, p.term)?;
-    if conds.is_empty() {
-        return Ok(());
+    if store.has_conditions(x) {
+        return bind_var(alloc, store, work, x, p.closure(alloc));
     }
-    work.taken.append(&mut conds)?;
-    Ok(())
+    store.bind_free(x, p.base, p.end, p.term)
 }
 
 /// What a rule made of the first equation is carried out. It answers false where that is no
