@@ -79,7 +79,7 @@ fn unify_head<'a>(
         end,
         terms: &head[..count],
     };
-    if unify(alloc, &mut machine.store, left, right)? {
+    if unify(alloc, &mut machine.store, &mut machine.work, left, right)? {
         Ok(Some(start))
     } else {
         machine.store.undo_to(mark);

@@ -14,17 +14,20 @@ use ap_defs::lists::List;
 use ap_defs::memory::Memory;
 use ap_defs::terms::{Term, Var};
 use ap_store::store::Store;
+use ap_unify::pairs::Work;
 use std::alloc::Global;
 
 /// The machine of a search: what is bound and holds; the goal stack; the choices on the way; and the
 /// variables that clauses and `exists` brought, in order and in ranges. The search goes on in place,
-/// and can go back to where it was at an earlier choice point.
+/// and can go back to where it was at an earlier choice point. The memory of unification's work is kept
+/// from one to the next.
 #[derive(Drop)]
 pub struct Machine<'a> {
     pub store: Store<'a>,
     pub goals: GoalStack<'a>,
     pub path: Vec<u32>,
     pub brought: Vec<Brought<'a>>,
+    pub work: Work<'a>,
     pub ghost below: { AreWaitingBelow (present store).next (waiting_in goals) } by { waiting_prop (present store).next (waiting_in goals) },
 }
 
@@ -49,6 +52,7 @@ impl<'a> Machine<'a> {
             goals: GoalStack::new(alloc),
             path: Vec::new(alloc),
             brought: Vec::new(alloc),
+            work: Work::new(alloc),
         }
     }
 

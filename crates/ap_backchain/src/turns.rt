@@ -70,7 +70,7 @@ fn turn_of_equation<'a>(
         end,
         terms: slice::from_ref(u),
     };
-    let solved = unify(alloc, &mut machine.store, left, right)?;
+    let solved = unify(alloc, &mut machine.store, &mut machine.work, left, right)?;
     Ok(goes_where(solved))
 }
 
