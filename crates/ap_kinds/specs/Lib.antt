@@ -1,4 +1,5 @@
 pub mod Sorts
+pub mod Turned
 pub mod ItemKinds
 pub mod Reading
 pub mod ReadTypes
