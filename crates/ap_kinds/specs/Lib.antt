@@ -7,4 +7,3 @@ pub mod ShapeTests
 pub mod Systems
 pub mod Layers
 pub mod Gathering
-pub mod Views

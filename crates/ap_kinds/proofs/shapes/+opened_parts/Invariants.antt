@@ -4,10 +4,10 @@ use Rattle.ap_defs.specs.Types.{type_of}
 use Rattle.ap_defs.proofs.SpineLemmas.{type_size}
 use Rattle.ap_kinds.specs.Systems.{shape_of_type}
 use Rattle.ap_kinds.specs.Layers.{shape_within}
-use Rattle.ap_kinds.proofs.shapes.+opened.Given as goal
+use Rattle.ap_kinds.proofs.shapes.+opened_parts.Given as goal
 
-abbrev pub decreases-opened : goal.decreases-opened
-decreases-opened l = type_size (type_of l.t.now)
+abbrev pub decreases-opened_parts : goal.decreases-opened_parts
+decreases-opened_parts l = type_size (type_of l.t.now)
 
 abbrev pub invariant-loop-rest : goal.invariant-loop-rest
 invariant-loop-rest l = record {

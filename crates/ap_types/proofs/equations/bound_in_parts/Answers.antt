@@ -4,7 +4,7 @@ use Rattle.ap_types.specs.Loading.{parts_of}
 use Rattle.ap_types.specs.Solving.{size}
 use Rattle.ap_types.proofs.PartLemmas.{bounds_next, sizes_of_parts}
 use Rattle.ap_types.proofs.PartTests.{fewer_left}
-use Rattle.ap_types.proofs.equations.bound_in.Goals as goal
+use Rattle.ap_types.proofs.equations.bound_in_parts.Goals as goal
 
 pub parts-preserved : goal.parts-preserved
 parts-preserved c =

@@ -4,7 +4,7 @@ use Rattle.ap_defs.specs.Types.{shape_of}
 use Rattle.ap_types.specs.Triangular.{shapes_of_nodes}
 use Rattle.ap_types.specs.Loading.{lent_shapes}
 use Rattle.ap_types.proofs.PartLemmas.{Loading, sizes}
-use Rattle.ap_types.proofs.loading.load.Given as goal
+use Rattle.ap_types.proofs.loading.load_parts.Given as goal
 
 abbrev pub invariant-parts : goal.invariant-parts
 invariant-parts l = Loading (shapes_of_nodes l.fn.nodes.items) (shape_of l.t) (shapes_of_nodes l.nodes.items) (lent_shapes l.waiting.items) l.start l.next

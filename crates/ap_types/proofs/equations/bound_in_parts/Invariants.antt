@@ -5,7 +5,7 @@ use Rattle.ap_types.specs.Equations.{bound_of}
 use Rattle.ap_types.specs.Loading.{lent_shapes}
 use Rattle.ap_types.specs.Solving.{size}
 use Rattle.ap_types.proofs.PartLemmas.{bounds, sizes}
-use Rattle.ap_types.proofs.equations.bound_in.Given as goal
+use Rattle.ap_types.proofs.equations.bound_in_parts.Given as goal
 
 abbrev pub invariant-parts : goal.invariant-parts
 invariant-parts l = max l.bound (max (bounds (lent_shapes l.waiting.items)) (bound_of (shape_of l.part))) ≡ bound_of (shape_of l.t)

@@ -3,7 +3,7 @@ use Rattle.std.proofs.Common.{◌+◌, ◌*◌, length}
 use Rattle.ap_types.specs.Triangular.{shapes_of_nodes}
 use Rattle.ap_types.specs.Walking.{new_count}
 use Rattle.ap_types.proofs.WalkLemmas.{Explores}
-use Rattle.ap_types.proofs.walking.explore.Given as goal
+use Rattle.ap_types.proofs.walking.explore_parts.Given as goal
 
 abbrev pub invariant-steps : goal.invariant-steps
 invariant-steps l = Explores (shapes_of_nodes l.nodes) l.fn.walk.marks.items l.start l.now.marks.items l.now.left l.now.path.items
