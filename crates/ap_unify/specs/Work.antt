@@ -35,8 +35,8 @@ abbrev pub problems_met : Work → List Problem
 problems_met w = map problem_for w.problems.items
 
 -- nothing is left, nothing was met and nothing taken
-abbrev pub IsIdle : Work → Type 0
-IsIdle w = (w.equations.items ≡ []) × (w.problems.items ≡ []) × (w.taken.items ≡ [])
+abbrev pub HasNothingToDo : Work → Type 0
+HasNothingToDo w = (w.equations.items ≡ []) × (w.problems.items ≡ []) × (w.taken.items ≡ [])
 
 -- the stage of the run, under the bindings
 abbrev pub work_stage : List Binding → Work → Stage

@@ -28,11 +28,11 @@ pub struct Work<'a> {
 }
 
 impl<'a> Work<'a> {
-    ghost use Rattle.ap_unify.specs.Work.{IsIdle};
+    ghost use Rattle.ap_unify.specs.Work.{HasNothingToDo};
 
     /// Nothing to do. It takes no memory.
     pub fn new(alloc: Global) -> Work<'a>
-        ensures { IsIdle result }
+        ensures { HasNothingToDo result }
     {
         Work {
             equations: Vec::new(alloc),
@@ -43,7 +43,7 @@ impl<'a> Work<'a> {
 
     /// Nothing is left to do, and the memory is kept for what comes next.
     pub fn clear(&mut self)
-        ensures { IsIdle self.new }
+        ensures { HasNothingToDo self.new }
     {
         self.equations.clear();
         self.problems.clear();
