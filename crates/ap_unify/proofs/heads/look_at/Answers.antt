@@ -8,7 +8,8 @@ use Rattle.ap_store.specs.Founds.{IsWhatIsFound, bare_term}
 use Rattle.ap_store.specs.Views.{raw_bound}
 use Rattle.ap_unify.proofs.PartLemmas.{found_further, plain_susp}
 use Rattle.ap_unify.proofs.heads.look_at.Goals as goal
-use Rattle.ap_unify.specs.Parts.{HasVariable, plain_term}
+use Rattle.ap_unify.specs.Parts.{HasVariable}
+use Rattle.ap_equations.specs.Plain.{plain_term}
 
 pub returns-then-not-is_empty : goal.returns-then-not-is_empty
 returns-then-not-is_empty c =
