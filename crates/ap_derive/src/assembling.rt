@@ -3,14 +3,14 @@
 ghost use Rattle.std.specs.Prelude.{◌≡◌, [], ◌∷◌, Some, IfOk, List as list, OnOk, map};
 ghost use Rattle.ap_defs.specs.Answers.{derivation_in};
 ghost use Rattle.ap_defs.specs.Derivations.{NominalDerivation, derivation_of};
-ghost use Rattle.ap_backchain.specs.Views.{state_in};
+ghost use Rattle.ap_machine.specs.Views.{state_in};
 ghost use Rattle.ap_derive.specs.Nodes.{closed_node, made_in, selected_node, nodes_before, with_below};
 
 use crate::nodes::SelectedGoal;
-use ap_backchain::answers::{closed, closed_var};
 use ap_defs::lists::List;
 use ap_defs::memory::Memory;
 use ap_defs::outcomes::{ClauseUse, Derivation};
+use ap_machine::answers::{closed, closed_var};
 use ap_store::store::Store;
 use std::alloc::Global;
 

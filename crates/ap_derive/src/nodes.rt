@@ -7,11 +7,11 @@ ghost use Rattle.ap_defs.specs.Types.{kind_of, locals_of};
 ghost use Rattle.ap_defs.specs.declared.terms.Name.{Name as name};
 ghost use Rattle.ap_derive.specs.Nodes.{atom, names_with, selected_node};
 
-use ap_backchain::renaming::vars_of_locals;
 use ap_defs::goals::{Kind, Local};
 use ap_defs::lists::List;
 use ap_defs::memory::Memory;
 use ap_defs::terms::{Name, Var};
+use ap_machine::renaming::vars_of_locals;
 use std::alloc::Global;
 
 /// A goal that was selected: its node in the derivation, in which variables stand for themselves,

@@ -12,10 +12,10 @@ abbrev pub bare_term : Bare → NominalTerm
 bare_term b = rename_term b.base (term_of b.term.now)
 
 -- the term to which it is bound, in which no binding is carried out, if there is one
-abbrev pub IsFound : Option NominalTerm → Found → Type 0
-IsFound o founds.Nothing = o ≡ None
-IsFound o (founds.Plain b) = o ≡ Some (bare_term b)
-IsFound o (founds.Moved b) = (p : List Swap) × (o ≡ Some (act_term p (bare_term b)))
+abbrev pub IsWhatIsFound : Option NominalTerm → Found → Type 0
+IsWhatIsFound o founds.Nothing = o ≡ None
+IsWhatIsFound o (founds.Plain b) = o ≡ Some (bare_term b)
+IsWhatIsFound o (founds.Moved b) = (p : List Swap) × (o ≡ Some (act_term p (bare_term b)))
 
 -- likewise, whatever swappings wait
 abbrev pub IsBareOf : Option NominalTerm → Option Bare → Type 0

@@ -1,7 +1,7 @@
 use Rattle.std.proofs.Common.{◌≡◌, List, [], ◌∷◌, length, length-append, ap, ◌∙◌, sym, arith}
 use Rattle.std.proofs.lemmas.List.{append-nil, nil_from_length}
 use Rattle.ap_defs.specs.Derivations.{derivation_of}
-use Rattle.ap_backchain.specs.Views.{state_in}
+use Rattle.ap_machine.specs.Views.{state_in}
 use Rattle.ap_derive.specs.Nodes.{made_in}
 use Rattle.ap_derive.specs.declared.nodes.SelectedGoal.{SelectedGoal}
 use Rattle.ap_derive.proofs.NodeLemmas.{all_made, closed_nodes, front_is, goes_on, has_below, last_in, made_of, only_one}

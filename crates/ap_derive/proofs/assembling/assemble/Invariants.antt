@@ -1,5 +1,5 @@
 use Rattle.std.proofs.Common.{◌≡◌, [], length}
-use Rattle.ap_backchain.specs.Views.{state_in}
+use Rattle.ap_machine.specs.Views.{state_in}
 use Rattle.ap_derive.specs.Nodes.{made_in}
 use Rattle.ap_derive.proofs.NodeLemmas.{closed_nodes, made_of}
 use Rattle.ap_derive.proofs.assembling.assemble.Given as goal

@@ -7,7 +7,7 @@ use Rattle.ap_defs.specs.Derivations as derivations
 use Rattle.ap_defs.specs.Derivations.{derivation_of}
 use Rattle.ap_defs.specs.Terms.{susp, term_of}
 use Rattle.ap_search.specs.Records.{closed_vars}
-use Rattle.ap_backchain.specs.Views.{state_in}
+use Rattle.ap_machine.specs.Views.{state_in}
 use Rattle.ap_derive.specs.Nodes.{atom, closed_node, made_in, selected_node, with_below}
 use Rattle.ap_derive.proofs.NodeLemmas.{vars_closed}
 use Rattle.ap_derive.proofs.assembling.derivation_with.Goals as goal

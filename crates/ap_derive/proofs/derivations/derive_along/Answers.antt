@@ -6,7 +6,7 @@ use Rattle.ap_defs.specs.Derivations.{NominalDerivation, derivation_of}
 use Rattle.ap_defs.specs.Goals.{NominalQuery, program_in, program_of, query_of}
 use Rattle.ap_defs.specs.declared.outcomes.Derivation.{Derivation}
 use Rattle.ap_search.proofs.TypedBelowLemmas.{bounded_short, typed_fits}
-use Rattle.ap_backchain.specs.Machines.{position_of}
+use Rattle.ap_machine.specs.Machines.{position_of}
 use Rattle.ap_backchain.specs.Problems.{clauses_in, queries_in}
 use Rattle.ap_checks.specs.Checks.{Checks}
 use Rattle.ap_checks.specs.Traces.{Traced, traced_query}

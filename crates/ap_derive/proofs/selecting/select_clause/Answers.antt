@@ -7,8 +7,8 @@ use Rattle.ap_defs.specs.Resolution.{next_number}
 use Rattle.ap_defs.specs.Terms.{susp, term_of}
 use Rattle.ap_defs.specs.Types.{locals_of}
 use Rattle.ap_store.proofs.StoreLemmas.{next_counts}
-use Rattle.ap_backchain.specs.Machines.{position_of}
-use Rattle.ap_backchain.specs.Positions.{with_goal}
+use Rattle.ap_machine.specs.Machines.{position_of}
+use Rattle.ap_machine.specs.Positions.{with_goal}
 use Rattle.ap_backchain.proofs.ChooseLemmas.{fit_here}
 use Rattle.ap_derive.specs.Nodes.{DerivationNode, atom, selected_node}
 use Rattle.ap_derive.specs.Solved.{Selects}

@@ -4,10 +4,11 @@ use Rattle.ap_defs.specs.Terms.{NominalTerm}
 use Rattle.ap_defs.specs.Unification.{Rule, apply_rule}
 use Rattle.ap_store.specs.Views.{bindings_of}
 use Rattle.ap_unify.proofs.PartLemmas.{bind_if_absent, clash_if_occurs}
-use Rattle.ap_unify.proofs.WorkLemmas.{if_ok}
+use Rattle.ap_rules.proofs.WorkLemmas.{if_ok}
 use Rattle.ap_unify.proofs.parts.bind_unless_occurs.Goals as goal
-use Rattle.ap_unify.specs.Parts.{IsRuleFor, plain_term}
-use Rattle.ap_unify.specs.Runs.{equation_under, problem_under}
+use Rattle.ap_unify.specs.Parts.{IsRuleFor}
+use Rattle.ap_equations.specs.Plain.{plain_term}
+use Rattle.ap_rules.specs.Runs.{equation_under, problem_under}
 
 pub returns-then-occurs-clause-turn : goal.returns-then-occurs-clause-turn
 returns-then-occurs-clause-turn c = λ f es ps.
