@@ -8,7 +8,7 @@ ghost use Rattle.ap_program.specs.Typed.{IsTypedRawProgram};
 ghost use Rattle.ap_text.specs.Texts.{IsProgramOfText, IsRefusedText, IsTypedText};
 
 use crate::error::TextError;
-use crate::items::{Items, read_items};
+use crate::items::read_items;
 use crate::outlook::Outlook;
 use ap_defs::faults::Fault;
 use ap_defs::goals::Program;
@@ -27,11 +27,11 @@ fn typed_program(alloc: Global, text: &[u8]) -> Result<Program<Raw>, TextError>
     ensures fault { IfErr result (λ e. IsRefusedText e text.now) }
 {
     let mut cursor = Cursor::of(text);
-    let Items { outlook, next } = read_items(alloc, &mut cursor)?;
-    if let Some(fault) = cursor.fault(next) {
+    let items = read_items(alloc, &mut cursor)?;
+    if let Some(fault) = cursor.fault(items.next) {
         return Err(TextError::Fault(Fault::Syntax(fault)));
     }
-    match outlook {
+    match items.outlook {
         Outlook::Typed(typing) => Ok(typing.finish(alloc)?),
         Outlook::Mistyped(fault) => Err(TextError::Fault(Fault::Types(fault))),
         Outlook::Ungrammatical(fault) => Err(TextError::Fault(Fault::Syntax(fault))),

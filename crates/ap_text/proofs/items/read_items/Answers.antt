@@ -36,7 +36,7 @@ overflow_cast-dots c =
     let all = lexemes_left c.args.cursor.now in
     let left = lexemes_left c.reading.cursor in
     let few : c.reading.next + count_by is_dot left ≤ size_limit + 1 = next_few all left c.reading.next c.reading.invariant.dots c.requires in
-    let dots : c.count_dots-dots.result ≡ count_by is_dot (item_front left) = c.count_dots-dots.ensures.value ∙ ap (λ ts. count_by is_dot (lexemes ts)) c.deref-2.ensures.value ∙ ap (count_by is_dot) c.in_ok-tokens.ensures.tokens in
+    let dots : c.count_dots-dots.result ≡ count_by is_dot (item_front left) = c.count_dots-dots.ensures.value ∙ ap (λ ts. count_by is_dot (lexemes ts)) c.deref-in-reading.ensures.value ∙ ap (count_by is_dot) c.in_ok-tokens.ensures.tokens in
     omega (arith, few, dots, dots_split left)
 
 pub with_tokens-requires-clause-outlook : goal.with_tokens-requires-clause-outlook
@@ -51,7 +51,7 @@ overflow_add-next c =
     let all = lexemes_left c.args.cursor.now in
     let left = lexemes_left c.reading.cursor in
     let few : c.reading.next + count_by is_dot left ≤ size_limit + 1 = next_few all left c.reading.next c.reading.invariant.dots c.requires in
-    let dots : c.count_dots-dots.result ≡ count_by is_dot (item_front left) = c.count_dots-dots.ensures.value ∙ ap (λ ts. count_by is_dot (lexemes ts)) c.deref-2.ensures.value ∙ ap (count_by is_dot) c.in_ok-tokens.ensures.tokens in
+    let dots : c.count_dots-dots.result ≡ count_by is_dot (item_front left) = c.count_dots-dots.ensures.value ∙ ap (λ ts. count_by is_dot (lexemes ts)) c.deref-in-reading.ensures.value ∙ ap (count_by is_dot) c.in_ok-tokens.ensures.tokens in
     omega (arith, few, dots, dots_split left)
 
 pub reading-smaller : goal.reading-smaller
@@ -68,7 +68,7 @@ reading-preserved c =
     let all = lexemes_left c.args.cursor.now in
     let left = lexemes_left c.reading.cursor in
     let old = c.reading.invariant in
-    let number : c.count_dots-dots.result ≡ count_by is_dot (lexemes c.in_ok-tokens.tokens.items) = c.count_dots-dots.ensures.value ∙ ap (λ ts. count_by is_dot (lexemes ts)) c.deref-2.ensures.value in
+    let number : c.count_dots-dots.result ≡ count_by is_dot (lexemes c.in_ok-tokens.tokens.items) = c.count_dots-dots.ensures.value ∙ ap (λ ts. count_by is_dot (lexemes ts)) c.deref-in-reading.ensures.value in
     let dots : c.count_dots-dots.result ≡ count_by is_dot (item_front left) = number ∙ ap (count_by is_dot) c.in_ok-tokens.ensures.tokens in
     let outlook = c.in_ok-outlook.ensures all left c.in_ok-tokens.ensures.tokens old.outlook in
     record {

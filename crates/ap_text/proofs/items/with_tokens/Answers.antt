@@ -20,5 +20,5 @@ returns-in-Ok c = if_ok c.with_item.result (λ o on all left e h.
 
 pub returns-in-Err-Fault : goal.returns-in-Err-Fault
 returns-in-Err-Fault c = λ all left e h.
-    fault_on all left c.args.number c.args.outlook c.in-Err-Fault.fault c.in_default.not-Ungrammatical h
-    (subst (λ r. FailsAsOneOf r (FirstOf c.args.number left)) c.in-Err-Fault.field-0-is (c.in-Err-Fault.ensures left e))
+    rw c.in-Err-Fault.field-0-is (fault_on all left c.args.number c.args.outlook c.in-Err-Fault.fault c.in_default.not-Ungrammatical h
+    (subst (λ r. FailsAsOneOf r (FirstOf c.args.number left)) c.in-Err-Fault.field-0-is (c.in-Err-Fault.ensures left e)))
