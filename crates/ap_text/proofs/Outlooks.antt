@@ -1,5 +1,5 @@
 -- How what is known of a text goes on from item to item.
-use Rattle.std.proofs.Common.{◌≡◌, ℕ, ◌+◌, List, [], ◌∷◌, ◌++◌, length, Result, Ok, Err, Option, None, Some, refl, sym, ap, subst, ◌∙◌, arith, ◌≤◌, append-nil, append_assoc, length-append}
+use Rattle.std.proofs.Common.{◌≡◌, ℕ, ◌+◌, List, [], ◌∷◌, ◌++◌, length, Result, Ok, Err, Option, refl, sym, ap, subst, ◌∙◌, arith, ◌≤◌, append-nil, append_assoc, length-append}
 use Rattle.ap_defs.specs.RawTerms.{RawTerm}
 use Rattle.ap_defs.specs.Goals.{ProgramOver}
 use Rattle.ap_defs.specs.declared.faults.Fault.TheVariants as faults
@@ -14,14 +14,14 @@ use Rattle.ap_lexer.specs.Cursors.{lexemes_left, or_fault}
 use Rattle.ap_lexer.specs.Tokens.{Lexeme, lexed, lexemes_of, is_dot, item_front, after_item, item_after}
 use Rattle.ap_lexer.proofs.Fronts.{dots_split}
 use Rattle.ap_trees.specs.Items.{ItemOf}
-use Rattle.ap_syntax.specs.Reading.{FirstOf, TextOutcome, Reads, all_read, after_items}
+use Rattle.ap_syntax.specs.Reading.{FirstOf, Reads, all_read, after_items}
 use Rattle.ap_syntax.proofs.Readings.{next_of, fault_of, after_items-append}
 use Rattle.ap_typecheck.specs.Checking.{IsProgramOf, IsFirstTypeFault}
 use Rattle.ap_text.specs.declared.outlook.Outlook.{Outlook}
 use Rattle.ap_text.specs.declared.outlook.Outlook.TheVariants as outlooks
 use Rattle.ap_text.specs.Outlooks.{HasTyped, ReadsTo, ReadsAndTyped, IsOutlook}
 use Rattle.ap_text.proofs.TokenCounts.{few_lexemes}
-use Rattle.ap_text.specs.Texts.{HasItems, IsTypedText, IsFaultOfText, faulty_token, faulty_item, ill_typed}
+use Rattle.ap_text.specs.Texts.{HasItems, IsTypedText, IsFaultOfText, faulty_item, ill_typed}
 
 -- not faulty in its grammar
 abbrev pub IsGrammatical : Outlook → Type 0

@@ -1,4 +1,4 @@
-use Rattle.std.proofs.Common.{◌≡◌, subst}
+use Rattle.std.proofs.Common.{subst}
 use Rattle.ap_trees.specs.Trees.{item_of}
 use Rattle.ap_text.specs.Outlooks.{HasTyped}
 use Rattle.ap_text.proofs.Outlooks.{mistyped_on, if_ok}

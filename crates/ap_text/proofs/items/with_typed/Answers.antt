@@ -1,4 +1,4 @@
-use Rattle.std.proofs.Common.{◌≡◌, ◌++◌, ◌∷◌, [], sym, subst, append_assoc}
+use Rattle.std.proofs.Common.{◌++◌, ◌∷◌, [], sym, subst, append_assoc}
 use Rattle.ap_trees.specs.Trees.{item_of}
 use Rattle.ap_typecheck.specs.Checking.{IsFirstTypeFault}
 use Rattle.ap_typecheck.specs.Views.{IsRefusedByTypes}

@@ -1,4 +1,3 @@
-use Rattle.std.proofs.Common.{◌≡◌}
 use Rattle.std.proofs.lemmas.Result.{err_from_is_err_and}
 use Rattle.ap_defs.specs.RawTerms.{raw_of}
 use Rattle.ap_defs.specs.Goals.{program_over}

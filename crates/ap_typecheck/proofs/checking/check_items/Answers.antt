@@ -1,4 +1,4 @@
-use Rattle.std.proofs.Common.{◌≡◌, ◌+◌, take, drop, sym, subst}
+use Rattle.std.proofs.Common.{◌+◌, take, drop, sym, subst}
 use Rattle.ap_trees.specs.Trees.{items_of_text}
 use Rattle.ap_typecheck.specs.Typings.{IsTypingOf}
 use Rattle.ap_typecheck.specs.Views.{IsRefusedByTypes}

@@ -1,4 +1,4 @@
-use Rattle.std.proofs.Common.{◌≡◌, ◌+◌, ◌++◌, ◌∷◌, refl, sym, subst}
+use Rattle.std.proofs.Common.{◌+◌, ◌++◌, ◌∷◌, refl, sym, subst}
 use Rattle.ap_trees.specs.Trees.{item_of}
 use Rattle.ap_typecheck.specs.declared.texts.Typing.{Typing}
 use Rattle.ap_typecheck.specs.Views.{IsRefusedByTypes}
