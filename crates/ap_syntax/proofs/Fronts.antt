@@ -1,5 +1,5 @@
 -- The tokens of the first item read as all tokens do.
-use Rattle.std.proofs.Common.{◌≡◌, ℕ, zero, suc, ◌+◌, ◌<◌, Bool, true, false, cond, List, [], ◌∷◌, length, take, drop, get_or, position, Option, None, Some, IfSome, Result, Ok, Err, nat_lt, refl, sym, ap, ◌∙◌, arith, subst, if◌then◌else◌}
+use Rattle.std.proofs.Common.{◌≡◌, ℕ, suc, ◌+◌, ◌<◌, Bool, true, false, cond, List, [], ◌∷◌, length, take, drop, get_or, Option, None, Some, IfSome, Result, Ok, Err, nat_lt, refl, sym, ap, ◌∙◌, arith, subst, if◌then◌else◌}
 use Rattle.std.proofs.lemmas.Bool.Decides.{nat_tests}
 use Rattle.std.proofs.lemmas.List.Sums.{sum_by-append}
 use Rattle.std.specs.Option.{option_map}
@@ -15,7 +15,7 @@ use Rattle.ap_syntax.specs.declared.faults.SynError.TheVariants as errors
 use Rattle.ap_syntax.specs.ItemGrammar.{IsItem}
 use Rattle.ap_syntax.specs.ItemReader.{read_item}
 use Rattle.ap_syntax.specs.Nesting.{is_too_deep}
-use Rattle.ap_syntax.specs.Reading.{first_dot, before, fault, First, unended, too_deep, no_item, an_item, FirstOf, form_or_fault, item_or_fault, GivesOneOf, FailsAsOneOf}
+use Rattle.ap_syntax.specs.Reading.{first_dot, before, fault, First, unended, too_deep, no_item, an_item, FirstOf, form_or_fault, item_or_fault, GivesOneOf}
 use Rattle.ap_syntax.proofs.ItemLaws.{item_sound, item_only}
 
 one_later : (i n : ℕ) → cond (nat_lt (1 + i) (suc n)) (Some (1 + i)) None ≡ option_map suc (cond (nat_lt i n) (Some i) None)
