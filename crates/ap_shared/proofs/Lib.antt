@@ -1,0 +1,4 @@
+pub mod SharedLemmas
+mod ExpandingLemmas
+mod EnteringLemmas
+mod LineWeights

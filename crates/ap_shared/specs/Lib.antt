@@ -1,0 +1,5 @@
+pub mod Shared
+pub mod LineDerivations
+pub mod SharedViews
+pub mod Expanding
+pub mod Entering
