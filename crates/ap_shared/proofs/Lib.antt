@@ -2,3 +2,5 @@ pub mod SharedLemmas
 mod ExpandingLemmas
 mod EnteringLemmas
 mod LineWeights
+mod NodeLemmas
+mod SharingLemmas

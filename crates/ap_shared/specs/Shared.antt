@@ -14,6 +14,10 @@ use Rattle.ap_shared.specs.declared.lines.SharedLine.{SharedLine}
 abbrev pub shared_at : List NominalTerm → ℕ → NominalTerm
 shared_at ts i = slice_index_or ts i terms.unit
 
+-- a table with lines more at its end, or none
+abbrev pub IsGrown : List NominalTerm → List NominalTerm → Type 0
+IsGrown ts us = (more : List NominalTerm) × (us ≡ ts ++ more)
+
 -- numbers of lines among so many
 abbrev pub AreLinesBelow : ℕ → List ℕ → Type 0
 AreLinesBelow n is = AllByRecursion (λ i. i < n) is

@@ -9,4 +9,6 @@ pub mod derivations;
 pub mod entering;
 pub mod expanding;
 pub mod lines;
+mod nodes;
+pub mod sharing;
 mod sizes;
