@@ -6,7 +6,7 @@ use Rattle.ap_defs.specs.Derivations as derivation
 use Rattle.ap_defs.specs.Derivations.{DerivationOver, map_terms}
 use Rattle.ap_bundle.specs.Forms.{◌>>=◌}
 use Rattle.ap_bundle.specs.Nodes.{Node, atom, equal, fresh, succeed, both, left, right, exists, new, preorder, node_onto, derivations, derivation_from, one}
-use Rattle.ap_shared.specs.LineNodes.{map_node, first_node, children_back}
+use Rattle.ap_shared.specs.FirstNodes.{map_node, first_node, children_back}
 
 -- nodes before derivations, of which they take their children
 abbrev pub derivations_onto : {T : Type 0} → List (Node T) → List (DerivationOver T) → Option (List (DerivationOver T))

@@ -7,7 +7,7 @@ use Rattle.ap_defs.specs.Derivations.{DerivationOver, NominalDerivation, map_ter
 use Rattle.ap_defs.specs.Terms.{NominalTerm}
 use Rattle.ap_bundle.specs.Nodes.{Node, atom, equal, fresh, succeed, both, left, right, exists, new, preorder, derivation_from}
 use Rattle.ap_shared.specs.LineDerivations.{derivation_lines}
-use Rattle.ap_shared.specs.LineNodes.{first_node, map_node, node_terms}
+use Rattle.ap_shared.specs.FirstNodes.{first_node, map_node, node_terms}
 use Rattle.ap_shared.specs.Shared.{AreLinesBelow, IsGrown, shared_at}
 use Rattle.ap_shared.specs.SharedViews.{shared_answer, shared_derivation}
 use Rattle.ap_shared.specs.declared.derivations.SharedAnswer.{SharedAnswer}

@@ -1,5 +1,6 @@
 pub mod Shared
 pub mod LineDerivations
+pub mod FirstNodes
 pub mod LineNodes
 pub mod SharedViews
 pub mod Expanding

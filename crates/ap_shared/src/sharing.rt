@@ -6,7 +6,8 @@ ghost use Rattle.ap_defs.specs.Derivations.{derivation_of};
 ghost use Rattle.ap_defs.specs.Terms.{term_of};
 ghost use Rattle.ap_bundle.specs.Bundles.{proved_of};
 ghost use Rattle.ap_bundle.specs.Nodes.{preorder};
-ghost use Rattle.ap_shared.specs.LineNodes.{children_back, first_node, map_node, node_by_lines, node_terms, seen};
+ghost use Rattle.ap_shared.specs.FirstNodes.{children_back, first_node, map_node, node_terms, seen};
+ghost use Rattle.ap_shared.specs.LineNodes.{node_by_lines};
 ghost use Rattle.ap_shared.specs.Shared.{AreLinesBelow, IsGrown, shared_at};
 ghost use Rattle.ap_shared.specs.SharedViews.{shared_answer, shared_derivation, shared_proved, shared_terms};
 

@@ -2,7 +2,8 @@
 use Rattle.std.proofs.Common.{◌≡◌, ◌++◌, length, map}
 use Rattle.ap_defs.specs.Derivations.{derivation_of}
 use Rattle.ap_bundle.specs.Nodes.{preorder}
-use Rattle.ap_shared.specs.LineNodes.{map_node, node_by_lines, seen}
+use Rattle.ap_shared.specs.FirstNodes.{map_node, seen}
+use Rattle.ap_shared.specs.LineNodes.{node_by_lines}
 use Rattle.ap_shared.specs.Shared.{IsGrown, shared_at}
 use Rattle.ap_shared.specs.SharedViews.{shared_terms}
 use Rattle.ap_shared.proofs.NodeLemmas.{later}

@@ -1,9 +1,21 @@
--- The first node of a derivation, and its children.
+-- The first node of a derivation, its terms, and its children.
 use Rattle.std.specs.Prelude.{List, [], ◌∷◌, map}
 use Rattle.std.specs.Borrow.{Bor}
 use Rattle.ap_defs.specs.Derivations as derivation
 use Rattle.ap_defs.specs.Derivations.{DerivationOver}
 use Rattle.ap_bundle.specs.Nodes.{Node, atom, equal, fresh, succeed, both, left, right, exists, new}
+
+-- each term replaced
+abbrev pub map_node : {S T : Type 0} → (S → T) → Node S → Node T
+map_node f (atom k names ts) = atom k names (map f ts)
+map_node f equal = equal
+map_node f fresh = fresh
+map_node f succeed = succeed
+map_node f both = both
+map_node f left = left
+map_node f right = right
+map_node f (exists t) = exists (f t)
+map_node f (new a) = new a
 
 abbrev pub first_node : {T : Type 0} → DerivationOver T → Node T
 first_node (derivation.atom k names ts d) = atom k names ts
