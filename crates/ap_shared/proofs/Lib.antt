@@ -1,6 +1,6 @@
 pub mod SharedLemmas
-mod ExpandingLemmas
-mod EnteringLemmas
-mod LineWeights
-mod NodeLemmas
-mod SharingLemmas
+pub mod ExpandingLemmas
+pub mod EnteringLemmas
+pub mod LineWeights
+pub mod NodeLemmas
+pub mod SharingLemmas

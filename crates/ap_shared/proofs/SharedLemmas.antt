@@ -8,7 +8,7 @@ use Rattle.ap_bundle.specs.Tables.{expanded_size}
 use Rattle.ap_shared.specs.declared.lines.Entry.{Entry}
 use Rattle.ap_shared.specs.declared.lines.Entry.TheVariants as entry
 use Rattle.ap_shared.specs.declared.lines.SharedLine.{SharedLine}
-use Rattle.ap_shared.specs.Shared.{AreLinesBelow, shared_at, entry_term, IsBehind, terms_back, exact_size, AreLines}
+use Rattle.ap_shared.specs.Shared.{AreLines, AreLinesBelow, IsBehind, IsLine, entry_term, exact_size, shared_at, terms_back}
 
 pub length_back : (ls : List SharedLine) → length (terms_back ls) ≡ length ls
 length_back [] = refl
@@ -45,13 +45,6 @@ behind_more m n (entry.Pair i j) l h = (omega (arith, h.0), omega (arith, h.1))
 behind_more m n (entry.App f i) l h = omega arith
 behind_more m n (entry.Abs s b i) l h = omega arith
 behind_more m n (entry.Susp p x) l h = tt
-
--- what is known of a line
-pub record IsLine (ts : List NominalTerm) (k : ℕ) (l : SharedLine) : Type 0 where
-  pub within : k < length ts
-  pub is : shared_at ts k ≡ entry_term ts l.entry
-  pub behind : IsBehind k l.entry
-  pub size : l.size ≡ exact_size (expanded_size (shared_at ts k))
 
 -- an item of a list with one more at its end
 last_item : {A : Type 0} (xs : List A) (y x : A) (k : ℕ) → slice_get (xs ++ y ∷ []) k ≡ Some x → (slice_get xs k ≡ Some x) ⊎ ((k ≡ length xs) × (y ≡ x))

@@ -54,6 +54,13 @@ abbrev pub AreLines : List SharedLine → Type 0
 AreLines [] = Unit {0}
 AreLines (l ∷ ls) = AreLines ls × IsBehind (length ls) l.entry × (l.size ≡ exact_size (expanded_size (entry_term (terms_back ls) l.entry)))
 
+-- what is known of a line
+pub record IsLine (ts : List NominalTerm) (k : ℕ) (l : SharedLine) : Type 0 where
+  pub within : k < length ts
+  pub is : shared_at ts k ≡ entry_term ts l.entry
+  pub behind : IsBehind k l.entry
+  pub size : l.size ≡ exact_size (expanded_size (shared_at ts k))
+
 behind_prop : (n : ℕ) (e : Entry) → IsProp (IsBehind n e)
 behind_prop n entry.Unit = Unit-prop
 behind_prop n (entry.Name a) = Unit-prop

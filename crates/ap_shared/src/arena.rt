@@ -22,7 +22,7 @@ pub struct SharedTerms {
 impl SharedTerms {
     ghost use Rattle.std.specs.Prelude.{◌≡◌, ◌<◌, ◌≤◌, ◌++◌, [], ◌∷◌, length, IfOk, MatchOption, OnOk};
     ghost use Rattle.ap_bundle.specs.Tables.{expanded_size};
-    ghost use Rattle.ap_shared.specs.Shared.{IsBehind, entry_term, exact_size, shared_at};
+    ghost use Rattle.ap_shared.specs.Shared.{IsBehind, IsLine, entry_term, exact_size, shared_at};
     ghost use Rattle.ap_shared.specs.SharedViews.{shared_terms};
 
     /// No terms. It takes no memory.
@@ -41,26 +41,33 @@ impl SharedTerms {
         self.lines.len()
     }
 
+    /// A line that is there.
+    fn line_at(&self, line: usize) -> &SharedLine
+        requires { line < length (shared_terms self.now) }
+        ensures { IsLine (shared_terms self.now) line result.now }
+    {
+        &self.lines[line]
+    }
+
     /// How large the term of a line is in full, where that is below 2 ^ 64.
     pub fn size(&self, line: usize) -> Option<u64>
         ensures { result ≡ exact_size (expanded_size (shared_at (shared_terms self.now) line)) }
     {
-        match self.lines.get(line) {
-            Some(found) => found.size,
-            None => Some(1),
+        if line >= self.len() {
+            return Some(1);
         }
+        self.line_at(line).size
     }
 
     /// What a line says; none where it isn't there.
     pub fn entry(&self, line: usize) -> Option<&Entry>
-        ensures { MatchOption result (length (shared_terms self.now) ≤ line)
-            (λ e. (shared_at (shared_terms self.now) line ≡ entry_term (shared_terms self.now) e.now)
-            × IsBehind line e.now) }
+        ensures { MatchOption result (length (shared_terms self.now) ≤ line) (λ e. IsBehind line e.now
+            × (shared_at (shared_terms self.now) line ≡ entry_term (shared_terms self.now) e.now)) }
     {
-        match self.lines.get(line) {
-            Some(found) => Some(&found.entry),
-            None => None,
+        if line >= self.len() {
+            return None;
         }
+        Some(&self.line_at(line).entry)
     }
 
     /// How large the term of an entry is.
@@ -86,7 +93,7 @@ impl SharedTerms {
             ≡ shared_terms self.old ++ entry_term (shared_terms self.old) entry ∷ []) }
         ensures line { IfOk result (λ i. i ≡ length (shared_terms self.old)) }
     {
-        let line = self.lines.len();
+        let line = self.len();
         let size = self.entry_size(&entry);
         self.lines.push(SharedLine { entry, size })?;
         Ok(line)

@@ -24,10 +24,10 @@ use std::alloc::Global;
 use std::rc::Rc;
 
 /// Terms with their parts more. It answers their lines.
-fn enter_each(alloc: Global, table: &mut SharedTerms, terms: &[Term]) -> Result<List<usize>, Memory>
+fn enter_each(alloc: Global, table: &mut SharedTerms, terms: &[Term]) -> Result<Vec<usize>, Memory>
     ensures grown { OnOk result (IsGrown (shared_terms table.old) (shared_terms table.new)) }
-    ensures below { IfOk result (λ ls. AreLinesBelow (length (shared_terms table.new)) ls) }
-    ensures lines { IfOk result (λ ls. map (shared_at (shared_terms table.new)) ls
+    ensures below { IfOk result (λ ls. AreLinesBelow (length (shared_terms table.new)) ls.items) }
+    ensures lines { IfOk result (λ ls. map (shared_at (shared_terms table.new)) ls.items
         ≡ map term_of terms.now) }
 {
     let mut lines = Vec::new(alloc);
@@ -35,7 +35,7 @@ fn enter_each(alloc: Global, table: &mut SharedTerms, terms: &[Term]) -> Result<
         let line = enter(alloc, table, term)?;
         lines.push(line)?;
     }
-    Ok(List::of(lines))
+    Ok(lines)
 }
 
 fn copy_vars(alloc: Global, vars: &[(Var, Ty)]) -> Result<Vec<(Var, Ty)>, Memory>
@@ -59,7 +59,7 @@ fn share_answer(
     ensures answer { IfOk result (λ a. shared_answer (shared_terms table.new) a
         ≡ answer_of answer.now) }
 {
-    let binds = enter_each(alloc, table, answer.binds.items())?;
+    let binds = List::of(enter_each(alloc, table, answer.binds.items())?);
     let conds = List::of(answer.conds.items().to_vec(alloc)?);
     let vars = List::of(copy_vars(alloc, answer.vars.items())?);
     Ok(SharedAnswer { binds, conds, vars })
@@ -79,7 +79,7 @@ fn share_use(
         ≡ map term_of used.now.terms) }
 {
     let names = List::of(used.names.items().to_vec(alloc)?);
-    let terms = enter_each(alloc, table, used.terms.items())?;
+    let terms = List::of(enter_each(alloc, table, used.terms.items())?);
     Ok(SharedUse {
         clause: used.clause,
         names,

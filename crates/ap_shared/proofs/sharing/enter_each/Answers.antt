@@ -16,9 +16,12 @@ pub loop-term-preserved : goal.loop-term-preserved
 loop-term-preserved c =
     let ts = shared_terms c.loop-term.table in
     let us = shared_terms c.enter.new.terms in
-    let g = (with_parts (term_of c.term-item.result.now), c.in_ok-line.ensures.terms) in
+    let g = (with_parts (term_of c.term-item.result), c.in_ok-line.ensures.terms) in
     record {
       grown = grown_on (shared_terms c.args.table.now) ts us c.loop-term.invariant.grown g;
-      below = below_on term_of c.args.terms.now ts us c.loop-term.lines.items c.push.new.self.items c.loop-term.term-index c.in_ok-line.line c.term-item.result.now (omega arith) c.term-item.is g c.loop-term.invariant.below c.in_ok-push.ensures.items c.in_ok-line.ensures.within;
-      lines = lines_on term_of c.args.terms.now ts us c.loop-term.lines.items c.push.new.self.items c.loop-term.term-index c.in_ok-line.line c.term-item.result.now (omega arith) c.term-item.is g c.loop-term.invariant.below c.in_ok-push.ensures.items c.in_ok-line.ensures.line c.loop-term.invariant.lines;
+      below = below_on term_of c.args.terms.now ts us c.loop-term.lines.items c.push.new.self.items c.loop-term.term-index c.in_ok-line.line c.term-item.result (omega arith) c.term-item.is g c.loop-term.invariant.below c.in_ok-push.ensures.items c.in_ok-line.ensures.within;
+      lines = lines_on term_of c.args.terms.now ts us c.loop-term.lines.items c.push.new.self.items c.loop-term.term-index c.in_ok-line.line c.term-item.result (omega arith) c.term-item.is g c.loop-term.invariant.below c.in_ok-push.ensures.items c.in_ok-line.ensures.line c.loop-term.invariant.lines;
     }
+
+pub returns-clause-lines : goal.returns-clause-lines
+returns-clause-lines c = lines_end term_of c.args.terms.now (shared_terms c.loop-term.table) _ c.loop-term.term-index (omega arith) c.loop-term.invariant.lines
