@@ -44,27 +44,38 @@ pub record AreLeft (table : List NominalTerm) (u : NominalTerm) (ls : List ℕ) 
   pub taken : taken_by table u ls ≡ Some (u, others)
   pub stand : map (shared_at table) others ≡ rest
 
+cons_of : {A : Type 0} (x y : A) (xs ys : List A) → x ∷ xs ≡ y ∷ ys → (x ≡ y) × (xs ≡ ys)
+cons_of x y xs ys e = let h : x ≡ y = cc in let t : xs ≡ ys = cc in (h, t)
+
 pub top_left : (table : List NominalTerm) (u : NominalTerm) (ls : List ℕ) (rest : List NominalTerm) → OnTop u (map (shared_at table) ls) rest → AreLeft table u ls rest
 top_left table terms.unit ls rest e = record { others = ls; taken = refl; stand = e }
 top_left table (terms.name a) ls rest e = record { others = ls; taken = refl; stand = e }
 top_left table (terms.pair v w) [] rest e = cc
 top_left table (terms.pair v w) (i ∷ []) rest e = cc
 top_left table (terms.pair v w) (i ∷ (j ∷ ls)) rest e =
-    let right : shared_at table i ≡ w = cc in
-    let left : shared_at table j ≡ v = cc in
-    let stand : map (shared_at table) ls ≡ rest = cc in
-    record { others = ls; taken = ap₂ (λ t u. Some (terms.pair t u, ls)) left right; stand = stand }
+    let p = cons_of (shared_at table i) w (map (shared_at table) (j ∷ ls)) (v ∷ rest) e in
+    let q = cons_of (shared_at table j) v (map (shared_at table) ls) rest p.1 in
+    record { others = ls; taken = ap₂ (λ t u. Some (terms.pair t u, ls)) q.0 p.0; stand = q.1 }
 top_left table (terms.app f v) [] rest e = cc
 top_left table (terms.app f v) (i ∷ ls) rest e =
-    let part : shared_at table i ≡ v = cc in
-    let stand : map (shared_at table) ls ≡ rest = cc in
-    record { others = ls; taken = ap (λ t. Some (terms.app f t, ls)) part; stand = stand }
+    let p = cons_of (shared_at table i) v (map (shared_at table) ls) rest e in
+    record { others = ls; taken = ap (λ t. Some (terms.app f t, ls)) p.0; stand = p.1 }
 top_left table (terms.abs a v) [] rest e = cc
 top_left table (terms.abs a v) (i ∷ ls) rest e =
-    let part : shared_at table i ≡ v = cc in
-    let stand : map (shared_at table) ls ≡ rest = cc in
-    record { others = ls; taken = ap (λ t. Some (terms.abs a t, ls)) part; stand = stand }
+    let p = cons_of (shared_at table i) v (map (shared_at table) ls) rest e in
+    record { others = ls; taken = ap (λ t. Some (terms.abs a t, ls)) p.0; stand = p.1 }
 top_left table (terms.susp p x) ls rest e = record { others = ls; taken = refl; stand = e }
+
+-- the first of lines that are there, and the others
+module _ (n : ℕ) (ls more : List ℕ) (i : ℕ) (popped : ls ≡ more ++ i ∷ []) (h : AreLinesBelow n (reverse ls)) where
+  split : AreLinesBelow n (i ∷ reverse more)
+  split = subst (AreLinesBelow n) (ap reverse popped ∙ reverse-append more (i ∷ [])) h
+
+  pub first_within : i < n
+  first_within = split.0
+
+  pub others_below : AreLinesBelow n (reverse more)
+  others_below = split.1
 
 -- how much is left to do
 abbrev pub walk_work : NominalTerm → ℕ

@@ -64,7 +64,10 @@ module _ {S T : Type 0} (f : S → T) where
   one_mapped : (o : Option (List (DerivationOver S))) (d : DerivationOver T) → option_map (map (map_terms f)) o ≡ Some (d ∷ []) → (e : DerivationOver S) × ((o >>= one) ≡ Some e) × (map_terms f e ≡ d)
   one_mapped None d e = cc
   one_mapped (Some []) d e = cc
-  one_mapped (Some (c ∷ [])) d e = (c, refl, cc)
+  one_mapped (Some (c ∷ [])) d e =
+      let same : ◌≡◌ {A = Option (List (DerivationOver T))} (Some (map_terms f c ∷ [])) (Some (d ∷ [])) = e in
+      let is : map_terms f c ≡ d = cc in
+      (c, refl, is)
   one_mapped (Some (c ∷ (b ∷ ds))) d e = cc
 
   -- nodes that are those of a derivation over other terms, are those of a derivation
@@ -100,11 +103,11 @@ first_nodes (derivation.exists t d) = refl
 first_nodes (derivation.new a d) = refl
 
 -- a stack whose top gives way to its children
-module _ {T : Type 0} (whole part rest : List (DerivationOver T)) (d : DerivationOver T) (top : whole ≡ part ++ d ∷ []) (left : rest ≡ part ++ children_back d) where
+module _ {T : Type 0} (whole part rest : List (DerivationOver T)) (d : DerivationOver T) (top : whole ≡ part ++ d ∷ []) (leaves : rest ≡ part ++ children_back d) where
   pub stack_on : later preorder whole ≡ first_node d ∷ later preorder rest
   stack_on =
       ap (later preorder) top ∙ later_last preorder part d ∙ ap (λ z. z ++ later preorder part) (first_nodes d)
-      ∙ ap (λ z. first_node d ∷ z) (sym (later_append preorder part (children_back d)) ∙ ap (later preorder) (sym left))
+      ∙ ap (λ z. first_node d ∷ z) (sym (later_append preorder part (children_back d)) ∙ ap (later preorder) (sym leaves))
 
   pub stack_less : length (later preorder rest) < length (later preorder whole)
   stack_less = let all = ap length stack_on in omega (arith, all)

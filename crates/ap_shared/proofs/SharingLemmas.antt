@@ -13,7 +13,7 @@ use Rattle.ap_shared.specs.SharedViews.{shared_answer, shared_derivation}
 use Rattle.ap_shared.specs.declared.derivations.SharedAnswer.{SharedAnswer}
 use Rattle.ap_shared.specs.declared.derivations.SharedDerivation.{SharedDerivation}
 use Rattle.ap_shared.proofs.NodeLemmas.{from_mapped, later}
-use Rattle.ap_shared.proofs.SharedLemmas.{below_more, terms_front}
+use Rattle.ap_shared.proofs.SharedLemmas.{at_front, below_more, terms_front}
 
 pub grown_none : (ts : List NominalTerm) → IsGrown ts ts
 grown_none ts = ([], sym (append-nil ts))
@@ -68,10 +68,7 @@ node_grown ts us succeed g h = refl
 node_grown ts us both g h = refl
 node_grown ts us left g h = refl
 node_grown ts us right g h = refl
-node_grown ts us (exists i) g h =
-    let p : map (shared_at us) (i ∷ []) ≡ map (shared_at ts) (i ∷ []) = let q = lines_grown ts us (i ∷ []) g h in q.0 in
-    let e : shared_at us i ≡ shared_at ts i = cc in
-    ap exists e
+node_grown ts us (exists i) g h = ap exists (ap (λ vs. shared_at vs i) g.1 ∙ at_front ts g.0 i h.0)
 node_grown ts us (new a) g h = refl
 
 nodes_grown : (ts us : List NominalTerm) (ns : List (Node ℕ)) → IsGrown ts us → AreNodesBelow (length ts) ns

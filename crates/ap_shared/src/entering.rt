@@ -40,6 +40,7 @@ fn push_steps<'a>(steps: &mut Vec<Step<'a>>, term: &'a Term) -> Result<(), Memor
 }
 
 /// The line that comes first, taken off.
+#[tactic(auto, using(crate::proofs::EnteringLemmas::first_within, crate::proofs::EnteringLemmas::others_below))]
 fn first_line(terms: &SharedTerms, lines: &mut Vec<usize>) -> Option<usize>
     requires { AreLinesBelow (length (shared_terms terms.now)) (reverse lines.old.items) }
     ensures value { option_map (λ i. (i, reverse lines.new.items)) result

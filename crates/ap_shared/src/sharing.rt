@@ -42,8 +42,8 @@ fn copy_vars(alloc: Global, vars: &[(Var, Ty)]) -> Result<Vec<(Var, Ty)>, Memory
     ensures { IfOk result (λ v. map typed_var_of v.items ≡ map typed_var_of vars.now) }
 {
     let mut copied = Vec::new(alloc);
-    for (var, ty) in vars {
-        copied.push((*var, copy_type(alloc, ty)?))?;
+    for typed in vars {
+        copied.push((typed.0, copy_type(alloc, &typed.1)?))?;
     }
     Ok(copied)
 }
