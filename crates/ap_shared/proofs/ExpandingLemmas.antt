@@ -1,5 +1,5 @@
 -- The tasks of an entry make its term, and are less than the task of its line.
-use Rattle.std.proofs.Common.{◌≡◌, ℕ, ◌+◌, ◌<◌, ◌≤◌, List, [], ◌∷◌, ◌++◌, length, refl, ap, ap₂, sym, subst, ◌∙◌, arith}
+use Rattle.std.proofs.Common.{◌≡◌, ℕ, ◌+◌, ◌<◌, List, [], ◌∷◌, ◌++◌, refl, ap, ap₂, sym, subst, ◌∙◌, arith}
 use Rattle.ap_defs.specs.Terms as terms
 use Rattle.ap_defs.specs.Terms.{NominalTerm}
 use Rattle.ap_bundle.specs.Tables.{expanded_size}
@@ -9,7 +9,6 @@ use Rattle.ap_shared.specs.declared.expanding.Task.{Task}
 use Rattle.ap_shared.specs.declared.expanding.Task.TheVariants as task
 use Rattle.ap_shared.specs.Shared.{shared_at, entry_term}
 use Rattle.ap_shared.specs.Expanding.{made_by, weigh_tasks, begun, ready}
-use Rattle.ap_shared.proofs.SharedLemmas.{at_none}
 
 entry_made : (lines ts : List NominalTerm) (ks : List Task) (e : Entry) → made_by lines (begun e ++ ks) (ready e ++ ts) ≡ made_by lines ks (entry_term lines e ∷ ts)
 entry_made lines ts ks entry.Unit = refl
@@ -38,8 +37,8 @@ module _ (lines ts us : List NominalTerm) (ks js : List Task) (k : ℕ) where
       (subst (λ (ts : List Task). weigh_tasks lines ts < expanded_size (entry_term lines e) + expanded_size (entry_term lines e) + weigh_tasks lines ks) (sym begins) (entry_lighter lines ks e))
 
   -- a line that isn't there
-  pub none_made : length lines ≤ k → us ≡ terms.unit ∷ ts → made_by lines ks us ≡ made_by lines (task.Line k ∷ ks) ts
-  none_made none made = ap (made_by lines ks) made ∙ ap (λ t. made_by lines ks (t ∷ ts)) (sym (at_none lines k none))
+  pub none_made : shared_at lines k ≡ terms.unit → us ≡ terms.unit ∷ ts → made_by lines ks us ≡ made_by lines (task.Line k ∷ ks) ts
+  none_made none made = ap (made_by lines ks) made ∙ ap (λ t. made_by lines ks (t ∷ ts)) (sym none)
 
-  pub none_lighter : length lines ≤ k → weigh_tasks lines ks < weigh_tasks lines (task.Line k ∷ ks)
-  none_lighter none = subst (λ t. weigh_tasks lines ks < expanded_size t + expanded_size t + weigh_tasks lines ks) (sym (at_none lines k none)) (omega arith)
+  pub none_lighter : shared_at lines k ≡ terms.unit → weigh_tasks lines ks < weigh_tasks lines (task.Line k ∷ ks)
+  none_lighter none = subst (λ t. weigh_tasks lines ks < expanded_size t + expanded_size t + weigh_tasks lines ks) (sym none) (omega arith)

@@ -5,3 +5,4 @@ pub mod LineNodes
 pub mod SharedViews
 pub mod Expanding
 pub mod Entering
+pub mod SharedPlaces

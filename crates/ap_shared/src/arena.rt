@@ -21,6 +21,7 @@ pub struct SharedTerms {
 
 impl SharedTerms {
     ghost use Rattle.std.specs.Prelude.{◌≡◌, ◌<◌, ◌≤◌, ◌++◌, [], ◌∷◌, length, IfOk, MatchOption, OnOk};
+    ghost use Rattle.ap_defs.specs.Terms.{unit};
     ghost use Rattle.ap_bundle.specs.Tables.{expanded_size};
     ghost use Rattle.ap_shared.specs.Shared.{IsBehind, IsLine, entry_term, exact_size, shared_at};
     ghost use Rattle.ap_shared.specs.SharedViews.{shared_terms};
@@ -61,8 +62,10 @@ impl SharedTerms {
 
     /// What a line says; none where it isn't there.
     pub fn entry(&self, line: usize) -> Option<&Entry>
-        ensures { MatchOption result (length (shared_terms self.now) ≤ line) (λ e. IsBehind line e.now
-            × (shared_at (shared_terms self.now) line ≡ entry_term (shared_terms self.now) e.now)) }
+        ensures term { MatchOption result (shared_at (shared_terms self.now) line ≡ unit)
+            (λ e. shared_at (shared_terms self.now) line ≡ entry_term (shared_terms self.now) e.now) }
+        ensures behind { MatchOption result (length (shared_terms self.now) ≤ line)
+            (λ e. IsBehind line e.now) }
     {
         if line >= self.len() {
             return None;

@@ -10,5 +10,6 @@ pub mod entering;
 pub mod expanding;
 pub mod lines;
 mod nodes;
+pub mod places;
 pub mod sharing;
 mod sizes;
