@@ -9,11 +9,12 @@ use Rattle.ap_checker.specs.declared.closures.Closure.{Closure}
 use Rattle.ap_checker.specs.declared.closures.Closure.TheVariants as code
 use Rattle.ap_checker.specs.declared.closures.ScopedTerms.{ScopedTerms}
 use Rattle.ap_checker.specs.Scopes.{environment_of}
+use Rattle.ap_shared.specs.SharedPlaces.{shared_term}
 
 abbrev pub scoped_term : Closure → NominalTerm
-scoped_term (code.Whole t) = term_of t.now
+scoped_term (code.Whole t) = shared_term t
 scoped_term (code.Within scope t) = put_in (environment_of scope.standing.now) (term_of t.now)
-scoped_term (code.Moved p t) = act_term p.value.items (term_of t.now)
+scoped_term (code.Moved p t) = act_term p.value.items (shared_term t)
 
 abbrev pub scoped_terms : ScopedTerms → List NominalTerm
 scoped_terms p = map (put_in (environment_of p.scope.standing.now)) (map term_of p.terms.now)

@@ -3,7 +3,8 @@ use Rattle.std.specs.Prelude.{ℕ, zero, suc, ◌+◌, Bool, ◌==◌, if◌then
 use Rattle.ap_defs.specs.Printing.{constructor_in}
 use Rattle.ap_defs.specs.Types as types
 use Rattle.ap_defs.specs.Types.{NominalConstructor, type_of}
-use Rattle.ap_defs.specs.Terms.{term_of}
+use Rattle.ap_defs.specs.Terms.{NominalTerm}
+use Rattle.ap_shared.specs.Shared.{shared_at}
 use Rattle.ap_defs.specs.Typing.{VarTypes, Want, arguments, more, nothing, one}
 use Rattle.ap_defs.specs.Unification.{size}
 use Rattle.ap_checks.specs.TypeTests.{is_typed, type_eq}
@@ -35,12 +36,12 @@ inside_of cs (suc zero) (one (types.list a)) = Some (more a (one (types.list a))
 inside_of cs f (one (types.base d)) = declared_inside (constructor_in cs f) d
 inside_of cs f _ = None
 
--- a term is what it is to be
-abbrev pub is_expected : List NominalConstructor → VarTypes → Expected → Bool
-is_expected cs vars e = is_typed cs vars (term_of e.term.now) (want_of e.wanted)
+-- the term of a line is what it is to be
+abbrev pub is_expected : List NominalTerm → List NominalConstructor → VarTypes → Expected → Bool
+is_expected ts cs vars e = is_typed cs vars (shared_at ts e.line) (want_of e.wanted)
 
-abbrev pub expected_size : Expected → ℕ
-expected_size e = size (term_of e.term.now)
+abbrev pub expected_size : List NominalTerm → Expected → ℕ
+expected_size ts e = size (shared_at ts e.line)
 
 -- two types are one
 abbrev pub are_one : TypePair → Bool

@@ -4,6 +4,7 @@ ghost use Rattle.std.specs.Prelude.{◌≡◌, map, IfOk, MatchOption, None, Som
 ghost use Rattle.ap_defs.specs.Terms.{term_of, unit};
 ghost use Rattle.ap_checks.specs.OpenEnvironments.{put_in, swap_in};
 ghost use Rattle.ap_checker.specs.Scopes.{environment_of, item_term, name_stood, term_brought};
+ghost use Rattle.ap_shared.specs.SharedPlaces.{shared_term};
 
 use crate::closures::{Closure, Scope};
 use crate::identifiers::Identifiers;
@@ -11,19 +12,20 @@ use crate::outside::copied;
 use crate::swappings::is_same;
 use ap_defs::memory::Memory;
 use ap_defs::terms::{Name, Swap, Term, Var};
+use ap_shared::places::{Given, Shared};
 use std::alloc::Global;
 
 /// What stands for the free identifiers of an item, or for one that its goal brought.
 #[derive(Drop)]
 pub enum Standing<'a> {
     /// The terms for the free variables of a query, in order; each free name stands for itself.
-    Query(Identifiers<'a>, &'a [Term]),
+    Query(Identifiers<'a>, Given<'a>),
     /// The names for the free names of a clause and the terms for its free variables, in order.
-    Clause(Identifiers<'a>, &'a [Name], &'a [Term]),
+    Clause(Identifiers<'a>, &'a [Name], Given<'a>),
     /// The name for a name that `new` brought.
     Name(Name, Name),
     /// The term for a variable that `exists` brought.
-    Term(Var, &'a Term),
+    Term(Var, Shared<'a>),
 }
 
 /// The name for a name, if this is what says it.
@@ -39,9 +41,9 @@ fn name_at(standing: &Standing<'_>, b: Name) -> Option<Name>
 }
 
 /// The term that `exists` brought for a variable, if this is what says it.
-fn term_at<'a>(standing: &Standing<'a>, x: Var) -> Option<&'a Term>
+fn term_at<'a>(standing: &Standing<'a>, x: Var) -> Option<Shared<'a>>
     ensures { MatchOption result (term_brought standing.now x ≡ None) (λ t. term_brought
-        standing.now x ≡ Some (term_of t.now)) }
+        standing.now x ≡ Some (shared_term t)) }
 {
     match standing {
         Standing::Term(y, t) if y.num == x.num => Some(*t),
@@ -50,14 +52,14 @@ fn term_at<'a>(standing: &Standing<'a>, x: Var) -> Option<&'a Term>
 }
 
 /// What an item has for a variable, if this is what stands for an item's identifiers.
-fn item_term_at<'a>(standing: &Standing<'a>, x: Var) -> Option<Option<&'a Term>>
+fn item_term_at<'a>(standing: &Standing<'a>, x: Var) -> Option<Option<Shared<'a>>>
     ensures { MatchOption result (item_term standing.now x ≡ None) (λ found. MatchOption found
         (item_term standing.now x ≡ Some unit) (λ t. item_term standing.now x
-        ≡ Some (term_of t.now))) }
+        ≡ Some (shared_term t))) }
 {
     match standing {
-        Standing::Query(own, terms) => Some(own.term_for(terms, x)),
-        Standing::Clause(own, _, terms) => Some(own.term_for(terms, x)),
+        Standing::Query(own, given) => Some(own.term_for(*given, x)),
+        Standing::Clause(own, _, given) => Some(own.term_for(*given, x)),
         _ => None,
     }
 }
@@ -75,9 +77,9 @@ pub(crate) fn name_in(scope: &[Standing<'_>], b: Name) -> Name
 }
 
 /// The term for a variable; where there is none, unit stands for it.
-pub(crate) fn term_in<'a>(scope: &[Standing<'a>], x: Var) -> Option<&'a Term>
+pub(crate) fn term_in<'a>(scope: &[Standing<'a>], x: Var) -> Option<Shared<'a>>
     ensures { MatchOption result ((environment_of scope.now).terms x ≡ unit) (λ t.
-        (environment_of scope.now).terms x ≡ term_of t.now) }
+        (environment_of scope.now).terms x ≡ shared_term t) }
 {
     for i in (0..scope.len()).rev() {
         let innermost = &scope[i];

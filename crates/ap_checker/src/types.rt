@@ -3,20 +3,25 @@
 //! The type of an identifier can be as deep as the equations are long that it solves, on either side: the
 //! parts of types that are left to compare stand on a stack, as do those of terms.
 
-ghost use Rattle.std.specs.Prelude.{◌≡◌, map, IfOk, MatchOption, Some, None};
+ghost use Rattle.std.specs.Prelude.{◌≡◌, map, IfOk, List as list, MatchOption, Some, None};
 ghost use Rattle.ap_defs.specs.Answers.{typed_var_of};
 ghost use Rattle.ap_defs.specs.Printing.{constructor_in};
-ghost use Rattle.ap_defs.specs.Terms.{term_of};
-ghost use Rattle.ap_defs.specs.Types.{base, constructor_of, type_of};
-ghost use Rattle.ap_defs.specs.Typing.{arguments as wanted_arguments, one};
+ghost use Rattle.ap_defs.specs.Terms.{unit};
+ghost use Rattle.ap_defs.specs.Types.{NominalConstructor, base, constructor_of, type_of};
+ghost use Rattle.ap_defs.specs.Typing.{VarTypes, arguments as wanted_arguments, one};
 ghost use Rattle.ap_checks.specs.TypeTests.{is_type, is_typed, type_beside as beside, type_eq};
 ghost use Rattle.ap_checker.specs.Stacks.{IsTested};
 ghost use Rattle.ap_checker.specs.Wanted.{are_one, expected_size, inside_of, is_expected, pair_size, parts_of, want_of};
+ghost use Rattle.ap_shared.specs.SharedPlaces.{shared_term};
+ghost use Rattle.ap_shared.specs.SharedViews.{shared_terms};
 
 use crate::index::IndexedAnswer;
 use ap_defs::goals::Constructor;
 use ap_defs::memory::Memory;
-use ap_defs::terms::{Term, Ty, Var};
+use ap_defs::terms::{Ty, Var};
+use ap_shared::arena::SharedTerms;
+use ap_shared::lines::Entry;
+use ap_shared::places::Shared;
 use std::alloc::Global;
 
 /// What an application's argument is to be.
@@ -32,10 +37,10 @@ pub(crate) enum Wanted<'a> {
     Cell(&'a Ty, &'a Ty),
 }
 
-/// A term, and what it is to be.
+/// The line of a term, and what it is to be.
 #[derive(Clone, Copy)]
 pub(crate) struct Expected<'a> {
-    pub term: &'a Term,
+    pub line: usize,
     pub wanted: Wanted<'a>,
 }
 
@@ -172,58 +177,73 @@ fn inside<'a>(constructors: &'a [Constructor], f: u32, want: Wanted<'a>) -> Opti
     }
 }
 
+/// Whether unit is what is wanted.
+fn is_unit(wanted: Wanted<'_>) -> bool
+    ensures { (cs : list NominalConstructor) (vars : VarTypes) →
+        result ≡ is_typed cs vars unit (want_of wanted.entry) }
+{
+    match wanted {
+        Wanted::Nothing | Wanted::One(Ty::Unit) => true,
+        _ => false,
+    }
+}
+
 /// Looks at the head of a term that is to be what is wanted: its parts wait to be looked at.
 fn look<'a>(
     alloc: Global,
     constructors: &'a [Constructor],
     answer: &IndexedAnswer<'_>,
+    terms: &SharedTerms,
     pending: &mut Vec<Expected<'a>>,
     at: Expected<'a>,
 ) -> Result<bool, Memory>
     ensures { IfOk result (λ yes.
-        IsTested (is_expected (map constructor_of constructors.now)
-        (beside (map typed_var_of answer.now.vars))) expected_size at.entry
-        pending.old.items pending.new.items yes) }
+        IsTested (is_expected (shared_terms terms.now) (map constructor_of constructors.now)
+        (beside (map typed_var_of answer.now.vars))) (expected_size (shared_terms terms.now))
+        at.entry pending.old.items pending.new.items yes) }
 {
-    let Expected { term, wanted } = at;
-    match (term, wanted) {
-        (Term::Unit, Wanted::Nothing | Wanted::One(Ty::Unit)) => Ok(true),
-        (Term::Name(a), Wanted::One(Ty::Names(sort))) => Ok(a.sort == *sort),
-        (Term::Pair(left, right), _) => {
+    let Expected { line, wanted } = at;
+    let Some(entry) = terms.entry(line) else {
+        return Ok(is_unit(wanted));
+    };
+    match (entry, wanted) {
+        (Entry::Unit, _) => Ok(is_unit(wanted)),
+        (Entry::Name(a), Wanted::One(Ty::Names(sort))) => Ok(a.sort == *sort),
+        (Entry::Pair(left, right), _) => {
             let Some((first, second)) = parts(wanted) else {
                 return Ok(false);
             };
             pending.push(Expected {
-                term: right,
+                line: *right,
                 wanted: second,
             })?;
             pending.push(Expected {
-                term: left,
+                line: *left,
                 wanted: first,
             })?;
             Ok(true)
         }
-        (Term::App(f, argument), _) => {
+        (Entry::App(f, part), _) => {
             let Some(inner) = inside(constructors, *f, wanted) else {
                 return Ok(false);
             };
             pending.push(Expected {
-                term: argument,
+                line: *part,
                 wanted: inner,
             })?;
             Ok(true)
         }
-        (Term::Abs(a, body), Wanted::One(Ty::Abs(sort, ty))) => {
-            if a.sort != *sort {
+        (Entry::Abs(own, _, part), Wanted::One(Ty::Abs(sort, ty))) => {
+            if *own != *sort {
                 return Ok(false);
             }
             pending.push(Expected {
-                term: body,
+                line: *part,
                 wanted: Wanted::One(ty),
             })?;
             Ok(true)
         }
-        (Term::Susp(_, x), Wanted::One(ty)) => Ok(has_type_beside(alloc, answer, *x, ty)?),
+        (Entry::Susp(_, x), Wanted::One(ty)) => Ok(has_type_beside(alloc, answer, *x, ty)?),
         _ => Ok(false),
     }
 }
@@ -234,20 +254,20 @@ pub fn has_type(
     alloc: Global,
     constructors: &[Constructor],
     answer: &IndexedAnswer<'_>,
-    t: &Term,
+    t: Shared<'_>,
     ty: &Ty,
 ) -> Result<bool, Memory>
     ensures { IfOk result (λ yes. yes ≡
         is_typed (map constructor_of constructors.now) (beside (map typed_var_of answer.now.vars))
-        (term_of t.now) (one (type_of ty.now))) }
+        (shared_term t.entry) (one (type_of ty.now))) }
 {
     let mut pending = Vec::new(alloc);
     pending.push(Expected {
-        term: t,
+        line: t.line,
         wanted: Wanted::One(ty),
     })?;
     while let Some(next) = pending.pop() {
-        if !look(alloc, constructors, answer, &mut pending, next)? {
+        if !look(alloc, constructors, answer, t.terms, &mut pending, next)? {
             return Ok(false);
         }
     }
