@@ -71,7 +71,8 @@ fn head_of<'a>(alloc: Global, t: Shared<'a>) -> Result<Head<'a>, Memory>
 {
     let Shared { terms, line } = t;
     match terms.entry(line) {
-        None | Some(Entry::Unit) => Ok(Head::Unit),
+        None => Ok(Head::Unit),
+        Some(Entry::Unit) => Ok(Head::Unit),
         Some(Entry::Name(a)) => Ok(Head::Name(*a)),
         Some(Entry::Susp(swaps, x)) => Ok(Head::Susp(swaps.items().to_vec(alloc)?, *x)),
         Some(Entry::Pair(left, right)) => Ok(Head::Pair(whole(terms, *left), whole(terms, *right))),
@@ -130,7 +131,8 @@ fn moved_head<'a>(alloc: Global, swaps: Rc<Vec<Swap>>, t: Shared<'a>) -> Result<
 {
     let Shared { terms, line } = t;
     match terms.entry(line) {
-        None | Some(Entry::Unit) => Ok(Head::Unit),
+        None => Ok(Head::Unit),
+        Some(Entry::Unit) => Ok(Head::Unit),
         Some(Entry::Name(a)) => Ok(Head::Name(image(&swaps, *a))),
         Some(Entry::Susp(more, x)) => moved_suspension(alloc, &swaps, more.items(), *x),
         Some(Entry::Pair(left, right)) => moved_pair(swaps, terms, *left, *right),

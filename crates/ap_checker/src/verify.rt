@@ -1,12 +1,11 @@
 //! The verdict on a derivation.
 
 ghost use Rattle.std.specs.Prelude.{◌≡◌, IfOk};
-ghost use Rattle.ap_defs.specs.Answers.{answer_of};
-ghost use Rattle.ap_defs.specs.Derivations.{derivation_of};
 ghost use Rattle.ap_defs.specs.Goals.{NominalProgram, program_of, query_of};
 ghost use Rattle.ap_checks.specs.Checks.{verdict, verdict_of};
 ghost use Rattle.ap_checker.specs.Rules.{verdict_said};
 ghost use Rattle.ap_checker.specs.Walks.{IsOnWay, refusal_on};
+ghost use Rattle.ap_shared.specs.SharedViews.{shared_answer, shared_derivation, shared_terms};
 
 use crate::answers::answer_fits;
 use crate::identifiers::Identifiers;
@@ -18,21 +17,26 @@ use crate::visits::visit;
 use crate::walk::{Obligation, Walk};
 use ap_defs::goals::{Program, Query};
 use ap_defs::memory::Memory;
-use ap_defs::outcomes::{Answer, Derivation, Verdict};
+use ap_defs::outcomes::Verdict;
 use ap_defs::terms::Term;
 use ap_program::restricted::Restricted;
+use ap_shared::arena::SharedTerms;
+use ap_shared::derivations::{SharedAnswer, SharedDerivation};
+use ap_shared::places::Given;
 use std::alloc::Global;
 
 /// The walk over a derivation of a query's goal, at its beginning.
 fn walk_from<'a>(
     alloc: Global,
     query: &'a Query<Term>,
-    answer: &'a Answer,
-    derivation: &'a Derivation,
+    terms: &'a SharedTerms,
+    answer: &'a SharedAnswer,
+    derivation: &'a SharedDerivation,
 ) -> Result<Walk<'a>, Memory>
-    ensures { (p : NominalProgram) →
-        IfOk result (λ w. IsOnWay p (answer_of answer.now) (refusal_on p (query_of query.now)
-        (answer_of answer.now) (derivation_of derivation.now)) 0 w) }
+    ensures { (p : NominalProgram) → IfOk result (λ w. IsOnWay p
+        (shared_answer (shared_terms terms.now) answer.now) (refusal_on p (query_of query.now)
+        (shared_answer (shared_terms terms.now) answer.now)
+        (shared_derivation (shared_terms terms.now) derivation.now)) 0 w) }
 {
     let locals = query.locals.items();
     let mut walk = Walk {
@@ -40,8 +44,13 @@ fn walk_from<'a>(
         pending: Vec::new(alloc),
     };
     let own = Identifiers::of(alloc, locals)?;
-    walk.bring(Standing::Query(own, answer.binds.items()))?;
+    let given = Given {
+        terms,
+        lines: answer.binds.items(),
+    };
+    walk.bring(Standing::Query(own, given))?;
     walk.put(Obligation {
+        terms,
         derivation,
         goal: &query.goal,
         locals,
@@ -54,14 +63,16 @@ fn verdict_on_nodes(
     alloc: Global,
     program: &Program<Term>,
     query: &Query<Term>,
+    terms: &SharedTerms,
     indexed: &IndexedAnswer<'_>,
-    derivation: &Derivation,
+    derivation: &SharedDerivation,
 ) -> Result<Verdict, Memory>
     ensures { IfOk result (λ v. verdict_said v
-        ≡ verdict (refusal_on (program_of program.now) (query_of query.now) (answer_of indexed.now)
-        (derivation_of derivation.now))) }
+        ≡ verdict (refusal_on (program_of program.now) (query_of query.now)
+        (shared_answer (shared_terms terms.now) indexed.now)
+        (shared_derivation (shared_terms terms.now) derivation.now))) }
 {
-    let mut walk = walk_from(alloc, query, indexed.answer(), derivation)?;
+    let mut walk = walk_from(alloc, query, terms, indexed.answer(), derivation)?;
     let mut node: u64 = 0;
     'nodes: while let Some(next) = walk.pending.pop() {
         node = node.saturating_add(1);
@@ -81,12 +92,13 @@ pub fn verify(
     alloc: Global,
     program: &Restricted,
     query: u32,
-    answer: &Answer,
-    derivation: &Derivation,
+    terms: &SharedTerms,
+    answer: &SharedAnswer,
+    derivation: &SharedDerivation,
 ) -> Result<Verdict, Memory>
-    ensures { IfOk result (λ v. verdict_said v
-        ≡ verdict_of (program_of program.now) query (answer_of answer.now)
-        (derivation_of derivation.now)) }
+    ensures { IfOk result (λ v. verdict_said v ≡ verdict_of (program_of program.now) query
+        (shared_answer (shared_terms terms.now) answer.now)
+        (shared_derivation (shared_terms terms.now) derivation.now)) }
 {
     let program = program.program();
     let rule = Rule::Answer.number();
@@ -96,8 +108,8 @@ pub fn verify(
     let Some(indexed) = IndexedAnswer::of(alloc, answer)? else {
         return Ok(Verdict::No { node: 0, rule });
     };
-    if !answer_fits(alloc, program, query, &indexed)? {
+    if !answer_fits(alloc, program, query, terms, &indexed)? {
         return Ok(Verdict::No { node: 0, rule });
     }
-    verdict_on_nodes(alloc, program, query, &indexed, derivation)
+    verdict_on_nodes(alloc, program, query, terms, &indexed, derivation)
 }

@@ -6,13 +6,15 @@ ghost use Rattle.ap_checker.specs.Walks.{pending_at};
 use crate::scope::Standing;
 use ap_defs::goals::{Goal, Local};
 use ap_defs::memory::Memory;
-use ap_defs::outcomes::Derivation;
 use ap_defs::terms::Term;
+use ap_shared::arena::SharedTerms;
+use ap_shared::derivations::SharedDerivation;
 
-/// A derivation, the goal that it is to prove, and the identifiers of the goal's item.
+/// A derivation over a table, the goal that it is to prove, and the identifiers of the goal's item.
 #[derive(Clone, Copy)]
 pub(crate) struct Obligation<'a> {
-    pub derivation: &'a Derivation,
+    pub terms: &'a SharedTerms,
+    pub derivation: &'a SharedDerivation,
     pub goal: &'a Goal<Term>,
     pub locals: &'a [Local],
 }
@@ -33,12 +35,20 @@ pub(crate) struct Walk<'a> {
 
 impl<'a> Obligation<'a> {
     /// A node below this one, for a goal in this one's goal.
-    pub(crate) fn below(self, derivation: &'a Derivation, goal: &'a Goal<Term>) -> Obligation<'a>
-        ensures { result
-            ≡ record
-            { derivation = derivation.entry; goal = goal.entry; locals = self.entry.locals } }
+    pub(crate) fn below(
+        self,
+        derivation: &'a SharedDerivation,
+        goal: &'a Goal<Term>,
+    ) -> Obligation<'a>
+        ensures { result ≡ record {
+          terms = self.entry.terms;
+          derivation = derivation.entry;
+          goal = goal.entry;
+          locals = self.entry.locals;
+        } }
     {
         Obligation {
+            terms: self.terms,
             derivation,
             goal,
             locals: self.locals,
