@@ -16,6 +16,7 @@ use ap_defs::paths::{Node, Path};
 use ap_derive::derivations::derive;
 use ap_index::index::Index;
 use ap_program::restricted::Restricted;
+use ap_shared::sharing::shared;
 use ap_replay::replay::at;
 use ap_text::program_of_text;
 use std::alloc::{AllocError, Global};
@@ -125,7 +126,9 @@ fn read(alloc: Global, program: &Restricted) -> Result<Bundle, Memory> {
 fn checked(alloc: Global, program: &Restricted, bundle: &Bundle) -> Result<usize, Memory> {
     let mut count: usize = 0;
     for it in bundle.proved.items() {
-        let verdict = verify(alloc, program, it.query, &it.answer, &it.derivation)?;
+        let found = shared(alloc, it)?;
+        let terms = found.terms.as_ref();
+        let verdict = verify(alloc, program, found.query, terms, &found.answer, &found.derivation)?;
         if verdict == Verdict::Yes {
             count = count.saturating_add(1);
         }
