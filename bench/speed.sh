@@ -1,7 +1,7 @@
 #!/bin/sh
 # Runs the workloads of speed_text.py by this interpreter with one, two and four workers, and by SWI-Prolog and ELPI where they
 # are installed (Debian's packages swi-prolog-nox and elpi), and prints what each took. Words are the workloads to run: all, where
-# none is given. Subsets and queens take ELPI some seconds.
+# none is given.
 . "$(dirname -- "$(readlink -f -- "$0")")/prepare.sh"
 
 build_program

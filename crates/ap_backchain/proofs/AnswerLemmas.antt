@@ -1,27 +1,31 @@
 -- Answers of states that were found.
 use Rattle.std.proofs.Common.{◌≡◌, ◌≤◌, ℕ, zero, suc, List, [], ◌∷◌, length, refl, sym, ap, ◌∙◌, arith}
-use Rattle.std.specs.Prelude.{None, is_some}
+use Rattle.std.specs.Prelude.{None, Some, is_some}
 use Rattle.ap_defs.specs.Answers.{binds_in, closed_term, kind_at, typed_vars}
 use Rattle.ap_defs.specs.Canonical.{canonical_term}
 use Rattle.ap_defs.specs.Freshness.{Conds}
 use Rattle.ap_defs.specs.Resolution.{State}
-use Rattle.ap_defs.specs.Substitution.{moved}
+use Rattle.ap_defs.specs.Substitution.{under}
 use Rattle.ap_defs.specs.Terms.{NominalTerm, susp}
 use Rattle.ap_defs.specs.Types.{NominalKind, NominalLocal, NominalType}
 use Rattle.ap_defs.specs.declared.terms.Var.{Var}
 use Rattle.ap_perm.proofs.PermLemmas.{canonical_none}
-use Rattle.ap_store.proofs.StoreLemmas.{next_counts, store_sound, unbound_past}
+use Rattle.ap_store.proofs.FollowLemmas.{unbound_under}
+use Rattle.ap_store.proofs.StoreLemmas.{next_counts, store_sound}
 use Rattle.ap_store.specs.Views.{bindings_of, kinds, present, raw_bound}
 use Rattle.ap_store.specs.declared.store.Store.{Store}
-use Rattle.ap_theory.proofs.IdempotenceLemmas.{bound_term_unbound}
+use Rattle.ap_theory.proofs.TermLemmas.{act_term_none}
 use Rattle.ap_theory.specs.Variables.{is_bound}
 use Rattle.ap_backchain.specs.Unbound.{answer_by_unbound, unbound_vars, vars_besides}
 use Rattle.ap_backchain.specs.Views.{state_in}
 
--- a number that was not given stands for itself
-pub closed_past : (s : Store) (x : Var) → (present s).next ≤ x.num → susp [] x ≡ closed_term (state_in s) (susp [] x)
-closed_past s x l =
-    sym (ap (λ o. canonical_term (moved [] x o)) (bound_term_unbound (bindings_of s) x (unbound_past s x l)) ∙ ap (λ p. susp p x) canonical_none)
+-- what is not bound stands for itself
+pub closed_unbound : (s : Store) (x : Var) → raw_bound s x ≡ None → susp [] x ≡ closed_term (state_in s) (susp [] x)
+closed_unbound s x e = sym (ap canonical_term (unbound_under s [] x e) ∙ ap (λ p. susp p x) canonical_none)
+
+-- and what is bound for what its binding stands for
+pub closed_bound : (s : Store) (x : Var) (v : NominalTerm) → raw_bound s x ≡ Some v → canonical_term (under (bindings_of s) v) ≡ closed_term (state_in s) (susp [] x)
+closed_bound s x v e = sym (ap canonical_term ((store_sound s).follows [] x v e ∙ act_term_none (under (bindings_of s) v)))
 
 past_kinds : (ks : List NominalKind) (n : ℕ) → length ks ≤ n → kind_at ks n ≡ None
 past_kinds [] n h = refl

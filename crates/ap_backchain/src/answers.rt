@@ -25,15 +25,12 @@ use ap_store::store::Store;
 use std::alloc::Global;
 
 /// What a variable stands for, with canonical lists.
-pub fn closed_var(alloc: Global, store: &Store<'_>, x: Var) -> Result<Term, Memory>
+pub fn closed_var<'a>(alloc: Global, store: &Store<'a>, x: Var) -> Result<Term, Memory>
     ensures { IfOk result (λ t. term_of t ≡ closed_term (state_in store.now) (susp [] x)) }
 {
-    let waiting = Term::Susp(List::of(Vec::new(alloc)), x);
-    if x.num < store.next() {
-        let closure = Closure::of(alloc, 0, store.next(), &waiting);
-        closed_from(alloc, store, &closure)
-    } else {
-        Ok(waiting)
+    match store.binding(x) {
+        None => Ok(Term::Susp(List::of(Vec::new(alloc)), x)),
+        Some(bound) => closed_from(alloc, store, bound),
     }
 }
 

@@ -2,8 +2,9 @@
 
 ghost use Rattle.std.specs.Prelude.{◌≡◌, ◌≤◌, ◌<◌, ◌+◌, [], true, IfOk};
 ghost use Rattle.ap_defs.specs.Canonical.{canonical, canonical_term};
+ghost use Rattle.ap_defs.specs.Substitution.{under};
 ghost use Rattle.ap_defs.specs.Terms.{app, term_of, unit};
-ghost use Rattle.ap_perm.specs.Closures.{closure_term};
+ghost use Rattle.ap_perm.specs.Closures.{closure_term, lent_term};
 ghost use Rattle.ap_store.specs.Heads.{IsHeadUnbound};
 ghost use Rattle.ap_store.specs.Views.{bindings_of, meaning_in};
 ghost use Rattle.ap_store.specs.declared.store.Store.{Store};
@@ -13,7 +14,8 @@ ghost use Rattle.ap_backchain.specs.Closed.{closed_part, closed_round, closed_wi
 use ap_defs::lists::List;
 use ap_defs::memory::Memory;
 use ap_defs::terms::{Name, Swap, Term};
-use ap_perm::closures::{Closure, Opened};
+use ap_perm::closures::{Closure, Lent, Opened};
+use ap_perm::joining::copied;
 use ap_perm::perm::Perm;
 use ap_store::store::Store;
 use std::alloc::Global;
@@ -168,8 +170,16 @@ fn close<'a>(alloc: Global, store: &Store<'a>, first: Closure<'a>) -> Result<Ter
 
 /// What a closure stands for under the bindings, with canonical lists. It is made once, and what stands
 /// round the part that is being made lies on a stack of its own.
-pub fn closed_from(alloc: Global, store: &Store<'_>, c: &Closure<'_>) -> Result<Term, Memory>
-    ensures { IfOk result (λ t. term_of t ≡ canonical_term (meaning_in store.now c.now)) }
+pub fn closed_from<'a>(alloc: Global, store: &Store<'a>, c: Lent<'_, 'a>) -> Result<Term, Memory>
+    ensures { IfOk result (λ t. term_of t
+        ≡ canonical_term (under (bindings_of store.now) (lent_term c.entry))) }
 {
-    close(alloc, store, c.copy(alloc)?)
+    let swaps = copied(alloc, c.swaps)?;
+    let first = Closure {
+        swaps,
+        base: c.base,
+        end: c.end,
+        term: c.term,
+    };
+    close(alloc, store, first)
 }

@@ -1,5 +1,6 @@
 -- What terms match, step by step.
-use Rattle.std.proofs.Common.{◌≡◌, ◌∙◌, ℕ, Bool, true, false, List, [], ◌∷◌, ◌++◌, map, refl, sym, ap, ap₂, true≢false}
+use Rattle.std.proofs.Common.{◌≡◌, ◌∙◌, ℕ, Bool, true, false, List, [], ◌∷◌, ◌++◌, map, refl, reverse, sym, ap, ap₂, true≢false}
+use Rattle.std.proofs.lemmas.List.{reverse-append}
 use Rattle.std.specs.Prelude.{if◌then◌else◌}
 use Rattle.ap_cover.specs.Ground.{ground_terms, is_ground_term}
 use Rattle.ap_covering.specs.Matched.{Pairs, given_by, matched, matched_each}
@@ -112,3 +113,7 @@ module _ (swaps : List Swap) where
       added (given_by r other) y
       ∙ gives_at p (given_by l (given_by r other)) (given_by whole other) y (sym (given_both l r other y) ∙ ap (λ ps. given_by ps other y) same)
       ∙ before other y
+
+pub reverse_inverse : (p : List Swap) → reverse p ≡ inverse p
+reverse_inverse [] = refl
+reverse_inverse (s ∷ p) = reverse-append (s ∷ []) p ∙ ap (λ q. q ++ s ∷ []) (reverse_inverse p)

@@ -38,11 +38,11 @@ pub enum Covered {
 }
 
 /// By what the answer at which a branch of the proof's path stands covers the proof.
-fn covering_at(
+fn covering_at<'a>(
     alloc: Global,
-    p: &Problem<'_>,
+    p: &Problem<'a>,
     constructors: &[Constructor],
-    branch: &Branch<'_>,
+    branch: &Branch<'a>,
     proved: &Proved,
 ) -> Result<Covering, Memory>
     requires query { HasQuery p.now }

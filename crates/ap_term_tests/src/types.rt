@@ -132,9 +132,24 @@ fn filled(alloc: Global, left: Shape, right: Shape) -> Result<Assignment, TypesE
     solve(alloc, equations.as_slice(), &[], 1)
 }
 
+fn is_hole(shape: &Shape, number: u64) -> bool {
+    matches!(shape, Shape::Hole(x) if *x == number)
+}
+
+fn is_names(shape: &Shape, sort: u32) -> bool {
+    matches!(shape, Shape::Names(s) if *s == sort)
+}
+
+fn are_unit(shapes: &[Shape]) -> bool {
+    match shapes {
+        [only] => matches!(only, Shape::Unit),
+        _ => false,
+    }
+}
+
 fn is_unit(answer: Result<Assignment, TypesError>) -> bool {
     match answer {
-        Ok(filled) => matches!(filled.holes.items(), [Shape::Unit]),
+        Ok(filled) => are_unit(filled.holes.items()),
         Err(_) => false,
     }
 }
@@ -165,13 +180,19 @@ fn a_hole_in_its_own_shape_is_a_clash(rt: HostRuntime) {
 /// Whether hole 1, which must be a name type, is the one that there is.
 fn is_only_name_type(alloc: Global) -> Result<bool, TypesError> {
     let only = solve(alloc, &[], &[1], 1)?;
-    Ok(matches!(only.holes.items(), [Shape::Hole(0), Shape::Names(0)]))
+    match only.holes.items() {
+        [first, second] => Ok(is_hole(first, 0) && is_names(second, 0)),
+        _ => Ok(false),
+    }
 }
 
 /// Whether hole 1, which must be a name type, stays open where there are two.
 fn is_either_name_type(alloc: Global) -> Result<bool, TypesError> {
     let either = solve(alloc, &[], &[1], 2)?;
-    Ok(matches!(either.holes.items(), [Shape::Hole(0), Shape::Hole(1)]))
+    match either.holes.items() {
+        [first, second] => Ok(is_hole(first, 0) && is_hole(second, 1)),
+        _ => Ok(false),
+    }
 }
 
 /// What there is where hole 1 must be a name type, and is the unit.
@@ -205,7 +226,7 @@ fn stand_once(alloc: Global) -> Result<bool, TypesError> {
     let equations = doublings(alloc, 200)?;
     let table = solved(alloc, equations.as_slice(), &[], 1)?;
     let first = value_of(alloc, &table, 0)?;
-    Ok(table.holes == 201 && table.nodes.len() == 401 && matches!(first, Shape::Hole(0)))
+    Ok(table.holes == 201 && table.nodes.len() == 401 && is_hole(&first, 0))
 }
 
 fn doubled_unit(alloc: Global) -> Result<Assignment, TypesError> {

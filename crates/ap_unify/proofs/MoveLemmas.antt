@@ -1,5 +1,6 @@
 -- What the rules make of closures, seen under bindings.
-use Rattle.std.proofs.Common.{◌≡◌, ◌<◌, ℕ, false, List, [], ◌∷◌, ap, sym, subst, ◌∙◌}
+use Rattle.std.proofs.Common.{◌≡◌, ◌<◌, ℕ, false, List, [], ◌∷◌, ◌++◌, ap, refl, reverse, sym, subst, ◌∙◌}
+use Rattle.std.proofs.lemmas.List.{reverse-append}
 use Rattle.ap_defs.specs.Permutations.{inverse, swap_of}
 use Rattle.ap_defs.specs.Renaming.{AreSwapsBelow, IsBelow}
 use Rattle.ap_defs.specs.Substitution.{Binding, occurs, under}
@@ -22,3 +23,7 @@ back_absent s x p t u h e = ap (occurs x) (moved_under s (inverse p) t u e) ∙ 
 
 pub swapped_below : (n : ℕ) (a b : Name) (t u : NominalTerm) → a.num < n → b.num < n → IsBelow n t → u ≡ act_term (swap_of a b ∷ []) t → IsBelow n u
 swapped_below n a b t u l m h e = subst (IsBelow n) (sym e) (act_below n (swap_of a b ∷ []) (l, m, tt) t h)
+
+pub reverse_inverse : (p : List Swap) → reverse p ≡ inverse p
+reverse_inverse [] = refl
+reverse_inverse (s ∷ p) = reverse-append (s ∷ []) p ∙ ap (λ q. q ++ s ∷ []) (reverse_inverse p)

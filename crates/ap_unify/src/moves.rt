@@ -64,7 +64,7 @@ fn suspension_of(alloc: Global, c: &Closure<'_>) -> Result<Option<Suspension>, M
 }
 
 /// The inverse of a permutation.
-#[tactic(auto, using(ap_perm::proofs::PermLemmas::reverse_inverse))]
+#[tactic(auto, using(crate::proofs::MoveLemmas::reverse_inverse))]
 fn inverse_of(alloc: Global, p: &[Swap]) -> Result<Vec<Swap>, Memory>
     ensures { IfOk result (λ q. q.items ≡ inverse p.now) }
 {

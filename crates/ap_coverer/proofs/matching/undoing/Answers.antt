@@ -3,8 +3,8 @@ use Rattle.std.proofs.lemmas.List.{take_all}
 use Rattle.ap_defs.specs.declared.terms.Swap.{Swap}
 use Rattle.ap_defs.specs.Permutations.{inverse}
 use Rattle.ap_defs.specs.Renaming.{replace_swap}
-use Rattle.ap_perm.proofs.PermLemmas.{reverse_inverse}
 use Rattle.ap_theory.proofs.PermutationLemmas.{inverse-append}
+use Rattle.ap_coverer.proofs.MatchLemmas.{reverse_inverse}
 use Rattle.ap_coverer.proofs.matching.undoing.Goals as goal
 
 pub returns : goal.returns
