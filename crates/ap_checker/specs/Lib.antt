@@ -1,6 +1,7 @@
 pub mod Wanted
 pub mod FreeLocals
 pub mod Places
+pub mod Cited
 pub mod Scopes
 pub mod Closures
 pub mod Rules

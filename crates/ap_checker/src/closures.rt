@@ -6,20 +6,16 @@
 
 ghost use Rattle.std.specs.Prelude.{◌≡◌, IfOk};
 ghost use Rattle.ap_defs.specs.Terms.{act_term, pair, susp, term_of};
-ghost use Rattle.ap_shared.specs.Shared.{shared_at};
-ghost use Rattle.ap_shared.specs.SharedPlaces.{shared_term};
-ghost use Rattle.ap_shared.specs.SharedViews.{shared_terms};
 ghost use Rattle.ap_checks.specs.OpenEnvironments.{put_in};
+ghost use Rattle.ap_checker.specs.Cited.{cited_term};
 ghost use Rattle.ap_checker.specs.Closures.{head_term, scoped_term};
 ghost use Rattle.ap_checker.specs.Scopes.{environment_of};
 
+use crate::cited::{Cited, Layer, layer_of};
 use crate::scope::{Standing, name_in, put_swaps, term_in};
 use crate::swappings::image;
 use ap_defs::memory::Memory;
 use ap_defs::terms::{Name, Swap, Term, Var};
-use ap_shared::arena::SharedTerms;
-use ap_shared::lines::Entry;
-use ap_shared::places::Shared;
 use std::alloc::Global;
 use std::rc::Rc;
 
@@ -33,11 +29,11 @@ pub(crate) struct Scope<'a> {
 #[derive(Drop)]
 pub(crate) enum Closure<'a> {
     /// The term itself.
-    Whole(Shared<'a>),
+    Whole(Cited<'a>),
     /// The term of an item, with what stands there for its identifiers put in.
     Within(Scope<'a>, &'a Term),
     /// The term, on which swappings act.
-    Moved(Rc<Vec<Swap>>, Shared<'a>),
+    Moved(Rc<Vec<Swap>>, Cited<'a>),
 }
 
 /// Terms of an item, with what stands there for its identifiers put in.
@@ -58,32 +54,17 @@ pub(crate) enum Head<'a> {
     Susp(Vec<Swap>, Var),
 }
 
-/// A term of the table.
-fn whole<'a>(terms: &'a SharedTerms, line: usize) -> Closure<'a>
-    ensures { scoped_term result ≡ shared_at (shared_terms terms.now) line }
-{
-    Closure::Whole(Shared { terms, line })
-}
-
 /// The head of a term itself.
-fn head_of<'a>(alloc: Global, t: Shared<'a>) -> Result<Head<'a>, Memory>
-    ensures { IfOk result (λ h. head_term h ≡ shared_term t.entry) }
+fn head_of<'a>(alloc: Global, t: Cited<'a>) -> Result<Head<'a>, Memory>
+    ensures { IfOk result (λ h. head_term h ≡ cited_term t.entry) }
 {
-    let Shared { terms, line } = t;
-    match terms.entry(line) {
-        None => Ok(Head::Unit),
-        Some(Entry::Unit) => Ok(Head::Unit),
-        Some(Entry::Name(a)) => Ok(Head::Name(*a)),
-        Some(Entry::Susp(swaps, x)) => Ok(Head::Susp(swaps.items().to_vec(alloc)?, *x)),
-        Some(Entry::Pair(left, right)) => Ok(Head::Pair(whole(terms, *left), whole(terms, *right))),
-        Some(Entry::App(f, part)) => Ok(Head::App(*f, whole(terms, *part))),
-        Some(Entry::Abs(sort, num, part)) => {
-            let a = Name {
-                sort: *sort,
-                num: *num,
-            };
-            Ok(Head::Abs(a, whole(terms, *part)))
-        }
+    match layer_of(t) {
+        Layer::Unit => Ok(Head::Unit),
+        Layer::Name(a) => Ok(Head::Name(a)),
+        Layer::Susp(swaps, x) => Ok(Head::Susp(swaps.to_vec(alloc)?, x)),
+        Layer::Pair(left, right) => Ok(Head::Pair(Closure::Whole(left), Closure::Whole(right))),
+        Layer::App(f, argument) => Ok(Head::App(f, Closure::Whole(argument))),
+        Layer::Abs(a, body) => Ok(Head::Abs(a, Closure::Whole(body))),
     }
 }
 
@@ -101,57 +82,42 @@ fn moved_suspension<'a>(
     Ok(Head::Susp(all, x))
 }
 
-/// A term of the table on which swappings act.
-fn moved<'a>(swaps: Rc<Vec<Swap>>, terms: &'a SharedTerms, line: usize) -> Closure<'a>
-    ensures { scoped_term result
-        ≡ act_term swaps.value.items (shared_at (shared_terms terms.now) line) }
-{
-    Closure::Moved(swaps, Shared { terms, line })
-}
-
 /// The head of a pair on which swappings act.
 fn moved_pair<'a>(
     swaps: Rc<Vec<Swap>>,
-    terms: &'a SharedTerms,
-    left: usize,
-    right: usize,
+    left: Cited<'a>,
+    right: Cited<'a>,
 ) -> Result<Head<'a>, Memory>
-    ensures { IfOk result (λ h. head_term h ≡ act_term swaps.value.items
-        (pair (shared_at (shared_terms terms.now) left) (shared_at (shared_terms terms.now) right))) }
+    ensures { IfOk result (λ h. head_term h
+        ≡ act_term swaps.value.items (pair (cited_term left.entry) (cited_term right.entry))) }
 {
     let same = swaps.clone()?;
-    let left = moved(same, terms, left);
-    let right = moved(swaps, terms, right);
+    let left = Closure::Moved(same, left);
+    let right = Closure::Moved(swaps, right);
     Ok(Head::Pair(left, right))
 }
 
 /// The head of a term on which swappings act.
-fn moved_head<'a>(alloc: Global, swaps: Rc<Vec<Swap>>, t: Shared<'a>) -> Result<Head<'a>, Memory>
-    ensures { IfOk result (λ h. head_term h ≡ act_term swaps.value.items (shared_term t.entry)) }
+fn moved_head<'a>(alloc: Global, swaps: Rc<Vec<Swap>>, t: Cited<'a>) -> Result<Head<'a>, Memory>
+    ensures { IfOk result (λ h. head_term h ≡ act_term swaps.value.items (cited_term t.entry)) }
 {
-    let Shared { terms, line } = t;
-    match terms.entry(line) {
-        None => Ok(Head::Unit),
-        Some(Entry::Unit) => Ok(Head::Unit),
-        Some(Entry::Name(a)) => Ok(Head::Name(image(&swaps, *a))),
-        Some(Entry::Susp(more, x)) => moved_suspension(alloc, &swaps, more.items(), *x),
-        Some(Entry::Pair(left, right)) => moved_pair(swaps, terms, *left, *right),
-        Some(Entry::App(f, part)) => Ok(Head::App(*f, moved(swaps, terms, *part))),
-        Some(Entry::Abs(sort, num, part)) => {
-            let a = Name {
-                sort: *sort,
-                num: *num,
-            };
+    match layer_of(t) {
+        Layer::Unit => Ok(Head::Unit),
+        Layer::Name(a) => Ok(Head::Name(image(&swaps, a))),
+        Layer::Susp(more, x) => moved_suspension(alloc, &swaps, more, x),
+        Layer::Pair(left, right) => moved_pair(swaps, left, right),
+        Layer::App(f, argument) => Ok(Head::App(f, Closure::Moved(swaps, argument))),
+        Layer::Abs(a, body) => {
             let a = image(&swaps, a);
-            Ok(Head::Abs(a, moved(swaps, terms, *part)))
+            Ok(Head::Abs(a, Closure::Moved(swaps, body)))
         }
     }
 }
 
 /// The head of a term on which swappings act, if there are any.
 #[tactic(auto, using(crate::proofs::HeadLemmas::unmoved))]
-fn head_moved_by<'a>(alloc: Global, swaps: Vec<Swap>, t: Shared<'a>) -> Result<Head<'a>, Memory>
-    ensures { IfOk result (λ h. head_term h ≡ act_term swaps.items (shared_term t.entry)) }
+fn head_moved_by<'a>(alloc: Global, swaps: Vec<Swap>, t: Cited<'a>) -> Result<Head<'a>, Memory>
+    ensures { IfOk result (λ h. head_term h ≡ act_term swaps.items (cited_term t.entry)) }
 {
     if swaps.is_empty() {
         return head_of(alloc, t);

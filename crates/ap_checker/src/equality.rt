@@ -10,17 +10,17 @@ ghost use Rattle.ap_defs.specs.Terms.{abs, susp};
 ghost use Rattle.ap_checker.specs.declared.equality.Compared.{Compared};
 ghost use Rattle.ap_checker.specs.Binders.{AreBinders, within_left, within_right};
 ghost use Rattle.ap_checker.specs.Comparisons.{are_alike, mark_of, compared_size};
+ghost use Rattle.ap_checker.specs.Cited.{cited_term};
 ghost use Rattle.ap_checker.specs.Closures.{scoped_term};
 ghost use Rattle.ap_checker.specs.Stacks.{AreWithin, IsTestedThere};
-ghost use Rattle.ap_shared.specs.SharedPlaces.{shared_term};
 
 use crate::binders::Binders;
+use crate::cited::Cited;
 use crate::closures::{Closure, Head, head_at};
 use crate::index::IndexedAnswer;
 use crate::suspensions::are_all_settled;
 use ap_defs::memory::Memory;
 use ap_defs::terms::{Name, Swap, Var};
-use ap_shared::places::Shared;
 use std::alloc::Global;
 
 /// Two terms that are yet to be compared, and how many of the pairs of binders stand round them.
@@ -182,11 +182,11 @@ pub(crate) fn are_equal_at(
 pub fn are_equal_under(
     alloc: Global,
     answer: &IndexedAnswer<'_>,
-    t: Shared<'_>,
-    u: Shared<'_>,
+    t: Cited<'_>,
+    u: Cited<'_>,
 ) -> Result<bool, Memory>
     ensures { IfOk result (λ yes. yes
-        ≡ alpha_under answer.now.conds (shared_term t.entry) (shared_term u.entry)) }
+        ≡ alpha_under answer.now.conds (cited_term t.entry) (cited_term u.entry)) }
 {
     are_equal_at(alloc, answer, Closure::Whole(t), Closure::Whole(u))
 }

@@ -7,14 +7,14 @@ ghost use Rattle.ap_defs.specs.Renaming.{local_names, local_vars};
 ghost use Rattle.ap_defs.specs.Terms.{unit};
 ghost use Rattle.ap_defs.specs.Types.{local_of, locals_of};
 ghost use Rattle.ap_checks.specs.OpenEnvironments.{open_term_for};
+ghost use Rattle.ap_checker.specs.Cited.{cited_term, cited_terms};
 ghost use Rattle.ap_checker.specs.Places.{places_from};
-ghost use Rattle.ap_shared.specs.SharedPlaces.{given_terms, shared_term};
 
+use crate::cited::{Cited, CitedTerms};
 use crate::lookups::{is_variable, sort_of};
 use ap_defs::goals::Local;
 use ap_defs::memory::Memory;
 use ap_defs::terms::{Name, Var};
-use ap_shared::places::{Given, Shared};
 use std::alloc::Global;
 use std::marker::Model;
 
@@ -119,19 +119,16 @@ impl<'a> Identifiers<'a> {
     }
 
     /// The term for a free variable.
-    pub fn term_for<'t>(&self, given: Given<'t>, x: Var) -> Option<Shared<'t>>
+    pub fn term_for<'t>(&self, given: CitedTerms<'t>, x: Var) -> Option<Cited<'t>>
         ensures { MatchOption result
-            (open_term_for (local_vars zero (locals_of self.now)) (given_terms given.entry) x ≡ unit)
-            (λ t. open_term_for (local_vars zero (locals_of self.now)) (given_terms given.entry) x
-            ≡ shared_term t) }
+            (open_term_for (local_vars zero (locals_of self.now)) (cited_terms given.entry) x ≡ unit)
+            (λ t. open_term_for (local_vars zero (locals_of self.now)) (cited_terms given.entry) x
+            ≡ cited_term t) }
     {
-        let Given { terms, lines } = given;
         let (local, place) = self.at(x.num)?;
-        if is_variable(local) && place < lines.len() {
-            let line = lines[place];
-            Some(Shared { terms, line })
-        } else {
-            None
+        if !is_variable(local) {
+            return None;
         }
+        given.get(place)
     }
 }

@@ -9,6 +9,7 @@
 
 mod answers;
 mod binders;
+pub mod cited;
 mod closures;
 pub mod equality;
 mod fits;

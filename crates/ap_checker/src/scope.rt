@@ -3,29 +3,29 @@
 ghost use Rattle.std.specs.Prelude.{◌≡◌, map, IfOk, MatchOption, None, Some};
 ghost use Rattle.ap_defs.specs.Terms.{term_of, unit};
 ghost use Rattle.ap_checks.specs.OpenEnvironments.{put_in, swap_in};
+ghost use Rattle.ap_checker.specs.Cited.{cited_term};
 ghost use Rattle.ap_checker.specs.Scopes.{environment_of, item_term, name_stood, term_brought};
-ghost use Rattle.ap_shared.specs.SharedPlaces.{shared_term};
 
+use crate::cited::{Cited, CitedTerms};
 use crate::closures::{Closure, Scope};
 use crate::identifiers::Identifiers;
 use crate::outside::copied;
 use crate::swappings::is_same;
 use ap_defs::memory::Memory;
 use ap_defs::terms::{Name, Swap, Term, Var};
-use ap_shared::places::{Given, Shared};
 use std::alloc::Global;
 
 /// What stands for the free identifiers of an item, or for one that its goal brought.
 #[derive(Drop)]
 pub enum Standing<'a> {
     /// The terms for the free variables of a query, in order; each free name stands for itself.
-    Query(Identifiers<'a>, Given<'a>),
+    Query(Identifiers<'a>, CitedTerms<'a>),
     /// The names for the free names of a clause and the terms for its free variables, in order.
-    Clause(Identifiers<'a>, &'a [Name], Given<'a>),
+    Clause(Identifiers<'a>, &'a [Name], CitedTerms<'a>),
     /// The name for a name that `new` brought.
     Name(Name, Name),
     /// The term for a variable that `exists` brought.
-    Term(Var, Shared<'a>),
+    Term(Var, Cited<'a>),
 }
 
 /// The name for a name, if this is what says it.
@@ -41,9 +41,9 @@ fn name_at(standing: &Standing<'_>, b: Name) -> Option<Name>
 }
 
 /// The term that `exists` brought for a variable, if this is what says it.
-fn term_at<'a>(standing: &Standing<'a>, x: Var) -> Option<Shared<'a>>
+fn term_at<'a>(standing: &Standing<'a>, x: Var) -> Option<Cited<'a>>
     ensures { MatchOption result (term_brought standing.now x ≡ None) (λ t. term_brought
-        standing.now x ≡ Some (shared_term t)) }
+        standing.now x ≡ Some (cited_term t)) }
 {
     match standing {
         Standing::Term(y, t) if y.num == x.num => Some(*t),
@@ -52,10 +52,10 @@ fn term_at<'a>(standing: &Standing<'a>, x: Var) -> Option<Shared<'a>>
 }
 
 /// What an item has for a variable, if this is what stands for an item's identifiers.
-fn item_term_at<'a>(standing: &Standing<'a>, x: Var) -> Option<Option<Shared<'a>>>
+fn item_term_at<'a>(standing: &Standing<'a>, x: Var) -> Option<Option<Cited<'a>>>
     ensures { MatchOption result (item_term standing.now x ≡ None) (λ found. MatchOption found
         (item_term standing.now x ≡ Some unit) (λ t. item_term standing.now x
-        ≡ Some (shared_term t))) }
+        ≡ Some (cited_term t))) }
 {
     match standing {
         Standing::Query(own, given) => Some(own.term_for(*given, x)),
@@ -77,9 +77,9 @@ pub(crate) fn name_in(scope: &[Standing<'_>], b: Name) -> Name
 }
 
 /// The term for a variable; where there is none, unit stands for it.
-pub(crate) fn term_in<'a>(scope: &[Standing<'a>], x: Var) -> Option<Shared<'a>>
+pub(crate) fn term_in<'a>(scope: &[Standing<'a>], x: Var) -> Option<Cited<'a>>
     ensures { MatchOption result ((environment_of scope.now).terms x ≡ unit) (λ t.
-        (environment_of scope.now).terms x ≡ shared_term t) }
+        (environment_of scope.now).terms x ≡ cited_term t) }
 {
     for i in (0..scope.len()).rev() {
         let innermost = &scope[i];

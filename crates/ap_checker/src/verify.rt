@@ -8,6 +8,7 @@ ghost use Rattle.ap_checker.specs.Walks.{IsOnWay, refusal_on};
 ghost use Rattle.ap_shared.specs.SharedViews.{shared_answer, shared_derivation, shared_terms};
 
 use crate::answers::answer_fits;
+use crate::cited::CitedTerms;
 use crate::identifiers::Identifiers;
 use crate::index::IndexedAnswer;
 use crate::lookups::query_at;
@@ -48,7 +49,7 @@ fn walk_from<'a>(
         terms,
         lines: answer.binds.items(),
     };
-    walk.bring(Standing::Query(own, given))?;
+    walk.bring(Standing::Query(own, CitedTerms::Lines(given)))?;
     walk.put(Obligation {
         terms,
         derivation,

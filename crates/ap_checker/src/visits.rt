@@ -15,6 +15,7 @@ ghost use Rattle.ap_shared.specs.Shared.{shared_at};
 ghost use Rattle.ap_shared.specs.SharedPlaces.{given_terms};
 ghost use Rattle.ap_shared.specs.SharedViews.{shared_answer, shared_derivation, shared_terms};
 
+use crate::cited::{Cited, CitedTerms};
 use crate::closures::{Closure, Scope, ScopedTerms};
 use crate::equality::are_equal_at;
 use crate::fits::{counts_fit, names_fit, term_fits, terms_fit};
@@ -74,7 +75,8 @@ fn rule_of_clause(
         return Ok(Some(Rule::Typing));
     }
     let own = Identifiers::of(alloc, locals)?;
-    let scope = [Standing::Clause(own, used.names, used.given)];
+    let given = CitedTerms::Lines(used.given);
+    let scope = [Standing::Clause(own, used.names, given)];
     let head = ScopedTerms {
         scope: Scope { standing: &scope },
         terms: clause.args.items(),
@@ -115,7 +117,8 @@ fn visit_atom<'a>(
     }
     let locals = clause.locals.items();
     let own = Identifiers::of(alloc, locals)?;
-    walk.bring(Standing::Clause(own, used.names, used.given))?;
+    let given = CitedTerms::Lines(used.given);
+    walk.bring(Standing::Clause(own, used.names, given))?;
     walk.put(Obligation {
         terms: used.given.terms,
         derivation: used.body,
@@ -196,7 +199,7 @@ fn visit_exists<'a>(
     if !term_fits(alloc, constructors, answer, below.locals, x, term)? {
         return Ok(Some(Rule::Typing));
     }
-    walk.bring(Standing::Term(x, term))?;
+    walk.bring(Standing::Term(x, Cited::Line(term)))?;
     walk.put(below)?;
     Ok(None)
 }

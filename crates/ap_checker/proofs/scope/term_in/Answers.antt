@@ -1,6 +1,6 @@
 use Rattle.std.proofs.Common.{◌≡◌, ◌-◌, MatchOption, sym, subst, ◌∙◌, arith}
 use Rattle.ap_defs.specs.Terms.{NominalTerm, unit}
-use Rattle.ap_shared.specs.SharedPlaces.{shared_term}
+use Rattle.ap_checker.specs.Cited.{cited_term}
 use Rattle.ap_checker.specs.Scopes.{nothing_put}
 use Rattle.ap_checker.proofs.ScopeLemmas.{item_here, term_further, term_here}
 use Rattle.ap_checker.proofs.scope.term_in.Goals as goal
@@ -8,7 +8,7 @@ use Rattle.ap_checker.proofs.scope.term_in.Goals as goal
 pub returns-in-Some : goal.returns-in-Some
 returns-in-Some c =
     sym c.loop-i.invariant
-    ∙ term_here c.args.scope.now c.loop-i.i (c.loop-i.i - 1) c.index-scope-i.result nothing_put (omega arith) (omega arith) c.index-scope-i.is c.args.x (shared_term c.in-Some.t) c.in-Some.ensures
+    ∙ term_here c.args.scope.now c.loop-i.i (c.loop-i.i - 1) c.index-scope-i.result nothing_put (omega arith) (omega arith) c.index-scope-i.is c.args.x (cited_term c.in-Some.t) c.in-Some.ensures
 
 pub loop-i-preserved : goal.loop-i-preserved
 loop-i-preserved c =
@@ -17,5 +17,5 @@ loop-i-preserved c =
 
 pub returns-in-Some-item_term_at : goal.returns-in-Some-item_term_at
 returns-in-Some-item_term_at c =
-    subst (λ (u : NominalTerm). MatchOption c.in-Some-item_term_at.found (u ≡ unit) (λ t. u ≡ shared_term t)) c.loop-i.invariant
-    (item_here c.args.scope.now c.loop-i.i (c.loop-i.i - 1) c.index-scope-i.result nothing_put (omega arith) (omega arith) c.index-scope-i.is shared_term c.args.x c.in-Some-item_term_at.found c.in-Some-item_term_at.ensures)
+    subst (λ (u : NominalTerm). MatchOption c.in-Some-item_term_at.found (u ≡ unit) (λ t. u ≡ cited_term t)) c.loop-i.invariant
+    (item_here c.args.scope.now c.loop-i.i (c.loop-i.i - 1) c.index-scope-i.result nothing_put (omega arith) (omega arith) c.index-scope-i.is cited_term c.args.x c.in-Some-item_term_at.found c.in-Some-item_term_at.ensures)

@@ -10,6 +10,7 @@ use Rattle.ap_checks.specs.Checks.{first_refusal, refusal}
 use Rattle.ap_checks.specs.OpenEnvironments.{open_environment, put_in}
 use Rattle.ap_shared.specs.SharedPlaces.{given_terms}
 use Rattle.ap_shared.specs.SharedViews.{shared_answer, shared_derivation, shared_terms}
+use Rattle.ap_checker.specs.declared.cited.CitedTerms.TheVariants as all
 use Rattle.ap_checker.specs.declared.scope.Standing.TheVariants as code
 use Rattle.ap_checker.specs.Rules.{node_refused}
 use Rattle.ap_checker.specs.Scopes.{environment_of}
@@ -44,7 +45,7 @@ returns c = λ kinds table.
     let v : vs ≡ map (put_in e) us = ap (λ ss. map (put_in (environment_of ss)) us) c.deref.ensures.value in
     let node = derivations.atom used.number used.names.now ts (shared_derivation lines used.body.now) in
     goes_brought p a kinds node (goals.atom c.args.pred us) c.args.walk.now c.put.new.self
-    _ (code.Clause c.in_ok-own.own used.names used.given) c.bring.new.self c.requires c.in_ok-bring.ensures.standing c.bring.ensures.pending c.put.ensures.standing c.in_ok-put.ensures.pending
+    _ (code.Clause c.in_ok-own.own used.names (all.Lines used.given)) c.bring.new.self c.requires c.in_ok-bring.ensures.standing c.bring.ensures.pending c.put.ensures.standing c.in_ok-put.ensures.pending
     (λ n.
     atom_by p a kinds n used.number c.args.pred used.names.now ts us vs (shared_derivation lines used.body.now) e (clause_of clause) None c.in-Some.ensures v
     (λ rest. c.in_ok-rule.ensures table n rest ∙ ap (λ r. first_refusal (node_refused n r) rest) c.in_default-2.is)
