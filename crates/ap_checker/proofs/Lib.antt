@@ -13,6 +13,7 @@ pub mod NewNameLemmas
 pub mod AnswerLemmas
 pub mod ClauseLemmas
 pub mod WalkLemmas
+pub mod TableLemmas
 pub mod StackLemmas
 pub mod IndexLemmas
 pub mod ComparisonLemmas

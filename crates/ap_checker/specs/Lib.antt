@@ -4,6 +4,7 @@ pub mod Places
 pub mod Cited
 pub mod Scopes
 pub mod Closures
+pub mod Tables
 pub mod Rules
 pub mod Walks
 pub mod Indexes

@@ -1,8 +1,10 @@
 //! Terms that a derivation cites: those of a table, or terms by themselves.
 
-ghost use Rattle.std.specs.Prelude.{◌≡◌, get_or, map, MatchOption};
+ghost use Rattle.std.specs.Prelude.{◌≡◌, get_or, map, IfSome, MatchOption};
 ghost use Rattle.ap_defs.specs.Terms.{term_of, unit};
 ghost use Rattle.ap_checker.specs.Cited.{cited_term, cited_terms, layer_term};
+ghost use Rattle.ap_checker.specs.Tables.{AreCitedOf, IsCitedOf, IsLayerOf};
+ghost use Rattle.ap_shared.specs.declared.arena.SharedTerms.{SharedTerms as table};
 ghost use Rattle.ap_shared.specs.SharedPlaces.{given_terms, shared_term};
 
 use ap_defs::terms::{Name, Swap, Term, Var};
@@ -41,8 +43,9 @@ pub(crate) enum Layer<'a> {
 /// The term of a table at a place, if there is one.
 #[tactic(auto, using(crate::proofs::PlaceLemmas::get_or_no_view, crate::proofs::PlaceLemmas::get_or_view))]
 fn line_at<'a>(given: Given<'a>, place: usize) -> Option<Shared<'a>>
-    ensures { MatchOption result (get_or (given_terms given.entry) place unit ≡ unit)
+    ensures term { MatchOption result (get_or (given_terms given.entry) place unit ≡ unit)
         (λ t. get_or (given_terms given.entry) place unit ≡ shared_term t) }
+    ensures of { IfSome result (λ t. t.terms.now ≡ given.entry.terms.now) }
 {
     let Given { terms, lines } = given;
     if place >= lines.len() {
@@ -67,8 +70,9 @@ fn tree_at(terms: &[Term], place: usize) -> Option<&Term>
 impl<'a> CitedTerms<'a> {
     /// The term at a place, if there is one.
     pub(crate) fn get(self, place: usize) -> Option<Cited<'a>>
-        ensures { MatchOption result (get_or (cited_terms self.entry) place unit ≡ unit)
+        ensures term { MatchOption result (get_or (cited_terms self.entry) place unit ≡ unit)
             (λ t. get_or (cited_terms self.entry) place unit ≡ cited_term t) }
+        ensures of { IfSome result (λ t. (ts : table) → AreCitedOf ts self.entry → IsCitedOf ts t) }
     {
         match self {
             CitedTerms::Lines(given) => match line_at(given, place) {
@@ -85,7 +89,8 @@ impl<'a> CitedTerms<'a> {
 
 /// The outermost layer of a term of a table.
 fn layer_of_line<'a>(t: Shared<'a>) -> Layer<'a>
-    ensures { layer_term result ≡ shared_term t.entry }
+    ensures term { layer_term result ≡ shared_term t.entry }
+    ensures of { IsLayerOf t.entry.terms.now result }
 {
     let Shared { terms, line } = t;
     let Some(entry) = terms.entry(line) else {
@@ -116,7 +121,8 @@ fn layer_of_line<'a>(t: Shared<'a>) -> Layer<'a>
 
 /// The outermost layer of a term by itself.
 fn layer_of_tree(t: &Term) -> Layer<'_>
-    ensures { layer_term result ≡ term_of t.now }
+    ensures term { layer_term result ≡ term_of t.now }
+    ensures of { (ts : table) → IsLayerOf ts result }
 {
     match t {
         Term::Unit => Layer::Unit,
@@ -130,7 +136,8 @@ fn layer_of_tree(t: &Term) -> Layer<'_>
 
 /// The outermost layer of a term that is cited.
 pub(crate) fn layer_of<'a>(t: Cited<'a>) -> Layer<'a>
-    ensures { layer_term result ≡ cited_term t.entry }
+    ensures term { layer_term result ≡ cited_term t.entry }
+    ensures of { (ts : table) → IsCitedOf ts t.entry → IsLayerOf ts result }
 {
     match t {
         Cited::Line(t) => layer_of_line(t),

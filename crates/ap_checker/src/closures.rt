@@ -4,12 +4,14 @@
 //! often as the program names it. So it isn't copied: a term with it put in is the term of the program with
 //! what stands there beside it, and each part of it is one again.
 
-ghost use Rattle.std.specs.Prelude.{◌≡◌, IfOk};
+ghost use Rattle.std.specs.Prelude.{◌≡◌, true, IfOk};
 ghost use Rattle.ap_defs.specs.Terms.{act_term, pair, susp, term_of};
 ghost use Rattle.ap_checks.specs.OpenEnvironments.{put_in};
 ghost use Rattle.ap_checker.specs.Cited.{cited_term};
 ghost use Rattle.ap_checker.specs.Closures.{head_term, scoped_term};
 ghost use Rattle.ap_checker.specs.Scopes.{environment_of};
+ghost use Rattle.ap_checker.specs.Tables.{AreStandingOf, IsCitedOf, IsClosureOf, IsHeadOf};
+ghost use Rattle.ap_shared.specs.declared.arena.SharedTerms.{SharedTerms as table};
 
 use crate::cited::{Cited, Layer, layer_of};
 use crate::scope::{Standing, name_in, put_swaps, term_in};
@@ -56,7 +58,8 @@ pub(crate) enum Head<'a> {
 
 /// The head of a term itself.
 fn head_of<'a>(alloc: Global, t: Cited<'a>) -> Result<Head<'a>, Memory>
-    ensures { IfOk result (λ h. head_term h ≡ cited_term t.entry) }
+    ensures term { IfOk result (λ h. head_term h ≡ cited_term t.entry) }
+    ensures of { IfOk result (λ h. (ts : table) → IsCitedOf ts t.entry → IsHeadOf ts h) }
 {
     match layer_of(t) {
         Layer::Unit => Ok(Head::Unit),
@@ -75,7 +78,8 @@ fn moved_suspension<'a>(
     more: &[Swap],
     x: Var,
 ) -> Result<Head<'a>, Memory>
-    ensures { IfOk result (λ h. head_term h ≡ act_term swaps.now (susp more.now x)) }
+    ensures term { IfOk result (λ h. head_term h ≡ act_term swaps.now (susp more.now x)) }
+    ensures of { IfOk result (λ h. (ts : table) → IsHeadOf ts h) }
 {
     let mut all = swaps.to_vec(alloc)?;
     all.extend_from_slice(more)?;
@@ -88,8 +92,10 @@ fn moved_pair<'a>(
     left: Cited<'a>,
     right: Cited<'a>,
 ) -> Result<Head<'a>, Memory>
-    ensures { IfOk result (λ h. head_term h
+    ensures term { IfOk result (λ h. head_term h
         ≡ act_term swaps.value.items (pair (cited_term left.entry) (cited_term right.entry))) }
+    ensures of { IfOk result (λ h. (ts : table) → IsCitedOf ts left.entry →
+        IsCitedOf ts right.entry → IsHeadOf ts h) }
 {
     let same = swaps.clone()?;
     let left = Closure::Moved(same, left);
@@ -99,7 +105,9 @@ fn moved_pair<'a>(
 
 /// The head of a term on which swappings act.
 fn moved_head<'a>(alloc: Global, swaps: Rc<Vec<Swap>>, t: Cited<'a>) -> Result<Head<'a>, Memory>
-    ensures { IfOk result (λ h. head_term h ≡ act_term swaps.value.items (cited_term t.entry)) }
+    ensures term { IfOk result (λ h.
+        head_term h ≡ act_term swaps.value.items (cited_term t.entry)) }
+    ensures of { IfOk result (λ h. (ts : table) → IsCitedOf ts t.entry → IsHeadOf ts h) }
 {
     match layer_of(t) {
         Layer::Unit => Ok(Head::Unit),
@@ -117,7 +125,8 @@ fn moved_head<'a>(alloc: Global, swaps: Rc<Vec<Swap>>, t: Cited<'a>) -> Result<H
 /// The head of a term on which swappings act, if there are any.
 #[tactic(auto, using(crate::proofs::HeadLemmas::unmoved))]
 fn head_moved_by<'a>(alloc: Global, swaps: Vec<Swap>, t: Cited<'a>) -> Result<Head<'a>, Memory>
-    ensures { IfOk result (λ h. head_term h ≡ act_term swaps.items (cited_term t.entry)) }
+    ensures term { IfOk result (λ h. head_term h ≡ act_term swaps.items (cited_term t.entry)) }
+    ensures of { IfOk result (λ h. (ts : table) → IsCitedOf ts t.entry → IsHeadOf ts h) }
 {
     if swaps.is_empty() {
         return head_of(alloc, t);
@@ -132,8 +141,10 @@ fn suspended_head<'a>(
     swaps: &[Swap],
     x: Var,
 ) -> Result<Head<'a>, Memory>
-    ensures { IfOk result (λ h. head_term h
+    ensures term { IfOk result (λ h. head_term h
         ≡ put_in (environment_of scope.entry.standing.now) (susp swaps.now x)) }
+    ensures of { IfOk result (λ h. (ts : table) →
+        AreStandingOf ts scope.entry.standing.now → IsHeadOf ts h) }
 {
     let Some(t) = term_in(scope.standing, x) else {
         return Ok(Head::Unit);
@@ -144,8 +155,10 @@ fn suspended_head<'a>(
 
 /// The head of a term of an item, with what stands there for its identifiers put in.
 fn head_within<'a>(alloc: Global, scope: Scope<'a>, t: &'a Term) -> Result<Head<'a>, Memory>
-    ensures { IfOk result (λ h. head_term h
+    ensures term { IfOk result (λ h. head_term h
         ≡ put_in (environment_of scope.entry.standing.now) (term_of t.now)) }
+    ensures of { IfOk result (λ h. (ts : table) →
+        AreStandingOf ts scope.entry.standing.now → IsHeadOf ts h) }
 {
     match t {
         Term::Unit => Ok(Head::Unit),
@@ -165,11 +178,68 @@ fn head_within<'a>(alloc: Global, scope: Scope<'a>, t: &'a Term) -> Result<Head<
 
 /// The head of a closure.
 pub(crate) fn head_at<'a>(alloc: Global, t: &Closure<'a>) -> Result<Head<'a>, Memory>
-    ensures { IfOk result (λ h. head_term h ≡ scoped_term t.now) }
+    ensures term { IfOk result (λ h. head_term h ≡ scoped_term t.now) }
+    ensures of { IfOk result (λ h. (ts : table) → IsClosureOf ts t.now → IsHeadOf ts h) }
 {
     match t {
         Closure::Whole(t) => head_of(alloc, *t),
         Closure::Within(scope, t) => head_within(alloc, *scope, t),
         Closure::Moved(swaps, t) => moved_head(alloc, swaps.clone()?, *t),
+    }
+}
+
+/// A term on which swappings act, if there are any.
+#[tactic(auto, using(crate::proofs::HeadLemmas::unmoved))]
+fn moved_by<'a>(alloc: Global, swaps: Vec<Swap>, t: Cited<'a>) -> Result<Closure<'a>, Memory>
+    ensures term { IfOk result (λ u. scoped_term u ≡ act_term swaps.items (cited_term t.entry)) }
+    ensures of { IfOk result (λ u. (ts : table) → IsCitedOf ts t.entry → IsClosureOf ts u) }
+{
+    if swaps.is_empty() {
+        return Ok(Closure::Whole(t));
+    }
+    Ok(Closure::Moved(Rc::new(alloc, swaps)?, t))
+}
+
+/// A term of an item, where it is a variable with what stands for that put there.
+fn settled_within<'a>(
+    alloc: Global,
+    scope: Scope<'a>,
+    t: &'a Term,
+) -> Result<Closure<'a>, Memory>
+    ensures term { IfOk result (λ u. scoped_term u
+        ≡ put_in (environment_of scope.entry.standing.now) (term_of t.now)) }
+    ensures of { IfOk result (λ u. (ts : table) →
+        AreStandingOf ts scope.entry.standing.now → IsClosureOf ts u) }
+{
+    let Term::Susp(swaps, x) = t else {
+        return Ok(Closure::Within(scope, t));
+    };
+    let Some(found) = term_in(scope.standing, *x) else {
+        return Ok(Closure::Within(scope, t));
+    };
+    let swaps = put_swaps(alloc, scope.standing, swaps.items())?;
+    moved_by(alloc, swaps, found)
+}
+
+/// The closure, where it is a variable with what stands for that put there.
+pub(crate) fn settled<'a>(alloc: Global, t: Closure<'a>) -> Result<Closure<'a>, Memory>
+    ensures term { IfOk result (λ u. scoped_term u ≡ scoped_term t.entry) }
+    ensures of { IfOk result (λ u. (ts : table) → IsClosureOf ts t.entry → IsClosureOf ts u) }
+{
+    match t {
+        Closure::Within(scope, t) => settled_within(alloc, scope, t),
+        Closure::Whole(t) => Ok(Closure::Whole(t)),
+        Closure::Moved(swaps, t) => Ok(Closure::Moved(swaps, t)),
+    }
+}
+
+/// Whether both are the term of one line.
+pub(crate) fn is_same_line(t: &Closure<'_>, u: &Closure<'_>) -> bool
+    ensures { result ≡ true → (ts : table) → IsClosureOf ts t.now → IsClosureOf ts u.now →
+        scoped_term t.now ≡ scoped_term u.now }
+{
+    match (t, u) {
+        (Closure::Whole(Cited::Line(t)), Closure::Whole(Cited::Line(u))) => t.line == u.line,
+        _ => false,
     }
 }

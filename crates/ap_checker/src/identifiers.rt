@@ -1,6 +1,6 @@
 //! The identifiers of an item, with their places.
 
-ghost use Rattle.std.specs.Prelude.{◌≡◌, ◌≤◌, ◌<◌, ◌==◌, ℕ, true, false, None, Some, zero, get_or, length, map, IfOk, MatchOption};
+ghost use Rattle.std.specs.Prelude.{◌≡◌, ◌≤◌, ◌<◌, ◌==◌, ℕ, true, false, None, Some, zero, get_or, length, map, IfOk, IfSome, MatchOption};
 ghost use Rattle.ap_program.specs.FreeLocals.{free_sort};
 ghost use Rattle.ap_defs.specs.GroundProofs.{name_for as name_beside};
 ghost use Rattle.ap_defs.specs.Renaming.{local_names, local_vars};
@@ -9,6 +9,8 @@ ghost use Rattle.ap_defs.specs.Types.{local_of, locals_of};
 ghost use Rattle.ap_checks.specs.OpenEnvironments.{open_term_for};
 ghost use Rattle.ap_checker.specs.Cited.{cited_term, cited_terms};
 ghost use Rattle.ap_checker.specs.Places.{places_from};
+ghost use Rattle.ap_checker.specs.Tables.{AreCitedOf, IsCitedOf};
+ghost use Rattle.ap_shared.specs.declared.arena.SharedTerms.{SharedTerms as table};
 
 use crate::cited::{Cited, CitedTerms};
 use crate::lookups::{is_variable, sort_of};
@@ -120,10 +122,12 @@ impl<'a> Identifiers<'a> {
 
     /// The term for a free variable.
     pub fn term_for<'t>(&self, given: CitedTerms<'t>, x: Var) -> Option<Cited<'t>>
-        ensures { MatchOption result
+        ensures term { MatchOption result
             (open_term_for (local_vars zero (locals_of self.now)) (cited_terms given.entry) x ≡ unit)
             (λ t. open_term_for (local_vars zero (locals_of self.now)) (cited_terms given.entry) x
             ≡ cited_term t) }
+        ensures of { IfSome result (λ t. (ts : table) →
+            AreCitedOf ts given.entry → IsCitedOf ts t) }
     {
         let (local, place) = self.at(x.num)?;
         if !is_variable(local) {

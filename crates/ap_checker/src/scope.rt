@@ -1,10 +1,12 @@
 //! What stands for the identifiers of an item at a node of a derivation, and terms with it put in.
 
-ghost use Rattle.std.specs.Prelude.{◌≡◌, map, IfOk, MatchOption, None, Some};
+ghost use Rattle.std.specs.Prelude.{◌≡◌, map, IfOk, IfSome, MatchOption, None, Some};
 ghost use Rattle.ap_defs.specs.Terms.{term_of, unit};
 ghost use Rattle.ap_checks.specs.OpenEnvironments.{put_in, swap_in};
 ghost use Rattle.ap_checker.specs.Cited.{cited_term};
 ghost use Rattle.ap_checker.specs.Scopes.{environment_of, item_term, name_stood, term_brought};
+ghost use Rattle.ap_checker.specs.Tables.{AreStandingOf, IsCitedOf, IsStandingOf};
+ghost use Rattle.ap_shared.specs.declared.arena.SharedTerms.{SharedTerms as table};
 
 use crate::cited::{Cited, CitedTerms};
 use crate::closures::{Closure, Scope};
@@ -42,8 +44,9 @@ fn name_at(standing: &Standing<'_>, b: Name) -> Option<Name>
 
 /// The term that `exists` brought for a variable, if this is what says it.
 fn term_at<'a>(standing: &Standing<'a>, x: Var) -> Option<Cited<'a>>
-    ensures { MatchOption result (term_brought standing.now x ≡ None) (λ t. term_brought
+    ensures term { MatchOption result (term_brought standing.now x ≡ None) (λ t. term_brought
         standing.now x ≡ Some (cited_term t)) }
+    ensures of { IfSome result (λ t. (ts : table) → IsStandingOf ts standing.now → IsCitedOf ts t) }
 {
     match standing {
         Standing::Term(y, t) if y.num == x.num => Some(*t),
@@ -53,9 +56,11 @@ fn term_at<'a>(standing: &Standing<'a>, x: Var) -> Option<Cited<'a>>
 
 /// What an item has for a variable, if this is what stands for an item's identifiers.
 fn item_term_at<'a>(standing: &Standing<'a>, x: Var) -> Option<Option<Cited<'a>>>
-    ensures { MatchOption result (item_term standing.now x ≡ None) (λ found. MatchOption found
+    ensures term { MatchOption result (item_term standing.now x ≡ None) (λ found. MatchOption found
         (item_term standing.now x ≡ Some unit) (λ t. item_term standing.now x
         ≡ Some (cited_term t))) }
+    ensures of { IfSome result (λ found. IfSome found (λ t. (ts : table) →
+        IsStandingOf ts standing.now → IsCitedOf ts t)) }
 {
     match standing {
         Standing::Query(own, given) => Some(own.term_for(*given, x)),
@@ -78,8 +83,9 @@ pub(crate) fn name_in(scope: &[Standing<'_>], b: Name) -> Name
 
 /// The term for a variable; where there is none, unit stands for it.
 pub(crate) fn term_in<'a>(scope: &[Standing<'a>], x: Var) -> Option<Cited<'a>>
-    ensures { MatchOption result ((environment_of scope.now).terms x ≡ unit) (λ t.
+    ensures term { MatchOption result ((environment_of scope.now).terms x ≡ unit) (λ t.
         (environment_of scope.now).terms x ≡ cited_term t) }
+    ensures of { IfSome result (λ t. (ts : table) → AreStandingOf ts scope.now → IsCitedOf ts t) }
 {
     for i in (0..scope.len()).rev() {
         let innermost = &scope[i];

@@ -1,6 +1,6 @@
 //! What is done at a node of a derivation: the rules are tried, and what is below the node comes next.
 
-ghost use Rattle.std.specs.Prelude.{◌≡◌, ℕ, List as list, length, map, IfOk, Option as option};
+ghost use Rattle.std.specs.Prelude.{◌≡◌, ℕ, List as list, length, map, IfOk, OnOk, Option as option};
 ghost use Rattle.ap_defs.specs.Derivations as derivations;
 ghost use Rattle.ap_defs.specs.Goals as goals;
 ghost use Rattle.ap_defs.specs.Goals.{NominalProgram, clause_of, goal_of, program_of};
@@ -10,6 +10,7 @@ ghost use Rattle.ap_checks.specs.Checks.{Refusal, tests_by_clause, first_refusal
 ghost use Rattle.ap_checks.specs.OpenEnvironments.{put_in};
 ghost use Rattle.ap_checker.specs.Rules.{node_refused};
 ghost use Rattle.ap_checker.specs.Scopes.{environment_of};
+ghost use Rattle.ap_checker.specs.Tables.{AreStandingOf, IsWalkOf};
 ghost use Rattle.ap_checker.specs.Walks.{ArePendingMarked, IsVisited, derivation_at, goal_at, kinds_at, pending_of};
 ghost use Rattle.ap_shared.specs.Shared.{shared_at};
 ghost use Rattle.ap_shared.specs.SharedPlaces.{given_terms};
@@ -30,6 +31,7 @@ use crate::walk::{Obligation, Walk};
 use ap_defs::goals::{Clause, Goal, Program};
 use ap_defs::memory::Memory;
 use ap_defs::terms::{Name, Term, Var};
+use ap_shared::arena::SharedTerms;
 use ap_shared::derivations::SharedDerivation;
 use ap_shared::places::{Given, Shared};
 use std::alloc::Global;
@@ -54,8 +56,9 @@ fn rule_of_clause(
     used: &Use<'_>,
     clause: &Clause<Term>,
 ) -> Result<Option<Rule>, Memory>
-    ensures { IfOk result (λ r. (table : list NominalTerm) (n : ℕ) (rest : option Refusal) →
-        tests_by_clause (program_of program.now) (shared_answer table answer.now) n
+    requires { AreStandingOf used.now.given.terms.now standing.now }
+    ensures { IfOk result (λ r. (lines : list NominalTerm) (n : ℕ) (rest : option Refusal) →
+        tests_by_clause (program_of program.now) (shared_answer lines answer.now) n
         used.now.names.now (given_terms used.now.given) (map (put_in (environment_of standing.now))
         (map term_of args.now)) (clause_of clause.now) rest
         ≡ first_refusal (node_refused n r) rest) }
@@ -85,7 +88,7 @@ fn rule_of_clause(
         scope: Scope { standing },
         terms: args,
     };
-    if !all_equal(alloc, answer, args, head)? {
+    if !all_equal(alloc, answer, used.given.terms, args, head)? {
         return Ok(Some(Rule::Head));
     }
     Ok(None)
@@ -101,12 +104,14 @@ fn visit_atom<'a>(
     pred: u32,
     args: &[Term],
 ) -> Result<Option<Rule>, Memory>
-    requires { ArePendingMarked (length walk.old.standing.items) (pending_of walk.old) }
-    ensures { IfOk result (λ r. (kinds : list NominalKind) (table : list NominalTerm) →
-        IsVisited (program_of program.now) (shared_answer table answer.now) kinds (derivations.atom
+    requires marked { ArePendingMarked (length walk.old.standing.items) (pending_of walk.old) }
+    requires of { IsWalkOf used.now.given.terms.now walk.old }
+    ensures visited { IfOk result (λ r. (kinds : list NominalKind) (lines : list NominalTerm) →
+        IsVisited (program_of program.now) (shared_answer lines answer.now) kinds (derivations.atom
         used.now.number used.now.names.now (given_terms used.now.given) (shared_derivation
         (shared_terms used.now.given.terms.now) used.now.body.now))
         (goals.atom pred (map term_of args.now)) walk.old walk.new r) }
+    ensures of { OnOk result (IsWalkOf used.now.given.terms.now walk.new) }
 {
     let Some(clause) = clause_at(program, pred, used.number) else {
         return Ok(Some(Rule::Clause));
@@ -132,21 +137,23 @@ fn visit_atom<'a>(
 fn visit_equation(
     alloc: Global,
     answer: &IndexedAnswer<'_>,
+    terms: &SharedTerms,
     walk: &Walk<'_>,
     left: &Term,
     right: &Term,
 ) -> Result<Option<Rule>, Memory>
-    requires { ArePendingMarked (length walk.now.standing.items) (pending_of walk.now) }
+    requires marked { ArePendingMarked (length walk.now.standing.items) (pending_of walk.now) }
+    requires of { IsWalkOf terms.now walk.now }
     ensures { IfOk result (λ r. (p : NominalProgram) (kinds : list NominalKind)
-        (table : list NominalTerm) →
-        IsVisited p (shared_answer table answer.now) kinds derivations.equal
+        (lines : list NominalTerm) →
+        IsVisited p (shared_answer lines answer.now) kinds derivations.equal
         (goals.equal (term_of left.now) (term_of right.now)) walk.now walk.now r) }
 {
     let scope = walk.standing.as_slice();
     let scope = Scope { standing: scope };
     let left = Closure::Within(scope, left);
     let right = Closure::Within(scope, right);
-    if !are_equal_at(alloc, answer, left, right)? {
+    if !are_equal_at(alloc, answer, terms, left, right)? {
         return Ok(Some(Rule::Equal));
     }
     Ok(None)
@@ -162,8 +169,8 @@ fn visit_freshness(
 ) -> Result<Option<Rule>, Memory>
     requires { ArePendingMarked (length walk.now.standing.items) (pending_of walk.now) }
     ensures { IfOk result (λ r. (p : NominalProgram) (kinds : list NominalKind)
-        (table : list NominalTerm) →
-        IsVisited p (shared_answer table answer.now) kinds derivations.fresh
+        (lines : list NominalTerm) →
+        IsVisited p (shared_answer lines answer.now) kinds derivations.fresh
         (goals.fresh (term_of left.now) (term_of right.now)) walk.now walk.now r) }
 {
     let scope = walk.standing.as_slice();
@@ -186,12 +193,14 @@ fn visit_exists<'a>(
     line: usize,
     below: Obligation<'a>,
 ) -> Result<Option<Rule>, Memory>
-    requires { ArePendingMarked (length walk.old.standing.items) (pending_of walk.old) }
-    ensures { IfOk result (λ r. (table : list NominalTerm) →
-        IsVisited (program_of program.now) (shared_answer table answer.now) (kinds_at below.entry)
+    requires marked { ArePendingMarked (length walk.old.standing.items) (pending_of walk.old) }
+    requires of { IsWalkOf below.terms.now walk.old }
+    ensures visited { IfOk result (λ r. (lines : list NominalTerm) →
+        IsVisited (program_of program.now) (shared_answer lines answer.now) (kinds_at below.entry)
         (derivations.exists (shared_at (shared_terms below.entry.terms.now) line)
         (derivation_at below.entry))
         (goals.exists x (goal_at below.entry)) walk.old walk.new r) }
+    ensures of { OnOk result (IsWalkOf below.entry.terms.now walk.new) }
 {
     let terms = below.terms;
     let term = Shared { terms, line };
@@ -215,10 +224,12 @@ fn visit_new<'a>(
 ) -> Result<Option<Rule>, Memory>
     requires marked { ArePendingMarked (length walk.old.standing.items) (pending_of walk.old) }
     requires goal { goal_of goal.now ≡ goals.new names.0 (goal_at below) }
-    ensures { IfOk result (λ r. (p : NominalProgram) (table : list NominalTerm) →
-        IsVisited p (shared_answer table answer.now)
+    requires of { IsWalkOf below.terms.now walk.old }
+    ensures visited { IfOk result (λ r. (p : NominalProgram) (lines : list NominalTerm) →
+        IsVisited p (shared_answer lines answer.now)
         (kinds_at below.entry) (derivations.new names.1
         (derivation_at below.entry)) (goal_of goal.now) walk.old walk.new r) }
+    ensures of { OnOk result (IsWalkOf below.entry.terms.now walk.new) }
 {
     let (own, name) = names;
     if name.sort != own.sort {
@@ -240,10 +251,12 @@ pub(crate) fn visit<'a>(
     walk: &mut Walk<'a>,
     at: Obligation<'a>,
 ) -> Result<Option<Rule>, Memory>
-    requires { ArePendingMarked (length walk.old.standing.items) (pending_of walk.old) }
-    ensures { IfOk result (λ r. (table : list NominalTerm) →
-        IsVisited (program_of program.now) (shared_answer table answer.now) (kinds_at at.entry)
+    requires marked { ArePendingMarked (length walk.old.standing.items) (pending_of walk.old) }
+    requires of { IsWalkOf at.terms.now walk.old }
+    ensures visited { IfOk result (λ r. (lines : list NominalTerm) →
+        IsVisited (program_of program.now) (shared_answer lines answer.now) (kinds_at at.entry)
         (derivation_at at.entry) (goal_at at.entry) walk.old walk.new r) }
+    ensures of { OnOk result (IsWalkOf at.entry.terms.now walk.new) }
 {
     match (at.derivation, at.goal) {
         (SharedDerivation::Atom(used, body), Goal::Atom(pred, args)) => {
@@ -259,7 +272,7 @@ pub(crate) fn visit<'a>(
             visit_atom(alloc, program, answer, walk, &used, *pred, args.items())
         }
         (SharedDerivation::Eq, Goal::Equal(left, right)) => {
-            visit_equation(alloc, answer, walk, left, right)
+            visit_equation(alloc, answer, at.terms, walk, left, right)
         }
         (SharedDerivation::Fresh, Goal::Fresh(left, right)) => {
             visit_freshness(alloc, answer, walk, left, right)

@@ -1,7 +1,9 @@
 //! A walk over a derivation, in preorder.
 
 ghost use Rattle.std.specs.Prelude.{◌≡◌, [], ◌∷◌, ◌++◌, length, OnOk};
+ghost use Rattle.ap_checker.specs.Tables.{IsStandingOf, IsWalkOf};
 ghost use Rattle.ap_checker.specs.Walks.{pending_at};
+ghost use Rattle.ap_shared.specs.declared.arena.SharedTerms.{SharedTerms as table};
 
 use crate::scope::Standing;
 use ap_defs::goals::{Goal, Local};
@@ -58,21 +60,27 @@ impl<'a> Obligation<'a> {
 
 impl<'a> Walk<'a> {
     /// Something stands innermost.
+    #[tactic(auto, using(crate::proofs::TableLemmas::walk_brought))]
     pub(crate) fn bring(&mut self, what: Standing<'a>) -> Result<(), Memory>
         ensures standing { OnOk result (self.new.standing.items
             ≡ self.old.standing.items ++ what.entry ∷ []) }
         ensures pending { self.new.pending.items ≡ self.old.pending.items }
+        ensures of { OnOk result ((ts : table) →
+            IsStandingOf ts what.entry → IsWalkOf ts self.old → IsWalkOf ts self.new) }
     {
         self.standing.push(what)?;
         Ok(())
     }
 
     /// The node comes next, where all stands that stands now.
+    #[tactic(auto, using(crate::proofs::TableLemmas::walk_put))]
     pub(crate) fn put(&mut self, obligation: Obligation<'a>) -> Result<(), Memory>
         ensures standing { self.new.standing.items ≡ self.old.standing.items }
         ensures pending { OnOk result (self.new.pending.items
             ≡ self.old.pending.items ++ pending_at obligation.entry (length self.old.standing.items)
             ∷ []) }
+        ensures of { OnOk result ((ts : table) → obligation.entry.terms.now ≡ ts →
+            IsWalkOf ts self.old → IsWalkOf ts self.new) }
     {
         let mark = self.standing.len();
         self.pending.push(Pending { obligation, mark })?;

@@ -17,8 +17,8 @@ use Rattle.ap_checker.specs.Scopes.{environment_of}
 use Rattle.ap_checker.proofs.WalkLemmas.{atom_by, goes_brought}
 use Rattle.ap_checker.proofs.visits.visit_atom.Goals as goal
 
-pub returns-in-Some-2 : goal.returns-in-Some-2
-returns-in-Some-2 c = λ kinds table n.
+pub returns-in-Some-2-clause-visited : goal.returns-in-Some-2-clause-visited
+returns-in-Some-2-clause-visited c = λ kinds table n.
     let p = program_of c.args.program.now in
     let used = c.args.used.now in
     let lines = shared_terms used.given.terms.now in
@@ -31,8 +31,8 @@ returns-in-Some-2 c = λ kinds table n.
     atom_by p a kinds n used.number c.args.pred used.names.now ts us vs (shared_derivation lines used.body.now) e (clause_of c.in-Some.clause.now) (Some c.in-Some-2.rule) c.in-Some.ensures v
     (λ rest. c.in_ok-rule.ensures table n rest ∙ ap (λ r. first_refusal (node_refused n r) rest) c.in-Some-2.is)
 
-pub returns : goal.returns
-returns c = λ kinds table.
+pub returns-clause-visited : goal.returns-clause-visited
+returns-clause-visited c = λ kinds table.
     let p = program_of c.args.program.now in
     let used = c.args.used.now in
     let lines = shared_terms used.given.terms.now in
@@ -45,7 +45,7 @@ returns c = λ kinds table.
     let v : vs ≡ map (put_in e) us = ap (λ ss. map (put_in (environment_of ss)) us) c.deref.ensures.value in
     let node = derivations.atom used.number used.names.now ts (shared_derivation lines used.body.now) in
     goes_brought p a kinds node (goals.atom c.args.pred us) c.args.walk.now c.put.new.self
-    _ (code.Clause c.in_ok-own.own used.names (all.Lines used.given)) c.bring.new.self c.requires c.in_ok-bring.ensures.standing c.bring.ensures.pending c.put.ensures.standing c.in_ok-put.ensures.pending
+    _ (code.Clause c.in_ok-own.own used.names (all.Lines used.given)) c.bring.new.self c.requires.marked c.in_ok-bring.ensures.standing c.bring.ensures.pending c.put.ensures.standing c.in_ok-put.ensures.pending
     (λ n.
     atom_by p a kinds n used.number c.args.pred used.names.now ts us vs (shared_derivation lines used.body.now) e (clause_of clause) None c.in-Some.ensures v
     (λ rest. c.in_ok-rule.ensures table n rest ∙ ap (λ r. first_refusal (node_refused n r) rest) c.in_default-2.is)

@@ -12,8 +12,8 @@ use Rattle.ap_checker.proofs.NodeLemmas.{test_goes_on}
 use Rattle.ap_checker.proofs.WalkLemmas.{goes_brought}
 use Rattle.ap_checker.proofs.visits.visit_new.Goals as goal
 
-pub returns : goal.returns
-returns c = λ p table.
+pub returns-clause-visited : goal.returns-clause-visited
+returns-clause-visited c = λ p table.
     let below = c.args.below in
     let own = c.args.names.0 in
     let name = c.args.names.1 in

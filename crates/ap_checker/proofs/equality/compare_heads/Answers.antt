@@ -9,8 +9,8 @@ use Rattle.ap_checker.specs.declared.closures.Head.{Head}
 use Rattle.ap_checker.proofs.ComparisonLemmas.{alike, apps, others, pairs}
 use Rattle.ap_checker.proofs.HeadLemmas.{Apart, apart_from, other_than_abs, other_than_app, other_than_name, other_than_pair, other_than_susp, other_than_unit}
 use Rattle.ap_checker.proofs.StackLemmas.{left_here, left_two}
-use Rattle.ap_checker.proofs.equality.compare.Goals as goal
-use Rattle.ap_checker.proofs.equality.compare.Goals.{in_default, in_default-2, in_default-3, in_default-4, in_default-5, in_default-6}
+use Rattle.ap_checker.proofs.equality.compare_heads.Goals as goal
+use Rattle.ap_checker.proofs.equality.compare_heads.Goals.{in_default, in_default-2, in_default-3, in_default-4, in_default-5, in_default-6}
 
 pub returns-in-Pair-Pair-clause-tested : goal.returns-in-Pair-Pair-clause-tested
 returns-in-Pair-Pair-clause-tested c =
@@ -20,8 +20,8 @@ returns-in-Pair-Pair-clause-tested c =
     let u = scoped_term c.in-Pair-Pair.u in
     let v = scoped_term c.in-Pair-Pair.v in
     let w = scoped_term c.in-Pair-Pair.w in
-    let left : scoped_term c.args.at.left ≡ pair t u = sym c.in_ok-left.ensures ∙ ap head_term c.in-Pair-Pair.is-0 in
-    let right : scoped_term c.args.at.right ≡ pair v w = sym c.in_ok-right.ensures ∙ ap head_term c.in-Pair-Pair.is-1 in
+    let left : scoped_term c.args.at.left ≡ pair t u = sym c.in_ok-left.ensures.term ∙ ap head_term c.in-Pair-Pair.is-0 in
+    let right : scoped_term c.args.at.right ≡ pair v w = sym c.in_ok-right.ensures.term ∙ ap head_term c.in-Pair-Pair.is-1 in
     let whole : size (scoped_term c.args.at.left) ≡ 1 + size t + size u = ap size left in
     left_two mark_of (are_alike ds) compared_size c.args.at
     (record { left = c.in-Pair-Pair.t; right = c.in-Pair-Pair.v; mark = length c.put.new.self.binders.pairs.items })
@@ -37,8 +37,8 @@ returns-in-App-App-clause-tested c =
     let ss = c.args.walk.now.binders.pairs.items in
     let t = scoped_term c.in-App-App.t in
     let u = scoped_term c.in-App-App.u in
-    let left : scoped_term c.args.at.left ≡ app c.in-App-App.f t = sym c.in_ok-left.ensures ∙ ap head_term c.in-App-App.is-0 in
-    let right : scoped_term c.args.at.right ≡ app c.in-App-App.g u = sym c.in_ok-right.ensures ∙ ap head_term c.in-App-App.is-1 in
+    let left : scoped_term c.args.at.left ≡ app c.in-App-App.f t = sym c.in_ok-left.ensures.term ∙ ap head_term c.in-App-App.is-0 in
+    let right : scoped_term c.args.at.right ≡ app c.in-App-App.g u = sym c.in_ok-right.ensures.term ∙ ap head_term c.in-App-App.is-1 in
     let same : (c.in-App-App.f == c.in-App-App.g) ≡ true = grind (arith, nat_tests, c.if-f-g.false) in
     let whole : size (scoped_term c.args.at.left) ≡ 1 + size t = ap size left in
     left_here mark_of (are_alike ds) compared_size c.args.at (record { left = c.in-App-App.t; right = c.in-App-App.u; mark = length ss })
@@ -53,7 +53,7 @@ module _ (c : goal.Joined-at-26) where
   unlike i e a =
       let ds = c.args.answer.now.conds in
       let ss = c.args.walk.now.binders.pairs.items in
-      ap₂ (alike ds ss) (sym c.in_ok-left.ensures) (sym c.in_ok-right.ensures)
+      ap₂ (alike ds ss) (sym c.in_ok-left.ensures.term) (sym c.in_ok-right.ensures.term)
       ∙ others ds ss (head_term c.in_ok-left.left) (head_term c.in_ok-right.right) (apart_from c.in_ok-left.left i c.in_ok-right.right e a)
 
 pub returns-clause-tested : goal.returns-clause-tested
