@@ -6,7 +6,7 @@ ghost use Rattle.ap_defs.specs.Derivations.{derivation_of, terms_in};
 ghost use Rattle.ap_bundle.specs.Nodes as nodes;
 ghost use Rattle.ap_bundle.specs.Nodes.{preorder};
 ghost use Rattle.ap_bundle.specs.Written.{node_line, node_lines, name_line, term_line};
-ghost use Rattle.ap_bundle_write.specs.Nodes.{children_back, first_node, node_terms, seen};
+ghost use Rattle.ap_shared.specs.FirstNodes.{children_back, first_node, node_terms, seen};
 ghost use Rattle.ap_bundle_write.specs.Tables.{IsWrittenTable, WritesLines, held_terms};
 
 use crate::forms::{push_name, push_term};

@@ -3,7 +3,7 @@ use Rattle.std.proofs.lemmas.Grind.{common_steps}
 use Rattle.std.proofs.lemmas.List.{map-append}
 use Rattle.ap_defs.specs.Derivations.{derivation_of, terms_in}
 use Rattle.ap_bundle.specs.Written.{node_lines}
-use Rattle.ap_bundle_write.specs.Nodes.{first_node, node_terms}
+use Rattle.ap_shared.specs.FirstNodes.{first_node, node_terms}
 use Rattle.ap_bundle_write.proofs.Stacks.{later, seen}
 use Rattle.ap_bundle_write.proofs.NodeTexts.{node_texts, first_texts, first_terms, stack_on, stack_less}
 use Rattle.ap_bundle_write.proofs.WritingLemmas.{writing_on, writing_ends}
