@@ -4,6 +4,7 @@ pub mod BinderLemmas
 pub mod SettledLemmas
 pub mod LatestLemmas
 pub mod TypeLemmas
+pub mod TypingLemmas
 pub mod LocalLemmas
 pub mod PlaceLemmas
 pub mod ScopeLemmas

@@ -1,4 +1,5 @@
 pub mod Wanted
+pub mod Typings
 pub mod FreeLocals
 pub mod Places
 pub mod Cited

@@ -1,5 +1,5 @@
 -- What an application's argument is to be: of the program's values, and of the parts of a pair and the argument of an application.
-use Rattle.std.specs.Prelude.{ℕ, zero, suc, ◌+◌, Bool, ◌==◌, if◌then◌else◌, List, map, Option, Some, None}
+use Rattle.std.specs.Prelude.{◌≡◌, ◌<◌, ◌&&◌, true, false, ℕ, zero, suc, ◌+◌, Bool, ◌==◌, if◌then◌else◌, List, map, Option, Some, None}
 use Rattle.ap_defs.specs.Printing.{constructor_in}
 use Rattle.ap_defs.specs.Types as types
 use Rattle.ap_defs.specs.Types.{NominalConstructor, type_of}
@@ -9,6 +9,8 @@ use Rattle.ap_defs.specs.Typing.{VarTypes, Want, arguments, more, nothing, one}
 use Rattle.ap_defs.specs.Unification.{size}
 use Rattle.ap_checks.specs.TypeTests.{is_typed, type_eq}
 use Rattle.ap_checker.specs.declared.types.Expected.{Expected}
+use Rattle.ap_checker.specs.declared.types.Looked.{Looked}
+use Rattle.ap_checker.specs.declared.types.Looked.TheVariants as looked
 use Rattle.ap_checker.specs.declared.types.TypePair.{TypePair}
 use Rattle.ap_checker.specs.declared.types.Wanted.{Wanted}
 use Rattle.ap_checker.specs.declared.types.Wanted.TheVariants as code
@@ -58,3 +60,10 @@ parts_count (types.abs s t) = 1 + parts_count t
 
 abbrev pub pair_size : TypePair → ℕ
 pair_size p = parts_count (type_of p.left.now)
+
+-- what the look at a term leaves
+abbrev pub IsLooked : (Expected → Bool) → (Expected → ℕ) → Expected → Looked → Type 0
+IsLooked test size e looked.Fails = test e ≡ false
+IsLooked test size e looked.Passes = test e ≡ true
+IsLooked test size e (looked.Part p) = (test e ≡ test p) × (size p < size e)
+IsLooked test size e (looked.Parts p q) = (test e ≡ (test p && test q)) × (size p + size q < size e)

@@ -28,6 +28,7 @@ pub mod scope;
 mod suspensions;
 pub mod swappings;
 pub mod types;
+mod typing;
 pub mod verify;
 mod visits;
 mod walk;

@@ -1,9 +1,9 @@
-//! Types of terms with variables.
+//! What the head of a term leaves to be looked at, where the term is to have a type.
 //!
 //! The type of an identifier can be as deep as the equations are long that it solves, on either side: the
 //! parts of types that are left to compare stand on a stack, as do those of terms.
 
-ghost use Rattle.std.specs.Prelude.{◌≡◌, map, IfOk, List as list, MatchOption, Some, None};
+ghost use Rattle.std.specs.Prelude.{◌≡◌, ℕ, Bool, map, IfOk, List as list, MatchOption, Some, None};
 ghost use Rattle.ap_defs.specs.Answers.{typed_var_of};
 ghost use Rattle.ap_defs.specs.Printing.{constructor_in};
 ghost use Rattle.ap_defs.specs.Terms.{unit};
@@ -11,8 +11,8 @@ ghost use Rattle.ap_defs.specs.Types.{NominalConstructor, base, constructor_of, 
 ghost use Rattle.ap_defs.specs.Typing.{VarTypes, arguments as wanted_arguments, one};
 ghost use Rattle.ap_checks.specs.TypeTests.{is_type, is_typed, type_beside as beside, type_eq};
 ghost use Rattle.ap_checker.specs.Stacks.{IsTested};
-ghost use Rattle.ap_checker.specs.Wanted.{are_one, expected_size, inside_of, is_expected, pair_size, parts_of, want_of};
-ghost use Rattle.ap_shared.specs.SharedPlaces.{shared_term};
+ghost use Rattle.ap_checker.specs.Wanted.{IsLooked, are_one, expected_size, inside_of, is_expected, pair_size, parts_of, want_of};
+ghost use Rattle.ap_checker.specs.declared.types.Expected.{Expected};
 ghost use Rattle.ap_shared.specs.SharedViews.{shared_terms};
 
 use crate::index::IndexedAnswer;
@@ -21,7 +21,6 @@ use ap_defs::memory::Memory;
 use ap_defs::terms::{Ty, Var};
 use ap_shared::arena::SharedTerms;
 use ap_shared::lines::Entry;
-use ap_shared::places::Shared;
 use std::alloc::Global;
 
 /// What an application's argument is to be.
@@ -42,6 +41,16 @@ pub(crate) enum Wanted<'a> {
 pub(crate) struct Expected<'a> {
     pub line: usize,
     pub wanted: Wanted<'a>,
+}
+
+/// What the look at the head of a term leaves to be looked at.
+#[derive(Clone, Copy)]
+pub(crate) enum Looked<'a> {
+    /// The term isn't what it is to be.
+    Fails,
+    Passes,
+    Part(Expected<'a>),
+    Parts(Expected<'a>, Expected<'a>),
 }
 
 /// Two types that are yet to be compared.
@@ -81,7 +90,7 @@ fn compare<'a>(pending: &mut Vec<TypePair<'a>>, at: TypePair<'a>) -> Result<bool
 }
 
 /// Whether two types are one.
-fn is_same(alloc: Global, a: &Ty, b: &Ty) -> Result<bool, Memory>
+pub(crate) fn is_same(alloc: Global, a: &Ty, b: &Ty) -> Result<bool, Memory>
     ensures { IfOk result (λ yes. yes ≡ type_eq (type_of a.now) (type_of b.now)) }
 {
     let mut pending = Vec::new(alloc);
@@ -188,88 +197,75 @@ fn is_unit(wanted: Wanted<'_>) -> bool
     }
 }
 
-/// Looks at the head of a term that is to be what is wanted: its parts wait to be looked at.
+/// What a term without parts leaves.
+fn leaf<'a>(passes: bool) -> Looked<'a>
+    ensures { (test : Expected → Bool) (size : Expected → ℕ) (e : Expected) →
+        passes ≡ test e → IsLooked test size e result }
+{
+    if passes {
+        Looked::Passes
+    } else {
+        Looked::Fails
+    }
+}
+
+/// Looks at the head of a term that is to be what is wanted.
 fn look<'a>(
     alloc: Global,
     constructors: &'a [Constructor],
     answer: &IndexedAnswer<'_>,
     terms: &SharedTerms,
-    pending: &mut Vec<Expected<'a>>,
     at: Expected<'a>,
-) -> Result<bool, Memory>
-    ensures { IfOk result (λ yes.
-        IsTested (is_expected (shared_terms terms.now) (map constructor_of constructors.now)
+) -> Result<Looked<'a>, Memory>
+    ensures { IfOk result (λ left.
+        IsLooked (is_expected (shared_terms terms.now) (map constructor_of constructors.now)
         (beside (map typed_var_of answer.now.vars))) (expected_size (shared_terms terms.now))
-        at.entry pending.old.items pending.new.items yes) }
+        at.entry left) }
 {
     let Expected { line, wanted } = at;
     let Some(entry) = terms.entry(line) else {
-        return Ok(is_unit(wanted));
+        return Ok(leaf(is_unit(wanted)));
     };
     match (entry, wanted) {
-        (Entry::Unit, _) => Ok(is_unit(wanted)),
-        (Entry::Name(a), Wanted::One(Ty::Names(sort))) => Ok(a.sort == *sort),
+        (Entry::Unit, _) => Ok(leaf(is_unit(wanted))),
+        (Entry::Name(a), Wanted::One(Ty::Names(sort))) => Ok(leaf(a.sort == *sort)),
         (Entry::Pair(left, right), _) => {
             let Some((first, second)) = parts(wanted) else {
-                return Ok(false);
+                return Ok(Looked::Fails);
             };
-            pending.push(Expected {
-                line: *right,
-                wanted: second,
-            })?;
-            pending.push(Expected {
+            let left = Expected {
                 line: *left,
                 wanted: first,
-            })?;
-            Ok(true)
+            };
+            let right = Expected {
+                line: *right,
+                wanted: second,
+            };
+            Ok(Looked::Parts(left, right))
         }
         (Entry::App(f, part), _) => {
             let Some(inner) = inside(constructors, *f, wanted) else {
-                return Ok(false);
+                return Ok(Looked::Fails);
             };
-            pending.push(Expected {
+            let part = Expected {
                 line: *part,
                 wanted: inner,
-            })?;
-            Ok(true)
+            };
+            Ok(Looked::Part(part))
         }
         (Entry::Abs(own, _, part), Wanted::One(Ty::Abs(sort, ty))) => {
             if *own != *sort {
-                return Ok(false);
+                return Ok(Looked::Fails);
             }
-            pending.push(Expected {
+            let part = Expected {
                 line: *part,
                 wanted: Wanted::One(ty),
-            })?;
-            Ok(true)
+            };
+            Ok(Looked::Part(part))
         }
-        (Entry::Susp(_, x), Wanted::One(ty)) => Ok(has_type_beside(alloc, answer, *x, ty)?),
-        _ => Ok(false),
-    }
-}
-
-/// Whether the term has the type, where the answer's variables have the types beside them, and another
-/// variable has no type. The parts of the term that are left stand on a stack, so none is too deep.
-pub fn has_type(
-    alloc: Global,
-    constructors: &[Constructor],
-    answer: &IndexedAnswer<'_>,
-    t: Shared<'_>,
-    ty: &Ty,
-) -> Result<bool, Memory>
-    ensures { IfOk result (λ yes. yes ≡
-        is_typed (map constructor_of constructors.now) (beside (map typed_var_of answer.now.vars))
-        (shared_term t.entry) (one (type_of ty.now))) }
-{
-    let mut pending = Vec::new(alloc);
-    pending.push(Expected {
-        line: t.line,
-        wanted: Wanted::One(ty),
-    })?;
-    while let Some(next) = pending.pop() {
-        if !look(alloc, constructors, answer, t.terms, &mut pending, next)? {
-            return Ok(false);
+        (Entry::Susp(_, x), Wanted::One(ty)) => {
+            Ok(leaf(has_type_beside(alloc, answer, *x, ty)?))
         }
+        _ => Ok(Looked::Fails),
     }
-    Ok(true)
 }

@@ -5,6 +5,7 @@ ghost use Rattle.ap_defs.specs.Goals.{NominalProgram, program_of, query_of};
 ghost use Rattle.ap_checks.specs.Checks.{verdict, verdict_of};
 ghost use Rattle.ap_checker.specs.Rules.{verdict_said};
 ghost use Rattle.ap_checker.specs.Tables.{IsWalkOf};
+ghost use Rattle.ap_checker.specs.Typings.{AreTypesKnown};
 ghost use Rattle.ap_checker.specs.Walks.{IsOnWay, refusal_on};
 ghost use Rattle.ap_shared.specs.SharedViews.{shared_answer, shared_derivation, shared_terms};
 
@@ -15,6 +16,7 @@ use crate::index::IndexedAnswer;
 use crate::lookups::query_at;
 use crate::rules::Rule;
 use crate::scope::Standing;
+use crate::typing::Typed;
 use crate::visits::visit;
 use crate::walk::{Obligation, Walk};
 use ap_defs::goals::{Program, Query};
@@ -62,14 +64,16 @@ fn walk_from<'a>(
 }
 
 /// The verdict on a derivation of a query's goal, whose answer fits.
-fn verdict_on_nodes(
+fn verdict_on_nodes<'a>(
     alloc: Global,
-    program: &Program<Term>,
-    query: &Query<Term>,
-    terms: &SharedTerms,
-    indexed: &IndexedAnswer<'_>,
-    derivation: &SharedDerivation,
+    program: &'a Program<Term>,
+    query: &'a Query<Term>,
+    terms: &'a SharedTerms,
+    mut typed: Typed<'a>,
+    indexed: &'a IndexedAnswer<'_>,
+    derivation: &'a SharedDerivation,
 ) -> Result<Verdict, Memory>
+    requires { AreTypesKnown terms.now program.now.signature.constructors indexed.now.vars typed }
     ensures { IfOk result (λ v. verdict_said v
         ≡ verdict (refusal_on (program_of program.now) (query_of query.now)
         (shared_answer (shared_terms terms.now) indexed.now)
@@ -80,7 +84,7 @@ fn verdict_on_nodes(
     'nodes: while let Some(next) = walk.pending.pop() {
         node = node.saturating_add(1);
         walk.standing.truncate(next.mark);
-        if let Some(rule) = visit(alloc, program, indexed, &mut walk, next.obligation)? {
+        if let Some(rule) = visit(alloc, program, indexed, &mut typed, &mut walk, next.obligation)? {
             let rule = rule.number();
             return Ok(Verdict::No { node, rule });
         }
@@ -111,8 +115,9 @@ pub fn verify(
     let Some(indexed) = IndexedAnswer::of(alloc, answer)? else {
         return Ok(Verdict::No { node: 0, rule });
     };
-    if !answer_fits(alloc, program, query, terms, &indexed)? {
+    let mut typed = Typed::new(alloc);
+    if !answer_fits(alloc, program, query, terms, &mut typed, &indexed)? {
         return Ok(Verdict::No { node: 0, rule });
     }
-    verdict_on_nodes(alloc, program, query, terms, &indexed, derivation)
+    verdict_on_nodes(alloc, program, query, terms, typed, &indexed, derivation)
 }

@@ -11,6 +11,7 @@ ghost use Rattle.ap_checks.specs.OpenEnvironments.{put_in};
 ghost use Rattle.ap_checker.specs.Rules.{node_refused};
 ghost use Rattle.ap_checker.specs.Scopes.{environment_of};
 ghost use Rattle.ap_checker.specs.Tables.{AreStandingOf, IsWalkOf};
+ghost use Rattle.ap_checker.specs.Typings.{AreTypesKnown};
 ghost use Rattle.ap_checker.specs.Walks.{ArePendingMarked, IsVisited, derivation_at, goal_at, kinds_at, pending_of};
 ghost use Rattle.ap_shared.specs.Shared.{shared_at};
 ghost use Rattle.ap_shared.specs.SharedPlaces.{given_terms};
@@ -27,6 +28,7 @@ use crate::new_names::is_new;
 use crate::nodes::{all_differ, all_equal, is_name_fresh};
 use crate::rules::Rule;
 use crate::scope::Standing;
+use crate::typing::Typed;
 use crate::walk::{Obligation, Walk};
 use ap_defs::goals::{Clause, Goal, Program};
 use ap_defs::memory::Memory;
@@ -47,17 +49,22 @@ struct Use<'a> {
 }
 
 /// The least rule that refuses an atom's node by a clause, if one does.
-fn rule_of_clause(
+fn rule_of_clause<'a>(
     alloc: Global,
-    program: &Program<Term>,
+    program: &'a Program<Term>,
     answer: &IndexedAnswer<'_>,
+    typed: &mut Typed<'a>,
     standing: &[Standing<'_>],
     args: &[Term],
     used: &Use<'_>,
-    clause: &Clause<Term>,
+    clause: &'a Clause<Term>,
 ) -> Result<Option<Rule>, Memory>
-    requires { AreStandingOf used.now.given.terms.now standing.now }
-    ensures { IfOk result (λ r. (lines : list NominalTerm) (n : ℕ) (rest : option Refusal) →
+    requires of { AreStandingOf used.now.given.terms.now standing.now }
+    requires typed { AreTypesKnown used.now.given.terms.now program.now.signature.constructors
+        answer.now.vars typed.old }
+    ensures typed { OnOk result (AreTypesKnown used.now.given.terms.now
+        program.now.signature.constructors answer.now.vars typed.new) }
+    ensures rule { IfOk result (λ r. (lines : list NominalTerm) (n : ℕ) (rest : option Refusal) →
         tests_by_clause (program_of program.now) (shared_answer lines answer.now) n
         used.now.names.now (given_terms used.now.given) (map (put_in (environment_of standing.now))
         (map term_of args.now)) (clause_of clause.now) rest
@@ -74,7 +81,7 @@ fn rule_of_clause(
         return Ok(Some(Rule::Typing));
     }
     let constructors = program.signature.constructors.items();
-    if !terms_fit(alloc, constructors, answer, locals, used.given)? {
+    if !terms_fit(alloc, constructors, answer, typed, locals, used.given)? {
         return Ok(Some(Rule::Typing));
     }
     let own = Identifiers::of(alloc, locals)?;
@@ -99,6 +106,7 @@ fn visit_atom<'a>(
     alloc: Global,
     program: &'a Program<Term>,
     answer: &IndexedAnswer<'_>,
+    typed: &mut Typed<'a>,
     walk: &mut Walk<'a>,
     used: &Use<'a>,
     pred: u32,
@@ -106,18 +114,23 @@ fn visit_atom<'a>(
 ) -> Result<Option<Rule>, Memory>
     requires marked { ArePendingMarked (length walk.old.standing.items) (pending_of walk.old) }
     requires of { IsWalkOf used.now.given.terms.now walk.old }
+    requires typed { AreTypesKnown used.now.given.terms.now program.now.signature.constructors
+        answer.now.vars typed.old }
     ensures visited { IfOk result (λ r. (kinds : list NominalKind) (lines : list NominalTerm) →
         IsVisited (program_of program.now) (shared_answer lines answer.now) kinds (derivations.atom
         used.now.number used.now.names.now (given_terms used.now.given) (shared_derivation
         (shared_terms used.now.given.terms.now) used.now.body.now))
         (goals.atom pred (map term_of args.now)) walk.old walk.new r) }
     ensures of { OnOk result (IsWalkOf used.now.given.terms.now walk.new) }
+    ensures typed { OnOk result (AreTypesKnown used.now.given.terms.now
+        program.now.signature.constructors answer.now.vars typed.new) }
 {
     let Some(clause) = clause_at(program, pred, used.number) else {
         return Ok(Some(Rule::Clause));
     };
     let standing = &walk.standing;
-    if let Some(rule) = rule_of_clause(alloc, program, answer, standing, args, used, clause)? {
+    let rule = rule_of_clause(alloc, program, answer, typed, standing, args, used, clause)?;
+    if let Some(rule) = rule {
         return Ok(Some(rule));
     }
     let locals = clause.locals.items();
@@ -186,8 +199,9 @@ fn visit_freshness(
 /// The node of an `exists`, which brings a term for its variable.
 fn visit_exists<'a>(
     alloc: Global,
-    program: &Program<Term>,
+    program: &'a Program<Term>,
     answer: &IndexedAnswer<'_>,
+    typed: &mut Typed<'a>,
     walk: &mut Walk<'a>,
     x: Var,
     line: usize,
@@ -195,17 +209,21 @@ fn visit_exists<'a>(
 ) -> Result<Option<Rule>, Memory>
     requires marked { ArePendingMarked (length walk.old.standing.items) (pending_of walk.old) }
     requires of { IsWalkOf below.terms.now walk.old }
+    requires typed { AreTypesKnown below.terms.now program.now.signature.constructors
+        answer.now.vars typed.old }
     ensures visited { IfOk result (λ r. (lines : list NominalTerm) →
         IsVisited (program_of program.now) (shared_answer lines answer.now) (kinds_at below.entry)
         (derivations.exists (shared_at (shared_terms below.entry.terms.now) line)
         (derivation_at below.entry))
         (goals.exists x (goal_at below.entry)) walk.old walk.new r) }
     ensures of { OnOk result (IsWalkOf below.entry.terms.now walk.new) }
+    ensures typed { OnOk result (AreTypesKnown below.entry.terms.now
+        program.now.signature.constructors answer.now.vars typed.new) }
 {
     let terms = below.terms;
     let term = Shared { terms, line };
     let constructors = program.signature.constructors.items();
-    if !term_fits(alloc, constructors, answer, below.locals, x, term)? {
+    if !term_fits(alloc, constructors, answer, typed, below.locals, x, term)? {
         return Ok(Some(Rule::Typing));
     }
     walk.bring(Standing::Term(x, Cited::Line(term)))?;
@@ -248,15 +266,20 @@ pub(crate) fn visit<'a>(
     alloc: Global,
     program: &'a Program<Term>,
     answer: &IndexedAnswer<'_>,
+    typed: &mut Typed<'a>,
     walk: &mut Walk<'a>,
     at: Obligation<'a>,
 ) -> Result<Option<Rule>, Memory>
     requires marked { ArePendingMarked (length walk.old.standing.items) (pending_of walk.old) }
     requires of { IsWalkOf at.terms.now walk.old }
+    requires typed { AreTypesKnown at.terms.now program.now.signature.constructors
+        answer.now.vars typed.old }
     ensures visited { IfOk result (λ r. (lines : list NominalTerm) →
         IsVisited (program_of program.now) (shared_answer lines answer.now) (kinds_at at.entry)
         (derivation_at at.entry) (goal_at at.entry) walk.old walk.new r) }
     ensures of { OnOk result (IsWalkOf at.entry.terms.now walk.new) }
+    ensures typed { OnOk result (AreTypesKnown at.entry.terms.now
+        program.now.signature.constructors answer.now.vars typed.new) }
 {
     match (at.derivation, at.goal) {
         (SharedDerivation::Atom(used, body), Goal::Atom(pred, args)) => {
@@ -269,7 +292,7 @@ pub(crate) fn visit<'a>(
                 },
                 body,
             };
-            visit_atom(alloc, program, answer, walk, &used, *pred, args.items())
+            visit_atom(alloc, program, answer, typed, walk, &used, *pred, args.items())
         }
         (SharedDerivation::Eq, Goal::Equal(left, right)) => {
             visit_equation(alloc, answer, at.terms, walk, left, right)
@@ -293,7 +316,7 @@ pub(crate) fn visit<'a>(
         }
         (SharedDerivation::Exists(line, below), Goal::Exists(x, goal)) => {
             let below = at.below(below, goal);
-            visit_exists(alloc, program, answer, walk, *x, *line, below)
+            visit_exists(alloc, program, answer, typed, walk, *x, *line, below)
         }
         (SharedDerivation::New(name, below), Goal::New(own, goal)) => {
             let below = at.below(below, goal);

@@ -17,5 +17,5 @@ returns-then-not-branch c =
     let asked : query_at p.queries c.args.query ≡ Some q = rw same at c.in-Some.ensures in
     let refused : is_answer p q a ≡ false =
     ap (λ r. is_answer (program_of r) q a) (sym same) ∙ ap (λ b. is_answer (program_of c.program-program.result.now) q (shared_answer ts b)) (sym told.1)
-    ∙ sym c.in_ok-answer_fits.ensures ∙ c.if-not-branch.true in
+    ∙ sym c.in_ok-answer_fits.ensures.fits ∙ c.if-not-branch.true in
     ap (no 0) c.number-rule.ensures ∙ answer_refused p q a d refused ∙ sym (ap (λ o. on_query o (λ r. verdict_on p r a d)) asked)

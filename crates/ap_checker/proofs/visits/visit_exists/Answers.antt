@@ -20,7 +20,7 @@ returns-clause-visited c = λ table.
     let lines = shared_terms below.terms.now in
     let fits : has_kind (map constructor_of c.args.program.now.signature.constructors) (type_beside (map typed_var_of c.args.answer.now.vars)) (kind_at (kinds_at below) c.args.x.num) (shared_at lines c.args.line) ≡ true =
     ap (λ cs. has_kind (map constructor_of cs) (type_beside (map typed_var_of c.args.answer.now.vars)) (kind_at (kinds_at below) c.args.x.num) (shared_at lines c.args.line)) (sym c.items-constructors.ensures)
-    ∙ sym c.in_ok-term_fits.ensures ∙ c.if-not-branch.false in
+    ∙ sym c.in_ok-term_fits.ensures.fits ∙ c.if-not-branch.false in
     goes_brought (program_of c.args.program.now) (shared_answer table c.args.answer.now) (kinds_at below) (derivations.exists (shared_at lines c.args.line) (derivation_at below)) (goals.exists c.args.x (goal_at below)) c.args.walk.now c.put.new.self
     below (code.Term c.args.x (cited.Line (record { terms = below.terms; line = c.args.line }))) c.bring.new.self c.requires.marked c.in_ok-bring.ensures.standing c.bring.ensures.pending c.put.ensures.standing c.in_ok-put.ensures.pending
     (λ n. test_goes_on _ _ _ fits) refl
