@@ -5,14 +5,13 @@ use Rattle.std.proofs.lemmas.List.Sums.{sum_by-append}
 use Rattle.std.specs.List.{list_all, sum_by}
 use Rattle.std.specs.BTreeMap.{get}
 use Rattle.std.specs.Borrow.{Bor}
-use Rattle.std.specs.Ordering.{nat_cmp}
-use Rattle.std.proofs.lemmas.Bool.Decides.{nat_tests}
+use Rattle.std.specs.Ordering.{is_eq, nat_cmp}
 use Rattle.std.proofs.lemmas.List.{append-nil}
-use Rattle.std.specs.Prelude.{Option, Some, None, ◌==◌, if◌then◌else◌}
+use Rattle.std.specs.Prelude.{Option, Some, None, cond}
 use Rattle.ap_defs.specs.declared.terms.Ty.{Ty}
 use Rattle.ap_defs.specs.Terms.{NominalTerm}
-use Rattle.ap_defs.specs.Types.{NominalConstructor, type_of}
-use Rattle.ap_defs.specs.Typing.{VarTypes}
+use Rattle.ap_defs.specs.Types.{NominalConstructor, NominalType, type_of}
+use Rattle.ap_defs.specs.Typing.{VarTypes, one}
 use Rattle.ap_checker.specs.declared.types.Expected.{Expected}
 use Rattle.ap_checker.specs.declared.types.Wanted.{Wanted}
 use Rattle.ap_checker.specs.declared.types.Wanted.TheVariants as wanted
@@ -22,16 +21,12 @@ use Rattle.ap_checker.specs.declared.typing.Typed.{Typed}
 use Rattle.ap_checker.specs.Typings.{AreEarned, AreTyped, IsTaken, LeavesTasks, is_known, noted, noted_at, passes, task_size}
 use Rattle.ap_checker.specs.Wanted.{IsLooked, expected_size, is_expected}
 use Rattle.ap_checker.proofs.ComparisonLemmas.{some_size}
+use Rattle.ap_theory.proofs.TermLemmas.{number_same}
+use Rattle.ap_checks.specs.TypeTests.{is_typed, type_eq}
+use Rattle.ap_checker.proofs.IndexLemmas.{at_number}
 use Rattle.ap_checker.proofs.StackLemmas.{and_true, and_turned}
+use Rattle.ap_checker.proofs.TypeLemmas.{both_left, both_right, same_type}
 use Rattle.ap_shared.specs.Shared.{shared_at}
-
-and_left : (x y : Bool) → (x && y) ≡ true → x ≡ true
-and_left true y e = refl
-and_left false y e = e
-
-and_right : (x y : Bool) → (x && y) ≡ true → y ≡ true
-and_right true y e = e
-and_right false y e = cc
 
 and_both : (x y : Bool) → x ≡ true → y ≡ true → (x && y) ≡ true
 and_both x y e h = ap₂ ◌&&◌ e h
@@ -41,16 +36,24 @@ module _ (ts : List NominalTerm) (cs : List NominalConstructor) (vars : VarTypes
   all ks = list_all (passes ts cs vars) ks
 
   -- nothing is known at first
-  pub nothing_typed : (m : Typed) → ((i : ℕ) → get nat_cmp m.known i ≡ None) → AreTyped ts cs vars m
+  pub nothing_typed : (m : Typed) → m.known.entries ≡ [] → AreTyped ts cs vars m
   nothing_typed m none i t e = cc
 
   -- one more is known
-  pub more_typed : (m n : Typed) (i : ℕ) (t : Bor Ty) → ((j : ℕ) → get nat_cmp n.known j ≡ (if i == j then Some t else get nat_cmp m.known j)) → is_known ts cs vars i t → AreTyped ts cs vars m → AreTyped ts cs vars n
+  pub more_typed : (m n : Typed) (i : ℕ) (t : Bor Ty) → ((j : ℕ) → get nat_cmp n.known j ≡ cond (is_eq (nat_cmp i j)) (Some t) (get nat_cmp m.known j))
+      → is_known ts cs vars i t → AreTyped ts cs vars m → AreTyped ts cs vars n
   more_typed m n i t new h k j u e =
-      elim (i == j) as (λ b. (i == j) ≡ b → (if b then Some t else get nat_cmp m.known j) ≡ Some u → is_known ts cs vars j u) [
-        | true ↦ λ same f. let at : i ≡ j = grind (arith, nat_tests, same) in let this : t ≡ u = cc in subst (λ v. is_known ts cs vars j v) this (subst (λ n. is_known ts cs vars n t) at h)
+      elim (is_eq (nat_cmp i j)) as (λ b. is_eq (nat_cmp i j) ≡ b → cond b (Some t) (get nat_cmp m.known j) ≡ Some u → is_known ts cs vars j u) [
+        | true ↦ λ same f.
+            let at : i ≡ j = number_same i j (sym (at_number i j) ∙ same) in
+            let this : t ≡ u = cc in
+            subst (λ (v : Bor Ty). is_known ts cs vars j v) this (subst (λ n. is_known ts cs vars n t) at h)
         | false ↦ λ other f. k j u f
       ] refl (sym (new j) ∙ e)
+
+  -- what is known of a type is known of one that is the same
+  pub typed_same : (i : ℕ) (t u : NominalType) → type_eq t u ≡ true → is_typed cs vars (shared_at ts i) (one t) ≡ true → is_typed cs vars (shared_at ts i) (one u) ≡ true
+  typed_same i t u same h = subst (λ v. is_typed cs vars (shared_at ts i) (one v) ≡ true) (same_type t u same) h
 
   -- the next one, where it will be known
   pub earned_last : (ks : List Task) (i : ℕ) (t : Bor Ty) → AreEarned ts cs vars (ks ++ task.Known i t ∷ []) → is_known ts cs vars i t
@@ -64,8 +67,8 @@ module _ (ts : List NominalTerm) (cs : List NominalConstructor) (vars : VarTypes
     last_passes ks h =
         let both : (all ks && all more) ≡ true = sym (list_all-append (passes ts cs vars) ks more) ∙ h in
         list_all-append (passes ts cs vars) ks (k ∷ [])
-        ∙ and_both (all ks) (passes ts cs vars k && true) (and_left (all ks) (all more) both)
-        (and_true (passes ts cs vars k) ∙ enough (and_right (all ks) (all more) both))
+        ∙ and_both (all ks) (passes ts cs vars k && true) (both_left (all ks) (all more) both)
+        (and_true (passes ts cs vars k) ∙ enough (both_right (all ks) (all more) both))
 
     pub earned_on : (ks : List Task) → AreEarned ts cs vars (ks ++ k ∷ []) → AreEarned ts cs vars more → AreEarned ts cs vars (ks ++ more)
     earned_on [] h m = m
@@ -161,3 +164,13 @@ module _ (ts : List NominalTerm) (cs : List NominalConstructor) (vars : VarTypes
           earned = noted_earned e.line e.wanted rest (λ r. sym both ∙ r) tt;
           less = let few = noted_less e.line e.wanted rest in omega (arith, few, h.1);
         }
+
+  -- at the beginning and at the end
+  pub first_all : (ks : List Task) (e : Expected) → ks ≡ task.Look e ∷ [] → all ks ≡ is_expected ts cs vars e
+  first_all ks e only = ap (list_all (passes ts cs vars)) only ∙ and_true (is_expected ts cs vars e)
+
+  pub first_earned : (ks : List Task) (e : Expected) → ks ≡ task.Look e ∷ [] → AreEarned ts cs vars ks
+  first_earned ks e only = subst (AreEarned ts cs vars) (sym only) tt
+
+  pub taken_end : (whole : Bool) (ks : List Task) → all ks ≡ whole → ks ≡ [] → true ≡ whole
+  taken_end whole ks inv none = sym (ap (list_all (passes ts cs vars)) none) ∙ inv

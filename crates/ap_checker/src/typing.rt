@@ -40,6 +40,7 @@ pub(crate) enum Task<'a> {
 
 impl<'a> Typed<'a> {
     /// Nothing is known.
+    #[tactic(auto, using(crate::proofs::TypingLemmas::nothing_typed))]
     pub(crate) fn new(alloc: Global) -> Typed<'a>
         ensures { (ts : list NominalTerm) (cs : list NominalConstructor) (vars : VarTypes) →
             AreTyped ts cs vars result }
@@ -91,13 +92,16 @@ fn note<'a>(tasks: &mut Vec<Task<'a>>, at: Expected<'a>) -> Result<(), Memory>
     ensures { OnOk result (tasks.new.items ≡ tasks.old.items ++ noted at.entry) }
 {
     match at.wanted {
-        Wanted::One(ty) => tasks.push(Task::Known(at.line, ty))?,
-        _ => {}
+        Wanted::One(ty) => {
+            tasks.push(Task::Known(at.line, ty))?;
+            Ok(())
+        }
+        Wanted::Nothing | Wanted::More(_, _) | Wanted::Cell(_, _) => Ok(()),
     }
-    Ok(())
 }
 
 /// Looks at a term: its parts are to be looked at, and below them waits what will be known.
+#[tactic(auto, using(crate::proofs::TypingLemmas::passed_leaves, crate::proofs::TypingLemmas::part_leaves, crate::proofs::TypingLemmas::parts_leave))]
 fn take<'a>(
     alloc: Global,
     constructors: &'a [Constructor],
@@ -128,6 +132,7 @@ fn take<'a>(
 }
 
 /// Does what is next: a term that is known to be what it is to be isn't looked at again.
+#[tactic(auto, using(crate::proofs::TypingLemmas::passed_leaves, crate::proofs::TypingLemmas::known_leaves))]
 fn advance<'a>(
     alloc: Global,
     constructors: &'a [Constructor],
