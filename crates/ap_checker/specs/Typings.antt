@@ -46,17 +46,17 @@ module _ (ts : List NominalTerm) where
     AreEarned (task.Look e ∷ ks) = AreEarned ks
     AreEarned (task.Known i t ∷ ks) = (list_all passes ks ≡ true → is_known i t) × AreEarned ks
 
-    -- one leaves others in its place, and passes where they do
-    pub record LeavesTasks (k : Task) (before after : List Task) : Type 0 where
-      pub more : List Task
-      pub left : after ≡ before ++ more
-      pub all : list_all passes more ≡ passes k
-      pub earned : AreEarned more
-      pub less : sum_by task_size more < task_size k
+-- one leaves others in its place, and passes where they do
+pub record LeavesTasks (ts : List NominalTerm) (cs : List NominalConstructor) (vars : VarTypes) (k : Task) (before after : List Task) : Type 0 where
+  pub more : List Task
+  pub left : after ≡ before ++ more
+  pub all : list_all (passes ts cs vars) more ≡ passes ts cs vars k
+  pub earned : AreEarned ts cs vars more
+  pub less : sum_by (task_size ts) more < task_size ts k
 
-    abbrev pub IsTaken : Task → List Task → List Task → Bool → Type 0
-    IsTaken k before after false = passes k ≡ false
-    IsTaken k before after true = LeavesTasks k before after
+abbrev pub IsTaken : List NominalTerm → List NominalConstructor → VarTypes → Task → List Task → List Task → Bool → Type 0
+IsTaken ts cs vars k before after false = passes ts cs vars k ≡ false
+IsTaken ts cs vars k before after true = LeavesTasks ts cs vars k before after
 
 -- the same of the program's constructors and an answer's variables
 abbrev pub AreTypesKnown : SharedTerms → List Constructor → List (Var × Ty) → Typed → Type 0
