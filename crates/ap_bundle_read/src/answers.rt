@@ -72,7 +72,7 @@ fn read_each_var<'a>(
 }
 
 #[tactic(auto, unfolding(ap_bundle::specs::Reading::read_listed))]
-fn read_vars<'a>(alloc: Global, place: Place<'a>) -> Result<(Vec<(Var, Ty)>, Place<'a>), ReadError>
+pub(crate) fn read_vars<'a>(alloc: Global, place: Place<'a>) -> Result<(Vec<(Var, Ty)>, Place<'a>), ReadError>
     ensures { Gives (λ r. (map typed_var_of r.0.items, place_of r.1)) result
         (spec.read_listed Head.Vars (read_form BundleKind.Term lines.var_form)
         (place_of place.entry)) }
@@ -114,7 +114,7 @@ fn read_each_cond<'a>(
 }
 
 #[tactic(auto, unfolding(ap_bundle::specs::Reading::read_listed))]
-fn read_conds<'a>(alloc: Global, place: Place<'a>) -> Result<(Vec<Cond>, Place<'a>), ReadError>
+pub(crate) fn read_conds<'a>(alloc: Global, place: Place<'a>) -> Result<(Vec<Cond>, Place<'a>), ReadError>
     ensures { Gives (λ r. (r.0.items, place_of r.1)) result
         (spec.read_listed Head.Conds (read_form BundleKind.Term lines.cond_form)
         (place_of place.entry)) }
@@ -161,7 +161,7 @@ fn read_answer<'a>(
 
 /// The number of the query at the place.
 #[tactic(auto, unfolding(ap_bundle::specs::Readers::read_form))]
-fn read_query<'a>(alloc: Global, place: Place<'a>) -> Result<(u32, Place<'a>), ReadError>
+pub(crate) fn read_query<'a>(alloc: Global, place: Place<'a>) -> Result<(u32, Place<'a>), ReadError>
     ensures { Gives (λ r. (r.0, place_of r.1)) result
         (read_form BundleKind.Header lines.query_form (place_of place.entry)) }
 {
@@ -174,7 +174,7 @@ fn read_query<'a>(alloc: Global, place: Place<'a>) -> Result<(u32, Place<'a>), R
 
 /// An answer with its derivation.
 #[tactic(auto, unfolding(ap_bundle::specs::Reading::read_proved))]
-fn read_proved<'a>(
+pub(crate) fn read_proved<'a>(
     alloc: Global,
     terms: &Terms,
     place: Place<'a>,

@@ -6,7 +6,7 @@ ghost use Rattle.ap_defs.specs.Terms.{term_of};
 ghost use Rattle.ap_bundle.specs.Nodes as tree;
 ghost use Rattle.ap_bundle.specs.Readers.{repeated};
 ghost use Rattle.ap_bundle.specs.Reading as spec;
-ghost use Rattle.ap_bundle_read.specs.Nodes.{node_line_of, node_of};
+ghost use Rattle.ap_bundle_read.specs.Nodes.{bare_node, node_line_of, node_of};
 ghost use Rattle.ap_bundle_read.specs.Outcomes.{Gives, place_of};
 ghost use Rattle.ap_bundle_read.specs.Tables.{reader_of};
 
@@ -35,13 +35,40 @@ pub(crate) enum Node {
     New(Name),
 }
 
+/// A node that brings no terms.
+#[derive(Clone, Copy)]
+pub(crate) enum Bare {
+    Eq,
+    Fresh,
+    True,
+    And,
+    Left,
+    Right,
+    New(Name),
+}
+
 /// What the line of a node says: the clause of an atom and how many names and terms follow, that a term
 /// follows, or all.
-#[derive(Drop)]
+#[derive(Clone, Copy)]
 pub(crate) enum NodeLine {
     Atom(u32, u64, u64),
     Exists,
-    Whole(Node),
+    Whole(Bare),
+}
+
+/// A node that brings no terms, as a node.
+fn bare(node: Bare) -> Node
+    ensures { node_of result ≡ bare_node node }
+{
+    match node {
+        Bare::Eq => Node::Eq,
+        Bare::Fresh => Node::Fresh,
+        Bare::True => Node::True,
+        Bare::And => Node::And,
+        Bare::Left => Node::Left,
+        Bare::Right => Node::Right,
+        Bare::New(name) => Node::New(name),
+    }
 }
 
 /// The name at the place.
@@ -57,7 +84,7 @@ fn read_name<'a>(alloc: Global, place: Place<'a>) -> Result<(Name, Place<'a>), R
 }
 
 /// Room for so many lines that are yet to be read, each of which has four bytes at least.
-fn room_for<T>(alloc: Global, count: u64, place: Place<'_>) -> Result<Vec<T>, AllocError>
+pub(crate) fn room_for<T>(alloc: Global, count: u64, place: Place<'_>) -> Result<Vec<T>, AllocError>
     ensures { IfOk result (λ v. v.items ≡ []) }
 {
     let most = place.rest.len() / 4;
@@ -65,7 +92,7 @@ fn room_for<T>(alloc: Global, count: u64, place: Place<'_>) -> Result<Vec<T>, Al
 }
 
 /// So many names.
-fn read_names<'a>(
+pub(crate) fn read_names<'a>(
     alloc: Global,
     count: u64,
     place: Place<'a>,
@@ -159,13 +186,16 @@ fn read_behind<'a>(
     match line {
         NodeLine::Atom(clause, names, all) => read_atom(alloc, terms, clause, names, all, place),
         NodeLine::Exists => read_exists(alloc, terms, place),
-        NodeLine::Whole(node) => Ok((node, place)),
+        NodeLine::Whole(node) => Ok((bare(node), place)),
     }
 }
 
 /// The line of a node.
 #[tactic(auto, unfolding(ap_bundle::specs::Readers::read_form))]
-fn read_node_line<'a>(alloc: Global, place: Place<'a>) -> Result<(NodeLine, Place<'a>), ReadError>
+pub(crate) fn read_node_line<'a>(
+    alloc: Global,
+    place: Place<'a>,
+) -> Result<(NodeLine, Place<'a>), ReadError>
     ensures { Gives (λ r. (node_line_of r.0, place_of r.1)) result
         (readers.read_form BundleKind.Node lines.node_form (place_of place.entry)) }
 {

@@ -13,7 +13,7 @@ ghost use Rattle.ap_shared.specs.SharedViews.{shared_terms};
 
 use crate::error::ReadError;
 use crate::line_forms::{after_head, number, term_form};
-use crate::place::{Place, words_at, wrong};
+use crate::place::{Place, ROOM, words_at, wrong};
 use ap_bundle::faults::BundleKind;
 use ap_bundle::words::{Head, Word};
 use ap_defs::terms::Term;
@@ -88,6 +88,26 @@ fn read_shared<'a>(
             room: rest.room - size,
         },
     ))
+}
+
+/// The line of the table whose number stands at the place. Its term is no larger than one may be.
+#[tactic(auto, unfolding(ap_bundle::specs::TableForms::read_cited))]
+pub(crate) fn read_cited<'a>(
+    alloc: Global,
+    table: &SharedTerms,
+    place: Place<'a>,
+) -> Result<(usize, Place<'a>), ReadError>
+    ensures { Gives (λ r. (shared_at (shared_terms table.now) r.0, place_of r.1)) result
+        (spec.read_cited (shared_terms table.now) (place_of place.entry)) }
+{
+    let (line, rest) = read_line_number(alloc, table, place)?;
+    let Some(size) = table.size(line) else {
+        return Err(wrong(BundleKind::Expanded, place));
+    };
+    if size > ROOM {
+        return Err(wrong(BundleKind::Expanded, place));
+    }
+    Ok((line, rest))
 }
 
 /// The term in full at the place.

@@ -1,0 +1,60 @@
+-- Nodes by lines over the terms of a table, and the derivation that they are.
+use Rattle.std.proofs.Common.{◌≡◌, List, [], ◌∷◌, map, Option, None, Some, Ok, refl, ap, sym, ◌∙◌}
+use Rattle.std.specs.Option.{option_map}
+use Rattle.ap_defs.specs.Derivations.{DerivationOver, map_terms}
+use Rattle.ap_defs.specs.Terms.{NominalTerm}
+use Rattle.ap_bundle.specs.Forms.{◌>>=◌}
+use Rattle.ap_bundle.specs.Nodes.{Node, children, derivation_from, derivations, one}
+use Rattle.ap_bundle.specs.Nodes as nodes
+use Rattle.ap_bundle_read.specs.declared.nodes.Bare.{Bare}
+use Rattle.ap_bundle_read.specs.declared.nodes.Bare.TheVariants as bare
+use Rattle.ap_bundle_read.specs.CitedNodes.{cited_node}
+use Rattle.ap_bundle_read.specs.Nodes.{bare_node}
+use Rattle.ap_shared.specs.declared.nodes.SharedNode.{SharedNode}
+use Rattle.ap_shared.specs.FirstNodes.{map_node}
+use Rattle.ap_shared.specs.LineNodes.{node_by_lines}
+use Rattle.ap_shared.specs.Shared.{shared_at}
+use Rattle.ap_shared.proofs.NodeLemmas.{derivations_map}
+
+-- a node that brings no terms is the same over other terms
+bare_mapped : {S T : Type 0} (f : S → T) (b : Bare) → map_node f (bare_node b) ≡ bare_node b
+bare_mapped f bare.Eq = refl
+bare_mapped f bare.Fresh = refl
+bare_mapped f bare.True = refl
+bare_mapped f bare.And = refl
+bare_mapped f bare.Left = refl
+bare_mapped f bare.Right = refl
+bare_mapped f (bare.New a) = refl
+
+pub bare_cited : (ts : List NominalTerm) (n : SharedNode) (b : Bare) → node_by_lines n ≡ bare_node b → cited_node ts n ≡ bare_node b
+bare_cited ts n b e = ap (map_node (shared_at ts)) e ∙ bare_mapped (shared_at ts) b
+
+-- as many children as over the terms
+pub children_mapped : {S T : Type 0} (f : S → T) (n : Node S) → children (map_node f n) ≡ children n
+children_mapped f (nodes.atom k names ts) = refl
+children_mapped f nodes.equal = refl
+children_mapped f nodes.fresh = refl
+children_mapped f nodes.succeed = refl
+children_mapped f nodes.both = refl
+children_mapped f nodes.left = refl
+children_mapped f nodes.right = refl
+children_mapped f (nodes.exists t) = refl
+children_mapped f (nodes.new a) = refl
+
+one_mapped : {S T : Type 0} (f : S → T) (o : Option (List (DerivationOver S))) → (option_map (map (map_terms f)) o >>= one) ≡ option_map (map_terms f) (o >>= one)
+one_mapped f None = refl
+one_mapped f (Some []) = refl
+one_mapped f (Some (d ∷ [])) = refl
+one_mapped f (Some (d ∷ (e ∷ ds))) = refl
+
+-- the derivation of nodes over other terms
+from_map : {S T : Type 0} (f : S → T) (ns : List (Node S)) → derivation_from (map (map_node f) ns) ≡ option_map (map_terms f) (derivation_from ns)
+unfolding derivation_from
+from_map f ns = ap (λ o. o >>= one) (derivations_map f ns) ∙ one_mapped f (derivations ns)
+
+nodes_cited : (ts : List NominalTerm) (ns : List SharedNode) → map (cited_node ts) ns ≡ map (map_node (shared_at ts)) (map node_by_lines ns)
+nodes_cited ts [] = refl
+nodes_cited ts (n ∷ ns) = ap (λ ms. cited_node ts n ∷ ms) (nodes_cited ts ns)
+
+pub derivation_cited : (ts : List NominalTerm) (ns : List SharedNode) → derivation_from (map (cited_node ts) ns) ≡ option_map (map_terms (shared_at ts)) (derivation_from (map node_by_lines ns))
+derivation_cited ts ns = ap derivation_from (nodes_cited ts ns) ∙ from_map (shared_at ts) (map node_by_lines ns)
