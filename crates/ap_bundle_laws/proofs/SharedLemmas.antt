@@ -99,7 +99,7 @@ room_sum : (ts : List NominalTerm) (left : ℕ) → room_for before ts left ≡ 
 room_sum [] left = omega arith
 room_sum (t ∷ ts) left = omega (arith, room_sum ts left)
 
-last_shared : (b : NominalBundle) → FitsBundle b → HasRoom b → IsLast read_shared_rest room_at_first (shared_part (table_of b.proved) b.proved) b.proved
+last_shared : (b : NominalBundle) → FitsBundle b → HasRoom b → IsLast (read_shared_rest read_shared) room_at_first (shared_part (table_of b.proved) b.proved) b.proved
 unfolding read_shared_rest after_head
 last_shared b h fits =
     let ts = flat_map terms_of b.proved in
@@ -115,16 +115,16 @@ last_shared b h fits =
     (last_rest (read_shared table) (shared_line table) before (Has table) (good_shared table few) left b.proved h.1 ordered.1) in
     let behind = last_then (read_entries (length table) []) (λ us p. read_rest (read_shared us) p) room room (flat_map (entry_line table) table) (proved_part (shared_line table) b.proved) table b.proved entries rest in
     let all = last_then (read_count head.Terms) (λ n p. read_entries n [] p >>= λ us. read_rest (read_shared us.0) us.1) room room (counted_line head.Terms (length table)) (flat_map (entry_line table) table ++ proved_part (shared_line table) b.proved) (length table) b.proved count behind in
-    subst (λ w. IsLast read_shared_rest room w b.proved) (sym (append_assoc (counted_line head.Terms (length table)) (flat_map (entry_line table) table) (proved_part (shared_line table) b.proved))) all
+    subst (λ w. IsLast (read_shared_rest read_shared) room w b.proved) (sym (append_assoc (counted_line head.Terms (length table)) (flat_map (entry_line table) table) (proved_part (shared_line table) b.proved))) all
 
-last_bundle : (b : NominalBundle) → FitsBundle b → HasRoom b → IsLast read_at room_at_first (written_shared b) b
+last_bundle : (b : NominalBundle) → FitsBundle b → HasRoom b → IsLast (read_at read_shared) room_at_first (written_shared b) b
 unfolding first_form
 last_bundle b h fits =
     let version = good_line Header first_form room_at_first (codes "alphaprolog bundle 2") Two (search rules) refl in
-    last_at Two room_at_first b (shared_part (table_of b.proved) b.proved) h (last_shared b h fits) version
+    last_at read_shared Two room_at_first b (shared_part (table_of b.proved) b.proved) h (last_shared b h fits) version
 
-pub again : (b : NominalBundle) → FitsBundle b → HasRoom b → read_at (at (written_shared b) room_at_first) ≡ Ok b
+pub again : (b : NominalBundle) → FitsBundle b → HasRoom b → read_at read_shared (at (written_shared b) room_at_first) ≡ Ok b
 again b h fits = let last = last_bundle b h fits in last.whole
 
-pub prefix : (b : NominalBundle) (v u : List ℕ) → FitsBundle b → HasRoom b → written_shared b ≡ v ++ u → 0 < length u → read_at (at v room_at_first) ≡ Err unended
+pub prefix : (b : NominalBundle) (v u : List ℕ) → FitsBundle b → HasRoom b → written_shared b ≡ v ++ u → 0 < length u → read_at read_shared (at v room_at_first) ≡ Err unended
 prefix b v u h fits e some = let last = last_bundle b h fits in last.part v u e some

@@ -19,7 +19,7 @@ use Rattle.ap_bundle.specs.Bundles.{NominalProved, NominalBundle}
 use Rattle.ap_bundle.specs.Readers.{is_lf}
 use Rattle.ap_bundle.specs.Tables.{size_of_all, terms_of}
 use Rattle.ap_bundle.specs.Written.{written, written_shared}
-use Rattle.ap_bundle.specs.Reading.{reading, room_at_first}
+use Rattle.ap_bundle.specs.Reading.{cited_reading, reading, room_at_first}
 
 -- The numbers of a bundle of the program are in the ranges of their types, and so are the lengths of its lists.
 
@@ -99,6 +99,10 @@ SharedPrefixesAreUnended = (b : NominalBundle) (v u : List ℕ) → FitsBundle b
 abbrev pub HasRoomIn : Version → NominalBundle → Type 0
 HasRoomIn One b = Unit {0}
 HasRoomIn Two b = HasRoom b
+
+-- what is read is read where each term may be as large as all together
+abbrev pub ReadIsCited : Type 0
+ReadIsCited = (bytes : List ℕ) (b : NominalBundle) → reading bytes ≡ Ok b → cited_reading bytes ≡ Ok b
 
 -- what is read is in these ranges
 abbrev pub ReadFits : Type 0
