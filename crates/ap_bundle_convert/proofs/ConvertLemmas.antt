@@ -2,9 +2,10 @@
 use Rattle.std.proofs.Common.{◌≡◌, ℕ, List, Result, ap, sym, subst, ◌∙◌}
 use Rattle.ap_bundle.specs.declared.faults.BundleFault.{BundleFault}
 use Rattle.ap_bundle.specs.Bundles.{NominalBundle}
-use Rattle.ap_bundle.specs.Reading.{reading}
+use Rattle.ap_bundle.specs.Reading.{cited_reading, reading}
 use Rattle.ap_bundle.specs.Written.{written_as}
 use Rattle.ap_bundle_check.specs.Reports.{IsReadReport}
+use Rattle.ap_bundle_laws.proofs.CitedLemmas.{read_is_cited}
 use Rattle.ap_bundle_laws.proofs.RangedLemmas.{reading_fits}
 use Rattle.ap_bundle_laws.proofs.VersionLemmas.{read_again, room_in}
 use Rattle.ap_report.specs.declared.report.Report.{Report}
@@ -27,5 +28,5 @@ kept to bytes b r read room is =
 
 pub checked : ConvertedIsCheckedAlike
 checked to bytes b r s read room is =
-    let same : reading bytes ≡ reading r.bytes = read ∙ sym (kept to bytes b r read room is) in
+    let same : cited_reading bytes ≡ cited_reading r.bytes = read_is_cited bytes b read ∙ sym (read_is_cited r.bytes b (kept to bytes b r read room is)) in
     (subst (λ (x : Result NominalBundle BundleFault). IsReadReport x s) same, subst (λ (x : Result NominalBundle BundleFault). IsReadReport x s) (sym same))
