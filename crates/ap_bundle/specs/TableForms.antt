@@ -114,9 +114,9 @@ unfoldable pub read_shared : List NominalTerm → Reader NominalTerm
 read_shared table p = on_ok (read_form Term (shared_form table) p) (λ t. room_for p t.0 t.1)
 
 -- the place behind a term that is cited, if that alone is small enough
-abbrev pub if_small : Unread → NominalTerm → Unread → Result (NominalTerm × Unread) Wrong
-if_small p t q = if nat_lt room_at_first (expanded_size t) then Err (wrong Expanded p) else Ok (t, q)
+abbrev pub if_small_alone : Unread → NominalTerm → Unread → Result (NominalTerm × Unread) Wrong
+if_small_alone p t q = if nat_lt room_at_first (expanded_size t) then Err (wrong Expanded p) else Ok (t, q)
 
 -- the same where the terms may be as large as that each, and not only together
 unfoldable pub read_cited : List NominalTerm → Reader NominalTerm
-read_cited table p = on_ok (read_form Term (shared_form table) p) (λ t. if_small p t.0 t.1)
+read_cited table p = on_ok (read_form Term (shared_form table) p) (λ t. if_small_alone p t.0 t.1)

@@ -20,7 +20,7 @@ use Rattle.ap_bundle.specs.LineForms.{NodeLine, count_form, query_form, var_form
 use Rattle.ap_bundle.specs.Nodes as nodes
 use Rattle.ap_bundle.specs.Nodes.{children, derivation_from}
 use Rattle.ap_bundle.specs.Tables.{expanded_size}
-use Rattle.ap_bundle.specs.TableForms.{entry_form, if_small, read_cited, read_entries, read_shared, room_at_first, room_for, shared_form}
+use Rattle.ap_bundle.specs.TableForms.{entry_form, if_small_alone, read_cited, read_entries, read_shared, room_at_first, room_for, shared_form}
 use Rattle.ap_bundle.specs.Readers.{Unread, Wrong, Reader, ◌>>=◌, unended, wrong, found, is_lf, first_line, after_line, line_as, read_line, read_words, read_form, repeated, with_front}
 use Rattle.ap_bundle.specs.Reading.{ends, read_count, read_listed, read_name, read_term, read_atom, read_exists, read_behind, read_node, read_nodes, read_derivation, read_answer, read_proved, read_text, read_last, read_rest, read_shared_rest, read_version, read_at, start, at_line, reading, cited_reading}
 use Rattle.ap_bundle_laws.proofs.RangedLemmas.{both_ok, err_is, found_is, same_ok}
@@ -194,11 +194,11 @@ follows_entries (suc k) table =
     (λ t. follows_entries k (table ++ t ∷ []))
 
 -- a term for which there is room is small enough
-small_given : (n : ℕ) (p q : Unread) (t : NominalTerm) (x : NominalTerm × Unread) → Low q → room_for p t q ≡ Ok x → (if_small (with_room n p) t (with_room n q) ≡ Ok (x.0, with_room n x.1)) × Low x.1
+small_given : (n : ℕ) (p q : Unread) (t : NominalTerm) (x : NominalTerm × Unread) → Low q → room_for p t q ≡ Ok x → (if_small_alone (with_room n p) t (with_room n q) ≡ Ok (x.0, with_room n x.1)) × Low x.1
 small_given n p q t x low e = go (nat_lt q.room (expanded_size t)) refl e
   where
     go : (b : Bool) → nat_lt q.room (expanded_size t) ≡ b → (if b then Err (wrong Expanded p) else Ok (t, record q { room = q.room - expanded_size t })) ≡ Ok x
-        → (if_small (with_room n p) t (with_room n q) ≡ Ok (x.0, with_room n x.1)) × Low x.1
+        → (if_small_alone (with_room n p) t (with_room n q) ≡ Ok (x.0, with_room n x.1)) × Low x.1
     go true is h = err_is _ (wrong Expanded p) x h
     go false is h =
         let room = ltb-false q.room (expanded_size t) is in
