@@ -18,7 +18,7 @@ use Rattle.ap_checker.specs.declared.types.Wanted.TheVariants as wanted
 use Rattle.ap_checker.specs.declared.typing.Task.{Task}
 use Rattle.ap_checker.specs.declared.typing.Task.TheVariants as task
 use Rattle.ap_checker.specs.declared.typing.Typed.{Typed}
-use Rattle.ap_checker.specs.Typings.{AreEarned, AreTyped, IsTaken, LeavesTasks, is_known, noted, noted_at, passes, task_size}
+use Rattle.ap_checker.specs.Typings.{AreEarned, AreTyped, IsTaskTaken, LeavesTasks, is_known, to_be_known, to_be_known_at, passes, task_size}
 use Rattle.ap_checker.specs.Wanted.{IsLooked, expected_size, is_expected}
 use Rattle.ap_checker.proofs.ComparisonLemmas.{some_size}
 use Rattle.ap_theory.proofs.TermLemmas.{number_same}
@@ -81,14 +81,14 @@ module _ (ts : List NominalTerm) (cs : List NominalConstructor) (vars : VarTypes
     all_top : all ws ≡ (all ks && passes ts cs vars k)
     all_top = ap (list_all (passes ts cs vars)) top ∙ list_all-append (passes ts cs vars) ks (k ∷ []) ∙ ap (λ b. all ks && b) (and_true (passes ts cs vars k))
 
-    pub taken_false : (yes : Bool) → yes ≡ false → IsTaken ts cs vars k ks after yes → all ws ≡ whole → false ≡ whole
+    pub taken_false : (yes : Bool) → yes ≡ false → IsTaskTaken ts cs vars k ks after yes → all ws ≡ whole → false ≡ whole
     taken_false yes e h inv =
-        let fails : passes ts cs vars k ≡ false = subst (λ b. IsTaken ts cs vars k ks after b) e h in
+        let fails : passes ts cs vars k ≡ false = subst (λ b. IsTaskTaken ts cs vars k ks after b) e h in
         sym (and_turned (all ks) false) ∙ sym (ap (λ b. all ks && b) fails) ∙ sym all_top ∙ inv
 
-    module _ (yes : Bool) (e : yes ≡ true) (h : IsTaken ts cs vars k ks after yes) where
+    module _ (yes : Bool) (e : yes ≡ true) (h : IsTaskTaken ts cs vars k ks after yes) where
       left : LeavesTasks ts cs vars k ks after
-      left = subst (λ b. IsTaken ts cs vars k ks after b) e h
+      left = subst (λ b. IsTaskTaken ts cs vars k ks after b) e h
 
       pub taken_true : all ws ≡ whole → all after ≡ whole
       taken_true inv =
@@ -120,46 +120,46 @@ module _ (ts : List NominalTerm) (cs : List NominalConstructor) (vars : VarTypes
   passed_leaves e ks h = leaves_none (task.Look e) ks h (let some = look_size e in omega (arith, some))
 
   -- what will be known of a term, below what is left of it
-  noted_all : (i : ℕ) (w : Wanted) (ks : List Task) → all (noted_at i w ++ ks) ≡ all ks
+  noted_all : (i : ℕ) (w : Wanted) (ks : List Task) → all (to_be_known_at i w ++ ks) ≡ all ks
   noted_all i (wanted.One t) ks = refl
   noted_all i wanted.Nothing ks = refl
   noted_all i (wanted.More t us) ks = refl
   noted_all i (wanted.Cell t l) ks = refl
 
-  noted_earned : (i : ℕ) (w : Wanted) (ks : List Task) → (all ks ≡ true → is_expected ts cs vars (record { line = i; wanted = w }) ≡ true) → AreEarned ts cs vars ks → AreEarned ts cs vars (noted_at i w ++ ks)
+  noted_earned : (i : ℕ) (w : Wanted) (ks : List Task) → (all ks ≡ true → is_expected ts cs vars (record { line = i; wanted = w }) ≡ true) → AreEarned ts cs vars ks → AreEarned ts cs vars (to_be_known_at i w ++ ks)
   noted_earned i (wanted.One t) ks h k = (h, k)
   noted_earned i wanted.Nothing ks h k = k
   noted_earned i (wanted.More t us) ks h k = k
   noted_earned i (wanted.Cell t l) ks h k = k
 
-  noted_less : (i : ℕ) (w : Wanted) (ks : List Task) → sum_by (task_size ts) (noted_at i w ++ ks) < 2 + sum_by (task_size ts) ks
+  noted_less : (i : ℕ) (w : Wanted) (ks : List Task) → sum_by (task_size ts) (to_be_known_at i w ++ ks) < 2 + sum_by (task_size ts) ks
   noted_less i (wanted.One t) ks = omega arith
   noted_less i wanted.Nothing ks = omega arith
   noted_less i (wanted.More t us) ks = omega arith
   noted_less i (wanted.Cell t l) ks = omega arith
 
   module _ (e : Expected) where
-    pub part_leaves : (p : Expected) (ks ms after : List Task) → ms ≡ ks ++ noted e → after ≡ ms ++ task.Look p ∷ [] → (is_expected ts cs vars e ≡ is_expected ts cs vars p) × (expected_size ts p < expected_size ts e)
+    pub part_leaves : (p : Expected) (ks ms after : List Task) → ms ≡ ks ++ to_be_known e → after ≡ ms ++ task.Look p ∷ [] → (is_expected ts cs vars e ≡ is_expected ts cs vars p) × (expected_size ts p < expected_size ts e)
         → LeavesTasks ts cs vars (task.Look e) ks after
     part_leaves p ks ms after d f h = record {
-      more = noted e ++ task.Look p ∷ [];
-      left = f ∙ ap (λ zs. zs ++ task.Look p ∷ []) d ∙ append_assoc ks (noted e) (task.Look p ∷ []);
+      more = to_be_known e ++ task.Look p ∷ [];
+      left = f ∙ ap (λ zs. zs ++ task.Look p ∷ []) d ∙ append_assoc ks (to_be_known e) (task.Look p ∷ []);
       all = noted_all e.line e.wanted (task.Look p ∷ []) ∙ and_true (is_expected ts cs vars p) ∙ sym h.0;
       earned = noted_earned e.line e.wanted (task.Look p ∷ []) (λ q. h.0 ∙ sym (and_true (is_expected ts cs vars p)) ∙ q) tt;
       less = let few = noted_less e.line e.wanted (task.Look p ∷ []) in omega (arith, few, h.1);
     }
 
-    pub parts_leave : (p q : Expected) (ks ms ns after : List Task) → ms ≡ ks ++ noted e → ns ≡ ms ++ task.Look q ∷ [] → after ≡ ns ++ task.Look p ∷ []
+    pub parts_leave : (p q : Expected) (ks ms ns after : List Task) → ms ≡ ks ++ to_be_known e → ns ≡ ms ++ task.Look q ∷ [] → after ≡ ns ++ task.Look p ∷ []
         → (is_expected ts cs vars e ≡ (is_expected ts cs vars p && is_expected ts cs vars q)) × (expected_size ts p + expected_size ts q < expected_size ts e)
         → LeavesTasks ts cs vars (task.Look e) ks after
     parts_leave p q ks ms ns after d f g h =
         let rest = task.Look q ∷ task.Look p ∷ [] in
         let both : all rest ≡ is_expected ts cs vars e = ap (λ b. is_expected ts cs vars q && b) (and_true (is_expected ts cs vars p)) ∙ and_turned (is_expected ts cs vars q) (is_expected ts cs vars p) ∙ sym h.0 in
         record {
-          more = noted e ++ rest;
+          more = to_be_known e ++ rest;
           left =
-              g ∙ ap (λ zs. zs ++ task.Look p ∷ []) (f ∙ ap (λ zs. zs ++ task.Look q ∷ []) d) ∙ append_assoc (ks ++ noted e) (task.Look q ∷ []) (task.Look p ∷ [])
-              ∙ append_assoc ks (noted e) rest;
+              g ∙ ap (λ zs. zs ++ task.Look p ∷ []) (f ∙ ap (λ zs. zs ++ task.Look q ∷ []) d) ∙ append_assoc (ks ++ to_be_known e) (task.Look q ∷ []) (task.Look p ∷ [])
+              ∙ append_assoc ks (to_be_known e) rest;
           all = noted_all e.line e.wanted rest ∙ both;
           earned = noted_earned e.line e.wanted rest (λ r. sym both ∙ r) tt;
           less = let few = noted_less e.line e.wanted rest in omega (arith, few, h.1);

@@ -18,49 +18,49 @@ use Rattle.ap_checker.specs.declared.scope.Standing.TheVariants as standing
 use Rattle.ap_checker.specs.declared.walk.Pending.{Pending}
 use Rattle.ap_checker.specs.declared.walk.Walk.{Walk}
 
-abbrev pub IsCitedOf : SharedTerms → Cited → Type 0
-IsCitedOf ts (cited.Line t) = t.terms.now ≡ ts
-IsCitedOf ts (cited.Tree t) = Unit {0}
+abbrev pub IsCitedIn : SharedTerms → Cited → Type 0
+IsCitedIn ts (cited.Line t) = t.terms.now ≡ ts
+IsCitedIn ts (cited.Tree t) = Unit {0}
 
-abbrev pub AreCitedOf : SharedTerms → CitedTerms → Type 0
-AreCitedOf ts (all.Lines us) = us.terms.now ≡ ts
-AreCitedOf ts (all.Trees us) = Unit {0}
+abbrev pub AreCitedIn : SharedTerms → CitedTerms → Type 0
+AreCitedIn ts (all.Lines us) = us.terms.now ≡ ts
+AreCitedIn ts (all.Trees us) = Unit {0}
 
-abbrev pub IsLayerOf : SharedTerms → Layer → Type 0
-IsLayerOf ts layer.Unit = Unit {0}
-IsLayerOf ts (layer.Name a) = Unit {0}
-IsLayerOf ts (layer.Pair t u) = IsCitedOf ts t × IsCitedOf ts u
-IsLayerOf ts (layer.App f t) = IsCitedOf ts t
-IsLayerOf ts (layer.Abs a t) = IsCitedOf ts t
-IsLayerOf ts (layer.Susp p x) = Unit {0}
+abbrev pub IsLayerIn : SharedTerms → Layer → Type 0
+IsLayerIn ts layer.Unit = Unit {0}
+IsLayerIn ts (layer.Name a) = Unit {0}
+IsLayerIn ts (layer.Pair t u) = IsCitedIn ts t × IsCitedIn ts u
+IsLayerIn ts (layer.App f t) = IsCitedIn ts t
+IsLayerIn ts (layer.Abs a t) = IsCitedIn ts t
+IsLayerIn ts (layer.Susp p x) = Unit {0}
 
-abbrev pub IsStandingOf : SharedTerms → Standing → Type 0
-IsStandingOf ts (standing.Query ls us) = AreCitedOf ts us
-IsStandingOf ts (standing.Clause ls names us) = AreCitedOf ts us
-IsStandingOf ts (standing.Name a c) = Unit {0}
-IsStandingOf ts (standing.Term x t) = IsCitedOf ts t
+abbrev pub IsStandingIn : SharedTerms → Standing → Type 0
+IsStandingIn ts (standing.Query ls us) = AreCitedIn ts us
+IsStandingIn ts (standing.Clause ls names us) = AreCitedIn ts us
+IsStandingIn ts (standing.Name a c) = Unit {0}
+IsStandingIn ts (standing.Term x t) = IsCitedIn ts t
 
-abbrev pub AreStandingOf : SharedTerms → List Standing → Type 0
-AreStandingOf ts ss = All (IsStandingOf ts) ss
+abbrev pub AreStandingIn : SharedTerms → List Standing → Type 0
+AreStandingIn ts ss = All (IsStandingIn ts) ss
 
-abbrev pub IsClosureOf : SharedTerms → Closure → Type 0
-IsClosureOf ts (closure.Whole t) = IsCitedOf ts t
-IsClosureOf ts (closure.Within scope t) = AreStandingOf ts scope.standing.now
-IsClosureOf ts (closure.Moved p t) = IsCitedOf ts t
+abbrev pub IsClosureIn : SharedTerms → Closure → Type 0
+IsClosureIn ts (closure.Whole t) = IsCitedIn ts t
+IsClosureIn ts (closure.Within scope t) = AreStandingIn ts scope.standing.now
+IsClosureIn ts (closure.Moved p t) = IsCitedIn ts t
 
-abbrev pub IsHeadOf : SharedTerms → Head → Type 0
-IsHeadOf ts head.Unit = Unit {0}
-IsHeadOf ts (head.Name a) = Unit {0}
-IsHeadOf ts (head.Pair t u) = IsClosureOf ts t × IsClosureOf ts u
-IsHeadOf ts (head.App f t) = IsClosureOf ts t
-IsHeadOf ts (head.Abs a t) = IsClosureOf ts t
-IsHeadOf ts (head.Susp p x) = Unit {0}
+abbrev pub IsHeadIn : SharedTerms → Head → Type 0
+IsHeadIn ts head.Unit = Unit {0}
+IsHeadIn ts (head.Name a) = Unit {0}
+IsHeadIn ts (head.Pair t u) = IsClosureIn ts t × IsClosureIn ts u
+IsHeadIn ts (head.App f t) = IsClosureIn ts t
+IsHeadIn ts (head.Abs a t) = IsClosureIn ts t
+IsHeadIn ts (head.Susp p x) = Unit {0}
 
-abbrev pub IsComparedOf : SharedTerms → Compared → Type 0
-IsComparedOf ts c = IsClosureOf ts c.left × IsClosureOf ts c.right
+abbrev pub IsComparedIn : SharedTerms → Compared → Type 0
+IsComparedIn ts c = IsClosureIn ts c.left × IsClosureIn ts c.right
 
-abbrev pub IsPendingOf : SharedTerms → Pending → Type 0
-IsPendingOf ts t = t.obligation.terms.now ≡ ts
+abbrev pub IsPendingIn : SharedTerms → Pending → Type 0
+IsPendingIn ts t = t.obligation.terms.now ≡ ts
 
-abbrev pub IsWalkOf : SharedTerms → Walk → Type 0
-IsWalkOf ts w = All (IsStandingOf ts) w.standing.items × All (IsPendingOf ts) w.pending.items
+abbrev pub IsWalkIn : SharedTerms → Walk → Type 0
+IsWalkIn ts w = All (IsStandingIn ts) w.standing.items × All (IsPendingIn ts) w.pending.items

@@ -54,20 +54,20 @@ pub record LeavesTasks (ts : List NominalTerm) (cs : List NominalConstructor) (v
   pub earned : AreEarned ts cs vars more
   pub less : sum_by (task_size ts) more < task_size ts k
 
-abbrev pub IsTaken : List NominalTerm → List NominalConstructor → VarTypes → Task → List Task → List Task → Bool → Type 0
-IsTaken ts cs vars k before after false = passes ts cs vars k ≡ false
-IsTaken ts cs vars k before after true = LeavesTasks ts cs vars k before after
+abbrev pub IsTaskTaken : List NominalTerm → List NominalConstructor → VarTypes → Task → List Task → List Task → Bool → Type 0
+IsTaskTaken ts cs vars k before after false = passes ts cs vars k ≡ false
+IsTaskTaken ts cs vars k before after true = LeavesTasks ts cs vars k before after
 
 -- the same of the program's constructors and an answer's variables
 abbrev pub AreTypesKnown : SharedTerms → List Constructor → List (Var × Ty) → Typed → Type 0
 AreTypesKnown ts cs vars m = AreTyped (shared_terms ts) (map constructor_of cs) (type_beside (map typed_var_of vars)) m
 
 -- what will be known of a term that is to be this
-abbrev pub noted_at : ℕ → Wanted → List Task
-noted_at i (wanted.One t) = task.Known i t ∷ []
-noted_at i wanted.Nothing = []
-noted_at i (wanted.More t ts) = []
-noted_at i (wanted.Cell t l) = []
+abbrev pub to_be_known_at : ℕ → Wanted → List Task
+to_be_known_at i (wanted.One t) = task.Known i t ∷ []
+to_be_known_at i wanted.Nothing = []
+to_be_known_at i (wanted.More t ts) = []
+to_be_known_at i (wanted.Cell t l) = []
 
-abbrev pub noted : Expected → List Task
-noted e = noted_at e.line e.wanted
+abbrev pub to_be_known : Expected → List Task
+to_be_known e = to_be_known_at e.line e.wanted

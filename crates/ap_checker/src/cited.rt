@@ -3,7 +3,7 @@
 ghost use Rattle.std.specs.Prelude.{◌≡◌, get_or, map, IfSome, MatchOption};
 ghost use Rattle.ap_defs.specs.Terms.{term_of, unit};
 ghost use Rattle.ap_checker.specs.Cited.{cited_term, cited_terms, layer_term};
-ghost use Rattle.ap_checker.specs.Tables.{AreCitedOf, IsCitedOf, IsLayerOf};
+ghost use Rattle.ap_checker.specs.Tables.{AreCitedIn, IsCitedIn, IsLayerIn};
 ghost use Rattle.ap_shared.specs.declared.arena.SharedTerms.{SharedTerms as table};
 ghost use Rattle.ap_shared.specs.SharedPlaces.{given_terms, shared_term};
 
@@ -72,7 +72,7 @@ impl<'a> CitedTerms<'a> {
     pub(crate) fn get(self, place: usize) -> Option<Cited<'a>>
         ensures term { MatchOption result (get_or (cited_terms self.entry) place unit ≡ unit)
             (λ t. get_or (cited_terms self.entry) place unit ≡ cited_term t) }
-        ensures of { IfSome result (λ t. (ts : table) → AreCitedOf ts self.entry → IsCitedOf ts t) }
+        ensures of { IfSome result (λ t. (ts : table) → AreCitedIn ts self.entry → IsCitedIn ts t) }
     {
         match self {
             CitedTerms::Lines(given) => match line_at(given, place) {
@@ -90,7 +90,7 @@ impl<'a> CitedTerms<'a> {
 /// The outermost layer of a term of a table.
 fn layer_of_line<'a>(t: Shared<'a>) -> Layer<'a>
     ensures term { layer_term result ≡ shared_term t.entry }
-    ensures of { IsLayerOf t.entry.terms.now result }
+    ensures of { IsLayerIn t.entry.terms.now result }
 {
     let Shared { terms, line } = t;
     let Some(entry) = terms.entry(line) else {
@@ -122,7 +122,7 @@ fn layer_of_line<'a>(t: Shared<'a>) -> Layer<'a>
 /// The outermost layer of a term by itself.
 fn layer_of_tree(t: &Term) -> Layer<'_>
     ensures term { layer_term result ≡ term_of t.now }
-    ensures of { (ts : table) → IsLayerOf ts result }
+    ensures of { (ts : table) → IsLayerIn ts result }
 {
     match t {
         Term::Unit => Layer::Unit,
@@ -137,7 +137,7 @@ fn layer_of_tree(t: &Term) -> Layer<'_>
 /// The outermost layer of a term that is cited.
 pub(crate) fn layer_of<'a>(t: Cited<'a>) -> Layer<'a>
     ensures term { layer_term result ≡ cited_term t.entry }
-    ensures of { (ts : table) → IsCitedOf ts t.entry → IsLayerOf ts result }
+    ensures of { (ts : table) → IsCitedIn ts t.entry → IsLayerIn ts result }
 {
     match t {
         Cited::Line(t) => layer_of_line(t),

@@ -10,7 +10,7 @@ ghost use Rattle.ap_checks.specs.OpenEnvironments.{put_in};
 ghost use Rattle.ap_checker.specs.Cited.{cited_term};
 ghost use Rattle.ap_checker.specs.Closures.{head_term, scoped_term};
 ghost use Rattle.ap_checker.specs.Scopes.{environment_of};
-ghost use Rattle.ap_checker.specs.Tables.{AreStandingOf, IsCitedOf, IsClosureOf, IsHeadOf};
+ghost use Rattle.ap_checker.specs.Tables.{AreStandingIn, IsCitedIn, IsClosureIn, IsHeadIn};
 ghost use Rattle.ap_shared.specs.declared.arena.SharedTerms.{SharedTerms as table};
 
 use crate::cited::{Cited, Layer, layer_of};
@@ -59,7 +59,7 @@ pub(crate) enum Head<'a> {
 /// The head of a term itself.
 fn head_of<'a>(alloc: Global, t: Cited<'a>) -> Result<Head<'a>, Memory>
     ensures term { IfOk result (λ h. head_term h ≡ cited_term t.entry) }
-    ensures of { IfOk result (λ h. (ts : table) → IsCitedOf ts t.entry → IsHeadOf ts h) }
+    ensures of { IfOk result (λ h. (ts : table) → IsCitedIn ts t.entry → IsHeadIn ts h) }
 {
     match layer_of(t) {
         Layer::Unit => Ok(Head::Unit),
@@ -79,7 +79,7 @@ fn moved_suspension<'a>(
     x: Var,
 ) -> Result<Head<'a>, Memory>
     ensures term { IfOk result (λ h. head_term h ≡ act_term swaps.now (susp more.now x)) }
-    ensures of { IfOk result (λ h. (ts : table) → IsHeadOf ts h) }
+    ensures of { IfOk result (λ h. (ts : table) → IsHeadIn ts h) }
 {
     let mut all = swaps.to_vec(alloc)?;
     all.extend_from_slice(more)?;
@@ -94,8 +94,8 @@ fn moved_pair<'a>(
 ) -> Result<Head<'a>, Memory>
     ensures term { IfOk result (λ h. head_term h
         ≡ act_term swaps.value.items (pair (cited_term left.entry) (cited_term right.entry))) }
-    ensures of { IfOk result (λ h. (ts : table) → IsCitedOf ts left.entry →
-        IsCitedOf ts right.entry → IsHeadOf ts h) }
+    ensures of { IfOk result (λ h. (ts : table) → IsCitedIn ts left.entry →
+        IsCitedIn ts right.entry → IsHeadIn ts h) }
 {
     let same = swaps.clone()?;
     let left = Closure::Moved(same, left);
@@ -107,7 +107,7 @@ fn moved_pair<'a>(
 fn moved_head<'a>(alloc: Global, swaps: Rc<Vec<Swap>>, t: Cited<'a>) -> Result<Head<'a>, Memory>
     ensures term { IfOk result (λ h.
         head_term h ≡ act_term swaps.value.items (cited_term t.entry)) }
-    ensures of { IfOk result (λ h. (ts : table) → IsCitedOf ts t.entry → IsHeadOf ts h) }
+    ensures of { IfOk result (λ h. (ts : table) → IsCitedIn ts t.entry → IsHeadIn ts h) }
 {
     match layer_of(t) {
         Layer::Unit => Ok(Head::Unit),
@@ -126,7 +126,7 @@ fn moved_head<'a>(alloc: Global, swaps: Rc<Vec<Swap>>, t: Cited<'a>) -> Result<H
 #[tactic(auto, using(crate::proofs::HeadLemmas::unmoved))]
 fn head_moved_by<'a>(alloc: Global, swaps: Vec<Swap>, t: Cited<'a>) -> Result<Head<'a>, Memory>
     ensures term { IfOk result (λ h. head_term h ≡ act_term swaps.items (cited_term t.entry)) }
-    ensures of { IfOk result (λ h. (ts : table) → IsCitedOf ts t.entry → IsHeadOf ts h) }
+    ensures of { IfOk result (λ h. (ts : table) → IsCitedIn ts t.entry → IsHeadIn ts h) }
 {
     if swaps.is_empty() {
         return head_of(alloc, t);
@@ -144,7 +144,7 @@ fn suspended_head<'a>(
     ensures term { IfOk result (λ h. head_term h
         ≡ put_in (environment_of scope.entry.standing.now) (susp swaps.now x)) }
     ensures of { IfOk result (λ h. (ts : table) →
-        AreStandingOf ts scope.entry.standing.now → IsHeadOf ts h) }
+        AreStandingIn ts scope.entry.standing.now → IsHeadIn ts h) }
 {
     let Some(t) = term_in(scope.standing, x) else {
         return Ok(Head::Unit);
@@ -158,7 +158,7 @@ fn head_within<'a>(alloc: Global, scope: Scope<'a>, t: &'a Term) -> Result<Head<
     ensures term { IfOk result (λ h. head_term h
         ≡ put_in (environment_of scope.entry.standing.now) (term_of t.now)) }
     ensures of { IfOk result (λ h. (ts : table) →
-        AreStandingOf ts scope.entry.standing.now → IsHeadOf ts h) }
+        AreStandingIn ts scope.entry.standing.now → IsHeadIn ts h) }
 {
     match t {
         Term::Unit => Ok(Head::Unit),
@@ -179,7 +179,7 @@ fn head_within<'a>(alloc: Global, scope: Scope<'a>, t: &'a Term) -> Result<Head<
 /// The head of a closure.
 pub(crate) fn head_at<'a>(alloc: Global, t: &Closure<'a>) -> Result<Head<'a>, Memory>
     ensures term { IfOk result (λ h. head_term h ≡ scoped_term t.now) }
-    ensures of { IfOk result (λ h. (ts : table) → IsClosureOf ts t.now → IsHeadOf ts h) }
+    ensures of { IfOk result (λ h. (ts : table) → IsClosureIn ts t.now → IsHeadIn ts h) }
 {
     match t {
         Closure::Whole(t) => head_of(alloc, *t),
@@ -192,7 +192,7 @@ pub(crate) fn head_at<'a>(alloc: Global, t: &Closure<'a>) -> Result<Head<'a>, Me
 #[tactic(auto, using(crate::proofs::HeadLemmas::unmoved))]
 fn moved_by<'a>(alloc: Global, swaps: Vec<Swap>, t: Cited<'a>) -> Result<Closure<'a>, Memory>
     ensures term { IfOk result (λ u. scoped_term u ≡ act_term swaps.items (cited_term t.entry)) }
-    ensures of { IfOk result (λ u. (ts : table) → IsCitedOf ts t.entry → IsClosureOf ts u) }
+    ensures of { IfOk result (λ u. (ts : table) → IsCitedIn ts t.entry → IsClosureIn ts u) }
 {
     if swaps.is_empty() {
         return Ok(Closure::Whole(t));
@@ -209,7 +209,7 @@ fn settled_within<'a>(
     ensures term { IfOk result (λ u. scoped_term u
         ≡ put_in (environment_of scope.entry.standing.now) (term_of t.now)) }
     ensures of { IfOk result (λ u. (ts : table) →
-        AreStandingOf ts scope.entry.standing.now → IsClosureOf ts u) }
+        AreStandingIn ts scope.entry.standing.now → IsClosureIn ts u) }
 {
     let Term::Susp(swaps, x) = t else {
         return Ok(Closure::Within(scope, t));
@@ -224,7 +224,7 @@ fn settled_within<'a>(
 /// The closure, where it is a variable with what stands for that put there.
 pub(crate) fn settled<'a>(alloc: Global, t: Closure<'a>) -> Result<Closure<'a>, Memory>
     ensures term { IfOk result (λ u. scoped_term u ≡ scoped_term t.entry) }
-    ensures of { IfOk result (λ u. (ts : table) → IsClosureOf ts t.entry → IsClosureOf ts u) }
+    ensures of { IfOk result (λ u. (ts : table) → IsClosureIn ts t.entry → IsClosureIn ts u) }
 {
     match t {
         Closure::Within(scope, t) => settled_within(alloc, scope, t),
@@ -235,7 +235,7 @@ pub(crate) fn settled<'a>(alloc: Global, t: Closure<'a>) -> Result<Closure<'a>, 
 
 /// Whether both are the term of one line.
 pub(crate) fn is_same_line(t: &Closure<'_>, u: &Closure<'_>) -> bool
-    ensures { result ≡ true → (ts : table) → IsClosureOf ts t.now → IsClosureOf ts u.now →
+    ensures { result ≡ true → (ts : table) → IsClosureIn ts t.now → IsClosureIn ts u.now →
         scoped_term t.now ≡ scoped_term u.now }
 {
     match (t, u) {

@@ -13,7 +13,7 @@ ghost use Rattle.ap_checker.specs.Binders.{AreBinders, within_left, within_right
 ghost use Rattle.ap_checker.specs.Comparisons.{are_alike, mark_of, compared_size};
 ghost use Rattle.ap_checker.specs.Closures.{scoped_term};
 ghost use Rattle.ap_checker.specs.Stacks.{AreWithin, IsTestedThere};
-ghost use Rattle.ap_checker.specs.Tables.{IsClosureOf, IsComparedOf};
+ghost use Rattle.ap_checker.specs.Tables.{IsClosureIn, IsComparedIn};
 ghost use Rattle.ap_shared.specs.declared.arena.SharedTerms.{SharedTerms as table};
 ghost use Rattle.ap_shared.specs.Shared.{shared_at};
 ghost use Rattle.ap_shared.specs.SharedViews.{shared_terms};
@@ -55,9 +55,9 @@ impl<'a> Comparison<'a> {
               right = right.entry;
               mark = length self.old.binders.pairs.items;
             }) ∷ []) }
-        ensures of { OnOk result ((ts : table) → IsClosureOf ts left.entry →
-            IsClosureOf ts right.entry → All (IsComparedOf ts) self.old.pending.items →
-            All (IsComparedOf ts) self.new.pending.items) }
+        ensures of { OnOk result ((ts : table) → IsClosureIn ts left.entry →
+            IsClosureIn ts right.entry → All (IsComparedIn ts) self.old.pending.items →
+            All (IsComparedIn ts) self.new.pending.items) }
     {
         let mark = self.binders.pairs.len();
         self.pending.push(Compared { left, right, mark })?;
@@ -83,9 +83,9 @@ fn compare_bodies<'a>(
         walk.old.binders.pairs.items walk.old.pending.items
         walk.new.binders.pairs.items walk.new.pending.items yes) }
     ensures found { OnOk result (AreBinders walk.new.binders) }
-    ensures of { OnOk result ((ts : table) → IsClosureOf ts left.entry →
-        IsClosureOf ts right.entry → All (IsComparedOf ts) walk.old.pending.items →
-        All (IsComparedOf ts) walk.new.pending.items) }
+    ensures of { OnOk result ((ts : table) → IsClosureIn ts left.entry →
+        IsClosureIn ts right.entry → All (IsComparedIn ts) walk.old.pending.items →
+        All (IsComparedIn ts) walk.new.pending.items) }
 {
     let (a, b) = binders;
     if a.sort != b.sort {
@@ -141,9 +141,9 @@ fn compare_heads<'a>(
         walk.old.binders.pairs.items walk.old.pending.items
         walk.new.binders.pairs.items walk.new.pending.items yes) }
     ensures found { OnOk result (AreBinders walk.new.binders) }
-    ensures of { OnOk result ((ts : table) → IsComparedOf ts at.entry →
-        All (IsComparedOf ts) walk.old.pending.items →
-        All (IsComparedOf ts) walk.new.pending.items) }
+    ensures of { OnOk result ((ts : table) → IsComparedIn ts at.entry →
+        All (IsComparedIn ts) walk.old.pending.items →
+        All (IsComparedIn ts) walk.new.pending.items) }
 {
     let left = head_at(alloc, &at.left)?;
     let right = head_at(alloc, &at.right)?;
@@ -182,14 +182,14 @@ fn compare<'a>(
     requires within { AreWithin mark_of (length walk.old.binders.pairs.items)
         (reverse walk.old.pending.items) }
     requires found { AreBinders walk.old.binders }
-    requires of { IsComparedOf terms.now at }
-    requires others { All (IsComparedOf terms.now) walk.old.pending.items }
+    requires of { IsComparedIn terms.now at }
+    requires others { All (IsComparedIn terms.now) walk.old.pending.items }
     ensures tested { IfOk result (λ yes.
         IsTestedThere mark_of (are_alike answer.now.conds) compared_size at.entry
         walk.old.binders.pairs.items walk.old.pending.items
         walk.new.binders.pairs.items walk.new.pending.items yes) }
     ensures found { OnOk result (AreBinders walk.new.binders) }
-    ensures of { OnOk result (All (IsComparedOf terms.now) walk.new.pending.items) }
+    ensures of { OnOk result (All (IsComparedIn terms.now) walk.new.pending.items) }
 {
     let Compared { left, right, mark } = at;
     let left = settled(alloc, left)?;
@@ -209,8 +209,8 @@ pub(crate) fn are_equal_at(
     t: Closure<'_>,
     u: Closure<'_>,
 ) -> Result<bool, Memory>
-    requires left { IsClosureOf terms.now t }
-    requires right { IsClosureOf terms.now u }
+    requires left { IsClosureIn terms.now t }
+    requires right { IsClosureIn terms.now u }
     ensures { IfOk result (λ yes. yes
         ≡ alpha_under answer.now.conds (scoped_term t.entry) (scoped_term u.entry)) }
 {

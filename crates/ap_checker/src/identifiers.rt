@@ -9,7 +9,7 @@ ghost use Rattle.ap_defs.specs.Types.{local_of, locals_of};
 ghost use Rattle.ap_checks.specs.OpenEnvironments.{open_term_for};
 ghost use Rattle.ap_checker.specs.Cited.{cited_term, cited_terms};
 ghost use Rattle.ap_checker.specs.Places.{places_from};
-ghost use Rattle.ap_checker.specs.Tables.{AreCitedOf, IsCitedOf};
+ghost use Rattle.ap_checker.specs.Tables.{AreCitedIn, IsCitedIn};
 ghost use Rattle.ap_shared.specs.declared.arena.SharedTerms.{SharedTerms as table};
 
 use crate::cited::{Cited, CitedTerms};
@@ -127,7 +127,7 @@ impl<'a> Identifiers<'a> {
             (λ t. open_term_for (local_vars zero (locals_of self.now)) (cited_terms given.entry) x
             ≡ cited_term t) }
         ensures of { IfSome result (λ t. (ts : table) →
-            AreCitedOf ts given.entry → IsCitedOf ts t) }
+            AreCitedIn ts given.entry → IsCitedIn ts t) }
     {
         let (local, place) = self.at(x.num)?;
         if !is_variable(local) {

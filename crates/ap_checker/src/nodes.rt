@@ -3,7 +3,7 @@
 ghost use Rattle.std.specs.Prelude.{◌≡◌, IfOk};
 ghost use Rattle.ap_checks.specs.Checks.{are_different, equal_each, is_fresh};
 ghost use Rattle.ap_checker.specs.Closures.{scoped_term, scoped_terms};
-ghost use Rattle.ap_checker.specs.Tables.{AreStandingOf};
+ghost use Rattle.ap_checker.specs.Tables.{AreStandingIn};
 
 use crate::closures::{Closure, Head, ScopedTerms, head_at};
 use crate::equality::are_equal_at;
@@ -38,8 +38,8 @@ pub(crate) fn all_equal(
     left: ScopedTerms<'_>,
     right: ScopedTerms<'_>,
 ) -> Result<bool, Memory>
-    requires left { AreStandingOf terms.now left.scope.standing.now }
-    requires right { AreStandingOf terms.now right.scope.standing.now }
+    requires left { AreStandingIn terms.now left.scope.standing.now }
+    requires right { AreStandingIn terms.now right.scope.standing.now }
     ensures { IfOk result (λ yes. yes ≡
         equal_each answer.now.conds (scoped_terms left.entry) (scoped_terms right.entry)) }
 {

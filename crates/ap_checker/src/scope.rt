@@ -5,7 +5,7 @@ ghost use Rattle.ap_defs.specs.Terms.{term_of, unit};
 ghost use Rattle.ap_checks.specs.OpenEnvironments.{put_in, swap_in};
 ghost use Rattle.ap_checker.specs.Cited.{cited_term};
 ghost use Rattle.ap_checker.specs.Scopes.{environment_of, item_term, name_stood, term_brought};
-ghost use Rattle.ap_checker.specs.Tables.{AreStandingOf, IsCitedOf, IsStandingOf};
+ghost use Rattle.ap_checker.specs.Tables.{AreStandingIn, IsCitedIn, IsStandingIn};
 ghost use Rattle.ap_shared.specs.declared.arena.SharedTerms.{SharedTerms as table};
 
 use crate::cited::{Cited, CitedTerms};
@@ -46,7 +46,7 @@ fn name_at(standing: &Standing<'_>, b: Name) -> Option<Name>
 fn term_at<'a>(standing: &Standing<'a>, x: Var) -> Option<Cited<'a>>
     ensures term { MatchOption result (term_brought standing.now x ≡ None) (λ t. term_brought
         standing.now x ≡ Some (cited_term t)) }
-    ensures of { IfSome result (λ t. (ts : table) → IsStandingOf ts standing.now → IsCitedOf ts t) }
+    ensures of { IfSome result (λ t. (ts : table) → IsStandingIn ts standing.now → IsCitedIn ts t) }
 {
     match standing {
         Standing::Term(y, t) if y.num == x.num => Some(*t),
@@ -60,7 +60,7 @@ fn item_term_at<'a>(standing: &Standing<'a>, x: Var) -> Option<Option<Cited<'a>>
         (item_term standing.now x ≡ Some unit) (λ t. item_term standing.now x
         ≡ Some (cited_term t))) }
     ensures of { IfSome result (λ found. IfSome found (λ t. (ts : table) →
-        IsStandingOf ts standing.now → IsCitedOf ts t)) }
+        IsStandingIn ts standing.now → IsCitedIn ts t)) }
 {
     match standing {
         Standing::Query(own, given) => Some(own.term_for(*given, x)),
@@ -85,7 +85,7 @@ pub(crate) fn name_in(scope: &[Standing<'_>], b: Name) -> Name
 pub(crate) fn term_in<'a>(scope: &[Standing<'a>], x: Var) -> Option<Cited<'a>>
     ensures term { MatchOption result ((environment_of scope.now).terms x ≡ unit) (λ t.
         (environment_of scope.now).terms x ≡ cited_term t) }
-    ensures of { IfSome result (λ t. (ts : table) → AreStandingOf ts scope.now → IsCitedOf ts t) }
+    ensures of { IfSome result (λ t. (ts : table) → AreStandingIn ts scope.now → IsCitedIn ts t) }
 {
     for i in (0..scope.len()).rev() {
         let innermost = &scope[i];

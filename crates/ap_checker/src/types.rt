@@ -93,6 +93,9 @@ fn compare<'a>(pending: &mut Vec<TypePair<'a>>, at: TypePair<'a>) -> Result<bool
 pub(crate) fn is_same(alloc: Global, a: &Ty, b: &Ty) -> Result<bool, Memory>
     ensures { IfOk result (λ yes. yes ≡ type_eq (type_of a.now) (type_of b.now)) }
 {
+    if let (Ty::Base(d), Ty::Base(e)) = (a, b) {
+        return Ok(*d == *e);
+    }
     let mut pending = Vec::new(alloc);
     pending.push(TypePair { left: a, right: b })?;
     while let Some(next) = pending.pop() {

@@ -9,7 +9,7 @@ ghost use Rattle.ap_defs.specs.Types.{NominalConstructor, constructor_of, type_o
 ghost use Rattle.ap_defs.specs.Typing.{VarTypes, one};
 ghost use Rattle.ap_defs.specs.Terms.{NominalTerm};
 ghost use Rattle.ap_checks.specs.TypeTests.{is_typed, type_beside as beside};
-ghost use Rattle.ap_checker.specs.Typings.{AreEarned, AreTyped, AreTypesKnown, IsTaken, noted};
+ghost use Rattle.ap_checker.specs.Typings.{AreEarned, AreTyped, AreTypesKnown, IsTaskTaken, to_be_known};
 ghost use Rattle.ap_checker.specs.Wanted.{expected_size, is_expected};
 ghost use Rattle.ap_checker.specs.declared.typing.Task.TheVariants as tasks_of;
 ghost use Rattle.ap_shared.specs.Shared.{shared_at};
@@ -89,7 +89,7 @@ impl<'a> Typed<'a> {
 
 /// That a term has a type will be known, where it is to have one.
 fn note<'a>(tasks: &mut Vec<Task<'a>>, at: Expected<'a>) -> Result<(), Memory>
-    ensures { OnOk result (tasks.new.items ≡ tasks.old.items ++ noted at.entry) }
+    ensures { OnOk result (tasks.new.items ≡ tasks.old.items ++ to_be_known at.entry) }
 {
     match at.wanted {
         Wanted::One(ty) => {
@@ -110,7 +110,7 @@ fn take<'a>(
     tasks: &mut Vec<Task<'a>>,
     at: Expected<'a>,
 ) -> Result<bool, Memory>
-    ensures { IfOk result (λ yes. IsTaken (shared_terms terms.now)
+    ensures { IfOk result (λ yes. IsTaskTaken (shared_terms terms.now)
         (map constructor_of constructors.now) (beside (map typed_var_of answer.now.vars))
         (tasks_of.Look at.entry) tasks.old.items tasks.new.items yes) }
 {
@@ -145,7 +145,7 @@ fn advance<'a>(
     requires typed { AreTypesKnown terms.now constructors.now answer.now.vars typed.old }
     requires earned { AreEarned (shared_terms terms.now) (map constructor_of constructors.now)
         (beside (map typed_var_of answer.now.vars)) (tasks.old.items ++ next ∷ []) }
-    ensures taken { IfOk result (λ yes. IsTaken (shared_terms terms.now)
+    ensures taken { IfOk result (λ yes. IsTaskTaken (shared_terms terms.now)
         (map constructor_of constructors.now) (beside (map typed_var_of answer.now.vars))
         next.entry tasks.old.items tasks.new.items yes) }
     ensures typed { OnOk result (AreTypesKnown terms.now constructors.now answer.now.vars

@@ -4,7 +4,7 @@ ghost use Rattle.std.specs.Prelude.{◌≡◌, IfOk};
 ghost use Rattle.ap_defs.specs.Goals.{NominalProgram, program_of, query_of};
 ghost use Rattle.ap_checks.specs.Checks.{verdict, verdict_of};
 ghost use Rattle.ap_checker.specs.Rules.{verdict_said};
-ghost use Rattle.ap_checker.specs.Tables.{IsWalkOf};
+ghost use Rattle.ap_checker.specs.Tables.{IsWalkIn};
 ghost use Rattle.ap_checker.specs.Typings.{AreTypesKnown};
 ghost use Rattle.ap_checker.specs.Walks.{IsOnWay, refusal_on};
 ghost use Rattle.ap_shared.specs.SharedViews.{shared_answer, shared_derivation, shared_terms};
@@ -37,7 +37,7 @@ fn walk_from<'a>(
     answer: &'a SharedAnswer,
     derivation: &'a SharedDerivation,
 ) -> Result<Walk<'a>, Memory>
-    ensures of { IfOk result (λ w. IsWalkOf terms.now w) }
+    ensures of { IfOk result (λ w. IsWalkIn terms.now w) }
     ensures way { (p : NominalProgram) → IfOk result (λ w. IsOnWay p
         (shared_answer (shared_terms terms.now) answer.now) (refusal_on p (query_of query.now)
         (shared_answer (shared_terms terms.now) answer.now)

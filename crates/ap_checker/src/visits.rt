@@ -10,7 +10,7 @@ ghost use Rattle.ap_checks.specs.Checks.{Refusal, tests_by_clause, first_refusal
 ghost use Rattle.ap_checks.specs.OpenEnvironments.{put_in};
 ghost use Rattle.ap_checker.specs.Rules.{node_refused};
 ghost use Rattle.ap_checker.specs.Scopes.{environment_of};
-ghost use Rattle.ap_checker.specs.Tables.{AreStandingOf, IsWalkOf};
+ghost use Rattle.ap_checker.specs.Tables.{AreStandingIn, IsWalkIn};
 ghost use Rattle.ap_checker.specs.Typings.{AreTypesKnown};
 ghost use Rattle.ap_checker.specs.Walks.{ArePendingMarked, IsVisited, derivation_at, goal_at, kinds_at, pending_of};
 ghost use Rattle.ap_shared.specs.Shared.{shared_at};
@@ -59,7 +59,7 @@ fn rule_of_clause<'a>(
     used: &Use<'_>,
     clause: &'a Clause<Term>,
 ) -> Result<Option<Rule>, Memory>
-    requires of { AreStandingOf used.now.given.terms.now standing.now }
+    requires of { AreStandingIn used.now.given.terms.now standing.now }
     requires typed { AreTypesKnown used.now.given.terms.now program.now.signature.constructors
         answer.now.vars typed.old }
     ensures typed { OnOk result (AreTypesKnown used.now.given.terms.now
@@ -113,7 +113,7 @@ fn visit_atom<'a>(
     args: &[Term],
 ) -> Result<Option<Rule>, Memory>
     requires marked { ArePendingMarked (length walk.old.standing.items) (pending_of walk.old) }
-    requires of { IsWalkOf used.now.given.terms.now walk.old }
+    requires of { IsWalkIn used.now.given.terms.now walk.old }
     requires typed { AreTypesKnown used.now.given.terms.now program.now.signature.constructors
         answer.now.vars typed.old }
     ensures visited { IfOk result (λ r. (kinds : list NominalKind) (lines : list NominalTerm) →
@@ -121,7 +121,7 @@ fn visit_atom<'a>(
         used.now.number used.now.names.now (given_terms used.now.given) (shared_derivation
         (shared_terms used.now.given.terms.now) used.now.body.now))
         (goals.atom pred (map term_of args.now)) walk.old walk.new r) }
-    ensures of { OnOk result (IsWalkOf used.now.given.terms.now walk.new) }
+    ensures of { OnOk result (IsWalkIn used.now.given.terms.now walk.new) }
     ensures typed { OnOk result (AreTypesKnown used.now.given.terms.now
         program.now.signature.constructors answer.now.vars typed.new) }
 {
@@ -156,7 +156,7 @@ fn visit_equation(
     right: &Term,
 ) -> Result<Option<Rule>, Memory>
     requires marked { ArePendingMarked (length walk.now.standing.items) (pending_of walk.now) }
-    requires of { IsWalkOf terms.now walk.now }
+    requires of { IsWalkIn terms.now walk.now }
     ensures { IfOk result (λ r. (p : NominalProgram) (kinds : list NominalKind)
         (lines : list NominalTerm) →
         IsVisited p (shared_answer lines answer.now) kinds derivations.equal
@@ -208,7 +208,7 @@ fn visit_exists<'a>(
     below: Obligation<'a>,
 ) -> Result<Option<Rule>, Memory>
     requires marked { ArePendingMarked (length walk.old.standing.items) (pending_of walk.old) }
-    requires of { IsWalkOf below.terms.now walk.old }
+    requires of { IsWalkIn below.terms.now walk.old }
     requires typed { AreTypesKnown below.terms.now program.now.signature.constructors
         answer.now.vars typed.old }
     ensures visited { IfOk result (λ r. (lines : list NominalTerm) →
@@ -216,7 +216,7 @@ fn visit_exists<'a>(
         (derivations.exists (shared_at (shared_terms below.entry.terms.now) line)
         (derivation_at below.entry))
         (goals.exists x (goal_at below.entry)) walk.old walk.new r) }
-    ensures of { OnOk result (IsWalkOf below.entry.terms.now walk.new) }
+    ensures of { OnOk result (IsWalkIn below.entry.terms.now walk.new) }
     ensures typed { OnOk result (AreTypesKnown below.entry.terms.now
         program.now.signature.constructors answer.now.vars typed.new) }
 {
@@ -242,12 +242,12 @@ fn visit_new<'a>(
 ) -> Result<Option<Rule>, Memory>
     requires marked { ArePendingMarked (length walk.old.standing.items) (pending_of walk.old) }
     requires goal { goal_of goal.now ≡ goals.new names.0 (goal_at below) }
-    requires of { IsWalkOf below.terms.now walk.old }
+    requires of { IsWalkIn below.terms.now walk.old }
     ensures visited { IfOk result (λ r. (p : NominalProgram) (lines : list NominalTerm) →
         IsVisited p (shared_answer lines answer.now)
         (kinds_at below.entry) (derivations.new names.1
         (derivation_at below.entry)) (goal_of goal.now) walk.old walk.new r) }
-    ensures of { OnOk result (IsWalkOf below.entry.terms.now walk.new) }
+    ensures of { OnOk result (IsWalkIn below.entry.terms.now walk.new) }
 {
     let (own, name) = names;
     if name.sort != own.sort {
@@ -271,13 +271,13 @@ pub(crate) fn visit<'a>(
     at: Obligation<'a>,
 ) -> Result<Option<Rule>, Memory>
     requires marked { ArePendingMarked (length walk.old.standing.items) (pending_of walk.old) }
-    requires of { IsWalkOf at.terms.now walk.old }
+    requires of { IsWalkIn at.terms.now walk.old }
     requires typed { AreTypesKnown at.terms.now program.now.signature.constructors
         answer.now.vars typed.old }
     ensures visited { IfOk result (λ r. (lines : list NominalTerm) →
         IsVisited (program_of program.now) (shared_answer lines answer.now) (kinds_at at.entry)
         (derivation_at at.entry) (goal_at at.entry) walk.old walk.new r) }
-    ensures of { OnOk result (IsWalkOf at.entry.terms.now walk.new) }
+    ensures of { OnOk result (IsWalkIn at.entry.terms.now walk.new) }
     ensures typed { OnOk result (AreTypesKnown at.entry.terms.now
         program.now.signature.constructors answer.now.vars typed.new) }
 {

@@ -1,7 +1,7 @@
 //! A walk over a derivation, in preorder.
 
 ghost use Rattle.std.specs.Prelude.{◌≡◌, [], ◌∷◌, ◌++◌, length, OnOk};
-ghost use Rattle.ap_checker.specs.Tables.{IsStandingOf, IsWalkOf};
+ghost use Rattle.ap_checker.specs.Tables.{IsStandingIn, IsWalkIn};
 ghost use Rattle.ap_checker.specs.Walks.{pending_at};
 ghost use Rattle.ap_shared.specs.declared.arena.SharedTerms.{SharedTerms as table};
 
@@ -66,7 +66,7 @@ impl<'a> Walk<'a> {
             ≡ self.old.standing.items ++ what.entry ∷ []) }
         ensures pending { self.new.pending.items ≡ self.old.pending.items }
         ensures of { OnOk result ((ts : table) →
-            IsStandingOf ts what.entry → IsWalkOf ts self.old → IsWalkOf ts self.new) }
+            IsStandingIn ts what.entry → IsWalkIn ts self.old → IsWalkIn ts self.new) }
     {
         self.standing.push(what)?;
         Ok(())
@@ -80,7 +80,7 @@ impl<'a> Walk<'a> {
             ≡ self.old.pending.items ++ pending_at obligation.entry (length self.old.standing.items)
             ∷ []) }
         ensures of { OnOk result ((ts : table) → obligation.entry.terms.now ≡ ts →
-            IsWalkOf ts self.old → IsWalkOf ts self.new) }
+            IsWalkIn ts self.old → IsWalkIn ts self.new) }
     {
         let mark = self.standing.len();
         self.pending.push(Pending { obligation, mark })?;

@@ -4,7 +4,7 @@ use Rattle.ap_shared.specs.SharedViews.{shared_answer, shared_derivation, shared
 use Rattle.ap_defs.specs.Goals.{program_of, query_of}
 use Rattle.ap_checks.specs.Checks.{no}
 use Rattle.ap_checker.specs.declared.walk.Walk.{Walk}
-use Rattle.ap_checker.specs.Tables.{IsWalkOf}
+use Rattle.ap_checker.specs.Tables.{IsWalkIn}
 use Rattle.ap_checker.specs.Typings.{AreTypesKnown}
 use Rattle.ap_checker.specs.Walks.{refusal_on}
 use Rattle.ap_checker.proofs.TableLemmas.{next_of, walk_next}
@@ -30,7 +30,7 @@ nodes-preserved c =
       way =
           turn_goes_on p a (refusal_on p (query_of c.args.query.now) a (shared_derivation (shared_terms c.args.terms.now) c.args.derivation.now)) c.nodes.node c.saturating_add-node.result c.nodes.walk before c.visit.new.walk c.in-Some.next c.nodes.invariant.way
           c.in-Some.ensures.items c.truncate.ensures.items c.saturating_add-node.ensures c.in_ok-rule.field-0 c.in_default-2.is (c.in_ok-rule.ensures.visited (shared_terms c.args.terms.now));
-      of = subst (λ (ts : SharedTerms). IsWalkOf ts c.visit.new.walk) same c.in_ok-rule.ensures.of;
+      of = subst (λ (ts : SharedTerms). IsWalkIn ts c.visit.new.walk) same c.in_ok-rule.ensures.of;
       typed = subst (λ (ts : SharedTerms). AreTypesKnown ts c.args.program.now.signature.constructors c.args.indexed.now.vars c.visit.new.typed) same c.in_ok-rule.ensures.typed;
     }
 
@@ -40,7 +40,7 @@ visit-requires-of c =
     let n = c.in-Some.next.mark in
     let top = c.in-Some.ensures.items in
     let same = next_of c.args.terms.now c.nodes.walk before c.in-Some.next n top c.truncate.ensures.items c.nodes.invariant.of in
-    subst (λ (ts : SharedTerms). IsWalkOf ts before) (sym same) (walk_next c.args.terms.now c.nodes.walk before c.in-Some.next n top c.truncate.ensures.items c.nodes.invariant.of)
+    subst (λ (ts : SharedTerms). IsWalkIn ts before) (sym same) (walk_next c.args.terms.now c.nodes.walk before c.in-Some.next n top c.truncate.ensures.items c.nodes.invariant.of)
 
 pub visit-requires-typed : goal.visit-requires-typed
 visit-requires-typed c =
