@@ -56,7 +56,8 @@ fn read_atom<'a>(
     place: Place<'a>,
 ) -> Result<(SharedNode, Place<'a>), ReadError>
     ensures { Gives (λ r. (cited_node (shared_terms table.now) r.0, place_of r.1)) result
-        (spec.read_atom (cited (shared_terms table.now)) clause name_count term_count (place_of place.entry)) }
+        (spec.read_atom (cited (shared_terms table.now)) clause name_count term_count
+        (place_of place.entry)) }
 {
     let (names, rest) = read_names(alloc, name_count, place)?;
     let (all, rest) = read_lines(alloc, table, term_count, rest)?;
@@ -164,8 +165,8 @@ fn read_nodes<'a>(
     table: &SharedTerms,
     place: Place<'a>,
 ) -> Result<(Vec<SharedNode>, Place<'a>), ReadError>
-    ensures { Gives (λ r. (map (cited_node (shared_terms table.now)) r.0.items, place_of r.1)) result
-        (spec.read_nodes (cited (shared_terms table.now)) (length place.entry.rest.now) 1
+    ensures { Gives (λ r. (map (cited_node (shared_terms table.now)) r.0.items, place_of r.1))
+        result (spec.read_nodes (cited (shared_terms table.now)) (length place.entry.rest.now) 1
         (place_of place.entry)) }
 {
     let mut all = Vec::new(alloc);
@@ -189,7 +190,7 @@ fn read_nodes<'a>(
 }
 
 /// The derivation whose nodes begin at the place.
-#[tactic(auto, unfolding(ap_bundle::specs::Reading::read_derivation))]
+#[tactic(auto, unfolding(ap_bundle::specs::Reading::read_derivation), using(crate::proofs::CitedLemmas::derivation_cited))]
 pub(crate) fn read_derivation<'a>(
     alloc: Global,
     table: &SharedTerms,
