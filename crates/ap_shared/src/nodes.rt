@@ -15,7 +15,7 @@ use std::alloc::Global;
 
 /// A node without its children.
 #[derive(Drop)]
-pub(crate) enum SharedNode {
+pub enum SharedNode {
     Atom(Box<SharedUse>),
     Eq,
     Fresh,
@@ -178,7 +178,7 @@ fn node_onto(
 
 /// The one derivation whose nodes these are.
 #[tactic(auto, unfolding(ap_bundle::specs::Nodes::derivation_from))]
-pub(crate) fn derivation_from(
+pub fn derivation_from(
     alloc: Global,
     nodes: Vec<SharedNode>,
 ) -> Result<Option<SharedDerivation>, Memory>

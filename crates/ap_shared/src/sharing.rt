@@ -49,7 +49,7 @@ fn copy_vars(alloc: Global, vars: &[(Var, Ty)]) -> Result<Vec<(Var, Ty)>, Memory
 }
 
 /// The answer, with its bindings entered.
-fn share_answer(
+pub fn share_answer(
     alloc: Global,
     table: &mut SharedTerms,
     answer: &Answer,
