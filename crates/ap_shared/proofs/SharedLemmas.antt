@@ -1,5 +1,5 @@
 -- The lines of a table, and the terms that are made of them.
-use Rattle.std.proofs.Common.{◌≡◌, ℕ, zero, suc, ◌+◌, ◌<◌, ◌≤◌, List, [], ◌∷◌, ◌++◌, length, map, Some, slice_get, refl, ap, ap₂, sym, subst, ◌∙◌, arith, length-append, ◌⊎◌, inl, inr}
+use Rattle.std.proofs.Common.{◌≡◌, Bool, true, false, if◌then◌else◌, ℕ, zero, suc, ◌+◌, ◌<◌, ◌≤◌, List, [], ◌∷◌, ◌++◌, length, map, Some, slice_get, refl, ap, ap₂, sym, subst, ◌∙◌, arith, length-append, ◌⊎◌, inl, inr}
 use Rattle.std.specs.Prelude.{reverse}
 use Rattle.std.proofs.lemmas.List.{reverse-append, length-reverse, reverse-reverse}
 use Rattle.ap_defs.specs.Terms as terms
@@ -109,6 +109,12 @@ module _ (items more : List SharedLine) (l : SharedLine) (pushed : more ≡ item
 
   pub lines_added : AreLines (reverse items) → IsBehind (length (terms_back (reverse items))) l.entry → l.size ≡ exact_size (expanded_size (entry_term (terms_back (reverse items)) l.entry)) → AreLines (reverse more)
   lines_added h b s = subst AreLines (sym last_first) (h, subst (λ n. IsBehind n l.entry) (length_back (reverse items)) b, s)
+
+-- a line more, or none for want of memory
+pub lines_pushed : (ok : Bool) (items more : List SharedLine) (l : SharedLine) → more ≡ (if ok then items ++ l ∷ [] else items)
+    → AreLines (reverse items) → IsBehind (length (terms_back (reverse items))) l.entry → l.size ≡ exact_size (expanded_size (entry_term (terms_back (reverse items)) l.entry)) → AreLines (reverse more)
+lines_pushed true items more l e h b s = lines_added items more l e h b s
+lines_pushed false items more l e h b s = subst (λ (ls : List SharedLine). AreLines (reverse ls)) (sym e) h
 
 -- lines that are there stand for the same terms, whatever comes later
 pub terms_front : (ts more : List NominalTerm) (ls : List ℕ) → AreLinesBelow (length ts) ls → map (shared_at (ts ++ more)) ls ≡ map (shared_at ts) ls
