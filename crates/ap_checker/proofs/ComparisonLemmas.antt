@@ -67,12 +67,16 @@ in_front_more ss i j d before after s h e k put =
 pub some_size : (t : NominalTerm) → 0 < size t
 some_size t = let least = size_pos t in omega (arith, least)
 
+none_there : (ss : List Swap) → length ss ≡ 0 → ss ≡ []
+none_there [] e = refl
+none_there (s ∷ ss) e = absurd (omega (arith, e))
+
 -- two that are one term, round which no binders stand
-pub same_tested : (ds : Conds) (c : Compared) (bs : List Swap) (ps : List Compared) → AreWithin mark_of (length bs) (reverse ps) → bs ≡ [] → scoped_term c.left ≡ scoped_term c.right
+pub same_tested : (ds : Conds) (c : Compared) (bs : List Swap) (ps : List Compared) → AreWithin mark_of (length bs) (reverse ps) → length bs ≡ 0 → scoped_term c.left ≡ scoped_term c.right
     → IsTestedThere mark_of (are_alike ds) compared_size c bs ps bs ps true
 same_tested ds c bs ps within none same =
     let t = scoped_term c.left in
-    let equal : are_alike ds bs c ≡ true = ap (λ (ss : List Swap). are_alike ds ss c) none ∙ ap (alpha_under ds t) (sym same) ∙ alpha_under_itself ds t in
+    let equal : are_alike ds bs c ≡ true = ap (λ (ss : List Swap). are_alike ds ss c) (none_there bs none) ∙ ap (alpha_under ds t) (sym same) ∙ alpha_under_itself ds t in
     left_none mark_of (are_alike ds) compared_size c bs ps within equal (some_size t)
 
 -- one was tested as another that stands for the same terms

@@ -1,4 +1,4 @@
-use Rattle.std.proofs.Common.{sym, ap, ◌∙◌, arith}
+use Rattle.std.proofs.Common.{arith}
 use Rattle.ap_defs.specs.Terms.{unit}
 use Rattle.ap_shared.specs.Shared.{shared_at}
 use Rattle.ap_shared.specs.SharedViews.{shared_terms}
@@ -10,5 +10,4 @@ returns-then-place-lines-clause-term c = get_or_no_view (shared_at (shared_terms
 
 pub returns-clause-term : goal.returns-clause-term
 returns-clause-term c =
-    let view = shared_at (shared_terms c.args.given.terms.now) in
-    get_or_view view c.args.given.lines.now c.args.place c.index-lines-place.result unit (omega arith) ∙ ap view (sym c.index-lines-place.is)
+    get_or_view (shared_at (shared_terms c.args.given.terms.now)) c.args.given.lines.now c.args.place 0 unit (omega arith)
