@@ -1,4 +1,4 @@
-use Rattle.std.proofs.Common.{◌≡◌, map, sym, ap, ◌∙◌}
+use Rattle.std.proofs.Common.{◌≡◌, map, sym, ap, ◌∙◌, rules}
 use Rattle.ap_defs.specs.Answers.{typed_var_of}
 use Rattle.ap_defs.specs.Terms.{unit}
 use Rattle.ap_defs.specs.Types.{constructor_of}
@@ -21,3 +21,9 @@ returns-in-Unit-default c =
     let vars = type_beside (map typed_var_of c.args.answer.now.vars) in
     let here : shared_at ts c.args.at.line ≡ unit = c.in-Some.ensures.term ∙ ap (entry_term ts) c.in-Unit-default.is-0 in
     c.leaf-in-Unit-default.ensures _ _ c.args.at (c.is_unit-in-Unit-default.ensures cs vars ∙ ap (λ t. is_typed cs vars t (want_of c.args.at.wanted)) (sym here))
+
+pub returns-in-Name-One-Names : goal.returns-in-Name-One-Names
+returns-in-Name-One-Names c = c.leaf-in-Name-One-Names.ensures _ _ c.args.at (search rules)
+
+pub returns-in_ok-has_type_beside-in-Susp-One : goal.returns-in_ok-has_type_beside-in-Susp-One
+returns-in_ok-has_type_beside-in-Susp-One c = c.leaf-in-Susp-One.ensures _ _ c.args.at (search rules)
