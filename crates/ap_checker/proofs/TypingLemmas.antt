@@ -133,7 +133,9 @@ module _ (ts : List NominalTerm) (cs : List NominalConstructor) (vars : VarTypes
   noted_earned i (wanted.Cell t l) ks h k = k
 
   noted_less : (i : ℕ) (w : Wanted) (ks : List Task) → sum_by (task_size ts) (to_be_known_at i w ++ ks) < 2 + sum_by (task_size ts) ks
-  noted_less i (wanted.One t) ks = let sums : sum_by (task_size ts) (to_be_known_at i (wanted.One t) ++ ks) ≡ 1 + sum_by (task_size ts) ks = refl in omega (arith, sums)
+  noted_less i (wanted.One t) ks =
+      let sums : sum_by (task_size ts) (to_be_known_at i (wanted.One t) ++ ks) ≡ sum_by (task_size ts) (task.Known i t ∷ []) + sum_by (task_size ts) ks = sum_by-append (task_size ts) (task.Known i t ∷ []) ks in
+      omega (arith, sums)
   noted_less i wanted.Nothing ks = let sums : sum_by (task_size ts) (to_be_known_at i wanted.Nothing ++ ks) ≡ sum_by (task_size ts) ks = refl in omega (arith, sums)
   noted_less i (wanted.More t us) ks = let sums : sum_by (task_size ts) (to_be_known_at i (wanted.More t us) ++ ks) ≡ sum_by (task_size ts) ks = refl in omega (arith, sums)
   noted_less i (wanted.Cell t l) ks = let sums : sum_by (task_size ts) (to_be_known_at i (wanted.Cell t l) ++ ks) ≡ sum_by (task_size ts) ks = refl in omega (arith, sums)
