@@ -81,12 +81,12 @@ module _ (ts : List NominalTerm) (cs : List NominalConstructor) (vars : VarTypes
     all_top : all ws ≡ (all ks && passes ts cs vars k)
     all_top = ap (list_all (passes ts cs vars)) top ∙ list_all-append (passes ts cs vars) ks (k ∷ []) ∙ ap (λ b. all ks && b) (and_true (passes ts cs vars k))
 
-    pub taken_false : (yes : Bool) → yes ≡ false → IsTaskTaken ts cs vars k ks after yes → all ws ≡ whole → false ≡ whole
-    taken_false yes e h inv =
+    pub taken_false : (r : Bool) → r ≡ false → IsTaskTaken ts cs vars k ks after r → all ws ≡ whole → false ≡ whole
+    taken_false r e h inv =
         let fails : passes ts cs vars k ≡ false = subst (λ b. IsTaskTaken ts cs vars k ks after b) e h in
         sym (and_turned (all ks) false) ∙ sym (ap (λ b. all ks && b) fails) ∙ sym all_top ∙ inv
 
-    module _ (yes : Bool) (e : yes ≡ true) (h : IsTaskTaken ts cs vars k ks after yes) where
+    module _ (r : Bool) (e : r ≡ true) (h : IsTaskTaken ts cs vars k ks after r) where
       left : LeavesTasks ts cs vars k ks after
       left = subst (λ b. IsTaskTaken ts cs vars k ks after b) e h
 
@@ -133,10 +133,12 @@ module _ (ts : List NominalTerm) (cs : List NominalConstructor) (vars : VarTypes
   noted_earned i (wanted.Cell t l) ks h k = k
 
   noted_less : (i : ℕ) (w : Wanted) (ks : List Task) → sum_by (task_size ts) (to_be_known_at i w ++ ks) < 2 + sum_by (task_size ts) ks
-  noted_less i (wanted.One t) ks = omega arith
-  noted_less i wanted.Nothing ks = omega arith
-  noted_less i (wanted.More t us) ks = omega arith
-  noted_less i (wanted.Cell t l) ks = omega arith
+  noted_less i (wanted.One t) ks =
+      let sums : sum_by (task_size ts) (to_be_known_at i (wanted.One t) ++ ks) ≡ sum_by (task_size ts) (task.Known i t ∷ []) + sum_by (task_size ts) ks = sum_by-append (task_size ts) (task.Known i t ∷ []) ks in
+      omega (arith, sums)
+  noted_less i wanted.Nothing ks = let sums : sum_by (task_size ts) (to_be_known_at i wanted.Nothing ++ ks) ≡ sum_by (task_size ts) ks = refl in omega (arith, sums)
+  noted_less i (wanted.More t us) ks = let sums : sum_by (task_size ts) (to_be_known_at i (wanted.More t us) ++ ks) ≡ sum_by (task_size ts) ks = refl in omega (arith, sums)
+  noted_less i (wanted.Cell t l) ks = let sums : sum_by (task_size ts) (to_be_known_at i (wanted.Cell t l) ++ ks) ≡ sum_by (task_size ts) ks = refl in omega (arith, sums)
 
   module _ (e : Expected) where
     pub part_leaves : (p : Expected) (ks ms after : List Task) → ms ≡ ks ++ to_be_known e → after ≡ ms ++ task.Look p ∷ [] → (is_expected ts cs vars e ≡ is_expected ts cs vars p) × (expected_size ts p < expected_size ts e)

@@ -41,7 +41,6 @@ pub(crate) enum Layer<'a> {
 }
 
 /// The term of a table at a place, if there is one.
-#[tactic(auto, using(crate::proofs::PlaceLemmas::get_or_no_view, crate::proofs::PlaceLemmas::get_or_view))]
 fn line_at<'a>(given: Given<'a>, place: usize) -> Option<Shared<'a>>
     ensures term { MatchOption result (get_or (given_terms given.entry) place unit ≡ unit)
         (λ t. get_or (given_terms given.entry) place unit ≡ shared_term t) }
@@ -56,7 +55,6 @@ fn line_at<'a>(given: Given<'a>, place: usize) -> Option<Shared<'a>>
 }
 
 /// The term at a place, if there is one.
-#[tactic(auto, using(crate::proofs::PlaceLemmas::get_or_no_view, crate::proofs::PlaceLemmas::get_or_view))]
 fn tree_at(terms: &[Term], place: usize) -> Option<&Term>
     ensures { MatchOption result (get_or (map term_of terms.now) place unit ≡ unit)
         (λ t. get_or (map term_of terms.now) place unit ≡ term_of t.now) }

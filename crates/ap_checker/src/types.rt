@@ -213,7 +213,7 @@ fn leaf<'a>(passes: bool) -> Looked<'a>
 }
 
 /// Looks at the head of a term that is to be what is wanted.
-fn look<'a>(
+pub(crate) fn look<'a>(
     alloc: Global,
     constructors: &'a [Constructor],
     answer: &IndexedAnswer<'_>,

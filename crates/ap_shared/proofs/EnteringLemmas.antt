@@ -108,19 +108,19 @@ pair_of {A} {B} a c b d e = let p : ◌≡◌ {A = A × B} (a, b) (c, d) = cc in
 
 -- what is known behind the parts of a term
 module _ (u : NominalTerm) (ks : List WalkStep) (table end : List NominalTerm) (t : NominalTerm) (ls : List ℕ) (l : Leads (leave u ∷ ks) table (map (shared_at table) ls) end t) where
-  left : AreLeft table u ls l.0
-  left = top_left table u ls l.0 l.1
+  pub lines_left : AreLeft table u ls l.0
+  lines_left = top_left table u ls l.0 l.1
 
-  pub left_taken : taken_by table u ls ≡ Some (u, left.others)
-  left_taken = left.taken
+  pub left_taken : taken_by table u ls ≡ Some (u, lines_left.others)
+  left_taken = lines_left.taken
 
   pub left_walk : (v : NominalTerm) (others : List ℕ) (new : List NominalTerm) (line : ℕ) → Some (v, others) ≡ taken_by table u ls → AreLinesBelow (length table) others
       → new ≡ table ++ v ∷ [] → line ≡ length table → AreLinesBelow (length new) (line ∷ others) × Leads ks new (map (shared_at new) (line ∷ others)) end t
   left_walk v others new line got below grew at =
-      let same = pair_of v u others left.others (got ∙ left.taken) in
+      let same = pair_of v u others lines_left.others (got ∙ lines_left.taken) in
       let grew_u : new ≡ table ++ u ∷ [] = grew ∙ ap (λ w. table ++ w ∷ []) same.0 in
       let here : shared_at new line ≡ u = ap₂ shared_at grew_u at ∙ at_last table u in
-      let there : map (shared_at new) others ≡ l.0 = ap (λ us. map (shared_at us) others) grew ∙ terms_front table (v ∷ []) others below ∙ ap (map (shared_at table)) same.1 ∙ left.stand in
+      let there : map (shared_at new) others ≡ l.0 = ap (λ us. map (shared_at us) others) grew ∙ terms_front table (v ∷ []) others below ∙ ap (map (shared_at table)) same.1 ∙ lines_left.stand in
       let long : length new ≡ length table + 1 = ap length grew ∙ length-append table (v ∷ []) in
       (
         (omega (arith, long, at), below_more (length table) (length new) others (omega (arith, long)) below),

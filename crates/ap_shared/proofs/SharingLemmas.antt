@@ -1,5 +1,5 @@
 -- What was shared stays as it is where the table grows.
-use Rattle.std.proofs.Common.{◌≡◌, ℕ, zero, suc, ◌+◌, ◌<◌, ◌≤◌, List, [], ◌∷◌, ◌++◌, length, drop, map, Option, None, Some, ⊥, refl, ap, ap₂, sym, subst, ◌∙◌, append_assoc, arith, length-append, get_or, add-one, drop-cons}
+use Rattle.std.proofs.Common.{◌≡◌, ℕ, zero, suc, ◌+◌, ◌<◌, ◌≤◌, List, [], ◌∷◌, ◌++◌, length, drop, map, Option, None, Some, refl, ap, ap₂, sym, subst, ◌∙◌, append_assoc, arith, length-append, get_or, add-one, drop-cons}
 use Rattle.std.specs.List.{AllByRecursion}
 use Rattle.std.proofs.lemmas.List.{map-append, append-nil}
 use Rattle.ap_defs.specs.Answers.{typed_var_of}

@@ -9,7 +9,7 @@ pub mod derivations;
 pub mod entering;
 pub mod expanding;
 pub mod lines;
-mod nodes;
+pub mod nodes;
 pub mod places;
 pub mod sharing;
 mod sizes;

@@ -1,12 +1,17 @@
 // The derivation that nodes are. Derivations wait on a stack, the last of it the first.
-ghost use Rattle.std.specs.Prelude.{◌≡◌, ◌∷◌, map, IfOk, Some};
+ghost use Rattle.std.specs.Prelude.{◌≡◌, ◌∷◌, List as list, map, IfOk, Some};
 ghost use Rattle.std.specs.Option.{option_map};
 ghost use Rattle.ap_defs.specs.Derivations as derivation;
+ghost use Rattle.ap_defs.specs.Derivations.{NominalDerivation};
+ghost use Rattle.ap_defs.specs.Terms.{NominalTerm};
 ghost use Rattle.ap_bundle.specs.Forms as forms;
 ghost use Rattle.ap_bundle.specs.Nodes as tree;
 ghost use Rattle.ap_shared.specs.Expanding.{stacked};
 ghost use Rattle.ap_shared.specs.LineDerivations.{derivation_lines};
 ghost use Rattle.ap_shared.specs.LineNodes.{node_by_lines};
+ghost use Rattle.ap_shared.specs.FirstNodes.{map_node};
+ghost use Rattle.ap_shared.specs.Shared.{shared_at};
+ghost use Rattle.ap_shared.specs.SharedViews.{shared_derivation};
 
 use crate::derivations::{SharedDerivation, SharedUse};
 use ap_defs::memory::Memory;
@@ -15,7 +20,7 @@ use std::alloc::Global;
 
 /// A node without its children.
 #[derive(Drop)]
-pub(crate) enum SharedNode {
+pub enum SharedNode {
     Atom(Box<SharedUse>),
     Eq,
     Fresh,
@@ -198,4 +203,18 @@ pub(crate) fn derivation_from(
     } else {
         Ok(None)
     }
+}
+
+/// The derivation whose nodes these are, where over the terms of some table they are those of one.
+pub fn whole_derivation(alloc: Global, nodes: Vec<SharedNode>) -> Result<SharedDerivation, Memory>
+    requires { (ts : list NominalTerm) × (d : NominalDerivation) ×
+        (map (map_node (shared_at ts)) (map node_by_lines nodes.items) ≡ tree.preorder d) }
+    ensures { IfOk result (λ r. (ts : list NominalTerm) (d : NominalDerivation) →
+        map (map_node (shared_at ts)) (map node_by_lines nodes.items) ≡ tree.preorder d →
+        shared_derivation ts r ≡ d) }
+{
+    let Some(derivation) = derivation_from(alloc, nodes)? else {
+        unreachable!();
+    };
+    Ok(derivation)
 }

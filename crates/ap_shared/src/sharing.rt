@@ -4,21 +4,21 @@ ghost use Rattle.std.specs.Prelude.{◌≡◌, ◌++◌, length, map, IfOk, OnOk
 ghost use Rattle.ap_defs.specs.Answers.{answer_of, typed_var_of};
 ghost use Rattle.ap_defs.specs.Derivations.{derivation_of};
 ghost use Rattle.ap_defs.specs.Terms.{term_of};
-ghost use Rattle.ap_bundle.specs.Bundles.{proved_of};
+ghost use Rattle.ap_bundle.specs.Bundles.{bundle_of, proved_of};
 ghost use Rattle.ap_bundle.specs.Nodes.{preorder};
 ghost use Rattle.ap_shared.specs.FirstNodes.{children_back, first_node, map_node, node_terms, seen};
 ghost use Rattle.ap_shared.specs.LineNodes.{node_by_lines};
 ghost use Rattle.ap_shared.specs.Shared.{AreLinesBelow, IsGrown, shared_at};
-ghost use Rattle.ap_shared.specs.SharedViews.{shared_answer, shared_derivation, shared_proved, shared_terms};
+ghost use Rattle.ap_shared.specs.SharedViews.{shared_answer, shared_bundle, shared_derivation, shared_proved, shared_terms};
 
 use crate::arena::SharedTerms;
-use crate::derivations::{SharedAnswer, SharedDerivation, SharedProved, SharedUse};
+use crate::derivations::{SharedAnswer, SharedBundle, SharedDerivation, SharedProved, SharedUse};
 use crate::entering::enter;
-use crate::nodes::{SharedNode, derivation_from};
+use crate::nodes::{SharedNode, whole_derivation};
 use ap_defs::copies::copy_type;
 use ap_defs::lists::List;
 use ap_defs::memory::Memory;
-use ap_defs::outcomes::{Answer, ClauseUse, Derivation, Proved};
+use ap_defs::outcomes::{Answer, Bundle, ClauseUse, Derivation, Proved};
 use ap_defs::terms::{Term, Ty, Var};
 use std::alloc::Global;
 use std::rc::Rc;
@@ -49,7 +49,7 @@ fn copy_vars(alloc: Global, vars: &[(Var, Ty)]) -> Result<Vec<(Var, Ty)>, Memory
 }
 
 /// The answer, with its bindings entered.
-fn share_answer(
+pub fn share_answer(
     alloc: Global,
     table: &mut SharedTerms,
     answer: &Answer,
@@ -173,9 +173,7 @@ fn share_derivation(
         ≡ derivation_of derivation.now) }
 {
     let nodes = share_nodes(alloc, table, derivation)?;
-    let Some(shared) = derivation_from(alloc, nodes)? else {
-        unreachable!();
-    };
+    let shared = whole_derivation(alloc, nodes)?;
     Ok(shared)
 }
 
@@ -192,4 +190,24 @@ pub fn shared(alloc: Global, proved: &Proved) -> Result<SharedProved, Memory>
         answer,
         derivation,
     })
+}
+
+/// The same answers with their derivations, each over a table of its own.
+fn share_each(alloc: Global, all: &[Proved]) -> Result<Vec<SharedProved>, Memory>
+    ensures { IfOk result (λ v. map shared_proved v.items ≡ map proved_of all.now) }
+{
+    let mut each = Vec::new(alloc);
+    for proved in all {
+        each.push(shared(alloc, proved)?)?;
+    }
+    Ok(each)
+}
+
+/// The same bundle, with each answer over a table of its own.
+pub fn share_bundle(alloc: Global, bundle: &Bundle) -> Result<SharedBundle, Memory>
+    ensures { IfOk result (λ b. shared_bundle b ≡ bundle_of bundle.now) }
+{
+    let text = List::of(bundle.text.items().to_vec(alloc)?);
+    let proved = List::of(share_each(alloc, bundle.proved.items())?);
+    Ok(SharedBundle { text, proved })
 }

@@ -1,11 +1,13 @@
-use Rattle.std.proofs.Common.{◌≡◌, ◌==◌, ◌&&◌, true, false, refl, length, ◌+◌, sym, ap, ap₂, ◌∙◌, arith}
+use Rattle.std.proofs.Common.{◌≡◌, ◌==◌, ◌&&◌, true, false, refl, length, ◌+◌, sym, ap, ap₂, subst, ◌∙◌, arith}
 use Rattle.std.proofs.lemmas.Bool.Decides.{nat_tests}
+use Rattle.std.proofs.lemmas.Result.{on_ok_weaker}
 use Rattle.ap_defs.specs.Terms.{app, pair}
 use Rattle.ap_defs.specs.Unification.{size}
 use Rattle.ap_checker.specs.declared.binders.Binders.{Binders}
 use Rattle.ap_checker.specs.Comparisons.{are_alike, mark_of, compared_size}
 use Rattle.ap_checker.specs.Closures.{head_term, scoped_term}
 use Rattle.ap_checker.specs.declared.closures.Head.{Head}
+use Rattle.ap_checker.specs.Tables.{IsHeadIn}
 use Rattle.ap_checker.proofs.ComparisonLemmas.{alike, apps, others, pairs}
 use Rattle.ap_checker.proofs.HeadLemmas.{Apart, apart_from, other_than_abs, other_than_app, other_than_name, other_than_pair, other_than_susp, other_than_unit}
 use Rattle.ap_checker.proofs.StackLemmas.{left_here, left_two}
@@ -66,3 +68,24 @@ returns-clause-tested c =
       | in_default-5 w ↦ rw w.result-is (unlike c _ w.in_default.is-0 (other_than_app w.in_default.field-0-0 w.in_default.field-1-0 c.in_ok-right.right w.in_default.not-App-1))
       | in_default-6 w ↦ rw w.result-is (unlike c _ w.in_default.is-0 (other_than_abs w.in_default.field-0-0 w.in_default.field-1-0 c.in_ok-right.right w.in_default.not-Abs-1))
     ]
+
+-- the parts of heads are of the table
+pub returns-in-Pair-Pair-clause-of : goal.returns-in-Pair-Pair-clause-of
+returns-in-Pair-Pair-clause-of c = λ ts h k.
+    let l = subst (IsHeadIn ts) c.in-Pair-Pair.is-0 (c.in_ok-left.ensures.of ts h.0) in
+    let r = subst (IsHeadIn ts) c.in-Pair-Pair.is-1 (c.in_ok-right.ensures.of ts h.1) in
+    c.in_ok-put-in-Pair-Pair-2.ensures.of ts l.0 r.0 (c.in_ok-put-in-Pair-Pair.ensures.of ts l.1 r.1 k)
+
+pub returns-in-App-App-clause-of : goal.returns-in-App-App-clause-of
+returns-in-App-App-clause-of c = λ ts h k.
+    let l = subst (IsHeadIn ts) c.in-App-App.is-0 (c.in_ok-left.ensures.of ts h.0) in
+    let r = subst (IsHeadIn ts) c.in-App-App.is-1 (c.in_ok-right.ensures.of ts h.1) in
+    c.in_ok-put-in-App-App.ensures.of ts l r k
+
+pub returns-in-Abs-Abs-clause-of : goal.returns-in-Abs-Abs-clause-of
+returns-in-Abs-Abs-clause-of c =
+    on_ok_weaker c.compare_bodies.result
+    (λ f ts h k.
+    let l = subst (IsHeadIn ts) c.in-Abs-Abs.is-0 (c.in_ok-left.ensures.of ts h.0) in
+    let r = subst (IsHeadIn ts) c.in-Abs-Abs.is-1 (c.in_ok-right.ensures.of ts h.1) in
+    f ts l r k) c.compare_bodies.ensures.of

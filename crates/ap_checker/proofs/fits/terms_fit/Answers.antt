@@ -23,9 +23,8 @@ returns-then-not-branch-clause-fit c =
     let vars = type_beside (map typed_var_of c.args.answer.now.vars) in
     let view = shared_at (shared_terms c.args.given.terms.now) in
     let t = type_of c.in-Some.ty.now in
-    let u = c.index-lines-place.result in
-    sym (kinds_other c.args.locals.now c.loop-i.i c.index-locals-i.result (omega arith) c.index-locals-i.is cs vars view c.args.given.lines.now c.loop-i.place t u c.in-Some.ensures (omega arith)
-    (ap (λ v. is_typed cs vars (view v) (one t)) (sym c.index-lines-place.is) ∙ sym c.in_ok-has_type.ensures.value ∙ c.if-not-branch.true))
+    sym (kinds_other c.args.locals.now c.loop-i.i c.index-locals-i.result (omega arith) c.index-locals-i.is cs vars view c.args.given.lines.now c.loop-i.place t 0 c.in-Some.ensures (omega arith)
+    (sym c.in_ok-has_type.ensures.value ∙ c.if-not-branch.true))
     ∙ c.loop-i.invariant.same
 
 pub loop-i-preserved : goal.loop-i-preserved
@@ -34,11 +33,10 @@ loop-i-preserved c =
     let vars = type_beside (map typed_var_of c.args.answer.now.vars) in
     let view = shared_at (shared_terms c.args.given.terms.now) in
     let t = type_of c.in-Some.ty.now in
-    let u = c.index-lines-place.result in
     record {
       same =
-          sym (kinds_next c.args.locals.now c.loop-i.i c.index-locals-i.result (omega arith) c.index-locals-i.is cs vars view c.args.given.lines.now c.loop-i.place t u c.in-Some.ensures (omega arith)
-          (ap (λ v. is_typed cs vars (view v) (one t)) (sym c.index-lines-place.is) ∙ sym c.in_ok-has_type.ensures.value ∙ c.if-not-branch.false))
+          sym (kinds_next c.args.locals.now c.loop-i.i c.index-locals-i.result (omega arith) c.index-locals-i.is cs vars view c.args.given.lines.now c.loop-i.place t 0 c.in-Some.ensures (omega arith)
+          (sym c.in_ok-has_type.ensures.value ∙ c.if-not-branch.false))
           ∙ c.loop-i.invariant.same;
       within = omega arith;
       typed = c.in_ok-has_type.ensures.typed;

@@ -8,8 +8,7 @@ use Rattle.ap_shared.specs.SharedViews.{shared_terms}
 use Rattle.ap_checker.specs.declared.types.Wanted.TheVariants as wanted
 use Rattle.ap_checker.specs.declared.typing.Task.{Task}
 use Rattle.ap_checker.specs.declared.typing.Task.TheVariants as task
-use Rattle.ap_checker.specs.Typings.{AreEarned}
-use Rattle.ap_checker.proofs.TypingLemmas.{first_all, first_earned, taken_earned, taken_end, taken_false, taken_less, taken_true}
+use Rattle.ap_checker.proofs.TypingLemmas.{first_all, first_earned, taken_earned, taken_false, taken_less, taken_true}
 use Rattle.ap_checker.proofs.typing.has_type.Goals as goal
 
 pub loop-next-init : goal.loop-next-init
@@ -50,13 +49,6 @@ loop-next-smaller c =
     taken_less ts cs vars whole c.loop-next.tasks.items c.pop.new.self.items c.advance.new.tasks.items c.in-Some.next c.in-Some.ensures.items
     c.in_ok-advance.field-0 c.if-not-branch.false c.in_ok-advance.ensures.taken
 
-pub advance-requires-earned : goal.advance-requires-earned
-advance-requires-earned c =
-    let ts = shared_terms c.args.terms.now in
-    let cs = map constructor_of c.args.constructors.now in
-    let vars = type_beside (map typed_var_of c.args.answer.now.vars) in
-    subst (AreEarned ts cs vars) c.in-Some.ensures.items c.loop-next.invariant.earned
-
 pub returns-then-not-branch-clause-value : goal.returns-then-not-branch-clause-value
 returns-then-not-branch-clause-value c =
     let ts = shared_terms c.args.terms.now in
@@ -65,10 +57,3 @@ returns-then-not-branch-clause-value c =
     let whole = is_typed cs vars (shared_at ts c.args.line) (one (type_of c.args.ty.now)) in
     taken_false ts cs vars whole c.loop-next.tasks.items c.pop.new.self.items c.advance.new.tasks.items c.in-Some.next c.in-Some.ensures.items
     c.in_ok-advance.field-0 c.if-not-branch.true c.in_ok-advance.ensures.taken c.loop-next.invariant.all
-
-pub returns-clause-value : goal.returns-clause-value
-returns-clause-value c =
-    let ts = shared_terms c.args.terms.now in
-    let cs = map constructor_of c.args.constructors.now in
-    let vars = type_beside (map typed_var_of c.args.answer.now.vars) in
-    taken_end ts cs vars (is_typed cs vars (shared_at ts c.args.line) (one (type_of c.args.ty.now))) c.loop-next.tasks.items c.loop-next.invariant.all c.in_default.ensures

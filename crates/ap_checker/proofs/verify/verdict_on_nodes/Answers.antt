@@ -34,16 +34,16 @@ nodes-preserved c =
       typed = subst (λ (ts : SharedTerms). AreTypesKnown ts c.args.program.now.signature.constructors c.args.indexed.now.vars c.visit.new.typed) same c.in_ok-rule.ensures.typed;
     }
 
-pub visit-requires-of : goal.visit-requires-of
-visit-requires-of c =
+pub visit-requires-clause-of : goal.visit-requires-clause-of
+visit-requires-clause-of c =
     let before : Walk = record { standing = c.truncate.new.self; pending = c.pop.new.self } in
     let n = c.in-Some.next.mark in
     let top = c.in-Some.ensures.items in
     let same = next_of c.args.terms.now c.nodes.walk before c.in-Some.next n top c.truncate.ensures.items c.nodes.invariant.of in
     subst (λ (ts : SharedTerms). IsWalkIn ts before) (sym same) (walk_next c.args.terms.now c.nodes.walk before c.in-Some.next n top c.truncate.ensures.items c.nodes.invariant.of)
 
-pub visit-requires-typed : goal.visit-requires-typed
-visit-requires-typed c =
+pub visit-requires-clause-typed : goal.visit-requires-clause-typed
+visit-requires-clause-typed c =
     let before : Walk = record { standing = c.truncate.new.self; pending = c.pop.new.self } in
     let same = next_of c.args.terms.now c.nodes.walk before c.in-Some.next c.in-Some.next.mark c.in-Some.ensures.items c.truncate.ensures.items c.nodes.invariant.of in
     subst (λ (ts : SharedTerms). AreTypesKnown ts c.args.program.now.signature.constructors c.args.indexed.now.vars c.nodes.typed) (sym same) c.nodes.invariant.typed
