@@ -8,8 +8,8 @@ use Rattle.ap_shared.proofs.sharing.enter_each.Goals as goal
 pub loop-term-init : goal.loop-term-init
 loop-term-init c = record {
   grown = grown_none (shared_terms c.args.table.now);
-  below = tt;
-  lines = refl;
+  below = rw c.new-lines.ensures.items tt;
+  lines = rw c.new-lines.ensures.items refl;
 }
 
 pub loop-term-preserved : goal.loop-term-preserved
