@@ -25,7 +25,7 @@ use Rattle.ap_store.proofs.FollowLemmas.{bound_depth, bound_under, unbound_under
 use Rattle.ap_store.specs.Views.{bindings_of, meaning_in, rank, raw_bound}
 use Rattle.ap_store.specs.declared.store.Store.{Store}
 use Rattle.ap_theory.proofs.TermLemmas.{size_pos}
-use Rattle.ap_derive.specs.Closing.{AreKept, GoesOn, GoesOut, IsClosing, IsNext, IsPartWithin, IsRoundWithin, Leads, LeadsOn, Reaches, closed_at, closing_terms, closing_work, kept_line, part_term, part_work, round_work, rounds_work}
+use Rattle.ap_derive.specs.Closing.{AreLinesKept, PartGoesOn, PartGoesOut, IsClosing, IsPartForVar, IsPartWithin, IsRoundWithin, Leads, PartLeads, LeadsToWhole, closed_at, closing_terms, closing_work, kept_line, part_term, left_in_part, left_in_round, left_in_rounds}
 use Rattle.ap_derive.specs.declared.closing.Closing.{Closing}
 use Rattle.ap_derive.specs.declared.closing.Part.{Part}
 use Rattle.ap_derive.specs.declared.closing.Part.TheVariants as parts
@@ -52,7 +52,7 @@ none_there (suc n) zero = refl
 none_there (suc n) (suc m) = none_there n m
 
 -- none is kept
-pub none_kept : (s : Store) (ts : List NominalTerm) (n : ℕ) → AreKept s ts (replicate n None)
+pub none_kept : (s : Store) (ts : List NominalTerm) (n : ℕ) → AreLinesKept s ts (replicate n None)
 none_kept s ts n m i e = let never : ◌≡◌ {A = Option ℕ} None (Some i) = sym (none_there n m) ∙ e in cc
 
 -- no line is kept for a number behind all
@@ -73,15 +73,15 @@ kept_set (l ∷ ls) (suc n) (suc m) i j e = elim (kept_set ls n m i j e) [
 ]
 
 module _ (s : Store) (ts us : List NominalTerm) where
-  pub kept_grown : (ls ms : List (Option ℕ)) → IsGrown ts us → ms ≡ ls → AreKept s ts ls → AreKept s us ms
+  pub kept_grown : (ls ms : List (Option ℕ)) → IsGrown ts us → ms ≡ ls → AreLinesKept s ts ls → AreLinesKept s us ms
   kept_grown ls ms g same h n i e =
       let k = h n i (ap (λ z. kept_line z n) (sym same) ∙ e) in
       let l = grown_long ts us g in
       (omega (arith, l, k.0), at_grown ts us i g k.0 ∙ k.1)
 
-  pub kept_more : (ls ms : List (Option ℕ)) (x : Var) (i : ℕ) → us ≡ ts → ms ≡ set ls x.num (Some i) → i < length ts → shared_at ts i ≡ closed_term (state_in s) (susp [] x) → AreKept s ts ls → AreKept s us ms
+  pub kept_more : (ls ms : List (Option ℕ)) (x : Var) (i : ℕ) → us ≡ ts → ms ≡ set ls x.num (Some i) → i < length ts → shared_at ts i ≡ closed_term (state_in s) (susp [] x) → AreLinesKept s ts ls → AreLinesKept s us ms
   kept_more ls ms x i same more within is h =
-      subst (λ vs. AreKept s vs ms) (sym same) (λ n j e. elim (kept_set ls x.num n i j (ap (λ z. kept_line z n) (sym more) ∙ e)) [
+      subst (λ vs. AreLinesKept s vs ms) (sym same) (λ n j e. elim (kept_set ls x.num n i j (ap (λ z. kept_line z n) (sym more) ∙ e)) [
         | inl f ↦ h n j f
         | inr f ↦ (subst (λ k. k < length ts) f.1 within, ap (shared_at ts) (sym f.1) ∙ is ∙ ap (closed_at s) (sym f.0))
       ])
@@ -98,10 +98,10 @@ module _ (s : Store) (ts us : List NominalTerm) where
   leads_grown (rounds.Bound x ∷ rs) t whole g l = (l.0, leads_grown rs t whole g l.1)
 
   -- a line that was made, of a term that led on
-  pub made_leads : (rs : List Round) (t whole : NominalTerm) (i : ℕ) → IsGrown ts us → i < length us → shared_at us i ≡ t → Leads s ts rs t whole → LeadsOn s us rs (parts.Made i) whole
+  pub made_leads : (rs : List Round) (t whole : NominalTerm) (i : ℕ) → IsGrown ts us → i < length us → shared_at us i ≡ t → Leads s ts rs t whole → PartLeads s us rs (parts.Made i) whole
   made_leads rs t whole i g within is l = (within, subst (λ v. Leads s us rs v whole) (sym is) (leads_grown rs t whole g l))
 
-  pub part_leads : (rs : List Round) (p : Part) (t whole : NominalTerm) → IsGrown ts us → IsPartWithin (length us) p → part_term s us p ≡ t → Leads s ts rs t whole → LeadsOn s us rs p whole
+  pub part_leads : (rs : List Round) (p : Part) (t whole : NominalTerm) → IsGrown ts us → IsPartWithin (length us) p → part_term s us p ≡ t → Leads s ts rs t whole → PartLeads s us rs p whole
   part_leads rs p t whole g within is l = (within, subst (λ v. Leads s us rs v whole) (sym is) (leads_grown rs t whole g l))
 
 -- the last of what stands round a part is innermost
@@ -115,24 +115,24 @@ module _ (rs qs : List Round) (r : Round) (pushed : qs ≡ rs ++ r ∷ []) where
   pub leads_popped : (s : Store) (ts : List NominalTerm) (t whole : NominalTerm) → Leads s ts (reverse qs) t whole → Leads s ts (r ∷ reverse rs) t whole
   leads_popped s ts t whole l = subst (λ z. Leads s ts z t whole) last_first l
 
-  work_last : (s : Store) (ps : List Round) → rounds_work s (ps ++ r ∷ []) ≡ rounds_work s ps + round_work s r
+  work_last : (s : Store) (ps : List Round) → left_in_rounds s (ps ++ r ∷ []) ≡ left_in_rounds s ps + left_in_round s r
   work_last s [] = omega arith
   work_last s (p ∷ ps) = let k = work_last s ps in omega (arith, k)
 
-  pub work_pushed : (s : Store) → rounds_work s qs ≡ rounds_work s rs + round_work s r
-  work_pushed s = ap (rounds_work s) pushed ∙ work_last s rs
+  pub work_pushed : (s : Store) → left_in_rounds s qs ≡ left_in_rounds s rs + left_in_round s r
+  work_pushed s = ap (left_in_rounds s) pushed ∙ work_last s rs
 
 -- a variable that waits for its line
 module _ (s : Store) (ts us : List NominalTerm) (x : Var) (q : List Swap) (none : q ≡ []) (whole : NominalTerm) where
   pub bound_leads : (rs qs : List Round) (p : Part) → qs ≡ rs ++ rounds.Bound x ∷ [] → IsGrown ts us → IsPartWithin (length us) p
-      → part_term s us p ≡ canonical_term (under (bindings_of s) (susp q x)) → Leads s ts (reverse rs) (canonical_term (under (bindings_of s) (susp q x))) whole → LeadsOn s us (reverse qs) p whole
+      → part_term s us p ≡ canonical_term (under (bindings_of s) (susp q x)) → Leads s ts (reverse rs) (canonical_term (under (bindings_of s) (susp q x))) whole → PartLeads s us (reverse qs) p whole
   bound_leads rs qs p pushed g within is l =
       let on = part_leads s ts us (reverse rs) p (canonical_term (under (bindings_of s) (susp q x))) whole g within is l in
       (within, leads_pushed rs qs (rounds.Bound x) pushed s us (part_term s us p) whole (is ∙ ap (λ z. canonical_term (under (bindings_of s) (susp z x))) none, on.1))
 
   -- one whose line is kept
-  pub kept_leads : (rs : List Round) (ls : List (Option ℕ)) (i : ℕ) → Some i ≡ kept_line ls x.num → AreKept s ts ls
-      → Leads s ts rs (canonical_term (under (bindings_of s) (susp q x))) whole → LeadsOn s ts rs (parts.Made i) whole
+  pub kept_leads : (rs : List Round) (ls : List (Option ℕ)) (i : ℕ) → Some i ≡ kept_line ls x.num → AreLinesKept s ts ls
+      → Leads s ts rs (canonical_term (under (bindings_of s) (susp q x))) whole → PartLeads s ts rs (parts.Made i) whole
   kept_leads rs ls i found h l =
       let k = h x.num i (sym found) in
       (k.0, subst (λ t. Leads s ts rs t whole) (sym (k.1 ∙ ap (λ z. canonical_term (under (bindings_of s) (susp z x))) (sym none))) l)
@@ -204,7 +204,7 @@ module _ (s : Store) where
 module _ (s : Store) (old new : Closing) where
   -- a line that was made for a term
   pub made_on : (rs : List Round) (t : NominalTerm) (i : ℕ) → new.lines.items ≡ old.lines.items → IsGrown (closing_terms old) (closing_terms new) → i < length (closing_terms new)
-      → shared_at (closing_terms new) i ≡ canonical_term (under (bindings_of s) t) → GoesOn s old new rs rs t (parts.Made i)
+      → shared_at (closing_terms new) i ≡ canonical_term (under (bindings_of s) t) → PartGoesOn s old new rs rs t (parts.Made i)
   made_on rs t i lines grown within is = record {
     lines = lines;
     grown = grown;
@@ -213,7 +213,7 @@ module _ (s : Store) (old new : Closing) where
   }
 
   -- the next part for a variable on which swappings act
-  pub moved_on : (rs : List Round) (t : NominalTerm) (p : Part) → IsNext s old new t p → GoesOn s old new rs rs t p
+  pub moved_on : (rs : List Round) (t : NominalTerm) (p : Part) → IsPartForVar s old new t p → PartGoesOn s old new rs rs t p
   moved_on rs t p h = record {
     lines = h.lines;
     grown = h.grown;
@@ -222,16 +222,16 @@ module _ (s : Store) (old new : Closing) where
   }
 
   -- and for one that waits for its line
-  pub waits_on : (rs qs : List Round) (q : List Swap) (x : Var) (p : Part) → q ≡ [] → qs ≡ rs ++ rounds.Bound x ∷ [] → IsNext s old new (susp q x) p → GoesOn s old new rs qs (susp q x) p
+  pub waits_on : (rs qs : List Round) (q : List Swap) (x : Var) (p : Part) → q ≡ [] → qs ≡ rs ++ rounds.Bound x ∷ [] → IsPartForVar s old new (susp q x) p → PartGoesOn s old new rs qs (susp q x) p
   waits_on rs qs q x p none pushed h = record {
     lines = h.lines;
     grown = h.grown;
     leads = λ whole l. bound_leads s (closing_terms old) (closing_terms new) x q none whole rs qs p pushed h.grown h.within h.is l;
-    less = (let k = h.less in let w : rounds_work s qs ≡ rounds_work s rs + 1 = work_pushed rs qs (rounds.Bound x) pushed s in omega (arith, k, w));
+    less = (let k = h.less in let w : left_in_rounds s qs ≡ left_in_rounds s rs + 1 = work_pushed rs qs (rounds.Bound x) pushed s in omega (arith, k, w));
   }
 
 module _ (s : Store) (c : Closing) where
-  pub kept_on : (rs : List Round) (q : List Swap) (x : Var) (i : ℕ) → q ≡ [] → IsClosing s c → Some i ≡ kept_line c.lines.items x.num → GoesOn s c c rs rs (susp q x) (parts.Made i)
+  pub kept_on : (rs : List Round) (q : List Swap) (x : Var) (i : ℕ) → q ≡ [] → IsClosing s c → Some i ≡ kept_line c.lines.items x.num → PartGoesOn s c c rs rs (susp q x) (parts.Made i)
   kept_on rs q x i none h found = record {
     lines = refl;
     grown = grown_none (closing_terms c);
@@ -240,7 +240,7 @@ module _ (s : Store) (c : Closing) where
   }
 
   module _ (rs qs : List Round) (t : NominalTerm) where
-    pub pair_on : (l r : Closure) → qs ≡ rs ++ rounds.LeftOf r ∷ [] → t ≡ pair (closure_term l) (closure_term r) → GoesOn s c c rs qs t (parts.Left l)
+    pub pair_on : (l r : Closure) → qs ≡ rs ++ rounds.LeftOf r ∷ [] → t ≡ pair (closure_term l) (closure_term r) → PartGoesOn s c c rs qs t (parts.Left l)
     pair_on l r pushed is = record {
       lines = refl;
       grown = grown_none (closing_terms c);
@@ -250,12 +250,12 @@ module _ (s : Store) (c : Closing) where
             (subst (λ u. Leads s (closing_terms c) (reverse rs) (canonical_term (under (bindings_of s) u)) whole) is led),
       );
       less =
-          let w : rounds_work s qs ≡ rounds_work s rs + (2 + closing_work s (closure_term r)) = work_pushed rs qs (rounds.LeftOf r) pushed s in
+          let w : left_in_rounds s qs ≡ left_in_rounds s rs + (2 + closing_work s (closure_term r)) = work_pushed rs qs (rounds.LeftOf r) pushed s in
           let k = pair_work s t (closure_term l) (closure_term r) is in
           omega (arith, w, k);
     }
 
-    pub app_on : (f : ℕ) (a : Closure) → qs ≡ rs ++ rounds.App f ∷ [] → t ≡ app f (closure_term a) → GoesOn s c c rs qs t (parts.Left a)
+    pub app_on : (f : ℕ) (a : Closure) → qs ≡ rs ++ rounds.App f ∷ [] → t ≡ app f (closure_term a) → PartGoesOn s c c rs qs t (parts.Left a)
     app_on f a pushed is = record {
       lines = refl;
       grown = grown_none (closing_terms c);
@@ -265,12 +265,12 @@ module _ (s : Store) (c : Closing) where
             (subst (λ u. Leads s (closing_terms c) (reverse rs) (canonical_term (under (bindings_of s) u)) whole) is led),
       );
       less =
-          let w : rounds_work s qs ≡ rounds_work s rs + 1 = work_pushed rs qs (rounds.App f) pushed s in
+          let w : left_in_rounds s qs ≡ left_in_rounds s rs + 1 = work_pushed rs qs (rounds.App f) pushed s in
           let k = app_work s t f (closure_term a) is in
           omega (arith, w, k);
     }
 
-    pub abs_on : (a : Name) (b : Closure) → qs ≡ rs ++ rounds.Abs a ∷ [] → t ≡ abs a (closure_term b) → GoesOn s c c rs qs t (parts.Left b)
+    pub abs_on : (a : Name) (b : Closure) → qs ≡ rs ++ rounds.Abs a ∷ [] → t ≡ abs a (closure_term b) → PartGoesOn s c c rs qs t (parts.Left b)
     abs_on a b pushed is = record {
       lines = refl;
       grown = grown_none (closing_terms c);
@@ -280,7 +280,7 @@ module _ (s : Store) (c : Closing) where
             (subst (λ u. Leads s (closing_terms c) (reverse rs) (canonical_term (under (bindings_of s) u)) whole) is led),
       );
       less =
-          let w : rounds_work s qs ≡ rounds_work s rs + 1 = work_pushed rs qs (rounds.Abs a) pushed s in
+          let w : left_in_rounds s qs ≡ left_in_rounds s rs + 1 = work_pushed rs qs (rounds.Abs a) pushed s in
           let k = abs_work s t a (closure_term b) is in
           omega (arith, w, k);
     }
@@ -288,10 +288,10 @@ module _ (s : Store) (c : Closing) where
 -- behind a line that was made
 module _ (old new : Closing) (rs : List Round) (made : ℕ) where
   -- what stands round it gets a line
-  line_out : (r : Round) (u : NominalTerm) (line : ℕ) → ((s : Store) → round_work s r ≡ 1)
+  line_out : (r : Round) (u : NominalTerm) (line : ℕ) → ((s : Store) → left_in_round s r ≡ 1)
       → ((s : Store) (whole : NominalTerm) → Leads s (closing_terms old) (r ∷ reverse rs) (shared_at (closing_terms old) made) whole → Leads s (closing_terms old) (reverse rs) u whole)
       → new.lines.items ≡ old.lines.items → IsGrown (closing_terms old) (closing_terms new) → line < length (closing_terms new) → shared_at (closing_terms new) line ≡ u
-      → GoesOut old new rs rs r made (parts.Made line)
+      → PartGoesOut old new rs rs r made (parts.Made line)
   line_out r u line one step lines grown within is = record {
     grown = grown;
     kept = λ s whole h l. kept_grown s (closing_terms old) (closing_terms new) old.lines.items new.lines.items grown lines h;
@@ -300,20 +300,20 @@ module _ (old new : Closing) (rs : List Round) (made : ℕ) where
   }
 
   pub right_out : (i line : ℕ) → new.lines.items ≡ old.lines.items → IsGrown (closing_terms old) (closing_terms new) → line < length (closing_terms new)
-      → shared_at (closing_terms new) line ≡ pair (shared_at (closing_terms old) i) (shared_at (closing_terms old) made) → GoesOut old new rs rs (rounds.RightOf i) made (parts.Made line)
+      → shared_at (closing_terms new) line ≡ pair (shared_at (closing_terms old) i) (shared_at (closing_terms old) made) → PartGoesOut old new rs rs (rounds.RightOf i) made (parts.Made line)
   right_out i line = line_out (rounds.RightOf i) (pair (shared_at (closing_terms old) i) (shared_at (closing_terms old) made)) line (λ s. refl) (λ s whole l. l.1)
 
   pub app_out : (f line : ℕ) → new.lines.items ≡ old.lines.items → IsGrown (closing_terms old) (closing_terms new) → line < length (closing_terms new)
-      → shared_at (closing_terms new) line ≡ app f (shared_at (closing_terms old) made) → GoesOut old new rs rs (rounds.App f) made (parts.Made line)
+      → shared_at (closing_terms new) line ≡ app f (shared_at (closing_terms old) made) → PartGoesOut old new rs rs (rounds.App f) made (parts.Made line)
   app_out f line = line_out (rounds.App f) (app f (shared_at (closing_terms old) made)) line (λ s. refl) (λ s whole l. l)
 
   pub abs_out : (a : Name) (line : ℕ) → new.lines.items ≡ old.lines.items → IsGrown (closing_terms old) (closing_terms new) → line < length (closing_terms new)
-      → shared_at (closing_terms new) line ≡ abs a (shared_at (closing_terms old) made) → GoesOut old new rs rs (rounds.Abs a) made (parts.Made line)
+      → shared_at (closing_terms new) line ≡ abs a (shared_at (closing_terms old) made) → PartGoesOut old new rs rs (rounds.Abs a) made (parts.Made line)
   abs_out a line = line_out (rounds.Abs a) (abs a (shared_at (closing_terms old) made)) line (λ s. refl) (λ s whole l. l)
 
   -- the line of a variable is kept
   pub bound_out : (x : Var) → new.terms ≡ old.terms → new.lines.items ≡ set old.lines.items x.num (Some made) → made < length (closing_terms old)
-      → GoesOut old new rs rs (rounds.Bound x) made (parts.Made made)
+      → PartGoesOut old new rs rs (rounds.Bound x) made (parts.Made made)
   bound_out x terms lines within =
       let same : closing_terms new ≡ closing_terms old = ap shared_terms terms in
       let grown : IsGrown (closing_terms old) (closing_terms new) = subst (IsGrown (closing_terms old)) (sym same) (grown_none (closing_terms old)) in
@@ -328,32 +328,32 @@ module _ (old new : Closing) (rs : List Round) (made : ℕ) where
 
 -- what stands right of it is entered
 pub left_out : (old : Closing) (rs qs : List Round) (made : ℕ) (c : Closure) → made < length (closing_terms old) → qs ≡ rs ++ rounds.RightOf made ∷ []
-    → GoesOut old old rs qs (rounds.LeftOf c) made (parts.Left c)
+    → PartGoesOut old old rs qs (rounds.LeftOf c) made (parts.Left c)
 left_out old rs qs made c within pushed = record {
   grown = grown_none (closing_terms old);
   kept = λ s whole h l. h;
   leads = λ s whole l. (tt, leads_pushed rs qs (rounds.RightOf made) pushed s (closing_terms old) (canonical_term (meaning_in s c)) whole (within, l));
-  less = λ s. let w : rounds_work s qs ≡ rounds_work s rs + 1 = work_pushed rs qs (rounds.RightOf made) pushed s in omega (arith, w);
+  less = λ s. let w : left_in_rounds s qs ≡ left_in_rounds s rs + 1 = work_pushed rs qs (rounds.RightOf made) pushed s in omega (arith, w);
 }
 
 -- THE WALK
 
 module _ (s : Store) (first old new : Closing) (whole : NominalTerm) where
-  pub reaches_first : (rs qs : List Round) (t : NominalTerm) (p : Part) → rs ≡ [] → canonical_term (under (bindings_of s) t) ≡ whole → IsClosing s old → GoesOn s old new rs qs t p → Reaches s old new qs p whole
+  pub reaches_first : (rs qs : List Round) (t : NominalTerm) (p : Part) → rs ≡ [] → canonical_term (under (bindings_of s) t) ≡ whole → IsClosing s old → PartGoesOn s old new rs qs t p → LeadsToWhole s old new qs p whole
   reaches_first rs qs t p none is h g = record {
     closing = kept_grown s (closing_terms old) (closing_terms new) old.lines.items new.lines.items g.grown g.lines h;
     grown = g.grown;
     leads = g.leads whole (subst (λ ps. Leads s (closing_terms old) (reverse ps) (canonical_term (under (bindings_of s) t)) whole) (sym none) is);
   }
 
-  pub reaches_in : (rs qs : List Round) (c : Closure) (p : Part) → GoesOn s old new rs qs (closure_term c) p → Reaches s first old rs (parts.Left c) whole → Reaches s first new qs p whole
+  pub reaches_in : (rs qs : List Round) (c : Closure) (p : Part) → PartGoesOn s old new rs qs (closure_term c) p → LeadsToWhole s first old rs (parts.Left c) whole → LeadsToWhole s first new qs p whole
   reaches_in rs qs c p g r = record {
     closing = kept_grown s (closing_terms old) (closing_terms new) old.lines.items new.lines.items g.grown g.lines r.closing;
     grown = grown_on (closing_terms first) (closing_terms old) (closing_terms new) r.grown g.grown;
     leads = (let l = r.leads in g.leads whole l.1);
   }
 
-  pub reaches_out : (rs ps qs : List Round) (r : Round) (made : ℕ) (p : Part) → rs ≡ ps ++ r ∷ [] → GoesOut old new ps qs r made p → Reaches s first old rs (parts.Made made) whole → Reaches s first new qs p whole
+  pub reaches_out : (rs ps qs : List Round) (r : Round) (made : ℕ) (p : Part) → rs ≡ ps ++ r ∷ [] → PartGoesOut old new ps qs r made p → LeadsToWhole s first old rs (parts.Made made) whole → LeadsToWhole s first new qs p whole
   reaches_out rs ps qs r made p popped g h =
       let l = h.leads in
       let led = leads_popped ps rs r popped s (closing_terms old) (shared_at (closing_terms old) made) whole l.1 in
@@ -364,16 +364,16 @@ module _ (s : Store) (first old new : Closing) (whole : NominalTerm) where
       }
 
 -- what a line that was made tells of what is popped
-pub made_within : (s : Store) (first now : Closing) (rs : List Round) (made : ℕ) (whole : NominalTerm) → Reaches s first now rs (parts.Made made) whole → made < length (closing_terms now)
+pub made_within : (s : Store) (first now : Closing) (rs : List Round) (made : ℕ) (whole : NominalTerm) → LeadsToWhole s first now rs (parts.Made made) whole → made < length (closing_terms now)
 made_within s first now rs made whole h = let l = h.leads in l.0
 
-pub popped_within : (s : Store) (first now : Closing) (rs ps : List Round) (r : Round) (made : ℕ) (whole : NominalTerm) → rs ≡ ps ++ r ∷ [] → Reaches s first now rs (parts.Made made) whole
+pub popped_within : (s : Store) (first now : Closing) (rs ps : List Round) (r : Round) (made : ℕ) (whole : NominalTerm) → rs ≡ ps ++ r ∷ [] → LeadsToWhole s first now rs (parts.Made made) whole
     → IsRoundWithin (length (closing_terms now)) r
 popped_within s first now rs ps r made whole popped h =
     let l = h.leads in
     round_within s (closing_terms now) (reverse ps) r (shared_at (closing_terms now) made) whole (leads_popped ps rs r popped s (closing_terms now) (shared_at (closing_terms now) made) whole l.1)
 
-pub made_is : (s : Store) (first now : Closing) (rs : List Round) (made : ℕ) (whole : NominalTerm) → rs ≡ [] → Reaches s first now rs (parts.Made made) whole → shared_at (closing_terms now) made ≡ whole
+pub made_is : (s : Store) (first now : Closing) (rs : List Round) (made : ℕ) (whole : NominalTerm) → rs ≡ [] → LeadsToWhole s first now rs (parts.Made made) whole → shared_at (closing_terms now) made ≡ whole
 made_is s first now rs made whole none h =
     let l = h.leads in
     subst (λ ps. Leads s (closing_terms now) (reverse ps) (shared_at (closing_terms now) made) whole) none l.1

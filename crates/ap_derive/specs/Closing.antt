@@ -30,11 +30,11 @@ abbrev pub closed_at : Store → ℕ → NominalTerm
 closed_at s n = closed_term (state_in s) (susp [] (record { num = n }))
 
 -- each line that is kept is that of what its variable stands for
-abbrev pub AreKept : Store → List NominalTerm → List (Option ℕ) → Type 0
-AreKept s ts ls = (n i : ℕ) → kept_line ls n ≡ Some i → (i < length ts) × (shared_at ts i ≡ closed_at s n)
+abbrev pub AreLinesKept : Store → List NominalTerm → List (Option ℕ) → Type 0
+AreLinesKept s ts ls = (n i : ℕ) → kept_line ls n ≡ Some i → (i < length ts) × (shared_at ts i ≡ closed_at s n)
 
 abbrev pub IsClosing : Store → Closing → Type 0
-IsClosing s c = AreKept s (closing_terms c) c.lines.items
+IsClosing s c = AreLinesKept s (closing_terms c) c.lines.items
 
 -- a part, entered
 abbrev pub part_term : Store → List NominalTerm → Part → NominalTerm
@@ -59,49 +59,49 @@ Leads s ts (rounds.App f ∷ rs) t whole = Leads s ts rs (app f t) whole
 Leads s ts (rounds.Abs a ∷ rs) t whole = Leads s ts rs (abs a t) whole
 Leads s ts (rounds.Bound x ∷ rs) t whole = (t ≡ closed_term (state_in s) (susp [] x)) × Leads s ts rs t whole
 
-abbrev pub LeadsOn : Store → List NominalTerm → List Round → Part → NominalTerm → Type 0
-LeadsOn s ts rs p whole = IsPartWithin (length ts) p × Leads s ts rs (part_term s ts p) whole
+abbrev pub PartLeads : Store → List NominalTerm → List Round → Part → NominalTerm → Type 0
+PartLeads s ts rs p whole = IsPartWithin (length ts) p × Leads s ts rs (part_term s ts p) whole
 
 -- how much is left to do, where bindings are followed
 abbrev pub closing_work : Store → NominalTerm → ℕ
 closing_work s t = 3 * (size (under (bindings_of s) t) + size (under (bindings_of s) t) * depth_of (rank s) t)
 
-abbrev pub part_work : Store → Part → ℕ
-part_work s (parts.Left c) = closing_work s (closure_term c)
-part_work s (parts.Made i) = 0
+abbrev pub left_in_part : Store → Part → ℕ
+left_in_part s (parts.Left c) = closing_work s (closure_term c)
+left_in_part s (parts.Made i) = 0
 
-abbrev pub round_work : Store → Round → ℕ
-round_work s (rounds.LeftOf c) = 2 + closing_work s (closure_term c)
-round_work s _ = 1
+abbrev pub left_in_round : Store → Round → ℕ
+left_in_round s (rounds.LeftOf c) = 2 + closing_work s (closure_term c)
+left_in_round s _ = 1
 
-abbrev pub rounds_work : Store → List Round → ℕ
-rounds_work s [] = 0
-rounds_work s (r ∷ rs) = round_work s r + rounds_work s rs
+abbrev pub left_in_rounds : Store → List Round → ℕ
+left_in_rounds s [] = 0
+left_in_rounds s (r ∷ rs) = left_in_round s r + left_in_rounds s rs
 
 -- the next part for a term: the term is what it is to be, its line is there where it has one, and there is less to do
-pub record IsNext (s : Store) (old new : Closing) (t : NominalTerm) (p : Part) : Type 0 where
+pub record IsPartForVar (s : Store) (old new : Closing) (t : NominalTerm) (p : Part) : Type 0 where
   pub lines : new.lines.items ≡ old.lines.items
   pub grown : IsGrown (closing_terms old) (closing_terms new)
   pub within : IsPartWithin (length (closing_terms new)) p
   pub is : part_term s (closing_terms new) p ≡ canonical_term (under (bindings_of s) t)
-  pub less : 1 + part_work s p < closing_work s t
+  pub less : 1 + left_in_part s p < closing_work s t
 
 -- a part goes on for a term: it leads where the term led, and there is less to do
-pub record GoesOn (s : Store) (old new : Closing) (before after : List Round) (t : NominalTerm) (p : Part) : Type 0 where
+pub record PartGoesOn (s : Store) (old new : Closing) (before after : List Round) (t : NominalTerm) (p : Part) : Type 0 where
   pub lines : new.lines.items ≡ old.lines.items
   pub grown : IsGrown (closing_terms old) (closing_terms new)
-  pub leads : (whole : NominalTerm) → Leads s (closing_terms old) (reverse before) (canonical_term (under (bindings_of s) t)) whole → LeadsOn s (closing_terms new) (reverse after) p whole
-  pub less : rounds_work s after + part_work s p < rounds_work s before + closing_work s t
+  pub leads : (whole : NominalTerm) → Leads s (closing_terms old) (reverse before) (canonical_term (under (bindings_of s) t)) whole → PartLeads s (closing_terms new) (reverse after) p whole
+  pub less : left_in_rounds s after + left_in_part s p < left_in_rounds s before + closing_work s t
 
 -- what is entered since a table was this one leads, with a part and what stands round it, to a whole
-pub record Reaches (s : Store) (first now : Closing) (rs : List Round) (p : Part) (whole : NominalTerm) : Type 0 where
+pub record LeadsToWhole (s : Store) (first now : Closing) (rs : List Round) (p : Part) (whole : NominalTerm) : Type 0 where
   pub closing : IsClosing s now
   pub grown : IsGrown (closing_terms first) (closing_terms now)
-  pub leads : LeadsOn s (closing_terms now) (reverse rs) p whole
+  pub leads : PartLeads s (closing_terms now) (reverse rs) p whole
 
 -- a part goes on behind a line that was made, within what stood round that
-pub record GoesOut (old new : Closing) (before after : List Round) (r : Round) (made : ℕ) (p : Part) : Type 0 where
+pub record PartGoesOut (old new : Closing) (before after : List Round) (r : Round) (made : ℕ) (p : Part) : Type 0 where
   pub grown : IsGrown (closing_terms old) (closing_terms new)
   pub kept : (s : Store) (whole : NominalTerm) → IsClosing s old → Leads s (closing_terms old) (r ∷ reverse before) (shared_at (closing_terms old) made) whole → IsClosing s new
-  pub leads : (s : Store) (whole : NominalTerm) → Leads s (closing_terms old) (r ∷ reverse before) (shared_at (closing_terms old) made) whole → LeadsOn s (closing_terms new) (reverse after) p whole
-  pub less : (s : Store) → rounds_work s after + part_work s p < rounds_work s before + round_work s r
+  pub leads : (s : Store) (whole : NominalTerm) → Leads s (closing_terms old) (r ∷ reverse before) (shared_at (closing_terms old) made) whole → PartLeads s (closing_terms new) (reverse after) p whole
+  pub less : (s : Store) → left_in_rounds s after + left_in_part s p < left_in_rounds s before + left_in_round s r

@@ -14,7 +14,7 @@ ghost use Rattle.ap_perm.specs.Closures.{closure_term, lent_term};
 ghost use Rattle.ap_shared.specs.Shared.{AreLinesBelow, IsBehind, IsGrown, entry_term, shared_at};
 ghost use Rattle.ap_store.specs.Views.{raw_bound};
 ghost use Rattle.ap_derive.specs.declared.closing.Closing.{Closing};
-ghost use Rattle.ap_derive.specs.Closing.{GoesOn, GoesOut, IsClosing, IsNext, IsRoundWithin, closing_terms, kept_line};
+ghost use Rattle.ap_derive.specs.Closing.{PartGoesOn, PartGoesOut, IsClosing, IsPartForVar, IsRoundWithin, closing_terms, kept_line};
 
 use ap_defs::lists::List;
 use ap_defs::memory::Memory;
@@ -110,7 +110,7 @@ fn close_unbound<'a>(
     x: Var,
 ) -> Result<Part<'a>, Memory>
     requires { raw_bound store.now x ≡ None }
-    ensures { IfOk result (IsNext store.now closing.old closing.new (susp swaps.items x)) }
+    ensures { IfOk result (IsPartForVar store.now closing.old closing.new (susp swaps.items x)) }
 {
     let ascending = canonical_of(alloc, swaps)?;
     let boxed = Box::new(alloc, List::of(ascending))?;
@@ -128,7 +128,7 @@ fn close_bound<'a>(
 ) -> Result<Part<'a>, Memory>
     requires { raw_bound store.now x ≡ Some (lent_term bound) }
     ensures { IfOk result (λ p. (closing : Closing) →
-        IsNext store.now closing closing (susp swaps.items x) p) }
+        IsPartForVar store.now closing closing (susp swaps.items x) p) }
 {
     let all = joined(alloc, &swaps, bound.swaps)?;
     Ok(Part::Left(Closure {
@@ -147,7 +147,7 @@ fn go_on<'a>(
     swaps: Vec<Swap>,
     x: Var,
 ) -> Result<Part<'a>, Memory>
-    ensures { IfOk result (IsNext store.now closing.old closing.new (susp swaps.items x)) }
+    ensures { IfOk result (IsPartForVar store.now closing.old closing.new (susp swaps.items x)) }
 {
     match store.binding(x) {
         None => close_unbound(alloc, store, closing, swaps, x),
@@ -165,7 +165,7 @@ fn wait_for<'a>(
     x: Var,
 ) -> Result<Part<'a>, Memory>
     requires { swaps.items ≡ [] }
-    ensures { IfOk result (GoesOn store.now closing.old closing.new rounds.old.items
+    ensures { IfOk result (PartGoesOn store.now closing.old closing.new rounds.old.items
         rounds.new.items (susp swaps.items x)) }
 {
     rounds.push(Round::Bound(x))?;
@@ -184,7 +184,7 @@ fn go_to_bare<'a>(
 ) -> Result<Part<'a>, Memory>
     requires closing { IsClosing store.now closing.old }
     requires bare { swaps.items ≡ [] }
-    ensures { IfOk result (GoesOn store.now closing.old closing.new rounds.old.items
+    ensures { IfOk result (PartGoesOn store.now closing.old closing.new rounds.old.items
         rounds.new.items (susp swaps.items x)) }
 {
     match kept(closing, x) {
@@ -202,7 +202,7 @@ fn go_to_moved<'a>(
     swaps: Vec<Swap>,
     x: Var,
 ) -> Result<Part<'a>, Memory>
-    ensures { IfOk result (GoesOn store.now closing.old closing.new rounds.old.items
+    ensures { IfOk result (PartGoesOn store.now closing.old closing.new rounds.old.items
         rounds.new.items (susp swaps.items x)) }
 {
     let part = go_on(alloc, store, closing, swaps, x)?;
@@ -219,7 +219,7 @@ fn go_to<'a>(
     x: Var,
 ) -> Result<Part<'a>, Memory>
     requires { IsClosing store.now closing.old }
-    ensures { IfOk result (GoesOn store.now closing.old closing.new rounds.old.items
+    ensures { IfOk result (PartGoesOn store.now closing.old closing.new rounds.old.items
         rounds.new.items (susp swaps.items x)) }
 {
     if swaps.is_empty() {
@@ -239,7 +239,7 @@ fn go_in<'a>(
     c: Closure<'a>,
 ) -> Result<Part<'a>, Memory>
     requires { IsClosing store.now closing.old }
-    ensures { IfOk result (GoesOn store.now closing.old closing.new rounds.old.items
+    ensures { IfOk result (PartGoesOn store.now closing.old closing.new rounds.old.items
         rounds.new.items (closure_term c.entry)) }
 {
     match c.open(alloc)? {
@@ -280,7 +280,7 @@ fn go_out<'a>(
 ) -> Result<Part<'a>, Memory>
     requires made { made < length (closing_terms closing.old) }
     requires round { IsRoundWithin (length (closing_terms closing.old)) round }
-    ensures { IfOk result (GoesOut closing.old closing.new rounds.old.items rounds.new.items
+    ensures { IfOk result (PartGoesOut closing.old closing.new rounds.old.items rounds.new.items
         round.entry made) }
 {
     match round {

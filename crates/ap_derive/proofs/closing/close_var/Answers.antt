@@ -7,7 +7,7 @@ use Rattle.ap_defs.specs.Terms.{NominalTerm, susp}
 use Rattle.ap_backchain.specs.Views.{state_in}
 use Rattle.ap_perm.specs.Closures.{closure_term}
 use Rattle.ap_store.specs.Views.{bindings_of}
-use Rattle.ap_derive.specs.Closing.{Reaches, part_work, rounds_work}
+use Rattle.ap_derive.specs.Closing.{LeadsToWhole, left_in_part, left_in_rounds}
 use Rattle.ap_derive.specs.declared.closing.Part.{Part}
 use Rattle.ap_derive.proofs.ClosingLemmas.{made_is, made_within, popped_within, reaches_first, reaches_in, reaches_out, work_pushed}
 use Rattle.ap_derive.proofs.closing.close_var.Goals as goal
@@ -28,13 +28,13 @@ walking-preserved-in-Left c =
     let whole = closed_term (state_in s) (susp [] c.args.x) in
     let rs = c.walking.rounds.items in
     reaches_in s c.args.closing.now c.walking.closing c.go_in.new.closing whole rs c.go_in.new.rounds.items c.in-Left.c c.in_ok-part-in-Left.part c.in_ok-part-in-Left.ensures
-    (subst (λ (p : Part). Reaches s c.args.closing.now c.walking.closing rs p whole) c.in-Left.is c.walking.invariant)
+    (subst (λ (p : Part). LeadsToWhole s c.args.closing.now c.walking.closing rs p whole) c.in-Left.is c.walking.invariant)
 
 pub walking-smaller-in-Left : goal.walking-smaller-in-Left
 walking-smaller-in-Left c =
     let s = c.args.store.now in
     let less = c.in_ok-part-in-Left.ensures.less in
-    let is = ap (λ (p : Part). part_work s p) c.in-Left.is in
+    let is = ap (λ (p : Part). left_in_part s p) c.in-Left.is in
     omega (arith, less, is)
 
 pub go_out-requires-clause-made : goal.go_out-requires-clause-made
@@ -42,7 +42,7 @@ go_out-requires-clause-made c =
     let s = c.args.store.now in
     let whole = closed_term (state_in s) (susp [] c.args.x) in
     let rs = c.walking.rounds.items in
-    made_within s c.args.closing.now c.walking.closing rs c.in-Made.line whole (subst (λ (p : Part). Reaches s c.args.closing.now c.walking.closing rs p whole) c.in-Made.is c.walking.invariant)
+    made_within s c.args.closing.now c.walking.closing rs c.in-Made.line whole (subst (λ (p : Part). LeadsToWhole s c.args.closing.now c.walking.closing rs p whole) c.in-Made.is c.walking.invariant)
 
 pub go_out-requires-clause-round : goal.go_out-requires-clause-round
 go_out-requires-clause-round c =
@@ -50,7 +50,7 @@ go_out-requires-clause-round c =
     let whole = closed_term (state_in s) (susp [] c.args.x) in
     let rs = c.walking.rounds.items in
     popped_within s c.args.closing.now c.walking.closing rs c.pop.new.self.items c.in-Some.round c.in-Made.line whole c.in-Some.ensures.items
-    (subst (λ (p : Part). Reaches s c.args.closing.now c.walking.closing rs p whole) c.in-Made.is c.walking.invariant)
+    (subst (λ (p : Part). LeadsToWhole s c.args.closing.now c.walking.closing rs p whole) c.in-Made.is c.walking.invariant)
 
 pub walking-preserved : goal.walking-preserved
 walking-preserved c =
@@ -58,13 +58,13 @@ walking-preserved c =
     let whole = closed_term (state_in s) (susp [] c.args.x) in
     let rs = c.walking.rounds.items in
     reaches_out s c.args.closing.now c.walking.closing c.go_out.new.closing whole rs c.pop.new.self.items c.go_out.new.rounds.items c.in-Some.round c.in-Made.line c.in_ok-part-in-Made.part
-    c.in-Some.ensures.items c.in_ok-part-in-Made.ensures (subst (λ (p : Part). Reaches s c.args.closing.now c.walking.closing rs p whole) c.in-Made.is c.walking.invariant)
+    c.in-Some.ensures.items c.in_ok-part-in-Made.ensures (subst (λ (p : Part). LeadsToWhole s c.args.closing.now c.walking.closing rs p whole) c.in-Made.is c.walking.invariant)
 
 pub walking-smaller : goal.walking-smaller
 walking-smaller c =
     let s = c.args.store.now in
     let less = c.in_ok-part-in-Made.ensures.less s in
-    let is = ap (λ (p : Part). part_work s p) c.in-Made.is in
+    let is = ap (λ (p : Part). left_in_part s p) c.in-Made.is in
     let popped = work_pushed c.pop.new.self.items c.walking.rounds.items c.in-Some.round c.in-Some.ensures.items s in
     omega (arith, less, is, popped)
 
@@ -79,7 +79,7 @@ returns-in_default-clause-within c =
     let s = c.args.store.now in
     let whole = closed_term (state_in s) (susp [] c.args.x) in
     let rs = c.walking.rounds.items in
-    made_within s c.args.closing.now c.walking.closing rs c.in-Made.line whole (subst (λ (p : Part). Reaches s c.args.closing.now c.walking.closing rs p whole) c.in-Made.is c.walking.invariant)
+    made_within s c.args.closing.now c.walking.closing rs c.in-Made.line whole (subst (λ (p : Part). LeadsToWhole s c.args.closing.now c.walking.closing rs p whole) c.in-Made.is c.walking.invariant)
 
 pub returns-in_default-clause-line : goal.returns-in_default-clause-line
 returns-in_default-clause-line c =
@@ -87,4 +87,4 @@ returns-in_default-clause-line c =
     let whole = closed_term (state_in s) (susp [] c.args.x) in
     let rs = c.walking.rounds.items in
     let none : c.walking.rounds.items ≡ [] = grind (arith, common_steps) in
-    made_is s c.args.closing.now c.walking.closing rs c.in-Made.line whole none (subst (λ (p : Part). Reaches s c.args.closing.now c.walking.closing rs p whole) c.in-Made.is c.walking.invariant)
+    made_is s c.args.closing.now c.walking.closing rs c.in-Made.line whole none (subst (λ (p : Part). LeadsToWhole s c.args.closing.now c.walking.closing rs p whole) c.in-Made.is c.walking.invariant)

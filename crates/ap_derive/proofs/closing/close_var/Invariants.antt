@@ -3,11 +3,11 @@ use Rattle.std.proofs.Common.{◌+◌, []}
 use Rattle.ap_defs.specs.Answers.{closed_term}
 use Rattle.ap_defs.specs.Terms.{susp}
 use Rattle.ap_backchain.specs.Views.{state_in}
-use Rattle.ap_derive.specs.Closing.{Reaches, part_work, rounds_work}
+use Rattle.ap_derive.specs.Closing.{LeadsToWhole, left_in_part, left_in_rounds}
 use Rattle.ap_derive.proofs.closing.close_var.Given as goal
 
 abbrev pub invariant-walking : goal.invariant-walking
-invariant-walking l = Reaches l.store l.fn.closing l.closing l.rounds.items l.part (closed_term (state_in l.store) (susp [] l.x))
+invariant-walking l = LeadsToWhole l.store l.fn.closing l.closing l.rounds.items l.part (closed_term (state_in l.store) (susp [] l.x))
 
 abbrev pub decreases-walking : goal.decreases-walking
-decreases-walking l = rounds_work l.store l.rounds.items + part_work l.store l.part
+decreases-walking l = left_in_rounds l.store l.rounds.items + left_in_part l.store l.part

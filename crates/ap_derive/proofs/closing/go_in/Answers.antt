@@ -4,7 +4,7 @@ use Rattle.ap_defs.specs.Substitution.{under}
 use Rattle.ap_defs.specs.Terms.{NominalTerm, abs, app, name, pair, susp, unit}
 use Rattle.ap_perm.specs.Closures.{closure_term, opened_term}
 use Rattle.ap_store.specs.Views.{bindings_of}
-use Rattle.ap_derive.specs.Closing.{GoesOn}
+use Rattle.ap_derive.specs.Closing.{PartGoesOn}
 use Rattle.ap_derive.proofs.ClosingLemmas.{abs_on, app_on, made_on, pair_on}
 use Rattle.ap_derive.proofs.closing.go_in.Goals as goal
 
@@ -27,7 +27,7 @@ returns-in_ok-line-in-Name c =
 pub returns-in_ok-part-in-Susp : goal.returns-in_ok-part-in-Susp
 returns-in_ok-part-in-Susp c =
     let opened : closure_term c.args.c ≡ susp c.in-Susp.swaps.items c.in-Susp.x = sym c.in_ok-open.ensures ∙ ap opened_term c.in-Susp.is in
-    subst (λ (t : NominalTerm). GoesOn c.args.store.now c.args.closing.now c.go_to.new.closing c.args.rounds.now.items c.go_to.new.rounds.items t c.in_ok-part-in-Susp.part) (sym opened)
+    subst (λ (t : NominalTerm). PartGoesOn c.args.store.now c.args.closing.now c.go_to.new.closing c.args.rounds.now.items c.go_to.new.rounds.items t c.in_ok-part-in-Susp.part) (sym opened)
     c.in_ok-part-in-Susp.ensures
 
 pub returns-in_ok-push-in-Pair : goal.returns-in_ok-push-in-Pair
