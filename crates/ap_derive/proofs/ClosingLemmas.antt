@@ -1,5 +1,5 @@
 -- What variables stand for, entered part by part.
-use Rattle.std.proofs.Common.{◌≡◌, ℕ, zero, suc, ◌+◌, ◌*◌, ◌<◌, ◌≤◌, List, [], ◌∷◌, ◌++◌, length, replicate, set, Option, None, Some, refl, sym, ap, ap₂, subst, ◌∙◌, ◌⊎◌, inl, inr, arith, length-append}
+use Rattle.std.proofs.Common.{◌≡◌, ℕ, zero, suc, ◌+◌, ◌*◌, ◌<◌, ◌≤◌, List, [], ◌∷◌, ◌++◌, get_or, length, replicate, set, Option, None, Some, refl, sym, ap, ap₂, subst, ◌∙◌, ◌⊎◌, inl, inr, arith, length-append}
 use Rattle.std.specs.Prelude.{reverse}
 use Rattle.std.proofs.Math.Nat.{add-mul, mul-add, mul-le-mul_left}
 use Rattle.std.proofs.lemmas.List.{reverse-append}
@@ -39,6 +39,12 @@ bare_of c = rename_term c.base (term_of c.term.now)
 -- a line that is there stands for the same term, whatever comes later
 pub at_grown : (ts us : List NominalTerm) (i : ℕ) → IsGrown ts us → i < length ts → shared_at us i ≡ shared_at ts i
 at_grown ts us i g h = ap (λ vs. shared_at vs i) g.1 ∙ at_front ts g.0 i h
+
+-- an item by itself
+pub item_at : {A : Type 0} (xs : List A) (i : ℕ) (d : A) → i < length xs → get_or xs i d ≡ get_or xs i (get_or xs i d)
+item_at [] i d h = absurd (omega arith)
+item_at (x ∷ xs) zero d h = refl
+item_at (x ∷ xs) (suc i) d h = item_at xs i d (omega (arith, h))
 
 -- a line more
 pub added : (ts us : List NominalTerm) (t : NominalTerm) (i : ℕ) → us ≡ ts ++ t ∷ [] → i ≡ length ts → IsGrown ts us × (i < length us) × (shared_at us i ≡ t)

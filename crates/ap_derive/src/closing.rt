@@ -10,6 +10,7 @@ ghost use Rattle.ap_defs.specs.Answers.{closed_term};
 ghost use Rattle.ap_defs.specs.Canonical.{canonical};
 ghost use Rattle.ap_defs.specs.Terms.{susp};
 ghost use Rattle.ap_backchain.specs.Views.{state_in};
+ghost use Rattle.ap_search.specs.Records.{closed_vars};
 ghost use Rattle.ap_perm.specs.Closures.{closure_term, lent_term};
 ghost use Rattle.ap_shared.specs.Shared.{AreLinesBelow, IsBehind, IsGrown, entry_term, shared_at};
 ghost use Rattle.ap_store.specs.Views.{raw_bound};
@@ -350,7 +351,7 @@ pub(crate) fn close_each(
     ensures below { IfOk result (λ ls.
         AreLinesBelow (length (closing_terms closing.new)) ls.items) }
     ensures lines { IfOk result (λ ls. map (shared_at (closing_terms closing.new)) ls.items
-        ≡ map (closed_term (state_in store.now)) (map (susp []) vars.now)) }
+        ≡ closed_vars (state_in store.now) vars.now) }
 {
     let mut lines = Vec::new(alloc);
     for x in vars {
