@@ -327,12 +327,16 @@ pub(crate) fn close_var<'a>(
     let mut part = go_to(alloc, store, closing, &mut rounds, none, x)?;
     'walking: loop {
         match part {
-            Part::Left(c) => part = go_in(alloc, store, closing, &mut rounds, c)?,
+            Part::Left(c) => {
+                let inner = go_in(alloc, store, closing, &mut rounds, c)?;
+                part = inner;
+            }
             Part::Made(line) => {
                 let Some(round) = rounds.pop() else {
                     return Ok(line);
                 };
-                part = go_out(closing, &mut rounds, round, line)?;
+                let outer = go_out(closing, &mut rounds, round, line)?;
+                part = outer;
             }
         }
     }

@@ -27,13 +27,13 @@ walking-preserved-in-Left c =
     let s = c.args.store.now in
     let whole = closed_term (state_in s) (susp [] c.args.x) in
     let rs = c.walking.rounds.items in
-    reaches_in s c.args.closing.now c.walking.closing c.go_in.new.closing whole rs c.go_in.new.rounds.items c.in-Left.c c.in_ok-part-in-Left.part c.in_ok-part-in-Left.ensures
+    reaches_in s c.args.closing.now c.walking.closing c.go_in.new.closing whole rs c.go_in.new.rounds.items c.in-Left.c c.in_ok-inner-in-Left.inner c.in_ok-inner-in-Left.ensures
     (subst (λ (p : Part). LeadsToWhole s c.args.closing.now c.walking.closing rs p whole) c.in-Left.is c.walking.invariant)
 
 pub walking-smaller-in-Left : goal.walking-smaller-in-Left
 walking-smaller-in-Left c =
     let s = c.args.store.now in
-    let less = c.in_ok-part-in-Left.ensures.less in
+    let less = c.in_ok-inner-in-Left.ensures.less in
     let is = ap (λ (p : Part). left_in_part s p) c.in-Left.is in
     omega (arith, less, is)
 
@@ -57,13 +57,13 @@ walking-preserved c =
     let s = c.args.store.now in
     let whole = closed_term (state_in s) (susp [] c.args.x) in
     let rs = c.walking.rounds.items in
-    reaches_out s c.args.closing.now c.walking.closing c.go_out.new.closing whole rs c.pop.new.self.items c.go_out.new.rounds.items c.in-Some.round c.in-Made.line c.in_ok-part-in-Made.part
-    c.in-Some.ensures.items c.in_ok-part-in-Made.ensures (subst (λ (p : Part). LeadsToWhole s c.args.closing.now c.walking.closing rs p whole) c.in-Made.is c.walking.invariant)
+    reaches_out s c.args.closing.now c.walking.closing c.go_out.new.closing whole rs c.pop.new.self.items c.go_out.new.rounds.items c.in-Some.round c.in-Made.line c.in_ok-outer-in-Made.outer
+    c.in-Some.ensures.items c.in_ok-outer-in-Made.ensures (subst (λ (p : Part). LeadsToWhole s c.args.closing.now c.walking.closing rs p whole) c.in-Made.is c.walking.invariant)
 
 pub walking-smaller : goal.walking-smaller
 walking-smaller c =
     let s = c.args.store.now in
-    let less = c.in_ok-part-in-Made.ensures.less s in
+    let less = c.in_ok-outer-in-Made.ensures.less s in
     let is = ap (λ (p : Part). left_in_part s p) c.in-Made.is in
     let popped = work_pushed c.pop.new.self.items c.walking.rounds.items c.in-Some.round c.in-Some.ensures.items s in
     omega (arith, less, is, popped)
