@@ -18,7 +18,7 @@ use Rattle.ap_perm.specs.Lookups.{depth_of}
 use Rattle.ap_perm.specs.declared.closures.Closure.{Closure}
 use Rattle.ap_perm.specs.declared.closures.Lent.{Lent}
 use Rattle.ap_shared.proofs.SharedLemmas.{at_front, at_last}
-use Rattle.ap_shared.proofs.SharingLemmas.{grown_long, grown_none, grown_on}
+use Rattle.ap_shared.proofs.SharingLemmas.{grown_none, grown_on}
 use Rattle.ap_shared.specs.SharedViews.{shared_terms}
 use Rattle.ap_shared.specs.Shared.{IsGrown, shared_at}
 use Rattle.ap_store.proofs.FollowLemmas.{bound_depth, bound_under, unbound_under}
@@ -36,6 +36,9 @@ use Rattle.ap_derive.specs.declared.closing.Round.TheVariants as rounds
 abbrev pub bare_of : Lent → NominalTerm
 bare_of c = rename_term c.base (term_of c.term.now)
 
+grown_long : (ts us : List NominalTerm) → IsGrown ts us → length ts ≤ length us
+grown_long ts us g = let e = ap length g.1 ∙ length-append ts g.0 in omega (arith, e)
+
 -- a line that is there stands for the same term, whatever comes later
 pub at_grown : (ts us : List NominalTerm) (i : ℕ) → IsGrown ts us → i < length ts → shared_at us i ≡ shared_at ts i
 at_grown ts us i g h = ap (λ vs. shared_at vs i) g.1 ∙ at_front ts g.0 i h
@@ -50,7 +53,7 @@ item_at (x ∷ xs) (suc i) d h = item_at xs i d (omega (arith, h))
 pub added : (ts us : List NominalTerm) (t : NominalTerm) (i : ℕ) → us ≡ ts ++ t ∷ [] → i ≡ length ts → IsGrown ts us × (i < length us) × (shared_at us i ≡ t)
 added ts us t i grew at =
     let e = ap length grew ∙ length-append ts (t ∷ []) in
-    ((t ∷ [], grew), (omega (arith, e, at), ap₂ shared_at grew at ∙ at_last ts t))
+    ((t ∷ [], grew), omega (arith, e, at), ap₂ shared_at grew at ∙ at_last ts t)
 
 none_there : (n m : ℕ) → kept_line (replicate n None) m ≡ None
 none_there zero m = refl

@@ -14,7 +14,7 @@ abbrev pub invariant-loop-task : goal.invariant-loop-task
 invariant-loop-task l = record {
   entering : IsEntering (shared_terms l.terms) l.self;
   walk : (ts : List NominalTerm) × (reverse l.numbers.items ≡ map (line_of (held_terms l.self)) ts) × Each (Has (held_terms l.self)) ts
-      × Leads (steps_of (shared_terms l.terms) l.tasks.items) (held_terms l.self) ts (with_table_terms (held_terms l.fn.self) (with_parts (shared_at (shared_terms l.terms) l.line))) (shared_at (shared_terms l.terms) l.line);
+      × Leads (steps_of (shared_terms l.terms) l.tasks.items) (held_terms l.self) ts (with_table_terms (held_terms l.fn.self) (with_parts (shared_at (shared_terms l.terms) l.fn.line))) (shared_at (shared_terms l.terms) l.fn.line);
 }
 
 abbrev pub decreases-loop-task : goal.decreases-loop-task
