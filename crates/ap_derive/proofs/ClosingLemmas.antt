@@ -1,5 +1,5 @@
 -- What variables stand for, entered part by part.
-use Rattle.std.proofs.Common.{◌≡◌, ℕ, zero, suc, ◌+◌, ◌*◌, ◌<◌, ◌≤◌, List, [], ◌∷◌, ◌++◌, get_or, length, replicate, set, Option, None, Some, refl, sym, ap, ap₂, subst, ◌∙◌, ◌⊎◌, inl, inr, arith, length-append}
+use Rattle.std.proofs.Common.{◌≡◌, ℕ, zero, suc, ◌+◌, ◌*◌, ◌<◌, ◌≤◌, List, [], ◌∷◌, ◌++◌, add-one, drop, drop-cons, get_or, length, replicate, set, Option, None, Some, refl, sym, ap, ap₂, subst, ◌∙◌, ◌⊎◌, inl, inr, arith, length-append}
 use Rattle.std.specs.Prelude.{reverse}
 use Rattle.std.proofs.Math.Nat.{add-mul, mul-add, mul-le-mul_left}
 use Rattle.std.proofs.lemmas.List.{reverse-append}
@@ -48,6 +48,9 @@ pub item_at : {A : Type 0} (xs : List A) (i : ℕ) (d : A) → i < length xs →
 item_at [] i d h = absurd (omega arith)
 item_at (x ∷ xs) zero d h = refl
 item_at (x ∷ xs) (suc i) d h = item_at xs i d (omega (arith, h))
+
+pub item_next : {A : Type 0} (xs : List A) (i : ℕ) (x : A) → i < length xs → x ≡ get_or xs i x → drop i xs ≡ x ∷ drop (i + 1) xs
+item_next xs i x h e = rw (add-one, drop-cons xs i x) (ap (λ z. z ∷ drop (suc i) xs) (sym e))
 
 -- a line more
 pub added : (ts us : List NominalTerm) (t : NominalTerm) (i : ℕ) → us ≡ ts ++ t ∷ [] → i ≡ length ts → IsGrown ts us × (i < length us) × (shared_at us i ≡ t)

@@ -4,7 +4,8 @@ use Rattle.ap_backchain.specs.Views.{state_in}
 use Rattle.ap_shared.specs.FirstNodes.{map_node}
 use Rattle.ap_shared.specs.LineNodes.{node_by_lines}
 use Rattle.ap_shared.specs.Shared.{shared_at}
-use Rattle.ap_shared.proofs.SharingLemmas.{grown_none, grown_on, next_item, no_item, nodes_below, nodes_on}
+use Rattle.ap_shared.proofs.SharingLemmas.{grown_none, grown_on, no_item, nodes_below, nodes_on}
+use Rattle.ap_derive.proofs.ClosingLemmas.{item_next}
 use Rattle.ap_derive.specs.Closing.{closing_terms}
 use Rattle.ap_derive.specs.Nodes.{closed_node, selected_node}
 use Rattle.ap_derive.proofs.assembling.close_nodes.Goals as goal
@@ -26,7 +27,7 @@ loop-node-preserved c =
     let ms = map node_by_lines c.push.new.self.items in
     let n = node_by_lines c.in_ok-shared.shared in
     let pushed : ms ≡ ns ++ n ∷ [] = ap (map node_by_lines) c.in_ok-push.ensures.items ∙ map-append node_by_lines c.loop-node.closed.items (c.in_ok-shared.shared ∷ []) in
-    let top = ap (λ gs. map (closed_node s) (map selected_node gs)) (next_item c.args.nodes.now c.loop-node.node-index c.node-item.result (omega arith) c.node-item.is) in
+    let top = ap (λ gs. map (closed_node s) (map selected_node gs)) (item_next c.args.nodes.now c.loop-node.node-index c.node-item.result (omega arith) c.node-item.is) in
     record {
       closing = c.in_ok-shared.ensures.closing;
       grown = grown_on (closing_terms c.args.closing.now) ts us c.loop-node.invariant.grown c.in_ok-shared.ensures.grown;
