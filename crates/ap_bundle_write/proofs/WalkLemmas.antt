@@ -134,8 +134,8 @@ module _ (ts held new : List NominalTerm) (line number : ℕ) (numbers more : �
             let found : ◌≡◌ {A = Option ℕ} (Some number) (Some n) = rw y at k in
             let one : number ≡ n = cc in
             subst (λ v. Has new v × (n ≡ line_of new v)) here (subst (λ us. Has us u) (sym grew) (has_term held u), sym one ∙ is ∙ sym (ap (λ us. line_of us u) grew ∙ line_term held u))
-        | inr no ↦
-            let found : numbers i ≡ Some n = rw no at k in
+        | inr apart ↦
+            let found : numbers i ≡ Some n = rw apart at k in
             let b = h i n found in
             let g = term_more held u in
             (subst (λ us. Has us t) (sym (grew ∙ g.1)) (has_more held g.0 t b.0), b.1 ∙ sym (ap (λ us. line_of us t) (grew ∙ g.1) ∙ line_more held g.0 t b.0))

@@ -43,7 +43,7 @@ loop-task-preserved c =
     let others = steps_of ts c.pop.new.self.items in
     let end = with_table_terms (held_terms c.args.self.now) (with_parts (shared_at ts c.args.line)) in
     let top : steps_of ts c.loop-task.tasks.items ≡ leave u ∷ others =
-    ap steps_of ts c.in-Some.ensures.items ∙ steps_last ts c.pop.new.self.items c.in-Some.task ∙ ap (λ k. task_step ts k ∷ others) c.in-Leave.is in
+    ap (steps_of ts) c.in-Some.ensures.items ∙ steps_last ts c.pop.new.self.items c.in-Some.task ∙ ap (λ k. task_step ts k ∷ others) c.in-Leave.is in
     let leads = subst (λ ks. Leads ks (held_terms c.loop-task.self) w.0 end (shared_at ts c.args.line)) top w.3 in
     let got = rw c.in-Some-2.is at c.in_ok-words-in-Leave.ensures in
     let walk = left_walk u others (held_terms c.loop-task.self) w.0 end (shared_at ts c.args.line) (reverse c.loop-task.numbers.items) w.1 w.2 leads (held_terms c.add_line.new.self) c.in-Some-2.words.items (reverse c.words_of.new.numbers.items) c.in_ok-number-in-Leave.number got c.in_ok-number-in-Leave.ensures.number c.in_ok-number-in-Leave.ensures.held in
