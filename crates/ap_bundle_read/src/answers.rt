@@ -7,7 +7,7 @@ ghost use Rattle.ap_bundle.specs.LineForms as lines;
 ghost use Rattle.ap_bundle.specs.Readers.{read_form, repeated};
 ghost use Rattle.ap_bundle.specs.Reading as spec;
 ghost use Rattle.ap_bundle_read.specs.Outcomes.{Gives, place_of};
-ghost use Rattle.ap_bundle_read.specs.Tables.{AreReady, reader_of};
+ghost use Rattle.ap_bundle_read.specs.Tables.{reader_of};
 
 use crate::derivations::read_derivation;
 use crate::error::ReadError;
@@ -129,7 +129,6 @@ fn read_binds<'a>(
     terms: &Terms,
     place: Place<'a>,
 ) -> Result<(Vec<Term>, Place<'a>), ReadError>
-    requires { AreReady terms.now }
     ensures { Gives (λ r. (map term_of r.0.items, place_of r.1)) result
         (spec.read_listed Head.Binds (reader_of terms.now) (place_of place.entry)) }
 {
@@ -144,7 +143,6 @@ fn read_answer<'a>(
     terms: &Terms,
     place: Place<'a>,
 ) -> Result<(Answer, Place<'a>), ReadError>
-    requires { AreReady terms.now }
     ensures { Gives (λ r. (answer_of r.0, place_of r.1)) result
         (spec.read_answer (reader_of terms.now) (place_of place.entry)) }
 {
@@ -181,7 +179,6 @@ fn read_proved<'a>(
     terms: &Terms,
     place: Place<'a>,
 ) -> Result<(Proved, Place<'a>), ReadError>
-    requires { AreReady terms.now }
     ensures { Gives (λ r. (proved_of r.0, place_of r.1)) result
         (spec.read_proved (reader_of terms.now) (place_of place.entry)) }
 {
@@ -205,7 +202,6 @@ fn read_each_proved<'a>(
     count: u64,
     place: Place<'a>,
 ) -> Result<(Vec<Proved>, Place<'a>), ReadError>
-    requires { AreReady terms.now }
     ensures { Gives (λ r. (map proved_of r.0.items, place_of r.1)) result
         (repeated (spec.read_proved (reader_of terms.now)) count (place_of place.entry)) }
 {
@@ -226,7 +222,6 @@ pub(crate) fn read_all<'a>(
     terms: &Terms,
     place: Place<'a>,
 ) -> Result<(Vec<Proved>, Place<'a>), ReadError>
-    requires { AreReady terms.now }
     ensures { Gives (λ r. (map proved_of r.0.items, place_of r.1)) result
         (spec.read_listed Head.Derivations (spec.read_proved (reader_of terms.now))
         (place_of place.entry)) }

@@ -8,7 +8,7 @@ ghost use Rattle.ap_bundle.specs.Readers.{repeated};
 ghost use Rattle.ap_bundle.specs.Reading as spec;
 ghost use Rattle.ap_bundle_read.specs.Nodes.{node_line_of, node_of};
 ghost use Rattle.ap_bundle_read.specs.Outcomes.{Gives, place_of};
-ghost use Rattle.ap_bundle_read.specs.Tables.{AreReady, reader_of};
+ghost use Rattle.ap_bundle_read.specs.Tables.{reader_of};
 
 use crate::error::ReadError;
 use crate::line_forms::{name_form, node_form};
@@ -90,7 +90,6 @@ pub(crate) fn read_terms<'a>(
     count: u64,
     place: Place<'a>,
 ) -> Result<(Vec<Term>, Place<'a>), ReadError>
-    requires { AreReady terms.now }
     ensures { Gives (λ r. (map term_of r.0.items, place_of r.1)) result
         (repeated (reader_of terms.now) count (place_of place.entry)) }
 {
@@ -114,7 +113,6 @@ fn read_atom<'a>(
     term_count: u64,
     place: Place<'a>,
 ) -> Result<(Node, Place<'a>), ReadError>
-    requires { AreReady terms.now }
     ensures { Gives (λ r. (node_of r.0, place_of r.1)) result
         (spec.read_atom (reader_of terms.now) clause name_count term_count (place_of place.entry)) }
 {
@@ -140,7 +138,6 @@ fn read_exists<'a>(
     terms: &Terms,
     place: Place<'a>,
 ) -> Result<(Node, Place<'a>), ReadError>
-    requires { AreReady terms.now }
     ensures { Gives (λ r. (node_of r.0, place_of r.1)) result
         (spec.read_exists (reader_of terms.now) (place_of place.entry)) }
 {
@@ -156,7 +153,6 @@ fn read_behind<'a>(
     line: NodeLine,
     place: Place<'a>,
 ) -> Result<(Node, Place<'a>), ReadError>
-    requires { AreReady terms.now }
     ensures { Gives (λ r. (node_of r.0, place_of r.1)) result
         (spec.read_behind (reader_of terms.now) (node_line_of line) (place_of place.entry)) }
 {
@@ -187,7 +183,6 @@ fn read_node<'a>(
     terms: &Terms,
     place: Place<'a>,
 ) -> Result<(Node, Place<'a>), ReadError>
-    requires { AreReady terms.now }
     ensures { Gives (λ r. (node_of r.0, place_of r.1)) result
         (spec.read_node (reader_of terms.now) (place_of place.entry)) }
 {
@@ -213,7 +208,6 @@ pub(crate) fn read_nodes<'a>(
     terms: &Terms,
     place: Place<'a>,
 ) -> Result<(Vec<Node>, Place<'a>), ReadError>
-    requires { AreReady terms.now }
     ensures { Gives (λ r. (map node_of r.0.items, place_of r.1)) result
         (spec.read_nodes (reader_of terms.now) (length place.entry.rest.now) 1
         (place_of place.entry)) }

@@ -5,7 +5,7 @@ ghost use Rattle.ap_bundle.specs.LineForms as lines;
 ghost use Rattle.ap_bundle.specs.Readers as readers;
 ghost use Rattle.ap_bundle.specs.Reading as spec;
 ghost use Rattle.ap_bundle_read.specs.Outcomes.{Answers, Gives, place_of};
-ghost use Rattle.ap_bundle_read.specs.Tables.{AreReady, reader_of};
+ghost use Rattle.ap_bundle_read.specs.Tables.{reader_of};
 
 use crate::answers::{read_all, read_count};
 use crate::error::{BundleError, ReadError};
@@ -90,7 +90,6 @@ fn read_last(alloc: Global, place: Place<'_>) -> Result<(), ReadError>
 /// What follows the text, and the table if there is one.
 #[tactic(auto, unfolding(ap_bundle::specs::Reading::read_rest))]
 fn read_rest(alloc: Global, terms: &Terms, place: Place<'_>) -> Result<Vec<Proved>, ReadError>
-    requires { AreReady terms.now }
     ensures { Gives (λ v. map proved_of v.items) result
         (spec.read_rest (reader_of terms.now) (place_of place.entry)) }
 {

@@ -7,18 +7,16 @@ use Rattle.std.specs.Prelude.{◌==◌, if◌then◌else◌, Some, None}
 use Rattle.ap_defs.specs.declared.goals.Local.{Local}
 use Rattle.ap_defs.specs.declared.terms.Name.{Name}
 use Rattle.ap_defs.specs.declared.terms.Var.{Var}
-use Rattle.ap_defs.specs.declared.terms.Term.{Term}
 use Rattle.ap_defs.specs.Answers.{kind_at}
 use Rattle.ap_defs.specs.Freshness.{var_eq}
 use Rattle.ap_defs.specs.GroundProofs.{name_for}
 use Rattle.ap_defs.specs.Permutations.{name_eq}
 use Rattle.ap_defs.specs.Renaming.{local_names, local_vars, name_unless, var_unless}
 use Rattle.ap_defs.specs.Resolution.{kinds_of}
-use Rattle.ap_defs.specs.Terms.{NominalTerm, term_of}
+use Rattle.ap_defs.specs.Terms.{NominalTerm}
 use Rattle.ap_defs.specs.Types as types
 use Rattle.ap_defs.specs.Types.{NominalConstructor, NominalKind, NominalType, local_of, locals_of}
 use Rattle.ap_defs.specs.Typing.{VarTypes, one}
-use Rattle.ap_checks.specs.OpenEnvironments.{open_term_for}
 use Rattle.ap_checks.specs.TypeTests.{has_kind, have_kinds, have_sorts, is_typed}
 use Rattle.ap_program.specs.FreeLocals as free
 use Rattle.ap_checker.specs.FreeLocals as free_types
@@ -84,9 +82,6 @@ module _ (ls : List Local) (i : ℕ) (l : Local) (h : i < length ls) (k : l ≡ 
   name_left : (s : ℕ) → free_sort (local_of l) ≡ Some s → local_names i (locals_of (drop i ls)) ≡ record { sort = s; num = i } ∷ local_names (i + 1) (locals_of (drop (i + 1) ls))
   name_left s e = names_take ls i l h s (ap (λ m. free_sort (local_of m)) (sym k) ∙ e)
 
-  var_left : is_free_var (local_of l) ≡ true → local_vars i (locals_of (drop i ls)) ≡ record { num = i } ∷ local_vars (i + 1) (locals_of (drop (i + 1) ls))
-  var_left e = vars_take ls i l h (ap (λ m. is_free_var (local_of m)) (sym k) ∙ e)
-
   pub name_found : (names : List Name) (place s : ℕ) (b d : Name) → free_sort (local_of l) ≡ Some s → place < length names → name_eq (record { sort = s; num = i }) b ≡ true
       → name_for (local_names i (locals_of (drop i ls))) (drop place names) b ≡ get_or names place d
   name_found names place s b d e m f =
@@ -99,14 +94,6 @@ module _ (ls : List Local) (i : ℕ) (l : Local) (h : i < length ls) (k : l ≡ 
       ap (λ as'. name_for as' (drop place names) b) (name_left s e) ∙ ap (λ cs. name_for (record { sort = s; num = i } ∷ local_names (i + 1) (locals_of (drop (i + 1) ls))) cs b) (drop-cons names place d m)
       ∙ ap (λ v. if v then get_or names place d else name_for (local_names (i + 1) (locals_of (drop (i + 1) ls))) (drop (suc place) names) b) f
       ∙ ap (λ n. name_for (local_names (i + 1) (locals_of (drop (i + 1) ls))) (drop n names) b) (sym (add-one place))
-
-  pub term_later : (ts : List Term) (place : ℕ) (x : Var) (d : Term) → is_free_var (local_of l) ≡ true → place < length ts → var_eq (record { num = i }) x ≡ false
-      → open_term_for (local_vars i (locals_of (drop i ls))) (map term_of (drop place ts)) x ≡ open_term_for (local_vars (i + 1) (locals_of (drop (i + 1) ls))) (map term_of (drop (place + 1) ts)) x
-  term_later ts place x d e m f =
-      ap (λ xs. open_term_for xs (map term_of (drop place ts)) x) (var_left e)
-      ∙ ap (λ us. open_term_for (record { num = i } ∷ local_vars (i + 1) (locals_of (drop (i + 1) ls))) (map term_of us) x) (drop-cons ts place d m)
-      ∙ ap (λ v. if v then term_of (get_or ts place d) else open_term_for (local_vars (i + 1) (locals_of (drop (i + 1) ls))) (map term_of (drop (suc place) ts)) x) f
-      ∙ ap (λ n. open_term_for (local_vars (i + 1) (locals_of (drop (i + 1) ls))) (map term_of (drop n ts)) x) (sym (add-one place))
 
 -- Sorts and types of what is left.
 no_type : (b : Bool) (k : NominalKind) (n : ℕ) (xs : List Var) → free_types.free_type_unless b k ≡ None → var_unless b k n xs ≡ xs
@@ -176,23 +163,24 @@ module _ (ls : List Local) (i : ℕ) (l : Local) (h : i < length ls) (k : l ≡ 
         (ap (local_vars i) (locals_left ls i l h ∙ ap (λ n. local_of n ∷ locals_of (drop (i + 1) ls)) (sym k)) ∙ no_type m.bound m.kind i (local_vars (suc i) (locals_of (drop (i + 1) ls))) e
         ∙ ap (λ n. local_vars n (locals_of (drop (i + 1) ls))) (sym (add-one i)))
 
-    pub kinds_short : (ts : List Term) (place : ℕ) (t : NominalType) → free_type (local_of l) ≡ Some t → length ts ≤ place → Kinds (local_vars i (locals_of (drop i ls))) (map term_of (drop place ts)) ≡ false
-    kinds_short ts place t e m = ap₂ Kinds (type_left t e).0 (ap (map term_of) (drop-past ts place m))
+    module _ {A : Type 0} (view : A → NominalTerm) where
+      pub kinds_short : (ts : List A) (place : ℕ) (t : NominalType) → free_type (local_of l) ≡ Some t → length ts ≤ place → Kinds (local_vars i (locals_of (drop i ls))) (map view (drop place ts)) ≡ false
+      kinds_short ts place t e m = ap₂ Kinds (type_left t e).0 (ap (map view) (drop-past ts place m))
 
-    kinds_split : (ts : List Term) (place : ℕ) (t : NominalType) (d : Term) → free_type (local_of l) ≡ Some t → place < length ts
-        → Kinds (local_vars i (locals_of (drop i ls))) (map term_of (drop place ts)) ≡ (is_typed cs vars (term_of (get_or ts place d)) (one t) && Kinds vars_then (map term_of (drop (suc place) ts)))
-    kinds_split ts place t d e m =
-        ap₂ Kinds (type_left t e).0 (ap (map term_of) (drop-cons ts place d m))
-        ∙ ap (λ o. has_kind cs vars o (term_of (get_or ts place d)) && Kinds vars_then (map term_of (drop (suc place) ts))) (type_left t e).1
+      kinds_split : (ts : List A) (place : ℕ) (t : NominalType) (d : A) → free_type (local_of l) ≡ Some t → place < length ts
+          → Kinds (local_vars i (locals_of (drop i ls))) (map view (drop place ts)) ≡ (is_typed cs vars (view (get_or ts place d)) (one t) && Kinds vars_then (map view (drop (suc place) ts)))
+      kinds_split ts place t d e m =
+          ap₂ Kinds (type_left t e).0 (ap (map view) (drop-cons ts place d m))
+          ∙ ap (λ o. has_kind cs vars o (view (get_or ts place d)) && Kinds vars_then (map view (drop (suc place) ts))) (type_left t e).1
 
-    pub kinds_other : (ts : List Term) (place : ℕ) (t : NominalType) (d : Term) → free_type (local_of l) ≡ Some t → place < length ts → is_typed cs vars (term_of (get_or ts place d)) (one t) ≡ false
-        → Kinds (local_vars i (locals_of (drop i ls))) (map term_of (drop place ts)) ≡ false
-    kinds_other ts place t d e m f = kinds_split ts place t d e m ∙ ap (λ v. v && Kinds vars_then (map term_of (drop (suc place) ts))) f
+      pub kinds_other : (ts : List A) (place : ℕ) (t : NominalType) (d : A) → free_type (local_of l) ≡ Some t → place < length ts → is_typed cs vars (view (get_or ts place d)) (one t) ≡ false
+          → Kinds (local_vars i (locals_of (drop i ls))) (map view (drop place ts)) ≡ false
+      kinds_other ts place t d e m f = kinds_split ts place t d e m ∙ ap (λ v. v && Kinds vars_then (map view (drop (suc place) ts))) f
 
-    pub kinds_next : (ts : List Term) (place : ℕ) (t : NominalType) (d : Term) → free_type (local_of l) ≡ Some t → place < length ts → is_typed cs vars (term_of (get_or ts place d)) (one t) ≡ true
-        → Kinds (local_vars i (locals_of (drop i ls))) (map term_of (drop place ts)) ≡ Kinds vars_then (map term_of (drop (place + 1) ts))
-    kinds_next ts place t d e m f =
-        kinds_split ts place t d e m ∙ ap (λ v. v && Kinds vars_then (map term_of (drop (suc place) ts))) f ∙ ap (λ n. Kinds vars_then (map term_of (drop n ts))) (sym (add-one place))
+      pub kinds_next : (ts : List A) (place : ℕ) (t : NominalType) (d : A) → free_type (local_of l) ≡ Some t → place < length ts → is_typed cs vars (view (get_or ts place d)) (one t) ≡ true
+          → Kinds (local_vars i (locals_of (drop i ls))) (map view (drop place ts)) ≡ Kinds vars_then (map view (drop (place + 1) ts))
+      kinds_next ts place t d e m f =
+          kinds_split ts place t d e m ∙ ap (λ v. v && Kinds vars_then (map view (drop (suc place) ts))) f ∙ ap (λ n. Kinds vars_then (map view (drop n ts))) (sym (add-one place))
 
 -- Nothing is left.
 zero_suc : (n : ℕ) → nat_eq 0 (suc n) ≡ false
@@ -211,16 +199,16 @@ pub sorts_end : (ls : List Local) (i : ℕ) (names : List Name) (place : ℕ) �
     → nat_eq place (length names) ≡ have_sorts (local_names i (locals_of (drop i ls))) (drop place names)
 sorts_end ls i names place h k = sorts_rest names place k ∙ ap (λ (ms : List Local). have_sorts (local_names i (locals_of ms)) (drop place names)) (sym (drop-past ls i h))
 
-module _ (cs : List NominalConstructor) (vars : VarTypes) (kinds : List NominalKind) where
-  kinds_rest : (ts : List Term) (place : ℕ) → place ≤ length ts → nat_eq place (length ts) ≡ have_kinds cs vars kinds [] (map term_of (drop place ts))
+module _ (cs : List NominalConstructor) (vars : VarTypes) (kinds : List NominalKind) {A : Type 0} (view : A → NominalTerm) where
+  kinds_rest : (ts : List A) (place : ℕ) → place ≤ length ts → nat_eq place (length ts) ≡ have_kinds cs vars kinds [] (map view (drop place ts))
   kinds_rest [] zero h = refl
   kinds_rest [] (suc n) h = absurd (omega arith)
   kinds_rest (t ∷ ts) zero h = zero_suc (length ts)
   kinds_rest (t ∷ ts) (suc n) h = eq_suc n (length ts) ∙ kinds_rest ts n (omega arith)
 
-  pub kinds_end : (ls : List Local) (i : ℕ) (ts : List Term) (place : ℕ) → length ls ≤ i → place ≤ length ts
-      → nat_eq place (length ts) ≡ have_kinds cs vars kinds (local_vars i (locals_of (drop i ls))) (map term_of (drop place ts))
-  kinds_end ls i ts place h k = kinds_rest ts place k ∙ ap (λ (ms : List Local). have_kinds cs vars kinds (local_vars i (locals_of ms)) (map term_of (drop place ts))) (sym (drop-past ls i h))
+  pub kinds_end : (ls : List Local) (i : ℕ) (ts : List A) (place : ℕ) → length ls ≤ i → place ≤ length ts
+      → nat_eq place (length ts) ≡ have_kinds cs vars kinds (local_vars i (locals_of (drop i ls))) (map view (drop place ts))
+  kinds_end ls i ts place h k = kinds_rest ts place k ∙ ap (λ (ms : List Local). have_kinds cs vars kinds (local_vars i (locals_of ms)) (map view (drop place ts))) (sym (drop-past ls i h))
 
 pub other_number : (x : Var) (i : ℕ) → (x.num ≡ i → ⊥) → var_eq (record { num = i }) x ≡ false
 other_number x i h = grind (arith, nat_tests)

@@ -5,14 +5,12 @@ use Rattle.std.proofs.lemmas.Bool.Decides.{nat_tests}
 use Rattle.std.specs.Prelude.{Some}
 use Rattle.ap_defs.specs.declared.goals.Local.{Local}
 use Rattle.ap_defs.specs.declared.terms.Name.{Name}
-use Rattle.ap_defs.specs.declared.terms.Term.{Term}
-use Rattle.ap_defs.specs.declared.terms.Term.TheVariants as terms
 use Rattle.ap_defs.specs.declared.terms.Var.{Var}
 use Rattle.ap_defs.specs.Freshness.{var_eq}
 use Rattle.ap_defs.specs.GroundProofs.{name_for}
 use Rattle.ap_defs.specs.Permutations.{name_eq}
 use Rattle.ap_defs.specs.Renaming.{local_names, local_vars, name_unless, var_unless}
-use Rattle.ap_defs.specs.Terms.{NominalTerm, term_of}
+use Rattle.ap_defs.specs.Terms.{NominalTerm, unit}
 use Rattle.ap_defs.specs.Types as types
 use Rattle.ap_defs.specs.Types.{NominalKind, NominalLocal, local_of, locals_of}
 use Rattle.ap_checks.specs.OpenEnvironments.{open_term_for}
@@ -30,6 +28,18 @@ get_or_none [] zero d h = refl
 get_or_none [] (suc n) d h = refl
 get_or_none (x ∷ xs) zero d h = absurd (omega arith)
 get_or_none (x ∷ xs) (suc n) d h = get_or_none xs n d (omega (arith, h))
+
+-- an item of a list of views
+pub get_or_view : {A B : Type 0} (view : A → B) (xs : List A) (n : ℕ) (d : A) (e : B) → n < length xs → get_or (map view xs) n e ≡ view (get_or xs n d)
+get_or_view view [] n d e h = absurd (omega arith)
+get_or_view view (x ∷ xs) zero d e h = refl
+get_or_view view (x ∷ xs) (suc n) d e h = get_or_view view xs n d e (omega (arith, h))
+
+pub get_or_no_view : {A B : Type 0} (view : A → B) (xs : List A) (n : ℕ) (e : B) → length xs ≤ n → get_or (map view xs) n e ≡ e
+get_or_no_view view [] zero e h = refl
+get_or_no_view view [] (suc n) e h = refl
+get_or_no_view view (x ∷ xs) zero e h = absurd (omega arith)
+get_or_no_view view (x ∷ xs) (suc n) e h = get_or_no_view view xs n e (omega (arith, h))
 
 pub length_locals : (ls : List Local) → length (locals_of ls) ≡ length ls
 length_locals [] = refl
@@ -134,21 +144,21 @@ name_past (l ∷ ls) m names c h =
 
 -- FREE VARIABLES
 
-no_terms_given : (xs : List Var) (y : Var) → open_term_for xs [] y ≡ term_of terms.Unit
+no_terms_given : (xs : List Var) (y : Var) → open_term_for xs [] y ≡ unit
 no_terms_given [] y = refl
 no_terms_given (x ∷ xs) y = refl
 
-var_met : (x y : Var) (xs : List Var) (ts : List Term) (n : ℕ) → var_eq x y ≡ true → open_term_for (x ∷ xs) (map term_of (drop n ts)) y ≡ term_of (get_or ts n terms.Unit)
+var_met : (x y : Var) (xs : List Var) (us : List NominalTerm) (n : ℕ) → var_eq x y ≡ true → open_term_for (x ∷ xs) (drop n us) y ≡ get_or us n unit
 var_met x y xs [] zero h = refl
 var_met x y xs [] (suc n) h = refl
-var_met x y xs (t ∷ ts) zero h = ap (λ v. if v then term_of t else open_term_for xs (map term_of ts) y) h
-var_met x y xs (t ∷ ts) (suc n) h = var_met x y xs ts n h
+var_met x y xs (u ∷ us) zero h = ap (λ v. if v then u else open_term_for xs us y) h
+var_met x y xs (u ∷ us) (suc n) h = var_met x y xs us n h
 
-var_passed : (x y : Var) (xs : List Var) (ts : List Term) (n : ℕ) → var_eq x y ≡ false → open_term_for (x ∷ xs) (map term_of (drop n ts)) y ≡ open_term_for xs (map term_of (drop (suc n) ts)) y
+var_passed : (x y : Var) (xs : List Var) (us : List NominalTerm) (n : ℕ) → var_eq x y ≡ false → open_term_for (x ∷ xs) (drop n us) y ≡ open_term_for xs (drop (suc n) us) y
 var_passed x y xs [] zero h = sym (no_terms_given xs y)
 var_passed x y xs [] (suc n) h = sym (no_terms_given xs y)
-var_passed x y xs (t ∷ ts) zero h = ap (λ v. if v then term_of t else open_term_for xs (map term_of ts) y) h
-var_passed x y xs (t ∷ ts) (suc n) h = var_passed x y xs ts n h
+var_passed x y xs (u ∷ us) zero h = ap (λ v. if v then u else open_term_for xs us y) h
+var_passed x y xs (u ∷ us) (suc n) h = var_passed x y xs us n h
 
 other_var : (m : ℕ) (y : Var) → m < y.num → var_eq (record { num = m }) y ≡ false
 other_var m y h = grind (arith, nat_tests)
@@ -159,44 +169,44 @@ same_var m y h = grind (arith, nat_tests)
 lower_var : (m : ℕ) (y : Var) → y.num < m → var_eq (record { num = m }) y ≡ false
 lower_var m y h = grind (arith, nat_tests)
 
-vars_pass : (b : Bool) (k : NominalKind) (m v : ℕ) (xs : List Var) (ts : List Term) (y : Var) → m < y.num
-    → open_term_for (var_unless b k m xs) (map term_of (drop v ts)) y ≡ open_term_for xs (map term_of (drop (if free.var_when b k then suc v else v) ts)) y
-vars_pass true k m v xs ts y h = refl
-vars_pass false (types.name s) m v xs ts y h = refl
-vars_pass false (types.var t) m v xs ts y h = var_passed (record { num = m }) y xs ts v (other_var m y h)
+vars_pass : (b : Bool) (k : NominalKind) (m v : ℕ) (xs : List Var) (us : List NominalTerm) (y : Var) → m < y.num
+    → open_term_for (var_unless b k m xs) (drop v us) y ≡ open_term_for xs (drop (if free.var_when b k then suc v else v) us) y
+vars_pass true k m v xs us y h = refl
+vars_pass false (types.name s) m v xs us y h = refl
+vars_pass false (types.var t) m v xs us y h = var_passed (record { num = m }) y xs us v (other_var m y h)
 
-var_here : (b : Bool) (k : NominalKind) (m n v : ℕ) (xs : List Var) (ts : List Term) (ps qs : List ℕ) (y : Var) → y.num ≡ m → free.var_when b k ≡ true
-    → open_term_for (var_unless b k m xs) (map term_of (drop v ts)) y ≡ term_of (get_or ts (get_or (if free.var_when b k then (v ∷ ps) else (n ∷ qs)) 0 0) terms.Unit)
-var_here true k m n v xs ts ps qs y e f = absurd (cc)
-var_here false (types.name s) m n v xs ts ps qs y e f = absurd (cc)
-var_here false (types.var t) m n v xs ts ps qs y e f = var_met (record { num = m }) y xs ts v (same_var m y e)
+var_here : (b : Bool) (k : NominalKind) (m n v : ℕ) (xs : List Var) (us : List NominalTerm) (ps qs : List ℕ) (y : Var) → y.num ≡ m → free.var_when b k ≡ true
+    → open_term_for (var_unless b k m xs) (drop v us) y ≡ get_or us (get_or (if free.var_when b k then (v ∷ ps) else (n ∷ qs)) 0 0) unit
+var_here true k m n v xs us ps qs y e f = absurd (cc)
+var_here false (types.name s) m n v xs us ps qs y e f = absurd (cc)
+var_here false (types.var t) m n v xs us ps qs y e f = var_met (record { num = m }) y xs us v (same_var m y e)
 
-pub var_at : (ls : List Local) (m n v j : ℕ) (ts : List Term) (y : Var) (d : Local) → y.num ≡ m + j → j < length ls → is_free_var (local_of (get_or ls j d)) ≡ true
-    → open_term_for (local_vars m (locals_of ls)) (map term_of (drop v ts)) y ≡ term_of (get_or ts (get_or (places_from n v (locals_of ls)) j 0) terms.Unit)
-var_at [] m n v j ts y d e h f = absurd (omega arith)
-var_at (l ∷ ls) m n v zero ts y d e h f =
+pub var_at : (ls : List Local) (m n v j : ℕ) (us : List NominalTerm) (y : Var) (d : Local) → y.num ≡ m + j → j < length ls → is_free_var (local_of (get_or ls j d)) ≡ true
+    → open_term_for (local_vars m (locals_of ls)) (drop v us) y ≡ get_or us (get_or (places_from n v (locals_of ls)) j 0) unit
+var_at [] m n v j us y d e h f = absurd (omega arith)
+var_at (l ∷ ls) m n v zero us y d e h f =
     let k = local_of l in
-    var_here k.bound k.kind m n v (local_vars (suc m) (locals_of ls)) ts (places_from n (suc v) (locals_of ls)) (places_from (next_if (free_sort k) n) v (locals_of ls)) y (omega (arith, e)) f
-var_at (l ∷ ls) m n v (suc j) ts y d e h f =
+    var_here k.bound k.kind m n v (local_vars (suc m) (locals_of ls)) us (places_from n (suc v) (locals_of ls)) (places_from (next_if (free_sort k) n) v (locals_of ls)) y (omega (arith, e)) f
+var_at (l ∷ ls) m n v (suc j) us y d e h f =
     let k = local_of l in
-    vars_pass k.bound k.kind m v (local_vars (suc m) (locals_of ls)) ts y (omega (arith, e))
-    ∙ var_at ls (suc m) (next_if (free_sort k) n) (if is_free_var k then suc v else v) j ts y d (omega (arith, e)) (omega (arith, h)) f
-    ∙ ap (λ i. term_of (get_or ts i terms.Unit)) (sym (place_next k.bound k.kind n v j (locals_of ls)))
+    vars_pass k.bound k.kind m v (local_vars (suc m) (locals_of ls)) us y (omega (arith, e))
+    ∙ var_at ls (suc m) (next_if (free_sort k) n) (if is_free_var k then suc v else v) j us y d (omega (arith, e)) (omega (arith, h)) f
+    ∙ ap (λ i. get_or us i unit) (sym (place_next k.bound k.kind n v j (locals_of ls)))
 
 var_apart_by : (b : Bool) (k : NominalKind) (m : ℕ) (xs : List Var) (ts : List NominalTerm) (y : Var) → (free.var_when b k ≡ true → var_eq (record { num = m }) y ≡ false)
-    → ((us : List NominalTerm) → open_term_for xs us y ≡ term_of terms.Unit) → open_term_for (var_unless b k m xs) ts y ≡ term_of terms.Unit
+    → ((us : List NominalTerm) → open_term_for xs us y ≡ unit) → open_term_for (var_unless b k m xs) ts y ≡ unit
 var_apart_by true k m xs ts y h rest = rest ts
 var_apart_by false (types.name s) m xs ts y h rest = rest ts
 var_apart_by false (types.var t) m xs [] y h rest = refl
 var_apart_by false (types.var t) m xs (u ∷ us) y h rest = ap (λ v. if v then u else open_term_for xs us y) (h refl) ∙ rest us
 
-var_below : (ls : List NominalLocal) (m : ℕ) (ts : List NominalTerm) (y : Var) → y.num < m → open_term_for (local_vars m ls) ts y ≡ term_of terms.Unit
+var_below : (ls : List NominalLocal) (m : ℕ) (ts : List NominalTerm) (y : Var) → y.num < m → open_term_for (local_vars m ls) ts y ≡ unit
 var_below [] m ts y h = refl
 var_below (l ∷ ls) m ts y h =
     var_apart_by l.bound l.kind m (local_vars (suc m) ls) ts y (λ e. lower_var m y h) (λ us. var_below ls (suc m) us y (omega (arith, h)))
 
 pub var_absent : (ls : List Local) (m j : ℕ) (ts : List NominalTerm) (y : Var) (d : Local) → y.num ≡ m + j → (j < length ls → is_free_var (local_of (get_or ls j d)) ≡ false)
-    → open_term_for (local_vars m (locals_of ls)) ts y ≡ term_of terms.Unit
+    → open_term_for (local_vars m (locals_of ls)) ts y ≡ unit
 var_absent [] m j ts y d e h = refl
 var_absent (l ∷ ls) m zero ts y d e h =
     let k = local_of l in
@@ -207,7 +217,7 @@ var_absent (l ∷ ls) m (suc j) ts y d e h =
     var_apart_by k.bound k.kind m (local_vars (suc m) (locals_of ls)) ts y (λ f. other_var m y (omega (arith, e)))
     (λ us. var_absent ls (suc m) j us y d (omega (arith, e)) (λ l. h (omega (arith, l))))
 
-pub var_past : (ls : List Local) (m : ℕ) (ts : List NominalTerm) (y : Var) → m + length ls ≤ y.num → open_term_for (local_vars m (locals_of ls)) ts y ≡ term_of terms.Unit
+pub var_past : (ls : List Local) (m : ℕ) (ts : List NominalTerm) (y : Var) → m + length ls ≤ y.num → open_term_for (local_vars m (locals_of ls)) ts y ≡ unit
 var_past [] m ts y h = refl
 var_past (l ∷ ls) m ts y h =
     let k = local_of l in

@@ -1,9 +1,7 @@
 -- Looking back through what stands for identifiers.
-use Rattle.std.proofs.Common.{◌≡◌, ◌<◌, ◌+◌, ℕ, true, false, List, [], ◌∷◌, ◌++◌, length, get_or, take, refl, sym, ap, ◌∙◌, add-one}
+use Rattle.std.proofs.Common.{◌≡◌, ◌<◌, ◌+◌, ℕ, Bool, true, false, List, [], ◌∷◌, ◌++◌, length, get_or, take, refl, sym, ap, ◌∙◌, add-one}
 use Rattle.std.proofs.Math.Seq.{take-suc}
-use denote.Ref.{Bor}
 use Rattle.std.specs.Prelude.{if◌then◌else◌, MatchOption, Option, Some, None}
-use Rattle.ap_defs.specs.declared.terms.Term.{Term}
 use Rattle.ap_defs.specs.declared.terms.Name.{Name}
 use Rattle.ap_defs.specs.declared.terms.Var.{Var}
 use Rattle.ap_defs.specs.Freshness.{var_eq}
@@ -41,12 +39,20 @@ name_kept (code.Name a d) e b h =
     elim (name_eq a b) as (λ v. (if v then Some d else None) ≡ None → (if v then d else e.names b) ≡ e.names b) [ true ↦ λ k. cc | false ↦ λ k. refl ] h
 name_kept (code.Term x t) e b h = refl
 
+brought : (b : Bool) (u t other : NominalTerm) → (if b then Some u else None) ≡ Some t → (if b then u else other) ≡ t
+brought true u t other h = cc
+brought false u t other h = cc
+
+not_brought : (b : Bool) (u other : NominalTerm) → (if b then Some u else None) ≡ None → (if b then u else other) ≡ other
+not_brought true u other h = cc
+not_brought false u other h = refl
+
 term_taken : (s : Standing) (e : OpenEnvironment) (x : Var) (t : NominalTerm) → term_brought s x ≡ Some t → (environment_with s e).terms x ≡ t
 term_taken (code.Query ls ts) e x t h = cc
 term_taken (code.Clause ls names ts) e x t h = cc
 term_taken (code.Name a c) e x t h = cc
 term_taken (code.Term y u) e x t h =
-    elim (var_eq y x) as (λ v. (if v then Some (term_of u.now) else None) ≡ Some t → (if v then term_of u.now else e.terms x) ≡ t) [ true ↦ λ k. cc | false ↦ λ k. cc ] h
+    brought (var_eq y x) (term_of u.now) t (e.terms x) h
 
 item_taken : (s : Standing) (e : OpenEnvironment) (x : Var) (t : NominalTerm) → item_term s x ≡ Some t → (environment_with s e).terms x ≡ t
 item_taken (code.Query ls us) e x t h = cc
@@ -59,7 +65,7 @@ term_kept (code.Query ls ts) e x h k = cc
 term_kept (code.Clause ls names ts) e x h k = cc
 term_kept (code.Name a c) e x h k = refl
 term_kept (code.Term y u) e x h k =
-    elim (var_eq y x) as (λ v. (if v then Some (term_of u.now) else None) ≡ None → (if v then term_of u.now else e.terms x) ≡ e.terms x) [ true ↦ λ m. cc | false ↦ λ m. refl ] h
+    not_brought (var_eq y x) (term_of u.now) (e.terms x) h
 
 module _ (ss : List Standing) (i j : ℕ) (s : Standing) (e : OpenEnvironment) (l : i ≡ j + 1) (h : j < length ss) (k : s ≡ get_or ss j s) where
   with_last : environment_from (take i ss) e ≡ environment_with s (environment_from (take j ss) e)
@@ -79,10 +85,10 @@ module _ (ss : List Standing) (i j : ℕ) (s : Standing) (e : OpenEnvironment) (
   item_there : (x : Var) (t : NominalTerm) → item_term s x ≡ Some t → (environment_from (take i ss) e).terms x ≡ t
   item_there x t f = ap (λ (z : OpenEnvironment). z.terms x) with_last ∙ item_taken s (environment_from (take j ss) e) x t f
 
-  pub item_here : (x : Var) (o : Option (Bor Term)) → MatchOption o (item_term s x ≡ Some unit) (λ t. item_term s x ≡ Some (term_of t.now))
-      → MatchOption o ((environment_from (take i ss) e).terms x ≡ unit) (λ t. (environment_from (take i ss) e).terms x ≡ term_of t.now)
-  item_here x None h = item_there x unit h
-  item_here x (Some t) h = item_there x (term_of t.now) h
+  pub item_here : {A : Type 0} (view : A → NominalTerm) (x : Var) (o : Option A) → MatchOption o (item_term s x ≡ Some unit) (λ t. item_term s x ≡ Some (view t))
+      → MatchOption o ((environment_from (take i ss) e).terms x ≡ unit) (λ t. (environment_from (take i ss) e).terms x ≡ view t)
+  item_here view x None h = item_there x unit h
+  item_here view x (Some t) h = item_there x (view t) h
 
   pub term_further : (x : Var) → term_brought s x ≡ None → item_term s x ≡ None → (environment_from (take j ss) e).terms x ≡ (environment_from (take i ss) e).terms x
   term_further x f g = sym (ap (λ (z : OpenEnvironment). z.terms x) with_last ∙ term_kept s (environment_from (take j ss) e) x f g)

@@ -16,11 +16,11 @@ returns-then-place-terms c =
     let t = type_of c.in-Some.ty.now in
     elim c.then-place-terms.branch [
       | then-place-terms-via-then-place-terms w ↦
-          sym (kinds_short c.args.locals.now c.loop-i.i c.index-locals-i.result (omega arith) c.index-locals-i.is cs vars c.args.terms.now c.loop-i.place t c.in-Some.ensures (omega arith))
+          sym (kinds_short c.args.locals.now c.loop-i.i c.index-locals-i.result (omega arith) c.index-locals-i.is cs vars term_of c.args.terms.now c.loop-i.place t c.in-Some.ensures (omega arith))
           ∙ c.loop-i.invariant.same
       | then-place-terms-via-else-place-terms+in_ok-has_type+then-not-branch w ↦
           let u = w.index-terms-place.result in
-          sym (kinds_other c.args.locals.now c.loop-i.i c.index-locals-i.result (omega arith) c.index-locals-i.is cs vars c.args.terms.now c.loop-i.place t u c.in-Some.ensures (omega arith)
+          sym (kinds_other c.args.locals.now c.loop-i.i c.index-locals-i.result (omega arith) c.index-locals-i.is cs vars term_of c.args.terms.now c.loop-i.place t u c.in-Some.ensures (omega arith)
           (ap (λ v. is_typed cs vars (term_of v) (one t)) (sym w.index-terms-place.is) ∙ sym w.in_ok-has_type.ensures ∙ w.if-not-branch.true))
           ∙ c.loop-i.invariant.same
     ]
@@ -33,7 +33,7 @@ loop-i-preserved c =
     let u = c.index-terms-place.result in
     record {
       same =
-          sym (kinds_next c.args.locals.now c.loop-i.i c.index-locals-i.result (omega arith) c.index-locals-i.is cs vars c.args.terms.now c.loop-i.place t u c.in-Some.ensures (omega arith)
+          sym (kinds_next c.args.locals.now c.loop-i.i c.index-locals-i.result (omega arith) c.index-locals-i.is cs vars term_of c.args.terms.now c.loop-i.place t u c.in-Some.ensures (omega arith)
           (ap (λ v. is_typed cs vars (term_of v) (one t)) (sym c.index-terms-place.is) ∙ sym c.in_ok-has_type.ensures ∙ c.if-not-branch.false))
           ∙ c.loop-i.invariant.same;
       within = omega arith;
@@ -41,5 +41,5 @@ loop-i-preserved c =
 
 pub returns : goal.returns
 returns c =
-    kinds_end (map constructor_of c.args.constructors.now) (type_beside (map typed_var_of c.args.answer.now.vars)) (kinds_of (locals_of c.args.locals.now)) c.args.locals.now c.loop-i.i c.args.terms.now c.loop-i.place (omega arith) (omega arith)
+    kinds_end (map constructor_of c.args.constructors.now) (type_beside (map typed_var_of c.args.answer.now.vars)) (kinds_of (locals_of c.args.locals.now)) term_of c.args.locals.now c.loop-i.i c.args.terms.now c.loop-i.place (omega arith) (omega arith)
     ∙ c.loop-i.invariant.same

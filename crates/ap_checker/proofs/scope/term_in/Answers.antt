@@ -17,4 +17,4 @@ loop-i-preserved c =
 pub returns-in-Some-item_term_at : goal.returns-in-Some-item_term_at
 returns-in-Some-item_term_at c =
     subst (λ (u : NominalTerm). MatchOption c.in-Some-item_term_at.found (u ≡ unit) (λ t. u ≡ term_of t.now)) c.loop-i.invariant
-    (item_here c.args.scope.now c.loop-i.i (c.loop-i.i - 1) c.index-scope-i.result nothing_put (omega arith) (omega arith) c.index-scope-i.is c.args.x c.in-Some-item_term_at.found c.in-Some-item_term_at.ensures)
+    (item_here c.args.scope.now c.loop-i.i (c.loop-i.i - 1) c.index-scope-i.result nothing_put (omega arith) (omega arith) c.index-scope-i.is (λ t. term_of t.now) c.args.x c.in-Some-item_term_at.found c.in-Some-item_term_at.ensures)
