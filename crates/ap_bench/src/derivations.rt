@@ -20,7 +20,7 @@ use ap_program::restricted::Restricted;
 use ap_replay::replay::at;
 use ap_shared::arena::SharedTerms;
 use ap_shared::derivations::{SharedBundle, SharedProved};
-use ap_shared::sharing::share_answer;
+use ap_shared::sharing::{share_answer, shared};
 use ap_text::program_of_text;
 use std::alloc::{AllocError, Global};
 use std::rc::Rc;
@@ -133,7 +133,16 @@ fn read(alloc: Global, program: &Restricted) -> Result<Bundle, Memory> {
 fn checked(alloc: Global, program: &Restricted, bundle: &Bundle) -> Result<usize, Memory> {
     let mut count: usize = 0;
     for it in bundle.proved.items() {
-        let verdict = verify(alloc, program, it.query, &it.answer, &it.derivation)?;
+        let found = shared(alloc, it)?;
+        let terms = found.terms.as_ref();
+        let verdict = verify(
+            alloc,
+            program,
+            found.query,
+            terms,
+            &found.answer,
+            &found.derivation,
+        )?;
         if verdict == Verdict::Yes {
             count = count.saturating_add(1);
         }

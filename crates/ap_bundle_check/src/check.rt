@@ -19,6 +19,7 @@ use ap_defs::memory::Memory;
 use ap_defs::outcomes::{Bundle, Proved, Verdict};
 use ap_program::restricted::Restricted;
 use ap_report::{Report, fault_report};
+use ap_shared::sharing::shared;
 use ap_text::{TextError, program_of_text};
 use std::alloc::Global;
 
@@ -27,8 +28,9 @@ fn verdict_on(alloc: Global, program: &Restricted, proved: &Proved) -> Result<Ve
     ensures { IfOk result (λ v. verdict_said v
         ≡ verdict_on_proved (program_of program.now) (proved_of proved.now)) }
 {
-    let answer = &proved.answer;
-    verify(alloc, program, proved.query, answer, &proved.derivation)
+    let found = shared(alloc, proved)?;
+    let terms = found.terms.as_ref();
+    verify(alloc, program, found.query, terms, &found.answer, &found.derivation)
 }
 
 /// The first derivation that is refused.

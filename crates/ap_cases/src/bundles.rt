@@ -14,7 +14,7 @@ use ap_defs::memory::Memory;
 use ap_defs::outcomes::{Bundle, Proved, Verdict};
 use ap_program::restricted::Restricted;
 use ap_shared::derivations::SharedBundle;
-use ap_shared::sharing::share_bundle;
+use ap_shared::sharing::{share_bundle, shared};
 use std::alloc::{AllocError, Global};
 use std::fs::Files;
 use std::sync::Wait;
@@ -23,12 +23,14 @@ use std::{fs, io};
 
 /// The verdict on a derivation that a bundle has.
 pub fn verdict_on(alloc: Global, program: &Restricted, proved: &Proved) -> Result<Verdict, Memory> {
+    let found = shared(alloc, proved)?;
     verify(
         alloc,
         program,
-        proved.query,
-        &proved.answer,
-        &proved.derivation,
+        found.query,
+        found.terms.as_ref(),
+        &found.answer,
+        &found.derivation,
     )
 }
 

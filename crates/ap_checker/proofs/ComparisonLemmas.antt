@@ -9,7 +9,14 @@ use Rattle.ap_defs.specs.Terms.{NominalTerm, abs, app, name, pair, unit}
 use Rattle.ap_defs.specs.Unification.{size}
 use Rattle.ap_theory.proofs.PermutationLemmas.{same_name_parts}
 use Rattle.ap_theory.proofs.TermLemmas.{act_term_none, size_pos}
+use Rattle.ap_theory.proofs.UnderLemmas.{alpha_under_itself}
+use Rattle.std.specs.Prelude.{reverse}
+use Rattle.ap_checker.specs.declared.equality.Compared.{Compared}
 use Rattle.ap_checker.specs.Binders.{mean_same, within_left, within_right}
+use Rattle.ap_checker.specs.Closures.{scoped_term}
+use Rattle.ap_checker.specs.Comparisons.{are_alike, compared_size, mark_of}
+use Rattle.ap_checker.specs.Stacks.{AreWithin, IsTestedThere, all_waiting}
+use Rattle.ap_checker.proofs.StackLemmas.{left_none}
 use Rattle.ap_checker.proofs.BinderLemmas.{alike_from, app_alike, known_alike, left_last, names_alike, pair_alike, right_last, shape, shapes_alike, sorts_alike, unit_alike}
 
 module _ (ds : Conds) (ss : List Swap) where
@@ -59,3 +66,28 @@ in_front_more ss i j d before after s h e k put =
 
 pub some_size : (t : NominalTerm) → 0 < size t
 some_size t = let least = size_pos t in omega (arith, least)
+
+none_there : (ss : List Swap) → length ss ≡ 0 → ss ≡ []
+none_there [] e = refl
+none_there (s ∷ ss) e = absurd (omega (arith, e))
+
+-- two that are one term, round which no binders stand
+pub same_tested : (ds : Conds) (c : Compared) (bs : List Swap) (ps : List Compared) → AreWithin mark_of (length bs) (reverse ps) → length bs ≡ 0 → scoped_term c.left ≡ scoped_term c.right
+    → IsTestedThere mark_of (are_alike ds) compared_size c bs ps bs ps true
+same_tested ds c bs ps within none same =
+    let t = scoped_term c.left in
+    let equal : are_alike ds bs c ≡ true = ap (λ (ss : List Swap). are_alike ds ss c) (none_there bs none) ∙ ap (alpha_under ds t) (sym same) ∙ alpha_under_itself ds t in
+    left_none mark_of (are_alike ds) compared_size c bs ps within equal (some_size t)
+
+-- one was tested as another that stands for the same terms
+pub tested_as : (ds : Conds) (c d : Compared) (bs cs : List Swap) (before after : List Compared) (yes : Bool) → scoped_term d.left ≡ scoped_term c.left → scoped_term d.right ≡ scoped_term c.right
+    → IsTestedThere mark_of (are_alike ds) compared_size d bs before cs after yes → IsTestedThere mark_of (are_alike ds) compared_size c bs before cs after yes
+tested_as ds c d bs cs before after true l r h =
+    let same : are_alike ds bs d ≡ are_alike ds bs c = ap₂ (λ t u. alpha_under ds (within_left bs t) (within_right bs u)) l r in
+    let sizes : compared_size d ≡ compared_size c = ap size l in
+    record {
+      all = h.all ∙ ap (λ b. b && all_waiting mark_of (are_alike ds) bs (reverse before)) same;
+      within = h.within;
+      less = omega (arith, h.less, sizes);
+    }
+tested_as ds c d bs cs before after false l r h = sym (ap₂ (λ t u. alpha_under ds (within_left bs t) (within_right bs u)) l r) ∙ h

@@ -4,6 +4,7 @@ pub mod BinderLemmas
 pub mod SettledLemmas
 pub mod LatestLemmas
 pub mod TypeLemmas
+pub mod TypingLemmas
 pub mod LocalLemmas
 pub mod PlaceLemmas
 pub mod ScopeLemmas
@@ -13,6 +14,7 @@ pub mod NewNameLemmas
 pub mod AnswerLemmas
 pub mod ClauseLemmas
 pub mod WalkLemmas
+pub mod TableLemmas
 pub mod StackLemmas
 pub mod IndexLemmas
 pub mod ComparisonLemmas

@@ -8,10 +8,11 @@ use Rattle.ap_defs.specs.Freshness.{var_eq}
 use Rattle.ap_defs.specs.GroundProofs.{name_for}
 use Rattle.ap_defs.specs.Permutations.{name_eq}
 use Rattle.ap_defs.specs.Renaming.{local_names}
-use Rattle.ap_defs.specs.Terms.{NominalTerm, term_of, unit}
+use Rattle.ap_defs.specs.Terms.{NominalTerm, unit}
 use Rattle.ap_defs.specs.Types.{locals_of}
 use Rattle.ap_theory.proofs.PermutationLemmas.{name_eq_same}
 use Rattle.ap_checks.specs.OpenEnvironments.{OpenEnvironment}
+use Rattle.ap_checker.specs.Cited.{cited_term}
 use Rattle.ap_checker.specs.declared.scope.Standing.{Standing}
 use Rattle.ap_checker.specs.declared.scope.Standing.TheVariants as code
 use Rattle.ap_checker.specs.Scopes.{environment_from, environment_with, item_term, name_stood, term_brought}
@@ -52,7 +53,7 @@ term_taken (code.Query ls ts) e x t h = cc
 term_taken (code.Clause ls names ts) e x t h = cc
 term_taken (code.Name a c) e x t h = cc
 term_taken (code.Term y u) e x t h =
-    brought (var_eq y x) (term_of u.now) t (e.terms x) h
+    brought (var_eq y x) (cited_term u) t (e.terms x) h
 
 item_taken : (s : Standing) (e : OpenEnvironment) (x : Var) (t : NominalTerm) → item_term s x ≡ Some t → (environment_with s e).terms x ≡ t
 item_taken (code.Query ls us) e x t h = cc
@@ -65,7 +66,7 @@ term_kept (code.Query ls ts) e x h k = cc
 term_kept (code.Clause ls names ts) e x h k = cc
 term_kept (code.Name a c) e x h k = refl
 term_kept (code.Term y u) e x h k =
-    not_brought (var_eq y x) (term_of u.now) (e.terms x) h
+    not_brought (var_eq y x) (cited_term u) (e.terms x) h
 
 module _ (ss : List Standing) (i j : ℕ) (s : Standing) (e : OpenEnvironment) (l : i ≡ j + 1) (h : j < length ss) (k : s ≡ get_or ss j s) where
   with_last : environment_from (take i ss) e ≡ environment_with s (environment_from (take j ss) e)

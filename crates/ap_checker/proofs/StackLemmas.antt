@@ -6,11 +6,11 @@ use Rattle.std.proofs.lemmas.List.Sums.{sum_by-append}
 use Rattle.std.specs.List.{list_all, sum_by}
 use Rattle.ap_checker.specs.Stacks.{AreWithin, IsReplaced, IsReplacedThere, IsTested, IsTestedThere, all_waiting}
 
-and_true : (x : Bool) → (x && true) ≡ x
+pub and_true : (x : Bool) → (x && true) ≡ x
 and_true true = refl
 and_true false = refl
 
-and_turned : (x y : Bool) → (x && y) ≡ (y && x)
+pub and_turned : (x y : Bool) → (x && y) ≡ (y && x)
 and_turned true true = refl
 and_turned true false = refl
 and_turned false true = refl

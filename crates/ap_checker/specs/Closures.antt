@@ -3,6 +3,7 @@ use Rattle.std.specs.Prelude.{List, map}
 use Rattle.ap_defs.specs.Terms as terms
 use Rattle.ap_defs.specs.Terms.{NominalTerm, act_term, term_of}
 use Rattle.ap_checks.specs.OpenEnvironments.{put_in}
+use Rattle.ap_checker.specs.Cited.{cited_term}
 use Rattle.ap_checker.specs.declared.closures.Head.{Head}
 use Rattle.ap_checker.specs.declared.closures.Head.TheVariants as heads
 use Rattle.ap_checker.specs.declared.closures.Closure.{Closure}
@@ -11,9 +12,9 @@ use Rattle.ap_checker.specs.declared.closures.ScopedTerms.{ScopedTerms}
 use Rattle.ap_checker.specs.Scopes.{environment_of}
 
 abbrev pub scoped_term : Closure → NominalTerm
-scoped_term (code.Whole t) = term_of t.now
+scoped_term (code.Whole t) = cited_term t
 scoped_term (code.Within scope t) = put_in (environment_of scope.standing.now) (term_of t.now)
-scoped_term (code.Moved p t) = act_term p.value.items (term_of t.now)
+scoped_term (code.Moved p t) = act_term p.value.items (cited_term t)
 
 abbrev pub scoped_terms : ScopedTerms → List NominalTerm
 scoped_terms p = map (put_in (environment_of p.scope.standing.now)) (map term_of p.terms.now)

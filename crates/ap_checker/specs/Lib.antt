@@ -1,8 +1,11 @@
 pub mod Wanted
+pub mod Typings
 pub mod FreeLocals
 pub mod Places
+pub mod Cited
 pub mod Scopes
 pub mod Closures
+pub mod Tables
 pub mod Rules
 pub mod Walks
 pub mod Indexes

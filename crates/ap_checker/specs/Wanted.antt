@@ -1,13 +1,16 @@
 -- What an application's argument is to be: of the program's values, and of the parts of a pair and the argument of an application.
-use Rattle.std.specs.Prelude.{ℕ, zero, suc, ◌+◌, Bool, ◌==◌, if◌then◌else◌, List, map, Option, Some, None}
+use Rattle.std.specs.Prelude.{◌≡◌, ◌<◌, ◌&&◌, true, false, ℕ, zero, suc, ◌+◌, Bool, ◌==◌, if◌then◌else◌, List, map, Option, Some, None}
 use Rattle.ap_defs.specs.Printing.{constructor_in}
 use Rattle.ap_defs.specs.Types as types
 use Rattle.ap_defs.specs.Types.{NominalConstructor, type_of}
-use Rattle.ap_defs.specs.Terms.{term_of}
+use Rattle.ap_defs.specs.Terms.{NominalTerm}
+use Rattle.ap_shared.specs.Shared.{shared_at}
 use Rattle.ap_defs.specs.Typing.{VarTypes, Want, arguments, more, nothing, one}
 use Rattle.ap_defs.specs.Unification.{size}
 use Rattle.ap_checks.specs.TypeTests.{is_typed, type_eq}
 use Rattle.ap_checker.specs.declared.types.Expected.{Expected}
+use Rattle.ap_checker.specs.declared.types.Looked.{Looked}
+use Rattle.ap_checker.specs.declared.types.Looked.TheVariants as looked
 use Rattle.ap_checker.specs.declared.types.TypePair.{TypePair}
 use Rattle.ap_checker.specs.declared.types.Wanted.{Wanted}
 use Rattle.ap_checker.specs.declared.types.Wanted.TheVariants as code
@@ -35,12 +38,12 @@ inside_of cs (suc zero) (one (types.list a)) = Some (more a (one (types.list a))
 inside_of cs f (one (types.base d)) = declared_inside (constructor_in cs f) d
 inside_of cs f _ = None
 
--- a term is what it is to be
-abbrev pub is_expected : List NominalConstructor → VarTypes → Expected → Bool
-is_expected cs vars e = is_typed cs vars (term_of e.term.now) (want_of e.wanted)
+-- the term of a line is what it is to be
+abbrev pub is_expected : List NominalTerm → List NominalConstructor → VarTypes → Expected → Bool
+is_expected ts cs vars e = is_typed cs vars (shared_at ts e.line) (want_of e.wanted)
 
-abbrev pub expected_size : Expected → ℕ
-expected_size e = size (term_of e.term.now)
+abbrev pub expected_size : List NominalTerm → Expected → ℕ
+expected_size ts e = size (shared_at ts e.line)
 
 -- two types are one
 abbrev pub are_one : TypePair → Bool
@@ -57,3 +60,10 @@ parts_count (types.abs s t) = 1 + parts_count t
 
 abbrev pub pair_size : TypePair → ℕ
 pair_size p = parts_count (type_of p.left.now)
+
+-- what the look at a term leaves
+abbrev pub IsLooked : (Expected → Bool) → (Expected → ℕ) → Expected → Looked → Type 0
+IsLooked test size e looked.Fails = test e ≡ false
+IsLooked test size e looked.Passes = test e ≡ true
+IsLooked test size e (looked.Part p) = (test e ≡ test p) × (size p < size e)
+IsLooked test size e (looked.Parts p q) = (test e ≡ (test p && test q)) × (size p + size q < size e)

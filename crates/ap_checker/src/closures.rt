@@ -4,12 +4,16 @@
 //! often as the program names it. So it isn't copied: a term with it put in is the term of the program with
 //! what stands there beside it, and each part of it is one again.
 
-ghost use Rattle.std.specs.Prelude.{◌≡◌, IfOk};
+ghost use Rattle.std.specs.Prelude.{◌≡◌, true, IfOk};
 ghost use Rattle.ap_defs.specs.Terms.{act_term, pair, susp, term_of};
 ghost use Rattle.ap_checks.specs.OpenEnvironments.{put_in};
+ghost use Rattle.ap_checker.specs.Cited.{cited_term};
 ghost use Rattle.ap_checker.specs.Closures.{head_term, scoped_term};
 ghost use Rattle.ap_checker.specs.Scopes.{environment_of};
+ghost use Rattle.ap_checker.specs.Tables.{AreStandingIn, IsCitedIn, IsClosureIn, IsHeadIn};
+ghost use Rattle.ap_shared.specs.declared.arena.SharedTerms.{SharedTerms as table};
 
+use crate::cited::{Cited, Layer, layer_of};
 use crate::scope::{Standing, name_in, put_swaps, term_in};
 use crate::swappings::image;
 use ap_defs::memory::Memory;
@@ -27,11 +31,11 @@ pub(crate) struct Scope<'a> {
 #[derive(Drop)]
 pub(crate) enum Closure<'a> {
     /// The term itself.
-    Whole(&'a Term),
+    Whole(Cited<'a>),
     /// The term of an item, with what stands there for its identifiers put in.
     Within(Scope<'a>, &'a Term),
     /// The term, on which swappings act.
-    Moved(Rc<Vec<Swap>>, &'a Term),
+    Moved(Rc<Vec<Swap>>, Cited<'a>),
 }
 
 /// Terms of an item, with what stands there for its identifiers put in.
@@ -53,16 +57,17 @@ pub(crate) enum Head<'a> {
 }
 
 /// The head of a term itself.
-fn head_of<'a>(alloc: Global, t: &'a Term) -> Result<Head<'a>, Memory>
-    ensures { IfOk result (λ h. head_term h ≡ term_of t.now) }
+fn head_of<'a>(alloc: Global, t: Cited<'a>) -> Result<Head<'a>, Memory>
+    ensures term { IfOk result (λ h. head_term h ≡ cited_term t.entry) }
+    ensures of { IfOk result (λ h. (ts : table) → IsCitedIn ts t.entry → IsHeadIn ts h) }
 {
-    match t {
-        Term::Unit => Ok(Head::Unit),
-        Term::Name(a) => Ok(Head::Name(*a)),
-        Term::Susp(swaps, x) => Ok(Head::Susp(swaps.items().to_vec(alloc)?, *x)),
-        Term::Pair(left, right) => Ok(Head::Pair(Closure::Whole(left), Closure::Whole(right))),
-        Term::App(f, argument) => Ok(Head::App(*f, Closure::Whole(argument))),
-        Term::Abs(a, body) => Ok(Head::Abs(*a, Closure::Whole(body))),
+    match layer_of(t) {
+        Layer::Unit => Ok(Head::Unit),
+        Layer::Name(a) => Ok(Head::Name(a)),
+        Layer::Susp(swaps, x) => Ok(Head::Susp(swaps.to_vec(alloc)?, x)),
+        Layer::Pair(left, right) => Ok(Head::Pair(Closure::Whole(left), Closure::Whole(right))),
+        Layer::App(f, argument) => Ok(Head::App(f, Closure::Whole(argument))),
+        Layer::Abs(a, body) => Ok(Head::Abs(a, Closure::Whole(body))),
     }
 }
 
@@ -73,7 +78,8 @@ fn moved_suspension<'a>(
     more: &[Swap],
     x: Var,
 ) -> Result<Head<'a>, Memory>
-    ensures { IfOk result (λ h. head_term h ≡ act_term swaps.now (susp more.now x)) }
+    ensures term { IfOk result (λ h. head_term h ≡ act_term swaps.now (susp more.now x)) }
+    ensures of { IfOk result (λ h. (ts : table) → IsHeadIn ts h) }
 {
     let mut all = swaps.to_vec(alloc)?;
     all.extend_from_slice(more)?;
@@ -81,9 +87,15 @@ fn moved_suspension<'a>(
 }
 
 /// The head of a pair on which swappings act.
-fn moved_pair<'a>(swaps: Rc<Vec<Swap>>, left: &'a Term, right: &'a Term) -> Result<Head<'a>, Memory>
-    ensures { IfOk result (λ h. head_term h
-        ≡ act_term swaps.value.items (pair (term_of left.now) (term_of right.now))) }
+fn moved_pair<'a>(
+    swaps: Rc<Vec<Swap>>,
+    left: Cited<'a>,
+    right: Cited<'a>,
+) -> Result<Head<'a>, Memory>
+    ensures term { IfOk result (λ h. head_term h
+        ≡ act_term swaps.value.items (pair (cited_term left.entry) (cited_term right.entry))) }
+    ensures of { IfOk result (λ h. (ts : table) → IsCitedIn ts left.entry →
+        IsCitedIn ts right.entry → IsHeadIn ts h) }
 {
     let same = swaps.clone()?;
     let left = Closure::Moved(same, left);
@@ -92,17 +104,19 @@ fn moved_pair<'a>(swaps: Rc<Vec<Swap>>, left: &'a Term, right: &'a Term) -> Resu
 }
 
 /// The head of a term on which swappings act.
-fn moved_head<'a>(alloc: Global, swaps: Rc<Vec<Swap>>, t: &'a Term) -> Result<Head<'a>, Memory>
-    ensures { IfOk result (λ h. head_term h ≡ act_term swaps.value.items (term_of t.now)) }
+fn moved_head<'a>(alloc: Global, swaps: Rc<Vec<Swap>>, t: Cited<'a>) -> Result<Head<'a>, Memory>
+    ensures term { IfOk result (λ h.
+        head_term h ≡ act_term swaps.value.items (cited_term t.entry)) }
+    ensures of { IfOk result (λ h. (ts : table) → IsCitedIn ts t.entry → IsHeadIn ts h) }
 {
-    match t {
-        Term::Unit => Ok(Head::Unit),
-        Term::Name(a) => Ok(Head::Name(image(&swaps, *a))),
-        Term::Susp(more, x) => moved_suspension(alloc, &swaps, more.items(), *x),
-        Term::Pair(left, right) => moved_pair(swaps, left, right),
-        Term::App(f, argument) => Ok(Head::App(*f, Closure::Moved(swaps, argument))),
-        Term::Abs(a, body) => {
-            let a = image(&swaps, *a);
+    match layer_of(t) {
+        Layer::Unit => Ok(Head::Unit),
+        Layer::Name(a) => Ok(Head::Name(image(&swaps, a))),
+        Layer::Susp(more, x) => moved_suspension(alloc, &swaps, more, x),
+        Layer::Pair(left, right) => moved_pair(swaps, left, right),
+        Layer::App(f, argument) => Ok(Head::App(f, Closure::Moved(swaps, argument))),
+        Layer::Abs(a, body) => {
+            let a = image(&swaps, a);
             Ok(Head::Abs(a, Closure::Moved(swaps, body)))
         }
     }
@@ -110,8 +124,9 @@ fn moved_head<'a>(alloc: Global, swaps: Rc<Vec<Swap>>, t: &'a Term) -> Result<He
 
 /// The head of a term on which swappings act, if there are any.
 #[tactic(auto, using(crate::proofs::HeadLemmas::unmoved))]
-fn head_moved_by<'a>(alloc: Global, swaps: Vec<Swap>, t: &'a Term) -> Result<Head<'a>, Memory>
-    ensures { IfOk result (λ h. head_term h ≡ act_term swaps.items (term_of t.now)) }
+fn head_moved_by<'a>(alloc: Global, swaps: Vec<Swap>, t: Cited<'a>) -> Result<Head<'a>, Memory>
+    ensures term { IfOk result (λ h. head_term h ≡ act_term swaps.items (cited_term t.entry)) }
+    ensures of { IfOk result (λ h. (ts : table) → IsCitedIn ts t.entry → IsHeadIn ts h) }
 {
     if swaps.is_empty() {
         return head_of(alloc, t);
@@ -126,8 +141,10 @@ fn suspended_head<'a>(
     swaps: &[Swap],
     x: Var,
 ) -> Result<Head<'a>, Memory>
-    ensures { IfOk result (λ h. head_term h
+    ensures term { IfOk result (λ h. head_term h
         ≡ put_in (environment_of scope.entry.standing.now) (susp swaps.now x)) }
+    ensures of { IfOk result (λ h. (ts : table) →
+        AreStandingIn ts scope.entry.standing.now → IsHeadIn ts h) }
 {
     let Some(t) = term_in(scope.standing, x) else {
         return Ok(Head::Unit);
@@ -138,8 +155,10 @@ fn suspended_head<'a>(
 
 /// The head of a term of an item, with what stands there for its identifiers put in.
 fn head_within<'a>(alloc: Global, scope: Scope<'a>, t: &'a Term) -> Result<Head<'a>, Memory>
-    ensures { IfOk result (λ h. head_term h
+    ensures term { IfOk result (λ h. head_term h
         ≡ put_in (environment_of scope.entry.standing.now) (term_of t.now)) }
+    ensures of { IfOk result (λ h. (ts : table) →
+        AreStandingIn ts scope.entry.standing.now → IsHeadIn ts h) }
 {
     match t {
         Term::Unit => Ok(Head::Unit),
@@ -159,11 +178,64 @@ fn head_within<'a>(alloc: Global, scope: Scope<'a>, t: &'a Term) -> Result<Head<
 
 /// The head of a closure.
 pub(crate) fn head_at<'a>(alloc: Global, t: &Closure<'a>) -> Result<Head<'a>, Memory>
-    ensures { IfOk result (λ h. head_term h ≡ scoped_term t.now) }
+    ensures term { IfOk result (λ h. head_term h ≡ scoped_term t.now) }
+    ensures of { IfOk result (λ h. (ts : table) → IsClosureIn ts t.now → IsHeadIn ts h) }
 {
     match t {
-        Closure::Whole(t) => head_of(alloc, t),
+        Closure::Whole(t) => head_of(alloc, *t),
         Closure::Within(scope, t) => head_within(alloc, *scope, t),
-        Closure::Moved(swaps, t) => moved_head(alloc, swaps.clone()?, t),
+        Closure::Moved(swaps, t) => moved_head(alloc, swaps.clone()?, *t),
+    }
+}
+
+/// A term on which swappings act, if there are any.
+#[tactic(auto, using(crate::proofs::HeadLemmas::unmoved))]
+fn moved_by<'a>(alloc: Global, swaps: Vec<Swap>, t: Cited<'a>) -> Result<Closure<'a>, Memory>
+    ensures term { IfOk result (λ u. scoped_term u ≡ act_term swaps.items (cited_term t.entry)) }
+    ensures of { IfOk result (λ u. (ts : table) → IsCitedIn ts t.entry → IsClosureIn ts u) }
+{
+    if swaps.is_empty() {
+        return Ok(Closure::Whole(t));
+    }
+    Ok(Closure::Moved(Rc::new(alloc, swaps)?, t))
+}
+
+/// A term of an item, where it is a variable with what stands for that put there.
+fn settled_within<'a>(alloc: Global, scope: Scope<'a>, t: &'a Term) -> Result<Closure<'a>, Memory>
+    ensures term { IfOk result (λ u. scoped_term u
+        ≡ put_in (environment_of scope.entry.standing.now) (term_of t.now)) }
+    ensures of { IfOk result (λ u. (ts : table) →
+        AreStandingIn ts scope.entry.standing.now → IsClosureIn ts u) }
+{
+    let Term::Susp(swaps, x) = t else {
+        return Ok(Closure::Within(scope, t));
+    };
+    let Some(found) = term_in(scope.standing, *x) else {
+        return Ok(Closure::Within(scope, t));
+    };
+    let swaps = put_swaps(alloc, scope.standing, swaps.items())?;
+    moved_by(alloc, swaps, found)
+}
+
+/// The closure, where it is a variable with what stands for that put there.
+pub(crate) fn settled<'a>(alloc: Global, t: Closure<'a>) -> Result<Closure<'a>, Memory>
+    ensures term { IfOk result (λ u. scoped_term u ≡ scoped_term t.entry) }
+    ensures of { IfOk result (λ u. (ts : table) → IsClosureIn ts t.entry → IsClosureIn ts u) }
+{
+    match t {
+        Closure::Within(scope, t) => settled_within(alloc, scope, t),
+        Closure::Whole(t) => Ok(Closure::Whole(t)),
+        Closure::Moved(swaps, t) => Ok(Closure::Moved(swaps, t)),
+    }
+}
+
+/// Whether both are the term of one line.
+pub(crate) fn is_same_line(t: &Closure<'_>, u: &Closure<'_>) -> bool
+    ensures { result ≡ true → (ts : table) → IsClosureIn ts t.now → IsClosureIn ts u.now →
+        scoped_term t.now ≡ scoped_term u.now }
+{
+    match (t, u) {
+        (Closure::Whole(Cited::Line(t)), Closure::Whole(Cited::Line(u))) => t.line == u.line,
+        _ => false,
     }
 }

@@ -4,21 +4,29 @@
 //! what another does where both are bound by one pair, or neither is bound and they are one. What is left to
 //! compare stands on a stack, so no term is too deep, and of a closure no copy is made either.
 
+ghost use Rattle.std.specs.List.{All};
 ghost use Rattle.std.specs.Prelude.{◌≡◌, ◌++◌, [], ◌∷◌, length, reverse, IfOk, OnOk};
 ghost use Rattle.ap_defs.specs.Freshness.{Conds, alpha_under};
-ghost use Rattle.ap_defs.specs.Terms.{abs, susp, term_of};
+ghost use Rattle.ap_defs.specs.Terms.{abs, susp};
 ghost use Rattle.ap_checker.specs.declared.equality.Compared.{Compared};
 ghost use Rattle.ap_checker.specs.Binders.{AreBinders, within_left, within_right};
 ghost use Rattle.ap_checker.specs.Comparisons.{are_alike, mark_of, compared_size};
 ghost use Rattle.ap_checker.specs.Closures.{scoped_term};
 ghost use Rattle.ap_checker.specs.Stacks.{AreWithin, IsTestedThere};
+ghost use Rattle.ap_checker.specs.Tables.{IsClosureIn, IsComparedIn};
+ghost use Rattle.ap_shared.specs.declared.arena.SharedTerms.{SharedTerms as table};
+ghost use Rattle.ap_shared.specs.Shared.{shared_at};
+ghost use Rattle.ap_shared.specs.SharedViews.{shared_terms};
 
 use crate::binders::Binders;
-use crate::closures::{Closure, Head, head_at};
+use crate::cited::Cited;
+use crate::closures::{Closure, Head, head_at, is_same_line, settled};
 use crate::index::IndexedAnswer;
 use crate::suspensions::are_all_settled;
 use ap_defs::memory::Memory;
-use ap_defs::terms::{Name, Swap, Term, Var};
+use ap_defs::terms::{Name, Swap, Var};
+use ap_shared::arena::SharedTerms;
+use ap_shared::places::Shared;
 use std::alloc::Global;
 
 /// Two terms that are yet to be compared, and how many of the pairs of binders stand round them.
@@ -38,6 +46,7 @@ pub(crate) struct Comparison<'a> {
 
 impl<'a> Comparison<'a> {
     /// The two terms come next, within all binders.
+    #[tactic(auto, using(crate::proofs::TableLemmas::compared_put))]
     fn put(&mut self, left: Closure<'a>, right: Closure<'a>) -> Result<(), Memory>
         ensures binders { self.new.binders ≡ self.old.binders }
         ensures pending { OnOk result (self.new.pending.items ≡ self.old.pending.items
@@ -46,6 +55,9 @@ impl<'a> Comparison<'a> {
               right = right.entry;
               mark = length self.old.binders.pairs.items;
             }) ∷ []) }
+        ensures of { OnOk result ((ts : table) → IsClosureIn ts left.entry →
+            IsClosureIn ts right.entry → All (IsComparedIn ts) self.old.pending.items →
+            All (IsComparedIn ts) self.new.pending.items) }
     {
         let mark = self.binders.pairs.len();
         self.pending.push(Compared { left, right, mark })?;
@@ -71,6 +83,9 @@ fn compare_bodies<'a>(
         walk.old.binders.pairs.items walk.old.pending.items
         walk.new.binders.pairs.items walk.new.pending.items yes) }
     ensures found { OnOk result (AreBinders walk.new.binders) }
+    ensures of { OnOk result ((ts : table) → IsClosureIn ts left.entry →
+        IsClosureIn ts right.entry → All (IsComparedIn ts) walk.old.pending.items →
+        All (IsComparedIn ts) walk.new.pending.items) }
 {
     let (a, b) = binders;
     if a.sort != b.sort {
@@ -112,7 +127,7 @@ fn are_suspended_alike(
 
 /// Compares the heads of two terms within binders: their parts come next.
 #[tactic(auto, using(crate::proofs::ComparisonLemmas::units, crate::proofs::ComparisonLemmas::names, crate::proofs::ComparisonLemmas::others, crate::proofs::ComparisonLemmas::apps))]
-fn compare<'a>(
+fn compare_heads<'a>(
     alloc: Global,
     answer: &IndexedAnswer<'_>,
     walk: &mut Comparison<'a>,
@@ -126,6 +141,9 @@ fn compare<'a>(
         walk.old.binders.pairs.items walk.old.pending.items
         walk.new.binders.pairs.items walk.new.pending.items yes) }
     ensures found { OnOk result (AreBinders walk.new.binders) }
+    ensures of { OnOk result ((ts : table) → IsComparedIn ts at.entry →
+        All (IsComparedIn ts) walk.old.pending.items →
+        All (IsComparedIn ts) walk.new.pending.items) }
 {
     let left = head_at(alloc, &at.left)?;
     let right = head_at(alloc, &at.right)?;
@@ -152,13 +170,47 @@ fn compare<'a>(
     }
 }
 
-/// Whether the terms of two closures are equal under the answer's conditions.
+/// Compares two terms of a table within binders. Where none stands round them, the term of one line equals
+/// itself; else their heads are compared.
+fn compare<'a>(
+    alloc: Global,
+    answer: &IndexedAnswer<'_>,
+    terms: &SharedTerms,
+    walk: &mut Comparison<'a>,
+    at: Compared<'a>,
+) -> Result<bool, Memory>
+    requires within { AreWithin mark_of (length walk.old.binders.pairs.items)
+        (reverse walk.old.pending.items) }
+    requires found { AreBinders walk.old.binders }
+    requires of { IsComparedIn terms.now at }
+    requires others { All (IsComparedIn terms.now) walk.old.pending.items }
+    ensures tested { IfOk result (λ yes.
+        IsTestedThere mark_of (are_alike answer.now.conds) compared_size at.entry
+        walk.old.binders.pairs.items walk.old.pending.items
+        walk.new.binders.pairs.items walk.new.pending.items yes) }
+    ensures found { OnOk result (AreBinders walk.new.binders) }
+    ensures of { OnOk result (All (IsComparedIn terms.now) walk.new.pending.items) }
+{
+    let Compared { left, right, mark } = at;
+    let left = settled(alloc, left)?;
+    let right = settled(alloc, right)?;
+    if walk.binders.pairs.is_empty() && is_same_line(&left, &right) {
+        return Ok(true);
+    }
+    compare_heads(alloc, answer, walk, Compared { left, right, mark })
+}
+
+/// Whether the terms of two closures are equal under the answer's conditions. Lines that they cite are of
+/// this table.
 pub(crate) fn are_equal_at(
     alloc: Global,
     answer: &IndexedAnswer<'_>,
+    terms: &SharedTerms,
     t: Closure<'_>,
     u: Closure<'_>,
 ) -> Result<bool, Memory>
+    requires left { IsClosureIn terms.now t }
+    requires right { IsClosureIn terms.now u }
     ensures { IfOk result (λ yes. yes
         ≡ alpha_under answer.now.conds (scoped_term t.entry) (scoped_term u.entry)) }
 {
@@ -169,22 +221,25 @@ pub(crate) fn are_equal_at(
     walk.put(t, u)?;
     'terms: while let Some(next) = walk.pending.pop() {
         walk.binders.truncate(next.mark)?;
-        if !compare(alloc, answer, &mut walk, next)? {
+        if !compare(alloc, answer, terms, &mut walk, next)? {
             return Ok(false);
         }
     }
     Ok(true)
 }
 
-/// Whether two terms are equal under the answer's conditions. `Err` is want of memory.
+/// Whether the terms of two lines of a table are equal under the answer's conditions. `Err` is want of memory.
 pub fn are_equal_under(
     alloc: Global,
     answer: &IndexedAnswer<'_>,
-    t: &Term,
-    u: &Term,
+    terms: &SharedTerms,
+    t: usize,
+    u: usize,
 ) -> Result<bool, Memory>
-    ensures { IfOk result (λ yes. yes
-        ≡ alpha_under answer.now.conds (term_of t.now) (term_of u.now)) }
+    ensures { IfOk result (λ yes. yes ≡ alpha_under answer.now.conds
+        (shared_at (shared_terms terms.now) t) (shared_at (shared_terms terms.now) u)) }
 {
-    are_equal_at(alloc, answer, Closure::Whole(t), Closure::Whole(u))
+    let t = Closure::Whole(Cited::Line(Shared { terms, line: t }));
+    let u = Closure::Whole(Cited::Line(Shared { terms, line: u }));
+    are_equal_at(alloc, answer, terms, t, u)
 }

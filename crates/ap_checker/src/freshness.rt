@@ -3,16 +3,17 @@
 ghost use Rattle.std.specs.Prelude.{◌≡◌, IfOk};
 ghost use Rattle.ap_defs.specs.Freshness.{fresh_under, has_cond};
 ghost use Rattle.ap_defs.specs.Permutations.{act_name, inverse};
-ghost use Rattle.ap_defs.specs.Terms.{term_of};
 ghost use Rattle.ap_checker.specs.Comparisons.{is_fresh_for, size_at};
+ghost use Rattle.ap_checker.specs.Cited.{cited_term};
 ghost use Rattle.ap_checker.specs.Closures.{scoped_term};
 ghost use Rattle.ap_checker.specs.Stacks.{IsTested};
 
+use crate::cited::Cited;
 use crate::closures::{Closure, Head, head_at};
 use crate::index::IndexedAnswer;
 use crate::swappings::{is_same, preimage};
 use ap_defs::memory::Memory;
-use ap_defs::terms::{Cond, Name, Swap, Term, Var};
+use ap_defs::terms::{Cond, Name, Swap, Var};
 use std::alloc::Global;
 
 /// Whether the name is fresh for the variable under the swappings.
@@ -84,9 +85,9 @@ pub fn is_fresh_under(
     alloc: Global,
     answer: &IndexedAnswer<'_>,
     a: Name,
-    t: &Term,
+    t: Cited<'_>,
 ) -> Result<bool, Memory>
-    ensures { IfOk result (λ yes. yes ≡ fresh_under answer.now.conds a (term_of t.now)) }
+    ensures { IfOk result (λ yes. yes ≡ fresh_under answer.now.conds a (cited_term t.entry)) }
 {
     is_fresh_at(alloc, answer, a, Closure::Whole(t))
 }

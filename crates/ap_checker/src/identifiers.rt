@@ -1,18 +1,22 @@
 //! The identifiers of an item, with their places.
 
-ghost use Rattle.std.specs.Prelude.{◌≡◌, ◌≤◌, ◌<◌, ◌==◌, ℕ, true, false, None, Some, zero, get_or, length, map, IfOk, MatchOption};
+ghost use Rattle.std.specs.Prelude.{◌≡◌, ◌≤◌, ◌<◌, ◌==◌, ℕ, true, false, None, Some, zero, get_or, length, map, IfOk, IfSome, MatchOption};
 ghost use Rattle.ap_program.specs.FreeLocals.{free_sort};
 ghost use Rattle.ap_defs.specs.GroundProofs.{name_for as name_beside};
 ghost use Rattle.ap_defs.specs.Renaming.{local_names, local_vars};
-ghost use Rattle.ap_defs.specs.Terms.{term_of, unit};
+ghost use Rattle.ap_defs.specs.Terms.{unit};
 ghost use Rattle.ap_defs.specs.Types.{local_of, locals_of};
 ghost use Rattle.ap_checks.specs.OpenEnvironments.{open_term_for};
+ghost use Rattle.ap_checker.specs.Cited.{cited_term, cited_terms};
 ghost use Rattle.ap_checker.specs.Places.{places_from};
+ghost use Rattle.ap_checker.specs.Tables.{AreCitedIn, IsCitedIn};
+ghost use Rattle.ap_shared.specs.declared.arena.SharedTerms.{SharedTerms as table};
 
+use crate::cited::{Cited, CitedTerms};
 use crate::lookups::{is_variable, sort_of};
 use ap_defs::goals::Local;
 use ap_defs::memory::Memory;
-use ap_defs::terms::{Name, Term, Var};
+use ap_defs::terms::{Name, Var};
 use std::alloc::Global;
 use std::marker::Model;
 
@@ -117,17 +121,18 @@ impl<'a> Identifiers<'a> {
     }
 
     /// The term for a free variable.
-    pub fn term_for<'t>(&self, terms: &'t [Term], x: Var) -> Option<&'t Term>
-        ensures { MatchOption result
-            (open_term_for (local_vars zero (locals_of self.now)) (map term_of terms.now) x ≡ unit)
-            (λ t. open_term_for (local_vars zero (locals_of self.now)) (map term_of terms.now) x
-            ≡ term_of t.now) }
+    pub fn term_for<'t>(&self, given: CitedTerms<'t>, x: Var) -> Option<Cited<'t>>
+        ensures term { MatchOption result
+            (open_term_for (local_vars zero (locals_of self.now)) (cited_terms given.entry) x ≡ unit)
+            (λ t. open_term_for (local_vars zero (locals_of self.now)) (cited_terms given.entry) x
+            ≡ cited_term t) }
+        ensures of { IfSome result (λ t. (ts : table) →
+            AreCitedIn ts given.entry → IsCitedIn ts t) }
     {
         let (local, place) = self.at(x.num)?;
-        if is_variable(local) && place < terms.len() {
-            Some(&terms[place])
-        } else {
-            None
+        if !is_variable(local) {
+            return None;
         }
+        given.get(place)
     }
 }

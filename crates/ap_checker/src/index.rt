@@ -15,8 +15,8 @@ ghost use Rattle.ap_checks.specs.TypeTests.{type_beside as beside};
 ghost use Rattle.ap_checker.specs.Indexes.{place_from, sought, sought_cmp};
 
 use ap_defs::memory::Memory;
-use ap_defs::outcomes::Answer;
 use ap_defs::terms::{Cond, Ty, Var};
+use ap_shared::derivations::SharedAnswer;
 use std::alloc::Global;
 use std::collections::{BTreeMap, BTreeSet};
 use std::marker::Model;
@@ -26,7 +26,7 @@ use std::marker::Model;
 /// the answer.
 #[derive(Drop)]
 pub struct IndexedAnswer<'a> {
-    answer: &'a Answer,
+    answer: &'a SharedAnswer,
     // By the numbers of variables.
     places: BTreeMap<u64, usize>,
     // Variables, with the sorts and numbers of names.
@@ -34,11 +34,11 @@ pub struct IndexedAnswer<'a> {
 }
 
 impl<'a> Model for IndexedAnswer<'a> {
-    ghost use Rattle.ap_defs.specs.declared.outcomes.Answer.{Answer};
+    ghost use Rattle.ap_shared.specs.declared.derivations.SharedAnswer.{SharedAnswer};
 
-    ghost Value = { Answer };
+    ghost Value = { SharedAnswer };
 
-    ghost use Rattle.ap_defs.specs.contracts.outcomes.Answer as a;
+    ghost use Rattle.ap_shared.specs.contracts.derivations.SharedAnswer as a;
 
     ghost coded = { a.the_row.coded };
 
@@ -99,7 +99,7 @@ fn type_at(vars: &[(Var, Ty)], place: usize) -> &Ty
 
 impl<'a> IndexedAnswer<'a> {
     /// The answer with its index, if none of its variables has two types. `Err` is want of memory.
-    pub fn of(alloc: Global, answer: &'a Answer) -> Result<Option<IndexedAnswer<'a>>, Memory>
+    pub fn of(alloc: Global, answer: &'a SharedAnswer) -> Result<Option<IndexedAnswer<'a>>, Memory>
         ensures { IfOk result (λ o. MatchOption o
             (each_once (map typed_var_of answer.now.vars) ≡ false)
             (λ i. (each_once (map typed_var_of answer.now.vars) ≡ true) × (i ≡ answer.now))) }
@@ -116,7 +116,7 @@ impl<'a> IndexedAnswer<'a> {
     }
 
     /// The answer itself.
-    pub fn answer(&self) -> &'a Answer
+    pub fn answer(&self) -> &'a SharedAnswer
         ensures { result.now ≡ self.now }
     {
         self.answer

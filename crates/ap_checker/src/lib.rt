@@ -9,6 +9,7 @@
 
 mod answers;
 mod binders;
+pub mod cited;
 mod closures;
 pub mod equality;
 mod fits;
@@ -27,6 +28,7 @@ pub mod scope;
 mod suspensions;
 pub mod swappings;
 pub mod types;
+mod typing;
 pub mod verify;
 mod visits;
 mod walk;

@@ -1,10 +1,14 @@
 //! What stands for the identifiers of an item at a node of a derivation, and terms with it put in.
 
-ghost use Rattle.std.specs.Prelude.{◌≡◌, map, IfOk, MatchOption, None, Some};
+ghost use Rattle.std.specs.Prelude.{◌≡◌, map, IfOk, IfSome, MatchOption, None, Some};
 ghost use Rattle.ap_defs.specs.Terms.{term_of, unit};
 ghost use Rattle.ap_checks.specs.OpenEnvironments.{put_in, swap_in};
+ghost use Rattle.ap_checker.specs.Cited.{cited_term};
 ghost use Rattle.ap_checker.specs.Scopes.{environment_of, item_term, name_stood, term_brought};
+ghost use Rattle.ap_checker.specs.Tables.{AreStandingIn, IsCitedIn, IsStandingIn};
+ghost use Rattle.ap_shared.specs.declared.arena.SharedTerms.{SharedTerms as table};
 
+use crate::cited::{Cited, CitedTerms};
 use crate::closures::{Closure, Scope};
 use crate::identifiers::Identifiers;
 use crate::outside::copied;
@@ -17,13 +21,13 @@ use std::alloc::Global;
 #[derive(Drop)]
 pub enum Standing<'a> {
     /// The terms for the free variables of a query, in order; each free name stands for itself.
-    Query(Identifiers<'a>, &'a [Term]),
+    Query(Identifiers<'a>, CitedTerms<'a>),
     /// The names for the free names of a clause and the terms for its free variables, in order.
-    Clause(Identifiers<'a>, &'a [Name], &'a [Term]),
+    Clause(Identifiers<'a>, &'a [Name], CitedTerms<'a>),
     /// The name for a name that `new` brought.
     Name(Name, Name),
     /// The term for a variable that `exists` brought.
-    Term(Var, &'a Term),
+    Term(Var, Cited<'a>),
 }
 
 /// The name for a name, if this is what says it.
@@ -39,9 +43,10 @@ fn name_at(standing: &Standing<'_>, b: Name) -> Option<Name>
 }
 
 /// The term that `exists` brought for a variable, if this is what says it.
-fn term_at<'a>(standing: &Standing<'a>, x: Var) -> Option<&'a Term>
-    ensures { MatchOption result (term_brought standing.now x ≡ None) (λ t. term_brought
-        standing.now x ≡ Some (term_of t.now)) }
+fn term_at<'a>(standing: &Standing<'a>, x: Var) -> Option<Cited<'a>>
+    ensures term { MatchOption result (term_brought standing.now x ≡ None) (λ t. term_brought
+        standing.now x ≡ Some (cited_term t)) }
+    ensures of { IfSome result (λ t. (ts : table) → IsStandingIn ts standing.now → IsCitedIn ts t) }
 {
     match standing {
         Standing::Term(y, t) if y.num == x.num => Some(*t),
@@ -50,14 +55,16 @@ fn term_at<'a>(standing: &Standing<'a>, x: Var) -> Option<&'a Term>
 }
 
 /// What an item has for a variable, if this is what stands for an item's identifiers.
-fn item_term_at<'a>(standing: &Standing<'a>, x: Var) -> Option<Option<&'a Term>>
-    ensures { MatchOption result (item_term standing.now x ≡ None) (λ found. MatchOption found
+fn item_term_at<'a>(standing: &Standing<'a>, x: Var) -> Option<Option<Cited<'a>>>
+    ensures term { MatchOption result (item_term standing.now x ≡ None) (λ found. MatchOption found
         (item_term standing.now x ≡ Some unit) (λ t. item_term standing.now x
-        ≡ Some (term_of t.now))) }
+        ≡ Some (cited_term t))) }
+    ensures of { IfSome result (λ found. IfSome found (λ t. (ts : table) →
+        IsStandingIn ts standing.now → IsCitedIn ts t)) }
 {
     match standing {
-        Standing::Query(own, terms) => Some(own.term_for(terms, x)),
-        Standing::Clause(own, _, terms) => Some(own.term_for(terms, x)),
+        Standing::Query(own, given) => Some(own.term_for(*given, x)),
+        Standing::Clause(own, _, given) => Some(own.term_for(*given, x)),
         _ => None,
     }
 }
@@ -75,9 +82,10 @@ pub(crate) fn name_in(scope: &[Standing<'_>], b: Name) -> Name
 }
 
 /// The term for a variable; where there is none, unit stands for it.
-pub(crate) fn term_in<'a>(scope: &[Standing<'a>], x: Var) -> Option<&'a Term>
-    ensures { MatchOption result ((environment_of scope.now).terms x ≡ unit) (λ t.
-        (environment_of scope.now).terms x ≡ term_of t.now) }
+pub(crate) fn term_in<'a>(scope: &[Standing<'a>], x: Var) -> Option<Cited<'a>>
+    ensures term { MatchOption result ((environment_of scope.now).terms x ≡ unit) (λ t.
+        (environment_of scope.now).terms x ≡ cited_term t) }
+    ensures of { IfSome result (λ t. (ts : table) → AreStandingIn ts scope.now → IsCitedIn ts t) }
 {
     for i in (0..scope.len()).rev() {
         let innermost = &scope[i];

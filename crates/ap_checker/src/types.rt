@@ -1,22 +1,26 @@
-//! Types of terms with variables.
+//! What the head of a term leaves to be looked at, where the term is to have a type.
 //!
 //! The type of an identifier can be as deep as the equations are long that it solves, on either side: the
 //! parts of types that are left to compare stand on a stack, as do those of terms.
 
-ghost use Rattle.std.specs.Prelude.{◌≡◌, map, IfOk, MatchOption, Some, None};
+ghost use Rattle.std.specs.Prelude.{◌≡◌, ℕ, Bool, map, IfOk, List as list, MatchOption, Some, None};
 ghost use Rattle.ap_defs.specs.Answers.{typed_var_of};
 ghost use Rattle.ap_defs.specs.Printing.{constructor_in};
-ghost use Rattle.ap_defs.specs.Terms.{term_of};
-ghost use Rattle.ap_defs.specs.Types.{base, constructor_of, type_of};
-ghost use Rattle.ap_defs.specs.Typing.{arguments as wanted_arguments, one};
+ghost use Rattle.ap_defs.specs.Terms.{unit};
+ghost use Rattle.ap_defs.specs.Types.{NominalConstructor, base, constructor_of, type_of};
+ghost use Rattle.ap_defs.specs.Typing.{VarTypes, arguments as wanted_arguments, one};
 ghost use Rattle.ap_checks.specs.TypeTests.{is_type, is_typed, type_beside as beside, type_eq};
 ghost use Rattle.ap_checker.specs.Stacks.{IsTested};
-ghost use Rattle.ap_checker.specs.Wanted.{are_one, expected_size, inside_of, is_expected, pair_size, parts_of, want_of};
+ghost use Rattle.ap_checker.specs.Wanted.{IsLooked, are_one, expected_size, inside_of, is_expected, pair_size, parts_of, want_of};
+ghost use Rattle.ap_checker.specs.declared.types.Expected.{Expected};
+ghost use Rattle.ap_shared.specs.SharedViews.{shared_terms};
 
 use crate::index::IndexedAnswer;
 use ap_defs::goals::Constructor;
 use ap_defs::memory::Memory;
-use ap_defs::terms::{Term, Ty, Var};
+use ap_defs::terms::{Ty, Var};
+use ap_shared::arena::SharedTerms;
+use ap_shared::lines::Entry;
 use std::alloc::Global;
 
 /// What an application's argument is to be.
@@ -32,11 +36,21 @@ pub(crate) enum Wanted<'a> {
     Cell(&'a Ty, &'a Ty),
 }
 
-/// A term, and what it is to be.
+/// The line of a term, and what it is to be.
 #[derive(Clone, Copy)]
 pub(crate) struct Expected<'a> {
-    pub term: &'a Term,
+    pub line: usize,
     pub wanted: Wanted<'a>,
+}
+
+/// What the look at the head of a term leaves to be looked at.
+#[derive(Clone, Copy)]
+pub(crate) enum Looked<'a> {
+    /// The term isn't what it is to be.
+    Fails,
+    Passes,
+    Part(Expected<'a>),
+    Parts(Expected<'a>, Expected<'a>),
 }
 
 /// Two types that are yet to be compared.
@@ -76,9 +90,12 @@ fn compare<'a>(pending: &mut Vec<TypePair<'a>>, at: TypePair<'a>) -> Result<bool
 }
 
 /// Whether two types are one.
-fn is_same(alloc: Global, a: &Ty, b: &Ty) -> Result<bool, Memory>
+pub(crate) fn is_same(alloc: Global, a: &Ty, b: &Ty) -> Result<bool, Memory>
     ensures { IfOk result (λ yes. yes ≡ type_eq (type_of a.now) (type_of b.now)) }
 {
+    if let (Ty::Base(d), Ty::Base(e)) = (a, b) {
+        return Ok(*d == *e);
+    }
     let mut pending = Vec::new(alloc);
     pending.push(TypePair { left: a, right: b })?;
     while let Some(next) = pending.pop() {
@@ -172,84 +189,86 @@ fn inside<'a>(constructors: &'a [Constructor], f: u32, want: Wanted<'a>) -> Opti
     }
 }
 
-/// Looks at the head of a term that is to be what is wanted: its parts wait to be looked at.
-fn look<'a>(
-    alloc: Global,
-    constructors: &'a [Constructor],
-    answer: &IndexedAnswer<'_>,
-    pending: &mut Vec<Expected<'a>>,
-    at: Expected<'a>,
-) -> Result<bool, Memory>
-    ensures { IfOk result (λ yes.
-        IsTested (is_expected (map constructor_of constructors.now)
-        (beside (map typed_var_of answer.now.vars))) expected_size at.entry
-        pending.old.items pending.new.items yes) }
+/// Whether unit is what is wanted.
+fn is_unit(wanted: Wanted<'_>) -> bool
+    ensures { (cs : list NominalConstructor) (vars : VarTypes) →
+        result ≡ is_typed cs vars unit (want_of wanted.entry) }
 {
-    let Expected { term, wanted } = at;
-    match (term, wanted) {
-        (Term::Unit, Wanted::Nothing | Wanted::One(Ty::Unit)) => Ok(true),
-        (Term::Name(a), Wanted::One(Ty::Names(sort))) => Ok(a.sort == *sort),
-        (Term::Pair(left, right), _) => {
-            let Some((first, second)) = parts(wanted) else {
-                return Ok(false);
-            };
-            pending.push(Expected {
-                term: right,
-                wanted: second,
-            })?;
-            pending.push(Expected {
-                term: left,
-                wanted: first,
-            })?;
-            Ok(true)
-        }
-        (Term::App(f, argument), _) => {
-            let Some(inner) = inside(constructors, *f, wanted) else {
-                return Ok(false);
-            };
-            pending.push(Expected {
-                term: argument,
-                wanted: inner,
-            })?;
-            Ok(true)
-        }
-        (Term::Abs(a, body), Wanted::One(Ty::Abs(sort, ty))) => {
-            if a.sort != *sort {
-                return Ok(false);
-            }
-            pending.push(Expected {
-                term: body,
-                wanted: Wanted::One(ty),
-            })?;
-            Ok(true)
-        }
-        (Term::Susp(_, x), Wanted::One(ty)) => Ok(has_type_beside(alloc, answer, *x, ty)?),
-        _ => Ok(false),
+    match wanted {
+        Wanted::Nothing | Wanted::One(Ty::Unit) => true,
+        _ => false,
     }
 }
 
-/// Whether the term has the type, where the answer's variables have the types beside them, and another
-/// variable has no type. The parts of the term that are left stand on a stack, so none is too deep.
-pub fn has_type(
-    alloc: Global,
-    constructors: &[Constructor],
-    answer: &IndexedAnswer<'_>,
-    t: &Term,
-    ty: &Ty,
-) -> Result<bool, Memory>
-    ensures { IfOk result (λ yes. yes ≡
-        is_typed (map constructor_of constructors.now) (beside (map typed_var_of answer.now.vars))
-        (term_of t.now) (one (type_of ty.now))) }
+/// What a term without parts leaves.
+fn leaf<'a>(passes: bool) -> Looked<'a>
+    ensures { (test : Expected → Bool) (size : Expected → ℕ) (e : Expected) →
+        passes ≡ test e → IsLooked test size e result }
 {
-    let mut pending = Vec::new(alloc);
-    pending.push(Expected {
-        term: t,
-        wanted: Wanted::One(ty),
-    })?;
-    while let Some(next) = pending.pop() {
-        if !look(alloc, constructors, answer, &mut pending, next)? {
-            return Ok(false);
-        }
+    if passes {
+        Looked::Passes
+    } else {
+        Looked::Fails
     }
-    Ok(true)
+}
+
+/// Looks at the head of a term that is to be what is wanted.
+pub(crate) fn look<'a>(
+    alloc: Global,
+    constructors: &'a [Constructor],
+    answer: &IndexedAnswer<'_>,
+    terms: &SharedTerms,
+    at: Expected<'a>,
+) -> Result<Looked<'a>, Memory>
+    ensures { IfOk result (λ left.
+        IsLooked (is_expected (shared_terms terms.now) (map constructor_of constructors.now)
+        (beside (map typed_var_of answer.now.vars))) (expected_size (shared_terms terms.now))
+        at.entry left) }
+{
+    let Expected { line, wanted } = at;
+    let Some(entry) = terms.entry(line) else {
+        return Ok(leaf(is_unit(wanted)));
+    };
+    match (entry, wanted) {
+        (Entry::Unit, _) => Ok(leaf(is_unit(wanted))),
+        (Entry::Name(a), Wanted::One(Ty::Names(sort))) => Ok(leaf(a.sort == *sort)),
+        (Entry::Pair(left, right), _) => {
+            let Some((first, second)) = parts(wanted) else {
+                return Ok(Looked::Fails);
+            };
+            let left = Expected {
+                line: *left,
+                wanted: first,
+            };
+            let right = Expected {
+                line: *right,
+                wanted: second,
+            };
+            Ok(Looked::Parts(left, right))
+        }
+        (Entry::App(f, part), _) => {
+            let Some(inner) = inside(constructors, *f, wanted) else {
+                return Ok(Looked::Fails);
+            };
+            let part = Expected {
+                line: *part,
+                wanted: inner,
+            };
+            Ok(Looked::Part(part))
+        }
+        (Entry::Abs(own, _, part), Wanted::One(Ty::Abs(sort, ty))) => {
+            if *own != *sort {
+                return Ok(Looked::Fails);
+            }
+            let part = Expected {
+                line: *part,
+                wanted: Wanted::One(ty),
+            };
+            Ok(Looked::Part(part))
+        }
+        (Entry::Susp(_, x), Wanted::One(ty)) => {
+            Ok(leaf(has_type_beside(alloc, answer, *x, ty)?))
+        }
+        _ => Ok(Looked::Fails),
+    }
 }

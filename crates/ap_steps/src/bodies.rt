@@ -11,6 +11,7 @@ ghost use Rattle.ap_steps.specs.Writers.{piece_of, writing_of};
 
 use crate::judgements::{atom, relation};
 use crate::writers::Writer;
+use ap_checker::cited::Cited;
 use ap_checker::scope::Standing;
 use ap_defs::goals::Goal;
 use ap_defs::memory::Memory;
@@ -170,7 +171,7 @@ fn visit<'a>(
             Ok(())
         }
         (Derivation::Exists(term, below), Goal::Exists(x, goal)) => {
-            body.bring(Standing::Term(*x, term))?;
+            body.bring(Standing::Term(*x, Cited::Tree(term)))?;
             body.put(below, goal)?;
             Ok(())
         }
