@@ -12,7 +12,6 @@ use Rattle.ap_defs.specs.Types.{NominalKind, local_of, locals_of}
 use Rattle.ap_defs.specs.declared.goals.Local.{Local}
 use Rattle.ap_defs.specs.Unification.{Unified, ending, equations_of, finish, unify}
 use Rattle.ap_defs.specs.declared.terms.Term.{Term}
-use Rattle.ap_defs.specs.declared.terms.Var.{Var}
 use Rattle.ap_program.proofs.RenamingLemmas.{are_below_more, are_renamed_below}
 use Rattle.ap_search.specs.Continuations.{Waiting}
 use Rattle.ap_store.specs.Triples.{IsPrefixOf, Triple, with_next}
@@ -25,6 +24,7 @@ use Rattle.ap_backchain.specs.Below.{AreWaitingBelow}
 use Rattle.ap_backchain.specs.Positions.{Position, clause_state, unified_state, with_state}
 use Rattle.ap_backchain.specs.Tracks.{last_version}
 use Rattle.ap_backchain.specs.Views.{state_in}
+use Rattle.ap_backchain.specs.declared.brought.Brought.{Brought}
 use Rattle.ap_backchain.specs.declared.frames.Cell.{Cell}
 use Rattle.ap_backchain.proofs.FitLemmas.{waiting_more}
 use Rattle.ap_backchain.proofs.StoreTurnLemmas.{same_next, state_with, track_with}
@@ -137,7 +137,7 @@ module _ (s d f : Store) (m : ℕ) (goes : IsPrefixOf (versions s) (versions d))
       let k : length (kinds s) ≤ n = omega (arith, next_counts s) in
       left ∙ ap (λ (a : Triple). take a.next (kinds d)) present_back ∙ ap (take n) more.1 ∙ take-append-le n (kinds s) more.0 l ∙ take_all n (kinds s) k
 
-  pub track_back : (cs : List Cell) (ps : List ℕ) (xs : List Var) → track_with cs ps xs (versions f) (kinds f) ≡ track_with cs ps xs (versions s) (kinds s)
+  pub track_back : (cs : List Cell) (ps : List ℕ) (xs : List Brought) → track_with cs ps xs (versions f) (kinds f) ≡ track_with cs ps xs (versions s) (kinds s)
   track_back cs ps xs = ap₂ (track_with cs ps xs) versions_back kinds_back
 
   pub position_back : (p : Position) → with_state (state_in f) p ≡ with_state (state_in s) p

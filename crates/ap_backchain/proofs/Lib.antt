@@ -1,4 +1,5 @@
 pub mod AnsweringLemmas
+pub mod BroughtLemmas
 pub mod HeadLemmas
 pub mod ApartLemmas
 pub mod MachineLemmas

@@ -1,36 +1,37 @@
 -- Machines and their tracks.
 use Rattle.std.proofs.Common.{◌≡◌, ℕ, ◌+◌, List, take, sym, ap, ◌∙◌, subst}
-use Rattle.ap_defs.specs.declared.terms.Var.{Var}
 use Rattle.ap_search.specs.Continuations.{Waiting}
 use Rattle.ap_store.specs.Triples.{IsPrefixOf, Triple}
 use Rattle.ap_store.specs.Views.{kinds, past, present, versions}
 use Rattle.ap_store.specs.declared.store.Store.{Store}
 use Rattle.ap_backchain.specs.GoalStacks.{IsLonger}
 use Rattle.ap_backchain.specs.Below.{AreWaitingBelow}
+use Rattle.ap_backchain.specs.Brought.{vars_of_brought}
 use Rattle.ap_backchain.specs.Machines.{next_of, position_of, track_of}
 use Rattle.ap_backchain.specs.Positions.{Position}
 use Rattle.ap_backchain.specs.Stacks.{cells_of, first_waiting, waiting_in}
 use Rattle.ap_backchain.specs.Tracks.{GoesFrom, Track, back_to, last_version, next_in, position_at}
 use Rattle.ap_backchain.specs.Views.{state_in}
+use Rattle.ap_backchain.specs.declared.brought.Brought.{Brought}
 use Rattle.ap_backchain.specs.declared.goal_stack.GoalStack.{GoalStack}
 use Rattle.ap_backchain.specs.declared.machine.Machine.{Machine}
 use Rattle.ap_backchain.specs.declared.points.Save.{Save}
 use Rattle.ap_backchain.proofs.TrackLemmas.{last_present, longer_same}
 
-abbrev pub track_with : Store → GoalStack → List ℕ → List Var → Track
+abbrev pub track_with : Store → GoalStack → List ℕ → List Brought → Track
 track_with r a path brought = record { versions = versions r; kinds = kinds r; cells = cells_of a; path = path; brought = brought }
 
-abbrev pub position_with : Store → GoalStack → List ℕ → List Var → Position
-position_with r a path brought = record { waiting = waiting_in a; path = path; state = state_in r; brought = brought }
+abbrev pub position_with : Store → GoalStack → List ℕ → List Brought → Position
+position_with r a path brought = record { waiting = waiting_in a; path = path; state = state_in r; brought = vars_of_brought brought }
 
-pub next_with : (r : Store) (a : GoalStack) (path : List ℕ) (brought : List Var) → next_in (track_with r a path brought) ≡ (present r).next
+pub next_with : (r : Store) (a : GoalStack) (path : List ℕ) (brought : List Brought) → next_in (track_with r a path brought) ≡ (present r).next
 next_with r a path brought = ap (λ (v : Triple). v.next) (last_present (past r) (present r))
 
-pub position_from : (r : Store) (a : GoalStack) (path : List ℕ) (brought : List Var) (n : ℕ) → n ≡ first_waiting a
+pub position_from : (r : Store) (a : GoalStack) (path : List ℕ) (brought : List Brought) (n : ℕ) → n ≡ first_waiting a
     → position_at (track_with r a path brought) n ≡ position_with r a path brought
 position_from r a path brought n e =
     ap (λ m. position_at (track_with r a path brought) m) e
-    ∙ ap (λ (v : Triple). record { waiting = waiting_in a; path = path; state = record { bindings = v.bindings; conditions = v.conditions; kinds = kinds r }; brought = brought })
+    ∙ ap (λ (v : Triple). record { waiting = waiting_in a; path = path; state = record { bindings = v.bindings; conditions = v.conditions; kinds = kinds r }; brought = vars_of_brought brought })
     (last_present (past r) (present r))
 
 pub next_here : (b : Machine) → next_in (track_of b) ≡ next_of b
@@ -51,7 +52,7 @@ goes_store b d v k c p x = record {
 }
 
 -- A machine that has gone back.
-module _ (s : Save) (b : Machine) (r : Store) (a : GoalStack) (path : List ℕ) (brought : List Var) where
+module _ (s : Save) (b : Machine) (r : Store) (a : GoalStack) (path : List ℕ) (brought : List Brought) where
   pub back_kinds : versions r ≡ take (s.mark.place + 1) (versions b.store) → kinds r ≡ take (present r).next (kinds b.store) → kinds r ≡ (back_to s (track_of b)).kinds
   back_kinds v k = k ∙ ap (λ (w : Triple). take w.next (kinds b.store)) (sym (last_present (past r) (present r)) ∙ ap last_version v)
 

@@ -30,6 +30,7 @@ use Rattle.ap_backchain.specs.Machines.{turned_of}
 use Rattle.ap_backchain.specs.Positions.{Position, ends, goes, goes_with, reduced_state, turned_fresh, unified_state, with_state}
 use Rattle.ap_backchain.specs.Tracks.{GoesFrom, Track}
 use Rattle.ap_backchain.specs.Views.{state_in}
+use Rattle.ap_backchain.specs.declared.brought.Brought.{Brought}
 use Rattle.ap_backchain.specs.declared.frames.Cell.{Cell}
 use Rattle.ap_backchain.specs.declared.turns.Turn.{Turn}
 use Rattle.ap_backchain.specs.declared.turns.Turn.TheVariants as turns
@@ -45,11 +46,11 @@ same_next s r e = sym (next_counts r) ∙ ap length e ∙ next_counts s
 pub waiting_kept : (s r : Store) (ws : List Waiting) → kinds r ≡ kinds s → AreWaitingBelow (present s).next ws → AreWaitingBelow (present r).next ws
 waiting_kept s r ws e h = subst (λ (n : ℕ). AreWaitingBelow n ws) (sym (same_next s r e)) h
 
-abbrev pub track_with : List Cell → List ℕ → List Var → List Triple → List NominalKind → Track
+abbrev pub track_with : List Cell → List ℕ → List Brought → List Triple → List NominalKind → Track
 track_with cs ps xs vs ks = record { versions = vs; kinds = ks; cells = cs; path = ps; brought = xs }
 
 -- the search goes on with the store
-pub store_goes : (s r : Store) (cs : List Cell) (ps : List ℕ) (xs : List Var) → IsPrefixOf (versions s) (versions r) → IsLonger (kinds s) (kinds r)
+pub store_goes : (s r : Store) (cs : List Cell) (ps : List ℕ) (xs : List Brought) → IsPrefixOf (versions s) (versions r) → IsLonger (kinds s) (kinds r)
     → GoesFrom (track_with cs ps xs (versions s) (kinds s)) (track_with cs ps xs (versions r) (kinds r))
 store_goes s r cs ps xs h k = record {
   versions = h;

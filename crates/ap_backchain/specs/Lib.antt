@@ -1,3 +1,4 @@
+pub mod Brought
 pub mod Closed
 pub mod Unbound
 pub mod Searches

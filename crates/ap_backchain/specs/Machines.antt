@@ -1,6 +1,7 @@
 -- The machines for which branches stand.
 use Rattle.std.specs.Prelude.{ℕ, Bool, true, false, List, [], ◌∷◌}
 use Rattle.ap_store.specs.Views.{kinds, present, versions}
+use Rattle.ap_backchain.specs.Brought.{vars_of_brought}
 use Rattle.ap_backchain.specs.Ends.{end_out}
 use Rattle.ap_backchain.specs.Positions.{Position, Turned, ends, goes}
 use Rattle.ap_backchain.specs.Stacks.{cells_of, waiting_in}
@@ -11,7 +12,7 @@ use Rattle.ap_backchain.specs.declared.turns.Turn.{Turn}
 use Rattle.ap_backchain.specs.declared.turns.Turn.TheVariants as turns
 
 abbrev pub position_of : Machine → Position
-position_of b = record { waiting = waiting_in b.goals; path = b.path.items; state = state_in b.store; brought = b.brought.items }
+position_of b = record { waiting = waiting_in b.goals; path = b.path.items; state = state_in b.store; brought = vars_of_brought b.brought.items }
 
 -- with all that it can go back to
 abbrev pub track_of : Machine → Track

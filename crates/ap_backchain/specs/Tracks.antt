@@ -2,21 +2,22 @@
 use Rattle.std.specs.Prelude.{ℕ, ◌+◌, ◌<◌, ◌≤◌, List, [], ◌∷◌, length, take}
 use Rattle.ap_defs.specs.Resolution.{State}
 use Rattle.ap_defs.specs.Types.{NominalKind}
-use Rattle.ap_defs.specs.declared.terms.Var.{Var}
 use Rattle.ap_store.specs.Triples.{Triple}
+use Rattle.ap_backchain.specs.Brought.{vars_of_brought}
 use Rattle.ap_backchain.specs.GoalStacks.{IsLonger, waiting_at}
 use Rattle.ap_backchain.specs.Positions.{Position}
+use Rattle.ap_backchain.specs.declared.brought.Brought.{Brought}
 use Rattle.ap_backchain.specs.declared.frames.Cell.{Cell}
 use Rattle.ap_backchain.specs.declared.points.Save.{Save}
 
--- The versions of the store, the present one last, and the kinds of its numbers; the goals in the goal_stack; the path; and the variables
--- that clauses and `exists` brought.
+-- The versions of the store, the present one last, and the kinds of its numbers; the goals in the goal_stack; the path; and the ranges
+-- of variables that clauses and `exists` brought.
 pub record Track : Type 0 where
   pub versions : List Triple
   pub kinds : List NominalKind
   pub cells : List Cell
   pub path : List ℕ
-  pub brought : List Var
+  pub brought : List Brought
 
 abbrev pub last_after : Triple → List Triple → Triple
 last_after v [] = v
@@ -33,7 +34,7 @@ state_at t = record { bindings = (last_version t.versions).bindings; conditions 
 
 -- where the search stands with the goals from a number on
 abbrev pub position_at : Track → ℕ → Position
-position_at t n = record { waiting = waiting_at t.cells n; path = t.path; state = state_at t; brought = t.brought }
+position_at t n = record { waiting = waiting_at t.cells n; path = t.path; state = state_at t; brought = vars_of_brought t.brought }
 
 -- what is left once the search has gone back
 abbrev pub back_to : Save → Track → Track

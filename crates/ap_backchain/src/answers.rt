@@ -6,10 +6,12 @@ ghost use Rattle.ap_defs.specs.Answers.{answer_of, closed_term, kind_at, typed_v
 ghost use Rattle.ap_defs.specs.Terms.{susp, term_of};
 ghost use Rattle.ap_defs.specs.Types.{locals_of};
 ghost use Rattle.ap_search.specs.Records.{closed_vars};
+ghost use Rattle.ap_backchain.specs.Brought.{vars_of_brought};
 ghost use Rattle.ap_backchain.specs.Unbound.{answer_by_unbound, vars_besides};
 ghost use Rattle.ap_backchain.specs.Views.{state_in};
 ghost use Rattle.ap_store.specs.Views.{kinds};
 
+use crate::brought::Brought;
 use crate::closing::closed_from;
 use crate::renaming::vars_of_locals;
 use crate::unbound::unbound_of;
@@ -100,11 +102,12 @@ pub fn answer_in(
     alloc: Global,
     locals: &[Local],
     store: &Store<'_>,
-    brought: &[Var],
+    brought: &[Brought<'_>],
 ) -> Result<Answer, Memory>
     requires { length locals.now < 2 ^ 64 }
     ensures { IfOk result (λ a. answer_of a
-        ≡ answer_by_unbound (locals_of locals.now) (state_in store.now) brought.now) }
+        ≡ answer_by_unbound (locals_of locals.now) (state_in store.now)
+        (vars_of_brought brought.now)) }
 {
     let free = vars_of_locals(alloc, 0, locals)?;
     let binds = closed(alloc, store, &free)?;

@@ -79,7 +79,7 @@ fn unify_head<'a>(
         end,
         terms: &head[..count],
     };
-    if unify(alloc, &mut machine.store, left, right)? {
+    if unify(alloc, &mut machine.store, &mut machine.work, left, right)? {
         Ok(Some(start))
     } else {
         machine.store.undo_to(mark);
@@ -112,7 +112,7 @@ pub fn enter_clause<'a>(
         None => Ok(false),
         Some(start) => {
             machine.push_choice(choice)?;
-            machine.push_locals(start, clause.locals.items())?;
+            machine.push_locals(start, &clause.locals)?;
             machine.push_goal(&clause.body, start, depth)?;
             Ok(true)
         }

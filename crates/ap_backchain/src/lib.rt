@@ -10,6 +10,7 @@
 pub mod answer_copies;
 pub mod answers;
 pub mod branch;
+pub mod brought;
 pub mod choices;
 pub mod clauses;
 pub mod closing;

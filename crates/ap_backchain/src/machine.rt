@@ -5,30 +5,34 @@ ghost use Rattle.ap_backchain.specs.BelowProps.{waiting_prop};
 ghost use Rattle.ap_backchain.specs.Stacks.{waiting_in};
 ghost use Rattle.ap_store.specs.Views.{present};
 
+use crate::brought::Brought;
 use crate::frames::Frame;
 use crate::goal_stack::GoalStack;
 use crate::points::Save;
-use crate::renaming::add_vars_of_locals;
 use ap_defs::goals::{Goal, Local};
+use ap_defs::lists::List;
 use ap_defs::memory::Memory;
 use ap_defs::terms::{Term, Var};
 use ap_store::store::Store;
+use ap_unify::pairs::Work;
 use std::alloc::Global;
 
 /// The machine of a search: what is bound and holds; the goal stack; the choices on the way; and the
-/// variables that clauses and `exists` brought, in order. The search goes on in place, and can go back
-/// to where it was at an earlier choice point.
+/// variables that clauses and `exists` brought, in order and in ranges. The search goes on in place,
+/// and can go back to where it was at an earlier choice point. The memory of unification's work is kept
+/// from one to the next.
 #[derive(Drop)]
 pub struct Machine<'a> {
     pub store: Store<'a>,
     pub goals: GoalStack<'a>,
     pub path: Vec<u32>,
-    pub brought: Vec<Var>,
+    pub brought: Vec<Brought<'a>>,
+    pub work: Work<'a>,
     pub ghost below: { AreWaitingBelow (present store).next (waiting_in goals) } by { waiting_prop (present store).next (waiting_in goals) },
 }
 
 impl<'a> Machine<'a> {
-    ghost use Rattle.std.specs.Prelude.{◌≡◌, ◌+◌, ◌<◌, ◌^◌, ◌∷◌, [], IfNone, IfSome, OnOk, length};
+    ghost use Rattle.std.specs.Prelude.{◌≡◌, ◌∷◌, [], IfNone, IfSome, OnOk};
     ghost use Rattle.ap_defs.specs.Goals.{goal_of};
     ghost use Rattle.ap_defs.specs.Renaming.{IsGoalBelow, local_vars, rename_goal};
     ghost use Rattle.ap_defs.specs.Types.{locals_of};
@@ -48,6 +52,7 @@ impl<'a> Machine<'a> {
             goals: GoalStack::new(alloc),
             path: Vec::new(alloc),
             brought: Vec::new(alloc),
+            work: Work::new(alloc),
         }
     }
 
@@ -73,27 +78,40 @@ impl<'a> Machine<'a> {
         Ok(())
     }
 
-    /// More variables that were brought.
-    pub fn push_vars(&mut self, vars: &[Var]) -> Result<(), Memory>
+    /// One more variable that was brought. Numbers of `2 ^ 32` and more are want of memory, as they are
+    /// to the store.
+    #[tactic(auto, using(crate::proofs::BroughtLemmas::brought_more))]
+    pub fn push_var(&mut self, x: Var) -> Result<(), Memory>
         ensures position { OnOk result (position_of self.new
-            ≡ with_vars vars.now (position_of self.old)) }
+            ≡ with_vars (x ∷ []) (position_of self.old)) }
         ensures goes { OnOk result (GoesFrom (track_of self.old) (track_of self.new)) }
         ensures next { OnOk result (next_of self.new ≡ next_of self.old) }
     {
-        self.brought.extend_from_slice(vars)?;
+        if x.num > u32::MAX as u64 {
+            return Err(Memory);
+        }
+        self.brought.push(Brought::Exists(x.num as u32))?;
         Ok(())
     }
 
     /// The variables among identifiers were brought that are not marked as bound, the first number
-    /// being `base`.
-    pub fn push_locals(&mut self, base: u64, locals: &[Local]) -> Result<(), Memory>
-        requires { base + length locals.now < 2 ^ 64 }
+    /// being `base`. Where there are no identifiers it takes no memory. Numbers of `2 ^ 32` and more are
+    /// want of memory, as they are to the store.
+    #[tactic(auto, using(crate::proofs::BroughtLemmas::brought_more))]
+    pub fn push_locals(&mut self, base: u64, locals: &'a List<Local>) -> Result<(), Memory>
         ensures position { OnOk result (position_of self.new
             ≡ with_vars (local_vars base (locals_of locals.now)) (position_of self.old)) }
         ensures goes { OnOk result (GoesFrom (track_of self.old) (track_of self.new)) }
         ensures next { OnOk result (next_of self.new ≡ next_of self.old) }
     {
-        add_vars_of_locals(&mut self.brought, base, locals)
+        if locals.items().is_empty() {
+            return Ok(());
+        }
+        if base > u32::MAX as u64 {
+            return Err(Memory);
+        }
+        self.brought.push(Brought::Clause(base as u32, locals))?;
+        Ok(())
     }
 
     /// The first goal, which waits no longer.

@@ -5,8 +5,8 @@ use ap_defs::terms::Term;
 use ap_index::predicate::Predicate;
 use ap_store::store::Mark;
 
-/// How far a search had come: the version of the store, and how many cells, choices and variables
-/// there were, with the number of the first goal that waited.
+/// How far a search had come: the version of the store, and how many cells, choices and ranges of
+/// variables there were, with the number of the first goal that waited.
 #[derive(Clone, Copy)]
 pub struct Save {
     pub mark: Mark,

@@ -38,7 +38,7 @@ pub fn vars_of_locals(alloc: Global, base: u64, locals: &[Local]) -> Result<Vec<
 }
 
 /// Whether an identifier is a variable that isn't marked as bound.
-fn is_free_var(local: &Local) -> bool
+pub(crate) fn is_free_var(local: &Local) -> bool
     ensures { (n : ℕ) (xs : list variable) →
         var_unless local.now.bound (kind_of local.now.kind) n xs
         ≡ (if result then (record { num = n } ∷ xs) else xs) }

@@ -70,7 +70,7 @@ fn turn_of_equation<'a>(
         end,
         terms: slice::from_ref(u),
     };
-    let solved = unify(alloc, &mut machine.store, left, right)?;
+    let solved = unify(alloc, &mut machine.store, &mut machine.work, left, right)?;
     Ok(goes_where(solved))
 }
 
@@ -145,8 +145,7 @@ fn turn_of_exists<'a>(
         (position_of machine.old)) }
     ensures goes { OnOk result (GoesFrom (track_of machine.old) (track_of machine.new)) }
 {
-    let brought = [Var { num: base + x.num }];
-    machine.push_vars(&brought)?;
+    machine.push_var(Var { num: base + x.num })?;
     machine.push_goal(goal, base, depth)?;
     Ok(Turn::Goes)
 }
@@ -208,7 +207,7 @@ pub fn found<'a>(alloc: Global, locals: &[Local], machine: &Machine<'a>) -> Resu
     requires { length locals.now < 2 ^ 64 }
     ensures { IfOk result (λ e. end_out machine.now.path.items e
         ≡ found_at machine.now.path.items (answer_by_unbound (locals_of locals.now)
-        (position_of machine.now).state machine.now.brought.items)) }
+        (position_of machine.now).state (position_of machine.now).brought)) }
 {
     let answer = answer_in(alloc, locals, &machine.store, &machine.brought)?;
     Ok(End::Found(answer))

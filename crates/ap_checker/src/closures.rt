@@ -201,11 +201,7 @@ fn moved_by<'a>(alloc: Global, swaps: Vec<Swap>, t: Cited<'a>) -> Result<Closure
 }
 
 /// A term of an item, where it is a variable with what stands for that put there.
-fn settled_within<'a>(
-    alloc: Global,
-    scope: Scope<'a>,
-    t: &'a Term,
-) -> Result<Closure<'a>, Memory>
+fn settled_within<'a>(alloc: Global, scope: Scope<'a>, t: &'a Term) -> Result<Closure<'a>, Memory>
     ensures term { IfOk result (λ u. scoped_term u
         ≡ put_in (environment_of scope.entry.standing.now) (term_of t.now)) }
     ensures of { IfOk result (λ u. (ts : table) →

@@ -115,7 +115,15 @@ pub(crate) fn term_fits<'a>(
     match &locals[place].kind {
         Kind::Name(_) => Ok(false),
         Kind::Var(ty) => {
-            has_type(alloc, constructors, answer, term.terms, typed, term.line, ty)
+            has_type(
+                alloc,
+                constructors,
+                answer,
+                term.terms,
+                typed,
+                term.line,
+                ty,
+            )
         }
     }
 }

@@ -84,7 +84,14 @@ fn verdict_on_nodes<'a>(
     'nodes: while let Some(next) = walk.pending.pop() {
         node = node.saturating_add(1);
         walk.standing.truncate(next.mark);
-        if let Some(rule) = visit(alloc, program, indexed, &mut typed, &mut walk, next.obligation)? {
+        if let Some(rule) = visit(
+            alloc,
+            program,
+            indexed,
+            &mut typed,
+            &mut walk,
+            next.obligation,
+        )? {
             let rule = rule.number();
             return Ok(Verdict::No { node, rule });
         }

@@ -292,7 +292,16 @@ pub(crate) fn visit<'a>(
                 },
                 body,
             };
-            visit_atom(alloc, program, answer, typed, walk, &used, *pred, args.items())
+            visit_atom(
+                alloc,
+                program,
+                answer,
+                typed,
+                walk,
+                &used,
+                *pred,
+                args.items(),
+            )
         }
         (SharedDerivation::Eq, Goal::Equal(left, right)) => {
             visit_equation(alloc, answer, at.terms, walk, left, right)

@@ -10,7 +10,7 @@ use Rattle.ap_program.specs.RawTyping.{IsOfSort, AreOfOneSort}
 use Rattle.ap_kinds.specs.declared.kinds.IdentKind.{IdentKind}
 use Rattle.ap_kinds.specs.Sorts.{id_with_sort}
 use Rattle.ap_kinds.specs.Systems.{EquationSystem, equate, with_hole, system_refused, shape_of_type}
-use Rattle.ap_kinds.specs.Gathering.{Wanting, whole, nothing, more, cell, inside_abstraction, new_body, NameHole, no_place, place_if, is_of_class, name_place, number_of_id, one_sort}
+use Rattle.ap_kinds.specs.Gathering.{Wanting, whole, typed, nothing, more, cell, typed_cell, inside_abstraction, new_body, NameHole, no_place, place_if, is_of_class, name_place, number_of_id, one_sort}
 use Rattle.ap_kinds.proofs.Assignments.{Assign, sort_of, filling, closed, IsProper, IsNamesShape, Agree, closed_same, names_snoc, snoc_names, is_name_type, name_shape, agree_on}
 use Rattle.ap_kinds.proofs.IdentLemmas.{kinds_by, Fits, kinds_same, fits_same, class_here, place_sort, sort_place}
 use Rattle.ap_kinds.proofs.Gathers.{Meets, IsMade, IsShapeOf, Suits, want_by, grows_on, shape_grows, suits_grows, want_same, below_idents, Gathers, gathers_map, gathers_equate, gathers_refused, gathers_then, Opens}
@@ -117,6 +117,24 @@ opens_known_body n idents x l t s m below h named =
           (c.0, c.1, c.2, z.4 ∙ ap one (sym body) ∙ ap one (closed_same s.next φ c.0 c.1 t right.bounded), z.5);
     }
 
+opens_typed_body : (n : ℕ) (idents : List IdentKind) (x k : ℕ) (t : NominalType) (s : EquationSystem) → IsMade n idents s → x < s.next
+    → Opens n idents (BodyAt x (typed (types.abs k t))) s (typed t) nothing (equate (names k) (hole x) s)
+opens_typed_body n idents x k t s m below =
+    let g = gathers_equate n idents (names k) (hole x) s m (record { bounded = omega arith; proper = λ f r. tt }) (hole_shape n x s below) in
+    record {
+      made = g.made;
+      grows = g.grows;
+      left = tt;
+      right = tt;
+      sound = λ φ f r. (k, t, sym (g.sound φ f r), refl, refl, refl);
+      complete = λ φ f r a b z.
+          let d : ◌≡◌ {A = Want} (one (types.abs k t)) (one (types.abs z.0 z.1)) = z.3 in
+          let sort : k ≡ z.0 = cc in
+          let body : t ≡ z.1 = cc in
+          let c = g.complete φ f r (ap types.names sort ∙ sym z.2) in
+          (c.0, c.1, c.2, z.4 ∙ ap one (sym body), z.5);
+    }
+
 opens_new_body : (n : ℕ) (idents : List IdentKind) (x : ℕ) (w : Wanting) (s : EquationSystem) → IsMade n idents s → x < s.next → Suits n w s
     → ((f : Filling) → GivesNames n f s.names → IsNameType n (f x))
     → ((φ : Assign) → Meets n φ s → (k : ℕ) × (φ x ≡ types.names k)) → Opens n idents (BodyAt x w) s (new_body x w s).want nothing (new_body x w s).system
@@ -153,6 +171,13 @@ opens_body n idents x (whole (names k)) s m below h must named = opens_new_body 
 opens_body n idents x (whole (base d)) s m below h must named = opens_new_body n idents x (whole (base d)) s m below h must named
 opens_body n idents x (whole (pair t u)) s m below h must named = opens_new_body n idents x (whole (pair t u)) s m below h must named
 opens_body n idents x (whole (list t)) s m below h must named = opens_new_body n idents x (whole (list t)) s m below h must named
+opens_body n idents x (typed (types.abs k t)) s m below h must named = opens_typed_body n idents x k t s m below
+opens_body n idents x (typed types.unit) s m below h must named = opens_new_body n idents x (typed types.unit) s m below h must named
+opens_body n idents x (typed (types.names k)) s m below h must named = opens_new_body n idents x (typed (types.names k)) s m below h must named
+opens_body n idents x (typed (types.base d)) s m below h must named = opens_new_body n idents x (typed (types.base d)) s m below h must named
+opens_body n idents x (typed (types.pair t u)) s m below h must named = opens_new_body n idents x (typed (types.pair t u)) s m below h must named
+opens_body n idents x (typed (types.list t)) s m below h must named = opens_new_body n idents x (typed (types.list t)) s m below h must named
+opens_body n idents x (typed_cell t) s m below h must named = opens_new_body n idents x (typed_cell t) s m below h must named
 opens_body n idents x nothing s m below h must named = opens_new_body n idents x nothing s m below h must named
 opens_body n idents x (more c rest) s m below h must named = opens_new_body n idents x (more c rest) s m below h must named
 opens_body n idents x (cell y) s m below h must named = opens_new_body n idents x (cell y) s m below h must named

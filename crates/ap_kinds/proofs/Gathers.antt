@@ -10,7 +10,7 @@ use Rattle.ap_program.specs.RawTyping.{IsTypedRaw}
 use Rattle.ap_kinds.specs.declared.kinds.IdentKind.{IdentKind}
 use Rattle.ap_kinds.specs.Sorts.{with_sorts}
 use Rattle.ap_kinds.specs.Systems.{EquationSystem, equate, system_refused, shape_of_type}
-use Rattle.ap_kinds.specs.Gathering.{Wanting, whole, nothing, more, cell}
+use Rattle.ap_kinds.specs.Gathering.{Wanting, whole, typed, nothing, more, cell, typed_cell}
 use Rattle.ap_kinds.proofs.Assignments.{Assign, filling, closed, IsProper, AreProper, Agree, closes, opened_injective, closed_same, solution_same, same_filling, agree_on, solves_snoc, snoc_solves, proper_snoc, bound_snoc}
 use Rattle.ap_kinds.proofs.IdentLemmas.{kinds_by, Fits, kinds_same, fits_same}
 
@@ -38,16 +38,20 @@ pub record IsShapeOf (n : ℕ) (t : TypeShape) (s : EquationSystem) : Type 0 whe
 
 abbrev pub Suits : ℕ → Wanting → EquationSystem → Type 0
 Suits n (whole t) s = IsShapeOf n t s
+Suits n (typed a) s = Unit {0}
 Suits n nothing s = Unit {0}
 Suits n (more a rest) s = Unit {0}
 Suits n (cell x) s = x < s.next
+Suits n (typed_cell a) s = Unit {0}
 
 -- what is wanted, by the types of holes
 abbrev pub want_by : Assign → Wanting → Want
 want_by φ (whole t) = one (closed φ t)
+want_by φ (typed a) = one a
 want_by φ nothing = typing.nothing
 want_by φ (more a rest) = typing.more a (arguments rest)
 want_by φ (cell x) = typing.more (φ x) (one (types.list (φ x)))
+want_by φ (typed_cell a) = typing.more a (one (types.list a))
 
 pub grows_refl : (n : ℕ) (s : EquationSystem) → Grows n s s
 grows_refl n s = record { next = omega arith; names = λ f h. h; back = λ φ h. h }
@@ -64,15 +68,19 @@ shape_grows n t s s' g h = record { bounded = let a = g.next in let b = h.bounde
 
 pub suits_grows : (n : ℕ) (w : Wanting) (s s' : EquationSystem) → Grows n s s' → Suits n w s → Suits n w s'
 suits_grows n (whole t) s s' g h = shape_grows n t s s' g h
+suits_grows n (typed a) s s' g h = tt
 suits_grows n nothing s s' g h = tt
 suits_grows n (more a rest) s s' g h = tt
 suits_grows n (cell x) s s' g h = let a = g.next in omega arith
+suits_grows n (typed_cell a) s s' g h = tt
 
 pub want_same : (n : ℕ) (w : Wanting) (s : EquationSystem) (φ ψ : Assign) → Agree s.next φ ψ → Suits n w s → want_by φ w ≡ want_by ψ w
 want_same n (whole t) s φ ψ a h = ap one (closed_same s.next φ ψ a t h.bounded)
+want_same n (typed b) s φ ψ a h = refl
 want_same n nothing s φ ψ a h = refl
 want_same n (more b rest) s φ ψ a h = refl
 want_same n (cell x) s φ ψ a h = ap (λ b. typing.more b (one (types.list b))) (a x h)
+want_same n (typed_cell b) s φ ψ a h = refl
 
 pub meets_same : (n : ℕ) (idents : List IdentKind) (s : EquationSystem) (φ ψ : Assign) → IsMade n idents s → Agree s.next φ ψ → Meets n φ s → Meets n ψ s
 meets_same n idents s φ ψ m a h = solution_same n s.next (filling φ) (filling ψ) (same_filling s.next φ ψ a) s.equations s.names m.bounded m.named h
@@ -204,4 +212,16 @@ opens_two n cs idents R s s1 s2 s3 w v t u past o g h = record {
       let c = h.complete b.0 (fits_same n idents a.0 b.0 same1 f1) b.2
       (typed_same cs idents φ b.0 u k.1 (want_by b.0 v) onward (a.4 ∙ want_same n v s1 a.0 b.0 b.1 o.right) k.4) in
       (c.0, agree_on s.next s1.next φ a.0 c.0 o.grows.next a.1 (agree_on s1.next s2.next a.0 b.0 c.0 g.grows.next b.1 c.1), c.2);
+}
+
+-- the same by another relation
+pub opens_map : (n : ℕ) (idents : List IdentKind) (R Q : Assign → Want → Want → Type 0) (s s' : EquationSystem) (w v : Wanting)
+    → ((φ : Assign) (a b : Want) → R φ a b → Q φ a b) → ((φ : Assign) (a b : Want) → Q φ a b → R φ a b) → Opens n idents R s w v s' → Opens n idents Q s w v s'
+opens_map n idents R Q s s' w v to from o = record {
+  made = o.made;
+  grows = o.grows;
+  left = o.left;
+  right = o.right;
+  sound = λ φ f m. to φ (want_by φ w) (want_by φ v) (o.sound φ f m);
+  complete = λ φ f m a b q. o.complete φ f m a b (from φ a b q);
 }

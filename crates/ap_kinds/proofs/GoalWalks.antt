@@ -15,11 +15,11 @@ use Rattle.ap_program.specs.Typed.{HaveTypes, predicate_at, AreArguments, IsType
 use Rattle.ap_kinds.specs.declared.kinds.IdentKind.{IdentKind}
 use Rattle.ap_kinds.specs.Sorts.{name_with_sort, terms_with_sorts, goal_with_sorts}
 use Rattle.ap_kinds.specs.Systems.{EquationSystem, with_name_hole, with_hole, system_refused, shape_of_type, is_name_at, is_var_at}
-use Rattle.ap_kinds.specs.Gathering.{whole, gather_term, gather_terms, gather_arguments, gather_atom, gather_equal, gather_fresh, gather_goal}
-use Rattle.ap_kinds.proofs.Assignments.{Assign, filling, Agree, closed_opened, names_snoc, snoc_names, is_name_type, agree_on}
+use Rattle.ap_kinds.specs.Gathering.{whole, typed, gather_term, gather_terms, gather_arguments, gather_atom, gather_equal, gather_fresh, gather_goal}
+use Rattle.ap_kinds.proofs.Assignments.{Assign, filling, Agree, names_snoc, snoc_names, is_name_type, agree_on}
 use Rattle.ap_kinds.proofs.IdentLemmas.{kinds_by, Fits, kinds_same, sort_of_name, own_sort, own_name, var_of_type, type_of_var}
 use Rattle.ap_kinds.proofs.Gathers.{IsMade, grows_on, suits_grows, below_idents, Gathers, gathers_map, gathers_none, gathers_refused, gathers_then, TypedBy, Opens, opens_two}
-use Rattle.ap_kinds.proofs.Steps.{made_hole, grows_hole, made_name, grows_name, hole_filled, hole_shape, opened_shape}
+use Rattle.ap_kinds.proofs.Steps.{made_hole, grows_hole, made_name, grows_name, hole_filled, hole_shape}
 use Rattle.ap_kinds.proofs.Walking.{Wants, gathers_term}
 
 -- terms with types, by the types of holes
@@ -30,12 +30,9 @@ terms_same : (cs : List NominalConstructor) (idents : List IdentKind) (ts : List
 terms_same cs idents ts as' φ ψ a h = subst (λ ks. HaveTypes (HasRawType cs ks) (terms_with_sorts ks ts) as') (kinds_same idents φ ψ a) h
 
 gathers_typed : (n : ℕ) (cs : List NominalConstructor) (idents : List IdentKind) (t : RawTerm) (a : NominalType) (s : EquationSystem) → IsMade n idents s
-    → Gathers n idents (λ φ. TypedBy cs idents φ t (one a)) s (gather_term cs idents t (whole (shape_of_type a)) s)
+    → Gathers n idents (λ φ. TypedBy cs idents φ t (one a)) s (gather_term cs idents t (typed a) s)
 gathers_typed n cs idents t a s m =
-    gathers_map n idents (Wants cs idents t (whole (shape_of_type a))) (λ φ. TypedBy cs idents φ t (one a)) s (gather_term cs idents t (whole (shape_of_type a)) s)
-    (λ φ f r h. subst (λ b. TypedBy cs idents φ t (one b)) (closed_opened φ a) h)
-    (λ φ f r h. subst (λ b. TypedBy cs idents φ t (one b)) (sym (closed_opened φ a)) h)
-    (gathers_term n cs idents t (whole (shape_of_type a)) s m (opened_shape n a s))
+    gathers_term n cs idents t (typed a) s m tt
 
 pub gathers_terms : (n : ℕ) (cs : List NominalConstructor) (idents : List IdentKind) (ts : List RawTerm) (as' : List NominalType) (s : EquationSystem) → IsMade n idents s
     → Gathers n idents (TermsBy cs idents ts as') s (gather_terms cs idents ts as' s)
@@ -43,7 +40,7 @@ gathers_terms n cs idents [] [] s m = gathers_none n idents (TermsBy cs idents [
 gathers_terms n cs idents [] (a ∷ as') s m = gathers_refused n idents (TermsBy cs idents [] (a ∷ as')) s m (λ φ f h. h)
 gathers_terms n cs idents (t ∷ ts) [] s m = gathers_refused n idents (TermsBy cs idents (t ∷ ts) []) s m (λ φ f h. h)
 gathers_terms n cs idents (t ∷ ts) (a ∷ as') s m =
-    let s1 = gather_term cs idents t (whole (shape_of_type a)) s in
+    let s1 = gather_term cs idents t (typed a) s in
     let g = gathers_typed n cs idents t a s m in
     let k = gathers_terms n cs idents ts as' s1 g.made in
     gathers_map n idents (λ φ. TypedBy cs idents φ t (one a) × TermsBy cs idents ts as' φ) (TermsBy cs idents (t ∷ ts) (a ∷ as')) s (gather_terms cs idents ts as' s1)

@@ -1,16 +1,16 @@
 -- What is wanted inside a pair, an application and an abstraction.
-use Rattle.std.proofs.Common.{◌≡◌, ◌<◌, ◌+◌, ◌∙◌, ℕ, List, [], ◌∷◌, length, refl, sym, ap, subst, arith, Option, Some, None}
+use Rattle.std.proofs.Common.{◌≡◌, ◌<◌, ◌+◌, ◌∙◌, ◌⊎◌, inl, inr, ℕ, List, [], ◌∷◌, length, refl, sym, ap, subst, arith, Option, Some, None}
 use Rattle.ap_defs.specs.Types.{NominalType, NominalConstructor, TypeShape, hole, unit, names, base, pair, list, abs}
 use Rattle.ap_defs.specs.Types as types
 use Rattle.ap_defs.specs.Typing as typing
 use Rattle.ap_defs.specs.Typing.{Want, one, arguments}
 use Rattle.ap_kinds.specs.declared.kinds.IdentKind.{IdentKind}
 use Rattle.ap_kinds.specs.Systems.{EquationSystem, with_hole, system_refused, shape_of_type}
-use Rattle.ap_kinds.specs.Gathering.{Wanting, whole, nothing, more, cell, wanting_all, sides, new_sides, listed_hole, inside_element, inside_cell, new_element, inside_declared}
+use Rattle.ap_kinds.specs.Gathering.{Wanting, whole, typed, nothing, more, cell, typed_cell, wanting_all, sides, new_sides, cell_wanted, inside_element, inside_cell, new_element, inside_declared}
 use Rattle.ap_kinds.proofs.Assignments.{Assign, closed, Agree, closed_opened, closed_same, agree_on}
 use Rattle.ap_kinds.proofs.IdentLemmas.{fits_same}
 use Rattle.ap_kinds.proofs.Inversions.{Splits, Declares}
-use Rattle.ap_kinds.proofs.Gathers.{IsMade, IsShapeOf, Suits, want_by, grows_refl, grows_on, shape_grows, suits_grows, want_same, below_idents, gathers_equate, gathers_refused, Opens}
+use Rattle.ap_kinds.proofs.Gathers.{IsMade, IsShapeOf, Suits, want_by, grows_refl, grows_on, shape_grows, suits_grows, want_same, below_idents, gathers_equate, gathers_refused, Opens, opens_map}
 use Rattle.ap_kinds.proofs.Steps.{made_hole, grows_hole, hole_filled, hole_shape, opened_shape, gathers_meet}
 
 -- Pairs.
@@ -59,12 +59,12 @@ opens_new_sides n idents t s m h =
 
 want_all : (φ : Assign) (as' : List NominalType) → want_by φ (wanting_all as') ≡ arguments as'
 want_all φ [] = refl
-want_all φ (a ∷ []) = ap one (closed_opened φ a)
+want_all φ (a ∷ []) = refl
 want_all φ (a ∷ b ∷ rest) = refl
 
 suits_all : (n : ℕ) (as' : List NominalType) (s : EquationSystem) → Suits n (wanting_all as') s
 suits_all n [] s = tt
-suits_all n (a ∷ []) s = opened_shape n a s
+suits_all n (a ∷ []) s = tt
 suits_all n (a ∷ b ∷ rest) s = tt
 
 agree_self : (k : ℕ) (φ : Assign) → Agree k φ φ
@@ -104,6 +104,13 @@ opens_refused n idents R s m h =
       complete = λ φ f r a b k. absurd (h φ a b k);
     }
 
+opens_typed_sides : (n : ℕ) (idents : List IdentKind) (c : NominalType) (s : EquationSystem) → IsMade n idents s
+    → Opens n idents (SidesOf (typed c)) s (whole (hole s.next)) (whole (hole (s.next + 1))) (new_sides (shape_of_type c) s).system
+opens_typed_sides n idents c s m =
+    opens_map n idents (SidesOf (whole (shape_of_type c))) (SidesOf (typed c)) s (new_sides (shape_of_type c) s).system (whole (hole s.next)) (whole (hole (s.next + 1)))
+    (λ φ a b h. subst (λ d. Splits (one d) a b) (closed_opened φ c) h) (λ φ a b h. subst (λ d. Splits (one d) a b) (sym (closed_opened φ c)) h)
+    (opens_new_sides n idents (shape_of_type c) s m (opened_shape n c s))
+
 pub opens_sides : (n : ℕ) (idents : List IdentKind) (w : Wanting) (s : EquationSystem) → IsMade n idents s → Suits n w s
     → Opens n idents (SidesOf w) s (sides w s).left (sides w s).right (sides w s).system
 opens_sides n idents (whole (pair t u)) s m h =
@@ -114,12 +121,19 @@ opens_sides n idents (whole (names k)) s m h = opens_new_sides n idents (names k
 opens_sides n idents (whole (base d)) s m h = opens_new_sides n idents (base d) s m h
 opens_sides n idents (whole (list t)) s m h = opens_new_sides n idents (list t) s m h
 opens_sides n idents (whole (abs t u)) s m h = opens_new_sides n idents (abs t u) s m h
+opens_sides n idents (typed (types.pair c d)) s m h = opens_same n idents (SidesOf (typed (types.pair c d))) s (typed c) (typed d) m tt tt (λ φ. (refl, refl)) (λ φ a b r. r)
+opens_sides n idents (typed types.unit) s m h = opens_typed_sides n idents types.unit s m
+opens_sides n idents (typed (types.names k)) s m h = opens_typed_sides n idents (types.names k) s m
+opens_sides n idents (typed (types.base d)) s m h = opens_typed_sides n idents (types.base d) s m
+opens_sides n idents (typed (types.list c)) s m h = opens_typed_sides n idents (types.list c) s m
+opens_sides n idents (typed (types.abs k c)) s m h = opens_typed_sides n idents (types.abs k c) s m
 opens_sides n idents nothing s m h = opens_refused n idents (SidesOf nothing) s m (λ φ a b r. r)
 opens_sides n idents (more c rest) s m h =
-    opens_same n idents (SidesOf (more c rest)) s (whole (shape_of_type c)) (wanting_all rest) m (opened_shape n c s) (suits_all n rest s)
-    (λ φ. (ap one (closed_opened φ c), want_all φ rest)) (λ φ a b r. (r.0 ∙ ap one (sym (closed_opened φ c)), r.1 ∙ sym (want_all φ rest)))
+    opens_same n idents (SidesOf (more c rest)) s (typed c) (wanting_all rest) m tt (suits_all n rest s)
+    (λ φ. (refl, want_all φ rest)) (λ φ a b r. (r.0, r.1 ∙ sym (want_all φ rest)))
 opens_sides n idents (cell x) s m h =
     opens_same n idents (SidesOf (cell x)) s (whole (hole x)) (whole (list (hole x))) m (hole_shape n x s h) (list_shape n x s h) (λ φ. (refl, refl)) (λ φ a b r. r)
+opens_sides n idents (typed_cell c) s m h = opens_same n idents (SidesOf (typed_cell c)) s (typed c) (typed (types.list c)) m tt tt (λ φ. (refl, refl)) (λ φ a b r. r)
 
 -- Lists.
 abbrev pub CellOf : Wanting → Assign → Want → Want → Type 0
@@ -157,25 +171,47 @@ opens_new_element n idents w s m h =
           );
     }
 
-listed : (w : Wanting) (x : ℕ) → listed_hole w ≡ Some x → w ≡ whole (list (hole x))
-listed (whole (list (hole y))) x e = let d : y ≡ x = cc in ap (λ z. whole (list (hole z))) d
-listed _ x e = cc
+-- a list of the type of a hole is wanted, or of a type
+cell_by : (w v : Wanting) → cell_wanted w ≡ Some v → ((x : ℕ) × (w ≡ whole (list (hole x))) × (v ≡ cell x)) ⊎ ((c : NominalType) × (w ≡ typed (types.list c)) × (v ≡ typed_cell c))
+cell_by (whole (list (hole x))) v e = inl (x, refl, (let d : v ≡ cell x = cc in d))
+cell_by (typed (types.list c)) v e = inr (c, refl, (let d : v ≡ typed_cell c = cc in d))
+cell_by _ v e = cc
 
-opens_element : (n : ℕ) (idents : List IdentKind) (o : Option ℕ) (w : Wanting) (s : EquationSystem) → listed_hole w ≡ o → IsMade n idents s → Suits n w s
-    → Opens n idents (CellOf w) s (inside_element o w s).want nothing (inside_element o w s).system
-opens_element n idents None w s e m h = opens_new_element n idents w s m h
-opens_element n idents (Some x) w s e m h =
-    let is = listed w x e in
-    let l : x < s.next = let k : IsShapeOf n (list (hole x)) s = subst (λ v. Suits n v s) is h in let b = k.bounded in omega arith in
-    opens_same n idents (CellOf w) s (cell x) nothing m l tt
-    (λ φ. (φ x, ap (want_by φ) is, refl, refl))
-    (λ φ a b r. let d : ◌≡◌ {A = Want} (one (types.list (φ x))) (one (types.list r.0)) = sym (ap (want_by φ) is) ∙ r.1 in
+opens_hole_cell : (n : ℕ) (idents : List IdentKind) (x : ℕ) (s : EquationSystem) → IsMade n idents s → Suits n (whole (list (hole x))) s
+    → Opens n idents (CellOf (whole (list (hole x)))) s (cell x) nothing s
+opens_hole_cell n idents x s m h =
+    let l : x < s.next = let k : IsShapeOf n (list (hole x)) s = h in let b = k.bounded in omega arith in
+    opens_same n idents (CellOf (whole (list (hole x)))) s (cell x) nothing m l tt
+    (λ φ. (φ x, refl, refl, refl))
+    (λ φ a b r. let d : ◌≡◌ {A = Want} (one (types.list (φ x))) (one (types.list r.0)) = r.1 in
     let c : φ x ≡ r.0 = cc in
     (r.2 ∙ ap (λ z. typing.more z (one (types.list z))) (sym c), r.3))
 
+opens_typed_cell : (n : ℕ) (idents : List IdentKind) (c : NominalType) (s : EquationSystem) → IsMade n idents s
+    → Opens n idents (CellOf (typed (types.list c))) s (typed_cell c) nothing s
+opens_typed_cell n idents c s m =
+    opens_same n idents (CellOf (typed (types.list c))) s (typed_cell c) nothing m tt tt
+    (λ φ. (c, refl, refl, refl))
+    (λ φ a b r. let d : ◌≡◌ {A = Want} (one (types.list c)) (one (types.list r.0)) = r.1 in
+    let e : c ≡ r.0 = cc in
+    (r.2 ∙ ap (λ z. typing.more z (one (types.list z))) (sym e), r.3))
+
+opens_element : (n : ℕ) (idents : List IdentKind) (o : Option Wanting) (w : Wanting) (s : EquationSystem) → cell_wanted w ≡ o → IsMade n idents s → Suits n w s
+    → Opens n idents (CellOf w) s (inside_element o w s).want nothing (inside_element o w s).system
+opens_element n idents None w s e m h = opens_new_element n idents w s m h
+opens_element n idents (Some v) w s e m h =
+    elim (cell_by w v e) [
+      | inl k ↦
+          let o = opens_hole_cell n idents k.0 s m (subst (λ (z : Wanting). Suits n z s) k.1 h) in
+          subst (λ (z : Wanting). Opens n idents (CellOf w) s z nothing s) (sym k.2) (subst (λ (z : Wanting). Opens n idents (CellOf z) s (cell k.0) nothing s) (sym k.1) o)
+      | inr k ↦
+          let o = opens_typed_cell n idents k.0 s m in
+          subst (λ (z : Wanting). Opens n idents (CellOf w) s z nothing s) (sym k.2) (subst (λ (z : Wanting). Opens n idents (CellOf z) s (typed_cell k.0) nothing s) (sym k.1) o)
+    ]
+
 pub opens_cell : (n : ℕ) (idents : List IdentKind) (w : Wanting) (s : EquationSystem) → IsMade n idents s → Suits n w s
     → Opens n idents (CellOf w) s (inside_cell w s).want nothing (inside_cell w s).system
-opens_cell n idents w s m h = opens_element n idents (listed_hole w) w s refl m h
+opens_cell n idents w s m h = opens_element n idents (cell_wanted w) w s refl m h
 
 pub opens_nil : (n : ℕ) (idents : List IdentKind) (w : Wanting) (s : EquationSystem) → IsMade n idents s → Suits n w s
     → Opens n idents (NilOf w) s nothing nothing (inside_cell w s).system

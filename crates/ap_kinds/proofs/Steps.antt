@@ -1,15 +1,15 @@
 -- The steps of a walk.
-use Rattle.std.proofs.Common.{◌≡◌, ◌<◌, ◌⊎◌, inl, inr, ℕ, List, refl, ap, arith}
+use Rattle.std.proofs.Common.{◌≡◌, ◌<◌, ◌⊎◌, ◌∙◌, inl, inr, ℕ, Bool, true, false, List, refl, sym, ap, arith, eqb-true}
 use Rattle.std.specs.Prelude.{◌==◌, if◌then◌else◌}
 use Rattle.std.proofs.lemmas.Bool.Decides.{eqb_tells}
-use Rattle.ap_defs.specs.Types.{NominalType, TypeShape, hole, unit, names, list}
+use Rattle.ap_defs.specs.Types.{NominalType, TypeShape, hole, unit, names, base, list}
 use Rattle.ap_defs.specs.Types as types
 use Rattle.ap_defs.specs.Typing as typing
 use Rattle.ap_defs.specs.Typing.{Want, one, arguments}
 use Rattle.ap_kinds.specs.declared.kinds.IdentKind.{IdentKind}
 use Rattle.ap_kinds.specs.Systems.{EquationSystem, equate, with_name_hole, with_hole, shape_of_type}
-use Rattle.ap_kinds.specs.Gathering.{Wanting, whole, nothing, more, cell, meet, meet_unit, meet_swapped}
-use Rattle.ap_kinds.proofs.Assignments.{Assign, filling, closed, Agree, proper_opened, bound_opened, names_snoc, names_bound_snoc}
+use Rattle.ap_kinds.specs.Gathering.{Wanting, whole, typed, nothing, more, cell, typed_cell, is_same, equate_unless, equate_others, meet, meet_unit, meet_swapped}
+use Rattle.ap_kinds.proofs.Assignments.{Assign, filling, closed, Agree, closed_opened, proper_opened, bound_opened, names_snoc, names_bound_snoc}
 use Rattle.ap_kinds.proofs.Gathers.{Meets, IsMade, Grows, IsShapeOf, Suits, want_by, meets_same, Gathers, gathers_map, gathers_none, gathers_equate, gathers_refused}
 
 -- New holes.
@@ -51,26 +51,54 @@ hole_shape n x s l = record { bounded = omega arith; proper = λ f g. tt }
 pub opened_shape : (n : ℕ) (a : NominalType) (s : EquationSystem) → IsShapeOf n (shape_of_type a) s
 opened_shape n a s = record { bounded = bound_opened a s.next; proper = λ f g. proper_opened f a }
 
+same_shapes : (t u : TypeShape) → is_same t u ≡ true → t ≡ u
+same_shapes (hole x) (hole y) e = ap hole (eqb-true x y e)
+same_shapes unit unit e = refl
+same_shapes (names r) (names s) e = ap names (eqb-true r s e)
+same_shapes (base c) (base d) e = ap base (eqb-true c d e)
+same_shapes _ _ e = cc
+
+gathers_unless : (n : ℕ) (idents : List IdentKind) (t u : TypeShape) (s : EquationSystem) (b : Bool) → is_same t u ≡ b → IsMade n idents s → IsShapeOf n t s → IsShapeOf n u s
+    → Gathers n idents (λ φ. one (closed φ t) ≡ one (closed φ u)) s (equate_unless b t u s)
+gathers_unless n idents t u s true e m h k =
+    gathers_none n idents (λ φ. one (closed φ t) ≡ one (closed φ u)) s m (λ φ f r. ap (λ v. one (closed φ v)) (same_shapes t u e))
+gathers_unless n idents t u s false e m h k =
+    gathers_map n idents (λ φ. closed φ t ≡ closed φ u) (λ φ. one (closed φ t) ≡ one (closed φ u)) s (equate t u s)
+    (λ φ f r e. ap one e) (λ φ f r e. let d : ◌≡◌ {A = Want} (one (closed φ t)) (one (closed φ u)) = e in cc) (gathers_equate n idents t u s m h k)
+
+-- the shapes become the same
+gathers_others : (n : ℕ) (idents : List IdentKind) (t u : TypeShape) (s : EquationSystem) → IsMade n idents s → IsShapeOf n t s → IsShapeOf n u s
+    → Gathers n idents (λ φ. one (closed φ t) ≡ one (closed φ u)) s (equate_others t u s)
+gathers_others n idents t u s m h k = gathers_unless n idents t u s (is_same t u) refl m h k
+
 -- A term of a shape stands where something is wanted.
 pub gathers_meet : (n : ℕ) (idents : List IdentKind) (w : Wanting) (u : TypeShape) (s : EquationSystem) → IsMade n idents s → Suits n w s → IsShapeOf n u s
     → Gathers n idents (λ φ. want_by φ w ≡ one (closed φ u)) s (meet w u s)
-gathers_meet n idents (whole t) u s m h k =
-    gathers_map n idents (λ φ. closed φ t ≡ closed φ u) (λ φ. one (closed φ t) ≡ one (closed φ u)) s (equate t u s)
-    (λ φ f r e. ap one e) (λ φ f r e. let d : ◌≡◌ {A = Want} (one (closed φ t)) (one (closed φ u)) = e in cc) (gathers_equate n idents t u s m h k)
+gathers_meet n idents (whole t) u s m h k = gathers_others n idents t u s m h k
+gathers_meet n idents (typed a) u s m h k =
+    gathers_map n idents (λ φ. one (closed φ (shape_of_type a)) ≡ one (closed φ u)) (λ φ. one a ≡ one (closed φ u)) s (equate_others (shape_of_type a) u s)
+    (λ φ f r e. ap one (sym (closed_opened φ a)) ∙ e) (λ φ f r e. ap one (closed_opened φ a) ∙ e) (gathers_others n idents (shape_of_type a) u s m (opened_shape n a s) k)
 gathers_meet n idents nothing u s m h k = gathers_refused n idents (λ φ. typing.nothing ≡ one (closed φ u)) s m (λ φ f e. let d : ◌≡◌ {A = Want} typing.nothing (one (closed φ u)) = e in cc)
 gathers_meet n idents (more a rest) u s m h k =
     gathers_refused n idents (λ φ. typing.more a (arguments rest) ≡ one (closed φ u)) s m (λ φ f e. let d : ◌≡◌ {A = Want} (typing.more a (arguments rest)) (one (closed φ u)) = e in cc)
 gathers_meet n idents (cell x) u s m h k =
     gathers_refused n idents (λ φ. typing.more (φ x) (one (types.list (φ x))) ≡ one (closed φ u)) s m
     (λ φ f e. let d : ◌≡◌ {A = Want} (typing.more (φ x) (one (types.list (φ x)))) (one (closed φ u)) = e in cc)
+gathers_meet n idents (typed_cell a) u s m h k =
+    gathers_refused n idents (λ φ. typing.more a (one (types.list a)) ≡ one (closed φ u)) s m
+    (λ φ f e. let d : ◌≡◌ {A = Want} (typing.more a (one (types.list a))) (one (closed φ u)) = e in cc)
 
 pub gathers_unit : (n : ℕ) (idents : List IdentKind) (w : Wanting) (s : EquationSystem) → IsMade n idents s → Suits n w s
     → Gathers n idents (λ φ. (want_by φ w ≡ typing.nothing) ⊎ (want_by φ w ≡ one types.unit)) s (meet_unit w s)
 gathers_unit n idents nothing s m h = gathers_none n idents (λ φ. (typing.nothing ≡ typing.nothing) ⊎ (typing.nothing ≡ one types.unit)) s m (λ φ f r. inl refl)
 gathers_unit n idents (whole t) s m h =
-    gathers_map n idents (λ φ. one (closed φ t) ≡ one types.unit) (λ φ. (one (closed φ t) ≡ typing.nothing) ⊎ (one (closed φ t) ≡ one types.unit)) s (equate t unit s)
+    gathers_map n idents (λ φ. one (closed φ t) ≡ one types.unit) (λ φ. (one (closed φ t) ≡ typing.nothing) ⊎ (one (closed φ t) ≡ one types.unit)) s (meet (whole t) unit s)
     (λ φ f r e. inr e) (λ φ f r e. elim e [ inl d ↦ (let c : ◌≡◌ {A = Want} (one (closed φ t)) typing.nothing = d in cc) | inr d ↦ d ])
     (gathers_meet n idents (whole t) unit s m h (record { bounded = omega arith; proper = λ f g. tt }))
+gathers_unit n idents (typed a) s m h =
+    gathers_map n idents (λ φ. one a ≡ one types.unit) (λ φ. (one a ≡ typing.nothing) ⊎ (one a ≡ one types.unit)) s (meet (typed a) unit s)
+    (λ φ f r e. inr e) (λ φ f r e. elim e [ inl d ↦ (let c : ◌≡◌ {A = Want} (one a) typing.nothing = d in cc) | inr d ↦ d ])
+    (gathers_meet n idents (typed a) unit s m h (record { bounded = omega arith; proper = λ f g. tt }))
 gathers_unit n idents (more a rest) s m h =
     gathers_refused n idents (λ φ. (typing.more a (arguments rest) ≡ typing.nothing) ⊎ (typing.more a (arguments rest) ≡ one types.unit)) s m
     (λ φ f e. elim e [
@@ -83,10 +111,17 @@ gathers_unit n idents (cell x) s m h =
       | inl d ↦ (let c : ◌≡◌ {A = Want} (typing.more (φ x) (one (types.list (φ x)))) typing.nothing = d in cc)
       | inr d ↦ (let c : ◌≡◌ {A = Want} (typing.more (φ x) (one (types.list (φ x)))) (one types.unit) = d in cc)
     ])
+gathers_unit n idents (typed_cell a) s m h =
+    gathers_refused n idents (λ φ. (typing.more a (one (types.list a)) ≡ typing.nothing) ⊎ (typing.more a (one (types.list a)) ≡ one types.unit)) s m
+    (λ φ f e. elim e [
+      | inl d ↦ (let c : ◌≡◌ {A = Want} (typing.more a (one (types.list a))) typing.nothing = d in cc)
+      | inr d ↦ (let c : ◌≡◌ {A = Want} (typing.more a (one (types.list a))) (one types.unit) = d in cc)
+    ])
 
 pub gathers_swapped : (n : ℕ) (idents : List IdentKind) (w : Wanting) (s : EquationSystem) → IsMade n idents s
     → Gathers n idents (λ φ. (a : NominalType) × (want_by φ w ≡ one a)) s (meet_swapped w s)
 gathers_swapped n idents (whole t) s m = gathers_none n idents (λ φ. (a : NominalType) × (one (closed φ t) ≡ one a)) s m (λ φ f r. (closed φ t, refl))
+gathers_swapped n idents (typed b) s m = gathers_none n idents (λ φ. (a : NominalType) × (one b ≡ one a)) s m (λ φ f r. (b, refl))
 gathers_swapped n idents nothing s m =
     gathers_refused n idents (λ φ. (a : NominalType) × (typing.nothing ≡ one a)) s m (λ φ f e. let d : ◌≡◌ {A = Want} typing.nothing (one e.0) = e.1 in cc)
 gathers_swapped n idents (more b rest) s m =
@@ -94,3 +129,6 @@ gathers_swapped n idents (more b rest) s m =
 gathers_swapped n idents (cell x) s m =
     gathers_refused n idents (λ φ. (a : NominalType) × (typing.more (φ x) (one (types.list (φ x))) ≡ one a)) s m
     (λ φ f e. let d : ◌≡◌ {A = Want} (typing.more (φ x) (one (types.list (φ x)))) (one e.0) = e.1 in cc)
+gathers_swapped n idents (typed_cell b) s m =
+    gathers_refused n idents (λ φ. (a : NominalType) × (typing.more b (one (types.list b)) ≡ one a)) s m
+    (λ φ f e. let d : ◌≡◌ {A = Want} (typing.more b (one (types.list b))) (one e.0) = e.1 in cc)

@@ -6,8 +6,8 @@ use Rattle.ap_defs.specs.RawTerms.{raw_of}
 use Rattle.ap_defs.specs.Types.{NominalConstructor, type_of}
 use Rattle.ap_types.proofs.LoadLemmas.{next_at}
 use Rattle.ap_kinds.specs.declared.kinds.IdentKind.{IdentKind}
-use Rattle.ap_kinds.specs.Systems.{EquationSystem, shape_of_type, system_refused}
-use Rattle.ap_kinds.specs.Gathering.{whole, gather_term, gather_terms}
+use Rattle.ap_kinds.specs.Systems.{EquationSystem, system_refused}
+use Rattle.ap_kinds.specs.Gathering.{typed, gather_term, gather_terms}
 
 drop_past : {A : Type 0} (xs : List A) (i : ℕ) → length xs ≤ i → drop i xs ≡ []
 drop_past [] zero l = refl
@@ -22,7 +22,7 @@ drop_within (x ∷ xs) (suc i) l = drop_within xs i (omega arith)
 
 pub terms_next : (cs : List NominalConstructor) (idents : List IdentKind) (ts : List Raw) (as' : List Ty) (i : ℕ) (t : Raw) (a : Ty) (s : EquationSystem)
     → i < length ts → t ≡ get_or ts i t → i < length as' → a ≡ get_or as' i a
-    → gather_terms cs idents (map raw_of (drop (i + 1) ts)) (map type_of (drop (i + 1) as')) (gather_term cs idents (raw_of t) (whole (shape_of_type (type_of a))) s)
+    → gather_terms cs idents (map raw_of (drop (i + 1) ts)) (map type_of (drop (i + 1) as')) (gather_term cs idents (raw_of t) (typed (type_of a)) s)
     ≡ gather_terms cs idents (map raw_of (drop i ts)) (map type_of (drop i as')) s
 terms_next cs idents ts as' i t a s l e m f = rw (next_at ts i t l e, next_at as' i a m f) refl
 

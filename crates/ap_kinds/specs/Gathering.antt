@@ -1,10 +1,11 @@
 -- The type equations of an item, gathered in one walk with the type that is wanted at each place.
-use Rattle.std.specs.Prelude.{ℕ, zero, suc, ◌+◌, Bool, true, false, List, [], ◌∷◌, map, if◌then◌else◌, Option, Some, None}
+use Rattle.std.specs.Prelude.{ℕ, zero, suc, ◌+◌, Bool, true, false, ◌==◌, List, [], ◌∷◌, map, if◌then◌else◌, Option, Some, None}
 use Rattle.ap_defs.specs.declared.terms.Id.{Id}
 use Rattle.ap_defs.specs.declared.terms.Id.TheVariants as ids
 use Rattle.ap_defs.specs.RawTerms as raw
 use Rattle.ap_defs.specs.RawTerms.{RawTerm}
-use Rattle.ap_defs.specs.Types.{NominalType, NominalConstructor, NominalSignature, TypeShape, hole, unit, base, pair, list, abs, shape_of, type_of}
+use Rattle.ap_defs.specs.Types.{NominalType, NominalConstructor, NominalSignature, TypeShape, hole, unit, names, base, pair, list, abs, shape_of, type_of}
+use Rattle.ap_defs.specs.Types as types
 use Rattle.ap_defs.specs.Goals.{GoalOver, succeed, atom, equal, fresh, both, either, exists, new}
 use Rattle.ap_defs.specs.Printing.{constructor_in}
 use Rattle.ap_program.specs.Typed.{predicate_at}
@@ -13,29 +14,51 @@ use Rattle.ap_kinds.specs.declared.wants.Wanted.{Wanted}
 use Rattle.ap_kinds.specs.declared.wants.Wanted.TheVariants as code
 use Rattle.ap_kinds.specs.Systems.{EquationSystem, equate, with_name_hole, with_hole, system_refused, shape_of_type, is_name_at, is_var_at}
 
--- What is wanted of a term: a shape; nothing; a type and the rest of a constructor's arguments; or an element of the type of a
--- hole and a list of these.
+-- What is wanted of a term: a shape; a type; nothing; a type and the rest of a constructor's arguments; an element of the type of
+-- a hole and a list of these; or an element of a type and a list of these.
 pub data Wanting : Type 0 where
   whole : TypeShape → Wanting
+  typed : NominalType → Wanting
   nothing : Wanting
   more : NominalType → List NominalType → Wanting
   cell : ℕ → Wanting
+  typed_cell : NominalType → Wanting
 
 abbrev pub wanting_of : Wanted → Wanting
 wanting_of (code.Whole s) = whole (shape_of s)
+wanting_of (code.Type t) = typed (type_of t.now)
+wanting_of (code.ListOf t) = typed (types.list (type_of t.now))
 wanting_of code.Nothing = nothing
 wanting_of (code.More t ts) = more (type_of t.now) (map type_of ts.now)
 wanting_of (code.Cell x) = cell x
+wanting_of (code.TypeCell t) = typed_cell (type_of t.now)
 
 -- the arguments of a constructor
 abbrev pub wanting_all : List NominalType → Wanting
 wanting_all [] = nothing
-wanting_all (a ∷ []) = whole (shape_of_type a)
+wanting_all (a ∷ []) = typed a
 wanting_all (a ∷ b ∷ rest) = more a (b ∷ rest)
+
+-- the shapes have no parts and are the same
+abbrev pub is_same : TypeShape → TypeShape → Bool
+is_same (hole x) (hole y) = x == y
+is_same unit unit = true
+is_same (names r) (names s) = r == s
+is_same (base c) (base d) = c == d
+is_same _ _ = false
+
+abbrev pub equate_unless : Bool → TypeShape → TypeShape → EquationSystem → EquationSystem
+equate_unless true t u s = s
+equate_unless false t u s = equate t u s
+
+-- the shapes become the same
+abbrev pub equate_others : TypeShape → TypeShape → EquationSystem → EquationSystem
+equate_others t u s = equate_unless (is_same t u) t u s
 
 -- a term of the shape stands where something is wanted
 abbrev pub meet : Wanting → TypeShape → EquationSystem → EquationSystem
-meet (whole w) u s = equate w u s
+meet (whole w) u s = equate_others w u s
+meet (typed a) u s = equate_others (shape_of_type a) u s
 meet _ u s = system_refused s
 
 abbrev pub meet_unit : Wanting → EquationSystem → EquationSystem
@@ -44,6 +67,7 @@ meet_unit w s = meet w unit s
 
 abbrev pub meet_swapped : Wanting → EquationSystem → EquationSystem
 meet_swapped (whole w) s = s
+meet_swapped (typed a) s = s
 meet_swapped _ s = system_refused s
 
 abbrev pub meet_name : List IdentKind → ℕ → Wanting → EquationSystem → EquationSystem
@@ -100,9 +124,12 @@ new_sides w s = record {
 abbrev pub sides : Wanting → EquationSystem → Sides
 sides (whole (pair a b)) s = record { left = whole a; right = whole b; system = s }
 sides (whole w) s = new_sides w s
+sides (typed (types.pair a b)) s = record { left = typed a; right = typed b; system = s }
+sides (typed a) s = new_sides (shape_of_type a) s
 sides nothing s = record { left = nothing; right = nothing; system = system_refused s }
-sides (more a rest) s = record { left = whole (shape_of_type a); right = wanting_all rest; system = s }
+sides (more a rest) s = record { left = typed a; right = wanting_all rest; system = s }
 sides (cell x) s = record { left = whole (hole x); right = whole (list (hole x)); system = s }
+sides (typed_cell a) s = record { left = typed a; right = typed (types.list a); system = s }
 
 -- What is wanted of the term inside an application or an abstraction.
 pub record Inside : Type 0 where
@@ -112,18 +139,19 @@ pub record Inside : Type 0 where
 abbrev pub new_element : Wanting → EquationSystem → Inside
 new_element w s = record { want = cell s.next; system = meet w (list (hole s.next)) (with_hole s) }
 
--- the hole of whose type a list is wanted
-abbrev pub listed_hole : Wanting → Option ℕ
-listed_hole (whole (list (hole x))) = Some x
-listed_hole _ = None
+-- what is wanted of the parts of a list cell, where a list of a type or of the type of a hole is wanted
+abbrev pub cell_wanted : Wanting → Option Wanting
+cell_wanted (whole (list (hole x))) = Some (cell x)
+cell_wanted (typed (types.list a)) = Some (typed_cell a)
+cell_wanted _ = None
 
-abbrev pub inside_element : Option ℕ → Wanting → EquationSystem → Inside
-inside_element (Some x) w s = record { want = cell x; system = s }
+abbrev pub inside_element : Option Wanting → Wanting → EquationSystem → Inside
+inside_element (Some v) w s = record { want = v; system = s }
 inside_element None w s = new_element w s
 
 -- what is wanted of the two parts of a list cell
 abbrev pub inside_cell : Wanting → EquationSystem → Inside
-inside_cell w s = inside_element (listed_hole w) w s
+inside_cell w s = inside_element (cell_wanted w) w s
 
 abbrev pub inside_declared : Option NominalConstructor → Wanting → EquationSystem → Inside
 inside_declared None w s = record { want = nothing; system = system_refused s }
@@ -140,17 +168,8 @@ new_body n w s = record { want = whole (hole s.next); system = meet w (abs (hole
 -- what is wanted of the body of an abstraction, by the hole of its binder
 abbrev pub inside_abstraction : ℕ → Wanting → EquationSystem → Inside
 inside_abstraction n (whole (abs l b)) s = record { want = whole b; system = equate l (hole n) s }
+inside_abstraction n (typed (types.abs k a)) s = record { want = typed a; system = equate (names k) (hole n) s }
 inside_abstraction n w s = new_body n w s
-
--- the binder's hole and what is wanted of the body
-abbrev pub inside_place : Wanting → NameHole → Inside
-inside_place w p = inside_abstraction p.hole w p.system
-
-abbrev pub inside_binder : List IdentKind → Id → Inside → Inside
-inside_binder idents i at = inside_place at.want (name_place idents i at.system)
-
-abbrev pub inside_swapping : List IdentKind → Id → Id → Inside → Inside
-inside_swapping idents i j at = record { want = at.want; system = meet_swapped at.want (one_sort idents i j at.system) }
 
 abbrev pub gather_term : List NominalConstructor → List IdentKind → RawTerm → Wanting → EquationSystem → EquationSystem
 gather_term cs idents raw.unit w s = meet_unit w s
@@ -165,17 +184,10 @@ gather_term cs idents (raw.abs i t) w s =
     (inside_abstraction (name_place idents i s).hole w (name_place idents i s).system).system
 gather_term cs idents (raw.swapped i j t) w s = gather_term cs idents t w (meet_swapped w (one_sort idents i j s))
 
--- what is wanted of the right side of a pair, with the equations of its left side
-abbrev pub right_of_pair : List NominalConstructor → List IdentKind → RawTerm → Inside → Inside
-right_of_pair cs idents t at = record {
-  want = (sides at.want at.system).right;
-  system = gather_term cs idents t (sides at.want at.system).left (sides at.want at.system).system;
-}
-
 -- terms with types, one each
 abbrev pub gather_terms : List NominalConstructor → List IdentKind → List RawTerm → List NominalType → EquationSystem → EquationSystem
 gather_terms cs idents [] [] s = s
-gather_terms cs idents (t ∷ ts) (a ∷ as') s = gather_terms cs idents ts as' (gather_term cs idents t (whole (shape_of_type a)) s)
+gather_terms cs idents (t ∷ ts) (a ∷ as') s = gather_terms cs idents ts as' (gather_term cs idents t (typed a) s)
 gather_terms cs idents _ _ s = system_refused s
 
 abbrev pub gather_arguments : List NominalConstructor → List IdentKind → List RawTerm → Option (List NominalType) → EquationSystem → EquationSystem

@@ -1,4 +1,5 @@
 pub mod Sorts
+pub mod Turned
 pub mod ItemKinds
 pub mod Reading
 pub mod ReadTypes
@@ -6,4 +7,3 @@ pub mod ShapeTests
 pub mod Systems
 pub mod Layers
 pub mod Gathering
-pub mod Views

@@ -2,7 +2,7 @@
 //! once, so it costs as much as the table is long, where the shapes written out may be exponentially
 //! larger. Places that are still to be looked at wait in a list, however deep they stand.
 
-ghost use Rattle.std.specs.Prelude.{◌≡◌, ◌<◌, ◌≤◌, ◌+◌, ◌++◌, ◌∷◌, [], true, false, length, IfOk, OnOk};
+ghost use Rattle.std.specs.Prelude.{◌≡◌, ℕ, ◌<◌, ◌≤◌, ◌+◌, ◌++◌, ◌∷◌, [], true, false, length, IfOk, OnOk};
 ghost use Rattle.ap_types.specs.Triangular.{layer_of, shapes_of_nodes, value_of, assignment_of, IsSettledTable};
 ghost use Rattle.ap_types.specs.Walking.{ArePlacesBelow};
 ghost use Rattle.ap_kinds.specs.Reading.{is_declared, is_sort, is_closed, AllDeclared, SomeOpen, SomeOpenPlace, AreDeclaredPlaces, IsAmbiguous};
@@ -33,6 +33,45 @@ fn is_sort_in(nodes: &[Node], x: usize) -> bool
             _ => return false,
         }
     }
+}
+
+/// Whether the shape of a place is closed and has no parts.
+fn is_plain_in(nodes: &[Node], x: usize) -> bool
+    requires { IsSettledTable (shapes_of_nodes nodes.now) }
+    ensures { result ≡ true → is_closed (value_of (shapes_of_nodes nodes.now) x) ≡ true }
+{
+    let mut at = x;
+    loop {
+        if at >= nodes.len() {
+            return false;
+        }
+        match nodes[at] {
+            Node::Place(y) => {
+                if y == at {
+                    return false;
+                }
+                at = y;
+            }
+            Node::Unit => return true,
+            Node::Names(_) => return true,
+            Node::Base(_) => return true,
+            _ => return false,
+        }
+    }
+}
+
+/// Whether the shapes of the first places are closed and have no parts.
+fn are_plain_places(nodes: &[Node], count: usize) -> bool
+    requires { IsSettledTable (shapes_of_nodes nodes.now) }
+    ensures { result ≡ true → (x : ℕ) → x < count →
+        is_closed (value_of (shapes_of_nodes nodes.now) x) ≡ true }
+{
+    for x in 0..count {
+        if !is_plain_in(nodes, x) {
+            return false;
+        }
+    }
+    true
 }
 
 /// Whether a place is closed if its parts are, which are to be looked at.
@@ -97,7 +136,7 @@ fn are_closed_places(alloc: Global, nodes: &[Node], places: Vec<usize>) -> Resul
 fn first_places(alloc: Global, count: usize) -> Result<Vec<usize>, Memory>
     ensures { IfOk result (λ v. ArePlacesBelow count v.items) }
 {
-    let mut places = Vec::new(alloc);
+    let mut places = Vec::with_capacity(alloc, count)?;
     for x in 0..count {
         places.push(x)?;
     }
@@ -111,6 +150,9 @@ fn are_closed_in(alloc: Global, table: &Solved, count: usize) -> Result<bool, Me
 {
     if count > table.holes {
         return Ok(false);
+    }
+    if are_plain_places(table.nodes.as_slice(), count) {
+        return Ok(true);
     }
     let places = first_places(alloc, count)?;
     are_closed_places(alloc, table.nodes.as_slice(), places)

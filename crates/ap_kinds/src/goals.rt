@@ -1,6 +1,6 @@
 //! The type equations of goals.
 
-ghost use Rattle.std.specs.Prelude.{◌≡◌, map, IfOk, MatchOption, Some, None, if◌then◌else◌};
+ghost use Rattle.std.specs.Prelude.{◌≡◌, map, OnOk, MatchOption, Some, None, if◌then◌else◌};
 ghost use Rattle.ap_defs.specs.RawTerms.{raw_of};
 ghost use Rattle.ap_defs.specs.Types.{type_of, constructor_of, signature_of};
 ghost use Rattle.ap_defs.specs.Goals.{goal_over};
@@ -9,8 +9,7 @@ ghost use Rattle.ap_kinds.specs.Gathering.{gather_terms, gather_atom, gather_equ
 ghost use Rattle.ap_program.specs.Typed.{predicate_at};
 
 use crate::kinds::IdentKind;
-use crate::shapes::opened;
-use crate::systems::{System, is_name_at, is_var_at, refused, with_hole, with_name};
+use crate::systems::{System, add_name, is_name_at, is_var_at, new_hole, refuse};
 use crate::terms::gather_term;
 use crate::wants::Wanted;
 use ap_defs::goals::{Constructor, Goal, Signature};
@@ -19,32 +18,37 @@ use ap_defs::memory::Memory;
 use ap_defs::terms::{Raw, Shape, Ty};
 use std::alloc::Global;
 
-/// The system with the equations of terms, of which each has its type.
+/// The equations of terms, of which each has its type.
 #[tactic(auto, using(crate::proofs::Walks::terms_next, crate::proofs::Walks::terms_short, crate::proofs::Walks::terms_long, crate::proofs::Walks::terms_done))]
-fn gather_terms(
+fn gather_terms<'a>(
     alloc: Global,
-    constructors: &[Constructor],
+    constructors: &'a [Constructor],
     idents: &[IdentKind],
     terms: &[Raw],
-    types: &[Ty],
-    system: System,
-) -> Result<System, Memory>
-    ensures { IfOk result (λ s. system_of s
+    types: &'a [Ty],
+    system: &mut System,
+) -> Result<(), Memory>
+    ensures { OnOk result (system_of system.new
         ≡ gather_terms (map constructor_of constructors.now) idents.now (map raw_of terms.now)
-        (map type_of types.now) (system_of system)) }
+        (map type_of types.now) (system_of system.old)) }
 {
-    let mut gathered = system;
     for (i, t) in terms.iter().enumerate() {
         if i >= types.len() {
-            return refused(gathered);
+            return refuse(system);
         }
-        let want = Wanted::Whole(opened(alloc, &types[i])?);
-        gathered = gather_term(alloc, constructors, idents, t, want, gathered)?;
+        gather_term(
+            alloc,
+            constructors,
+            idents,
+            t,
+            Wanted::Type(&types[i]),
+            system,
+        )?;
     }
     if terms.len() < types.len() {
-        return refused(gathered);
+        return refuse(system);
     }
-    Ok(gathered)
+    Ok(())
 }
 
 /// The types of the arguments of a declared predicate.
@@ -60,21 +64,21 @@ fn types_at(predicates: &[List<Ty>], pred: u32) -> Option<&[Ty]>
     Some(predicates[place].items())
 }
 
-/// The system with the equations of an atom, or of the head of a clause.
+/// The equations of an atom, or of the head of a clause.
 pub(crate) fn gather_atom(
     alloc: Global,
     sig: &Signature,
     idents: &[IdentKind],
     pred: u32,
     terms: &[Raw],
-    system: System,
-) -> Result<System, Memory>
-    ensures { IfOk result (λ s. system_of s
+    system: &mut System,
+) -> Result<(), Memory>
+    ensures { OnOk result (system_of system.new
         ≡ gather_atom (signature_of sig.now) idents.now pred (map raw_of terms.now)
-        (system_of system)) }
+        (system_of system.old)) }
 {
     match types_at(sig.predicates.items(), pred) {
-        None => refused(system),
+        None => refuse(system),
         Some(types) => {
             gather_terms(
                 alloc,
@@ -88,60 +92,57 @@ pub(crate) fn gather_atom(
     }
 }
 
-/// The system with the equations of `t = u`.
+/// The equations of `t = u`.
 fn gather_equal(
     alloc: Global,
     constructors: &[Constructor],
     idents: &[IdentKind],
     t: &Raw,
     u: &Raw,
-    system: System,
-) -> Result<System, Memory>
-    ensures { IfOk result (λ s. system_of s
+    system: &mut System,
+) -> Result<(), Memory>
+    ensures { OnOk result (system_of system.new
         ≡ gather_equal (map constructor_of constructors.now) idents.now (raw_of t.now)
-        (raw_of u.now) (system_of system)) }
+        (raw_of u.now) (system_of system.old)) }
 {
-    let hole = system.next;
-    let system = with_hole(system)?;
+    let hole = new_hole(system)?;
     let want = Wanted::Whole(Shape::Hole(hole));
-    let system = gather_term(alloc, constructors, idents, t, want, system)?;
+    gather_term(alloc, constructors, idents, t, want, system)?;
     let want = Wanted::Whole(Shape::Hole(hole));
     gather_term(alloc, constructors, idents, u, want, system)
 }
 
-/// The system with the equations of `t # u`.
+/// The equations of `t # u`.
 fn gather_fresh(
     alloc: Global,
     constructors: &[Constructor],
     idents: &[IdentKind],
     t: &Raw,
     u: &Raw,
-    system: System,
-) -> Result<System, Memory>
-    ensures { IfOk result (λ s. system_of s
+    system: &mut System,
+) -> Result<(), Memory>
+    ensures { OnOk result (system_of system.new
         ≡ gather_fresh (map constructor_of constructors.now) idents.now (raw_of t.now)
-        (raw_of u.now) (system_of system)) }
+        (raw_of u.now) (system_of system.old)) }
 {
-    let left = system.next;
-    let system = with_hole(system)?;
-    let right = system.next;
-    let system = with_hole(system)?;
-    let system = with_name(system, left)?;
+    let left = new_hole(system)?;
+    let right = new_hole(system)?;
+    add_name(system, left)?;
     let want = Wanted::Whole(Shape::Hole(left));
-    let system = gather_term(alloc, constructors, idents, t, want, system)?;
+    gather_term(alloc, constructors, idents, t, want, system)?;
     let want = Wanted::Whole(Shape::Hole(right));
     gather_term(alloc, constructors, idents, u, want, system)
 }
 
-/// The system as it is, or one that nothing solves.
-fn unless_refused(holds: bool, system: System) -> Result<System, Memory>
-    ensures { IfOk result (λ s. system_of s
-        ≡ (if holds then system_of system else system_refused (system_of system))) }
+/// An equation that nothing solves, unless something holds.
+fn refuse_unless(holds: bool, system: &mut System) -> Result<(), Memory>
+    ensures { OnOk result (system_of system.new
+        ≡ (if holds then system_of system.old else system_refused (system_of system.old))) }
 {
-    if holds { Ok(system) } else { refused(system) }
+    if holds { Ok(()) } else { refuse(system) }
 }
 
-/// The system with the equations of a goal.
+/// The equations of a goal.
 ///
 /// It goes on along what is right of `,` and `;` and inside `exists` and `new`, and calls itself on what
 /// is left of them alone.
@@ -150,37 +151,36 @@ pub(crate) fn gather_goal(
     sig: &Signature,
     idents: &[IdentKind],
     goal: &Goal<Raw>,
-    system: System,
-) -> Result<System, Memory>
-    ensures { IfOk result (λ s. system_of s
+    system: &mut System,
+) -> Result<(), Memory>
+    ensures { OnOk result (system_of system.new
         ≡ gather_goal (signature_of sig.now) idents.now (goal_over raw_of goal.now)
-        (system_of system)) }
+        (system_of system.old)) }
 {
     let constructors = sig.constructors.items();
-    let mut gathered = system;
     let mut rest = goal;
     loop {
         match rest {
-            Goal::True => return Ok(gathered),
+            Goal::True => return Ok(()),
             Goal::Atom(pred, terms) => {
-                return gather_atom(alloc, sig, idents, *pred, terms.items(), gathered);
+                return gather_atom(alloc, sig, idents, *pred, terms.items(), system);
             }
-            Goal::Equal(t, u) => return gather_equal(alloc, constructors, idents, t, u, gathered),
-            Goal::Fresh(t, u) => return gather_fresh(alloc, constructors, idents, t, u, gathered),
+            Goal::Equal(t, u) => return gather_equal(alloc, constructors, idents, t, u, system),
+            Goal::Fresh(t, u) => return gather_fresh(alloc, constructors, idents, t, u, system),
             Goal::Both(left, right) => {
-                gathered = gather_goal(alloc, sig, idents, left, gathered)?;
+                gather_goal(alloc, sig, idents, left, system)?;
                 rest = right;
             }
             Goal::Either(left, right) => {
-                gathered = gather_goal(alloc, sig, idents, left, gathered)?;
+                gather_goal(alloc, sig, idents, left, system)?;
                 rest = right;
             }
             Goal::Exists(x, inner) => {
-                gathered = unless_refused(is_var_at(idents, x.num), gathered)?;
+                refuse_unless(is_var_at(idents, x.num), system)?;
                 rest = inner;
             }
             Goal::New(a, inner) => {
-                gathered = unless_refused(is_name_at(idents, a.num), gathered)?;
+                refuse_unless(is_name_at(idents, a.num), system)?;
                 rest = inner;
             }
         }

@@ -1,64 +1,84 @@
 //! What is wanted of the terms inside applications and abstractions.
 
-ghost use Rattle.std.specs.Prelude.{◌≡◌, map, IfOk, MatchOption, Some, None};
-ghost use Rattle.ap_defs.specs.Types.{shape_of, constructor_of};
+ghost use Rattle.std.specs.Prelude.{◌≡◌, map, IfOk, OnOk, MatchOption, Some, None};
+ghost use Rattle.std.specs.Option.{option_map};
+ghost use Rattle.ap_defs.specs.Types.{shape_of, type_of, constructor_of};
 ghost use Rattle.ap_defs.specs.Printing.{constructor_in};
 ghost use Rattle.ap_kinds.specs.Systems.{system_of};
-ghost use Rattle.ap_kinds.specs.Gathering.{wanting_of, whole, new_element, listed_hole, inside_cell, inside_declared, inside_application, new_body, inside_abstraction};
-ghost use Rattle.ap_kinds.specs.Views.{inside_view};
+ghost use Rattle.ap_kinds.specs.Gathering.{wanting_of, whole, typed, new_element, cell_wanted, inside_cell, inside_declared, inside_application, new_body, inside_abstraction};
 
-use crate::systems::{System, equate, refused, with_hole};
+use crate::systems::{System, equate, new_hole, refuse};
 use crate::wants::{Wanted, meet, wanted_all};
 use ap_defs::goals::Constructor;
 use ap_defs::memory::Memory;
-use ap_defs::terms::{Shape, take_abs};
+use ap_defs::terms::{Shape, Ty, take_abs};
 use std::alloc::Global;
 
-/// What is wanted of the term inside an application or an abstraction.
-#[derive(Drop)]
-pub(crate) struct Inside<'a> {
-    pub(crate) want: Wanted<'a>,
-    pub(crate) system: System,
-}
-
 /// What is wanted of the parts of a list cell with elements of a new hole.
-fn new_element<'a>(alloc: Global, want: Wanted<'_>, system: System) -> Result<Inside<'a>, Memory>
-    ensures { IfOk result (λ b. inside_view b
-        ≡ new_element (wanting_of want.entry) (system_of system)) }
+fn new_element<'a>(
+    alloc: Global,
+    want: Wanted<'_>,
+    system: &mut System,
+) -> Result<Wanted<'a>, Memory>
+    ensures want { IfOk result (λ w. wanting_of w
+        ≡ (new_element (wanting_of want.entry) (system_of system.old)).want) }
+    ensures system { OnOk result (system_of system.new
+        ≡ (new_element (wanting_of want.entry) (system_of system.old)).system) }
 {
-    let element = system.next;
-    let system = with_hole(system)?;
+    let element = new_hole(system)?;
     let list = Shape::List(Box::new(alloc, Shape::Hole(element))?);
-    let system = meet(want, list, system)?;
-    Ok(Inside {
-        want: Wanted::Cell(element),
-        system,
-    })
+    meet(alloc, want, list, system)?;
+    Ok(Wanted::Cell(element))
 }
 
-/// The hole that a shape is, if it is a list of a hole.
-fn listed_hole(want: &Wanted<'_>) -> Option<u64>
-    ensures { result ≡ listed_hole (wanting_of want.now) }
+/// What is wanted of the parts of a list cell, where a list of the type of a hole is wanted.
+fn hole_cell<'a>(want: &Shape) -> Option<Wanted<'a>>
+    ensures { option_map wanting_of result ≡ cell_wanted (whole (shape_of want.now)) }
 {
     match want {
-        Wanted::Whole(Shape::List(element)) => match &**element {
-            Shape::Hole(x) => Some(*x),
+        Shape::List(element) => match &**element {
+            Shape::Hole(x) => Some(Wanted::Cell(*x)),
             _ => None,
         },
         _ => None,
     }
 }
 
-/// What is wanted of the parts of a list cell.
-fn inside_cell<'a>(alloc: Global, want: Wanted<'_>, system: System) -> Result<Inside<'a>, Memory>
-    ensures { IfOk result (λ b. inside_view b
-        ≡ inside_cell (wanting_of want.entry) (system_of system)) }
+/// What is wanted of the parts of a list cell, where a list of a type is wanted.
+fn type_cell<'a>(want: &'a Ty) -> Option<Wanted<'a>>
+    ensures { option_map wanting_of result ≡ cell_wanted (typed (type_of want.now)) }
 {
-    match listed_hole(&want) {
-        Some(x) => Ok(Inside {
-            want: Wanted::Cell(x),
-            system,
-        }),
+    match want {
+        Ty::List(element) => Some(Wanted::TypeCell(element)),
+        _ => None,
+    }
+}
+
+/// What is wanted of the parts of a list cell, where a list of a type or of the type of a hole is wanted.
+fn cell_wanted<'a>(want: &Wanted<'a>) -> Option<Wanted<'a>>
+    ensures { option_map wanting_of result ≡ cell_wanted (wanting_of want.now) }
+{
+    match want {
+        Wanted::ListOf(t) => Some(Wanted::TypeCell(*t)),
+        Wanted::Type(t) => type_cell(*t),
+        Wanted::Whole(shape) => hole_cell(shape),
+        _ => None,
+    }
+}
+
+/// What is wanted of the parts of a list cell.
+fn inside_cell<'a>(
+    alloc: Global,
+    want: Wanted<'a>,
+    system: &mut System,
+) -> Result<Wanted<'a>, Memory>
+    ensures want { IfOk result (λ w. wanting_of w
+        ≡ (inside_cell (wanting_of want.entry) (system_of system.old)).want) }
+    ensures system { OnOk result (system_of system.new
+        ≡ (inside_cell (wanting_of want.entry) (system_of system.old)).system) }
+{
+    match cell_wanted(&want) {
+        Some(cell) => Ok(cell),
         None => new_element(alloc, want, system),
     }
 }
@@ -82,24 +102,23 @@ fn inside_declared<'a>(
     constructors: &'a [Constructor],
     f: u32,
     want: Wanted<'_>,
-    system: System,
-) -> Result<Inside<'a>, Memory>
-    ensures { IfOk result (λ b. inside_view b
-        ≡ inside_declared (constructor_in (map constructor_of constructors.now) f)
-        (wanting_of want.entry) (system_of system)) }
+    system: &mut System,
+) -> Result<Wanted<'a>, Memory>
+    ensures want { IfOk result (λ w. wanting_of w
+        ≡ (inside_declared (constructor_in (map constructor_of constructors.now) f)
+        (wanting_of want.entry) (system_of system.old)).want) }
+    ensures system { OnOk result (system_of system.new
+        ≡ (inside_declared (constructor_in (map constructor_of constructors.now) f)
+        (wanting_of want.entry) (system_of system.old)).system) }
 {
     match declared_at(constructors, f) {
-        None => Ok(Inside {
-            want: Wanted::Nothing,
-            system: refused(system)?,
-        }),
+        None => {
+            refuse(system)?;
+            Ok(Wanted::Nothing)
+        }
         Some(constructor) => {
-            let wanted = wanted_all(alloc, constructor.args.items())?;
-            let system = meet(want, Shape::Base(constructor.result), system)?;
-            Ok(Inside {
-                want: wanted,
-                system,
-            })
+            meet(alloc, want, Shape::Base(constructor.result), system)?;
+            Ok(wanted_all(constructor.args.items()))
         }
     }
 }
@@ -109,20 +128,20 @@ pub(crate) fn inside_application<'a>(
     alloc: Global,
     constructors: &'a [Constructor],
     f: u32,
-    want: Wanted<'_>,
-    system: System,
-) -> Result<Inside<'a>, Memory>
-    ensures { IfOk result (λ b. inside_view b
-        ≡ inside_application (map constructor_of constructors.now) f (wanting_of want.entry)
-        (system_of system)) }
+    want: Wanted<'a>,
+    system: &mut System,
+) -> Result<Wanted<'a>, Memory>
+    ensures want { IfOk result (λ w. wanting_of w
+        ≡ (inside_application (map constructor_of constructors.now) f (wanting_of want.entry)
+        (system_of system.old)).want) }
+    ensures system { OnOk result (system_of system.new
+        ≡ (inside_application (map constructor_of constructors.now) f (wanting_of want.entry)
+        (system_of system.old)).system) }
 {
     match f {
         0 => {
-            let cell = inside_cell(alloc, want, system)?;
-            Ok(Inside {
-                want: Wanted::Nothing,
-                system: cell.system,
-            })
+            let _cell = inside_cell(alloc, want, system)?;
+            Ok(Wanted::Nothing)
         }
         1 => inside_cell(alloc, want, system),
         _ => inside_declared(alloc, constructors, f, want, system),
@@ -134,20 +153,18 @@ fn new_body<'a>(
     alloc: Global,
     binder: u64,
     want: Wanted<'_>,
-    system: System,
-) -> Result<Inside<'a>, Memory>
-    ensures { IfOk result (λ b. inside_view b
-        ≡ new_body binder (wanting_of want.entry) (system_of system)) }
+    system: &mut System,
+) -> Result<Wanted<'a>, Memory>
+    ensures want { IfOk result (λ w. wanting_of w
+        ≡ (new_body binder (wanting_of want.entry) (system_of system.old)).want) }
+    ensures system { OnOk result (system_of system.new
+        ≡ (new_body binder (wanting_of want.entry) (system_of system.old)).system) }
 {
-    let body = system.next;
-    let system = with_hole(system)?;
+    let body = new_hole(system)?;
     let left = Box::new(alloc, Shape::Hole(binder))?;
     let right = Box::new(alloc, Shape::Hole(body))?;
-    let system = meet(want, Shape::Abs(left, right), system)?;
-    Ok(Inside {
-        want: Wanted::Whole(Shape::Hole(body)),
-        system,
-    })
+    meet(alloc, want, Shape::Abs(left, right), system)?;
+    Ok(Wanted::Whole(Shape::Hole(body)))
 }
 
 /// What is wanted of the body of an abstraction that stands where a shape is wanted.
@@ -156,18 +173,41 @@ fn body_of_shape<'a>(
     alloc: Global,
     binder: u64,
     want: Shape,
-    system: System,
-) -> Result<Inside<'a>, Memory>
-    ensures { IfOk result (λ b. inside_view b
-        ≡ inside_abstraction binder (whole (shape_of want)) (system_of system)) }
+    system: &mut System,
+) -> Result<Wanted<'a>, Memory>
+    ensures want { IfOk result (λ w. wanting_of w
+        ≡ (inside_abstraction binder (whole (shape_of want)) (system_of system.old)).want) }
+    ensures system { OnOk result (system_of system.new
+        ≡ (inside_abstraction binder (whole (shape_of want)) (system_of system.old)).system) }
 {
     let mut shape = want;
     match take_abs(&mut shape) {
-        Some((left, body)) => Ok(Inside {
-            want: Wanted::Whole(body),
-            system: equate(system, left, Shape::Hole(binder))?,
-        }),
+        Some((left, body)) => {
+            equate(system, left, Shape::Hole(binder))?;
+            Ok(Wanted::Whole(body))
+        }
         None => new_body(alloc, binder, Wanted::Whole(shape), system),
+    }
+}
+
+/// What is wanted of the body of an abstraction that stands where a type is wanted.
+fn body_of_type<'a>(
+    alloc: Global,
+    binder: u64,
+    want: &'a Ty,
+    system: &mut System,
+) -> Result<Wanted<'a>, Memory>
+    ensures want { IfOk result (λ w. wanting_of w
+        ≡ (inside_abstraction binder (typed (type_of want.now)) (system_of system.old)).want) }
+    ensures system { OnOk result (system_of system.new
+        ≡ (inside_abstraction binder (typed (type_of want.now)) (system_of system.old)).system) }
+{
+    match want {
+        Ty::Abs(sort, body) => {
+            equate(system, Shape::Names(*sort), Shape::Hole(binder))?;
+            Ok(Wanted::Type(body))
+        }
+        other => new_body(alloc, binder, Wanted::Type(other), system),
     }
 }
 
@@ -175,14 +215,17 @@ fn body_of_shape<'a>(
 pub(crate) fn inside_abstraction<'a>(
     alloc: Global,
     binder: u64,
-    want: Wanted<'_>,
-    system: System,
-) -> Result<Inside<'a>, Memory>
-    ensures { IfOk result (λ b. inside_view b
-        ≡ inside_abstraction binder (wanting_of want.entry) (system_of system)) }
+    want: Wanted<'a>,
+    system: &mut System,
+) -> Result<Wanted<'a>, Memory>
+    ensures want { IfOk result (λ w. wanting_of w
+        ≡ (inside_abstraction binder (wanting_of want.entry) (system_of system.old)).want) }
+    ensures system { OnOk result (system_of system.new
+        ≡ (inside_abstraction binder (wanting_of want.entry) (system_of system.old)).system) }
 {
     match want {
         Wanted::Whole(shape) => body_of_shape(alloc, binder, shape, system),
+        Wanted::Type(t) => body_of_type(alloc, binder, t, system),
         other => new_body(alloc, binder, other, system),
     }
 }

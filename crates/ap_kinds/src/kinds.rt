@@ -59,7 +59,7 @@ fn first_shapes(alloc: Global, table: &Solved, count: usize) -> Result<Vec<Shape
     requires { IsSettledTable (shapes_of_nodes table.now.nodes.items) }
     ensures { IfOk result (λ v. AreFirst count (map shape_of v.items) (assignment_of table.now)) }
 {
-    let mut shapes = Vec::new(alloc);
+    let mut shapes = Vec::with_capacity(alloc, count)?;
     for x in 0..count {
         shapes.push(value_of(alloc, table, x)?)?;
     }
@@ -125,8 +125,9 @@ fn system_of_query(
         ≡ gather_goal (signature_of sig.now) idents.now (goal_over raw_of goal.now)
         (started idents.now)) }
 {
-    let system = started(alloc, idents)?;
-    gather_goal(alloc, sig, idents, goal, system)
+    let mut system = started(alloc, idents)?;
+    gather_goal(alloc, sig, idents, goal, &mut system)?;
+    Ok(system)
 }
 
 /// The system of a clause.
@@ -142,9 +143,10 @@ fn system_of_clause(
         ≡ gather_goal (signature_of sig.now) idents.now (goal_over raw_of body.now) (gather_atom
         (signature_of sig.now) idents.now pred (map raw_of args.now) (started idents.now))) }
 {
-    let system = started(alloc, idents)?;
-    let system = gather_atom(alloc, sig, idents, pred, args.items(), system)?;
-    gather_goal(alloc, sig, idents, body, system)
+    let mut system = started(alloc, idents)?;
+    gather_atom(alloc, sig, idents, pred, args.items(), &mut system)?;
+    gather_goal(alloc, sig, idents, body, &mut system)?;
+    Ok(system)
 }
 
 /// The only kinds of its identifiers that type a query.

@@ -1,21 +1,13 @@
 //! Words that stand where names belong: binders and places of swappings.
 
-ghost use Rattle.std.specs.Prelude.{◌≡◌, IfOk};
+ghost use Rattle.std.specs.Prelude.{◌≡◌, IfOk, OnOk};
 ghost use Rattle.ap_kinds.specs.Systems.{system_of};
 ghost use Rattle.ap_kinds.specs.Gathering.{number_of_id, is_of_class, no_place, name_place, one_sort};
-ghost use Rattle.ap_kinds.specs.Views.{name_hole_of};
 
 use crate::kinds::IdentKind;
-use crate::systems::{System, equate, is_name_at, is_var_at, refused, with_hole, with_name};
+use crate::systems::{System, add_name, equate, is_name_at, is_var_at, new_hole, refuse};
 use ap_defs::memory::Memory;
 use ap_defs::terms::{Id, Shape};
-
-/// The hole of an identifier that stands where a name belongs.
-#[derive(Drop)]
-pub(crate) struct Place {
-    pub(crate) hole: u64,
-    pub(crate) system: System,
-}
 
 /// The number of an identifier.
 fn number_of(ident: Id) -> u64
@@ -38,38 +30,49 @@ fn is_of_class(idents: &[IdentKind], ident: Id) -> bool
 }
 
 /// A hole that must be a name type, in a system that nothing solves.
-fn no_place(system: System) -> Result<Place, Memory>
-    ensures { IfOk result (λ p. name_hole_of p ≡ no_place (system_of system)) }
+fn no_place(system: &mut System) -> Result<u64, Memory>
+    ensures hole { IfOk result (λ x. x ≡ (no_place (system_of system.old)).hole) }
+    ensures system { OnOk result (system_of system.new
+        ≡ (no_place (system_of system.old)).system) }
 {
     let hole = system.next;
-    let system = refused(system)?;
-    let system = with_hole(system)?;
-    let system = with_name(system, hole)?;
-    Ok(Place { hole, system })
+    refuse(system)?;
+    new_hole(system)?;
+    add_name(system, hole)?;
+    Ok(hole)
 }
 
 /// The hole of an identifier that stands where a name belongs.
-pub(crate) fn name_place(idents: &[IdentKind], ident: Id, system: System) -> Result<Place, Memory>
-    ensures { IfOk result (λ p. name_hole_of p ≡ name_place idents.now ident (system_of system)) }
+pub(crate) fn name_place(
+    idents: &[IdentKind],
+    ident: Id,
+    system: &mut System,
+) -> Result<u64, Memory>
+    ensures hole { IfOk result (λ x. x
+        ≡ (name_place idents.now ident (system_of system.old)).hole) }
+    ensures system { OnOk result (system_of system.new
+        ≡ (name_place idents.now ident (system_of system.old)).system) }
 {
     if is_of_class(idents, ident) {
         let hole = number_of(ident);
-        let system = with_name(system, hole)?;
-        Ok(Place { hole, system })
+        add_name(system, hole)?;
+        Ok(hole)
     } else {
         no_place(system)
     }
 }
 
 /// Both identifiers stand for names of one sort.
-pub(crate) fn one_sort(idents: &[IdentKind], i: Id, j: Id, system: System) -> Result<System, Memory>
-    ensures { IfOk result (λ s. system_of s ≡ one_sort idents.now i j (system_of system)) }
+pub(crate) fn one_sort(
+    idents: &[IdentKind],
+    i: Id,
+    j: Id,
+    system: &mut System,
+) -> Result<(), Memory>
+    ensures { OnOk result (system_of system.new
+        ≡ one_sort idents.now i j (system_of system.old)) }
 {
     let left = name_place(idents, i, system)?;
-    let right = name_place(idents, j, left.system)?;
-    equate(
-        right.system,
-        Shape::Hole(left.hole),
-        Shape::Hole(right.hole),
-    )
+    let right = name_place(idents, j, system)?;
+    equate(system, Shape::Hole(left), Shape::Hole(right))
 }

@@ -104,7 +104,7 @@ fn read_kinds(alloc: Global, idents: &[IdentKind], holes: &[Shape]) -> Result<Ve
     ensures { IfOk result (λ ks. map kind_of ks.items
         ≡ read_kinds (map shape_of holes.now) 0 idents.now) }
 {
-    let mut kinds = Vec::new(alloc);
+    let mut kinds = Vec::with_capacity(alloc, idents.len())?;
     for (i, ident) in idents.iter().enumerate() {
         kinds.push(read_kind_at(alloc, *ident, holes, i)?)?;
     }

@@ -52,7 +52,7 @@ fn close_shape(alloc: Global, mut layers: Vec<ShapeLayer>, t: Shape) -> Result<S
 /// It goes on along the right part of a pair, the elements of a list and the body of an abstraction, and
 /// calls itself on left parts of pairs alone.
 #[tactic(auto, using(crate::proofs::LayerLemmas::shape_within_last))]
-pub(crate) fn opened(alloc: Global, t: &Ty) -> Result<Shape, Memory>
+fn opened_parts(alloc: Global, t: &Ty) -> Result<Shape, Memory>
     ensures { IfOk result (λ s. shape_of s ≡ shape_of_type (type_of t.now)) }
 {
     let mut layers = Vec::new(alloc);
@@ -63,7 +63,7 @@ pub(crate) fn opened(alloc: Global, t: &Ty) -> Result<Shape, Memory>
             Ty::Names(sort) => return close_shape(alloc, layers, Shape::Names(*sort)),
             Ty::Base(data) => return close_shape(alloc, layers, Shape::Base(*data)),
             Ty::Pair(left, right) => {
-                layers.push(ShapeLayer::Left(opened(alloc, left)?))?;
+                layers.push(ShapeLayer::Left(opened_parts(alloc, left)?))?;
                 rest = right;
             }
             Ty::List(element) => {
@@ -75,5 +75,17 @@ pub(crate) fn opened(alloc: Global, t: &Ty) -> Result<Shape, Memory>
                 rest = body;
             }
         }
+    }
+}
+
+/// A type as a shape without holes. One without parts is made at once.
+pub(crate) fn opened(alloc: Global, t: &Ty) -> Result<Shape, Memory>
+    ensures { IfOk result (λ s. shape_of s ≡ shape_of_type (type_of t.now)) }
+{
+    match t {
+        Ty::Unit => Ok(Shape::Unit),
+        Ty::Names(sort) => Ok(Shape::Names(*sort)),
+        Ty::Base(data) => Ok(Shape::Base(*data)),
+        _ => opened_parts(alloc, t),
     }
 }

@@ -1,18 +1,23 @@
-//! An item whose names have the sorts of their kinds.
+//! An item whose names get the sorts of their kinds, in place.
+//!
+//! A term or a goal can be as deep to the right as its text is long. So the way down to what is last in
+//! it is turned round as it is gone: each part on it has what is above it in place of what is below, and
+//! the way back puts that in its place again.
 
-ghost use Rattle.std.specs.Prelude.{◌≡◌, map, IfOk, MatchOption, Some, None};
+ghost use Rattle.std.specs.Prelude.{◌≡◌, ◌<◌, map, true, false, IfOk, OnOk, MatchOption, Some, None};
 ghost use Rattle.ap_defs.specs.RawTerms.{raw_of};
 ghost use Rattle.ap_defs.specs.Types.{kind_of};
 ghost use Rattle.ap_defs.specs.Answers.{kind_at};
-ghost use Rattle.ap_defs.specs.Goals.{goal_over, equal, fresh};
+ghost use Rattle.ap_defs.specs.Goals.{goal_over};
+ghost use Rattle.ap_kinds.specs.Turned.{turned_back, goal_turned_back, part_count, goal_count};
 ghost use Rattle.ap_kinds.specs.Sorts.{name_with_sort, id_with_sort, with_sorts, terms_with_sorts, goal_with_sorts};
 
 use ap_defs::goals::{Goal, Kind};
 use ap_defs::lists::List;
 use ap_defs::memory::Memory;
 use ap_defs::terms::{Id, Name, Raw};
-use ap_spines::{GoalLayer, RawLayer, close_goal, close_raw};
 use std::alloc::Global;
+use std::mem;
 
 /// The kind with a number.
 #[tactic(auto, using(crate::proofs::Lookups::kind_found, crate::proofs::Lookups::kind_past))]
@@ -50,119 +55,210 @@ fn id_with_sort(kinds: &[Kind], ident: Id) -> Id
     }
 }
 
-/// A term whose names have the sorts of their kinds.
-///
-/// It goes on along the right part of a pair, the argument of a constructor, the body of an abstraction
-/// and what is swapped, and calls itself on left parts of pairs alone.
-#[tactic(auto, using(ap_spines::proofs::SpineLemmas::raw_within_last))]
-fn with_sorts(alloc: Global, kinds: &[Kind], t: &Raw) -> Result<Raw, Memory>
-    ensures { IfOk result (λ u. raw_of u ≡ with_sorts (map kind_of kinds.now) (raw_of t.now)) }
+/// Goes down to the last part of a term, and answers whether it has one; all of the term's other names get
+/// their sorts.
+#[cycle(sorts)]
+fn go_down(kinds: &[Kind], above: &mut Raw, t: &mut Raw) -> bool
+    ensures down { result ≡ true →
+        turned_back (raw_of above.new) (with_sorts (map kind_of kinds.now) (raw_of t.new))
+        ≡ turned_back (raw_of above.old) (with_sorts (map kind_of kinds.now) (raw_of t.old)) }
+    ensures smaller { result ≡ true → part_count (raw_of t.new) < part_count (raw_of t.old) }
+    ensures last { result ≡ false → turned_back (raw_of above.new) (raw_of t.new)
+        ≡ turned_back (raw_of above.old) (with_sorts (map kind_of kinds.now) (raw_of t.old)) }
 {
-    let mut layers = Vec::new(alloc);
-    let mut rest = t;
-    loop {
-        match rest {
-            Raw::Unit => return close_raw(alloc, layers, Raw::Unit),
-            Raw::Name(a) => {
-                return close_raw(alloc, layers, Raw::Name(name_with_sort(kinds, *a)));
-            }
-            Raw::Var(x) => return close_raw(alloc, layers, Raw::Var(*x)),
-            Raw::Pair(left, right) => {
-                layers.push(RawLayer::Left(with_sorts(alloc, kinds, left)?))?;
-                rest = right;
-            }
-            Raw::App(f, argument) => {
-                layers.push(RawLayer::App(*f))?;
-                rest = argument;
-            }
-            Raw::Abs(i, body) => {
-                layers.push(RawLayer::Abs(id_with_sort(kinds, *i)))?;
-                rest = body;
-            }
-            Raw::Swapped(i, j, body) => {
-                let layer = RawLayer::Swapped(id_with_sort(kinds, *i), id_with_sort(kinds, *j));
-                layers.push(layer)?;
-                rest = body;
-            }
+    match &mut *t {
+        Raw::Unit | Raw::Var(_) => return false,
+        Raw::Name(a) => {
+            *a = name_with_sort(kinds, *a);
+            return false;
+        }
+        Raw::Pair(left, right) => {
+            sort_term(kinds, left);
+            mem::swap(&mut **right, above);
+        }
+        Raw::App(_, argument) => mem::swap(&mut **argument, above),
+        Raw::Abs(i, body) => {
+            *i = id_with_sort(kinds, *i);
+            mem::swap(&mut **body, above);
+        }
+        Raw::Swapped(i, j, body) => {
+            *i = id_with_sort(kinds, *i);
+            *j = id_with_sort(kinds, *j);
+            mem::swap(&mut **body, above);
         }
     }
+    mem::swap(t, above);
+    true
+}
+
+/// Goes back up from the last part of a term, and answers whether there was something above it.
+fn go_up(above: &mut Raw, t: &mut Raw) -> bool
+    ensures up { result ≡ true → turned_back (raw_of above.new) (raw_of t.new)
+        ≡ turned_back (raw_of above.old) (raw_of t.old) }
+    ensures smaller { result ≡ true →
+        part_count (raw_of above.new) < part_count (raw_of above.old) }
+    ensures top { result ≡ false →
+        raw_of t.new ≡ turned_back (raw_of above.old) (raw_of t.old) }
+{
+    match &mut *above {
+        Raw::Unit | Raw::Name(_) | Raw::Var(_) => return false,
+        Raw::Pair(_, last) => mem::swap(&mut **last, t),
+        Raw::App(_, last) => mem::swap(&mut **last, t),
+        Raw::Abs(_, last) => mem::swap(&mut **last, t),
+        Raw::Swapped(_, _, last) => mem::swap(&mut **last, t),
+    }
+    mem::swap(t, above);
+    true
+}
+
+/// Gives the names of a term their sorts.
+///
+/// It goes along the right part of a pair, the argument of a constructor, the body of an abstraction and
+/// what is swapped, and comes to itself on left parts of pairs alone.
+#[cycle(sorts)]
+fn sort_term(kinds: &[Kind], t: &mut Raw)
+    ensures { raw_of t.new ≡ with_sorts (map kind_of kinds.now) (raw_of t.old) }
+{
+    let mut above = Raw::Unit;
+    'down: while go_down(kinds, &mut above, t) {}
+    'up: while go_up(&mut above, t) {}
+}
+
+/// A term whose names have the sorts of their kinds.
+fn with_sorts(kinds: &[Kind], t: Raw) -> Raw
+    ensures { raw_of result ≡ with_sorts (map kind_of kinds.now) (raw_of t) }
+{
+    let mut sorted = t;
+    sort_term(kinds, &mut sorted);
+    sorted
 }
 
 /// Terms whose names have the sorts of their kinds.
-pub fn terms_with_sorts(alloc: Global, kinds: &[Kind], terms: &[Raw]) -> Result<List<Raw>, Memory>
+pub fn terms_with_sorts(
+    alloc: Global,
+    kinds: &[Kind],
+    terms: List<Raw>,
+) -> Result<List<Raw>, Memory>
     ensures { IfOk result (λ ts. map raw_of ts
-        ≡ terms_with_sorts (map kind_of kinds.now) (map raw_of terms.now)) }
+        ≡ terms_with_sorts (map kind_of kinds.now) (map raw_of terms)) }
 {
-    let mut sorted = Vec::new(alloc);
+    let terms = terms.into_vec();
+    let mut sorted = Vec::with_capacity(alloc, terms.len())?;
     for t in terms {
-        sorted.push(with_sorts(alloc, kinds, t)?)?;
+        sorted.push(with_sorts(kinds, t))?;
     }
     Ok(List::of(sorted))
 }
 
-/// `t = u`, whose names have the sorts of their kinds.
-fn equal_with_sorts(alloc: Global, kinds: &[Kind], t: &Raw, u: &Raw) -> Result<Goal<Raw>, Memory>
-    ensures { IfOk result (λ g. goal_over raw_of g
-        ≡ goal_with_sorts (map kind_of kinds.now) (equal (raw_of t.now) (raw_of u.now))) }
+/// Gives the names of terms their sorts.
+fn sort_terms(alloc: Global, kinds: &[Kind], terms: &mut List<Raw>) -> Result<(), Memory>
+    ensures { OnOk result (map raw_of terms.new
+        ≡ terms_with_sorts (map kind_of kinds.now) (map raw_of terms.old)) }
 {
-    let left = with_sorts(alloc, kinds, t)?;
-    let right = with_sorts(alloc, kinds, u)?;
-    Ok(Goal::Equal(left, right))
+    let found = mem::replace(terms, List::of(Vec::new(alloc)));
+    *terms = terms_with_sorts(alloc, kinds, found)?;
+    Ok(())
 }
 
-/// `t # u`, whose names have the sorts of their kinds.
-fn fresh_with_sorts(alloc: Global, kinds: &[Kind], t: &Raw, u: &Raw) -> Result<Goal<Raw>, Memory>
-    ensures { IfOk result (λ g. goal_over raw_of g
-        ≡ goal_with_sorts (map kind_of kinds.now) (fresh (raw_of t.now) (raw_of u.now))) }
+/// Goes down to the last part of a goal, and answers whether it has one; all names of the goal but those
+/// of that part get their sorts.
+#[cycle(goal_sorts)]
+fn go_down_goal(
+    alloc: Global,
+    kinds: &[Kind],
+    above: &mut Goal<Raw>,
+    goal: &mut Goal<Raw>,
+) -> Result<bool, Memory>
+    ensures down { IfOk result (λ b. b ≡ true → goal_turned_back (goal_over raw_of above.new)
+        (goal_with_sorts (map kind_of kinds.now) (goal_over raw_of goal.new))
+        ≡ goal_turned_back (goal_over raw_of above.old)
+        (goal_with_sorts (map kind_of kinds.now) (goal_over raw_of goal.old))) }
+    ensures smaller { IfOk result (λ b. b ≡ true →
+        goal_count (goal_over raw_of goal.new) < goal_count (goal_over raw_of goal.old)) }
+    ensures last { IfOk result (λ b. b ≡ false →
+        goal_turned_back (goal_over raw_of above.new) (goal_over raw_of goal.new)
+        ≡ goal_turned_back (goal_over raw_of above.old)
+        (goal_with_sorts (map kind_of kinds.now) (goal_over raw_of goal.old))) }
 {
-    let left = with_sorts(alloc, kinds, t)?;
-    let right = with_sorts(alloc, kinds, u)?;
-    Ok(Goal::Fresh(left, right))
+    match &mut *goal {
+        Goal::True => return Ok(false),
+        Goal::Atom(_, terms) => {
+            sort_terms(alloc, kinds, terms)?;
+            return Ok(false);
+        }
+        Goal::Equal(t, u) => {
+            sort_term(kinds, t);
+            sort_term(kinds, u);
+            return Ok(false);
+        }
+        Goal::Fresh(t, u) => {
+            sort_term(kinds, t);
+            sort_term(kinds, u);
+            return Ok(false);
+        }
+        Goal::Both(left, right) => {
+            sort_goal(alloc, kinds, left)?;
+            mem::swap(&mut **right, above);
+        }
+        Goal::Either(left, right) => {
+            sort_goal(alloc, kinds, left)?;
+            mem::swap(&mut **right, above);
+        }
+        Goal::Exists(_, inner) => mem::swap(&mut **inner, above),
+        Goal::New(a, inner) => {
+            *a = name_with_sort(kinds, *a);
+            mem::swap(&mut **inner, above);
+        }
+    }
+    mem::swap(goal, above);
+    Ok(true)
+}
+
+/// Goes back up from the last part of a goal, and answers whether there was something above it.
+fn go_up_goal(above: &mut Goal<Raw>, goal: &mut Goal<Raw>) -> bool
+    ensures up { result ≡ true →
+        goal_turned_back (goal_over raw_of above.new) (goal_over raw_of goal.new)
+        ≡ goal_turned_back (goal_over raw_of above.old) (goal_over raw_of goal.old) }
+    ensures smaller { result ≡ true →
+        goal_count (goal_over raw_of above.new) < goal_count (goal_over raw_of above.old) }
+    ensures top { result ≡ false → goal_over raw_of goal.new
+        ≡ goal_turned_back (goal_over raw_of above.old) (goal_over raw_of goal.old) }
+{
+    match &mut *above {
+        Goal::True | Goal::Atom(_, _) | Goal::Equal(_, _) | Goal::Fresh(_, _) => return false,
+        Goal::Both(_, last) => mem::swap(&mut **last, goal),
+        Goal::Either(_, last) => mem::swap(&mut **last, goal),
+        Goal::Exists(_, last) => mem::swap(&mut **last, goal),
+        Goal::New(_, last) => mem::swap(&mut **last, goal),
+    }
+    mem::swap(goal, above);
+    true
+}
+
+/// Gives the names of a goal their sorts.
+///
+/// It goes along what is right of `,` and `;` and inside `exists` and `new`, and comes to itself on what is
+/// left of them alone.
+#[cycle(goal_sorts)]
+fn sort_goal(alloc: Global, kinds: &[Kind], goal: &mut Goal<Raw>) -> Result<(), Memory>
+    ensures { OnOk result (goal_over raw_of goal.new
+        ≡ goal_with_sorts (map kind_of kinds.now) (goal_over raw_of goal.old)) }
+{
+    let mut above = Goal::True;
+    'down: while go_down_goal(alloc, kinds, &mut above, goal)? {}
+    'up: while go_up_goal(&mut above, goal) {}
+    Ok(())
 }
 
 /// A goal whose names have the sorts of their kinds.
 ///
 /// Each name whose number is that of a name among the kinds has its sort, and all else stays. `Err` is
-/// want of memory. It goes on along what is right of `,` and `;` and inside `exists` and `new`, and calls
-/// itself on what is left of them alone.
-#[tactic(auto, using(ap_spines::proofs::SpineLemmas::goal_within_last))]
-pub fn goal_with_sorts(alloc: Global, kinds: &[Kind], goal: &Goal<Raw>) -> Result<Goal<Raw>, Memory>
+/// want of memory.
+pub fn goal_with_sorts(alloc: Global, kinds: &[Kind], goal: Goal<Raw>) -> Result<Goal<Raw>, Memory>
     ensures { IfOk result (λ g. goal_over raw_of g
-        ≡ goal_with_sorts (map kind_of kinds.now) (goal_over raw_of goal.now)) }
+        ≡ goal_with_sorts (map kind_of kinds.now) (goal_over raw_of goal)) }
 {
-    let mut layers = Vec::new(alloc);
-    let mut rest = goal;
-    loop {
-        match rest {
-            Goal::True => return close_goal(alloc, layers, Goal::True),
-            Goal::Atom(pred, terms) => {
-                let terms = terms_with_sorts(alloc, kinds, terms.items())?;
-                return close_goal(alloc, layers, Goal::Atom(*pred, terms));
-            }
-            Goal::Equal(t, u) => {
-                let equal = equal_with_sorts(alloc, kinds, t, u)?;
-                return close_goal(alloc, layers, equal);
-            }
-            Goal::Fresh(t, u) => {
-                let fresh = fresh_with_sorts(alloc, kinds, t, u)?;
-                return close_goal(alloc, layers, fresh);
-            }
-            Goal::Both(left, right) => {
-                layers.push(GoalLayer::Both(goal_with_sorts(alloc, kinds, left)?))?;
-                rest = right;
-            }
-            Goal::Either(left, right) => {
-                layers.push(GoalLayer::Either(goal_with_sorts(alloc, kinds, left)?))?;
-                rest = right;
-            }
-            Goal::Exists(x, inner) => {
-                layers.push(GoalLayer::Exists(*x))?;
-                rest = inner;
-            }
-            Goal::New(a, inner) => {
-                layers.push(GoalLayer::New(name_with_sort(kinds, *a)))?;
-                rest = inner;
-            }
-        }
-    }
+    let mut sorted = goal;
+    sort_goal(alloc, kinds, &mut sorted)?;
+    Ok(sorted)
 }

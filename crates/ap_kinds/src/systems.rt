@@ -1,6 +1,6 @@
 //! Systems of type equations, as they grow.
 
-ghost use Rattle.std.specs.Prelude.{◌≡◌, ℕ, ◌+◌, ◌++◌, ◌∷◌, [], length, IfOk};
+ghost use Rattle.std.specs.Prelude.{◌≡◌, ℕ, ◌+◌, ◌++◌, ◌∷◌, [], length, IfOk, OnOk};
 ghost use Rattle.ap_defs.specs.Types.{shape_of};
 ghost use Rattle.ap_kinds.specs.Systems.{system_of, equate, with_name_hole, with_hole, system_refused, is_name_at, is_var_at, name_holes, started};
 
@@ -17,64 +17,41 @@ pub(crate) struct System {
     pub(crate) next: u64,
 }
 
-/// The system with one more equation.
-pub(crate) fn equate(system: System, left: Shape, right: Shape) -> Result<System, Memory>
-    ensures { IfOk result (λ s. system_of s
-        ≡ equate (shape_of left) (shape_of right) (system_of system)) }
+/// One more equation.
+pub(crate) fn equate(system: &mut System, left: Shape, right: Shape) -> Result<(), Memory>
+    ensures { OnOk result (system_of system.new
+        ≡ equate (shape_of left) (shape_of right) (system_of system.old)) }
 {
-    let System {
-        mut equations,
-        names,
-        next,
-    } = system;
-    equations.push((left, right))?;
-    Ok(System {
-        equations,
-        names,
-        next,
-    })
+    system.equations.push((left, right))?;
+    Ok(())
 }
 
-/// The system with one more hole that must be a name type.
-pub(crate) fn with_name(system: System, x: u64) -> Result<System, Memory>
-    ensures { IfOk result (λ s. system_of s ≡ with_name_hole x (system_of system)) }
+/// One more hole that must be a name type.
+pub(crate) fn add_name(system: &mut System, x: u64) -> Result<(), Memory>
+    ensures { OnOk result (system_of system.new ≡ with_name_hole x (system_of system.old)) }
 {
-    let System {
-        equations,
-        mut names,
-        next,
-    } = system;
-    names.push(x)?;
-    Ok(System {
-        equations,
-        names,
-        next,
-    })
+    system.names.push(x)?;
+    Ok(())
 }
 
-/// The system with one more hole. No table has a place for the greatest number, which counts as want of
+/// One more hole, by its number. No table has a place for the greatest number, which counts as want of
 /// memory.
-pub(crate) fn with_hole(system: System) -> Result<System, Memory>
-    ensures { IfOk result (λ s. system_of s ≡ with_hole (system_of system)) }
+pub(crate) fn new_hole(system: &mut System) -> Result<u64, Memory>
+    ensures hole { IfOk result (λ x. x ≡ system.old.next) }
+    ensures next { OnOk result (system.new.next ≡ system.old.next + 1) }
+    ensures more { OnOk result (system_of system.new ≡ with_hole (system_of system.old)) }
 {
-    let System {
-        equations,
-        names,
-        next,
-    } = system;
-    if next == u64::MAX {
+    let hole = system.next;
+    if hole == u64::MAX {
         return Err(Memory);
     }
-    Ok(System {
-        equations,
-        names,
-        next: next + 1,
-    })
+    system.next = hole + 1;
+    Ok(hole)
 }
 
-/// The system with an equation that nothing solves.
-pub(crate) fn refused(system: System) -> Result<System, Memory>
-    ensures { IfOk result (λ s. system_of s ≡ system_refused (system_of system)) }
+/// An equation that nothing solves.
+pub(crate) fn refuse(system: &mut System) -> Result<(), Memory>
+    ensures { OnOk result (system_of system.new ≡ system_refused (system_of system.old)) }
 {
     equate(system, Shape::Unit, Shape::Names(0))
 }
@@ -99,7 +76,7 @@ pub(crate) fn is_var_at(idents: &[IdentKind], number: u64) -> bool
 fn name_holes(alloc: Global, idents: &[IdentKind]) -> Result<Vec<u64>, Memory>
     ensures { IfOk result (λ v. v.items ≡ name_holes 0 idents.now) }
 {
-    let mut holes = Vec::new(alloc);
+    let mut holes = Vec::with_capacity(alloc, idents.len())?;
     for (i, ident) in idents.iter().enumerate() {
         if matches!(ident, IdentKind::Name) {
             holes.push(i as u64)?;
@@ -114,7 +91,7 @@ pub(crate) fn started(alloc: Global, idents: &[IdentKind]) -> Result<System, Mem
 {
     let names = name_holes(alloc, idents)?;
     Ok(System {
-        equations: Vec::new(alloc),
+        equations: Vec::with_capacity(alloc, idents.len())?,
         names,
         next: idents.len() as u64,
     })

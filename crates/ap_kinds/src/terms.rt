@@ -1,21 +1,20 @@
 //! The type equations of terms.
 
-ghost use Rattle.std.specs.Prelude.{◌≡◌, map, IfOk};
+ghost use Rattle.std.specs.Prelude.{◌≡◌, map, IfOk, OnOk};
 ghost use Rattle.ap_defs.specs.RawTerms.{raw_of};
-ghost use Rattle.ap_defs.specs.Types.{shape_of, constructor_of};
+ghost use Rattle.ap_defs.specs.Types.{shape_of, type_of, constructor_of};
 ghost use Rattle.ap_kinds.specs.Systems.{system_of};
-ghost use Rattle.ap_kinds.specs.Gathering.{wanting_of, whole, new_sides, sides, right_of_pair, inside_binder, inside_swapping, gather_term};
-ghost use Rattle.ap_kinds.specs.Views.{sides_of, inside_view};
+ghost use Rattle.ap_kinds.specs.Gathering.{wanting_of, whole, typed, new_sides, sides, meet_swapped, one_sort, name_place, inside_abstraction, gather_term};
 
-use crate::inside::{Inside, inside_abstraction, inside_application};
+use crate::inside::{inside_abstraction, inside_application};
 use crate::kinds::IdentKind;
 use crate::places::{name_place, one_sort};
 use crate::shapes::opened;
-use crate::systems::{System, equate, refused, with_hole};
-use crate::wants::{Wanted, meet_name, meet_swapped, meet_unit, meet_var, wanted_all};
+use crate::systems::{System, equate, new_hole, refuse};
+use crate::wants::{Wanted, list_of, meet_name, meet_swapped, meet_unit, meet_var, wanted_all};
 use ap_defs::goals::Constructor;
 use ap_defs::memory::Memory;
-use ap_defs::terms::{Id, Raw, Shape, take_pair};
+use ap_defs::terms::{Id, Raw, Shape, Ty, take_pair};
 use std::alloc::Global;
 
 /// What is wanted of the two sides of a pair.
@@ -23,96 +22,124 @@ use std::alloc::Global;
 struct Sides<'a> {
     left: Wanted<'a>,
     right: Wanted<'a>,
-    system: System,
 }
 
 /// What is wanted of the two sides of a pair that stands where a shape of no pair is wanted.
-fn new_sides<'a>(alloc: Global, want: Shape, system: System) -> Result<Sides<'a>, Memory>
-    ensures { IfOk result (λ p. sides_of p ≡ new_sides (shape_of want) (system_of system)) }
+fn new_sides<'a>(alloc: Global, want: Shape, system: &mut System) -> Result<Sides<'a>, Memory>
+    ensures left { IfOk result (λ p. wanting_of p.left
+        ≡ (new_sides (shape_of want) (system_of system.old)).left) }
+    ensures right { IfOk result (λ p. wanting_of p.right
+        ≡ (new_sides (shape_of want) (system_of system.old)).right) }
+    ensures system { OnOk result (system_of system.new
+        ≡ (new_sides (shape_of want) (system_of system.old)).system) }
 {
-    let first = system.next;
-    let system = with_hole(system)?;
-    let second = system.next;
-    let system = with_hole(system)?;
+    let first = new_hole(system)?;
+    let second = new_hole(system)?;
     let left = Box::new(alloc, Shape::Hole(first))?;
     let right = Box::new(alloc, Shape::Hole(second))?;
-    let system = equate(system, want, Shape::Pair(left, right))?;
+    equate(system, want, Shape::Pair(left, right))?;
     Ok(Sides {
         left: Wanted::Whole(Shape::Hole(first)),
         right: Wanted::Whole(Shape::Hole(second)),
-        system,
     })
 }
 
 /// What is wanted of the two sides of a pair that stands where a shape is wanted.
 #[tactic(auto, using(crate::proofs::TakenLemmas::no_pair_sides))]
-fn sides_of_shape<'a>(alloc: Global, want: Shape, system: System) -> Result<Sides<'a>, Memory>
-    ensures { IfOk result (λ p. sides_of p ≡ sides (whole (shape_of want)) (system_of system)) }
+fn sides_of_shape<'a>(alloc: Global, want: Shape, system: &mut System) -> Result<Sides<'a>, Memory>
+    ensures left { IfOk result (λ p. wanting_of p.left
+        ≡ (sides (whole (shape_of want)) (system_of system.old)).left) }
+    ensures right { IfOk result (λ p. wanting_of p.right
+        ≡ (sides (whole (shape_of want)) (system_of system.old)).right) }
+    ensures system { OnOk result (system_of system.new
+        ≡ (sides (whole (shape_of want)) (system_of system.old)).system) }
 {
     let mut shape = want;
     match take_pair(&mut shape) {
         Some((left, right)) => Ok(Sides {
             left: Wanted::Whole(left),
             right: Wanted::Whole(right),
-            system,
         }),
         None => new_sides(alloc, shape, system),
     }
 }
 
+/// What is wanted of the two sides of a pair that stands where a type is wanted.
+fn sides_of_type<'a>(alloc: Global, want: &'a Ty, system: &mut System) -> Result<Sides<'a>, Memory>
+    ensures left { IfOk result (λ p. wanting_of p.left
+        ≡ (sides (typed (type_of want.now)) (system_of system.old)).left) }
+    ensures right { IfOk result (λ p. wanting_of p.right
+        ≡ (sides (typed (type_of want.now)) (system_of system.old)).right) }
+    ensures system { OnOk result (system_of system.new
+        ≡ (sides (typed (type_of want.now)) (system_of system.old)).system) }
+{
+    match want {
+        Ty::Pair(left, right) => Ok(Sides {
+            left: Wanted::Type(left),
+            right: Wanted::Type(right),
+        }),
+        other => new_sides(alloc, opened(alloc, other)?, system),
+    }
+}
+
 /// What is wanted of the two sides of a pair.
-fn pair_sides<'a>(alloc: Global, want: Wanted<'a>, system: System) -> Result<Sides<'a>, Memory>
-    ensures { IfOk result (λ p. sides_of p ≡ sides (wanting_of want.entry) (system_of system)) }
+fn pair_sides<'a>(alloc: Global, want: Wanted<'a>, system: &mut System) -> Result<Sides<'a>, Memory>
+    ensures left { IfOk result (λ p. wanting_of p.left
+        ≡ (sides (wanting_of want.entry) (system_of system.old)).left) }
+    ensures right { IfOk result (λ p. wanting_of p.right
+        ≡ (sides (wanting_of want.entry) (system_of system.old)).right) }
+    ensures system { OnOk result (system_of system.new
+        ≡ (sides (wanting_of want.entry) (system_of system.old)).system) }
 {
     match want {
         Wanted::Whole(shape) => sides_of_shape(alloc, shape, system),
-        Wanted::Nothing => Ok(Sides {
-            left: Wanted::Nothing,
-            right: Wanted::Nothing,
-            system: refused(system)?,
-        }),
+        Wanted::Type(t) => sides_of_type(alloc, t, system),
+        Wanted::ListOf(t) => new_sides(alloc, list_of(alloc, t)?, system),
+        Wanted::Nothing => {
+            refuse(system)?;
+            Ok(Sides {
+                left: Wanted::Nothing,
+                right: Wanted::Nothing,
+            })
+        }
         Wanted::More(t, rest) => Ok(Sides {
-            left: Wanted::Whole(opened(alloc, t)?),
-            right: wanted_all(alloc, rest)?,
-            system,
+            left: Wanted::Type(t),
+            right: wanted_all(rest),
         }),
         Wanted::Cell(x) => {
             let list = Shape::List(Box::new(alloc, Shape::Hole(x))?);
             Ok(Sides {
                 left: Wanted::Whole(Shape::Hole(x)),
                 right: Wanted::Whole(list),
-                system,
             })
         }
+        Wanted::TypeCell(t) => Ok(Sides {
+            left: Wanted::Type(t),
+            right: Wanted::ListOf(t),
+        }),
     }
 }
 
-/// What is wanted of the right side of a pair, and the system with the equations of its left side.
+/// What is wanted of the right side of a pair, and the equations of its left side.
 #[cycle(terms)]
 fn right_of_pair<'a>(
     alloc: Global,
     constructors: &'a [Constructor],
     idents: &[IdentKind],
     left: &Raw,
-    at: Inside<'a>,
-) -> Result<Inside<'a>, Memory>
-    ensures { IfOk result (λ b. inside_view b
-        ≡ right_of_pair (map constructor_of constructors.now) idents.now (raw_of left.now)
-        (inside_view at.entry)) }
+    want: Wanted<'a>,
+    system: &mut System,
+) -> Result<Wanted<'a>, Memory>
+    ensures want { IfOk result (λ w. wanting_of w
+        ≡ (sides (wanting_of want.entry) (system_of system.old)).right) }
+    ensures system { OnOk result (system_of system.new
+        ≡ gather_term (map constructor_of constructors.now) idents.now (raw_of left.now)
+        (sides (wanting_of want.entry) (system_of system.old)).left
+        (sides (wanting_of want.entry) (system_of system.old)).system) }
 {
-    let wanted = pair_sides(alloc, at.want, at.system)?;
-    let system = gather_term(
-        alloc,
-        constructors,
-        idents,
-        left,
-        wanted.left,
-        wanted.system,
-    )?;
-    Ok(Inside {
-        want: wanted.right,
-        system,
-    })
+    let wanted = pair_sides(alloc, want, system)?;
+    gather_term(alloc, constructors, idents, left, wanted.left, system)?;
+    Ok(wanted.right)
 }
 
 /// What is wanted of the body of an abstraction with a binder.
@@ -120,34 +147,38 @@ fn inside_binder<'a>(
     alloc: Global,
     idents: &[IdentKind],
     binder: Id,
-    at: Inside<'a>,
-) -> Result<Inside<'a>, Memory>
-    ensures { IfOk result (λ b. inside_view b
-        ≡ inside_binder idents.now binder (inside_view at.entry)) }
+    want: Wanted<'a>,
+    system: &mut System,
+) -> Result<Wanted<'a>, Memory>
+    ensures want { IfOk result (λ w. wanting_of w
+        ≡ (inside_abstraction (name_place idents.now binder (system_of system.old)).hole
+        (wanting_of want.entry)
+        (name_place idents.now binder (system_of system.old)).system).want) }
+    ensures system { OnOk result (system_of system.new
+        ≡ (inside_abstraction (name_place idents.now binder (system_of system.old)).hole
+        (wanting_of want.entry)
+        (name_place idents.now binder (system_of system.old)).system).system) }
 {
-    let place = name_place(idents, binder, at.system)?;
-    inside_abstraction(alloc, place.hole, at.want, place.system)
+    let hole = name_place(idents, binder, system)?;
+    inside_abstraction(alloc, hole, want, system)
 }
 
-/// What is wanted of the term that is swapped.
-fn inside_swapping<'a>(
+/// Where a swapped term stands.
+fn meet_swapping(
     idents: &[IdentKind],
     i: Id,
     j: Id,
-    at: Inside<'a>,
-) -> Result<Inside<'a>, Memory>
-    ensures { IfOk result (λ b. inside_view b
-        ≡ inside_swapping idents.now i j (inside_view at.entry)) }
+    want: &Wanted<'_>,
+    system: &mut System,
+) -> Result<(), Memory>
+    ensures { OnOk result (system_of system.new ≡ meet_swapped (wanting_of want.now)
+        (one_sort idents.now i j (system_of system.old))) }
 {
-    let system = one_sort(idents, i, j, at.system)?;
-    let system = meet_swapped(&at.want, system)?;
-    Ok(Inside {
-        want: at.want,
-        system,
-    })
+    one_sort(idents, i, j, system)?;
+    meet_swapped(want, system)
 }
 
-/// The system with the equations of a term, of which something is wanted.
+/// The equations of a term, of which something is wanted.
 ///
 /// It goes on along the right part of a pair, the argument of a constructor, the body of an abstraction
 /// and what is swapped, and comes to itself on left parts of pairs alone.
@@ -158,33 +189,33 @@ pub(crate) fn gather_term<'a>(
     idents: &[IdentKind],
     t: &Raw,
     want: Wanted<'a>,
-    system: System,
-) -> Result<System, Memory>
-    ensures { IfOk result (λ s. system_of s
+    system: &mut System,
+) -> Result<(), Memory>
+    ensures { OnOk result (system_of system.new
         ≡ gather_term (map constructor_of constructors.now) idents.now (raw_of t.now)
-        (wanting_of want.entry) (system_of system)) }
+        (wanting_of want.entry) (system_of system.old)) }
 {
-    let mut at = Inside { want, system };
+    let mut now = want;
     let mut rest = t;
     loop {
         match rest {
-            Raw::Unit => return meet_unit(at.want, at.system),
-            Raw::Name(a) => return meet_name(idents, a.num, at.want, at.system),
-            Raw::Var(x) => return meet_var(idents, x.num, at.want, at.system),
+            Raw::Unit => return meet_unit(alloc, now, system),
+            Raw::Name(a) => return meet_name(alloc, idents, a.num, now, system),
+            Raw::Var(x) => return meet_var(alloc, idents, x.num, now, system),
             Raw::Pair(left, right) => {
-                at = right_of_pair(alloc, constructors, idents, left, at)?;
+                now = right_of_pair(alloc, constructors, idents, left, now, system)?;
                 rest = right;
             }
             Raw::App(f, argument) => {
-                at = inside_application(alloc, constructors, *f, at.want, at.system)?;
+                now = inside_application(alloc, constructors, *f, now, system)?;
                 rest = argument;
             }
             Raw::Abs(i, body) => {
-                at = inside_binder(alloc, idents, *i, at)?;
+                now = inside_binder(alloc, idents, *i, now, system)?;
                 rest = body;
             }
             Raw::Swapped(i, j, body) => {
-                at = inside_swapping(idents, *i, *j, at)?;
+                meet_swapping(idents, *i, *j, &now, system)?;
                 rest = body;
             }
         }

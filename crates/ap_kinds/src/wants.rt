@@ -1,102 +1,189 @@
 //! What is wanted of a term, and terms that stand there.
 
-ghost use Rattle.std.specs.Prelude.{◌≡◌, map, IfOk};
-ghost use Rattle.ap_defs.specs.Types.{shape_of, type_of};
-ghost use Rattle.ap_kinds.specs.Systems.{system_of};
-ghost use Rattle.ap_kinds.specs.Gathering.{wanting_of, wanting_all, meet, meet_unit, meet_swapped, meet_name, meet_var};
+ghost use Rattle.std.specs.Prelude.{◌≡◌, map, IfOk, OnOk};
+ghost use Rattle.ap_defs.specs.Types.{shape_of, type_of, list};
+ghost use Rattle.ap_kinds.specs.Systems.{system_of, shape_of_type};
+ghost use Rattle.ap_kinds.specs.Gathering.{wanting_of, wanting_all, is_same, equate_others, meet, meet_unit, meet_swapped, meet_name, meet_var};
 
 use crate::kinds::IdentKind;
 use crate::shapes::opened;
-use crate::systems::{System, equate, is_name_at, is_var_at, refused};
+use crate::systems::{System, equate, is_name_at, is_var_at, refuse};
 use ap_defs::memory::Memory;
 use ap_defs::terms::{Shape, Ty};
 use std::alloc::Global;
 
-/// What is wanted of a term: a shape; nothing, as of a constructor without arguments; an argument of a
-/// type and those of the rest; or the parts of a list cell, whose elements have the type of a hole.
+/// What is wanted of a term: a shape; a type; a list of a type; nothing, as of a constructor without
+/// arguments; an argument of a type and those of the rest; or the parts of a list cell, whose elements have
+/// the type of a hole, or a type.
 #[derive(Drop)]
 pub(crate) enum Wanted<'a> {
     Whole(Shape),
+    Type(&'a Ty),
+    ListOf(&'a Ty),
     Nothing,
     More(&'a Ty, &'a [Ty]),
     Cell(u64),
+    TypeCell(&'a Ty),
+}
+
+/// A list of a type, as a shape.
+pub(crate) fn list_of(alloc: Global, t: &Ty) -> Result<Shape, Memory>
+    ensures { IfOk result (λ s. shape_of s ≡ list (shape_of_type (type_of t.now))) }
+{
+    let element = opened(alloc, t)?;
+    Ok(Shape::List(Box::new(alloc, element)?))
 }
 
 /// What is wanted of the arguments of a constructor.
-pub(crate) fn wanted_all<'a>(alloc: Global, types: &'a [Ty]) -> Result<Wanted<'a>, Memory>
-    ensures { IfOk result (λ w. wanting_of w ≡ wanting_all (map type_of types.now)) }
+pub(crate) fn wanted_all<'a>(types: &'a [Ty]) -> Wanted<'a>
+    ensures { wanting_of result ≡ wanting_all (map type_of types.now) }
 {
     match types {
-        [] => Ok(Wanted::Nothing),
-        [t] => Ok(Wanted::Whole(opened(alloc, t)?)),
-        [t, rest @ ..] => Ok(Wanted::More(t, rest)),
+        [] => Wanted::Nothing,
+        [t] => Wanted::Type(t),
+        [t, rest @ ..] => Wanted::More(t, rest),
     }
 }
 
+/// Whether two shapes have no parts and are the same.
+fn is_same(t: &Shape, u: &Shape) -> bool
+    ensures { result ≡ is_same (shape_of t.now) (shape_of u.now) }
+{
+    match t {
+        Shape::Hole(x) => match u {
+            Shape::Hole(y) => *x == *y,
+            _ => false,
+        },
+        Shape::Unit => matches!(u, Shape::Unit),
+        Shape::Names(sort) => match u {
+            Shape::Names(other) => *sort == *other,
+            _ => false,
+        },
+        Shape::Base(data) => match u {
+            Shape::Base(other) => *data == *other,
+            _ => false,
+        },
+        _ => false,
+    }
+}
+
+/// Two shapes become the same. If they have no parts and are the same, that takes no equation.
+fn equate_others(t: Shape, u: Shape, system: &mut System) -> Result<(), Memory>
+    ensures { OnOk result (system_of system.new
+        ≡ equate_others (shape_of t) (shape_of u) (system_of system.old)) }
+{
+    if is_same(&t, &u) {
+        Ok(())
+    } else {
+        equate(system, t, u)
+    }
+}
+
+/// Whether a type and a shape have no parts and are the same.
+fn is_same_type(t: &Ty, u: &Shape) -> bool
+    ensures { result ≡ is_same (shape_of_type (type_of t.now)) (shape_of u.now) }
+{
+    match t {
+        Ty::Unit => matches!(u, Shape::Unit),
+        Ty::Names(sort) => match u {
+            Shape::Names(other) => *sort == *other,
+            _ => false,
+        },
+        Ty::Base(data) => match u {
+            Shape::Base(other) => *data == *other,
+            _ => false,
+        },
+        _ => false,
+    }
+}
+
+/// A term of the shape stands where a type is wanted.
+fn meet_type(alloc: Global, t: &Ty, shape: Shape, system: &mut System) -> Result<(), Memory>
+    ensures { OnOk result (system_of system.new
+        ≡ equate_others (shape_of_type (type_of t.now)) (shape_of shape) (system_of system.old)) }
+{
+    if is_same_type(t, &shape) {
+        return Ok(());
+    }
+    let wanted = opened(alloc, t)?;
+    equate(system, wanted, shape)
+}
+
 /// A term of the shape stands where something is wanted.
-pub(crate) fn meet(want: Wanted<'_>, shape: Shape, system: System) -> Result<System, Memory>
-    ensures { IfOk result (λ s. system_of s
-        ≡ meet (wanting_of want.entry) (shape_of shape) (system_of system)) }
+pub(crate) fn meet(
+    alloc: Global,
+    want: Wanted<'_>,
+    shape: Shape,
+    system: &mut System,
+) -> Result<(), Memory>
+    ensures { OnOk result (system_of system.new
+        ≡ meet (wanting_of want.entry) (shape_of shape) (system_of system.old)) }
 {
     match want {
-        Wanted::Whole(wanted) => equate(system, wanted, shape),
-        _ => refused(system),
+        Wanted::Whole(wanted) => equate_others(wanted, shape, system),
+        Wanted::Type(t) => meet_type(alloc, t, shape, system),
+        Wanted::ListOf(t) => {
+            let wanted = list_of(alloc, t)?;
+            equate(system, wanted, shape)
+        }
+        _ => refuse(system),
     }
 }
 
 /// Unit stands where something is wanted.
-pub(crate) fn meet_unit(want: Wanted<'_>, system: System) -> Result<System, Memory>
-    ensures { IfOk result (λ s. system_of s
-        ≡ meet_unit (wanting_of want.entry) (system_of system)) }
+pub(crate) fn meet_unit(alloc: Global, want: Wanted<'_>, system: &mut System) -> Result<(), Memory>
+    ensures { OnOk result (system_of system.new
+        ≡ meet_unit (wanting_of want.entry) (system_of system.old)) }
 {
     match want {
-        Wanted::Nothing => Ok(system),
-        Wanted::Whole(wanted) => equate(system, wanted, Shape::Unit),
-        _ => refused(system),
+        Wanted::Nothing => Ok(()),
+        other => meet(alloc, other, Shape::Unit, system),
     }
 }
 
 /// A swapped term stands where something is wanted.
-pub(crate) fn meet_swapped(want: &Wanted<'_>, system: System) -> Result<System, Memory>
-    ensures { IfOk result (λ s. system_of s
-        ≡ meet_swapped (wanting_of want.now) (system_of system)) }
+pub(crate) fn meet_swapped(want: &Wanted<'_>, system: &mut System) -> Result<(), Memory>
+    ensures { OnOk result (system_of system.new
+        ≡ meet_swapped (wanting_of want.now) (system_of system.old)) }
 {
     match want {
-        Wanted::Whole(_) => Ok(system),
-        _ => refused(system),
+        Wanted::Whole(_) | Wanted::Type(_) | Wanted::ListOf(_) => Ok(()),
+        _ => refuse(system),
     }
 }
 
 /// A name stands where something is wanted.
 pub(crate) fn meet_name(
+    alloc: Global,
     idents: &[IdentKind],
     number: u64,
     want: Wanted<'_>,
-    system: System,
-) -> Result<System, Memory>
-    ensures { IfOk result (λ s. system_of s
-        ≡ meet_name idents.now number (wanting_of want.entry) (system_of system)) }
+    system: &mut System,
+) -> Result<(), Memory>
+    ensures { OnOk result (system_of system.new
+        ≡ meet_name idents.now number (wanting_of want.entry) (system_of system.old)) }
 {
     if is_name_at(idents, number) {
-        meet(want, Shape::Hole(number), system)
+        meet(alloc, want, Shape::Hole(number), system)
     } else {
-        refused(system)
+        refuse(system)
     }
 }
 
 /// A variable stands where something is wanted.
 pub(crate) fn meet_var(
+    alloc: Global,
     idents: &[IdentKind],
     number: u64,
     want: Wanted<'_>,
-    system: System,
-) -> Result<System, Memory>
-    ensures { IfOk result (λ s. system_of s
-        ≡ meet_var idents.now number (wanting_of want.entry) (system_of system)) }
+    system: &mut System,
+) -> Result<(), Memory>
+    ensures { OnOk result (system_of system.new
+        ≡ meet_var idents.now number (wanting_of want.entry) (system_of system.old)) }
 {
     if is_var_at(idents, number) {
-        meet(want, Shape::Hole(number), system)
+        meet(alloc, want, Shape::Hole(number), system)
     } else {
-        refused(system)
+        refuse(system)
     }
 }

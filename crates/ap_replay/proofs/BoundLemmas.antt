@@ -8,12 +8,12 @@ use Rattle.ap_paths.specs.declared.limits.Limit.{Limit}
 use Rattle.ap_replay.specs.ProblemTrees.{bound_after, bound_by}
 
 -- where all answers are wanted
-pub bound_for_all : (d e : ℕ) → d ≤ 28 → e ≡ min d 3 → 4 * 2 ^ (2 * d + e) % 2 ^ 64 ≡ 4 * 2 ^ (2 * d + min d 3)
+pub bound_for_all : (d e : ℕ) → d ≤ 28 → e ≡ min d 3 → 16 * 2 ^ (2 * d + e) % 2 ^ 64 ≡ 16 * 2 ^ (2 * d + min d 3)
 bound_for_all d e h q =
     let more : e ≤ 3 = subst (λ (x : ℕ). x ≤ 3) (sym q) (min-le_right _ _) in
-    let within : 2 * d + e ≤ 60 = omega (arith, h, more) in
-    let most : 2 ^ (2 * d + e) ≤ 2 ^ 60 = pow_mono within in
-    mod-eq_of_lt (omega (arith, most)) ∙ ap (λ (x : ℕ). 4 * 2 ^ (2 * d + x)) q
+    let within : 2 * d + e ≤ 59 = omega (arith, h, more) in
+    let most : 2 ^ (2 * d + e) ≤ 2 ^ 59 = pow_mono within in
+    mod-eq_of_lt (omega (arith, most)) ∙ ap (λ (x : ℕ). 16 * 2 ^ (2 * d + x)) q
 
 -- and where not all are
 pub bound_for_first : (d e : ℕ) → d ≤ 28 → e ≡ min d 5 → 32 * 2 ^ (d + e) % 2 ^ 64 ≡ 32 * 2 ^ (d + min d 5)

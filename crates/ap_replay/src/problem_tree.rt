@@ -45,7 +45,7 @@ fn bound_of_twos(limit: Limit, twos: u32) -> u64
     ensures { result ≡ bound_by limit twos }
 {
     match limit {
-        Limit::All => 4 << (2 * twos + twos.min(3)),
+        Limit::All => 16 << (2 * twos + twos.min(3)),
         Limit::First(_) => 32 << (twos + twos.min(5)),
     }
 }

@@ -121,9 +121,8 @@ module _ (u : NominalTerm) (ks : List WalkStep) (table end : List NominalTerm) (
       let grew_u : new ≡ table ++ u ∷ [] = grew ∙ ap (λ w. table ++ w ∷ []) same.0 in
       let here : shared_at new line ≡ u = ap₂ shared_at grew_u at ∙ at_last table u in
       let there : map (shared_at new) others ≡ l.0 = ap (λ us. map (shared_at us) others) grew ∙ terms_front table (v ∷ []) others below ∙ ap (map (shared_at table)) same.1 ∙ lines_left.stand in
-      let long : length new ≡ length table + 1 = ap length grew ∙ length-append table (v ∷ []) in
-      (
+      let long : length new ≡ length table + 1 = ap length grew ∙ length-append table (v ∷ []) in (
         (omega (arith, long, at), below_more (length table) (length new) others (omega (arith, long)) below),
         subst (λ us. Leads ks us (map (shared_at new) (line ∷ others)) end t) (sym grew_u)
-        (subst (λ us. Leads ks (table ++ u ∷ []) us end t) (sym (ap₂ (λ w ws. w ∷ ws) here there)) l.2),
+            (subst (λ us. Leads ks (table ++ u ∷ []) us end t) (sym (ap₂ (λ w ws. w ∷ ws) here there)) l.2),
       )

@@ -66,11 +66,7 @@ pub fn share_answer(
 }
 
 /// How an atom used a clause, with its terms entered.
-fn share_use(
-    alloc: Global,
-    table: &mut SharedTerms,
-    used: &ClauseUse,
-) -> Result<SharedUse, Memory>
+fn share_use(alloc: Global, table: &mut SharedTerms, used: &ClauseUse) -> Result<SharedUse, Memory>
     ensures grown { OnOk result (IsGrown (shared_terms table.old) (shared_terms table.new)) }
     ensures below { IfOk result (λ u. AreLinesBelow (length (shared_terms table.new)) u.terms) }
     ensures clause { IfOk result (λ u. u.clause ≡ used.now.clause) }
@@ -101,8 +97,9 @@ fn share_first(
 {
     match derivation {
         Derivation::Atom(used, _) => {
-            let used = share_use(alloc, table, used)?;
-            Ok(SharedNode::Atom(Box::new(alloc, used)?))
+            let shared = share_use(alloc, table, used)?;
+            let boxed = Box::new(alloc, shared)?;
+            Ok(SharedNode::Atom(boxed))
         }
         Derivation::Eq => Ok(SharedNode::Eq),
         Derivation::Fresh => Ok(SharedNode::Fresh),
@@ -114,7 +111,10 @@ fn share_first(
             let line = enter(alloc, table, term)?;
             Ok(SharedNode::Exists(line))
         }
-        Derivation::New(name, _) => Ok(SharedNode::New(Box::new(alloc, **name)?)),
+        Derivation::New(name, _) => {
+            let boxed = Box::new(alloc, **name)?;
+            Ok(SharedNode::New(boxed))
+        }
     }
 }
 

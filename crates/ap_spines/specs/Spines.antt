@@ -11,6 +11,7 @@ use Rattle.ap_spines.specs.declared.GoalLayer.TheVariants as around_goal
 
 abbrev pub raw_in : RawLayer → RawTerm → RawTerm
 raw_in (around_term.Left t) u = terms.pair (raw_of t) u
+raw_in (around_term.Cell t) u = terms.app 1 (terms.pair (raw_of t) u)
 raw_in (around_term.App f) u = terms.app f u
 raw_in (around_term.Abs i) u = terms.abs i u
 raw_in (around_term.Swapped i j) u = terms.swapped i j u

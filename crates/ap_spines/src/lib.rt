@@ -5,7 +5,7 @@
 #![tactic(auto)]
 
 ghost use Rattle.std.specs.Prelude.{◌≡◌, IfOk};
-ghost use Rattle.ap_defs.specs.RawTerms.{raw_of};
+ghost use Rattle.ap_defs.specs.RawTerms.{raw_of, pair};
 ghost use Rattle.ap_defs.specs.Goals.{goal_over};
 ghost use Rattle.ap_spines.specs.Spines.{raw_in, raw_within, raw_goal_in, raw_goal_within};
 
@@ -14,11 +14,12 @@ use ap_defs::memory::Memory;
 use ap_defs::terms::{Id, Name, Raw, Var};
 use std::alloc::Global;
 
-/// What stands round a part of a term: the part is right of a term in a pair, the argument of a
-/// constructor, the body of an abstraction, or what is swapped.
+/// What stands round a part of a term: the part is right of a term in a pair, the tail of a list cell, the
+/// argument of a constructor, the body of an abstraction, or what is swapped.
 #[derive(Drop)]
 pub enum RawLayer {
     Left(Raw),
+    Cell(Raw),
     App(u32),
     Abs(Id),
     Swapped(Id, Id),
@@ -34,14 +35,23 @@ pub enum GoalLayer {
     New(Name),
 }
 
+/// A pair of terms.
+pub fn raw_pair(alloc: Global, left: Raw, right: Raw) -> Result<Raw, Memory>
+    ensures { IfOk result (λ t. raw_of t ≡ pair (raw_of left) (raw_of right)) }
+{
+    let left = Box::new(alloc, left)?;
+    Ok(Raw::Pair(left, Box::new(alloc, right)?))
+}
+
 /// A term in a layer.
 fn raw_in(alloc: Global, layer: RawLayer, t: Raw) -> Result<Raw, Memory>
     ensures { IfOk result (λ u. raw_of u ≡ raw_in layer (raw_of t)) }
 {
     match layer {
-        RawLayer::Left(left) => {
-            let left = Box::new(alloc, left)?;
-            Ok(Raw::Pair(left, Box::new(alloc, t)?))
+        RawLayer::Left(left) => raw_pair(alloc, left, t),
+        RawLayer::Cell(head) => {
+            let parts = raw_pair(alloc, head, t)?;
+            Ok(Raw::App(1, Box::new(alloc, parts)?))
         }
         RawLayer::App(f) => Ok(Raw::App(f, Box::new(alloc, t)?)),
         RawLayer::Abs(i) => Ok(Raw::Abs(i, Box::new(alloc, t)?)),

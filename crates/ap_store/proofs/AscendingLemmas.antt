@@ -111,3 +111,29 @@ all_apart x (d ∷ ds) h =
       | true ↦ λ k. cc
       | false ↦ λ k. ap (λ (cs : Conds). d ∷ cs) (all_apart x ds k)
     ] h
+
+-- whether the ones on x are none
+pub none_on : (x : Var) (ds : Conds) → filter (is_on x) ds ≡ [] → has_on x ds ≡ false
+none_on x [] h = refl
+none_on x (d ∷ ds) h =
+    elim (var_eq d.var x) as (λ b. (if b then (d ∷ filter (is_on x) ds) else filter (is_on x) ds) ≡ [] → (b || has_on x ds) ≡ false) [
+      | true ↦ λ k. cc
+      | false ↦ λ k. none_on x ds k
+    ] h
+
+pub on_none : (x : Var) (ds : Conds) → has_on x ds ≡ false → filter (is_on x) ds ≡ []
+on_none x [] h = refl
+on_none x (d ∷ ds) h =
+    elim (var_eq d.var x) as (λ b. (b || has_on x ds) ≡ false → (if b then (d ∷ filter (is_on x) ds) else filter (is_on x) ds) ≡ []) [
+      | true ↦ λ k. cc
+      | false ↦ λ k. on_none x ds k
+    ] h
+
+-- a set to which a condition was added is not empty
+pub added_some : (c : Cond) (ds : Conds) → add_cond c ds ≡ [] → ⊥
+added_some c [] h = cc
+added_some c (d ∷ ds) h =
+    elim (cond_eq c d) as (λ b. (if b then (d ∷ ds) else (if cond_before c d then (c ∷ d ∷ ds) else (d ∷ add_cond c ds))) ≡ [] → ⊥) [
+      | true ↦ λ k. cc
+      | false ↦ elim (cond_before c d) as (λ b. (if b then (c ∷ d ∷ ds) else (d ∷ add_cond c ds)) ≡ [] → ⊥) [ true ↦ λ k. cc | false ↦ λ k. cc ]
+    ] h

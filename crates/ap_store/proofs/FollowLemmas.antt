@@ -50,8 +50,8 @@ module _ (s : Store) where
   abbrev bare_lent : Lent → NominalTerm
   bare_lent c = rename_term c.base (term_of c.term.now)
 
-  pub bound_less : (q : List Swap) (x : Var) (c : Lent) → raw_bound s x ≡ Some (lent_term c) → visits_in s (bare_lent c) < visits_in s (susp q x)
-  bound_less q x c e = visits_bound (raw_bound s) (rank s) (store_ranked s) q x c.swaps.now (bare_lent c) e
+  pub bound_less : (q : List Swap) (x : Var) (p : List Swap) (t : NominalTerm) → raw_bound s x ≡ Some (act_term p t) → visits_in s t < visits_in s (susp q x)
+  bound_less q x p t e = visits_bound (raw_bound s) (rank s) (store_ranked s) q x p t e
 
   pub unbound_var : (x : Var) → raw_bound s x ≡ None → IsUnbound (bindings_of s) x
   unbound_var x e = (store_sound s).same x ∙ ap is_some e
@@ -60,10 +60,10 @@ module _ (s : Store) where
   unbound_under q x e = ap (moved q x) (bound_term_unbound (bindings_of s) x (unbound_var x e))
 
   -- a bound variable stands for what its closure stands for
-  pub bound_under : (q : List Swap) (x : Var) (c : Lent) → raw_bound s x ≡ Some (lent_term c)
-      → under (bindings_of s) (susp q x) ≡ under (bindings_of s) (act_term (q ++ c.swaps.now) (bare_lent c))
-  bound_under q x c e =
-      (store_sound s).follows q x (lent_term c) e ∙ sym (under_act (bindings_of s) q (lent_term c)) ∙ ap (under (bindings_of s)) (sym (act_term-append q c.swaps.now (bare_lent c)))
+  pub bound_under : (q : List Swap) (x : Var) (p : List Swap) (t : NominalTerm) → raw_bound s x ≡ Some (act_term p t)
+      → under (bindings_of s) (susp q x) ≡ under (bindings_of s) (act_term (q ++ p) t)
+  bound_under q x p t e =
+      (store_sound s).follows q x (act_term p t) e ∙ sym (under_act (bindings_of s) q (act_term p t)) ∙ ap (under (bindings_of s)) (sym (act_term-append q p t))
 
   pub unbound_occurs : (y x : Var) (q : List Swap) → raw_bound s x ≡ None → occurs y (under (bindings_of s) (susp q x)) ≡ var_eq y x
   unbound_occurs y x q e = ap (occurs y) (unbound_under q x e)
@@ -72,9 +72,9 @@ module _ (s : Store) where
   pub bare_occurs : (y : Var) (p : List Swap) (t : NominalTerm) → occurs y (under (bindings_of s) (act_term p t)) ≡ occurs y (under (bindings_of s) t)
   bare_occurs y p t = ap (occurs y) (under_act (bindings_of s) p t) ∙ occurs_act y p (under (bindings_of s) t)
 
-  pub bound_occurs : (y x : Var) (q : List Swap) (c : Lent) → raw_bound s x ≡ Some (lent_term c)
-      → occurs y (under (bindings_of s) (susp q x)) ≡ occurs y (under (bindings_of s) (bare_lent c))
-  bound_occurs y x q c e = ap (occurs y) (bound_under q x c e) ∙ bare_occurs y (q ++ c.swaps.now) (bare_lent c)
+  pub bound_occurs : (y x : Var) (q p : List Swap) (t : NominalTerm) → raw_bound s x ≡ Some (act_term p t)
+      → occurs y (under (bindings_of s) (susp q x)) ≡ occurs y (under (bindings_of s) t)
+  bound_occurs y x q p t e = ap (occurs y) (bound_under q x p t e) ∙ bare_occurs y (q ++ p) t
 
   pub bound_below : (q : List Swap) (x : Var) (c : Lent) → raw_bound s x ≡ Some (lent_term c) → AreSwapsBelow (present s).next q → IsBelow (present s).next (act_term (q ++ c.swaps.now) (bare_lent c))
   bound_below q x c e h =
@@ -98,7 +98,7 @@ module _ (s : Store) where
       let y = rename_var c.base x in
       let h : closure_term c ≡ susp p y = ap (λ (t : Term). act_term c.swaps.items (rename_term c.base (term_of t))) f in
       let k : act_term all (bare_lent d) ≡ act_term (p ++ d.swaps.now) (bare_lent d) = ap (λ r. act_term r (bare_lent d)) g in (
-        ap (under (bindings_of s)) k ∙ sym (bound_under p y d e) ∙ ap (under (bindings_of s)) (sym h),
+        ap (under (bindings_of s)) k ∙ sym (bound_under p y d.swaps.now (bare_lent d) e) ∙ ap (under (bindings_of s)) (sym h),
         (λ l. let m : IsBelow (present s).next (susp p y) = subst (λ (t : NominalTerm). IsBelow (present s).next t) h l in
             subst (λ (t : NominalTerm). IsBelow (present s).next t) (sym k) (bound_below p y d e m.0)),
         subst (λ (t : NominalTerm). depth_of (rank s) t < depth_of (rank s) (closure_term c)) (sym k)
@@ -113,12 +113,12 @@ module _ (s : Store) where
   closure_key d = moved_key d.swaps.items (bare d)
 
   -- what a variable is bound to begins as what the variable stands for, whatever swappings wait
-  pub head_bound : (q : List Swap) (x : Var) (d : Lent) → raw_bound s x ≡ Some (lent_term d) → IsHeadOf (present s) (rank s) (susp q x) (bare_lent d)
-  head_bound q x d e =
+  pub head_bound : (q : List Swap) (x : Var) (p : List Swap) (t : NominalTerm) → raw_bound s x ≡ Some (act_term p t) → IsHeadOf (present s) (rank s) (susp q x) t
+  head_bound q x p t e =
       let bs = (bindings_of s) in
-      let l : depth_of (rank s) (lent_term d) ≤ rank s x = depth_ranked (raw_bound s) (rank s) (store_ranked s) x (lent_term d) e in
-      let m : depth_of (rank s) (lent_term d) ≡ depth_of (rank s) (bare_lent d) = depth_act (rank s) d.swaps.now (bare_lent d) in (
-        ap head_key ((store_sound s).follows q x (lent_term d) e) ∙ key_act q (under bs (lent_term d)) ∙ moved_key d.swaps.now (bare_lent d),
+      let l : depth_of (rank s) (act_term p t) ≤ rank s x = depth_ranked (raw_bound s) (rank s) (store_ranked s) x (act_term p t) e in
+      let m : depth_of (rank s) (act_term p t) ≡ depth_of (rank s) t = depth_act (rank s) p t in (
+        ap head_key ((store_sound s).follows q x (act_term p t) e) ∙ key_act q (under bs (act_term p t)) ∙ moved_key p t,
         omega (arith, l, m),
       )
 

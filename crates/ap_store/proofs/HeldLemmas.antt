@@ -1,5 +1,5 @@
 -- The conditions that are held of each number, as changes are made and undone.
-use Rattle.std.proofs.Common.{◌≡◌, ◌<◌, ◌≤◌, ◌+◌, ◌-◌, ℕ, zero, suc, Bool, true, false, ◌&&◌, ◌||◌, List, [], ◌∷◌, ◌++◌, length, take, get_or, refl, sym, ap, ◌∙◌, subst, arith, append_assoc, true≢false, inl, inr}
+use Rattle.std.proofs.Common.{◌≡◌, ◌<◌, ◌≤◌, ◌+◌, ◌-◌, ℕ, zero, suc, Bool, true, false, not, ◌&&◌, ◌||◌, List, [], ◌∷◌, ◌++◌, length, take, get_or, refl, sym, ap, ◌∙◌, subst, arith, append_assoc, true≢false, inl, inr}
 use Rattle.std.specs.Global.{Global}
 use Rattle.std.specs.Prelude.{◌==◌, Vec, filter, nat_lt, slice_set, if◌then◌else◌, Result, Ok, Err, OnErr}
 use Rattle.std.proofs.lemmas.Bool.Decides.{nat_tests}
@@ -10,11 +10,11 @@ use Rattle.ap_defs.specs.declared.terms.Var.{Var}
 use Rattle.ap_theory.proofs.BooleanLemmas.{and_both, and_false, and_right, or_cases, or_if_left, or_if_right, same_test}
 use Rattle.ap_theory.proofs.ConditionSetLemmas.{add_conds_same, cond_eq_tells, has_cond-append, has_cond_add}
 use Rattle.ap_theory.proofs.TermLemmas.{number_same, same_number, same_var}
-use Rattle.ap_store.specs.Changes.{AreChanges, Change, Made, Bound, Added, Taken, after, empty, present_after}
+use Rattle.ap_store.specs.Changes.{AreChanges, Change, Made, Bound, Added, Taken, after, empty, has_on, present_after}
 use Rattle.ap_store.specs.Slots.{AreHeld, AreTakenBelow, IsTakenBelow, all_held, held_in}
 use Rattle.ap_store.specs.Trails.{AreTakenHeld, held_after, held_step, nothing_held}
 use Rattle.ap_store.specs.Triples.{Triple, is_apart, is_on}
-use Rattle.ap_store.proofs.AscendingLemmas.{ascending_filter, ascending_is_set}
+use Rattle.ap_store.proofs.AscendingLemmas.{added_some, ascending_filter, ascending_is_set, none_on, on_none}
 use Rattle.ap_store.proofs.SoundLemmas.{sound}
 use Rattle.ap_store.proofs.TrailLemmas.{kept_more, linked_less, take_whole}
 
@@ -308,6 +308,21 @@ on_var_set vs cs x h ch =
     let ds = (now cs).conditions in
     add_conds_same (held_in vs x.num) (filter (is_on x) ds) (λ c. ap (has_cond c) (h.1 x.num) ∙ keeps cs x c ∙ sym (has_filter (is_on x) c ds))
     ∙ ascending_is_set (filter (is_on x) ds) (ascending_filter (is_on x) ds (sound cs ch).well_formed.ascending)
+
+-- whether something is held of x tells whether there are conditions on it
+some_held : (n : ℕ) → not (suc n == 0) ≡ true
+some_held n = grind (arith, nat_tests)
+
+held_tells : (hs ds : Conds) (x : Var) → add_conds hs [] ≡ filter (is_on x) ds → not (length hs == 0) ≡ has_on x ds
+held_tells [] ds x e = sym (none_on x ds (sym e))
+held_tells (h ∷ hs) ds x e =
+    elim (has_on x ds) as (λ b. has_on x ds ≡ b → not (length (h ∷ hs) == 0) ≡ b) [
+      | true ↦ λ k. some_held (length hs)
+      | false ↦ λ k. absurd (added_some h (add_conds hs []) (e ∙ on_none x ds k))
+    ] refl
+
+pub on_var_held : (vs : List (Vec Cond Global)) (cs : List Change) (x : Var) → AreHeld vs cs → AreChanges cs empty → not (length (held_in vs x.num) == 0) ≡ has_on x (now cs).conditions
+on_var_held vs cs x h ch = held_tells (held_in vs x.num) (now cs).conditions x (on_var_set vs cs x h ch)
 
 held_one : (c : Cond) (vs : List (Vec Cond Global)) (i : ℕ) → has_cond c (held_in vs i) ≡ true → has_cond c (all_held vs) ≡ true
 held_one c [] i h = h

@@ -13,13 +13,13 @@ use Rattle.ap_defs.specs.declared.terms.Var.{Var}
 use Rattle.ap_defs.specs.Renaming.{AreBindingsBelow}
 use Rattle.ap_perm.specs.Lookups.{IsRanked, carried_out}
 use Rattle.ap_theory.specs.Variables.{IsUnbound, is_bound}
-use Rattle.ap_store.specs.Changes.{Change, Made, Bound, Added, Taken, after, empty, present_after, replace_conditions}
+use Rattle.ap_store.specs.Changes.{Change, Made, Bound, Added, Taken, after, empty, has_on, present_after, replace_conditions, with_bound}
 use Rattle.ap_store.specs.Slots.{slot_kind}
-use Rattle.ap_store.specs.Triples.{AreOnUnbound, IsPrefixOf, Triple, is_apart, is_on, with_conditions}
+use Rattle.ap_store.specs.Triples.{AreOnUnbound, IsPrefixOf, Triple, is_apart, is_on, with_binding, with_conditions}
 use Rattle.ap_store.specs.Views.{IsUnchanged, bindings_of, changes, kinds, past, present, rank, raw_bound, versions}
 use Rattle.ap_store.specs.WellFormed.{IsWellFormed}
 use Rattle.ap_store.specs.declared.store.Store.{Store}
-use Rattle.ap_store.proofs.AscendingLemmas.{all_apart, ascending_is_set}
+use Rattle.ap_store.proofs.AscendingLemmas.{all_apart, ascending_is_set, on_none}
 use Rattle.ap_store.proofs.SoundLemmas as soundness
 use Rattle.ap_store.proofs.SoundLemmas.{IsSound, sound}
 use Rattle.ap_store.proofs.TrailLemmas.{prefix_is, take_whole, versions_after}
@@ -94,6 +94,12 @@ one_more_added a b c ds i j d e l h k =
 -- where no condition is on x, none is taken out
 pub none_taken : (a b : Triple) (x : Var) → b ≡ a → filter (is_on x) a.conditions ≡ [] → b ≡ replace_conditions (filter (is_apart x) a.conditions) a
 none_taken a b x e k = e ∙ ap (λ (fs : Conds). replace_conditions fs a) (sym (all_apart x a.conditions k))
+
+-- a variable is bound on which there are no conditions
+pub free_bound : (a b : Triple) (x : Var) (t : NominalTerm) → b ≡ a → has_on x a.conditions ≡ false → with_bound x (under b.bindings t) b ≡ with_binding x (under a.bindings t) a
+free_bound a b x t e h =
+    ap (λ (c : Triple). with_bound x (under c.bindings t) c) e
+    ∙ ap (λ (ds : Conds). replace_conditions ds (with_bound x (under a.bindings t) a)) (sym (all_apart x a.conditions (on_none x a.conditions h)))
 
 abbrev last_or : Triple → List Triple → Triple
 last_or d [] = d

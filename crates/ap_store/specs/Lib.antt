@@ -5,4 +5,5 @@ pub mod Heads
 pub mod WellFormed
 pub mod Trails
 pub mod Slots
+pub mod Founds
 pub mod Views

@@ -4,13 +4,15 @@ ghost use Rattle.std.specs.Prelude.{◌≡◌, ◌<◌, MatchOption};
 ghost use Rattle.ap_defs.specs.Renaming.{IsBelow, rename_term};
 ghost use Rattle.ap_defs.specs.Substitution.{under};
 ghost use Rattle.ap_defs.specs.Terms.{term_of};
+ghost use Rattle.ap_store.specs.Founds.{bare_term};
 ghost use Rattle.ap_store.specs.Heads.{IsHeadOf, IsHeadUnbound};
 ghost use Rattle.ap_store.specs.Views.{bindings_of, meaning_in, present, rank};
 ghost use Rattle.ap_defs.specs.HeadKeys.{head_key};
 
+use crate::bare::Bare;
 use crate::store::Store;
 use ap_defs::terms::{Term, Var};
-use ap_perm::closures::{Closure, Lent};
+use ap_perm::closures::Closure;
 
 /// The key of what a term begins with: 0 for a suspension, which may stand for any term, 1 for `()`,
 /// 2 for a name, 3 for a pair, 4 for an abstraction, and `5 + f` for the constructor `f`.
@@ -27,22 +29,17 @@ pub fn head_key(t: &Term) -> u64
     }
 }
 
-/// The closure to which the variable at the head of a term is bound, or none where no bound variable
-/// stands there. The term's identifiers are numbered from `base` on.
-fn bound_at_head<'s, 'a>(
-    store: &'s Store<'a>,
-    base: u64,
-    end: u64,
-    t: &Term,
-) -> Option<Lent<'s, 'a>>
+/// The term of the closure to which the variable at the head of a term is bound, or none where no bound
+/// variable stands there. The term's identifiers are numbered from `base` on.
+fn bound_at_head<'a>(store: &Store<'a>, base: u64, end: u64, t: &Term) -> Option<Bare<'a>>
     requires { IsBelow end (rename_term base (term_of t.now)) }
     ensures { MatchOption result (IsHeadUnbound (bindings_of store.now)
         (rename_term base (term_of t.now))) (λ d. IsHeadOf (present store.now) (rank store.now)
-        (rename_term base (term_of t.now)) (rename_term d.base (term_of d.term.now))) }
+        (rename_term base (term_of t.now)) (bare_term d)) }
 {
     let _end = end;
     match t {
-        Term::Susp(_, x) => store.binding(Var { num: base + x.num }),
+        Term::Susp(_, x) => store.bare(Var { num: base + x.num }),
         _ => None,
     }
 }

@@ -2,6 +2,7 @@
 //! that were given, with marks to go back to.
 #![tactic(auto)]
 
+pub mod bare;
 pub mod changes;
 mod following;
 pub mod heads;

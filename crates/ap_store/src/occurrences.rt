@@ -6,15 +6,16 @@ ghost use Rattle.ap_defs.specs.Substitution.{occurs, under};
 ghost use Rattle.ap_defs.specs.Terms.{term_of};
 ghost use Rattle.ap_store.specs.Views.{bindings_of, meaning_in};
 
+use crate::bare::Bare;
 use crate::store::Store;
 use ap_defs::terms::{Term, Var};
-use ap_perm::closures::{Closure, Lent};
+use ap_perm::closures::Closure;
 
-/// The number that those in a closure are below.
-fn end_of(c: Lent<'_, '_>) -> u64
-    ensures { result ≡ c.entry.end }
+/// The number that those in a term are below.
+fn end_of(b: Bare<'_>) -> u64
+    ensures { result ≡ b.entry.end }
 {
-    c.end
+    b.end
 }
 
 /// Whether the variable occurs in what the term stands for, whose identifiers are numbered from
@@ -41,12 +42,12 @@ fn occurs_below(store: &Store<'_>, x: Var, mut base: u64, mut end: u64, t: &Term
             Term::Abs(_, body) => rest = body,
             Term::Susp(_, y) => {
                 let y = Var { num: base + y.num };
-                match store.binding(y) {
+                match store.bare(y) {
                     None => return x.num == y.num,
-                    Some(c) => {
-                        base = c.base;
-                        end = end_of(c);
-                        rest = c.term;
+                    Some(b) => {
+                        base = b.base;
+                        end = end_of(b);
+                        rest = b.term;
                     }
                 }
             }

@@ -1,11 +1,13 @@
 //! What is kept of each number.
 
-ghost use Rattle.std.specs.Prelude.{◌≡◌, Some, None, IfOk, IfSome, MatchOption};
-ghost use Rattle.ap_defs.specs.Renaming.{IsBelow, rename_term};
-ghost use Rattle.ap_defs.specs.Terms.{term_of};
+ghost use Rattle.std.specs.Prelude.{◌≡◌, List as list, Some, None, IfOk, IfSome, MatchOption};
+ghost use Rattle.ap_defs.specs.Terms.{act_term};
+ghost use Rattle.ap_defs.specs.declared.terms.Swap.{Swap};
 ghost use Rattle.ap_perm.specs.Closures.{closure_term, lent_term};
+ghost use Rattle.ap_store.specs.Founds.{IsFound, bare_term};
 ghost use Rattle.ap_store.specs.Slots.{IsKeptBelow, value_term};
 
+use crate::bare::Bare;
 use ap_defs::goals::Local;
 use ap_defs::memory::Memory;
 use ap_defs::terms::Term;
@@ -38,6 +40,43 @@ pub fn value_of<'a>(alloc: Global, c: Closure<'a>) -> Result<Value<'a>, Memory>
     }
     let moved = Box::new(alloc, c)?;
     Ok(Value::Moved(moved))
+}
+
+/// What a look at a variable finds: nothing to which it is bound, a term on which no swappings wait, or one
+/// on which some may wait.
+#[derive(Clone, Copy)]
+pub enum Found<'a> {
+    Nothing,
+    Plain(Bare<'a>),
+    Moved(Bare<'a>),
+}
+
+/// The term of a closure, without its swappings.
+fn bare_of<'a>(c: &Closure<'a>) -> Bare<'a>
+    ensures { (p : list Swap) × (closure_term c.now ≡ act_term p (bare_term result)) }
+{
+    Bare {
+        base: c.base,
+        end: c.end,
+        term: c.term,
+    }
+}
+
+/// What a look at a binding finds; where no swappings wait on it, its numbers are below `end`. It takes no
+/// memory.
+pub fn found_value<'a>(b: &Value<'a>, end: u64) -> Found<'a>
+    requires { IsKeptBelow end b.now }
+    ensures { IsFound (value_term b.now) result }
+{
+    match b {
+        Value::Unbound => Found::Nothing,
+        Value::Plain(base, term) => Found::Plain(Bare {
+            base: *base as u64,
+            end,
+            term,
+        }),
+        Value::Moved(closure) => Found::Moved(bare_of(closure)),
+    }
 }
 
 /// The closure of a binding; where no swappings wait on it, its numbers are below `end`. It takes no

@@ -5,13 +5,14 @@ ghost use Rattle.ap_store.specs.Changes.{empty};
 ghost use Rattle.ap_store.specs.Slots.{AreHeld, IsStored, changes_in, held_prop, stored_prop};
 ghost use Rattle.ap_store.specs.Trails.{no_rank, nothing_bound, rank_after, raw_after};
 
+use crate::bare::Bare;
 use crate::changes::{Entry, Noted};
 use crate::held::{all_of, held_of, hold, let_go, put_back, take_out};
-use crate::slots::{Slot, Value, value_of};
-use crate::tables::{add_slots, bound_at, put_value};
+use crate::slots::{Found, Slot, Value, value_of};
+use crate::tables::{add_slots, bound_at, found_at, put_value};
 use ap_defs::goals::{Kind, Local};
 use ap_defs::memory::Memory;
-use ap_defs::terms::{Cond, Var};
+use ap_defs::terms::{Cond, Term, Var};
 use ap_fresh::sets::make_set;
 use ap_perm::closures::{Closure, Lent};
 use std::alloc::Global;
@@ -43,13 +44,15 @@ pub struct Store<'a> {
 
 impl<'a> Store<'a> {
     ghost use Rattle.std.specs.Prelude.{◌≡◌, ◌+◌, ◌≤◌, ◌<◌, ◌++◌, ◌∷◌, [], false, true, Some, None, IfOk, MatchOption, OnOk, OnErr, filter, length, slice_get, take, vec_len, vec_capacity};
-    ghost use Rattle.ap_defs.specs.Renaming.{IsBelow};
+    ghost use Rattle.ap_defs.specs.Renaming.{IsBelow, rename_term};
     ghost use Rattle.ap_defs.specs.Resolution.{kinds_of};
     ghost use Rattle.ap_defs.specs.Substitution.{occurs, under};
+    ghost use Rattle.ap_defs.specs.Terms.{term_of};
     ghost use Rattle.ap_defs.specs.Types.{kind_of, locals_of};
     ghost use Rattle.ap_perm.specs.Closures.{closure_term, lent_term};
     ghost use Rattle.ap_theory.specs.Variables.{IsUnbound};
     ghost use Rattle.ap_store.specs.Changes.{has_on, replace_conditions, with_bound};
+    ghost use Rattle.ap_store.specs.Founds.{IsBareOf, IsFound};
     ghost use Rattle.ap_store.specs.Slots.{IsKeptBelow, value_term, kept_term};
     ghost use Rattle.ap_store.specs.Triples.{AreOnUnbound, IsPrefixOf, is_apart, is_on, with_binding, with_conditions, with_next};
     ghost use Rattle.ap_store.specs.Views.{IsUnchanged, bindings_of, kinds, meaning_in, past, present, raw_bound, versions};
@@ -115,6 +118,32 @@ impl<'a> Store<'a> {
         Ok(taken)
     }
 
+    /// Binds an unbound variable, on which there are no conditions, to a term on which no swappings wait,
+    /// whose identifiers are numbered from `base` on, below `end`, and in which it does not occur. After
+    /// want of memory the store is as before; a `base` of `2 ^ 32` and more is such a want.
+    pub fn bind_free(&mut self, x: Var, base: u64, end: u64, term: &'a Term) -> Result<(), Memory>
+        requires made { x.num < (present self.old).next }
+        requires unbound { IsUnbound (bindings_of self.old) x }
+        requires apart { has_on x (present self.old).conditions ≡ false }
+        requires within { IsBelow end (rename_term base (term_of term.now)) }
+        requires term { IsBelow (present self.old).next (rename_term base (term_of term.now)) }
+        requires absent { occurs x (under (bindings_of self.old)
+            (rename_term base (term_of term.now))) ≡ false }
+        ensures present { OnOk result (present self.new
+            ≡ with_binding x (under (bindings_of self.old) (rename_term base (term_of term.now)))
+            (present self.old)) }
+        ensures past { OnOk result (IsPrefixOf (versions self.old) (versions self.new)) }
+        ensures kinds { kinds self.new ≡ kinds self.old }
+        ensures unchanged { OnErr result (IsUnchanged self.old self.new) }
+    {
+        if base > u32::MAX as u64 {
+            return Err(Memory);
+        }
+        self.make_room()?;
+        self.note_binding(x, Value::Plain(base as u32, term), end);
+        Ok(())
+    }
+
     /// Adds conditions on unbound variables. After want of memory the store is as before.
     pub fn add(&mut self, conds: &[Cond]) -> Result<(), Memory>
         requires { AreOnUnbound (present self.old) conds.now }
@@ -163,6 +192,32 @@ impl<'a> Store<'a> {
         bound_at(&self.table, x.num, self.reach)
     }
 
+    /// What a look at a variable finds. It takes no memory.
+    pub fn found(&self, x: Var) -> Found<'a>
+        ensures { IsFound (raw_bound self.now x) result }
+    {
+        found_at(&self.table, x.num, self.reach)
+    }
+
+    /// The term of the closure to which a variable is bound, without the swappings that wait on it, or none
+    /// where it is unbound. It takes no memory.
+    pub(crate) fn bare(&self, x: Var) -> Option<Bare<'a>>
+        ensures { IsBareOf (raw_bound self.now x) result }
+    {
+        match self.found(x) {
+            Found::Nothing => None,
+            Found::Plain(b) => Some(b),
+            Found::Moved(b) => Some(b),
+        }
+    }
+
+    /// Whether there are conditions on a variable. It takes no memory.
+    pub fn has_conditions(&self, x: Var) -> bool
+        ensures { result ≡ has_on x (present self.now).conditions }
+    {
+        !held_of(&self.held, x.num as usize).is_empty()
+    }
+
     /// Whether the variable is so new that neither the closure nor any bound one can have it.
     pub(crate) fn is_new(&self, x: Var, c: &Closure<'_>) -> bool
         ensures { result ≡ true →
@@ -196,6 +251,17 @@ impl<'a> Store<'a> {
         &self.table[num as usize].local.kind
     }
 
+    /// Makes room for one more change.
+    fn make_room(&mut self) -> Result<(), Memory>
+        ensures present { present self.new ≡ present self.old }
+        ensures versions { versions self.new ≡ versions self.old }
+        ensures kinds { kinds self.new ≡ kinds self.old }
+        ensures room { OnOk result (vec_len self.new.trail < vec_capacity self.new.trail) }
+    {
+        self.trail.reserve(1)?;
+        Ok(())
+    }
+
     /// Takes the conditions on a variable out, and leaves room for one more change.
     fn take_conditions(&mut self, alloc: Global, x: Var) -> Result<Vec<Cond>, Memory>
         requires made { x.num < (present self.old).next }
@@ -210,13 +276,13 @@ impl<'a> Store<'a> {
         ensures unchanged { OnErr result (IsUnchanged self.old self.new) }
     {
         self.trail.reserve(2)?;
-        self.noted.reserve(1)?;
         let conds = held_of(&self.held, x.num as usize);
         if conds.is_empty() {
             return Ok(Vec::new(alloc));
         }
         let mut taken = conds.to_vec(alloc)?;
         make_set(&mut taken);
+        self.noted.reserve(1)?;
         self.note_taken(x);
         Ok(taken)
     }

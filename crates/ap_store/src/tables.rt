@@ -4,9 +4,10 @@ ghost use Rattle.std.specs.Prelude.{◌≡◌, ℕ, ◌+◌, ◌≤◌, ◌<◌,
 ghost use Rattle.ap_defs.specs.Resolution.{kinds_of};
 ghost use Rattle.ap_defs.specs.Types.{locals_of};
 ghost use Rattle.ap_perm.specs.Closures.{lent_term};
+ghost use Rattle.ap_store.specs.Founds.{IsFound};
 ghost use Rattle.ap_store.specs.Slots.{AreKeptBelow, IsKeptBelow, value_term, bound_in, slot_kind};
 
-use crate::slots::{Slot, Value, lent_value};
+use crate::slots::{Found, Slot, Value, found_value, lent_value};
 use ap_defs::goals::Local;
 use ap_perm::closures::Lent;
 
@@ -50,5 +51,17 @@ pub fn bound_at<'s, 'a>(table: &'s [Slot<'a>], num: u64, end: u64) -> Option<Len
         lent_value(&table[num as usize].value, end)
     } else {
         None
+    }
+}
+
+/// What a look at a number finds, where what it is bound to is below `end`. It takes no memory.
+pub fn found_at<'a>(table: &[Slot<'a>], num: u64, end: u64) -> Found<'a>
+    requires { AreKeptBelow end table.now }
+    ensures { IsFound (bound_in table.now num) result }
+{
+    if num < table.len() as u64 {
+        found_value(&table[num as usize].value, end)
+    } else {
+        Found::Nothing
     }
 }

@@ -6,7 +6,6 @@ ghost use Rattle.ap_scopes.specs.Views.{identifier_of};
 ghost use Rattle.ap_typecheck.specs.Checking as spec;
 ghost use Rattle.ap_typecheck.specs.Declaring as made;
 
-use ap_defs::copies::copy_kind;
 use ap_defs::goals::{Kind, Local};
 use ap_defs::lists::{List, Text};
 use ap_defs::memory::Memory;
@@ -29,7 +28,7 @@ fn class_of(spelling: Binder<'_>) -> IdentKind
 pub fn classes_of(alloc: Global, found: &[Identifier<'_>]) -> Result<Vec<IdentKind>, Memory>
     ensures { IfOk result (λ v. v.items ≡ spec.classes_of (map identifier_of found.now)) }
 {
-    let mut classes = Vec::new(alloc);
+    let mut classes = Vec::with_capacity(alloc, found.len())?;
     for identifier in found {
         classes.push(class_of(identifier.spelling))?;
     }
@@ -37,16 +36,16 @@ pub fn classes_of(alloc: Global, found: &[Identifier<'_>]) -> Result<Vec<IdentKi
 }
 
 /// An identifier with its kind.
-fn local(alloc: Global, identifier: &Identifier<'_>, kind: &Kind) -> Result<Local, Memory>
+fn local(alloc: Global, identifier: &Identifier<'_>, kind: Kind) -> Result<Local, Memory>
     ensures { IfOk result (λ l. local_of l
-        ≡ made.with_kind (identifier_of identifier.now) (kind_of kind.now)) }
+        ≡ made.with_kind (identifier_of identifier.now) (kind_of kind)) }
 {
     let word = match identifier.spelling {
         Binder::Word(word) => word,
         Binder::Var(word) => word,
     };
     Ok(Local {
-        kind: copy_kind(alloc, kind)?,
+        kind,
         bound: identifier.bound,
         text: Text::of(String::from_str(alloc, word)?),
     })
@@ -57,21 +56,18 @@ fn local(alloc: Global, identifier: &Identifier<'_>, kind: &Kind) -> Result<Loca
 pub fn with_kinds(
     alloc: Global,
     found: &[Identifier<'_>],
-    kinds: &[Kind],
+    kinds: Vec<Kind>,
 ) -> Result<List<Local>, Memory>
     ensures { IfOk result (λ ls. locals_of ls
-        ≡ made.with_kinds (map identifier_of found.now) (map kind_of kinds.now)) }
+        ≡ made.with_kinds (map identifier_of found.now) (map kind_of kinds.items)) }
 {
-    let mut locals = Vec::new(alloc);
-    let mut rest = kinds;
+    let mut locals = Vec::with_capacity(alloc, found.len())?;
+    let mut rest = kinds.into_iter();
     for identifier in found {
-        match rest {
-            [] => return Ok(List::of(locals)),
-            [kind, others @ ..] => {
-                locals.push(local(alloc, identifier, kind)?)?;
-                rest = others;
-            }
-        }
+        let Some(kind) = rest.next() else {
+            return Ok(List::of(locals));
+        };
+        locals.push(local(alloc, identifier, kind)?)?;
     }
     Ok(List::of(locals))
 }

@@ -147,38 +147,40 @@ fn clause_with(
     alloc: Global,
     place: Place,
     pred: u32,
-    parts: &ClauseParts<'_>,
-    kinds: &[Kind],
+    parts: ClauseParts<'_>,
+    kinds: Vec<Kind>,
 ) -> Result<Clause<Raw>, Memory>
     ensures { IfOk result (λ c. clause_over raw_of c
-        ≡ spec.clause_with_kinds place.item place.line pred (clause_parts_of parts.now)
-        (map kind_of kinds.now)) }
+        ≡ spec.clause_with_kinds place.item place.line pred (clause_parts_of parts.entry)
+        (map kind_of kinds.items)) }
 {
+    let ClauseParts { args, body, found } = parts;
     Ok(Clause {
         item: place.item,
         line: place.line,
         pred,
-        args: terms_with_sorts(alloc, kinds, parts.args.items())?,
-        body: goal_with_sorts(alloc, kinds, &parts.body)?,
-        locals: with_kinds(alloc, parts.found.as_slice(), kinds)?,
+        args: terms_with_sorts(alloc, kinds.as_slice(), args)?,
+        body: goal_with_sorts(alloc, kinds.as_slice(), body)?,
+        locals: with_kinds(alloc, found.as_slice(), kinds)?,
     })
 }
 
 fn query_with(
     alloc: Global,
     place: Place,
-    parts: &QueryParts<'_>,
-    kinds: &[Kind],
+    parts: QueryParts<'_>,
+    kinds: Vec<Kind>,
 ) -> Result<Query<Raw>, Memory>
     ensures { IfOk result (λ q. query_over raw_of q
-        ≡ spec.query_with_kinds place.item place.line (query_parts_of parts.now)
-        (map kind_of kinds.now)) }
+        ≡ spec.query_with_kinds place.item place.line (query_parts_of parts.entry)
+        (map kind_of kinds.items)) }
 {
+    let QueryParts { goal, found } = parts;
     Ok(Query {
         item: place.item,
         line: place.line,
-        goal: goal_with_sorts(alloc, kinds, &parts.goal)?,
-        locals: with_kinds(alloc, parts.found.as_slice(), kinds)?,
+        goal: goal_with_sorts(alloc, kinds.as_slice(), goal)?,
+        locals: with_kinds(alloc, found.as_slice(), kinds)?,
     })
 }
 
@@ -207,7 +209,7 @@ pub fn typed_clause<'a>(
     let pred = predicate_number(declared.predicate_place(word));
     match clause_kinds(alloc, declared, inhabitants, pred, &parts) {
         Err(refusal) => Err(refusal),
-        Ok(kinds) => Ok(clause_with(alloc, place, pred, &parts, kinds.as_slice())?),
+        Ok(kinds) => Ok(clause_with(alloc, place, pred, parts, kinds)?),
     }
 }
 
@@ -232,6 +234,6 @@ pub fn typed_query<'a>(
     let parts = query_parts(alloc, declared, goal)?;
     match query_kinds(alloc, declared, inhabitants, &parts) {
         Err(refusal) => Err(refusal),
-        Ok(kinds) => Ok(query_with(alloc, place, &parts, kinds.as_slice())?),
+        Ok(kinds) => Ok(query_with(alloc, place, parts, kinds)?),
     }
 }

@@ -10,6 +10,7 @@ pub mod NameLemmas
 pub mod TableLemmas
 pub mod LoadLemmas
 pub mod PartLemmas
+pub mod PlainLemmas
 pub mod PartTests
 pub mod InhabitedParts
 pub mod JoinLemmas

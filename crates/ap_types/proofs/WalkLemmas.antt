@@ -383,6 +383,22 @@ explores_end ts old ms start left h = record {
   here = elim h.start_there [ inl e ↦ e | inr s ↦ absurd s ];
 }
 
+-- A place that was left already, and one whose parts were.
+pub left_already : (ts : List TypeShape) (ms : List Mark) (left start : ℕ) → IsWalk ts ms left [] → is_left (walk_mark_at ms start) ≡ true → HasLeft ts ms start ms left
+left_already ts ms left start w e = record { walk = w; stay = λ x h. h; here = e }
+
+pub leaves_at_once : (ts : List TypeShape) (ms ns : List Mark) (left k start : ℕ) → IsWalk ts ms left [] → start < length ts → is_left (walk_mark_at ms start) ≡ false
+    → ((c : ℕ) → IsPart ts start c → is_left (walk_mark_at ms c) ≡ true) → ns ≡ set ms start (marks.Left left) → k ≡ left + 1 → HasLeft ts ms start ns k
+leaves_at_once ts ms ns left k start w l e parts f g =
+    let first = explores_first ts ms left start w l in
+    let long = w.as_long in
+    let step = passes_back ts ms left [] start first.walk e (omega (arith, l, long)) parts in
+    let last = explores_end ts ms (set ms start (marks.Left left)) start (left + 1) (explores_on ts ms ms (set ms start (marks.Left left)) start left (left + 1) (start ∷ []) [] first step) in
+    subst (λ (xs : List Mark). HasLeft ts ms start xs k) (sym f) (subst (λ n. HasLeft ts ms start (set ms start (marks.Left left)) n) (sym g) last)
+
+pub room_at_once : (ts : List TypeShape) (ms : List Mark) (left start : ℕ) → IsWalk ts ms left [] → start < length ts → is_left (walk_mark_at ms start) ≡ false → left < length ms
+room_at_once ts ms left start w l e = let long = w.as_long in room ts ms left [] start (explores_first ts ms left start w l).walk e (omega (arith, l, long))
+
 -- A walk begins.
 new_everywhere : (n x : ℕ) → walk_mark_at (replicate n marks.New) x ≡ marks.New
 new_everywhere zero x = refl

@@ -49,7 +49,7 @@ fn own_bound(t: &Shape) -> Result<usize, Memory>
 }
 
 /// One more than the greatest hole of a shape. The parts that are left stand on a stack.
-fn bound_in(alloc: Global, t: &Shape) -> Result<usize, Memory>
+fn bound_in_parts(alloc: Global, t: &Shape) -> Result<usize, Memory>
     ensures { IfOk result (λ n. n ≡ bound_of (shape_of t.now)) }
 {
     let mut bound = 0;
@@ -62,6 +62,17 @@ fn bound_in(alloc: Global, t: &Shape) -> Result<usize, Memory>
             return Ok(bound);
         };
         part = next;
+    }
+}
+
+/// One more than the greatest hole of a shape.
+fn bound_in(alloc: Global, t: &Shape) -> Result<usize, Memory>
+    ensures { IfOk result (λ n. n ≡ bound_of (shape_of t.now)) }
+{
+    match t {
+        Shape::Hole(x) => after(*x),
+        Shape::Unit | Shape::Names(_) | Shape::Base(_) => Ok(0),
+        _ => bound_in_parts(alloc, t),
     }
 }
 
@@ -98,10 +109,10 @@ fn equations_of_names(
 ) -> Result<Vec<(Shape, Shape)>, Memory>
     ensures { IfOk result (λ v. map equation_of v.items ≡ name_equations name_types names.now) }
 {
-    let mut equations = Vec::new(alloc);
     if name_types != 1 {
-        return Ok(equations);
+        return Ok(Vec::new(alloc));
     }
+    let mut equations = Vec::with_capacity(alloc, names.len())?;
     for x in names {
         equations.push((Shape::Hole(*x), Shape::Names(0)))?;
     }
@@ -122,8 +133,9 @@ fn load_system(
         (name_equations name_types names.now) holes (shapes_of_nodes l.nodes.items) l.pairs.items) }
 {
     let by_names = equations_of_names(alloc, names, name_types)?;
-    let nodes = open_places(alloc, holes)?;
-    let pairs = Vec::new(alloc);
+    let room = equations.len().saturating_add(by_names.len());
+    let nodes = open_places(alloc, holes, room)?;
+    let pairs = Vec::with_capacity(alloc, room)?;
     let loaded = load_all(alloc, Loaded { nodes, pairs }, equations)?;
     load_all(alloc, loaded, by_names.as_slice())
 }

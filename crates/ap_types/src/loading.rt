@@ -20,12 +20,12 @@ pub(crate) struct Loaded {
     pub(crate) pairs: Vec<(usize, usize)>,
 }
 
-/// So many open places.
-pub(crate) fn open_places(alloc: Global, count: usize) -> Result<Vec<Node>, Memory>
+/// So many open places, with room for some more.
+pub(crate) fn open_places(alloc: Global, count: usize, room: usize) -> Result<Vec<Node>, Memory>
     ensures opened { IfOk result (λ v. (x : ℕ) → shape_at (shapes_of_nodes v.items) x ≡ hole x) }
     ensures len { IfOk result (λ v. length v.items ≡ count) }
 {
-    let mut nodes = Vec::new(alloc);
+    let mut nodes = Vec::with_capacity(alloc, count.saturating_add(room))?;
     for x in 0..count {
         nodes.push(Node::Place(x))?;
     }
@@ -84,7 +84,7 @@ fn entry_of<'a>(first: usize, waiting: &mut Vec<&'a Shape>, t: &'a Shape) -> Res
 
 /// Puts a shape into a table, and gives its place; a hole is the place of its number. Each entry takes the
 /// next place, and its parts wait for theirs behind all that wait already.
-fn load(alloc: Global, nodes: &mut Vec<Node>, t: &Shape) -> Result<usize, Memory>
+fn load_parts(alloc: Global, nodes: &mut Vec<Node>, t: &Shape) -> Result<usize, Memory>
     requires formed { AreFormed (shapes_of_nodes nodes.old.items) }
     requires bound { bound_of (shape_of t.now) ≤ length nodes.old.items }
     ensures { IfOk result (λ x. Loads (shapes_of_nodes nodes.old.items) (shape_of t.now)
@@ -101,6 +101,33 @@ fn load(alloc: Global, nodes: &mut Vec<Node>, t: &Shape) -> Result<usize, Memory
         next += 1;
     }
     Ok(start)
+}
+
+/// Puts the entry of a shape without parts into a table, and gives its place.
+fn load_plain(nodes: &mut Vec<Node>, entry: Node) -> Result<usize, Memory>
+    ensures place { IfOk result (λ x. x ≡ length nodes.old.items) }
+    ensures pushed { OnOk result (nodes.new.items ≡ nodes.old.items ++ entry ∷ []) }
+{
+    let place = nodes.len();
+    nodes.push(entry)?;
+    Ok(place)
+}
+
+/// Puts a shape into a table, and gives its place; a hole is the place of its number.
+#[tactic(auto, using(crate::proofs::PlainLemmas::loads_hole, crate::proofs::PlainLemmas::loads_unit, crate::proofs::PlainLemmas::loads_names, crate::proofs::PlainLemmas::loads_base))]
+fn load(alloc: Global, nodes: &mut Vec<Node>, t: &Shape) -> Result<usize, Memory>
+    requires formed { AreFormed (shapes_of_nodes nodes.old.items) }
+    requires bound { bound_of (shape_of t.now) ≤ length nodes.old.items }
+    ensures { IfOk result (λ x. Loads (shapes_of_nodes nodes.old.items) (shape_of t.now)
+        (shapes_of_nodes nodes.new.items) x) }
+{
+    match t {
+        Shape::Hole(x) => Ok(*x as usize),
+        Shape::Unit => load_plain(nodes, Node::Unit),
+        Shape::Names(sort) => load_plain(nodes, Node::Names(*sort)),
+        Shape::Base(base) => load_plain(nodes, Node::Base(*base)),
+        _ => load_parts(alloc, nodes, t),
+    }
 }
 
 /// Puts both sides of an equation into a table, with the pair of their places.

@@ -141,7 +141,7 @@ fn pass(nodes: &[Node], walk: Walk, last: usize) -> Result<Walk, TypesError>
 }
 
 /// The walk after it left a place and all that stands within it.
-fn explore(nodes: &[Node], walk: Walk, start: usize) -> Result<Walk, TypesError>
+fn explore_parts(nodes: &[Node], walk: Walk, start: usize) -> Result<Walk, TypesError>
     requires formed { AreFormed (shapes_of_nodes nodes.now) }
     requires within { start < length nodes.now }
     requires walk { IsWalk (shapes_of_nodes nodes.now) walk.marks.items walk.left [] }
@@ -163,6 +163,29 @@ fn explore(nodes: &[Node], walk: Walk, start: usize) -> Result<Walk, TypesError>
         now = pass(nodes, now, last)?;
     }
     Ok(now)
+}
+
+/// The walk after it left a place and all that stands within it. A place whose parts were left is left at
+/// once.
+fn explore(nodes: &[Node], walk: Walk, start: usize) -> Result<Walk, TypesError>
+    requires formed { AreFormed (shapes_of_nodes nodes.now) }
+    requires within { start < length nodes.now }
+    requires walk { IsWalk (shapes_of_nodes nodes.now) walk.marks.items walk.left [] }
+    requires path { walk.path.items ≡ [] }
+    ensures left { IfOk result (λ w. HasLeft (shapes_of_nodes nodes.now) walk.marks.items start
+        w.marks.items w.left) }
+    ensures path { IfOk result (λ w. w.path.items ≡ []) }
+    ensures clash { IfErr result (λ e. e ≡ TypesError.Clash →
+        NoneFits (shapes_of_nodes nodes.now)) }
+{
+    let marks = walk.marks.as_slice();
+    if is_left(marks, start) {
+        return Ok(walk);
+    }
+    match waiting_part(nodes, marks, start) {
+        None => Ok(leave(walk, start)),
+        Some(_) => explore_parts(nodes, walk, start),
+    }
 }
 
 /// Walks over all places, and refuses a table in which one stands within itself.

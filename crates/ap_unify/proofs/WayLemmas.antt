@@ -2,11 +2,12 @@
 use Rattle.std.proofs.Common.{◌≡◌, ◌++◌, ◌∷◌, List, map, reverse, subst, ap, ap₂, ◌∙◌}
 use Rattle.std.specs.Prelude.{Option, Some}
 use Rattle.ap_defs.specs.Substitution.{Binding}
-use Rattle.ap_defs.specs.Unification.{Progress, failed, next, step}
+use Rattle.ap_defs.specs.Unification.{Progress, apply_rule, failed, next, step}
 use Rattle.ap_unify.specs.Parts.{IsRuleFor, parts_equation, rule_of, stage_of, stage_with, waiting_equations}
-use Rattle.ap_unify.specs.Runs.{stage_under}
+use Rattle.ap_unify.specs.Runs.{equation_under, problem_under, stage_under}
 use Rattle.ap_unify.specs.Work.{equations_left, pair_equation, problem_for, problems_met}
 use Rattle.ap_unify.specs.declared.pairs.Work.{Work}
+use Rattle.ap_unify.specs.declared.parts.Ahead.{Ahead}
 use Rattle.ap_unify.specs.declared.parts.Turn.{Turn}
 use Rattle.ap_unify.specs.declared.parts.Turn.TheVariants as turns
 use Rattle.ap_unify.specs.declared.plain.PlainPair.{PlainPair}
@@ -18,9 +19,9 @@ module _ (s r : List Binding) (pair : PlainPair) (o : Option PlainPair) (w v : W
   same_behind : step (stage_under s (parts_equation pair ∷ (waiting_equations o ++ equations_left v)) (problems_met v)) ≡ stepped
   same_behind = ap₂ (λ es ps. step (stage_under s (parts_equation pair ∷ (waiting_equations o ++ map pair_equation (reverse es))) (map problem_for ps))) e f
 
-  module _ (turn : Turn) (h : IsRuleFor turn s r (rule_of s pair)) where
-    turned : (t : Turn) → turn ≡ t → IsRuleFor t s r (rule_of s pair)
-    turned t k = subst (λ x. IsRuleFor x s r (rule_of s pair)) k h
+  module _ (ahead : Ahead) (turn : Turn) (h : IsRuleFor turn ahead s r (rule_of s pair)) where
+    turned : (t : Turn) → turn ≡ t → IsRuleFor t ahead s r (rule_of s pair)
+    turned t k = subst (λ x. IsRuleFor x ahead s r (rule_of s pair)) k h
 
     pub clash_way : turn ≡ turns.Clash → failed ≡ stepped
     clash_way k = turned turns.Clash k (waiting_equations o ++ equations_left v) (problems_met v) ∙ same_behind
@@ -28,17 +29,21 @@ module _ (s r : List Binding) (pair : PlainPair) (o : Option PlainPair) (w v : W
     pub done_way : turn ≡ turns.Done → next (stage_under r (waiting_equations o ++ equations_left v) (problems_met v)) ≡ stepped
     done_way k = turned turns.Done k (waiting_equations o ++ equations_left v) (problems_met v) ∙ same_behind
 
-    pub on_way : (p : PlainPair) → turn ≡ turns.On p → next (stage_of r p o v) ≡ stepped
-    on_way p k = turned (turns.On p) k (waiting_equations o ++ equations_left v) (problems_met v) ∙ same_behind
+    pub on_way : turn ≡ turns.On → next (stage_of r ahead.next o v) ≡ stepped
+    on_way k = turned turns.On k (waiting_equations o ++ equations_left v) (problems_met v) ∙ same_behind
 
     -- once the one that waits is put to the others
     module _ (u : Work) (g : equations_left u ≡ waiting_equations o ++ equations_left v) (i : u.problems.items ≡ v.problems.items) where
-      pub both_way : (p q : PlainPair) → turn ≡ turns.Both p q → next (stage_of r p (Some q) u) ≡ stepped
-      both_way p q k =
-          ap₂ (λ es ps. next (stage_under r (parts_equation p ∷ parts_equation q ∷ es) (map problem_for ps))) g i
-          ∙ turned (turns.Both p q) k (waiting_equations o ++ equations_left v) (problems_met v) ∙ same_behind
+      pub both_way : turn ≡ turns.Both → next (stage_of r ahead.next (Some ahead.later) u) ≡ stepped
+      both_way k =
+          ap₂ (λ es ps. next (stage_under r (parts_equation ahead.next ∷ parts_equation ahead.later ∷ es) (map problem_for ps))) g i
+          ∙ turned turns.Both k (waiting_equations o ++ equations_left v) (problems_met v) ∙ same_behind
 
-      pub other_way : turn ≡ turns.Other → step (stage_with r pair u) ≡ stepped
+      pub other_way : turn ≡ turns.Other → step (stage_with r ahead.next u) ≡ stepped
       other_way k =
-          ap₂ (λ es ps. step (stage_under r (parts_equation pair ∷ es) (map problem_for ps))) g i
-          ∙ ap (λ b. step (stage_under b (parts_equation pair ∷ (waiting_equations o ++ equations_left v)) (problems_met v))) (turned turns.Other k) ∙ same_behind
+          let es = map (equation_under s) (waiting_equations o ++ equations_left v) in
+          let ps = map (problem_under s) (problems_met v) in
+          let m = turned turns.Other k in
+          ap₂ (λ ds qs. step (stage_under r (parts_equation ahead.next ∷ ds) (map problem_for qs))) g i
+          ∙ ap (λ b. step (stage_under b (parts_equation ahead.next ∷ (waiting_equations o ++ equations_left v)) (problems_met v))) m.0
+          ∙ ap (λ q. apply_rule q es ps s) m.1 ∙ same_behind

@@ -12,11 +12,15 @@ use Rattle.ap_unify.specs.Runs.{equation_under, problem_under, stage_under}
 use Rattle.ap_unify.specs.Work.{HasForm, equations_left, problems_met, progress_if, work_stage}
 use Rattle.ap_unify.specs.declared.heads.Head.{Head}
 use Rattle.ap_unify.specs.declared.heads.Head.TheVariants as heads
+use Rattle.ap_unify.specs.declared.heads.Look.{Look}
+use Rattle.ap_unify.specs.declared.heads.Look.TheVariants as looks
 use Rattle.ap_unify.specs.declared.pairs.Work.{Work}
+use Rattle.ap_unify.specs.declared.parts.Ahead.{Ahead}
 use Rattle.ap_unify.specs.declared.parts.Turn.{Turn}
 use Rattle.ap_unify.specs.declared.parts.Turn.TheVariants as turns
 use Rattle.ap_unify.specs.declared.plain.Plain.{Plain}
 use Rattle.ap_unify.specs.declared.plain.PlainPair.{PlainPair}
+use Rattle.ap_unify.specs.declared.ways.Front.{Front}
 use Rattle.ap_unify.specs.declared.ways.Way.{Way}
 use Rattle.ap_unify.specs.declared.ways.Way.TheVariants as ways
 
@@ -39,6 +43,11 @@ IsHead s t heads.Form = HasForm t
 IsHead s t (heads.Free x) = (t ≡ susp [] x) × IsUnbound s x
 IsHead s t heads.Other = HasVariable t
 
+-- what one look finds at the head of a term
+abbrev pub IsLook : Triple → (Var → ℕ) → NominalTerm → Look → Type 0
+IsLook a rank t (looks.Ends h) = IsHead a.bindings t h
+IsLook a rank t (looks.Further p) = IsFurther a rank t (plain_term p)
+
 abbrev pub parts_equation : PlainPair → Equation
 parts_equation p = plain_term p.left ≐ plain_term p.right
 
@@ -46,29 +55,30 @@ parts_equation p = plain_term p.left ≐ plain_term p.right
 abbrev pub stage_with : List Binding → PlainPair → Work → Stage
 stage_with s p w = stage_under s (parts_equation p ∷ equations_left w) (problems_met w)
 
--- how the equations behind come after a turn, which may leave it to another way
-abbrev pub progress_of : Turn → List Binding → List Equation → List Problem → Progress
-progress_of turns.Clash s es ps = failed
-progress_of turns.Done s es ps = next (stage_under s es ps)
-progress_of (turns.On p) s es ps = next (stage_under s (parts_equation p ∷ es) ps)
-progress_of (turns.Both p q) s es ps = next (stage_under s (parts_equation p ∷ parts_equation q ∷ es) ps)
-progress_of turns.Other s es ps = failed
-
--- the turn is what a rule makes of whatever is behind; or no step was made
-abbrev pub IsRuleFor : Turn → List Binding → List Binding → Rule → Type 0
-IsRuleFor turns.Other s r q = r ≡ s
-IsRuleFor turn s r q = (es : List Equation) (ps : List Problem) → progress_of turn r es ps ≡ apply_rule q (map (equation_under s) es) (map (problem_under s) ps) s
+-- how the equations behind come after a turn and what it puts ahead; it may leave it to another way
+abbrev pub progress_of : Turn → Ahead → List Binding → List Equation → List Problem → Progress
+progress_of turns.Clash f s es ps = failed
+progress_of turns.Done f s es ps = next (stage_under s es ps)
+progress_of turns.On f s es ps = next (stage_under s (parts_equation f.next ∷ es) ps)
+progress_of turns.Both f s es ps = next (stage_under s (parts_equation f.next ∷ parts_equation f.later ∷ es) ps)
+progress_of turns.Other f s es ps = failed
 
 abbrev pub rule_of : List Binding → PlainPair → Rule
 rule_of s p = rule (under s (plain_term p.left)) (under s (plain_term p.right))
 
+-- the turn is what a rule makes of whatever is behind; or no step was made, and the same rule is still to come
+abbrev pub IsRuleFor : Turn → Ahead → List Binding → List Binding → Rule → Type 0
+IsRuleFor turns.Other f s r q = (r ≡ s) × (rule_of s f.next ≡ q)
+IsRuleFor turn f s r q = (es : List Equation) (ps : List Problem) → progress_of turn f r es ps ≡ apply_rule q (map (equation_under s) es) (map (problem_under s) ps) s
+
 abbrev pub AreBelowBoth : ℕ → PlainPair → Type 0
 AreBelowBoth n p = IsBelow n (plain_term p.left) × IsBelow n (plain_term p.right)
 
-abbrev pub IsTurnBelow : ℕ → Turn → Type 0
-IsTurnBelow n (turns.On p) = AreBelowBoth n p
-IsTurnBelow n (turns.Both p q) = AreBelowBoth n p × AreBelowBoth n q
-IsTurnBelow n _ = Unit {0}
+abbrev pub IsTurnBelow : ℕ → Turn → Ahead → Type 0
+IsTurnBelow n turns.On f = AreBelowBoth n f.next
+IsTurnBelow n turns.Both f = AreBelowBoth n f.next × AreBelowBoth n f.later
+IsTurnBelow n turns.Other f = AreBelowBoth n f.next
+IsTurnBelow n _ f = Unit {0}
 
 -- an equation that waits in front of those that are left, if there is one
 abbrev pub waiting_equations : Option PlainPair → List Equation
@@ -83,13 +93,13 @@ IsWaitingBelow n (Some p) = AreBelowBoth n p
 abbrev pub stage_of : List Binding → PlainPair → Option PlainPair → Work → Stage
 stage_of s p o w = stage_under s (parts_equation p ∷ (waiting_equations o ++ equations_left w)) (problems_met w)
 
-abbrev pub progress_to : Way → List Binding → Work → Progress
-progress_to (ways.End b) s w = progress_if b (work_stage s w)
-progress_to (ways.On p o) s w = next (stage_of s p o w)
+abbrev pub progress_to : Way → List Binding → Front → Work → Progress
+progress_to (ways.End b) s f w = progress_if b (work_stage s w)
+progress_to ways.On s f w = next (stage_of s f.ahead.next f.waiting w)
 
-abbrev pub IsWayBelow : ℕ → Way → Type 0
-IsWayBelow n (ways.End b) = Unit {0}
-IsWayBelow n (ways.On p o) = AreBelowBoth n p × IsWaitingBelow n o
+abbrev pub IsWayBelow : ℕ → Way → Front → Type 0
+IsWayBelow n (ways.End b) f = Unit {0}
+IsWayBelow n ways.On f = AreBelowBoth n f.ahead.next × IsWaitingBelow n f.waiting
 
 -- the stage goes on so by n more steps after the first one
 abbrev pub IsReached : ℕ → Stage → Progress → Type 0

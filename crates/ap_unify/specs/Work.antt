@@ -34,6 +34,10 @@ equations_left w = map pair_equation (reverse w.equations.items)
 abbrev pub problems_met : Work → List Problem
 problems_met w = map problem_for w.problems.items
 
+-- nothing is left, nothing was met and nothing taken
+abbrev pub IsIdle : Work → Type 0
+IsIdle w = (w.equations.items ≡ []) × (w.problems.items ≡ []) × (w.taken.items ≡ [])
+
 -- the stage of the run, under the bindings
 abbrev pub work_stage : List Binding → Work → Stage
 work_stage s w = stage_under s (equations_left w) (problems_met w)

@@ -1,6 +1,6 @@
 //! The end of a run: freshness problems and conditions, reduced under the final bindings.
 
-ghost use Rattle.std.specs.Prelude.{◌≡◌, ◌++◌, Some, IfOk, map};
+ghost use Rattle.std.specs.Prelude.{◌≡◌, ◌++◌, true, Some, IfOk, length, map};
 ghost use Rattle.ap_defs.specs.Freshness.{Conds};
 ghost use Rattle.ap_defs.specs.Unification.{problem_of, reduce_all};
 ghost use Rattle.ap_fresh.specs.Reduction.{added};
@@ -90,9 +90,17 @@ fn reduce_met<'a>(
     Ok(Some(conds))
 }
 
+/// Whether no problem was met and no condition taken. It takes no memory.
+fn is_settled(work: &Work<'_>) -> bool
+    ensures { result ≡ true → (length work.now.taken.items ≡ 0)
+        × (length work.now.problems.items ≡ 0) }
+{
+    work.taken.is_empty() && work.problems.is_empty()
+}
+
 /// Adds the conditions to which the problems that were met reduce, and those that were taken. It
 /// answers false where one is refuted.
-pub fn finish<'a>(alloc: Global, store: &mut Store<'a>, work: &Work<'a>) -> Result<bool, Memory>
+fn finish_met<'a>(alloc: Global, store: &mut Store<'a>, work: &Work<'a>) -> Result<bool, Memory>
     requires { (cs : Conds) →
         collected (reduce_all (bindings_of store.old) (map problem_of work.now.taken.items
         ++ problems_met work.now)) ≡ Some cs → AreOnUnbound (present store.old) cs }
@@ -113,4 +121,24 @@ pub fn finish<'a>(alloc: Global, store: &mut Store<'a>, work: &Work<'a>) -> Resu
             Ok(true)
         }
     }
+}
+
+/// Adds the conditions to which the problems that were met reduce, and those that were taken, where there
+/// are any. It answers false where one is refuted.
+pub fn finish<'a>(alloc: Global, store: &mut Store<'a>, work: &Work<'a>) -> Result<bool, Memory>
+    requires { (cs : Conds) →
+        collected (reduce_all (bindings_of store.old) (map problem_of work.now.taken.items
+        ++ problems_met work.now)) ≡ Some cs → AreOnUnbound (present store.old) cs }
+    ensures conditions { IfOk result (λ fine. with_kept (present store.old).conditions (reduce_all
+        (bindings_of store.old) (map problem_of work.now.taken.items ++ problems_met work.now))
+        ≡ some_if fine (present store.new).conditions) }
+    ensures bindings { bindings_of store.new ≡ bindings_of store.old }
+    ensures next { (present store.new).next ≡ (present store.old).next }
+    ensures past { IsPrefixOf (versions store.old) (versions store.new) }
+    ensures kinds { kinds store.new ≡ kinds store.old }
+{
+    if is_settled(work) {
+        return Ok(true);
+    }
+    finish_met(alloc, store, work)
 }

@@ -5,7 +5,7 @@ mod finish;
 pub mod fresh;
 mod heads;
 mod moves;
-mod pairs;
+pub mod pairs;
 mod parts;
 mod plain;
 mod reducing;

@@ -2,6 +2,7 @@
 
 use ap_defs::terms::{Cond, Name};
 use ap_perm::closures::Closure;
+use std::alloc::Global;
 
 /// Two closures that are to be equal.
 #[derive(Drop)]
@@ -24,4 +25,28 @@ pub struct Work<'a> {
     pub equations: Vec<ClosurePair<'a>>,
     pub problems: Vec<FreshFor<'a>>,
     pub taken: Vec<Cond>,
+}
+
+impl<'a> Work<'a> {
+    ghost use Rattle.ap_unify.specs.Work.{IsIdle};
+
+    /// Nothing to do. It takes no memory.
+    pub fn new(alloc: Global) -> Work<'a>
+        ensures { IsIdle result }
+    {
+        Work {
+            equations: Vec::new(alloc),
+            problems: Vec::new(alloc),
+            taken: Vec::new(alloc),
+        }
+    }
+
+    /// Nothing is left to do, and the memory is kept for what comes next.
+    pub fn clear(&mut self)
+        ensures { IsIdle self.new }
+    {
+        self.equations.clear();
+        self.problems.clear();
+        self.taken.clear();
+    }
 }

@@ -1,6 +1,6 @@
 //! The rules for two parts of terms on which no swappings wait.
 
-ghost use Rattle.std.specs.Prelude.{◌≡◌, ◌<◌, ◌+◌, ◌^◌, ℕ, List, [], false, IfOk, OnOk};
+ghost use Rattle.std.specs.Prelude.{◌≡◌, ◌<◌, ◌+◌, ℕ, List, [], false, IfOk, OnOk};
 ghost use Rattle.ap_defs.specs.Permutations.{name_eq};
 ghost use Rattle.ap_defs.specs.Renaming.{IsBelow, rename_name, rename_term};
 ghost use Rattle.ap_defs.specs.Substitution.{Binding, occurs, under};
@@ -9,13 +9,14 @@ ghost use Rattle.ap_defs.specs.Unification.{bind, unless_occurs};
 ghost use Rattle.ap_store.specs.Triples.{IsPrefixOf};
 ghost use Rattle.ap_store.specs.Views.{bindings_of, kinds, present, versions};
 ghost use Rattle.ap_theory.specs.Variables.{IsUnbound};
-ghost use Rattle.ap_unify.specs.Parts.{AreBelowBoth, IsRuleFor, IsTurnBelow, plain_term, rule_of};
+ghost use Rattle.ap_unify.specs.Parts.{AreBelowBoth, IsHead, IsRuleFor, IsTurnBelow, plain_term, rule_of};
 ghost use Rattle.ap_unify.specs.Work.{GoOn, HasForm};
+ghost use Rattle.ap_unify.specs.declared.parts.Ahead.{Ahead};
 
-use crate::heads::{Head, followed, head_of};
+use crate::heads::{Head, headed};
 use crate::pairs::Work;
 use crate::plain::{Plain, PlainPair};
-use crate::work::bind_var;
+use crate::work::bind_plain;
 use ap_defs::memory::Memory;
 use ap_defs::terms::{Name, Term, Var};
 use ap_perm::joining::numbered;
@@ -23,14 +24,21 @@ use ap_store::heads::head_key;
 use ap_store::store::Store;
 use std::alloc::Global;
 
-/// How a run goes on after the first equation: there is no solution, or those behind it come next,
-/// with one or two of parts in front of them, or another way has to be taken.
+/// Equations of two parts ahead of the others: the one that comes next, and a place for one after it.
 #[derive(Clone, Copy)]
-pub enum Turn<'a> {
+pub struct Ahead<'a> {
+    pub next: PlainPair<'a>,
+    pub later: PlainPair<'a>,
+}
+
+/// How a run goes on after the first equation: there is no solution, or those behind it come next, or
+/// what is ahead now, the next one alone or both, or another way has to be taken.
+#[derive(Clone, Copy)]
+pub enum Turn {
     Clash,
     Done,
-    On(PlainPair<'a>),
-    Both(PlainPair<'a>, PlainPair<'a>),
+    On,
+    Both,
     Other,
 }
 
@@ -41,21 +49,22 @@ fn bind_part<'a>(
     work: &mut Work<'a>,
     x: Var,
     p: Plain<'a>,
-) -> Result<Turn<'a>, Memory>
+) -> Result<Turn, Memory>
     requires made { x.num < (present store.old).next }
     requires unbound { IsUnbound (bindings_of store.old) x }
     requires part { IsBelow (present store.old).next (plain_term p) }
     requires absent { occurs x (under (bindings_of store.old) (plain_term p)) ≡ false }
-    ensures turn { IfOk result (λ turn. IsRuleFor turn (bindings_of store.old)
+    ensures turn { IfOk result (λ turn. (f : Ahead) → IsRuleFor turn f (bindings_of store.old)
         (bindings_of store.new) (bind x (under (bindings_of store.old) (plain_term p.entry)))) }
-    ensures below { IfOk result (λ turn. IsTurnBelow (present store.old).next turn) }
+    ensures below { IfOk result (λ turn. (f : Ahead) →
+        IsTurnBelow (present store.old).next turn f) }
     ensures equations { work.new.equations.items ≡ work.old.equations.items }
     ensures problems { work.new.problems.items ≡ work.old.problems.items }
     ensures goes_on { OnOk result (GoOn (present store.old) work.old (present store.new) work.new) }
     ensures past { IsPrefixOf (versions store.old) (versions store.new) }
     ensures kinds { kinds store.new ≡ kinds store.old }
 {
-    bind_var(alloc, store, work, x, p.closure(alloc))?;
+    bind_plain(alloc, store, work, x, p)?;
     Ok(Turn::Done)
 }
 
@@ -66,15 +75,16 @@ fn bind_unless_occurs<'a>(
     work: &mut Work<'a>,
     x: Var,
     p: Plain<'a>,
-) -> Result<Turn<'a>, Memory>
+) -> Result<Turn, Memory>
     requires made { x.num < (present store.old).next }
     requires unbound { IsUnbound (bindings_of store.old) x }
     requires part { IsBelow (present store.old).next (plain_term p) }
-    ensures turn { IfOk result (λ turn. IsRuleFor turn (bindings_of store.old)
+    ensures turn { IfOk result (λ turn. (f : Ahead) → IsRuleFor turn f (bindings_of store.old)
         (bindings_of store.new) (unless_occurs x
         (under (bindings_of store.old) (plain_term p.entry))
         (under (bindings_of store.old) (plain_term p.entry)))) }
-    ensures below { IfOk result (λ turn. IsTurnBelow (present store.old).next turn) }
+    ensures below { IfOk result (λ turn. (f : Ahead) →
+        IsTurnBelow (present store.old).next turn f) }
     ensures equations { work.new.equations.items ≡ work.old.equations.items }
     ensures problems { work.new.problems.items ≡ work.old.problems.items }
     ensures goes_on { OnOk result (GoOn (present store.old) work.old (present store.new) work.new) }
@@ -96,15 +106,16 @@ fn variables<'a>(
     x: Var,
     y: Var,
     pair: PlainPair<'a>,
-) -> Result<Turn<'a>, Memory>
+) -> Result<Turn, Memory>
     requires left { plain_term pair.left ≡ susp [] x }
     requires right { plain_term pair.right ≡ susp [] y }
     requires left_unbound { IsUnbound (bindings_of store.old) x }
     requires right_unbound { IsUnbound (bindings_of store.old) y }
     requires below { AreBelowBoth (present store.old).next pair }
-    ensures turn { IfOk result (λ turn. IsRuleFor turn (bindings_of store.old)
+    ensures turn { IfOk result (λ turn. (f : Ahead) → IsRuleFor turn f (bindings_of store.old)
         (bindings_of store.new) (rule_of (bindings_of store.old) pair.entry)) }
-    ensures below { IfOk result (λ turn. IsTurnBelow (present store.old).next turn) }
+    ensures below { IfOk result (λ turn. (f : Ahead) →
+        IsTurnBelow (present store.old).next turn f) }
     ensures equations { work.new.equations.items ≡ work.old.equations.items }
     ensures problems { work.new.problems.items ≡ work.old.problems.items }
     ensures goes_on { OnOk result (GoOn (present store.old) work.old (present store.new) work.new) }
@@ -120,14 +131,16 @@ fn variables<'a>(
     }
 }
 
-/// Whether two names are equal once they are numbered.
+/// Whether two names are equal once they are numbered as two parts are.
 #[tactic(auto, unfolding(ap_defs::specs::Permutations::name_eq))]
-fn same_name(base: u64, a: Name, other: u64, b: Name) -> bool
-    requires first { base + a.num < 2 ^ 64 }
-    requires second { other + b.num < 2 ^ 64 }
-    ensures { result ≡ name_eq (rename_name base a) (rename_name other b) }
+fn same_name(left: Plain<'_>, a: Name, right: Plain<'_>, b: Name) -> bool
+    requires left { left.base + a.num < left.end }
+    requires right { right.base + b.num < right.end }
+    ensures { result ≡ name_eq (rename_name left.entry.base a) (rename_name right.entry.base b) }
 {
-    numbered(base, a) == numbered(other, b)
+    let _end = left.end;
+    let _other_end = right.end;
+    numbered(left.base, a) == numbered(right.base, b)
 }
 
 /// Terms that are numbered as two parts are.
@@ -145,14 +158,16 @@ fn terms_of<'a>(pair: PlainPair<'a>, left: &'a Term, right: &'a Term) -> PlainPa
     }
 }
 
-/// The rule for two parts, neither of them a suspension. It leaves abstractions with different binders to
-/// another way.
-fn forms<'a>(pair: PlainPair<'a>) -> Turn<'a>
-    requires left_form { HasForm (plain_term pair.left) }
-    requires right_form { HasForm (plain_term pair.right) }
-    ensures turn { (s : List Binding) → IsRuleFor result s s (rule_of s pair.entry) }
-    ensures below { (n : ℕ) → AreBelowBoth n pair.entry → IsTurnBelow n result }
+/// The rule for the two parts that come next, neither of them a suspension. It leaves abstractions with
+/// different binders to another way.
+fn forms(ahead: &mut Ahead<'_>) -> Turn
+    requires left_form { HasForm (plain_term ahead.old.next.left) }
+    requires right_form { HasForm (plain_term ahead.old.next.right) }
+    ensures turn { (s : List Binding) →
+        IsRuleFor result ahead.new s s (rule_of s ahead.old.next) }
+    ensures below { (n : ℕ) → AreBelowBoth n ahead.old.next → IsTurnBelow n result ahead.new }
 {
+    let pair = ahead.next;
     let PlainPair { left, right } = pair;
     if head_key(left.term) != head_key(right.term) {
         return Turn::Clash;
@@ -160,25 +175,29 @@ fn forms<'a>(pair: PlainPair<'a>) -> Turn<'a>
     match (left.term, right.term) {
         (Term::Unit, Term::Unit) => Turn::Done,
         (Term::Name(a), Term::Name(b)) => {
-            if same_name(left.base, *a, right.base, *b) {
+            if same_name(left, *a, right, *b) {
                 Turn::Done
             } else {
                 Turn::Clash
             }
         }
         (Term::Pair(t, v), Term::Pair(u, w)) => {
-            Turn::Both(terms_of(pair, t, u), terms_of(pair, v, w))
+            ahead.next = terms_of(pair, t, u);
+            ahead.later = terms_of(pair, v, w);
+            Turn::Both
         }
         (Term::App(f, t), Term::App(g, u)) => {
             if *f == *g {
-                Turn::On(terms_of(pair, t, u))
+                ahead.next = terms_of(pair, t, u);
+                Turn::On
             } else {
                 Turn::Clash
             }
         }
         (Term::Abs(a, t), Term::Abs(b, u)) => {
-            if same_name(left.base, *a, right.base, *b) {
-                Turn::On(terms_of(pair, t, u))
+            if same_name(left, *a, right, *b) {
+                ahead.next = terms_of(pair, t, u);
+                Turn::On
             } else {
                 Turn::Other
             }
@@ -187,50 +206,59 @@ fn forms<'a>(pair: PlainPair<'a>) -> Turn<'a>
     }
 }
 
-/// The rule for two parts, once bindings at their heads are followed.
+/// The rule for the two parts that come next, with these heads, once bindings there are followed.
 fn by_heads<'a>(
     alloc: Global,
     store: &mut Store<'a>,
     work: &mut Work<'a>,
-    pair: PlainPair<'a>,
-) -> Result<Turn<'a>, Memory>
-    requires below { AreBelowBoth (present store.old).next pair }
-    ensures turn { IfOk result (λ turn. IsRuleFor turn (bindings_of store.old)
-        (bindings_of store.new) (rule_of (bindings_of store.old) pair.entry)) }
-    ensures below { IfOk result (λ turn. IsTurnBelow (present store.old).next turn) }
+    ahead: &mut Ahead<'a>,
+    left: Head,
+    right: Head,
+) -> Result<Turn, Memory>
+    requires left { IsHead (bindings_of store.old) (plain_term ahead.old.next.left) left }
+    requires right { IsHead (bindings_of store.old) (plain_term ahead.old.next.right) right }
+    requires below { AreBelowBoth (present store.old).next ahead.old.next }
+    ensures turn { IfOk result (λ turn. IsRuleFor turn ahead.new (bindings_of store.old)
+        (bindings_of store.new) (rule_of (bindings_of store.old) ahead.old.next)) }
+    ensures below { IfOk result (λ turn. IsTurnBelow (present store.old).next turn ahead.new) }
     ensures equations { work.new.equations.items ≡ work.old.equations.items }
     ensures problems { work.new.problems.items ≡ work.old.problems.items }
     ensures goes_on { OnOk result (GoOn (present store.old) work.old (present store.new) work.new) }
     ensures past { IsPrefixOf (versions store.old) (versions store.new) }
     ensures kinds { kinds store.new ≡ kinds store.old }
 {
-    match (head_of(store, pair.left), head_of(store, pair.right)) {
-        (Head::Form, Head::Form) => Ok(forms(pair)),
-        (Head::Free(x), Head::Form) => bind_unless_occurs(alloc, store, work, x, pair.right),
-        (Head::Form, Head::Free(y)) => bind_unless_occurs(alloc, store, work, y, pair.left),
-        (Head::Free(x), Head::Free(y)) => variables(alloc, store, work, x, y, pair),
+    match (left, right) {
+        (Head::Form, Head::Form) => Ok(forms(ahead)),
+        (Head::Free(x), Head::Form) => bind_unless_occurs(alloc, store, work, x, ahead.next.right),
+        (Head::Form, Head::Free(y)) => bind_unless_occurs(alloc, store, work, y, ahead.next.left),
+        (Head::Free(x), Head::Free(y)) => variables(alloc, store, work, x, y, ahead.next),
         _ => Ok(Turn::Other),
     }
 }
 
-/// The rule for two parts, if there is one without swappings.
+/// The rule for the two parts that come next, if there is one without swappings. What comes after it is
+/// put in their place.
 pub fn step_parts<'a>(
     alloc: Global,
     store: &mut Store<'a>,
     work: &mut Work<'a>,
-    pair: PlainPair<'a>,
-) -> Result<Turn<'a>, Memory>
-    requires below { AreBelowBoth (present store.old).next pair }
-    ensures turn { IfOk result (λ turn. IsRuleFor turn (bindings_of store.old)
-        (bindings_of store.new) (rule_of (bindings_of store.old) pair.entry)) }
-    ensures below { IfOk result (λ turn. IsTurnBelow (present store.old).next turn) }
+    ahead: &mut Ahead<'a>,
+) -> Result<Turn, Memory>
+    requires below { AreBelowBoth (present store.old).next ahead.old.next }
+    ensures turn { IfOk result (λ turn. IsRuleFor turn ahead.new (bindings_of store.old)
+        (bindings_of store.new) (rule_of (bindings_of store.old) ahead.old.next)) }
+    ensures below { IfOk result (λ turn. IsTurnBelow (present store.old).next turn ahead.new) }
     ensures equations { work.new.equations.items ≡ work.old.equations.items }
     ensures problems { work.new.problems.items ≡ work.old.problems.items }
     ensures goes_on { OnOk result (GoOn (present store.old) work.old (present store.new) work.new) }
     ensures past { IsPrefixOf (versions store.old) (versions store.new) }
     ensures kinds { kinds store.new ≡ kinds store.old }
 {
-    let left = followed(store, pair.left);
-    let right = followed(store, pair.right);
-    by_heads(alloc, store, work, PlainPair { left, right })
+    let left = headed(store, ahead.next.left);
+    let right = headed(store, ahead.next.right);
+    ahead.next = PlainPair {
+        left: left.part,
+        right: right.part,
+    };
+    by_heads(alloc, store, work, ahead, left.head, right.head)
 }

@@ -5,7 +5,7 @@ ghost use Rattle.ap_defs.specs.Terms.{term_of};
 ghost use Rattle.ap_perm.specs.BelowProps.{below_prop};
 
 use ap_defs::terms::Term;
-use ap_perm::closures::{Closure, Lent};
+use ap_perm::closures::Closure;
 use std::alloc::Global;
 
 /// A term whose identifiers are numbered from `base` on, below `end`. Contracts see it as the nominal
@@ -22,29 +22,13 @@ impl<'a> Plain<'a> {
     ghost use Rattle.std.specs.Prelude.{◌≡◌, ◌<◌, MatchOption, length};
     ghost use Rattle.ap_defs.specs.Renaming.{IsBelow, rename_term};
     ghost use Rattle.ap_defs.specs.Terms.{term_of};
-    ghost use Rattle.ap_perm.specs.Closures.{closure_term, lent_term};
+    ghost use Rattle.ap_perm.specs.Closures.{closure_term};
     ghost use Rattle.ap_unify.specs.Parts.{plain_term};
 
     /// The part that a closure is, or none where swappings wait on it.
     pub fn of(c: &Closure<'a>) -> Option<Plain<'a>>
         ensures { MatchOption result (0 < length c.now.swaps.items) (λ p. plain_term p
             ≡ closure_term c.now) }
-    {
-        if c.swaps.is_empty() {
-            Some(Plain {
-                base: c.base,
-                end: c.end,
-                term: c.term,
-            })
-        } else {
-            None
-        }
-    }
-
-    /// The part that a lent closure is, or none where swappings wait on it.
-    pub fn of_lent(c: Lent<'_, 'a>) -> Option<Plain<'a>>
-        ensures { MatchOption result (0 < length c.entry.swaps.now) (λ p. plain_term p
-            ≡ lent_term c.entry) }
     {
         if c.swaps.is_empty() {
             Some(Plain {

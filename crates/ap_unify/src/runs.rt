@@ -11,9 +11,10 @@ ghost use Rattle.ap_unify.specs.Runs.{paired, stage_under};
 ghost use Rattle.ap_unify.specs.Work.{ArePairsBelow, GoOn, IsPairBelow, ending_if, equations_left, pair_equation, problems_met, progress_if, work_stage};
 
 use crate::pairs::{ClosurePair, Work};
+use crate::parts::Ahead;
 use crate::plain::{Plain, PlainPair};
 use crate::terms::Terms;
-use crate::ways::{Way, next_way};
+use crate::ways::{Front, Way, next_way};
 use crate::work::by_rule;
 use ap_defs::memory::Memory;
 use ap_store::store::Store;
@@ -34,15 +35,18 @@ fn along<'a>(
     ensures past { IsPrefixOf (versions store.old) (versions store.new) }
     ensures kinds { kinds store.new ≡ kinds store.old }
 {
-    let mut pair = first;
-    let mut waiting = None;
+    let ahead = Ahead {
+        next: first,
+        later: first,
+    };
+    let mut front = Front {
+        ahead,
+        waiting: None,
+    };
     'going: loop {
-        match next_way(alloc, store, work, pair, waiting)? {
+        match next_way(alloc, store, work, &mut front)? {
             Way::End(goes_on) => return Ok(goes_on),
-            Way::On(next, later) => {
-                pair = next;
-                waiting = later;
-            }
+            Way::On => {}
         }
     }
 }

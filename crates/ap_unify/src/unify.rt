@@ -21,6 +21,7 @@ use std::alloc::Global;
 fn unify_forward<'a>(
     alloc: Global,
     store: &mut Store<'a>,
+    work: &mut Work<'a>,
     left: Terms<'a>,
     right: Terms<'a>,
 ) -> Result<bool, Memory>
@@ -35,25 +36,23 @@ fn unify_forward<'a>(
     ensures past { IsPrefixOf (versions store.old) (versions store.new) }
     ensures kinds { kinds store.new ≡ kinds store.old }
 {
-    let mut work = Work {
-        equations: Vec::new(alloc),
-        problems: Vec::new(alloc),
-        taken: Vec::new(alloc),
-    };
-    if !run_places(alloc, store, &mut work, left, right)? {
+    work.clear();
+    if !run_places(alloc, store, work, left, right)? {
         return Ok(false);
     }
-    finish(alloc, store, &work)
+    finish(alloc, store, work)
 }
 
 /// Makes the terms at each place of two lists equal, by the most general bindings and conditions
 /// (Urban, Pitts and Gabbay, "Nominal Unification").
 ///
 /// It answers true where there are such, and then the store has them. It answers false exactly
-/// where there are none. Then, and after want of memory, the store is as before.
+/// where there are none. Then, and after want of memory, the store is as before. What `work` has is
+/// forgotten, and its memory used.
 pub fn unify<'a>(
     alloc: Global,
     store: &mut Store<'a>,
+    work: &mut Work<'a>,
     left: Terms<'a>,
     right: Terms<'a>,
 ) -> Result<bool, Memory>
@@ -76,7 +75,7 @@ pub fn unify<'a>(
     ensures unchanged { OnErr result (IsUnchanged store.old store.new) }
 {
     let start = store.mark();
-    match unify_forward(alloc, store, left, right) {
+    match unify_forward(alloc, store, work, left, right) {
         Ok(true) => Ok(true),
         Ok(false) => {
             store.undo_to(start);

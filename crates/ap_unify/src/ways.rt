@@ -11,19 +11,26 @@ ghost use Rattle.ap_unify.specs.Work.{ArePairsBelow, GoOn, equations_left, probl
 ghost use Rattle.ap_unify.specs.declared.pairs.Work.{Work};
 
 use crate::pairs::{ClosurePair, Work};
-use crate::parts::{Turn, step_parts};
+use crate::parts::{Ahead, Turn, step_parts};
 use crate::plain::PlainPair;
 use crate::work::{by_rule, put_equation};
 use ap_defs::memory::Memory;
 use ap_store::store::Store;
 use std::alloc::Global;
 
-/// What comes after a step: false where there is no solution, true where the equations that are left come
-/// next; or an equation of two parts in front of them, and maybe one between that waits.
+/// An equation of two parts ahead of those that are left, and maybe one between that waits.
 #[derive(Clone, Copy)]
-pub enum Way<'a> {
+pub struct Front<'a> {
+    pub ahead: Ahead<'a>,
+    pub waiting: Option<PlainPair<'a>>,
+}
+
+/// What comes after a step: false where there is no solution, true where the equations that are left come
+/// next; or what is in front of them.
+#[derive(Clone, Copy)]
+pub enum Way {
     End(bool),
-    On(PlainPair<'a>, Option<PlainPair<'a>>),
+    On,
 }
 
 /// Puts an equation that waits in front of those that are left.
@@ -69,47 +76,51 @@ fn by_closures<'a>(
     by_rule(alloc, store, work, ClosurePair { left, right })
 }
 
-/// The way on once nothing is left of an equation: the one that waits, or those that are left.
-fn after_done<'a>(waiting: Option<PlainPair<'a>>) -> Way<'a>
-    ensures way { (s : List Binding) → (w : Work) → progress_to result s w
-        ≡ next (stage_under s (waiting_equations waiting.entry ++ equations_left w)
+/// The way on once nothing is left of the equation in front: the one that waits, or those that are left.
+fn after_done(front: &mut Front<'_>) -> Way
+    ensures way { (s : List Binding) → (w : Work) → progress_to result s front.new w
+        ≡ next (stage_under s (waiting_equations front.old.waiting ++ equations_left w)
         (problems_met w)) }
-    ensures below { (n : ℕ) → IsWaitingBelow n waiting.entry → IsWayBelow n result }
+    ensures below { (n : ℕ) → IsWaitingBelow n front.old.waiting → IsWayBelow n result front.new }
 {
-    match waiting {
+    match front.waiting {
         None => Way::End(true),
-        Some(pair) => Way::On(pair, None),
+        Some(pair) => {
+            front.ahead.next = pair;
+            front.waiting = None;
+            Way::On
+        }
     }
 }
 
-/// One step for an equation of two parts in front, behind which another one may wait.
+/// One step for the equation in front. It is replaced in the place.
 pub fn next_way<'a>(
     alloc: Global,
     store: &mut Store<'a>,
     work: &mut Work<'a>,
-    pair: PlainPair<'a>,
-    waiting: Option<PlainPair<'a>>,
-) -> Result<Way<'a>, Memory>
-    requires pair { AreBelowBoth (present store.old).next pair }
-    requires waiting { IsWaitingBelow (present store.old).next waiting }
-    ensures stage { IfOk result (λ way. progress_to way (bindings_of store.new) work.new
-        ≡ step (stage_of (bindings_of store.old) pair.entry waiting.entry work.old)) }
-    ensures below { IfOk result (λ way. IsWayBelow (present store.old).next way) }
+    front: &mut Front<'a>,
+) -> Result<Way, Memory>
+    requires pair { AreBelowBoth (present store.old).next front.old.ahead.next }
+    requires waiting { IsWaitingBelow (present store.old).next front.old.waiting }
+    ensures stage { IfOk result (λ way. progress_to way (bindings_of store.new) front.new work.new
+        ≡ step (stage_of (bindings_of store.old) front.old.ahead.next front.old.waiting work.old)) }
+    ensures below { IfOk result (λ way. IsWayBelow (present store.old).next way front.new) }
     ensures goes_on { OnOk result (GoOn (present store.old) work.old (present store.new) work.new) }
     ensures past { IsPrefixOf (versions store.old) (versions store.new) }
     ensures kinds { kinds store.new ≡ kinds store.old }
 {
-    match step_parts(alloc, store, work, pair)? {
+    match step_parts(alloc, store, work, &mut front.ahead)? {
         Turn::Clash => Ok(Way::End(false)),
-        Turn::Done => Ok(after_done(waiting)),
-        Turn::On(next) => Ok(Way::On(next, waiting)),
-        Turn::Both(next, later) => {
-            put_waiting(alloc, work, waiting)?;
-            Ok(Way::On(next, Some(later)))
+        Turn::Done => Ok(after_done(front)),
+        Turn::On => Ok(Way::On),
+        Turn::Both => {
+            put_waiting(alloc, work, front.waiting)?;
+            front.waiting = Some(front.ahead.later);
+            Ok(Way::On)
         }
         Turn::Other => {
-            put_waiting(alloc, work, waiting)?;
-            let solved = by_closures(alloc, store, work, pair)?;
+            put_waiting(alloc, work, front.waiting)?;
+            let solved = by_closures(alloc, store, work, front.ahead.next)?;
             Ok(Way::End(solved))
         }
     }

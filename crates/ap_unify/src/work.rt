@@ -2,17 +2,19 @@
 
 ghost use Rattle.std.specs.Prelude.{◌≡◌, ◌<◌, ◌∷◌, [], ◌++◌, false, IfOk, OnOk, map};
 ghost use Rattle.ap_defs.specs.Renaming.{IsBelow};
-ghost use Rattle.ap_defs.specs.Substitution.{occurs, ◌#◌};
+ghost use Rattle.ap_defs.specs.Substitution.{occurs, under, ◌#◌};
 ghost use Rattle.ap_defs.specs.Unification.{apply_rule, bind, fresh_for, next, rule, step};
 ghost use Rattle.ap_perm.specs.Closures.{closure_term};
 ghost use Rattle.ap_store.specs.Triples.{IsPrefixOf, with_binding};
 ghost use Rattle.ap_store.specs.Views.{bindings_of, kinds, meaning_in, present, versions};
 ghost use Rattle.ap_theory.specs.Variables.{IsUnbound};
+ghost use Rattle.ap_unify.specs.Parts.{plain_term};
 ghost use Rattle.ap_unify.specs.Runs.{equation_under, problem_under, stage_under};
 ghost use Rattle.ap_unify.specs.Work.{GoOn, IsMoveFit, IsPairBelow, equations_left, move_under, pair_equation, problems_met, progress_if, work_stage};
 
 use crate::moves::{Move, rule_for};
 use crate::pairs::{ClosurePair, FreshFor, Work};
+use crate::plain::Plain;
 use ap_defs::memory::Memory;
 use ap_defs::terms::{Cond, Name, Var};
 use ap_perm::closures::Closure;
@@ -108,6 +110,32 @@ pub fn bind_var<'a>(
     }
     work.taken.append(&mut taken)?;
     Ok(())
+}
+
+/// Binds a variable to a part, and takes the conditions on it out of the store.
+pub fn bind_plain<'a>(
+    alloc: Global,
+    store: &mut Store<'a>,
+    work: &mut Work<'a>,
+    x: Var,
+    p: Plain<'a>,
+) -> Result<(), Memory>
+    requires made { x.num < (present store.old).next }
+    requires unbound { IsUnbound (bindings_of store.old) x }
+    requires below { IsBelow (present store.old).next (plain_term p) }
+    requires absent { occurs x (under (bindings_of store.old) (plain_term p)) ≡ false }
+    ensures bindings { OnOk result (bindings_of store.new ≡ (with_binding x
+        (under (bindings_of store.old) (plain_term p.entry)) (present store.old)).bindings) }
+    ensures equations { work.new.equations.items ≡ work.old.equations.items }
+    ensures problems { work.new.problems.items ≡ work.old.problems.items }
+    ensures goes_on { OnOk result (GoOn (present store.old) work.old (present store.new) work.new) }
+    ensures past { IsPrefixOf (versions store.old) (versions store.new) }
+    ensures kinds { kinds store.new ≡ kinds store.old }
+{
+    if store.has_conditions(x) {
+        return bind_var(alloc, store, work, x, p.closure(alloc));
+    }
+    store.bind_free(x, p.base, p.end, p.term)
 }
 
 /// What a rule made of the first equation is carried out. It answers false where that is no

@@ -90,19 +90,19 @@ fn is_split(visit: &Visit) -> bool {
 
 #[test]
 fn few_choices_are_searched_whole(rt: HostRuntime) {
-    // 3 choices, where 4 may be made
-    let odd = visit_after(rt.alloc(), &[1; 7], 9);
-    assert!(rt; matches!(&odd, Ok(visit) if is_searched(visit, 4)));
-    // 255 choices, where 256 may be made
-    let even = visit_after(rt.alloc(), &[1; 12], 20);
-    assert!(rt; matches!(&even, Ok(visit) if is_searched(visit, 256)));
+    // 15 choices, where 16 may be made
+    let odd = visit_after(rt.alloc(), &[1; 7], 11);
+    assert!(rt; matches!(&odd, Ok(visit) if is_searched(visit, 16)));
+    // 1,023 choices, where 1,024 may be made
+    let even = visit_after(rt.alloc(), &[1; 12], 22);
+    assert!(rt; matches!(&even, Ok(visit) if is_searched(visit, 1024)));
 }
 
 #[test]
 fn many_choices_are_split(rt: HostRuntime) {
-    let odd = visit_after(rt.alloc(), &[1; 7], 10);
+    let odd = visit_after(rt.alloc(), &[1; 7], 12);
     assert!(rt; matches!(&odd, Ok(visit) if is_split(visit)));
-    let even = visit_after(rt.alloc(), &[1; 12], 21);
+    let even = visit_after(rt.alloc(), &[1; 12], 23);
     assert!(rt; matches!(&even, Ok(visit) if is_split(visit)));
 }
 

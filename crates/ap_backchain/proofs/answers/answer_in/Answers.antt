@@ -4,6 +4,7 @@ use Rattle.ap_defs.specs.Terms.{term_of}
 use Rattle.ap_defs.specs.Types.{locals_of}
 use Rattle.ap_search.specs.Records.{closed_vars}
 use Rattle.ap_store.specs.Views.{kinds}
+use Rattle.ap_backchain.specs.Brought.{vars_of_brought}
 use Rattle.ap_backchain.specs.Unbound.{vars_besides}
 use Rattle.ap_backchain.specs.Views.{state_in}
 use Rattle.ap_backchain.proofs.AnswerLemmas.{answer_is}
@@ -13,7 +14,7 @@ pub returns : goal.returns
 returns c =
     let s = state_in c.args.store.now in
     let others = c.in_ok-others.others.items in
-    answer_is (locals_of c.args.locals.now) s c.args.brought.now others (map term_of c.of.result) c.of-2.result (map typed_var_of c.of-3.result) c.in_ok-others.ensures
+    answer_is (locals_of c.args.locals.now) s (vars_of_brought c.args.brought.now) others (map term_of c.of.result) c.of-2.result (map typed_var_of c.of-3.result) c.in_ok-others.ensures
     (ap (map term_of) c.of.ensures ∙ c.in_ok-binds.ensures ∙ ap (closed_vars s) (c.deref.ensures.value ∙ c.in_ok-free.ensures))
     (c.of-2.ensures ∙ c.in_ok-conds.ensures)
     (ap (map typed_var_of) c.of-3.ensures ∙ c.in_ok-vars-2.ensures

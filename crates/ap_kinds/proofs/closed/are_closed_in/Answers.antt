@@ -8,5 +8,5 @@ returns-then-count-table c e = open_past c.args.table.now c.args.count c.args.ta
 
 pub returns : goal.returns
 returns c =
-    some_open c.are_closed_places.result c.args.table.now c.as_slice.result.now c.args.count c.in_ok-places.places.items c.as_slice.ensures.value c.if-count-table.false
+    some_open c.are_closed_places.result c.args.table.now c.as_slice-2.result.now c.args.count c.in_ok-places.places.items c.as_slice-2.ensures.value c.if-count-table.false
     c.in_ok-places.ensures c.are_closed_places.ensures

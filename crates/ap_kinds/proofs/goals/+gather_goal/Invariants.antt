@@ -13,7 +13,7 @@ decreases-gather_goal l = goal_size (goal_over raw_of l.goal.now)
 
 abbrev pub invariant-loop-rest : goal.invariant-loop-rest
 invariant-loop-rest l = record {
-  all : gather_goal (signature_of l.sig) l.idents (goal_over raw_of l.rest) (system_of l.gathered) ≡ gather_goal (signature_of l.fn.sig) l.fn.idents (goal_over raw_of l.fn.goal) (system_of l.fn.system);
+  all : gather_goal (signature_of l.sig) l.idents (goal_over raw_of l.rest) (system_of l.system) ≡ gather_goal (signature_of l.fn.sig) l.fn.idents (goal_over raw_of l.fn.goal) (system_of l.fn.system);
   smaller : goal_size (goal_over raw_of l.rest) ≤ goal_size (goal_over raw_of l.fn.goal);
 }
 

@@ -8,5 +8,5 @@ use Rattle.ap_kinds.proofs.goals.gather_terms.Given as goal
 
 abbrev pub invariant-loop-i : goal.invariant-loop-i
 invariant-loop-i l =
-    gather_terms (map constructor_of l.constructors) l.idents (map raw_of (drop l.i l.terms)) (map type_of (drop l.i l.types)) (system_of l.gathered)
+    gather_terms (map constructor_of l.constructors) l.idents (map raw_of (drop l.i l.terms)) (map type_of (drop l.i l.types)) (system_of l.system)
     ≡ gather_terms (map constructor_of l.constructors) l.idents (map raw_of l.terms) (map type_of l.types) (system_of l.fn.system)

@@ -15,7 +15,7 @@ decreases-gather_term l = 2 * raw_size (raw_of l.t.now)
 
 abbrev pub invariant-gather_term-loop-rest : goal.invariant-gather_term-loop-rest
 invariant-gather_term-loop-rest l = record {
-  all : gather_term (map constructor_of l.constructors) l.idents (raw_of l.rest) (wanting_of l.at.want) (system_of l.at.system) ≡ gather_term (map constructor_of l.fn.constructors) l.fn.idents (raw_of l.fn.t) (wanting_of l.fn.want) (system_of l.fn.system);
+  all : gather_term (map constructor_of l.constructors) l.idents (raw_of l.rest) (wanting_of l.now) (system_of l.system) ≡ gather_term (map constructor_of l.fn.constructors) l.fn.idents (raw_of l.fn.t) (wanting_of l.fn.want) (system_of l.fn.system);
   smaller : raw_size (raw_of l.rest) ≤ raw_size (raw_of l.fn.t);
 }
 

@@ -11,4 +11,4 @@ returns c =
     let us = shared_terms c.share_derivation.new.table in
     let a = answer_grown ts us c.in_ok-answer.answer c.in_ok-derivation.ensures.grown c.in_ok-answer.ensures.below ∙ c.in_ok-answer.ensures.answer in
     let d = c.in_ok-derivation.ensures.derivation in
-    rw c.in_ok-new.ensures (ap₂ (λ (b : NominalAnswer) (e : NominalDerivation). record { query = c.args.proved.now.query; answer = b; derivation = e }) a d)
+    rw c.in_ok-new.ensures.ok (ap₂ (λ (b : NominalAnswer) (e : NominalDerivation). record { query = c.args.proved.now.query; answer = b; derivation = e }) a d)

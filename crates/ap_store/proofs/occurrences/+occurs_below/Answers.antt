@@ -3,6 +3,7 @@ use Rattle.ap_defs.specs.Renaming.{IsBelow, rename_swap, rename_term, rename_var
 use Rattle.ap_defs.specs.Substitution.{occurs, under}
 use Rattle.ap_defs.specs.Terms.{NominalTerm, pair, term_of}
 use Rattle.ap_defs.specs.declared.terms.Term.{Term}
+use Rattle.ap_store.specs.Founds.{bare_term}
 use Rattle.ap_store.specs.Views.{bindings_of}
 use Rattle.ap_store.proofs.FollowLemmas.{bound_less, bound_occurs, left_less, or_right, right_less, unbound_occurs, visits_in}
 use Rattle.ap_store.proofs.occurrences.+occurs_below.Goals as goal
@@ -72,23 +73,25 @@ loop-rest-smaller t c =
     let s = c.args.store.now in
     let y = rename_var c.loop-rest.base c.in-Susp.y in
     let q = map (rename_swap c.loop-rest.base) c.in-Susp.field-0 in
-    let d = c.in-Some.c in
-    subst (λ (w : Term). visits_in s (rename_term d.base (term_of d.term.now)) < visits_in s (rename_term c.loop-rest.base (term_of w))) (sym c.in-Susp.is) (bound_less s q y d c.in-Some.ensures)
+    let d = c.in-Some.b in
+    let (p, k) = c.in-Some.ensures in
+    subst (λ (w : Term). visits_in s (bare_term d) < visits_in s (rename_term c.loop-rest.base (term_of w))) (sym c.in-Susp.is) (bound_less s q y p (bare_term d) k)
 
 pub loop-rest-preserved : goal.loop-rest-preserved
 loop-rest-preserved t c =
     let s = c.args.store.now in
     let y = rename_var c.loop-rest.base c.in-Susp.y in
     let q = map (rename_swap c.loop-rest.base) c.in-Susp.field-0 in
-    let d = c.in-Some.c in
-    let l : visits_in s (rename_term d.base (term_of d.term.now)) < visits_in s (rename_term c.loop-rest.base (term_of c.loop-rest.rest.now)) =
-    subst (λ (w : Term). visits_in s (rename_term d.base (term_of d.term.now)) < visits_in s (rename_term c.loop-rest.base (term_of w))) (sym c.in-Susp.is) (bound_less s q y d c.in-Some.ensures) in
+    let d = c.in-Some.b in
+    let (p, k) = c.in-Some.ensures in
+    let l : visits_in s (bare_term d) < visits_in s (rename_term c.loop-rest.base (term_of c.loop-rest.rest.now)) =
+    subst (λ (w : Term). visits_in s (bare_term d) < visits_in s (rename_term c.loop-rest.base (term_of w))) (sym c.in-Susp.is) (bound_less s q y p (bare_term d) k) in
     let m = c.loop-rest.invariant.smaller in
     record {
       all = sym (ap (λ (u : Term). occurs c.args.x (under (bindings_of s) (rename_term c.loop-rest.base (term_of u)))) c.in-Susp.is
-          ∙ bound_occurs s c.args.x y q d c.in-Some.ensures)
+          ∙ bound_occurs s c.args.x y q p (bare_term d) k)
           ∙ c.loop-rest.invariant.all;
       fits = let h = c.end_of-end.type_inv in omega (arith, h);
-      below = subst (λ n. IsBelow n (rename_term d.base (term_of d.term.now))) (sym c.end_of-end.ensures) d.below;
+      below = subst (λ n. IsBelow n (bare_term d)) (sym c.end_of-end.ensures) d.below;
       smaller = omega (arith, l, m);
     }

@@ -29,7 +29,7 @@ returns c =
     let ts = shapes_of_nodes c.in_ok-loaded.loaded.nodes.items in
     let ps = c.in_ok-loaded.loaded.pairs.items in
     let extra : map equation_of c.as_slice.result.now ≡ fs = ap (λ (s : List (Shape × Shape)). map equation_of s) c.as_slice.ensures.value ∙ c.in_ok-by_names.ensures in
-    let first : LoadsAll os [] es ts ps = subst (λ (qs : List (ℕ × ℕ)). LoadsAll os qs es ts ps) c.new-pairs.ensures.items c.in_ok-loaded.ensures in
+    let first : LoadsAll os [] es ts ps = subst (λ (qs : List (ℕ × ℕ)). LoadsAll os qs es ts ps) c.in_ok-pairs.ensures.items c.in_ok-loaded.ensures in
     loaded_system c.load_all-2.result es fs c.args.holes ts ps
     (λ us qs k. loads_system es fs c.args.holes os ts us ps qs c.in_ok-nodes.ensures.opened (length_table c.in_ok-nodes.nodes.items ∙ c.in_ok-nodes.ensures.len) first k)
     (subst (λ (gs : List ShapeEquation). IfOk c.load_all-2.result (λ l. LoadsAll ts ps gs (shapes_of_nodes l.nodes.items) l.pairs.items)) extra c.load_all-2.ensures)

@@ -10,7 +10,7 @@ use Rattle.ap_unify.specs.Parts.{IsRuleFor, plain_term}
 use Rattle.ap_unify.specs.Runs.{equation_under, problem_under}
 
 pub returns-then-occurs-clause-turn : goal.returns-then-occurs-clause-turn
-returns-then-occurs-clause-turn c = λ es ps.
+returns-then-occurs-clause-turn c = λ f es ps.
     let s = bindings_of c.args.store.now in
     let t = under s (plain_term c.args.p) in
     let e = ap (λ (u : NominalTerm). occurs c.args.x (under s u)) (sym c.closure-c.ensures) ∙ sym c.occurs.ensures ∙ c.if-occurs.true in
@@ -25,4 +25,4 @@ returns-clause-turn c =
     let s = bindings_of c.args.store.now in
     let t = under s (plain_term c.args.p) in
     let e = ap (λ (u : NominalTerm). occurs c.args.x (under s u)) (sym c.closure-c.ensures) ∙ sym c.occurs.ensures ∙ c.if-occurs.false in
-    if_ok c.bind_part.result (λ turn h. subst (IsRuleFor turn s (bindings_of c.bind_part.new.store)) (sym (bind_if_absent c.args.x t e)) h) c.bind_part.ensures.turn
+    if_ok c.bind_part.result (λ turn h. λ f. subst (IsRuleFor turn f s (bindings_of c.bind_part.new.store)) (sym (bind_if_absent c.args.x t e)) (h f)) c.bind_part.ensures.turn

@@ -8,24 +8,36 @@ use Rattle.ap_unify.specs.Parts.{IsRuleFor, plain_term}
 pub returns-in-Form-Free-clause-turn : goal.returns-in-Form-Free-clause-turn
 returns-in-Form-Free-clause-turn c =
     let s = bindings_of c.args.store.now in
-    let l = plain_term c.args.pair.left in
-    let r = plain_term c.args.pair.right in
+    let l = plain_term c.args.ahead.now.next.left in
+    let r = plain_term c.args.ahead.now.next.right in
     let y = c.in-Form-Free.y in
     if_ok c.bind_unless_occurs.result
-    (λ turn h. subst (IsRuleFor turn s (bindings_of c.bind_unless_occurs.new.store))
-    (bound_right s y l r (head_form s l c.head_of.result c.head_of.ensures c.in-Form-Free.is-0) (head_free s r c.head_of-2.result y c.head_of-2.ensures c.in-Form-Free.is-1)) h)
+    (λ turn h. subst (IsRuleFor turn c.args.ahead.now s (bindings_of c.bind_unless_occurs.new.store))
+    (bound_right s y l r (head_form s l c.args.left c.requires.left c.in-Form-Free.is-0) (head_free s r c.args.right y c.requires.right c.in-Form-Free.is-1)) (h c.args.ahead.now))
     c.bind_unless_occurs.ensures.turn
 
 pub returns-in-Free-Form-clause-turn : goal.returns-in-Free-Form-clause-turn
 returns-in-Free-Form-clause-turn c =
     let s = bindings_of c.args.store.now in
-    let l = plain_term c.args.pair.left in
-    let r = plain_term c.args.pair.right in
+    let l = plain_term c.args.ahead.now.next.left in
+    let r = plain_term c.args.ahead.now.next.right in
     let x = c.in-Free-Form.x in
     if_ok c.bind_unless_occurs-in-Free-Form.result
-    (λ turn h. subst (IsRuleFor turn s (bindings_of c.bind_unless_occurs-in-Free-Form.new.store))
-    (bound_left s x l r (head_free s l c.head_of.result x c.head_of.ensures c.in-Free-Form.is-0) (head_form s r c.head_of-2.result c.head_of-2.ensures c.in-Free-Form.is-1)) h)
+    (λ turn h. subst (IsRuleFor turn c.args.ahead.now s (bindings_of c.bind_unless_occurs-in-Free-Form.new.store))
+    (bound_left s x l r (head_free s l c.args.left x c.requires.left c.in-Free-Form.is-0) (head_form s r c.args.right c.requires.right c.in-Free-Form.is-1)) (h c.args.ahead.now))
     c.bind_unless_occurs-in-Free-Form.ensures.turn
 
 pub returns-in-Form-Form-clause-below : goal.returns-in-Form-Form-clause-below
 returns-in-Form-Form-clause-below c = c.forms.ensures.below (present c.args.store.now).next c.requires.below
+
+pub returns-in-Form-Free-clause-below : goal.returns-in-Form-Free-clause-below
+returns-in-Form-Free-clause-below c = if_ok c.bind_unless_occurs.result (λ turn h. h c.args.ahead.now) c.bind_unless_occurs.ensures.below
+
+pub returns-in-Free-Form-clause-below : goal.returns-in-Free-Form-clause-below
+returns-in-Free-Form-clause-below c = if_ok c.bind_unless_occurs-in-Free-Form.result (λ turn h. h c.args.ahead.now) c.bind_unless_occurs-in-Free-Form.ensures.below
+
+pub returns-in-Free-Free-clause-turn : goal.returns-in-Free-Free-clause-turn
+returns-in-Free-Free-clause-turn c = if_ok c.variables.result (λ turn h. h c.args.ahead.now) c.variables.ensures.turn
+
+pub returns-in-Free-Free-clause-below : goal.returns-in-Free-Free-clause-below
+returns-in-Free-Free-clause-below c = if_ok c.variables.result (λ turn h. h c.args.ahead.now) c.variables.ensures.below

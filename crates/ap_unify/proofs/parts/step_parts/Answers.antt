@@ -8,5 +8,5 @@ use Rattle.ap_unify.specs.Parts.{IsRuleFor}
 pub returns-clause-turn : goal.returns-clause-turn
 returns-clause-turn c =
     if_ok c.by_heads.result
-    (λ turn h. subst (IsRuleFor turn (bindings_of c.args.store.now) (bindings_of c.by_heads.new.store)) (ap₂ rule c.followed-left.ensures.meaning c.followed-right.ensures.meaning) h)
+    (λ turn h. subst (IsRuleFor turn c.by_heads.new.ahead (bindings_of c.args.store.now) (bindings_of c.by_heads.new.store)) (ap₂ rule c.headed-left.ensures.meaning c.headed-right.ensures.meaning) h)
     c.by_heads.ensures.turn

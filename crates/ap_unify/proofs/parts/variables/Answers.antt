@@ -22,15 +22,15 @@ bind_part-requires-else-x-y-2-clause-absent c =
 pub returns-then-x-y-clause-turn : goal.returns-then-x-y-clause-turn
 returns-then-x-y-clause-turn c =
     let s = bindings_of c.args.store.now in
-    carried_drop s (rule_of s c.args.pair)
+    λ f. carried_drop s (rule_of s c.args.pair)
     (one_variable s c.args.x c.args.y (plain_term c.args.pair.left) (plain_term c.args.pair.right) c.requires.left c.requires.right c.requires.left_unbound c.requires.right_unbound c.if-x-y.true)
 
 pub returns-then-x-y-2-clause-turn : goal.returns-then-x-y-2-clause-turn
 returns-then-x-y-2-clause-turn c =
     let s = bindings_of c.args.store.now in
     if_ok c.bind_part.result
-    (λ turn h. subst (IsRuleFor turn s (bindings_of c.bind_part.new.store))
-    (left_older s c.args.x c.args.y (plain_term c.args.pair.left) (plain_term c.args.pair.right) c.requires.left c.requires.right c.requires.left_unbound c.requires.right_unbound c.if-x-y-2.true) h)
+    (λ turn h. λ f. subst (IsRuleFor turn f s (bindings_of c.bind_part.new.store))
+    (left_older s c.args.x c.args.y (plain_term c.args.pair.left) (plain_term c.args.pair.right) c.requires.left c.requires.right c.requires.left_unbound c.requires.right_unbound c.if-x-y-2.true) (h f))
     c.bind_part.ensures.turn
 
 pub returns-else-x-y-2-clause-turn : goal.returns-else-x-y-2-clause-turn
@@ -38,6 +38,6 @@ returns-else-x-y-2-clause-turn c =
     let s = bindings_of c.args.store.now in
     let l : c.args.y.num < c.args.x.num = omega (arith, c.if-x-y.false, c.if-x-y-2.false) in
     if_ok c.bind_part-else-x-y-2.result
-    (λ turn h. subst (IsRuleFor turn s (bindings_of c.bind_part-else-x-y-2.new.store))
-    (right_older s c.args.x c.args.y (plain_term c.args.pair.left) (plain_term c.args.pair.right) c.requires.left c.requires.right c.requires.left_unbound c.requires.right_unbound l) h)
+    (λ turn h. λ f. subst (IsRuleFor turn f s (bindings_of c.bind_part-else-x-y-2.new.store))
+    (right_older s c.args.x c.args.y (plain_term c.args.pair.left) (plain_term c.args.pair.right) c.requires.left c.requires.right c.requires.left_unbound c.requires.right_unbound l) (h f))
     c.bind_part-else-x-y-2.ensures.turn

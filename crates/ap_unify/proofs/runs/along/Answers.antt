@@ -13,18 +13,20 @@ pub returns-in-End-clause-stage : goal.returns-in-End-clause-stage
 returns-in-End-clause-stage c =
     let s = bindings_of c.next_way.new.store in
     let w = c.next_way.new.work in
-    let before = stage_of (bindings_of c.going.store) c.going.pair c.going.waiting c.going.work in
+    let f = c.next_way.new.front in
+    let before = stage_of (bindings_of c.going.store) c.going.front.ahead.next c.going.front.waiting c.going.work in
     let p = progress_if c.in-End.goes_on (work_stage s w) in
-    let e : p ≡ step before = subst (λ x. progress_to x s w ≡ step before) c.in-End.is c.in_ok-goes_on.ensures.stage in
+    let e : p ≡ step before = subst (λ x. progress_to x s f w ≡ step before) c.in-End.is c.in_ok-goes_on.ensures.stage in
     c.going.invariant.leads p (leads_now before p (sym e))
 
 pub going-smaller : goal.going-smaller
 going-smaller c =
     let s = bindings_of c.next_way.new.store in
     let w = c.next_way.new.work in
-    let before = stage_of (bindings_of c.going.store) c.going.pair c.going.waiting c.going.work in
-    let after = stage_of s c.in-On.next c.in-On.later w in
-    let e : next after ≡ step before = subst (λ x. progress_to x s w ≡ step before) c.in-On.is c.in_ok-goes_on.ensures.stage in
+    let f = c.next_way.new.front in
+    let before = stage_of (bindings_of c.going.store) c.going.front.ahead.next c.going.front.waiting c.going.work in
+    let after = stage_of s f.ahead.next f.waiting w in
+    let e : next after ≡ step before = subst (λ x. progress_to x s f w ≡ step before) c.in-On.is c.in_ok-goes_on.ensures.stage in
     let k : steps_left before ≡ 1 + steps_left after = steps_left_next before after (sym e) in
     omega arith
 
@@ -35,15 +37,16 @@ going-preserved c =
     let d = present c.next_way.new.store in
     let s = bindings_of c.next_way.new.store in
     let w = c.next_way.new.work in
-    let before = stage_of (bindings_of c.going.store) c.going.pair c.going.waiting c.going.work in
-    let after = stage_of s c.in-On.next c.in-On.later w in
-    let e : next after ≡ step before = subst (λ x. progress_to x s w ≡ step before) c.in-On.is c.in_ok-goes_on.ensures.stage in
+    let f = c.next_way.new.front in
+    let before = stage_of (bindings_of c.going.store) c.going.front.ahead.next c.going.front.waiting c.going.work in
+    let after = stage_of s f.ahead.next f.waiting w in
+    let e : next after ≡ step before = subst (λ x. progress_to x s f w ≡ step before) c.in-On.is c.in_ok-goes_on.ensures.stage in
     let n = c.in_ok-goes_on.ensures.goes_on.next in
-    let below : IsWayBelow b.next (ways.On c.in-On.next c.in-On.later) = subst (IsWayBelow b.next) c.in-On.is c.in_ok-goes_on.ensures.below in
+    let below : IsWayBelow b.next ways.On f = subst (λ x. IsWayBelow b.next x f) c.in-On.is c.in_ok-goes_on.ensures.below in
     record {
       leads = λ p h. c.going.invariant.leads p (leads_on before after p (sym e) h);
-      pair_below = subst (λ m. AreBelowBoth m c.in-On.next) (sym n) below.0;
-      waiting_below = subst (λ m. IsWaitingBelow m c.in-On.later) (sym n) below.1;
+      pair_below = subst (λ m. AreBelowBoth m f.ahead.next) (sym n) below.0;
+      waiting_below = subst (λ m. IsWaitingBelow m f.waiting) (sym n) below.1;
       goes_on = go_on_on a b d c.args.work.now c.going.work w c.going.invariant.goes_on c.in_ok-goes_on.ensures.goes_on;
       past = goes_on_on (versions c.args.store.now) (versions c.going.store) (versions c.next_way.new.store) c.going.invariant.past c.next_way.ensures.past;
       kinds = c.next_way.ensures.kinds ∙ c.going.invariant.kinds;

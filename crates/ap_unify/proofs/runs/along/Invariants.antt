@@ -10,13 +10,13 @@ use Rattle.ap_unify.proofs.runs.along.Given as goal
 -- what the stage leads to, the first one leads to
 abbrev pub invariant-going : goal.invariant-going
 invariant-going l = record {
-  leads : (p : Progress) → LeadsTo (stage_of (bindings_of l.store) l.pair l.waiting l.work) p → LeadsTo (stage_of (bindings_of l.initial.store) l.initial.pair l.initial.waiting l.initial.work) p;
-  pair_below : AreBelowBoth (present l.store).next l.pair;
-  waiting_below : IsWaitingBelow (present l.store).next l.waiting;
+  leads : (p : Progress) → LeadsTo (stage_of (bindings_of l.store) l.front.ahead.next l.front.waiting l.work) p → LeadsTo (stage_of (bindings_of l.initial.store) l.initial.front.ahead.next l.initial.front.waiting l.initial.work) p;
+  pair_below : AreBelowBoth (present l.store).next l.front.ahead.next;
+  waiting_below : IsWaitingBelow (present l.store).next l.front.waiting;
   goes_on : GoOn (present l.initial.store) l.initial.work (present l.store) l.work;
   past : IsPrefixOf (versions l.initial.store) (versions l.store);
   kinds : kinds l.store ≡ kinds l.initial.store;
 }
 
 abbrev pub decreases-going : goal.decreases-going
-decreases-going l = steps_left (stage_of (bindings_of l.store) l.pair l.waiting l.work)
+decreases-going l = steps_left (stage_of (bindings_of l.store) l.front.ahead.next l.front.waiting l.work)

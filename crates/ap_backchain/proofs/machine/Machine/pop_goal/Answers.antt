@@ -3,6 +3,7 @@ use Rattle.std.specs.Prelude.{Option, Some, None, IfNone, IfSome}
 use Rattle.ap_store.specs.Views.{present}
 use Rattle.ap_search.specs.Continuations.{Waiting}
 use Rattle.ap_backchain.specs.Below.{AreWaitingBelow}
+use Rattle.ap_backchain.specs.Brought.{vars_of_brought}
 use Rattle.ap_backchain.specs.Positions.{Position}
 use Rattle.ap_backchain.specs.Views.{state_in, waiting_of}
 use Rattle.ap_backchain.specs.Stacks.{waiting_in}
@@ -26,4 +27,4 @@ pub returns-clause-none : goal.returns-clause-none
 returns-clause-none c =
     let b = c.args.self.now in
     none_rest c.pop.result (waiting_in b.goals) (waiting_in c.pop.new.self)
-    (λ ws. record { waiting = ws; path = b.path.items; state = state_in b.store; brought = b.brought.items }) c.pop.ensures.none
+    (λ ws. record { waiting = ws; path = b.path.items; state = state_in b.store; brought = vars_of_brought b.brought.items }) c.pop.ensures.none

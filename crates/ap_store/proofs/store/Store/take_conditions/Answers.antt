@@ -1,4 +1,4 @@
-use Rattle.std.proofs.Common.{◌≡◌, [], List, length, sym, ap, ap₂, ◌∙◌, arith}
+use Rattle.std.proofs.Common.{◌≡◌, [], List, length, sym, ap, ◌∙◌, arith}
 use Rattle.std.proofs.lemmas.List.{nil_from_length}
 use Rattle.std.specs.Global.{Global}
 use Rattle.std.specs.Prelude.{Vec}
@@ -9,7 +9,6 @@ use Rattle.ap_store.specs.Changes.{empty, present_after}
 use Rattle.ap_store.specs.Slots.{changes_in, held_in}
 use Rattle.ap_store.specs.Views.{changes, present}
 use Rattle.ap_store.specs.declared.changes.Entry.{Entry}
-use Rattle.ap_store.specs.declared.changes.Noted.{Noted}
 use Rattle.ap_store.proofs.HeldLemmas.{held_within, on_var_set, some_more}
 use Rattle.ap_store.proofs.StoreLemmas.{none_taken}
 use Rattle.ap_store.proofs.store.Store.take_conditions.Goals as goal
@@ -30,8 +29,8 @@ returns-then-is_empty-clause-present c =
     let n = number_same _ 0 (sym c.is_empty.ensures ∙ c.if-is_empty.true) in
     let e : c.held_of-conds.result.now ≡ [] = nil_from_length c.held_of-conds.result.now (omega (arith, n)) in
     let f : c.held_of-conds.result.now ≡ held_in s.held.items x.num = c.held_of-conds.ensures ∙ ap (λ (vs : List (Vec Cond Global)). held_in vs x.num) c.deref.ensures.value in
-    none_taken (present s) (present_after (changes_in s.table.items c.reserve.new.self.items c.reserve-2.new.self.items) empty) x
-    (ap₂ (λ (es : List Entry) (ns : List Noted). present_after (changes_in s.table.items es ns) empty) c.reserve.ensures.items c.reserve-2.ensures.items)
+    none_taken (present s) (present_after (changes_in s.table.items c.reserve.new.self.items s.noted.items) empty) x
+    (ap (λ (es : List Entry). present_after (changes_in s.table.items es s.noted.items) empty) c.reserve.ensures.items)
     (sym (on_var_set s.held.items (changes s) x s.holds s.stored.0) ∙ ap (λ cs. add_conds cs []) (sym f ∙ e))
 
 pub note_taken-requires-clause-held : goal.note_taken-requires-clause-held
