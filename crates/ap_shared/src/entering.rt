@@ -55,7 +55,8 @@ fn first_line(terms: &SharedTerms, lines: &mut Vec<usize>) -> Option<usize>
 /// What the line of a pair says, by the lines of its parts, which are taken off.
 fn pair_entry(terms: &SharedTerms, lines: &mut Vec<usize>) -> Option<Entry>
     requires { AreLinesBelow (length (shared_terms terms.now)) (reverse lines.old.items) }
-    ensures value { option_map (λ e. (entry_term (shared_terms terms.now) e, reverse lines.new.items)) result
+    ensures value { option_map
+        (λ e. (entry_term (shared_terms terms.now) e, reverse lines.new.items)) result
         ≡ pair_by (shared_terms terms.now) (reverse lines.old.items) }
     ensures behind { IfSome result (IsBehind (length (shared_terms terms.now))) }
     ensures below { IfSome result (λ e.

@@ -34,7 +34,8 @@ pub enum SharedNode {
 
 /// The first derivation, taken off.
 fn first_derivation(stack: &mut Vec<SharedDerivation>) -> Option<SharedDerivation>
-    ensures { option_map (λ d. (derivation_lines d, stacked derivation_lines stack.new.items)) result
+    ensures { option_map
+        (λ d. (derivation_lines d, stacked derivation_lines stack.new.items)) result
         ≡ forms.first (stacked derivation_lines stack.old.items) }
 {
     stack.pop()
