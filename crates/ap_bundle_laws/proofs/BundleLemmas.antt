@@ -23,7 +23,7 @@ use Rattle.ap_bundle.specs.LineForms.{after_head, first_form, query_form, var_fo
 use Rattle.ap_bundle.specs.Readers.{Unread, Wrong, Reader, ◌>>=◌, unended, read_line, read_form, repeated}
 use Rattle.ap_bundle.specs.Written.{head_line, counted_line, listed, var_line, cond_line, term_line, node_lines, answer_lines, proved_lines, text_lines, proved_part, written}
 use Rattle.ap_bundle.specs.Reading.{read_count, read_listed, read_term, read_derivation, read_answer, read_proved, read_text, read_last, read_rest, read_version, read_at, room_at_first, TableReader}
-use Rattle.ap_bundle.specs.TableForms.{read_shared}
+use Rattle.ap_bundle.specs.TableForms.{read_cited, read_shared}
 use Rattle.ap_bundle_laws.specs.Laws.{Each, IsListOf, FitsVar, FitsCond, FitsTerm, FitsAnswer, FitsDerivation, FitsProved, FitsBundle}
 use Rattle.ap_bundle_laws.proofs.GoodLemmas.{at, IsGood, good_then, good_as, good_repeated, room_for, room_append, room_free, free, parted}
 use Rattle.ap_bundle_laws.proofs.LineLemmas.{good_line, good_count, good_query, good_var, good_cond, good_term, good_end}
@@ -196,6 +196,9 @@ again b h = let last = last_bundle read_shared room_at_first b h in last.whole
 
 pub prefix : (b : NominalBundle) (v u : List ℕ) → FitsBundle b → written b ≡ v ++ u → 0 < length u → read_at read_shared (at v room_at_first) ≡ Err unended
 prefix b v u h e some = let last = last_bundle read_shared room_at_first b h in last.part v u e some
+
+pub cited_again : (b : NominalBundle) → FitsBundle b → read_at read_cited (at (written b) room_at_first) ≡ Ok b
+cited_again b h = let last = last_bundle read_cited room_at_first b h in last.whole
 
 whole_taken : (v : List ℕ) → take (length v) v ≡ v
 whole_taken [] = refl

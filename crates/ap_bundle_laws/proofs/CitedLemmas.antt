@@ -222,12 +222,15 @@ ends_version : (v : Version) → Ends (read_version read_shared v) (read_version
 ends_version One = ends_rest read_term read_term (follows_form Term term_form)
 ends_version Two = ends_shared_rest
 
+-- the text here, by whether the bytes end before its LF, and whether it is there
+abbrev text_here : Bool → Bool → ℕ → Unread → Result (List ℕ × Unread) Wrong
+text_here b c k p = if b then Err unended else (if c then Ok (take k p.rest, record p { rest = drop (k + 1) p.rest }) else Err (wrong Header (record p { rest = drop k p.rest })))
+
 follows_text : (k : ℕ) → Follows (read_text k) (read_text k)
 unfolding read_text
 follows_text k n p x low e = go (nat_le (length p.rest) k) (is_lf (slice_index p.rest k)) e
   where
-    go : (b c : Bool) → (if b then Err unended else (if c then Ok (take k p.rest, record p { rest = drop (k + 1) p.rest }) else Err (wrong Header (record p { rest = drop k p.rest })))) ≡ Ok x
-        → ((if b then Err unended else (if c then Ok (take k p.rest, record (with_room n p) { rest = drop (k + 1) p.rest }) else Err (wrong Header (record (with_room n p) { rest = drop k p.rest })))) ≡ Ok (x.0, with_room n x.1)) × Low x.1
+    go : (b c : Bool) → text_here b c k p ≡ Ok x → (text_here b c k (with_room n p) ≡ Ok (x.0, with_room n x.1)) × Low x.1
     go true c h = err_is _ unended x h
     go false true h = gives n (take k p.rest, record p { rest = drop (k + 1) p.rest }) x low h
     go false false h = err_is _ (wrong Header (record p { rest = drop k p.rest })) x h

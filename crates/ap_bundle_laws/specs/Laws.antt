@@ -17,7 +17,7 @@ use Rattle.ap_bundle.specs.declared.version.Version.{Version}
 use Rattle.ap_bundle.specs.declared.version.Version.TheVariants.{One, Two}
 use Rattle.ap_bundle.specs.Bundles.{NominalProved, NominalBundle}
 use Rattle.ap_bundle.specs.Readers.{is_lf}
-use Rattle.ap_bundle.specs.Tables.{size_of_all, terms_of}
+use Rattle.ap_bundle.specs.Tables.{expanded_size, size_of_all, table_of, terms_of}
 use Rattle.ap_bundle.specs.Written.{written, written_shared}
 use Rattle.ap_bundle.specs.Reading.{cited_reading, reading, room_at_first}
 
@@ -95,10 +95,28 @@ abbrev pub SharedPrefixesAreUnended : Type 0
 SharedPrefixesAreUnended = (b : NominalBundle) (v u : List ℕ) → FitsBundle b → HasRoom b → written_shared b ≡ v ++ u → 0 < length u
     → reading v ≡ Err (record { line = 1 + count_by is_lf v; kind = Unended })
 
+-- each term of the bundle, in full, is as large as may be read, and the lines of their table can be numbered
+pub record HasRoomEach (b : NominalBundle) : Type 0 where
+  pub few : length (table_of b.proved) < 2 ^ 64
+  pub small : Each (λ t. expanded_size t ≤ room_at_first) (flat_map terms_of b.proved)
+
+-- what is written in version 2 of a bundle with such terms is read where each may be as large
+abbrev pub SharedIsCited : Type 0
+SharedIsCited = (b : NominalBundle) → FitsBundle b → HasRoomEach b → cited_reading (written_shared b) ≡ Ok b
+
+abbrev pub CitedPrefixesAreUnended : Type 0
+CitedPrefixesAreUnended = (b : NominalBundle) (v u : List ℕ) → FitsBundle b → HasRoomEach b → written_shared b ≡ v ++ u → 0 < length u
+    → cited_reading v ≡ Err (record { line = 1 + count_by is_lf v; kind = Unended })
+
 -- the terms of the bundle are as large as may be read in this version
 abbrev pub HasRoomIn : Version → NominalBundle → Type 0
 HasRoomIn One b = Unit {0}
 HasRoomIn Two b = HasRoom b
+
+-- the same where each may be as large
+abbrev pub HasRoomEachIn : Version → NominalBundle → Type 0
+HasRoomEachIn One b = Unit {0}
+HasRoomEachIn Two b = HasRoomEach b
 
 -- what is read is read where each term may be as large as all together
 abbrev pub ReadIsCited : Type 0
