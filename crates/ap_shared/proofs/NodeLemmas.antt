@@ -55,7 +55,7 @@ module _ {S T : Type 0} (f : S → T) where
   onto_map (new a) [] = refl
   onto_map (new a) (d ∷ ds) = refl
 
-  derivations_map : (ns : List (Node S)) → derivations (map (map_node f) ns) ≡ option_map (map (map_terms f)) (derivations ns)
+  pub derivations_map : (ns : List (Node S)) → derivations (map (map_node f) ns) ≡ option_map (map (map_terms f)) (derivations ns)
   derivations_map [] = refl
   derivations_map (n ∷ ns) =
       ap (λ o. o >>= node_onto (map_node f n)) (derivations_map ns)

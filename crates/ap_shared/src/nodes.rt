@@ -183,7 +183,7 @@ fn node_onto(
 
 /// The one derivation whose nodes these are.
 #[tactic(auto, unfolding(ap_bundle::specs::Nodes::derivation_from))]
-pub(crate) fn derivation_from(
+pub fn derivation_from(
     alloc: Global,
     nodes: Vec<SharedNode>,
 ) -> Result<Option<SharedDerivation>, Memory>
