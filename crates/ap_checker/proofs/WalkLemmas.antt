@@ -15,13 +15,13 @@ use Rattle.ap_defs.specs.Types.{NominalKind}
 use Rattle.ap_checks.specs.Checks.{Refusal, refusal_of_rule, tests_by_clause, node_count, first_refusal, no, refusal, reported, verdict, with_clause}
 use Rattle.ap_checks.specs.OpenEnvironments.{OpenEnvironment, open_environment, put_in}
 use Rattle.ap_checker.specs.declared.rules.Rule.{Rule}
-use Rattle.ap_checker.specs.declared.scope.Standing.{Standing}
+use Rattle.ap_judge.specs.declared.scope.Standing.{Standing}
 use Rattle.ap_checker.specs.declared.walk.Pending.{Pending}
 use Rattle.ap_checker.specs.declared.walk.Obligation.{Obligation}
 use Rattle.ap_checker.specs.declared.walk.Walk.{Walk}
 use Rattle.ap_checker.specs.Rules.{rule_number, node_refused}
-use Rattle.ap_checker.specs.Scopes.{environment_of, environment_with, nothing_put}
-use Rattle.ap_checker.proofs.ScopeLemmas.{environment_append}
+use Rattle.ap_judge.specs.Scopes.{environment_of, environment_with, nothing_put}
+use Rattle.ap_judge.proofs.ScopeLemmas.{environment_append}
 use Rattle.ap_checker.specs.Walks.{ArePendingMarked, ChecksOn, IsOnWay, IsVisited, derivation_at, first_left, goal_at, kinds_at, pending_of, nodes_left, pending_at, refusal_at}
 
 take-whole : {A : Type 0} (xs : List A) → take (length xs) xs ≡ xs

@@ -5,7 +5,7 @@ use Rattle.ap_defs.specs.Goals.{program_of, query_of}
 use Rattle.ap_checks.specs.Checks.{no}
 use Rattle.ap_checker.specs.declared.walk.Walk.{Walk}
 use Rattle.ap_checker.specs.Tables.{IsWalkIn}
-use Rattle.ap_checker.specs.Typings.{AreTypesKnown}
+use Rattle.ap_judge.specs.Typings.{AreTypesKnown}
 use Rattle.ap_checker.specs.Walks.{refusal_on}
 use Rattle.ap_checker.proofs.TableLemmas.{next_of, walk_next}
 use Rattle.ap_checker.proofs.WalkLemmas.{turn_goes_on, turn_refuses}

@@ -10,10 +10,10 @@ use Rattle.ap_checks.specs.Checks.{first_refusal, refusal}
 use Rattle.ap_checks.specs.OpenEnvironments.{open_environment, put_in}
 use Rattle.ap_shared.specs.SharedPlaces.{given_terms}
 use Rattle.ap_shared.specs.SharedViews.{shared_answer, shared_derivation, shared_terms}
-use Rattle.ap_checker.specs.declared.cited.CitedTerms.TheVariants as all
-use Rattle.ap_checker.specs.declared.scope.Standing.TheVariants as code
+use Rattle.ap_judge.specs.declared.cited.CitedTerms.TheVariants as all
+use Rattle.ap_judge.specs.declared.scope.Standing.TheVariants as code
 use Rattle.ap_checker.specs.Rules.{node_refused}
-use Rattle.ap_checker.specs.Scopes.{environment_of}
+use Rattle.ap_judge.specs.Scopes.{environment_of}
 use Rattle.ap_checker.proofs.WalkLemmas.{atom_by, goes_brought}
 use Rattle.ap_checker.proofs.visits.visit_atom.Goals as goal
 

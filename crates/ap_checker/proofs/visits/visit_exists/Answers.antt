@@ -7,8 +7,8 @@ use Rattle.ap_shared.specs.Shared.{shared_at}
 use Rattle.ap_shared.specs.SharedViews.{shared_answer, shared_terms}
 use Rattle.ap_defs.specs.Types.{constructor_of}
 use Rattle.ap_checks.specs.TypeTests.{has_kind, type_beside}
-use Rattle.ap_checker.specs.declared.cited.Cited.TheVariants as cited
-use Rattle.ap_checker.specs.declared.scope.Standing.TheVariants as code
+use Rattle.ap_judge.specs.declared.cited.Cited.TheVariants as cited
+use Rattle.ap_judge.specs.declared.scope.Standing.TheVariants as code
 use Rattle.ap_checker.specs.Walks.{derivation_at, goal_at, kinds_at}
 use Rattle.ap_checker.proofs.NodeLemmas.{test_goes_on}
 use Rattle.ap_checker.proofs.WalkLemmas.{goes_brought}
