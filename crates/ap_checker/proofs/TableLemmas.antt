@@ -1,10 +1,11 @@
 -- What is left of a walk stays of its table.
-use Rattle.std.proofs.Common.{◌≡◌, ℕ, suc, List, [], ◌∷◌, ◌++◌, take, subst, arith}
+use Rattle.std.proofs.Common.{◌≡◌, ℕ, List, [], ◌∷◌, ◌++◌, take, subst}
 use Rattle.std.specs.List.{All}
-use Rattle.std.proofs.lemmas.List.Elements.{All-nil, All-cons, All-push, All-same, All-take}
+use Rattle.std.proofs.lemmas.List.Elements.{All-push, All-same, All-take}
 use Rattle.ap_shared.specs.declared.arena.SharedTerms.{SharedTerms}
 use Rattle.ap_judge.specs.declared.scope.Standing.{Standing}
 use Rattle.ap_judge.specs.Tables.{IsStandingIn}
+use Rattle.ap_judge.proofs.TableLemmas.{last_all}
 use Rattle.ap_checker.specs.declared.walk.Pending.{Pending}
 use Rattle.ap_checker.specs.declared.walk.Walk.{Walk}
 use Rattle.ap_checker.specs.Tables.{IsPendingIn, IsWalkIn}
@@ -18,13 +19,6 @@ module _ (ts : SharedTerms) (v w : Walk) where
   pub walk_put : (t : Pending) → w.standing.items ≡ v.standing.items → w.pending.items ≡ v.pending.items ++ t ∷ [] → IsPendingIn ts t → IsWalkIn ts v → IsWalkIn ts w
   walk_put t e f k h =
       (All-same (IsStandingIn ts) w.standing.items v.standing.items e h.0, All-same (IsPendingIn ts) w.pending.items (v.pending.items ++ t ∷ []) f (All-push (IsPendingIn ts) v.pending.items t h.1 k))
-
--- the last of a list, and those before it
-pub last_all : {A : Type 0} (P : A → Type 0) (xs : List A) (x : A) → All P (xs ++ x ∷ []) → All P xs × P x
-last_all P [] x h = (All-nil P, h 0 x (omega arith))
-last_all P (y ∷ xs) x h =
-    let rest = last_all P xs x (λ k d l. h (suc k) d (omega (arith, l))) in
-    (All-cons P y xs (h 0 y (omega arith)) rest.0, rest.1)
 
 -- the node that is next, where what stands after its mark was cut off
 module _ (ts : SharedTerms) (v w : Walk) (t : Pending) (n : ℕ) (top : v.pending.items ≡ w.pending.items ++ t ∷ []) (cut : w.standing.items ≡ take n v.standing.items) (h : IsWalkIn ts v) where

@@ -1,8 +1,8 @@
 -- What stands for identifiers, and what is left to compare, stays of its table.
-use Rattle.std.proofs.Common.{◌≡◌, ℕ, length, List, [], ◌∷◌, ◌++◌, get_or, sym, subst, ◌<◌}
+use Rattle.std.proofs.Common.{◌≡◌, ℕ, suc, length, List, [], ◌∷◌, ◌++◌, get_or, sym, subst, arith, ◌<◌}
 use Rattle.std.specs.List.{All}
 use Rattle.std.specs.Prelude.{Option, Some, None, IfSome}
-use Rattle.std.proofs.lemmas.List.Elements.{All-get_or, All-push, All-same}
+use Rattle.std.proofs.lemmas.List.Elements.{All-get_or, All-nil, All-cons, All-push, All-same}
 use Rattle.ap_shared.specs.declared.arena.SharedTerms.{SharedTerms}
 use Rattle.ap_judge.specs.declared.closures.Closure.{Closure}
 use Rattle.ap_judge.specs.declared.equality.Compared.{Compared}
@@ -22,3 +22,10 @@ pub compared_put : (ts : SharedTerms) (ps qs : List Compared) (t u : Closure) (n
     → All (IsComparedIn ts) ps → All (IsComparedIn ts) qs
 compared_put ts ps qs t u n e h k l =
     All-same (IsComparedIn ts) qs (ps ++ (record { left = t; right = u; mark = n }) ∷ []) e (All-push (IsComparedIn ts) ps (record { left = t; right = u; mark = n }) l (h, k))
+
+-- the last of a list, and those before it
+pub last_all : {A : Type 0} (P : A → Type 0) (xs : List A) (x : A) → All P (xs ++ x ∷ []) → All P xs × P x
+last_all P [] x h = (All-nil P, h 0 x (omega arith))
+last_all P (y ∷ xs) x h =
+    let rest = last_all P xs x (λ k d l. h (suc k) d (omega (arith, l))) in
+    (All-cons P y xs (h 0 y (omega arith)) rest.0, rest.1)
