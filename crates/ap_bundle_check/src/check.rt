@@ -35,7 +35,14 @@ fn verdict_on_shared(
         ≡ verdict_on_proved (program_of program.now) (shared_proved proved.now)) }
 {
     let terms = proved.terms.as_ref();
-    verify(alloc, program, proved.query, terms, &proved.answer, &proved.derivation)
+    verify(
+        alloc,
+        program,
+        proved.query,
+        terms,
+        &proved.answer,
+        &proved.derivation,
+    )
 }
 
 /// The verdict on a derivation, which is given with its answer.
@@ -61,8 +68,11 @@ fn first_refused(
         match verdict_on(alloc, program, &proved[i])? {
             Verdict::Yes => {}
             Verdict::No { node, rule } => {
-                let number = i + 1;
-                return Ok(Some(Refusal { number, node, rule }));
+                return Ok(Some(Refusal {
+                    number: i + 1,
+                    node,
+                    rule,
+                }));
             }
         }
     }

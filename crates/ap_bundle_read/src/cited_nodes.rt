@@ -155,7 +155,11 @@ fn children(node: &SharedNode) -> u64
     match node {
         SharedNode::Eq | SharedNode::Fresh | SharedNode::True => 0,
         SharedNode::And => 2,
-        SharedNode::Atom(_) | SharedNode::Left | SharedNode::Right | SharedNode::Exists(_) | SharedNode::New(_) => 1,
+        SharedNode::Atom(_)
+        | SharedNode::Left
+        | SharedNode::Right
+        | SharedNode::Exists(_)
+        | SharedNode::New(_) => 1,
     }
 }
 
