@@ -10,10 +10,13 @@ use Rattle.ap_bundle_read.specs.declared.nodes.Bare.{Bare}
 use Rattle.ap_bundle_read.specs.declared.nodes.Bare.TheVariants as bare
 use Rattle.ap_bundle_read.specs.CitedNodes.{cited_node}
 use Rattle.ap_bundle_read.specs.Nodes.{bare_node}
+use Rattle.ap_shared.specs.declared.derivations.SharedDerivation.{SharedDerivation}
 use Rattle.ap_shared.specs.declared.nodes.SharedNode.{SharedNode}
 use Rattle.ap_shared.specs.FirstNodes.{map_node}
+use Rattle.ap_shared.specs.LineDerivations.{derivation_lines}
 use Rattle.ap_shared.specs.LineNodes.{node_by_lines}
 use Rattle.ap_shared.specs.Shared.{shared_at}
+use Rattle.ap_shared.specs.SharedViews.{shared_derivation}
 use Rattle.ap_shared.proofs.NodeLemmas.{derivations_map}
 
 -- a node that brings no terms is the same over other terms
@@ -56,5 +59,14 @@ nodes_cited : (ts : List NominalTerm) (ns : List SharedNode) → map (cited_node
 nodes_cited ts [] = refl
 nodes_cited ts (n ∷ ns) = ap (λ ms. cited_node ts n ∷ ms) (nodes_cited ts ns)
 
-pub derivation_cited : (ts : List NominalTerm) (ns : List SharedNode) → derivation_from (map (cited_node ts) ns) ≡ option_map (map_terms (shared_at ts)) (derivation_from (map node_by_lines ns))
+derivation_cited : (ts : List NominalTerm) (ns : List SharedNode) → derivation_from (map (cited_node ts) ns) ≡ option_map (map_terms (shared_at ts)) (derivation_from (map node_by_lines ns))
 derivation_cited ts ns = ap derivation_from (nodes_cited ts ns) ∙ from_map (shared_at ts) (map node_by_lines ns)
+
+-- what is made of the nodes by lines is the derivation over the terms
+pub derivation_read : (ts : List NominalTerm) (ns : List SharedNode) (r : Option SharedDerivation) → option_map derivation_lines r ≡ derivation_from (map node_by_lines ns)
+    → derivation_from (map (cited_node ts) ns) ≡ option_map (shared_derivation ts) r
+derivation_read ts ns r e = derivation_cited ts ns ∙ ap (option_map (map_terms (shared_at ts))) (sym e) ∙ over r
+  where
+    over : (o : Option SharedDerivation) → option_map (map_terms (shared_at ts)) (option_map derivation_lines o) ≡ option_map (shared_derivation ts) o
+    over None = refl
+    over (Some d) = refl

@@ -194,7 +194,7 @@ fn read_nodes<'a>(
 }
 
 /// The derivation whose nodes begin at the place.
-#[tactic(auto, unfolding(ap_bundle::specs::Reading::read_derivation), using(crate::proofs::CitedLemmas::derivation_cited))]
+#[tactic(auto, unfolding(ap_bundle::specs::Reading::read_derivation), using(crate::proofs::CitedLemmas::derivation_read))]
 pub(crate) fn read_derivation<'a>(
     alloc: Global,
     table: &SharedTerms,
