@@ -1,13 +1,13 @@
 -- Nodes by lines over the terms of a table, and the derivation that they are.
-use Rattle.std.proofs.Common.{◌≡◌, List, [], ◌∷◌, map, length, Option, None, Some, Ok, Err, refl, ap, sym, ◌∙◌}
+use Rattle.std.proofs.Common.{◌≡◌, List, [], ◌∷◌, map, length, Option, None, Some, Result, Ok, Err, refl, ap, sym, ◌∙◌}
 use Rattle.std.specs.Option.{option_map}
-use Rattle.ap_defs.specs.Derivations.{DerivationOver, map_terms}
+use Rattle.ap_defs.specs.Derivations.{DerivationOver, NominalDerivation, map_terms}
 use Rattle.ap_defs.specs.Terms.{NominalTerm}
 use Rattle.ap_bundle.specs.declared.faults.BundleKind.TheVariants.{Node}
 use Rattle.ap_bundle.specs.Forms.{◌>>=◌}
 use Rattle.ap_bundle.specs.Nodes.{children, derivation_from, derivations, one}
 use Rattle.ap_bundle.specs.Nodes as nodes
-use Rattle.ap_bundle.specs.Readers.{Reader, Unread, found, on_ok, wrong}
+use Rattle.ap_bundle.specs.Readers.{Reader, Unread, Wrong, found, on_ok, wrong}
 use Rattle.ap_bundle.specs.Reading.{read_derivation, read_nodes}
 use Rattle.ap_bundle_read.specs.declared.nodes.Bare.{Bare}
 use Rattle.ap_bundle_read.specs.declared.nodes.Bare.TheVariants as bare
@@ -76,16 +76,19 @@ derivation_read ts ns r e = derivation_cited ts ns ∙ ap (option_map (map_terms
 
 module _ (term : Reader NominalTerm) (ts : List NominalTerm) (ns : List SharedNode) (r : Option SharedDerivation) (p q : Unread)
     (got : read_nodes term (length p.rest) 1 p ≡ Ok (map (cited_node ts) ns, q)) (made : option_map derivation_lines r ≡ derivation_from (map node_by_lines ns)) where
-  derivation_here : read_derivation term p ≡ on_ok (found Node p (option_map (shared_derivation ts) r)) (λ d. Ok (d, q))
+  abbrev behind : Option SharedDerivation → Result (NominalDerivation × Unread) Wrong
+  behind o = on_ok (found Node p (option_map (shared_derivation ts) o)) (λ d. Ok (d, q))
+
+  derivation_here : read_derivation term p ≡ behind r
   unfolding read_derivation
   derivation_here = rw (got, derivation_read ts ns r made) refl
 
   pub derivation_some : (d : SharedDerivation) → r ≡ Some d → read_derivation term p ≡ Ok (shared_derivation ts d, q)
-  derivation_some d e = derivation_here ∙ ap (λ (o : Option SharedDerivation). on_ok (found Node p (option_map (shared_derivation ts) o)) (λ x. Ok (x, q))) e
+  derivation_some d e = derivation_here ∙ ap behind e
 
   pub derivation_none : ((d : SharedDerivation) → r ≡ Some d → ⊥) → read_derivation term p ≡ Err (wrong Node p)
   derivation_none never = derivation_here ∙ go r never
     where
-      go : (o : Option SharedDerivation) → ((d : SharedDerivation) → o ≡ Some d → ⊥) → on_ok (found Node p (option_map (shared_derivation ts) o)) (λ d. Ok (d, q)) ≡ Err (wrong Node p)
+      go : (o : Option SharedDerivation) → ((d : SharedDerivation) → o ≡ Some d → ⊥) → behind o ≡ Err (wrong Node p)
       go None none = refl
       go (Some d) none = absurd (none d refl)
