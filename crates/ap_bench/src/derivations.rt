@@ -5,13 +5,13 @@ ghost use Rattle.ap_backchain.specs.Problems.{HasQuery};
 
 use ap_backchain::branch::Branch;
 use ap_backchain::problem::Problem;
-use ap_bundle_read::read_bundle;
+use ap_bundle_read::read_cited_bundle;
 use ap_bundle_write::write_bundle;
 use ap_checker::verify::verify;
 use ap_defs::limits::SIZE_LIMIT;
 use ap_defs::lists::List;
 use ap_defs::memory::Memory;
-use ap_defs::outcomes::{Bundle, Verdict};
+use ap_defs::outcomes::Verdict;
 use ap_defs::paths::{Node, Path};
 use ap_derive::assembling::Derived;
 use ap_derive::derivations::derive;
@@ -20,7 +20,7 @@ use ap_program::restricted::Restricted;
 use ap_replay::replay::at;
 use ap_shared::arena::SharedTerms;
 use ap_shared::derivations::{SharedBundle, SharedProved};
-use ap_shared::sharing::{share_answer, shared};
+use ap_shared::sharing::share_answer;
 use ap_text::program_of_text;
 use std::alloc::{AllocError, Global};
 use std::rc::Rc;
@@ -123,26 +123,18 @@ fn written(alloc: Global, program: &Restricted) -> Result<Vec<u8>, Memory> {
     write_bundle(alloc, &bundle)
 }
 
-/// The bundle, read again.
-fn read(alloc: Global, program: &Restricted) -> Result<Bundle, Memory> {
+/// The bundle, read again as `check` reads it.
+fn read(alloc: Global, program: &Restricted) -> Result<SharedBundle, Memory> {
     let bytes = written(alloc, program)?;
-    read_bundle(alloc, &bytes).or(Err(Memory))
+    read_cited_bundle(alloc, &bytes).or(Err(Memory))
 }
 
 /// How many derivations of a bundle check.
-fn checked(alloc: Global, program: &Restricted, bundle: &Bundle) -> Result<usize, Memory> {
+fn checked(alloc: Global, program: &Restricted, bundle: &SharedBundle) -> Result<usize, Memory> {
     let mut count: usize = 0;
     for it in bundle.proved.items() {
-        let found = shared(alloc, it)?;
-        let terms = found.terms.as_ref();
-        let verdict = verify(
-            alloc,
-            program,
-            found.query,
-            terms,
-            &found.answer,
-            &found.derivation,
-        )?;
+        let terms = it.terms.as_ref();
+        let verdict = verify(alloc, program, it.query, terms, &it.answer, &it.derivation)?;
         if verdict == Verdict::Yes {
             count = count.saturating_add(1);
         }

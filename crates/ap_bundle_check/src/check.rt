@@ -68,12 +68,11 @@ fn first_refused(
         match verdict_on(alloc, program, &proved[i])? {
             Verdict::Yes => {}
             Verdict::No { node, rule } => {
-                let refusal = Refusal {
+                return Ok(Some(Refusal {
                     number: i + 1,
                     node,
                     rule,
-                };
-                return Ok(Some(refusal));
+                }));
             }
         }
     }

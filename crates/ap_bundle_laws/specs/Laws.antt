@@ -1,5 +1,5 @@
 -- What holds of what is written and read.
-use Rattle.std.specs.Prelude.{ℕ, ◌+◌, ◌<◌, ◌≤◌, ◌^◌, ◌≡◌, flat_map, List, ◌++◌, length, count_by, Ok, Err}
+use Rattle.std.specs.Prelude.{ℕ, ◌+◌, ◌<◌, ◌≤◌, ◌^◌, ◌≡◌, flat_map, ◌⊎◌, List, ◌++◌, length, count_by, Result, Ok, Err}
 pub use Rattle.std.specs.List.{AllByRecursion as Each}
 use Rattle.ap_defs.specs.declared.terms.Name.{Name}
 use Rattle.ap_defs.specs.declared.terms.Var.{Var}
@@ -12,7 +12,8 @@ use Rattle.ap_defs.specs.Types.{NominalType}
 use Rattle.ap_defs.specs.Answers.{NominalAnswer}
 use Rattle.ap_defs.specs.Derivations as derivations
 use Rattle.ap_defs.specs.Derivations.{NominalDerivation}
-use Rattle.ap_bundle.specs.declared.faults.BundleKind.TheVariants.{Unended}
+use Rattle.ap_bundle.specs.declared.faults.BundleFault.{BundleFault}
+use Rattle.ap_bundle.specs.declared.faults.BundleKind.TheVariants.{Expanded, Unended}
 use Rattle.ap_bundle.specs.declared.version.Version.{Version}
 use Rattle.ap_bundle.specs.declared.version.Version.TheVariants.{One, Two}
 use Rattle.ap_bundle.specs.Bundles.{NominalProved, NominalBundle}
@@ -118,9 +119,13 @@ abbrev pub HasRoomEachIn : Version → NominalBundle → Type 0
 HasRoomEachIn One b = Unit {0}
 HasRoomEachIn Two b = HasRoomEach b
 
--- what is read is read where each term may be as large as all together
-abbrev pub ReadIsCited : Type 0
-ReadIsCited = (bytes : List ℕ) (b : NominalBundle) → reading bytes ≡ Ok b → cited_reading bytes ≡ Ok b
+-- Where the terms may be as large together, the same is read as where each may be, or a fault that only the former has: a term is
+-- too large.
+abbrev pub ReadsAlike : Result NominalBundle BundleFault → Result NominalBundle BundleFault → Type 0
+ReadsAlike together each = (together ≡ each) ⊎ ((line : ℕ) × (together ≡ Err (record { line = line; kind = Expanded })))
+
+abbrev pub ReadAlike : Type 0
+ReadAlike = (bytes : List ℕ) → ReadsAlike (reading bytes) (cited_reading bytes)
 
 -- what is read is in these ranges
 abbrev pub ReadFits : Type 0

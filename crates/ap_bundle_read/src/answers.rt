@@ -72,7 +72,10 @@ fn read_each_var<'a>(
 }
 
 #[tactic(auto, unfolding(ap_bundle::specs::Reading::read_listed))]
-pub(crate) fn read_vars<'a>(alloc: Global, place: Place<'a>) -> Result<(Vec<(Var, Ty)>, Place<'a>), ReadError>
+pub(crate) fn read_vars<'a>(
+    alloc: Global,
+    place: Place<'a>,
+) -> Result<(Vec<(Var, Ty)>, Place<'a>), ReadError>
     ensures { Gives (λ r. (map typed_var_of r.0.items, place_of r.1)) result
         (spec.read_listed Head.Vars (read_form BundleKind.Term lines.var_form)
         (place_of place.entry)) }
@@ -114,7 +117,10 @@ fn read_each_cond<'a>(
 }
 
 #[tactic(auto, unfolding(ap_bundle::specs::Reading::read_listed))]
-pub(crate) fn read_conds<'a>(alloc: Global, place: Place<'a>) -> Result<(Vec<Cond>, Place<'a>), ReadError>
+pub(crate) fn read_conds<'a>(
+    alloc: Global,
+    place: Place<'a>,
+) -> Result<(Vec<Cond>, Place<'a>), ReadError>
     ensures { Gives (λ r. (r.0.items, place_of r.1)) result
         (spec.read_listed Head.Conds (read_form BundleKind.Term lines.cond_form)
         (place_of place.entry)) }

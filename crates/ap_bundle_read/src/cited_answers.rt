@@ -118,10 +118,7 @@ pub(crate) fn read_all<'a>(
 }
 
 /// An answer with its derivation, whose terms stand there in full: they are entered in a table of their own.
-fn read_entered<'a>(
-    alloc: Global,
-    place: Place<'a>,
-) -> Result<(SharedProved, Place<'a>), ReadError>
+fn read_entered<'a>(alloc: Global, place: Place<'a>) -> Result<(SharedProved, Place<'a>), ReadError>
     ensures { Gives (λ r. (shared_proved r.0, place_of r.1)) result
         (spec.read_proved (reader_of Terms.InFull) (place_of place.entry)) }
 {

@@ -1,6 +1,7 @@
 // The nodes of a derivation in preorder, and the derivation, by the lines of their terms.
-ghost use Rattle.std.specs.Prelude.{◌≡◌, ◌≤◌, List as list, Ok, IfOk, length, map};
+ghost use Rattle.std.specs.Prelude.{◌≡◌, ◌≤◌, List as list, IfOk, length, map};
 ghost use Rattle.std.specs.Option.{option_map};
+ghost use Rattle.ap_bundle.specs.LineForms as lines;
 ghost use Rattle.ap_bundle.specs.Nodes as tree;
 ghost use Rattle.ap_defs.specs.Terms.{NominalTerm};
 ghost use Rattle.ap_bundle.specs.Readers.{repeated};
@@ -89,7 +90,7 @@ fn read_exists<'a>(
 }
 
 /// A node that brings no terms, as a node by lines.
-fn bare(alloc: Global, node: Bare) -> Result<SharedNode, Memory>
+fn without_terms(alloc: Global, node: Bare) -> Result<SharedNode, Memory>
     ensures { IfOk result (λ n. node_by_lines n ≡ bare_node node) }
 {
     match node {
@@ -105,15 +106,15 @@ fn bare(alloc: Global, node: Bare) -> Result<SharedNode, Memory>
 
 /// A node that brings no terms, with the place behind it.
 #[tactic(auto, using(crate::proofs::CitedLemmas::bare_cited))]
-fn bare_at<'a>(
+fn without_terms_at<'a>(
     alloc: Global,
     node: Bare,
     place: Place<'a>,
 ) -> Result<(SharedNode, Place<'a>), ReadError>
     ensures { (ts : list NominalTerm) → Gives (λ r. (cited_node ts r.0, place_of r.1)) result
-        (Ok (bare_node node, place_of place.entry)) }
+        (spec.read_behind (cited ts) (lines.whole (bare_node node)) (place_of place.entry)) }
 {
-    Ok((bare(alloc, node)?, place))
+    Ok((without_terms(alloc, node)?, place))
 }
 
 /// What follows the line of a node.
@@ -129,7 +130,7 @@ fn read_behind<'a>(
     match line {
         NodeLine::Atom(clause, names, all) => read_atom(alloc, table, clause, names, all, place),
         NodeLine::Exists => read_exists(alloc, table, place),
-        NodeLine::Whole(node) => bare_at(alloc, node, place),
+        NodeLine::Whole(node) => without_terms_at(alloc, node, place),
     }
 }
 
@@ -155,7 +156,11 @@ fn children(node: &SharedNode) -> u64
     match node {
         SharedNode::Eq | SharedNode::Fresh | SharedNode::True => 0,
         SharedNode::And => 2,
-        SharedNode::Atom(_) | SharedNode::Left | SharedNode::Right | SharedNode::Exists(_) | SharedNode::New(_) => 1,
+        SharedNode::Atom(_)
+        | SharedNode::Left
+        | SharedNode::Right
+        | SharedNode::Exists(_)
+        | SharedNode::New(_) => 1,
     }
 }
 
@@ -190,7 +195,7 @@ fn read_nodes<'a>(
 }
 
 /// The derivation whose nodes begin at the place.
-#[tactic(auto, unfolding(ap_bundle::specs::Reading::read_derivation), using(crate::proofs::CitedLemmas::derivation_cited))]
+#[tactic(auto, unfolding(ap_bundle::specs::Reading::read_derivation))]
 pub(crate) fn read_derivation<'a>(
     alloc: Global,
     table: &SharedTerms,

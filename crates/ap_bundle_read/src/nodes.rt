@@ -57,7 +57,7 @@ pub(crate) enum NodeLine {
 }
 
 /// A node that brings no terms, as a node.
-fn bare(node: Bare) -> Node
+fn without_terms(node: Bare) -> Node
     ensures { node_of result ≡ bare_node node }
 {
     match node {
@@ -186,7 +186,7 @@ fn read_behind<'a>(
     match line {
         NodeLine::Atom(clause, names, all) => read_atom(alloc, terms, clause, names, all, place),
         NodeLine::Exists => read_exists(alloc, terms, place),
-        NodeLine::Whole(node) => Ok((bare(node), place)),
+        NodeLine::Whole(node) => Ok((without_terms(node), place)),
     }
 }
 

@@ -103,7 +103,11 @@ fn abs_entry(table: &SharedTerms, numbers: Vec<u64>) -> Option<Entry>
 }
 
 #[tactic(auto, unfolding(ap_bundle::specs::TableForms::susp_entry))]
-fn susp_entry(alloc: Global, table: &SharedTerms, numbers: Vec<u64>) -> Result<Option<Entry>, Memory>
+fn susp_entry(
+    alloc: Global,
+    table: &SharedTerms,
+    numbers: Vec<u64>,
+) -> Result<Option<Entry>, Memory>
     ensures value { IfOk result (λ r. option_map (entry_term (shared_terms table.now)) r
         ≡ spec.susp_entry (reverse numbers.items)) }
     ensures behind { IfOk result (λ r. IfSome r (IsBehind (length (shared_terms table.now)))) }

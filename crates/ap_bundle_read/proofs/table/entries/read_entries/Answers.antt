@@ -11,7 +11,7 @@ use Rattle.ap_bundle_read.proofs.table.entries.read_entries.Goals as goal
 pub returns-in_err-entry : goal.returns-in_err-entry
 returns-in_err-entry c =
     let p = err_from_is_err_and c.from_residual.result c.from_residual.ensures.1 in
-    rw (p.1, p.2) (fails_on c.in_err-entry.field-0.0 _ _ (λ w got. sym c.loop.invariant ∙ entries_fail (c.args.count - c.loop.counter) (c.args.count - (c.loop.counter + 1)) (shared_terms c.loop.table) (place_of c.loop.place) w (omega arith) got) c.in_err-entry.ensures.value)
+    record { value = rw (p.1, p.2) (fails_on c.in_err-entry.field-0.0 _ _ (λ w got. sym c.loop.invariant ∙ entries_fail (c.args.count - c.loop.counter) (c.args.count - (c.loop.counter + 1)) (shared_terms c.loop.table) (place_of c.loop.place) w (omega arith) got) c.in_err-entry.ensures.value) }
 
 pub loop-preserved : goal.loop-preserved
 loop-preserved c =
@@ -20,4 +20,4 @@ loop-preserved c =
     ap (λ z. read_entries k z (place_of c.in_ok-entry.rest)) c.in_ok-add.ensures.terms ∙ next ∙ c.loop.invariant
 
 pub returns : goal.returns
-returns c = sym c.loop.invariant ∙ entries_end (c.args.count - c.loop.counter) (shared_terms c.loop.table) (place_of c.loop.place) (omega arith)
+returns c = record { value = sym c.loop.invariant ∙ entries_end (c.args.count - c.loop.counter) (shared_terms c.loop.table) (place_of c.loop.place) (omega arith) }
