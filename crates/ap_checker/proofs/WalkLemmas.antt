@@ -189,3 +189,10 @@ module _ (p : NominalProgram) (a : NominalAnswer) (whole : Option Refusal) (node
         first = on.first (suc way.done) ∙ sym whole_is;
         marked = on.marked;
       }
+
+  pub turn_smaller : (r : Option Rule) → r ≡ None → IsVisited p a (kinds_at t.obligation) (derivation_at t.obligation) (goal_at t.obligation) before after r → nodes_left (pending_of after) < nodes_left (pending_of w)
+  turn_smaller r e v =
+      let on : ChecksOn p a (kinds_at t.obligation) (derivation_at t.obligation) (goal_at t.obligation) before after = subst (IsVisited p a (kinds_at t.obligation) (derivation_at t.obligation) (goal_at t.obligation) before after) e v in
+      let less = on.nodes in
+      let all = next_nodes w before t taken in
+      omega (arith, less, all)

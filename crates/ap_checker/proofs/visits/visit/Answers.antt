@@ -17,5 +17,5 @@ returns-in-Atom-Atom-clause-visited c =
 
 pub returns-in-Exists-Exists-clause-visited : goal.returns-in-Exists-Exists-clause-visited
 returns-in-Exists-Exists-clause-visited c =
-    let h = rw (c.below-below.ensures, c.deref-in-Exists-Exists.ensures, c.deref-in-Exists-Exists-2.ensures, c.deref-in-Exists-Exists-3.ensures) at c.visit_exists.ensures.visited in
+    let h = rw (c.below-below.ensures, c.deref-in-Exists-Exists.ensures, c.deref-in-Exists-Exists-2.ensures) at c.visit_exists.ensures.visited in
     rw (c.in-Exists-Exists.is-0, c.in-Exists-Exists.is-1) h
