@@ -50,13 +50,13 @@ struct Use<'a> {
 }
 
 /// Whether an atom's arguments equal those of a clause's head, as a node uses the clause.
-fn is_head_equal(
+fn is_head_equal<'a>(
     alloc: Global,
     answer: &IndexedAnswer<'_>,
     standing: &[Standing<'_>],
     args: &[Term],
-    used: &Use<'_>,
-    clause: &Clause<Term>,
+    used: &Use<'a>,
+    clause: &'a Clause<Term>,
 ) -> Result<bool, Memory>
     requires { AreStandingIn used.now.given.terms.now standing.now }
     ensures { IfOk result (λ yes. yes ≡ equal_each answer.now.conds
@@ -86,7 +86,7 @@ fn rule_of_clause<'a>(
     typed: &mut Typed<'a>,
     standing: &[Standing<'_>],
     args: &[Term],
-    used: &Use<'_>,
+    used: &Use<'a>,
     clause: &'a Clause<Term>,
 ) -> Result<Option<Rule>, Memory>
     requires of { AreStandingIn used.now.given.terms.now standing.now }
