@@ -11,12 +11,12 @@ ghost use Rattle.ap_steps.specs.Writers.{piece_of, writing_of};
 
 use crate::judgements::{atom, relation};
 use crate::writers::Writer;
-use ap_judge::cited::Cited;
-use ap_judge::scope::Standing;
 use ap_defs::goals::Goal;
 use ap_defs::memory::Memory;
 use ap_defs::outcomes::Derivation;
 use ap_defs::terms::Term;
+use ap_judge::cited::Cited;
+use ap_judge::scope::Standing;
 use ap_pages::steps::Phrase;
 
 /// An atom of a body, with its derivation, and how many steps its own stands under.

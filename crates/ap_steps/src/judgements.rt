@@ -11,10 +11,10 @@ ghost use Rattle.ap_steps.specs.Writers.{writing_of};
 use crate::writers::Writer;
 use ap_answers::place::Place;
 use ap_answers::text::write_term;
-use ap_judge::scope::{Standing, put, put_each};
 use ap_defs::lists::Text;
 use ap_defs::memory::Memory;
 use ap_defs::terms::Term;
+use ap_judge::scope::{Standing, put, put_each};
 use ap_pages::phrases::phrase_of;
 use ap_pages::steps::Phrase;
 
