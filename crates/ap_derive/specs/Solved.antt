@@ -12,7 +12,8 @@ use Rattle.ap_machine.specs.Positions.{Position}
 use Rattle.ap_machine.specs.Views.{waiting_of}
 use Rattle.ap_machine.specs.declared.frames.Frame.{Frame}
 use Rattle.ap_checks.specs.Traces.{Traced, traced}
-use Rattle.ap_derive.specs.Nodes.{DerivationNode, both, equal, exists, fresh, new, nodes_before, succeed}
+use Rattle.ap_bundle.specs.Nodes.{both, equal, exists, fresh, new, succeed}
+use Rattle.ap_derive.specs.Nodes.{DerivationNode, nodes_before}
 
 -- The state to which they lead, the nodes of their derivations in preorder, and what is left of the path.
 pub record Solved : Type 0 where
