@@ -12,7 +12,7 @@ use Rattle.ap_defs.specs.Unification.{size}
 use Rattle.ap_defs.specs.declared.terms.Name.{Name}
 use Rattle.ap_defs.specs.declared.terms.Swap.{Swap}
 use Rattle.ap_defs.specs.declared.terms.Var.{Var}
-use Rattle.ap_backchain.specs.Views.{state_in}
+use Rattle.ap_machine.specs.Views.{state_in}
 use Rattle.ap_perm.specs.Closures.{closure_term, lent_term}
 use Rattle.ap_perm.specs.Lookups.{depth_of}
 use Rattle.ap_perm.specs.declared.closures.Closure.{Closure}

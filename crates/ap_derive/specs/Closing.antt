@@ -5,7 +5,7 @@ use Rattle.ap_defs.specs.Canonical.{canonical_term}
 use Rattle.ap_defs.specs.Substitution.{under}
 use Rattle.ap_defs.specs.Terms.{NominalTerm, abs, app, pair, susp}
 use Rattle.ap_defs.specs.Unification.{size}
-use Rattle.ap_backchain.specs.Views.{state_in}
+use Rattle.ap_machine.specs.Views.{state_in}
 use Rattle.ap_perm.specs.Closures.{closure_term}
 use Rattle.ap_perm.specs.Lookups.{depth_of}
 use Rattle.ap_shared.specs.Shared.{IsGrown, shared_at}

@@ -4,7 +4,7 @@ ghost use Rattle.std.specs.Prelude.{◌≡◌, [], IfOk, OnOk, length, map};
 ghost use Rattle.ap_defs.specs.Answers.{closed_term, derivation_in};
 ghost use Rattle.ap_defs.specs.Derivations.{NominalDerivation};
 ghost use Rattle.ap_defs.specs.Terms.{susp};
-ghost use Rattle.ap_backchain.specs.Views.{state_in};
+ghost use Rattle.ap_machine.specs.Views.{state_in};
 ghost use Rattle.ap_shared.specs.FirstNodes.{map_node, node_terms};
 ghost use Rattle.ap_shared.specs.LineNodes.{node_by_lines};
 ghost use Rattle.ap_shared.specs.Shared.{AreLinesBelow, IsGrown, shared_at};

@@ -9,7 +9,7 @@ ghost use Rattle.std.specs.Prelude.{◌≡◌, ◌<◌, [], IfOk, None, OnOk, So
 ghost use Rattle.ap_defs.specs.Answers.{closed_term};
 ghost use Rattle.ap_defs.specs.Canonical.{canonical};
 ghost use Rattle.ap_defs.specs.Terms.{susp};
-ghost use Rattle.ap_backchain.specs.Views.{state_in};
+ghost use Rattle.ap_machine.specs.Views.{state_in};
 ghost use Rattle.ap_search.specs.Records.{closed_vars};
 ghost use Rattle.ap_perm.specs.Closures.{closure_term, lent_term};
 ghost use Rattle.ap_shared.specs.Shared.{AreLinesBelow, IsBehind, IsGrown, entry_term, shared_at};

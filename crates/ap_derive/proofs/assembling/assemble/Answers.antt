@@ -1,6 +1,6 @@
 use Rattle.std.proofs.Common.{◌∙◌}
 use Rattle.ap_defs.specs.Answers.{derivation_in}
-use Rattle.ap_backchain.specs.Views.{state_in}
+use Rattle.ap_machine.specs.Views.{state_in}
 use Rattle.ap_derive.specs.Closing.{closing_terms}
 use Rattle.ap_derive.proofs.NodeLemmas.{closed_preorder}
 use Rattle.ap_derive.proofs.assembling.assemble.Goals as goal

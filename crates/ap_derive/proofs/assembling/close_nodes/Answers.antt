@@ -1,6 +1,6 @@
 use Rattle.std.proofs.Common.{◌≡◌, [], ◌∷◌, ◌++◌, ◌∙◌, ap, sym, drop, map, arith, refl, ◌+◌}
 use Rattle.std.proofs.lemmas.List.{append-nil, map-append}
-use Rattle.ap_backchain.specs.Views.{state_in}
+use Rattle.ap_machine.specs.Views.{state_in}
 use Rattle.ap_shared.specs.FirstNodes.{map_node}
 use Rattle.ap_shared.specs.LineNodes.{node_by_lines}
 use Rattle.ap_shared.specs.Shared.{shared_at}

@@ -1,6 +1,6 @@
 -- The nodes so far, and those of the goals that are left, are all.
 use Rattle.std.proofs.Common.{◌≡◌, ◌++◌, drop, length, map}
-use Rattle.ap_backchain.specs.Views.{state_in}
+use Rattle.ap_machine.specs.Views.{state_in}
 use Rattle.ap_shared.specs.FirstNodes.{map_node}
 use Rattle.ap_shared.specs.LineNodes.{node_by_lines}
 use Rattle.ap_shared.specs.Shared.{IsGrown, shared_at}

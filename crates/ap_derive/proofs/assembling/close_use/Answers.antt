@@ -1,5 +1,5 @@
 use Rattle.std.proofs.Common.{◌∙◌, ap, length, map, subst, sym}
-use Rattle.ap_backchain.specs.Views.{state_in}
+use Rattle.ap_machine.specs.Views.{state_in}
 use Rattle.ap_shared.specs.Shared.{AreLinesBelow, shared_at}
 use Rattle.ap_derive.specs.Closing.{closing_terms}
 use Rattle.ap_derive.proofs.NodeLemmas.{vars_closed}

@@ -1,5 +1,5 @@
 use Rattle.std.proofs.Common.{rules}
-use Rattle.ap_backchain.proofs.ClosedLemmas.{canonical_empty}
+use Rattle.ap_machine.proofs.ClosedLemmas.{canonical_empty}
 use Rattle.ap_derive.proofs.closing.canonical_of.Goals as goal
 
 pub returns-then-is_empty : goal.returns-then-is_empty

@@ -2,7 +2,7 @@ use Rattle.std.proofs.Common.{arith, get_or, map, refl, []}
 use Rattle.ap_defs.specs.Answers.{closed_term}
 use Rattle.ap_defs.specs.Terms.{NominalTerm, susp}
 use Rattle.ap_defs.specs.declared.terms.Var.{Var}
-use Rattle.ap_backchain.specs.Views.{state_in}
+use Rattle.ap_machine.specs.Views.{state_in}
 use Rattle.ap_shared.specs.Shared.{shared_at}
 use Rattle.ap_shared.proofs.SharingLemmas.{below_on, grown_none, grown_on, lines_end, lines_on}
 use Rattle.ap_derive.specs.Closing.{closing_terms}

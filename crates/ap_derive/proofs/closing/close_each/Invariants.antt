@@ -1,6 +1,6 @@
 -- The lines so far, and those of the variables that are left, are all.
 use Rattle.std.proofs.Common.{◌≡◌, ◌++◌, drop, length, map}
-use Rattle.ap_backchain.specs.Views.{state_in}
+use Rattle.ap_machine.specs.Views.{state_in}
 use Rattle.ap_search.specs.Records.{closed_vars}
 use Rattle.ap_shared.specs.Shared.{AreLinesBelow, IsGrown, shared_at}
 use Rattle.ap_derive.specs.Closing.{IsClosing, closing_terms}

@@ -4,7 +4,7 @@ use Rattle.ap_defs.specs.Answers.{closed_term}
 use Rattle.ap_defs.specs.Canonical.{canonical_term}
 use Rattle.ap_defs.specs.Substitution.{under}
 use Rattle.ap_defs.specs.Terms.{NominalTerm, susp}
-use Rattle.ap_backchain.specs.Views.{state_in}
+use Rattle.ap_machine.specs.Views.{state_in}
 use Rattle.ap_perm.specs.Closures.{closure_term}
 use Rattle.ap_store.specs.Views.{bindings_of}
 use Rattle.ap_derive.specs.Closing.{LeadsToWhole, left_in_part, left_in_rounds}

@@ -2,7 +2,7 @@
 use Rattle.std.proofs.Common.{◌+◌, []}
 use Rattle.ap_defs.specs.Answers.{closed_term}
 use Rattle.ap_defs.specs.Terms.{susp}
-use Rattle.ap_backchain.specs.Views.{state_in}
+use Rattle.ap_machine.specs.Views.{state_in}
 use Rattle.ap_derive.specs.Closing.{LeadsToWhole, left_in_part, left_in_rounds}
 use Rattle.ap_derive.proofs.closing.close_var.Given as goal
 
