@@ -58,7 +58,7 @@ fn vars_among(
         ≡ vars_besides (map term_of binds.now) conds.now others.now) }
 {
     let mut vars = Vec::new(alloc);
-    add_vars_of_terms(&mut vars, binds)?;
+    add_vars_of_terms(alloc, &mut vars, binds)?;
     add_vars_of_conds(&mut vars, conds)?;
     vars.extend_from_slice(others)?;
     make_ascending(&mut vars);

@@ -1,47 +1,51 @@
 //! Variables of terms, and ascending sets of variables.
 //!
-//! Each walk goes on along what is last in a term, and calls itself on left parts of pairs alone.
+//! What goes through a term of a text goes on along what is last in it, and calls itself on left parts of pairs alone.
 
 ghost use Rattle.std.specs.Prelude.{◌≡◌, ◌++◌, ◌^◌, [], IfOk, OnOk, map};
 ghost use Rattle.ap_defs.specs.Answers.{ascending_vars};
-ghost use Rattle.ap_defs.specs.Occurrences.{vars_of_terms, without_var};
+ghost use Rattle.ap_defs.specs.Occurrences.{vars_at, vars_of_terms, without_var};
 ghost use Rattle.ap_defs.specs.Renaming.{AreBelow, IsBelow, rename_term as renamed};
 ghost use Rattle.ap_defs.specs.Terms.{term_of};
 ghost use Rattle.ap_defs.specs.Unification.{vars_then};
 
 use ap_defs::memory::Memory;
 use ap_defs::terms::{Cond, Term, Var};
+use ap_defs::walks::Parts;
 use std::alloc::Global;
 
+/// Adds the variable that stands at a part of a term itself after others.
+fn add_vars_at(vars: &mut Vec<Var>, part: &Term) -> Result<(), Memory>
+    ensures { OnOk result (vars.new.items ≡ vars.old.items ++ vars_at (term_of part.now)) }
+{
+    if let Term::Susp(_, x) = part {
+        vars.push(*x)?;
+    }
+    Ok(())
+}
+
 /// Adds the variables of a term after others.
-fn add_vars_of(vars: &mut Vec<Var>, t: &Term) -> Result<(), Memory>
+fn add_vars_of(alloc: Global, vars: &mut Vec<Var>, t: &Term) -> Result<(), Memory>
     ensures { OnOk result (vars.new.items ≡ vars.old.items ++ vars_then (term_of t.now) []) }
 {
-    let mut rest = t;
-    loop {
-        match rest {
-            Term::Unit | Term::Name(_) => return Ok(()),
-            Term::Pair(left, right) => {
-                add_vars_of(vars, left)?;
-                rest = right;
-            }
-            Term::App(_, argument) => rest = argument,
-            Term::Abs(_, body) => rest = body,
-            Term::Susp(_, x) => {
-                vars.push(*x)?;
-                return Ok(());
-            }
-        }
+    let mut parts = Parts::of(alloc, t)?;
+    while let Some(part) = parts.next()? {
+        add_vars_at(vars, part)?;
     }
+    Ok(())
 }
 
 /// Adds the variables of terms after others.
-pub fn add_vars_of_terms(vars: &mut Vec<Var>, terms: &[Term]) -> Result<(), Memory>
+pub fn add_vars_of_terms(
+    alloc: Global,
+    vars: &mut Vec<Var>,
+    terms: &[Term],
+) -> Result<(), Memory>
     ensures { OnOk result (vars.new.items
         ≡ vars.old.items ++ vars_of_terms (map term_of terms.now)) }
 {
     'adding: for t in terms {
-        add_vars_of(vars, t)?;
+        add_vars_of(alloc, vars, t)?;
     }
     Ok(())
 }

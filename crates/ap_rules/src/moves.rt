@@ -125,7 +125,7 @@ fn bind_unless_occurs<'a>(
     ensures fit { IfOk result (λ m. IsMoveFit (bindings_of store.now) (present store.now).next
         m) }
 {
-    if store.occurs(x, &c) {
+    if store.occurs(alloc, x, &c)? {
         return Ok(Move::Clash);
     }
     bind_to(alloc, store, p, x, c)

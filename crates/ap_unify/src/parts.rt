@@ -93,7 +93,7 @@ fn bind_unless_occurs<'a>(
     ensures kinds { kinds store.new ≡ kinds store.old }
 {
     let c = p.closure(alloc);
-    if store.occurs(x, &c) {
+    if store.occurs(alloc, x, &c)? {
         return Ok(Turn::Clash);
     }
     bind_part(alloc, store, work, x, p)
