@@ -81,8 +81,13 @@ def doubled(lines):
 
 
 def doubled_once(_):
-    """The largest term that doubled lines make and that may be read twice."""
+    """The largest term that doubled lines make and that may be written in full twice."""
     return by_table(doubled(21)), "% 1 derivations checked\n"
+
+
+def doubled_alone(_):
+    """The largest term that doubled lines make and that `check` reads: twice that is too large to be written in full."""
+    return by_table(doubled(22)), "% 1 derivations checked\n"
 
 
 def doubled_too_large(_):
@@ -135,6 +140,7 @@ SHAPES = {
     "nested to the left twice, in full": (left, None),
     "a table of one chain, cited twice": (chain_table, None),
     "doubled lines, cited twice": (doubled_once, None),
+    "doubled lines, the largest": (doubled_alone, None),
     "doubled lines, too large": (doubled_too_large, None),
     "doubled lines, not cited": (doubled_unused, None),
     "a derivation nested to the right": (tree, "right"),

@@ -23,15 +23,17 @@ measure() {
     python3 "$bench/measure.py" "$@"
 }
 
-# Measures the interpreter on the file text of the folder, up to the end of a stage: behind the text stands what that
-# stage finds to be a fault, so that the next one isn't begun.
+# Measures the interpreter on the file text of the folder, up to the end of a stage. Behind a fault of the grammar only
+# tokens are read, and behind one of types only the grammar: so one stands before the text. Behind the text stands one of
+# types where that stage is measured, so that names aren't looked at.
 measure_to() {
+    before='' behind=''
     case $1 in
-        lex) fault='&' ;;
-        parse) fault='?- .' ;;
-        typed) fault='a_word : not_declared.' ;;
+        lex) before='?- .' ;;
+        parse) before='a_word : not_declared.' ;;
+        typed) behind='a_word : not_declared.' ;;
     esac
-    { cat "$work/text"; printf '\n%s' "$fault"; } > "$work/faulty"
+    { printf '%s\n' "$before"; cat "$work/text"; printf '\n%s' "$behind"; } > "$work/faulty"
     printf '%-9s' "$1"
     measure "$work/faulty" "$program" run --depth 1
 }

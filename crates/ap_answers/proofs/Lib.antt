@@ -9,6 +9,7 @@ pub mod QueryLemmas
 pub mod SoundlyShownLemmas
 pub mod SeparatedLemmas
 pub mod TextLemmas
+mod WritingLemmas
 pub mod WordLemmas
 pub mod FreeLemmas
 pub mod LocalLemmas

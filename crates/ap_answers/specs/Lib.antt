@@ -1,6 +1,7 @@
 pub mod Spelled
 pub mod Places
 pub mod Swappings
+pub mod Writing
 pub mod Locals
 pub mod Occurring
 pub mod Bindings

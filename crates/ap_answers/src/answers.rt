@@ -109,8 +109,8 @@ pub fn write_shown(
     write_conds(out, by, conds)
 }
 
-/// Writes an answer to a query with these identifiers, without the end of its line.
-pub fn write_answer(
+/// Writes an answer that may have bindings.
+fn write_with_bindings(
     alloc: Global,
     out: &mut Vec<u8>,
     program: &Program<Term>,
@@ -127,4 +127,26 @@ pub fn write_answer(
     let by = speller_for(alloc, program, taken, locals, &shown.names, &shown.vars)?;
     let (binds, conds) = (shown.binds.as_slice(), shown.conds.as_slice());
     write_shown(alloc, out, &by, binds, conds)
+}
+
+/// Writes an answer to a query with these identifiers, without the end of its line. Where it has no
+/// bindings, nothing is spelled.
+pub fn write_answer(
+    alloc: Global,
+    out: &mut Vec<u8>,
+    program: &Program<Term>,
+    taken: &Taken<'_>,
+    locals: &[Local],
+    answer: &Answer,
+) -> Result<(), Memory>
+    requires { IsTaken program.now.words taken.now }
+    ensures { OnOk result (out.new.items
+        ≡ out.old.items
+        ++ answer_text (program_of program.now) (locals_of locals.now) (answer_of answer.now)) }
+{
+    if answer.binds.items().is_empty() {
+        out.extend_from_slice(b"yes")?;
+        return Ok(());
+    }
+    write_with_bindings(alloc, out, program, taken, locals, answer)
 }

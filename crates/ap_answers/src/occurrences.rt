@@ -4,12 +4,14 @@ ghost use Rattle.std.specs.Prelude.{◌≡◌, [], ◌∷◌, OnOk};
 ghost use Rattle.ap_defs.specs.Terms.{term_of};
 ghost use Rattle.ap_defs.specs.Unification.{vars_then};
 ghost use Rattle.ap_defs.specs.Permutations.{names_of};
-ghost use Rattle.ap_defs.specs.Occurrences.{names_then};
+ghost use Rattle.ap_defs.specs.Occurrences.{names_then, names_at, vars_at};
 ghost use Rattle.ap_answers.specs.Occurring.{more_names, more_vars};
 
 use ap_defs::memory::Memory;
 use ap_defs::terms::{Name, Swap, Term, Var};
+use ap_defs::walks::Parts;
 use indexmap::IndexSet;
+use std::alloc::Global;
 
 /// Adds a name, unless it is there.
 #[tactic(auto, using(crate::proofs::OccurrenceLemmas::inserted), unfolding(ap_defs::specs::Permutations::name_eq))]
@@ -61,46 +63,49 @@ fn add_swapped(names: &mut IndexSet<Name>, swaps: &[Swap]) -> Result<(), Memory>
     Ok(())
 }
 
-/// Adds the names of a term, as they are read.
-pub fn add_names(names: &mut IndexSet<Name>, term: &Term) -> Result<(), Memory>
+/// Adds the names that stand at a part of a term itself.
+fn add_names_at(names: &mut IndexSet<Name>, part: &Term) -> Result<(), Memory>
     ensures { OnOk result (names.new.keys
-        ≡ more_names names.old.keys (names_then (term_of term.now) [])) }
+        ≡ more_names names.old.keys (names_at (term_of part.now))) }
 {
-    let mut rest = term;
-    loop {
-        match rest {
-            Term::Unit => return Ok(()),
-            Term::Name(name) => return add_name(names, *name),
-            Term::Susp(swaps, _) => return add_swapped(names, swaps.items()),
-            Term::Pair(left, right) => {
-                add_names(names, left)?;
-                rest = right;
-            }
-            Term::App(_, argument) => rest = argument,
-            Term::Abs(name, body) => {
-                add_name(names, *name)?;
-                rest = body;
-            }
-        }
+    match part {
+        Term::Unit | Term::Pair(_, _) | Term::App(_, _) => Ok(()),
+        Term::Name(name) => add_name(names, *name),
+        Term::Abs(name, _) => add_name(names, *name),
+        Term::Susp(swaps, _) => add_swapped(names, swaps.items()),
     }
 }
 
+/// Adds the variable that stands at a part of a term itself.
+fn add_vars_at(vars: &mut IndexSet<Var>, part: &Term) -> Result<(), Memory>
+    ensures { OnOk result (vars.new.keys ≡ more_vars vars.old.keys (vars_at (term_of part.now))) }
+{
+    match part {
+        Term::Susp(_, var) => add_var(vars, *var),
+        _ => Ok(()),
+    }
+}
+
+/// Adds the names of a term, as they are read.
+pub fn add_names(alloc: Global, names: &mut IndexSet<Name>, term: &Term) -> Result<(), Memory>
+    ensures { OnOk result (names.new.keys
+        ≡ more_names names.old.keys (names_then (term_of term.now) [])) }
+{
+    let mut parts = Parts::of(alloc, term)?;
+    while let Some(part) = parts.next()? {
+        add_names_at(names, part)?;
+    }
+    Ok(())
+}
+
 /// Adds the variables of a term, as they are read.
-pub fn add_vars(vars: &mut IndexSet<Var>, term: &Term) -> Result<(), Memory>
+pub fn add_vars(alloc: Global, vars: &mut IndexSet<Var>, term: &Term) -> Result<(), Memory>
     ensures { OnOk result (vars.new.keys
         ≡ more_vars vars.old.keys (vars_then (term_of term.now) [])) }
 {
-    let mut rest = term;
-    loop {
-        match rest {
-            Term::Unit | Term::Name(_) => return Ok(()),
-            Term::Susp(_, var) => return add_var(vars, *var),
-            Term::Pair(left, right) => {
-                add_vars(vars, left)?;
-                rest = right;
-            }
-            Term::App(_, argument) => rest = argument,
-            Term::Abs(_, body) => rest = body,
-        }
+    let mut parts = Parts::of(alloc, term)?;
+    while let Some(part) = parts.next()? {
+        add_vars_at(vars, part)?;
     }
+    Ok(())
 }

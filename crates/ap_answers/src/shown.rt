@@ -44,7 +44,7 @@ pub fn names_of_bindings(
 {
     let mut names = free_names(alloc, locals)?;
     for bind in binds {
-        add_names(&mut names, bind.term)?;
+        add_names(alloc, &mut names, bind.term)?;
     }
     Ok(names)
 }
@@ -56,7 +56,7 @@ pub fn vars_of_bindings(alloc: Global, binds: &[Binding<'_>]) -> Result<IndexSet
 {
     let mut vars = IndexSet::new(alloc);
     for bind in binds {
-        add_vars(&mut vars, bind.term)?;
+        add_vars(alloc, &mut vars, bind.term)?;
     }
     Ok(vars)
 }

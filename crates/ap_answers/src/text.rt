@@ -1,13 +1,14 @@
 //! The text of terms.
 
-ghost use Rattle.std.specs.Prelude.{◌≡◌, ◌++◌, [], ◌∷◌, codes, reverse, map, Some, OnOk, IfOk};
+ghost use Rattle.std.specs.Prelude.{◌≡◌, ◌<◌, ◌+◌, ◌++◌, [], ◌∷◌, codes, reverse, map, Some, OnOk, IfOk};
 ghost use Rattle.std.specs.Option.{option_map};
 ghost use Rattle.ap_defs.specs.Terms.{term_of};
-ghost use Rattle.ap_defs.specs.Printing.{barred, swaps_text, term_at};
+ghost use Rattle.ap_defs.specs.Printing.{Spelling, barred, swaps_text, term_at};
 ghost use Rattle.ap_answers.specs.Spelled.{spelling_in};
 ghost use Rattle.ap_answers.specs.Places.{written_place, pair_opening, pair_closing, cell_opening, cell_closing, declared_opening, declared_closing, declared_place, opening, closing, argument_place};
 ghost use Rattle.ap_defs.specs.Types.{constructor_of};
 ghost use Rattle.ap_answers.specs.Swappings.{heads_text};
+ghost use Rattle.ap_answers.specs.Writing.{part_text, right_text, text_left, waiting_text, part_work, next_work, waiting_work};
 
 use crate::place::{Place, parenthesized, write_bar, write_between, write_nil, write_unit};
 use crate::speller::Speller;
@@ -189,57 +190,125 @@ fn write_closers(out: &mut Vec<u8>, mut closers: Vec<u8>) -> Result<(), Memory>
     Ok(())
 }
 
-/// Writes a term at a place.
-///
-/// It goes on along the right part of a pair, the argument of an application and the body of an
-/// abstraction, and calls itself on left parts of pairs alone.
+/// A part of a term that is still to be written: where it stands, and what stands behind it, the last first.
+#[derive(Drop)]
+struct Part<'a> {
+    term: &'a Term,
+    place: Place,
+    closers: Vec<u8>,
+}
+
+/// Writes what stands at a part before its own parts, and what stands behind it where it has none. The next part
+/// is its first one; the right part of a pair waits.
+fn write_part<'a>(
+    alloc: Global,
+    out: &mut Vec<u8>,
+    by: &Speller<'_>,
+    waiting: &mut Vec<Part<'a>>,
+    part: Part<'a>,
+) -> Result<Option<Part<'a>>, Memory>
+    ensures written { IfOk result (λ next.
+        text_left (spelling_in by.now) out.new.items waiting.new.items next
+        ≡ waiting_text (spelling_in by.now) (part_text (spelling_in by.now) out.old.items
+        part.entry) waiting.old.items) }
+    ensures less { IfOk result (λ next. waiting_work waiting.new.items + next_work next
+        < waiting_work waiting.old.items + part_work part.entry) }
+{
+    let Part {
+        term,
+        place,
+        mut closers,
+    } = part;
+    match term {
+        Term::Unit => write_unit(out, place)?,
+        Term::Name(name) => {
+            write_bar(out, place)?;
+            by.write_name(out, *name)?;
+        }
+        Term::Susp(swaps, var) => {
+            write_bar(out, place)?;
+            write_suspension(out, by, swaps.items(), *var)?;
+        }
+        Term::Pair(left, right) => {
+            begin_pair(out, &mut closers, place)?;
+            waiting.push(Part {
+                term: right,
+                place,
+                closers,
+            })?;
+            return Ok(Some(Part {
+                term: left,
+                place: Place::Whole,
+                closers: Vec::new(alloc),
+            }));
+        }
+        Term::App(f, argument) => {
+            if let Some(place) = begin_application(out, &mut closers, by.constructors, *f, place)? {
+                return Ok(Some(Part {
+                    term: argument,
+                    place,
+                    closers,
+                }));
+            }
+        }
+        Term::Abs(name, body) => {
+            begin_abstraction(out, by, *name, place)?;
+            return Ok(Some(Part {
+                term: body,
+                place: Place::Whole,
+                closers,
+            }));
+        }
+    }
+    write_closers(out, closers)?;
+    Ok(None)
+}
+
+/// Writes what stands between the parts of a pair, whose left part is written: the right one comes next.
+fn behind_left<'a>(out: &mut Vec<u8>, pair: Part<'a>) -> Result<Part<'a>, Memory>
+    ensures written { IfOk result (λ right. (by : Spelling) → part_text by out.new.items right
+        ≡ right_text by out.old.items pair.entry) }
+    ensures same { IfOk result (λ right. part_work right ≡ part_work pair.entry) }
+{
+    let Part {
+        term,
+        place,
+        closers,
+    } = pair;
+    let place = write_between(out, place)?;
+    Ok(Part {
+        term,
+        place,
+        closers,
+    })
+}
+
+/// Writes a term at a place. The right parts of pairs wait on a stack while the left ones are written, so a term
+/// may be deep on either side.
+#[tactic(auto, using(crate::proofs::WritingLemmas::waiting_last, crate::proofs::WritingLemmas::work_last))]
 pub fn write_term(
     alloc: Global,
     out: &mut Vec<u8>,
     by: &Speller<'_>,
     term: &Term,
-    mut place: Place,
+    place: Place,
 ) -> Result<(), Memory>
     ensures { OnOk result (out.new.items
         ≡ out.old.items ++ term_at (spelling_in by.now) (term_of term.now) (written_place place)) }
 {
-    let mut closers = Vec::new(alloc);
-    let mut rest = term;
-    loop {
-        match rest {
-            Term::Unit => {
-                write_unit(out, place)?;
-                return write_closers(out, closers);
-            }
-            Term::Name(name) => {
-                write_bar(out, place)?;
-                by.write_name(out, *name)?;
-                return write_closers(out, closers);
-            }
-            Term::Susp(swaps, var) => {
-                write_bar(out, place)?;
-                write_suspension(out, by, swaps.items(), *var)?;
-                return write_closers(out, closers);
-            }
-            Term::Pair(left, right) => {
-                begin_pair(out, &mut closers, place)?;
-                write_term(alloc, out, by, left, Place::Whole)?;
-                place = write_between(out, place)?;
-                rest = right;
-            }
-            Term::App(f, argument) => {
-                let next = begin_application(out, &mut closers, by.constructors, *f, place)?;
-                let Some(next) = next else {
-                    return write_closers(out, closers);
-                };
-                place = next;
-                rest = argument;
-            }
-            Term::Abs(name, body) => {
-                begin_abstraction(out, by, *name, place)?;
-                place = Place::Whole;
-                rest = body;
-            }
+    let mut waiting = Vec::new(alloc);
+    let mut next = Some(Part {
+        term,
+        place,
+        closers: Vec::new(alloc),
+    });
+    'writing: loop {
+        match next {
+            Some(part) => next = write_part(alloc, out, by, &mut waiting, part)?,
+            None => match waiting.pop() {
+                None => return Ok(()),
+                Some(pair) => next = Some(behind_left(out, pair)?),
+            },
         }
     }
 }

@@ -8,11 +8,12 @@ use Rattle.ap_defs.specs.declared.paths.Node.{Node}
 use Rattle.ap_defs.specs.declared.paths.Node.TheVariants as nodes
 use Rattle.ap_defs.specs.declared.paths.Out.TheVariants as code
 use Rattle.ap_paths.specs.Trees.{IsChoice}
-use Rattle.ap_backchain.specs.Branches.{IsAnswering, IsBranchOf, IsChoiceOfNode, IsChoosing, IsNamedNode, IsStandingOf, path_of_branch, width_of_standing}
+use Rattle.ap_backchain.specs.Branches.{IsAnswering, IsBranchOf, IsChoiceOfNode, IsStandingOf, path_of_branch}
+use Rattle.ap_turns.specs.Standings.{IsChoosing, IsNamedNode, width_of_standing}
 use Rattle.ap_backchain.specs.Problems.{HasQuery, clauses_in, queries_in}
 use Rattle.ap_backchain.specs.declared.branch.Branch.{Branch}
-use Rattle.ap_backchain.specs.declared.standing.Standing.{Standing}
-use Rattle.ap_backchain.specs.declared.standing.Standing.TheVariants as standings
+use Rattle.ap_turns.specs.declared.standing.Standing.{Standing}
+use Rattle.ap_turns.specs.declared.standing.Standing.TheVariants as standings
 use Rattle.ap_backchain.specs.declared.problem.Problem.{Problem}
 use Rattle.ap_backchain.proofs.BranchLemmas.{answer_at, node_ways}
 

@@ -14,11 +14,11 @@ use Rattle.ap_store.specs.declared.store.Store.{Store}
 use Rattle.ap_store.proofs.StoreLemmas.{well_formed}
 use Rattle.ap_theory.proofs.HeadKeyLemmas.{first_differs, first_renamed}
 use Rattle.ap_theory.proofs.RefusalLemmas.{unify_heads}
-use Rattle.ap_backchain.specs.Positions.{Position, enters_clause, positions_by_clauses, clause_state, each_position, entered, unified_state}
-use Rattle.ap_backchain.specs.Machines.{position_of}
+use Rattle.ap_machine.specs.Positions.{Position, enters_clause, positions_by_clauses, clause_state, each_position, entered, unified_state}
+use Rattle.ap_machine.specs.Machines.{position_of}
 use Rattle.ap_backchain.specs.ChoicePoints.{positions_left}
-use Rattle.ap_backchain.specs.Views.{state_in}
-use Rattle.ap_backchain.specs.declared.machine.Machine.{Machine}
+use Rattle.ap_machine.specs.Views.{state_in}
+use Rattle.ap_machine.specs.declared.machine.Machine.{Machine}
 use Rattle.ap_backchain.specs.declared.points.Rest.TheVariants as rests
 use Rattle.ap_backchain.specs.declared.points.Untried.{Untried}
 use Rattle.std.specs.List.{position_or_len}

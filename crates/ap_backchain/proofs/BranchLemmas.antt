@@ -24,22 +24,23 @@ use Rattle.ap_search.proofs.PrefixLemmas.{beginning_deeper, beginning_whole}
 use Rattle.ap_search.proofs.QueryTreeLemmas.{outs_at_marks, place_choice, width_choice}
 use Rattle.ap_backchain.proofs.MarkLemmas.{marks_turned, settled}
 use Rattle.ap_backchain.proofs.TurnLemmas.{turns_turned, width_told, written_turned}
-use Rattle.ap_backchain.proofs.UnboundLemmas.{marked_stack_by_unbound, stack_by_unbound}
-use Rattle.ap_backchain.specs.Branches.{IsBranchOf, IsChoiceAt, IsChoiceOfNode, IsChoosing, IsNamedNode, IsNodeAt, IsStandingFor, IsStandingOf, choices_at, marks_of_standing, path_of_branch, path_of_standing, width_of_standing}
+use Rattle.ap_machine.proofs.UnboundLemmas.{marked_stack_by_unbound, stack_by_unbound}
+use Rattle.ap_backchain.specs.Branches.{IsBranchOf, IsChoiceOfNode, IsNodeAt, IsStandingFor, IsStandingOf, choices_at, path_of_branch}
+use Rattle.ap_turns.specs.Standings.{IsChoiceAt, IsChoosing, IsNamedNode, marks_of_standing, path_of_standing, width_of_standing}
 use Rattle.ap_backchain.specs.Ends.{kept_out}
 use Rattle.ap_backchain.specs.declared.run.Paths.{Paths}
 use Rattle.ap_backchain.specs.declared.run.Paths.TheVariants as variants
-use Rattle.ap_backchain.specs.Marks.{IsSettled, choice_of, choice_of_atom, choices_among, marks_from, marks_of_turned, told_of, written_here}
-use Rattle.ap_backchain.specs.Machines.{position_of}
-use Rattle.ap_backchain.specs.Positions.{Position, Turned, ends, goes, outs_from, turned}
+use Rattle.ap_turns.specs.Marks.{IsSettled, choice_of, choice_of_atom, choices_among, marks_from, marks_of_turned, told_of, written_here}
+use Rattle.ap_machine.specs.Machines.{position_of}
+use Rattle.ap_machine.specs.Positions.{Position, Turned, ends, goes, outs_from, turned}
 use Rattle.ap_backchain.specs.Problems.{clauses_in, program_of_problem, queries_in}
 use Rattle.ap_backchain.specs.Starts.{first_position}
 use Rattle.ap_backchain.specs.Turns.{turns_from, turns_of_turned}
-use Rattle.ap_backchain.specs.Unbound.{answer_by_unbound}
+use Rattle.ap_machine.specs.Unbound.{answer_by_unbound}
 use Rattle.ap_backchain.specs.declared.branch.Branch.{Branch}
-use Rattle.ap_backchain.specs.declared.standing.Standing.{Standing}
-use Rattle.ap_backchain.specs.declared.standing.Standing.TheVariants as standings
-use Rattle.ap_backchain.specs.declared.machine.Machine.{Machine}
+use Rattle.ap_turns.specs.declared.standing.Standing.{Standing}
+use Rattle.ap_turns.specs.declared.standing.Standing.TheVariants as standings
+use Rattle.ap_machine.specs.declared.machine.Machine.{Machine}
 use Rattle.ap_backchain.specs.declared.problem.Problem.{Problem}
 
 -- A turn of a machine that doesn't choose.

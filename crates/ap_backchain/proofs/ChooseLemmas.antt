@@ -18,9 +18,9 @@ use Rattle.ap_search.proofs.ChoiceLemmas.{beginning_first, beginning_second, mar
 use Rattle.ap_search.proofs.TreeLemmas.{calls_grow, marked_stack_begins, stack_grows}
 use Rattle.ap_search.proofs.PrefixLemmas.{beginning_other, beginning_whole, prefix_itself, prefix_longer}
 use Rattle.ap_backchain.proofs.TurnLemmas.{written_clause}
-use Rattle.ap_backchain.specs.Marks.{IsAmongWays, choice_of_goal, clauses_marks, goal_marks, marks_from, marks_from_each}
-use Rattle.ap_backchain.specs.Positions.{Position, enters_clause, each_position, entered, with_choice, with_goal}
-use Rattle.ap_backchain.specs.Unbound.{answer_by_unbound}
+use Rattle.ap_turns.specs.Marks.{IsAmongWays, choice_of_goal, clauses_marks, goal_marks, marks_from, marks_from_each}
+use Rattle.ap_machine.specs.Positions.{Position, enters_clause, each_position, entered, with_choice, with_goal}
+use Rattle.ap_machine.specs.Unbound.{answer_by_unbound}
 
 past_choice : (p : List ℕ) (k : ℕ) (w : Choice) (ms : List NominalMark) → beginning mark_path (p ++ k ∷ []) (choice p w ∷ ms) ≡ beginning mark_path (p ++ k ∷ []) ms
 past_choice p k w ms =

@@ -5,8 +5,8 @@ use Rattle.ap_defs.specs.Paths.{Choice}
 use Rattle.ap_defs.specs.Goals.{Clauses}
 use Rattle.ap_defs.specs.Types.{NominalLocal}
 use Rattle.ap_search.specs.Marks.{NominalMark, out, choice, with_choices}
-use Rattle.ap_backchain.specs.Marks.{choices_among, choices_here, marks_from, marks_from_each, marks_of_turned, choices_made, told_of, written_here}
-use Rattle.ap_backchain.specs.Positions.{Position, Turned, ends, goes, turned}
+use Rattle.ap_turns.specs.Marks.{choices_among, choices_here, marks_from, marks_from_each, marks_of_turned, choices_made, told_of, written_here}
+use Rattle.ap_machine.specs.Positions.{Position, Turned, ends, goes, turned}
 use Rattle.ap_backchain.specs.Searches.{positions_followed}
 use Rattle.ap_backchain.proofs.TurnLemmas.{width_told, written_append, written_turned}
 

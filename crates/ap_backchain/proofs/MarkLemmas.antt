@@ -12,8 +12,8 @@ use Rattle.ap_defs.specs.Types.{NominalLocal}
 use Rattle.ap_defs.specs.Unification.{reduce_all, unify}
 use Rattle.ap_search.specs.Continuations.{Waiting}
 use Rattle.ap_search.specs.Marks.{with_choices}
-use Rattle.ap_backchain.specs.Marks.{IsSettled, choice_of, choice_of_atom, choice_of_goal, marks_from, marks_of_turned, written_here}
-use Rattle.ap_backchain.specs.Positions.{Position, Turned, each_position, ends, goes, reduced_state, turned, turned_atom, turned_by, turned_fresh, turned_goal, unified_state, with_state}
+use Rattle.ap_turns.specs.Marks.{IsSettled, choice_of, choice_of_atom, choice_of_goal, marks_from, marks_of_turned, written_here}
+use Rattle.ap_machine.specs.Positions.{Position, Turned, each_position, ends, goes, reduced_state, turned, turned_atom, turned_by, turned_fresh, turned_goal, unified_state, with_state}
 use Rattle.ap_backchain.proofs.TurnLemmas.{nothing_chosen, written_turned}
 
 pub marks_turned : (program : Clauses) (locals : List NominalLocal) (p : Position) → choice_of program p.waiting ≡ None

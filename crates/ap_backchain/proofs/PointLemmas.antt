@@ -1,10 +1,10 @@
 -- Choices stay as they are while the search goes on.
 use Rattle.std.proofs.Common.{◌≡◌, List, [], ◌∷◌, ◌++◌, refl, sym, ap, subst}
 use Rattle.ap_backchain.specs.ChoicePoints.{ArePoints, IsFitRest, positions_left, positions_pending}
-use Rattle.ap_backchain.specs.Below.{AreWaitingBelow}
-use Rattle.ap_backchain.specs.Tracks.{GoesFrom, Track, next_in, position_at}
+use Rattle.ap_machine.specs.Below.{AreWaitingBelow}
+use Rattle.ap_machine.specs.Tracks.{GoesFrom, Track, next_in, position_at}
 use Rattle.ap_backchain.specs.declared.points.ChoicePoint.{ChoicePoint}
-use Rattle.ap_backchain.proofs.TrackLemmas.{back_from, within_from}
+use Rattle.ap_machine.proofs.TrackLemmas.{back_from, within_from}
 
 pub pending_from : (t u : Track) (ps : List ChoicePoint) → ArePoints t ps → GoesFrom t u → positions_pending u ps ≡ positions_pending t ps
 pending_from t u [] h g = refl

@@ -10,22 +10,22 @@ use Rattle.ap_defs.specs.Renaming.{rename_term}
 use Rattle.ap_defs.specs.Terms.{NominalTerm, term_of}
 use Rattle.ap_defs.specs.declared.goals.Clause.{Clause}
 use Rattle.ap_defs.specs.declared.terms.Term.{Term}
-use Rattle.ap_backchain.specs.Below.{AreWaitingBelow}
-use Rattle.ap_backchain.specs.Marks.{choice_of_atom, choice_of_goal}
-use Rattle.ap_backchain.specs.Machines.{next_of, position_of, track_of}
+use Rattle.ap_machine.specs.Below.{AreWaitingBelow}
+use Rattle.ap_turns.specs.Marks.{choice_of_atom, choice_of_goal}
+use Rattle.ap_machine.specs.Machines.{next_of, position_of, track_of}
 use Rattle.ap_backchain.specs.ChoicePoints.{ArePoints, IsFitRest, IsPoint, positions_left, positions_pending}
-use Rattle.ap_backchain.specs.Positions.{Position, enters_clause, positions_by_clauses, goes, turned_atom, turned_goal}
+use Rattle.ap_machine.specs.Positions.{Position, enters_clause, positions_by_clauses, goes, turned_atom, turned_goal}
 use Rattle.ap_backchain.specs.Searches.{HasPoints, ended_outs, pending_positions}
-use Rattle.ap_backchain.specs.Tracks.{GoesFrom, IsSaveWithin, Track, back_to, next_in, position_at}
-use Rattle.ap_backchain.specs.declared.machine.Machine.{Machine}
+use Rattle.ap_machine.specs.Tracks.{GoesFrom, IsSaveWithin, Track, back_to, next_in, position_at}
+use Rattle.ap_machine.specs.declared.machine.Machine.{Machine}
 use Rattle.ap_backchain.specs.declared.points.ChoicePoint.{ChoicePoint}
 use Rattle.ap_backchain.specs.declared.points.Rest.{Rest}
 use Rattle.ap_backchain.specs.declared.points.Rest.TheVariants as rests
-use Rattle.ap_backchain.specs.declared.points.Save.{Save}
+use Rattle.ap_machine.specs.declared.saves.Save.{Save}
 use Rattle.ap_backchain.specs.declared.points.Untried.{Untried}
-use Rattle.ap_backchain.proofs.MachineLemmas.{next_here}
+use Rattle.ap_machine.proofs.MachineLemmas.{next_here}
 use Rattle.ap_backchain.proofs.PointLemmas.{pending_from, points_from}
-use Rattle.ap_backchain.proofs.TrackLemmas.{back_from, within_from}
+use Rattle.ap_machine.proofs.TrackLemmas.{back_from, within_from}
 
 pub on_ok : {T E P : Type 0} (r : Result T E) → P → OnOk r P
 on_ok (Ok x) p = p

@@ -7,7 +7,7 @@ use Rattle.ap_defs.specs.Types.{NominalLocal}
 use Rattle.ap_paths.specs.Limits.{IsWanting, part}
 use Rattle.ap_paths.specs.declared.limits.Limit.{Limit}
 use Rattle.ap_search.specs.Continuations.{outputs_alone}
-use Rattle.ap_backchain.specs.Positions.{Position, Turned, ends, goes, outs_from_each, outs_of_turned, turned}
+use Rattle.ap_machine.specs.Positions.{Position, Turned, ends, goes, outs_from_each, outs_of_turned, turned}
 use Rattle.ap_backchain.specs.Searches.{ended_outs, positions_followed}
 use Rattle.ap_backchain.specs.Turns.{turns_from, turns_from_each, turns_of_turned}
 use Rattle.ap_backchain.specs.Wanted.{wanted_after}

@@ -16,10 +16,10 @@ use Rattle.ap_defs.specs.Terms.{NominalTerm}
 use Rattle.ap_defs.specs.Types.{NominalLocal}
 use Rattle.ap_defs.specs.Unification.{Unified, reduce_all, unify}
 use Rattle.ap_search.specs.Continuations.{Continuation, Waiting, Writing, calls_then, clause_then, clauses_then, goal_then, outputs_alone, stack_then, then_if_reduced, then_if_unified, then_test_fresh}
-use Rattle.ap_backchain.specs.Marks.{choice_of, choice_of_atom, choice_of_goal, told_of, told_of_atom, told_of_goal, written_here}
-use Rattle.ap_backchain.specs.Positions.{Position, enters_clause, positions_by_clauses, clause_state, each_position, entered, outs_from, outs_of_turned, reduced_state, turned, turned_atom, turned_by, turned_fresh, turned_goal, unified_state, with_state, written_from, written_from_each, written_of_turned}
+use Rattle.ap_turns.specs.Marks.{choice_of, choice_of_atom, choice_of_goal, told_of, told_of_atom, told_of_goal, written_here}
+use Rattle.ap_machine.specs.Positions.{Position, enters_clause, positions_by_clauses, clause_state, each_position, entered, outs_from, outs_of_turned, reduced_state, turned, turned_atom, turned_by, turned_fresh, turned_goal, unified_state, with_state, written_from, written_from_each, written_of_turned}
 use Rattle.ap_backchain.specs.Turns.{call_turns, clauses_turns, fresh_turns, goal_turns, stack_turns, turns_from, turns_from_each, turns_if, turns_of_turned}
-use Rattle.ap_backchain.specs.Unbound.{answer_by_unbound}
+use Rattle.ap_machine.specs.Unbound.{answer_by_unbound}
 
 -- What is written: that of the choice that the first goal makes, and what a turn makes of the machine.
 module _ {R : Type 0} (w : Writing R) (program : Clauses) (locals : List NominalLocal) where

@@ -6,7 +6,7 @@ use Rattle.ap_paths.specs.Limits.{IsWanting, found_in, is_answer_out, part}
 use Rattle.ap_paths.specs.declared.limits.Limit.{Limit}
 use Rattle.ap_paths.specs.declared.limits.Limit.TheVariants as limits
 use Rattle.ap_backchain.specs.Ends.{kept_out}
-use Rattle.ap_backchain.specs.Positions.{Turned, ends, goes}
+use Rattle.ap_machine.specs.Positions.{Turned, ends, goes}
 use Rattle.ap_backchain.specs.Searches.{ended_outs}
 use Rattle.ap_backchain.specs.Wanted.{wanted_after}
 use Rattle.ap_backchain.specs.declared.run.Paths.{Paths}

@@ -1,63 +1,21 @@
 -- Branches, and what it is for one to be of a problem.
 use Rattle.std.specs.Prelude.{◌≡◌, ◌≤◌, ◌-◌, ℕ, List, [], ◌∷◌, Option, Some, None, map, slice_get}
 use Rattle.ap_defs.specs.Answers as answers
-use Rattle.ap_defs.specs.Answers.{NominalAnswer, out_of, out_path, outs_at}
+use Rattle.ap_defs.specs.Answers.{NominalAnswer, outs_at}
 use Rattle.ap_defs.specs.Goals.{Clauses, NominalQuery}
 use Rattle.ap_defs.specs.Paths.{marked_query}
-use Rattle.ap_defs.specs.Types.{NominalLocal}
 use Rattle.ap_defs.specs.declared.paths.Node.{Node}
 use Rattle.ap_defs.specs.declared.paths.Node.TheVariants as nodes
-use Rattle.ap_defs.specs.declared.paths.Out.TheVariants as code
-use Rattle.ap_search.specs.Marks.{NominalMark, out, mark_in, mark_path}
+use Rattle.ap_search.specs.Marks.{mark_in, mark_path}
 use Rattle.ap_search.specs.PathTrees.{query_choice, query_choices}
 use Rattle.ap_search.specs.Prefixes.{beginning}
-use Rattle.ap_backchain.specs.Marks.{choice_of, choices_among, marks_from, told_of}
-use Rattle.ap_backchain.specs.Machines.{position_of}
+use Rattle.ap_turns.specs.Marks.{choices_among}
 use Rattle.ap_backchain.specs.Problems.{clauses_in, queries_in}
 use Rattle.ap_backchain.specs.declared.branch.Branch.{Branch}
 use Rattle.ap_backchain.specs.declared.descent.Descent.{Descent}
-use Rattle.ap_backchain.specs.declared.standing.Standing.{Standing}
-use Rattle.ap_backchain.specs.declared.standing.Standing.TheVariants as standings
+use Rattle.ap_turns.specs.Standings.{IsChoosing, IsNamedNode, marks_of_standing, path_of_standing, width_of_standing}
+use Rattle.ap_turns.specs.declared.standing.Standing.{Standing}
 use Rattle.ap_backchain.specs.declared.problem.Problem.{Problem}
-
-abbrev pub path_of_standing : Standing → List ℕ
-path_of_standing (standings.Choosing w p) = p.path.items
-path_of_standing (standings.Ended o) = out_path (out_of o)
-path_of_standing (standings.Failed path) = path.items
-
--- the marks of the search from where a branch stands
-abbrev pub marks_of_standing : Clauses → List NominalLocal → Standing → List NominalMark
-marks_of_standing program locals (standings.Choosing w p) = marks_from program locals (position_of p)
-marks_of_standing program locals (standings.Ended o) = out (out_of o) ∷ []
-marks_of_standing program locals (standings.Failed path) = []
-
--- where it chooses it knows among how many
-abbrev pub IsChoosing : Clauses → Standing → Type 0
-IsChoosing program (standings.Choosing w p) = choice_of program (position_of p).waiting ≡ Some w
-IsChoosing program (standings.Ended o) = Unit {0}
-IsChoosing program (standings.Failed path) = Unit {0}
-
--- it stands before a choice, among which this is
-abbrev pub IsChoiceAt : ℕ → Standing → Type 0
-IsChoiceAt k (standings.Choosing w p) = (1 ≤ k) × (k ≤ w)
-IsChoiceAt k (standings.Ended o) = ⊥
-IsChoiceAt k (standings.Failed path) = ⊥
-
--- the node says where it stands, and of a choice what its goal keeps
-abbrev pub IsNamedNode : Clauses → Node → Standing → Type 0
-IsNamedNode program (nodes.Choice w kept) (standings.Choosing v p) =
-    (w ≡ v) × (told_of program (position_of p).state (position_of p).waiting ≡ Some (record { width = w; kept = kept }))
-IsNamedNode program nodes.Answer (standings.Ended (code.Found p a)) = Unit {0}
-IsNamedNode program nodes.Cut (standings.Ended (code.Cut p)) = Unit {0}
-IsNamedNode program nodes.Stuck (standings.Ended (code.Stuck p)) = Unit {0}
-IsNamedNode program nodes.Failed (standings.Failed path) = Unit {0}
-IsNamedNode program _ _ = ⊥
-
--- among how many ways it chooses there, if it does
-abbrev pub width_of_standing : Standing → Option ℕ
-width_of_standing (standings.Choosing w p) = Some w
-width_of_standing (standings.Ended o) = None
-width_of_standing (standings.Failed path) = None
 
 -- how many choices the search of a query makes at a path and below it
 abbrev pub choices_at : Clauses → ℕ → NominalQuery → List ℕ → ℕ

@@ -4,9 +4,9 @@ use Rattle.ap_defs.specs.Goals.{clause_of, goal_of}
 use Rattle.ap_defs.specs.Renaming.{AreBelow, IsGoalBelow, rename_goal, rename_term}
 use Rattle.ap_defs.specs.Terms.{term_of}
 use Rattle.ap_search.specs.FitStates.{AreFitClauses}
-use Rattle.ap_backchain.specs.Below.{AreWaitingBelow}
-use Rattle.ap_backchain.specs.Positions.{Position, positions_by_clauses, with_choice, with_goal}
-use Rattle.ap_backchain.specs.Tracks.{IsSaveWithin, Track, back_to, next_in, position_at}
+use Rattle.ap_machine.specs.Below.{AreWaitingBelow}
+use Rattle.ap_machine.specs.Positions.{Position, positions_by_clauses, with_choice, with_goal}
+use Rattle.ap_machine.specs.Tracks.{IsSaveWithin, Track, back_to, next_in, position_at}
 use Rattle.ap_backchain.specs.declared.points.ChoicePoint.{ChoicePoint}
 use Rattle.ap_backchain.specs.declared.points.Rest.{Rest}
 use Rattle.ap_backchain.specs.declared.points.Rest.TheVariants as rests

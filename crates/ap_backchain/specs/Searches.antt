@@ -2,10 +2,10 @@
 use Rattle.std.specs.Global.{Global}
 use Rattle.std.specs.Prelude.{Bool, true, false, List, [], ◌∷◌, ◌++◌, Vec, reverse}
 use Rattle.ap_defs.specs.Answers.{NominalOut}
-use Rattle.ap_backchain.specs.Machines.{position_of, track_of}
+use Rattle.ap_machine.specs.Machines.{position_of, track_of}
 use Rattle.ap_backchain.specs.ChoicePoints.{ArePoints, positions_pending}
-use Rattle.ap_backchain.specs.Positions.{Position, Turned, ends, goes}
-use Rattle.ap_backchain.specs.declared.machine.Machine.{Machine}
+use Rattle.ap_machine.specs.Positions.{Position, Turned, ends, goes}
+use Rattle.ap_machine.specs.declared.machine.Machine.{Machine}
 use Rattle.ap_backchain.specs.declared.points.ChoicePoint.{ChoicePoint}
 
 -- from where the search goes on by the ways that choices have left; the last point is the latest choice

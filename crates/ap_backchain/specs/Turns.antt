@@ -10,7 +10,7 @@ use Rattle.ap_defs.specs.Terms as terms
 use Rattle.ap_defs.specs.Terms.{NominalTerm}
 use Rattle.ap_defs.specs.Unification.{reduce_all, unify}
 use Rattle.ap_search.specs.Continuations.{Waiting}
-use Rattle.ap_backchain.specs.Positions.{Position, Turned, clause_state, ends, goes, reduced_state, unified_state}
+use Rattle.ap_machine.specs.Positions.{Position, Turned, clause_state, ends, goes, reduced_state, unified_state}
 
 abbrev pub turns_if : (State → ℕ) → Option State → ℕ
 turns_if k None = 0

@@ -6,27 +6,26 @@ ghost use Rattle.ap_defs.specs.Goals.{NominalQuery, program_in};
 ghost use Rattle.ap_search.specs.Marks.{outs_among};
 ghost use Rattle.ap_backchain.specs.declared.problem.Problem.{Problem};
 ghost use Rattle.ap_defs.specs.Types.{locals_of};
-ghost use Rattle.ap_backchain.specs.Below.{AreClausesBelow};
-ghost use Rattle.ap_backchain.specs.Branches.{IsAnswering, IsBranchOf, IsChoiceOf, IsChoosing, IsNamedNode, IsNodeAt, choices_at, marks_of_standing, path_of_branch};
+ghost use Rattle.ap_machine.specs.Below.{AreClausesBelow};
+ghost use Rattle.ap_backchain.specs.Branches.{IsAnswering, IsBranchOf, IsChoiceOf, IsNodeAt, choices_at, path_of_branch};
+ghost use Rattle.ap_turns.specs.Standings.{IsChoosing, IsNamedNode, marks_of_standing};
 ghost use Rattle.ap_backchain.specs.Ends.{kept_out};
-ghost use Rattle.ap_backchain.specs.Marks.{choices_among};
+ghost use Rattle.ap_turns.specs.Marks.{choices_among};
 ghost use Rattle.ap_backchain.specs.Problems.{HasQuery, clauses_in, queries_in};
 
-use crate::answer_copies::copy_answer;
 use crate::counted::outputs_by_choices;
 use crate::descent::Descent;
 use crate::ends::out_with;
-use crate::kept::kept_at;
 use crate::problem::{Problem, clauses_of_problem, query_of_problem};
 use crate::run::{Paths, outputs_from};
-use crate::standing::{Standing, path_of};
-use ap_defs::goals::{Goal, Local};
-use ap_defs::lists::List;
+use ap_defs::goals::Local;
 use ap_defs::memory::Memory;
 use ap_defs::outcomes::Answer;
 use ap_defs::paths::{Node, Out};
 use ap_index::predicate::Predicate;
+use ap_machine::answer_copies::copy_answer;
 use ap_paths::Limit;
+use ap_turns::standing::{Standing, node_of, path_of};
 use std::alloc::Global;
 
 /// A branch of a search, which has been run up to a choice or to its end.
@@ -34,30 +33,6 @@ use std::alloc::Global;
 pub struct Branch<'a> {
     node: Node,
     standing: Standing<'a>,
-}
-
-/// The node of where a search stands.
-fn node_of<'a>(
-    alloc: Global,
-    clauses: &'a [Predicate<'a>],
-    standing: &Standing<'a>,
-) -> Result<Node, Memory>
-    requires clauses { AreClausesBelow (program_in clauses.now) }
-    requires choosing { IsChoosing (program_in clauses.now) standing.now }
-    ensures { IfOk result (λ n. IsNamedNode (program_in clauses.now) n standing.now) }
-{
-    match standing {
-        Standing::Choosing(width, machine) => {
-            let kept = kept_at(alloc, clauses, machine)?;
-            Ok(Node::Choice(*width, List::of(kept)))
-        }
-        Standing::Ended(out) => match out {
-            Out::Found(_, _) => Ok(Node::Answer),
-            Out::Cut(_) => Ok(Node::Cut),
-            Out::Stuck(_) => Ok(Node::Stuck),
-        },
-        Standing::Failed(_) => Ok(Node::Failed),
-    }
 }
 
 /// The branch that stands there.

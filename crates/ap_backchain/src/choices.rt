@@ -2,16 +2,16 @@
 
 ghost use Rattle.std.specs.Prelude.{◌≡◌, ℕ, false, true, None, Some, MatchOption};
 ghost use Rattle.ap_defs.specs.Goals.{Clauses, program_in};
-ghost use Rattle.ap_backchain.specs.Below.{AreClausesBelow};
-ghost use Rattle.ap_backchain.specs.Marks.{choice_of, choice_of_goal};
-ghost use Rattle.ap_backchain.specs.Machines.{position_of};
-ghost use Rattle.ap_backchain.specs.Views.{waiting_of};
+ghost use Rattle.ap_machine.specs.Below.{AreClausesBelow};
+ghost use Rattle.ap_turns.specs.Marks.{choice_of, choice_of_goal};
+ghost use Rattle.ap_machine.specs.Machines.{position_of};
+ghost use Rattle.ap_machine.specs.Views.{waiting_of};
 
-use crate::clauses::clauses_at;
-use crate::frames::Frame;
-use crate::machine::Machine;
 use ap_defs::goals::Goal;
 use ap_index::predicate::Predicate;
+use ap_machine::frames::Frame;
+use ap_machine::machine::Machine;
+use ap_turns::clauses::clauses_at;
 
 /// Among how many the goal of a frame chooses, if it chooses.
 fn choice_of_frame<'a>(clauses: &'a [Predicate<'a>], frame: &Frame<'a>) -> Option<u32>

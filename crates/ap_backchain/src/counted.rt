@@ -4,19 +4,19 @@ ghost use Rattle.std.specs.Prelude.{◌≡◌, ◌+◌, ◌<◌, ◌≤◌, ◌^
 ghost use Rattle.ap_defs.specs.Answers.{outs_of};
 ghost use Rattle.ap_defs.specs.Goals.{program_in};
 ghost use Rattle.ap_defs.specs.Types.{locals_of};
-ghost use Rattle.ap_backchain.specs.Below.{AreClausesBelow};
+ghost use Rattle.ap_machine.specs.Below.{AreClausesBelow};
 ghost use Rattle.ap_backchain.specs.Ends.{kept_out};
-ghost use Rattle.ap_backchain.specs.Marks.{choices_from, choices_here};
-ghost use Rattle.ap_backchain.specs.Machines.{position_of};
-ghost use Rattle.ap_backchain.specs.Positions.{outs_from};
+ghost use Rattle.ap_turns.specs.Marks.{choices_from, choices_here};
+ghost use Rattle.ap_machine.specs.Machines.{position_of};
+ghost use Rattle.ap_machine.specs.Positions.{outs_from};
 
 use crate::choices::choice_at;
-use crate::machine::Machine;
 use crate::run::{Paths, go_on};
 use ap_defs::goals::Local;
 use ap_defs::memory::Memory;
 use ap_defs::paths::Out;
 use ap_index::predicate::Predicate;
+use ap_machine::machine::Machine;
 use ap_paths::Limit;
 use std::alloc::Global;
 

@@ -11,9 +11,10 @@ ghost use Rattle.ap_backchain.specs.declared.problem.Problem.{Problem};
 use crate::branch::{Branch, branch_at};
 use crate::problem::{Problem, clauses_of_problem, query_of_problem};
 use crate::run::first_machine;
-use crate::standing::{Standing, advance, width_of};
+use crate::standing::advance;
 use crate::step::choose;
 use ap_defs::memory::Memory;
+use ap_turns::standing::{Standing, width_of};
 use std::alloc::Global;
 
 /// The search of a problem on its way along a path: it has been run up to a choice or to its end. Which

@@ -1,32 +1,12 @@
-//! How a search ends at a machine.
+//! Outputs with their paths or without.
 
 ghost use Rattle.std.specs.Prelude.{◌≡◌};
 ghost use Rattle.ap_defs.specs.Answers.{out_of};
-ghost use Rattle.ap_backchain.specs.Ends.{end_out, kept_out, without_path};
+ghost use Rattle.ap_backchain.specs.Ends.{kept_out, without_path};
 
 use crate::run::Paths;
-use ap_defs::outcomes::Answer;
 use ap_defs::paths::{Out, Path};
 use std::alloc::Global;
-
-/// An answer, a cut or a stuck branch, without the path to it.
-#[derive(Drop)]
-pub enum End {
-    Found(Answer),
-    Cut,
-    Stuck,
-}
-
-/// The output of an end to which these choices led. It takes no memory.
-pub fn out_at(path: Vec<u32>, end: End) -> Out
-    ensures { out_of result ≡ end_out path.items end }
-{
-    match end {
-        End::Found(answer) => Out::Found(Path::of(path), answer),
-        End::Cut => Out::Cut(Path::of(path)),
-        End::Stuck => Out::Stuck(Path::of(path)),
-    }
-}
 
 /// An output without its path. It takes no memory.
 fn out_without_path(alloc: Global, out: Out) -> Out

@@ -1,20 +1,9 @@
 //! Choice points: choices of which some ways are still to be tried.
 
-use crate::frames::Frame;
 use ap_defs::terms::Term;
 use ap_index::predicate::Predicate;
-use ap_store::store::Mark;
-
-/// How far a search had come: the version of the store, and how many cells, choices and ranges of
-/// variables there were, with the number of the first goal that waited.
-#[derive(Clone, Copy)]
-pub struct Save {
-    pub mark: Mark,
-    pub cells: usize,
-    pub first: usize,
-    pub path: usize,
-    pub brought: usize,
-}
+use ap_machine::frames::Frame;
+use ap_machine::saves::Save;
 
 /// The clauses of an atom with these arguments, of which so many were tried. The numbers in the
 /// arguments are raised by `base`, and the body of a clause has the depth.

@@ -3,7 +3,7 @@
 ghost use Rattle.std.specs.Prelude.{◌≡◌, ◌-◌, Some, IfOk, IfSome, map, slice_get};
 ghost use Rattle.ap_defs.specs.Answers.{outs_of, query_outs};
 ghost use Rattle.ap_defs.specs.Goals.{NominalQuery, program_in, query_of};
-ghost use Rattle.ap_backchain.specs.Below.{AreClausesBelow, IsQueryBelow};
+ghost use Rattle.ap_machine.specs.Below.{AreClausesBelow, IsQueryBelow};
 ghost use Rattle.ap_backchain.specs.Ends.{kept_out};
 ghost use Rattle.ap_backchain.specs.Problems.{HasQuery, clauses_in, program_of_problem, queries_in};
 ghost use Rattle.ap_paths.specs.Limits.{part};

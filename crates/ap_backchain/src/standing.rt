@@ -1,57 +1,22 @@
-//! Where branches stand.
+//! Searches up to their first choice or their end.
 
 ghost use Rattle.std.specs.Prelude.{◌≡◌, ◌^◌, ◌<◌, [], IfOk, List as list, length, take};
 ghost use Rattle.ap_defs.specs.Goals.{Clauses, program_in};
 ghost use Rattle.ap_defs.specs.Types.{NominalLocal, locals_of};
-ghost use Rattle.ap_backchain.specs.Below.{AreClausesBelow};
-ghost use Rattle.ap_backchain.specs.Branches.{IsChoosing, marks_of_standing, path_of_standing, width_of_standing};
-ghost use Rattle.ap_backchain.specs.Marks.{marks_from};
-ghost use Rattle.ap_backchain.specs.Machines.{position_of};
+ghost use Rattle.ap_machine.specs.Below.{AreClausesBelow};
+ghost use Rattle.ap_turns.specs.Standings.{IsChoosing, marks_of_standing, path_of_standing};
+ghost use Rattle.ap_turns.specs.Marks.{marks_from};
+ghost use Rattle.ap_machine.specs.Machines.{position_of};
 
 use crate::choices::choice_at;
-use crate::ends::out_at;
-use crate::machine::Machine;
-use crate::turns::{Turn, take_turn};
 use ap_defs::goals::Local;
 use ap_defs::memory::Memory;
-use ap_defs::paths::Out;
 use ap_index::predicate::Predicate;
+use ap_machine::machine::Machine;
+use ap_turns::ends::out_at;
+use ap_turns::standing::Standing;
+use ap_turns::turns::{Turn, take_turn};
 use std::alloc::Global;
-
-/// Where a branch stands: before a choice among so many, at an output, or where the search fails,
-/// with the path.
-#[derive(Drop)]
-pub enum Standing<'a> {
-    Choosing(u32, Machine<'a>),
-    Ended(Out),
-    Failed(Vec<u32>),
-}
-
-/// The choices on the way to where a branch stands.
-pub fn path_of<'s>(standing: &'s Standing<'_>) -> &'s [u32]
-    ensures { result.now ≡ path_of_standing standing.now }
-{
-    match standing {
-        Standing::Choosing(_, machine) => machine.path.as_slice(),
-        Standing::Ended(out) => match out {
-            Out::Found(path, _) => path.choices(),
-            Out::Cut(path) => path.choices(),
-            Out::Stuck(path) => path.choices(),
-        },
-        Standing::Failed(path) => path.as_slice(),
-    }
-}
-
-/// Among how many ways the search chooses where it stands, if it does.
-pub fn width_of(standing: &Standing<'_>) -> Option<u32>
-    ensures { result ≡ width_of_standing standing.now }
-{
-    match standing {
-        Standing::Choosing(width, _) => Some(*width),
-        Standing::Ended(_) => None,
-        Standing::Failed(_) => None,
-    }
-}
 
 /// The search failed with the first so many of the choices on the way to a machine.
 fn failed_at<'a>(machine: Machine<'a>, made: usize) -> Standing<'a>

@@ -8,20 +8,21 @@ ghost use Rattle.ap_defs.specs.Types.{NominalLocal, locals_of};
 ghost use Rattle.ap_search.specs.FitStates.{AreFitClauses};
 ghost use Rattle.ap_search.specs.Marks.{mark_path};
 ghost use Rattle.ap_search.specs.Prefixes.{beginning};
-ghost use Rattle.ap_backchain.specs.Below.{AreClausesBelow};
-ghost use Rattle.ap_backchain.specs.Branches.{IsChoiceAt, IsChoosing, marks_of_standing, path_of_standing};
-ghost use Rattle.ap_backchain.specs.Marks.{IsAmongWays, choice_of_goal, clauses_marks, goal_marks, marks_from};
-ghost use Rattle.ap_backchain.specs.Machines.{next_of, position_of};
-ghost use Rattle.ap_backchain.specs.Positions.{with_choice, with_goal};
+ghost use Rattle.ap_machine.specs.Below.{AreClausesBelow};
+ghost use Rattle.ap_turns.specs.Standings.{IsChoiceAt, IsChoosing, marks_of_standing, path_of_standing};
+ghost use Rattle.ap_turns.specs.Marks.{IsAmongWays, choice_of_goal, clauses_marks, goal_marks, marks_from};
+ghost use Rattle.ap_machine.specs.Machines.{next_of, position_of};
+ghost use Rattle.ap_machine.specs.Positions.{with_choice, with_goal};
 
-use crate::clauses::{clauses_at, enter_clause};
-use crate::frames::Frame;
-use crate::machine::Machine;
-use crate::standing::{Standing, advance};
+use crate::standing::advance;
 use ap_defs::goals::{Clause, Goal, Local};
 use ap_defs::memory::Memory;
 use ap_defs::terms::Term;
 use ap_index::predicate::Predicate;
+use ap_machine::frames::Frame;
+use ap_machine::machine::Machine;
+use ap_turns::clauses::{clauses_at, enter_clause};
+use ap_turns::standing::Standing;
 use std::alloc::Global;
 
 /// The search failed after one more choice.

@@ -3,22 +3,23 @@
 ghost use Rattle.std.specs.Prelude.{◌≡◌, ℕ, ◌<◌, ◌≤◌, ◌++◌, [], ◌∷◌, false, true, None, Some, IfOk, OnOk, length};
 ghost use Rattle.ap_defs.specs.Goals.{either, goal_of, program_in};
 ghost use Rattle.ap_defs.specs.Renaming.{IsGoalBelow, rename_goal};
-ghost use Rattle.ap_backchain.specs.Below.{AreClausesBelow};
-ghost use Rattle.ap_backchain.specs.Marks.{choice_of_goal};
-ghost use Rattle.ap_backchain.specs.Machines.{next_of, position_of};
+ghost use Rattle.ap_machine.specs.Below.{AreClausesBelow};
+ghost use Rattle.ap_turns.specs.Marks.{choice_of_goal};
+ghost use Rattle.ap_machine.specs.Machines.{next_of, position_of};
 ghost use Rattle.ap_backchain.specs.ChoicePoints.{IsFitRest, positions_left};
-ghost use Rattle.ap_backchain.specs.Positions.{turned_goal};
+ghost use Rattle.ap_machine.specs.Positions.{turned_goal};
 ghost use Rattle.ap_backchain.specs.Searches.{HasPoints, positions_followed, pending_positions, positions_with};
 
-use crate::clauses::{candidates_at, enter_clause};
-use crate::frames::Frame;
-use crate::heads::key_of_atom;
-use crate::machine::Machine;
-use crate::points::{ChoicePoint, Rest, Save, Untried};
+use crate::points::{ChoicePoint, Rest, Untried};
 use ap_defs::goals::Goal;
 use ap_defs::memory::Memory;
 use ap_defs::terms::Term;
 use ap_index::predicate::Predicate;
+use ap_machine::frames::Frame;
+use ap_machine::machine::Machine;
+use ap_machine::saves::Save;
+use ap_turns::clauses::{candidates_at, enter_clause};
+use ap_turns::heads::key_of_atom;
 use std::alloc::Global;
 
 /// Keeps the clauses of an atom that follow the one that was entered, if there are any.

@@ -5,20 +5,25 @@ ghost use Rattle.ap_backchain.specs.Problems.{HasQuery};
 
 use ap_backchain::branch::Branch;
 use ap_backchain::problem::Problem;
-use ap_bundle_read::read_bundle;
+use ap_bundle_read::read_cited_bundle;
 use ap_bundle_write::write_bundle;
 use ap_checker::verify::verify;
 use ap_defs::limits::SIZE_LIMIT;
 use ap_defs::lists::List;
 use ap_defs::memory::Memory;
-use ap_defs::outcomes::{Bundle, Proved, Verdict};
+use ap_defs::outcomes::Verdict;
 use ap_defs::paths::{Node, Path};
+use ap_derive::assembling::Derived;
 use ap_derive::derivations::derive;
 use ap_index::index::Index;
 use ap_program::restricted::Restricted;
 use ap_replay::replay::at;
+use ap_shared::arena::SharedTerms;
+use ap_shared::derivations::{SharedBundle, SharedProved};
+use ap_shared::sharing::share_answer;
 use ap_text::program_of_text;
 use std::alloc::{AllocError, Global};
+use std::rc::Rc;
 
 /// A predicate that goes round, or ends.
 const TEXT: &str = "nat : type. z : nat. pred p(nat). p(X) :- p(X). p(z). ?- p(z).";
@@ -74,16 +79,19 @@ fn proved_at<'a>(
     alloc: Global,
     problem: &Problem<'a>,
     branch: &Branch<'a>,
-) -> Result<Proved, Memory>
+) -> Result<SharedProved, Memory>
     requires query { HasQuery problem.now }
     requires of { IsBranchOf problem.now branch.now }
 {
     match branch.node() {
         Node::Answer => {
             let answer = branch.answer(alloc, problem)?;
-            let derivation = derive(alloc, problem, branch)?;
-            Ok(Proved {
+            let mut terms = SharedTerms::new(alloc);
+            let answer = share_answer(alloc, &mut terms, &answer)?;
+            let Derived { terms, derivation } = derive(alloc, problem, branch, terms)?;
+            Ok(SharedProved {
                 query: problem.query,
+                terms: Rc::new(alloc, terms)?,
                 answer,
                 derivation,
             })
@@ -93,7 +101,7 @@ fn proved_at<'a>(
 }
 
 /// The answer at the long path, with its derivation.
-fn proved(alloc: Global, program: &Restricted) -> Result<Proved, Memory> {
+fn proved(alloc: Global, program: &Restricted) -> Result<SharedProved, Memory> {
     let index = Index::of(alloc, program)?;
     match only_query(&index) {
         None => Err(Memory),
@@ -108,24 +116,25 @@ fn proved(alloc: Global, program: &Restricted) -> Result<Proved, Memory> {
 fn written(alloc: Global, program: &Restricted) -> Result<Vec<u8>, Memory> {
     let mut all = Vec::new(alloc);
     all.push(proved(alloc, program)?)?;
-    let bundle = Bundle {
+    let bundle = SharedBundle {
         text: List::of(TEXT.as_bytes().to_vec(alloc)?),
         proved: List::of(all),
     };
     write_bundle(alloc, &bundle)
 }
 
-/// The bundle, read again.
-fn read(alloc: Global, program: &Restricted) -> Result<Bundle, Memory> {
+/// The bundle, read again as `check` reads it.
+fn read(alloc: Global, program: &Restricted) -> Result<SharedBundle, Memory> {
     let bytes = written(alloc, program)?;
-    read_bundle(alloc, &bytes).or(Err(Memory))
+    read_cited_bundle(alloc, &bytes).or(Err(Memory))
 }
 
 /// How many derivations of a bundle check.
-fn checked(alloc: Global, program: &Restricted, bundle: &Bundle) -> Result<usize, Memory> {
+fn checked(alloc: Global, program: &Restricted, bundle: &SharedBundle) -> Result<usize, Memory> {
     let mut count: usize = 0;
     for it in bundle.proved.items() {
-        let verdict = verify(alloc, program, it.query, &it.answer, &it.derivation)?;
+        let terms = it.terms.as_ref();
+        let verdict = verify(alloc, program, it.query, terms, &it.answer, &it.derivation)?;
         if verdict == Verdict::Yes {
             count = count.saturating_add(1);
         }

@@ -14,7 +14,8 @@ use Rattle.ap_bundle.specs.declared.words.Word.{Word}
 use Rattle.ap_bundle.specs.Readers.{Unread, Wrong, Reader, ◌>>=◌, unended, wrong, found, is_lf, read_line, read_form, with_front, repeated, fault_in}
 use Rattle.ap_bundle.specs.declared.version.Version.{Version}
 use Rattle.ap_bundle.specs.declared.version.Version.TheVariants.{One, Two}
-use Rattle.ap_bundle.specs.TableForms.{read_entries, read_shared}
+pub use Rattle.ap_bundle.specs.TableForms.{room_at_first}
+use Rattle.ap_bundle.specs.TableForms.{read_cited, read_entries, read_shared}
 use Rattle.ap_bundle.specs.LineForms as forms
 use Rattle.ap_bundle.specs.LineForms.{NodeLine}
 use Rattle.ap_bundle.specs.Nodes as nodes
@@ -111,29 +112,29 @@ read_rest term p = do
   end ← read_last all.1
   Ok all.0
 
+-- how terms are read by the lines of a table
+abbrev pub TableReader : Type 0
+TableReader = List NominalTerm → Reader NominalTerm
+
 -- the table, and what follows it
-unfoldable pub read_shared_rest : Unread → Result (List NominalProved) Wrong
-read_shared_rest p = do
+unfoldable pub read_shared_rest : TableReader → Unread → Result (List NominalProved) Wrong
+read_shared_rest shared p = do
   n ← read_count head.Terms p
   table ← read_entries n.0 [] n.1
-  read_rest (read_shared table.0) table.1
+  read_rest (shared table.0) table.1
 
 -- what follows the text in this version
-abbrev pub read_version : Version → Unread → Result (List NominalProved) Wrong
-read_version One p = read_rest read_term p
-read_version Two p = read_shared_rest p
+abbrev pub read_version : TableReader → Version → Unread → Result (List NominalProved) Wrong
+read_version shared One p = read_rest read_term p
+read_version shared Two p = read_shared_rest shared p
 
-unfoldable pub read_at : Unread → Result NominalBundle Wrong
-read_at p = do
+unfoldable pub read_at : TableReader → Unread → Result NominalBundle Wrong
+read_at shared p = do
   version ← read_line Header forms.first_form p
   n ← read_count head.Text version.1
   text ← read_text n.0 n.1
-  proved ← read_version version.0 text.1
+  proved ← read_version shared version.0 text.1
   Ok (record { text = text.0; proved = proved })
-
--- how large the shared terms of a bundle may be together, each written in full
-abbrev pub room_at_first : ℕ
-room_at_first = 16777216
 
 -- the beginning of the bytes
 abbrev pub start : List ℕ → Unread
@@ -144,5 +145,13 @@ at_line bytes (Ok x) = Ok x
 at_line bytes (Err w) = Err (fault_in bytes w)
 
 -- the bundle of either version that the bytes are, or their first fault
+abbrev pub reading_by : TableReader → List ℕ → Result NominalBundle BundleFault
+reading_by shared bytes = at_line bytes (read_at shared (start bytes))
+
+-- its shared terms together, each written in full, are no larger than there is room
 abbrev pub reading : List ℕ → Result NominalBundle BundleFault
-reading bytes = at_line bytes (read_at (start bytes))
+reading bytes = reading_by read_shared bytes
+
+-- each of them is no larger than that
+abbrev pub cited_reading : List ℕ → Result NominalBundle BundleFault
+cited_reading bytes = reading_by read_cited bytes

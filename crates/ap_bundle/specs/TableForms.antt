@@ -99,6 +99,10 @@ shared_form table ws = do
   t ← slice_get table i.0
   lines.if_no_word t i.1
 
+-- how large the shared terms of a bundle may be, written in full
+abbrev pub room_at_first : ℕ
+room_at_first = 16777216
+
 -- the place behind a shared term, if there is room for it
 abbrev pub room_for : Unread → NominalTerm → Unread → Result (NominalTerm × Unread) Wrong
 room_for p t q =
@@ -108,3 +112,11 @@ room_for p t q =
 -- a term by its number in the table
 unfoldable pub read_shared : List NominalTerm → Reader NominalTerm
 read_shared table p = on_ok (read_form Term (shared_form table) p) (λ t. room_for p t.0 t.1)
+
+-- the place behind a term that is cited, if that alone is small enough
+abbrev pub if_small_alone : Unread → NominalTerm → Unread → Result (NominalTerm × Unread) Wrong
+if_small_alone p t q = if nat_lt room_at_first (expanded_size t) then Err (wrong Expanded p) else Ok (t, q)
+
+-- the same where the terms may be as large as that each, and not only together
+unfoldable pub read_cited : List NominalTerm → Reader NominalTerm
+read_cited table p = on_ok (read_form Term (shared_form table) p) (λ t. if_small_alone p t.0 t.1)

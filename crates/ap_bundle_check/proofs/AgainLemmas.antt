@@ -2,11 +2,11 @@
 use Rattle.std.proofs.Common.{◌≡◌, length, sym, ap, subst, ◌∙◌}
 use Rattle.std.specs.Prelude.{Result}
 use Rattle.ap_bundle.specs.Bundles.{NominalBundle}
-use Rattle.ap_bundle.specs.Reading.{reading}
+use Rattle.ap_bundle.specs.Reading.{cited_reading}
 use Rattle.ap_bundle.specs.Written.{written_as}
 use Rattle.ap_bundle.specs.declared.faults.BundleFault.{BundleFault}
 use Rattle.ap_bundle.specs.declared.version.Version.TheVariants.{One, Two}
-use Rattle.ap_bundle_laws.proofs.VersionLemmas.{read_again}
+use Rattle.ap_bundle_laws.proofs.VersionLemmas.{cited_again}
 use Rattle.ap_report.specs.declared.report.Report.{Report}
 use Rattle.ap_report.specs.TextReport.{IsTextReport, answered}
 use Rattle.ap_report.proofs.SoundTexts.{text_typed}
@@ -21,10 +21,10 @@ proofs_again v depth text p is fits room =
     let b = proofs_bundle depth text p in
     let typed = text_typed text p is in
     let all : check_report ds p ≡ checked_report (length ds) = ap (verdicts_report (length ds)) ((none_refused p 1 ds).1 (proofs_check p typed depth)) in
-    subst (λ (x : Result NominalBundle BundleFault). IsReadReport x (checked_report (length ds))) (sym (read_again v b fits room))
+    subst (λ (x : Result NominalBundle BundleFault). IsReadReport x (checked_report (length ds))) (sym (cited_again v b fits room))
     (subst (λ (r : Report). IsTextReport (check_report ds) text r) all (answered p is))
 
 pub alike : VersionsAreCheckedAlike
 alike b r fits room =
-    let same : reading (written_as One b) ≡ reading (written_as Two b) = read_again One b fits tt ∙ sym (read_again Two b fits room) in
+    let same : cited_reading (written_as One b) ≡ cited_reading (written_as Two b) = cited_again One b fits tt ∙ sym (cited_again Two b fits room) in
     (subst (λ (x : Result NominalBundle BundleFault). IsReadReport x r) same, subst (λ (x : Result NominalBundle BundleFault). IsReadReport x r) (sym same))

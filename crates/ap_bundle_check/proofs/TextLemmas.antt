@@ -10,7 +10,8 @@ use Rattle.ap_bundle.specs.Bundles.{NominalBundle, NominalProved}
 use Rattle.ap_bundle.specs.LineForms.{count_form, first_form}
 use Rattle.ap_bundle.specs.Readers.{Unread, Wrong, ◌>>=◌, after_line, first_line, found, is_lf, line_as, read_form, read_line, read_words, unended, wrong}
 use Rattle.ap_bundle.specs.Words.{line_words}
-use Rattle.ap_bundle.specs.Reading.{at_line, read_at, read_text, read_version, reading, start}
+use Rattle.ap_bundle.specs.Reading.{TableReader, at_line, cited_reading, read_at, read_text, read_version, reading, reading_by, start}
+use Rattle.ap_bundle.specs.TableForms.{read_cited, read_shared}
 
 -- the bytes behind the first line are no more
 later_line : (b : ℕ) (o : Option (List ℕ × List ℕ)) (l : List ℕ × List ℕ) (n : ℕ) → option_map (λ m. (b ∷ m.0, m.1)) o ≡ Some l
@@ -75,22 +76,28 @@ text_short n p x e = go (nat_le (length p.rest) n) (is_lf (slice_index p.rest n)
         subst (λ (y : List ℕ × Unread). length y.0 ≤ length p.rest) same (take_short n p.rest)
     go false false h = absurd (let k : ◌≡◌ {A = Result (List ℕ × Unread) Wrong} (Err (wrong Header (record p { rest = drop n p.rest }))) (Ok x) = h in cc)
 
-bundle_short : (p : Unread) (b : NominalBundle) → read_at p ≡ Ok b → length b.text ≤ length p.rest
+bundle_short : (shared : TableReader) (p : Unread) (b : NominalBundle) → read_at shared p ≡ Ok b → length b.text ≤ length p.rest
 unfolding read_at
-bundle_short p b e =
+bundle_short shared p b e =
     let first = both_read _ _ b e in
     let count = both_read _ _ b first.2 in
     let text = both_read _ _ b count.2 in
-    let rest = both_read (read_version first.0.0 text.0.1) (λ (ds : List NominalProved). Ok (record { text = text.0.0; proved = ds })) b text.2 in
+    let rest = both_read (read_version shared first.0.0 text.0.1) (λ (ds : List NominalProved). Ok (record { text = text.0.0; proved = ds })) b text.2 in
     let same : text.0.0 ≡ b.text = ap (λ (z : NominalBundle). z.text) (same_ok (record { text = text.0.0; proved = rest.0 }) b rest.2) in
     let one = line_short Header first_form p first.0 first.1 in
     let two = form_short Header (count_form head.Text) first.0.1 count.0 count.1 in
     let three = text_short count.0.0 count.0.1 text.0 text.1 in
     subst (λ (z : List ℕ). length z ≤ length p.rest) same (omega arith)
 
-pub reading_short : (bytes : List ℕ) (b : NominalBundle) → reading bytes ≡ Ok b → length b.text ≤ length bytes
-reading_short bytes b e = go (read_at (start bytes)) refl e
+by_short : (shared : TableReader) (bytes : List ℕ) (b : NominalBundle) → reading_by shared bytes ≡ Ok b → length b.text ≤ length bytes
+by_short shared bytes b e = go (read_at shared (start bytes)) refl e
   where
-    go : (r : Result NominalBundle Wrong) → read_at (start bytes) ≡ r → at_line bytes r ≡ Ok b → length b.text ≤ length bytes
-    go (Ok c) is h = let same : c ≡ b = cc in bundle_short (start bytes) b (is ∙ ap (λ (x : NominalBundle). Ok x) same)
+    go : (r : Result NominalBundle Wrong) → read_at shared (start bytes) ≡ r → at_line bytes r ≡ Ok b → length b.text ≤ length bytes
+    go (Ok c) is h = let same : c ≡ b = cc in bundle_short shared (start bytes) b (is ∙ ap (λ (x : NominalBundle). Ok x) same)
     go (Err w) is h = absurd (let k : ◌≡◌ {A = Result NominalBundle BundleFault} (at_line bytes (Err w)) (Ok b) = h in cc)
+
+pub reading_short : (bytes : List ℕ) (b : NominalBundle) → reading bytes ≡ Ok b → length b.text ≤ length bytes
+reading_short = by_short read_shared
+
+pub cited_short : (bytes : List ℕ) (b : NominalBundle) → cited_reading bytes ≡ Ok b → length b.text ≤ length bytes
+cited_short = by_short read_cited

@@ -4,7 +4,7 @@ use Rattle.std.specs.Prelude.{◌≡◌, ℕ, List, length, Option, None, Some, 
 use Rattle.std.specs.List.{AllByRecursion}
 use Rattle.ap_defs.specs.Goals.{NominalProgram}
 use Rattle.ap_bundle.specs.Bundles.{NominalBundle, NominalProved}
-use Rattle.ap_bundle.specs.Reading.{reading}
+use Rattle.ap_bundle.specs.Reading.{cited_reading}
 use Rattle.ap_bundle.specs.declared.faults.BundleFault.{BundleFault}
 use Rattle.ap_checks.specs.Checks.{yes}
 use Rattle.ap_report.specs.declared.report.Report.{Report}
@@ -43,9 +43,9 @@ IsReadReport (Err f) r = r ≡ bundle_fault_report f
 
 -- the report of `check` on bytes
 abbrev pub IsCheckReport : List ℕ → Report → Type 0
-IsCheckReport bytes = IsReadReport (reading bytes)
+IsCheckReport bytes = IsReadReport (cited_reading bytes)
 
 -- what each derivation of the bundle proves that checks is derivable in nominal logic, whoever made it
 abbrev pub HasSoundVerdicts : List ℕ → Type 0
-HasSoundVerdicts bytes = (b : NominalBundle) (p : NominalProgram) → reading bytes ≡ Ok b → IsProgramOfText b.text p
+HasSoundVerdicts bytes = (b : NominalBundle) (p : NominalProgram) → cited_reading bytes ≡ Ok b → IsProgramOfText b.text p
     → AllByRecursion (λ d. verdict_on_proved p d ≡ yes → IsSoundProof p d) b.proved

@@ -5,7 +5,7 @@ use Rattle.ap_bundle.specs.Reading.{reading}
 use Rattle.ap_bundle.specs.Written.{written_as}
 use Rattle.ap_bundle.specs.declared.version.Version.{Version}
 use Rattle.ap_bundle_check.specs.Reports.{IsCheckReport}
-use Rattle.ap_bundle_laws.specs.Laws.{FitsBundle, HasRoom, HasRoomIn}
+use Rattle.ap_bundle_laws.specs.Laws.{FitsBundle, HasRoom, HasRoomEachIn, HasRoomIn}
 use Rattle.ap_report.specs.declared.report.Report.{Report}
 use Rattle.ap_bundle_convert.specs.Reports.{IsConvertReport, written_report}
 
@@ -23,7 +23,7 @@ abbrev pub ConvertedIsRead : Type 0
 ConvertedIsRead = (to : Version) (bytes : List ℕ) (b : NominalBundle) (r : Report) → reading bytes ≡ Ok b → HasRoomIn to b
     → IsConvertReport to bytes r → reading r.bytes ≡ Ok b
 
--- and so `check` says the same of it
+-- and `check` says the same of it
 abbrev pub ConvertedIsCheckedAlike : Type 0
-ConvertedIsCheckedAlike = (to : Version) (bytes : List ℕ) (b : NominalBundle) (r s : Report) → reading bytes ≡ Ok b → HasRoomIn to b
+ConvertedIsCheckedAlike = (to : Version) (bytes : List ℕ) (b : NominalBundle) (r s : Report) → reading bytes ≡ Ok b → HasRoomEachIn to b
     → IsConvertReport to bytes r → IsCheckReport bytes s ↔ IsCheckReport r.bytes s

@@ -22,7 +22,8 @@ use Rattle.ap_bundle.specs.Nodes.{preorder}
 use Rattle.ap_bundle.specs.LineForms.{after_head, first_form, query_form, var_form, cond_form}
 use Rattle.ap_bundle.specs.Readers.{Unread, Wrong, Reader, ◌>>=◌, unended, read_line, read_form, repeated}
 use Rattle.ap_bundle.specs.Written.{head_line, counted_line, listed, var_line, cond_line, term_line, node_lines, answer_lines, proved_lines, text_lines, proved_part, written}
-use Rattle.ap_bundle.specs.Reading.{read_count, read_listed, read_term, read_derivation, read_answer, read_proved, read_text, read_last, read_rest, read_version, read_at, room_at_first}
+use Rattle.ap_bundle.specs.Reading.{read_count, read_listed, read_term, read_derivation, read_answer, read_proved, read_text, read_last, read_rest, read_version, read_at, room_at_first, TableReader}
+use Rattle.ap_bundle.specs.TableForms.{read_cited, read_shared}
 use Rattle.ap_bundle_laws.specs.Laws.{Each, IsListOf, FitsVar, FitsCond, FitsTerm, FitsAnswer, FitsDerivation, FitsProved, FitsBundle}
 use Rattle.ap_bundle_laws.proofs.GoodLemmas.{at, IsGood, good_then, good_as, good_repeated, room_for, room_append, room_free, free, parted}
 use Rattle.ap_bundle_laws.proofs.LineLemmas.{good_line, good_count, good_query, good_var, good_cond, good_term, good_end}
@@ -153,17 +154,17 @@ module _ (term : Reader NominalTerm) (text : NominalTerm → List ℕ) (before :
       (last_with read_last (λ end. ps) left (head_line head.End []) [] (last_line left)))
 
 -- what stands before the text's version, and the text
-pub last_at : (v : Version) (room : ℕ) (b : NominalBundle) (part : List ℕ) → FitsBundle b → IsLast (read_version v) room part b.proved → IsGood (read_line Header first_form) room room (version_line v ++ 10 ∷ []) v
-    → IsLast read_at room ((version_line v ++ 10 ∷ []) ++ (text_lines b.text ++ part)) b
+pub last_at : (shared : TableReader) (v : Version) (room : ℕ) (b : NominalBundle) (part : List ℕ) → FitsBundle b → IsLast (read_version shared v) room part b.proved → IsGood (read_line Header first_form) room room (version_line v ++ 10 ∷ []) v
+    → IsLast (read_at shared) room ((version_line v ++ 10 ∷ []) ++ (text_lines b.text ++ part)) b
 unfolding read_at after_head
-last_at v room b part h rest version =
+last_at shared v room b part h rest version =
     let count = good_count head.Text room (length b.text) h.0 refl in
-    let proved = last_with (read_version v) (λ ps. record { text = b.text; proved = ps }) room part b.proved rest in
-    let text = last_then (read_text (length b.text)) (λ t p. read_version v p >>= λ ps. Ok (record { text = t; proved = ps })) room room (b.text ++ 10 ∷ []) part b.text b (good_text room b.text) proved in
-    let counted_text = last_then (read_count head.Text) (λ n p. read_text n p >>= λ t. read_version v t.1 >>= λ ps. Ok (record { text = t.0; proved = ps })) room room (counted_line head.Text (length b.text)) ((b.text ++ 10 ∷ []) ++ part) (length b.text) b count text in
-    let grouped : IsLast (λ p. read_count head.Text p >>= λ n. read_text n.0 n.1 >>= λ t. read_version v t.1 >>= λ ps. Ok (record { text = t.0; proved = ps })) room (text_lines b.text ++ part) b =
-    subst (λ w. IsLast (λ p. read_count head.Text p >>= λ n. read_text n.0 n.1 >>= λ t. read_version v t.1 >>= λ ps. Ok (record { text = t.0; proved = ps })) room w b) (sym (append_assoc (counted_line head.Text (length b.text)) (b.text ++ 10 ∷ []) part)) counted_text in
-    last_then (read_line Header first_form) (λ first p. read_count head.Text p >>= λ n. read_text n.0 n.1 >>= λ t. read_version first t.1 >>= λ ps. Ok (record { text = t.0; proved = ps })) room room (version_line v ++ 10 ∷ []) (text_lines b.text ++ part) v b version grouped
+    let proved = last_with (read_version shared v) (λ ps. record { text = b.text; proved = ps }) room part b.proved rest in
+    let text = last_then (read_text (length b.text)) (λ t p. read_version shared v p >>= λ ps. Ok (record { text = t; proved = ps })) room room (b.text ++ 10 ∷ []) part b.text b (good_text room b.text) proved in
+    let counted_text = last_then (read_count head.Text) (λ n p. read_text n p >>= λ t. read_version shared v t.1 >>= λ ps. Ok (record { text = t.0; proved = ps })) room room (counted_line head.Text (length b.text)) ((b.text ++ 10 ∷ []) ++ part) (length b.text) b count text in
+    let grouped : IsLast (λ p. read_count head.Text p >>= λ n. read_text n.0 n.1 >>= λ t. read_version shared v t.1 >>= λ ps. Ok (record { text = t.0; proved = ps })) room (text_lines b.text ++ part) b =
+    subst (λ w. IsLast (λ p. read_count head.Text p >>= λ n. read_text n.0 n.1 >>= λ t. read_version shared v t.1 >>= λ ps. Ok (record { text = t.0; proved = ps })) room w b) (sym (append_assoc (counted_line head.Text (length b.text)) (b.text ++ 10 ∷ []) part)) counted_text in
+    last_then (read_line Header first_form) (λ first p. read_count head.Text p >>= λ n. read_text n.0 n.1 >>= λ t. read_version shared first t.1 >>= λ ps. Ok (record { text = t.0; proved = ps })) room room (version_line v ++ 10 ∷ []) (text_lines b.text ++ part) v b version grouped
 
 -- terms in full
 each_terms : (d : NominalDerivation) → FitsDerivation d → Each FitsTerm (terms_in d)
@@ -182,19 +183,22 @@ each_proved [] h = tt
 each_proved (p ∷ ps) h =
     each_append FitsTerm (terms_of p) (flat_map terms_of ps) (each_append FitsTerm p.answer.binds (terms_in p.derivation) h.0.1.0.1 (each_terms p.derivation h.0.2)) (each_proved ps h.1)
 
-last_bundle : (room : ℕ) (b : NominalBundle) → FitsBundle b → IsLast read_at room (written b) b
+last_bundle : (shared : TableReader) (room : ℕ) (b : NominalBundle) → FitsBundle b → IsLast (read_at shared) room (written b) b
 unfolding first_form
-last_bundle room b h =
+last_bundle shared room b h =
     let version = good_line Header first_form room (codes "alphaprolog bundle 1") One (search rules) refl in
     let rest = subst (λ n. IsLast (read_rest read_term) n (proved_part term_line b.proved) b.proved) (room_free (flat_map terms_of b.proved) room)
     (last_rest read_term term_line free FitsTerm good_term room b.proved h.1 (each_proved b.proved h.1.1)) in
-    last_at One room b (proved_part term_line b.proved) h rest version
+    last_at shared One room b (proved_part term_line b.proved) h rest version
 
-pub again : (b : NominalBundle) → FitsBundle b → read_at (at (written b) room_at_first) ≡ Ok b
-again b h = let last = last_bundle room_at_first b h in last.whole
+pub again : (b : NominalBundle) → FitsBundle b → read_at read_shared (at (written b) room_at_first) ≡ Ok b
+again b h = let last = last_bundle read_shared room_at_first b h in last.whole
 
-pub prefix : (b : NominalBundle) (v u : List ℕ) → FitsBundle b → written b ≡ v ++ u → 0 < length u → read_at (at v room_at_first) ≡ Err unended
-prefix b v u h e some = let last = last_bundle room_at_first b h in last.part v u e some
+pub prefix : (b : NominalBundle) (v u : List ℕ) → FitsBundle b → written b ≡ v ++ u → 0 < length u → read_at read_shared (at v room_at_first) ≡ Err unended
+prefix b v u h e some = let last = last_bundle read_shared room_at_first b h in last.part v u e some
+
+pub cited_again : (b : NominalBundle) → FitsBundle b → read_at read_cited (at (written b) room_at_first) ≡ Ok b
+cited_again b h = let last = last_bundle read_cited room_at_first b h in last.whole
 
 whole_taken : (v : List ℕ) → take (length v) v ≡ v
 whole_taken [] = refl

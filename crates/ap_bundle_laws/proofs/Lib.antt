@@ -10,3 +10,4 @@ pub mod VersionLemmas
 pub mod RangedForms
 pub mod RangedLemmas
 pub mod Examples
+pub mod CitedLemmas

@@ -27,17 +27,17 @@ use Rattle.ap_bundle_laws.specs.Laws.{Each, IsListOf, FitsName, FitsCond, FitsTe
 use Rattle.ap_bundle_laws.proofs.WordLemmas.{Fits}
 use Rattle.ap_bundle_laws.proofs.RangedForms.{Wide, FitsLine, FitsNode, line_ranged, count_ranged, query_ranged, var_ranged, cond_ranged, name_form_ranged, term_form_ranged, node_ranged, entry_form_ranged, shared_form_ranged, derivation_ranged}
 
-both_ok : {A B : Type 0} (r : Result A Wrong) (f : A → Result B Wrong) (b : B) → (r >>= f) ≡ Ok b → (a : A) × (r ≡ Ok a) × (f a ≡ Ok b)
+pub both_ok : {A B : Type 0} (r : Result A Wrong) (f : A → Result B Wrong) (b : B) → (r >>= f) ≡ Ok b → (a : A) × (r ≡ Ok a) × (f a ≡ Ok b)
 both_ok (Ok a) f b e = (a, refl, e)
 both_ok {A} {B} (Err w) f b e = absurd (let k : ◌≡◌ {A = Result B Wrong} (Err w) (Ok b) = e in cc)
 
-same_ok : {A : Type 0} (a b : A) → ◌≡◌ {A = Result A Wrong} (Ok a) (Ok b) → a ≡ b
+pub same_ok : {A : Type 0} (a b : A) → ◌≡◌ {A = Result A Wrong} (Ok a) (Ok b) → a ≡ b
 same_ok a b e = cc
 
-err_is : {A : Type 0} (P : Type 0) (w : Wrong) (a : A) → ◌≡◌ {A = Result A Wrong} (Err w) (Ok a) → P
+pub err_is : {A : Type 0} (P : Type 0) (w : Wrong) (a : A) → ◌≡◌ {A = Result A Wrong} (Err w) (Ok a) → P
 err_is {A} P w a e = absurd (let k : ◌≡◌ {A = Result A Wrong} (Err w) (Ok a) = e in cc)
 
-found_is : {A : Type 0} (kind : BundleKind) (p : Unread) (o : Option A) (x : A) → found kind p o ≡ Ok x → o ≡ Some x
+pub found_is : {A : Type 0} (kind : BundleKind) (p : Unread) (o : Option A) (x : A) → found kind p o ≡ Ok x → o ≡ Some x
 found_is kind p None x e = err_is _ (wrong kind p) x e
 found_is kind p (Some y) x e = ap (λ z. Some z) (same_ok y x e)
 
@@ -185,14 +185,14 @@ shared_is table all p x e =
     let fits = form_is Term (shared_form table) FitsTerm (shared_form_ranged table all) p t.0 t.1 in
     subst FitsTerm (room_given p t.0.1 t.0.0 x t.2) fits
 
-shared_rest_is : (p : Unread) (ps : List NominalProved) → read_shared_rest p ≡ Ok ps → IsListOf FitsProved ps
+shared_rest_is : (p : Unread) (ps : List NominalProved) → read_shared_rest read_shared p ≡ Ok ps → IsListOf FitsProved ps
 unfolding read_shared_rest
 shared_rest_is p ps e =
     let n = both_ok (read_count head.Terms p) (λ (n : ℕ × Unread). read_entries n.0 [] n.1 >>= λ us. read_rest (read_shared us.0) us.1) ps e in
     let table = both_ok (read_entries n.0.0 [] n.0.1) (λ (us : List NominalTerm × Unread). read_rest (read_shared us.0) us.1) ps n.2 in
     rest_is (read_shared table.0.0) (shared_is table.0.0 (entries_are n.0.0 [] n.0.1 table.0 tt table.1)) table.0.1 ps table.2
 
-version_is : (v : Version) (p : Unread) (ps : List NominalProved) → read_version v p ≡ Ok ps → IsListOf FitsProved ps
+version_is : (v : Version) (p : Unread) (ps : List NominalProved) → read_version read_shared v p ≡ Ok ps → IsListOf FitsProved ps
 version_is One p ps e = rest_is read_term (form_is Term term_form FitsTerm term_form_ranged) p ps e
 version_is Two p ps e = shared_rest_is p ps e
 
@@ -212,22 +212,22 @@ text_is n p x e = go (nat_le (length p.rest) n) (is_lf (slice_index p.rest n)) e
     go false true h = subst (λ (y : List ℕ × Unread). length y.0 ≤ n) (same_ok (take n p.rest, record p { rest = drop (n + 1) p.rest }) x h) (take_few n p.rest)
     go false false h = err_is _ (wrong Header (record p { rest = drop n p.rest })) x h
 
-bundle_is : (p : Unread) (b : NominalBundle) → read_at p ≡ Ok b → FitsBundle b
+bundle_is : (p : Unread) (b : NominalBundle) → read_at read_shared p ≡ Ok b → FitsBundle b
 unfolding read_at
 bundle_is p b e =
     let first = both_ok (read_line Header first_form p)
-    (λ (v : Version × Unread). read_count head.Text v.1 >>= λ n. read_text n.0 n.1 >>= λ text. read_version v.0 text.1 >>= λ ds. Ok (record { text = text.0; proved = ds })) b e in
-    let count = both_ok (read_count head.Text first.0.1) (λ (n : ℕ × Unread). read_text n.0 n.1 >>= λ text. read_version first.0.0 text.1 >>= λ ds. Ok (record { text = text.0; proved = ds })) b first.2 in
-    let text = both_ok (read_text count.0.0 count.0.1) (λ (text : List ℕ × Unread). read_version first.0.0 text.1 >>= λ ds. Ok (record { text = text.0; proved = ds })) b count.2 in
-    let proved = both_ok (read_version first.0.0 text.0.1) (λ (ds : List NominalProved). Ok (record { text = text.0.0; proved = ds })) b text.2 in
+    (λ (v : Version × Unread). read_count head.Text v.1 >>= λ n. read_text n.0 n.1 >>= λ text. read_version read_shared v.0 text.1 >>= λ ds. Ok (record { text = text.0; proved = ds })) b e in
+    let count = both_ok (read_count head.Text first.0.1) (λ (n : ℕ × Unread). read_text n.0 n.1 >>= λ text. read_version read_shared first.0.0 text.1 >>= λ ds. Ok (record { text = text.0; proved = ds })) b first.2 in
+    let text = both_ok (read_text count.0.0 count.0.1) (λ (text : List ℕ × Unread). read_version read_shared first.0.0 text.1 >>= λ ds. Ok (record { text = text.0; proved = ds })) b count.2 in
+    let proved = both_ok (read_version read_shared first.0.0 text.0.1) (λ (ds : List NominalProved). Ok (record { text = text.0.0; proved = ds })) b text.2 in
     let wide = form_is Header (count_form head.Text) Wide (count_ranged head.Text) first.0.1 count.0 count.1 in
     let few = text_is count.0.0 count.0.1 text.0 text.1 in
     let short : length text.0.0 < 2 ^ 64 = omega arith in
     subst FitsBundle (same_ok (record { text = text.0.0; proved = proved.0 }) b proved.2) (short, version_is first.0.0 text.0.1 proved.0 proved.1)
 
 pub reading_fits : (bytes : List ℕ) (b : NominalBundle) → reading bytes ≡ Ok b → FitsBundle b
-reading_fits bytes b e = go (read_at (start bytes)) refl e
+reading_fits bytes b e = go (read_at read_shared (start bytes)) refl e
   where
-    go : (r : Result NominalBundle Wrong) → read_at (start bytes) ≡ r → at_line bytes r ≡ Ok b → FitsBundle b
+    go : (r : Result NominalBundle Wrong) → read_at read_shared (start bytes) ≡ r → at_line bytes r ≡ Ok b → FitsBundle b
     go (Ok c) is h = let same : c ≡ b = cc in subst FitsBundle same (bundle_is (start bytes) c is)
     go (Err w) is h = absurd (let k : ◌≡◌ {A = Result NominalBundle BundleFault} (at_line bytes (Err w)) (Ok b) = h in cc)

@@ -1,5 +1,5 @@
 -- Bundles of version 2 are read as they are written, and their prefixes are unended.
-use Rattle.std.proofs.Common.{◌≡◌, ℕ, ◌+◌, ◌-◌, ◌<◌, ◌^◌, false, nat_lt, List, [], ◌∷◌, ◌++◌, length, Some, Ok, Err, refl, ap, sym, subst, ◌∙◌, append_assoc, arith, rules, flat_map, length-append}
+use Rattle.std.proofs.Common.{◌≡◌, ℕ, ◌+◌, ◌-◌, ◌<◌, ◌≤◌, ◌^◌, false, nat_lt, List, [], ◌∷◌, ◌++◌, length, Some, Ok, Err, refl, ap, sym, subst, ◌∙◌, append_assoc, arith, rules, flat_map, length-append}
 use Rattle.std.specs.Prelude.{codes}
 use Rattle.std.proofs.lemmas.Bool.{le-ltb}
 use Rattle.std.proofs.lemmas.List.{append-nil}
@@ -14,13 +14,13 @@ use Rattle.ap_bundle.specs.Forms.{swap_words}
 use Rattle.ap_bundle.specs.LineForms.{after_head, first_form}
 use Rattle.ap_bundle.specs.Bundles.{NominalBundle}
 use Rattle.ap_bundle.specs.Tables.{expanded_size, size_of_all, line_of, Has, HasParts, entry_words, terms_of, table_of}
-use Rattle.ap_bundle.specs.TableForms.{numbers, earlier, name_entry, pair_entry, app_entry, abs_entry, susp_entry, entry_form, read_entries, shared_form, read_shared}
+use Rattle.ap_bundle.specs.TableForms.{numbers, earlier, name_entry, pair_entry, app_entry, abs_entry, susp_entry, entry_form, read_cited, read_entries, shared_form, read_shared}
 use Rattle.ap_bundle.specs.Readers.{◌>>=◌, unended, read_form}
 use Rattle.ap_bundle.specs.Written.{head_line, counted_line, entry_line, shared_line, proved_part, shared_part, written_shared}
-use Rattle.ap_bundle.specs.Reading.{read_count, read_rest, read_shared_rest, read_at, room_at_first}
+use Rattle.ap_bundle.specs.Reading.{TableReader, read_count, read_rest, read_shared_rest, read_at, room_at_first}
 use Rattle.ap_bundle.proofs.TableLemmas.{has_at, words_more}
-use Rattle.ap_bundle_laws.specs.Laws.{Each, FitsTerm, FitsBundle, HasRoom}
-use Rattle.ap_bundle_laws.proofs.GoodLemmas.{at, IsGood, good_then, room_for}
+use Rattle.ap_bundle_laws.specs.Laws.{Each, FitsTerm, FitsBundle, HasRoom, HasRoomEach}
+use Rattle.ap_bundle_laws.proofs.GoodLemmas.{at, IsGood, good_then, free, room_for, room_free}
 use Rattle.ap_bundle_laws.proofs.WordLemmas.{Fits}
 use Rattle.ap_bundle_laws.proofs.FormLemmas.{small_again, name_again, swaps_again, swap_numbers}
 use Rattle.ap_bundle_laws.proofs.LineLemmas.{good_line, good_form, good_count, term_fits}
@@ -99,32 +99,85 @@ room_sum : (ts : List NominalTerm) (left : ℕ) → room_for before ts left ≡ 
 room_sum [] left = omega arith
 room_sum (t ∷ ts) left = omega (arith, room_sum ts left)
 
-last_shared : (b : NominalBundle) → FitsBundle b → HasRoom b → IsLast read_shared_rest room_at_first (shared_part (table_of b.proved) b.proved) b.proved
-unfolding read_shared_rest after_head
-last_shared b h fits =
-    let ts = flat_map terms_of b.proved in
-    let table = table_of b.proved in
-    let room = room_at_first in
-    let left = room_at_first - size_of_all ts in
-    let ordered = ordered_all ts [] tt in
-    let few : length table < 2 ^ 64 = omega (arith, table_length ts, fits) in
-    let enough : room_for before ts left ≡ room_at_first = room_sum ts left ∙ omega (arith, fits) in
-    let count = good_count head.Terms room (length table) few refl in
-    let entries = good_entries room [] table few ordered.0 (table_fits ts (each_proved b.proved h.1.1)) in
-    let rest = subst (λ n. IsLast (read_rest (read_shared table)) n (proved_part (shared_line table) b.proved) b.proved) enough
-    (last_rest (read_shared table) (shared_line table) before (Has table) (good_shared table few) left b.proved h.1 ordered.1) in
-    let behind = last_then (read_entries (length table) []) (λ us p. read_rest (read_shared us) p) room room (flat_map (entry_line table) table) (proved_part (shared_line table) b.proved) table b.proved entries rest in
-    let all = last_then (read_count head.Terms) (λ n p. read_entries n [] p >>= λ us. read_rest (read_shared us.0) us.1) room room (counted_line head.Terms (length table)) (flat_map (entry_line table) table ++ proved_part (shared_line table) b.proved) (length table) b.proved count behind in
-    subst (λ w. IsLast read_shared_rest room w b.proved) (sym (append_assoc (counted_line head.Terms (length table)) (flat_map (entry_line table) table) (proved_part (shared_line table) b.proved))) all
+-- the same where each term may be as large, and takes no room
+abbrev pub Small : List NominalTerm → NominalTerm → Type 0
+Small table t = Has table t × (expanded_size t ≤ room_at_first)
 
-last_bundle : (b : NominalBundle) → FitsBundle b → HasRoom b → IsLast read_at room_at_first (written_shared b) b
-unfolding first_form
-last_bundle b h fits =
-    let version = good_line Header first_form room_at_first (codes "alphaprolog bundle 2") Two (search rules) refl in
-    last_at Two room_at_first b (shared_part (table_of b.proved) b.proved) h (last_shared b h fits) version
+good_cited : (table : List NominalTerm) → length table < 2 ^ 64 → (left : ℕ) (t : NominalTerm) → Small table t → IsGood (read_cited table) (free t left) left (shared_line table t) t
+unfolding read_cited
+good_cited table l left t h =
+    let small : line_of table t < 2 ^ 64 = omega (arith, line_within table t h.0) in
+    let good = good_form Term (shared_form table) left (word.Head head.R) (word.Number (line_of table t) ∷ []) t (tt, (small, tt)) (shared_again table t h.0) in
+    let fits : nat_lt room_at_first (expanded_size t) ≡ false = le-ltb room_at_first (expanded_size t) h.1 in
+    record {
+      whole = λ rest. rw (good.whole rest, fits) refl;
+      part = λ v u e some. rw (good.part v u e some) refl;
+    }
 
-pub again : (b : NominalBundle) → FitsBundle b → HasRoom b → read_at (at (written_shared b) room_at_first) ≡ Ok b
-again b h fits = let last = last_bundle b h fits in last.whole
+-- a bundle behind its table, by any reader of the table's lines
+module _ (shared : TableReader) (before : NominalTerm → ℕ → ℕ) (P : List NominalTerm → NominalTerm → Type 0)
+    (good : (table : List NominalTerm) → length table < 2 ^ 64 → (left : ℕ) (t : NominalTerm) → P table t → IsGood (shared table) (before t left) left (shared_line table t) t) where
+  last_part : (left : ℕ) (b : NominalBundle) → FitsBundle b → length (table_of b.proved) < 2 ^ 64 → Each (P (table_of b.proved)) (flat_map terms_of b.proved)
+      → IsLast (read_shared_rest shared) (room_for before (flat_map terms_of b.proved) left) (shared_part (table_of b.proved) b.proved) b.proved
+  unfolding read_shared_rest after_head
+  last_part left b h few each =
+      let ts = flat_map terms_of b.proved in
+      let table = table_of b.proved in
+      let room = room_for before ts left in
+      let ordered = ordered_all ts [] tt in
+      let count = good_count head.Terms room (length table) few refl in
+      let entries = good_entries room [] table few ordered.0 (table_fits ts (each_proved b.proved h.1.1)) in
+      let rest = last_rest (shared table) (shared_line table) before (P table) (good table few) left b.proved h.1 each in
+      let behind = last_then (read_entries (length table) []) (λ us p. read_rest (shared us) p) room room (flat_map (entry_line table) table) (proved_part (shared_line table) b.proved) table b.proved entries rest in
+      let all = last_then (read_count head.Terms) (λ n p. read_entries n [] p >>= λ us. read_rest (shared us.0) us.1) room room (counted_line head.Terms (length table)) (flat_map (entry_line table) table ++ proved_part (shared_line table) b.proved) (length table) b.proved count behind in
+      subst (λ w. IsLast (read_shared_rest shared) room w b.proved) (sym (append_assoc (counted_line head.Terms (length table)) (flat_map (entry_line table) table) (proved_part (shared_line table) b.proved))) all
 
-pub prefix : (b : NominalBundle) (v u : List ℕ) → FitsBundle b → HasRoom b → written_shared b ≡ v ++ u → 0 < length u → read_at (at v room_at_first) ≡ Err unended
-prefix b v u h fits e some = let last = last_bundle b h fits in last.part v u e some
+  -- and all of it
+  last_bundle : (left room : ℕ) (b : NominalBundle) → FitsBundle b → length (table_of b.proved) < 2 ^ 64 → Each (P (table_of b.proved)) (flat_map terms_of b.proved)
+      → room_for before (flat_map terms_of b.proved) left ≡ room → IsLast (read_at shared) room (written_shared b) b
+  unfolding first_form
+  last_bundle left room b h few each enough =
+      let version = good_line Header first_form room (codes "alphaprolog bundle 2") Two (search rules) refl in
+      last_at shared Two room b (shared_part (table_of b.proved) b.proved) h (subst (λ n. IsLast (read_shared_rest shared) n (shared_part (table_of b.proved) b.proved) b.proved) enough (last_part left b h few each)) version
+
+module _ (b : NominalBundle) (h : FitsBundle b) (fits : HasRoom b) where
+  last_shared : IsLast (read_at read_shared) room_at_first (written_shared b) b
+  last_shared =
+      let ts = flat_map terms_of b.proved in
+      let left = room_at_first - size_of_all ts in
+      let few : length (table_of b.proved) < 2 ^ 64 = omega (arith, table_length ts, fits) in
+      let enough : room_for before ts left ≡ room_at_first = room_sum ts left ∙ omega (arith, fits) in
+      last_bundle read_shared before Has good_shared left room_at_first b h few (ordered_all ts [] tt).1 enough
+
+  pub again : read_at read_shared (at (written_shared b) room_at_first) ≡ Ok b
+  again = let last = last_shared in last.whole
+
+  pub prefix : (v u : List ℕ) → written_shared b ≡ v ++ u → 0 < length u → read_at read_shared (at v room_at_first) ≡ Err unended
+  prefix = let last = last_shared in last.part
+
+each_small : (table ts : List NominalTerm) → Each (Has table) ts → Each (λ t. expanded_size t ≤ room_at_first) ts → Each (Small table) ts
+each_small table [] h small = tt
+each_small table (t ∷ ts) h small = ((h.0, small.0), each_small table ts h.1 small.1)
+
+module _ (b : NominalBundle) (h : FitsBundle b) (fits : HasRoomEach b) where
+  last_cited : IsLast (read_at read_cited) room_at_first (written_shared b) b
+  last_cited =
+      let ts = flat_map terms_of b.proved in
+      last_bundle read_cited free Small good_cited room_at_first room_at_first b h fits.few (each_small (table_of b.proved) ts (ordered_all ts [] tt).1 fits.small) (room_free ts room_at_first)
+
+  pub cited_again : read_at read_cited (at (written_shared b) room_at_first) ≡ Ok b
+  cited_again = let last = last_cited in last.whole
+
+  pub cited_prefix : (v u : List ℕ) → written_shared b ≡ v ++ u → 0 < length u → read_at read_cited (at v room_at_first) ≡ Err unended
+  cited_prefix = let last = last_cited in last.part
+
+-- no term is larger than all together
+each_together : (ts : List NominalTerm) (n : ℕ) → size_of_all ts ≤ n → Each (λ t. expanded_size t ≤ n) ts
+each_together [] n few = tt
+each_together (t ∷ ts) n few = (omega (arith, few), each_together ts n (omega (arith, few)))
+
+pub room_each : (b : NominalBundle) → HasRoom b → HasRoomEach b
+room_each b fits = record {
+  few = omega (arith, table_length (flat_map terms_of b.proved), fits);
+  small = each_together (flat_map terms_of b.proved) room_at_first fits;
+}

@@ -1,5 +1,5 @@
 -- What holds of what is written and read.
-use Rattle.std.specs.Prelude.{ℕ, ◌+◌, ◌<◌, ◌≤◌, ◌^◌, ◌≡◌, flat_map, List, ◌++◌, length, count_by, Ok, Err}
+use Rattle.std.specs.Prelude.{ℕ, ◌+◌, ◌<◌, ◌≤◌, ◌^◌, ◌≡◌, flat_map, ◌⊎◌, List, ◌++◌, length, count_by, Result, Ok, Err}
 pub use Rattle.std.specs.List.{AllByRecursion as Each}
 use Rattle.ap_defs.specs.declared.terms.Name.{Name}
 use Rattle.ap_defs.specs.declared.terms.Var.{Var}
@@ -12,14 +12,15 @@ use Rattle.ap_defs.specs.Types.{NominalType}
 use Rattle.ap_defs.specs.Answers.{NominalAnswer}
 use Rattle.ap_defs.specs.Derivations as derivations
 use Rattle.ap_defs.specs.Derivations.{NominalDerivation}
-use Rattle.ap_bundle.specs.declared.faults.BundleKind.TheVariants.{Unended}
+use Rattle.ap_bundle.specs.declared.faults.BundleFault.{BundleFault}
+use Rattle.ap_bundle.specs.declared.faults.BundleKind.TheVariants.{Expanded, Unended}
 use Rattle.ap_bundle.specs.declared.version.Version.{Version}
 use Rattle.ap_bundle.specs.declared.version.Version.TheVariants.{One, Two}
 use Rattle.ap_bundle.specs.Bundles.{NominalProved, NominalBundle}
 use Rattle.ap_bundle.specs.Readers.{is_lf}
-use Rattle.ap_bundle.specs.Tables.{size_of_all, terms_of}
+use Rattle.ap_bundle.specs.Tables.{expanded_size, size_of_all, table_of, terms_of}
 use Rattle.ap_bundle.specs.Written.{written, written_shared}
-use Rattle.ap_bundle.specs.Reading.{reading, room_at_first}
+use Rattle.ap_bundle.specs.Reading.{cited_reading, reading, room_at_first}
 
 -- The numbers of a bundle of the program are in the ranges of their types, and so are the lengths of its lists.
 
@@ -95,10 +96,36 @@ abbrev pub SharedPrefixesAreUnended : Type 0
 SharedPrefixesAreUnended = (b : NominalBundle) (v u : List ℕ) → FitsBundle b → HasRoom b → written_shared b ≡ v ++ u → 0 < length u
     → reading v ≡ Err (record { line = 1 + count_by is_lf v; kind = Unended })
 
+-- each term of the bundle, in full, is as large as may be read, and the lines of their table can be numbered
+pub record HasRoomEach (b : NominalBundle) : Type 0 where
+  pub few : length (table_of b.proved) < 2 ^ 64
+  pub small : Each (λ t. expanded_size t ≤ room_at_first) (flat_map terms_of b.proved)
+
+-- what is written in version 2 of a bundle with such terms is read where each may be as large
+abbrev pub SharedIsCited : Type 0
+SharedIsCited = (b : NominalBundle) → FitsBundle b → HasRoomEach b → cited_reading (written_shared b) ≡ Ok b
+
+abbrev pub CitedPrefixesAreUnended : Type 0
+CitedPrefixesAreUnended = (b : NominalBundle) (v u : List ℕ) → FitsBundle b → HasRoomEach b → written_shared b ≡ v ++ u → 0 < length u
+    → cited_reading v ≡ Err (record { line = 1 + count_by is_lf v; kind = Unended })
+
 -- the terms of the bundle are as large as may be read in this version
 abbrev pub HasRoomIn : Version → NominalBundle → Type 0
 HasRoomIn One b = Unit {0}
 HasRoomIn Two b = HasRoom b
+
+-- the same where each may be as large
+abbrev pub HasRoomEachIn : Version → NominalBundle → Type 0
+HasRoomEachIn One b = Unit {0}
+HasRoomEachIn Two b = HasRoomEach b
+
+-- Where the terms may be as large together, the same is read as where each may be, or a fault that only the former has: a term is
+-- too large.
+abbrev pub ReadsAlike : Result NominalBundle BundleFault → Result NominalBundle BundleFault → Type 0
+ReadsAlike together each = (together ≡ each) ⊎ ((line : ℕ) × (together ≡ Err (record { line = line; kind = Expanded })))
+
+abbrev pub ReadAlike : Type 0
+ReadAlike = (bytes : List ℕ) → ReadsAlike (reading bytes) (cited_reading bytes)
 
 -- what is read is in these ranges
 abbrev pub ReadFits : Type 0

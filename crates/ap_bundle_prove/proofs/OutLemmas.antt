@@ -8,15 +8,16 @@ use Rattle.ap_defs.specs.Answers.{NominalAnswer, NominalOut, answer_in, derivati
 use Rattle.ap_defs.specs.Derivations.{NominalDerivation}
 use Rattle.ap_defs.specs.Goals.{Clauses, NominalQuery}
 use Rattle.ap_defs.specs.Resolution.{Output, State, cut, first_state, found, solve_query, chose, stuck}
-use Rattle.ap_defs.specs.declared.outcomes.Proved.{Proved}
 use Rattle.ap_paths.specs.Limits.{first_part, part}
 use Rattle.ap_paths.specs.declared.limits.Limit.{Limit}
 use Rattle.ap_paths.specs.declared.limits.Limit.TheVariants as limits
-use Rattle.ap_bundle.specs.Bundles.{NominalProved, proved_of}
+use Rattle.ap_bundle.specs.Bundles.{NominalProved}
+use Rattle.ap_shared.specs.SharedViews.{shared_proved}
+use Rattle.ap_shared.specs.declared.derivations.SharedProved.{SharedProved}
 use Rattle.ap_checks.specs.Traces.{Finds, Traced, traced_query}
 use Rattle.ap_checks.proofs.TraceLemmas.{paths_lead}
 use Rattle.ap_derive.specs.Derived.{LeadsOn}
-use Rattle.ap_bundle_prove.specs.Paths.{IsLed, proof_at, with_traced}
+use Rattle.ap_bundle_prove.specs.Paths.{IsLed, proof_at, proof_by, with_traced}
 use Rattle.ap_verdicts.specs.Proofs.{proofs_among, query_proofs, wanted_proofs}
 
 module _ (program : Clauses) (depth : ℕ) (q : NominalQuery) where
@@ -83,11 +84,10 @@ module _ (program : Clauses) (depth : ℕ) (q : NominalQuery) where
   outs_proofs k (limits.First n) = first_proofs k n (solve_query program depth q) (λ p r e f. f)
 
   -- one more answer, with its derivation
-  pub one_proof : (k : ℕ) (path : List ℕ) (a : NominalAnswer) (d : NominalDerivation) → LeadsOn program depth q path
-      → ((r : Traced) → traced_query program depth q path ≡ Some r → d ≡ derivation_in r.state r.derivation)
-      → record { query = k; answer = a; derivation = d } ∷ [] ≡ proof_at program depth k q (answers.found path a)
-  one_proof k path a d l is =
-      ap (λ e. record { query = k; answer = a; derivation = e } ∷ []) (is l.traced l.leads) ∙ ap (with_traced k a) (sym l.leads)
+  pub one_proof : (k : ℕ) (path : List ℕ) (a : NominalAnswer) (p : NominalProved) → LeadsOn program depth q path
+      → ((r : Traced) → traced_query program depth q path ≡ Some r → p ≡ proof_by k a r)
+      → p ∷ [] ≡ proof_at program depth k q (answers.found path a)
+  one_proof k path a p l is = ap (λ z. z ∷ []) (is l.traced l.leads) ∙ ap (with_traced k a) (sym l.leads)
 
-pub added : (old new : List Proved) (more : Proved) (proof : List NominalProved) → new ≡ old ++ more ∷ [] → proved_of more ∷ [] ≡ proof → map proved_of new ≡ map proved_of old ++ proof
-added old new more proof grown is = ap (map proved_of) grown ∙ map-append proved_of old (more ∷ []) ∙ ap (λ l. map proved_of old ++ l) is
+pub added : (old new : List SharedProved) (more : SharedProved) (proof : List NominalProved) → new ≡ old ++ more ∷ [] → shared_proved more ∷ [] ≡ proof → map shared_proved new ≡ map shared_proved old ++ proof
+added old new more proof grown is = ap (map shared_proved) grown ∙ map-append shared_proved old (more ∷ []) ∙ ap (λ l. map shared_proved old ++ l) is

@@ -6,10 +6,14 @@ use Rattle.ap_bundle.specs.Bundles.{NominalProved}
 use Rattle.ap_checks.specs.Traces.{Traced, traced_query}
 use Rattle.ap_derive.specs.Derived.{LeadsOn}
 
+-- an answer to the query with this number, with the derivation of what is traced
+abbrev pub proof_by : ℕ → NominalAnswer → Traced → NominalProved
+proof_by k a r = record { query = k; answer = a; derivation = derivation_in r.state r.derivation }
+
 -- an answer to the query with this number, with the derivation to which its path leads
 abbrev pub with_traced : ℕ → NominalAnswer → Option Traced → List NominalProved
 with_traced k a None = []
-with_traced k a (Some r) = record { query = k; answer = a; derivation = derivation_in r.state r.derivation } ∷ []
+with_traced k a (Some r) = proof_by k a r ∷ []
 
 -- the same of an output, if it is an answer
 abbrev pub proof_at : Clauses → ℕ → ℕ → NominalQuery → NominalOut → List NominalProved

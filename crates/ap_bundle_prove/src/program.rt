@@ -2,17 +2,17 @@
 
 ghost use Rattle.std.specs.Prelude.{◌≡◌, IfOk, length, map};
 ghost use Rattle.ap_defs.specs.Goals.{program_of};
-ghost use Rattle.ap_bundle.specs.Bundles.{proved_of};
+ghost use Rattle.ap_shared.specs.SharedViews.{shared_proved};
 ghost use Rattle.ap_verdicts.specs.Proofs.{limited_proofs};
 
 use crate::query::prove_query;
 use ap_backchain::problem::Problem;
 use ap_defs::limits::{Depth, Workers};
 use ap_defs::memory::Memory;
-use ap_defs::outcomes::Proved;
 use ap_index::index::Index;
 use ap_io::Gate;
 use ap_paths::Limit;
+use ap_shared::derivations::SharedProved;
 use std::alloc::Global;
 use std::sync::Wait;
 use std::thread::Threads;
@@ -35,8 +35,8 @@ pub fn prove_program<R: Threads + Wait + Sync, G: Gate>(
     workers: Workers,
     limit: Limit,
     program: &Index<'_>,
-) -> Result<Vec<Proved>, Memory>
-    ensures { IfOk result (λ v. map proved_of v.items
+) -> Result<Vec<SharedProved>, Memory>
+    ensures { IfOk result (λ v. map shared_proved v.items
         ≡ limited_proofs depth limit (program_of program.now)) }
 {
     let count = query_count(program);

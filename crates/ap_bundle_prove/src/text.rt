@@ -3,7 +3,7 @@
 ghost use Rattle.std.specs.Prelude.{◌≡◌, ◌≤◌, IfOk, length, map};
 ghost use Rattle.ap_defs.specs.Goals.{program_of};
 ghost use Rattle.ap_defs.specs.Limits.{size_limit};
-ghost use Rattle.ap_bundle.specs.Bundles.{proved_of};
+ghost use Rattle.ap_shared.specs.SharedViews.{shared_proved};
 ghost use Rattle.ap_bundle.specs.Written.{written_as};
 ghost use Rattle.ap_report.specs.declared.report.Report.{Report};
 ghost use Rattle.ap_bundle_prove.specs.Reports.{HasSoundProofs, IsProveReport, prove_report};
@@ -14,25 +14,25 @@ use ap_bundle_write::write_version;
 use ap_defs::limits::{Depth, Workers};
 use ap_defs::lists::List;
 use ap_defs::memory::Memory;
-use ap_defs::outcomes::{Bundle, Proved};
 use ap_index::index::Index;
 use ap_io::Gate;
 use ap_paths::Limit;
 use ap_program::restricted::Restricted;
 use ap_report::{Report, Status, fault_report};
+use ap_shared::derivations::{SharedBundle, SharedProved};
 use ap_text::{TextError, program_of_text};
 use std::alloc::Global;
 use std::sync::Wait;
 use std::thread::Threads;
 
 /// The bundle, of version 2, of a text and of answers with their derivations, as a report.
-fn report_bundle(alloc: Global, text: &[u8], proved: Vec<Proved>) -> Result<Report, Memory>
+fn report_bundle(alloc: Global, text: &[u8], proved: Vec<SharedProved>) -> Result<Report, Memory>
     ensures bytes { IfOk result (λ r. r.bytes
         ≡ written_as Version.Two
-        (record { text = text.now; proved = map proved_of proved.items })) }
+        (record { text = text.now; proved = map shared_proved proved.items })) }
     ensures status { IfOk result (λ r. r.status ≡ Status.Ok) }
 {
-    let bundle = Bundle {
+    let bundle = SharedBundle {
         text: List::of(text.to_vec(alloc)?),
         proved: List::of(proved),
     };

@@ -2,4 +2,4 @@ pub mod StackLemmas
 pub mod RepeatLemmas
 pub mod NumberLemmas
 pub mod LoopLemmas
-pub mod TableLemmas
+pub mod CitedLemmas

@@ -1,4 +1,5 @@
 pub mod Outcomes
 pub mod Stacks
 pub mod Nodes
+pub mod CitedNodes
 pub mod Tables

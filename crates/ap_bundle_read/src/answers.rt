@@ -7,7 +7,7 @@ ghost use Rattle.ap_bundle.specs.LineForms as lines;
 ghost use Rattle.ap_bundle.specs.Readers.{read_form, repeated};
 ghost use Rattle.ap_bundle.specs.Reading as spec;
 ghost use Rattle.ap_bundle_read.specs.Outcomes.{Gives, place_of};
-ghost use Rattle.ap_bundle_read.specs.Tables.{AreReady, reader_of};
+ghost use Rattle.ap_bundle_read.specs.Tables.{reader_of};
 
 use crate::derivations::read_derivation;
 use crate::error::ReadError;
@@ -72,7 +72,10 @@ fn read_each_var<'a>(
 }
 
 #[tactic(auto, unfolding(ap_bundle::specs::Reading::read_listed))]
-fn read_vars<'a>(alloc: Global, place: Place<'a>) -> Result<(Vec<(Var, Ty)>, Place<'a>), ReadError>
+pub(crate) fn read_vars<'a>(
+    alloc: Global,
+    place: Place<'a>,
+) -> Result<(Vec<(Var, Ty)>, Place<'a>), ReadError>
     ensures { Gives (λ r. (map typed_var_of r.0.items, place_of r.1)) result
         (spec.read_listed Head.Vars (read_form BundleKind.Term lines.var_form)
         (place_of place.entry)) }
@@ -114,7 +117,10 @@ fn read_each_cond<'a>(
 }
 
 #[tactic(auto, unfolding(ap_bundle::specs::Reading::read_listed))]
-fn read_conds<'a>(alloc: Global, place: Place<'a>) -> Result<(Vec<Cond>, Place<'a>), ReadError>
+pub(crate) fn read_conds<'a>(
+    alloc: Global,
+    place: Place<'a>,
+) -> Result<(Vec<Cond>, Place<'a>), ReadError>
     ensures { Gives (λ r. (r.0.items, place_of r.1)) result
         (spec.read_listed Head.Conds (read_form BundleKind.Term lines.cond_form)
         (place_of place.entry)) }
@@ -129,7 +135,6 @@ fn read_binds<'a>(
     terms: &Terms,
     place: Place<'a>,
 ) -> Result<(Vec<Term>, Place<'a>), ReadError>
-    requires { AreReady terms.now }
     ensures { Gives (λ r. (map term_of r.0.items, place_of r.1)) result
         (spec.read_listed Head.Binds (reader_of terms.now) (place_of place.entry)) }
 {
@@ -144,7 +149,6 @@ fn read_answer<'a>(
     terms: &Terms,
     place: Place<'a>,
 ) -> Result<(Answer, Place<'a>), ReadError>
-    requires { AreReady terms.now }
     ensures { Gives (λ r. (answer_of r.0, place_of r.1)) result
         (spec.read_answer (reader_of terms.now) (place_of place.entry)) }
 {
@@ -163,7 +167,7 @@ fn read_answer<'a>(
 
 /// The number of the query at the place.
 #[tactic(auto, unfolding(ap_bundle::specs::Readers::read_form))]
-fn read_query<'a>(alloc: Global, place: Place<'a>) -> Result<(u32, Place<'a>), ReadError>
+pub(crate) fn read_query<'a>(alloc: Global, place: Place<'a>) -> Result<(u32, Place<'a>), ReadError>
     ensures { Gives (λ r. (r.0, place_of r.1)) result
         (read_form BundleKind.Header lines.query_form (place_of place.entry)) }
 {
@@ -176,12 +180,11 @@ fn read_query<'a>(alloc: Global, place: Place<'a>) -> Result<(u32, Place<'a>), R
 
 /// An answer with its derivation.
 #[tactic(auto, unfolding(ap_bundle::specs::Reading::read_proved))]
-fn read_proved<'a>(
+pub(crate) fn read_proved<'a>(
     alloc: Global,
     terms: &Terms,
     place: Place<'a>,
 ) -> Result<(Proved, Place<'a>), ReadError>
-    requires { AreReady terms.now }
     ensures { Gives (λ r. (proved_of r.0, place_of r.1)) result
         (spec.read_proved (reader_of terms.now) (place_of place.entry)) }
 {
@@ -205,7 +208,6 @@ fn read_each_proved<'a>(
     count: u64,
     place: Place<'a>,
 ) -> Result<(Vec<Proved>, Place<'a>), ReadError>
-    requires { AreReady terms.now }
     ensures { Gives (λ r. (map proved_of r.0.items, place_of r.1)) result
         (repeated (spec.read_proved (reader_of terms.now)) count (place_of place.entry)) }
 {
@@ -226,7 +228,6 @@ pub(crate) fn read_all<'a>(
     terms: &Terms,
     place: Place<'a>,
 ) -> Result<(Vec<Proved>, Place<'a>), ReadError>
-    requires { AreReady terms.now }
     ensures { Gives (λ r. (map proved_of r.0.items, place_of r.1)) result
         (spec.read_listed Head.Derivations (spec.read_proved (reader_of terms.now))
         (place_of place.entry)) }

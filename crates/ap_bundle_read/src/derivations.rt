@@ -10,7 +10,7 @@ ghost use Rattle.ap_bundle.specs.Reading as spec;
 ghost use Rattle.ap_bundle_read.specs.Nodes.{node_of};
 ghost use Rattle.ap_bundle_read.specs.Outcomes.{Gives, place_of};
 ghost use Rattle.ap_bundle_read.specs.Stacks.{stacked};
-ghost use Rattle.ap_bundle_read.specs.Tables.{AreReady, reader_of};
+ghost use Rattle.ap_bundle_read.specs.Tables.{reader_of};
 
 use crate::error::ReadError;
 use crate::nodes::{Node, read_nodes};
@@ -192,7 +192,6 @@ pub(crate) fn read_derivation<'a>(
     terms: &Terms,
     place: Place<'a>,
 ) -> Result<(Derivation, Place<'a>), ReadError>
-    requires { AreReady terms.now }
     ensures { Gives (λ r. (derivation_of r.0, place_of r.1)) result
         (spec.read_derivation (reader_of terms.now) (place_of place.entry)) }
 {

@@ -2,6 +2,8 @@
 #![tactic(auto)]
 
 mod answers;
+mod cited_answers;
+mod cited_nodes;
 mod derivations;
 mod error;
 mod line_forms;
@@ -16,4 +18,4 @@ mod types;
 mod words;
 
 pub use error::BundleError;
-pub use read::read_bundle;
+pub use read::{read_bundle, read_cited_bundle};

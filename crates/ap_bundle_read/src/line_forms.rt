@@ -6,7 +6,7 @@ ghost use Rattle.ap_defs.specs.Terms.{term_of};
 ghost use Rattle.ap_bundle.specs.LineForms as spec;
 ghost use Rattle.ap_bundle_read.specs.Nodes.{node_line_of};
 
-use crate::nodes::{Node, NodeLine};
+use crate::nodes::{Bare, NodeLine};
 use crate::terms::term_from;
 use crate::types::type_from;
 use ap_bundle::version::Version;
@@ -160,7 +160,7 @@ fn new_line(words: &[Word]) -> Option<NodeLine>
 {
     let (name, rest) = name(words)?;
     if rest.is_empty() {
-        Some(NodeLine::Whole(Node::New(name)))
+        Some(NodeLine::Whole(Bare::New(name)))
     } else {
         None
     }
@@ -178,12 +178,12 @@ fn node_behind(word: NodeWord, words: &[Word]) -> Option<NodeLine>
 {
     match word {
         NodeWord::Atom => atom_line(words),
-        NodeWord::Eq => only_word(NodeLine::Whole(Node::Eq), words),
-        NodeWord::Fresh => only_word(NodeLine::Whole(Node::Fresh), words),
-        NodeWord::True => only_word(NodeLine::Whole(Node::True), words),
-        NodeWord::And => only_word(NodeLine::Whole(Node::And), words),
-        NodeWord::Left => only_word(NodeLine::Whole(Node::Left), words),
-        NodeWord::Right => only_word(NodeLine::Whole(Node::Right), words),
+        NodeWord::Eq => only_word(NodeLine::Whole(Bare::Eq), words),
+        NodeWord::Fresh => only_word(NodeLine::Whole(Bare::Fresh), words),
+        NodeWord::True => only_word(NodeLine::Whole(Bare::True), words),
+        NodeWord::And => only_word(NodeLine::Whole(Bare::And), words),
+        NodeWord::Left => only_word(NodeLine::Whole(Bare::Left), words),
+        NodeWord::Right => only_word(NodeLine::Whole(Bare::Right), words),
         NodeWord::Exists => only_word(NodeLine::Exists, words),
         NodeWord::New => new_line(words),
     }

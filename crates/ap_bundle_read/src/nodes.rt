@@ -6,9 +6,9 @@ ghost use Rattle.ap_defs.specs.Terms.{term_of};
 ghost use Rattle.ap_bundle.specs.Nodes as tree;
 ghost use Rattle.ap_bundle.specs.Readers.{repeated};
 ghost use Rattle.ap_bundle.specs.Reading as spec;
-ghost use Rattle.ap_bundle_read.specs.Nodes.{node_line_of, node_of};
+ghost use Rattle.ap_bundle_read.specs.Nodes.{bare_node, node_line_of, node_of};
 ghost use Rattle.ap_bundle_read.specs.Outcomes.{Gives, place_of};
-ghost use Rattle.ap_bundle_read.specs.Tables.{AreReady, reader_of};
+ghost use Rattle.ap_bundle_read.specs.Tables.{reader_of};
 
 use crate::error::ReadError;
 use crate::line_forms::{name_form, node_form};
@@ -35,13 +35,40 @@ pub(crate) enum Node {
     New(Name),
 }
 
+/// A node that brings no terms.
+#[derive(Clone, Copy)]
+pub(crate) enum Bare {
+    Eq,
+    Fresh,
+    True,
+    And,
+    Left,
+    Right,
+    New(Name),
+}
+
 /// What the line of a node says: the clause of an atom and how many names and terms follow, that a term
 /// follows, or all.
-#[derive(Drop)]
+#[derive(Clone, Copy)]
 pub(crate) enum NodeLine {
     Atom(u32, u64, u64),
     Exists,
-    Whole(Node),
+    Whole(Bare),
+}
+
+/// A node that brings no terms, as a node.
+fn without_terms(node: Bare) -> Node
+    ensures { node_of result ≡ bare_node node }
+{
+    match node {
+        Bare::Eq => Node::Eq,
+        Bare::Fresh => Node::Fresh,
+        Bare::True => Node::True,
+        Bare::And => Node::And,
+        Bare::Left => Node::Left,
+        Bare::Right => Node::Right,
+        Bare::New(name) => Node::New(name),
+    }
 }
 
 /// The name at the place.
@@ -57,7 +84,7 @@ fn read_name<'a>(alloc: Global, place: Place<'a>) -> Result<(Name, Place<'a>), R
 }
 
 /// Room for so many lines that are yet to be read, each of which has four bytes at least.
-fn room_for<T>(alloc: Global, count: u64, place: Place<'_>) -> Result<Vec<T>, AllocError>
+pub(crate) fn room_for<T>(alloc: Global, count: u64, place: Place<'_>) -> Result<Vec<T>, AllocError>
     ensures { IfOk result (λ v. v.items ≡ []) }
 {
     let most = place.rest.len() / 4;
@@ -65,7 +92,7 @@ fn room_for<T>(alloc: Global, count: u64, place: Place<'_>) -> Result<Vec<T>, Al
 }
 
 /// So many names.
-fn read_names<'a>(
+pub(crate) fn read_names<'a>(
     alloc: Global,
     count: u64,
     place: Place<'a>,
@@ -90,7 +117,6 @@ pub(crate) fn read_terms<'a>(
     count: u64,
     place: Place<'a>,
 ) -> Result<(Vec<Term>, Place<'a>), ReadError>
-    requires { AreReady terms.now }
     ensures { Gives (λ r. (map term_of r.0.items, place_of r.1)) result
         (repeated (reader_of terms.now) count (place_of place.entry)) }
 {
@@ -114,7 +140,6 @@ fn read_atom<'a>(
     term_count: u64,
     place: Place<'a>,
 ) -> Result<(Node, Place<'a>), ReadError>
-    requires { AreReady terms.now }
     ensures { Gives (λ r. (node_of r.0, place_of r.1)) result
         (spec.read_atom (reader_of terms.now) clause name_count term_count (place_of place.entry)) }
 {
@@ -140,7 +165,6 @@ fn read_exists<'a>(
     terms: &Terms,
     place: Place<'a>,
 ) -> Result<(Node, Place<'a>), ReadError>
-    requires { AreReady terms.now }
     ensures { Gives (λ r. (node_of r.0, place_of r.1)) result
         (spec.read_exists (reader_of terms.now) (place_of place.entry)) }
 {
@@ -156,20 +180,22 @@ fn read_behind<'a>(
     line: NodeLine,
     place: Place<'a>,
 ) -> Result<(Node, Place<'a>), ReadError>
-    requires { AreReady terms.now }
     ensures { Gives (λ r. (node_of r.0, place_of r.1)) result
         (spec.read_behind (reader_of terms.now) (node_line_of line) (place_of place.entry)) }
 {
     match line {
         NodeLine::Atom(clause, names, all) => read_atom(alloc, terms, clause, names, all, place),
         NodeLine::Exists => read_exists(alloc, terms, place),
-        NodeLine::Whole(node) => Ok((node, place)),
+        NodeLine::Whole(node) => Ok((without_terms(node), place)),
     }
 }
 
 /// The line of a node.
 #[tactic(auto, unfolding(ap_bundle::specs::Readers::read_form))]
-fn read_node_line<'a>(alloc: Global, place: Place<'a>) -> Result<(NodeLine, Place<'a>), ReadError>
+pub(crate) fn read_node_line<'a>(
+    alloc: Global,
+    place: Place<'a>,
+) -> Result<(NodeLine, Place<'a>), ReadError>
     ensures { Gives (λ r. (node_line_of r.0, place_of r.1)) result
         (readers.read_form BundleKind.Node lines.node_form (place_of place.entry)) }
 {
@@ -187,7 +213,6 @@ fn read_node<'a>(
     terms: &Terms,
     place: Place<'a>,
 ) -> Result<(Node, Place<'a>), ReadError>
-    requires { AreReady terms.now }
     ensures { Gives (λ r. (node_of r.0, place_of r.1)) result
         (spec.read_node (reader_of terms.now) (place_of place.entry)) }
 {
@@ -213,7 +238,6 @@ pub(crate) fn read_nodes<'a>(
     terms: &Terms,
     place: Place<'a>,
 ) -> Result<(Vec<Node>, Place<'a>), ReadError>
-    requires { AreReady terms.now }
     ensures { Gives (λ r. (map node_of r.0.items, place_of r.1)) result
         (spec.read_nodes (reader_of terms.now) (length place.entry.rest.now) 1
         (place_of place.entry)) }

@@ -10,6 +10,9 @@ use ap_bundle::faults::BundleKind;
 use ap_bundle::words::Word;
 use std::alloc::Global;
 
+/// How large the shared terms of a bundle may be, each in full.
+pub(crate) const ROOM: u64 = 16_777_216;
+
 /// What is left of the bytes, and how large the shared terms may be that are still to come.
 #[derive(Clone, Copy)]
 pub(crate) struct Place<'a> {

@@ -6,7 +6,7 @@ use Rattle.ap_defs.specs.Derivations as derivation
 use Rattle.ap_defs.specs.Derivations.{NominalDerivation, terms_in}
 use Rattle.ap_bundle.specs.Nodes.{preorder}
 use Rattle.ap_bundle.specs.Written.{node_lines}
-use Rattle.ap_bundle_write.specs.Nodes.{first_node, node_terms, children_back}
+use Rattle.ap_shared.specs.FirstNodes.{first_node, node_terms, children_back}
 use Rattle.ap_bundle_write.proofs.Stacks.{later, later_append, later_last}
 
 abbrev pub node_texts : (NominalTerm → List ℕ) → NominalDerivation → List ℕ

@@ -2,7 +2,7 @@
 use Rattle.std.proofs.Common.{◌≡◌, ℕ, ◌+◌, ◌<◌, List, [], ◌∷◌, ◌++◌, length, drop, ap, sym, ◌∙◌, append_assoc, arith, length-append, Bor}
 use Rattle.std.proofs.lemmas.List.{append-nil, map-append}
 use Rattle.std.specs.List.{flat_map}
-pub use Rattle.ap_bundle_write.specs.Nodes.{seen}
+pub use Rattle.ap_shared.specs.FirstNodes.{seen}
 
 module _ {A B : Type 0} where
   -- the texts of the parts, from the last

@@ -1,15 +1,19 @@
 -- The walk that enters a term: each step behind the parts of a term finds their lines last.
-use Rattle.std.proofs.Common.{◌≡◌, ℕ, ◌+◌, ◌<◌, List, [], ◌∷◌, ◌++◌, map, Option, Some, refl, ap, sym, subst, ◌∙◌, arith}
+use Rattle.std.proofs.Common.{◌≡◌, ℕ, ◌+◌, ◌<◌, List, [], ◌∷◌, ◌++◌, map, Option, Some, true, refl, ap, ap₂, sym, subst, ◌∙◌, append_assoc, arith, inl, inr, if◌then◌else◌}
+use Rattle.std.proofs.lemmas.Bool.Decides.{nat_tests}
+use Rattle.std.specs.Ordering.{is_eq, nat_cmp}
 use Rattle.std.specs.Prelude.{reverse}
 use Rattle.std.proofs.lemmas.List.{map-append, reverse-append}
 use Rattle.ap_defs.specs.Terms as terms
 use Rattle.ap_defs.specs.Terms.{NominalTerm}
 use Rattle.std.specs.List.{AllByRecursion as Each}
-use Rattle.ap_bundle.specs.Tables.{with_parts, with_table_term, with_table_terms, line_of, entry_words, Has, HasParts}
+use Rattle.ap_bundle.specs.Tables.{same, with_parts, with_table_term, with_table_terms, line_of, entry_words, Has, HasParts}
 use Rattle.ap_bundle.specs.declared.words.Word.{Word}
 use Rattle.ap_bundle_write.specs.declared.table.Task.{Task}
-use Rattle.ap_bundle_write.specs.Tables.{Step, enter, leave, task_step, steps_of, steps_in, words_by}
-use Rattle.ap_bundle.proofs.TableLemmas.{terms_append, has_term, line_term, term_more, map_line_more, each_has_more}
+use Rattle.ap_bundle_write.specs.Tables.{AreEntered, IsBegun, Step, enter, leave, parts_in, task_step, steps_of, steps_in, words_by}
+use Rattle.ap_bundle.proofs.SameLemmas.{cases, same_true}
+use Rattle.ap_bundle.proofs.TableLemmas.{terms_append, has_term, has_more, line_term, line_more, term_more, map_line_more, each_has_more}
+use Rattle.ap_shared.specs.Shared.{shared_at}
 
 -- the parts of the term come first, the last of them before the others, and then these
 abbrev pub OnTop : NominalTerm → List NominalTerm → List NominalTerm → Type 0
@@ -68,6 +72,75 @@ has_left table rest u h =
     let g = term_more table u in
     (has_term table u, subst (λ us. Each (Has us) rest) (sym g.1) (each_has_more table g.0 rest h))
 
+-- the parts of a term that is held are held
+held_parts : (table ts : List NominalTerm) (t : NominalTerm) → Each (HasParts table) ts → Has ts t → HasParts table t
+held_parts table [] t h k = cc
+held_parts table (x ∷ ts) t h k = elim (cases (same t x)) [
+  | inl e ↦ subst (HasParts table) (sym (same_true t x e)) h.0
+  | inr e ↦ held_parts table ts t h.1 (rw e at k)
+]
+
+term_there : (table : List NominalTerm) (t : NominalTerm) → Has table t → with_table_term table t ≡ table
+term_there table t h = rw h refl
+
+-- a term that is held comes with nothing more
+pub terms_there : (table : List NominalTerm) → Each (HasParts table) table → (t : NominalTerm) → Has table t → with_table_terms table (with_parts t) ≡ table
+terms_there table each terms.unit h = term_there table terms.unit h
+terms_there table each (terms.name a) h = term_there table (terms.name a) h
+terms_there table each (terms.pair t u) h =
+    let p = held_parts table table (terms.pair t u) each h in
+    terms_append table (with_parts t) (with_parts u ++ terms.pair t u ∷ []) ∙ ap (λ z. with_table_terms z (with_parts u ++ terms.pair t u ∷ [])) (terms_there table each t p.0)
+    ∙ terms_append table (with_parts u) (terms.pair t u ∷ []) ∙ ap (λ z. with_table_terms z (terms.pair t u ∷ [])) (terms_there table each u p.1)
+    ∙ term_there table (terms.pair t u) h
+terms_there table each (terms.app f t) h =
+    let p = held_parts table table (terms.app f t) each h in
+    terms_append table (with_parts t) (terms.app f t ∷ []) ∙ ap (λ z. with_table_terms z (terms.app f t ∷ [])) (terms_there table each t p) ∙ term_there table (terms.app f t) h
+terms_there table each (terms.abs a t) h =
+    let p = held_parts table table (terms.abs a t) each h in
+    terms_append table (with_parts t) (terms.abs a t ∷ []) ∙ ap (λ z. with_table_terms z (terms.abs a t ∷ [])) (terms_there table each t p) ∙ term_there table (terms.abs a t) h
+terms_there table each (terms.susp p x) h = term_there table (terms.susp p x) h
+
+-- a term whose number is kept is entered at once
+pub found_walk : (ks : List Step) (held us end : List NominalTerm) (t u : NominalTerm) (ns : List ℕ) (number : ℕ) → Each (HasParts held) held → Has held u → number ≡ line_of held u
+    → ns ≡ map (line_of held) us → Each (Has held) us → Leads (enter u ∷ ks) held us end t
+    → (ws : List NominalTerm) × (number ∷ ns ≡ map (line_of held) ws) × Each (Has held) ws × Leads ks held ws end t
+found_walk ks held us end t u ns number parts h is lines each l =
+    (u ∷ us, (λ i. is i ∷ lines i), (h, each), subst (λ z. Leads ks z (u ∷ us) end t) (terms_there held parts u h) l)
+
+-- the step to a term, taken
+pub begun_walk : (u : NominalTerm) (ks js : List Step) (held us end : List NominalTerm) (t : NominalTerm) (ns ms : List ℕ) → Each (HasParts held) held → IsBegun held u ns ms ks js
+    → ns ≡ map (line_of held) us → Each (Has held) us → Leads (enter u ∷ ks) held us end t → (ws : List NominalTerm) × (ms ≡ map (line_of held) ws) × Each (Has held) ws × Leads js held ws end t
+begun_walk u ks js held us end t ns ms parts begun lines each l = elim begun [
+  | inl b ↦
+      let w = found_walk ks held us end t u ns (line_of held u) parts b.0 refl lines each l in
+      (w.0, b.1 ∙ w.1, w.2, subst (λ is. Leads is held w.0 end t) (sym b.2) w.3)
+  | inr b ↦ (us, b.0 ∙ lines, each, subst (λ is. Leads is held us end t) (sym b.1) (entered u ks held us end t l))
+]
+
+-- a number that is kept tells the line of its term
+module _ (ts held new : List NominalTerm) (line number : ℕ) (numbers more : ℕ → Option ℕ) (grew : new ≡ with_table_term held (shared_at ts line)) (is : number ≡ line_of held (shared_at ts line))
+    (put : (i : ℕ) → more i ≡ (if is_eq (nat_cmp line i) then Some number else numbers i)) where
+  number_same : (k x : ℕ) → is_eq (nat_cmp k x) ≡ true → k ≡ x
+  number_same k x h = grind (arith, nat_tests)
+
+  pub entered_more : AreEntered ts held numbers → AreEntered ts new more
+  entered_more h i n e =
+      let t = shared_at ts i in
+      let u = shared_at ts line in
+      let k : (if is_eq (nat_cmp line i) then Some number else numbers i) ≡ Some n = sym (put i) ∙ e in
+      elim (cases (is_eq (nat_cmp line i))) [
+        | inl y ↦
+            let here : u ≡ t = ap (shared_at ts) (number_same line i y) in
+            let found : ◌≡◌ {A = Option ℕ} (Some number) (Some n) = rw y at k in
+            let one : number ≡ n = cc in
+            subst (λ v. Has new v × (n ≡ line_of new v)) here (subst (λ us. Has us u) (sym grew) (has_term held u), sym one ∙ is ∙ sym (ap (λ us. line_of us u) grew ∙ line_term held u))
+        | inr apart ↦
+            let found : numbers i ≡ Some n = rw apart at k in
+            let b = h i n found in
+            let g = term_more held u in
+            (subst (λ us. Has us t) (sym (grew ∙ g.1)) (has_more held g.0 t b.0), b.1 ∙ sym (ap (λ us. line_of us t) (grew ∙ g.1) ∙ line_more held g.0 t b.0))
+      ]
+
 -- how much is left to do
 abbrev pub work : NominalTerm → ℕ
 work terms.unit = 2
@@ -90,9 +163,29 @@ lighter (terms.app f t) ks = omega arith
 lighter (terms.abs a t) ks = omega arith
 lighter (terms.susp p x) ks = omega arith
 
+pub some_work : (u : NominalTerm) (ks : List Step) → weigh ks < weigh (enter u ∷ ks)
+some_work terms.unit ks = omega arith
+some_work (terms.name a) ks = omega arith
+some_work (terms.pair t u) ks = omega arith
+some_work (terms.app f t) ks = omega arith
+some_work (terms.abs a t) ks = omega arith
+some_work (terms.susp p x) ks = omega arith
+
+pub begun_less : (u : NominalTerm) (ks js : List Step) (held : List NominalTerm) (ns ms : List ℕ) → IsBegun held u ns ms ks js → weigh js < weigh (enter u ∷ ks)
+begun_less u ks js held ns ms begun = elim begun [
+  | inl b ↦ subst (λ is. weigh is < weigh (enter u ∷ ks)) (sym b.2) (some_work u ks)
+  | inr b ↦ subst (λ is. weigh is < weigh (enter u ∷ ks)) (sym b.1) (lighter u ks)
+]
+
 -- the task on top of a stack is the next step
-pub steps_last : (ks : List Task) (k : Task) → steps_of (ks ++ k ∷ []) ≡ task_step k ∷ steps_of ks
-steps_last ks k = ap reverse (map-append task_step ks (k ∷ [])) ∙ reverse-append (map task_step ks) (task_step k ∷ [])
+pub steps_last : (ts : List NominalTerm) (ks : List Task) (k : Task) → steps_of ts (ks ++ k ∷ []) ≡ task_step ts k ∷ steps_of ts ks
+steps_last ts ks k = ap reverse (map-append (task_step ts) ks (k ∷ [])) ∙ reverse-append (map (task_step ts) ks) (task_step ts k ∷ [])
+
+-- behind the steps to the parts of a term there is the step behind them
+pub steps_begun : (ts : List NominalTerm) (old with_leave new : List Task) (k : Task) (u v : NominalTerm) → with_leave ≡ old ++ k ∷ [] → task_step ts k ≡ leave u → u ≡ v
+    → steps_of ts new ≡ parts_in v ++ steps_of ts with_leave → steps_of ts new ≡ steps_in u ++ steps_of ts old
+steps_begun ts old with_leave new k u v pushed is same begun =
+    begun ∙ ap₂ (λ w ks. parts_in w ++ ks) (sym same) (ap (steps_of ts) pushed ∙ steps_last ts old k ∙ ap (λ s. s ∷ steps_of ts old) is) ∙ sym (append_assoc (parts_in u) (leave u ∷ []) (steps_of ts old))
 
 tail_of : (ws vs : List Word) (ns ms : List ℕ) → ◌≡◌ {A = Option (List Word × List ℕ)} (Some (ws, ns)) (Some (vs, ms)) → ns ≡ ms
 tail_of ws vs ns ms e = let p : ◌≡◌ {A = List Word × List ℕ} (ws, ns) (vs, ms) = cc in ap (λ (q : List Word × List ℕ). q.1) p

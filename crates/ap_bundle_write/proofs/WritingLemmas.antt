@@ -86,6 +86,12 @@ none_left [] (suc i) h = refl
 none_left (x ∷ xs) zero h = absurd (omega arith)
 none_left (x ∷ xs) (suc i) h = none_left xs i (omega arith)
 
+-- an item by itself
+pub item_at : {A : Type 0} (xs : List A) (i : ℕ) (d : A) → i < length xs → get_or xs i d ≡ get_or xs i (get_or xs i d)
+item_at [] i d h = absurd (omega arith)
+item_at (x ∷ xs) zero d h = refl
+item_at (x ∷ xs) (suc i) d h = item_at xs i d (omega (arith, h))
+
 -- loops over things that have terms
 module _ {A N : Type 0} (view : A → N) (terms : N → List NominalTerm) (text : Way → N → List ℕ) (v : Version) (first : List NominalTerm) (start : List ℕ) (xs : List A) where
   abbrev pub EachWriting : List NominalTerm → List ℕ → ℕ → Type 0

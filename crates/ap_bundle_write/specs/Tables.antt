@@ -1,23 +1,27 @@
 -- The table of the code, and what writing does to it.
-use Rattle.std.specs.Prelude.{◌≡◌, ℕ, List, [], ◌∷◌, ◌++◌, map, reverse, Option, Some}
+use Rattle.std.specs.Prelude.{◌≡◌, ◌⊎◌, ℕ, List, [], ◌∷◌, ◌++◌, map, reverse, Option, Some}
+use Rattle.std.specs.BTreeMap.{get}
 use Rattle.std.specs.List.{AllByRecursion}
+use Rattle.std.specs.Ordering.{nat_cmp}
 use Rattle.ap_defs.specs.Terms as terms
-use Rattle.ap_defs.specs.Terms.{NominalTerm, term_of}
+use Rattle.ap_defs.specs.Terms.{NominalTerm}
 use Rattle.ap_bundle.specs.declared.version.Version.{Version}
 use Rattle.ap_bundle.specs.declared.version.Version.TheVariants.{One, Two}
 use Rattle.ap_bundle.specs.declared.words.Letter.TheVariants as letter
 use Rattle.ap_bundle.specs.declared.words.Word.{Word}
 use Rattle.ap_bundle.specs.declared.words.Word.TheVariants.{Number, Letter as ALetter}
 use Rattle.ap_bundle.specs.Forms.{◌>>=◌, first, name_words, term_words}
-use Rattle.ap_bundle.specs.Tables.{grown, entry_words, HasParts}
+use Rattle.ap_bundle.specs.Tables.{grown, entry_words, line_of, Has, HasParts}
 use Rattle.ap_bundle.specs.Written.{written_line_as}
+use Rattle.ap_shared.specs.Shared.{shared_at}
+use Rattle.ap_shared.specs.SharedPlaces.{shared_term}
 use Rattle.ap_bundle_write.specs.declared.table.Table.{Table}
 use Rattle.ap_bundle_write.specs.declared.table.Task.{Task}
 use Rattle.ap_bundle_write.specs.declared.table.Task.TheVariants as tasks
 
 -- the terms of the table
 abbrev pub held_terms : Table → List NominalTerm
-held_terms t = map (λ r. term_of r.now) t.terms.items
+held_terms t = map shared_term t.terms.items
 
 -- the words of its lines
 abbrev pub words_of_lines : Table → List (List Word)
@@ -27,6 +31,15 @@ words_of_lines t = map (λ v. v.items) t.lines.keys
 pub record IsWrittenTable (t : Table) : Type 0 where
   pub lines : words_of_lines t ≡ map (entry_words (held_terms t)) (held_terms t)
   pub parts : AllByRecursion (HasParts (held_terms t)) (held_terms t)
+
+-- numbers of lines of these terms: the terms of the lines are held there
+abbrev pub AreEntered : List NominalTerm → List NominalTerm → (ℕ → Option ℕ) → Type 0
+AreEntered ts held numbers = (i n : ℕ) → numbers i ≡ Some n → Has held (shared_at ts i) × (n ≡ line_of held (shared_at ts i))
+
+-- a table while these terms are written
+pub record IsEntering (ts : List NominalTerm) (t : Table) : Type 0 where
+  pub table : IsWrittenTable t
+  pub entered : AreEntered ts (held_terms t) (get nat_cmp t.entered)
 
 -- the table once these terms came; a bundle of version 1 has none
 abbrev pub grown_as : Version → List NominalTerm → List NominalTerm → List NominalTerm
@@ -55,19 +68,28 @@ pub data Step : Type 0 where
   enter : NominalTerm → Step
   leave : NominalTerm → Step
 
-abbrev pub task_step : Task → Step
-task_step (tasks.Enter r) = enter (term_of r.now)
-task_step (tasks.Leave r) = leave (term_of r.now)
+-- of a line of these terms
+abbrev pub task_step : List NominalTerm → Task → Step
+task_step ts (tasks.Enter i) = enter (shared_at ts i)
+task_step ts (tasks.Leave i) = leave (shared_at ts i)
 
 -- the steps that are left, the next one first
-abbrev pub steps_of : List Task → List Step
-steps_of ts = reverse (map task_step ts)
+abbrev pub steps_of : List NominalTerm → List Task → List Step
+steps_of ts ks = reverse (map (task_step ts) ks)
+
+-- the steps to the parts of a term
+abbrev pub parts_in : NominalTerm → List Step
+parts_in terms.unit = []
+parts_in (terms.name a) = []
+parts_in (terms.pair t u) = enter t ∷ enter u ∷ []
+parts_in (terms.app f t) = enter t ∷ []
+parts_in (terms.abs a t) = enter t ∷ []
+parts_in (terms.susp p x) = []
 
 -- the steps of a term
 abbrev pub steps_in : NominalTerm → List Step
-steps_in terms.unit = leave terms.unit ∷ []
-steps_in (terms.name a) = leave (terms.name a) ∷ []
-steps_in (terms.pair t u) = enter t ∷ enter u ∷ leave (terms.pair t u) ∷ []
-steps_in (terms.app f t) = enter t ∷ leave (terms.app f t) ∷ []
-steps_in (terms.abs a t) = enter t ∷ leave (terms.abs a t) ∷ []
-steps_in (terms.susp p x) = leave (terms.susp p x) ∷ []
+steps_in t = parts_in t ++ leave t ∷ []
+
+-- The step to a term is taken: the number of one that is held comes before the others, or its steps before those that are left.
+abbrev pub IsBegun : List NominalTerm → NominalTerm → List ℕ → List ℕ → List Step → List Step → Type 0
+IsBegun held t ns ms ks js = (Has held t × (ms ≡ line_of held t ∷ ns) × (js ≡ ks)) ⊎ ((ms ≡ ns) × (js ≡ steps_in t ++ ks))

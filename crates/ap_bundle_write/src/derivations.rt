@@ -1,13 +1,15 @@
 // The lines of terms and derivations.
-ghost use Rattle.std.specs.Prelude.{◌≡◌, [], ◌∷◌, ◌++◌, flat_map, map, OnOk};
+ghost use Rattle.std.specs.Prelude.{◌≡◌, [], ◌∷◌, ◌++◌, flat_map, List as list, map, OnOk};
 ghost use Rattle.ap_bundle.specs.Forms.{name_words};
-ghost use Rattle.ap_defs.specs.Terms.{term_of};
-ghost use Rattle.ap_defs.specs.Derivations.{derivation_of, terms_in};
+ghost use Rattle.ap_defs.specs.Terms.{NominalTerm};
+ghost use Rattle.ap_defs.specs.Derivations.{terms_in};
 ghost use Rattle.ap_bundle.specs.Nodes as nodes;
 ghost use Rattle.ap_bundle.specs.Nodes.{preorder};
 ghost use Rattle.ap_bundle.specs.Written.{node_line, node_lines, name_line, term_line};
-ghost use Rattle.ap_bundle_write.specs.Nodes.{children_back, first_node, node_terms, seen};
-ghost use Rattle.ap_bundle_write.specs.Tables.{IsWrittenTable, WritesLines, held_terms};
+ghost use Rattle.ap_shared.specs.FirstNodes.{children_back, first_node, node_terms, seen};
+ghost use Rattle.ap_shared.specs.Shared.{shared_at};
+ghost use Rattle.ap_shared.specs.SharedViews.{shared_derivation, shared_terms};
+ghost use Rattle.ap_bundle_write.specs.Tables.{IsEntering, WritesLines, held_terms};
 
 use crate::forms::{push_name, push_term};
 use crate::lines::{write_count, write_line};
@@ -15,17 +17,26 @@ use crate::table::Table;
 use ap_bundle::version::Version;
 use ap_bundle::words::{Head, NodeWord, Word};
 use ap_defs::memory::Memory;
-use ap_defs::outcomes::Derivation;
-use ap_defs::terms::{Name, Term};
+use ap_defs::terms::Name;
+use ap_shared::arena::SharedTerms;
+use ap_shared::derivations::SharedDerivation;
+use ap_shared::expanding::expanded;
 use std::alloc::Global;
 
 /// Writes the line of a term in full.
-fn write_full_term(alloc: Global, out: &mut Vec<u8>, term: &Term) -> Result<(), Memory>
-    ensures { OnOk result (out.new.items ≡ out.old.items ++ term_line (term_of term.now)) }
+fn write_full_term(
+    alloc: Global,
+    out: &mut Vec<u8>,
+    terms: &SharedTerms,
+    line: usize,
+) -> Result<(), Memory>
+    ensures { OnOk result (out.new.items
+        ≡ out.old.items ++ term_line (shared_at (shared_terms terms.now) line)) }
 {
+    let term = expanded(alloc, terms, line)?;
     let mut words = Vec::new(alloc);
     words.push(Word::Head(Head::T))?;
-    push_term(alloc, &mut words, term)?;
+    push_term(alloc, &mut words, &term)?;
     write_line(alloc, out, &words)
 }
 
@@ -34,16 +45,18 @@ fn write_shared_term<'a>(
     alloc: Global,
     out: &mut Vec<u8>,
     table: &mut Table<'a>,
-    term: &'a Term,
+    terms: &'a SharedTerms,
+    line: usize,
 ) -> Result<(), Memory>
-    requires { IsWrittenTable table.old }
-    ensures table { OnOk result (IsWrittenTable table.new) }
+    requires { IsEntering (shared_terms terms.now) table.old }
+    ensures entering { OnOk result (IsEntering (shared_terms terms.now) table.new) }
     ensures text { OnOk result (WritesLines Version.Two (held_terms table.old)
-        (held_terms table.new) out.old.items out.new.items (term_of term.now ∷ [])
-        (λ way. way (term_of term.now))) }
+        (held_terms table.new) out.old.items out.new.items
+        (shared_at (shared_terms terms.now) line ∷ [])
+        (λ way. way (shared_at (shared_terms terms.now) line))) }
 {
-    let line = table.enter(alloc, term)?;
-    write_count(alloc, out, Head::R, line)
+    let number = table.enter(alloc, terms, line)?;
+    write_count(alloc, out, Head::R, number)
 }
 
 /// Writes the line of a term.
@@ -52,16 +65,18 @@ fn write_term<'a>(
     out: &mut Vec<u8>,
     version: Version,
     table: &mut Table<'a>,
-    term: &'a Term,
+    terms: &'a SharedTerms,
+    line: usize,
 ) -> Result<(), Memory>
-    requires { IsWrittenTable table.old }
-    ensures table { OnOk result (IsWrittenTable table.new) }
+    requires { IsEntering (shared_terms terms.now) table.old }
+    ensures entering { OnOk result (IsEntering (shared_terms terms.now) table.new) }
     ensures text { OnOk result (WritesLines version (held_terms table.old) (held_terms table.new)
-        out.old.items out.new.items (term_of term.now ∷ []) (λ way. way (term_of term.now))) }
+        out.old.items out.new.items (shared_at (shared_terms terms.now) line ∷ [])
+        (λ way. way (shared_at (shared_terms terms.now) line))) }
 {
     match version {
-        Version::One => write_full_term(alloc, out, term),
-        Version::Two => write_shared_term(alloc, out, table, term),
+        Version::One => write_full_term(alloc, out, terms, line),
+        Version::Two => write_shared_term(alloc, out, table, terms, line),
     }
 }
 
@@ -71,16 +86,17 @@ pub(crate) fn write_terms<'a>(
     out: &mut Vec<u8>,
     version: Version,
     table: &mut Table<'a>,
-    terms: &'a [Term],
+    terms: &'a SharedTerms,
+    lines: &[usize],
 ) -> Result<(), Memory>
-    requires { IsWrittenTable table.old }
-    ensures table { OnOk result (IsWrittenTable table.new) }
+    requires { IsEntering (shared_terms terms.now) table.old }
+    ensures entering { OnOk result (IsEntering (shared_terms terms.now) table.new) }
     ensures text { OnOk result (WritesLines version (held_terms table.old) (held_terms table.new)
-        out.old.items out.new.items (map term_of terms.now) (λ way. flat_map way
-        (map term_of terms.now))) }
+        out.old.items out.new.items (map (shared_at (shared_terms terms.now)) lines.now)
+        (λ way. flat_map way (map (shared_at (shared_terms terms.now)) lines.now))) }
 {
-    for term in terms {
-        write_term(alloc, out, version, table, term)?;
+    for line in lines {
+        write_term(alloc, out, version, table, terms, *line)?;
     }
     Ok(())
 }
@@ -141,17 +157,19 @@ fn write_atom<'a>(
     table: &mut Table<'a>,
     clause: u32,
     names: &[Name],
-    terms: &'a [Term],
+    terms: &'a SharedTerms,
+    lines: &[usize],
 ) -> Result<(), Memory>
-    requires { IsWrittenTable table.old }
-    ensures table { OnOk result (IsWrittenTable table.new) }
+    requires { IsEntering (shared_terms terms.now) table.old }
+    ensures entering { OnOk result (IsEntering (shared_terms terms.now) table.new) }
     ensures text { OnOk result (WritesLines version (held_terms table.old) (held_terms table.new)
-        out.old.items out.new.items (map term_of terms.now) (λ way. node_lines way (nodes.atom
-        clause names.now (map term_of terms.now)))) }
+        out.old.items out.new.items (map (shared_at (shared_terms terms.now)) lines.now)
+        (λ way. node_lines way (nodes.atom clause names.now
+        (map (shared_at (shared_terms terms.now)) lines.now)))) }
 {
-    write_atom_line(alloc, out, clause, names.len(), terms.len())?;
+    write_atom_line(alloc, out, clause, names.len(), lines.len())?;
     write_names(alloc, out, names)?;
-    write_terms(alloc, out, version, table, terms)
+    write_terms(alloc, out, version, table, terms, lines)
 }
 
 /// Writes the lines of an `exists`.
@@ -160,16 +178,17 @@ fn write_exists<'a>(
     out: &mut Vec<u8>,
     version: Version,
     table: &mut Table<'a>,
-    term: &'a Term,
+    terms: &'a SharedTerms,
+    line: usize,
 ) -> Result<(), Memory>
-    requires { IsWrittenTable table.old }
-    ensures table { OnOk result (IsWrittenTable table.new) }
+    requires { IsEntering (shared_terms terms.now) table.old }
+    ensures entering { OnOk result (IsEntering (shared_terms terms.now) table.new) }
     ensures text { OnOk result (WritesLines version (held_terms table.old) (held_terms table.new)
-        out.old.items out.new.items (term_of term.now ∷ []) (λ way. node_lines way
-        (nodes.exists (term_of term.now)))) }
+        out.old.items out.new.items (shared_at (shared_terms terms.now) line ∷ [])
+        (λ way. node_lines way (nodes.exists (shared_at (shared_terms terms.now) line)))) }
 {
     write_node(alloc, out, NodeWord::Exists)?;
-    write_term(alloc, out, version, table, term)
+    write_term(alloc, out, version, table, terms, line)
 }
 
 /// Writes the line of a `new`.
@@ -189,49 +208,53 @@ fn write_first<'a>(
     out: &mut Vec<u8>,
     version: Version,
     table: &mut Table<'a>,
-    derivation: &'a Derivation,
+    terms: &'a SharedTerms,
+    derivation: &'a SharedDerivation,
 ) -> Result<(), Memory>
-    requires { IsWrittenTable table.old }
-    ensures table { OnOk result (IsWrittenTable table.new) }
+    requires { IsEntering (shared_terms terms.now) table.old }
+    ensures entering { OnOk result (IsEntering (shared_terms terms.now) table.new) }
     ensures text { OnOk result (WritesLines version (held_terms table.old) (held_terms table.new)
-        out.old.items out.new.items (node_terms (first_node (derivation_of derivation.now))) (λ way.
-        node_lines way (first_node (derivation_of derivation.now)))) }
+        out.old.items out.new.items (node_terms (first_node
+        (shared_derivation (shared_terms terms.now) derivation.now)))
+        (λ way. node_lines way (first_node
+        (shared_derivation (shared_terms terms.now) derivation.now)))) }
 {
     match derivation {
-        Derivation::Atom(used, _) => {
-            let (names, terms) = (used.names.items(), used.terms.items());
-            write_atom(alloc, out, version, table, used.clause, names, terms)
+        SharedDerivation::Atom(used, _) => {
+            let (names, lines) = (used.names.items(), used.terms.items());
+            write_atom(alloc, out, version, table, used.clause, names, terms, lines)
         }
-        Derivation::Eq => write_node(alloc, out, NodeWord::Eq),
-        Derivation::Fresh => write_node(alloc, out, NodeWord::Fresh),
-        Derivation::True => write_node(alloc, out, NodeWord::True),
-        Derivation::Both(_, _) => write_node(alloc, out, NodeWord::And),
-        Derivation::Left(_) => write_node(alloc, out, NodeWord::Left),
-        Derivation::Right(_) => write_node(alloc, out, NodeWord::Right),
-        Derivation::Exists(term, _) => write_exists(alloc, out, version, table, term),
-        Derivation::New(name, _) => write_new(alloc, out, **name),
+        SharedDerivation::Eq => write_node(alloc, out, NodeWord::Eq),
+        SharedDerivation::Fresh => write_node(alloc, out, NodeWord::Fresh),
+        SharedDerivation::True => write_node(alloc, out, NodeWord::True),
+        SharedDerivation::Both(_, _) => write_node(alloc, out, NodeWord::And),
+        SharedDerivation::Left(_) => write_node(alloc, out, NodeWord::Left),
+        SharedDerivation::Right(_) => write_node(alloc, out, NodeWord::Right),
+        SharedDerivation::Exists(line, _) => write_exists(alloc, out, version, table, terms, *line),
+        SharedDerivation::New(name, _) => write_new(alloc, out, **name),
     }
 }
 
 /// Puts the children of a derivation on a stack, the first of them last.
 fn push_children<'a>(
-    pending: &mut Vec<&'a Derivation>,
-    derivation: &'a Derivation,
+    pending: &mut Vec<&'a SharedDerivation>,
+    derivation: &'a SharedDerivation,
 ) -> Result<(), Memory>
-    ensures { OnOk result (seen derivation_of pending.new.items
-        ≡ seen derivation_of pending.old.items ++ children_back (derivation_of derivation.now)) }
+    ensures { OnOk result ((ts : list NominalTerm) → seen (shared_derivation ts) pending.new.items
+        ≡ seen (shared_derivation ts) pending.old.items
+        ++ children_back (shared_derivation ts derivation.now)) }
 {
     match derivation {
-        Derivation::Eq | Derivation::Fresh | Derivation::True => {}
-        Derivation::Both(left, right) => {
+        SharedDerivation::Eq | SharedDerivation::Fresh | SharedDerivation::True => {}
+        SharedDerivation::Both(left, right) => {
             pending.push(right)?;
             pending.push(left)?;
         }
-        Derivation::Atom(_, child) => pending.push(child)?,
-        Derivation::Left(child) => pending.push(child)?,
-        Derivation::Right(child) => pending.push(child)?,
-        Derivation::Exists(_, child) => pending.push(child)?,
-        Derivation::New(_, child) => pending.push(child)?,
+        SharedDerivation::Atom(_, child) => pending.push(child)?,
+        SharedDerivation::Left(child) => pending.push(child)?,
+        SharedDerivation::Right(child) => pending.push(child)?,
+        SharedDerivation::Exists(_, child) => pending.push(child)?,
+        SharedDerivation::New(_, child) => pending.push(child)?,
     }
     Ok(())
 }
@@ -242,18 +265,21 @@ pub(crate) fn write_derivation<'a>(
     out: &mut Vec<u8>,
     version: Version,
     table: &mut Table<'a>,
-    derivation: &'a Derivation,
+    terms: &'a SharedTerms,
+    derivation: &'a SharedDerivation,
 ) -> Result<(), Memory>
-    requires { IsWrittenTable table.old }
-    ensures table { OnOk result (IsWrittenTable table.new) }
+    requires { IsEntering (shared_terms terms.now) table.old }
+    ensures entering { OnOk result (IsEntering (shared_terms terms.now) table.new) }
     ensures text { OnOk result (WritesLines version (held_terms table.old) (held_terms table.new)
-        out.old.items out.new.items (terms_in (derivation_of derivation.now)) (λ way. flat_map
-        (node_lines way) (preorder (derivation_of derivation.now)))) }
+        out.old.items out.new.items
+        (terms_in (shared_derivation (shared_terms terms.now) derivation.now))
+        (λ way. flat_map (node_lines way) (preorder
+        (shared_derivation (shared_terms terms.now) derivation.now)))) }
 {
     let mut pending = Vec::new(alloc);
     pending.push(derivation)?;
     while let Some(next) = pending.pop() {
-        write_first(alloc, out, version, table, next)?;
+        write_first(alloc, out, version, table, terms, next)?;
         push_children(&mut pending, next)?;
     }
     Ok(())

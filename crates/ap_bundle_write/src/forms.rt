@@ -32,7 +32,7 @@ fn push_swaps(words: &mut Vec<Word>, swaps: &[Swap]) -> Result<(), Memory>
 }
 
 /// Adds the words of a suspension behind its letter.
-fn push_susp(words: &mut Vec<Word>, swaps: &[Swap], num: u64) -> Result<(), Memory>
+pub(crate) fn push_susp(words: &mut Vec<Word>, swaps: &[Swap], num: u64) -> Result<(), Memory>
     ensures { OnOk result (words.new.items
         ≡ words.old.items
         ++ (Word.Number (length swaps.now)

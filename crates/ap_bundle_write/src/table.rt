@@ -1,33 +1,44 @@
 // The table of the terms that came so far.
 //
 // The words of a term's line have the numbers of its parts, so two terms with the same parts have the same
-// words, and a look-up costs no more than a line. What is still to be entered of a term stands on a stack.
-ghost use Rattle.std.specs.Prelude.{◌≡◌, [], ◌∷◌, ◌++◌, map, reverse, IfOk, OnOk};
+// words, and a look-up costs no more than a line. A line of a table of shared terms is entered once: its number
+// is kept. What is still to be entered of a term stands on a stack.
+ghost use Rattle.std.specs.Prelude.{◌≡◌, [], ◌∷◌, ◌++◌, List as list, map, reverse, IfOk, OnOk};
+ghost use Rattle.std.specs.BTreeMap as tree;
 ghost use Rattle.std.specs.Option.{option_map};
-ghost use Rattle.ap_defs.specs.Terms.{term_of};
+ghost use Rattle.std.specs.Ordering.{nat_cmp};
+ghost use Rattle.ap_defs.specs.Terms.{NominalTerm, susp};
 ghost use Rattle.ap_bundle.specs.Forms as forms;
 ghost use Rattle.ap_bundle.specs.Tables.{HasParts, entry_words, grown, line_of, with_table_term};
-ghost use Rattle.ap_bundle_write.specs.Tables.{IsWrittenTable, held_terms, steps_in, steps_of, words_by};
+ghost use Rattle.ap_shared.specs.Shared.{entry_term, shared_at};
+ghost use Rattle.ap_shared.specs.SharedViews.{shared_terms};
+ghost use Rattle.ap_bundle_write.specs.Tables.{IsBegun, IsEntering, IsWrittenTable, held_terms, parts_in, steps_in, steps_of, words_by};
 
-use crate::forms::{push_name, push_term};
+use crate::forms::{push_name, push_susp};
 use ap_bundle::words::{Letter, Word};
 use ap_defs::memory::Memory;
-use ap_defs::terms::{Name, Term};
+use ap_defs::terms::{Name, Swap, Var};
+use ap_shared::arena::SharedTerms;
+use ap_shared::lines::Entry;
+use ap_shared::places::Shared;
 use indexmap::IndexSet;
 use std::alloc::Global;
+use std::collections::BTreeMap;
 
-/// The terms that came so far, each once and behind its parts: the words of their lines, and the terms.
+/// The terms that came so far, each once and behind its parts: the words of their lines, and where the terms
+/// stand; and the numbers of the lines that were entered of the shared terms that are written now.
 #[derive(Drop)]
 pub(crate) struct Table<'a> {
     lines: IndexSet<Vec<Word>>,
-    terms: Vec<&'a Term>,
+    terms: Vec<Shared<'a>>,
+    entered: BTreeMap<usize, usize>,
 }
 
-/// A step of a walk through a term: to it, or behind its parts.
+/// A step of a walk through the term of a line: to it, or behind its parts.
 #[derive(Clone, Copy)]
-enum Task<'a> {
-    Enter(&'a Term),
-    Leave(&'a Term),
+enum Task {
+    Enter(usize),
+    Leave(usize),
 }
 
 /// The number that comes first, taken off.
@@ -38,12 +49,32 @@ fn first_number(numbers: &mut Vec<usize>) -> Option<usize>
     numbers.pop()
 }
 
-/// The words of a term in full.
-fn words_in_full(alloc: Global, term: &Term) -> Result<Vec<Word>, Memory>
-    ensures { IfOk result (λ w. w.items ≡ forms.term_words (term_of term.now)) }
+/// The words of the unit term.
+fn unit_words(alloc: Global) -> Result<Vec<Word>, Memory>
+    ensures { IfOk result (λ w. w.items ≡ Word.Letter Letter.U ∷ []) }
 {
     let mut words = Vec::new(alloc);
-    push_term(alloc, &mut words, term)?;
+    words.push(Word::Letter(Letter::U))?;
+    Ok(words)
+}
+
+/// The words of a name's term.
+fn name_term_words(alloc: Global, name: Name) -> Result<Vec<Word>, Memory>
+    ensures { IfOk result (λ w. w.items ≡ Word.Letter Letter.N ∷ forms.name_words name) }
+{
+    let mut words = Vec::new(alloc);
+    words.push(Word::Letter(Letter::N))?;
+    push_name(&mut words, name)?;
+    Ok(words)
+}
+
+/// The words of a suspension.
+fn susp_words(alloc: Global, swaps: &[Swap], var: Var) -> Result<Vec<Word>, Memory>
+    ensures { IfOk result (λ w. w.items ≡ forms.term_words (susp swaps.now var)) }
+{
+    let mut words = Vec::new(alloc);
+    words.push(Word::Letter(Letter::S))?;
+    push_susp(&mut words, swaps, var.num)?;
     Ok(words)
 }
 
@@ -83,18 +114,21 @@ fn abs_words(alloc: Global, name: Name, part: usize) -> Result<Vec<Word>, Memory
     Ok(words)
 }
 
-/// The words of a term's line, by the numbers of its parts, which are taken off.
-fn words_of(
+/// The words of an entry's line, by the numbers of its parts, which are taken off.
+fn entry_words_of(
     alloc: Global,
-    term: &Term,
+    entry: &Entry,
     numbers: &mut Vec<usize>,
 ) -> Result<Option<Vec<Word>>, Memory>
-    ensures { IfOk result (λ r. option_map (λ w. (w.items, reverse numbers.new.items)) r
-        ≡ words_by (term_of term.now) (reverse numbers.old.items)) }
+    ensures { IfOk result (λ r. (ts : list NominalTerm) →
+        option_map (λ w. (w.items, reverse numbers.new.items)) r
+        ≡ words_by (entry_term ts entry.now) (reverse numbers.old.items)) }
 {
-    match term {
-        Term::Unit | Term::Name(_) | Term::Susp(_, _) => Ok(Some(words_in_full(alloc, term)?)),
-        Term::Pair(_, _) => {
+    match entry {
+        Entry::Unit => Ok(Some(unit_words(alloc)?)),
+        Entry::Name(name) => Ok(Some(name_term_words(alloc, *name)?)),
+        Entry::Susp(swaps, var) => Ok(Some(susp_words(alloc, swaps.items(), *var)?)),
+        Entry::Pair(_, _) => {
             let Some(right) = first_number(numbers) else {
                 return Ok(None);
             };
@@ -103,36 +137,77 @@ fn words_of(
             };
             Ok(Some(pair_words(alloc, left, right)?))
         }
-        Term::App(constructor, _) => {
+        Entry::App(constructor, _) => {
             let Some(part) = first_number(numbers) else {
                 return Ok(None);
             };
             Ok(Some(app_words(alloc, *constructor, part)?))
         }
-        Term::Abs(name, _) => {
+        Entry::Abs(sort, num, _) => {
             let Some(part) = first_number(numbers) else {
                 return Ok(None);
             };
-            Ok(Some(abs_words(alloc, *name, part)?))
+            let name = Name {
+                sort: *sort,
+                num: *num,
+            };
+            Ok(Some(abs_words(alloc, name, part)?))
         }
     }
 }
 
-/// Puts the steps of a term before those that are left.
-fn push_steps<'a>(tasks: &mut Vec<Task<'a>>, term: &'a Term) -> Result<(), Memory>
-    ensures { OnOk result (steps_of tasks.new.items
-        ≡ steps_in (term_of term.now) ++ steps_of tasks.old.items) }
+/// The words of the term of a line, by the numbers of its parts, which are taken off.
+fn words_of(
+    alloc: Global,
+    terms: &SharedTerms,
+    line: usize,
+    numbers: &mut Vec<usize>,
+) -> Result<Option<Vec<Word>>, Memory>
+    ensures { IfOk result (λ r. option_map (λ w. (w.items, reverse numbers.new.items)) r
+        ≡ words_by (shared_at (shared_terms terms.now) line) (reverse numbers.old.items)) }
 {
-    tasks.push(Task::Leave(term))?;
-    match term {
-        Term::Unit | Term::Name(_) | Term::Susp(_, _) => {}
-        Term::Pair(left, right) => {
-            tasks.push(Task::Enter(right))?;
-            tasks.push(Task::Enter(left))?;
+    match terms.entry(line) {
+        Some(entry) => {
+            let words = entry_words_of(alloc, entry, numbers)?;
+            Ok(words)
         }
-        Term::App(_, part) | Term::Abs(_, part) => tasks.push(Task::Enter(part))?,
+        None => {
+            let words = unit_words(alloc)?;
+            Ok(Some(words))
+        }
+    }
+}
+
+/// Puts the steps to the parts of an entry before those that are left.
+fn push_parts(tasks: &mut Vec<Task>, entry: &Entry) -> Result<(), Memory>
+    ensures { OnOk result ((ts : list NominalTerm) → steps_of ts tasks.new.items
+        ≡ parts_in (entry_term ts entry.now) ++ steps_of ts tasks.old.items) }
+{
+    match entry {
+        Entry::Unit | Entry::Name(_) | Entry::Susp(_, _) => {}
+        Entry::Pair(left, right) => {
+            tasks.push(Task::Enter(*right))?;
+            tasks.push(Task::Enter(*left))?;
+        }
+        Entry::App(_, part) | Entry::Abs(_, _, part) => tasks.push(Task::Enter(*part))?,
     }
     Ok(())
+}
+
+/// Puts the steps of the term of a line before those that are left.
+fn push_steps(tasks: &mut Vec<Task>, terms: &SharedTerms, line: usize) -> Result<(), Memory>
+    ensures { OnOk result (steps_of (shared_terms terms.now) tasks.new.items
+        ≡ steps_in (shared_at (shared_terms terms.now) line)
+        ++ steps_of (shared_terms terms.now) tasks.old.items) }
+{
+    tasks.push(Task::Leave(line))?;
+    match terms.entry(line) {
+        Some(entry) => {
+            push_parts(tasks, entry)?;
+            Ok(())
+        }
+        None => Ok(()),
+    }
 }
 
 impl<'a> Table<'a> {
@@ -144,53 +219,131 @@ impl<'a> Table<'a> {
         Table {
             lines: IndexSet::new(alloc),
             terms: Vec::new(alloc),
+            entered: BTreeMap::new(alloc),
         }
     }
 
-    /// One term more, unless it is there, by the words of its line. It answers its line.
-    fn add(&mut self, term: &'a Term, words: Vec<Word>) -> Result<usize, Memory>
-        requires table { IsWrittenTable self.old }
-        requires parts { HasParts (held_terms self.old) (term_of term.now) }
-        requires words { words.items ≡ entry_words (held_terms self.old) (term_of term.now) }
-        ensures table { OnOk result (IsWrittenTable self.new) }
-        ensures held { OnOk result (held_terms self.new
-            ≡ with_table_term (held_terms self.old) (term_of term.now)) }
-        ensures line { IfOk result (λ i. i ≡ line_of (held_terms self.old) (term_of term.now)) }
-    {
-        let (line, is_new) = self.lines.insert_full(words)?;
-        if is_new {
-            self.terms.push(term)?;
-        }
-        Ok(line)
-    }
-
-    /// A term with its parts more. It answers its line.
-    pub(crate) fn enter(&mut self, alloc: Global, term: &'a Term) -> Result<usize, Memory>
+    /// Other shared terms are written from now on: none of their lines was entered.
+    pub(crate) fn start(&mut self, alloc: Global)
         requires { IsWrittenTable self.old }
+        ensures entering { (ts : list NominalTerm) → IsEntering ts self.new }
+        ensures held { held_terms self.new ≡ held_terms self.old }
+    {
+        self.entered = BTreeMap::new(alloc);
+    }
+
+    /// The number of a line that was entered.
+    fn number_of(&self, line: usize) -> Option<usize>
+        ensures { result ≡ tree.get nat_cmp self.now.entered line }
+    {
+        self.entered.get(&line).copied()
+    }
+
+    /// Takes the step to the term of a line: its number is put down where it is kept, and else the steps of the
+    /// term come first.
+    fn begin(
+        &self,
+        terms: &SharedTerms,
+        line: usize,
+        tasks: &mut Vec<Task>,
+        numbers: &mut Vec<usize>,
+    ) -> Result<(), Memory>
+        requires { IsEntering (shared_terms terms.now) self.now }
+        ensures { OnOk result (IsBegun (held_terms self.now)
+            (shared_at (shared_terms terms.now) line)
+            (reverse numbers.old.items) (reverse numbers.new.items)
+            (steps_of (shared_terms terms.now) tasks.old.items)
+            (steps_of (shared_terms terms.now) tasks.new.items)) }
+    {
+        match self.number_of(line) {
+            Some(number) => {
+                numbers.push(number)?;
+                Ok(())
+            }
+            None => push_steps(tasks, terms, line),
+        }
+    }
+
+    /// One term more, unless it is there, by the words of its line. It answers its number.
+    fn add(
+        &mut self,
+        terms: &'a SharedTerms,
+        line: usize,
+        words: Vec<Word>,
+    ) -> Result<usize, Memory>
+        requires table { IsWrittenTable self.old }
+        requires parts { HasParts (held_terms self.old) (shared_at (shared_terms terms.now) line) }
+        requires words { words.items
+            ≡ entry_words (held_terms self.old) (shared_at (shared_terms terms.now) line) }
         ensures table { OnOk result (IsWrittenTable self.new) }
         ensures held { OnOk result (held_terms self.new
-            ≡ grown (held_terms self.old) (term_of term.now ∷ [])) }
-        ensures line { IfOk result (λ i. i ≡ line_of (held_terms self.new) (term_of term.now)) }
+            ≡ with_table_term (held_terms self.old) (shared_at (shared_terms terms.now) line)) }
+        ensures entered { OnOk result (self.new.entered ≡ self.old.entered) }
+        ensures number { IfOk result (λ n. n
+            ≡ line_of (held_terms self.old) (shared_at (shared_terms terms.now) line)) }
+    {
+        let (number, is_new) = self.lines.insert_full(words)?;
+        if is_new {
+            self.terms.push(Shared { terms, line })?;
+        }
+        Ok(number)
+    }
+
+    /// One term more, unless it is there, by the words of its line. Its number is kept.
+    fn add_line(
+        &mut self,
+        terms: &'a SharedTerms,
+        line: usize,
+        words: Vec<Word>,
+    ) -> Result<usize, Memory>
+        requires entering { IsEntering (shared_terms terms.now) self.old }
+        requires parts { HasParts (held_terms self.old) (shared_at (shared_terms terms.now) line) }
+        requires words { words.items
+            ≡ entry_words (held_terms self.old) (shared_at (shared_terms terms.now) line) }
+        ensures entering { OnOk result (IsEntering (shared_terms terms.now) self.new) }
+        ensures held { OnOk result (held_terms self.new
+            ≡ with_table_term (held_terms self.old) (shared_at (shared_terms terms.now) line)) }
+        ensures number { IfOk result (λ n. n
+            ≡ line_of (held_terms self.old) (shared_at (shared_terms terms.now) line)) }
+    {
+        let number = self.add(terms, line, words)?;
+        self.entered.insert(line, number)?;
+        Ok(number)
+    }
+
+    /// The term of a line with its parts more. It answers its number.
+    pub(crate) fn enter(
+        &mut self,
+        alloc: Global,
+        terms: &'a SharedTerms,
+        line: usize,
+    ) -> Result<usize, Memory>
+        requires { IsEntering (shared_terms terms.now) self.old }
+        ensures entering { OnOk result (IsEntering (shared_terms terms.now) self.new) }
+        ensures held { OnOk result (held_terms self.new
+            ≡ grown (held_terms self.old) (shared_at (shared_terms terms.now) line ∷ [])) }
+        ensures number { IfOk result (λ n. n
+            ≡ line_of (held_terms self.new) (shared_at (shared_terms terms.now) line)) }
     {
         let mut numbers = Vec::new(alloc);
         let mut tasks = Vec::new(alloc);
-        tasks.push(Task::Enter(term))?;
+        tasks.push(Task::Enter(line))?;
         while let Some(task) = tasks.pop() {
             match task {
-                Task::Enter(next) => push_steps(&mut tasks, next)?,
+                Task::Enter(next) => self.begin(terms, next, &mut tasks, &mut numbers)?,
                 Task::Leave(next) => {
-                    let Some(words) = words_of(alloc, next, &mut numbers)? else {
+                    let Some(words) = words_of(alloc, terms, next, &mut numbers)? else {
                         unreachable!();
                     };
-                    let line = self.add(next, words)?;
-                    numbers.push(line)?;
+                    let number = self.add_line(terms, next, words)?;
+                    numbers.push(number)?;
                 }
             }
         }
-        let Some(line) = numbers.pop() else {
+        let Some(number) = numbers.pop() else {
             unreachable!();
         };
-        Ok(line)
+        Ok(number)
     }
 
     /// The words of the lines.

@@ -1,13 +1,13 @@
 // A bundle as bytes.
 ghost use Rattle.std.specs.Prelude.{◌≡◌, [], ◌∷◌, ◌++◌, flat_map, map, IfOk, OnOk};
-ghost use Rattle.ap_defs.specs.Answers.{answer_of, typed_var_of};
-ghost use Rattle.ap_defs.specs.Terms.{term_of};
-ghost use Rattle.ap_bundle.specs.Bundles.{bundle_of, proved_of};
+ghost use Rattle.ap_defs.specs.Answers.{typed_var_of};
 ghost use Rattle.ap_bundle.specs.Tables.{terms_of};
 ghost use Rattle.ap_bundle.specs.Versions.{version_line};
 ghost use Rattle.ap_bundle.specs.Written as spec;
 ghost use Rattle.ap_bundle.specs.Written.{cond_line, entry_line, head_line, written_line_as, listed, proved_lines, text_lines, var_line, written, written_as, written_shared};
-ghost use Rattle.ap_bundle_write.specs.Tables.{IsWrittenTable, WritesLines, grown_as, held_terms};
+ghost use Rattle.ap_shared.specs.Shared.{shared_at};
+ghost use Rattle.ap_shared.specs.SharedViews.{shared_answer, shared_bundle, shared_proved, shared_terms};
+ghost use Rattle.ap_bundle_write.specs.Tables.{IsEntering, IsWrittenTable, WritesLines, grown_as, held_terms};
 
 use crate::derivations::{write_derivation, write_terms};
 use crate::forms::{push_name, push_type};
@@ -16,8 +16,9 @@ use crate::table::Table;
 use ap_bundle::version::Version;
 use ap_bundle::words::{Head, Word};
 use ap_defs::memory::Memory;
-use ap_defs::outcomes::{Answer, Bundle, Proved};
-use ap_defs::terms::{Cond, Term, Ty, Var};
+use ap_defs::terms::{Cond, Ty, Var};
+use ap_shared::arena::SharedTerms;
+use ap_shared::derivations::{SharedAnswer, SharedBundle, SharedProved};
 use std::alloc::Global;
 
 /// Writes the line of a variable.
@@ -85,16 +86,17 @@ fn write_listed_binds<'a>(
     out: &mut Vec<u8>,
     version: Version,
     table: &mut Table<'a>,
-    binds: &'a [Term],
+    terms: &'a SharedTerms,
+    binds: &[usize],
 ) -> Result<(), Memory>
-    requires { IsWrittenTable table.old }
-    ensures table { OnOk result (IsWrittenTable table.new) }
+    requires { IsEntering (shared_terms terms.now) table.old }
+    ensures entering { OnOk result (IsEntering (shared_terms terms.now) table.new) }
     ensures text { OnOk result (WritesLines version (held_terms table.old) (held_terms table.new)
-        out.old.items out.new.items (map term_of binds.now) (λ way. listed Head.Binds way
-        (map term_of binds.now))) }
+        out.old.items out.new.items (map (shared_at (shared_terms terms.now)) binds.now)
+        (λ way. listed Head.Binds way (map (shared_at (shared_terms terms.now)) binds.now))) }
 {
     write_count(alloc, out, Head::Binds, binds.len())?;
-    write_terms(alloc, out, version, table, binds)
+    write_terms(alloc, out, version, table, terms, binds)
 }
 
 /// Writes an answer: its variables, its conditions and its bindings.
@@ -103,17 +105,18 @@ fn write_answer<'a>(
     out: &mut Vec<u8>,
     version: Version,
     table: &mut Table<'a>,
-    answer: &'a Answer,
+    terms: &'a SharedTerms,
+    answer: &SharedAnswer,
 ) -> Result<(), Memory>
-    requires { IsWrittenTable table.old }
-    ensures table { OnOk result (IsWrittenTable table.new) }
+    requires { IsEntering (shared_terms terms.now) table.old }
+    ensures entering { OnOk result (IsEntering (shared_terms terms.now) table.new) }
     ensures text { OnOk result (WritesLines version (held_terms table.old) (held_terms table.new)
-        out.old.items out.new.items (answer_of answer.now).binds (λ way. spec.answer_lines way
-        (answer_of answer.now))) }
+        out.old.items out.new.items (shared_answer (shared_terms terms.now) answer.now).binds
+        (λ way. spec.answer_lines way (shared_answer (shared_terms terms.now) answer.now))) }
 {
     write_listed_vars(alloc, out, answer.vars.items())?;
     write_listed_conds(alloc, out, answer.conds.items())?;
-    write_listed_binds(alloc, out, version, table, answer.binds.items())
+    write_listed_binds(alloc, out, version, table, terms, answer.binds.items())
 }
 
 /// Writes an answer with its derivation.
@@ -122,17 +125,19 @@ fn write_proved<'a>(
     out: &mut Vec<u8>,
     version: Version,
     table: &mut Table<'a>,
-    proved: &'a Proved,
+    proved: &'a SharedProved,
 ) -> Result<(), Memory>
     requires { IsWrittenTable table.old }
     ensures table { OnOk result (IsWrittenTable table.new) }
     ensures text { OnOk result (WritesLines version (held_terms table.old) (held_terms table.new)
-        out.old.items out.new.items (terms_of (proved_of proved.now)) (λ way. proved_lines way
-        (proved_of proved.now))) }
+        out.old.items out.new.items (terms_of (shared_proved proved.now)) (λ way. proved_lines way
+        (shared_proved proved.now))) }
 {
+    let terms = proved.terms.as_ref();
+    table.start(alloc);
     write_count(alloc, out, Head::Derivation, proved.query as usize)?;
-    write_answer(alloc, out, version, table, &proved.answer)?;
-    write_derivation(alloc, out, version, table, &proved.derivation)
+    write_answer(alloc, out, version, table, terms, &proved.answer)?;
+    write_derivation(alloc, out, version, table, terms, &proved.derivation)
 }
 
 fn write_each<'a>(
@@ -140,13 +145,13 @@ fn write_each<'a>(
     out: &mut Vec<u8>,
     version: Version,
     table: &mut Table<'a>,
-    all: &'a [Proved],
+    all: &'a [SharedProved],
 ) -> Result<(), Memory>
     requires { IsWrittenTable table.old }
     ensures table { OnOk result (IsWrittenTable table.new) }
     ensures text { OnOk result (WritesLines version (held_terms table.old) (held_terms table.new)
-        out.old.items out.new.items (flat_map terms_of (map proved_of all.now)) (λ way. flat_map
-        (proved_lines way) (map proved_of all.now))) }
+        out.old.items out.new.items (flat_map terms_of (map shared_proved all.now)) (λ way. flat_map
+        (proved_lines way) (map shared_proved all.now))) }
 {
     for proved in all {
         write_proved(alloc, out, version, table, proved)?;
@@ -169,15 +174,16 @@ fn proved_part<'a>(
     alloc: Global,
     version: Version,
     table: &mut Table<'a>,
-    proved: &'a [Proved],
+    proved: &'a [SharedProved],
 ) -> Result<Vec<u8>, Memory>
     requires { IsWrittenTable table.old }
     ensures table { OnOk result (IsWrittenTable table.new) }
     ensures held { OnOk result (held_terms table.new
-        ≡ grown_as version (held_terms table.old) (flat_map terms_of (map proved_of proved.now))) }
+        ≡ grown_as version (held_terms table.old)
+        (flat_map terms_of (map shared_proved proved.now))) }
     ensures text { IfOk result (λ bytes. bytes.items
         ≡ spec.proved_part (written_line_as version (held_terms table.new))
-        (map proved_of proved.now)) }
+        (map shared_proved proved.now)) }
 {
     let mut out = Vec::new(alloc);
     write_count(alloc, &mut out, Head::Derivations, proved.len())?;
@@ -231,8 +237,8 @@ fn start_of(alloc: Global, version: Version, text: &[u8]) -> Result<Vec<u8>, Mem
 }
 
 /// The bytes of a bundle of version 1, in which each term is written in full.
-pub fn write_bundle(alloc: Global, bundle: &Bundle) -> Result<Vec<u8>, Memory>
-    ensures { IfOk result (λ bytes. bytes.items ≡ written (bundle_of bundle.now)) }
+pub fn write_bundle(alloc: Global, bundle: &SharedBundle) -> Result<Vec<u8>, Memory>
+    ensures { IfOk result (λ bytes. bytes.items ≡ written (shared_bundle bundle.now)) }
 {
     let mut table = Table::new(alloc);
     let part = proved_part(alloc, Version::One, &mut table, bundle.proved.items())?;
@@ -242,8 +248,8 @@ pub fn write_bundle(alloc: Global, bundle: &Bundle) -> Result<Vec<u8>, Memory>
 }
 
 /// The bytes of a bundle of version 2, in which each different term stands once, in a table.
-fn write_shared(alloc: Global, bundle: &Bundle) -> Result<Vec<u8>, Memory>
-    ensures { IfOk result (λ bytes. bytes.items ≡ written_shared (bundle_of bundle.now)) }
+fn write_shared(alloc: Global, bundle: &SharedBundle) -> Result<Vec<u8>, Memory>
+    ensures { IfOk result (λ bytes. bytes.items ≡ written_shared (shared_bundle bundle.now)) }
 {
     let mut table = Table::new(alloc);
     let part = proved_part(alloc, Version::Two, &mut table, bundle.proved.items())?;
@@ -254,8 +260,12 @@ fn write_shared(alloc: Global, bundle: &Bundle) -> Result<Vec<u8>, Memory>
 }
 
 /// The bytes of a bundle of this version.
-pub fn write_version(alloc: Global, bundle: &Bundle, version: Version) -> Result<Vec<u8>, Memory>
-    ensures { IfOk result (λ bytes. bytes.items ≡ written_as version (bundle_of bundle.now)) }
+pub fn write_version(
+    alloc: Global,
+    bundle: &SharedBundle,
+    version: Version,
+) -> Result<Vec<u8>, Memory>
+    ensures { IfOk result (λ bytes. bytes.items ≡ written_as version (shared_bundle bundle.now)) }
 {
     match version {
         Version::One => write_bundle(alloc, bundle),

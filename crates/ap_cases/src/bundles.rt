@@ -13,6 +13,8 @@ use ap_checker::verify::verify;
 use ap_defs::memory::Memory;
 use ap_defs::outcomes::{Bundle, Proved, Verdict};
 use ap_program::restricted::Restricted;
+use ap_shared::derivations::SharedBundle;
+use ap_shared::sharing::{share_bundle, shared};
 use std::alloc::{AllocError, Global};
 use std::fs::Files;
 use std::sync::Wait;
@@ -21,12 +23,14 @@ use std::{fs, io};
 
 /// The verdict on a derivation that a bundle has.
 pub fn verdict_on(alloc: Global, program: &Restricted, proved: &Proved) -> Result<Verdict, Memory> {
+    let found = shared(alloc, proved)?;
     verify(
         alloc,
         program,
-        proved.query,
-        &proved.answer,
-        &proved.derivation,
+        found.query,
+        found.terms.as_ref(),
+        &found.answer,
+        &found.derivation,
     )
 }
 
@@ -51,7 +55,7 @@ fn tell_derivations<R: AllocGlobal + Print>(rt: &R, bundle: &Bundle) -> io::Resu
 }
 
 /// Both versions of a bundle.
-pub fn both_versions(alloc: Global, bundle: &Bundle) -> Result<Written, Memory> {
+pub fn both_versions(alloc: Global, bundle: &SharedBundle) -> Result<Written, Memory> {
     let full = write_version(alloc, bundle, Version::One)?;
     let shared = write_version(alloc, bundle, Version::Two)?;
     Ok(Written { full, shared })
@@ -63,7 +67,8 @@ fn tell_read<R: Threads + Wait + Sync + AllocGlobal + Print>(
     bundle: &Bundle,
     bytes: &[u8],
 ) -> io::Result<()> {
-    let written = both_versions(rt.alloc(), bundle).map_err(|_| AllocError)?;
+    let shared = share_bundle(rt.alloc(), bundle).map_err(|_| AllocError)?;
+    let written = both_versions(rt.alloc(), &shared).map_err(|_| AllocError)?;
     let same = written.full.as_slice() == bytes || written.shared.as_slice() == bytes;
     println!(rt; "written again the same: {same}")?;
     let alike = are_checked_alike(rt, &written)?;

@@ -18,6 +18,7 @@ use ap_defs::paths::{Node, Path};
 use ap_defs::terms::Swap;
 use ap_index::index::Index;
 use ap_replay::replay::at;
+use ap_shared::sharing::shared;
 use std::alloc::{AllocError, Global};
 use std::fs::Files;
 use std::{fs, io};
@@ -26,12 +27,14 @@ use std::{fs, io};
 fn covered_by(alloc: Global, p: &Problem<'_>, proved: &Proved) -> Result<Option<Covered>, Memory>
     requires { HasQuery p.now }
 {
+    let found = shared(alloc, proved)?;
     let verdict = verify(
         alloc,
         p.program.restricted(),
         p.query,
-        &proved.answer,
-        &proved.derivation,
+        found.terms.as_ref(),
+        &found.answer,
+        &found.derivation,
     )?;
     match verdict {
         Verdict::No { node: _, rule: _ } => return Ok(None),

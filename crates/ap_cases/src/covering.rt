@@ -15,6 +15,7 @@ use ap_cover::path::path_of;
 use ap_defs::lists::List;
 use ap_defs::memory::Memory;
 use ap_defs::outcomes::{Bundle, Proved};
+use ap_shared::sharing::share_bundle;
 use std::alloc::{AllocError, Global};
 use std::io;
 use std::sync::Wait;
@@ -106,7 +107,8 @@ fn grounds_in(alloc: Global, bytes: &[u8]) -> Result<(Bundle, String), Memory> {
 /// The ground proofs of a text's bundle, as they are written.
 fn grounds_of(alloc: Global, bytes: &[u8]) -> io::Result<Grounds> {
     let (bundle, lines) = grounds_in(alloc, bytes).map_err(|_| AllocError)?;
-    let written = both_versions(alloc, &bundle).map_err(|_| AllocError)?;
+    let shared = share_bundle(alloc, &bundle).map_err(|_| AllocError)?;
+    let written = both_versions(alloc, &shared).map_err(|_| AllocError)?;
     let renamed = renamed(alloc, &written.full, bundle.text.items().len())?;
     let count = bundle.proved.items().len();
     Ok(Grounds {

@@ -15,15 +15,20 @@ use ap_backchain::problem::{Problem, outputs};
 use ap_bundle_read::read_bundle;
 use ap_defs::lists::List;
 use ap_defs::memory::Memory;
-use ap_defs::outcomes::{Bundle, Proved, Verdict};
+use ap_defs::outcomes::Verdict;
 use ap_defs::paths::{Node, Out, Path};
+use ap_derive::assembling::Derived;
 use ap_derive::derivations::derive;
 use ap_index::index::Index;
 use ap_paths::Limit;
 use ap_program::restricted::Restricted;
 use ap_replay::replay::at;
+use ap_shared::arena::SharedTerms;
+use ap_shared::derivations::{SharedBundle, SharedProved};
+use ap_shared::sharing::share_answer;
 use std::alloc::{AllocError, Global};
 use std::io;
+use std::rc::Rc;
 use std::sync::Wait;
 use std::thread::Threads;
 
@@ -32,16 +37,19 @@ fn proved_at<'a>(
     alloc: Global,
     problem: &Problem<'a>,
     branch: &Branch<'a>,
-) -> Result<Option<Proved>, Memory>
+) -> Result<Option<SharedProved>, Memory>
     requires query { HasQuery problem.now }
     requires of { IsBranchOf problem.now branch.now }
 {
     match branch.node() {
         Node::Answer => {
             let answer = branch.answer(alloc, problem)?;
-            let derivation = derive(alloc, problem, branch)?;
-            Ok(Some(Proved {
+            let mut terms = SharedTerms::new(alloc);
+            let answer = share_answer(alloc, &mut terms, &answer)?;
+            let Derived { terms, derivation } = derive(alloc, problem, branch, terms)?;
+            Ok(Some(SharedProved {
                 query: problem.query,
+                terms: Rc::new(alloc, terms)?,
                 answer,
                 derivation,
             }))
@@ -55,7 +63,7 @@ fn prove_at(
     alloc: Global,
     problem: &Problem<'_>,
     path: &Path,
-    all: &mut Vec<Proved>,
+    all: &mut Vec<SharedProved>,
 ) -> Result<(), Memory>
     requires { HasQuery problem.now }
 {
@@ -71,7 +79,11 @@ fn prove_at(
 }
 
 /// Adds the answers of a query with their derivations.
-fn prove_query(alloc: Global, problem: &Problem<'_>, all: &mut Vec<Proved>) -> Result<(), Memory>
+fn prove_query(
+    alloc: Global,
+    problem: &Problem<'_>,
+    all: &mut Vec<SharedProved>,
+) -> Result<(), Memory>
     requires { HasQuery problem.now }
 {
     for out in &outputs(alloc, problem, Limit::All)? {
@@ -90,7 +102,11 @@ fn query_count(program: &Index<'_>) -> u32
 }
 
 /// The answers of the queries of a program with its index, with their derivations.
-fn prove_queries(alloc: Global, program: &Index<'_>, depth: u32) -> Result<Vec<Proved>, Memory> {
+fn prove_queries(
+    alloc: Global,
+    program: &Index<'_>,
+    depth: u32,
+) -> Result<Vec<SharedProved>, Memory> {
     let count = query_count(program);
     let mut all = Vec::new(alloc);
     for place in 0..count {
@@ -105,7 +121,11 @@ fn prove_queries(alloc: Global, program: &Index<'_>, depth: u32) -> Result<Vec<P
 }
 
 /// The answers of the queries of a program, with their derivations.
-fn prove_program(alloc: Global, program: &Restricted, depth: u32) -> Result<Vec<Proved>, Memory> {
+fn prove_program(
+    alloc: Global,
+    program: &Restricted,
+    depth: u32,
+) -> Result<Vec<SharedProved>, Memory> {
     let index = Index::of(alloc, program)?;
     prove_queries(alloc, &index, depth)
 }
@@ -149,8 +169,8 @@ fn checked_in(alloc: Global, bytes: &[u8], program: &Restricted) -> Result<usize
 }
 
 /// The bundle of a text and of answers with their derivations, in both versions.
-fn bundle_bytes(alloc: Global, text: &str, proved: Vec<Proved>) -> Result<Written, Memory> {
-    let bundle = Bundle {
+fn bundle_bytes(alloc: Global, text: &str, proved: Vec<SharedProved>) -> Result<Written, Memory> {
+    let bundle = SharedBundle {
         text: List::of(text.as_bytes().to_vec(alloc)?),
         proved: List::of(proved),
     };

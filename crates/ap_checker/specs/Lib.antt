@@ -1,15 +1,4 @@
-pub mod Wanted
-pub mod FreeLocals
-pub mod Places
-pub mod Scopes
-pub mod Closures
 pub mod Rules
+pub mod Tables
 pub mod Walks
-pub mod Indexes
-pub mod Stacks
-pub mod Latest
-pub mod Binders
-pub mod Settled
-pub mod Comparisons
 pub mod NewNames
-pub mod Outsides

@@ -1,23 +1,24 @@
 -- What is left of a walk over a derivation in preorder.
 use Rattle.std.specs.Prelude.{◌≡◌, ◌≤◌, ℕ, suc, ◌+◌, List, [], ◌∷◌, length, reverse, take, Option, Some, None}
 use Rattle.ap_defs.specs.Answers.{NominalAnswer}
-use Rattle.ap_defs.specs.Derivations.{NominalDerivation, derivation_of}
+use Rattle.ap_defs.specs.Derivations.{NominalDerivation}
 use Rattle.ap_defs.specs.Goals.{NominalGoal, NominalProgram, NominalQuery, goal_of}
 use Rattle.ap_defs.specs.Renaming.{local_names}
 use Rattle.ap_defs.specs.Resolution.{kinds_of}
 use Rattle.ap_defs.specs.Types.{NominalKind, locals_of}
 use Rattle.ap_checks.specs.Checks.{Refusal, refusal_of_rule, node_count, first_refusal, refusal, reported}
 use Rattle.ap_checks.specs.OpenEnvironments.{OpenEnvironment, open_environment}
+use Rattle.ap_shared.specs.SharedViews.{shared_derivation, shared_terms}
 use Rattle.ap_checker.specs.declared.rules.Rule.{Rule}
-use Rattle.ap_checker.specs.declared.scope.Standing.{Standing}
+use Rattle.ap_judge.specs.declared.scope.Standing.{Standing}
 use Rattle.ap_checker.specs.declared.walk.Pending.{Pending}
 use Rattle.ap_checker.specs.declared.walk.Obligation.{Obligation}
 use Rattle.ap_checker.specs.declared.walk.Walk.{Walk}
 use Rattle.ap_checker.specs.Rules.{rule_number}
-use Rattle.ap_checker.specs.Scopes.{environment_of}
+use Rattle.ap_judge.specs.Scopes.{environment_of}
 
 abbrev pub derivation_at : Obligation → NominalDerivation
-derivation_at t = derivation_of t.derivation.now
+derivation_at t = shared_derivation (shared_terms t.terms.now) t.derivation.now
 
 abbrev pub goal_at : Obligation → NominalGoal
 goal_at t = goal_of t.goal.now

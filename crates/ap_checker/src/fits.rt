@@ -1,21 +1,23 @@
 //! Whether the names and terms of a node fit the identifiers of a clause or a query.
 
-ghost use Rattle.std.specs.Prelude.{◌≡◌, zero, map, IfOk, MatchOption, None, Some};
+ghost use Rattle.std.specs.Prelude.{◌≡◌, zero, map, IfOk, MatchOption, None, OnOk, Some};
 ghost use Rattle.ap_defs.specs.Answers.{kind_at, typed_var_of};
 ghost use Rattle.ap_defs.specs.Renaming.{local_names, local_vars};
 ghost use Rattle.ap_defs.specs.Resolution.{kinds_of};
-ghost use Rattle.ap_defs.specs.Terms.{term_of};
 ghost use Rattle.ap_defs.specs.Types.{constructor_of, local_of, locals_of, type_of};
 ghost use Rattle.ap_checks.specs.Checks.{have_counts};
 ghost use Rattle.ap_checks.specs.TypeTests.{has_kind, have_kinds, have_sorts, type_beside};
-ghost use Rattle.ap_checker.specs.FreeLocals.{free_type};
+ghost use Rattle.ap_judge.specs.FreeLocals.{free_type};
+ghost use Rattle.ap_judge.specs.Typings.{AreTypesKnown};
+ghost use Rattle.ap_shared.specs.SharedPlaces.{given_terms, shared_term};
 
-use crate::index::IndexedAnswer;
-use crate::lookups::{count_names, count_vars, sort_of};
-use crate::types::has_type;
 use ap_defs::goals::{Constructor, Kind, Local};
 use ap_defs::memory::Memory;
-use ap_defs::terms::{Name, Term, Ty, Var};
+use ap_defs::terms::{Name, Ty, Var};
+use ap_judge::index::IndexedAnswer;
+use ap_judge::lookups::{count_names, count_vars, sort_of};
+use ap_judge::typing::{Typed, has_type};
+use ap_shared::places::{Given, Shared};
 use std::alloc::Global;
 
 /// The type of an identifier that is a free variable.
@@ -30,10 +32,10 @@ fn type_of_free(local: &Local) -> Option<&Ty>
 }
 
 /// Whether the names and terms are as many as the free names and free variables.
-pub(crate) fn counts_fit(locals: &[Local], names: &[Name], terms: &[Term]) -> bool
-    ensures { result ≡ have_counts (locals_of locals.now) names.now (map term_of terms.now) }
+pub(crate) fn counts_fit(locals: &[Local], names: &[Name], given: Given<'_>) -> bool
+    ensures { result ≡ have_counts (locals_of locals.now) names.now (given_terms given.entry) }
 {
-    names.len() == count_names(locals) && terms.len() == count_vars(locals)
+    names.len() == count_names(locals) && given.lines.len() == count_vars(locals)
 }
 
 /// Whether each name has the sort of the free name at its place.
@@ -54,45 +56,57 @@ pub(crate) fn names_fit(locals: &[Local], names: &[Name]) -> bool
 }
 
 /// Whether each term has the type of the free variable at its place.
-pub(crate) fn terms_fit(
+pub(crate) fn terms_fit<'a>(
     alloc: Global,
-    constructors: &[Constructor],
+    constructors: &'a [Constructor],
     answer: &IndexedAnswer<'_>,
-    locals: &[Local],
-    terms: &[Term],
+    typed: &mut Typed<'a>,
+    locals: &'a [Local],
+    given: Given<'_>,
 ) -> Result<bool, Memory>
-    ensures { IfOk result (λ yes. yes
+    requires { AreTypesKnown given.terms.now constructors.now answer.now.vars typed.old }
+    ensures typed { OnOk result
+        (AreTypesKnown given.entry.terms.now constructors.now answer.now.vars typed.new) }
+    ensures fit { IfOk result (λ yes. yes
         ≡ have_kinds (map constructor_of constructors.now) (type_beside
         (map typed_var_of answer.now.vars)) (kinds_of (locals_of locals.now))
-        (local_vars zero (locals_of locals.now)) (map term_of terms.now)) }
+        (local_vars zero (locals_of locals.now)) (given_terms given.entry)) }
 {
+    let Given { terms, lines } = given;
     let mut place = 0;
     for (i, local) in locals.iter().enumerate() {
         let Some(ty) = type_of_free(local) else {
             continue;
         };
-        if place >= terms.len() || !has_type(alloc, constructors, answer, &terms[place], ty)? {
+        if place >= lines.len() {
+            return Ok(false);
+        }
+        if !has_type(alloc, constructors, answer, terms, typed, lines[place], ty)? {
             return Ok(false);
         }
         place += 1;
     }
-    Ok(place == terms.len())
+    Ok(place == lines.len())
 }
 
 /// Whether the term has the type of the variable with this number.
-#[tactic(auto, using(crate::proofs::LocalLemmas::kind_past))]
-pub(crate) fn term_fits(
+#[tactic(auto, using(ap_judge::proofs::LocalLemmas::kind_past))]
+pub(crate) fn term_fits<'a>(
     alloc: Global,
-    constructors: &[Constructor],
+    constructors: &'a [Constructor],
     answer: &IndexedAnswer<'_>,
-    locals: &[Local],
+    typed: &mut Typed<'a>,
+    locals: &'a [Local],
     x: Var,
-    term: &Term,
+    term: Shared<'_>,
 ) -> Result<bool, Memory>
-    ensures { IfOk result (λ yes. yes
+    requires { AreTypesKnown term.terms.now constructors.now answer.now.vars typed.old }
+    ensures typed { OnOk result
+        (AreTypesKnown term.entry.terms.now constructors.now answer.now.vars typed.new) }
+    ensures fits { IfOk result (λ yes. yes
         ≡ has_kind (map constructor_of constructors.now) (type_beside
         (map typed_var_of answer.now.vars)) (kind_at (kinds_of (locals_of locals.now)) x.num)
-        (term_of term.now)) }
+        (shared_term term.entry)) }
 {
     let place = x.num as usize;
     if place >= locals.len() {
@@ -100,6 +114,16 @@ pub(crate) fn term_fits(
     }
     match &locals[place].kind {
         Kind::Name(_) => Ok(false),
-        Kind::Var(ty) => has_type(alloc, constructors, answer, term, ty),
+        Kind::Var(ty) => {
+            has_type(
+                alloc,
+                constructors,
+                answer,
+                term.terms,
+                typed,
+                term.line,
+                ty,
+            )
+        }
     }
 }

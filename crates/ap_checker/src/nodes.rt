@@ -2,14 +2,16 @@
 
 ghost use Rattle.std.specs.Prelude.{◌≡◌, IfOk};
 ghost use Rattle.ap_checks.specs.Checks.{are_different, equal_each, is_fresh};
-ghost use Rattle.ap_checker.specs.Closures.{scoped_term, scoped_terms};
+ghost use Rattle.ap_judge.specs.Closures.{scoped_term, scoped_terms};
+ghost use Rattle.ap_judge.specs.Tables.{AreStandingIn};
 
-use crate::closures::{Closure, Head, ScopedTerms, head_at};
-use crate::equality::are_equal_at;
-use crate::freshness::is_fresh_at;
-use crate::index::IndexedAnswer;
 use ap_defs::memory::Memory;
 use ap_defs::terms::Name;
+use ap_judge::closures::{Closure, Head, ScopedTerms, head_at};
+use ap_judge::equality::are_equal_at;
+use ap_judge::freshness::is_fresh_at;
+use ap_judge::index::IndexedAnswer;
+use ap_shared::arena::SharedTerms;
 use std::alloc::Global;
 use std::collections::BTreeSet;
 
@@ -26,14 +28,18 @@ pub(crate) fn all_differ(alloc: Global, names: &[Name]) -> Result<bool, Memory>
     Ok(true)
 }
 
-/// Whether the terms equal the others under the conditions, one by one.
+/// Whether the terms equal the others under the conditions, one by one. Lines that are cited are of this
+/// table.
 #[tactic(auto, using(crate::proofs::NodeLemmas::lengths_differ, crate::proofs::NodeLemmas::equal_not, crate::proofs::NodeLemmas::equal_later))]
 pub(crate) fn all_equal(
     alloc: Global,
     answer: &IndexedAnswer<'_>,
+    terms: &SharedTerms,
     left: ScopedTerms<'_>,
     right: ScopedTerms<'_>,
 ) -> Result<bool, Memory>
+    requires left { AreStandingIn terms.now left.scope.standing.now }
+    requires right { AreStandingIn terms.now right.scope.standing.now }
     ensures { IfOk result (λ yes. yes ≡
         equal_each answer.now.conds (scoped_terms left.entry) (scoped_terms right.entry)) }
 {
@@ -43,7 +49,7 @@ pub(crate) fn all_equal(
     for i in 0..left.terms.len() {
         let t = Closure::Within(left.scope, &left.terms[i]);
         let u = Closure::Within(right.scope, &right.terms[i]);
-        if !are_equal_at(alloc, answer, t, u)? {
+        if !are_equal_at(alloc, answer, terms, t, u)? {
             return Ok(false);
         }
     }

@@ -1,38 +1,47 @@
 //! The verdict on a derivation.
 
 ghost use Rattle.std.specs.Prelude.{◌≡◌, IfOk};
-ghost use Rattle.ap_defs.specs.Answers.{answer_of};
-ghost use Rattle.ap_defs.specs.Derivations.{derivation_of};
 ghost use Rattle.ap_defs.specs.Goals.{NominalProgram, program_of, query_of};
 ghost use Rattle.ap_checks.specs.Checks.{verdict, verdict_of};
 ghost use Rattle.ap_checker.specs.Rules.{verdict_said};
+ghost use Rattle.ap_checker.specs.Tables.{IsWalkIn};
+ghost use Rattle.ap_judge.specs.Typings.{AreTypesKnown};
 ghost use Rattle.ap_checker.specs.Walks.{IsOnWay, refusal_on};
+ghost use Rattle.ap_shared.specs.SharedViews.{shared_answer, shared_derivation, shared_terms};
 
 use crate::answers::answer_fits;
-use crate::identifiers::Identifiers;
-use crate::index::IndexedAnswer;
-use crate::lookups::query_at;
 use crate::rules::Rule;
-use crate::scope::Standing;
 use crate::visits::visit;
 use crate::walk::{Obligation, Walk};
 use ap_defs::goals::{Program, Query};
 use ap_defs::memory::Memory;
-use ap_defs::outcomes::{Answer, Derivation, Verdict};
+use ap_defs::outcomes::Verdict;
 use ap_defs::terms::Term;
+use ap_judge::cited::CitedTerms;
+use ap_judge::identifiers::Identifiers;
+use ap_judge::index::IndexedAnswer;
+use ap_judge::lookups::query_at;
+use ap_judge::scope::Standing;
+use ap_judge::typing::Typed;
 use ap_program::restricted::Restricted;
+use ap_shared::arena::SharedTerms;
+use ap_shared::derivations::{SharedAnswer, SharedDerivation};
+use ap_shared::places::Given;
 use std::alloc::Global;
 
 /// The walk over a derivation of a query's goal, at its beginning.
 fn walk_from<'a>(
     alloc: Global,
     query: &'a Query<Term>,
-    answer: &'a Answer,
-    derivation: &'a Derivation,
+    terms: &'a SharedTerms,
+    answer: &'a SharedAnswer,
+    derivation: &'a SharedDerivation,
 ) -> Result<Walk<'a>, Memory>
-    ensures { (p : NominalProgram) →
-        IfOk result (λ w. IsOnWay p (answer_of answer.now) (refusal_on p (query_of query.now)
-        (answer_of answer.now) (derivation_of derivation.now)) 0 w) }
+    ensures of { IfOk result (λ w. IsWalkIn terms.now w) }
+    ensures way { (p : NominalProgram) → IfOk result (λ w. IsOnWay p
+        (shared_answer (shared_terms terms.now) answer.now) (refusal_on p (query_of query.now)
+        (shared_answer (shared_terms terms.now) answer.now)
+        (shared_derivation (shared_terms terms.now) derivation.now)) 0 w) }
 {
     let locals = query.locals.items();
     let mut walk = Walk {
@@ -40,8 +49,13 @@ fn walk_from<'a>(
         pending: Vec::new(alloc),
     };
     let own = Identifiers::of(alloc, locals)?;
-    walk.bring(Standing::Query(own, answer.binds.items()))?;
+    let given = Given {
+        terms,
+        lines: answer.binds.items(),
+    };
+    walk.bring(Standing::Query(own, CitedTerms::Lines(given)))?;
     walk.put(Obligation {
+        terms,
         derivation,
         goal: &query.goal,
         locals,
@@ -50,23 +64,34 @@ fn walk_from<'a>(
 }
 
 /// The verdict on a derivation of a query's goal, whose answer fits.
-fn verdict_on_nodes(
+fn verdict_on_nodes<'a>(
     alloc: Global,
-    program: &Program<Term>,
-    query: &Query<Term>,
-    indexed: &IndexedAnswer<'_>,
-    derivation: &Derivation,
+    program: &'a Program<Term>,
+    query: &'a Query<Term>,
+    terms: &'a SharedTerms,
+    mut typed: Typed<'a>,
+    indexed: &'a IndexedAnswer<'_>,
+    derivation: &'a SharedDerivation,
 ) -> Result<Verdict, Memory>
+    requires { AreTypesKnown terms.now program.now.signature.constructors indexed.now.vars typed }
     ensures { IfOk result (λ v. verdict_said v
-        ≡ verdict (refusal_on (program_of program.now) (query_of query.now) (answer_of indexed.now)
-        (derivation_of derivation.now))) }
+        ≡ verdict (refusal_on (program_of program.now) (query_of query.now)
+        (shared_answer (shared_terms terms.now) indexed.now)
+        (shared_derivation (shared_terms terms.now) derivation.now))) }
 {
-    let mut walk = walk_from(alloc, query, indexed.answer(), derivation)?;
+    let mut walk = walk_from(alloc, query, terms, indexed.answer(), derivation)?;
     let mut node: u64 = 0;
     'nodes: while let Some(next) = walk.pending.pop() {
         node = node.saturating_add(1);
         walk.standing.truncate(next.mark);
-        if let Some(rule) = visit(alloc, program, indexed, &mut walk, next.obligation)? {
+        if let Some(rule) = visit(
+            alloc,
+            program,
+            indexed,
+            &mut typed,
+            &mut walk,
+            next.obligation,
+        )? {
             let rule = rule.number();
             return Ok(Verdict::No { node, rule });
         }
@@ -81,12 +106,13 @@ pub fn verify(
     alloc: Global,
     program: &Restricted,
     query: u32,
-    answer: &Answer,
-    derivation: &Derivation,
+    terms: &SharedTerms,
+    answer: &SharedAnswer,
+    derivation: &SharedDerivation,
 ) -> Result<Verdict, Memory>
-    ensures { IfOk result (λ v. verdict_said v
-        ≡ verdict_of (program_of program.now) query (answer_of answer.now)
-        (derivation_of derivation.now)) }
+    ensures { IfOk result (λ v. verdict_said v ≡ verdict_of (program_of program.now) query
+        (shared_answer (shared_terms terms.now) answer.now)
+        (shared_derivation (shared_terms terms.now) derivation.now)) }
 {
     let program = program.program();
     let rule = Rule::Answer.number();
@@ -96,8 +122,9 @@ pub fn verify(
     let Some(indexed) = IndexedAnswer::of(alloc, answer)? else {
         return Ok(Verdict::No { node: 0, rule });
     };
-    if !answer_fits(alloc, program, query, &indexed)? {
+    let mut typed = Typed::new(alloc);
+    if !answer_fits(alloc, program, query, terms, &mut typed, &indexed)? {
         return Ok(Verdict::No { node: 0, rule });
     }
-    verdict_on_nodes(alloc, program, query, &indexed, derivation)
+    verdict_on_nodes(alloc, program, query, terms, typed, &indexed, derivation)
 }

@@ -1,34 +1,42 @@
 //! What is done at a node of a derivation: the rules are tried, and what is below the node comes next.
 
-ghost use Rattle.std.specs.Prelude.{◌≡◌, ℕ, List as list, length, map, IfOk, Option as option};
-ghost use Rattle.ap_defs.specs.Answers.{answer_of};
+ghost use Rattle.std.specs.Prelude.{◌≡◌, ℕ, List as list, length, map, IfOk, OnOk, Option as option};
 ghost use Rattle.ap_defs.specs.Derivations as derivations;
-ghost use Rattle.ap_defs.specs.Derivations.{derivation_of};
 ghost use Rattle.ap_defs.specs.Goals as goals;
 ghost use Rattle.ap_defs.specs.Goals.{NominalProgram, clause_of, goal_of, program_of};
-ghost use Rattle.ap_defs.specs.Terms.{term_of};
+ghost use Rattle.ap_defs.specs.Terms.{NominalTerm, term_of};
 ghost use Rattle.ap_defs.specs.Types.{NominalKind};
-ghost use Rattle.ap_checks.specs.Checks.{Refusal, tests_by_clause, first_refusal};
-ghost use Rattle.ap_checks.specs.OpenEnvironments.{put_in};
+ghost use Rattle.ap_checks.specs.Checks.{Refusal, equal_each, first_refusal, tests_by_clause};
+ghost use Rattle.ap_checks.specs.OpenEnvironments.{open_environment, put_in};
 ghost use Rattle.ap_checker.specs.Rules.{node_refused};
-ghost use Rattle.ap_checker.specs.Scopes.{environment_of};
+ghost use Rattle.ap_judge.specs.Scopes.{environment_of};
+ghost use Rattle.ap_judge.specs.Tables.{AreStandingIn};
+ghost use Rattle.ap_checker.specs.Tables.{IsWalkIn};
+ghost use Rattle.ap_judge.specs.Typings.{AreTypesKnown};
 ghost use Rattle.ap_checker.specs.Walks.{ArePendingMarked, IsVisited, derivation_at, goal_at, kinds_at, pending_of};
+ghost use Rattle.ap_shared.specs.Shared.{shared_at};
+ghost use Rattle.ap_shared.specs.SharedPlaces.{given_terms};
+ghost use Rattle.ap_shared.specs.SharedViews.{shared_answer, shared_derivation, shared_terms};
 
-use crate::closures::{Closure, Scope, ScopedTerms};
-use crate::equality::are_equal_at;
 use crate::fits::{counts_fit, names_fit, term_fits, terms_fit};
-use crate::identifiers::Identifiers;
-use crate::index::IndexedAnswer;
-use crate::lookups::clause_at;
 use crate::new_names::is_new;
 use crate::nodes::{all_differ, all_equal, is_name_fresh};
 use crate::rules::Rule;
-use crate::scope::Standing;
 use crate::walk::{Obligation, Walk};
 use ap_defs::goals::{Clause, Goal, Program};
 use ap_defs::memory::Memory;
-use ap_defs::outcomes::Derivation;
 use ap_defs::terms::{Name, Term, Var};
+use ap_judge::cited::{Cited, CitedTerms};
+use ap_judge::closures::{Closure, Scope, ScopedTerms};
+use ap_judge::equality::are_equal_at;
+use ap_judge::identifiers::Identifiers;
+use ap_judge::index::IndexedAnswer;
+use ap_judge::lookups::clause_at;
+use ap_judge::scope::Standing;
+use ap_judge::typing::Typed;
+use ap_shared::arena::SharedTerms;
+use ap_shared::derivations::SharedDerivation;
+use ap_shared::places::{Given, Shared};
 use std::alloc::Global;
 
 /// A clause as a node uses it: its number, the names and terms for its free identifiers, and the
@@ -37,28 +45,63 @@ use std::alloc::Global;
 struct Use<'a> {
     number: u32,
     names: &'a [Name],
-    terms: &'a [Term],
-    body: &'a Derivation,
+    given: Given<'a>,
+    body: &'a SharedDerivation,
 }
 
-/// The least rule that refuses an atom's node by a clause, if one does.
-fn rule_of_clause(
+/// Whether an atom's arguments equal those of a clause's head, as a node uses the clause.
+fn is_head_equal<'a>(
     alloc: Global,
-    program: &Program<Term>,
     answer: &IndexedAnswer<'_>,
     standing: &[Standing<'_>],
     args: &[Term],
-    used: &Use<'_>,
-    clause: &Clause<Term>,
+    used: &Use<'a>,
+    clause: &'a Clause<Term>,
+) -> Result<bool, Memory>
+    requires { AreStandingIn used.now.given.terms.now standing.now }
+    ensures { IfOk result (λ yes. yes ≡ equal_each answer.now.conds
+        (map (put_in (environment_of standing.now)) (map term_of args.now))
+        (map (put_in (open_environment (clause_of clause.now).locals used.now.names.now
+        (given_terms used.now.given))) (clause_of clause.now).args)) }
+{
+    let own = Identifiers::of(alloc, clause.locals.items())?;
+    let given = CitedTerms::Lines(used.given);
+    let scope = [Standing::Clause(own, used.names, given)];
+    let head = ScopedTerms {
+        scope: Scope { standing: &scope },
+        terms: clause.args.items(),
+    };
+    let args = ScopedTerms {
+        scope: Scope { standing },
+        terms: args,
+    };
+    all_equal(alloc, answer, used.given.terms, args, head)
+}
+
+/// The least rule that refuses an atom's node by a clause, if one does.
+fn rule_of_clause<'a>(
+    alloc: Global,
+    program: &'a Program<Term>,
+    answer: &IndexedAnswer<'_>,
+    typed: &mut Typed<'a>,
+    standing: &[Standing<'_>],
+    args: &[Term],
+    used: &Use<'a>,
+    clause: &'a Clause<Term>,
 ) -> Result<Option<Rule>, Memory>
-    ensures { IfOk result (λ r. (n : ℕ) (rest : option Refusal) →
-        tests_by_clause (program_of program.now) (answer_of answer.now) n used.now.names.now
-        (map term_of used.now.terms.now) (map (put_in (environment_of standing.now))
+    requires of { AreStandingIn used.now.given.terms.now standing.now }
+    requires typed { AreTypesKnown used.now.given.terms.now program.now.signature.constructors
+        answer.now.vars typed.old }
+    ensures typed { OnOk result (AreTypesKnown used.now.given.terms.now
+        program.now.signature.constructors answer.now.vars typed.new) }
+    ensures rule { IfOk result (λ r. (lines : list NominalTerm) (n : ℕ) (rest : option Refusal) →
+        tests_by_clause (program_of program.now) (shared_answer lines answer.now) n
+        used.now.names.now (given_terms used.now.given) (map (put_in (environment_of standing.now))
         (map term_of args.now)) (clause_of clause.now) rest
         ≡ first_refusal (node_refused n r) rest) }
 {
     let locals = clause.locals.items();
-    if !counts_fit(locals, used.names, used.terms) {
+    if !counts_fit(locals, used.names, used.given) {
         return Ok(Some(Rule::Count));
     }
     if !all_differ(alloc, used.names)? {
@@ -68,20 +111,10 @@ fn rule_of_clause(
         return Ok(Some(Rule::Typing));
     }
     let constructors = program.signature.constructors.items();
-    if !terms_fit(alloc, constructors, answer, locals, used.terms)? {
+    if !terms_fit(alloc, constructors, answer, typed, locals, used.given)? {
         return Ok(Some(Rule::Typing));
     }
-    let own = Identifiers::of(alloc, locals)?;
-    let scope = [Standing::Clause(own, used.names, used.terms)];
-    let head = ScopedTerms {
-        scope: Scope { standing: &scope },
-        terms: clause.args.items(),
-    };
-    let args = ScopedTerms {
-        scope: Scope { standing },
-        terms: args,
-    };
-    if !all_equal(alloc, answer, args, head)? {
+    if !is_head_equal(alloc, answer, standing, args, used, clause)? {
         return Ok(Some(Rule::Head));
     }
     Ok(None)
@@ -92,29 +125,39 @@ fn visit_atom<'a>(
     alloc: Global,
     program: &'a Program<Term>,
     answer: &IndexedAnswer<'_>,
+    typed: &mut Typed<'a>,
     walk: &mut Walk<'a>,
     used: &Use<'a>,
     pred: u32,
     args: &[Term],
 ) -> Result<Option<Rule>, Memory>
-    requires { ArePendingMarked (length walk.old.standing.items) (pending_of walk.old) }
-    ensures { IfOk result (λ r. (kinds : list NominalKind) →
-        IsVisited (program_of program.now) (answer_of answer.now) kinds (derivations.atom
-        used.now.number used.now.names.now (map term_of used.now.terms.now)
-        (derivation_of used.now.body.now)) (goals.atom pred (map term_of args.now)) walk.old
-        walk.new r) }
+    requires marked { ArePendingMarked (length walk.old.standing.items) (pending_of walk.old) }
+    requires of { IsWalkIn used.now.given.terms.now walk.old }
+    requires typed { AreTypesKnown used.now.given.terms.now program.now.signature.constructors
+        answer.now.vars typed.old }
+    ensures visited { IfOk result (λ r. (kinds : list NominalKind) (lines : list NominalTerm) →
+        IsVisited (program_of program.now) (shared_answer lines answer.now) kinds (derivations.atom
+        used.now.number used.now.names.now (given_terms used.now.given) (shared_derivation
+        (shared_terms used.now.given.terms.now) used.now.body.now))
+        (goals.atom pred (map term_of args.now)) walk.old walk.new r) }
+    ensures of { OnOk result (IsWalkIn used.now.given.terms.now walk.new) }
+    ensures typed { OnOk result (AreTypesKnown used.now.given.terms.now
+        program.now.signature.constructors answer.now.vars typed.new) }
 {
     let Some(clause) = clause_at(program, pred, used.number) else {
         return Ok(Some(Rule::Clause));
     };
     let standing = &walk.standing;
-    if let Some(rule) = rule_of_clause(alloc, program, answer, standing, args, used, clause)? {
+    let rule = rule_of_clause(alloc, program, answer, typed, standing, args, used, clause)?;
+    if let Some(rule) = rule {
         return Ok(Some(rule));
     }
     let locals = clause.locals.items();
     let own = Identifiers::of(alloc, locals)?;
-    walk.bring(Standing::Clause(own, used.names, used.terms))?;
+    let given = CitedTerms::Lines(used.given);
+    walk.bring(Standing::Clause(own, used.names, given))?;
     walk.put(Obligation {
+        terms: used.given.terms,
         derivation: used.body,
         goal: &clause.body,
         locals,
@@ -126,20 +169,23 @@ fn visit_atom<'a>(
 fn visit_equation(
     alloc: Global,
     answer: &IndexedAnswer<'_>,
+    terms: &SharedTerms,
     walk: &Walk<'_>,
     left: &Term,
     right: &Term,
 ) -> Result<Option<Rule>, Memory>
-    requires { ArePendingMarked (length walk.now.standing.items) (pending_of walk.now) }
-    ensures { IfOk result (λ r. (p : NominalProgram) (kinds : list NominalKind) →
-        IsVisited p (answer_of answer.now) kinds derivations.equal (goals.equal (term_of left.now)
-        (term_of right.now)) walk.now walk.now r) }
+    requires marked { ArePendingMarked (length walk.now.standing.items) (pending_of walk.now) }
+    requires of { IsWalkIn terms.now walk.now }
+    ensures { IfOk result (λ r. (p : NominalProgram) (kinds : list NominalKind)
+        (lines : list NominalTerm) →
+        IsVisited p (shared_answer lines answer.now) kinds derivations.equal
+        (goals.equal (term_of left.now) (term_of right.now)) walk.now walk.now r) }
 {
     let scope = walk.standing.as_slice();
     let scope = Scope { standing: scope };
     let left = Closure::Within(scope, left);
     let right = Closure::Within(scope, right);
-    if !are_equal_at(alloc, answer, left, right)? {
+    if !are_equal_at(alloc, answer, terms, left, right)? {
         return Ok(Some(Rule::Equal));
     }
     Ok(None)
@@ -154,9 +200,10 @@ fn visit_freshness(
     right: &Term,
 ) -> Result<Option<Rule>, Memory>
     requires { ArePendingMarked (length walk.now.standing.items) (pending_of walk.now) }
-    ensures { IfOk result (λ r. (p : NominalProgram) (kinds : list NominalKind) →
-        IsVisited p (answer_of answer.now) kinds derivations.fresh (goals.fresh (term_of left.now)
-        (term_of right.now)) walk.now walk.now r) }
+    ensures { IfOk result (λ r. (p : NominalProgram) (kinds : list NominalKind)
+        (lines : list NominalTerm) →
+        IsVisited p (shared_answer lines answer.now) kinds derivations.fresh
+        (goals.fresh (term_of left.now) (term_of right.now)) walk.now walk.now r) }
 {
     let scope = walk.standing.as_slice();
     let scope = Scope { standing: scope };
@@ -171,23 +218,34 @@ fn visit_freshness(
 /// The node of an `exists`, which brings a term for its variable.
 fn visit_exists<'a>(
     alloc: Global,
-    program: &Program<Term>,
+    program: &'a Program<Term>,
     answer: &IndexedAnswer<'_>,
+    typed: &mut Typed<'a>,
     walk: &mut Walk<'a>,
     x: Var,
-    term: &'a Term,
+    line: usize,
     below: Obligation<'a>,
 ) -> Result<Option<Rule>, Memory>
-    requires { ArePendingMarked (length walk.old.standing.items) (pending_of walk.old) }
-    ensures { IfOk result (λ r. IsVisited (program_of program.now) (answer_of answer.now)
-        (kinds_at below.entry) (derivations.exists (term_of term.now) (derivation_at below.entry))
+    requires marked { ArePendingMarked (length walk.old.standing.items) (pending_of walk.old) }
+    requires of { IsWalkIn below.terms.now walk.old }
+    requires typed { AreTypesKnown below.terms.now program.now.signature.constructors
+        answer.now.vars typed.old }
+    ensures visited { IfOk result (λ r. (lines : list NominalTerm) →
+        IsVisited (program_of program.now) (shared_answer lines answer.now) (kinds_at below.entry)
+        (derivations.exists (shared_at (shared_terms below.entry.terms.now) line)
+        (derivation_at below.entry))
         (goals.exists x (goal_at below.entry)) walk.old walk.new r) }
+    ensures of { OnOk result (IsWalkIn below.entry.terms.now walk.new) }
+    ensures typed { OnOk result (AreTypesKnown below.entry.terms.now
+        program.now.signature.constructors answer.now.vars typed.new) }
 {
+    let terms = below.terms;
+    let term = Shared { terms, line };
     let constructors = program.signature.constructors.items();
-    if !term_fits(alloc, constructors, answer, below.locals, x, term)? {
+    if !term_fits(alloc, constructors, answer, typed, below.locals, x, term)? {
         return Ok(Some(Rule::Typing));
     }
-    walk.bring(Standing::Term(x, term))?;
+    walk.bring(Standing::Term(x, Cited::Line(term)))?;
     walk.put(below)?;
     Ok(None)
 }
@@ -203,9 +261,12 @@ fn visit_new<'a>(
 ) -> Result<Option<Rule>, Memory>
     requires marked { ArePendingMarked (length walk.old.standing.items) (pending_of walk.old) }
     requires goal { goal_of goal.now ≡ goals.new names.0 (goal_at below) }
-    ensures { IfOk result (λ r. (p : NominalProgram) →
-        IsVisited p (answer_of answer.now) (kinds_at below.entry) (derivations.new names.1
+    requires of { IsWalkIn below.terms.now walk.old }
+    ensures visited { IfOk result (λ r. (p : NominalProgram) (lines : list NominalTerm) →
+        IsVisited p (shared_answer lines answer.now)
+        (kinds_at below.entry) (derivations.new names.1
         (derivation_at below.entry)) (goal_of goal.now) walk.old walk.new r) }
+    ensures of { OnOk result (IsWalkIn below.entry.terms.now walk.new) }
 {
     let (own, name) = names;
     if name.sort != own.sort {
@@ -224,48 +285,68 @@ pub(crate) fn visit<'a>(
     alloc: Global,
     program: &'a Program<Term>,
     answer: &IndexedAnswer<'_>,
+    typed: &mut Typed<'a>,
     walk: &mut Walk<'a>,
     at: Obligation<'a>,
 ) -> Result<Option<Rule>, Memory>
-    requires { ArePendingMarked (length walk.old.standing.items) (pending_of walk.old) }
-    ensures { IfOk result (λ r. IsVisited (program_of program.now) (answer_of answer.now)
-        (kinds_at at.entry) (derivation_at at.entry) (goal_at at.entry) walk.old walk.new r) }
+    requires marked { ArePendingMarked (length walk.old.standing.items) (pending_of walk.old) }
+    requires of { IsWalkIn at.terms.now walk.old }
+    requires typed { AreTypesKnown at.terms.now program.now.signature.constructors
+        answer.now.vars typed.old }
+    ensures visited { IfOk result (λ r. (lines : list NominalTerm) →
+        IsVisited (program_of program.now) (shared_answer lines answer.now) (kinds_at at.entry)
+        (derivation_at at.entry) (goal_at at.entry) walk.old walk.new r) }
+    ensures of { OnOk result (IsWalkIn at.entry.terms.now walk.new) }
+    ensures typed { OnOk result (AreTypesKnown at.entry.terms.now
+        program.now.signature.constructors answer.now.vars typed.new) }
 {
     match (at.derivation, at.goal) {
-        (Derivation::Atom(used, body), Goal::Atom(pred, args)) => {
+        (SharedDerivation::Atom(used, body), Goal::Atom(pred, args)) => {
             let used = Use {
                 number: used.clause,
                 names: used.names.items(),
-                terms: used.terms.items(),
+                given: Given {
+                    terms: at.terms,
+                    lines: used.terms.items(),
+                },
                 body,
             };
-            visit_atom(alloc, program, answer, walk, &used, *pred, args.items())
+            visit_atom(
+                alloc,
+                program,
+                answer,
+                typed,
+                walk,
+                &used,
+                *pred,
+                args.items(),
+            )
         }
-        (Derivation::Eq, Goal::Equal(left, right)) => {
-            visit_equation(alloc, answer, walk, left, right)
+        (SharedDerivation::Eq, Goal::Equal(left, right)) => {
+            visit_equation(alloc, answer, at.terms, walk, left, right)
         }
-        (Derivation::Fresh, Goal::Fresh(left, right)) => {
+        (SharedDerivation::Fresh, Goal::Fresh(left, right)) => {
             visit_freshness(alloc, answer, walk, left, right)
         }
-        (Derivation::True, Goal::True) => Ok(None),
-        (Derivation::Both(first, second), Goal::Both(left, right)) => {
+        (SharedDerivation::True, Goal::True) => Ok(None),
+        (SharedDerivation::Both(first, second), Goal::Both(left, right)) => {
             walk.put(at.below(second, right))?;
             walk.put(at.below(first, left))?;
             Ok(None)
         }
-        (Derivation::Left(below), Goal::Either(left, _)) => {
+        (SharedDerivation::Left(below), Goal::Either(left, _)) => {
             walk.put(at.below(below, left))?;
             Ok(None)
         }
-        (Derivation::Right(below), Goal::Either(_, right)) => {
+        (SharedDerivation::Right(below), Goal::Either(_, right)) => {
             walk.put(at.below(below, right))?;
             Ok(None)
         }
-        (Derivation::Exists(term, below), Goal::Exists(x, goal)) => {
+        (SharedDerivation::Exists(line, below), Goal::Exists(x, goal)) => {
             let below = at.below(below, goal);
-            visit_exists(alloc, program, answer, walk, *x, term, below)
+            visit_exists(alloc, program, answer, typed, walk, *x, *line, below)
         }
-        (Derivation::New(name, below), Goal::New(own, goal)) => {
+        (SharedDerivation::New(name, below), Goal::New(own, goal)) => {
             let below = at.below(below, goal);
             visit_new(alloc, answer, walk, at.goal, (*own, **name), below)
         }

@@ -1,16 +1,35 @@
 -- What waits, and derivations one after another.
-use Rattle.std.proofs.Common.{◌≡◌, ◌+◌, ℕ, List, [], ◌∷◌, ◌++◌, map, refl, sym, ap, subst, ◌∙◌, append_assoc, arith, Result}
+use Rattle.std.proofs.Common.{◌≡◌, ◌+◌, ℕ, List, [], ◌∷◌, ◌++◌, map, Option, None, Some, refl, sym, ap, ap₂, subst, ◌∙◌, append_assoc, arith, Result}
 use Rattle.std.specs.List.{AllByRecursion}
 use Rattle.std.specs.Prelude.{IfOk}
 use Rattle.std.proofs.lemmas.List.{map-append}
 use Rattle.std.proofs.lemmas.Result.{IfOk-weaker}
-use Rattle.ap_defs.specs.Derivations.{NominalDerivation, derivation_of, derivation_weight}
-use Rattle.ap_defs.specs.Goals.{Clauses, NominalGoal}
-use Rattle.ap_count.specs.Uses.{ClauseUse, uses, uses_in_each}
+use Rattle.ap_defs.specs.Derivations.{DerivationOver, NominalDerivation, derivation_weight, map_terms}
+use Rattle.ap_defs.specs.Derivations as nodes
+use Rattle.ap_defs.specs.Goals as goals
+use Rattle.ap_defs.specs.Goals.{Clauses, NominalClause, NominalGoal, clauses_of}
+use Rattle.ap_defs.specs.GroundProofs.{clause_at}
+use Rattle.ap_defs.specs.Terms.{NominalTerm}
+use Rattle.ap_count.specs.Uses.{ClauseUse, of_body, uses, uses_in_each}
 use Rattle.ap_count.proofs.UseLemmas.{with_uses_append}
 use Rattle.ap_count.specs.declared.walk.Waiting.{Waiting}
 use Rattle.ap_count.specs.Tables.{with_uses}
-use Rattle.ap_count.specs.Waiting.{uses_of_all, uses_waiting, weight_of_all}
+use Rattle.ap_count.specs.Waiting.{bare_derivation, uses_of_all, uses_waiting, weight_of_all}
+
+-- what a derivation uses does not depend on its terms
+body_over : (o : Option NominalClause) (f h : NominalGoal → List ClauseUse) → ((g : NominalGoal) → f g ≡ h g) → of_body o f ≡ of_body o h
+body_over None f h e = refl
+body_over (Some c) f h e = e c.body
+
+pub uses_over : (program : Clauses) (f h : ℕ → NominalTerm) (d : DerivationOver ℕ) (g : NominalGoal) → uses program (map_terms f d) g ≡ uses program (map_terms h d) g
+uses_over program f h (nodes.atom k as' us d) (goals.atom p ts) =
+    ap (λ vs. record { pred = p; number = k } ∷ vs) (body_over (clause_at (clauses_of program p) k) (uses program (map_terms f d)) (uses program (map_terms h d)) (λ g. uses_over program f h d g))
+uses_over program f h (nodes.both d e) (goals.both g k) = ap₂ (λ us vs. us ++ vs) (uses_over program f h d g) (uses_over program f h e k)
+uses_over program f h (nodes.left d) (goals.either g k) = uses_over program f h d g
+uses_over program f h (nodes.right d) (goals.either g k) = uses_over program f h d k
+uses_over program f h (nodes.exists t d) (goals.exists x g) = uses_over program f h d g
+uses_over program f h (nodes.new a d) (goals.new b g) = uses_over program f h d g
+uses_over program f h d g = refl
 
 pub last_first : (program : Clauses) (ws : List Waiting) (w : Waiting) → uses_of_all program (ws ++ w ∷ []) ≡ uses_waiting program w ++ uses_of_all program ws
 last_first program [] w = append_none (uses_waiting program w)
@@ -26,7 +45,7 @@ each_append program g [] es = refl
 each_append program g (d ∷ ds) es =
     ap (λ us. uses program d g ++ us) (each_append program g ds es) ∙ sym (append_assoc (uses program d g) (uses_in_each program g ds) (uses_in_each program g es))
 
-pub last_weight : (ws : List Waiting) (w : Waiting) → weight_of_all (ws ++ w ∷ []) ≡ derivation_weight (derivation_of w.derivation.now) + weight_of_all ws
+pub last_weight : (ws : List Waiting) (w : Waiting) → weight_of_all (ws ++ w ∷ []) ≡ derivation_weight (bare_derivation w.derivation.now) + weight_of_all ws
 last_weight [] w = refl
 last_weight (v ∷ ws) w = let more = last_weight ws w in omega (arith, more)
 

@@ -2,8 +2,10 @@
 
 ghost use Rattle.std.specs.Prelude.{◌≡◌, ℕ, IfOk, List as list, map};
 ghost use Rattle.std.specs.List.{AllByRecursion};
-ghost use Rattle.ap_defs.specs.Derivations.{NominalDerivation, derivation_of};
+ghost use Rattle.ap_defs.specs.Derivations.{NominalDerivation};
 ghost use Rattle.ap_defs.specs.Goals.{goal_of, program_in};
+ghost use Rattle.ap_defs.specs.Terms.{NominalTerm};
+ghost use Rattle.ap_shared.specs.SharedViews.{shared_derivation};
 ghost use Rattle.ap_count.specs.Uses.{use_table, uses_in_each};
 ghost use Rattle.ap_count.specs.Tables.{counts_of};
 
@@ -12,9 +14,9 @@ use crate::walk::add_uses;
 use ap_defs::goals::{Clause, Goal};
 use ap_defs::lists::List;
 use ap_defs::memory::Memory;
-use ap_defs::outcomes::Derivation;
 use ap_defs::paths::Path;
 use ap_defs::terms::Term;
+use ap_shared::derivations::SharedDerivation;
 use std::alloc::Global;
 use std::thread::{Threads, join};
 
@@ -26,10 +28,12 @@ pub trait Derive: Sync {
     /// The derivation of the answer at a path.
     ghost at: { Self → list ℕ → NominalDerivation };
 
-    /// The derivation of the answer at a path. The only error is want of memory.
-    fn derivation(&self, alloc: Global, path: &Path) -> Result<Derivation, Memory>
+    /// The derivation of the answer at a path, over the lines of some table. The only error is want of
+    /// memory.
+    fn derivation(&self, alloc: Global, path: &Path) -> Result<SharedDerivation, Memory>
         requires { leads self.now path.now }
-        ensures { IfOk result (λ d. derivation_of d ≡ at self.now path.now) };
+        ensures { IfOk result (λ d. (ts : list NominalTerm) ×
+            (shared_derivation ts d ≡ at self.now path.now)) };
 }
 
 /// The goal of a query, with the clauses of its program.

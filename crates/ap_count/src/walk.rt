@@ -3,27 +3,28 @@
 ghost use Rattle.std.specs.Prelude.{◌≡◌, ◌≤◌, ◌<◌, ◌+◌, ℕ, ◌++◌, MatchOption, None, Some, OnOk, List as list};
 ghost use Rattle.ap_defs.specs.declared.terms.Name.{Name as name};
 ghost use Rattle.ap_defs.specs.Derivations as nodes;
-ghost use Rattle.ap_defs.specs.Derivations.{NominalDerivation, derivation_of, derivation_weight};
+ghost use Rattle.ap_defs.specs.Derivations.{NominalDerivation, derivation_weight};
 ghost use Rattle.ap_defs.specs.Goals.{Clauses, clause_of, clauses_of, goal_of, program_in};
 ghost use Rattle.ap_defs.specs.GroundProofs.{clause_at as clause_numbered};
 ghost use Rattle.ap_defs.specs.Terms.{NominalTerm};
+ghost use Rattle.ap_shared.specs.SharedViews.{shared_derivation};
 ghost use Rattle.ap_count.specs.Uses.{uses, uses_of_clause};
 ghost use Rattle.ap_count.specs.Tables.{counts_of, with_uses};
-ghost use Rattle.ap_count.specs.Waiting.{if_any, uses_of_all, uses_waiting, weight_of_all};
+ghost use Rattle.ap_count.specs.Waiting.{bare_derivation, if_any, uses_of_all, uses_waiting, weight_of_all};
 
 use crate::tables::add_use;
 use ap_defs::goals::{Clause, Goal};
 use ap_defs::lists::List;
 use ap_defs::memory::Memory;
-use ap_defs::outcomes::Derivation;
 use ap_defs::terms::Term;
+use ap_shared::derivations::SharedDerivation;
 use std::alloc::Global;
 
 /// A goal that waits, with its derivation.
 #[derive(Clone, Copy)]
 struct Waiting<'a> {
     goal: &'a Goal<Term>,
-    derivation: &'a Derivation,
+    derivation: &'a SharedDerivation,
 }
 
 /// The clause of a predicate with this number, from 1.
@@ -160,14 +161,14 @@ fn below_new(goal: &Goal<Term>) -> Option<&Goal<Term>>
 /// Has a goal wait with its derivation, if there is one.
 fn wait_for<'a>(
     goal: Option<&'a Goal<Term>>,
-    derivation: &'a Derivation,
+    derivation: &'a SharedDerivation,
     waiting: &mut Vec<Waiting<'a>>,
 ) -> Result<(), Memory>
     ensures uses { (program : Clauses) → OnOk result (uses_of_all program waiting.new.items
-        ≡ if_any goal.entry (λ g. uses program (derivation_of derivation.now) (goal_of g.now))
+        ≡ if_any goal.entry (λ g. uses program (bare_derivation derivation.now) (goal_of g.now))
         ++ uses_of_all program waiting.old.items) }
     ensures weight { OnOk result (weight_of_all waiting.new.items
-        ≤ derivation_weight (derivation_of derivation.now) + weight_of_all waiting.old.items) }
+        ≤ derivation_weight (bare_derivation derivation.now) + weight_of_all waiting.old.items) }
 {
     if let Some(goal) = goal {
         waiting.push(Waiting { goal, derivation })?;
@@ -178,16 +179,17 @@ fn wait_for<'a>(
 /// Has the parts of a conjunction wait with their derivations, the left one first.
 fn wait_for_both<'a>(
     goals: Option<(&'a Goal<Term>, &'a Goal<Term>)>,
-    left: &'a Derivation,
-    right: &'a Derivation,
+    left: &'a SharedDerivation,
+    right: &'a SharedDerivation,
     waiting: &mut Vec<Waiting<'a>>,
 ) -> Result<(), Memory>
     ensures weight { OnOk result (weight_of_all waiting.new.items
-        ≤ derivation_weight (derivation_of left.now) + derivation_weight (derivation_of right.now)
+        ≤ derivation_weight (bare_derivation left.now)
+        + derivation_weight (bare_derivation right.now)
         + weight_of_all waiting.old.items) }
     ensures uses { (program : Clauses) → OnOk result (uses_of_all program waiting.new.items
-        ≡ if_any goals.entry (λ p. uses program (derivation_of left.now) (goal_of p.0.now)
-        ++ uses program (derivation_of right.now) (goal_of p.1.now))
+        ≡ if_any goals.entry (λ p. uses program (bare_derivation left.now) (goal_of p.0.now)
+        ++ uses program (bare_derivation right.now) (goal_of p.1.now))
         ++ uses_of_all program waiting.old.items) }
 {
     if let Some((first, second)) = goals {
@@ -202,15 +204,15 @@ fn count_clause<'a>(
     program: &'a [List<Clause<Term>>],
     pred: u32,
     number: u32,
-    below: &'a Derivation,
+    below: &'a SharedDerivation,
     waiting: &mut Vec<Waiting<'a>>,
     table: &mut Vec<Vec<u64>>,
 ) -> Result<(), Memory>
     ensures weight { OnOk result (weight_of_all waiting.new.items
-        ≤ derivation_weight (derivation_of below.now) + weight_of_all waiting.old.items) }
+        ≤ derivation_weight (bare_derivation below.now) + weight_of_all waiting.old.items) }
     ensures uses { OnOk result (
         with_uses (uses_of_all (program_in program.now) waiting.new.items) (counts_of table.new)
-        ≡ with_uses (uses_of_clause (program_in program.now) pred number (derivation_of below.now)
+        ≡ with_uses (uses_of_clause (program_in program.now) pred number (bare_derivation below.now)
         ++ uses_of_all (program_in program.now) waiting.old.items) (counts_of table.old)) }
 {
     add_use(table, pred, number);
@@ -229,7 +231,7 @@ fn count_node<'a>(
     table: &mut Vec<Vec<u64>>,
 ) -> Result<(), Memory>
     ensures weight { OnOk result (weight_of_all waiting.new.items
-        < derivation_weight (derivation_of node.entry.derivation.now)
+        < derivation_weight (bare_derivation node.entry.derivation.now)
         + weight_of_all waiting.old.items) }
     ensures uses { OnOk result (
         with_uses (uses_of_all (program_in program.now) waiting.new.items) (counts_of table.new)
@@ -237,20 +239,20 @@ fn count_node<'a>(
         ++ uses_of_all (program_in program.now) waiting.old.items) (counts_of table.old)) }
 {
     match node.derivation {
-        Derivation::Eq => Ok(()),
-        Derivation::Fresh => Ok(()),
-        Derivation::True => Ok(()),
-        Derivation::Atom(used, below) => match pred_of_atom(node.goal) {
+        SharedDerivation::Eq => Ok(()),
+        SharedDerivation::Fresh => Ok(()),
+        SharedDerivation::True => Ok(()),
+        SharedDerivation::Atom(used, below) => match pred_of_atom(node.goal) {
             Some(pred) => count_clause(program, pred, used.clause, below, waiting, table),
             None => Ok(()),
         },
-        Derivation::Both(left, right) => {
+        SharedDerivation::Both(left, right) => {
             wait_for_both(parts_of_both(node.goal), left, right, waiting)
         }
-        Derivation::Left(side) => wait_for(left_of_either(node.goal), side, waiting),
-        Derivation::Right(side) => wait_for(right_of_either(node.goal), side, waiting),
-        Derivation::Exists(_, below) => wait_for(below_exists(node.goal), below, waiting),
-        Derivation::New(_, below) => wait_for(below_new(node.goal), below, waiting),
+        SharedDerivation::Left(side) => wait_for(left_of_either(node.goal), side, waiting),
+        SharedDerivation::Right(side) => wait_for(right_of_either(node.goal), side, waiting),
+        SharedDerivation::Exists(_, below) => wait_for(below_exists(node.goal), below, waiting),
+        SharedDerivation::New(_, below) => wait_for(below_new(node.goal), below, waiting),
     }
 }
 
@@ -259,11 +261,11 @@ pub fn add_uses(
     alloc: Global,
     program: &[List<Clause<Term>>],
     goal: &Goal<Term>,
-    derivation: &Derivation,
+    derivation: &SharedDerivation,
     table: &mut Vec<Vec<u64>>,
 ) -> Result<(), Memory>
-    ensures { OnOk result (counts_of table.new ≡ with_uses
-        (uses (program_in program.now) (derivation_of derivation.now) (goal_of goal.now))
+    ensures { OnOk result ((ts : list NominalTerm) → counts_of table.new ≡ with_uses (uses
+        (program_in program.now) (shared_derivation ts derivation.now) (goal_of goal.now))
         (counts_of table.old)) }
 {
     let mut waiting = Vec::new(alloc);

@@ -1,4 +1,6 @@
 pub mod SpineLemmas
+pub mod WalkLemmas
+pub mod PartLemmas
 mod WeightLemmas
 mod TermWeights
 mod TypeWeights

@@ -26,3 +26,4 @@ pub mod FaultKinds
 pub mod Limits
 pub mod Spines
 pub mod Weights
+pub mod Walks

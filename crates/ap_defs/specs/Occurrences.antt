@@ -54,3 +54,14 @@ free_vars (both g h) = free_vars g ++ free_vars h
 free_vars (either g h) = free_vars g ++ free_vars h
 free_vars (exists x g) = without_var x (free_vars g)
 free_vars (new a g) = free_vars g
+
+-- what stands at a part of a term itself
+abbrev pub names_at : NominalTerm → List Name
+names_at (name a) = a ∷ []
+names_at (abs a t) = a ∷ []
+names_at (susp p x) = names_of p
+names_at t = []
+
+abbrev pub vars_at : NominalTerm → List Var
+vars_at (susp p x) = x ∷ []
+vars_at t = []

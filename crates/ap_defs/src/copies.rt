@@ -1,77 +1,116 @@
 //! Copies of terms and types.
 
-ghost use Rattle.std.specs.Prelude.{◌≡◌, IfOk};
+ghost use Rattle.std.specs.Prelude.{◌≡◌, ◌<◌, ◌+◌, ◌*◌, IfOk};
 ghost use Rattle.ap_defs.specs.Terms.{term_of};
 ghost use Rattle.ap_defs.specs.Types.{type_of, kind_of};
+ghost use Rattle.ap_defs.specs.Unification.{size};
+ghost use Rattle.ap_defs.specs.Walks.{term_in_frames, term_made, term_work, term_frames_work};
+ghost use Rattle.ap_defs.specs.Walks.{type_in_frames, type_made, type_work, type_frames_work};
+ghost use Rattle.ap_defs.specs.Weights.{type_weight};
 
 use crate::goals::Kind;
 use crate::lists::List;
 use crate::memory::Memory;
-use crate::spines::{TermLayer, TypeLayer, close_term, close_type};
+use crate::spines::{TermLayer, TypeLayer};
 use crate::terms::{Term, Ty};
+use crate::walks::{TermFrame, TermPart, TypeFrame, TypePart, leave_term, leave_type};
 use std::alloc::Global;
 
+/// Reads a part of a term: what stands round the next one is kept, unless this one has no parts.
+fn copy_part<'a>(
+    alloc: Global,
+    frames: &mut Vec<TermFrame<'a>>,
+    t: &'a Term,
+) -> Result<TermPart<'a>, Memory>
+    ensures same { IfOk result (λ p. term_in_frames (λ u. u) frames.new.items (term_made (λ u. u) p)
+        ≡ term_in_frames (λ u. u) frames.old.items (term_of t.now)) }
+    ensures less { IfOk result (λ p. term_frames_work frames.new.items + term_work p
+        < term_frames_work frames.old.items + 3 * size (term_of t.now)) }
+{
+    match t {
+        Term::Unit => Ok(TermPart::Made(Term::Unit)),
+        Term::Name(a) => Ok(TermPart::Made(Term::Name(*a))),
+        Term::Susp(swaps, x) => {
+            let swaps = swaps.items().to_vec(alloc)?;
+            Ok(TermPart::Made(Term::Susp(List::of(swaps), *x)))
+        }
+        Term::Pair(left, right) => {
+            frames.push(TermFrame::Before(right))?;
+            Ok(TermPart::Left(left))
+        }
+        Term::App(f, argument) => {
+            frames.push(TermFrame::In(TermLayer::App(*f)))?;
+            Ok(TermPart::Left(argument))
+        }
+        Term::Abs(a, body) => {
+            frames.push(TermFrame::In(TermLayer::Abs(*a)))?;
+            Ok(TermPart::Left(body))
+        }
+    }
+}
+
 /// A copy of a term.
-///
-/// It goes on along the right part of a pair, the argument of a constructor and the body of an
-/// abstraction, and calls itself on left parts of pairs alone.
-#[tactic(auto, using(crate::proofs::SpineLemmas::term_within_last))]
+#[tactic(auto, using(crate::proofs::WalkLemmas::term_frames_last, crate::proofs::WalkLemmas::term_work_last))]
 pub fn copy_term(alloc: Global, t: &Term) -> Result<Term, Memory>
     ensures { IfOk result (λ u. term_of u ≡ term_of t.now) }
 {
-    let mut layers = Vec::new(alloc);
-    let mut rest = t;
-    loop {
-        match rest {
-            Term::Unit => return close_term(alloc, layers, Term::Unit),
-            Term::Name(a) => return close_term(alloc, layers, Term::Name(*a)),
-            Term::Susp(swaps, x) => {
-                let swaps = swaps.items().to_vec(alloc)?;
-                return close_term(alloc, layers, Term::Susp(List::of(swaps), *x));
-            }
-            Term::Pair(left, right) => {
-                layers.push(TermLayer::Left(copy_term(alloc, left)?))?;
-                rest = right;
-            }
-            Term::App(f, argument) => {
-                layers.push(TermLayer::App(*f))?;
-                rest = argument;
-            }
-            Term::Abs(a, body) => {
-                layers.push(TermLayer::Abs(*a))?;
-                rest = body;
-            }
+    let mut frames = Vec::new(alloc);
+    let mut part = TermPart::Left(t);
+    'copying: loop {
+        match part {
+            TermPart::Left(t) => part = copy_part(alloc, &mut frames, t)?,
+            TermPart::Made(t) => match frames.pop() {
+                None => return Ok(t),
+                Some(frame) => part = leave_term(alloc, &mut frames, frame, t)?,
+            },
+        }
+    }
+}
+
+/// Reads a part of a type, as of a term.
+fn copy_type_part<'a>(
+    alloc: Global,
+    frames: &mut Vec<TypeFrame<'a>>,
+    t: &'a Ty,
+) -> Result<TypePart<'a>, Memory>
+    ensures same { IfOk result (λ p. type_in_frames frames.new.items (type_made p)
+        ≡ type_in_frames frames.old.items (type_of t.now)) }
+    ensures less { IfOk result (λ p. type_frames_work frames.new.items + type_work p
+        < type_frames_work frames.old.items + 3 * type_weight (type_of t.now)) }
+{
+    match t {
+        Ty::Unit => Ok(TypePart::Made(Ty::Unit)),
+        Ty::Names(sort) => Ok(TypePart::Made(Ty::Names(*sort))),
+        Ty::Base(data) => Ok(TypePart::Made(Ty::Base(*data))),
+        Ty::Pair(left, right) => {
+            frames.push(TypeFrame::Before(right))?;
+            Ok(TypePart::Left(left))
+        }
+        Ty::List(element) => {
+            frames.push(TypeFrame::In(TypeLayer::List))?;
+            Ok(TypePart::Left(element))
+        }
+        Ty::Abs(sort, body) => {
+            frames.push(TypeFrame::In(TypeLayer::Abs(*sort)))?;
+            Ok(TypePart::Left(body))
         }
     }
 }
 
 /// A copy of a type.
-///
-/// It goes on along the right part of a pair, the elements of a list and the body of an abstraction, and
-/// calls itself on left parts of pairs alone.
-#[tactic(auto, using(crate::proofs::SpineLemmas::type_within_last))]
+#[tactic(auto, using(crate::proofs::WalkLemmas::type_frames_last, crate::proofs::WalkLemmas::type_work_last))]
 pub fn copy_type(alloc: Global, t: &Ty) -> Result<Ty, Memory>
     ensures { IfOk result (λ u. type_of u ≡ type_of t.now) }
 {
-    let mut layers = Vec::new(alloc);
-    let mut rest = t;
-    loop {
-        match rest {
-            Ty::Unit => return close_type(alloc, layers, Ty::Unit),
-            Ty::Names(sort) => return close_type(alloc, layers, Ty::Names(*sort)),
-            Ty::Base(data) => return close_type(alloc, layers, Ty::Base(*data)),
-            Ty::Pair(left, right) => {
-                layers.push(TypeLayer::Left(copy_type(alloc, left)?))?;
-                rest = right;
-            }
-            Ty::List(element) => {
-                layers.push(TypeLayer::List)?;
-                rest = element;
-            }
-            Ty::Abs(sort, body) => {
-                layers.push(TypeLayer::Abs(*sort))?;
-                rest = body;
-            }
+    let mut frames = Vec::new(alloc);
+    let mut part = TypePart::Left(t);
+    'copying: loop {
+        match part {
+            TypePart::Left(t) => part = copy_type_part(alloc, &mut frames, t)?,
+            TypePart::Made(t) => match frames.pop() {
+                None => return Ok(t),
+                Some(frame) => part = leave_type(alloc, &mut frames, frame, t)?,
+            },
         }
     }
 }

@@ -16,3 +16,4 @@ pub mod outcomes;
 pub mod paths;
 pub mod spines;
 pub mod terms;
+pub mod walks;

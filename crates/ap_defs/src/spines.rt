@@ -43,7 +43,7 @@ pub enum GoalLayer {
 }
 
 /// A term in a layer.
-fn term_in(alloc: Global, layer: TermLayer, t: Term) -> Result<Term, Memory>
+pub(crate) fn term_in(alloc: Global, layer: TermLayer, t: Term) -> Result<Term, Memory>
     ensures { IfOk result (λ u. term_of u ≡ term_in layer (term_of t)) }
 {
     match layer {
@@ -69,7 +69,7 @@ pub fn close_term(alloc: Global, mut layers: Vec<TermLayer>, t: Term) -> Result<
 }
 
 /// A type in a layer.
-fn type_in(alloc: Global, layer: TypeLayer, t: Ty) -> Result<Ty, Memory>
+pub(crate) fn type_in(alloc: Global, layer: TypeLayer, t: Ty) -> Result<Ty, Memory>
     ensures { IfOk result (λ u. type_of u ≡ type_in layer (type_of t)) }
 {
     match layer {

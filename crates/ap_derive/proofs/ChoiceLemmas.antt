@@ -12,9 +12,9 @@ use Rattle.ap_defs.specs.Unification.{Unified, unify}
 use Rattle.ap_defs.specs.declared.goals.Clause.{Clause}
 use Rattle.ap_defs.specs.declared.terms.Term.{Term}
 use Rattle.ap_theory.proofs.TermLemmas.{number_same}
-use Rattle.ap_backchain.specs.Positions.{Position, enters_clause, each_position, entered, goes, unified_state, with_choice, with_goal}
+use Rattle.ap_machine.specs.Positions.{Position, enters_clause, each_position, entered, goes, unified_state, with_choice, with_goal}
 use Rattle.ap_checks.specs.Traces.{trace_call, trace_clause, trace_goal, trace_side, trace_unified, traced, under_node}
-use Rattle.ap_derive.specs.Nodes.{atom, left, right}
+use Rattle.ap_bundle.specs.Nodes.{atom, left, right}
 use Rattle.ap_derive.specs.Solved.{HasOneMoreChoice, IsSolved, Selects, Solved, others_solved, rest_of, solved, solved_at, with_node}
 use Rattle.ap_derive.proofs.SolvedLemmas.{Others, below_node, solved_on}
 

@@ -13,7 +13,7 @@ use Rattle.ap_program.specs.Typed.{AreTypedQueries, IsTypedProgram, IsTypedQuery
 use Rattle.ap_soundness.specs.FoundStates.{EachFound}
 use Rattle.ap_defs.specs.declared.paths.Node.{Node}
 use Rattle.ap_backchain.specs.Branches.{IsAnswering, IsBranchOf, IsNodeAt, path_of_branch}
-use Rattle.ap_backchain.specs.Positions.{Position}
+use Rattle.ap_machine.specs.Positions.{Position}
 use Rattle.ap_backchain.specs.Problems.{clauses_in, queries_in}
 use Rattle.ap_backchain.specs.Starts.{first_position}
 use Rattle.ap_backchain.specs.declared.branch.Branch.{Branch}

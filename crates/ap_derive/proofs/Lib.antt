@@ -1,3 +1,4 @@
+pub mod ClosingLemmas
 pub mod NodeLemmas
 pub mod SolvedLemmas
 pub mod ChoiceLemmas

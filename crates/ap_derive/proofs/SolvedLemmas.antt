@@ -13,10 +13,11 @@ use Rattle.ap_defs.specs.Substitution.{under}
 use Rattle.ap_defs.specs.Terms as terms
 use Rattle.ap_defs.specs.Terms.{NominalTerm}
 use Rattle.ap_defs.specs.Unification.{Unified, reduce_all, unify}
-use Rattle.ap_backchain.specs.Marks.{choice_of_goal}
-use Rattle.ap_backchain.specs.Positions.{Position, Turned, ends, goes, goes_with, reduced_state, turned_fresh, turned_goal, unified_state, with_goal}
+use Rattle.ap_turns.specs.Marks.{choice_of_goal}
+use Rattle.ap_machine.specs.Positions.{Position, Turned, ends, goes, goes_with, reduced_state, turned_fresh, turned_goal, unified_state, with_goal}
 use Rattle.ap_checks.specs.Traces.{Trace, Traced, just_traced, trace_fresh, trace_reduced, trace_then, trace_unified, traced, under_node}
-use Rattle.ap_derive.specs.Nodes.{DerivationNode, both, equal, exists, fresh, new, nodes_before, succeed}
+use Rattle.ap_bundle.specs.Nodes.{both, equal, exists, fresh, new, succeed}
+use Rattle.ap_derive.specs.Nodes.{DerivationNode, nodes_before}
 use Rattle.ap_derive.specs.Solved.{IsSolved, Selects, Solved, node_of_goal, others_solved, rest_of, solved, solved_at, with_derivation, with_node}
 
 abbrev pub Others : Type 0

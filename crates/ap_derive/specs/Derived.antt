@@ -5,6 +5,12 @@ use Rattle.ap_defs.specs.Derivations.{NominalDerivation}
 use Rattle.ap_defs.specs.Goals.{Clauses, NominalQuery}
 use Rattle.ap_defs.specs.Resolution.{State, solve_query}
 use Rattle.ap_checks.specs.Traces.{Finds, Traced, traced_query}
+use Rattle.ap_shared.specs.SharedViews.{shared_derivation, shared_terms}
+use Rattle.ap_derive.specs.declared.assembling.Derived.{Derived}
+
+-- a derivation over the terms of its table
+abbrev pub derived : Derived → NominalDerivation
+derived d = shared_derivation (shared_terms d.terms) d.derivation
 
 -- The whole path leads to a state, with a derivation in which variables stand for themselves.
 pub record LeadsOn (program : Clauses) (depth : ℕ) (q : NominalQuery) (path : List ℕ) : Type 0 where

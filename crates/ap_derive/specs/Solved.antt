@@ -8,11 +8,12 @@ use Rattle.ap_defs.specs.Resolution.{State}
 use Rattle.ap_defs.specs.Terms.{NominalTerm, susp, term_of}
 use Rattle.ap_defs.specs.declared.terms.Term.{Term}
 use Rattle.ap_search.specs.Continuations.{Waiting}
-use Rattle.ap_backchain.specs.Positions.{Position}
-use Rattle.ap_backchain.specs.Views.{waiting_of}
-use Rattle.ap_backchain.specs.declared.frames.Frame.{Frame}
+use Rattle.ap_machine.specs.Positions.{Position}
+use Rattle.ap_machine.specs.Views.{waiting_of}
+use Rattle.ap_machine.specs.declared.frames.Frame.{Frame}
 use Rattle.ap_checks.specs.Traces.{Traced, traced}
-use Rattle.ap_derive.specs.Nodes.{DerivationNode, both, equal, exists, fresh, new, nodes_before, succeed}
+use Rattle.ap_bundle.specs.Nodes.{both, equal, exists, fresh, new, succeed}
+use Rattle.ap_derive.specs.Nodes.{DerivationNode, nodes_before}
 
 -- The state to which they lead, the nodes of their derivations in preorder, and what is left of the path.
 pub record Solved : Type 0 where

@@ -2,12 +2,14 @@
 //!
 //! A branch keeps its path and no derivation. `derivations::derive` follows the path once more from
 //! the root: `selecting` takes the goals in the order in which they are selected and keeps a node
-//! of each, which is the derivation in preorder; `assembling` then makes the derivation of the
-//! nodes, from the last to the first, with what the variables stand for in the end. Neither the
-//! path nor the depth of the derivation lies on the machine's call stack.
+//! of each, which is the derivation in preorder; `closing` enters what the variables stand for in the
+//! end in a table, each of them once; `assembling` then makes the derivation of the nodes, from the
+//! last to the first. Neither the path nor the depth of the derivation lies on the machine's call
+//! stack.
 #![tactic(auto)]
 
 pub mod assembling;
+mod closing;
 pub mod derivations;
 pub mod laws;
 pub mod nodes;

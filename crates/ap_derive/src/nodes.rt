@@ -5,13 +5,14 @@ ghost use Rattle.ap_defs.specs.Renaming.{local_names, local_vars, name_unless};
 ghost use Rattle.ap_defs.specs.Terms.{susp};
 ghost use Rattle.ap_defs.specs.Types.{kind_of, locals_of};
 ghost use Rattle.ap_defs.specs.declared.terms.Name.{Name as name};
-ghost use Rattle.ap_derive.specs.Nodes.{atom, names_with, selected_node};
+ghost use Rattle.ap_bundle.specs.Nodes.{atom};
+ghost use Rattle.ap_derive.specs.Nodes.{names_with, selected_node};
 
-use ap_backchain::renaming::vars_of_locals;
 use ap_defs::goals::{Kind, Local};
 use ap_defs::lists::List;
 use ap_defs::memory::Memory;
 use ap_defs::terms::{Name, Var};
+use ap_machine::renaming::vars_of_locals;
 use std::alloc::Global;
 
 /// A goal that was selected: its node in the derivation, in which variables stand for themselves,

@@ -4,21 +4,21 @@ ghost use Rattle.std.specs.Prelude.{◌≡◌, ℕ, ◌∷◌, None, Some, IfOk,
 ghost use Rattle.std.specs.Option.{option_map};
 ghost use Rattle.ap_defs.specs.Goals.{Clauses, atom as atom_goal, either, goal_of, program_in};
 ghost use Rattle.ap_defs.specs.Renaming.{AreBelow, IsGoalBelow, rename_goal};
-ghost use Rattle.ap_backchain.specs.Below.{AreClausesBelow};
-ghost use Rattle.ap_backchain.specs.Machines.{next_of, position_of};
-ghost use Rattle.ap_backchain.specs.Positions.{with_goal};
+ghost use Rattle.ap_machine.specs.Below.{AreClausesBelow};
+ghost use Rattle.ap_machine.specs.Machines.{next_of, position_of};
+ghost use Rattle.ap_machine.specs.Positions.{with_goal};
 ghost use Rattle.ap_derive.specs.Nodes.{DerivationNode, selected_node};
 ghost use Rattle.ap_derive.specs.Solved.{HasOneMoreChoice, IsSolved, Selects, frame_goal, node_of_goal, raised, rest_of, solved_at, with_frame};
 
 use crate::nodes::{SelectedGoal, selected_atom};
-use ap_backchain::clauses::{clauses_at, enter_clause};
-use ap_backchain::frames::Frame;
-use ap_backchain::machine::Machine;
-use ap_backchain::turns::{Turn, turn_of_goal};
 use ap_defs::goals::Goal;
 use ap_defs::memory::Memory;
 use ap_defs::terms::{Name, Term, Var};
 use ap_index::predicate::Predicate;
+use ap_machine::frames::Frame;
+use ap_machine::machine::Machine;
+use ap_turns::clauses::{clauses_at, enter_clause};
+use ap_turns::turns::{Turn, turn_of_goal};
 use std::alloc::Global;
 
 /// The choice of the path that follows those on the way to the machine.

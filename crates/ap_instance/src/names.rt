@@ -29,13 +29,17 @@ pub struct Names {
 }
 
 /// Adds the names of terms.
-pub fn add_names_of_terms(names: &mut IndexSet<Name>, terms: &[Term]) -> Result<(), Memory>
+pub fn add_names_of_terms(
+    alloc: Global,
+    names: &mut IndexSet<Name>,
+    terms: &[Term],
+) -> Result<(), Memory>
     ensures { OnOk result (names.new.keys
         ≡ more_names names.old.keys (names_of_terms (map term_of terms.now))) }
 {
     let mut rest = terms;
     'adding: while let Some((term, others)) = rest.split_first() {
-        add_names(names, term)?;
+        add_names(alloc, names, term)?;
         rest = others;
     }
     Ok(())
@@ -60,7 +64,7 @@ pub fn names_of_answer(alloc: Global, locals: &[Local], answer: &Answer) -> Resu
 {
     let mut known = free_names(alloc, locals)?;
     let free = known.len();
-    add_names_of_terms(&mut known, answer.binds.items())?;
+    add_names_of_terms(alloc, &mut known, answer.binds.items())?;
     add_names_of_conds(&mut known, answer.conds.items())?;
     Ok(Names {
         known,

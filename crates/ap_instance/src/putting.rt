@@ -15,13 +15,13 @@ ghost use Rattle.ap_property.specs.Stated.{Instance};
 
 use crate::parts::{conclusion_of, copy_locals};
 use crate::stating::Stated;
-use ap_backchain::renaming::vars_of_locals;
 use ap_defs::copies::copy_term;
 use ap_defs::goals::{Goal, Kind, Local, Query};
 use ap_defs::lists::{List, Text};
 use ap_defs::memory::Memory;
 use ap_defs::spines::{GoalLayer, close_goal};
 use ap_defs::terms::{Term, Var};
+use ap_machine::renaming::vars_of_locals;
 use std::alloc::Global;
 
 /// A variable is equal to a copy of a term.

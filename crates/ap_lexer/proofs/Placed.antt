@@ -1,14 +1,11 @@
 -- The tokens that were found stand one after another, and each is the longest.
-use Rattle.std.proofs.Common.{◌≡◌, ℕ, zero, suc, ◌+◌, ◌-◌, ◌<◌, ◌≤◌, List, [], ◌∷◌, ◌++◌, length, take, drop, map, Option, None, Some, refl, ap, subst, arith, append-nil}
+use Rattle.std.proofs.Common.{◌≡◌, ℕ, zero, suc, ◌+◌, ◌-◌, ◌<◌, ◌≤◌, List, [], ◌∷◌, ◌++◌, length, take, drop, Some, sym, ap, ◌∙◌, subst, arith}
 use Rattle.std.proofs.lemmas.List.Elements.{All-append, All-nil}
 use Rattle.std.specs.List.{All}
-use Rattle.std.specs.Str.{IsUtf8}
 use Rattle.ap_lexer.specs.declared.pieces.Piece.{Piece}
 use Rattle.ap_lexer.specs.declared.token.TokenKind.{TokenKind}
-use Rattle.ap_lexer.specs.Pieces.{piece_at}
-use Rattle.ap_lexer.specs.Tokens.{Lexeme, lexeme_at, span_of}
-use Rattle.ap_lexer.specs.Laws.{IsLongest, TakesLongest, Ascend, IsTokenOf, AreTokensOf}
-use Rattle.ap_lexer.proofs.Longest.{takes_longest}
+use Rattle.ap_lexer.specs.Tokens.{Lexeme, line_at}
+use Rattle.ap_lexer.specs.Laws.{IsLongest, TakesLongestOf, Ascend, IsTokenOf, AreTokensOf}
 
 -- the tokens that were found up to a place
 pub record Placed (bs : List ℕ) (found : List Lexeme) (place : ℕ) : Type 0 where
@@ -30,33 +27,28 @@ All-one : {X : Type 0} (P : X → Type 0) (x : X) → P x → All P (x ∷ [])
 All-one P x holds zero d lt = holds
 All-one P x holds (suc k) d lt = absurd (omega arith)
 
+-- what a piece that is taken says of its token
+longest_of : (rest : List ℕ) (p : Piece) (kind : TokenKind) → TakesLongestOf rest p.kind p.len → p.kind ≡ Some kind → IsLongest rest kind p.len
+longest_of rest p kind h e = subst (λ k. TakesLongestOf rest k p.len) e h
+
 -- the token of a piece is the longest at its place
-token_is : (bs rest : List ℕ) (place len : ℕ) (kind : TokenKind) → IsUtf8 rest → rest ≡ drop place bs → piece_at rest ≡ Some (record { kind = Some kind; len = len })
-    → IsTokenOf bs (lexeme_at bs (record { kind = kind; start = place; len = len }))
-token_is bs rest place len kind text rest_is piece =
-    let same : len ≡ place + len - place = omega arith in
-    let longest : IsLongest rest kind len = subst (TakesLongest rest) piece (takes_longest rest text) in
+pub token_is : (bs rest : List ℕ) (place : ℕ) (p : Piece) (t : Lexeme) → rest ≡ drop place bs → TakesLongestOf rest p.kind p.len → p.kind ≡ Some t.kind
+    → t.start ≡ place → t.end ≡ place + p.len → t.text ≡ take p.len rest → t.line ≡ line_at bs place → IsTokenOf bs t
+token_is bs rest place p t r taken kind start end text line =
+    let len : p.len ≡ t.end - t.start = omega (arith, start, end) in
+    let here : rest ≡ drop t.start bs = r ∙ ap (λ n. drop n bs) (sym start) in
     record {
-      slice = ap (λ n. take n (drop place bs)) same;
-      line = refl;
-      longest = subst (λ n. IsLongest (drop place bs) kind n) same (subst (λ r. IsLongest r kind len) rest_is longest);
+      slice = text ∙ ap (λ n. take n rest) len ∙ ap (take (t.end - t.start)) here;
+      line = line ∙ ap (line_at bs) (sym start);
+      longest = subst (λ n. IsLongest (drop t.start bs) t.kind n) len (subst (λ r. IsLongest r t.kind p.len) here (longest_of rest p t.kind taken kind));
     }
 
-placed_at : (bs rest : List ℕ) (found : List Lexeme) (place len : ℕ) (kind : Option TokenKind) → Placed bs found place → IsUtf8 rest → rest ≡ drop place bs → piece_at rest ≡ Some (record { kind = kind; len = len }) → 0 < len
-    → Placed bs (found ++ map (lexeme_at bs) (span_of place (record { kind = kind; len = len }))) (place + len)
-placed_at bs rest found place len None placed text rest_is piece some =
-    rw append-nil (record { ascend = ascend_up 0 place (place + len) found placed.ascend (omega arith); each = placed.each })
-placed_at bs rest found place len (Some kind) placed text rest_is piece some =
-    let t : Lexeme = lexeme_at bs (record { kind = kind; start = place; len = len }) in
-    record {
-      ascend = ascend_on 0 place found t placed.ascend (omega arith) (omega arith);
-      each = All-append (IsTokenOf bs) found (t ∷ []) placed.each (All-one (IsTokenOf bs) t (token_is bs rest place len kind text rest_is piece));
-    }
-
--- a piece further
-pub placed_on : (bs rest : List ℕ) (found : List Lexeme) (place : ℕ) (p : Piece) → Placed bs found place → IsUtf8 rest → rest ≡ drop place bs → piece_at rest ≡ Some p → 0 < p.len
-    → Placed bs (found ++ map (lexeme_at bs) (span_of place p)) (place + p.len)
-placed_on bs rest found place p placed text rest_is piece some = placed_at bs rest found place p.len p.kind placed text rest_is piece some
+-- a token further
+pub placed_on : (bs : List ℕ) (found : List Lexeme) (place : ℕ) (t : Lexeme) → Placed bs found place → IsTokenOf bs t → place ≤ t.start → t.start < t.end → Placed bs (found ++ t ∷ []) t.end
+placed_on bs found place t placed one next some = record {
+  ascend = ascend_on 0 place found t placed.ascend next some;
+  each = All-append (IsTokenOf bs) found (t ∷ []) placed.each (All-one (IsTokenOf bs) t one);
+}
 
 -- at the end
 pub placed_all : (bs : List ℕ) (found : List Lexeme) (place : ℕ) → Placed bs found place → place ≤ length bs → AreTokensOf bs found

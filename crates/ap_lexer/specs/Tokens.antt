@@ -52,12 +52,26 @@ line_at bs place = 1 + count_by (λ b. b == 10) (take place bs)
 abbrev pub lexeme_at : List ℕ → Span → Lexeme
 lexeme_at bs s = record { kind = s.kind; text = take s.len (drop s.start bs); start = s.start; end = s.start + s.len; line = line_at bs s.start }
 
+-- the tokens of a text from a place on
+abbrev pub lexemes_from : List ℕ → ℕ → List Lexeme
+lexemes_from bs place = map (lexeme_at bs) (scan_from place 0 (drop place bs)).spans
+
 abbrev pub lexemes_of : List ℕ → List Lexeme
 lexemes_of bs = map (lexeme_at bs) (scan_from 0 0 bs).spans
 
 -- the token `.`, which ends an item
 abbrev pub is_dot : Lexeme → Bool
 is_dot t = bytes_eq t.text (codes ".")
+
+-- the tokens of the first item, with the `.` that ends it, or all where none does
+abbrev pub item_front : List Lexeme → List Lexeme
+item_front [] = []
+item_front (t ∷ ts) = t ∷ (if is_dot t then [] else item_front ts)
+
+-- the tokens after it
+abbrev pub after_item : List Lexeme → List Lexeme
+after_item [] = []
+after_item (t ∷ ts) = if is_dot t then ts else after_item ts
 
 -- the item of what comes after these tokens
 abbrev pub item_after : List Lexeme → ℕ

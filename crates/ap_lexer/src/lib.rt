@@ -6,10 +6,12 @@
 //! `proofs/Scans.antt` how one follows another.
 #![tactic(auto)]
 
+mod cursor;
 mod pieces;
 mod scan;
 mod token;
 
+pub use cursor::Cursor;
 pub use pieces::takes_longest;
-pub use scan::lex;
+pub use scan::{count_dots, item_tokens, lex};
 pub use token::{LexError, Token, TokenKind};

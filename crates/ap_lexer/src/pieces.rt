@@ -185,8 +185,17 @@ fn split_first(text: &str) -> Option<(char, &str)>
     Some((first, chars.as_str()))
 }
 
+/// The piece that begins the text, if one does, with the longest token if it is one.
+pub fn longest_piece_at(text: &str) -> Option<Piece>
+    ensures value { result ≡ spec.piece_at text.now }
+    ensures cut { IfSome result (λ p. (0 < p.len) × IsCharBoundary text.now p.len) }
+    ensures longest { TakesLongest text.now result }
+{
+    piece_at(text)
+}
+
 /// The piece that begins the text, if one does.
-pub fn piece_at(text: &str) -> Option<Piece>
+fn piece_at(text: &str) -> Option<Piece>
     ensures value { result ≡ spec.piece_at text.now }
     ensures cut { IfSome result (λ p. (0 < p.len) × IsCharBoundary text.now p.len) }
 {

@@ -1,76 +1,47 @@
-// The tokens of a text, one piece after another.
-ghost use Rattle.std.specs.Prelude.{◌≡◌, ◌≤◌, ◌+◌, IfOk, length, take, map, count_by, ◌==◌};
+// The tokens of a text, one after another.
+ghost use Rattle.std.specs.Prelude.{◌≡◌, ◌≤◌, ◌+◌, [], IfOk, OnOk, length, count_by};
 ghost use Rattle.ap_defs.specs.Limits.{size_limit};
 ghost use Rattle.ap_lexer.specs.Laws.{AreTokensOf};
-ghost use Rattle.ap_lexer.specs.Tokens.{GivesLexemes, lexed, lexemes, lexemes_of, scan_from, line_at, is_dot, lexeme};
+ghost use Rattle.ap_lexer.specs.Cursors.{HasStopped, lexemes_left};
+ghost use Rattle.ap_lexer.specs.Tokens.{GivesLexemes, lexed, lexemes, lexemes_of, is_dot, item_front, after_item};
 
-use crate::pieces::{piece_at, text_front};
+use crate::cursor::Cursor;
 use crate::token::{LexError, Token};
-use ap_defs::faults::{Place, SyntaxFault, SyntaxKind};
 use std::alloc::{AllocError, Global};
 
-/// The tokens up to the place at which nothing begins, and that place with its line.
+/// The tokens of a text, and the place at which nothing begins.
 #[derive(Drop)]
 struct Scanned<'a> {
     tokens: Vec<Token<'a>>,
-    place: usize,
-    line: u64,
-}
-
-/// How many LFs there are.
-fn count_lines(text: &str) -> usize
-    ensures value { result ≡ count_by (λ b. b == 10) text.now }
-    ensures bound { result ≤ length text.now }
-{
-    text.as_bytes()
-        .iter()
-        .filter(|byte| **byte == b'\n')
-        .count()
+    end: Cursor<'a>,
 }
 
 /// The tokens of a text.
-fn scan(alloc: Global, text: &str) -> Result<Scanned<'_>, AllocError>
+fn scan(alloc: Global, text: &[u8]) -> Result<Scanned<'_>, AllocError>
     requires { length text.now ≤ size_limit }
-    ensures tokens { IfOk result (λ s. lexemes s.tokens.items ≡ lexemes_of text.now) }
-    ensures place { IfOk result (λ s. (s.place ≡ (scan_from 0 0 text.now).stop)
-        × (s.place ≤ length text.now)) }
-    ensures line { IfOk result (λ s. s.line ≡ line_at text.now s.place) }
+    ensures whole { IfOk result (λ s. s.end.whole.now ≡ text.now) }
+    ensures tokens { IfOk result (λ s. lexemes s.tokens.items ≡ lexemes_of s.end.text.now) }
+    ensures stop { IfOk result (λ s. HasStopped s.end) }
     ensures few { IfOk result (λ s. length s.tokens.items ≤ length text.now) }
-    ensures longest { IfOk result (λ s. AreTokensOf text.now (lexemes s.tokens.items)) }
+    ensures longest { IfOk result (λ s. AreTokensOf s.end.text.now (lexemes s.tokens.items)) }
 {
     let mut tokens = Vec::new(alloc);
-    let mut place = 0;
-    let mut line = 1;
-    let mut rest = text;
-    while let Some(piece) = piece_at(rest) {
-        let (front, back) = rest.split_at(piece.len);
-        let end = place + piece.len;
-        if let Some(kind) = piece.kind {
-            tokens.push(Token {
-                kind,
-                text: front,
-                start: place as u64,
-                end: end as u64,
-                line,
-            })?;
-        }
-        line += count_lines(front) as u64;
-        place = end;
-        rest = back;
+    let mut cursor = Cursor::of(text);
+    while let Some(token) = cursor.token() {
+        tokens.push(token)?;
     }
     Ok(Scanned {
         tokens,
-        place,
-        line,
+        end: cursor,
     })
 }
 
 /// How many `.` there are.
-fn count_dots(tokens: &[Token<'_>]) -> usize
+pub fn count_dots(tokens: &[Token<'_>]) -> usize
     ensures value { result ≡ count_by is_dot (lexemes tokens.now) }
     ensures bound { result ≤ length tokens.now }
 {
-    tokens.iter().filter(|token| token.text == ".").count()
+    tokens.iter().filter(|token| token.ends_item()).count()
 }
 
 /// The tokens of a text, in order, by the longest token at each place.
@@ -78,30 +49,35 @@ fn count_dots(tokens: &[Token<'_>]) -> usize
 /// Between tokens stand spaces, tabs, CRs and LFs, and comments from `%` to the next LF or the end
 /// of the text. A text that has anything else is faulty at the first byte at which nothing begins,
 /// also where the bytes of a comment aren't UTF-8.
-#[tactic(auto, unfolding(crate::specs::Tokens::lexed))]
 pub fn lex(alloc: Global, text: &[u8]) -> Result<Vec<Token<'_>>, LexError>
     requires { length text.now ≤ size_limit }
     ensures read { GivesLexemes (λ v. lexemes v.items) result (lexed text.now) }
     ensures longest { IfOk result (λ v. AreTokensOf text.now (lexemes v.items)) }
 {
-    let front = text_front(text);
-    let Scanned {
-        tokens,
-        place,
-        line,
-    } = scan(alloc, front)?;
-    if place == text.len() {
-        return Ok(tokens);
+    let Scanned { tokens, end } = scan(alloc, text)?;
+    match end.fault(1 + count_dots(&tokens) as u32) {
+        None => Ok(tokens),
+        Some(fault) => Err(LexError::Fault(fault)),
     }
-    Err(LexError::Fault(SyntaxFault {
-        place: Place {
-            item: 1 + count_dots(&tokens) as u32,
-            line,
-        },
-        kind: if place == front.len() {
-            SyntaxKind::NotUtf8
-        } else {
-            SyntaxKind::Character
-        },
-    }))
+}
+
+/// The tokens of the next item, with the `.` that ends it, behind which the cursor then stands.
+///
+/// They are all tokens that are left where no `.` comes, and then it stands where nothing begins. `Err`
+/// is want of memory.
+pub fn item_tokens<'a>(alloc: Global, cursor: &mut Cursor<'a>) -> Result<Vec<Token<'a>>, AllocError>
+    ensures whole { OnOk result (cursor.new.whole ≡ cursor.old.whole) }
+    ensures text { OnOk result (cursor.new.text ≡ cursor.old.text) }
+    ensures tokens { IfOk result (λ v. lexemes v.items ≡ item_front (lexemes_left cursor.old)) }
+    ensures left { OnOk result (lexemes_left cursor.new ≡ after_item (lexemes_left cursor.old)) }
+    ensures stop { IfOk result (λ v. v.items ≡ [] → HasStopped cursor.new) }
+{
+    let mut tokens = Vec::new(alloc);
+    while let Some(token) = cursor.token() {
+        tokens.push(token)?;
+        if token.ends_item() {
+            return Ok(tokens);
+        }
+    }
+    Ok(tokens)
 }

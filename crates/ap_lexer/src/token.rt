@@ -31,6 +31,17 @@ pub struct Token<'a> {
     pub line: u64,
 }
 
+impl Token<'_> {
+    ghost use Rattle.ap_lexer.specs.Tokens.{is_dot, lexeme};
+
+    /// Whether it is the `.` that ends an item.
+    pub fn ends_item(&self) -> bool
+        ensures { result ≡ is_dot (lexeme self.now) }
+    {
+        matches!(self.text.as_bytes(), [b'.'])
+    }
+}
+
 /// Why a text gives no tokens.
 #[derive(Clone, Copy, Debug, PartialEq, Eq)]
 pub enum LexError {

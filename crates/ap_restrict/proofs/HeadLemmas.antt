@@ -19,10 +19,10 @@ use Rattle.ap_theory.specs.Contexts.{Context, Fresh}
 use Rattle.ap_theory.proofs.BooleanLemmas.{and_left, and_right, and_both, or_right, or_cases, or_if_left, or_if_right, false_if_not}
 use Rattle.ap_theory.proofs.PermutationLemmas.{act_sort, name_decided, name_eq_itself, not_name}
 use Rattle.ap_program.specs.NameRestriction.{CannotHold, known_in, FreshForEach, IsFreshForHead}
-use Rattle.ap_restrict.specs.declared.facts.Fact.{Fact}
-use Rattle.ap_restrict.specs.Facts.{facts_of, HasSame}
+use Rattle.ap_facts.specs.declared.facts.Fact.{Fact}
+use Rattle.ap_facts.specs.Facts.{facts_of, HasSame}
 use Rattle.ap_restrict.specs.Heads.{bars, is_known, fresh_by, fresh_by_each, clause_of_head}
-use Rattle.ap_restrict.proofs.FactLemmas.{facts_stated}
+use Rattle.ap_facts.proofs.FactLemmas.{facts_stated}
 
 -- a test that is true of just what is known of names of one sort
 record Tells (known : Context) (test : Name → Var → Bool) (sort : ℕ) : Type 0 where

@@ -2,7 +2,6 @@ pub mod PlaceLemmas
 pub mod CarryingLemmas
 pub mod KindLemmas
 pub mod TableLemmas
-pub mod FactLemmas
 pub mod HeadLemmas
 pub mod NameLemmas
 pub mod ItemLemmas

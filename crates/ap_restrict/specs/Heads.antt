@@ -12,8 +12,8 @@ use Rattle.ap_types.specs.declared.holding.Holding.{Holding}
 use Rattle.ap_types.specs.Holding.{holds_if}
 use Rattle.ap_types.specs.Tables.{IsHoldingTable}
 use Rattle.ap_program.specs.NameRestriction.{AreFreshForHead, IsFirstNotFresh}
-use Rattle.ap_restrict.specs.declared.facts.Fact.{Fact}
-use Rattle.ap_restrict.specs.Facts.{has_fact}
+use Rattle.ap_facts.specs.declared.facts.Fact.{Fact}
+use Rattle.ap_facts.specs.Facts.{has_fact}
 
 -- the variable's type, by its kind, can't hold names of the sort
 abbrev pub bars : ℕ → (ℕ → Bool) → Option NominalKind → Bool

@@ -1,5 +1,4 @@
 pub mod Places
-pub mod Facts
 pub mod Heads
 pub mod Scans
 pub mod Outcomes

@@ -10,15 +10,15 @@ ghost use Rattle.ap_types.specs.Rounds.{marked};
 ghost use Rattle.ap_program.specs.NameRestriction.{IsFreshForHead};
 ghost use Rattle.ap_program.specs.FreeLocals.{free_sort};
 ghost use Rattle.ap_defs.specs.Answers.{kind_at};
-ghost use Rattle.ap_restrict.specs.Facts.{HasSame, facts_of};
+ghost use Rattle.ap_facts.specs.Facts.{HasSame, facts_of};
 ghost use Rattle.ap_restrict.specs.Heads as spec;
 ghost use Rattle.ap_restrict.specs.Heads.{bars, is_known, fresh_by, fresh_by_each, AreTables, clause_of_head, IsFirstUnfresh};
 
-use crate::facts::{Fact, has, known_facts};
 use crate::tables::table_of;
 use ap_defs::goals::{Goal, Kind, Local, Signature};
 use ap_defs::memory::Memory;
 use ap_defs::terms::{Name, Term, Var};
+use ap_facts::facts::{Fact, has, known_facts};
 use ap_perm::swappings::preimage;
 use ap_types::holding::{Holding, holds, types_holding};
 use std::alloc::Global;

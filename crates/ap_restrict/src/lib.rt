@@ -3,7 +3,6 @@
 
 mod carrying;
 pub mod errors;
-mod facts;
 mod heads;
 mod items;
 mod places;

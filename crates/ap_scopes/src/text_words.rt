@@ -1,16 +1,14 @@
 //! The words and variables of a text.
-ghost use Rattle.std.specs.Prelude.{◌≡◌, ◌++◌, OnOk, IfOk};
+ghost use Rattle.std.specs.Prelude.{◌≡◌, ◌++◌, OnOk};
 ghost use Rattle.ap_trees.specs.Trees as trees;
-ghost use Rattle.ap_trees.specs.Trees.{term_of, terms_of, trees_of, goal_of_tree, types_of, form_of, items_of_text, name_of_binder};
+ghost use Rattle.ap_trees.specs.Trees.{term_of, terms_of, trees_of, goal_of_tree, types_of, form_of, name_of_binder};
 ghost use Rattle.ap_scopes.specs.Words as spec;
 ghost use Rattle.ap_scopes.specs.Words.{with_words};
 ghost use Rattle.ap_scopes.specs.Views.{words_in};
 
 use crate::words::Words;
-use ap_defs::lists::{List, Text};
 use ap_defs::memory::Memory;
-use ap_trees::{Args, Binder, Form, GoalTree, Item, Tree, TypeTree};
-use std::alloc::Global;
+use ap_trees::{Args, Binder, Form, GoalTree, Tree, TypeTree};
 
 fn spelled<'a>(binder: Binder<'a>) -> &'a str
     ensures { result.now ≡ spec.spelled_name (name_of_binder binder.entry) }
@@ -177,9 +175,10 @@ fn add_goal<'a>(words: &mut Words<'a>, goal: &GoalTree<'a>) -> Result<(), Memory
     }
 }
 
-/// The words of what an item says.
+/// The words and variables of what an item says, in their order there, each put behind the words that there
+/// are unless it is one of them. `Err` is want of memory.
 #[tactic(auto, using(crate::proofs::Tables::with_words_append))]
-fn add_form<'a>(words: &mut Words<'a>, form: &Form<'a>) -> Result<(), Memory>
+pub fn add_form<'a>(words: &mut Words<'a>, form: &Form<'a>) -> Result<(), Memory>
     ensures { OnOk result (words_in words.new
         ≡ with_words (words_in words.old) (spec.saying_words (form_of form.now))) }
 {
@@ -205,17 +204,4 @@ fn add_form<'a>(words: &mut Words<'a>, form: &Form<'a>) -> Result<(), Memory>
         }
         Form::Query(goal) => add_goal(words, goal),
     }
-}
-
-/// The words and variables of a text, each once, in the order in which they first stand there. `Err` is
-/// want of memory.
-#[tactic(auto, using(crate::proofs::Tables::with_words_append, std::proofs::lemmas::Grind::common_steps))]
-pub fn words_of(alloc: Global, items: &[Item<'_>]) -> Result<List<Text>, Memory>
-    ensures { IfOk result (λ ts. ts ≡ spec.words_of (items_of_text items.now)) }
-{
-    let mut words = Words::new(alloc);
-    for item in items {
-        add_form(&mut words, &item.form)?;
-    }
-    words.texts(alloc)
 }

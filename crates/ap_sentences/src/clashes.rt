@@ -1,10 +1,11 @@
 //! What is said where no types fit.
 ghost use Rattle.std.specs.Prelude.{◌≡◌};
 
-use crate::declared::{Declared, Entry};
+use crate::declared::Entry;
+use crate::slots::{Cause, Clash};
 use crate::subject::{COMPARED, Subject, note_declared, say_declared};
 use crate::types::Shape;
-use crate::typing::{Cause, Clash, Typing, applied_space};
+use crate::typing::{Typing, applied_space};
 use crate::written::say_kind;
 use ap_defs::memory::Memory;
 use ap_lexer::Token;
@@ -43,7 +44,7 @@ fn say_what(message: &mut Message, tokens: &[Token<'_>], node: Node) {
 /// Whether a node is a name: a word that is no constructor.
 fn is_name(typing: &Typing<'_, '_>, node: Node) -> bool {
     let word = text_at(typing.tokens, node.first);
-    node.form == Form::Word && typing.declared.constructors.get(word).is_none()
+    node.form == Form::Word && typing.words.constructors.get(word).is_none()
 }
 
 /// The node, or the largest one round it of which it is a part by abstractions, tuples and lists alone.
@@ -68,7 +69,7 @@ fn argument_of<'a>(typing: &Typing<'_, 'a>, nodes: &[Node], node: Node) -> Optio
     let over = node_at(nodes, above.parent).form;
     let space = applied_space(over == Form::Atom || over == Form::Head);
     typing
-        .declared
+        .words
         .entry(space, text_at(typing.tokens, above.first))
 }
 
@@ -163,7 +164,7 @@ fn note_given(
     let node = node_at(nodes, place);
     let is_word = node.form == Form::Word || node.form == Form::Apply;
     let word = text_at(typing.tokens, node.first);
-    match typing.declared.constructors.get(word) {
+    match typing.words.constructors.get(word) {
         Some((_, entry)) if is_word => note_declared(message, subject, entry),
         _ if is_word || node.form == Form::Variable || node.form == Form::Binder => {
             note_first(message, subject, typing, nodes, place);
@@ -173,18 +174,16 @@ fn note_given(
 }
 
 /// The constructor that is spelled most like a name, of those that make terms of a type alone.
-fn meant<'a>(declared: &mut Declared<'a>, word: &'a str, wanted: Shape) -> Option<&'a str> {
+fn meant<'a>(typing: &Typing<'_, 'a>, word: &'a str, wanted: Shape) -> Option<&'a str> {
     let mut nearest = Nearest::new(word);
     let mut only = None;
     let mut count: usize = 0;
-    for place in 0..declared.constructors.entries().len() {
-        if let Some(entry) = declared.constructors.at(place) {
-            let fits = entry.count == 0 && declared.types.shape(entry.result) == wanted;
-            if fits && count < COMPARED {
-                nearest.compare(entry.word);
-                only = Some(entry.word);
-                count = count.saturating_add(1);
-            }
+    for entry in typing.words.constructors.entries() {
+        let fits = entry.count == 0 && typing.slots.types.shape(entry.result) == wanted;
+        if fits && count < COMPARED {
+            nearest.compare(entry.word);
+            only = Some(entry.word);
+            count = count.saturating_add(1);
         }
     }
     match nearest.found() {
@@ -201,14 +200,14 @@ fn begins_ascii(word: &str) -> bool {
 }
 
 /// Labels a name where a term of a data type is wanted, and notes what may be meant.
-fn label_name<'a>(message: &mut Message, typing: &mut Typing<'_, 'a>, token: usize, wanted: Shape) {
+fn label_name<'a>(message: &mut Message, typing: &Typing<'_, 'a>, token: usize, wanted: Shape) {
     let word = text_at(typing.tokens, token);
     message.label(&[
         Piece::Text("no constructor `"),
         Piece::Word(word),
         Piece::Text("` is declared"),
     ]);
-    match meant(&mut typing.declared, word, wanted) {
+    match meant(typing, word, wanted) {
         Some(near) => {
             message.note(&[
                 Piece::Text("is `"),
@@ -226,23 +225,35 @@ fn label_name<'a>(message: &mut Message, typing: &mut Typing<'_, 'a>, token: usi
 /// What is said where the types with two numbers differ at a node.
 fn types_message(
     alloc: Global,
-    typing: &mut Typing<'_, '_>,
+    typing: &Typing<'_, '_>,
     node: Node,
     wanted: usize,
     given: usize,
 ) -> Message {
     let mut message = Message::new(alloc, span_between(typing.tokens, node.first, node.last));
     message.say(&[Piece::Text("a term of ")]);
-    say_kind(&mut message, alloc, &mut typing.declared, wanted);
+    say_kind(
+        &mut message,
+        alloc,
+        &typing.words,
+        &typing.slots.types,
+        wanted,
+    );
     message.say(&[Piece::Text(" is wanted here, and ")]);
     say_what(&mut message, typing.tokens, node);
     if is_name(typing, node) {
         message.say(&[Piece::Text(" is a name")]);
-        let shape = typing.declared.types.shape(wanted);
+        let shape = typing.slots.types.shape(wanted);
         label_name(&mut message, typing, node.first, shape);
     } else {
         message.say(&[Piece::Text(" is of ")]);
-        say_kind(&mut message, alloc, &mut typing.declared, given);
+        say_kind(
+            &mut message,
+            alloc,
+            &typing.words,
+            &typing.slots.types,
+            given,
+        );
     }
     message
 }
@@ -261,20 +272,16 @@ fn constructor_message(
         Piece::Word(word),
         Piece::Text("` is a constructor"),
     ]);
-    if let Some((_, entry)) = typing.declared.constructors.get(word) {
+    if let Some((_, entry)) = typing.words.constructors.get(word) {
         note_declared(&mut message, subject, entry);
     }
     message
 }
 
 /// The first token of the first variable or name whose type is a part of itself, or the item's.
-fn endless_token(
-    alloc: Global,
-    typing: &mut Typing<'_, '_>,
-    nodes: &[Node],
-) -> Result<usize, Memory> {
+fn endless_token(alloc: Global, typing: &Typing<'_, '_>, nodes: &[Node]) -> Result<usize, Memory> {
     for ident in typing.idents.all() {
-        if typing.declared.types.is_endless(alloc, ident.slot)? {
+        if typing.slots.types.is_endless(alloc, ident.slot)? {
             return Ok(node_at(nodes, ident.node).first);
         }
     }
@@ -284,7 +291,7 @@ fn endless_token(
 /// What is said where types would contain themselves.
 fn endless_message(
     alloc: Global,
-    typing: &mut Typing<'_, '_>,
+    typing: &Typing<'_, '_>,
     nodes: &[Node],
 ) -> Result<Message, Memory> {
     let token = endless_token(alloc, typing, nodes)?;
@@ -300,10 +307,10 @@ fn endless_message(
 pub fn explain_clash(
     alloc: Global,
     subject: Subject<'_, '_>,
-    typing: &mut Typing<'_, '_>,
+    typing: &Typing<'_, '_>,
     nodes: &[Node],
 ) -> Result<Message, Memory> {
-    let Some(Clash { node: place, cause }) = typing.clash else {
+    let Some(Clash { node: place, cause }) = typing.slots.clash else {
         return endless_message(alloc, typing, nodes);
     };
     let node = node_at(nodes, place);

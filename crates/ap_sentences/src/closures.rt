@@ -1,7 +1,7 @@
 //! What holds of data types by their constructors.
 ghost use Rattle.std.specs.Prelude.{◌≡◌};
 
-use crate::declared::{Declared, Entry};
+use crate::declared::{Entry, Words};
 use crate::types::{Parts, Shape, Types};
 use ap_defs::memory::Memory;
 use std::alloc::Global;
@@ -52,7 +52,7 @@ impl Question {
     pub fn answer(
         self,
         alloc: Global,
-        types: &mut Types,
+        types: &Types,
         answers: &[bool],
         number: usize,
     ) -> Result<bool, Memory> {
@@ -69,7 +69,7 @@ impl Question {
     fn by_constructor(
         self,
         alloc: Global,
-        types: &mut Types,
+        types: &Types,
         answers: &[bool],
         entry: Entry<'_>,
     ) -> Result<bool, Memory> {
@@ -86,7 +86,7 @@ impl Question {
     fn add_constructor(
         self,
         alloc: Global,
-        types: &mut Types,
+        types: &Types,
         answers: &mut Vec<bool>,
         entry: Entry<'_>,
     ) -> Result<bool, Memory> {
@@ -107,12 +107,13 @@ impl Question {
     fn one_round(
         self,
         alloc: Global,
-        declared: &mut Declared<'_>,
+        words: &Words<'_>,
+        types: &Types,
         answers: &mut Vec<bool>,
     ) -> Result<bool, Memory> {
         let mut changed = false;
-        for entry in declared.constructors.entries() {
-            if self.add_constructor(alloc, &mut declared.types, answers, *entry)? {
+        for entry in words.constructors.entries() {
+            if self.add_constructor(alloc, types, answers, *entry)? {
                 changed = true;
             }
         }
@@ -122,11 +123,12 @@ impl Question {
     fn all_rounds(
         self,
         alloc: Global,
-        declared: &mut Declared<'_>,
+        words: &Words<'_>,
+        types: &Types,
         answers: &mut Vec<bool>,
     ) -> Result<(), Memory> {
         for _ in 0..ROUNDS {
-            if !self.one_round(alloc, declared, answers)? {
+            if !self.one_round(alloc, words, types, answers)? {
                 return Ok(());
             }
         }
@@ -134,12 +136,17 @@ impl Question {
     }
 
     /// The answers for the declared types, by their places.
-    pub fn answers(self, alloc: Global, declared: &mut Declared<'_>) -> Result<Vec<bool>, Memory> {
+    pub fn answers(
+        self,
+        alloc: Global,
+        words: &Words<'_>,
+        types: &Types,
+    ) -> Result<Vec<bool>, Memory> {
         let mut answers = Vec::new(alloc);
-        for entry in declared.type_words.entries() {
+        for entry in words.types.entries() {
             answers.push(entry.is_name && self == Question::HasTerm)?;
         }
-        self.all_rounds(alloc, declared, &mut answers)?;
+        self.all_rounds(alloc, words, types, &mut answers)?;
         Ok(answers)
     }
 }

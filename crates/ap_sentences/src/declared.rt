@@ -65,30 +65,28 @@ impl<'a> Table<'a> {
     }
 }
 
-/// All that is declared, and its types.
+/// The words that are declared.
 #[derive(Drop)]
-pub struct Declared<'a> {
-    pub type_words: Table<'a>,
+pub struct Words<'a> {
+    pub types: Table<'a>,
     pub constructors: Table<'a>,
     pub predicates: Table<'a>,
-    pub types: Types,
 }
 
-impl<'a> Declared<'a> {
-    /// Nothing is declared yet.
-    pub fn new(alloc: Global) -> Declared<'a> {
-        Declared {
-            type_words: Table::new(alloc),
+impl<'a> Words<'a> {
+    /// No words yet.
+    pub fn new(alloc: Global) -> Words<'a> {
+        Words {
+            types: Table::new(alloc),
             constructors: Table::new(alloc),
             predicates: Table::new(alloc),
-            types: Types::new(alloc),
         }
     }
 
     /// The words of one space.
     pub fn table(&self, space: Space) -> &Table<'a> {
         match space {
-            Space::Types => &self.type_words,
+            Space::Types => &self.types,
             Space::Constructors => &self.constructors,
             Space::Predicates => &self.predicates,
         }
@@ -103,19 +101,31 @@ impl<'a> Declared<'a> {
     }
 
     /// The shape of a type that is one word.
-    pub fn word_shape(&self, word: &str) -> Shape {
-        match self.type_words.get(word) {
-            Some((place, entry)) => {
-                if entry.is_name {
-                    Shape::Name(place)
-                } else {
-                    Shape::Data(place)
-                }
-            }
+    fn word_shape(&self, word: &str) -> Shape {
+        match self.types.get(word) {
+            Some((place, entry)) if entry.is_name => Shape::Name(place),
+            Some((place, _)) => Shape::Data(place),
             None => Shape::Open,
         }
     }
 
+    fn add(&mut self, space: Space, entry: Entry<'a>) -> Result<(), Memory> {
+        match space {
+            Space::Types => self.types.add(entry),
+            Space::Constructors => self.constructors.add(entry),
+            Space::Predicates => self.predicates.add(entry),
+        }
+    }
+}
+
+/// All that is declared, and its types.
+#[derive(Drop)]
+pub struct Declared<'a> {
+    pub words: Words<'a>,
+    pub types: Types,
+}
+
+impl<'a> Declared<'a> {
     fn declare(
         &mut self,
         alloc: Global,
@@ -124,7 +134,7 @@ impl<'a> Declared<'a> {
         space: Space,
         at: usize,
     ) -> Result<(), Memory> {
-        let entry = Entry {
+        let untyped = Entry {
             word: text_at(tokens, at),
             item,
             line: line_at(tokens, 0),
@@ -133,15 +143,18 @@ impl<'a> Declared<'a> {
             args: 0,
             result: 0,
         };
-        match space {
-            Space::Types => self.type_words.add(entry),
-            Space::Constructors => {
-                let entry = self.typed(alloc, tokens, entry)?;
-                self.constructors.add(entry)
-            }
-            Space::Predicates => {
-                let entry = self.typed(alloc, tokens, entry)?;
-                self.predicates.add(entry)
+        let entry = match space {
+            Space::Types => untyped,
+            _ => self.typed(alloc, tokens, untyped)?,
+        };
+        self.words.add(space, entry)
+    }
+
+    /// Adds what an item declares, if anything.
+    fn declare_item(&mut self, alloc: Global, part: &[Token<'a>], item: Range) {
+        if let Some((space, at)) = declared_word(part) {
+            if self.declare(alloc, part, item, space, at).is_err() {
+                self.types.lose();
             }
         }
     }
@@ -168,58 +181,44 @@ impl<'a> Declared<'a> {
     ) -> Result<Vec<usize>, Memory> {
         let mut bases: Vec<usize> = Vec::new(alloc);
         for node in nodes {
-            let base = self.types.add_many(node.count, Shape::Open)?;
+            let base = self.types.add_many(node.count, Shape::Open);
             let above = bases.get(node.parent).copied().unwrap_or(base);
             bases.push(base)?;
             let own = above.saturating_add(node.rank);
             if node.form != Form::Item {
-                self.type_node(tokens, *node, own, base)?;
+                self.type_node(tokens, *node, own, base);
             }
         }
         Ok(bases)
     }
 
     /// Gives the type of a node its shape.
-    fn type_node(
-        &mut self,
-        tokens: &[Token<'a>],
-        node: Node,
-        own: usize,
-        base: usize,
-    ) -> Result<(), Memory> {
-        match node.form {
-            Form::Word | Form::Binder => {
-                let shape = self.word_shape(text_at(tokens, node.first));
-                self.types.set(own, shape);
-            }
-            Form::Tuple => {
-                let shape = tuple_shape(&mut self.types, base, node.count)?;
-                self.types.set(own, shape);
-            }
-            Form::List => self.types.set(own, Shape::List(base)),
-            Form::Abs => self
-                .types
-                .set(own, Shape::Abs(base, base.saturating_add(1))),
-            _ => {}
-        }
-        Ok(())
+    fn type_node(&mut self, tokens: &[Token<'a>], node: Node, own: usize, base: usize) {
+        let shape = match node.form {
+            Form::Word | Form::Binder => self.words.word_shape(text_at(tokens, node.first)),
+            Form::Tuple => tuple_shape(&mut self.types, base, node.count),
+            Form::List => Shape::List(base),
+            Form::Abs => Shape::Abs(base, base.saturating_add(1)),
+            _ => return,
+        };
+        self.types.set(own, shape);
     }
 }
 
 /// The shape of a tuple of types whose numbers follow one another.
-pub fn tuple_shape(types: &mut Types, base: usize, count: usize) -> Result<Shape, Memory> {
+pub fn tuple_shape(types: &mut Types, base: usize, count: usize) -> Shape {
     if count == 0 {
-        return Ok(Shape::Unit);
+        return Shape::Unit;
     }
     if count == 1 {
-        return Ok(Shape::Link(base));
+        return Shape::Link(base);
     }
     let mut rest = base.saturating_add(count).saturating_sub(1);
     for back in 2..count {
         let part = base.saturating_add(count.saturating_sub(back));
-        rest = types.add(Shape::Pair(part, rest))?;
+        rest = types.add(Shape::Pair(part, rest));
     }
-    Ok(Shape::Pair(base, rest))
+    Shape::Pair(base, rest)
 }
 
 /// The entry with the types of the nodes of its declaration.
@@ -257,19 +256,19 @@ fn with_types<'a>(nodes: &[Node], bases: &[usize], entry: Entry<'a>) -> Entry<'a
     }
 }
 
-/// What the first items declare.
+/// What the first items declare. Where memory is wanting, its types are not whole.
 pub fn declared_by<'a>(
     alloc: Global,
     tokens: &[Token<'a>],
     ranges: &[Range],
     items: usize,
-) -> Result<Declared<'a>, Memory> {
-    let mut declared = Declared::new(alloc);
+) -> Declared<'a> {
+    let mut declared = Declared {
+        words: Words::new(alloc),
+        types: Types::new(alloc),
+    };
     for range in ranges.get(..items).unwrap_or(ranges) {
-        let part = tokens_in(tokens, *range);
-        if let Some((space, at)) = declared_word(part) {
-            declared.declare(alloc, part, *range, space, at)?;
-        }
+        declared.declare_item(alloc, tokens_in(tokens, *range), *range);
     }
-    Ok(declared)
+    declared
 }

@@ -1,7 +1,6 @@
 //! The names and variables of an item.
 ghost use Rattle.std.specs.Prelude.{◌≡◌};
 
-use ap_defs::memory::Memory;
 use ap_lexer::Token;
 use ap_located::items::text_at;
 use ap_located::nodes::{Form, LEVELS, Node, node_at};
@@ -17,7 +16,7 @@ pub struct Ident {
     pub is_name: bool,
 }
 
-/// The names and variables of an item.
+/// The names and variables of an item. Where memory is wanting for one, that is lost, and they are not whole.
 #[derive(Drop)]
 pub struct Idents<'a> {
     words: IndexSet<&'a str>,
@@ -26,6 +25,7 @@ pub struct Idents<'a> {
     // for each node that brings an identifier the place of that and the node
     brought: Vec<(usize, usize)>,
     all: Vec<Ident>,
+    whole: bool,
 }
 
 impl<'a> Idents<'a> {
@@ -36,6 +36,7 @@ impl<'a> Idents<'a> {
             free: Vec::new(alloc),
             brought: Vec::new(alloc),
             all: Vec::new(alloc),
+            whole: true,
         }
     }
 
@@ -44,27 +45,37 @@ impl<'a> Idents<'a> {
         self.all.as_slice()
     }
 
+    /// Whether none was lost.
+    pub fn is_whole(&self) -> bool {
+        self.whole
+    }
+
     /// Adds one that has no other places, or that the goal of a node brings.
-    pub fn add(&mut self, ident: Ident) -> Result<usize, Memory> {
+    pub fn add(&mut self, ident: Ident) -> usize {
         let place = self.all.len();
-        self.all.push(ident)?;
-        Ok(place)
+        if self.all.push(ident).is_err() {
+            self.whole = false;
+        }
+        place
     }
 
     /// Adds one that a goal brings.
-    pub fn bring(&mut self, goal: usize, ident: Ident) -> Result<(), Memory> {
-        let place = self.add(ident)?;
-        self.brought.push((goal, place))?;
-        Ok(())
+    pub fn bring(&mut self, goal: usize, ident: Ident) {
+        let place = self.add(ident);
+        if self.brought.push((goal, place)).is_err() {
+            self.whole = false;
+        }
     }
 
     /// Adds one that no goal brings.
-    pub fn add_free(&mut self, word: &'a str, ident: Ident) -> Result<(), Memory> {
-        let place = self.add(ident)?;
-        if self.words.insert(word)? {
-            self.free.push(place)?;
-        }
-        Ok(())
+    pub fn add_free(&mut self, word: &'a str, ident: Ident) {
+        let place = self.add(ident);
+        let kept = match self.words.insert(word) {
+            Ok(true) => self.free.push(place).is_ok(),
+            Ok(false) => true,
+            Err(_) => false,
+        };
+        self.whole = self.whole && kept;
     }
 
     /// The identifier that the goal of a node brings.

@@ -1,11 +1,11 @@
 //! What is said of a fault of an item.
 
 use crate::clashes::explain_clash;
-use crate::declared::{Declared, declared_by};
+use crate::declared::declared_by;
 use crate::kinds::{explain_empty, explain_open};
 use crate::names::{explain_binder, explain_head, explain_swap};
 use crate::subject::Subject;
-use crate::typing::type_item;
+use crate::typing::{Typing, type_item};
 use crate::words::explain_word;
 use ap_defs::faults::{Fault, NameFault, NameKind, SyntaxKind, TypeKind};
 use ap_defs::memory::Memory;
@@ -17,6 +17,17 @@ use ap_located::nodes::Node;
 use ap_located::reader::read_item;
 use std::alloc::Global;
 
+/// The types of the parts of an item, with what the items before it declare.
+fn typed<'t, 'a>(
+    alloc: Global,
+    subject: Subject<'t, 'a>,
+    tokens: &'t [Token<'a>],
+    nodes: &[Node],
+) -> Typing<'t, 'a> {
+    let declared = declared_by(alloc, subject.tokens, subject.ranges, subject.item);
+    type_item(alloc, declared, tokens, nodes)
+}
+
 /// What is said of an item that breaks the name restriction by a head.
 fn head_message<'t, 'a>(
     alloc: Global,
@@ -25,9 +36,7 @@ fn head_message<'t, 'a>(
     nodes: &[Node],
     name: &str,
 ) -> Result<Message, Memory> {
-    let declared = declared_by(alloc, subject.tokens, subject.ranges, subject.item)?;
-    let mut typing = type_item(alloc, declared, tokens, nodes)?;
-    explain_head(alloc, &mut typing, nodes, name)
+    explain_head(alloc, &typed(alloc, subject, tokens, nodes), nodes, name)
 }
 
 /// What is said of an item with a type fault.
@@ -38,27 +47,44 @@ fn type_message<'t, 'a>(
     nodes: &[Node],
     kind: TypeKind,
 ) -> Result<Message, Memory> {
-    let declared = declared_by(alloc, subject.tokens, subject.ranges, subject.item)?;
-    match explain_word(alloc, subject, &declared, nodes, kind) {
+    explain_type(
+        alloc,
+        subject,
+        &typed(alloc, subject, tokens, nodes),
+        nodes,
+        kind,
+    )
+}
+
+/// What is said of an item with these types: of its words, or of its parts if all words are right.
+fn explain_type(
+    alloc: Global,
+    subject: Subject<'_, '_>,
+    typing: &Typing<'_, '_>,
+    nodes: &[Node],
+    kind: TypeKind,
+) -> Result<Message, Memory> {
+    if !typing.is_whole() {
+        return Err(Memory);
+    }
+    match explain_word(alloc, subject, &typing.words, nodes, kind) {
         Some(message) => Ok(message),
-        None => typed_message(alloc, subject, tokens, nodes, declared, kind),
+        None => explain_parts(alloc, subject, typing, nodes, kind),
     }
 }
 
-/// What is said of an item whose words are all right.
-fn typed_message<'t, 'a>(
+/// What is said of the types of an item's parts.
+fn explain_parts(
     alloc: Global,
-    subject: Subject<'t, 'a>,
-    tokens: &'t [Token<'a>],
+    subject: Subject<'_, '_>,
+    typing: &Typing<'_, '_>,
     nodes: &[Node],
-    declared: Declared<'a>,
     kind: TypeKind,
 ) -> Result<Message, Memory> {
-    let mut typing = type_item(alloc, declared, tokens, nodes)?;
     match kind {
-        TypeKind::Ambiguous => explain_open(alloc, &mut typing, nodes),
-        TypeKind::Empty => explain_empty(alloc, subject, &mut typing, nodes),
-        _ => explain_clash(alloc, subject, &mut typing, nodes),
+        TypeKind::Ambiguous => explain_open(alloc, typing, nodes),
+        TypeKind::Empty => explain_empty(alloc, subject, typing, nodes),
+        _ => explain_clash(alloc, subject, typing, nodes),
     }
 }
 

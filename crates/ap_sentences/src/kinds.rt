@@ -2,10 +2,10 @@
 ghost use Rattle.std.specs.Prelude.{◌≡◌};
 
 use crate::closures::Question;
-use crate::declared::{Declared, Entry};
+use crate::declared::{Entry, Words};
 use crate::idents::Ident;
 use crate::subject::{Subject, say_declared, say_word};
-use crate::types::Shape;
+use crate::types::{Shape, Types};
 use crate::typing::Typing;
 use crate::written::say_type;
 use ap_defs::memory::Memory;
@@ -15,15 +15,15 @@ use ap_located::nodes::{Node, node_at};
 use std::alloc::Global;
 
 /// Labels a variable or a name with what is known of its type.
-fn label_type(message: &mut Message, alloc: Global, declared: &mut Declared<'_>, slot: usize) {
-    match declared.types.shape(slot) {
+fn label_type(message: &mut Message, alloc: Global, typing: &Typing<'_, '_>, slot: usize) {
+    match typing.slots.types.shape(slot) {
         Shape::Open => message.label(&[Piece::Text("nothing is known of its type")]),
         Shape::OpenName => message.label(&[Piece::Text(
             "its type is a name type, of which there are several",
         )]),
         _ => {
             message.label(&[Piece::Text("its type is `")]);
-            say_type(message, alloc, declared, slot);
+            say_type(message, alloc, &typing.words, &typing.slots.types, slot);
             message.say(&[Piece::Text("`")]);
         }
     }
@@ -32,7 +32,7 @@ fn label_type(message: &mut Message, alloc: Global, declared: &mut Declared<'_>,
 /// What is said of the type of a variable or a name.
 fn ident_message(
     alloc: Global,
-    typing: &mut Typing<'_, '_>,
+    typing: &Typing<'_, '_>,
     nodes: &[Node],
     ident: Ident,
     what: &'static str,
@@ -46,7 +46,7 @@ fn ident_message(
     };
     message.say(&[Piece::Text(what), Piece::Text(kind)]);
     say_word(&mut message, text_at(typing.tokens, token), "`");
-    label_type(&mut message, alloc, &mut typing.declared, ident.slot);
+    label_type(&mut message, alloc, typing, ident.slot);
     message
 }
 
@@ -58,9 +58,9 @@ fn vague_message(alloc: Global, typing: &Typing<'_, '_>, sentence: &str) -> Mess
 }
 
 /// The first variable or name whose type is open.
-fn open_ident(alloc: Global, typing: &mut Typing<'_, '_>) -> Result<Option<Ident>, Memory> {
+fn open_ident(alloc: Global, typing: &Typing<'_, '_>) -> Result<Option<Ident>, Memory> {
     for ident in typing.idents.all() {
-        if typing.declared.types.is_open(alloc, ident.slot)? {
+        if typing.slots.types.is_open(alloc, ident.slot)? {
             return Ok(Some(*ident));
         }
     }
@@ -70,7 +70,7 @@ fn open_ident(alloc: Global, typing: &mut Typing<'_, '_>) -> Result<Option<Ident
 /// What is said where more than one choice of types fits an item.
 pub fn explain_open(
     alloc: Global,
-    typing: &mut Typing<'_, '_>,
+    typing: &Typing<'_, '_>,
     nodes: &[Node],
 ) -> Result<Message, Memory> {
     let mut message = match open_ident(alloc, typing)? {
@@ -84,11 +84,10 @@ pub fn explain_open(
 }
 
 /// A constructor of a data type.
-fn constructor_of<'a>(declared: &mut Declared<'a>, word: usize) -> Option<Entry<'a>> {
-    for place in 0..declared.constructors.entries().len() {
-        let entry = declared.constructors.at(place)?;
-        if declared.types.shape(entry.result) == Shape::Data(word) {
-            return Some(entry);
+fn constructor_of<'a>(words: &Words<'a>, types: &Types, word: usize) -> Option<Entry<'a>> {
+    for entry in words.constructors.entries() {
+        if types.shape(entry.result) == Shape::Data(word) {
+            return Some(*entry);
         }
     }
     None
@@ -98,11 +97,11 @@ fn constructor_of<'a>(declared: &mut Declared<'a>, word: usize) -> Option<Entry<
 fn note_constructors(
     message: &mut Message,
     subject: Subject<'_, '_>,
-    declared: &mut Declared<'_>,
+    typing: &Typing<'_, '_>,
     slot: usize,
 ) {
-    if let Shape::Data(word) = declared.types.shape(slot) {
-        match constructor_of(declared, word) {
+    if let Shape::Data(word) = typing.slots.types.shape(slot) {
+        match constructor_of(&typing.words, &typing.slots.types, word) {
             Some(entry) => {
                 message.note(&[Piece::Text(
                     "each constructor needs a term of a type without terms: ",
@@ -117,11 +116,11 @@ fn note_constructors(
 /// The first variable whose type has no terms.
 fn empty_ident(
     alloc: Global,
-    typing: &mut Typing<'_, '_>,
+    typing: &Typing<'_, '_>,
     answers: &[bool],
 ) -> Result<Option<Ident>, Memory> {
     for ident in typing.idents.all() {
-        let types = &mut typing.declared.types;
+        let types = &typing.slots.types;
         if !ident.is_name && !Question::HasTerm.answer(alloc, types, answers, ident.slot)? {
             return Ok(Some(*ident));
         }
@@ -132,12 +131,12 @@ fn empty_ident(
 fn empty_message(
     alloc: Global,
     subject: Subject<'_, '_>,
-    typing: &mut Typing<'_, '_>,
+    typing: &Typing<'_, '_>,
     nodes: &[Node],
     ident: Ident,
 ) -> Message {
     let mut message = ident_message(alloc, typing, nodes, ident, "no term has the type");
-    note_constructors(&mut message, subject, &mut typing.declared, ident.slot);
+    note_constructors(&mut message, subject, typing, ident.slot);
     message.note(&[Piece::Text(
         "declare a constructor that needs no such term, in an item before",
     )]);
@@ -148,10 +147,10 @@ fn empty_message(
 pub fn explain_empty(
     alloc: Global,
     subject: Subject<'_, '_>,
-    typing: &mut Typing<'_, '_>,
+    typing: &Typing<'_, '_>,
     nodes: &[Node],
 ) -> Result<Message, Memory> {
-    let answers = Question::HasTerm.answers(alloc, &mut typing.declared)?;
+    let answers = Question::HasTerm.answers(alloc, &typing.words, &typing.slots.types)?;
     match empty_ident(alloc, typing, answers.as_slice())? {
         Some(ident) => Ok(empty_message(alloc, subject, typing, nodes, ident)),
         None => Ok(vague_message(alloc, typing, "a variable has a type that no term has")),

@@ -12,6 +12,7 @@ mod items;
 mod kinds;
 mod known;
 mod names;
+mod slots;
 mod subject;
 mod types;
 mod typing;

@@ -197,26 +197,26 @@ fn open_variables(
 /// The token of the first of these variables whose type may hold a name of a name type.
 fn first_holding(
     alloc: Global,
-    typing: &mut Typing<'_, '_>,
+    typing: &Typing<'_, '_>,
     variables: &[Node],
     name_type: usize,
 ) -> Result<Option<usize>, Memory> {
     let question = Question::HoldsName(name_type);
-    let answers = question.answers(alloc, &mut typing.declared)?;
+    let answers = question.answers(alloc, &typing.words, &typing.slots.types)?;
     first_of(alloc, typing, variables, question, answers.as_slice())
 }
 
 /// The token of the first of some variables for whose type the answer is yes.
 fn first_of(
     alloc: Global,
-    typing: &mut Typing<'_, '_>,
+    typing: &Typing<'_, '_>,
     variables: &[Node],
     question: Question,
     answers: &[bool],
 ) -> Result<Option<usize>, Memory> {
     for node in variables {
-        let slot = typing.slot_of(*node);
-        if question.answer(alloc, &mut typing.declared.types, answers, slot)? {
+        let slot = typing.slots.slot_of(*node);
+        if question.answer(alloc, &typing.slots.types, answers, slot)? {
             return Ok(Some(node.first));
         }
     }
@@ -224,11 +224,11 @@ fn first_of(
 }
 
 /// The place of the name type of a name of an item.
-fn type_of_name(typing: &mut Typing<'_, '_>, nodes: &[Node], name: &str) -> usize {
+fn type_of_name(typing: &Typing<'_, '_>, nodes: &[Node], name: &str) -> usize {
     for ident in typing.idents.all() {
         let token = node_at(nodes, ident.node).first;
         if ident.is_name && text_at(typing.tokens, token) == name {
-            if let Shape::Name(word) = typing.declared.types.shape(ident.slot) {
+            if let Shape::Name(word) = typing.slots.types.shape(ident.slot) {
                 return word;
             }
         }
@@ -302,10 +302,13 @@ fn vague_message(alloc: Global, tokens: &[Token<'_>], name: &str) -> Message {
 /// What is said of a name of a clause that isn't fresh for its head.
 pub fn explain_head(
     alloc: Global,
-    typing: &mut Typing<'_, '_>,
+    typing: &Typing<'_, '_>,
     nodes: &[Node],
     name: &str,
 ) -> Result<Message, Memory> {
+    if !typing.is_whole() {
+        return Err(Memory);
+    }
     let tokens = typing.tokens;
     if let Some(token) = free_in_head(tokens, nodes, name) {
         return Ok(free_message(alloc, tokens, token, name));

@@ -34,12 +34,14 @@ pub enum Parts {
 /// The parts of a type that are looked at, at most.
 const MOST_PARTS: usize = 10_000;
 
-/// Types by their numbers.
+/// Types by their numbers. Where memory is wanting for one, that is lost, and the types are not whole.
 #[derive(Drop)]
 pub struct Types {
     shapes: Vec<Shape>,
-    // what the equation that is being solved changed
+    // what the equation that is being solved changed, and what is left of it
     trail: Vec<(usize, Shape)>,
+    work: Vec<(usize, usize)>,
+    whole: bool,
 }
 
 fn link_of(shapes: &[Shape], number: usize) -> Option<usize> {
@@ -100,23 +102,37 @@ impl Types {
         Types {
             shapes: Vec::new(alloc),
             trail: Vec::new(alloc),
+            work: Vec::new(alloc),
+            whole: true,
         }
+    }
+
+    /// Tells that memory was wanting for a type.
+    pub fn lose(&mut self) {
+        self.whole = false;
+    }
+
+    /// Whether no type was lost.
+    pub fn is_whole(&self) -> bool {
+        self.whole
     }
 
     /// Adds a type, and gives its number.
-    pub fn add(&mut self, shape: Shape) -> Result<usize, Memory> {
+    pub fn add(&mut self, shape: Shape) -> usize {
         let number = self.shapes.len();
-        self.shapes.push(shape)?;
-        Ok(number)
+        if self.shapes.push(shape).is_err() {
+            self.lose();
+        }
+        number
     }
 
     /// Adds so many types of a shape, and gives the number of the first.
-    pub fn add_many(&mut self, count: usize, shape: Shape) -> Result<usize, Memory> {
+    pub fn add_many(&mut self, count: usize, shape: Shape) -> usize {
         let number = self.shapes.len();
         for _ in 0..count {
-            self.shapes.push(shape)?;
+            let _number = self.add(shape);
         }
-        Ok(number)
+        number
     }
 
     /// Gives a type a shape.
@@ -124,8 +140,8 @@ impl Types {
         set_shape(&mut self.shapes, number, shape);
     }
 
-    /// The number of a type behind its links.
-    pub fn find(&mut self, number: usize) -> usize {
+    /// The number of a type behind its links, which are made shorter.
+    fn find(&mut self, number: usize) -> usize {
         let mut at = number;
         for _ in 0..self.shapes.len() {
             let Some(next) = link_of(self.shapes.as_slice(), at) else {
@@ -139,13 +155,29 @@ impl Types {
         at
     }
 
-    /// What is known of a type.
-    pub fn shape(&mut self, number: usize) -> Shape {
-        let at = self.find(number);
+    /// Makes all links lead to the last type behind them.
+    pub fn settle(&mut self) {
+        for number in 0..self.shapes.len() {
+            let end = self.find(number);
+            if end != number {
+                self.set(number, Shape::Link(end));
+            }
+        }
+    }
+
+    /// What is known of a type. It takes as many steps as it has links.
+    pub fn shape(&self, number: usize) -> Shape {
+        let mut at = number;
+        for _ in 0..self.shapes.len() {
+            match link_of(self.shapes.as_slice(), at) {
+                Some(next) => at = next,
+                None => break,
+            }
+        }
         self.shapes.get(at).copied().unwrap_or(Shape::Open)
     }
 
-    fn step(&mut self, left: usize, right: usize) -> Step {
+    fn step(&self, left: usize, right: usize) -> Step {
         if left == right {
             return Step::Same;
         }
@@ -162,11 +194,12 @@ impl Types {
         }
     }
 
-    fn bind(&mut self, number: usize, to: usize) -> Result<(), Memory> {
+    fn bind(&mut self, number: usize, to: usize) {
         let old = self.shapes.get(number).copied().unwrap_or(Shape::Open);
-        self.trail.push((number, old))?;
+        if self.trail.push((number, old)).is_err() {
+            self.lose();
+        }
         self.set(number, Shape::Link(to));
-        Ok(())
     }
 
     fn undo(&mut self) {
@@ -177,69 +210,65 @@ impl Types {
         }
     }
 
-    /// Makes two types equal, if they can be; otherwise all stays as it was. Types that contain themselves are
-    /// let through.
-    pub fn equate(&mut self, alloc: Global, left: usize, right: usize) -> Result<bool, Memory> {
-        self.trail.clear();
-        let mut work = Vec::new(alloc);
-        work.push((left, right))?;
-        let rounds = self.shapes.len().saturating_mul(2).saturating_add(64);
-        for _ in 0..rounds {
-            let Some((left, right)) = work.pop() else {
-                return Ok(true);
-            };
-            if !self.equate_once(&mut work, left, right)? {
-                self.undo();
-                return Ok(false);
-            }
+    /// Leaves it to be done that two types are made equal.
+    fn wait(&mut self, left: usize, right: usize) {
+        if self.work.push((left, right)).is_err() {
+            self.lose();
         }
-        Ok(true)
     }
 
-    /// Makes two types equal but for their parts, which are added to the work.
-    fn equate_once(
-        &mut self,
-        work: &mut Vec<(usize, usize)>,
-        left: usize,
-        right: usize,
-    ) -> Result<bool, Memory> {
+    /// Makes two types equal, if they can be; otherwise all stays as it was. Types that contain themselves are
+    /// let through.
+    pub fn equate(&mut self, left: usize, right: usize) -> bool {
+        self.trail.clear();
+        self.work.clear();
+        self.wait(left, right);
+        let rounds = self.shapes.len().saturating_mul(2).saturating_add(64);
+        for _ in 0..rounds {
+            let Some((left, right)) = self.work.pop() else {
+                return true;
+            };
+            if !self.equate_once(left, right) {
+                self.undo();
+                return false;
+            }
+        }
+        true
+    }
+
+    /// Makes two types equal but for their parts, which are left to be done.
+    fn equate_once(&mut self, left: usize, right: usize) -> bool {
         let left = self.find(left);
         let right = self.find(right);
         match self.step(left, right) {
             Step::Same => {}
-            Step::Binds(number, to) => self.bind(number, to)?,
+            Step::Binds(number, to) => self.bind(number, to),
             Step::Parts(one, other) => {
-                self.bind(left, right)?;
-                work.push((one, other))?;
+                self.bind(left, right);
+                self.wait(one, other);
             }
             Step::TwoParts(first, second) => {
-                self.bind(left, right)?;
-                work.push(second)?;
-                work.push(first)?;
+                self.bind(left, right);
+                self.wait(second.0, second.1);
+                self.wait(first.0, first.1);
             }
-            Step::Differ => return Ok(false),
+            Step::Differ => return false,
         }
-        Ok(true)
+        true
     }
 
-    /// Makes the name types of which nothing else is known the one with this place.
-    pub fn close_names(&mut self, alloc: Global, word: usize) -> Result<(), Memory> {
-        let name = self.add(Shape::Name(word))?;
+    /// Makes the name types of which nothing else is known the one with this place, where all links are settled.
+    pub fn close_names(&mut self, word: usize) {
+        let name = self.add(Shape::Name(word));
         for number in 0..name {
             if self.shape(number) == Shape::OpenName {
-                let _fits = self.equate(alloc, number, name)?;
+                let _fits = self.equate(number, name);
             }
         }
-        Ok(())
     }
 
     /// The numbers of a type and of its parts of a kind, from the outside in; of a very large type only a beginning.
-    pub fn parts(
-        &mut self,
-        alloc: Global,
-        number: usize,
-        kind: Parts,
-    ) -> Result<Vec<usize>, Memory> {
+    pub fn parts(&self, alloc: Global, number: usize, kind: Parts) -> Result<Vec<usize>, Memory> {
         let mut parts = Vec::new(alloc);
         parts.push(number)?;
         for at in 0..MOST_PARTS {
@@ -252,7 +281,7 @@ impl Types {
     }
 
     /// Whether a part of a type isn't known. Of a very large type only a beginning is seen.
-    pub fn is_open(&mut self, alloc: Global, number: usize) -> Result<bool, Memory> {
+    pub fn is_open(&self, alloc: Global, number: usize) -> Result<bool, Memory> {
         let parts = self.parts(alloc, number, Parts::All)?;
         for part in &parts {
             if matches!(self.shape(*part), Shape::Open | Shape::OpenName) {
@@ -263,7 +292,7 @@ impl Types {
     }
 
     /// Whether a type is a part of itself, or very large.
-    pub fn is_endless(&mut self, alloc: Global, number: usize) -> Result<bool, Memory> {
+    pub fn is_endless(&self, alloc: Global, number: usize) -> Result<bool, Memory> {
         let parts = self.parts(alloc, number, Parts::All)?;
         Ok(parts.len() > MOST_PARTS)
     }

@@ -1,285 +1,152 @@
 //! The types of an item's parts, up to the first place at which they differ.
 ghost use Rattle.std.specs.Prelude.{◌≡◌};
 
-use crate::declared::{Declared, Entry, tuple_shape};
+use crate::declared::{Declared, Entry, Words};
 use crate::idents::{Ident, Idents};
+use crate::slots::{Cause, Slots};
 use crate::types::Shape;
-use ap_defs::memory::Memory;
 use ap_lexer::{Token, TokenKind};
 use ap_located::items::{Space, text_at};
 use ap_located::nodes::{Form, Node, node_at};
 use std::alloc::Global;
 
-/// Why no types fit.
-#[derive(Clone, Copy)]
-pub enum Cause {
-    /// The types with these numbers differ: the one that is wanted at the place, and the one that its part has.
-    Types(usize, usize),
-    /// A constructor stands where a name belongs.
-    Constructor,
-}
-
-/// The first place at which no types fit: a node, and why.
-#[derive(Clone, Copy)]
-pub struct Clash {
-    pub node: usize,
-    pub cause: Cause,
-}
-
-/// An item with the types of its parts.
+/// An item with the types of its parts. Where memory is wanting for one, that is lost, and they are not whole.
 #[derive(Drop)]
 pub struct Typing<'t, 'a> {
     pub tokens: &'t [Token<'a>],
-    pub declared: Declared<'a>,
+    pub words: Words<'a>,
     pub idents: Idents<'a>,
-    // for each node the number of the type of its first part
-    bases: Vec<usize>,
-    pub clash: Option<Clash>,
+    pub slots: Slots,
 }
 
 impl<'t, 'a> Typing<'t, 'a> {
-    /// The number of the type of a node.
-    pub fn slot_of(&self, node: Node) -> usize {
-        let base = self.bases.get(node.parent).copied().unwrap_or(0);
-        base.saturating_add(node.rank)
-    }
-
-    /// Asks a node's type to be equal to another.
-    fn equate(
-        &mut self,
-        alloc: Global,
-        place: usize,
-        own: usize,
-        other: usize,
-    ) -> Result<(), Memory> {
-        if !self.declared.types.equate(alloc, own, other)? && self.clash.is_none() {
-            self.clash = Some(Clash {
-                node: place,
-                cause: Cause::Types(own, other),
-            });
-        }
-        Ok(())
-    }
-
-    /// Asks a node to have a type of this shape.
-    fn give(
-        &mut self,
-        alloc: Global,
-        place: usize,
-        own: usize,
-        shape: Shape,
-    ) -> Result<(), Memory> {
-        let other = self.declared.types.add(shape)?;
-        self.equate(alloc, place, own, other)
-    }
-
-    /// Adds a name or a variable that stands first at a node.
-    fn add_ident(&mut self, place: usize, node: Node, brought: bool) -> Result<Ident, Memory> {
+    /// Adds a name or a variable that stands first at a node, and gives the number of its type.
+    fn add_ident(&mut self, place: usize, node: Node, brought: bool) -> usize {
         let word = text_at(self.tokens, node.first);
         let is_name = is_word(self.tokens, node.first);
-        let shape = if is_name {
-            Shape::OpenName
-        } else {
-            Shape::Open
-        };
-        let slot = self.declared.types.add(shape)?;
+        let slot = self.slots.types.add(open_shape(is_name));
         let ident = Ident {
             node: place,
             slot,
             is_name,
         };
         if brought {
-            self.idents.bring(node.parent, ident)?;
+            self.idents.bring(node.parent, ident);
         } else if word == "_" {
-            self.idents.add(ident)?;
+            let _place = self.idents.add(ident);
         } else {
-            self.idents.add_free(word, ident)?;
+            self.idents.add_free(word, ident);
         }
-        Ok(ident)
+        slot
     }
 
     /// A name or a variable.
-    fn type_ident(&mut self, alloc: Global, place: usize, nodes: &[Node]) -> Result<(), Memory> {
+    fn type_ident(&mut self, place: usize, nodes: &[Node]) {
         let node = node_at(nodes, place);
-        let word = text_at(self.tokens, node.first);
         let above = node_at(nodes, node.parent).form;
         let brought = node.form == Form::Binder && above != Form::Abs;
-        let known = if brought || word == "_" {
+        let known = if brought || text_at(self.tokens, node.first) == "_" {
             None
         } else {
             self.idents.find(self.tokens, nodes, place)
         };
-        let ident = match known {
-            Some(ident) => ident,
-            None => self.add_ident(place, node, brought)?,
+        let slot = match known {
+            Some(ident) => ident.slot,
+            None => self.add_ident(place, node, brought),
         };
-        let own = self.slot_of(node);
-        self.equate(alloc, place, own, ident.slot)
+        let own = self.slots.slot_of(node);
+        self.slots.equate(place, own, slot);
     }
 
-    /// Whether a node stands where a name belongs.
-    fn is_name_place(&self, node: Node, nodes: &[Node]) -> bool {
-        let above = node_at(nodes, node.parent).form;
-        node.form == Form::Binder || (above == Form::Swap && node.rank < 2)
-    }
-
-    fn type_word(&mut self, alloc: Global, place: usize, nodes: &[Node]) -> Result<(), Memory> {
+    /// A word that is an argument: a constructor, or a name.
+    fn type_word(&mut self, place: usize, nodes: &[Node]) {
         let node = node_at(nodes, place);
-        let above = node_at(nodes, node.parent).form;
-        if above == Form::Atom || above == Form::Head {
-            return Ok(());
-        }
-        match self
-            .declared
-            .constructors
-            .get(text_at(self.tokens, node.first))
-        {
-            Some(_) if self.is_name_place(node, nodes) => {
-                if self.clash.is_none() {
-                    self.clash = Some(Clash {
-                        node: place,
-                        cause: Cause::Constructor,
-                    });
-                }
-                Ok(())
-            }
-            Some((_, entry)) => {
-                let own = self.slot_of(node);
-                self.equate(alloc, place, own, entry.result)
-            }
-            None => self.type_ident(alloc, place, nodes),
-        }
-    }
-
-    /// The types of the parts of a node are those of the arguments of a declared word.
-    fn give_parts(&mut self, node: Node, entry: Entry<'a>) -> Result<(), Memory> {
-        let base = self.declared.types.add_many(node.count, Shape::Open)?;
-        for part in 0..node.count.min(entry.count) {
-            let shape = Shape::Link(entry.args.saturating_add(part));
-            self.declared.types.set(base.saturating_add(part), shape);
-        }
-        self.bases.push(base)?;
-        Ok(())
-    }
-
-    /// All parts of a node have one type.
-    fn give_same(&mut self, node: Node, slot: usize) -> Result<(), Memory> {
-        let base = self.declared.types.add_many(node.count, Shape::Link(slot))?;
-        self.bases.push(base)?;
-        Ok(())
-    }
-
-    /// The parts of a node have types of their own.
-    fn give_own(&mut self, node: Node) -> Result<usize, Memory> {
-        let base = self.declared.types.add_many(node.count, Shape::Open)?;
-        self.bases.push(base)?;
-        Ok(base)
-    }
-
-    fn give_open(&mut self, node: Node) -> Result<(), Memory> {
-        let _base = self.give_own(node)?;
-        Ok(())
-    }
-
-    fn type_apply(&mut self, alloc: Global, place: usize, nodes: &[Node]) -> Result<(), Memory> {
-        let node = node_at(nodes, place);
-        let above = node_at(nodes, node.parent).form;
-        let is_call = above == Form::Atom || above == Form::Head;
         let word = text_at(self.tokens, node.first);
-        let Some(entry) = self.declared.entry(applied_space(is_call), word) else {
-            return self.give_open(node);
+        match self.words.entry(Space::Constructors, word) {
+            Some(_) if is_name_place(node, nodes) => {
+                self.slots.refuse(place, Cause::Constructor);
+            }
+            Some(entry) => {
+                let own = self.slots.slot_of(node);
+                self.slots.equate(place, own, entry.result);
+            }
+            None => self.type_ident(place, nodes),
+        }
+    }
+
+    fn type_apply(&mut self, place: usize, nodes: &[Node]) {
+        let node = node_at(nodes, place);
+        let is_call = is_goal(node_at(nodes, node.parent).form);
+        let word = text_at(self.tokens, node.first);
+        let Some(entry) = self.words.entry(applied_space(is_call), word) else {
+            self.slots.type_form(place, node);
+            return;
         };
         if !is_call {
-            self.equate(alloc, place, self.slot_of(node), entry.result)?;
+            let own = self.slots.slot_of(node);
+            self.slots.equate(place, own, entry.result);
         }
-        self.give_parts(node, entry)
-    }
-
-    fn type_tuple(&mut self, alloc: Global, place: usize, node: Node) -> Result<(), Memory> {
-        let own = self.slot_of(node);
-        let base = self.give_own(node)?;
-        let shape = tuple_shape(&mut self.declared.types, base, node.count)?;
-        self.give(alloc, place, own, shape)
-    }
-
-    fn type_list(&mut self, alloc: Global, place: usize, node: Node) -> Result<(), Memory> {
-        let own = self.slot_of(node);
-        let element = self.declared.types.add(Shape::Open)?;
-        let list = self.declared.types.add(Shape::List(element))?;
-        self.equate(alloc, place, own, list)?;
-        self.give_same(node, element)?;
-        if node.form == Form::ListTail {
-            let base = self.bases.last().copied().unwrap_or(0);
-            let last = base.saturating_add(node.count.saturating_sub(1));
-            self.declared.types.set(last, Shape::Link(list));
-        }
-        Ok(())
-    }
-
-    fn type_abs(&mut self, alloc: Global, place: usize, node: Node) -> Result<(), Memory> {
-        let own = self.slot_of(node);
-        let base = self.give_own(node)?;
-        self.declared.types.set(base, Shape::OpenName);
-        self.give(alloc, place, own, Shape::Abs(base, base.saturating_add(1)))
-    }
-
-    fn type_swap(&mut self, node: Node) -> Result<(), Memory> {
-        let own = self.slot_of(node);
-        let base = self.give_own(node)?;
-        self.declared.types.set(base, Shape::OpenName);
-        self.declared
-            .types
-            .set(base.saturating_add(1), Shape::Link(base));
-        self.declared
-            .types
-            .set(base.saturating_add(2), Shape::Link(own));
-        Ok(())
-    }
-
-    fn type_relation(&mut self, node: Node) -> Result<(), Memory> {
-        let base = self.give_own(node)?;
-        if node.form == Form::Equal {
-            self.declared
-                .types
-                .set(base.saturating_add(1), Shape::Link(base));
-        } else {
-            self.declared.types.set(base, Shape::OpenName);
-        }
-        Ok(())
-    }
-
-    /// Types a node that has no rule for its parts.
-    fn type_part(&mut self, alloc: Global, place: usize, nodes: &[Node]) -> Result<(), Memory> {
-        let node = node_at(nodes, place);
-        self.give_open(node)?;
-        match node.form {
-            Form::Word | Form::Binder => self.type_word(alloc, place, nodes),
-            Form::Variable => self.type_ident(alloc, place, nodes),
-            _ => Ok(()),
-        }
+        self.slots.give_parts(node, entry);
     }
 
     /// Types the node at a place.
-    fn type_node(&mut self, alloc: Global, place: usize, nodes: &[Node]) -> Result<(), Memory> {
+    fn type_node(&mut self, place: usize, nodes: &[Node]) {
         let node = node_at(nodes, place);
+        if node.form == Form::Apply {
+            self.type_apply(place, nodes);
+            return;
+        }
+        self.slots.type_form(place, node);
         match node.form {
-            Form::Apply => self.type_apply(alloc, place, nodes),
-            Form::Tuple => self.type_tuple(alloc, place, node),
-            Form::List | Form::ListTail => self.type_list(alloc, place, node),
-            Form::Abs => self.type_abs(alloc, place, node),
-            Form::Swap => self.type_swap(node),
-            Form::Equal | Form::Fresh => self.type_relation(node),
-            _ => self.type_part(alloc, place, nodes),
+            Form::Word | Form::Binder if is_goal(node_at(nodes, node.parent).form) => {}
+            Form::Word | Form::Binder => self.type_word(place, nodes),
+            Form::Variable => self.type_ident(place, nodes),
+            _ => {}
         }
     }
 
-    /// Gives names of which nothing else is known the only name type, if there is only one.
-    fn give_names(&mut self, alloc: Global) -> Result<(), Memory> {
-        match only_name_type(self.declared.type_words.entries()) {
-            Some(only) => self.declared.types.close_names(alloc, only),
-            None => Ok(()),
+    /// Types the nodes of the item.
+    fn type_all(&mut self, nodes: &[Node]) {
+        for place in 0..nodes.len() {
+            self.type_node(place, nodes);
+        }
+        self.slots.types.settle();
+        if self.slots.clash.is_none() {
+            self.give_names();
         }
     }
+
+    /// Whether no memory was wanting.
+    pub fn is_whole(&self) -> bool {
+        self.idents.is_whole() && self.slots.types.is_whole()
+    }
+
+    /// Gives names of which nothing else is known the only name type, if there is only one.
+    fn give_names(&mut self) {
+        if let Some(only) = only_name_type(self.words.types.entries()) {
+            self.slots.types.close_names(only);
+        }
+    }
+}
+
+/// What is known of a type where nothing else stands: that it is a name's.
+fn open_shape(is_name: bool) -> Shape {
+    if is_name {
+        Shape::OpenName
+    } else {
+        Shape::Open
+    }
+}
+
+/// Whether a node of this form has goals as its parts.
+fn is_goal(form: Form) -> bool {
+    form == Form::Atom || form == Form::Head
+}
+
+/// Whether a node stands where a name belongs.
+fn is_name_place(node: Node, nodes: &[Node]) -> bool {
+    let above = node_at(nodes, node.parent).form;
+    node.form == Form::Binder || (above == Form::Swap && node.rank < 2)
 }
 
 /// The space of the word of an application: a predicate, where it is a call.
@@ -319,19 +186,14 @@ pub fn type_item<'t, 'a>(
     declared: Declared<'a>,
     tokens: &'t [Token<'a>],
     nodes: &[Node],
-) -> Result<Typing<'t, 'a>, Memory> {
+) -> Typing<'t, 'a> {
+    let Declared { words, types } = declared;
     let mut typing = Typing {
         tokens,
-        declared,
+        words,
         idents: Idents::new(alloc),
-        bases: Vec::new(alloc),
-        clash: None,
+        slots: Slots::new(alloc, types),
     };
-    for place in 0..nodes.len() {
-        typing.type_node(alloc, place, nodes)?;
-    }
-    if typing.clash.is_none() {
-        typing.give_names(alloc)?;
-    }
-    Ok(typing)
+    typing.type_all(nodes);
+    typing
 }

@@ -1,7 +1,7 @@
 //! What is said of words that aren't declared, are declared twice, or have another number of arguments.
 ghost use Rattle.std.specs.Prelude.{◌≡◌};
 
-use crate::declared::{Declared, Entry};
+use crate::declared::{Entry, Words};
 use crate::known::known_word;
 use crate::subject::{Subject, later_line, nearest_entry, note_declared, space_word};
 use ap_defs::faults::TypeKind;
@@ -44,7 +44,7 @@ fn application_flaw<'a>(
 
 /// What is wrong with a word in a clause or a query, if anything.
 fn term_flaw<'a>(
-    declared: &Declared<'a>,
+    words: &Words<'a>,
     tokens: &[Token<'a>],
     nodes: &[Node],
     node: Node,
@@ -55,10 +55,10 @@ fn term_flaw<'a>(
     let word = text_at(tokens, node.first);
     let above = node_at(nodes, node.parent).form;
     if above == Form::Atom || above == Form::Head {
-        let entry = declared.entry(Space::Predicates, word);
+        let entry = words.entry(Space::Predicates, word);
         return application_flaw(entry, Space::Predicates, node);
     }
-    let entry = declared.entry(Space::Constructors, word);
+    let entry = words.entry(Space::Constructors, word);
     let is_name = above == Form::Swap && node.rank < 2;
     if node.form == Form::Word && (entry.is_none() || is_name) {
         return None;
@@ -68,7 +68,7 @@ fn term_flaw<'a>(
 
 /// What is wrong with a word in a declaration, if anything.
 fn declaration_flaw<'a>(
-    declared: &Declared<'a>,
+    words: &Words<'a>,
     tokens: &[Token<'a>],
     nodes: &[Node],
     node: Node,
@@ -81,7 +81,7 @@ fn declaration_flaw<'a>(
     if is_result && node.rank < 2 {
         return None;
     }
-    let entry = declared.entry(Space::Types, word);
+    let entry = words.entry(Space::Types, word);
     let flaw = WordFlaw {
         kind: TypeKind::Undeclared,
         token: node.first,
@@ -110,12 +110,12 @@ fn is_constant(nodes: &[Node], node: Node) -> bool {
 
 /// What is wrong with the word that an item declares, if anything.
 fn repeated<'a>(
-    declared: &Declared<'a>,
+    words: &Words<'a>,
     tokens: &[Token<'a>],
     space: Space,
     token: usize,
 ) -> Option<WordFlaw<'a>> {
-    let entry = declared.entry(space, text_at(tokens, token))?;
+    let entry = words.entry(space, text_at(tokens, token))?;
     Some(WordFlaw {
         kind: TypeKind::Redeclared,
         token,
@@ -127,7 +127,7 @@ fn repeated<'a>(
 
 /// The first word of an item at which a kind of fault shows.
 pub fn word_flaw<'a>(
-    declared: &Declared<'a>,
+    words: &Words<'a>,
     tokens: &[Token<'a>],
     nodes: &[Node],
     kind: TypeKind,
@@ -135,13 +135,13 @@ pub fn word_flaw<'a>(
     let declaring = declared_word(tokens);
     if kind == TypeKind::Redeclared {
         let (space, token) = declaring?;
-        return repeated(declared, tokens, space, token);
+        return repeated(words, tokens, space, token);
     }
     for node in nodes {
         let flaw = if declaring.is_some() {
-            declaration_flaw(declared, tokens, nodes, *node)
+            declaration_flaw(words, tokens, nodes, *node)
         } else {
-            term_flaw(declared, tokens, nodes, *node)
+            term_flaw(words, tokens, nodes, *node)
         };
         if let Some(flaw) = flaw {
             if flaw.kind == kind {
@@ -194,9 +194,9 @@ fn form_of(flaw: WordFlaw<'_>) -> (&'static str, &'static str) {
 }
 
 /// The space in which a word is declared that is looked for in another.
-fn other_space(declared: &Declared<'_>, space: Space, word: &str) -> Option<Space> {
+fn other_space(words: &Words<'_>, space: Space, word: &str) -> Option<Space> {
     for other in [Space::Types, Space::Constructors, Space::Predicates] {
-        if other != space && declared.table(other).get(word).is_some() {
+        if other != space && words.table(other).get(word).is_some() {
             return Some(other);
         }
     }
@@ -206,11 +206,11 @@ fn other_space(declared: &Declared<'_>, space: Space, word: &str) -> Option<Spac
 /// Notes the way out for a word that is declared elsewhere, or may be misspelt. Tells whether there is one.
 fn note_other<'a>(
     message: &mut Message,
-    declared: &Declared<'a>,
+    words: &Words<'a>,
     flaw: WordFlaw<'a>,
     word: &'a str,
 ) -> bool {
-    if let Some(near) = nearest_entry(declared.table(flaw.space).entries(), word) {
+    if let Some(near) = nearest_entry(words.table(flaw.space).entries(), word) {
         message.note(&[
             Piece::Text("is `"),
             Piece::Word(near),
@@ -218,7 +218,7 @@ fn note_other<'a>(
         ]);
         return true;
     }
-    if let Some(other) = other_space(declared, flaw.space, word) {
+    if let Some(other) = other_space(words, flaw.space, word) {
         message.note(&[
             Piece::Text("it is declared as a "),
             Piece::Text(space_word(other)),
@@ -234,7 +234,7 @@ fn note_other<'a>(
 fn note_way_out<'a>(
     message: &mut Message,
     subject: Subject<'_, 'a>,
-    declared: &Declared<'a>,
+    words: &Words<'a>,
     flaw: WordFlaw<'a>,
     word: &'a str,
 ) {
@@ -248,7 +248,7 @@ fn note_way_out<'a>(
     }
     match known_word(flaw.space, word) {
         Some(known) => message.note(&[Piece::Text(known)]),
-        None if note_other(message, declared, flaw, word) => {}
+        None if note_other(message, words, flaw, word) => {}
         None => note_how(message, flaw, word),
     }
 }
@@ -256,7 +256,7 @@ fn note_way_out<'a>(
 fn undeclared_message<'a>(
     alloc: Global,
     subject: Subject<'_, 'a>,
-    declared: &Declared<'a>,
+    words: &Words<'a>,
     tokens: &[Token<'a>],
     flaw: WordFlaw<'a>,
 ) -> Message {
@@ -269,7 +269,7 @@ fn undeclared_message<'a>(
         Piece::Word(word),
         Piece::Text("` is declared"),
     ]);
-    note_way_out(&mut message, subject, declared, flaw, word);
+    note_way_out(&mut message, subject, words, flaw, word);
     message
 }
 
@@ -349,17 +349,17 @@ fn declared_message(
 pub fn explain_word<'a>(
     alloc: Global,
     subject: Subject<'_, 'a>,
-    declared: &Declared<'a>,
+    words: &Words<'a>,
     nodes: &[Node],
     kind: TypeKind,
 ) -> Option<Message> {
     let range = subject.ranges.get(subject.item)?;
     let tokens = tokens_in(subject.tokens, *range);
-    let flaw = word_flaw(declared, tokens, nodes, kind)?;
+    let flaw = word_flaw(words, tokens, nodes, kind)?;
     match flaw.entry {
         Some(entry) if flaw.kind != TypeKind::Undeclared => {
             Some(declared_message(alloc, subject, tokens, flaw, entry))
         }
-        _ => Some(undeclared_message(alloc, subject, declared, tokens, flaw)),
+        _ => Some(undeclared_message(alloc, subject, words, tokens, flaw)),
     }
 }

@@ -1,8 +1,8 @@
 //! Types as they are written.
 ghost use Rattle.std.specs.Prelude.{◌≡◌};
 
-use crate::declared::Declared;
-use crate::types::Shape;
+use crate::declared::Words;
+use crate::types::{Shape, Types};
 use ap_defs::memory::Memory;
 use ap_located::messages::{Message, Piece};
 use std::alloc::Global;
@@ -23,7 +23,8 @@ const PARTS: usize = 60;
 fn write_next(
     message: &mut Message,
     work: &mut Vec<Rest>,
-    declared: &mut Declared<'_>,
+    words: &Words<'_>,
+    types: &Types,
     next: Rest,
 ) -> Result<(), Memory> {
     match next {
@@ -32,34 +33,31 @@ fn write_next(
             Ok(())
         }
         Rest::Type(part) => {
-            let shape = declared.types.shape(part);
-            write_begin(message, declared, shape);
+            let shape = types.shape(part);
+            write_begin(message, words, shape);
             add_parts(work, shape)
         }
-        Rest::Right(part) => add_right(work, declared.types.shape(part), part),
+        Rest::Right(part) => add_right(work, types.shape(part), part),
     }
 }
 
 /// The right part of a tuple.
 fn add_right(work: &mut Vec<Rest>, shape: Shape, part: usize) -> Result<(), Memory> {
     if let Shape::Pair(left, right) = shape {
-        work.push(Rest::Right(right))?;
-        work.push(Rest::Sign(", "))?;
-        work.push(Rest::Type(left))?;
+        work.extend_from_slice(&[Rest::Right(right), Rest::Sign(", "), Rest::Type(left)])?;
     } else {
-        work.push(Rest::Sign(")"))?;
-        work.push(Rest::Type(part))?;
+        work.extend_from_slice(&[Rest::Sign(")"), Rest::Type(part)])?;
     }
     Ok(())
 }
 
 /// How a type begins.
-fn write_begin(message: &mut Message, declared: &Declared<'_>, shape: Shape) {
+fn write_begin(message: &mut Message, words: &Words<'_>, shape: Shape) {
     match shape {
         Shape::Open | Shape::OpenName | Shape::Link(_) => message.say(&[Piece::Text("_")]),
         Shape::Unit => message.say(&[Piece::Text("()")]),
         Shape::Name(word) | Shape::Data(word) => {
-            if let Some(entry) = declared.type_words.at(word) {
+            if let Some(entry) = words.types.at(word) {
                 message.say(&[Piece::Word(entry.word)]);
             }
         }
@@ -73,18 +71,13 @@ fn write_begin(message: &mut Message, declared: &Declared<'_>, shape: Shape) {
 fn add_parts(work: &mut Vec<Rest>, shape: Shape) -> Result<(), Memory> {
     match shape {
         Shape::Pair(left, right) => {
-            work.push(Rest::Right(right))?;
-            work.push(Rest::Sign(", "))?;
-            work.push(Rest::Type(left))?;
+            work.extend_from_slice(&[Rest::Right(right), Rest::Sign(", "), Rest::Type(left)])?;
         }
         Shape::List(element) => {
-            work.push(Rest::Sign("]"))?;
-            work.push(Rest::Type(element))?;
+            work.extend_from_slice(&[Rest::Sign("]"), Rest::Type(element)])?;
         }
         Shape::Abs(name, body) => {
-            work.push(Rest::Type(body))?;
-            work.push(Rest::Sign("\\"))?;
-            work.push(Rest::Type(name))?;
+            work.extend_from_slice(&[Rest::Type(body), Rest::Sign("\\"), Rest::Type(name)])?;
         }
         _ => {}
     }
@@ -94,7 +87,8 @@ fn add_parts(work: &mut Vec<Rest>, shape: Shape) -> Result<(), Memory> {
 fn write_type(
     message: &mut Message,
     alloc: Global,
-    declared: &mut Declared<'_>,
+    words: &Words<'_>,
+    types: &Types,
     number: usize,
 ) -> Result<(), Memory> {
     let mut work = Vec::new(alloc);
@@ -103,27 +97,39 @@ fn write_type(
         let Some(next) = work.pop() else {
             return Ok(());
         };
-        write_next(message, &mut work, declared, next)?;
+        write_next(message, &mut work, words, types, next)?;
     }
     message.say(&[Piece::Text("..")]);
     Ok(())
 }
 
 /// Says a type as it is written, with `_` for what is not known, cut where it is long.
-pub fn say_type(message: &mut Message, alloc: Global, declared: &mut Declared<'_>, number: usize) {
-    if write_type(message, alloc, declared, number).is_err() {
+pub fn say_type(
+    message: &mut Message,
+    alloc: Global,
+    words: &Words<'_>,
+    types: &Types,
+    number: usize,
+) {
+    if write_type(message, alloc, words, types, number).is_err() {
         message.lose();
     }
 }
 
 /// Says a type in words.
-pub fn say_kind(message: &mut Message, alloc: Global, declared: &mut Declared<'_>, number: usize) {
-    match declared.types.shape(number) {
+pub fn say_kind(
+    message: &mut Message,
+    alloc: Global,
+    words: &Words<'_>,
+    types: &Types,
+    number: usize,
+) {
+    match types.shape(number) {
         Shape::OpenName => message.say(&[Piece::Text("a name type")]),
         Shape::Open => message.say(&[Piece::Text("any type")]),
         _ => {
             message.say(&[Piece::Text("the type `")]);
-            say_type(message, alloc, declared, number);
+            say_type(message, alloc, words, types, number);
             message.say(&[Piece::Text("`")]);
         }
     }

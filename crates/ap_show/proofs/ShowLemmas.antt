@@ -3,8 +3,7 @@ use Rattle.std.proofs.Common.{◌≡◌, ℕ, List, [], ◌∷◌, ◌++◌, map
 use Rattle.std.specs.Prelude.{Result, Ok, Err}
 use Rattle.std.proofs.lemmas.List.{append-nil, map-append}
 use Rattle.ap_bundle.specs.Bundles.{NominalBundle, NominalProved, proved_of}
-use Rattle.ap_bundle.specs.declared.faults.BundleFault.{BundleFault}
-use Rattle.ap_bundle_check.specs.Reports.{IsReadReport, bundle_fault_report, check_report}
+use Rattle.ap_bundle_check.specs.Reports.{IsReadReport, check_report}
 use Rattle.ap_defs.specs.declared.faults.Fault.{Fault}
 use Rattle.ap_defs.specs.declared.faults.Fault.TheVariants as faults
 use Rattle.ap_defs.specs.declared.outcomes.Proved.{Proved}
@@ -71,13 +70,7 @@ fault_refuses (faults.Syntax f) e = cc
 fault_refuses (faults.Types f) e = cc
 fault_refuses (faults.Names f) e = cc
 
--- a bundle that passes was read, and its text has no fault
-pub no_bundle_fault : (f : BundleFault) → PassesCheck (Err f) → ⊥
-no_bundle_fault f passes =
-    let same : bundle_fault_report f ≡ passes.report = sym passes.is in
-    let ok : (bundle_fault_report f).status ≡ status.Ok = ap (λ (r : Report). r.status) same ∙ passes.status in
-    cc
-
+-- the text of a bundle that passes has no fault
 pub no_text_fault : (b : NominalBundle) (f : Fault) → IsFaultOfText b.text f → PassesCheck (Ok b) → ⊥
 no_text_fault b f h passes =
     let answer = check_report b.proved in

@@ -1,10 +1,10 @@
 -- What is shown of a bundle: what `check` says, where it refuses, and else a document of its derivations.
-use Rattle.std.specs.Prelude.{◌≡◌, ℕ, List, ◌++◌, map, Result, Ok}
+use Rattle.std.specs.Prelude.{◌≡◌, ℕ, List, ◌++◌, map, Result, Ok, Err}
 use Rattle.ap_defs.specs.Goals.{NominalProgram}
 use Rattle.ap_bundle.specs.Bundles.{NominalBundle, NominalProved}
 use Rattle.ap_bundle.specs.Reading.{reading}
 use Rattle.ap_bundle.specs.declared.faults.BundleFault.{BundleFault}
-use Rattle.ap_bundle_check.specs.Reports.{IsCheckReport, IsReadReport}
+use Rattle.ap_bundle_check.specs.Reports.{IsCheckReport, IsReadReport, bundle_fault_report}
 use Rattle.ap_pages.specs.declared.pages.Format.{Format}
 use Rattle.ap_pages.specs.declared.steps.Step.{Step}
 use Rattle.ap_pages.specs.Pages.{derivation_text, derivation_texts, document}
@@ -44,11 +44,13 @@ pub record IsShownBundle (format : Format) (b : NominalBundle) (r : Report) : Ty
   pub document : IsDocument format program (predicate_words items) b.proved r.bytes
   pub status : r.status ≡ status.Ok
 
--- A document of a bundle that is read.
-pub record IsShownDocument (format : Format) (bytes : List ℕ) (r : Report) : Type 0 where
-  pub bundle : NominalBundle
-  pub read : reading bytes ≡ Ok bundle
-  pub shown : IsShownBundle format bundle r
+-- a document of a bundle that is read, or the report of the fault of one whose terms together are too large to be written in full
+abbrev pub IsShownRead : Format → Result NominalBundle BundleFault → Report → Type 0
+IsShownRead format (Ok b) r = IsShownBundle format b r
+IsShownRead format (Err f) r = r ≡ bundle_fault_report f
+
+abbrev pub IsShownDocument : Format → List ℕ → Report → Type 0
+IsShownDocument format bytes r = IsShownRead format (reading bytes) r
 
 -- The check of what was read refuses nothing.
 pub record PassesCheck (read : Result NominalBundle BundleFault) : Type 0 where

@@ -7,7 +7,7 @@ ghost use Rattle.ap_defs.specs.Goals.{program_of};
 ghost use Rattle.ap_defs.specs.Limits.{size_limit};
 ghost use Rattle.ap_defs.specs.Printing.{has_word};
 ghost use Rattle.ap_answers.specs.Words.{knows};
-ghost use Rattle.ap_bundle.specs.Reading.{reading};
+ghost use Rattle.ap_bundle.specs.Reading.{cited_reading};
 ghost use Rattle.ap_show.specs.Reports.{AreWritten, IsDocument, IsShowReport, IsShownDocument, IsShownBundle, IsDocumentWritten, PassesCheck};
 
 use crate::predicates::predicate_words;
@@ -112,12 +112,12 @@ fn document_of_bundle(alloc: Global, format: Format, bundle: &Bundle) -> Result<
 /// A document of the bundle that bytes are, whose check found nothing to refuse.
 fn document_of_bytes(alloc: Global, format: Format, bytes: &[u8]) -> Result<Report, Memory>
     requires short { length bytes.now ≤ size_limit }
-    requires passes { PassesCheck (reading bytes.now) }
+    requires passes { PassesCheck (cited_reading bytes.now) }
     ensures { IfOk result (λ r. IsShownDocument format bytes.now r) }
 {
     match read_bundle(alloc, bytes) {
         Ok(bundle) => document_of_bundle(alloc, format, &bundle),
-        Err(BundleError::Fault(_)) => unreachable!(),
+        Err(BundleError::Fault(fault)) => bundle_fault_report(alloc, fault),
         Err(BundleError::Memory) => Err(Memory),
     }
 }

@@ -30,26 +30,34 @@ fn add_listed(names: &mut IndexSet<Name>, more: &[Name]) -> Result<(), Memory>
 }
 
 /// Adds the names of terms.
-fn add_names_of(names: &mut IndexSet<Name>, terms: &[Term]) -> Result<(), Memory>
+fn add_names_of(
+    alloc: Global,
+    names: &mut IndexSet<Name>,
+    terms: &[Term],
+) -> Result<(), Memory>
     ensures { OnOk result (names.new.keys
         ≡ more_names names.old.keys (names_of_terms (map term_of terms.now))) }
 {
     let mut rest = terms;
     'terms: while let Some((term, others)) = rest.split_first() {
-        add_names(names, term)?;
+        add_names(alloc, names, term)?;
         rest = others;
     }
     Ok(())
 }
 
 /// Adds the variables of terms.
-fn add_vars_of(vars: &mut IndexSet<Var>, terms: &[Term]) -> Result<(), Memory>
+fn add_vars_of(
+    alloc: Global,
+    vars: &mut IndexSet<Var>,
+    terms: &[Term],
+) -> Result<(), Memory>
     ensures { OnOk result (vars.new.keys
         ≡ more_vars vars.old.keys (vars_of_terms (map term_of terms.now))) }
 {
     let mut rest = terms;
     'terms: while let Some((term, others)) = rest.split_first() {
-        add_vars(vars, term)?;
+        add_vars(alloc, vars, term)?;
         rest = others;
     }
     Ok(())
@@ -136,16 +144,20 @@ pub(crate) fn nodes_of(alloc: Global, derivation: &Derivation) -> Result<Vec<&De
 
 /// Adds the names of a node.
 #[tactic(auto, using(ap_answers::proofs::OccurrenceLemmas::more_names_append))]
-fn add_own_names(names: &mut IndexSet<Name>, node: &Derivation) -> Result<(), Memory>
+fn add_own_names(
+    alloc: Global,
+    names: &mut IndexSet<Name>,
+    node: &Derivation,
+) -> Result<(), Memory>
     ensures { OnOk result (names.new.keys
         ≡ more_names names.old.keys (own_names (derivation_of node.now))) }
 {
     match node {
         Derivation::Atom(used, _) => {
             add_listed(names, used.names.items())?;
-            add_names_of(names, used.terms.items())
+            add_names_of(alloc, names, used.terms.items())
         }
-        Derivation::Exists(term, _) => add_names(names, term),
+        Derivation::Exists(term, _) => add_names(alloc, names, term),
         Derivation::New(own, _) => add_name(names, **own),
         Derivation::Eq | Derivation::Fresh | Derivation::True => Ok(()),
         Derivation::Both(_, _) | Derivation::Left(_) | Derivation::Right(_) => Ok(()),
@@ -153,13 +165,17 @@ fn add_own_names(names: &mut IndexSet<Name>, node: &Derivation) -> Result<(), Me
 }
 
 /// Adds the variables of a node.
-fn add_own_vars(vars: &mut IndexSet<Var>, node: &Derivation) -> Result<(), Memory>
+fn add_own_vars(
+    alloc: Global,
+    vars: &mut IndexSet<Var>,
+    node: &Derivation,
+) -> Result<(), Memory>
     ensures { OnOk result (vars.new.keys
         ≡ more_vars vars.old.keys (own_vars (derivation_of node.now))) }
 {
     match node {
-        Derivation::Atom(used, _) => add_vars_of(vars, used.terms.items()),
-        Derivation::Exists(term, _) => add_vars(vars, term),
+        Derivation::Atom(used, _) => add_vars_of(alloc, vars, used.terms.items()),
+        Derivation::Exists(term, _) => add_vars(alloc, vars, term),
         Derivation::New(_, _) => Ok(()),
         Derivation::Eq | Derivation::Fresh | Derivation::True => Ok(()),
         Derivation::Both(_, _) | Derivation::Left(_) | Derivation::Right(_) => Ok(()),
@@ -168,6 +184,7 @@ fn add_own_vars(vars: &mut IndexSet<Var>, node: &Derivation) -> Result<(), Memor
 
 /// Adds the names of an answer with its derivation, which has these nodes.
 pub(crate) fn add_all_names(
+    alloc: Global,
     names: &mut IndexSet<Name>,
     answer: &Answer,
     nodes: &[&Derivation],
@@ -175,16 +192,17 @@ pub(crate) fn add_all_names(
     ensures { OnOk result ((d : NominalDerivation) → derivations_of nodes.now ≡ subderivations d →
         names.new.keys ≡ more_names names.old.keys (names_in (answer_of answer.now) d)) }
 {
-    add_names_of(names, answer.binds.items())?;
+    add_names_of(alloc, names, answer.binds.items())?;
     add_names_in(names, answer.conds.items())?;
     for i in 0..nodes.len() {
-        add_own_names(names, nodes[i])?;
+        add_own_names(alloc, names, nodes[i])?;
     }
     Ok(())
 }
 
 /// Adds the variables of an answer with its derivation, which has these nodes.
 pub(crate) fn add_all_vars(
+    alloc: Global,
     vars: &mut IndexSet<Var>,
     answer: &Answer,
     nodes: &[&Derivation],
@@ -192,10 +210,10 @@ pub(crate) fn add_all_vars(
     ensures { OnOk result ((d : NominalDerivation) → derivations_of nodes.now ≡ subderivations d →
         vars.new.keys ≡ more_vars vars.old.keys (vars_of_proof (answer_of answer.now) d)) }
 {
-    add_vars_of(vars, answer.binds.items())?;
+    add_vars_of(alloc, vars, answer.binds.items())?;
     add_vars_in(vars, answer.conds.items())?;
     for i in 0..nodes.len() {
-        add_own_vars(vars, nodes[i])?;
+        add_own_vars(alloc, vars, nodes[i])?;
     }
     Ok(())
 }

@@ -20,14 +20,15 @@ use crate::writers::Writer;
 use ap_answers::answers::write_shown;
 use ap_answers::bindings::shown_bindings;
 use ap_answers::speller::Speller;
-use ap_checker::identifiers::Identifiers;
-use ap_checker::lookups::query_at;
-use ap_checker::scope::Standing;
 use ap_defs::goals::{Local, Program, Query};
 use ap_defs::lists::{List, Text};
 use ap_defs::memory::Memory;
 use ap_defs::outcomes::{Answer, Proved};
 use ap_defs::terms::Term;
+use ap_judge::cited::CitedTerms;
+use ap_judge::identifiers::Identifiers;
+use ap_judge::lookups::query_at;
+use ap_judge::scope::Standing;
 use ap_pages::phrases::phrase_of;
 use ap_pages::steps::{Phrase, Step};
 use ap_spelling::spelt::Spelt;
@@ -89,7 +90,8 @@ fn steps_of_query<'a>(
         (writing_of writer.now)) }
 {
     let own = Identifiers::of(writer.alloc, query.locals.items())?;
-    let given = Standing::Query(own, proved.answer.binds.items());
+    let binds = CitedTerms::Trees(proved.answer.binds.items());
+    let given = Standing::Query(own, binds);
     let pieces = pieces_of(writer, given, &proved.derivation, &query.goal)?;
     let mut waiting = Vec::new(writer.alloc);
     let sides = place_pieces(writer.alloc, pieces, 1, &mut waiting)?;

@@ -39,7 +39,7 @@ fn names_shown(alloc: Global, locals: &[Local], proved: &Proved) -> Result<Index
 {
     let nodes = nodes_of(alloc, &proved.derivation)?;
     let mut names = free_names(alloc, locals)?;
-    add_all_names(&mut names, &proved.answer, nodes.as_slice())?;
+    add_all_names(alloc, &mut names, &proved.answer, nodes.as_slice())?;
     Ok(names)
 }
 
@@ -50,7 +50,7 @@ fn vars_shown(alloc: Global, proved: &Proved) -> Result<IndexSet<Var>, Memory>
 {
     let nodes = nodes_of(alloc, &proved.derivation)?;
     let mut vars = IndexSet::new(alloc);
-    add_all_vars(&mut vars, &proved.answer, nodes.as_slice())?;
+    add_all_vars(alloc, &mut vars, &proved.answer, nodes.as_slice())?;
     Ok(vars)
 }
 

@@ -1,5 +1,5 @@
 -- Variables that are followed to the closures to which they are bound.
-use Rattle.std.proofs.Common.{◌≡◌, ◌<◌, ◌≤◌, ◌||◌, ℕ, Bool, true, false, List, ◌++◌, map, refl, sym, ap, ◌∙◌, subst, arith}
+use Rattle.std.proofs.Common.{◌≡◌, ◌<◌, ◌≤◌, ◌+◌, ◌||◌, ℕ, Bool, true, false, List, ◌++◌, map, refl, sym, ap, ◌∙◌, subst, arith}
 use Rattle.std.specs.Prelude.{Some, None, is_some}
 use Rattle.ap_defs.specs.Freshness.{var_eq}
 use Rattle.ap_defs.specs.Renaming.{AreSwapsBelow, IsBelow, rename_swap, rename_term, rename_var}
@@ -14,7 +14,7 @@ use Rattle.ap_perm.specs.Lookups.{depth_of}
 use Rattle.ap_perm.specs.declared.closures.Closure.{Closure}
 use Rattle.ap_perm.specs.declared.closures.Lent.{Lent}
 use Rattle.ap_perm.proofs.LookupLemmas.{depth_act, depth_ranked}
-use Rattle.ap_perm.proofs.VisitLemmas.{visits, visits_bound, visits_left, visits_right}
+use Rattle.ap_perm.proofs.VisitLemmas.{visits, visits_bound, visits_left, visits_pair, visits_right}
 use Rattle.ap_theory.proofs.HeadKeyLemmas.{key_act}
 use Rattle.ap_theory.proofs.IdempotenceLemmas.{bound_term_unbound}
 use Rattle.ap_theory.proofs.SubstitutionLemmas.{under_act}
@@ -42,6 +42,9 @@ module _ (s : Store) where
 
   pub right_less : (t u : NominalTerm) → visits_in s u < visits_in s (pair t u)
   right_less t u = visits_right (raw_bound s) (rank s) (store_ranked s) t u
+
+  pub both_less : (t u : NominalTerm) → visits_in s t + visits_in s u < visits_in s (pair t u)
+  both_less t u = visits_pair (raw_bound s) (rank s) (store_ranked s) t u
 
   -- the closure's term without its swappings
   abbrev bare : Closure → NominalTerm

@@ -8,4 +8,5 @@ pub mod HeldLemmas
 pub mod StoreLemmas
 pub mod FollowLemmas
 pub mod ReachLemmas
+mod WaitingLemmas
 pub mod WalkLemmas

@@ -1,15 +1,16 @@
 //! Occurrences of variables.
 
-ghost use Rattle.std.specs.Prelude.{◌≡◌};
-ghost use Rattle.ap_defs.specs.Renaming.{IsBelow, rename_term};
-ghost use Rattle.ap_defs.specs.Substitution.{occurs, under};
-ghost use Rattle.ap_defs.specs.Terms.{term_of};
-ghost use Rattle.ap_store.specs.Views.{bindings_of, meaning_in};
+ghost use Rattle.std.specs.Prelude.{◌≡◌, IfOk};
+ghost use Rattle.ap_defs.specs.Substitution.{occurs};
+ghost use Rattle.ap_store.specs.Founds.{occurs_in};
+ghost use Rattle.ap_store.specs.Views.{meaning_in};
 
 use crate::bare::Bare;
 use crate::store::Store;
+use ap_defs::memory::Memory;
 use ap_defs::terms::{Term, Var};
 use ap_perm::closures::Closure;
+use std::alloc::Global;
 
 /// The number that those in a term are below.
 fn end_of(b: Bare<'_>) -> u64
@@ -18,49 +19,73 @@ fn end_of(b: Bare<'_>) -> u64
     b.end
 }
 
-/// Whether the variable occurs in what the term stands for, whose identifiers are numbered from
-/// `base` on.
-///
-/// It goes on along what is last in a term and into bindings, and calls itself on left parts of pairs
-/// alone.
-fn occurs_below(store: &Store<'_>, x: Var, mut base: u64, mut end: u64, t: &Term) -> bool
-    requires { IsBelow end (rename_term base (term_of t.now)) }
-    ensures { result
-        ≡ occurs x (under (bindings_of store.now) (rename_term base (term_of t.now))) }
+/// Whether the variable occurs in what a part stands for. The right parts of pairs wait on a stack while the left
+/// ones are looked through, so a term may be deep on either side.
+fn occurs_below<'a>(
+    alloc: Global,
+    store: &Store<'a>,
+    x: Var,
+    first: Bare<'a>,
+) -> Result<bool, Memory>
+    ensures { IfOk result (λ found. found ≡ occurs_in store.now x first.entry) }
 {
-    let mut rest = t;
-    loop {
+    let mut waiting = Vec::new(alloc);
+    let mut base = first.base;
+    let mut end = first.end;
+    let mut rest = first.term;
+    'seeking: loop {
         match rest {
-            Term::Unit | Term::Name(_) => return false,
+            Term::Unit | Term::Name(_) => {}
             Term::Pair(left, right) => {
-                if occurs_below(store, x, base, end, left) {
-                    return true;
-                }
-                rest = right;
+                waiting.push(Bare {
+                    base,
+                    end,
+                    term: right,
+                })?;
+                rest = left;
+                continue;
             }
-            Term::App(_, argument) => rest = argument,
-            Term::Abs(_, body) => rest = body,
+            Term::App(_, inner) | Term::Abs(_, inner) => {
+                rest = inner;
+                continue;
+            }
             Term::Susp(_, y) => {
                 let y = Var { num: base + y.num };
-                match store.bare(y) {
-                    None => return x.num == y.num,
-                    Some(b) => {
-                        base = b.base;
-                        end = end_of(b);
-                        rest = b.term;
-                    }
+                if let Some(b) = store.bare(y) {
+                    base = b.base;
+                    end = end_of(b);
+                    rest = b.term;
+                    continue;
+                }
+                if x.num == y.num {
+                    return Ok(true);
                 }
             }
         }
+        let Some(next) = waiting.pop() else {
+            return Ok(false);
+        };
+        base = next.base;
+        end = end_of(next);
+        rest = next.term;
     }
 }
 
-impl Store<'_> {
-    /// Whether a variable occurs in what a closure stands for under the bindings. It takes no memory,
-    /// and looks at no term where the variable is new.
-    pub fn occurs(&self, x: Var, c: &Closure<'_>) -> bool
-        ensures { result ≡ occurs x (meaning_in self.now c.now) }
+impl<'a> Store<'a> {
+    /// Whether a variable occurs in what a closure stands for under the bindings. It looks at no term where the
+    /// variable is new, and takes memory where a left part of a pair is looked through alone.
+    pub fn occurs(&self, alloc: Global, x: Var, c: &Closure<'a>) -> Result<bool, Memory>
+        ensures { IfOk result (λ found. found ≡ occurs x (meaning_in self.now c.now)) }
     {
-        !self.is_new(x, c) && occurs_below(self, x, c.base, c.end, c.term)
+        if self.is_new(x, c) {
+            return Ok(false);
+        }
+        let first = Bare {
+            base: c.base,
+            end: c.end,
+            term: c.term,
+        };
+        let found = occurs_below(alloc, self, x, first)?;
+        Ok(found)
     }
 }

@@ -4,7 +4,7 @@ ghost use Rattle.std.specs.Prelude.{◌≡◌, List as list, Some, None, IfOk, I
 ghost use Rattle.ap_defs.specs.Terms.{act_term};
 ghost use Rattle.ap_defs.specs.declared.terms.Swap.{Swap};
 ghost use Rattle.ap_perm.specs.Closures.{closure_term, lent_term};
-ghost use Rattle.ap_store.specs.Founds.{IsFound, bare_term};
+ghost use Rattle.ap_store.specs.Founds.{IsWhatIsFound, bare_term};
 ghost use Rattle.ap_store.specs.Slots.{IsKeptBelow, value_term};
 
 use crate::bare::Bare;
@@ -66,7 +66,7 @@ fn bare_of<'a>(c: &Closure<'a>) -> Bare<'a>
 /// memory.
 pub fn found_value<'a>(b: &Value<'a>, end: u64) -> Found<'a>
     requires { IsKeptBelow end b.now }
-    ensures { IsFound (value_term b.now) result }
+    ensures { IsWhatIsFound (value_term b.now) result }
 {
     match b {
         Value::Unbound => Found::Nothing,

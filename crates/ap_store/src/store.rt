@@ -52,7 +52,7 @@ impl<'a> Store<'a> {
     ghost use Rattle.ap_perm.specs.Closures.{closure_term, lent_term};
     ghost use Rattle.ap_theory.specs.Variables.{IsUnbound};
     ghost use Rattle.ap_store.specs.Changes.{has_on, replace_conditions, with_bound};
-    ghost use Rattle.ap_store.specs.Founds.{IsBareOf, IsFound};
+    ghost use Rattle.ap_store.specs.Founds.{IsBareOf, IsWhatIsFound};
     ghost use Rattle.ap_store.specs.Slots.{IsKeptBelow, value_term, kept_term};
     ghost use Rattle.ap_store.specs.Triples.{AreOnUnbound, IsPrefixOf, is_apart, is_on, with_binding, with_conditions, with_next};
     ghost use Rattle.ap_store.specs.Views.{IsUnchanged, bindings_of, kinds, meaning_in, past, present, raw_bound, versions};
@@ -194,7 +194,7 @@ impl<'a> Store<'a> {
 
     /// What a look at a variable finds. It takes no memory.
     pub fn found(&self, x: Var) -> Found<'a>
-        ensures { IsFound (raw_bound self.now x) result }
+        ensures { IsWhatIsFound (raw_bound self.now x) result }
     {
         found_at(&self.table, x.num, self.reach)
     }

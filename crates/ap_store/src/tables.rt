@@ -4,7 +4,7 @@ ghost use Rattle.std.specs.Prelude.{◌≡◌, ℕ, ◌+◌, ◌≤◌, ◌<◌,
 ghost use Rattle.ap_defs.specs.Resolution.{kinds_of};
 ghost use Rattle.ap_defs.specs.Types.{locals_of};
 ghost use Rattle.ap_perm.specs.Closures.{lent_term};
-ghost use Rattle.ap_store.specs.Founds.{IsFound};
+ghost use Rattle.ap_store.specs.Founds.{IsWhatIsFound};
 ghost use Rattle.ap_store.specs.Slots.{AreKeptBelow, IsKeptBelow, value_term, bound_in, slot_kind};
 
 use crate::slots::{Found, Slot, Value, found_value, lent_value};
@@ -57,7 +57,7 @@ pub fn bound_at<'s, 'a>(table: &'s [Slot<'a>], num: u64, end: u64) -> Option<Len
 /// What a look at a number finds, where what it is bound to is below `end`. It takes no memory.
 pub fn found_at<'a>(table: &[Slot<'a>], num: u64, end: u64) -> Found<'a>
     requires { AreKeptBelow end table.now }
-    ensures { IsFound (bound_in table.now num) result }
+    ensures { IsWhatIsFound (bound_in table.now num) result }
 {
     if num < table.len() as u64 {
         found_value(&table[num as usize].value, end)

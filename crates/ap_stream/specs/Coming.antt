@@ -6,12 +6,12 @@ use Rattle.ap_defs.specs.Goals.{Clauses, program_in}
 use Rattle.ap_defs.specs.Types.{NominalLocal, locals_of}
 use Rattle.ap_paths.specs.Limits.{part}
 use Rattle.ap_paths.specs.declared.limits.Limit.{Limit}
-use Rattle.ap_backchain.specs.Below.{AreClausesBelow}
+use Rattle.ap_machine.specs.Below.{AreClausesBelow}
 use Rattle.ap_backchain.specs.Ends.{without_path}
-use Rattle.ap_backchain.specs.Machines.{position_of}
-use Rattle.ap_backchain.specs.Positions.{outs_from_each}
+use Rattle.ap_machine.specs.Machines.{position_of}
+use Rattle.ap_machine.specs.Positions.{outs_from_each}
 use Rattle.ap_backchain.specs.Searches.{HasPoints, pending_positions}
-use Rattle.ap_backchain.specs.declared.machine.Machine.{Machine}
+use Rattle.ap_machine.specs.declared.machine.Machine.{Machine}
 use Rattle.ap_backchain.specs.declared.points.ChoicePoint.{ChoicePoint}
 use Rattle.ap_stream.specs.declared.search.Search.{Search}
 

@@ -4,14 +4,13 @@ ghost use Rattle.std.specs.Prelude.{◌≡◌, ◌-◌, ◌<◌, ◌≤◌, ◌^
 ghost use Rattle.ap_defs.specs.Answers.{out_of, outs_of, query_outs};
 ghost use Rattle.ap_defs.specs.Goals.{NominalQuery, program_in};
 ghost use Rattle.ap_defs.specs.Types.{locals_of};
-ghost use Rattle.ap_backchain.specs.Below.{AreClausesBelow};
+ghost use Rattle.ap_machine.specs.Below.{AreClausesBelow};
 ghost use Rattle.ap_stream.specs.Coming.{IsSearching, outs_coming, outs_to_come};
 ghost use Rattle.ap_backchain.specs.Ends.{without_path};
 ghost use Rattle.ap_backchain.specs.Problems.{HasQuery, clauses_in, queries_in};
 ghost use Rattle.ap_backchain.specs.Searches.{HasPoints};
 ghost use Rattle.ap_paths.specs.Limits.{IsWanting, part};
 
-use ap_backchain::machine::Machine;
 use ap_backchain::points::ChoicePoint;
 use ap_backchain::problem::{Problem, clauses_of_problem, query_of_problem};
 use ap_backchain::run::{Paths, first_machine, go_on};
@@ -19,6 +18,7 @@ use ap_defs::goals::Local;
 use ap_defs::memory::Memory;
 use ap_defs::paths::Out;
 use ap_index::predicate::Predicate;
+use ap_machine::machine::Machine;
 use ap_paths::Limit;
 use std::alloc::Global;
 

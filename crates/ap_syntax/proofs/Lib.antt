@@ -5,3 +5,4 @@ pub mod GoalOnly
 pub mod Levels
 pub mod ItemLaws
 pub mod Readings
+pub mod Fronts

@@ -67,28 +67,10 @@ pub fault_of : (i : ℕ) (ts : List Lexeme) (f : SyntaxFault) → FirstOf i ts (
 fault_of i [] f h = absurd h
 fault_of i (t ∷ ts) f h = faulty f h
 
--- the outcomes of the code
+-- the code finds no `.`
 pub unended_of : (i : ℕ) (tokens : List Token) (d : Token) → 0 < length tokens → first_dot (lexemes tokens) ≡ None → FirstOf i (lexemes tokens) (Err (fault i (lexeme (get_or tokens 0 d)) kinds.Unended))
 unended_of i [] d some none = absurd (omega (arith, some))
 unended_of i (t ∷ ts) d some none = unended none
-
-pub too_deep_of : (i : ℕ) (tokens : List Token) (d : Token) (place : ℕ) → 0 < length tokens → first_dot (lexemes tokens) ≡ Some place → is_too_deep (before place (lexemes tokens)) ≡ true
-    → FirstOf i (lexemes tokens) (Err (fault i (lexeme (get_or tokens 0 d)) kinds.TooDeep))
-too_deep_of i [] d place some dot deep = absurd (omega (arith, some))
-too_deep_of i (t ∷ ts) d place some dot deep = too_deep place dot deep
-
-pub no_item_of : (i : ℕ) (tokens : List Token) (d : Token) (place : ℕ) → 0 < length tokens → first_dot (lexemes tokens) ≡ Some place → is_too_deep (before place (lexemes tokens)) ≡ false
-    → read_item (before place (lexemes tokens)) ≡ None → FirstOf i (lexemes tokens) (Err (fault i (lexeme (get_or tokens 0 d)) kinds.Grammar))
-no_item_of i [] d place some dot deep none = absurd (omega (arith, some))
-no_item_of i (t ∷ ts) d place some dot deep none =
-    no_item place dot deep (λ form h. let both : Some form ≡ None = sym (item_only h) ∙ none in absurd (cc both))
-
-pub an_item_of : (i : ℕ) (tokens : List Token) (d : Token) (place : ℕ) (form : Saying) → 0 < length tokens → first_dot (lexemes tokens) ≡ Some place → is_too_deep (before place (lexemes tokens)) ≡ false
-    → read_item (before place (lexemes tokens)) ≡ Some form
-    → FirstOf i (lexemes tokens) (Ok (record { line = (get_or tokens 0 d).line; form = form }, drop (place + 1) (lexemes tokens)))
-an_item_of i [] d place form some dot deep got = absurd (omega (arith, some))
-an_item_of i (t ∷ ts) d place form some dot deep got =
-    an_item place form dot deep (subst (λ o. IfSome o (λ f. IsItem (before place (lexemes (t ∷ ts))) f)) got (item_sound (before place (lexemes (t ∷ ts)))))
 
 pub after_items-append : (front more : List ItemOf) (r : Result (List ItemOf) SyntaxFault) → after_items front (after_items more r) ≡ after_items (front ++ more) r
 after_items-append front more (Ok xs) = ap (λ v. Ok v) (sym (append_assoc front more xs))

@@ -1,5 +1,5 @@
 -- What tokens read as: their items, or the first faulty item.
-use Rattle.std.specs.Prelude.{ℕ, ◌+◌, true, false, List, [], ◌∷◌, ◌++◌, take, drop, position, Option, None, Some, Result, Ok, Err, ◌≡◌, ⊤}
+use Rattle.std.specs.Prelude.{ℕ, ◌+◌, true, false, List, [], ◌∷◌, ◌++◌, take, drop, position, Option, None, Some, Result, Ok, Err, ◌≡◌, ⊤, if◌then◌else◌}
 use Rattle.ap_lexer.specs.Tokens.{Lexeme, is_dot}
 use Rattle.ap_trees.specs.Symbols.{Sym, syms_of}
 use Rattle.ap_trees.specs.Items.{Saying, ItemOf}
@@ -9,6 +9,7 @@ use Rattle.ap_syntax.specs.declared.faults.SynError.TheVariants as errors
 use Rattle.ap_defs.specs.declared.faults.SyntaxKind.{SyntaxKind}
 use Rattle.ap_defs.specs.declared.faults.SyntaxKind.TheVariants as kinds
 use Rattle.ap_syntax.specs.ItemGrammar.{IsItem}
+use Rattle.ap_syntax.specs.ItemReader.{read_item}
 use Rattle.ap_syntax.specs.Nesting.{is_too_deep}
 
 -- the place of the first `.`, which ends the first item
@@ -40,6 +41,15 @@ pub data First (item : ℕ) (t : Lexeme) (ts : List Lexeme) : Result (ItemOf × 
 abbrev pub FirstOf : ℕ → List Lexeme → Result (ItemOf × List Lexeme) SyntaxFault → Type 0
 FirstOf item [] o = ⊥
 FirstOf item (t ∷ ts) o = First item t ts o
+
+-- what an item reads as whose symbols before its `.` are these
+abbrev pub form_or_fault : ℕ → ℕ → Option Saying → Result ItemOf SyntaxFault
+form_or_fault item line None = Err (record { place = record { item = item; line = line }; kind = kinds.Grammar })
+form_or_fault item line (Some form) = Ok (record { line = line; form = form })
+
+abbrev pub item_or_fault : ℕ → ℕ → List Sym → Result ItemOf SyntaxFault
+item_or_fault item line ts = if is_too_deep ts then Err (record { place = record { item = item; line = line }; kind = kinds.TooDeep })
+    else form_or_fault item line (read_item ts)
 
 -- all items, or the first fault
 abbrev pub TextOutcome : Type 0

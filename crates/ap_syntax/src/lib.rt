@@ -13,4 +13,4 @@ mod nesting;
 mod reading;
 
 pub use faults::SynError;
-pub use reading::parse;
+pub use reading::{item_of_tokens, parse};

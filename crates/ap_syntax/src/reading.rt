@@ -1,7 +1,7 @@
 // The items of tokens, one after another.
-ghost use Rattle.std.specs.Prelude.{◌≡◌, ◌<◌, ◌≤◌, ◌+◌, IfOk, IfSome, length, drop};
+ghost use Rattle.std.specs.Prelude.{◌≡◌, ◌<◌, ◌≤◌, ◌+◌, List, IfOk, IfSome, length, drop};
 ghost use Rattle.ap_defs.specs.Limits.{size_limit};
-ghost use Rattle.ap_lexer.specs.Tokens.{lexeme, lexemes, is_dot};
+ghost use Rattle.ap_lexer.specs.Tokens.{Lexeme, lexeme, lexemes, is_dot, item_front, after_item};
 ghost use Rattle.ap_trees.specs.Symbols.{syms};
 ghost use Rattle.ap_trees.specs.Trees.{item_of, items_of_text};
 ghost use Rattle.ap_syntax.specs.Reading.{GivesOneOf, Reads, FirstOf, first_dot};
@@ -21,7 +21,7 @@ fn dot_place(tokens: &[Token<'_>]) -> Option<usize>
     ensures inside { IfSome result (λ place. place < length tokens.now) }
 {
     for (place, token) in tokens.iter().enumerate() {
-        if token.text == "." {
+        if token.ends_item() {
             return Some(place);
         }
     }
@@ -57,6 +57,26 @@ fn fault(item: u32, line: u64, kind: SyntaxKind) -> SynError
     SynError::Fault(SyntaxFault { place, kind })
 }
 
+/// The item whose symbols before its `.` are these.
+fn form_item<'a>(
+    alloc: Global,
+    item: u32,
+    line: u64,
+    symbols: &[Symbol<'a>],
+) -> Result<Item<'a>, SynError>
+    ensures { GivesOneOf item_of result
+        (λ r. r ≡ spec.item_or_fault item line (syms symbols.now)) }
+{
+    if is_too_deep(alloc, symbols)? {
+        return Err(fault(item, line, SyntaxKind::TooDeep));
+    }
+    match form(alloc, symbols) {
+        Ok(form) => Ok(Item { line, form }),
+        Err(ReadError::Grammar) => Err(fault(item, line, SyntaxKind::Grammar)),
+        Err(ReadError::Memory) => Err(SynError::Memory),
+    }
+}
+
 /// The first item of tokens, and how many tokens it takes with its `.`.
 fn first_item<'a>(
     alloc: Global,
@@ -73,14 +93,31 @@ fn first_item<'a>(
         return Err(fault(item, line, SyntaxKind::Unended));
     };
     let symbols = symbols_before(alloc, tokens, place)?;
-    if is_too_deep(alloc, &symbols)? {
-        return Err(fault(item, line, SyntaxKind::TooDeep));
+    match form_item(alloc, item, line, &symbols) {
+        Ok(item) => Ok((item, place + 1)),
+        Err(error) => Err(error),
     }
-    match form(alloc, &symbols) {
-        Ok(form) => Ok((Item { line, form }, place + 1)),
-        Err(ReadError::Grammar) => Err(fault(item, line, SyntaxKind::Grammar)),
-        Err(ReadError::Memory) => Err(SynError::Memory),
-    }
+}
+
+/// The item of a number, of which these are all tokens with its `.`, or its fault.
+///
+/// The tokens are let go before it is read.
+pub fn item_of_tokens<'a>(
+    alloc: Global,
+    number: u32,
+    tokens: Vec<Token<'a>>,
+) -> Result<Item<'a>, SynError>
+    requires { 0 < length tokens.items }
+    ensures { (all : List Lexeme) → lexemes tokens.entry.items ≡ item_front all →
+        GivesOneOf (λ i. (item_of i, after_item all)) result (FirstOf number all) }
+{
+    let line = tokens[0].line;
+    let Some(place) = dot_place(&tokens) else {
+        return Err(fault(number, line, SyntaxKind::Unended));
+    };
+    let symbols = symbols_before(alloc, &tokens, place)?;
+    drop(tokens);
+    form_item(alloc, number, line, &symbols)
 }
 
 /// The items of tokens, or the first fault.

@@ -1,3 +1,4 @@
 mod NameFaults
 mod TokenCounts
 pub mod Texts
+mod Outlooks

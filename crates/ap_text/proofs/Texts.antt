@@ -5,26 +5,18 @@ use Rattle.ap_defs.specs.Goals.{ProgramOver, NominalProgram}
 use Rattle.ap_defs.specs.declared.faults.Fault.{Fault}
 use Rattle.ap_defs.specs.declared.faults.Fault.TheVariants as faults
 use Rattle.ap_defs.specs.declared.faults.SyntaxFault.{SyntaxFault}
-use Rattle.ap_lexer.specs.Tokens.{Lexeme, lexed, FailsLexing}
-use Rattle.ap_lexer.specs.declared.token.LexError.{LexError}
-use Rattle.ap_lexer.specs.declared.token.LexError.TheVariants as tokens
+use Rattle.ap_lexer.specs.Tokens.{Lexeme, lexed}
 use Rattle.ap_trees.specs.Items.{ItemOf}
-use Rattle.ap_syntax.specs.Reading as reading
 use Rattle.ap_syntax.specs.Reading.{Reads, TextOutcome}
-use Rattle.ap_syntax.specs.declared.faults.SynError.{SynError}
-use Rattle.ap_syntax.specs.declared.faults.SynError.TheVariants as syntax
 use Rattle.ap_syntax.proofs.Readings.{one_reading}
 use Rattle.ap_typecheck.proofs.Uniqueness as typing
 use Rattle.ap_typecheck.specs.Checking.{IsProgramOf, IsFirstTypeFault}
-use Rattle.ap_typecheck.specs.Views as checked
-use Rattle.ap_typecheck.specs.declared.error.TypeError.{TypeError}
-use Rattle.ap_typecheck.specs.declared.error.TypeError.TheVariants as types
 use Rattle.ap_program.specs.CarryingOut.{carried_out_program}
 use Rattle.ap_program.specs.NameRestriction.{items_of, AllPass, IsNameFault}
 use Rattle.ap_restrict.specs.Outcomes.{IsRefusal}
 use Rattle.ap_restrict.specs.declared.errors.NameError.{NameError}
 use Rattle.ap_restrict.specs.declared.errors.NameError.TheVariants as names
-use Rattle.ap_text.specs.Texts.{HasItems, HasSyntaxFault, IsProgramOfText, IsFaultOfText, faulty_token, faulty_item, ill_typed, ill_named, IsRefusedText, of_tokens, of_items, of_types, of_names}
+use Rattle.ap_text.specs.Texts.{HasItems, HasSyntaxFault, IsProgramOfText, IsFaultOfText, faulty_token, faulty_item, ill_typed, ill_named, IsRefusedText, of_names}
 use Rattle.ap_text.proofs.NameFaults.{name_fault_one, passes_or_fault}
 
 -- the tokens of a text are one list, and it reads in one way
@@ -85,19 +77,7 @@ program_or_fault text p _ h (ill_named js q g k l m) =
     passes_or_fault h.raw.signature.constructors (items_of h.raw) g h.kept
     (subst (λ x. IsNameFault x g) (raw_one text js h.items q h.raw k h.read l h.typed) m)
 
--- what each step refuses
-pub tokens_refused : (e : LexError) (text : List ℕ) → FailsLexing e (lexed text) → IsRefusedText (of_tokens e) text
-tokens_refused (tokens.Fault f) text h = faulty_token f h
-tokens_refused tokens.Memory text h = tt
-
-pub items_refused : (e : SynError) (text : List ℕ) (ts : List Lexeme) → lexed text ≡ Ok ts → reading.FailsAsOneOf e (Reads 1 ts) → IsRefusedText (of_items e) text
-items_refused (syntax.Fault f) text ts is h = faulty_item f (ts, is, h)
-items_refused syntax.Memory text ts is h = tt
-
-pub types_refused : (e : TypeError) (text : List ℕ) (items : List ItemOf) → HasItems text items → checked.IsRefusedByTypes e items → IsRefusedText (of_types e) text
-types_refused (types.Fault f) text items read h = ill_typed items f read h
-types_refused types.Memory text items read h = tt
-
+-- what the name restriction refuses
 pub names_refused : (e : NameError) (text : List ℕ) (items : List ItemOf) (raw : ProgramOver RawTerm) → HasItems text items → IsProgramOf items raw → IsRefusal raw e
     → IsRefusedText (of_names e) text
 names_refused (names.Fault f) text items raw read typed h = ill_named items raw f read typed h

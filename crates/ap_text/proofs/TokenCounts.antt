@@ -1,19 +1,11 @@
--- A text has at most as many tokens as bytes, and at most as many items as tokens.
-use Rattle.std.proofs.Common.{◌≡◌, ℕ, zero, suc, pred, ◌≤◌, ◌+◌, List, [], ◌∷◌, length, take, drop, Option, None, Some, Result, Ok, Err, refl, ap, subst, arith, length-append}
-use Rattle.std.specs.Prelude.{if◌then◌else◌, Bool, true, false, ◌==◌}
+-- A text has at most as many tokens as bytes.
+use Rattle.std.proofs.Common.{◌≡◌, ℕ, zero, suc, pred, ◌≤◌, ◌+◌, List, [], ◌∷◌, length, take, Option, None, Some, arith, length-append}
 use Rattle.std.specs.Str.Lossy.{utf8_valid_len}
 use Rattle.std.proofs.lemmas.List.{length-map}
 use Rattle.std.proofs.lemmas.Grind.{common_steps}
 use Rattle.ap_lexer.specs.declared.pieces.Piece.{Piece}
-use Rattle.ap_lexer.specs.declared.token.Token.{Token}
-use Rattle.ap_defs.specs.declared.faults.SyntaxFault.{SyntaxFault}
-use Rattle.ap_defs.specs.Limits.{size_limit}
 use Rattle.ap_lexer.specs.Pieces.{piece_at}
-use Rattle.ap_lexer.specs.Tokens.{Scan, Lexeme, scan_from, scan_piece, span_of, lexeme, lexemes, lexeme_at, lexemes_of, lexed}
-use Rattle.ap_trees.specs.Items.{ItemOf}
-use Rattle.ap_trees.specs.Trees.{item_of, items_of_text}
-use Rattle.ap_trees.specs.declared.trees.Item.{Item}
-use Rattle.ap_syntax.specs.Reading.{First, unended, too_deep, no_item, an_item, Reads, all_read, faulty, goes_on, TextOutcome, after_items}
+use Rattle.ap_lexer.specs.Tokens.{Scan, scan_from, scan_piece, span_of, lexeme_at, lexemes_of}
 
 one_at_most : (at : ℕ) (p : Piece) → length (span_of at p) ≤ 1
 one_at_most at p = elim p.kind as (λ k. length (span_of at (record { kind = k; len = p.len })) ≤ 1) [ None ↦ omega arith | Some kind ↦ omega arith ]
@@ -31,48 +23,8 @@ spans_few at (suc skip) (b ∷ bs) = omega (arith, spans_few (suc at) skip bs)
 lexemes_few : (bs : List ℕ) → length (lexemes_of bs) ≤ length bs
 lexemes_few bs = let same = length-map (scan_from 0 0 bs).spans (lexeme_at bs) in omega (arith, spans_few 0 0 bs)
 
-chosen : (b : Bool) (all ts : List Lexeme) (fault : SyntaxFault) → (if b then Ok all else Err fault) ≡ Ok ts → all ≡ ts
-chosen true all ts fault e = cc
-chosen false all ts fault e = cc
-
-tokens_few : (bs : List ℕ) (ts : List Lexeme) → lexed bs ≡ Ok ts → length ts ≤ length bs
-unfolding lexed
-tokens_few bs ts e =
-    let front = take (utf8_valid_len bs) bs in
-    let same : lexemes_of front ≡ ts = chosen ((scan_from 0 0 front).stop == length bs) (lexemes_of front) ts _ e in
-    let few : length ts ≤ length front = rw (← same) (lexemes_few front) in
+-- the tokens of a text's front
+pub few_lexemes : (bs front : List ℕ) → front ≡ take (utf8_valid_len bs) bs → length (lexemes_of front) ≤ length bs
+few_lexemes bs front e =
     let short : length front ≤ length bs = grind (arith, common_steps) in
-    omega arith
-
-pub few_tokens : (bs : List ℕ) (ts : List Token) → lexed bs ≡ Ok (lexemes ts) → length bs ≤ size_limit → length ts ≤ size_limit
-few_tokens bs ts e l = let same = length-map ts lexeme in omega (arith, tokens_few bs (lexemes ts) e)
-
--- what follows the first item
-abbrev left_over : Result (ItemOf × List Lexeme) SyntaxFault → List Lexeme
-left_over (Ok p) = p.1
-left_over (Err f) = []
-
-first_shorter : (item : ℕ) (t : Lexeme) (ts : List Lexeme) (o : Result (ItemOf × List Lexeme) SyntaxFault) (x : ItemOf) (rest : List Lexeme) → First item t ts o → o ≡ Ok (x, rest) → length rest ≤ length ts
-first_shorter item t ts _ x rest (unended h) e = absurd (cc)
-first_shorter item t ts _ x rest (too_deep place h k) e = absurd (cc)
-first_shorter item t ts _ x rest (no_item place h k n) e = absurd (cc)
-first_shorter item t ts _ x rest (an_item place form h k i) e =
-    let after : drop (place + 1) (t ∷ ts) ≡ rest = ap left_over e in
-    let short : length (drop (place + 1) (t ∷ ts)) ≤ length ts = grind (arith, common_steps) in
-    subst (λ r. length r ≤ length ts) after short
-
-more_few : (x : ItemOf) (r : TextOutcome) (n : ℕ) → ((more : List ItemOf) → r ≡ Ok more → length more ≤ n) → (items : List ItemOf) → after_items (x ∷ []) r ≡ Ok items → length items ≤ suc n
-more_few x (Ok more) n few items e = let same : x ∷ more ≡ items = cc in subst (λ is. length is ≤ suc n) same (omega (arith, few more refl))
-more_few x (Err f) n few items e = absurd (cc)
-
-items_few : (n : ℕ) (ts : List Lexeme) (o : TextOutcome) (items : List ItemOf) → Reads n ts o → o ≡ Ok items → length items ≤ length ts
-items_few n _ _ items all_read e = let same : [] ≡ items = cc in subst (λ is. length is ≤ 0) same (omega arith)
-items_few n (t ∷ ts) _ items (faulty f h) e = absurd (cc)
-items_few n (t ∷ ts) _ items (goes_on x rest r h reads) e =
-    more_few x r (length ts) (λ more is. let a = items_few (n + 1) rest r more reads is in let b = first_shorter n t ts (Ok (x, rest)) x rest h refl in omega arith) items e
-
-pub few_items : (ts : List Token) (items : List Item) → Reads 1 (lexemes ts) (Ok (items_of_text items)) → length ts ≤ size_limit → length items ≤ size_limit
-few_items ts items reads l =
-    let a = length-map ts lexeme in
-    let b = length-map items item_of in
-    omega (arith, items_few 1 (lexemes ts) (Ok (items_of_text items)) (items_of_text items) reads refl)
+    omega (arith, lexemes_few front, short)

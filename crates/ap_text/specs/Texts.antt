@@ -9,15 +9,9 @@ use Rattle.ap_defs.specs.declared.faults.SyntaxFault.{SyntaxFault}
 use Rattle.ap_defs.specs.declared.faults.TypeFault.{TypeFault}
 use Rattle.ap_defs.specs.declared.faults.NameFault.{NameFault}
 use Rattle.ap_lexer.specs.Tokens.{Lexeme, lexed}
-use Rattle.ap_lexer.specs.declared.token.LexError.{LexError}
-use Rattle.ap_lexer.specs.declared.token.LexError.TheVariants as tokens
 use Rattle.ap_trees.specs.Items.{ItemOf}
 use Rattle.ap_syntax.specs.Reading.{Reads}
-use Rattle.ap_syntax.specs.declared.faults.SynError.{SynError}
-use Rattle.ap_syntax.specs.declared.faults.SynError.TheVariants as syntax
 use Rattle.ap_typecheck.specs.Checking.{IsProgramOf, IsFirstTypeFault}
-use Rattle.ap_typecheck.specs.declared.error.TypeError.{TypeError}
-use Rattle.ap_typecheck.specs.declared.error.TypeError.TheVariants as types
 use Rattle.ap_program.specs.CarryingOut.{carried_out_program}
 use Rattle.ap_program.specs.NameRestriction.{items_of, AllPass, IsNameFault}
 use Rattle.ap_restrict.specs.declared.errors.NameError.{NameError}
@@ -32,6 +26,10 @@ HasItems text items = (ts : List Lexeme) × (lexed text ≡ Ok ts) × Reads 1 ts
 -- an item of the text is not in the grammar, and this is the first fault of one
 abbrev pub HasSyntaxFault : List ℕ → SyntaxFault → Type 0
 HasSyntaxFault text f = (ts : List Lexeme) × (lexed text ≡ Ok ts) × Reads 1 ts (Err f)
+
+-- the text splits into tokens, its items are in the grammar, and this is their typed program
+abbrev pub IsTypedText : List ℕ → ProgramOver RawTerm → Type 0
+IsTypedText text p = (items : List ItemOf) × HasItems text items × IsProgramOf items p
 
 -- The text has no fault, and this is its program: its items make a program, each of them keeps the name restriction, and
 -- the swappings are carried out.
@@ -60,19 +58,7 @@ abbrev pub IsRefusedText : TextError → List ℕ → Type 0
 IsRefusedText (errors.Fault f) text = IsFaultOfText text f
 IsRefusedText errors.Memory text = ⊤
 
--- what a step refuses, of a text
-abbrev pub of_tokens : LexError → TextError
-of_tokens (tokens.Fault f) = errors.Fault (faults.Syntax f)
-of_tokens tokens.Memory = errors.Memory
-
-abbrev pub of_items : SynError → TextError
-of_items (syntax.Fault f) = errors.Fault (faults.Syntax f)
-of_items syntax.Memory = errors.Memory
-
-abbrev pub of_types : TypeError → TextError
-of_types (types.Fault f) = errors.Fault (faults.Types f)
-of_types types.Memory = errors.Memory
-
+-- a name fault, of a text
 abbrev pub of_names : NameError → TextError
 of_names (names.Fault f) = errors.Fault (faults.Names f)
 of_names names.Memory = errors.Memory

@@ -2,10 +2,8 @@
 ghost use Rattle.std.specs.Prelude.{◌≡◌};
 
 use ap_defs::faults::Fault;
-use ap_lexer::LexError;
+use ap_defs::memory::Memory;
 use ap_restrict::errors::NameError;
-use ap_syntax::SynError;
-use ap_typecheck::TypeError;
 
 /// Why a text has no program.
 #[derive(Debug, Drop)]
@@ -16,42 +14,13 @@ pub enum TextError {
     Memory,
 }
 
-impl From<LexError> for TextError {
-    ghost use Rattle.ap_text.specs.Texts.{of_tokens};
+impl From<Memory> for TextError {
+    ghost use Rattle.ap_text.specs.declared.error.TextError.TheVariants as errors;
 
-    ghost from_gives = { λ e t. t ≡ of_tokens e };
+    ghost from_gives = { λ _ t. t ≡ errors.Memory };
 
-    fn from(error: LexError) -> TextError {
-        match error {
-            LexError::Fault(fault) => TextError::Fault(Fault::Syntax(fault)),
-            LexError::Memory => TextError::Memory,
-        }
-    }
-}
-
-impl From<SynError> for TextError {
-    ghost use Rattle.ap_text.specs.Texts.{of_items};
-
-    ghost from_gives = { λ e t. t ≡ of_items e };
-
-    fn from(error: SynError) -> TextError {
-        match error {
-            SynError::Fault(fault) => TextError::Fault(Fault::Syntax(fault)),
-            SynError::Memory => TextError::Memory,
-        }
-    }
-}
-
-impl From<TypeError> for TextError {
-    ghost use Rattle.ap_text.specs.Texts.{of_types};
-
-    ghost from_gives = { λ e t. t ≡ of_types e };
-
-    fn from(error: TypeError) -> TextError {
-        match error {
-            TypeError::Fault(fault) => TextError::Fault(Fault::Types(fault)),
-            TypeError::Memory => TextError::Memory,
-        }
+    fn from(_refusal: Memory) -> TextError {
+        TextError::Memory
     }
 }
 

@@ -2,7 +2,9 @@
 #![tactic(auto)]
 
 mod error;
+mod items;
 pub mod laws;
+mod outlook;
 mod text;
 
 pub use error::TextError;

@@ -8,7 +8,7 @@ use Rattle.ap_report.specs.declared.status.Status.{Status}
 use Rattle.ap_report.specs.declared.status.Status.TheVariants as status
 use Rattle.ap_report.specs.TextReport.{IsTextReport, refused, answered, run_report}
 use Rattle.ap_bundle.specs.Bundles.{NominalBundle, NominalProved}
-use Rattle.ap_bundle.specs.Reading.{reading}
+use Rattle.ap_bundle.specs.Reading.{cited_reading, reading}
 use Rattle.ap_bundle.specs.declared.faults.BundleFault.{BundleFault}
 use Rattle.ap_verdicts.specs.Verdicts.{RefusedProof, first_refused}
 use Rattle.ap_bundle_prove.specs.Reports.{prove_report}
@@ -74,7 +74,7 @@ told_report (Some (asked.Run depth workers limit)) Broken r is = subst (λ x. Is
 told_report (Some (asked.Prove depth workers limit)) (Whole text) r is = told_text (prove_report depth limit text) (λ p. tt) text r is
 told_report (Some (asked.Prove depth workers limit)) Over r is = subst (λ x. IsTold x.status) (sym is) tt
 told_report (Some (asked.Prove depth workers limit)) Broken r is = subst (λ x. IsTold x.status) (sym is) tt
-told_report (Some asked.Check) (Whole bundle) r is = told_read (reading bundle) r is
+told_report (Some asked.Check) (Whole bundle) r is = told_read (cited_reading bundle) r is
 told_report (Some asked.Check) Over r is = subst (λ x. IsTold x.status) (sym is) tt
 told_report (Some asked.Check) Broken r is = subst (λ x. IsTold x.status) (sym is) tt
 told_report (Some (asked.Convert to)) (Whole bundle) r is = subst (λ x. IsTold x.status) (sym is) (told_converted to (reading bundle))

@@ -1,8 +1,9 @@
 //! Why a text, or an item, isn't well typed.
 ghost use Rattle.std.specs.Prelude.{◌≡◌};
+ghost use Rattle.ap_typecheck.specs.Views as spec;
 ghost use Rattle.ap_typecheck.specs.Views.{type_refusal_of};
 
-use ap_defs::faults::{TypeFault, TypeKind};
+use ap_defs::faults::{Place, TypeFault, TypeKind};
 use ap_defs::memory::Memory;
 use ap_kinds::KindsError;
 use std::alloc::{AllocError, AllocFailed};
@@ -73,5 +74,15 @@ pub fn refusal_of_kinds(refused: KindsError) -> Refusal
         KindsError::Ambiguous => Refusal::Kind(TypeKind::Ambiguous),
         KindsError::Empty => Refusal::Kind(TypeKind::Empty),
         KindsError::Memory => Refusal::Memory,
+    }
+}
+
+/// Why a text has no typed program, where the item at this place makes nothing.
+pub fn text_error(refusal: Refusal, place: Place) -> TypeError
+    ensures { result ≡ spec.text_error refusal place }
+{
+    match refusal {
+        Refusal::Kind(kind) => TypeError::Fault(TypeFault { place, kind }),
+        Refusal::Memory => TypeError::Memory,
     }
 }

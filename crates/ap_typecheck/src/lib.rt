@@ -11,7 +11,9 @@ mod items;
 pub mod laws;
 mod locals;
 mod state;
+mod texts;
 mod typing;
 
 pub use checking::check;
 pub use error::TypeError;
+pub use texts::Typing;

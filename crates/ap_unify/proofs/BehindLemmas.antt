@@ -12,9 +12,9 @@ use Rattle.ap_theory.proofs.TerminationLemmas.{Shrinks, rule_shrinks}
 use Rattle.ap_theory.proofs.VariableLemmas.{EachEquation, each_equation-append, each_equation_put, not_var, occurs_apart}
 use Rattle.ap_theory.specs.Variables.{EachVar, IsIdempotent, IsUnbound, is_bound}
 use Rattle.ap_unify.proofs.ReachLemmas.{leads_ending, leads_failed}
-use Rattle.ap_unify.proofs.RunLemmas.{bound_in, equations_put}
+use Rattle.ap_rules.proofs.RunLemmas.{bound_in, equations_put}
 use Rattle.ap_unify.specs.Parts.{IsReached, LeadsTo}
-use Rattle.ap_unify.specs.Runs.{equation_under, stage_under}
+use Rattle.ap_rules.specs.Runs.{equation_under, stage_under}
 
 module _ (x : Var) (v : NominalTerm) where
   bound_put : (y : Var) (bs : List Binding) → is_bound y (map (put_binding x v) bs) ≡ is_bound y bs

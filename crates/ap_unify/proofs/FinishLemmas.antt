@@ -1,23 +1,21 @@
 -- The end of a run, where only the conditions on variables that were bound are reduced again.
 use Rattle.std.proofs.Common.{◌≡◌, Bool, true, false, ◌||◌, List, [], ◌∷◌, ◌++◌, map, refl, sym, ap, ap₂, ◌∙◌}
 use Rattle.std.proofs.lemmas.List.{map-append}
-use Rattle.std.specs.Prelude.{Option, Some, None, not, filter, if◌then◌else◌}
-use Rattle.ap_defs.specs.Freshness.{Conds, add_cond, add_conds, both, cond_eq, has_cond, reduce, var_eq}
+use Rattle.std.specs.Prelude.{Option, Some, None}
+use Rattle.ap_defs.specs.Freshness.{Conds, add_cond, add_conds, both, has_cond, reduce}
 use Rattle.ap_defs.specs.Substitution.{Binding, Problem, moved}
 use Rattle.ap_defs.specs.Unification.{Unified, finish, problem_of, reduce_all, solved, unified_under}
 use Rattle.ap_defs.specs.declared.terms.Cond.{Cond}
-use Rattle.ap_defs.specs.declared.terms.Var.{Var}
-use Rattle.ap_store.specs.Triples.{is_apart, is_on}
-use Rattle.ap_theory.proofs.BooleanLemmas.{or_nothing, or_swap}
+use Rattle.ap_theory.proofs.BooleanLemmas.{or_nothing}
 use Rattle.ap_theory.proofs.CollectionLemmas.{collected_both, collected_same}
 use Rattle.ap_theory.proofs.ConditionSetLemmas.{add_conds_same, has_cond-append, has_cond_add_all}
 use Rattle.ap_theory.proofs.IdempotenceLemmas.{bound_term_unbound}
 use Rattle.ap_theory.proofs.ReductionLemmas.{reduce_all-append}
 use Rattle.ap_theory.specs.StatementsOnConditions.{collected, joined_conditions}
 use Rattle.ap_theory.specs.Variables.{EachCond, IsIdempotent, IsUnbound}
-use Rattle.ap_unify.proofs.RunLemmas.{reduce_all_under}
+use Rattle.ap_rules.proofs.RunLemmas.{reduce_all_under}
 use Rattle.ap_unify.specs.Finishing.{with_kept}
-use Rattle.ap_unify.specs.Runs.{problem_under, stage_under}
+use Rattle.ap_rules.specs.Runs.{problem_under, stage_under}
 
 -- conditions on unbound variables reduce to themselves
 pub kept_reduced : (bs : List Binding) (ds : Conds) → EachCond (IsUnbound bs) ds → reduce_all bs (map problem_of ds) ≡ Some ds
@@ -95,31 +93,3 @@ module _ (kept : Conds) (set : add_conds kept [] ≡ kept) where
         ∙ ap (λ o. collected (both o q)) (reduced_parts taken)
         ∙ both_kept (reduce_all bs (map problem_of taken)) q
         ∙ ap (with_kept kept) (sym (reduce_all-append bs (map problem_of taken) ps)))
-
--- Conditions that are taken out are not lost.
-taken_apart : (c : Cond) (x : Var) (ds : Conds) → has_cond c ds ≡ (has_cond c (filter (is_apart x) ds) || has_cond c (filter (is_on x) ds))
-taken_apart c x [] = refl
-taken_apart c x (d ∷ ds) =
-    elim (var_eq d.var x) as (λ v. (cond_eq c d || has_cond c ds) ≡ (has_cond c (if not v then (d ∷ filter (is_apart x) ds) else filter (is_apart x) ds) || has_cond c (if v then (d ∷ filter (is_on x) ds) else filter (is_on x) ds))) [
-      | true ↦ ap (λ z. cond_eq c d || z) (taken_apart c x ds) ∙ or_swap (cond_eq c d) (has_cond c (filter (is_apart x) ds)) (has_cond c (filter (is_on x) ds))
-      | false ↦ ap (λ z. cond_eq c d || z) (taken_apart c x ds) ∙ sym (or_assoc (cond_eq c d) (has_cond c (filter (is_apart x) ds)) (has_cond c (filter (is_on x) ds)))
-    ]
-  where
-    or_assoc : (x y z : Bool) → ((x || y) || z) ≡ (x || (y || z))
-    or_assoc true y z = refl
-    or_assoc false y z = refl
-
-or_exchange : (x y z : Bool) → ((x || y) || z) ≡ (x || (z || y))
-or_exchange true y z = refl
-or_exchange false true true = refl
-or_exchange false true false = refl
-or_exchange false false true = refl
-or_exchange false false false = refl
-
-pub taken_more : (ds kept taken : List Cond) (x : Var) → ((c : Cond) → has_cond c ds ≡ has_cond c (kept ++ taken))
-    → (c : Cond) → has_cond c ds ≡ has_cond c (filter (is_apart x) kept ++ (taken ++ filter (is_on x) kept))
-taken_more ds kept taken x same c =
-    same c ∙ has_cond-append c kept taken ∙ ap (λ z. z || has_cond c taken) (taken_apart c x kept)
-    ∙ or_exchange (has_cond c (filter (is_apart x) kept)) (has_cond c (filter (is_on x) kept)) (has_cond c taken)
-    ∙ ap (λ z. has_cond c (filter (is_apart x) kept) || z) (sym (has_cond-append c taken (filter (is_on x) kept)))
-    ∙ sym (has_cond-append c (filter (is_apart x) kept) (taken ++ filter (is_on x) kept))

@@ -18,9 +18,9 @@ use Rattle.ap_theory.proofs.VariableLemmas.{EachProblem}
 use Rattle.ap_theory.specs.StatementsOnConditions.{collected}
 use Rattle.ap_theory.specs.Variables.{EachVar, IsIdempotent, IsUnbound}
 use Rattle.ap_unify.proofs.FinishLemmas.{kept_collected}
-use Rattle.ap_unify.proofs.RunLemmas.{reduce_all_under}
+use Rattle.ap_rules.proofs.RunLemmas.{reduce_all_under}
 use Rattle.ap_unify.proofs.SolutionLemmas.{IsWell, on_unbound}
-use Rattle.ap_unify.specs.Runs.{problem_under}
+use Rattle.ap_rules.specs.Runs.{problem_under}
 use Rattle.ap_unify.specs.Unified.{AreVarsBelow, IsReduced}
 
 on_add : (a : Triple) (c : Cond) (ds : Conds) → AreOnUnbound a (c ∷ []) → AreOnUnbound a ds → AreOnUnbound a (add_cond c ds)

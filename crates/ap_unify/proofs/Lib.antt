@@ -1,14 +1,10 @@
 pub mod BehindLemmas
 pub mod FinishLemmas
 pub mod FreshLemmas
-pub mod MoveLemmas
 pub mod PartLemmas
 pub mod ReachLemmas
 pub mod ReducingLemmas
 pub mod ResultLemmas
-pub mod RunLemmas
 pub mod SolutionLemmas
-pub mod SuspensionLemmas
 pub mod WayLemmas
 pub mod WellLemmas
-pub mod WorkLemmas

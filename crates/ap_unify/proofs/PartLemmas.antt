@@ -21,16 +21,17 @@ use Rattle.ap_store.specs.Views.{bindings_of, present, rank, raw_bound}
 use Rattle.ap_store.specs.declared.store.Store.{Store}
 use Rattle.ap_theory.proofs.TermLemmas.{act_term_none}
 use Rattle.ap_theory.specs.Variables.{IsUnbound}
-use Rattle.ap_unify.proofs.RunLemmas.{bind_in_under, bound_in, dropped}
-use Rattle.ap_unify.proofs.SuspensionLemmas.{form_under, head_var_stays, rule_binds_left, rule_binds_right}
-use Rattle.ap_unify.proofs.WorkLemmas.{pairs_below-append, put_last}
-use Rattle.ap_unify.specs.Parts.{IsFurther, IsHead, plain_term}
-use Rattle.ap_unify.specs.Runs.{equation_under, problem_under, stage_under}
-use Rattle.ap_unify.specs.Work.{ArePairsBelow, HasForm, pair_equation}
+use Rattle.ap_rules.proofs.RunLemmas.{bind_in_under, bound_in, dropped}
+use Rattle.ap_rules.proofs.SuspensionLemmas.{form_under, head_var_stays, rule_binds_left, rule_binds_right}
+use Rattle.ap_rules.proofs.WorkLemmas.{pairs_below-append, put_last}
+use Rattle.ap_unify.specs.Parts.{IsFurther, IsHead}
+use Rattle.ap_equations.specs.Plain.{plain_term}
+use Rattle.ap_rules.specs.Runs.{equation_under, problem_under, stage_under}
+use Rattle.ap_rules.specs.Work.{ArePairsBelow, HasForm, pair_equation}
 use Rattle.ap_unify.specs.declared.heads.Head.{Head}
 use Rattle.ap_unify.specs.declared.heads.Head.TheVariants as heads
-use Rattle.ap_unify.specs.declared.pairs.ClosurePair.{ClosurePair}
-use Rattle.ap_unify.specs.declared.plain.Plain.{Plain}
+use Rattle.ap_rules.specs.declared.pairs.ClosurePair.{ClosurePair}
+use Rattle.ap_equations.specs.declared.plain.Plain.{Plain}
 
 -- a suspension of a variable on which no swappings wait
 pub plain_susp : (p : Plain) (q : List Swap) (x : Var) → p.term.now ≡ code.Susp q x → length q ≡ 0 → plain_term p ≡ susp [] (rename_var p.base x)

@@ -16,12 +16,12 @@ use Rattle.ap_theory.proofs.IdempotenceLemmas.{ExtendsWell, unify_extends}
 use Rattle.ap_theory.specs.StatementsOnConditions.{collected}
 use Rattle.ap_theory.specs.Variables.{EachCond, IsIdempotent, IsUnbound}
 use Rattle.ap_unify.proofs.FinishLemmas.{finish_kept, kept_collected, made}
-use Rattle.ap_unify.proofs.RunLemmas.{first_under}
+use Rattle.ap_rules.proofs.RunLemmas.{first_under}
 use Rattle.ap_unify.specs.Finishing.{some_if, with_kept}
-use Rattle.ap_unify.specs.Runs.{paired, stage_under}
+use Rattle.ap_rules.specs.Runs.{paired, stage_under}
 use Rattle.ap_unify.specs.Unified.{IsResult}
-use Rattle.ap_unify.specs.Work.{AreKept, pair_equation, problems_met, work_stage}
-use Rattle.ap_unify.specs.declared.pairs.Work.{Work}
+use Rattle.ap_rules.specs.Work.{AreKept, pair_equation, problems_met, work_stage}
+use Rattle.ap_rules.specs.declared.pairs.Work.{Work}
 
 -- What holds of the triple of any store.
 pub record IsWell (a : Triple) : Type 0 where

@@ -4,13 +4,13 @@ use Rattle.std.specs.Prelude.{Option, Some}
 use Rattle.ap_defs.specs.Substitution.{Binding}
 use Rattle.ap_defs.specs.Unification.{Progress, apply_rule, failed, next, step}
 use Rattle.ap_unify.specs.Parts.{IsRuleFor, parts_equation, rule_of, stage_of, stage_with, waiting_equations}
-use Rattle.ap_unify.specs.Runs.{equation_under, problem_under, stage_under}
-use Rattle.ap_unify.specs.Work.{equations_left, pair_equation, problem_for, problems_met}
-use Rattle.ap_unify.specs.declared.pairs.Work.{Work}
+use Rattle.ap_rules.specs.Runs.{equation_under, problem_under, stage_under}
+use Rattle.ap_rules.specs.Work.{equations_left, pair_equation, problem_for, problems_met}
+use Rattle.ap_rules.specs.declared.pairs.Work.{Work}
 use Rattle.ap_unify.specs.declared.parts.Ahead.{Ahead}
 use Rattle.ap_unify.specs.declared.parts.Turn.{Turn}
 use Rattle.ap_unify.specs.declared.parts.Turn.TheVariants as turns
-use Rattle.ap_unify.specs.declared.plain.PlainPair.{PlainPair}
+use Rattle.ap_equations.specs.declared.plain.PlainPair.{PlainPair}
 
 module _ (s r : List Binding) (pair : PlainPair) (o : Option PlainPair) (w v : Work) (e : v.equations.items ≡ w.equations.items) (f : v.problems.items ≡ w.problems.items) where
   abbrev stepped : Progress

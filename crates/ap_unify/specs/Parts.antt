@@ -1,32 +1,28 @@
 -- Parts of terms on which no swappings wait, and how a run goes on with them.
 use Rattle.std.specs.Prelude.{◌≡◌, ◌<◌, ◌⊎◌, ℕ, zero, suc, List, [], ◌∷◌, ◌++◌, Option, Some, None, map}
-use Rattle.ap_defs.specs.Renaming.{IsBelow, rename_term}
+use Rattle.ap_defs.specs.Renaming.{IsBelow}
 use Rattle.ap_defs.specs.Substitution.{Binding, Equation, Problem, under, ◌≐◌}
-use Rattle.ap_defs.specs.Terms.{NominalTerm, susp, term_of}
+use Rattle.ap_defs.specs.Terms.{NominalTerm, susp}
 use Rattle.ap_defs.specs.Unification.{Progress, Rule, Stage, apply_rule, failed, next, rule, step}
 use Rattle.ap_defs.specs.declared.terms.Var.{Var}
 use Rattle.ap_perm.specs.Lookups.{depth_of}
 use Rattle.ap_store.specs.Triples.{Triple}
 use Rattle.ap_theory.specs.Variables.{IsUnbound}
-use Rattle.ap_unify.specs.Runs.{equation_under, problem_under, stage_under}
-use Rattle.ap_unify.specs.Work.{HasForm, equations_left, problems_met, progress_if, work_stage}
+use Rattle.ap_rules.specs.Runs.{equation_under, problem_under, stage_under}
+use Rattle.ap_rules.specs.Work.{HasForm, equations_left, problems_met, progress_if, work_stage}
+use Rattle.ap_equations.specs.Plain.{plain_term}
 use Rattle.ap_unify.specs.declared.heads.Head.{Head}
 use Rattle.ap_unify.specs.declared.heads.Head.TheVariants as heads
 use Rattle.ap_unify.specs.declared.heads.Look.{Look}
 use Rattle.ap_unify.specs.declared.heads.Look.TheVariants as looks
-use Rattle.ap_unify.specs.declared.pairs.Work.{Work}
+use Rattle.ap_rules.specs.declared.pairs.Work.{Work}
 use Rattle.ap_unify.specs.declared.parts.Ahead.{Ahead}
 use Rattle.ap_unify.specs.declared.parts.Turn.{Turn}
 use Rattle.ap_unify.specs.declared.parts.Turn.TheVariants as turns
-use Rattle.ap_unify.specs.declared.plain.Plain.{Plain}
-use Rattle.ap_unify.specs.declared.plain.PlainPair.{PlainPair}
+use Rattle.ap_equations.specs.declared.plain.PlainPair.{PlainPair}
 use Rattle.ap_unify.specs.declared.ways.Front.{Front}
 use Rattle.ap_unify.specs.declared.ways.Way.{Way}
 use Rattle.ap_unify.specs.declared.ways.Way.TheVariants as ways
-
--- the term, renamed
-abbrev pub plain_term : Plain → NominalTerm
-plain_term p = rename_term p.base (term_of p.term.now)
 
 -- the second term stands for the first one, by one binding that is followed
 abbrev pub IsFurther : Triple → (Var → ℕ) → NominalTerm → NominalTerm → Type 0

@@ -8,13 +8,13 @@ ghost use Rattle.ap_store.specs.Triples.{AreOnUnbound, IsPrefixOf};
 ghost use Rattle.ap_store.specs.Views.{bindings_of, kinds, present, versions};
 ghost use Rattle.ap_theory.specs.StatementsOnConditions.{collected};
 ghost use Rattle.ap_unify.specs.Finishing.{items_in, reduced, some_if, with_kept};
-ghost use Rattle.ap_unify.specs.Work.{problem_for, problems_met};
+ghost use Rattle.ap_rules.specs.Work.{problem_for, problems_met};
 
-use crate::pairs::{FreshFor, Work};
 use crate::reducing::{reduce_closure, reduce_var};
 use ap_defs::memory::Memory;
 use ap_defs::terms::Cond;
 use ap_fresh::sets::make_set;
+use ap_rules::pairs::{FreshFor, Work};
 use ap_store::store::Store;
 use std::alloc::Global;
 

@@ -4,10 +4,11 @@ ghost use Rattle.std.specs.Prelude.{◌≡◌};
 ghost use Rattle.ap_defs.specs.Renaming.{IsBelow};
 ghost use Rattle.ap_defs.specs.Substitution.{under};
 ghost use Rattle.ap_store.specs.Views.{bindings_of, present, rank};
-ghost use Rattle.ap_unify.specs.Parts.{IsHead, IsLook, plain_term};
+ghost use Rattle.ap_unify.specs.Parts.{IsHead, IsLook};
+ghost use Rattle.ap_equations.specs.Plain.{plain_term};
 
-use crate::plain::Plain;
 use ap_defs::terms::{Term, Var};
+use ap_equations::plain::Plain;
 use ap_store::slots::Found;
 use ap_store::store::Store;
 

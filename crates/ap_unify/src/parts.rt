@@ -9,17 +9,18 @@ ghost use Rattle.ap_defs.specs.Unification.{bind, unless_occurs};
 ghost use Rattle.ap_store.specs.Triples.{IsPrefixOf};
 ghost use Rattle.ap_store.specs.Views.{bindings_of, kinds, present, versions};
 ghost use Rattle.ap_theory.specs.Variables.{IsUnbound};
-ghost use Rattle.ap_unify.specs.Parts.{AreBelowBoth, IsHead, IsRuleFor, IsTurnBelow, plain_term, rule_of};
-ghost use Rattle.ap_unify.specs.Work.{GoOn, HasForm};
+ghost use Rattle.ap_unify.specs.Parts.{AreBelowBoth, IsHead, IsRuleFor, IsTurnBelow, rule_of};
+ghost use Rattle.ap_equations.specs.Plain.{plain_term};
+ghost use Rattle.ap_rules.specs.Work.{GoOn, HasForm};
 ghost use Rattle.ap_unify.specs.declared.parts.Ahead.{Ahead};
 
 use crate::heads::{Head, headed};
-use crate::pairs::Work;
-use crate::plain::{Plain, PlainPair};
-use crate::work::bind_plain;
 use ap_defs::memory::Memory;
 use ap_defs::terms::{Name, Term, Var};
+use ap_equations::plain::{Plain, PlainPair};
+use ap_equations::work::bind_plain;
 use ap_perm::joining::numbered;
+use ap_rules::pairs::Work;
 use ap_store::heads::head_key;
 use ap_store::store::Store;
 use std::alloc::Global;
@@ -92,7 +93,7 @@ fn bind_unless_occurs<'a>(
     ensures kinds { kinds store.new ≡ kinds store.old }
 {
     let c = p.closure(alloc);
-    if store.occurs(x, &c) {
+    if store.occurs(alloc, x, &c)? {
         return Ok(Turn::Clash);
     }
     bind_part(alloc, store, work, x, p)

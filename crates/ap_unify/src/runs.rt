@@ -6,17 +6,18 @@ ghost use Rattle.ap_defs.specs.Unification.{ending};
 ghost use Rattle.ap_store.specs.Triples.{IsPrefixOf};
 ghost use Rattle.ap_store.specs.Views.{bindings_of, kinds, present, versions};
 ghost use Rattle.ap_unify.specs.Lists.{renamed_terms_in};
-ghost use Rattle.ap_unify.specs.Parts.{AreBelowBoth, LeadsTo, Reaches, plain_term, stage_with};
-ghost use Rattle.ap_unify.specs.Runs.{paired, stage_under};
-ghost use Rattle.ap_unify.specs.Work.{ArePairsBelow, GoOn, IsPairBelow, ending_if, equations_left, pair_equation, problems_met, progress_if, work_stage};
+ghost use Rattle.ap_unify.specs.Parts.{AreBelowBoth, LeadsTo, Reaches, stage_with};
+ghost use Rattle.ap_equations.specs.Plain.{plain_term};
+ghost use Rattle.ap_rules.specs.Runs.{paired, stage_under};
+ghost use Rattle.ap_rules.specs.Work.{ArePairsBelow, GoOn, IsPairBelow, ending_if, equations_left, pair_equation, problems_met, progress_if, work_stage};
 
-use crate::pairs::{ClosurePair, Work};
 use crate::parts::Ahead;
-use crate::plain::{Plain, PlainPair};
 use crate::terms::Terms;
 use crate::ways::{Front, Way, next_way};
-use crate::work::by_rule;
 use ap_defs::memory::Memory;
+use ap_equations::plain::{Plain, PlainPair};
+use ap_equations::work::by_rule;
+use ap_rules::pairs::{ClosurePair, Work};
 use ap_store::store::Store;
 use std::alloc::Global;
 

@@ -10,10 +10,10 @@ ghost use Rattle.ap_unify.specs.Lists.{renamed_terms_in};
 ghost use Rattle.ap_unify.specs.Unified.{IsResult, is_of, solves};
 
 use crate::finish::finish;
-use crate::pairs::Work;
 use crate::runs::run_places;
 use crate::terms::Terms;
 use ap_defs::memory::Memory;
+use ap_rules::pairs::Work;
 use ap_store::store::Store;
 use std::alloc::Global;
 

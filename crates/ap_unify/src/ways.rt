@@ -6,15 +6,15 @@ ghost use Rattle.ap_defs.specs.Unification.{next, step};
 ghost use Rattle.ap_store.specs.Triples.{IsPrefixOf};
 ghost use Rattle.ap_store.specs.Views.{bindings_of, kinds, present, versions};
 ghost use Rattle.ap_unify.specs.Parts.{AreBelowBoth, IsWaitingBelow, IsWayBelow, progress_to, stage_of, stage_with, waiting_equations};
-ghost use Rattle.ap_unify.specs.Runs.{stage_under};
-ghost use Rattle.ap_unify.specs.Work.{ArePairsBelow, GoOn, equations_left, problems_met, progress_if, work_stage};
-ghost use Rattle.ap_unify.specs.declared.pairs.Work.{Work};
+ghost use Rattle.ap_rules.specs.Runs.{stage_under};
+ghost use Rattle.ap_rules.specs.Work.{ArePairsBelow, GoOn, equations_left, problems_met, progress_if, work_stage};
+ghost use Rattle.ap_rules.specs.declared.pairs.Work.{Work};
 
-use crate::pairs::{ClosurePair, Work};
 use crate::parts::{Ahead, Turn, step_parts};
-use crate::plain::PlainPair;
-use crate::work::{by_rule, put_equation};
 use ap_defs::memory::Memory;
+use ap_equations::plain::PlainPair;
+use ap_equations::work::{by_rule, put_equation};
+use ap_rules::pairs::{ClosurePair, Work};
 use ap_store::store::Store;
 use std::alloc::Global;
 

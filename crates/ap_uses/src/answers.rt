@@ -3,9 +3,11 @@
 use ap_backchain::problem::Problem;
 use ap_count::uses::Derive;
 use ap_defs::memory::Memory;
-use ap_defs::outcomes::Derivation;
 use ap_defs::paths::Path;
+use ap_derive::assembling::Derived;
 use ap_derive::derivations::derive_along;
+use ap_shared::arena::SharedTerms;
+use ap_shared::derivations::SharedDerivation;
 use std::alloc::Global;
 
 /// The answers of a problem, of which each is made again from its path.
@@ -21,7 +23,13 @@ impl<'a> Derive for Answers<'a> {
 
     ghost at = { λ a. derivation_of_path a.problem };
 
-    fn derivation(&self, alloc: Global, path: &Path) -> Result<Derivation, Memory> {
-        derive_along(alloc, &self.problem, path.choices())
+    fn derivation(&self, alloc: Global, path: &Path) -> Result<SharedDerivation, Memory> {
+        let none = SharedTerms::new(alloc);
+        let found = derive_along(alloc, &self.problem, path.choices(), none)?;
+        let Derived {
+            terms: _terms,
+            derivation,
+        } = found;
+        Ok(derivation)
     }
 }

@@ -2,9 +2,9 @@ use ap_count::uses::{Derive, Question, uses};
 use ap_defs::goals::{Clause, Goal};
 use ap_defs::lists::List;
 use ap_defs::memory::Memory;
-use ap_defs::outcomes::{ClauseUse, Derivation};
 use ap_defs::paths::Path;
 use ap_defs::terms::Term;
+use ap_shared::derivations::{SharedDerivation, SharedUse};
 use std::alloc::Global;
 use std::thread::Threads;
 
@@ -19,17 +19,17 @@ impl Derive for FirstFact {
 
     ghost at = { λ f p. atom 1 [] [] succeed };
 
-    fn derivation(&self, alloc: Global, _path: &Path) -> Result<Derivation, Memory> {
+    fn derivation(&self, alloc: Global, _path: &Path) -> Result<SharedDerivation, Memory> {
         let used = Box::new(
             alloc,
-            ClauseUse {
+            SharedUse {
                 clause: 1,
                 names: List::of(Vec::new(alloc)),
                 terms: List::of(Vec::new(alloc)),
             },
         )?;
-        let body = Box::new(alloc, Derivation::True)?;
-        Ok(Derivation::Atom(used, body))
+        let body = Box::new(alloc, SharedDerivation::True)?;
+        Ok(SharedDerivation::Atom(used, body))
     }
 }
 

@@ -4,30 +4,32 @@ ghost use Rattle.std.specs.Option.{option_map};
 ghost use Rattle.ap_bundle.specs.Readers as readers;
 ghost use Rattle.ap_bundle.specs.TableForms as spec;
 ghost use Rattle.ap_bundle_read.specs.Outcomes.{Gives, place_of};
-ghost use Rattle.ap_bundle_read.specs.Tables.{IsBehind, IsReadTable, term_of_line, entry_term, table_terms};
+ghost use Rattle.ap_shared.specs.Shared.{IsBehind, entry_term, shared_at};
+ghost use Rattle.ap_shared.specs.SharedViews.{shared_terms};
 
 use crate::error::ReadError;
 use crate::line_forms::after_head;
 use crate::numbers::{a_name, first_number, small, swaps};
 use crate::place::{Place, words_at, wrong};
-use crate::table::{Entry, Table};
 use ap_bundle::faults::BundleKind;
 use ap_bundle::words::{Head, Letter, Word};
 use ap_defs::lists::List;
 use ap_defs::memory::Memory;
 use ap_defs::terms::Var;
+use ap_shared::arena::SharedTerms;
+use ap_shared::lines::Entry;
 use std::alloc::Global;
 
 /// The line of an earlier term.
 #[tactic(auto, unfolding(ap_bundle::specs::TableForms::earlier))]
-fn earlier(table: &Table, numbers: &mut Vec<u64>) -> Option<usize>
+fn earlier(table: &SharedTerms, numbers: &mut Vec<u64>) -> Option<usize>
     ensures value { option_map (λ i. (
-      term_of_line (table_terms table.now) i,
+      shared_at (shared_terms table.now) i,
       reverse
           numbers.new.items,
     )) result
-        ≡ spec.earlier (table_terms table.now) (reverse numbers.old.items) }
-    ensures within { IfSome result (λ i. i < length (table_terms table.now)) }
+        ≡ spec.earlier (shared_terms table.now) (reverse numbers.old.items) }
+    ensures within { IfSome result (λ i. i < length (shared_terms table.now)) }
 {
     let line = first_number(numbers)?;
     if line < table.len() as u64 {
@@ -38,10 +40,10 @@ fn earlier(table: &Table, numbers: &mut Vec<u64>) -> Option<usize>
 }
 
 #[tactic(auto, unfolding(ap_bundle::specs::TableForms::name_entry))]
-fn name_entry(table: &Table, numbers: Vec<u64>) -> Option<Entry>
-    ensures value { option_map (entry_term (table_terms table.now)) result
+fn name_entry(table: &SharedTerms, numbers: Vec<u64>) -> Option<Entry>
+    ensures value { option_map (entry_term (shared_terms table.now)) result
         ≡ spec.name_entry (reverse numbers.items) }
-    ensures behind { IfSome result (IsBehind (length (table_terms table.now))) }
+    ensures behind { IfSome result (IsBehind (length (shared_terms table.now))) }
 {
     let mut numbers = numbers;
     let name = a_name(&mut numbers)?;
@@ -53,10 +55,10 @@ fn name_entry(table: &Table, numbers: Vec<u64>) -> Option<Entry>
 }
 
 #[tactic(auto, unfolding(ap_bundle::specs::TableForms::pair_entry))]
-fn pair_entry(table: &Table, numbers: Vec<u64>) -> Option<Entry>
-    ensures value { option_map (entry_term (table_terms table.now)) result
-        ≡ spec.pair_entry (table_terms table.now) (reverse numbers.items) }
-    ensures behind { IfSome result (IsBehind (length (table_terms table.now))) }
+fn pair_entry(table: &SharedTerms, numbers: Vec<u64>) -> Option<Entry>
+    ensures value { option_map (entry_term (shared_terms table.now)) result
+        ≡ spec.pair_entry (shared_terms table.now) (reverse numbers.items) }
+    ensures behind { IfSome result (IsBehind (length (shared_terms table.now))) }
 {
     let mut numbers = numbers;
     let left = earlier(table, &mut numbers)?;
@@ -69,10 +71,10 @@ fn pair_entry(table: &Table, numbers: Vec<u64>) -> Option<Entry>
 }
 
 #[tactic(auto, unfolding(ap_bundle::specs::TableForms::app_entry))]
-fn app_entry(table: &Table, numbers: Vec<u64>) -> Option<Entry>
-    ensures value { option_map (entry_term (table_terms table.now)) result
-        ≡ spec.app_entry (table_terms table.now) (reverse numbers.items) }
-    ensures behind { IfSome result (IsBehind (length (table_terms table.now))) }
+fn app_entry(table: &SharedTerms, numbers: Vec<u64>) -> Option<Entry>
+    ensures value { option_map (entry_term (shared_terms table.now)) result
+        ≡ spec.app_entry (shared_terms table.now) (reverse numbers.items) }
+    ensures behind { IfSome result (IsBehind (length (shared_terms table.now))) }
 {
     let mut numbers = numbers;
     let constructor = small(&mut numbers)?;
@@ -85,10 +87,10 @@ fn app_entry(table: &Table, numbers: Vec<u64>) -> Option<Entry>
 }
 
 #[tactic(auto, unfolding(ap_bundle::specs::TableForms::abs_entry))]
-fn abs_entry(table: &Table, numbers: Vec<u64>) -> Option<Entry>
-    ensures value { option_map (entry_term (table_terms table.now)) result
-        ≡ spec.abs_entry (table_terms table.now) (reverse numbers.items) }
-    ensures behind { IfSome result (IsBehind (length (table_terms table.now))) }
+fn abs_entry(table: &SharedTerms, numbers: Vec<u64>) -> Option<Entry>
+    ensures value { option_map (entry_term (shared_terms table.now)) result
+        ≡ spec.abs_entry (shared_terms table.now) (reverse numbers.items) }
+    ensures behind { IfSome result (IsBehind (length (shared_terms table.now))) }
 {
     let mut numbers = numbers;
     let name = a_name(&mut numbers)?;
@@ -101,10 +103,14 @@ fn abs_entry(table: &Table, numbers: Vec<u64>) -> Option<Entry>
 }
 
 #[tactic(auto, unfolding(ap_bundle::specs::TableForms::susp_entry))]
-fn susp_entry(alloc: Global, table: &Table, numbers: Vec<u64>) -> Result<Option<Entry>, Memory>
-    ensures value { IfOk result (λ r. option_map (entry_term (table_terms table.now)) r
+fn susp_entry(
+    alloc: Global,
+    table: &SharedTerms,
+    numbers: Vec<u64>,
+) -> Result<Option<Entry>, Memory>
+    ensures value { IfOk result (λ r. option_map (entry_term (shared_terms table.now)) r
         ≡ spec.susp_entry (reverse numbers.items)) }
-    ensures behind { IfOk result (λ r. IfSome r (IsBehind (length (table_terms table.now)))) }
+    ensures behind { IfOk result (λ r. IfSome r (IsBehind (length (shared_terms table.now)))) }
 {
     let mut numbers = numbers;
     let Some(count) = first_number(&mut numbers) else {
@@ -127,13 +133,13 @@ fn susp_entry(alloc: Global, table: &Table, numbers: Vec<u64>) -> Result<Option<
 /// What a letter says of a term, with the numbers behind it.
 fn entry_of(
     alloc: Global,
-    table: &Table,
+    table: &SharedTerms,
     letter: Letter,
     numbers: Vec<u64>,
 ) -> Result<Option<Entry>, Memory>
-    ensures value { IfOk result (λ r. option_map (entry_term (table_terms table.now)) r
-        ≡ spec.entry (table_terms table.now) letter (reverse numbers.items)) }
-    ensures behind { IfOk result (λ r. IfSome r (IsBehind (length (table_terms table.now)))) }
+    ensures value { IfOk result (λ r. option_map (entry_term (shared_terms table.now)) r
+        ≡ spec.entry (shared_terms table.now) letter (reverse numbers.items)) }
+    ensures behind { IfOk result (λ r. IfSome r (IsBehind (length (shared_terms table.now)))) }
 {
     match letter {
         Letter::U => {
@@ -169,10 +175,10 @@ fn numbers_of(alloc: Global, words: &[Word]) -> Result<Option<Vec<u64>>, Memory>
 }
 
 /// What a line of the table says behind its first word.
-fn entry_behind(alloc: Global, table: &Table, words: &[Word]) -> Result<Option<Entry>, Memory>
-    ensures value { IfOk result (λ r. option_map (entry_term (table_terms table.now)) r
-        ≡ spec.entry_behind (table_terms table.now) words.now) }
-    ensures behind { IfOk result (λ r. IfSome r (IsBehind (length (table_terms table.now)))) }
+fn entry_behind(alloc: Global, table: &SharedTerms, words: &[Word]) -> Result<Option<Entry>, Memory>
+    ensures value { IfOk result (λ r. option_map (entry_term (shared_terms table.now)) r
+        ≡ spec.entry_behind (shared_terms table.now) words.now) }
+    ensures behind { IfOk result (λ r. IfSome r (IsBehind (length (shared_terms table.now)))) }
 {
     match words {
         [Word::Letter(letter), rest @ ..] => match numbers_of(alloc, rest)? {
@@ -185,10 +191,10 @@ fn entry_behind(alloc: Global, table: &Table, words: &[Word]) -> Result<Option<E
 
 /// What a line of the table says.
 #[tactic(auto, unfolding(ap_bundle::specs::TableForms::entry_form))]
-fn entry_form(alloc: Global, table: &Table, words: &[Word]) -> Result<Option<Entry>, Memory>
-    ensures value { IfOk result (λ r. option_map (entry_term (table_terms table.now)) r
-        ≡ spec.entry_form (table_terms table.now) words.now) }
-    ensures behind { IfOk result (λ r. IfSome r (IsBehind (length (table_terms table.now)))) }
+fn entry_form(alloc: Global, table: &SharedTerms, words: &[Word]) -> Result<Option<Entry>, Memory>
+    ensures value { IfOk result (λ r. option_map (entry_term (shared_terms table.now)) r
+        ≡ spec.entry_form (shared_terms table.now) words.now) }
+    ensures behind { IfOk result (λ r. IfSome r (IsBehind (length (shared_terms table.now)))) }
 {
     match after_head(Head::T, words) {
         Some(rest) => entry_behind(alloc, table, rest),
@@ -200,13 +206,13 @@ fn entry_form(alloc: Global, table: &Table, words: &[Word]) -> Result<Option<Ent
 #[tactic(auto, unfolding(ap_bundle::specs::Readers::read_form))]
 fn read_entry<'a>(
     alloc: Global,
-    table: &Table,
+    table: &SharedTerms,
     place: Place<'a>,
 ) -> Result<(Entry, Place<'a>), ReadError>
-    ensures value { Gives (λ r. (entry_term (table_terms table.now) r.0, place_of r.1)) result
-        (readers.read_form BundleKind.Term (spec.entry_form (table_terms table.now))
+    ensures value { Gives (λ r. (entry_term (shared_terms table.now) r.0, place_of r.1)) result
+        (readers.read_form BundleKind.Term (spec.entry_form (shared_terms table.now))
         (place_of place.entry)) }
-    ensures behind { IfOk result (λ r. IsBehind (length (table_terms table.now)) r.0) }
+    ensures behind { IfOk result (λ r. IsBehind (length (shared_terms table.now)) r.0) }
 {
     let (words, rest) = words_at(alloc, BundleKind::Term, place)?;
     let Some(entry) = entry_form(alloc, table, &words)? else {
@@ -220,12 +226,11 @@ pub(crate) fn read_entries<'a>(
     alloc: Global,
     count: u64,
     place: Place<'a>,
-) -> Result<(Table, Place<'a>), ReadError>
-    ensures value { Gives (λ r. (table_terms r.0, place_of r.1)) result
+) -> Result<(SharedTerms, Place<'a>), ReadError>
+    ensures value { Gives (λ r. (shared_terms r.0, place_of r.1)) result
         (spec.read_entries count [] (place_of place.entry)) }
-    ensures table { IfOk result (λ r. IsReadTable r.0) }
 {
-    let mut table = Table::new(alloc);
+    let mut table = SharedTerms::new(alloc);
     let mut place = place;
     for _ in 0..count {
         let (entry, rest) = read_entry(alloc, &table, place)?;

@@ -7,31 +7,33 @@ ghost use Rattle.ap_defs.specs.Terms.{term_of};
 ghost use Rattle.ap_bundle.specs.Readers as readers;
 ghost use Rattle.ap_bundle.specs.TableForms as spec;
 ghost use Rattle.ap_bundle_read.specs.Outcomes.{Gives, place_of};
-ghost use Rattle.ap_bundle_read.specs.Tables.{AreReady, IsReadTable, term_of_line, reader_of, table_terms};
+ghost use Rattle.ap_bundle_read.specs.Tables.{reader_of};
+ghost use Rattle.ap_shared.specs.Shared.{shared_at};
+ghost use Rattle.ap_shared.specs.SharedViews.{shared_terms};
 
 use crate::error::ReadError;
 use crate::line_forms::{after_head, number, term_form};
-use crate::place::{Place, words_at, wrong};
-use crate::table::Table;
-use crate::table::expanding::expanded;
+use crate::place::{Place, ROOM, words_at, wrong};
 use ap_bundle::faults::BundleKind;
 use ap_bundle::words::{Head, Word};
 use ap_defs::terms::Term;
+use ap_shared::arena::SharedTerms;
+use ap_shared::expanding::expanded;
 use std::alloc::Global;
 
 /// How the terms of a bundle are written: in full, or by their lines in a table.
 #[derive(Drop)]
 pub(crate) enum Terms {
     InFull,
-    Shared(Table),
+    Shared(SharedTerms),
 }
 
 /// `r I`
 #[tactic(auto, unfolding(ap_bundle::specs::TableForms::shared_form))]
-fn shared_form(table: &Table, words: &[Word]) -> Option<usize>
-    ensures value { option_map (term_of_line (table_terms table.now)) result
-        ≡ spec.shared_form (table_terms table.now) words.now }
-    ensures within { IfSome result (λ i. i < length (table_terms table.now)) }
+fn shared_form(table: &SharedTerms, words: &[Word]) -> Option<usize>
+    ensures value { option_map (shared_at (shared_terms table.now)) result
+        ≡ spec.shared_form (shared_terms table.now) words.now }
+    ensures within { IfSome result (λ i. i < length (shared_terms table.now)) }
 {
     let rest = after_head(Head::R, words)?;
     let (line, rest) = number(rest)?;
@@ -46,13 +48,13 @@ fn shared_form(table: &Table, words: &[Word]) -> Option<usize>
 #[tactic(auto, unfolding(ap_bundle::specs::Readers::read_form))]
 fn read_line_number<'a>(
     alloc: Global,
-    table: &Table,
+    table: &SharedTerms,
     place: Place<'a>,
 ) -> Result<(usize, Place<'a>), ReadError>
-    ensures value { Gives (λ r. (term_of_line (table_terms table.now) r.0, place_of r.1)) result
-        (readers.read_form BundleKind.Term (spec.shared_form (table_terms table.now))
+    ensures value { Gives (λ r. (shared_at (shared_terms table.now) r.0, place_of r.1)) result
+        (readers.read_form BundleKind.Term (spec.shared_form (shared_terms table.now))
         (place_of place.entry)) }
-    ensures within { IfOk result (λ r. r.0 < length (table_terms table.now)) }
+    ensures within { IfOk result (λ r. r.0 < length (shared_terms table.now)) }
 {
     let (words, rest) = words_at(alloc, BundleKind::Term, place)?;
     let Some(line) = shared_form(table, &words) else {
@@ -65,12 +67,11 @@ fn read_line_number<'a>(
 #[tactic(auto, unfolding(ap_bundle::specs::TableForms::read_shared))]
 fn read_shared<'a>(
     alloc: Global,
-    table: &Table,
+    table: &SharedTerms,
     place: Place<'a>,
 ) -> Result<(Term, Place<'a>), ReadError>
-    requires { IsReadTable table.now }
     ensures { Gives (λ r. (term_of r.0, place_of r.1)) result
-        (spec.read_shared (table_terms table.now) (place_of place.entry)) }
+        (spec.read_shared (shared_terms table.now) (place_of place.entry)) }
 {
     let (line, rest) = read_line_number(alloc, table, place)?;
     let Some(size) = table.size(line) else {
@@ -87,6 +88,26 @@ fn read_shared<'a>(
             room: rest.room - size,
         },
     ))
+}
+
+/// The line of the table whose number stands at the place. Its term is no larger than one may be.
+#[tactic(auto, unfolding(ap_bundle::specs::TableForms::read_cited))]
+pub(crate) fn read_cited<'a>(
+    alloc: Global,
+    table: &SharedTerms,
+    place: Place<'a>,
+) -> Result<(usize, Place<'a>), ReadError>
+    ensures { Gives (λ r. (shared_at (shared_terms table.now) r.0, place_of r.1)) result
+        (spec.read_cited (shared_terms table.now) (place_of place.entry)) }
+{
+    let (line, rest) = read_line_number(alloc, table, place)?;
+    let Some(size) = table.size(line) else {
+        return Err(wrong(BundleKind::Expanded, place));
+    };
+    if size > ROOM {
+        return Err(wrong(BundleKind::Expanded, place));
+    }
+    Ok((line, rest))
 }
 
 /// The term in full at the place.
@@ -108,7 +129,6 @@ pub(crate) fn read_term<'a>(
     terms: &Terms,
     place: Place<'a>,
 ) -> Result<(Term, Place<'a>), ReadError>
-    requires { AreReady terms.now }
     ensures { Gives (λ r. (term_of r.0, place_of r.1)) result
         (reader_of terms.now (place_of place.entry)) }
 {

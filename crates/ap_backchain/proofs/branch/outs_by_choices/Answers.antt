@@ -5,8 +5,8 @@ use Rattle.ap_defs.specs.Goals.{program_in}
 use Rattle.ap_defs.specs.Types.{locals_of}
 use Rattle.ap_search.proofs.MarkLemmas.{marks_stack}
 use Rattle.ap_backchain.specs.Ends.{kept_out}
-use Rattle.ap_backchain.specs.Machines.{position_of}
-use Rattle.ap_backchain.specs.Unbound.{answer_by_unbound}
+use Rattle.ap_machine.specs.Machines.{position_of}
+use Rattle.ap_machine.specs.Unbound.{answer_by_unbound}
 use Rattle.ap_backchain.proofs.branch.outs_by_choices.Goals as goal
 
 pub returns-in-Choosing-clause-outs : goal.returns-in-Choosing-clause-outs

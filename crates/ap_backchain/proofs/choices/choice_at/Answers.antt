@@ -2,7 +2,7 @@ use Rattle.std.proofs.Common.{◌≡◌, List, sym, subst}
 use Rattle.std.specs.Prelude.{MatchOption, None, Some}
 use Rattle.ap_defs.specs.Goals.{program_in}
 use Rattle.ap_search.specs.Continuations.{Waiting}
-use Rattle.ap_backchain.specs.Marks.{choice_of}
+use Rattle.ap_turns.specs.Marks.{choice_of}
 use Rattle.ap_backchain.proofs.choices.choice_at.Goals as goal
 
 pub returns-in-Some : goal.returns-in-Some

@@ -4,9 +4,9 @@ use Rattle.ap_defs.specs.Goals.{program_in}
 use Rattle.ap_defs.specs.Types.{locals_of}
 use Rattle.ap_paths.specs.declared.limits.Limit.TheVariants as limits
 use Rattle.ap_backchain.specs.Ends.{kept_out}
-use Rattle.ap_backchain.specs.Marks.{choices_among, marks_from, marks_from_each}
-use Rattle.ap_backchain.specs.Machines.{position_of}
-use Rattle.ap_backchain.specs.Positions.{outs_from, outs_from_each}
+use Rattle.ap_turns.specs.Marks.{choices_among, marks_from, marks_from_each}
+use Rattle.ap_machine.specs.Machines.{position_of}
+use Rattle.ap_machine.specs.Positions.{outs_from, outs_from_each}
 use Rattle.ap_backchain.specs.Searches.{HasPoints, pending_positions}
 use Rattle.ap_backchain.specs.Turns.{turns_from_each}
 use Rattle.ap_backchain.proofs.counted.outputs_by_choices.Given as goal

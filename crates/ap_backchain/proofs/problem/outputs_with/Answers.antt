@@ -4,7 +4,7 @@ use Rattle.ap_defs.specs.Answers.{outs_of}
 use Rattle.ap_defs.specs.Goals.{Clauses, query_of}
 use Rattle.ap_paths.specs.Limits.{part}
 use Rattle.ap_backchain.specs.Ends.{kept_out}
-use Rattle.ap_backchain.specs.Positions.{outs_from}
+use Rattle.ap_machine.specs.Positions.{outs_from}
 use Rattle.ap_backchain.specs.Starts.{first_position}
 use Rattle.ap_backchain.proofs.BranchLemmas.{all_outputs}
 use Rattle.ap_backchain.proofs.problem.outputs_with.Goals as goal

@@ -6,7 +6,7 @@ use Rattle.ap_defs.specs.declared.goals.Program.{Program}
 use Rattle.ap_defs.specs.declared.goals.Query.{Query}
 use Rattle.ap_defs.specs.declared.terms.Term.{Term}
 use Rattle.ap_search.proofs.TypedBelowLemmas.{typed_query_below}
-use Rattle.ap_backchain.proofs.MachineStepLemmas.{typed_query_here}
+use Rattle.ap_turns.proofs.MachineStepLemmas.{typed_query_here}
 use Rattle.ap_backchain.proofs.problem.query_of_problem.Goals as goal
 
 pub returns-clause-typed : goal.returns-clause-typed

@@ -7,10 +7,10 @@ use Rattle.ap_defs.specs.Types.{local_of, locals_of}
 use Rattle.ap_store.specs.Triples.{Triple, with_next}
 use Rattle.ap_store.specs.Views.{kinds, present}
 use Rattle.ap_store.specs.declared.store.Store.{Store}
-use Rattle.ap_backchain.specs.Machines.{next_of}
-use Rattle.ap_backchain.specs.Positions.{Position, with_goal}
-use Rattle.ap_backchain.specs.Views.{state_in}
-use Rattle.ap_backchain.proofs.FitLemmas.{goal_zero}
+use Rattle.ap_machine.specs.Machines.{next_of}
+use Rattle.ap_machine.specs.Positions.{Position, with_goal}
+use Rattle.ap_machine.specs.Views.{state_in}
+use Rattle.ap_turns.proofs.FitLemmas.{goal_zero}
 use Rattle.ap_backchain.proofs.run.first_machine.Goals as goal
 
 pub push_goal-requires : goal.push_goal-requires

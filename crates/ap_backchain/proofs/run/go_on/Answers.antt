@@ -4,8 +4,8 @@ use Rattle.ap_defs.specs.Answers.{outs_of}
 use Rattle.ap_defs.specs.Goals.{program_in}
 use Rattle.ap_defs.specs.Types.{locals_of}
 use Rattle.ap_defs.specs.declared.paths.Out.{Out}
-use Rattle.ap_backchain.specs.Machines.{position_of}
-use Rattle.ap_backchain.specs.Positions.{Position, turned}
+use Rattle.ap_machine.specs.Machines.{position_of}
+use Rattle.ap_machine.specs.Positions.{Position, turned}
 use Rattle.ap_backchain.specs.Searches.{ended_outs, positions_with}
 use Rattle.ap_backchain.specs.Wanted.{wanted_after}
 use Rattle.ap_backchain.proofs.RunLemmas.{on_ok}

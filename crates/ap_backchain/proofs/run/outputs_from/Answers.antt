@@ -5,9 +5,9 @@ use Rattle.ap_defs.specs.Goals.{program_in}
 use Rattle.ap_defs.specs.Types.{locals_of}
 use Rattle.ap_paths.specs.Limits.{part}
 use Rattle.ap_backchain.specs.Ends.{kept_out}
-use Rattle.ap_backchain.specs.Machines.{position_of, track_of}
+use Rattle.ap_machine.specs.Machines.{position_of, track_of}
 use Rattle.ap_backchain.specs.ChoicePoints.{positions_pending}
-use Rattle.ap_backchain.specs.Positions.{outs_from, outs_from_each, turned}
+use Rattle.ap_machine.specs.Positions.{outs_from, outs_from_each, turned}
 use Rattle.ap_backchain.specs.Searches.{positions_followed, pending_positions, positions_with}
 use Rattle.ap_backchain.proofs.SearchLemmas.{turn_keeps, turn_lessens}
 use Rattle.ap_backchain.proofs.WantedLemmas.{nothing_left, nothing_wanted}

@@ -5,8 +5,8 @@ use Rattle.ap_defs.specs.Goals.{program_in}
 use Rattle.ap_defs.specs.Types.{locals_of}
 use Rattle.ap_paths.specs.Limits.{part}
 use Rattle.ap_backchain.specs.Ends.{kept_out}
-use Rattle.ap_backchain.specs.Machines.{position_of}
-use Rattle.ap_backchain.specs.Positions.{Position, outs_from}
+use Rattle.ap_machine.specs.Machines.{position_of}
+use Rattle.ap_machine.specs.Positions.{Position, outs_from}
 use Rattle.ap_backchain.proofs.run.outputs_of_short_query.Goals as goal
 
 pub returns : goal.returns

@@ -4,8 +4,8 @@ use Rattle.ap_defs.specs.Goals.{program_in}
 use Rattle.ap_defs.specs.Types.{locals_of}
 use Rattle.ap_paths.specs.Limits.{part}
 use Rattle.ap_backchain.specs.Ends.{kept_out}
-use Rattle.ap_backchain.specs.Machines.{position_of}
-use Rattle.ap_backchain.specs.Positions.{outs_from, outs_from_each}
+use Rattle.ap_machine.specs.Machines.{position_of}
+use Rattle.ap_machine.specs.Positions.{outs_from, outs_from_each}
 use Rattle.ap_backchain.specs.Searches.{HasPoints, pending_positions}
 use Rattle.ap_backchain.proofs.run.outputs_soon.Given as goal
 

@@ -4,8 +4,8 @@ use Rattle.ap_defs.specs.Answers.{NominalOut, outs_of}
 use Rattle.ap_defs.specs.Goals.{goal_of, program_in}
 use Rattle.ap_defs.specs.Renaming.{rename_goal}
 use Rattle.ap_backchain.specs.Ends.{kept_out}
-use Rattle.ap_backchain.specs.Machines.{position_of}
-use Rattle.ap_backchain.specs.Positions.{Position, Turned}
+use Rattle.ap_machine.specs.Machines.{position_of}
+use Rattle.ap_machine.specs.Positions.{Position, Turned}
 use Rattle.ap_backchain.specs.Searches.{ended_outs, positions_followed, pending_positions}
 use Rattle.ap_backchain.proofs.RunLemmas.{ended_goal, on_ok, pending_goes, points_goes}
 use Rattle.ap_backchain.proofs.run.turn_by.Goals as goal

@@ -7,10 +7,10 @@ use Rattle.ap_defs.specs.Renaming.{rename_goal}
 use Rattle.ap_defs.specs.Types.{locals_of}
 use Rattle.ap_search.specs.Continuations.{Waiting}
 use Rattle.ap_backchain.specs.Ends.{kept_out}
-use Rattle.ap_backchain.specs.Machines.{position_of}
-use Rattle.ap_backchain.specs.Positions.{Position, Turned, turned, turned_by, turned_goal}
+use Rattle.ap_machine.specs.Machines.{position_of}
+use Rattle.ap_machine.specs.Positions.{Position, Turned, turned, turned_by, turned_goal}
 use Rattle.ap_backchain.specs.Searches.{ended_outs, positions_followed, pending_positions, positions_with}
-use Rattle.ap_backchain.specs.Unbound.{answer_by_unbound}
+use Rattle.ap_machine.specs.Unbound.{answer_by_unbound}
 use Rattle.ap_backchain.proofs.RunLemmas.{pending_same, points_same}
 use Rattle.ap_backchain.proofs.run.turn_on.Goals as goal
 

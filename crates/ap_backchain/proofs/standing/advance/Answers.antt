@@ -2,9 +2,10 @@ use Rattle.std.proofs.Common.{sym, ap, ◌∙◌}
 use Rattle.ap_defs.specs.Answers.{out_of}
 use Rattle.ap_defs.specs.Goals.{program_in}
 use Rattle.ap_defs.specs.Types.{locals_of}
-use Rattle.ap_backchain.specs.Machines.{position_of, turned_of}
-use Rattle.ap_backchain.specs.Positions.{ends}
-use Rattle.ap_backchain.specs.declared.turns.Turn.{Turn}
+use Rattle.ap_machine.specs.Machines.{position_of}
+use Rattle.ap_turns.specs.Turned.{turned_of}
+use Rattle.ap_machine.specs.Positions.{ends}
+use Rattle.ap_turns.specs.declared.turns.Turn.{Turn}
 use Rattle.ap_backchain.proofs.BranchLemmas.{ended_marks, ended_path, failed_marks, went_fewer, went_marks, went_path}
 use Rattle.ap_backchain.proofs.standing.advance.Goals as goal
 

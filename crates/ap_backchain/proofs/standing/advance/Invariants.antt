@@ -1,8 +1,8 @@
 use Rattle.std.proofs.Common.{◌≡◌}
 use Rattle.ap_defs.specs.Goals.{program_in}
 use Rattle.ap_defs.specs.Types.{locals_of}
-use Rattle.ap_backchain.specs.Marks.{marks_from}
-use Rattle.ap_backchain.specs.Machines.{position_of}
+use Rattle.ap_turns.specs.Marks.{marks_from}
+use Rattle.ap_machine.specs.Machines.{position_of}
 use Rattle.ap_backchain.specs.Turns.{turns_from}
 use Rattle.ap_backchain.proofs.standing.advance.Given as goal
 

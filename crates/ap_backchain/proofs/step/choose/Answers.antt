@@ -4,9 +4,9 @@ use Rattle.ap_defs.specs.Goals.{program_in}
 use Rattle.ap_defs.specs.Types.{locals_of}
 use Rattle.ap_search.specs.Marks.{NominalMark, mark_path}
 use Rattle.ap_search.specs.Prefixes.{beginning}
-use Rattle.ap_backchain.specs.Branches.{marks_of_standing, path_of_standing}
-use Rattle.ap_backchain.specs.Marks.{IsAmongWays, choice_of, marks_from}
-use Rattle.ap_backchain.specs.Positions.{Position}
+use Rattle.ap_turns.specs.Standings.{marks_of_standing, path_of_standing}
+use Rattle.ap_turns.specs.Marks.{IsAmongWays, choice_of, marks_from}
+use Rattle.ap_machine.specs.Positions.{Position}
 use Rattle.ap_backchain.proofs.step.choose.Goals as goal
 
 pub choose_by-requires-clause-goal : goal.choose_by-requires-clause-goal

@@ -6,10 +6,10 @@ use Rattle.ap_defs.specs.Terms.{term_of}
 use Rattle.ap_defs.specs.Types.{locals_of}
 use Rattle.ap_search.specs.Marks.{NominalMark, mark_path}
 use Rattle.ap_search.specs.Prefixes.{beginning}
-use Rattle.ap_backchain.specs.Branches.{marks_of_standing}
-use Rattle.ap_backchain.specs.Marks.{clauses_marks, goal_marks, marks_from}
-use Rattle.ap_backchain.specs.Machines.{position_of}
-use Rattle.ap_backchain.specs.Positions.{with_choice, with_goal}
+use Rattle.ap_turns.specs.Standings.{marks_of_standing}
+use Rattle.ap_turns.specs.Marks.{clauses_marks, goal_marks, marks_from}
+use Rattle.ap_machine.specs.Machines.{position_of}
+use Rattle.ap_machine.specs.Positions.{with_choice, with_goal}
 use Rattle.ap_backchain.proofs.ChooseLemmas.{atom_marks, deep_enough, left_way, right_way}
 use Rattle.ap_backchain.proofs.step.choose_by.Goals as goal
 

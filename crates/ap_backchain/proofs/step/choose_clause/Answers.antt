@@ -4,8 +4,8 @@ use Rattle.ap_defs.specs.Goals.{clause_of, program_in}
 use Rattle.ap_defs.specs.Renaming.{rename_term}
 use Rattle.ap_defs.specs.Terms.{term_of}
 use Rattle.ap_defs.specs.Types.{locals_of}
-use Rattle.ap_backchain.specs.Machines.{position_of}
-use Rattle.ap_backchain.specs.Positions.{Position, clause_state}
+use Rattle.ap_machine.specs.Machines.{position_of}
+use Rattle.ap_machine.specs.Positions.{Position, clause_state}
 use Rattle.ap_backchain.proofs.ChooseLemmas.{clause_here, entered_path, fit_here, kid_marks, no_kid_marks}
 use Rattle.ap_backchain.proofs.step.choose_clause.Goals as goal
 

@@ -2,8 +2,8 @@ use Rattle.std.proofs.Common.{ℕ, ap, sym, ◌∙◌, subst}
 use Rattle.ap_defs.specs.Goals.{goal_of, program_in}
 use Rattle.ap_defs.specs.Renaming.{IsGoalBelow, rename_goal}
 use Rattle.ap_defs.specs.Types.{locals_of}
-use Rattle.ap_backchain.specs.Marks.{marks_from}
-use Rattle.ap_backchain.specs.Positions.{Position, with_goal}
+use Rattle.ap_turns.specs.Marks.{marks_from}
+use Rattle.ap_machine.specs.Positions.{Position, with_goal}
 use Rattle.ap_backchain.proofs.step.choose_side.Goals as goal
 
 pub push_goal-requires : goal.push_goal-requires

@@ -3,8 +3,8 @@ use Rattle.std.specs.Prelude.{IfOk}
 use Rattle.ap_defs.specs.Goals.{NominalClause, clause_of, either, goal_of, program_in}
 use Rattle.ap_defs.specs.Renaming.{rename_goal, rename_term}
 use Rattle.ap_defs.specs.Terms.{term_of}
-use Rattle.ap_backchain.specs.Machines.{position_of}
-use Rattle.ap_backchain.specs.Positions.{Position, positions_by_clauses, turned_goal}
+use Rattle.ap_machine.specs.Machines.{position_of}
+use Rattle.ap_machine.specs.Positions.{Position, positions_by_clauses, turned_goal}
 use Rattle.ap_backchain.specs.Searches.{positions_followed, pending_positions, positions_with}
 use Rattle.ap_backchain.proofs.RunLemmas.{atom_goes, deep_atom}
 use Rattle.ap_backchain.proofs.ways.choose_by.Goals as goal

@@ -1,11 +1,11 @@
 use Rattle.std.proofs.Common.{ℕ, List, ◌∷◌, ap, ap₂, ◌∙◌, refl, sym, subst}
 use Rattle.ap_defs.specs.Goals.{goal_of}
 use Rattle.ap_defs.specs.Renaming.{IsGoalBelow, rename_goal}
-use Rattle.ap_backchain.specs.Machines.{track_of}
-use Rattle.ap_backchain.specs.Positions.{Position, with_goal}
-use Rattle.ap_backchain.specs.Tracks.{GoesFrom}
+use Rattle.ap_machine.specs.Machines.{track_of}
+use Rattle.ap_machine.specs.Positions.{Position, with_goal}
+use Rattle.ap_machine.specs.Tracks.{GoesFrom}
 use Rattle.ap_backchain.proofs.RunLemmas.{pending_goes, points_goes}
-use Rattle.ap_backchain.proofs.TrackLemmas.{goes_trans}
+use Rattle.ap_machine.proofs.TrackLemmas.{goes_trans}
 use Rattle.ap_backchain.proofs.ways.go_on_by.Goals as goal
 use Rattle.ap_backchain.proofs.ways.go_on_by.Goals.{In_ok-push_goal-in-Right}
 

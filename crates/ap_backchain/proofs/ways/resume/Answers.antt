@@ -1,6 +1,6 @@
 use Rattle.std.proofs.Common.{ℕ, List, [], ◌∷◌, length, length-append, reverse, ap, ◌∙◌, sym, subst, arith}
 use Rattle.std.proofs.lemmas.List.{append-nil, nil_from_length}
-use Rattle.ap_backchain.specs.Machines.{track_of}
+use Rattle.ap_machine.specs.Machines.{track_of}
 use Rattle.ap_backchain.specs.ChoicePoints.{ArePoints, IsFitRest, positions_pending}
 use Rattle.ap_backchain.specs.declared.points.ChoicePoint.{ChoicePoint}
 use Rattle.ap_backchain.proofs.RunLemmas.{latest_points, pending_back, points_back}

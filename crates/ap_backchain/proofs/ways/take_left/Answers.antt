@@ -1,13 +1,13 @@
 use Rattle.std.proofs.Common.{ℕ, List, ◌∷◌, ap, ap₂, ◌∙◌, sym, subst}
 use Rattle.ap_defs.specs.Goals.{goal_of}
 use Rattle.ap_defs.specs.Renaming.{IsGoalBelow, rename_goal}
-use Rattle.ap_backchain.specs.Machines.{track_of}
-use Rattle.ap_backchain.specs.Positions.{Position, with_goal}
-use Rattle.ap_backchain.specs.Tracks.{GoesFrom}
+use Rattle.ap_machine.specs.Machines.{track_of}
+use Rattle.ap_machine.specs.Positions.{Position, with_goal}
+use Rattle.ap_machine.specs.Tracks.{GoesFrom}
 use Rattle.ap_backchain.specs.declared.points.Rest.{Rest}
 use Rattle.ap_backchain.specs.declared.points.Rest.TheVariants as rests
 use Rattle.ap_backchain.proofs.RunLemmas.{pending_with, points_with}
-use Rattle.ap_backchain.proofs.TrackLemmas.{goes_trans}
+use Rattle.ap_machine.proofs.TrackLemmas.{goes_trans}
 use Rattle.ap_backchain.proofs.ways.take_left.Goals as goal
 
 pub push_goal-requires : goal.push_goal-requires

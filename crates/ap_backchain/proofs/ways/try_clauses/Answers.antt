@@ -4,17 +4,17 @@ use Rattle.ap_defs.specs.Renaming.{AreBelow, rename_term}
 use Rattle.ap_defs.specs.Terms.{term_of}
 use Rattle.ap_defs.specs.declared.goals.Clause.{Clause}
 use Rattle.ap_defs.specs.declared.terms.Term.{Term}
-use Rattle.ap_backchain.specs.Machines.{position_if, position_of, track_of}
+use Rattle.ap_machine.specs.Machines.{position_if, position_of, track_of}
 use Rattle.ap_backchain.specs.ChoicePoints.{positions_left}
-use Rattle.ap_backchain.specs.Positions.{Position, enters_clause}
+use Rattle.ap_machine.specs.Positions.{Position, enters_clause}
 use Rattle.ap_backchain.specs.Searches.{pending_positions}
-use Rattle.ap_backchain.specs.Tracks.{GoesFrom, Track}
+use Rattle.ap_machine.specs.Tracks.{GoesFrom, Track}
 use Rattle.ap_backchain.specs.declared.points.ChoicePoint.{ChoicePoint}
 use Rattle.ap_backchain.specs.declared.points.Rest.TheVariants as rests
 use Rattle.ap_backchain.proofs.ApartLemmas.{left_skipped}
 use Rattle.ap_backchain.proofs.ChooseLemmas.{fit_here}
 use Rattle.ap_backchain.proofs.RunLemmas.{clause_left, next_same, no_clause_left, pending_rest, pending_goes, points_goes, points_rest}
-use Rattle.ap_backchain.proofs.TrackLemmas.{goes_same}
+use Rattle.ap_machine.proofs.TrackLemmas.{goes_same}
 use Rattle.ap_backchain.proofs.ways.try_clauses.Goals as goal
 
 pub enter_clause-requires-clause-args : goal.enter_clause-requires-clause-args

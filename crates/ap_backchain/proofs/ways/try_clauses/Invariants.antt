@@ -1,5 +1,5 @@
 use Rattle.std.proofs.Common.{◌≡◌, ◌-◌, length}
-use Rattle.ap_backchain.specs.Machines.{position_of, track_of}
+use Rattle.ap_machine.specs.Machines.{position_of, track_of}
 use Rattle.ap_backchain.specs.ChoicePoints.{positions_left}
 use Rattle.ap_backchain.specs.declared.points.Rest.TheVariants as rests
 use Rattle.ap_backchain.proofs.ways.try_clauses.Given as goal

@@ -1,12 +1,12 @@
 use Rattle.std.proofs.Common.{arith}
-use Rattle.ap_bundle.specs.Bundles.{bundle_of}
+use Rattle.ap_shared.specs.SharedViews.{shared_bundle}
 use Rattle.ap_bundle_check.proofs.SoundVerdicts.{sound_verdicts}
-use Rattle.ap_bundle_check.proofs.TextLemmas.{reading_short}
+use Rattle.ap_bundle_check.proofs.TextLemmas.{cited_short}
 use Rattle.ap_bundle_check.proofs.check.check_bytes.Goals as goal
 
 pub report_bundle-requires : goal.report_bundle-requires
 report_bundle-requires c =
-    let short = reading_short c.args.bytes.now (bundle_of c.in-Ok.bundle) c.in-Ok.ensures in
+    let short = cited_short c.args.bytes.now (shared_bundle c.in-Ok.bundle) c.in-Ok.ensures in
     let few = c.requires in
     omega arith
 

@@ -12,4 +12,4 @@ pub returns-clause-again : goal.returns-clause-again
 returns-clause-again c = λ b h r. ap (at_line (written_shared b)) (again b h r)
 
 pub returns-clause-prefixes : goal.returns-clause-prefixes
-returns-clause-prefixes c = λ b v u h r e some. ap (at_line v) (prefix b v u h r e some) ∙ ap (λ (z : List ℕ). Err (record { line = 1 + count_by is_lf z; kind = Unended })) (take_all v)
+returns-clause-prefixes c = λ b v u h r e some. ap (at_line v) (prefix b h r v u e some) ∙ ap (λ (z : List ℕ). Err (record { line = 1 + count_by is_lf z; kind = Unended })) (take_all v)

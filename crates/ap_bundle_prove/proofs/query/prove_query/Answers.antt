@@ -2,7 +2,7 @@ use Rattle.std.proofs.Common.{◌++◌, map, ap, sym, ◌∙◌, subst}
 use Rattle.std.specs.Prelude.{Err, Ok, OnOk, Result, flat_map}
 use Rattle.std.specs.List.{AllByRecursion}
 use Rattle.ap_backchain.specs.Problems.{clauses_in}
-use Rattle.ap_bundle.specs.Bundles.{proved_of}
+use Rattle.ap_shared.specs.SharedViews.{shared_proved}
 use Rattle.ap_bundle_prove.specs.Paths.{IsLed, proof_at}
 use Rattle.ap_bundle_prove.proofs.OutLemmas.{outs_led, outs_proofs}
 use Rattle.ap_bundle_prove.proofs.query.prove_query.Goals as goal
@@ -19,8 +19,8 @@ weaker P Q (Err e) f p = p
 pub returns : goal.returns
 returns g c =
     let p = c.args.p.now in
-    let old = map proved_of c.args.all.now.items in
-    let new = map proved_of c.prove_outs.new.all.items in
+    let old = map shared_proved c.args.all.now.items in
+    let new = map shared_proved c.prove_outs.new.all.items in
     weaker _ _ c.prove_outs.result
     (λ h q asked.
     h q asked ∙ ap (λ os. old ++ flat_map (proof_at (clauses_in p) p.depth p.query q) os) (c.in_ok-outs.ensures q asked)

@@ -1,23 +1,23 @@
 use Rattle.std.proofs.Common.{◌≡◌, nat_eq, true, sym, refl, ap, ◌∙◌, arith}
 use Rattle.std.proofs.lemmas.Bool.Decides.{nat_tests}
-use Rattle.ap_defs.specs.Answers.{answer_of}
+use Rattle.ap_shared.specs.SharedViews.{shared_answer}
 use Rattle.ap_defs.specs.Derivations as derivations
 use Rattle.ap_defs.specs.Goals as goals
 use Rattle.ap_defs.specs.Goals.{goal_of}
 use Rattle.ap_checks.specs.Checks.{is_new, refusal}
-use Rattle.ap_checker.specs.declared.scope.Standing.TheVariants as code
-use Rattle.ap_checker.specs.Scopes.{environment_of}
+use Rattle.ap_judge.specs.declared.scope.Standing.TheVariants as code
+use Rattle.ap_judge.specs.Scopes.{environment_of}
 use Rattle.ap_checker.specs.Walks.{derivation_at, goal_at, kinds_at}
 use Rattle.ap_checker.proofs.NodeLemmas.{test_goes_on}
 use Rattle.ap_checker.proofs.WalkLemmas.{goes_brought}
 use Rattle.ap_checker.proofs.visits.visit_new.Goals as goal
 
-pub returns : goal.returns
-returns c = λ p.
+pub returns-clause-visited : goal.returns-clause-visited
+returns-clause-visited c = λ p table.
     let below = c.args.below in
     let own = c.args.names.0 in
     let name = c.args.names.1 in
-    let a = answer_of c.args.answer.now in
+    let a = shared_answer table c.args.answer.now in
     let e = environment_of c.args.walk.now.standing.items in
     let node = derivations.new name (derivation_at below) in
     let sorts : nat_eq name.sort own.sort ≡ true = grind (arith, nat_tests, c.if-name-own.false) in

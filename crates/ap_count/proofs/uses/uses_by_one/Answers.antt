@@ -1,6 +1,6 @@
 use Rattle.std.proofs.Common.{ap, map, ◌∙◌}
-use Rattle.ap_defs.specs.Derivations.{derivation_of}
 use Rattle.ap_defs.specs.Goals.{goal_of, program_in}
+use Rattle.ap_shared.specs.SharedViews.{shared_derivation}
 use Rattle.ap_count.specs.Tables.{counts_of, with_uses}
 use Rattle.ap_count.specs.Uses.{uses_in_each}
 use Rattle.ap_count.proofs.UseLemmas.{table_from_none}
@@ -18,7 +18,7 @@ counting-preserved g c =
     let program = program_in c.args.question.program.now in
     let rest = c.in-Some.ensures.cases.0 in (
       count_first program (goal_of c.args.question.goal.now) (g.D.Derive.at c.args.from.now) c.in-Some.path.now c.counting.rest.now c.in-Some.others.now
-          (derivation_of c.in_ok-derivation.derivation) (counts_of c.counting.table) (counts_of c.add_uses.new.table) _ rest c.in_ok-derivation.ensures
-          c.in_ok-add_uses.ensures c.counting.invariant.0,
+          (shared_derivation c.in_ok-derivation.ensures.0 c.in_ok-derivation.derivation) (counts_of c.counting.table) (counts_of c.add_uses.new.table) _ rest c.in_ok-derivation.ensures.1
+          (c.in_ok-add_uses.ensures c.in_ok-derivation.ensures.0) c.counting.invariant.0,
       (paths_left (g.D.Derive.leads c.args.from.now) c.in-Some.path.now c.counting.rest.now c.in-Some.others.now rest c.counting.invariant.1).1,
     )

@@ -1,9 +1,8 @@
 use Rattle.std.proofs.Common.{◌≡◌}
-use Rattle.ap_defs.specs.Derivations.{derivation_of}
 use Rattle.ap_defs.specs.Goals.{goal_of, program_in}
 use Rattle.ap_count.specs.Tables.{counts_of, with_uses}
 use Rattle.ap_count.specs.Uses.{uses}
-use Rattle.ap_count.specs.Waiting.{uses_of_all, weight_of_all}
+use Rattle.ap_count.specs.Waiting.{bare_derivation, uses_of_all, weight_of_all}
 use Rattle.ap_count.proofs.walk.add_uses.Given as goal
 
 -- with the uses in what waits the table has all of them
@@ -11,7 +10,7 @@ abbrev pub invariant-walking : goal.invariant-walking
 invariant-walking l =
     let program = program_in l.program in
     with_uses (uses_of_all program l.waiting.items) (counts_of l.table)
-    ≡ with_uses (uses program (derivation_of l.fn.derivation) (goal_of l.fn.goal)) (counts_of l.fn.table)
+    ≡ with_uses (uses program (bare_derivation l.fn.derivation) (goal_of l.fn.goal)) (counts_of l.fn.table)
 
 abbrev pub decreases-walking : goal.decreases-walking
 decreases-walking l = weight_of_all l.waiting.items

@@ -2,14 +2,15 @@ use Rattle.std.proofs.Common.{◌≡◌, ◌-◌, [], ◌∷◌, map, ap, sym, s
 use Rattle.std.specs.Prelude.{Some, slice_get}
 use Rattle.std.proofs.lemmas.Result.{IfOk-weaker}
 use Rattle.ap_defs.specs.Answers.{NominalAnswer, derivation_in, found, outs_at}
-use Rattle.ap_defs.specs.Derivations.{NominalDerivation, derivation_of}
+use Rattle.ap_defs.specs.Derivations.{NominalDerivation}
 use Rattle.ap_defs.specs.Goals.{NominalQuery, program_in, program_of, query_of}
-use Rattle.ap_defs.specs.declared.outcomes.Derivation.{Derivation}
 use Rattle.ap_search.proofs.TypedBelowLemmas.{bounded_short, typed_fits}
-use Rattle.ap_backchain.specs.Machines.{position_of}
+use Rattle.ap_machine.specs.Machines.{position_of}
 use Rattle.ap_backchain.specs.Problems.{clauses_in, queries_in}
 use Rattle.ap_checks.specs.Checks.{Checks}
 use Rattle.ap_checks.specs.Traces.{Traced, traced_query}
+use Rattle.ap_derive.specs.Derived.{derived}
+use Rattle.ap_derive.specs.declared.assembling.Derived.{Derived}
 use Rattle.ap_derive.specs.Nodes.{selected_node, nodes_before}
 use Rattle.ap_derive.specs.Solved.{rest_of}
 use Rattle.ap_derive.proofs.DerivedLemmas.{answer_derived, derived_checks, path_derivation, path_nodes, path_solved, same_some, typed_at}
@@ -42,10 +43,10 @@ assemble-requires c =
           to.state (map selected_node c.in_ok-nodes.nodes.items) (rest_of c.args.path.now to) c.in_ok-nodes.ensures,
     )
 
-derived : (c : After-drop-machine-11) → (d : Derivation) → ((e : NominalDerivation) → map selected_node c.in_ok-nodes.nodes.items ≡ nodes_before e [] → derivation_of d ≡ derivation_in (position_of c.select_along.new.machine).state e)
+is_derived : (c : After-drop-machine-11) → (d : Derived) → ((e : NominalDerivation) → map selected_node c.in_ok-nodes.nodes.items ≡ nodes_before e [] → derived d ≡ derivation_in (position_of c.select_along.new.machine).state e)
     → (q : NominalQuery) (r : Traced) → slice_get (queries_in c.args.p.now) (c.args.p.now.query - 1) ≡ Some q
-    → traced_query (clauses_in c.args.p.now) c.args.p.now.depth q c.args.path.now ≡ Some r → derivation_of d ≡ derivation_in r.state r.derivation
-derived c d h x r k leads =
+    → traced_query (clauses_in c.args.p.now) c.args.p.now.depth q c.args.path.now ≡ Some r → derived d ≡ derivation_in r.state r.derivation
+is_derived c d h x r k leads =
     let p = c.args.p.now in
     let q = query_of c.query_of_problem-query.result.now in let asked = c.query_of_problem-query.ensures.query in
     let l = c.requires.leads q asked in
@@ -57,16 +58,16 @@ derived c d h x r k leads =
     path_nodes (clauses_in p) p.depth q c.args.path.now l (program_in c.predicates-clauses.result.now) (position_of c.in_ok-machine.machine) same_program c.in_ok-machine.ensures
     to.state (map selected_node c.in_ok-nodes.nodes.items) (rest_of c.args.path.now to) c.in_ok-nodes.ensures in
     path_derivation (clauses_in p) p.depth q c.args.path.now l (program_in c.predicates-clauses.result.now) (position_of c.in_ok-machine.machine) same_program c.in_ok-machine.ensures
-    to.state (map selected_node c.in_ok-nodes.nodes.items) (rest_of c.args.path.now to) c.in_ok-nodes.ensures (derivation_of d) (h l.traced.derivation nodes) r here
+    to.state (map selected_node c.in_ok-nodes.nodes.items) (rest_of c.args.path.now to) c.in_ok-nodes.ensures (derived d) (h l.traced.derivation nodes) r here
 
 pub returns-clause-derivation : goal.returns-clause-derivation
 returns-clause-derivation c =
     let p = c.args.p.now in
     let s = (position_of c.select_along.new.machine).state in
-    IfOk-weaker c.assemble.result (λ d. (e : NominalDerivation) → map selected_node c.in_ok-nodes.nodes.items ≡ nodes_before e [] → derivation_of d ≡ derivation_in s e)
+    IfOk-weaker c.assemble.result (λ d. (e : NominalDerivation) → map selected_node c.in_ok-nodes.nodes.items ≡ nodes_before e [] → derived d ≡ derivation_in s e)
     (λ d. (q : NominalQuery) (r : Traced) → slice_get (queries_in p) (p.query - 1) ≡ Some q → traced_query (clauses_in p) p.depth q c.args.path.now ≡ Some r
-    → derivation_of d ≡ derivation_in r.state r.derivation)
-    (derived c) c.assemble.ensures
+    → derived d ≡ derivation_in r.state r.derivation)
+    (is_derived c) c.assemble.ensures.derivation
 
 pub returns-clause-checks : goal.returns-clause-checks
 returns-clause-checks c =
@@ -74,11 +75,14 @@ returns-clause-checks c =
     let s = (position_of c.select_along.new.machine).state in
     let program = program_of p.program.now in
     let typed = c.predicates-clauses.ensures.restricted.typed in
-    IfOk-weaker c.assemble.result (λ d. (e : NominalDerivation) → map selected_node c.in_ok-nodes.nodes.items ≡ nodes_before e [] → derivation_of d ≡ derivation_in s e)
+    IfOk-weaker c.assemble.result (λ d. (e : NominalDerivation) → map selected_node c.in_ok-nodes.nodes.items ≡ nodes_before e [] → derived d ≡ derivation_in s e)
     (λ d. (q : NominalQuery) (a : NominalAnswer) → slice_get (queries_in p) (p.query - 1) ≡ Some q → outs_at (clauses_in p) p.depth q c.args.path.now ≡ found c.args.path.now a ∷ []
-    → Checks program q a (derivation_of d))
+    → Checks program q a (derived d))
     (λ d h q a k only.
     let at = answer_derived (clauses_in p) p.depth q c.args.path.now a only in
-    subst (λ (e : NominalDerivation). Checks program q a e) (sym (derived c d h q at.0 k at.2))
+    subst (λ (e : NominalDerivation). Checks program q a e) (sym (is_derived c d h q at.0 k at.2))
     (derived_checks program typed p.depth q (typed_at program.signature (queries_in p) (p.query - 1) q k typed.1) c.args.path.now a (derivation_in at.0.state at.0.derivation) at.1 only))
-    c.assemble.ensures
+    c.assemble.ensures.derivation
+
+pub returns-clause-grown : goal.returns-clause-grown
+returns-clause-grown c = c.assemble.ensures.grown

@@ -2,8 +2,8 @@ use Rattle.std.proofs.Common.{[], ◌∷◌, map, ap, ◌∙◌, sym}
 use Rattle.std.proofs.lemmas.List.{map-append}
 use Rattle.std.specs.Prelude.{Some}
 use Rattle.ap_defs.specs.Goals.{program_in}
-use Rattle.ap_backchain.specs.Machines.{position_of}
-use Rattle.ap_backchain.specs.Positions.{Position}
+use Rattle.ap_machine.specs.Machines.{position_of}
+use Rattle.ap_machine.specs.Positions.{Position}
 use Rattle.ap_derive.specs.Nodes.{selected_node}
 use Rattle.ap_derive.specs.Solved.{rest_of, solved_at}
 use Rattle.ap_derive.proofs.SolvedLemmas.{all_nodes, fewer_left, nodes_solved, none_waits, one_more, with_nodes}

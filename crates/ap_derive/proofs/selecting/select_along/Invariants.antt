@@ -1,6 +1,6 @@
 use Rattle.std.proofs.Common.{map, ◌≡◌}
 use Rattle.ap_defs.specs.Goals.{program_in}
-use Rattle.ap_backchain.specs.Machines.{position_of}
+use Rattle.ap_machine.specs.Machines.{position_of}
 use Rattle.ap_derive.specs.Nodes.{selected_node}
 use Rattle.ap_derive.specs.Solved.{solved_at}
 use Rattle.ap_derive.proofs.SolvedLemmas.{goals_left, with_nodes}

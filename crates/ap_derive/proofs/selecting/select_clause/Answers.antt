@@ -7,10 +7,11 @@ use Rattle.ap_defs.specs.Resolution.{next_number}
 use Rattle.ap_defs.specs.Terms.{susp, term_of}
 use Rattle.ap_defs.specs.Types.{locals_of}
 use Rattle.ap_store.proofs.StoreLemmas.{next_counts}
-use Rattle.ap_backchain.specs.Machines.{position_of}
-use Rattle.ap_backchain.specs.Positions.{with_goal}
+use Rattle.ap_machine.specs.Machines.{position_of}
+use Rattle.ap_machine.specs.Positions.{with_goal}
 use Rattle.ap_backchain.proofs.ChooseLemmas.{fit_here}
-use Rattle.ap_derive.specs.Nodes.{DerivationNode, atom, selected_node}
+use Rattle.ap_bundle.specs.Nodes.{atom}
+use Rattle.ap_derive.specs.Nodes.{DerivationNode, selected_node}
 use Rattle.ap_derive.specs.Solved.{Selects}
 use Rattle.ap_derive.proofs.ChoiceLemmas.{atom_chooses, enters, low, selected_to, within}
 use Rattle.ap_derive.proofs.selecting.select_clause.Goals as goal

@@ -1,9 +1,9 @@
 use Rattle.std.proofs.Common.{◌≡◌, ℕ, ◌∷◌, sym, ap, ◌∙◌, subst}
 use Rattle.ap_defs.specs.Goals.{goal_of}
 use Rattle.ap_defs.specs.Renaming.{rename_goal}
-use Rattle.ap_backchain.specs.Machines.{position_of}
-use Rattle.ap_backchain.specs.Positions.{Position, with_goal}
-use Rattle.ap_derive.specs.Nodes.{left, right}
+use Rattle.ap_machine.specs.Machines.{position_of}
+use Rattle.ap_machine.specs.Positions.{Position, with_goal}
+use Rattle.ap_bundle.specs.Nodes.{left, right}
 use Rattle.ap_derive.specs.Solved.{rest_of, solved_at, with_node}
 use Rattle.ap_derive.proofs.ChoiceLemmas.{left_selected, right_selected, second_side, side_chooses}
 use Rattle.ap_derive.proofs.selecting.select_side.Goals as goal

@@ -1,8 +1,9 @@
 use Rattle.std.proofs.Common.{refl, sym, ap, ◌∙◌}
 use Rattle.ap_defs.specs.Goals.{goal_of, program_in}
 use Rattle.ap_defs.specs.Renaming.{rename_goal}
-use Rattle.ap_backchain.specs.Machines.{position_of, turned_of}
-use Rattle.ap_backchain.specs.declared.turns.Turn.{Turn}
+use Rattle.ap_machine.specs.Machines.{position_of}
+use Rattle.ap_turns.specs.Turned.{turned_of}
+use Rattle.ap_turns.specs.declared.turns.Turn.{Turn}
 use Rattle.ap_derive.proofs.SolvedLemmas.{goes_on, not_solved, settled_none}
 use Rattle.ap_derive.proofs.selecting.settle.Goals as goal
 

@@ -1,36 +1,33 @@
-use Rattle.std.proofs.Common.{◌≡◌, ◌++◌, map, sym, refl, ap, ◌∙◌, append-nil}
+use Rattle.std.proofs.Common.{◌≡◌, ◌+◌, ◌++◌, ◌∷◌, [], sym, ap, ◌∙◌, subst, arith, length, length-append, append_assoc}
 use Rattle.std.proofs.lemmas.List.{map-append}
-use Rattle.std.proofs.lemmas.Str.{IsUtf8-drop}
-use Rattle.ap_lexer.specs.Tokens.{lexemes, lexeme, lexeme_at, span_of}
-use Rattle.ap_lexer.proofs.Placed.{placed_on, placed_all}
-use Rattle.ap_lexer.proofs.Scans.{comes_on, comes_to_stop, token_kept, nothing_kept}
+use Rattle.ap_lexer.specs.Laws.{AreTokensOf}
+use Rattle.ap_lexer.specs.Tokens.{lexemes, lexeme, lexemes_of}
+use Rattle.ap_lexer.specs.Cursors.{lexemes_left}
+use Rattle.ap_lexer.proofs.Placed.{Placed, placed_on, placed_all}
 use Rattle.ap_lexer.proofs.scan.scan.Goals as goal
-use Rattle.ap_lexer.proofs.scan.scan.Goals.{in-Some-kind+in_ok-push, in_default-kind}
 
-pub loop-piece-preserved : goal.loop-piece-preserved
-loop-piece-preserved c =
-    let come = c.loop-piece.invariant.1 in
-    let placed = c.loop-piece.invariant.2 in
-    let cut = c.in-Some.ensures.cut in
-    let piece = sym c.piece_at.ensures.value ∙ c.in-Some.is in
-    let found : lexemes c.match-piece.tokens.items ≡ lexemes c.loop-piece.tokens.items ++ map (lexeme_at c.args.text.now) (span_of c.loop-piece.place c.in-Some.piece) =
-    elim c.match-piece.branch [
-      | in-Some-kind+in_ok-push w ↦ rw (w.tokens-is, w.in_ok-push.ensures.items, map-append lexeme) (ap (λ t. lexemes c.loop-piece.tokens.items ++ t)
-          (token_kept c.args.text.now _ _ _ _ c.in-Some.piece _ _ come w.in-Some-kind.is (rw c.split_at.ensures.front refl)))
-      | in_default-kind w ↦ rw w.tokens-is (sym (append-nil _) ∙ ap (λ t. lexemes c.loop-piece.tokens.items ++ t) (nothing_kept c.args.text.now _ _ w.in_default-kind.is))
-    ] in (
-      rw c.split_at.ensures.back (IsUtf8-drop _ _ c.loop-piece.invariant.0 cut.1),
-      rw (found, c.split_at.ensures.back, c.count_lines.ensures.value, c.split_at.ensures.front)
-          (comes_on _ _ _ _ _ c.in-Some.piece come piece cut.0 cut.1.0),
-      rw found (placed_on _ _ _ _ c.in-Some.piece placed c.loop-piece.invariant.0 come.rest_is piece cut.0),
-    )
-
-pub returns-clause-tokens : goal.returns-clause-tokens
-returns-clause-tokens c = (comes_to_stop _ _ _ _ _ c.loop-piece.invariant.1 (sym c.piece_at.ensures.value ∙ c.in_default.is)).0
-
-pub returns-clause-place : goal.returns-clause-place
-returns-clause-place c =
-    ((comes_to_stop _ _ _ _ _ c.loop-piece.invariant.1 (sym c.piece_at.ensures.value ∙ c.in_default.is)).1, c.loop-piece.invariant.1.inside)
+pub loop-token-preserved : goal.loop-token-preserved
+loop-token-preserved c =
+    let old = c.loop-token.cursor in
+    let new = c.token.new.self in
+    let found = lexemes c.loop-token.tokens.items in
+    let t = lexeme c.in-Some.token in
+    let more : lexemes c.push.new.self.items ≡ found ++ t ∷ [] = ap lexemes c.in_ok-push.ensures.items ∙ map-append lexeme c.loop-token.tokens.items (c.in-Some.token ∷ []) in
+    let long : length c.push.new.self.items ≡ length c.loop-token.tokens.items + 1 = ap length c.in_ok-push.ensures.items ∙ length-append c.loop-token.tokens.items (c.in-Some.token ∷ []) in
+    let at = c.in-Some.ensures.place in
+    let text : old.text.now ≡ new.text.now = ap (λ b. b.now) (sym c.token.ensures.text) in
+    let whole : new.whole.now ≡ old.whole.now = ap (λ b. b.now) c.token.ensures.whole in
+    let placed : Placed old.text.now (found ++ t ∷ []) t.end = placed_on old.text.now found old.place t c.loop-token.invariant.placed c.in-Some.ensures.longest at.0 at.1 in
+    record {
+      whole = whole ∙ c.loop-token.invariant.whole;
+      few = omega (arith, long, c.loop-token.invariant.few, at.0, at.1, at.2);
+      all = ap (λ ts. ts ++ lexemes_left new) more ∙ append_assoc found (t ∷ []) (lexemes_left new) ∙ ap (λ ts. found ++ ts) (sym c.in-Some.ensures.next) ∙ c.loop-token.invariant.all ∙ ap lexemes_of text;
+      placed = subst (λ bs. Placed bs (lexemes c.push.new.self.items) new.place) text (subst (λ n. Placed old.text.now (lexemes c.push.new.self.items) n) at.2 (subst (λ ts. Placed old.text.now ts t.end) (sym more) placed));
+    }
 
 pub returns-clause-longest : goal.returns-clause-longest
-returns-clause-longest c = placed_all _ _ _ c.loop-piece.invariant.2 c.loop-piece.invariant.1.inside
+returns-clause-longest c =
+    let old = c.loop-token.cursor in
+    let found = lexemes c.loop-token.tokens.items in
+    let text : old.text.now ≡ c.token.new.self.text.now = ap (λ b. b.now) (sym c.token.ensures.text) in
+    subst (λ bs. AreTokensOf bs found) text (placed_all old.text.now found old.place c.loop-token.invariant.placed old.inside)

@@ -1,13 +1,16 @@
-use Rattle.std.proofs.Common.{length}
-use denote.Text.{Utf8}
-use denote.Shadow.{shadow}
-use Rattle.ap_lexer.specs.Tokens.{lexemes}
+use Rattle.std.proofs.Common.{◌≡◌, ◌≤◌, ◌++◌, ◌-◌, length}
+use Rattle.ap_lexer.specs.Tokens.{lexemes, lexemes_of}
+use Rattle.ap_lexer.specs.Cursors.{lexemes_left}
 use Rattle.ap_lexer.proofs.Placed.{Placed}
-use Rattle.ap_lexer.proofs.Scans.{Comes}
 use Rattle.ap_lexer.proofs.scan.scan.Given as goal
 
-abbrev pub invariant-loop-piece : goal.invariant-loop-piece
-invariant-loop-piece l = shadow (Utf8 l.rest) × Comes l.text (lexemes l.tokens.items) l.place l.line l.rest × Placed l.text (lexemes l.tokens.items) l.place
+abbrev pub invariant-loop-token : goal.invariant-loop-token
+invariant-loop-token l = record {
+  whole : l.cursor.whole.now ≡ l.text;
+  few : length l.tokens.items ≤ l.cursor.place;
+  all : lexemes l.tokens.items ++ lexemes_left l.cursor ≡ lexemes_of l.cursor.text.now;
+  placed : Placed l.cursor.text.now (lexemes l.tokens.items) l.cursor.place;
+}
 
-abbrev pub decreases-loop-piece : goal.decreases-loop-piece
-decreases-loop-piece l = length l.rest
+abbrev pub decreases-loop-token : goal.decreases-loop-token
+decreases-loop-token l = length l.cursor.text.now - l.cursor.place

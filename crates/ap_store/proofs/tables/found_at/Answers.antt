@@ -1,7 +1,7 @@
 use Rattle.std.proofs.Common.{◌<◌, ◌≤◌, length, sym, subst, arith}
 use Rattle.std.specs.Prelude.{Option}
 use Rattle.ap_defs.specs.Terms.{NominalTerm}
-use Rattle.ap_store.specs.Founds.{IsFound}
+use Rattle.ap_store.specs.Founds.{IsWhatIsFound}
 use Rattle.ap_store.proofs.ReachLemmas.{kept_at}
 use Rattle.ap_store.proofs.StoredLemmas.{bound_in_beyond, bound_in_get}
 use Rattle.ap_store.proofs.tables.found_at.Goals as goal
@@ -14,7 +14,7 @@ found_value-requires c =
 pub returns-then-num-table : goal.returns-then-num-table
 returns-then-num-table c =
     let l : c.args.num < length c.args.table.now = omega arith in
-    subst (λ (o : Option NominalTerm). IsFound o c.found_value.result) (sym (bound_in_get c.args.table.now c.args.num c.index-table-num.result l)) c.found_value.ensures
+    subst (λ (o : Option NominalTerm). IsWhatIsFound o c.found_value.result) (sym (bound_in_get c.args.table.now c.args.num c.index-table-num.result l)) c.found_value.ensures
 
 pub returns-else-num-table : goal.returns-else-num-table
 returns-else-num-table c =

@@ -3,9 +3,9 @@ use Rattle.std.specs.Prelude.{reverse}
 use Rattle.ap_defs.specs.Goals.{program_in}
 use Rattle.ap_defs.specs.Types.{locals_of}
 use Rattle.ap_backchain.specs.Ends.{without_path}
-use Rattle.ap_backchain.specs.Machines.{position_of, track_of}
+use Rattle.ap_machine.specs.Machines.{position_of, track_of}
 use Rattle.ap_backchain.specs.ChoicePoints.{positions_pending}
-use Rattle.ap_backchain.specs.Positions.{turned}
+use Rattle.ap_machine.specs.Positions.{turned}
 use Rattle.ap_backchain.specs.Searches.{positions_followed, pending_positions, positions_with}
 use Rattle.ap_backchain.proofs.SearchLemmas.{turn_lessens}
 use Rattle.ap_stream.specs.Coming.{outs_coming}

@@ -2,7 +2,7 @@ use Rattle.std.proofs.Common.{◌≡◌, ◌∷◌, []}
 use Rattle.ap_defs.specs.Goals.{program_in}
 use Rattle.ap_defs.specs.Types.{locals_of}
 use Rattle.ap_stream.specs.Coming.{outs_coming}
-use Rattle.ap_backchain.specs.Machines.{position_of}
+use Rattle.ap_machine.specs.Machines.{position_of}
 use Rattle.ap_backchain.specs.Searches.{HasPoints, pending_positions}
 use Rattle.ap_backchain.specs.Turns.{turns_from_each}
 use Rattle.ap_stream.proofs.search.next_output.Given as goal

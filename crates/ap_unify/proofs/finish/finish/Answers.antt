@@ -4,7 +4,7 @@ use Rattle.ap_defs.specs.Unification.{problem_of, reduce_all}
 use Rattle.ap_store.specs.Views.{present}
 use Rattle.ap_unify.proofs.finish.finish.Goals as goal
 use Rattle.ap_unify.specs.Finishing.{with_kept}
-use Rattle.ap_unify.specs.Work.{problem_for}
+use Rattle.ap_rules.specs.Work.{problem_for}
 
 pub returns-then-is_settled-clause-conditions : goal.returns-then-is_settled-clause-conditions
 returns-then-is_settled-clause-conditions c =

@@ -10,7 +10,7 @@ use Rattle.ap_unify.proofs.WellLemmas.{well}
 use Rattle.ap_unify.proofs.finish.finish_met.Goals as goal
 use Rattle.ap_unify.proofs.finish.finish_met.Goals.{then-not-is_empty+in_ok-add-in-Some, else-not-is_empty}
 use Rattle.ap_unify.specs.Finishing.{items_in}
-use Rattle.ap_unify.specs.Work.{problems_met}
+use Rattle.ap_rules.specs.Work.{problems_met}
 
 pub returns-after-not-is_empty-clause-conditions : goal.returns-after-not-is_empty-clause-conditions
 returns-after-not-is_empty-clause-conditions c =

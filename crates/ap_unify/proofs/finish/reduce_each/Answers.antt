@@ -4,7 +4,7 @@ use Rattle.ap_store.specs.Views.{bindings_of}
 use Rattle.ap_unify.proofs.ReducingLemmas.{reduced_more, reduced_none}
 use Rattle.ap_unify.proofs.finish.reduce_each.Goals as goal
 use Rattle.ap_unify.specs.Finishing.{reduced, some_if}
-use Rattle.ap_unify.specs.Work.{problem_for}
+use Rattle.ap_rules.specs.Work.{problem_for}
 
 pub returns-then-not-branch : goal.returns-then-not-branch
 returns-then-not-branch c =

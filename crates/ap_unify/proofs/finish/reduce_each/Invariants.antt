@@ -3,7 +3,7 @@ use Rattle.std.specs.Prelude.{Some}
 use Rattle.ap_defs.specs.Unification.{reduce_all}
 use Rattle.ap_fresh.specs.Reduction.{added}
 use Rattle.ap_store.specs.Views.{bindings_of}
-use Rattle.ap_unify.specs.Work.{problem_for}
+use Rattle.ap_rules.specs.Work.{problem_for}
 use Rattle.ap_unify.proofs.finish.reduce_each.Given as goal
 
 -- what the later ones reduce to is added

@@ -5,7 +5,7 @@ use Rattle.ap_store.specs.Views.{bindings_of}
 use Rattle.ap_unify.proofs.ReducingLemmas.{all_collected, conditions_refuted, problems_refuted}
 use Rattle.ap_unify.proofs.finish.reduce_met.Goals as goal
 use Rattle.ap_unify.specs.Finishing.{some_if}
-use Rattle.ap_unify.specs.Work.{problem_for, problems_met}
+use Rattle.ap_rules.specs.Work.{problem_for, problems_met}
 
 pub returns-then-not-branch : goal.returns-then-not-branch
 returns-then-not-branch c =

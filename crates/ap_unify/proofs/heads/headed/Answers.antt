@@ -1,7 +1,8 @@
 use Rattle.std.proofs.Common.{subst, ◌∙◌}
 use Rattle.ap_store.specs.Views.{present, rank}
 use Rattle.ap_unify.proofs.heads.headed.Goals as goal
-use Rattle.ap_unify.specs.Parts.{IsFurther, IsLook, plain_term}
+use Rattle.ap_unify.specs.Parts.{IsFurther, IsLook}
+use Rattle.ap_equations.specs.Plain.{plain_term}
 
 pub following-smaller : goal.following-smaller
 following-smaller c =

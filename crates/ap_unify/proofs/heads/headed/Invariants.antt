@@ -3,7 +3,7 @@ use Rattle.ap_defs.specs.Renaming.{IsBelow}
 use Rattle.ap_defs.specs.Substitution.{under}
 use Rattle.ap_perm.specs.Lookups.{depth_of}
 use Rattle.ap_store.specs.Views.{bindings_of, present, rank}
-use Rattle.ap_unify.specs.Parts.{plain_term}
+use Rattle.ap_equations.specs.Plain.{plain_term}
 use Rattle.ap_unify.proofs.heads.headed.Given as goal
 
 -- the part stands for what the first one stood for

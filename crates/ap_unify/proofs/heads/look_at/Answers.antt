@@ -4,11 +4,12 @@ use Rattle.ap_defs.specs.Renaming.{IsBelow, rename_term, rename_var}
 use Rattle.ap_defs.specs.Terms.{term_of}
 use Rattle.ap_defs.specs.declared.terms.Term.{Term}
 use Rattle.ap_store.proofs.FollowLemmas.{unbound_var}
-use Rattle.ap_store.specs.Founds.{IsFound, bare_term}
+use Rattle.ap_store.specs.Founds.{IsWhatIsFound, bare_term}
 use Rattle.ap_store.specs.Views.{raw_bound}
 use Rattle.ap_unify.proofs.PartLemmas.{found_further, plain_susp}
 use Rattle.ap_unify.proofs.heads.look_at.Goals as goal
-use Rattle.ap_unify.specs.Parts.{HasVariable, plain_term}
+use Rattle.ap_unify.specs.Parts.{HasVariable}
+use Rattle.ap_equations.specs.Plain.{plain_term}
 
 pub returns-then-not-is_empty : goal.returns-then-not-is_empty
 returns-then-not-is_empty c =
@@ -28,7 +29,7 @@ returns-in-Nothing c =
     let p = c.args.p in
     let x = rename_var p.base c.in-Susp.x in
     let n : length c.in-Susp.q ≡ 0 = search rules in
-    let k : raw_bound s x ≡ None = subst (IsFound (raw_bound s x)) c.in-Nothing.is c.found.ensures in
+    let k : raw_bound s x ≡ None = subst (IsWhatIsFound (raw_bound s x)) c.in-Nothing.is c.found.ensures in
     (plain_susp p c.in-Susp.q c.in-Susp.x c.in-Susp.is n, unbound_var s x k)
 
 pub returns-in-Moved : goal.returns-in-Moved
@@ -43,5 +44,5 @@ returns-in-Plain c =
     let x = rename_var p.base c.in-Susp.x in
     let v = bare_term c.in-Plain.b in
     let n : length c.in-Susp.q ≡ 0 = search rules in
-    let k : raw_bound s x ≡ Some v = subst (IsFound (raw_bound s x)) c.in-Plain.is c.found.ensures in
+    let k : raw_bound s x ≡ Some v = subst (IsWhatIsFound (raw_bound s x)) c.in-Plain.is c.found.ensures in
     found_further s x v (plain_term p) v (plain_susp p c.in-Susp.q c.in-Susp.x c.in-Susp.is n) refl k

@@ -2,7 +2,7 @@ use Rattle.ap_defs.specs.Substitution.{under}
 use Rattle.ap_store.specs.Views.{bindings_of}
 use Rattle.ap_unify.proofs.PartLemmas.{carried_bind}
 use Rattle.ap_unify.proofs.parts.bind_part.Goals as goal
-use Rattle.ap_unify.specs.Parts.{plain_term}
+use Rattle.ap_equations.specs.Plain.{plain_term}
 
 pub returns-clause-turn : goal.returns-clause-turn
 returns-clause-turn c = λ f es ps.

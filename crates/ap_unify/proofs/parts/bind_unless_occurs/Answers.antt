@@ -4,25 +4,26 @@ use Rattle.ap_defs.specs.Terms.{NominalTerm}
 use Rattle.ap_defs.specs.Unification.{Rule, apply_rule}
 use Rattle.ap_store.specs.Views.{bindings_of}
 use Rattle.ap_unify.proofs.PartLemmas.{bind_if_absent, clash_if_occurs}
-use Rattle.ap_unify.proofs.WorkLemmas.{if_ok}
+use Rattle.ap_rules.proofs.WorkLemmas.{if_ok}
 use Rattle.ap_unify.proofs.parts.bind_unless_occurs.Goals as goal
-use Rattle.ap_unify.specs.Parts.{IsRuleFor, plain_term}
-use Rattle.ap_unify.specs.Runs.{equation_under, problem_under}
+use Rattle.ap_unify.specs.Parts.{IsRuleFor}
+use Rattle.ap_equations.specs.Plain.{plain_term}
+use Rattle.ap_rules.specs.Runs.{equation_under, problem_under}
 
-pub returns-then-occurs-clause-turn : goal.returns-then-occurs-clause-turn
-returns-then-occurs-clause-turn c = λ f es ps.
+pub returns-then-branch-clause-turn : goal.returns-then-branch-clause-turn
+returns-then-branch-clause-turn c = λ f es ps.
     let s = bindings_of c.args.store.now in
     let t = under s (plain_term c.args.p) in
-    let e = ap (λ (u : NominalTerm). occurs c.args.x (under s u)) (sym c.closure-c.ensures) ∙ sym c.occurs.ensures ∙ c.if-occurs.true in
+    let e = ap (λ (u : NominalTerm). occurs c.args.x (under s u)) (sym c.closure-c.ensures) ∙ sym c.in_ok-occurs.ensures ∙ c.if-branch.true in
     ap (λ (r : Rule). apply_rule r (map (equation_under s) es) (map (problem_under s) ps) s) (sym (clash_if_occurs c.args.x t e))
 
 pub bind_part-requires-clause-absent : goal.bind_part-requires-clause-absent
 bind_part-requires-clause-absent c =
-    ap (λ (u : NominalTerm). occurs c.args.x (under (bindings_of c.args.store.now) u)) (sym c.closure-c.ensures) ∙ sym c.occurs.ensures ∙ c.if-occurs.false
+    ap (λ (u : NominalTerm). occurs c.args.x (under (bindings_of c.args.store.now) u)) (sym c.closure-c.ensures) ∙ sym c.in_ok-occurs.ensures ∙ c.if-branch.false
 
 pub returns-clause-turn : goal.returns-clause-turn
 returns-clause-turn c =
     let s = bindings_of c.args.store.now in
     let t = under s (plain_term c.args.p) in
-    let e = ap (λ (u : NominalTerm). occurs c.args.x (under s u)) (sym c.closure-c.ensures) ∙ sym c.occurs.ensures ∙ c.if-occurs.false in
+    let e = ap (λ (u : NominalTerm). occurs c.args.x (under s u)) (sym c.closure-c.ensures) ∙ sym c.in_ok-occurs.ensures ∙ c.if-branch.false in
     if_ok c.bind_part.result (λ turn h. λ f. subst (IsRuleFor turn f s (bindings_of c.bind_part.new.store)) (sym (bind_if_absent c.args.x t e)) (h f)) c.bind_part.ensures.turn

@@ -1,9 +1,10 @@
 use Rattle.std.proofs.Common.{subst}
 use Rattle.ap_store.specs.Views.{bindings_of, present}
 use Rattle.ap_unify.proofs.PartLemmas.{bound_left, bound_right, head_form, head_free}
-use Rattle.ap_unify.proofs.WorkLemmas.{if_ok}
+use Rattle.ap_rules.proofs.WorkLemmas.{if_ok}
 use Rattle.ap_unify.proofs.parts.by_heads.Goals as goal
-use Rattle.ap_unify.specs.Parts.{IsRuleFor, plain_term}
+use Rattle.ap_unify.specs.Parts.{IsRuleFor}
+use Rattle.ap_equations.specs.Plain.{plain_term}
 
 pub returns-in-Form-Free-clause-turn : goal.returns-in-Form-Free-clause-turn
 returns-in-Form-Free-clause-turn c =

@@ -1,7 +1,7 @@
 use Rattle.std.proofs.Common.{ap₂, subst}
 use Rattle.ap_defs.specs.Unification.{rule}
 use Rattle.ap_store.specs.Views.{bindings_of}
-use Rattle.ap_unify.proofs.WorkLemmas.{if_ok}
+use Rattle.ap_rules.proofs.WorkLemmas.{if_ok}
 use Rattle.ap_unify.proofs.parts.step_parts.Goals as goal
 use Rattle.ap_unify.specs.Parts.{IsRuleFor}
 

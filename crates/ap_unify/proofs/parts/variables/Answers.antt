@@ -3,9 +3,10 @@ use Rattle.std.proofs.lemmas.Bool.Decides.{nat_tests}
 use Rattle.ap_defs.specs.Freshness.{var_eq}
 use Rattle.ap_store.specs.Views.{bindings_of}
 use Rattle.ap_unify.proofs.PartLemmas.{carried_drop, free_absent, left_older, one_variable, right_older}
-use Rattle.ap_unify.proofs.WorkLemmas.{if_ok}
+use Rattle.ap_rules.proofs.WorkLemmas.{if_ok}
 use Rattle.ap_unify.proofs.parts.variables.Goals as goal
-use Rattle.ap_unify.specs.Parts.{IsRuleFor, plain_term, rule_of}
+use Rattle.ap_unify.specs.Parts.{IsRuleFor, rule_of}
+use Rattle.ap_equations.specs.Plain.{plain_term}
 
 pub bind_part-requires-clause-absent : goal.bind_part-requires-clause-absent
 bind_part-requires-clause-absent c =

@@ -2,13 +2,13 @@ use Rattle.std.proofs.Common.{[], ◌∷◌, ◌∙◌, List, ap, map, refl, rev
 use Rattle.ap_defs.specs.Substitution.{Equation}
 use Rattle.ap_fresh.proofs.StepLemmas.{on_ok}
 use Rattle.ap_store.specs.Views.{bindings_of, present}
-use Rattle.ap_unify.proofs.WorkLemmas.{go_on_on, go_same, if_ok, pairs_below_front, pairs_below_last, put_last}
+use Rattle.ap_rules.proofs.WorkLemmas.{go_on_on, go_same, if_ok, pairs_below_front, pairs_below_last, put_last}
 use Rattle.ap_unify.proofs.runs.advance.Goals as goal
 use Rattle.ap_unify.specs.Parts.{LeadsTo}
-use Rattle.ap_unify.specs.Runs.{stage_under}
-use Rattle.ap_unify.specs.Work.{ArePairsBelow, pair_equation, problems_met, progress_if, work_stage}
-use Rattle.ap_unify.specs.declared.pairs.ClosurePair.{ClosurePair}
-use Rattle.ap_unify.specs.declared.pairs.Work.{Work}
+use Rattle.ap_rules.specs.Runs.{stage_under}
+use Rattle.ap_rules.specs.Work.{ArePairsBelow, pair_equation, problems_met, progress_if, work_stage}
+use Rattle.ap_rules.specs.declared.pairs.ClosurePair.{ClosurePair}
+use Rattle.ap_rules.specs.declared.pairs.Work.{Work}
 
 pub advance_by-requires : goal.advance_by-requires
 advance_by-requires c =

@@ -2,11 +2,12 @@ use Rattle.std.proofs.Common.{◌≡◌, ◌∷◌, ap₂, subst}
 use Rattle.ap_defs.specs.Substitution.{Equation, ◌≐◌}
 use Rattle.ap_perm.specs.Closures.{closure_term}
 use Rattle.ap_store.specs.Views.{bindings_of}
-use Rattle.ap_unify.proofs.WorkLemmas.{if_ok}
+use Rattle.ap_rules.proofs.WorkLemmas.{if_ok}
 use Rattle.ap_unify.proofs.runs.advance_by.Goals as goal
-use Rattle.ap_unify.specs.Parts.{LeadsTo, plain_term}
-use Rattle.ap_unify.specs.Runs.{stage_under}
-use Rattle.ap_unify.specs.Work.{equations_left, problems_met, progress_if, work_stage}
+use Rattle.ap_unify.specs.Parts.{LeadsTo}
+use Rattle.ap_equations.specs.Plain.{plain_term}
+use Rattle.ap_rules.specs.Runs.{stage_under}
+use Rattle.ap_rules.specs.Work.{equations_left, problems_met, progress_if, work_stage}
 
 pub returns-in-Some-Some-clause-stage : goal.returns-in-Some-Some-clause-stage
 returns-in-Some-Some-clause-stage c =

@@ -3,10 +3,10 @@ use Rattle.ap_defs.specs.Unification.{next, step}
 use Rattle.ap_store.specs.Views.{bindings_of, present, versions}
 use Rattle.ap_theory.proofs.TerminationLemmas.{steps_left, steps_left_next}
 use Rattle.ap_unify.proofs.ReachLemmas.{leads_now, leads_on}
-use Rattle.ap_unify.proofs.WorkLemmas.{go_on_on, goes_on_on}
+use Rattle.ap_rules.proofs.WorkLemmas.{go_on_on, goes_on_on}
 use Rattle.ap_unify.proofs.runs.along.Goals as goal
 use Rattle.ap_unify.specs.Parts.{AreBelowBoth, IsWaitingBelow, IsWayBelow, progress_to, stage_of}
-use Rattle.ap_unify.specs.Work.{progress_if, work_stage}
+use Rattle.ap_rules.specs.Work.{progress_if, work_stage}
 use Rattle.ap_unify.specs.declared.ways.Way.TheVariants as ways
 
 pub returns-in-End-clause-stage : goal.returns-in-End-clause-stage

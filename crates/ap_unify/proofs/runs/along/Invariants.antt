@@ -4,7 +4,7 @@ use Rattle.ap_store.specs.Triples.{IsPrefixOf}
 use Rattle.ap_store.specs.Views.{bindings_of, kinds, present, versions}
 use Rattle.ap_theory.proofs.TerminationLemmas.{steps_left}
 use Rattle.ap_unify.specs.Parts.{AreBelowBoth, IsWaitingBelow, LeadsTo, stage_of}
-use Rattle.ap_unify.specs.Work.{GoOn}
+use Rattle.ap_rules.specs.Work.{GoOn}
 use Rattle.ap_unify.proofs.runs.along.Given as goal
 
 -- what the stage leads to, the first one leads to

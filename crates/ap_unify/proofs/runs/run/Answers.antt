@@ -2,10 +2,10 @@ use Rattle.std.proofs.Common.{inl, inr, refl, subst, sym, ◌∙◌}
 use Rattle.ap_defs.specs.Unification.{failed, next}
 use Rattle.ap_store.specs.Views.{bindings_of, present, versions}
 use Rattle.ap_unify.proofs.ReachLemmas.{leads_less, then_reaches}
-use Rattle.ap_unify.proofs.WorkLemmas.{go_on_on, goes_on_on}
+use Rattle.ap_rules.proofs.WorkLemmas.{go_on_on, goes_on_on}
 use Rattle.ap_unify.proofs.runs.run.Goals as goal
 use Rattle.ap_unify.specs.Parts.{LeadsTo}
-use Rattle.ap_unify.specs.Work.{ArePairsBelow, progress_if, work_stage}
+use Rattle.ap_rules.specs.Work.{ArePairsBelow, progress_if, work_stage}
 
 pub returns-then-not-branch-clause-reached : goal.returns-then-not-branch-clause-reached
 returns-then-not-branch-clause-reached c =

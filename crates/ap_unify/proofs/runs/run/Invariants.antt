@@ -4,7 +4,7 @@ use Rattle.ap_store.specs.Triples.{IsPrefixOf}
 use Rattle.ap_store.specs.Views.{bindings_of, kinds, present, versions}
 use Rattle.ap_theory.proofs.TerminationLemmas.{steps_left}
 use Rattle.ap_unify.specs.Parts.{Reaches}
-use Rattle.ap_unify.specs.Work.{ArePairsBelow, GoOn, work_stage}
+use Rattle.ap_rules.specs.Work.{ArePairsBelow, GoOn, work_stage}
 use Rattle.ap_unify.proofs.runs.run.Given as goal
 
 -- what the work reaches, the first one reaches

@@ -7,14 +7,15 @@ use Rattle.ap_theory.proofs.TerminationLemmas.{ending_done}
 use Rattle.ap_unify.proofs.BehindLemmas.{front_ending, front_failed}
 use Rattle.ap_unify.proofs.SolutionLemmas.{last_of_work}
 use Rattle.ap_unify.proofs.WellLemmas.{well}
-use Rattle.ap_unify.proofs.WorkLemmas.{below_first, go_on_on, goes_on_on, terms_length}
+use Rattle.ap_rules.proofs.WorkLemmas.{below_first, go_on_on, goes_on_on, terms_length}
 use Rattle.ap_unify.proofs.runs.run_places.Goals as goal
 use Rattle.ap_unify.specs.Lists.{renamed_terms_in}
-use Rattle.ap_unify.specs.Parts.{AreBelowBoth, LeadsTo, plain_term, stage_with}
-use Rattle.ap_unify.specs.Runs.{paired, stage_under}
-use Rattle.ap_unify.specs.Work.{ArePairsBelow, pair_equation, problems_met, progress_if, work_stage}
-use Rattle.ap_unify.specs.declared.pairs.ClosurePair.{ClosurePair}
-use Rattle.ap_unify.specs.declared.plain.PlainPair.{PlainPair}
+use Rattle.ap_unify.specs.Parts.{AreBelowBoth, LeadsTo, stage_with}
+use Rattle.ap_equations.specs.Plain.{plain_term}
+use Rattle.ap_rules.specs.Runs.{paired, stage_under}
+use Rattle.ap_rules.specs.Work.{ArePairsBelow, pair_equation, problems_met, progress_if, work_stage}
+use Rattle.ap_rules.specs.declared.pairs.ClosurePair.{ClosurePair}
+use Rattle.ap_equations.specs.declared.plain.PlainPair.{PlainPair}
 
 pub solve-requires-clause-below : goal.solve-requires-clause-below
 solve-requires-clause-below c =

@@ -3,8 +3,8 @@ use Rattle.ap_defs.specs.Unification.{ending}
 use Rattle.ap_store.specs.Triples.{IsPrefixOf}
 use Rattle.ap_store.specs.Views.{bindings_of, kinds, present, versions}
 use Rattle.ap_unify.specs.Lists.{renamed_terms_in}
-use Rattle.ap_unify.specs.Runs.{paired, stage_under}
-use Rattle.ap_unify.specs.Work.{GoOn, problems_met}
+use Rattle.ap_rules.specs.Runs.{paired, stage_under}
+use Rattle.ap_rules.specs.Work.{GoOn, problems_met}
 use Rattle.ap_unify.proofs.runs.run_places.Given as goal
 
 -- the equations of the later places are left

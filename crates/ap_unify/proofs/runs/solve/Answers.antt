@@ -3,10 +3,10 @@ use Rattle.ap_defs.specs.Unification.{next}
 use Rattle.ap_fresh.proofs.StepLemmas.{on_ok}
 use Rattle.ap_store.specs.Views.{bindings_of, present}
 use Rattle.ap_unify.proofs.ReachLemmas.{then_reaches}
-use Rattle.ap_unify.proofs.WorkLemmas.{go_on_on, if_ok}
+use Rattle.ap_rules.proofs.WorkLemmas.{go_on_on, if_ok}
 use Rattle.ap_unify.proofs.runs.solve.Goals as goal
 use Rattle.ap_unify.specs.Parts.{LeadsTo, stage_with}
-use Rattle.ap_unify.specs.Work.{ArePairsBelow, progress_if, work_stage}
+use Rattle.ap_rules.specs.Work.{ArePairsBelow, progress_if, work_stage}
 
 pub returns-then-not-branch-clause-stage : goal.returns-then-not-branch-clause-stage
 returns-then-not-branch-clause-stage c =

@@ -2,7 +2,7 @@ use Rattle.std.proofs.Common.{◌<◌, ◌+◌, ◌∷◌, ap, drop, length, sym
 use Rattle.std.proofs.lemmas.List.{drop_more}
 use Rattle.ap_defs.specs.Renaming.{rename_term}
 use Rattle.ap_defs.specs.Terms.{NominalTerm, term_of}
-use Rattle.ap_unify.proofs.WorkLemmas.{term_at_place, term_below_at, terms_length}
+use Rattle.ap_rules.proofs.WorkLemmas.{term_at_place, term_below_at, terms_length}
 use Rattle.ap_unify.proofs.runs.term_at.Goals as goal
 use Rattle.ap_unify.specs.Lists.{renamed_terms_in}
 

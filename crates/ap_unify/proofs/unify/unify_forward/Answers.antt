@@ -3,11 +3,11 @@ use Rattle.ap_defs.specs.Unification.{ending, solved}
 use Rattle.ap_store.specs.Views.{bindings_of, present}
 use Rattle.ap_unify.proofs.SolutionLemmas.{collected_on_unbound, first_kept, is_no_result, is_result, last_of_work}
 use Rattle.ap_unify.proofs.WellLemmas.{well}
-use Rattle.ap_unify.proofs.WorkLemmas.{if_ok}
+use Rattle.ap_rules.proofs.WorkLemmas.{if_ok}
 use Rattle.ap_unify.proofs.unify.unify_forward.Goals as goal
 use Rattle.ap_unify.specs.Lists.{renamed_terms_in}
-use Rattle.ap_unify.specs.Runs.{paired, stage_under}
-use Rattle.ap_unify.specs.Work.{AreKept, ending_if, problem_for, problems_met, work_stage}
+use Rattle.ap_rules.specs.Runs.{paired, stage_under}
+use Rattle.ap_rules.specs.Work.{AreKept, ending_if, problem_for, problems_met, work_stage}
 
 pub returns-then-not-branch-clause-defined : goal.returns-then-not-branch-clause-defined
 returns-then-not-branch-clause-defined c =

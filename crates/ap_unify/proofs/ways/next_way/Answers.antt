@@ -1,7 +1,7 @@
 use Rattle.std.proofs.Common.{subst, sym, ◌∙◌}
 use Rattle.ap_store.specs.Views.{bindings_of, present}
 use Rattle.ap_unify.proofs.WayLemmas.{both_way, clash_way, done_way, on_way, other_way}
-use Rattle.ap_unify.proofs.WorkLemmas.{go_on_on, go_same}
+use Rattle.ap_rules.proofs.WorkLemmas.{go_on_on, go_same}
 use Rattle.ap_unify.proofs.ways.next_way.Goals as goal
 use Rattle.ap_unify.specs.Parts.{AreBelowBoth, IsTurnBelow, IsWaitingBelow}
 

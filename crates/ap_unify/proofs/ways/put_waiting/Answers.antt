@@ -1,8 +1,8 @@
 use Rattle.ap_fresh.proofs.StepLemmas.{on_ok}
 use Rattle.ap_unify.proofs.PartLemmas.{put_below, put_front}
 use Rattle.ap_unify.proofs.ways.put_waiting.Goals as goal
-use Rattle.ap_unify.specs.Parts.{plain_term}
-use Rattle.ap_unify.specs.declared.pairs.ClosurePair.{ClosurePair}
+use Rattle.ap_equations.specs.Plain.{plain_term}
+use Rattle.ap_rules.specs.declared.pairs.ClosurePair.{ClosurePair}
 
 pub returns-in-Some-clause-equations : goal.returns-in-Some-clause-equations
 returns-in-Some-clause-equations c =

@@ -1,5 +1,5 @@
 use Rattle.std.proofs.Common.{ap, ◌∙◌}
-use Rattle.ap_backchain.specs.declared.standing.Standing.TheVariants as standings
+use Rattle.ap_turns.specs.declared.standing.Standing.TheVariants as standings
 use Rattle.ap_backchain.proofs.AnsweringLemmas.{answer_stands, answering}
 use Rattle.ap_backchain.proofs.branch.Branch.answer.Goals as goal
 

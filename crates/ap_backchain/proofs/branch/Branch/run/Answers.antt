@@ -4,7 +4,7 @@ use Rattle.ap_defs.specs.Answers.{outs_of}
 use Rattle.ap_defs.specs.Goals.{Clauses, program_in, query_of}
 use Rattle.ap_defs.specs.Types.{NominalLocal, locals_of}
 use Rattle.ap_search.specs.Marks.{outs_among}
-use Rattle.ap_backchain.specs.Branches.{marks_of_standing}
+use Rattle.ap_turns.specs.Standings.{marks_of_standing}
 use Rattle.ap_backchain.specs.Ends.{kept_out}
 use Rattle.ap_backchain.proofs.BranchLemmas.{run_is}
 use Rattle.ap_backchain.proofs.branch.Branch.run.Goals as goal

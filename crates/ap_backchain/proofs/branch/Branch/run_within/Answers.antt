@@ -4,9 +4,9 @@ use Rattle.ap_defs.specs.Answers.{outs_of}
 use Rattle.ap_defs.specs.Goals.{Clauses, program_in, query_of}
 use Rattle.ap_defs.specs.Types.{NominalLocal, locals_of}
 use Rattle.ap_search.specs.Marks.{outs_among}
-use Rattle.ap_backchain.specs.Branches.{marks_of_standing}
+use Rattle.ap_turns.specs.Standings.{marks_of_standing}
 use Rattle.ap_backchain.specs.Ends.{kept_out}
-use Rattle.ap_backchain.specs.Marks.{choices_among}
+use Rattle.ap_turns.specs.Marks.{choices_among}
 use Rattle.ap_backchain.proofs.BranchLemmas.{choices_below, if_none, if_some, outs_below}
 use Rattle.ap_backchain.proofs.branch.Branch.run_within.Goals as goal
 

@@ -1,10 +1,10 @@
 use Rattle.std.proofs.Common.{◌≡◌, List, ap, ◌∙◌, subst}
 use Rattle.ap_defs.specs.Goals.{Clauses, program_in, query_of}
 use Rattle.ap_defs.specs.Types.{NominalLocal, locals_of}
-use Rattle.ap_backchain.specs.Branches.{IsChoosing, marks_of_standing}
-use Rattle.ap_backchain.specs.Marks.{marks_from}
-use Rattle.ap_backchain.specs.Machines.{position_of}
-use Rattle.ap_backchain.specs.Positions.{Position}
+use Rattle.ap_turns.specs.Standings.{IsChoosing, marks_of_standing}
+use Rattle.ap_turns.specs.Marks.{marks_from}
+use Rattle.ap_machine.specs.Machines.{position_of}
+use Rattle.ap_machine.specs.Positions.{Position}
 use Rattle.ap_backchain.specs.Problems.{clauses_in}
 use Rattle.ap_backchain.proofs.BranchLemmas.{root_stands}
 use Rattle.ap_backchain.proofs.descent.Descent.root.Goals as goal

@@ -1,7 +1,7 @@
 use Rattle.std.proofs.Common.{List, ap, sym, subst, ◌∙◌}
 use Rattle.std.specs.Prelude.{Option}
 use Rattle.ap_defs.specs.Terms.{NominalTerm}
-use Rattle.ap_store.specs.Founds.{IsFound}
+use Rattle.ap_store.specs.Founds.{IsWhatIsFound}
 use Rattle.ap_store.specs.Slots.{AreKeptBelow, bound_in}
 use Rattle.ap_store.specs.declared.slots.Slot.{Slot}
 use Rattle.ap_store.proofs.StoredLemmas.{looked_up}
@@ -16,5 +16,5 @@ pub returns : goal.returns
 returns c =
     let s = c.args.self.now in
     let x = c.args.x in
-    subst (λ (o : Option NominalTerm). IsFound o c.found_at.result)
+    subst (λ (o : Option NominalTerm). IsWhatIsFound o c.found_at.result)
     (ap (λ (ss : List Slot). bound_in ss x.num) c.deref.ensures.value ∙ sym (looked_up s.table.items s.trail.items s.noted.items s.reach s.stored x)) c.found_at.ensures

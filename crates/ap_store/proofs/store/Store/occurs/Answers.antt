@@ -4,7 +4,7 @@ use Rattle.ap_defs.specs.Terms.{term_of}
 use Rattle.ap_store.proofs.FollowLemmas.{bare_occurs}
 use Rattle.ap_store.proofs.store.Store.occurs.Goals as goal
 
-pub returns-then-not-is_new : goal.returns-then-not-is_new
-returns-then-not-is_new c =
+pub returns : goal.returns
+returns c =
     let b = c.args.c.now in
-    c.occurs_below.ensures ∙ sym (bare_occurs c.args.self.now c.args.x b.swaps.items (rename_term b.base (term_of b.term.now)))
+    c.in_ok-found.ensures ∙ sym (bare_occurs c.args.self.now c.args.x b.swaps.items (rename_term b.base (term_of b.term.now)))

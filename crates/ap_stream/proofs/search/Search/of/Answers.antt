@@ -5,11 +5,11 @@ use Rattle.ap_defs.specs.Goals.{Clauses, NominalQuery, program_in, query_of}
 use Rattle.ap_defs.specs.Types.{locals_of}
 use Rattle.ap_backchain.specs.ChoicePoints.{positions_pending}
 use Rattle.ap_backchain.specs.Ends.{without_path}
-use Rattle.ap_backchain.specs.Machines.{position_of, track_of}
-use Rattle.ap_backchain.specs.Positions.{Position, outs_from, outs_from_each}
+use Rattle.ap_machine.specs.Machines.{position_of, track_of}
+use Rattle.ap_machine.specs.Positions.{Position, outs_from, outs_from_each}
 use Rattle.ap_backchain.specs.Problems.{clauses_in, program_of_problem, queries_in}
 use Rattle.ap_backchain.specs.declared.points.ChoicePoint.{ChoicePoint}
-use Rattle.ap_backchain.proofs.UnboundLemmas.{stack_by_unbound}
+use Rattle.ap_machine.proofs.UnboundLemmas.{stack_by_unbound}
 use Rattle.ap_paths.specs.Limits.{part}
 use Rattle.ap_stream.proofs.search.Search.of.Goals as goal
 

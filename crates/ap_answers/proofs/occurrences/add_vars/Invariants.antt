@@ -1,0 +1,14 @@
+-- The vars of the parts that are left, beside those so far, are all.
+use Rattle.std.proofs.Common.{◌≡◌, [], length}
+use Rattle.ap_defs.specs.Terms.{term_of}
+use Rattle.ap_defs.specs.Unification.{vars_then}
+use Rattle.ap_defs.specs.Walks.{parts_left}
+use Rattle.ap_answers.specs.Occurring.{more_vars}
+use Rattle.ap_defs.proofs.PartLemmas.{vars_of_parts}
+use Rattle.ap_answers.proofs.occurrences.add_vars.Given as goal
+
+abbrev pub invariant-loop-parts : goal.invariant-loop-parts
+invariant-loop-parts l = more_vars l.vars.keys (vars_of_parts (parts_left l.parts)) ≡ more_vars l.fn.vars.keys (vars_then (term_of l.fn.term) [])
+
+abbrev pub decreases-loop-parts : goal.decreases-loop-parts
+decreases-loop-parts l = length (parts_left l.parts)

@@ -1,0 +1,9 @@
+pub mod AnswerLemmas
+pub mod BroughtLemmas
+pub mod ClosedLemmas
+pub mod GoalStackLemmas
+pub mod MachineLemmas
+pub mod SetLemmas
+pub mod TrackLemmas
+pub mod UnboundLemmas
+pub mod VarLemmas

@@ -1,0 +1,27 @@
+use Rattle.ap_machine.proofs.MachineLemmas.{back_below, back_next, back_position, back_track}
+use Rattle.ap_machine.proofs.machine.Machine.go_back.Goals as goal
+
+pub invariant_of-self : goal.invariant_of-self
+invariant_of-self c =
+    let s = c.args.save in
+    let b = c.args.self.now in
+    let r = c.undo_to.new.self in
+    let a = c.back_to.new.self in
+    let path = c.truncate.new.self.items in
+    let brought = c.truncate-2.new.self.items in
+    let e = back_track s b r a path brought c.undo_to.ensures.versions c.undo_to.ensures.kinds c.back_to.ensures.cells c.truncate.ensures.items c.truncate-2.ensures.items in
+    record { below = back_below s b r a path brought e c.back_to.ensures.first c.requires.waiting }
+
+pub returns-clause-track : goal.returns-clause-track
+returns-clause-track c =
+    back_track c.args.save c.args.self.now c.undo_to.new.self c.back_to.new.self c.truncate.new.self.items c.truncate-2.new.self.items
+    c.undo_to.ensures.versions c.undo_to.ensures.kinds c.back_to.ensures.cells c.truncate.ensures.items c.truncate-2.ensures.items
+
+pub returns-clause-position : goal.returns-clause-position
+returns-clause-position c =
+    back_position c.args.save c.args.self.now c.undo_to.new.self c.back_to.new.self c.truncate.new.self.items c.truncate-2.new.self.items
+    (returns-clause-track c) c.back_to.ensures.first
+
+pub returns-clause-next : goal.returns-clause-next
+returns-clause-next c =
+    back_next c.args.save c.args.self.now c.undo_to.new.self c.back_to.new.self c.truncate.new.self.items c.truncate-2.new.self.items (returns-clause-track c)

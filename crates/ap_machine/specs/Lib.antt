@@ -1,0 +1,12 @@
+pub mod Below
+pub mod BelowProps
+pub mod Brought
+pub mod Closed
+pub mod GoalStackProps
+pub mod GoalStacks
+pub mod Machines
+pub mod Positions
+pub mod Stacks
+pub mod Tracks
+pub mod Unbound
+pub mod Views

@@ -1,0 +1,123 @@
+//! Answers of states that were found.
+
+ghost use Rattle.std.specs.Prelude.{◌≡◌, ◌<◌, ◌^◌, [], IfOk, length, map};
+ghost use Rattle.std.specs.Option.{option_to_list};
+ghost use Rattle.ap_defs.specs.Answers.{answer_of, closed_term, kind_at, typed_var_of, typed_vars, with_type};
+ghost use Rattle.ap_defs.specs.Terms.{susp, term_of};
+ghost use Rattle.ap_defs.specs.Types.{locals_of};
+ghost use Rattle.ap_search.specs.Records.{closed_vars};
+ghost use Rattle.ap_machine.specs.Brought.{vars_of_brought};
+ghost use Rattle.ap_machine.specs.Unbound.{answer_by_unbound, vars_besides};
+ghost use Rattle.ap_machine.specs.Views.{state_in};
+ghost use Rattle.ap_store.specs.Views.{kinds};
+
+use crate::brought::Brought;
+use crate::closing::closed_from;
+use crate::renaming::vars_of_locals;
+use crate::unbound::unbound_of;
+use crate::vars::{add_vars_of_conds, add_vars_of_terms, make_ascending};
+use ap_defs::copies::copy_type;
+use ap_defs::goals::{Kind, Local};
+use ap_defs::lists::List;
+use ap_defs::memory::Memory;
+use ap_defs::outcomes::Answer;
+use ap_defs::terms::{Cond, Term, Ty, Var};
+use ap_perm::closures::Closure;
+use ap_store::store::Store;
+use std::alloc::Global;
+
+/// What a variable stands for, with canonical lists.
+pub fn closed_var<'a>(alloc: Global, store: &Store<'a>, x: Var) -> Result<Term, Memory>
+    ensures { IfOk result (λ t. term_of t ≡ closed_term (state_in store.now) (susp [] x)) }
+{
+    match store.binding(x) {
+        None => Ok(Term::Susp(List::of(Vec::new(alloc)), x)),
+        Some(bound) => closed_from(alloc, store, bound),
+    }
+}
+
+/// What variables stand for, with canonical lists.
+pub fn closed(alloc: Global, store: &Store<'_>, vars: &[Var]) -> Result<Vec<Term>, Memory>
+    ensures { IfOk result (λ v. map term_of v.items ≡ closed_vars (state_in store.now) vars.now) }
+{
+    let mut terms = Vec::new(alloc);
+    'closing: for x in vars {
+        terms.push(closed_var(alloc, store, *x)?)?;
+    }
+    Ok(terms)
+}
+
+/// The set of the variables of bindings, of conditions and of further ones.
+fn vars_among(
+    alloc: Global,
+    binds: &[Term],
+    conds: &[Cond],
+    others: &[Var],
+) -> Result<Vec<Var>, Memory>
+    ensures { IfOk result (λ v. v.items
+        ≡ vars_besides (map term_of binds.now) conds.now others.now) }
+{
+    let mut vars = Vec::new(alloc);
+    add_vars_of_terms(alloc, &mut vars, binds)?;
+    add_vars_of_conds(&mut vars, conds)?;
+    vars.extend_from_slice(others)?;
+    make_ascending(&mut vars);
+    Ok(vars)
+}
+
+/// A variable with its type, or none where its number is no variable's.
+fn typed(alloc: Global, store: &Store<'_>, x: Var) -> Result<Option<(Var, Ty)>, Memory>
+    ensures { IfOk result (λ o. map typed_var_of (option_to_list o)
+        ≡ with_type x (kind_at (kinds store.now) x.num) []) }
+{
+    if x.num < store.next() {
+        match store.kind(x.num) {
+            Kind::Var(t) => {
+                let t = copy_type(alloc, t)?;
+                Ok(Some((x, t)))
+            }
+            Kind::Name(_) => Ok(None),
+        }
+    } else {
+        Ok(None)
+    }
+}
+
+/// Variables with their types.
+fn typed_of(alloc: Global, store: &Store<'_>, vars: &[Var]) -> Result<Vec<(Var, Ty)>, Memory>
+    ensures { IfOk result (λ v. map typed_var_of v.items ≡ typed_vars (kinds store.now) vars.now) }
+{
+    let mut all = Vec::new(alloc);
+    'typing: for x in vars {
+        if let Some(one) = typed(alloc, store, *x)? {
+            all.push(one)?;
+        }
+    }
+    Ok(all)
+}
+
+/// The answer of a state that was found, to a query with these identifiers, where clauses and
+/// `exists` brought these variables.
+pub fn answer_in(
+    alloc: Global,
+    locals: &[Local],
+    store: &Store<'_>,
+    brought: &[Brought<'_>],
+) -> Result<Answer, Memory>
+    requires { length locals.now < 2 ^ 64 }
+    ensures { IfOk result (λ a. answer_of a
+        ≡ answer_by_unbound (locals_of locals.now) (state_in store.now)
+        (vars_of_brought brought.now)) }
+{
+    let free = vars_of_locals(alloc, 0, locals)?;
+    let binds = closed(alloc, store, &free)?;
+    let others = unbound_of(alloc, store, brought)?;
+    let conds = store.conds(alloc)?;
+    let vars = vars_among(alloc, &binds, &conds, &others)?;
+    let vars = typed_of(alloc, store, &vars)?;
+    Ok(Answer {
+        binds: List::of(binds),
+        conds: List::of(conds),
+        vars: List::of(vars),
+    })
+}

@@ -1,0 +1,185 @@
+//! Terms with all bindings carried out, in which the list of each suspension is canonical.
+
+ghost use Rattle.std.specs.Prelude.{◌≡◌, ◌≤◌, ◌<◌, ◌+◌, [], true, IfOk};
+ghost use Rattle.ap_defs.specs.Canonical.{canonical, canonical_term};
+ghost use Rattle.ap_defs.specs.Substitution.{under};
+ghost use Rattle.ap_defs.specs.Terms.{app, term_of, unit};
+ghost use Rattle.ap_perm.specs.Closures.{closure_term, lent_term};
+ghost use Rattle.ap_store.specs.Heads.{IsHeadUnbound};
+ghost use Rattle.ap_store.specs.Views.{bindings_of, meaning_in};
+ghost use Rattle.ap_store.specs.declared.store.Store.{Store};
+ghost use Rattle.ap_machine.specs.declared.closing.Part.TheVariants as parts;
+ghost use Rattle.ap_machine.specs.Closed.{closed_part, closed_round, closed_within, part_work, round_work, rounds_work};
+
+use ap_defs::lists::List;
+use ap_defs::memory::Memory;
+use ap_defs::terms::{Name, Swap, Term};
+use ap_perm::closures::{Closure, Lent, Opened};
+use ap_perm::joining::copied;
+use ap_perm::perm::Perm;
+use ap_store::store::Store;
+use std::alloc::Global;
+
+/// What stands round the part of a term that is made: the part is right of a term that is made, left of
+/// one that is still to be made, the argument of a constructor, or the body of an abstraction.
+#[derive(Drop)]
+pub enum Round<'a> {
+    RightOf(Term),
+    LeftOf(Closure<'a>),
+    App(u32),
+    Abs(Name),
+}
+
+/// A part of a term that is still to be made, or one that is made.
+#[derive(Drop)]
+pub enum Part<'a> {
+    Left(Closure<'a>),
+    Made(Term),
+}
+
+/// The canonical list of a permutation. Where nothing is moved, as nearly always, it takes no time.
+fn canonical_of(alloc: Global, swaps: Vec<Swap>) -> Result<Vec<Swap>, Memory>
+    ensures { IfOk result (λ r. r.items ≡ canonical swaps.items) }
+{
+    if swaps.is_empty() {
+        return Ok(swaps);
+    }
+    Perm::of(alloc, &swaps)?.swaps(alloc)
+}
+
+/// What a closure stands for, with no bound variable at its head.
+fn headed<'a>(alloc: Global, store: &Store<'a>, c: Closure<'a>) -> Result<Closure<'a>, Memory>
+    ensures term { IfOk result (λ d. meaning_in store.now d ≡ meaning_in store.now c.entry) }
+    ensures head { IfOk result (λ d. IsHeadUnbound (bindings_of store.now) (closure_term d)) }
+{
+    match c.term {
+        Term::Susp(_, _) => store.follow(alloc, c),
+        Term::Unit => Ok(c),
+        Term::Name(_) => Ok(c),
+        Term::Pair(_, _) => Ok(c),
+        Term::App(_, _) => Ok(c),
+        Term::Abs(_, _) => Ok(c),
+    }
+}
+
+/// Whether a term is the one without parts, as the argument of a constant is.
+fn is_unit(t: &Term) -> bool
+    ensures { result ≡ true → term_of t.now ≡ unit }
+{
+    matches!(t, Term::Unit)
+}
+
+/// A constructor with the argument of a constant.
+fn constant(alloc: Global, f: u32) -> Result<Term, Memory>
+    ensures { IfOk result (λ t. term_of t ≡ app f unit) }
+{
+    Ok(Term::App(f, Box::new(alloc, Term::Unit)?))
+}
+
+/// Goes into a part that is still to be made: what stands round the next one is kept, unless this one
+/// has no parts.
+fn go_in<'a>(
+    alloc: Global,
+    store: &Store<'a>,
+    rounds: &mut Vec<Round<'a>>,
+    c: Closure<'a>,
+) -> Result<Part<'a>, Memory>
+    ensures same { IfOk result (λ p.
+        closed_within store.now rounds.new.items (closed_part store.now p)
+        ≡ closed_within store.now rounds.old.items (canonical_term (meaning_in store.now c.entry))) }
+    ensures less { IfOk result (λ p.
+        rounds_work store.now rounds.new.items + part_work store.now p
+        < rounds_work store.now rounds.old.items + part_work store.now (parts.Left c.entry)) }
+{
+    let head = headed(alloc, store, c)?;
+    match head.open(alloc)? {
+        Opened::Unit => Ok(Part::Made(Term::Unit)),
+        Opened::Name(a) => Ok(Part::Made(Term::Name(a))),
+        Opened::Susp(swaps, x) => {
+            let swaps = canonical_of(alloc, swaps)?;
+            Ok(Part::Made(Term::Susp(List::of(swaps), x)))
+        }
+        Opened::Pair(left, right) => {
+            rounds.push(Round::LeftOf(right))?;
+            Ok(Part::Left(left))
+        }
+        Opened::App(f, argument) => {
+            if is_unit(argument.term) {
+                let made = constant(alloc, f)?;
+                return Ok(Part::Made(made));
+            }
+            rounds.push(Round::App(f))?;
+            Ok(Part::Left(argument))
+        }
+        Opened::Abs(a, body) => {
+            rounds.push(Round::Abs(a))?;
+            Ok(Part::Left(body))
+        }
+    }
+}
+
+/// Goes out of a part that is made: into what stands right of it where that is still to be made, and
+/// else what stands round it is made.
+#[tactic(auto, using(crate::proofs::ClosedLemmas::closed_within_last, crate::proofs::ClosedLemmas::rounds_work_last))]
+fn go_out<'a>(
+    alloc: Global,
+    rounds: &mut Vec<Round<'a>>,
+    round: Round<'a>,
+    made: Term,
+) -> Result<Part<'a>, Memory>
+    ensures same { IfOk result (λ p. (s : Store) →
+        closed_within s rounds.new.items (closed_part s p)
+        ≡ closed_within s rounds.old.items (closed_round s round.entry (term_of made))) }
+    ensures less { IfOk result (λ p. (s : Store) →
+        rounds_work s rounds.new.items + part_work s p
+        < rounds_work s rounds.old.items + round_work s round.entry) }
+{
+    match round {
+        Round::RightOf(left) => {
+            let left = Box::new(alloc, left)?;
+            let right = Box::new(alloc, made)?;
+            Ok(Part::Made(Term::Pair(left, right)))
+        }
+        Round::LeftOf(right) => {
+            rounds.push(Round::RightOf(made))?;
+            Ok(Part::Left(right))
+        }
+        Round::App(f) => Ok(Part::Made(Term::App(f, Box::new(alloc, made)?))),
+        Round::Abs(a) => Ok(Part::Made(Term::Abs(a, Box::new(alloc, made)?))),
+    }
+}
+
+/// What a closure stands for under the bindings, with canonical lists, made part by part.
+#[tactic(auto, using(crate::proofs::ClosedLemmas::closed_within_last, crate::proofs::ClosedLemmas::rounds_work_last))]
+fn close<'a>(alloc: Global, store: &Store<'a>, first: Closure<'a>) -> Result<Term, Memory>
+    ensures { IfOk result (λ t. term_of t
+        ≡ canonical_term (meaning_in store.now first.entry)) }
+{
+    let mut rounds = Vec::new(alloc);
+    let mut part = Part::Left(first);
+    'closing: loop {
+        match part {
+            Part::Left(c) => part = go_in(alloc, store, &mut rounds, c)?,
+            Part::Made(t) => match rounds.pop() {
+                None => return Ok(t),
+                Some(round) => part = go_out(alloc, &mut rounds, round, t)?,
+            },
+        }
+    }
+}
+
+/// What a closure stands for under the bindings, with canonical lists. It is made once, and what stands
+/// round the part that is being made lies on a stack of its own.
+pub fn closed_from<'a>(alloc: Global, store: &Store<'a>, c: Lent<'_, 'a>) -> Result<Term, Memory>
+    ensures { IfOk result (λ t. term_of t
+        ≡ canonical_term (under (bindings_of store.now) (lent_term c.entry))) }
+{
+    let swaps = copied(alloc, c.swaps)?;
+    let first = Closure {
+        swaps,
+        base: c.base,
+        end: c.end,
+        term: c.term,
+    };
+    close(alloc, store, first)
+}

@@ -1,0 +1,118 @@
+//! Variables of terms, and ascending sets of variables.
+//!
+//! What goes through a term of a text goes on along what is last in it, and calls itself on left parts of pairs alone.
+
+ghost use Rattle.std.specs.Prelude.{◌≡◌, ◌++◌, ◌^◌, [], IfOk, OnOk, map};
+ghost use Rattle.ap_defs.specs.Answers.{ascending_vars};
+ghost use Rattle.ap_defs.specs.Occurrences.{vars_at, vars_of_terms, without_var};
+ghost use Rattle.ap_defs.specs.Renaming.{AreBelow, IsBelow, rename_term as renamed};
+ghost use Rattle.ap_defs.specs.Terms.{term_of};
+ghost use Rattle.ap_defs.specs.Unification.{vars_then};
+
+use ap_defs::memory::Memory;
+use ap_defs::terms::{Cond, Term, Var};
+use ap_defs::walks::Parts;
+use std::alloc::Global;
+
+/// Adds the variable that stands at a part of a term itself after others.
+fn add_vars_at(vars: &mut Vec<Var>, part: &Term) -> Result<(), Memory>
+    ensures { OnOk result (vars.new.items ≡ vars.old.items ++ vars_at (term_of part.now)) }
+{
+    if let Term::Susp(_, x) = part {
+        vars.push(*x)?;
+    }
+    Ok(())
+}
+
+/// Adds the variables of a term after others.
+fn add_vars_of(alloc: Global, vars: &mut Vec<Var>, t: &Term) -> Result<(), Memory>
+    ensures { OnOk result (vars.new.items ≡ vars.old.items ++ vars_then (term_of t.now) []) }
+{
+    let mut parts = Parts::of(alloc, t)?;
+    while let Some(part) = parts.next()? {
+        add_vars_at(vars, part)?;
+    }
+    Ok(())
+}
+
+/// Adds the variables of terms after others.
+pub fn add_vars_of_terms(
+    alloc: Global,
+    vars: &mut Vec<Var>,
+    terms: &[Term],
+) -> Result<(), Memory>
+    ensures { OnOk result (vars.new.items
+        ≡ vars.old.items ++ vars_of_terms (map term_of terms.now)) }
+{
+    'adding: for t in terms {
+        add_vars_of(alloc, vars, t)?;
+    }
+    Ok(())
+}
+
+/// Adds the variables of conditions after others.
+pub fn add_vars_of_conds(vars: &mut Vec<Var>, conds: &[Cond]) -> Result<(), Memory>
+    ensures { OnOk result (vars.new.items ≡ vars.old.items ++ map (λ c. c.var) conds.now) }
+{
+    'adding: for c in conds {
+        vars.push(c.var)?;
+    }
+    Ok(())
+}
+
+/// Makes a set of variables, which ascends. It takes no memory.
+pub fn make_ascending(vars: &mut Vec<Var>)
+    ensures { vars.new.items ≡ ascending_vars vars.old.items }
+{
+    vars.sort_unstable();
+    vars.dedup();
+}
+
+/// The variables but one.
+pub fn without(alloc: Global, x: Var, vars: &[Var]) -> Result<Vec<Var>, Memory>
+    ensures { IfOk result (λ v. v.items ≡ without_var x vars.now) }
+{
+    let mut others = Vec::new(alloc);
+    'choosing: for y in vars {
+        if x.num != y.num {
+            others.push(*y)?;
+        }
+    }
+    Ok(others)
+}
+
+/// The variables of a term whose numbers are raised, as they are read, after others.
+pub fn push_vars_of(vars: &mut Vec<Var>, base: u64, t: &Term) -> Result<(), Memory>
+    requires { IsBelow (2 ^ 64) (renamed base (term_of t.now)) }
+    ensures { OnOk result (vars.new.items
+        ≡ vars.old.items ++ vars_then (renamed base (term_of t.now)) []) }
+{
+    let mut rest = t;
+    loop {
+        match rest {
+            Term::Unit | Term::Name(_) => return Ok(()),
+            Term::Pair(left, right) => {
+                push_vars_of(vars, base, left)?;
+                rest = right;
+            }
+            Term::App(_, argument) => rest = argument,
+            Term::Abs(_, body) => rest = body,
+            Term::Susp(_, x) => {
+                vars.push(Var { num: base + x.num })?;
+                return Ok(());
+            }
+        }
+    }
+}
+
+/// The variables of terms whose numbers are raised, as they are read, after others.
+pub fn push_vars_of_terms(vars: &mut Vec<Var>, base: u64, terms: &[Term]) -> Result<(), Memory>
+    requires { AreBelow (2 ^ 64) (map (renamed base) (map term_of terms.now)) }
+    ensures { OnOk result (vars.new.items
+        ≡ vars.old.items ++ vars_of_terms (map (renamed base) (map term_of terms.now))) }
+{
+    'reading: for t in terms {
+        push_vars_of(vars, base, t)?;
+    }
+    Ok(())
+}

@@ -1,0 +1,5 @@
+//! The rules of nominal unification, each for one equation of closures.
+#![tactic(auto)]
+
+pub mod moves;
+pub mod pairs;

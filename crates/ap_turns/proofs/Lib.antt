@@ -1,0 +1,4 @@
+pub mod FitLemmas
+pub mod HeadLemmas
+pub mod MachineStepLemmas
+pub mod StoreTurnLemmas
