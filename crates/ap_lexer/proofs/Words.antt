@@ -10,10 +10,10 @@ use Rattle.std.proofs.lemmas.List.Sums.{take_while-cons, prefix_len_is}
 use Rattle.unicode_ident.specs.Ident.{is_xid_continue}
 use Rattle.ap_lexer.specs.Pieces.{word_len, comment_len}
 
-true_of_not : (b : Bool) → not b ≡ false → b ≡ true
+pub true_of_not : (b : Bool) → not b ≡ false → b ≡ true
 true_of_not b h = grind arith
 
-false_of_not : (b : Bool) → not b ≡ true → b ≡ false
+pub false_of_not : (b : Bool) → not b ≡ true → b ≡ false
 false_of_not b h = grind arith
 
 ne_test : (b : ℕ) → b ≢ 10 → not (b == 10) ≡ true

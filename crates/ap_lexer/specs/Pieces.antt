@@ -1,8 +1,8 @@
 -- What begins a text: white space, a comment or a token, and how many bytes it takes.
-use Rattle.std.specs.Prelude.{ℕ, ◌+◌, Bool, ◌||◌, ◌==◌, List, [], ◌∷◌, length, take, drop, ◌<◌, ◌≡◌, Option, None, Some, slice_index, encode_utf8_all, if◌then◌else◌}
+use Rattle.std.specs.Prelude.{ℕ, ◌+◌, Bool, ◌||◌, ◌==◌, not, List, [], ◌∷◌, length, take, drop, ◌<◌, ◌≡◌, Option, None, Some, slice_index, encode_utf8_all, if◌then◌else◌}
 use Rattle.std.specs.List.{take_while, position_or_len}
 use Rattle.std.specs.Str.{chars, IsCharBoundary}
-use Rattle.std.specs.Char.{len_utf8}
+use Rattle.std.specs.Char.{len_utf8, is_ascii_alphanumeric}
 use Rattle.unicode_ident.specs.Ident.{is_xid_start, is_xid_continue}
 use Rattle.ap_lexer.specs.declared.pieces.Piece.{Piece}
 use Rattle.ap_lexer.specs.declared.pieces.Start.{Start}
@@ -22,6 +22,10 @@ comment_len bs = position_or_len (λ b. b == 10) bs
 -- the bytes of the longest front whose characters go on with a word
 unfoldable pub word_len : List ℕ → ℕ
 word_len bs = length (encode_utf8_all (take_while is_xid_continue (chars bs)))
+
+-- no ASCII letter, digit or `_`
+abbrev pub ends_ascii : ℕ → Bool
+ends_ascii b = not (is_ascii_alphanumeric b || (b == 95))
 
 abbrev pub word_kind : List ℕ → TokenKind
 word_kind word = if is_reserved word then Reserved else Ident

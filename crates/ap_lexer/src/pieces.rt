@@ -1,12 +1,14 @@
 // What begins at a place of a text.
 ghost use Rattle.std.specs.Prelude.{◌≡◌, ◌<◌, ◌≤◌, [], ◌∷◌, take, None, IfSome, MatchOption};
+ghost use Rattle.std.specs.List.{position_from, position_or_len};
 ghost use Rattle.std.specs.Str.{IsCharBoundary};
 ghost use Rattle.std.specs.Str.Lossy.{utf8_valid_len};
+ghost use Rattle.unicode_ident.specs.Ident.{is_xid_start};
 ghost use Rattle.ap_lexer.specs.Laws.{TakesLongest};
 ghost use Rattle.ap_lexer.specs.Pieces as spec;
 
 use crate::token::TokenKind;
-use unicode_ident::{is_xid_continue, is_xid_start};
+use unicode_ident::is_xid_continue;
 
 /// What begins a text, and its length in bytes.
 #[derive(Clone, Copy)]
@@ -26,13 +28,47 @@ pub fn text_front(bytes: &[u8]) -> &str
     }
 }
 
-/// How many bytes at the front go on with a word.
-fn word_len(text: &str) -> usize
+/// Whether the byte is no ASCII character that goes on with a word.
+fn ends_ascii(byte: u8) -> bool
+    ensures { result ≡ spec.ends_ascii byte }
+{
+    !(byte.is_ascii_alphanumeric() || byte == b'_')
+}
+
+/// The place of the first byte that is no ASCII character that goes on with a word.
+fn ascii_end(bytes: &[u8]) -> Option<usize>
+    ensures { result ≡ position_from spec.ends_ascii 0 bytes.now }
+{
+    bytes.iter().position(|byte| ends_ascii(*byte))
+}
+
+/// How many bytes at the front are ASCII characters that go on with a word.
+#[tactic(auto, using(crate::proofs::AsciiWords::place_or_len))]
+fn ascii_len(bytes: &[u8]) -> usize
+    ensures len { result ≡ position_or_len spec.ends_ascii bytes.now }
+{
+    ascii_end(bytes).unwrap_or(bytes.len())
+}
+
+/// How many bytes at the front go on with a word, found character by character.
+fn any_word_len(text: &str) -> usize
     ensures len { result ≡ spec.word_len text.now }
     ensures cut { IsCharBoundary text.now result }
 {
     text.find(|c: char| !is_xid_continue(c))
         .unwrap_or(text.len())
+}
+
+/// How many bytes at the front go on with a word. A word is of ASCII mostly.
+fn word_len(text: &str) -> usize
+    ensures len { result ≡ spec.word_len text.now }
+    ensures cut { IsCharBoundary text.now result }
+{
+    let len = ascii_len(text.as_bytes());
+    match text.as_bytes().get(len) {
+        Some(byte) if !byte.is_ascii() => any_word_len(text),
+        _ => len,
+    }
 }
 
 /// How many bytes at the front go on with a comment.
@@ -47,9 +83,17 @@ fn comment_len(text: &str) -> usize
 fn word_kind(word: &str) -> TokenKind
     ensures { result ≡ spec.word_kind word.now }
 {
-    match word {
-        "name_type" | "type" | "pred" | "new" | "exists" | "swap" => TokenKind::Reserved,
-        _ => TokenKind::Ident,
+    let reserved = match word.len() {
+        3 => word == "new",
+        4 => word == "type" || word == "pred" || word == "swap",
+        6 => word == "exists",
+        9 => word == "name_type",
+        _ => false,
+    };
+    if reserved {
+        TokenKind::Reserved
+    } else {
+        TokenKind::Ident
     }
 }
 
@@ -95,6 +139,18 @@ enum Start {
     Other,
 }
 
+/// Whether a word may begin with the character.
+#[tactic(auto, using(crate::proofs::AsciiWords::ascii_begins))]
+fn begins_word(c: char) -> bool
+    ensures { result ≡ is_xid_start c }
+{
+    if c.is_ascii() {
+        c.is_ascii_alphabetic()
+    } else {
+        unicode_ident::is_xid_start(c)
+    }
+}
+
 /// What the character begins.
 fn start_of(c: char) -> Start
     ensures { result ≡ spec.start_of c }
@@ -103,7 +159,7 @@ fn start_of(c: char) -> Start
         ' ' | '\t' | '\r' | '\n' => Start::Blank,
         '%' => Start::Comment,
         'A'..='Z' | '_' => Start::Variable,
-        _ if is_xid_start(c) => Start::Word,
+        _ if begins_word(c) => Start::Word,
         _ => Start::Other,
     }
 }

@@ -1,7 +1,6 @@
 //! The tokens of each item.
 ghost use Rattle.std.specs.Prelude.{◌≡◌};
 
-use crate::signs::{Sign, sign_of};
 use crate::spots::Span;
 use ap_defs::memory::Memory;
 use ap_lexer::{Token, TokenKind};
@@ -19,7 +18,7 @@ pub fn ranges_of(alloc: Global, tokens: &[Token<'_>]) -> Result<Vec<Range>, Memo
     let mut ranges = Vec::new(alloc);
     let mut first = 0;
     for (place, token) in tokens.iter().enumerate() {
-        if sign_of(token) == Sign::Dot {
+        if matches!(token.text.as_bytes(), [b'.']) {
             ranges.push(Range { first, end: place })?;
             first = place.saturating_add(1);
         }

@@ -3,7 +3,9 @@
 //! All of it takes time linear in the text, and none of it is part of the report.
 #![tactic(auto)]
 
+mod marks;
 mod parts;
+mod places;
 mod singles;
 mod stuck;
 mod tally;

@@ -1,40 +1,24 @@
-//! The clauses and queries of a text, read as nodes.
-ghost use Rattle.std.specs.Prelude.{◌≡◌};
+//! The clauses and queries of a text.
 
-use ap_defs::memory::Memory;
-use ap_lexer::Token;
-use ap_located::items::{declared_word, ranges_of, tokens_in};
-use ap_located::nodes::{Node, Nodes};
-use ap_located::reader::{Reading, read_item};
-use std::alloc::Global;
+use crate::marks::{Kind, Mark, kind_at};
 
-/// A clause or a query: its tokens without the `.`, and its nodes.
-#[derive(Drop)]
-pub struct Part<'t, 'a> {
-    pub tokens: &'t [Token<'a>],
-    nodes: Nodes,
+/// A clause or a query: its tokens without the `.`, and how many calls stand in the text up to its end.
+#[derive(Clone, Copy)]
+pub(crate) struct Part<'t> {
+    pub marks: &'t [Mark],
+    pub calls: usize,
 }
 
-impl<'t, 'a> Part<'t, 'a> {
-    /// Its nodes.
-    pub fn nodes(&self) -> &[Node] {
-        self.nodes.all()
+/// Whether the item of these tokens declares something.
+pub(crate) fn declares(marks: &[Mark]) -> bool {
+    match kind_at(marks, 0) {
+        Kind::Predicate => true,
+        Kind::Word => kind_at(marks, 1) == Kind::Colon,
+        _ => false,
     }
 }
 
-/// The clauses and queries of a text, in order.
-pub fn parts_of<'t, 'a>(
-    alloc: Global,
-    tokens: &'t [Token<'a>],
-) -> Result<Vec<Part<'t, 'a>>, Memory> {
-    let mut parts = Vec::new(alloc);
-    let ranges = ranges_of(alloc, tokens)?;
-    for range in &ranges {
-        let tokens = tokens_in(tokens, *range);
-        if declared_word(tokens).is_none() {
-            let Reading { nodes, .. } = read_item(alloc, tokens)?;
-            parts.push(Part { tokens, nodes })?;
-        }
-    }
-    Ok(parts)
+/// Whether the item of these tokens, which declares nothing, is a clause.
+pub(crate) fn is_clause(marks: &[Mark]) -> bool {
+    kind_at(marks, 0) == Kind::Word
 }

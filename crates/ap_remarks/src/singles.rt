@@ -1,9 +1,8 @@
 //! Variables that stand once.
 ghost use Rattle.std.specs.Prelude.{◌≡◌};
 
+use crate::marks::{Kind, Mark, text_at};
 use ap_defs::memory::Memory;
-use ap_lexer::{Token, TokenKind};
-use ap_located::nodes::{Form, Node};
 use indexmap::IndexSet;
 use std::alloc::Global;
 
@@ -12,19 +11,6 @@ use std::alloc::Global;
 struct Variable {
     token: usize,
     count: usize,
-}
-
-/// The word of a node that is a variable, unless it begins with `_`.
-fn variable_at<'a>(tokens: &[Token<'a>], node: Node) -> Option<&'a str> {
-    if !matches!(node.form, Form::Variable | Form::Binder) {
-        return None;
-    }
-    let token = tokens.get(node.first)?;
-    if matches!(token.kind, TokenKind::Var) && !token.text.starts_with('_') {
-        Some(token.text)
-    } else {
-        None
-    }
 }
 
 fn count_word<'a>(
@@ -47,17 +33,20 @@ fn count_word<'a>(
     Ok(())
 }
 
-/// The tokens of the variables that stand once in an item and don't begin with `_`, in order.
-pub fn single_variables(
+/// The places of the variables that stand once in an item and don't begin with `_`, in order.
+pub(crate) fn single_variables(
     alloc: Global,
-    tokens: &[Token<'_>],
-    nodes: &[Node],
+    text: &str,
+    marks: &[Mark],
 ) -> Result<Vec<usize>, Memory> {
     let mut words = IndexSet::new(alloc);
     let mut variables = Vec::new(alloc);
-    for node in nodes {
-        if let Some(word) = variable_at(tokens, *node) {
-            count_word(&mut words, &mut variables, word, node.first)?;
+    for (place, mark) in marks.iter().enumerate() {
+        if mark.kind == Kind::Variable {
+            let word = text_at(text, marks, place);
+            if !word.starts_with('_') {
+                count_word(&mut words, &mut variables, word, place)?;
+            }
         }
     }
     single_tokens(alloc, variables.as_slice())

@@ -1,11 +1,10 @@
 //! Which predicates have clauses, and with what they are called.
 ghost use Rattle.std.specs.Prelude.{◌≡◌};
 
-use crate::parts::Part;
+use crate::marks::{Kind, Mark, kind_at, text_at};
+use crate::parts::{Part, declares, is_clause};
+use crate::places::{Finder, put_arguments};
 use ap_defs::memory::Memory;
-use ap_lexer::Token;
-use ap_located::items::text_at;
-use ap_located::nodes::{Form, Node, node_at};
 use indexmap::IndexSet;
 use std::alloc::Global;
 
@@ -22,106 +21,184 @@ const EMPTY: usize = 1;
 /// How another list begins.
 const LIST: usize = 2;
 
-/// The predicates that have clauses, those that are called, and their arguments.
+/// How a term begins with the first of the constructors.
+const WORD: usize = 3;
+
+/// A goal that calls a predicate: the place of the predicate among those that are called, and of the goal's word
+/// among the tokens of its item.
+#[derive(Clone, Copy)]
+pub(crate) struct Call {
+    pub predicate: usize,
+    pub token: usize,
+}
+
+/// The clauses and queries, the predicates that have clauses, those that are called, and their arguments.
 #[derive(Drop)]
-pub struct Uses<'a> {
-    heads: IndexSet<&'a str>,
-    called: IndexSet<&'a str>,
-    constructors: IndexSet<&'a str>,
-    // in order
+pub(crate) struct Uses<'t> {
+    text: &'t str,
+    pub parts: Vec<Part<'t>>,
+    pub calls: Vec<Call>,
+    heads: IndexSet<&'t str>,
+    called: IndexSet<&'t str>,
+    constructors: IndexSet<&'t str>,
+    // in order, once all are known
     arguments: Vec<Argument>,
+    // the argument at each place that was noted last
+    latest: Vec<Argument>,
+    // where the arguments of a call begin
+    begins: Vec<usize>,
 }
 
-/// Whether the node at a place is a call of a predicate, and no head.
-fn is_call(nodes: &[Node], node: Node) -> bool {
-    node_at(nodes, node.parent).form == Form::Atom
+/// How a term begins that is no word, and whether it is one.
+#[derive(Clone, Copy)]
+enum Begin {
+    Word,
+    Other(usize),
 }
 
-impl<'a> Uses<'a> {
-    /// Those of clauses and queries.
-    pub fn of(alloc: Global, parts: &[Part<'_, 'a>]) -> Result<Uses<'a>, Memory> {
+/// How the term at a place begins.
+fn begin_at(marks: &[Mark], place: usize) -> Begin {
+    let next = kind_at(marks, place.saturating_add(1));
+    match kind_at(marks, place) {
+        Kind::Word if next != Kind::Lambda => Begin::Word,
+        Kind::OpenList if next == Kind::CloseList => Begin::Other(EMPTY),
+        Kind::OpenList => Begin::Other(LIST),
+        _ => Begin::Other(ANY),
+    }
+}
+
+impl<'t> Uses<'t> {
+    /// Those of a text, by its tokens.
+    pub(crate) fn of(alloc: Global, text: &'t str, marks: &'t [Mark]) -> Result<Uses<'t>, Memory> {
         let mut uses = Uses {
+            text,
+            parts: Vec::new(alloc),
+            calls: Vec::new(alloc),
             heads: IndexSet::new(alloc),
             called: IndexSet::new(alloc),
             constructors: IndexSet::new(alloc),
             arguments: Vec::new(alloc),
+            latest: Vec::new(alloc),
+            begins: Vec::new(alloc),
         };
-        for part in parts {
-            uses.add_part(part)?;
-        }
+        uses.add_items(alloc, marks)?;
         uses.arguments.sort_unstable();
         Ok(uses)
     }
 
-    fn add_part(&mut self, part: &Part<'_, 'a>) -> Result<(), Memory> {
-        let nodes = part.nodes();
-        for node in nodes {
-            self.add_node(part.tokens, nodes, *node)?;
+    /// Adds the items of a text, each up to its `.`.
+    fn add_items(&mut self, alloc: Global, marks: &'t [Mark]) -> Result<(), Memory> {
+        let mut finder = Finder::new(alloc);
+        let mut first = 0;
+        for (place, mark) in marks.iter().enumerate() {
+            if mark.kind == Kind::Dot {
+                self.add_item(&mut finder, marks.get(first..place).unwrap_or(&[]))?;
+                first = place.saturating_add(1);
+            }
         }
         Ok(())
     }
 
-    fn add_node(&mut self, tokens: &[Token<'a>], nodes: &[Node], node: Node) -> Result<(), Memory> {
-        let above = node_at(nodes, node.parent);
-        match above.form {
-            Form::Head => {
-                self.heads.insert(text_at(tokens, node.first))?;
-            }
-            Form::Atom => {
-                self.called.insert(text_at(tokens, node.first))?;
-            }
-            Form::Apply if is_call(nodes, above) => self.add_argument(tokens, above, node)?,
-            _ => {}
+    fn add_item(&mut self, finder: &mut Finder, marks: &'t [Mark]) -> Result<(), Memory> {
+        if declares(marks) {
+            return Ok(());
+        }
+        if is_clause(marks) {
+            self.heads.insert(text_at(self.text, marks, 0))?;
+        }
+        finder.find(marks)?;
+        for word in finder.calls() {
+            self.add_call(marks, *word)?;
+        }
+        let calls = self.calls.len();
+        self.parts.push(Part { marks, calls })?;
+        Ok(())
+    }
+
+    fn add_call(&mut self, marks: &[Mark], word: usize) -> Result<(), Memory> {
+        let (predicate, _new) = self.called.insert_full(text_at(self.text, marks, word))?;
+        self.calls.push(Call {
+            predicate,
+            token: word,
+        })?;
+        put_arguments(marks, word, &mut self.begins)?;
+        for rank in 0..self.begins.len() {
+            self.add_argument(marks, predicate, rank)?;
         }
         Ok(())
     }
 
-    fn add_argument(&mut self, tokens: &[Token<'a>], call: Node, node: Node) -> Result<(), Memory> {
-        let Some(predicate) = self.called.get_index_of(text_at(tokens, call.first)) else {
+    fn add_argument(
+        &mut self,
+        marks: &[Mark],
+        predicate: usize,
+        rank: usize,
+    ) -> Result<(), Memory> {
+        let Some(place) = self.begins.get(rank).copied() else {
             return Ok(());
         };
-        if matches!(node.form, Form::Word | Form::Apply) {
-            self.constructors.insert(text_at(tokens, node.first))?;
+        let begin = match begin_at(marks, place) {
+            Begin::Other(begin) => begin,
+            Begin::Word => {
+                let word = text_at(self.text, marks, place);
+                let (constructor, _new) = self.constructors.insert_full(word)?;
+                constructor.saturating_add(WORD)
+            }
+        };
+        self.note((predicate, rank, begin))
+    }
+
+    /// Notes an argument, unless it is the one that was noted last at its place.
+    fn note(&mut self, argument: Argument) -> Result<(), Memory> {
+        match self.latest.get_mut(argument.1) {
+            Some(latest) => {
+                if *latest == argument {
+                    return Ok(());
+                }
+                *latest = argument;
+            }
+            None => self.latest.push(argument)?,
         }
-        let begin = self.begin_of(tokens, node);
-        self.arguments.push((predicate, node.rank, begin))?;
+        self.arguments.push(argument)?;
         Ok(())
     }
 
-    /// How the term at a node begins.
-    fn begin_of(&self, tokens: &[Token<'a>], node: Node) -> usize {
-        match node.form {
-            Form::List if node.count == 0 => EMPTY,
-            Form::List | Form::ListTail => LIST,
-            Form::Word | Form::Apply => {
-                match self.constructors.get_index_of(text_at(tokens, node.first)) {
-                    Some(place) => place.saturating_add(3),
-                    None => usize::MAX,
-                }
-            }
-            _ => ANY,
+    /// For each predicate that is called, whether no clause has it in its head.
+    pub(crate) fn without_clauses(&self, alloc: Global) -> Result<Vec<bool>, Memory> {
+        let mut without = Vec::with_capacity(alloc, self.called.len())?;
+        for word in self.called.as_slice() {
+            without.push(!self.heads.contains(*word))?;
         }
+        Ok(without)
+    }
+
+    /// The place of a predicate among those that are called.
+    pub(crate) fn called_place(&self, predicate: &str) -> Option<usize> {
+        self.called.get_index_of(predicate)
     }
 
     fn has_argument(&self, argument: Argument) -> bool {
         self.arguments.as_slice().binary_search(&argument).is_ok()
     }
 
-    /// Whether a clause has the word as the predicate of its head.
-    pub fn has_clauses(&self, predicate: &str) -> bool {
-        self.heads.contains(predicate)
-    }
-
-    /// Whether a call may have the argument of a head at its place: one has a term that begins so there, or one
-    /// that may be equal to any.
-    pub fn may_meet(&self, tokens: &[Token<'a>], head: Node, node: Node) -> bool {
-        let begin = self.begin_of(tokens, node);
-        match self.called.get_index_of(text_at(tokens, head.first)) {
-            Some(predicate) if begin != ANY => {
-                self.has_argument((predicate, node.rank, ANY))
-                    || self.has_argument((predicate, node.rank, begin))
-            }
-            _ => true,
-        }
+    /// Whether a call may have the term at a place of a head as its argument of a rank: one has a term that begins so
+    /// there, or one that may be equal to any.
+    pub(crate) fn may_meet(
+        &self,
+        marks: &[Mark],
+        predicate: usize,
+        rank: usize,
+        place: usize,
+    ) -> bool {
+        let begin = match begin_at(marks, place) {
+            Begin::Other(begin) => begin,
+            Begin::Word => match self.constructors.get_index_of(text_at(self.text, marks, place)) {
+                Some(constructor) => constructor.saturating_add(WORD),
+                None => usize::MAX,
+            },
+        };
+        begin == ANY
+            || self.has_argument((predicate, rank, ANY))
+            || self.has_argument((predicate, rank, begin))
     }
 }

@@ -2,15 +2,14 @@
 ghost use Rattle.std.specs.Prelude.{◌≡◌, ◌≤◌, length};
 ghost use Rattle.ap_defs.specs.Limits.{size_limit};
 
-use crate::parts::{Part, parts_of};
+use crate::marks::{Mark, marks_of, text_at};
+use crate::parts::{Part, is_clause};
+use crate::places::put_arguments;
 use crate::singles::single_variables;
-use crate::uses::Uses;
+use crate::uses::{Call, Uses};
 use ap_defs::memory::Memory;
-use ap_lexer::{LexError, Token, lex};
-use ap_located::items::{span_at, text_at};
 use ap_located::messages::{Message, Piece, add_message};
-use ap_located::nodes::{Form, Node, node_at};
-use indexmap::IndexSet;
+use ap_located::spots::Span;
 use std::alloc::Global;
 
 /// The warnings that are written, at most.
@@ -18,18 +17,30 @@ const MOST: usize = 20;
 
 /// What gathers the warnings of a text.
 #[derive(Drop)]
-struct Warner<'t, 'a> {
-    text: &'t [u8],
-    uses: Uses<'a>,
-    // the predicates without clauses that were told
-    told: IndexSet<&'a str>,
+struct Warner<'t> {
+    text: &'t str,
+    // for each predicate that is called, whether it has no clauses, and wasn't told yet
+    untold: Vec<bool>,
+    // where the arguments of a head begin
+    begins: Vec<usize>,
     count: usize,
     out: String,
 }
 
-fn single_message(alloc: Global, tokens: &[Token<'_>], token: usize) -> Message {
-    let word = text_at(tokens, token);
-    let mut message = Message::new(alloc, span_at(tokens, token));
+/// The bytes of the token at a place.
+fn span_at(marks: &[Mark], place: usize) -> Span {
+    match marks.get(place) {
+        Some(mark) => Span {
+            start: mark.start,
+            end: mark.end,
+        },
+        None => Span { start: 0, end: 1 },
+    }
+}
+
+fn single_message(alloc: Global, text: &str, marks: &[Mark], place: usize) -> Message {
+    let word = text_at(text, marks, place);
+    let mut message = Message::new(alloc, span_at(marks, place));
     message.say(&[
         Piece::Text("the variable `"),
         Piece::Word(word),
@@ -43,20 +54,27 @@ fn single_message(alloc: Global, tokens: &[Token<'_>], token: usize) -> Message 
     message
 }
 
-fn empty_message(alloc: Global, tokens: &[Token<'_>], token: usize) -> Message {
-    let mut message = Message::new(alloc, span_at(tokens, token));
+fn empty_message(alloc: Global, text: &str, marks: &[Mark], place: usize) -> Message {
+    let mut message = Message::new(alloc, span_at(marks, place));
     message.say(&[
         Piece::Text("no clause has the predicate `"),
-        Piece::Word(text_at(tokens, token)),
+        Piece::Word(text_at(text, marks, place)),
         Piece::Text("`"),
     ]);
     message.note(&[Piece::Text("this goal never holds")]);
     message
 }
 
-fn unmet_message(alloc: Global, tokens: &[Token<'_>], head: Node, node: Node) -> Message {
-    let word = text_at(tokens, head.first);
-    let mut message = Message::new(alloc, span_at(tokens, node.first));
+/// Of the argument at a place of a clause's head, with so many before it.
+fn unmet_message(
+    alloc: Global,
+    text: &str,
+    marks: &[Mark],
+    rank: usize,
+    place: usize,
+) -> Message {
+    let word = text_at(text, marks, 0);
+    let mut message = Message::new(alloc, span_at(marks, place));
     message.say(&[
         Piece::Text("no goal of this text can use this clause of `"),
         Piece::Word(word),
@@ -66,19 +84,18 @@ fn unmet_message(alloc: Global, tokens: &[Token<'_>], head: Node, node: Node) ->
         Piece::Text("each goal `"),
         Piece::Word(word),
         Piece::Text("(..)` has another constructor as argument "),
-        Piece::Number(node.rank.saturating_add(1) as u64),
+        Piece::Number(rank.saturating_add(1) as u64),
     ]);
     message
 }
 
-impl<'t, 'a> Warner<'t, 'a> {
-    /// Of clauses and queries of which none was looked at.
-    fn of(alloc: Global, text: &'t [u8], parts: &[Part<'_, 'a>]) -> Result<Warner<'t, 'a>, Memory> {
-        let uses = Uses::of(alloc, parts)?;
+impl<'t> Warner<'t> {
+    /// Of a text of which nothing was looked at.
+    fn of(alloc: Global, text: &'t str, uses: &Uses<'_>) -> Result<Warner<'t>, Memory> {
         Ok(Warner {
             text,
-            uses,
-            told: IndexSet::new(alloc),
+            untold: uses.without_clauses(alloc)?,
+            begins: Vec::new(alloc),
             count: 0,
             out: String::new(alloc),
         })
@@ -93,7 +110,7 @@ impl<'t, 'a> Warner<'t, 'a> {
     /// Adds a warning; behind the last that is written it is only counted.
     fn warn(&mut self, alloc: Global, message: &Message) -> Result<(), Memory> {
         if self.count < MOST {
-            add_message(alloc, &mut self.out, self.text, "warning", message)?;
+            add_message(alloc, &mut self.out, self.text.as_bytes(), "warning", message)?;
         }
         self.count = self.count.saturating_add(1);
         Ok(())
@@ -102,88 +119,99 @@ impl<'t, 'a> Warner<'t, 'a> {
     fn warn_single(
         &mut self,
         alloc: Global,
-        tokens: &[Token<'a>],
-        token: usize,
+        marks: &[Mark],
+        place: usize,
     ) -> Result<(), Memory> {
-        let message = single_message(alloc, tokens, token);
+        let message = single_message(alloc, self.text, marks, place);
         self.warn(alloc, &message)
     }
 
     fn warn_empty(
         &mut self,
         alloc: Global,
-        tokens: &[Token<'a>],
-        token: usize,
+        marks: &[Mark],
+        call: Call,
     ) -> Result<(), Memory> {
-        let word = text_at(tokens, token);
-        if self.uses.has_clauses(word) || self.told.contains(word) {
+        let Some(untold) = self.untold.get_mut(call.predicate) else {
+            return Ok(());
+        };
+        if !*untold {
             return Ok(());
         }
-        self.told.insert(word)?;
-        let message = empty_message(alloc, tokens, token);
+        *untold = false;
+        let message = empty_message(alloc, self.text, marks, call.token);
         self.warn(alloc, &message)
     }
 
-    fn warn_unmet(
-        &mut self,
-        alloc: Global,
-        tokens: &[Token<'a>],
-        head: Node,
-        node: Node,
-    ) -> Result<(), Memory> {
-        if self.uses.may_meet(tokens, head, node) {
-            return Ok(());
-        }
-        let message = unmet_message(alloc, tokens, head, node);
-        self.warn(alloc, &message)
-    }
-
-    /// Looks at a node of a clause or a query.
-    fn look_at(
-        &mut self,
-        alloc: Global,
-        tokens: &[Token<'a>],
-        nodes: &[Node],
-        node: Node,
-    ) -> Result<(), Memory> {
-        let above = node_at(nodes, node.parent);
-        match above.form {
-            Form::Atom => self.warn_empty(alloc, tokens, node.first),
-            Form::Apply if node_at(nodes, above.parent).form == Form::Head => {
-                self.warn_unmet(alloc, tokens, above, node)
-            }
-            _ => Ok(()),
-        }
-    }
-
-    fn look_at_variables(
-        &mut self,
-        alloc: Global,
-        tokens: &[Token<'a>],
-        nodes: &[Node],
-    ) -> Result<(), Memory> {
-        let singles = single_variables(alloc, tokens, nodes)?;
-        for token in &singles {
-            self.warn_single(alloc, tokens, *token)?;
+    /// Looks at the variables of a clause.
+    fn look_at_variables(&mut self, alloc: Global, marks: &[Mark]) -> Result<(), Memory> {
+        let singles = single_variables(alloc, self.text, marks)?;
+        for place in &singles {
+            self.warn_single(alloc, marks, *place)?;
         }
         Ok(())
     }
 
-    fn look_at_part(&mut self, alloc: Global, part: &Part<'_, 'a>) -> Result<(), Memory> {
-        let nodes = part.nodes();
-        if node_at(nodes, 1).form == Form::Head {
-            self.look_at_variables(alloc, part.tokens, nodes)?;
+    /// Looks at the argument of a rank of a head, whose predicate is called.
+    fn look_at_argument(
+        &mut self,
+        alloc: Global,
+        uses: &Uses<'_>,
+        marks: &[Mark],
+        predicate: usize,
+        rank: usize,
+    ) -> Result<(), Memory> {
+        let Some(place) = self.begins.get(rank).copied() else {
+            return Ok(());
+        };
+        if uses.may_meet(marks, predicate, rank, place) {
+            return Ok(());
         }
-        for node in nodes {
-            self.look_at(alloc, part.tokens, nodes, *node)?;
+        let message = unmet_message(alloc, self.text, marks, rank, place);
+        self.warn(alloc, &message)
+    }
+
+    /// Looks at the head of a clause.
+    fn look_at_head(
+        &mut self,
+        alloc: Global,
+        uses: &Uses<'_>,
+        marks: &[Mark],
+    ) -> Result<(), Memory> {
+        let Some(predicate) = uses.called_place(text_at(self.text, marks, 0)) else {
+            return Ok(());
+        };
+        put_arguments(marks, 0, &mut self.begins)?;
+        for rank in 0..self.begins.len() {
+            self.look_at_argument(alloc, uses, marks, predicate, rank)?;
+        }
+        Ok(())
+    }
+
+    fn look_at_part(
+        &mut self,
+        alloc: Global,
+        uses: &Uses<'_>,
+        part: Part<'_>,
+        calls: &[Call],
+    ) -> Result<(), Memory> {
+        if is_clause(part.marks) {
+            self.look_at_variables(alloc, part.marks)?;
+            self.look_at_head(alloc, uses, part.marks)?;
+        }
+        for call in calls {
+            self.warn_empty(alloc, part.marks, *call)?;
         }
         Ok(())
     }
 
     /// Looks at all clauses and queries, in order.
-    fn look_at_parts(&mut self, alloc: Global, parts: &[Part<'_, 'a>]) -> Result<(), Memory> {
-        for part in parts {
-            self.look_at_part(alloc, part)?;
+    fn look_at_parts(&mut self, alloc: Global, uses: &Uses<'_>) -> Result<(), Memory> {
+        let mut first = 0;
+        for part in &uses.parts {
+            let calls = uses.calls.get(first..part.calls).unwrap_or(&[]);
+            self.look_at_part(alloc, uses, *part, calls)?;
+            first = part.calls;
         }
         self.end()
     }
@@ -198,23 +226,22 @@ impl<'t, 'a> Warner<'t, 'a> {
     }
 }
 
-fn warnings_of(alloc: Global, text: &[u8], tokens: &[Token<'_>]) -> Result<String, Memory> {
-    let parts = parts_of(alloc, tokens)?;
-    let mut warner = Warner::of(alloc, text, parts.as_slice())?;
-    warner.look_at_parts(alloc, parts.as_slice())?;
+fn warnings_of(alloc: Global, text: &str) -> Result<String, Memory> {
+    let marks = marks_of(alloc, text)?;
+    let uses = Uses::of(alloc, text, marks.as_slice())?;
+    let mut warner = Warner::of(alloc, text, &uses)?;
+    warner.look_at_parts(alloc, &uses)?;
     Ok(warner.into_text())
 }
 
-/// The warnings about a text, as they are written: of variables that stand once in a clause, of predicates without
-/// clauses that a goal calls, and of clauses that no goal can use, since each that calls the predicate has another
-/// constructor at the place of an argument. A text that doesn't split into tokens has none. `Err` is want of
-/// memory.
+/// The warnings about a text that has a program, as they are written: of variables that stand once in a clause, of
+/// predicates without clauses that a goal calls, and of clauses that no goal can use, since each that calls the
+/// predicate has another constructor at the place of an argument. `Err` is want of memory.
 pub fn warnings(alloc: Global, text: &[u8]) -> Result<String, Memory>
     requires { length text.now ≤ size_limit }
 {
-    match lex(alloc, text) {
-        Ok(tokens) => warnings_of(alloc, text, &tokens),
-        Err(LexError::Fault(_)) => Ok(String::new(alloc)),
-        Err(LexError::Memory) => Err(Memory),
+    match std::str::from_utf8(text) {
+        Ok(text) => warnings_of(alloc, text),
+        Err(_) => Ok(String::new(alloc)),
     }
 }

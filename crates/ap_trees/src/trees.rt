@@ -19,6 +19,31 @@ pub enum Args<'a> {
     More(Tree<'a>, Box<Args<'a>>),
 }
 
+/// A word applied to arguments.
+#[cycle(tree)]
+#[derive(Debug, Drop)]
+pub struct Application<'a> {
+    pub word: &'a str,
+    pub args: Args<'a>,
+}
+
+/// What stands left of `\`, and the term behind it.
+#[cycle(tree)]
+#[derive(Debug, Drop)]
+pub struct Abstraction<'a> {
+    pub binder: Binder<'a>,
+    pub body: Tree<'a>,
+}
+
+/// The two sides of a swapping, and the term on which it acts.
+#[cycle(tree)]
+#[derive(Debug, Drop)]
+pub struct Swapping<'a> {
+    pub left: Binder<'a>,
+    pub right: Binder<'a>,
+    pub body: Tree<'a>,
+}
+
 /// A term as it is written. A word alone is a name or a constructor.
 #[cycle(tree)]
 #[derive(Debug)]
@@ -26,12 +51,12 @@ pub enum Tree<'a> {
     Unit,
     Var(&'a str),
     Word(&'a str),
-    Apply(&'a str, Box<Args<'a>>),
+    Apply(Box<Application<'a>>),
     Pair(Box<Tree<'a>>, Box<Tree<'a>>),
     Nil,
     Cell(Box<Tree<'a>>, Box<Tree<'a>>),
-    Abs(Binder<'a>, Box<Tree<'a>>),
-    Swapped(Binder<'a>, Binder<'a>, Box<Tree<'a>>),
+    Abs(Box<Abstraction<'a>>),
+    Swapped(Box<Swapping<'a>>),
 }
 
 impl Drop for Args<'_> {
@@ -52,11 +77,20 @@ impl Drop for Tree<'_> {
         loop {
             match self {
                 Tree::Unit | Tree::Var(_) | Tree::Word(_) | Tree::Nil => return,
-                Tree::Apply(_word, _args) => return,
+                Tree::Apply(application) => {
+                    let Application { args: _args, .. } = Box::into_inner(application);
+                    return;
+                }
                 Tree::Pair(_left, right) => self = Box::into_inner(right),
                 Tree::Cell(_head, tail) => self = Box::into_inner(tail),
-                Tree::Abs(_name, body) => self = Box::into_inner(body),
-                Tree::Swapped(_left, _right, body) => self = Box::into_inner(body),
+                Tree::Abs(abstraction) => {
+                    let Abstraction { body, .. } = Box::into_inner(abstraction);
+                    self = body;
+                }
+                Tree::Swapped(swapping) => {
+                    let Swapping { body, .. } = Box::into_inner(swapping);
+                    self = body;
+                }
             }
         }
     }

@@ -1,7 +1,7 @@
 use Rattle.std.proofs.Common.{rules, of_calls}
 use Rattle.std.proofs.lemmas.Fn.{always_returns_same}
 use Rattle.ap_lexer.proofs.Words.{word_found}
-use Rattle.ap_lexer.proofs.pieces.word_len.Goals as goal
+use Rattle.ap_lexer.proofs.pieces.any_word_len.Goals as goal
 
 pub returns-clause-len : goal.returns-clause-len
 returns-clause-len c =

@@ -1,0 +1,186 @@
+//! The tokens of a text that has a program, as far as warnings need them.
+//!
+//! Such a text has no fault, so a word goes on up to the next byte that is a sign or white space, or begins a comment.
+ghost use Rattle.std.specs.Prelude.{◌≡◌};
+
+use ap_defs::memory::Memory;
+use std::alloc::Global;
+
+/// What a token is.
+#[derive(Clone, Copy, PartialEq, Eq)]
+pub(crate) enum Kind {
+    /// An identifier, or a word that stands in declarations alone.
+    Word,
+    Variable,
+    /// `pred`
+    Predicate,
+    /// `new` or `exists`
+    Binder,
+    /// `swap`
+    Swap,
+    /// `(`
+    Open,
+    /// `[`
+    OpenList,
+    /// `)`
+    Close,
+    /// `]`
+    CloseList,
+    /// `,`
+    Comma,
+    /// `.`
+    Dot,
+    /// `:`
+    Colon,
+    /// `;`, `:-` or `?-`, behind which a goal comes.
+    Goal,
+    /// `=` or `#`, which stands between the two terms of a goal.
+    Test,
+    /// `\`
+    Lambda,
+    /// Any other sign.
+    Other,
+}
+
+/// A token: what it is, its first byte and the byte behind it.
+#[derive(Clone, Copy)]
+pub(crate) struct Mark {
+    pub kind: Kind,
+    pub start: usize,
+    pub end: usize,
+}
+
+/// What a byte is by itself.
+#[derive(Clone, Copy)]
+enum Class {
+    /// A part of a word.
+    Word,
+    Blank,
+    /// `%`
+    Comment,
+    /// `-`, the end of a sign of two bytes, or its middle.
+    Dash,
+    Sign(Kind),
+}
+
+fn class_of(byte: u8) -> Class {
+    match byte {
+        b' ' | b'\t' | b'\r' | b'\n' => Class::Blank,
+        b'%' => Class::Comment,
+        b'-' => Class::Dash,
+        b'(' => Class::Sign(Kind::Open),
+        b')' => Class::Sign(Kind::Close),
+        b'[' => Class::Sign(Kind::OpenList),
+        b']' => Class::Sign(Kind::CloseList),
+        b',' => Class::Sign(Kind::Comma),
+        b'.' => Class::Sign(Kind::Dot),
+        b':' => Class::Sign(Kind::Colon),
+        b';' => Class::Sign(Kind::Goal),
+        b'=' | b'#' => Class::Sign(Kind::Test),
+        b'\\' => Class::Sign(Kind::Lambda),
+        b'?' | b'|' | b'>' => Class::Sign(Kind::Other),
+        _ => Class::Word,
+    }
+}
+
+/// What a word is.
+fn word_kind(word: &[u8]) -> Kind {
+    match word {
+        [b'_', ..] => Kind::Variable,
+        [first, ..] if first.is_ascii_uppercase() => Kind::Variable,
+        [b'n', b'e', b'w'] => Kind::Binder,
+        [b's', b'w', b'a', b'p'] => Kind::Swap,
+        [b'p', b'r', b'e', b'd'] => Kind::Predicate,
+        [b'e', b'x', b'i', b's', b't', b's'] => Kind::Binder,
+        _ => Kind::Word,
+    }
+}
+
+/// What finds the tokens of a text, byte by byte.
+#[derive(Drop)]
+struct Scanner<'t> {
+    bytes: &'t [u8],
+    marks: Vec<Mark>,
+    // where the word began that goes on
+    word: Option<usize>,
+    in_comment: bool,
+}
+
+impl Scanner<'_> {
+    fn end_word(&mut self, end: usize) -> Result<(), Memory> {
+        if let Some(start) = self.word {
+            self.word = None;
+            let kind = word_kind(self.bytes.get(start..end).unwrap_or(&[]));
+            self.marks.push(Mark { kind, start, end })?;
+        }
+        Ok(())
+    }
+
+    /// Makes the sign that ends before a `-` one that has a goal behind it: it is `:` or `?`, unless the `-` begins `->`.
+    fn take_dash(&mut self, place: usize) {
+        if let Some(last) = self.marks.last_mut() {
+            if last.end == place && matches!(last.kind, Kind::Colon | Kind::Other) {
+                last.kind = Kind::Goal;
+            }
+        }
+    }
+
+    fn take(&mut self, place: usize, byte: u8) -> Result<(), Memory> {
+        if self.in_comment {
+            self.in_comment = byte != b'\n';
+            return Ok(());
+        }
+        let class = class_of(byte);
+        if let Class::Word = class {
+            if self.word.is_none() {
+                self.word = Some(place);
+            }
+            return Ok(());
+        }
+        self.end_word(place)?;
+        match class {
+            Class::Word | Class::Blank => {}
+            Class::Comment => self.in_comment = true,
+            Class::Dash => self.take_dash(place),
+            Class::Sign(kind) => self.marks.push(Mark {
+                kind,
+                start: place,
+                end: place.saturating_add(1),
+            })?,
+        }
+        Ok(())
+    }
+}
+
+/// The tokens of a text that has a program.
+pub(crate) fn marks_of(alloc: Global, text: &str) -> Result<Vec<Mark>, Memory> {
+    let bytes = text.as_bytes();
+    let mut scanner = Scanner {
+        bytes,
+        marks: Vec::new(alloc),
+        word: None,
+        in_comment: false,
+    };
+    for (place, byte) in bytes.iter().enumerate() {
+        scanner.take(place, *byte)?;
+    }
+    scanner.end_word(bytes.len())?;
+    let Scanner { marks, .. } = scanner;
+    Ok(marks)
+}
+
+/// What the token at a place is.
+pub(crate) fn kind_at(marks: &[Mark], place: usize) -> Kind {
+    match marks.get(place) {
+        Some(mark) => mark.kind,
+        None => Kind::Other,
+    }
+}
+
+/// The text of the token at a place, or nothing.
+pub(crate) fn text_at<'t>(text: &'t str, marks: &[Mark], place: usize) -> &'t str {
+    match marks.get(place) {
+        Some(mark) => text.get(mark.start..mark.end).unwrap_or(""),
+        None => "",
+    }
+}
