@@ -1,5 +1,5 @@
 // What begins at a place of a text.
-ghost use Rattle.std.specs.Prelude.{◌≡◌, ◌<◌, ◌≤◌, [], ◌∷◌, take, None, IfSome, MatchOption};
+ghost use Rattle.std.specs.Prelude.{◌≡◌, ◌<◌, ◌≤◌, [], ◌∷◌, length, take, slice_index, false, None, IfSome, MatchOption};
 ghost use Rattle.std.specs.List.{position_from, position_or_len};
 ghost use Rattle.std.specs.Str.{IsCharBoundary};
 ghost use Rattle.std.specs.Str.Lossy.{utf8_valid_len};
@@ -50,6 +50,16 @@ fn ascii_len(bytes: &[u8]) -> usize
     ascii_end(bytes).unwrap_or(bytes.len())
 }
 
+/// Whether a byte stands at a place that is no ASCII character.
+fn is_high_at(bytes: &[u8], place: usize) -> bool
+    ensures { result ≡ false → place < length bytes.now → slice_index bytes.now place < 128 }
+{
+    match bytes.get(place) {
+        Some(byte) => !byte.is_ascii(),
+        None => false,
+    }
+}
+
 /// How many bytes at the front go on with a word, found character by character.
 fn any_word_len(text: &str) -> usize
     ensures len { result ≡ spec.word_len text.now }
@@ -64,11 +74,12 @@ fn word_len(text: &str) -> usize
     ensures len { result ≡ spec.word_len text.now }
     ensures cut { IsCharBoundary text.now result }
 {
-    let len = ascii_len(text.as_bytes());
-    match text.as_bytes().get(len) {
-        Some(byte) if !byte.is_ascii() => any_word_len(text),
-        _ => len,
+    let bytes = text.as_bytes();
+    let len = ascii_len(bytes);
+    if is_high_at(bytes, len) {
+        return any_word_len(text);
     }
+    len
 }
 
 /// How many bytes at the front go on with a comment.

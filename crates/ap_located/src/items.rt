@@ -1,6 +1,7 @@
 //! The tokens of each item.
 ghost use Rattle.std.specs.Prelude.{◌≡◌};
 
+use crate::signs::{Sign, sign_of};
 use crate::spots::Span;
 use ap_defs::memory::Memory;
 use ap_lexer::{Token, TokenKind};
@@ -18,7 +19,7 @@ pub fn ranges_of(alloc: Global, tokens: &[Token<'_>]) -> Result<Vec<Range>, Memo
     let mut ranges = Vec::new(alloc);
     let mut first = 0;
     for (place, token) in tokens.iter().enumerate() {
-        if matches!(token.text.as_bytes(), [b'.']) {
+        if sign_of(token) == Sign::Dot {
             ranges.push(Range { first, end: place })?;
             first = place.saturating_add(1);
         }

@@ -105,12 +105,7 @@ impl Finder {
         }
     }
 
-    fn take_goal(
-        &mut self,
-        marks: &[Mark],
-        place: usize,
-        mark: Mark,
-    ) -> Result<(), Memory> {
+    fn take_goal(&mut self, marks: &[Mark], place: usize, mark: Mark) -> Result<(), Memory> {
         match mark.kind {
             Kind::Word => self.take_word(marks, place),
             Kind::Open | Kind::OpenList => self.take_opening(marks, place, mark),
@@ -146,12 +141,7 @@ impl Finder {
         }
     }
 
-    fn take_opening(
-        &mut self,
-        marks: &[Mark],
-        place: usize,
-        mark: Mark,
-    ) -> Result<(), Memory> {
+    fn take_opening(&mut self, marks: &[Mark], place: usize, mark: Mark) -> Result<(), Memory> {
         if mark.kind == Kind::Open && !self.begins_term(marks, place)? {
             return Ok(());
         }
@@ -160,12 +150,7 @@ impl Finder {
         Ok(())
     }
 
-    fn take_rest(
-        &mut self,
-        marks: &[Mark],
-        place: usize,
-        mark: Mark,
-    ) -> Result<(), Memory> {
+    fn take_rest(&mut self, marks: &[Mark], place: usize, mark: Mark) -> Result<(), Memory> {
         match mark.kind {
             Kind::Open | Kind::OpenList => self.depth = self.depth.saturating_add(1),
             Kind::Close | Kind::CloseList => self.close(marks, place)?,

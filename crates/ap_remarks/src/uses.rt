@@ -192,7 +192,10 @@ impl<'t> Uses<'t> {
     ) -> bool {
         let begin = match begin_at(marks, place) {
             Begin::Other(begin) => begin,
-            Begin::Word => match self.constructors.get_index_of(text_at(self.text, marks, place)) {
+            Begin::Word => match self
+                .constructors
+                .get_index_of(text_at(self.text, marks, place))
+            {
                 Some(constructor) => constructor.saturating_add(WORD),
                 None => usize::MAX,
             },

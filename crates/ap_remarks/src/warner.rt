@@ -66,13 +66,7 @@ fn empty_message(alloc: Global, text: &str, marks: &[Mark], place: usize) -> Mes
 }
 
 /// Of the argument at a place of a clause's head, with so many before it.
-fn unmet_message(
-    alloc: Global,
-    text: &str,
-    marks: &[Mark],
-    rank: usize,
-    place: usize,
-) -> Message {
+fn unmet_message(alloc: Global, text: &str, marks: &[Mark], rank: usize, place: usize) -> Message {
     let word = text_at(text, marks, 0);
     let mut message = Message::new(alloc, span_at(marks, place));
     message.say(&[
@@ -110,28 +104,24 @@ impl<'t> Warner<'t> {
     /// Adds a warning; behind the last that is written it is only counted.
     fn warn(&mut self, alloc: Global, message: &Message) -> Result<(), Memory> {
         if self.count < MOST {
-            add_message(alloc, &mut self.out, self.text.as_bytes(), "warning", message)?;
+            add_message(
+                alloc,
+                &mut self.out,
+                self.text.as_bytes(),
+                "warning",
+                message,
+            )?;
         }
         self.count = self.count.saturating_add(1);
         Ok(())
     }
 
-    fn warn_single(
-        &mut self,
-        alloc: Global,
-        marks: &[Mark],
-        place: usize,
-    ) -> Result<(), Memory> {
+    fn warn_single(&mut self, alloc: Global, marks: &[Mark], place: usize) -> Result<(), Memory> {
         let message = single_message(alloc, self.text, marks, place);
         self.warn(alloc, &message)
     }
 
-    fn warn_empty(
-        &mut self,
-        alloc: Global,
-        marks: &[Mark],
-        call: Call,
-    ) -> Result<(), Memory> {
+    fn warn_empty(&mut self, alloc: Global, marks: &[Mark], call: Call) -> Result<(), Memory> {
         let Some(untold) = self.untold.get_mut(call.predicate) else {
             return Ok(());
         };

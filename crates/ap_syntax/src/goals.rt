@@ -1,5 +1,5 @@
 // Reading a goal.
-ghost use Rattle.std.specs.Prelude.{◌≡◌, ◌<◌, ◌≤◌, [], length, IfOk, Some};
+ghost use Rattle.std.specs.Prelude.{◌≡◌, ◌<◌, ◌≤◌, [], ◌∷◌, length, IfOk, Some};
 ghost use Rattle.ap_trees.specs.Goals as trees;
 ghost use Rattle.ap_trees.specs.Outcomes.{GivesPart};
 ghost use Rattle.ap_trees.specs.Readers.{separated, after_comma};
@@ -16,9 +16,10 @@ use crate::marks::{
 use crate::matching::after_group;
 use ap_defs::lists::List;
 use ap_trees::{
-    GoalTree, ReadError, Symbol, Tree, after_close, after_comma, after_open, applied, term, term_list,
+    GoalTree, ReadError, Symbol, Tree, after_close, after_comma, after_open, applied, term,
+    term_list,
 };
-use std::alloc::Global;
+use std::alloc::{AllocError, Global};
 
 /// The terms up to the `)` that closes them, and what follows it.
 #[tactic(auto, unfolding(crate::specs::GoalReader::terms_inside))]
@@ -242,6 +243,20 @@ fn disjunction<'a>(alloc: Global, mut parts: Vec<GoalTree<'a>>) -> Result<GoalTr
     Ok(whole)
 }
 
+/// A goal alone as a list, and what follows it.
+fn begun<'a, 's>(
+    alloc: Global,
+    first: GoalTree<'a>,
+    after: &'s [Symbol<'a>],
+) -> Result<(Vec<GoalTree<'a>>, &'s [Symbol<'a>]), AllocError>
+    ensures first { IfOk result (λ r. r.0.items ≡ first.entry ∷ []) }
+    ensures behind { IfOk result (λ r. r.1.now ≡ after.now) }
+{
+    let mut all = Vec::new(alloc);
+    all.push(first)?;
+    Ok((all, after))
+}
+
 /// A goal that begins the symbols, and what follows it.
 #[cycle(goals)]
 #[tactic(auto, unfolding(crate::specs::GoalReader::read_goal))]
@@ -290,7 +305,7 @@ fn longer_disjunction<'a, 's>(
     after: &'s [Symbol<'a>],
 ) -> Result<(GoalTree<'a>, &'s [Symbol<'a>]), ReadError>
     requires first { read_conj (read_goal levels) (syms symbols.now)
-        ≡ Some (goal_of_tree first.entry, syms after.now) }
+        ≡ Some (goal_of_tree first, syms after.now) }
     requires behind { length after.now < length symbols.now }
     ensures value { GivesPart (λ r. (goal_of_tree r.0, syms r.1.now)) result (spec.read_disj
         (read_goal levels) (syms symbols.now)) }
@@ -310,15 +325,13 @@ fn further_conjunctions<'a, 's>(
     after: &'s [Symbol<'a>],
 ) -> Result<(Vec<GoalTree<'a>>, &'s [Symbol<'a>]), ReadError>
     requires first { read_conj (read_goal levels) (syms symbols.now)
-        ≡ Some (goal_of_tree first.entry, syms after.now) }
+        ≡ Some (goal_of_tree first, syms after.now) }
     requires behind { length after.now < length symbols.now }
     ensures value { GivesPart (λ r. (goals_of r.0.items, syms r.1.now)) result (separated
         after_semicolon (read_conj (read_goal levels)) (length symbols.now) (syms symbols.now)) }
     ensures shorter { IfOk result (λ r. length r.1.now < length symbols.now) }
 {
-    let mut all = Vec::new(alloc);
-    all.push(first)?;
-    let mut rest = after;
+    let (mut all, mut rest) = begun(alloc, first, after)?;
     while let Some(after) = after_semicolon(rest) {
         let (next, left) = all_of(alloc, levels, after)?;
         all.push(next)?;
@@ -356,7 +369,7 @@ fn longer_conjunction<'a, 's>(
     after: &'s [Symbol<'a>],
 ) -> Result<(GoalTree<'a>, &'s [Symbol<'a>]), ReadError>
     requires first { read_simple (read_goal levels) (syms symbols.now)
-        ≡ Some (goal_of_tree first.entry, syms after.now) }
+        ≡ Some (goal_of_tree first, syms after.now) }
     requires behind { length after.now < length symbols.now }
     ensures value { GivesPart (λ r. (goal_of_tree r.0, syms r.1.now)) result (spec.read_conj
         (read_goal levels) (syms symbols.now)) }
@@ -376,15 +389,13 @@ fn further_goals<'a, 's>(
     after: &'s [Symbol<'a>],
 ) -> Result<(Vec<GoalTree<'a>>, &'s [Symbol<'a>]), ReadError>
     requires first { read_simple (read_goal levels) (syms symbols.now)
-        ≡ Some (goal_of_tree first.entry, syms after.now) }
+        ≡ Some (goal_of_tree first, syms after.now) }
     requires behind { length after.now < length symbols.now }
     ensures value { GivesPart (λ r. (goals_of r.0.items, syms r.1.now)) result (separated
         after_comma (read_simple (read_goal levels)) (length symbols.now) (syms symbols.now)) }
     ensures shorter { IfOk result (λ r. length r.1.now < length symbols.now) }
 {
-    let mut all = Vec::new(alloc);
-    all.push(first)?;
-    let mut rest = after;
+    let (mut all, mut rest) = begun(alloc, first, after)?;
     while let Some(after) = after_comma(rest) {
         let (next, left) = simple(alloc, levels, after)?;
         all.push(next)?;

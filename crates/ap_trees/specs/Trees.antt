@@ -41,12 +41,12 @@ abbrev mutual
   term_of code.Unit = terms.Unit
   term_of (code.Var w) = terms.Variable w.now
   term_of (code.Word w) = terms.Word w.now
-  term_of (code.Apply' p a) = terms.Apply a.word.now (terms_of a.args)
+  term_of (code.Apply' w p rest) = terms.Apply w.now (terms_of rest)
   term_of (code.Pair' p left q right) = terms.Pair (term_of left) (term_of right)
   term_of code.Nil = terms.Nil
   term_of (code.Cell' p head q tail) = terms.Cell (term_of head) (term_of tail)
-  term_of (code.Abs' p a) = terms.Abs (name_of_binder a.binder) (term_of a.body)
-  term_of (code.Swapped' p s) = terms.Swapped (name_of_binder s.left) (name_of_binder s.right) (term_of s.body)
+  term_of (code.Abs' name p body) = terms.Abs (name_of_binder name) (term_of body)
+  term_of (code.Swapped' sides p body) = terms.Swapped (name_of_binder sides.value.left) (name_of_binder sides.value.right) (term_of body)
 
   pub terms_of : args.Args → Terms
   terms_of (args.Last t) = terms.Last (term_of t)

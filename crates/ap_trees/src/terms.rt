@@ -1,5 +1,5 @@
 // Reading a term.
-ghost use Rattle.std.specs.Prelude.{◌≡◌, ◌<◌, ◌≤◌, [], length, IfOk, IfSome, Some};
+ghost use Rattle.std.specs.Prelude.{◌≡◌, ◌<◌, ◌≤◌, [], ◌∷◌, length, IfOk, IfSome, Some};
 ghost use Rattle.std.specs.Option.{option_map};
 ghost use Rattle.ap_trees.specs.Outcomes.{GivesPart};
 ghost use Rattle.ap_trees.specs.Readers.{separated, after_comma};
@@ -15,7 +15,7 @@ use crate::cursor::{
 };
 use crate::outcome::ReadError;
 use crate::symbols::Symbol;
-use crate::trees::{Abstraction, Application, Args, Binder, Swapping, Tree};
+use crate::trees::{Args, Binder, Sides, Tree};
 use std::alloc::{AllocError, Global};
 
 /// One term or more as arguments.
@@ -56,7 +56,7 @@ pub fn applied<'a>(
         ≡ trees.Apply word.entry.now (trees.argument_terms (trees_of parts.entry.items))) }
 {
     let args = arguments(alloc, parts)?;
-    Ok(Tree::Apply(Box::new(alloc, Application { word, args })?))
+    Ok(Tree::Apply(word, Box::new(alloc, args)?))
 }
 
 /// The list of these terms and of the end.
@@ -166,8 +166,7 @@ fn abstraction<'a, 's>(
     ensures shorter { IfOk result (λ r. length r.1.now ≤ length symbols.now) }
 {
     let (body, rest) = term(alloc, levels, symbols)?;
-    let abstraction = Box::new(alloc, Abstraction { binder, body })?;
-    Ok((Tree::Abs(abstraction), rest))
+    Ok((Tree::Abs(binder, Box::new(alloc, body)?), rest))
 }
 
 /// An application of two arguments or more, behind the first of them.
@@ -181,7 +180,7 @@ fn longer_application<'a, 's>(
     first: Tree<'a>,
     after: &'s [Symbol<'a>],
 ) -> Result<(Tree<'a>, &'s [Symbol<'a>]), ReadError>
-    requires first { read_term levels (syms symbols.now) ≡ Some (term_of first.entry, syms after.now) }
+    requires first { read_term levels (syms symbols.now) ≡ Some (term_of first, syms after.now) }
     requires behind { length after.now < length symbols.now }
     ensures value { GivesPart (λ r. (term_of r.0, syms r.1.now)) result (spec.application
         (read_term levels) word.entry.now (syms symbols.now)) }
@@ -204,9 +203,8 @@ fn sole_application<'a, 's>(
     ensures shorter { IfOk result (λ r. length r.1.now ≤ length symbols.now) }
 {
     let rest = after_close(symbols).ok_or(ReadError::Grammar)?;
-    let args = Args::Last(argument);
-    let application = Box::new(alloc, Application { word, args })?;
-    Ok((Tree::Apply(application), rest))
+    let args = Box::new(alloc, Args::Last(argument))?;
+    Ok((Tree::Apply(word, args), rest))
 }
 
 /// An application, behind its `(`.
@@ -346,8 +344,22 @@ fn swapped<'a, 's>(
     let (right, rest) = side(rest).ok_or(ReadError::Grammar)?;
     let (body, rest) = term(alloc, levels, rest)?;
     let rest = after_close(rest).ok_or(ReadError::Grammar)?;
-    let swapping = Box::new(alloc, Swapping { left, right, body })?;
-    Ok((Tree::Swapped(swapping), rest))
+    let sides = Box::new(alloc, Sides { left, right })?;
+    Ok((Tree::Swapped(sides, Box::new(alloc, body)?), rest))
+}
+
+/// A term alone as a list, and what follows it.
+fn begun<'a, 's>(
+    alloc: Global,
+    first: Tree<'a>,
+    after: &'s [Symbol<'a>],
+) -> Result<(Vec<Tree<'a>>, &'s [Symbol<'a>]), AllocError>
+    ensures first { IfOk result (λ r. r.0.items ≡ first.entry ∷ []) }
+    ensures behind { IfOk result (λ r. r.1.now ≡ after.now) }
+{
+    let mut all = Vec::new(alloc);
+    all.push(first)?;
+    Ok((all, after))
 }
 
 /// The terms that begin the symbols, with commas between, and what follows them, behind the first of them.
@@ -359,15 +371,13 @@ fn further_terms<'a, 's>(
     first: Tree<'a>,
     after: &'s [Symbol<'a>],
 ) -> Result<(Vec<Tree<'a>>, &'s [Symbol<'a>]), ReadError>
-    requires first { read_term levels (syms symbols.now) ≡ Some (term_of first.entry, syms after.now) }
+    requires first { read_term levels (syms symbols.now) ≡ Some (term_of first, syms after.now) }
     requires behind { length after.now < length symbols.now }
     ensures value { GivesPart (λ r. (trees_of r.0.items, syms r.1.now)) result (separated
         after_comma (read_term levels) (length symbols.now) (syms symbols.now)) }
     ensures shorter { IfOk result (λ r. length r.1.now < length symbols.now) }
 {
-    let mut all = Vec::new(alloc);
-    all.push(first)?;
-    let mut rest = after;
+    let (mut all, mut rest) = begun(alloc, first, after)?;
     while let Some(after) = after_comma(rest) {
         let (next, left) = term(alloc, levels, after)?;
         all.push(next)?;

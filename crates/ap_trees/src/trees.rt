@@ -11,37 +11,19 @@ pub enum Binder<'a> {
     Var(&'a str),
 }
 
+/// The two sides of a swapping.
+#[derive(Clone, Copy, Debug, PartialEq, Eq)]
+pub struct Sides<'a> {
+    pub left: Binder<'a>,
+    pub right: Binder<'a>,
+}
+
 /// The arguments of an application, of which there is one at least.
 #[cycle(tree)]
 #[derive(Debug)]
 pub enum Args<'a> {
     Last(Tree<'a>),
     More(Tree<'a>, Box<Args<'a>>),
-}
-
-/// A word applied to arguments.
-#[cycle(tree)]
-#[derive(Debug, Drop)]
-pub struct Application<'a> {
-    pub word: &'a str,
-    pub args: Args<'a>,
-}
-
-/// What stands left of `\`, and the term behind it.
-#[cycle(tree)]
-#[derive(Debug, Drop)]
-pub struct Abstraction<'a> {
-    pub binder: Binder<'a>,
-    pub body: Tree<'a>,
-}
-
-/// The two sides of a swapping, and the term on which it acts.
-#[cycle(tree)]
-#[derive(Debug, Drop)]
-pub struct Swapping<'a> {
-    pub left: Binder<'a>,
-    pub right: Binder<'a>,
-    pub body: Tree<'a>,
 }
 
 /// A term as it is written. A word alone is a name or a constructor.
@@ -51,12 +33,13 @@ pub enum Tree<'a> {
     Unit,
     Var(&'a str),
     Word(&'a str),
-    Apply(Box<Application<'a>>),
+    Apply(&'a str, Box<Args<'a>>),
     Pair(Box<Tree<'a>>, Box<Tree<'a>>),
     Nil,
     Cell(Box<Tree<'a>>, Box<Tree<'a>>),
-    Abs(Box<Abstraction<'a>>),
-    Swapped(Box<Swapping<'a>>),
+    Abs(Binder<'a>, Box<Tree<'a>>),
+    /// The sides stand apart, since a swapping is rare and they take more room than all else.
+    Swapped(Box<Sides<'a>>, Box<Tree<'a>>),
 }
 
 impl Drop for Args<'_> {
@@ -77,20 +60,11 @@ impl Drop for Tree<'_> {
         loop {
             match self {
                 Tree::Unit | Tree::Var(_) | Tree::Word(_) | Tree::Nil => return,
-                Tree::Apply(application) => {
-                    let Application { args: _args, .. } = Box::into_inner(application);
-                    return;
-                }
+                Tree::Apply(_word, _args) => return,
                 Tree::Pair(_left, right) => self = Box::into_inner(right),
                 Tree::Cell(_head, tail) => self = Box::into_inner(tail),
-                Tree::Abs(abstraction) => {
-                    let Abstraction { body, .. } = Box::into_inner(abstraction);
-                    self = body;
-                }
-                Tree::Swapped(swapping) => {
-                    let Swapping { body, .. } = Box::into_inner(swapping);
-                    self = body;
-                }
+                Tree::Abs(_name, body) => self = Box::into_inner(body),
+                Tree::Swapped(_sides, body) => self = Box::into_inner(body),
             }
         }
     }

@@ -169,9 +169,9 @@ pub fn write_tree(
                 write_nil(out, context)?;
                 return write_closers(out, closers);
             }
-            Tree::Apply(application) => {
-                begin_apply(out, application.word, context)?;
-                write_arguments(alloc, out, &application.args)?;
+            Tree::Apply(word, args) => {
+                begin_apply(out, word, context)?;
+                write_arguments(alloc, out, args)?;
                 out.push(b')')?;
                 write_closers(out, closers)?;
                 return Ok(());
@@ -189,16 +189,16 @@ pub fn write_tree(
                 context = Context::Rest;
                 rest = tail;
             }
-            Tree::Abs(abstraction) => {
-                begin_abs(out, &abstraction.binder, context)?;
+            Tree::Abs(name, body) => {
+                begin_abs(out, name, context)?;
                 context = Context::Whole;
-                rest = &abstraction.body;
+                rest = body;
             }
-            Tree::Swapped(swapping) => {
-                begin_swap(out, &swapping.left, &swapping.right, context)?;
+            Tree::Swapped(sides, body) => {
+                begin_swap(out, &sides.left, &sides.right, context)?;
                 closers.push(b')')?;
                 context = Context::Whole;
-                rest = &swapping.body;
+                rest = body;
             }
         }
     }

@@ -1,4 +1,4 @@
-use Rattle.std.proofs.Common.{◌≡◌, ◌+◌, ◌++◌, ◌∷◌, [], Some, None, vec_len, arith, sym, ◌∙◌, ap, refl}
+use Rattle.std.proofs.Common.{◌≡◌, ◌+◌, ◌++◌, ◌∷◌, [], Some, None, vec_len, length, arith, sym, ◌∙◌, ap, refl}
 use Rattle.std.proofs.lemmas.List.{map-append}
 use Rattle.std.proofs.lemmas.Result.{err_from_is_err_and}
 use Rattle.ap_trees.specs.Readers.{after_comma}
@@ -12,13 +12,15 @@ use Rattle.ap_syntax.proofs.goals.+goals.Goals as goal
 
 pub further_conjunctions-loop-after-init : goal.further_conjunctions-loop-after-init
 further_conjunctions-loop-after-init t c =
-    let items : goals_of c.push.new.self.items ≡ goal_of_tree c.args.first ∷ [] = rw (c.in_ok-push.ensures.items, c.new-all.ensures.items) refl in
-    let one : vec_len c.push.new.self ≡ 1 = omega (arith, c.in_ok-push.ensures.len, c.new-all.ensures.len) in
+    let all = c.in_ok-all.all in
+    let items : goals_of all.items ≡ goal_of_tree c.args.first ∷ [] = ap goals_of c.in_ok-all.ensures.first in
+    let one : vec_len all ≡ 1 = ap length c.in_ok-all.ensures.first in
+    let behind = c.in_ok-all.ensures.behind in
     let shorter = c.requires.behind in
     record {
-      read = rw items (separated_first after_semicolon (read_conj (read_goal c.args.levels)) _ _ _ _ _ (omega arith) c.requires.first);
-      enough = omega arith;
-      some = shorter;
+      read = rw (items, behind) (separated_first after_semicolon (read_conj (read_goal c.args.levels)) _ _ _ _ _ (omega arith) c.requires.first);
+      enough = rw behind (omega arith);
+      some = rw behind shorter;
     }
 
 pub further_conjunctions-returns-in_err-next-clause-value : goal.further_conjunctions-returns-in_err-next-clause-value
@@ -43,13 +45,15 @@ further_conjunctions-loop-after-preserved t c =
 
 pub further_goals-loop-after-init : goal.further_goals-loop-after-init
 further_goals-loop-after-init t c =
-    let items : goals_of c.push.new.self.items ≡ goal_of_tree c.args.first ∷ [] = rw (c.in_ok-push.ensures.items, c.new-all.ensures.items) refl in
-    let one : vec_len c.push.new.self ≡ 1 = omega (arith, c.in_ok-push.ensures.len, c.new-all.ensures.len) in
+    let all = c.in_ok-all.all in
+    let items : goals_of all.items ≡ goal_of_tree c.args.first ∷ [] = ap goals_of c.in_ok-all.ensures.first in
+    let one : vec_len all ≡ 1 = ap length c.in_ok-all.ensures.first in
+    let behind = c.in_ok-all.ensures.behind in
     let shorter = c.requires.behind in
     record {
-      read = rw items (separated_first after_comma (read_simple (read_goal c.args.levels)) _ _ _ _ _ (omega arith) c.requires.first);
-      enough = omega arith;
-      some = shorter;
+      read = rw (items, behind) (separated_first after_comma (read_simple (read_goal c.args.levels)) _ _ _ _ _ (omega arith) c.requires.first);
+      enough = rw behind (omega arith);
+      some = rw behind shorter;
     }
 
 pub further_goals-returns-in_err-next-clause-value : goal.further_goals-returns-in_err-next-clause-value

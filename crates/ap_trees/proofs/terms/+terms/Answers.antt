@@ -1,4 +1,4 @@
-use Rattle.std.proofs.Common.{◌≡◌, ◌+◌, ◌++◌, ◌∷◌, [], Some, vec_len, arith, sym, ◌∙◌, ap, refl}
+use Rattle.std.proofs.Common.{◌≡◌, ◌+◌, ◌++◌, ◌∷◌, [], Some, vec_len, length, arith, sym, ◌∙◌, ap, refl}
 use Rattle.std.proofs.lemmas.List.{map-append}
 use Rattle.std.proofs.lemmas.Result.{err_from_is_err_and}
 use Rattle.ap_trees.specs.Readers.{after_comma}
@@ -16,13 +16,15 @@ term_list-returns-in_err-first-clause-value t c =
 
 pub further_terms-loop-after-init : goal.further_terms-loop-after-init
 further_terms-loop-after-init t c =
-    let items : trees_of c.push.new.self.items ≡ term_of c.args.first ∷ [] = rw (c.in_ok-push.ensures.items, c.new-all.ensures.items) refl in
-    let one : vec_len c.push.new.self ≡ 1 = omega (arith, c.in_ok-push.ensures.len, c.new-all.ensures.len) in
+    let all = c.in_ok-all.all in
+    let items : trees_of all.items ≡ term_of c.args.first ∷ [] = ap trees_of c.in_ok-all.ensures.first in
+    let one : vec_len all ≡ 1 = ap length c.in_ok-all.ensures.first in
+    let behind = c.in_ok-all.ensures.behind in
     let shorter = c.requires.behind in
     record {
-      read = rw items (separated_first after_comma (read_term c.args.levels) _ _ _ _ _ (omega arith) c.requires.first);
-      enough = omega arith;
-      some = shorter;
+      read = rw (items, behind) (separated_first after_comma (read_term c.args.levels) _ _ _ _ _ (omega arith) c.requires.first);
+      enough = rw behind (omega arith);
+      some = rw behind shorter;
     }
 
 pub further_terms-returns-in_err-next-clause-value : goal.further_terms-returns-in_err-next-clause-value
