@@ -1,5 +1,5 @@
 // Reading a goal.
-ghost use Rattle.std.specs.Prelude.{◌≡◌, ◌<◌, ◌≤◌, [], ◌∷◌, length, IfOk, Some};
+ghost use Rattle.std.specs.Prelude.{◌≡◌, ◌<◌, ◌≤◌, [], ◌∷◌, length, vec_len, IfOk, Some};
 ghost use Rattle.ap_trees.specs.Goals as trees;
 ghost use Rattle.ap_trees.specs.Outcomes.{GivesPart};
 ghost use Rattle.ap_trees.specs.Readers.{separated, after_comma};
@@ -250,6 +250,7 @@ fn begun<'a, 's>(
     after: &'s [Symbol<'a>],
 ) -> Result<(Vec<GoalTree<'a>>, &'s [Symbol<'a>]), AllocError>
     ensures first { IfOk result (λ r. r.0.items ≡ first.entry ∷ []) }
+    ensures one { IfOk result (λ r. vec_len r.0 ≡ 1) }
     ensures behind { IfOk result (λ r. r.1.now ≡ after.now) }
 {
     let mut all = Vec::new(alloc);

@@ -1,5 +1,5 @@
 // Reading a term.
-ghost use Rattle.std.specs.Prelude.{◌≡◌, ◌<◌, ◌≤◌, [], ◌∷◌, length, IfOk, IfSome, Some};
+ghost use Rattle.std.specs.Prelude.{◌≡◌, ◌<◌, ◌≤◌, [], ◌∷◌, length, vec_len, IfOk, IfSome, Some};
 ghost use Rattle.std.specs.Option.{option_map};
 ghost use Rattle.ap_trees.specs.Outcomes.{GivesPart};
 ghost use Rattle.ap_trees.specs.Readers.{separated, after_comma};
@@ -355,6 +355,7 @@ fn begun<'a, 's>(
     after: &'s [Symbol<'a>],
 ) -> Result<(Vec<Tree<'a>>, &'s [Symbol<'a>]), AllocError>
     ensures first { IfOk result (λ r. r.0.items ≡ first.entry ∷ []) }
+    ensures one { IfOk result (λ r. vec_len r.0 ≡ 1) }
     ensures behind { IfOk result (λ r. r.1.now ≡ after.now) }
 {
     let mut all = Vec::new(alloc);

@@ -1,8 +1,8 @@
 use Rattle.std.proofs.Common.{◌≡◌, ◌+◌, ◌++◌, ◌∷◌, [], Some, None, vec_len, length, arith, sym, ◌∙◌, ap, refl}
-use Rattle.std.proofs.lemmas.List.{map-append}
+use Rattle.std.proofs.lemmas.List.{map-append, length-map}
 use Rattle.std.proofs.lemmas.Result.{err_from_is_err_and}
 use Rattle.ap_trees.specs.Readers.{after_comma}
-use Rattle.ap_trees.specs.Symbols.{syms}
+use Rattle.ap_trees.specs.Symbols.{syms, sym as symbol}
 use Rattle.ap_trees.specs.Trees.{goal_of_tree, goals_of}
 use Rattle.ap_trees.proofs.Lists.{separated_first, further_on, further_fails, separated_fails, fails_on}
 use Rattle.ap_syntax.specs.GoalReader.{read_goal, read_conj, read_simple}
@@ -14,7 +14,7 @@ pub further_conjunctions-loop-after-init : goal.further_conjunctions-loop-after-
 further_conjunctions-loop-after-init t c =
     let all = c.in_ok-all.all in
     let items : goals_of all.items ≡ goal_of_tree c.args.first ∷ [] = ap goals_of c.in_ok-all.ensures.first in
-    let one : vec_len all ≡ 1 = ap length c.in_ok-all.ensures.first in
+    let one : vec_len all ≡ 1 = c.in_ok-all.ensures.one in
     let behind = c.in_ok-all.ensures.behind in
     let shorter = c.requires.behind in
     record {
@@ -31,10 +31,10 @@ further_conjunctions-returns-in_err-next-clause-value t c =
 
 pub further_conjunctions-loop-after-preserved : goal.further_conjunctions-loop-after-preserved
 further_conjunctions-loop-after-preserved t c =
-    let items : goals_of c.push-in-Some.new.self.items ≡ goals_of c.loop-after.all.items ++ goal_of_tree c.in_ok-next.next ∷ [] =
-    ap goals_of c.in_ok-push-2.ensures.items ∙ map-append goal_of_tree c.loop-after.all.items (c.in_ok-next.next ∷ []) in
+    let items : goals_of c.push.new.self.items ≡ goals_of c.loop-after.all.items ++ goal_of_tree c.in_ok-next.next ∷ [] =
+    ap goals_of c.in_ok-push.ensures.items ∙ map-append goal_of_tree c.loop-after.all.items (c.in_ok-next.next ∷ []) in
     let comma : after_semicolon (syms c.loop-after.rest.now) ≡ Some (syms c.in-Some.after.now) = sym c.in-Some.ensures.value in
-    let more : vec_len c.push-in-Some.new.self ≡ vec_len c.loop-after.all + 1 = c.in_ok-push-2.ensures.len in
+    let more : vec_len c.push.new.self ≡ vec_len c.loop-after.all + 1 = c.in_ok-push.ensures.len in
     let first = c.in-Some.ensures.shorter in
     let second = c.in_ok-next.ensures.shorter in
     record {
@@ -47,7 +47,7 @@ pub further_goals-loop-after-init : goal.further_goals-loop-after-init
 further_goals-loop-after-init t c =
     let all = c.in_ok-all.all in
     let items : goals_of all.items ≡ goal_of_tree c.args.first ∷ [] = ap goals_of c.in_ok-all.ensures.first in
-    let one : vec_len all ≡ 1 = ap length c.in_ok-all.ensures.first in
+    let one : vec_len all ≡ 1 = c.in_ok-all.ensures.one in
     let behind = c.in_ok-all.ensures.behind in
     let shorter = c.requires.behind in
     record {
@@ -64,10 +64,10 @@ further_goals-returns-in_err-next-clause-value t c =
 
 pub further_goals-loop-after-preserved : goal.further_goals-loop-after-preserved
 further_goals-loop-after-preserved t c =
-    let items : goals_of c.push-in-Some.new.self.items ≡ goals_of c.loop-after.all.items ++ goal_of_tree c.in_ok-next.next ∷ [] =
-    ap goals_of c.in_ok-push-2.ensures.items ∙ map-append goal_of_tree c.loop-after.all.items (c.in_ok-next.next ∷ []) in
+    let items : goals_of c.push.new.self.items ≡ goals_of c.loop-after.all.items ++ goal_of_tree c.in_ok-next.next ∷ [] =
+    ap goals_of c.in_ok-push.ensures.items ∙ map-append goal_of_tree c.loop-after.all.items (c.in_ok-next.next ∷ []) in
     let comma : after_comma (syms c.loop-after.rest.now) ≡ Some (syms c.in-Some.after.now) = sym c.in-Some.ensures.value in
-    let more : vec_len c.push-in-Some.new.self ≡ vec_len c.loop-after.all + 1 = c.in_ok-push-2.ensures.len in
+    let more : vec_len c.push.new.self ≡ vec_len c.loop-after.all + 1 = c.in_ok-push.ensures.len in
     let first = c.in-Some.ensures.shorter in
     let second = c.in_ok-next.ensures.shorter in
     record {
@@ -88,8 +88,8 @@ all_of-returns-in_err-first-clause-value t c =
 
 pub any_of-returns-in-None-clause-value : goal.any_of-returns-in-None-clause-value
 any_of-returns-in-None-clause-value t c =
-    disj_alone (read_goal c.args.levels) _ _ _ (omega (arith, c.in_ok-first.ensures.shorter)) c.in_ok-first.ensures.value (sym c.in-None.ensures.value)
+    disj_alone (read_goal c.args.levels) _ _ _ (omega (arith, c.in_ok-first.ensures.shorter, length-map c.args.symbols.now symbol)) c.in_ok-first.ensures.value (sym c.in-None.ensures.value)
 
 pub all_of-returns-in-None-clause-value : goal.all_of-returns-in-None-clause-value
 all_of-returns-in-None-clause-value t c =
-    conj_alone (read_goal c.args.levels) _ _ _ (omega (arith, c.in_ok-first.ensures.shorter)) c.in_ok-first.ensures.value (sym c.in-None.ensures.value)
+    conj_alone (read_goal c.args.levels) _ _ _ (omega (arith, c.in_ok-first.ensures.shorter, length-map c.args.symbols.now symbol)) c.in_ok-first.ensures.value (sym c.in-None.ensures.value)
