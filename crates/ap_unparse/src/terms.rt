@@ -194,8 +194,8 @@ pub fn write_tree(
                 context = Context::Whole;
                 rest = body;
             }
-            Tree::Swapped(left, right, body) => {
-                begin_swap(out, left, right, context)?;
+            Tree::Swapped(sides, body) => {
+                begin_swap(out, &sides.left, &sides.right, context)?;
                 closers.push(b')')?;
                 context = Context::Whole;
                 rest = body;
