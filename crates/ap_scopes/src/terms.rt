@@ -90,7 +90,7 @@ fn word_alone<'a>(
 /// Whether what is last in a term goes on in the same way. It spares work alone.
 fn goes_on(tree: &Tree<'_>) -> bool {
     match tree {
-        Tree::Pair(_, _) | Tree::Cell(_, _) | Tree::Abs(_, _) | Tree::Swapped(_, _, _) => true,
+        Tree::Pair(_, _) | Tree::Cell(_, _) | Tree::Abs(_, _) | Tree::Swapped(_, _) => true,
         Tree::Unit | Tree::Nil | Tree::Var(_) | Tree::Word(_) | Tree::Apply(_, _) => false,
     }
 }
@@ -226,9 +226,9 @@ fn resolved_spine<'a>(
                 layers.push(RawLayer::Abs(binder(scope, *spelling, found)?))?;
                 rest = body;
             }
-            Tree::Swapped(left, right, body) => {
-                let left = binder(scope, *left, found)?;
-                let right = binder(scope, *right, found)?;
+            Tree::Swapped(sides, body) => {
+                let left = binder(scope, sides.left, found)?;
+                let right = binder(scope, sides.right, found)?;
                 layers.push(RawLayer::Swapped(left, right))?;
                 rest = body;
             }
