@@ -15,20 +15,13 @@ use ap_lexer::Token;
 use ap_trees::{Item, ReadError, Symbol, symbols_of};
 use std::alloc::{AllocError, Global};
 
-/// Whether the token is `.`.
-fn ends_item(token: &Token<'_>) -> bool
-    ensures { result ≡ is_dot (lexeme token.now) }
-{
-    matches!(token.text.as_bytes(), [b'.'])
-}
-
 /// The place of the first `.`.
 fn dot_place(tokens: &[Token<'_>]) -> Option<usize>
     ensures value { result ≡ first_dot (lexemes tokens.now) }
     ensures inside { IfSome result (λ place. place < length tokens.now) }
 {
     for (place, token) in tokens.iter().enumerate() {
-        if ends_item(token) {
+        if token.text == "." {
             return Some(place);
         }
     }

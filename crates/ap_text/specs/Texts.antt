@@ -33,10 +33,6 @@ HasItems text items = (ts : List Lexeme) × (lexed text ≡ Ok ts) × Reads 1 ts
 abbrev pub HasSyntaxFault : List ℕ → SyntaxFault → Type 0
 HasSyntaxFault text f = (ts : List Lexeme) × (lexed text ≡ Ok ts) × Reads 1 ts (Err f)
 
--- the items of the text make this program, whose swappings are not carried out
-abbrev pub HasTypedItems : List ℕ → ProgramOver RawTerm → Type 0
-HasTypedItems text raw = (items : List ItemOf) × HasItems text items × IsProgramOf items raw
-
 -- The text has no fault, and this is its program: its items make a program, each of them keeps the name restriction, and
 -- the swappings are carried out.
 pub record IsProgramOfText (text : List ℕ) (p : NominalProgram) : Type 0 where
