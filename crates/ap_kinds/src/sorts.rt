@@ -10,8 +10,8 @@ ghost use Rattle.ap_kinds.specs.Sorts.{name_with_sort, id_with_sort, with_sorts,
 use ap_defs::goals::{Goal, Kind};
 use ap_defs::lists::List;
 use ap_defs::memory::Memory;
-use ap_defs::terms::{Id, Name, Raw};
-use ap_spines::{GoalLayer, RawLayer, close_goal, close_raw};
+use ap_defs::terms::{Id, Name, Raw, Under};
+use ap_spines::{GoalLayer, RawLayer, close_goal, close_raw, swapping_layer};
 use std::alloc::Global;
 
 /// The kind with a number.
@@ -75,15 +75,18 @@ fn with_sorts(alloc: Global, kinds: &[Kind], t: &Raw) -> Result<Raw, Memory>
                 layers.push(RawLayer::App(*f))?;
                 rest = argument;
             }
-            Raw::Abs(i, body) => {
-                layers.push(RawLayer::Abs(id_with_sort(kinds, *i)))?;
-                rest = body;
-            }
-            Raw::Swapped(i, j, body) => {
-                let layer = RawLayer::Swapped(id_with_sort(kinds, *i), id_with_sort(kinds, *j));
-                layers.push(layer)?;
-                rest = body;
-            }
+            Raw::Under(under) => match &**under {
+                Under::Abs(i, body) => {
+                    layers.push(RawLayer::Abs(id_with_sort(kinds, *i)))?;
+                    rest = body;
+                }
+                Under::Swapped(places, body) => {
+                    let left = id_with_sort(kinds, places.left);
+                    let right = id_with_sort(kinds, places.right);
+                    layers.push(swapping_layer(alloc, left, right)?)?;
+                    rest = body;
+                }
+            },
         }
     }
 }

@@ -15,7 +15,7 @@ use crate::systems::{System, equate, refused, with_hole};
 use crate::wants::{Wanted, meet_name, meet_swapped, meet_unit, meet_var, wanted_all};
 use ap_defs::goals::Constructor;
 use ap_defs::memory::Memory;
-use ap_defs::terms::{Id, Raw, Shape, take_pair};
+use ap_defs::terms::{Id, Raw, Shape, Under, take_pair};
 use std::alloc::Global;
 
 /// What is wanted of the two sides of a pair.
@@ -179,14 +179,16 @@ pub(crate) fn gather_term<'a>(
                 at = inside_application(alloc, constructors, *f, at.want, at.system)?;
                 rest = argument;
             }
-            Raw::Abs(i, body) => {
-                at = inside_binder(alloc, idents, *i, at)?;
-                rest = body;
-            }
-            Raw::Swapped(i, j, body) => {
-                at = inside_swapping(idents, *i, *j, at)?;
-                rest = body;
-            }
+            Raw::Under(under) => match &**under {
+                Under::Abs(i, body) => {
+                    at = inside_binder(alloc, idents, *i, at)?;
+                    rest = body;
+                }
+                Under::Swapped(places, body) => {
+                    at = inside_swapping(idents, places.left, places.right, at)?;
+                    rest = body;
+                }
+            },
         }
     }
 }

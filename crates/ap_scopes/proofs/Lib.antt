@@ -4,4 +4,6 @@ pub mod FlawLemmas
 pub mod Numbering
 pub mod Orders
 pub mod TreeSizes
+pub mod MarkLemmas
 pub mod LayerLemmas
+pub mod FewLemmas

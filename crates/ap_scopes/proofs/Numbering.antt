@@ -45,3 +45,10 @@ name-blank (OfVar v) w h = refl
 pub variable-blank : (s : Name) (w : List ℕ) → is_blank_name s ≡ true → bytes_eq w (codes "_") ≡ false → same_spelling (OfVar w) s ≡ false
 variable-blank (OfWord v) w h other = refl
 variable-blank (OfVar v) w h other = ap (bytes_eq w) ((bytes_eq-Decides v (codes "_")).0 h) ∙ other
+
+-- what stands in tables, where as many tables are there as before
+pub in_tables : (b c : Bool) (p q : Option ℕ) → c ≡ b → q ≡ p → (if b then p else None) ≡ (if c then q else None)
+in_tables b c p q e h = ap (λ x. if x then p else None) (sym e) ∙ ap (λ r. if c then r else None) (sym h)
+
+pub no_tables : (b : Bool) (p : Option ℕ) → b ≡ false → (if b then p else None) ≡ None
+no_tables b p e = ap (λ x. if x then p else None) e

@@ -4,4 +4,5 @@ pub mod Identifiers
 pub mod Resolution
 pub mod Flaws
 pub mod Words
+pub mod Marks
 pub mod Views

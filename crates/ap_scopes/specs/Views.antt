@@ -1,5 +1,5 @@
 -- The tables and states of the code, without where their words lie in memory.
-use Rattle.std.specs.Prelude.{◌≡◌, ◌+◌, ◌≤◌, ℕ, false, List, [], ◌∷◌, map, length, Option, codes}
+use Rattle.std.specs.Prelude.{◌≡◌, ◌+◌, ◌≤◌, ℕ, false, List, [], ◌∷◌, map, length, Option, None, if◌then◌else◌, codes}
 use Rattle.std.specs.Str.{bytes_eq}
 use Rattle.indexmap.specs.IndexMap.{get_by}
 use Rattle.ap_defs.specs.Types.{NominalSignature, signature_of}
@@ -50,7 +50,7 @@ abbrev pub scope_of : brought.Brought → Scope
 scope_of brought.Nothing = []
 scope_of (brought.Inner' name n p outer) = (name_of_binder name, n) ∷ scope_of outer
 
--- The tables have the numbers of the identifiers that belong to the whole clause or query.
+-- The tables have the numbers of the identifiers that belong to the whole clause or query, or there are none yet.
 pub record IsNumbered (f : Identifiers) : Type 0 where
-  pub names : (w : List ℕ) → number_at f.names w ≡ free_place (found_of f) (OfWord w)
-  pub variables : (w : List ℕ) → bytes_eq w (codes "_") ≡ false → number_at f.variables w ≡ free_place (found_of f) (OfVar w)
+  pub names : (w : List ℕ) → number_at f.names w ≡ (if f.has_tables then free_place (found_of f) (OfWord w) else None)
+  pub variables : (w : List ℕ) → bytes_eq w (codes "_") ≡ false → number_at f.variables w ≡ (if f.has_tables then free_place (found_of f) (OfVar w) else None)

@@ -13,6 +13,7 @@ pub mod goal_flaws;
 pub mod goals;
 pub mod identifiers;
 pub mod item_flaws;
+mod marks;
 pub mod numbers;
 pub mod terms;
 pub mod text_words;

@@ -1,6 +1,7 @@
 //! A table of the numbers of words.
 ghost use Rattle.std.specs.Prelude.{◌≡◌, ℕ, List, None, Some, OnOk, if◌then◌else◌};
 ghost use Rattle.std.specs.Str.{bytes_eq};
+ghost use Rattle.ap_scopes.specs.Declarations.{or_else};
 ghost use Rattle.ap_scopes.specs.Views.{number_at};
 
 use ap_defs::memory::Memory;
@@ -38,5 +39,17 @@ impl<'a> Numbers<'a> {
     {
         self.places.insert(word, number)?;
         Ok(())
+    }
+
+    /// A word that has no number gets one. `Err` is want of memory.
+    pub fn set_first(&mut self, word: &'a str, number: u64) -> Result<(), Memory>
+        ensures { OnOk result ((w : List ℕ) →
+            number_at self.new w
+            ≡ or_else (number_at self.old w) (if bytes_eq w word.entry.now then Some number else None)) }
+    {
+        match self.get(word) {
+            Some(_) => Ok(()),
+            None => self.set(word, number),
+        }
     }
 }

@@ -3,7 +3,7 @@ ghost use Rattle.std.specs.Prelude.{◌≡◌, ◌<◌, ◌≤◌, ◌+◌, ◌^
 ghost use Rattle.ap_defs.specs.RawTerms.{raw_of};
 ghost use Rattle.ap_defs.specs.Limits.{size_limit};
 ghost use Rattle.ap_trees.specs.Trees.{term_of, terms_of, trees_of, name_of_binder};
-ghost use Rattle.ap_trees.specs.Terms.{OfWord, OfVar};
+ghost use Rattle.ap_trees.specs.Terms.{OfWord, OfVar, Apply, Abs, Last, More};
 ghost use Rattle.ap_scopes.specs.Resolution as spec;
 ghost use Rattle.ap_scopes.specs.Declarations.{constructor_place};
 ghost use Rattle.ap_scopes.specs.Views.{IsIndexed, IsSmall, IsNumbered, declared_of, found_of, scope_of};
@@ -13,7 +13,7 @@ use crate::identifiers::{Brought, Identifiers};
 use ap_defs::lists::List;
 use ap_defs::memory::Memory;
 use ap_defs::terms::{Id, Name, Raw, Var};
-use ap_spines::{RawLayer, close_raw};
+use ap_spines::{RawLayer, close_raw, raw_abs, raw_pair, swapping_layer};
 use ap_trees::{Args, Binder, Tree};
 use std::alloc::Global;
 
@@ -87,11 +87,98 @@ fn word_alone<'a>(
     }
 }
 
+/// Whether what is last in a term goes on in the same way. It spares work alone.
+fn goes_on(tree: &Tree<'_>) -> bool {
+    match tree {
+        Tree::Pair(_, _) | Tree::Cell(_, _) | Tree::Abs(_, _) | Tree::Swapped(_, _, _) => true,
+        Tree::Unit | Tree::Nil | Tree::Var(_) | Tree::Word(_) | Tree::Apply(_, _) => false,
+    }
+}
+
 /// A term with numbers for its words. `Err` is want of memory.
 ///
-/// It goes on along what is last in a term, and comes to itself on left parts and arguments alone.
+/// It comes to itself on left parts and arguments alone.
 #[cycle(terms)]
 pub fn resolved_term<'a>(
+    alloc: Global,
+    declared: &Declarations<'_>,
+    scope: &Brought<'_, 'a>,
+    tree: &Tree<'a>,
+    found: &mut Identifiers<'a>,
+) -> Result<Raw, Memory>
+    requires indexed { IsIndexed declared.now }
+    requires small { IsSmall declared.now }
+    requires numbered { IsNumbered found.old }
+    ensures value { IfOk result (λ t. (raw_of t, found_of found.new)
+        ≡ spec.resolved_term (declared_of declared.now) (scope_of scope.now) (term_of tree.now)
+        (found_of found.old)) }
+    ensures numbered { OnOk result (IsNumbered found.new) }
+{
+    match tree {
+        Tree::Unit => Ok(Raw::Unit),
+        Tree::Var(word) => identifier(scope, Binder::Var(word), found),
+        Tree::Word(word) => word_alone(alloc, declared, scope, word, found),
+        Tree::Apply(word, args) => resolved_application(alloc, declared, scope, word, args, found),
+        Tree::Abs(spelling, body) => {
+            if goes_on(body) {
+                return resolved_spine(alloc, declared, scope, tree, found);
+            }
+            resolved_abstraction(alloc, declared, scope, *spelling, body, found)
+        }
+        _ => resolved_spine(alloc, declared, scope, tree, found),
+    }
+}
+
+/// An abstraction.
+#[cycle(terms)]
+#[tactic(auto, using(crate::proofs::Orders::in_order_is))]
+fn resolved_abstraction<'a>(
+    alloc: Global,
+    declared: &Declarations<'_>,
+    scope: &Brought<'_, 'a>,
+    spelling: Binder<'a>,
+    body: &Tree<'a>,
+    found: &mut Identifiers<'a>,
+) -> Result<Raw, Memory>
+    requires indexed { IsIndexed declared.now }
+    requires small { IsSmall declared.now }
+    requires numbered { IsNumbered found.old }
+    ensures value { IfOk result (λ t. (raw_of t, found_of found.new)
+        ≡ spec.resolved_term (declared_of declared.now) (scope_of scope.now)
+        (Abs (name_of_binder spelling.entry) (term_of body.now)) (found_of found.old)) }
+    ensures numbered { OnOk result (IsNumbered found.new) }
+{
+    let id = binder(scope, spelling, found)?;
+    let body = resolved_term(alloc, declared, scope, body, found)?;
+    raw_abs(alloc, id, body)
+}
+
+/// A constructor with its arguments.
+#[cycle(terms)]
+fn resolved_application<'a>(
+    alloc: Global,
+    declared: &Declarations<'_>,
+    scope: &Brought<'_, 'a>,
+    word: &'a str,
+    args: &Args<'a>,
+    found: &mut Identifiers<'a>,
+) -> Result<Raw, Memory>
+    requires indexed { IsIndexed declared.now }
+    requires small { IsSmall declared.now }
+    requires numbered { IsNumbered found.old }
+    ensures value { IfOk result (λ t. (raw_of t, found_of found.new)
+        ≡ spec.resolved_term (declared_of declared.now) (scope_of scope.now)
+        (Apply word.now (terms_of args.now)) (found_of found.old)) }
+    ensures numbered { OnOk result (IsNumbered found.new) }
+{
+    let number = constructor_number(declared.constructor_place(word));
+    let argument = resolved_arguments(alloc, declared, scope, args, found)?;
+    Ok(Raw::App(number, Box::new(alloc, argument)?))
+}
+
+/// A term that goes on to the right: it goes along what is last in it.
+#[cycle(terms)]
+fn resolved_spine<'a>(
     alloc: Global,
     declared: &Declarations<'_>,
     scope: &Brought<'_, 'a>,
@@ -124,18 +211,15 @@ pub fn resolved_term<'a>(
                 return close_raw(alloc, layers, alone);
             }
             Tree::Apply(word, args) => {
-                let number = constructor_number(declared.constructor_place(word));
-                layers.push(RawLayer::App(number))?;
-                let args = resolved_arguments(alloc, declared, scope, args, found)?;
-                return close_raw(alloc, layers, args);
+                let applied = resolved_application(alloc, declared, scope, word, args, found)?;
+                return close_raw(alloc, layers, applied);
             }
             Tree::Pair(left, right) => {
                 layers.push(RawLayer::Left(resolved_term(alloc, declared, scope, left, found)?))?;
                 rest = right;
             }
             Tree::Cell(head, tail) => {
-                layers.push(RawLayer::App(1))?;
-                layers.push(RawLayer::Left(resolved_term(alloc, declared, scope, head, found)?))?;
+                layers.push(RawLayer::Cell(resolved_term(alloc, declared, scope, head, found)?))?;
                 rest = tail;
             }
             Tree::Abs(spelling, body) => {
@@ -145,16 +229,66 @@ pub fn resolved_term<'a>(
             Tree::Swapped(left, right, body) => {
                 let left = binder(scope, *left, found)?;
                 let right = binder(scope, *right, found)?;
-                layers.push(RawLayer::Swapped(left, right))?;
+                layers.push(swapping_layer(alloc, left, right)?)?;
                 rest = body;
             }
         }
     }
 }
 
-/// Arguments as one term: their tuple, written out as pairs.
+/// Arguments as one term: one is itself, two are a pair, and more are their tuple.
 #[cycle(terms)]
 fn resolved_arguments<'a>(
+    alloc: Global,
+    declared: &Declarations<'_>,
+    scope: &Brought<'_, 'a>,
+    args: &Args<'a>,
+    found: &mut Identifiers<'a>,
+) -> Result<Raw, Memory>
+    requires indexed { IsIndexed declared.now }
+    requires small { IsSmall declared.now }
+    requires numbered { IsNumbered found.old }
+    ensures value { IfOk result (λ t. (raw_of t, found_of found.new)
+        ≡ spec.resolved_arguments (declared_of declared.now) (scope_of scope.now)
+        (terms_of args.now) (found_of found.old)) }
+    ensures numbered { OnOk result (IsNumbered found.new) }
+{
+    match args {
+        Args::Last(last) => resolved_term(alloc, declared, scope, last, found),
+        Args::More(first, more) => match &**more {
+            Args::Last(second) => resolved_two(alloc, declared, scope, first, second, found),
+            Args::More(_, _) => resolved_tuple(alloc, declared, scope, args, found),
+        },
+    }
+}
+
+/// Two arguments as one term: their pair.
+#[cycle(terms)]
+#[tactic(auto, using(crate::proofs::Orders::in_order_is))]
+fn resolved_two<'a>(
+    alloc: Global,
+    declared: &Declarations<'_>,
+    scope: &Brought<'_, 'a>,
+    first: &Tree<'a>,
+    second: &Tree<'a>,
+    found: &mut Identifiers<'a>,
+) -> Result<Raw, Memory>
+    requires indexed { IsIndexed declared.now }
+    requires small { IsSmall declared.now }
+    requires numbered { IsNumbered found.old }
+    ensures value { IfOk result (λ t. (raw_of t, found_of found.new)
+        ≡ spec.resolved_arguments (declared_of declared.now) (scope_of scope.now)
+        (More (term_of first.now) (Last (term_of second.now))) (found_of found.old)) }
+    ensures numbered { OnOk result (IsNumbered found.new) }
+{
+    let left = resolved_term(alloc, declared, scope, first, found)?;
+    let right = resolved_term(alloc, declared, scope, second, found)?;
+    raw_pair(alloc, left, right)
+}
+
+/// Arguments as one term: their tuple, written out as pairs.
+#[cycle(terms)]
+fn resolved_tuple<'a>(
     alloc: Global,
     declared: &Declarations<'_>,
     scope: &Brought<'_, 'a>,
@@ -201,7 +335,7 @@ pub fn resolved_terms<'a>(
         (found_of found.old)) }
     ensures numbered { OnOk result (IsNumbered found.new) }
 {
-    let mut terms = Vec::new(alloc);
+    let mut terms = Vec::with_capacity(alloc, trees.len())?;
     for tree in trees {
         terms.push(resolved_term(alloc, declared, scope, tree, found)?)?;
     }

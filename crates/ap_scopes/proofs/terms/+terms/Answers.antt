@@ -13,8 +13,8 @@ use Rattle.ap_scopes.proofs.TreeSizes.{term_size, terms_size}
 use Rattle.ap_scopes.proofs.Orders.{in_order_is}
 use Rattle.ap_scopes.proofs.terms.+terms.Goals as goal
 
-pub resolved_arguments-loop-rest-preserved : goal.resolved_arguments-loop-rest-preserved
-resolved_arguments-loop-rest-preserved t c =
+pub resolved_tuple-loop-rest-preserved : goal.resolved_tuple-loop-rest-preserved
+resolved_tuple-loop-rest-preserved t c =
     let d = declared_of c.args.declared.now in
     let s = scope_of c.args.scope.now in
     let first = c.in_ok-resolved_term-in-More.field-0 in
@@ -30,24 +30,8 @@ resolved_arguments-loop-rest-preserved t c =
       smaller = let k : terms_size (terms.More (term_of c.in-More.first) more) ≤ terms_size (terms_of c.args.args.now) = rw is at c.loop-rest.invariant.smaller in omega arith;
     }
 
-pub resolved_term-returns-in-Apply-clause-value : goal.resolved_term-returns-in-Apply-clause-value
-resolved_term-returns-in-Apply-clause-value t c =
-    let d = declared_of c.args.declared.now in
-    let s = scope_of c.args.scope.now in
-    let before = found_of c.loop-rest.found in
-    let word = c.in-Apply.word.now in
-    let number = c.constructor_number-number.result in
-    let rest = terms_of c.in-Apply.args.value in
-    let place : number ≡ constructor_number (constructor_place d word) = c.constructor_number-number.ensures ∙ ap constructor_number c.constructor_place.ensures in
-    let whole : resolved_term d s (term_of c.loop-rest.rest.now) before ≡ made (app number) (resolved_arguments d s rest before) =
-    ap (λ (u : Tree). resolved_term d s (term_of u) before) c.in-Apply.is ∙ ap (λ n. made (app n) (resolved_arguments d s rest before)) (sym place) in
-    let value : (raw_of c.in_ok-args-in-Apply.args, found_of c.resolved_arguments.new.found) ≡ resolved_arguments d s rest before =
-    c.in_ok-args-in-Apply.ensures.value ∙ ap (λ (u : Args). resolved_arguments d s (terms_of u) before) c.deref.ensures in
-    raw_end c.close_raw-in-Apply.result c.push.new.self.items (raw_of c.in_ok-args-in-Apply.args) (found_of c.resolved_arguments.new.found) (resolved_arguments d s rest before) _ c.close_raw-in-Apply.ensures value
-    (raw_goes_in c.loop-rest.layers.items c.push.new.self.items (around.App number) (resolved_term d s (term_of c.loop-rest.rest.now) before) (resolved_arguments d s rest before) _ c.in_ok-push-in-Apply.ensures.items whole c.loop-rest.invariant.all)
-
-pub resolved_term-loop-rest-preserved-in-Pair : goal.resolved_term-loop-rest-preserved-in-Pair
-resolved_term-loop-rest-preserved-in-Pair t c =
+pub resolved_spine-loop-rest-preserved-in-Pair : goal.resolved_spine-loop-rest-preserved-in-Pair
+resolved_spine-loop-rest-preserved-in-Pair t c =
     let d = declared_of c.args.declared.now in
     let s = scope_of c.args.scope.now in
     let first = c.in_ok-resolved_term-in-Pair.field-0 in
@@ -64,8 +48,8 @@ resolved_term-loop-rest-preserved-in-Pair t c =
       smaller = let k : term_size (terms.Pair left right) ≤ term_size (term_of c.args.tree.now) = rw is at c.loop-rest.invariant.smaller in omega arith;
     }
 
-pub resolved_term-loop-rest-preserved-in-Cell : goal.resolved_term-loop-rest-preserved-in-Cell
-resolved_term-loop-rest-preserved-in-Cell t c =
+pub resolved_spine-loop-rest-preserved-in-Cell : goal.resolved_spine-loop-rest-preserved-in-Cell
+resolved_spine-loop-rest-preserved-in-Cell t c =
     let d = declared_of c.args.declared.now in
     let s = scope_of c.args.scope.now in
     let first = c.in_ok-resolved_term-in-Cell.field-0 in
@@ -75,17 +59,15 @@ resolved_term-loop-rest-preserved-in-Cell t c =
     let after = found_of c.resolved_term-in-Cell.new.found in
     let is : term_of c.loop-rest.rest.now ≡ terms.Cell head tail = ap term_of c.in-Cell.is ∙ ap (λ (u : Tree). terms.Cell head (term_of u)) (sym c.deref-rest-in-Cell.ensures) in
     let value : (raw_of first, after) ≡ resolved_term d s head before = c.in_ok-resolved_term-in-Cell.ensures.value ∙ ap (λ (u : Tree). resolved_term d s (term_of u) before) c.deref-in-Cell.ensures in
-    let parts = in_order pair (resolved_term d s head) (resolved_term d s tail) before in
     record {
-      all = raw_goes_in c.push-in-Cell.new.self.items c.push-in-Cell-2.new.self.items (around.Left first) parts (resolved_term d s tail after) _ c.in_ok-push-in-Cell-2.ensures.items
-          (then_is pair (resolved_term d s head) (resolved_term d s tail) before after (raw_of first) value)
-          (raw_goes_in c.loop-rest.layers.items c.push-in-Cell.new.self.items (around.App 1) (resolved_term d s (term_of c.loop-rest.rest.now) before) parts _ c.in_ok-push-in-Cell.ensures.items (ap (λ u. resolved_term d s u before) is) c.loop-rest.invariant.all);
+      all = raw_goes_in c.loop-rest.layers.items c.push-in-Cell.new.self.items (around.Cell first) (resolved_term d s (term_of c.loop-rest.rest.now) before) (resolved_term d s tail after) _ c.in_ok-push-in-Cell.ensures.items
+          (ap (λ u. resolved_term d s u before) is ∙ ap (made (app 1)) (then_is pair (resolved_term d s head) (resolved_term d s tail) before after (raw_of first) value)) c.loop-rest.invariant.all;
       numbered = c.in_ok-resolved_term-in-Cell.ensures.numbered;
       smaller = let k : term_size (terms.Cell head tail) ≤ term_size (term_of c.args.tree.now) = rw is at c.loop-rest.invariant.smaller in omega arith;
     }
 
-pub resolved_term-loop-rest-preserved-in-Abs : goal.resolved_term-loop-rest-preserved-in-Abs
-resolved_term-loop-rest-preserved-in-Abs t c =
+pub resolved_spine-loop-rest-preserved-in-Abs : goal.resolved_spine-loop-rest-preserved-in-Abs
+resolved_spine-loop-rest-preserved-in-Abs t c =
     let d = declared_of c.args.declared.now in
     let s = scope_of c.args.scope.now in
     let id = c.in_ok-binder-in-Abs.field-0 in
@@ -101,8 +83,8 @@ resolved_term-loop-rest-preserved-in-Abs t c =
       smaller = let k : term_size (terms.Abs spelling body) ≤ term_size (term_of c.args.tree.now) = rw is at c.loop-rest.invariant.smaller in omega arith;
     }
 
-pub resolved_term-loop-rest-preserved : goal.resolved_term-loop-rest-preserved
-resolved_term-loop-rest-preserved t c =
+pub resolved_spine-loop-rest-preserved : goal.resolved_spine-loop-rest-preserved
+resolved_spine-loop-rest-preserved t c =
     let d = declared_of c.args.declared.now in
     let s = scope_of c.args.scope.now in
     let i = c.in_ok-left-in-Swapped.left in
@@ -115,9 +97,11 @@ resolved_term-loop-rest-preserved t c =
     let after = found_of c.binder-in-Swapped-2.new.found in
     let is : term_of c.loop-rest.rest.now ≡ terms.Swapped left right body = ap term_of c.in-Swapped.is ∙ ap (λ (u : Tree). terms.Swapped left right (term_of u)) (sym c.deref-rest-in-Swapped.ensures) in
     let ends = in_order_is two_ids (binder s left) (binder s right) before between after i j c.in_ok-left-in-Swapped.ensures.value c.in_ok-right-in-Swapped.ensures.value in
+    let layer = c.in_ok-swapping_layer-in-Swapped.field-0 in
+    let part = resolved_term d s body after in
     record {
-      all = raw_goes_in c.loop-rest.layers.items c.push-in-Swapped.new.self.items (around.Swapped i j) (resolved_term d s (term_of c.loop-rest.rest.now) before) (resolved_term d s body after) _ c.in_ok-push-in-Swapped.ensures.items
-          (ap (λ u. resolved_term d s u before) is ∙ then_is raw_swapped_by (in_order two_ids (binder s left) (binder s right)) (resolved_term d s body) before after (i, j) ends) c.loop-rest.invariant.all;
+      all = raw_goes_in c.loop-rest.layers.items c.push-in-Swapped.new.self.items layer (resolved_term d s (term_of c.loop-rest.rest.now) before) (resolved_term d s body after) _ c.in_ok-push-in-Swapped.ensures.items
+          (ap (λ u. resolved_term d s u before) is ∙ then_is raw_swapped_by (in_order two_ids (binder s left) (binder s right)) (resolved_term d s body) before after (i, j) ends ∙ ap (λ u. (u, part.1)) (sym (c.in_ok-swapping_layer-in-Swapped.ensures part.0))) c.loop-rest.invariant.all;
       numbered = c.in_ok-right-in-Swapped.ensures.numbered;
       smaller = let k : term_size (terms.Swapped left right body) ≤ term_size (term_of c.args.tree.now) = rw is at c.loop-rest.invariant.smaller in omega arith;
     }
