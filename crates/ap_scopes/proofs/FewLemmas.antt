@@ -34,6 +34,7 @@ module _ {A : Type 0} (p : A → Bool) where
       by : (b : Bool) → p x ≡ b → position p xs ≡ None → position p (xs ++ x ∷ []) ≡ (if b then Some (length xs) else None)
       by true e none = position-hit p x e xs none
       by false e none = position-skip p x e xs ∙ none
+
       by_first : (o : Option ℕ) → position p xs ≡ o → position p (xs ++ x ∷ []) ≡ or_else o (if p x then Some (length xs) else None)
       by_first None h = by (p x) refl h
       by_first (Some i) h = position_kept xs (x ∷ []) i h

@@ -100,6 +100,7 @@ with_marked latest ws w n l below h = by (list_any (bytes_eq w) ws)
   where
     still : are_marked (set latest (mark_of w) (suc n)) ws ≡ true
     still = marked_still latest (mark_of w) n ws h
+
     by : (b : Bool) → are_marked (set latest (mark_of w) (suc n)) (if b then ws else ws ++ w ∷ []) ≡ true
     by true = still
     by false = marked_append (set latest (mark_of w) (suc n)) w (told_now latest (mark_of w) n (rw l below)) ws still

@@ -42,7 +42,7 @@ resolved_spine-loop-rest-preserved-in-Pair t c =
     let is : term_of c.loop-rest.rest.now ≡ terms.Pair left right = ap term_of c.in-Pair.is ∙ ap (λ (u : Tree). terms.Pair left (term_of u)) (sym c.deref-rest.ensures) in
     let value : (raw_of first, after) ≡ resolved_term d s left before = c.in_ok-resolved_term-in-Pair.ensures.value ∙ ap (λ (u : Tree). resolved_term d s (term_of u) before) c.deref-in-Pair.ensures in
     record {
-      all = raw_goes_in c.loop-rest.layers.items c.push-in-Pair.new.self.items (around.Left first) (resolved_term d s (term_of c.loop-rest.rest.now) before) (resolved_term d s right after) _ c.in_ok-push-in-Pair.ensures.items
+      all = raw_goes_in c.loop-rest.layers.items c.push.new.self.items (around.Left first) (resolved_term d s (term_of c.loop-rest.rest.now) before) (resolved_term d s right after) _ c.in_ok-push-in-Pair.ensures.items
           (ap (λ u. resolved_term d s u before) is ∙ then_is pair (resolved_term d s left) (resolved_term d s right) before after (raw_of first) value) c.loop-rest.invariant.all;
       numbered = c.in_ok-resolved_term-in-Pair.ensures.numbered;
       smaller = let k : term_size (terms.Pair left right) ≤ term_size (term_of c.args.tree.now) = rw is at c.loop-rest.invariant.smaller in omega arith;

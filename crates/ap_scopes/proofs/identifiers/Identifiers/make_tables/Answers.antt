@@ -16,7 +16,8 @@ noting-init c = record {
 }
 
 pub noting-preserved : goal.noting-preserved
-noting-preserved c = elim c.if-not-identifier.branch [ then-not-identifier+in_ok-note w ↦
+noting-preserved c = elim c.if-not-identifier.branch [
+  | then-not-identifier+in_ok-note w ↦
       let items = c.noting.self.found.items in
       let x = c.index-identifier.result.now in
       let same : c.if-not-identifier.self.found.items ≡ items = ap (λ s. s.found.items) w.self-is ∙ ap (λ v. v.items) w.in_ok-note.ensures.found in
@@ -42,7 +43,8 @@ noting-preserved c = elim c.if-not-identifier.branch [ then-not-identifier+in_ok
         variables = λ v other.
             ap (λ s. number_at s.variables v) w.self-is ∙ passed_next (OfVar v) items c.noting.place x (search rules) c.index-identifier.ensures _ w.if-not-identifier.false (c.noting.invariant.variables v other)
             ∙ ap (λ s. position (λ k. is_free_identifier (OfVar v) (identifier_of k)) (take (c.noting.place + 1) s.found.items)) (sym w.self-is);
-      } ]
+      }
+]
 
 pub returns-clause-numbered : goal.returns-clause-numbered
 returns-clause-numbered c =
