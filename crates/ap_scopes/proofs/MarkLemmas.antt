@@ -9,7 +9,7 @@ use Rattle.std.specs.Option.{option_map, is_none, unwrap_or}
 use Rattle.std.proofs.lemmas.Slice.Eq.{bytes_eq-Decides}
 use denote.Ref.{Bor}
 use Rattle.ap_scopes.specs.Words.{with_word}
-use Rattle.ap_scopes.specs.Marks.{mark_of, tells, are_marked, is_nothing, is_table}
+use Rattle.ap_scopes.specs.Marks.{word_mark, tells, are_marked, is_nothing, is_table}
 use Rattle.ap_scopes.proofs.Numbering.{bytes_eq-flip}
 use Rattle.ap_scopes.proofs.Tables.{position-cons}
 
@@ -19,21 +19,21 @@ both_true true false h = absurd (true≢false (sym h))
 both_true false b h = absurd (true≢false (sym h))
 
 -- a word whose mark has no entry is not among those that are marked
-marked_absent : (latest : List ℕ) (w : List ℕ) → tells (slice_get latest (mark_of w)) ≡ false → (ws : List (List ℕ)) → are_marked latest ws ≡ true → position (bytes_eq w) ws ≡ None
+marked_absent : (latest : List ℕ) (w : List ℕ) → tells (slice_get latest (word_mark w)) ≡ false → (ws : List (List ℕ)) → are_marked latest ws ≡ true → position (bytes_eq w) ws ≡ None
 marked_absent latest w t [] m = refl
 marked_absent latest w t (v ∷ vs) m =
-    let both : (tells (slice_get latest (mark_of v)) ≡ true) × (are_marked latest vs ≡ true) = both_true _ _ m in
+    let both : (tells (slice_get latest (word_mark v)) ≡ true) × (are_marked latest vs ≡ true) = both_true _ _ m in
     position-cons (bytes_eq w) v vs ∙ ap (λ b. cond b (Some 0) (option_map suc (position (bytes_eq w) vs))) (by (bytes_eq w v) refl both.0) ∙ ap (option_map suc) (marked_absent latest w t vs both.1)
   where
-    by : (b : Bool) → bytes_eq w v ≡ b → tells (slice_get latest (mark_of v)) ≡ true → bytes_eq w v ≡ false
+    by : (b : Bool) → bytes_eq w v ≡ b → tells (slice_get latest (word_mark v)) ≡ true → bytes_eq w v ≡ false
     by false h k = h
-    by true h k = absurd (true≢false (sym k ∙ ap (λ u. tells (slice_get latest (mark_of u))) (sym ((bytes_eq-Decides w v).0 h)) ∙ t))
+    by true h k = absurd (true≢false (sym k ∙ ap (λ u. tells (slice_get latest (word_mark u))) (sym ((bytes_eq-Decides w v).0 h)) ∙ t))
 
 none_of_none : (ws : List (List ℕ)) (w : List ℕ) → is_nothing ws ≡ true → position (bytes_eq w) ws ≡ None
 none_of_none [] w h = refl
 none_of_none (v ∷ vs) w h = absurd (true≢false (sym h))
 
-pub is_absent : (latest : List ℕ) (ws : List (List ℕ)) (w : List ℕ) → is_table latest ws ≡ true → tells (slice_get latest (mark_of w)) ≡ false → position (bytes_eq w) ws ≡ None
+pub is_absent : (latest : List ℕ) (ws : List (List ℕ)) (w : List ℕ) → is_table latest ws ≡ true → tells (slice_get latest (word_mark w)) ≡ false → position (bytes_eq w) ws ≡ None
 is_absent latest ws w h t = by (length latest == 1024) refl
   where
     by : (b : Bool) → (length latest == 1024) ≡ b → position (bytes_eq w) ws ≡ None
@@ -82,34 +82,34 @@ told_now (x ∷ xs) (suc m) n l = told_now xs m n (omega arith)
 marked_still : (latest : List ℕ) (m n : ℕ) (ws : List (List ℕ)) → are_marked latest ws ≡ true → are_marked (set latest m (suc n)) ws ≡ true
 marked_still latest m n [] h = refl
 marked_still latest m n (w ∷ ws) h =
-    let both : (tells (slice_get latest (mark_of w)) ≡ true) × (are_marked latest ws ≡ true) = both_true _ _ h in
-    ap (λ b. b && are_marked (set latest m (suc n)) ws) (told_still latest m n (mark_of w) both.0) ∙ marked_still latest m n ws both.1
+    let both : (tells (slice_get latest (word_mark w)) ≡ true) × (are_marked latest ws ≡ true) = both_true _ _ h in
+    ap (λ b. b && are_marked (set latest m (suc n)) ws) (told_still latest m n (word_mark w) both.0) ∙ marked_still latest m n ws both.1
 
-marked_append : (latest : List ℕ) (w : List ℕ) → tells (slice_get latest (mark_of w)) ≡ true → (ws : List (List ℕ)) → are_marked latest ws ≡ true → are_marked latest (ws ++ w ∷ []) ≡ true
+marked_append : (latest : List ℕ) (w : List ℕ) → tells (slice_get latest (word_mark w)) ≡ true → (ws : List (List ℕ)) → are_marked latest ws ≡ true → are_marked latest (ws ++ w ∷ []) ≡ true
 marked_append latest w t [] h = ap (λ b. b && true) t
 marked_append latest w t (v ∷ vs) h =
-    let both : (tells (slice_get latest (mark_of v)) ≡ true) × (are_marked latest vs ≡ true) = both_true _ _ h in
+    let both : (tells (slice_get latest (word_mark v)) ≡ true) × (are_marked latest vs ≡ true) = both_true _ _ h in
     ap (λ b. b && are_marked latest (vs ++ w ∷ [])) both.0 ∙ marked_append latest w t vs both.1
 
 pub table_made : (old new : List ℕ) (ws : List (List ℕ)) → is_table old ws ≡ true → (length old == 1024) ≡ false → length new ≡ 1024 → is_table new ws ≡ true
 table_made old new [] h other l = rw l refl
 table_made old new (w ∷ ws) h other l = absurd (true≢false (sym h ∙ ap (λ b. if b then are_marked old (w ∷ ws) else false) other))
 
-with_marked : (latest : List ℕ) (ws : List (List ℕ)) (w : List ℕ) (n : ℕ) → length latest ≡ 1024 → mark_of w < 1024 → are_marked latest ws ≡ true → are_marked (set latest (mark_of w) (suc n)) (with_word ws w) ≡ true
+with_marked : (latest : List ℕ) (ws : List (List ℕ)) (w : List ℕ) (n : ℕ) → length latest ≡ 1024 → word_mark w < 1024 → are_marked latest ws ≡ true → are_marked (set latest (word_mark w) (suc n)) (with_word ws w) ≡ true
 with_marked latest ws w n l below h = by (list_any (bytes_eq w) ws)
   where
-    still : are_marked (set latest (mark_of w) (suc n)) ws ≡ true
-    still = marked_still latest (mark_of w) n ws h
+    still : are_marked (set latest (word_mark w) (suc n)) ws ≡ true
+    still = marked_still latest (word_mark w) n ws h
 
-    by : (b : Bool) → are_marked (set latest (mark_of w) (suc n)) (if b then ws else ws ++ w ∷ []) ≡ true
+    by : (b : Bool) → are_marked (set latest (word_mark w) (suc n)) (if b then ws else ws ++ w ∷ []) ≡ true
     by true = still
-    by false = marked_append (set latest (mark_of w) (suc n)) w (told_now latest (mark_of w) n (rw l below)) ws still
+    by false = marked_append (set latest (word_mark w) (suc n)) w (told_now latest (word_mark w) n (rw l below)) ws still
 
-pub table_put : (latest new : List ℕ) (ws : List (List ℕ)) (w : List ℕ) (m n : ℕ) → is_table latest ws ≡ true → length latest ≡ 1024 → m ≡ mark_of w → m < 1024 → new ≡ set latest m (n + 1) → is_table new (with_word ws w) ≡ true
+pub table_put : (latest new : List ℕ) (ws : List (List ℕ)) (w : List ℕ) (m n : ℕ) → is_table latest ws ≡ true → length latest ≡ 1024 → m ≡ word_mark w → m < 1024 → new ≡ set latest m (n + 1) → is_table new (with_word ws w) ≡ true
 table_put latest new ws w m n h l is below put =
     let marked : are_marked latest ws ≡ true = ap (λ k. if k == 1024 then are_marked latest ws else is_nothing ws) (sym l) ∙ h in
     let next : n + 1 ≡ suc n = omega arith in
-    let made : new ≡ set latest (mark_of w) (suc n) = put ∙ ap (λ k. set latest m k) next ∙ ap (λ k. set latest k (suc n)) is in
+    let made : new ≡ set latest (word_mark w) (suc n) = put ∙ ap (λ k. set latest m k) next ∙ ap (λ k. set latest k (suc n)) is in
     let full : length new ≡ 1024 = ap length put ∙ length-set latest m (n + 1) ∙ l in
     ap (λ k. if k == 1024 then are_marked new (with_word ws w) else is_nothing (with_word ws w)) full
     ∙ ap (λ t. are_marked t (with_word ws w)) made ∙ with_marked latest ws w n l (subst (λ k. k < 1024) is below) marked

@@ -6,8 +6,8 @@ mark_after n [] = n
 mark_after n (b ∷ bs) = mark_after ((n * 31 + b) % 1024) bs
 
 -- a number below 1024 that equal words share
-abbrev pub mark_of : List ℕ → ℕ
-mark_of w = mark_after 0 w
+abbrev pub word_mark : List ℕ → ℕ
+word_mark w = mark_after 0 w
 
 -- whether an entry tells of a word
 abbrev pub tells : Option ℕ → Bool
@@ -17,7 +17,7 @@ tells _ = false
 -- whether the table has an entry at the mark of each of the words
 abbrev pub are_marked : List ℕ → List (List ℕ) → Bool
 are_marked latest [] = true
-are_marked latest (w ∷ ws) = tells (slice_get latest (mark_of w)) && are_marked latest ws
+are_marked latest (w ∷ ws) = tells (slice_get latest (word_mark w)) && are_marked latest ws
 
 abbrev pub is_nothing : List (List ℕ) → Bool
 is_nothing [] = true

@@ -2,14 +2,14 @@
 
 ghost use Rattle.std.specs.Prelude.{◌≡◌, ◌<◌};
 ghost use Rattle.std.specs.Str.{bytes_eq};
-ghost use Rattle.ap_scopes.specs.Marks.{mark_of};
+ghost use Rattle.ap_scopes.specs.Marks.{word_mark};
 
 /// How many marks there are.
 pub(crate) const MARKS: usize = 1024;
 
 /// A number below 1,024 that equal words share.
 pub(crate) fn mark(word: &str) -> usize
-    ensures value { result ≡ mark_of word.now }
+    ensures value { result ≡ word_mark word.now }
     ensures below { result < 1024 }
 {
     let bytes = word.as_bytes();

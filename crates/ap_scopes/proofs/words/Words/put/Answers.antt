@@ -1,6 +1,6 @@
 use Rattle.std.proofs.Common.{◌≡◌, ℕ, ◌+◌, ◌<◌, ◌≤◌, Bool, true, false, List, [], ◌∷◌, ◌++◌, map, length, take, get_or, set, Option, None, Some, refl, sym, ap, ◌∙◌, position, if◌then◌else◌, codes, arith}
 use Rattle.std.specs.Str.{bytes_eq}
-use Rattle.ap_scopes.specs.Marks.{mark_of, tells, is_table}
+use Rattle.ap_scopes.specs.Marks.{word_mark, tells, is_table}
 use Rattle.ap_scopes.specs.Views.{words_in}
 use Rattle.ap_scopes.specs.Words.{with_word}
 use Rattle.ap_scopes.proofs.MarkLemmas.{is_absent, found_there, table_put}
