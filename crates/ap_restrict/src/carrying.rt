@@ -2,7 +2,7 @@
 
 ghost use Rattle.std.specs.Prelude.{◌≡◌, [], ◌∷◌, ◌++◌, map, IfOk};
 ghost use Rattle.ap_defs.specs.Permutations.{swap_of};
-ghost use Rattle.ap_defs.specs.RawTerms.{raw_of, pair};
+ghost use Rattle.ap_defs.specs.RawTerms.{raw_of, pair, swapped};
 ghost use Rattle.ap_defs.specs.Terms.{term_of, act_term};
 ghost use Rattle.ap_defs.specs.Goals.{goal_of, goal_over};
 ghost use Rattle.ap_program.specs.CarryingOut.{carried_out, map_goal};
@@ -10,8 +10,8 @@ ghost use Rattle.ap_program.specs.CarryingOut.{carried_out, map_goal};
 use ap_defs::goals::Goal;
 use ap_defs::lists::List;
 use ap_defs::memory::Memory;
-use ap_defs::spines::{GoalLayer, TermLayer, close_goal, close_term};
-use ap_defs::terms::{Id, Name, Raw, Swap, Term};
+use ap_defs::spines::{GoalLayer, TermLayer, close_goal, close_term, term_pair};
+use ap_defs::terms::{Id, Name, Raw, Swap, SwapPlaces, Term, Under};
 use ap_perm::swappings::image;
 use std::alloc::Global;
 
@@ -33,7 +33,7 @@ fn goes_on(t: &Raw) -> bool {
     match t {
         Raw::Unit | Raw::Name(_) | Raw::Var(_) => false,
         Raw::App(f, _) => *f == 1,
-        Raw::Pair(_, _) | Raw::Abs(_, _) | Raw::Swapped(_, _, _) => true,
+        Raw::Pair(_, _) | Raw::Under(_) => true,
     }
 }
 
@@ -62,14 +62,16 @@ fn carry_under(alloc: Global, swaps: &[Swap], t: &Raw) -> Result<Term, Memory>
             }
             carry_two(alloc, swaps, left, right)
         }
-        Raw::Abs(Id::Name(a), body) => {
-            if goes_on(body) {
-                return carry_spine(alloc, swaps, t);
+        Raw::Under(under) => match &**under {
+            Under::Abs(Id::Name(a), body) => {
+                if goes_on(body) {
+                    return carry_spine(alloc, swaps, t);
+                }
+                let body = carry_under(alloc, swaps, body)?;
+                Ok(Term::Abs(image(swaps, *a), Box::new(alloc, body)?))
             }
-            let body = carry_under(alloc, swaps, body)?;
-            Ok(Term::Abs(image(swaps, *a), Box::new(alloc, body)?))
-        }
-        _ => carry_spine(alloc, swaps, t),
+            _ => carry_spine(alloc, swaps, t),
+        },
     }
 }
 
@@ -79,16 +81,37 @@ fn carry_two(alloc: Global, swaps: &[Swap], left: &Raw, right: &Raw) -> Result<T
     ensures { IfOk result (λ u. term_of u
         ≡ act_term swaps.now (carried_out (pair (raw_of left.now) (raw_of right.now)))) }
 {
-    let left = Box::new(alloc, carry_under(alloc, swaps, left)?)?;
-    let right = Box::new(alloc, carry_under(alloc, swaps, right)?)?;
-    Ok(Term::Pair(left, right))
+    let left = carry_under(alloc, swaps, left)?;
+    let right = carry_under(alloc, swaps, right)?;
+    term_pair(alloc, left, right)
+}
+
+/// What is swapped, with its swappings carried out, under the swapping and further ones.
+#[cycle(carrying)]
+#[tactic(auto, using(crate::proofs::CarryingLemmas::act_within))]
+fn carry_swapped(
+    alloc: Global,
+    swaps: &[Swap],
+    places: &SwapPlaces,
+    body: &Raw,
+) -> Result<Term, Memory>
+    ensures { IfOk result (λ u. term_of u ≡ act_term swaps.now (carried_out
+        (swapped places.now.left places.now.right (raw_of body.now)))) }
+{
+    match (places.left, places.right) {
+        (Id::Name(a), Id::Name(b)) => {
+            let inner = with_swap(alloc, swaps, a, b)?;
+            carry_under(alloc, inner.as_slice(), body)
+        }
+        _ => carry_under(alloc, swaps, body),
+    }
 }
 
 /// A term that goes on to the right, with its swappings carried out, under further ones.
 ///
 /// It goes on along the right part of a pair, the argument of a constructor and the body of an abstraction.
 #[cycle(carrying)]
-#[tactic(auto, using(ap_defs::proofs::SpineLemmas::term_within_last, crate::proofs::CarryingLemmas::act_within))]
+#[tactic(auto, using(ap_defs::proofs::SpineLemmas::term_within_last))]
 fn carry_spine(alloc: Global, swaps: &[Swap], t: &Raw) -> Result<Term, Memory>
     ensures { IfOk result (λ u. term_of u ≡ act_term swaps.now (carried_out (raw_of t.now))) }
 {
@@ -107,25 +130,26 @@ fn carry_spine(alloc: Global, swaps: &[Swap], t: &Raw) -> Result<Term, Memory>
                 rest = right;
             }
             Raw::App(f, argument) => match &**argument {
-                Raw::Unit => {
-                    let constant = Term::App(*f, Box::new(alloc, Term::Unit)?);
-                    return close_term(alloc, layers, constant);
+                Raw::Pair(head, tail) if *f == 1 => {
+                    layers.push(TermLayer::Cell(carry_under(alloc, swaps, head)?))?;
+                    rest = tail;
                 }
                 more => {
                     layers.push(TermLayer::App(*f))?;
                     rest = more;
                 }
             },
-            Raw::Abs(Id::Name(a), body) => {
-                layers.push(TermLayer::Abs(image(swaps, *a)))?;
-                rest = body;
-            }
-            Raw::Swapped(Id::Name(a), Id::Name(b), body) => {
-                let inner = with_swap(alloc, swaps, *a, *b)?;
-                let carried = carry_under(alloc, inner.as_slice(), body)?;
-                return close_term(alloc, layers, carried);
-            }
-            Raw::Abs(Id::Var(_), body) | Raw::Swapped(_, _, body) => rest = body,
+            Raw::Under(under) => match &**under {
+                Under::Abs(Id::Name(a), body) => {
+                    layers.push(TermLayer::Abs(image(swaps, *a)))?;
+                    rest = body;
+                }
+                Under::Abs(Id::Var(_), body) => rest = body,
+                Under::Swapped(places, body) => {
+                    let end = carry_swapped(alloc, swaps, places, body)?;
+                    return close_term(alloc, layers, end);
+                }
+            },
         }
     }
 }

@@ -13,7 +13,7 @@ use crate::identifiers::{Brought, Identifiers};
 use ap_defs::lists::List;
 use ap_defs::memory::Memory;
 use ap_defs::terms::{Id, Name, Raw, Var};
-use ap_spines::{RawLayer, close_raw, raw_pair};
+use ap_spines::{RawLayer, close_raw, raw_abs, raw_pair, swapping_layer};
 use ap_trees::{Args, Binder, Tree};
 use std::alloc::Global;
 
@@ -150,7 +150,7 @@ fn resolved_abstraction<'a>(
 {
     let id = binder(scope, spelling, found)?;
     let body = resolved_term(alloc, declared, scope, body, found)?;
-    Ok(Raw::Abs(id, Box::new(alloc, body)?))
+    raw_abs(alloc, id, body)
 }
 
 /// A constructor with its arguments.
@@ -229,7 +229,7 @@ fn resolved_spine<'a>(
             Tree::Swapped(sides, body) => {
                 let left = binder(scope, sides.left, found)?;
                 let right = binder(scope, sides.right, found)?;
-                layers.push(RawLayer::Swapped(left, right))?;
+                layers.push(swapping_layer(alloc, left, right)?)?;
                 rest = body;
             }
         }

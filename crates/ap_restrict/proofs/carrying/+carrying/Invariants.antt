@@ -8,13 +8,16 @@ use Rattle.ap_restrict.proofs.CarryingLemmas.{raw_size}
 use Rattle.ap_restrict.proofs.carrying.+carrying.Given as goal
 
 abbrev pub decreases-carry_under : goal.decreases-carry_under
-decreases-carry_under l = 2 * raw_size (raw_of l.t.now) + 1
+decreases-carry_under l = 3 * raw_size (raw_of l.t.now) + 2
 
 abbrev pub decreases-carry_two : goal.decreases-carry_two
-decreases-carry_two l = 2 * (raw_size (raw_of l.left.now) + raw_size (raw_of l.right.now)) + 2
+decreases-carry_two l = 3 * (raw_size (raw_of l.left.now) + raw_size (raw_of l.right.now)) + 3
+
+abbrev pub decreases-carry_swapped : goal.decreases-carry_swapped
+decreases-carry_swapped l = 3 * raw_size (raw_of l.body.now) + 3
 
 abbrev pub decreases-carry_spine : goal.decreases-carry_spine
-decreases-carry_spine l = 2 * raw_size (raw_of l.t.now)
+decreases-carry_spine l = 3 * raw_size (raw_of l.t.now) + 1
 
 abbrev pub invariant-carry_spine-loop-rest : goal.invariant-carry_spine-loop-rest
 invariant-carry_spine-loop-rest l = record {
