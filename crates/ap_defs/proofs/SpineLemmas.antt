@@ -36,7 +36,6 @@ goal_goes_in ls ks l w g x h e k = ap (λ ms. goal_within ms g) h ∙ goal_withi
 -- the part is smaller
 term_in_more : (l : TermLayer) (t : NominalTerm) → size t ≤ size (term_in l t)
 term_in_more (around_term.Left u) t = omega arith
-term_in_more (around_term.Cell u) t = omega arith
 term_in_more (around_term.App f) t = omega arith
 term_in_more (around_term.Abs a) t = omega arith
 

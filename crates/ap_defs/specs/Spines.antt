@@ -15,7 +15,6 @@ use Rattle.ap_defs.specs.Goals.{NominalGoal, goal_of}
 
 abbrev pub term_in : TermLayer → NominalTerm → NominalTerm
 term_in (around_term.Left t) u = terms.pair (term_of t) u
-term_in (around_term.Cell t) u = terms.app 1 (terms.pair (term_of t) u)
 term_in (around_term.App f) u = terms.app f u
 term_in (around_term.Abs a) u = terms.abs a u
 

@@ -4,7 +4,7 @@
 //! that is still to be made as a list of layers, of which the first is outermost, and then closes them.
 
 ghost use Rattle.std.specs.Prelude.{◌≡◌, IfOk};
-ghost use Rattle.ap_defs.specs.Terms.{term_of, pair};
+ghost use Rattle.ap_defs.specs.Terms.{term_of};
 ghost use Rattle.ap_defs.specs.Types.{type_of};
 ghost use Rattle.ap_defs.specs.Goals.{goal_of};
 ghost use Rattle.ap_defs.specs.Spines.{term_in, term_within, type_in, type_within, goal_in, goal_within};
@@ -14,12 +14,11 @@ use crate::memory::Memory;
 use crate::terms::{Name, Term, Ty, Var};
 use std::alloc::Global;
 
-/// What stands round a part of a term: the part is right of a term in a pair, the tail of a list cell, the
-/// argument of a constructor, or the body of an abstraction.
+/// What stands round a part of a term: the part is right of a term in a pair, the argument of a
+/// constructor, or the body of an abstraction.
 #[derive(Drop)]
 pub enum TermLayer {
     Left(Term),
-    Cell(Term),
     App(u32),
     Abs(Name),
 }
@@ -43,23 +42,14 @@ pub enum GoalLayer {
     New(Name),
 }
 
-/// A pair of terms.
-pub fn term_pair(alloc: Global, left: Term, right: Term) -> Result<Term, Memory>
-    ensures { IfOk result (λ t. term_of t ≡ pair (term_of left) (term_of right)) }
-{
-    let left = Box::new(alloc, left)?;
-    Ok(Term::Pair(left, Box::new(alloc, right)?))
-}
-
 /// A term in a layer.
 fn term_in(alloc: Global, layer: TermLayer, t: Term) -> Result<Term, Memory>
     ensures { IfOk result (λ u. term_of u ≡ term_in layer (term_of t)) }
 {
     match layer {
-        TermLayer::Left(left) => term_pair(alloc, left, t),
-        TermLayer::Cell(head) => {
-            let parts = term_pair(alloc, head, t)?;
-            Ok(Term::App(1, Box::new(alloc, parts)?))
+        TermLayer::Left(left) => {
+            let left = Box::new(alloc, left)?;
+            Ok(Term::Pair(left, Box::new(alloc, t)?))
         }
         TermLayer::App(f) => Ok(Term::App(f, Box::new(alloc, t)?)),
         TermLayer::Abs(a) => Ok(Term::Abs(a, Box::new(alloc, t)?)),

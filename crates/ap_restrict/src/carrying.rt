@@ -3,14 +3,16 @@
 ghost use Rattle.std.specs.Prelude.{◌≡◌, [], ◌∷◌, ◌++◌, map, IfOk};
 ghost use Rattle.ap_defs.specs.Permutations.{swap_of};
 ghost use Rattle.ap_defs.specs.RawTerms.{raw_of, pair, swapped};
+ghost use Rattle.ap_defs.specs.Terms as nominal;
 ghost use Rattle.ap_defs.specs.Terms.{term_of, act_term};
 ghost use Rattle.ap_defs.specs.Goals.{goal_of, goal_over};
 ghost use Rattle.ap_program.specs.CarryingOut.{carried_out, map_goal};
+ghost use Rattle.ap_restrict.specs.Ways.{lent_terms, carried_round, carried_within};
 
 use ap_defs::goals::Goal;
 use ap_defs::lists::List;
 use ap_defs::memory::Memory;
-use ap_defs::spines::{GoalLayer, TermLayer, close_goal, close_term, term_pair};
+use ap_defs::spines::{GoalLayer, close_goal};
 use ap_defs::terms::{Id, Name, Raw, Swap, SwapPlaces, Term, Under};
 use ap_perm::swappings::image;
 use std::alloc::Global;
@@ -75,6 +77,14 @@ fn carry_under(alloc: Global, swaps: &[Swap], t: &Raw) -> Result<Term, Memory>
     }
 }
 
+/// A pair of terms.
+fn term_pair(alloc: Global, left: Term, right: Term) -> Result<Term, Memory>
+    ensures { IfOk result (λ t. term_of t ≡ nominal.pair (term_of left) (term_of right)) }
+{
+    let left = Box::new(alloc, left)?;
+    Ok(Term::Pair(left, Box::new(alloc, right)?))
+}
+
 /// A pair of terms with their swappings carried out, under further ones.
 #[cycle(carrying)]
 fn carry_two(alloc: Global, swaps: &[Swap], left: &Raw, right: &Raw) -> Result<Term, Memory>
@@ -107,47 +117,78 @@ fn carry_swapped(
     }
 }
 
+/// A part of a term with its swappings carried out, under further ones, where what is last in it is made.
+#[cycle(carrying)]
+fn carry_round(alloc: Global, swaps: &[Swap], part: &Raw, last: Term) -> Result<Term, Memory>
+    ensures { IfOk result (λ u. term_of u
+        ≡ carried_round swaps.now (raw_of part.now) (term_of last)) }
+{
+    match part {
+        Raw::Pair(left, _) => {
+            let left = carry_under(alloc, swaps, left)?;
+            term_pair(alloc, left, last)
+        }
+        Raw::App(f, _) => Ok(Term::App(*f, Box::new(alloc, last)?)),
+        Raw::Under(under) => match &**under {
+            Under::Abs(Id::Name(a), _) => {
+                Ok(Term::Abs(image(swaps, *a), Box::new(alloc, last)?))
+            }
+            _ => Ok(last),
+        },
+        Raw::Unit | Raw::Name(_) | Raw::Var(_) => Ok(last),
+    }
+}
+
+/// The same for parts of which each is last in the one before.
+#[cycle(carrying)]
+fn carry_within(
+    alloc: Global,
+    swaps: &[Swap],
+    mut parts: Vec<&Raw>,
+    last: Term,
+) -> Result<Term, Memory>
+    ensures { IfOk result (λ u. term_of u
+        ≡ carried_within swaps.now (lent_terms parts.entry.items) (term_of last)) }
+{
+    let mut made = last;
+    while let Some(part) = parts.pop() {
+        made = carry_round(alloc, swaps, part, made)?;
+    }
+    Ok(made)
+}
+
 /// A term that goes on to the right, with its swappings carried out, under further ones.
 ///
 /// It goes on along the right part of a pair, the argument of a constructor and the body of an abstraction.
+/// The way is kept, and what stands on it is made on the way back.
 #[cycle(carrying)]
-#[tactic(auto, using(ap_defs::proofs::SpineLemmas::term_within_last))]
 fn carry_spine(alloc: Global, swaps: &[Swap], t: &Raw) -> Result<Term, Memory>
     ensures { IfOk result (λ u. term_of u ≡ act_term swaps.now (carried_out (raw_of t.now))) }
 {
-    let mut layers = Vec::new(alloc);
+    let mut way = Vec::new(alloc);
     let mut rest = t;
     loop {
         match rest {
-            Raw::Unit => return close_term(alloc, layers, Term::Unit),
-            Raw::Name(a) => return close_term(alloc, layers, Term::Name(image(swaps, *a))),
+            Raw::Unit => return carry_within(alloc, swaps, way, Term::Unit),
+            Raw::Name(a) => {
+                return carry_within(alloc, swaps, way, Term::Name(image(swaps, *a)));
+            }
             Raw::Var(x) => {
                 let waiting = List::of(swaps.to_vec(alloc)?);
-                return close_term(alloc, layers, Term::Susp(waiting, *x));
+                return carry_within(alloc, swaps, way, Term::Susp(waiting, *x));
             }
-            Raw::Pair(left, right) => {
-                layers.push(TermLayer::Left(carry_under(alloc, swaps, left)?))?;
-                rest = right;
+            Raw::Pair(_, last) | Raw::App(_, last) => {
+                way.push(rest)?;
+                rest = last;
             }
-            Raw::App(f, argument) => match &**argument {
-                Raw::Pair(head, tail) if *f == 1 => {
-                    layers.push(TermLayer::Cell(carry_under(alloc, swaps, head)?))?;
-                    rest = tail;
-                }
-                more => {
-                    layers.push(TermLayer::App(*f))?;
-                    rest = more;
-                }
-            },
             Raw::Under(under) => match &**under {
-                Under::Abs(Id::Name(a), body) => {
-                    layers.push(TermLayer::Abs(image(swaps, *a)))?;
-                    rest = body;
+                Under::Abs(_, last) => {
+                    way.push(rest)?;
+                    rest = last;
                 }
-                Under::Abs(Id::Var(_), body) => rest = body,
                 Under::Swapped(places, body) => {
                     let end = carry_swapped(alloc, swaps, places, body)?;
-                    return close_term(alloc, layers, end);
+                    return carry_within(alloc, swaps, way, end);
                 }
             },
         }
