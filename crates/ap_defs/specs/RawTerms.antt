@@ -26,4 +26,4 @@ abbrev mutual
 
   pub raw_under : under.Under → RawTerm
   raw_under (under.Abs a t) = abs a (raw_of t)
-  raw_under (under.Swapped' p s t) = swapped s.left s.right (raw_of t)
+  raw_under (under.Swapped s t) = swapped s.value.left s.value.right (raw_of t)
