@@ -49,12 +49,20 @@ way_last (u ∷ ts) t = omega (arith, way_last ts t)
 pub lent_further : (ws vs : List (Bor Raw)) (r : Bor Raw) → vs ≡ ws ++ r ∷ [] → lent_terms vs ≡ lent_terms ws ++ raw_of r.now ∷ []
 lent_further ws vs r e = ap lent_terms e ∙ map-append (λ t. raw_of t.now) ws (r ∷ [])
 
-pub way_on : (p : List Swap) (ws vs : List (Bor Raw)) (r : Bor Raw) (last whole : NominalTerm) → vs ≡ ws ++ r ∷ [] → carried_within p (lent_terms ws) (carried_round p (raw_of r.now) last) ≡ whole
-    → carried_within p (lent_terms vs) last ≡ whole
-way_on p ws vs r last whole e h = ap (λ ts. carried_within p ts last) (lent_further ws vs r e) ∙ within_last p (lent_terms ws) (raw_of r.now) last ∙ h
+pub way_is : (p : List Swap) (ws vs : List (Bor Raw)) (r : Bor Raw) (last : NominalTerm) → vs ≡ ws ++ r ∷ [] → carried_within p (lent_terms vs) last ≡ carried_within p (lent_terms ws) (carried_round p (raw_of r.now) last)
+way_is p ws vs r last e = ap (λ ts. carried_within p ts last) (lent_further ws vs r e) ∙ within_last p (lent_terms ws) (raw_of r.now) last
+
+-- it goes on inside one more part, what is last in which it is
+pub way_on : (p : List Swap) (ws vs : List (Bor Raw)) (r : Bor Raw) (last : RawTerm) (whole : NominalTerm) → vs ≡ ws ++ r ∷ [] → carried_round p (raw_of r.now) (act_term p (carried_out last)) ≡ act_term p (carried_out (raw_of r.now))
+    → carried_within p (lent_terms ws) (act_term p (carried_out (raw_of r.now))) ≡ whole → carried_within p (lent_terms vs) (act_term p (carried_out last)) ≡ whole
+way_on p ws vs r last whole e step h = way_is p ws vs r (act_term p (carried_out last)) e ∙ ap (carried_within p (lent_terms ws)) step ∙ h
 
 pub way_longer : (ws vs : List (Bor Raw)) (r : Bor Raw) → vs ≡ ws ++ r ∷ [] → way_size (lent_terms vs) ≡ way_size (lent_terms ws) + own_size (raw_of r.now)
 way_longer ws vs r e = ap way_size (lent_further ws vs r e) ∙ way_last (lent_terms ws) (raw_of r.now)
+
+pub size_on : (ws vs : List (Bor Raw)) (r : Bor Raw) (last : RawTerm) (n : ℕ) → vs ≡ ws ++ r ∷ [] → own_size (raw_of r.now) + raw_size last ≡ raw_size (raw_of r.now) → way_size (lent_terms ws) + raw_size (raw_of r.now) ≡ n
+    → way_size (lent_terms vs) + raw_size last ≡ n
+size_on ws vs r last n e own h = let longer = way_longer ws vs r e in omega arith
 
 -- an abstraction round what is carried out in it
 pub under_round : (p : List Swap) (i : Id) (t : RawTerm) → carried_round p (raw.abs i t) (act_term p (carried_out t)) ≡ act_term p (carried_out (raw.abs i t))

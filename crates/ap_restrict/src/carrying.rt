@@ -177,7 +177,11 @@ fn carry_spine(alloc: Global, swaps: &[Swap], t: &Raw) -> Result<Term, Memory>
                 let waiting = List::of(swaps.to_vec(alloc)?);
                 return carry_within(alloc, swaps, way, Term::Susp(waiting, *x));
             }
-            Raw::Pair(_, last) | Raw::App(_, last) => {
+            Raw::Pair(_, last) => {
+                way.push(rest)?;
+                rest = last;
+            }
+            Raw::App(_, last) => {
                 way.push(rest)?;
                 rest = last;
             }
