@@ -71,17 +71,3 @@ pub fn after_bar<'a, 's>(symbols: &'s [Symbol<'a>]) -> Option<&'s [Symbol<'a>]>
         _ => None,
     }
 }
-
-#[tactic(auto, using(crate::proofs::TermLaws::open_is))]
-pub fn probe(x: u8) -> u8
-    ensures { result ≡ x }
-{
-    x
-}
-
-#[tactic(auto, using(crate::proofs::TypeLaws::close_is))]
-pub fn probe_types(x: u8) -> u8
-    ensures { result ≡ x }
-{
-    x
-}

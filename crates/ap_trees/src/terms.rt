@@ -348,14 +348,19 @@ fn swapped<'a, 's>(
     Ok((Tree::Swapped(sides, Box::new(alloc, body)?), rest))
 }
 
-/// A term alone as a list.
-fn begun<'a>(alloc: Global, first: Tree<'a>) -> Result<Vec<Tree<'a>>, AllocError>
-    ensures first { IfOk result (λ v. v.items ≡ first.entry ∷ []) }
-    ensures one { IfOk result (λ v. vec_len v ≡ 1) }
+/// A term alone as a list, and what follows it.
+fn begun<'a, 's>(
+    alloc: Global,
+    first: Tree<'a>,
+    after: &'s [Symbol<'a>],
+) -> Result<(Vec<Tree<'a>>, &'s [Symbol<'a>]), AllocError>
+    ensures first { IfOk result (λ r. r.0.items ≡ first.entry ∷ []) }
+    ensures one { IfOk result (λ r. vec_len r.0 ≡ 1) }
+    ensures behind { IfOk result (λ r. r.1.now ≡ after.now) }
 {
     let mut all = Vec::new(alloc);
     all.push(first)?;
-    Ok(all)
+    Ok((all, after))
 }
 
 /// The terms that begin the symbols, with commas between, and what follows them, behind the first of them.
@@ -373,8 +378,7 @@ fn further_terms<'a, 's>(
         after_comma (read_term levels) (length symbols.now) (syms symbols.now)) }
     ensures shorter { IfOk result (λ r. length r.1.now < length symbols.now) }
 {
-    let mut all = begun(alloc, first)?;
-    let mut rest = after;
+    let (mut all, mut rest) = begun(alloc, first, after)?;
     while let Some(after) = after_comma(rest) {
         let (next, left) = term(alloc, levels, after)?;
         all.push(next)?;
