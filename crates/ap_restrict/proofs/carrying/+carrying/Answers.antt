@@ -10,16 +10,16 @@ pub carry_spine-loop-rest-preserved-in-Pair : goal.carry_spine-loop-rest-preserv
 carry_spine-loop-rest-preserved-in-Pair t c =
     let p = c.args.swaps.now in
     let left = raw_of c.in-Pair.field-0.value in
-    let last = raw_of c.deref-rest-in-Pair.result.now in
-    let is : raw_of c.loop-rest.rest.now ≡ pair left last = ap raw_of c.in-Pair.is ∙ ap (λ (u : Raw). pair left (raw_of u)) (sym c.deref-rest-in-Pair.ensures) in
+    let last = raw_of c.deref-rest.result.now in
+    let is : raw_of c.loop-rest.rest.now ≡ pair left last = ap raw_of c.in-Pair.is ∙ ap (λ (u : Raw). pair left (raw_of u)) (sym c.deref-rest.ensures) in
     let e = c.in_ok-push-in-Pair.ensures.items in
     record {
-      all = way_on p c.loop-rest.way.items c.push-in-Pair.new.self.items c.loop-rest.rest last _ e (rw is refl) c.loop-rest.invariant.all;
-      parts = size_on c.loop-rest.way.items c.push-in-Pair.new.self.items c.loop-rest.rest last _ e (rw is refl) c.loop-rest.invariant.parts;
+      all = way_on p c.loop-rest.way.items c.push.new.self.items c.loop-rest.rest last _ e (rw is refl) c.loop-rest.invariant.all;
+      parts = size_on c.loop-rest.way.items c.push.new.self.items c.loop-rest.rest last _ e (rw is refl) c.loop-rest.invariant.parts;
     }
 
-pub carry_spine-loop-rest-preserved : goal.carry_spine-loop-rest-preserved
-carry_spine-loop-rest-preserved t c =
+pub carry_spine-loop-rest-preserved-in-App : goal.carry_spine-loop-rest-preserved-in-App
+carry_spine-loop-rest-preserved-in-App t c =
     let p = c.args.swaps.now in
     let f = c.in-App.field-0 in
     let last = raw_of c.deref-rest-in-App.result.now in
@@ -30,16 +30,16 @@ carry_spine-loop-rest-preserved t c =
       parts = size_on c.loop-rest.way.items c.push-in-App.new.self.items c.loop-rest.rest last _ e (rw is refl) c.loop-rest.invariant.parts;
     }
 
-pub carry_spine-loop-rest-preserved-in-Under-1 : goal.carry_spine-loop-rest-preserved-in-Under-1
-carry_spine-loop-rest-preserved-in-Under-1 t c =
+pub carry_spine-loop-rest-preserved : goal.carry_spine-loop-rest-preserved
+carry_spine-loop-rest-preserved t c =
     let p = c.args.swaps.now in
     let i = c.in-Abs.field-0 in
     let last = raw_of c.in-Abs.last in
     let is : raw_of c.loop-rest.rest.now ≡ abs i last = ap raw_of c.in-Under.is ∙ ap raw_under (sym c.deref.ensures) ∙ ap raw_under c.in-Abs.is in
     let e = c.in_ok-push-in-Abs.ensures.items in
     record {
-      all = way_on p c.loop-rest.way.items c.push.new.self.items c.loop-rest.rest last _ e (rw is (under_round p i last)) c.loop-rest.invariant.all;
-      parts = size_on c.loop-rest.way.items c.push.new.self.items c.loop-rest.rest last _ e (rw is refl) c.loop-rest.invariant.parts;
+      all = way_on p c.loop-rest.way.items c.push-in-Abs.new.self.items c.loop-rest.rest last _ e (rw is (under_round p i last)) c.loop-rest.invariant.all;
+      parts = size_on c.loop-rest.way.items c.push-in-Abs.new.self.items c.loop-rest.rest last _ e (rw is refl) c.loop-rest.invariant.parts;
     }
 
 pub carry_within-carry_round-requires : goal.carry_within-carry_round-requires
