@@ -195,7 +195,9 @@ pub fn write_tree(
                 rest = body;
             }
             Tree::Swapped(sides, body) => {
-                begin_swap(out, &sides.left, &sides.right, context)?;
+                let left = sides.left;
+                let right = sides.right;
+                begin_swap(out, &left, &right, context)?;
                 closers.push(b')')?;
                 context = Context::Whole;
                 rest = body;
