@@ -15,7 +15,7 @@ ghost use Rattle.ap_kinds.specs.Sorts.{name_with_sort, id_with_sort, with_sorts,
 use ap_defs::goals::{Goal, Kind};
 use ap_defs::lists::List;
 use ap_defs::memory::Memory;
-use ap_defs::terms::{Id, Name, Raw};
+use ap_defs::terms::{Id, Name, Raw, Under};
 use std::alloc::Global;
 use std::mem;
 
@@ -77,14 +77,16 @@ fn go_down(kinds: &[Kind], above: &mut Raw, t: &mut Raw) -> bool
             mem::swap(&mut **right, above);
         }
         Raw::App(_, argument) => mem::swap(&mut **argument, above),
-        Raw::Abs(i, body) => {
-            *i = id_with_sort(kinds, *i);
-            mem::swap(&mut **body, above);
-        }
-        Raw::Swapped(i, j, body) => {
-            *i = id_with_sort(kinds, *i);
-            *j = id_with_sort(kinds, *j);
-            mem::swap(&mut **body, above);
+        Raw::Under(under) => match &mut **under {
+            Under::Abs(i, body) => {
+                *i = id_with_sort(kinds, *i);
+                mem::swap(body, above);
+            }
+            Under::Swapped(places, body) => {
+                places.left = id_with_sort(kinds, places.left);
+                places.right = id_with_sort(kinds, places.right);
+                mem::swap(body, above);
+            }
         }
     }
     mem::swap(t, above);
@@ -104,8 +106,10 @@ fn go_up(above: &mut Raw, t: &mut Raw) -> bool
         Raw::Unit | Raw::Name(_) | Raw::Var(_) => return false,
         Raw::Pair(_, last) => mem::swap(&mut **last, t),
         Raw::App(_, last) => mem::swap(&mut **last, t),
-        Raw::Abs(_, last) => mem::swap(&mut **last, t),
-        Raw::Swapped(_, _, last) => mem::swap(&mut **last, t),
+        Raw::Under(under) => match &mut **under {
+            Under::Abs(_, last) => mem::swap(last, t),
+            Under::Swapped(_, last) => mem::swap(last, t),
+        },
     }
     mem::swap(t, above);
     true

@@ -14,7 +14,7 @@ use crate::systems::{System, equate, new_hole, refuse};
 use crate::wants::{Wanted, list_of, meet_name, meet_swapped, meet_unit, meet_var, wanted_all};
 use ap_defs::goals::Constructor;
 use ap_defs::memory::Memory;
-use ap_defs::terms::{Id, Raw, Shape, Ty, take_pair};
+use ap_defs::terms::{Id, Raw, Shape, Ty, Under, take_pair};
 use std::alloc::Global;
 
 /// What is wanted of the two sides of a pair.
@@ -210,14 +210,16 @@ pub(crate) fn gather_term<'a>(
                 now = inside_application(alloc, constructors, *f, now, system)?;
                 rest = argument;
             }
-            Raw::Abs(i, body) => {
-                now = inside_binder(alloc, idents, *i, now, system)?;
-                rest = body;
-            }
-            Raw::Swapped(i, j, body) => {
-                meet_swapping(idents, *i, *j, &now, system)?;
-                rest = body;
-            }
+            Raw::Under(under) => match &**under {
+                Under::Abs(i, body) => {
+                    now = inside_binder(alloc, idents, *i, now, system)?;
+                    rest = body;
+                }
+                Under::Swapped(places, body) => {
+                    meet_swapping(idents, places.left, places.right, &now, system)?;
+                    rest = body;
+                }
+            },
         }
     }
 }

@@ -1,4 +1,5 @@
 pub mod Places
+pub mod Ways
 pub mod Heads
 pub mod Scans
 pub mod Outcomes

@@ -2,16 +2,18 @@
 
 ghost use Rattle.std.specs.Prelude.{◌≡◌, [], ◌∷◌, ◌++◌, map, IfOk};
 ghost use Rattle.ap_defs.specs.Permutations.{swap_of};
-ghost use Rattle.ap_defs.specs.RawTerms.{raw_of, pair};
+ghost use Rattle.ap_defs.specs.RawTerms.{raw_of, pair, swapped};
+ghost use Rattle.ap_defs.specs.Terms as nominal;
 ghost use Rattle.ap_defs.specs.Terms.{term_of, act_term};
 ghost use Rattle.ap_defs.specs.Goals.{goal_of, goal_over};
 ghost use Rattle.ap_program.specs.CarryingOut.{carried_out, map_goal};
+ghost use Rattle.ap_restrict.specs.Ways.{lent_terms, carried_round, carried_within};
 
 use ap_defs::goals::Goal;
 use ap_defs::lists::List;
 use ap_defs::memory::Memory;
-use ap_defs::spines::{GoalLayer, TermLayer, close_goal, close_term};
-use ap_defs::terms::{Id, Name, Raw, Swap, Term};
+use ap_defs::spines::{GoalLayer, close_goal};
+use ap_defs::terms::{Id, Name, Raw, Swap, SwapPlaces, Term, Under};
 use ap_perm::swappings::image;
 use std::alloc::Global;
 
@@ -33,7 +35,7 @@ fn goes_on(t: &Raw) -> bool {
     match t {
         Raw::Unit | Raw::Name(_) | Raw::Var(_) => false,
         Raw::App(f, _) => *f == 1,
-        Raw::Pair(_, _) | Raw::Abs(_, _) | Raw::Swapped(_, _, _) => true,
+        Raw::Pair(_, _) | Raw::Under(_) => true,
     }
 }
 
@@ -62,15 +64,25 @@ fn carry_under(alloc: Global, swaps: &[Swap], t: &Raw) -> Result<Term, Memory>
             }
             carry_two(alloc, swaps, left, right)
         }
-        Raw::Abs(Id::Name(a), body) => {
-            if goes_on(body) {
-                return carry_spine(alloc, swaps, t);
+        Raw::Under(under) => match &**under {
+            Under::Abs(Id::Name(a), body) => {
+                if goes_on(body) {
+                    return carry_spine(alloc, swaps, t);
+                }
+                let body = carry_under(alloc, swaps, body)?;
+                Ok(Term::Abs(image(swaps, *a), Box::new(alloc, body)?))
             }
-            let body = carry_under(alloc, swaps, body)?;
-            Ok(Term::Abs(image(swaps, *a), Box::new(alloc, body)?))
-        }
-        _ => carry_spine(alloc, swaps, t),
+            _ => carry_spine(alloc, swaps, t),
+        },
     }
+}
+
+/// A pair of terms.
+fn term_pair(alloc: Global, left: Term, right: Term) -> Result<Term, Memory>
+    ensures { IfOk result (λ t. term_of t ≡ nominal.pair (term_of left) (term_of right)) }
+{
+    let left = Box::new(alloc, left)?;
+    Ok(Term::Pair(left, Box::new(alloc, right)?))
 }
 
 /// A pair of terms with their swappings carried out, under further ones.
@@ -79,53 +91,110 @@ fn carry_two(alloc: Global, swaps: &[Swap], left: &Raw, right: &Raw) -> Result<T
     ensures { IfOk result (λ u. term_of u
         ≡ act_term swaps.now (carried_out (pair (raw_of left.now) (raw_of right.now)))) }
 {
-    let left = Box::new(alloc, carry_under(alloc, swaps, left)?)?;
-    let right = Box::new(alloc, carry_under(alloc, swaps, right)?)?;
-    Ok(Term::Pair(left, right))
+    let left = carry_under(alloc, swaps, left)?;
+    let right = carry_under(alloc, swaps, right)?;
+    term_pair(alloc, left, right)
+}
+
+/// What is swapped, with its swappings carried out, under the swapping and further ones.
+#[cycle(carrying)]
+#[tactic(auto, using(crate::proofs::CarryingLemmas::act_within))]
+fn carry_swapped(
+    alloc: Global,
+    swaps: &[Swap],
+    places: &SwapPlaces,
+    body: &Raw,
+) -> Result<Term, Memory>
+    ensures { IfOk result (λ u. term_of u ≡ act_term swaps.now (carried_out
+        (swapped places.now.left places.now.right (raw_of body.now)))) }
+{
+    match (places.left, places.right) {
+        (Id::Name(a), Id::Name(b)) => {
+            let inner = with_swap(alloc, swaps, a, b)?;
+            carry_under(alloc, inner.as_slice(), body)
+        }
+        _ => carry_under(alloc, swaps, body),
+    }
+}
+
+/// A part of a term with its swappings carried out, under further ones, where what is last in it is made.
+#[cycle(carrying)]
+fn carry_round(alloc: Global, swaps: &[Swap], part: &Raw, last: Term) -> Result<Term, Memory>
+    ensures { IfOk result (λ u. term_of u
+        ≡ carried_round swaps.now (raw_of part.now) (term_of last)) }
+{
+    match part {
+        Raw::Pair(left, _) => {
+            let left = carry_under(alloc, swaps, left)?;
+            term_pair(alloc, left, last)
+        }
+        Raw::App(f, _) => Ok(Term::App(*f, Box::new(alloc, last)?)),
+        Raw::Under(under) => match &**under {
+            Under::Abs(Id::Name(a), _) => {
+                Ok(Term::Abs(image(swaps, *a), Box::new(alloc, last)?))
+            }
+            _ => Ok(last),
+        },
+        Raw::Unit | Raw::Name(_) | Raw::Var(_) => Ok(last),
+    }
+}
+
+/// The same for parts of which each is last in the one before.
+#[cycle(carrying)]
+fn carry_within(
+    alloc: Global,
+    swaps: &[Swap],
+    mut parts: Vec<&Raw>,
+    last: Term,
+) -> Result<Term, Memory>
+    ensures { IfOk result (λ u. term_of u
+        ≡ carried_within swaps.now (lent_terms parts.entry.items) (term_of last)) }
+{
+    let mut made = last;
+    while let Some(part) = parts.pop() {
+        made = carry_round(alloc, swaps, part, made)?;
+    }
+    Ok(made)
 }
 
 /// A term that goes on to the right, with its swappings carried out, under further ones.
 ///
 /// It goes on along the right part of a pair, the argument of a constructor and the body of an abstraction.
+/// The way is kept, and what stands on it is made on the way back.
 #[cycle(carrying)]
-#[tactic(auto, using(ap_defs::proofs::SpineLemmas::term_within_last, crate::proofs::CarryingLemmas::act_within))]
 fn carry_spine(alloc: Global, swaps: &[Swap], t: &Raw) -> Result<Term, Memory>
     ensures { IfOk result (λ u. term_of u ≡ act_term swaps.now (carried_out (raw_of t.now))) }
 {
-    let mut layers = Vec::new(alloc);
+    let mut way = Vec::new(alloc);
     let mut rest = t;
     loop {
         match rest {
-            Raw::Unit => return close_term(alloc, layers, Term::Unit),
-            Raw::Name(a) => return close_term(alloc, layers, Term::Name(image(swaps, *a))),
+            Raw::Unit => return carry_within(alloc, swaps, way, Term::Unit),
+            Raw::Name(a) => {
+                return carry_within(alloc, swaps, way, Term::Name(image(swaps, *a)));
+            }
             Raw::Var(x) => {
                 let waiting = List::of(swaps.to_vec(alloc)?);
-                return close_term(alloc, layers, Term::Susp(waiting, *x));
+                return carry_within(alloc, swaps, way, Term::Susp(waiting, *x));
             }
-            Raw::Pair(left, right) => {
-                layers.push(TermLayer::Left(carry_under(alloc, swaps, left)?))?;
-                rest = right;
+            Raw::Pair(_, last) => {
+                way.push(rest)?;
+                rest = last;
             }
-            Raw::App(f, argument) => match &**argument {
-                Raw::Unit => {
-                    let constant = Term::App(*f, Box::new(alloc, Term::Unit)?);
-                    return close_term(alloc, layers, constant);
+            Raw::App(_, last) => {
+                way.push(rest)?;
+                rest = last;
+            }
+            Raw::Under(under) => match &**under {
+                Under::Abs(_, last) => {
+                    way.push(rest)?;
+                    rest = last;
                 }
-                more => {
-                    layers.push(TermLayer::App(*f))?;
-                    rest = more;
+                Under::Swapped(places, body) => {
+                    let end = carry_swapped(alloc, swaps, places, body)?;
+                    return carry_within(alloc, swaps, way, end);
                 }
             },
-            Raw::Abs(Id::Name(a), body) => {
-                layers.push(TermLayer::Abs(image(swaps, *a)))?;
-                rest = body;
-            }
-            Raw::Swapped(Id::Name(a), Id::Name(b), body) => {
-                let inner = with_swap(alloc, swaps, *a, *b)?;
-                let carried = carry_under(alloc, inner.as_slice(), body)?;
-                return close_term(alloc, layers, carried);
-            }
-            Raw::Abs(Id::Var(_), body) | Raw::Swapped(_, _, body) => rest = body,
         }
     }
 }

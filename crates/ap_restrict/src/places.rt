@@ -9,7 +9,7 @@ ghost use Rattle.ap_program.specs.NameRestriction.{variable_of, variable_binders
 ghost use Rattle.ap_restrict.specs.Places.{first_var, variables_at};
 
 use ap_defs::goals::Goal;
-use ap_defs::terms::{Id, Raw, Var};
+use ap_defs::terms::{Id, Raw, Under, Var};
 
 /// A place where a name belongs: the binder of an abstraction, or one of the two of a swapping.
 #[derive(Clone, Copy)]
@@ -47,9 +47,11 @@ fn first_binder(t: &Raw) -> Option<Var>
                 rest = right;
             }
             Raw::App(_, argument) => rest = argument,
-            Raw::Abs(Id::Var(x), _) => return Some(*x),
-            Raw::Abs(Id::Name(_), body) => rest = body,
-            Raw::Swapped(_, _, body) => rest = body,
+            Raw::Under(under) => match &**under {
+                Under::Abs(Id::Var(x), _) => return Some(*x),
+                Under::Abs(Id::Name(_), body) => rest = body,
+                Under::Swapped(_, body) => rest = body,
+            },
         }
     }
 }
@@ -70,13 +72,15 @@ fn first_place(t: &Raw) -> Option<Var>
                 rest = right;
             }
             Raw::App(_, argument) => rest = argument,
-            Raw::Abs(_, body) => rest = body,
-            Raw::Swapped(left, right, body) => {
-                if let Some(x) = first_variable(*left, *right) {
-                    return Some(x);
+            Raw::Under(under) => match &**under {
+                Under::Abs(_, body) => rest = body,
+                Under::Swapped(places, body) => {
+                    if let Some(x) = first_variable(places.left, places.right) {
+                        return Some(x);
+                    }
+                    rest = body;
                 }
-                rest = body;
-            }
+            },
         }
     }
 }

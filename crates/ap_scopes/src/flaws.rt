@@ -106,9 +106,10 @@ pub fn term_flaw(declared: &Declarations<'_>, tree: &Tree<'_>) -> Option<TypeKin
                 flaw = least(flaw, binder_flaw(declared, *binder));
                 rest = body;
             }
-            Tree::Swapped(left, right, body) => {
-                let ends = least(binder_flaw(declared, *left), binder_flaw(declared, *right));
-                flaw = least(flaw, ends);
+            Tree::Swapped(sides, body) => {
+                let left = binder_flaw(declared, sides.left);
+                let right = binder_flaw(declared, sides.right);
+                flaw = least(flaw, least(left, right));
                 rest = body;
             }
         }

@@ -13,7 +13,7 @@ use crate::identifiers::{Brought, Identifiers};
 use ap_defs::lists::List;
 use ap_defs::memory::Memory;
 use ap_defs::terms::{Id, Name, Raw, Var};
-use ap_spines::{RawLayer, close_raw, raw_pair};
+use ap_spines::{RawLayer, close_raw, raw_abs, raw_pair, swapping_layer};
 use ap_trees::{Args, Binder, Tree};
 use std::alloc::Global;
 
@@ -90,7 +90,7 @@ fn word_alone<'a>(
 /// Whether what is last in a term goes on in the same way. It spares work alone.
 fn goes_on(tree: &Tree<'_>) -> bool {
     match tree {
-        Tree::Pair(_, _) | Tree::Cell(_, _) | Tree::Abs(_, _) | Tree::Swapped(_, _, _) => true,
+        Tree::Pair(_, _) | Tree::Cell(_, _) | Tree::Abs(_, _) | Tree::Swapped(_, _) => true,
         Tree::Unit | Tree::Nil | Tree::Var(_) | Tree::Word(_) | Tree::Apply(_, _) => false,
     }
 }
@@ -150,7 +150,7 @@ fn resolved_abstraction<'a>(
 {
     let id = binder(scope, spelling, found)?;
     let body = resolved_term(alloc, declared, scope, body, found)?;
-    Ok(Raw::Abs(id, Box::new(alloc, body)?))
+    raw_abs(alloc, id, body)
 }
 
 /// A constructor with its arguments.
@@ -226,10 +226,10 @@ fn resolved_spine<'a>(
                 layers.push(RawLayer::Abs(binder(scope, *spelling, found)?))?;
                 rest = body;
             }
-            Tree::Swapped(left, right, body) => {
-                let left = binder(scope, *left, found)?;
-                let right = binder(scope, *right, found)?;
-                layers.push(RawLayer::Swapped(left, right))?;
+            Tree::Swapped(sides, body) => {
+                let left = binder(scope, sides.left, found)?;
+                let right = binder(scope, sides.right, found)?;
+                layers.push(swapping_layer(alloc, left, right)?)?;
                 rest = body;
             }
         }

@@ -86,9 +86,9 @@ fn add_term<'a>(words: &mut Words<'a>, tree: &Tree<'a>) -> Result<(), Memory>
                 words.add(spelled(*binder))?;
                 rest = body;
             }
-            Tree::Swapped(left, right, body) => {
-                words.add(spelled(*left))?;
-                words.add(spelled(*right))?;
+            Tree::Swapped(sides, body) => {
+                words.add(spelled(sides.left))?;
+                words.add(spelled(sides.right))?;
                 rest = body;
             }
         }

@@ -14,7 +14,7 @@ raw_in (around_term.Left t) u = terms.pair (raw_of t) u
 raw_in (around_term.Cell t) u = terms.app 1 (terms.pair (raw_of t) u)
 raw_in (around_term.App f) u = terms.app f u
 raw_in (around_term.Abs i) u = terms.abs i u
-raw_in (around_term.Swapped i j) u = terms.swapped i j u
+raw_in (around_term.Swapped s) u = terms.swapped s.value.left s.value.right u
 
 abbrev pub raw_within : List RawLayer → RawTerm → RawTerm
 raw_within [] t = t

@@ -5,13 +5,13 @@
 #![tactic(auto)]
 
 ghost use Rattle.std.specs.Prelude.{◌≡◌, IfOk};
-ghost use Rattle.ap_defs.specs.RawTerms.{raw_of, pair};
+ghost use Rattle.ap_defs.specs.RawTerms.{RawTerm, raw_of, pair, abs, swapped};
 ghost use Rattle.ap_defs.specs.Goals.{goal_over};
 ghost use Rattle.ap_spines.specs.Spines.{raw_in, raw_within, raw_goal_in, raw_goal_within};
 
 use ap_defs::goals::Goal;
 use ap_defs::memory::Memory;
-use ap_defs::terms::{Id, Name, Raw, Var};
+use ap_defs::terms::{Id, Name, Raw, SwapPlaces, Under, Var};
 use std::alloc::Global;
 
 /// What stands round a part of a term: the part is right of a term in a pair, the tail of a list cell, the
@@ -22,7 +22,7 @@ pub enum RawLayer {
     Cell(Raw),
     App(u32),
     Abs(Id),
-    Swapped(Id, Id),
+    Swapped(Box<SwapPlaces>),
 }
 
 /// What stands round a part of a goal: the part is right of a goal and `,` or `;`, or the body of
@@ -43,6 +43,20 @@ pub fn raw_pair(alloc: Global, left: Raw, right: Raw) -> Result<Raw, Memory>
     Ok(Raw::Pair(left, Box::new(alloc, right)?))
 }
 
+/// An abstraction.
+pub fn raw_abs(alloc: Global, binder: Id, body: Raw) -> Result<Raw, Memory>
+    ensures { IfOk result (λ t. raw_of t ≡ abs binder (raw_of body)) }
+{
+    Ok(Raw::Under(Box::new(alloc, Under::Abs(binder, body))?))
+}
+
+/// A swapping as a layer.
+pub fn swapping_layer(alloc: Global, left: Id, right: Id) -> Result<RawLayer, Memory>
+    ensures { IfOk result (λ l. (t : RawTerm) → raw_in l t ≡ swapped left right t) }
+{
+    Ok(RawLayer::Swapped(Box::new(alloc, SwapPlaces { left, right })?))
+}
+
 /// A term in a layer.
 fn raw_in(alloc: Global, layer: RawLayer, t: Raw) -> Result<Raw, Memory>
     ensures { IfOk result (λ u. raw_of u ≡ raw_in layer (raw_of t)) }
@@ -54,8 +68,8 @@ fn raw_in(alloc: Global, layer: RawLayer, t: Raw) -> Result<Raw, Memory>
             Ok(Raw::App(1, Box::new(alloc, parts)?))
         }
         RawLayer::App(f) => Ok(Raw::App(f, Box::new(alloc, t)?)),
-        RawLayer::Abs(i) => Ok(Raw::Abs(i, Box::new(alloc, t)?)),
-        RawLayer::Swapped(i, j) => Ok(Raw::Swapped(i, j, Box::new(alloc, t)?)),
+        RawLayer::Abs(binder) => raw_abs(alloc, binder, t),
+        RawLayer::Swapped(places) => Ok(Raw::Under(Box::new(alloc, Under::Swapped(places, t))?)),
     }
 }
 

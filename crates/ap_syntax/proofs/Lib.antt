@@ -1,5 +1,6 @@
 pub mod Matches
 pub mod Joins
+pub mod Applied
 pub mod GoalLaws
 pub mod GoalOnly
 pub mod Levels

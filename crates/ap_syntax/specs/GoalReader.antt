@@ -1,7 +1,7 @@
 -- Reading a goal.
-use Rattle.std.specs.Prelude.{ℕ, zero, suc, List, [], ◌∷◌, length, Option, None, Some}
+use Rattle.std.specs.Prelude.{ℕ, zero, suc, ◌+◌, List, [], ◌∷◌, length, Option, None, Some}
 use Rattle.ap_trees.specs.Symbols.{Sym}
-use Rattle.ap_trees.specs.Terms.{Term}
+use Rattle.ap_trees.specs.Terms.{Term, Apply, argument_terms}
 use Rattle.ap_trees.specs.Goals.{Goal, Atom, Equation, Freshness, Both, Either, Some_variable, New_name, joined_goals}
 use Rattle.ap_trees.specs.Readers.{SymbolReader, ◌>>=◌, separated, after_comma, after_open, after_close, at_end}
 use Rattle.ap_trees.specs.TermReader.{read_term}
@@ -55,6 +55,24 @@ unfoldable pub read_flat : SymbolReader Goal
 read_flat ts = do
   left ← first_term ts
   relation_or_atom ts left.0 (after_equal left.1) (after_fresh left.1)
+
+-- terms up to the `)` that closes them, as deep as the term that they are parts of may be
+unfoldable pub parts_inside : SymbolReader (List Term)
+parts_inside ts = do
+  parts ← separated after_comma (read_term (length ts + 1)) (length ts) ts
+  rest ← after_close parts.1
+  Some (parts.0, rest)
+
+abbrev pub applied_by : List ℕ → List Term → List Sym → Option (List Sym) → Option (List Sym) → Option (Goal × List Sym)
+applied_by w parts ts (Some us) other = right_side Equation (Apply w (argument_terms parts)) us
+applied_by w parts ts None (Some us) = right_side Freshness (Apply w (argument_terms parts)) us
+applied_by w parts ts None None = Some (Atom w parts, ts)
+
+-- an equation, a freshness goal or an atom that begins with a word and `(`, behind these
+unfoldable pub applied_goal : List ℕ → SymbolReader Goal
+applied_goal w ts = do
+  parts ← parts_inside ts
+  applied_by w parts.0 parts.1 (after_equal parts.1) (after_fresh parts.1)
 
 -- a goal up to the `)` that closes it
 unfoldable pub goal_inside : SymbolReader Goal → SymbolReader Goal

@@ -1,5 +1,5 @@
 // Reading a goal.
-ghost use Rattle.std.specs.Prelude.{◌≡◌, ◌<◌, ◌≤◌, [], length, IfOk, Some};
+ghost use Rattle.std.specs.Prelude.{◌≡◌, ◌<◌, ◌≤◌, [], ◌∷◌, length, vec_len, IfOk, Some};
 ghost use Rattle.ap_trees.specs.Goals as trees;
 ghost use Rattle.ap_trees.specs.Outcomes.{GivesPart};
 ghost use Rattle.ap_trees.specs.Readers.{separated, after_comma};
@@ -7,6 +7,7 @@ ghost use Rattle.ap_trees.specs.Symbols.{syms};
 ghost use Rattle.ap_trees.specs.Trees.{term_of, trees_of, goal_of_tree, goals_of};
 ghost use Rattle.ap_syntax.specs.GoalReader as spec;
 ghost use Rattle.ap_syntax.specs.GoalReader.{read_goal, read_conj, read_simple};
+ghost use Rattle.ap_syntax.specs.Marks as marks;
 ghost use Rattle.ap_syntax.specs.Marks.{after_semicolon};
 
 use crate::marks::{
@@ -15,9 +16,10 @@ use crate::marks::{
 use crate::matching::after_group;
 use ap_defs::lists::List;
 use ap_trees::{
-    GoalTree, ReadError, Symbol, Tree, after_close, after_comma, after_open, term, term_list,
+    GoalTree, ReadError, Symbol, Tree, after_close, after_comma, after_open, applied, term,
+    term_list,
 };
-use std::alloc::Global;
+use std::alloc::{AllocError, Global};
 
 /// The terms up to the `)` that closes them, and what follows it.
 #[tactic(auto, unfolding(crate::specs::GoalReader::terms_inside))]
@@ -115,9 +117,69 @@ fn freshness<'a, 's>(
     Ok((GoalTree::Fresh(left, right), rest))
 }
 
-/// An equation, a freshness goal or an atom.
+/// The terms up to the `)` that closes them, as deep as a term of which they are parts, and what follows it.
+#[tactic(auto, unfolding(crate::specs::GoalReader::parts_inside))]
+fn parts_inside<'a, 's>(
+    alloc: Global,
+    symbols: &'s [Symbol<'a>],
+) -> Result<(Vec<Tree<'a>>, &'s [Symbol<'a>]), ReadError>
+    ensures value { GivesPart (λ r. (trees_of r.0.items, syms r.1.now)) result
+        (spec.parts_inside (syms symbols.now)) }
+    ensures shorter { IfOk result (λ r. length r.1.now ≤ length symbols.now) }
+{
+    let (parts, rest) = term_list(alloc, symbols.len() + 1, symbols)?;
+    let rest = after_close(rest).ok_or(ReadError::Grammar)?;
+    Ok((parts, rest))
+}
+
+/// The goal of a word with these terms, behind its `)`: they are an atom's arguments, unless a mark follows.
+fn goal_with<'a, 's>(
+    alloc: Global,
+    word: &'a str,
+    parts: Vec<Tree<'a>>,
+    symbols: &'s [Symbol<'a>],
+) -> Result<(GoalTree<'a>, &'s [Symbol<'a>]), ReadError>
+    ensures value { GivesPart (λ r. (goal_of_tree r.0, syms r.1.now)) result
+        (spec.applied_by word.entry.now (trees_of parts.entry.items) (syms symbols.now)
+        (marks.after_equal (syms symbols.now)) (marks.after_fresh (syms symbols.now))) }
+    ensures shorter { IfOk result (λ r. length r.1.now ≤ length symbols.now) }
+{
+    match after_equal(symbols) {
+        Some(rest) => {
+            let left = applied(alloc, word, parts)?;
+            let (goal, rest) = equation(alloc, left, rest)?;
+            Ok((goal, rest))
+        }
+        None => match after_fresh(symbols) {
+            Some(rest) => {
+                let left = applied(alloc, word, parts)?;
+                let (goal, rest) = freshness(alloc, left, rest)?;
+                Ok((goal, rest))
+            }
+            None => Ok((GoalTree::Atom(word, List::of(parts)), symbols)),
+        },
+    }
+}
+
+/// An equation, a freshness goal or an atom that begins with a word and `(`, behind these.
+#[tactic(auto, unfolding(crate::specs::GoalReader::applied_goal))]
+fn applied_goal<'a, 's>(
+    alloc: Global,
+    word: &'a str,
+    symbols: &'s [Symbol<'a>],
+) -> Result<(GoalTree<'a>, &'s [Symbol<'a>]), ReadError>
+    ensures value { GivesPart (λ r. (goal_of_tree r.0, syms r.1.now)) result
+        (spec.applied_goal word.entry.now (syms symbols.now)) }
+    ensures shorter { IfOk result (λ r. length r.1.now ≤ length symbols.now) }
+{
+    let (parts, rest) = parts_inside(alloc, symbols)?;
+    let (goal, rest) = goal_with(alloc, word, parts, rest)?;
+    Ok((goal, rest))
+}
+
+/// An equation, a freshness goal or an atom that begins with a term.
 #[tactic(auto, unfolding(crate::specs::GoalReader::read_flat))]
-fn flat<'a, 's>(
+fn term_goal<'a, 's>(
     alloc: Global,
     symbols: &'s [Symbol<'a>],
 ) -> Result<(GoalTree<'a>, &'s [Symbol<'a>]), ReadError>
@@ -132,6 +194,24 @@ fn flat<'a, 's>(
             Some(rest) => freshness(alloc, left, rest),
             None => atom_goal(alloc, symbols),
         },
+    }
+}
+
+/// An equation, a freshness goal or an atom.
+#[tactic(auto, using(crate::proofs::Applied::flat_applied))]
+fn flat<'a, 's>(
+    alloc: Global,
+    symbols: &'s [Symbol<'a>],
+) -> Result<(GoalTree<'a>, &'s [Symbol<'a>]), ReadError>
+    ensures value { GivesPart (λ r. (goal_of_tree r.0, syms r.1.now)) result
+        (spec.read_flat (syms symbols.now)) }
+    ensures shorter { IfOk result (λ r. length r.1.now < length symbols.now) }
+{
+    if let [Symbol::Ident(word), Symbol::Open, inside @ ..] = symbols {
+        let (goal, rest) = applied_goal(alloc, word, inside)?;
+        Ok((goal, rest))
+    } else {
+        term_goal(alloc, symbols)
     }
 }
 
@@ -163,6 +243,21 @@ fn disjunction<'a>(alloc: Global, mut parts: Vec<GoalTree<'a>>) -> Result<GoalTr
     Ok(whole)
 }
 
+/// A goal alone as a list, and what follows it.
+fn begun<'a, 's>(
+    alloc: Global,
+    first: GoalTree<'a>,
+    after: &'s [Symbol<'a>],
+) -> Result<(Vec<GoalTree<'a>>, &'s [Symbol<'a>]), AllocError>
+    ensures first { IfOk result (λ r. r.0.items ≡ first.entry ∷ []) }
+    ensures one { IfOk result (λ r. vec_len r.0 ≡ 1) }
+    ensures behind { IfOk result (λ r. r.1.now ≡ after.now) }
+{
+    let mut all = Vec::new(alloc);
+    all.push(first)?;
+    Ok((all, after))
+}
+
 /// A goal that begins the symbols, and what follows it.
 #[cycle(goals)]
 #[tactic(auto, unfolding(crate::specs::GoalReader::read_goal))]
@@ -184,7 +279,6 @@ pub fn goal<'a, 's>(
 
 /// One conjunction or more with semicolons between, and what follows.
 #[cycle(goals)]
-#[tactic(auto, unfolding(crate::specs::GoalReader::read_disj))]
 fn any_of<'a, 's>(
     alloc: Global,
     levels: usize,
@@ -194,13 +288,61 @@ fn any_of<'a, 's>(
         (read_goal levels) (syms symbols.now)) }
     ensures shorter { IfOk result (λ r. length r.1.now < length symbols.now) }
 {
-    let (parts, rest) = conjunctions(alloc, levels, symbols)?;
+    let (first, after) = all_of(alloc, levels, symbols)?;
+    match after_semicolon(after) {
+        Some(_) => longer_disjunction(alloc, levels, symbols, first, after),
+        None => Ok((first, after)),
+    }
+}
+
+/// Two conjunctions with semicolons between or more, behind the first, and what follows.
+#[cycle(goals)]
+#[tactic(auto, unfolding(crate::specs::GoalReader::read_disj))]
+fn longer_disjunction<'a, 's>(
+    alloc: Global,
+    levels: usize,
+    symbols: &'s [Symbol<'a>],
+    first: GoalTree<'a>,
+    after: &'s [Symbol<'a>],
+) -> Result<(GoalTree<'a>, &'s [Symbol<'a>]), ReadError>
+    requires first { read_conj (read_goal levels) (syms symbols.now)
+        ≡ Some (goal_of_tree first, syms after.now) }
+    requires behind { length after.now < length symbols.now }
+    ensures value { GivesPart (λ r. (goal_of_tree r.0, syms r.1.now)) result (spec.read_disj
+        (read_goal levels) (syms symbols.now)) }
+    ensures shorter { IfOk result (λ r. length r.1.now < length symbols.now) }
+{
+    let (parts, rest) = further_conjunctions(alloc, levels, symbols, first, after)?;
     Ok((disjunction(alloc, parts)?, rest))
+}
+
+/// The conjunctions that begin the symbols, with semicolons between, and what follows them, behind the first.
+#[cycle(goals)]
+fn further_conjunctions<'a, 's>(
+    alloc: Global,
+    levels: usize,
+    symbols: &'s [Symbol<'a>],
+    first: GoalTree<'a>,
+    after: &'s [Symbol<'a>],
+) -> Result<(Vec<GoalTree<'a>>, &'s [Symbol<'a>]), ReadError>
+    requires first { read_conj (read_goal levels) (syms symbols.now)
+        ≡ Some (goal_of_tree first, syms after.now) }
+    requires behind { length after.now < length symbols.now }
+    ensures value { GivesPart (λ r. (goals_of r.0.items, syms r.1.now)) result (separated
+        after_semicolon (read_conj (read_goal levels)) (length symbols.now) (syms symbols.now)) }
+    ensures shorter { IfOk result (λ r. length r.1.now < length symbols.now) }
+{
+    let (mut all, mut rest) = begun(alloc, first, after)?;
+    while let Some(after) = after_semicolon(rest) {
+        let (next, left) = all_of(alloc, levels, after)?;
+        all.push(next)?;
+        rest = left;
+    }
+    Ok((all, rest))
 }
 
 /// One simple goal or more with commas between, and what follows.
 #[cycle(goals)]
-#[tactic(auto, unfolding(crate::specs::GoalReader::read_conj))]
 fn all_of<'a, 's>(
     alloc: Global,
     levels: usize,
@@ -210,46 +352,51 @@ fn all_of<'a, 's>(
         (read_goal levels) (syms symbols.now)) }
     ensures shorter { IfOk result (λ r. length r.1.now < length symbols.now) }
 {
-    let (parts, rest) = simple_goals(alloc, levels, symbols)?;
+    let (first, after) = simple(alloc, levels, symbols)?;
+    match after_comma(after) {
+        Some(_) => longer_conjunction(alloc, levels, symbols, first, after),
+        None => Ok((first, after)),
+    }
+}
+
+/// Two simple goals with commas between or more, behind the first, and what follows.
+#[cycle(goals)]
+#[tactic(auto, unfolding(crate::specs::GoalReader::read_conj))]
+fn longer_conjunction<'a, 's>(
+    alloc: Global,
+    levels: usize,
+    symbols: &'s [Symbol<'a>],
+    first: GoalTree<'a>,
+    after: &'s [Symbol<'a>],
+) -> Result<(GoalTree<'a>, &'s [Symbol<'a>]), ReadError>
+    requires first { read_simple (read_goal levels) (syms symbols.now)
+        ≡ Some (goal_of_tree first, syms after.now) }
+    requires behind { length after.now < length symbols.now }
+    ensures value { GivesPart (λ r. (goal_of_tree r.0, syms r.1.now)) result (spec.read_conj
+        (read_goal levels) (syms symbols.now)) }
+    ensures shorter { IfOk result (λ r. length r.1.now < length symbols.now) }
+{
+    let (parts, rest) = further_goals(alloc, levels, symbols, first, after)?;
     Ok((conjunction(alloc, parts)?, rest))
 }
 
-/// The conjunctions that begin the symbols, with semicolons between, and what follows them.
+/// The simple goals that begin the symbols, with commas between, and what follows them, behind the first.
 #[cycle(goals)]
-fn conjunctions<'a, 's>(
+fn further_goals<'a, 's>(
     alloc: Global,
     levels: usize,
     symbols: &'s [Symbol<'a>],
+    first: GoalTree<'a>,
+    after: &'s [Symbol<'a>],
 ) -> Result<(Vec<GoalTree<'a>>, &'s [Symbol<'a>]), ReadError>
-    ensures value { GivesPart (λ r. (goals_of r.0.items, syms r.1.now)) result (separated
-        after_semicolon (read_conj (read_goal levels)) (length symbols.now) (syms symbols.now)) }
-    ensures shorter { IfOk result (λ r. length r.1.now < length symbols.now) }
-{
-    let mut all = Vec::new(alloc);
-    let (first, mut rest) = all_of(alloc, levels, symbols)?;
-    all.push(first)?;
-    while let Some(after) = after_semicolon(rest) {
-        let (next, left) = all_of(alloc, levels, after)?;
-        all.push(next)?;
-        rest = left;
-    }
-    Ok((all, rest))
-}
-
-/// The simple goals that begin the symbols, with commas between, and what follows them.
-#[cycle(goals)]
-fn simple_goals<'a, 's>(
-    alloc: Global,
-    levels: usize,
-    symbols: &'s [Symbol<'a>],
-) -> Result<(Vec<GoalTree<'a>>, &'s [Symbol<'a>]), ReadError>
+    requires first { read_simple (read_goal levels) (syms symbols.now)
+        ≡ Some (goal_of_tree first, syms after.now) }
+    requires behind { length after.now < length symbols.now }
     ensures value { GivesPart (λ r. (goals_of r.0.items, syms r.1.now)) result (separated
         after_comma (read_simple (read_goal levels)) (length symbols.now) (syms symbols.now)) }
     ensures shorter { IfOk result (λ r. length r.1.now < length symbols.now) }
 {
-    let mut all = Vec::new(alloc);
-    let (first, mut rest) = simple(alloc, levels, symbols)?;
-    all.push(first)?;
+    let (mut all, mut rest) = begun(alloc, first, after)?;
     while let Some(after) = after_comma(rest) {
         let (next, left) = simple(alloc, levels, after)?;
         all.push(next)?;

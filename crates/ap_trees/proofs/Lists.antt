@@ -1,5 +1,5 @@
 -- Lists with commas between.
-use Rattle.std.proofs.Common.{◌≡◌, ℕ, zero, suc, List, [], ◌∷◌, ◌++◌, Option, None, Some, refl, sym, ap, append_assoc, append-nil, subst, Result}
+use Rattle.std.proofs.Common.{◌≡◌, ◌<◌, ℕ, zero, suc, arith, List, [], ◌∷◌, ◌++◌, Option, None, Some, refl, sym, ap, ◌∙◌, append_assoc, append-nil, subst, Result, Ok, Err, IfOk}
 use Rattle.ap_trees.specs.declared.outcome.ReadError.{ReadError}
 use Rattle.ap_trees.specs.declared.outcome.ReadError.TheVariants as errors
 use Rattle.ap_trees.specs.Outcomes.{FailsPart, GivesPart}
@@ -26,6 +26,11 @@ module _ {A : Type 0} where
       → with_before (x ∷ []) (further after (separated after read k) rest) ≡ separated after read n ts
   unfolding separated
   separated_first after read n k ts rest x e got = rw (e, separated, got) refl
+
+  -- the first thing, and no mark behind it
+  pub separated_alone : (after : List Sym → Option (List Sym)) (read : SymbolReader A) (n : ℕ) (ts rest : List Sym) (x : A) → 0 < n → read ts ≡ Some (x, rest) → after rest ≡ None → separated after read n ts ≡ Some (x ∷ [], rest)
+  separated_alone after read zero ts rest x some got none = absurd (omega arith)
+  separated_alone after read (suc k) ts rest x some got none = sym (separated_first after read (suc k) k ts rest x refl got) ∙ rw none refl
 
   -- one more thing, after a comma
   pub further_on : (after : List Sym → Option (List Sym)) (read : SymbolReader A) (n k : ℕ) (front : List A) (ts us rest : List Sym) (x : A) → n ≡ suc k → after ts ≡ Some us → read us ≡ Some (x, rest)
@@ -54,3 +59,8 @@ fails_on errors.Grammar r s on f = on f
 -- what a function gives, said of an equal reading
 pub gives_as : {X Y : Type 0} (view : X → Y) (r : Result X ReadError) (a b : Option Y) → GivesPart view r a → b ≡ a → GivesPart view r b
 gives_as view r a b g e = subst (GivesPart view r) (sym e) g
+
+-- what is returned has what follows from what it has
+pub ok_weaker : {X : Type 0} (P Q : X → Type 0) (r : Result X ReadError) → IfOk r P → ((x : X) → P x → Q x) → IfOk r Q
+ok_weaker P Q (Ok x) h weaker = weaker x h
+ok_weaker P Q (Err e) h weaker = tt

@@ -1,7 +1,7 @@
 -- Reading a term.
 use Rattle.std.specs.Prelude.{ℕ, zero, suc, List, ◌∷◌, length, Option, None, Some}
 use Rattle.ap_trees.specs.Symbols.{Sym, Var, Ident, Swap, Open, OpenList}
-use Rattle.ap_trees.specs.Terms.{Name, Term, OfWord, OfVar, Unit, Variable, Word, Apply, Nil, Abs, Swapped, argument_terms, tuple, cells}
+use Rattle.ap_trees.specs.Terms.{Name, Term, OfWord, OfVar, Unit, Variable, Word, Apply, Nil, Abs, Swapped, Last, argument_terms, tuple, cells}
 use Rattle.ap_trees.specs.Readers.{SymbolReader, ◌>>=◌, separated, after_lambda, after_comma, after_open, after_close, after_close_list, after_bar, at_end}
 
 -- an abstraction, behind its binder
@@ -19,6 +19,12 @@ application read w ts = do
   parts ← list_within read ts
   rest ← after_close parts.1
   Some (Apply w (argument_terms parts.0), rest)
+
+-- an application of one argument, behind that
+abbrev pub sole_application : List ℕ → Term → SymbolReader Term
+sole_application w t ts = do
+  rest ← after_close ts
+  Some (Apply w (Last t), rest)
 
 abbrev pub word_or_more : SymbolReader Term → List ℕ → List Sym → Option (List Sym) → Option (List Sym) → Option (Term × List Sym)
 word_or_more read w ts (Some us) other = abstraction read (OfWord w) us

@@ -46,7 +46,7 @@ abbrev mutual
   term_of code.Nil = terms.Nil
   term_of (code.Cell' p head q tail) = terms.Cell (term_of head) (term_of tail)
   term_of (code.Abs' name p body) = terms.Abs (name_of_binder name) (term_of body)
-  term_of (code.Swapped' left right p body) = terms.Swapped (name_of_binder left) (name_of_binder right) (term_of body)
+  term_of (code.Swapped' sides p body) = terms.Swapped (name_of_binder sides.value.left) (name_of_binder sides.value.right) (term_of body)
 
   pub terms_of : args.Args → Terms
   terms_of (args.Last t) = terms.Last (term_of t)

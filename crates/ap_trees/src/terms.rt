@@ -1,5 +1,5 @@
 // Reading a term.
-ghost use Rattle.std.specs.Prelude.{◌≡◌, ◌<◌, ◌≤◌, [], length, IfOk, IfSome, Some};
+ghost use Rattle.std.specs.Prelude.{◌≡◌, ◌<◌, ◌≤◌, [], ◌∷◌, length, vec_len, IfOk, IfSome, Some};
 ghost use Rattle.std.specs.Option.{option_map};
 ghost use Rattle.ap_trees.specs.Outcomes.{GivesPart};
 ghost use Rattle.ap_trees.specs.Readers.{separated, after_comma};
@@ -15,7 +15,7 @@ use crate::cursor::{
 };
 use crate::outcome::ReadError;
 use crate::symbols::Symbol;
-use crate::trees::{Args, Binder, Tree};
+use crate::trees::{Args, Binder, Sides, Tree};
 use std::alloc::{AllocError, Global};
 
 /// One term or more as arguments.
@@ -44,6 +44,19 @@ fn tuple<'a>(alloc: Global, mut parts: Vec<Tree<'a>>) -> Result<Tree<'a>, AllocE
         whole = Tree::Pair(Box::new(alloc, part)?, Box::new(alloc, whole)?);
     }
     Ok(whole)
+}
+
+/// A word applied to one term or more.
+pub fn applied<'a>(
+    alloc: Global,
+    word: &'a str,
+    parts: Vec<Tree<'a>>,
+) -> Result<Tree<'a>, AllocError>
+    ensures { IfOk result (λ t. term_of t
+        ≡ trees.Apply word.entry.now (trees.argument_terms (trees_of parts.entry.items))) }
+{
+    let args = arguments(alloc, parts)?;
+    Ok(Tree::Apply(word, Box::new(alloc, args)?))
 }
 
 /// The list of these terms and of the end.
@@ -156,9 +169,46 @@ fn abstraction<'a, 's>(
     Ok((Tree::Abs(binder, Box::new(alloc, body)?), rest))
 }
 
-/// An application, behind its `(`.
+/// An application of two arguments or more, behind the first of them.
 #[cycle(terms)]
 #[tactic(auto, unfolding(crate::specs::TermReader::application))]
+fn longer_application<'a, 's>(
+    alloc: Global,
+    levels: usize,
+    word: &'a str,
+    symbols: &'s [Symbol<'a>],
+    first: Tree<'a>,
+    after: &'s [Symbol<'a>],
+) -> Result<(Tree<'a>, &'s [Symbol<'a>]), ReadError>
+    requires first { read_term levels (syms symbols.now) ≡ Some (term_of first, syms after.now) }
+    requires behind { length after.now < length symbols.now }
+    ensures value { GivesPart (λ r. (term_of r.0, syms r.1.now)) result (spec.application
+        (read_term levels) word.entry.now (syms symbols.now)) }
+    ensures shorter { IfOk result (λ r. length r.1.now ≤ length symbols.now) }
+{
+    let (parts, rest) = further_terms(alloc, levels, symbols, first, after)?;
+    let rest = after_close(rest).ok_or(ReadError::Grammar)?;
+    Ok((applied(alloc, word, parts)?, rest))
+}
+
+/// An application of one argument, behind that.
+fn sole_application<'a, 's>(
+    alloc: Global,
+    word: &'a str,
+    argument: Tree<'a>,
+    symbols: &'s [Symbol<'a>],
+) -> Result<(Tree<'a>, &'s [Symbol<'a>]), ReadError>
+    ensures value { GivesPart (λ r. (term_of r.0, syms r.1.now)) result
+        (spec.sole_application word.entry.now (term_of argument.entry) (syms symbols.now)) }
+    ensures shorter { IfOk result (λ r. length r.1.now ≤ length symbols.now) }
+{
+    let rest = after_close(symbols).ok_or(ReadError::Grammar)?;
+    let args = Box::new(alloc, Args::Last(argument))?;
+    Ok((Tree::Apply(word, args), rest))
+}
+
+/// An application, behind its `(`.
+#[cycle(terms)]
 fn application<'a, 's>(
     alloc: Global,
     levels: usize,
@@ -169,10 +219,11 @@ fn application<'a, 's>(
         (read_term levels) word.entry.now (syms symbols.now)) }
     ensures shorter { IfOk result (λ r. length r.1.now ≤ length symbols.now) }
 {
-    let (parts, rest) = term_list(alloc, levels, symbols)?;
-    let rest = after_close(rest).ok_or(ReadError::Grammar)?;
-    let args = arguments(alloc, parts)?;
-    Ok((Tree::Apply(word, Box::new(alloc, args)?), rest))
+    let (first, after) = term(alloc, levels, symbols)?;
+    match after_comma(after) {
+        Some(_) => longer_application(alloc, levels, word, symbols, first, after),
+        None => sole_application(alloc, word, first, after),
+    }
 }
 
 /// What stands in parentheses.
@@ -293,7 +344,47 @@ fn swapped<'a, 's>(
     let (right, rest) = side(rest).ok_or(ReadError::Grammar)?;
     let (body, rest) = term(alloc, levels, rest)?;
     let rest = after_close(rest).ok_or(ReadError::Grammar)?;
-    Ok((Tree::Swapped(left, right, Box::new(alloc, body)?), rest))
+    let sides = Box::new(alloc, Sides { left, right })?;
+    Ok((Tree::Swapped(sides, Box::new(alloc, body)?), rest))
+}
+
+/// A term alone as a list, and what follows it.
+fn begun<'a, 's>(
+    alloc: Global,
+    first: Tree<'a>,
+    after: &'s [Symbol<'a>],
+) -> Result<(Vec<Tree<'a>>, &'s [Symbol<'a>]), AllocError>
+    ensures first { IfOk result (λ r. r.0.items ≡ first.entry ∷ []) }
+    ensures one { IfOk result (λ r. vec_len r.0 ≡ 1) }
+    ensures behind { IfOk result (λ r. r.1.now ≡ after.now) }
+{
+    let mut all = Vec::new(alloc);
+    all.push(first)?;
+    Ok((all, after))
+}
+
+/// The terms that begin the symbols, with commas between, and what follows them, behind the first of them.
+#[cycle(terms)]
+fn further_terms<'a, 's>(
+    alloc: Global,
+    levels: usize,
+    symbols: &'s [Symbol<'a>],
+    first: Tree<'a>,
+    after: &'s [Symbol<'a>],
+) -> Result<(Vec<Tree<'a>>, &'s [Symbol<'a>]), ReadError>
+    requires first { read_term levels (syms symbols.now) ≡ Some (term_of first, syms after.now) }
+    requires behind { length after.now < length symbols.now }
+    ensures value { GivesPart (λ r. (trees_of r.0.items, syms r.1.now)) result (separated
+        after_comma (read_term levels) (length symbols.now) (syms symbols.now)) }
+    ensures shorter { IfOk result (λ r. length r.1.now < length symbols.now) }
+{
+    let (mut all, mut rest) = begun(alloc, first, after)?;
+    while let Some(after) = after_comma(rest) {
+        let (next, left) = term(alloc, levels, after)?;
+        all.push(next)?;
+        rest = left;
+    }
+    Ok((all, rest))
 }
 
 /// The terms that begin the symbols, with commas between, and what follows them.
@@ -307,15 +398,8 @@ pub fn term_list<'a, 's>(
         after_comma (read_term levels) (length symbols.now) (syms symbols.now)) }
     ensures shorter { IfOk result (λ r. length r.1.now < length symbols.now) }
 {
-    let mut all = Vec::new(alloc);
-    let (first, mut rest) = term(alloc, levels, symbols)?;
-    all.push(first)?;
-    while let Some(after) = after_comma(rest) {
-        let (next, left) = term(alloc, levels, after)?;
-        all.push(next)?;
-        rest = left;
-    }
-    Ok((all, rest))
+    let (first, after) = term(alloc, levels, symbols)?;
+    further_terms(alloc, levels, symbols, first, after)
 }
 
 /// By the reader.

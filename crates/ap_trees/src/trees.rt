@@ -11,6 +11,13 @@ pub enum Binder<'a> {
     Var(&'a str),
 }
 
+/// The two sides of a swapping.
+#[derive(Clone, Copy, Debug, PartialEq, Eq)]
+pub struct Sides<'a> {
+    pub left: Binder<'a>,
+    pub right: Binder<'a>,
+}
+
 /// The arguments of an application, of which there is one at least.
 #[cycle(tree)]
 #[derive(Debug)]
@@ -31,7 +38,8 @@ pub enum Tree<'a> {
     Nil,
     Cell(Box<Tree<'a>>, Box<Tree<'a>>),
     Abs(Binder<'a>, Box<Tree<'a>>),
-    Swapped(Binder<'a>, Binder<'a>, Box<Tree<'a>>),
+    /// The sides stand apart, since a swapping is rare and they take more room than all else.
+    Swapped(Box<Sides<'a>>, Box<Tree<'a>>),
 }
 
 impl Drop for Args<'_> {
@@ -56,7 +64,7 @@ impl Drop for Tree<'_> {
                 Tree::Pair(_left, right) => self = Box::into_inner(right),
                 Tree::Cell(_head, tail) => self = Box::into_inner(tail),
                 Tree::Abs(_name, body) => self = Box::into_inner(body),
-                Tree::Swapped(_left, _right, body) => self = Box::into_inner(body),
+                Tree::Swapped(_sides, body) => self = Box::into_inner(body),
             }
         }
     }

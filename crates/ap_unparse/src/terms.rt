@@ -194,8 +194,10 @@ pub fn write_tree(
                 context = Context::Whole;
                 rest = body;
             }
-            Tree::Swapped(left, right, body) => {
-                begin_swap(out, left, right, context)?;
+            Tree::Swapped(sides, body) => {
+                let left = sides.left;
+                let right = sides.right;
+                begin_swap(out, &left, &right, context)?;
                 closers.push(b')')?;
                 context = Context::Whole;
                 rest = body;

@@ -89,17 +89,19 @@ resolved_spine-loop-rest-preserved t c =
     let s = scope_of c.args.scope.now in
     let i = c.in_ok-left-in-Swapped.left in
     let j = c.in_ok-right-in-Swapped.right in
-    let left = name_of_binder c.in-Swapped.left in
-    let right = name_of_binder c.in-Swapped.right in
+    let left = name_of_binder c.in-Swapped.sides.value.left in
+    let right = name_of_binder c.in-Swapped.sides.value.right in
     let body = term_of c.deref-rest-in-Swapped.result.now in
     let before = found_of c.loop-rest.found in
     let between = found_of c.binder-in-Swapped.new.found in
     let after = found_of c.binder-in-Swapped-2.new.found in
     let is : term_of c.loop-rest.rest.now ≡ terms.Swapped left right body = ap term_of c.in-Swapped.is ∙ ap (λ (u : Tree). terms.Swapped left right (term_of u)) (sym c.deref-rest-in-Swapped.ensures) in
     let ends = in_order_is two_ids (binder s left) (binder s right) before between after i j c.in_ok-left-in-Swapped.ensures.value c.in_ok-right-in-Swapped.ensures.value in
+    let layer = c.in_ok-swapping_layer-in-Swapped.field-0 in
+    let part = resolved_term d s body after in
     record {
-      all = raw_goes_in c.loop-rest.layers.items c.push-in-Swapped.new.self.items (around.Swapped i j) (resolved_term d s (term_of c.loop-rest.rest.now) before) (resolved_term d s body after) _ c.in_ok-push-in-Swapped.ensures.items
-          (ap (λ u. resolved_term d s u before) is ∙ then_is raw_swapped_by (in_order two_ids (binder s left) (binder s right)) (resolved_term d s body) before after (i, j) ends) c.loop-rest.invariant.all;
+      all = raw_goes_in c.loop-rest.layers.items c.push-in-Swapped.new.self.items layer (resolved_term d s (term_of c.loop-rest.rest.now) before) (resolved_term d s body after) _ c.in_ok-push-in-Swapped.ensures.items
+          (ap (λ u. resolved_term d s u before) is ∙ then_is raw_swapped_by (in_order two_ids (binder s left) (binder s right)) (resolved_term d s body) before after (i, j) ends ∙ ap (λ u. (u, part.1)) (sym (c.in_ok-swapping_layer-in-Swapped.ensures part.0))) c.loop-rest.invariant.all;
       numbered = c.in_ok-right-in-Swapped.ensures.numbered;
       smaller = let k : term_size (terms.Swapped left right body) ≤ term_size (term_of c.args.tree.now) = rw is at c.loop-rest.invariant.smaller in omega arith;
     }

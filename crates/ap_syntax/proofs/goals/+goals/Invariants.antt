@@ -21,34 +21,40 @@ decreases-exists_goal l = 16 * l.levels + 2
 abbrev pub decreases-simple : goal.decreases-simple
 decreases-simple l = 16 * l.levels + 3
 
-abbrev pub decreases-simple_goals : goal.decreases-simple_goals
-decreases-simple_goals l = 16 * l.levels + 4
+abbrev pub decreases-further_goals : goal.decreases-further_goals
+decreases-further_goals l = 16 * l.levels + 4
 
 abbrev pub decreases-all_of : goal.decreases-all_of
-decreases-all_of l = 16 * l.levels + 5
+decreases-all_of l = 16 * l.levels + 6
 
-abbrev pub decreases-conjunctions : goal.decreases-conjunctions
-decreases-conjunctions l = 16 * l.levels + 6
+abbrev pub decreases-longer_conjunction : goal.decreases-longer_conjunction
+decreases-longer_conjunction l = 16 * l.levels + 5
+
+abbrev pub decreases-further_conjunctions : goal.decreases-further_conjunctions
+decreases-further_conjunctions l = 16 * l.levels + 7
+
+abbrev pub decreases-longer_disjunction : goal.decreases-longer_disjunction
+decreases-longer_disjunction l = 16 * l.levels + 8
 
 abbrev pub decreases-any_of : goal.decreases-any_of
-decreases-any_of l = 16 * l.levels + 7
+decreases-any_of l = 16 * l.levels + 9
 
-abbrev pub invariant-conjunctions-loop-after : goal.invariant-conjunctions-loop-after
-invariant-conjunctions-loop-after l = record {
+abbrev pub invariant-further_conjunctions-loop-after : goal.invariant-further_conjunctions-loop-after
+invariant-further_conjunctions-loop-after l = record {
   read : with_before (goals_of l.all.items) (further after_semicolon (separated after_semicolon (read_conj (read_goal l.levels)) (length l.symbols - vec_len l.all)) (syms l.rest)) ≡ separated after_semicolon (read_conj (read_goal l.levels)) (length l.symbols) (syms l.symbols);
   enough : length l.rest + vec_len l.all ≤ length l.symbols;
   some : length l.rest < length l.symbols;
 }
 
-abbrev pub decreases-conjunctions-loop-after : goal.decreases-conjunctions-loop-after
-decreases-conjunctions-loop-after l = length l.rest
+abbrev pub decreases-further_conjunctions-loop-after : goal.decreases-further_conjunctions-loop-after
+decreases-further_conjunctions-loop-after l = length l.rest
 
-abbrev pub invariant-simple_goals-loop-after : goal.invariant-simple_goals-loop-after
-invariant-simple_goals-loop-after l = record {
+abbrev pub invariant-further_goals-loop-after : goal.invariant-further_goals-loop-after
+invariant-further_goals-loop-after l = record {
   read : with_before (goals_of l.all.items) (further after_comma (separated after_comma (read_simple (read_goal l.levels)) (length l.symbols - vec_len l.all)) (syms l.rest)) ≡ separated after_comma (read_simple (read_goal l.levels)) (length l.symbols) (syms l.symbols);
   enough : length l.rest + vec_len l.all ≤ length l.symbols;
   some : length l.rest < length l.symbols;
 }
 
-abbrev pub decreases-simple_goals-loop-after : goal.decreases-simple_goals-loop-after
-decreases-simple_goals-loop-after l = length l.rest
+abbrev pub decreases-further_goals-loop-after : goal.decreases-further_goals-loop-after
+decreases-further_goals-loop-after l = length l.rest

@@ -52,8 +52,8 @@ write_tree-loop-rest-preserved-in-Cell-1 t c =
 pub write_tree-loop-rest-preserved : goal.write_tree-loop-rest-preserved
 write_tree-loop-rest-preserved t c =
     let w = term_of c.loop-rest.rest.now in
-    let left = name_of_binder c.in-Swapped.left in
-    let right = name_of_binder c.in-Swapped.right in
+    let left = name_of_binder c.in-Swapped.sides.value.left in
+    let right = name_of_binder c.in-Swapped.sides.value.right in
     let body = term_of c.in-Swapped.body.value in
     record {
       written =
