@@ -9,8 +9,8 @@ use Rattle.ap_property.proofs.CounterLemmas.{each_weaker}
 use Rattle.ap_property.proofs.HeldLemmas.{answered_derivable}
 use Rattle.ap_soundness.specs.FoundStates.{EachAnswer}
 use Rattle.ap_examine.specs.Counterexamples.{HeldAnswersAreDerivable}
-use Rattle.ap_examine.specs.Verdicts.{has_answer, verdict_of_outs}
-use Rattle.ap_examine.specs.declared.verdict.Verdict.TheVariants as verdict
+use Rattle.ap_property.specs.Verdicts.{has_answer, verdict_of_outs}
+use Rattle.ap_property.specs.declared.verdict.Verdict.TheVariants as verdict
 
 -- held is what has an answer
 held_answer : (os : List NominalOut) → verdict_of_outs os ≡ verdict.Held → has_answer os ≡ true

@@ -8,9 +8,9 @@ use Rattle.ap_backchain.specs.Ends.{without_path}
 use Rattle.ap_report.proofs.WithoutPaths.{count_without, cut_without, found_without, stuck_without}
 use Rattle.ap_soundness.specs.FoundStates.{EachAnswer}
 use Rattle.ap_examine.specs.Exams.{counter_among, counter_if, exam_of, exam_with, holds, instance_of, is_unsettled, tally_of, verdict_on}
-use Rattle.ap_examine.specs.Verdicts.{has_answer, verdict_of_outs}
+use Rattle.ap_property.specs.Verdicts.{has_answer, verdict_of_outs}
 use Rattle.ap_examine.specs.declared.exam.Tally.{Tally}
-use Rattle.ap_examine.specs.declared.verdict.Verdict.TheVariants as verdict
+use Rattle.ap_property.specs.declared.verdict.Verdict.TheVariants as verdict
 
 answer_without : (os : List NominalOut) → has_answer (map without_path os) ≡ has_answer os
 answer_without [] = refl

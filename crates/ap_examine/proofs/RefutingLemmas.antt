@@ -19,10 +19,10 @@ use Rattle.ap_text.specs.Texts.{IsProgramOfText}
 use Rattle.ap_typecheck.proofs.TypedPrograms.{program_typed}
 use Rattle.ap_examine.specs.Counterexamples.{AreSoundExams, CounterexamplesRefute, HasSoundExams, Refutes}
 use Rattle.ap_examine.specs.Exams.{Counterexample, counter, counter_among, counter_if, exam_with, instance_of, tally_of, verdict_on}
-use Rattle.ap_examine.specs.Verdicts.{has_answer, verdict_of_outs}
+use Rattle.ap_property.specs.Verdicts.{has_answer, verdict_of_outs}
 use Rattle.ap_examine.specs.declared.exam.Tally.{Tally}
-use Rattle.ap_examine.specs.declared.verdict.Verdict.{Verdict}
-use Rattle.ap_examine.specs.declared.verdict.Verdict.TheVariants as verdict
+use Rattle.ap_property.specs.declared.verdict.Verdict.{Verdict}
+use Rattle.ap_property.specs.declared.verdict.Verdict.TheVariants as verdict
 use Rattle.ap_examine.proofs.HeldLemmas.{held_derivable}
 
 -- refuted is what has no output

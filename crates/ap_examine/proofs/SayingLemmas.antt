@@ -9,10 +9,10 @@ use Rattle.ap_property.specs.PutIn.{query_put_in}
 use Rattle.ap_soundness.specs.FoundStates.{EachAnswer}
 use Rattle.ap_examine.specs.Clearances.{ClearSays, TallySays}
 use Rattle.ap_examine.specs.Exams.{Counterexample, clear, counter_among, counter_if, exam_with, holds, instance_of, is_held, is_verdict_open, is_unsettled, tally_of, verdict_on}
-use Rattle.ap_examine.specs.Verdicts.{has_answer, verdict_of_outs}
+use Rattle.ap_property.specs.Verdicts.{has_answer, verdict_of_outs}
 use Rattle.ap_examine.specs.declared.exam.Tally.{Tally}
-use Rattle.ap_examine.specs.declared.verdict.Verdict.{Verdict}
-use Rattle.ap_examine.specs.declared.verdict.Verdict.TheVariants as verdict
+use Rattle.ap_property.specs.declared.verdict.Verdict.{Verdict}
+use Rattle.ap_property.specs.declared.verdict.Verdict.TheVariants as verdict
 
 -- no counterexample by a verdict and later ones
 not_by : (v : Verdict) (c : Counterexample) (o : Option Counterexample) → counter_if v c o ≡ None → v ≡ verdict.Refuted → ⊥

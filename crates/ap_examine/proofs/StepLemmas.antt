@@ -11,14 +11,14 @@ use Rattle.ap_soundness.specs.FoundStates.{EachAnswer}
 use Rattle.ap_property.specs.PutIn.{asking, query_put_in}
 use Rattle.ap_property.specs.Stated.{stated}
 use Rattle.ap_examine.specs.Exams.{NominalExam, clear, counter, counter_among, counter_if, exam_of, exam_with, holds, instance_of, is_held, is_verdict_open, is_unsettled, tally_of, verdict_on}
-use Rattle.ap_examine.specs.Verdicts.{verdict_of_outs}
+use Rattle.ap_property.specs.Verdicts.{verdict_of_outs}
 use Rattle.ap_examine.specs.Views.{IsExam}
 use Rattle.ap_examine.specs.declared.exam.Exam.{Exam}
 use Rattle.ap_examine.specs.declared.exam.Exam.TheVariants as exam
 use Rattle.ap_examine.specs.Steps.{Asks, IsCounter, IsExaminable, IsExaminableOut, exam_after, exam_next, total_of_tally}
 use Rattle.ap_examine.specs.declared.exam.Tally.{Tally}
-use Rattle.ap_examine.specs.declared.verdict.Verdict.{Verdict}
-use Rattle.ap_examine.specs.declared.verdict.Verdict.TheVariants as verdict
+use Rattle.ap_property.specs.declared.verdict.Verdict.{Verdict}
+use Rattle.ap_property.specs.declared.verdict.Verdict.TheVariants as verdict
 
 -- what is asked another query, and then one more
 pub asked_again : (p r s : NominalProgram) → Asks p r → Asks r s → Asks p s

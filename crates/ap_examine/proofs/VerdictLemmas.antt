@@ -3,8 +3,8 @@ use Rattle.std.proofs.Common.{◌≡◌, List, [], ◌∷◌, refl, ap}
 use Rattle.std.specs.Prelude.{if◌then◌else◌}
 use Rattle.ap_defs.specs.Answers.{NominalOut, cut, found, stuck}
 use Rattle.ap_paths.specs.Limits.{first_part}
-use Rattle.ap_examine.specs.Verdicts.{has_answer, verdict_of_outs}
-use Rattle.ap_examine.specs.declared.verdict.Verdict.TheVariants as verdict
+use Rattle.ap_property.specs.Verdicts.{has_answer, verdict_of_outs}
+use Rattle.ap_property.specs.declared.verdict.Verdict.TheVariants as verdict
 
 first_answer : (os : List NominalOut) → has_answer (first_part 1 os) ≡ has_answer os
 first_answer [] = refl

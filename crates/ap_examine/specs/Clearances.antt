@@ -11,9 +11,9 @@ use Rattle.ap_property.specs.Stated.{Instance}
 use Rattle.ap_soundness.specs.FoundStates.{EachAnswer}
 use Rattle.ap_examine.specs.Counterexamples.{Refutes}
 use Rattle.ap_examine.specs.Exams.{clear, exam, instance_of, verdict_on}
-use Rattle.ap_examine.specs.Verdicts.{has_answer}
+use Rattle.ap_property.specs.Verdicts.{has_answer}
 use Rattle.ap_examine.specs.declared.exam.Tally.{Tally}
-use Rattle.ap_examine.specs.declared.verdict.Verdict.TheVariants as verdict
+use Rattle.ap_property.specs.declared.verdict.Verdict.TheVariants as verdict
 
 -- Each answer of the hypothesis is held or unsettled, and for none of them is the conclusion without outputs; where none is unsettled,
 -- the conclusion has an answer for the stated instance of each.

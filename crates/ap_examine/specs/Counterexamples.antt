@@ -11,7 +11,7 @@ use Rattle.ap_property.specs.Stated.{Instance}
 use Rattle.ap_soundness.specs.FoundStates.{EachAnswer}
 use Rattle.ap_text.specs.Texts.{IsProgramOfText}
 use Rattle.ap_examine.specs.Exams.{Counterexample, counter, exam, instance_of, verdict_on}
-use Rattle.ap_examine.specs.declared.verdict.Verdict.TheVariants as verdict
+use Rattle.ap_property.specs.declared.verdict.Verdict.TheVariants as verdict
 
 -- For the instance the hypothesis is derivable to the depth, and the conclusion has no ground proof, of any height.
 pub record Refutes (p : NominalProgram) (depth : ℕ) (q : NominalQuery) (i : Instance) : Type 0 where

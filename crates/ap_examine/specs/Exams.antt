@@ -6,9 +6,9 @@ use Rattle.ap_defs.specs.Lines.{count_of, is_cut, is_stuck}
 use Rattle.ap_property.specs.Properties.{hypothesis_query}
 use Rattle.ap_property.specs.PutIn.{query_put_in}
 use Rattle.ap_property.specs.Stated.{Instance, stated}
-use Rattle.ap_examine.specs.Verdicts.{verdict_of_outs}
-use Rattle.ap_examine.specs.declared.verdict.Verdict.{Verdict}
-use Rattle.ap_examine.specs.declared.verdict.Verdict.TheVariants as verdict
+use Rattle.ap_property.specs.Verdicts.{verdict_of_outs}
+use Rattle.ap_property.specs.declared.verdict.Verdict.{Verdict}
+use Rattle.ap_property.specs.declared.verdict.Verdict.TheVariants as verdict
 use Rattle.ap_examine.specs.declared.exam.Tally.{Tally}
 
 -- The number of an answer of the hypothesis, from 1, and its stated instance.

@@ -1,4 +1,3 @@
-pub mod Verdicts
 pub mod Exams
 pub mod Reports
 pub mod Steps

@@ -10,8 +10,8 @@ use Rattle.ap_examine.specs.Exams.{NominalExam, clear, counter, instance_of, ver
 use Rattle.ap_examine.specs.declared.exam.Exam.{Exam}
 use Rattle.ap_examine.specs.declared.exam.Exam.TheVariants as exam
 use Rattle.ap_examine.specs.declared.exam.Tally.{Tally}
-use Rattle.ap_examine.specs.declared.verdict.Verdict.{Verdict}
-use Rattle.ap_examine.specs.declared.verdict.Verdict.TheVariants as verdict
+use Rattle.ap_property.specs.declared.verdict.Verdict.{Verdict}
+use Rattle.ap_property.specs.declared.verdict.Verdict.TheVariants as verdict
 
 -- The second program differs from the first in its queries alone, of which it has some.
 pub record Asks (p r : NominalProgram) : Type 0 where

@@ -18,7 +18,6 @@ ghost use Rattle.ap_examine.specs.declared.exam.Exam.TheVariants as exams;
 
 use crate::exam::{Exam, Tally};
 use crate::search::search;
-use crate::verdict::{Verdict, verdict_of};
 use ap_defs::goals::Query;
 use ap_defs::limits::{Depth, Workers};
 use ap_defs::lists::List;
@@ -31,6 +30,7 @@ use ap_io::Gate;
 use ap_paths::Limit;
 use ap_pick::Picker;
 use ap_program::restricted::Restricted;
+use ap_property::verdict::{Verdict, verdict_of};
 use std::alloc::Global;
 use std::sync::Wait;
 use std::thread::Threads;

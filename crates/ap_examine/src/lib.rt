@@ -14,6 +14,5 @@ mod lines;
 mod program;
 mod search;
 mod text;
-mod verdict;
 
 pub use text::examine_text;

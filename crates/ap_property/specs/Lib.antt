@@ -3,3 +3,4 @@ pub mod Stated
 pub mod PutIn
 pub mod Fitting
 pub mod StatementsOnProperties
+pub mod Verdicts

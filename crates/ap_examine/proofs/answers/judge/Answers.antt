@@ -6,7 +6,7 @@ use Rattle.ap_paths.specs.Limits.{part}
 use Rattle.ap_paths.specs.declared.limits.Limit.TheVariants as limits
 use Rattle.ap_property.specs.PutIn.{query_put_in}
 use Rattle.ap_property.specs.Stated.{stated}
-use Rattle.ap_examine.specs.Verdicts.{verdict_of_outs}
+use Rattle.ap_property.specs.Verdicts.{verdict_of_outs}
 use Rattle.ap_examine.proofs.PathLemmas.{verdict_without}
 use Rattle.ap_examine.proofs.VerdictLemmas.{first_verdict}
 use Rattle.ap_examine.proofs.answers.judge.Goals as goal

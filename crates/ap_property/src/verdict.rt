@@ -3,13 +3,13 @@
 ghost use Rattle.std.specs.Prelude.{◌≡◌};
 ghost use Rattle.ap_defs.specs.Answers.{out_of, outs_of};
 ghost use Rattle.ap_defs.specs.Lines.{is_found};
-ghost use Rattle.ap_examine.specs.Verdicts as spec;
+ghost use Rattle.ap_property.specs.Verdicts as spec;
 
 use ap_defs::paths::Out;
 
 /// What is known of a conclusion: it has no ground proof, it has an answer, or neither.
 #[derive(Clone, Copy)]
-pub(crate) enum Verdict {
+pub enum Verdict {
     Refuted,
     Held,
     Open,
@@ -41,7 +41,7 @@ fn has_answer(outs: &[Out]) -> bool
 }
 
 /// The verdict by the outputs of a conclusion.
-pub(crate) fn verdict_of(outs: &[Out]) -> Verdict
+pub fn verdict_of(outs: &[Out]) -> Verdict
     ensures { result ≡ spec.verdict_of_outs (outs_of outs.now) }
 {
     if outs.is_empty() {

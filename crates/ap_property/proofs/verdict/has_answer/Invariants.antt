@@ -1,8 +1,8 @@
 -- What is left has an answer where all have.
 use Rattle.std.proofs.Common.{◌≡◌, length}
 use Rattle.ap_defs.specs.Answers.{outs_of}
-use Rattle.ap_examine.specs.Verdicts.{has_answer}
-use Rattle.ap_examine.proofs.verdict.has_answer.Given as goal
+use Rattle.ap_property.specs.Verdicts.{has_answer}
+use Rattle.ap_property.proofs.verdict.has_answer.Given as goal
 
 abbrev pub invariant-looking : goal.invariant-looking
 invariant-looking l = has_answer (outs_of l.rest) ≡ has_answer (outs_of l.fn.outs)
