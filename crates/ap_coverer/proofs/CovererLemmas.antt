@@ -33,9 +33,9 @@ use Rattle.ap_covering.specs.StatementsOnMatching.{matched_with}
 use Rattle.ap_covering.proofs.MatchedLemmas.{matched_cover}
 use Rattle.ap_defs.specs.Groundings.{Grounding, grounded}
 use Rattle.ap_coverer.specs.Followed.{Covers, CoversPath, IsEnd, by_answer, by_stuck}
-use Rattle.ap_coverer.specs.Clearing.{Clears, in_the_way, used_names}
+use Rattle.ap_clearing.specs.Clearing.{Clears, in_the_way, used_names}
 use Rattle.ap_coverer.specs.Covering.{AreMatched}
-use Rattle.ap_coverer.proofs.ClearsLemmas.{clears_apart}
+use Rattle.ap_clearing.proofs.ClearsLemmas.{clears_apart}
 use Rattle.ap_program.specs.NameRestriction.{IsRestricted}
 use Rattle.ap_property.specs.StatementsOnProperties.{HasTypedVars}
 use Rattle.ap_property.proofs.StatedLemmas.{answers_have_types}

@@ -1,4 +1,3 @@
-mod ClearsLemmas
 mod CovererLemmas
 mod FillLemmas
 mod FollowLemmas

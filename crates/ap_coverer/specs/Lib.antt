@@ -1,6 +1,4 @@
-pub mod Clearing
 pub mod Coverer
 pub mod Covering
 pub mod Followed
 pub mod Matches
-pub mod Starts

@@ -7,14 +7,14 @@ ghost use Rattle.ap_defs.specs.Answers.{answer_of, typed_var_of};
 ghost use Rattle.ap_defs.specs.Terms.{term_of, unit};
 ghost use Rattle.ap_defs.specs.Types.{constructor_of, locals_of};
 ghost use Rattle.ap_instance.specs.Tables.{term_beside};
-ghost use Rattle.ap_coverer.specs.Clearing.{Clears, in_the_way, used_names};
+ghost use Rattle.ap_clearing.specs.Clearing.{Clears, in_the_way, used_names};
 ghost use Rattle.ap_coverer.specs.Covering.{AreMatched, pairs_by, term_pair};
 ghost use Rattle.ap_pick.specs.Pickers.{IsPicker};
 ghost use Rattle.ap_property.specs.StatementsOnProperties.{HasTypedVars};
 
-use crate::clearing::clearing_swaps;
 use crate::filling::filling;
 use crate::matching::match_terms;
+use ap_clearing::clearing::clearing_swaps;
 use ap_defs::copies::copy_term;
 use ap_defs::goals::Local;
 use ap_defs::memory::Memory;

@@ -2,7 +2,6 @@
 #![tactic(auto)]
 
 mod acting;
-mod clearing;
 mod covering;
 mod filling;
 mod following;

@@ -11,7 +11,7 @@ use Rattle.ap_defs.specs.Limits.{size_limit}
 use Rattle.ap_defs.specs.Terms.{NominalTerm, term_of}
 use Rattle.ap_defs.specs.Types.{NominalConstructor, NominalLocal, constructor_of, locals_of}
 use Rattle.ap_property.specs.StatementsOnProperties.{HasTypedVars}
-use Rattle.ap_coverer.specs.Clearing.{Clears, in_the_way, used_names}
+use Rattle.ap_clearing.specs.Clearing.{Clears, in_the_way, used_names}
 use Rattle.ap_coverer.specs.Covering.{AreMatched}
 use Rattle.ap_coverer.proofs.CovererLemmas.{covered_there, few_constructors, terms_ground, typed_there}
 use Rattle.ap_coverer.proofs.covering.covering_at.Goals as goal

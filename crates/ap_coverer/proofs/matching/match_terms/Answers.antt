@@ -10,7 +10,7 @@ use Rattle.ap_defs.specs.Terms.{NominalTerm, term_of}
 use Rattle.ap_defs.specs.Typing.{embedded}
 use Rattle.ap_theory.proofs.BooleanLemmas.{and_right}
 use Rattle.ap_coverer.specs.Matches.{gives}
-use Rattle.ap_coverer.proofs.ClearsLemmas.{no_more}
+use Rattle.ap_clearing.proofs.ClearsLemmas.{no_more}
 use Rattle.ap_coverer.proofs.MatchLemmas.{left_each}
 use Rattle.ap_coverer.proofs.matching.match_terms.Goals as goal
 

@@ -34,8 +34,8 @@ use Rattle.ap_cover.specs.Ground.{ground_terms}
 use Rattle.ap_property.specs.Stated.{other_names}
 use Rattle.ap_instance.proofs.NameLemmas.{name_there}
 use Rattle.indexmap.specs.IndexMap.{IndexMap, get}
-use Rattle.ap_coverer.specs.Clearing.{AreUsedBelow, Clears, Takes, in_the_way, used_names}
-use Rattle.ap_coverer.specs.Starts.{SkipsUsed}
+use Rattle.ap_clearing.specs.Clearing.{AreUsedBelow, Clears, Takes, in_the_way, used_names}
+use Rattle.ap_clearing.specs.Starts.{SkipsUsed}
 
 -- what has no length is empty
 pub no_more : {A : Type 0} (xs : List A) → length xs ≡ 0 → xs ≡ []

@@ -1,9 +1,9 @@
 use Rattle.std.proofs.Common.{◌≡◌, List, [], append-nil, sym, subst}
 use Rattle.ap_defs.specs.declared.terms.Name.{Name}
 use Rattle.ap_defs.specs.declared.terms.Swap.{Swap}
-use Rattle.ap_coverer.specs.Clearing.{Clears}
-use Rattle.ap_coverer.proofs.ClearsLemmas.{no_more}
-use Rattle.ap_coverer.proofs.clearing.exchanges.Goals as goal
+use Rattle.ap_clearing.specs.Clearing.{Clears}
+use Rattle.ap_clearing.proofs.ClearsLemmas.{no_more}
+use Rattle.ap_clearing.proofs.clearing.exchanges.Goals as goal
 
 pub returns : goal.returns
 returns c =

@@ -5,9 +5,9 @@ ghost use Rattle.ap_defs.specs.Answers.{answer_of};
 ghost use Rattle.ap_defs.specs.Permutations.{has_name};
 ghost use Rattle.ap_defs.specs.Terms.{term_of};
 ghost use Rattle.ap_defs.specs.Types.{locals_of};
-ghost use Rattle.ap_coverer.specs.Clearing as spec;
-ghost use Rattle.ap_coverer.specs.Clearing.{AreUsedBelow, Clears, IsLeastUnused, used_names};
-ghost use Rattle.ap_coverer.specs.Starts.{SkipsUsed};
+ghost use Rattle.ap_clearing.specs.Clearing as spec;
+ghost use Rattle.ap_clearing.specs.Clearing.{AreUsedBelow, Clears, IsLeastUnused, used_names};
+ghost use Rattle.ap_clearing.specs.Starts.{SkipsUsed};
 
 use ap_defs::goals::Local;
 use ap_defs::memory::Memory;

@@ -2,7 +2,7 @@
 use Rattle.std.proofs.Common.{◌≡◌, ◌++◌, drop}
 use Rattle.std.specs.Prelude.{filter}
 use Rattle.ap_defs.specs.Permutations.{has_name}
-use Rattle.ap_coverer.proofs.clearing.in_the_way.Given as goal
+use Rattle.ap_clearing.proofs.clearing.in_the_way.Given as goal
 
 abbrev pub invariant-loop-place : goal.invariant-loop-place
 invariant-loop-place l =

@@ -3,9 +3,9 @@ use Rattle.std.specs.Prelude.{filter}
 use Rattle.ap_defs.specs.declared.terms.Name.{Name}
 use Rattle.ap_defs.specs.Permutations.{has_name}
 use Rattle.ap_instance.proofs.NameLemmas.{name_missing}
-use Rattle.ap_coverer.proofs.ClearsLemmas.{next_kept}
-use Rattle.ap_coverer.proofs.clearing.in_the_way.Goals.{in-Some+in_ok-keep, in_default}
-use Rattle.ap_coverer.proofs.clearing.in_the_way.Goals as goal
+use Rattle.ap_clearing.proofs.ClearsLemmas.{next_kept}
+use Rattle.ap_clearing.proofs.clearing.in_the_way.Goals.{in-Some+in_ok-keep, in_default}
+use Rattle.ap_clearing.proofs.clearing.in_the_way.Goals as goal
 
 pub loop-place-preserved : goal.loop-place-preserved
 loop-place-preserved c =

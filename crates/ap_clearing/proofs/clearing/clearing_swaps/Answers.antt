@@ -6,9 +6,9 @@ use Rattle.ap_defs.specs.Answers.{answer_of}
 use Rattle.ap_defs.specs.Occurrences.{names_of_terms}
 use Rattle.ap_defs.specs.Terms.{term_of}
 use Rattle.ap_defs.specs.Types.{locals_of}
-use Rattle.ap_coverer.specs.Clearing.{Clears, in_the_way, used_names}
-use Rattle.ap_coverer.proofs.ClearsLemmas.{clears_known}
-use Rattle.ap_coverer.proofs.clearing.clearing_swaps.Goals as goal
+use Rattle.ap_clearing.specs.Clearing.{Clears, in_the_way, used_names}
+use Rattle.ap_clearing.proofs.ClearsLemmas.{clears_known}
+use Rattle.ap_clearing.proofs.clearing.clearing_swaps.Goals as goal
 
 pub returns : goal.returns
 returns c =

@@ -1,8 +1,8 @@
 use Rattle.std.proofs.Common.{◌∙◌, ap}
 use Rattle.std.specs.Option.{unwrap_or}
 use Rattle.ap_defs.specs.Permutations.{name_eq}
-use Rattle.ap_coverer.proofs.ClearsLemmas.{added, from_start, next_start}
-use Rattle.ap_coverer.proofs.clearing.take_name.Goals as goal
+use Rattle.ap_clearing.proofs.ClearsLemmas.{added, from_start, next_start}
+use Rattle.ap_clearing.proofs.clearing.take_name.Goals as goal
 
 pub next_unused-requires : goal.next_unused-requires
 next_unused-requires c = record {

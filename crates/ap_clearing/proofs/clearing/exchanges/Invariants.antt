@@ -1,9 +1,9 @@
 -- Whatever takes the names that are left takes, behind those so far, all of them.
 use Rattle.std.proofs.Common.{◌++◌, List, length}
 use Rattle.ap_defs.specs.declared.terms.Swap.{Swap}
-use Rattle.ap_coverer.specs.Clearing.{Clears}
-use Rattle.ap_coverer.specs.Starts.{SkipsUsed}
-use Rattle.ap_coverer.proofs.clearing.exchanges.Given as goal
+use Rattle.ap_clearing.specs.Clearing.{Clears}
+use Rattle.ap_clearing.specs.Starts.{SkipsUsed}
+use Rattle.ap_clearing.proofs.clearing.exchanges.Given as goal
 
 abbrev pub invariant-clearing : goal.invariant-clearing
 invariant-clearing l =
