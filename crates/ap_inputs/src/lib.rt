@@ -5,3 +5,4 @@
 pub mod items;
 pub mod lines;
 pub mod orders;
+pub mod questions;

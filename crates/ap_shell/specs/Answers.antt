@@ -1,23 +1,15 @@
 -- What is answered for a query, or for a command about it: a report on the loaded text with that query alone.
-use Rattle.std.specs.Prelude.{◌≡◌, ◌<◌, ◌≤◌, ℕ, List, ◌++◌, length, codes, if◌then◌else◌}
+use Rattle.std.specs.Prelude.{◌≡◌, ◌<◌, ◌≤◌, ℕ, List, length, codes}
 use Rattle.ap_bundle_prove.specs.Reports.{IsProveReport}
 use Rattle.ap_defs.specs.Limits.{size_limit}
 use Rattle.ap_examine.specs.Reports.{IsExamReport}
-use Rattle.ap_inputs.specs.Lines.{has_mark}
+use Rattle.ap_inputs.specs.Questions.{text_with}
 use Rattle.ap_paths.specs.declared.limits.Limit.TheVariants as limits
 use Rattle.ap_report.specs.declared.report.Report.{Report}
 use Rattle.ap_report.specs.declared.status.Status.TheVariants as status
 use Rattle.ap_report.specs.TextReport.{IsTextReport, run_report}
 use Rattle.ap_shell.specs.declared.session.Settings.{Settings}
 use Rattle.ap_uses.specs.Reports.{IsCountReport}
-
--- a query as it stands in a text, with `?-` before it
-abbrev pub question_of : List ℕ → List ℕ
-question_of query = if has_mark query then query else (codes "?- " ++ query)
-
--- the loaded text with a query
-abbrev pub text_with : List ℕ → List ℕ → List ℕ
-text_with loaded query = loaded ++ question_of query
 
 -- what is written for a text that is too large
 abbrev pub too_large : Report

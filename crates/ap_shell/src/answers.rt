@@ -2,10 +2,11 @@
 ghost use Rattle.std.specs.Prelude.{IfOk};
 ghost use Rattle.ap_shell.specs.Answers.{IsAnswer, IsCounted, IsExamined, IsProved};
 
-use crate::reports::{count_report, exam_report, prove_report, run_report, text_with};
+use crate::reports::{count_report, exam_report, prove_report, run_report};
 use crate::saying::{beside_report, beside_status};
 use crate::session::Settings;
 use ap_defs::memory::Memory;
+use ap_inputs::questions::text_with;
 use ap_io::Gate;
 use ap_report::Report;
 use std::alloc::Global;

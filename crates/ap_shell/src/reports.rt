@@ -4,7 +4,7 @@ ghost use Rattle.ap_bundle_prove.specs.Reports.{IsProveReport};
 ghost use Rattle.ap_examine.specs.Reports.{IsExamReport};
 ghost use Rattle.ap_paths.specs.declared.limits.Limit.TheVariants as limits;
 ghost use Rattle.ap_shell.specs.Answers as spec;
-ghost use Rattle.ap_shell.specs.Answers.{IsReportWithin, IsRunReport, text_with};
+ghost use Rattle.ap_shell.specs.Answers.{IsReportWithin, IsRunReport};
 ghost use Rattle.ap_uses.specs.Reports.{IsCountReport};
 
 use crate::session::Settings;
@@ -13,7 +13,6 @@ use ap_defs::limits::SIZE_LIMIT;
 use ap_defs::lists::List;
 use ap_defs::memory::Memory;
 use ap_examine::examine_text;
-use ap_inputs::lines::has_mark;
 use ap_io::Gate;
 use ap_paths::Limit;
 use ap_report::{Report, Status, report_text};
@@ -21,18 +20,6 @@ use ap_uses::count_text;
 use std::alloc::Global;
 use std::sync::Wait;
 use std::thread::Threads;
-
-/// The loaded text with a query.
-pub(crate) fn text_with(alloc: Global, loaded: &[u8], query: &[u8]) -> Result<Vec<u8>, Memory>
-    ensures { IfOk result (λ v. v.items ≡ text_with loaded.now query.now) }
-{
-    let mut text = loaded.to_vec(alloc)?;
-    if !has_mark(query) {
-        text.extend_from_slice(b"?- ")?;
-    }
-    text.extend_from_slice(query)?;
-    Ok(text)
-}
 
 /// The report on a text that is too large.
 fn too_large(alloc: Global) -> Result<Report, Memory>
