@@ -3,7 +3,7 @@ use denote.RattleType.{RattleType}
 use denote.Param.Send.{IsSend, sendable}
 use Rattle.ap_tasks.specs.declared.placed.Shape.{Ghosts}
 use Rattle.ap_lock.proofs.Sent.{seat_send}
-use Rattle.ap_steal.proofs.tools.Tools.TheSendSync.{the_send as tools}
+use Rattle.ap_tools.proofs.Sent.{tools_send as tools}
 use Rattle.ap_steal.specs.contracts.jobs.Job.{the_row}
 
 pub job_send : (W : RattleType) (g : Ghosts W.Denot) → IsSend (the_row W g)

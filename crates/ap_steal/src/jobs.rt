@@ -2,13 +2,13 @@
 
 ghost use Rattle.std.specs.Prelude.{◌≡◌, ℕ, true, [], ◌∷◌, All, ◌<◌, ◌≤◌, map, reverse, vec_len, IfOk};
 ghost use Rattle.atomic_table.specs.Seated.{TableId};
-ghost use Rattle.ap_steal.specs.Planned.{IsNewSeat};
-ghost use Rattle.ap_steal.specs.Hands.{IsFreshTools, AreFreshTools};
+ghost use Rattle.ap_tools.specs.Planned.{IsNewSeat};
+ghost use Rattle.ap_tools.specs.Hands.{IsFreshTools, AreFreshTools};
 
-use crate::tools::Tools;
 use ap_defs::memory::Memory;
 use ap_lock::Seat;
 use ap_tasks::{Owner, Placed, Shape, Thief, tasks};
+use ap_tools::tools::Tools;
 use std::alloc::Global;
 use std::collections::VecDeque;
 
@@ -32,16 +32,6 @@ fn bare<W: Shape>(alloc: Global, number: u32, alone: bool, own: Owner<W>) -> Too
         others: Vec::new(alloc),
         at: 0,
         hand: VecDeque::new(alloc),
-    }
-}
-
-impl<W: Shape> Tools<W> {
-    /// One more thief.
-    fn add(&mut self, thief: Thief<W>) -> Result<(), Memory>
-        ensures { (n : ℕ) → IsFreshTools n self.old → IsFreshTools n self.new }
-    {
-        self.others.push(thief)?;
-        Ok(())
     }
 }
 

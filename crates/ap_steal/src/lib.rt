@@ -11,9 +11,7 @@ mod jobs;
 mod run;
 mod searching;
 mod step;
-mod tools;
 mod work;
 
 pub use jobs::Job;
 pub use searching::{search, search_within};
-pub use tools::Tools;

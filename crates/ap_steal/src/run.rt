@@ -6,9 +6,9 @@ ghost use Rattle.ap_paths.specs.Limits.{AreWithin};
 ghost use Rattle.ap_paths.specs.History.{is_legal, has_stop, is_stop, open_of};
 ghost use Rattle.ap_core.specs.Traces.{AreSeats, IsInOrder};
 ghost use Rattle.ap_lock.specs.Seats.{SeatView, book_id, book_limit, seats_of, logs_of};
-ghost use Rattle.ap_steal.specs.Planned.{ArePlanned, IsNewSeat, EndedSeat};
-ghost use Rattle.ap_steal.specs.Order.{IsOrdered};
-ghost use Rattle.ap_steal.specs.Hands.{AreFreshTools};
+ghost use Rattle.ap_tools.specs.Planned.{ArePlanned, IsNewSeat, EndedSeat};
+ghost use Rattle.ap_tools.specs.Order.{IsOrdered};
+ghost use Rattle.ap_tools.specs.Hands.{AreFreshTools};
 
 use crate::jobs::Job;
 use crate::work::work;

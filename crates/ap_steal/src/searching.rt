@@ -9,7 +9,7 @@ ghost use Rattle.ap_core.specs.declared.events.Event.{Event};
 ghost use Rattle.ap_core.specs.States.{WorkersState, start_state};
 ghost use Rattle.ap_core.specs.Traces.{AreSeats, IsInOrder, EventsLead};
 ghost use Rattle.ap_lock.specs.Seats.{logs_of};
-ghost use Rattle.ap_steal.specs.Planned.{ArePlanned};
+ghost use Rattle.ap_tools.specs.Planned.{ArePlanned};
 
 use crate::jobs::{Job, lone_tools, make_jobs, make_tools, turned};
 use crate::run::{finish, run_all};

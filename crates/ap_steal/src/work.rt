@@ -4,46 +4,25 @@ ghost use Rattle.std.specs.Prelude.{◌≡◌, ℕ, true, false, [], ◌∷◌, 
 ghost use Rattle.ap_paths.specs.Entries.{entries_of};
 ghost use Rattle.ap_paths.specs.History.{has_stop};
 ghost use Rattle.ap_lock.specs.Seats.{book_id, book_limit, SameSeat};
-ghost use Rattle.ap_steal.specs.Planned.{OwnPlanned, IsOver};
-ghost use Rattle.ap_steal.specs.Order.{IsSole, IsOrdered};
-ghost use Rattle.ap_steal.specs.Accounts.{EndsJust, NoneLost};
+ghost use Rattle.ap_tools.specs.Planned.{OwnPlanned, IsOver};
+ghost use Rattle.ap_tools.specs.Order.{IsSole, IsOrdered};
+ghost use Rattle.ap_tools.specs.Accounts.{EndsJust, NoneLost};
 
 use crate::jobs::Job;
 use crate::step::run_path;
-use crate::tools::Tools;
 use ap_defs::memory::Memory;
-use ap_defs::paths::Progress;
+use ap_entering::looking::is_over;
 use ap_io::Gate;
 use ap_lock::{Seat, SharedBook};
 use ap_paths::Tree;
 use ap_tasks::{Placed, Shape};
+use ap_tools::tools::Tools;
 use crossbeam_utils::Backoff;
 use std::alloc::Global;
 use std::sync::Wait;
 
 /// A worker looks whether the search was stopped after so many paths, and whenever it finds none.
 const LOOKS: u64 = 64;
-
-/// Whether the search is over.
-fn is_over<R: Wait, T: Tree>(rt: &R, tree: &T, book: &SharedBook, seat: &mut Seat) -> bool
-    requires book { seat.old.book ≡ book_id book.now }
-    requires own { OwnPlanned (T.choices tree.now) (T.plan tree.now) (book_limit book.now)
-        seat.old.number seat.old.seen }
-    ensures same { SameSeat seat.old seat.new }
-    ensures own { OwnPlanned (T.choices tree.now) (T.plan tree.now) (book_limit book.now)
-        seat.new.number seat.new.seen }
-    ensures over { result ≡ true → IsOver seat.new.seen }
-    ensures order { (hand : list (list ℕ)) → IsSole hand seat.old.number seat.old.seen →
-        IsSole hand seat.new.number seat.new.seen }
-    ensures ended { EndsJust seat.old.number seat.old.seen [] seat.new.seen }
-{
-    let _tree = tree;
-    match book.status(rt, seat) {
-        Progress::Left(_) => false,
-        Progress::Finished => true,
-        Progress::Stopped => true,
-    }
-}
 
 /// Ends the search.
 fn stop<R: Wait, T: Tree>(rt: &R, tree: &T, book: &SharedBook, seat: &mut Seat)

@@ -1,6 +1,6 @@
 use Rattle.std.proofs.Common.{rules, sym, subst}
-use Rattle.ap_steal.specs.Hands.{IsFreshTools}
-use Rattle.ap_steal.proofs.Fresh.{fresh_set}
+use Rattle.ap_tools.specs.Hands.{IsFreshTools}
+use Rattle.ap_tools.proofs.Fresh.{fresh_set}
 use Rattle.ap_steal.proofs.jobs.add_at.Goals as goal
 
 pub returns-clause-fresh : goal.returns-clause-fresh

@@ -1,5 +1,5 @@
 use Rattle.std.proofs.Common.{◌≡◌, vec_len}
-use Rattle.ap_steal.specs.Hands.{AreFreshTools}
+use Rattle.ap_tools.specs.Hands.{AreFreshTools}
 use Rattle.ap_steal.proofs.jobs.give.Given as goal
 
 abbrev pub invariant-loop-i : goal.invariant-loop-i

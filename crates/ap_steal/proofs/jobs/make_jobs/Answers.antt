@@ -2,9 +2,9 @@ use Rattle.std.proofs.Common.{rules, ◌≡◌, ◌∷◌, ◌++◌, [], List, A
 use Rattle.std.proofs.lemmas.List.Elements.{All-append}
 use Rattle.ap_lock.specs.Seats.{SeatView}
 use Rattle.ap_steal.specs.declared.jobs.Job.{Job}
-use Rattle.ap_steal.specs.Planned.{IsNewSeat}
-use Rattle.ap_steal.proofs.Whole.{all_one, all_last}
-use Rattle.ap_steal.proofs.Fresh.{taken_over}
+use Rattle.ap_tools.specs.Planned.{IsNewSeat}
+use Rattle.ap_tools.proofs.Whole.{all_one, all_last}
+use Rattle.ap_tools.proofs.Fresh.{taken_over}
 use Rattle.ap_steal.proofs.jobs.make_jobs.Goals as goal
 
 pub loop-seat-preserved : goal.loop-seat-preserved

@@ -1,6 +1,6 @@
 use Rattle.std.proofs.Common.{◌≡◌, ◌+◌, ◌++◌, All, map, reverse, vec_len}
 use Rattle.atomic_table.specs.Seated.{TableId}
-use Rattle.ap_steal.specs.Planned.{IsNewSeat}
+use Rattle.ap_tools.specs.Planned.{IsNewSeat}
 use Rattle.ap_steal.proofs.jobs.make_jobs.Given as goal
 
 abbrev pub invariant-loop-seat : goal.invariant-loop-seat

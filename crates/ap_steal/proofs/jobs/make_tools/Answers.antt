@@ -1,6 +1,6 @@
 use Rattle.std.proofs.Common.{rules, arith, ◌≡◌, ◌∷◌, ◌++◌, [], length, sym, subst}
-use Rattle.ap_steal.specs.Hands.{AreFreshTools}
-use Rattle.ap_steal.proofs.Fresh.{fresh_more}
+use Rattle.ap_tools.specs.Hands.{AreFreshTools}
+use Rattle.ap_tools.proofs.Fresh.{fresh_more}
 use Rattle.ap_steal.proofs.jobs.make_tools.Goals as goal
 
 pub loop-number-preserved : goal.loop-number-preserved

@@ -2,7 +2,7 @@ use Rattle.std.proofs.Common.{rules, ◌≡◌, ◌∙◌, true, false, sym, ap}
 use Rattle.ap_paths.specs.declared.entries.Entry.{Entry}
 use Rattle.ap_paths.specs.Entries.{entry_of}
 use Rattle.ap_paths.specs.History.{is_stop}
-use Rattle.ap_steal.proofs.Whole.{stop_at, no_stop_yet}
+use Rattle.ap_tools.proofs.Whole.{stop_at, no_stop_yet}
 use Rattle.ap_steal.proofs.run.stands.Goals as goal
 
 pub returns-then-is_stop_entry : goal.returns-then-is_stop_entry

@@ -4,9 +4,9 @@ use Rattle.ap_paths.specs.Entries.{entries_of}
 use Rattle.ap_paths.specs.Limits.{AreWithin}
 use Rattle.ap_lock.specs.Seats.{book_id, seats_of, new_seats}
 use Rattle.ap_steal.specs.declared.jobs.Job.{Job}
-use Rattle.ap_steal.specs.Hands.{AreFreshTools}
-use Rattle.ap_steal.proofs.Fresh.{turned_back}
-use Rattle.ap_steal.proofs.Whole.{of_new}
+use Rattle.ap_tools.specs.Hands.{AreFreshTools}
+use Rattle.ap_tools.proofs.Fresh.{turned_back}
+use Rattle.ap_tools.proofs.Whole.{of_new}
 use Rattle.ap_steal.proofs.searching.search_beside.Goals as goal
 
 pub make_jobs-requires : goal.make_jobs-requires

@@ -1,5 +1,5 @@
-use Rattle.ap_steal.proofs.Whole.{whole_of}
-use Rattle.ap_steal.proofs.Sole.{permitted_of}
+use Rattle.ap_tools.proofs.Whole.{whole_of}
+use Rattle.ap_tools.proofs.Sole.{permitted_of}
 use Rattle.ap_steal.proofs.searching.search_within.Goals as goal
 
 pub returns-clause-whole : goal.returns-clause-whole

@@ -1,7 +1,7 @@
 use Rattle.std.proofs.Common.{rules, ◌≡◌, ◌∷◌, Err}
 use Rattle.ap_book.specs.declared.error.SkipError.TheVariants as refused
-use Rattle.ap_steal.proofs.Sole.{sole_skipped, sole_not_skipped, sole_needed}
-use Rattle.ap_steal.proofs.Accounting.{ends_skip, ends_not_skip, ends_needed}
+use Rattle.ap_tools.proofs.Sole.{sole_skipped, sole_not_skipped, sole_needed}
+use Rattle.ap_tools.proofs.Accounting.{ends_skip, ends_not_skip, ends_needed}
 use Rattle.ap_steal.proofs.step.is_needed.Goals as goal
 
 pub returns-in-Ok-clause-order : goal.returns-in-Ok-clause-order

@@ -1,7 +1,7 @@
 use Rattle.std.proofs.Common.{[], ◌∷◌, if◌then◌else◌, Bool, List, ℕ, sym, subst}
-use Rattle.ap_steal.specs.Order.{IsSole}
-use Rattle.ap_steal.specs.Accounts.{EndsJust}
-use Rattle.ap_steal.proofs.Accounting.{ends_keep, needed_keeps}
+use Rattle.ap_tools.specs.Order.{IsSole}
+use Rattle.ap_tools.specs.Accounts.{EndsJust}
+use Rattle.ap_tools.proofs.Accounting.{ends_keep, needed_keeps}
 use Rattle.ap_steal.proofs.step.run_path.Goals as goal
 
 pub returns-then-not-needed-clause-order : goal.returns-then-not-needed-clause-order

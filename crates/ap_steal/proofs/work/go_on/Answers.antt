@@ -1,5 +1,5 @@
 use Rattle.std.proofs.Common.{[]}
-use Rattle.ap_steal.proofs.Accounting.{ends_keep, steps_keep}
+use Rattle.ap_tools.proofs.Accounting.{ends_keep, steps_keep}
 use Rattle.ap_steal.proofs.work.go_on.Goals as goal
 
 pub returns-clause-held : goal.returns-clause-held

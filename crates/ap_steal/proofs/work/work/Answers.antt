@@ -1,6 +1,6 @@
 use Rattle.std.proofs.Common.{◌∙◌}
-use Rattle.ap_steal.proofs.Sole.{sole_ordered}
-use Rattle.ap_steal.proofs.Accounting.{steps_keep}
+use Rattle.ap_tools.proofs.Sole.{sole_ordered}
+use Rattle.ap_tools.proofs.Accounting.{steps_keep}
 use Rattle.ap_steal.proofs.work.work.Goals as goal
 
 pub returns-then-go_on-clause-order : goal.returns-then-go_on-clause-order

@@ -1,4 +1,0 @@
-pub mod Planned
-pub mod Order
-pub mod Hands
-pub mod Accounts
