@@ -1,6 +1,6 @@
 //! What a path is, entered in the book.
 
-ghost use Rattle.std.specs.Prelude.{◌≡◌, ℕ, true, ◌∷◌, List as list, IfOk};
+ghost use Rattle.std.specs.Prelude.{◌≡◌, ℕ, true, [], ◌∷◌, List as list, IfOk};
 ghost use Rattle.ap_paths.specs.declared.entries.Entry.{Entry};
 ghost use Rattle.ap_paths.specs.declared.entries.Entry.TheVariants.{Split, Done};
 ghost use Rattle.ap_paths.specs.Entries.{kids, outs, visit_of};
