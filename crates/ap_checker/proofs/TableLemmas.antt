@@ -1,29 +1,14 @@
--- What stands for identifiers, and what is left of a walk, stays of its table.
-use Rattle.std.proofs.Common.{◌≡◌, ℕ, suc, length, List, [], ◌∷◌, ◌++◌, take, get_or, sym, subst, arith, ◌<◌}
+-- What is left of a walk stays of its table.
+use Rattle.std.proofs.Common.{◌≡◌, ℕ, List, [], ◌∷◌, ◌++◌, take, subst}
 use Rattle.std.specs.List.{All}
-use Rattle.std.specs.Prelude.{Option, Some, None, IfSome}
-use Rattle.std.proofs.lemmas.List.Elements.{All-get_or, All-nil, All-cons, All-push, All-same, All-take}
+use Rattle.std.proofs.lemmas.List.Elements.{All-push, All-same, All-take}
 use Rattle.ap_shared.specs.declared.arena.SharedTerms.{SharedTerms}
-use Rattle.ap_checker.specs.declared.closures.Closure.{Closure}
-use Rattle.ap_checker.specs.declared.equality.Compared.{Compared}
-use Rattle.ap_checker.specs.declared.scope.Standing.{Standing}
+use Rattle.ap_judge.specs.declared.scope.Standing.{Standing}
+use Rattle.ap_judge.specs.Tables.{IsStandingIn}
+use Rattle.ap_judge.proofs.TableLemmas.{last_all}
 use Rattle.ap_checker.specs.declared.walk.Pending.{Pending}
 use Rattle.ap_checker.specs.declared.walk.Walk.{Walk}
-use Rattle.ap_checker.specs.Tables.{AreStandingIn, IsClosureIn, IsComparedIn, IsPendingIn, IsStandingIn, IsWalkIn}
-
-pub some_weaker : {A : Type 0} (o : Option A) (P Q : A → Type 0) → ((x : A) → P x → Q x) → IfSome o P → IfSome o Q
-some_weaker None P Q f h = tt
-some_weaker (Some x) P Q f h = f x h
-
--- what stands at a place
-pub standing_at : (ss : List Standing) (i : ℕ) (s : Standing) (ts : SharedTerms) → i < length ss → s ≡ get_or ss i s → AreStandingIn ts ss → IsStandingIn ts s
-standing_at ss i s ts l e h = subst (IsStandingIn ts) (sym e) (All-get_or (IsStandingIn ts) ss i s l h)
-
--- two terms more are left to compare
-pub compared_put : (ts : SharedTerms) (ps qs : List Compared) (t u : Closure) (n : ℕ) → qs ≡ ps ++ (record { left = t; right = u; mark = n }) ∷ [] → IsClosureIn ts t → IsClosureIn ts u
-    → All (IsComparedIn ts) ps → All (IsComparedIn ts) qs
-compared_put ts ps qs t u n e h k l =
-    All-same (IsComparedIn ts) qs (ps ++ (record { left = t; right = u; mark = n }) ∷ []) e (All-push (IsComparedIn ts) ps (record { left = t; right = u; mark = n }) l (h, k))
+use Rattle.ap_checker.specs.Tables.{IsPendingIn, IsWalkIn}
 
 -- one thing more stands, or one node more is left
 module _ (ts : SharedTerms) (v w : Walk) where
@@ -34,13 +19,6 @@ module _ (ts : SharedTerms) (v w : Walk) where
   pub walk_put : (t : Pending) → w.standing.items ≡ v.standing.items → w.pending.items ≡ v.pending.items ++ t ∷ [] → IsPendingIn ts t → IsWalkIn ts v → IsWalkIn ts w
   walk_put t e f k h =
       (All-same (IsStandingIn ts) w.standing.items v.standing.items e h.0, All-same (IsPendingIn ts) w.pending.items (v.pending.items ++ t ∷ []) f (All-push (IsPendingIn ts) v.pending.items t h.1 k))
-
--- the last of a list, and those before it
-pub last_all : {A : Type 0} (P : A → Type 0) (xs : List A) (x : A) → All P (xs ++ x ∷ []) → All P xs × P x
-last_all P [] x h = (All-nil P, h 0 x (omega arith))
-last_all P (y ∷ xs) x h =
-    let rest = last_all P xs x (λ k d l. h (suc k) d (omega (arith, l))) in
-    (All-cons P y xs (h 0 y (omega arith)) rest.0, rest.1)
 
 -- the node that is next, where what stands after its mark was cut off
 module _ (ts : SharedTerms) (v w : Walk) (t : Pending) (n : ℕ) (top : v.pending.items ≡ w.pending.items ++ t ∷ []) (cut : w.standing.items ≡ take n v.standing.items) (h : IsWalkIn ts v) where

@@ -15,13 +15,13 @@ use Rattle.ap_defs.specs.Types.{NominalKind}
 use Rattle.ap_checks.specs.Checks.{Refusal, refusal_of_rule, tests_by_clause, node_count, first_refusal, no, refusal, reported, verdict, with_clause}
 use Rattle.ap_checks.specs.OpenEnvironments.{OpenEnvironment, open_environment, put_in}
 use Rattle.ap_checker.specs.declared.rules.Rule.{Rule}
-use Rattle.ap_checker.specs.declared.scope.Standing.{Standing}
+use Rattle.ap_judge.specs.declared.scope.Standing.{Standing}
 use Rattle.ap_checker.specs.declared.walk.Pending.{Pending}
 use Rattle.ap_checker.specs.declared.walk.Obligation.{Obligation}
 use Rattle.ap_checker.specs.declared.walk.Walk.{Walk}
 use Rattle.ap_checker.specs.Rules.{rule_number, node_refused}
-use Rattle.ap_checker.specs.Scopes.{environment_of, environment_with, nothing_put}
-use Rattle.ap_checker.proofs.ScopeLemmas.{environment_append}
+use Rattle.ap_judge.specs.Scopes.{environment_of, environment_with, nothing_put}
+use Rattle.ap_judge.proofs.ScopeLemmas.{environment_append}
 use Rattle.ap_checker.specs.Walks.{ArePendingMarked, ChecksOn, IsOnWay, IsVisited, derivation_at, first_left, goal_at, kinds_at, pending_of, nodes_left, pending_at, refusal_at}
 
 take-whole : {A : Type 0} (xs : List A) → take (length xs) xs ≡ xs
@@ -189,3 +189,10 @@ module _ (p : NominalProgram) (a : NominalAnswer) (whole : Option Refusal) (node
         first = on.first (suc way.done) ∙ sym whole_is;
         marked = on.marked;
       }
+
+  pub turn_smaller : (r : Option Rule) → r ≡ None → IsVisited p a (kinds_at t.obligation) (derivation_at t.obligation) (goal_at t.obligation) before after r → nodes_left (pending_of after) < nodes_left (pending_of w)
+  turn_smaller r e v =
+      let on : ChecksOn p a (kinds_at t.obligation) (derivation_at t.obligation) (goal_at t.obligation) before after = subst (IsVisited p a (kinds_at t.obligation) (derivation_at t.obligation) (goal_at t.obligation) before after) e v in
+      let less = on.nodes in
+      let all = next_nodes w before t taken in
+      omega (arith, less, all)

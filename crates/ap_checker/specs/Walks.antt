@@ -10,12 +10,12 @@ use Rattle.ap_checks.specs.Checks.{Refusal, refusal_of_rule, node_count, first_r
 use Rattle.ap_checks.specs.OpenEnvironments.{OpenEnvironment, open_environment}
 use Rattle.ap_shared.specs.SharedViews.{shared_derivation, shared_terms}
 use Rattle.ap_checker.specs.declared.rules.Rule.{Rule}
-use Rattle.ap_checker.specs.declared.scope.Standing.{Standing}
+use Rattle.ap_judge.specs.declared.scope.Standing.{Standing}
 use Rattle.ap_checker.specs.declared.walk.Pending.{Pending}
 use Rattle.ap_checker.specs.declared.walk.Obligation.{Obligation}
 use Rattle.ap_checker.specs.declared.walk.Walk.{Walk}
 use Rattle.ap_checker.specs.Rules.{rule_number}
-use Rattle.ap_checker.specs.Scopes.{environment_of}
+use Rattle.ap_judge.specs.Scopes.{environment_of}
 
 abbrev pub derivation_at : Obligation → NominalDerivation
 derivation_at t = shared_derivation (shared_terms t.terms.now) t.derivation.now

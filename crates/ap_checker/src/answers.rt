@@ -6,15 +6,15 @@ ghost use Rattle.ap_defs.specs.Answers.{typed_var_of};
 ghost use Rattle.ap_defs.specs.Goals.{program_of, query_of};
 ghost use Rattle.ap_defs.specs.Unification.{has_var};
 ghost use Rattle.ap_checks.specs.Checks.{each_once, is_answer};
-ghost use Rattle.ap_checker.specs.Typings.{AreTypesKnown};
+ghost use Rattle.ap_judge.specs.Typings.{AreTypesKnown};
 ghost use Rattle.ap_shared.specs.SharedViews.{shared_answer, shared_terms};
 
 use crate::fits::terms_fit;
-use crate::index::IndexedAnswer;
-use crate::typing::Typed;
 use ap_defs::goals::{Program, Query};
 use ap_defs::memory::Memory;
 use ap_defs::terms::{Cond, Term};
+use ap_judge::index::IndexedAnswer;
+use ap_judge::typing::Typed;
 use ap_shared::arena::SharedTerms;
 use ap_shared::places::Given;
 use std::alloc::Global;

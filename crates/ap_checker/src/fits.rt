@@ -7,16 +7,16 @@ ghost use Rattle.ap_defs.specs.Resolution.{kinds_of};
 ghost use Rattle.ap_defs.specs.Types.{constructor_of, local_of, locals_of, type_of};
 ghost use Rattle.ap_checks.specs.Checks.{have_counts};
 ghost use Rattle.ap_checks.specs.TypeTests.{has_kind, have_kinds, have_sorts, type_beside};
-ghost use Rattle.ap_checker.specs.FreeLocals.{free_type};
-ghost use Rattle.ap_checker.specs.Typings.{AreTypesKnown};
+ghost use Rattle.ap_judge.specs.FreeLocals.{free_type};
+ghost use Rattle.ap_judge.specs.Typings.{AreTypesKnown};
 ghost use Rattle.ap_shared.specs.SharedPlaces.{given_terms, shared_term};
 
-use crate::index::IndexedAnswer;
-use crate::lookups::{count_names, count_vars, sort_of};
-use crate::typing::{Typed, has_type};
 use ap_defs::goals::{Constructor, Kind, Local};
 use ap_defs::memory::Memory;
 use ap_defs::terms::{Name, Ty, Var};
+use ap_judge::index::IndexedAnswer;
+use ap_judge::lookups::{count_names, count_vars, sort_of};
+use ap_judge::typing::{Typed, has_type};
 use ap_shared::places::{Given, Shared};
 use std::alloc::Global;
 
@@ -90,7 +90,7 @@ pub(crate) fn terms_fit<'a>(
 }
 
 /// Whether the term has the type of the variable with this number.
-#[tactic(auto, using(crate::proofs::LocalLemmas::kind_past))]
+#[tactic(auto, using(ap_judge::proofs::LocalLemmas::kind_past))]
 pub(crate) fn term_fits<'a>(
     alloc: Global,
     constructors: &'a [Constructor],

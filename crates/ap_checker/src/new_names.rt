@@ -8,17 +8,17 @@ ghost use Rattle.ap_defs.specs.Freshness.{fresh_under};
 ghost use Rattle.ap_defs.specs.Goals.{goal_of};
 ghost use Rattle.ap_checks.specs.Checks.{is_new as is_new_under};
 ghost use Rattle.ap_checker.specs.NewNames.{are_apart, are_fresh, is_id_of_name, is_new_inside, is_id_of_var, mark_of_part, size_of_part};
-ghost use Rattle.ap_checker.specs.Scopes.{environment_of};
-ghost use Rattle.ap_checker.specs.Stacks.{AreWithin, IsTestedThere};
+ghost use Rattle.ap_judge.specs.Scopes.{environment_of};
+ghost use Rattle.ap_judge.specs.Stacks.{AreWithin, IsTestedThere};
 
 use crate::free::{names_of_each, names_of_two, vars_of_each, vars_of_two};
-use crate::freshness::is_fresh_under;
-use crate::index::IndexedAnswer;
-use crate::scope::{Standing, name_in, term_in};
-use crate::swappings::is_same;
 use ap_defs::goals::Goal;
 use ap_defs::memory::Memory;
 use ap_defs::terms::{Id, Name, Term, Var};
+use ap_judge::freshness::is_fresh_under;
+use ap_judge::index::IndexedAnswer;
+use ap_judge::scope::{Standing, name_in, term_in};
+use ap_judge::swappings::is_same;
 use std::alloc::Global;
 
 /// A part of a goal, and how much is brought round it.

@@ -2,15 +2,15 @@
 
 ghost use Rattle.std.specs.Prelude.{◌≡◌, IfOk};
 ghost use Rattle.ap_checks.specs.Checks.{are_different, equal_each, is_fresh};
-ghost use Rattle.ap_checker.specs.Closures.{scoped_term, scoped_terms};
-ghost use Rattle.ap_checker.specs.Tables.{AreStandingIn};
+ghost use Rattle.ap_judge.specs.Closures.{scoped_term, scoped_terms};
+ghost use Rattle.ap_judge.specs.Tables.{AreStandingIn};
 
-use crate::closures::{Closure, Head, ScopedTerms, head_at};
-use crate::equality::are_equal_at;
-use crate::freshness::is_fresh_at;
-use crate::index::IndexedAnswer;
 use ap_defs::memory::Memory;
 use ap_defs::terms::Name;
+use ap_judge::closures::{Closure, Head, ScopedTerms, head_at};
+use ap_judge::equality::are_equal_at;
+use ap_judge::freshness::is_fresh_at;
+use ap_judge::index::IndexedAnswer;
 use ap_shared::arena::SharedTerms;
 use std::alloc::Global;
 use std::collections::BTreeSet;

@@ -1,14 +1,15 @@
 //! A walk over a derivation, in preorder.
 
 ghost use Rattle.std.specs.Prelude.{◌≡◌, [], ◌∷◌, ◌++◌, length, OnOk};
-ghost use Rattle.ap_checker.specs.Tables.{IsStandingIn, IsWalkIn};
+ghost use Rattle.ap_judge.specs.Tables.{IsStandingIn};
+ghost use Rattle.ap_checker.specs.Tables.{IsWalkIn};
 ghost use Rattle.ap_checker.specs.Walks.{pending_at};
 ghost use Rattle.ap_shared.specs.declared.arena.SharedTerms.{SharedTerms as table};
 
-use crate::scope::Standing;
 use ap_defs::goals::{Goal, Local};
 use ap_defs::memory::Memory;
 use ap_defs::terms::Term;
+use ap_judge::scope::Standing;
 use ap_shared::arena::SharedTerms;
 use ap_shared::derivations::SharedDerivation;
 

@@ -200,12 +200,12 @@ module _ (s : Store) where
   -- and one that is bound for what its binding stands for
   module _ (p : List Swap) (x : Var) (c : Lent) (all : List Swap) (bound : raw_bound s x ≡ Some (lent_term c)) (is : all ≡ p ++ c.swaps.now) where
     pub bound_closed : canonical_term (under (bindings_of s) (act_term all (bare_of c))) ≡ canonical_term (under (bindings_of s) (susp p x))
-    bound_closed = ap canonical_term (ap (λ q. under (bindings_of s) (act_term q (bare_of c))) is ∙ sym (bound_under s p x c bound))
+    bound_closed = ap canonical_term (ap (λ q. under (bindings_of s) (act_term q (bare_of c))) is ∙ sym (bound_under s p x c.swaps.now (bare_of c) bound))
 
     pub bound_less : 1 + closing_work s (act_term all (bare_of c)) < closing_work s (susp p x)
     bound_less =
         let same : size (under (bindings_of s) (act_term all (bare_of c))) ≡ size (under (bindings_of s) (susp p x)) =
-        ap (λ q. size (under (bindings_of s) (act_term q (bare_of c)))) is ∙ ap size (sym (bound_under s p x c bound)) in
+        ap (λ q. size (under (bindings_of s) (act_term q (bare_of c)))) is ∙ ap size (sym (bound_under s p x c.swaps.now (bare_of c) bound)) in
         let falls : depth_of (rank s) (act_term all (bare_of c)) < depth_of (rank s) (susp p x) =
         subst (λ q. depth_of (rank s) (act_term q (bare_of c)) < depth_of (rank s) (susp p x)) (sym is) (bound_depth s p x c bound) in
         subst (λ n. 1 + 3 * (n + n * depth_of (rank s) (act_term all (bare_of c))) < closing_work s (susp p x)) (sym same)

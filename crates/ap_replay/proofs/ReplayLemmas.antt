@@ -56,6 +56,15 @@ outs_there paths p os path h is =
 abbrev pub ExactNode : Branch → Node → Type 0
 ExactNode b n = (p : Problem) (q : NominalQuery) → slice_get (queries_in p) (p.query - 1) ≡ Some q → IsBranchOf p b → IsNodeAt (clauses_in p) p.depth q (path_of_branch b) n
 
+-- where a branch chooses, the search of its problem does
+pub width_there : (p : Problem) (b : Branch) (path : List ℕ) (w : ℕ) (ks : List ℕ) → HasQuery p → IsBranchOf p b → path_of_branch b ≡ path → ExactNode b (nodes.Choice w ks)
+    → Some w ≡ problem_choices p path
+width_there p b path w ks h of same node =
+    let asked = its_query p h in
+    let at : query_choice (clauses_in p) p.depth asked.0 path ≡ Some (record { width = w; kept = ks }) =
+    subst (λ (x : List ℕ). query_choice (clauses_in p) p.depth asked.0 x ≡ Some (record { width = w; kept = ks })) same (node p asked.0 asked.1 of) in
+    sym (same_choices p asked.0 asked.1 path ∙ ap (option_map (λ (c : Choice). c.width)) at)
+
 abbrev plan_by : Bool → Option (List ℕ) → List NominalOut → Plan
 plan_by shared o os = if shared then shared_out o os else entries.outs os
 

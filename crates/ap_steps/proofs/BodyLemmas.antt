@@ -5,9 +5,9 @@ use Rattle.ap_defs.specs.Derivations as nodes
 use Rattle.ap_defs.specs.Derivations.{NominalDerivation, derivation_of}
 use Rattle.ap_defs.specs.Goals.{NominalGoal, goal_of}
 use Rattle.ap_checks.specs.Checks.{node_count}
-use Rattle.ap_checker.specs.declared.scope.Standing.{Standing}
-use Rattle.ap_checker.specs.Scopes.{environment_of, environment_with, nothing_put}
-use Rattle.ap_checker.proofs.ScopeLemmas.{environment_append}
+use Rattle.ap_judge.specs.declared.scope.Standing.{Standing}
+use Rattle.ap_judge.specs.Scopes.{environment_of, environment_with, nothing_put}
+use Rattle.ap_judge.proofs.ScopeLemmas.{environment_append}
 use Rattle.ap_steps.specs.declared.bodies.Body.{Body}
 use Rattle.ap_steps.specs.declared.bodies.Part.{Part}
 use Rattle.ap_steps.specs.Steps.{NominalPiece, DerivationWriting, pieces}

@@ -9,8 +9,8 @@ use Rattle.ap_defs.specs.Goals.{NominalGoal, goal_of}
 use Rattle.ap_defs.specs.Terms.{NominalTerm}
 use Rattle.ap_checks.specs.Checks.{node_count}
 use Rattle.ap_checks.specs.OpenEnvironments.{OpenEnvironment, put_in}
-use Rattle.ap_checker.specs.declared.scope.Standing.{Standing}
-use Rattle.ap_checker.specs.Scopes.{environment_of}
+use Rattle.ap_judge.specs.declared.scope.Standing.{Standing}
+use Rattle.ap_judge.specs.Scopes.{environment_of}
 use Rattle.ap_steps.specs.declared.bodies.Body.{Body}
 use Rattle.ap_steps.specs.declared.bodies.Part.{Part}
 use Rattle.ap_steps.specs.Steps.{NominalPiece, DerivationWriting, atom_text, pieces, premise, relation_text, side}

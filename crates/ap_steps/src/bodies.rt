@@ -4,19 +4,19 @@ ghost use Rattle.std.specs.Prelude.{◌≡◌, ◌++◌, ◌∷◌, [], length, 
 ghost use Rattle.ap_defs.specs.Derivations.{derivation_of};
 ghost use Rattle.ap_defs.specs.Goals.{goal_of};
 ghost use Rattle.ap_defs.specs.Terms.{term_of};
-ghost use Rattle.ap_checker.specs.Scopes.{environment_of};
+ghost use Rattle.ap_judge.specs.Scopes.{environment_of};
 ghost use Rattle.ap_steps.specs.Steps.{pieces};
 ghost use Rattle.ap_steps.specs.Walks.{ArePartsMarked, WritesOn, parts_pending, part_at, premise_piece, side_piece};
 ghost use Rattle.ap_steps.specs.Writers.{piece_of, writing_of};
 
 use crate::judgements::{atom, relation};
 use crate::writers::Writer;
-use ap_checker::cited::Cited;
-use ap_checker::scope::Standing;
 use ap_defs::goals::Goal;
 use ap_defs::memory::Memory;
 use ap_defs::outcomes::Derivation;
 use ap_defs::terms::Term;
+use ap_judge::cited::Cited;
+use ap_judge::scope::Standing;
 use ap_pages::steps::Phrase;
 
 /// An atom of a body, with its derivation, and how many steps its own stands under.

@@ -15,12 +15,12 @@ ghost use Rattle.ap_steps.specs.Givens.{by_local, clause_givens, givens, names_g
 ghost use Rattle.ap_steps.specs.Obligations.{givens_at, givens_left, obligation_nodes};
 
 use ap_answers::locals::variable_texts;
-use ap_checker::lookups::clause_at;
 use ap_defs::goals::{Clause, Goal, Kind, Local, Program};
 use ap_defs::lists::Text;
 use ap_defs::memory::Memory;
 use ap_defs::outcomes::Derivation;
 use ap_defs::terms::{Name, Term};
+use ap_judge::lookups::clause_at;
 use ap_spelling::spelt::Given;
 use std::alloc::Global;
 

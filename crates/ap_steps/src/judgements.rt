@@ -4,17 +4,17 @@ ghost use Rattle.std.specs.Prelude.{◌≡◌, ◌++◌, map, slice_get, unwrap_
 ghost use Rattle.ap_defs.specs.Printing.{term_text};
 ghost use Rattle.ap_defs.specs.Terms.{term_of};
 ghost use Rattle.ap_checks.specs.OpenEnvironments.{put_in};
-ghost use Rattle.ap_checker.specs.Scopes.{environment_of};
+ghost use Rattle.ap_judge.specs.Scopes.{environment_of};
 ghost use Rattle.ap_steps.specs.Steps.{arguments_text, atom_text, further_texts, relation_text};
 ghost use Rattle.ap_steps.specs.Writers.{writing_of};
 
 use crate::writers::Writer;
 use ap_answers::place::Place;
 use ap_answers::text::write_term;
-use ap_checker::scope::{Standing, put, put_each};
 use ap_defs::lists::Text;
 use ap_defs::memory::Memory;
 use ap_defs::terms::Term;
+use ap_judge::scope::{Standing, put, put_each};
 use ap_pages::phrases::phrase_of;
 use ap_pages::steps::Phrase;
 

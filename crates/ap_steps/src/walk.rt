@@ -12,15 +12,15 @@ ghost use Rattle.ap_steps.specs.Writers.{bare, piece_of, written_step, writing_o
 
 use crate::bodies::{Piece, Premise, pieces_of};
 use crate::writers::Writer;
-use ap_checker::cited::CitedTerms;
-use ap_checker::identifiers::Identifiers;
-use ap_checker::lookups::clause_at;
-use ap_checker::scope::Standing;
 use ap_defs::goals::Clause;
 use ap_defs::lists::List;
 use ap_defs::memory::Memory;
 use ap_defs::outcomes::Derivation;
 use ap_defs::terms::{Name, Term};
+use ap_judge::cited::CitedTerms;
+use ap_judge::identifiers::Identifiers;
+use ap_judge::lookups::clause_at;
+use ap_judge::scope::Standing;
 use ap_pages::steps::{Phrase, Step};
 use std::alloc::Global;
 

@@ -1,9 +1,11 @@
 use Rattle.std.proofs.Common.{sym, ap, ◌∙◌}
+use Rattle.ap_defs.specs.Answers.{out_of}
 use Rattle.ap_defs.specs.Goals.{program_in}
 use Rattle.ap_defs.specs.Types.{locals_of}
 use Rattle.ap_backchain.specs.Machines.{position_of, turned_of}
+use Rattle.ap_backchain.specs.Positions.{ends}
 use Rattle.ap_backchain.specs.declared.turns.Turn.{Turn}
-use Rattle.ap_backchain.proofs.BranchLemmas.{went_fewer, went_marks, went_path}
+use Rattle.ap_backchain.proofs.BranchLemmas.{ended_marks, ended_path, failed_marks, went_fewer, went_marks, went_path}
 use Rattle.ap_backchain.proofs.standing.advance.Goals as goal
 
 pub advancing-smaller : goal.advancing-smaller
@@ -24,3 +26,24 @@ advancing-preserved c =
 
 pub returns-in-Fails-clause-choosing : goal.returns-in-Fails-clause-choosing
 returns-in-Fails-clause-choosing c = c.failed_at.ensures.choosing (program_in c.args.clauses.now)
+
+pub returns-in-Ends-clause-marks : goal.returns-in-Ends-clause-marks
+returns-in-Ends-clause-marks c =
+    let program = program_in c.args.clauses.now in let ls = locals_of c.args.locals.now in
+    let r = position_of c.take_turn.new.machine in
+    let e = ap ends c.out_at.ensures ∙ sym (ap (λ (t : Turn). turned_of t r) c.in-Ends.is) ∙ c.in_ok-end-in-None.ensures.turned in
+    ended_marks program ls (position_of c.advancing.here) c.in-None.ensures (out_of c.out_at.result) e ∙ c.advancing.invariant.marks
+
+pub returns-in-Ends-clause-path : goal.returns-in-Ends-clause-path
+returns-in-Ends-clause-path c =
+    let program = program_in c.args.clauses.now in let ls = locals_of c.args.locals.now in
+    let r = position_of c.take_turn.new.machine in
+    let e = ap ends c.out_at.ensures ∙ sym (ap (λ (t : Turn). turned_of t r) c.in-Ends.is) ∙ c.in_ok-end-in-None.ensures.turned in
+    ended_path program ls (position_of c.advancing.here) c.in-None.ensures (out_of c.out_at.result) e ∙ c.advancing.invariant.path
+
+pub returns-in-Fails-clause-marks : goal.returns-in-Fails-clause-marks
+returns-in-Fails-clause-marks c =
+    let program = program_in c.args.clauses.now in let ls = locals_of c.args.locals.now in
+    let r = position_of c.take_turn.new.machine in
+    let e = sym (ap (λ (t : Turn). turned_of t r) c.in-Fails.is) ∙ c.in_ok-end-in-None.ensures.turned in
+    c.failed_at.ensures.marks program ls ∙ failed_marks program ls (position_of c.advancing.here) c.in-None.ensures e ∙ c.advancing.invariant.marks

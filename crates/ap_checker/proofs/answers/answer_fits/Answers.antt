@@ -1,6 +1,6 @@
 use Rattle.std.proofs.Common.{List, subst, sym}
 use Rattle.ap_defs.specs.declared.goals.Constructor.{Constructor}
-use Rattle.ap_checker.specs.Typings.{AreTypesKnown}
+use Rattle.ap_judge.specs.Typings.{AreTypesKnown}
 use Rattle.ap_checker.proofs.answers.answer_fits.Goals as goal
 
 pub terms_fit-requires : goal.terms_fit-requires

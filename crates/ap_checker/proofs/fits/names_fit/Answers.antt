@@ -1,5 +1,5 @@
 use Rattle.std.proofs.Common.{◌∙◌, arith}
-use Rattle.ap_checker.proofs.LocalLemmas.{sorts_end}
+use Rattle.ap_judge.proofs.LocalLemmas.{sorts_end}
 use Rattle.ap_checker.proofs.fits.names_fit.Goals as goal
 
 pub returns : goal.returns

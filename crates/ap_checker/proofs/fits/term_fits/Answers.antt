@@ -3,7 +3,7 @@ use Rattle.ap_defs.specs.Answers.{typed_var_of}
 use Rattle.ap_shared.specs.SharedPlaces.{shared_term}
 use Rattle.ap_defs.specs.Types.{constructor_of, kind_of}
 use Rattle.ap_checks.specs.TypeTests.{has_kind, type_beside}
-use Rattle.ap_checker.proofs.LocalLemmas.{kind_there}
+use Rattle.ap_judge.proofs.LocalLemmas.{kind_there}
 use Rattle.ap_checker.proofs.fits.term_fits.Goals as goal
 
 pub returns-in-Name-clause-fits : goal.returns-in-Name-clause-fits

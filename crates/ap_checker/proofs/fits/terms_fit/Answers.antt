@@ -6,7 +6,7 @@ use Rattle.ap_defs.specs.Typing.{one}
 use Rattle.ap_checks.specs.TypeTests.{is_typed, type_beside}
 use Rattle.ap_shared.specs.Shared.{shared_at}
 use Rattle.ap_shared.specs.SharedViews.{shared_terms}
-use Rattle.ap_checker.proofs.LocalLemmas.{kinds_end, kinds_next, kinds_other, kinds_short}
+use Rattle.ap_judge.proofs.LocalLemmas.{kinds_end, kinds_next, kinds_other, kinds_short}
 use Rattle.ap_checker.proofs.fits.terms_fit.Goals as goal
 
 pub returns-then-place-lines-clause-fit : goal.returns-then-place-lines-clause-fit

@@ -7,7 +7,7 @@ use Rattle.ap_shared.specs.SharedPlaces.{given_terms}
 use Rattle.ap_shared.specs.SharedViews.{shared_terms}
 use Rattle.ap_defs.specs.Types.{constructor_of, locals_of}
 use Rattle.ap_checks.specs.TypeTests.{have_kinds, type_beside}
-use Rattle.ap_checker.specs.Typings.{AreTypesKnown}
+use Rattle.ap_judge.specs.Typings.{AreTypesKnown}
 use Rattle.ap_checker.proofs.fits.terms_fit.Given as goal
 
 abbrev pub invariant-loop-i : goal.invariant-loop-i

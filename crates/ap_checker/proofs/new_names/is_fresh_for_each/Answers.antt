@@ -1,5 +1,5 @@
 use Rattle.std.proofs.Common.{sym, ◌∙◌, arith}
-use Rattle.ap_checker.specs.Scopes.{environment_of}
+use Rattle.ap_judge.specs.Scopes.{environment_of}
 use Rattle.ap_checker.proofs.NewNameLemmas.{var_brought, var_fresh}
 use Rattle.ap_checker.proofs.new_names.is_fresh_for_each.Goals as goal
 use Rattle.ap_checker.proofs.new_names.is_fresh_for_each.Goals.{else-not-is_var_brought-via-then-not-is_var_brought+in_ok-is_fresh_for+else-not-branch, else-not-is_var_brought-via-else-not-is_var_brought}

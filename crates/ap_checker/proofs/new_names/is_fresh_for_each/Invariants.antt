@@ -1,6 +1,6 @@
 use Rattle.std.proofs.Common.{◌≡◌, drop}
 use Rattle.ap_checker.specs.NewNames.{are_fresh}
-use Rattle.ap_checker.specs.Scopes.{environment_of}
+use Rattle.ap_judge.specs.Scopes.{environment_of}
 use Rattle.ap_checker.proofs.new_names.is_fresh_for_each.Given as goal
 
 abbrev pub invariant-loop-x : goal.invariant-loop-x

@@ -1,8 +1,8 @@
 use Rattle.ap_defs.specs.Goals.{goal_of}
 use Rattle.ap_checks.specs.Checks.{is_new}
 use Rattle.ap_checker.specs.NewNames.{is_new_inside, mark_of_part, size_of_part}
-use Rattle.ap_checker.specs.Scopes.{environment_of}
-use Rattle.ap_checker.proofs.StackLemmas.{turn_keeps, turn_true}
+use Rattle.ap_judge.specs.Scopes.{environment_of}
+use Rattle.ap_judge.proofs.StackLemmas.{turn_keeps, turn_true}
 use Rattle.ap_checker.proofs.new_names.is_new.Goals as goal
 
 pub parts-preserved : goal.parts-preserved

@@ -4,8 +4,8 @@ use Rattle.std.specs.List.{sum_by}
 use Rattle.ap_defs.specs.Goals.{goal_of}
 use Rattle.ap_checks.specs.Checks.{is_new}
 use Rattle.ap_checker.specs.NewNames.{is_new_inside, mark_of_part, size_of_part}
-use Rattle.ap_checker.specs.Scopes.{environment_of}
-use Rattle.ap_checker.specs.Stacks.{AreWithin, all_waiting}
+use Rattle.ap_judge.specs.Scopes.{environment_of}
+use Rattle.ap_judge.specs.Stacks.{AreWithin, all_waiting}
 use Rattle.ap_checker.proofs.new_names.is_new.Given as goal
 
 abbrev pub invariant-parts : goal.invariant-parts

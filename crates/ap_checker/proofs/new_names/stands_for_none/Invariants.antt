@@ -1,6 +1,6 @@
 use Rattle.std.proofs.Common.{◌≡◌, drop}
 use Rattle.ap_checker.specs.NewNames.{are_apart}
-use Rattle.ap_checker.specs.Scopes.{environment_of}
+use Rattle.ap_judge.specs.Scopes.{environment_of}
 use Rattle.ap_checker.proofs.new_names.stands_for_none.Given as goal
 
 abbrev pub invariant-loop-b : goal.invariant-loop-b

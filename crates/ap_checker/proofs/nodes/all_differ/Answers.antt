@@ -1,7 +1,7 @@
 use Rattle.std.proofs.Common.{◌-◌, sym, arith}
 use Rattle.std.specs.BTreeSet.{contains}
-use Rattle.ap_checker.specs.Indexes.{sought_name, sought_name_cmp}
-use Rattle.ap_checker.proofs.IndexLemmas.{different_more, equal_here, name_more}
+use Rattle.ap_judge.specs.Indexes.{sought_name, sought_name_cmp}
+use Rattle.ap_judge.proofs.IndexLemmas.{different_more, equal_here, name_more}
 use Rattle.ap_checker.proofs.nodes.all_differ.Goals as goal
 
 pub returns-then-not-branch : goal.returns-then-not-branch

@@ -4,7 +4,7 @@ use Rattle.std.specs.BTreeSet.{contains}
 use Rattle.ap_defs.specs.declared.terms.Name.{Name}
 use Rattle.ap_defs.specs.Permutations.{has_name}
 use Rattle.ap_checks.specs.Checks.{are_different}
-use Rattle.ap_checker.specs.Indexes.{sought_name, sought_name_cmp}
+use Rattle.ap_judge.specs.Indexes.{sought_name, sought_name_cmp}
 use Rattle.ap_checker.proofs.nodes.all_differ.Given as goal
 
 abbrev pub invariant-loop-i : goal.invariant-loop-i

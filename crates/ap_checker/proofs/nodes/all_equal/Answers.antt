@@ -1,6 +1,6 @@
 use Rattle.std.proofs.Common.{sym, arith}
 use Rattle.std.proofs.lemmas.Bool.Decides.{nat_tests}
-use Rattle.ap_checker.specs.Scopes.{environment_of}
+use Rattle.ap_judge.specs.Scopes.{environment_of}
 use Rattle.ap_checker.proofs.NodeLemmas.{lengths_differ}
 use Rattle.ap_checker.proofs.nodes.all_equal.Goals as goal
 

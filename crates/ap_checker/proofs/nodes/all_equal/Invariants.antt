@@ -2,8 +2,8 @@ use Rattle.std.proofs.Common.{◌≡◌, drop, map}
 use Rattle.ap_defs.specs.Terms.{term_of}
 use Rattle.ap_checks.specs.Checks.{equal_each}
 use Rattle.ap_checks.specs.OpenEnvironments.{put_in}
-use Rattle.ap_checker.specs.Closures.{scoped_terms}
-use Rattle.ap_checker.specs.Scopes.{environment_of}
+use Rattle.ap_judge.specs.Closures.{scoped_terms}
+use Rattle.ap_judge.specs.Scopes.{environment_of}
 use Rattle.ap_checker.proofs.nodes.all_equal.Given as goal
 
 abbrev pub invariant-loop-i : goal.invariant-loop-i

@@ -5,10 +5,10 @@ use Rattle.ap_defs.specs.Goals.{program_of, query_of}
 use Rattle.ap_checks.specs.Checks.{no}
 use Rattle.ap_checker.specs.declared.walk.Walk.{Walk}
 use Rattle.ap_checker.specs.Tables.{IsWalkIn}
-use Rattle.ap_checker.specs.Typings.{AreTypesKnown}
+use Rattle.ap_judge.specs.Typings.{AreTypesKnown}
 use Rattle.ap_checker.specs.Walks.{refusal_on}
 use Rattle.ap_checker.proofs.TableLemmas.{next_of, walk_next}
-use Rattle.ap_checker.proofs.WalkLemmas.{turn_goes_on, turn_refuses}
+use Rattle.ap_checker.proofs.WalkLemmas.{turn_goes_on, turn_refuses, turn_smaller}
 use Rattle.ap_checker.proofs.verify.verdict_on_nodes.Goals as goal
 
 pub returns-in-Some-2 : goal.returns-in-Some-2
@@ -47,3 +47,11 @@ visit-requires-clause-typed c =
     let before : Walk = record { standing = c.truncate.new.self; pending = c.pop.new.self } in
     let same = next_of c.args.terms.now c.nodes.walk before c.in-Some.next c.in-Some.next.mark c.in-Some.ensures.items c.truncate.ensures.items c.nodes.invariant.of in
     subst (λ (ts : SharedTerms). AreTypesKnown ts c.args.program.now.signature.constructors c.args.indexed.now.vars c.nodes.typed) (sym same) c.nodes.invariant.typed
+
+pub nodes-smaller : goal.nodes-smaller
+nodes-smaller c =
+    let p = program_of c.args.program.now in
+    let a = shared_answer (shared_terms c.args.terms.now) c.args.indexed.now in
+    let before : Walk = record { standing = c.truncate.new.self; pending = c.pop.new.self } in
+    turn_smaller p a (refusal_on p (query_of c.args.query.now) a (shared_derivation (shared_terms c.args.terms.now) c.args.derivation.now)) c.nodes.node c.saturating_add-node.result c.nodes.walk before c.visit.new.walk c.in-Some.next c.nodes.invariant.way
+    c.in-Some.ensures.items c.truncate.ensures.items c.saturating_add-node.ensures c.in_ok-rule.field-0 c.in_default-2.is (c.in_ok-rule.ensures.visited (shared_terms c.args.terms.now))

@@ -2,7 +2,7 @@
 use Rattle.ap_shared.specs.SharedViews.{shared_answer, shared_derivation, shared_terms}
 use Rattle.ap_defs.specs.Goals.{program_of, query_of}
 use Rattle.ap_checker.specs.Tables.{IsWalkIn}
-use Rattle.ap_checker.specs.Typings.{AreTypesKnown}
+use Rattle.ap_judge.specs.Typings.{AreTypesKnown}
 use Rattle.ap_checker.specs.Walks.{IsOnWay, pending_of, nodes_left, refusal_on}
 use Rattle.ap_checker.proofs.verify.verdict_on_nodes.Given as goal
 

@@ -10,15 +10,15 @@ use Rattle.ap_checks.specs.Checks.{first_refusal, refusal}
 use Rattle.ap_checks.specs.OpenEnvironments.{open_environment, put_in}
 use Rattle.ap_shared.specs.SharedPlaces.{given_terms}
 use Rattle.ap_shared.specs.SharedViews.{shared_answer, shared_derivation, shared_terms}
-use Rattle.ap_checker.specs.declared.cited.CitedTerms.TheVariants as all
-use Rattle.ap_checker.specs.declared.scope.Standing.TheVariants as code
+use Rattle.ap_judge.specs.declared.cited.CitedTerms.TheVariants as all
+use Rattle.ap_judge.specs.declared.scope.Standing.TheVariants as code
 use Rattle.ap_checker.specs.Rules.{node_refused}
-use Rattle.ap_checker.specs.Scopes.{environment_of}
+use Rattle.ap_judge.specs.Scopes.{environment_of}
 use Rattle.ap_checker.proofs.WalkLemmas.{atom_by, goes_brought}
 use Rattle.ap_checker.proofs.visits.visit_atom.Goals as goal
 
-pub returns-in-Some-2-clause-visited : goal.returns-in-Some-2-clause-visited
-returns-in-Some-2-clause-visited c = λ kinds table n.
+pub returns-in-Some-rule-clause-visited : goal.returns-in-Some-rule-clause-visited
+returns-in-Some-rule-clause-visited c = λ kinds table n.
     let p = program_of c.args.program.now in
     let used = c.args.used.now in
     let lines = shared_terms used.given.terms.now in
@@ -28,8 +28,8 @@ returns-in-Some-2-clause-visited c = λ kinds table n.
     let vs = map (put_in (environment_of c.deref.result.now)) us in
     let e = environment_of c.args.walk.now.standing.items in
     let v : vs ≡ map (put_in e) us = ap (λ ss. map (put_in (environment_of ss)) us) c.deref.ensures.value in
-    atom_by p a kinds n used.number c.args.pred used.names.now ts us vs (shared_derivation lines used.body.now) e (clause_of c.in-Some.clause.now) (Some c.in-Some-2.rule) c.in-Some.ensures v
-    (λ rest. c.in_ok-rule.ensures.rule table n rest ∙ ap (λ r. first_refusal (node_refused n r) rest) c.in-Some-2.is)
+    atom_by p a kinds n used.number c.args.pred used.names.now ts us vs (shared_derivation lines used.body.now) e (clause_of c.in-Some.clause.now) (Some c.in-Some-rule.rule) c.in-Some.ensures v
+    (λ rest. c.in_ok-rule.ensures.rule table n rest ∙ ap (λ r. first_refusal (node_refused n r) rest) c.in-Some-rule.is)
 
 pub returns-clause-visited : goal.returns-clause-visited
 returns-clause-visited c = λ kinds table.
@@ -48,6 +48,6 @@ returns-clause-visited c = λ kinds table.
     _ (code.Clause c.in_ok-own.own used.names (all.Lines used.given)) c.bring.new.self c.requires.marked c.in_ok-bring.ensures.standing c.bring.ensures.pending c.put.ensures.standing c.in_ok-put.ensures.pending
     (λ n.
     atom_by p a kinds n used.number c.args.pred used.names.now ts us vs (shared_derivation lines used.body.now) e (clause_of clause) None c.in-Some.ensures v
-    (λ rest. c.in_ok-rule.ensures.rule table n rest ∙ ap (λ r. first_refusal (node_refused n r) rest) c.in_default-2.is)
+    (λ rest. c.in_ok-rule.ensures.rule table n rest ∙ ap (λ r. first_refusal (node_refused n r) rest) c.in_default-rule.is)
     ∙ ap (λ (ls : List Local). refusal p a (kinds_of (locals_of ls)) (suc n) (shared_derivation lines used.body.now) (goal_of clause.body) (open_environment (locals_of ls) used.names.now ts)) (sym c.items-locals.ensures)
     ∙ ap (λ (ls : List Local). refusal p a (kinds_of (locals_of c.items-locals.result.now)) (suc n) (shared_derivation lines used.body.now) (goal_of clause.body) (open_environment (locals_of ls) used.names.now ts)) (sym c.in_ok-own.ensures)) refl

@@ -5,8 +5,8 @@ use Rattle.ap_defs.specs.Derivations as derivations
 use Rattle.ap_defs.specs.Goals as goals
 use Rattle.ap_defs.specs.Goals.{goal_of}
 use Rattle.ap_checks.specs.Checks.{is_new, refusal}
-use Rattle.ap_checker.specs.declared.scope.Standing.TheVariants as code
-use Rattle.ap_checker.specs.Scopes.{environment_of}
+use Rattle.ap_judge.specs.declared.scope.Standing.TheVariants as code
+use Rattle.ap_judge.specs.Scopes.{environment_of}
 use Rattle.ap_checker.specs.Walks.{derivation_at, goal_at, kinds_at}
 use Rattle.ap_checker.proofs.NodeLemmas.{test_goes_on}
 use Rattle.ap_checker.proofs.WalkLemmas.{goes_brought}

@@ -2,7 +2,7 @@
 use Rattle.std.proofs.Common.{[], ◌∷◌}
 use Rattle.ap_defs.specs.Derivations.{derivation_of}
 use Rattle.ap_defs.specs.Goals.{goal_of}
-use Rattle.ap_checker.specs.Scopes.{environment_of}
+use Rattle.ap_judge.specs.Scopes.{environment_of}
 use Rattle.ap_steps.specs.Steps.{pieces}
 use Rattle.ap_steps.specs.Walks.{IsWritingOnWay, parts_pending, parts_left}
 use Rattle.ap_steps.specs.Writers.{writing_of}

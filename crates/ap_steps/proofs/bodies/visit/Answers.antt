@@ -4,7 +4,7 @@ use Rattle.ap_defs.specs.Derivations.{derivation_of}
 use Rattle.ap_defs.specs.Goals as goals
 use Rattle.ap_defs.specs.Goals.{goal_of}
 use Rattle.ap_defs.specs.Terms.{term_of}
-use Rattle.ap_checker.specs.declared.scope.Standing.TheVariants as code
+use Rattle.ap_judge.specs.declared.scope.Standing.TheVariants as code
 use Rattle.ap_steps.specs.Writers.{writing_of}
 use Rattle.ap_steps.proofs.BodyLemmas.{goes_brought}
 use Rattle.ap_steps.proofs.bodies.visit.Goals as goal

@@ -1,5 +1,0 @@
-use Rattle.std.proofs.lemmas.Result.{IfOk-weaker}
-use Rattle.ap_checker.proofs.closures.moved_head.Goals as goal
-
-pub returns-in-Pair-clause-of : goal.returns-in-Pair-clause-of
-returns-in-Pair-clause-of c = IfOk-weaker c.moved_pair.result _ _ (λ h k ts p. let both = c.in-Pair.ensures.of ts p in k ts both.0 both.1) c.moved_pair.ensures.of

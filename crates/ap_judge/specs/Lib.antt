@@ -1,0 +1,15 @@
+pub mod Wanted
+pub mod Typings
+pub mod FreeLocals
+pub mod Places
+pub mod Cited
+pub mod Scopes
+pub mod Closures
+pub mod Tables
+pub mod Indexes
+pub mod Stacks
+pub mod Latest
+pub mod Binders
+pub mod Settled
+pub mod Comparisons
+pub mod Outsides
