@@ -1,9 +1,11 @@
 //! Texts of folders. A file of a folder has a line for each text, with the depth and its name: `runs` those that are run,
-//! read as streams, `examined` those whose queries are properties, and `proofs` those whose answers are counted with their
-//! derivations. A text is examined by one worker and by four, and a line tells where these write different bytes.
+//! read as streams, `examined` those whose queries are properties, `proofs` those whose answers are counted with their
+//! derivations, and `checked` those of which it is told what `check` writes of what `prove` writes. A text is examined by one
+//! worker and by four, and a line tells where these write different bytes.
 
 use crate::call::tell_by;
 use crate::derivations::{tally_of, tell};
+use crate::proving::tell_proved;
 use crate::streams::run_text;
 use std::fs::Files;
 use std::sync::Wait;
@@ -16,6 +18,7 @@ pub enum Task {
     Run,
     Examine,
     Prove,
+    Check,
 }
 
 impl Task {
@@ -25,6 +28,7 @@ impl Task {
             Task::Run => "runs",
             Task::Examine => "examined",
             Task::Prove => "proofs",
+            Task::Check => "checked",
         }
     }
 }
@@ -52,6 +56,18 @@ fn prove<R: Threads + Wait + Sync + AllocGlobal + Files + Print>(
     tell(rt, name, tally)
 }
 
+/// Writes what `check` writes of what `prove` writes of a text, behind its name and the depth.
+fn check<R: Threads + Wait + Sync + AllocGlobal + Files + Print>(
+    rt: &R,
+    depth: &str,
+    name: &str,
+    path: &str,
+) -> io::Result<()> {
+    println!(rt; "% {name}, depth {depth}")?;
+    let text = fs::read(rt, path)?;
+    tell_proved(rt, depth, &text)
+}
+
 /// Does a task on a text of a folder.
 fn go_through<R: Threads + Wait + Sync + AllocGlobal + Files + Print>(
     rt: &R,
@@ -64,6 +80,7 @@ fn go_through<R: Threads + Wait + Sync + AllocGlobal + Files + Print>(
         Task::Run => run_text(rt, depth, path),
         Task::Examine => examine(rt, depth, path),
         Task::Prove => prove(rt, depth, name, path),
+        Task::Check => check(rt, depth, name, path),
     }
 }
 

@@ -93,6 +93,7 @@ fn main(rt: HostRuntime) -> io::Result<()> {
     prefixes::tell_prefixes(&rt, "shared")?;
     println!(rt; "% derivations")?;
     go_through_folder(&rt, Task::Prove, "examples")?;
+    go_through_folder(&rt, Task::Check, "examples")?;
     println!(rt; "% calls")?;
     calls::call_file(&rt, CALLS)?;
     large::run_large(&rt)

@@ -93,3 +93,13 @@ pub fn tell_check<R: Threads + Wait + Sync + AllocGlobal + Print>(
     io::writer(rt).write_all(sink.bytes())?;
     println!(rt; "% status {status}")
 }
+
+/// Writes what `check` writes of what `prove` writes of a text to a depth, and its status.
+pub fn tell_proved<R: Threads + Wait + Sync + AllocGlobal + Print>(
+    rt: &R,
+    depth: &str,
+    text: &[u8],
+) -> io::Result<()> {
+    let (_, sink) = answer(rt, &["prove", "--depth", depth], text)?;
+    tell_check(rt, sink.bytes())
+}
