@@ -166,7 +166,9 @@ fn advance<'a>(
 }
 
 /// Whether the term of a line has the type, where the answer's variables have the types beside them, and
-/// another variable has no type. What is left to look at stands on a stack, so no term is too deep.
+/// another variable has no type. What is left to look at stands on a stack, so no term is too deep. The caller
+/// owes that what is known by now is of this table, these constructors and these variables, as it is of a new
+/// `Typed` and behind each call.
 pub fn has_type<'a>(
     alloc: Global,
     constructors: &'a [Constructor],
