@@ -200,9 +200,8 @@ fn compare<'a>(
     compare_heads(alloc, answer, walk, Compared { left, right, mark })
 }
 
-/// Whether the terms of two closures are equal under the answer's conditions. The caller owes that all lines
-/// that they cite are of this table, since a line that is met on both sides is not looked into;
-/// `are_equal_under` owes nothing.
+/// Whether the terms of two closures are equal under the answer's conditions. Lines that they cite are of
+/// this table.
 pub fn are_equal_at(
     alloc: Global,
     answer: &IndexedAnswer<'_>,

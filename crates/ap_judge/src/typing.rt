@@ -166,9 +166,7 @@ fn advance<'a>(
 }
 
 /// Whether the term of a line has the type, where the answer's variables have the types beside them, and
-/// another variable has no type. What is left to look at stands on a stack, so no term is too deep. The caller
-/// owes that what is known by now is of this table, these constructors and these variables, as it is of a new
-/// `Typed` and behind each call.
+/// another variable has no type. What is left to look at stands on a stack, so no term is too deep.
 pub fn has_type<'a>(
     alloc: Global,
     constructors: &'a [Constructor],
