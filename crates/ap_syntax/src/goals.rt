@@ -1,9 +1,9 @@
 // Reading a goal.
-ghost use Rattle.std.specs.Prelude.{◌≡◌, ◌<◌, ◌≤◌, [], ◌∷◌, length, vec_len, IfOk, Some};
+ghost use Rattle.std.specs.Prelude.{◌≡◌, ◌<◌, ◌≤◌, [], ◌∷◌, length, vec_len, IfOk, IfSome, Some};
 ghost use Rattle.ap_trees.specs.Goals as trees;
 ghost use Rattle.ap_trees.specs.Outcomes.{GivesPart};
 ghost use Rattle.ap_trees.specs.Readers.{separated, after_comma};
-ghost use Rattle.ap_trees.specs.Symbols.{syms};
+ghost use Rattle.ap_trees.specs.Symbols.{syms, Ident, Open};
 ghost use Rattle.ap_trees.specs.Trees.{term_of, trees_of, goal_of_tree, goals_of};
 ghost use Rattle.ap_syntax.specs.GoalReader as spec;
 ghost use Rattle.ap_syntax.specs.GoalReader.{read_goal, read_conj, read_simple};
@@ -197,8 +197,18 @@ fn term_goal<'a, 's>(
     }
 }
 
+/// The word that is applied by what begins the symbols, and what follows its `(`.
+fn applied_word<'a, 's>(symbols: &'s [Symbol<'a>]) -> Option<(&'a str, &'s [Symbol<'a>])>
+    ensures word { IfSome result (λ r. syms symbols.now ≡ Ident r.0.now ∷ Open ∷ syms r.1.now) }
+    ensures shorter { IfSome result (λ r. length r.1.now < length symbols.now) }
+{
+    match symbols {
+        [Symbol::Ident(word), Symbol::Open, inside @ ..] => Some((word, inside)),
+        _ => None,
+    }
+}
+
 /// An equation, a freshness goal or an atom.
-#[tactic(auto, using(crate::proofs::Applied::flat_applied))]
 fn flat<'a, 's>(
     alloc: Global,
     symbols: &'s [Symbol<'a>],
@@ -207,11 +217,12 @@ fn flat<'a, 's>(
         (spec.read_flat (syms symbols.now)) }
     ensures shorter { IfOk result (λ r. length r.1.now < length symbols.now) }
 {
-    if let [Symbol::Ident(word), Symbol::Open, inside @ ..] = symbols {
-        let (goal, rest) = applied_goal(alloc, word, inside)?;
-        Ok((goal, rest))
-    } else {
-        term_goal(alloc, symbols)
+    match applied_word(symbols) {
+        Some((word, inside)) => {
+            let (goal, rest) = applied_goal(alloc, word, inside)?;
+            Ok((goal, rest))
+        }
+        None => term_goal(alloc, symbols),
     }
 }
 
