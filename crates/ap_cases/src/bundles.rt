@@ -42,16 +42,25 @@ fn tell_verdict<R: AllocGlobal + Print>(rt: &R, query: u32, verdict: Verdict) ->
     }
 }
 
-/// Writes what each derivation of a bundle comes to.
-fn tell_derivations<R: AllocGlobal + Print>(rt: &R, bundle: &Bundle) -> io::Result<()> {
-    let Ok(program) = program_of(rt.alloc(), bundle.text.items()) else {
-        return Ok(());
-    };
-    for proved in bundle.proved.items() {
-        let verdict = verdict_on(rt.alloc(), &program, proved).map_err(|_| AllocError)?;
+/// Writes what each of these derivations comes to.
+fn tell_verdicts<R: AllocGlobal + Print>(
+    rt: &R,
+    program: &Restricted,
+    all: &[Proved],
+) -> io::Result<()> {
+    for proved in all {
+        let verdict = verdict_on(rt.alloc(), program, proved).map_err(|_| AllocError)?;
         tell_verdict(rt, proved.query, verdict)?;
     }
     Ok(())
+}
+
+/// Writes what each derivation of a bundle comes to, if its text has no fault.
+fn tell_derivations<R: AllocGlobal + Print>(rt: &R, bundle: &Bundle) -> io::Result<()> {
+    match program_of(rt.alloc(), bundle.text.items()) {
+        Ok(program) => tell_verdicts(rt, &program, bundle.proved.items()),
+        Err(Memory) => Ok(()),
+    }
 }
 
 /// Both versions of a bundle.

@@ -58,6 +58,22 @@ fn proved_at<'a>(
     }
 }
 
+/// Adds the answer at which a branch stands, with its derivation, if there is one.
+fn add_proved<'a>(
+    alloc: Global,
+    problem: &Problem<'a>,
+    branch: &Branch<'a>,
+    all: &mut Vec<SharedProved>,
+) -> Result<(), Memory>
+    requires query { HasQuery problem.now }
+    requires of { IsBranchOf problem.now branch.now }
+{
+    if let Some(proved) = proved_at(alloc, problem, branch)? {
+        all.push(proved)?;
+    }
+    Ok(())
+}
+
 /// Adds the answer at a path, with its derivation, if there is one.
 fn prove_at(
     alloc: Global,
@@ -68,12 +84,7 @@ fn prove_at(
     requires { HasQuery problem.now }
 {
     match at(alloc, problem, path) {
-        Ok(branch) => {
-            if let Some(proved) = proved_at(alloc, problem, &branch)? {
-                all.push(proved)?;
-            }
-            Ok(())
-        }
+        Ok(branch) => add_proved(alloc, problem, &branch, all),
         Err(_) => Err(Memory),
     }
 }
@@ -209,20 +220,42 @@ fn tally_written<R: Threads + Wait + Sync + AllocGlobal + Print>(
     })
 }
 
+/// How many answers a text's program has, their bundle, and how many of its derivations check.
+fn checked_text(
+    alloc: Global,
+    text: &str,
+    program: &Restricted,
+    depth: u32,
+) -> Result<(Written, (usize, usize)), Memory> {
+    let (answers, written) = proved_text(alloc, text, program, depth)?;
+    let checked = checked_in(alloc, &written.shared, program)?;
+    Ok((written, (answers, checked)))
+}
+
+/// The answers of a text's program, and lines where a command writes otherwise for them.
+fn tally_in<R: Threads + Wait + Sync + AllocGlobal + Print>(
+    rt: &R,
+    depth: &str,
+    text: &str,
+    program: &Restricted,
+) -> io::Result<Tally> {
+    let number = depth.parse::<u32>().unwrap_or(1);
+    let (written, counts) = checked_text(rt.alloc(), text, program, number).map_err(
+        |_| AllocError,
+    )?;
+    tally_written(rt, depth, text.as_bytes(), &written, counts)
+}
+
 /// The answers of a text, and lines where a command writes otherwise for them. A text with a fault has none.
 pub fn tally_of<R: Threads + Wait + Sync + AllocGlobal + Print>(
     rt: &R,
     depth: &str,
     text: &str,
 ) -> io::Result<Tally> {
-    let alloc = rt.alloc();
-    let Ok(program) = program_of(alloc, text.as_bytes()) else {
-        return Ok(NONE);
-    };
-    let number = depth.parse::<u32>().unwrap_or(1);
-    let (answers, written) = proved_text(alloc, text, &program, number).map_err(|_| AllocError)?;
-    let checked = checked_in(alloc, &written.shared, &program).map_err(|_| AllocError)?;
-    tally_written(rt, depth, text.as_bytes(), &written, (answers, checked))
+    match program_of(rt.alloc(), text.as_bytes()) {
+        Ok(program) => tally_in(rt, depth, text, &program),
+        Err(Memory) => Ok(NONE),
+    }
 }
 
 /// Writes what texts come to together.

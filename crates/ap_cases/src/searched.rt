@@ -13,6 +13,7 @@ use ap_defs::memory::Memory;
 use ap_defs::paths::{Node, Out, Path};
 use ap_index::index::Index;
 use ap_paths::Limit;
+use ap_program::restricted::Restricted;
 use ap_replay::error::ReplayError;
 use ap_replay::replay::at;
 use std::alloc::{AllocError, Global};
@@ -60,14 +61,24 @@ fn spelled(alloc: Global, problem: &Problem<'_>) -> Result<String, Memory>
     Ok(word)
 }
 
-/// The outputs of a text.
-fn outputs_of(alloc: Global, depth: u32, text: &str) -> Result<String, Memory> {
-    let program = program_of(alloc, text.as_bytes())?;
-    let index = Index::of(alloc, &program)?;
-    match problem_of(&index, 1, depth) {
+/// The outputs of the first query of a program with its index.
+fn first_outputs(alloc: Global, depth: u32, index: &Index<'_>) -> Result<String, Memory> {
+    match problem_of(index, 1, depth) {
         Some(problem) => spelled(alloc, &problem),
         None => Err(Memory),
     }
+}
+
+/// The outputs of the first query of a program.
+fn outputs_in(alloc: Global, depth: u32, program: &Restricted) -> Result<String, Memory> {
+    let index = Index::of(alloc, program)?;
+    first_outputs(alloc, depth, &index)
+}
+
+/// The outputs of a text.
+fn outputs_of(alloc: Global, depth: u32, text: &str) -> Result<String, Memory> {
+    let program = program_of(alloc, text.as_bytes())?;
+    outputs_in(alloc, depth, &program)
 }
 
 /// Writes the texts of the file `outputs` with their depths, and a letter and a path for each output.
@@ -160,14 +171,24 @@ fn lines_of<'a>(alloc: Global, problem: &Problem<'a>) -> Result<String, Memory>
     String::from_utf8(bytes).or(Err(Memory))
 }
 
-/// The branches of a text, and its lines.
-fn branches_of(alloc: Global, text: &str) -> Result<(String, String), Memory> {
-    let program = program_of(alloc, text.as_bytes())?;
-    let index = Index::of(alloc, &program)?;
-    match problem_of(&index, 1, 1) {
+/// The branches of the first query of a program with its index, and its lines.
+fn first_branches(alloc: Global, index: &Index<'_>) -> Result<(String, String), Memory> {
+    match problem_of(index, 1, 1) {
         Some(problem) => Ok((words_at(alloc, &problem)?, lines_of(alloc, &problem)?)),
         None => Err(Memory),
     }
+}
+
+/// The branches of the first query of a program, and its lines.
+fn branches_in(alloc: Global, program: &Restricted) -> Result<(String, String), Memory> {
+    let index = Index::of(alloc, program)?;
+    first_branches(alloc, &index)
+}
+
+/// The branches of a text, and its lines.
+fn branches_of(alloc: Global, text: &str) -> Result<(String, String), Memory> {
+    let program = program_of(alloc, text.as_bytes())?;
+    branches_in(alloc, &program)
 }
 
 /// Writes the texts of the file `branches`, what the branch at each of the paths stands at, and the query's lines.

@@ -33,13 +33,6 @@ then_names (susp p x) as' = ap (λ z. z ++ as') (sym (nothing_more (names_of p))
     nothing_more [] = refl
     nothing_more (b ∷ bs) = ap (λ z. b ∷ z) (nothing_more bs)
 
-pub pair_names : (t u : NominalTerm) (as' bs : List Name) → bs ≡ as' ++ names_then t [] → bs ++ names_then u [] ≡ as' ++ names_then (pair t u) []
-pair_names t u as' bs h =
-    ap (λ z. z ++ names_then u []) h ∙ append_assoc as' (names_then t []) (names_then u []) ∙ ap (λ z. as' ++ z) (sym (then_names t (names_then u [])))
-
-pub abs_names : (a : Name) (t : NominalTerm) (as' bs : List Name) → bs ≡ as' ++ (a ∷ []) → bs ++ names_then t [] ≡ as' ++ names_then (abs a t) []
-abs_names a t as' bs h = ap (λ z. z ++ names_then t []) h ∙ append_assoc as' (a ∷ []) (names_then t [])
-
 then_vars : (t : NominalTerm) (xs : List Var) → vars_then t xs ≡ vars_then t [] ++ xs
 then_vars unit xs = refl
 then_vars (name a) xs = refl
@@ -49,10 +42,6 @@ then_vars (pair t u) xs =
 then_vars (app f t) xs = then_vars t xs
 then_vars (abs a t) xs = then_vars t xs
 then_vars (susp p x) xs = refl
-
-pub pair_vars : (t u : NominalTerm) (xs ys : List Var) → ys ≡ xs ++ vars_then t [] → ys ++ vars_then u [] ≡ xs ++ vars_then (pair t u) []
-pair_vars t u xs ys h =
-    ap (λ z. z ++ vars_then u []) h ∙ append_assoc xs (vars_then t []) (vars_then u []) ∙ ap (λ z. xs ++ z) (sym (then_vars t (vars_then u [])))
 
 pub two_names : (t u : NominalTerm) (bs cs : List Name) → bs ≡ [] ++ names_then t [] → cs ≡ bs ++ names_then u [] → cs ≡ names_then t (names_then u [])
 two_names t u bs cs h k = k ∙ ap (λ z. z ++ names_then u []) h ∙ sym (then_names t (names_then u []))

@@ -1,5 +1,5 @@
--- The numbers and the words of the rules, and verdicts as the program has them.
-use Rattle.std.specs.Prelude.{ℕ, List, codes, Option, Some, None}
+-- The numbers of the rules, and verdicts as the program has them.
+use Rattle.std.specs.Prelude.{ℕ, Option, Some, None}
 use Rattle.ap_defs.specs.declared.outcomes.Verdict.{Verdict}
 use Rattle.ap_defs.specs.declared.outcomes.Verdict.TheVariants as verdicts
 use Rattle.ap_checks.specs.Checks.{NominalVerdict, Refusal, refusal_of_rule, no, yes}
@@ -17,18 +17,6 @@ rule_number rules.Equal = 7
 rule_number rules.Fresh = 8
 rule_number rules.NewName = 9
 rule_number rules.Answer = 10
-
-abbrev pub word_of : Rule → List ℕ
-word_of rules.Shape = codes "Shape"
-word_of rules.Clause = codes "Clause"
-word_of rules.Count = codes "Count"
-word_of rules.Distinct = codes "Distinct"
-word_of rules.Typing = codes "Typing"
-word_of rules.Head = codes "Head"
-word_of rules.Equal = codes "Equal"
-word_of rules.Fresh = codes "Fresh"
-word_of rules.NewName = codes "NewName"
-word_of rules.Answer = codes "Answer"
 
 -- the refusal of the node with this number, if a rule refuses it
 abbrev pub node_refused : ℕ → Option Rule → Option Refusal

@@ -1,13 +1,14 @@
 //! The names and variables that stand in terms.
 
 ghost use Rattle.std.specs.Prelude.{◌≡◌, ◌++◌, [], ◌∷◌, map, IfOk, OnOk};
-ghost use Rattle.ap_defs.specs.Occurrences.{names_of_terms, names_then, vars_of_terms};
+ghost use Rattle.ap_defs.specs.Occurrences.{names_at, names_of_terms, names_then, vars_at, vars_of_terms};
 ghost use Rattle.ap_defs.specs.Permutations.{names_of};
 ghost use Rattle.ap_defs.specs.Terms.{term_of};
 ghost use Rattle.ap_defs.specs.Unification.{vars_then};
 
 use ap_defs::memory::Memory;
 use ap_defs::terms::{Name, Swap, Term, Var};
+use ap_defs::walks::Parts;
 use std::alloc::Global;
 
 /// Adds the names of a swapping.
@@ -31,48 +32,49 @@ fn add_swaps(names: &mut Vec<Name>, swaps: &[Swap]) -> Result<(), Memory>
     Ok(())
 }
 
+/// Adds the names that stand at a part of a term itself.
+fn add_names_at(names: &mut Vec<Name>, part: &Term) -> Result<(), Memory>
+    ensures { OnOk result (names.new.items ≡ names.old.items ++ names_at (term_of part.now)) }
+{
+    match part {
+        Term::Unit | Term::Pair(_, _) | Term::App(_, _) => {}
+        Term::Name(a) => names.push(*a)?,
+        Term::Abs(a, _) => names.push(*a)?,
+        Term::Susp(swaps, _) => add_swaps(names, swaps.items())?,
+    }
+    Ok(())
+}
+
+/// Adds the variable that stands at a part of a term itself.
+fn add_vars_at(vars: &mut Vec<Var>, part: &Term) -> Result<(), Memory>
+    ensures { OnOk result (vars.new.items ≡ vars.old.items ++ vars_at (term_of part.now)) }
+{
+    if let Term::Susp(_, x) = part {
+        vars.push(*x)?;
+    }
+    Ok(())
+}
+
 /// Adds the names of a term, as they are read.
-#[tactic(auto, using(crate::proofs::FreeLemmas::pair_names, crate::proofs::FreeLemmas::abs_names))]
-fn add_names(names: &mut Vec<Name>, t: &Term) -> Result<(), Memory>
+fn add_names(alloc: Global, names: &mut Vec<Name>, t: &Term) -> Result<(), Memory>
     ensures { OnOk result (names.new.items ≡ names.old.items ++ names_then (term_of t.now) []) }
 {
-    let mut rest = t;
-    loop {
-        match rest {
-            Term::Unit => return Ok(()),
-            Term::Name(a) => return Ok(names.push(*a)?),
-            Term::Susp(swaps, _) => return add_swaps(names, swaps.items()),
-            Term::Pair(left, right) => {
-                add_names(names, left)?;
-                rest = right;
-            }
-            Term::App(_, argument) => rest = argument,
-            Term::Abs(a, body) => {
-                names.push(*a)?;
-                rest = body;
-            }
-        }
+    let mut parts = Parts::of(alloc, t)?;
+    while let Some(part) = parts.next()? {
+        add_names_at(names, part)?;
     }
+    Ok(())
 }
 
 /// Adds the variables of a term, as they are read.
-#[tactic(auto, using(crate::proofs::FreeLemmas::pair_vars))]
-fn add_vars(vars: &mut Vec<Var>, t: &Term) -> Result<(), Memory>
+fn add_vars(alloc: Global, vars: &mut Vec<Var>, t: &Term) -> Result<(), Memory>
     ensures { OnOk result (vars.new.items ≡ vars.old.items ++ vars_then (term_of t.now) []) }
 {
-    let mut rest = t;
-    loop {
-        match rest {
-            Term::Unit | Term::Name(_) => return Ok(()),
-            Term::Susp(_, x) => return Ok(vars.push(*x)?),
-            Term::Pair(left, right) => {
-                add_vars(vars, left)?;
-                rest = right;
-            }
-            Term::App(_, argument) => rest = argument,
-            Term::Abs(_, body) => rest = body,
-        }
+    let mut parts = Parts::of(alloc, t)?;
+    while let Some(part) = parts.next()? {
+        add_vars_at(vars, part)?;
     }
+    Ok(())
 }
 
 /// The names of terms, as they are read.
@@ -81,7 +83,7 @@ pub(crate) fn names_of_each(alloc: Global, terms: &[Term]) -> Result<Vec<Name>, 
 {
     let mut names = Vec::new(alloc);
     for t in terms {
-        add_names(&mut names, t)?;
+        add_names(alloc, &mut names, t)?;
     }
     Ok(names)
 }
@@ -92,7 +94,7 @@ pub(crate) fn vars_of_each(alloc: Global, terms: &[Term]) -> Result<Vec<Var>, Me
 {
     let mut vars = Vec::new(alloc);
     for t in terms {
-        add_vars(&mut vars, t)?;
+        add_vars(alloc, &mut vars, t)?;
     }
     Ok(vars)
 }
@@ -104,8 +106,8 @@ pub(crate) fn names_of_two(alloc: Global, t: &Term, u: &Term) -> Result<Vec<Name
         ≡ names_then (term_of t.now) (names_then (term_of u.now) [])) }
 {
     let mut names = Vec::new(alloc);
-    add_names(&mut names, t)?;
-    add_names(&mut names, u)?;
+    add_names(alloc, &mut names, t)?;
+    add_names(alloc, &mut names, u)?;
     Ok(names)
 }
 
@@ -116,7 +118,7 @@ pub(crate) fn vars_of_two(alloc: Global, t: &Term, u: &Term) -> Result<Vec<Var>,
         ≡ vars_then (term_of t.now) (vars_then (term_of u.now) [])) }
 {
     let mut vars = Vec::new(alloc);
-    add_vars(&mut vars, t)?;
-    add_vars(&mut vars, u)?;
+    add_vars(alloc, &mut vars, t)?;
+    add_vars(alloc, &mut vars, u)?;
     Ok(vars)
 }

@@ -2,8 +2,7 @@
 //! types and how terms are put together (`ap_defs`).
 //!
 //! A derivation is as deep as whoever made it wants: its nodes stand on a stack of their own, as do the parts
-//! of a term that is judged (`ap_judge`). What lists the names and variables of a term of the program calls
-//! itself on left parts: these are as deep as the text is nested.
+//! of a term that is judged (`ap_judge`), or whose names and variables are listed.
 #![tactic(auto)]
 
 mod answers;

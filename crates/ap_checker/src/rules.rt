@@ -1,7 +1,7 @@
 //! The rules by which a node of a derivation, or its answer, is refused.
 
 ghost use Rattle.std.specs.Prelude.{◌≡◌};
-ghost use Rattle.ap_checker.specs.Rules.{rule_number, word_of};
+ghost use Rattle.ap_checker.specs.Rules.{rule_number};
 
 /// Why a node is refused. At a node the least rule counts.
 #[derive(Clone, Copy, PartialEq, Eq)]
@@ -44,24 +44,6 @@ impl Rule {
             Rule::Fresh => 8,
             Rule::NewName => 9,
             Rule::Answer => 10,
-        }
-    }
-
-    /// The word of the rule.
-    pub fn word(self) -> &'static str
-        ensures { result.now ≡ word_of self }
-    {
-        match self {
-            Rule::Shape => "Shape",
-            Rule::Clause => "Clause",
-            Rule::Count => "Count",
-            Rule::Distinct => "Distinct",
-            Rule::Typing => "Typing",
-            Rule::Head => "Head",
-            Rule::Equal => "Equal",
-            Rule::Fresh => "Fresh",
-            Rule::NewName => "NewName",
-            Rule::Answer => "Answer",
         }
     }
 }

@@ -124,8 +124,8 @@ pub fn clearing_swaps(
 {
     let mut names = names_of_answer(alloc, locals, answer)?;
     let mut there = IndexSet::new(alloc);
-    add_names_of_terms(&mut there, terms)?;
+    add_names_of_terms(alloc, &mut there, terms)?;
     let found = in_the_way(alloc, &names, &there)?;
-    add_names_of_terms(&mut names.known, terms)?;
+    add_names_of_terms(alloc, &mut names.known, terms)?;
     exchanges(alloc, &mut names.known, &found)
 }

@@ -2,4 +2,3 @@ mod GoalLemmas
 pub mod NameLemmas
 mod StatingLemmas
 pub mod TableLemmas
-mod TermLemmas

@@ -1,12 +1,13 @@
 //! The stated instance of an answer.
 
-ghost use Rattle.std.specs.Prelude.{◌≡◌, IfOk, map};
+ghost use Rattle.std.specs.Prelude.{◌≡◌, ◌<◌, ◌+◌, ◌*◌, IfOk, map};
 ghost use Rattle.ap_defs.specs.Answers.{answer_of, typed_var_of};
-ghost use Rattle.ap_defs.specs.Terms.{term_of, unit};
+ghost use Rattle.ap_defs.specs.Terms.{term_of};
 ghost use Rattle.ap_defs.specs.Types.{constructor_of, locals_of};
+ghost use Rattle.ap_defs.specs.Unification.{size};
+ghost use Rattle.ap_defs.specs.Walks.{term_in_frames, term_made, term_work, term_frames_work};
 ghost use Rattle.ap_ground.specs.TypedGroundings.{HaveInhabitants};
-ghost use Rattle.ap_instance.specs.Settled.{replaced, settled_name};
-ghost use Rattle.ap_instance.specs.Tables.{term_beside};
+ghost use Rattle.ap_instance.specs.Tables.{settled_term};
 ghost use Rattle.ap_instance.specs.Views.{IsStated};
 ghost use Rattle.ap_pick.specs.Pickers.{IsPicker};
 ghost use Rattle.ap_property.specs.Stated.{stated};
@@ -16,8 +17,9 @@ use crate::picks::{Picks, picks_of};
 use ap_defs::goals::Local;
 use ap_defs::memory::Memory;
 use ap_defs::outcomes::Answer;
-use ap_defs::spines::{TermLayer, close_term};
+use ap_defs::spines::TermLayer;
 use ap_defs::terms::Term;
+use ap_defs::walks::{TermFrame, TermPart, leave_term};
 use ap_pick::Picker;
 use std::alloc::Global;
 
@@ -29,36 +31,56 @@ pub struct Stated {
     pub sorts: Vec<u32>,
 }
 
-/// A term of the answer with its names settled and the picked terms for its variables. It calls itself on left
-/// parts of pairs alone.
-#[tactic(auto, using(ap_defs::proofs::SpineLemmas::term_within_last))]
-fn stated_term(alloc: Global, names: &Names, picks: &Picks, term: &Term) -> Result<Term, Memory>
-    ensures { IfOk result (λ t. term_of t ≡ replaced
-        (settled_name names.now.free names.now.first names.now.known.keys)
-        (term_beside picks.now.vars.keys picks.now.terms.items (λ y. unit)) (term_of term.now)) }
+/// Reads a part of a term of the answer, with its names settled and the picked terms for its variables: what
+/// stands round the next part is kept, unless this one has no parts.
+fn stated_part<'a>(
+    alloc: Global,
+    names: &Names,
+    picks: &Picks,
+    frames: &mut Vec<TermFrame<'a>>,
+    term: &'a Term,
+) -> Result<TermPart<'a>, Memory>
+    ensures same { IfOk result (λ p. term_in_frames (settled_term names.now picks.now)
+        frames.new.items (term_made (settled_term names.now picks.now) p)
+        ≡ term_in_frames (settled_term names.now picks.now) frames.old.items
+        (settled_term names.now picks.now (term_of term.now))) }
+    ensures less { IfOk result (λ p. term_frames_work frames.new.items + term_work p
+        < term_frames_work frames.old.items + 3 * size (term_of term.now)) }
 {
-    let mut layers = Vec::new(alloc);
-    let mut rest = term;
-    loop {
-        match rest {
-            Term::Unit => return close_term(alloc, layers, Term::Unit),
-            Term::Name(a) => return close_term(alloc, layers, Term::Name(names.settled(*a)?)),
-            Term::Susp(_, x) => {
-                let picked = picks.of(alloc, *x)?;
-                return close_term(alloc, layers, picked);
-            }
-            Term::Pair(left, right) => {
-                layers.push(TermLayer::Left(stated_term(alloc, names, picks, left)?))?;
-                rest = right;
-            }
-            Term::App(f, argument) => {
-                layers.push(TermLayer::App(*f))?;
-                rest = argument;
-            }
-            Term::Abs(a, body) => {
-                layers.push(TermLayer::Abs(names.settled(*a)?))?;
-                rest = body;
-            }
+    match term {
+        Term::Unit => Ok(TermPart::Made(Term::Unit)),
+        Term::Name(a) => Ok(TermPart::Made(Term::Name(names.settled(*a)?))),
+        Term::Susp(_, x) => Ok(TermPart::Made(picks.of(alloc, *x)?)),
+        Term::Pair(left, right) => {
+            frames.push(TermFrame::Before(right))?;
+            Ok(TermPart::Left(left))
+        }
+        Term::App(f, argument) => {
+            frames.push(TermFrame::In(TermLayer::App(*f)))?;
+            Ok(TermPart::Left(argument))
+        }
+        Term::Abs(a, body) => {
+            let settled = names.settled(*a)?;
+            frames.push(TermFrame::In(TermLayer::Abs(settled)))?;
+            Ok(TermPart::Left(body))
+        }
+    }
+}
+
+/// A term of the answer with its names settled and the picked terms for its variables.
+#[tactic(auto, using(ap_defs::proofs::WalkLemmas::term_frames_last, ap_defs::proofs::WalkLemmas::term_work_last))]
+fn stated_term(alloc: Global, names: &Names, picks: &Picks, term: &Term) -> Result<Term, Memory>
+    ensures { IfOk result (λ t. term_of t ≡ settled_term names.now picks.now (term_of term.now)) }
+{
+    let mut frames = Vec::new(alloc);
+    let mut part = TermPart::Left(term);
+    'stating: loop {
+        match part {
+            TermPart::Left(t) => part = stated_part(alloc, names, picks, &mut frames, t)?,
+            TermPart::Made(t) => match frames.pop() {
+                None => return Ok(t),
+                Some(frame) => part = leave_term(alloc, &mut frames, frame, t)?,
+            },
         }
     }
 }
@@ -71,9 +93,7 @@ fn stated_terms(
     terms: &[Term],
 ) -> Result<Vec<Term>, Memory>
     ensures { IfOk result (λ v. map term_of v.items
-        ≡ map (replaced (settled_name names.now.free names.now.first names.now.known.keys)
-        (term_beside picks.now.vars.keys picks.now.terms.items (λ y. unit)))
-        (map term_of terms.now)) }
+        ≡ map (settled_term names.now picks.now) (map term_of terms.now)) }
 {
     let mut stated = Vec::new(alloc);
     for term in terms {

@@ -36,11 +36,7 @@ fn add_vars_of(alloc: Global, vars: &mut Vec<Var>, t: &Term) -> Result<(), Memor
 }
 
 /// Adds the variables of terms after others.
-pub fn add_vars_of_terms(
-    alloc: Global,
-    vars: &mut Vec<Var>,
-    terms: &[Term],
-) -> Result<(), Memory>
+pub fn add_vars_of_terms(alloc: Global, vars: &mut Vec<Var>, terms: &[Term]) -> Result<(), Memory>
     ensures { OnOk result (vars.new.items
         ≡ vars.old.items ++ vars_of_terms (map term_of terms.now)) }
 {

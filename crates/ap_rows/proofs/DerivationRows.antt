@@ -162,10 +162,13 @@ unfolding name_eq
 another_name = refl
 
 -- A clause with two names, `two :- a # c.`, of one sort or of two.
-abbrev two_names : ℕ → NominalProgram
-two_names sort =
+abbrev two_names_for : NominalGoal → ℕ → NominalProgram
+two_names_for goal sort =
     program (signature (codes "id" ∷ codes "tag" ∷ []) [] [] ([] ∷ []))
-    ((clause 0 [] (goals.fresh (name (n 0 0)) (name (n sort 1))) (named 0 (codes "a") ∷ named sort (codes "c") ∷ []) ∷ []) ∷ []) (query (goals.atom 0 []) []) []
+    ((clause 0 [] (goals.fresh (name (n 0 0)) (name (n sort 1))) (named 0 (codes "a") ∷ named sort (codes "c") ∷ []) ∷ []) ∷ []) (query goal []) []
+
+abbrev two_names : ℕ → NominalProgram
+two_names = two_names_for (goals.atom 0 [])
 
 different_names : verdict_of (two_names 0) 1 (answer [] [] []) (nodes.atom 1 (n 0 5 ∷ n 0 6 ∷ []) [] nodes.fresh) ≡ yes
 unfolding name_eq
@@ -174,6 +177,10 @@ different_names = refl
 one_name_twice : verdict_of (two_names 0) 1 (answer [] [] []) (nodes.atom 1 (n 0 5 ∷ n 0 5 ∷ []) [] nodes.fresh) ≡ no 1 4
 unfolding name_eq
 one_name_twice = refl
+
+name_twice_below : verdict_of (two_names_for (goals.both goals.succeed (goals.atom 0 [])) 0) 1 (answer [] [] []) (nodes.both nodes.succeed (nodes.atom 1 (n 0 5 ∷ n 0 5 ∷ []) [] nodes.fresh)) ≡ no 3 4
+unfolding name_eq
+name_twice_below = refl
 
 -- names of two sorts are different, also where their numbers are equal
 one_number_twice : verdict_of (two_names 1) 1 (answer [] [] []) (nodes.atom 1 (n 0 5 ∷ n 1 5 ∷ []) [] nodes.fresh) ≡ yes
@@ -265,6 +272,11 @@ first_node_counts = refl
 least_rule_counts : verdict_of substitution_program 1 without_capture (lam_node (body_with 3 same_word (nodes.atom 2 [] (name (n 0 1) ∷ name (n 0 3) ∷ []) nodes.fresh))) ≡ no 10 3
 unfolding swap_name name_eq
 least_rule_counts = refl
+
+-- another clause of the predicate, with another number of free variables
+clause_of_another_count : verdict_of substitution_program 1 without_capture (lam_node (body_with 3 same_word (nodes.atom 1 [] (name (n 0 3) ∷ name (n 0 1) ∷ word 0 ∷ []) nodes.fresh))) ≡ no 10 3
+unfolding swap_name name_eq
+clause_of_another_count = refl
 
 type_below : verdict_of substitution_program 1 without_capture (lam_node (body_with 3 same_word (nodes.atom 2 [] (word 3 ∷ name (n 0 1) ∷ word 0 ∷ []) nodes.fresh))) ≡ no 10 5
 unfolding swap_name name_eq

@@ -49,13 +49,13 @@ fn are_files(words: &[String]) -> bool {
     words.iter().all(|word| !word.as_str().starts_with('-'))
 }
 
-/// A session, up to its end.
-fn session<R: Threads + Wait + Sync + AllocGlobal + Input + Print + Eprint + Files + Clock>(
+/// Gives a session its files, and loads them.
+fn begin<R: AllocGlobal + Print + Eprint + Files>(
     rt: &R,
+    session: &mut Session,
     files: &[String],
     prompts: bool,
 ) -> io::Result<()> {
-    let mut session = Session::new(rt.alloc());
     for name in files {
         session.files.push(name.clone()?)?;
     }
@@ -63,9 +63,20 @@ fn session<R: Threads + Wait + Sync + AllocGlobal + Input + Print + Eprint + Fil
         print!(rt; "{GREETING}")?;
     }
     if !files.is_empty() {
-        load_files(rt, &mut session)?;
+        load_files(rt, session)?;
     }
-    converse(rt, &mut session, prompts)
+    Ok(())
+}
+
+/// Begins a session, and goes on to its end.
+fn hold<R: Threads + Wait + Sync + AllocGlobal + Input + Print + Eprint + Files + Clock>(
+    rt: &R,
+    session: &mut Session,
+    files: &[String],
+    prompts: bool,
+) -> io::Result<()> {
+    begin(rt, session, files, prompts)?;
+    converse(rt, session, prompts)
 }
 
 /// A session, and the status with which it ends.
@@ -74,7 +85,8 @@ fn run<R: Threads + Wait + Sync + AllocGlobal + Input + Print + Eprint + Files +
     files: &[String],
     prompts: bool,
 ) -> Status {
-    match session(rt, files, prompts) {
+    let held = hold(rt, &mut Session::new(rt.alloc()), files, prompts);
+    match held {
         Ok(()) => Status::Ok,
         Err(error) => output::status_of(&error),
     }

@@ -3,8 +3,9 @@
 use crate::files::load_files;
 use crate::lines::Lines;
 use crate::output::{say, write_bytes};
+use ap_defs::memory::Memory;
 use ap_io::NoGate;
-use ap_shell::{Reply, Session, step};
+use ap_shell::{Reply, Session, Step, step};
 use std::fs::Files;
 use std::io;
 use std::sync::Wait;
@@ -60,17 +61,13 @@ enum Next {
     Quit,
 }
 
-/// Takes the first part of a line.
-fn take_part<R: Threads + Wait + Sync + AllocGlobal + Print + Eprint + Files + Clock>(
+/// Writes what comes of a part of a line.
+fn answer<R: AllocGlobal + Print + Eprint + Files + Clock>(
     rt: &R,
     session: &mut Session,
-    line: &[u8],
+    step: &Step,
+    start: Instant,
 ) -> io::Result<Next> {
-    let start = Instant::now(rt)?;
-    let Ok(step) = step(rt, rt.alloc(), &NoGate, session, line) else {
-        say(rt, session.channel, NO_MEMORY)?;
-        return Ok(Next::At(line.len()));
-    };
     if step.dropped {
         say(rt, session.channel, DROPPED)?;
     }
@@ -81,6 +78,22 @@ fn take_part<R: Threads + Wait + Sync + AllocGlobal + Print + Eprint + Files + C
         say_time(rt, session, start)?;
     }
     Ok(Next::At(step.used))
+}
+
+/// Takes the first part of a line.
+fn take_part<R: Threads + Wait + Sync + AllocGlobal + Print + Eprint + Files + Clock>(
+    rt: &R,
+    session: &mut Session,
+    line: &[u8],
+) -> io::Result<Next> {
+    let start = Instant::now(rt)?;
+    match step(rt, rt.alloc(), &NoGate, session, line) {
+        Ok(step) => answer(rt, session, &step, start),
+        Err(Memory) => {
+            say(rt, session.channel, NO_MEMORY)?;
+            Ok(Next::At(line.len()))
+        }
+    }
 }
 
 /// Takes a line, and tells whether the session goes on.

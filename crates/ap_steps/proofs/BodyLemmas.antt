@@ -16,7 +16,7 @@ use denote.Ref.{Bor}
 use Rattle.ap_defs.specs.declared.goals.Goal as code_goals
 use Rattle.ap_defs.specs.declared.outcomes.Derivation as code_nodes
 use Rattle.ap_defs.specs.declared.terms.Term.{Term}
-use Rattle.ap_steps.specs.Walks.{ArePartsMarked, WritesOn, IsWritingOnWay, parts_pending, parts_left, part_at, pieces_at, pieces_left}
+use Rattle.ap_steps.specs.Walks.{ArePartsMarked, WritesOn, IsWritingOnWay, parts_pending, nodes_in_parts, part_at, pieces_at, pieces_left}
 
 take-whole : {A : Type 0} (xs : List A) → take (length xs) xs ≡ xs
 take-whole [] = refl
@@ -56,8 +56,8 @@ module _ (w : DerivationWriting) where
       ∙ ap₂ (λ (xs ys : List NominalPiece). xs ++ ys) (ap (λ (vs : List Standing). pieces_at w t (environment_of vs)) (ap (λ n. take n us) h ∙ take-whole us))
       (left_same (length ss) us ss (reverse ps) (e ∙ sym (take-whole ss)) m)
 
-put_nodes : (ps : List Part) (t : Part) → parts_left (reverse (ps ++ t ∷ [])) ≡ node_count (derivation_of t.derivation.now) + parts_left (reverse ps)
-put_nodes ps t = ap parts_left (last_first ps t)
+put_nodes : (ps : List Part) (t : Part) → nodes_in_parts (reverse (ps ++ t ∷ [])) ≡ node_count (derivation_of t.derivation.now) + nodes_in_parts (reverse ps)
+put_nodes ps t = ap nodes_in_parts (last_first ps t)
 
 put_marked : (ps : List Part) (t : Part) → ArePartsMarked t.mark (reverse ps) → ArePartsMarked t.mark (reverse (ps ++ t ∷ []))
 put_marked ps t m = rw (last_first ps t) (le_refl t.mark, m)
@@ -72,7 +72,7 @@ module _ (w : DerivationWriting) (d : NominalDerivation) (g : NominalGoal) (befo
     kept =
         ap₂ (λ (xs ys : List NominalPiece). xs ++ ys) (ek ∙ ap (λ ys. map piece_of before.pieces.items ++ ys) e) (ap₂ (λ (us : List Standing) (ps : List Part). pieces_left w us (reverse ps)) es ep)
         ∙ append_assoc (map piece_of before.pieces.items) (pieces w d g (environment_of before.standing.items)) (pieces_left w before.standing.items (parts_pending before));
-    nodes = let same = ap (λ (ps : List Part). parts_left (reverse ps)) ep in let some = count_some d in omega (arith, same, some);
+    nodes = let same = ap (λ (ps : List Part). nodes_in_parts (reverse ps)) ep in let some = count_some d in omega (arith, same, some);
     marked = subst (λ (us : List Standing). ArePartsMarked (length us) (parts_pending after)) (sym es) (subst (λ (ps : List Part). ArePartsMarked (length before.standing.items) (reverse ps)) (sym ep) m);
   }
 
@@ -91,7 +91,7 @@ module _ (w : DerivationWriting) (d : NominalDerivation) (g : NominalGoal) (befo
         kept =
             ap₂ (λ (xs ys : List NominalPiece). xs ++ ys) (ap (map piece_of) ek)
             (ap (λ (qs : List Part). pieces_left w us (reverse qs)) ep ∙ put_first w ss us ps t em front m ∙ ap (λ ys. ys ++ pieces_left w ss (reverse ps)) (sym h));
-        nodes = let same = ap (λ (qs : List Part). parts_left (reverse qs)) ep ∙ put_nodes ps t in omega (arith, same, k);
+        nodes = let same = ap (λ (qs : List Part). nodes_in_parts (reverse qs)) ep ∙ put_nodes ps t in omega (arith, same, k);
         marked = subst (λ (qs : List Part). ArePartsMarked (length us) (reverse qs)) (sym ep)
             (subst (λ n. ArePartsMarked n (reverse (ps ++ t ∷ []))) em (put_marked ps t (marked_higher (length ss) t.mark (reverse ps) longer m)));
       }
@@ -114,7 +114,7 @@ module _ (w : DerivationWriting) (d : NominalDerivation) (g : NominalGoal) (befo
             ∙ ap (λ ys. pieces_at w t (environment_of ss) ++ ys) (put_first w ss ss ps u eu (take-whole ss) m)
             ∙ sym (append_assoc (pieces_at w t (environment_of ss)) (pieces_at w u (environment_of ss)) (pieces_left w ss (reverse ps)))
             ∙ ap (λ ys. ys ++ pieces_left w ss (reverse ps)) (sym h));
-        nodes = let same = ap (λ (rs : List Part). parts_left (reverse rs)) ep ∙ put_nodes qs t in let more = put_nodes ps u in omega (arith, same, more, k);
+        nodes = let same = ap (λ (rs : List Part). nodes_in_parts (reverse rs)) ep ∙ put_nodes qs t in let more = put_nodes ps u in omega (arith, same, more, k);
         marked = subst (λ (rs : List Part). ArePartsMarked (length after.standing.items) (reverse rs)) (sym ep)
             (subst (λ (us : List Standing). ArePartsMarked (length us) (reverse (qs ++ t ∷ []))) (sym es)
             (subst (λ n. ArePartsMarked n (reverse (qs ++ t ∷ []))) et (put_marked qs t (subst (λ n. ArePartsMarked n (reverse qs)) (sym et) one))));
@@ -186,5 +186,5 @@ module _ (w : DerivationWriting) (whole : List NominalPiece) (body before after 
     marked = on.marked;
   }
 
-  pub turn_nodes : parts_left (parts_pending body) ≡ node_count (derivation_of t.derivation.now) + parts_left (parts_pending before)
-  turn_nodes = ap parts_left (ap reverse taken ∙ last_first before.pending.items t)
+  pub turn_nodes : nodes_in_parts (parts_pending body) ≡ node_count (derivation_of t.derivation.now) + nodes_in_parts (parts_pending before)
+  turn_nodes = ap nodes_in_parts (ap reverse taken ∙ last_first before.pending.items t)

@@ -35,9 +35,9 @@ pieces_left w ss [] = []
 pieces_left w ss (t ∷ ts) = pieces_at w t (environment_of (take t.mark ss)) ++ pieces_left w ss ts
 
 -- how many nodes are left
-abbrev pub parts_left : List Part → ℕ
-parts_left [] = 0
-parts_left (t ∷ ts) = node_count (derivation_of t.derivation.now) + parts_left ts
+abbrev pub nodes_in_parts : List Part → ℕ
+nodes_in_parts [] = 0
+nodes_in_parts (t ∷ ts) = node_count (derivation_of t.derivation.now) + nodes_in_parts ts
 
 -- what stands where a node is, stands there also where a later one is
 abbrev pub ArePartsMarked : ℕ → List Part → Type 0
@@ -52,7 +52,7 @@ parts_pending b = reverse b.pending.items
 pub record WritesOn (w : DerivationWriting) (d : NominalDerivation) (g : NominalGoal) (before after : Body) : Type 0 where
   pub kept : map piece_of after.pieces.items ++ pieces_left w after.standing.items (parts_pending after)
       ≡ map piece_of before.pieces.items ++ (pieces w d g (environment_of before.standing.items) ++ pieces_left w before.standing.items (parts_pending before))
-  pub nodes : suc (parts_left (parts_pending after)) ≤ node_count d + parts_left (parts_pending before)
+  pub nodes : suc (nodes_in_parts (parts_pending after)) ≤ node_count d + nodes_in_parts (parts_pending before)
   pub marked : ArePartsMarked (length after.standing.items) (parts_pending after)
 
 -- with the pieces of what is left those so far are all

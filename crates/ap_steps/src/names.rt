@@ -30,11 +30,7 @@ fn add_listed(names: &mut IndexSet<Name>, more: &[Name]) -> Result<(), Memory>
 }
 
 /// Adds the names of terms.
-fn add_names_of(
-    alloc: Global,
-    names: &mut IndexSet<Name>,
-    terms: &[Term],
-) -> Result<(), Memory>
+fn add_names_of(alloc: Global, names: &mut IndexSet<Name>, terms: &[Term]) -> Result<(), Memory>
     ensures { OnOk result (names.new.keys
         ≡ more_names names.old.keys (names_of_terms (map term_of terms.now))) }
 {
@@ -47,11 +43,7 @@ fn add_names_of(
 }
 
 /// Adds the variables of terms.
-fn add_vars_of(
-    alloc: Global,
-    vars: &mut IndexSet<Var>,
-    terms: &[Term],
-) -> Result<(), Memory>
+fn add_vars_of(alloc: Global, vars: &mut IndexSet<Var>, terms: &[Term]) -> Result<(), Memory>
     ensures { OnOk result (vars.new.keys
         ≡ more_vars vars.old.keys (vars_of_terms (map term_of terms.now))) }
 {
@@ -144,11 +136,7 @@ pub(crate) fn nodes_of(alloc: Global, derivation: &Derivation) -> Result<Vec<&De
 
 /// Adds the names of a node.
 #[tactic(auto, using(ap_answers::proofs::OccurrenceLemmas::more_names_append))]
-fn add_own_names(
-    alloc: Global,
-    names: &mut IndexSet<Name>,
-    node: &Derivation,
-) -> Result<(), Memory>
+fn add_own_names(alloc: Global, names: &mut IndexSet<Name>, node: &Derivation) -> Result<(), Memory>
     ensures { OnOk result (names.new.keys
         ≡ more_names names.old.keys (own_names (derivation_of node.now))) }
 {
@@ -165,11 +153,7 @@ fn add_own_names(
 }
 
 /// Adds the variables of a node.
-fn add_own_vars(
-    alloc: Global,
-    vars: &mut IndexSet<Var>,
-    node: &Derivation,
-) -> Result<(), Memory>
+fn add_own_vars(alloc: Global, vars: &mut IndexSet<Var>, node: &Derivation) -> Result<(), Memory>
     ensures { OnOk result (vars.new.keys
         ≡ more_vars vars.old.keys (own_vars (derivation_of node.now))) }
 {

@@ -8,7 +8,7 @@ ghost use Rattle.ap_unparse.specs.WrittenTerms.{barred_words, name_text, tuple_o
 use crate::closing::write_closers;
 use crate::context::Context;
 use ap_defs::memory::Memory;
-use ap_trees::{Args, Binder, Tree};
+use ap_trees::{Args, Binder, Sides, Tree};
 use std::alloc::Global;
 
 /// Writes the bar that stands before the rest of a list.
@@ -70,21 +70,16 @@ fn begin_abs(out: &mut Vec<u8>, name: &Binder<'_>, context: Context) -> Result<(
 }
 
 /// Writes what stands before the body of a swapping.
-fn begin_swap(
-    out: &mut Vec<u8>,
-    left: &Binder<'_>,
-    right: &Binder<'_>,
-    context: Context,
-) -> Result<(), Memory>
+fn begin_swap(out: &mut Vec<u8>, sides: &Sides<'_>, context: Context) -> Result<(), Memory>
     ensures { OnOk result (out.new.items
         ≡ out.old.items
-        ++ swap_opening context (name_of_binder left.now) (name_of_binder right.now)) }
+        ++ swap_opening context (name_of_binder sides.now.left) (name_of_binder sides.now.right)) }
 {
     write_bar(out, context)?;
     out.extend_from_slice(b"swap(")?;
-    write_name(out, left)?;
+    write_name(out, &sides.left)?;
     out.push(b',')?;
-    write_name(out, right)?;
+    write_name(out, &sides.right)?;
     out.push(b',')?;
     Ok(())
 }
@@ -195,9 +190,7 @@ pub fn write_tree(
                 rest = body;
             }
             Tree::Swapped(sides, body) => {
-                let left = sides.left;
-                let right = sides.right;
-                begin_swap(out, &left, &right, context)?;
+                begin_swap(out, sides, context)?;
                 closers.push(b')')?;
                 context = Context::Whole;
                 rest = body;

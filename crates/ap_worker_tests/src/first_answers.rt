@@ -42,17 +42,31 @@ pub fn only_query<'a>(program: &'a Index<'_>, depth: u32) -> Option<Problem<'a>>
     }
 }
 
-/// The core after these events.
-fn played(alloc: Global, events: &[Event]) -> Result<Option<Core>, Memory> {
-    let program = program_of(alloc, TEXT)?;
-    let index = Index::of(alloc, &program)?;
-    match only_query(&index, 5) {
+/// The core after these events, of a program with its index.
+fn played_by(alloc: Global, index: &Index<'_>, events: &[Event]) -> Result<Option<Core>, Memory> {
+    match only_query(index, 5) {
         Some(problem) => {
             let tree = ProblemTree::of(problem, Paths::Kept, Limit::First(1));
             play(alloc, &tree, 2, events)
         }
         None => Err(Memory),
     }
+}
+
+/// The core after these events, of a program.
+fn played_in(
+    alloc: Global,
+    program: &Restricted,
+    events: &[Event],
+) -> Result<Option<Core>, Memory> {
+    let index = Index::of(alloc, program)?;
+    played_by(alloc, &index, events)
+}
+
+/// The core after these events.
+fn played(alloc: Global, events: &[Event]) -> Result<Option<Core>, Memory> {
+    let program = program_of(alloc, TEXT)?;
+    played_in(alloc, &program, events)
 }
 
 /// The first worker splits the empty path, shares [2], ends [1] and takes [2] back, which is left out.

@@ -3,6 +3,7 @@
 use crate::first_answers::program_of;
 use ap_defs::memory::Memory;
 use ap_index::index::Index;
+use ap_program::restricted::Restricted;
 use std::alloc::Global;
 
 /// The constructors have the keys 7, 8 and 9.
@@ -18,13 +19,23 @@ any(var(X), E).
 any(E, var(X)).
 any(app(M,N), E).";
 
-/// The numbers of the clauses of a predicate whose key agrees.
-fn kids(alloc: Global, pred: u32, key: u64) -> Result<Vec<u32>, Memory> {
-    let program = program_of(alloc, TEXT)?;
-    let index = Index::of(alloc, &program)?;
+/// The numbers of the clauses of a predicate whose key agrees, by an index.
+fn kids_by(alloc: Global, index: &Index<'_>, pred: u32, key: u64) -> Result<Vec<u32>, Memory> {
     let mut out = Vec::from_array(alloc, [7])?;
     index.kids(alloc, pred, key, &mut out)?;
     Ok(out)
+}
+
+/// The numbers of the clauses of a predicate of a program whose key agrees.
+fn kids_in(alloc: Global, program: &Restricted, pred: u32, key: u64) -> Result<Vec<u32>, Memory> {
+    let index = Index::of(alloc, program)?;
+    kids_by(alloc, &index, pred, key)
+}
+
+/// The numbers of the clauses of a predicate of the text whose key agrees.
+fn kids(alloc: Global, pred: u32, key: u64) -> Result<Vec<u32>, Memory> {
+    let program = program_of(alloc, TEXT)?;
+    kids_in(alloc, &program, pred, key)
 }
 
 /// Whether these are they.

@@ -9,6 +9,7 @@ use ap_defs::memory::Memory;
 use ap_defs::paths::Path;
 use ap_index::index::Index;
 use ap_paths::{Limit, Tree, Visit};
+use ap_program::restricted::Restricted;
 use ap_replay::problem_tree::ProblemTree;
 use ap_replay::replay::at;
 use std::alloc::Global;
@@ -40,6 +41,33 @@ fn visit_at(
     }
 }
 
+/// The same of the query of a program with its index, to a depth.
+fn visit_by(
+    alloc: Global,
+    index: &Index<'_>,
+    limit: Limit,
+    choices: &[u32],
+    depth: u32,
+) -> Result<Visit, Memory> {
+    let path = Path::of(choices.to_vec(alloc)?);
+    match only_query(index, depth) {
+        Some(problem) => visit_at(alloc, &problem, limit, &path),
+        None => Err(Memory),
+    }
+}
+
+/// The same of the query of a program.
+fn visit_in(
+    alloc: Global,
+    program: &Restricted,
+    limit: Limit,
+    choices: &[u32],
+    depth: u32,
+) -> Result<Visit, Memory> {
+    let index = Index::of(alloc, program)?;
+    visit_by(alloc, &index, limit, choices, depth)
+}
+
 /// What it answers after these choices in the search of a text's query.
 fn visit_of(
     alloc: Global,
@@ -49,12 +77,7 @@ fn visit_of(
     depth: u32,
 ) -> Result<Visit, Memory> {
     let program = program_of(alloc, text)?;
-    let index = Index::of(alloc, &program)?;
-    let path = Path::of(choices.to_vec(alloc)?);
-    match only_query(&index, depth) {
-        Some(problem) => visit_at(alloc, &problem, limit, &path),
-        None => Err(Memory),
-    }
+    visit_in(alloc, &program, limit, choices, depth)
 }
 
 /// The same for two ways at each path, where all answers are wanted.

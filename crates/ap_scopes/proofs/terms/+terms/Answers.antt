@@ -3,6 +3,7 @@ use Rattle.ap_defs.specs.RawTerms.{raw_of, pair, app, abs}
 use Rattle.ap_spines.specs.declared.RawLayer.TheVariants as around
 use Rattle.ap_trees.specs.declared.trees.Tree.{Tree}
 use Rattle.ap_trees.specs.declared.trees.Args.{Args}
+use Rattle.ap_trees.specs.declared.trees.Sides.{Sides}
 use Rattle.ap_trees.specs.Terms as terms
 use Rattle.ap_trees.specs.Trees.{term_of, terms_of, name_of_binder}
 use Rattle.ap_scopes.specs.Declarations.{constructor_place}
@@ -96,7 +97,9 @@ resolved_spine-loop-rest-preserved t c =
     let between = found_of c.binder-in-Swapped.new.found in
     let after = found_of c.binder-in-Swapped-2.new.found in
     let is : term_of c.loop-rest.rest.now ≡ terms.Swapped left right body = ap term_of c.in-Swapped.is ∙ ap (λ (u : Tree). terms.Swapped left right (term_of u)) (sym c.deref-rest-in-Swapped.ensures) in
-    let ends = in_order_is two_ids (binder s left) (binder s right) before between after i j c.in_ok-left-in-Swapped.ensures.value c.in_ok-right-in-Swapped.ensures.value in
+    let first : (i, between) ≡ binder s left before = c.in_ok-left-in-Swapped.ensures.value ∙ ap (λ (u : Sides). binder s (name_of_binder u.left) before) c.deref-in-Swapped.ensures in
+    let second : (j, after) ≡ binder s right between = c.in_ok-right-in-Swapped.ensures.value ∙ ap (λ (u : Sides). binder s (name_of_binder u.right) between) c.deref-in-Swapped-2.ensures in
+    let ends = in_order_is two_ids (binder s left) (binder s right) before between after i j first second in
     let layer = c.in_ok-swapping_layer-in-Swapped.field-0 in
     let part = resolved_term d s body after in
     record {

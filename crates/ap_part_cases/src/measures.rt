@@ -1,5 +1,4 @@
-//! For measurements, which the scripts of `bench/` time. The first word says of what, and what was measured is
-//! printed:
+//! Measurements, which the scripts of `bench/` time: of each the word that asks for it.
 //!
 //! - `book`: a book is filled with a tree of two choices at each of 16 levels, and merged
 //! - `lock`: a million turns of a shared book
@@ -9,7 +8,6 @@
 //! - `recursion`: a plain recursion goes through the same tree
 //! - `derived`, `written`, `read`, `verified`: a derivation of a million nodes in one chain is made, and then written, read
 //!   again and verified, each after the ones before
-#![tactic(auto)]
 
 mod book;
 mod deques;
@@ -18,13 +16,13 @@ mod steal;
 mod turns;
 mod types;
 
-use crate::derivations::Stage;
+use derivations::Stage;
+use std::io;
 use std::sync::Wait;
 use std::thread::Threads;
-use std::{env, io};
 
 /// What is measured.
-fn measured<R: Threads + Wait + Sync + AllocGlobal>(rt: &R, word: &str) -> io::Result<String> {
+pub fn measured<R: Threads + Wait + Sync + AllocGlobal>(rt: &R, word: &str) -> io::Result<String> {
     let alloc = rt.alloc();
     let line = match word {
         "book" => book::report(alloc),
@@ -42,12 +40,4 @@ fn measured<R: Threads + Wait + Sync + AllocGlobal>(rt: &R, word: &str) -> io::R
         _ => "nothing is measured so".to_string(alloc),
     };
     Ok(line?)
-}
-
-fn main(rt: HostRuntime) -> io::Result<()> {
-    if let Some(word) = env::args(&rt)?.nth(1) {
-        let line = measured(&rt, &word)?;
-        println!(rt; "{line}")?;
-    }
-    Ok(())
 }

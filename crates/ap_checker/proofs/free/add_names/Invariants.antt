@@ -1,0 +1,13 @@
+-- The names of the parts that are left, behind those so far, are all.
+use Rattle.std.proofs.Common.{◌≡◌, ◌++◌, [], length}
+use Rattle.ap_defs.specs.Occurrences.{names_then}
+use Rattle.ap_defs.specs.Terms.{term_of}
+use Rattle.ap_defs.specs.Walks.{parts_left}
+use Rattle.ap_defs.proofs.PartLemmas.{names_of_parts}
+use Rattle.ap_checker.proofs.free.add_names.Given as goal
+
+abbrev pub invariant-loop-parts : goal.invariant-loop-parts
+invariant-loop-parts l = l.names.items ++ names_of_parts (parts_left l.parts) ≡ l.fn.names.items ++ names_then (term_of l.fn.t) []
+
+abbrev pub decreases-loop-parts : goal.decreases-loop-parts
+decreases-loop-parts l = length (parts_left l.parts)
