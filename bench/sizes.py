@@ -50,47 +50,144 @@ def search(name, clauses, depth=lambda steps: steps):
     SEARCHES[name] = (lambda steps: BEGIN + clauses.replace("@", str(steps))), depth
 
 
+def halves(first, second):
+    """Two texts, each of half the size, one behind the other."""
+    return lambda size: first(size // 2) + second(size // 2)
+
+
+def made(name, make, status=0):
+    """A text that a function of its size makes."""
+    TEXTS[name] = (lambda size: BEGIN + make(size)), status
+
+
+def nested(opening, middle, closing, count):
+    return opening * count + middle + closing * count
+
+
+def parts_of(name, before, middle, behind, bytes_of_part):
+    """A text with two lists of as many parts each: `@` stands for a list of `t`, `$` for one of `z`."""
+    def make(size):
+        count = max(2, size // bytes_of_part)
+        return before + ",".join(["t"] * count) + middle + ",".join(["z"] * count) + behind
+
+    made(name, make)
+
+
 # Terms and goals with many parts.
 text("list in a fact", "pred p([t]). p([", "z", "]). ?- p(X).", ",")
+text("list in a fact, not asked", "pred p([t]). p([", "z", "]).", ",")
 text("list in a query", "?- X = [", "z", "].", ",")
+made("two equal lists", halves(lambda n: repeated("?- [", "z", "]", n, ","), lambda n: repeated(" = [", "z", "].", n, ",")))
+made("two lists of variables", halves(lambda n: numbered("?- [", "X@", "]", n, ","), lambda n: numbered(" = [", "Y@", "|_].", n, ",")))
 text("list of variables", "pred p([t]). p([", "X@", "]). ?- p(Y).", ",", by=numbered)
+text("list of variables in a query", "?- [", "X@", "] = [z|_].", ",", by=numbered)
+text("list of new variables in a fact", "pred p([t]). p([", "_", "]). ?- p(X).", ",")
+text("list of new variables in a query", "?- X = [", "_", "|[z]].", ",")
+text("list of free names", "?- X = [", "a@", "].", ",", by=numbered)
 text("tuple", "?- X = (", "z", ").", ",")
 text("type with many parts", "pred p((", "t", ")). p(X). ?- p(X).", ",")
+parts_of("tuple of a type with many parts", "pred p((", ")). p(X). ?- p((", ")).", 4)
+parts_of("constructor with many parts", "d : (", ") -> t. ?- X = d(", ").", 4)
+text("predicate with many parts", "pred p(", "t", "). p(X).", ",", status=3)
 text("abstractions", "?- X = [", "l(a\\v(a))", "].", ",")
-text("towers of 200", "", "?- X = " + "s(" * 200 + "z" + ")" * 200 + ". ", "")
+text("abstractions whose binders all differ", "?- X = [", "l(a@\\v(a@))", "].", ",", by=numbered)
+made("two abstractions over lists", halves(lambda n: repeated("?- a\\[", "a", "]", n, ","), lambda n: repeated(" = b\\[", "b", "].", n, ",")))
 text("conjunction", "?- ", "z = z", ".", ", ")
+text("conjunction of calls", "pred p. p. ?- ", "p", ".", ", ")
 text("conjunction in a body", "pred p. pred q. p. q :- ", "p", ". ?- q.", ", ")
+text("conjunction of choices", "?- ", "(z = z; z = s(z))", ".", ", ")
 text("disjunction", "?- ", "z = z", ".", "; ")
+text("disjunction of calls", "pred p. p. ?- ", "p", ".", "; ")
 text("disjunction with a variable", "?- ", "X = z", ".", "; ")
 text("chain of variables", "?- ", "X@ = X$", ", X0 = z.", ", ", by=numbered)
+text("chain of variables, each bound to the one before", "?- ", "X$ = X@", ", X0 = z.", ", ", by=numbered)
 text("exists", "?- ", "exists X (X = z)", ".", ", ")
+text("exists that binds nothing", "?- ", "exists X (X = X)", ", Y = z.", ", ")
 text("new names", "?- ", "new a (a # z)", ".", ", ")
+# What nests.
+text("towers of 200", "", "?- X = " + nested("s(", "z", ")", 200) + ". ", "")
+text("lists that nest 255", "", "?- X = " + nested("[", "z", "]", 255) + ". ", "")
+text("abstractions that nest 255", "", "?- X = " + "a\\" * 255 + "a. ", "")
+text("goals in 255 parentheses", "", "?- " + nested("(", "z = z", ")", 255) + ". ", "")
+text("terms in 254 parentheses", "", "?- " + nested("(", "z", ")", 254) + " = X. ", "")
+text("new names that nest 254", "", "?- " + nested("new a (", "a # z", ")", 254) + ". ", "")
+text("exists that nest 254", "", "?- " + nested("exists X (", "X = z", ")", 254) + ". ", "")
+text("facts that nest 253", "pred p(t). ", "p(" + nested("s(", "X", ")", 253) + "). ", "?- p(X).")
+text("predicates whose types nest 250", "", "pred p@(" + nested("[", "t", "]", 250) + "). ", "", by=numbered)
 # Names, conditions and swappings.
 text("conditions on one variable", "?- X = X, ", "a@ # X", ", X = s(Y).", ", ", by=numbered)
+text("conditions on one variable that stays", "?- X = X, ", "a@ # X", ".", ", ", by=numbered)
 text("a condition on each variable", "?- a # [z, ", "X@", "].", ", ", by=numbered)
 text("new names beside a variable", "?- ", "new a (a # X)", ", X = z.", ", ")
+text("freshness for a list", "?- a # [", "b", "].", ",")
 text("swapping of a list", "?- X = swap(a, b, [", "v(a)", "]).", ",")
+text("swapping of a list of variables", "?- X = swap(a, b, [z, ", "X@", "]).", ", ", by=numbered)
 text("swappings of a variable, one in another", "?- ", "X$ = swap(a@, a$, X@)", ", X0 = v(a0).", ", ", by=numbered)
+SWAPPINGS = "".join(f"swap(a{i}, a{i + 1}, " for i in range(250)) + "X" + ")" * 250
+text("250 swappings of a variable", "", f"?- X = {SWAPPINGS}, X = v(A). ", "")
+text("250 swappings of a variable that is bound", "", f"?- {SWAPPINGS} = Y, Y = v(A), s(X) = s(X). ", "")
 text("free names of a clause", "pred p(t). p(X) :- ", "a@ # X", ". ?- p(Y).", ", ", by=numbered)
+text("free names of a clause that binds", "pred p(t). p(X) :- X = z, ", "a@ # X", ". ?- p(Y).", ", ", by=numbered)
 # Items.
 text("facts", "pred p(t). ", "p(z). ", "?- p(z).")
 text("facts that don't agree", "pred p(t). ", "p(z). ", "?- p(s(X)).")
+text("facts that all differ", "pred p(t). ", "c@ : t. p(c@). ", "?- p(c7). ?- p(X).", by=numbered)
+text("facts of lists", "pred p([t], t). ", "p([z, s(z)|X], s(Y)). ", "?- p(X, Y).")
+text("clauses with names", "pred p(n). ", "p(A) :- A = a@. ", "?- p(X).", by=numbered)
+text("clauses with conditions", "pred p(t, t). ", "p(v(A), X) :- A # X. ", "?- p(X, Y).")
+text("clauses with names in answers", "pred p(t). ", "p(l(a\\X)) :- a # X. ", "?- p(X).")
+made("facts and as many queries", halves(lambda n: repeated("pred p(t). pred q(t). q(s(z)). ", "p(z). ", "", n), lambda n: repeated("", "?- q(s(X)). ", "", n)))
+text("types", "", "t@ : type. ", "", by=numbered)
+text("types of names", "", "m@ : name_type. ", "", by=numbered)
 text("data types", "", "t@ : type. c@ : t@. ?- X = c@. ", "", by=numbered)
+text("constructors", "", "c@ : t. ", "?- X = c0.", by=numbered)
+text("constructors that are asked", "", "c@ : t. ?- X = c@. ", "", by=numbered)
 text("predicates", "", "pred p@(t). p@(X) :- X = z. ?- p@(Y). ", "", by=numbered)
+text("predicates without clauses", "", "pred p@. ", "?- p0.", by=numbered)
 text("tiny queries", "", "?- z = z. ", "")
 text("tiny queries with a variable", "", "?- X = z. ", "")
+text("tiny queries with variables that differ", "", "?- X@ = z. ", "", by=numbered)
+text("tiny queries, one a line", "", "?- z = z.\r\n", "")
 
 
-def taken_words(size):
-    """Words that are spelled as generated ones, and queries that want one."""
-    return numbered(BEGIN + "?- [", "_@", "] = [z|_]. ", size // 2, ",") + repeated("", "?- Y = s(_). ", "", size // 2)
+def chain_of_types(part, ends_first):
+    """Types, each of which has terms by the next alone, the last by a constant, which stands first or last."""
+    def make(size):
+        count = max(2, size // (len(part) + 36))
+        types = "".join(f"t{i} : type. " for i in range(count))
+        steps = [part.replace("@", str(i)).replace("$", str(i + 1)) for i in range(count - 1)]
+        end = f"c : t{count - 1}. "
+        steps = [end, *reversed(steps)] if ends_first else [*steps, end]
+        return types + "".join(steps)
+
+    return make
 
 
-TEXTS["queries beside words that are taken"] = taken_words, 0
-# Faults at the end.
+made("types, each by the next", chain_of_types("c@ : t$ -> t@. ", False))
+made("types, each by the one before", chain_of_types("c@ : t$ -> t@. ", True))
+made("types, each by the one before, and queries", chain_of_types("c@ : t$ -> t@. ?- X = c@(Y). ", True))
+made("types, each by the one before, and predicates", chain_of_types("c@ : t$ -> t@. pred p@(t@). p@(X) :- v(a) = v(a). ", True))
+made("lists, each in the next", lambda size: numbered("?- ", "X@ = [X$]", ", X0 = [].", min(size, 16384), ", "))
+made("terms, each in the next", lambda size: numbered("?- X0 = z, ", "X$ = c(z, X@)", ".", min(size, 32768), ", "))
+# Words.
+text("one long identifier", "", "a", " : type.")
+text("one long variable", "?- ", "X", " = z.")
+text("one long name", "?- X = ", "\xce\xb1", ".")
+text("one long comment", "%", "x", "\n?- X = z.")
+text("empty lines", "", "\n", "?- X = z.")
+text("empty comments", "", "%\n", "?- X = z.")
+made("names beside words that are taken", halves(lambda n: numbered("?- [", "n@", "] = _. ", n, ","), lambda n: repeated("?- Y = [", "a\\a", "].", n, ",")))
+made("queries beside words that are taken", halves(lambda n: numbered("?- [", "_@", "] = [z|_]. ", n, ","), lambda n: repeated("", "?- Y = s(_). ", "", n)))
+# Faults at the end, and texts that are none.
 text("a byte at the end", "", "?- z = z. ", "\xff", status=2)
+text("a character at the end", "", "?- z = z. ", "1", status=2)
 text("no end", "?- ", "z = z", "", ", ", status=2)
 text("a type fault at the end", "?- ", "z = z", ", z = Z, v(Z) = z.", ", ", status=3)
+text("a part too few", "pred p(", "t", "). p(z).", ",", status=3)
+text("a type twice at the end", "", "u@ : type. ", "u0 : type.", by=numbered, status=3)
+for name, part in (("full stops", "."), ("parentheses", "("), ("brackets", "["), ("binders", "a\\"), ("queries without an end", "?-"),
+                   ("commas", ","), ("colons", ":"), ("bytes that are no text", "\xff"), ("zeros", "\0"), ("mathematical letters", "\xf0\x9d\x94\xb8")):
+    text(f"nothing but {name}", "", part, "", status=2)
 
 # Searches.
 search("a chain of calls", "pred p. p :- p. ?- p.")

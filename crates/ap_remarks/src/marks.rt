@@ -42,12 +42,41 @@ pub(crate) enum Kind {
     Other,
 }
 
-/// A token: what it is, its first byte and the byte behind it.
+/// A token: what it is, its first byte and the byte behind it, of which a text has at most 16,777,216.
 #[derive(Clone, Copy)]
 pub(crate) struct Mark {
     pub kind: Kind,
-    pub start: usize,
-    pub end: usize,
+    start: u32,
+    end: u32,
+}
+
+/// A place in a text, or behind the last byte that one may have.
+fn narrowed(place: usize) -> u32 {
+    if place < 16_777_216 {
+        place as u32
+    } else {
+        16_777_216
+    }
+}
+
+impl Mark {
+    fn of(kind: Kind, start: usize, end: usize) -> Mark {
+        Mark {
+            kind,
+            start: narrowed(start),
+            end: narrowed(end),
+        }
+    }
+
+    /// The place of its first byte.
+    pub(crate) fn start(self) -> usize {
+        self.start as usize
+    }
+
+    /// The place of the byte behind it.
+    pub(crate) fn end(self) -> usize {
+        self.end as usize
+    }
 }
 
 /// What a byte is by itself.
@@ -111,7 +140,7 @@ impl Scanner<'_> {
         if let Some(start) = self.word {
             self.word = None;
             let kind = word_kind(self.bytes.get(start..end).unwrap_or(&[]));
-            self.marks.push(Mark { kind, start, end })?;
+            self.marks.push(Mark::of(kind, start, end))?;
         }
         Ok(())
     }
@@ -119,7 +148,7 @@ impl Scanner<'_> {
     /// Makes the sign that ends before a `-` one that has a goal behind it: it is `:` or `?`, unless the `-` begins `->`.
     fn take_dash(&mut self, place: usize) {
         if let Some(last) = self.marks.last_mut() {
-            if last.end == place && matches!(last.kind, Kind::Colon | Kind::Other) {
+            if last.end() == place && matches!(last.kind, Kind::Colon | Kind::Other) {
                 last.kind = Kind::Goal;
             }
         }
@@ -142,11 +171,10 @@ impl Scanner<'_> {
             Class::Word | Class::Blank => {}
             Class::Comment => self.in_comment = true,
             Class::Dash => self.take_dash(place),
-            Class::Sign(kind) => self.marks.push(Mark {
-                kind,
-                start: place,
-                end: place.saturating_add(1),
-            })?,
+            Class::Sign(kind) => {
+                let end = place.saturating_add(1);
+                self.marks.push(Mark::of(kind, place, end))?;
+            }
         }
         Ok(())
     }
@@ -180,7 +208,7 @@ pub(crate) fn kind_at(marks: &[Mark], place: usize) -> Kind {
 /// The text of the token at a place, or nothing.
 pub(crate) fn text_at<'t>(text: &'t str, marks: &[Mark], place: usize) -> &'t str {
     match marks.get(place) {
-        Some(mark) => text.get(mark.start..mark.end).unwrap_or(""),
+        Some(mark) => text.get(mark.start()..mark.end()).unwrap_or(""),
         None => "",
     }
 }

@@ -31,8 +31,8 @@ struct Warner<'t> {
 fn span_at(marks: &[Mark], place: usize) -> Span {
     match marks.get(place) {
         Some(mark) => Span {
-            start: mark.start,
-            end: mark.end,
+            start: mark.start(),
+            end: mark.end(),
         },
         None => Span { start: 0, end: 1 },
     }
