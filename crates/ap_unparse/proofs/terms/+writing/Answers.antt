@@ -1,5 +1,7 @@
-use Rattle.std.proofs.Common.{◌∙◌, ap}
+use Rattle.std.proofs.Common.{◌≡◌, ◌++◌, ◌∙◌, ap}
+use Rattle.ap_trees.specs.declared.trees.Sides.{Sides}
 use Rattle.ap_trees.specs.Trees.{name_of_binder, term_of, terms_of}
+use Rattle.ap_unparse.specs.WrittenTerms.{swap_opening}
 use Rattle.ap_unparse.proofs.TermBytes.{pair_goes_on, cell_goes_on, swap_goes_on, apply_ends, left_smaller, head_smaller, swapped_smaller, more_smaller, more_written}
 use Rattle.ap_unparse.proofs.terms.+writing.Goals as goal
 
@@ -55,11 +57,13 @@ write_tree-loop-rest-preserved t c =
     let left = name_of_binder c.in-Swapped.sides.value.left in
     let right = name_of_binder c.in-Swapped.sides.value.right in
     let body = term_of c.in-Swapped.body.value in
+    let begun : c.begin_swap.new.out.items ≡ c.loop-rest.out.items ++ swap_opening c.loop-rest.context left right =
+    c.in_ok-begin_swap-in-Swapped.ensures ∙ ap (λ (u : Sides). c.loop-rest.out.items ++ swap_opening c.loop-rest.context (name_of_binder u.left) (name_of_binder u.right)) c.deref-in-Swapped.ensures in
     record {
       written =
           rw c.deref-rest-in-Swapped.ensures
           (swap_goes_on c.loop-rest.context w left right body c.loop-rest.out.items c.begin_swap.new.out.items c.loop-rest.closers.items c.push-in-Swapped.new.self.items
-          (ap term_of c.in-Swapped.is) c.in_ok-begin_swap-in-Swapped.ensures c.in_ok-push-in-Swapped.ensures.items
+          (ap term_of c.in-Swapped.is) begun c.in_ok-push-in-Swapped.ensures.items
           ∙ c.loop-rest.invariant.written);
       smaller = rw c.deref-rest-in-Swapped.ensures (swapped_smaller w left right body _ (ap term_of c.in-Swapped.is) c.loop-rest.invariant.smaller);
     }
