@@ -8,4 +8,4 @@ pub returns-in-Err-Fault : goal.returns-in-Err-Fault
 returns-in-Err-Fault c = λ is t more.
     let x = item_of c.args.item.now in
     let fault : IsFirstTypeFault (is ++ x ∷ more) c.in-Err-Fault.fault = subst (λ e. IsRefusedByTypes e (is ++ x ∷ more)) c.in-Err-Fault.field-0-is (c.in-Err-Fault.ensures.fault is more t) in
-    rw c.in-Err-Fault.field-0-is (subst (λ js. IsFirstTypeFault js c.in-Err-Fault.fault) (sym (append_assoc is (x ∷ []) more)) fault)
+    subst (λ js. IsFirstTypeFault js c.in-Err-Fault.fault) (sym (append_assoc is (x ∷ []) more)) fault

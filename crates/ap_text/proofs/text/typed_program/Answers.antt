@@ -1,9 +1,12 @@
-use Rattle.std.proofs.Common.{◌≡◌, ◌≤◌, [], length, Ok, None, Some, subst, arith}
+use Rattle.std.proofs.Common.{◌≡◌, ◌≤◌, List, [], length, Ok, None, Some, subst, arith}
 use Rattle.ap_defs.specs.RawTerms.{raw_of}
 use Rattle.ap_defs.specs.Goals.{program_over}
 use Rattle.ap_defs.specs.Limits.{size_limit}
 use Rattle.ap_lexer.specs.Cursors.{lexemes_left}
 use Rattle.ap_lexer.specs.Tokens.{lexed}
+use Rattle.ap_trees.specs.Items.{ItemOf}
+use Rattle.ap_typecheck.specs.Checking.{IsProgramOf}
+use Rattle.ap_typecheck.specs.Typings.{IsTypingOf}
 use Rattle.ap_typecheck.proofs.TypedPrograms.{program_typed}
 use Rattle.ap_typecheck.proofs.Counting.{program_count}
 use Rattle.ap_text.specs.declared.outlook.Outlook.TheVariants as outlooks
@@ -27,14 +30,16 @@ returns-in_ok-finish-in-Typed-clause-program c =
     let all = lexemes_left c.of-cursor.result in
     let whole : lexed c.args.text.now ≡ Ok all = lexed_all c.of-cursor.result c.read_items.new.cursor c.args.text.now c.in_ok-items.items.next None
     c.of-cursor.ensures.whole c.of-cursor.ensures.left e.whole e.text e.next (c.in_default.ensures.read e.stop) in
+    let finished : (is : List ItemOf) → IsTypingOf is c.in-Typed.typing → IsProgramOf is (program_over raw_of c.in_ok-finish-in-Typed.field-0) = rw c.in-Typed.is at c.in_ok-finish-in-Typed.ensures in
     typed_text c.args.text.now all c.in_ok-items.items.next (outlooks.Typed c.in-Typed.typing) (program_over raw_of c.in_ok-finish-in-Typed.field-0) whole
-    (subst (IsOutlook all [] c.in_ok-items.items.next) c.in-Typed.is e.outlook) c.in_ok-finish-in-Typed.ensures
+    (subst (IsOutlook all [] c.in_ok-items.items.next) c.in-Typed.is e.outlook) finished
 
 pub returns-in_ok-finish-in-Typed-clause-typed : goal.returns-in_ok-finish-in-Typed-clause-typed
 returns-in_ok-finish-in-Typed-clause-typed c =
     let all = lexemes_left c.of-cursor.result in
     let k : ReadsAndTyped all [] c.in_ok-items.items.next (outlooks.Typed c.in-Typed.typing) = subst (IsOutlook all [] c.in_ok-items.items.next) c.in-Typed.is c.in_ok-items.ensures.outlook in
-    program_typed k.0 (program_over raw_of c.in_ok-finish-in-Typed.field-0) (c.in_ok-finish-in-Typed.ensures k.0 k.2)
+    let finished : (is : List ItemOf) → IsTypingOf is c.in-Typed.typing → IsProgramOf is (program_over raw_of c.in_ok-finish-in-Typed.field-0) = rw c.in-Typed.is at c.in_ok-finish-in-Typed.ensures in
+    program_typed k.0 (program_over raw_of c.in_ok-finish-in-Typed.field-0) (finished k.0 k.2)
 
 pub returns-in_ok-finish-in-Typed-clause-bounded : goal.returns-in_ok-finish-in-Typed-clause-bounded
 returns-in_ok-finish-in-Typed-clause-bounded c =
@@ -42,7 +47,8 @@ returns-in_ok-finish-in-Typed-clause-bounded c =
     let k : ReadsAndTyped all [] c.in_ok-items.items.next (outlooks.Typed c.in-Typed.typing) = subst (IsOutlook all [] c.in_ok-items.items.next) c.in-Typed.is c.in_ok-items.ensures.outlook in
     let tokens : length all ≤ size_limit = started c.of-cursor.result c.args.text.now c.of-cursor.ensures.whole c.of-cursor.ensures.left c.requires in
     let items : length k.0 ≤ size_limit = few_items all c.in_ok-items.items.next k.0 k.1 c.in_ok-items.ensures.next tokens in
-    omega (arith, items, program_count k.0 (program_over raw_of c.in_ok-finish-in-Typed.field-0) (c.in_ok-finish-in-Typed.ensures k.0 k.2))
+    let finished : (is : List ItemOf) → IsTypingOf is c.in-Typed.typing → IsProgramOf is (program_over raw_of c.in_ok-finish-in-Typed.field-0) = rw c.in-Typed.is at c.in_ok-finish-in-Typed.ensures in
+    omega (arith, items, program_count k.0 (program_over raw_of c.in_ok-finish-in-Typed.field-0) (finished k.0 k.2))
 
 pub returns-in-Mistyped-clause-fault : goal.returns-in-Mistyped-clause-fault
 returns-in-Mistyped-clause-fault c =
