@@ -125,17 +125,40 @@ fn word_kind(word: &[u8]) -> Kind {
     }
 }
 
-/// What finds the tokens of a text, byte by byte.
+/// What finds the tokens of one item after another, byte by byte.
 #[derive(Drop)]
-struct Scanner<'t> {
+pub(crate) struct Scanner<'t> {
     bytes: &'t [u8],
+    // the tokens of the item, without its `.`
     marks: Vec<Mark>,
     // where the word began that goes on
     word: Option<usize>,
     in_comment: bool,
 }
 
-impl Scanner<'_> {
+impl<'t> Scanner<'t> {
+    /// Before the first item.
+    pub(crate) fn of(alloc: Global, text: &'t str) -> Scanner<'t> {
+        Scanner {
+            bytes: text.as_bytes(),
+            marks: Vec::new(alloc),
+            word: None,
+            in_comment: false,
+        }
+    }
+
+    /// The tokens of the item that were found.
+    pub(crate) fn marks(&self) -> &[Mark] {
+        self.marks.as_slice()
+    }
+
+    /// Forgets the item.
+    pub(crate) fn begin_item(&mut self) {
+        self.marks.clear();
+        self.word = None;
+        self.in_comment = false;
+    }
+
     fn end_word(&mut self, end: usize) -> Result<(), Memory> {
         if let Some(start) = self.word {
             self.word = None;
@@ -154,21 +177,10 @@ impl Scanner<'_> {
         }
     }
 
-    fn take(&mut self, place: usize, byte: u8) -> Result<(), Memory> {
-        if self.in_comment {
-            self.in_comment = byte != b'\n';
-            return Ok(());
-        }
-        let class = class_of(byte);
-        if let Class::Word = class {
-            if self.word.is_none() {
-                self.word = Some(place);
-            }
-            return Ok(());
-        }
-        self.end_word(place)?;
+    /// Takes the byte at a place, which is no part of a word.
+    fn take_sign(&mut self, place: usize, class: Class) -> Result<(), Memory> {
         match class {
-            Class::Word | Class::Blank => {}
+            Class::Word | Class::Blank | Class::Sign(Kind::Dot) => {}
             Class::Comment => self.in_comment = true,
             Class::Dash => self.take_dash(place),
             Class::Sign(kind) => {
@@ -178,23 +190,34 @@ impl Scanner<'_> {
         }
         Ok(())
     }
-}
 
-/// The tokens of a text that has a program.
-pub(crate) fn marks_of(alloc: Global, text: &str) -> Result<Vec<Mark>, Memory> {
-    let bytes = text.as_bytes();
-    let mut scanner = Scanner {
-        bytes,
-        marks: Vec::new(alloc),
-        word: None,
-        in_comment: false,
-    };
-    for (place, byte) in bytes.iter().enumerate() {
-        scanner.take(place, *byte)?;
+    /// Takes the byte at a place, and says whether it is the `.` that ends the item.
+    pub(crate) fn take(&mut self, place: usize, byte: u8) -> Result<bool, Memory> {
+        if self.in_comment {
+            self.in_comment = byte != b'\n';
+            return Ok(false);
+        }
+        let class = class_of(byte);
+        if let Class::Word = class {
+            if self.word.is_none() {
+                self.word = Some(place);
+            }
+            return Ok(false);
+        }
+        self.end_word(place)?;
+        self.take_sign(place, class)?;
+        Ok(byte == b'.')
     }
-    scanner.end_word(bytes.len())?;
-    let Scanner { marks, .. } = scanner;
-    Ok(marks)
+
+    /// Finds the tokens of the item whose bytes are those from a place up to its `.`.
+    pub(crate) fn find(&mut self, start: usize, end: usize) -> Result<(), Memory> {
+        self.begin_item();
+        let bytes = self.bytes.get(start..end).unwrap_or(&[]);
+        for (at, byte) in bytes.iter().enumerate() {
+            self.take(start.saturating_add(at), *byte)?;
+        }
+        self.end_word(end)
+    }
 }
 
 /// What the token at a place is.

@@ -1,7 +1,7 @@
 //! Which predicates have clauses, and with what they are called.
 ghost use Rattle.std.specs.Prelude.{◌≡◌};
 
-use crate::marks::{Kind, Mark, kind_at, text_at};
+use crate::marks::{Kind, Mark, Scanner, kind_at, text_at};
 use crate::parts::{Part, declares, is_clause};
 use crate::places::{Finder, put_arguments};
 use ap_defs::memory::Memory;
@@ -36,7 +36,7 @@ pub(crate) struct Call {
 #[derive(Drop)]
 pub(crate) struct Uses<'t> {
     text: &'t str,
-    pub parts: Vec<Part<'t>>,
+    pub parts: Vec<Part>,
     pub calls: Vec<Call>,
     heads: IndexSet<&'t str>,
     called: IndexSet<&'t str>,
@@ -68,8 +68,8 @@ fn begin_at(marks: &[Mark], place: usize) -> Begin {
 }
 
 impl<'t> Uses<'t> {
-    /// Those of a text, by its tokens.
-    pub(crate) fn of(alloc: Global, text: &'t str, marks: &'t [Mark]) -> Result<Uses<'t>, Memory> {
+    /// Those of a text.
+    pub(crate) fn of(alloc: Global, text: &'t str) -> Result<Uses<'t>, Memory> {
         let mut uses = Uses {
             text,
             parts: Vec::new(alloc),
@@ -81,29 +81,40 @@ impl<'t> Uses<'t> {
             latest: Vec::new(alloc),
             begins: Vec::new(alloc),
         };
-        uses.add_items(alloc, marks)?;
+        uses.add_items(alloc)?;
         uses.arguments.sort_unstable();
         Ok(uses)
     }
 
-    /// Adds the items of a text, each up to its `.`.
-    fn add_items(&mut self, alloc: Global, marks: &'t [Mark]) -> Result<(), Memory> {
+    /// Adds the items of the text, each up to its `.`.
+    fn add_items(&mut self, alloc: Global) -> Result<(), Memory> {
+        let text = self.text;
         let mut finder = Finder::new(alloc);
-        let mut first = 0;
-        for (place, mark) in marks.iter().enumerate() {
-            if mark.kind == Kind::Dot {
-                self.add_item(&mut finder, marks.get(first..place).unwrap_or(&[]))?;
-                first = place.saturating_add(1);
+        let mut scanner = Scanner::of(alloc, text);
+        let mut start = 0;
+        for (place, byte) in text.as_bytes().iter().enumerate() {
+            if scanner.take(place, *byte)? {
+                self.add_item(&mut finder, scanner.marks(), start, place)?;
+                scanner.begin_item();
+                start = place.saturating_add(1);
             }
         }
         Ok(())
     }
 
-    fn add_item(&mut self, finder: &mut Finder, marks: &'t [Mark]) -> Result<(), Memory> {
+    /// Adds the item of these tokens, and of the bytes from a place up to its `.`.
+    fn add_item(
+        &mut self,
+        finder: &mut Finder,
+        marks: &[Mark],
+        start: usize,
+        end: usize,
+    ) -> Result<(), Memory> {
         if declares(marks) {
             return Ok(());
         }
-        if is_clause(marks) {
+        let is_clause = is_clause(marks);
+        if is_clause {
             self.heads.insert(text_at(self.text, marks, 0))?;
         }
         finder.find(marks)?;
@@ -111,7 +122,12 @@ impl<'t> Uses<'t> {
             self.add_call(marks, *word)?;
         }
         let calls = self.calls.len();
-        self.parts.push(Part { marks, calls })?;
+        self.parts.push(Part {
+            start,
+            end,
+            is_clause,
+            calls,
+        })?;
         Ok(())
     }
 

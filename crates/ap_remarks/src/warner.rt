@@ -2,8 +2,8 @@
 ghost use Rattle.std.specs.Prelude.{◌≡◌, ◌≤◌, length};
 ghost use Rattle.ap_defs.specs.Limits.{size_limit};
 
-use crate::marks::{Mark, marks_of, text_at};
-use crate::parts::{Part, is_clause};
+use crate::marks::{Mark, Scanner, text_at};
+use crate::parts::Part;
 use crate::places::put_arguments;
 use crate::singles::single_variables;
 use crate::uses::{Call, Uses};
@@ -178,29 +178,47 @@ impl<'t> Warner<'t> {
         Ok(())
     }
 
+    /// Whether one of these calls has a predicate without clauses that wasn't told yet.
+    fn has_untold(&self, calls: &[Call]) -> bool {
+        for call in calls {
+            if let Some(untold) = self.untold.get(call.predicate) {
+                if *untold {
+                    return true;
+                }
+            }
+        }
+        false
+    }
+
+    /// Looks at a clause or a query of these tokens, with its calls.
     fn look_at_part(
         &mut self,
         alloc: Global,
         uses: &Uses<'_>,
-        part: Part<'_>,
+        marks: &[Mark],
+        is_clause: bool,
         calls: &[Call],
     ) -> Result<(), Memory> {
-        if is_clause(part.marks) {
-            self.look_at_variables(alloc, part.marks)?;
-            self.look_at_head(alloc, uses, part.marks)?;
+        if is_clause {
+            self.look_at_variables(alloc, marks)?;
+            self.look_at_head(alloc, uses, marks)?;
         }
         for call in calls {
-            self.warn_empty(alloc, part.marks, *call)?;
+            self.warn_empty(alloc, marks, *call)?;
         }
         Ok(())
     }
 
-    /// Looks at all clauses and queries, in order.
+    /// Looks at all clauses and queries, in order. The tokens are found again of those alone that may have a warning.
     fn look_at_parts(&mut self, alloc: Global, uses: &Uses<'_>) -> Result<(), Memory> {
+        let mut scanner = Scanner::of(alloc, self.text);
         let mut first = 0;
         for part in &uses.parts {
             let calls = uses.calls.get(first..part.calls).unwrap_or(&[]);
-            self.look_at_part(alloc, uses, *part, calls)?;
+            if part.is_clause || self.has_untold(calls) {
+                scanner.find(part.start, part.end)?;
+                self.look_at_part(alloc, uses, scanner.marks(), part.is_clause, calls)?;
+            }
             first = part.calls;
         }
         self.end()
@@ -217,8 +235,7 @@ impl<'t> Warner<'t> {
 }
 
 fn warnings_of(alloc: Global, text: &str) -> Result<String, Memory> {
-    let marks = marks_of(alloc, text)?;
-    let uses = Uses::of(alloc, text, marks.as_slice())?;
+    let uses = Uses::of(alloc, text)?;
     let mut warner = Warner::of(alloc, text, &uses)?;
     warner.look_at_parts(alloc, &uses)?;
     Ok(warner.into_text())
