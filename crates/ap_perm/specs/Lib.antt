@@ -6,3 +6,4 @@ pub mod Lookups
 pub mod StatementsOnLookups
 pub mod BelowProps
 pub mod Closures
+pub mod Reduction

@@ -1,11 +1,16 @@
-//! Permutations of names, and lookups of what variables are bound to.
+//! Permutations of names, lookups of what variables are bound to, and freshness of names for terms whose
+//! variables are bound.
 #![tactic(auto)]
 
 pub mod closures;
+pub mod error;
 mod flat;
 mod images;
 pub mod joining;
 pub mod laws;
 pub mod look;
+mod pending;
 pub mod perm;
+pub mod reduction;
+pub mod sets;
 pub mod swappings;

@@ -2,8 +2,8 @@ use crate::perm::{NothingBound, name, swap};
 use ap_defs::lists::List;
 use ap_defs::memory::Memory;
 use ap_defs::terms::{Cond, Name, Term, Var};
-use ap_fresh::error::FreshError;
-use ap_fresh::reduction::reduce;
+use ap_perm::error::FreshError;
+use ap_perm::reduction::reduce;
 use ap_perm::closures::Closure;
 use std::alloc::Global;
 

@@ -5,8 +5,8 @@ ghost use Rattle.ap_defs.specs.Terms.{term_of};
 ghost use Rattle.ap_perm.specs.BelowProps.{below_prop};
 
 use ap_defs::terms::{Name, Term};
-use ap_perm::closures::Lent;
-use ap_perm::swappings::preimage;
+use crate::closures::Lent;
+use crate::swappings::preimage;
 
 /// The name is to be fresh for the term, whose identifiers are numbered from `base` on, below `end`.
 #[derive(Drop)]
@@ -23,7 +23,7 @@ impl<'a> Pending<'a> {
     ghost use Rattle.ap_defs.specs.Permutations.{act_name, inverse};
     ghost use Rattle.ap_defs.specs.Renaming.{IsBelow, rename_term};
     ghost use Rattle.ap_defs.specs.Terms.{term_of};
-    ghost use Rattle.ap_fresh.specs.Reduction.{pending_term};
+    ghost use Rattle.ap_perm.specs.Reduction.{pending_term};
 
     /// The name is to be fresh for a part of the term.
     pub fn within(&self, t: &'a Term) -> Pending<'a>

@@ -8,7 +8,7 @@ use Rattle.ap_defs.specs.declared.terms.Cond.{Cond}
 use Rattle.ap_defs.specs.declared.terms.Name.{Name}
 use Rattle.ap_defs.specs.declared.terms.Swap.{Swap}
 use Rattle.ap_defs.specs.declared.terms.Var.{Var}
-use Rattle.ap_fresh.specs.Reduction.{added}
+use Rattle.ap_perm.specs.Reduction.{added}
 use Rattle.ap_perm.proofs.LookupLemmas.{carried_out_abs, carried_out_act, carried_out_app, carried_out_bound, carried_out_name, carried_out_pair, carried_out_unbound, carried_out_unit}
 use Rattle.ap_perm.specs.Lookups.{Bound, IsRanked, carried_out}
 use Rattle.ap_theory.proofs.ReductionLemmas.{reduce_act}

@@ -4,11 +4,11 @@ use Rattle.ap_defs.specs.Permutations.{act_name, inverse, name_eq}
 use Rattle.ap_defs.specs.Renaming.{rename_name, rename_swap, rename_term, rename_var}
 use Rattle.ap_defs.specs.Terms.{abs, app, pair, susp, term_of}
 use Rattle.ap_defs.specs.declared.terms.Cond.{Cond}
-use Rattle.ap_fresh.specs.Reduction.{added, pending_term}
-use Rattle.ap_fresh.proofs.PendingLemmas.{added_none, all_left, fewer, fewer_part, kept, last_refuted, one_added, problem_of, two_added}
-use Rattle.ap_fresh.proofs.StepLemmas.{abs_added, abs_problem, app_problem, bound_problem, name_added, name_refuted, pair_problem, problem, unbound_problem, unit_added}
+use Rattle.ap_perm.specs.Reduction.{added, pending_term}
+use Rattle.ap_perm.proofs.PendingLemmas.{added_none, all_left, fewer, fewer_part, kept, last_refuted, one_added, problem_of, two_added}
+use Rattle.ap_perm.proofs.StepLemmas.{abs_added, abs_problem, app_problem, bound_problem, name_added, name_refuted, pair_problem, problem, unbound_problem, unit_added}
 use Rattle.ap_perm.proofs.VisitLemmas.{visits, visits_abs, visits_app, visits_bound, visits_pair, visits_some}
-use Rattle.ap_fresh.proofs.reduction.collect.Goals as goal
+use Rattle.ap_perm.proofs.reduction.collect.Goals as goal
 
 pub collecting-smaller-in-Unit : goal.collecting-smaller-in-Unit
 collecting-smaller-in-Unit g c = fewer (g.L.Look.bound c.args.look.now) (g.L.Look.rank c.args.look.now) (g.met.L.Look.ranked c.args.look.now) c.pop.new.self.items [] c.pop.new.self.items c.collecting.left.items c.in-Some.p c.in-Some.ensures.items (sym (append-nil c.pop.new.self.items)) (visits_some (g.L.Look.bound c.args.look.now) (g.L.Look.rank c.args.look.now) (g.met.L.Look.ranked c.args.look.now) (pending_term c.in-Some.p))

@@ -3,9 +3,9 @@ use Rattle.std.specs.Prelude.{Option}
 use Rattle.ap_defs.specs.Renaming.{rename_term}
 use Rattle.ap_defs.specs.Terms.{term_of}
 use Rattle.ap_defs.specs.declared.terms.Cond.{Cond}
-use Rattle.ap_fresh.specs.Reduction.{added}
-use Rattle.ap_fresh.proofs.StepLemmas.{moved_problem, problem}
-use Rattle.ap_fresh.proofs.reduction.add_reduced.Goals as goal
+use Rattle.ap_perm.specs.Reduction.{added}
+use Rattle.ap_perm.proofs.StepLemmas.{moved_problem, problem}
+use Rattle.ap_perm.proofs.reduction.add_reduced.Goals as goal
 
 pub returns-clause-added : goal.returns-clause-added
 returns-clause-added g c =

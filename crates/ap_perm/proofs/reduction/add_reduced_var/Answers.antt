@@ -4,9 +4,9 @@ use Rattle.ap_defs.specs.Renaming.{rename_term}
 use Rattle.ap_defs.specs.Terms.{susp, term_of}
 use Rattle.ap_defs.specs.declared.terms.Cond.{Cond}
 use Rattle.ap_perm.specs.Closures.{lent_term}
-use Rattle.ap_fresh.specs.Reduction.{added}
-use Rattle.ap_fresh.proofs.StepLemmas.{moved_problem, problem, unbound_problem, var_problem}
-use Rattle.ap_fresh.proofs.reduction.add_reduced_var.Goals as goal
+use Rattle.ap_perm.specs.Reduction.{added}
+use Rattle.ap_perm.proofs.StepLemmas.{moved_problem, problem, unbound_problem, var_problem}
+use Rattle.ap_perm.proofs.reduction.add_reduced_var.Goals as goal
 
 pub returns-in_ok-push-in-None-clause-added : goal.returns-in_ok-push-in-None-clause-added
 returns-in_ok-push-in-None-clause-added g c =

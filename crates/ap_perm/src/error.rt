@@ -1,7 +1,7 @@
 //! Why a freshness problem is not reduced.
 
 ghost use Rattle.std.specs.Prelude.{◌≡◌};
-ghost use Rattle.ap_fresh.specs.declared.error.FreshError.TheVariants.{Memory as memory};
+ghost use Rattle.ap_perm.specs.declared.error.FreshError.TheVariants.{Memory as memory};
 
 use std::alloc::{AllocError, AllocFailed};
 

@@ -8,16 +8,16 @@ ghost use Rattle.ap_defs.specs.Terms.{susp, term_of};
 ghost use Rattle.ap_theory.specs.StatementsOnConditions.{collected, is_free};
 ghost use Rattle.ap_perm.specs.Closures.{closure_term};
 ghost use Rattle.ap_perm.specs.Lookups.{carried_out};
-ghost use Rattle.ap_fresh.specs.Reduction.{added, pending_term, IsLeast};
+ghost use Rattle.ap_perm.specs.Reduction.{added, pending_term, IsLeast};
 
 use crate::error::FreshError;
 use crate::pending::Pending;
 use crate::sets::make_set;
 use ap_defs::terms::{Cond, Name, Swap, Term, Var};
-use ap_perm::closures::Closure;
-use ap_perm::joining::numbered;
-use ap_perm::look::Look;
-use ap_perm::swappings::swapped;
+use crate::closures::Closure;
+use crate::joining::numbered;
+use crate::look::Look;
+use crate::swappings::swapped;
 use std::alloc::Global;
 
 /// The name of which a list of swappings makes `a`, once their numbers are higher by `base`, and then

@@ -12,7 +12,7 @@ use Rattle.ap_theory.proofs.ReductionLemmas.{is_none_reduce}
 use Rattle.ap_theory.proofs.UnderLemmas.{fresh_under_reduce}
 use Rattle.ap_theory.specs.StatementsOnConditions.{collected, is_free}
 use Rattle.ap_theory.specs.StatementsOnTests.{all_in}
-use Rattle.ap_fresh.specs.Reduction.{IsLeast, added, put_behind}
+use Rattle.ap_perm.specs.Reduction.{IsLeast, added, put_behind}
 
 pub behind-append : (cs ds es : List Cond) → put_behind (cs ++ ds) es ≡ put_behind cs (put_behind ds es)
 behind-append [] ds es = refl

@@ -1,6 +1,6 @@
 use Rattle.std.proofs.Common.{◌∙◌}
-use Rattle.ap_fresh.proofs.RenamedLemmas.{rest_fits, undo_renamed}
-use Rattle.ap_fresh.proofs.reduction.preimage_from.Goals as goal
+use Rattle.ap_perm.proofs.RenamedLemmas.{rest_fits, undo_renamed}
+use Rattle.ap_perm.proofs.reduction.preimage_from.Goals as goal
 
 pub loop-swap-preserved : goal.loop-swap-preserved
 loop-swap-preserved c = record {

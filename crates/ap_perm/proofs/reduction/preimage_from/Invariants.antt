@@ -1,7 +1,7 @@
 use Rattle.std.proofs.Common.{◌≡◌, drop, map}
 use Rattle.ap_defs.specs.Permutations.{act_name, inverse}
 use Rattle.ap_defs.specs.Renaming.{AreSwapsBelow, rename_swap}
-use Rattle.ap_fresh.proofs.reduction.preimage_from.Given as goal
+use Rattle.ap_perm.proofs.reduction.preimage_from.Given as goal
 
 -- what is left to undo, and it fits
 abbrev pub invariant-loop-swap : goal.invariant-loop-swap

@@ -4,8 +4,8 @@ use Rattle.std.proofs.lemmas.List.Filters.{dedup_is}
 use Rattle.std.proofs.lemmas.List.Sorted.{answers_always}
 use Rattle.ap_defs.specs.Freshness.{cond_before}
 use Rattle.ap_defs.specs.Permutations.{name_eq}
-use Rattle.ap_fresh.proofs.SortLemmas.{conds_rank, set_made}
-use Rattle.ap_fresh.proofs.sets.make_set.Goals as goal
+use Rattle.ap_perm.proofs.SortLemmas.{conds_rank, set_made}
+use Rattle.ap_perm.proofs.sets.make_set.Goals as goal
 
 pub returns : goal.returns
 unfolding name_eq

@@ -2,9 +2,9 @@
 use Rattle.std.proofs.Common.{◌≡◌}
 use Rattle.ap_defs.specs.Freshness.{reduce as by_rules}
 use Rattle.ap_perm.specs.Lookups.{carried_out}
-use Rattle.ap_fresh.specs.Reduction.{added, pending_term}
-use Rattle.ap_fresh.proofs.PendingLemmas.{all_left, visits_left_in}
-use Rattle.ap_fresh.proofs.reduction.collect.Given as goal
+use Rattle.ap_perm.specs.Reduction.{added, pending_term}
+use Rattle.ap_perm.proofs.PendingLemmas.{all_left, visits_left_in}
+use Rattle.ap_perm.proofs.reduction.collect.Given as goal
 
 abbrev pub invariant-collecting : goal.invariant-collecting
 invariant-collecting g l =

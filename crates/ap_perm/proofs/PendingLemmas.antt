@@ -7,10 +7,10 @@ use Rattle.ap_defs.specs.Terms.{NominalTerm}
 use Rattle.ap_defs.specs.declared.terms.Cond.{Cond}
 use Rattle.ap_defs.specs.declared.terms.Var.{Var}
 use Rattle.ap_perm.specs.Lookups.{Bound, IsRanked}
-use Rattle.ap_fresh.specs.Reduction.{added, pending_term}
-use Rattle.ap_fresh.specs.declared.pending.Pending.{Pending}
-use Rattle.ap_fresh.proofs.SetLemmas.{behind-append}
-use Rattle.ap_fresh.proofs.StepLemmas.{problem}
+use Rattle.ap_perm.specs.Reduction.{added, pending_term}
+use Rattle.ap_perm.specs.declared.pending.Pending.{Pending}
+use Rattle.ap_perm.proofs.SetLemmas.{behind-append}
+use Rattle.ap_perm.proofs.StepLemmas.{problem}
 use Rattle.ap_perm.proofs.VisitLemmas.{visits}
 
 both_assoc : (x y z : Option (List Cond)) → both (both x y) z ≡ both x (both y z)

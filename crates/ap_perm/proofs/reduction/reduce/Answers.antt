@@ -2,10 +2,10 @@ use Rattle.std.proofs.Common.{rules, IsErrOf, Some, sym, ap, ◌∙◌}
 use Rattle.ap_defs.specs.Freshness.{reduce as by_rules}
 use Rattle.ap_perm.specs.Closures.{closure_term}
 use Rattle.ap_perm.specs.Lookups.{carried_out}
-use Rattle.ap_fresh.proofs.SetLemmas.{collected_fresh, collected_least, collected_set, refuted_free}
-use Rattle.ap_fresh.specs.declared.error.FreshError.TheVariants.{Refuted}
-use Rattle.ap_fresh.specs.Reduction.{added}
-use Rattle.ap_fresh.proofs.reduction.reduce.Goals as goal
+use Rattle.ap_perm.proofs.SetLemmas.{collected_fresh, collected_least, collected_set, refuted_free}
+use Rattle.ap_perm.specs.declared.error.FreshError.TheVariants.{Refuted}
+use Rattle.ap_perm.specs.Reduction.{added}
+use Rattle.ap_perm.proofs.reduction.reduce.Goals as goal
 
 pub returns-in_err-add_reduced-clause-refuted : goal.returns-in_err-add_reduced-clause-refuted
 returns-in_err-add_reduced-clause-refuted g c =

@@ -6,7 +6,7 @@ use Rattle.ap_defs.specs.Renaming.{rename_term}
 use Rattle.ap_defs.specs.Terms.{NominalTerm, term_of}
 use Rattle.ap_defs.specs.declared.terms.Cond.{Cond}
 use Rattle.ap_defs.specs.declared.terms.Name.{Name}
-use Rattle.ap_fresh.specs.declared.pending.Pending.{Pending}
+use Rattle.ap_perm.specs.declared.pending.Pending.{Pending}
 
 -- the conditions of a list behind others, from the last to the first
 abbrev pub put_behind : List Cond → List Cond → List Cond
