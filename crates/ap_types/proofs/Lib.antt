@@ -17,3 +17,8 @@ pub mod JoinLemmas
 pub mod WalkLemmas
 pub mod WritingLemmas
 pub mod SettledLemmas
+pub mod ChoiceLemmas
+pub mod DataLemmas
+pub mod WantLemmas
+pub mod StepLemmas
+pub mod PickLemmas
