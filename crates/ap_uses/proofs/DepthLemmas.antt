@@ -4,7 +4,7 @@ use Rattle.ap_defs.specs.Answers.{out_in}
 use Rattle.ap_defs.specs.Goals.{Clauses, NominalProgram, NominalQuery}
 use Rattle.ap_defs.specs.Resolution.{Output, cut, first_state, found, solve_query, chose, stuck}
 use Rattle.ap_defs.specs.Types.{NominalLocal}
-use Rattle.ap_count.specs.Uses.{ClauseUse, uses_in_each}
+use Rattle.ap_derive.specs.Uses.{ClauseUse, uses_in_each}
 use Rattle.ap_search.specs.Depths.{HasNoCut, HasNoCutOut}
 use Rattle.ap_search.proofs.DepthLemmas.{solve_deeper}
 use Rattle.ap_uses.specs.Counts.{clause_counts, counts_of_predicates, derivations_among, in_order_of_items, uses_of_queries}

@@ -10,7 +10,7 @@ use Rattle.ap_backchain.specs.Problems.{HasQuery, clauses_in, queries_in}
 use Rattle.ap_backchain.specs.declared.problem.Problem.{Problem}
 use Rattle.ap_checks.specs.Traces.{Finds, Traced, traced_query}
 use Rattle.ap_checks.proofs.TraceLemmas.{paths_lead}
-use Rattle.ap_count.specs.Uses.{use_table, uses_in_each}
+use Rattle.ap_derive.specs.Uses.{use_table, uses_in_each}
 use Rattle.ap_derive.specs.Derived.{LeadsOn}
 use Rattle.ap_uses.specs.Counts.{derivations_among, uses_of_query}
 use Rattle.ap_uses.specs.Paths.{LeadsToAnswer, answer_paths, derivation_along, derivation_of_path, derivation_traced}

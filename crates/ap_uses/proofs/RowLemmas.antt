@@ -1,7 +1,7 @@
 -- The clauses beside the numbers of a table of uses are those that are counted.
 use Rattle.std.proofs.Common.{◌≡◌, ℕ, suc, List, [], ◌∷◌, ◌++◌, refl, ap, ap₂, ◌∙◌}
 use Rattle.ap_defs.specs.Goals.{Clauses, NominalClause, NominalProgram}
-use Rattle.ap_count.specs.Uses.{ClauseUse, saturated, times_used, use_row, use_rows, use_table}
+use Rattle.ap_derive.specs.Uses.{ClauseUse, saturated, times_used, use_row, use_rows, use_table}
 use Rattle.ap_uses.specs.Counts.{clause_counts, counts_of_clauses, counts_of_predicates, in_order_of_items, uses_of_queries}
 use Rattle.ap_uses.specs.Rows.{counts_in_row, counts_in_rows}
 use Rattle.ap_uses.specs.declared.counts.ClauseCount.{ClauseCount}

@@ -2,9 +2,9 @@
 use Rattle.std.proofs.Common.{◌≡◌, ◌<◌, ◌+◌, ◌-◌, ℕ, zero, suc, List, [], ◌∷◌, ◌++◌, take, None, Some, length, slice_get, sym, ap, ap₂, ◌∙◌, arith}
 use Rattle.std.proofs.lemmas.List.{append-nil, append_assoc}
 use Rattle.ap_defs.specs.Goals.{Clauses, NominalQuery}
-use Rattle.ap_count.specs.Tables.{added_rows}
-use Rattle.ap_count.specs.Uses.{use_table}
-use Rattle.ap_count.proofs.UseLemmas.{sum_of_tables}
+use Rattle.ap_derive.specs.Tables.{added_rows}
+use Rattle.ap_derive.specs.Uses.{use_table}
+use Rattle.ap_derive.proofs.UseLemmas.{sum_of_tables}
 use Rattle.ap_uses.specs.Counts.{uses_of_queries, uses_of_query}
 use Rattle.ap_uses.proofs.PathLemmas.{query_there}
 

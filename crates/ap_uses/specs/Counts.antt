@@ -4,7 +4,7 @@ use Rattle.ap_defs.specs.Answers.{derivation_in}
 use Rattle.ap_defs.specs.Derivations.{NominalDerivation}
 use Rattle.ap_defs.specs.Goals.{Clauses, NominalClause, NominalProgram, NominalQuery}
 use Rattle.ap_defs.specs.Resolution.{Output, cut, found, solve_query, chose, stuck}
-use Rattle.ap_count.specs.Uses.{ClauseUse, saturated, times_used, uses_in_each}
+use Rattle.ap_derive.specs.Uses.{ClauseUse, saturated, times_used, uses_in_each}
 use Rattle.ap_uses.specs.declared.counts.ClauseCount.{ClauseCount}
 
 -- the derivation of each state that was found

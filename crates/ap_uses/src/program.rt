@@ -2,13 +2,13 @@
 
 ghost use Rattle.std.specs.Prelude.{◌≡◌, [], IfOk, length};
 ghost use Rattle.ap_defs.specs.Goals.{program_of};
-ghost use Rattle.ap_count.specs.Tables.{counts_of};
-ghost use Rattle.ap_count.specs.Uses.{use_table};
+ghost use Rattle.ap_derive.specs.Tables.{counts_of};
+ghost use Rattle.ap_derive.specs.Uses.{use_table};
 ghost use Rattle.ap_uses.specs.Counts as spec;
 
 use crate::query::uses_of_query;
 use ap_backchain::problem::Problem;
-use ap_count::tables::{sum_of_tables, unused_table};
+use ap_derive::counting::tables::{sum_of_tables, unused_table};
 use ap_defs::limits::{Depth, Workers};
 use ap_defs::memory::Memory;
 use ap_index::index::Index;

@@ -5,14 +5,14 @@ ghost use Rattle.std.specs.List.{AllByRecursion};
 ghost use Rattle.ap_defs.specs.Answers.{out_of, outs_of};
 ghost use Rattle.ap_defs.specs.Goals.{NominalQuery};
 ghost use Rattle.ap_backchain.specs.Problems.{HasQuery, clauses_in, queries_in};
-ghost use Rattle.ap_count.specs.Tables.{counts_of};
-ghost use Rattle.ap_count.specs.Uses.{use_table, uses_in_each};
+ghost use Rattle.ap_derive.specs.Tables.{counts_of};
+ghost use Rattle.ap_derive.specs.Uses.{use_table, uses_in_each};
 ghost use Rattle.ap_uses.specs.Counts as spec;
 ghost use Rattle.ap_uses.specs.Paths.{LeadsToAnswer, answer_path, answer_paths, derivation_of_path};
 
 use crate::answers::Answers;
 use ap_backchain::problem::{Problem, query_of_problem};
-use ap_count::uses::{Question, uses};
+use ap_derive::counting::uses::{Question, uses};
 use ap_defs::limits::Workers;
 use ap_defs::memory::Memory;
 use ap_defs::paths::{Out, Path};

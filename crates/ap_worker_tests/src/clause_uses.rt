@@ -1,4 +1,4 @@
-use ap_count::uses::{Derive, Question, uses};
+use ap_derive::counting::uses::{Derive, Question, uses};
 use ap_defs::goals::{Clause, Goal};
 use ap_defs::lists::List;
 use ap_defs::memory::Memory;

@@ -1,5 +1,5 @@
 //! Tests of streams, `ap_io`, of paths, books and workers, `ap_paths`, `ap_book`, `ap_core`, `ap_tasks`, `ap_lock` and
-//! `ap_steal`, of trees of queries, `ap_replay`, of indices, `ap_index`, of counts of uses, `ap_count`, and of the top call, `ap_top`.
+//! `ap_steal`, of trees of queries, `ap_replay`, of indices, `ap_index`, of counts of uses, `ap_derive`, and of the top call, `ap_top`.
 #![tactic(auto)]
 
 #[cfg(test)]

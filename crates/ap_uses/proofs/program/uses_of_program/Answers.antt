@@ -2,8 +2,8 @@ use Rattle.std.proofs.Common.{◌≡◌, ◌∙◌, ap, ap₂, map, rules, subst
 use Rattle.std.specs.Global.{Global}
 use Rattle.std.specs.Prelude.{ℕ, Vec}
 use Rattle.ap_defs.specs.Goals.{program_of}
-use Rattle.ap_count.specs.Tables.{added_rows, counts_of}
-use Rattle.ap_count.specs.Uses.{use_table}
+use Rattle.ap_derive.specs.Tables.{added_rows, counts_of}
+use Rattle.ap_derive.specs.Uses.{use_table}
 use Rattle.ap_uses.specs.Counts.{uses_of_query}
 use Rattle.ap_uses.proofs.SumLemmas.{one_more}
 use Rattle.ap_uses.proofs.program.uses_of_program.Goals as goal

@@ -1,8 +1,8 @@
 -- The table has the uses in the answers of the queries so far.
 use Rattle.std.proofs.Common.{◌≡◌, take}
 use Rattle.ap_defs.specs.Goals.{program_of}
-use Rattle.ap_count.specs.Tables.{counts_of}
-use Rattle.ap_count.specs.Uses.{use_table}
+use Rattle.ap_derive.specs.Tables.{counts_of}
+use Rattle.ap_derive.specs.Uses.{use_table}
 use Rattle.ap_uses.specs.Counts.{uses_of_queries}
 use Rattle.ap_uses.proofs.program.uses_of_program.Given as goal
 

@@ -7,7 +7,7 @@ use Rattle.ap_defs.specs.declared.goals.Clause.{Clause}
 use Rattle.ap_defs.specs.declared.goals.Program.{Program}
 use Rattle.ap_defs.specs.declared.terms.Term.{Term}
 use Rattle.ap_backchain.specs.Problems.{clauses_in, queries_in}
-use Rattle.ap_count.specs.Tables.{counts_of}
+use Rattle.ap_derive.specs.Tables.{counts_of}
 use Rattle.ap_uses.specs.Paths.{derivation_of_path}
 use Rattle.ap_uses.proofs.PathLemmas.{table_there}
 use Rattle.ap_uses.proofs.Shared.{answers_sync}

@@ -1,7 +1,7 @@
 use Rattle.std.proofs.Common.{◌∙◌}
 use Rattle.std.proofs.lemmas.Result.{IfOk-weaker}
 use Rattle.ap_defs.specs.Answers.{outs_of}
-use Rattle.ap_count.specs.Tables.{counts_of}
+use Rattle.ap_derive.specs.Tables.{counts_of}
 use Rattle.ap_uses.proofs.PathLemmas.{all_lead, uses_there}
 use Rattle.ap_uses.proofs.query.uses_of_query.Goals as goal
 

@@ -5,8 +5,8 @@ use Rattle.std.proofs.lemmas.Result.{IfOk-weaker}
 use Rattle.ap_defs.specs.Goals.{program_in, program_of}
 use Rattle.ap_defs.specs.declared.goals.Program.{Program}
 use Rattle.ap_defs.specs.declared.terms.Term.{Term}
-use Rattle.ap_count.specs.Tables.{counts_of}
-use Rattle.ap_count.specs.Uses.{use_table}
+use Rattle.ap_derive.specs.Tables.{counts_of}
+use Rattle.ap_derive.specs.Uses.{use_table}
 use Rattle.ap_uses.specs.Counts.{uses_of_queries}
 use Rattle.ap_uses.proofs.RowLemmas.{all_counted}
 use Rattle.ap_uses.proofs.text.clause_counts.Goals as goal
