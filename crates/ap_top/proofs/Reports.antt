@@ -18,7 +18,7 @@ use Rattle.ap_bundle_convert.specs.Reports.{convert_report}
 use Rattle.ap_bundle_cover.specs.Reports as cover
 use Rattle.ap_bundle_cover.specs.Reports.{cover_report, covers_report, proofs_report}
 use Rattle.ap_bundle_cover.specs.Uncovered.{first_uncovered}
-use Rattle.ap_gen.specs.Generated.{generated}
+use Rattle.ap_words.specs.Generated.{generated}
 use Rattle.ap_examine.specs.Reports.{exam_report, exams_from, first_other, other_or}
 use Rattle.ap_uses.specs.Reports.{count_report}
 use Rattle.ap_work.specs.Reports.{summary_report, work_depth}

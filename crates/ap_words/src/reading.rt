@@ -9,7 +9,7 @@ use crate::table::{CommandName, OptionName};
 use ap_bundle::version::Version;
 use ap_defs::limits::{Depth, Workers};
 use ap_defs::memory::Memory;
-use ap_gen::Size;
+use crate::Size;
 use ap_paths::Limit;
 use std::alloc::Global;
 

@@ -12,7 +12,7 @@ use crate::totals::Totals;
 use ap_defs::limits::Workers;
 use ap_defs::lists::List;
 use ap_defs::memory::Memory;
-use ap_gen::{Size, program_of};
+use ap_words::{Size, program_of};
 use ap_index::index::Index;
 use ap_io::Gate;
 use ap_program::restricted::Restricted;

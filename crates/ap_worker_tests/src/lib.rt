@@ -1,5 +1,6 @@
 //! Tests of streams, `ap_io`, of paths, books and workers, `ap_paths`, `ap_book`, `ap_core`, `ap_tasks`, `ap_lock` and
-//! `ap_steal`, of trees of queries, `ap_replay`, of indices, `ap_index`, of counts of uses, `ap_derive`, and of the top call, `ap_top`.
+//! `ap_steal`, of trees of queries, `ap_replay`, of indices, `ap_index`, of counts of uses, `ap_derive`, of texts that are
+//! made from a number, `ap_words`, and of the top call, `ap_top`.
 #![tactic(auto)]
 
 #[cfg(test)]
@@ -10,6 +11,8 @@ mod clause_uses;
 mod events;
 #[cfg(test)]
 mod first_answers;
+#[cfg(test)]
+mod generated;
 #[cfg(test)]
 mod index;
 #[cfg(test)]

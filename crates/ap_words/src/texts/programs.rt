@@ -1,10 +1,10 @@
 //! Whole texts.
 
 ghost use Rattle.std.specs.Prelude.{◌≡◌, ◌++◌, IfOk, OnOk};
-ghost use Rattle.ap_gen.specs.Generated.{calculus, generated, query, term};
+ghost use Rattle.ap_words.specs.Generated.{calculus, generated, query, term};
 
-use crate::draws::Draws;
-use crate::terms::write_term;
+use crate::texts::draws::Draws;
+use crate::texts::terms::write_term;
 use ap_defs::memory::Memory;
 use std::alloc::Global;
 

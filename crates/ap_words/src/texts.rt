@@ -2,7 +2,6 @@
 //!
 //! Each is the calculus of substitution on lambda terms with queries that ask in which terms the
 //! substitution of `var(b)` for `a` gives a term, which is drawn. `specs/Generated.antt` says which.
-#![tactic(auto)]
 
 mod draws;
 mod programs;

@@ -1,7 +1,7 @@
 use Rattle.std.proofs.Common.{◌+◌, ◌-◌, ◌++◌, sym, ap, ap₂, ◌∙◌, append_assoc, arith}
-use Rattle.ap_gen.specs.Generated.{queries, query, term}
-use Rattle.ap_gen.proofs.QueryLemmas.{one_query}
-use Rattle.ap_gen.proofs.programs.program_of.Goals as goal
+use Rattle.ap_words.specs.Generated.{queries, query, term}
+use Rattle.ap_words.proofs.QueryLemmas.{one_query}
+use Rattle.ap_words.proofs.texts.programs.program_of.Goals as goal
 
 pub loop-preserved : goal.loop-preserved
 loop-preserved c =

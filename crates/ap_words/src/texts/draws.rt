@@ -1,7 +1,7 @@
 //! Numbers that are drawn one after another.
 
 ghost use Rattle.std.specs.Prelude.{◌≡◌, ◌<◌};
-ghost use Rattle.ap_gen.specs.Generated.{drawn, next_draw};
+ghost use Rattle.ap_words.specs.Generated.{drawn, next_draw};
 
 /// The numbers of the linear congruential generator below 65537, from which draws are made.
 #[derive(Drop)]

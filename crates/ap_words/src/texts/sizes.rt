@@ -2,7 +2,7 @@
 
 ghost use Rattle.std.specs.Prelude.{◌≡◌, ◌<◌, ◌≤◌};
 ghost use Rattle.ap_defs.specs.Limits.{within};
-ghost use Rattle.ap_gen.specs.Sizes.{most_queries};
+ghost use Rattle.ap_words.specs.Sizes.{most_queries};
 
 use std::marker::Model;
 
@@ -17,7 +17,7 @@ pub struct Size {
 
 impl Model for Size {
     ghost use Rattle.std.specs.Prelude.{ℕ, ◌<◌, ◌≤◌};
-    ghost use Rattle.ap_gen.specs.Sizes.{most_queries};
+    ghost use Rattle.ap_words.specs.Sizes.{most_queries};
 
     ghost Value = { ℕ };
 

@@ -1,5 +1,5 @@
 use Rattle.std.proofs.Common.{◌+◌, ◌*◌}
-use Rattle.ap_gen.proofs.terms.+terms.Given as goal
+use Rattle.ap_words.proofs.texts.terms.+terms.Given as goal
 
 abbrev pub decreases-write_term : goal.decreases-write_term
 decreases-write_term l = 2 * l.height

@@ -1,6 +1,6 @@
 -- Queries one after another, and texts in pieces.
 use Rattle.std.proofs.Common.{◌≡◌, ℕ, suc, List, ◌++◌, ap, ◌∙◌, append_assoc}
-use Rattle.ap_gen.specs.Generated.{query, queries, term}
+use Rattle.ap_words.specs.Generated.{query, queries, term}
 
 pub one_query : (n m x : ℕ) → n ≡ suc m → queries n x ≡ query x ++ queries m (term 3 x).state
 one_query n m x e = ap (λ k. queries k x) e

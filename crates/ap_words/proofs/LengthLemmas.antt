@@ -2,8 +2,8 @@
 use Rattle.std.proofs.Common.{◌≡◌, ◌≤◌, ◌+◌, ◌*◌, ◌%◌, ℕ, zero, suc, List, ◌++◌, length, refl, ap, ◌∙◌, arith, length-append}
 use Rattle.std.specs.Prelude.{codes}
 use Rattle.ap_defs.specs.Limits.{size_limit}
-use Rattle.ap_gen.specs.Generated.{Drawn, application, by_kind, calculus, drawn, generated, lambda, leaf, bound_name, next_draw, queries, query, term}
-use Rattle.ap_gen.specs.Sizes.{most_queries}
+use Rattle.ap_words.specs.Generated.{Drawn, application, by_kind, calculus, drawn, generated, lambda, leaf, bound_name, next_draw, queries, query, term}
+use Rattle.ap_words.specs.Sizes.{most_queries}
 
 name_length : (n : ℕ) → length (bound_name n) ≡ 1
 name_length zero = refl

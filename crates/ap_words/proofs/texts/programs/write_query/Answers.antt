@@ -1,6 +1,6 @@
-use Rattle.ap_gen.proofs.QueryLemmas.{three_pieces}
-use Rattle.ap_gen.specs.Generated.{term}
-use Rattle.ap_gen.proofs.programs.write_query.Goals as goal
+use Rattle.ap_words.proofs.QueryLemmas.{three_pieces}
+use Rattle.ap_words.specs.Generated.{term}
+use Rattle.ap_words.proofs.texts.programs.write_query.Goals as goal
 
 pub returns-clause-text : goal.returns-clause-text
 returns-clause-text c =

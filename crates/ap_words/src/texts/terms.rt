@@ -1,9 +1,9 @@
 //! Terms that are drawn.
 
 ghost use Rattle.std.specs.Prelude.{◌≡◌, ◌++◌, ◌≤◌, OnOk};
-ghost use Rattle.ap_gen.specs.Generated.{application, lambda, leaf, bound_name, drawn, next_draw, term};
+ghost use Rattle.ap_words.specs.Generated.{application, lambda, leaf, bound_name, drawn, next_draw, term};
 
-use crate::draws::Draws;
+use crate::texts::draws::Draws;
 use ap_defs::memory::Memory;
 
 /// Writes a name that is drawn.

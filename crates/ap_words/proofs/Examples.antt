@@ -1,7 +1,7 @@
 -- Texts of small seeds, computed.
 use Rattle.std.proofs.Common.{◌≡◌, ◌++◌, refl}
 use Rattle.std.specs.Prelude.{codes}
-use Rattle.ap_gen.specs.Generated.{calculus, drawn, generated, next_draw}
+use Rattle.ap_words.specs.Generated.{calculus, drawn, generated, next_draw}
 
 pub first_of_two : next_draw 2 ≡ 224
 first_of_two = refl

@@ -1,6 +1,6 @@
 use Rattle.std.proofs.Common.{◌≡◌, ◌-◌, ◌++◌}
-use Rattle.ap_gen.specs.Generated.{generated, queries}
-use Rattle.ap_gen.proofs.programs.program_of.Given as goal
+use Rattle.ap_words.specs.Generated.{generated, queries}
+use Rattle.ap_words.proofs.texts.programs.program_of.Given as goal
 
 -- with the queries that are left the text is whole
 abbrev pub invariant-loop : goal.invariant-loop
