@@ -16,7 +16,7 @@ use ap_defs::memory::Memory;
 use ap_io::{Gate, Source};
 use ap_report::Report;
 use ap_words::Asked;
-use ap_work::report_work;
+use ap_text_commands::report_work;
 use std::alloc::Global;
 use std::sync::Wait;
 use std::thread::Threads;
