@@ -3,7 +3,7 @@ use Rattle.std.proofs.Common.{◌≡◌, ℕ, List, [], ◌∷◌, ◌++◌, map
 use Rattle.std.specs.Prelude.{Result, Ok, Err}
 use Rattle.std.proofs.lemmas.List.{append-nil, map-append}
 use Rattle.ap_bundle.specs.Bundles.{NominalBundle, NominalProved, proved_of}
-use Rattle.ap_bundle_check.specs.Reports.{IsReadReport, check_report}
+use Rattle.ap_bundle_commands.specs.CheckReports.{IsReadReport, check_report}
 use Rattle.ap_defs.specs.declared.faults.Fault.{Fault}
 use Rattle.ap_defs.specs.declared.faults.Fault.TheVariants as faults
 use Rattle.ap_defs.specs.declared.outcomes.Proved.{Proved}

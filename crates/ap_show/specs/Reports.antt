@@ -4,7 +4,7 @@ use Rattle.ap_defs.specs.Goals.{NominalProgram}
 use Rattle.ap_bundle.specs.Bundles.{NominalBundle, NominalProved}
 use Rattle.ap_bundle.specs.Reading.{reading}
 use Rattle.ap_bundle.specs.declared.faults.BundleFault.{BundleFault}
-use Rattle.ap_bundle_check.specs.Reports.{IsCheckReport, IsReadReport, bundle_fault_report}
+use Rattle.ap_bundle_commands.specs.CheckReports.{IsCheckReport, IsReadReport, bundle_fault_report}
 use Rattle.ap_pages.specs.declared.pages.Format.{Format}
 use Rattle.ap_pages.specs.declared.steps.Step.{Step}
 use Rattle.ap_pages.specs.Pages.{derivation_text, derivation_texts, document}

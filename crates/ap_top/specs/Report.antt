@@ -7,9 +7,9 @@ use Rattle.ap_report.specs.CompleteTexts.{IsCompleteText}
 use Rattle.ap_report.specs.SoundAnswers.{IsSoundText}
 use Rattle.ap_report.specs.TextReport.{IsTextReport, run_report}
 use Rattle.ap_text_commands.specs.ProveReports.{HasSoundProofs, IsProveReport}
-use Rattle.ap_bundle_check.specs.Reports.{HasSoundVerdicts, IsCheckReport}
-use Rattle.ap_bundle_convert.specs.Reports.{IsConvertReport}
-use Rattle.ap_bundle_cover.specs.Reports.{HasCoveredProofs, IsCoverReport}
+use Rattle.ap_bundle_commands.specs.CheckReports.{HasSoundVerdicts, IsCheckReport}
+use Rattle.ap_bundle_commands.specs.ConvertReports.{IsConvertReport}
+use Rattle.ap_bundle_commands.specs.CoverReports.{HasCoveredProofs, IsCoverReport}
 use Rattle.ap_examine.specs.Counterexamples.{HasSoundExams}
 use Rattle.ap_examine.specs.Reports.{IsExamReport}
 use Rattle.ap_text_commands.specs.CountReports.{IsCountReport}
