@@ -8,7 +8,6 @@ ghost use Rattle.ap_shell.specs.Answers.{IsReportWithin, IsRunReport};
 ghost use Rattle.ap_text_commands.specs.CountReports.{IsCountReport};
 
 use crate::session::Settings;
-use ap_text_commands::prove_text;
 use ap_defs::limits::SIZE_LIMIT;
 use ap_defs::lists::List;
 use ap_defs::memory::Memory;
@@ -16,7 +15,7 @@ use ap_examine::examine_text;
 use ap_io::Gate;
 use ap_paths::Limit;
 use ap_report::{Report, Status, report_text};
-use ap_text_commands::count_text;
+use ap_text_commands::{count_text, prove_text};
 use std::alloc::Global;
 use std::sync::Wait;
 use std::thread::Threads;

@@ -5,8 +5,8 @@ ghost use Rattle.ap_bundle.specs.Bundles.{bundle_of};
 ghost use Rattle.ap_report.specs.declared.report.Report.{Report};
 ghost use Rattle.ap_bundle_commands.specs.ConvertReports.{IsConvertReport, written_report};
 
-use ap_bundle::version::Version;
 use crate::bundle_fault_report;
+use ap_bundle::version::Version;
 use ap_bundle_read::{BundleError, read_bundle};
 use ap_bundle_write::write_version;
 use ap_defs::lists::List;

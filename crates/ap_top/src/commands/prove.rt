@@ -7,12 +7,12 @@ ghost use Rattle.ap_top.specs.Run.{IsRead};
 
 use crate::lines::line;
 use crate::reading::{ReadError, read_whole};
-use ap_text_commands::prove_text;
 use ap_defs::limits::{Depth, Workers};
 use ap_defs::memory::Memory;
 use ap_io::{Gate, Source};
 use ap_paths::Limit;
 use ap_report::{Report, Status};
+use ap_text_commands::prove_text;
 use std::alloc::Global;
 use std::sync::Wait;
 use std::thread::Threads;
