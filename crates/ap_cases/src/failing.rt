@@ -21,11 +21,11 @@ fn number_of(word: &str) -> u32 {
 
 /// The number, or none for 0.
 fn numbers(alloc: Global, number: u32) -> Result<Vec<u64>, AllocError> {
-    if number == 0 {
-        Ok(Vec::new(alloc))
-    } else {
-        vec![in alloc; number as u64]
+    let mut all = Vec::new(alloc);
+    if number != 0 {
+        all.push(number as u64)?;
     }
+    Ok(all)
 }
 
 /// An empty sink whose writes take so many bytes, at least one, and of which one fails.
