@@ -20,6 +20,7 @@ use std::fs::Files;
 use std::{fs, io};
 
 /// How deep a search goes, how many answers it is for, and the choices of a path.
+#[derive(Drop)]
 struct Asked {
     depth: u32,
     limit: Limit,
