@@ -14,9 +14,9 @@ use Rattle.ap_book.specs.declared.error.BookError.{BookError}
 use Rattle.ap_book.specs.declared.error.DoneError.{DoneError}
 use Rattle.ap_book.specs.declared.error.SkipError.{SkipError}
 use Rattle.ap_book.specs.Answers.{Enters, EntersDone, Skips}
-use Rattle.ap_lock.specs.Turns.{Begins, maker_of, own_places_from, places_of}
-use Rattle.ap_lock.specs.Seats.{SeatView, IsTurn}
-use Rattle.ap_lock.proofs.Places.{places_from-append}
+use Rattle.ap_tools.specs.Turns.{Begins, maker_of, own_places_from, places_of}
+use Rattle.ap_tools.specs.Seats.{SeatView, IsTurn}
+use Rattle.ap_tools.proofs.SeatPlaces.{places_from-append}
 use Rattle.ap_tools.specs.Planned.{Plans, IsPlanned, OwnPlanned, AllAreChoices}
 
 own_both : (c : Choices) (plan : Plans) (l : Limit) (n : ℕ) (xs ys : List Entry) → OwnPlanned c plan l n xs → OwnPlanned c plan l n ys → OwnPlanned c plan l n (xs ++ ys)

@@ -9,7 +9,7 @@ ghost use Rattle.ap_tools.specs.Hands.{IsFreshTools, held};
 ghost use Rattle.ap_tools.specs.Accounts.{fetched, Took};
 
 use ap_defs::memory::Memory;
-use ap_tasks::{Owner, Placed, Shape, Stolen, Thief};
+use crate::{Owner, Placed, Shape, Stolen, Thief};
 use std::alloc::Global;
 use std::collections::VecDeque;
 

@@ -1,6 +1,6 @@
 use crate::pairs::Pairs;
 use crate::paths::are_both_ends;
-use ap_core::{Core, Event, are_in_order, are_permitted, play, stays_whole};
+use ap_tools::{Core, Event, are_in_order, are_permitted, play, stays_whole};
 use ap_defs::lists::List;
 use ap_defs::memory::Memory;
 use std::alloc::Global;

@@ -5,7 +5,7 @@ ghost use Rattle.ap_backchain.specs.Problems.{HasQuery};
 
 use ap_backchain::problem::Problem;
 use ap_backchain::run::Paths;
-use ap_core::{Core, Event, play};
+use ap_tools::{Core, Event, play};
 use ap_defs::limits::SIZE_LIMIT;
 use ap_defs::lists::List;
 use ap_defs::memory::Memory;

@@ -1,4 +1,4 @@
-//! Tests of streams, `ap_io`, of paths, books and workers, `ap_paths`, `ap_book`, `ap_core`, `ap_tasks`, `ap_lock` and
+//! Tests of streams, `ap_io`, of paths, books and workers, `ap_paths`, `ap_book`, `ap_tools` and
 //! `ap_steal`, of trees of queries, `ap_replay`, of indices, `ap_index`, of counts of uses, `ap_derive`, of texts that are
 //! made from a number, `ap_words`, and of the top call, `ap_top`.
 #![tactic(auto)]
