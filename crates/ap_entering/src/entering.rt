@@ -16,10 +16,9 @@ use ap_book::{BookError, DoneError};
 use ap_defs::lists::List;
 use ap_defs::memory::Memory;
 use ap_defs::paths::Path;
-use ap_tools::{Seat, SharedBook};
 use ap_paths::{Run, Tree, Visit};
-use ap_tools::{Placed, Shape};
 use ap_tools::tools::Tools;
+use ap_tools::{Placed, Seat, Shape, SharedBook};
 use std::alloc::Global;
 use std::sync::Wait;
 

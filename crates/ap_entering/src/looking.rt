@@ -7,8 +7,8 @@ ghost use Rattle.ap_tools.specs.Order.{IsSole};
 ghost use Rattle.ap_tools.specs.Accounts.{EndsJust};
 
 use ap_defs::paths::Progress;
-use ap_tools::{Seat, SharedBook};
 use ap_paths::Tree;
+use ap_tools::{Seat, SharedBook};
 use std::sync::Wait;
 
 /// Whether the search is over.

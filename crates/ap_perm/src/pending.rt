@@ -4,9 +4,9 @@ ghost use Rattle.ap_defs.specs.Renaming.{IsBelow, rename_term};
 ghost use Rattle.ap_defs.specs.Terms.{term_of};
 ghost use Rattle.ap_perm.specs.BelowProps.{below_prop};
 
-use ap_defs::terms::{Name, Term};
 use crate::closures::Lent;
 use crate::swappings::preimage;
+use ap_defs::terms::{Name, Term};
 
 /// The name is to be fresh for the term, whose identifiers are numbered from `base` on, below `end`.
 #[derive(Drop)]

@@ -10,14 +10,14 @@ ghost use Rattle.ap_perm.specs.Closures.{closure_term};
 ghost use Rattle.ap_perm.specs.Lookups.{carried_out};
 ghost use Rattle.ap_perm.specs.Reduction.{added, pending_term, IsLeast};
 
-use crate::error::FreshError;
-use crate::pending::Pending;
-use crate::sets::make_set;
-use ap_defs::terms::{Cond, Name, Swap, Term, Var};
 use crate::closures::Closure;
+use crate::error::FreshError;
 use crate::joining::numbered;
 use crate::look::Look;
+use crate::pending::Pending;
+use crate::sets::make_set;
 use crate::swappings::swapped;
+use ap_defs::terms::{Cond, Name, Swap, Term, Var};
 use std::alloc::Global;
 
 /// The name of which a list of swappings makes `a`, once their numbers are higher by `base`, and then

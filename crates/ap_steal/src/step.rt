@@ -13,10 +13,9 @@ use ap_book::SkipError;
 use ap_defs::memory::Memory;
 use ap_defs::paths::Path;
 use ap_entering::entering::{run_kids, run_outs, visit_planned};
-use ap_tools::{Seat, SharedBook};
 use ap_paths::{Tree, Visit};
-use ap_tools::{Placed, Shape};
 use ap_tools::tools::Tools;
+use ap_tools::{Placed, Seat, Shape, SharedBook};
 use std::alloc::Global;
 use std::sync::Wait;
 

@@ -10,7 +10,8 @@ mod locked;
 pub mod tools;
 
 pub use deques::{
-    Cut, Fair, Hand, Kept, Left, Owner, Placed, Pops, Puts, Robs, Shape, Stolen, Thief, Unite, tasks,
+    Cut, Fair, Hand, Kept, Left, Owner, Placed, Pops, Puts, Robs, Shape, Stolen, Thief, Unite,
+    tasks,
 };
 pub use histories::{Core, Event, are_in_order, are_permitted, play, stays_whole};
 pub use locked::{Own, Raw, Seat, SharedBook, Stage, View};

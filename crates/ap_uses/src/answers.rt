@@ -1,10 +1,10 @@
 //! The derivations of a query's answers, by the paths at which they were found.
 
 use ap_backchain::problem::Problem;
-use ap_derive::counting::uses::Derive;
 use ap_defs::memory::Memory;
 use ap_defs::paths::Path;
 use ap_derive::assembling::Derived;
+use ap_derive::counting::uses::Derive;
 use ap_derive::derivations::derive_along;
 use ap_shared::arena::SharedTerms;
 use ap_shared::derivations::SharedDerivation;

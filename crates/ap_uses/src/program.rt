@@ -8,9 +8,9 @@ ghost use Rattle.ap_uses.specs.Counts as spec;
 
 use crate::query::uses_of_query;
 use ap_backchain::problem::Problem;
-use ap_derive::counting::tables::{sum_of_tables, unused_table};
 use ap_defs::limits::{Depth, Workers};
 use ap_defs::memory::Memory;
+use ap_derive::counting::tables::{sum_of_tables, unused_table};
 use ap_index::index::Index;
 use ap_io::Gate;
 use std::alloc::Global;

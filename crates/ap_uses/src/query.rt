@@ -12,10 +12,10 @@ ghost use Rattle.ap_uses.specs.Paths.{LeadsToAnswer, answer_path, answer_paths, 
 
 use crate::answers::Answers;
 use ap_backchain::problem::{Problem, query_of_problem};
-use ap_derive::counting::uses::{Question, uses};
 use ap_defs::limits::Workers;
 use ap_defs::memory::Memory;
 use ap_defs::paths::{Out, Path};
+use ap_derive::counting::uses::{Question, uses};
 use ap_io::Gate;
 use ap_paths::Limit;
 use ap_report::solve;

@@ -1,9 +1,9 @@
-use ap_derive::counting::uses::{Derive, Question, uses};
 use ap_defs::goals::{Clause, Goal};
 use ap_defs::lists::List;
 use ap_defs::memory::Memory;
 use ap_defs::paths::Path;
 use ap_defs::terms::Term;
+use ap_derive::counting::uses::{Derive, Question, uses};
 use ap_shared::derivations::{SharedDerivation, SharedUse};
 use std::alloc::Global;
 use std::thread::Threads;

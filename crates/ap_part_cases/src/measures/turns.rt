@@ -4,8 +4,8 @@ ghost use Rattle.std.specs.Prelude.{◌≡◌, IfOk};
 ghost use Rattle.ap_tools.specs.Seats.{book_id};
 
 use ap_defs::memory::Memory;
-use ap_tools::{Seat, SharedBook};
 use ap_paths::Limit;
+use ap_tools::{Seat, SharedBook};
 use std::alloc::{AllocError, Global};
 use std::sync::Wait;
 
