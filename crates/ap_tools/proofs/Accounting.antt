@@ -27,7 +27,7 @@ use Rattle.ap_tools.proofs.SeatPlaces.{places_from-append}
 use Rattle.ap_tools.specs.declared.tools.Tools.{Tools}
 use Rattle.ap_tools.specs.Hands.{held}
 use Rattle.ap_tools.specs.Accounts.{entries_by, opened_kids, ended_paths, fetched, Took, came, kept_weight, AreShut, EndsJust, NoneLost}
-use Rattle.ap_tools.proofs.Own.{same_front}
+use Rattle.ap_tools.proofs.OwnEntries.{same_front}
 use Rattle.ap_tools.proofs.Sole.{quiet_front}
 
 made_by-append : (n : ℕ) (xs ys : List Entry) → entries_by n (xs ++ ys) ≡ entries_by n xs ++ entries_by n ys

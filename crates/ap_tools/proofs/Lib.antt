@@ -1,6 +1,6 @@
 pub mod Accounting
 pub mod Fresh
-pub mod Own
+pub mod OwnEntries
 pub mod Sent
 pub mod Sole
 pub mod Whole

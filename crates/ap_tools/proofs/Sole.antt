@@ -22,7 +22,7 @@ use Rattle.ap_tools.specs.Turns.{AreBy, maker_of, own_places_from, places_of}
 use Rattle.ap_tools.specs.Seats.{SeatView, IsTurn, AreLogged, AreMadeBy, logs_of}
 use Rattle.ap_tools.proofs.SeatPlaces.{places_from-append}
 use Rattle.ap_tools.specs.Order.{Runs, IsSole, IsOrdered}
-use Rattle.ap_tools.proofs.Own.{same_front}
+use Rattle.ap_tools.proofs.OwnEntries.{same_front}
 use Rattle.ap_tools.specs.Planned.{Plans, ArePlanned}
 use Rattle.ap_tools.proofs.Whole.{entries_of-append, has_stop-append, either_false, AllEnded, nothing_open, are_seats, planned_true}
 use Rattle.atomic_table.specs.Seated.{TableId}

@@ -21,7 +21,7 @@ use Rattle.ap_tools.specs.Turns.{Begins, maker_of, one_turn_if, own_places_from}
 use Rattle.ap_tools.specs.Seats.{SeatView, AreOfBook, AreLogged, AreMadeBy, seats_with, new_seats}
 use Rattle.ap_tools.proofs.Endings.{new_seats-length}
 use Rattle.ap_tools.specs.Planned.{Plans, IsPlanned, ArePlanned, OwnPlanned, IsOver, IsNewSeat, EndedSeat}
-use Rattle.ap_tools.proofs.Own.{other, own_turn}
+use Rattle.ap_tools.proofs.OwnEntries.{other, own_turn}
 
 -- the seats one by one
 abbrev pub AllEnded : Choices → Plans → Limit → TableId → List SeatView → Type 0
