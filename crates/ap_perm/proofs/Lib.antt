@@ -13,3 +13,4 @@ pub mod SortLemmas
 pub mod StepLemmas
 pub mod RenamedLemmas
 pub mod PendingLemmas
+pub mod DifferingLemmas

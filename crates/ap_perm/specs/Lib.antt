@@ -7,3 +7,4 @@ pub mod StatementsOnLookups
 pub mod BelowProps
 pub mod Closures
 pub mod Reduction
+pub mod Differing

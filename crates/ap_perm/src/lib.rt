@@ -1,8 +1,9 @@
 //! Permutations of names, lookups of what variables are bound to, and freshness of names for terms whose
-//! variables are bound.
+//! variables are bound. `differing` tells at which places two lists of numbers differ, by vectors.
 #![tactic(auto)]
 
 pub mod closures;
+pub mod differing;
 pub mod error;
 mod flat;
 mod images;
