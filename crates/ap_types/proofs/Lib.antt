@@ -22,3 +22,6 @@ pub mod DataLemmas
 pub mod WantLemmas
 pub mod StepLemmas
 pub mod PickLemmas
+pub mod LeastRuleLemmas
+pub mod LeastLemmas
+pub mod TermLemmas

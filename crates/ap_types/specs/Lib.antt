@@ -20,3 +20,5 @@ pub mod ChoiceRounds
 pub mod Wants
 pub mod Pickers
 pub mod StatementsOnPicks
+pub mod Closed
+pub mod StatementsOnInhabited

@@ -10,6 +10,7 @@ pub mod equations;
 pub mod errors;
 pub mod holding;
 pub mod inhabitants;
+pub mod inhabited_laws;
 mod joining;
 pub mod laws;
 mod least;

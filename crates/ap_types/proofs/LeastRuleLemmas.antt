@@ -11,8 +11,8 @@ use Rattle.ap_types.proofs.BooleanLemmas.{and_both, and_left, and_right, or_case
 use Rattle.ap_types.proofs.QuestionLemmas.{all_inhabited_grows, inhabited_grows}
 use Rattle.ap_types.proofs.RoundLemmas.{reached_more}
 use Rattle.ap_types.proofs.RuleLemmas.{same_numbers}
-use Rattle.ap_inhabited.specs.Closed.{HasEach, HasSome, IsHoldingSet, IsInhabitedSet}
-use Rattle.ap_inhabited.specs.StatementsOnInhabited.{HoldingIsClosed, InhabitedIsClosed}
+use Rattle.ap_types.specs.Closed.{HasEach, HasSome, IsHoldingSet, IsInhabitedSet}
+use Rattle.ap_types.specs.StatementsOnInhabited.{HoldingIsClosed, InhabitedIsClosed}
 
 -- A constructor whose arguments pass puts its data type in.
 pub passes : (test : Test) (p : ℕ → Bool) (ds : List NominalConstructor) (f : ℕ) (c : NominalConstructor)

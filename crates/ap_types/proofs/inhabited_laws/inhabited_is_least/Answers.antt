@@ -1,6 +1,6 @@
-use Rattle.ap_inhabited.proofs.LeastLemmas.{inhabited_least}
-use Rattle.ap_inhabited.proofs.RuleLemmas.{inhabited_closed}
-use Rattle.ap_inhabited.proofs.laws.inhabited_is_least.Goals as goal
+use Rattle.ap_types.proofs.LeastLemmas.{inhabited_least}
+use Rattle.ap_types.proofs.LeastRuleLemmas.{inhabited_closed}
+use Rattle.ap_types.proofs.inhabited_laws.inhabited_is_least.Goals as goal
 
 pub returns-clause-closed : goal.returns-clause-closed
 returns-clause-closed c = inhabited_closed

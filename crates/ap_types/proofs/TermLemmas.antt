@@ -13,10 +13,10 @@ use Rattle.ap_defs.specs.Typing.{IsApplication, IsOfType, IsTyped, Want, argumen
 use Rattle.ap_types.specs.Holding.{MayHold}
 use Rattle.ap_types.specs.Inhabited.{IsInhabited, inhabited_in}
 use Rattle.ap_types.proofs.WitnessLemmas as witnesses
-use Rattle.ap_inhabited.specs.Closed.{AreFull, HasEach, HasSome, IsFull, IsHoldingSet, IsInhabitedSet}
-use Rattle.ap_inhabited.specs.StatementsOnInhabited.{FreeNamesAreHeld, HoldingIsHavingNames, HoldingMayBeEmpty, InhabitedIsHavingTerms}
-use Rattle.ap_inhabited.proofs.LeastLemmas.{in_each_holding_set}
-use Rattle.ap_inhabited.proofs.RuleLemmas.{holding_closed, inhabited_closed}
+use Rattle.ap_types.specs.Closed.{AreFull, HasEach, HasSome, IsFull, IsHoldingSet, IsInhabitedSet}
+use Rattle.ap_types.specs.StatementsOnInhabited.{FreeNamesAreHeld, HoldingIsHavingNames, HoldingMayBeEmpty, InhabitedIsHavingTerms}
+use Rattle.ap_types.proofs.LeastLemmas.{in_each_holding_set}
+use Rattle.ap_types.proofs.LeastRuleLemmas.{holding_closed, inhabited_closed}
 
 module _ (cs : List NominalConstructor) (P : NominalType → Type 0) (closed : IsInhabitedSet cs P) where
   -- the set has each type that is wanted

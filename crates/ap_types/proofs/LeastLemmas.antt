@@ -6,9 +6,9 @@ use Rattle.ap_types.specs.Holding.{MayHold, holds_if, some_holds}
 use Rattle.ap_types.specs.Inhabited.{IsInhabited, all_inhabited, inhabited_if}
 use Rattle.ap_types.specs.Rounds.{reached}
 use Rattle.ap_types.proofs.BooleanLemmas.{and_left, and_right, or_cases}
-use Rattle.ap_inhabited.specs.Closed.{HasEach, HasSome, IsHoldingSet, IsInhabitedSet}
-use Rattle.ap_inhabited.specs.StatementsOnInhabited.{HoldingIsLeast, InhabitedIsLeast}
-use Rattle.ap_inhabited.proofs.RuleLemmas.{passing}
+use Rattle.ap_types.specs.Closed.{HasEach, HasSome, IsHoldingSet, IsInhabitedSet}
+use Rattle.ap_types.specs.StatementsOnInhabited.{HoldingIsLeast, InhabitedIsLeast}
+use Rattle.ap_types.proofs.LeastRuleLemmas.{passing}
 
 module _ (cs : List NominalConstructor) (P : NominalType → Type 0) (closed : IsInhabitedSet cs P) where
   type_is_in : (p : ℕ → Bool) → ((d : ℕ) → p d ≡ true → P (base d)) → (t : NominalType) → inhabited_if p t ≡ true → P t

@@ -7,7 +7,7 @@ use Rattle.ap_defs.specs.Types.{NominalType, NominalConstructor}
 use Rattle.ap_defs.specs.Typing.{IsOfType}
 use Rattle.ap_types.specs.Holding.{MayHold}
 use Rattle.ap_types.specs.Inhabited.{IsInhabited}
-use Rattle.ap_inhabited.specs.Closed.{AreFull, IsFull, IsHoldingSet, IsInhabitedSet}
+use Rattle.ap_types.specs.Closed.{AreFull, IsFull, IsHoldingSet, IsInhabitedSet}
 
 -- The inhabited types are closed under the rules ..
 abbrev pub InhabitedIsClosed : Type 0

@@ -1,6 +1,6 @@
 //! The inhabited types and those that may hold names of a sort are least, and are told by ground terms.
 
-ghost use Rattle.ap_inhabited.specs.StatementsOnInhabited.{InhabitedIsClosed, InhabitedIsLeast, InhabitedIsHavingTerms, HoldingIsClosed, HoldingIsLeast, FreeNamesAreHeld, HoldingIsHavingNames, HoldingMayBeEmpty};
+ghost use Rattle.ap_types.specs.StatementsOnInhabited.{InhabitedIsClosed, InhabitedIsLeast, InhabitedIsHavingTerms, HoldingIsClosed, HoldingIsLeast, FreeNamesAreHeld, HoldingIsHavingNames, HoldingMayBeEmpty};
 
 /// The inhabited types are the least set that is closed under the rules.
 pub fn inhabited_is_least()

@@ -1,5 +1,5 @@
-use Rattle.ap_inhabited.proofs.TermLemmas.{free_names_held, having_names, may_be_empty}
-use Rattle.ap_inhabited.proofs.laws.holding_has_names.Goals as goal
+use Rattle.ap_types.proofs.TermLemmas.{free_names_held, having_names, may_be_empty}
+use Rattle.ap_types.proofs.inhabited_laws.holding_has_names.Goals as goal
 
 pub returns-clause-free : goal.returns-clause-free
 returns-clause-free c = free_names_held
