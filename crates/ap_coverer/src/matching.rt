@@ -3,7 +3,7 @@
 ghost use Rattle.std.specs.Prelude.{◌≡◌, ◌∷◌, [], ◌++◌, IfOk, OnOk, length, map, true};
 ghost use Rattle.std.specs.List.{list_all};
 ghost use Rattle.ap_cover.specs.Ground.{ground_terms, is_ground_term};
-ghost use Rattle.ap_covering.specs.Matched.{matched_each};
+ghost use Rattle.ap_cover.specs.Matched.{matched_each};
 ghost use Rattle.ap_defs.specs.Permutations.{act_name, inverse, swap_of};
 ghost use Rattle.ap_defs.specs.Renaming.{replace_names, replace_swap};
 ghost use Rattle.ap_defs.specs.Terms.{act_ground, susp, term_of};

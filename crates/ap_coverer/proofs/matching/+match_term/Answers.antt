@@ -1,6 +1,6 @@
 use Rattle.std.proofs.Common.{◌≡◌, ◌∙◌, ◌++◌, List, map, ap, ap₂, sym, subst}
 use Rattle.ap_cover.specs.Ground.{is_ground_term}
-use Rattle.ap_covering.specs.Matched.{given_by}
+use Rattle.ap_cover.specs.Matched.{given_by}
 use Rattle.ap_defs.specs.declared.spines.TermLayer.TheVariants as around
 use Rattle.ap_defs.specs.declared.terms.Swap.{Swap}
 use Rattle.ap_defs.specs.declared.terms.Term.{Term}

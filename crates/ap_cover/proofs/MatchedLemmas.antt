@@ -22,9 +22,9 @@ use Rattle.ap_theory.proofs.TermLemmas.{same_var, var_same}
 use Rattle.ap_ground.specs.TypedGroundings.{GivesTypes}
 use Rattle.ap_complete.specs.Coverings.{IsInstanceBy, replace_in_cond}
 use Rattle.ap_complete.proofs.ExchangeLemmas.{each_exchange_covers}
-use Rattle.ap_covering.specs.Matched.{Pairs, given_by, matched, matched_each}
-use Rattle.ap_covering.specs.StatementsOnMatching.{GivesInstance, MatchedTermsCover, matched_with}
-use Rattle.ap_covering.proofs.AlphaTypeLemmas.{of_type_alike}
+use Rattle.ap_cover.specs.Matched.{Pairs, given_by, matched, matched_each}
+use Rattle.ap_cover.specs.StatementsOnMatching.{GivesInstance, MatchedTermsCover, matched_with}
+use Rattle.ap_cover.proofs.AlphaTypeLemmas.{of_type_alike}
 
 -- the grounding gives each variable the term beside it, up to renaming of binders
 abbrev pub Fit : Grounding → Pairs → Type 0

@@ -16,7 +16,7 @@ use Rattle.ap_program.specs.Typed.{IsTypedQuery, term_form}
 use Rattle.ap_complete.specs.Coverings.{TakesApart, replace_in_cond}
 use Rattle.ap_complete.specs.NumberedProofs.{IsAmong}
 use Rattle.ap_complete.specs.Restriction.{KeepsRestriction}
-use Rattle.ap_covering.specs.Matched.{given_by, matched_each}
+use Rattle.ap_cover.specs.Matched.{given_by, matched_each}
 
 -- A grounding gives each variable of the answer a term of its type, meets the conditions under the swappings, and gives the terms up to
 -- renaming of binders.
