@@ -12,9 +12,9 @@ ghost use Rattle.ap_unify.specs.Finishing.{some_if};
 
 use ap_defs::memory::Memory;
 use ap_defs::terms::{Cond, Name, Var};
+use ap_perm::closures::Closure;
 use ap_perm::error::FreshError;
 use ap_perm::reduction::{add_reduced, add_reduced_var};
-use ap_perm::closures::Closure;
 use ap_store::store::Store;
 
 /// Puts the conditions under which a name is fresh for what a closure stands for behind others, unless it
