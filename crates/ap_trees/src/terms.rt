@@ -87,26 +87,11 @@ pub fn term<'a, 's>(
         return Err(ReadError::Grammar);
     }
     match symbols {
-        [Symbol::Var(word), rest @ ..] => {
-            let (tree, rest) = variable(alloc, levels - 1, word, rest)?;
-            Ok((tree, rest))
-        }
-        [Symbol::Ident(word), rest @ ..] => {
-            let (tree, rest) = word_term(alloc, levels - 1, word, rest)?;
-            Ok((tree, rest))
-        }
-        [Symbol::Open, rest @ ..] => {
-            let (tree, rest) = group(alloc, levels - 1, rest)?;
-            Ok((tree, rest))
-        }
-        [Symbol::OpenList, rest @ ..] => {
-            let (tree, rest) = list(alloc, levels - 1, rest)?;
-            Ok((tree, rest))
-        }
-        [Symbol::Swap, rest @ ..] => {
-            let (tree, rest) = swapped(alloc, levels - 1, rest)?;
-            Ok((tree, rest))
-        }
+        [Symbol::Var(word), rest @ ..] => variable(alloc, levels - 1, word, rest),
+        [Symbol::Ident(word), rest @ ..] => word_term(alloc, levels - 1, word, rest),
+        [Symbol::Open, rest @ ..] => group(alloc, levels - 1, rest),
+        [Symbol::OpenList, rest @ ..] => list(alloc, levels - 1, rest),
+        [Symbol::Swap, rest @ ..] => swapped(alloc, levels - 1, rest),
         _ => Err(ReadError::Grammar),
     }
 }
