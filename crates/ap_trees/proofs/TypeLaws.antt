@@ -3,10 +3,13 @@ use Rattle.std.proofs.Common.{◌≡◌, ℕ, zero, suc, ◌<◌, ◌≤◌, Lis
 use Rattle.ap_trees.specs.declared.outcome.ReadError.{ReadError}
 use Rattle.ap_trees.specs.Outcomes.{GivesPart}
 use Rattle.ap_trees.specs.Readers.{SymbolReader, ◌>>=◌, with_before, further, separated, after_comma, after_lambda, after_close, after_close_list, at_end}
-use Rattle.ap_trees.specs.Symbols.{Sym, Ident, Open, Close, OpenList, CloseList, Comma, Lambda}
+use Rattle.ap_trees.specs.declared.symbols.Symbol.{Symbol}
+use Rattle.ap_trees.specs.Symbols.{Sym, Ident, Open, Close, OpenList, CloseList, Comma, Lambda, syms, sym as symbol}
 use Rattle.ap_trees.specs.TypeGrammar.{IsType, AreTypes, word, abs, unit, group, array, sole, several}
 use Rattle.ap_trees.specs.TypeReader.{read_type, type_after_word, type_after_open, all_type}
 use Rattle.ap_trees.specs.Types.{Ty, Unit, Word, Array, Abs, tuple_type}
+use Rattle.std.proofs.lemmas.List.{length-map}
+use Rattle.ap_trees.proofs.Lists.{some_is}
 
 -- what holds after two steps
 pub bind_if : {A B : Type 0} (r : Option A) (f : A → Option B) (P : A → Type 0) (Q : B → Type 0) → IfSome r P → ((x : A) → P x → IfSome (f x) Q) → IfSome (r >>= f) Q
@@ -67,6 +70,12 @@ mutual
   pub types_shrink : {ts rest : List Sym} {parts : List Ty} → AreTypes ts parts rest → length rest < length ts
   types_shrink (sole h) = type_shrinks h
   types_shrink (several h g) = omega (arith, type_shrinks h, types_shrink g)
+
+-- What follows what is read is shorter.
+pub type_shorter : (n : ℕ) (ts us : List Symbol) (t : Ty) → read_type n (syms ts) ≡ Some (t, syms us) → length us < length ts
+type_shorter n ts us t got =
+    let h : IsType (syms ts) t (syms us) = some_is (read_type n (syms ts)) (t, syms us) (λ x. IsType (syms ts) x.0 x.1) got (type_sound n (syms ts)) in
+    omega (arith, type_shrinks h, length-map ts symbol, length-map us symbol)
 
 -- no type begins with `)`
 type_not_close : {ts rest : List Sym} {t : Ty} → IsType ts t rest → after_close ts ≡ None

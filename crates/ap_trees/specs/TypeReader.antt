@@ -17,14 +17,19 @@ type_after_open read ts None = do
   rest ← after_close parts.1
   Some (tuple_type parts.0, rest)
 
+-- the type of lists, behind its bracket
+abbrev pub array_of : SymbolReader Ty → SymbolReader Ty
+array_of read ts = do
+  element ← read ts
+  rest ← after_close_list element.1
+  Some (Array element.0, rest)
+
+-- a type; the number falls at each level
 unfoldable pub read_type : ℕ → SymbolReader Ty
 read_type zero ts = None
 read_type (suc n) (Ident word ∷ ts) = type_after_word (read_type n) word ts (after_lambda ts)
 read_type (suc n) (Open ∷ ts) = type_after_open (separated after_comma (read_type n) (length ts)) ts (after_close ts)
-read_type (suc n) (OpenList ∷ ts) = do
-  element ← read_type n ts
-  rest ← after_close_list element.1
-  Some (Array element.0, rest)
+read_type (suc n) (OpenList ∷ ts) = array_of (read_type n) ts
 read_type (suc n) ts = None
 
 -- the type that all the symbols spell
