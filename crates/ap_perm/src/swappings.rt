@@ -19,32 +19,24 @@ use std::collections::BTreeSet;
 /// Names by their sorts and numbers.
 type Names = BTreeSet<(u32, u64)>;
 
-/// Whether two names are one.
-#[tactic(auto, unfolding(ap_defs::specs::Permutations::name_eq))]
-pub(crate) fn is_same(a: &Name, b: &Name) -> bool
-    ensures { result ≡ name_eq a.now b.now }
-{
-    a == b
-}
-
 /// What a swapping makes of a name. It takes no memory.
-#[tactic(auto, unfolding(ap_defs::specs::Permutations::swap_name))]
+#[tactic(auto, unfolding(ap_defs::specs::Permutations::swap_name, ap_defs::specs::Permutations::name_eq))]
 pub fn swapped(swap: &Swap, a: Name) -> Name
     ensures { result ≡ swap_name swap.now a }
 {
-    let sort = swap.sort;
-    let left = Name {
-        sort,
-        num: swap.left,
-    };
-    let right = Name {
-        sort,
-        num: swap.right,
-    };
-    if is_same(&a, &left) {
-        right
-    } else if is_same(&a, &right) {
-        left
+    let Name { sort, num } = a;
+    if sort != swap.sort {
+        a
+    } else if num == swap.left {
+        Name {
+            sort,
+            num: swap.right,
+        }
+    } else if num == swap.right {
+        Name {
+            sort,
+            num: swap.left,
+        }
     } else {
         a
     }
@@ -63,6 +55,7 @@ pub fn image(swaps: &[Swap], a: Name) -> Name
 }
 
 /// The name of which a list of swappings makes `a`. It takes no memory.
+#[tactic(auto, using(crate::proofs::SwappingLemmas::undo_first))]
 pub fn preimage(swaps: &[Swap], a: Name) -> Name
     ensures { result ≡ act_name (inverse swaps.now) a }
 {
@@ -71,6 +64,14 @@ pub fn preimage(swaps: &[Swap], a: Name) -> Name
         moved = swapped(swap, moved);
     }
     moved
+}
+
+/// Whether two names are one.
+#[tactic(auto, unfolding(ap_defs::specs::Permutations::name_eq))]
+pub(crate) fn is_same(a: &Name, b: &Name) -> bool
+    ensures { result ≡ name_eq a.now b.now }
+{
+    a == b
 }
 
 /// Adds a name to a set, where two lists of swappings, whose images are these, differ on it.

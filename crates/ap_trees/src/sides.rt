@@ -35,8 +35,10 @@ fn side<'a, 's>(symbols: &'s [Symbol<'a>]) -> Option<(Binder<'a>, &'s [Symbol<'a
 /// The two sides of a swapping, behind `swap`, and the symbols after the comma of the second.
 #[tactic(auto, unfolding(crate::specs::TermReader::both_sides))]
 pub(crate) fn sides<'a, 's>(symbols: &'s [Symbol<'a>]) -> Option<(Sides<'a>, &'s [Symbol<'a>])>
-    ensures { option_map (λ r. ((name_of_binder r.0.left, name_of_binder r.0.right),
-        syms r.1.now)) result ≡ spec.both_sides (syms symbols.now) }
+    ensures { option_map (λ r. (
+      (name_of_binder r.0.left, name_of_binder r.0.right),
+      syms r.1.now,
+    )) result ≡ spec.both_sides (syms symbols.now) }
 {
     let rest = after_open(symbols)?;
     let (left, rest) = side(rest)?;

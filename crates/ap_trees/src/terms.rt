@@ -12,7 +12,9 @@ ghost use Rattle.ap_trees.specs.Trees.{term_of, trees_of, name_of_binder};
 use crate::building::{
     applied, begun, cells, closed, closed_list, sole_application, swapping, tuple,
 };
-use crate::cursor::{after_bar, after_close, after_close_list, after_comma, after_lambda, after_open};
+use crate::cursor::{
+    after_bar, after_close, after_close_list, after_comma, after_lambda, after_open,
+};
 use crate::outcome::ReadError;
 use crate::sides::sides;
 use crate::symbols::Symbol;

@@ -1,7 +1,7 @@
 // Reading a type.
 ghost use Rattle.std.specs.Prelude.{◌≡◌, ◌<◌, [], length, IfOk, Some};
 ghost use Rattle.ap_trees.specs.Outcomes.{GivesPart};
-ghost use Rattle.ap_trees.specs.Readers.{separated, after_comma, after_lambda, after_close};
+ghost use Rattle.ap_trees.specs.Readers.{separated, after_comma};
 ghost use Rattle.ap_trees.specs.Symbols.{syms};
 ghost use Rattle.ap_trees.specs.Trees.{type_of_tree, types_of};
 ghost use Rattle.ap_trees.specs.Types as trees;
@@ -65,14 +65,15 @@ fn any_type<'a, 's>(
 
 /// A word, alone or as the name type of an abstraction.
 #[cycle(types)]
+#[tactic(auto, unfolding(crate::specs::TypeReader::type_of_word))]
 fn word_type<'a, 's>(
     alloc: Global,
     levels: usize,
     word: &'a str,
     symbols: &'s [Symbol<'a>],
 ) -> Result<(TypeTree<'a>, &'s [Symbol<'a>]), ReadError>
-    ensures { GivesPart (λ r. (type_of_tree r.0, syms r.1.now)) result (spec.type_after_word
-        (read_type levels) word.entry.now (syms symbols.now) (after_lambda (syms symbols.now))) }
+    ensures { GivesPart (λ r. (type_of_tree r.0, syms r.1.now)) result (spec.type_of_word
+        (read_type levels) word.entry.now (syms symbols.now)) }
 {
     match after_lambda(symbols) {
         Some(rest) => {
@@ -85,14 +86,14 @@ fn word_type<'a, 's>(
 
 /// What stands in parentheses.
 #[cycle(types)]
+#[tactic(auto, unfolding(crate::specs::TypeReader::type_of_group))]
 fn group<'a, 's>(
     alloc: Global,
     levels: usize,
     symbols: &'s [Symbol<'a>],
 ) -> Result<(TypeTree<'a>, &'s [Symbol<'a>]), ReadError>
-    ensures { GivesPart (λ r. (type_of_tree r.0, syms r.1.now)) result (spec.type_after_open
-        (separated after_comma (read_type levels) (length (syms symbols.now))) (syms symbols.now)
-        (after_close (syms symbols.now))) }
+    ensures { GivesPart (λ r. (type_of_tree r.0, syms r.1.now)) result (spec.type_of_group
+        (read_type levels) (syms symbols.now)) }
 {
     match after_close(symbols) {
         Some(rest) => Ok((TypeTree::Unit, rest)),
@@ -106,6 +107,7 @@ fn group<'a, 's>(
 
 /// The type of lists, behind its bracket.
 #[cycle(types)]
+#[tactic(auto, unfolding(crate::specs::TypeReader::array_of))]
 fn list<'a, 's>(
     alloc: Global,
     levels: usize,
