@@ -3,7 +3,7 @@ use Rattle.std.proofs.lemmas.List.{map-append}
 use Rattle.ap_trees.specs.Terms.{argument_terms}
 use Rattle.ap_trees.specs.Trees.{term_of, terms_of, trees_of}
 use Rattle.ap_trees.proofs.TermLists.{onto, onto_end, onto_last}
-use Rattle.ap_trees.proofs.terms.arguments.Goals as goal
+use Rattle.ap_trees.proofs.building.arguments.Goals as goal
 
 pub loop-part-init : goal.loop-part-init
 loop-part-init c =

@@ -3,7 +3,7 @@ use Rattle.std.proofs.lemmas.List.{map-append}
 use Rattle.ap_trees.specs.Terms.{tuple}
 use Rattle.ap_trees.specs.Trees.{term_of, trees_of}
 use Rattle.ap_trees.proofs.TermLists.{tuple_end}
-use Rattle.ap_trees.proofs.terms.tuple.Goals as goal
+use Rattle.ap_trees.proofs.building.tuple.Goals as goal
 
 pub loop-part-preserved : goal.loop-part-preserved
 loop-part-preserved c =
