@@ -61,7 +61,7 @@ back_by_none t [] e = sym (act_term_none t)
 back_by_none t (s ∷ p) e = cc
 
 -- the variable of a suspension, or another one
-var_in : Var → NominalTerm → Var
+abbrev var_in : Var → NominalTerm → Var
 var_in z (susp p x) = x
 var_in z unit = z
 var_in z (name a) = z

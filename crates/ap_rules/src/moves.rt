@@ -148,7 +148,32 @@ fn one_variable<'a>(
     Ok(Move::Differ(names, x))
 }
 
-/// Of two different variables the one with the greater number is bound.
+/// Of two different variables the one with the greater number is bound, whichever stands on the left.
+fn bind_newer<'a>(
+    alloc: Global,
+    store: &Store<'a>,
+    x: Var,
+    older: Closure<'a>,
+    y: Var,
+    newer: Closure<'a>,
+) -> Result<Move<'a>, Memory>
+    requires numbers { x.num < y.num }
+    requires older { IsHeadVar (bindings_of store.now) (meaning_in store.now older) (Some x) }
+    requires newer { IsHeadVar (bindings_of store.now) (meaning_in store.now newer) (Some y) }
+    requires older_below { IsBelow (present store.now).next (closure_term older) }
+    requires newer_below { IsBelow (present store.now).next (closure_term newer) }
+    ensures left { IfOk result (λ m. move_under (bindings_of store.now) m
+        ≡ rule (meaning_in store.now older.entry) (meaning_in store.now newer.entry)) }
+    ensures right { IfOk result (λ m. move_under (bindings_of store.now) m
+        ≡ rule (meaning_in store.now newer.entry) (meaning_in store.now older.entry)) }
+    ensures fit { IfOk result (λ m. IsMoveFit (bindings_of store.now) (present store.now).next
+        m) }
+{
+    let q = swaps_of(alloc, store, y, newer)?;
+    bind_to(alloc, store, &q, y, older)
+}
+
+/// The rule for two closures that stand for suspensions.
 fn suspensions<'a>(
     alloc: Global,
     store: &Store<'a>,
@@ -169,11 +194,9 @@ fn suspensions<'a>(
     if x.num == y.num {
         one_variable(alloc, store, x, left, right)
     } else if x.num < y.num {
-        let q = swaps_of(alloc, store, y, right)?;
-        bind_to(alloc, store, &q, y, left)
+        bind_newer(alloc, store, x, left, y, right)
     } else {
-        let p = swaps_of(alloc, store, x, left)?;
-        bind_to(alloc, store, &p, x, right)
+        bind_newer(alloc, store, y, right, x, left)
     }
 }
 

@@ -15,7 +15,7 @@ following-init c =
     record { below = d.below; same = (d.swaps.items, under_act (bindings_of c.args.self.now) d.swaps.items (rename_term d.base (term_of d.term.now))) }
 
 pub invariant_of-bare : goal.invariant_of-bare
-invariant_of-bare c = c.following.invariant.below
+invariant_of-bare c = record { below = c.following.invariant.below }
 
 pub following-preserved : goal.following-preserved
 following-preserved c =
