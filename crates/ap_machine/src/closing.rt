@@ -48,12 +48,12 @@ fn canonical_of(alloc: Global, swaps: Vec<Swap>) -> Result<Vec<Swap>, Memory>
 }
 
 /// What a closure stands for, with no bound variable at its head.
-fn headed<'a>(alloc: Global, store: &Store<'a>, c: Closure<'a>) -> Result<Closure<'a>, Memory>
+fn headed<'a>(store: &Store<'a>, c: Closure<'a>) -> Result<Closure<'a>, Memory>
     ensures term { IfOk result (λ d. meaning_in store.now d ≡ meaning_in store.now c.entry) }
     ensures head { IfOk result (λ d. IsHeadUnbound (bindings_of store.now) (closure_term d)) }
 {
     match c.term {
-        Term::Susp(_, _) => store.follow(alloc, c),
+        Term::Susp(_, _) => store.follow(c),
         Term::Unit => Ok(c),
         Term::Name(_) => Ok(c),
         Term::Pair(_, _) => Ok(c),
@@ -91,7 +91,7 @@ fn go_in<'a>(
         rounds_work store.now rounds.new.items + part_work store.now p
         < rounds_work store.now rounds.old.items + part_work store.now (parts.Left c.entry)) }
 {
-    let head = headed(alloc, store, c)?;
+    let head = headed(store, c)?;
     match head.open(alloc)? {
         Opened::Unit => Ok(Part::Made(Term::Unit)),
         Opened::Name(a) => Ok(Part::Made(Term::Name(a))),

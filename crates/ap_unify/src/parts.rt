@@ -11,7 +11,8 @@ ghost use Rattle.ap_store.specs.Views.{bindings_of, kinds, present, versions};
 ghost use Rattle.ap_theory.specs.Variables.{IsUnbound};
 ghost use Rattle.ap_unify.specs.Parts.{AreBelowBoth, IsHead, IsRuleFor, IsTurnBelow, rule_of};
 ghost use Rattle.ap_equations.specs.Plain.{plain_term};
-ghost use Rattle.ap_rules.specs.Work.{GoOn, HasForm};
+ghost use Rattle.ap_rules.specs.Work.{GoOn};
+ghost use Rattle.ap_store.specs.Heads.{HasForm};
 ghost use Rattle.ap_unify.specs.declared.parts.Ahead.{Ahead};
 
 use crate::heads::{Head, headed};
