@@ -51,7 +51,7 @@ fn suspension_of(alloc: Global, c: &Closure<'_>) -> Result<Option<Suspension>, M
         Term::Name(_) => Ok(None),
         Term::Pair(_, _) => Ok(None),
         Term::App(_, _) => Ok(None),
-        Term::Abs(_, _) => Ok(None),
+        Term::Abs(_, _, _) => Ok(None),
         Term::Susp(q, x) => {
             let own = c.swaps.to_vec(alloc)?;
             let swaps = with_numbered(own, c.base, q.items())?;

@@ -30,7 +30,7 @@ fn step<'a>(
         Term::Name(_) => Ok(None),
         Term::Pair(_, _) => Ok(None),
         Term::App(_, _) => Ok(None),
-        Term::Abs(_, _) => Ok(None),
+        Term::Abs(_, _, _) => Ok(None),
         Term::Susp(q, x) => {
             let x = Var {
                 num: c.base + x.num,
