@@ -24,7 +24,7 @@ pub fn head_key(t: &Term) -> u64
         Term::Unit => 1,
         Term::Name(_) => 2,
         Term::Pair(_, _) => 3,
-        Term::Abs(_, _) => 4,
+        Term::Abs(_, _, _) => 4,
         Term::App(f, _) => 5 + *f as u64,
     }
 }
