@@ -78,7 +78,7 @@ fn waiting_at_head(store: &Store<'_>, c: &Closure<'_>) -> Option<usize>
         Term::Name(_) => None,
         Term::Pair(_, _) => None,
         Term::App(_, _) => None,
-        Term::Abs(_, _) => None,
+        Term::Abs(_, _, _) => None,
         Term::Susp(_, x) => {
             let x = Var {
                 num: c.base + x.num,

@@ -62,7 +62,7 @@ fn look_at<'a>(store: &Store<'a>, b: Bare<'a>) -> HeadLook<'a>
         Term::Name(_) => HeadLook::Ends(None),
         Term::Pair(_, _) => HeadLook::Ends(None),
         Term::App(_, _) => HeadLook::Ends(None),
-        Term::Abs(_, _) => HeadLook::Ends(None),
+        Term::Abs(_, _, _) => HeadLook::Ends(None),
         Term::Susp(_, x) => {
             let x = Var {
                 num: b.base + x.num,
