@@ -5,7 +5,7 @@ use Rattle.ap_trees.specs.Symbols.{Sym, Ident, Open, Close}
 use Rattle.ap_trees.specs.Terms.{Term, Apply, argument_terms}
 use Rattle.ap_trees.specs.TermGrammar.{AreTerms}
 use Rattle.ap_trees.specs.TermReader.{read_term, word_term, application}
-use Rattle.ap_trees.specs.Goals.{Goal, Atom, Equation, Freshness}
+use Rattle.ap_trees.specs.Goals.{Atom, Equation, Freshness}
 use Rattle.ap_trees.proofs.Lists.{some_is}
 use Rattle.ap_trees.proofs.TypeLaws.{close_is}
 use Rattle.ap_trees.proofs.TermLaws.{term_sound, terms_sound, terms_only, closes}

@@ -10,20 +10,20 @@ use Rattle.ap_syntax.specs.GoalReader.{read_simple, read_conj, read_disj}
 
 -- two goals joined
 abbrev pub joining : Join → Goal → Goal → Goal
-joining joins.Both g h = Both g h
-joining joins.Either g h = Either g h
+joining joins.Both = Both
+joining joins.Either = Either
 
 -- the symbols after the mark between parts
 abbrev pub after_mark : Join → List Sym → Option (List Sym)
-after_mark joins.Both ts = after_comma ts
-after_mark joins.Either ts = after_semicolon ts
+after_mark joins.Both = after_comma
+after_mark joins.Either = after_semicolon
 
 -- one part
 abbrev pub read_part : Join → SymbolReader Goal → SymbolReader Goal
-read_part joins.Both read ts = read_simple read ts
-read_part joins.Either read ts = read_conj read ts
+read_part joins.Both = read_simple
+read_part joins.Either = read_conj
 
 -- one part or more
 abbrev pub read_joined : Join → SymbolReader Goal → SymbolReader Goal
-read_joined joins.Both read ts = read_conj read ts
-read_joined joins.Either read ts = read_disj read ts
+read_joined joins.Both = read_conj
+read_joined joins.Either = read_disj

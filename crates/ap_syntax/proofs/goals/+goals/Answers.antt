@@ -6,7 +6,7 @@ use Rattle.ap_trees.specs.Trees.{goal_of_tree, goals_of}
 use Rattle.ap_trees.proofs.Lists.{separated_first, further_on, further_fails, fails_on, gives_as}
 use Rattle.ap_syntax.specs.GoalReader.{read_goal}
 use Rattle.ap_syntax.specs.Joins.{after_mark, read_part}
-use Rattle.ap_syntax.proofs.Joins.{joined_alone, joined_fails, no_parts, no_whole, joined_whole}
+use Rattle.ap_syntax.proofs.Joins.{rank_of, joined_alone, joined_fails, no_parts, no_whole, joined_whole}
 use Rattle.ap_syntax.proofs.GoalLaws.{part_shorter}
 use Rattle.ap_syntax.proofs.GoalSteps as steps
 use Rattle.ap_syntax.proofs.goals.+goals.Goals as goal
@@ -23,6 +23,12 @@ pub joined_goals-returns-in-None : goal.joined_goals-returns-in-None
 joined_goals-returns-in-None t c =
     let shorter = part_shorter c.args.join c.args.levels c.args.symbols.now _ _ c.in_ok-first.ensures in
     joined_alone c.args.join (read_goal c.args.levels) _ _ _ (omega (arith, shorter, length-map c.args.symbols.now symbol)) c.in_ok-first.ensures (sym c.in-None.ensures.value)
+
+pub part-joined_goals-requires : goal.part-joined_goals-requires
+part-joined_goals-requires t c =
+    let falls = c.decreases in
+    let either : rank_of c.args.join ≡ 4 = ap rank_of c.in-Either.is in
+    (omega (arith, falls, either), tt)
 
 pub longer_goal-returns-in_err-parts : goal.longer_goal-returns-in_err-parts
 longer_goal-returns-in_err-parts t c =

@@ -13,4 +13,4 @@ loop-part-preserved c =
     let parts : goals_of c.loop-part.parts.items ≡ front ++ goal_of_tree c.in-Some-pop.part ∷ [] =
     ap goals_of c.in-Some-pop.ensures.items ∙ map-append goal_of_tree c.pop-in-loop-part.new.self.items (c.in-Some-pop.part ∷ []) in
     let before : joined_by op ((front ++ goal_of_tree c.in-Some-pop.part ∷ []) ++ goal_of_tree c.loop-part.whole ∷ []) ≡ joined_by op (goals_of c.args.parts.items) = rw parts at c.loop-part.invariant in
-    rw c.in_ok-joined.ensures (sym (joined_end op front (goal_of_tree c.in-Some-pop.part) (goal_of_tree c.loop-part.whole)) ∙ (rw append_assoc at before))
+    rw c.in_ok-whole.ensures (sym (joined_end op front (goal_of_tree c.in-Some-pop.part) (goal_of_tree c.loop-part.whole)) ∙ (rw append_assoc at before))
