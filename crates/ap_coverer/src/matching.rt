@@ -120,8 +120,16 @@ fn match_term(
                 rest = part;
                 there = argument;
             }
-            (Term::Abs(a, body), Term::Abs(b, inside)) => {
-                go_below(swaps, *a, *b, &mut inner)?;
+            (Term::Abs(sort, num, body), Term::Abs(other_sort, other_num, inside)) => {
+                let a = Name {
+                    sort: *sort,
+                    num: *num,
+                };
+                let b = Name {
+                    sort: *other_sort,
+                    num: *other_num,
+                };
+                go_below(swaps, a, b, &mut inner)?;
                 rest = body;
                 there = inside;
             }

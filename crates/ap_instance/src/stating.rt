@@ -18,7 +18,7 @@ use ap_defs::goals::Local;
 use ap_defs::memory::Memory;
 use ap_defs::outcomes::Answer;
 use ap_defs::spines::TermLayer;
-use ap_defs::terms::Term;
+use ap_defs::terms::{Name, Term};
 use ap_defs::walks::{TermFrame, TermPart, leave_term};
 use ap_types::Picker;
 use std::alloc::Global;
@@ -59,8 +59,12 @@ fn stated_part<'a>(
             frames.push(TermFrame::In(TermLayer::App(*f)))?;
             Ok(TermPart::Left(argument))
         }
-        Term::Abs(a, body) => {
-            let settled = names.settled(*a)?;
+        Term::Abs(sort, num, body) => {
+            let a = Name {
+                sort: *sort,
+                num: *num,
+            };
+            let settled = names.settled(a)?;
             frames.push(TermFrame::In(TermLayer::Abs(settled)))?;
             Ok(TermPart::Left(body))
         }

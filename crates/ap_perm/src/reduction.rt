@@ -62,8 +62,12 @@ fn collect<L: Look>(first: Pending<'_>, look: &L, conds: &mut Vec<Cond>) -> Resu
                 left.push(p.within(u))?;
             }
             Term::App(_, argument) => left.push(p.within(argument))?,
-            Term::Abs(b, body) => {
-                if p.name != numbered(p.base, *b) {
+            Term::Abs(sort, num, body) => {
+                let b = Name {
+                    sort: *sort,
+                    num: *num,
+                };
+                if p.name != numbered(p.base, b) {
                     left.push(p.within(body))?;
                 }
             }

@@ -7,6 +7,7 @@ use Rattle.ap_defs.specs.declared.terms.Cond.{Cond}
 use Rattle.ap_perm.specs.Reduction.{added, pending_term}
 use Rattle.ap_perm.proofs.PendingLemmas.{added_none, all_left, fewer, fewer_part, kept, last_refuted, one_added, problem_of, two_added}
 use Rattle.ap_perm.proofs.StepLemmas.{abs_added, abs_problem, app_problem, bound_problem, name_added, name_refuted, pair_problem, problem, unbound_problem, unit_added}
+use Rattle.ap_defs.specs.declared.terms.Name.{Name}
 use Rattle.ap_perm.proofs.VisitLemmas.{visits, visits_abs, visits_app, visits_bound, visits_pair, visits_some}
 use Rattle.ap_perm.proofs.reduction.collect.Goals as goal
 
@@ -88,23 +89,25 @@ collecting-preserved-in-Continue-branch-4 g c =
 
 pub collecting-smaller-in-Continue-branch-5 : goal.collecting-smaller-in-Continue-branch-5
 collecting-smaller-in-Continue-branch-5 g c =
-    let e : (pending_term c.in-Some.p) ≡ abs (rename_name c.in-Some.p.base c.in-Abs.b) (rename_term c.in-Some.p.base (term_of c.deref-then-ne.result.now)) =
-    ap (λ z. rename_term c.in-Some.p.base (term_of z)) c.in-Abs.is ∙ ap (λ u. abs (rename_name c.in-Some.p.base c.in-Abs.b) (rename_term c.in-Some.p.base (term_of u))) (sym c.deref-then-ne.ensures) in
+    let B : Name = record { sort = c.in-Abs.sort; num = c.in-Abs.num } in
+    let e : (pending_term c.in-Some.p) ≡ abs (rename_name c.in-Some.p.base B) (rename_term c.in-Some.p.base (term_of c.deref-then-ne.result.now)) =
+    ap (λ z. rename_term c.in-Some.p.base (term_of z)) c.in-Abs.is ∙ ap (λ u. abs (rename_name c.in-Some.p.base B) (rename_term c.in-Some.p.base (term_of u))) (sym c.deref-then-ne.ensures) in
     let w = c.within-then-ne.result in
     let rest = c.push-then-ne.new.self.items in
-    let b = visits_abs (g.L.Look.bound c.args.look.now) (g.L.Look.rank c.args.look.now) (g.met.L.Look.ranked c.args.look.now) (rename_name c.in-Some.p.base c.in-Abs.b) (rename_term c.in-Some.p.base (term_of c.deref-then-ne.result.now)) in
-    let d : visits (g.L.Look.bound c.args.look.now) (g.L.Look.rank c.args.look.now) (pending_term c.in-Some.p) ≡ visits (g.L.Look.bound c.args.look.now) (g.L.Look.rank c.args.look.now) (abs (rename_name c.in-Some.p.base c.in-Abs.b) (rename_term c.in-Some.p.base (term_of c.deref-then-ne.result.now))) = ap (visits (g.L.Look.bound c.args.look.now) (g.L.Look.rank c.args.look.now)) e in
+    let b = visits_abs (g.L.Look.bound c.args.look.now) (g.L.Look.rank c.args.look.now) (g.met.L.Look.ranked c.args.look.now) (rename_name c.in-Some.p.base B) (rename_term c.in-Some.p.base (term_of c.deref-then-ne.result.now)) in
+    let d : visits (g.L.Look.bound c.args.look.now) (g.L.Look.rank c.args.look.now) (pending_term c.in-Some.p) ≡ visits (g.L.Look.bound c.args.look.now) (g.L.Look.rank c.args.look.now) (abs (rename_name c.in-Some.p.base B) (rename_term c.in-Some.p.base (term_of c.deref-then-ne.result.now))) = ap (visits (g.L.Look.bound c.args.look.now) (g.L.Look.rank c.args.look.now)) e in
     fewer_part (g.L.Look.bound c.args.look.now) (g.L.Look.rank c.args.look.now) (g.met.L.Look.ranked c.args.look.now) c.pop.new.self.items (w ∷ []) rest c.collecting.left.items c.in-Some.p c.in-Some.ensures.items c.in_ok-push-in-Abs.ensures.items w (rename_term c.in-Some.p.base (term_of c.deref-then-ne.result.now)) refl c.within-then-ne.ensures.term (omega (arith, b, d))
 
 pub collecting-preserved-in-Continue-branch-5 : goal.collecting-preserved-in-Continue-branch-5
 unfolding name_eq
 collecting-preserved-in-Continue-branch-5 g c =
-    let i : name_eq c.in-Some.p.name (rename_name c.in-Some.p.base c.in-Abs.b) ≡ false = search rules in
-    let e : (pending_term c.in-Some.p) ≡ abs (rename_name c.in-Some.p.base c.in-Abs.b) (rename_term c.in-Some.p.base (term_of c.deref-then-ne.result.now)) =
-    ap (λ z. rename_term c.in-Some.p.base (term_of z)) c.in-Abs.is ∙ ap (λ u. abs (rename_name c.in-Some.p.base c.in-Abs.b) (rename_term c.in-Some.p.base (term_of u))) (sym c.deref-then-ne.ensures) in
+    let B : Name = record { sort = c.in-Abs.sort; num = c.in-Abs.num } in
+    let i : name_eq c.in-Some.p.name (rename_name c.in-Some.p.base B) ≡ false = search rules in
+    let e : (pending_term c.in-Some.p) ≡ abs (rename_name c.in-Some.p.base B) (rename_term c.in-Some.p.base (term_of c.deref-then-ne.result.now)) =
+    ap (λ z. rename_term c.in-Some.p.base (term_of z)) c.in-Abs.is ∙ ap (λ u. abs (rename_name c.in-Some.p.base B) (rename_term c.in-Some.p.base (term_of u))) (sym c.deref-then-ne.ensures) in
     let w = c.within-then-ne.result in
     let rest = c.push-then-ne.new.self.items in
-    let h : problem (g.L.Look.bound c.args.look.now) (g.L.Look.rank c.args.look.now) (g.met.L.Look.ranked c.args.look.now) c.in-Some.p.name (pending_term c.in-Some.p) ≡ problem_of (g.L.Look.bound c.args.look.now) (g.L.Look.rank c.args.look.now) (g.met.L.Look.ranked c.args.look.now) w = abs_problem (g.L.Look.bound c.args.look.now) (g.L.Look.rank c.args.look.now) (g.met.L.Look.ranked c.args.look.now) c.in-Some.p.name (rename_name c.in-Some.p.base c.in-Abs.b) (rename_term c.in-Some.p.base (term_of c.deref-then-ne.result.now)) (pending_term c.in-Some.p) e i ∙ ap₂ (problem (g.L.Look.bound c.args.look.now) (g.L.Look.rank c.args.look.now) (g.met.L.Look.ranked c.args.look.now)) (sym c.within-then-ne.ensures.name) (sym c.within-then-ne.ensures.term) in
+    let h : problem (g.L.Look.bound c.args.look.now) (g.L.Look.rank c.args.look.now) (g.met.L.Look.ranked c.args.look.now) c.in-Some.p.name (pending_term c.in-Some.p) ≡ problem_of (g.L.Look.bound c.args.look.now) (g.L.Look.rank c.args.look.now) (g.met.L.Look.ranked c.args.look.now) w = abs_problem (g.L.Look.bound c.args.look.now) (g.L.Look.rank c.args.look.now) (g.met.L.Look.ranked c.args.look.now) c.in-Some.p.name (rename_name c.in-Some.p.base B) (rename_term c.in-Some.p.base (term_of c.deref-then-ne.result.now)) (pending_term c.in-Some.p) e i ∙ ap₂ (problem (g.L.Look.bound c.args.look.now) (g.L.Look.rank c.args.look.now) (g.met.L.Look.ranked c.args.look.now)) (sym c.within-then-ne.ensures.name) (sym c.within-then-ne.ensures.term) in
     kept (g.L.Look.bound c.args.look.now) (g.L.Look.rank c.args.look.now) (g.met.L.Look.ranked c.args.look.now) c.pop.new.self.items (w ∷ []) rest c.collecting.left.items c.in-Some.p c.in-Some.ensures.items c.in_ok-push-in-Abs.ensures.items c.collecting.conds.items c.collecting.conds.items _
     (one_added (g.L.Look.bound c.args.look.now) (g.L.Look.rank c.args.look.now) (g.met.L.Look.ranked c.args.look.now) c.in-Some.p w c.collecting.conds.items h) c.collecting.invariant
 
@@ -114,9 +117,10 @@ collecting-smaller-else-ne g c = fewer (g.L.Look.bound c.args.look.now) (g.L.Loo
 pub collecting-preserved-else-ne : goal.collecting-preserved-else-ne
 unfolding name_eq
 collecting-preserved-else-ne g c =
-    let e : name_eq c.in-Some.p.name (rename_name c.in-Some.p.base c.in-Abs.b) ≡ true = search rules in
+    let B : Name = record { sort = c.in-Abs.sort; num = c.in-Abs.num } in
+    let e : name_eq c.in-Some.p.name (rename_name c.in-Some.p.base B) ≡ true = search rules in
     kept (g.L.Look.bound c.args.look.now) (g.L.Look.rank c.args.look.now) (g.met.L.Look.ranked c.args.look.now) c.pop.new.self.items [] c.pop.new.self.items c.collecting.left.items c.in-Some.p c.in-Some.ensures.items (sym (append-nil c.pop.new.self.items)) c.collecting.conds.items c.collecting.conds.items _
-    (sym (abs_added (g.L.Look.bound c.args.look.now) (g.L.Look.rank c.args.look.now) (g.met.L.Look.ranked c.args.look.now) c.in-Some.p.name (rename_name c.in-Some.p.base c.in-Abs.b) (rename_term c.in-Some.p.base (term_of c.in-Abs.body.value)) (pending_term c.in-Some.p) c.collecting.conds.items (ap (λ z. rename_term c.in-Some.p.base (term_of z)) c.in-Abs.is) e)) c.collecting.invariant
+    (sym (abs_added (g.L.Look.bound c.args.look.now) (g.L.Look.rank c.args.look.now) (g.met.L.Look.ranked c.args.look.now) c.in-Some.p.name (rename_name c.in-Some.p.base B) (rename_term c.in-Some.p.base (term_of body.value)) (pending_term c.in-Some.p) c.collecting.conds.items (ap (λ z. rename_term c.in-Some.p.base (term_of z)) c.in-Abs.is) e)) c.collecting.invariant
 
 pub collecting-smaller-in-Continue-branch-6 : goal.collecting-smaller-in-Continue-branch-6
 collecting-smaller-in-Continue-branch-6 g c = fewer (g.L.Look.bound c.args.look.now) (g.L.Look.rank c.args.look.now) (g.met.L.Look.ranked c.args.look.now) c.pop.new.self.items [] c.pop.new.self.items c.collecting.left.items c.in-Some.p c.in-Some.ensures.items (sym (append-nil c.pop.new.self.items)) (visits_some (g.L.Look.bound c.args.look.now) (g.L.Look.rank c.args.look.now) (g.met.L.Look.ranked c.args.look.now) (pending_term c.in-Some.p))
