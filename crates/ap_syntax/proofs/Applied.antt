@@ -1,5 +1,5 @@
 -- Goals that begin with a word and a bracket: their terms are read once.
-use Rattle.std.proofs.Common.{◌≡◌, ℕ, suc, ◌+◌, List, ◌∷◌, length, Option, None, Some, refl, ap, sym, ◌∙◌, arith, subst}
+use Rattle.std.proofs.Common.{◌≡◌, ℕ, suc, ◌+◌, List, ◌∷◌, length, Option, None, Some, refl, arith, subst}
 use Rattle.ap_trees.specs.Readers.{separated, after_comma, after_close}
 use Rattle.ap_trees.specs.Symbols.{Sym, Ident, Open, Close}
 use Rattle.ap_trees.specs.Terms.{Term, Apply, argument_terms}

@@ -1,5 +1,5 @@
 -- One step of reading a term: what is read of it where its parts are.
-use Rattle.std.proofs.Common.{◌≡◌, ◌<◌, ℕ, List, [], ◌∷◌, length, Option, None, Some, refl, ap, ◌∙◌, arith}
+use Rattle.std.proofs.Common.{◌≡◌, ◌<◌, ℕ, List, length, None, Some, refl, ap, ◌∙◌}
 use Rattle.std.proofs.lemmas.List.{length-map}
 use Rattle.ap_trees.specs.declared.symbols.Symbol.{Symbol}
 use Rattle.ap_trees.specs.Readers.{SymbolReader, separated, after_comma, after_lambda, after_open, after_close, after_close_list, after_bar}

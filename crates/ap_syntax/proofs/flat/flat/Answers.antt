@@ -1,4 +1,4 @@
-use Rattle.std.proofs.Common.{◌≡◌, ap, ◌∙◌}
+use Rattle.std.proofs.Common.{ap, ◌∙◌}
 use Rattle.ap_trees.specs.Symbols.{syms}
 use Rattle.ap_trees.proofs.Lists.{gives_as}
 use Rattle.ap_syntax.specs.GoalReader.{read_flat, applied_goal}
