@@ -1,9 +1,10 @@
 //! Terms with all bindings carried out, in which the list of each suspension is canonical.
 
-ghost use Rattle.std.specs.Prelude.{◌≡◌, ◌≤◌, ◌<◌, ◌+◌, [], true, IfOk};
+ghost use Rattle.std.specs.Prelude.{◌≡◌, ◌≤◌, ◌<◌, ◌+◌, ◌*◌, [], true, IfOk, OnOk};
 ghost use Rattle.ap_defs.specs.Canonical.{canonical, canonical_term};
 ghost use Rattle.ap_defs.specs.Substitution.{under};
-ghost use Rattle.ap_defs.specs.Terms.{app, term_of, unit};
+ghost use Rattle.ap_defs.specs.Terms.{NominalTerm, app, pair, term_of, unit};
+ghost use Rattle.ap_defs.specs.Unification.{size};
 ghost use Rattle.ap_perm.specs.Closures.{closure_term, lent_term};
 ghost use Rattle.ap_store.specs.Heads.{IsHeadUnbound};
 ghost use Rattle.ap_store.specs.Views.{bindings_of, meaning_in};
@@ -21,11 +22,14 @@ use ap_store::store::Store;
 use std::alloc::Global;
 
 /// What stands round the part of a term that is made: the part is right of a term that is made, left of
-/// one that is still to be made, the argument of a constructor, or the body of an abstraction.
+/// one that is still to be made, the argument of a constructor, or the body of an abstraction. A pair that is
+/// the argument of a constructor makes one round with it, as the cell of a list does.
 #[derive(Drop)]
 pub enum Round<'a> {
     RightOf(Term),
     LeftOf(Closure<'a>),
+    RightIn(u32, Term),
+    LeftIn(u32, Closure<'a>),
     App(u32),
     Abs(Name),
 }
@@ -76,6 +80,35 @@ fn constant(alloc: Global, f: u32) -> Result<Term, Memory>
     Ok(Term::App(f, Box::new(alloc, Term::Unit)?))
 }
 
+/// A pair of terms.
+fn paired(alloc: Global, left: Term, right: Term) -> Result<Term, Memory>
+    ensures { IfOk result (λ t. term_of t ≡ pair (term_of left) (term_of right)) }
+{
+    let left = Box::new(alloc, left)?;
+    let right = Box::new(alloc, right)?;
+    Ok(Term::Pair(left, right))
+}
+
+/// Keeps what stands right of the part that is made next, in a round with the constructor of which the pair of
+/// both is the argument, if it is one.
+#[tactic(auto, using(crate::proofs::ClosedLemmas::closed_within_last, crate::proofs::ClosedLemmas::rounds_work_last))]
+fn keep_right<'a>(rounds: &mut Vec<Round<'a>>, right: Closure<'a>) -> Result<(), Memory>
+    ensures same { OnOk result ((s : Store) (t : NominalTerm) → closed_within s rounds.new.items t
+        ≡ closed_within s rounds.old.items (pair t (canonical_term (meaning_in s right.entry)))) }
+    ensures work { OnOk result ((s : Store) → rounds_work s rounds.new.items
+        ≤ rounds_work s rounds.old.items + (2 + 3 * size (meaning_in s right.entry))) }
+{
+    match rounds.pop() {
+        None => rounds.push(Round::LeftOf(right))?,
+        Some(Round::App(f)) => rounds.push(Round::LeftIn(f, right))?,
+        Some(round) => {
+            rounds.push(round)?;
+            rounds.push(Round::LeftOf(right))?;
+        }
+    }
+    Ok(())
+}
+
 /// Goes into a part that is still to be made: what stands round the next one is kept, unless this one
 /// has no parts.
 fn go_in<'a>(
@@ -101,7 +134,7 @@ fn go_in<'a>(
             Ok(Part::Made(Term::Susp(waiting, x)))
         }
         Opened::Pair(left, right) => {
-            rounds.push(Round::LeftOf(right))?;
+            keep_right(rounds, right)?;
             Ok(Part::Left(left))
         }
         Opened::App(f, argument) => {
@@ -136,13 +169,17 @@ fn go_out<'a>(
         < rounds_work s rounds.old.items + round_work s round.entry) }
 {
     match round {
-        Round::RightOf(left) => {
-            let left = Box::new(alloc, left)?;
-            let right = Box::new(alloc, made)?;
-            Ok(Part::Made(Term::Pair(left, right)))
-        }
+        Round::RightOf(left) => Ok(Part::Made(paired(alloc, left, made)?)),
         Round::LeftOf(right) => {
             rounds.push(Round::RightOf(made))?;
+            Ok(Part::Left(right))
+        }
+        Round::RightIn(f, left) => {
+            let argument = paired(alloc, left, made)?;
+            Ok(Part::Made(Term::App(f, Box::new(alloc, argument)?)))
+        }
+        Round::LeftIn(f, right) => {
+            rounds.push(Round::RightIn(f, made))?;
             Ok(Part::Left(right))
         }
         Round::App(f) => Ok(Part::Made(Term::App(f, Box::new(alloc, made)?))),
