@@ -120,7 +120,7 @@ collecting-preserved-else-ne g c =
     let B : Name = record { sort = c.in-Abs.sort; num = c.in-Abs.num } in
     let e : name_eq c.in-Some.p.name (rename_name c.in-Some.p.base B) ≡ true = search rules in
     kept (g.L.Look.bound c.args.look.now) (g.L.Look.rank c.args.look.now) (g.met.L.Look.ranked c.args.look.now) c.pop.new.self.items [] c.pop.new.self.items c.collecting.left.items c.in-Some.p c.in-Some.ensures.items (sym (append-nil c.pop.new.self.items)) c.collecting.conds.items c.collecting.conds.items _
-    (sym (abs_added (g.L.Look.bound c.args.look.now) (g.L.Look.rank c.args.look.now) (g.met.L.Look.ranked c.args.look.now) c.in-Some.p.name (rename_name c.in-Some.p.base B) (rename_term c.in-Some.p.base (term_of body.value)) (pending_term c.in-Some.p) c.collecting.conds.items (ap (λ z. rename_term c.in-Some.p.base (term_of z)) c.in-Abs.is) e)) c.collecting.invariant
+    (sym (abs_added (g.L.Look.bound c.args.look.now) (g.L.Look.rank c.args.look.now) (g.met.L.Look.ranked c.args.look.now) c.in-Some.p.name (rename_name c.in-Some.p.base B) (rename_term c.in-Some.p.base (term_of c.in-Abs.body.value)) (pending_term c.in-Some.p) c.collecting.conds.items (ap (λ z. rename_term c.in-Some.p.base (term_of z)) c.in-Abs.is) e)) c.collecting.invariant
 
 pub collecting-smaller-in-Continue-branch-6 : goal.collecting-smaller-in-Continue-branch-6
 collecting-smaller-in-Continue-branch-6 g c = fewer (g.L.Look.bound c.args.look.now) (g.L.Look.rank c.args.look.now) (g.met.L.Look.ranked c.args.look.now) c.pop.new.self.items [] c.pop.new.self.items c.collecting.left.items c.in-Some.p c.in-Some.ensures.items (sym (append-nil c.pop.new.self.items)) (visits_some (g.L.Look.bound c.args.look.now) (g.L.Look.rank c.args.look.now) (g.met.L.Look.ranked c.args.look.now) (pending_term c.in-Some.p))
