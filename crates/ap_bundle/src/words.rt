@@ -4,7 +4,7 @@ ghost use Rattle.std.specs.Prelude.{◌≡◌};
 ghost use Rattle.ap_bundle.specs.Words as spec;
 
 /// A letter that begins a term or a type in prefix form.
-#[derive(Clone, Copy, PartialEq, Eq)]
+#[derive(Clone, Copy, PartialEq, Eq, Hash)]
 pub enum Letter {
     /// `u`, unit
     U,
@@ -25,7 +25,7 @@ pub enum Letter {
 }
 
 /// The word that begins the line of a node.
-#[derive(Clone, Copy, PartialEq, Eq)]
+#[derive(Clone, Copy, PartialEq, Eq, Hash)]
 pub enum NodeWord {
     Atom,
     Eq,
@@ -39,7 +39,7 @@ pub enum NodeWord {
 }
 
 /// The word that begins a line of another kind.
-#[derive(Clone, Copy, PartialEq, Eq)]
+#[derive(Clone, Copy, PartialEq, Eq, Hash)]
 pub enum Head {
     Text,
     Terms,
@@ -62,7 +62,7 @@ pub enum Head {
 }
 
 /// A word of a line.
-#[derive(Clone, Copy, PartialEq, Eq)]
+#[derive(Clone, Copy, PartialEq, Eq, Hash)]
 pub enum Word {
     Number(u64),
     Letter(Letter),
