@@ -2,14 +2,14 @@
 ghost use Rattle.std.specs.Prelude.{◌≡◌, ◌≤◌, length};
 ghost use Rattle.ap_defs.specs.Limits.{size_limit};
 
-use crate::messages::{Message, Piece, add_message};
-use crate::remarks::marks::{Mark, Scanner, text_at};
-use crate::remarks::parts::Part;
-use crate::remarks::places::put_arguments;
-use crate::remarks::singles::single_variables;
-use crate::remarks::uses::{Call, Uses};
-use crate::spots::Span;
+use crate::marks::{Mark, Scanner, text_at};
+use crate::parts::Part;
+use crate::places::put_arguments;
+use crate::singles::single_variables;
+use crate::uses::{Call, Uses};
 use ap_defs::memory::Memory;
+use ap_located::messages::{Message, Piece, add_message};
+use ap_located::spots::Span;
 use std::alloc::Global;
 
 /// The warnings that are written, at most.

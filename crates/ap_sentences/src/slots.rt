@@ -1,9 +1,9 @@
 //! The types of the parts of an item's nodes, by their numbers, and the first place at which they differ.
 ghost use Rattle.std.specs.Prelude.{◌≡◌};
 
-use crate::nodes::{Form, Node};
-use crate::sentences::declared::{Entry, tuple_shape};
-use crate::sentences::types::{Shape, Types};
+use crate::declared::{Entry, tuple_shape};
+use crate::types::{Shape, Types};
+use ap_located::nodes::{Form, Node};
 use std::alloc::Global;
 
 /// Why no types fit.

@@ -1,12 +1,12 @@
 //! A text with a faulty item, and what the items before that declare.
 ghost use Rattle.std.specs.Prelude.{◌≡◌};
 
-use crate::characters::valid_front;
-use crate::items::{Range, Space, declared_word, line_at, span_between, text_at, tokens_in};
-use crate::messages::{Message, Piece};
-use crate::nearest::Nearest;
-use crate::sentences::declared::Entry;
+use crate::declared::Entry;
 use ap_lexer::Token;
+use ap_located::characters::valid_front;
+use ap_located::items::{Range, Space, declared_word, line_at, span_between, text_at, tokens_in};
+use ap_located::messages::{Message, Piece};
+use ap_located::nearest::Nearest;
 
 /// Other words than so many are not compared with a misspelt one.
 pub const COMPARED: usize = 20_000;

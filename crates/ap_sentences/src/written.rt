@@ -1,10 +1,10 @@
 //! Types as they are written.
 ghost use Rattle.std.specs.Prelude.{◌≡◌};
 
-use crate::messages::{Message, Piece};
-use crate::sentences::declared::Words;
-use crate::sentences::types::{Shape, Types};
+use crate::declared::Words;
+use crate::types::{Shape, Types};
 use ap_defs::memory::Memory;
+use ap_located::messages::{Message, Piece};
 use std::alloc::Global;
 
 /// A part of a type that is still to be written.

@@ -1,6 +1,6 @@
 //! Words that other languages have from the start, and what is said of them.
 
-use crate::items::Space;
+use ap_located::items::Space;
 
 const WRITING: &str = "goals write nothing: what is written are the answers of the queries";
 

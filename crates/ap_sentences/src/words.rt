@@ -1,14 +1,14 @@
 //! What is said of words that aren't declared, are declared twice, or have another number of arguments.
 ghost use Rattle.std.specs.Prelude.{◌≡◌};
 
-use crate::items::{Space, declared_word, span_at, text_at, tokens_in};
-use crate::messages::{Message, Piece};
-use crate::nodes::{Form, Node, node_at};
-use crate::sentences::declared::{Entry, Words};
-use crate::sentences::known::known_word;
-use crate::sentences::subject::{Subject, later_line, nearest_entry, note_declared, space_word};
+use crate::declared::{Entry, Words};
+use crate::known::known_word;
+use crate::subject::{Subject, later_line, nearest_entry, note_declared, space_word};
 use ap_defs::faults::TypeKind;
 use ap_lexer::Token;
+use ap_located::items::{Space, declared_word, span_at, text_at, tokens_in};
+use ap_located::messages::{Message, Piece};
+use ap_located::nodes::{Form, Node, node_at};
 use std::alloc::Global;
 
 /// What is wrong with a word: the kind, its token, the space in which it is looked for, and how many arguments

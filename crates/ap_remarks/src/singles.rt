@@ -1,7 +1,7 @@
 //! Variables that stand once.
 ghost use Rattle.std.specs.Prelude.{◌≡◌};
 
-use crate::remarks::marks::{Kind, Mark, text_at};
+use crate::marks::{Kind, Mark, text_at};
 use ap_defs::memory::Memory;
 use indexmap::IndexSet;
 use std::alloc::Global;

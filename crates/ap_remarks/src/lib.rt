@@ -1,6 +1,7 @@
 //! What is said beside a report: warnings about its text, and what helps where branches were cut or stuck.
 //!
 //! All of it takes time linear in the text, and none of it is part of the report.
+#![tactic(auto)]
 
 mod marks;
 mod parts;

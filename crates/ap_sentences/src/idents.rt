@@ -1,9 +1,9 @@
 //! The names and variables of an item.
 ghost use Rattle.std.specs.Prelude.{◌≡◌};
 
-use crate::items::text_at;
-use crate::nodes::{Form, LEVELS, Node, node_at};
 use ap_lexer::Token;
+use ap_located::items::text_at;
+use ap_located::nodes::{Form, LEVELS, Node, node_at};
 use indexmap::IndexSet;
 use std::alloc::Global;
 

@@ -1,15 +1,15 @@
 //! What is said where an item breaks the name restriction.
 ghost use Rattle.std.specs.Prelude.{◌≡◌};
 
-use crate::items::{span_at, text_at};
-use crate::messages::{Message, Piece};
-use crate::nodes::{Form, LEVELS, Node, node_at};
-use crate::sentences::closures::Question;
-use crate::sentences::subject::say_word;
-use crate::sentences::types::Shape;
-use crate::sentences::typing::Typing;
+use crate::closures::Question;
+use crate::subject::say_word;
+use crate::types::Shape;
+use crate::typing::Typing;
 use ap_defs::memory::Memory;
 use ap_lexer::Token;
+use ap_located::items::{span_at, text_at};
+use ap_located::messages::{Message, Piece};
+use ap_located::nodes::{Form, LEVELS, Node, node_at};
 use indexmap::IndexSet;
 use std::alloc::Global;
 

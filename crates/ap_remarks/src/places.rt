@@ -4,7 +4,7 @@
 //! has a goal behind it.
 ghost use Rattle.std.specs.Prelude.{◌≡◌};
 
-use crate::remarks::marks::{Kind, Mark, kind_at};
+use crate::marks::{Kind, Mark, kind_at};
 use ap_defs::memory::Memory;
 use std::alloc::Global;
 

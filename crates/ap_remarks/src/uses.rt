@@ -1,9 +1,9 @@
 //! Which predicates have clauses, and with what they are called.
 ghost use Rattle.std.specs.Prelude.{◌≡◌};
 
-use crate::remarks::marks::{Kind, Mark, Scanner, kind_at, text_at};
-use crate::remarks::parts::{Part, declares, is_clause};
-use crate::remarks::places::{Finder, put_arguments};
+use crate::marks::{Kind, Mark, Scanner, kind_at, text_at};
+use crate::parts::{Part, declares, is_clause};
+use crate::places::{Finder, put_arguments};
 use ap_defs::memory::Memory;
 use indexmap::IndexSet;
 use std::alloc::Global;

@@ -1,12 +1,12 @@
 //! What the items before a faulty one declare.
 ghost use Rattle.std.specs.Prelude.{◌≡◌};
 
-use crate::items::{Range, Space, declared_word, line_at, text_at, tokens_in};
-use crate::nodes::{Form, Node, first_part, node_at};
-use crate::reader::read_item;
-use crate::sentences::types::{Shape, Types};
+use crate::types::{Shape, Types};
 use ap_defs::memory::Memory;
 use ap_lexer::Token;
+use ap_located::items::{Range, Space, declared_word, line_at, text_at, tokens_in};
+use ap_located::nodes::{Form, Node, first_part, node_at};
+use ap_located::reader::read_item;
 use indexmap::IndexSet;
 use std::alloc::Global;
 

@@ -2,13 +2,13 @@
 ghost use Rattle.std.specs.Prelude.{◌≡◌, ◌≤◌, length};
 ghost use Rattle.ap_defs.specs.Limits.{size_limit};
 
-use crate::items::{declared_word, ranges_of, span_between, text_at, tokens_in};
-use crate::messages::{Message, Piece, add_message};
-use crate::nodes::{Form, Node, node_at};
-use crate::reader::read_item;
-use crate::remarks::tally::Tally;
+use crate::tally::Tally;
 use ap_defs::memory::Memory;
 use ap_lexer::{LexError, Token, lex};
+use ap_located::items::{declared_word, ranges_of, span_between, text_at, tokens_in};
+use ap_located::messages::{Message, Piece, add_message};
+use ap_located::nodes::{Form, Node, node_at};
+use ap_located::reader::read_item;
 use std::alloc::Global;
 
 /// The goals that are shown, at most.

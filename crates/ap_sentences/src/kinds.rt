@@ -1,17 +1,17 @@
 //! What is said where more than one choice of types fits, or a variable has a type that no term has.
 ghost use Rattle.std.specs.Prelude.{◌≡◌};
 
-use crate::items::{span_at, text_at};
-use crate::messages::{Message, Piece};
-use crate::nodes::{Node, node_at};
-use crate::sentences::closures::Question;
-use crate::sentences::declared::{Entry, Words};
-use crate::sentences::idents::Ident;
-use crate::sentences::subject::{Subject, say_declared, say_word};
-use crate::sentences::types::{Shape, Types};
-use crate::sentences::typing::Typing;
-use crate::sentences::written::say_type;
+use crate::closures::Question;
+use crate::declared::{Entry, Words};
+use crate::idents::Ident;
+use crate::subject::{Subject, say_declared, say_word};
+use crate::types::{Shape, Types};
+use crate::typing::Typing;
+use crate::written::say_type;
 use ap_defs::memory::Memory;
+use ap_located::items::{span_at, text_at};
+use ap_located::messages::{Message, Piece};
+use ap_located::nodes::{Node, node_at};
 use std::alloc::Global;
 
 /// Labels a variable or a name with what is known of its type.

@@ -1,6 +1,6 @@
 //! The clauses and queries of a text.
 
-use crate::remarks::marks::{Kind, Mark, kind_at};
+use crate::marks::{Kind, Mark, kind_at};
 
 /// A clause or a query: the place of its first byte and that of its `.`, whether it is a clause, and how many calls
 /// stand in the text up to its end.

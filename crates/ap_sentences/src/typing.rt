@@ -1,13 +1,13 @@
 //! The types of an item's parts, up to the first place at which they differ.
 ghost use Rattle.std.specs.Prelude.{◌≡◌};
 
-use crate::items::{Space, text_at};
-use crate::nodes::{Form, Node, node_at};
-use crate::sentences::declared::{Declared, Entry, Words};
-use crate::sentences::idents::{Ident, Idents};
-use crate::sentences::slots::{Cause, Slots};
-use crate::sentences::types::Shape;
+use crate::declared::{Declared, Entry, Words};
+use crate::idents::{Ident, Idents};
+use crate::slots::{Cause, Slots};
+use crate::types::Shape;
 use ap_lexer::{Token, TokenKind};
+use ap_located::items::{Space, text_at};
+use ap_located::nodes::{Form, Node, node_at};
 use std::alloc::Global;
 
 /// An item with the types of its parts. Where memory is wanting for one, that is lost, and they are not whole.

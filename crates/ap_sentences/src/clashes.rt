@@ -1,19 +1,19 @@
 //! What is said where no types fit.
 ghost use Rattle.std.specs.Prelude.{◌≡◌};
 
-use crate::items::{span_at, span_between, text_at};
-use crate::messages::{Message, Piece};
-use crate::nearest::Nearest;
-use crate::nodes::{Form, LEVELS, Node, node_at};
-use crate::sentences::declared::Entry;
-use crate::sentences::slots::{Cause, Clash};
-use crate::sentences::subject::{COMPARED, Subject, note_declared, say_declared};
-use crate::sentences::types::Shape;
-use crate::sentences::typing::{Typing, applied_space};
-use crate::sentences::written::say_kind;
-use crate::spots::spot_of;
+use crate::declared::Entry;
+use crate::slots::{Cause, Clash};
+use crate::subject::{COMPARED, Subject, note_declared, say_declared};
+use crate::types::Shape;
+use crate::typing::{Typing, applied_space};
+use crate::written::say_kind;
 use ap_defs::memory::Memory;
 use ap_lexer::Token;
+use ap_located::items::{span_at, span_between, text_at};
+use ap_located::messages::{Message, Piece};
+use ap_located::nearest::Nearest;
+use ap_located::nodes::{Form, LEVELS, Node, node_at};
+use ap_located::spots::spot_of;
 use std::alloc::Global;
 
 /// Says what a node is.

@@ -1,8 +1,8 @@
 //! What holds of data types by their constructors.
 ghost use Rattle.std.specs.Prelude.{◌≡◌};
 
-use crate::sentences::declared::{Entry, Words};
-use crate::sentences::types::{Parts, Shape, Types};
+use crate::declared::{Entry, Words};
+use crate::types::{Parts, Shape, Types};
 use ap_defs::memory::Memory;
 use std::alloc::Global;
 

@@ -1,20 +1,20 @@
 //! What is said of a fault of an item.
 
-use crate::grammar::explain_grammar;
-use crate::messages::Message;
-use crate::nesting::{explain_depth, explain_unended};
-use crate::nodes::Node;
-use crate::reader::read_item;
-use crate::sentences::clashes::explain_clash;
-use crate::sentences::declared::declared_by;
-use crate::sentences::kinds::{explain_empty, explain_open};
-use crate::sentences::names::{explain_binder, explain_head, explain_swap};
-use crate::sentences::subject::Subject;
-use crate::sentences::typing::{Typing, type_item};
-use crate::sentences::words::explain_word;
+use crate::clashes::explain_clash;
+use crate::declared::declared_by;
+use crate::kinds::{explain_empty, explain_open};
+use crate::names::{explain_binder, explain_head, explain_swap};
+use crate::subject::Subject;
+use crate::typing::{Typing, type_item};
+use crate::words::explain_word;
 use ap_defs::faults::{Fault, NameFault, NameKind, SyntaxKind, TypeKind};
 use ap_defs::memory::Memory;
 use ap_lexer::Token;
+use ap_located::grammar::explain_grammar;
+use ap_located::messages::Message;
+use ap_located::nesting::{explain_depth, explain_unended};
+use ap_located::nodes::Node;
+use ap_located::reader::read_item;
 use std::alloc::Global;
 
 /// The types of the parts of an item, with what the items before it declare.

@@ -1,7 +1,8 @@
 //! Sentences about the faults of an item: what a person needs to mend it.
 //!
 //! Which fault it is, the report says. What is said of it is found by reading the item again, with the
-//! places of its tokens; so this stands beside the reader and the typing, and promises safety alone.
+//! places of its tokens; so this crate stands beside the reader and the typing, and promises safety alone.
+#![tactic(auto)]
 
 mod clashes;
 mod closures;
