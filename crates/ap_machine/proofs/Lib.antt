@@ -3,6 +3,7 @@ pub mod BroughtLemmas
 pub mod ClosedLemmas
 pub mod GoalStackLemmas
 pub mod MachineLemmas
+pub mod OverLemmas
 pub mod SetLemmas
 pub mod TrackLemmas
 pub mod UnboundLemmas

@@ -1,9 +1,10 @@
 //! Terms with all bindings carried out, in which the list of each suspension is canonical.
 
-ghost use Rattle.std.specs.Prelude.{◌≡◌, ◌≤◌, ◌<◌, ◌+◌, [], true, IfOk};
+ghost use Rattle.std.specs.Prelude.{◌≡◌, ◌≤◌, ◌<◌, ◌+◌, ◌*◌, [], true, IfOk, OnOk};
 ghost use Rattle.ap_defs.specs.Canonical.{canonical, canonical_term};
 ghost use Rattle.ap_defs.specs.Substitution.{under};
-ghost use Rattle.ap_defs.specs.Terms.{app, term_of, unit};
+ghost use Rattle.ap_defs.specs.Terms.{NominalTerm, app, pair, term_of, unit};
+ghost use Rattle.ap_defs.specs.Unification.{size};
 ghost use Rattle.ap_perm.specs.Closures.{closure_term, lent_term};
 ghost use Rattle.ap_store.specs.Heads.{IsHeadUnbound};
 ghost use Rattle.ap_store.specs.Views.{bindings_of, meaning_in};
@@ -11,7 +12,7 @@ ghost use Rattle.ap_store.specs.declared.store.Store.{Store};
 ghost use Rattle.ap_machine.specs.declared.closing.Part.TheVariants as parts;
 ghost use Rattle.ap_machine.specs.Closed.{closed_part, closed_round, closed_within, part_work, round_work, rounds_work};
 
-use ap_defs::lists::List;
+use ap_defs::lists::Swaps;
 use ap_defs::memory::Memory;
 use ap_defs::terms::{Name, Swap, Term};
 use ap_perm::closures::{Closure, Lent, Opened};
@@ -21,11 +22,14 @@ use ap_store::store::Store;
 use std::alloc::Global;
 
 /// What stands round the part of a term that is made: the part is right of a term that is made, left of
-/// one that is still to be made, the argument of a constructor, or the body of an abstraction.
+/// one that is still to be made, the argument of a constructor, or the body of an abstraction. A pair that is
+/// the argument of a constructor makes one round with it, as the cell of a list does.
 #[derive(Drop)]
 pub enum Round<'a> {
     RightOf(Term),
     LeftOf(Closure<'a>),
+    RightIn(u32, Term),
+    LeftIn(u32, Closure<'a>),
     App(u32),
     Abs(Name),
 }
@@ -48,17 +52,17 @@ fn canonical_of(alloc: Global, swaps: Vec<Swap>) -> Result<Vec<Swap>, Memory>
 }
 
 /// What a closure stands for, with no bound variable at its head.
-fn headed<'a>(alloc: Global, store: &Store<'a>, c: Closure<'a>) -> Result<Closure<'a>, Memory>
+fn headed<'a>(store: &Store<'a>, c: Closure<'a>) -> Result<Closure<'a>, Memory>
     ensures term { IfOk result (λ d. meaning_in store.now d ≡ meaning_in store.now c.entry) }
     ensures head { IfOk result (λ d. IsHeadUnbound (bindings_of store.now) (closure_term d)) }
 {
     match c.term {
-        Term::Susp(_, _) => store.follow(alloc, c),
+        Term::Susp(_, _) => store.follow(c),
         Term::Unit => Ok(c),
         Term::Name(_) => Ok(c),
         Term::Pair(_, _) => Ok(c),
         Term::App(_, _) => Ok(c),
-        Term::Abs(_, _) => Ok(c),
+        Term::Abs(_, _, _) => Ok(c),
     }
 }
 
@@ -76,6 +80,35 @@ fn constant(alloc: Global, f: u32) -> Result<Term, Memory>
     Ok(Term::App(f, Box::new(alloc, Term::Unit)?))
 }
 
+/// A pair of terms.
+fn paired(alloc: Global, left: Term, right: Term) -> Result<Term, Memory>
+    ensures { IfOk result (λ t. term_of t ≡ pair (term_of left) (term_of right)) }
+{
+    let left = Box::new(alloc, left)?;
+    let right = Box::new(alloc, right)?;
+    Ok(Term::Pair(left, right))
+}
+
+/// Keeps what stands right of the part that is made next, in a round with the constructor of which the pair of
+/// both is the argument, if it is one.
+#[tactic(auto, using(crate::proofs::ClosedLemmas::closed_within_last, crate::proofs::ClosedLemmas::rounds_work_last))]
+fn keep_right<'a>(rounds: &mut Vec<Round<'a>>, right: Closure<'a>) -> Result<(), Memory>
+    ensures same { OnOk result ((s : Store) (t : NominalTerm) → closed_within s rounds.new.items t
+        ≡ closed_within s rounds.old.items (pair t (canonical_term (meaning_in s right.entry)))) }
+    ensures work { OnOk result ((s : Store) → rounds_work s rounds.new.items
+        ≤ rounds_work s rounds.old.items + (2 + 3 * size (meaning_in s right.entry))) }
+{
+    match rounds.pop() {
+        None => rounds.push(Round::LeftOf(right))?,
+        Some(Round::App(f)) => rounds.push(Round::LeftIn(f, right))?,
+        Some(round) => {
+            rounds.push(round)?;
+            rounds.push(Round::LeftOf(right))?;
+        }
+    }
+    Ok(())
+}
+
 /// Goes into a part that is still to be made: what stands round the next one is kept, unless this one
 /// has no parts.
 fn go_in<'a>(
@@ -91,16 +124,17 @@ fn go_in<'a>(
         rounds_work store.now rounds.new.items + part_work store.now p
         < rounds_work store.now rounds.old.items + part_work store.now (parts.Left c.entry)) }
 {
-    let head = headed(alloc, store, c)?;
+    let head = headed(store, c)?;
     match head.open(alloc)? {
         Opened::Unit => Ok(Part::Made(Term::Unit)),
         Opened::Name(a) => Ok(Part::Made(Term::Name(a))),
         Opened::Susp(swaps, x) => {
             let swaps = canonical_of(alloc, swaps)?;
-            Ok(Part::Made(Term::Susp(List::of(swaps), x)))
+            let waiting = Swaps::of(alloc, swaps)?;
+            Ok(Part::Made(Term::Susp(waiting, x)))
         }
         Opened::Pair(left, right) => {
-            rounds.push(Round::LeftOf(right))?;
+            keep_right(rounds, right)?;
             Ok(Part::Left(left))
         }
         Opened::App(f, argument) => {
@@ -135,17 +169,24 @@ fn go_out<'a>(
         < rounds_work s rounds.old.items + round_work s round.entry) }
 {
     match round {
-        Round::RightOf(left) => {
-            let left = Box::new(alloc, left)?;
-            let right = Box::new(alloc, made)?;
-            Ok(Part::Made(Term::Pair(left, right)))
-        }
+        Round::RightOf(left) => Ok(Part::Made(paired(alloc, left, made)?)),
         Round::LeftOf(right) => {
             rounds.push(Round::RightOf(made))?;
             Ok(Part::Left(right))
         }
+        Round::RightIn(f, left) => {
+            let argument = paired(alloc, left, made)?;
+            Ok(Part::Made(Term::App(f, Box::new(alloc, argument)?)))
+        }
+        Round::LeftIn(f, right) => {
+            rounds.push(Round::RightIn(f, made))?;
+            Ok(Part::Left(right))
+        }
         Round::App(f) => Ok(Part::Made(Term::App(f, Box::new(alloc, made)?))),
-        Round::Abs(a) => Ok(Part::Made(Term::Abs(a, Box::new(alloc, made)?))),
+        Round::Abs(a) => {
+            let body = Box::new(alloc, made)?;
+            Ok(Part::Made(Term::Abs(a.sort, a.num, body)))
+        }
     }
 }
 

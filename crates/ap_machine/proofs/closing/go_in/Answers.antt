@@ -13,17 +13,17 @@ use Rattle.ap_machine.specs.Closed.{closed_within}
 use Rattle.ap_machine.specs.declared.closing.Round.TheVariants as rounds
 use Rattle.ap_machine.proofs.closing.go_in.Goals as goal
 
-pub returns-in_ok-swaps-in-Susp-clause-same : goal.returns-in_ok-swaps-in-Susp-clause-same
-returns-in_ok-swaps-in-Susp-clause-same c =
+pub returns-in_ok-waiting-in-Susp-clause-same : goal.returns-in_ok-waiting-in-Susp-clause-same
+returns-in_ok-waiting-in-Susp-clause-same c =
     let s = c.args.store.now in let bs = bindings_of s in
     let p = c.in-Susp.swaps.items in let x = c.in-Susp.x in
     let opened : closure_term c.in_ok-head.head ≡ susp p x = sym c.in_ok-open.ensures ∙ ap opened_term c.in-Susp.is in
     let waits : under bs (susp p x) ≡ susp p x = head_stays bs p x (subst (IsHeadUnbound bs) opened c.in_ok-head.ensures.head) in
     let all : meaning_in s c.args.c ≡ susp p x = sym c.in_ok-head.ensures.term ∙ ap (under bs) opened ∙ waits in
-    ap (closed_within s c.args.rounds.now.items) (ap (λ q. susp q x) (c.of.ensures ∙ c.in_ok-swaps-in-Susp.ensures) ∙ sym (ap canonical_term all))
+    ap (closed_within s c.args.rounds.now.items) (ap (λ q. susp q x) (c.in_ok-waiting-in-Susp.ensures ∙ c.in_ok-swaps-in-Susp.ensures) ∙ sym (ap canonical_term all))
 
-pub returns-in_ok-swaps-in-Susp-clause-less : goal.returns-in_ok-swaps-in-Susp-clause-less
-returns-in_ok-swaps-in-Susp-clause-less c =
+pub returns-in_ok-waiting-in-Susp-clause-less : goal.returns-in_ok-waiting-in-Susp-clause-less
+returns-in_ok-waiting-in-Susp-clause-less c =
     let s = c.args.store.now in let bs = bindings_of s in
     let p = c.in-Susp.swaps.items in let x = c.in-Susp.x in
     let opened : closure_term c.in_ok-head.head ≡ susp p x = sym c.in_ok-open.ensures ∙ ap opened_term c.in-Susp.is in
@@ -31,28 +31,28 @@ returns-in_ok-swaps-in-Susp-clause-less c =
     let all : size (meaning_in s c.args.c) ≡ 1 = ap size (sym c.in_ok-head.ensures.term ∙ ap (under bs) opened ∙ waits) in
     omega (arith, all)
 
-pub returns-in_ok-push-in-Pair-clause-same : goal.returns-in_ok-push-in-Pair-clause-same
-returns-in_ok-push-in-Pair-clause-same c =
+pub returns-in_ok-keep_right-in-Pair-clause-same : goal.returns-in_ok-keep_right-in-Pair-clause-same
+returns-in_ok-keep_right-in-Pair-clause-same c =
     let s = c.args.store.now in
     let all : meaning_in s c.args.c ≡ pair (meaning_in s c.in-Pair.left) (meaning_in s c.in-Pair.right) =
     sym c.in_ok-head.ensures.term ∙ ap (under (bindings_of s)) (sym c.in_ok-open.ensures ∙ ap opened_term c.in-Pair.is) in
-    round_goes_in s c.args.rounds.now.items c.push.new.self.items (rounds.LeftOf c.in-Pair.right) (canonical_term (meaning_in s c.args.c)) (canonical_term (meaning_in s c.in-Pair.left))
-    c.in_ok-push-in-Pair.ensures.items (ap canonical_term all)
+    c.in_ok-keep_right-in-Pair.ensures.same s (canonical_term (meaning_in s c.in-Pair.left)) ∙ ap (closed_within s c.args.rounds.now.items) (sym (ap canonical_term all))
 
-pub returns-in_ok-push-in-Pair-clause-less : goal.returns-in_ok-push-in-Pair-clause-less
-returns-in_ok-push-in-Pair-clause-less c =
+pub returns-in_ok-keep_right-in-Pair-clause-less : goal.returns-in_ok-keep_right-in-Pair-clause-less
+returns-in_ok-keep_right-in-Pair-clause-less c =
     let s = c.args.store.now in
     let all : meaning_in s c.args.c ≡ pair (meaning_in s c.in-Pair.left) (meaning_in s c.in-Pair.right) =
     sym c.in_ok-head.ensures.term ∙ ap (under (bindings_of s)) (sym c.in_ok-open.ensures ∙ ap opened_term c.in-Pair.is) in
-    work_goes_in s c.args.rounds.now.items c.push.new.self.items (rounds.LeftOf c.in-Pair.right) (3 * size (meaning_in s c.in-Pair.left)) (3 * size (meaning_in s c.args.c))
-    c.in_ok-push-in-Pair.ensures.items (pair_work (meaning_in s c.args.c) (meaning_in s c.in-Pair.left) (meaning_in s c.in-Pair.right) all)
+    let kept = c.in_ok-keep_right-in-Pair.ensures.work s in
+    let less = pair_work (meaning_in s c.args.c) (meaning_in s c.in-Pair.left) (meaning_in s c.in-Pair.right) all in
+    omega (arith, kept, less)
 
 pub returns-in_ok-push-in-App-clause-same : goal.returns-in_ok-push-in-App-clause-same
 returns-in_ok-push-in-App-clause-same c =
     let s = c.args.store.now in
     let all : meaning_in s c.args.c ≡ app c.in-App.f (meaning_in s c.in-App.argument) =
     sym c.in_ok-head.ensures.term ∙ ap (under (bindings_of s)) (sym c.in_ok-open.ensures ∙ ap opened_term c.in-App.is) in
-    round_goes_in s c.args.rounds.now.items c.push-in-App.new.self.items (rounds.App c.in-App.f) (canonical_term (meaning_in s c.args.c)) (canonical_term (meaning_in s c.in-App.argument))
+    round_goes_in s c.args.rounds.now.items c.push.new.self.items (rounds.App c.in-App.f) (canonical_term (meaning_in s c.args.c)) (canonical_term (meaning_in s c.in-App.argument))
     c.in_ok-push-in-App.ensures.items (ap canonical_term all)
 
 pub returns-in_ok-push-in-App-clause-less : goal.returns-in_ok-push-in-App-clause-less
@@ -60,7 +60,7 @@ returns-in_ok-push-in-App-clause-less c =
     let s = c.args.store.now in
     let all : meaning_in s c.args.c ≡ app c.in-App.f (meaning_in s c.in-App.argument) =
     sym c.in_ok-head.ensures.term ∙ ap (under (bindings_of s)) (sym c.in_ok-open.ensures ∙ ap opened_term c.in-App.is) in
-    work_goes_in s c.args.rounds.now.items c.push-in-App.new.self.items (rounds.App c.in-App.f) (3 * size (meaning_in s c.in-App.argument)) (3 * size (meaning_in s c.args.c))
+    work_goes_in s c.args.rounds.now.items c.push.new.self.items (rounds.App c.in-App.f) (3 * size (meaning_in s c.in-App.argument)) (3 * size (meaning_in s c.args.c))
     c.in_ok-push-in-App.ensures.items (app_work (meaning_in s c.args.c) c.in-App.f (meaning_in s c.in-App.argument) all)
 
 pub returns-in_ok-push-in-Abs-clause-same : goal.returns-in_ok-push-in-Abs-clause-same
