@@ -5,12 +5,12 @@ use Rattle.ap_trees.specs.Symbols.{Sym, Ident, Open, Close}
 use Rattle.ap_trees.specs.Terms.{Term, Apply, argument_terms}
 use Rattle.ap_trees.specs.TermGrammar.{AreTerms}
 use Rattle.ap_trees.specs.TermReader.{read_term, word_term, application}
-use Rattle.ap_trees.specs.Goals.{Atom, Equation, Freshness}
+use Rattle.ap_trees.specs.Goals.{Atom}
 use Rattle.ap_trees.proofs.Lists.{some_is}
 use Rattle.ap_trees.proofs.TypeLaws.{close_is}
 use Rattle.ap_trees.proofs.TermLaws.{term_sound, terms_sound, terms_only, closes}
 use Rattle.ap_syntax.specs.Marks.{after_equal, after_fresh, read_ident}
-use Rattle.ap_syntax.specs.GoalReader.{terms_inside, atom_arguments, read_atom, atom_goal, relation_or_atom, right_side, read_flat, parts_inside, applied_by, applied_goal}
+use Rattle.ap_syntax.specs.GoalReader.{terms_inside, atom_arguments, read_atom, atom_goal, relation_or_atom, read_flat, parts_inside, applied_by, applied_goal}
 
 -- the terms, up to what follows them
 abbrev parts_of : List Sym → Option (List Term × List Sym)
@@ -61,14 +61,6 @@ unfolding read_atom
 atom_gives ts us rest w args word got = rw (word, got) refl
 
 -- what is behind the terms of a word
-pub with_equal : (w : List ℕ) (parts : List Term) (t : Term) (ts us : List Sym) → t ≡ Apply w (argument_terms parts) → after_equal ts ≡ Some us
-    → applied_by w parts ts (after_equal ts) (after_fresh ts) ≡ right_side Equation t us
-with_equal w parts t ts us e mark = rw (mark, e) refl
-
-pub with_fresh : (w : List ℕ) (parts : List Term) (t : Term) (ts us : List Sym) → t ≡ Apply w (argument_terms parts) → after_equal ts ≡ None → after_fresh ts ≡ Some us
-    → applied_by w parts ts (after_equal ts) (after_fresh ts) ≡ right_side Freshness t us
-with_fresh w parts t ts us e none mark = rw (none, mark, e) refl
-
 pub with_parts : (w : List ℕ) (ts rest : List Sym) (parts : List Term) → parts_inside ts ≡ Some (parts, rest) → applied_goal w ts ≡ applied_by w parts rest (after_equal rest) (after_fresh rest)
 unfolding applied_goal
 with_parts w ts rest parts got = rw got refl

@@ -1,7 +1,7 @@
 -- One step of reading a goal: what is read of it where its parts are.
 use Rattle.std.proofs.Common.{◌≡◌, ℕ, List, None, Some, refl}
 use Rattle.ap_trees.specs.Goals.{Goal, Some_variable, New_name}
-use Rattle.ap_trees.specs.Readers.{SymbolReader, after_close}
+use Rattle.ap_trees.specs.Readers.{SymbolReader}
 use Rattle.ap_trees.specs.Symbols.{Sym}
 use Rattle.ap_syntax.specs.Marks.{after_new, after_exists, opened_ident, opened_variable}
 use Rattle.ap_syntax.specs.Matching.{after_group}
@@ -27,14 +27,6 @@ module _ (read : SymbolReader Goal) where
   pub inside_fails : (ts : List Sym) → read ts ≡ None → goal_inside read ts ≡ None
   unfolding goal_inside
   inside_fails ts got = rw got refl
-
-  pub inside_open : (ts after : List Sym) (g : Goal) → read ts ≡ Some (g, after) → after_close after ≡ None → goal_inside read ts ≡ None
-  unfolding goal_inside
-  inside_open ts after g got none = rw (got, none) refl
-
-  pub inside_closed : (ts after rest : List Sym) (g : Goal) → read ts ≡ Some (g, after) → after_close after ≡ Some rest → goal_inside read ts ≡ Some (g, rest)
-  unfolding goal_inside
-  inside_closed ts after rest g got mark = rw (got, mark) refl
 
   pub new_fails : (ts us : List Sym) (w : List ℕ) → opened_ident ts ≡ Some (w, us) → goal_inside read us ≡ None → new_goal read ts ≡ None
   unfolding new_goal

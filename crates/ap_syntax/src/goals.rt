@@ -185,6 +185,7 @@ fn exists_goal<'a, 's>(
 
 /// A goal up to the `)` that closes it, and what follows that.
 #[cycle(goals)]
+#[tactic(auto, unfolding(crate::specs::GoalReader::goal_inside))]
 fn goal_inside<'a, 's>(
     alloc: Global,
     levels: usize,
@@ -194,8 +195,6 @@ fn goal_inside<'a, 's>(
         (read_goal levels) (syms symbols.now)) }
 {
     let (goal, rest) = any_goal(alloc, levels, symbols)?;
-    match after_close(rest) {
-        Some(rest) => Ok((goal, rest)),
-        None => Err(ReadError::Grammar),
-    }
+    let rest = after_close(rest).ok_or(ReadError::Grammar)?;
+    Ok((goal, rest))
 }

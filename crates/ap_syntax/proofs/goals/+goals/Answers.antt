@@ -119,9 +119,3 @@ pub goal_inside-returns-in_err-goal : goal.goal_inside-returns-in_err-goal
 goal_inside-returns-in_err-goal t c =
     let p = err_from_is_err_and c.from_residual.result c.from_residual.ensures.1 in
     rw (p.1, p.2) (fails_on c.in_err-goal.field-0.0 _ _ (steps.inside_fails (read_goal c.args.levels) (syms c.args.symbols.now)) c.in_err-goal.ensures)
-
-pub goal_inside-returns-in-Some : goal.goal_inside-returns-in-Some
-goal_inside-returns-in-Some t c = steps.inside_closed (read_goal c.args.levels) (syms c.args.symbols.now) _ _ _ c.in_ok-goal.ensures (sym c.in-Some.ensures.value)
-
-pub goal_inside-returns-in-None : goal.goal_inside-returns-in-None
-goal_inside-returns-in-None t c = steps.inside_open (read_goal c.args.levels) (syms c.args.symbols.now) _ _ c.in_ok-goal.ensures (sym c.in-None.ensures.value)
